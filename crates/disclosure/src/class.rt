@@ -1,0 +1,48 @@
+ghost use Rattle.std.specs.Prelude.{◌≡◌, ◌↔◌, IsTrue};
+ghost use Rattle.disclosure.specs.Policy.{can_expand, IsAllowed};
+
+use dom_base::As;
+
+/// What a peer is to an element. Neighbours and parents are the closed peers: they are shown keys in
+/// place of segments.
+#[derive(Clone, Copy, Debug, PartialEq, Eq)]
+pub enum Class {
+    /// A client, and whether it may have keys expanded.
+    Client { expand: bool },
+    /// An element of this domain.
+    Neighbour(As),
+    Parent,
+}
+
+/// A row of policy: requests from one domain must not go on to another. A client counts as domain 0.
+#[derive(Clone, Copy, Debug, PartialEq, Eq)]
+pub struct Deny {
+    pub from: As,
+    pub next: As,
+}
+
+/// Whether a peer may have path keys expanded; takes no memory.
+pub fn may_expand(class: Class) -> bool
+    ensures { result ≡ can_expand class }
+{
+    match class {
+        Class::Client { expand } => expand,
+        Class::Neighbour(_) | Class::Parent => false,
+    }
+}
+
+/// Whether a request of a peer may go on to the next domain; takes no memory. No row is about a
+/// parent.
+pub fn allows(deny: &[Deny], class: Class, next: As) -> bool
+    ensures { IsTrue result ↔ IsAllowed deny.now class next }
+{
+    let from = match class {
+        Class::Client { .. } => As(0),
+        Class::Neighbour(number) => number,
+        Class::Parent => return true,
+    };
+    deny.iter().all(|row| row.from != from || row.next != next)
+}
+
+#[cfg(test)]
+mod tests;

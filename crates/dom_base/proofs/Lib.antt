@@ -1,0 +1,9 @@
+pub mod Powers
+pub mod Parts
+pub mod NumberLaws
+pub mod Rows
+pub mod Scale
+pub mod NumeralLaws
+pub mod ReadDigits
+pub mod AddrLaws
+pub mod Cuts

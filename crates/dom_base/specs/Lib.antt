@@ -1,0 +1,7 @@
+pub mod Parts
+pub mod Words
+pub mod Admission
+pub mod Room
+pub mod Numerals
+pub mod Steps
+pub mod AddrText

@@ -1,0 +1,28 @@
+//! The plain types that every part of the path computation speaks of, and the words of the wire.
+#![tactic(auto)]
+
+mod addr_text;
+mod border;
+mod cost;
+mod limits;
+mod link;
+mod list;
+mod names;
+mod numerals;
+mod octets;
+mod query;
+mod text;
+mod words;
+
+pub use addr_text::{read_addr, write_addr};
+pub use border::{BorderRow, ParentLink};
+pub use cost::{Cost, word_of_cost};
+pub use limits::COST_MAX;
+pub use link::Link;
+pub use list::{Bytes, List};
+pub use names::{Addr, As, NoMemory, Peer, Tick};
+pub use numerals::{read_colour, read_number, write_colour, write_number};
+pub use octets::{half, word};
+pub use query::{Excluded, Exclusion, Label, Metric, Query, Seed};
+pub use text::Text;
+pub use words::{units_of_word, whole_of_word};

@@ -1,0 +1,38 @@
+use std::alloc::{AllocError, AllocFailed};
+
+/// The number of a routing domain, an autonomous system (RFC 1930). 0 is no domain: it stands for
+/// the parent.
+#[derive(Clone, Copy, Debug, PartialEq, Eq, PartialOrd, Ord, Hash)]
+pub struct As(pub u16);
+
+/// An IPv4 address, as an unsigned number. Addresses are ordered as these numbers.
+#[derive(Clone, Copy, Debug, PartialEq, Eq, PartialOrd, Ord, Hash)]
+pub struct Addr(pub u32);
+
+/// A moment, in seconds.
+#[derive(Clone, Copy, Debug, PartialEq, Eq, PartialOrd, Ord, Hash)]
+pub struct Tick(pub u64);
+
+/// Who is at the other end of a session: an outside peer by its number, or an element by its
+/// domain. `Inner(As(0))` is the parent.
+#[derive(Clone, Copy, Debug, PartialEq, Eq, PartialOrd, Ord, Hash)]
+pub enum Peer {
+    Outside(u32),
+    Inner(As),
+}
+
+/// A growth of memory was refused.
+#[derive(Clone, Copy, Debug, PartialEq, Eq)]
+pub struct NoMemory;
+
+impl From<AllocError> for NoMemory {
+    fn from(_: AllocError) -> Self {
+        NoMemory
+    }
+}
+
+impl<T: Drop> From<AllocFailed<T>> for NoMemory {
+    fn from(_: AllocFailed<T>) -> Self {
+        NoMemory
+    }
+}

@@ -1,0 +1,187 @@
+ghost use Rattle.std.specs.Prelude.{◌≡◌, ◌<◌, ◌≤◌, ◌↔◌, List, ℕ, length, drop, None, Some, ◌≢◌};
+ghost use Rattle.std.specs.declared.option.Option.{Option};
+ghost use Rattle.dom_edge.specs.Causes.{HasCause};
+ghost use Rattle.dom_edge.specs.Streams.{Takes};
+ghost use Rattle.dom_edge.specs.Memory.{IsPlanned, IsCalled};
+
+use crate::calls::PlannedCalls;
+use dom_base::{Bytes, List as Rows};
+use std::io::Read;
+use std::marker::Model;
+
+/// What one read of a source gave: how many bytes now stand at the front of the slice, that no
+/// more will come, or that the read failed.
+#[derive(Clone, Copy, Debug, PartialEq, Eq)]
+pub enum Piece {
+    Bytes(usize),
+    End,
+    Failed,
+}
+
+/// Bytes that come in.
+pub trait Source {
+    /// The bytes that are left, where they are told.
+    ghost left: { Self → Option (List ℕ) };
+
+    /// How often a read has failed. The count never falls, and stands still at the end of its type.
+    ghost faults: { Self → ℕ };
+
+    /// Takes at least one byte, unless none is left or the read fails.
+    fn read(&mut self, into: &mut [u8]) -> Piece
+        requires { 0 < length into.old }
+        ensures takes { Takes (left self.old) (left self.new) result into.new }
+        ensures cause { HasCause (faults self.old) (faults self.new) (result ≡ Piece.Failed) };
+}
+
+/// Bytes in memory, and how many of them were taken.
+#[derive(Drop)]
+struct Rest {
+    bytes: Bytes,
+    taken: usize,
+}
+
+impl Model for Rest {
+    ghost use Rattle.std.specs.Prelude.{List, ℕ, ◌≤◌, drop, length};
+
+    ghost Value = { List ℕ };
+
+    ghost view = { λ r. drop r.taken r.bytes };
+
+    ghost invariant = { λ r. r.taken ≤ length r.bytes };
+}
+
+impl Rest {
+    fn new(bytes: Bytes) -> Self
+        ensures { result ≡ bytes }
+    {
+        Rest { bytes, taken: 0 }
+    }
+
+    // Takes as many bytes as there are and as the slice has room for.
+    fn take(&mut self, into: &mut [u8]) -> Piece
+        requires { 0 < length into.old }
+        ensures takes { Takes (Some self.old) (Some self.new) result into.new }
+        ensures not_failed { result ≢ Piece.Failed }
+    {
+        let rest = &self.bytes.as_slice()[self.taken..];
+        if rest.is_empty() {
+            return Piece::End;
+        }
+        let count = rest.len().min(into.len());
+        into[..count].copy_from_slice(&rest[..count]);
+        self.taken += count;
+        Piece::Bytes(count)
+    }
+}
+
+/// A source in memory. The calls whose numbers, from 0, are in `fails` fail.
+#[derive(Drop)]
+pub struct MemorySource {
+    rest: Rest,
+    calls: PlannedCalls,
+}
+
+impl Model for MemorySource {
+    ghost use Rattle.dom_edge.specs.Memory.{SourceState};
+
+    ghost Value = { SourceState };
+
+    ghost view = { λ s. record { left = s.rest; calls = s.calls } };
+}
+
+impl MemorySource {
+    pub fn new(bytes: Bytes, fails: Rows<u64>) -> Self
+        ensures { result ≡ record { left = bytes; calls = record { made = 0; fails = fails; faults = 0 } } }
+    {
+        MemorySource {
+            rest: Rest::new(bytes),
+            calls: PlannedCalls::new(fails),
+        }
+    }
+}
+
+impl Source for MemorySource {
+    ghost left = { λ s. Some s.left };
+
+    ghost faults = { λ s. s.calls.faults };
+
+    /// Fails exactly where the call is one that is to fail.
+    fn read(&mut self, into: &mut [u8]) -> Piece
+        requires { 0 < length into.old }
+        ensures takes { Takes (Some self.old.left) (Some self.new.left) result into.new }
+        ensures cause { HasCause self.old.calls.faults self.new.calls.faults (result ≡ Piece.Failed) }
+        ensures planned { result ≡ Piece.Failed ↔ IsPlanned self.old.calls }
+        ensures called { IsCalled self.old.calls self.new.calls }
+    {
+        if self.calls.is_planned() {
+            self.calls.fail();
+            return Piece::Failed;
+        }
+        self.calls.pass();
+        self.rest.take(into)
+    }
+}
+
+/// A source in memory that never fails.
+#[derive(Drop)]
+pub struct SteadySource {
+    rest: Rest,
+}
+
+impl Model for SteadySource {
+    ghost use Rattle.std.specs.Prelude.{List, ℕ};
+
+    ghost Value = { List ℕ };
+
+    ghost view = { λ s. s.rest };
+}
+
+impl SteadySource {
+    pub fn new(bytes: Bytes) -> Self
+        ensures { result ≡ bytes }
+    {
+        SteadySource {
+            rest: Rest::new(bytes),
+        }
+    }
+}
+
+impl Source for SteadySource {
+    ghost left = { λ s. Some s };
+
+    ghost faults = { λ _. 0 };
+
+    fn read(&mut self, into: &mut [u8]) -> Piece {
+        self.rest.take(into)
+    }
+}
+
+/// The standard input, or any other reader. It tells nothing of what will come.
+#[derive(Drop)]
+pub struct InputSource<R: Read + Drop> {
+    reader: R,
+    faults: u64,
+}
+
+impl<R: Read + Drop> InputSource<R> {
+    pub fn new(reader: R) -> Self {
+        InputSource { reader, faults: 0 }
+    }
+}
+
+impl<R: Read + Drop> Source for InputSource<R> {
+    ghost left = { λ _. None };
+
+    ghost faults = { λ s. s.faults };
+
+    fn read(&mut self, into: &mut [u8]) -> Piece {
+        match self.reader.read(into) {
+            Ok(0) => Piece::End,
+            Ok(count) => Piece::Bytes(count),
+            Err(_) => {
+                self.faults = self.faults.saturating_add(1);
+                Piece::Failed
+            }
+        }
+    }
+}

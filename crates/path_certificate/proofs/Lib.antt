@@ -1,0 +1,9 @@
+pub mod Looking
+pub mod Making
+pub mod Leading
+pub mod Judging
+pub mod Strangers
+pub mod Gathering
+pub mod Whole
+pub mod RowSpelling
+pub mod ReadAgain

@@ -1,0 +1,7 @@
+pub mod Rows
+pub mod Claims
+pub mod Offers
+pub mod Given
+pub mod RowText
+pub mod Text
+pub mod CertificateText

@@ -1,0 +1,32 @@
+//! Certificates: the labels of all nodes and a path, which a checker verifies without trust in whoever
+//! made them.
+#![tactic(auto)]
+
+mod broken;
+mod cert_error;
+mod certificate;
+mod checker;
+mod false_links;
+mod false_nodes;
+mod false_path;
+mod false_seeds;
+mod limits;
+mod look_up;
+mod marks;
+mod offers;
+mod ordered;
+mod reading;
+mod text_row;
+mod verdict;
+mod writing;
+
+pub use cert_error::CertError;
+pub use certificate::Certificate;
+pub use checker::check;
+pub use limits::{CERTIFICATE_BYTES_MAX, SEEDS_MAX};
+pub use reading::read_certificate;
+pub use verdict::{Place, Verdict};
+pub use writing::write_certificate;
+
+#[cfg(test)]
+mod tests;

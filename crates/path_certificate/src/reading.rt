@@ -1,0 +1,160 @@
+ghost use Rattle.std.specs.Prelude.{◌≡◌, ◌+◌, ◌≤◌, ◌<◌, ◌^◌, Ok, IfOk, length, ℕ};
+ghost use Rattle.std.specs.Str.Lines.{lines as lines_of};
+ghost use Rattle.path_certificate.specs.Rows.{AreRows};
+ghost use Rattle.path_certificate.specs.Given.{GivesText};
+ghost use Rattle.path_certificate.specs.Text.{and_then, body_in, certificate_in, gathered, header_at, is_node, or_first, own_behind, row_at, stranger_at as stranger_of};
+
+use crate::cert_error::CertError;
+use crate::certificate::Certificate;
+use crate::limits::CERTIFICATE_BYTES_MAX;
+use crate::text_row::{RowError, TextRow, is_end, read_row};
+use dom_base::{Addr, As, Label, List, read_number};
+use line_text::{Line, Lines, Words, is_trimmed, line_count};
+use std::alloc::Global;
+use te_links::{TopoFault, Topology};
+
+/// What the lines behind the header say, and the first line whose address is no node.
+#[derive(Drop)]
+pub struct Gathered {
+    pub labels: List<(Addr, Option<Label>)>,
+    pub stranger: Option<u32>,
+    pub path: Option<List<Addr>>,
+}
+
+// The number of the domain, in the words of a header.
+#[tactic(auto, unfolding(crate::specs::Text::own_behind))]
+fn own_of(words: &mut Words<'_>) -> Option<As>
+    ensures { result ≡ own_behind words.old }
+{
+    let name = words.next_word()?;
+    if name != b"certificate".as_slice() {
+        return None;
+    }
+    let number = read_number(words.next_word()?, u64::from(u16::MAX))?;
+    if is_end(words) {
+        Some(As(number as u16))
+    } else {
+        None
+    }
+}
+
+// The header of a domain.
+#[tactic(auto, unfolding(crate::specs::Text::header_at))]
+fn read_header(own: As, line: &Line<'_>) -> Result<As, CertError>
+    ensures { result ≡ header_at own (record { number = line.now.number; text = line.now.text.now }) }
+{
+    let fault = CertError::At(line.number, TopoFault::Syntax);
+    if !is_trimmed(line.text) {
+        return Err(fault);
+    }
+    match own_of(&mut Words::new(line.text)) {
+        Some(number) if number == own => Ok(own),
+        _ => Err(fault),
+    }
+}
+
+#[tactic(auto, unfolding(crate::specs::Text::row_at))]
+fn read_line(alloc: Global, line: &Line<'_>) -> Result<TextRow, CertError>
+    ensures { GivesText result (row_at (record { number = line.now.number; text = line.now.text.now })) }
+{
+    if !is_trimmed(line.text) {
+        return Err(CertError::At(line.number, TopoFault::Syntax));
+    }
+    match read_row(alloc, &mut Words::new(line.text)) {
+        Ok(row) => Ok(row),
+        Err(RowError::Syntax) => Err(CertError::At(line.number, TopoFault::Syntax)),
+        Err(RowError::NoMemory) => Err(CertError::NoMemory),
+    }
+}
+
+// The line of an address that is no node.
+#[tactic(auto, using(crate::proofs::Strangers::node_found, crate::proofs::Strangers::node_missing))]
+fn stranger_at(topology: &Topology, line: u32, addr: Addr) -> Option<u32>
+    ensures { result ≡ stranger_of topology.now.nodes line addr }
+{
+    match topology.find_node(addr) {
+        Some(_place) => None,
+        None => Some(line),
+    }
+}
+
+// The first line whose address is no node, with a further line.
+fn first_stranger(topology: &Topology, before: Option<u32>, line: u32, addr: Addr) -> Option<u32>
+    ensures { result ≡ or_first before (stranger_of topology.now.nodes line addr) }
+{
+    match before {
+        Some(earlier) => Some(earlier),
+        None => stranger_at(topology, line, addr),
+    }
+}
+
+// What the lines behind the header say; `end` is the line after the last.
+fn read_body(
+    alloc: Global,
+    topology: &Topology,
+    end: u32,
+    lines: &mut Lines<'_>,
+) -> Result<Gathered, CertError>
+    ensures { GivesText result (and_then (body_in end 0 lines.old) (λ body. Ok (gathered topology.now.nodes body))) }
+{
+    let mut labels = List::new(alloc);
+    let mut stranger = None;
+    let mut least: u64 = 0;
+    while let Some(line) = lines.next_line() {
+        match read_line(alloc, &line)? {
+            TextRow::Label(addr, label) => {
+                if u64::from(addr.0) < least {
+                    return Err(CertError::At(line.number, TopoFault::Syntax));
+                }
+                least = u64::from(addr.0) + 1;
+                stranger = first_stranger(topology, stranger, line.number, addr);
+                labels.push((addr, label))?;
+            }
+            TextRow::Path(path) => {
+                return match lines.next_line() {
+                    Some(other) => Err(CertError::At(other.number, TopoFault::Syntax)),
+                    None => Ok(Gathered {
+                        labels,
+                        stranger,
+                        path,
+                    }),
+                };
+            }
+        }
+    }
+    Err(CertError::At(end, TopoFault::Syntax))
+}
+
+/// The certificate that a text says, for a topology. Lines end with LF; words stand apart by blanks;
+/// blank lines and those that begin with `#` count and are skipped. The lines are `certificate AS`
+/// with the domain of the topology, then `label ADDR COST EXIT` or `label ADDR -` in rising order of
+/// address, then `path ADDR ..` or `path -`. A text outside this form is refused at its first wrong
+/// line, or at the line after the last where its end is missing; in a text of this form an address
+/// that is no node is refused at its line.
+pub fn read_certificate(
+    alloc: Global,
+    bytes: &[u8],
+    topology: &Topology,
+) -> Result<Certificate, CertError>
+    requires { length bytes.now ≤ CERTIFICATE_BYTES_MAX }
+    ensures text { GivesText result (certificate_in topology.now bytes.now) }
+
+    // So a check may be asked for it.
+    ensures rows { IfOk result (λ c. AreRows topology.now.nodes c.labels) }
+{
+    let end = line_count(bytes) as u32 + 1;
+    let mut lines = Lines::new(bytes);
+    let Some(line) = lines.next_line() else {
+        return Err(CertError::At(end, TopoFault::Syntax));
+    };
+    let own = read_header(topology.own(), &line)?;
+    let Gathered {
+        labels,
+        stranger,
+        path,
+    } = read_body(alloc, topology, end, &mut lines)?;
+    match stranger {
+        Some(line) => Err(CertError::At(line, TopoFault::UnknownNode)),
+        None => Ok(Certificate { own, labels, path }),
+    }
+}

@@ -1,0 +1,30 @@
+//! What a link weighs, and whether its bandwidth and its colours serve a query.
+#![tactic(auto)]
+
+ghost use Rattle.std.specs.Prelude.{◌≡◌, ◌↔◌, IsTrue};
+ghost use Rattle.dom_base.specs.Admission.{Fits, weight as weight_of};
+
+use dom_base::{Link, Metric, Query};
+
+/// What a link adds to the cost of a path: its IGP metric, its TE metric, or 1 where hops are
+/// counted (RFC 5440, section 7.8).
+pub fn weight(link: &Link, metric: Metric) -> u32
+    ensures { result ≡ weight_of metric link.now }
+{
+    match metric {
+        Metric::Igp => link.igp,
+        Metric::Te => link.te,
+        Metric::Hops => 1,
+    }
+}
+
+/// Whether a link has the bandwidth that is asked for, and the colours: none of `exclude_any`, one
+/// of `include_any` unless that is 0, and all of `include_all` (RFC 3209, section 4.7.4).
+pub fn fits(query: &Query, link: &Link) -> bool
+    ensures { IsTrue result ↔ Fits query.now link.now }
+{
+    query.bandwidth <= link.bytes_per_second
+        && link.colour & query.exclude_any == 0
+        && (query.include_any == 0 || link.colour & query.include_any > 0)
+        && link.colour & query.include_all == query.include_all
+}

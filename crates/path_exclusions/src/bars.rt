@@ -1,0 +1,71 @@
+ghost use Rattle.std.specs.Prelude.{◌≡◌, ◌↔◌, IsTrue};
+ghost use Rattle.dom_base.specs.Admission.{LiesIn, NamesLink, NamesNode, BarsLink, BarsNode};
+
+use dom_base::{Addr, As, Excluded, Link, Query};
+
+// Whether the first `length` bits of two addresses are the same.
+fn lies_in(addr: Addr, prefix: Addr, length: u8) -> bool
+    ensures { IsTrue result ↔ LiesIn addr prefix length }
+{
+    if length == 0 {
+        return true;
+    }
+    let rest = 32u8.saturating_sub(length);
+    addr.0 >> rest == prefix.0 >> rest
+}
+
+fn names_link(what: &Excluded, link: &Link) -> bool
+    ensures { IsTrue result ↔ NamesLink what.now link.now }
+{
+    match what {
+        Excluded::Prefix {
+            addr,
+            length,
+            attribute,
+        } => *attribute == 0
+            && (lies_in(link.near, *addr, *length) || lies_in(link.far, *addr, *length)),
+        Excluded::Srlg(number) => link.srlgs.as_slice().contains(number),
+        _ => false,
+    }
+}
+
+fn names_node(what: &Excluded, own: As, node: Addr) -> bool
+    ensures { IsTrue result ↔ NamesNode what.now own node }
+{
+    match what {
+        Excluded::Prefix {
+            addr,
+            length,
+            attribute,
+        } => *attribute == 1 && lies_in(node, *addr, *length),
+        Excluded::AsNumber(number) => own == *number,
+        _ => false,
+    }
+}
+
+/// Whether an exclusion of the query bars a link: an interface of it lies in a prefix with
+/// attribute 0, or the link carries a shared risk (RFC 5521, section 2.1). Exclusions that are
+/// only to be avoided bar nothing.
+pub fn bars_link(query: &Query, link: &Link) -> bool
+    ensures { IsTrue result ↔ BarsLink query.now link.now }
+{
+    for exclusion in query.exclusions.as_slice() {
+        if !exclusion.avoid && names_link(&exclusion.what, link) {
+            return true;
+        }
+    }
+    false
+}
+
+/// Whether an exclusion of the query bars a node: it lies in a prefix with attribute 1, or the
+/// query's own domain is excluded.
+pub fn bars_node(query: &Query, node: Addr) -> bool
+    ensures { IsTrue result ↔ BarsNode query.now node }
+{
+    for exclusion in query.exclusions.as_slice() {
+        if !exclusion.avoid && names_node(&exclusion.what, query.own, node) {
+            return true;
+        }
+    }
+    false
+}

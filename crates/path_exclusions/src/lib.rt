@@ -1,0 +1,11 @@
+//! Which exclusions can be kept, and which links and nodes those of a query bar.
+#![tactic(auto)]
+
+mod bars;
+mod support;
+
+pub use bars::{bars_link, bars_node};
+pub use support::{ExclusionError, find_unsupported, supported};
+
+#[cfg(test)]
+mod tests;

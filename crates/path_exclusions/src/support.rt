@@ -1,0 +1,89 @@
+ghost use Rattle.std.specs.Prelude.{◌≡◌, ◌&&◌, IfOk, not, position};
+ghost use Rattle.path_exclusions.specs.Support.{is_supported, is_demand, demands, first_unsupported, Supports};
+ghost use Rattle.path_exclusions.specs.declared.support.ExclusionError.TheVariants as faults;
+
+use dom_base::{Excluded, Exclusion, List, NoMemory};
+use std::alloc::Global;
+
+/// Why exclusions can't be kept.
+#[derive(Clone, Copy, Debug, PartialEq, Eq)]
+pub enum ExclusionError {
+    /// The place, from 0, of the first one that is demanded and not supported.
+    Unsupported(usize),
+    NoMemory,
+}
+
+impl From<NoMemory> for ExclusionError {
+    ghost from_gives = { λ _ e. e ≡ faults.NoMemory };
+
+    fn from(_: NoMemory) -> Self {
+        ExclusionError::NoMemory
+    }
+}
+
+fn has_support(what: &Excluded) -> bool
+    ensures { result ≡ is_supported what.now }
+{
+    match what {
+        Excluded::Prefix {
+            length,
+            attribute,
+            addr: _addr,
+        } => *attribute < 2 && *length <= 32,
+        Excluded::AsNumber(_) | Excluded::Srlg(_) => true,
+        Excluded::Other { kind, body: _body } => *kind == 2 || *kind == 4,
+    }
+}
+
+/// The place, from 0, of the first demand whose kind is not supported. Takes no memory.
+pub fn find_unsupported(list: &[Exclusion]) -> Option<usize>
+    ensures { result ≡ first_unsupported list.now }
+{
+    list.iter().position(|exclusion| !exclusion.avoid && !has_support(&exclusion.what))
+}
+
+fn copy_of_excluded(alloc: Global, what: &Excluded) -> Result<Excluded, NoMemory>
+    ensures { IfOk result (λ copy. copy ≡ what.now) }
+{
+    Ok(match what {
+        Excluded::Prefix {
+            addr,
+            length,
+            attribute,
+        } => Excluded::Prefix {
+            addr: *addr,
+            length: *length,
+            attribute: *attribute,
+        },
+        Excluded::AsNumber(number) => Excluded::AsNumber(*number),
+        Excluded::Srlg(number) => Excluded::Srlg(*number),
+        Excluded::Other { kind, body } => Excluded::Other {
+            kind: *kind,
+            body: List::from_vec(Vec::from_slice(alloc, body.as_slice())?),
+        },
+    })
+}
+
+fn copies_of_demands(alloc: Global, list: &[Exclusion]) -> Result<List<Exclusion>, NoMemory>
+    ensures { IfOk result (λ kept. kept ≡ demands list.now) }
+{
+    let mut kept = List::new(alloc);
+    for exclusion in list {
+        if !exclusion.avoid {
+            let what = copy_of_excluded(alloc, &exclusion.what)?;
+            kept.push(Exclusion { avoid: false, what })?;
+        }
+    }
+    Ok(kept)
+}
+
+/// The exclusions that are demands, copied in their order; those that are only to be avoided have
+/// no effect and are left out (RFC 5521, section 2.1).
+pub fn supported(alloc: Global, list: &[Exclusion]) -> Result<List<Exclusion>, ExclusionError>
+    ensures { Supports list.now result }
+{
+    if let Some(place) = find_unsupported(list) {
+        return Err(ExclusionError::Unsupported(place));
+    }
+    Ok(copies_of_demands(alloc, list)?)
+}

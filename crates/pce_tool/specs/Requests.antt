@@ -1,0 +1,61 @@
+-- What `answer`, `certify` and `verify` read: one path request within the topology's own domain, as hexadecimal text.
+use Rattle.std.specs.Prelude.{◌≡◌, ◌⊎◌, ◌≤◌, ℕ, true, List, [], ◌∷◌, length, Option, Some, None, Result, Ok, Err}
+use Rattle.pcep_messages.specs.declared.message.Message.{Message}
+use Rattle.pcep_messages.specs.declared.message.Message.TheVariants as messages
+use Rattle.pcep_messages.specs.declared.message.Bad.TheVariants.{Malformed}
+use Rattle.pcep_messages.specs.declared.message.Asked.{Asked}
+use Rattle.pcep_messages.specs.declared.message.Wish.TheVariants as wishes
+use Rattle.pcep_messages.specs.Messages.{message_of}
+use Rattle.pcep_messages.specs.Said.{rp_of, iro_of, asks_key}
+use Rattle.pcep_messages.specs.Refusals.{refusal_of}
+use Rattle.pcep_messages.specs.Requests.{Asks, sequence_of}
+use Rattle.pce_tool.specs.Hexadecimal.{hex_bytes}
+use Rattle.pce_tool.specs.declared.reading.PathRequest.{PathRequest}
+use Rattle.pce_tool.specs.declared.reading.RequestError.{RequestError}
+use Rattle.pce_tool.specs.declared.reading.RequestError.TheVariants as errors
+use Rattle.pce_tool.specs.declared.reading.Why.{Why}
+use Rattle.pce_tool.specs.declared.reading.Why.TheVariants as whys
+
+-- the text spells a message
+pub record Spells (text : List ℕ) (m : Message) : Type 0 where
+  pub frame : List ℕ
+  pub is_hex : hex_bytes text ≡ Some frame
+  pub is_message : message_of frame ≡ Ok m
+
+-- the request of a PCReq that has just one
+abbrev pub one_request : Message → Option Asked
+one_request (messages.PcReq (asked ∷ [])) = Some asked
+one_request _ = None
+
+-- the text spells one request
+pub record SpellsRequest (text : List ℕ) (asked : Asked) : Type 0 where
+  pub message : Message
+  pub spells : Spells text message
+  pub is_one : one_request message ≡ Some asked
+
+-- the text is a request for a path that stays in the domain: it names no sequence of domains, or the own one alone
+pub record IsPathRequest (own : ℕ) (text : List ℕ) (r : PathRequest) : Type 0 where
+  pub asked : Asked
+  pub spells : SpellsRequest text asked
+  pub asks : Asks own asked.objects (record { flags = r.flags; id = r.id; wish = wishes.Path r.wanted })
+  pub stays : length r.wanted.sequence ≤ 1
+
+-- the request is admitted, but asks what a path key stands for, or for a path through further domains
+pub record IsNotBuilt (own : ℕ) (asked : Asked) : Type 0 where
+  pub admitted : refusal_of own asked.objects ≡ None
+  pub beyond : (asks_key (rp_of asked.objects) ≡ true) ⊎ (2 ≤ length (sequence_of (iro_of asked.objects)))
+
+-- Why a text is no such request, the first that applies: it is no hexadecimal; the bytes are no message; the message is no PCReq
+-- with one request; the request is refused with an error; it is not built.
+abbrev pub IsWhy : ℕ → List ℕ → Why → Type 0
+IsWhy own text whys.Hex = hex_bytes text ≡ None
+IsWhy own text whys.Malformed = (frame : List ℕ) × (place : ℕ) × (hex_bytes text ≡ Some frame) × (message_of frame ≡ Err (Malformed place))
+IsWhy own text whys.NotRequest = (m : Message) × Spells text m × (one_request m ≡ None)
+IsWhy own text (whys.Refused kind value) = (asked : Asked) × SpellsRequest text asked × (refusal_of own asked.objects ≡ Some (kind, value))
+IsWhy own text whys.NotBuilt = (asked : Asked) × SpellsRequest text asked × IsNotBuilt own asked
+
+-- what is read of a text, unless memory runs out
+abbrev pub Reads : ℕ → List ℕ → Result PathRequest RequestError → Type 0
+Reads own text (Ok r) = IsPathRequest own text r
+Reads own text (Err (errors.Not why)) = IsWhy own text why
+Reads own text (Err errors.NoMemory) = Unit {0}

@@ -1,0 +1,89 @@
+ghost use Rattle.std.specs.Prelude.{◌≡◌, ◌≤◌, ◌<◌, ◌^◌, ℕ, List, length, IfOk, IfErr, Some};
+ghost use Rattle.te_text.specs.Reads.{IsFaulty};
+ghost use Rattle.te_links.specs.declared.fault.TopoFault.{TopoFault};
+ghost use Rattle.path_certificate.specs.Rows.{AreRows};
+ghost use Rattle.path_certificate.specs.Text.{certificate_in};
+ghost use Rattle.pce_tool.specs.Run.{HasFile, HasTopology, HasCertificate, IsFileStatus, IsBadAt, IsCertificateFault, IsNoFault};
+
+use crate::limits::{CERTIFICATE_MAX, TOPOLOGY_MAX};
+use crate::status::{NetFault, Status};
+use dom_base::{Bytes, Text};
+use dom_edge::{Store, StoreError};
+use path_certificate::{CertError, Certificate, read_certificate};
+use std::alloc::Global;
+use te_links::{TopoFault, Topology};
+use te_text::{TextError, read_topology};
+
+// The status of a run that ends at a line of a file.
+fn bad_network(alloc: Global, name: &str, line: u32, fault: TopoFault) -> Status
+    ensures { IsBadAt name.now line fault result }
+{
+    match Text::copy_of(alloc, name) {
+        Ok(file) => Status::BadNetwork {
+            file,
+            line,
+            fault: NetFault::Topo(fault),
+        },
+        Err(_) => Status::NoMemory,
+    }
+}
+
+// The bytes of a file.
+fn read_file<S: Store>(
+    alloc: Global,
+    store: &mut S,
+    name: &str,
+    limit: usize,
+) -> Result<Bytes, Status>
+    ensures ok { IfOk result (HasFile (S.files store.old) name.now) }
+    ensures within { IfOk result (λ bytes. length bytes ≤ limit) }
+    ensures err { IfErr result (IsFileStatus (S.files store.old) name.now limit IsNoFault (S.faults store.old, S.faults store.new) (S.failed_at store.new)) }
+    ensures files { S.files store.new ≡ S.files store.old }
+    ensures later { S.faults store.old ≤ S.faults store.new }
+{
+    match store.read(alloc, name, limit) {
+        Ok(bytes) => Ok(bytes),
+        Err(StoreError::TooLong) => match Text::copy_of(alloc, name) {
+            Ok(name) => Err(Status::TooLarge(name)),
+            Err(_) => Err(Status::NoMemory),
+        },
+        Err(StoreError::Failed) => Err(Status::ReadFault),
+        Err(StoreError::NoMemory) => Err(Status::NoMemory),
+    }
+}
+
+/// The topology in a file.
+pub fn load_topology<S: Store>(alloc: Global, store: &mut S, name: &str) -> Result<Topology, Status>
+    ensures ok { IfOk result (HasTopology (S.files store.old) name.now) }
+    ensures err { IfErr result (IsFileStatus (S.files store.old) name.now TOPOLOGY_MAX IsFaulty (S.faults store.old, S.faults store.new) (S.failed_at store.new)) }
+    ensures files { S.files store.new ≡ S.files store.old }
+    ensures later { S.faults store.old ≤ S.faults store.new }
+{
+    let bytes = read_file(alloc, store, name, TOPOLOGY_MAX)?;
+    match read_topology(alloc, bytes.as_slice()) {
+        Ok(topology) => Ok(topology),
+        Err(TextError::At(line, fault)) => Err(bad_network(alloc, name, line, fault)),
+        Err(TextError::NoMemory) => Err(Status::NoMemory),
+    }
+}
+
+/// The certificate in a file, for a topology.
+pub fn load_certificate<S: Store>(
+    alloc: Global,
+    store: &mut S,
+    name: &str,
+    topology: &Topology,
+) -> Result<Certificate, Status>
+    ensures ok { IfOk result (HasCertificate (S.files store.old) name.now topology.now) }
+    ensures rows { IfOk result (λ c. AreRows topology.now.nodes c.labels) }
+    ensures err { IfErr result (IsFileStatus (S.files store.old) name.now CERTIFICATE_MAX (IsCertificateFault topology.now) (S.faults store.old, S.faults store.new) (S.failed_at store.new)) }
+    ensures files { S.files store.new ≡ S.files store.old }
+    ensures later { S.faults store.old ≤ S.faults store.new }
+{
+    let bytes = read_file(alloc, store, name, CERTIFICATE_MAX)?;
+    match read_certificate(alloc, bytes.as_slice(), topology) {
+        Ok(certificate) => Ok(certificate),
+        Err(CertError::At(line, fault)) => Err(bad_network(alloc, name, line, fault)),
+        Err(CertError::NoMemory) => Err(Status::NoMemory),
+    }
+}

@@ -1,0 +1,97 @@
+ghost use Rattle.std.specs.Prelude.{◌≡◌, ◌≤◌, length, Err};
+ghost use Rattle.pce_tool.specs.Requests.{one_request as one_request_of, Reads};
+
+use crate::hexadecimal::{HexError, read_hex};
+use dom_base::As;
+use pcep_messages::{
+    Asked, Bad, Message, Refusal, Request, Wanted, Wish, read_message, request_of,
+};
+use std::alloc::Global;
+use std::fmt;
+
+/// Why an input is no request that a command answers.
+#[derive(Clone, Copy, Debug, PartialEq, Eq)]
+pub enum Why {
+    /// It is no hexadecimal text.
+    Hex,
+    /// The bytes are no message of the protocol.
+    Malformed,
+    /// The message is no PCReq with one request.
+    NotRequest,
+    /// The request is answered with this type and value of PCEP-ERROR.
+    Refused(u8, u8),
+    /// It asks what a path key stands for, or for a path through further domains.
+    NotBuilt,
+}
+
+impl fmt::Display for Why {
+    fn fmt<W: fmt::Write>(&self, f: &mut fmt::Formatter<W>) -> fmt::Result {
+        match self {
+            Why::Hex => write!(f, "hex"),
+            Why::Malformed => write!(f, "malformed"),
+            Why::NotRequest => write!(f, "not request"),
+            Why::Refused(kind, value) => write!(f, "refused {kind} {value}"),
+            Why::NotBuilt => write!(f, "not built"),
+        }
+    }
+}
+
+/// A request for a path that stays in one domain, with the flags and the number of its RP.
+#[derive(Drop)]
+pub struct PathRequest {
+    pub flags: u32,
+    pub id: u32,
+    pub wanted: Wanted,
+}
+
+/// Why there is no request.
+#[derive(Clone, Copy, Debug, PartialEq, Eq)]
+pub enum RequestError {
+    Not(Why),
+    NoMemory,
+}
+
+// The request of a PCReq that has just one.
+fn one_request(message: Message) -> Option<Asked>
+    ensures { result ≡ one_request_of message }
+{
+    let Message::PcReq(requests) = message else {
+        return None;
+    };
+    let mut requests = requests.into_vec();
+    if requests.len() != 1 {
+        return None;
+    }
+    requests.pop()
+}
+
+/// Reads a request for a path within the domain `own`: hexadecimal text of one PCReq.
+pub fn read_path_request(alloc: Global, text: &[u8], own: As) -> Result<PathRequest, RequestError>
+    ensures { Reads own.0 text.now result }
+{
+    let frame = match read_hex(alloc, text) {
+        Ok(frame) => frame,
+        Err(HexError::NotHex) => return Err(RequestError::Not(Why::Hex)),
+        Err(HexError::NoMemory) => return Err(RequestError::NoMemory),
+    };
+    let message = match read_message(alloc, &frame) {
+        Ok(message) => message,
+        Err(Bad::Malformed(_)) => return Err(RequestError::Not(Why::Malformed)),
+        Err(Bad::NoMemory) => return Err(RequestError::NoMemory),
+    };
+    let Some(asked) = one_request(message) else {
+        return Err(RequestError::Not(Why::NotRequest));
+    };
+    let request = match request_of(alloc, &asked, own) {
+        Ok(request) => request,
+        Err(Refusal::Wire { rp: _, kind, value }) => {
+            return Err(RequestError::Not(Why::Refused(kind, value)));
+        }
+        Err(Refusal::NoMemory) => return Err(RequestError::NoMemory),
+    };
+    let Request { flags, id, wish } = request;
+    match wish {
+        Wish::Path(wanted) if wanted.sequence.len() <= 1 => Ok(PathRequest { flags, id, wanted }),
+        _ => Err(RequestError::Not(Why::NotBuilt)),
+    }
+}

@@ -1,0 +1,9 @@
+pub mod Faults
+pub mod Cutting
+pub mod Rows
+pub mod GroupLaws
+pub mod ReportLaws
+pub mod MessageLaws
+pub mod RefusalLaws
+pub mod RoomLaws
+pub mod Frames

@@ -1,0 +1,10 @@
+use Rattle.std.proofs.Common.{◌≡◌, ◌≤◌, take}
+use Rattle.std.specs.Prelude.{count_by}
+use Rattle.pcep_messages.specs.Refusals.{is_bound}
+use Rattle.pcep_messages.proofs.said.count_bounds.Given as goal
+
+abbrev pub invariant-loop-object : goal.invariant-loop-object
+invariant-loop-object l = record {
+  counted : l.count ≡ count_by is_bound (take l.object-index l.objects);
+  few : l.count ≤ l.object-index;
+}

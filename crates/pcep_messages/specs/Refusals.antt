@@ -1,0 +1,148 @@
+-- Why a request is refused. The rules are tried in the order in which they stand, and the first that applies is the
+-- answer: a type and a value of PCEP-ERROR (RFC 5440, section 7.15; 4/4, a parameter that is not supported, RFC 5441).
+use Rattle.std.specs.Prelude.{ℕ, Bool, true, false, not, List, [], ◌∷◌, length, Option, Some, None, is_none, count_by, bit_and, nat_le, ◌==◌, ◌&&◌, ◌||◌, if◌then◌else◌}
+use Rattle.std.specs.List.{filter_map, list_any, list_all}
+use Rattle.std.specs.Option.{option_or}
+use Rattle.dom_base.specs.declared.query.Exclusion.{Exclusion}
+use Rattle.path_exclusions.specs.Support as exclusions
+use Rattle.pcep_subobjects.specs.declared.hop.Hop.{Hop}
+use Rattle.pcep_subobjects.specs.declared.hop.Hop.TheVariants as hops
+use Rattle.pcep_objects.specs.declared.object.Object.{Object}
+use Rattle.pcep_messages.specs.Said.{rp_of, end_points_of, metric_in, metrics_of, xro_of, iro_of, key_of, asks_key}
+
+-- an error type and value, where a rule applies
+abbrev pub Reason : Type 0
+Reason = Option (ℕ × ℕ)
+
+abbrev pub because : Bool → ℕ → ℕ → Reason
+because applies kind value = if applies then Some (kind, value) else None
+
+-- what the first rule that applies says
+abbrev pub first_of : List Reason → Reason
+first_of [] = None
+first_of (r ∷ rs) = option_or r (first_of rs)
+
+-- ---- the words of the rules
+
+abbrev pub among : List ℕ → ℕ → Bool
+among xs n = list_any (λ x. x == n) xs
+
+-- An object is not supported where no such class is known (3/1), no such type of the class (3/2), or where a request
+-- can't be served with such a class (4/1) or type (4/2).
+abbrev pub unsupported : ℕ → ℕ → Reason
+unsupported class kind =
+    if among (8 ∷ 11 ∷ 14 ∷ []) class then Some (4, 1)
+    else (if not (among (1 ∷ 2 ∷ 3 ∷ 4 ∷ 5 ∷ 6 ∷ 7 ∷ 9 ∷ 10 ∷ 12 ∷ 13 ∷ 15 ∷ 16 ∷ 17 ∷ []) class) then Some (3, 1)
+    else (if among (4 ∷ 5 ∷ []) class && (kind == 2) then Some (4, 2)
+    else (if not (kind == 1) then Some (3, 2)
+    else because (among (1 ∷ 3 ∷ 7 ∷ 12 ∷ 13 ∷ 15 ∷ []) class) 4 1)))
+
+-- of the first object with P set that is not supported; with P clear such objects are ignored
+abbrev pub unsupported_among : List Object → Reason
+unsupported_among [] = None
+unsupported_among (o ∷ os) = option_or (if o.must then unsupported o.class o.kind else None) (unsupported_among os)
+
+-- an object that has to be taken into account has P clear
+abbrev pub is_optional : {X : Type 0} → Option (X × Bool) → Bool
+is_optional None = false
+is_optional (Some found) = not found.1
+
+abbrev pub has_no_number : Option ((ℕ × ℕ) × Bool) → Bool
+has_no_number None = false
+has_no_number (Some rp) = rp.0.1 == 0
+
+abbrev pub asks_other_path : Option ((ℕ × ℕ) × Bool) → Bool
+asks_other_path None = false
+asks_other_path (Some rp) = not (bit_and rp.0.0 0x18 == 0)
+
+-- the type of the first METRIC: IGP (1), TE (2) or hops (3); without one it is TE
+abbrev pub asked_type : List (Bool × ℕ × ℕ) → ℕ
+asked_type [] = 2
+asked_type (m ∷ ms) = m.1
+
+-- a METRIC with the B flag, and one without it
+unfoldable pub is_bound : Object → Bool
+is_bound o = bit_of (metric_in o.body)
+  where
+    bit_of : Option (Bool × ℕ × ℕ) → Bool
+    bit_of None = false
+    bit_of (Some m) = m.0
+
+unfoldable pub is_minimised : Object → Bool
+is_minimised o = bit_of (metric_in o.body)
+  where
+    bit_of : Option (Bool × ℕ × ℕ) → Bool
+    bit_of None = false
+    bit_of (Some m) = not m.0
+
+-- one type of the three, at most one METRIC to be minimised and one bound
+abbrev pub are_measures : List Object → Bool
+are_measures os =
+    let kind = asked_type (metrics_of os) in
+    (nat_le 1 kind && nat_le kind 3)
+    && (list_all (λ m. m.1 == kind) (metrics_of os) && (nat_le (count_by is_bound os) 1 && nat_le (count_by is_minimised os) 1))
+
+-- at most 256 exclusions, and each that is more than a wish is supported
+abbrev pub can_exclude : Option (List Exclusion) → Bool
+can_exclude None = true
+can_exclude (Some list) = nat_le (length list) 256 && is_none (exclusions.first_unsupported list)
+
+-- the number of a domain (RFC 3209, section 4.3.3.4)
+abbrev pub domain_in : Hop → Option ℕ
+domain_in (hops.AsNumber loose number) = Some number.0
+domain_in _ = None
+
+abbrev pub domains : List Hop → List ℕ
+domains route = filter_map domain_in route
+
+-- 0 is no domain
+abbrev pub is_domain : Hop → Bool
+is_domain (hops.AsNumber loose number) = not (number.0 == 0)
+is_domain _ = false
+
+abbrev pub has_twice : List ℕ → Bool
+has_twice [] = false
+has_twice (n ∷ ns) = among ns n || has_twice ns
+
+abbrev pub begins_with : ℕ → List ℕ → Bool
+begins_with own [] = false
+begins_with own (n ∷ ns) = n == own
+
+-- at most 16 domains, each once, from the own one on
+abbrev pub can_follow : ℕ → Option (List Hop) → Bool
+can_follow own None = true
+can_follow own (Some route) =
+    nat_le (length route) 16 && (list_all is_domain route && (not (has_twice (domains route)) && begins_with own (domains route)))
+
+-- ---- the rules
+
+-- for every request
+abbrev pub request_rules : List Object → List Reason
+request_rules os =
+    unsupported_among os  -- RFC 5440, 7.2: an object with P set that is not supported
+    ∷ because (is_none (rp_of os)) 6 1  -- RFC 5440, 6.4: the RP is missing
+    ∷ because (is_optional (rp_of os)) 10 1  -- RFC 5440, 7.4: the RP has P clear
+    ∷ because (has_no_number (rp_of os)) 4 4  -- RFC 5440, 7.4.1: the number of the request is 0
+    ∷ because (asks_other_path (rp_of os)) 4 4  -- RFC 5440, 7.4.1: reoptimisation (R), a path both ways (B)
+    ∷ []
+
+-- for a request that asks what a path key stands for
+abbrev pub key_rules : List Object → List Reason
+key_rules os =
+    because (is_none (key_of os)) 4 4  -- RFC 5520, 3.2.3: there is no path key
+    ∷ []
+
+-- for a request for a path, at the element of a domain
+abbrev pub path_rules : ℕ → List Object → List Reason
+path_rules own os =
+    because (is_none (end_points_of os)) 6 3  -- RFC 5440, 6.4: the END-POINTS are missing
+    ∷ because (is_optional (end_points_of os)) 10 1  -- RFC 5440, 7.6: the END-POINTS have P clear
+    ∷ because (not (are_measures os)) 4 4  -- RFC 5440, 7.8: no one metric with at most one bound
+    ∷ because (not (can_exclude (xro_of os))) 4 4  -- RFC 5521, 2.1: exclusions that can't be kept
+    ∷ because (not (can_follow own (iro_of os))) 4 4  -- RFC 5440, 7.12: no sequence of domains from this one on
+    ∷ []
+
+-- The error that a request is answered with, if any.
+abbrev pub refusal_of : ℕ → List Object → Reason
+refusal_of own os =
+    option_or (first_of (request_rules os)) (if asks_key (rp_of os) then first_of (key_rules os) else first_of (path_rules own os))

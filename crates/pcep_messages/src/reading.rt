@@ -1,0 +1,134 @@
+ghost use Rattle.std.specs.Prelude.{◌≡◌, ◌≤◌, length, IfOk};
+ghost use Rattle.pcep_messages.specs.Messages.{Gives, GivesFirst, content_of, message_of, made_by_first, made_of, members_of, close_in};
+ghost use Rattle.pcep_objects.specs.Objects.{object_at};
+ghost use Rattle.pcep_messages.specs.Spelling.{WrittenIsRead, NoneBeginsAnother};
+ghost use Rattle.pcep_messages.specs.Groups.{opening_in, report_groups};
+ghost use Rattle.pcep_messages.specs.declared.message.Message.TheVariants as messages;
+
+use crate::answers::{notices, replies, reports, requests};
+use crate::groups::{Closer, cut_groups, opening};
+use crate::message::{Bad, Message};
+use crate::objects::read_members;
+use dom_base::{List, NoMemory};
+use pcep_objects::{Body, Object, ObjectFault, read_object};
+use std::alloc::Global;
+
+/// The first object of a message that it has to begin with.
+fn first_object(alloc: Global, bytes: &[u8]) -> Result<(Object, usize), Bad>
+    ensures { GivesFirst result (object_at bytes.now) }
+{
+    match read_object(alloc, bytes) {
+        Ok(found) => Ok(found),
+        Err(ObjectFault::NoMemory) => Err(Bad::NoMemory),
+        Err(_) => Err(Bad::Malformed(4)),
+    }
+}
+
+fn open(alloc: Global, bytes: &[u8]) -> Result<Message, Bad>
+    requires { length bytes.now ≤ 65536 }
+    ensures { Gives result (made_by_first opening_in messages.Open (object_at bytes.now) (members_of bytes.now)) }
+{
+    let (first, _) = first_object(alloc, bytes)?;
+    let Some(found) = opening(&first) else {
+        return Err(Bad::Malformed(4));
+    };
+    let _ = read_members(alloc, bytes)?;
+    Ok(Message::Open(found))
+}
+
+fn close_reason(object: &Object) -> Option<u8>
+    ensures { result ≡ close_in object.now.body }
+{
+    match object.body {
+        Body::Close(reason) => Some(reason),
+        _ => None,
+    }
+}
+
+fn close(alloc: Global, bytes: &[u8]) -> Result<Message, Bad>
+    requires { length bytes.now ≤ 65536 }
+    ensures { Gives result (made_by_first close_in messages.Close (object_at bytes.now) (members_of bytes.now)) }
+{
+    let (first, _) = first_object(alloc, bytes)?;
+    let Some(reason) = close_reason(&first) else {
+        return Err(Bad::Malformed(4));
+    };
+    let _ = read_members(alloc, bytes)?;
+    Ok(Message::Close(reason))
+}
+
+fn groups_of_reports(alloc: Global, objects: List<Object>) -> Result<List<List<Object>>, NoMemory>
+    ensures { IfOk result (λ groups. groups ≡ report_groups objects) }
+{
+    if objects.is_empty() {
+        return Ok(List::new(alloc));
+    }
+    cut_groups(alloc, Closer::Report, false, objects)
+}
+
+/// What all the objects of a message make.
+fn made(alloc: Global, kind: u8, objects: List<Object>) -> Result<Message, NoMemory>
+    ensures { IfOk result (λ m. m ≡ made_of kind objects) }
+{
+    match kind {
+        3 => {
+            let groups = cut_groups(alloc, Closer::Rp, false, objects)?;
+            Ok(Message::PcReq(requests(alloc, groups)?))
+        }
+        4 => {
+            let groups = cut_groups(alloc, Closer::Rp, true, objects)?;
+            Ok(Message::PcRep(replies(alloc, groups)?))
+        }
+        5 => {
+            let groups = groups_of_reports(alloc, objects)?;
+            Ok(Message::PcNtf(notices(alloc, groups.as_slice())?))
+        }
+        6 => {
+            let groups = groups_of_reports(alloc, objects)?;
+            Ok(Message::PcErr(reports(alloc, groups.as_slice())?))
+        }
+        _ => Ok(Message::Keepalive),
+    }
+}
+
+fn content(alloc: Global, kind: u8, bytes: &[u8]) -> Result<Message, Bad>
+    requires { length bytes.now ≤ 65536 }
+    ensures { Gives result (content_of kind bytes.now) }
+{
+    match kind {
+        1 => open(alloc, bytes),
+        7 => close(alloc, bytes),
+        2..=6 => {
+            let objects = read_members(alloc, bytes)?;
+            Ok(made(alloc, kind, objects)?)
+        }
+        _ => Ok(Message::Other(kind)),
+    }
+}
+
+/// The message that a frame is (RFC 5440, section 6), or the place at fault. Reserved bits, message
+/// flags and the I bit are not read, and of a frame of another type no more than the header.
+pub fn read_message(alloc: Global, frame: &[u8]) -> Result<Message, Bad>
+    ensures { Gives result (message_of frame.now) }
+{
+    match frame {
+        [first, kind, high, low, rest @ ..] => {
+            let len = 256 * *high as usize + *low as usize;
+            if *first / 32 != 1 || rest.len() + 4 != len {
+                return Err(Bad::Malformed(0));
+            }
+            content(alloc, *kind, rest)
+        }
+        _ => Err(Bad::Malformed(0)),
+    }
+}
+
+/// A message in written form is read again from its text.
+pub fn messages_are_read_again()
+    ensures { WrittenIsRead }
+{}
+
+/// The text of no message in written form begins that of another.
+pub fn no_message_begins_another()
+    ensures { NoneBeginsAnother }
+{}

@@ -1,0 +1,219 @@
+//! Why a request is refused.
+
+ghost use Rattle.std.specs.Prelude.{◌≡◌, None, not, if◌then◌else◌};
+ghost use Rattle.std.specs.List.{list_all};
+ghost use Rattle.pcep_messages.specs.Said.{asks_key, iro_of, xro_of};
+ghost use Rattle.pcep_messages.specs.Refusals.{unsupported, unsupported_among, among, are_measures, can_exclude, domain_in, domains, is_domain, has_twice, begins_with, can_follow, first_of, request_rules, key_rules, path_rules, refusal_of};
+
+use crate::said::{
+    are_of_type, count_bounds, count_minimised, find_end_points, find_key, find_rp, metric_type,
+};
+use dom_base::As;
+use path_exclusions::find_unsupported;
+use pcep_objects::{Body, Object};
+use pcep_subobjects::Hop;
+
+/// The type and value of the error that an object of a class and type gives, if it has to be taken
+/// into account.
+fn unsupported_kind(class: u8, kind: u8) -> Option<(u8, u8)>
+    ensures { result ≡ unsupported class kind }
+{
+    match class {
+        8 | 11 | 14 => Some((4, 1)),
+        4 | 5 if kind == 2 => Some((4, 2)),
+        1 | 3 | 7 | 12 | 13 | 15 => {
+            if kind == 1 {
+                Some((4, 1))
+            } else {
+                Some((3, 2))
+            }
+        }
+        2 | 4 | 5 | 6 | 9 | 10 | 16 | 17 => { if kind == 1 { None } else { Some((3, 2)) } }
+        _ => Some((3, 1)),
+    }
+}
+
+fn unsupported_object(object: &Object) -> Option<(u8, u8)>
+    ensures { result ≡ (if object.now.must then unsupported object.now.class object.now.kind else None) }
+{
+    if object.must {
+        unsupported_kind(object.class, object.kind)
+    } else {
+        None
+    }
+}
+
+fn find_unsupported_object(objects: &[Object]) -> Option<(u8, u8)>
+    ensures { result ≡ unsupported_among objects.now }
+{
+    for object in objects {
+        if let Some(error) = unsupported_object(object) {
+            return Some(error);
+        }
+    }
+    None
+}
+
+fn request_error(objects: &[Object]) -> Option<(u8, u8)>
+    ensures { result ≡ first_of (request_rules objects.now) }
+{
+    if let Some(error) = find_unsupported_object(objects) {
+        return Some(error);
+    }
+    match find_rp(objects) {
+        None => Some((6, 1)),
+        Some((_, false)) => Some((10, 1)),
+        Some(((_, 0), true)) => Some((4, 4)),
+        Some(((flags, _), true)) => {
+            if flags & 0x18 == 0 {
+                None
+            } else {
+                Some((4, 4))
+            }
+        }
+    }
+}
+
+fn key_error(objects: &[Object]) -> Option<(u8, u8)>
+    ensures { result ≡ first_of (key_rules objects.now) }
+{
+    match find_key(objects) {
+        Some(_) => None,
+        None => Some((4, 4)),
+    }
+}
+
+fn measures(objects: &[Object]) -> bool
+    ensures { result ≡ are_measures objects.now }
+{
+    let kind = metric_type(objects);
+    (1 <= kind && kind <= 3)
+        && are_of_type(objects, kind)
+        && count_bounds(objects) <= 1
+        && count_minimised(objects) <= 1
+}
+
+fn excludes(objects: &[Object]) -> bool
+    ensures { result ≡ can_exclude (xro_of objects.now) }
+{
+    for object in objects {
+        if let Body::Xro(list) = &object.body {
+            return list.len() <= 256 && find_unsupported(list.as_slice()).is_none();
+        }
+    }
+    true
+}
+
+pub fn domain(hop: &Hop) -> Option<u16>
+    ensures { result ≡ domain_in hop.now }
+{
+    match hop {
+        Hop::AsNumber { number, .. } => Some(number.0),
+        _ => None,
+    }
+}
+
+fn names_domain(hop: &Hop) -> bool
+    ensures { result ≡ is_domain hop.now }
+{
+    match hop {
+        Hop::AsNumber { number, .. } => number.0 != 0,
+        _ => false,
+    }
+}
+
+fn name_domains(route: &[Hop]) -> bool
+    ensures { result ≡ list_all is_domain route.now }
+{
+    route.iter().all(|hop| names_domain(hop))
+}
+
+fn names(route: &[Hop], number: u16) -> bool
+    ensures { result ≡ among (domains route.now) number }
+{
+    route
+        .iter()
+        .filter_map(|hop| domain(hop))
+        .any(|n| n == number)
+}
+
+fn names_twice(route: &[Hop]) -> bool
+    ensures { result ≡ has_twice (domains route.now) }
+{
+    let mut rest = route;
+    while let [hop, others @ ..] = rest {
+        if let Some(number) = domain(hop) {
+            if names(others, number) {
+                return true;
+            }
+        }
+        rest = others;
+    }
+    false
+}
+
+fn begins_at(route: &[Hop], own: u16) -> bool
+    ensures { result ≡ begins_with own (domains route.now) }
+{
+    for hop in route {
+        if let Some(number) = domain(hop) {
+            return number == own;
+        }
+    }
+    false
+}
+
+fn follows(objects: &[Object], own: As) -> bool
+    ensures { result ≡ can_follow own.0 (iro_of objects.now) }
+{
+    for object in objects {
+        if let Body::Iro(route) = &object.body {
+            let route = route.as_slice();
+            return route.len() <= 16
+                && name_domains(route)
+                && !names_twice(route)
+                && begins_at(route, own.0);
+        }
+    }
+    true
+}
+
+fn path_error(objects: &[Object], own: As) -> Option<(u8, u8)>
+    ensures { result ≡ first_of (path_rules own.0 objects.now) }
+{
+    match find_end_points(objects) {
+        None => Some((6, 3)),
+        Some((_, false)) => Some((10, 1)),
+        Some((_, true)) => {
+            if measures(objects) && excludes(objects) && follows(objects, own) {
+                None
+            } else {
+                Some((4, 4))
+            }
+        }
+    }
+}
+
+/// Whether the flag of path keys is set.
+pub fn asks_for_key(rp: Option<((u32, u32), bool)>) -> bool
+    ensures { result ≡ asks_key rp }
+{
+    match rp {
+        None => false,
+        Some(((flags, _), _)) => flags & 0x100 != 0,
+    }
+}
+
+/// The type and value of the error that a request is answered with.
+pub fn refusal(objects: &[Object], own: As) -> Option<(u8, u8)>
+    ensures { result ≡ refusal_of own.0 objects.now }
+{
+    if let Some(error) = request_error(objects) {
+        return Some(error);
+    }
+    if asks_for_key(find_rp(objects)) {
+        key_error(objects)
+    } else {
+        path_error(objects, own)
+    }
+}

@@ -1,0 +1,4 @@
+pub mod Reports
+pub mod Listed
+pub mod Table
+pub mod Order

@@ -1,0 +1,73 @@
+ghost use Rattle.std.specs.Prelude.{◌≡◌, ◌↔◌, IsTrue};
+ghost use Rattle.pcep_session.specs.Listed.{listed};
+ghost use Rattle.pcep_session.specs.Table.{new_state, turn_of};
+
+use crate::actions::Actions;
+use crate::state::{Phase, State};
+use dom_base::Tick;
+use pcep_capabilities::Offer;
+use pcep_messages::Message;
+use std::marker::Model;
+
+/// What comes to a session.
+#[derive(Drop)]
+pub enum Input {
+    /// The connection is open.
+    Begin,
+    /// The peer sent a message.
+    Got(Message),
+    /// The peer sent bytes that are no message.
+    Bad,
+    /// The moment.
+    Tick(Tick),
+}
+
+/// One side of a session, which contracts see as its state. It is small and `Copy`, so a copy can be
+/// stepped and kept or not.
+#[derive(Clone, Copy, Debug, PartialEq, Eq)]
+pub struct Session {
+    state: State,
+}
+
+impl Model for Session {
+    ghost use Rattle.pcep_session.specs.declared.state.State.{State};
+
+    ghost Value = { State };
+
+    ghost view = { λ s. s.state };
+
+    ghost inverse = { λ state. record { state = state } };
+}
+
+impl Session {
+    /// A session that has not begun; takes no memory.
+    pub fn new(offer: Offer, now: Tick) -> Session
+        ensures { result ≡ new_state offer now }
+    {
+        Session {
+            state: State::new(offer, now),
+        }
+    }
+
+    /// Whether the session is open; takes no memory.
+    pub fn is_up(&self) -> bool
+        ensures { IsTrue result ↔ (self.now.phase ≡ Phase.Up) }
+    {
+        match self.state.phase {
+            Phase::Up => true,
+            _ => false,
+        }
+    }
+
+    /// One step of the session: the row of its table for this input; takes no memory. A tick that is
+    /// earlier than the last one counts as that one.
+    pub fn step(&mut self, input: Input) -> Actions
+        ensures actions { listed result ≡ (turn_of self.old input).actions }
+        ensures next { self.new ≡ (turn_of self.old input).next }
+    {
+        self.state.step(input)
+    }
+}
+
+#[cfg(test)]
+mod tests;

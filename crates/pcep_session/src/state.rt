@@ -1,0 +1,363 @@
+ghost use Rattle.std.specs.Prelude.{◌≡◌, ◌<◌};
+ghost use Rattle.pcep_session.specs.Listed.{listed};
+
+use crate::actions::{Action, Actions, Own, Reason};
+use crate::reports::{first_error, first_opening};
+use crate::session::Input;
+use crate::{UNKNOWN_SPAN, WAIT};
+use dom_base::Tick;
+use pcep_capabilities::{Agreed, Offer, negotiate};
+use pcep_messages::{ErrorReport, Message};
+use pcep_objects::OpenBody;
+
+/// The states of RFC 5440, appendix A, after the connection is there.
+#[derive(Clone, Copy, Debug, PartialEq, Eq)]
+pub enum Phase {
+    Idle,
+    OpenWait,
+    KeepWait,
+    Up,
+    Down,
+}
+
+/// When the last four messages of unknown types came.
+#[derive(Clone, Copy, Debug, PartialEq, Eq)]
+pub struct Unknown {
+    pub oldest: Option<Tick>,
+    pub older: Option<Tick>,
+    pub newer: Option<Tick>,
+    pub newest: Option<Tick>,
+}
+
+/// What one side knows of a session.
+#[derive(Clone, Copy, Debug, PartialEq, Eq)]
+pub struct State {
+    /// What this side offers.
+    pub offer: Offer,
+    pub phase: Phase,
+    /// Whether the offer was changed once, as the peer asked.
+    pub retried: bool,
+    /// What holds for this side; of it the Keepalive is that of its last Open.
+    pub agreed: Agreed,
+    /// The last tick.
+    pub clock: Tick,
+    /// The tick of entering the phase.
+    pub since: Tick,
+    /// The tick of the peer's last message.
+    pub heard: Tick,
+    /// The tick of this side's last Open or Keepalive.
+    pub sent: Tick,
+    pub unknown: Unknown,
+}
+
+impl State {
+    ghost use Rattle.pcep_session.specs.Reports.{first_error_of, first_opening_of};
+    ghost use Rattle.pcep_session.specs.Table.{new_state, turn_of, turn_in, entered, fails, ends, closes, has_passed, open_wait, refused_terms, refused, keep_wait, unknown_type, stateful, in_up, up_tick, at_tick, waits};
+
+    pub(crate) fn new(offer: Offer, now: Tick) -> State
+        ensures { result ≡ new_state offer now }
+    {
+        State {
+            offer,
+            phase: Phase::Idle,
+            retried: false,
+            agreed: Agreed {
+                keepalive: offer.keepalive,
+                dead: 0,
+                stateful: false,
+            },
+            clock: now,
+            since: now,
+            heard: now,
+            sent: now,
+            unknown: Unknown {
+                oldest: None,
+                older: None,
+                newer: None,
+                newest: None,
+            },
+        }
+    }
+
+    pub(crate) fn step(&mut self, input: Input) -> Actions
+        ensures actions { listed result ≡ (turn_of self.old input).actions }
+        ensures next { self.new ≡ (turn_of self.old input).next }
+    {
+        match self.phase {
+            Phase::Idle => self.step_idle(input),
+            Phase::OpenWait => self.step_open_wait(input),
+            Phase::KeepWait => self.step_keep_wait(input),
+            Phase::Up => self.step_up(input),
+            Phase::Down => Actions::none(),
+        }
+    }
+
+    fn enter(&mut self, phase: Phase)
+        ensures { self.new ≡ entered self.old phase }
+    {
+        self.phase = phase;
+        self.since = self.clock;
+    }
+
+    // Whether so many seconds have gone by since a moment.
+    fn passed(&self, from: Tick, seconds: u64) -> bool
+        requires { seconds < 256 }
+        ensures { result ≡ has_passed self.now from seconds }
+    {
+        self.clock.0 >= from.0 && self.clock.0 - from.0 >= seconds
+    }
+
+    fn fail(&mut self, error: u8) -> Actions
+        ensures actions { listed result ≡ (fails self.old error).actions }
+        ensures next { self.new ≡ (fails self.old error).next }
+    {
+        self.enter(Phase::Down);
+        Actions::two(
+            Action::Send(Own::Error(1, error)),
+            Action::Down(Reason::Opening(error)),
+        )
+    }
+
+    fn end(&mut self, reason: Reason) -> Actions
+        ensures actions { listed result ≡ (ends self.old reason).actions }
+        ensures next { self.new ≡ (ends self.old reason).next }
+    {
+        self.enter(Phase::Down);
+        Actions::one(Action::Down(reason))
+    }
+
+    fn close(&mut self, code: u8, reason: Reason) -> Actions
+        ensures actions { listed result ≡ (closes self.old code reason).actions }
+        ensures next { self.new ≡ (closes self.old code reason).next }
+    {
+        self.enter(Phase::Down);
+        Actions::two(Action::Send(Own::Close(code)), Action::Down(reason))
+    }
+
+    fn advance(&mut self, tick: Tick)
+        ensures { self.new ≡ at_tick self.old tick }
+    {
+        self.clock = Tick(self.clock.0.max(tick.0));
+    }
+
+    fn wait(&mut self, error: u8) -> Actions
+        ensures actions { listed result ≡ (waits self.old error).actions }
+        ensures next { self.new ≡ (waits self.old error).next }
+    {
+        if self.passed(self.since, WAIT) {
+            self.fail(error)
+        } else {
+            Actions::none()
+        }
+    }
+
+    fn step_idle(&mut self, input: Input) -> Actions
+        ensures actions { listed result ≡ (turn_in Phase.Idle self.old input).actions }
+        ensures next { self.new ≡ (turn_in Phase.Idle self.old input).next }
+    {
+        match input {
+            Input::Begin => {
+                self.enter(Phase::OpenWait);
+                self.sent = self.clock;
+                Actions::one(Action::Send(Own::Open(self.offer)))
+            }
+            Input::Tick(tick) => {
+                self.advance(tick);
+                Actions::none()
+            }
+            Input::Got(_) | Input::Bad => Actions::none(),
+        }
+    }
+
+    fn step_open_wait(&mut self, input: Input) -> Actions
+        ensures actions { listed result ≡ (turn_in Phase.OpenWait self.old input).actions }
+        ensures next { self.new ≡ (turn_in Phase.OpenWait self.old input).next }
+    {
+        match input {
+            Input::Begin => Actions::none(),
+            Input::Got(message) => {
+                self.heard = self.clock;
+                self.got_in_open_wait(message)
+            }
+            Input::Bad => self.fail(1),
+            Input::Tick(tick) => {
+                self.advance(tick);
+                self.wait(2)
+            }
+        }
+    }
+
+    fn step_keep_wait(&mut self, input: Input) -> Actions
+        ensures actions { listed result ≡ (turn_in Phase.KeepWait self.old input).actions }
+        ensures next { self.new ≡ (turn_in Phase.KeepWait self.old input).next }
+    {
+        match input {
+            Input::Begin => Actions::none(),
+            Input::Got(message) => {
+                self.heard = self.clock;
+                self.got_in_keep_wait(message)
+            }
+            Input::Bad => self.fail(1),
+            Input::Tick(tick) => {
+                self.advance(tick);
+                self.wait(7)
+            }
+        }
+    }
+
+    fn step_up(&mut self, input: Input) -> Actions
+        ensures actions { listed result ≡ (turn_in Phase.Up self.old input).actions }
+        ensures next { self.new ≡ (turn_in Phase.Up self.old input).next }
+    {
+        match input {
+            Input::Begin => Actions::none(),
+            Input::Got(message) => {
+                self.heard = self.clock;
+                self.got_in_up(message)
+            }
+            Input::Bad => self.close(3, Reason::Malformed),
+            Input::Tick(tick) => {
+                self.advance(tick);
+                self.tick_in_up()
+            }
+        }
+    }
+
+    fn got_in_open_wait(&mut self, message: Message) -> Actions
+        ensures actions { listed result ≡ (open_wait self.old message).actions }
+        ensures next { self.new ≡ (open_wait self.old message).next }
+    {
+        match message {
+            Message::Open(body) => self.opened(body),
+            Message::Close(_) => self.end(Reason::Peer),
+            _ => self.fail(1),
+        }
+    }
+
+    fn opened(&mut self, body: OpenBody) -> Actions
+        ensures actions { listed result ≡ (open_wait self.old (Message.Open body)).actions }
+        ensures next { self.new ≡ (open_wait self.old (Message.Open body)).next }
+    {
+        if body.version != 1 {
+            return self.fail(8);
+        }
+        self.enter(Phase::KeepWait);
+        self.agreed = negotiate(self.offer, body.offer);
+        self.sent = self.clock;
+        Actions::one(Action::Send(Own::Keepalive))
+    }
+
+    fn got_in_keep_wait(&mut self, message: Message) -> Actions
+        ensures actions { listed result ≡ (keep_wait self.old message).actions }
+        ensures next { self.new ≡ (keep_wait self.old message).next }
+    {
+        match message {
+            Message::Keepalive => {
+                self.enter(Phase::Up);
+                Actions::one(Action::Up)
+            }
+            Message::PcErr(reports) => self.refused_by(reports.as_slice()),
+            Message::Close(_) => self.end(Reason::Peer),
+            _ => self.fail(1),
+        }
+    }
+
+    fn refused_by(&mut self, reports: &[ErrorReport]) -> Actions
+        ensures actions { listed result ≡ (refused self.old (first_error_of reports.now) (first_opening_of reports.now)).actions }
+        ensures next { self.new ≡ (refused self.old (first_error_of reports.now) (first_opening_of reports.now)).next }
+    {
+        match first_error(reports) {
+            Some((1, 4)) => self.other_terms(first_opening(reports)),
+            _ => self.end(Reason::Peer),
+        }
+    }
+
+    fn other_terms(&mut self, opening: Option<OpenBody>) -> Actions
+        ensures actions { listed result ≡ (refused_terms self.old opening).actions }
+        ensures next { self.new ≡ (refused_terms self.old opening).next }
+    {
+        match opening {
+            Some(body) if !self.retried => {
+                self.offer.keepalive = body.offer.keepalive;
+                self.offer.dead = body.offer.dead;
+                self.agreed.keepalive = body.offer.keepalive;
+                self.retried = true;
+                self.since = self.clock;
+                self.sent = self.clock;
+                Actions::one(Action::Send(Own::Open(self.offer)))
+            }
+            _ => self.fail(6),
+        }
+    }
+
+    fn got_in_up(&mut self, message: Message) -> Actions
+        ensures actions { listed result ≡ (in_up self.old message).actions }
+        ensures next { self.new ≡ (in_up self.old message).next }
+    {
+        match message {
+            Message::Keepalive => Actions::none(),
+            Message::Open(_) => Actions::one(Action::Send(Own::Error(9, 0))),
+            Message::Close(_) => self.end(Reason::Peer),
+            Message::Other(10) => self.stateful(5),
+            Message::Other(11) => self.stateful(2),
+            Message::Other(_) => self.unknown_type(),
+            message => Actions::one(Action::Pass(message)),
+        }
+    }
+
+    fn stateful(&mut self, value: u8) -> Actions
+        ensures actions { listed result ≡ (stateful self.old value).actions }
+        ensures next { self.new ≡ (stateful self.old value).next }
+    {
+        self.enter(Phase::Down);
+        Actions::three(
+            Action::Send(Own::Error(19, value)),
+            Action::Send(Own::Close(1)),
+            Action::Down(Reason::Stateful),
+        )
+    }
+
+    fn unknown_type(&mut self) -> Actions
+        ensures actions { listed result ≡ (unknown_type self.old).actions }
+        ensures next { self.new ≡ (unknown_type self.old).next }
+    {
+        let recent = match self.unknown.oldest {
+            Some(at) => self.clock.0 <= at.0 || self.clock.0 - at.0 <= UNKNOWN_SPAN,
+            None => false,
+        };
+        if recent {
+            self.enter(Phase::Down);
+            return Actions::three(
+                Action::Send(Own::Error(2, 0)),
+                Action::Send(Own::Close(5)),
+                Action::Down(Reason::Unknown),
+            );
+        }
+        self.unknown = Unknown {
+            oldest: self.unknown.older,
+            older: self.unknown.newer,
+            newer: self.unknown.newest,
+            newest: Some(self.clock),
+        };
+        Actions::one(Action::Send(Own::Error(2, 0)))
+    }
+
+    fn tick_in_up(&mut self) -> Actions
+        ensures actions { listed result ≡ (up_tick self.old).actions }
+        ensures next { self.new ≡ (up_tick self.old).next }
+    {
+        let Agreed {
+            keepalive,
+            dead,
+            ..
+        } = self.agreed;
+        if dead != 0 && self.passed(self.heard, u64::from(dead)) {
+            return self.close(2, Reason::Dead);
+        }
+        if keepalive != 0 && self.passed(self.sent, u64::from(keepalive)) {
+            self.sent = self.clock;
+            return Actions::one(Action::Send(Own::Keepalive));
+        }
+        Actions::none()
+    }
+}

@@ -1,0 +1,41 @@
+-- What every subobject of a route or of an exclusion begins with: a bit, a type of seven bits and the length in octets
+-- (RFC 3209, 4.3.3; RFC 5521, 2.1).
+use Rattle.std.specs.Prelude.{◌≡◌, ◌≤◌, ℕ, ◌+◌, ◌-◌, ◌%◌, Bool, false, List, [], ◌∷◌, length, take, Option, SomeIff, Result, Ok, Err, nat_lt, nat_le, ◌==◌, if◌then◌else◌}
+use Rattle.dom_base.specs.Parts.{Reader}
+use Rattle.pcep_subobjects.specs.declared.hop.HopFault.{HopFault}
+use Rattle.pcep_subobjects.specs.declared.hop.HopFault.TheVariants as faults
+
+-- a length that a subobject of a type that is not known may have
+abbrev pub is_whole_words : ℕ → Bool
+is_whole_words len = if len % 4 == 0 then nat_le 4 len else false
+
+-- The subobject at the front: what its bit, its type and the octets behind its length say. It is short where the bytes
+-- end inside it, and else its length has to be one of its type's.
+abbrev pub subobject_at : {X : Type 0} → (ℕ → ℕ → Bool) → (Bool → ℕ → List ℕ → X) → Reader X HopFault
+subobject_at has_length meaning [] = Err faults.Short
+subobject_at has_length meaning (first ∷ []) = Err faults.Short
+subobject_at has_length meaning (first ∷ len ∷ bytes) =
+    if nat_lt (length bytes + 2) len then Err faults.Short
+    else (if has_length (first % 128) len then Ok (meaning (nat_le 128 first) (first % 128) (take (len - 2) bytes), len)
+    else Err faults.BadLength)
+
+-- the octet of the bit and the type
+abbrev pub first_octet : Bool → ℕ → ℕ
+first_octet bit kind = (if bit then 128 else 0) + kind
+
+-- What a call answered is what is read, unless memory ran out.
+abbrev pub Gives : {X : Type 0} → Result X HopFault → Result X HopFault → Type 0
+Gives (Ok x) read = read ≡ Ok x
+Gives (Err faults.NoMemory) read = Unit {0}
+Gives (Err f) read = read ≡ Err f
+
+-- The same of the subobject at the front of what is left from a place on.
+abbrev pub GivesAt : {X : Type 0} → ℕ → Result X HopFault → Result X (ℕ → HopFault) → Type 0
+GivesAt place (Ok x) read = read ≡ Ok x
+GivesAt place (Err (faults.Short p)) read = (p ≡ place) × (read ≡ Err faults.Short)
+GivesAt place (Err (faults.BadLength p)) read = (p ≡ place) × (read ≡ Err faults.BadLength)
+GivesAt place (Err faults.NoMemory) read = Unit {0}
+
+-- How many octets of a room are left behind a text: none can be told exactly where the text has no room.
+abbrev pub IsLeftBehind : List ℕ → ℕ → Option ℕ → Type 0
+IsLeftBehind text room left = SomeIff left (length text ≤ room) (room - length text)

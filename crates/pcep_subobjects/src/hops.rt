@@ -1,0 +1,161 @@
+ghost use Rattle.std.specs.Prelude.{◌≡◌, ◌+◌, ◌≤◌, ◌++◌, length, IsTrue, IfOk, OnOk, OnErr};
+ghost use Rattle.pcep_subobjects.specs.Subobjects.{Gives, GivesAt, IsLeftBehind};
+ghost use Rattle.pcep_subobjects.specs.Hops.{hop_has_length, hop_of, hop_at, hops_of, hop_text, hops_text, WrittenIsRead, NoneBeginsAnother};
+
+use crate::hop::{Hop, HopFault};
+use crate::octets::first;
+use dom_base::{Addr, As, List, NoMemory, half, word};
+use std::alloc::Global;
+
+fn fits_hop(kind: u8, len: usize) -> bool
+    ensures { result ≡ hop_has_length kind len }
+{
+    match kind {
+        1 | 64 => len == 8,
+        32 => len == 4,
+        _ => len % 4 == 0 && len >= 4,
+    }
+}
+
+fn hop(alloc: Global, loose: bool, kind: u8, content: &[u8]) -> Result<Hop, NoMemory>
+    requires { IsTrue (hop_has_length kind (length content.now + 2)) }
+    ensures { IfOk result (λ h. h ≡ hop_of loose kind content.now) }
+{
+    match kind {
+        1 => Ok(Hop::Prefix {
+            loose,
+            addr: Addr(word(content, 0)),
+            length: content[4],
+        }),
+        32 => Ok(Hop::AsNumber {
+            loose,
+            number: As(half(content, 0)),
+        }),
+        64 => Ok(Hop::Key {
+            loose,
+            key: half(content, 0),
+            pce: Addr(word(content, 2)),
+        }),
+        _ => Ok(Hop::Other {
+            loose,
+            kind,
+            body: List::from_vec(Vec::from_slice(alloc, content)?),
+        }),
+    }
+}
+
+fn read_hop(alloc: Global, place: usize, bytes: &[u8]) -> Result<(Hop, usize), HopFault>
+    ensures found { GivesAt place result (hop_at bytes.now) }
+    ensures some { IfOk result (λ x. 4 ≤ x.1) }
+    ensures within { IfOk result (λ x. x.1 ≤ length bytes.now) }
+{
+    match bytes {
+        [first, len, rest @ ..] => {
+            let len = *len as usize;
+            if rest.len() + 2 < len {
+                return Err(HopFault::Short(place));
+            }
+            let kind = *first % 128;
+            if !fits_hop(kind, len) {
+                return Err(HopFault::BadLength(place));
+            }
+            let (content, _) = rest.split_at(len - 2);
+            Ok((hop(alloc, *first >= 128, kind, content)?, len))
+        }
+        _ => Err(HopFault::Short(place)),
+    }
+}
+
+/// The hops of a route object's body (RFC 3209, section 4.3.3; RFC 5520, section 3.1), or its first
+/// fault.
+pub fn read_hops(alloc: Global, bytes: &[u8]) -> Result<List<Hop>, HopFault>
+    ensures { Gives result (hops_of bytes.now) }
+{
+    let mut hops = List::new(alloc);
+    let mut rest = bytes;
+    let mut place: usize = 0;
+    while !rest.is_empty() {
+        let (hop, len) = read_hop(alloc, place, rest)?;
+        hops.push(hop)?;
+        let (_, after) = rest.split_at(len);
+        rest = after;
+        place += len;
+    }
+    Ok(hops)
+}
+
+fn put_hop(text: &mut Vec<u8>, hop: &Hop) -> Result<(), NoMemory>
+    ensures { OnOk result (text.new.items ≡ text.old.items ++ hop_text hop.now) }
+{
+    match hop {
+        Hop::Prefix { addr, .. } => {
+            let [a, b, c, d] = addr.0.to_be_bytes();
+            text.extend_from_slice(&[1, 8, a, b, c, d, 32, 0])?;
+        }
+        Hop::AsNumber { loose, number } => {
+            let [a, b] = number.0.to_be_bytes();
+            text.extend_from_slice(&[first(*loose, 32), 4, a, b])?;
+        }
+        Hop::Key { loose, key, pce } => {
+            let [a, b] = key.to_be_bytes();
+            let [c, d, e, f] = pce.0.to_be_bytes();
+            text.extend_from_slice(&[first(*loose, 64), 8, a, b, c, d, e, f])?;
+        }
+        Hop::Other { loose, kind, body } => {
+            let len = (body.len() % 256 + 2) % 256;
+            text.extend_from_slice(&[first(*loose, *kind % 128), len as u8])?;
+            text.extend_from_slice(body.as_slice())?;
+        }
+    }
+    Ok(())
+}
+
+/// Appends the text of the hops. Each prefix is written as a strict hop to one address. The type of
+/// another subobject is written modulo 128 and its length modulo 256.
+pub fn write_hops(alloc: Global, hops: &[Hop], into: &mut Vec<u8>) -> Result<(), NoMemory>
+    ensures ok { OnOk result (into.new.items ≡ into.old.items ++ hops_text hops.now) }
+    ensures err { OnErr result (into.new.items ≡ into.old.items) }
+{
+    let mut text = Vec::new(alloc);
+    for hop in hops {
+        put_hop(&mut text, hop)?;
+    }
+    into.extend_from_slice(&text)?;
+    Ok(())
+}
+
+fn hop_len(hop: &Hop) -> usize
+    ensures { result ≡ length (hop_text hop.now) }
+{
+    match hop {
+        Hop::Prefix { .. } | Hop::Key { .. } => 8,
+        Hop::AsNumber { .. } => 4,
+        Hop::Other { body, .. } => body.as_slice().len() + 2,
+    }
+}
+
+/// How many octets of a room are left behind the text of the hops; None exactly where the text has
+/// no room. Takes no memory.
+pub fn room_behind_hops(hops: &[Hop], room: usize) -> Option<usize>
+    ensures { IsLeftBehind (hops_text hops.now) room result }
+{
+    let mut left = room;
+    for hop in hops {
+        let len = hop_len(hop);
+        if left < len {
+            return None;
+        }
+        left -= len;
+    }
+    Some(left)
+}
+
+/// Hops in written form are read again from their text.
+pub fn hops_are_read_again()
+    ensures { WrittenIsRead }
+{}
+
+/// The text of no hop in written form begins that of another.
+pub fn no_hop_begins_another()
+    ensures { NoneBeginsAnother }
+{}

@@ -1,0 +1,19 @@
+//! The subobjects of routes and of exclusions, as octets and back.
+#![tactic(auto)]
+
+mod exclusions;
+mod hop;
+mod hops;
+mod octets;
+
+pub use exclusions::{
+    exclusions_are_read_again, no_exclusion_begins_another, read_exclusions,
+    room_behind_exclusions, write_exclusions,
+};
+pub use hop::{Hop, HopFault};
+pub use hops::{
+    hops_are_read_again, no_hop_begins_another, read_hops, room_behind_hops, write_hops,
+};
+
+#[cfg(test)]
+mod tests;

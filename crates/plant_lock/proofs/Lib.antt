@@ -1,0 +1,5 @@
+pub mod Lists
+pub mod Keeps
+pub mod Turns
+pub mod Crossing
+pub mod Adds

@@ -1,0 +1,4 @@
+pub mod Messages
+pub mod Fields
+pub mod Sents
+pub mod SaidFields

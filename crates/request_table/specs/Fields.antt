@@ -1,0 +1,19 @@
+-- What a table of requests is, by its fields.
+use Rattle.std.specs.Prelude.{◌≡◌, min}
+use Rattle.std.specs.Map.{lookup}
+use Rattle.indexmap.specs.IndexMap.{spare}
+use Rattle.dom_base.specs.Room.{Room}
+use Rattle.request_table.specs.declared.held.RequestKey.{RequestKey}
+use Rattle.request_table.specs.Pending.{Pending, ArePending, same_key, number_among}
+use Rattle.request_table.specs.declared.requests.Requests.TheInside.{Inside}
+
+abbrev pub pending_of : {T : Type 0} → Inside T → Pending T
+pending_of a = record { limit = a.limit; given = a.given; rows = a.rows.entries }
+
+abbrev pub room_of : {T : Type 0} → Inside T → Room (Pending T)
+room_of a = record { kept = pending_of a; spare = min (spare a.rows) (spare a.numbers) }
+
+-- each peer and id is looked up as the rows have it
+pub record HoldsPending {T : Type 0} (a : Inside T) : Type 0 where
+  pub pending : ArePending (pending_of a)
+  pub index : (key : RequestKey) → lookup (same_key key) a.numbers.entries ≡ number_among key a.rows.entries

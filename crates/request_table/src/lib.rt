@@ -1,0 +1,11 @@
+//! The requests that are not yet answered, by their numbers, and each by its peer and id.
+#![tactic(auto)]
+
+mod held;
+mod requests;
+
+pub use held::{Held, RequestKey};
+pub use requests::{OpenError, Requests};
+
+/// How many requests an element may have pending.
+pub const PENDING_MAX: usize = 1_024;

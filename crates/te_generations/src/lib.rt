@@ -1,0 +1,16 @@
+//! The generations of a topology, and the pins that keep older ones.
+#![tactic(auto)]
+
+mod among;
+mod generations;
+mod law;
+mod live;
+
+pub use generations::{Generations, LoadError, Pin};
+pub use law::pins_keep_topologies;
+
+/// How many generations may be live.
+pub const LIVE_MAX: usize = 16;
+
+/// How many pins there may be.
+pub const PINS_MAX: u32 = 1_024;

@@ -1,0 +1,14 @@
+pub mod Rising
+pub mod Searching
+pub mod Ends
+pub mod Nothing
+pub mod Rules
+pub mod Different
+pub mod Sound
+pub mod RowRules
+pub mod Within
+pub mod Listed
+pub mod Counting
+pub mod Surveyed
+pub mod Moved
+pub mod Unbroken

@@ -1,0 +1,33 @@
+-- What the checks of single rows and of single lists answer.
+use Rattle.std.specs.Prelude.{◌≡◌, ◌<◌, ℕ, Option, Some, None}
+use Rattle.te_links.specs.declared.fault.TopoFault.{TopoFault}
+use Rattle.te_links.specs.declared.fault.Row.{Row}
+use Rattle.te_links.specs.declared.fault.RowKind.{RowKind}
+use Rattle.te_links.specs.declared.fault.BuildError.{BuildError}
+use Rattle.te_links.specs.declared.fault.BuildError.TheVariants.{Rule, NoMemory}
+use Rattle.te_links.specs.Rows.{Rows}
+use Rattle.te_links.specs.Faults.{Breaks, rank}
+
+-- the first rule that is broken, or none is
+abbrev pub IsFirstRule : (TopoFault → Type 0) → Option TopoFault → Type 0
+IsFirstRule breaks None = (other : TopoFault) → ¬ breaks other
+IsFirstRule breaks (Some fault) = breaks fault × ((other : TopoFault) → rank other < rank fault → ¬ breaks other)
+
+-- the rows of this kind before place n break no rule
+pub record NoneBefore (g : Rows) (kind : RowKind) (n : ℕ) : Type 0 where
+  pub none : (i : ℕ) (other : TopoFault) → i < n → ¬ Breaks g kind i other
+
+-- no row of this kind breaks a rule
+pub record NoneOf (g : Rows) (kind : RowKind) : Type 0 where
+  pub none : (i : ℕ) (other : TopoFault) → ¬ Breaks g kind i other
+
+-- the first breach among the rows of one kind
+pub record IsFirstOf (g : Rows) (kind : RowKind) (fault : TopoFault) (row : Row) : Type 0 where
+  pub here : row.kind ≡ kind
+  pub breaks : Breaks g kind row.index fault
+  pub first_rule : (other : TopoFault) → rank other < rank fault → ¬ Breaks g kind row.index other
+  pub first_row : NoneBefore g kind row.index
+
+abbrev pub IsReasonOf : Rows → RowKind → BuildError → Type 0
+IsReasonOf g kind (Rule fault row) = IsFirstOf g kind fault row
+IsReasonOf g kind NoMemory = ⊥

@@ -1,0 +1,23 @@
+-- Which links end at which node.
+use Rattle.std.specs.Prelude.{◌≡◌, ◌<◌, ℕ, List, length, All, AllPairs, Contains, Some, slice_get, slice_index_or}
+use Rattle.std.specs.Global.{Vec}
+use Rattle.dom_base.specs.declared.names.Addr.{Addr}
+use Rattle.dom_base.specs.declared.link.Link.{Link}
+
+-- the link at place p ends at the node at place i
+pub record EndsAt (nodes : List Addr) (links : List Link) (i p : ℕ) : Type 0 where
+  pub link : Link
+  pub at_link : slice_get links p ≡ Some link
+  pub at_node : slice_get nodes i ≡ Some link.to
+
+-- The places of exactly the links that end at the node at place i, rising: the links stand in the order of their far
+-- addresses, so these do.
+pub record IsLinksInto (nodes : List Addr) (links : List Link) (i : ℕ) (places : List ℕ) : Type 0 where
+  pub ends : All (EndsAt nodes links i) places
+  pub whole : (p : ℕ) → EndsAt nodes links i p → Contains places p
+  pub order : AllPairs (λ p q. p < q) places
+
+-- for each node the links that end there
+pub record IsIndex (nodes : List Addr) (links : List Link) (into : List (Vec ℕ)) : Type 0 where
+  pub each : length into ≡ length nodes
+  pub at_node : (i : ℕ) (d : Vec ℕ) → i < length into → IsLinksInto nodes links i (slice_index_or into i d).items

@@ -1,0 +1,7 @@
+pub mod Rows
+pub mod Reads
+pub mod Index
+pub mod Fields
+pub mod Faults
+pub mod Survey
+pub mod Checks

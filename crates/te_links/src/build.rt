@@ -1,0 +1,60 @@
+ghost use Rattle.std.specs.Prelude.{◌≡◌, ◌<◌, ◌^◌, length, IsPermutation, IfOk, IfErr, OnOk, OnErr};
+ghost use Rattle.te_links.specs.Rows.{IsTopology};
+ghost use Rattle.te_links.specs.Faults.{IsReason, rows_of_parts};
+
+use crate::checks::check;
+use crate::fault::BuildError;
+use crate::index::index_of;
+use crate::rows::Parts;
+use crate::survey::Survey;
+use crate::topology::Topology;
+use std::alloc::{AllocError, Global};
+
+// The topology with these rows, which obey the rules.
+fn assemble(alloc: Global, parts: Parts) -> Result<Topology, AllocError>
+    requires rules { IsTopology (rows_of_parts parts) }
+    requires short { length parts.entries < 2 ^ 32 }
+    ensures own { IfOk result (λ t. t.own ≡ parts.own) }
+    ensures nodes { IfOk result (λ t. IsPermutation parts.nodes t.nodes) }
+    ensures links { IfOk result (λ t. IsPermutation parts.links t.links) }
+    ensures outs { IfOk result (λ t. IsPermutation parts.outs t.outs) }
+    ensures entries { IfOk result (λ t. IsPermutation parts.entries t.entries) }
+{
+    let Parts {
+        own,
+        nodes,
+        links,
+        outs,
+        entries,
+    } = parts;
+    let mut nodes = nodes.into_vec();
+    let mut links = links.into_vec();
+    let mut outs = outs.into_vec();
+    let mut entries = entries.into_vec();
+    nodes.sort()?;
+    links.sort_by_key(|l| l.far.0)?;
+    outs.sort_by_key(|o| o.link.far.0)?;
+    entries.sort()?;
+    let into = index_of(alloc, &nodes, &links)?;
+    Ok(Topology::of(own, nodes, links, outs, entries, into))
+}
+
+impl Topology {
+    /// The topology with exactly these rows, in its own order, where they obey the rules: else the
+    /// first broken rule and its row. Nodes come first, then inner links, out links and entries,
+    /// in the given order; at a row the rules go in the order of `TopoFault`. Takes time in
+    /// proportion to the rows and the logarithm of their number.
+    pub fn build(alloc: Global, parts: Parts) -> Result<Topology, BuildError>
+        ensures rules { OnOk result (IsTopology (rows_of_parts parts)) }
+        ensures refused { IfErr result (IsReason (rows_of_parts parts)) }
+        ensures own { IfOk result (λ t. t.own ≡ parts.own) }
+        ensures nodes { IfOk result (λ t. IsPermutation parts.nodes t.nodes) }
+        ensures links { IfOk result (λ t. IsPermutation parts.links t.links) }
+        ensures outs { IfOk result (λ t. IsPermutation parts.outs t.outs) }
+        ensures entries { IfOk result (λ t. IsPermutation parts.entries t.entries) }
+    {
+        let survey = Survey::of(alloc, &parts)?;
+        check(&parts, &survey)?;
+        Ok(assemble(alloc, parts)?)
+    }
+}

@@ -1,0 +1,211 @@
+ghost use Rattle.std.specs.Prelude.{◌≡◌, ◌⊎◌, ◌≤◌, ◌<◌, ◌^◌, length, take, slice_get, AllPairs, Contains, Some, MatchResult};
+ghost use Rattle.std.specs.Bool.{Decides};
+ghost use Rattle.te_links.specs.Rows.{IsMetric, IsForeign, IsTopology, FewEntries};
+ghost use Rattle.te_links.specs.Faults.{Breaks, HasBadMetric, IsReason, rows_of_parts};
+ghost use Rattle.te_links.specs.Survey.{IsSurvey};
+ghost use Rattle.te_links.specs.Checks.{IsFirstRule, NoneOf, IsReasonOf};
+
+use crate::fault::{BuildError, Row, RowKind, TopoFault};
+use crate::index::place_of;
+use crate::rows::{Entry, Parts};
+use crate::survey::Survey;
+use crate::{ENTRIES_MAX, LINKS_MAX, METRIC_MAX, NODES_MAX, OUTS_MAX, SRLGS_MAX};
+use dom_base::{Addr, As, Link};
+
+fn refusal(fault: TopoFault, kind: RowKind, index: usize) -> BuildError
+    requires { index < 2 ^ 32 }
+    ensures { result ≡ BuildError.Rule fault (record { kind = kind; index = index }) }
+{
+    BuildError::Rule(
+        fault,
+        Row {
+            kind,
+            index: index as u32,
+        },
+    )
+}
+
+fn is_metric(value: u32) -> bool
+    ensures { Decides result (IsMetric value) }
+{
+    1 <= value && value <= METRIC_MAX
+}
+
+fn has_bad_metric(link: &Link) -> bool
+    ensures { Decides result (HasBadMetric link.now) }
+{
+    !is_metric(link.igp) || !is_metric(link.te)
+}
+
+fn is_foreign(own: As, other: As) -> bool
+    ensures { Decides result (IsForeign own other) }
+{
+    other != own && other.0 >= 1
+}
+
+fn is_node(nodes: &[Addr], addr: Addr) -> bool
+    requires { AllPairs (λ a b. a.0 ≤ b.0) nodes.now }
+    ensures { Decides result (Contains nodes.now addr) }
+{
+    place_of(nodes, addr).is_some()
+}
+
+// Whether an inner link is past the limit, or has too many shared risk groups.
+fn is_link_past(link: &Link, i: usize) -> bool
+    ensures { Decides result ((LINKS_MAX ≤ i) ⊎ (SRLGS_MAX < length link.now.srlgs)) }
+{
+    i >= LINKS_MAX || link.srlgs.len() > SRLGS_MAX
+}
+
+fn has_unknown_end(nodes: &[Addr], link: &Link) -> bool
+    requires { AllPairs (λ a b. a.0 ≤ b.0) nodes.now }
+    ensures { Decides result ((¬ Contains nodes.now link.now.from) ⊎ (¬ Contains nodes.now link.now.to)) }
+{
+    !is_node(nodes, link.from) || !is_node(nodes, link.to)
+}
+
+// The first rule that an inner link breaks.
+fn link_fault(parts: &Parts, survey: &Survey, i: usize) -> Option<TopoFault>
+    requires inside { i < length parts.now.links }
+    requires survey { IsSurvey (rows_of_parts parts.now) survey.now }
+    ensures { IsFirstRule (Breaks (rows_of_parts parts.now) RowKind.Link i) result }
+{
+    let link = &parts.links.as_slice()[i];
+    if is_link_past(link, i) {
+        Some(TopoFault::TooMany)
+    } else if has_unknown_end(&survey.nodes, link) {
+        Some(TopoFault::UnknownNode)
+    } else if has_bad_metric(link) {
+        Some(TopoFault::BadMetric)
+    } else if survey.same_near[i] > 0 {
+        Some(TopoFault::DuplicateNear)
+    } else if survey.same_far[i] > 0 {
+        Some(TopoFault::DuplicateFar)
+    } else {
+        None
+    }
+}
+
+// Whether an out link is past a limit, or has too many shared risk groups.
+fn is_out_past(link: &Link, i: usize, tails_end: usize) -> bool
+    ensures { Decides result ((OUTS_MAX ≤ i) ⊎ (SRLGS_MAX < length link.now.srlgs) ⊎ (tails_end ≤ i)) }
+{
+    i >= OUTS_MAX || link.srlgs.len() > SRLGS_MAX || i >= tails_end
+}
+
+// The first rule that an out link breaks.
+fn out_fault(parts: &Parts, survey: &Survey, i: usize) -> Option<TopoFault>
+    requires inside { i < length parts.now.outs }
+    requires survey { IsSurvey (rows_of_parts parts.now) survey.now }
+    ensures { IsFirstRule (Breaks (rows_of_parts parts.now) RowKind.Out i) result }
+{
+    let out = &parts.outs.as_slice()[i];
+    let link = &out.link;
+    let place = parts.links.len() + i;
+    if is_out_past(link, i, survey.tails_end) {
+        Some(TopoFault::TooMany)
+    } else if !is_node(&survey.nodes, link.from) {
+        Some(TopoFault::UnknownNode)
+    } else if !is_foreign(parts.own, out.to_as) {
+        Some(TopoFault::OwnAs)
+    } else if has_bad_metric(link) {
+        Some(TopoFault::BadMetric)
+    } else if survey.same_near[place] > 0 {
+        Some(TopoFault::DuplicateNear)
+    } else if survey.same_far[place] > 0 {
+        Some(TopoFault::DuplicateFar)
+    } else {
+        None
+    }
+}
+
+// Whether an entry is past a limit: so many before it are of the same domain.
+fn is_entry_past(same_domain: usize, i: usize, nodes_end: usize) -> bool
+    ensures { Decides result ((ENTRIES_MAX ≤ same_domain) ⊎ (nodes_end ≤ i)) }
+{
+    same_domain >= ENTRIES_MAX || i >= nodes_end
+}
+
+// The first rule that an entry breaks, where no entry before it breaks one.
+fn entry_fault(parts: &Parts, survey: &Survey, i: usize, entry: Entry) -> Option<TopoFault>
+    requires inside { slice_get parts.now.entries i ≡ Some entry }
+    requires survey { IsSurvey (rows_of_parts parts.now) survey.now }
+    requires few { FewEntries (take i parts.now.entries) }
+    ensures rule { IsFirstRule (Breaks (rows_of_parts parts.now) RowKind.Entry i) result }
+    ensures number { entry.from_as.0 < 2 ^ 16 }
+{
+    if is_entry_past(survey.same_domain[i], i, survey.entry_nodes_end) {
+        Some(TopoFault::TooMany)
+    } else if !is_node(&survey.nodes, entry.node) {
+        Some(TopoFault::UnknownNode)
+    } else if !is_foreign(parts.own, entry.from_as) {
+        Some(TopoFault::OwnAs)
+    } else if survey.same_entry[i] > 0 {
+        Some(TopoFault::DuplicateEntry)
+    } else {
+        None
+    }
+}
+
+fn check_nodes(parts: &Parts, survey: &Survey) -> Result<(), BuildError>
+    requires { IsSurvey (rows_of_parts parts.now) survey.now }
+    ensures { MatchResult result (λ _. NoneOf (rows_of_parts parts.now) RowKind.Node) (IsReasonOf (rows_of_parts parts.now) RowKind.Node) }
+{
+    for i in 0..parts.nodes.len() {
+        if i >= NODES_MAX {
+            return Err(refusal(TopoFault::TooMany, RowKind::Node, i));
+        }
+        if survey.same_node[i] > 0 {
+            return Err(refusal(TopoFault::DuplicateNode, RowKind::Node, i));
+        }
+    }
+    Ok(())
+}
+
+fn check_links(parts: &Parts, survey: &Survey) -> Result<(), BuildError>
+    requires { IsSurvey (rows_of_parts parts.now) survey.now }
+    ensures { MatchResult result (λ _. NoneOf (rows_of_parts parts.now) RowKind.Link) (IsReasonOf (rows_of_parts parts.now) RowKind.Link) }
+{
+    for i in 0..parts.links.len() {
+        if let Some(fault) = link_fault(parts, survey, i) {
+            return Err(refusal(fault, RowKind::Link, i));
+        }
+    }
+    Ok(())
+}
+
+fn check_outs(parts: &Parts, survey: &Survey) -> Result<(), BuildError>
+    requires { IsSurvey (rows_of_parts parts.now) survey.now }
+    ensures { MatchResult result (λ _. NoneOf (rows_of_parts parts.now) RowKind.Out) (IsReasonOf (rows_of_parts parts.now) RowKind.Out) }
+{
+    for i in 0..parts.outs.len() {
+        if let Some(fault) = out_fault(parts, survey, i) {
+            return Err(refusal(fault, RowKind::Out, i));
+        }
+    }
+    Ok(())
+}
+
+fn check_entries(parts: &Parts, survey: &Survey) -> Result<(), BuildError>
+    requires { IsSurvey (rows_of_parts parts.now) survey.now }
+    ensures { MatchResult result (λ _. NoneOf (rows_of_parts parts.now) RowKind.Entry × (length parts.now.entries < 2 ^ 32)) (IsReasonOf (rows_of_parts parts.now) RowKind.Entry) }
+{
+    for (i, entry) in parts.entries.as_slice().iter().enumerate() {
+        if let Some(fault) = entry_fault(parts, survey, i, *entry) {
+            return Err(refusal(fault, RowKind::Entry, i));
+        }
+    }
+    Ok(())
+}
+
+/// Whether the rows obey the rules, and else the first breach.
+pub(crate) fn check(parts: &Parts, survey: &Survey) -> Result<(), BuildError>
+    requires { IsSurvey (rows_of_parts parts.now) survey.now }
+    ensures { MatchResult result (λ _. IsTopology (rows_of_parts parts.now) × (length parts.now.entries < 2 ^ 32)) (IsReason (rows_of_parts parts.now)) }
+{
+    check_nodes(parts, survey)?;
+    check_links(parts, survey)?;
+    check_outs(parts, survey)?;
+    check_entries(parts, survey)?;
+    Ok(())
+}

@@ -1,0 +1,26 @@
+use dom_base::{Addr, As, Link, List};
+
+/// A link to another domain; its `to` is a node there, its head.
+#[derive(Drop)]
+pub struct OutLink {
+    pub link: Link,
+    pub to_as: As,
+}
+
+/// A node at which paths from another domain may enter. Entries are ordered by the domain, then
+/// by the node.
+#[derive(Clone, Copy, Debug, PartialEq, Eq, PartialOrd, Ord)]
+pub struct Entry {
+    pub from_as: As,
+    pub node: Addr,
+}
+
+/// The rows that a topology is built from, each list in any order.
+#[derive(Drop)]
+pub struct Parts {
+    pub own: As,
+    pub nodes: List<Addr>,
+    pub links: List<Link>,
+    pub outs: List<OutLink>,
+    pub entries: List<Entry>,
+}

@@ -1,0 +1,135 @@
+ghost use Rattle.std.specs.Prelude.{◌≡◌, ◌++◌, Contains, IfOk, map};
+ghost use Rattle.std.specs.Bool.{Decides};
+ghost use Rattle.std.specs.BTreeMap.{is_at};
+ghost use Rattle.te_links.specs.Faults.{rows_of_parts};
+ghost use Rattle.te_links.specs.Survey.{CountsBefore, IsFewUpTo, IsSurvey};
+
+use crate::rows::Parts;
+use crate::{ENTRY_NODES_MAX, TAILS_MAX};
+use dom_base::{Addr, As};
+use std::alloc::{AllocError, Global};
+use std::collections::BTreeMap;
+
+/// What the rules ask of a row and the rows before it, and the nodes in the order of their
+/// addresses. It is all that the rules need memory for.
+#[derive(Drop)]
+pub(crate) struct Survey {
+    pub(crate) nodes: Vec<Addr>,
+
+    // for each row how many rows before it have the same
+    pub(crate) same_node: Vec<usize>,
+    pub(crate) same_near: Vec<usize>,
+    pub(crate) same_far: Vec<usize>,
+    pub(crate) same_entry: Vec<usize>,
+    pub(crate) same_domain: Vec<usize>,
+
+    // how many rows keep the limit on different nodes
+    pub(crate) tails_end: usize,
+    pub(crate) entry_nodes_end: usize,
+}
+
+// For each key how often it stands among those before it.
+fn counts_before<K: Ord + Copy>(alloc: Global, keys: &[K]) -> Result<Vec<usize>, AllocError>
+    requires { (a b : K) → Decides (is_at (K.cmp a) b) (a ≡ b) }
+    ensures { IfOk result (λ counts. CountsBefore K.cmp keys.now counts.items) }
+{
+    let mut seen: BTreeMap<K, usize> = BTreeMap::new(alloc);
+    let mut counts = Vec::with_capacity(alloc, keys.len())?;
+    for key in keys {
+        let count = seen.get(key).copied().unwrap_or(0);
+        counts.push(count)?;
+        seen.insert(*key, count + 1)?;
+    }
+    Ok(counts)
+}
+
+fn is_among(addrs: &[Addr], addr: Addr) -> bool
+    ensures { Decides result (Contains addrs.now addr) }
+{
+    addrs.contains(&addr)
+}
+
+// How many addresses there are from the front on among which at most `most` differ.
+fn few_up_to(alloc: Global, addrs: &[Addr], most: usize) -> Result<usize, AllocError>
+    ensures { IfOk result (IsFewUpTo most addrs.now) }
+{
+    let mut different = Vec::new(alloc);
+    for (i, addr) in addrs.iter().enumerate() {
+        if is_among(&different, *addr) {
+            continue;
+        }
+        if different.len() >= most {
+            return Ok(i);
+        }
+        different.push(*addr)?;
+    }
+    Ok(addrs.len())
+}
+
+// The near addresses of the inner links, then of the out links.
+fn nears_of(alloc: Global, parts: &Parts) -> Result<Vec<Addr>, AllocError>
+    ensures { IfOk result (λ v. v.items ≡ map (λ l. l.near) parts.now.links ++ map (λ o. o.link.near) parts.now.outs) }
+{
+    let inner = parts.links.as_slice().iter().map(|l| l.near);
+    let outer = parts.outs.as_slice().iter().map(|o| o.link.near);
+    inner.chain(outer).collect(alloc)
+}
+
+// The far addresses of the inner links, then of the out links.
+fn fars_of(alloc: Global, parts: &Parts) -> Result<Vec<Addr>, AllocError>
+    ensures { IfOk result (λ v. v.items ≡ map (λ l. l.far) parts.now.links ++ map (λ o. o.link.far) parts.now.outs) }
+{
+    let inner = parts.links.as_slice().iter().map(|l| l.far);
+    let outer = parts.outs.as_slice().iter().map(|o| o.link.far);
+    inner.chain(outer).collect(alloc)
+}
+
+// The nodes that out links leave at.
+fn tails_of(alloc: Global, parts: &Parts) -> Result<Vec<Addr>, AllocError>
+    ensures { IfOk result (λ v. v.items ≡ map (λ o. o.link.from) parts.now.outs) }
+{
+    let outs = parts.outs.as_slice();
+    outs.iter().map(|o| o.link.from).collect(alloc)
+}
+
+// The nodes of the entries.
+fn entry_nodes_of(alloc: Global, parts: &Parts) -> Result<Vec<Addr>, AllocError>
+    ensures { IfOk result (λ v. v.items ≡ map (λ e. e.node) parts.now.entries) }
+{
+    let entries = parts.entries.as_slice();
+    entries.iter().map(|e| e.node).collect(alloc)
+}
+
+// The neighbouring domains of the entries.
+fn domains_of(alloc: Global, parts: &Parts) -> Result<Vec<As>, AllocError>
+    ensures { IfOk result (λ v. v.items ≡ map (λ e. e.from_as) parts.now.entries) }
+{
+    let entries = parts.entries.as_slice();
+    entries.iter().map(|e| e.from_as).collect(alloc)
+}
+
+impl Survey {
+    /// The survey of these rows.
+    pub(crate) fn of(alloc: Global, parts: &Parts) -> Result<Survey, AllocError>
+        ensures { IfOk result (IsSurvey (rows_of_parts parts.now)) }
+    {
+        let mut nodes = Vec::from_slice(alloc, parts.nodes.as_slice())?;
+        let same_node = counts_before(alloc, &nodes)?;
+        nodes.sort()?;
+        let nears = nears_of(alloc, parts)?;
+        let fars = fars_of(alloc, parts)?;
+        let domains = domains_of(alloc, parts)?;
+        let tails = tails_of(alloc, parts)?;
+        let entry_nodes = entry_nodes_of(alloc, parts)?;
+        Ok(Survey {
+            nodes,
+            same_node,
+            same_near: counts_before(alloc, &nears)?,
+            same_far: counts_before(alloc, &fars)?,
+            same_entry: counts_before(alloc, parts.entries.as_slice())?,
+            same_domain: counts_before(alloc, &domains)?,
+            tails_end: few_up_to(alloc, &tails, TAILS_MAX)?,
+            entry_nodes_end: few_up_to(alloc, &entry_nodes, ENTRY_NODES_MAX)?,
+        })
+    }
+}

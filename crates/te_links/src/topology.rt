@@ -1,0 +1,164 @@
+ghost use Rattle.std.specs.Prelude.{◌≡◌, ◌↔◌, ◌<◌, ◌^◌, [], vec_len, length, slice_get, Contains, Some, MatchOption};
+ghost use Rattle.te_links.specs.Rows.{IsTopology, IsInOrder};
+ghost use Rattle.te_links.specs.Index.{IsIndex, IsLinksInto};
+
+use crate::index::place_of;
+use crate::rows::{Entry, OutLink};
+use dom_base::{Addr, As, Link};
+use std::alloc::Global;
+use std::marker::Model;
+
+/// The topology of one routing domain, which obeys the rules. Its nodes stand in the order of
+/// their addresses, inner links and out links in that of their far addresses, entries in that of
+/// their domain and then their node. Rows are named by their places, from 0.
+#[derive(Drop)]
+pub struct Topology {
+    own: As,
+    nodes: Vec<Addr>,
+    links: Vec<Link>,
+    outs: Vec<OutLink>,
+    entries: Vec<Entry>,
+    into: Vec<Vec<u32>>,
+}
+
+impl Model for Topology {
+    ghost use Rattle.te_links.specs.Rows.{Rows};
+
+    ghost Value = { Rows };
+
+    ghost use Rattle.te_links.specs.Fields.{rows_of, HoldsRules};
+
+    ghost view = { rows_of };
+
+    ghost invariant = { HoldsRules };
+}
+
+impl Topology {
+    pub(crate) fn of(
+        own: As,
+        nodes: Vec<Addr>,
+        links: Vec<Link>,
+        outs: Vec<OutLink>,
+        entries: Vec<Entry>,
+        into: Vec<Vec<u32>>,
+    ) -> Topology
+        requires rules { IsTopology (record { own = own; nodes = nodes.items; links = links.items; outs = outs.items; entries = entries.items }) }
+        requires order { IsInOrder (record { own = own; nodes = nodes.items; links = links.items; outs = outs.items; entries = entries.items }) }
+        requires short { vec_len entries < 2 ^ 32 }
+        requires index { IsIndex nodes.items links.items into.items }
+        ensures { result ≡ record { own = own; nodes = nodes.items; links = links.items; outs = outs.items; entries = entries.items } }
+    {
+        Topology {
+            own,
+            nodes,
+            links,
+            outs,
+            entries,
+            into,
+        }
+    }
+
+    /// A topology without nodes; takes no memory.
+    pub fn empty(alloc: Global, own: As) -> Topology
+        ensures own { result.own ≡ own }
+        ensures nodes { result.nodes ≡ [] }
+        ensures links { result.links ≡ [] }
+        ensures outs { result.outs ≡ [] }
+        ensures entries { result.entries ≡ [] }
+    {
+        Topology {
+            own,
+            nodes: Vec::new(alloc),
+            links: Vec::new(alloc),
+            outs: Vec::new(alloc),
+            entries: Vec::new(alloc),
+            into: Vec::new(alloc),
+        }
+    }
+
+    /// The number of the domain.
+    pub fn own(&self) -> As
+        ensures own { result ≡ self.now.own }
+        ensures rules { IsTopology self.now }
+        ensures order { IsInOrder self.now }
+    {
+        self.own
+    }
+
+    pub fn node_count(&self) -> u32
+        ensures count { result ≡ length self.now.nodes }
+        ensures rules { IsTopology self.now }
+        ensures order { IsInOrder self.now }
+    {
+        self.nodes.len() as u32
+    }
+
+    pub fn link_count(&self) -> u32
+        ensures count { result ≡ length self.now.links }
+        ensures rules { IsTopology self.now }
+        ensures order { IsInOrder self.now }
+    {
+        self.links.len() as u32
+    }
+
+    pub fn out_count(&self) -> u32
+        ensures count { result ≡ length self.now.outs }
+        ensures rules { IsTopology self.now }
+        ensures order { IsInOrder self.now }
+    {
+        self.outs.len() as u32
+    }
+
+    pub fn entry_count(&self) -> u32
+        ensures count { result ≡ length self.now.entries }
+        ensures rules { IsTopology self.now }
+        ensures order { IsInOrder self.now }
+    {
+        self.entries.len() as u32
+    }
+
+    pub fn node_at(&self, i: u32) -> Addr
+        requires { i < length self.now.nodes }
+        ensures { slice_get self.now.nodes i ≡ Some result }
+    {
+        self.nodes[i as usize]
+    }
+
+    pub fn link_at(&self, i: u32) -> &Link
+        requires { i < length self.now.links }
+        ensures { slice_get self.now.links i ≡ Some result.now }
+    {
+        &self.links[i as usize]
+    }
+
+    pub fn out_at(&self, i: u32) -> &OutLink
+        requires { i < length self.now.outs }
+        ensures { slice_get self.now.outs i ≡ Some result.now }
+    {
+        &self.outs[i as usize]
+    }
+
+    pub fn entry_at(&self, i: u32) -> Entry
+        requires { i < length self.now.entries }
+        ensures { slice_get self.now.entries i ≡ Some result }
+    {
+        self.entries[i as usize]
+    }
+
+    /// The place of a node; none where the address is no node. Takes logarithmic time.
+    pub fn find_node(&self, addr: Addr) -> Option<u32>
+        ensures { MatchOption result (¬ Contains self.now.nodes addr) (λ i. slice_get self.now.nodes i ≡ Some addr) }
+    {
+        let place = place_of(&self.nodes, addr)?;
+        Some(place as u32)
+    }
+
+    /// The places of the links that end at a node, in the order of their far addresses.
+    pub fn links_into(&self, node: u32) -> &[u32]
+        requires { node < length self.now.nodes }
+        ensures { IsLinksInto self.now.nodes self.now.links node result.now }
+    {
+        let places = &self.into[node as usize];
+        places.as_slice()
+    }
+}

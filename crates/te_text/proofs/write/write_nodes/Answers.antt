@@ -1,0 +1,16 @@
+use Rattle.te_text.specs.declared.row.TextRow.TheVariants as rows
+use Rattle.te_text.specs.TopologyText.{IsWritten}
+use Rattle.te_text.specs.Spelled.{row_text}
+use Rattle.te_text.proofs.Listing.{rows_more, all_more}
+use Rattle.te_text.proofs.write.write_nodes.Goals as goal
+
+pub loop-i-preserved : goal.loop-i-preserved
+loop-i-preserved c =
+    let nodes = c.args.topology.now.nodes in
+    let so_far = c.loop-i.invariant in
+    let more = c.in_ok-write_node.ensures in
+    record {
+      whole = so_far.whole;
+      written = rows_more (λ x. row_text (rows.Node x)) c.args.into.now.items c.loop-i.into.items c.write_node.new.into.items nodes c.loop-i.i c.node_at.result c.node_at.ensures so_far.written more.ok;
+      again = all_more (λ x. IsWritten (rows.Node x)) nodes c.loop-i.i c.node_at.result c.node_at.ensures so_far.again more.again;
+    }

@@ -1,0 +1,20 @@
+use dom_base::NoMemory;
+use te_links::TopoFault;
+
+/// Why a text is no topology: what is wrong at which line, from 1, or want of memory.
+#[derive(Clone, Copy, Debug, PartialEq, Eq)]
+pub enum TextError {
+    At(u32, TopoFault),
+    NoMemory,
+}
+
+impl From<NoMemory> for TextError {
+    ghost use Rattle.std.specs.Prelude.{◌≡◌};
+    ghost use Rattle.te_text.specs.declared.error.TextError.TheVariants.{NoMemory};
+
+    ghost from_gives = { λ _ e. e ≡ NoMemory };
+
+    fn from(_: NoMemory) -> Self {
+        TextError::NoMemory
+    }
+}

@@ -1,0 +1,17 @@
+//! The text of a topology, read and written.
+#![tactic(auto)]
+
+mod error;
+mod fields;
+mod read;
+mod reading;
+mod row;
+#[cfg(test)]
+mod tests;
+mod words;
+mod write;
+
+pub use error::TextError;
+pub use read::read_topology;
+pub use row::{RowError, TextRow, read_row};
+pub use write::write_topology;

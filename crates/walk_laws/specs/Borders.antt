@@ -1,0 +1,55 @@
+-- Border tables, and what they join with.
+use Rattle.std.specs.Prelude.{◌≡◌, ◌+◌, ◌≤◌, ℕ, List, Contains, None, Some}
+use Rattle.std.specs.declared.option.Option.{Option}
+use Rattle.dom_base.specs.declared.names.Addr.{Addr}
+use Rattle.dom_base.specs.declared.names.As.{As}
+use Rattle.dom_base.specs.declared.link.Link.{Link}
+use Rattle.dom_base.specs.declared.query.Query.{Query}
+use Rattle.dom_base.specs.declared.query.Label.{Label}
+use Rattle.dom_base.specs.Admission.{weight, Fits, BarsLink}
+use Rattle.te_links.specs.declared.rows.OutLink.{OutLink}
+use Rattle.te_links.specs.Rows.{Rows}
+use Rattle.walk_laws.specs.Walks.{AdmitsNode, IsLeast, cost}
+use Rattle.walk_laws.specs.Labels.{◌≼◌}
+
+-- an admitted out link towards a domain
+pub record LeadsTo (g : Rows) (q : Query) (next : As) (o : OutLink) : Type 0 where
+  pub is_out : Contains g.outs o
+  pub towards : o.to_as ≡ next
+  pub fits : Fits q o.link
+  pub free : ¬ BarsLink q o.link
+  pub from : AdmitsNode g q o.link.from
+
+-- the row of an entry and an out link: the least cost to the link's tail and its weight, within the cap
+pub record IsBorderRow (g : Rows) (q : Query) (next : As) (entry : Addr) (o : OutLink) (total : ℕ) : Type 0 where
+  pub out : LeadsTo g q next o
+  pub links : List Link
+  pub least : IsLeast g q entry o.link.from links
+  pub sum : total ≡ cost q links + weight q.metric o.link
+  pub within : total ≤ q.cap
+
+-- a node beyond the border, and a cost from there
+pub record Beyond : Type 0 where
+  pub node : Addr
+  pub cost : ℕ
+
+-- the least cost among the rows of a node
+pub record IsDown (down : List Beyond) (n : Addr) (c : ℕ) : Type 0 where
+  pub is_row : Contains down (record { node = n; cost = c })
+  pub least : (d : ℕ) → Contains down (record { node = n; cost = d }) → c ≤ d
+
+-- a row of the border table with what lies beyond it
+pub record Joins (g : Rows) (q : Query) (next : As) (down : List Beyond) (entry : Addr) (a : Label) : Type 0 where
+  pub out : OutLink
+  pub total : ℕ
+  pub row : IsBorderRow g q next entry out total
+  pub beyond : ℕ
+  pub is_down : IsDown down out.link.to beyond
+  pub sum : a.cost ≡ total + beyond
+  pub exit : a.exit ≡ out.link.far
+  pub within : a.cost ≤ q.cap
+
+-- the join of an entry: the least pair of a sum and a far address, or none
+abbrev pub IsJoin : Rows → Query → As → List Beyond → Addr → Option Label → Type 0
+IsJoin g q next down entry None = (a : Label) → ¬ Joins g q next down entry a
+IsJoin g q next down entry (Some a) = Joins g q next down entry a × ((b : Label) → Joins g q next down entry b → a ≼ b)
