@@ -4,3 +4,6 @@ pub mod Tight
 pub mod Short
 pub mod Admitted
 pub mod Complete
+pub mod Splitting
+pub mod Joining
+pub mod Composing

@@ -14,7 +14,7 @@ use Rattle.walk_laws.specs.Walks.{AdmitsLink, Walk, cost}
 use Rattle.walk_laws.specs.Labels.{◌≼◌, Reaches, IsLabel, EndsAt, IsTight}
 use Rattle.walk_laws.specs.Certificate.{before}
 
-same_exit : (a b : Addr) → a.0 ≡ b.0 → a ≡ b
+pub same_exit : (a b : Addr) → a.0 ≡ b.0 → a ≡ b
 same_exit a b is = ap (λ k. let c : Addr = record { 0 = k } in c) is
 
 pub same_label : (a b : Label) → a.cost ≡ b.cost → a.exit ≡ b.exit → a ≡ b

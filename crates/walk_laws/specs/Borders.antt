@@ -6,10 +6,11 @@ use Rattle.dom_base.specs.declared.names.As.{As}
 use Rattle.dom_base.specs.declared.link.Link.{Link}
 use Rattle.dom_base.specs.declared.query.Query.{Query}
 use Rattle.dom_base.specs.declared.query.Label.{Label}
+use Rattle.dom_base.specs.declared.query.Seed.{Seed}
 use Rattle.dom_base.specs.Admission.{weight, Fits, BarsLink}
 use Rattle.te_links.specs.declared.rows.OutLink.{OutLink}
 use Rattle.te_links.specs.Rows.{Rows}
-use Rattle.walk_laws.specs.Walks.{AdmitsNode, IsLeast, cost}
+use Rattle.walk_laws.specs.Walks.{IsFeasible, IsLeast, cost}
 use Rattle.walk_laws.specs.Labels.{◌≼◌}
 
 -- an admitted out link towards a domain
@@ -18,7 +19,6 @@ pub record LeadsTo (g : Rows) (q : Query) (next : As) (o : OutLink) : Type 0 whe
   pub towards : o.to_as ≡ next
   pub fits : Fits q o.link
   pub free : ¬ BarsLink q o.link
-  pub from : AdmitsNode g q o.link.from
 
 -- the row of an entry and an out link: the least cost to the link's tail and its weight, within the cap
 pub record IsBorderRow (g : Rows) (q : Query) (next : As) (entry : Addr) (o : OutLink) (total : ℕ) : Type 0 where
@@ -53,3 +53,29 @@ pub record Joins (g : Rows) (q : Query) (next : As) (down : List Beyond) (entry 
 abbrev pub IsJoin : Rows → Query → As → List Beyond → Addr → Option Label → Type 0
 IsJoin g q next down entry None = (a : Label) → ¬ Joins g q next down entry a
 IsJoin g q next down entry (Some a) = Joins g q next down entry a × ((b : Label) → Joins g q next down entry b → a ≼ b)
+
+-- the same for a node of the domain: the least cost of a walk to it, with the node itself as the exit
+pub record JoinsAt (g : Rows) (q : Query) (t entry : Addr) (a : Label) : Type 0 where
+  pub links : List Link
+  pub least : IsLeast g q entry t links
+  pub sum : a.cost ≡ cost q links
+  pub exit : a.exit ≡ t
+
+abbrev pub IsJoinAt : Rows → Query → Addr → Addr → Option Label → Type 0
+IsJoinAt g q t entry None = (links : List Link) → ¬ IsFeasible g q entry t links
+IsJoinAt g q t entry (Some a) = JoinsAt g q t entry a
+
+-- the seed of an admitted out link whose head has a row beyond: the sum, within the cap, at the link's tail
+pub record IsBorderSeed (g : Rows) (q : Query) (next : As) (down : List Beyond) (o : OutLink) (s : Seed) : Type 0 where
+  pub out : LeadsTo g q next o
+  pub beyond : ℕ
+  pub is_down : IsDown down o.link.to beyond
+  pub node : s.node ≡ o.link.from
+  pub sum : s.cost ≡ weight q.metric o.link + beyond
+  pub exit : s.exit ≡ o.link.far
+  pub within : s.cost ≤ q.cap
+
+-- the seeds of a job: those of its out links, and one for each that has one
+pub record AreBorderSeeds (g : Rows) (q : Query) (next : As) (down : List Beyond) (seeds : List Seed) : Type 0 where
+  pub each : (s : Seed) → Contains seeds s → (o : OutLink) × IsBorderSeed g q next down o s
+  pub every : (o : OutLink) (s : Seed) → IsBorderSeed g q next down o s → Contains seeds s

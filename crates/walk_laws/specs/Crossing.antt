@@ -49,3 +49,24 @@ pub record IsFeasibleCrossing (q : Query) (g : Rows) (rest : List Rows) (s t : A
 pub record IsLeastCrossing (q : Query) (g : Rows) (rest : List Rows) (s t : Addr) (legs : List Leg) (last : List Link) : Type 0 where
   pub feasible : IsFeasibleCrossing q g rest s t legs last
   pub least : (other : List Leg) (end : List Link) → IsFeasibleCrossing q g rest s t other end → crossing_cost q legs last ≤ crossing_cost q other end
+
+-- c is the least cost of a feasible crossing walk
+pub record IsLeastCost (q : Query) (g : Rows) (rest : List Rows) (s t : Addr) (c : ℕ) : Type 0 where
+  pub legs : List Leg
+  pub last : List Link
+  pub least : IsLeastCrossing q g rest s t legs last
+  pub is : c ≡ crossing_cost q legs last
+
+-- no crossing walk is feasible
+abbrev pub HasNoCrossing : Query → Rows → List Rows → Addr → Addr → Type 0
+HasNoCrossing q g rest s t = (legs : List Leg) (last : List Link) → ¬ IsFeasibleCrossing q g rest s t legs last
+
+-- A crossing walk of this cost, split at its first out link.
+pub record SplitCrossing (q : Query) (g h : Rows) (rest : List Rows) (s t : Addr) (c : ℕ) : Type 0 where
+  pub leg : Leg
+  pub walk : Walk g (query_in q g.own) s leg.out.link.from leg.links
+  pub crosses : Crosses g h q leg.out
+  pub legs : List Leg
+  pub last : List Link
+  pub onward : CrossingWalk q h rest leg.out.link.to t legs last
+  pub sum : c ≡ cost q leg.links + weight q.metric leg.out.link + crossing_cost q legs last

@@ -1,0 +1,6 @@
+pub mod Downs
+pub mod Seeding
+pub mod Labelling
+pub mod Hops
+pub mod Bests
+pub mod Pairs

@@ -1,0 +1,12 @@
+-- What a solved job is, by its fields.
+use Rattle.std.specs.Prelude.{◌≡◌}
+use Rattle.border_costs.specs.Solutions.{Solution, AreRows}
+use Rattle.border_costs.specs.declared.solved.Solved.TheInside.{Inside}
+
+abbrev pub solution_of : Inside → Solution
+solution_of a = record { ask = a.ask.value; topology = a.topology.value; rows = a.rows }
+
+pub record IsRight (a : Inside) : Type 0 where
+  pub right : AreRows a.topology.value a.ask.value a.rows
+  pub at : a.at ≡ a.ask.value.at
+  pub number : a.number ≡ a.ask.value.number

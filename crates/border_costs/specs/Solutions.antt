@@ -1,0 +1,79 @@
+-- What is computed of an ask.
+use Rattle.std.specs.Prelude.{◌≡◌, ◌≢◌, ◌⊎◌, ◌↔◌, List, [], ◌∷◌, map, Contains, None, Some, IsTrue}
+use Rattle.std.specs.List.{zip}
+use Rattle.std.specs.declared.option.Option.{Option}
+use Rattle.dom_base.specs.declared.names.Addr.{Addr}
+use Rattle.dom_base.specs.declared.link.Link.{Link}
+use Rattle.dom_base.specs.declared.query.Query.{Query}
+use Rattle.dom_base.specs.declared.query.Seed.{Seed}
+use Rattle.dom_base.specs.declared.query.Label.{Label}
+use Rattle.te_links.specs.declared.rows.OutLink.{OutLink}
+use Rattle.te_links.specs.Rows.{Rows}
+use Rattle.walk_laws.specs.Labels.{IsSegment}
+use Rattle.walk_laws.specs.Certificate.{Certifies}
+use Rattle.walk_laws.specs.Borders.{LeadsTo}
+use Rattle.path_certificate.specs.declared.certificate.Certificate.{Certificate}
+use Rattle.path_certificate.specs.Rows.{label_in}
+use Rattle.path_search.specs.Search.{AreLabels}
+use Rattle.vspt_tree.specs.declared.branch.Best.{Best}
+use Rattle.border_costs.specs.declared.job.Target.{Target}
+use Rattle.border_costs.specs.declared.job.Target.TheVariants.{Node, Next}
+use Rattle.border_costs.specs.declared.job.Ask.{Ask}
+use Rattle.border_costs.specs.declared.rows.Rows.{Rows as Answer}
+use Rattle.border_costs.specs.Asks.{AreSeeds, IsPair, HasNoPair}
+
+-- the far address is that of an out link with this head
+abbrev pub IsHeadOf : Rows → Addr → Addr → Type 0
+IsHeadOf g far head = (o : OutLink) × Contains g.outs o × (o.link.far ≡ far) × (o.link.to ≡ head)
+
+abbrev pub HasNoOut : Rows → Addr → Type 0
+HasNoOut g far = (o : OutLink) → Contains g.outs o → o.link.far ≢ far
+
+-- the node beyond the exit: the head of the admitted out link with this far address; none in the last domain
+abbrev pub IsHead : Rows → Query → Target → Addr → Option Addr → Type 0
+IsHead g q (Node t) exit head = head ≡ None
+IsHead g q (Next b) exit head = (o : OutLink) × LeadsTo g q b o × (o.link.far ≡ exit) × (head ≡ Some o.link.to)
+
+-- the best way from an entry: its pair, the node beyond the exit, and the chosen segment in its open form
+pub record IsBest (g : Rows) (ask : Ask) (seeds : List Seed) (entry : Addr) (row : Best) : Type 0 where
+  pub is_entry : row.entry ≡ entry
+  pub pair : IsPair g ask entry (Some (record { cost = row.cost; exit = row.exit }))
+  pub is_head : IsHead g ask.query ask.target row.exit row.head
+  pub links : List Link
+  pub chosen : IsSegment g ask.query seeds entry (record { cost = row.cost; exit = row.exit }) links
+  pub shown : row.segment ≡ entry ∷ map (λ l. l.far) links
+
+-- in the order of the entries, one row for each that has a pair
+abbrev pub AreBest : Rows → Ask → List Seed → List Addr → List Best → Type 0
+AreBest g ask seeds [] rows = rows ≡ []
+AreBest g ask seeds (entry ∷ entries) rows =
+    (HasNoPair g ask entry × AreBest g ask seeds entries rows)
+    ⊎ ((row : Best) × (rest : List Best) × (rows ≡ row ∷ rest) × IsBest g ask seeds entry row × AreBest g ask seeds entries rest)
+
+-- each node in order with its least label, which meet the conditions of a certificate, and no path
+pub record IsLabelled (g : Rows) (ask : Ask) (seeds : List Seed) (c : Certificate) : Type 0 where
+  pub own : c.own ≡ ask.at
+  pub labels : List (Option Label)
+  pub are_labels : AreLabels g ask.query seeds labels
+  pub rows : c.labels ≡ zip g.nodes labels
+  pub certifies : Certifies g ask.query seeds (label_in c.labels)
+  pub path : c.path ≡ None
+
+abbrev pub IsKnownTarget : Rows → Target → Type 0
+IsKnownTarget g (Node t) = Contains g.nodes t
+IsKnownTarget g (Next b) = Unit {0}
+
+-- the rows of an ask over a topology
+pub record AreRows (g : Rows) (ask : Ask) (rows : Answer) : Type 0 where
+  pub seeds : List Seed
+  pub are_seeds : AreSeeds g ask seeds
+  pub best : AreBest g ask seeds ask.entries rows.best
+  pub source_known : IsTrue rows.source_known ↔ Contains g.nodes ask.source
+  pub target_known : IsTrue rows.target_known ↔ IsKnownTarget g ask.target
+  pub certificate : IsLabelled g ask seeds rows.certificate
+
+-- an ask, the topology that it is computed in, and what is computed
+pub record Solution : Type 0 where
+  pub ask : Ask
+  pub topology : Rows
+  pub rows : Answer

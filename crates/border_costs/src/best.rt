@@ -1,0 +1,106 @@
+ghost use Rattle.std.specs.Prelude.{◌≡◌, ◌<◌, ◌∷◌, [], All, List, length, map, slice_get, Some, IfOk, MatchOption};
+ghost use Rattle.dom_base.specs.declared.link.Link.{Link};
+ghost use Rattle.te_links.specs.Rows.{IsInOrder};
+ghost use Rattle.path_search.specs.Search.{AreLabels};
+ghost use Rattle.path_search.specs.Segments.{AreAt};
+ghost use Rattle.border_costs.specs.Asks.{AreSeeds, HasNoPair};
+ghost use Rattle.border_costs.specs.Solutions.{IsHeadOf, HasNoOut, IsBest, AreBest};
+
+use crate::job::{Ask, Target};
+use dom_base::{Addr, List, NoMemory, Seed};
+use path_search::{Labels, segment};
+use std::alloc::Global;
+use te_links::Links;
+use vspt_tree::Best;
+
+// The node beyond the out link with this far address.
+fn head_of<'a, G: Links<'a>>(links: &G, far: Addr) -> Option<Addr>
+    ensures head { MatchOption result (HasNoOut (G.rows links.now) far) (IsHeadOf (G.rows links.now) far) }
+    ensures order { IsInOrder (G.rows links.now) }
+{
+    for index in 0..links.out_count() {
+        let out = links.out_at(index);
+        if out.link.far == far {
+            return Some(out.link.to);
+        }
+    }
+    None
+}
+
+// The entry, and the far addresses of the links at these places.
+fn open_segment<'a, G: Links<'a>>(
+    alloc: Global,
+    links: &mut G,
+    entry: Addr,
+    places: &[u32],
+) -> Result<Vec<Addr>, NoMemory>
+    requires { All (λ i. i < length (G.rows links.old).links) places.now }
+    ensures shown { IfOk result (λ shown. (ls : List Link) → AreAt (G.rows links.old).links places.now ls → shown.items ≡ entry ∷ map (λ l. l.far) ls) }
+    ensures same { G.rows links.new ≡ G.rows links.old }
+{
+    let mut shown = Vec::new(alloc);
+    shown.push(entry)?;
+    for place in places {
+        shown.push(links.link_at(*place).far)?;
+    }
+    Ok(shown)
+}
+
+// The best way from an entry, if there is one.
+fn best_of<'a, G: Links<'a>>(
+    alloc: Global,
+    ask: &Ask,
+    links: &mut G,
+    seeds: &[Seed],
+    labels: &Labels,
+    entry: Addr,
+) -> Result<Option<Best>, NoMemory>
+    requires seeds { AreSeeds (G.rows links.old) ask.now seeds.now }
+    requires labels { AreLabels (G.rows links.old) ask.now.query seeds.now labels.now }
+    ensures best { IfOk result (λ best. MatchOption best (HasNoPair (G.rows links.old) ask.now entry) (IsBest (G.rows links.old) ask.now seeds.now entry)) }
+    ensures same { G.rows links.new ≡ G.rows links.old }
+{
+    let Some(from) = links.find_node(entry) else {
+        return Ok(None);
+    };
+    let Some(places) = segment(alloc, links, &ask.query, seeds, labels, from)? else {
+        return Ok(None);
+    };
+    let Some(label) = labels.at(from) else {
+        unreachable!()
+    };
+    let head = match ask.target {
+        Target::Node(_target) => None,
+        Target::Next(_next) => head_of(links, label.exit),
+    };
+    let shown = open_segment(alloc, links, entry, places.as_slice())?;
+    Ok(Some(Best {
+        entry,
+        cost: label.cost,
+        exit: label.exit,
+        head,
+        segment: List::from_vec(shown),
+    }))
+}
+
+/// The best way from each entry of the ask that has one, in their order.
+pub fn best_rows<'a, G: Links<'a>>(
+    alloc: Global,
+    ask: &Ask,
+    links: &mut G,
+    seeds: &[Seed],
+    labels: &Labels,
+) -> Result<Vec<Best>, NoMemory>
+    requires seeds { AreSeeds (G.rows links.old) ask.now seeds.now }
+    requires labels { AreLabels (G.rows links.old) ask.now.query seeds.now labels.now }
+    ensures best { IfOk result (λ rows. AreBest (G.rows links.old) ask.now seeds.now ask.now.entries rows.items) }
+    ensures same { G.rows links.new ≡ G.rows links.old }
+{
+    let mut rows = Vec::new(alloc);
+    for entry in ask.entries.as_slice() {
+        if let Some(best) = best_of(alloc, ask, links, seeds, labels, *entry)? {
+            rows.push(best)?;
+        }
+    }
+    Ok(rows)
+}

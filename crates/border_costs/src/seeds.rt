@@ -1,0 +1,111 @@
+ghost use Rattle.std.specs.Prelude.{◌≡◌, ◌<◌, ◌≤◌, ◌+◌, ◌↔◌, length, IsTrue, SomeIff, IfOk, MatchOption};
+ghost use Rattle.walk_laws.specs.Borders.{IsDown};
+ghost use Rattle.border_costs.specs.Asks.{beyond, AreSeeds, target_seed, HasNoDown, IsBelow, IsSeedAt, IsNoSeedAt};
+
+use crate::job::{Ask, Down, Target};
+use dom_base::{Addr, As, Cost, NoMemory, Query, Seed};
+use path_constraints::{fits, weight};
+use path_exclusions::bars_link;
+use std::alloc::Global;
+use te_links::Links;
+
+fn is_less(cost: Cost, least: &Option<Cost>) -> bool
+    ensures { IsTrue result ↔ IsBelow cost least.now }
+{
+    match least {
+        Some(least) => cost < *least,
+        None => true,
+    }
+}
+
+// The least cost among the rows of a node.
+fn down_cost(down: &[Down], node: Addr) -> Option<Cost>
+    ensures { MatchOption result (HasNoDown (beyond down.now) node) (IsDown (beyond down.now) node) }
+{
+    let mut least: Option<Cost> = None;
+    for row in down {
+        if row.node == node && is_less(row.cost, &least) {
+            least = Some(row.cost);
+        }
+    }
+    least
+}
+
+/// A target in this domain as a seed: at no cost, with itself as the exit.
+pub fn seed_of_target(target: Addr) -> Seed
+    ensures { result ≡ target_seed target }
+{
+    let Some(cost) = Cost::of(0) else {
+        unreachable!()
+    };
+    Seed {
+        node: target,
+        cost,
+        exit: target,
+    }
+}
+
+// The sum of a weight and a cost, if it is within the cap.
+fn sum_within(cap: Cost, weight: u32, cost: Cost) -> Option<Cost>
+    ensures { SomeIff result (weight + cost ≤ cap) (weight + cost) }
+{
+    let Some(sum) = weight.checked_add(cost.get()) else {
+        return None;
+    };
+    if sum > cap.get() {
+        return None;
+    }
+    Cost::of(sum)
+}
+
+// The seed of the out link at a place, if it leads to the next domain, is admitted and has a row
+// beyond, and the sum is within the cap.
+fn seed_at<'a, G: Links<'a>>(
+    links: &G,
+    query: &Query,
+    next: As,
+    down: &[Down],
+    index: u32,
+) -> Option<Seed>
+    requires { index < length (G.rows links.now).outs }
+    ensures { MatchOption result (IsNoSeedAt (G.rows links.now) query.now next down.now index) (IsSeedAt (G.rows links.now) query.now next down.now index) }
+{
+    let out = links.out_at(index);
+    if out.to_as != next || !fits(query, &out.link) || bars_link(query, &out.link) {
+        return None;
+    }
+    let Some(beyond) = down_cost(down, out.link.to) else {
+        return None;
+    };
+    let Some(cost) = sum_within(query.cap, weight(&out.link, query.metric), beyond) else {
+        return None;
+    };
+    Some(Seed {
+        node: out.link.from,
+        cost,
+        exit: out.link.far,
+    })
+}
+
+/// The seeds of an ask: the target in this domain, or one for each admitted out link to the next
+/// domain whose head has a row beyond, where the sum is within the cap.
+pub fn seeds_of<'a, G: Links<'a>>(
+    alloc: Global,
+    ask: &Ask,
+    links: &G,
+) -> Result<Vec<Seed>, NoMemory>
+    ensures seeds { IfOk result (λ seeds. AreSeeds (G.rows links.now) ask.now seeds.items) }
+{
+    let mut seeds = Vec::new(alloc);
+    match ask.target {
+        Target::Node(target) => seeds.push(seed_of_target(target))?,
+        Target::Next(next) => {
+            for index in 0..links.out_count() {
+                if let Some(seed) = seed_at(links, &ask.query, next, ask.down.as_slice(), index) {
+                    seeds.push(seed)?;
+                }
+            }
+        }
+    }
+    Ok(seeds)
+}

@@ -1,0 +1,50 @@
+ghost use Rattle.std.specs.Prelude.{◌≡◌, ◌↔◌, Contains, IfOk, IsTrue};
+ghost use Rattle.border_costs.specs.Solutions.{AreRows, IsKnownTarget};
+
+use crate::best::best_rows;
+use crate::job::{Ask, Target};
+use crate::labelled::certificate_of;
+use crate::rows::Rows;
+use crate::seeds::seeds_of;
+use dom_base::{Addr, List, NoMemory};
+use path_search::search;
+use std::alloc::Global;
+use te_links::Links;
+
+fn is_node<'a, G: Links<'a>>(links: &G, node: Addr) -> bool
+    ensures { IsTrue result ↔ Contains (G.rows links.now).nodes node }
+{
+    links.find_node(node).is_some()
+}
+
+// Whether the target is a node of this domain, or lies beyond it.
+fn knows_target<'a, G: Links<'a>>(links: &G, target: Target) -> bool
+    ensures { IsTrue result ↔ IsKnownTarget (G.rows links.now) target }
+{
+    match target {
+        Target::Node(node) => is_node(links, node),
+        Target::Next(_next) => true,
+    }
+}
+
+/// The rows of an ask over the topology of `links`: one search from all exits at once, whose labels
+/// at the entries are the least costs, each with the exit of least far address among equals.
+pub fn solve_rows<'a, G: Links<'a>>(
+    alloc: Global,
+    ask: &Ask,
+    links: &mut G,
+) -> Result<Rows, NoMemory>
+    ensures rows { IfOk result (AreRows (G.rows links.old) ask.now) }
+    ensures same { G.rows links.new ≡ G.rows links.old }
+{
+    let seeds = seeds_of(alloc, ask, links)?;
+    let labels = search(alloc, links, &ask.query, &seeds)?;
+    let best = best_rows(alloc, ask, links, &seeds, &labels)?;
+    let certificate = certificate_of(alloc, ask, links, &seeds, &labels)?;
+    Ok(Rows {
+        best: List::from_vec(best),
+        source_known: is_node(links, ask.source),
+        target_known: knows_target(links, ask.target),
+        certificate,
+    })
+}

@@ -1,0 +1,106 @@
+ghost use Rattle.std.specs.Prelude.{◌≡◌, IfOk};
+ghost use Rattle.std.specs.Arc.{arc_value};
+ghost use Rattle.border_costs.specs.Solutions.{AreRows};
+
+use crate::job::{Ask, Job};
+use crate::rows::Rows;
+use crate::solution::solve_rows;
+use dom_base::{As, NoMemory};
+use path_certificate::Certificate;
+use std::alloc::Global;
+use std::marker::Model;
+use std::snapshot::Snapshot;
+use te_links::{Counted, Topology};
+use vspt_tree::Best;
+
+/// A solved job: its rows, which are right for this very job and its topology.
+#[derive(Drop)]
+pub struct Solved {
+    ask: Snapshot<Ask>,
+    topology: Snapshot<Topology>,
+    at: As,
+    number: u64,
+    rows: Rows,
+}
+
+impl Model for Solved {
+    ghost use Rattle.border_costs.specs.Solutions.{Solution};
+
+    ghost Value = { Solution };
+
+    ghost use Rattle.border_costs.specs.Fields.{solution_of, IsRight};
+
+    ghost view = { solution_of };
+
+    ghost invariant = { IsRight };
+}
+
+impl Solved {
+    /// The rows of a job as its solution. Takes no memory.
+    pub fn of(job: &Job, rows: Rows) -> Result<Solved, NoMemory>
+        requires rows { AreRows (arc_value job.now.topology) job.now.ask rows }
+        ensures solved { IfOk result (λ solved. solved ≡ record { ask = job.now.ask; topology = arc_value job.now.topology; rows = rows }) }
+    {
+        Ok(Solved {
+            ask: Snapshot::of(&job.ask),
+            topology: Snapshot::of(&job.topology),
+            at: job.ask.at,
+            number: job.ask.number,
+            rows,
+        })
+    }
+
+    /// The domain that the job was asked of.
+    pub fn at(&self) -> As
+        ensures at { result ≡ self.now.ask.at }
+        ensures right { AreRows self.now.topology self.now.ask self.now.rows }
+    {
+        self.at
+    }
+
+    /// The number of the request.
+    pub fn number(&self) -> u64
+        ensures { result ≡ self.now.ask.number }
+    {
+        self.number
+    }
+
+    /// The best way from each entry that has one.
+    pub fn best(&self) -> &[Best]
+        ensures { result.now ≡ self.now.rows.best }
+    {
+        self.rows.best.as_slice()
+    }
+
+    /// Whether the source is a node of the domain.
+    pub fn source_known(&self) -> bool
+        ensures { result ≡ self.now.rows.source_known }
+    {
+        self.rows.source_known
+    }
+
+    /// Whether the target is a node of the domain, or lies beyond it.
+    pub fn target_known(&self) -> bool
+        ensures { result ≡ self.now.rows.target_known }
+    {
+        self.rows.target_known
+    }
+
+    /// The labels of all nodes.
+    pub fn certificate(&self) -> &Certificate
+        ensures { result.now ≡ self.now.rows.certificate }
+    {
+        &self.rows.certificate
+    }
+}
+
+/// Solves a job over its own topology. It waits for nobody.
+pub fn solve(alloc: Global, job: &Job) -> Result<Solved, NoMemory>
+    ensures ask { IfOk result (λ solved. solved.ask ≡ job.now.ask) }
+    ensures topology { IfOk result (λ solved. solved.topology ≡ arc_value job.now.topology) }
+    ensures rows { IfOk result (λ solved. AreRows (arc_value job.now.topology) job.now.ask solved.rows) }
+{
+    let mut links = Counted::new(&job.topology);
+    let rows = solve_rows(alloc, &job.ask, &mut links)?;
+    Solved::of(job, rows)
+}
