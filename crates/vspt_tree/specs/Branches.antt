@@ -1,0 +1,42 @@
+-- The branches of a virtual shortest path tree (RFC 5441, section 4.2), of one domain over those of the next.
+use Rattle.std.specs.Prelude.{◌≡◌, ◌<◌, ◌≤◌, false, All, Any, List, [], ◌∷◌, ◌++◌, Option, Some, None}
+use Rattle.std.specs.List.{AllZip, zip}
+use Rattle.dom_base.specs.declared.names.Addr.{Addr}
+use Rattle.pcep_subobjects.specs.declared.hop.Hop.{Hop}
+use Rattle.pcep_subobjects.specs.declared.hop.Hop.TheVariants.{Prefix}
+use Rattle.vspt_tree.specs.declared.branch.Best.{Best}
+use Rattle.vspt_tree.specs.declared.branch.Branch.{Branch}
+
+-- an address, strict and whole
+abbrev pub hop_at : Addr → Hop
+hop_at addr = Prefix false addr 32
+
+-- some branch begins at the node
+abbrev pub HasBranchAt : List Branch → Addr → Type 0
+HasBranchAt down n = Any (λ d. d.entry ≡ n) down
+
+-- among the branches of a node, the first of least cost
+pub record IsFirstLeast (down : List Branch) (n : Addr) (b : Branch) : Type 0 where
+  pub before : List Branch
+  pub after : List Branch
+  pub is : down ≡ before ++ b ∷ after
+  pub at_node : b.entry ≡ n
+  pub above : All (λ d. d.entry ≡ n → b.cost < d.cost) before
+  pub no_less : All (λ d. d.entry ≡ n → b.cost ≤ d.cost) after
+
+-- behind a domain's own part: nothing where there is no node beyond; else the exit, and the hops of the node's branch
+abbrev pub IsOnward : List Branch → Addr → Option Addr → List Hop → Type 0
+IsOnward down exit None hops = hops ≡ []
+IsOnward down exit (Some head) hops = (b : Branch) × IsFirstLeast down head b × (hops ≡ hop_at exit ∷ b.hops)
+
+-- the branch that a row and its own part make
+pub record IsBranchOf (down : List Branch) (row : Best) (own : List Hop) (branch : Branch) : Type 0 where
+  pub entry : branch.entry ≡ row.entry
+  pub cost : branch.cost ≡ row.cost
+  pub onward : List Hop
+  pub goes_on : IsOnward down row.exit row.head onward
+  pub hops : branch.hops ≡ own ++ onward
+
+-- the branches that rows and their own parts make, one for each row, in order
+abbrev pub AreBranchesOf : List Branch → List Best → List (List Hop) → List Branch → Type 0
+AreBranchesOf down best own branches = AllZip (λ part branch. IsBranchOf down part.0 part.1 branch) (zip best own) branches

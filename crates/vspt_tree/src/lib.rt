@@ -1,0 +1,13 @@
+//! The branches of a virtual shortest path tree, by which domains compute a path backward from its
+//! destination (RFC 5441).
+#![tactic(auto)]
+
+mod branch;
+mod hops;
+mod tree;
+
+pub use branch::{Best, Branch};
+pub use tree::join;
+
+#[cfg(test)]
+mod tests;
