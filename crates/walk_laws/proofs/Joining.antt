@@ -16,7 +16,7 @@ use Rattle.walk_laws.specs.Borders.{Beyond, Joins, IsJoin, IsJoinAt, IsBorderSee
 use Rattle.walk_laws.proofs.Lower.{le_cost}
 
 -- the walk of a least label is a least walk to its seed
-least_to_seed : (g : Rows) (q : Query) (seeds : List Seed) (u : Addr) (a : Label) → IsLabel g q seeds u (Some a) →
+pub least_to_seed : (g : Rows) (q : Query) (seeds : List Seed) (u : Addr) (a : Label) → IsLabel g q seeds u (Some a) →
     (r : Reaches g q seeds u a) → IsLeast g q u r.seed.node r.links
 least_to_seed g q seeds u a is r = record {
   feasible = record { walk = r.walk; within = omega (arith, r.sum, r.within) };
