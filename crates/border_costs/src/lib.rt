@@ -14,3 +14,6 @@ pub use job::{Ask, Down, Job, Target};
 pub use rows::Rows;
 pub use solution::solve_rows;
 pub use solved::{Solved, solve};
+
+#[cfg(test)]
+mod tests;

@@ -12,3 +12,6 @@ mod starts;
 pub use chosen::segment;
 pub use find::search;
 pub use labels::Labels;
+
+#[cfg(test)]
+mod tests;

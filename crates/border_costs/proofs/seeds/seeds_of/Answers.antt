@@ -24,7 +24,7 @@ returns g c =
     let rows = g.G.Links.rows c.args.links.now in
     let ask = c.args.ask.now in
     elim c.match-ask.branch [
-      | in-Node+in_ok-push-in-Node w ↦ 
+      | in-Node+in_ok-push-in-Node w ↦
           record {
             seeds = rw (w.seeds-is, w.in_ok-push-in-Node.ensures.items, w.seed_of_target.ensures, c.new-seeds.ensures.items) (record {
               are = rw w.in-Node.is refl;

@@ -1,0 +1,221 @@
+use crate::Target;
+use dom_base::{Addr, As};
+
+/// A job, and what its solution is to say: a line for each entry with its cost, exit and head, and
+/// the segment.
+#[derive(Clone, Copy)]
+pub struct JobRow {
+    pub name: &'static str,
+    pub topology: &'static [u8],
+    pub cap: u32,
+    pub entries: &'static [Addr],
+    pub target: Target,
+    pub down: &'static [(Addr, u32)],
+    pub best: &'static [u8],
+    pub source_known: bool,
+    pub target_known: bool,
+}
+
+// The source's domain.
+const D1: &[u8] = b"topology 1
+node 10.1.0.1
+out 10.1.0.1 10.2.0.1 10.12.0.1 10.12.0.2 2 1 1 1000 00000000
+out 10.1.0.1 10.2.0.2 10.12.0.3 10.12.0.4 2 1 1 1000 00000000
+";
+
+// Two borders that no link joins.
+const D2: &[u8] = b"topology 2
+node 10.2.0.1
+node 10.2.0.2
+out 10.2.0.1 10.3.0.1 10.23.0.1 10.23.0.2 3 1 1 1000 00000000
+out 10.2.0.2 10.3.0.2 10.23.0.3 10.23.0.4 3 1 5 1000 00000000
+entry 10.2.0.1 1
+entry 10.2.0.2 1
+";
+
+// The destination's domain.
+pub const D3: &[u8] = b"topology 3
+node 10.3.0.1
+node 10.3.0.2
+node 10.3.0.9
+link 10.3.0.1 10.3.0.9 10.33.0.1 10.33.0.2 1 100 1000 00000000
+link 10.3.0.2 10.3.0.9 10.33.0.3 10.33.0.4 1 10 1000 00000000
+entry 10.3.0.1 2
+entry 10.3.0.2 2
+";
+
+// Two worlds with the same costs to both exits, over other nodes.
+pub const D2X: &[u8] = b"topology 2
+node 10.2.0.1
+node 10.2.0.5
+node 10.2.0.6
+node 10.2.0.7
+link 10.2.0.1 10.2.0.6 10.22.0.1 10.22.0.2 1 4 1000 00000000
+link 10.2.0.1 10.2.0.5 10.22.0.3 10.22.0.4 1 2 1000 00000000
+link 10.2.0.5 10.2.0.7 10.22.0.5 10.22.0.6 1 2 1000 00000000
+out 10.2.0.7 10.3.0.1 10.23.0.1 10.23.0.2 3 1 1 1000 00000000
+out 10.2.0.6 10.3.0.2 10.23.0.5 10.23.0.6 3 1 1 1000 00000000
+entry 10.2.0.1 1
+";
+
+pub const D2Y: &[u8] = b"topology 2
+node 10.2.0.1
+node 10.2.0.5
+node 10.2.0.6
+node 10.2.0.7
+link 10.2.0.1 10.2.0.7 10.22.0.1 10.22.0.2 1 4 1000 00000000
+link 10.2.0.1 10.2.0.5 10.22.0.3 10.22.0.4 1 2 1000 00000000
+link 10.2.0.5 10.2.0.6 10.22.0.5 10.22.0.6 1 2 1000 00000000
+out 10.2.0.7 10.3.0.1 10.23.0.1 10.23.0.2 3 1 1 1000 00000000
+out 10.2.0.6 10.3.0.2 10.23.0.5 10.23.0.6 3 1 1 1000 00000000
+entry 10.2.0.1 1
+";
+
+const SOURCE: Addr = Addr(0x0A01_0001);
+
+pub const BORDER: Addr = Addr(0x0A02_0001);
+
+const OTHER_BORDER: Addr = Addr(0x0A02_0002);
+
+const HEAD: Addr = Addr(0x0A03_0001);
+
+const OTHER_HEAD: Addr = Addr(0x0A03_0002);
+
+const TARGET: Addr = Addr(0x0A03_0009);
+
+const WIDE: u32 = 16_777_215;
+
+pub const JOBS: [JobRow; 12] = [
+    JobRow {
+        name: "equal sums go by the least far address",
+        topology: D2X,
+        cap: WIDE,
+        entries: &[BORDER],
+        target: Target::Next(As(3)),
+        down: &[(HEAD, 10), (OTHER_HEAD, 10)],
+        best: b"10.2.0.1 15 10.23.0.2 10.3.0.1 via 10.2.0.1 10.22.0.4 10.22.0.6\n",
+        source_known: false,
+        target_known: true,
+    },
+    JobRow {
+        name: "and so they do where that exit is nearer",
+        topology: D2Y,
+        cap: WIDE,
+        entries: &[BORDER],
+        target: Target::Next(As(3)),
+        down: &[(HEAD, 10), (OTHER_HEAD, 10)],
+        best: b"10.2.0.1 15 10.23.0.2 10.3.0.1 via 10.2.0.1 10.22.0.2\n",
+        source_known: false,
+        target_known: true,
+    },
+    JobRow {
+        name: "one row beyond",
+        topology: D2X,
+        cap: WIDE,
+        entries: &[BORDER],
+        target: Target::Next(As(3)),
+        down: &[(HEAD, 10)],
+        best: b"10.2.0.1 15 10.23.0.2 10.3.0.1 via 10.2.0.1 10.22.0.4 10.22.0.6\n",
+        source_known: false,
+        target_known: true,
+    },
+    JobRow {
+        name: "one row beyond, in the other world",
+        topology: D2Y,
+        cap: WIDE,
+        entries: &[BORDER],
+        target: Target::Next(As(3)),
+        down: &[(HEAD, 10)],
+        best: b"10.2.0.1 15 10.23.0.2 10.3.0.1 via 10.2.0.1 10.22.0.2\n",
+        source_known: false,
+        target_known: true,
+    },
+    JobRow {
+        name: "no row beyond",
+        topology: D2X,
+        cap: WIDE,
+        entries: &[BORDER],
+        target: Target::Next(As(3)),
+        down: &[],
+        best: b"",
+        source_known: false,
+        target_known: true,
+    },
+    JobRow {
+        name: "several entries, in the order in which they are asked for",
+        topology: D2,
+        cap: WIDE,
+        entries: &[OTHER_BORDER, BORDER],
+        target: Target::Next(As(3)),
+        down: &[(HEAD, 100), (OTHER_HEAD, 10)],
+        best: b"10.2.0.2 15 10.23.0.4 10.3.0.2 via 10.2.0.2\n10.2.0.1 101 10.23.0.2 10.3.0.1 via 10.2.0.1\n",
+        source_known: false,
+        target_known: true,
+    },
+    JobRow {
+        name: "a head without a row, and two rows of a head",
+        topology: D2,
+        cap: WIDE,
+        entries: &[BORDER, OTHER_BORDER],
+        target: Target::Next(As(3)),
+        down: &[(OTHER_HEAD, 30), (OTHER_HEAD, 10)],
+        best: b"10.2.0.2 15 10.23.0.4 10.3.0.2 via 10.2.0.2\n",
+        source_known: false,
+        target_known: true,
+    },
+    JobRow {
+        name: "a cap that one exit meets",
+        topology: D2,
+        cap: 100,
+        entries: &[BORDER, OTHER_BORDER],
+        target: Target::Next(As(3)),
+        down: &[(HEAD, 100), (OTHER_HEAD, 10)],
+        best: b"10.2.0.2 15 10.23.0.4 10.3.0.2 via 10.2.0.2\n",
+        source_known: false,
+        target_known: true,
+    },
+    JobRow {
+        name: "the source as an entry",
+        topology: D1,
+        cap: WIDE,
+        entries: &[SOURCE],
+        target: Target::Next(As(2)),
+        down: &[(BORDER, 101), (OTHER_BORDER, 15)],
+        best: b"10.1.0.1 16 10.12.0.4 10.2.0.2 via 10.1.0.1\n",
+        source_known: true,
+        target_known: true,
+    },
+    JobRow {
+        name: "the last domain",
+        topology: D3,
+        cap: WIDE,
+        entries: &[HEAD, OTHER_HEAD, TARGET],
+        target: Target::Node(TARGET),
+        down: &[],
+        best: b"10.3.0.1 100 10.3.0.9 - via 10.3.0.1 10.33.0.2\n10.3.0.2 10 10.3.0.9 - via 10.3.0.2 10.33.0.4\n10.3.0.9 0 10.3.0.9 - via 10.3.0.9\n",
+        source_known: false,
+        target_known: true,
+    },
+    JobRow {
+        name: "a target that is no node, and an entry that is none",
+        topology: D3,
+        cap: WIDE,
+        entries: &[HEAD, SOURCE],
+        target: Target::Node(BORDER),
+        down: &[],
+        best: b"",
+        source_known: false,
+        target_known: false,
+    },
+    JobRow {
+        name: "out links to another domain alone",
+        topology: D2,
+        cap: WIDE,
+        entries: &[BORDER],
+        target: Target::Next(As(4)),
+        down: &[(HEAD, 1)],
+        best: b"",
+        source_known: false,
+        target_known: true,
+    },
+];
