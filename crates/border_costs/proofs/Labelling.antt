@@ -18,13 +18,6 @@ use Rattle.path_search.specs.Arcs.{label_at}
 use Rattle.path_search.specs.Search.{AreLabels}
 use Rattle.path_certificate.specs.Rows.{label_in}
 
-pub zip_more : (ns : List Addr) (ls : List (Option Label)) (i : ℕ) (n : Addr) → slice_get ns i ≡ Some n → i < length ls →
-    zip (take (suc i) ns) (take (suc i) ls) ≡ zip (take i ns) (take i ls) ++ (n, slice_index_or ls i None) ∷ []
-zip_more [] ls i n at below = cc
-zip_more (m ∷ ns) [] i n at below = absurd (omega arith)
-zip_more (m ∷ ns) (o ∷ ls) zero n at below = let same : m ≡ n = cc in ap (λ (k : Addr). (k, o) ∷ []) same
-zip_more (m ∷ ns) (o ∷ ls) (suc i) n at below = ap (λ (xs : List (Addr × Option Label)). (m, o) ∷ xs) (zip_more ns ls i n at (omega arith))
-
 -- what the rows say of an address: the label at a place of it, or none where it stands nowhere
 record IsFound (ns : List Addr) (ls : List (Option Label)) (n : Addr) : Type 0 where
   pub place : ℕ

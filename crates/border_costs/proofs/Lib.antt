@@ -1,6 +1,5 @@
 pub mod Downs
 pub mod Seeding
 pub mod Labelling
-pub mod Hops
 pub mod Bests
 pub mod Pairs

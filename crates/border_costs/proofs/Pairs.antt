@@ -25,7 +25,7 @@ use Rattle.border_costs.specs.declared.job.Down.{Down}
 use Rattle.border_costs.specs.declared.job.Ask.{Ask}
 use Rattle.border_costs.specs.Asks.{beyond, target_seed, AreSeeds, AreSeedsTo, IsPair, IsPairTo, HasNoPair}
 use Rattle.border_costs.specs.Solutions.{IsHeadOf, HasNoOut, IsHead, IsBest}
-use Rattle.border_costs.proofs.Hops.{fars}
+use Rattle.path_search.proofs.OpenForm.{fars}
 
 pair_to : (g : Rows) (q : Query) (down : List Down) (seeds : List Seed) (t : Target) → AreSeedsTo g q down t seeds →
     (entry : Addr) (o : Option Label) → IsLabel g q seeds entry o → IsPairTo g q down entry t o

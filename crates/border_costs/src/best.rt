@@ -1,14 +1,12 @@
-ghost use Rattle.std.specs.Prelude.{◌≡◌, ◌<◌, ◌∷◌, [], All, List, length, map, slice_get, Some, IfOk, MatchOption};
-ghost use Rattle.dom_base.specs.declared.link.Link.{Link};
+ghost use Rattle.std.specs.Prelude.{◌≡◌, IfOk, MatchOption};
 ghost use Rattle.te_links.specs.Rows.{IsInOrder};
 ghost use Rattle.path_search.specs.Search.{AreLabels};
-ghost use Rattle.path_search.specs.Segments.{AreAt};
 ghost use Rattle.border_costs.specs.Asks.{AreSeeds, HasNoPair};
 ghost use Rattle.border_costs.specs.Solutions.{IsHeadOf, HasNoOut, IsBest, AreBest};
 
 use crate::job::{Ask, Target};
 use dom_base::{Addr, List, NoMemory, Seed};
-use path_search::{Labels, segment};
+use path_search::{Labels, open_segment, segment};
 use std::alloc::Global;
 use te_links::Links;
 use vspt_tree::Best;
@@ -25,25 +23,6 @@ fn head_of<'a, G: Links<'a>>(links: &G, far: Addr) -> Option<Addr>
         }
     }
     None
-}
-
-// The entry, and the far addresses of the links at these places.
-fn open_segment<'a, G: Links<'a>>(
-    alloc: Global,
-    links: &mut G,
-    entry: Addr,
-    places: &[u32],
-) -> Result<Vec<Addr>, NoMemory>
-    requires { All (λ i. i < length (G.rows links.old).links) places.now }
-    ensures shown { IfOk result (λ shown. (ls : List Link) → AreAt (G.rows links.old).links places.now ls → shown.items ≡ entry ∷ map (λ l. l.far) ls) }
-    ensures same { G.rows links.new ≡ G.rows links.old }
-{
-    let mut shown = Vec::new(alloc);
-    shown.push(entry)?;
-    for place in places {
-        shown.push(links.link_at(*place).far)?;
-    }
-    Ok(shown)
 }
 
 // The best way from an entry, if there is one.

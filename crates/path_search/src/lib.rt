@@ -7,11 +7,13 @@ mod find;
 mod labels;
 mod opened;
 mod settle;
+mod shown;
 mod starts;
 
 pub use chosen::segment;
 pub use find::search;
 pub use labels::Labels;
+pub use shown::{label_rows, open_segment};
 
 #[cfg(test)]
 mod tests;

@@ -1,10 +1,8 @@
 pub mod Streaming
 pub mod OneSeed
-pub mod Hops
 pub mod Shown
 pub mod HexLaws
 pub mod Sizes
 pub mod Ending
 pub mod LineCount
-pub mod ZipMore
 pub mod Words

@@ -13,7 +13,7 @@ use Rattle.path_search.specs.Search.{AreLabels}
 use Rattle.path_search.specs.Segments.{AreAt, HasSegment}
 use Rattle.pce_tool.specs.Domain.{target_seeds, ShowsLeast, HasNone}
 use Rattle.pce_tool.proofs.OneSeed.{none_feasible, segment_least, label_exit}
-use Rattle.pce_tool.proofs.Hops.{fars}
+use Rattle.path_search.proofs.OpenForm.{fars}
 
 label_is : (g : Rows) (q : Query) (t : Addr) (labels : List (Option Label)) (from : ℕ) (s : Addr) (o : Option Label) →
     AreLabels g q (target_seeds t) labels → slice_get g.nodes from ≡ Some s → label_at labels from ≡ o → IsLabel g q (target_seeds t) s o

@@ -1,30 +1,13 @@
-ghost use Rattle.std.specs.Prelude.{◌≡◌, length, IfOk};
-ghost use Rattle.std.specs.List.{zip};
+ghost use Rattle.std.specs.Prelude.{IfOk};
 ghost use Rattle.pce_tool.specs.Certified.{IsCertified, IsCertifiedText};
 
 use crate::domain::{DomainPath, search_domain};
-use dom_base::{Addr, Bytes, Label, List, NoMemory};
+use dom_base::{Bytes, List, NoMemory};
 use path_certificate::{Certificate, write_certificate};
-use path_search::Labels;
+use path_search::label_rows;
 use pcep_messages::Wanted;
 use std::alloc::Global;
-use te_links::Topology;
-
-// Each node with its label.
-fn label_rows(
-    alloc: Global,
-    topology: &Topology,
-    labels: &Labels,
-) -> Result<Vec<(Addr, Option<Label>)>, NoMemory>
-    requires { length labels.now ≡ length topology.now.nodes }
-    ensures { IfOk result (λ rows. rows.items ≡ zip topology.now.nodes labels.now) }
-{
-    let mut rows = Vec::new(alloc);
-    for i in 0..topology.node_count() {
-        rows.push((topology.node_at(i), labels.at(i)))?;
-    }
-    Ok(rows)
-}
+use te_links::{Counted, Topology};
 
 /// The certificate of a request: the least label of each node, and the chosen path.
 pub fn certificate_of(
@@ -41,7 +24,7 @@ pub fn certificate_of(
         wanted.source,
         wanted.target,
     )?;
-    let rows = label_rows(alloc, topology, &labels)?;
+    let rows = label_rows(alloc, &Counted::new(topology), &labels)?;
     let path = match chosen {
         Some(chosen) => Some(chosen.hops),
         None => None,

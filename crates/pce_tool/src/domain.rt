@@ -1,11 +1,9 @@
-ghost use Rattle.std.specs.Prelude.{◌≡◌, ◌<◌, ◌∷◌, [], All, List, length, map, IfOk, MatchOption};
-ghost use Rattle.dom_base.specs.declared.link.Link.{Link};
+ghost use Rattle.std.specs.Prelude.{◌≡◌, IfOk, MatchOption};
 ghost use Rattle.path_search.specs.Search.{AreLabels};
-ghost use Rattle.path_search.specs.Segments.{AreAt};
 ghost use Rattle.pce_tool.specs.Domain.{target_seeds, ShowsLeast, HasNone, IsUnknownVector};
 
 use dom_base::{Addr, Cost, List, NoMemory, Query, Seed};
-use path_search::{Labels, search, segment};
+use path_search::{Labels, open_segment, search, segment};
 use std::alloc::Global;
 use te_links::{Counted, Topology};
 
@@ -43,24 +41,6 @@ pub fn seeds_of(target: Addr) -> [Seed; 1]
     }]
 }
 
-// The source, and the far addresses of the links at these places.
-fn hops_of(
-    alloc: Global,
-    topology: &Topology,
-    source: Addr,
-    path: &[u32],
-) -> Result<Vec<Addr>, NoMemory>
-    requires { All (λ i. i < length topology.now.links) path.now }
-    ensures { IfOk result (λ hops. (ls : List Link) → AreAt topology.now.links path.now ls → hops.items ≡ source ∷ map (λ l. l.far) ls) }
-{
-    let mut hops = Vec::new(alloc);
-    hops.push(source)?;
-    for place in path {
-        hops.push(topology.link_at(*place).far)?;
-    }
-    Ok(hops)
-}
-
 // The chosen path from a source, by the labels of a search for the target.
 fn chosen_path(
     alloc: Global,
@@ -84,7 +64,7 @@ fn chosen_path(
     let Some(label) = labels.at(from) else {
         unreachable!()
     };
-    let hops = hops_of(alloc, topology, source, path.as_slice())?;
+    let hops = open_segment(alloc, &mut links, source, path.as_slice())?;
     Ok(Some(Chosen {
         hops: List::from_vec(hops),
         cost: label.cost,

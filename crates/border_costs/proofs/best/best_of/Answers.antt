@@ -8,7 +8,7 @@ use Rattle.te_links.specs.Rows.{IsInOrder}
 use Rattle.walk_laws.specs.Borders.{AreBorderSeeds}
 use Rattle.border_costs.specs.Asks.{beyond}
 use Rattle.border_costs.specs.Solutions.{IsHead, IsHeadOf, HasNoOut}
-use Rattle.border_costs.proofs.Hops.{fars, in_range}
+use Rattle.path_search.proofs.OpenForm.{fars, in_range}
 use Rattle.border_costs.proofs.Pairs.{no_node, pair_of, label_is, head_is, best_is}
 use Rattle.border_costs.proofs.best.best_of.Goals as goal
 use Rattle.border_costs.proofs.best.best_of.Goals.{in-Node, in-Next}

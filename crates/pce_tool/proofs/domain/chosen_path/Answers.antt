@@ -6,7 +6,7 @@ use Rattle.path_search.specs.Arcs.{label_at}
 use Rattle.path_search.specs.Segments.{HasSegment, AreAt}
 use Rattle.pce_tool.specs.Domain.{target_seeds, ShowsLeast}
 use Rattle.pce_tool.proofs.OneSeed.{no_node}
-use Rattle.pce_tool.proofs.Hops.{fars, in_range}
+use Rattle.path_search.proofs.OpenForm.{fars, in_range}
 use Rattle.pce_tool.proofs.Shown.{no_walk, shown}
 use Rattle.pce_tool.proofs.domain.chosen_path.Goals as goal
 
@@ -27,13 +27,13 @@ returns-in_default-2 c =
     let none : label_at c.args.labels.now c.in-Some.from ≡ None = rw c.in_default-2.is at c.in_ok-path.ensures.segment in
     no_walk c.args.topology.now c.args.query.now c.args.labels.now c.in-Some.from c.args.source c.args.target c.requires c.in-Some.ensures none
 
-pub hops_of-requires : goal.hops_of-requires
-hops_of-requires c =
+pub open_segment-requires : goal.open_segment-requires
+open_segment-requires c κs =
     let g = c.args.topology.now in
     let path = c.in-Some-2.path in
     let has : HasSegment g c.args.query.now (target_seeds c.args.target) c.args.labels.now c.in-Some.from path =
     rw (c.in-Some-2.is, c.new-links.ensures.topology, c.seeds_of-seeds.ensures) at c.in_ok-path.ensures.segment in
-    rw c.as_slice.ensures (in_range g.links path has.links has.at_links)
+    ((refl, tt), rw (c.as_slice.ensures, c.segment.ensures.same, c.new-links.ensures.topology) (in_range g.links path has.links has.at_links))
 
 pub returns : goal.returns
 returns c =
@@ -41,7 +41,7 @@ returns c =
     let path = c.in-Some-2.path in
     let has : HasSegment g c.args.query.now (target_seeds c.args.target) c.args.labels.now c.in-Some.from path =
     rw (c.in-Some-2.is, c.new-links.ensures.topology, c.seeds_of-seeds.ensures) at c.in_ok-path.ensures.segment in
-    let hopped : (ls : List Link) → AreAt g.links path ls → c.in_ok-hops.hops.items ≡ c.args.source ∷ fars ls = rw c.as_slice.ensures at c.in_ok-hops.ensures in
+    let hopped : (ls : List Link) → AreAt g.links path ls → c.in_ok-hops.hops.items ≡ c.args.source ∷ fars ls = rw (c.as_slice.ensures, c.segment.ensures.same, c.new-links.ensures.topology) at c.in_ok-hops.ensures.shown in
     rw c.from_vec.ensures
     (shown g c.args.query.now c.args.labels.now c.in-Some.from c.args.source c.args.target c.in-Some-at.label path c.in_ok-hops.hops.items
     c.requires c.in-Some.ensures (sym c.in-Some-at.ensures) has hopped)
