@@ -3,3 +3,6 @@ pub mod Seeding
 pub mod Labelling
 pub mod Bests
 pub mod Pairs
+pub mod Picked
+pub mod WaysOut
+pub mod TableRows

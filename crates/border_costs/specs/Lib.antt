@@ -1,3 +1,5 @@
 pub mod Asks
 pub mod Solutions
 pub mod Fields
+pub mod Tables
+pub mod Ways

@@ -9,11 +9,14 @@ mod rows;
 mod seeds;
 mod solution;
 mod solved;
+mod table;
+mod ways;
 
 pub use job::{Ask, Down, Job, Target};
 pub use rows::Rows;
 pub use solution::solve_rows;
 pub use solved::{Solved, solve};
+pub use table::border_table;
 
 #[cfg(test)]
 mod tests;
