@@ -1,9 +1,11 @@
 mod jobs;
 mod listing;
 
-use crate::{Ask, Down, Job, Target, solve};
-use dom_base::{Addr, As, Cost, Label, List, Metric, NoMemory, Query, write_addr, write_number};
-use jobs::{JOBS, JobRow};
+use crate::{Ask, Down, Job, Target, border_table, solve};
+use dom_base::{
+    Addr, As, BorderRow, Cost, Label, List, Metric, NoMemory, Query, write_addr, write_number,
+};
+use jobs::{JOBS, JobRow, TABLES, TableRow};
 use line_text::line_count;
 use std::alloc::Global;
 use std::sync::Arc;
@@ -139,5 +141,34 @@ fn a_certificate_has_each_node(rt: HostRuntime) -> Result<(), Fail> {
     assert_eq!(rt; solved.certificate().labels.as_slice(), rows.as_slice());
     assert_eq!(rt; solved.at(), As(3));
     assert_eq!(rt; solved.number(), 1);
+    Ok(())
+}
+
+fn write_row(row: &BorderRow, into: &mut Vec<u8>) -> Result<(), NoMemory> {
+    write_addr(row.entry, into)?;
+    write_word(row.far, into)?;
+    write_word(row.head, into)?;
+    into.push(b' ')?;
+    write_number(u64::from(row.cost.get()), into)?;
+    into.push(b'\n')?;
+    Ok(())
+}
+
+fn table_text(alloc: Global, row: TableRow) -> Result<Vec<u8>, Fail> {
+    let topology = topology_of(alloc, row.topology)?;
+    let job = job_of(alloc, topology, row.cap, row.entries, row.target, &[])?;
+    let table = border_table(alloc, &job)?;
+    let mut text = Vec::new(alloc);
+    for row in table.as_slice() {
+        write_row(row, &mut text)?;
+    }
+    Ok(text)
+}
+
+#[test]
+fn tables_have_each_way_from_each_entry(rt: HostRuntime) -> Result<(), Fail> {
+    for row in TABLES {
+        assert_eq!(rt; table_text(rt.alloc(), row)?.as_slice(), row.table);
+    }
     Ok(())
 }

@@ -45,7 +45,7 @@ entry 10.3.0.2 2
 ";
 
 // Two worlds with the same costs to both exits, over other nodes.
-pub const D2X: &[u8] = b"topology 2
+const D2X: &[u8] = b"topology 2
 node 10.2.0.1
 node 10.2.0.5
 node 10.2.0.6
@@ -58,7 +58,7 @@ out 10.2.0.6 10.3.0.2 10.23.0.5 10.23.0.6 3 1 1 1000 00000000
 entry 10.2.0.1 1
 ";
 
-pub const D2Y: &[u8] = b"topology 2
+const D2Y: &[u8] = b"topology 2
 node 10.2.0.1
 node 10.2.0.5
 node 10.2.0.6
@@ -73,7 +73,7 @@ entry 10.2.0.1 1
 
 const SOURCE: Addr = Addr(0x0A01_0001);
 
-pub const BORDER: Addr = Addr(0x0A02_0001);
+const BORDER: Addr = Addr(0x0A02_0001);
 
 const OTHER_BORDER: Addr = Addr(0x0A02_0002);
 
@@ -217,5 +217,80 @@ pub const JOBS: [JobRow; 12] = [
         best: b"",
         source_known: false,
         target_known: true,
+    },
+];
+
+/// A job, and the rows of its border table: a line for each, with entry, far address, head and
+/// cost.
+#[derive(Clone, Copy)]
+pub struct TableRow {
+    pub topology: &'static [u8],
+    pub cap: u32,
+    pub entries: &'static [Addr],
+    pub target: Target,
+    pub table: &'static [u8],
+}
+
+// Three nodes in a row and a dear link past the middle one; four ways out, one of them to another
+// domain.
+const ROW: &[u8] = b"topology 1
+node 10.0.0.1
+node 10.0.0.2
+node 10.0.0.3
+link 10.0.0.1 10.0.0.2 10.1.0.1 10.2.0.1 1 5 1000 00000000
+link 10.0.0.2 10.0.0.3 10.1.0.2 10.2.0.2 1 7 1000 00000000
+link 10.0.0.1 10.0.0.3 10.1.0.3 10.2.0.3 1 30 1000 00000000
+out 10.0.0.3 10.9.0.9 10.1.0.9 10.2.0.9 2 1 4 1000 00000000
+out 10.0.0.2 10.9.0.8 10.1.0.4 10.2.0.4 2 1 6 1000 00000000
+out 10.0.0.2 10.8.0.7 10.1.0.5 10.2.0.5 3 1 1 1000 00000000
+out 10.0.0.1 10.9.0.6 10.1.0.6 10.2.0.6 2 1 21 1000 00000000
+";
+
+pub const TABLES: [TableRow; 5] = [
+    TableRow {
+        topology: D2X,
+        cap: WIDE,
+        entries: &[BORDER],
+        target: Target::Next(As(3)),
+        table: b"10.2.0.1 10.23.0.2 10.3.0.1 5\n10.2.0.1 10.23.0.6 10.3.0.2 5\n",
+    },
+    TableRow {
+        topology: D2Y,
+        cap: WIDE,
+        entries: &[BORDER],
+        target: Target::Next(As(3)),
+        table: b"10.2.0.1 10.23.0.2 10.3.0.1 5\n10.2.0.1 10.23.0.6 10.3.0.2 5\n",
+    },
+    TableRow {
+        topology: D3,
+        cap: WIDE,
+        entries: &[HEAD, OTHER_HEAD],
+        target: Target::Node(TARGET),
+        table: b"10.3.0.1 10.3.0.9 10.3.0.9 100\n10.3.0.2 10.3.0.9 10.3.0.9 10\n",
+    },
+    // entries out of order, twice, and one that is no node; a way that the cap forbids
+    TableRow {
+        topology: ROW,
+        cap: 20,
+        entries: &[
+            Addr(0x0A00_0002),
+            SOURCE,
+            Addr(0x0A00_0001),
+            Addr(0x0A00_0002),
+        ],
+        target: Target::Next(As(2)),
+        table: b"10.0.0.1 10.2.0.4 10.9.0.8 11\n10.0.0.1 10.2.0.9 10.9.0.9 16\n10.0.0.2 10.2.0.4 10.9.0.8 6\n10.0.0.2 10.2.0.9 10.9.0.9 11\n",
+    },
+    TableRow {
+        topology: ROW,
+        cap: 20,
+        entries: &[
+            Addr(0x0A00_0002),
+            SOURCE,
+            Addr(0x0A00_0001),
+            Addr(0x0A00_0002),
+        ],
+        target: Target::Node(Addr(0x0A00_0003)),
+        table: b"10.0.0.1 10.0.0.3 10.0.0.3 12\n10.0.0.2 10.0.0.3 10.0.0.3 7\n",
     },
 ];
