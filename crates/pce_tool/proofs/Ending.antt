@@ -1,5 +1,5 @@
 -- How a run ends, from how its parts ended.
-use Rattle.std.proofs.Common.{◌≡◌, inl, inr, ℕ, List, Some, None, refl}
+use Rattle.std.proofs.Common.{inr, ℕ, List, Some, None, refl}
 use Rattle.std.specs.declared.option.Option.{Option}
 use Rattle.std.specs.Io.KnownBytes.{Keeps}
 use Rattle.te_links.specs.Rows.{Rows}

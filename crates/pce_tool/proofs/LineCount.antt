@@ -1,6 +1,6 @@
 -- A text has no more lines than bytes, and one.
-use Rattle.std.proofs.Common.{◌≡◌, ◌≤◌, ◌+◌, ◌==◌, ℕ, List, [], ◌∷◌, length, arith, inl, inr}
-use Rattle.std.specs.Prelude.{count_by, Bool}
+use Rattle.std.proofs.Common.{◌≤◌, ◌+◌, ◌==◌, ℕ, List, [], ◌∷◌, length, arith, inl, inr}
+use Rattle.std.specs.Prelude.{count_by}
 use Rattle.std.specs.List.{slice_split}
 use Rattle.std.specs.Str.Lines.{lines, lines_of_parts}
 use Rattle.std.proofs.lemmas.Bool.Decides.{eqb_tells}

@@ -1,18 +1,16 @@
 -- With one seed, the target, a label is the least cost of a walk to it, and the chosen segment is such a walk.
-use Rattle.std.proofs.Common.{◌≡◌, ◌⊎◌, inl, inr, ℕ, ◌+◌, ◌<◌, ◌≤◌, List, [], ◌∷◌, arith, refl, sym, ◌∙◌, ap, subst, None, Some}
+use Rattle.std.proofs.Common.{◌≡◌, inl, inr, ◌≤◌, List, [], ◌∷◌, arith, refl, sym, ◌∙◌, ap, None, Some}
 use Rattle.std.specs.Prelude.{Contains, slice_index_or}
-use Rattle.std.specs.declared.option.Option.{Option}
 use Rattle.dom_base.specs.declared.names.Addr.{Addr}
 use Rattle.dom_base.specs.declared.link.Link.{Link}
 use Rattle.dom_base.specs.declared.query.Query.{Query}
 use Rattle.dom_base.specs.declared.query.Seed.{Seed}
 use Rattle.dom_base.specs.declared.query.Label.{Label}
-use Rattle.dom_base.specs.Admission.{weight}
 use Rattle.te_links.specs.Rows.{Rows}
-use Rattle.walk_laws.specs.Walks.{AdmitsNode, AdmitsLink, Walk, cost, IsFeasible, IsLeast}
+use Rattle.walk_laws.specs.Walks.{Walk, cost, IsFeasible, IsLeast}
 use Rattle.walk_laws.proofs.Admitted.{walk_admits}
 use Rattle.pce_tool.specs.Domain.{target_seeds}
-use Rattle.walk_laws.specs.Labels.{◌≼◌, Reaches, IsLabel, EndsAt, IsTight, IsChosen, IsSegment}
+use Rattle.walk_laws.specs.Labels.{◌≼◌, Reaches, IsLabel, IsSegment}
 
 abbrev pub seed_at : Addr → Seed
 seed_at t = record { node = t; cost = 0; exit = t }

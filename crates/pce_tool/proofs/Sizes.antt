@@ -1,6 +1,5 @@
 -- A reply to a client fits one message.
-use Rattle.std.proofs.Common.{◌≡◌, ◌≤◌, ◌<◌, ◌+◌, ◌*◌, ◌==◌, inl, inr, ℕ, true, false, List, [], ◌∷◌, ◌++◌, length, map, arith, refl, sym, ◌∙◌, ap, subst, length-append, Some, None}
-use Rattle.std.specs.Int.{w16, w32, to_be_bytes}
+use Rattle.std.proofs.Common.{◌≡◌, ◌≤◌, ◌+◌, ◌*◌, inl, inr, ℕ, List, [], ◌∷◌, length, map, arith, refl, sym, ◌∙◌, ap, subst, length-append, Some}
 use Rattle.std.proofs.lemmas.Bool.{cases_lt}
 use Rattle.std.proofs.lemmas.Bool.Decides.{eqb_tells}
 use Rattle.std.proofs.lemmas.List.{length-map}
@@ -11,11 +10,10 @@ use Rattle.dom_base.specs.declared.query.Query.{Query}
 use Rattle.dom_base.specs.declared.query.Seed.{Seed}
 use Rattle.dom_base.specs.declared.query.Label.{Label}
 use Rattle.te_links.specs.Rows.{Rows, IsTopology}
-use Rattle.walk_laws.specs.Walks.{Walk, cost, IsFeasible}
+use Rattle.walk_laws.specs.Walks.{Walk, IsFeasible}
 use Rattle.walk_laws.specs.Labels.{◌≼◌, Reaches, IsLabel}
 use Rattle.walk_laws.proofs.Short.{segment_short}
 use Rattle.pcep_subobjects.specs.Hops.{hop_text, hops_text}
-use Rattle.pcep_objects.specs.Spelling.{vector_text}
 use Rattle.pcep_messages.specs.declared.message.Answer.{Answer}
 use Rattle.pcep_messages.specs.declared.message.Answer.TheVariants as answers
 use Rattle.pcep_messages.specs.declared.message.Message.{Message}

@@ -1,5 +1,5 @@
 -- Two words, and three.
-use Rattle.std.proofs.Common.{◌≡◌, ◌<◌, ◌≤◌, ℕ, List, [], ◌∷◌, length, arith, sym, ◌∙◌, ap}
+use Rattle.std.proofs.Common.{◌≡◌, ◌<◌, ◌≤◌, List, [], ◌∷◌, length, arith, sym, ◌∙◌, ap}
 use Rattle.std.specs.Prelude.{slice_index_or}
 
 pub two_words : {X : Type 0} (ws : List X) (v t : X) → 2 ≤ length ws → length ws < 3 → v ≡ slice_index_or ws 0 v → t ≡ slice_index_or ws 1 t → ws ≡ v ∷ t ∷ []

@@ -55,19 +55,25 @@ enum Fault {
     Output(u64),
 }
 
-// The numbers of the calls of the store, the input and the output that are to fail.
-fn calls_of(alloc: Global, fault: Fault) -> Result<[List<u64>; 3], Fail> {
-    let (store, input, output) = match fault {
-        Fault::Nowhere => (None, None, None),
-        Fault::Store(call) => (Some(call), None, None),
-        Fault::Input(call) => (None, Some(call), None),
-        Fault::Output(call) => (None, None, Some(call)),
-    };
-    Ok([
-        failing(alloc, store)?,
-        failing(alloc, input)?,
-        failing(alloc, output)?,
-    ])
+fn in_store(fault: Fault) -> Option<u64> {
+    match fault {
+        Fault::Store(call) => Some(call),
+        _ => None,
+    }
+}
+
+fn in_input(fault: Fault) -> Option<u64> {
+    match fault {
+        Fault::Input(call) => Some(call),
+        _ => None,
+    }
+}
+
+fn in_output(fault: Fault) -> Option<u64> {
+    match fault {
+        Fault::Output(call) => Some(call),
+        _ => None,
+    }
 }
 
 // Runs a command over the files; answers what it wrote, and the text of its status.
@@ -77,11 +83,10 @@ fn told(
     input: &[u8],
     fault: Fault,
 ) -> Result<(MemorySink, String), Fail> {
-    let [in_store, in_input, in_output] = calls_of(alloc, fault)?;
     let words = words_of(alloc, words)?;
-    let mut store = store_of(alloc, in_store)?;
-    let mut source = MemorySource::new(bytes_of(alloc, input)?, in_input);
-    let mut sink = MemorySink::new(alloc, in_output);
+    let mut store = store_of(alloc, failing(alloc, in_store(fault))?)?;
+    let mut source = MemorySource::new(bytes_of(alloc, input)?, failing(alloc, in_input(fault))?);
+    let mut sink = MemorySink::new(alloc, failing(alloc, in_output(fault))?);
     let status = ended(alloc, words.as_slice(), &mut store, &mut source, &mut sink);
     let text = format!(in alloc; "{status}")?;
     Ok((sink, text))

@@ -2,7 +2,7 @@ use crate::Target;
 use dom_base::{Addr, As};
 
 /// A job, and what its solution is to say: a line for each entry with its cost, exit and head, and
-/// the segment.
+/// the segment; and which ends are known.
 #[derive(Clone, Copy)]
 pub struct JobRow {
     pub name: &'static str,
@@ -11,9 +11,7 @@ pub struct JobRow {
     pub entries: &'static [Addr],
     pub target: Target,
     pub down: &'static [(Addr, u32)],
-    pub best: &'static [u8],
-    pub source_known: bool,
-    pub target_known: bool,
+    pub told: &'static [u8],
 }
 
 // The source's domain.
@@ -93,9 +91,7 @@ pub const JOBS: [JobRow; 12] = [
         entries: &[BORDER],
         target: Target::Next(As(3)),
         down: &[(HEAD, 10), (OTHER_HEAD, 10)],
-        best: b"10.2.0.1 15 10.23.0.2 10.3.0.1 via 10.2.0.1 10.22.0.4 10.22.0.6\n",
-        source_known: false,
-        target_known: true,
+        told: b"10.2.0.1 15 10.23.0.2 10.3.0.1 via 10.2.0.1 10.22.0.4 10.22.0.6\nsource unknown, target known\n",
     },
     JobRow {
         name: "and so they do where that exit is nearer",
@@ -104,9 +100,7 @@ pub const JOBS: [JobRow; 12] = [
         entries: &[BORDER],
         target: Target::Next(As(3)),
         down: &[(HEAD, 10), (OTHER_HEAD, 10)],
-        best: b"10.2.0.1 15 10.23.0.2 10.3.0.1 via 10.2.0.1 10.22.0.2\n",
-        source_known: false,
-        target_known: true,
+        told: b"10.2.0.1 15 10.23.0.2 10.3.0.1 via 10.2.0.1 10.22.0.2\nsource unknown, target known\n",
     },
     JobRow {
         name: "one row beyond",
@@ -115,9 +109,7 @@ pub const JOBS: [JobRow; 12] = [
         entries: &[BORDER],
         target: Target::Next(As(3)),
         down: &[(HEAD, 10)],
-        best: b"10.2.0.1 15 10.23.0.2 10.3.0.1 via 10.2.0.1 10.22.0.4 10.22.0.6\n",
-        source_known: false,
-        target_known: true,
+        told: b"10.2.0.1 15 10.23.0.2 10.3.0.1 via 10.2.0.1 10.22.0.4 10.22.0.6\nsource unknown, target known\n",
     },
     JobRow {
         name: "one row beyond, in the other world",
@@ -126,9 +118,7 @@ pub const JOBS: [JobRow; 12] = [
         entries: &[BORDER],
         target: Target::Next(As(3)),
         down: &[(HEAD, 10)],
-        best: b"10.2.0.1 15 10.23.0.2 10.3.0.1 via 10.2.0.1 10.22.0.2\n",
-        source_known: false,
-        target_known: true,
+        told: b"10.2.0.1 15 10.23.0.2 10.3.0.1 via 10.2.0.1 10.22.0.2\nsource unknown, target known\n",
     },
     JobRow {
         name: "no row beyond",
@@ -137,9 +127,7 @@ pub const JOBS: [JobRow; 12] = [
         entries: &[BORDER],
         target: Target::Next(As(3)),
         down: &[],
-        best: b"",
-        source_known: false,
-        target_known: true,
+        told: b"source unknown, target known\n",
     },
     JobRow {
         name: "several entries, in the order in which they are asked for",
@@ -148,9 +136,7 @@ pub const JOBS: [JobRow; 12] = [
         entries: &[OTHER_BORDER, BORDER],
         target: Target::Next(As(3)),
         down: &[(HEAD, 100), (OTHER_HEAD, 10)],
-        best: b"10.2.0.2 15 10.23.0.4 10.3.0.2 via 10.2.0.2\n10.2.0.1 101 10.23.0.2 10.3.0.1 via 10.2.0.1\n",
-        source_known: false,
-        target_known: true,
+        told: b"10.2.0.2 15 10.23.0.4 10.3.0.2 via 10.2.0.2\n10.2.0.1 101 10.23.0.2 10.3.0.1 via 10.2.0.1\nsource unknown, target known\n",
     },
     JobRow {
         name: "a head without a row, and two rows of a head",
@@ -159,9 +145,7 @@ pub const JOBS: [JobRow; 12] = [
         entries: &[BORDER, OTHER_BORDER],
         target: Target::Next(As(3)),
         down: &[(OTHER_HEAD, 30), (OTHER_HEAD, 10)],
-        best: b"10.2.0.2 15 10.23.0.4 10.3.0.2 via 10.2.0.2\n",
-        source_known: false,
-        target_known: true,
+        told: b"10.2.0.2 15 10.23.0.4 10.3.0.2 via 10.2.0.2\nsource unknown, target known\n",
     },
     JobRow {
         name: "a cap that one exit meets",
@@ -170,9 +154,7 @@ pub const JOBS: [JobRow; 12] = [
         entries: &[BORDER, OTHER_BORDER],
         target: Target::Next(As(3)),
         down: &[(HEAD, 100), (OTHER_HEAD, 10)],
-        best: b"10.2.0.2 15 10.23.0.4 10.3.0.2 via 10.2.0.2\n",
-        source_known: false,
-        target_known: true,
+        told: b"10.2.0.2 15 10.23.0.4 10.3.0.2 via 10.2.0.2\nsource unknown, target known\n",
     },
     JobRow {
         name: "the source as an entry",
@@ -181,9 +163,7 @@ pub const JOBS: [JobRow; 12] = [
         entries: &[SOURCE],
         target: Target::Next(As(2)),
         down: &[(BORDER, 101), (OTHER_BORDER, 15)],
-        best: b"10.1.0.1 16 10.12.0.4 10.2.0.2 via 10.1.0.1\n",
-        source_known: true,
-        target_known: true,
+        told: b"10.1.0.1 16 10.12.0.4 10.2.0.2 via 10.1.0.1\nsource known, target known\n",
     },
     JobRow {
         name: "the last domain",
@@ -192,9 +172,7 @@ pub const JOBS: [JobRow; 12] = [
         entries: &[HEAD, OTHER_HEAD, TARGET],
         target: Target::Node(TARGET),
         down: &[],
-        best: b"10.3.0.1 100 10.3.0.9 - via 10.3.0.1 10.33.0.2\n10.3.0.2 10 10.3.0.9 - via 10.3.0.2 10.33.0.4\n10.3.0.9 0 10.3.0.9 - via 10.3.0.9\n",
-        source_known: false,
-        target_known: true,
+        told: b"10.3.0.1 100 10.3.0.9 - via 10.3.0.1 10.33.0.2\n10.3.0.2 10 10.3.0.9 - via 10.3.0.2 10.33.0.4\n10.3.0.9 0 10.3.0.9 - via 10.3.0.9\nsource unknown, target known\n",
     },
     JobRow {
         name: "a target that is no node, and an entry that is none",
@@ -203,9 +181,7 @@ pub const JOBS: [JobRow; 12] = [
         entries: &[HEAD, SOURCE],
         target: Target::Node(BORDER),
         down: &[],
-        best: b"",
-        source_known: false,
-        target_known: false,
+        told: b"source unknown, target unknown\n",
     },
     JobRow {
         name: "out links to another domain alone",
@@ -214,9 +190,7 @@ pub const JOBS: [JobRow; 12] = [
         entries: &[BORDER],
         target: Target::Next(As(4)),
         down: &[(HEAD, 1)],
-        best: b"",
-        source_known: false,
-        target_known: true,
+        told: b"source unknown, target known\n",
     },
 ];
 

@@ -1,4 +1,3 @@
-use Rattle.std.proofs.Common.{◌≡◌, refl}
 use Rattle.pce_tool.specs.Run.{World, world, Answer}
 use Rattle.pce_tool.proofs.Ending.{keeps_refl, input_ends, finished}
 use Rattle.pce_tool.proofs.command.answer.Goals as goal

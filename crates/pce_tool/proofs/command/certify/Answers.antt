@@ -1,4 +1,3 @@
-use Rattle.std.proofs.Common.{◌≡◌, refl}
 use Rattle.pce_tool.specs.Run.{World, world, Certify}
 use Rattle.pce_tool.proofs.Ending.{keeps_refl, input_ends, finished}
 use Rattle.pce_tool.proofs.command.certify.Goals as goal

@@ -1,4 +1,4 @@
-use Rattle.std.proofs.Common.{◌≡◌, refl}
+use Rattle.std.proofs.Common.{refl}
 use Rattle.path_certificate.specs.declared.verdict.Place.{Place}
 use Rattle.path_certificate.specs.Claims.{HoldsAt, IsFirstFalse}
 use Rattle.pce_tool.specs.Run.{World, world, Verify, HasCertificate, claim, holds_text}

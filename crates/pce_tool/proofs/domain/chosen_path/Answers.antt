@@ -1,10 +1,9 @@
-use Rattle.std.proofs.Common.{◌≡◌, ◌∷◌, List, Some, None, refl, sym, ◌∙◌, subst}
+use Rattle.std.proofs.Common.{◌≡◌, ◌∷◌, List, None, refl, sym}
 use Rattle.std.proofs.lemmas.Option.{slice_get_within}
-use Rattle.dom_base.specs.declared.names.Addr.{Addr}
 use Rattle.dom_base.specs.declared.link.Link.{Link}
 use Rattle.path_search.specs.Arcs.{label_at}
 use Rattle.path_search.specs.Segments.{HasSegment, AreAt}
-use Rattle.pce_tool.specs.Domain.{target_seeds, ShowsLeast}
+use Rattle.pce_tool.specs.Domain.{target_seeds}
 use Rattle.pce_tool.proofs.OneSeed.{no_node}
 use Rattle.path_search.proofs.OpenForm.{fars, in_range}
 use Rattle.pce_tool.proofs.Shown.{no_walk, shown}

@@ -1,4 +1,4 @@
-use Rattle.std.proofs.Common.{◌≡◌, ◌==◌, ◌≤◌, ◌+◌, length, arith}
+use Rattle.std.proofs.Common.{◌==◌, ◌≤◌, ◌+◌, length, arith}
 use Rattle.std.specs.Str.Lines.{lines}
 use Rattle.std.proofs.lemmas.List.Sums.{count_by-le-length}
 use Rattle.pce_tool.proofs.LineCount.{few_lines}

@@ -1,4 +1,4 @@
-use Rattle.std.proofs.Common.{◌≡◌, sym, ◌∙◌, true, false}
+use Rattle.std.proofs.Common.{◌≡◌, sym, ◌∙◌, false}
 use Rattle.pce_tool.specs.Hexadecimal.{is_blank}
 use Rattle.pce_tool.proofs.HexLaws.{blank_skipped, pair_read}
 use Rattle.pce_tool.proofs.hexadecimal.read_hex.Goals as goal
