@@ -6,6 +6,42 @@ use std::alloc::Global;
 use std::test::Fail;
 use te_links::Topology;
 
+const CAP: u32 = 16_777_215;
+
+// Domains alone: a ring with two routes of one cost and a node that no link leads to, links side
+// by side, and a walk that is dearer than the cap by one.
+const ALONE: [&[u8]; 3] = [
+    b"topology 1
+node 10.0.0.1
+node 10.0.0.2
+node 10.0.0.3
+node 10.0.0.4
+node 10.0.0.5
+link 10.0.0.1 10.0.0.2 10.1.0.1 10.1.0.2 1 1 1000 00000000
+link 10.0.0.2 10.0.0.3 10.1.0.3 10.1.0.4 1 1 1000 00000000
+link 10.0.0.3 10.0.0.1 10.1.0.5 10.1.0.6 1 1 1000 00000000
+link 10.0.0.2 10.0.0.4 10.1.0.7 10.1.0.8 1 5 1000 00000000
+link 10.0.0.3 10.0.0.4 10.1.0.9 10.1.0.10 1 4 1000 00000000
+link 10.0.0.5 10.0.0.1 10.1.0.11 10.1.0.12 1 1 1000 00000000
+",
+    b"topology 1
+node 10.0.0.1
+node 10.0.0.2
+node 10.0.0.3
+link 10.0.0.1 10.0.0.2 10.1.0.1 10.1.0.2 1 5 1000 00000000
+link 10.0.0.1 10.0.0.2 10.1.0.7 10.1.0.8 1 5 1000 00000000
+link 10.0.0.2 10.0.0.3 10.1.0.3 10.1.0.4 1 10 1000 00000000
+link 10.0.0.1 10.0.0.3 10.1.0.5 10.1.0.6 1 20 1000 00000000
+",
+    b"topology 1
+node 10.0.0.1
+node 10.0.0.2
+node 10.0.0.3
+link 10.0.0.1 10.0.0.2 10.1.0.1 10.1.0.2 1 16777215 1000 00000000
+link 10.0.0.2 10.0.0.3 10.1.0.3 10.1.0.4 1 1 1000 00000000
+",
+];
+
 // Small networks of three domains: the same first and last domain round others in the middle.
 const FIRST: [&[u8]; 2] = [
     b"topology 1
@@ -188,17 +224,16 @@ fn cost_at(rows: &[(Addr, u32)], node: Addr) -> Option<u32> {
 // The costs of three domains computed backward, from the last to the first.
 fn backward(alloc: Global, texts: [&[u8]; 3]) -> Result<Option<u32>, Fail> {
     let [first, middle, last] = texts;
-    let cap = 16_777_215;
     let topology = topology_of(alloc, last)?;
     let entries = entries_from(alloc, &topology, As(2))?;
-    let job = job_of(alloc, topology, cap, &entries, Target::Node(END), &[])?;
+    let job = job_of(alloc, topology, CAP, &entries, Target::Node(END), &[])?;
     let down = rows_of(alloc, &job)?;
     let topology = topology_of(alloc, middle)?;
     let entries = entries_from(alloc, &topology, As(1))?;
-    let job = job_of(alloc, topology, cap, &entries, Target::Next(As(3)), &down)?;
+    let job = job_of(alloc, topology, CAP, &entries, Target::Next(As(3)), &down)?;
     let down = rows_of(alloc, &job)?;
     let topology = topology_of(alloc, first)?;
-    let job = job_of(alloc, topology, cap, &[START], Target::Next(As(2)), &down)?;
+    let job = job_of(alloc, topology, CAP, &[START], Target::Next(As(2)), &down)?;
     let rows = rows_of(alloc, &job)?;
     Ok(cost_at(&rows, START))
 }
@@ -209,6 +244,44 @@ fn listed(alloc: Global, texts: [&[u8]; 3]) -> Result<Option<u32>, Fail> {
         domains.push(topology_of(alloc, text)?)?;
     }
     Ok(least_crossing(domains.as_slice(), START, END))
+}
+
+fn nodes_of(alloc: Global, topology: &Topology) -> Result<Vec<Addr>, Fail> {
+    let mut nodes = Vec::new(alloc);
+    for place in 0..topology.node_count() {
+        nodes.push(topology.node_at(place))?;
+    }
+    Ok(nodes)
+}
+
+// Whether the costs to a node are the least of the walks that are listed, within the cap.
+fn agree_on(alloc: Global, text: &[u8], nodes: &[Addr], target: Addr) -> Result<bool, Fail> {
+    let topology = topology_of(alloc, text)?;
+    let job = job_of(alloc, topology, CAP, nodes, Target::Node(target), &[])?;
+    let rows = rows_of(alloc, &job)?;
+    let domain = topology_of(alloc, text)?;
+    for node in nodes {
+        let listed = match least_inner(&domain, *node, target, 5) {
+            Some(cost) if cost <= CAP => Some(cost),
+            _ => None,
+        };
+        if cost_at(&rows, *node) != listed {
+            return Ok(false);
+        }
+    }
+    Ok(true)
+}
+
+#[test]
+fn costs_in_a_domain_are_the_least_of_all_listed(rt: HostRuntime) -> Result<(), Fail> {
+    let alloc = rt.alloc();
+    for text in ALONE {
+        let nodes = nodes_of(alloc, &topology_of(alloc, text)?)?;
+        for target in nodes.as_slice() {
+            assert!(rt; agree_on(alloc, text, nodes.as_slice(), *target)?);
+        }
+    }
+    Ok(())
 }
 
 #[test]
