@@ -1,4 +1,4 @@
-ghost use Rattle.std.specs.Prelude.{◌≡◌, IfOk};
+ghost use Rattle.std.specs.Prelude.{◌≡◌, IfOk, IsOkAnd};
 ghost use Rattle.std.specs.Arc.{arc_value};
 ghost use Rattle.border_costs.specs.Solutions.{AreRows};
 
@@ -36,10 +36,10 @@ impl Model for Solved {
 }
 
 impl Solved {
-    /// The rows of a job as its solution. Takes no memory.
+    /// The rows of a job as its solution. It takes no memory, so it never answers want of it.
     pub fn of(job: &Job, rows: Rows) -> Result<Solved, NoMemory>
         requires rows { AreRows (arc_value job.now.topology) job.now.ask rows }
-        ensures solved { IfOk result (λ solved. solved ≡ record { ask = job.now.ask; topology = arc_value job.now.topology; rows = rows }) }
+        ensures solved { IsOkAnd result (λ solved. solved ≡ record { ask = job.now.ask; topology = arc_value job.now.topology; rows = rows }) }
     {
         Ok(Solved {
             ask: Snapshot::of(&job.ask),
