@@ -134,7 +134,7 @@ fn entries_have_their_best_ways(rt: HostRuntime) -> Result<(), Fail> {
 #[test]
 fn a_certificate_has_each_node(rt: HostRuntime) -> Result<(), Fail> {
     let alloc = rt.alloc();
-    let topology = topology_of(alloc, jobs::D3)?;
+    let topology = topology_of(alloc, jobs::TARGET_DOMAIN)?;
     let target = Target::Node(Addr(0x0A03_0009));
     let job = job_of(alloc, topology, 50, &[], target, &[])?;
     let solved = solve(alloc, &job)?;

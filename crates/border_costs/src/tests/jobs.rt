@@ -15,14 +15,14 @@ pub struct JobRow {
 }
 
 // The source's domain.
-const D1: &[u8] = b"topology 1
+const SOURCE_DOMAIN: &[u8] = b"topology 1
 node 10.1.0.1
 out 10.1.0.1 10.2.0.1 10.12.0.1 10.12.0.2 2 1 1 1000 00000000
 out 10.1.0.1 10.2.0.2 10.12.0.3 10.12.0.4 2 1 1 1000 00000000
 ";
 
 // Two borders that no link joins.
-const D2: &[u8] = b"topology 2
+const TRANSIT: &[u8] = b"topology 2
 node 10.2.0.1
 node 10.2.0.2
 out 10.2.0.1 10.3.0.1 10.23.0.1 10.23.0.2 3 1 1 1000 00000000
@@ -32,7 +32,7 @@ entry 10.2.0.2 1
 ";
 
 // The destination's domain.
-pub const D3: &[u8] = b"topology 3
+pub const TARGET_DOMAIN: &[u8] = b"topology 3
 node 10.3.0.1
 node 10.3.0.2
 node 10.3.0.9
@@ -43,7 +43,7 @@ entry 10.3.0.2 2
 ";
 
 // Two worlds with the same costs to both exits, over other nodes.
-const D2X: &[u8] = b"topology 2
+const TRANSIT_X: &[u8] = b"topology 2
 node 10.2.0.1
 node 10.2.0.5
 node 10.2.0.6
@@ -56,7 +56,7 @@ out 10.2.0.6 10.3.0.2 10.23.0.5 10.23.0.6 3 1 1 1000 00000000
 entry 10.2.0.1 1
 ";
 
-const D2Y: &[u8] = b"topology 2
+const TRANSIT_Y: &[u8] = b"topology 2
 node 10.2.0.1
 node 10.2.0.5
 node 10.2.0.6
@@ -86,7 +86,7 @@ const WIDE: u32 = 16_777_215;
 pub const JOBS: [JobRow; 12] = [
     JobRow {
         name: "equal sums go by the least far address",
-        topology: D2X,
+        topology: TRANSIT_X,
         cap: WIDE,
         entries: &[BORDER],
         target: Target::Next(As(3)),
@@ -95,7 +95,7 @@ pub const JOBS: [JobRow; 12] = [
     },
     JobRow {
         name: "and so they do where that exit is nearer",
-        topology: D2Y,
+        topology: TRANSIT_Y,
         cap: WIDE,
         entries: &[BORDER],
         target: Target::Next(As(3)),
@@ -104,7 +104,7 @@ pub const JOBS: [JobRow; 12] = [
     },
     JobRow {
         name: "one row beyond",
-        topology: D2X,
+        topology: TRANSIT_X,
         cap: WIDE,
         entries: &[BORDER],
         target: Target::Next(As(3)),
@@ -113,7 +113,7 @@ pub const JOBS: [JobRow; 12] = [
     },
     JobRow {
         name: "one row beyond, in the other world",
-        topology: D2Y,
+        topology: TRANSIT_Y,
         cap: WIDE,
         entries: &[BORDER],
         target: Target::Next(As(3)),
@@ -122,7 +122,7 @@ pub const JOBS: [JobRow; 12] = [
     },
     JobRow {
         name: "no row beyond",
-        topology: D2X,
+        topology: TRANSIT_X,
         cap: WIDE,
         entries: &[BORDER],
         target: Target::Next(As(3)),
@@ -131,7 +131,7 @@ pub const JOBS: [JobRow; 12] = [
     },
     JobRow {
         name: "several entries, in the order in which they are asked for",
-        topology: D2,
+        topology: TRANSIT,
         cap: WIDE,
         entries: &[OTHER_BORDER, BORDER],
         target: Target::Next(As(3)),
@@ -140,7 +140,7 @@ pub const JOBS: [JobRow; 12] = [
     },
     JobRow {
         name: "a head without a row, and two rows of a head",
-        topology: D2,
+        topology: TRANSIT,
         cap: WIDE,
         entries: &[BORDER, OTHER_BORDER],
         target: Target::Next(As(3)),
@@ -149,7 +149,7 @@ pub const JOBS: [JobRow; 12] = [
     },
     JobRow {
         name: "a cap that one exit meets",
-        topology: D2,
+        topology: TRANSIT,
         cap: 100,
         entries: &[BORDER, OTHER_BORDER],
         target: Target::Next(As(3)),
@@ -158,7 +158,7 @@ pub const JOBS: [JobRow; 12] = [
     },
     JobRow {
         name: "the source as an entry",
-        topology: D1,
+        topology: SOURCE_DOMAIN,
         cap: WIDE,
         entries: &[SOURCE],
         target: Target::Next(As(2)),
@@ -167,7 +167,7 @@ pub const JOBS: [JobRow; 12] = [
     },
     JobRow {
         name: "the last domain",
-        topology: D3,
+        topology: TARGET_DOMAIN,
         cap: WIDE,
         entries: &[HEAD, OTHER_HEAD, TARGET],
         target: Target::Node(TARGET),
@@ -176,7 +176,7 @@ pub const JOBS: [JobRow; 12] = [
     },
     JobRow {
         name: "a target that is no node, and an entry that is none",
-        topology: D3,
+        topology: TARGET_DOMAIN,
         cap: WIDE,
         entries: &[HEAD, SOURCE],
         target: Target::Node(BORDER),
@@ -185,7 +185,7 @@ pub const JOBS: [JobRow; 12] = [
     },
     JobRow {
         name: "out links to another domain alone",
-        topology: D2,
+        topology: TRANSIT,
         cap: WIDE,
         entries: &[BORDER],
         target: Target::Next(As(4)),
@@ -222,21 +222,21 @@ out 10.0.0.1 10.9.0.6 10.1.0.6 10.2.0.6 2 1 21 1000 00000000
 
 pub const TABLES: [TableRow; 5] = [
     TableRow {
-        topology: D2X,
+        topology: TRANSIT_X,
         cap: WIDE,
         entries: &[BORDER],
         target: Target::Next(As(3)),
         table: b"10.2.0.1 10.23.0.2 10.3.0.1 5\n10.2.0.1 10.23.0.6 10.3.0.2 5\n",
     },
     TableRow {
-        topology: D2Y,
+        topology: TRANSIT_Y,
         cap: WIDE,
         entries: &[BORDER],
         target: Target::Next(As(3)),
         table: b"10.2.0.1 10.23.0.2 10.3.0.1 5\n10.2.0.1 10.23.0.6 10.3.0.2 5\n",
     },
     TableRow {
-        topology: D3,
+        topology: TARGET_DOMAIN,
         cap: WIDE,
         entries: &[HEAD, OTHER_HEAD],
         target: Target::Node(TARGET),
