@@ -6,4 +6,5 @@ pub mod Scale
 pub mod NumeralLaws
 pub mod ReadDigits
 pub mod AddrLaws
+pub mod Ranks
 pub mod Cuts
