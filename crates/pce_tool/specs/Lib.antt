@@ -1,5 +1,4 @@
 pub mod Flow
-pub mod Hexadecimal
 pub mod Domain
 pub mod Requests
 pub mod Replies

@@ -16,7 +16,7 @@ use Rattle.pcep_messages.specs.Spelling.{message_text}
 use Rattle.pce_tool.specs.declared.reading.PathRequest.{PathRequest}
 use Rattle.pce_tool.specs.declared.domain.Chosen.{Chosen}
 use Rattle.pce_tool.specs.Domain.{ShowsLeast, HasNone, IsUnknownVector}
-use Rattle.pce_tool.specs.Hexadecimal.{hex_text}
+use Rattle.line_text.specs.Hexadecimal.{hex_text}
 
 -- the type of a METRIC (RFC 5440, section 7.8)
 abbrev pub metric_type : Metric → ℕ

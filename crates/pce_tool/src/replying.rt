@@ -3,7 +3,7 @@ ghost use Rattle.pce_tool.specs.Replies.{metric_type, strict_hop, IsPathAnswer, 
 ghost use Rattle.pcep_messages.specs.Spelling.{message_text};
 
 use crate::domain::{Chosen, DomainPath, search_domain, unknown_vector};
-use crate::hexadecimal::write_hex;
+use line_text::write_hex;
 use crate::reading::PathRequest;
 use dom_base::{Addr, List, Metric, NoMemory, word_of_cost};
 use pcep_messages::{Answer, Message, Path, Reply, Wanted, WriteError, write_message};

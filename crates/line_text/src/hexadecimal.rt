@@ -1,5 +1,6 @@
+//! Bytes as hexadecimal text, both ways.
 ghost use Rattle.std.specs.Prelude.{◌≡◌, ◌<◌, [], ◌∷◌, IfOk, MatchOption, None, Some};
-ghost use Rattle.pce_tool.specs.Hexadecimal.{is_blank, hex_digit, hex_pair, hex_bytes, hex_text, digit_text};
+ghost use Rattle.line_text.specs.Hexadecimal.{is_blank, hex_digit, hex_pair, hex_bytes, hex_text, digit_text};
 
 use dom_base::NoMemory;
 use std::alloc::{AllocFailed, Global};
@@ -12,7 +13,7 @@ pub enum HexError {
 }
 
 impl<T: Drop> From<AllocFailed<T>> for HexError {
-    ghost use Rattle.pce_tool.specs.declared.hexadecimal.HexError.TheVariants.{NoMemory};
+    ghost use Rattle.line_text.specs.declared.hexadecimal.HexError.TheVariants.{NoMemory};
 
     ghost from_gives = { λ _ e. e ≡ NoMemory };
 

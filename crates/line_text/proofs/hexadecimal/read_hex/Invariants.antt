@@ -1,7 +1,7 @@
 use Rattle.std.proofs.Common.{◌≡◌, ◌++◌, length}
 use Rattle.std.specs.Option.{option_map}
-use Rattle.pce_tool.specs.Hexadecimal.{hex_bytes}
-use Rattle.pce_tool.proofs.hexadecimal.read_hex.Given as goal
+use Rattle.line_text.specs.Hexadecimal.{hex_bytes}
+use Rattle.line_text.proofs.hexadecimal.read_hex.Given as goal
 
 abbrev pub invariant-loop-first : goal.invariant-loop-first
 invariant-loop-first l = option_map (λ bs. l.bytes.items ++ bs) (hex_bytes l.rest) ≡ hex_bytes l.text

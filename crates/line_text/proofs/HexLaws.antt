@@ -2,7 +2,7 @@
 use Rattle.std.proofs.Common.{◌≡◌, ℕ, true, false, List, [], ◌∷◌, ◌++◌, refl, sym, ◌∙◌, ap, append_assoc, None, Some}
 use Rattle.std.specs.declared.option.Option.{Option}
 use Rattle.std.specs.Option.{option_map}
-use Rattle.pce_tool.specs.Hexadecimal.{is_blank, hex_pair, with_byte, hex_bytes}
+use Rattle.line_text.specs.Hexadecimal.{is_blank, hex_pair, with_byte, hex_bytes}
 
 -- a blank in front of a text is skipped
 blank_first : (c : ℕ) (tail : List ℕ) → is_blank c ≡ true → hex_bytes (c ∷ tail) ≡ hex_bytes tail

@@ -1,7 +1,7 @@
 use Rattle.std.proofs.Common.{◌≡◌, sym, ◌∙◌, false}
-use Rattle.pce_tool.specs.Hexadecimal.{is_blank}
-use Rattle.pce_tool.proofs.HexLaws.{blank_skipped, pair_read}
-use Rattle.pce_tool.proofs.hexadecimal.read_hex.Goals as goal
+use Rattle.line_text.specs.Hexadecimal.{is_blank}
+use Rattle.line_text.proofs.HexLaws.{blank_skipped, pair_read}
+use Rattle.line_text.proofs.hexadecimal.read_hex.Goals as goal
 
 pub loop-first-preserved-then-is_space : goal.loop-first-preserved-then-is_space
 loop-first-preserved-then-is_space c =
