@@ -8,3 +8,4 @@ pub mod ReadDigits
 pub mod AddrLaws
 pub mod Ranks
 pub mod Cuts
+pub mod CostWords

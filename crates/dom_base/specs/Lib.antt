@@ -6,3 +6,4 @@ pub mod Numerals
 pub mod Steps
 pub mod AddrOrder
 pub mod AddrText
+pub mod Limits

@@ -1,3 +1,4 @@
+//! Numbers and colours as text, both ways.
 ghost use Rattle.std.specs.Prelude.{◌≡◌, ◌<◌, ◌≤◌, ◌+◌, ◌*◌, ◌^◌, ◌++◌, ℕ, Some, None, OnOk, OnErr, IfSome, decimal, if◌then◌else◌, nat_lt, ◌&&◌, SomeIff};
 ghost use Rattle.std.specs.Char.{digit_value, digit_char};
 ghost use Rattle.dom_base.specs.Numerals.{colour_in, colour_text, is_numeral, number_in, value};
