@@ -1,5 +1,5 @@
-use Rattle.pce_tool.proofs.Sizes.{reply_fits}
-use Rattle.pce_tool.proofs.replying.reply_message.Goals as goal
+use Rattle.one_domain.proofs.Sizes.{reply_fits}
+use Rattle.one_domain.proofs.replying.reply_of.Goals as goal
 
 pub returns-clause-fits : goal.returns-clause-fits
 returns-clause-fits c =

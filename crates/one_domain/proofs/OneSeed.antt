@@ -1,15 +1,18 @@
 -- With one seed, the target, a label is the least cost of a walk to it, and the chosen segment is such a walk.
-use Rattle.std.proofs.Common.{◌≡◌, inl, inr, ◌≤◌, List, [], ◌∷◌, arith, refl, sym, ◌∙◌, ap, None, Some}
+use Rattle.std.proofs.Common.{ℕ, subst, ◌≡◌, inl, inr, ◌≤◌, List, [], ◌∷◌, arith, refl, sym, ◌∙◌, ap, None, Some}
 use Rattle.std.specs.Prelude.{Contains, slice_index_or}
-use Rattle.dom_base.specs.declared.names.Addr.{Addr}
+use Rattle.dom_base.specs.declared.addr.Addr.{Addr}
 use Rattle.dom_base.specs.declared.link.Link.{Link}
 use Rattle.dom_base.specs.declared.query.Query.{Query}
 use Rattle.dom_base.specs.declared.query.Seed.{Seed}
 use Rattle.dom_base.specs.declared.query.Label.{Label}
 use Rattle.te_links.specs.Rows.{Rows}
 use Rattle.walk_laws.specs.Walks.{Walk, cost, IsFeasible, IsLeast}
+use Rattle.std.proofs.lemmas.Bool.{cases_lt}
+use Rattle.dom_base.specs.AddrOrder.{rank}
+use Rattle.walk_laws.specs.Borders.{JoinsAt}
 use Rattle.walk_laws.proofs.Admitted.{walk_admits}
-use Rattle.pce_tool.specs.Domain.{target_seeds}
+use Rattle.one_domain.specs.Domain.{target_seeds}
 use Rattle.walk_laws.specs.Labels.{◌≼◌, Reaches, IsLabel, IsSegment}
 
 abbrev pub seed_at : Addr → Seed
@@ -59,12 +62,23 @@ segment_least g q t u a ls is segment =
     bound other (inl lt) same = omega (arith, lt, same)
     bound other (inr le) same = omega (arith, le.0, same)
 
-pub none_feasible : (g : Rows) (q : Query) (t u : Addr) → IsLabel g q (target_seeds t) u None → (ls : List Link) → IsFeasible g q u t ls → ⊥
-none_feasible g q t u is ls f = is (record { cost = cost q ls; exit = t }) (reaching g q t u ls f)
+-- a least walk to the target gives its label
+bounded : (g : Rows) (q : Query) (t u : Addr) (a : Label) → JoinsAt g q t u a → (b : Label) → Reaches g q (target_seeds t) u b → a ≼ b
+bounded g q t u a joins b r =
+    let same = the_seed t r.seed r.is_seed in
+    let walk : Walk g q u t r.links = subst (λ (d : Seed). Walk g q u d.node r.links) same r.walk in
+    let free : r.seed.cost ≡ 0 = ap (λ (d : Seed). d.cost) same in
+    let exit : b.exit ≡ a.exit = r.exit ∙ ap (λ (d : Seed). d.exit) same ∙ sym joins.exit in
+    let feasible : IsFeasible g q u t r.links = record { walk = walk; within = omega (arith, r.within, r.sum, free) } in
+    let most : a.cost ≤ b.cost = omega (arith, joins.sum, joins.least.least r.links feasible, r.sum, free) in
+    elim (cases_lt a.cost b.cost) [
+      | inl less ↦ inl less
+      | inr no_less ↦ inr (omega arith, omega (arith, ap rank exit))
+    ]
 
-pub no_node : (g : Rows) (q : Query) (t u : Addr) → (Contains g.nodes u → ⊥) → (ls : List Link) → IsFeasible g q u t ls → ⊥
-no_node g q t u out ls f = out (walk_admits g q u t ls f.walk).is_node
-
--- the exit of a label is the target
-pub label_exit : (g : Rows) (q : Query) (t u : Addr) (a : Label) → IsLabel g q (target_seeds t) u (Some a) → a.exit ≡ t
-label_exit g q t u a is = is.0.exit ∙ ap (λ (s : Seed). s.exit) (the_seed t is.0.seed is.0.is_seed)
+pub joins_label : (g : Rows) (q : Query) (t u : Addr) (a : Label) → JoinsAt g q t u a → IsLabel g q (target_seeds t) u (Some a)
+joins_label g q t u a joins =
+    let make : ℕ → Addr → Label = λ n e. record { cost = n; exit = e } in
+    let here : Reaches g q (target_seeds t) u (make (cost q joins.links) t) = reaching g q t u joins.links joins.least.feasible in
+    let costs : Reaches g q (target_seeds t) u (make a.cost t) = subst (λ n. Reaches g q (target_seeds t) u (make n t)) (sym joins.sum) here in
+    (subst (λ e. Reaches g q (target_seeds t) u (make a.cost e)) (sym joins.exit) costs, bounded g q t u a joins)

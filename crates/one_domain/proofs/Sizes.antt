@@ -4,7 +4,8 @@ use Rattle.std.proofs.lemmas.Bool.{cases_lt}
 use Rattle.std.proofs.lemmas.Bool.Decides.{eqb_tells}
 use Rattle.std.proofs.lemmas.List.{length-map}
 use Rattle.std.proofs.lemmas.List.Concat.{flat_map-cons}
-use Rattle.dom_base.specs.declared.names.Addr.{Addr}
+use Rattle.dom_base.specs.declared.addr.Addr.{Addr}
+use Rattle.dom_base.specs.declared.addr.Addr.TheVariants.{V4, V6}
 use Rattle.dom_base.specs.declared.link.Link.{Link}
 use Rattle.dom_base.specs.declared.query.Query.{Query}
 use Rattle.dom_base.specs.declared.query.Seed.{Seed}
@@ -13,6 +14,7 @@ use Rattle.te_links.specs.Rows.{Rows, IsTopology}
 use Rattle.walk_laws.specs.Walks.{Walk, IsFeasible}
 use Rattle.walk_laws.specs.Labels.{◌≼◌, Reaches, IsLabel}
 use Rattle.walk_laws.proofs.Short.{segment_short}
+use Rattle.pcep_subobjects.specs.declared.hop.Hop.{Hop}
 use Rattle.pcep_subobjects.specs.Hops.{hop_text, hops_text}
 use Rattle.pcep_messages.specs.declared.message.Answer.{Answer}
 use Rattle.pcep_messages.specs.declared.message.Answer.TheVariants as answers
@@ -20,32 +22,19 @@ use Rattle.pcep_messages.specs.declared.message.Message.{Message}
 use Rattle.pcep_messages.specs.declared.message.Message.TheVariants as messages
 use Rattle.pcep_messages.specs.declared.message.Wanted.{Wanted}
 use Rattle.pcep_messages.specs.Spelling.{message_text}
-use Rattle.pce_tool.specs.Domain.{target_seeds, ShowsLeast}
-use Rattle.pce_tool.specs.Replies.{metric_type, strict_hop, IsAnswer}
-use Rattle.pce_tool.proofs.OneSeed.{the_seed, reaching}
+use Rattle.one_domain.specs.Domain.{target_seeds, ShowsLeast}
+use Rattle.pcep_subobjects.specs.Hops.{strict_hop}
+use Rattle.disclosure.specs.Shown.{open_of}
+use Rattle.one_domain.specs.Replies.{metric_type, IsAnswer}
+use Rattle.one_domain.proofs.OneSeed.{joins_label}
 
 -- ---- the path is short
-
-bounded : (g : Rows) (q : Query) (s t : Addr) (hops : List Addr) (total : ℕ) (sh : ShowsLeast g q s t hops total) (b : Label) → Reaches g q (target_seeds t) s b →
-    record { cost = total; exit = t } ≼ b
-bounded g q s t hops total sh b r =
-    let same = the_seed t r.seed r.is_seed in
-    let walk : Walk g q s t r.links = subst (λ (d : Seed). Walk g q s d.node r.links) same r.walk in
-    let free : r.seed.cost ≡ 0 = ap (λ (d : Seed). d.cost) same in
-    let exit : b.exit ≡ t = r.exit ∙ ap (λ (d : Seed). d.exit) same in
-    let feasible : IsFeasible g q s t r.links = record { walk = walk; within = omega (arith, r.within, r.sum, free) } in
-    let most : total ≤ b.cost = omega (arith, sh.is_cost, sh.least.least r.links feasible, r.sum, free) in
-    elim (cases_lt total b.cost) [
-      | inl less ↦ inl less
-      | inr no_less ↦ inr (omega arith, omega (arith, ap (λ (e : Addr). e.0) exit))
-    ]
 
 -- what is shown is the label of the source
 shows_label : (g : Rows) (q : Query) (s t : Addr) (hops : List Addr) (total : ℕ) → ShowsLeast g q s t hops total →
     IsLabel g q (target_seeds t) s (Some (record { cost = total; exit = t }))
 shows_label g q s t hops total sh =
-    let make : ℕ → Label = λ n. record { cost = n; exit = t } in
-    (subst (λ n. Reaches g q (target_seeds t) s (make n)) (sym sh.is_cost) (reaching g q t s sh.links sh.least.feasible), bounded g q s t hops total sh)
+    joins_label g q t s (record { cost = total; exit = t }) (record { links = sh.links; least = sh.least; sum = sh.is_cost; exit = refl })
 
 pub few_hops : (g : Rows) (q : Query) (s t : Addr) (hops : List Addr) (total : ℕ) → IsTopology g → ShowsLeast g q s t hops total → length hops ≤ 1025
 few_hops g q s t hops total valid sh =
@@ -54,18 +43,22 @@ few_hops g q s t hops total valid sh =
 
 -- ---- its text is short
 
-length-hops : (addrs : List Addr) → length (hops_text (map strict_hop addrs)) ≡ 8 * length addrs
-length-hops [] = refl
-length-hops (a ∷ addrs) =
-    ap length (flat_map-cons hop_text (strict_hop a) (map strict_hop addrs)) ∙ length-append (hop_text (strict_hop a)) (hops_text (map strict_hop addrs))
-    ∙ omega (arith, length-hops addrs)
+hop_short : (a : Addr) → length (hop_text (strict_hop a)) ≤ 20
+hop_short (V4 n) = omega arith
+hop_short (V6 n) = omega arith
+
+hops_short : (addrs : List Addr) → length (hops_text (open_of addrs)) ≤ 20 * length addrs
+hops_short [] = omega arith
+hops_short (a ∷ addrs) =
+    omega (arith, ap length (flat_map-cons hop_text (strict_hop a) (open_of addrs)), length-append (hop_text (strict_hop a)) (hops_text (open_of addrs)),
+    hop_short a, hops_short addrs)
 
 abbrev reply_of : ℕ → ℕ → Answer → Message
 reply_of flags id answer = messages.PcRep (record { flags = flags; id = id; answer = answer } ∷ [])
 
-path_text : (flags id kind word : ℕ) (addrs : List Addr) →
-    length (message_text (reply_of flags id (answers.Paths (record { hops = map strict_hop addrs; metric = Some (kind, word) } ∷ [])))) ≡ 32 + 8 * length addrs
-path_text flags id kind word addrs = simp (length-append, length-hops) (omega arith)
+path_text : (flags id kind word : ℕ) (hops : List Hop) →
+    length (message_text (reply_of flags id (answers.Paths (record { hops = hops; metric = Some (kind, word) } ∷ [])))) ≡ 32 + length (hops_text hops)
+path_text flags id kind word hops = simp (length-append) (omega arith)
 
 none_text : (flags id vector : ℕ) → length (message_text (reply_of flags id (answers.NoPath 0 vector))) ≤ 32
 none_text flags id vector = elim (eqb_tells vector 0) [ inl t ↦ rw t.0 (omega arith) | inr f ↦ rw f.0 (omega arith) ]
@@ -73,5 +66,5 @@ none_text flags id vector = elim (eqb_tells vector 0) [ inl t ↦ rw t.0 (omega 
 pub reply_fits : (g : Rows) (w : Wanted) (flags id : ℕ) (answer : Answer) → IsTopology g → IsAnswer g w answer → length (message_text (reply_of flags id answer)) ≤ 65532
 reply_fits g w flags id answer valid (inl a) =
     let few = few_hops g w.query w.source w.target a.addrs a.cost valid a.shows in
-    rw a.is (omega (arith, few, path_text flags id (metric_type w.query.metric) a.word a.addrs))
+    rw a.is (omega (arith, few, path_text flags id (metric_type w.query.metric) a.word (open_of a.addrs), hops_short a.addrs))
 reply_fits g w flags id answer valid (inr n) = rw n.is (omega (arith, none_text flags id n.vector))

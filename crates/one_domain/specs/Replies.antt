@@ -1,32 +1,25 @@
 -- The reply to a client in one domain (RFC 5440, section 6.5).
 use Rattle.std.specs.Prelude.{◌≡◌, ◌⊎◌, ℕ, false, List, [], ◌∷◌, ◌++◌, map, Some}
-use Rattle.dom_base.specs.declared.names.Addr.{Addr}
+use Rattle.dom_base.specs.declared.addr.Addr.{Addr}
 use Rattle.dom_base.specs.declared.query.Metric.{Metric}
 use Rattle.dom_base.specs.declared.query.Metric.TheVariants.{Igp, Te, Hops}
 use Rattle.dom_base.specs.Words.{HasValue}
 use Rattle.te_links.specs.Rows.{Rows}
-use Rattle.pcep_subobjects.specs.declared.hop.Hop.{Hop}
-use Rattle.pcep_subobjects.specs.declared.hop.Hop.TheVariants as hops
+use Rattle.disclosure.specs.Shown.{open_of}
 use Rattle.pcep_messages.specs.declared.message.Answer.{Answer}
 use Rattle.pcep_messages.specs.declared.message.Answer.TheVariants as answers
 use Rattle.pcep_messages.specs.declared.message.Message.{Message}
 use Rattle.pcep_messages.specs.declared.message.Message.TheVariants as messages
 use Rattle.pcep_messages.specs.declared.message.Wanted.{Wanted}
-use Rattle.pcep_messages.specs.Spelling.{message_text}
-use Rattle.pce_tool.specs.declared.reading.PathRequest.{PathRequest}
-use Rattle.pce_tool.specs.declared.domain.Chosen.{Chosen}
-use Rattle.pce_tool.specs.Domain.{ShowsLeast, HasNone, IsUnknownVector}
-use Rattle.line_text.specs.Hexadecimal.{hex_text}
+use Rattle.one_domain.specs.declared.replying.PathRequest.{PathRequest}
+use Rattle.one_domain.specs.declared.domain.Chosen.{Chosen}
+use Rattle.one_domain.specs.Domain.{ShowsLeast, HasNone, IsUnknownVector}
 
 -- the type of a METRIC (RFC 5440, section 7.8)
 abbrev pub metric_type : Metric → ℕ
 metric_type Igp = 1
 metric_type Te = 2
 metric_type Hops = 3
-
--- an address as a strict hop (RFC 3209, section 4.3.3.2)
-abbrev pub strict_hop : Addr → Hop
-strict_hop addr = hops.Prefix false addr 32
 
 -- a path of least cost, with a METRIC whose word is its cost
 pub record AnswersLeast (g : Rows) (w : Wanted) (answer : Answer) : Type 0 where
@@ -35,7 +28,7 @@ pub record AnswersLeast (g : Rows) (w : Wanted) (answer : Answer) : Type 0 where
   pub shows : ShowsLeast g w.query w.source w.target addrs cost
   pub word : ℕ
   pub value : HasValue word cost
-  pub is : answer ≡ answers.Paths (record { hops = map strict_hop addrs; metric = Some (metric_type w.query.metric, word) } ∷ [])
+  pub is : answer ≡ answers.Paths (record { hops = open_of addrs; metric = Some (metric_type w.query.metric, word) } ∷ [])
 
 -- there is no path within the cap: nature 0, with the bits for ends that are not known
 pub record AnswersNone (g : Rows) (w : Wanted) (answer : Answer) : Type 0 where
@@ -53,14 +46,8 @@ pub record IsReply (g : Rows) (r : PathRequest) (message : Message) : Type 0 whe
   pub is_answer : IsAnswer g r.wanted answer
   pub is : message ≡ messages.PcRep (record { flags = r.flags; id = r.id; answer = answer } ∷ [])
 
--- the reply as lower-case hexadecimal text, and a line end
-pub record IsReplyText (g : Rows) (r : PathRequest) (text : List ℕ) : Type 0 where
-  pub message : Message
-  pub is_reply : IsReply g r message
-  pub is_text : text ≡ hex_text (message_text message) ++ 10 ∷ []
-
 -- the answer with this path
 pub record IsPathAnswer (metric : Metric) (chosen : Chosen) (answer : Answer) : Type 0 where
   pub word : ℕ
   pub value : HasValue word chosen.cost
-  pub is : answer ≡ answers.Paths (record { hops = map strict_hop chosen.hops; metric = Some (metric_type metric, word) } ∷ [])
+  pub is : answer ≡ answers.Paths (record { hops = open_of chosen.hops; metric = Some (metric_type metric, word) } ∷ [])
