@@ -1,4 +1,3 @@
-pub mod Streaming
 pub mod OneSeed
 pub mod Shown
 pub mod HexLaws

@@ -1,4 +1,3 @@
-pub mod Flow
 pub mod Hexadecimal
 pub mod Domain
 pub mod Requests

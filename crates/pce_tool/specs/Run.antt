@@ -19,7 +19,7 @@ use Rattle.pce_tool.specs.declared.status.Status.TheVariants as status
 use Rattle.pce_tool.specs.declared.status.NetFault.{NetFault}
 use Rattle.pce_tool.specs.declared.status.NetFault.TheVariants.{Topo}
 use Rattle.pce_tool.specs.declared.limits.TheConstants.{TOPOLOGY_MAX, CERTIFICATE_MAX, INPUT_MAX}
-use Rattle.pce_tool.specs.Flow.{AppendsSome}
+use Rattle.dom_edge.specs.Whole.{AppendsSome}
 use Rattle.pce_tool.specs.Domain.{target_seeds}
 use Rattle.pce_tool.specs.Requests.{IsPathRequest, IsWhy}
 use Rattle.pce_tool.specs.Replies.{IsReplyText}

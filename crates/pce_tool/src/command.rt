@@ -4,13 +4,12 @@ ghost use Rattle.pce_tool.specs.Run.{Answer, Certify, Verify, command_of, world,
 use crate::certifying::certificate_text;
 use crate::domain::seeds_of;
 use crate::files::{load_certificate, load_topology};
-use crate::flow::{ReadError, read_all, write_all};
 use crate::limits::INPUT_MAX;
 use crate::reading::{PathRequest, RequestError, read_path_request};
 use crate::replying::reply_text;
 use crate::status::Status;
 use dom_base::{As, Text};
-use dom_edge::{Sink, Source, Store};
+use dom_edge::{ReadError, Sink, Source, Store, read_all, write_all};
 use path_certificate::{Verdict, check};
 use std::alloc::Global;
 
