@@ -2,6 +2,16 @@
 use Rattle.std.specs.Prelude.{◌≡◌, ◌⊎◌, ◌≤◌, ◌==◌, ◌&&◌, ℕ, ◌+◌, Bool, nat_lt, List, [], ◌∷◌, ◌++◌, length, filter, Option, Some, None, if◌then◌else◌}
 use Rattle.path_keys.specs.declared.issued.Issued.{Issued}
 
+-- how many keys may be live at once, the greatest number of a key, and the most ticks of a life
+abbrev pub live_most : ℕ
+live_most = 8192
+
+abbrev pub number_most : ℕ
+number_most = 65535
+
+abbrev pub life_most : ℕ
+life_most = 3600
+
 -- the keys that were issued and are not yet known to be dead, the oldest first
 pub record Keys (S : Type 0) : Type 0 where
   pub life : ℕ
@@ -18,7 +28,7 @@ live_at keys now = filter (is_live keys.life now) keys.issued
 
 -- numbers rise from 1, and 1 follows 65,535
 abbrev pub number_after : ℕ → ℕ
-number_after number = if number == 65535 then 1 else number + 1
+number_after number = if number == number_most then 1 else number + 1
 
 -- what the live key of a number stands for
 abbrev pub segment_among : {S : Type 0} → ℕ → ℕ → ℕ → List (Issued S) → Option S
@@ -44,10 +54,10 @@ expired_of keys now = record keys { clock = now; issued = live_at keys now }
 -- the number was given so many issues before the next
 pub record IsBack (next number back : ℕ) : Type 0 where
   pub some : 1 ≤ number
-  pub last : number ≤ 65535
+  pub last : number ≤ number_most
   pub one : 1 ≤ back
-  pub most : back ≤ 65535
-  pub place : (number + back ≡ next) ⊎ (number + back ≡ next + 65535)
+  pub most : back ≤ number_most
+  pub place : (number + back ≡ next) ⊎ (number + back ≡ next + number_most)
 
 -- the numbers follow one another, up to the next
 abbrev pub Follows : {S : Type 0} → ℕ → List (Issued S) → Type 0
@@ -61,9 +71,9 @@ Rises low (key ∷ keys) high = (low ≤ key.at.0) × Rises key.at.0 keys high
 
 pub record AreKeys {S : Type 0} (keys : Keys S) : Type 0 where
   pub life : 1 ≤ keys.life
-  pub life_most : keys.life ≤ 3600
+  pub life_few : keys.life ≤ life_most
   pub next : 1 ≤ keys.next
-  pub next_most : keys.next ≤ 65535
-  pub few : length keys.issued ≤ 32768
+  pub next_most : keys.next ≤ number_most
+  pub few : length keys.issued ≤ live_most
   pub numbers : Follows keys.next keys.issued
   pub ticks : Rises 0 keys.issued keys.clock

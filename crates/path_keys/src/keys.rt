@@ -1,6 +1,7 @@
+//! The table of keys: issued, looked up and forgotten.
 ghost use Rattle.std.specs.Prelude.{◌≡◌, ◌≢◌, ◌≤◌, ◌<◌, ◌+◌, ◌-◌, ◌↔◌, [], length, AllPairs, Err, IfOk, OnOk, OnErr};
 ghost use Rattle.std.specs.Option.{option_copied};
-ghost use Rattle.path_keys.specs.Keys.{live_at, segment_of, issue_of, expired_of, AreKeys};
+ghost use Rattle.path_keys.specs.Keys.{live_at, live_most, life_most, segment_of, issue_of, expired_of, AreKeys};
 
 use crate::KEYS_MAX;
 use crate::issued::Issued;
@@ -43,7 +44,7 @@ impl<S: Drop> PathKeys<S> {
     /// A table of no keys, each of which will live for so many ticks, 1 to 3,600.
     pub fn new(alloc: Global, life: u16) -> Result<PathKeys<S>, NoMemory>
         requires least { 1 ≤ life }
-        requires most { life ≤ 3600 }
+        requires most { life ≤ life_most }
         ensures { IfOk result (λ keys. keys.kept ≡ record { life = life; next = 1; clock = 0; issued = [] }) }
     {
         Ok(PathKeys {
@@ -70,7 +71,8 @@ impl<S: Drop> PathKeys<S> {
         requires { self.old.kept.clock ≤ now.0 }
         ensures number { IfOk result (λ number. number ≡ self.old.kept.next) }
         ensures ok { OnOk result (self.new.kept ≡ issue_of self.old.kept now.0 segment) }
-        ensures full { (result ≡ Err KeyError.KeysFull) ↔ (length (live_at self.old.kept now.0) ≡ 32768) }
+        ensures full { (result ≡ Err KeyError.KeysFull) ↔ (length (live_at self.old.kept now.0) ≡ live_most) }
+        ensures keys { AreKeys self.new.kept }
         ensures err { OnErr result (self.new.kept ≡ self.old.kept) }
         ensures reserved { 0 < self.old.spare → result ≢ Err KeyError.NoMemory }
         ensures room { self.old.spare ≤ self.new.spare + 1 }
@@ -107,7 +109,7 @@ impl<S: Drop> PathKeys<S> {
 
     /// How many more keys may be live; takes no memory.
     pub fn free(&self, now: Tick) -> u32
-        ensures { result + length (live_at self.now.kept now.0) ≡ 32768 }
+        ensures { result + length (live_at self.now.kept now.0) ≡ live_most }
     {
         let dead = dead_count(self.life, now, &self.issued);
         (KEYS_MAX - (self.issued.len() - dead)) as u32
@@ -138,6 +140,7 @@ impl<S: Drop> PathKeys<S> {
     pub fn expire(&mut self, now: Tick)
         requires { self.old.kept.clock ≤ now.0 }
         ensures kept { self.new.kept ≡ expired_of self.old.kept now.0 }
+        ensures keys { AreKeys self.new.kept }
         ensures room { self.old.spare ≤ self.new.spare }
     {
         let dead = dead_count(self.life, now, &self.issued);

@@ -1,7 +1,7 @@
 ghost use Rattle.std.specs.Prelude.{◌≡◌, ◌≤◌, length, Err};
 ghost use Rattle.pce_tool.specs.Requests.{one_request as one_request_of, Reads};
 
-use crate::hexadecimal::{HexError, read_hex};
+use line_text::{HexError, read_hex};
 use dom_base::As;
 use pcep_messages::{
     Asked, Bad, Message, Refusal, Request, Wanted, Wish, read_message, request_of,

@@ -1,3 +1,4 @@
+//! Whole messages, cut off the front of some bytes.
 ghost use Rattle.std.specs.Prelude.{◌≡◌, ◌≤◌, ◌<◌, drop, length, MatchOption, IfOk};
 ghost use Rattle.pcep_framing.specs.Frames.{IsHead, length_field, Cuts, Stops};
 
@@ -7,7 +8,7 @@ use std::alloc::Global;
 
 /// The messages at the front of some bytes, where they end, and whether a bad header stands there.
 #[derive(Drop)]
-pub struct Cut {
+pub(crate) struct Cut {
     pub frames: List<Bytes>,
     pub at: usize,
     pub bad: bool,
@@ -33,7 +34,7 @@ fn copy_of(alloc: Global, bytes: &[u8]) -> Result<Bytes, NoMemory>
 }
 
 /// Cuts the messages off the front.
-pub fn cut_front(alloc: Global, bytes: &[u8]) -> Result<Cut, NoMemory>
+pub(crate) fn cut_front(alloc: Global, bytes: &[u8]) -> Result<Cut, NoMemory>
     ensures cuts { IfOk result (λ c. Cuts bytes.now c.frames c.at) }
     ensures stops { IfOk result (λ c. Stops c.bad (drop c.at bytes.now)) }
 {

@@ -1,3 +1,4 @@
+//! The framer, which is fed a stream piece by piece.
 ghost use Rattle.std.specs.Prelude.{◌≡◌, ◌≤◌, ◌++◌, [], true, false, ℕ, Bool, List, length, drop, IfOk, OnErr, map};
 ghost use Rattle.pcep_framing.specs.Frames.{joined, Framing, Splits, AreFrames, Stops, FeedsTo};
 

@@ -6,7 +6,7 @@ mod framer;
 mod law;
 
 pub use framer::{Fed, Framer, frame_all};
-pub use law::{feeds_join, frames_are_one};
+pub use law::{feeds_as_said, feeds_join, frames_are_one};
 
 /// How long the header of a message is, in bytes.
 pub const HEADER_LENGTH: usize = 4;

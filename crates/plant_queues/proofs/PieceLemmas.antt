@@ -1,8 +1,9 @@
 -- Bytes cut into messages.
-use Rattle.std.proofs.Common.{◌≡◌, ℕ, suc, ◌+◌, ◌≤◌, List, [], ◌∷◌, ◌++◌, length, take, drop, sum, arith, refl, ap, length-drop, length-take}
-use Rattle.std.proofs.lemmas.List.{take-append-le, drop-append-le}
+use Rattle.std.proofs.Common.{◌≡◌, ◌==◌, Bool, true, false, Some, None, slice_get, sym, ℕ, suc, ◌+◌, ◌≤◌, List, [], ◌∷◌, ◌++◌, length, take, drop, sum, arith, refl, ap, ◌∙◌, length-drop, length-take}
+use Rattle.std.proofs.lemmas.List.{take-append-le, drop-append-le, take-append-drop}
+use Rattle.std.proofs.lemmas.Bool.{ne_eqb}
 use Rattle.std.proofs.lemmas.Grind.{common_steps}
-use Rattle.plant_queues.specs.Messages.{pieces, total, Queued, IsRoomAgain}
+use Rattle.plant_queues.specs.Messages.{pieces, joined, total, Queued, IsRoomAgain}
 
 sum_cons : (n : ℕ) (ns : List ℕ) → sum (n ∷ ns) ≡ n + sum ns
 sum_cons n ns = grind (arith, common_steps)
@@ -45,3 +46,21 @@ cleared old new lengths bytes is fits none messages more = rw none (rw is (recor
   messages = omega (arith, length-pieces lengths bytes);
   bytes = omega (arith, total-pieces lengths bytes fits);
 }))
+
+-- the pieces joined are the bytes
+pub joined-pieces : (lengths bytes : List ℕ) → sum lengths ≡ length bytes → joined (pieces lengths bytes) ≡ bytes
+joined-pieces [] [] fits = refl
+joined-pieces [] (b ∷ bytes) fits = absurd (omega (arith, fits))
+joined-pieces (n ∷ lengths) bytes fits =
+    let first : sum (n ∷ lengths) ≡ n + sum lengths = sum_cons n lengths in
+    let rest : sum lengths ≡ length (drop n bytes) = omega (arith, length-drop n bytes) in
+    ap (λ r. take n bytes ++ r) (joined-pieces lengths (drop n bytes) rest) ∙ take-append-drop n bytes
+
+-- whether there is a first message
+pub no_first : (messages : List (List ℕ)) → None ≡ slice_get messages 0 → true ≡ (length messages == 0)
+no_first [] none = refl
+no_first (m ∷ messages) none = absurd (let wrong : None ≡ Some m = none in cc)
+
+pub a_first : (messages : List (List ℕ)) (message : List ℕ) → Some message ≡ slice_get messages 0 → false ≡ (length messages == 0)
+a_first [] message some = absurd (let wrong : Some message ≡ None = some in cc)
+a_first (m ∷ messages) message some = sym (ne_eqb (suc (length messages)) 0 (λ e. omega (arith, e)))

@@ -3,7 +3,7 @@ use Rattle.std.proofs.Common.{◌≡◌, ℕ, zero, suc, ◌+◌, ◌-◌, ◌<�
 use Rattle.std.proofs.lemmas.List.{take-append-le, drop-append-le}
 use Rattle.std.proofs.Math.Seq.{take-length, drop-append_seam}
 use Rattle.plant_queues.specs.declared.said.Place.{Place}
-use Rattle.plant_queues.specs.declared.outcome.Sent.{Sent}
+use Rattle.plant_queues.specs.declared.sent.Sent.{Sent}
 use Rattle.plant_queues.specs.Messages.{Queued, total, IsRoomAgain}
 use Rattle.plant_queues.specs.Sents.{sent_of, size_of, sents, AreInRow}
 

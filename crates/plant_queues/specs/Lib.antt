@@ -1,4 +1,6 @@
+-- for readers
 pub mod Messages
-pub mod Fields
 pub mod Sents
+-- inner
+pub mod Fields
 pub mod SaidFields

@@ -1,5 +1,5 @@
 -- Messages in a row, and the room that is kept for more.
-use Rattle.std.specs.Prelude.{◌≤◌, ℕ, ◌+◌, List, [], ◌∷◌, length, take, drop}
+use Rattle.std.specs.Prelude.{◌≤◌, ℕ, ◌+◌, List, [], ◌∷◌, ◌++◌, length, take, drop}
 
 pub record Spare : Type 0 where
   pub messages : ℕ
@@ -14,6 +14,11 @@ pub record Queued (M : Type 0) : Type 0 where
 abbrev pub pieces : List ℕ → List ℕ → List (List ℕ)
 pieces [] bytes = []
 pieces (n ∷ lengths) bytes = take n bytes ∷ pieces lengths (drop n bytes)
+
+-- all messages, one behind the other
+abbrev pub joined : List (List ℕ) → List ℕ
+joined [] = []
+joined (message ∷ messages) = message ++ joined messages
 
 -- there is room for so much
 pub record Covers (spare : Spare) (count size : ℕ) : Type 0 where

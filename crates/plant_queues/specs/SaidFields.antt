@@ -3,7 +3,7 @@ use Rattle.std.specs.Prelude.{◌-◌, length, vec_len}
 use Rattle.std.specs.Vec.{vec_capacity}
 use Rattle.plant_queues.specs.Messages.{Queued}
 use Rattle.plant_queues.specs.Sents.{sents, AreInRow}
-use Rattle.plant_queues.specs.declared.outcome.Sent.{Sent}
+use Rattle.plant_queues.specs.declared.sent.Sent.{Sent}
 use Rattle.plant_queues.specs.declared.said.Said.TheInside.{Inside}
 
 abbrev pub said_of : Inside → Queued Sent

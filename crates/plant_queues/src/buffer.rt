@@ -1,8 +1,9 @@
+//! Bytes in one memory, of which the first may have left.
 ghost use Rattle.std.specs.Prelude.{◌≡◌, ◌≤◌, ◌+◌, ◌*◌, ◌/◌, ◌-◌, ◌++◌, drop, length, vec_len, IfSome};
 ghost use Rattle.std.specs.Vec.{vec_capacity};
 
 /// Drops the first bytes, in the same memory.
-pub fn drop_front(bytes: &mut Vec<u8>, count: usize)
+pub(crate) fn drop_front(bytes: &mut Vec<u8>, count: usize)
     requires { count ≤ length bytes.old.items }
     ensures rest { bytes.new.items ≡ drop count bytes.old.items }
     ensures room { vec_capacity bytes.old ≤ vec_capacity bytes.new }
@@ -13,7 +14,7 @@ pub fn drop_front(bytes: &mut Vec<u8>, count: usize)
 }
 
 /// Appends bytes for which there is room.
-pub fn append_within(bytes: &mut Vec<u8>, more: &[u8])
+pub(crate) fn append_within(bytes: &mut Vec<u8>, more: &[u8])
     requires { vec_len bytes.old + length more.now ≤ vec_capacity bytes.old }
     ensures all { bytes.new.items ≡ bytes.old.items ++ more.now }
     ensures room { vec_capacity bytes.old ≤ vec_capacity bytes.new }
@@ -26,7 +27,7 @@ pub fn append_within(bytes: &mut Vec<u8>, more: &[u8])
 
 /// Makes the room behind the bytes at least so large, and says where those in use begin then. They
 /// are moved only where the room behind them is too small, so after at least as many have left.
-pub fn settle(bytes: &mut Vec<u8>, head: usize, count: usize) -> usize
+pub(crate) fn settle(bytes: &mut Vec<u8>, head: usize, count: usize) -> usize
     requires within { head ≤ length bytes.old.items }
     requires room { vec_len bytes.old - head + count ≤ vec_capacity bytes.old / 2 }
     ensures same { drop result bytes.new.items ≡ drop head bytes.old.items }
@@ -43,7 +44,7 @@ pub fn settle(bytes: &mut Vec<u8>, head: usize, count: usize) -> usize
 }
 
 /// The memory in which so many bytes and so many more are one half, unless there is no such number.
-pub fn wanted(used: usize, more: usize) -> Option<usize>
+pub(crate) fn wanted(used: usize, more: usize) -> Option<usize>
     ensures { IfSome result (λ n. n ≡ 2 * (used + more)) }
 {
     let together = used.checked_add(more)?;

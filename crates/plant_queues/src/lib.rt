@@ -1,11 +1,11 @@
-//! Queues of messages that take no memory but by their `reserve`, and what a step of a plant answers.
+//! Queues of messages, and the messages of a step, that take no memory but by their `reserve`.
 #![tactic(auto)]
 
 mod buffer;
-mod outcome;
 mod queue;
 mod said;
+mod sent;
 
-pub use outcome::{Outcome, Refused, Sent};
 pub use queue::Queue;
 pub use said::{Place, Said};
+pub use sent::Sent;

@@ -1,6 +1,7 @@
-ghost use Rattle.std.specs.Prelude.{◌≡◌, ◌≤◌, ◌+◌, ◌-◌, ◌++◌, [], ◌∷◌, drop, length, slice_get, OnOk};
+//! A queue of messages.
+ghost use Rattle.std.specs.Prelude.{◌≡◌, ◌≤◌, ◌+◌, ◌-◌, ◌++◌, [], ◌∷◌, drop, length, slice_get, OnOk, ◌==◌};
 ghost use Rattle.std.specs.Option.{option_copied};
-ghost use Rattle.plant_queues.specs.Messages.{Covers, IsRoomAgain};
+ghost use Rattle.plant_queues.specs.Messages.{Covers, IsRoomAgain, joined};
 
 use crate::buffer::{append_within, drop_front, settle, wanted};
 use dom_base::NoMemory;
@@ -77,6 +78,23 @@ impl Queue {
         }
     }
 
+    /// Whether there is no message.
+    pub fn is_empty(&self) -> bool
+        ensures { result ≡ (length self.now.kept == 0) }
+    {
+        match self.first() {
+            Some(_) => false,
+            None => true,
+        }
+    }
+
+    /// The bytes of all messages, one behind the other, which stay in the queue.
+    pub fn joined(&self) -> &[u8]
+        ensures { result.now ≡ joined self.now.kept }
+    {
+        &self.bytes[self.head..]
+    }
+
     /// The first message.
     pub fn first(&self) -> Option<&[u8]>
         ensures { option_copied result ≡ slice_get self.now.kept 0 }
@@ -120,12 +138,15 @@ mod tests {
         queue.put(b"abc");
         queue.put(b"de");
         assert_eq!(rt; queue.first().unwrap_or(b"none"), b"abc".as_slice());
+        assert_eq!(rt; queue.joined(), b"abcde".as_slice());
         queue.pop();
         assert_eq!(rt; queue.first().unwrap_or(b"none"), b"de".as_slice());
         queue.put(b"xyz");
+        assert_eq!(rt; queue.joined(), b"dexyz".as_slice());
         queue.pop();
         assert_eq!(rt; queue.first().unwrap_or(b"none"), b"xyz".as_slice());
         queue.clear();
+        assert!(rt; queue.is_empty() && queue.joined().is_empty());
         assert!(rt; queue.first().is_none());
         queue.pop();
         goes_to_a_thread(&queue);

@@ -1,3 +1,4 @@
+//! The messages that one step puts into queues.
 ghost use Rattle.std.specs.Prelude.{◌≡◌, ◌≤◌, ◌<◌, ◌+◌, ◌↔◌, ◌-◌, ◌++◌, take, drop, [], ◌∷◌, length, slice_get, Some, OnOk, ◌==◌};
 ghost use Rattle.std.specs.Option.{option_map};
 ghost use Rattle.plant_queues.specs.Messages.{Covers, IsRoomAgain};
@@ -26,7 +27,7 @@ pub struct Said {
 
 impl Model for Said {
     ghost use Rattle.plant_queues.specs.Messages.{Queued};
-    ghost use Rattle.plant_queues.specs.declared.outcome.Sent.{Sent};
+    ghost use Rattle.plant_queues.specs.declared.sent.Sent.{Sent};
 
     ghost Value = { Queued Sent };
 

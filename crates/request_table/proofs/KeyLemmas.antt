@@ -16,7 +16,7 @@ both_true false b h = absurd (let no : false ≡ true = h in cc)
 number_is : (a b : ℕ) → nat_eq a b ≡ true → a ≡ b
 number_is a b h = grind (arith, common_steps)
 
-same_peer_is : (a b : Peer) → same_peer a b ≡ true → a ≡ b
+pub same_peer_is : (a b : Peer) → same_peer a b ≡ true → a ≡ b
 same_peer_is (Outside a) (Outside b) h = ap Outside (number_is a b h)
 same_peer_is (Inner a) (Inner b) h = ap (λ (n : ℕ). let number : As = record { 0 = n } in Inner number) (number_is a.0 b.0 h)
 same_peer_is (Outside a) (Inner b) h = absurd (let no : false ≡ true = h in cc)
@@ -27,7 +27,7 @@ same_key_is a b h =
     let both = both_true (same_peer a.peer b.peer) (nat_eq a.id b.id) h in
     ap (λ (peer : Peer). key_of peer a.id) (same_peer_is a.peer b.peer both.0) ∙ ap (λ (id : ℕ). key_of b.peer id) (number_is a.id b.id both.1)
 
-same_peer_back : (a b : Peer) → same_peer a b ≡ same_peer b a
+pub same_peer_back : (a b : Peer) → same_peer a b ≡ same_peer b a
 same_peer_back (Outside a) (Outside b) = nat_eq_equiv.symm a b
 same_peer_back (Inner a) (Inner b) = nat_eq_equiv.symm a.0 b.0
 same_peer_back (Outside a) (Inner b) = refl
@@ -39,7 +39,7 @@ same_key_back a b = rw (same_peer_back a.peer b.peer, nat_eq_equiv.symm a.id b.i
 same_number : (n : ℕ) → nat_eq n n ≡ true
 same_number n = grind (arith, common_steps)
 
-same_peer_self : (a : Peer) → same_peer a a ≡ true
+pub same_peer_self : (a : Peer) → same_peer a a ≡ true
 same_peer_self (Outside a) = same_number a
 same_peer_self (Inner a) = same_number a.0
 

@@ -1,3 +1,4 @@
 pub mod KeyLemmas
 pub mod PendingLemmas
 pub mod LendLemmas
+pub mod FindLemmas

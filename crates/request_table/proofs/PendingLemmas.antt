@@ -25,7 +25,7 @@ insert_last low high number [] held rises above = refl
 insert_last low high number (row ∷ rows) held rises above =
     rw (test_false number row.0 (omega (arith, NumbersRise-last row.0 high rows rises.1))) (ap (λ rest. row ∷ rest) (insert_last row.0 high number rows held rises.1 above))
 
-NumbersRise-append : {T : Type 0} (low high number : ℕ) (rows : List (ℕ × Held T)) (held : Held T) → NumbersRise low rows high → high < number → NumbersRise low (rows ++ (number, held) ∷ []) number
+pub NumbersRise-append : {T : Type 0} (low high number : ℕ) (rows : List (ℕ × Held T)) (held : Held T) → NumbersRise low rows high → high < number → NumbersRise low (rows ++ (number, held) ∷ []) number
 NumbersRise-append low high number [] held rises above = (omega (arith, rises), omega arith)
 NumbersRise-append low high number (row ∷ rows) held rises above = (rises.0, NumbersRise-append row.0 high number rows held rises.1 above)
 
@@ -33,7 +33,7 @@ NumbersRise-weaker : {T : Type 0} (low more high : ℕ) (rows : List (ℕ × Hel
 NumbersRise-weaker low more high [] le rises = omega arith
 NumbersRise-weaker low more high (row ∷ rows) le rises = (omega (arith, rises.0), rises.1)
 
-NumbersRise-remove : {T : Type 0} (test : ℕ → Bool) (low high : ℕ) (rows : List (ℕ × Held T)) → NumbersRise low rows high → NumbersRise low (remove_entry test rows) high
+pub NumbersRise-remove : {T : Type 0} (test : ℕ → Bool) (low high : ℕ) (rows : List (ℕ × Held T)) → NumbersRise low rows high → NumbersRise low (remove_entry test rows) high
 NumbersRise-remove test low high [] rises = rises
 NumbersRise-remove test low high (row ∷ rows) rises =
     elim (cases_Bool (test row.0)) [
@@ -41,7 +41,7 @@ NumbersRise-remove test low high (row ∷ rows) rises =
       | inr miss ↦ rw miss (rises.0, NumbersRise-remove test row.0 high rows rises.1)
     ]
 
-length-remove : {T : Type 0} (test : ℕ → Bool) (rows : List (ℕ × Held T)) → length (remove_entry test rows) ≤ length rows
+pub length-remove : {T : Type 0} (test : ℕ → Bool) (rows : List (ℕ × Held T)) → length (remove_entry test rows) ≤ length rows
 length-remove test [] = omega arith
 length-remove test (row ∷ rows) =
     elim (cases_Bool (test row.0)) [
@@ -62,7 +62,7 @@ none_removed key test (row ∷ rows) none =
           ]
     ]
 
-AreNamedOnce-remove : {T : Type 0} (test : ℕ → Bool) (rows : List (ℕ × Held T)) → AreNamedOnce rows → AreNamedOnce (remove_entry test rows)
+pub AreNamedOnce-remove : {T : Type 0} (test : ℕ → Bool) (rows : List (ℕ × Held T)) → AreNamedOnce rows → AreNamedOnce (remove_entry test rows)
 AreNamedOnce-remove test [] once = tt
 AreNamedOnce-remove test (row ∷ rows) once =
     elim (cases_Bool (test row.0)) [
@@ -90,7 +90,7 @@ own_appended number (row ∷ rows) held none =
       | inr miss ↦ rw miss (own_appended number rows held (rw miss at none))
     ]
 
-AreNamedOnce-append : {T : Type 0} (number : ℕ) (rows : List (ℕ × Held T)) (held : Held T) → AreNamedOnce rows → number_among held.key rows ≡ None → AreNamedOnce (rows ++ (number, held) ∷ [])
+pub AreNamedOnce-append : {T : Type 0} (number : ℕ) (rows : List (ℕ × Held T)) (held : Held T) → AreNamedOnce rows → number_among held.key rows ≡ None → AreNamedOnce (rows ++ (number, held) ∷ [])
 AreNamedOnce-append number [] held once none = (refl, tt)
 AreNamedOnce-append number (row ∷ rows) held once none =
     elim (cases_Bool (same_key held.key row.1.key)) [
@@ -102,7 +102,7 @@ AreNamedOnce-append number (row ∷ rows) held once none =
     ]
 
 -- where each peer and id is looked up, with one more
-opened_index : {T : Type 0} (number : ℕ) (rows : List (ℕ × Held T)) (held : Held T) → number_among held.key rows ≡ None → (key : RequestKey) →
+pub opened_index : {T : Type 0} (number : ℕ) (rows : List (ℕ × Held T)) (held : Held T) → number_among held.key rows ≡ None → (key : RequestKey) →
     cond (same_key held.key key) (Some number) (number_among key rows) ≡ number_among key (rows ++ (number, held) ∷ [])
 opened_index number rows held none key =
     elim (cases_Bool (same_key held.key key)) [
@@ -113,7 +113,7 @@ opened_index number rows held none key =
     ]
 
 -- a request that is there has its peer and id in the rows
-named_there : {T : Type 0} (number : ℕ) (rows : List (ℕ × Held T)) (held : Held T) → lookup (nat_eq number) rows ≡ Some held → number_among held.key rows ≡ None → ⊥
+pub named_there : {T : Type 0} (number : ℕ) (rows : List (ℕ × Held T)) (held : Held T) → lookup (nat_eq number) rows ≡ Some held → number_among held.key rows ≡ None → ⊥
 named_there number [] held found none = let no : None ≡ Some held = found in cc
 named_there number (row ∷ rows) held found none =
     elim (cases_Bool (same_key held.key row.1.key)) [
@@ -130,7 +130,7 @@ named_there number (row ∷ rows) held found none =
     ]
 
 -- where each peer and id is looked up, without one
-closed_index : {T : Type 0} (number : ℕ) (rows : List (ℕ × Held T)) (held : Held T) → AreNamedOnce rows → lookup (nat_eq number) rows ≡ Some held → (key : RequestKey) →
+pub closed_index : {T : Type 0} (number : ℕ) (rows : List (ℕ × Held T)) (held : Held T) → AreNamedOnce rows → lookup (nat_eq number) rows ≡ Some held → (key : RequestKey) →
     cond (same_key held.key key) None (number_among key rows) ≡ number_among key (remove_entry (nat_eq number) rows)
 closed_index number [] held once found key = absurd (let no : None ≡ Some held = found in cc)
 closed_index number (row ∷ rows) held once found key =

@@ -1,5 +1,5 @@
 -- The requests that are pending, in the order of their numbers.
-use Rattle.std.specs.Prelude.{◌≡◌, ◌⊎◌, ◌≤◌, ◌<◌, ◌&&◌, ◌^◌, ◌-◌, ℕ, ◌+◌, Bool, false, nat_eq, List, [], ◌∷◌, ◌++◌, length, Option, Some, None, if◌then◌else◌}
+use Rattle.std.specs.Prelude.{◌≡◌, ◌⊎◌, ◌≤◌, ◌<◌, ◌&&◌, ◌||◌, ◌==◌, ◌^◌, ◌-◌, ℕ, ◌+◌, Bool, false, nat_eq, nat_le, slice_get, List, [], ◌∷◌, ◌++◌, length, Option, Some, None, if◌then◌else◌}
 use Rattle.std.specs.Option.{option_map}
 use Rattle.std.specs.Map.{lookup, remove_entry}
 use Rattle.dom_base.specs.declared.names.Peer.{Peer}
@@ -42,6 +42,21 @@ item_of pending number = option_map (λ held. held.item) (lookup (nat_eq number)
 -- there is no room, or no number, for one more
 abbrev pub IsFull : {T : Type 0} → Pending T → Type 0
 IsFull pending = (pending.limit ≤ length pending.rows) ⊎ (pending.given ≡ 2 ^ 64 - 1)
+
+abbrev pub is_full : {T : Type 0} → Pending T → Bool
+is_full pending = nat_le pending.limit (length pending.rows) || (pending.given == 2 ^ 64 - 1)
+
+-- whose the request of this number is, and the id that it has there
+abbrev pub key_at : {T : Type 0} → Pending T → ℕ → Option RequestKey
+key_at pending number = option_map (λ held. held.key) (lookup (nat_eq number) pending.rows)
+
+-- the number at a place
+abbrev pub nth_of : {T : Type 0} → Pending T → ℕ → Option ℕ
+nth_of pending k = option_map (λ row. row.0) (slice_get pending.rows k)
+
+-- how many requests an element may have pending
+abbrev pub pending_most : ℕ
+pending_most = 1024
 
 -- with one more, and without one
 abbrev pub opened_of : {T : Type 0} → Pending T → Peer → ℕ → T → Pending T

@@ -1,3 +1,4 @@
+//! A pending request, and what names it.
 use dom_base::Peer;
 
 /// Who asked, and the id that it gave its request. No two pending requests have the same.

@@ -2,9 +2,11 @@
 #![tactic(auto)]
 
 mod held;
+mod law;
 mod requests;
 
 pub use held::{Held, RequestKey};
+pub use law::{finds_after_close, finds_after_open, full_is_tested};
 pub use requests::{OpenError, Requests};
 
 /// How many requests an element may have pending.

@@ -1,7 +1,8 @@
+//! The table of pending requests.
 ghost use Rattle.std.specs.Prelude.{◌≡◌, ◌≢◌, ◌≤◌, ◌<◌, ◌+◌, ◌↔◌, ◌==◌, [], length, slice_get, Err, None, IfOk, OnOk, OnErr, IfErr, IsSome};
 ghost use Rattle.std.specs.Borrow.{sem};
 ghost use Rattle.std.specs.Option.{option_copied, option_copied_mut, option_map};
-ghost use Rattle.request_table.specs.Pending.{number_of, item_of, opened_of, closed_of, handed_back, IsFull, ArePending};
+ghost use Rattle.request_table.specs.Pending.{number_of, item_of, key_at, nth_of, pending_most, opened_of, closed_of, handed_back, IsFull, ArePending};
 
 use crate::PENDING_MAX;
 use crate::held::{Held, RequestKey};
@@ -45,7 +46,7 @@ impl<T: Drop> Requests<T> {
 
     /// No requests, with the limit of an element.
     pub fn new(alloc: Global) -> Result<Requests<T>, NoMemory>
-        ensures { IfOk result (λ table. table.kept ≡ record { limit = 1024; given = 0; rows = [] }) }
+        ensures { IfOk result (λ table. table.kept ≡ record { limit = pending_most; given = 0; rows = [] }) }
     {
         Requests::with_limit(alloc, PENDING_MAX)
     }
@@ -68,7 +69,6 @@ impl<T: Drop> Requests<T> {
         ensures count { result ≡ length self.now.kept.rows }
         ensures rules { ArePending self.now.kept }
     {
-        let _limit = self.limit;
         self.rows.len()
     }
 
@@ -145,6 +145,16 @@ impl<T: Drop> Requests<T> {
         }
     }
 
+    /// Whose a request is, and its id there.
+    pub fn key(&self, number: u64) -> Option<RequestKey>
+        ensures { result ≡ key_at self.now.kept number }
+    {
+        match self.rows.get(&number) {
+            Some(held) => Some(held.key),
+            None => None,
+        }
+    }
+
     /// What belongs to a request, to write.
     pub fn get_mut(&mut self, number: u64) -> Option<&mut T>
         ensures* writes_back { sem 𝓛 (lends_item T.row self.entry number result) }
@@ -158,7 +168,7 @@ impl<T: Drop> Requests<T> {
 
     /// The number of the k-th request.
     pub fn nth(&self, k: usize) -> Option<u64>
-        ensures { result ≡ option_map (λ row. row.0) (slice_get self.now.kept.rows k) }
+        ensures { result ≡ nth_of self.now.kept k }
     {
         match self.rows.get_index(k) {
             Some((number, _)) => Some(*number),

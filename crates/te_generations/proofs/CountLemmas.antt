@@ -12,13 +12,13 @@ all_pins-loaded s topology =
       | inr some ↦ rw (test_false s.current.pins 0 some) (omega (arith, pin_count-push s.older s.current))
     ]
 
-pins_last : {T : Type 0} (low : ℕ) (gs : List (Generation T)) (g : Generation T) → ArePinned low gs g.number → pins_among g.number (gs ++ g ∷ []) ≡ g.pins
+pub pins_last : {T : Type 0} (low : ℕ) (gs : List (Generation T)) (g : Generation T) → ArePinned low gs g.number → pins_among g.number (gs ++ g ∷ []) ≡ g.pins
 pins_last low [] g pinned = rw (test_true g.number g.number refl) refl
 pins_last low (one ∷ gs) g pinned =
     rw (test_false one.number g.number (λ same. omega (arith, same, bound_of (one.number + 1) g.number gs pinned.2)))
     (pins_last (one.number + 1) gs g pinned.2)
 
-pins_push : {T : Type 0} (number : ℕ) (gs : List (Generation T)) (g : Generation T) → 1 ≤ pins_among number gs → pins_among number (gs ++ g ∷ []) ≡ pins_among number gs
+pub pins_push : {T : Type 0} (number : ℕ) (gs : List (Generation T)) (g : Generation T) → 1 ≤ pins_among number gs → pins_among number (gs ++ g ∷ []) ≡ pins_among number gs
 pins_push number [] g some = absurd (omega arith)
 pins_push number (one ∷ gs) g some =
     elim (cases_eq one.number number) [
@@ -50,9 +50,6 @@ pinned_pins s number some =
       | inl same ↦ rw (test_true s.current.number number same) (omega arith)
       | inr other ↦ rw (test_false s.current.number number other) (rw (test_false s.current.number number other) at some)
     ]
-
-pub pinned_shelf : {T : Type 0} (s : Shelf T) → IsShelf s → all_pins s < 1024 → IsShelf (pinned_of s)
-pinned_shelf s is room = record { few = is.few; pins = omega arith; older = is.older }
 
 -- the same, whether the load is refused or not
 pub count_after : {T E : Type 0} (r : Result ℕ E) (s new : Shelf T) (topology : T) → OnOk r (new ≡ loaded_of s topology) → OnErr r (new ≡ s) → all_pins new ≡ all_pins s

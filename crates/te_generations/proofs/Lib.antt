@@ -1,3 +1,4 @@
 pub mod ShelfLemmas
 pub mod RunLemmas
 pub mod CountLemmas
+pub mod FullLemmas

@@ -6,7 +6,7 @@ use Rattle.te_generations.specs.Runs.{load, pin, release, KeepsTopology, PinGive
 use Rattle.te_generations.proofs.ShelfLemmas.{test_false, test_true, shelf_push, shelf_next, shelf_released}
 
 -- a number below all has no pin, and one at the bound neither
-none_below : {T : Type 0} (number low high : ℕ) (gs : List (Generation T)) → ArePinned low gs high → number < low → pins_among number gs ≡ 0
+pub none_below : {T : Type 0} (number low high : ℕ) (gs : List (Generation T)) → ArePinned low gs high → number < low → pins_among number gs ≡ 0
 none_below number low high [] pinned below = refl
 none_below number low high (g ∷ gs) pinned below =
     rw (test_false g.number number (λ same. omega (arith, same, pinned.0))) (none_below number (g.number + 1) high gs pinned.2 (omega (arith, pinned.0)))
@@ -23,13 +23,13 @@ below_bound number low high (g ∷ gs) pinned some =
       | inr other ↦ below_bound number (g.number + 1) high gs pinned.2 (rw (test_false g.number number other) at some)
     ]
 
-topology_last : {T : Type 0} (low : ℕ) (gs : List (Generation T)) (g : Generation T) → ArePinned low gs g.number → topology_among g.number (gs ++ g ∷ []) ≡ Some g.topology
+pub topology_last : {T : Type 0} (low : ℕ) (gs : List (Generation T)) (g : Generation T) → ArePinned low gs g.number → topology_among g.number (gs ++ g ∷ []) ≡ Some g.topology
 topology_last low [] g pinned = rw (test_true g.number g.number refl) refl
 topology_last low (one ∷ gs) g pinned =
     rw (test_false one.number g.number (λ same. omega (arith, same, bound_of (one.number + 1) g.number gs pinned.2)))
     (topology_last (one.number + 1) gs g pinned.2)
 
-topology_push : {T : Type 0} (number : ℕ) (gs : List (Generation T)) (g : Generation T) → 1 ≤ pins_among number gs → topology_among number (gs ++ g ∷ []) ≡ topology_among number gs
+pub topology_push : {T : Type 0} (number : ℕ) (gs : List (Generation T)) (g : Generation T) → 1 ≤ pins_among number gs → topology_among number (gs ++ g ∷ []) ≡ topology_among number gs
 topology_push number [] g some = absurd (omega arith)
 topology_push number (one ∷ gs) g some =
     elim (cases_eq one.number number) [
@@ -37,7 +37,7 @@ topology_push number (one ∷ gs) g some =
       | inr other ↦ rw (test_false one.number number other) (topology_push number gs g (rw (test_false one.number number other) at some))
     ]
 
-load_keeps : {T : Type 0} (s : Shelf T) (number : ℕ) (topology : T) → IsShelf s → 1 ≤ pins_of s number → topology_of (loaded_of s topology) number ≡ topology_of s number
+pub load_keeps : {T : Type 0} (s : Shelf T) (number : ℕ) (topology : T) → IsShelf s → 1 ≤ pins_of s number → topology_of (loaded_of s topology) number ≡ topology_of s number
 load_keeps s number topology is some =
     elim (cases_eq s.current.number number) [
       | inl same ↦
@@ -54,7 +54,7 @@ load_keeps s number topology is some =
           ])
     ]
 
-released_keeps : {T : Type 0} (number gone low high : ℕ) (gs : List (Generation T)) → ArePinned low gs high → 1 ≤ pins_among number (released_among gone gs) →
+pub released_keeps : {T : Type 0} (number gone low high : ℕ) (gs : List (Generation T)) → ArePinned low gs high → 1 ≤ pins_among number (released_among gone gs) →
     topology_among number (released_among gone gs) ≡ topology_among number gs
 released_keeps number gone low high [] pinned some = refl
 released_keeps number gone low high (g ∷ gs) pinned some =
@@ -76,7 +76,7 @@ released_keeps number gone low high (g ∷ gs) pinned some =
           ]
     ]
 
-release_keeps : {T : Type 0} (s : Shelf T) (number gone : ℕ) → IsShelf s → 1 ≤ pins_of (released_of s gone) number → topology_of (released_of s gone) number ≡ topology_of s number
+pub release_keeps : {T : Type 0} (s : Shelf T) (number gone : ℕ) → IsShelf s → 1 ≤ pins_of (released_of s gone) number → topology_of (released_of s gone) number ≡ topology_of s number
 release_keeps s number gone is some =
     elim (cases_eq s.current.number gone) [
       | inl same ↦ rw (test_true s.current.number gone same) refl
@@ -90,7 +90,7 @@ release_keeps s number gone is some =
     ]
 
 -- each call leaves a shelf
-load_shelf : {T : Type 0} (s : Shelf T) (topology : T) → IsShelf s → ¬ IsFull s → IsShelf (loaded_of s topology)
+pub load_shelf : {T : Type 0} (s : Shelf T) (topology : T) → IsShelf s → ¬ IsFull s → IsShelf (loaded_of s topology)
 load_shelf s topology is room =
     let next : Generation _ = record { number = s.current.number + 1; pins = 0; topology = topology } in
     let few : length s.older + 1 ≢ 16 = λ full. room (inl full) in
@@ -99,10 +99,10 @@ load_shelf s topology is room =
       | inr more ↦ rw (test_false s.current.pins 0 more) (shelf_push s.older (s.older ++ s.current ∷ []) s.current next is (omega (arith, is.few)) (omega arith) refl refl refl)
     ]
 
-pin_shelf : {T : Type 0} (s : Shelf T) → IsShelf s → all_pins s < 1024 → IsShelf (pinned_of s)
+pub pin_shelf : {T : Type 0} (s : Shelf T) → IsShelf s → all_pins s < 1024 → IsShelf (pinned_of s)
 pin_shelf s is room = record { few = is.few; pins = omega arith; older = is.older }
 
-release_shelf : {T : Type 0} (s : Shelf T) (gone : ℕ) → IsShelf s → IsShelf (released_of s gone)
+pub release_shelf : {T : Type 0} (s : Shelf T) (gone : ℕ) → IsShelf s → IsShelf (released_of s gone)
 release_shelf s gone is =
     elim (cases_eq s.current.number gone) [
       | inl same ↦ rw (test_true s.current.number gone same) (record { few = is.few; pins = omega (arith, is.pins); older = is.older })

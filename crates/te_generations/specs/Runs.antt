@@ -1,6 +1,6 @@
 -- What becomes of a pinned generation over any calls.
-use Rattle.std.specs.Prelude.{◌≡◌, ◌≤◌, ◌<◌, ℕ, List, [], ◌∷◌, Some}
-use Rattle.te_generations.specs.Shelf.{Shelf, IsShelf, IsFull, pins_of, topology_of, all_pins, loaded_of, pinned_of, released_of}
+use Rattle.std.specs.Prelude.{◌≡◌, ◌≢◌, ◌⊎◌, ◌↔◌, ◌≤◌, ◌<◌, ◌-◌, ◌^◌, ℕ, List, [], ◌∷◌, Some, length, AllPairs, Contains}
+use Rattle.te_generations.specs.Shelf.{Shelf, IsShelf, IsFull, live_most, pins_most, pins_of, topology_of, all_pins, loaded_of, pinned_of, released_of}
 
 -- a call that changes the generations
 pub data Call (T : Type 0) : Type 0 where
@@ -20,7 +20,7 @@ after_calls s (call ∷ calls) = after_calls (after_call s call) calls
 -- the call may be made, and is not refused
 abbrev pub MayCall : {T : Type 0} → Shelf T → Call T → Type 0
 MayCall s (load topology) = ¬ IsFull s
-MayCall s pin = all_pins s < 1024
+MayCall s pin = all_pins s < pins_most
 MayCall s (release number) = 1 ≤ pins_of s number
 
 -- each call may be made, and leaves the generation a pin
@@ -37,3 +37,12 @@ KeepsTopology T = (s : Shelf T) (number : ℕ) (calls : List (Call T)) → IsShe
 abbrev pub PinGivesCurrent : Type 0 → Type 0
 PinGivesCurrent T = (s : Shelf T) (calls : List (Call T)) → IsShelf s → MayCall s pin → KeepAPin s.current.number (pinned_of s) calls →
     topology_of (after_calls (pinned_of s) calls) s.current.number ≡ Some s.current.topology
+
+-- the numbers of the current generation and of those that are pinned, each once
+pub record AreLive {T : Type 0} (s : Shelf T) (numbers : List ℕ) : Type 0 where
+  pub differ : AllPairs (λ m n. m ≢ n) numbers
+  pub each : (n : ℕ) → Contains numbers n ↔ ((n ≡ s.current.number) ⊎ (1 ≤ pins_of s n))
+
+-- A shelf is full where so many different generations are current or pinned, or there is no further number.
+abbrev pub FullByNumbers : Type 0 → Type 0
+FullByNumbers T = (s : Shelf T) (numbers : List ℕ) → IsShelf s → AreLive s numbers → IsFull s ↔ ((length numbers ≡ live_most) ⊎ (s.current.number ≡ 2 ^ 64 - 1))

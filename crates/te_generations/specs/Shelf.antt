@@ -1,6 +1,13 @@
 -- The generations that are live: the current one, and the older ones that are pinned.
 use Rattle.std.specs.Prelude.{◌≡◌, ◌⊎◌, ◌≤◌, ◌==◌, ◌^◌, ℕ, ◌+◌, ◌-◌, List, [], ◌∷◌, ◌++◌, length, Option, Some, None, if◌then◌else◌}
 
+-- how many generations may be live, and how many pins there may be
+abbrev pub live_most : ℕ
+live_most = 16
+
+abbrev pub pins_most : ℕ
+pins_most = 1024
+
 pub record Generation (T : Type 0) : Type 0 where
   pub number : ℕ
   pub pins : ℕ
@@ -35,7 +42,7 @@ all_pins s = s.current.pins + pin_count s.older
 
 -- no more generations may be live, or there is no further number
 abbrev pub IsFull : {T : Type 0} → Shelf T → Type 0
-IsFull s = (length s.older + 1 ≡ 16) ⊎ (s.current.number ≡ 2 ^ 64 - 1)
+IsFull s = (length s.older + 1 ≡ live_most) ⊎ (s.current.number ≡ 2 ^ 64 - 1)
 
 -- generation 0 alone
 abbrev pub new_shelf : {T : Type 0} → T → Shelf T
@@ -71,6 +78,6 @@ ArePinned low [] high = low ≤ high
 ArePinned low (g ∷ gs) high = (low ≤ g.number) × (1 ≤ g.pins) × ArePinned (g.number + 1) gs high
 
 pub record IsShelf {T : Type 0} (s : Shelf T) : Type 0 where
-  pub few : length s.older + 1 ≤ 16
-  pub pins : all_pins s ≤ 1024
+  pub few : length s.older + 1 ≤ live_most
+  pub pins : all_pins s ≤ pins_most
   pub older : ArePinned 0 s.older s.current.number

@@ -1,3 +1,4 @@
+//! The older generations, by number.
 ghost use Rattle.std.specs.Prelude.{◌≡◌, ◌≤◌, ◌<◌, ℕ, Some, IfOk, map, length};
 ghost use Rattle.std.specs.Arc.{arc_value};
 ghost use Rattle.te_generations.specs.Shelf.{pins_among, topology_among, released_among};
@@ -23,7 +24,7 @@ fn place_of(older: &Vec<Live>, number: u64) -> usize
 }
 
 /// Takes a pin of a generation away, and the generation with its last pin.
-pub fn release_among(older: &mut Vec<Live>, number: u64)
+pub(crate) fn release_among(older: &mut Vec<Live>, number: u64)
     requires { 1 ≤ pins_among number (map generation_of older.old.items) }
     ensures { map generation_of older.new.items ≡ released_among number (map generation_of older.old.items) }
 {
@@ -37,10 +38,19 @@ pub fn release_among(older: &mut Vec<Live>, number: u64)
 }
 
 /// A further owner of the topology of a pinned generation.
-pub fn shared_among(older: &Vec<Live>, number: u64) -> Result<Arc<Topology>, NoMemory>
+pub(crate) fn shared_among(older: &Vec<Live>, number: u64) -> Result<Arc<Topology>, NoMemory>
     requires { 1 ≤ pins_among number (map generation_of older.now.items) }
     ensures { IfOk result (λ topology. topology_among number (map generation_of older.now.items) ≡ Some (arc_value topology)) }
 {
     let i = place_of(older, number);
     Ok(older[i].topology.clone()?)
+}
+
+/// The topology of a pinned generation.
+pub(crate) fn topology_in(older: &Vec<Live>, number: u64) -> &Topology
+    requires { 1 ≤ pins_among number (map generation_of older.now.items) }
+    ensures { topology_among number (map generation_of older.now.items) ≡ Some result.now }
+{
+    let i = place_of(older, number);
+    &*older[i].topology
 }

@@ -1,10 +1,12 @@
+//! The generations of one element.
 ghost use Rattle.std.specs.Prelude.{◌≡◌, ◌≤◌, ◌<◌, ◌+◌, ◌↔◌, ℕ, [], Some, Err, IfOk, OnOk, OnErr};
 ghost use Rattle.std.specs.Arc.{arc_value};
+ghost use Rattle.te_links.specs.Rows.{IsTopology, IsInOrder};
 ghost use Rattle.te_generations.specs.Live.{empty_rows};
-ghost use Rattle.te_generations.specs.Shelf.{IsShelf, IsFull, pins_of, topology_of, all_pins, new_shelf, loaded_of, pinned_of, released_of};
+ghost use Rattle.te_generations.specs.Shelf.{IsShelf, IsFull, pins_of, topology_of, all_pins, new_shelf, loaded_of, pinned_of, pins_most, released_of};
 
 use crate::LIVE_MAX;
-use crate::among::{release_among, shared_among};
+use crate::among::{release_among, shared_among, topology_in};
 use crate::live::Live;
 use dom_base::{As, NoMemory};
 use std::alloc::{AllocError, AllocFailed, Global};
@@ -107,7 +109,7 @@ impl Generations {
 
     /// Pins the current generation; takes no memory.
     pub fn pin(&mut self) -> Pin
-        requires { all_pins self.old < 1024 }
+        requires { all_pins self.old < pins_most }
         ensures pin { result ≡ self.old.current.number }
         ensures pinned { self.new ≡ pinned_of self.old }
     {
@@ -144,6 +146,29 @@ impl Generations {
         ensures { result ≡ pin.now }
     {
         pin.generation
+    }
+
+    /// The topology of a pin of this value; takes no memory.
+    pub fn topology(&self, pin: &Pin) -> &Topology
+        requires { 1 ≤ pins_of self.now pin.now }
+        ensures topology { topology_of self.now pin.now ≡ Some result.now }
+        ensures rules { IsTopology result.now }
+        ensures order { IsInOrder result.now }
+    {
+        let topology = if self.current.number == pin.generation {
+            &*self.current.topology
+        } else {
+            topology_in(&self.older, pin.generation)
+        };
+        let _own = topology.own();
+        topology
+    }
+
+    /// The current topology, as a further owner of it.
+    pub fn latest(&self) -> Result<Arc<Topology>, NoMemory>
+        ensures { IfOk result (λ topology. arc_value topology ≡ self.now.current.topology) }
+    {
+        Ok(self.current.topology.clone()?)
     }
 
     /// The topology of a pin of this value, as a further owner of it.

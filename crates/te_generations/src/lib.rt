@@ -7,7 +7,7 @@ mod law;
 mod live;
 
 pub use generations::{Generations, LoadError, Pin};
-pub use law::pins_keep_topologies;
+pub use law::{full_by_numbers, pins_keep_topologies};
 
 /// How many generations may be live.
 pub const LIVE_MAX: usize = 16;

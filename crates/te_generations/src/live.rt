@@ -1,3 +1,4 @@
+//! A live generation.
 use std::sync::Arc;
 use te_links::Topology;
 

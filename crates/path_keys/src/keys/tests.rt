@@ -1,3 +1,4 @@
+//! The numbers that keys get, up to the limit and round the last number.
 ghost use Rattle.std.specs.Prelude.{◌≡◌, ◌≤◌, ◌+◌, ◌<◌, OnOk};
 
 use super::{KeyError, PathKeys};
@@ -21,20 +22,26 @@ fn issue_all<R: Abort>(rt: &R, keys: &mut PathKeys<u16>, now: Tick, first: u16, 
 }
 
 #[test]
-fn numbers_wrap_and_keys_expire(rt: HostRuntime) -> Result<(), Fail> {
+fn numbers_go_round_and_keys_expire(rt: HostRuntime) -> Result<(), Fail> {
     let mut keys: PathKeys<u16> = PathKeys::new(rt.alloc(), 600)?;
-    issue_all(&rt, &mut keys, Tick(0), 1, 32_768);
+    issue_all(&rt, &mut keys, Tick(0), 1, 8_192);
     assert_eq!(rt; keys.free(Tick(0)), 0);
     assert_eq!(rt; keys.issue(Tick(0), 7), Err(KeyError::KeysFull));
-    assert_eq!(rt; keys.expand(Tick(599), 32_768).copied(), Some(32_767));
-    assert_eq!(rt; keys.expand(Tick(600), 32_768).copied(), None);
+    assert_eq!(rt; keys.expand(Tick(599), 8_192).copied(), Some(8_191));
+    assert_eq!(rt; keys.expand(Tick(600), 8_192).copied(), None);
     assert_eq!(rt; keys.expand(Tick(0), 0).copied(), None);
-    assert_eq!(rt; keys.expand(Tick(0), 32_769).copied(), None);
-    issue_all(&rt, &mut keys, Tick(600), 32_769, 32_767);
-    assert_eq!(rt; keys.issue(Tick(600), 9), Ok(1));
-    assert_eq!(rt; keys.expand(Tick(600), 1).copied(), Some(9));
-    keys.expire(Tick(1_200));
-    assert_eq!(rt; keys.free(Tick(1_200)), 32_768);
+    assert_eq!(rt; keys.expand(Tick(0), 8_193).copied(), None);
+    issue_all(&rt, &mut keys, Tick(600), 8_193, 8_192);
+    issue_all(&rt, &mut keys, Tick(1_200), 16_385, 8_192);
+    issue_all(&rt, &mut keys, Tick(1_800), 24_577, 8_192);
+    issue_all(&rt, &mut keys, Tick(2_400), 32_769, 8_192);
+    issue_all(&rt, &mut keys, Tick(3_000), 40_961, 8_192);
+    issue_all(&rt, &mut keys, Tick(3_600), 49_153, 8_192);
+    issue_all(&rt, &mut keys, Tick(4_200), 57_345, 8_191);
+    assert_eq!(rt; keys.issue(Tick(4_200), 9), Ok(1));
+    assert_eq!(rt; keys.expand(Tick(4_200), 1).copied(), Some(9));
+    keys.expire(Tick(4_800));
+    assert_eq!(rt; keys.free(Tick(4_800)), 8_192);
     keys.reserve(3)?;
     goes_to_a_thread(&keys);
     Ok(())

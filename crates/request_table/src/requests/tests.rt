@@ -1,3 +1,4 @@
+//! Tables up to their limit.
 use super::{OpenError, Requests};
 use dom_base::{As, Peer};
 use std::test::Fail;
@@ -39,6 +40,8 @@ fn numbers_rise_up_to_the_limit(rt: HostRuntime) -> Result<(), Fail> {
     }
     assert_eq!(rt; table.get(1_025).copied(), Some(9));
     assert_eq!(rt; table.get(1).copied(), None);
+    assert!(rt; table.key(1_025).map(|key| key.id) == Some(3));
+    assert!(rt; table.key(1).is_none());
     assert_eq!(rt; table.len(), 1_024);
     goes_to_a_thread(&table);
     Ok(())

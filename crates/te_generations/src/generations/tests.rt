@@ -1,3 +1,4 @@
+//! Pins and loads, up to the limit.
 ghost use Rattle.std.specs.Prelude.{◌≤◌, ◌<◌, ◌+◌, ℕ};
 ghost use Rattle.te_generations.specs.Shelf.{all_pins, pins_of};
 

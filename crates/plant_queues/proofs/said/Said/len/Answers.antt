@@ -1,6 +1,6 @@
 use Rattle.std.proofs.Common.{length, ap, arith}
 use Rattle.plant_queues.specs.Messages.{Queued}
-use Rattle.plant_queues.specs.declared.outcome.Sent.{Sent}
+use Rattle.plant_queues.specs.declared.sent.Sent.{Sent}
 use Rattle.plant_queues.proofs.SaidLemmas.{length-sents}
 use Rattle.plant_queues.proofs.said.Said.len.Goals as goal
 

@@ -1,7 +1,7 @@
 use Rattle.std.proofs.Common.{◌∙◌, ◌++◌, ◌∷◌, [], ap, arith}
 use Rattle.plant_queues.specs.declared.said.Place.{Place}
 use Rattle.plant_queues.specs.Messages.{Queued}
-use Rattle.plant_queues.specs.declared.outcome.Sent.{Sent}
+use Rattle.plant_queues.specs.declared.sent.Sent.{Sent}
 use Rattle.plant_queues.specs.Sents.{sent_of}
 use Rattle.plant_queues.proofs.SaidLemmas.{put_in_row, put_sent}
 use Rattle.plant_queues.proofs.said.Said.put.Goals as goal

@@ -2,7 +2,7 @@ use Rattle.std.proofs.Common.{◌∙◌, ◌<◌, length, Some, ap, sym, arith}
 use Rattle.std.specs.Option.{option_map}
 use Rattle.plant_queues.specs.declared.said.Place.{Place}
 use Rattle.plant_queues.specs.Messages.{Queued}
-use Rattle.plant_queues.specs.declared.outcome.Sent.{Sent}
+use Rattle.plant_queues.specs.declared.sent.Sent.{Sent}
 use Rattle.plant_queues.proofs.SaidLemmas.{length-sents, sent_at}
 use Rattle.plant_queues.proofs.said.Said.way.Goals as goal
 
