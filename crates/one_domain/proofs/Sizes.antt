@@ -50,8 +50,13 @@ hop_short (V6 n) = omega arith
 hops_short : (addrs : List Addr) → length (hops_text (open_of addrs)) ≤ 20 * length addrs
 hops_short [] = omega arith
 hops_short (a ∷ addrs) =
-    omega (arith, ap length (flat_map-cons hop_text (strict_hop a) (open_of addrs)), length-append (hop_text (strict_hop a)) (hops_text (open_of addrs)),
-    hop_short a, hops_short addrs)
+    omega (
+      arith,
+      ap length (flat_map-cons hop_text (strict_hop a) (open_of addrs)),
+      length-append (hop_text (strict_hop a)) (hops_text (open_of addrs)),
+      hop_short a,
+      hops_short addrs,
+    )
 
 abbrev reply_of : ℕ → ℕ → Answer → Message
 reply_of flags id answer = messages.PcRep (record { flags = flags; id = id; answer = answer } ∷ [])

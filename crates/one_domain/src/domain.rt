@@ -1,6 +1,5 @@
 //! The way of least cost through one domain.
 ghost use Rattle.std.specs.Prelude.{◌≡◌, ◌∷◌, ◌++◌, ◌+◌, [], List, IfOk, MatchOption, if◌then◌else◌};
-
 ghost use Rattle.border_costs.specs.Solutions.{AreRows};
 ghost use Rattle.vspt_tree.specs.declared.branch.Best.{Best};
 ghost use Rattle.one_domain.specs.Domain.{ask_of, target_seeds, HasLabels, IsChosen, IsUnknownVector};
