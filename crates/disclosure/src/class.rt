@@ -1,3 +1,4 @@
+//! What a peer is, and what it may have done.
 ghost use Rattle.std.specs.Prelude.{◌≡◌, ◌↔◌, IsTrue};
 ghost use Rattle.disclosure.specs.Policy.{can_expand, IsAllowed};
 

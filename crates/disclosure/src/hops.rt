@@ -1,24 +1,15 @@
+//! The hops that stand for a segment.
 ghost use Rattle.std.specs.Prelude.{◌≡◌, IfOk};
-ghost use Rattle.disclosure.specs.Shown.{open_of, closed_of, hop_at};
+ghost use Rattle.disclosure.specs.Shown.{open_of, closed_of};
 
 use dom_base::{Addr, List, NoMemory};
-use pcep_subobjects::Hop;
+use pcep_subobjects::{Hop, strict_hop};
 use std::alloc::{AllocError, Global};
-
-fn hop_of(addr: Addr) -> Hop
-    ensures { result ≡ hop_at addr }
-{
-    Hop::Prefix {
-        loose: false,
-        addr,
-        length: 32,
-    }
-}
 
 fn each_hop(alloc: Global, segment: &[Addr]) -> Result<Vec<Hop>, AllocError>
     ensures { IfOk result (λ v. v.items ≡ open_of segment.now) }
 {
-    segment.iter().map(|addr| hop_of(*addr)).collect(alloc)
+    segment.iter().map(|addr| strict_hop(*addr)).collect(alloc)
 }
 
 /// The hops of a segment that a client is shown: one for each address.
@@ -41,7 +32,7 @@ pub fn closed_hops(
     ensures { IfOk result (λ hops. hops ≡ closed_of entry key pce end) }
 {
     let mut hops = List::new(alloc);
-    hops.push(hop_of(entry))?;
+    hops.push(strict_hop(entry))?;
     let hidden = Hop::Key {
         loose: false,
         key,
@@ -49,7 +40,7 @@ pub fn closed_hops(
     };
     hops.push(hidden)?;
     if let Some(addr) = end {
-        hops.push(hop_of(addr))?;
+        hops.push(strict_hop(addr))?;
     }
     Ok(hops)
 }

@@ -6,4 +6,6 @@ pub mod Scale
 pub mod NumeralLaws
 pub mod ReadDigits
 pub mod AddrLaws
+pub mod Ranks
 pub mod Cuts
+pub mod CostWords

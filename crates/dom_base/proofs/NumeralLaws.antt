@@ -1,6 +1,6 @@
 -- Numbers that were written in digits are read again.
-use Rattle.std.proofs.Common.{◌≡◌, ℕ, ◌+◌, ◌*◌, ◌^◌, ◌<◌, ◌≤◌, ltb, leb, eqb, Bool, true, false, cond, ◌&&◌, List, [], ◌∷◌, length, Option, Some, None, refl, sym, ap, ◌∙◌, arith, map, ◌/◌, ◌%◌}
-use Rattle.std.proofs.Math.Nat.{pow-zero, pow-succ'}
+use Rattle.std.proofs.Common.{lit≤, ◌≡◌, ℕ, ◌+◌, ◌*◌, ◌^◌, ◌<◌, ◌≤◌, ltb, leb, eqb, Bool, true, false, cond, ◌&&◌, List, [], ◌∷◌, length, Option, Some, None, refl, sym, ap, ◌∙◌, arith, map, ◌/◌, ◌%◌}
+use Rattle.std.proofs.Math.Nat.{pow-zero, pow-succ', pow-le-pow_right}
 use Rattle.std.proofs.lemmas.Bool.{lt-ltb, le-leb, lt-leb, ltb-true, leb-true, and_from, and_parts, ne_eqb, eq-eqb, false≢true}
 use Rattle.std.proofs.lemmas.Fmt.{decimal_is_IsNumeral}
 use Rattle.std.specs.Fmt.{decimal}
@@ -11,6 +11,7 @@ use Rattle.std.proofs.lemmas.Bool.Decides.{nat_tests}
 use Rattle.std.proofs.lemmas.Int.Digits.{digits_value-lt}
 use Rattle.std.specs.Str.Parse.{digits_value, digits_value_after, AllDigits}
 use Rattle.dom_base.specs.Numerals.{value, is_numeral, number_in, colour_in, colour_text}
+use Rattle.dom_base.specs.AddrText.{group_in, group_text}
 
 step : (n b p d v : ℕ) → (n * b + d) * p + v ≡ n * (b * p) + (d * p + v)
 step n b p d v = omega arith
@@ -130,16 +131,16 @@ colour_length word other = colour_if word (is_numeral 16 word) false refl (ne_eq
 char_value : (d : ℕ) → d < 16 → digit_value (digit_char d) ≡ d
 char_value d small = grind (arith, nat_tests)
 
-abbrev weights : List ℕ → ℕ
+abbrev pub weights : List ℕ → ℕ
 weights [] = 0
 weights (d ∷ ds) = d * 16 ^ length ds + weights ds
 
-spelled_digits : (ds : List ℕ) → AllByRecursion (λ d. d < 16) ds → list_all (λ c. ltb (digit_value c) 16) (map digit_char ds) ≡ true
+pub spelled_digits : (ds : List ℕ) → AllByRecursion (λ d. d < 16) ds → list_all (λ c. ltb (digit_value c) 16) (map digit_char ds) ≡ true
 spelled_digits [] h = refl
 spelled_digits (d ∷ ds) h =
     rw (char_value d h.0, lt-ltb d 16 h.0) (spelled_digits ds h.1)
 
-spelled_value : (ds : List ℕ) → AllByRecursion (λ d. d < 16) ds → value 16 (map digit_char ds) ≡ weights ds
+pub spelled_value : (ds : List ℕ) → AllByRecursion (λ d. d < 16) ds → value 16 (map digit_char ds) ≡ weights ds
 spelled_value [] h = refl
 spelled_value (d ∷ ds) h =
     rw (char_value d h.0, length-map ds digit_char, spelled_value ds h.1) refl
@@ -167,3 +168,50 @@ pub at_most : (most n : ℕ) (word : List ℕ) → number_in most word ≡ Some 
 at_most most n word e =
     let parts = number_parts most n word e in
     omega (arith, leb-true (value 10 word) most parts.1, parts.2)
+
+-- ---- groups of one to four hexadecimal digits
+
+group_lt : (word : List ℕ) → length word ≤ 4 → is_numeral 16 word ≡ true → value 16 word < 2 ^ 16
+group_lt word short shape =
+    let parts = and_parts (ltb 0 (length word)) (list_all (λ c. ltb (digit_value c) 16) word) shape in
+    let below = digits_value-lt 16 word (digits_all 16 word parts.1) in
+    let most : 16 ^ length word ≤ 16 ^ 4 = pow-le-pow_right (lit≤ tt) short in
+    omega (arith, value_is 16 word, below, most)
+
+group_if : (word : List ℕ) (b t : Bool) → leb (length word) 4 ≡ t → is_numeral 16 word ≡ b → group_in word ≡ cond (t && b) (Some (value 16 word)) None
+unfolding group_in
+group_if word b t q p = ap (λ x. cond (x && is_numeral 16 word) (Some (value 16 word)) None) q ∙ ap (λ x. cond (t && x) (Some (value 16 word)) None) p
+
+pub group_none : (word : List ℕ) → length word ≤ 4 → wide 16 word ≡ None → group_in word ≡ None
+group_none word short e = apart (is_numeral 16 word) refl
+  where
+    apart : (b : Bool) → is_numeral 16 word ≡ b → group_in word ≡ None
+    apart false h = group_if word false true (le-leb (length word) 4 short) h
+    apart true h =
+        let some : wide 16 word ≡ Some (value 16 word) = wide_of word h (omega (arith, group_lt word short h)) in
+        absurd (cc)
+
+pub group_some : (n : ℕ) (word : List ℕ) → length word ≤ 4 → wide 16 word ≡ Some n → (n < 2 ^ 16) × (group_in word ≡ Some n)
+group_some n word short e =
+    let parts = some_parts (is_numeral 16 word) (ltb (value 16 word) (2 ^ 64)) (value 16 word) n e in
+    let below : value 16 word < 2 ^ 16 = group_lt word short parts.0 in
+    let same : value 16 word ≡ n = parts.2 in
+    (omega arith, group_if word true true (le-leb (length word) 4 short) parts.0 ∙ ap Some same)
+
+pub group_length : (word : List ℕ) → 4 < length word → group_in word ≡ None
+group_length word long = group_if word (is_numeral 16 word) false (lt-leb (length word) 4 long) refl
+
+group_octets : (n : ℕ) → n < 2 ^ 16 → weights (n / 256 % 256 / 16 ∷ n / 256 % 256 % 16 ∷ n % 256 / 16 ∷ n % 256 % 16 ∷ []) ≡ n
+group_octets n small = omega arith
+
+pub group_shape : (n : ℕ) → n < 2 ^ 16 → list_all (λ c. ltb (digit_value c) 16) (group_text n) ≡ true
+group_shape n small =
+    let ds : List ℕ = n / 256 % 256 / 16 ∷ n / 256 % 256 % 16 ∷ n % 256 / 16 ∷ n % 256 % 16 ∷ [] in
+    spelled_digits ds (omega arith, (omega arith, (omega arith, (omega arith, tt))))
+
+pub group_again : (n : ℕ) → n < 2 ^ 16 → group_in (group_text n) ≡ Some n
+unfolding group_in
+group_again n small =
+    let ds : List ℕ = n / 256 % 256 / 16 ∷ n / 256 % 256 % 16 ∷ n % 256 / 16 ∷ n % 256 % 16 ∷ [] in
+    let below : AllByRecursion (λ d. d < 16) ds = (omega arith, (omega arith, (omega arith, (omega arith, tt)))) in
+    rw (spelled_digits ds below, spelled_value ds below, group_octets n small) refl

@@ -4,4 +4,6 @@ pub mod Admission
 pub mod Room
 pub mod Numerals
 pub mod Steps
+pub mod AddrOrder
 pub mod AddrText
+pub mod Limits

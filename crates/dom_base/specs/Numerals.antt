@@ -21,6 +21,10 @@ number_in most word = if is_numeral 10 word && nat_le (value 10 word) most then 
 unfoldable pub colour_in : List ℕ → Option ℕ
 colour_in word = if is_numeral 16 word && (length word == 8) then Some (value 16 word) else None
 
--- the eight digits of a colour, letters in lower case
+-- octets in hexadecimal digits, two each, letters in lower case
+abbrev pub hex_text : List ℕ → List ℕ
+hex_text octets = flat_map (λ b. digit_char (b / 16) ∷ digit_char (b % 16) ∷ []) octets
+
+-- the eight digits of a colour
 unfoldable pub colour_text : ℕ → List ℕ
-colour_text colour = flat_map (λ b. digit_char (b / 16) ∷ digit_char (b % 16) ∷ []) (to_be_bytes w32 colour)
+colour_text colour = hex_text (to_be_bytes w32 colour)

@@ -1,3 +1,4 @@
+//! Rows of border tables, and the links between domains that a parent knows.
 use crate::{Addr, As, Cost, Link};
 
 /// A row of a border table: the least cost from an entry over an out link. `far` is the link's

@@ -1,6 +1,7 @@
 //! The plain types that every part of the path computation speaks of, and the words of the wire.
 #![tactic(auto)]
 
+mod addr;
 mod addr_text;
 mod border;
 mod cost;
@@ -14,13 +15,14 @@ mod query;
 mod text;
 mod words;
 
+pub use addr::Addr;
 pub use addr_text::{read_addr, write_addr};
 pub use border::{BorderRow, ParentLink};
 pub use cost::{Cost, word_of_cost};
 pub use limits::COST_MAX;
 pub use link::Link;
 pub use list::{Bytes, List};
-pub use names::{Addr, As, NoMemory, Peer, Tick};
+pub use names::{As, NoMemory, Peer, Tick};
 pub use numerals::{read_colour, read_number, write_colour, write_number};
 pub use octets::{half, word};
 pub use query::{Excluded, Exclusion, Label, Metric, Query, Seed};

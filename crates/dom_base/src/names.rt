@@ -1,13 +1,10 @@
+//! The names of domains and peers, moments, and the refusal of memory.
 use std::alloc::{AllocError, AllocFailed};
 
 /// The number of a routing domain, an autonomous system (RFC 1930). 0 is no domain: it stands for
 /// the parent.
 #[derive(Clone, Copy, Debug, PartialEq, Eq, PartialOrd, Ord, Hash)]
 pub struct As(pub u16);
-
-/// An IPv4 address, as an unsigned number. Addresses are ordered as these numbers.
-#[derive(Clone, Copy, Debug, PartialEq, Eq, PartialOrd, Ord, Hash)]
-pub struct Addr(pub u32);
 
 /// A moment, in seconds.
 #[derive(Clone, Copy, Debug, PartialEq, Eq, PartialOrd, Ord, Hash)]

@@ -1,3 +1,4 @@
+//! Numbers and colours as text, both ways.
 ghost use Rattle.std.specs.Prelude.{◌≡◌, ◌<◌, ◌≤◌, ◌+◌, ◌*◌, ◌^◌, ◌++◌, ℕ, Some, None, OnOk, OnErr, IfSome, decimal, if◌then◌else◌, nat_lt, ◌&&◌, SomeIff};
 ghost use Rattle.std.specs.Char.{digit_value, digit_char};
 ghost use Rattle.dom_base.specs.Numerals.{colour_in, colour_text, is_numeral, number_in, value};
@@ -14,7 +15,7 @@ fn with_digit(number: u64, base: u32, digit: u32) -> Option<u64>
 }
 
 // The number that digits of a base mean, where it fits.
-fn number_of(word: &[u8], base: u32) -> Option<u64>
+pub(crate) fn number_of(word: &[u8], base: u32) -> Option<u64>
     requires low { 2 ≤ base }
     requires high { base ≤ 16 }
     ensures { result ≡ (if is_numeral base word.now && nat_lt (value base word.now) (2 ^ 64) then Some (value base word.now) else None) }
@@ -64,7 +65,7 @@ pub fn read_colour(word: &[u8]) -> Option<u32>
     Some(number as u32)
 }
 
-fn digit(value: u8) -> u8
+pub(crate) fn hex_digit(value: u8) -> u8
     requires { value < 16 }
     ensures { result ≡ digit_char value }
 {
@@ -85,14 +86,14 @@ pub fn write_colour(colour: u32, into: &mut Vec<u8>) -> Result<(), NoMemory>
 {
     let [a, b, c, d] = colour.to_be_bytes();
     into.extend_from_slice(&[
-        digit(a / 16),
-        digit(a % 16),
-        digit(b / 16),
-        digit(b % 16),
-        digit(c / 16),
-        digit(c % 16),
-        digit(d / 16),
-        digit(d % 16),
+        hex_digit(a / 16),
+        hex_digit(a % 16),
+        hex_digit(b / 16),
+        hex_digit(b % 16),
+        hex_digit(c / 16),
+        hex_digit(c % 16),
+        hex_digit(d / 16),
+        hex_digit(d % 16),
     ])?;
     Ok(())
 }

@@ -1,3 +1,4 @@
+//! Texts as contracts see them.
 ghost use Rattle.std.specs.Prelude.{◌≡◌, IfOk, string_bytes};
 
 use crate::NoMemory;

@@ -1,3 +1,4 @@
 pub mod Cut
 pub mod Again
 pub mod Counts
+pub mod HexLaws

@@ -1,3 +1,4 @@
+//! Words between blanks.
 ghost use Rattle.std.specs.Prelude.{◌≡◌, ◌∷◌, [], ◌≤◌, ◌<◌, position, length, MatchOption};
 ghost use Rattle.std.specs.List.{slice_split};
 ghost use Rattle.line_text.specs.Words.{all_words, is_blank, is_trimmed as has_no_stray_blank};

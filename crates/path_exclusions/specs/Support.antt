@@ -1,19 +1,26 @@
 -- Which exclusions of a request can be kept (RFC 5521, section 2.1): those that are no mere wish, where each is of a kind
 -- whose meaning is known.
-use Rattle.std.specs.Prelude.{◌≡◌, ℕ, Bool, true, not, List, Option, Some, None, Result, Ok, Err, filter, position, nat_lt, nat_le, ◌==◌, ◌&&◌, ◌||◌}
+use Rattle.std.specs.Prelude.{◌≡◌, ℕ, Bool, true, not, List, Option, Some, None, Result, Ok, Err, filter, position, nat_lt, nat_le, ◌==◌, ◌&&◌}
+use Rattle.dom_base.specs.declared.addr.Addr.{Addr}
+use Rattle.dom_base.specs.declared.addr.Addr.TheVariants.{V4, V6}
 use Rattle.dom_base.specs.declared.query.Exclusion.{Exclusion}
 use Rattle.dom_base.specs.declared.query.Excluded.{Excluded}
 use Rattle.dom_base.specs.declared.query.Excluded.TheVariants.{Prefix, AsNumber, Srlg, Other}
 use Rattle.path_exclusions.specs.declared.support.ExclusionError.{ExclusionError}
 use Rattle.path_exclusions.specs.declared.support.ExclusionError.TheVariants.{Unsupported, NoMemory}
 
--- A prefix of at most 32 bits means an interface (attribute 0) or a node (attribute 1). An IPv6 prefix (type 2) and an
--- unnumbered interface (type 4) stand nowhere here and are kept without effect.
+-- how many bits an address of the kind has
+abbrev pub bits_of : Addr → ℕ
+bits_of (V4 n) = 32
+bits_of (V6 n) = 128
+
+-- A prefix of no more bits than its kind has means an interface (attribute 0) or a node (attribute 1). An unnumbered
+-- interface (type 4) stands nowhere here and is kept without effect.
 abbrev pub is_supported : Excluded → Bool
-is_supported (Prefix addr length attribute) = nat_lt attribute 2 && nat_le length 32
+is_supported (Prefix addr length attribute) = nat_lt attribute 2 && nat_le length (bits_of addr)
 is_supported (AsNumber number) = true
 is_supported (Srlg number) = true
-is_supported (Other kind body) = (kind == 2) || (kind == 4)
+is_supported (Other kind body) = kind == 4
 
 -- a demand, not a mere wish to avoid
 abbrev pub is_demand : Exclusion → Bool

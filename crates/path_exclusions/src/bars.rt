@@ -1,17 +1,34 @@
-ghost use Rattle.std.specs.Prelude.{◌≡◌, ◌↔◌, IsTrue};
+//! Which links and nodes the exclusions of a query bar.
+ghost use Rattle.std.specs.Prelude.{◌≡◌, ◌↔◌, ◌-◌, ◌/◌, ◌^◌, IsTrue};
 ghost use Rattle.dom_base.specs.Admission.{LiesIn, NamesLink, NamesNode, BarsLink, BarsNode};
 
 use dom_base::{Addr, As, Excluded, Link, Query};
 
-// Whether the first `length` bits of two addresses are the same.
+// Whether the first `length` bits of two IPv4 addresses are the same.
+fn begin_alike(a: u32, b: u32, length: u8) -> bool
+    ensures { IsTrue result ↔ (a / 2 ^ (32 - length) ≡ b / 2 ^ (32 - length)) }
+{
+    let rest = 32u8.saturating_sub(length);
+    rest == 32 || a >> rest == b >> rest
+}
+
+// The same of two IPv6 addresses.
+fn begin_alike_longer(a: u128, b: u128, length: u8) -> bool
+    ensures { IsTrue result ↔ (a / 2 ^ (128 - length) ≡ b / 2 ^ (128 - length)) }
+{
+    let rest = 128u8.saturating_sub(length);
+    rest == 128 || a >> rest == b >> rest
+}
+
+// Whether an address is of the kind of a prefix and lies in it.
 fn lies_in(addr: Addr, prefix: Addr, length: u8) -> bool
     ensures { IsTrue result ↔ LiesIn addr prefix length }
 {
-    if length == 0 {
-        return true;
+    match (addr, prefix) {
+        (Addr::V4(a), Addr::V4(b)) => begin_alike(a, b, length),
+        (Addr::V6(a), Addr::V6(b)) => begin_alike_longer(a, b, length),
+        _ => false,
     }
-    let rest = 32u8.saturating_sub(length);
-    addr.0 >> rest == prefix.0 >> rest
 }
 
 fn names_link(what: &Excluded, link: &Link) -> bool

@@ -1,8 +1,9 @@
+//! Which exclusions can be kept.
 ghost use Rattle.std.specs.Prelude.{◌≡◌, ◌&&◌, IfOk, not, position};
-ghost use Rattle.path_exclusions.specs.Support.{is_supported, is_demand, demands, first_unsupported, Supports};
+ghost use Rattle.path_exclusions.specs.Support.{bits_of, is_supported, is_demand, demands, first_unsupported, Supports};
 ghost use Rattle.path_exclusions.specs.declared.support.ExclusionError.TheVariants as faults;
 
-use dom_base::{Excluded, Exclusion, List, NoMemory};
+use dom_base::{Addr, Excluded, Exclusion, List, NoMemory};
 use std::alloc::Global;
 
 /// Why exclusions can't be kept.
@@ -21,17 +22,27 @@ impl From<NoMemory> for ExclusionError {
     }
 }
 
+// How many bits an address of the kind has.
+fn bits(addr: Addr) -> u8
+    ensures { result ≡ bits_of addr }
+{
+    match addr {
+        Addr::V4(_) => 32,
+        Addr::V6(_) => 128,
+    }
+}
+
 fn has_support(what: &Excluded) -> bool
     ensures { result ≡ is_supported what.now }
 {
     match what {
         Excluded::Prefix {
+            addr,
             length,
             attribute,
-            addr: _addr,
-        } => *attribute < 2 && *length <= 32,
+        } => *attribute < 2 && *length <= bits(*addr),
         Excluded::AsNumber(_) | Excluded::Srlg(_) => true,
-        Excluded::Other { kind, body: _body } => *kind == 2 || *kind == 4,
+        Excluded::Other { kind, body: _body } => *kind == 4,
     }
 }
 

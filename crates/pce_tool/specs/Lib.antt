@@ -1,8 +1,10 @@
-pub mod Flow
-pub mod Hexadecimal
-pub mod Domain
-pub mod Requests
-pub mod Replies
-pub mod Certified
-pub mod Statuses
+-- what a reader needs, in this order
 pub mod Run
+pub mod Commands
+pub mod Requests
+pub mod Files
+pub mod Worlds
+pub mod Limits
+pub mod Statuses
+-- what the parts of a run say to one another
+pub mod Parts

@@ -9,8 +9,8 @@ use Rattle.pcep_messages.specs.Messages.{message_of}
 use Rattle.pcep_messages.specs.Said.{rp_of, iro_of, asks_key}
 use Rattle.pcep_messages.specs.Refusals.{refusal_of}
 use Rattle.pcep_messages.specs.Requests.{Asks, sequence_of}
-use Rattle.pce_tool.specs.Hexadecimal.{hex_bytes}
-use Rattle.pce_tool.specs.declared.reading.PathRequest.{PathRequest}
+use Rattle.line_text.specs.Hexadecimal.{hex_bytes}
+use Rattle.one_domain.specs.declared.replying.PathRequest.{PathRequest}
 use Rattle.pce_tool.specs.declared.reading.RequestError.{RequestError}
 use Rattle.pce_tool.specs.declared.reading.RequestError.TheVariants as errors
 use Rattle.pce_tool.specs.declared.reading.Why.{Why}

@@ -1,10 +1,12 @@
+//! A request as hexadecimal text.
 ghost use Rattle.std.specs.Prelude.{◌≡◌, ◌≤◌, length, Err};
 ghost use Rattle.pce_tool.specs.Requests.{one_request as one_request_of, Reads};
 
-use crate::hexadecimal::{HexError, read_hex};
 use dom_base::As;
+use line_text::{HexError, read_hex};
+use one_domain::PathRequest;
 use pcep_messages::{
-    Asked, Bad, Message, Refusal, Request, Wanted, Wish, read_message, request_of,
+    Asked, Bad, Message, Refusal, Request, Wish, read_message, request_of,
 };
 use std::alloc::Global;
 use std::fmt;
@@ -34,14 +36,6 @@ impl fmt::Display for Why {
             Why::NotBuilt => write!(f, "not built"),
         }
     }
-}
-
-/// A request for a path that stays in one domain, with the flags and the number of its RP.
-#[derive(Drop)]
-pub struct PathRequest {
-    pub flags: u32,
-    pub id: u32,
-    pub wanted: Wanted,
 }
 
 /// Why there is no request.

@@ -27,35 +27,35 @@ so false e = absurd cc
 -- the RP
 pub accepted_rp : (own : ℕ) (os : List Object) → refusal_of own os ≡ None → rp_of os ≡ None → ⊥
 accepted_rp own os e n =
-    let first = none_said (first_of (request_rules os)) _ e in
-    let behind = none_said (unsupported_among os) _ first.0 in
+    let first = none_said (first_of (request_rules own os)) _ e in
+    let behind = none_said (unsupported_among own os) _ first.0 in
     let rule = none_said (because (is_none (rp_of os)) 6 1) _ behind.1 in
     there (rp_of os) (not_so (is_none (rp_of os)) 6 1 rule.0) n
 
 -- the path key, where one is asked for
 pub accepted_key : (own : ℕ) (os : List Object) → refusal_of own os ≡ None → asks_key (rp_of os) ≡ true → key_of os ≡ None → ⊥
 accepted_key own os e asks n =
-    let first = none_said (first_of (request_rules os)) _ e in
+    let first = none_said (first_of (request_rules own os)) _ e in
     let rest : first_of (key_rules os) ≡ None = rw asks at first.1 in
     let rule = none_said (because (is_none (key_of os)) 4 4) _ rest in
     there (key_of os) (not_so (is_none (key_of os)) 4 4 rule.0) n
 
 path_accepted : (own : ℕ) (os : List Object) → refusal_of own os ≡ None → asks_key (rp_of os) ≡ false → first_of (path_rules own os) ≡ None
 path_accepted own os e asks =
-    let first = none_said (first_of (request_rules os)) _ e in
+    let first = none_said (first_of (request_rules own os)) _ e in
     rw asks at first.1
 
 -- the END-POINTS of a path
-pub accepted_ends : (own : ℕ) (os : List Object) → refusal_of own os ≡ None → asks_key (rp_of os) ≡ false → end_points_of os ≡ None → ⊥
+pub accepted_ends : (own : ℕ) (os : List Object) → refusal_of own os ≡ None → asks_key (rp_of os) ≡ false → end_points_of own os ≡ None → ⊥
 accepted_ends own os e asks n =
-    let rule = none_said (because (is_none (end_points_of os)) 6 3) _ (path_accepted own os e asks) in
-    there (end_points_of os) (not_so (is_none (end_points_of os)) 6 3 rule.0) n
+    let rule = none_said (because (is_none (end_points_of own os)) 6 3) _ (path_accepted own os e asks) in
+    there (end_points_of own os) (not_so (is_none (end_points_of own os)) 6 3 rule.0) n
 
 -- its exclusions
 pub accepted_exclusions : (own : ℕ) (os : List Object) → refusal_of own os ≡ None → asks_key (rp_of os) ≡ false → can_exclude (xro_of os) ≡ true
 accepted_exclusions own os e asks =
-    let ends = none_said (because (is_none (end_points_of os)) 6 3) _ (path_accepted own os e asks) in
-    let bit = none_said (because (is_optional (end_points_of os)) 10 1) _ ends.1 in
+    let ends = none_said (because (is_none (end_points_of own os)) 6 3) _ (path_accepted own os e asks) in
+    let bit = none_said (because (is_optional (end_points_of own os)) 10 1) _ ends.1 in
     let measures = none_said (because (not (are_measures os)) 4 4) _ bit.1 in
     let rule = none_said (because (not (can_exclude (xro_of os))) 4 4) _ measures.1 in
     so (can_exclude (xro_of os)) (not_so (not (can_exclude (xro_of os))) 4 4 rule.0)

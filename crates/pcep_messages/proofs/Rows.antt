@@ -1,10 +1,12 @@
 -- Messages of a session, read, written, refused and split by the definitions.
 use Rattle.std.proofs.Common.{◌≡◌, ℕ, Bool, true, false, [], ◌∷◌, Some, None, Ok, Err, refl}
-use Rattle.dom_base.specs.declared.names.Addr.{Addr}
+use Rattle.dom_base.specs.declared.addr.Addr.{Addr}
+use Rattle.dom_base.specs.declared.addr.Addr.TheVariants.{V4, V6}
 use Rattle.dom_base.specs.declared.query.Excluded.TheVariants as excluded
 use Rattle.dom_base.specs.Parts.{parts_from}
 use Rattle.pcep_subobjects.specs.declared.hop.Hop.{Hop}
 use Rattle.pcep_subobjects.specs.declared.hop.Hop.TheVariants as hops
+use Rattle.pcep_objects.specs.Bodies.{body_of}
 use Rattle.pcep_objects.specs.declared.object.Body.{Body}
 use Rattle.pcep_objects.specs.declared.object.Body.TheVariants as bodies
 use Rattle.pcep_objects.specs.declared.object.Object.{Object}
@@ -18,7 +20,7 @@ use Rattle.pcep_messages.specs.Splitting.{split_of}
 use Rattle.pcep_messages.specs.Refusals.{is_bound, is_minimised, refusal_of}
 
 abbrev addr : ℕ → Addr
-addr n = record { 0 = n }
+addr n = V4 n
 
 abbrev step : ℕ → Hop
 step n = hops.Prefix false (addr n) 32
@@ -32,10 +34,13 @@ must class body = record { class = class; kind = 1; must = true; body = body }
 abbrev rp_object : Bool → ℕ → ℕ → Object
 rp_object bit flags id = record { class = 2; kind = 1; must = bit; body = bodies.Rp flags id }
 
+abbrev longer_ends : Bool → Object
+longer_ends bit = record { class = 4; kind = 2; must = bit; body = bodies.EndPoints (V6 0x20010DB8000000000000000000000001) (V6 0x20010DB8000000000000000000000003) }
+
 -- a request for a path
 request_read : message_of (0x20 ∷ 0x03 ∷ 0x00 ∷ 0x1C ∷ 0x02 ∷ 0x12 ∷ 0x00 ∷ 0x0C ∷ 0x00 ∷ 0x00 ∷ 0x00 ∷ 0x00 ∷ 0x00 ∷ 0x00 ∷ 0x00 ∷ 0x01 ∷ 0x04 ∷ 0x12 ∷ 0x00 ∷ 0x0C ∷ 0x0A ∷ 0x00 ∷ 0x00 ∷ 0x01 ∷ 0x0A ∷ 0x00 ∷ 0x00 ∷ 0x03 ∷ [])
     ≡ Ok (messages.PcReq (asked_of (rp_object true 0 1 ∷ must 4 (bodies.EndPoints (addr 0x0A000001) (addr 0x0A000003)) ∷ []) ∷ []))
-unfolding parts_from
+unfolding parts_from body_of
 request_read = refl
 
 -- its reply
@@ -44,7 +49,7 @@ unfolding parts_from
 reply_text = refl
 
 reply_read : message_of (0x20 ∷ 0x04 ∷ 0x00 ∷ 0x38 ∷ 0x02 ∷ 0x12 ∷ 0x00 ∷ 0x0C ∷ 0x00 ∷ 0x00 ∷ 0x00 ∷ 0x00 ∷ 0x00 ∷ 0x00 ∷ 0x00 ∷ 0x01 ∷ 0x07 ∷ 0x10 ∷ 0x00 ∷ 0x1C ∷ 0x01 ∷ 0x08 ∷ 0x0A ∷ 0x00 ∷ 0x00 ∷ 0x01 ∷ 0x20 ∷ 0x00 ∷ 0x01 ∷ 0x08 ∷ 0x0A ∷ 0x01 ∷ 0x00 ∷ 0x02 ∷ 0x20 ∷ 0x00 ∷ 0x01 ∷ 0x08 ∷ 0x0A ∷ 0x01 ∷ 0x00 ∷ 0x04 ∷ 0x20 ∷ 0x00 ∷ 0x06 ∷ 0x10 ∷ 0x00 ∷ 0x0C ∷ 0x00 ∷ 0x00 ∷ 0x00 ∷ 0x02 ∷ 0x41 ∷ 0x70 ∷ 0x00 ∷ 0x00 ∷ []) ≡ Ok (messages.PcRep (record { flags = 0; id = 1; answer = answers.Paths (record { hops = step 0x0A000001 ∷ step 0x0A010002 ∷ step 0x0A010004 ∷ []; metric = Some (2, 0x41700000) } ∷ []) } ∷ []))
-unfolding parts_from
+unfolding parts_from body_of
 reply_read = refl
 
 -- no path, with its vector, and without
@@ -53,7 +58,7 @@ unfolding parts_from
 no_path_text = refl
 
 no_path_read : message_of (0x20 ∷ 0x04 ∷ 0x00 ∷ 0x20 ∷ 0x02 ∷ 0x12 ∷ 0x00 ∷ 0x0C ∷ 0x00 ∷ 0x00 ∷ 0x01 ∷ 0x00 ∷ 0x00 ∷ 0x00 ∷ 0x00 ∷ 0x07 ∷ 0x03 ∷ 0x10 ∷ 0x00 ∷ 0x10 ∷ 0x00 ∷ 0x00 ∷ 0x00 ∷ 0x00 ∷ 0x00 ∷ 0x01 ∷ 0x00 ∷ 0x04 ∷ 0x00 ∷ 0x00 ∷ 0x00 ∷ 0x10 ∷ []) ≡ Ok (messages.PcRep (record { flags = 0x100; id = 7; answer = answers.NoPath 0 0x10 } ∷ []))
-unfolding parts_from
+unfolding parts_from body_of
 no_path_read = refl
 
 plain_no_path_text : message_text (messages.PcRep (record { flags = 0; id = 1; answer = answers.NoPath 0 0 } ∷ [])) ≡ 0x20 ∷ 0x04 ∷ 0x00 ∷ 0x18 ∷ 0x02 ∷ 0x12 ∷ 0x00 ∷ 0x0C ∷ 0x00 ∷ 0x00 ∷ 0x00 ∷ 0x00 ∷ 0x00 ∷ 0x00 ∷ 0x00 ∷ 0x01 ∷ 0x03 ∷ 0x10 ∷ 0x00 ∷ 0x08 ∷ 0x00 ∷ 0x00 ∷ 0x00 ∷ 0x00 ∷ []
@@ -61,7 +66,7 @@ unfolding parts_from
 plain_no_path_text = refl
 
 plain_no_path_read : message_of (0x20 ∷ 0x04 ∷ 0x00 ∷ 0x18 ∷ 0x02 ∷ 0x12 ∷ 0x00 ∷ 0x0C ∷ 0x00 ∷ 0x00 ∷ 0x00 ∷ 0x00 ∷ 0x00 ∷ 0x00 ∷ 0x00 ∷ 0x01 ∷ 0x03 ∷ 0x10 ∷ 0x00 ∷ 0x08 ∷ 0x00 ∷ 0x00 ∷ 0x00 ∷ 0x00 ∷ []) ≡ Ok (messages.PcRep (record { flags = 0; id = 1; answer = answers.NoPath 0 0 } ∷ []))
-unfolding parts_from
+unfolding parts_from body_of
 plain_no_path_read = refl
 
 -- a request that is sent on
@@ -70,7 +75,7 @@ unfolding parts_from
 forwarded_text = refl
 
 forwarded_read : message_of (0x20 ∷ 0x03 ∷ 0x00 ∷ 0x34 ∷ 0x02 ∷ 0x12 ∷ 0x00 ∷ 0x0C ∷ 0x00 ∷ 0x00 ∷ 0x00 ∷ 0x40 ∷ 0x00 ∷ 0x00 ∷ 0x00 ∷ 0x01 ∷ 0x04 ∷ 0x12 ∷ 0x00 ∷ 0x0C ∷ 0x0A ∷ 0x01 ∷ 0x00 ∷ 0x01 ∷ 0x0A ∷ 0x03 ∷ 0x00 ∷ 0x09 ∷ 0x06 ∷ 0x12 ∷ 0x00 ∷ 0x0C ∷ 0x00 ∷ 0x00 ∷ 0x02 ∷ 0x02 ∷ 0x00 ∷ 0x00 ∷ 0x00 ∷ 0x00 ∷ 0x0A ∷ 0x12 ∷ 0x00 ∷ 0x0C ∷ 0x20 ∷ 0x04 ∷ 0x00 ∷ 0x02 ∷ 0x20 ∷ 0x04 ∷ 0x00 ∷ 0x03 ∷ []) ≡ Ok (messages.PcReq (asked_of (rp_object true 0x40 1 ∷ must 4 (bodies.EndPoints (addr 0x0A010001) (addr 0x0A030009)) ∷ must 6 (bodies.Metric false true 2 0) ∷ must 10 (bodies.Iro (domain 2 ∷ domain 3 ∷ [])) ∷ []) ∷ []))
-unfolding parts_from
+unfolding parts_from body_of
 forwarded_read = refl
 
 -- the messages of a session
@@ -79,7 +84,7 @@ unfolding parts_from
 open_text = refl
 
 open_read : message_of (0x20 ∷ 0x01 ∷ 0x00 ∷ 0x0c ∷ 0x01 ∷ 0x10 ∷ 0x00 ∷ 0x08 ∷ 0x20 ∷ 0x1e ∷ 0x78 ∷ 0x01 ∷ []) ≡ Ok (messages.Open (record { version = 1; offer = record { keepalive = 30; dead = 120; sid = 1; stateful = false } }))
-unfolding parts_from
+unfolding parts_from body_of
 open_read = refl
 
 keepalive_text : message_text messages.Keepalive ≡ 0x20 ∷ 0x02 ∷ 0x00 ∷ 0x04 ∷ []
@@ -87,7 +92,7 @@ unfolding parts_from
 keepalive_text = refl
 
 keepalive_read : message_of (0x20 ∷ 0x02 ∷ 0x00 ∷ 0x04 ∷ []) ≡ Ok messages.Keepalive
-unfolding parts_from
+unfolding parts_from body_of
 keepalive_read = refl
 
 close_text : message_text (messages.Close 3) ≡ 0x20 ∷ 0x07 ∷ 0x00 ∷ 0x0C ∷ 0x0F ∷ 0x10 ∷ 0x00 ∷ 0x08 ∷ 0x00 ∷ 0x00 ∷ 0x00 ∷ 0x03 ∷ []
@@ -95,11 +100,11 @@ unfolding parts_from
 close_text = refl
 
 close_read : message_of (0x20 ∷ 0x07 ∷ 0x00 ∷ 0x0C ∷ 0x0F ∷ 0x10 ∷ 0x00 ∷ 0x08 ∷ 0x00 ∷ 0x00 ∷ 0x00 ∷ 0x03 ∷ []) ≡ Ok (messages.Close 3)
-unfolding parts_from
+unfolding parts_from body_of
 close_read = refl
 
 stateful_read : message_of (0x20 ∷ 0x0a ∷ 0x00 ∷ 0x04 ∷ []) ≡ Ok (messages.Other 10)
-unfolding parts_from
+unfolding parts_from body_of
 stateful_read = refl
 
 notice_text : message_text (messages.PcNtf (record { ids = (0x40, 5) ∷ []; kinds = (1, 2) ∷ [] } ∷ [])) ≡ 0x20 ∷ 0x05 ∷ 0x00 ∷ 0x18 ∷ 0x02 ∷ 0x10 ∷ 0x00 ∷ 0x0C ∷ 0x00 ∷ 0x00 ∷ 0x00 ∷ 0x40 ∷ 0x00 ∷ 0x00 ∷ 0x00 ∷ 0x05 ∷ 0x0C ∷ 0x10 ∷ 0x00 ∷ 0x08 ∷ 0x00 ∷ 0x00 ∷ 0x01 ∷ 0x02 ∷ []
@@ -107,7 +112,7 @@ unfolding parts_from
 notice_text = refl
 
 notice_read : message_of (0x20 ∷ 0x05 ∷ 0x00 ∷ 0x18 ∷ 0x02 ∷ 0x10 ∷ 0x00 ∷ 0x0C ∷ 0x00 ∷ 0x00 ∷ 0x00 ∷ 0x40 ∷ 0x00 ∷ 0x00 ∷ 0x00 ∷ 0x05 ∷ 0x0C ∷ 0x10 ∷ 0x00 ∷ 0x08 ∷ 0x00 ∷ 0x00 ∷ 0x01 ∷ 0x02 ∷ []) ≡ Ok (messages.PcNtf (record { ids = (0x40, 5) ∷ []; kinds = (1, 2) ∷ [] } ∷ []))
-unfolding parts_from
+unfolding parts_from body_of
 notice_read = refl
 
 error_text : message_text (messages.PcErr (record { ids = (0, 1) ∷ []; errors = (10, 1) ∷ []; opening = None } ∷ [])) ≡ 0x20 ∷ 0x06 ∷ 0x00 ∷ 0x18 ∷ 0x02 ∷ 0x10 ∷ 0x00 ∷ 0x0C ∷ 0x00 ∷ 0x00 ∷ 0x00 ∷ 0x00 ∷ 0x00 ∷ 0x00 ∷ 0x00 ∷ 0x01 ∷ 0x0D ∷ 0x10 ∷ 0x00 ∷ 0x08 ∷ 0x00 ∷ 0x00 ∷ 0x0A ∷ 0x01 ∷ []
@@ -115,24 +120,24 @@ unfolding parts_from
 error_text = refl
 
 error_read : message_of (0x20 ∷ 0x06 ∷ 0x00 ∷ 0x18 ∷ 0x02 ∷ 0x10 ∷ 0x00 ∷ 0x0C ∷ 0x00 ∷ 0x00 ∷ 0x00 ∷ 0x00 ∷ 0x00 ∷ 0x00 ∷ 0x00 ∷ 0x01 ∷ 0x0D ∷ 0x10 ∷ 0x00 ∷ 0x08 ∷ 0x00 ∷ 0x00 ∷ 0x0A ∷ 0x01 ∷ []) ≡ Ok (messages.PcErr (record { ids = (0, 1) ∷ []; errors = (10, 1) ∷ []; opening = None } ∷ []))
-unfolding parts_from
+unfolding parts_from body_of
 error_read = refl
 
 -- frames that are no messages
 odd_length : message_of (0x20 ∷ 0x03 ∷ 0x00 ∷ 0x0c ∷ 0x02 ∷ 0x12 ∷ 0x00 ∷ 0x06 ∷ 0x00 ∷ 0x00 ∷ 0x00 ∷ 0x00 ∷ []) ≡ Err (Malformed 4)
-unfolding parts_from
+unfolding parts_from body_of
 odd_length = refl
 
 other_version : message_of (0x40 ∷ 0x01 ∷ 0x00 ∷ 0x04 ∷ []) ≡ Err (Malformed 0)
-unfolding parts_from
+unfolding parts_from body_of
 other_version = refl
 
 open_without_object : message_of (0x20 ∷ 0x01 ∷ 0x00 ∷ 0x04 ∷ []) ≡ Err (Malformed 4)
-unfolding parts_from
+unfolding parts_from body_of
 open_without_object = refl
 
 nothing_asked : message_of (0x20 ∷ 0x03 ∷ 0x00 ∷ 0x04 ∷ []) ≡ Ok (messages.PcReq (asked_of [] ∷ []))
-unfolding parts_from
+unfolding parts_from body_of
 nothing_asked = refl
 
 -- reasons to refuse
@@ -167,6 +172,33 @@ own_domain_admitted = refl
 other_domain_reason : refusal_of 1 (rp_object true 0 1 ∷ must 4 (bodies.EndPoints (addr 1) (addr 2)) ∷ must 10 (bodies.Iro (domain 2 ∷ [])) ∷ []) ≡ Some (4, 4)
 unfolding parts_from is_bound is_minimised
 other_domain_reason = refl
+
+-- END-POINTS of type 2: read, not served at the parent, and passed over there where it may be
+longer_request_read : message_of (0x20 ∷ 0x03 ∷ 0x00 ∷ 0x34 ∷ 0x02 ∷ 0x12 ∷ 0x00 ∷ 0x0C ∷ 0x00 ∷ 0x00 ∷ 0x00 ∷ 0x00 ∷ 0x00 ∷ 0x00 ∷ 0x00 ∷ 0x01 ∷ 0x04 ∷ 0x22 ∷ 0x00 ∷ 0x24
+    ∷ 0x20 ∷ 0x01 ∷ 0x0D ∷ 0xB8 ∷ 0x00 ∷ 0x00 ∷ 0x00 ∷ 0x00 ∷ 0x00 ∷ 0x00 ∷ 0x00 ∷ 0x00 ∷ 0x00 ∷ 0x00 ∷ 0x00 ∷ 0x01 ∷ 0x20 ∷ 0x01 ∷ 0x0D ∷ 0xB8 ∷ 0x00 ∷ 0x00 ∷ 0x00 ∷ 0x00 ∷ 0x00 ∷ 0x00 ∷ 0x00 ∷ 0x00 ∷ 0x00 ∷ 0x00 ∷ 0x00 ∷ 0x03 ∷ [])
+    ≡ Ok (messages.PcReq (asked_of (rp_object true 0 1 ∷ longer_ends true ∷ []) ∷ []))
+unfolding parts_from body_of
+longer_request_read = refl
+
+longer_ends_admitted : refusal_of 1 (rp_object true 0 1 ∷ longer_ends true ∷ []) ≡ None
+unfolding parts_from is_bound is_minimised
+longer_ends_admitted = refl
+
+longer_ends_at_the_parent : refusal_of 0 (rp_object true 0 1 ∷ longer_ends true ∷ must 4 (bodies.EndPoints (addr 1) (addr 2)) ∷ []) ≡ Some (4, 2)
+unfolding parts_from
+longer_ends_at_the_parent = refl
+
+longer_ends_passed_over : refusal_of 0 (rp_object true 0 1 ∷ longer_ends false ∷ []) ≡ Some (6, 3)
+unfolding parts_from
+longer_ends_passed_over = refl
+
+ends_behind_those_passed_over : refusal_of 0 (rp_object true 0 1 ∷ longer_ends false ∷ must 4 (bodies.EndPoints (addr 1) (addr 2)) ∷ []) ≡ None
+unfolding parts_from is_bound is_minimised
+ends_behind_those_passed_over = refl
+
+optional_longer_ends : refusal_of 1 (rp_object true 0 1 ∷ longer_ends false ∷ []) ≡ Some (10, 1)
+unfolding parts_from
+optional_longer_ends = refl
 
 -- a message of two requests
 two_requests : split_of (0x20 ∷ 0x03 ∷ 0x00 ∷ 0x1C ∷ 0x02 ∷ 0x12 ∷ 0x00 ∷ 0x0C ∷ 0x00 ∷ 0x00 ∷ 0x00 ∷ 0x00 ∷ 0x00 ∷ 0x00 ∷ 0x00 ∷ 0x01 ∷ 0x02 ∷ 0x12 ∷ 0x00 ∷ 0x0C ∷ 0x00 ∷ 0x00 ∷ 0x00 ∷ 0x00 ∷ 0x00 ∷ 0x00 ∷ 0x00 ∷ 0x02 ∷ [])

@@ -28,19 +28,21 @@ abbrev pub among : List ℕ → ℕ → Bool
 among xs n = list_any (λ x. x == n) xs
 
 -- An object is not supported where no such class is known (3/1), no such type of the class (3/2), or where a request
--- can't be served with such a class (4/1) or type (4/2).
-abbrev pub unsupported : ℕ → ℕ → Reason
-unsupported class kind =
+-- can't be served with such a class (4/1) or type (4/2). At the parent, whose number is 0, END-POINTS of type 2 (those of
+-- IPv6) can't be served either.
+abbrev pub unsupported : ℕ → ℕ → ℕ → Reason
+unsupported own class kind =
     if among (8 ∷ 11 ∷ 14 ∷ []) class then Some (4, 1)
     else (if not (among (1 ∷ 2 ∷ 3 ∷ 4 ∷ 5 ∷ 6 ∷ 7 ∷ 9 ∷ 10 ∷ 12 ∷ 13 ∷ 15 ∷ 16 ∷ 17 ∷ []) class) then Some (3, 1)
-    else (if among (4 ∷ 5 ∷ []) class && (kind == 2) then Some (4, 2)
+    else (if (class == 5) && (kind == 2) then Some (4, 2)
+    else (if (class == 4) && (kind == 2) then because (own == 0) 4 2
     else (if not (kind == 1) then Some (3, 2)
-    else because (among (1 ∷ 3 ∷ 7 ∷ 12 ∷ 13 ∷ 15 ∷ []) class) 4 1)))
+    else because (among (1 ∷ 3 ∷ 7 ∷ 12 ∷ 13 ∷ 15 ∷ []) class) 4 1))))
 
 -- of the first object with P set that is not supported; with P clear such objects are ignored
-abbrev pub unsupported_among : List Object → Reason
-unsupported_among [] = None
-unsupported_among (o ∷ os) = option_or (if o.must then unsupported o.class o.kind else None) (unsupported_among os)
+abbrev pub unsupported_among : ℕ → List Object → Reason
+unsupported_among own [] = None
+unsupported_among own (o ∷ os) = option_or (if o.must then unsupported own o.class o.kind else None) (unsupported_among own os)
 
 -- an object that has to be taken into account has P clear
 abbrev pub is_optional : {X : Type 0} → Option (X × Bool) → Bool
@@ -117,9 +119,9 @@ can_follow own (Some route) =
 -- ---- the rules
 
 -- for every request
-abbrev pub request_rules : List Object → List Reason
-request_rules os =
-    unsupported_among os  -- RFC 5440, 7.2: an object with P set that is not supported
+abbrev pub request_rules : ℕ → List Object → List Reason
+request_rules own os =
+    unsupported_among own os  -- RFC 5440, 7.2: an object with P set that is not supported
     ∷ because (is_none (rp_of os)) 6 1  -- RFC 5440, 6.4: the RP is missing
     ∷ because (is_optional (rp_of os)) 10 1  -- RFC 5440, 7.4: the RP has P clear
     ∷ because (has_no_number (rp_of os)) 4 4  -- RFC 5440, 7.4.1: the number of the request is 0
@@ -135,8 +137,8 @@ key_rules os =
 -- for a request for a path, at the element of a domain
 abbrev pub path_rules : ℕ → List Object → List Reason
 path_rules own os =
-    because (is_none (end_points_of os)) 6 3  -- RFC 5440, 6.4: the END-POINTS are missing
-    ∷ because (is_optional (end_points_of os)) 10 1  -- RFC 5440, 7.6: the END-POINTS have P clear
+    because (is_none (end_points_of own os)) 6 3  -- RFC 5440, 6.4: the END-POINTS are missing
+    ∷ because (is_optional (end_points_of own os)) 10 1  -- RFC 5440, 7.6: the END-POINTS have P clear
     ∷ because (not (are_measures os)) 4 4  -- RFC 5440, 7.8: no one metric with at most one bound
     ∷ because (not (can_exclude (xro_of os))) 4 4  -- RFC 5521, 2.1: exclusions that can't be kept
     ∷ because (not (can_follow own (iro_of os))) 4 4  -- RFC 5440, 7.12: no sequence of domains from this one on
@@ -145,4 +147,4 @@ path_rules own os =
 -- The error that a request is answered with, if any.
 abbrev pub refusal_of : ℕ → List Object → Reason
 refusal_of own os =
-    option_or (first_of (request_rules os)) (if asks_key (rp_of os) then first_of (key_rules os) else first_of (path_rules own os))
+    option_or (first_of (request_rules own os)) (if asks_key (rp_of os) then first_of (key_rules os) else first_of (path_rules own os))

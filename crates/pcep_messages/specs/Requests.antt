@@ -70,7 +70,7 @@ sequence_of (Some route) = map (λ n. record { 0 = n }) (domains route)
 
 -- a path between the END-POINTS, under the query, with the words that it was asked in
 pub record IsWanted (own : ℕ) (os : List Object) (w : Wanted) : Type 0 where
-  pub ends : without_bit (end_points_of os) ≡ Some (w.source, w.target)
+  pub ends : without_bit (end_points_of own os) ≡ Some (w.source, w.target)
   pub query : w.query ≡ query_of own os
   pub bandwidth : w.bandwidth_word ≡ bandwidth_of os
   pub bound : w.bound_word ≡ bound_of (metrics_of os)

@@ -1,8 +1,8 @@
 -- What the objects of a request say (RFC 5440, section 6.4). Of several of one class the first counts, METRIC apart.
-use Rattle.std.specs.Prelude.{ℕ, Bool, List, [], ◌∷◌, Option, Some, None, false, not, bit_and, ◌==◌}
+use Rattle.std.specs.Prelude.{ℕ, Bool, List, [], ◌∷◌, Option, Some, None, false, not, bit_and, ◌==◌, ◌&&◌, if◌then◌else◌}
 use Rattle.std.specs.List.{filter_map}
 use Rattle.std.specs.Option.{option_or}
-use Rattle.dom_base.specs.declared.names.Addr.{Addr}
+use Rattle.dom_base.specs.declared.addr.Addr.{Addr}
 use Rattle.dom_base.specs.declared.query.Exclusion.{Exclusion}
 use Rattle.pcep_subobjects.specs.declared.hop.Hop.{Hop}
 use Rattle.pcep_subobjects.specs.declared.hop.Hop.TheVariants as hops
@@ -28,8 +28,15 @@ abbrev pub end_points_in : Body → Option (Addr × Addr)
 end_points_in (bodies.EndPoints source target) = Some (source, target)
 end_points_in _ = None
 
-abbrev pub end_points_of : List Object → Option ((Addr × Addr) × Bool)
-end_points_of os = first_with_bit end_points_in os
+-- The parent, whose number is 0, knows no END-POINTS of type 2 (those of IPv6): it passes them over.
+abbrev pub is_passed_over : ℕ → Object → Bool
+is_passed_over own o = (own == 0) && (o.kind == 2)
+
+-- the first END-POINTS and its P bit, at the element of a domain
+abbrev pub end_points_of : ℕ → List Object → Option ((Addr × Addr) × Bool)
+end_points_of own [] = None
+end_points_of own (o ∷ os) =
+    option_or (if is_passed_over own o then None else with_bit (end_points_in o.body) o.must) (end_points_of own os)
 
 abbrev pub bandwidth_in : Body → Option ℕ
 bandwidth_in (bodies.Bandwidth word) = Some word

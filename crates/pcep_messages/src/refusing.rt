@@ -15,12 +15,13 @@ use pcep_subobjects::Hop;
 
 /// The type and value of the error that an object of a class and type gives, if it has to be taken
 /// into account.
-fn unsupported_kind(class: u8, kind: u8) -> Option<(u8, u8)>
-    ensures { result ≡ unsupported class kind }
+fn unsupported_kind(own: As, class: u8, kind: u8) -> Option<(u8, u8)>
+    ensures { result ≡ unsupported own.0 class kind }
 {
     match class {
         8 | 11 | 14 => Some((4, 1)),
-        4 | 5 if kind == 2 => Some((4, 2)),
+        5 if kind == 2 => Some((4, 2)),
+        4 if kind == 2 => { if own == As(0) { Some((4, 2)) } else { None } }
         1 | 3 | 7 | 12 | 13 | 15 => {
             if kind == 1 {
                 Some((4, 1))
@@ -33,31 +34,31 @@ fn unsupported_kind(class: u8, kind: u8) -> Option<(u8, u8)>
     }
 }
 
-fn unsupported_object(object: &Object) -> Option<(u8, u8)>
-    ensures { result ≡ (if object.now.must then unsupported object.now.class object.now.kind else None) }
+fn unsupported_object(object: &Object, own: As) -> Option<(u8, u8)>
+    ensures { result ≡ (if object.now.must then unsupported own.0 object.now.class object.now.kind else None) }
 {
     if object.must {
-        unsupported_kind(object.class, object.kind)
+        unsupported_kind(own, object.class, object.kind)
     } else {
         None
     }
 }
 
-fn find_unsupported_object(objects: &[Object]) -> Option<(u8, u8)>
-    ensures { result ≡ unsupported_among objects.now }
+fn find_unsupported_object(objects: &[Object], own: As) -> Option<(u8, u8)>
+    ensures { result ≡ unsupported_among own.0 objects.now }
 {
     for object in objects {
-        if let Some(error) = unsupported_object(object) {
+        if let Some(error) = unsupported_object(object, own) {
             return Some(error);
         }
     }
     None
 }
 
-fn request_error(objects: &[Object]) -> Option<(u8, u8)>
-    ensures { result ≡ first_of (request_rules objects.now) }
+fn request_error(objects: &[Object], own: As) -> Option<(u8, u8)>
+    ensures { result ≡ first_of (request_rules own.0 objects.now) }
 {
-    if let Some(error) = find_unsupported_object(objects) {
+    if let Some(error) = find_unsupported_object(objects, own) {
         return Some(error);
     }
     match find_rp(objects) {
@@ -181,7 +182,7 @@ fn follows(objects: &[Object], own: As) -> bool
 fn path_error(objects: &[Object], own: As) -> Option<(u8, u8)>
     ensures { result ≡ first_of (path_rules own.0 objects.now) }
 {
-    match find_end_points(objects) {
+    match find_end_points(objects, own) {
         None => Some((6, 3)),
         Some((_, false)) => Some((10, 1)),
         Some((_, true)) => {
@@ -208,7 +209,7 @@ pub fn asks_for_key(rp: Option<((u32, u32), bool)>) -> bool
 pub fn refusal(objects: &[Object], own: As) -> Option<(u8, u8)>
     ensures { result ≡ refusal_of own.0 objects.now }
 {
-    if let Some(error) = request_error(objects) {
+    if let Some(error) = request_error(objects, own) {
         return Some(error);
     }
     if asks_for_key(find_rp(objects)) {

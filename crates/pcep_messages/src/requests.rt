@@ -124,7 +124,7 @@ fn wanted(
     own: As,
     ends: (Addr, Addr),
 ) -> Result<Wanted, NoMemory>
-    requires ends { without_bit (end_points_of objects.now) ≡ Some ends }
+    requires ends { without_bit (end_points_of own.0 objects.now) ≡ Some ends }
     requires exclusions { can_exclude (xro_of objects.now) ≡ true }
     ensures { IfOk result (λ wanted. IsWanted own.0 objects.now wanted) }
 {
@@ -152,7 +152,7 @@ fn wish(alloc: Global, objects: &[Object], own: As) -> Result<Wish, NoMemory>
             None => unreachable!(),
         }
     } else {
-        match find_end_points(objects) {
+        match find_end_points(objects, own) {
             Some((ends, _)) => Ok(Wish::Path(wanted(alloc, objects, own, ends)?)),
             None => unreachable!(),
         }

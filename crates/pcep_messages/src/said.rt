@@ -1,14 +1,14 @@
 //! What the objects of a request say.
 
-ghost use Rattle.std.specs.Prelude.{◌≡◌, ◌==◌, count_by};
+ghost use Rattle.std.specs.Prelude.{◌≡◌, ◌==◌, None, count_by, if◌then◌else◌};
 ghost use Rattle.std.specs.List.{list_all};
 ghost use Rattle.pcep_messages.specs.Groups.{rp_in, first_said};
-ghost use Rattle.pcep_messages.specs.Said.{first_with_bit, rp_of, end_points_in, end_points_of, bandwidth_in, bandwidth_of, masks_in, masks_of, metric_in, metrics_of, key_in, first_key, key_of};
+ghost use Rattle.pcep_messages.specs.Said.{first_with_bit, with_bit, is_passed_over, rp_of, end_points_in, end_points_of, bandwidth_in, bandwidth_of, masks_in, masks_of, metric_in, metrics_of, key_in, first_key, key_of};
 ghost use Rattle.pcep_messages.specs.Refusals.{asked_type, is_bound, is_minimised};
 ghost use Rattle.pcep_messages.specs.Requests.{bound_of};
 
 use crate::groups::rp;
-use dom_base::Addr;
+use dom_base::{Addr, As};
 use pcep_objects::{Body, Object};
 use pcep_subobjects::Hop;
 
@@ -33,13 +33,23 @@ fn end_points(object: &Object) -> Option<(Addr, Addr)>
     }
 }
 
-/// The first END-POINTS, and its P bit.
-pub fn find_end_points(objects: &[Object]) -> Option<((Addr, Addr), bool)>
-    ensures { result ≡ end_points_of objects.now }
+fn end_points_with_bit(object: &Object, own: As) -> Option<((Addr, Addr), bool)>
+    ensures { result ≡ (if is_passed_over own.0 object.now then None else with_bit (end_points_in object.now.body) object.now.must) }
+{
+    if own == As(0) && object.kind == 2 {
+        return None;
+    }
+    let said = end_points(object)?;
+    Some((said, object.must))
+}
+
+/// The first END-POINTS, and its P bit. The parent passes those of type 2 over.
+pub fn find_end_points(objects: &[Object], own: As) -> Option<((Addr, Addr), bool)>
+    ensures { result ≡ end_points_of own.0 objects.now }
 {
     for object in objects {
-        if let Some(said) = end_points(object) {
-            return Some((said, object.must));
+        if let Some(said) = end_points_with_bit(object, own) {
+            return Some(said);
         }
     }
     None

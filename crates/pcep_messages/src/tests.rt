@@ -238,8 +238,8 @@ fn a_request_says_what_is_asked_for(rt: HostRuntime) -> Result<(), Fail> {
     let Wish::Path(wanted) = &request.wish else {
         return Err("it asks for something else".into());
     };
-    assert_eq!(rt; wanted.source, Addr(0x0A00_0001));
-    assert_eq!(rt; wanted.target, Addr(0x0A00_0003));
+    assert_eq!(rt; wanted.source, Addr::V4(0x0A00_0001));
+    assert_eq!(rt; wanted.target, Addr::V4(0x0A00_0003));
     assert_eq!(rt; wanted.bandwidth_word, Some(0x3F00_0000));
     assert_eq!(rt; wanted.bound_word, Some(0x4178_0000));
     assert_eq!(rt; wanted.masks, Some((1, 2, 3)));

@@ -1,3 +1,4 @@
+//! Objects of messages, and what is at fault in octets that are none.
 ghost use Rattle.std.specs.Prelude.{◌≡◌};
 ghost use Rattle.pcep_objects.specs.declared.object.ObjectFault.TheVariants as faults;
 

@@ -1,3 +1,4 @@
+//! Octets as objects.
 ghost use Rattle.std.specs.Prelude.{◌≡◌, ◌≤◌, ◌/◌, length, IfOk};
 ghost use Rattle.pcep_objects.specs.Bodies.{body_of};
 ghost use Rattle.pcep_objects.specs.Objects.{object_at, with_body, Gives};

@@ -1,10 +1,11 @@
+//! How much room the text of an object takes.
 ghost use Rattle.std.specs.Prelude.{false};
 ghost use Rattle.pcep_subobjects.specs.Subobjects.{IsLeftBehind};
 ghost use Rattle.pcep_objects.specs.Spelling.{body_text, framed_text, object_text};
 
 use crate::object::{Body, Object};
 use dom_base::List;
-use pcep_subobjects::{Hop, room_behind_exclusions, room_behind_hops};
+use pcep_subobjects::{Hop, addr_len, room_behind_exclusions, room_behind_hops};
 
 fn room_behind_body(body: &Body, room: usize) -> Option<usize>
     ensures { IsLeftBehind (body_text body.now) room result }
@@ -18,7 +19,10 @@ fn room_behind_body(body: &Body, room: usize) -> Option<usize>
         Body::Bandwidth(_) | Body::Notification(_, _) | Body::Error(_, _) | Body::Close(_) => {
             room.checked_sub(4)
         }
-        Body::Rp { .. } | Body::EndPoints { .. } | Body::Metric { .. } => room.checked_sub(8),
+        Body::Rp { .. } | Body::Metric { .. } => room.checked_sub(8),
+        Body::EndPoints { source, target } => {
+            room.checked_sub(addr_len(*source) + addr_len(*target))
+        }
         Body::Lspa { .. } => room.checked_sub(16),
         Body::Ero(route) | Body::Iro(route) | Body::PathKey(route) => {
             room_behind_hops(route.as_slice(), room)

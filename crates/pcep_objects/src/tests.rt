@@ -1,3 +1,4 @@
+//! Objects of each class, and what is none.
 ghost use Rattle.std.specs.Prelude.{◌<◌};
 
 use super::*;
@@ -49,19 +50,26 @@ const PATH_KEY: [u8; 12] = [16, 0x12, 0, 12, 64, 8, 0, 2, 192, 0, 2, 2];
 
 const XRO: [u8; 16] = [17, 0x12, 0, 16, 0, 0, 0, 0, 1, 8, 10, 1, 0, 2, 32, 0];
 
-const OTHER_TYPE: [u8; 8] = [4, 0x20, 0, 8, 5, 6, 7, 8];
+const OTHER_TYPE: [u8; 8] = [4, 0x30, 0, 8, 5, 6, 7, 8];
+
+// From 2001:db8::1 to 2001:db8::3.
+const LONGER_END_POINTS: [u8; 36] = [
+    4, 0x22, 0, 36, 0x20, 1, 0x0D, 0xB8, 0, 0, 0, 0, 0, 0, 0, 0, 0, 0, 0, 1, 0x20, 1, 0x0D, 0xB8,
+    0, 0, 0, 0, 0, 0, 0, 0, 0, 0, 0, 3,
+];
 
 const OTHER_CLASS: [u8; 12] = [200, 0xF2, 0, 12, 1, 2, 3, 4, 5, 6, 7, 8];
 
 #[test]
 fn an_object_of_each_class_is_read_and_written_again(rt: HostRuntime) -> Result<(), Fail> {
-    let texts: [&[u8]; 21] = [
+    let texts: [&[u8]; 22] = [
         &OPEN,
         &STATEFUL,
         &RP,
         &NO_PATH,
         &NO_CHAIN,
         &END_POINTS,
+        &LONGER_END_POINTS,
         &BANDWIDTH,
         &METRIC,
         &ASKED_METRIC,
@@ -122,8 +130,17 @@ fn bodies_say_what_their_octets_mean(rt: HostRuntime) -> Result<(), Fail> {
         matches!(
             body(alloc, &END_POINTS)?,
             Body::EndPoints {
-                source: Addr(0x0A00_0001),
-                target: Addr(0x0A00_0003)
+                source: Addr::V4(0x0A00_0001),
+                target: Addr::V4(0x0A00_0003)
+            }
+        )
+    );
+    assert!(rt;
+        matches!(
+            body(alloc, &LONGER_END_POINTS)?,
+            Body::EndPoints {
+                source: Addr::V6(0x2001_0DB8_0000_0000_0000_0000_0000_0001),
+                target: Addr::V6(0x2001_0DB8_0000_0000_0000_0000_0000_0003)
             }
         )
     );
@@ -215,9 +232,9 @@ fn faults_of_objects(rt: HostRuntime) {
 // none, or, with the last octet missing, it is short.
 fn length_is_read(rt: &impl Abort, alloc: Global, class: u8, kind: u8, len: usize, good: bool)
     requires kind { kind < 16 }
-    requires len { len < 32 }
+    requires len { len < 40 }
 {
-    let mut octets = [0u8; 32];
+    let mut octets = [0u8; 40];
     octets[0] = class;
     octets[1] = kind * 16;
     octets[3] = len as u8;
@@ -265,7 +282,9 @@ fn each_class_has_its_lengths(rt: HostRuntime) {
     for len in 0..29 {
         for (class, least, most) in least_and_most {
             length_is_read(&rt, rt.alloc(), class, 1, len, least <= len && len <= most);
-            length_is_read(&rt, rt.alloc(), class, 2, len, true);
+            length_is_read(&rt, rt.alloc(), class, 3, len, true);
         }
+        length_is_read(&rt, rt.alloc(), 4, 2, len, false);
     }
+    length_is_read(&rt, rt.alloc(), 4, 2, 36, true);
 }

@@ -1,3 +1,4 @@
+//! What stands in TLVs behind the fixed part of a body.
 ghost use Rattle.std.specs.Prelude.{◌≡◌, ◌+◌, ◌≤◌, length, take, drop, IfOk};
 ghost use Rattle.std.specs.Option.{option_or};
 ghost use Rattle.pcep_objects.specs.Tlvs.{tlv_at, tlvs_of, word_among, word_here, GivesTlv};

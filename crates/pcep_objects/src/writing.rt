@@ -1,3 +1,4 @@
+//! Objects as octets.
 ghost use Rattle.std.specs.Prelude.{◌≡◌, ◌++◌, false, OnOk, OnErr};
 ghost use Rattle.pcep_objects.specs.Spelling.{body_text, framed_text, object_text, flag};
 ghost use Rattle.std.specs.Int.{w32, to_be_bytes};
@@ -5,7 +6,7 @@ ghost use Rattle.pcep_objects.specs.Laws.{WrittenIsRead, NoneBeginsAnother};
 
 use crate::object::{Body, Object, OpenBody};
 use dom_base::{List, NoMemory};
-use pcep_subobjects::{Hop, write_exclusions, write_hops};
+use pcep_subobjects::{Hop, put_addr, write_exclusions, write_hops};
 use std::alloc::Global;
 
 fn flag(set: bool, value: u8) -> u8
@@ -68,7 +69,10 @@ fn put_body(alloc: Global, text: &mut Vec<u8>, body: &Body) -> Result<(), NoMemo
         Body::Open(opening) => put_open(text, *opening)?,
         Body::Rp { flags, id } => put_two(text, *flags, *id)?,
         Body::NoPath { nature, vector } => put_no_path(text, *nature, *vector)?,
-        Body::EndPoints { source, target } => put_two(text, source.0, target.0)?,
+        Body::EndPoints { source, target } => {
+            put_addr(text, *source)?;
+            put_addr(text, *target)?;
+        }
         Body::Bandwidth(word) => text.extend_from_slice(&word.to_be_bytes())?,
         Body::Metric {
             bound,

@@ -1,6 +1,6 @@
 -- What every subobject of a route or of an exclusion begins with: a bit, a type of seven bits and the length in octets
 -- (RFC 3209, 4.3.3; RFC 5521, 2.1).
-use Rattle.std.specs.Prelude.{◌≡◌, ◌≤◌, ℕ, ◌+◌, ◌-◌, ◌%◌, Bool, false, List, [], ◌∷◌, length, take, Option, SomeIff, Result, Ok, Err, nat_lt, nat_le, ◌==◌, if◌then◌else◌}
+use Rattle.std.specs.Prelude.{◌≡◌, ◌≤◌, ◌<◌, ℕ, ◌+◌, ◌-◌, ◌%◌, Bool, false, List, [], ◌∷◌, length, take, Option, SomeIff, Result, Ok, Err, nat_lt, nat_le, ◌==◌, if◌then◌else◌}
 use Rattle.dom_base.specs.Parts.{Reader}
 use Rattle.pcep_subobjects.specs.declared.hop.HopFault.{HopFault}
 use Rattle.pcep_subobjects.specs.declared.hop.HopFault.TheVariants as faults
@@ -22,6 +22,10 @@ subobject_at has_length meaning (first ∷ len ∷ bytes) =
 -- the octet of the bit and the type
 abbrev pub first_octet : Bool → ℕ → ℕ
 first_octet bit kind = (if bit then 128 else 0) + kind
+
+-- a type of seven bits, and octets behind the length that end a subobject of whole words of at most 252 octets
+abbrev pub HasOctets : ℕ → List ℕ → Type 0
+HasOctets kind body = (kind < 128) × (2 ≤ length body) × (length body ≤ 250) × ((length body + 2) % 4 ≡ 0)
 
 -- What a call answered is what is read, unless memory ran out.
 abbrev pub Gives : {X : Type 0} → Result X HopFault → Result X HopFault → Type 0

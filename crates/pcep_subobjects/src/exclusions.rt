@@ -1,9 +1,10 @@
+//! The exclusions of an XRO as octets, both ways.
 ghost use Rattle.std.specs.Prelude.{◌≡◌, ◌+◌, ◌≤◌, ◌++◌, length, IsTrue, IfOk, OnOk, OnErr};
 ghost use Rattle.pcep_subobjects.specs.Subobjects.{Gives, GivesAt, IsLeftBehind};
 ghost use Rattle.pcep_subobjects.specs.Exclusions.{exclusion_has_length, excluded_of, exclusion_at, exclusions_of, exclusion_text, exclusions_text, WrittenIsRead, NoneBeginsAnother};
 
 use crate::hop::HopFault;
-use crate::octets::first;
+use crate::octets::{addr_len, first, put_addr, wide};
 use dom_base::{Addr, As, Excluded, Exclusion, List, NoMemory, half, word};
 use std::alloc::Global;
 
@@ -12,6 +13,7 @@ fn fits_exclusion(kind: u8, len: usize) -> bool
 {
     match kind {
         1 | 34 => len == 8,
+        2 => len == 20,
         32 => len == 4,
         _ => len % 4 == 0 && len >= 4,
     }
@@ -23,9 +25,14 @@ fn excluded(alloc: Global, kind: u8, content: &[u8]) -> Result<Excluded, NoMemor
 {
     match kind {
         1 => Ok(Excluded::Prefix {
-            addr: Addr(word(content, 0)),
+            addr: Addr::V4(word(content, 0)),
             length: content[4],
             attribute: content[5],
+        }),
+        2 => Ok(Excluded::Prefix {
+            addr: Addr::V6(wide(content, 0)),
+            length: content[16],
+            attribute: content[17],
         }),
         32 => Ok(Excluded::AsNumber(As(half(content, 0)))),
         34 => Ok(Excluded::Srlg(word(content, 0))),
@@ -88,8 +95,13 @@ fn put_exclusion(text: &mut Vec<u8>, exclusion: &Exclusion) -> Result<(), NoMemo
             length,
             attribute,
         } => {
-            let [a, b, c, d] = addr.0.to_be_bytes();
-            text.extend_from_slice(&[first(avoid, 1), 8, a, b, c, d, *length, *attribute])?;
+            let (kind, len) = match *addr {
+                Addr::V4(_) => (1, 8),
+                Addr::V6(_) => (2, 20),
+            };
+            text.extend_from_slice(&[first(avoid, kind), len])?;
+            put_addr(text, *addr)?;
+            text.extend_from_slice(&[*length, *attribute])?;
         }
         Excluded::AsNumber(number) => {
             let [a, b] = number.0.to_be_bytes();
@@ -130,7 +142,8 @@ fn exclusion_len(exclusion: &Exclusion) -> usize
     ensures { result ≡ length (exclusion_text exclusion.now) }
 {
     match &exclusion.what {
-        Excluded::Prefix { .. } | Excluded::Srlg(_) => 8,
+        Excluded::Prefix { addr, .. } => 4 + addr_len(*addr),
+        Excluded::Srlg(_) => 8,
         Excluded::AsNumber(_) => 4,
         Excluded::Other { body, .. } => body.as_slice().len() + 2,
     }

@@ -1,3 +1,4 @@
+//! A step of a route, and what is at fault in octets that are none.
 ghost use Rattle.std.specs.Prelude.{◌≡◌};
 ghost use Rattle.pcep_subobjects.specs.declared.hop.HopFault.TheVariants as faults;
 
@@ -7,8 +8,8 @@ use dom_base::{Addr, As, Bytes, NoMemory};
 /// (RFC 3209, section 4.3.3.1).
 #[derive(Drop)]
 pub enum Hop {
-    /// Any node or interface in an IPv4 prefix (RFC 3209, section 4.3.3.2). A length of 32 names one
-    /// address.
+    /// Any node or interface in a prefix of IPv4 (RFC 3209, section 4.3.3.2) or IPv6 (section
+    /// 4.3.3.3). A length of 32, or of 128, names one address.
     Prefix { loose: bool, addr: Addr, length: u8 },
     /// Any node of a domain (RFC 3209, section 4.3.3.4).
     AsNumber { loose: bool, number: As },

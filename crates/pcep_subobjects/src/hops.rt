@@ -1,9 +1,10 @@
+//! The hops of a route as octets, both ways.
 ghost use Rattle.std.specs.Prelude.{◌≡◌, ◌+◌, ◌≤◌, ◌++◌, length, IsTrue, IfOk, OnOk, OnErr};
 ghost use Rattle.pcep_subobjects.specs.Subobjects.{Gives, GivesAt, IsLeftBehind};
-ghost use Rattle.pcep_subobjects.specs.Hops.{hop_has_length, hop_of, hop_at, hops_of, hop_text, hops_text, WrittenIsRead, NoneBeginsAnother};
+ghost use Rattle.pcep_subobjects.specs.Hops.{hop_has_length, hop_of, hop_at, hops_of, hop_text, hops_text, strict_hop, WrittenIsRead, NoneBeginsAnother};
 
 use crate::hop::{Hop, HopFault};
-use crate::octets::first;
+use crate::octets::{addr_len, first, put_addr, wide};
 use dom_base::{Addr, As, List, NoMemory, half, word};
 use std::alloc::Global;
 
@@ -12,6 +13,7 @@ fn fits_hop(kind: u8, len: usize) -> bool
 {
     match kind {
         1 | 64 => len == 8,
+        2 | 65 => len == 20,
         32 => len == 4,
         _ => len % 4 == 0 && len >= 4,
     }
@@ -24,8 +26,13 @@ fn hop(alloc: Global, loose: bool, kind: u8, content: &[u8]) -> Result<Hop, NoMe
     match kind {
         1 => Ok(Hop::Prefix {
             loose,
-            addr: Addr(word(content, 0)),
+            addr: Addr::V4(word(content, 0)),
             length: content[4],
+        }),
+        2 => Ok(Hop::Prefix {
+            loose,
+            addr: Addr::V6(wide(content, 0)),
+            length: content[16],
         }),
         32 => Ok(Hop::AsNumber {
             loose,
@@ -34,7 +41,12 @@ fn hop(alloc: Global, loose: bool, kind: u8, content: &[u8]) -> Result<Hop, NoMe
         64 => Ok(Hop::Key {
             loose,
             key: half(content, 0),
-            pce: Addr(word(content, 2)),
+            pce: Addr::V4(word(content, 2)),
+        }),
+        65 => Ok(Hop::Key {
+            loose,
+            key: half(content, 0),
+            pce: Addr::V6(wide(content, 2)),
         }),
         _ => Ok(Hop::Other {
             loose,
@@ -66,6 +78,21 @@ fn read_hop(alloc: Global, place: usize, bytes: &[u8]) -> Result<(Hop, usize), H
     }
 }
 
+/// The strict hop to one address.
+pub fn strict_hop(addr: Addr) -> Hop
+    ensures { result ≡ strict_hop addr }
+{
+    let length = match addr {
+        Addr::V4(_) => 32,
+        Addr::V6(_) => 128,
+    };
+    Hop::Prefix {
+        loose: false,
+        addr,
+        length,
+    }
+}
+
 /// The hops of a route object's body (RFC 3209, section 4.3.3; RFC 5520, section 3.1), or its first
 /// fault.
 pub fn read_hops(alloc: Global, bytes: &[u8]) -> Result<List<Hop>, HopFault>
@@ -84,23 +111,46 @@ pub fn read_hops(alloc: Global, bytes: &[u8]) -> Result<List<Hop>, HopFault>
     Ok(hops)
 }
 
+fn put_prefix(text: &mut Vec<u8>, addr: Addr) -> Result<(), NoMemory>
+    ensures { OnOk result (text.new.items ≡ text.old.items ++ hop_text (strict_hop addr)) }
+{
+    match addr {
+        Addr::V4(_) => {
+            text.extend_from_slice(&[1, 8])?;
+            put_addr(text, addr)?;
+            text.extend_from_slice(&[32, 0])?;
+        }
+        Addr::V6(_) => {
+            text.extend_from_slice(&[2, 20])?;
+            put_addr(text, addr)?;
+            text.extend_from_slice(&[128, 0])?;
+        }
+    }
+    Ok(())
+}
+
+fn put_key(text: &mut Vec<u8>, loose: bool, key: u16, pce: Addr) -> Result<(), NoMemory>
+    ensures { OnOk result (text.new.items ≡ text.old.items ++ hop_text (Hop.Key loose key pce)) }
+{
+    let (kind, len) = match pce {
+        Addr::V4(_) => (64, 8),
+        Addr::V6(_) => (65, 20),
+    };
+    let [a, b] = key.to_be_bytes();
+    text.extend_from_slice(&[first(loose, kind), len, a, b])?;
+    put_addr(text, pce)
+}
+
 fn put_hop(text: &mut Vec<u8>, hop: &Hop) -> Result<(), NoMemory>
     ensures { OnOk result (text.new.items ≡ text.old.items ++ hop_text hop.now) }
 {
     match hop {
-        Hop::Prefix { addr, .. } => {
-            let [a, b, c, d] = addr.0.to_be_bytes();
-            text.extend_from_slice(&[1, 8, a, b, c, d, 32, 0])?;
-        }
+        Hop::Prefix { addr, .. } => put_prefix(text, *addr)?,
         Hop::AsNumber { loose, number } => {
             let [a, b] = number.0.to_be_bytes();
             text.extend_from_slice(&[first(*loose, 32), 4, a, b])?;
         }
-        Hop::Key { loose, key, pce } => {
-            let [a, b] = key.to_be_bytes();
-            let [c, d, e, f] = pce.0.to_be_bytes();
-            text.extend_from_slice(&[first(*loose, 64), 8, a, b, c, d, e, f])?;
-        }
+        Hop::Key { loose, key, pce } => put_key(text, *loose, *key, *pce)?,
         Hop::Other { loose, kind, body } => {
             let len = (body.len() % 256 + 2) % 256;
             text.extend_from_slice(&[first(*loose, *kind % 128), len as u8])?;
@@ -128,7 +178,8 @@ fn hop_len(hop: &Hop) -> usize
     ensures { result ≡ length (hop_text hop.now) }
 {
     match hop {
-        Hop::Prefix { .. } | Hop::Key { .. } => 8,
+        Hop::Prefix { addr, .. } => 4 + addr_len(*addr),
+        Hop::Key { pce, .. } => 4 + addr_len(*pce),
         Hop::AsNumber { .. } => 4,
         Hop::Other { body, .. } => body.as_slice().len() + 2,
     }

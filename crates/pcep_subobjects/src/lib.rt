@@ -12,8 +12,9 @@ pub use exclusions::{
 };
 pub use hop::{Hop, HopFault};
 pub use hops::{
-    hops_are_read_again, no_hop_begins_another, read_hops, room_behind_hops, write_hops,
+    hops_are_read_again, no_hop_begins_another, read_hops, room_behind_hops, strict_hop, write_hops,
 };
+pub use octets::{addr_len, put_addr, wide};
 
 #[cfg(test)]
 mod tests;

@@ -1,18 +1,20 @@
+//! Routes and exclusions of each type, and what is no list of them.
 use super::*;
 use dom_base::{Addr, As, Excluded};
 use std::process::Abort;
 use std::test::Fail;
 
 // A route with a hop of each kind, its prefix strict and to one address.
-const ROUTE: [u8; 32] = [
-    1, 8, 10, 2, 0, 1, 32, 0, 160, 4, 0, 7, 64, 8, 0, 1, 192, 0, 2, 2, 132, 4, 1, 2, 127, 8, 1, 2,
-    3, 4, 5, 6,
+const ROUTE: [u8; 72] = [
+    1, 8, 10, 2, 0, 1, 32, 0, 2, 20, 0x20, 1, 0x0D, 0xB8, 0, 0, 0, 0, 0, 0, 0, 0, 0, 1, 0, 4, 128,
+    0, 160, 4, 0, 7, 64, 8, 0, 1, 192, 0, 2, 2, 65, 20, 0, 2, 0x20, 1, 0x0D, 0xB8, 0, 0, 0, 0, 0,
+    0, 0, 0, 0, 0, 0, 2, 132, 4, 1, 2, 127, 8, 1, 2, 3, 4, 5, 6,
 ];
 
 // An exclusion of each kind, the second only to be avoided.
-const EXCLUSIONS: [u8; 36] = [
-    1, 8, 10, 1, 0, 2, 24, 1, 160, 4, 0, 7, 34, 8, 0, 0, 0, 7, 0, 2, 4, 4, 1, 2, 2, 12, 1, 2, 3, 4,
-    5, 6, 7, 8, 9, 10,
+const EXCLUSIONS: [u8; 44] = [
+    1, 8, 10, 1, 0, 2, 24, 1, 160, 4, 0, 7, 34, 8, 0, 0, 0, 7, 0, 2, 4, 4, 1, 2, 130, 20, 0x20, 1,
+    0x0D, 0xB8, 0, 0, 0, 0, 0, 0, 0, 0, 0, 1, 0, 4, 64, 1,
 ];
 
 #[test]
@@ -22,8 +24,13 @@ fn hops_of_each_kind_are_read_and_written_again(rt: HostRuntime) -> Result<(), F
         [
             Hop::Prefix {
                 loose: false,
-                addr: Addr(0x0A02_0001),
+                addr: Addr::V4(0x0A02_0001),
                 length: 32,
+            },
+            Hop::Prefix {
+                loose: false,
+                addr: Addr::V6(0x2001_0DB8_0000_0000_0000_0000_0001_0004),
+                length: 128,
             },
             Hop::AsNumber {
                 loose: true,
@@ -32,7 +39,12 @@ fn hops_of_each_kind_are_read_and_written_again(rt: HostRuntime) -> Result<(), F
             Hop::Key {
                 loose: false,
                 key: 1,
-                pce: Addr(0xC000_0202),
+                pce: Addr::V4(0xC000_0202),
+            },
+            Hop::Key {
+                loose: false,
+                key: 2,
+                pce: Addr::V6(0x2001_0DB8_0000_0000_0000_0000_0000_0002),
             },
             Hop::Other {
                 loose: true,
@@ -50,8 +62,8 @@ fn hops_of_each_kind_are_read_and_written_again(rt: HostRuntime) -> Result<(), F
     let mut text = Vec::new(rt.alloc());
     write_hops(rt.alloc(), hops.as_slice(), &mut text)?;
     assert_eq!(rt; text.as_slice(), ROUTE.as_slice());
-    assert_eq!(rt; room_behind_hops(hops.as_slice(), 32), Some(0));
-    assert_eq!(rt; room_behind_hops(hops.as_slice(), 31), None);
+    assert_eq!(rt; room_behind_hops(hops.as_slice(), 72), Some(0));
+    assert_eq!(rt; room_behind_hops(hops.as_slice(), 71), None);
     Ok(())
 }
 
@@ -59,17 +71,28 @@ fn hops_of_each_kind_are_read_and_written_again(rt: HostRuntime) -> Result<(), F
 fn exclusions_of_each_kind_are_read_and_written_again(rt: HostRuntime) -> Result<(), Fail> {
     let list = read_exclusions(rt.alloc(), &EXCLUSIONS)?;
     match list.as_slice() {
-        [first, second, third, ..] => {
+        [first, second, third, _, fifth] => {
             assert!(rt;
                 matches!(
                     first.what,
                     Excluded::Prefix {
-                        addr: Addr(0x0A01_0002),
+                        addr: Addr::V4(0x0A01_0002),
                         length: 24,
                         attribute: 1
                     }
                 )
             );
+            assert!(rt;
+                matches!(
+                    fifth.what,
+                    Excluded::Prefix {
+                        addr: Addr::V6(0x2001_0DB8_0000_0000_0000_0000_0001_0004),
+                        length: 64,
+                        attribute: 1
+                    }
+                )
+            );
+            assert!(rt; fifth.avoid);
             assert!(rt; !first.avoid && second.avoid);
             assert!(rt; matches!(second.what, Excluded::AsNumber(As(7))));
             assert!(rt; matches!(third.what, Excluded::Srlg(7)));
@@ -79,8 +102,8 @@ fn exclusions_of_each_kind_are_read_and_written_again(rt: HostRuntime) -> Result
     let mut text = Vec::new(rt.alloc());
     write_exclusions(rt.alloc(), list.as_slice(), &mut text)?;
     assert_eq!(rt; text.as_slice(), EXCLUSIONS.as_slice());
-    assert_eq!(rt; room_behind_exclusions(list.as_slice(), 36), Some(0));
-    assert_eq!(rt; room_behind_exclusions(list.as_slice(), 35), None);
+    assert_eq!(rt; room_behind_exclusions(list.as_slice(), 44), Some(0));
+    assert_eq!(rt; room_behind_exclusions(list.as_slice(), 43), None);
     Ok(())
 }
 
@@ -120,9 +143,9 @@ fn length_is_read(
     is_route: bool,
     good: bool,
 ) {
-    let mut octets = [0u8; 16];
+    let mut octets = [0u8; 32];
     octets[0] = kind;
-    if len < 16 {
+    if len < 32 {
         octets[1] = len as u8;
         let (whole, _) = octets.split_at(len.max(2));
         let (cut, _) = octets.split_at(len.max(2) - 1);
@@ -152,22 +175,22 @@ fn length_is_read(
 
 #[test]
 fn each_type_has_its_lengths(rt: HostRuntime) {
-    let routes: [(u8, [usize; 3]); 6] = [
-        (1, [8, 8, 8]),
-        (32, [4, 4, 4]),
-        (64, [8, 8, 8]),
-        (2, [4, 8, 12]),
-        (65, [4, 8, 12]),
-        (0, [4, 8, 12]),
+    let routes: [(u8, [usize; 5]); 6] = [
+        (1, [8, 8, 8, 8, 8]),
+        (2, [20, 20, 20, 20, 20]),
+        (32, [4, 4, 4, 4, 4]),
+        (64, [8, 8, 8, 8, 8]),
+        (65, [20, 20, 20, 20, 20]),
+        (0, [4, 8, 12, 16, 20]),
     ];
-    let exclusions: [(u8, [usize; 3]); 5] = [
-        (1, [8, 8, 8]),
-        (32, [4, 4, 4]),
-        (34, [8, 8, 8]),
-        (4, [4, 8, 12]),
-        (64, [4, 8, 12]),
+    let exclusions: [(u8, [usize; 5]); 5] = [
+        (1, [8, 8, 8, 8, 8]),
+        (2, [20, 20, 20, 20, 20]),
+        (32, [4, 4, 4, 4, 4]),
+        (34, [8, 8, 8, 8, 8]),
+        (65, [4, 8, 12, 16, 20]),
     ];
-    for len in 0..13 {
+    for len in 0..22 {
         for (kind, lengths) in routes {
             length_is_read(&rt, rt.alloc(), kind, len, true, lengths.contains(&len));
             length_is_read(
@@ -191,4 +214,16 @@ fn each_type_has_its_lengths(rt: HostRuntime) {
             );
         }
     }
+}
+
+#[test]
+fn a_strict_hop_names_one_address(rt: HostRuntime) -> Result<(), Fail> {
+    let hops = [strict_hop(Addr::V4(0x0A02_0001)), strict_hop(Addr::V6(1))];
+    let mut text = Vec::new(rt.alloc());
+    write_hops(rt.alloc(), &hops, &mut text)?;
+    let expected = [
+        1, 8, 10, 2, 0, 1, 32, 0, 2, 20, 0, 0, 0, 0, 0, 0, 0, 0, 0, 0, 0, 0, 0, 0, 0, 1, 128, 0,
+    ];
+    assert_eq!(rt; text.as_slice(), expected.as_slice());
+    Ok(())
 }

@@ -10,21 +10,22 @@ use Rattle.std.proofs.lemmas.List.{get_or-take, get_or_default, length-take-le, 
 use Rattle.std.proofs.lemmas.List.Elements.{All-contains, All-weaker}
 use Rattle.std.proofs.lemmas.Map.Made.{IsDistinct-from_AllPairs, is_member-Decides, length-le_from_is_member}
 use Rattle.std.proofs.lemmas.Option.{slice_get-get_or, slice_get_cases, get_or_from_slice_get, slice_get_within}
-use Rattle.dom_base.specs.declared.names.Addr.{Addr}
+use Rattle.dom_base.specs.AddrOrder.{rank}
+use Rattle.dom_base.proofs.Ranks.{same_addr}
+use Rattle.dom_base.specs.declared.addr.Addr.{Addr}
 use Rattle.te_links.specs.Rows.{FewDifferent}
 
-pub same_addr : (a b : Addr) → Decides (nat_eq a.0 b.0) (a ≡ b)
-same_addr a b =
-    let d = Decides-eqb a.0 b.0 in
-    (λ t. ap (λ k. let c : Addr = record { 0 = k } in c) (d.0 t), λ is. d.1 (ap (λ (c : Addr). c.0) is))
+-- a comparison of places decides whether two addresses are one
+pub Decides-rank : (a b : Addr) → Decides (nat_eq (rank a) (rank b)) (a ≡ b)
+Decides-rank a b = let d = Decides-eqb (rank a) (rank b) in (λ t. same_addr a b (d.0 t), λ is. d.1 (ap rank is))
 
 abbrev same : Addr → Addr → Bool
-same a b = nat_eq a.0 b.0
+same a b = nat_eq (rank a) (rank b)
 
 -- an address stands in a list or does not
 pub stands : (list : List Addr) (a : Addr) → Contains list a ⊎ ¬ Contains list a
 stands list a =
-    let d : Decides (is_member same list a) (Contains list a) = is_member-Decides {eq = same} same_addr list a in
+    let d : Decides (is_member same list a) (Contains list a) = is_member-Decides {eq = same} Decides-rank list a in
     let go : (b : Bool) → is_member same list a ≡ b → Contains list a ⊎ ¬ Contains list a =
     λ b. elim b as (λ t. is_member same list a ≡ t → Contains list a ⊎ ¬ Contains list a) [
       | true ↦ λ is. inl (d.0 is)
@@ -53,11 +54,11 @@ new_of_different keys differ k x at_k has =
 pub few_covered : (most : ℕ) (list cover : List Addr) → All (Contains cover) list → length cover ≤ most → FewDifferent most list
 few_covered most list cover covered short some differ within =
     let inside : (q : Addr) → is_member same some q ≡ true → is_member same cover q ≡ true =
-    λ q is. (is_member-Decides {eq = same} same_addr cover q).1
-    (All-contains (Contains cover) list q covered (All-contains (Contains list) some q within ((is_member-Decides {eq = same} same_addr some q).0 is))) in
+    λ q is. (is_member-Decides {eq = same} Decides-rank cover q).1
+    (All-contains (Contains cover) list q covered (All-contains (Contains list) some q within ((is_member-Decides {eq = same} Decides-rank some q).0 is))) in
     let bound : length some ≤ length cover =
-    length-le_from_is_member {eq = same} (record { refl = λ a. nat_eq_equiv.refl a.0; symm = λ a b. nat_eq_equiv.symm a.0 b.0; congr = λ a b c. nat_eq_equiv.congr a.0 b.0 c.0 })
-    some cover (IsDistinct-from_AllPairs {eq = same} same_addr some differ) inside in
+    length-le_from_is_member {eq = same} (record { refl = λ a. nat_eq_equiv.refl (rank a); symm = λ a b. nat_eq_equiv.symm (rank a) (rank b); congr = λ a b c. nat_eq_equiv.congr (rank a) (rank b) (rank c) })
+    some cover (IsDistinct-from_AllPairs {eq = same} Decides-rank some differ) inside in
     omega arith
 
 -- fewer addresses have few different ones too

@@ -8,6 +8,7 @@ pub mod Sound
 pub mod RowRules
 pub mod Within
 pub mod Listed
+pub mod Compared
 pub mod Counting
 pub mod Surveyed
 pub mod Moved

@@ -11,7 +11,7 @@ use Rattle.te_links.specs.declared.fault.RowKind.TheVariants.{Node, Link as Inne
 use Rattle.te_links.specs.declared.fault.BuildError.{BuildError}
 use Rattle.te_links.specs.declared.fault.BuildError.TheVariants.{Rule, NoMemory}
 use Rattle.te_links.specs.Rows.{Rows}
-use Rattle.te_links.specs.Faults.{Breaks, rank, IsReason, kind_rank}
+use Rattle.te_links.specs.Faults.{Breaks, fault_order, IsReason, kind_rank}
 use Rattle.te_links.specs.Checks.{NoneBefore, NoneOf, IsReasonOf}
 use Rattle.te_links.proofs.Within.{few_in_all, few_so_far}
 
@@ -107,5 +107,5 @@ pub first_of_entries : (g : Rows) (e : BuildError) → NoneOf g Node → NoneOf 
 first_of_entries g e nodes links outs reason = only_kind g EntryRow e (before_entries g nodes links outs) reason
 
 pub reason_of : (g : Rows) (kind : RowKind) (fault : TopoFault) (i : ℕ) (e : BuildError) → e ≡ Rule fault (record { kind = kind; index = i }) → Breaks g kind i fault →
-    ((other : TopoFault) → rank other < rank fault → ¬ Breaks g kind i other) → NoneBefore g kind i → IsReasonOf g kind e
+    ((other : TopoFault) → fault_order other < fault_order fault → ¬ Breaks g kind i other) → NoneBefore g kind i → IsReasonOf g kind e
 reason_of g kind fault i e is breaks first before = rw is (record { here = refl; breaks = breaks; first_rule = first; first_row = before })

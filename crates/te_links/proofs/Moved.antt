@@ -13,40 +13,42 @@ use Rattle.std.proofs.lemmas.List.Sorted.{IsPermutation-sym, IsPermutation-map, 
 use Rattle.std.proofs.lemmas.Map.Keys.{IsDistinct-IsPermutation}
 use Rattle.std.proofs.lemmas.Map.Made.{AllPairs-from_IsDistinct, IsDistinct-from_AllPairs}
 use Rattle.std.proofs.lemmas.Option.{slice_get_cases}
-use Rattle.dom_base.specs.declared.names.Addr.{Addr}
+use Rattle.dom_base.specs.AddrOrder.{rank}
+use Rattle.dom_base.proofs.Ranks.{same_addr}
+use Rattle.dom_base.specs.declared.addr.Addr.{Addr}
 use Rattle.dom_base.specs.declared.link.Link.{Link}
 use Rattle.te_links.specs.declared.rows.OutLink.{OutLink}
 use Rattle.te_links.specs.declared.rows.Entry.{Entry}
 use Rattle.te_links.specs.Rows.{Rows, IsTopology, IsInnerLink, IsLink, IsOutLink, IsEntry, all_links, FewDifferent, IsEntryBefore}
-use Rattle.te_links.proofs.Different.{same_addr, few_fewer}
+use Rattle.te_links.proofs.Different.{Decides-rank, few_fewer}
 use Rattle.te_links.proofs.Sound.{by_key}
 
 pub permuted_differ : (xs ys : List Addr) → IsPermutation xs ys → AllPairs (λ a b. a ≢ b) xs → AllPairs (λ a b. a ≢ b) ys
 permuted_differ xs ys moved differ =
-    AllPairs-from_IsDistinct {eq = λ a b. nat_eq a.0 b.0} same_addr ys
-    (IsDistinct-IsPermutation (λ a b. nat_eq a.0 b.0) (λ a b. nat_eq_equiv.symm a.0 b.0) xs ys moved
-    (IsDistinct-from_AllPairs {eq = λ a b. nat_eq a.0 b.0} same_addr xs differ))
+    AllPairs-from_IsDistinct {eq = λ a b. nat_eq (rank a) (rank b)} Decides-rank ys
+    (IsDistinct-IsPermutation (λ a b. nat_eq (rank a) (rank b)) (λ a b. nat_eq_equiv.symm (rank a) (rank b)) xs ys moved
+    (IsDistinct-from_AllPairs {eq = λ a b. nat_eq (rank a) (rank b)} Decides-rank xs differ))
 
-abbrev entry_eq : Entry → Entry → Bool
-entry_eq a b = nat_eq a.from_as.0 b.from_as.0 && nat_eq a.node.0 b.node.0
+abbrev pub entry_eq : Entry → Entry → Bool
+entry_eq a b = nat_eq a.from_as.0 b.from_as.0 && nat_eq (rank a.node) (rank b.node)
 
 both_true : (x y : Bool) → x && y ≡ true → (x ≡ true) × (y ≡ true)
 both_true true true is = (refl, refl)
 both_true true false is = (refl, is)
 both_true false y is = absurd (let e : false ≡ true = is in cc)
 
-same_entry : (a b : Entry) → Decides (entry_eq a b) (a ≡ b)
+pub same_entry : (a b : Entry) → Decides (entry_eq a b) (a ≡ b)
 same_entry a b =
     let domain = Decides-eqb a.from_as.0 b.from_as.0 in
-    let node = Decides-eqb a.node.0 b.node.0 in
-    let one : a.from_as.0 ≡ b.from_as.0 → a.node.0 ≡ b.node.0 → a ≡ b =
+    let node = Decides-eqb (rank a.node) (rank b.node) in
+    let one : a.from_as.0 ≡ b.from_as.0 → rank a.node ≡ rank b.node → a ≡ b =
     λ d n.
     let first : a ≡ record { from_as = b.from_as; node = a.node } = ap (λ k. let e : Entry = record { from_as = record { 0 = k }; node = a.node } in e) d in
-    first ∙ ap (λ k. let e : Entry = record { from_as = b.from_as; node = record { 0 = k } } in e) n in (
-      λ is. let parts = both_true (nat_eq a.from_as.0 b.from_as.0) (nat_eq a.node.0 b.node.0) is in one (domain.0 parts.0) (node.0 parts.1),
+    first ∙ ap (λ k. let e : Entry = record { from_as = b.from_as; node = k } in e) (same_addr a.node b.node n) in (
+      λ is. let parts = both_true (nat_eq a.from_as.0 b.from_as.0) (nat_eq (rank a.node) (rank b.node)) is in one (domain.0 parts.0) (node.0 parts.1),
       λ is.
           let d = domain.1 (ap (λ (e : Entry). e.from_as.0) is) in
-          let n = node.1 (ap (λ (e : Entry). e.node.0) is) in
+          let n = node.1 (ap (λ (e : Entry). rank e.node) is) in
           rw d n,
     )
 
@@ -54,7 +56,7 @@ entries_permuted : (xs ys : List Entry) → IsPermutation xs ys → AllPairs (λ
 entries_permuted xs ys moved differ =
     AllPairs-from_IsDistinct {eq = entry_eq} same_entry ys
     (IsDistinct-IsPermutation entry_eq
-    (λ a b. ap (λ t. t && nat_eq a.node.0 b.node.0) (nat_eq_equiv.symm a.from_as.0 b.from_as.0) ∙ ap (λ t. nat_eq b.from_as.0 a.from_as.0 && t) (nat_eq_equiv.symm a.node.0 b.node.0))
+    (λ a b. ap (λ t. t && nat_eq (rank a.node) (rank b.node)) (nat_eq_equiv.symm a.from_as.0 b.from_as.0) ∙ ap (λ t. nat_eq b.from_as.0 a.from_as.0 && t) (nat_eq_equiv.symm (rank a.node) (rank b.node)))
     xs ys moved (IsDistinct-from_AllPairs {eq = entry_eq} same_entry xs differ))
 
 pub keys_differ : {X : Type 0} (key : X → Addr) (xs : List X) → AllPairs (λ x y. key x ≢ key y) xs → AllPairs (λ a b. a ≢ b) (map key xs)
@@ -105,11 +107,11 @@ moved g nodes links outs entries is by_nodes by_links by_outs by_entries =
     }
 
 -- rows in order whose keys differ rise
-pub strictly : {X : Type 0} (key : X → Addr) (xs : List X) → IsNonDecreasingBy (λ x. (key x).0) xs → AllPairs (λ x y. key x ≢ key y) xs → AllPairs (λ x y. (key x).0 < (key y).0) xs
+pub strictly : {X : Type 0} (key : X → Addr) (xs : List X) → IsNonDecreasingBy (λ x. rank (key x)) xs → AllPairs (λ x y. key x ≢ key y) xs → AllPairs (λ x y. rank (key x) < rank (key y)) xs
 strictly key xs up differ i j d before below =
     let x = get_or xs i d in
     let y = get_or xs j d in
-    let other : (key x).0 ≡ (key y).0 → ⊥ = λ same. differ i j d before below (ap (λ n. let a : Addr = record { 0 = n } in a) same) in
+    let other : rank (key x) ≡ rank (key y) → ⊥ = λ same. differ i j d before below (same_addr (key x) (key y) same) in
     omega (arith, up i j d (omega arith) below, other)
 
 front_pairs : {X : Type 0} (R : X → X → Type 0) (xs ys : List X) → AllPairs R (xs ++ ys) → AllPairs R xs
@@ -123,10 +125,10 @@ back_pairs R xs ys pairs i j d before below =
     (subst (λ y. R (get_or (xs ++ ys) (length xs + i) d) y) (get_or-append-add xs ys j d)
     (pairs (length xs + i) (length xs + j) d (omega arith) (omega (arith, below, length-append xs ys))))
 
-pub links_rise : (g : Rows) → IsTopology g → IsNonDecreasingBy (λ l. l.far.0) g.links → AllPairs (λ l m. l.far.0 < m.far.0) g.links
+pub links_rise : (g : Rows) → IsTopology g → IsNonDecreasingBy (λ l. rank l.far) g.links → AllPairs (λ l m. rank l.far < rank m.far) g.links
 links_rise g is up = strictly (λ l. l.far) g.links up (front_pairs (λ l m. l.far ≢ m.far) g.links (map (λ o. o.link) g.outs) is.fars_differ)
 
-pub outs_rise : (g : Rows) → IsTopology g → IsNonDecreasingBy (λ o. o.link.far.0) g.outs → AllPairs (λ o p. o.link.far.0 < p.link.far.0) g.outs
+pub outs_rise : (g : Rows) → IsTopology g → IsNonDecreasingBy (λ o. rank o.link.far) g.outs → AllPairs (λ o p. rank o.link.far < rank p.link.far) g.outs
 outs_rise g is up =
     let link : OutLink → Link = λ o. o.link in
     let differ = back_pairs (λ l m. l.far ≢ m.far) g.links (map link g.outs) is.fars_differ in
@@ -138,7 +140,7 @@ outs_rise g is up =
 
 -- entries in order
 abbrev pub IsEntryUpTo : Entry → Entry → Type 0
-IsEntryUpTo d e = (d.from_as.0 < e.from_as.0) ⊎ ((d.from_as.0 ≡ e.from_as.0) × (d.node.0 ≤ e.node.0))
+IsEntryUpTo d e = (d.from_as.0 < e.from_as.0) ⊎ ((d.from_as.0 ≡ e.from_as.0) × (rank d.node ≤ rank e.node))
 
 up_to_trans : (a b c : Entry) → IsEntryUpTo a b → IsEntryUpTo b c → IsEntryUpTo a c
 up_to_trans a b c ab bc =
@@ -165,14 +167,14 @@ entries_rise xs next differ i j d before below =
     elim (climbs xs next i j d before below) [
       | inl less ↦ inl less
       | inr same ↦
-          let other : a.node.0 ≡ b.node.0 → ⊥ = λ is.
+          let other : rank a.node ≡ rank b.node → ⊥ = λ is.
           differ i j d before below
-          (ap (λ k. let e : Entry = record { from_as = record { 0 = k }; node = a.node } in e) same.0 ∙ ap (λ k. let e : Entry = record { from_as = b.from_as; node = record { 0 = k } } in e) is) in
+          (ap (λ k. let e : Entry = record { from_as = record { 0 = k }; node = a.node } in e) same.0 ∙ ap (λ k. let e : Entry = record { from_as = b.from_as; node = k } in e) (same_addr a.node b.node is)) in
           inr (same.0, omega (arith, same.1, other))
     ]
 
 -- what the derived order of entries says
-pub entries_compared : (a b : Entry) → is_lt (ordering_then (nat_cmp b.from_as.0 a.from_as.0) (nat_cmp b.node.0 a.node.0)) ≡ false → IsEntryUpTo a b
+pub entries_compared : (a b : Entry) → is_lt (ordering_then (nat_cmp b.from_as.0 a.from_as.0) (nat_cmp (rank b.node) (rank a.node))) ≡ false → IsEntryUpTo a b
 entries_compared a b is =
     elim (cases_lt a.from_as.0 b.from_as.0) [
       | inl less ↦ inl less
@@ -183,11 +185,11 @@ entries_compared a b is =
             absurd (cc)
         | inr le ↦
             let same : a.from_as.0 ≡ b.from_as.0 = omega arith in
-            elim (cases_lt b.node.0 a.node.0) [
+            elim (cases_lt (rank b.node) (rank a.node)) [
               | inl more ↦
                   let not_less : nat_lt b.from_as.0 a.from_as.0 ≡ false = le-ltb b.from_as.0 a.from_as.0 (omega arith) in
                   let equal : nat_eq b.from_as.0 a.from_as.0 ≡ true = (Decides-eqb b.from_as.0 a.from_as.0).1 (sym same) in
-                  let t : nat_lt b.node.0 a.node.0 ≡ true = lt-ltb b.node.0 a.node.0 more in
+                  let t : nat_lt (rank b.node) (rank a.node) ≡ true = lt-ltb (rank b.node) (rank a.node) more in
                   let h : true ≡ false = rw (not_less, equal, t) at is in
                   absurd (cc)
               | inr fits ↦ inr (same, fits)

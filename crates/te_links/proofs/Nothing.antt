@@ -1,7 +1,8 @@
 -- A topology without rows.
 use Rattle.std.proofs.Common.{inl, inr, ℕ, [], length, refl, arith}
 use Rattle.std.proofs.lemmas.Bool.{cases_lt}
-use Rattle.dom_base.specs.declared.names.Addr.{Addr}
+use Rattle.dom_base.specs.declared.addr.Addr.TheVariants.{V4}
+use Rattle.dom_base.specs.declared.addr.Addr.{Addr}
 use Rattle.dom_base.specs.declared.names.As.{As}
 use Rattle.te_links.specs.Rows.{Rows, IsTopology, IsInOrder, FewDifferent}
 use Rattle.te_links.specs.Index.{IsIndex}
@@ -9,7 +10,7 @@ use Rattle.te_links.specs.Index.{IsIndex}
 pub few_of_none : (most : ℕ) → FewDifferent most []
 few_of_none most list differ within =
     elim (cases_lt 0 (length list)) [
-      | inl some ↦ let first : Addr = record { 0 = 0 } in absurd (omega (arith, (within 0 first some).1))
+      | inl some ↦ let first : Addr = V4 0 in absurd (omega (arith, (within 0 first some).1))
       | inr no_one ↦ omega arith
     ]
 

@@ -3,7 +3,7 @@ use Rattle.std.proofs.Common.{◌≡◌, inl, inr, ℕ, zero, suc, ◌+◌, ◌<
 use Rattle.std.specs.Prelude.{slice_get}
 use Rattle.std.proofs.lemmas.Bool.{cases_lt}
 use Rattle.std.proofs.lemmas.Option.{same_Some}
-use Rattle.dom_base.specs.declared.names.Addr.{Addr}
+use Rattle.dom_base.specs.declared.addr.Addr.{Addr}
 use Rattle.dom_base.specs.declared.link.Link.{Link}
 use Rattle.te_links.specs.declared.rows.OutLink.{OutLink}
 use Rattle.te_links.specs.declared.rows.Entry.{Entry}
@@ -11,7 +11,7 @@ use Rattle.te_links.specs.declared.fault.TopoFault.{TopoFault}
 use Rattle.te_links.specs.declared.fault.TopoFault.TheVariants.{TooMany, DuplicateNode, UnknownNode, OwnAs, BadMetric, DuplicateNear, DuplicateFar, DuplicateEntry, Syntax, NoHeader}
 use Rattle.te_links.specs.declared.fault.RowKind.TheVariants.{Node, Link as InnerLink, Out, Entry as EntryRow}
 use Rattle.te_links.specs.Rows.{Rows}
-use Rattle.te_links.specs.Faults.{rank, Breaks, NodeBreaks, LinkBreaks, OutBreaks, EntryBreaks}
+use Rattle.te_links.specs.Faults.{fault_order, Breaks, NodeBreaks, LinkBreaks, OutBreaks, EntryBreaks}
 
 abbrev fault_of : ℕ → TopoFault
 fault_of zero = TooMany
@@ -25,7 +25,7 @@ fault_of (suc (suc (suc (suc (suc (suc (suc zero))))))) = DuplicateEntry
 fault_of (suc (suc (suc (suc (suc (suc (suc (suc zero)))))))) = Syntax
 fault_of (suc (suc (suc (suc (suc (suc (suc (suc (suc n))))))))) = NoHeader
 
-back : (f : TopoFault) → fault_of (rank f) ≡ f
+back : (f : TopoFault) → fault_of (fault_order f) ≡ f
 back TooMany = refl
 back DuplicateNode = refl
 back UnknownNode = refl
@@ -37,7 +37,7 @@ back DuplicateEntry = refl
 back Syntax = refl
 back NoHeader = refl
 
-small : (f : TopoFault) → rank f < 10
+small : (f : TopoFault) → fault_order f < 10
 small TooMany = omega arith
 small DuplicateNode = omega arith
 small UnknownNode = omega arith
@@ -51,17 +51,17 @@ small NoHeader = omega arith
 
 -- none of the first n rules is broken
 pub record IsClear (breaks : TopoFault → Type 0) (n : ℕ) : Type 0 where
-  pub below : (other : TopoFault) → rank other < n → ¬ breaks other
+  pub below : (other : TopoFault) → fault_order other < n → ¬ breaks other
 
 pub clear_none : (breaks : TopoFault → Type 0) → IsClear breaks 0
 clear_none breaks = record { below = λ other less b. omega arith }
 
-pub clear_more : (breaks : TopoFault → Type 0) (f : TopoFault) → ¬ breaks f → IsClear breaks (rank f) → IsClear breaks (rank f + 1)
+pub clear_more : (breaks : TopoFault → Type 0) (f : TopoFault) → ¬ breaks f → IsClear breaks (fault_order f) → IsClear breaks (fault_order f + 1)
 clear_more breaks f not_f clear = record {
   below = λ other less b.
-      elim (cases_lt (rank other) (rank f)) [
+      elim (cases_lt (fault_order other) (fault_order f)) [
         | inl lt ↦ clear.below other lt b
-        | inr ge ↦ let same : rank other ≡ rank f = omega arith in not_f (subst breaks (sym (back other) ∙ ap fault_of same ∙ back f) b)
+        | inr ge ↦ let same : fault_order other ≡ fault_order f = omega arith in not_f (subst breaks (sym (back other) ∙ ap fault_of same ∙ back f) b)
       ];
 }
 

@@ -5,7 +5,7 @@ use Rattle.std.proofs.lemmas.List.{take-map}
 use Rattle.std.proofs.lemmas.List.Elements.{All-get_or, All-take, All-contains_itself}
 use Rattle.std.proofs.lemmas.List.Sums.{sum_by-take-le}
 use Rattle.std.proofs.lemmas.Option.{slice_get_within, get_or_from_slice_get}
-use Rattle.dom_base.specs.declared.names.Addr.{Addr}
+use Rattle.dom_base.specs.declared.addr.Addr.{Addr}
 use Rattle.dom_base.specs.declared.link.Link.{Link}
 use Rattle.te_links.specs.declared.rows.OutLink.{OutLink}
 use Rattle.te_links.specs.declared.rows.Entry.{Entry}

@@ -7,7 +7,8 @@ use Rattle.std.proofs.lemmas.List.{take-map, length-map, take_all}
 use Rattle.std.proofs.lemmas.List.Elements.{All-head, All-tail, All-cons, All-nil}
 use Rattle.std.proofs.lemmas.List.Sums.{sum_by-cons, sum_by_more}
 use Rattle.std.proofs.lemmas.Option.{slice_get_cases, slice_get_within, get_or_from_slice_get}
-use Rattle.dom_base.specs.declared.names.Addr.{Addr}
+use Rattle.dom_base.specs.declared.addr.Addr.TheVariants.{V4}
+use Rattle.dom_base.specs.declared.addr.Addr.{Addr}
 use Rattle.te_links.specs.declared.rows.OutLink.{OutLink}
 use Rattle.te_links.specs.declared.rows.Entry.{Entry}
 use Rattle.te_links.specs.declared.fault.TopoFault.TheVariants.{TooMany}
@@ -66,7 +67,7 @@ below_others a (e ∷ xs) all =
 -- few entries for each of n domains are few in all
 pub few_in_all : (n : ℕ) (xs : List Entry) → FewEntries xs → All (λ e. e.from_as.0 < n) xs → length xs ≤ 16 * n
 few_in_all zero xs few all =
-    let some : Entry = record { from_as = record { 0 = 0 }; node = record { 0 = 0 } } in
+    let some : Entry = record { from_as = record { 0 = 0 }; node = V4 0 } in
     elim (cases_lt 0 (length xs)) [
       | inl has ↦ absurd (omega (arith, all 0 some has))
       | inr none ↦ omega arith

@@ -6,12 +6,12 @@ use Rattle.te_links.specs.declared.fault.RowKind.{RowKind}
 use Rattle.te_links.specs.declared.fault.BuildError.{BuildError}
 use Rattle.te_links.specs.declared.fault.BuildError.TheVariants.{Rule, NoMemory}
 use Rattle.te_links.specs.Rows.{Rows}
-use Rattle.te_links.specs.Faults.{Breaks, rank}
+use Rattle.te_links.specs.Faults.{Breaks, fault_order}
 
 -- the first rule that is broken, or none is
 abbrev pub IsFirstRule : (TopoFault → Type 0) → Option TopoFault → Type 0
 IsFirstRule breaks None = (other : TopoFault) → ¬ breaks other
-IsFirstRule breaks (Some fault) = breaks fault × ((other : TopoFault) → rank other < rank fault → ¬ breaks other)
+IsFirstRule breaks (Some fault) = breaks fault × ((other : TopoFault) → fault_order other < fault_order fault → ¬ breaks other)
 
 -- the rows of this kind before place n break no rule
 pub record NoneBefore (g : Rows) (kind : RowKind) (n : ℕ) : Type 0 where
@@ -25,7 +25,7 @@ pub record NoneOf (g : Rows) (kind : RowKind) : Type 0 where
 pub record IsFirstOf (g : Rows) (kind : RowKind) (fault : TopoFault) (row : Row) : Type 0 where
   pub here : row.kind ≡ kind
   pub breaks : Breaks g kind row.index fault
-  pub first_rule : (other : TopoFault) → rank other < rank fault → ¬ Breaks g kind row.index other
+  pub first_rule : (other : TopoFault) → fault_order other < fault_order fault → ¬ Breaks g kind row.index other
   pub first_row : NoneBefore g kind row.index
 
 abbrev pub IsReasonOf : Rows → RowKind → BuildError → Type 0

@@ -1,6 +1,6 @@
 -- Which rule of a topology a row breaks, and which breach is the first.
 use Rattle.std.specs.Prelude.{◌≡◌, ◌⊎◌, ◌≤◌, ◌<◌, ◌+◌, ℕ, List, ◌++◌, Some, length, map, take, Contains, slice_get}
-use Rattle.dom_base.specs.declared.names.Addr.{Addr}
+use Rattle.dom_base.specs.declared.addr.Addr.{Addr}
 use Rattle.dom_base.specs.declared.link.Link.{Link}
 use Rattle.te_links.specs.declared.rows.OutLink.{OutLink}
 use Rattle.te_links.specs.declared.rows.Entry.{Entry}
@@ -20,17 +20,17 @@ abbrev pub rows_of_parts : Parts → Rows
 rows_of_parts p = record { own = p.own; nodes = p.nodes; links = p.links; outs = p.outs; entries = p.entries }
 
 -- the rules in their order at a row; the last two are of texts alone
-abbrev pub rank : TopoFault → ℕ
-rank TooMany = 0
-rank DuplicateNode = 1
-rank UnknownNode = 2
-rank OwnAs = 3
-rank BadMetric = 4
-rank DuplicateNear = 5
-rank DuplicateFar = 6
-rank DuplicateEntry = 7
-rank Syntax = 8
-rank NoHeader = 9
+abbrev pub fault_order : TopoFault → ℕ
+fault_order TooMany = 0
+fault_order DuplicateNode = 1
+fault_order UnknownNode = 2
+fault_order OwnAs = 3
+fault_order BadMetric = 4
+fault_order DuplicateNear = 5
+fault_order DuplicateFar = 6
+fault_order DuplicateEntry = 7
+fault_order Syntax = 8
+fault_order NoHeader = 9
 
 -- what the node at place i breaks
 abbrev pub NodeBreaks : Rows → ℕ → Addr → TopoFault → Type 0
@@ -93,7 +93,7 @@ IsBefore kind i row = (kind_rank kind < kind_rank row.kind) ⊎ ((kind ≡ row.k
 -- the row breaks the rule, no rule before it, and no row before it breaks any
 pub record IsFirstBreach (g : Rows) (fault : TopoFault) (row : Row) : Type 0 where
   pub breaks : Breaks g row.kind row.index fault
-  pub first_rule : (other : TopoFault) → rank other < rank fault → ¬ Breaks g row.kind row.index other
+  pub first_rule : (other : TopoFault) → fault_order other < fault_order fault → ¬ Breaks g row.kind row.index other
   pub first_row : (kind : RowKind) (i : ℕ) (other : TopoFault) → IsBefore kind i row → ¬ Breaks g kind i other
 
 -- why rows are refused; want of memory says nothing of them

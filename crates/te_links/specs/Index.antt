@@ -1,7 +1,7 @@
 -- Which links end at which node.
 use Rattle.std.specs.Prelude.{◌≡◌, ◌<◌, ℕ, List, length, All, AllPairs, Contains, Some, slice_get, slice_index_or}
 use Rattle.std.specs.Global.{Vec}
-use Rattle.dom_base.specs.declared.names.Addr.{Addr}
+use Rattle.dom_base.specs.declared.addr.Addr.{Addr}
 use Rattle.dom_base.specs.declared.link.Link.{Link}
 
 -- the link at place p ends at the node at place i

@@ -1,6 +1,7 @@
 -- What a topology is: the rows of the traffic engineering database of one domain (RFC 4655, section 5.2).
 use Rattle.std.specs.Prelude.{◌≡◌, ◌≢◌, ◌⊎◌, ◌≤◌, ◌<◌, ◌==◌, ℕ, List, ◌++◌, length, map, count_by, All, AllPairs, Contains}
-use Rattle.dom_base.specs.declared.names.Addr.{Addr}
+use Rattle.dom_base.specs.AddrOrder.{rank}
+use Rattle.dom_base.specs.declared.addr.Addr.{Addr}
 use Rattle.dom_base.specs.declared.names.As.{As}
 use Rattle.dom_base.specs.declared.link.Link.{Link}
 use Rattle.te_links.specs.declared.rows.OutLink.{OutLink}
@@ -80,11 +81,11 @@ pub record IsTopology (g : Rows) : Type 0 where
 
 -- entries go by their domain, then by their node
 abbrev pub IsEntryBefore : Entry → Entry → Type 0
-IsEntryBefore d e = (d.from_as.0 < e.from_as.0) ⊎ ((d.from_as.0 ≡ e.from_as.0) × (d.node.0 < e.node.0))
+IsEntryBefore d e = (d.from_as.0 < e.from_as.0) ⊎ ((d.from_as.0 ≡ e.from_as.0) × (rank d.node < rank e.node))
 
 -- nodes stand in the order of their addresses, links in that of their far addresses, entries in theirs
 pub record IsInOrder (g : Rows) : Type 0 where
-  pub nodes : AllPairs (λ a b. a.0 < b.0) g.nodes
-  pub links : AllPairs (λ l m. l.far.0 < m.far.0) g.links
-  pub outs : AllPairs (λ o p. o.link.far.0 < p.link.far.0) g.outs
+  pub nodes : AllPairs (λ a b. rank a < rank b) g.nodes
+  pub links : AllPairs (λ l m. rank l.far < rank m.far) g.links
+  pub outs : AllPairs (λ o p. rank o.link.far < rank p.link.far) g.outs
   pub entries : AllPairs IsEntryBefore g.entries

@@ -2,7 +2,8 @@
 use Rattle.std.specs.Prelude.{◌≡◌, ◌≤◌, ◌<◌, ◌==◌, ◌+◌, ℕ, List, Some, length, map, take, count_by, AllPairs, Contains, IsPermutation, slice_get, slice_index_or}
 use Rattle.std.specs.declared.cmp.Ordering.{Ordering}
 use Rattle.std.specs.BTreeMap.{is_at}
-use Rattle.dom_base.specs.declared.names.Addr.{Addr}
+use Rattle.dom_base.specs.AddrOrder.{rank}
+use Rattle.dom_base.specs.declared.addr.Addr.{Addr}
 use Rattle.te_links.specs.declared.rows.Entry.{Entry}
 use Rattle.te_links.specs.declared.survey.Survey.{Survey}
 use Rattle.te_links.specs.declared.limits.TheConstants.{TAILS_MAX, ENTRY_NODES_MAX}
@@ -27,7 +28,7 @@ pub record TellsRepeats {K : Type 0} (keys : List K) (counts : List ℕ) : Type 
 
 pub record IsSurvey (g : Rows) (s : Survey) : Type 0 where
   pub nodes : IsPermutation g.nodes s.nodes.items
-  pub rising : AllPairs (λ a b. a.0 ≤ b.0) s.nodes.items
+  pub rising : AllPairs (λ a b. rank a ≤ rank b) s.nodes.items
   pub same_node : TellsRepeats g.nodes s.same_node.items
   pub same_near : TellsRepeats (map (λ l. l.near) (all_links g)) s.same_near.items
   pub same_far : TellsRepeats (map (λ l. l.far) (all_links g)) s.same_far.items

@@ -32,8 +32,8 @@ fn assemble(alloc: Global, parts: Parts) -> Result<Topology, AllocError>
     let mut outs = outs.into_vec();
     let mut entries = entries.into_vec();
     nodes.sort()?;
-    links.sort_by_key(|l| l.far.0)?;
-    outs.sort_by_key(|o| o.link.far.0)?;
+    links.sort_by_key(|l| l.far)?;
+    outs.sort_by_key(|o| o.link.far)?;
     entries.sort()?;
     let into = index_of(alloc, &nodes, &links)?;
     Ok(Topology::of(own, nodes, links, outs, entries, into))

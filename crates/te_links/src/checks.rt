@@ -1,5 +1,6 @@
 ghost use Rattle.std.specs.Prelude.{◌≡◌, ◌⊎◌, ◌≤◌, ◌<◌, ◌^◌, length, take, slice_get, AllPairs, Contains, Some, MatchResult};
 ghost use Rattle.std.specs.Bool.{Decides};
+ghost use Rattle.dom_base.specs.AddrOrder.{rank};
 ghost use Rattle.te_links.specs.Rows.{IsMetric, IsForeign, IsTopology, FewEntries};
 ghost use Rattle.te_links.specs.Faults.{Breaks, HasBadMetric, IsReason, rows_of_parts};
 ghost use Rattle.te_links.specs.Survey.{IsSurvey};
@@ -44,7 +45,7 @@ fn is_foreign(own: As, other: As) -> bool
 }
 
 fn is_node(nodes: &[Addr], addr: Addr) -> bool
-    requires { AllPairs (λ a b. a.0 ≤ b.0) nodes.now }
+    requires { AllPairs (λ a b. rank a ≤ rank b) nodes.now }
     ensures { Decides result (Contains nodes.now addr) }
 {
     place_of(nodes, addr).is_some()
@@ -58,7 +59,7 @@ fn is_link_past(link: &Link, i: usize) -> bool
 }
 
 fn has_unknown_end(nodes: &[Addr], link: &Link) -> bool
-    requires { AllPairs (λ a b. a.0 ≤ b.0) nodes.now }
+    requires { AllPairs (λ a b. rank a ≤ rank b) nodes.now }
     ensures { Decides result ((¬ Contains nodes.now link.now.from) ⊎ (¬ Contains nodes.now link.now.to)) }
 {
     !is_node(nodes, link.from) || !is_node(nodes, link.to)

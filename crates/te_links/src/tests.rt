@@ -6,10 +6,10 @@ use std::test::Fail;
 // A link whose ends have addresses of their own for each number.
 fn link(alloc: Global, from: u32, to: u32, number: u16) -> Link {
     Link {
-        from: Addr(from),
-        to: Addr(to),
-        near: Addr(0x0A00_0000 + u32::from(number)),
-        far: Addr(0x0B00_0000 + u32::from(number)),
+        from: Addr::V4(from),
+        to: Addr::V4(to),
+        near: Addr::V4(0x0A00_0000 + u32::from(number)),
+        far: Addr::V4(0x0B00_0000 + u32::from(number)),
         igp: 1,
         te: 16_777_215,
         bytes_per_second: 1000,
@@ -28,34 +28,34 @@ fn out(alloc: Global, from: u32, number: u16, to_as: u16) -> OutLink {
 fn entry(node: u32, from_as: u16) -> Entry {
     Entry {
         from_as: As(from_as),
-        node: Addr(node),
+        node: Addr::V4(node),
     }
 }
 
 // Three nodes, two inner links, an out link and an entry, with one thing changed.
 fn changed(alloc: Global, case: u8) -> Result<Parts, AllocError> {
-    let mut nodes = vec![in alloc; Addr(3), Addr(1), Addr(2)]?;
+    let mut nodes = vec![in alloc; Addr::V4(3), Addr::V4(1), Addr::V4(2)]?;
     let mut first = link(alloc, 1, 2, 7);
     let mut second = link(alloc, 2, 3, 5);
     let mut leaving = out(alloc, 3, 9, 2);
     let mut entries = vec![in alloc; entry(2, 3), entry(1, 3), entry(3, 2)]?;
     match case {
         1 => second.srlgs = List::from_vec(vec![in alloc; 1, 2, 3, 4, 5, 6, 7, 8, 9]?),
-        2 => nodes.push(Addr(1))?,
-        3 => first.to = Addr(4),
-        4 => leaving.link.from = Addr(99),
+        2 => nodes.push(Addr::V4(1))?,
+        3 => first.to = Addr::V4(4),
+        4 => leaving.link.from = Addr::V4(99),
         5 => entries.push(entry(4, 2))?,
         6 => leaving.to_as = As(1),
         7 => entries.push(entry(1, 1))?,
         8 => entries.push(entry(1, 0))?,
         9 => first.te = 0,
         10 => leaving.link.igp = 16_777_216,
-        11 => second.near = Addr(0x0A00_0007),
-        12 => leaving.link.near = Addr(0x0A00_0005),
-        13 => leaving.link.far = Addr(0x0B00_0007),
+        11 => second.near = Addr::V4(0x0A00_0007),
+        12 => leaving.link.near = Addr::V4(0x0A00_0005),
+        13 => leaving.link.far = Addr::V4(0x0B00_0007),
         14 => entries.push(entry(1, 3))?,
         15 => {
-            second.from = Addr(9);
+            second.from = Addr::V4(9);
             second.te = 0;
         }
         16 => {
@@ -85,7 +85,7 @@ fn many(
 ) -> Result<Parts, AllocError> {
     let mut nodes = Vec::new(alloc);
     for i in 0..sizes[0] {
-        nodes.push(Addr(u32::from(i)))?;
+        nodes.push(Addr::V4(u32::from(i)))?;
     }
     let mut links = Vec::new(alloc);
     for i in 0..sizes[1] {
@@ -212,16 +212,16 @@ fn shows_its_rows_in_order(rt: HostRuntime) -> Result<(), Fail> {
     let topology = Topology::build(rt.alloc(), changed(rt.alloc(), 0)?)?;
     assert_eq!(rt; topology.own(), As(1));
     assert_eq!(rt; topology.node_count(), 3);
-    assert_eq!(rt; topology.node_at(0), Addr(1));
+    assert_eq!(rt; topology.node_at(0), Addr::V4(1));
     assert_eq!(rt; topology.link_count(), 2);
-    assert_eq!(rt; topology.link_at(0).far, Addr(0x0B00_0005));
+    assert_eq!(rt; topology.link_at(0).far, Addr::V4(0x0B00_0005));
     assert_eq!(rt; topology.out_count(), 1);
     assert_eq!(rt; topology.out_at(0).to_as, As(2));
     assert_eq!(rt; topology.entry_count(), 3);
     assert_eq!(rt; topology.entry_at(0), entry(3, 2));
     assert_eq!(rt; topology.entry_at(1), entry(1, 3));
-    assert_eq!(rt; topology.find_node(Addr(2)), Some(1));
-    assert_eq!(rt; topology.find_node(Addr(4)), None);
+    assert_eq!(rt; topology.find_node(Addr::V4(2)), Some(1));
+    assert_eq!(rt; topology.find_node(Addr::V4(4)), None);
     assert_eq!(rt; topology.links_into(1), [1].as_slice());
     assert_eq!(rt; Topology::empty(rt.alloc(), As(7)).own(), As(7));
     Ok(())
@@ -239,10 +239,10 @@ fn counts_reads(rt: HostRuntime) -> Result<(), Fail> {
     let topology = Topology::build(rt.alloc(), changed(rt.alloc(), 0)?)?;
     let mut counted = Counted::new(&topology);
     assert_eq!(rt; counted.reads(), 0);
-    assert_eq!(rt; far_of_first(&mut counted), Some(Addr(0x0B00_0005)));
-    assert_eq!(rt; counted.find_node(Addr(3)), Some(2));
+    assert_eq!(rt; far_of_first(&mut counted), Some(Addr::V4(0x0B00_0005)));
+    assert_eq!(rt; counted.find_node(Addr::V4(3)), Some(2));
     assert_eq!(rt; counted.node_count(), 3);
-    assert_eq!(rt; counted.node_at(2), Addr(3));
+    assert_eq!(rt; counted.node_at(2), Addr::V4(3));
     assert_eq!(rt; counted.links_into(2), [0].as_slice());
     assert_eq!(rt; counted.out_count(), 1);
     assert_eq!(rt; counted.out_at(0).to_as, As(2));

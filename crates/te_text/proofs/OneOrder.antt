@@ -4,8 +4,9 @@ use Rattle.std.specs.List.{AllByRecursion, AllPairs, Contains}
 use Rattle.std.specs.List.Sorted.{IsPermutation}
 use Rattle.std.proofs.lemmas.List.Elements.{recursion_from_All}
 use Rattle.std.proofs.lemmas.List.Sorted.{Contains-permutation, IsPermutation-sym}
+use Rattle.dom_base.specs.AddrOrder.{rank}
 use Rattle.dom_base.specs.declared.names.As.{As}
-use Rattle.dom_base.specs.declared.names.Addr.{Addr}
+use Rattle.dom_base.specs.declared.addr.Addr.{Addr}
 use Rattle.dom_base.specs.declared.link.Link.{Link}
 use Rattle.te_links.specs.declared.rows.OutLink.{OutLink}
 use Rattle.te_links.specs.declared.rows.Entry.{Entry}
@@ -90,8 +91,8 @@ before_through a b c n m o (inr p) (inr q) = let e = p.0 in let f = q.0 in let h
 
 entries_strict : IsStrict IsEntryBefore
 entries_strict = record {
-  never = λ d h. never_before d.from_as.0 d.node.0 h;
-  through = λ d e f p q. before_through d.from_as.0 e.from_as.0 f.from_as.0 d.node.0 e.node.0 f.node.0 p q;
+  never = λ d h. never_before d.from_as.0 (rank d.node) h;
+  through = λ d e f p q. before_through d.from_as.0 e.from_as.0 f.from_as.0 (rank d.node) (rank e.node) (rank f.node) p q;
 }
 
 abbrev made : As → List Addr → List Link → List OutLink → List Entry → Rows
@@ -101,9 +102,9 @@ made own nodes links outs entries = record { own = own; nodes = nodes; links = l
 pub one_topology : (given : Parts) (t u : Rows) → IsOf given t → IsOf given u → IsInOrder t → IsInOrder u → u ≡ t
 one_topology given t u p q h k =
     let own : u.own ≡ t.own = q.own ∙ sym p.own in
-    let nodes : u.nodes ≡ t.nodes = both (λ a b. a.0 < b.0) (by_number (λ (a : Addr). a.0)) given.nodes u.nodes t.nodes k.nodes h.nodes q.nodes p.nodes in
-    let links : u.links ≡ t.links = both (λ l m. l.far.0 < m.far.0) (by_number (λ (l : Link). l.far.0)) given.links u.links t.links k.links h.links q.links p.links in
-    let outs : u.outs ≡ t.outs = both (λ o b. o.link.far.0 < b.link.far.0) (by_number (λ (o : OutLink). o.link.far.0)) given.outs u.outs t.outs k.outs h.outs q.outs p.outs in
+    let nodes : u.nodes ≡ t.nodes = both (λ a b. rank a < rank b) (by_number (λ (a : Addr). rank a)) given.nodes u.nodes t.nodes k.nodes h.nodes q.nodes p.nodes in
+    let links : u.links ≡ t.links = both (λ l m. rank l.far < rank m.far) (by_number (λ (l : Link). rank l.far)) given.links u.links t.links k.links h.links q.links p.links in
+    let outs : u.outs ≡ t.outs = both (λ o b. rank o.link.far < rank b.link.far) (by_number (λ (o : OutLink). rank o.link.far)) given.outs u.outs t.outs k.outs h.outs q.outs p.outs in
     let entries : u.entries ≡ t.entries = both IsEntryBefore entries_strict given.entries u.entries t.entries k.entries h.entries q.entries p.entries in
     ap (λ own. made own u.nodes u.links u.outs u.entries) own
     ∙ ap (λ nodes. made t.own nodes u.links u.outs u.entries) nodes

@@ -3,7 +3,7 @@ use Rattle.std.proofs.Common.{◌≡◌, ℕ, ◌-◌, ◌^◌, List, [], ◌∷
 use Rattle.std.proofs.lemmas.List.{append-nil}
 use Rattle.std.specs.Fmt.{decimal}
 use Rattle.std.specs.List.{AllByRecursion}
-use Rattle.dom_base.specs.declared.names.Addr.{Addr}
+use Rattle.dom_base.specs.declared.addr.Addr.{Addr}
 use Rattle.dom_base.specs.declared.names.As.{As}
 use Rattle.dom_base.specs.declared.link.Link.{Link}
 use Rattle.dom_base.specs.AddrText.{addr_in, addr_text}

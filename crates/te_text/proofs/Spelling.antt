@@ -1,16 +1,17 @@
 -- Numbers, colours and addresses in digits are words, which say again what was written.
-use Rattle.std.proofs.Common.{◌≡◌, ℕ, ◌-◌, ◌/◌, ◌%◌, ◌^◌, ◌<◌, ◌≤◌, ltb, eqb, Bool, true, false, ◌&&◌, cond, List, [], ◌∷◌, ◌++◌, length, Some, None, refl, arith}
+use Rattle.std.proofs.Common.{◌≡◌, ℕ, ◌-◌, ◌/◌, ◌%◌, ◌^◌, ◌<◌, ◌≤◌, ltb, eqb, Bool, true, false, ◌&&◌, cond, List, [], ◌∷◌, ◌++◌, length, map, Some, None, refl, arith}
 use Rattle.std.proofs.lemmas.Bool.{and_parts, ltb-true}
 use Rattle.std.proofs.lemmas.Bool.Decides.{nat_tests}
 use Rattle.std.proofs.lemmas.List.{length-append}
 use Rattle.std.specs.Fmt.{decimal}
 use Rattle.std.specs.Char.{digit_value}
-use Rattle.std.specs.List.{list_all, AllByRecursion}
-use Rattle.dom_base.specs.declared.names.Addr.{Addr}
+use Rattle.std.specs.List.{join_with_byte, list_all, AllByRecursion}
+use Rattle.dom_base.specs.declared.addr.Addr.{Addr}
+use Rattle.dom_base.specs.declared.addr.Addr.TheVariants.{V4, V6}
 use Rattle.dom_base.specs.declared.link.Link.{Link}
 use Rattle.dom_base.specs.Numerals.{is_numeral, number_in, colour_in, colour_text, value}
-use Rattle.dom_base.specs.AddrText.{addr_in, addr_text, dot}
-use Rattle.dom_base.proofs.NumeralLaws.{decimal_shape, is_shaped}
+use Rattle.dom_base.specs.AddrText.{addr_in, addr_text, colon, dot, group_text}
+use Rattle.dom_base.proofs.NumeralLaws.{decimal_shape, group_shape, is_shaped}
 use Rattle.line_text.specs.Spelling.{IsWord}
 use Rattle.te_text.specs.RowText.{number_32, number_64, ends_in, traits_in}
 use Rattle.te_text.specs.TopologyText.{ends_words, traits_words}
@@ -55,23 +56,44 @@ bytes_append (x ∷ xs) ys h k = (h.0, bytes_append xs ys h.1 k)
 octet_word : (n : ℕ) → n < 256 → IsWord (decimal n)
 octet_word n small = numeral_word 10 (decimal n) (omega arith) (decimal_shape n (omega arith))
 
-dotted : (word rest : List ℕ) → IsWord word → IsWord rest → IsWord (word ++ dot ∷ rest)
-dotted word rest w r = record {
-  some = omega (arith, length-append word (dot ∷ rest), w.some);
-  bytes = bytes_append word (dot ∷ rest) w.bytes (omega arith, r.bytes);
+group_word : (n : ℕ) → n < 2 ^ 16 → IsWord (group_text n)
+group_word n small = numeral_word 16 (group_text n) (omega arith) (group_shape n small)
+
+marked : (mark : ℕ) → 32 < mark → (word rest : List ℕ) → IsWord word → IsWord rest → IsWord (word ++ mark ∷ rest)
+marked mark printed word rest w r = record {
+  some = omega (arith, length-append word (mark ∷ rest), w.some);
+  bytes = bytes_append word (mark ∷ rest) w.bytes (printed, r.bytes);
 }
 
-pub addr_word : (addr : Addr) → IsWord (addr_text addr)
+groups_word : (n : ℕ) (groups : List ℕ) → AllByRecursion (λ k. k < 2 ^ 16) (n ∷ groups) → IsWord (join_with_byte colon (map group_text (n ∷ groups)))
+groups_word n [] h = group_word n h.0
+groups_word n (k ∷ groups) h =
+    marked colon (omega arith) (group_text n) (join_with_byte colon (map group_text (k ∷ groups))) (group_word n h.0) (groups_word k groups h.1)
+
+v4_word : (n : ℕ) → IsWord (addr_text (V4 n))
 unfolding addr_text
-addr_word addr =
-    let a = addr.0 / 16777216 % 256 in
-    let b = addr.0 / 65536 % 256 in
-    let c = addr.0 / 256 % 256 in
-    let d = addr.0 % 256 in
+v4_word n =
+    let a = n / 16777216 % 256 in
+    let b = n / 65536 % 256 in
+    let c = n / 256 % 256 in
+    let d = n % 256 in
     let last = octet_word d (omega arith) in
-    let third = dotted (decimal c) (decimal d) (octet_word c (omega arith)) last in
-    let second = dotted (decimal b) (decimal c ++ dot ∷ decimal d) (octet_word b (omega arith)) third in
-    dotted (decimal a) (decimal b ++ dot ∷ (decimal c ++ dot ∷ decimal d)) (octet_word a (omega arith)) second
+    let third = marked dot (omega arith) (decimal c) (decimal d) (octet_word c (omega arith)) last in
+    let second = marked dot (omega arith) (decimal b) (decimal c ++ dot ∷ decimal d) (octet_word b (omega arith)) third in
+    marked dot (omega arith) (decimal a) (decimal b ++ dot ∷ (decimal c ++ dot ∷ decimal d)) (octet_word a (omega arith)) second
+
+v6_word : (n : ℕ) → IsWord (addr_text (V6 n))
+unfolding addr_text
+v6_word n =
+    let high = n / 2 ^ 64 in
+    let low = n % 2 ^ 64 in
+    groups_word (high / 2 ^ 48 % 2 ^ 16)
+    (high / 2 ^ 32 % 2 ^ 16 ∷ high / 2 ^ 16 % 2 ^ 16 ∷ high % 2 ^ 16 ∷ low / 2 ^ 48 % 2 ^ 16 ∷ low / 2 ^ 32 % 2 ^ 16 ∷ low / 2 ^ 16 % 2 ^ 16 ∷ low % 2 ^ 16 ∷ [])
+    (omega arith, (omega arith, (omega arith, (omega arith, (omega arith, (omega arith, (omega arith, (omega arith, tt))))))))
+
+pub addr_word : (addr : Addr) → IsWord (addr_text addr)
+addr_word (V4 n) = v4_word n
+addr_word (V6 n) = v6_word n
 
 -- ---- parts of a row
 

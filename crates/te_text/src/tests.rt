@@ -229,7 +229,7 @@ fn writes_what_it_reads(rt: HostRuntime) -> Result<(), Fail> {
 // A word, an address and a blank.
 fn push(into: &mut Vec<u8>, word: &[u8], addr: u32) -> Result<(), NoMemory> {
     into.extend_from_slice(word)?;
-    write_addr(Addr(addr), into)?;
+    write_addr(Addr::V4(addr), into)?;
     into.extend_from_slice(b" ")?;
     Ok(())
 }
@@ -253,7 +253,7 @@ fn text_of(alloc: Global, sizes: &Sizes) -> Result<Vec<u8>, NoMemory>
     let mut text = Vec::from_slice(alloc, b"topology 1")?;
     for i in 0..sizes.nodes {
         text.extend_from_slice(b"\nnode ")?;
-        write_addr(Addr(i), &mut text)?;
+        write_addr(Addr::V4(i), &mut text)?;
     }
     for i in 0..sizes.links {
         push(&mut text, b"\nlink 0.0.0.0 0.0.0.0 ", i)?;

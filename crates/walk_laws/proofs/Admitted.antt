@@ -1,6 +1,6 @@
 -- A walk begins at an admitted node.
 use Rattle.std.proofs.Common.{List, [], ◌∷◌, subst}
-use Rattle.dom_base.specs.declared.names.Addr.{Addr}
+use Rattle.dom_base.specs.declared.addr.Addr.{Addr}
 use Rattle.dom_base.specs.declared.link.Link.{Link}
 use Rattle.dom_base.specs.declared.query.Query.{Query}
 use Rattle.dom_base.specs.declared.query.Seed.{Seed}

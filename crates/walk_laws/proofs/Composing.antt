@@ -4,7 +4,9 @@ use Rattle.std.specs.Prelude.{Contains}
 use Rattle.std.specs.declared.option.Option.{Option}
 use Rattle.std.proofs.lemmas.Bool.{cases_lt, cases_eq}
 use Rattle.std.proofs.lemmas.List.Elements.{Contains-push, Contains-push_cases, Contains-append_left, Contains-append_right, Contains-append_cases}
-use Rattle.dom_base.specs.declared.names.Addr.{Addr}
+use Rattle.dom_base.specs.AddrOrder.{rank}
+use Rattle.dom_base.proofs.Ranks.{same_addr}
+use Rattle.dom_base.specs.declared.addr.Addr.{Addr}
 use Rattle.dom_base.specs.declared.link.Link.{Link}
 use Rattle.dom_base.specs.declared.query.Query.{Query}
 use Rattle.dom_base.specs.declared.query.Label.{Label}
@@ -15,7 +17,6 @@ use Rattle.walk_laws.specs.Crossing.{Leg, Crosses, crossing_cost, query_in, IsFe
 use Rattle.walk_laws.specs.Borders.{LeadsTo, Beyond, IsDown, Joins, IsJoin, IsJoinAt}
 use Rattle.walk_laws.specs.Composition.{AreBeyond, IsLeastOf}
 use Rattle.walk_laws.proofs.Lower.{le_cost}
-use Rattle.walk_laws.proofs.Tight.{same_exit}
 
 -- where a walk is feasible there is none without a least one that costs no more
 least_exists : (g : Rows) (q : Query) (u v : Addr) (n : ℕ) (ls : List Link) → cost q ls < n → IsFeasible g q u v ls →
@@ -38,15 +39,15 @@ row_or_none : (down : List Beyond) (n : Addr) → HasRow down n ⊎ ((c : ℕ) �
 row_or_none [] n = inr (λ c has. absurd (omega (arith, has.1)))
 row_or_none (row ∷ rows) n =
     let make : Addr → Beyond = λ m. record { node = m; cost = row.cost } in
-    elim (cases_eq row.node.0 n.0) [
-      | inl same ↦ inl (row.cost, subst (λ (m : Addr). Contains (row ∷ rows) (make m)) (same_exit row.node n same) (Contains-append_left (row ∷ []) rows row (Contains-push [] row)))
+    elim (cases_eq (rank row.node) (rank n)) [
+      | inl same ↦ inl (row.cost, subst (λ (m : Addr). Contains (row ∷ rows) (make m)) (same_addr row.node n same) (Contains-append_left (row ∷ []) rows row (Contains-push [] row)))
       | inr other ↦ elim (row_or_none rows n) [
         | inl found ↦ inl (found.0, Contains-append_right (row ∷ []) rows (record { node = n; cost = found.0 }) found.1)
         | inr none ↦ inr (λ c has. elim (Contains-append_cases (row ∷ []) rows (record { node = n; cost = c }) has) [
           | inr later ↦ none c later
           | inl first ↦ elim (Contains-push_cases [] row (record { node = n; cost = c }) first) [
             | inl nothing ↦ absurd (omega (arith, nothing.1))
-            | inr is ↦ other (ap (λ (b : Beyond). b.node.0) is)
+            | inr is ↦ other (ap (λ (b : Beyond). rank b.node) is)
           ]
         ])
       ]

@@ -2,7 +2,8 @@
 use Rattle.std.proofs.Common.{◌≡◌, inl, inr, ◌+◌, ◌≤◌, List, [], ◌∷◌, arith, refl, sym, ◌∙◌, ap, subst, None, Some}
 use Rattle.std.specs.Prelude.{Contains}
 use Rattle.std.specs.declared.option.Option.{Option}
-use Rattle.dom_base.specs.declared.names.Addr.{Addr}
+use Rattle.dom_base.specs.AddrOrder.{rank}
+use Rattle.dom_base.specs.declared.addr.Addr.{Addr}
 use Rattle.dom_base.specs.declared.link.Link.{Link}
 use Rattle.dom_base.specs.declared.query.Query.{Query}
 use Rattle.dom_base.specs.declared.query.Seed.{Seed}
@@ -38,7 +39,7 @@ at_most_le (Some c) a b h k = le_trans c a b h k
 
 -- the same label, made up otherwise
 pub same_le : (a b : Label) → a.cost ≡ b.cost → a.exit ≡ b.exit → a ≼ b
-same_le a b costs exits = inr (costs, omega (arith, ap (λ (e : Addr). e.0) exits))
+same_le a b costs exits = inr (costs, omega (arith, ap rank exits))
 
 -- the label of a link's end bounds that of its beginning
 step : (g : Rows) (q : Query) (seeds : List Seed) (label : Labelling) → Certifies g q seeds label →

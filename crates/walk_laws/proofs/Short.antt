@@ -7,7 +7,9 @@ use Rattle.std.proofs.lemmas.Cmp.{nat_eq_equiv}
 use Rattle.std.proofs.lemmas.List.{length-map, get_or-map}
 use Rattle.std.proofs.lemmas.List.Elements.{All-contains, All-cons, All-nil}
 use Rattle.std.proofs.lemmas.Map.Made.{is_member-Decides, length-le_from_is_member}
-use Rattle.dom_base.specs.declared.names.Addr.{Addr}
+use Rattle.dom_base.specs.AddrOrder.{rank}
+use Rattle.dom_base.proofs.Ranks.{same_addr}
+use Rattle.dom_base.specs.declared.addr.Addr.{Addr}
 use Rattle.dom_base.specs.declared.link.Link.{Link}
 use Rattle.dom_base.specs.declared.query.Query.{Query}
 use Rattle.dom_base.specs.declared.query.Seed.{Seed}
@@ -18,13 +20,10 @@ use Rattle.walk_laws.proofs.Reached.{weight_positive}
 use Rattle.walk_laws.proofs.Tight.{label_unique}
 
 abbrev pub froms : List Link → List ℕ
-froms ls = map (λ l. l.from.0) ls
+froms ls = map (λ l. rank l.from) ls
 
 abbrev pub numbers : Rows → List ℕ
-numbers g = map (λ n. n.0) g.nodes
-
-same_addr : (a b : Addr) → a.0 ≡ b.0 → a ≡ b
-same_addr a b is = ap (λ k. let c : Addr = record { 0 = k } in c) is
+numbers g = map rank g.nodes
 
 falls : (g : Rows) (q : Query) (seeds : List Seed) (l : Link) (a rest : Label) → IsTopology g → IsTight g q seeds l a rest → rest.cost < a.cost
 falls g q seeds l a rest valid tight =
@@ -32,12 +31,12 @@ falls g q seeds l a rest valid tight =
 
 -- a node with a greater label isn't on the segment
 differs : (g : Rows) (q : Query) (seeds : List Seed) → IsTopology g → (x : Addr) (b : Label) → IsLabel g q seeds x (Some b) →
-    (ls : List Link) (u : Addr) (a : Label) → IsLabel g q seeds u (Some a) → IsSegment g q seeds u a ls → a.cost < b.cost → AllByRecursion (λ y. nat_eq x.0 y ≡ false) (froms ls)
+    (ls : List Link) (u : Addr) (a : Label) → IsLabel g q seeds u (Some a) → IsSegment g q seeds u a ls → a.cost < b.cost → AllByRecursion (λ y. nat_eq (rank x) y ≡ false) (froms ls)
 differs g q seeds valid x b isb [] u a is segment less = tt
 differs g q seeds valid x b isb (l ∷ ls) u a is segment less =
     let rest = segment.1.0 in
     let chosen = segment.1.1 in (
-      elim (eqb_tells x.0 l.from.0) [
+      elim (eqb_tells (rank x) (rank l.from)) [
         | inl t ↦
             let same : x ≡ u = same_addr x l.from t.1 ∙ chosen.from in
             let at_u : IsLabel g q seeds u (Some b) = subst (λ (n : Addr). IsLabel g q seeds n (Some b)) same isb in
@@ -61,14 +60,14 @@ distinct g q seeds valid (l ∷ ls) u a is segment =
       distinct g q seeds valid ls l.to rest chosen.tight.at_end segment.1.2,
     )
 
-number_of : (ns : List Addr) (n : Addr) → Contains ns n → Contains (map (λ m. m.0) ns) n.0
+number_of : (ns : List Addr) (n : Addr) → Contains ns n → Contains (map rank ns) (rank n)
 number_of ns n (k, below, is) =
-    (k, omega (arith, below, length-map {A = Addr} {B = ℕ} ns (λ m. m.0)), get_or-map (λ (m : Addr). m.0) ns k n n.0 below ∙ ap (λ (m : Addr). m.0) is)
+    (k, omega (arith, below, length-map {A = Addr} {B = ℕ} ns rank), get_or-map rank ns k n (rank n) below ∙ ap rank is)
 
 among : (g : Rows) (q : Query) (seeds : List Seed) (ls : List Link) (u : Addr) (a : Label) → IsSegment g q seeds u a ls → All (Contains (numbers g)) (froms ls)
 among g q seeds [] u a segment = All-nil (Contains (numbers g))
 among g q seeds (l ∷ ls) u a segment =
-    All-cons (Contains (numbers g)) l.from.0 (froms ls) (number_of g.nodes l.from segment.1.1.tight.admitted.from.is_node)
+    All-cons (Contains (numbers g)) (rank l.from) (froms ls) (number_of g.nodes l.from segment.1.1.tight.admitted.from.is_node)
     (among g q seeds ls l.to segment.1.0 segment.1.2)
 
 pub segment_short : (g : Rows) (q : Query) (seeds : List Seed) → IsTopology g → (ls : List Link) (u : Addr) (a : Label) → IsLabel g q seeds u (Some a) → IsSegment g q seeds u a ls →
@@ -78,4 +77,4 @@ segment_short g q seeds valid ls u a is segment =
     length-le_from_is_member nat_eq_equiv (froms ls) (numbers g) (distinct g q seeds valid ls u a is segment)
     (λ k found. (is_member-Decides Decides-eqb (numbers g) k).1
     (All-contains (Contains (numbers g)) (froms ls) k (among g q seeds ls u a segment) ((is_member-Decides Decides-eqb (froms ls) k).0 found))) in
-    omega (arith, few, length-map {A = Link} {B = ℕ} ls (λ l. l.from.0), length-map {A = Addr} {B = ℕ} g.nodes (λ n. n.0))
+    omega (arith, few, length-map {A = Link} {B = ℕ} ls (λ l. rank l.from), length-map {A = Addr} {B = ℕ} g.nodes rank)

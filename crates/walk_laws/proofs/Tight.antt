@@ -3,7 +3,9 @@ use Rattle.std.proofs.Common.{◌≡◌, ◌⊎◌, inl, inr, ℕ, ◌+◌, List
 use Rattle.std.specs.Prelude.{Contains}
 use Rattle.std.specs.declared.option.Option.{Option}
 use Rattle.std.proofs.lemmas.Bool.{cases_lt}
-use Rattle.dom_base.specs.declared.names.Addr.{Addr}
+use Rattle.dom_base.specs.AddrOrder.{rank}
+use Rattle.dom_base.proofs.Ranks.{same_addr}
+use Rattle.dom_base.specs.declared.addr.Addr.{Addr}
 use Rattle.dom_base.specs.declared.link.Link.{Link}
 use Rattle.dom_base.specs.declared.query.Query.{Query}
 use Rattle.dom_base.specs.declared.query.Seed.{Seed}
@@ -14,9 +16,6 @@ use Rattle.walk_laws.specs.Walks.{AdmitsLink, Walk, cost}
 use Rattle.walk_laws.specs.Labels.{◌≼◌, Reaches, IsLabel, EndsAt, IsTight}
 use Rattle.walk_laws.specs.Certificate.{before}
 
-pub same_exit : (a b : Addr) → a.0 ≡ b.0 → a ≡ b
-same_exit a b is = ap (λ k. let c : Addr = record { 0 = k } in c) is
-
 pub same_label : (a b : Label) → a.cost ≡ b.cost → a.exit ≡ b.exit → a ≡ b
 same_label a b costs exits =
     let make : ℕ → Addr → Label = λ n e. record { cost = n; exit = e } in
@@ -26,7 +25,7 @@ pub le_antisym : (a b : Label) → a ≼ b → b ≼ a → a ≡ b
 le_antisym a b (inl lt) (inl lt') = absurd (omega arith)
 le_antisym a b (inl lt) (inr le') = absurd (omega (arith, lt, le'.0))
 le_antisym a b (inr le) (inl lt') = absurd (omega (arith, lt', le.0))
-le_antisym a b (inr le) (inr le') = same_label a b le.0 (same_exit a.exit b.exit (omega (arith, le.1, le'.1)))
+le_antisym a b (inr le) (inr le') = same_label a b le.0 (same_addr a.exit b.exit (omega (arith, le.1, le'.1)))
 
 -- a node has one label
 pub label_unique : (g : Rows) (q : Query) (seeds : List Seed) (u : Addr) (o : Option Label) (a : Label) →
@@ -55,7 +54,7 @@ rest_least g q seeds u a r l is from admitted sum exit c reach =
   where
     cancel : a ≼ before q l c → r ≼ c
     cancel (inl lt) = inl (omega (arith, lt, sum))
-    cancel (inr le) = inr (omega (arith, le.0, sum), omega (arith, le.1, ap (λ (e : Addr). e.0) exit))
+    cancel (inr le) = inr (omega (arith, le.0, sum), omega (arith, le.1, ap rank exit))
 
 pub tight_or_end : (g : Rows) (q : Query) (seeds : List Seed) (u : Addr) (a : Label) → IsLabel g q seeds u (Some a) →
     EndsAt seeds u a ⊎ ((l : Link) × (r : Label) × (l.from ≡ u) × IsTight g q seeds l a r)

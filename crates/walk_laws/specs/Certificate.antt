@@ -1,7 +1,7 @@
 -- A certificate: labels that are least, and a path of the source's label, by comparisons at one seed, link, node or address each.
 use Rattle.std.specs.Prelude.{◌≡◌, ◌⊎◌, ◌+◌, ◌≤◌, List, [], ◌∷◌, Contains, None, Some}
 use Rattle.std.specs.declared.option.Option.{Option}
-use Rattle.dom_base.specs.declared.names.Addr.{Addr}
+use Rattle.dom_base.specs.declared.addr.Addr.{Addr}
 use Rattle.dom_base.specs.declared.link.Link.{Link}
 use Rattle.dom_base.specs.declared.query.Query.{Query}
 use Rattle.dom_base.specs.declared.query.Seed.{Seed}

@@ -1,6 +1,6 @@
 -- Walks through several domains in order (RFC 5441: a path along a domain sequence).
 use Rattle.std.specs.Prelude.{◌≡◌, ◌+◌, ◌≤◌, ℕ, List, [], ◌∷◌, Contains}
-use Rattle.dom_base.specs.declared.names.Addr.{Addr}
+use Rattle.dom_base.specs.declared.addr.Addr.{Addr}
 use Rattle.dom_base.specs.declared.names.As.{As}
 use Rattle.dom_base.specs.declared.link.Link.{Link}
 use Rattle.dom_base.specs.declared.query.Query.{Query}

@@ -1,7 +1,8 @@
 -- Labels: for each node the least pair of a cost and an exit, over all walks to a seed.
 use Rattle.std.specs.Prelude.{◌≡◌, ◌⊎◌, ◌+◌, ◌≤◌, ◌<◌, List, [], ◌∷◌, Contains, None, Some}
 use Rattle.std.specs.declared.option.Option.{Option}
-use Rattle.dom_base.specs.declared.names.Addr.{Addr}
+use Rattle.dom_base.specs.AddrOrder.{rank}
+use Rattle.dom_base.specs.declared.addr.Addr.{Addr}
 use Rattle.dom_base.specs.declared.link.Link.{Link}
 use Rattle.dom_base.specs.declared.query.Query.{Query}
 use Rattle.dom_base.specs.declared.query.Seed.{Seed}
@@ -13,7 +14,7 @@ use Rattle.walk_laws.specs.Walks.{AdmitsLink, Walk, cost}
 -- by the cost, and then by the exit
 infix 4 ◌≼◌
 abbrev pub ◌≼◌ : Label → Label → Type 0
-a ≼ b = (a.cost < b.cost) ⊎ ((a.cost ≡ b.cost) × (a.exit.0 ≤ b.exit.0))
+a ≼ b = (a.cost < b.cost) ⊎ ((a.cost ≡ b.cost) × (rank a.exit ≤ rank b.exit))
 
 -- a walk from u to a seed, whose costs make up the label's, within the cap
 pub record Reaches (g : Rows) (q : Query) (seeds : List Seed) (u : Addr) (a : Label) : Type 0 where
@@ -45,7 +46,7 @@ EndsAt seeds u a = Contains seeds (record { node = u; cost = a.cost; exit = a.ex
 pub record IsChosen (g : Rows) (q : Query) (seeds : List Seed) (u : Addr) (a : Label) (l : Link) (rest : Label) : Type 0 where
   pub from : l.from ≡ u
   pub tight : IsTight g q seeds l a rest
-  pub least : (m : Link) (r : Label) → m.from ≡ u → IsTight g q seeds m a r → l.far.0 ≤ m.far.0
+  pub least : (m : Link) (r : Label) → m.from ≡ u → IsTight g q seeds m a r → rank l.far ≤ rank m.far
 
 -- The chosen segment from u, whose label is a: it ends where a seed equals the label,
 -- and else goes on by the tight link with the least far address.

@@ -1,6 +1,6 @@
 -- What the conditions of a certificate are worth: they hold exactly of the least labels, and their path is a walk of the source's label.
 use Rattle.std.specs.Prelude.{◌≡◌, ◌+◌, List, map, Contains, Some}
-use Rattle.dom_base.specs.declared.names.Addr.{Addr}
+use Rattle.dom_base.specs.declared.addr.Addr.{Addr}
 use Rattle.dom_base.specs.declared.link.Link.{Link}
 use Rattle.dom_base.specs.declared.query.Query.{Query}
 use Rattle.dom_base.specs.declared.query.Seed.{Seed}

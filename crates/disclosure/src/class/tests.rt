@@ -1,3 +1,4 @@
+//! Rows of policy, and the hops of open and closed branches.
 use super::{Class, Deny, allows, may_expand};
 use crate::hops::{closed_hops, open_hops};
 use dom_base::{Addr, As};
@@ -35,29 +36,35 @@ fn policy(rt: HostRuntime) {
 #[test]
 fn branches(rt: HostRuntime) -> Result<(), Fail> {
     let mut text = Vec::new(rt.alloc());
-    let out_link = Some(Addr(0x0a17_0002));
+    let out_link = Some(Addr::V4(0x0a17_0002));
     let first = closed_hops(
         rt.alloc(),
-        Addr(0x0a02_0001),
+        Addr::V4(0x0a02_0001),
         1,
-        Addr(0xc000_0202),
+        Addr::V4(0xc000_0202),
         out_link,
     )?;
     write_hops(rt.alloc(), first.as_slice(), &mut text)?;
-    let target = Some(Addr(0x0a03_0009));
-    let last = closed_hops(rt.alloc(), Addr(0x0a03_0001), 1, Addr(0xc000_0203), target)?;
+    let target = Some(Addr::V4(0x0a03_0009));
+    let last = closed_hops(
+        rt.alloc(),
+        Addr::V4(0x0a03_0001),
+        1,
+        Addr::V4(0xc000_0203),
+        target,
+    )?;
     write_hops(rt.alloc(), last.as_slice(), &mut text)?;
     let shown =
         b"\x01\x08\x0a\x02\x00\x01\x20\x00\x40\x08\x00\x01\xc0\x00\x02\x02\x01\x08\x0a\x17\x00\x02\x20\x00\x01\x08\x0a\x03\x00\x01\x20\x00\x40\x08\x00\x01\xc0\x00\x02\x03\x01\x08\x0a\x03\x00\x09\x20\x00";
     assert_eq!(rt; text.as_slice(), shown.as_slice());
-    let open = open_hops(rt.alloc(), &[Addr(0x0a02_0002)])?;
+    let open = open_hops(rt.alloc(), &[Addr::V4(0x0a02_0002)])?;
     text.clear();
     write_hops(rt.alloc(), open.as_slice(), &mut text)?;
     assert_eq!(rt;
         text.as_slice(),
         b"\x01\x08\x0a\x02\x00\x02\x20\x00".as_slice()
     );
-    let entry_alone = closed_hops(rt.alloc(), Addr(1), 9, Addr(2), None)?;
+    let entry_alone = closed_hops(rt.alloc(), Addr::V4(1), 9, Addr::V4(2), None)?;
     assert_eq!(rt; entry_alone.len(), 2);
     Ok(())
 }

@@ -1,13 +1,15 @@
 use Rattle.std.proofs.Common.{◌≡◌, ◌+◌, false, get_or, arith, rules}
 use Rattle.std.specs.Ordering.{is_lt, ordering_then, nat_cmp}
 use Rattle.std.specs.List.Sorted.{IsNonDecreasingBy}
-use Rattle.std.proofs.lemmas.List.Sorted.{IsNonDecreasingBy-from_sort, IsNonDecreasingBy-from_sort_by_key}
-use Rattle.dom_base.specs.declared.names.Addr.{Addr}
+use Rattle.std.proofs.lemmas.List.Sorted.{IsNonDecreasingBy-from_sort}
+use Rattle.dom_base.specs.AddrOrder.{rank}
+use Rattle.dom_base.specs.declared.addr.Addr.{Addr}
 use Rattle.dom_base.specs.declared.link.Link.{Link}
 use Rattle.te_links.specs.declared.rows.OutLink.{OutLink}
 use Rattle.te_links.specs.declared.rows.Entry.{Entry}
 use Rattle.te_links.specs.Rows.{Rows, IsTopology}
 use Rattle.te_links.specs.Faults.{rows_of_parts}
+use Rattle.te_links.proofs.Compared.{rising_from_sort}
 use Rattle.te_links.proofs.Moved.{moved, strictly, links_rise, outs_rise, entries_rise, entries_compared}
 use Rattle.te_links.proofs.Moved.{permuted_differ}
 use Rattle.te_links.proofs.build.assemble.Goals as goal
@@ -16,7 +18,7 @@ pub index_of-requires-clause-nodes_rise : goal.index_of-requires-clause-nodes_ri
 index_of-requires-clause-nodes_rise c =
     let nodes = c.sort.new.self.items in
     let moves = rw c.into_vec-nodes.ensures at c.in_ok-sort.ensures.permutation in
-    let up = IsNonDecreasingBy-from_sort (λ (a : Addr). a.0) nodes c.in_ok-sort.ensures.sorted in
+    let up = IsNonDecreasingBy-from_sort (λ (a : Addr). rank a) nodes c.in_ok-sort.ensures.sorted in
     rw c.deref.ensures.value (strictly (λ (a : Addr). a) nodes up (permuted_differ c.args.parts.nodes nodes moves c.requires.rules.nodes_differ))
 
 pub of-requires-clause-rules : goal.of-requires-clause-rules
@@ -31,9 +33,9 @@ of-requires-clause-order c =
     let rules_hold : IsTopology g = moved (rows_of_parts c.args.parts) g.nodes g.links g.outs g.entries c.requires.rules
     (rw c.into_vec-nodes.ensures at c.in_ok-sort.ensures.permutation) (rw c.into_vec-links.ensures at c.in_ok-sort_by_key.ensures.permutation)
     (rw c.into_vec-outs.ensures at c.in_ok-sort_by_key-2.ensures.permutation) (rw c.into_vec-entries.ensures at c.in_ok-sort-2.ensures.permutation) in
-    let nodes_up = IsNonDecreasingBy-from_sort (λ (a : Addr). a.0) g.nodes c.in_ok-sort.ensures.sorted in
-    let links_up : IsNonDecreasingBy (λ (l : Link). l.far.0) g.links = IsNonDecreasingBy-from_sort_by_key (λ (l : Link). l.far.0) g.links c.in_ok-sort_by_key.ensures.sorted (λ a r q k. search rules) in
-    let outs_up : IsNonDecreasingBy (λ (o : OutLink). o.link.far.0) g.outs = IsNonDecreasingBy-from_sort_by_key (λ (o : OutLink). o.link.far.0) g.outs c.in_ok-sort_by_key-2.ensures.sorted (λ a r q k. search rules) in
+    let nodes_up = IsNonDecreasingBy-from_sort (λ (a : Addr). rank a) g.nodes c.in_ok-sort.ensures.sorted in
+    let links_up : IsNonDecreasingBy (λ (l : Link). rank l.far) g.links = rising_from_sort (λ (l : Link). l.far) g.links c.in_ok-sort_by_key.ensures.sorted (λ a r q k. search rules) in
+    let outs_up : IsNonDecreasingBy (λ (o : OutLink). rank o.link.far) g.outs = rising_from_sort (λ (o : OutLink). o.link.far) g.outs c.in_ok-sort_by_key-2.ensures.sorted (λ a r q k. search rules) in
     record {
       nodes = strictly (λ (a : Addr). a) g.nodes nodes_up rules_hold.nodes_differ;
       links = links_rise g rules_hold links_up;
@@ -42,7 +44,7 @@ of-requires-clause-order c =
           (λ k d below.
           let a : Entry = get_or g.entries k d in
           let b : Entry = get_or g.entries (k + 1) d in
-          let h : is_lt (ordering_then (nat_cmp b.from_as.0 a.from_as.0) (nat_cmp b.node.0 a.node.0)) ≡ false = c.in_ok-sort-2.ensures.sorted k d (omega arith) below in
+          let h : is_lt (ordering_then (nat_cmp b.from_as.0 a.from_as.0) (nat_cmp (rank b.node) (rank a.node))) ≡ false = c.in_ok-sort-2.ensures.sorted k d (omega arith) below in
           entries_compared a b h)
           rules_hold.entries_differ;
     }

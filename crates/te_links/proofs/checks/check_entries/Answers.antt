@@ -1,5 +1,6 @@
 use Rattle.std.proofs.Common.{◌<◌, ◌≤◌, ◌^◌, length, arith}
 use Rattle.std.proofs.lemmas.List.Elements.{All-nil, All-more}
+use Rattle.dom_base.specs.declared.addr.Addr.TheVariants.{V4}
 use Rattle.te_links.specs.declared.rows.Entry.{Entry}
 use Rattle.te_links.specs.declared.fault.RowKind.TheVariants.{Entry as EntryRow}
 use Rattle.te_links.specs.Faults.{rows_of_parts}
@@ -27,7 +28,7 @@ loop-i-preserved c =
     let number = c.entry_fault.ensures.number in
     record {
       none = none_more g EntryRow i c.loop-i.invariant.none c.in_default.ensures.rule;
-      numbers = All-more (λ (e : Entry). e.from_as.0 < 2 ^ 16) g.entries i (record { from_as = record { 0 = 0 }; node = record { 0 = 0 } }) inside c.loop-i.invariant.numbers (rw (← c.as_slice-entry-items.ensures) number);
+      numbers = All-more (λ (e : Entry). e.from_as.0 < 2 ^ 16) g.entries i (record { from_as = record { 0 = 0 }; node = V4 0 }) inside c.loop-i.invariant.numbers (rw (← c.as_slice-entry-items.ensures) number);
     }
 
 pub returns : goal.returns

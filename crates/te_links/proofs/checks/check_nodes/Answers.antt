@@ -1,6 +1,7 @@
 use Rattle.std.proofs.Common.{ℕ, ◌<◌, ◌≤◌, length, get_or, arith}
 use Rattle.std.proofs.lemmas.Option.{slice_get-get_or}
-use Rattle.dom_base.specs.declared.names.Addr.{Addr}
+use Rattle.dom_base.specs.declared.addr.Addr.TheVariants.{V4}
+use Rattle.dom_base.specs.declared.addr.Addr.{Addr}
 use Rattle.te_links.specs.declared.fault.RowKind.TheVariants.{Node}
 use Rattle.te_links.specs.declared.fault.TopoFault.TheVariants.{TooMany, DuplicateNode}
 use Rattle.te_links.specs.Faults.{Breaks, rows_of_parts}
@@ -21,8 +22,8 @@ loop-i-preserved c =
     let s = c.args.survey.now in
     let i = c.loop-i.i in
     let inside : i < length g.nodes = omega (arith, c.len-i-end.ensures, c.loop-i-test.true) in
-    let n : Addr = get_or g.nodes i (record { 0 = 0 }) in
-    let at = slice_get-get_or g.nodes i (record { 0 = 0 }) inside in
+    let n : Addr = get_or g.nodes i (V4 0) in
+    let at = slice_get-get_or g.nodes i (V4 0) inside in
     let few = less_than i 1024 c.if-i-ge-NODES_MAX.false in
     let new = is_new g.nodes s.same_node.items i n c.index.result.now c.requires.same_node at c.index.ensures c.if-index-gt0.false in
     record { none = none_more g Node i c.loop-i.invariant.none (node_all g i n at few new); few = omega (arith, c.if-i-ge-NODES_MAX.false) }
@@ -35,8 +36,8 @@ returns-then-i-ge-NODES_MAX c =
     let g = rows_of_parts c.args.parts.now in
     let i = c.loop-i.i in
     let inside : i < length g.nodes = omega (arith, c.len-i-end.ensures, c.loop-i-test.true) in
-    let n : Addr = get_or g.nodes i (record { 0 = 0 }) in
-    let at = slice_get-get_or g.nodes i (record { 0 = 0 }) inside in
+    let n : Addr = get_or g.nodes i (V4 0) in
+    let at = slice_get-get_or g.nodes i (V4 0) inside in
     reason_of g Node TooMany i c.refusal.result c.refusal.ensures (n, at, c.if-i-ge-NODES_MAX.true) (clear_none (Breaks g Node i)).below c.loop-i.invariant.none
 
 pub returns-then-index-gt0 : goal.returns-then-index-gt0
@@ -45,8 +46,8 @@ returns-then-index-gt0 c =
     let s = c.args.survey.now in
     let i = c.loop-i.i in
     let inside : i < length g.nodes = omega (arith, c.len-i-end.ensures, c.loop-i-test.true) in
-    let n : Addr = get_or g.nodes i (record { 0 = 0 }) in
-    let at = slice_get-get_or g.nodes i (record { 0 = 0 }) inside in
+    let n : Addr = get_or g.nodes i (V4 0) in
+    let at = slice_get-get_or g.nodes i (V4 0) inside in
     let few = less_than i 1024 c.if-i-ge-NODES_MAX.false in
     let repeat = is_repeat g.nodes s.same_node.items i n c.index.result.now c.requires.same_node at c.index.ensures c.if-index-gt0.true in
     reason_of g Node DuplicateNode i c.refusal-then-index-gt0.result c.refusal-then-index-gt0.ensures (n, at, repeat) (node_1 g i n at few).below c.loop-i.invariant.none

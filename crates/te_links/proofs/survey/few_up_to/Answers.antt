@@ -1,7 +1,8 @@
 use Rattle.std.proofs.Common.{◌<◌, ◌≤◌, List, length, take, get_or, subst, arith}
 use Rattle.std.specs.Prelude.{Contains}
 use Rattle.std.proofs.lemmas.List.{take_more, get_or_default, take_all}
-use Rattle.dom_base.specs.declared.names.Addr.{Addr}
+use Rattle.dom_base.specs.declared.addr.Addr.TheVariants.{V4}
+use Rattle.dom_base.specs.declared.addr.Addr.{Addr}
 use Rattle.te_links.proofs.RowRules.{not_decided}
 use Rattle.te_links.proofs.Counting.{Covers, covers_none, covers_kept, covers_more, full, whole}
 use Rattle.te_links.proofs.survey.few_up_to.Goals as goal
@@ -14,7 +15,7 @@ loop-i-preserved c =
     let addrs = c.args.addrs.now in
     let i = c.loop-i.i in
     let different = c.loop-i.different.items in
-    let no_addr : Addr = record { 0 = 0 } in
+    let no_addr : Addr = V4 0 in
     let lacks = subst (λ (l : List Addr). ¬ Contains l (get_or addrs i no_addr)) c.deref.ensures.value (not_decided c.is_among.result c.is_among.ensures c.if-is_among.false) in
     let room : length different < c.args.most = omega (arith, c.len.ensures, c.if-len-most.false, c.loop-i.different.ok.0) in
     rw (take_more addrs i no_addr c.loop-i-test.true, c.in_ok-push.ensures.items) (covers_more (take i addrs) different (get_or addrs i no_addr) c.args.most lacks room c.loop-i.invariant)
@@ -24,7 +25,7 @@ loop-i-preserved-then-is_among c =
     let addrs = c.args.addrs.now in
     let i = c.loop-i.i in
     let different = c.loop-i.different.items in
-    let no_addr : Addr = record { 0 = 0 } in
+    let no_addr : Addr = V4 0 in
     let has = subst (λ (l : List Addr). Contains l (get_or addrs i no_addr)) c.deref.ensures.value (c.is_among.ensures.0 c.if-is_among.true) in
     rw (take_more addrs i no_addr c.loop-i-test.true) (covers_kept (take i addrs) different (get_or addrs i no_addr) c.args.most has c.loop-i.invariant)
 
@@ -39,7 +40,7 @@ returns-then-len-most c =
     let addrs = c.args.addrs.now in
     let i = c.loop-i.i in
     let different = c.loop-i.different.items in
-    let no_addr : Addr = record { 0 = 0 } in
+    let no_addr : Addr = V4 0 in
     let lacks = subst (λ (l : List Addr). ¬ Contains l (get_or addrs i no_addr)) c.deref.ensures.value (not_decided c.is_among.result c.is_among.ensures c.if-is_among.false) in
     let no_room : c.args.most ≤ length different = omega (arith, c.len.ensures, c.if-len-most.true, c.loop-i.different.ok.0) in
     full addrs i different (get_or addrs i no_addr) c.args.most c.loop-i-test.true

@@ -1,0 +1,3 @@
+pub mod OneSeed
+pub mod Shown
+pub mod Sizes

@@ -1,0 +1,87 @@
+-- What the rows of an ask with one entry and one target show of the domain.
+use Rattle.std.proofs.Common.{◌≡◌, ◌↔◌, ℕ, Bool, true, false, [], ◌∷◌, ◌++◌, ◌+◌, List, Some, None, inl, inr, sym, ◌∙◌, ap, subst, refl, arith, length, length-append, cond}
+use Rattle.std.specs.Prelude.{Contains, IsTrue}
+use Rattle.std.specs.declared.option.Option.{Option}
+use Rattle.dom_base.specs.declared.addr.Addr.{Addr}
+use Rattle.dom_base.specs.declared.link.Link.{Link}
+use Rattle.dom_base.specs.declared.query.Query.{Query}
+use Rattle.dom_base.specs.declared.query.Label.{Label}
+use Rattle.dom_base.specs.declared.query.Seed.{Seed}
+use Rattle.te_links.specs.Rows.{Rows}
+use Rattle.walk_laws.specs.Walks.{cost, IsFeasible, IsLeast}
+use Rattle.walk_laws.specs.Labels.{◌≼◌, IsLabel, IsSegment, Reaches}
+use Rattle.walk_laws.specs.Borders.{JoinsAt}
+use Rattle.path_search.specs.Search.{AreLabels}
+use Rattle.vspt_tree.specs.declared.branch.Best.{Best}
+use Rattle.pcep_messages.specs.declared.message.Wanted.{Wanted}
+use Rattle.border_costs.specs.declared.rows.Rows.{Rows as Answer}
+use Rattle.border_costs.specs.Solutions.{AreRows, AreBest, IsBest}
+use Rattle.one_domain.specs.declared.domain.Chosen.{Chosen}
+use Rattle.one_domain.specs.Domain.{target_seeds, ask_of, ShowsLeast, HasNone, IsChosen, IsBitWhere, IsUnknownVector, HasLabels}
+use Rattle.one_domain.proofs.OneSeed.{segment_least, joins_label, reaching}
+
+-- the best way is the chosen segment, of least cost
+shows : (g : Rows) (w : Wanted) (seeds : List Seed) (row : Best) → seeds ≡ target_seeds w.target → IsBest g (ask_of g.own w) seeds w.source row →
+    ShowsLeast g w.query w.source w.target row.segment row.cost
+shows g w seeds row are is =
+    let a : Label = record { cost = row.cost; exit = row.exit } in
+    let joins : JoinsAt g w.query w.target w.source a = is.pair in
+    let label = joins_label g w.query w.target w.source a joins in
+    let segment : IsSegment g w.query (target_seeds w.target) w.source a is.links = subst (λ (s : List Seed). IsSegment g w.query s w.source a is.links) are is.chosen in
+    let least = segment_least g w.query w.target w.source a is.links label segment in
+    record {
+      links = is.links;
+      least = least.0;
+      is_cost = least.1;
+      chosen = subst (λ (e : Addr). IsSegment g w.query (target_seeds w.target) w.source (record { cost = row.cost; exit = e }) is.links) joins.exit segment;
+      shown = is.shown;
+    }
+
+one_row : (rest : List Best) (b row : Best) → rest ++ b ∷ [] ≡ row ∷ [] → b ≡ row
+one_row [] b row is = cc
+one_row (x ∷ rest) b row is = absurd (omega (arith, ap length is, length-append rest (b ∷ [])))
+
+no_row : (rest : List Best) (b : Best) → rest ++ b ∷ [] ≡ [] → ⊥
+no_row rest b is = omega (arith, ap length is, length-append rest (b ∷ []))
+
+pub none_chosen : (g : Rows) (w : Wanted) (rows : Answer) → AreRows g (ask_of g.own w) rows → rows.best ≡ [] → HasNone g w.query w.source w.target
+none_chosen g w rows are none = go are.best
+  where
+    go : AreBest g (ask_of g.own w) are.seeds (w.source ∷ []) rows.best → HasNone g w.query w.source w.target
+    go (inl no) = no.0
+    go (inr some) = let bad : some.0 ∷ some.1.0 ≡ [] = sym some.1.1.0 ∙ none in absurd (cc)
+
+pub is_chosen : (g : Rows) (w : Wanted) (rows : Answer) (rest : List Best) (b : Best) → AreRows g (ask_of g.own w) rows → rows.best ≡ rest ++ b ∷ [] →
+    ShowsLeast g w.query w.source w.target b.segment b.cost
+is_chosen g w rows rest b are is = go are.best
+  where
+    go : AreBest g (ask_of g.own w) are.seeds (w.source ∷ []) rows.best → ShowsLeast g w.query w.source w.target b.segment b.cost
+    go (inl no) = absurd (no_row rest b (sym is ∙ no.1))
+    go (inr some) =
+        let last : some.1.0 ≡ [] = some.1.1.1.1 in
+        let one : rest ++ b ∷ [] ≡ some.0 ∷ [] = sym is ∙ some.1.1.0 ∙ ap (λ (l : List Best). some.0 ∷ l) last in
+        let same : b ≡ some.0 = one_row rest b some.0 one in
+        subst (λ (row : Best). ShowsLeast g w.query w.source w.target row.segment row.cost) (sym same) (shows g w are.seeds some.0 are.are_seeds.are some.1.1.1.0)
+
+-- a bit stands where an end is not known
+bit_where : (known : Bool) (P : Type 0) (bit : ℕ) → (IsTrue known ↔ P) → IsBitWhere (P → ⊥) bit (cond known 0 bit)
+bit_where true P bit iff = inr (λ no. no (iff.0 refl), refl)
+bit_where false P bit iff = inl (λ p. absurd (let bad : false ≡ true = iff.1 p in cc), refl)
+
+pub unknown : (g : Rows) (w : Wanted) (rows : Answer) (vector : ℕ) → AreRows g (ask_of g.own w) rows → vector ≡ cond rows.source_known 0 4 + cond rows.target_known 0 2 →
+    IsUnknownVector g w.source w.target vector
+unknown g w rows vector are is = record {
+  source = cond rows.source_known 0 4;
+  unknown_source = bit_where rows.source_known (Contains g.nodes w.source) 4 are.source_known;
+  target = cond rows.target_known 0 2;
+  unknown_target = bit_where rows.target_known (Contains g.nodes w.target) 2 are.target_known;
+  sum = is;
+}
+
+pub labelled : (g : Rows) (w : Wanted) (rows : Answer) → AreRows g (ask_of g.own w) rows → HasLabels g w rows.certificate
+labelled g w rows are = record {
+  own = are.certificate.own;
+  labels = are.certificate.labels;
+  are_labels = subst (λ (s : List Seed). AreLabels g w.query s are.certificate.labels) are.are_seeds.are are.certificate.are_labels;
+  rows = are.certificate.rows;
+}

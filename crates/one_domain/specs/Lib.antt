@@ -1,0 +1,4 @@
+-- what a reader needs
+pub mod Domain
+pub mod Replies
+pub mod Certified

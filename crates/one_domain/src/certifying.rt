@@ -1,0 +1,31 @@
+//! The certificate of a request.
+ghost use Rattle.std.specs.Prelude.{IfOk};
+ghost use Rattle.one_domain.specs.Certified.{IsCertified};
+
+use crate::domain::{DomainPath, search_domain};
+use dom_base::NoMemory;
+use path_certificate::Certificate;
+use pcep_messages::Wanted;
+use std::alloc::Global;
+use te_links::Topology;
+
+/// The certificate of a request: the least label of each node, and the chosen path.
+pub fn certificate_of(
+    alloc: Global,
+    topology: &Topology,
+    wanted: &Wanted,
+) -> Result<Certificate, NoMemory>
+    ensures { IfOk result (IsCertified topology.now wanted.now) }
+{
+    let DomainPath {
+        chosen,
+        certificate,
+        ..
+    } = search_domain(alloc, topology, wanted)?;
+    let Certificate { own, labels, .. } = certificate;
+    let path = match chosen {
+        Some(chosen) => Some(chosen.hops),
+        None => None,
+    };
+    Ok(Certificate { own, labels, path })
+}

@@ -1,0 +1,133 @@
+//! The way of least cost through one domain.
+ghost use Rattle.std.specs.Prelude.{◌≡◌, ◌∷◌, ◌++◌, ◌+◌, [], List, IfOk, MatchOption, if◌then◌else◌};
+
+ghost use Rattle.border_costs.specs.Solutions.{AreRows};
+ghost use Rattle.vspt_tree.specs.declared.branch.Best.{Best};
+ghost use Rattle.one_domain.specs.Domain.{ask_of, target_seeds, HasLabels, IsChosen, IsUnknownVector};
+
+use border_costs::{Ask, Rows, Target, solve_rows};
+use dom_base::{Addr, As, Cost, List, NoMemory, Seed};
+use path_certificate::Certificate;
+use pcep_messages::Wanted;
+use std::alloc::Global;
+use te_links::{Counted, Topology};
+use vspt_tree::Best;
+
+/// The chosen path of least cost: the source, and the far address of each link.
+#[derive(Drop)]
+pub struct Chosen {
+    pub hops: List<Addr>,
+    pub cost: Cost,
+}
+
+/// What one search for a request's target gives: the chosen path from its source, if there is
+/// one; the bits of a NO-PATH-VECTOR for ends that the domain does not know (RFC 5440, section
+/// 7.5: 0x04 for the source, 0x02 for the target); and the labels of all nodes, as a certificate
+/// without a path.
+#[derive(Drop)]
+pub struct DomainPath {
+    pub chosen: Option<Chosen>,
+    pub vector: u32,
+    pub certificate: Certificate,
+}
+
+fn zero_cost() -> Cost
+    ensures { result ≡ 0 }
+{
+    let Some(zero) = Cost::of(0) else {
+        unreachable!()
+    };
+    zero
+}
+
+/// The seeds of a search for one target: the target, at no cost, with itself as the exit.
+pub fn seeds_of(target: Addr) -> [Seed; 1]
+    ensures { result ≡ target_seeds target }
+{
+    [Seed {
+        node: target,
+        cost: zero_cost(),
+        exit: target,
+    }]
+}
+
+// What is asked of the domain.
+fn ask_for(alloc: Global, own: As, wanted: &Wanted) -> Result<Ask, NoMemory>
+    ensures { IfOk result (λ ask. ask ≡ ask_of own wanted.now) }
+{
+    let mut entries = List::new(alloc);
+    entries.push(wanted.source)?;
+    Ok(Ask {
+        at: own,
+        number: 0,
+        generation: 0,
+        query: wanted.query.copy(alloc)?,
+        source: wanted.source,
+        entries,
+        target: Target::Node(wanted.target),
+        down: List::new(alloc),
+    })
+}
+
+fn rows_for(alloc: Global, topology: &Topology, wanted: &Wanted) -> Result<Rows, NoMemory>
+    ensures { IfOk result (AreRows topology.now (ask_of topology.now.own wanted.now)) }
+{
+    let ask = ask_for(alloc, topology.own(), wanted)?;
+    let mut links = Counted::new(topology);
+    solve_rows(alloc, &ask, &mut links)
+}
+
+// The path of the one best way, if there is one.
+fn path_of(best: List<Best>) -> Option<Chosen>
+    ensures { MatchOption result (best ≡ []) (λ c. (rest : List Best) × (b : Best) × (best ≡ rest ++ b ∷ []) × (c.hops ≡ b.segment) × (c.cost ≡ b.cost)) }
+{
+    let Best { segment, cost, .. } = best.into_vec().pop()?;
+    Some(Chosen {
+        hops: segment,
+        cost,
+    })
+}
+
+// The bits for ends that are not known.
+fn vector_of(source_known: bool, target_known: bool) -> u32
+    ensures { result ≡ (if source_known then 0 else 4) + (if target_known then 0 else 2) }
+{
+    let source = if source_known { 0 } else { 4 };
+    let target = if target_known { 0 } else { 2 };
+    source + target
+}
+
+// What the rows of the ask show.
+fn shown(topology: &Topology, wanted: &Wanted, rows: Rows) -> DomainPath
+    requires { AreRows topology.now (ask_of topology.now.own wanted.now) rows }
+    ensures chosen { IsChosen topology.now wanted.now result.chosen }
+    ensures vector { IsUnknownVector topology.now wanted.now.source wanted.now.target result.vector }
+    ensures labels { HasLabels topology.now wanted.now result.certificate }
+{
+    let _asked = (topology, wanted);
+    let Rows {
+        best,
+        source_known,
+        target_known,
+        certificate,
+    } = rows;
+    DomainPath {
+        chosen: path_of(best),
+        vector: vector_of(source_known, target_known),
+        certificate,
+    }
+}
+
+/// Searches one domain for the target of a request.
+pub fn search_domain(
+    alloc: Global,
+    topology: &Topology,
+    wanted: &Wanted,
+) -> Result<DomainPath, NoMemory>
+    ensures chosen { IfOk result (λ d. IsChosen topology.now wanted.now d.chosen) }
+    ensures vector { IfOk result (λ d. IsUnknownVector topology.now wanted.now.source wanted.now.target d.vector) }
+    ensures labels { IfOk result (λ d. HasLabels topology.now wanted.now d.certificate) }
+{
+    let rows = rows_for(alloc, topology, wanted)?;
+    Ok(shown(topology, wanted, rows))
+}

@@ -1,0 +1,11 @@
+//! What the element of a domain answers a client on its own: the chosen path of least cost or that
+//! there is none, as a reply and as a certificate.
+#![tactic(auto)]
+
+mod certifying;
+mod domain;
+mod replying;
+
+pub use certifying::certificate_of;
+pub use domain::{Chosen, DomainPath, search_domain, seeds_of};
+pub use replying::{PathRequest, answer_of, reply_of};

@@ -1,0 +1,46 @@
+-- How the parts of a run end: the reading of a file, of the input, and the writing.
+use Rattle.std.specs.Prelude.{◌≡◌, ◌≤◌, ℕ, List, length, Option}
+use Rattle.std.specs.Io.KnownBytes.{Appends}
+use Rattle.dom_edge.specs.Stores.{Files}
+use Rattle.te_links.specs.declared.fault.TopoFault.{TopoFault}
+use Rattle.pce_tool.specs.declared.status.Status.{Status}
+use Rattle.pce_tool.specs.declared.status.Status.TheVariants as status
+use Rattle.pce_tool.specs.declared.status.NetFault.TheVariants.{Topo}
+use Rattle.pce_tool.specs.Limits.{input_max}
+use Rattle.pce_tool.specs.Worlds.{HasInput, HasRisen, IfFile, IsLongFile, IsLongInput, input_name}
+use Rattle.dom_edge.specs.Whole.{AppendsSome}
+use Rattle.pce_tool.specs.Requests.{IsWhy}
+
+-- Why a file of that name was not read: the status of a run that ends there. `counts` are the store's faults before and after.
+abbrev pub IsFileStatus : Option Files → List ℕ → ℕ → (List ℕ → ℕ → TopoFault → Type 0) → ℕ × ℕ → List ℕ → Status → Type 0
+IsFileStatus files name limit IsFault counts failed_at status.ReadFault = HasRisen counts × (failed_at ≡ name)
+IsFileStatus files name limit IsFault counts failed_at (status.BadNetwork file line (Topo fault)) =
+    (file ≡ name) × IfFile files name (λ bytes. IsFault bytes line fault)
+IsFileStatus files name limit IsFault counts failed_at status.NoMemory = Unit {0}
+IsFileStatus files name limit IsFault counts failed_at (status.TooLarge file) = (file ≡ name) × IsLongFile files name limit
+IsFileStatus files name limit IsFault counts failed_at _ = ⊥
+
+-- Why an input gave no request: the status of a run that ends there. `counts` are the input's faults before and after.
+abbrev pub IsInputStatus : Option (List ℕ) → ℕ → ℕ × ℕ → Status → Type 0
+IsInputStatus input own counts status.ReadFault = HasRisen counts
+IsInputStatus input own counts status.NoMemory = Unit {0}
+IsInputStatus input own counts (status.BadRequest why) =
+    (bytes : List ℕ) × HasInput input bytes × (length bytes ≤ input_max) × IsWhy own bytes why
+IsInputStatus input own counts (status.TooLarge name) = (name ≡ input_name) × IsLongInput input
+IsInputStatus input own counts _ = ⊥
+
+-- bytes that are read as they are have no fault
+abbrev pub IsNoFault : List ℕ → ℕ → TopoFault → Type 0
+IsNoFault bytes line fault = ⊥
+
+-- the status names the file, its line and the fault, unless memory ran out
+abbrev pub IsBadAt : List ℕ → ℕ → TopoFault → Status → Type 0
+IsBadAt name line fault status.NoMemory = Unit {0}
+IsBadAt name line fault (status.BadNetwork file at (Topo other)) = (file ≡ name) × (at ≡ line) × (other ≡ fault)
+IsBadAt name line fault _ = ⊥
+
+-- the whole text was written, or the output failed and a first part of it was
+abbrev pub IsFinished : Option (List ℕ) → Option (List ℕ) → ℕ × ℕ → List ℕ → Status → Type 0
+IsFinished before after counts text status.Ok = Appends before after text
+IsFinished before after counts text status.WriteFault = HasRisen counts × AppendsSome before after text
+IsFinished before after counts text _ = ⊥

@@ -1,0 +1,60 @@
+-- What a run meets outside: files, input and output.
+use Rattle.std.specs.Prelude.{◌≡◌, ◌<◌, ◌≤◌, ℕ, List, codes, length, Option, Some, IfSome}
+use Rattle.std.specs.Io.KnownBytes.{Keeps}
+use Rattle.dom_edge.specs.Causes.{Rose}
+use Rattle.dom_edge.specs.Stores.{Files}
+use Rattle.pce_tool.specs.Limits.{input_max}
+
+-- What a run met: the files and the input, where they are told; what was written before it and after; how often the store, the
+-- input and the output had failed before and after; and the name at which the store last failed.
+pub record World : Type 0 where
+  pub files : Option Files
+  pub input : Option (List ℕ)
+  pub before : Option (List ℕ)
+  pub after : Option (List ℕ)
+  pub store_faults : ℕ × ℕ
+  pub input_faults : ℕ × ℕ
+  pub output_faults : ℕ × ℕ
+  pub failed_at : List ℕ
+
+-- the same from its parts
+abbrev pub world : Option Files → Option (List ℕ) → Option (List ℕ) × Option (List ℕ) → ℕ × ℕ → ℕ × ℕ → ℕ × ℕ → List ℕ → World
+world files input written store_faults input_faults output_faults failed_at = record {
+  files = files;
+  input = input;
+  before = written.0;
+  after = written.1;
+  store_faults = store_faults;
+  input_faults = input_faults;
+  output_faults = output_faults;
+  failed_at = failed_at;
+}
+
+-- the file of that name has these bytes, where that is told
+abbrev pub HasFile : Option Files → List ℕ → List ℕ → Type 0
+HasFile files name bytes = IfSome files (λ fs. fs name ≡ Some bytes)
+
+-- the file of that name is told, and its bytes are such
+abbrev pub IfFile : Option Files → List ℕ → (List ℕ → Type 0) → Type 0
+IfFile files name P = IfSome files (λ fs. (bytes : List ℕ) × (fs name ≡ Some bytes) × P bytes)
+
+-- the input is these bytes, where that is told
+abbrev pub HasInput : Option (List ℕ) → List ℕ → Type 0
+HasInput input bytes = IfSome input (λ left. bytes ≡ left)
+
+abbrev pub HasRisen : ℕ × ℕ → Type 0
+HasRisen counts = Rose counts.0 counts.1
+
+-- nothing was written
+abbrev pub WroteNothing : World → Type 0
+WroteNothing w = Keeps w.before w.after
+
+-- more bytes stand in the file of that name, or in the input
+abbrev pub IsLongFile : Option Files → List ℕ → ℕ → Type 0
+IsLongFile files name limit = IfFile files name (λ bytes. limit < length bytes)
+
+abbrev pub IsLongInput : Option (List ℕ) → Type 0
+IsLongInput input = IfSome input (λ left. input_max < length left)
+
+abbrev pub input_name : List ℕ
+input_name = codes "input"
