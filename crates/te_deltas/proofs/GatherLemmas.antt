@@ -2,7 +2,7 @@
 use Rattle.std.proofs.Common.{◌≡◌, ℕ, zero, suc, ◌+◌, ◌<◌, List, [], ◌∷◌, ◌++◌, length, take, map, Option, Some, None, slice_get, refl, sym, ◌∙◌, ap, append_assoc, arith}
 use Rattle.std.proofs.lemmas.List.{append-nil, take_all}
 use Rattle.dom_base.specs.declared.names.As.{As}
-use Rattle.dom_base.specs.declared.names.Addr.{Addr}
+use Rattle.dom_base.specs.declared.addr.Addr.{Addr}
 use Rattle.dom_base.specs.declared.link.Link.{Link}
 use Rattle.te_links.specs.declared.rows.OutLink.{OutLink}
 use Rattle.te_links.specs.declared.rows.Entry.{Entry}
@@ -48,20 +48,48 @@ made own nodes links outs entries = record { own = own; nodes = nodes; links = l
 pub rows_push : (own : As) (list : List TextRow) (row : TextRow) → rows_of own (list ++ row ∷ []) ≡ with_last (rows_of own list) row
 rows_push own list (rows.Node n) =
     let row = rows.Node n in
-    rw (nodes_push list (row ∷ []), links_push list (row ∷ []), outs_push list (row ∷ []), entries_push list (row ∷ []),
-    append-nil (links_in list), append-nil (outs_in list), append-nil (entries_in list)) refl
+    rw (
+      nodes_push list (row ∷ []),
+      links_push list (row ∷ []),
+      outs_push list (row ∷ []),
+      entries_push list (row ∷ []),
+      append-nil (links_in list),
+      append-nil (outs_in list),
+      append-nil (entries_in list),
+    ) refl
 rows_push own list (rows.Link l) =
     let row = rows.Link l in
-    rw (nodes_push list (row ∷ []), links_push list (row ∷ []), outs_push list (row ∷ []), entries_push list (row ∷ []),
-    append-nil (nodes_in list), append-nil (outs_in list), append-nil (entries_in list)) refl
+    rw (
+      nodes_push list (row ∷ []),
+      links_push list (row ∷ []),
+      outs_push list (row ∷ []),
+      entries_push list (row ∷ []),
+      append-nil (nodes_in list),
+      append-nil (outs_in list),
+      append-nil (entries_in list),
+    ) refl
 rows_push own list (rows.Out o) =
     let row = rows.Out o in
-    rw (nodes_push list (row ∷ []), links_push list (row ∷ []), outs_push list (row ∷ []), entries_push list (row ∷ []),
-    append-nil (nodes_in list), append-nil (links_in list), append-nil (entries_in list)) refl
+    rw (
+      nodes_push list (row ∷ []),
+      links_push list (row ∷ []),
+      outs_push list (row ∷ []),
+      entries_push list (row ∷ []),
+      append-nil (nodes_in list),
+      append-nil (links_in list),
+      append-nil (entries_in list),
+    ) refl
 rows_push own list (rows.Entry e) =
     let row = rows.Entry e in
-    rw (nodes_push list (row ∷ []), links_push list (row ∷ []), outs_push list (row ∷ []), entries_push list (row ∷ []),
-    append-nil (nodes_in list), append-nil (links_in list), append-nil (outs_in list)) refl
+    rw (
+      nodes_push list (row ∷ []),
+      links_push list (row ∷ []),
+      outs_push list (row ∷ []),
+      entries_push list (row ∷ []),
+      append-nil (nodes_in list),
+      append-nil (links_in list),
+      append-nil (outs_in list),
+    ) refl
 
 pub live_some : (slots : List (Option TextRow)) (row : TextRow) → live (slots ++ Some row ∷ []) ≡ live slots ++ row ∷ []
 live_some [] row = refl

@@ -1,7 +1,8 @@
 -- The rows of a topology after changes, which are made one at a time.
 use Rattle.std.specs.Prelude.{◌≡◌, ◌<◌, ◌==◌, ◌&&◌, ℕ, not, Bool, true, false, List, [], ◌∷◌, ◌++◌, Option, Some, None, length, take, filter, slice_get}
 use Rattle.std.specs.List.{list_any}
-use Rattle.dom_base.specs.declared.names.Addr.{Addr}
+use Rattle.dom_base.specs.AddrOrder.{rank}
+use Rattle.dom_base.specs.declared.addr.Addr.{Addr}
 use Rattle.dom_base.specs.declared.names.As.{As}
 use Rattle.dom_base.specs.declared.link.Link.{Link}
 use Rattle.te_links.specs.declared.rows.OutLink.{OutLink}
@@ -24,7 +25,7 @@ name_of (rows.Out o) = names.Out o.link.far
 name_of (rows.Entry e) = names.Entry e
 
 abbrev pub same_addr : Addr → Addr → Bool
-same_addr a b = a.0 == b.0
+same_addr a b = rank a == rank b
 
 abbrev pub same_entry : Entry → Entry → Bool
 same_entry d e = (d.from_as.0 == e.from_as.0) && same_addr d.node e.node

@@ -52,10 +52,8 @@ impl Change {
                 Ok(Some(TextRow::Out(copy)))
             }
             Change::AddEntry(entry) => Ok(Some(TextRow::Entry(*entry))),
-            Change::DropNode(_)
-            | Change::DropLink(_)
-            | Change::DropOut(_)
-            | Change::DropEntry(_) => Ok(None),
+            Change::DropNode(_) | Change::DropLink(_) | Change::DropOut(_) | Change::DropEntry(_) =>
+                Ok(None),
         }
     }
 }

@@ -1,20 +1,14 @@
 //! Copies of links.
 ghost use Rattle.std.specs.Prelude.{◌≡◌, IfOk};
 
-use dom_base::{Link, List, NoMemory};
+use dom_base::{Link, NoMemory};
 use std::alloc::Global;
 use te_links::OutLink;
-
-fn copy_numbers(alloc: Global, numbers: &List<u32>) -> Result<List<u32>, NoMemory>
-    ensures { IfOk result (λ copy. copy ≡ numbers.now) }
-{
-    Ok(List::from_vec(Vec::from_slice(alloc, numbers.as_slice())?))
-}
 
 pub(crate) fn copy_link(alloc: Global, link: &Link) -> Result<Link, NoMemory>
     ensures { IfOk result (λ copy. copy ≡ link.now) }
 {
-    let srlgs = copy_numbers(alloc, &link.srlgs)?;
+    let srlgs = link.srlgs.copy(alloc)?;
     Ok(Link {
         from: link.from,
         to: link.to,

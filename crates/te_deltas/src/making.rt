@@ -66,10 +66,8 @@ fn mistake_of(change: &Change, place: usize) -> ChangeError
         Change::AddNode(_) | Change::AddLink(_) | Change::AddOut(_) | Change::AddEntry(_) => {
             ChangeError::Present(place)
         }
-        Change::DropNode(_)
-        | Change::DropLink(_)
-        | Change::DropOut(_)
-        | Change::DropEntry(_) => ChangeError::Absent(place),
+        Change::DropNode(_) | Change::DropLink(_) | Change::DropOut(_) | Change::DropEntry(_) =>
+            ChangeError::Absent(place),
     }
 }
 

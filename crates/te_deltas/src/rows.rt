@@ -19,11 +19,7 @@ fn push_nodes(topology: &Topology, into: &mut Vec<TextRow>) -> Result<(), NoMemo
     Ok(())
 }
 
-fn push_links(
-    alloc: Global,
-    topology: &Topology,
-    into: &mut Vec<TextRow>,
-) -> Result<(), NoMemory>
+fn push_links(alloc: Global, topology: &Topology, into: &mut Vec<TextRow>) -> Result<(), NoMemory>
     ensures { OnOk result (into.new.items ≡ into.old.items ++ map (λ l. TextRow.Link l) topology.now.links) }
 {
     for i in 0..topology.link_count() {
@@ -33,11 +29,7 @@ fn push_links(
     Ok(())
 }
 
-fn push_outs(
-    alloc: Global,
-    topology: &Topology,
-    into: &mut Vec<TextRow>,
-) -> Result<(), NoMemory>
+fn push_outs(alloc: Global, topology: &Topology, into: &mut Vec<TextRow>) -> Result<(), NoMemory>
     ensures { OnOk result (into.new.items ≡ into.old.items ++ map (λ o. TextRow.Out o) topology.now.outs) }
 {
     for i in 0..topology.out_count() {
@@ -57,10 +49,7 @@ fn push_entries(topology: &Topology, into: &mut Vec<TextRow>) -> Result<(), NoMe
 }
 
 /// Copies of the rows of a topology, in its order.
-pub(crate) fn rows_of_topology(
-    alloc: Global,
-    topology: &Topology,
-) -> Result<Vec<TextRow>, NoMemory>
+pub(crate) fn rows_of_topology(alloc: Global, topology: &Topology) -> Result<Vec<TextRow>, NoMemory>
     ensures { IfOk result (λ rows. rows.items ≡ rows_in_order topology.now) }
 {
     let mut rows = Vec::new(alloc);
