@@ -6,7 +6,7 @@ use Rattle.pce_tool.specs.Run.{Verify}
 use Rattle.pce_tool.specs.Files.{HasCertificate}
 use Rattle.pce_tool.specs.Commands.Verify.{claim, holds_text}
 use Rattle.pce_tool.proofs.Ending.{keeps_refl, input_ends, finished}
-use Rattle.pce_tool.proofs.commands.verify.verify.Goals as goal
+use Rattle.pce_tool.proofs.commands.verify.run.Goals as goal
 
 pub returns-in-Err-load_request : goal.returns-in-Err-load_request
 returns-in-Err-load_request g c =
@@ -14,8 +14,8 @@ returns-in-Err-load_request g c =
     (g.S.Store.faults c.args.store.now, g.S.Store.faults c.load_certificate.new.store) (g.I.Source.faults c.args.input.now, g.I.Source.faults c.load_request.new.input)
     (g.K.Sink.faults c.args.out.now, g.K.Sink.faults c.args.out.now) (g.S.Store.failed_at c.load_certificate.new.store) in
     let certificate : HasCertificate (g.S.Store.files c.args.store.now) c.args.certificate.now c.in-Ok.topology c.in-Ok-load_certificate.certificate = rw c.in-Ok.ensures.files at c.in-Ok-load_certificate.ensures.ok in
-    input_ends w (Verify c.args.topology.now c.args.certificate.now) c.in-Ok.topology (c.in-Ok.ensures.ok, (c.in-Ok-load_certificate.certificate, certificate))
-    (keeps_refl (g.K.Sink.written c.args.out.now)) c.in-Err-load_request.status (rw c.own.ensures.own at c.in-Err-load_request.ensures.err)
+    input_ends w (Verify c.args.topology.now c.args.certificate.now) c.in-Ok.topology
+    ((c.in-Ok.topology, c.in-Ok.ensures.ok), ((c.in-Ok.topology, c.in-Ok.ensures.ok, (c.in-Ok-load_certificate.certificate, certificate)), tt)) c.in-Ok.ensures.ok (keeps_refl (g.K.Sink.written c.args.out.now)) c.in-Err-load_request.status (rw c.own.ensures.own at c.in-Err-load_request.ensures.err)
 
 pub returns-in-Holds : goal.returns-in-Holds
 returns-in-Holds g c =

@@ -22,13 +22,13 @@ pub fn run<S: Store, I: Source, K: Sink>(
 {
     match words {
         [verb, topology] if verb.as_str() == "answer" => {
-            answer(alloc, topology.as_str(), store, input, out)
+            answer::run(alloc, topology.as_str(), store, input, out)
         }
         [verb, topology] if verb.as_str() == "certify" => {
-            certify(alloc, topology.as_str(), store, input, out)
+            certify::run(alloc, topology.as_str(), store, input, out)
         }
         [verb, topology, certificate] if verb.as_str() == "verify" => {
-            verify(
+            verify::run(
                 alloc,
                 topology.as_str(),
                 certificate.as_str(),
