@@ -1,6 +1,6 @@
 -- The best ways, one entry after the other.
 use Rattle.std.proofs.Common.{inl, inr, List, [], ◌∷◌, ◌++◌, refl, ap}
-use Rattle.dom_base.specs.declared.names.Addr.{Addr}
+use Rattle.dom_base.specs.declared.addr.Addr.{Addr}
 use Rattle.dom_base.specs.declared.query.Seed.{Seed}
 use Rattle.te_links.specs.Rows.{Rows}
 use Rattle.vspt_tree.specs.declared.branch.Best.{Best}

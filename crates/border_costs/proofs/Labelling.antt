@@ -4,12 +4,13 @@ use Rattle.std.specs.Prelude.{Contains, slice_get}
 use Rattle.std.specs.List.{zip}
 use Rattle.std.specs.declared.option.Option.{Option}
 use Rattle.std.proofs.lemmas.List.Elements.{Contains-push_cases, Contains-append_cases}
-use Rattle.dom_base.specs.declared.names.Addr.{Addr}
+use Rattle.dom_base.specs.AddrOrder.{rank}
+use Rattle.dom_base.specs.declared.addr.Addr.{Addr}
 use Rattle.dom_base.specs.declared.query.Query.{Query}
 use Rattle.dom_base.specs.declared.query.Seed.{Seed}
 use Rattle.dom_base.specs.declared.query.Label.{Label}
 use Rattle.te_links.specs.Rows.{Rows}
-use Rattle.te_links.proofs.Different.{same_addr}
+use Rattle.te_links.proofs.Different.{Decides-rank}
 use Rattle.walk_laws.specs.Labels.{IsLabel}
 use Rattle.walk_laws.specs.Certificate.{Certifies}
 use Rattle.walk_laws.proofs.Admitted.{reaches_admits}
@@ -31,20 +32,20 @@ record IsLost (ns : List Addr) (ls : List (Option Label)) (n : Addr) : Type 0 wh
 found : (ns : List Addr) (ls : List (Option Label)) (n : Addr) → length ls ≡ length ns → IsFound ns ls n ⊎ IsLost ns ls n
 found [] ls n same = inr (record { nowhere = λ has. absurd (omega (arith, has.1)); label = refl })
 found (m ∷ ns) [] n same = absurd (omega arith)
-found (m ∷ ns) (o ∷ ls) n same = go (nat_eq m.0 n.0) refl (found ns ls n (omega arith))
+found (m ∷ ns) (o ∷ ls) n same = go (nat_eq (rank m) (rank n)) refl (found ns ls n (omega arith))
   where
-    later : nat_eq m.0 n.0 ≡ false → label_in (zip (m ∷ ns) (o ∷ ls)) n ≡ label_in (zip ns ls) n
+    later : nat_eq (rank m) (rank n) ≡ false → label_in (zip (m ∷ ns) (o ∷ ls)) n ≡ label_in (zip ns ls) n
     later is = rw is refl
 
-    go : (b : Bool) → nat_eq m.0 n.0 ≡ b → IsFound ns ls n ⊎ IsLost ns ls n → IsFound (m ∷ ns) (o ∷ ls) n ⊎ IsLost (m ∷ ns) (o ∷ ls) n
-    go true is rest = inl (record { place = 0; at = ap Some ((same_addr m n).0 is); label = rw is refl })
+    go : (b : Bool) → nat_eq (rank m) (rank n) ≡ b → IsFound ns ls n ⊎ IsLost ns ls n → IsFound (m ∷ ns) (o ∷ ls) n ⊎ IsLost (m ∷ ns) (o ∷ ls) n
+    go true is rest = inl (record { place = 0; at = ap Some ((Decides-rank m n).0 is); label = rw is refl })
     go false is (inl f) = inl (record { place = suc f.place; at = f.at; label = later is ∙ f.label })
     go false is (inr l) = inr (record {
       nowhere = λ has. elim (Contains-append_cases (m ∷ []) ns n has) [
         | inr there ↦ l.nowhere there
         | inl here ↦ elim (Contains-push_cases [] m n here) [
           | inl nothing ↦ omega (arith, nothing.1)
-          | inr one ↦ (let t = (same_addr m n).1 one in cc)
+          | inr one ↦ (let t = (Decides-rank m n).1 one in cc)
         ]
       ];
       label = later is ∙ l.label;

@@ -4,7 +4,8 @@ use Rattle.std.specs.Prelude.{AllPairs, Contains, MatchOption, slice_get}
 use Rattle.std.specs.declared.option.Option.{Option}
 use Rattle.std.proofs.lemmas.Bool.{cases_lt, cases_eq}
 use Rattle.std.proofs.lemmas.List.{get_or_default}
-use Rattle.dom_base.specs.declared.names.Addr.{Addr}
+use Rattle.dom_base.specs.AddrOrder.{rank}
+use Rattle.dom_base.specs.declared.addr.Addr.{Addr}
 use Rattle.dom_base.specs.declared.names.As.{As}
 use Rattle.dom_base.specs.declared.link.Link.{Link}
 use Rattle.dom_base.specs.declared.query.Query.{Query}
@@ -45,22 +46,22 @@ pub label_is : (g : Rows) (q : Query) (seeds : List Seed) (labels : List (Option
 label_is g q seeds labels from n o are at_n at_label = subst (IsLabel g q seeds n) at_label (are.each from n at_n)
 
 -- far addresses of out links differ
-one_out : (outs : List OutLink) → AllPairs (λ o p. o.link.far.0 < p.link.far.0) outs → (o p : OutLink) → Contains outs o → Contains outs p → o.link.far ≡ p.link.far → o ≡ p
+one_out : (outs : List OutLink) → AllPairs (λ o p. rank o.link.far < rank p.link.far) outs → (o p : OutLink) → Contains outs o → Contains outs p → o.link.far ≡ p.link.far → o ≡ p
 one_out outs rising o p (i, i_in, is_o) (j, j_in, is_p) far =
     let at_p : get_or outs j o ≡ p = get_or_default outs j o p j_in ∙ is_p in
     let at_o : get_or outs i p ≡ o = get_or_default outs i p o i_in ∙ is_o in
-    let same : o.link.far.0 ≡ p.link.far.0 = ap (λ (a : Addr). a.0) far in
+    let same : rank o.link.far ≡ rank p.link.far = ap rank far in
     elim (cases_eq i j) [
       | inl one ↦ sym is_o ∙ ap (λ k. get_or outs k o) one ∙ at_p
       | inr apart ↦ elim (cases_lt i j) [
         | inl before ↦
             let less = rising i j o before j_in in
-            let f : o.link.far.0 < p.link.far.0 = subst (λ (x : OutLink). o.link.far.0 < x.link.far.0) at_p (subst (λ (x : OutLink). x.link.far.0 < (get_or outs j o).link.far.0) is_o less) in
+            let f : rank o.link.far < rank p.link.far = subst (λ (x : OutLink). rank o.link.far < rank x.link.far) at_p (subst (λ (x : OutLink). rank x.link.far < rank (get_or outs j o).link.far) is_o less) in
             absurd (omega arith)
         | inr past ↦
             let later : j < i = omega (arith, past, apart) in
             let less = rising j i p later i_in in
-            let f : p.link.far.0 < o.link.far.0 = subst (λ (x : OutLink). p.link.far.0 < x.link.far.0) at_o (subst (λ (x : OutLink). x.link.far.0 < (get_or outs i p).link.far.0) is_p less) in
+            let f : rank p.link.far < rank o.link.far = subst (λ (x : OutLink). rank p.link.far < rank x.link.far) at_o (subst (λ (x : OutLink). rank x.link.far < rank (get_or outs i p).link.far) is_p less) in
             absurd (omega arith)
       ]
     ]

@@ -6,7 +6,8 @@ use Rattle.std.specs.declared.option.Option.{Option}
 use Rattle.std.proofs.lemmas.Bool.{cases_lt}
 use Rattle.std.proofs.lemmas.Option.{slice_get-get_or, slice_get_within, get_or_from_slice_get}
 use Rattle.std.proofs.lemmas.List.Elements.{All-contains, Contains-append_left, Contains-append_right, Contains-append_cases, Contains-get_or, Contains-push}
-use Rattle.dom_base.specs.declared.names.Addr.{Addr}
+use Rattle.dom_base.specs.AddrOrder.{rank}
+use Rattle.dom_base.specs.declared.addr.Addr.{Addr}
 use Rattle.dom_base.specs.declared.border.BorderRow.{BorderRow}
 use Rattle.dom_base.specs.declared.link.Link.{Link}
 use Rattle.dom_base.specs.declared.query.Query.{Query}
@@ -137,7 +138,7 @@ row_admits g q (Next b) r row = walk_admits g q r.entry row.out.link.from row.ro
 pub record AreNodeRows (g : Rows) (q : Query) (target : Target) (n : Addr) (rows : List BorderRow) : Type 0 where
   pub each : (r : BorderRow) → Contains rows r → (r.entry ≡ n) × IsRowTo g q target r
   pub every : (r : BorderRow) → r.entry ≡ n → IsRowTo g q target r → Contains rows r
-  pub rising : AllPairs (λ r s. r.far.0 < s.far.0) rows
+  pub rising : AllPairs (λ r s. rank r.far < rank s.far) rows
 
 module _ (g : Rows) (q : Query) (target : Target) (columns : List Column) (are : AreColumns g q target columns) (place : ℕ) (n : Addr) (at : slice_get g.nodes place ≡ Some n) where
   label_in : (c : Column) → Contains columns c → IsLabel g q (c.way.seed ∷ []) n (label_at c.labels place)
@@ -181,10 +182,10 @@ module _ (g : Rows) (q : Query) (target : Target) (columns : List Column) (are :
   node_rows = record {
     each = λ r has. let found = picked_from (row_at place n) columns r has in node_row found.0 found.1 (label_at found.0.labels place) refl r found.2;
     every = node_every;
-    rising = picked_pairs (λ (c d : Column). c.way.seed.exit.0 < d.way.seed.exit.0) (λ (r s : BorderRow). r.far.0 < s.far.0) (row_at place n)
+    rising = picked_pairs (λ (c d : Column). rank c.way.seed.exit < rank d.way.seed.exit) (λ (r s : BorderRow). rank r.far < rank s.far) (row_at place n)
         (λ c d r s less is_r is_s.
-        omega (arith, less, ap (λ (a : Addr). a.0) (row_far c (label_at c.labels place) r is_r), ap (λ (a : Addr). a.0) (row_far d (label_at d.labels place) s is_s)))
-        columns (pairs_unmapped (λ (v w : Way). v.seed.exit.0 < w.seed.exit.0) (λ (c : Column). c.way) columns are.ways.rising);
+        omega (arith, less, ap rank (row_far c (label_at c.labels place) r is_r), ap rank (row_far d (label_at d.labels place) s is_s)))
+        columns (pairs_unmapped (λ (v w : Way). rank v.seed.exit < rank w.seed.exit) (λ (c : Column). c.way) columns are.ways.rising);
   }
 
 -- the rows of the first i nodes
@@ -201,10 +202,10 @@ module _ (g : Rows) (ask : Ask) where
     order = λ i j d before below. absurd (omega (arith, below));
   }
 
-  nodes_rise : IsInOrder g → (k i : ℕ) (m n : Addr) → slice_get g.nodes k ≡ Some m → slice_get g.nodes i ≡ Some n → k < i → m.0 < n.0
+  nodes_rise : IsInOrder g → (k i : ℕ) (m n : Addr) → slice_get g.nodes k ≡ Some m → slice_get g.nodes i ≡ Some n → k < i → rank m < rank n
   nodes_rise order k i m n at_m at_n before =
       let rise = order.nodes k i m before (slice_get_within g.nodes i n at_n) in
-      omega (arith, rise, ap (λ (a : Addr). a.0) (get_or_from_slice_get g.nodes k m m at_m), ap (λ (a : Addr). a.0) (get_or_from_slice_get g.nodes i n m at_n))
+      omega (arith, rise, ap rank (get_or_from_slice_get g.nodes k m m at_m), ap rank (get_or_from_slice_get g.nodes i n m at_n))
 
   same_node : (k i : ℕ) (m n : Addr) → slice_get g.nodes k ≡ Some m → slice_get g.nodes i ≡ Some n → k ≡ i → m ≡ n
   same_node k i m n at_m at_n here =
@@ -234,7 +235,7 @@ module _ (g : Rows) (ask : Ask) where
         (λ r s has there.
         let old = are.each r has in
         let is = new.each s there in
-        inl (omega (arith, nodes_rise order old.1.0 i r.entry n old.1.2 at old.1.1, ap (λ (a : Addr). a.0) is.0)));
+        inl (omega (arith, nodes_rise order old.1.0 i r.entry n old.1.2 at old.1.1, ap rank is.0)));
   }
 
   pub rows_left : (i : ℕ) (n : Addr) (rows : List BorderRow) → IsTableUpTo g ask i rows → slice_get g.nodes i ≡ Some n → ¬ Contains ask.entries n → IsTableUpTo g ask (i + 1) rows

@@ -5,7 +5,8 @@ use Rattle.std.proofs.lemmas.Bool.{cases_lt}
 use Rattle.std.proofs.lemmas.Option.{slice_get-get_or, slice_get_within, get_or_from_slice_get}
 use Rattle.std.proofs.lemmas.List.Elements.{Contains-append_left, Contains-push, Contains-push_cases, Contains-get_or}
 use Rattle.std.proofs.lemmas.List.Quantifiers.{all_pairs_push}
-use Rattle.dom_base.specs.declared.names.Addr.{Addr}
+use Rattle.dom_base.specs.AddrOrder.{rank}
+use Rattle.dom_base.specs.declared.addr.Addr.{Addr}
 use Rattle.dom_base.specs.declared.names.As.{As}
 use Rattle.dom_base.specs.declared.query.Query.{Query}
 use Rattle.te_links.specs.declared.rows.OutLink.{OutLink}
@@ -19,7 +20,7 @@ use Rattle.border_costs.proofs.Picked.{one_of}
 pub record AreWaysUpTo (g : Rows) (q : Query) (next : As) (i : ℕ) (ways : List Way) : Type 0 where
   pub each : (w : Way) → Contains ways w → (k : ℕ) × (k < i) × IsWayAt g q next k w
   pub every : (k : ℕ) (w : Way) → k < i → IsWayAt g q next k w → w.seed.cost ≤ q.cap → Contains ways w
-  pub rising : AllPairs (λ v w. v.seed.exit.0 < w.seed.exit.0) ways
+  pub rising : AllPairs (λ v w. rank v.seed.exit < rank w.seed.exit) ways
 
 -- an out link has one way
 over_unique : (g : Rows) (q : Query) (next : As) (o : OutLink) (v w : Way) → IsWayOver g q next o v → IsWayOver g q next o w → v ≡ w
@@ -37,14 +38,14 @@ module _ (g : Rows) (q : Query) (next : As) where
       let out : one.out ≡ other.out = cc in
       over_unique g q next other.out v w (subst (λ (o : OutLink). IsWayOver g q next o v) out one.over) other.over
 
-  exits_rise : IsInOrder g → (k i : ℕ) (v w : Way) → IsWayAt g q next k v → IsWayAt g q next i w → k < i → v.seed.exit.0 < w.seed.exit.0
+  exits_rise : IsInOrder g → (k i : ℕ) (v w : Way) → IsWayAt g q next k v → IsWayAt g q next i w → k < i → rank v.seed.exit < rank w.seed.exit
   exits_rise order k i v w first second before =
       let rise = order.outs k i first.out before (slice_get_within g.outs i second.out second.at) in
       let at_first = get_or_from_slice_get g.outs k first.out first.out first.at in
       let at_second = get_or_from_slice_get g.outs i second.out first.out second.at in
-      let less : first.out.link.far.0 < second.out.link.far.0 =
-      subst (λ (o : OutLink). first.out.link.far.0 < o.link.far.0) at_second (subst (λ (o : OutLink). o.link.far.0 < (get_or g.outs i first.out).link.far.0) at_first rise) in
-      omega (arith, less, ap (λ (a : Addr). a.0) first.over.exit, ap (λ (a : Addr). a.0) second.over.exit)
+      let less : rank first.out.link.far < rank second.out.link.far =
+      subst (λ (o : OutLink). rank first.out.link.far < rank o.link.far) at_second (subst (λ (o : OutLink). rank o.link.far < rank (get_or g.outs i first.out).link.far) at_first rise) in
+      omega (arith, less, ap rank first.over.exit, ap rank second.over.exit)
 
   pub no_ways : AreWaysUpTo g q next 0 []
   no_ways = record {
@@ -67,7 +68,7 @@ module _ (g : Rows) (q : Query) (next : As) where
               let here : k ≡ i = omega (arith, past, below) in
               subst (Contains (ways ++ w ∷ [])) (way_unique i w v new (subst (λ (n : ℕ). IsWayAt g q next n v) here at)) (Contains-push ways w)
         ];
-    rising = all_pairs_push (λ (v x : Way). v.seed.exit.0 < x.seed.exit.0) ways w are.rising
+    rising = all_pairs_push (λ (v x : Way). rank v.seed.exit < rank x.seed.exit) ways w are.rising
         (λ k d below. let old = are.each (get_or ways k d) (Contains-get_or ways k d below) in exits_rise order old.0 i (get_or ways k d) w old.2 new old.1);
   }
 

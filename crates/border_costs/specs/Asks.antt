@@ -1,7 +1,7 @@
 -- What an ask means: its seeds, and for each entry the least pair of a cost and an exit (RFC 5441, section 4.2).
 use Rattle.std.specs.Prelude.{◌≡◌, ◌≤◌, ◌<◌, ℕ, List, [], ◌∷◌, length, map, Contains, None, Some, slice_get}
 use Rattle.std.specs.declared.option.Option.{Option}
-use Rattle.dom_base.specs.declared.names.Addr.{Addr}
+use Rattle.dom_base.specs.declared.addr.Addr.{Addr}
 use Rattle.dom_base.specs.declared.names.As.{As}
 use Rattle.dom_base.specs.declared.query.Query.{Query}
 use Rattle.dom_base.specs.declared.query.Seed.{Seed}

@@ -1,6 +1,7 @@
 -- The border table of an ask: for each entry and each way out of the domain the least cost (RFC 5441, section 4.2).
 use Rattle.std.specs.Prelude.{◌≡◌, ◌⊎◌, ◌<◌, List, AllPairs, Contains}
-use Rattle.dom_base.specs.declared.names.Addr.{Addr}
+use Rattle.dom_base.specs.AddrOrder.{rank}
+use Rattle.dom_base.specs.declared.addr.Addr.{Addr}
 use Rattle.dom_base.specs.declared.names.As.{As}
 use Rattle.dom_base.specs.declared.border.BorderRow.{BorderRow}
 use Rattle.dom_base.specs.declared.link.Link.{Link}
@@ -39,7 +40,7 @@ pub record IsTableRow (g : Rows) (ask : Ask) (r : BorderRow) : Type 0 where
 
 -- by the entry, and then by the far address
 abbrev pub IsRowBefore : BorderRow → BorderRow → Type 0
-IsRowBefore r s = (r.entry.0 < s.entry.0) ⊎ ((r.entry ≡ s.entry) × (r.far.0 < s.far.0))
+IsRowBefore r s = (rank r.entry < rank s.entry) ⊎ ((r.entry ≡ s.entry) × (rank r.far < rank s.far))
 
 -- all rows of an ask and no others, in order, and so each once
 pub record IsBorderTable (g : Rows) (ask : Ask) (rows : List BorderRow) : Type 0 where

@@ -1,7 +1,8 @@
 -- The ways out of a domain, each with the labels over it alone.
 use Rattle.std.specs.Prelude.{◌≡◌, ◌<◌, ◌≤◌, ℕ, List, [], ◌∷◌, map, All, AllPairs, Contains, Some, slice_get, option_map}
 use Rattle.std.specs.declared.option.Option.{Option}
-use Rattle.dom_base.specs.declared.names.Addr.{Addr}
+use Rattle.dom_base.specs.AddrOrder.{rank}
+use Rattle.dom_base.specs.declared.addr.Addr.{Addr}
 use Rattle.dom_base.specs.declared.names.As.{As}
 use Rattle.dom_base.specs.declared.border.BorderRow.{BorderRow}
 use Rattle.dom_base.specs.declared.query.Query.{Query}
@@ -47,7 +48,7 @@ IsWay g q (Next b) w = (o : OutLink) × IsWayOver g q b o w
 pub record AreWays (g : Rows) (q : Query) (target : Target) (ways : List Way) : Type 0 where
   pub each : (w : Way) → Contains ways w → IsWay g q target w
   pub every : (w : Way) → IsWay g q target w → w.seed.cost ≤ q.cap → Contains ways w
-  pub rising : AllPairs (λ v w. v.seed.exit.0 < w.seed.exit.0) ways
+  pub rising : AllPairs (λ v w. rank v.seed.exit < rank w.seed.exit) ways
 
 -- each way with the labels over it
 pub record AreColumns (g : Rows) (q : Query) (target : Target) (columns : List Column) : Type 0 where

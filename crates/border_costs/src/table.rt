@@ -73,12 +73,7 @@ fn push_rows(
 fn stands(entries: &[Addr], node: Addr) -> bool
     ensures { IsTrue result ↔ Contains entries.now node }
 {
-    for entry in entries {
-        if *entry == node {
-            return true;
-        }
-    }
-    false
+    entries.contains(&node)
 }
 
 // The rows of all nodes that are entries of the ask, in the order of the nodes.

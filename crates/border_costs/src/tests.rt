@@ -61,7 +61,7 @@ pub fn job_of(
             number: 1,
             generation: 1,
             query: query_of(alloc, at, cap)?,
-            source: Addr(0x0A01_0001),
+            source: Addr::V4(0x0A01_0001),
             entries: List::from_vec(entries.to_vec(alloc)?),
             target,
             down: down_of(alloc, down)?,
@@ -135,19 +135,19 @@ fn entries_have_their_best_ways(rt: HostRuntime) -> Result<(), Fail> {
 fn a_certificate_has_each_node(rt: HostRuntime) -> Result<(), Fail> {
     let alloc = rt.alloc();
     let topology = topology_of(alloc, jobs::TARGET_DOMAIN)?;
-    let target = Target::Node(Addr(0x0A03_0009));
+    let target = Target::Node(Addr::V4(0x0A03_0009));
     let job = job_of(alloc, topology, 50, &[], target, &[])?;
     let solved = solve(alloc, &job)?;
     let label = |cost| -> Option<Label> {
         Some(Label {
             cost: Cost::of(cost)?,
-            exit: Addr(0x0A03_0009),
+            exit: Addr::V4(0x0A03_0009),
         })
     };
     let rows = [
-        (Addr(0x0A03_0001), None),
-        (Addr(0x0A03_0002), label(10)),
-        (Addr(0x0A03_0009), label(0)),
+        (Addr::V4(0x0A03_0001), None),
+        (Addr::V4(0x0A03_0002), label(10)),
+        (Addr::V4(0x0A03_0009), label(0)),
     ];
     assert_eq!(rt; solved.certificate().labels.as_slice(), rows.as_slice());
     assert_eq!(rt; solved.at(), As(3));

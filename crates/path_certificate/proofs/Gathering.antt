@@ -1,6 +1,7 @@
 -- What was gathered from some words or lines, and what those behind them add.
 use Rattle.std.proofs.Common.{◌≡◌, ℕ, ◌+◌, List, [], ◌∷◌, ◌++◌, map, true, false, leb, Option, Some, None, Result, Ok, Err, refl, sym, ap, ◌∙◌, append_assoc, append-nil}
-use Rattle.dom_base.specs.declared.names.Addr.{Addr}
+use Rattle.dom_base.specs.AddrOrder.{rank}
+use Rattle.dom_base.specs.declared.addr.Addr.{Addr}
 use Rattle.dom_base.specs.declared.query.Label.{Label}
 use Rattle.dom_base.specs.AddrText.{addr_in}
 use Rattle.dom_base.specs.Steps.{◌>>=◌}
@@ -72,15 +73,15 @@ moves nodes labels stranger number addr label (Ok body) =
 
 -- a line with a label
 pub goes_on : (nodes : List Addr) (labels : Labels) (stranger : Option ℕ) (end least : ℕ) (line : NumberedLine) (others : List NumberedLine) (addr : Addr) (label : Option Label)
-    → row_at line ≡ Ok (rows.Label addr label) → leb least addr.0 ≡ true
+    → row_at line ≡ Ok (rows.Label addr label) → leb least (rank addr) ≡ true
     → further nodes labels stranger (body_in end least (line ∷ others))
-    ≡ further nodes (labels ++ (addr, label) ∷ []) (or_first stranger (stranger_at nodes line.number addr)) (body_in end (addr.0 + 1) others)
+    ≡ further nodes (labels ++ (addr, label) ∷ []) (or_first stranger (stranger_at nodes line.number addr)) (body_in end (rank addr + 1) others)
 unfolding body_in
-goes_on nodes labels stranger end least line others addr label e above = rw (e, above) (moves nodes labels stranger line.number addr label (body_in end (addr.0 + 1) others))
+goes_on nodes labels stranger end least line others addr label e above = rw (e, above) (moves nodes labels stranger line.number addr label (body_in end (rank addr + 1) others))
 
 -- a label out of order
 pub out_of_order : (nodes : List Addr) (labels : Labels) (stranger : Option ℕ) (end least : ℕ) (line : NumberedLine) (others : List NumberedLine) (addr : Addr) (label : Option Label)
-    → row_at line ≡ Ok (rows.Label addr label) → leb least addr.0 ≡ false
+    → row_at line ≡ Ok (rows.Label addr label) → leb least (rank addr) ≡ false
     → further nodes labels stranger (body_in end least (line ∷ others)) ≡ Err (At line.number Syntax)
 unfolding body_in
 out_of_order nodes labels stranger end least line others addr label e below = rw (e, below) refl
@@ -123,8 +124,8 @@ fault_stays nodes labels stranger end least lines left line NoMemory all so_far 
 -- a line with a label, as the loop goes over it
 pub moved_on : (nodes : List Addr) (labels : Labels) (stranger : Option ℕ) (end least : ℕ) (lines left : List NumberedLine) (line : NumberedLine) (row : TextRow)
     (addr : Addr) (label : Option Label) (labels' : Labels) (stranger' : Option ℕ) (n : ℕ) (all : Result Gathered CertError)
-    → row_at line ≡ Ok row → row ≡ rows.Label addr label → leb least addr.0 ≡ true → lines ≡ line ∷ left
-    → labels' ≡ labels ++ (addr, label) ∷ [] → stranger' ≡ or_first stranger (stranger_at nodes line.number addr) → n ≡ addr.0
+    → row_at line ≡ Ok row → row ≡ rows.Label addr label → leb least (rank addr) ≡ true → lines ≡ line ∷ left
+    → labels' ≡ labels ++ (addr, label) ∷ [] → stranger' ≡ or_first stranger (stranger_at nodes line.number addr) → n ≡ rank addr
     → further nodes labels stranger (body_in end least lines) ≡ all → further nodes labels' stranger' (body_in end (n + 1) left) ≡ all
 moved_on nodes labels stranger end least lines left line row addr label labels' stranger' n all at is above split labels_are stranger_is next so_far =
     ap (λ xs. further nodes xs stranger' (body_in end (n + 1) left)) labels_are

@@ -4,7 +4,9 @@ use Rattle.std.specs.Prelude.{Contains}
 use Rattle.std.specs.declared.option.Option.{Option}
 use Rattle.std.proofs.lemmas.Bool.Decides.{eqb_tells}
 use Rattle.std.proofs.lemmas.List.Elements.{All-contains}
-use Rattle.dom_base.specs.declared.names.Addr.{Addr}
+use Rattle.dom_base.specs.AddrOrder.{rank}
+use Rattle.dom_base.proofs.Ranks.{same_addr}
+use Rattle.dom_base.specs.declared.addr.Addr.{Addr}
 use Rattle.dom_base.specs.declared.query.Query.{Query}
 use Rattle.dom_base.specs.declared.query.Seed.{Seed as SeedRow}
 use Rattle.dom_base.specs.declared.query.Label.{Label}
@@ -95,9 +97,6 @@ all_hold c seeds links nodes path (Link i) = links i
 all_hold c seeds links nodes path (Node i) = nodes i
 all_hold c seeds links nodes path (Path k) = path k
 
-same_addr : (a b : Addr) → a.0 ≡ b.0 → a ≡ b
-same_addr a b is = ap (λ k. let c : Addr = record { 0 = k } in c) is
-
 later : {X : Type 0} (x y : X) (xs : List X) → Contains xs y → Contains (x ∷ xs) y
 later x y xs (k, below, is) = (suc k, omega arith, is)
 
@@ -106,7 +105,7 @@ named : (nodes : List Addr) (rows : List (Addr × Option Label)) (n : Addr) (a :
     label_in rows n ≡ Some a → Contains nodes n
 named nodes [] n a at is = cc
 named nodes (row ∷ rows) n a at is =
-    elim (eqb_tells row.0.0 n.0) [
+    elim (eqb_tells (rank row.0) (rank n)) [
       | inl t ↦ subst (Contains nodes) (same_addr row.0 n t.1) (at row (0, omega arith, refl))
       | inr f ↦ named nodes rows n a (λ r found. at r (later row r rows found)) (rw f.0 at is)
     ]

@@ -3,7 +3,8 @@ use Rattle.std.proofs.Common.{◌≡◌, inl, inr, ℕ, ◌+◌, ◌<◌, ◌≤
 use Rattle.std.specs.Prelude.{Contains}
 use Rattle.std.proofs.lemmas.Bool.{cases_lt}
 use Rattle.std.proofs.lemmas.List.{get_or_default, take_all, take-take, take_more, take-append-drop}
-use Rattle.dom_base.specs.declared.names.Addr.{Addr}
+use Rattle.dom_base.specs.AddrOrder.{rank}
+use Rattle.dom_base.specs.declared.addr.Addr.{Addr}
 use Rattle.dom_base.specs.declared.link.Link.{Link}
 use Rattle.dom_base.specs.declared.query.Query.{Query}
 use Rattle.dom_base.specs.declared.query.Seed.{Seed}
@@ -21,8 +22,8 @@ use Rattle.path_certificate.proofs.Making.{place_of, contains_at}
 -- links with the same far address are the same
 pub same_link : (g : Rows) (l m : Link) → IsInOrder g → Contains g.links l → Contains g.links m → l.far ≡ m.far → l ≡ m
 same_link g l m order (i, below_i, at_i) (j, below_j, at_j) fars =
-    let number : l.far.0 ≡ m.far.0 = ap (λ (a : Addr). a.0) fars in
-    let far : Link → ℕ = λ k. k.far.0 in
+    let number : rank l.far ≡ rank m.far = ap rank fars in
+    let far : Link → ℕ = λ k. rank k.far in
     let at_j' : get_or g.links j l ≡ m = get_or_default g.links j l m below_j ∙ at_j in
     let at_i' : get_or g.links i m ≡ l = get_or_default g.links i m l below_i ∙ at_i in
     elim (cases_lt i j) [

@@ -7,3 +7,4 @@ pub mod Gathering
 pub mod Whole
 pub mod RowSpelling
 pub mod ReadAgain
+pub mod Beginning

@@ -6,7 +6,8 @@ use Rattle.std.specs.List.{AllByRecursion}
 use Rattle.std.specs.Str.Lines.{lines}
 use Rattle.std.proofs.lemmas.Bool.{le-leb, eq-eqb}
 use Rattle.std.proofs.lemmas.List.Elements.{recursion_from_All}
-use Rattle.dom_base.specs.declared.names.Addr.{Addr}
+use Rattle.dom_base.specs.AddrOrder.{rank}
+use Rattle.dom_base.specs.declared.addr.Addr.{Addr}
 use Rattle.dom_base.specs.declared.names.As.{As}
 use Rattle.dom_base.specs.declared.query.Label.{Label}
 use Rattle.line_text.specs.Spelling.{joined, line_text, text_of, IsLine, numbered_after}
@@ -30,15 +31,15 @@ AllRead labels = AllByRecursion (λ row. IsWritten (rows.Label row.0 row.1)) lab
 -- rows that rise from an address on, each at a node
 abbrev AreGood : List Addr → ℕ → Labels → Type 0
 AreGood nodes least [] = Unit {0}
-AreGood nodes least (row ∷ others) = (least ≤ row.0.0) × (is_node nodes row.0 ≡ true) × AreGood nodes (row.0.0 + 1) others
+AreGood nodes least (row ∷ others) = (least ≤ rank row.0) × (is_node nodes row.0 ≡ true) × AreGood nodes (rank row.0 + 1) others
 
-good_rows : (nodes : List Addr) (least : ℕ) (labels : Labels) → ((d : Addr × Option Label) → 0 < length labels → least ≤ (get_or labels 0 d).0.0) →
-    AllPairs (λ a b. a.0.0 < b.0.0) labels → All (λ row. Contains nodes row.0) labels → AreGood nodes least labels
+good_rows : (nodes : List Addr) (least : ℕ) (labels : Labels) → ((d : Addr × Option Label) → 0 < length labels → least ≤ rank (get_or labels 0 d).0) →
+    AllPairs (λ a b. rank a.0 < rank b.0) labels → All (λ row. Contains nodes row.0) labels → AreGood nodes least labels
 good_rows nodes least [] above up at = tt
 good_rows nodes least (row ∷ others) above up at = (
   above row (omega arith),
   contains_is_node nodes row.0 (at 0 row (omega arith)),
-  good_rows nodes (row.0.0 + 1) others
+  good_rows nodes (rank row.0 + 1) others
       (λ d some. let less = up 0 1 d (omega arith) (omega arith) in omega (arith, less))
       (λ i j d before below. up (suc i) (suc j) d (omega arith) (omega arith))
       (λ k d below. at (suc k) d (omega arith)),
@@ -55,7 +56,7 @@ numbered_labels k (row ∷ others) = ap (λ (xs : Labels). row ∷ xs) (numbered
 
 no_stranger : (nodes : List Addr) (least k : ℕ) (labels : Labels) → AreGood nodes least labels → first_stranger nodes (numbered k labels) ≡ None
 no_stranger nodes least k [] good = refl
-no_stranger nodes least k (row ∷ others) good = rw good.1 (no_stranger nodes (row.0.0 + 1) (k + 1) others good.2)
+no_stranger nodes least k (row ∷ others) good = rw good.1 (no_stranger nodes (rank row.0 + 1) (k + 1) others good.2)
 
 row_again : (number : ℕ) (row : TextRow) → IsLine (row_words row) → row_in (row_words row) ≡ Some row → row_at (record { number = number; text = joined (row_words row) }) ≡ Ok row
 unfolding row_at
@@ -69,8 +70,8 @@ body_again nodes end least k [] path written good again = rw (row_again (k + 1) 
 body_again nodes end least k (row ∷ others) path written good again =
     rw (
       row_again (k + 1) (rows.Label row.0 row.1) written.0.line written.0.again,
-      le-leb least row.0.0 good.0,
-      body_again nodes end (row.0.0 + 1) (k + 1) others path written.1 good.2 again,
+      le-leb least (rank row.0) good.0,
+      body_again nodes end (rank row.0 + 1) (k + 1) others path written.1 good.2 again,
     ) refl
 
 header_again : (own number : As) (line : ℕ) → own ≡ number → IsWrittenHeader number → header_at own (record { number = line; text = joined (header_words number) }) ≡ Ok own

@@ -3,23 +3,22 @@ use Rattle.std.proofs.Common.{◌≡◌, inl, inr, ℕ, zero, suc, List, [], ◌
 use Rattle.std.specs.Prelude.{Contains, slice_get}
 use Rattle.std.proofs.lemmas.Bool.Decides.{eqb_tells}
 use Rattle.std.proofs.lemmas.Option.{slice_get-get_or}
-use Rattle.dom_base.specs.declared.names.Addr.{Addr}
+use Rattle.dom_base.specs.AddrOrder.{rank}
+use Rattle.dom_base.proofs.Ranks.{same_addr}
+use Rattle.dom_base.specs.declared.addr.Addr.{Addr}
 use Rattle.path_certificate.specs.Text.{is_node, stranger_at}
-
-same_addr : (a b : Addr) → a.0 ≡ b.0 → a ≡ b
-same_addr a b is = ap (λ k. let c : Addr = record { 0 = k } in c) is
 
 node_there : (nodes : List Addr) (i : ℕ) (addr : Addr) → slice_get nodes i ≡ Some addr → is_node nodes addr ≡ true
 node_there [] i addr at = cc
 node_there (n ∷ nodes) zero addr at =
     let same : n ≡ addr = cc in
-    elim (eqb_tells n.0 addr.0) [ inl t ↦ rw t.0 refl | inr f ↦ absurd (f.1 (ap (λ (a : Addr). a.0) same)) ]
-node_there (n ∷ nodes) (suc i) addr at = elim (eqb_tells n.0 addr.0) [ inl t ↦ rw t.0 refl | inr f ↦ rw f.0 (node_there nodes i addr at) ]
+    elim (eqb_tells (rank n) (rank addr)) [ inl t ↦ rw t.0 refl | inr f ↦ absurd (f.1 (ap rank same)) ]
+node_there (n ∷ nodes) (suc i) addr at = elim (eqb_tells (rank n) (rank addr)) [ inl t ↦ rw t.0 refl | inr f ↦ rw f.0 (node_there nodes i addr at) ]
 
 node_not : (nodes : List Addr) (addr : Addr) → (Contains nodes addr → ⊥) → is_node nodes addr ≡ false
 node_not [] addr none = refl
 node_not (n ∷ nodes) addr none =
-    elim (eqb_tells n.0 addr.0) [
+    elim (eqb_tells (rank n) (rank addr)) [
       | inl t ↦ absurd (none (0, omega arith, same_addr n addr t.1))
       | inr f ↦ rw f.0 (node_not nodes addr (λ (k, below, is). none (suc k, omega arith, is)))
     ]
@@ -34,7 +33,7 @@ node_missing nodes line addr none = rw (node_not nodes addr none) refl
 pub is_node_contains : (nodes : List Addr) (addr : Addr) → is_node nodes addr ≡ true → Contains nodes addr
 is_node_contains [] addr is = cc
 is_node_contains (n ∷ nodes) addr is =
-    elim (eqb_tells n.0 addr.0) [
+    elim (eqb_tells (rank n) (rank addr)) [
       | inl t ↦ (0, omega arith, same_addr n addr t.1)
       | inr f ↦
           let rest : Contains nodes addr = is_node_contains nodes addr (rw f.0 at is) in

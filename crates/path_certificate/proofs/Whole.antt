@@ -5,7 +5,8 @@ use Rattle.std.specs.Str.Lines.{lines}
 use Rattle.std.proofs.lemmas.Bool.{cases_Bool}
 use Rattle.std.proofs.lemmas.Bool.Decides.{leb_tells}
 use Rattle.std.proofs.lemmas.List.Elements.{All-cons, All-nil}
-use Rattle.dom_base.specs.declared.names.Addr.{Addr}
+use Rattle.dom_base.specs.AddrOrder.{rank}
+use Rattle.dom_base.specs.declared.addr.Addr.{Addr}
 use Rattle.dom_base.specs.declared.names.As.{As}
 use Rattle.dom_base.specs.declared.query.Label.{Label}
 use Rattle.line_text.specs.Lines.{NumberedLine, told_lines}
@@ -68,7 +69,7 @@ body_accepted g end line others own x all is at said = is ∙ behind g end line 
 
 abbrev RisingFrom : ℕ → Labels → Type 0
 RisingFrom least [] = Unit {0}
-RisingFrom least (row ∷ others) = (least ≤ row.0.0) × RisingFrom (row.0.0 + 1) others
+RisingFrom least (row ∷ others) = (least ≤ rank row.0) × RisingFrom (rank row.0 + 1) others
 
 abbrev labels_of : Body → Labels
 labels_of body = map (λ row. row.1) body.labels
@@ -80,8 +81,8 @@ path_rises least path [] body is =
     subst (λ (b : Body). RisingFrom least (labels_of b)) same tt
 path_rises least path (line ∷ others) body is = absurd (cc)
 
-label_rises : (least number : ℕ) (addr : Addr) (label : Option Label) (said : Result Body CertError) (body : Body) → least ≤ addr.0 →
-    ((b : Body) → said ≡ Ok b → RisingFrom (addr.0 + 1) (labels_of b)) →
+label_rises : (least number : ℕ) (addr : Addr) (label : Option Label) (said : Result Body CertError) (body : Body) → least ≤ rank addr →
+    ((b : Body) → said ≡ Ok b → RisingFrom (rank addr + 1) (labels_of b)) →
     and_then said (λ b. Ok (with_label (number, (addr, label)) b)) ≡ Ok body → RisingFrom least (labels_of body)
 label_rises least number addr label (Err e) body above rest is = absurd (cc)
 label_rises least number addr label (Ok b) body above rest is =
@@ -98,22 +99,22 @@ body_rises end least (line ∷ others) body is = go (row_at line) (λ next b. bo
     go (Err e) rest h = absurd (cc)
     go (Ok (rows.Path path)) rest h = path_rises least path others body h
     go (Ok (rows.Label addr label)) rest h =
-        elim (leb_tells least addr.0) [
-          | inl t ↦ label_rises least line.number addr label (body_in end (addr.0 + 1) others) body t.1 (rest (addr.0 + 1)) (rw t.0 at h)
+        elim (leb_tells least (rank addr)) [
+          | inl t ↦ label_rises least line.number addr label (body_in end (rank addr + 1) others) body t.1 (rest (rank addr + 1)) (rw t.0 at h)
           | inr f ↦ let bad : Err (At line.number Syntax) ≡ Ok body = rw f.0 at h in absurd (cc)
         ]
 
-rising_above : (least : ℕ) (labels : Labels) → RisingFrom least labels → (j : ℕ) (d : Addr × Option Label) → j < length labels → least ≤ (get_or labels j d).0.0
+rising_above : (least : ℕ) (labels : Labels) → RisingFrom least labels → (j : ℕ) (d : Addr × Option Label) → j < length labels → least ≤ rank (get_or labels j d).0
 rising_above least [] up j d below = absurd (omega arith)
 rising_above least (row ∷ others) up zero d below = up.0
-rising_above least (row ∷ others) up (suc j) d below = omega (arith, up.0, rising_above (row.0.0 + 1) others up.1 j d (omega arith))
+rising_above least (row ∷ others) up (suc j) d below = omega (arith, up.0, rising_above (rank row.0 + 1) others up.1 j d (omega arith))
 
-rising_pairs : (least : ℕ) (labels : Labels) → RisingFrom least labels → AllPairs (λ a b. a.0.0 < b.0.0) labels
+rising_pairs : (least : ℕ) (labels : Labels) → RisingFrom least labels → AllPairs (λ a b. rank a.0 < rank b.0) labels
 rising_pairs least [] up i j d before below = absurd (omega arith)
 rising_pairs least (row ∷ others) up zero zero d before below = absurd (omega arith)
-rising_pairs least (row ∷ others) up zero (suc j) d before below = omega (arith, rising_above (row.0.0 + 1) others up.1 j d (omega arith))
+rising_pairs least (row ∷ others) up zero (suc j) d before below = omega (arith, rising_above (rank row.0 + 1) others up.1 j d (omega arith))
 rising_pairs least (row ∷ others) up (suc i) zero d before below = absurd (omega arith)
-rising_pairs least (row ∷ others) up (suc i) (suc j) d before below = rising_pairs (row.0.0 + 1) others up.1 i j d (omega arith) (omega arith)
+rising_pairs least (row ∷ others) up (suc i) (suc j) d before below = rising_pairs (rank row.0 + 1) others up.1 i j d (omega arith) (omega arith)
 
 all_nodes : (nodes : List Addr) (labels : List LabelLine) → first_stranger nodes labels ≡ None → All (λ row. Contains nodes row.0) (map (λ row. row.1) labels)
 all_nodes nodes [] none = All-nil (λ (row : Addr × Option Label). Contains nodes row.0)

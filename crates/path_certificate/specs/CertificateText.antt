@@ -1,7 +1,7 @@
 -- The text of a certificate as it is written: its header, then the labels in their order, and last the path.
 use Rattle.std.specs.Prelude.{◌≡◌, ℕ, List, [], ◌∷◌, ◌++◌, Option, Some, None, map, decimal}
 use Rattle.std.specs.List.{flat_map, AllByRecursion}
-use Rattle.dom_base.specs.declared.names.Addr.{Addr}
+use Rattle.dom_base.specs.declared.addr.Addr.{Addr}
 use Rattle.dom_base.specs.declared.names.As.{As}
 use Rattle.dom_base.specs.declared.query.Label.{Label}
 use Rattle.dom_base.specs.AddrText.{addr_in, addr_text}

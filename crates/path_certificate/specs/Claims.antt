@@ -2,7 +2,7 @@
 use Rattle.std.specs.Prelude.{◌≡◌, ◌⊎◌, ◌<◌, ◌≤◌, ℕ, List, [], ◌∷◌, length, take, slice_get, None, Some, option_and_then}
 use Rattle.std.specs.declared.option.Option.{Option}
 use Rattle.std.specs.Option.{option_map}
-use Rattle.dom_base.specs.declared.names.Addr.{Addr}
+use Rattle.dom_base.specs.declared.addr.Addr.{Addr}
 use Rattle.dom_base.specs.declared.link.Link.{Link as TeLink}
 use Rattle.dom_base.specs.declared.query.Query.{Query}
 use Rattle.dom_base.specs.declared.query.Seed.{Seed as SeedRow}
@@ -69,11 +69,11 @@ HoldsAt c (Node i) = NodeHoldsAt c.topology c.query c.seeds c.label i
 HoldsAt c (Path k) = PathHoldsAt c.topology c.query c.seeds c.label c.source c.path k
 
 -- seeds come first, then links, nodes and the path
-abbrev pub rank : Place → ℕ
-rank (Seed i) = 0
-rank (Link i) = 1
-rank (Node i) = 2
-rank (Path k) = 3
+abbrev pub kind_order : Place → ℕ
+kind_order (Seed i) = 0
+kind_order (Link i) = 1
+kind_order (Node i) = 2
+kind_order (Path k) = 3
 
 abbrev pub index : Place → ℕ
 index (Seed i) = i
@@ -82,7 +82,7 @@ index (Node i) = i
 index (Path k) = k
 
 abbrev pub IsBefore : Place → Place → Type 0
-IsBefore p r = (rank p < rank r) ⊎ ((rank p ≡ rank r) × (index p < index r))
+IsBefore p r = (kind_order p < kind_order r) ⊎ ((kind_order p ≡ kind_order r) × (index p < index r))
 
 -- the condition at the place is false, and each before it holds
 pub record IsFirstFalse (c : Claim) (place : Place) : Type 0 where

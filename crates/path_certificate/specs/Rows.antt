@@ -1,15 +1,16 @@
 -- The rows of a certificate, which say what is claimed of a node.
 use Rattle.std.specs.Prelude.{◌<◌, ◌==◌, List, [], ◌∷◌, None, All, AllPairs, Contains, if◌then◌else◌}
 use Rattle.std.specs.declared.option.Option.{Option}
-use Rattle.dom_base.specs.declared.names.Addr.{Addr}
+use Rattle.dom_base.specs.AddrOrder.{rank}
+use Rattle.dom_base.specs.declared.addr.Addr.{Addr}
 use Rattle.dom_base.specs.declared.query.Label.{Label}
 
 -- the label of an address, which is none where no row names it
 abbrev pub label_in : List (Addr × Option Label) → Addr → Option Label
 label_in [] n = None
-label_in (row ∷ rows) n = if row.0.0 == n.0 then row.1 else label_in rows n
+label_in (row ∷ rows) n = if rank row.0 == rank n then row.1 else label_in rows n
 
 -- the rows stand in strictly rising order of address, each at a node
 pub record AreRows (nodes : List Addr) (rows : List (Addr × Option Label)) : Type 0 where
-  pub rising : AllPairs (λ a b. a.0.0 < b.0.0) rows
+  pub rising : AllPairs (λ a b. rank a.0 < rank b.0) rows
   pub at_nodes : All (λ row. Contains nodes row.0) rows

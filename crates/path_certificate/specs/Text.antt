@@ -3,7 +3,8 @@ use Rattle.std.specs.Prelude.{ℕ, ◌+◌, ◌==◌, Bool, List, [], ◌∷◌,
 use Rattle.std.specs.Str.{bytes_eq}
 use Rattle.std.specs.Str.Lines.{lines}
 use Rattle.std.specs.List.{list_any}
-use Rattle.dom_base.specs.declared.names.Addr.{Addr}
+use Rattle.dom_base.specs.AddrOrder.{rank}
+use Rattle.dom_base.specs.declared.addr.Addr.{Addr}
 use Rattle.dom_base.specs.declared.names.As.{As}
 use Rattle.dom_base.specs.declared.query.Label.{Label}
 use Rattle.dom_base.specs.Steps.{◌>>=◌}
@@ -78,9 +79,14 @@ path_last path (line ∷ others) = Err (At line.number Syntax)
 abbrev pub line_says : ℕ → ℕ → List NumberedLine → (ℕ → Result Body CertError) → TextRow → Result Body CertError
 line_says number least others above (rows.Path path) = path_last path others
 line_says number least others above (rows.Label addr label) =
-    if nat_le least addr.0 then and_then (above (addr.0 + 1)) (λ body. Ok (with_label (number, (addr, label)) body)) else Err (At number Syntax)
+    if nat_le least (rank addr) then and_then (above (rank addr + 1)) (λ body. Ok (with_label (number, (addr, label)) body)) else Err (At number Syntax)
 
--- What lines say whose addresses are `least` or above, or the first line that is outside the form; `end` is where the
+-- the least place that is behind an address; with none before it, every address is behind
+abbrev pub least_behind : Option Addr → ℕ
+least_behind None = 0
+least_behind (Some last) = rank last + 1
+
+-- What lines say whose addresses have the place `least` or one behind it, or the first line that is outside the form; `end` is where the
 -- path is missing.
 unfoldable pub body_in : ℕ → ℕ → List NumberedLine → Result Body CertError
 body_in end least [] = Err (At end Syntax)
@@ -89,7 +95,7 @@ body_in end least (line ∷ others) = and_then (row_at line) (line_says line.num
 -- ---- the nodes
 
 abbrev pub is_node : List Addr → Addr → Bool
-is_node nodes addr = list_any (λ n. n.0 == addr.0) nodes
+is_node nodes addr = list_any (λ n. rank n == rank addr) nodes
 
 -- the line of an address that is no node
 abbrev pub stranger_at : List Addr → ℕ → Addr → Option ℕ

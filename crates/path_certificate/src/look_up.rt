@@ -1,4 +1,5 @@
 ghost use Rattle.std.specs.Prelude.{◌≡◌, ◌<◌, AllPairs, MatchOption, ℕ};
+ghost use Rattle.dom_base.specs.AddrOrder.{rank};
 ghost use Rattle.path_certificate.specs.Rows.{label_in};
 ghost use Rattle.path_certificate.specs.Offers.{IsLinkAt};
 ghost use Rattle.te_links.specs.Rows.{IsInOrder};
@@ -8,18 +9,18 @@ use te_links::Topology;
 
 /// The label of an address among rows in rising order.
 pub fn label_of(rows: &[(Addr, Option<Label>)], node: Addr) -> Option<Label>
-    requires { AllPairs (λ a b. a.0.0 < b.0.0) rows.now }
+    requires { AllPairs (λ a b. rank a.0 < rank b.0) rows.now }
     ensures { result ≡ label_in rows.now node }
 {
     let mut low = 0;
     let mut high = rows.len();
     while low < high {
         let middle = low + (high - low) / 2;
-        let here = rows[middle].0.0;
-        if here == node.0 {
+        let here = rows[middle].0;
+        if here == node {
             return rows[middle].1;
         }
-        if here < node.0 {
+        if here < node {
             low = middle + 1;
         } else {
             high = middle;
@@ -37,11 +38,11 @@ pub fn link_with(topology: &Topology, far: Addr) -> Option<u32>
     let mut high = topology.link_count();
     while low < high {
         let middle = low + (high - low) / 2;
-        let here = topology.link_at(middle).far.0;
-        if here == far.0 {
+        let here = topology.link_at(middle).far;
+        if here == far {
             return Some(middle);
         }
-        if here < far.0 {
+        if here < far {
             low = middle + 1;
         } else {
             high = middle;

@@ -12,7 +12,7 @@ pub fn is_at_most(told: &Option<Label>, bound: &Label) -> bool
         None => false,
         Some(label) => {
             label.cost.get() < bound.cost.get()
-                || label.cost.get() == bound.cost.get() && label.exit.0 <= bound.exit.0
+                || label.cost.get() == bound.cost.get() && label.exit <= bound.exit
         }
     }
 }

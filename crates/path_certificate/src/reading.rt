@@ -1,8 +1,9 @@
-ghost use Rattle.std.specs.Prelude.{◌≡◌, ◌+◌, ◌≤◌, ◌<◌, ◌^◌, Ok, IfOk, length, ℕ};
+ghost use Rattle.std.specs.Prelude.{◌≡◌, ◌+◌, ◌≤◌, ◌<◌, ◌^◌, Ok, IfOk, length, nat_le, ℕ};
+ghost use Rattle.dom_base.specs.AddrOrder.{rank};
 ghost use Rattle.std.specs.Str.Lines.{lines as lines_of};
 ghost use Rattle.path_certificate.specs.Rows.{AreRows};
 ghost use Rattle.path_certificate.specs.Given.{GivesText};
-ghost use Rattle.path_certificate.specs.Text.{and_then, body_in, certificate_in, gathered, header_at, is_node, or_first, own_behind, row_at, stranger_at as stranger_of};
+ghost use Rattle.path_certificate.specs.Text.{and_then, body_in, certificate_in, gathered, header_at, is_node, least_behind, or_first, own_behind, row_at, stranger_at as stranger_of};
 
 use crate::cert_error::CertError;
 use crate::certificate::Certificate;
@@ -88,6 +89,16 @@ fn first_stranger(topology: &Topology, before: Option<u32>, line: u32, addr: Add
     }
 }
 
+// Whether an address comes behind the last one.
+fn is_behind(last: Option<Addr>, addr: Addr) -> bool
+    ensures { result ≡ nat_le (least_behind last) (rank addr) }
+{
+    match last {
+        None => true,
+        Some(before) => before < addr,
+    }
+}
+
 // What the lines behind the header say; `end` is the line after the last.
 fn read_body(
     alloc: Global,
@@ -99,14 +110,14 @@ fn read_body(
 {
     let mut labels = List::new(alloc);
     let mut stranger = None;
-    let mut least: u64 = 0;
+    let mut last = None;
     while let Some(line) = lines.next_line() {
         match read_line(alloc, &line)? {
             TextRow::Label(addr, label) => {
-                if u64::from(addr.0) < least {
+                if !is_behind(last, addr) {
                     return Err(CertError::At(line.number, TopoFault::Syntax));
                 }
-                least = u64::from(addr.0) + 1;
+                last = Some(addr);
                 stranger = first_stranger(topology, stranger, line.number, addr);
                 labels.push((addr, label))?;
             }

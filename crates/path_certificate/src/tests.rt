@@ -8,9 +8,9 @@ use std::test::Fail;
 use te_links::{TopoFault, Topology};
 use te_text::read_topology;
 
-const FIRST: Addr = Addr(0x0A00_0001);
+const FIRST: Addr = Addr::V4(0x0A00_0001);
 
-const LAST: Addr = Addr(0x0A00_0003);
+const LAST: Addr = Addr::V4(0x0A00_0003);
 
 // Three nodes in a row, a dearer link from the first to the last, and a node aside.
 fn topology(alloc: Global) -> Result<Topology, Fail> {

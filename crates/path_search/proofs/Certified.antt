@@ -5,7 +5,8 @@ use Rattle.std.specs.declared.option.Option.{Option}
 use Rattle.std.proofs.lemmas.List.Elements.{All-contains}
 use Rattle.std.proofs.lemmas.List.{get_or_default}
 use Rattle.std.proofs.lemmas.Option.{slice_get_within}
-use Rattle.dom_base.specs.declared.names.Addr.{Addr}
+use Rattle.dom_base.proofs.Ranks.{same_addr}
+use Rattle.dom_base.specs.declared.addr.Addr.{Addr}
 use Rattle.dom_base.specs.declared.link.Link.{Link}
 use Rattle.dom_base.specs.declared.query.Query.{Query}
 use Rattle.dom_base.specs.declared.query.Metric.{Metric}
@@ -26,15 +27,12 @@ use Rattle.path_search.specs.Search.{IsArcOf, AreArcs, AreLabels}
 use Rattle.path_search.proofs.Places.{same_place, place_of, label_of, label_of-at, label_of_found}
 use Rattle.path_search.proofs.Collecting.{IsBefore}
 
-same_exit : (a b : Addr) → a.0 ≡ b.0 → a ≡ b
-same_exit a b is = ap (λ k. let c : Addr = record { 0 = k } in c) is
-
 le_antisym : (a b : Label) → a ≼ b → b ≼ a → a ≡ b
 le_antisym a b (inl lt) (inl lt') = absurd (omega arith)
 le_antisym a b (inl lt) (inr le') = absurd (omega (arith, lt, le'.0))
 le_antisym a b (inr le) (inl lt') = absurd (omega (arith, lt', le.0))
 le_antisym a b (inr le) (inr le') =
-    let exits : a.exit ≡ b.exit = same_exit a.exit b.exit (omega (arith, le.1, le'.1)) in
+    let exits : a.exit ≡ b.exit = same_addr a.exit b.exit (omega (arith, le.1, le'.1)) in
     let make : ℕ → Addr → Label = λ n e. record { cost = n; exit = e } in
     ap (λ n. make n a.exit) le.0 ∙ ap (λ e. make b.cost e) exits
 

@@ -8,34 +8,35 @@ use Rattle.std.proofs.lemmas.List.Elements.{All-more, All-contains_itself}
 use Rattle.dom_base.specs.declared.query.Label.{Label}
 use Rattle.walk_laws.specs.Certificate.{AtMost}
 use Rattle.path_search.specs.declared.arc.Arc.{Arc}
-use Rattle.path_search.specs.Arcs.{label_at, IsWithin, IsArcAmong, IsRelaxed, Lowers, Keeps, Settles, potential}
+use Rattle.path_search.specs.Arcs.{label_at, IsWithin, IsArcAmong, IsRelaxed, Lowers, Keeps, Settles, potential, AreExitsUpTo, Falls}
 use Rattle.path_search.proofs.Relaxing.{lowers_keeps, lowers_falls, keeps_trans}
 
 abbrev pub Passes : ℕ → List Arc → List (Option Label) → List (Option Label) → Bool → ℕ → Type 0
 Passes cap arcs start now changed i =
-    MatchBool changed (potential now < potential start) ((now ≡ start) × All (IsRelaxed cap now) (take i arcs))
+    MatchBool changed (Falls start now) ((now ≡ start) × All (IsRelaxed cap now) (take i arcs))
 
 no_more : (cap : ℕ) (arcs : List Arc) (start now : List (Option Label)) (changed : Bool) (i : ℕ) →
-    Passes cap arcs start now changed i → potential now ≤ potential start
-no_more cap arcs start now true i passes = omega arith
-no_more cap arcs start now false i passes = omega (arith, ap potential passes.0)
+    Passes cap arcs start now changed i → (most : ℕ) → AreExitsUpTo most start → potential most now ≤ potential most start
+no_more cap arcs start now true i passes most exits = omega (arith, passes most exits)
+no_more cap arcs start now false i passes most exits = omega (arith, ap (potential most) passes.0)
 
 pub lowered : (cap : ℕ) (arcs : List Arc) (start now next : List (Option Label)) (changed : Bool) (i : ℕ) (d : Arc) →
     i < length arcs → All (IsArcAmong (length start)) arcs → Keeps cap arcs start now → Passes cap arcs start now changed i →
-    Lowers cap (slice_index_or arcs i d) now next → Keeps cap arcs start next × (potential next < potential start)
+    Lowers cap (slice_index_or arcs i d) now next → Keeps cap arcs start next × Falls start next
 lowered cap arcs start now next changed i d below among keeps passes low =
     let a : Arc = slice_index_or arcs i d in
     let is_arc : Contains arcs a = All-contains_itself arcs i d below in
     let fits : IsArcAmong (length now) a = subst (λ n. IsArcAmong n a) (sym keeps.same_length) (among i d below) in
-    let falls : potential next < potential now = lowers_falls cap a now next fits low in
-    let was : potential now ≤ potential start = no_more cap arcs start now changed i passes in
-    (keeps_trans cap arcs start now next keeps (lowers_keeps cap arcs a now next is_arc fits low), omega arith)
+    let falls : Falls now next = lowers_falls cap a now next fits low in (
+      keeps_trans cap arcs start now next keeps (lowers_keeps cap arcs a now next is_arc fits low),
+      λ most exits. omega (arith, falls most (keeps.exits most exits), no_more cap arcs start now changed i passes most exits),
+    )
 
 pub same : (cap : ℕ) (arcs : List Arc) (start now next : List (Option Label)) (changed : Bool) (i : ℕ) (d : Arc) →
     i < length arcs → Keeps cap arcs start now → Passes cap arcs start now changed i →
     next ≡ now → IsRelaxed cap now (slice_index_or arcs i d) → Keeps cap arcs start next × Passes cap arcs start next changed (i + 1)
 same cap arcs start now next true i d below keeps passes is relaxed =
-    (subst (Keeps cap arcs start) (sym is) keeps, omega (arith, passes, ap potential is))
+    (subst (Keeps cap arcs start) (sym is) keeps, subst (Falls start) (sym is) passes)
 same cap arcs start now next false i d below keeps passes is relaxed = (
   subst (Keeps cap arcs start) (sym is) keeps,
   (is ∙ passes.0, subst (λ (ls : List (Option Label)). All (IsRelaxed cap ls) (take (i + 1) arcs)) (sym is) (All-more (IsRelaxed cap now) arcs i d below passes.1 relaxed)),
@@ -46,7 +47,7 @@ pub told : (cap : ℕ) (arcs : List Arc) (start now : List (Option Label)) (b ch
 told cap arcs start now b changed i is passes = subst (λ (t : Bool). Passes cap arcs start now t i) (sym is) passes
 
 pub finished : (cap : ℕ) (arcs : List Arc) (start now : List (Option Label)) (changed : Bool) (i : ℕ) → length arcs ≤ i → Passes cap arcs start now changed i →
-    MatchBool changed (potential now < potential start) ((now ≡ start) × All (IsRelaxed cap now) arcs)
+    MatchBool changed (Falls start now) ((now ≡ start) × All (IsRelaxed cap now) arcs)
 finished cap arcs start now true i past passes = passes
 finished cap arcs start now false i past passes = (passes.0, subst (All (IsRelaxed cap now)) (take_all i arcs past) passes.1)
 

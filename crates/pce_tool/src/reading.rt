@@ -5,9 +5,7 @@ ghost use Rattle.pce_tool.specs.Requests.{one_request as one_request_of, Reads};
 use dom_base::As;
 use line_text::{HexError, read_hex};
 use one_domain::PathRequest;
-use pcep_messages::{
-    Asked, Bad, Message, Refusal, Request, Wish, read_message, request_of,
-};
+use pcep_messages::{Asked, Bad, Message, Refusal, Request, Wish, read_message, request_of};
 use std::alloc::Global;
 use std::fmt;
 

@@ -2,12 +2,13 @@
 use Rattle.std.proofs.Common.{◌≡◌, ◌<◌, ◌≤◌, ◌∙◌, All, List, [], ◌∷◌, ◌++◌, Option, Some, None, refl, sym, ap, subst, arith}
 use Rattle.std.specs.List.{AllZip, zip}
 use Rattle.std.proofs.lemmas.List.Elements.{All-head, All-tail}
-use Rattle.dom_base.specs.declared.names.Addr.{Addr}
+use Rattle.dom_base.specs.declared.addr.Addr.{Addr}
 use Rattle.dom_base.specs.declared.cost.Cost.{Cost}
 use Rattle.pcep_subobjects.specs.declared.hop.Hop.{Hop}
 use Rattle.vspt_tree.specs.declared.branch.Best.{Best}
 use Rattle.vspt_tree.specs.declared.branch.Branch.{Branch}
-use Rattle.vspt_tree.specs.Branches.{hop_at, IsFirstLeast, IsOnward, IsBranchOf, AreBranchesOf}
+use Rattle.pcep_subobjects.specs.Hops.{strict_hop}
+use Rattle.vspt_tree.specs.Branches.{IsFirstLeast, IsOnward, IsBranchOf, AreBranchesOf}
 
 in_the_middle : {X : Type 0} (P : X → Type 0) (before after : List X) (x : X) → All P (before ++ x ∷ after) → P x
 in_the_middle P [] after x all = All-head P x after all
@@ -48,7 +49,7 @@ IsFirstLeast-unique down n b b' one other =
 IsOnward-unique : (down : List Branch) (exit : Addr) (head : Option Addr) (hops hops' : List Hop) → IsOnward down exit head hops → IsOnward down exit head hops' → hops ≡ hops'
 IsOnward-unique down exit None hops hops' one other = one ∙ sym other
 IsOnward-unique down exit (Some head) hops hops' one other =
-    one.2 ∙ ap (λ (b : Branch). hop_at exit ∷ b.hops) (IsFirstLeast-unique down head one.0 other.0 one.1 other.1) ∙ sym other.2
+    one.2 ∙ ap (λ (b : Branch). strict_hop exit ∷ b.hops) (IsFirstLeast-unique down head one.0 other.0 one.1 other.1) ∙ sym other.2
 
 same_fields : (b b' : Branch) → b.entry ≡ b'.entry → b.cost ≡ b'.cost → b.hops ≡ b'.hops → b ≡ b'
 same_fields b b' entry cost hops =

@@ -10,7 +10,9 @@ use Rattle.std.proofs.lemmas.Iterator.{YieldsList, items_from_drains}
 use Rattle.std.proofs.lemmas.List.Elements.{All-nil, All-cons, All-head, All-tail, All-append, All-push, All-weaker}
 use denote.Param.Members.{Mut}
 use denote.Ref.{Bor}
-use Rattle.dom_base.specs.declared.names.Addr.{Addr}
+use Rattle.dom_base.specs.AddrOrder.{rank}
+use Rattle.dom_base.proofs.Ranks.{same_addr}
+use Rattle.dom_base.specs.declared.addr.Addr.{Addr}
 use Rattle.vspt_tree.specs.declared.branch.Branch.{Branch}
 use Rattle.vspt_tree.specs.Branches.{HasBranchAt, IsFirstLeast}
 
@@ -84,13 +86,13 @@ module _ {F : Type 0} (g : Mut F (Bor (Bor Branch) × Unit {0}) ℕ) (cmp : ℕ 
 
 -- whether a branch begins at a node
 abbrev pub is_at : Addr → Branch → Bool
-is_at n d = nat_eq d.entry.0 n.0
+is_at n d = nat_eq (rank d.entry) (rank n)
 
 at_from_test : (n : Addr) (d : Branch) → is_at n d ≡ true → d.entry ≡ n
-at_from_test n d test = ap (λ (i : ℕ). let a : Addr = record { 0 = i } in a) (eqb-true d.entry.0 n.0 test)
+at_from_test n d test = same_addr d.entry n (eqb-true (rank d.entry) (rank n) test)
 
 not_at_from_test : (n : Addr) (d : Branch) → is_at n d ≡ false → d.entry ≢ n
-not_at_from_test n d test same = eqb-false d.entry.0 n.0 test (ap (λ (a : Addr). a.0) same)
+not_at_from_test n d test same = eqb-false (rank d.entry) (rank n) test (ap rank same)
 
 -- what a filter does with a branch in front
 kept : (n : Addr) (d : Branch) (down : List Branch) → is_at n d ≡ true → filter (is_at n) (d ∷ down) ≡ d ∷ filter (is_at n) down

@@ -1,15 +1,11 @@
 -- The branches of a virtual shortest path tree (RFC 5441, section 4.2), of one domain over those of the next.
-use Rattle.std.specs.Prelude.{◌≡◌, ◌<◌, ◌≤◌, false, All, Any, List, [], ◌∷◌, ◌++◌, Option, Some, None}
+use Rattle.std.specs.Prelude.{◌≡◌, ◌<◌, ◌≤◌, All, Any, List, [], ◌∷◌, ◌++◌, Option, Some, None}
 use Rattle.std.specs.List.{AllZip, zip}
-use Rattle.dom_base.specs.declared.names.Addr.{Addr}
+use Rattle.dom_base.specs.declared.addr.Addr.{Addr}
 use Rattle.pcep_subobjects.specs.declared.hop.Hop.{Hop}
-use Rattle.pcep_subobjects.specs.declared.hop.Hop.TheVariants.{Prefix}
+use Rattle.pcep_subobjects.specs.Hops.{strict_hop}
 use Rattle.vspt_tree.specs.declared.branch.Best.{Best}
 use Rattle.vspt_tree.specs.declared.branch.Branch.{Branch}
-
--- an address, strict and whole
-abbrev pub hop_at : Addr → Hop
-hop_at addr = Prefix false addr 32
 
 -- some branch begins at the node
 abbrev pub HasBranchAt : List Branch → Addr → Type 0
@@ -27,7 +23,7 @@ pub record IsFirstLeast (down : List Branch) (n : Addr) (b : Branch) : Type 0 wh
 -- behind a domain's own part: nothing where there is no node beyond; else the exit, and the hops of the node's branch
 abbrev pub IsOnward : List Branch → Addr → Option Addr → List Hop → Type 0
 IsOnward down exit None hops = hops ≡ []
-IsOnward down exit (Some head) hops = (b : Branch) × IsFirstLeast down head b × (hops ≡ hop_at exit ∷ b.hops)
+IsOnward down exit (Some head) hops = (b : Branch) × IsFirstLeast down head b × (hops ≡ strict_hop exit ∷ b.hops)
 
 -- the branch that a row and its own part make
 pub record IsBranchOf (down : List Branch) (row : Best) (own : List Hop) (branch : Branch) : Type 0 where

@@ -19,12 +19,12 @@ fn branch(alloc: Global, entry: Addr, cost: u32, hops: &[u8]) -> Result<Branch, 
 #[test]
 fn branches_go_on_by_the_first_of_the_least(rt: HostRuntime) -> Result<(), Fail> {
     let alloc = rt.alloc();
-    let beyond = Addr(0x0a02_0001);
+    let beyond = Addr::V4(0x0a02_0001);
     let down = [
         branch(alloc, beyond, 9, b"\x01\x08\x0a\x09\x00\x01\x20\x00")?,
         branch(
             alloc,
-            Addr(0x0a02_0002),
+            Addr::V4(0x0a02_0002),
             1,
             b"\x01\x08\x0a\x09\x00\x02\x20\x00",
         )?,
@@ -36,17 +36,17 @@ fn branches_go_on_by_the_first_of_the_least(rt: HostRuntime) -> Result<(), Fail>
         )?,
         branch(alloc, beyond, 5, b"\x01\x08\x0a\x09\x00\x03\x20\x00")?,
     ];
-    let exit = Addr(0x0a0c_0002);
+    let exit = Addr::V4(0x0a0c_0002);
     let best = [
         Best {
-            entry: Addr(0x0a01_0001),
+            entry: Addr::V4(0x0a01_0001),
             cost: Cost::of(3).ok_or("no cost")?,
             exit,
             head: None,
             segment: List::new(alloc),
         },
         Best {
-            entry: Addr(0x0a01_0002),
+            entry: Addr::V4(0x0a01_0002),
             cost: Cost::of(8).ok_or("no cost")?,
             exit,
             head: Some(beyond),
@@ -63,12 +63,12 @@ fn branches_go_on_by_the_first_of_the_least(rt: HostRuntime) -> Result<(), Fail>
     let branches = join(alloc, &best, &own, &down)?;
     let want = [
         (
-            Addr(0x0a01_0001),
+            Addr::V4(0x0a01_0001),
             3,
             b"\x01\x08\x0a\x01\x00\x01\x20\x00\xa0\x04\x00\x07\x84\x04\x01\x02".as_slice(),
         ),
         (
-            Addr(0x0a01_0002),
+            Addr::V4(0x0a01_0002),
             8,
             b"\x01\x08\x0a\x01\x00\x02\x20\x00\x01\x08\x0a\x0c\x00\x02\x20\x00\x01\x08\x0a\x02\x00\x01\x20\x00\x40\x08\x00\x01\xc0\x00\x02\x02".as_slice(),
         ),

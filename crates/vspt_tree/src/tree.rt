@@ -4,7 +4,7 @@ ghost use Rattle.vspt_tree.specs.Branches.{HasBranchAt, IsFirstLeast, IsBranchOf
 use crate::hops::append_hops;
 use crate::{Best, Branch};
 use dom_base::{Addr, List, NoMemory};
-use pcep_subobjects::Hop;
+use pcep_subobjects::{Hop, strict_hop};
 use std::alloc::Global;
 
 fn first_least(down: &[Branch], node: Addr) -> Option<&Branch>
@@ -24,11 +24,7 @@ fn branch_of(alloc: Global, row: &Best, own: &[Hop], down: &[Branch]) -> Result<
     append_hops(alloc, &mut hops, own)?;
     if let Some(head) = row.head {
         let next = first_least(down, head).unwrap();
-        hops.push(Hop::Prefix {
-            loose: false,
-            addr: row.exit,
-            length: 32,
-        })?;
+        hops.push(strict_hop(row.exit))?;
         append_hops(alloc, &mut hops, next.hops.as_slice())?;
     }
     Ok(Branch {

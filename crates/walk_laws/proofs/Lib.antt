@@ -7,3 +7,4 @@ pub mod Complete
 pub mod Splitting
 pub mod Joining
 pub mod Composing
+pub mod Seeds

@@ -69,17 +69,17 @@ out 10.2.0.6 10.3.0.2 10.23.0.5 10.23.0.6 3 1 1 1000 00000000
 entry 10.2.0.1 1
 ";
 
-const SOURCE: Addr = Addr(0x0A01_0001);
+const SOURCE: Addr = Addr::V4(0x0A01_0001);
 
-const BORDER: Addr = Addr(0x0A02_0001);
+const BORDER: Addr = Addr::V4(0x0A02_0001);
 
-const OTHER_BORDER: Addr = Addr(0x0A02_0002);
+const OTHER_BORDER: Addr = Addr::V4(0x0A02_0002);
 
-const HEAD: Addr = Addr(0x0A03_0001);
+const HEAD: Addr = Addr::V4(0x0A03_0001);
 
-const OTHER_HEAD: Addr = Addr(0x0A03_0002);
+const OTHER_HEAD: Addr = Addr::V4(0x0A03_0002);
 
-const TARGET: Addr = Addr(0x0A03_0009);
+const TARGET: Addr = Addr::V4(0x0A03_0009);
 
 const WIDE: u32 = 16_777_215;
 
@@ -247,10 +247,10 @@ pub const TABLES: [TableRow; 5] = [
         topology: ROW,
         cap: 20,
         entries: &[
-            Addr(0x0A00_0002),
+            Addr::V4(0x0A00_0002),
             SOURCE,
-            Addr(0x0A00_0001),
-            Addr(0x0A00_0002),
+            Addr::V4(0x0A00_0001),
+            Addr::V4(0x0A00_0002),
         ],
         target: Target::Next(As(2)),
         table: b"10.0.0.1 10.2.0.4 10.9.0.8 11\n10.0.0.1 10.2.0.9 10.9.0.9 16\n10.0.0.2 10.2.0.4 10.9.0.8 6\n10.0.0.2 10.2.0.9 10.9.0.9 11\n",
@@ -259,12 +259,12 @@ pub const TABLES: [TableRow; 5] = [
         topology: ROW,
         cap: 20,
         entries: &[
-            Addr(0x0A00_0002),
+            Addr::V4(0x0A00_0002),
             SOURCE,
-            Addr(0x0A00_0001),
-            Addr(0x0A00_0002),
+            Addr::V4(0x0A00_0001),
+            Addr::V4(0x0A00_0002),
         ],
-        target: Target::Node(Addr(0x0A00_0003)),
+        target: Target::Node(Addr::V4(0x0A00_0003)),
         table: b"10.0.0.1 10.0.0.3 10.0.0.3 12\n10.0.0.2 10.0.0.3 10.0.0.3 7\n",
     },
 ];

@@ -127,9 +127,9 @@ entry 0.0.3.3 2
 ",
 ];
 
-const START: Addr = Addr(0x0000_0101);
+const START: Addr = Addr::V4(0x0000_0101);
 
-const END: Addr = Addr(0x0000_0309);
+const END: Addr = Addr::V4(0x0000_0309);
 
 // The least of a cost and what stood before.
 fn lower(least: Option<u32>, cost: Option<u32>) -> Option<u32> {

@@ -17,11 +17,7 @@ use std::alloc::Global;
 use te_links::Topology;
 
 // The text of the certificate of a request.
-fn certificate_text(
-    alloc: Global,
-    topology: &Topology,
-    wanted: &Wanted,
-) -> Result<Bytes, NoMemory>
+fn certificate_text(alloc: Global, topology: &Topology, wanted: &Wanted) -> Result<Bytes, NoMemory>
     ensures { IfOk result (IsCertifiedText topology.now wanted.now) }
 {
     let certificate = certificate_of(alloc, topology, wanted)?;

@@ -1,3 +1,4 @@
+//! Requests that are refused, and those that no rule refuses.
 use super::*;
 use std::process::Abort;
 
@@ -65,16 +66,27 @@ const RRO: &[u8] = &[8, 34, 0, 4];
 
 const ERO: &[u8] = &[7, 18, 0, 4];
 
-const SIX_ENDS: &[u8] = &[4, 34, 0, 4];
+// From 2001:db8::1 to 2001:db8::3.
+const SIX_ENDS: &[u8] = &[
+    4, 34, 0, 36, 0x20, 1, 0x0D, 0xB8, 0, 0, 0, 0, 0, 0, 0, 0, 0, 0, 0, 1, 0x20, 1, 0x0D, 0xB8, 0,
+    0, 0, 0, 0, 0, 0, 0, 0, 0, 0, 3,
+];
+
+const OPTIONAL_SIX_ENDS: &[u8] = &[
+    4, 32, 0, 36, 0x20, 1, 0x0D, 0xB8, 0, 0, 0, 0, 0, 0, 0, 0, 0, 0, 0, 1, 0x20, 1, 0x0D, 0xB8, 0,
+    0, 0, 0, 0, 0, 0, 0, 0, 0, 0, 3,
+];
+
+const THIRD_ENDS: &[u8] = &[4, 50, 0, 4];
 
 const SECOND_BANDWIDTH: &[u8] = &[5, 34, 0, 4];
 
 const IGNORED_CLASS: &[u8] = &[200, 16, 0, 4];
 
-const IGNORED_ENDS: &[u8] = &[4, 32, 0, 4];
+const IGNORED_ENDS: &[u8] = &[4, 48, 0, 4];
 
-// The error that a request of these objects is answered with at domain 1, or 0/0.
-fn error_of(alloc: Global, pieces: &[&[u8]]) -> Result<(u8, u8), Fail> {
+// The error that a request of these objects is answered with at a domain, or 0/0.
+fn error_of(alloc: Global, own: u16, pieces: &[&[u8]]) -> Result<(u8, u8), Fail> {
     let mut content = Vec::new(alloc);
     for piece in pieces {
         content.extend_from_slice(piece)?;
@@ -88,7 +100,7 @@ fn error_of(alloc: Global, pieces: &[&[u8]]) -> Result<(u8, u8), Fail> {
     let [asked] = requests.as_slice() else {
         return Err("there is another request".into());
     };
-    match request_of(alloc, asked, As(1)) {
+    match request_of(alloc, asked, As(own)) {
         Ok(_) => Ok((0, 0)),
         Err(Refusal::Wire { kind, value, .. }) => Ok((kind, value)),
         Err(Refusal::NoMemory) => Err("there is no memory".into()),
@@ -98,10 +110,11 @@ fn error_of(alloc: Global, pieces: &[&[u8]]) -> Result<(u8, u8), Fail> {
 fn each_is_answered(
     rt: &impl Abort,
     alloc: Global,
+    own: u16,
     rows: &[(&[&[u8]], (u8, u8))],
 ) -> Result<(), Fail> {
     for (pieces, expected) in rows {
-        assert_eq!(rt; error_of(alloc, pieces)?, *expected, "{pieces:?}");
+        assert_eq!(rt; error_of(alloc, own, pieces)?, *expected, "{pieces:?}");
     }
     Ok(())
 }
@@ -114,7 +127,7 @@ fn each_rule_refuses(rt: HostRuntime) -> Result<(), Fail> {
         (&[RP, NO_OPEN_TYPE, ENDS], (3, 2)),
         (&[RP, ENDS, RRO], (4, 1)),
         (&[RP, ENDS, ERO], (4, 1)),
-        (&[RP, SIX_ENDS], (4, 2)),
+        (&[RP, THIRD_ENDS], (3, 2)),
         (&[RP, ENDS, SECOND_BANDWIDTH], (4, 2)),
         (&[], (6, 1)),
         (&[ENDS], (6, 1)),
@@ -139,8 +152,8 @@ fn each_rule_refuses(rt: HostRuntime) -> Result<(), Fail> {
         (&[RP, ENDS, TWICE], (4, 4)),
         (&[RP, ENDS, ZERO_DOMAIN], (4, 4)),
     ];
-    each_is_answered(&rt, rt.alloc(), &rows)?;
-    each_is_answered(&rt, rt.alloc(), &[(&[RP, ENDS, NODE], (4, 4))])
+    each_is_answered(&rt, rt.alloc(), 1, &rows)?;
+    each_is_answered(&rt, rt.alloc(), 1, &[(&[RP, ENDS, NODE], (4, 4))])
 }
 
 #[test]
@@ -160,13 +173,14 @@ fn the_first_of_two_rules_counts(rt: HostRuntime) -> Result<(), Fail> {
         (&[RP, ENDS, RISK, OTHER], (4, 4)),
         (&[ZERO, OPTIONAL_ENDS], (4, 4)),
     ];
-    each_is_answered(&rt, rt.alloc(), &rows)
+    each_is_answered(&rt, rt.alloc(), 1, &rows)
 }
 
 #[test]
 fn a_request_that_no_rule_refuses_is_accepted(rt: HostRuntime) -> Result<(), Fail> {
-    let rows: [(&[&[u8]], (u8, u8)); 7] = [
+    let rows: [(&[&[u8]], (u8, u8)); 8] = [
         (&[RP, ENDS], (0, 0)),
+        (&[RP, SIX_ENDS, OPTIONAL_ENDS], (0, 0)),
         (&[ENDS, OWN, RP], (0, 0)),
         (&[RP, ENDS, TE, TE_BOUND, OWN], (0, 0)),
         (&[RP, ENDS, IGP, WISH], (0, 0)),
@@ -174,7 +188,21 @@ fn a_request_that_no_rule_refuses_is_accepted(rt: HostRuntime) -> Result<(), Fai
         (&[RP, IGNORED_ENDS, ENDS, IGNORED_CLASS], (0, 0)),
         (&[RP, ENDS, OWN, OTHER], (0, 0)),
     ];
-    each_is_answered(&rt, rt.alloc(), &rows)
+    each_is_answered(&rt, rt.alloc(), 1, &rows)
+}
+
+#[test]
+fn the_parent_serves_ipv4_alone(rt: HostRuntime) -> Result<(), Fail> {
+    let rows: [(&[&[u8]], (u8, u8)); 6] = [
+        (&[RP, ENDS], (0, 0)),
+        (&[RP, SIX_ENDS, ENDS], (4, 2)),
+        (&[SIX_ENDS, RRO], (4, 2)),
+        (&[RP, OPTIONAL_SIX_ENDS], (6, 3)),
+        (&[RP, OPTIONAL_SIX_ENDS, ENDS], (0, 0)),
+        (&[RP, OPTIONAL_SIX_ENDS, OPTIONAL_ENDS], (10, 1)),
+    ];
+    each_is_answered(&rt, rt.alloc(), 0, &rows)?;
+    each_is_answered(&rt, rt.alloc(), 1, &[(&[RP, OPTIONAL_SIX_ENDS], (10, 1))])
 }
 
 #[test]
@@ -197,7 +225,7 @@ fn at_most_256_exclusions_and_16_domains(rt: HostRuntime) -> Result<(), Fail> {
             let [first, second] = (k + 1).to_be_bytes();
             iro.extend_from_slice(&[32, 4, first, second])?;
         }
-        assert_eq!(rt; error_of(rt.alloc(), &[RP, ENDS, &xro, &iro])?, expected);
+        assert_eq!(rt; error_of(rt.alloc(), 1, &[RP, ENDS, &xro, &iro])?, expected);
     }
     Ok(())
 }

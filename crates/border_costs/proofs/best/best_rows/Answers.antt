@@ -1,6 +1,7 @@
 use Rattle.std.proofs.Common.{◌<◌, length, take, get_or, ◌∙◌}
 use Rattle.std.proofs.lemmas.List.{take_more}
-use Rattle.dom_base.specs.declared.names.Addr.{Addr}
+use Rattle.dom_base.specs.declared.addr.Addr.TheVariants.{V4}
+use Rattle.dom_base.specs.declared.addr.Addr.{Addr}
 use Rattle.border_costs.specs.Asks.{HasNoPair}
 use Rattle.border_costs.specs.Solutions.{IsBest}
 use Rattle.border_costs.proofs.Bests.{best_added, best_left}
@@ -13,7 +14,7 @@ loop-entry-preserved g c =
     let ask = c.args.ask.now in
     let seeds = c.args.seeds.now in
     let i = c.loop-entry.entry-index in
-    let none : Addr = record { 0 = 0 } in
+    let none : Addr = V4 0 in
     let entry = get_or ask.entries i none in
     let below : i < length ask.entries = rw c.as_slice-entry-items.ensures at c.loop-entry-test.true in
     let more = take_more ask.entries i none below in

@@ -1,6 +1,6 @@
 use Rattle.std.proofs.Common.{inl, inr, arith, refl, sym, take}
 use Rattle.std.proofs.lemmas.List.{take_all}
-use Rattle.te_links.proofs.Different.{same_addr}
+use Rattle.te_links.proofs.Different.{Decides-rank}
 use Rattle.border_costs.specs.Asks.{beyond}
 use Rattle.border_costs.proofs.Downs.{one_more, row_of, step_taken, step_left}
 use Rattle.border_costs.proofs.seeds.down_cost.Goals as goal
@@ -13,7 +13,7 @@ loop-row-preserved c =
     let row = c.row-item.result in
     let rows = beyond (take i down) in
     let more = one_more down i row (omega arith) c.row-item.is in
-    let here = same_addr row.node c.args.node in
+    let here = Decides-rank row.node c.args.node in
     elim c.if-eq.branch [
       | then-eq+then-is_less w ↦ rw (w.least-is, more)
           (step_taken rows (row_of row) c.args.node c.loop-row.least c.loop-row.invariant (here.0 (sym w.if-eq.ensures)) (w.if-is_less.ensures.0 refl))

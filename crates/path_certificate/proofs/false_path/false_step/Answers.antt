@@ -1,6 +1,7 @@
 use Rattle.std.proofs.Common.{◌≡◌, ◌≤◌, ℕ, false, true, get_or, refl, arith}
 use Rattle.std.proofs.lemmas.List.{get_or_default}
-use Rattle.dom_base.specs.declared.names.Addr.{Addr}
+use Rattle.dom_base.specs.declared.addr.Addr.TheVariants.{V4}
+use Rattle.dom_base.specs.declared.addr.Addr.{Addr}
 use Rattle.path_certificate.specs.Rows.{label_in}
 use Rattle.path_certificate.specs.Claims.{LeadsOver}
 use Rattle.path_certificate.proofs.Leading.{stops_at, goes_on, step_falls, not_ended, ended, leads_shorter, leads_within}
@@ -14,7 +15,7 @@ returns-in_default c =
     let label = label_in c.args.rows.now in
     let fars = c.args.fars.now in
     let k = c.loop-far.far-index in
-    let zero : Addr = record { 0 = 0 } in
+    let zero : Addr = V4 0 in
     let far = get_or fars k zero in
     let inv = c.loop-far.invariant in
     rw inv.same_place (
@@ -35,7 +36,7 @@ loop-far-preserved c =
     let label = label_in c.args.rows.now in
     let fars = c.args.fars.now in
     let k = c.loop-far.far-index in
-    let zero : Addr = record { 0 = 0 } in
+    let zero : Addr = V4 0 in
     let far = get_or fars k zero in
     let inv = c.loop-far.invariant in
     record {

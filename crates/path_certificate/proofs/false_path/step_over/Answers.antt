@@ -1,14 +1,13 @@
 use Rattle.std.proofs.Common.{◌≡◌, ℕ, false, true, nat_eq, inl, inr, refl, ap, rules}
 use Rattle.std.proofs.lemmas.Option.{slice_get_within}
 use Rattle.std.proofs.lemmas.Bool.Decides.{eqb_tells}
-use Rattle.dom_base.specs.declared.names.Addr.{Addr}
+use Rattle.dom_base.specs.AddrOrder.{rank}
+use Rattle.dom_base.proofs.Ranks.{same_addr}
+use Rattle.dom_base.specs.declared.addr.Addr.{Addr}
 use Rattle.path_certificate.specs.Rows.{label_in}
 use Rattle.path_certificate.proofs.Leading.{no_link, no_offer, step_is, step_made}
 use Rattle.path_certificate.proofs.false_path.step_over.Goals as goal
 use Rattle.path_certificate.proofs.false_path.step_over.Goals.{else-eq-via-then-eq+else-is, else-eq-via-else-eq}
-
-same_addr : (a b : Addr) → a.0 ≡ b.0 → a ≡ b
-same_addr a b is = ap (λ k. let c : Addr = record { 0 = k } in c) is
 
 differ : (x y : ℕ) → false ≡ nat_eq x y → x ≡ y → ⊥
 differ x y unequal is = elim (eqb_tells x y) [ inl t ↦ cc | inr f ↦ f.1 is ]
@@ -31,7 +30,7 @@ returns-in_err-offer c =
 pub returns-then-is : goal.returns-then-is
 returns-then-is c =
     let offer = c.in_ok-offer.offer in
-    let starts : offer.from.0 ≡ c.args.node.0 = search rules in
+    let starts : rank offer.from ≡ rank c.args.node = search rules in
     step_made c.args.topology.now c.args.query.now (label_in c.args.rows.now) c.args.node c.args.label.now c.args.far c.in_ok-index.index offer
     c.in_ok-index.ensures c.in_ok-offer.ensures (same_addr offer.from c.args.node starts) (c.if-is.ensures.0 refl)
 
@@ -42,5 +41,5 @@ returns-else-eq c = λ m b leads.
     c.requires.order c.in_ok-index.ensures c.in_ok-offer.ensures m b leads in
     elim c.else-eq.branch [
       | else-eq-via-then-eq+else-is w ↦ let bad : false ≡ true = w.if-is.ensures.1 is.1 in cc
-      | else-eq-via-else-eq w ↦ differ offer.from.0 c.args.node.0 w.if-eq.ensures (ap (λ (a : Addr). a.0) is.0)
+      | else-eq-via-else-eq w ↦ differ (rank offer.from) (rank c.args.node) w.if-eq.ensures (ap rank is.0)
     ]

@@ -1,7 +1,8 @@
 use Rattle.std.proofs.Common.{◌<◌, ◌≤◌, ◌-◌, ℕ, length}
 use Rattle.std.specs.Prelude.{slice_index_or}
 use Rattle.std.specs.declared.option.Option.{Option}
-use Rattle.dom_base.specs.declared.names.Addr.{Addr}
+use Rattle.dom_base.specs.AddrOrder.{rank}
+use Rattle.dom_base.specs.declared.addr.Addr.{Addr}
 use Rattle.dom_base.specs.declared.query.Label.{Label}
 use Rattle.path_certificate.proofs.look_up.label_of.Given as goal
 
@@ -10,8 +11,8 @@ abbrev pub invariant-loop-low : goal.invariant-loop-low
 invariant-loop-low l = record {
   ordered : l.low ≤ l.high;
   inside : l.high ≤ length l.rows;
-  before : (k : ℕ) (d : Addr × Option Label) → k < l.low → (slice_index_or l.rows k d).0.0 < l.node.0;
-  behind : (k : ℕ) (d : Addr × Option Label) → l.high ≤ k → k < length l.rows → l.node.0 < (slice_index_or l.rows k d).0.0;
+  before : (k : ℕ) (d : Addr × Option Label) → k < l.low → rank (slice_index_or l.rows k d).0 < rank l.node;
+  behind : (k : ℕ) (d : Addr × Option Label) → l.high ≤ k → k < length l.rows → rank l.node < rank (slice_index_or l.rows k d).0;
 }
 
 abbrev pub decreases-loop-low : goal.decreases-loop-low

@@ -1,5 +1,6 @@
 use Rattle.std.proofs.Common.{◌<◌, ◌≤◌, ◌-◌, ℕ, length}
 use Rattle.std.specs.Prelude.{slice_index_or}
+use Rattle.dom_base.specs.AddrOrder.{rank}
 use Rattle.dom_base.specs.declared.link.Link.{Link}
 use Rattle.path_certificate.proofs.look_up.link_with.Given as goal
 
@@ -8,8 +9,8 @@ abbrev pub invariant-loop-low : goal.invariant-loop-low
 invariant-loop-low l = record {
   ordered : l.low ≤ l.high;
   inside : l.high ≤ length l.topology.links;
-  before : (k : ℕ) (d : Link) → k < l.low → (slice_index_or l.topology.links k d).far.0 < l.far.0;
-  behind : (k : ℕ) (d : Link) → l.high ≤ k → k < length l.topology.links → l.far.0 < (slice_index_or l.topology.links k d).far.0;
+  before : (k : ℕ) (d : Link) → k < l.low → rank (slice_index_or l.topology.links k d).far < rank l.far;
+  behind : (k : ℕ) (d : Link) → l.high ≤ k → k < length l.topology.links → rank l.far < rank (slice_index_or l.topology.links k d).far;
 }
 
 abbrev pub decreases-loop-low : goal.decreases-loop-low

@@ -1,7 +1,8 @@
 use Rattle.std.proofs.Common.{◌≡◌, ℕ, ◌∷◌, ◌++◌, [], List, Some, map, take, get_or, append_assoc, sym, ap, ◌∙◌}
 use Rattle.std.proofs.lemmas.List.{flat_map_more, map_more, take_all}
 use Rattle.std.proofs.lemmas.List.Elements.{All-more, recursion_from_All}
-use Rattle.dom_base.specs.declared.names.Addr.{Addr}
+use Rattle.dom_base.specs.declared.addr.Addr.TheVariants.{V4}
+use Rattle.dom_base.specs.declared.addr.Addr.{Addr}
 use Rattle.dom_base.specs.AddrText.{addr_in, addr_text}
 use Rattle.path_certificate.specs.CertificateText.{spaced}
 use Rattle.path_certificate.proofs.writing.write_addrs.Goals as goal
@@ -11,7 +12,7 @@ loop-addr-preserved c =
     let addrs = c.args.addrs.now in
     let start = c.args.into.now.items in
     let i = c.loop-addr.addr-index in
-    let zero : Addr = record { 0 = 0 } in
+    let zero : Addr = V4 0 in
     let addr = get_or addrs i zero in
     record {
       written = c.in_ok-write_addr.ensures.ok
