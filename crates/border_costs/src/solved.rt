@@ -1,3 +1,4 @@
+//! A solved job, whose rows are right for its ask and its topology.
 ghost use Rattle.std.specs.Prelude.{◌≡◌, IfOk, IsOkAnd};
 ghost use Rattle.std.specs.Arc.{arc_value};
 ghost use Rattle.te_links.specs.Rows.{IsTopology, IsInOrder};

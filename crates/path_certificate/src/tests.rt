@@ -1,3 +1,4 @@
+//! Certificates that hold, that lie, and texts that are none.
 use crate::{
     CERTIFICATE_BYTES_MAX, CertError, Certificate, Place, Verdict, check, read_certificate,
     write_certificate,
@@ -279,13 +280,7 @@ fn check_both(alloc: Global, topology: &Topology, certificate: &Certificate) -> 
         exit: last,
     };
     let source = Addr::V6(0x2001_0DB8_0000_0000_0000_0000_0000_0001);
-    let said = check(
-        topology,
-        &query(alloc, 100)?,
-        &[seed],
-        source,
-        certificate,
-    );
+    let said = check(topology, &query(alloc, 100)?, &[seed], source, certificate);
     Ok(said == Verdict::Holds)
 }
 
