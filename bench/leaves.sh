@@ -107,7 +107,7 @@ use std::io;
 use std::time::Instant;
 
 const CALLS: u32 = 1_024;
-const KEYS: u32 = 4_096;
+const KEYS: u32 = 1_024;
 const MESSAGES: u32 = 100_000;
 
 fn main(rt: HostRuntime) -> io::Result<()> {

@@ -1,11 +1,13 @@
+//! The calls of a value in memory, and those of them that are to fail.
 ghost use Rattle.std.specs.Prelude.{◌≡◌, ◌≤◌, ◌↔◌, IsTrue};
-ghost use Rattle.dom_edge.specs.Memory.{IsPlanned, IsCalled};
-ghost use Rattle.dom_edge.specs.Causes.{Rose};
+ghost use Rattle.dom_edge.specs.Causes.{next_count, Rose};
+ghost use Rattle.dom_edge.specs.Memory.{IsPlanned, no_calls};
 
 use dom_base::List;
 use std::marker::Model;
 
 /// The calls of a value in memory: their number so far, those that are to fail, and how many did.
+/// Both counts stand still at the last number of `u64`.
 #[derive(Drop)]
 pub struct PlannedCalls {
     made: u64,
@@ -22,8 +24,9 @@ impl Model for PlannedCalls {
 }
 
 impl PlannedCalls {
+    /// No call yet. `fails` has the numbers, from 0, of the calls that are to fail.
     pub fn new(fails: List<u64>) -> Self
-        ensures { result ≡ record { made = 0; fails = fails; faults = 0 } }
+        ensures { result ≡ no_calls fails }
     {
         PlannedCalls {
             made: 0,
@@ -41,7 +44,8 @@ impl PlannedCalls {
 
     /// A call was made, and did not fail.
     pub fn pass(&mut self)
-        ensures called { IsCalled self.old self.new }
+        ensures made { self.new.made ≡ next_count self.old.made }
+        ensures fails { self.new.fails ≡ self.old.fails }
         ensures faults { self.new.faults ≡ self.old.faults }
     {
         self.made = self.made.saturating_add(1);
@@ -49,7 +53,9 @@ impl PlannedCalls {
 
     /// A call was made, and failed.
     pub fn fail(&mut self)
-        ensures called { IsCalled self.old self.new }
+        ensures made { self.new.made ≡ next_count self.old.made }
+        ensures fails { self.new.fails ≡ self.old.fails }
+        ensures faults { self.new.faults ≡ next_count self.old.faults }
         ensures later { self.old.faults ≤ self.new.faults }
         ensures rose { Rose self.old.faults self.new.faults }
     {

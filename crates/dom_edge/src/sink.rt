@@ -1,8 +1,9 @@
+//! Bytes that go out: the trait, in memory, and any writer.
 ghost use Rattle.std.specs.Prelude.{◌≡◌, ◌<◌, List, ℕ, [], length, None, Some};
 ghost use Rattle.std.specs.declared.option.Option.{Option};
-ghost use Rattle.dom_edge.specs.Causes.{HasCause};
-ghost use Rattle.dom_edge.specs.Streams.{Puts};
-ghost use Rattle.dom_edge.specs.Memory.{IsPlanned, IsCalled};
+ghost use Rattle.dom_edge.specs.Causes.{HasCause, IsCounted};
+ghost use Rattle.dom_edge.specs.Streams.{Puts, IsPutWhole};
+ghost use Rattle.dom_edge.specs.Memory.{IsPlanned, IsCalled, no_calls};
 
 use crate::calls::PlannedCalls;
 use dom_base::List as Rows;
@@ -51,7 +52,7 @@ impl Model for MemorySink {
 
 impl MemorySink {
     pub fn new(alloc: Global, fails: Rows<u64>) -> Self
-        ensures { result ≡ record { written = []; calls = record { made = 0; fails = fails; faults = 0 } } }
+        ensures { result ≡ record { written = []; calls = no_calls fails } }
     {
         MemorySink {
             bytes: Vec::new(alloc),
@@ -77,7 +78,8 @@ impl Sink for MemorySink {
         ensures puts { Puts (Some self.old.written) (Some self.new.written) result piece.now }
         ensures cause { HasCause self.old.calls.faults self.new.calls.faults (result ≡ Put.Failed) }
         ensures planned { IsPlanned self.old.calls → result ≡ Put.Failed }
-        ensures called { IsCalled self.old.calls self.new.calls }
+        ensures called { IsCalled self.old.calls self.new.calls (result ≡ Put.Failed) }
+        ensures whole { IsPutWhole result (length piece.now) }
     {
         if self.calls.is_planned() || self.bytes.extend_from_slice(piece).is_err() {
             self.calls.fail();
@@ -88,25 +90,40 @@ impl Sink for MemorySink {
     }
 }
 
-/// The standard output, or any other writer.
+/// The standard output, or any other writer. It tells what its writer tells of what was written.
 #[derive(Drop)]
 pub struct OutputSink<W: Write + Drop> {
     writer: W,
     faults: u64,
 }
 
+impl<W: Write + Drop> Model for OutputSink<W> {
+    ghost use Rattle.dom_edge.specs.Memory.{Counted};
+
+    ghost Value = { Counted W };
+
+    ghost view = { λ s. record { inner = s.writer; faults = s.faults } };
+}
+
 impl<W: Write + Drop> OutputSink<W> {
-    pub fn new(writer: W) -> Self {
+    pub fn new(writer: W) -> Self
+        ensures { result ≡ record { inner = writer; faults = 0 } }
+    {
         OutputSink { writer, faults: 0 }
     }
 }
 
 impl<W: Write + Drop> Sink for OutputSink<W> {
-    ghost written = { λ _. None };
+    ghost written = { λ s. W.contents s.inner };
 
     ghost faults = { λ s. s.faults };
 
-    fn write(&mut self, piece: &[u8]) -> Put {
+    fn write(&mut self, piece: &[u8]) -> Put
+        requires { 0 < length piece.now }
+        ensures puts { Puts (W.contents self.old.inner) (W.contents self.new.inner) result piece.now }
+        ensures cause { HasCause self.old.faults self.new.faults (result ≡ Put.Failed) }
+        ensures counted { IsCounted self.old.faults self.new.faults (result ≡ Put.Failed) }
+    {
         match self.writer.write(piece) {
             Ok(count) if count > 0 => Put::Bytes(count),
             _ => {

@@ -1,10 +1,12 @@
+//! Bytes that come in: the trait, in memory, and any reader.
 ghost use Rattle.std.specs.Prelude.{◌≡◌, ◌<◌, ◌≤◌, ◌↔◌, List, ℕ, length, drop, None, Some, ◌≢◌};
 ghost use Rattle.std.specs.declared.option.Option.{Option};
-ghost use Rattle.dom_edge.specs.Causes.{HasCause};
+ghost use Rattle.dom_edge.specs.Causes.{HasCause, IsCounted};
 ghost use Rattle.dom_edge.specs.Streams.{Takes};
-ghost use Rattle.dom_edge.specs.Memory.{IsPlanned, IsCalled};
+ghost use Rattle.dom_edge.specs.Memory.{IsPlanned, IsCalled, no_calls};
 
 use crate::calls::PlannedCalls;
+use crate::rest::Rest;
 use dom_base::{Bytes, List as Rows};
 use std::io::Read;
 use std::marker::Model;
@@ -33,45 +35,16 @@ pub trait Source {
         ensures cause { HasCause (faults self.old) (faults self.new) (result ≡ Piece.Failed) };
 }
 
-/// Bytes in memory, and how many of them were taken.
-#[derive(Drop)]
-struct Rest {
-    bytes: Bytes,
-    taken: usize,
-}
-
-impl Model for Rest {
-    ghost use Rattle.std.specs.Prelude.{List, ℕ, ◌≤◌, drop, length};
-
-    ghost Value = { List ℕ };
-
-    ghost view = { λ r. drop r.taken r.bytes };
-
-    ghost invariant = { λ r. r.taken ≤ length r.bytes };
-}
-
-impl Rest {
-    fn new(bytes: Bytes) -> Self
-        ensures { result ≡ bytes }
-    {
-        Rest { bytes, taken: 0 }
+// What is left, as an answer of a source.
+fn take_rest(rest: &mut Rest, into: &mut [u8]) -> Piece
+    requires { 0 < length into.old }
+    ensures takes { Takes (Some rest.old) (Some rest.new) result into.new }
+    ensures not_failed { result ≢ Piece.Failed }
+{
+    if rest.is_empty() {
+        return Piece::End;
     }
-
-    // Takes as many bytes as there are and as the slice has room for.
-    fn take(&mut self, into: &mut [u8]) -> Piece
-        requires { 0 < length into.old }
-        ensures takes { Takes (Some self.old) (Some self.new) result into.new }
-        ensures not_failed { result ≢ Piece.Failed }
-    {
-        let rest = &self.bytes.as_slice()[self.taken..];
-        if rest.is_empty() {
-            return Piece::End;
-        }
-        let count = rest.len().min(into.len());
-        into[..count].copy_from_slice(&rest[..count]);
-        self.taken += count;
-        Piece::Bytes(count)
-    }
+    Piece::Bytes(rest.take(into))
 }
 
 /// A source in memory. The calls whose numbers, from 0, are in `fails` fail.
@@ -91,7 +64,7 @@ impl Model for MemorySource {
 
 impl MemorySource {
     pub fn new(bytes: Bytes, fails: Rows<u64>) -> Self
-        ensures { result ≡ record { left = bytes; calls = record { made = 0; fails = fails; faults = 0 } } }
+        ensures { result ≡ record { left = bytes; calls = no_calls fails } }
     {
         MemorySource {
             rest: Rest::new(bytes),
@@ -111,14 +84,14 @@ impl Source for MemorySource {
         ensures takes { Takes (Some self.old.left) (Some self.new.left) result into.new }
         ensures cause { HasCause self.old.calls.faults self.new.calls.faults (result ≡ Piece.Failed) }
         ensures planned { result ≡ Piece.Failed ↔ IsPlanned self.old.calls }
-        ensures called { IsCalled self.old.calls self.new.calls }
+        ensures called { IsCalled self.old.calls self.new.calls (result ≡ Piece.Failed) }
     {
         if self.calls.is_planned() {
             self.calls.fail();
             return Piece::Failed;
         }
         self.calls.pass();
-        self.rest.take(into)
+        take_rest(&mut self.rest, into)
     }
 }
 
@@ -152,29 +125,44 @@ impl Source for SteadySource {
     ghost faults = { λ _. 0 };
 
     fn read(&mut self, into: &mut [u8]) -> Piece {
-        self.rest.take(into)
+        take_rest(&mut self.rest, into)
     }
 }
 
-/// The standard input, or any other reader. It tells nothing of what will come.
+/// The standard input, or any other reader. It tells what its reader tells of what will come.
 #[derive(Drop)]
 pub struct InputSource<R: Read + Drop> {
     reader: R,
     faults: u64,
 }
 
+impl<R: Read + Drop> Model for InputSource<R> {
+    ghost use Rattle.dom_edge.specs.Memory.{Counted};
+
+    ghost Value = { Counted R };
+
+    ghost view = { λ s. record { inner = s.reader; faults = s.faults } };
+}
+
 impl<R: Read + Drop> InputSource<R> {
-    pub fn new(reader: R) -> Self {
+    pub fn new(reader: R) -> Self
+        ensures { result ≡ record { inner = reader; faults = 0 } }
+    {
         InputSource { reader, faults: 0 }
     }
 }
 
 impl<R: Read + Drop> Source for InputSource<R> {
-    ghost left = { λ _. None };
+    ghost left = { λ s. R.remaining s.inner };
 
     ghost faults = { λ s. s.faults };
 
-    fn read(&mut self, into: &mut [u8]) -> Piece {
+    fn read(&mut self, into: &mut [u8]) -> Piece
+        requires { 0 < length into.old }
+        ensures takes { Takes (R.remaining self.old.inner) (R.remaining self.new.inner) result into.new }
+        ensures cause { HasCause self.old.faults self.new.faults (result ≡ Piece.Failed) }
+        ensures counted { IsCounted self.old.faults self.new.faults (result ≡ Piece.Failed) }
+    {
         match self.reader.read(into) {
             Ok(0) => Piece::End,
             Ok(count) => Piece::Bytes(count),

@@ -1,8 +1,10 @@
-ghost use Rattle.std.specs.Prelude.{◌≡◌, ◌≤◌, List, ℕ, [], length, IfOk, IfErr, None, Some};
+//! Files by their names: the trait, in memory, and those of the system.
+ghost use Rattle.std.specs.Prelude.{◌≡◌, ◌≢◌, ◌↔◌, ◌≤◌, ◌⊎◌, List, ℕ, [], length, IfOk, IfErr, None, Some};
 ghost use Rattle.std.specs.declared.option.Option.{Option};
 ghost use Rattle.std.specs.Option.{option_copied};
-ghost use Rattle.dom_edge.specs.Causes.{HasCause};
+ghost use Rattle.dom_edge.specs.Causes.{HasCause, IsCounted};
 ghost use Rattle.dom_edge.specs.Stores.{Files, Reads, file_named};
+ghost use Rattle.dom_edge.specs.Memory.{IsPlanned, IsCalled, HasFault, IsLong, no_calls};
 
 use crate::calls::PlannedCalls;
 use dom_base::{Bytes, List as Rows, Text};
@@ -38,7 +40,8 @@ pub trait Store {
         ensures within { IfOk result (λ bytes. length bytes ≤ limit) }
         ensures files { files self.new ≡ files self.old }
         ensures cause { HasCause (faults self.old) (faults self.new) (result ≡ Err StoreError.Failed) }
-        ensures blame { result ≡ Err StoreError.Failed → failed_at self.new ≡ name.now };
+        ensures blame { result ≡ Err StoreError.Failed → failed_at self.new ≡ name.now }
+        ensures keeps { result ≢ Err StoreError.Failed → failed_at self.new ≡ failed_at self.old };
 }
 
 /// A store in memory. The calls whose numbers, from 0, are in `fails` fail, and so does a name that
@@ -60,13 +63,20 @@ impl Model for MemoryStore {
 
 impl MemoryStore {
     pub fn new(alloc: Global, files: Rows<(Text, Bytes)>, fails: Rows<u64>) -> Self
-        ensures { result ≡ record { files = files; failed_at = []; calls = record { made = 0; fails = fails; faults = 0 } } }
+        ensures { result ≡ record { files = files; failed_at = []; calls = no_calls fails } }
     {
         MemoryStore {
             files,
             failed_at: Vec::new(alloc),
             calls: PlannedCalls::new(fails),
         }
+    }
+
+    /// The name at which a read last failed; empty before.
+    pub fn failed_at(&self) -> &[u8]
+        ensures { result.now ≡ self.now.failed_at }
+    {
+        self.failed_at.as_slice()
     }
 }
 
@@ -100,22 +110,55 @@ impl Store for MemoryStore {
 
     ghost failed_at = { λ s. s.failed_at };
 
-    fn read(&mut self, alloc: Global, name: &str, limit: usize) -> Result<Bytes, StoreError> {
-        let named = copy_of(alloc, name.as_bytes())?;
-        if !self.calls.is_planned() {
-            if let Some(bytes) = find_file(self.files.as_slice(), name) {
-                if bytes.len() > limit {
-                    self.calls.pass();
-                    return Err(StoreError::TooLong);
-                }
-                let copy = copy_of(alloc, bytes)?;
+    /// Is too long exactly where the call is not one that is to fail, and fails only where it is or
+    /// the name is not there: in its place memory may run out, since the name is kept.
+    fn read(&mut self, alloc: Global, name: &str, limit: usize) -> Result<Bytes, StoreError>
+        ensures reads { Reads (Some (file_named self.old.files)) name.now limit result }
+        ensures within { IfOk result (λ bytes. length bytes ≤ limit) }
+        ensures files { Some (file_named self.new.files) ≡ Some (file_named self.old.files) }
+        ensures cause { HasCause self.old.calls.faults self.new.calls.faults (result ≡ Err StoreError.Failed) }
+        ensures blame { result ≡ Err StoreError.Failed → self.new.failed_at ≡ name.now }
+        ensures keeps { result ≢ Err StoreError.Failed → self.new.failed_at ≡ self.old.failed_at }
+        ensures too_long { result ≡ Err StoreError.TooLong ↔ (¬ IsPlanned self.old.calls × IsLong self.old name.now limit) }
+        ensures fault { result ≡ Err StoreError.Failed → HasFault self.old name.now }
+        ensures no_answer { HasFault self.old name.now → (result ≡ Err StoreError.Failed) ⊎ (result ≡ Err StoreError.NoMemory) }
+        ensures called { IsCalled self.old.calls self.new.calls (result ≡ Err StoreError.Failed) }
+    {
+        if self.calls.is_planned() {
+            return self.fail(alloc, name);
+        }
+        if let Some(bytes) = find_file(self.files.as_slice(), name) {
+            self.calls.pass();
+            if bytes.len() > limit {
+                return Err(StoreError::TooLong);
+            }
+            return Ok(Bytes::from_vec(copy_of(alloc, bytes)?));
+        }
+        self.fail(alloc, name)
+    }
+}
+
+impl MemoryStore {
+    // A call that fails, unless there is no memory to keep the name in.
+    fn fail(&mut self, alloc: Global, name: &str) -> Result<Bytes, StoreError>
+        ensures answer { (result ≡ Err StoreError.Failed) ⊎ (result ≡ Err StoreError.NoMemory) }
+        ensures files { self.new.files ≡ self.old.files }
+        ensures blame { result ≡ Err StoreError.Failed → self.new.failed_at ≡ name.now }
+        ensures keeps { result ≢ Err StoreError.Failed → self.new.failed_at ≡ self.old.failed_at }
+        ensures called { IsCalled self.old.calls self.new.calls (result ≡ Err StoreError.Failed) }
+        ensures cause { HasCause self.old.calls.faults self.new.calls.faults (result ≡ Err StoreError.Failed) }
+    {
+        match copy_of(alloc, name.as_bytes()) {
+            Ok(named) => {
+                self.failed_at = named;
+                self.calls.fail();
+                Err(StoreError::Failed)
+            }
+            Err(_) => {
                 self.calls.pass();
-                return Ok(Bytes::from_vec(copy));
+                Err(StoreError::NoMemory)
             }
         }
-        self.failed_at = named;
-        self.calls.fail();
-        Err(StoreError::Failed)
     }
 }
 
@@ -127,13 +170,30 @@ pub struct FileStore<R: Files + Drop> {
     failed_at: Vec<u8>,
 }
 
+impl<R: Files + Drop> Model for FileStore<R> {
+    ghost use Rattle.dom_edge.specs.Memory.{FileCounts};
+
+    ghost Value = { FileCounts };
+
+    ghost view = { λ s. record { faults = s.faults; failed_at = s.failed_at.items } };
+}
+
 impl<R: Files + Drop> FileStore<R> {
-    pub fn new(alloc: Global, rt: R) -> Self {
+    pub fn new(alloc: Global, rt: R) -> Self
+        ensures { result ≡ record { faults = 0; failed_at = [] } }
+    {
         FileStore {
             rt,
             faults: 0,
             failed_at: Vec::new(alloc),
         }
+    }
+
+    /// The name at which a read last failed; empty before.
+    pub fn failed_at(&self) -> &[u8]
+        ensures { result.now ≡ self.now.failed_at }
+    {
+        self.failed_at.as_slice()
     }
 
     // Reads at most `limit` bytes and one more.
@@ -151,13 +211,22 @@ impl<R: Files + Drop> Store for FileStore<R> {
 
     ghost faults = { λ s. s.faults };
 
-    ghost failed_at = { λ s. s.failed_at.items };
+    ghost failed_at = { λ s. s.failed_at };
 
-    fn read(&mut self, alloc: Global, name: &str, limit: usize) -> Result<Bytes, StoreError> {
+    fn read(&mut self, alloc: Global, name: &str, limit: usize) -> Result<Bytes, StoreError>
+        ensures reads { Reads None name.now limit result }
+        ensures within { IfOk result (λ bytes. length bytes ≤ limit) }
+        ensures files { ◌≡◌ {A = Option Files} None None }
+        ensures cause { HasCause self.old.faults self.new.faults (result ≡ Err StoreError.Failed) }
+        ensures blame { result ≡ Err StoreError.Failed → self.new.failed_at ≡ name.now }
+        ensures keeps { result ≢ Err StoreError.Failed → self.new.failed_at ≡ self.old.failed_at }
+        ensures counted { IsCounted self.old.faults self.new.faults (result ≡ Err StoreError.Failed) }
+    {
         let named = copy_of(alloc, name.as_bytes())?;
         match self.read_up_to(alloc, name, limit) {
             Ok(bytes) if bytes.len() <= limit => Ok(Bytes::from_vec(bytes)),
             Ok(_) => Err(StoreError::TooLong),
+            Err(error) if error.kind() == io::ErrorKind::OutOfMemory => Err(StoreError::NoMemory),
             Err(_) => {
                 self.failed_at = named;
                 self.faults = self.faults.saturating_add(1);

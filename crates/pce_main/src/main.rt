@@ -1,8 +1,8 @@
 //! The program: makes the real files, input and output, and runs the words that it is given.
 #![tactic(auto)]
 
-use dom_edge::{FileStore, InputSource, OutputSink};
-use pce_tool::{Status, run, write_all};
+use dom_edge::{FileStore, InputSource, OutputSink, write_all};
+use pce_tool::{Status, run};
 use std::alloc::Global;
 use std::process::ExitCode;
 use std::{env, io};

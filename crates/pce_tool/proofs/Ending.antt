@@ -1,28 +1,77 @@
 -- How a run ends, from how its parts ended.
-use Rattle.std.proofs.Common.{inr, ℕ, List, Some, None, refl}
+use Rattle.std.proofs.Common.{◌≡◌, inl, inr, ℕ, List, ◌∷◌, Some, None, refl, sym, subst}
+use Rattle.std.specs.Prelude.{Err}
 use Rattle.std.specs.declared.option.Option.{Option}
 use Rattle.std.specs.Io.KnownBytes.{Keeps}
 use Rattle.te_links.specs.Rows.{Rows}
+use Rattle.te_links.specs.declared.fault.TopoFault.{TopoFault}
+use Rattle.te_text.specs.Reads.{IsFaulty}
+use Rattle.path_certificate.specs.declared.cert_error.CertError.TheVariants.{At}
+use Rattle.path_certificate.specs.Text.{certificate_in}
 use Rattle.pce_tool.specs.declared.status.Status.{Status}
 use Rattle.pce_tool.specs.declared.status.Status.TheVariants as status
-use Rattle.pce_tool.specs.Run.{Command, World, WroteNothing, AreFiles, IsOutput, IsInputStatus, IsFinished, Ends}
+use Rattle.pce_tool.specs.declared.status.NetFault.TheVariants.{Topo}
+use Rattle.pce_tool.specs.Limits.{topology_max, certificate_max}
+use Rattle.dom_edge.specs.Stores.{Files}
+use Rattle.pce_tool.specs.Worlds.{World, WroteNothing, IfFile}
+use Rattle.pce_tool.specs.Files.{File, TopologyFile, HasTopology, HoldsAtFile}
+use Rattle.pce_tool.specs.Parts.{IsFileStatus, IsInputStatus, IsFinished}
+use Rattle.pce_tool.specs.Run.{Command, Verify, FilesRead, IsOutput, Ends, files_of, topology_of}
 
 pub keeps_refl : (o : Option (List ℕ)) → Keeps o o
 keeps_refl None = tt
 keeps_refl (Some xs) = refl
 
+-- the first file of a command
+first : (w : World) (c : Command) (name : List ℕ) (rest : List File) (P : File → Type 0) → files_of c ≡ TopologyFile name ∷ rest → P (TopologyFile name) →
+    HoldsAtFile w.files (files_of c) P
+first w c name rest P is holds = subst (λ (fs : List File). HoldsAtFile w.files fs P) (sym is) (inl holds)
+
+-- the topology was not read
+pub topology_ends : (w : World) (c : Command) (name : List ℕ) (rest : List File) → files_of c ≡ TopologyFile name ∷ rest → WroteNothing w → (s : Status) →
+    IsFileStatus w.files name topology_max IsFaulty w.store_faults w.failed_at s → Ends w c s
+topology_ends w c name rest is nothing status.Ok why = absurd why
+topology_ends w c name rest is nothing status.Usage why = absurd why
+topology_ends w c name rest is nothing status.ReadFault why = (nothing, inl (first w c name rest _ is why))
+topology_ends w c name rest is nothing status.WriteFault why = absurd why
+topology_ends w c name rest is nothing (status.BadNetwork file line (Topo fault)) why = (nothing, first w c name rest _ is why)
+topology_ends w c name rest is nothing status.NoMemory why = nothing
+topology_ends w c name rest is nothing (status.BadRequest reason) why = absurd why
+topology_ends w c name rest is nothing (status.Refuted place) why = absurd why
+topology_ends w c name rest is nothing (status.TooLarge file) why = (nothing, inl (first w c name rest _ is why))
+
+-- the topology was read, and the certificate was not
+pub certificate_ends : (w : World) (topology certificate : List ℕ) (g : Rows) → HasTopology w.files topology g → WroteNothing w → (s : Status) →
+    IsFileStatus w.files certificate certificate_max (λ bytes line fault. certificate_in g bytes ≡ Err (At line fault)) w.store_faults w.failed_at s →
+    Ends w (Verify topology certificate) s
+certificate_ends w topology certificate g has nothing status.Ok why = absurd why
+certificate_ends w topology certificate g has nothing status.Usage why = absurd why
+certificate_ends w topology certificate g has nothing status.ReadFault why = (nothing, inl (inr ((g, has), inl why)))
+certificate_ends w topology certificate g has nothing status.WriteFault why = absurd why
+certificate_ends w topology certificate g has nothing (status.BadNetwork file line (Topo fault)) why = (nothing, inr ((g, has), inl (why.0, told w.files why.1)))
+  where
+    told : (files : Option Files) → IfFile files certificate (λ bytes. certificate_in g bytes ≡ Err (At line fault)) →
+        IfFile files certificate (λ bytes. (h : Rows) × HasTopology w.files topology h × (certificate_in h bytes ≡ Err (At line fault)))
+    told None h = tt
+    told (Some fs) h = (h.0, (h.1.0, (g, (has, h.1.1))))
+certificate_ends w topology certificate g has nothing status.NoMemory why = nothing
+certificate_ends w topology certificate g has nothing (status.BadRequest reason) why = absurd why
+certificate_ends w topology certificate g has nothing (status.Refuted place) why = absurd why
+certificate_ends w topology certificate g has nothing (status.TooLarge file) why = (nothing, inl (inr ((g, has), inl why)))
+
 -- the input gave no request
-pub input_ends : (w : World) (c : Command) (g : Rows) → AreFiles w c g → WroteNothing w → (s : Status) → IsInputStatus w.input g.own.0 w.input_faults s → Ends w c s
-input_ends w c g files nothing status.Ok is = absurd is
-input_ends w c g files nothing status.Usage is = absurd is
-input_ends w c g files nothing status.ReadFault is = (nothing, inr is)
-input_ends w c g files nothing status.WriteFault is = absurd is
-input_ends w c g files nothing (status.BadNetwork file line fault) is = absurd is
-input_ends w c g files nothing status.NoMemory is = nothing
-input_ends w c g files nothing (status.BadRequest why) is =
-    (nothing, record { topology = g; files = files; bytes = is.0; is_input = is.1; within = is.2; is_why = is.3 })
-input_ends w c g files nothing (status.Refuted place) is = absurd is
-input_ends w c g files nothing (status.TooLarge name) is = (nothing, inr is)
+pub input_ends : (w : World) (c : Command) (g : Rows) → FilesRead w c → HasTopology w.files (topology_of c) g → WroteNothing w → (s : Status) →
+    IsInputStatus w.input g.own.0 w.input_faults s → Ends w c s
+input_ends w c g read has nothing status.Ok is = absurd is
+input_ends w c g read has nothing status.Usage is = absurd is
+input_ends w c g read has nothing status.ReadFault is = (nothing, inr (read, is))
+input_ends w c g read has nothing status.WriteFault is = absurd is
+input_ends w c g read has nothing (status.BadNetwork file line fault) is = absurd is
+input_ends w c g read has nothing status.NoMemory is = nothing
+input_ends w c g read has nothing (status.BadRequest why) is =
+    (nothing, record { read = read; topology = g; is_topology = has; bytes = is.0; is_input = is.1; within = is.2; is_why = is.3 })
+input_ends w c g read has nothing (status.Refuted place) is = absurd is
+input_ends w c g read has nothing (status.TooLarge name) is = (nothing, inr (read, is))
 
 -- the text was there to be written
 pub finished : (w : World) (c : Command) (text : List ℕ) → IsOutput w c text → (s : Status) → IsFinished w.before w.after w.output_faults text s → Ends w c s

@@ -6,6 +6,5 @@ pub mod Files
 pub mod Worlds
 pub mod Limits
 pub mod Statuses
-pub mod Flow
 -- what the parts of a run say to one another
 pub mod Parts

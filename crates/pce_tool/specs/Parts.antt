@@ -8,7 +8,7 @@ use Rattle.pce_tool.specs.declared.status.Status.TheVariants as status
 use Rattle.pce_tool.specs.declared.status.NetFault.TheVariants.{Topo}
 use Rattle.pce_tool.specs.Limits.{input_max}
 use Rattle.pce_tool.specs.Worlds.{HasInput, HasRisen, IfFile, IsLongFile, IsLongInput, input_name}
-use Rattle.pce_tool.specs.Flow.{AppendsSome}
+use Rattle.dom_edge.specs.Whole.{AppendsSome}
 use Rattle.pce_tool.specs.Requests.{IsWhy}
 
 -- Why a file of that name was not read: the status of a run that ends there. `counts` are the store's faults before and after.

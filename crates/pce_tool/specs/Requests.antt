@@ -10,7 +10,7 @@ use Rattle.pcep_messages.specs.Said.{rp_of, iro_of, asks_key}
 use Rattle.pcep_messages.specs.Refusals.{refusal_of}
 use Rattle.pcep_messages.specs.Requests.{Asks, sequence_of}
 use Rattle.line_text.specs.Hexadecimal.{hex_bytes}
-use Rattle.pce_tool.specs.declared.reading.PathRequest.{PathRequest}
+use Rattle.one_domain.specs.declared.replying.PathRequest.{PathRequest}
 use Rattle.pce_tool.specs.declared.reading.RequestError.{RequestError}
 use Rattle.pce_tool.specs.declared.reading.RequestError.TheVariants as errors
 use Rattle.pce_tool.specs.declared.reading.Why.{Why}

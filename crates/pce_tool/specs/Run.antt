@@ -14,7 +14,7 @@ use Rattle.pce_tool.specs.declared.status.NetFault.TheVariants.{Topo}
 use Rattle.pce_tool.specs.Limits.{input_max}
 use Rattle.pce_tool.specs.Worlds.{World, HasInput, HasRisen, IfFile, IsLongFile, IsLongInput, WroteNothing, input_name}
 use Rattle.pce_tool.specs.Files.{File, TopologyFile, CertificateFile, HasTopology, HasCertificate, HoldsAtFile, AreRead, IsFaultIn, name_of, limit_of}
-use Rattle.pce_tool.specs.Flow.{AppendsSome}
+use Rattle.dom_edge.specs.Whole.{AppendsSome}
 use Rattle.pce_tool.specs.Requests.{IsPathRequest, IsWhy}
 use Rattle.pce_tool.specs.Commands.Answer.{IsReplyText}
 use Rattle.pce_tool.specs.Commands.Certify.{IsCertifiedText}

@@ -1,9 +1,14 @@
-ghost use Rattle.std.specs.Prelude.{◌≡◌, ◌≤◌, ◌<◌, ◌^◌, ℕ, List, length, IfOk, IfErr, Some};
+//! The files of a command.
+ghost use Rattle.std.specs.Prelude.{◌≡◌, ◌≤◌, ◌<◌, ◌^◌, ℕ, List, length, IfOk, IfErr, Err, Some};
+ghost use Rattle.path_certificate.specs.declared.cert_error.CertError.TheVariants.{At};
 ghost use Rattle.te_text.specs.Reads.{IsFaulty};
 ghost use Rattle.te_links.specs.declared.fault.TopoFault.{TopoFault};
 ghost use Rattle.path_certificate.specs.Rows.{AreRows};
 ghost use Rattle.path_certificate.specs.Text.{certificate_in};
-ghost use Rattle.pce_tool.specs.Run.{HasFile, HasTopology, HasCertificate, IsFileStatus, IsBadAt, IsCertificateFault, IsNoFault};
+ghost use Rattle.pce_tool.specs.Limits.{topology_max, certificate_max};
+ghost use Rattle.pce_tool.specs.Worlds.{HasFile};
+ghost use Rattle.pce_tool.specs.Files.{HasTopology, HasCertificate};
+ghost use Rattle.pce_tool.specs.Parts.{IsFileStatus, IsBadAt, IsNoFault};
 
 use crate::limits::{CERTIFICATE_MAX, TOPOLOGY_MAX};
 use crate::status::{NetFault, Status};
@@ -55,7 +60,7 @@ fn read_file<S: Store>(
 /// The topology in a file.
 pub fn load_topology<S: Store>(alloc: Global, store: &mut S, name: &str) -> Result<Topology, Status>
     ensures ok { IfOk result (HasTopology (S.files store.old) name.now) }
-    ensures err { IfErr result (IsFileStatus (S.files store.old) name.now TOPOLOGY_MAX IsFaulty (S.faults store.old, S.faults store.new) (S.failed_at store.new)) }
+    ensures err { IfErr result (IsFileStatus (S.files store.old) name.now topology_max IsFaulty (S.faults store.old, S.faults store.new) (S.failed_at store.new)) }
     ensures files { S.files store.new ≡ S.files store.old }
     ensures later { S.faults store.old ≤ S.faults store.new }
 {
@@ -76,7 +81,7 @@ pub fn load_certificate<S: Store>(
 ) -> Result<Certificate, Status>
     ensures ok { IfOk result (HasCertificate (S.files store.old) name.now topology.now) }
     ensures rows { IfOk result (λ c. AreRows topology.now.nodes c.labels) }
-    ensures err { IfErr result (IsFileStatus (S.files store.old) name.now CERTIFICATE_MAX (IsCertificateFault topology.now) (S.faults store.old, S.faults store.new) (S.failed_at store.new)) }
+    ensures err { IfErr result (IsFileStatus (S.files store.old) name.now certificate_max (λ bytes line fault. certificate_in topology.now bytes ≡ Err (At line fault)) (S.faults store.old, S.faults store.new) (S.failed_at store.new)) }
     ensures files { S.files store.new ≡ S.files store.old }
     ensures later { S.faults store.old ≤ S.faults store.new }
 {

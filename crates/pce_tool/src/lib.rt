@@ -1,24 +1,20 @@
 //! The commands of the program.
 #![tactic(auto)]
 
-mod certifying;
-mod command;
-mod domain;
+mod commands;
 mod files;
-mod flow;
+mod input;
 mod limits;
+mod output;
 mod reading;
-mod replying;
+mod run;
 mod status;
 
-pub use certifying::{certificate_of, certificate_text};
-pub use command::run;
-pub use domain::{Chosen, DomainPath, search_domain, seeds_of, unknown_vector};
+pub use commands::reply_text;
 pub use files::{load_certificate, load_topology};
-pub use flow::{ReadError, WriteFailed, read_all, write_all};
 pub use limits::{CERTIFICATE_MAX, INPUT_MAX, TOPOLOGY_MAX};
-pub use reading::{PathRequest, RequestError, Why, read_path_request};
-pub use replying::{answer_of, reply_text};
+pub use reading::{RequestError, Why, read_path_request};
+pub use run::run;
 pub use status::{NetFault, Status};
 
 #[cfg(test)]

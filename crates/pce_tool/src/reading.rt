@@ -1,11 +1,11 @@
+//! A request as hexadecimal text.
 ghost use Rattle.std.specs.Prelude.{◌≡◌, ◌≤◌, length, Err};
 ghost use Rattle.pce_tool.specs.Requests.{one_request as one_request_of, Reads};
 
-use line_text::{HexError, read_hex};
 use dom_base::As;
-use pcep_messages::{
-    Asked, Bad, Message, Refusal, Request, Wanted, Wish, read_message, request_of,
-};
+use line_text::{HexError, read_hex};
+use one_domain::PathRequest;
+use pcep_messages::{Asked, Bad, Message, Refusal, Request, Wish, read_message, request_of};
 use std::alloc::Global;
 use std::fmt;
 
@@ -34,14 +34,6 @@ impl fmt::Display for Why {
             Why::NotBuilt => write!(f, "not built"),
         }
     }
-}
-
-/// A request for a path that stays in one domain, with the flags and the number of its RP.
-#[derive(Drop)]
-pub struct PathRequest {
-    pub flags: u32,
-    pub id: u32,
-    pub wanted: Wanted,
 }
 
 /// Why there is no request.

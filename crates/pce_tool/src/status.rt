@@ -1,3 +1,4 @@
+//! How a run ended, with its number and its text.
 ghost use Rattle.std.specs.Prelude.{◌≡◌};
 ghost use Rattle.pce_tool.specs.Statuses.{number_of};
 

@@ -1,6 +1,8 @@
+-- for readers
 pub mod History
 pub mod Views
-pub mod Rule
-pub mod Steps
 pub mod Seats
 pub mod Counter
+-- inner
+pub mod Rule
+pub mod Steps

@@ -1,3 +1,4 @@
+//! A counter under two threads.
 ghost use Rattle.std.specs.Prelude.{◌≡◌, ◌⊎◌, [], ◌∷◌, IfSome};
 ghost use Rattle.plant_lock.specs.declared.counter.Change.TheVariants.{Add};
 ghost use Rattle.plant_lock.specs.Seats.{IsAt, SameStart, own_entries, places_of, seen_by, shares_of};

@@ -11,6 +11,3 @@ pub use law::{full_by_numbers, pins_keep_topologies};
 
 /// How many generations may be live.
 pub const LIVE_MAX: usize = 16;
-
-/// How many pins there may be.
-pub const PINS_MAX: u32 = 1_024;

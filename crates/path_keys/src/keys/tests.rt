@@ -2,6 +2,7 @@
 ghost use Rattle.std.specs.Prelude.{◌≡◌, ◌≤◌, ◌+◌, ◌<◌, OnOk};
 
 use super::{KeyError, PathKeys};
+use crate::is_life;
 use dom_base::Tick;
 use std::process::Abort;
 use std::test::Fail;
@@ -44,5 +45,6 @@ fn numbers_go_round_and_keys_expire(rt: HostRuntime) -> Result<(), Fail> {
     assert_eq!(rt; keys.free(Tick(4_800)), 8_192);
     keys.reserve(3)?;
     goes_to_a_thread(&keys);
+    assert!(rt; is_life(3_600) && !is_life(3_601) && !is_life(0));
     Ok(())
 }

@@ -1,5 +1,5 @@
 /// The files of the rows, by their names.
-pub const FILES: [(&str, &[u8]); 10] = [
+pub const FILES: [(&str, &[u8]); 12] = [
     (
         "one.txt",
         b"topology 1\nnode 10.0.0.1\nnode 10.0.0.2\nnode 10.0.0.3\n\
@@ -35,6 +35,18 @@ pub const FILES: [(&str, &[u8]); 10] = [
          link 10.0.0.3 10.0.0.4 10.1.0.9 10.1.0.10 1 4 1000 00000000\n\
          link 10.0.0.5 10.0.0.1 10.1.0.11 10.1.0.12 1 1 1000 00000000\n",
     ),
+    (
+        "six.txt",
+        b"topology 1\nnode 2001:db8:0:0:0:0:0:1\nnode 10.0.0.2\nnode 2001:db8:0:0:0:0:0:3\n\
+         link 2001:db8:0:0:0:0:0:1 10.0.0.2 10.1.0.1 10.1.0.2 1 5 1000 00000000\n\
+         link 10.0.0.2 2001:db8:0:0:0:0:0:3 10.1.0.3 2001:db8:0:0:0:0:1:4 1 10 1000 00000000\n",
+    ),
+    (
+        "tie6.txt",
+        b"topology 1\nnode 10.0.0.1\nnode 10.0.0.2\n\
+         link 10.0.0.1 10.0.0.2 10.1.0.1 0:0:0:0:0:0:0:1 1 5 1000 00000000\n\
+         link 10.0.0.1 10.0.0.2 10.1.0.3 255.255.255.255 1 5 1000 00000000\n",
+    ),
     ("bad.txt", b"topology 1\nnode 1.2.3\n"),
     (
         "holds.cert",
@@ -63,7 +75,7 @@ pub struct Row {
     pub status: &'static str,
 }
 
-pub const ROWS: [Row; 37] = [
+pub const ROWS: [Row; 43] = [
     // the least path, of two links and not the one
     Row {
         words: "answer one.txt",
@@ -110,6 +122,50 @@ pub const ROWS: [Row; 37] = [
         input: b"2003001C0212000C00000000000000010412000C0A0000010A000002",
         output: b"200400300212000c00000000000000010710001401080a000001200001080a01000220000610000c0000000240a00000\n",
         status: "ok",
+    },
+    // every IPv4 address comes before every IPv6 address
+    Row {
+        words: "answer tie6.txt",
+        input: b"2003001C0212000C00000000000000010412000C0A0000010A000002",
+        output: b"200400300212000c00000000000000010710001401080a00000120000108ffffffff20000610000c0000000240a00000\n",
+        status: "ok",
+    },
+    // addresses of both kinds in one domain
+    Row {
+        words: "answer six.txt",
+        input: b"200300340212000C00000000000000010422002420010DB800000000000000000000000120010DB8000000000000000000000003",
+        output: b"200400500212000c000000000000000107100034021420010db8000000000000000000000001800001080a0100022000021420010db800000000000000000001000480000610000c0000000241700000\n",
+        status: "ok",
+    },
+    Row {
+        words: "certify six.txt",
+        input: b"200300340212000C00000000000000010422002420010DB800000000000000000000000120010DB8000000000000000000000003",
+        output: b"certificate 1\nlabel 10.0.0.2 10 2001:0db8:0000:0000:0000:0000:0000:0003\n\
+            label 2001:0db8:0000:0000:0000:0000:0000:0001 15 2001:0db8:0000:0000:0000:0000:0000:0003\n\
+            label 2001:0db8:0000:0000:0000:0000:0000:0003 0 2001:0db8:0000:0000:0000:0000:0000:0003\n\
+            path 2001:0db8:0000:0000:0000:0000:0000:0001 10.1.0.2 2001:0db8:0000:0000:0000:0000:0001:0004\n",
+        status: "ok",
+    },
+    // an IPv6 prefix bars the node at its end, and no IPv4 address
+    Row {
+        words: "answer six.txt",
+        input: b"200300500212000C00000000000000010422002420010DB800000000000000000000000120010DB80000000000000000000000031112001C00000000021420010DB80000000000000000000000038001",
+        output: b"200400180212000c00000000000000010310000800000000\n",
+        status: "ok",
+    },
+    // an IPv4 prefix of another node bars nothing here
+    Row {
+        words: "answer six.txt",
+        input: b"200300440212000C00000000000000010422002420010DB800000000000000000000000120010DB8000000000000000000000003111200100000000001080A0000032001",
+        output: b"200400500212000c000000000000000107100034021420010db8000000000000000000000001800001080a0100022000021420010db800000000000000000001000480000610000c0000000241700000\n",
+        status: "ok",
+    },
+    // two addresses of different kinds are no END-POINTS
+    Row {
+        words: "answer six.txt",
+        input: b"200300280212000C00000000000000010422001820010DB80000000000000000000000010A000003",
+        output: b"",
+        status: "bad request malformed",
     },
     // two routes of one cost, over a ring: from their fork the least far address leads on
     Row {

@@ -35,6 +35,8 @@ fn sixteen_are_live(rt: HostRuntime) -> Result<(), Fail> {
     let refused = all.load(Topology::empty(rt.alloc(), As(99)));
     assert_eq!(rt; refused, Err(LoadError::Full));
     assert_eq!(rt; all.of(&first)?.own(), As(100));
+    assert_eq!(rt; all.topology(&first).own(), As(100));
+    assert_eq!(rt; all.latest()?.own(), As(1));
     assert_eq!(rt; all.generation(&first), 0);
     all.release(first);
     assert_eq!(rt; all.load(Topology::empty(rt.alloc(), As(16))), Ok(16));

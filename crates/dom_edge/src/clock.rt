@@ -1,0 +1,143 @@
+//! Clocks: the trait, in memory, and that of the system.
+ghost use Rattle.std.specs.Prelude.{◌≡◌, ◌≤◌, ℕ, [], drop};
+ghost use Rattle.dom_edge.specs.Causes.{next_count};
+ghost use Rattle.dom_edge.specs.Memory.{next_reading};
+
+use crate::supply::Supply;
+use dom_base::{List as Rows, Tick};
+use std::marker::Model;
+use std::time::{Duration, Instant};
+use std::{thread, time};
+
+/// Moments that never fall.
+pub trait Clock {
+    /// The last reading, in seconds; 0 before the first.
+    ghost last: { Self → ℕ };
+
+    /// How many readings were taken. The count stands still at the end of its type.
+    ghost readings: { Self → ℕ };
+
+    /// The moment by now.
+    fn now(&mut self) -> Tick
+        ensures reading { last self.new ≡ result.0 }
+        ensures never_falls { last self.old ≤ result.0 }
+        ensures counted { readings self.new ≡ next_count (readings self.old) };
+}
+
+/// A clock in memory. It gives the readings one after the other, and where a reading is below the
+/// one before it, and after the last, the greatest so far again; without any it gives 0.
+#[derive(Drop)]
+pub struct MemoryClock {
+    later: Supply<Tick>,
+    last: u64,
+    readings: u64,
+}
+
+impl Model for MemoryClock {
+    ghost use Rattle.dom_edge.specs.Memory.{ClockState};
+
+    ghost Value = { ClockState };
+
+    ghost view = { λ c. record { later = c.later; last = c.last; readings = c.readings } };
+}
+
+impl MemoryClock {
+    pub fn new(readings: Rows<Tick>) -> Self
+        ensures { result ≡ record { later = readings; last = 0; readings = 0 } }
+    {
+        MemoryClock {
+            later: Supply::new(readings),
+            last: 0,
+            readings: 0,
+        }
+    }
+}
+
+impl Clock for MemoryClock {
+    ghost last = { λ c. c.last };
+
+    ghost readings = { λ c. c.readings };
+
+    fn now(&mut self) -> Tick
+        ensures reading { self.new.last ≡ result.0 }
+        ensures never_falls { self.old.last ≤ result.0 }
+        ensures counted { self.new.readings ≡ next_count self.old.readings }
+        ensures value { result.0 ≡ next_reading self.old.later self.old.last }
+        ensures later { self.new.later ≡ drop 1 self.old.later }
+    {
+        self.readings = self.readings.saturating_add(1);
+        if let Some(tick) = self.later.next() {
+            self.last = self.last.max(tick.0);
+        }
+        Tick(self.last)
+    }
+}
+
+// How long the clock of the system sleeps before it reads, in milliseconds.
+const READING_MILLIS: u64 = 10;
+
+/// The clock of the system: a tick is a second since the clock was made. It keeps its greatest
+/// reading, so it never falls, whatever the system says; where the system's clock can't be read, it
+/// gives that reading again. Each call sleeps ten milliseconds before it reads, so that a loop over
+/// the clock does not keep a processor busy.
+#[derive(Drop)]
+pub struct WallClock<R: time::Clock + Drop> {
+    rt: R,
+    start: Option<Instant>,
+    last: u64,
+    readings: u64,
+}
+
+impl<R: time::Clock + Drop> Model for WallClock<R> {
+    ghost use Rattle.std.specs.Prelude.{[]};
+    ghost use Rattle.dom_edge.specs.Memory.{ClockState};
+
+    ghost Value = { ClockState };
+
+    ghost view = { λ c. record { later = []; last = c.last; readings = c.readings } };
+}
+
+impl<R: time::Clock + Drop> WallClock<R> {
+    /// A clock that begins now, or where the system's clock can't be read yet, at the first reading
+    /// where it can.
+    pub fn new(rt: R) -> Self
+        ensures { result ≡ record { later = []; last = 0; readings = 0 } }
+    {
+        let start = Instant::now(&rt).ok();
+        WallClock {
+            rt,
+            start,
+            last: 0,
+            readings: 0,
+        }
+    }
+
+    // The seconds since the start, where the system's clock can be read.
+    fn seconds(&mut self) -> Option<u64>
+        ensures { self.new ≡ self.old }
+    {
+        let now = Instant::now(&self.rt).ok()?;
+        match self.start {
+            Some(start) => Some(now.duration_since(start).as_secs()),
+            None => {
+                self.start = Some(now);
+                None
+            }
+        }
+    }
+}
+
+impl<R: time::Clock + Drop> Clock for WallClock<R> {
+    ghost last = { λ c. c.last };
+
+    ghost readings = { λ c. c.readings };
+
+    fn now(&mut self) -> Tick {
+        thread::sleep(&self.rt, Duration::from_millis(READING_MILLIS));
+        self.readings = self.readings.saturating_add(1);
+        if let Some(seconds) = self.seconds() {
+            self.last = self.last.max(seconds);
+        }
+        Tick(self.last)
+    }
+}

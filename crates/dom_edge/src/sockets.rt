@@ -1,0 +1,280 @@
+//! The sockets of the system: connections, listeners and ports.
+ghost use Rattle.std.specs.Prelude.{◌≡◌, ◌≢◌, ◌<◌, length, IfOk};
+ghost use Rattle.dom_edge.specs.Causes.{HasCause, IsCounted, next_count};
+ghost use Rattle.dom_edge.specs.Streams.{IsRead, IsWrite};
+ghost use Rattle.dom_edge.specs.Opening.{IsOpenedAt};
+ghost use Rattle.dom_edge.specs.Links.{socket_reading, socket_writing};
+
+use crate::listener::{Accepted, Listener};
+use crate::ports::{Opened, Ports};
+use crate::sink::Put;
+use crate::stream::Got;
+use crate::wire::Wire;
+use std::io::{self, ErrorKind, Read, Write};
+use std::marker::Model;
+use std::net::{IpAddr, Net, OpenListener, OpenStream, SocketAddr};
+use std::thread;
+use std::time::{Clock, Duration};
+
+// How long a read waits for a byte, and an `accept` for a connection, before it is quiet, in
+// milliseconds.
+const QUIET_MILLIS: u64 = 20;
+
+// How long a write waits until the other end makes room, before it fails, in seconds.
+const WRITE_SECONDS: u64 = 60;
+
+// Whether a call would have waited longer, or a signal cut it short.
+fn is_quiet(error: &io::Error) -> bool {
+    matches!(error.kind(), ErrorKind::WouldBlock | ErrorKind::Interrupted)
+}
+
+/// A connection of the system. It tells nothing of content.
+///
+/// A read is quiet where its stream says that it would wait, or a signal cut it short. A write that
+/// takes nothing fails.
+#[derive(Drop)]
+pub struct SocketLink<S: Read + Write + Drop> {
+    stream: S,
+    faults: u64,
+    quiets: u64,
+    ends: u64,
+    write_faults: u64,
+}
+
+impl<S: Read + Write + Drop> Model for SocketLink<S> {
+    ghost use Rattle.dom_edge.specs.Links.{SocketCounts};
+
+    ghost Value = { SocketCounts };
+
+    ghost view = { λ l. record { faults = l.faults; quiets = l.quiets; ends = l.ends; write_faults = l.write_faults } };
+}
+
+impl<S: Read + Write + Drop> SocketLink<S> {
+    /// Over a stream whose reads wait a bounded time, as those that a `PortListener` hands out do.
+    pub fn new(stream: S) -> Self
+        ensures { result ≡ record { faults = 0; quiets = 0; ends = 0; write_faults = 0 } }
+    {
+        SocketLink {
+            stream,
+            faults: 0,
+            quiets: 0,
+            ends: 0,
+            write_faults: 0,
+        }
+    }
+}
+
+impl<S: Read + Write + Drop> Wire for SocketLink<S> {
+    ghost reading = { socket_reading };
+
+    ghost writing = { socket_writing };
+
+    fn read(&mut self, into: &mut [u8]) -> Got
+        requires { 0 < length into.old }
+        ensures reads { IsRead (socket_reading self.old) (socket_reading self.new) result into.new }
+        ensures writing { socket_writing self.new ≡ socket_writing self.old }
+        ensures faults { IsCounted self.old.faults self.new.faults (result ≡ Got.Failed) }
+        ensures quiets { IsCounted self.old.quiets self.new.quiets (result ≡ Got.Quiet) }
+        ensures ends { IsCounted self.old.ends self.new.ends (result ≡ Got.End) }
+    {
+        match self.stream.read(into) {
+            Ok(0) => {
+                self.ends = self.ends.saturating_add(1);
+                Got::End
+            }
+            Ok(count) => Got::Bytes(count),
+            Err(error) if is_quiet(&error) => {
+                self.quiets = self.quiets.saturating_add(1);
+                Got::Quiet
+            }
+            Err(_) => {
+                self.faults = self.faults.saturating_add(1);
+                Got::Failed
+            }
+        }
+    }
+
+    fn write(&mut self, piece: &[u8]) -> Put
+        requires { 0 < length piece.now }
+        ensures writes { IsWrite (socket_writing self.old) (socket_writing self.new) result piece.now }
+        ensures reading { socket_reading self.new ≡ socket_reading self.old }
+        ensures faults { IsCounted self.old.write_faults self.new.write_faults (result ≡ Put.Failed) }
+    {
+        match self.stream.write(piece) {
+            Ok(count) if count > 0 => Put::Bytes(count),
+            _ => {
+                self.write_faults = self.write_faults.saturating_add(1);
+                Put::Failed
+            }
+        }
+    }
+}
+
+/// A port of the system that is listened at. Its `accept` does not wait in the system: where nobody
+/// came, and where it fails, it sleeps for twenty milliseconds, so that its thread can look at other
+/// work and no loop over it keeps a processor busy. A read of a connection that it hands out waits as
+/// long for a byte, in the system, and then is quiet.
+#[derive(Drop)]
+pub struct PortListener<L: OpenListener + Drop, R: Clock + Drop> {
+    listener: L,
+    rt: R,
+    port: u16,
+    faults: u64,
+    quiets: u64,
+}
+
+impl<L: OpenListener + Drop, R: Clock + Drop> Model for PortListener<L, R> {
+    ghost use Rattle.dom_edge.specs.Links.{ListenerCounts};
+
+    ghost Value = { ListenerCounts };
+
+    ghost view = { λ l. record { port = l.port; faults = l.faults; quiets = l.quiets } };
+}
+
+// Bounds the time that a read and a write wait.
+fn bound_waits<S: OpenStream>(stream: &S) -> io::Result<()> {
+    stream.set_read_timeout(Some(Duration::from_millis(QUIET_MILLIS)))?;
+    stream.set_write_timeout(Some(Duration::from_secs(WRITE_SECONDS)))
+}
+
+impl<L: OpenListener + Drop, R: Clock + Drop> PortListener<L, R>
+where
+    L::Stream: Read + Write + OpenStream + Drop,
+{
+    /// Over a listener of the system that was opened at that port.
+    pub fn new(rt: R, listener: L, port: u16) -> io::Result<Self>
+        ensures { IfOk result (λ l. l ≡ record { port = port; faults = 0; quiets = 0 }) }
+    {
+        listener.set_nonblocking(true)?;
+        Ok(PortListener {
+            listener,
+            rt,
+            port,
+            faults: 0,
+            quiets: 0,
+        })
+    }
+
+    // The next connection, with bounded waits.
+    fn next(&self) -> io::Result<L::Stream> {
+        let (stream, _) = self.listener.accept()?;
+        bound_waits(&stream)?;
+        Ok(stream)
+    }
+}
+
+impl<L: OpenListener + Drop, R: Clock + Drop> Listener for PortListener<L, R>
+where
+    L::Stream: Read + Write + OpenStream + Drop,
+{
+    type Link = SocketLink<L::Stream>;
+
+    ghost opened_at = { λ l. l.port };
+
+    ghost faults = { λ l. l.faults };
+
+    ghost quiets = { λ l. l.quiets };
+
+    fn accept(&mut self) -> Accepted<SocketLink<L::Stream>>
+        ensures failed { HasCause self.old.faults self.new.faults (result ≡ Accepted.Failed) }
+        ensures quiet { HasCause self.old.quiets self.new.quiets (result ≡ Accepted.Quiet) }
+        ensures port { self.new.port ≡ self.old.port }
+        ensures counted { IsCounted self.old.faults self.new.faults (result ≡ Accepted.Failed) }
+        ensures quiets { IsCounted self.old.quiets self.new.quiets (result ≡ Accepted.Quiet) }
+    {
+        match self.next() {
+            Ok(stream) => Accepted::Link(SocketLink::new(stream)),
+            Err(error) => {
+                thread::sleep(&self.rt, Duration::from_millis(QUIET_MILLIS));
+                if is_quiet(&error) {
+                    self.quiets = self.quiets.saturating_add(1);
+                    Accepted::Quiet
+                } else {
+                    self.faults = self.faults.saturating_add(1);
+                    Accepted::Failed
+                }
+            }
+        }
+    }
+
+    fn port(&self) -> u16 {
+        self.port
+    }
+}
+
+/// The ports of the system, at one address of the machine; the unspecified address stands for each
+/// of them. A port that is in use, or that may not be listened at, is a failure.
+#[derive(Drop)]
+pub struct SocketPorts<R: Net + Clock + Copy + Drop> {
+    rt: R,
+    address: IpAddr,
+    calls: u64,
+    faults: u64,
+    failed_at: u16,
+}
+
+impl<R: Net + Clock + Copy + Drop> Model for SocketPorts<R> {
+    ghost use Rattle.dom_edge.specs.Links.{PortsCounts};
+
+    ghost Value = { PortsCounts };
+
+    ghost view = { λ p. record { calls = p.calls; faults = p.faults; failed_at = p.failed_at } };
+}
+
+impl<R: Net + Clock + Copy + Drop> SocketPorts<R> {
+    pub fn new(rt: R, address: IpAddr) -> Self
+        ensures { result ≡ record { calls = 0; faults = 0; failed_at = 0 } }
+    {
+        SocketPorts {
+            rt,
+            address,
+            calls: 0,
+            faults: 0,
+            failed_at: 0,
+        }
+    }
+
+    /// The port at which a call last failed; 0 before.
+    pub fn failed_at(&self) -> u16
+        ensures { result ≡ self.now.failed_at }
+    {
+        self.failed_at
+    }
+
+    // A listener at that port.
+    fn open(&self, port: u16) -> io::Result<PortListener<R::Listener, R>>
+        ensures { IfOk result (λ l. l.port ≡ port) }
+    {
+        let listener = self.rt.bind(SocketAddr::new(self.address, port))?;
+        PortListener::new(self.rt, listener, port)
+    }
+}
+
+impl<R: Net + Clock + Copy + Drop> Ports for SocketPorts<R> {
+    type Port = PortListener<R::Listener, R>;
+
+    ghost calls = { λ p. p.calls };
+
+    ghost faults = { λ p. p.faults };
+
+    ghost failed_at = { λ p. p.failed_at };
+
+    fn listen(&mut self, port: u16) -> Opened<PortListener<R::Listener, R>>
+        ensures called { self.new.calls ≡ next_count self.old.calls }
+        ensures cause { HasCause self.old.faults self.new.faults (result ≡ Opened.Failed) }
+        ensures asked { IsOpenedAt (λ l. l.port) port result }
+        ensures blame { result ≡ Opened.Failed → self.new.failed_at ≡ port }
+        ensures keeps { result ≢ Opened.Failed → self.new.failed_at ≡ self.old.failed_at }
+        ensures counted { IsCounted self.old.faults self.new.faults (result ≡ Opened.Failed) }
+    {
+        self.calls = self.calls.saturating_add(1);
+        match self.open(port) {
+            Ok(listener) => Opened::Port(listener),
+            Err(_) => {
+                self.faults = self.faults.saturating_add(1);
+                self.failed_at = port;
+                Opened::Failed
+            }
+        }
+    }
+}

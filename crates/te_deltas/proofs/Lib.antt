@@ -1,0 +1,6 @@
+pub mod Names
+pub mod SlotLemmas
+pub mod GatherLemmas
+pub mod Listing
+pub mod Apart
+pub mod Turns

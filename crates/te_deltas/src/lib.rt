@@ -1,0 +1,20 @@
+//! Changes to a topology: rows that are dropped and added, one after the other.
+#![tactic(auto)]
+
+mod changes;
+mod copy;
+mod making;
+mod name;
+mod reading;
+mod rows;
+mod table;
+#[cfg(test)]
+mod tests;
+
+pub use changes::Change;
+pub use making::{ChangeError, apply};
+pub use name::RowName;
+pub use reading::{is_change_file, read_changes};
+
+/// How many bytes a change file may have.
+pub const CHANGE_FILE_MAX: usize = 4_194_304;
