@@ -96,6 +96,37 @@ link 10.0.0.1 2001:0db8:0000:0000:0000:0000:0000:0001 10.1.0.3 10.1.0.2 1 7 1000
     Ok(())
 }
 
+const ONE: &[u8] = b"topology 1
+node 10.0.0.1
+node 10.0.0.2
+node 10.0.0.3
+link 10.0.0.1 10.0.0.2 10.1.0.1 10.1.0.2 1 5 1000 00000000
+link 10.0.0.2 10.0.0.3 10.1.0.3 10.1.0.4 1 10 1000 00000000
+link 10.0.0.1 10.0.0.3 10.1.0.5 10.1.0.6 1 20 1000 00000000
+";
+
+const ONE_WITHOUT: &[u8] = b"topology 1
+node 10.0.0.1
+node 10.0.0.2
+node 10.0.0.3
+link 10.0.0.2 10.0.0.3 10.1.0.3 10.1.0.4 1 10 1000 00000000
+link 10.0.0.1 10.0.0.3 10.1.0.5 10.1.0.6 1 20 1000 00000000
+";
+
+#[test]
+fn a_link_is_dropped_once(rt: HostRuntime) -> Result<(), Fail> {
+    let drop = b"drop link 10.1.0.2\n";
+    match changed(rt.alloc(), ONE, drop) {
+        Ok(text) => assert_eq!(rt; text.as_slice(), ONE_WITHOUT),
+        Err(why) => panic!(rt; "refused: {why:?}"),
+    }
+    match changed(rt.alloc(), ONE_WITHOUT, drop) {
+        Ok(_text) => panic!(rt; "dropped twice"),
+        Err(why) => assert_eq!(rt; why, ChangeError::Absent(0)),
+    }
+    Ok(())
+}
+
 #[test]
 fn tells_the_first_mistake_and_then_the_rules(rt: HostRuntime) {
     let cases = [
