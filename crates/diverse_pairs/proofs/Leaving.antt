@@ -9,7 +9,7 @@ use Rattle.dom_base.specs.declared.query.Query.{Query}
 use Rattle.te_links.specs.Rows.{Rows}
 use Rattle.path_certificate.specs.Offers.{IsAdmittedAt}
 use Rattle.diverse_pairs.specs.Conditions.{Leaves, IsOnlyToLeave}
-use Rattle.diverse_pairs.proofs.Rising.{leaves_by}
+use Rattle.diverse_pairs.proofs.Risen.{leaves_by}
 
 -- a link that begins inside leaves where it doesn't end inside
 pub leave_told : (g : Rows) (q : Query) (nodes : List Addr) (i : ℕ) (l : Link) (starts ends : Bool) → IsAdmittedAt g q i l → (IsTrue starts ↔ Contains nodes l.from) →

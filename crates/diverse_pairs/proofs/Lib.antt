@@ -5,6 +5,6 @@ pub mod Sums
 pub mod Best
 pub mod Cutting
 pub mod Counting
-pub mod Rising
+pub mod Risen
 pub mod Leaving
 pub mod Judging

@@ -9,8 +9,13 @@ mod false_crossing;
 mod false_links;
 mod false_path;
 mod look_up;
+mod rising;
 mod verdict;
 
 pub use certificate::{PairCertificate, PairForm};
 pub use checker::check_pair;
+pub use rising::is_rising;
 pub use verdict::PairVerdict;
+
+#[cfg(test)]
+mod tests;

@@ -1,6 +1,6 @@
 use Rattle.std.proofs.Common.{◌++◌}
 use Rattle.diverse_pairs.specs.Potentials.{potential_in}
-use Rattle.diverse_pairs.proofs.Rising.{rise_told}
+use Rattle.diverse_pairs.proofs.Risen.{rise_told}
 use Rattle.diverse_pairs.proofs.false_links.holds_at.Goals as goal
 
 pub returns : goal.returns
