@@ -6,3 +6,4 @@ pub mod Pairs
 pub mod Picked
 pub mod WaysOut
 pub mod TableRows
+pub mod Heads

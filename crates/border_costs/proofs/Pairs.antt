@@ -46,7 +46,7 @@ pub label_is : (g : Rows) (q : Query) (seeds : List Seed) (labels : List (Option
 label_is g q seeds labels from n o are at_n at_label = subst (IsLabel g q seeds n) at_label (are.each from n at_n)
 
 -- far addresses of out links differ
-one_out : (outs : List OutLink) → AllPairs (λ o p. rank o.link.far < rank p.link.far) outs → (o p : OutLink) → Contains outs o → Contains outs p → o.link.far ≡ p.link.far → o ≡ p
+pub one_out : (outs : List OutLink) → AllPairs (λ o p. rank o.link.far < rank p.link.far) outs → (o p : OutLink) → Contains outs o → Contains outs p → o.link.far ≡ p.link.far → o ≡ p
 one_out outs rising o p (i, i_in, is_o) (j, j_in, is_p) far =
     let at_p : get_or outs j o ≡ p = get_or_default outs j o p j_in ∙ is_p in
     let at_o : get_or outs i p ≡ o = get_or_default outs i p o i_in ∙ is_o in
@@ -68,7 +68,7 @@ one_out outs rising o p (i, i_in, is_o) (j, j_in, is_p) far =
 
 -- the head that stands with the exit's far address is the head of the exit
 pub head_is : (g : Rows) (q : Query) (b : As) (down : List Down) (seeds : List Seed) → AreBorderSeeds g q b (beyond down) seeds → IsInOrder g →
-    (entry : Addr) (a : Label) → IsLabel g q seeds entry (Some a) → (o : Option Addr) → MatchOption o (HasNoOut g a.exit) (IsHeadOf g a.exit) → IsHead g q (Next b) a.exit o
+    (entry : Addr) (a : Label) → IsLabel g q seeds entry (Some a) → (o : Option Addr) → MatchOption o (HasNoOut g a.exit) (IsHeadOf g a.exit) → IsHead g q down (Next b) a.exit o
 head_is g q b down seeds are order entry a is None none =
     let found = are.each is.0.seed is.0.is_seed in
     absurd (none found.0 found.1.out.is_out (sym (is.0.exit ∙ found.1.exit)))
@@ -77,12 +77,18 @@ head_is g q b down seeds are order entry a is (Some h) head =
     let out = found.0 in
     let far : out.link.far ≡ a.exit = sym (is.0.exit ∙ found.1.exit) in
     let same : head.0 ≡ out = one_out g.outs order.outs head.0 out head.1 found.1.out.is_out (head.2 ∙ sym far) in
-    (out, found.1.out, far, ap Some (sym head.3 ∙ ap (λ (o : OutLink). o.link.to) same))
+    record {
+      out = out;
+      seed = is.0.seed;
+      least = found.1;
+      is_exit = far;
+      is_head = ap Some (sym head.3 ∙ ap (λ (o : OutLink). o.link.to) same);
+    }
 
 -- a node with a label has its best way
 pub best_is : (g : Rows) (ask : Ask) (seeds : List Seed) (labels : List (Option Label)) (from : ℕ) (entry : Addr) (a : Label) (places : List ℕ) (shown : List Addr) (head : Option Addr) →
     AreSeeds g ask seeds → AreLabels g ask.query seeds labels → slice_get g.nodes from ≡ Some entry → label_at labels from ≡ Some a →
-    HasSegment g ask.query seeds labels from places → ((ls : List Link) → AreAt g.links places ls → shown ≡ entry ∷ fars ls) → IsHead g ask.query ask.target a.exit head →
+    HasSegment g ask.query seeds labels from places → ((ls : List Link) → AreAt g.links places ls → shown ≡ entry ∷ fars ls) → IsHead g ask.query ask.down ask.target a.exit head →
     IsBest g ask seeds entry (record { entry = entry; cost = a.cost; exit = a.exit; head = head; segment = shown })
 best_is g ask seeds labels from entry a places shown head seeded are at_entry at_a has hopped is_head =
     let nodes : Some has.node ≡ Some entry = sym has.at_node ∙ at_entry in
@@ -94,6 +100,7 @@ best_is g ask seeds labels from entry a places shown head seeded are at_entry at
     record {
       is_entry = refl;
       pair = pair_of g ask seeds seeded entry (Some a) (label_is g ask.query seeds labels from entry (Some a) are at_entry at_a);
+      label = label_is g ask.query seeds labels from entry (Some a) are at_entry at_a;
       is_head = is_head;
       links = has.links;
       chosen = segment;

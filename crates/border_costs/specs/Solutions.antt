@@ -4,23 +4,25 @@ use Rattle.std.specs.List.{zip}
 use Rattle.std.specs.declared.option.Option.{Option}
 use Rattle.dom_base.specs.declared.addr.Addr.{Addr}
 use Rattle.dom_base.specs.declared.link.Link.{Link}
+use Rattle.dom_base.specs.declared.names.As.{As}
 use Rattle.dom_base.specs.declared.query.Query.{Query}
 use Rattle.dom_base.specs.declared.query.Seed.{Seed}
 use Rattle.dom_base.specs.declared.query.Label.{Label}
 use Rattle.te_links.specs.declared.rows.OutLink.{OutLink}
 use Rattle.te_links.specs.Rows.{Rows}
-use Rattle.walk_laws.specs.Labels.{IsSegment}
+use Rattle.walk_laws.specs.Labels.{IsLabel, IsSegment}
 use Rattle.walk_laws.specs.Certificate.{Certifies}
-use Rattle.walk_laws.specs.Borders.{LeadsTo}
+use Rattle.walk_laws.specs.Borders.{IsBorderSeed}
 use Rattle.path_certificate.specs.declared.certificate.Certificate.{Certificate}
 use Rattle.path_certificate.specs.Rows.{label_in}
 use Rattle.path_search.specs.Search.{AreLabels}
 use Rattle.vspt_tree.specs.declared.branch.Best.{Best}
 use Rattle.border_costs.specs.declared.job.Target.{Target}
 use Rattle.border_costs.specs.declared.job.Target.TheVariants.{Node, Next}
+use Rattle.border_costs.specs.declared.job.Down.{Down}
 use Rattle.border_costs.specs.declared.job.Ask.{Ask}
 use Rattle.border_costs.specs.declared.rows.Rows.{Rows as Answer}
-use Rattle.border_costs.specs.Asks.{AreSeeds, IsPair, HasNoPair}
+use Rattle.border_costs.specs.Asks.{AreSeeds, IsPair, HasNoPair, beyond}
 
 -- the far address is that of an out link with this head
 abbrev pub IsHeadOf : Rows → Addr → Addr → Type 0
@@ -29,16 +31,25 @@ IsHeadOf g far head = (o : OutLink) × Contains g.outs o × (o.link.far ≡ far)
 abbrev pub HasNoOut : Rows → Addr → Type 0
 HasNoOut g far = (o : OutLink) → Contains g.outs o → o.link.far ≢ far
 
--- the node beyond the exit: the head of the admitted out link with this far address; none in the last domain
-abbrev pub IsHead : Rows → Query → Target → Addr → Option Addr → Type 0
-IsHead g q (Node t) exit head = head ≡ None
-IsHead g q (Next b) exit head = (o : OutLink) × LeadsTo g q b o × (o.link.far ≡ exit) × (head ≡ Some o.link.to)
+-- the way beyond an exit: the admitted out link with this far address, its head, and the least row of the head, from which its seed is made
+pub record GoesOver (g : Rows) (q : Query) (next : As) (down : List Down) (exit : Addr) (head : Option Addr) : Type 0 where
+  pub out : OutLink
+  pub seed : Seed
+  pub least : IsBorderSeed g q next (beyond down) out seed
+  pub is_exit : out.link.far ≡ exit
+  pub is_head : head ≡ Some out.link.to
 
--- the best way from an entry: its pair, the node beyond the exit, and the chosen segment in its open form
+-- the node beyond the exit; none in the last domain
+abbrev pub IsHead : Rows → Query → List Down → Target → Addr → Option Addr → Type 0
+IsHead g q down (Node t) exit head = head ≡ None
+IsHead g q down (Next b) exit head = GoesOver g q b down exit head
+
+-- the best way from an entry: its pair, which is its label, the node beyond the exit, and the chosen segment in its open form
 pub record IsBest (g : Rows) (ask : Ask) (seeds : List Seed) (entry : Addr) (row : Best) : Type 0 where
   pub is_entry : row.entry ≡ entry
   pub pair : IsPair g ask entry (Some (record { cost = row.cost; exit = row.exit }))
-  pub is_head : IsHead g ask.query ask.target row.exit row.head
+  pub label : IsLabel g ask.query seeds entry (Some (record { cost = row.cost; exit = row.exit }))
+  pub is_head : IsHead g ask.query ask.down ask.target row.exit row.head
   pub links : List Link
   pub chosen : IsSegment g ask.query seeds entry (record { cost = row.cost; exit = row.exit }) links
   pub shown : row.segment ≡ entry ∷ map (λ l. l.far) links

@@ -1,3 +1,4 @@
+//! The best way from each entry.
 ghost use Rattle.std.specs.Prelude.{◌≡◌, IfOk, MatchOption};
 ghost use Rattle.te_links.specs.Rows.{IsInOrder};
 ghost use Rattle.path_search.specs.Search.{AreLabels};

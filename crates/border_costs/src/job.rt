@@ -1,3 +1,4 @@
+//! What is asked of a domain.
 use dom_base::{Addr, As, Cost, List, Query};
 use std::sync::Arc;
 use te_links::Topology;

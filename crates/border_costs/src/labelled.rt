@@ -1,3 +1,4 @@
+//! The labels of all nodes as a certificate.
 ghost use Rattle.std.specs.Prelude.{IfOk};
 ghost use Rattle.path_search.specs.Search.{AreLabels};
 ghost use Rattle.border_costs.specs.Solutions.{IsLabelled};

@@ -1,3 +1,4 @@
+//! What is computed of an ask.
 use dom_base::List;
 use path_certificate::Certificate;
 use vspt_tree::Best;

@@ -1,3 +1,4 @@
+//! The seeds of an ask: its target, or its out links with what lies beyond.
 ghost use Rattle.std.specs.Prelude.{◌≡◌, ◌<◌, ◌≤◌, ◌+◌, ◌↔◌, length, IsTrue, SomeIff, IfOk, MatchOption};
 ghost use Rattle.walk_laws.specs.Borders.{IsDown};
 ghost use Rattle.border_costs.specs.Asks.{beyond, AreSeeds, target_seed, HasNoDown, IsBelow, IsSeedAt, IsNoSeedAt};

@@ -1,3 +1,4 @@
+//! The rows of an ask, by one search.
 ghost use Rattle.std.specs.Prelude.{◌≡◌, ◌↔◌, Contains, IfOk, IsTrue};
 ghost use Rattle.border_costs.specs.Solutions.{AreRows, IsKnownTarget};
 

@@ -1,5 +1,7 @@
+//! A solved job, whose rows are right for its ask and its topology.
 ghost use Rattle.std.specs.Prelude.{◌≡◌, IfOk, IsOkAnd};
 ghost use Rattle.std.specs.Arc.{arc_value};
+ghost use Rattle.te_links.specs.Rows.{IsTopology, IsInOrder};
 ghost use Rattle.border_costs.specs.Solutions.{AreRows};
 
 use crate::job::{Ask, Job};
@@ -20,6 +22,7 @@ pub struct Solved {
     topology: Snapshot<Topology>,
     at: As,
     number: u64,
+    own: As,
     rows: Rows,
 }
 
@@ -46,6 +49,7 @@ impl Solved {
             topology: Snapshot::of(&job.topology),
             at: job.ask.at,
             number: job.ask.number,
+            own: job.topology.own(),
             rows,
         })
     }
@@ -56,6 +60,15 @@ impl Solved {
         ensures right { AreRows self.now.topology self.now.ask self.now.rows }
     {
         self.at
+    }
+
+    /// The domain of the topology that the job was solved in.
+    pub fn own(&self) -> As
+        ensures own { result ≡ self.now.topology.own }
+        ensures rules { IsTopology self.now.topology }
+        ensures order { IsInOrder self.now.topology }
+    {
+        self.own
     }
 
     /// The number of the request.

@@ -1,3 +1,4 @@
+//! Jobs solved and tables made, against written ones.
 mod jobs;
 mod listing;
 

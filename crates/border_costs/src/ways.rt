@@ -1,3 +1,4 @@
+//! The ways out of a domain, each as the seed of a search.
 ghost use Rattle.std.specs.Prelude.{◌≡◌, ◌<◌, ◌≤◌, length, SomeIff, IfOk, MatchOption};
 ghost use Rattle.border_costs.specs.Ways.{IsWayAt, IsNoWayAt, AreWays};
 

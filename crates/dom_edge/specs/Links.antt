@@ -1,7 +1,6 @@
 -- What the streams, links, listeners and ports in memory hold, and what the real ones count.
 use Rattle.std.specs.Prelude.{◌≡◌, ◌≢◌, ℕ, List, [], ◌∷◌, ◌++◌, length, min, Some, None, ◌⊎◌}
 use Rattle.std.specs.List.{concat}
-use Rattle.std.specs.declared.option.Option.{Option}
 use Rattle.dom_edge.specs.declared.stream.Got.{Got}
 use Rattle.dom_edge.specs.declared.stream.Got.TheVariants as got
 use Rattle.dom_edge.specs.declared.listener.Accepted.{Accepted}

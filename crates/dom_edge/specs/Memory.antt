@@ -1,6 +1,5 @@
 -- What the sources, sinks, stores and clocks in memory hold, and what the real ones count.
 use Rattle.std.specs.Prelude.{◌≡◌, ◌<◌, ℕ, List, [], ◌∷◌, length, max, Contains, None, Some, ◌⊎◌}
-use Rattle.std.specs.declared.option.Option.{Option}
 use Rattle.dom_base.specs.declared.names.Tick.{Tick}
 use Rattle.dom_edge.specs.Causes.{next_count, IsCounted}
 use Rattle.dom_edge.specs.Stores.{file_named}

@@ -1,5 +1,5 @@
 -- With one seed, the target, a label is the least cost of a walk to it, and the chosen segment is such a walk.
-use Rattle.std.proofs.Common.{ℕ, subst, ◌≡◌, inl, inr, ◌≤◌, List, [], ◌∷◌, arith, refl, sym, ◌∙◌, ap, None, Some}
+use Rattle.std.proofs.Common.{ℕ, subst, ◌≡◌, inl, inr, ◌≤◌, List, [], ◌∷◌, arith, refl, sym, ◌∙◌, ap, Some}
 use Rattle.std.specs.Prelude.{Contains, slice_index_or}
 use Rattle.dom_base.specs.declared.addr.Addr.{Addr}
 use Rattle.dom_base.specs.declared.link.Link.{Link}

@@ -1,15 +1,15 @@
 -- What the rows of an ask with one entry and one target show of the domain.
 use Rattle.std.proofs.Common.{◌≡◌, ◌↔◌, ℕ, Bool, true, false, [], ◌∷◌, ◌++◌, ◌+◌, List, Some, None, inl, inr, sym, ◌∙◌, ap, subst, refl, arith, length, length-append, cond}
-use Rattle.std.specs.Prelude.{Contains, IsTrue}
+use Rattle.std.specs.Prelude.{Contains, IsTrue, MatchOption, option_map, Result, Ok, Err, IfOk}
+use Rattle.dom_base.specs.declared.names.NoMemory.{NoMemory}
+use Rattle.pcep_messages.specs.declared.message.Answer.{Answer as Reply}
+use Rattle.one_domain.specs.Replies.{IsAnswer, IsPathAnswer}
 use Rattle.std.specs.declared.option.Option.{Option}
 use Rattle.dom_base.specs.declared.addr.Addr.{Addr}
-use Rattle.dom_base.specs.declared.link.Link.{Link}
-use Rattle.dom_base.specs.declared.query.Query.{Query}
 use Rattle.dom_base.specs.declared.query.Label.{Label}
 use Rattle.dom_base.specs.declared.query.Seed.{Seed}
 use Rattle.te_links.specs.Rows.{Rows}
-use Rattle.walk_laws.specs.Walks.{cost, IsFeasible, IsLeast}
-use Rattle.walk_laws.specs.Labels.{◌≼◌, IsLabel, IsSegment, Reaches}
+use Rattle.walk_laws.specs.Labels.{IsSegment}
 use Rattle.walk_laws.specs.Borders.{JoinsAt}
 use Rattle.path_search.specs.Search.{AreLabels}
 use Rattle.vspt_tree.specs.declared.branch.Best.{Best}
@@ -18,7 +18,7 @@ use Rattle.border_costs.specs.declared.rows.Rows.{Rows as Answer}
 use Rattle.border_costs.specs.Solutions.{AreRows, AreBest, IsBest}
 use Rattle.one_domain.specs.declared.domain.Chosen.{Chosen}
 use Rattle.one_domain.specs.Domain.{target_seeds, ask_of, ShowsLeast, HasNone, IsChosen, IsBitWhere, IsUnknownVector, HasLabels}
-use Rattle.one_domain.proofs.OneSeed.{segment_least, joins_label, reaching}
+use Rattle.one_domain.proofs.OneSeed.{segment_least, joins_label}
 
 -- the best way is the chosen segment, of least cost
 shows : (g : Rows) (w : Wanted) (seeds : List Seed) (row : Best) → seeds ≡ target_seeds w.target → IsBest g (ask_of g.own w) seeds w.source row →
@@ -48,24 +48,24 @@ pub none_chosen : (g : Rows) (w : Wanted) (rows : Answer) → AreRows g (ask_of 
 none_chosen g w rows are none = go are.best
   where
     go : AreBest g (ask_of g.own w) are.seeds (w.source ∷ []) rows.best → HasNone g w.query w.source w.target
-    go (inl no) = no.0
-    go (inr some) = let bad : some.0 ∷ some.1.0 ≡ [] = sym some.1.1.0 ∙ none in absurd (cc)
+    go (inl none_there) = none_there.0
+    go (inr some) = let bad : some.0 ∷ some.1 ≡ [] = sym some.2 ∙ none in absurd (cc)
 
 pub is_chosen : (g : Rows) (w : Wanted) (rows : Answer) (rest : List Best) (b : Best) → AreRows g (ask_of g.own w) rows → rows.best ≡ rest ++ b ∷ [] →
     ShowsLeast g w.query w.source w.target b.segment b.cost
 is_chosen g w rows rest b are is = go are.best
   where
     go : AreBest g (ask_of g.own w) are.seeds (w.source ∷ []) rows.best → ShowsLeast g w.query w.source w.target b.segment b.cost
-    go (inl no) = absurd (no_row rest b (sym is ∙ no.1))
+    go (inl none_there) = absurd (no_row rest b (sym is ∙ none_there.1))
     go (inr some) =
-        let last : some.1.0 ≡ [] = some.1.1.1.1 in
-        let one : rest ++ b ∷ [] ≡ some.0 ∷ [] = sym is ∙ some.1.1.0 ∙ ap (λ (l : List Best). some.0 ∷ l) last in
+        let last : some.1 ≡ [] = some.4 in
+        let one : rest ++ b ∷ [] ≡ some.0 ∷ [] = sym is ∙ some.2 ∙ ap (λ (l : List Best). some.0 ∷ l) last in
         let same : b ≡ some.0 = one_row rest b some.0 one in
-        subst (λ (row : Best). ShowsLeast g w.query w.source w.target row.segment row.cost) (sym same) (shows g w are.seeds some.0 are.are_seeds.are some.1.1.1.0)
+        subst (λ (row : Best). ShowsLeast g w.query w.source w.target row.segment row.cost) (sym same) (shows g w are.seeds some.0 are.are_seeds.are some.3)
 
 -- a bit stands where an end is not known
 bit_where : (known : Bool) (P : Type 0) (bit : ℕ) → (IsTrue known ↔ P) → IsBitWhere (P → ⊥) bit (cond known 0 bit)
-bit_where true P bit iff = inr (λ no. no (iff.0 refl), refl)
+bit_where true P bit iff = inr (λ not. not (iff.0 refl), refl)
 bit_where false P bit iff = inl (λ p. absurd (let bad : false ≡ true = iff.1 p in cc), refl)
 
 pub unknown : (g : Rows) (w : Wanted) (rows : Answer) (vector : ℕ) → AreRows g (ask_of g.own w) rows → vector ≡ cond rows.source_known 0 4 + cond rows.target_known 0 2 →
@@ -85,3 +85,22 @@ labelled g w rows are = record {
   are_labels = subst (λ (s : List Seed). AreLabels g w.query s are.certificate.labels) are.are_seeds.are are.certificate.are_labels;
   rows = are.certificate.rows;
 }
+
+-- the one best way, if there is one, is the chosen path
+pub chosen_is : (g : Rows) (w : Wanted) (rows : Answer) (o : Option Chosen) → AreRows g (ask_of g.own w) rows →
+    MatchOption o (rows.best ≡ []) (λ c. (rest : List Best) × (b : Best) × (rows.best ≡ rest ++ b ∷ []) × (c.hops ≡ b.segment) × (c.cost ≡ b.cost)) → IsChosen g w o
+chosen_is g w rows None are none = none_chosen g w rows are none
+chosen_is g w rows (Some c) are some = rw (some.3, some.4) (is_chosen g w rows some.0 some.1 are some.2)
+
+pub path_is : (g : Rows) (w : Wanted) (o : Option Chosen) → IsChosen g w o →
+    MatchOption (option_map (λ (c : Chosen). c.hops) o) (HasNone g w.query w.source w.target) (λ addrs. (cost : ℕ) × ShowsLeast g w.query w.source w.target addrs cost)
+path_is g w None is = is
+path_is g w (Some c) is = (c.cost, is)
+
+answered : (g : Rows) (w : Wanted) (c : Chosen) (answer : Reply) → ShowsLeast g w.query w.source w.target c.hops c.cost → IsPathAnswer w.query.metric c answer → IsAnswer g w answer
+answered g w c answer shows is = inl (record { addrs = c.hops; cost = c.cost; shows = shows; word = is.word; value = is.value; is = is.is })
+
+pub answered_if : (g : Rows) (w : Wanted) (c : Chosen) (r : Result Reply NoMemory) → ShowsLeast g w.query w.source w.target c.hops c.cost →
+    IfOk r (IsPathAnswer w.query.metric c) → IfOk r (IsAnswer g w)
+answered_if g w c (Ok answer) shows is = answered g w c answer shows is
+answered_if g w c (Err e) shows is = is

@@ -1,6 +1,5 @@
 -- A reply to a client fits one message.
-use Rattle.std.proofs.Common.{◌≡◌, ◌≤◌, ◌+◌, ◌*◌, inl, inr, ℕ, List, [], ◌∷◌, length, map, arith, refl, sym, ◌∙◌, ap, subst, length-append, Some}
-use Rattle.std.proofs.lemmas.Bool.{cases_lt}
+use Rattle.std.proofs.Common.{◌≡◌, ◌≤◌, ◌+◌, ◌*◌, inl, inr, ℕ, List, [], ◌∷◌, length, arith, refl, ap, length-append, Some}
 use Rattle.std.proofs.lemmas.Bool.Decides.{eqb_tells}
 use Rattle.std.proofs.lemmas.List.{length-map}
 use Rattle.std.proofs.lemmas.List.Concat.{flat_map-cons}
@@ -8,11 +7,8 @@ use Rattle.dom_base.specs.declared.addr.Addr.{Addr}
 use Rattle.dom_base.specs.declared.addr.Addr.TheVariants.{V4, V6}
 use Rattle.dom_base.specs.declared.link.Link.{Link}
 use Rattle.dom_base.specs.declared.query.Query.{Query}
-use Rattle.dom_base.specs.declared.query.Seed.{Seed}
-use Rattle.dom_base.specs.declared.query.Label.{Label}
 use Rattle.te_links.specs.Rows.{Rows, IsTopology}
-use Rattle.walk_laws.specs.Walks.{Walk, IsFeasible}
-use Rattle.walk_laws.specs.Labels.{◌≼◌, Reaches, IsLabel}
+use Rattle.walk_laws.specs.Labels.{IsLabel}
 use Rattle.walk_laws.proofs.Short.{segment_short}
 use Rattle.pcep_subobjects.specs.declared.hop.Hop.{Hop}
 use Rattle.pcep_subobjects.specs.Hops.{hop_text, hops_text}

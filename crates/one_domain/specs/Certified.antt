@@ -1,5 +1,5 @@
 -- The certificate of a request: the least labels of all nodes, and the chosen path.
-use Rattle.std.specs.Prelude.{◌≡◌, ℕ, List, MatchOption}
+use Rattle.std.specs.Prelude.{ℕ, MatchOption}
 use Rattle.te_links.specs.Rows.{Rows}
 use Rattle.pcep_messages.specs.declared.message.Wanted.{Wanted}
 use Rattle.path_certificate.specs.declared.certificate.Certificate.{Certificate}

@@ -1,5 +1,5 @@
 -- The reply to a client in one domain (RFC 5440, section 6.5).
-use Rattle.std.specs.Prelude.{◌≡◌, ◌⊎◌, ℕ, false, List, [], ◌∷◌, ◌++◌, map, Some}
+use Rattle.std.specs.Prelude.{◌≡◌, ◌⊎◌, ℕ, List, [], ◌∷◌, Some}
 use Rattle.dom_base.specs.declared.addr.Addr.{Addr}
 use Rattle.dom_base.specs.declared.query.Metric.{Metric}
 use Rattle.dom_base.specs.declared.query.Metric.TheVariants.{Igp, Te, Hops}

@@ -1,13 +1,23 @@
 //! The certificate of a request.
-ghost use Rattle.std.specs.Prelude.{IfOk};
+ghost use Rattle.std.specs.Prelude.{◌≡◌, IfOk, option_map};
 ghost use Rattle.one_domain.specs.Certified.{IsCertified};
 
-use crate::domain::{DomainPath, search_domain};
-use dom_base::NoMemory;
+use crate::domain::{Chosen, DomainPath, search_domain};
+use dom_base::{Addr, List, NoMemory};
 use path_certificate::Certificate;
 use pcep_messages::Wanted;
 use std::alloc::Global;
 use te_links::Topology;
+
+// The hops of the chosen path, if there is one.
+fn hops_of(chosen: Option<Chosen>) -> Option<List<Addr>>
+    ensures { result ≡ option_map (λ c. c.hops) chosen }
+{
+    match chosen {
+        Some(chosen) => Some(chosen.hops),
+        None => None,
+    }
+}
 
 /// The certificate of a request: the least label of each node, and the chosen path.
 pub fn certificate_of(
@@ -23,9 +33,9 @@ pub fn certificate_of(
         ..
     } = search_domain(alloc, topology, wanted)?;
     let Certificate { own, labels, .. } = certificate;
-    let path = match chosen {
-        Some(chosen) => Some(chosen.hops),
-        None => None,
-    };
-    Ok(Certificate { own, labels, path })
+    Ok(Certificate {
+        own,
+        labels,
+        path: hops_of(chosen),
+    })
 }

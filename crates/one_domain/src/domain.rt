@@ -97,13 +97,12 @@ fn vector_of(source_known: bool, target_known: bool) -> u32
 }
 
 // What the rows of the ask show.
-fn shown(topology: &Topology, wanted: &Wanted, rows: Rows) -> DomainPath
-    requires { AreRows topology.now (ask_of topology.now.own wanted.now) rows }
-    ensures chosen { IsChosen topology.now wanted.now result.chosen }
-    ensures vector { IsUnknownVector topology.now wanted.now.source wanted.now.target result.vector }
-    ensures labels { HasLabels topology.now wanted.now result.certificate }
+fn shown(_topology: &Topology, _wanted: &Wanted, rows: Rows) -> DomainPath
+    requires { AreRows _topology.now (ask_of _topology.now.own _wanted.now) rows }
+    ensures chosen { IsChosen _topology.now _wanted.now result.chosen }
+    ensures vector { IsUnknownVector _topology.now _wanted.now.source _wanted.now.target result.vector }
+    ensures labels { HasLabels _topology.now _wanted.now result.certificate }
 {
-    let _asked = (topology, wanted);
     let Rows {
         best,
         source_known,

@@ -19,9 +19,9 @@ first_and_rest (y ∷ ys) d some = ap (λ zs. y ∷ zs) (sym (take_all (length (
 pub path_told : (g : Rows) (q : Query) (seeds : List Seed) (label : Labelling) (source first : Addr) (fars : List Addr) (a : Label) (r : Option ℕ)
     → label source ≡ Some a → first ≡ source
     → MatchOption r ((k : ℕ) → LeadsOver g q seeds label source a fars k)
-        (λ k. (¬ LeadsOver g q seeds label source a fars k) × ((j : ℕ) → j < k → LeadsOver g q seeds label source a fars j))
+    (λ k. (¬ LeadsOver g q seeds label source a fars k) × ((j : ℕ) → j < k → LeadsOver g q seeds label source a fars j))
     → MatchOption r ((k : ℕ) → PathHoldsAt g q seeds label source (Some (first ∷ fars)) k)
-        (λ k. (¬ PathHoldsAt g q seeds label source (Some (first ∷ fars)) k) × ((j : ℕ) → j < k → PathHoldsAt g q seeds label source (Some (first ∷ fars)) j))
+    (λ k. (¬ PathHoldsAt g q seeds label source (Some (first ∷ fars)) k) × ((j : ℕ) → j < k → PathHoldsAt g q seeds label source (Some (first ∷ fars)) j))
 path_told g q seeds label source first fars a None at begins leads = λ k. (a, at, begins, leads k)
 path_told g q seeds label source first fars a (Some k) at begins stops = (
   λ holds.

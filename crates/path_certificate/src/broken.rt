@@ -1,3 +1,4 @@
+//! A condition that is false.
 use dom_base::Label;
 
 /// A condition that is false, by its place among those of its kind, and the labels that are

@@ -1,3 +1,4 @@
+//! What a certificate claims.
 use dom_base::{Addr, As, Label, List};
 
 /// What is claimed of a domain: a label for each node that is named, and a path from a source, by

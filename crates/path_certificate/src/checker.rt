@@ -1,3 +1,4 @@
+//! The check of a certificate: all conditions, in their order.
 ghost use Rattle.std.specs.Prelude.{◌≡◌, ◌≤◌, ◌↔◌, length};
 ghost use Rattle.walk_laws.specs.Labels.{IsLabel};
 ghost use Rattle.walk_laws.specs.Certificate.{Certifies, PathHolds};

@@ -1,3 +1,4 @@
+//! The first false condition at a link.
 ghost use Rattle.std.specs.Prelude.{◌≡◌, ◌<◌, ℕ, Some, slice_get, length, MatchOption};
 ghost use Rattle.te_links.specs.Rows.{IsTopology, IsInOrder};
 ghost use Rattle.path_certificate.specs.Rows.{label_in, AreRows};

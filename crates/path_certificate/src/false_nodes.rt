@@ -1,3 +1,4 @@
+//! The first false condition at a node.
 ghost use Rattle.std.specs.Prelude.{◌≡◌, ◌<◌, ◌≤◌, ◌⊎◌, ◌↔◌, ℕ, None, length, IsTrue, MatchOption};
 ghost use Rattle.dom_base.specs.Admission.{BarsNode};
 ghost use Rattle.walk_laws.specs.Labels.{EndsAt};

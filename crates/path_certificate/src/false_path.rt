@@ -1,3 +1,4 @@
+//! The first false step of the path.
 ghost use Rattle.std.specs.Prelude.{◌≡◌, ◌<◌, ◌∷◌, ℕ, [], MatchOption};
 ghost use Rattle.te_links.specs.Rows.{IsTopology, IsInOrder};
 ghost use Rattle.path_certificate.specs.Rows.{label_in, AreRows};

@@ -1,3 +1,4 @@
+//! The first false condition at a seed.
 ghost use Rattle.std.specs.Prelude.{◌≡◌, ◌<◌, ◌≤◌, ◌^◌, ◌↔◌, ℕ, Some, slice_get, length, IsTrue, MatchOption};
 ghost use Rattle.walk_laws.specs.Certificate.{SeedHolds};
 ghost use Rattle.path_certificate.specs.Rows.{label_in, AreRows};

@@ -1,3 +1,4 @@
+//! How much a certificate may have.
 /// How many seeds a check may have.
 pub const SEEDS_MAX: usize = 256;
 

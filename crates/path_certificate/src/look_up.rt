@@ -1,3 +1,4 @@
+//! Searches among rows in order: the label of a node, the link of a far address.
 ghost use Rattle.std.specs.Prelude.{◌≡◌, ◌<◌, AllPairs, MatchOption, ℕ};
 ghost use Rattle.dom_base.specs.AddrOrder.{rank};
 ghost use Rattle.path_certificate.specs.Rows.{label_in};

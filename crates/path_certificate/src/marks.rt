@@ -1,3 +1,4 @@
+//! Which nodes have a label that a link makes.
 ghost use Rattle.std.specs.Prelude.{◌≡◌, ◌<◌, ◌≤◌, ℕ, Bool, false, All, length, MatchOption};
 ghost use Rattle.te_links.specs.Rows.{IsTopology};
 ghost use Rattle.path_certificate.specs.Rows.{label_in, AreRows};

@@ -1,3 +1,4 @@
+//! What a link offers the node that it begins at.
 ghost use Rattle.std.specs.Prelude.{◌≡◌, ◌<◌, ◌↔◌, ℕ, length, slice_get, Some, IsTrue, MatchOption};
 ghost use Rattle.te_links.specs.Rows.{IsTopology};
 ghost use Rattle.walk_laws.specs.Walks.{AdmitsNode, AdmitsLink};

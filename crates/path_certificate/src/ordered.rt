@@ -1,3 +1,4 @@
+//! Comparisons of labels and seeds.
 ghost use Rattle.std.specs.Prelude.{◌↔◌, IsTrue};
 ghost use Rattle.walk_laws.specs.Labels.{EndsAt};
 ghost use Rattle.walk_laws.specs.Certificate.{AtMost};

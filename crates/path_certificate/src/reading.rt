@@ -1,3 +1,4 @@
+//! A certificate from its text.
 ghost use Rattle.std.specs.Prelude.{◌≡◌, ◌+◌, ◌≤◌, ◌<◌, ◌^◌, Ok, IfOk, length, nat_le, ℕ};
 ghost use Rattle.dom_base.specs.AddrOrder.{rank};
 ghost use Rattle.std.specs.Str.Lines.{lines as lines_of};

@@ -1,5 +1,7 @@
+//! Certificates that hold, that lie, and texts that are none.
 use crate::{
-    CERTIFICATE_BYTES_MAX, CertError, Place, Verdict, check, read_certificate, write_certificate,
+    CERTIFICATE_BYTES_MAX, CertError, Certificate, Place, Verdict, check, read_certificate,
+    write_certificate,
 };
 use dom_base::{Addr, As, Cost, Label, List, Metric, Query, Seed};
 use line_text::line_count;
@@ -251,5 +253,47 @@ fn writes_what_it_read(rt: HostRuntime) -> Result<(), Fail> {
         let text = write_certificate(rt.alloc(), &certificate)?;
         assert_eq!(rt; text.as_slice(), HONEST);
     }
+    Ok(())
+}
+
+// Nodes and links of both kinds: a path that changes from one kind to the other and back.
+const BOTH_KINDS: &[u8] = b"topology 1
+node 2001:db8:0:0:0:0:0:1
+node 10.0.0.2
+node 2001:DB8:0:0:0:0:0:3
+link 2001:db8:0:0:0:0:0:1 10.0.0.2 10.1.0.1 10.1.0.2 1 5 1000 00000000
+link 10.0.0.2 2001:db8:0:0:0:0:0:3 10.1.0.3 2001:db8:0:0:0:0:1:4 1 10 1000 00000000
+";
+
+const HONEST_OF_BOTH: &[u8] = b"certificate 1
+label 10.0.0.2 10 2001:0db8:0000:0000:0000:0000:0000:0003
+label 2001:0db8:0000:0000:0000:0000:0000:0001 15 2001:0db8:0000:0000:0000:0000:0000:0003
+label 2001:0db8:0000:0000:0000:0000:0000:0003 0 2001:0db8:0000:0000:0000:0000:0000:0003
+path 2001:0db8:0000:0000:0000:0000:0000:0001 10.1.0.2 2001:0db8:0000:0000:0000:0000:0001:0004
+";
+
+fn check_both(alloc: Global, topology: &Topology, certificate: &Certificate) -> Result<bool, Fail> {
+    let last = Addr::V6(0x2001_0DB8_0000_0000_0000_0000_0000_0003);
+    let seed = Seed {
+        node: last,
+        cost: Cost::of(0).ok_or("no cost")?,
+        exit: last,
+    };
+    let source = Addr::V6(0x2001_0DB8_0000_0000_0000_0000_0000_0001);
+    let said = check(topology, &query(alloc, 100)?, &[seed], source, certificate);
+    Ok(said == Verdict::Holds)
+}
+
+#[test]
+fn certifies_addresses_of_both_kinds(rt: HostRuntime) -> Result<(), Fail> {
+    if line_count(BOTH_KINDS) > 20 || HONEST_OF_BOTH.len() > CERTIFICATE_BYTES_MAX {
+        return Err("too long")?;
+    }
+    let topology = read_topology(rt.alloc(), BOTH_KINDS)?;
+    let certificate = read_certificate(rt.alloc(), HONEST_OF_BOTH, &topology)?;
+    let holds = check_both(rt.alloc(), &topology, &certificate)?;
+    assert_eq!(rt; holds, true);
+    let text = write_certificate(rt.alloc(), &certificate)?;
+    assert_eq!(rt; text.as_slice(), HONEST_OF_BOTH);
     Ok(())
 }

@@ -1,3 +1,4 @@
+//! One line of a certificate.
 ghost use Rattle.std.specs.Prelude.{◌≡◌, ◌==◌, Some, None, MatchOption, length};
 ghost use Rattle.dom_base.specs.AddrText.{addr_in};
 ghost use Rattle.te_text.specs.RowText.{first};

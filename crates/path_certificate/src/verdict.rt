@@ -1,3 +1,4 @@
+//! What a check says.
 use dom_base::Label;
 use std::fmt::{self, Display, Formatter, Write};
 

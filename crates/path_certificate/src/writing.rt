@@ -1,3 +1,4 @@
+//! The text of a certificate.
 ghost use Rattle.std.specs.Prelude.{◌≡◌, ◌≢◌, ◌++◌, ◌∷◌, [], ℕ, Some, Ok, None, IfOk, OnOk, All, map};
 ghost use Rattle.dom_base.specs.AddrText.{addr_in, addr_text};
 ghost use Rattle.line_text.specs.Spelling.{line_text};

@@ -75,14 +75,23 @@ fn copy_of_excluded(alloc: Global, what: &Excluded) -> Result<Excluded, NoMemory
     })
 }
 
-fn copies_of_demands(alloc: Global, list: &[Exclusion]) -> Result<List<Exclusion>, NoMemory>
+/// The same exclusion in memory of its own.
+pub fn copy_of(alloc: Global, exclusion: &Exclusion) -> Result<Exclusion, NoMemory>
+    ensures { IfOk result (λ copy. copy ≡ exclusion.now) }
+{
+    let avoid = exclusion.avoid;
+    let what = copy_of_excluded(alloc, &exclusion.what)?;
+    Ok(Exclusion { avoid, what })
+}
+
+/// The exclusions that are demands, copied in their order, supported or not.
+pub fn copies_of_demands(alloc: Global, list: &[Exclusion]) -> Result<List<Exclusion>, NoMemory>
     ensures { IfOk result (λ kept. kept ≡ demands list.now) }
 {
     let mut kept = List::new(alloc);
     for exclusion in list {
         if !exclusion.avoid {
-            let what = copy_of_excluded(alloc, &exclusion.what)?;
-            kept.push(Exclusion { avoid: false, what })?;
+            kept.push(copy_of(alloc, exclusion)?)?;
         }
     }
     Ok(kept)

@@ -1,3 +1,4 @@
+//! The search: its arcs, its starts, and their relaxation to the least labels.
 ghost use Rattle.std.specs.Prelude.{◌≡◌, ◌<◌, ◌≤◌, ◌+◌, [], length, IfOk, MatchOption};
 ghost use Rattle.path_search.specs.Search.{IsArcOf, IsNoArc, AreArcs, AreLabels};
 

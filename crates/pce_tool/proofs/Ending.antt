@@ -53,7 +53,7 @@ certificate_ends w topology certificate g has nothing (status.BadNetwork file li
     told : (files : Option Files) → IfFile files certificate (λ bytes. certificate_in g bytes ≡ Err (At line fault)) →
         IfFile files certificate (λ bytes. (h : Rows) × HasTopology w.files topology h × (certificate_in h bytes ≡ Err (At line fault)))
     told None h = tt
-    told (Some fs) h = (h.0, (h.1.0, (g, (has, h.1.1))))
+    told (Some fs) h = (h.0, h.1, (g, has, h.2))
 certificate_ends w topology certificate g has nothing status.NoMemory why = nothing
 certificate_ends w topology certificate g has nothing (status.BadRequest reason) why = absurd why
 certificate_ends w topology certificate g has nothing (status.Refuted place) why = absurd why
@@ -71,7 +71,7 @@ input_ends w c g read has nothing status.NoMemory is = nothing
 input_ends w c g read has nothing (status.BadRequest why) is =
     (nothing, record { read = read; topology = g; is_topology = has; bytes = is.0; is_input = is.1; within = is.2; is_why = is.3 })
 input_ends w c g read has nothing (status.Refuted place) is = absurd is
-input_ends w c g read has nothing (status.TooLarge name) is = (nothing, inr (read, is))
+input_ends w c g read has nothing (status.TooLarge name) is = (nothing, inr (read, is.0, is.1))
 
 -- the text was there to be written
 pub finished : (w : World) (c : Command) (text : List ℕ) → IsOutput w c text → (s : Status) → IsFinished w.before w.after w.output_faults text s → Ends w c s

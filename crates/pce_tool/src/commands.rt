@@ -1,10 +1,5 @@
 //! The commands, one a file.
 
-mod answer;
-mod certify;
-mod verify;
-
-pub(crate) use answer::answer;
-pub use answer::reply_text;
-pub(crate) use certify::certify;
-pub(crate) use verify::verify;
+pub(crate) mod answer;
+pub(crate) mod certify;
+pub(crate) mod verify;

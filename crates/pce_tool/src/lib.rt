@@ -7,15 +7,15 @@ mod input;
 mod limits;
 mod output;
 mod reading;
-mod run;
 mod status;
+mod top;
 
-pub use commands::reply_text;
+pub use commands::answer::reply_text;
 pub use files::{load_certificate, load_topology};
 pub use limits::{CERTIFICATE_MAX, INPUT_MAX, TOPOLOGY_MAX};
 pub use reading::{RequestError, Why, read_path_request};
-pub use run::run;
 pub use status::{NetFault, Status};
+pub use top::run;
 
 #[cfg(test)]
 mod tests;

@@ -1,5 +1,5 @@
 -- What a piece leads to, as a function and as a relation.
-use Rattle.std.proofs.Common.{◌≡◌, ◌≤◌, ◌<◌, ◌%◌, ℕ, zero, suc, Bool, true, false, not, cond, ◌==◌, ◌&&◌, nat_le, nat_lt, List, [], ◌∷◌, ◌++◌, length, take, drop, sym, ◌∙◌, ap, subst, inl, inr, refl, arith, append_assoc, length-append, length-drop, length-take, ◌+◌}
+use Rattle.std.proofs.Common.{◌≡◌, ◌≤◌, ◌%◌, ℕ, zero, suc, Bool, true, false, not, cond, ◌==◌, ◌&&◌, nat_le, nat_lt, List, [], ◌++◌, length, take, drop, sym, ◌∙◌, ap, subst, inl, inr, refl, arith, append_assoc, length-append, length-drop, length-take, ◌+◌}
 use Rattle.std.proofs.lemmas.List.{take-append-drop}
 use Rattle.std.proofs.lemmas.Bool.{leb-true, eqb-true, le-leb, eq-eqb, ltb-true, ltb-false, and_parts, and_from}
 use Rattle.pcep_framing.specs.Frames.{Framing, IsHead, version_of, length_field, joined, Splits, FeedsBy, FeedsTo}
@@ -90,5 +90,5 @@ pub feeds_as_said : FeedsAsSaid
 feeds_as_said framing new piece frames = (
   feed_is framing new piece frames,
   λ (same : (frames ≡ (feed_of framing piece).frames) × (new ≡ (feed_of framing piece).framing)).
-  subst (λ (ms : List (List ℕ)). FeedsTo framing piece ms new) (sym same.0) (subst (λ (f : Framing). FeedsTo framing piece (feed_of framing piece).frames f) (sym same.1) (feed_feeds framing piece)),
+      subst (λ (ms : List (List ℕ)). FeedsTo framing piece ms new) (sym same.0) (subst (λ (f : Framing). FeedsTo framing piece (feed_of framing piece).frames f) (sym same.1) (feed_feeds framing piece)),
 )

@@ -7,3 +7,4 @@ pub mod MessageLaws
 pub mod RefusalLaws
 pub mod RoomLaws
 pub mod Frames
+pub mod MessageOctets

@@ -1,5 +1,5 @@
 -- A message: version, flags, type and length, and objects (RFC 5440, 6.1).
-use Rattle.std.specs.Prelude.{◌≡◌, ℕ, ◌+◌, ◌*◌, ◌/◌, List, ◌∷◌, length, map, Option, Some, None, Result, Ok, Err, IsErr, nat_le, ◌==◌, ◌&&◌, if◌then◌else◌}
+use Rattle.std.specs.Prelude.{◌≡◌, ℕ, ◌+◌, ◌*◌, ◌/◌, List, ◌∷◌, length, map, Option, Some, None, Result, Ok, Err, IsOk, nat_le, ◌==◌, ◌&&◌, if◌then◌else◌}
 use Rattle.std.specs.List.{filter_map}
 use Rattle.dom_base.specs.Parts.{Reader, parts_from}
 use Rattle.pcep_objects.specs.declared.object.Body.{Body}
@@ -38,9 +38,13 @@ abbrev pub of_its_kind : {X : Type 0} → (X → Message) → Option X → Resul
 of_its_kind message (Some x) others = alone (message x) others
 of_its_kind message None others = Err (Malformed 4)
 
+-- what the first object says
+abbrev pub said_at_first : {X : Type 0} → (Body → Option X) → Result (Object × ℕ) (ℕ → ObjectFault) → Option X
+said_at_first what (Ok x) = what x.0.body
+said_at_first what (Err fault) = None
+
 abbrev pub made_by_first : {X : Type 0} → (Body → Option X) → (X → Message) → Result (Object × ℕ) (ℕ → ObjectFault) → Result (List Object) Bad → Result Message Bad
-made_by_first what message (Ok x) all = of_its_kind message (what x.0.body) all
-made_by_first what message (Err fault) all = Err (Malformed 4)
+made_by_first what message first all = of_its_kind message (said_at_first what first) all
 
 -- a message that all its objects make
 abbrev pub made_of : ℕ → List Object → Message
@@ -73,20 +77,13 @@ message_of _ = Err (Malformed 0)
 abbrev pub Reads : List ℕ → Message → Type 0
 Reads frame m = message_of frame ≡ Ok m
 
--- What a call answered is what is read, unless memory ran out.
+-- What a call answered is what is read. Want of memory is told only where there is no fault.
 abbrev pub Gives : {X : Type 0} → Result X Bad → Result X Bad → Type 0
 Gives (Ok x) read = read ≡ Ok x
-Gives (Err NoMemory) read = Unit {0}
+Gives (Err NoMemory) read = IsOk read
 Gives (Err (Malformed place)) read = read ≡ Err (Malformed place)
 
--- The same of the object at the front of what is left from a place on.
-abbrev pub GivesAt : {X : Type 0} → ℕ → Result X Bad → Result X (ℕ → Bad) → Type 0
-GivesAt place (Ok x) read = read ≡ Ok x
-GivesAt place (Err NoMemory) read = Unit {0}
-GivesAt place (Err (Malformed p)) read = (p ≡ place) × (read ≡ Err Malformed)
-
--- The same of the object that a message has to begin with.
-abbrev pub GivesFirst : Result (Object × ℕ) Bad → Result (Object × ℕ) (ℕ → ObjectFault) → Type 0
-GivesFirst (Ok x) read = read ≡ Ok x
-GivesFirst (Err NoMemory) read = Unit {0}
-GivesFirst (Err (Malformed place)) read = (place ≡ 4) × IsErr read
+-- The place of the first object at fault, if one is.
+abbrev pub NamesFault : Option ℕ → Result (List Object) Bad → Type 0
+NamesFault None read = IsOk read
+NamesFault (Some place) read = read ≡ Err (Malformed place)

@@ -1,5 +1,7 @@
 -- What a request that is not refused asks for: a path, or what a path key stands for.
-use Rattle.std.specs.Prelude.{◌≡◌, ℕ, Bool, true, false, min, List, [], ◌∷◌, map, Option, Some, None, Result, Ok, Err, unwrap_or, ◌==◌, if◌then◌else◌}
+use Rattle.std.specs.Prelude.{◌≡◌, ℕ, Bool, min, List, [], ◌∷◌, map, Option, Some, None, Result, Ok, Err, unwrap_or, ◌==◌, if◌then◌else◌}
+use Rattle.std.specs.Option.{option_map}
+use Rattle.dom_base.specs.declared.addr.Addr.{Addr}
 use Rattle.dom_base.specs.declared.names.As.{As}
 use Rattle.dom_base.specs.declared.query.Metric.{Metric}
 use Rattle.dom_base.specs.declared.query.Metric.TheVariants as metrics
@@ -68,25 +70,29 @@ abbrev pub sequence_of : Option (List Hop) → List As
 sequence_of None = []
 sequence_of (Some route) = map (λ n. record { 0 = n }) (domains route)
 
--- a path between the END-POINTS, under the query, with the words that it was asked in
-pub record IsWanted (own : ℕ) (os : List Object) (w : Wanted) : Type 0 where
-  pub ends : without_bit (end_points_of own os) ≡ Some (w.source, w.target)
-  pub query : w.query ≡ query_of own os
-  pub bandwidth : w.bandwidth_word ≡ bandwidth_of os
-  pub bound : w.bound_word ≡ bound_of (metrics_of os)
-  pub colours : w.masks ≡ masks_of os
-  pub sequence : w.sequence ≡ sequence_of (iro_of os)
+-- a path between two ends, under the query, with the words that it was asked in
+abbrev pub wanted_of : ℕ → List Object → Addr × Addr → Wanted
+wanted_of own os ends = record {
+  source = ends.0;
+  target = ends.1;
+  query = query_of own os;
+  bandwidth_word = bandwidth_of os;
+  bound_word = bound_of (metrics_of os);
+  masks = masks_of os;
+  sequence = sequence_of (iro_of os);
+}
 
--- the flag of path keys decides
-abbrev pub IsWish : ℕ → List Object → Wish → Type 0
-IsWish own os (wishes.Path w) = (asks_key (rp_of os) ≡ false) × IsWanted own os w
-IsWish own os (wishes.Expand key pce) = (asks_key (rp_of os) ≡ true) × (key_of os ≡ Some (key, pce))
+-- what is asked for: the flag of path keys decides
+abbrev pub wish_of : ℕ → List Object → Option Wish
+wish_of own os =
+    if asks_key (rp_of os) then option_map (λ (k : ℕ × Addr). wishes.Expand k.0 k.1) (key_of os)
+    else option_map (λ (ends : Addr × Addr). wishes.Path (wanted_of own os ends)) (without_bit (end_points_of own os))
 
 -- the objects of a request that is not refused ask for this
 pub record Asks (own : ℕ) (os : List Object) (r : Request) : Type 0 where
   pub accepted : refusal_of own os ≡ None
   pub rp : without_bit (rp_of os) ≡ Some (r.flags, r.id)
-  pub wish : IsWish own os r.wish
+  pub wish : wish_of own os ≡ Some r.wish
 
 -- What a call answered: what the objects ask for, or the first error with what the RP says, unless memory ran out.
 abbrev pub Answers : ℕ → List Object → Result Request Refusal → Type 0

@@ -3,6 +3,7 @@
 use Rattle.std.specs.Prelude.{◌≡◌, ℕ, ◌+◌, ◌≤◌, true, false, List, [], ◌∷◌, ◌++◌, length, map, Option, Some, None, IsSome}
 use Rattle.std.specs.List.{flat_map, AllByRecursion, list_any}
 use Rattle.std.specs.Int.{w16, to_be_bytes}
+use Rattle.pcep_subobjects.specs.Subobjects.{AreOctets}
 use Rattle.pcep_objects.specs.declared.object.Body.{Body}
 use Rattle.pcep_objects.specs.declared.object.Body.TheVariants as bodies
 use Rattle.pcep_objects.specs.declared.object.Object.{Object}
@@ -139,3 +140,7 @@ WrittenIsRead = (m : Message) → IsWritten m → Reads (message_text m) m
 -- The text of no message begins that of another.
 abbrev pub NoneBeginsAnother : Type 0
 NoneBeginsAnother = (x y : Message) (rest : List ℕ) → IsWritten x → IsWritten y → message_text x ++ rest ≡ message_text y → x ≡ y
+
+-- What is written is octets.
+abbrev pub WrittenIsOctets : Type 0
+WrittenIsOctets = (m : Message) → IsWritten m → AreOctets (message_text m)

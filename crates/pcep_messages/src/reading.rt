@@ -1,26 +1,26 @@
+//! Octets as messages.
 ghost use Rattle.std.specs.Prelude.{◌≡◌, ◌≤◌, length, IfOk};
-ghost use Rattle.pcep_messages.specs.Messages.{Gives, GivesFirst, content_of, message_of, made_by_first, made_of, members_of, close_in};
+ghost use Rattle.pcep_messages.specs.Messages.{Gives, content_of, message_of, made_by_first, made_by_all, made_of, members_of, close_in, said_at_first};
 ghost use Rattle.pcep_objects.specs.Objects.{object_at};
-ghost use Rattle.pcep_messages.specs.Spelling.{WrittenIsRead, NoneBeginsAnother};
+ghost use Rattle.pcep_messages.specs.Spelling.{WrittenIsRead, WrittenIsOctets, NoneBeginsAnother};
 ghost use Rattle.pcep_messages.specs.Groups.{opening_in, report_groups};
 ghost use Rattle.pcep_messages.specs.declared.message.Message.TheVariants as messages;
 
 use crate::answers::{notices, replies, reports, requests};
 use crate::groups::{Closer, cut_groups, opening};
 use crate::message::{Bad, Message};
-use crate::objects::read_members;
+use crate::objects::{fault_of_members, read_members};
 use dom_base::{List, NoMemory};
-use pcep_objects::{Body, Object, ObjectFault, read_object};
+use pcep_objects::{Body, Object, OpenBody, read_object};
 use std::alloc::Global;
 
-/// The first object of a message that it has to begin with.
-fn first_object(alloc: Global, bytes: &[u8]) -> Result<(Object, usize), Bad>
-    ensures { GivesFirst result (object_at bytes.now) }
+/// What an OPEN says that a message begins with.
+fn opening_at(alloc: Global, bytes: &[u8]) -> Option<OpenBody>
+    ensures { result ≡ said_at_first opening_in (object_at bytes.now) }
 {
     match read_object(alloc, bytes) {
-        Ok(found) => Ok(found),
-        Err(ObjectFault::NoMemory) => Err(Bad::NoMemory),
-        Err(_) => Err(Bad::Malformed(4)),
+        Ok((first, _len)) => opening(&first),
+        Err(_) => None,
     }
 }
 
@@ -28,12 +28,13 @@ fn open(alloc: Global, bytes: &[u8]) -> Result<Message, Bad>
     requires { length bytes.now ≤ 65536 }
     ensures { Gives result (made_by_first opening_in messages.Open (object_at bytes.now) (members_of bytes.now)) }
 {
-    let (first, _) = first_object(alloc, bytes)?;
-    let Some(found) = opening(&first) else {
+    let Some(found) = opening_at(alloc, bytes) else {
         return Err(Bad::Malformed(4));
     };
-    let _ = read_members(alloc, bytes)?;
-    Ok(Message::Open(found))
+    match fault_of_members(bytes) {
+        Some(place) => Err(Bad::Malformed(place)),
+        None => Ok(Message::Open(found)),
+    }
 }
 
 fn close_reason(object: &Object) -> Option<u8>
@@ -45,16 +46,37 @@ fn close_reason(object: &Object) -> Option<u8>
     }
 }
 
+/// The reason in a CLOSE that a message begins with.
+fn reason_at(alloc: Global, bytes: &[u8]) -> Option<u8>
+    ensures { result ≡ said_at_first close_in (object_at bytes.now) }
+{
+    match read_object(alloc, bytes) {
+        Ok((first, _len)) => close_reason(&first),
+        Err(_) => None,
+    }
+}
+
 fn close(alloc: Global, bytes: &[u8]) -> Result<Message, Bad>
     requires { length bytes.now ≤ 65536 }
     ensures { Gives result (made_by_first close_in messages.Close (object_at bytes.now) (members_of bytes.now)) }
 {
-    let (first, _) = first_object(alloc, bytes)?;
-    let Some(reason) = close_reason(&first) else {
+    let Some(reason) = reason_at(alloc, bytes) else {
         return Err(Bad::Malformed(4));
     };
-    let _ = read_members(alloc, bytes)?;
-    Ok(Message::Close(reason))
+    match fault_of_members(bytes) {
+        Some(place) => Err(Bad::Malformed(place)),
+        None => Ok(Message::Close(reason)),
+    }
+}
+
+fn keepalive(bytes: &[u8]) -> Result<Message, Bad>
+    requires { length bytes.now ≤ 65536 }
+    ensures { Gives result (made_by_all 2 (members_of bytes.now)) }
+{
+    match fault_of_members(bytes) {
+        Some(place) => Err(Bad::Malformed(place)),
+        None => Ok(Message::Keepalive),
+    }
 }
 
 fn groups_of_reports(alloc: Global, objects: List<Object>) -> Result<List<List<Object>>, NoMemory>
@@ -91,23 +113,33 @@ fn made(alloc: Global, kind: u8, objects: List<Object>) -> Result<Message, NoMem
     }
 }
 
+fn made_by_members(alloc: Global, kind: u8, bytes: &[u8]) -> Result<Message, Bad>
+    requires { length bytes.now ≤ 65536 }
+    ensures { Gives result (made_by_all kind (members_of bytes.now)) }
+{
+    match read_members(alloc, bytes) {
+        Ok(objects) => Ok(made(alloc, kind, objects)?),
+        Err(Bad::Malformed(place)) => Err(Bad::Malformed(place)),
+        Err(Bad::NoMemory) => Err(Bad::NoMemory),
+    }
+}
+
 fn content(alloc: Global, kind: u8, bytes: &[u8]) -> Result<Message, Bad>
     requires { length bytes.now ≤ 65536 }
     ensures { Gives result (content_of kind bytes.now) }
 {
     match kind {
         1 => open(alloc, bytes),
+        2 => keepalive(bytes),
+        3..=6 => made_by_members(alloc, kind, bytes),
         7 => close(alloc, bytes),
-        2..=6 => {
-            let objects = read_members(alloc, bytes)?;
-            Ok(made(alloc, kind, objects)?)
-        }
         _ => Ok(Message::Other(kind)),
     }
 }
 
 /// The message that a frame is (RFC 5440, section 6), or the place at fault. Reserved bits, message
-/// flags and the I bit are not read, and of a frame of another type no more than the header.
+/// flags and the I bit are not read, and of a frame of another type no more than the header. A fault
+/// is told even where there is no memory.
 pub fn read_message(alloc: Global, frame: &[u8]) -> Result<Message, Bad>
     ensures { Gives result (message_of frame.now) }
 {
@@ -131,4 +163,9 @@ pub fn messages_are_read_again()
 /// The text of no message in written form begins that of another.
 pub fn no_message_begins_another()
     ensures { NoneBeginsAnother }
+{}
+
+/// The text of a message in written form is octets.
+pub fn messages_are_octets()
+    ensures { WrittenIsOctets }
 {}

@@ -1,14 +1,14 @@
 //! Why a request is refused.
 
-ghost use Rattle.std.specs.Prelude.{◌≡◌, None, not, if◌then◌else◌};
+ghost use Rattle.std.specs.Prelude.{◌≡◌, None, Some, MatchResult, not, true, if◌then◌else◌};
 ghost use Rattle.std.specs.List.{list_all};
-ghost use Rattle.pcep_messages.specs.Said.{asks_key, iro_of, xro_of};
-ghost use Rattle.pcep_messages.specs.Refusals.{unsupported, unsupported_among, among, are_measures, can_exclude, domain_in, domains, is_domain, has_twice, begins_with, can_follow, first_of, request_rules, key_rules, path_rules, refusal_of};
+ghost use Rattle.pcep_messages.specs.Said.{asks_key, end_points_of, iro_of, key_of, rp_of, xro_of};
+ghost use Rattle.pcep_messages.specs.Refusals.{unsupported, unsupported_among, among, are_measures, can_exclude, domain_in, domains, is_domain, has_twice, begins_with, can_follow, first_of, request_rules, key_rules, path_rules};
 
 use crate::said::{
     are_of_type, count_bounds, count_minimised, find_end_points, find_key, find_rp, metric_type,
 };
-use dom_base::As;
+use dom_base::{Addr, As};
 use path_exclusions::find_unsupported;
 use pcep_objects::{Body, Object};
 use pcep_subobjects::Hop;
@@ -55,32 +55,38 @@ fn find_unsupported_object(objects: &[Object], own: As) -> Option<(u8, u8)>
     None
 }
 
-fn request_error(objects: &[Object], own: As) -> Option<(u8, u8)>
-    ensures { result ≡ first_of (request_rules own.0 objects.now) }
+/// The flags and the number of a request, or the error that it is answered with whatever it asks for.
+pub fn find_request(objects: &[Object], own: As) -> Result<(u32, u32), (u8, u8)>
+    ensures { MatchResult result
+        (λ rp. (first_of (request_rules own.0 objects.now) ≡ None) × (rp_of objects.now ≡ Some (rp, true)))
+        (λ e. first_of (request_rules own.0 objects.now) ≡ Some e) }
 {
     if let Some(error) = find_unsupported_object(objects, own) {
-        return Some(error);
+        return Err(error);
     }
     match find_rp(objects) {
-        None => Some((6, 1)),
-        Some((_, false)) => Some((10, 1)),
-        Some(((_, 0), true)) => Some((4, 4)),
-        Some(((flags, _), true)) => {
+        None => Err((6, 1)),
+        Some((_, false)) => Err((10, 1)),
+        Some(((_, 0), true)) => Err((4, 4)),
+        Some(((flags, id), true)) => {
             if flags & 0x18 == 0 {
-                None
+                Ok((flags, id))
             } else {
-                Some((4, 4))
+                Err((4, 4))
             }
         }
     }
 }
 
-fn key_error(objects: &[Object]) -> Option<(u8, u8)>
-    ensures { result ≡ first_of (key_rules objects.now) }
+/// The path key that is asked for, and the element that keeps it, or the error.
+pub fn find_asked_key(objects: &[Object]) -> Result<(u16, Addr), (u8, u8)>
+    ensures { MatchResult result
+        (λ k. (first_of (key_rules objects.now) ≡ None) × (key_of objects.now ≡ Some k))
+        (λ e. first_of (key_rules objects.now) ≡ Some e) }
 {
     match find_key(objects) {
-        Some(_) => None,
-        None => Some((4, 4)),
+        Some(key) => Ok(key),
+        None => Err((4, 4)),
     }
 }
 
@@ -179,17 +185,20 @@ fn follows(objects: &[Object], own: As) -> bool
     true
 }
 
-fn path_error(objects: &[Object], own: As) -> Option<(u8, u8)>
-    ensures { result ≡ first_of (path_rules own.0 objects.now) }
+/// The ends of the path that is asked for, or the error.
+pub fn find_ends(objects: &[Object], own: As) -> Result<(Addr, Addr), (u8, u8)>
+    ensures { MatchResult result
+        (λ ends. (first_of (path_rules own.0 objects.now) ≡ None) × (end_points_of own.0 objects.now ≡ Some (ends, true)))
+        (λ e. first_of (path_rules own.0 objects.now) ≡ Some e) }
 {
     match find_end_points(objects, own) {
-        None => Some((6, 3)),
-        Some((_, false)) => Some((10, 1)),
-        Some((_, true)) => {
+        None => Err((6, 3)),
+        Some((_, false)) => Err((10, 1)),
+        Some((ends, true)) => {
             if measures(objects) && excludes(objects) && follows(objects, own) {
-                None
+                Ok(ends)
             } else {
-                Some((4, 4))
+                Err((4, 4))
             }
         }
     }
@@ -202,19 +211,5 @@ pub fn asks_for_key(rp: Option<((u32, u32), bool)>) -> bool
     match rp {
         None => false,
         Some(((flags, _), _)) => flags & 0x100 != 0,
-    }
-}
-
-/// The type and value of the error that a request is answered with.
-pub fn refusal(objects: &[Object], own: As) -> Option<(u8, u8)>
-    ensures { result ≡ refusal_of own.0 objects.now }
-{
-    if let Some(error) = request_error(objects, own) {
-        return Some(error);
-    }
-    if asks_for_key(find_rp(objects)) {
-        key_error(objects)
-    } else {
-        path_error(objects, own)
     }
 }

@@ -1,21 +1,18 @@
 //! What a request asks for, or why it is refused.
 
-ghost use Rattle.std.specs.Prelude.{◌≡◌, IfOk, None, Some, true};
-ghost use Rattle.path_exclusions.specs.Support as exclusion_words;
-ghost use Rattle.pcep_messages.specs.Said.{end_points_of, iro_of, xro_of};
-ghost use Rattle.pcep_messages.specs.Refusals.{refusal_of, can_exclude};
-ghost use Rattle.pcep_messages.specs.Requests.{Answers, IsWanted, IsWish, bound_of, cap_of, demands_of, metric_of_type, query_of, sequence_of, units_of, without_bit};
+ghost use Rattle.std.specs.Prelude.{◌≡◌, IfOk, None, Some, true, false};
+ghost use Rattle.pcep_messages.specs.Said.{asks_key, iro_of, rp_of, xro_of};
+ghost use Rattle.pcep_messages.specs.Refusals.{first_of, request_rules};
+ghost use Rattle.pcep_messages.specs.Requests.{Answers, bound_of, cap_of, demands_of, metric_of_type, query_of, sequence_of, units_of, wanted_of, without_bit};
 
 use crate::message::{Asked, Refusal, Request, Wanted, Wish};
-use crate::refusing::{asks_for_key, domain, refusal};
-use crate::said::{
-    find_bandwidth, find_bound, find_end_points, find_key, find_masks, find_rp, metric_type,
-};
+use crate::refusing::{asks_for_key, domain, find_asked_key, find_ends, find_request};
+use crate::said::{find_bandwidth, find_bound, find_masks, find_rp, metric_type};
 use dom_base::{
     Addr, As, COST_MAX, Cost, Exclusion, List, Metric, NoMemory, Query, units_of_word,
     whole_of_word,
 };
-use path_exclusions::{ExclusionError, supported};
+use path_exclusions::copies_of_demands;
 use pcep_objects::{Body, Object};
 use pcep_subobjects::Hop;
 use std::alloc::Global;
@@ -37,10 +34,7 @@ fn cap(bound: Option<u32>) -> Cost
         Some(word) => whole_of_word(word).unwrap_or(0),
         None => COST_MAX,
     };
-    match Cost::of(most.min(COST_MAX)) {
-        Some(cost) => cost,
-        None => unreachable!(),
-    }
+    Cost::of(most.min(COST_MAX)).unwrap()
 }
 
 fn units(word: Option<u32>) -> u64
@@ -52,25 +46,12 @@ fn units(word: Option<u32>) -> u64
     }
 }
 
-fn demands(alloc: Global, list: &[Exclusion]) -> Result<List<Exclusion>, NoMemory>
-    requires { exclusion_words.first_unsupported list.now ≡ None }
-    ensures { IfOk result (λ kept. kept ≡ exclusion_words.demands list.now) }
-{
-    match supported(alloc, list) {
-        Ok(kept) => Ok(kept),
-        Err(ExclusionError::NoMemory) => Err(NoMemory),
-        Err(ExclusionError::Unsupported(_)) => unreachable!(),
-    }
-}
-
-#[tactic(auto, using(crate::proofs::RefusalLaws::accepted_list))]
 fn exclusions(alloc: Global, objects: &[Object]) -> Result<List<Exclusion>, NoMemory>
-    requires { can_exclude (xro_of objects.now) ≡ true }
     ensures { IfOk result (λ kept. kept ≡ demands_of (xro_of objects.now)) }
 {
     for object in objects {
         if let Body::Xro(list) = &object.body {
-            return demands(alloc, list.as_slice());
+            return copies_of_demands(alloc, list.as_slice());
         }
     }
     Ok(List::new(alloc))
@@ -101,7 +82,6 @@ fn sequence(alloc: Global, objects: &[Object]) -> Result<List<As>, NoMemory>
 }
 
 fn query(alloc: Global, objects: &[Object], own: As) -> Result<Query, NoMemory>
-    requires { can_exclude (xro_of objects.now) ≡ true }
     ensures { IfOk result (λ query. query ≡ query_of own.0 objects.now) }
 {
     let exclusions = exclusions(alloc, objects)?;
@@ -124,9 +104,7 @@ fn wanted(
     own: As,
     ends: (Addr, Addr),
 ) -> Result<Wanted, NoMemory>
-    requires ends { without_bit (end_points_of own.0 objects.now) ≡ Some ends }
-    requires exclusions { can_exclude (xro_of objects.now) ≡ true }
-    ensures { IfOk result (λ wanted. IsWanted own.0 objects.now wanted) }
+    ensures { IfOk result (λ wanted. wanted ≡ wanted_of own.0 objects.now ends) }
 {
     let query = query(alloc, objects, own)?;
     let sequence = sequence(alloc, objects)?;
@@ -142,37 +120,80 @@ fn wanted(
     })
 }
 
-fn wish(alloc: Global, objects: &[Object], own: As) -> Result<Wish, NoMemory>
-    requires { refusal_of own.0 objects.now ≡ None }
-    ensures { IfOk result (λ wish. IsWish own.0 objects.now wish) }
+fn refused(objects: &[Object], error: (u8, u8)) -> Refusal
+    ensures { result ≡ Refusal.Wire (without_bit (rp_of objects.now)) error.0 error.1 }
 {
-    if asks_for_key(find_rp(objects)) {
-        match find_key(objects) {
-            Some((key, pce)) => Ok(Wish::Expand { key, pce }),
-            None => unreachable!(),
-        }
-    } else {
-        match find_end_points(objects, own) {
-            Some((ends, _)) => Ok(Wish::Path(wanted(alloc, objects, own, ends)?)),
-            None => unreachable!(),
-        }
+    let rp = match find_rp(objects) {
+        Some((rp, _must)) => Some(rp),
+        None => None,
+    };
+    Refusal::Wire {
+        rp,
+        kind: error.0,
+        value: error.1,
+    }
+}
+
+/// What a request for a path key's segment asks for.
+#[tactic(auto, using(crate::proofs::RefusalLaws::key_decides))]
+fn key_request(objects: &[Object], own: As, rp: (u32, u32)) -> Result<Request, Refusal>
+    requires rules { first_of (request_rules own.0 objects.now) ≡ None }
+    requires rp { rp_of objects.now ≡ Some (rp, true) }
+    requires key { asks_key (rp_of objects.now) ≡ true }
+    ensures { Answers own.0 objects.now result }
+{
+    match find_asked_key(objects) {
+        Ok((key, pce)) => Ok(Request {
+            flags: rp.0,
+            id: rp.1,
+            wish: Wish::Expand { key, pce },
+        }),
+        Err(error) => Err(refused(objects, error)),
+    }
+}
+
+/// What a request for a path asks for.
+#[tactic(auto, using(crate::proofs::RefusalLaws::path_decides))]
+fn path_request(
+    alloc: Global,
+    objects: &[Object],
+    own: As,
+    rp: (u32, u32),
+) -> Result<Request, Refusal>
+    requires rules { first_of (request_rules own.0 objects.now) ≡ None }
+    requires rp { rp_of objects.now ≡ Some (rp, true) }
+    requires key { asks_key (rp_of objects.now) ≡ false }
+    ensures { Answers own.0 objects.now result }
+{
+    match find_ends(objects, own) {
+        Ok(ends) => match wanted(alloc, objects, own, ends) {
+            Ok(wanted) => Ok(Request {
+                flags: rp.0,
+                id: rp.1,
+                wish: Wish::Path(wanted),
+            }),
+            Err(NoMemory) => Err(Refusal::NoMemory),
+        },
+        Err(error) => Err(refused(objects, error)),
     }
 }
 
 /// What a request asks the element of the domain `own` for, or the error that it is answered with,
 /// with the flags and the number of its RP where it has one. At the parent, whose number is 0, no
 /// IRO is accepted.
+#[tactic(auto, using(crate::proofs::RefusalLaws::refused_at_once))]
 pub fn request_of(alloc: Global, asked: &Asked, own: As) -> Result<Request, Refusal>
     ensures { Answers own.0 asked.now.objects result }
 {
     let objects = asked.objects.as_slice();
-    let rp = find_rp(objects).map(|found| found.0);
-    if let Some((kind, value)) = refusal(objects, own) {
-        return Err(Refusal::Wire { rp, kind, value });
+    match find_request(objects, own) {
+        Ok(rp) => {
+            if asks_for_key(Some((rp, true))) {
+                key_request(objects, own, rp)
+            } else {
+                path_request(alloc, objects, own, rp)
+            }
+        }
+        Err(error) => Err(refused(objects, error)),
     }
-    let Some((flags, id)) = rp else {
-        unreachable!();
-    };
-    let wish = wish(alloc, objects, own)?;
-    Ok(Request { flags, id, wish })
 }

@@ -9,9 +9,11 @@ mod tlvs;
 mod writing;
 
 pub use object::{Body, Object, ObjectFault, OpenBody};
-pub use reading::read_object;
+pub use reading::{measure_object, read_object};
 pub use room::{room_behind_object, room_behind_route};
-pub use writing::{no_object_begins_another, objects_are_read_again, write_object, write_route};
+pub use writing::{
+    no_object_begins_another, objects_are_octets, objects_are_read_again, write_object, write_route,
+};
 
 #[cfg(test)]
 mod tests;

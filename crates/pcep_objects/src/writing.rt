@@ -2,11 +2,12 @@
 ghost use Rattle.std.specs.Prelude.{◌≡◌, ◌++◌, false, OnOk, OnErr};
 ghost use Rattle.pcep_objects.specs.Spelling.{body_text, framed_text, object_text, flag};
 ghost use Rattle.std.specs.Int.{w32, to_be_bytes};
-ghost use Rattle.pcep_objects.specs.Laws.{WrittenIsRead, NoneBeginsAnother};
+ghost use Rattle.pcep_objects.specs.Laws.{WrittenIsRead, WrittenIsOctets, NoneBeginsAnother};
 
 use crate::object::{Body, Object, OpenBody};
+use crate::room::room_behind_object;
 use dom_base::{List, NoMemory};
-use pcep_subobjects::{Hop, put_addr, write_exclusions, write_hops};
+use pcep_subobjects::{Hop, Spelled, put_addr, write_exclusions, write_hops};
 use std::alloc::Global;
 
 fn flag(set: bool, value: u8) -> u8
@@ -162,3 +163,20 @@ pub fn objects_are_read_again()
 pub fn no_object_begins_another()
     ensures { NoneBeginsAnother }
 {}
+
+/// The text of an object in written form is octets.
+pub fn objects_are_octets()
+    ensures { WrittenIsOctets }
+{}
+
+impl Spelled for Object {
+    ghost spelling = { object_text };
+
+    fn put(&self, alloc: Global, text: &mut Vec<u8>) -> Result<(), NoMemory> {
+        write_object(alloc, self, text)
+    }
+
+    fn room_behind(&self, room: usize) -> Option<usize> {
+        room_behind_object(self, room)
+    }
+}

@@ -1,6 +1,6 @@
 -- What every subobject of a route or of an exclusion begins with: a bit, a type of seven bits and the length in octets
 -- (RFC 3209, 4.3.3; RFC 5521, 2.1).
-use Rattle.std.specs.Prelude.{◌≡◌, ◌≤◌, ◌<◌, ℕ, ◌+◌, ◌-◌, ◌%◌, Bool, false, List, [], ◌∷◌, length, take, Option, SomeIff, Result, Ok, Err, nat_lt, nat_le, ◌==◌, if◌then◌else◌}
+use Rattle.std.specs.Prelude.{◌≡◌, ◌≤◌, ◌<◌, ℕ, ◌+◌, ◌-◌, ◌%◌, Bool, false, List, [], ◌∷◌, length, take, Option, SomeIff, Result, Ok, Err, IsOk, All, nat_lt, nat_le, ◌==◌, if◌then◌else◌}
 use Rattle.dom_base.specs.Parts.{Reader}
 use Rattle.pcep_subobjects.specs.declared.hop.HopFault.{HopFault}
 use Rattle.pcep_subobjects.specs.declared.hop.HopFault.TheVariants as faults
@@ -23,22 +23,19 @@ subobject_at has_length meaning (first ∷ len ∷ bytes) =
 abbrev pub first_octet : Bool → ℕ → ℕ
 first_octet bit kind = (if bit then 128 else 0) + kind
 
+-- numbers that are octets
+abbrev pub AreOctets : List ℕ → Type 0
+AreOctets bytes = All (λ (b : ℕ). b < 256) bytes
+
 -- a type of seven bits, and octets behind the length that end a subobject of whole words of at most 252 octets
 abbrev pub HasOctets : ℕ → List ℕ → Type 0
-HasOctets kind body = (kind < 128) × (2 ≤ length body) × (length body ≤ 250) × ((length body + 2) % 4 ≡ 0)
+HasOctets kind body = (kind < 128) × (2 ≤ length body) × (length body ≤ 250) × ((length body + 2) % 4 ≡ 0) × AreOctets body
 
--- What a call answered is what is read, unless memory ran out.
+-- What a call answered is what is read. Want of memory is told only where there is no fault.
 abbrev pub Gives : {X : Type 0} → Result X HopFault → Result X HopFault → Type 0
 Gives (Ok x) read = read ≡ Ok x
-Gives (Err faults.NoMemory) read = Unit {0}
+Gives (Err faults.NoMemory) read = IsOk read
 Gives (Err f) read = read ≡ Err f
-
--- The same of the subobject at the front of what is left from a place on.
-abbrev pub GivesAt : {X : Type 0} → ℕ → Result X HopFault → Result X (ℕ → HopFault) → Type 0
-GivesAt place (Ok x) read = read ≡ Ok x
-GivesAt place (Err (faults.Short p)) read = (p ≡ place) × (read ≡ Err faults.Short)
-GivesAt place (Err (faults.BadLength p)) read = (p ≡ place) × (read ≡ Err faults.BadLength)
-GivesAt place (Err faults.NoMemory) read = Unit {0}
 
 -- How many octets of a room are left behind a text: none can be told exactly where the text has no room.
 abbrev pub IsLeftBehind : List ℕ → ℕ → Option ℕ → Type 0

@@ -1,80 +1,62 @@
 //! The hops of a route as octets, both ways.
 ghost use Rattle.std.specs.Prelude.{◌≡◌, ◌+◌, ◌≤◌, ◌++◌, length, IsTrue, IfOk, OnOk, OnErr};
-ghost use Rattle.pcep_subobjects.specs.Subobjects.{Gives, GivesAt, IsLeftBehind};
+ghost use Rattle.pcep_subobjects.specs.Parts.{Checks};
+ghost use Rattle.pcep_subobjects.specs.Subobjects.{Gives, IsLeftBehind};
 ghost use Rattle.pcep_subobjects.specs.Hops.{hop_has_length, hop_of, hop_at, hops_of, hop_text, hops_text, strict_hop, WrittenIsRead, NoneBeginsAnother};
 
 use crate::hop::{Hop, HopFault};
 use crate::octets::{addr_len, first, put_addr, wide};
+use crate::part::{Spelled, build_parts, check_parts, room_behind_parts, write_parts};
+use crate::subobject::Subobject;
 use dom_base::{Addr, As, List, NoMemory, half, word};
 use std::alloc::Global;
 
-fn fits_hop(kind: u8, len: usize) -> bool
-    ensures { result ≡ hop_has_length kind len }
-{
-    match kind {
-        1 | 64 => len == 8,
-        2 | 65 => len == 20,
-        32 => len == 4,
-        _ => len % 4 == 0 && len >= 4,
-    }
-}
+impl Subobject for Hop {
+    ghost has_length = { hop_has_length };
 
-fn hop(alloc: Global, loose: bool, kind: u8, content: &[u8]) -> Result<Hop, NoMemory>
-    requires { IsTrue (hop_has_length kind (length content.now + 2)) }
-    ensures { IfOk result (λ h. h ≡ hop_of loose kind content.now) }
-{
-    match kind {
-        1 => Ok(Hop::Prefix {
-            loose,
-            addr: Addr::V4(word(content, 0)),
-            length: content[4],
-        }),
-        2 => Ok(Hop::Prefix {
-            loose,
-            addr: Addr::V6(wide(content, 0)),
-            length: content[16],
-        }),
-        32 => Ok(Hop::AsNumber {
-            loose,
-            number: As(half(content, 0)),
-        }),
-        64 => Ok(Hop::Key {
-            loose,
-            key: half(content, 0),
-            pce: Addr::V4(word(content, 2)),
-        }),
-        65 => Ok(Hop::Key {
-            loose,
-            key: half(content, 0),
-            pce: Addr::V6(wide(content, 2)),
-        }),
-        _ => Ok(Hop::Other {
-            loose,
-            kind,
-            body: List::from_vec(Vec::from_slice(alloc, content)?),
-        }),
-    }
-}
+    ghost meaning = { hop_of };
 
-fn read_hop(alloc: Global, place: usize, bytes: &[u8]) -> Result<(Hop, usize), HopFault>
-    ensures found { GivesAt place result (hop_at bytes.now) }
-    ensures some { IfOk result (λ x. 4 ≤ x.1) }
-    ensures within { IfOk result (λ x. x.1 ≤ length bytes.now) }
-{
-    match bytes {
-        [first, len, rest @ ..] => {
-            let len = *len as usize;
-            if rest.len() + 2 < len {
-                return Err(HopFault::Short(place));
-            }
-            let kind = *first % 128;
-            if !fits_hop(kind, len) {
-                return Err(HopFault::BadLength(place));
-            }
-            let (content, _) = rest.split_at(len - 2);
-            Ok((hop(alloc, *first >= 128, kind, content)?, len))
+    fn fits(kind: u8, len: usize) -> bool {
+        match kind {
+            1 | 64 => len == 8,
+            2 | 65 => len == 20,
+            32 => len == 4,
+            _ => len % 4 == 0 && len >= 4,
         }
-        _ => Err(HopFault::Short(place)),
+    }
+
+    fn of(alloc: Global, loose: bool, kind: u8, content: &[u8]) -> Result<Hop, NoMemory> {
+        match kind {
+            1 => Ok(Hop::Prefix {
+                loose,
+                addr: Addr::V4(word(content, 0)),
+                length: content[4],
+            }),
+            2 => Ok(Hop::Prefix {
+                loose,
+                addr: Addr::V6(wide(content, 0)),
+                length: content[16],
+            }),
+            32 => Ok(Hop::AsNumber {
+                loose,
+                number: As(half(content, 0)),
+            }),
+            64 => Ok(Hop::Key {
+                loose,
+                key: half(content, 0),
+                pce: Addr::V4(word(content, 2)),
+            }),
+            65 => Ok(Hop::Key {
+                loose,
+                key: half(content, 0),
+                pce: Addr::V6(wide(content, 2)),
+            }),
+            _ => Ok(Hop::Other {
+                loose,
+                kind,
+                body: List::from_vec(Vec::from_slice(alloc, content)?),
+            }),
+        }
     }
 }
 
@@ -93,22 +75,20 @@ pub fn strict_hop(addr: Addr) -> Hop
     }
 }
 
+/// Whether a route object's body is hops, or its first fault; takes no memory.
+pub fn check_hops(bytes: &[u8]) -> Result<(), HopFault>
+    ensures { Checks result (hops_of bytes.now) }
+{
+    check_parts::<HopFault, Hop>(0, bytes)
+}
+
 /// The hops of a route object's body (RFC 3209, section 4.3.3; RFC 5520, section 3.1), or its first
-/// fault.
+/// fault. A fault is told even where there is no memory.
 pub fn read_hops(alloc: Global, bytes: &[u8]) -> Result<List<Hop>, HopFault>
     ensures { Gives result (hops_of bytes.now) }
 {
-    let mut hops = List::new(alloc);
-    let mut rest = bytes;
-    let mut place: usize = 0;
-    while !rest.is_empty() {
-        let (hop, len) = read_hop(alloc, place, rest)?;
-        hops.push(hop)?;
-        let (_, after) = rest.split_at(len);
-        rest = after;
-        place += len;
-    }
-    Ok(hops)
+    check_hops(bytes)?;
+    Ok(build_parts::<HopFault, Hop>(alloc, 0, bytes)?)
 }
 
 fn put_prefix(text: &mut Vec<u8>, addr: Addr) -> Result<(), NoMemory>
@@ -141,23 +121,34 @@ fn put_key(text: &mut Vec<u8>, loose: bool, key: u16, pce: Addr) -> Result<(), N
     put_addr(text, pce)
 }
 
-fn put_hop(text: &mut Vec<u8>, hop: &Hop) -> Result<(), NoMemory>
-    ensures { OnOk result (text.new.items ≡ text.old.items ++ hop_text hop.now) }
-{
-    match hop {
-        Hop::Prefix { addr, .. } => put_prefix(text, *addr)?,
-        Hop::AsNumber { loose, number } => {
-            let [a, b] = number.0.to_be_bytes();
-            text.extend_from_slice(&[first(*loose, 32), 4, a, b])?;
+impl Spelled for Hop {
+    ghost spelling = { hop_text };
+
+    fn put(&self, _alloc: Global, text: &mut Vec<u8>) -> Result<(), NoMemory> {
+        match self {
+            Hop::Prefix { addr, .. } => put_prefix(text, *addr)?,
+            Hop::AsNumber { loose, number } => {
+                let [a, b] = number.0.to_be_bytes();
+                text.extend_from_slice(&[first(*loose, 32), 4, a, b])?;
+            }
+            Hop::Key { loose, key, pce } => put_key(text, *loose, *key, *pce)?,
+            Hop::Other { loose, kind, body } => {
+                let len = (body.len() % 256 + 2) % 256;
+                text.extend_from_slice(&[first(*loose, *kind % 128), len as u8])?;
+                text.extend_from_slice(body.as_slice())?;
+            }
         }
-        Hop::Key { loose, key, pce } => put_key(text, *loose, *key, *pce)?,
-        Hop::Other { loose, kind, body } => {
-            let len = (body.len() % 256 + 2) % 256;
-            text.extend_from_slice(&[first(*loose, *kind % 128), len as u8])?;
-            text.extend_from_slice(body.as_slice())?;
-        }
+        Ok(())
     }
-    Ok(())
+
+    fn room_behind(&self, room: usize) -> Option<usize> {
+        room.checked_sub(match self {
+            Hop::Prefix { addr, .. } => 4 + addr_len(*addr),
+            Hop::Key { pce, .. } => 4 + addr_len(*pce),
+            Hop::AsNumber { .. } => 4,
+            Hop::Other { body, .. } => body.as_slice().len() + 2,
+        })
+    }
 }
 
 /// Appends the text of the hops. Each prefix is written as a strict hop to one address. The type of
@@ -166,23 +157,7 @@ pub fn write_hops(alloc: Global, hops: &[Hop], into: &mut Vec<u8>) -> Result<(),
     ensures ok { OnOk result (into.new.items ≡ into.old.items ++ hops_text hops.now) }
     ensures err { OnErr result (into.new.items ≡ into.old.items) }
 {
-    let mut text = Vec::new(alloc);
-    for hop in hops {
-        put_hop(&mut text, hop)?;
-    }
-    into.extend_from_slice(&text)?;
-    Ok(())
-}
-
-fn hop_len(hop: &Hop) -> usize
-    ensures { result ≡ length (hop_text hop.now) }
-{
-    match hop {
-        Hop::Prefix { addr, .. } => 4 + addr_len(*addr),
-        Hop::Key { pce, .. } => 4 + addr_len(*pce),
-        Hop::AsNumber { .. } => 4,
-        Hop::Other { body, .. } => body.as_slice().len() + 2,
-    }
+    write_parts(alloc, hops, into)
 }
 
 /// How many octets of a room are left behind the text of the hops; None exactly where the text has
@@ -190,15 +165,7 @@ fn hop_len(hop: &Hop) -> usize
 pub fn room_behind_hops(hops: &[Hop], room: usize) -> Option<usize>
     ensures { IsLeftBehind (hops_text hops.now) room result }
 {
-    let mut left = room;
-    for hop in hops {
-        let len = hop_len(hop);
-        if left < len {
-            return None;
-        }
-        left -= len;
-    }
-    Some(left)
+    room_behind_parts(hops, room)
 }
 
 /// Hops in written form are read again from their text.

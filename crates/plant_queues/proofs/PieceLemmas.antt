@@ -1,5 +1,5 @@
 -- Bytes cut into messages.
-use Rattle.std.proofs.Common.{◌≡◌, ◌==◌, Bool, true, false, Some, None, slice_get, sym, ℕ, suc, ◌+◌, ◌≤◌, List, [], ◌∷◌, ◌++◌, length, take, drop, sum, arith, refl, ap, ◌∙◌, length-drop, length-take}
+use Rattle.std.proofs.Common.{◌≡◌, ◌==◌, true, false, Some, None, slice_get, sym, ℕ, suc, ◌+◌, ◌≤◌, List, [], ◌∷◌, ◌++◌, length, take, drop, sum, arith, refl, ap, ◌∙◌, length-drop, length-take}
 use Rattle.std.proofs.lemmas.List.{take-append-le, drop-append-le, take-append-drop}
 use Rattle.std.proofs.lemmas.Bool.{ne_eqb}
 use Rattle.std.proofs.lemmas.Grind.{common_steps}

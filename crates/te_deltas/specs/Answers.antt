@@ -1,6 +1,6 @@
 -- What is answered to changes of a topology.
 use Rattle.std.specs.Prelude.{◌≡◌, ℕ, List, Option, Some, None, is_some, true, false, IsPermutation}
-use Rattle.te_links.specs.Rows.{Rows, IsTopology}
+use Rattle.te_links.specs.Rows.{Rows, IsTopology, IsInOrder}
 use Rattle.te_links.specs.Faults.{IsFirstBreach}
 use Rattle.te_text.specs.declared.row.TextRow.{TextRow}
 use Rattle.te_text.specs.TopologyText.{rows_in_order}
@@ -22,6 +22,10 @@ pub record IsBuilt (g t : Rows) : Type 0 where
   pub links : IsPermutation g.links t.links
   pub outs : IsPermutation g.outs t.outs
   pub entries : IsPermutation g.entries t.entries
+
+-- Only one topology in order is built of rows.
+abbrev pub BuiltOnce : Type 0
+BuiltOnce = (g t u : Rows) → IsBuilt g t → IsBuilt g u → IsInOrder t → IsInOrder u → u ≡ t
 
 -- every change can be made, and the topology is built of the changed rows
 pub record IsBuiltOf (g : Rows) (changes : List Change) (t : Rows) : Type 0 where

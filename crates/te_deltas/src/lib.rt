@@ -3,6 +3,7 @@
 
 mod changes;
 mod copy;
+mod law;
 mod making;
 mod name;
 mod reading;
@@ -12,6 +13,7 @@ mod table;
 mod tests;
 
 pub use changes::Change;
+pub use law::built_once;
 pub use making::{ChangeError, apply};
 pub use name::RowName;
 pub use reading::{is_change_file, read_changes};

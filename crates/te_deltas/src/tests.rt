@@ -21,6 +21,7 @@ const fn rule(fault: TopoFault, kind: RowKind, index: u32) -> ChangeError {
     ChangeError::Rule(fault, Row { kind, index })
 }
 
+#[tactic(auto, using(line_text::proofs::Counts::lines_at_most))]
 fn topology_of(alloc: Global, text: &[u8]) -> Result<Topology, ChangeError> {
     if text.len() > 65_536 {
         return Err(ChangeError::NoMemory);

@@ -1,3 +1,4 @@
+//! Topologies from rows: the rules are tested, and the rows are brought into order.
 ghost use Rattle.std.specs.Prelude.{◌≡◌, ◌<◌, ◌^◌, length, IsPermutation, IfOk, IfErr, OnOk, OnErr};
 ghost use Rattle.te_links.specs.Rows.{IsTopology};
 ghost use Rattle.te_links.specs.Faults.{IsReason, rows_of_parts};

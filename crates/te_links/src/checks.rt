@@ -1,3 +1,4 @@
+//! The rules of a topology, tested row by row.
 ghost use Rattle.std.specs.Prelude.{◌≡◌, ◌⊎◌, ◌≤◌, ◌<◌, ◌^◌, length, take, slice_get, AllPairs, Contains, Some, MatchResult};
 ghost use Rattle.std.specs.Bool.{Decides};
 ghost use Rattle.dom_base.specs.AddrOrder.{rank};

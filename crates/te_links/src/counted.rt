@@ -1,3 +1,4 @@
+//! A topology that counts how often its links are read.
 ghost use Rattle.std.specs.Prelude.{◌≡◌, ◌<◌, length};
 
 use crate::links::Links;

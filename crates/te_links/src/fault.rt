@@ -1,3 +1,4 @@
+//! What is wrong with rows, and at which row.
 ghost use Rattle.std.specs.Prelude.{◌≡◌};
 ghost use Rattle.te_links.specs.declared.fault.BuildError.TheVariants.{NoMemory};
 

@@ -1,3 +1,4 @@
+//! How much a topology may have.
 /// How many nodes a topology may have.
 pub const NODES_MAX: usize = 1024;
 

@@ -1,3 +1,4 @@
+//! What a search sees of a topology.
 ghost use Rattle.std.specs.Prelude.{◌≡◌, ◌<◌, ℕ, length, slice_get, Contains, Some, MatchOption};
 ghost use Rattle.te_links.specs.Rows.{Rows, IsTopology, IsInOrder};
 ghost use Rattle.te_links.specs.Index.{IsLinksInto};

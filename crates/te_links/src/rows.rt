@@ -1,3 +1,4 @@
+//! The rows that a topology is built from.
 use dom_base::{Addr, As, Link, List};
 
 /// A link to another domain; its `to` is a node there, its head.

@@ -1,3 +1,4 @@
+//! What the rules ask of rows together: repeats and limits on different nodes.
 ghost use Rattle.std.specs.Prelude.{◌≡◌, ◌++◌, Contains, IfOk, map};
 ghost use Rattle.std.specs.Bool.{Decides};
 ghost use Rattle.std.specs.BTreeMap.{is_at};

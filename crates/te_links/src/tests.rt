@@ -1,3 +1,4 @@
+//! Each rule of a topology broken once, and what a topology shows.
 use crate::{BuildError, Counted, Entry, Links, OutLink, Parts, Row, RowKind, TopoFault, Topology};
 use dom_base::{Addr, As, Link, List};
 use std::alloc::{AllocError, Global};

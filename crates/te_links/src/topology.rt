@@ -1,3 +1,4 @@
+//! The topology of one domain, by its rows in order.
 ghost use Rattle.std.specs.Prelude.{◌≡◌, ◌↔◌, ◌<◌, ◌^◌, [], vec_len, length, slice_get, Contains, Some, MatchOption};
 ghost use Rattle.te_links.specs.Rows.{IsTopology, IsInOrder};
 ghost use Rattle.te_links.specs.Index.{IsIndex, IsLinksInto};

@@ -1,3 +1,4 @@
+//! Why a text is no topology.
 use dom_base::NoMemory;
 use te_links::TopoFault;
 

@@ -1,3 +1,4 @@
+//! The fields of a row, read from the words of its line.
 ghost use Rattle.std.specs.Prelude.{◌≡◌, ◌==◌, Some, None, MatchOption, length};
 ghost use Rattle.dom_base.specs.Numerals.{colour_in};
 ghost use Rattle.dom_base.specs.AddrText.{addr_in};

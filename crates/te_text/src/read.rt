@@ -1,3 +1,4 @@
+//! A topology from its text.
 ghost use Rattle.std.specs.Prelude.{◌≡◌, ◌<◌, ◌-◌, ◌^◌, ℕ, Some, Err, IfOk, length, slice_get};
 ghost use Rattle.std.specs.Str.Lines.{lines as lines_of};
 ghost use Rattle.te_links.specs.declared.fault.TopoFault.{TopoFault};

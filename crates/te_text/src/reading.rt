@@ -1,3 +1,4 @@
+//! The lines of a text, gathered as rows.
 ghost use Rattle.std.specs.Prelude.{◌≡◌, ◌==◌, ◌<◌, ◌-◌, ◌^◌, Ok, OnOk, length};
 ghost use Rattle.std.specs.Str.Lines.{lines as lines_of};
 ghost use Rattle.te_text.specs.Given.{GivesText};

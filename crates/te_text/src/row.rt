@@ -1,3 +1,4 @@
+//! One line of a topology text, as a row.
 ghost use Rattle.std.specs.Prelude.{◌≡◌, Some, None, MatchOption, OnErr, IfOk};
 ghost use Rattle.te_text.specs.Given.{GivesRow};
 ghost use Rattle.te_text.specs.RowText.{fields_in, first, kind_in, link_of, row_in, srlgs_in};

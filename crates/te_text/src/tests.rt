@@ -1,3 +1,4 @@
+//! Texts of topologies, with the fault of each that is none.
 ghost use Rattle.std.specs.Prelude.{◌≤◌};
 
 use crate::{TextError, read_topology, write_topology};

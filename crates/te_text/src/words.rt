@@ -1,3 +1,4 @@
+//! Words of a row, written with a blank before each.
 ghost use Rattle.std.specs.Prelude.{◌≡◌, ◌≤◌, ◌++◌, ◌∷◌, [], ℕ, List, Some, OnOk, decimal, map};
 ghost use Rattle.dom_base.specs.Numerals.{colour_in, colour_text, number_in};
 ghost use Rattle.dom_base.specs.AddrText.{addr_in, addr_text};

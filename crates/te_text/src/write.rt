@@ -1,3 +1,4 @@
+//! The text of a topology.
 ghost use Rattle.std.specs.Prelude.{◌≡◌, ◌++◌, ℕ, IfOk, OnOk, All};
 ghost use Rattle.std.specs.List.{flat_map};
 ghost use Rattle.line_text.specs.Spelling.{line_text};

@@ -1,3 +1,4 @@
+//! The best way of a domain, and a branch of the tree.
 use dom_base::{Addr, Cost, List};
 use pcep_subobjects::Hop;
 

@@ -1,3 +1,4 @@
+//! Copies of hops.
 ghost use Rattle.std.specs.Prelude.{◌≡◌, ◌++◌, IfOk, OnOk};
 
 use dom_base::{List, NoMemory};

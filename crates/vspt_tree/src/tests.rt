@@ -1,3 +1,4 @@
+//! Branches of two domains, hop by hop.
 ghost use Rattle.std.specs.Prelude.{◌≡◌, IfOk};
 
 use crate::{Best, Branch, join};

@@ -1,3 +1,4 @@
+//! The branches of a domain over those of the next.
 ghost use Rattle.std.specs.Prelude.{◌≡◌, All, length, IfOk, IfSome, IsSomeAnd};
 ghost use Rattle.vspt_tree.specs.Branches.{HasBranchAt, IsFirstLeast, IsBranchOf, AreBranchesOf};
 

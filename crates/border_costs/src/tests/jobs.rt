@@ -1,3 +1,4 @@
+//! Jobs and tables, with what each is to say.
 use crate::Target;
 use dom_base::{Addr, As};
 

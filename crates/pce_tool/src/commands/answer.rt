@@ -46,7 +46,7 @@ pub fn reply_text(
 }
 
 /// Answers a request over one domain: the reply of its element to a client.
-pub(crate) fn answer<S: Store, I: Source, K: Sink>(
+pub(crate) fn run<S: Store, I: Source, K: Sink>(
     alloc: Global,
     topology: &str,
     store: &mut S,

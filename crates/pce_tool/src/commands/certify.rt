@@ -25,7 +25,7 @@ fn certificate_text(alloc: Global, topology: &Topology, wanted: &Wanted) -> Resu
 }
 
 /// Writes the certificate of a request: the least labels and the chosen path.
-pub(crate) fn certify<S: Store, I: Source, K: Sink>(
+pub(crate) fn run<S: Store, I: Source, K: Sink>(
     alloc: Global,
     topology: &str,
     store: &mut S,

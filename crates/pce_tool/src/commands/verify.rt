@@ -12,7 +12,7 @@ use path_certificate::{Verdict, check};
 use std::alloc::Global;
 
 /// Checks a certificate of a request, whoever made it.
-pub(crate) fn verify<S: Store, I: Source, K: Sink>(
+pub(crate) fn run<S: Store, I: Source, K: Sink>(
     alloc: Global,
     topology: &str,
     certificate: &str,

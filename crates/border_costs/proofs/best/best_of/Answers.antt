@@ -45,7 +45,7 @@ returns-clause-best g c =
     let has : HasSegment rows ask.query c.args.seeds.now c.args.labels.now c.in-Some.from places = rw c.in-Some-2.is at c.in_ok-places.ensures.segment in
     let shown : (ls : List Link) → AreAt rows.links places ls → c.in_ok-shown.shown.items ≡ c.args.entry ∷ fars ls = rw (c.as_slice.ensures, c.segment.ensures.same) at c.in_ok-shown.ensures.shown in
     let at_label : label_at c.args.labels.now c.in-Some.from ≡ Some a = sym c.in-Some-at.ensures in
-    let head : IsHead rows ask.query ask.target a.exit c.match-ask.head =
+    let head : IsHead rows ask.query ask.down ask.target a.exit c.match-ask.head =
     elim c.match-ask.branch [
       | in-Node w ↦ rw (w.in-Node.is, w.head-is) refl
       | in-Next w ↦

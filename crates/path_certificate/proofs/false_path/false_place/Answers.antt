@@ -25,6 +25,6 @@ returns-in-len1-up c =
     let path : c.args.path.now ≡ Some (first ∷ fars) =
     c.in-Some.is ∙ ap (λ (xs : List Addr). Some xs) (sym c.as_slice.ensures ∙ first_and_rest addrs (V4 0) c.in-len1-up.len_at_least) in
     subst (λ (p : Option (List Addr)). MatchOption c.false_step.result ((k : ℕ) → PathHoldsAt g q seeds label source p k)
-        (λ k. (¬ PathHoldsAt g q seeds label source p k) × ((j : ℕ) → j < k → PathHoldsAt g q seeds label source p j)))
+    (λ k. (¬ PathHoldsAt g q seeds label source p k) × ((j : ℕ) → j < k → PathHoldsAt g q seeds label source p j)))
     (sym path)
     (path_told g q seeds label source first fars c.in-Some-told.label c.false_step.result (sym c.in-Some-told.ensures) begins c.false_step.ensures)

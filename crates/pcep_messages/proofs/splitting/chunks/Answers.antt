@@ -3,7 +3,7 @@ use Rattle.std.proofs.lemmas.Bool.{eqb-true}
 use Rattle.dom_base.proofs.Parts.{goes_on, stops, ends}
 use Rattle.pcep_messages.specs.declared.message.Bad.TheVariants.{Malformed}
 use Rattle.pcep_messages.specs.Splitting.{octets_at, chunks_of}
-use Rattle.pcep_subobjects.proofs.Faults.{some_left}
+use Rattle.pcep_subobjects.proofs.PartLaws.{some_left}
 use Rattle.pcep_messages.proofs.splitting.chunks.Goals as goal
 
 pub returns-in-None : goal.returns-in-None

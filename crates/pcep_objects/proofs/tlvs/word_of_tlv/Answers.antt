@@ -1,7 +1,7 @@
 use Rattle.std.proofs.Common.{◌≤◌, ◌+◌, sym, ◌∙◌, length, arith}
 use Rattle.std.proofs.lemmas.Bool.{eqb-true}
 use Rattle.std.proofs.lemmas.Result.{err_from_is_err_and}
-use Rattle.pcep_subobjects.proofs.Faults.{some_left}
+use Rattle.pcep_subobjects.proofs.PartLaws.{some_left}
 use Rattle.pcep_objects.proofs.Found.{passes_tlv, stops_tlv, ends_tlvs, only_fault}
 use Rattle.pcep_objects.proofs.tlvs.word_of_tlv.Goals as goal
 

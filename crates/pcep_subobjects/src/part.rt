@@ -1,0 +1,114 @@
+//! Parts that stand one behind the other: found, read, written and measured in one way.
+ghost use Rattle.std.specs.Prelude.{◌≡◌, ◌<◌, ◌≤◌, ◌+◌, ◌^◌, ◌++◌, ℕ, List, IfOk, IsOk, OnOk, OnErr, length};
+ghost use Rattle.std.specs.List.{flat_map};
+ghost use Rattle.dom_base.specs.Parts.{Reader, parts_from};
+ghost use Rattle.pcep_subobjects.specs.Parts.{Checks, Measures};
+ghost use Rattle.pcep_subobjects.specs.Subobjects.{IsLeftBehind};
+
+use dom_base::{List, NoMemory};
+use std::alloc::Global;
+
+/// A part that is read from octets. `F` is what can be at fault, told by its place.
+pub trait Part<F>: Sized + Drop {
+    /// The part at the front of octets.
+    ghost at: { Reader Self F };
+
+    /// How many octets the part at the front takes, or what is at fault; takes no memory.
+    fn measure(place: usize, bytes: &[u8]) -> Result<usize, F>
+        ensures found { Measures place result (at bytes.now) }
+        ensures some { IfOk result (λ len. 1 ≤ len) }
+        ensures within { IfOk result (λ len. len ≤ length bytes.now) };
+
+    /// The part at the front, and how many octets it takes.
+    fn build(alloc: Global, bytes: &[u8]) -> Result<(Self, usize), NoMemory>
+        requires { IsOk (at bytes.now) }
+        ensures found { IfOk result (λ x. at bytes.now ≡ Ok x) }
+        ensures some { IfOk result (λ x. 1 ≤ x.1) }
+        ensures within { IfOk result (λ x. x.1 ≤ length bytes.now) };
+}
+
+/// A part that is written as octets.
+pub trait Spelled {
+    /// The octets of the part.
+    ghost spelling: { Self → List ℕ };
+
+    /// Appends the octets. After a refusal a part of them may stand there.
+    fn put(&self, alloc: Global, text: &mut Vec<u8>) -> Result<(), NoMemory>
+        ensures { OnOk result (text.new.items ≡ text.old.items ++ spelling self.now) };
+
+    /// How many octets of a room are left behind the part; None exactly where it has no room.
+    fn room_behind(&self, room: usize) -> Option<usize>
+        ensures { IsLeftBehind (spelling self.now) room result };
+}
+
+/// The first fault of octets that are to be parts, one behind the other; takes no memory. `start` is
+/// the place of the first octet.
+pub fn check_parts<F, P: Part<F>>(start: usize, bytes: &[u8]) -> Result<(), F>
+    requires { start + length bytes.now < 2 ^ 64 }
+    ensures { Checks result (parts_from P.at start 0 bytes.now) }
+{
+    let mut rest = bytes;
+    let mut place = start;
+    while !rest.is_empty() {
+        let len = match P::measure(place, rest) {
+            Ok(len) => len,
+            Err(fault) => return Err(fault),
+        };
+        let (_, after) = rest.split_at(len);
+        rest = after;
+        place += len;
+    }
+    Ok(())
+}
+
+/// The parts of octets that have no fault.
+pub fn build_parts<F, P: Part<F>>(
+    alloc: Global,
+    start: usize,
+    bytes: &[u8],
+) -> Result<List<P>, NoMemory>
+    requires room { start + length bytes.now < 2 ^ 64 }
+    requires good { IsOk (parts_from P.at start 0 bytes.now) }
+    ensures { IfOk result (λ xs. parts_from P.at start 0 bytes.now ≡ Ok xs) }
+{
+    let mut built = List::new(alloc);
+    let mut rest = bytes;
+    let mut place = start;
+    while !rest.is_empty() {
+        let (part, len) = P::build(alloc, rest)?;
+        built.push(part)?;
+        let (_, after) = rest.split_at(len);
+        rest = after;
+        place += len;
+    }
+    Ok(built)
+}
+
+/// Appends the octets of parts, one behind the other. After a refusal `into` is as before.
+pub fn write_parts<P: Spelled>(
+    alloc: Global,
+    list: &[P],
+    into: &mut Vec<u8>,
+) -> Result<(), NoMemory>
+    ensures ok { OnOk result (into.new.items ≡ into.old.items ++ flat_map P.spelling list.now) }
+    ensures err { OnErr result (into.new.items ≡ into.old.items) }
+{
+    let mut text = Vec::new(alloc);
+    for part in list {
+        part.put(alloc, &mut text)?;
+    }
+    into.extend_from_slice(&text)?;
+    Ok(())
+}
+
+/// How many octets of a room are left behind parts; None exactly where they have no room. Takes no
+/// memory.
+pub fn room_behind_parts<P: Spelled>(list: &[P], room: usize) -> Option<usize>
+    ensures { IsLeftBehind (flat_map P.spelling list.now) room result }
+{
+    let mut left = room;
+    for part in list {
+        left = part.room_behind(left)?;
+    }
+    Some(left)
+}
