@@ -21,9 +21,9 @@ use Rattle.pcep_messages.specs.declared.message.Wish.{Wish}
 use Rattle.pcep_messages.specs.declared.message.Wish.TheVariants.{Path, Expand}
 use Rattle.pcep_messages.specs.Said.{rp_of, end_points_of, metrics_of, iro_of, xro_of, key_of, asks_key}
 use Rattle.pcep_messages.specs.Refusals.{Reason, because, first_of, request_rules, path_rules, unsupported_among, is_optional, has_no_number, are_measures, can_exclude, can_follow, refusal_of, is_domain, domain_in, domains, has_twice, begins_with, among}
-use Rattle.pcep_messages.specs.Requests.{without_bit, bound_of, cap_of, sequence_of}
+use Rattle.pcep_messages.specs.Requests.{without_bit, bound_of, cap_of, sequence_of, wanted_of, wish_of}
 use Rattle.plant_model.specs.Wire.{Admitted, Wrong}
-use Rattle.plant_model.specs.RealWire.{wanted_of, wish_of, checked, check_of, wire}
+use Rattle.plant_model.specs.RealWire.{checked, check_of, wire}
 use Rattle.plant_model.specs.Laws.{Admits, IsSequence}
 
 -- ---- no refusal

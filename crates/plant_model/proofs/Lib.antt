@@ -2,10 +2,10 @@ pub mod Meeting
 pub mod ReadKinds
 pub mod Admitted
 pub mod SentOn
-pub mod OctetLaws
 pub mod PartsRead
 pub mod OnePart
 pub mod ReadSound
 pub mod Sends
 pub mod WireLaws
 pub mod Live
+pub mod Runs

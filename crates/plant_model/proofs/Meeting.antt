@@ -1,5 +1,5 @@
 -- The functions of the model are what the contracts of its parts say.
-use Rattle.std.proofs.Common.{◌≡◌, ◌≤◌, ◌<◌, ℕ, Bool, true, false, cond, nat_lt, List, [], ◌∷◌, ◌++◌, Option, Some, None, Ok, Err, option_map, sym, ◌∙◌, ap, subst, refl}
+use Rattle.std.proofs.Common.{◌≡◌, ◌≤◌, ◌<◌, ℕ, Bool, true, false, cond, nat_lt, List, [], ◌∷◌, ◌++◌, Option, Some, None, Ok, Err, sym, ◌∙◌, ap, subst, refl}
 use Rattle.std.specs.Prelude.{All}
 use Rattle.std.proofs.lemmas.Bool.{eqb-true, eq-eqb, eqb-false, lt-ltb, le-ltb}
 use Rattle.std.proofs.lemmas.List.Elements.{All-head, All-tail, All-nil, All-cons}
@@ -12,22 +12,18 @@ use Rattle.pcep_subobjects.specs.Hops.{strict_hop}
 use Rattle.disclosure.specs.declared.class.Class.TheVariants.{Client, Neighbour, Parent}
 use Rattle.disclosure.specs.declared.class.Deny.{Deny}
 use Rattle.disclosure.specs.Policy.{Denies}
-use Rattle.dom_base.specs.declared.query.Query.{Query}
-use Rattle.pcep_objects.specs.declared.object.Object.{Object}
-use Rattle.pcep_messages.specs.declared.message.Wanted.{Wanted}
 use Rattle.pcep_messages.specs.declared.message.Wish.{Wish}
-use Rattle.pcep_messages.specs.declared.message.Wish.TheVariants.{Path, Expand}
 use Rattle.pcep_messages.specs.declared.message.Refusal.TheVariants as refusals
-use Rattle.pcep_messages.specs.Said.{rp_of, end_points_of, bandwidth_of, masks_of, metrics_of, key_of}
+use Rattle.pcep_messages.specs.Said.{rp_of}
 use Rattle.pcep_messages.specs.Refusals.{refusal_of}
-use Rattle.pcep_messages.specs.Requests.{IsWanted, IsWish, without_bit, query_of, bound_of}
+use Rattle.pcep_messages.specs.Requests.{wish_of, without_bit}
 use Rattle.vspt_tree.specs.declared.branch.Branch.{Branch}
 use Rattle.vspt_tree.specs.Branches.{IsFirstLeast, IsOnward}
 use Rattle.plant_model.specs.Names.{same_as, same_addr}
 use Rattle.plant_model.specs.Branches.{better, first_least, hops_of, onward}
 use Rattle.plant_model.specs.Element.{denies}
 use Rattle.plant_model.specs.Wire.{Wrong}
-use Rattle.plant_model.specs.RealWire.{wanted_of, wish_of, checked}
+use Rattle.plant_model.specs.RealWire.{checked}
 use Rattle.plant_model.specs.Meeting.{DeniedMeets, BranchMeets, CheckMeets}
 
 -- ---- branches
@@ -140,30 +136,11 @@ denied_meets deny Parent next = (λ e. nobody deny, λ all. refl)
 
 -- ---- requests
 
-same_wanted : (own : As) (os : List Object) (w : Wanted) → IsWanted own.0 os w → w ≡ wanted_of own.0 os (w.source, w.target)
-same_wanted own os w is =
-    let made : Query → Option ℕ → Option ℕ → Option (ℕ × ℕ × ℕ) → List As → Wanted =
-    λ q b c m l. record { source = w.source; target = w.target; query = q; bandwidth_word = b; bound_word = c; masks = m; sequence = l } in
-    ap (λ (q : Query). made q w.bandwidth_word w.bound_word w.masks w.sequence) is.query
-    ∙ ap (λ (b : Option ℕ). made (query_of own.0 os) b w.bound_word w.masks w.sequence) is.bandwidth
-    ∙ ap (λ (b : Option ℕ). made (query_of own.0 os) (bandwidth_of os) b w.masks w.sequence) is.bound
-    ∙ ap (λ (m : Option (ℕ × ℕ × ℕ)). made (query_of own.0 os) (bandwidth_of os) (bound_of (metrics_of os)) m w.sequence) is.colours
-    ∙ ap (λ (l : List As). made (query_of own.0 os) (bandwidth_of os) (bound_of (metrics_of os)) (masks_of os) l) is.sequence
-
-wish_is : (own : As) (os : List Object) (wish : Wish) → IsWish own.0 os wish → wish_of own.0 os ≡ Some wish
-wish_is own os (Path w) is =
-    ap (λ (b : Bool). cond b (option_map (λ k. Expand k.0 k.1) (key_of os)) (option_map (λ ends. Path (wanted_of own.0 os ends)) (without_bit (end_points_of own.0 os)))) is.0
-    ∙ ap (λ (o : Option (Addr × Addr)). option_map (λ ends. Path (wanted_of own.0 os ends)) o) is.1.ends
-    ∙ ap (λ (v : Wanted). let o : Option Wish = Some (Path v) in o) (sym (same_wanted own os w is.1))
-wish_is own os (Expand key pce) is =
-    ap (λ (b : Bool). cond b (option_map (λ k. Expand k.0 k.1) (key_of os)) (option_map (λ ends. Path (wanted_of own.0 os ends)) (without_bit (end_points_of own.0 os)))) is.0
-    ∙ ap (λ (o : Option (ℕ × Addr)). option_map (λ k. Expand k.0 k.1) o) is.1
-
 pub check_meets : CheckMeets
 check_meets asked own (Ok r) is =
     ap (λ (o : Option (ℕ × ℕ)). checked o (refusal_of own.0 asked.objects) (wish_of own.0 asked.objects)) is.rp
     ∙ ap (λ (e : Option (ℕ × ℕ)). checked (Some (r.flags, r.id)) e (wish_of own.0 asked.objects)) is.accepted
-    ∙ ap (λ (o : Option Wish). checked (Some (r.flags, r.id)) None o) (wish_is own asked.objects r.wish is.wish)
+    ∙ ap (λ (o : Option Wish). checked (Some (r.flags, r.id)) None o) is.wish
 check_meets asked own (Err (refusals.Wire rp kind value)) is =
     ap (λ (e : Option (ℕ × ℕ)). checked (without_bit (rp_of asked.objects)) e (wish_of own.0 asked.objects)) is.0
     ∙ ap (λ (o : Option (ℕ × ℕ)). checked o (Some (kind, value)) (wish_of own.0 asked.objects)) (sym is.1)

@@ -32,10 +32,10 @@ use Rattle.pcep_messages.specs.Groups.{rp_in, is_rp, cut, closes_by, begin_with,
 use Rattle.pcep_messages.specs.Messages.{placed, member_at, members_of, made_of, made_by_all, content_of, message_of}
 use Rattle.pcep_messages.specs.Splitting.{octets_at, begins_rp, up_to_rp, groups_of, frame_with, chunks_of, split_objects, split_of}
 use Rattle.plant_model.specs.Wire.{Bytes}
-use Rattle.plant_model.specs.Octets.{AreBytes}
+use Rattle.pcep_subobjects.specs.Subobjects.{AreOctets}
 use Rattle.plant_model.specs.RealWire.{message_or_none}
 use Rattle.plant_model.proofs.ReadKinds.{frame_kind}
-use Rattle.plant_model.proofs.OctetLaws.{IsOctets, one_more, joined, half_bytes, all_flat}
+use Rattle.pcep_subobjects.proofs.OctetLaws.{IsOctets, one_more, joined, half_octets, all_octets}
 use Rattle.plant_model.proofs.PartsRead.{all_from, both_read, tail_bytes, total}
 
 abbrev rp_count : Object → ℕ
@@ -455,7 +455,7 @@ splits_replies frame bytes replies h e = (one_of frame bytes h).replies replies 
 
 -- ---- the parts of bytes are bytes
 
-octets_fit : (bytes c : List ℕ) (len : ℕ) → AreBytes bytes → octets_at bytes ≡ Ok (c, len) → IsOctets c
+octets_fit : (bytes c : List ℕ) (len : ℕ) → AreOctets bytes → octets_at bytes ≡ Ok (c, len) → IsOctets c
 octets_fit bytes c len all e = go (nat_le 4 (length bytes) && (nat_le 4 n && ((n % 4 == 0) && nat_le n (length bytes)))) e
   where
     n : ℕ
@@ -470,17 +470,17 @@ octets_fit bytes c len all e = go (nat_le 4 (length bytes) && (nat_le 4 n && ((n
         let same : take n bytes ≡ c = ap (λ (x : List ℕ × ℕ). x.0) (ok_pair (take n bytes, n) (c, len) h) in
         subst IsOctets same (record { all = All-take (λ (b : ℕ). b < 256) n bytes all })
 
-all_octets : (content : List ℕ) (cs : List (List ℕ)) → AreBytes content → chunks_of content ≡ Ok cs → AllByRecursion IsOctets cs
-all_octets content cs fit e = all_from octets_at AreBytes IsOctets tail_bytes (λ bytes c len q h. octets_fit bytes c len q h) 0 0 content cs fit e
+chunks_are_octets : (content : List ℕ) (cs : List (List ℕ)) → AreOctets content → chunks_of content ≡ Ok cs → AllByRecursion IsOctets cs
+chunks_are_octets content cs fit e = all_from octets_at AreOctets IsOctets tail_bytes (λ bytes c len q h. octets_fit bytes c len q h) 0 0 content cs fit e
 
-abbrev AreOctets : List (List ℕ) × List (List (List ℕ)) → Type 0
-AreOctets r = AllByRecursion IsOctets r.0 × AllByRecursion (AllByRecursion IsOctets) r.1
+abbrev GroupsAreOctets : List (List ℕ) × List (List (List ℕ)) → Type 0
+GroupsAreOctets r = AllByRecursion IsOctets r.0 × AllByRecursion (AllByRecursion IsOctets) r.1
 
-cut_octets : (os : List (List ℕ)) → AllByRecursion IsOctets os → AreOctets (up_to_rp os)
+cut_octets : (os : List (List ℕ)) → AllByRecursion IsOctets os → GroupsAreOctets (up_to_rp os)
 cut_octets [] all = (tt, tt)
 cut_octets (o ∷ os) all = go (begins_rp o) (cut_octets os all.1)
   where
-    go : (b : Bool) → AreOctets (up_to_rp os) → AreOctets (cond b ([], (o ∷ (up_to_rp os).0) ∷ (up_to_rp os).1) (o ∷ (up_to_rp os).0, (up_to_rp os).1))
+    go : (b : Bool) → GroupsAreOctets (up_to_rp os) → GroupsAreOctets (cond b ([], (o ∷ (up_to_rp os).0) ∷ (up_to_rp os).1) (o ∷ (up_to_rp os).0, (up_to_rp os).1))
     go true more = (tt, ((all.0, more.0), more.1))
     go false more = ((all.0, more.0), more.1)
 
@@ -488,7 +488,7 @@ octets_append : (xs ys : List (List ℕ)) → AllByRecursion IsOctets xs → All
 octets_append [] ys a b = b
 octets_append (x ∷ xs) ys a b = (a.0, octets_append xs ys a.1 b)
 
-groups_octets : (front : List (List ℕ)) (gs : List (List (List ℕ))) → AreOctets (front, gs) → AllByRecursion (AllByRecursion IsOctets) (groups_of (front, gs))
+groups_octets : (front : List (List ℕ)) (gs : List (List (List ℕ))) → GroupsAreOctets (front, gs) → AllByRecursion (AllByRecursion IsOctets) (groups_of (front, gs))
 groups_octets front [] cut = tt
 groups_octets front (g ∷ gs) cut = (octets_append front g cut.0 cut.1.0, cut.1.1)
 
@@ -496,11 +496,11 @@ framed_octets : (first kind : ℕ) (gs : List (List (List ℕ))) → first < 256
 framed_octets first kind [] f k all = tt
 framed_octets first kind (g ∷ gs) f k all =
     let content = flat_map (λ (o : List ℕ). o) g in (
-      one_more first _ f (one_more kind _ k (joined (to_be_bytes w16 (length content + 4)) content (half_bytes (length content + 4)) (all_flat (λ (o : List ℕ). o) IsOctets (λ c is. is) g all.0))),
+      one_more first _ f (one_more kind _ k (joined (to_be_bytes w16 (length content + 4)) content (half_octets (length content + 4)) (all_octets (λ (o : List ℕ). o) IsOctets (λ c is. is) g all.0))),
       framed_octets first kind gs f k all.1,
     )
 
-each_is_octets : (frame : Bytes) → AreBytes frame → AllByRecursion IsOctets (split_of frame)
+each_is_octets : (frame : Bytes) → AreOctets frame → AllByRecursion IsOctets (split_of frame)
 each_is_octets [] fit = (record { all = fit }, tt)
 each_is_octets (a ∷ []) fit = (record { all = fit }, tt)
 each_is_octets (a ∷ b ∷ []) fit = (record { all = fit }, tt)
@@ -513,13 +513,13 @@ each_is_octets (first ∷ kind ∷ high ∷ low ∷ bytes) fit = go ((first / 32
     first_fits : first < 256
     first_fits = All-head (λ (b : ℕ). b < 256) first (kind ∷ high ∷ low ∷ bytes) fit
 
-    behind : AreBytes (kind ∷ high ∷ low ∷ bytes)
+    behind : AreOctets (kind ∷ high ∷ low ∷ bytes)
     behind = tail_bytes first (kind ∷ high ∷ low ∷ bytes) fit
 
     kind_fits : kind < 256
     kind_fits = All-head (λ (b : ℕ). b < 256) kind (high ∷ low ∷ bytes) behind
 
-    content : AreBytes bytes
+    content : AreOctets bytes
     content = tail_bytes low bytes (tail_bytes high (low ∷ bytes) (tail_bytes kind (high ∷ low ∷ bytes) behind))
 
     objects : (r : Result (List (List ℕ)) Bad) → chunks_of bytes ≡ r → AllByRecursion IsOctets (split_objects frame first kind r)
@@ -527,12 +527,12 @@ each_is_octets (first ∷ kind ∷ high ∷ low ∷ bytes) fit = go ((first / 32
     objects (Ok os) is = few (nat_le 2 (count_by begins_rp os))
       where
         few : (b : Bool) → AllByRecursion IsOctets (cond b (map (frame_with first kind) (groups_of (up_to_rp os))) (frame ∷ []))
-        few true = framed_octets first kind (groups_of (up_to_rp os)) first_fits kind_fits (groups_octets (up_to_rp os).0 (up_to_rp os).1 (cut_octets os (all_octets bytes os content is)))
+        few true = framed_octets first kind (groups_of (up_to_rp os)) first_fits kind_fits (groups_octets (up_to_rp os).0 (up_to_rp os).1 (cut_octets os (chunks_are_octets bytes os content is)))
         few false = (record { all = fit }, tt)
 
     go : (t : Bool) → AllByRecursion IsOctets (cond t (split_objects frame first kind (chunks_of bytes)) (frame ∷ []))
     go true = objects (chunks_of bytes) refl
     go false = (record { all = fit }, tt)
 
-pub splits_bytes : (frame bytes : Bytes) → AreBytes frame → Contains (split_of frame) bytes → AreBytes bytes
+pub splits_bytes : (frame bytes : Bytes) → AreOctets frame → Contains (split_of frame) bytes → AreOctets bytes
 splits_bytes frame bytes fit h = (All-contains IsOctets (split_of frame) bytes (All-from_recursion IsOctets (split_of frame) (each_is_octets frame fit)) h).all

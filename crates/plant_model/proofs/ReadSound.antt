@@ -19,7 +19,7 @@ use Rattle.pcep_subobjects.specs.declared.hop.Hop.{Hop}
 use Rattle.pcep_subobjects.specs.declared.hop.Hop.TheVariants as hops
 use Rattle.pcep_subobjects.specs.Hops.{hop_has_length, hop_of, hop_at, hops_of}
 use Rattle.pcep_subobjects.specs.Addresses.{wide_at, long_at, bits_of, IsAddr}
-use Rattle.pcep_subobjects.specs.Subobjects.{is_whole_words}
+use Rattle.pcep_subobjects.specs.Subobjects.{is_whole_words, AreOctets}
 use Rattle.pcep_subobjects.specs.Exclusions as exclusions
 use Rattle.pcep_subobjects.specs.Exclusions.{exclusion_has_length, excluded_of, exclusion_of, exclusion_at, exclusions_of, is_exclusion_kind}
 use Rattle.pcep_objects.specs.declared.object.Body.{Body}
@@ -41,7 +41,6 @@ use Rattle.pcep_messages.specs.Groups.{is_rp, cut, closes_by, begin_with, go_on_
 use Rattle.pcep_messages.specs.Messages.{placed, member_at, members_of, content_of, message_of}
 use Rattle.pcep_messages.specs.Said.{with_bit, first_with_bit, end_points_in, end_points_of, is_passed_over}
 use Rattle.plant_model.specs.Wire.{Bytes}
-use Rattle.plant_model.specs.Octets.{AreBytes, ExclusionHasBytes}
 use Rattle.plant_model.specs.RealWire.{message_or_none}
 use Rattle.plant_model.proofs.ReadKinds.{frame_kind}
 use Rattle.plant_model.proofs.PartsRead.{all_from, tail_bytes}
@@ -49,7 +48,7 @@ use Rattle.plant_model.proofs.OnePart.{others_of, beyond_first, frame_is, all_is
 
 -- ---- numbers
 
-byte_at : (bytes : Bytes) → AreBytes bytes → (k : ℕ) → slice_index bytes k < 256
+byte_at : (bytes : Bytes) → AreOctets bytes → (k : ℕ) → slice_index bytes k < 256
 byte_at bytes all k = elim (cases_lt k (length bytes)) [
   | inl within ↦ all k 0 within
   | inr past ↦ beyond (slice_index bytes k) (get_or_past bytes k 0 past)
@@ -58,19 +57,19 @@ byte_at bytes all k = elim (cases_lt k (length bytes)) [
     beyond : (n : ℕ) → n ≡ 0 → n < 256
     beyond n e = omega (arith, e)
 
-half_fits : (bytes : Bytes) → AreBytes bytes → (k : ℕ) → half_at bytes k < 2 ^ 16
+half_fits : (bytes : Bytes) → AreOctets bytes → (k : ℕ) → half_at bytes k < 2 ^ 16
 half_fits bytes all k = fits (slice_index bytes k) (slice_index bytes (k + 1)) (byte_at bytes all k) (byte_at bytes all (k + 1))
   where
     fits : (a b : ℕ) → a < 256 → b < 256 → 256 * a + b < 2 ^ 16
     fits a b p q = omega (arith, p, q)
 
-word_fits : (bytes : Bytes) → AreBytes bytes → (k : ℕ) → word_at bytes k < 2 ^ 32
+word_fits : (bytes : Bytes) → AreOctets bytes → (k : ℕ) → word_at bytes k < 2 ^ 32
 word_fits bytes all k = fits (half_at bytes k) (half_at bytes (k + 2)) (half_fits bytes all k) (half_fits bytes all (k + 2))
   where
     fits : (a b : ℕ) → a < 2 ^ 16 → b < 2 ^ 16 → 65536 * a + b < 2 ^ 32
     fits a b p q = omega (arith, p, q)
 
-wide_fits : (bytes : Bytes) → AreBytes bytes → (k : ℕ) → wide_at bytes k < 2 ^ 128
+wide_fits : (bytes : Bytes) → AreOctets bytes → (k : ℕ) → wide_at bytes k < 2 ^ 128
 wide_fits bytes all k = sixteen (long_at bytes k) (long_at bytes (k + 8)) (long k) (long (k + 8))
   where
     eight : (a b : ℕ) → a < 2 ^ 32 → b < 2 ^ 32 → 4294967296 * a + b < 2 ^ 64
@@ -84,10 +83,7 @@ wide_fits bytes all k = sixteen (long_at bytes k) (long_at bytes (k + 8)) (long 
 
 -- ---- exclusions
 
-abbrev pub IsKept : Exclusion → Type 0
-IsKept e = exclusions.IsWritten e × ExclusionHasBytes e
-
-kept_is : (avoid : Bool) (kind n : ℕ) (content : Bytes) → kind < 128 → n < 256 → AreBytes content → (2 ≤ n → length content + 2 ≡ n) → exclusion_has_length kind n ≡ true → IsKept (exclusion_of avoid kind content)
+kept_is : (avoid : Bool) (kind n : ℕ) (content : Bytes) → kind < 128 → n < 256 → AreOctets content → (2 ≤ n → length content + 2 ≡ n) → exclusion_has_length kind n ≡ true → exclusions.IsWritten (exclusion_of avoid kind content)
 kept_is avoid kind n content low fits all long e = go (kind == 1) refl (kind == 2) refl (kind == 32) refl (kind == 34) refl e
   where
     word : (k : ℕ) → word_at content k < 2 ^ 32
@@ -104,21 +100,21 @@ kept_is avoid kind n content low fits all long e = go (kind == 1) refl (kind == 
         (cond b (excluded.AsNumber (record { 0 = half_at content 0 })) (cond c (excluded.Srlg (word_at content 0)) (excluded.Other kind content))))
 
     go : (a : Bool) → (kind == 1) ≡ a → (d : Bool) → (kind == 2) ≡ d → (b : Bool) → (kind == 32) ≡ b → (c : Bool) → (kind == 34) ≡ c →
-        cond a (n == 8) (cond d (n == 20) (cond b (n == 4) (cond c (n == 8) (is_whole_words n)))) ≡ true → IsKept (record { avoid = avoid; what = read a d b c })
-    go true a' d d' b b' c c' h = (word 0, (byte_at content all 4, byte_at content all 5))
-    go false a' true d' b b' c c' h = (wide_fits content all 0, (byte_at content all 16, byte_at content all 17))
-    go false a' false d' true b' c c' h = (half_fits content all 0, tt)
-    go false a' false d' false b' true c' h = (word 0, tt)
+        cond a (n == 8) (cond d (n == 20) (cond b (n == 4) (cond c (n == 8) (is_whole_words n)))) ≡ true → exclusions.IsWritten (record { avoid = avoid; what = read a d b c })
+    go true a' d d' b b' c c' h = (word 0, byte_at content all 4, byte_at content all 5)
+    go false a' true d' b b' c c' h = (wide_fits content all 0, byte_at content all 16, byte_at content all 17)
+    go false a' false d' true b' c c' h = half_fits content all 0
+    go false a' false d' false b' true c' h = word 0
     go false a' false d' false b' false c' h =
         let w = words (n % 4 == 0) refl h in
         let l : length content + 2 ≡ n = long (omega (arith, w.1)) in
         let other : is_exclusion_kind kind ≡ false = or_from (kind == 1) _ a' (or_from (kind == 2) _ d' (or_from (kind == 32) _ b' (or_from (kind == 34) false c' refl))) in
-        ((other, (low, omega (arith, l, w.1), omega (arith, l, w.0, fits), omega (arith, l, w.0))), all)
+        (other, (low, omega (arith, l, w.1), omega (arith, l, w.0, fits), omega (arith, l, w.0), all))
 
 exclusion_is : (x y : Exclusion × ℕ) → ◌≡◌ {A = Result (Exclusion × ℕ) (ℕ → HopFault)} (Ok x) (Ok y) → x ≡ y
 exclusion_is x y e = cc
 
-exclusion_kept : (bytes : Bytes) (x : Exclusion) (len : ℕ) → AreBytes bytes → exclusion_at bytes ≡ Ok (x, len) → IsKept x
+exclusion_kept : (bytes : Bytes) (x : Exclusion) (len : ℕ) → AreOctets bytes → exclusion_at bytes ≡ Ok (x, len) → exclusions.IsWritten x
 exclusion_kept [] x len all e = absurd (no e)
   where
     no : ◌≡◌ {A = Result (Exclusion × ℕ) (ℕ → HopFault)} (Err hop_faults.Short) (Ok (x, len)) → ⊥
@@ -129,7 +125,7 @@ exclusion_kept (a ∷ []) x len all e = absurd (no e)
     no h = cc
 exclusion_kept (first ∷ n ∷ bytes) x len all e = go (nat_lt (length bytes + 2) n) refl (exclusion_has_length (first % 128) n) refl e
   where
-    behind : AreBytes (n ∷ bytes)
+    behind : AreOctets (n ∷ bytes)
     behind = tail_bytes first (n ∷ bytes) all
 
     no : (f : ℕ → HopFault) → ◌≡◌ {A = Result (Exclusion × ℕ) (ℕ → HopFault)} (Err f) (Ok (x, len)) → ⊥
@@ -139,18 +135,18 @@ exclusion_kept (first ∷ n ∷ bytes) x len all e = go (nat_lt (length bytes + 
     made = exclusion_of (nat_le 128 first) (first % 128) (take (n - 2) bytes)
 
     go : (a : Bool) → nat_lt (length bytes + 2) n ≡ a → (b : Bool) → exclusion_has_length (first % 128) n ≡ b →
-        cond {A = Result (Exclusion × ℕ) (ℕ → HopFault)} a (Err hop_faults.Short) (cond b (Ok (made, n)) (Err hop_faults.BadLength)) ≡ Ok (x, len) → IsKept x
+        cond {A = Result (Exclusion × ℕ) (ℕ → HopFault)} a (Err hop_faults.Short) (cond b (Ok (made, n)) (Err hop_faults.BadLength)) ≡ Ok (x, len) → exclusions.IsWritten x
     go true a' b b' h = absurd (no hop_faults.Short h)
     go false a' false b' h = absurd (no hop_faults.BadLength h)
     go false a' true b' h =
         let within : n ≤ length bytes + 2 = ltb-false (length bytes + 2) n a' in
         let same : made ≡ x = ap (λ (p : Exclusion × ℕ). p.0) (exclusion_is (made, n) (x, len) h) in
-        subst IsKept same
+        subst exclusions.IsWritten same
         (kept_is (nat_le 128 first) (first % 128) n (take (n - 2) bytes) (omega arith) (All-head (λ (b : ℕ). b < 256) n bytes behind) (All-take (λ (b : ℕ). b < 256) (n - 2) bytes (tail_bytes n bytes behind))
         (λ two. omega (arith, length-take (n - 2) bytes, within, two)) b')
 
-exclusions_kept : (bytes : Bytes) (xs : List Exclusion) → AreBytes bytes → exclusions_of bytes ≡ Ok xs → AllByRecursion IsKept xs
-exclusions_kept bytes xs all e = all_from exclusion_at AreBytes IsKept tail_bytes (λ b x len q h. exclusion_kept b x len q h) 0 0 bytes xs all e
+exclusions_kept : (bytes : Bytes) (xs : List Exclusion) → AreOctets bytes → exclusions_of bytes ≡ Ok xs → AllByRecursion exclusions.IsWritten xs
+exclusions_kept bytes xs all e = all_from exclusion_at AreOctets exclusions.IsWritten tail_bytes (λ b x len q h. exclusion_kept b x len q h) 0 0 bytes xs all e
 
 -- ---- hops
 
@@ -162,7 +158,7 @@ HopIsSound _ = Unit {0}
 hop_is : (x y : Hop × ℕ) → ◌≡◌ {A = Result (Hop × ℕ) (ℕ → HopFault)} (Ok x) (Ok y) → x ≡ y
 hop_is x y e = cc
 
-meant_sound : (loose : Bool) (kind : ℕ) (content : Bytes) → AreBytes content → HopIsSound (hop_of loose kind content)
+meant_sound : (loose : Bool) (kind : ℕ) (content : Bytes) → AreOctets content → HopIsSound (hop_of loose kind content)
 meant_sound loose kind content all = go (kind == 1) (kind == 2) (kind == 32) (kind == 64) (kind == 65)
   where
     read : Bool → Bool → Bool → Bool → Bool → Hop
@@ -181,7 +177,7 @@ meant_sound loose kind content all = go (kind == 1) (kind == 2) (kind == 32) (ki
     go false false false false true = tt
     go false false false false false = tt
 
-hop_sound : (bytes : Bytes) (x : Hop) (len : ℕ) → AreBytes bytes → hop_at bytes ≡ Ok (x, len) → HopIsSound x
+hop_sound : (bytes : Bytes) (x : Hop) (len : ℕ) → AreOctets bytes → hop_at bytes ≡ Ok (x, len) → HopIsSound x
 hop_sound [] x len all e = absurd (no e)
   where
     no : ◌≡◌ {A = Result (Hop × ℕ) (ℕ → HopFault)} (Err hop_faults.Short) (Ok (x, len)) → ⊥
@@ -205,8 +201,8 @@ hop_sound (first ∷ n ∷ bytes) x len all e = go (nat_lt (length bytes + 2) n)
         subst HopIsSound (ap (λ (p : Hop × ℕ). p.0) (hop_is (made, n) (x, len) h))
         (meant_sound (nat_le 128 first) (first % 128) (take (n - 2) bytes) (All-take (λ (b : ℕ). b < 256) (n - 2) bytes (tail_bytes n bytes (tail_bytes first (n ∷ bytes) all))))
 
-hops_sound : (bytes : Bytes) (xs : List Hop) → AreBytes bytes → hops_of bytes ≡ Ok xs → AllByRecursion HopIsSound xs
-hops_sound bytes xs all e = all_from hop_at AreBytes HopIsSound tail_bytes (λ b x len q h. hop_sound b x len q h) 0 0 bytes xs all e
+hops_sound : (bytes : Bytes) (xs : List Hop) → AreOctets bytes → hops_of bytes ≡ Ok xs → AllByRecursion HopIsSound xs
+hops_sound bytes xs all e = all_from hop_at AreOctets HopIsSound tail_bytes (λ b x len q h. hop_sound b x len q h) 0 0 bytes xs all e
 
 -- ---- bodies
 
@@ -218,7 +214,7 @@ IsSound (bodies.Bandwidth word) = IsWord word
 IsSound (bodies.Metric b c kind word) = IsWord word
 IsSound (bodies.Lspa x y z setup holding flags) = (x < 2 ^ 32) × (y < 2 ^ 32) × (z < 2 ^ 32)
 IsSound (bodies.Iro route) = AllByRecursion HopIsSound route
-IsSound (bodies.Xro list) = AllByRecursion IsKept list
+IsSound (bodies.Xro list) = AllByRecursion exclusions.IsWritten list
 IsSound _ = Unit {0}
 
 abbrev pub Maybe : {X : Type 0} → (X → Type 0) → Option X → Type 0
@@ -241,7 +237,7 @@ by_parts : {X : Type 0} (body : List X → Body) (r : Result (List X) HopFault) 
 by_parts body (Ok xs) s = s xs refl
 by_parts body (Err f) s = tt
 
-module _ (content : Bytes) (all : AreBytes content) where
+module _ (content : Bytes) (all : AreOctets content) where
   word : (k : ℕ) → word_at content k < 2 ^ 32
   word k = word_fits content all k
 
@@ -286,7 +282,7 @@ ObjectIsSound o = IsSound o.body
 object_is : (x y : Object × ℕ) → ◌≡◌ {A = Result (Object × ℕ) (ℕ → Bad)} (Ok x) (Ok y) → x ≡ y
 object_is x y e = cc
 
-object_sound : (bytes : Bytes) (o : Object) (len : ℕ) → AreBytes bytes → member_at bytes ≡ Ok (o, len) → ObjectIsSound o
+object_sound : (bytes : Bytes) (o : Object) (len : ℕ) → AreOctets bytes → member_at bytes ≡ Ok (o, len) → ObjectIsSound o
 object_sound [] o len all e = absurd (no e)
   where
     no : ◌≡◌ {A = Result (Object × ℕ) (ℕ → Bad)} (Err Malformed) (Ok (o, len)) → ⊥
@@ -309,7 +305,7 @@ object_sound (class ∷ second ∷ high ∷ low ∷ bytes) o len all e =
     n : ℕ
     n = 256 * high + low
 
-    content : AreBytes (take (n - 4) bytes)
+    content : AreOctets (take (n - 4) bytes)
     content = All-take (λ (b : ℕ). b < 256) (n - 4) bytes (tail_bytes low bytes (tail_bytes high (low ∷ bytes) (tail_bytes second (high ∷ low ∷ bytes) (tail_bytes class (second ∷ high ∷ low ∷ bytes) all))))
 
     no : ◌≡◌ {A = Result (Object × ℕ) (ℕ → Bad)} (Err Malformed) (Ok (o, len)) → ⊥
@@ -325,8 +321,8 @@ object_sound (class ∷ second ∷ high ∷ low ∷ bytes) o len all e =
         let made : Object = record { class = class; kind = second / 16; must = second / 2 % 2 == 1; body = body } in
         subst ObjectIsSound (ap (λ (x : Object × ℕ). x.0) (object_is (made, n) (o, len) h)) s
 
-members_sound : (content : Bytes) (os : List Object) → AreBytes content → members_of content ≡ Ok os → AllByRecursion ObjectIsSound os
-members_sound content os all e = all_from member_at AreBytes ObjectIsSound tail_bytes (λ b o len q h. object_sound b o len q h) 4 0 content os all e
+members_sound : (content : Bytes) (os : List Object) → AreOctets content → members_of content ≡ Ok os → AllByRecursion ObjectIsSound os
+members_sound content os all e = all_from member_at AreOctets ObjectIsSound tail_bytes (λ b o len q h. object_sound b o len q h) 4 0 content os all e
 
 -- ---- the one request of a message
 
@@ -340,7 +336,7 @@ front_sound closed (o ∷ os) all = go (is_rp o) closed (λ c. front_sound c os 
     go true false more = (all.0, more (false || is_rp o))
     go false c more = (all.0, more (c || is_rp o))
 
-pub request_sound : (bytes : Bytes) (a : Asked) → AreBytes bytes → message_or_none (message_of bytes) ≡ Some (messages.PcReq (a ∷ [])) → AllByRecursion ObjectIsSound a.objects
+pub request_sound : (bytes : Bytes) (a : Asked) → AreOctets bytes → message_or_none (message_of bytes) ≡ Some (messages.PcReq (a ∷ [])) → AllByRecursion ObjectIsSound a.objects
 request_sound [] a all e = absurd (no e)
   where
     no : ◌≡◌ {A = Option Message} None (Some (messages.PcReq (a ∷ []))) → ⊥
@@ -362,7 +358,7 @@ request_sound (first ∷ kind ∷ high ∷ low ∷ content) a all e =
     let at : kind ≡ 3 = frame_kind first kind high low content m e in
     let frame = frame_is first kind high low content m e in
     let is = all_is 3 (members_of content) m (ap (λ k. message_or_none (content_of k content)) (sym at) ∙ frame.is) in
-    let bytes : AreBytes content = tail_bytes low content (tail_bytes high (low ∷ content) (tail_bytes kind (high ∷ low ∷ content) (tail_bytes first (kind ∷ high ∷ low ∷ content) all))) in
+    let bytes : AreOctets content = tail_bytes low content (tail_bytes high (low ∷ content) (tail_bytes kind (high ∷ low ∷ content) (tail_bytes first (kind ∷ high ∷ low ∷ content) all))) in
     subst (λ (os : List Object). AllByRecursion ObjectIsSound os) (front_is is.0 is.2) (front_sound false is.0 (members_sound content is.0 bytes is.1))
   where
     front_is : (os : List Object) → messages.PcReq (map asked_of (requests_of os)) ≡ messages.PcReq (a ∷ []) → (cut (closes_by closers.Rp) false os).0 ≡ a.objects

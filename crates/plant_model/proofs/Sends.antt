@@ -37,13 +37,13 @@ use Rattle.pcep_messages.specs.Refusals.{has_no_number, domains}
 use Rattle.pcep_messages.specs.Requests.{without_bit, bound_of, demands_of, sequence_of}
 use Rattle.pcep_messages.specs.Spelling.{BeginsRequest, objects_in, content_text, message_text}
 use Rattle.plant_model.specs.Wire.{Bytes}
-use Rattle.plant_model.specs.Octets.{AreBytes, BodyHasBytes, HopHasBytes, ExclusionHasBytes, ObjectHasBytes}
+use Rattle.pcep_subobjects.specs.Subobjects.{AreOctets}
 use Rattle.plant_model.specs.Writing.{as_hop, code, needed, ends, lspa, bandwidth, bound, iro, xro, asked_of, request_message, vspt_flag}
 use Rattle.plant_model.specs.RealWire.{message_or_none, wire}
 use Rattle.plant_model.specs.Laws.{Admits, IsRequestInRange, CanBeSent}
 use Rattle.plant_model.proofs.Admitted.{IsAdmitted, admitted_is}
 use Rattle.plant_model.proofs.SentOn.{can_ask, kept_by, flat, after_lspa}
-use Rattle.plant_model.proofs.ReadSound.{HopIsSound, IsKept, IsSound, Maybe, ObjectIsSound, request_sound, said_sound, bit_sound, ends_sound, listed_sound}
+use Rattle.plant_model.proofs.ReadSound.{HopIsSound, IsSound, Maybe, ObjectIsSound, request_sound, said_sound, bit_sound, ends_sound, listed_sound}
 
 -- ---- what of a request came as bytes
 
@@ -55,7 +55,7 @@ pub record FromBytes (w : Wanted) : Type 0 where
   pub bandwidth : Maybe IsWord w.bandwidth_word
   pub bound : Maybe IsWord w.bound_word
   pub masks : Maybe (λ (m : ℕ × ℕ × ℕ). (m.0 < 2 ^ 32) × (m.1 < 2 ^ 32) × (m.2 < 2 ^ 32)) w.masks
-  pub exclusions : AllByRecursion IsKept w.query.exclusions
+  pub exclusions : AllByRecursion exclusions.IsWritten w.query.exclusions
   pub few : length w.query.exclusions ≤ 256
 
 abbrev MasksFit : ℕ × ℕ × ℕ → Type 0
@@ -136,9 +136,9 @@ module _ (own : As) (os : List Object) (flags x : ℕ) (w : Wanted) (is : IsAdmi
       go true more = all.0
       go false more = more
 
-  kept_demands : (o : Option (List Exclusion)) → Maybe (AllByRecursion IsKept) o → AllByRecursion IsKept (demands_of o)
+  kept_demands : (o : Option (List Exclusion)) → Maybe (AllByRecursion exclusions.IsWritten) o → AllByRecursion exclusions.IsWritten (demands_of o)
   kept_demands None h = tt
-  kept_demands (Some xs) h = kept_by is_demand IsKept xs h
+  kept_demands (Some xs) h = kept_by is_demand exclusions.IsWritten xs h
 
   pub from_bytes : FromBytes w
   from_bytes = record {
@@ -146,7 +146,7 @@ module _ (own : As) (os : List Object) (flags x : ℕ) (w : Wanted) (is : IsAdmi
     bandwidth = subst (λ (o : Option ℕ). Maybe IsWord o) (ap (λ (v : Wanted). v.bandwidth_word) (sym is.is)) (said_sound bandwidth_in IsWord each_bandwidth os sound);
     bound = subst (λ (o : Option ℕ). Maybe IsWord o) (ap (λ (v : Wanted). v.bound_word) (sym is.is)) (bound_word (metrics_of os) (listed_sound metric_in (λ (m : Bool × ℕ × ℕ). IsWord m.2) each_metric os sound));
     masks = subst (λ (o : Option (ℕ × ℕ × ℕ)). Maybe MasksFit o) (ap (λ (v : Wanted). v.masks) (sym is.is)) (said_sound masks_in MasksFit each_masks os sound);
-    exclusions = subst (λ (l : List Exclusion). AllByRecursion IsKept l) (ap (λ (v : Wanted). v.query.exclusions) (sym is.is)) (kept_demands (xro_of os) (said_sound xro_in (AllByRecursion IsKept) each_xro os sound));
+    exclusions = subst (λ (l : List Exclusion). AllByRecursion exclusions.IsWritten l) (ap (λ (v : Wanted). v.query.exclusions) (sym is.is)) (kept_demands (xro_of os) (said_sound xro_in (AllByRecursion exclusions.IsWritten) each_xro os sound));
     few = (can_ask own os flags x w is).kept.few;
   }
     where
@@ -162,7 +162,7 @@ module _ (own : As) (os : List Object) (flags x : ℕ) (w : Wanted) (is : IsAdmi
       each_masks (bodies.Lspa a b c s t f) h = h
       each_masks _ h = tt
 
-      each_xro : (b : Body) → IsSound b → Maybe (AllByRecursion IsKept) (xro_in b)
+      each_xro : (b : Body) → IsSound b → Maybe (AllByRecursion exclusions.IsWritten) (xro_in b)
       each_xro (bodies.Xro xs) h = h
       each_xro _ h = tt
 
@@ -171,12 +171,11 @@ module _ (own : As) (os : List Object) (flags x : ℕ) (w : Wanted) (is : IsAdmi
 -- objects that are written, in so many octets, and no RP among them
 pub record IsPart (most : ℕ) (os : List Object) : Type 0 where
   pub written : AllByRecursion objects.IsWritten os
-  pub octets : AllByRecursion ObjectHasBytes os
   pub short : length (flat_map object_text os) ≤ most
   pub no_rp : list_any is_rp os ≡ false
 
 nothing : (n : ℕ) → IsPart n []
-nothing n = record { written = tt; octets = tt; short = omega arith; no_rp = refl }
+nothing n = record { written = tt; short = omega arith; no_rp = refl }
 
 all_append : {X : Type 0} (P : X → Type 0) (xs ys : List X) → AllByRecursion P xs → AllByRecursion P ys → AllByRecursion P (xs ++ ys)
 all_append P [] ys a b = b
@@ -193,7 +192,6 @@ any_append (x ∷ xs) ys a b = go (is_rp x) a (λ h. any_append xs ys h b)
 pub joined : (n k : ℕ) (xs ys : List Object) → IsPart n xs → IsPart k ys → IsPart (n + k) (xs ++ ys)
 joined n k xs ys a b = record {
   written = all_append objects.IsWritten xs ys a.written b.written;
-  octets = all_append ObjectHasBytes xs ys a.octets b.octets;
   short = omega (arith, ap length (flat_map-append object_text xs ys), length-append (flat_map object_text xs) (flat_map object_text ys), a.short, b.short);
   no_rp = any_append xs ys a.no_rp b.no_rp;
 }
@@ -207,11 +205,10 @@ code_fits Te = omega arith
 code_fits Hops = omega arith
 
 -- by the length of its text
-alone_part : (o : Object) (n : ℕ) → n < 65533 → o.class < 256 → o.kind < 16 → objects.IsPlaced o.class o.kind o.body → objects.Fits o.body → BodyHasBytes o.body →
+alone_part : (o : Object) (n : ℕ) → n < 65533 → o.class < 256 → o.kind < 16 → objects.IsPlaced o.class o.kind o.body → objects.Fits o.body → objects.HasOctets o.body →
     length (object_text o) ≡ n → is_rp o ≡ false → IsPart n (o ∷ [])
 alone_part o n few class kind placed fits octets long no_rp = record {
-  written = (record { kind = kind; placed = placed; fits = fits; small = subst (λ (k : ℕ). k ≤ 65532) (sym long) (omega (arith, few)) }, tt);
-  octets = ((class, octets), tt);
+  written = (record { class = class; octets = octets; kind = kind; placed = placed; fits = fits; small = subst (λ (k : ℕ). k ≤ 65532) (sym long) (omega (arith, few)) }, tt);
   short = subst (λ (k : ℕ). k ≤ n) (sym (ap length (append-nil (object_text o)) ∙ long)) (omega arith);
   no_rp = ap (λ (b : Bool). b || false) no_rp;
 }
@@ -235,18 +232,17 @@ ends_part (V6 m) (V4 n) p q e = absurd (kinds_differ (bits_of (V4 n)) (bits_of (
 lspa_part : (o : Option (ℕ × ℕ × ℕ)) → Maybe MasksFit o → IsPart 20 (lspa o)
 lspa_part None h = nothing 20
 lspa_part (Some m) h = record {
-  written = (record { kind = omega arith; placed = (refl, refl); fits = h; small = omega arith }, tt);
-  octets = ((omega arith, (omega arith, omega arith, omega arith)), tt);
+  written = (record { class = omega arith; octets = (omega arith, omega arith, omega arith); kind = omega arith; placed = (refl, refl); fits = h; small = omega arith }, tt);
   short = omega arith;
   no_rp = refl;
 }
 
 bandwidth_part : (o : Option ℕ) → Maybe IsWord o → IsPart 8 (bandwidth o)
 bandwidth_part None h = nothing 8
-bandwidth_part (Some word) h = record { written = (record { kind = omega arith; placed = (refl, refl); fits = h; small = omega arith }, tt); octets = ((omega arith, tt), tt); short = omega arith; no_rp = refl }
+bandwidth_part (Some word) h = record { written = (record { class = omega arith; octets = tt; kind = omega arith; placed = (refl, refl); fits = h; small = omega arith }, tt); short = omega arith; no_rp = refl }
 
 metric_part : (b c : Bool) (m : Metric) (word : ℕ) → IsWord word → IsPart 12 (needed 6 (bodies.Metric b c (code m) word) ∷ [])
-metric_part b c m word h = record { written = (record { kind = omega arith; placed = (refl, refl); fits = h; small = omega arith }, tt); octets = ((omega arith, code_fits m), tt); short = omega arith; no_rp = refl }
+metric_part b c m word h = record { written = (record { class = omega arith; octets = code_fits m; kind = omega arith; placed = (refl, refl); fits = h; small = omega arith }, tt); short = omega arith; no_rp = refl }
 
 bound_part : (m : Metric) (o : Option ℕ) → Maybe IsWord o → IsPart 12 (bound m o)
 bound_part m None h = nothing 12
@@ -260,10 +256,6 @@ hops_written : (s : List As) → All (λ (a : As). a.0 < 2 ^ 16) s → AllByRecu
 hops_written [] all = tt
 hops_written (a ∷ s) all = (All-head (λ (a : As). a.0 < 2 ^ 16) a s all, hops_written s (All-tail (λ (a : As). a.0 < 2 ^ 16) a s all))
 
-hops_octets : (s : List As) → AllByRecursion HopHasBytes (map as_hop s)
-hops_octets [] = tt
-hops_octets (a ∷ s) = (tt, hops_octets s)
-
 -- one object, by the length of its body
 pub alone_short : (o : Object) (n : ℕ) → length (object_text o) ≤ n → length (flat_map object_text (o ∷ [])) ≤ n
 alone_short o n le = omega (arith, ap length (append-nil (object_text o)), le)
@@ -274,8 +266,7 @@ iro_part (a ∷ s) few all =
     let o = needed 10 (bodies.Iro (map as_hop (a ∷ s))) in
     let le : length (object_text o) ≤ 68 = omega (arith, four_each (a ∷ s), few) in
     record {
-      written = (record { kind = omega arith; placed = (refl, refl); fits = hops_written (a ∷ s) all; small = omega (arith, le) }, tt);
-      octets = ((omega arith, hops_octets (a ∷ s)), tt);
+      written = (record { class = omega arith; octets = tt; kind = omega arith; placed = (refl, refl); fits = hops_written (a ∷ s) all; small = omega (arith, le) }, tt);
       short = alone_short o 68 le;
       no_rp = refl;
     }
@@ -287,26 +278,17 @@ exclusion_short avoid (excluded.AsNumber number) h = omega arith
 exclusion_short avoid (excluded.Srlg number) h = omega arith
 exclusion_short avoid (excluded.Other kind body) h = let most : length body ≤ 250 = h.1.2 in omega (arith, most)
 
-xro_short : (xs : List Exclusion) → AllByRecursion IsKept xs → length (flat_map exclusion_text xs) ≤ 252 * length xs
+xro_short : (xs : List Exclusion) → AllByRecursion exclusions.IsWritten xs → length (flat_map exclusion_text xs) ≤ 252 * length xs
 xro_short [] all = omega arith
-xro_short (x ∷ xs) all = omega (arith, length-append (exclusion_text x) (flat_map exclusion_text xs), exclusion_short x.avoid x.what all.0.0, xro_short xs all.1)
+xro_short (x ∷ xs) all = omega (arith, length-append (exclusion_text x) (flat_map exclusion_text xs), exclusion_short x.avoid x.what all.0, xro_short xs all.1)
 
-first_parts : (xs : List Exclusion) → AllByRecursion IsKept xs → AllByRecursion exclusions.IsWritten xs
-first_parts [] all = tt
-first_parts (x ∷ xs) all = (all.0.0, first_parts xs all.1)
-
-second_parts : (xs : List Exclusion) → AllByRecursion IsKept xs → AllByRecursion ExclusionHasBytes xs
-second_parts [] all = tt
-second_parts (x ∷ xs) all = (all.0.1, second_parts xs all.1)
-
-xro_part : (xs : List Exclusion) → length xs ≤ 256 → AllByRecursion IsKept xs → IsPart 64520 (xro xs)
+xro_part : (xs : List Exclusion) → length xs ≤ 256 → AllByRecursion exclusions.IsWritten xs → IsPart 64520 (xro xs)
 xro_part [] few all = nothing 64520
 xro_part (x ∷ xs) few all =
     let o = needed 17 (bodies.Xro (x ∷ xs)) in
     let le : length (object_text o) ≤ 64520 = omega (arith, xro_short (x ∷ xs) all, few) in
     record {
-      written = (record { kind = omega arith; placed = (refl, refl); fits = first_parts (x ∷ xs) all; small = omega (arith, le) }, tt);
-      octets = ((omega arith, second_parts (x ∷ xs) all), tt);
+      written = (record { class = omega arith; octets = tt; kind = omega arith; placed = (refl, refl); fits = all; small = omega (arith, le) }, tt);
       short = alone_short o 64520 le;
       no_rp = refl;
     }
@@ -315,7 +297,7 @@ xro_part (x ∷ xs) few all =
 
 can_be_sent : (w : Wanted) → FromBytes w → CanBeSent w
 can_be_sent w from id t s at_id at_t alike few all =
-    (record { shape = (omega arith, (subst BeginsRequest (sym flat_is) (refl, rest.no_rp), tt)); objects = subst (AllByRecursion objects.IsWritten) (sym listed) (rp_written, rest.written); small = small }, subst (AllByRecursion ObjectHasBytes) (sym listed) ((omega arith, tt), rest.octets))
+    record { shape = (omega arith, (subst BeginsRequest (sym flat_is) (refl, rest.no_rp), tt)); objects = subst (AllByRecursion objects.IsWritten) (sym listed) (rp_written, rest.written); small = small }
   where
     behind : List Object
     behind = ends w.source t ∷ (lspa w.masks ++ after_lspa id w t s)
@@ -330,7 +312,7 @@ can_be_sent w from id t s at_id at_t alike few all =
     listed = append-nil (asked_of id w t s).objects ∙ flat_is
 
     rp_written : objects.IsWritten rp
-    rp_written = record { kind = omega arith; placed = (refl, refl); fits = (omega arith, at_id); small = omega arith }
+    rp_written = record { class = omega arith; octets = tt; kind = omega arith; placed = (refl, refl); fits = (omega arith, at_id); small = omega arith }
 
     rest : IsPart (36 + (20 + (8 + (12 + (12 + (68 + 64520)))))) behind
     rest =
@@ -350,7 +332,7 @@ can_be_sent w from id t s at_id at_t alike few all =
         four_more : (n : ℕ) → n ≤ 65000 → suc (suc (suc (suc n))) ≤ 65532
         four_more n le = omega (arith, le)
 
-pub sends : (bytes : Bytes) (a : Asked) (own : As) (flags x : ℕ) (w : Wanted) → AreBytes bytes → message_or_none (message_of bytes) ≡ Some (messages.PcReq (a ∷ [])) → Admits wire a own flags x w →
+pub sends : (bytes : Bytes) (a : Asked) (own : As) (flags x : ℕ) (w : Wanted) → AreOctets bytes → message_or_none (message_of bytes) ≡ Some (messages.PcReq (a ∷ [])) → Admits wire a own flags x w →
     IsRequestInRange flags x w × CanBeSent w
 sends bytes a own flags x w all e h =
     let is = admitted_is a own flags x w h in

@@ -24,12 +24,12 @@ use Rattle.pcep_messages.specs.declared.message.Wanted.{Wanted}
 use Rattle.pcep_messages.specs.Groups.{first_said}
 use Rattle.pcep_messages.specs.Said.{end_points_of, bandwidth_in, bandwidth_of, masks_in, masks_of, metric_in, metrics_of, iro_in, iro_of, xro_in, xro_of}
 use Rattle.pcep_messages.specs.Refusals.{Reason, because, first_of, request_rules, path_rules, unsupported, unsupported_among, is_optional, asked_type, is_bound, is_minimised, are_measures, can_exclude, can_follow, refusal_of, is_domain, domains, has_twice, among}
-use Rattle.pcep_messages.specs.Requests.{metric_of_type, bound_of, cap_of, units_of, demands_of, query_of, sequence_of, without_bit}
+use Rattle.pcep_messages.specs.Requests.{metric_of_type, bound_of, cap_of, units_of, demands_of, query_of, sequence_of, without_bit, wanted_of}
 use Rattle.walk_laws.specs.Crossing.{query_in}
 use Rattle.plant_model.specs.Names.{parent_as}
 use Rattle.plant_model.specs.Writing.{as_hop, code, needed, ends, ends_kind, lspa, bandwidth, bound, iro, xro, asked_of, vspt_flag}
 use Rattle.plant_model.specs.Wire.{Checked, Wrong}
-use Rattle.plant_model.specs.RealWire.{wanted_of, check_of, wire}
+use Rattle.plant_model.specs.RealWire.{check_of, wire}
 use Rattle.plant_model.specs.Laws.{Admits, IsSequence}
 use Rattle.plant_model.proofs.Admitted.{IsAdmitted, admitted_is, admits_from}
 

@@ -9,7 +9,7 @@ use Rattle.pcep_framing.proofs.FeedLemmas.{feed_feeds}
 use Rattle.pcep_messages.proofs.MessageLaws.{written_is_read}
 use Rattle.plant_model.specs.RealWire.{WireIsCodec, message_or_none, wire}
 use Rattle.plant_model.proofs.ReadKinds as kinds
-use Rattle.plant_model.proofs.OctetLaws as octets
+use Rattle.pcep_messages.proofs.MessageOctets.{written_is_octets}
 use Rattle.plant_model.proofs.OnePart as parts
 use Rattle.plant_model.proofs.Sends as sends
 use Rattle.plant_model.proofs.SentOn as sent
@@ -35,7 +35,7 @@ pub wire_is_codec : WireIsCodec
 wire_is_codec = record {
   reads = λ m is. ap message_or_none (written_is_read m is);
   kinds = kinds.kinds;
-  bytes = octets.bytes;
+  bytes = written_is_octets;
   frames = feed_feeds;
   splits = parts.splits;
   splits_replies = parts.splits_replies;

@@ -69,3 +69,8 @@ pub record IsJoinOf (cap : ℕ) (target : Target) (border : List BorderRow) (dow
       (b.cost < c) ⊎ ((b.cost ≡ c) × (rank b.exit ≤ rank exit))
   pub all : (e : Addr) (c : ℕ) (exit : Addr) (head : Option Addr) → JoinsBy cap target border down e c exit head →
       (b : Best) × Contains best b × (b.entry ≡ e)
+
+-- What is joined leads to a node that the next domain told.
+abbrev pub JoinsWhatWasTold : Type 0
+JoinsWhatWasTold = (cap : ℕ) (next : As) (border : List BorderRow) (down : List Down) (e : Addr) (c : ℕ) (exit head : Addr) → JoinsBy cap (Next next) border down e c exit (Some head) →
+    (rest : ℕ) × Contains (beyond down) (record { node = head; cost = rest })

@@ -23,7 +23,7 @@ use Rattle.plant_model.specs.declared.settings.ElementRow.{ElementRow}
 use Rattle.plant_model.specs.Names.{parent_as}
 use Rattle.plant_model.specs.Wire.{Bytes, Codec, Admitted, Wrong}
 use Rattle.plant_model.specs.Writing.{ends_kind, asked_of, request_message, vspt_flag}
-use Rattle.plant_model.specs.Octets.{AreBytes, HasBytes}
+use Rattle.pcep_subobjects.specs.Subobjects.{AreOctets}
 use Rattle.plant_model.specs.Settings.{is_element}
 use Rattle.plant_model.specs.Plant.{IsLinkInRange}
 
@@ -50,19 +50,19 @@ pub record IsRequestInRange (flags id : ℕ) (w : Wanted) : Type 0 where
 -- it can be sent on as bytes, under any id, to any end and along any sequence
 abbrev pub CanBeSent : Wanted → Type 0
 CanBeSent w = (id : ℕ) (t : Addr) (sequence : List As) → id < 2 ^ 32 → IsAddr t → bits_of w.source ≡ bits_of t → length sequence ≤ 16 → All (λ (a : As). a.0 < 2 ^ 16) sequence →
-    IsWritten (request_message id w t sequence) × HasBytes (request_message id w t sequence)
+    IsWritten (request_message id w t sequence)
 
 -- What is written is read as what was meant, a request sent on asks for the same at the next element, and costs keep their
 -- value.
 pub record IsCodec (c : Codec) : Type 0 where
   pub reads : (m : Message) → IsWritten m → c.read (c.text m) ≡ Some m
   pub kinds : (m other : Message) → c.read (c.text m) ≡ Some other → kind_of m ≡ kind_of other
-  pub bytes : (m : Message) → IsWritten m → HasBytes m → AreBytes (c.text m)
+  pub bytes : (m : Message) → IsWritten m → AreOctets (c.text m)
   pub frames : (framing : Framing) (piece : Bytes) → FeedsTo framing piece (c.feed framing piece).frames (c.feed framing piece).framing
   pub splits : (frame bytes : Bytes) (asks : List Asked) → Contains (c.split frame) bytes → c.read bytes ≡ Some (messages.PcReq asks) → length asks ≡ 1
   pub splits_replies : (frame bytes : Bytes) (replies : List Reply) → Contains (c.split frame) bytes → c.read bytes ≡ Some (messages.PcRep replies) → length replies ≤ 1
-  pub splits_bytes : (frame bytes : Bytes) → AreBytes frame → Contains (c.split frame) bytes → AreBytes bytes
-  pub sends : (bytes : Bytes) (a : Asked) (own : As) (flags x : ℕ) (w : Wanted) → AreBytes bytes → c.read bytes ≡ Some (messages.PcReq (a ∷ [])) → Admits c a own flags x w →
+  pub splits_bytes : (frame bytes : Bytes) → AreOctets frame → Contains (c.split frame) bytes → AreOctets bytes
+  pub sends : (bytes : Bytes) (a : Asked) (own : As) (flags x : ℕ) (w : Wanted) → AreOctets bytes → c.read bytes ≡ Some (messages.PcReq (a ∷ [])) → Admits c a own flags x w →
       IsRequestInRange flags x w × CanBeSent w
   pub admits : (a : Asked) (own : As) (flags x : ℕ) (w : Wanted) → Admits c a own flags x w →
       (id : ℕ) (t : Addr) (next : As) (rest : List As) → 1 ≤ id → id < 2 ^ 32 → IsSequence next rest →

@@ -1,21 +1,17 @@
 -- The wire of PCEP as a codec: its messages, its frames, its refusals and its words.
-use Rattle.std.specs.Prelude.{ℕ, cond, List, Option, Some, None, Result, Ok, Err, option_map}
+use Rattle.std.specs.Prelude.{ℕ, Option, Some, None, Result, Ok, Err}
 use Rattle.dom_base.specs.declared.names.As.{As}
-use Rattle.dom_base.specs.declared.addr.Addr.{Addr}
 use Rattle.dom_base.specs.Words.{units, word_of}
-use Rattle.pcep_objects.specs.declared.object.Object.{Object}
 use Rattle.pcep_messages.specs.declared.message.Message.{Message}
 use Rattle.pcep_messages.specs.declared.message.Asked.{Asked}
 use Rattle.pcep_messages.specs.declared.message.Bad.{Bad}
-use Rattle.pcep_messages.specs.declared.message.Wanted.{Wanted}
 use Rattle.pcep_messages.specs.declared.message.Wish.{Wish}
-use Rattle.pcep_messages.specs.declared.message.Wish.TheVariants.{Path, Expand}
 use Rattle.pcep_messages.specs.Messages.{message_of}
 use Rattle.pcep_messages.specs.Spelling.{message_text}
 use Rattle.pcep_messages.specs.Splitting.{split_of}
-use Rattle.pcep_messages.specs.Said.{rp_of, end_points_of, bandwidth_of, masks_of, metrics_of, iro_of, key_of, asks_key}
+use Rattle.pcep_messages.specs.Said.{rp_of}
 use Rattle.pcep_messages.specs.Refusals.{refusal_of}
-use Rattle.pcep_messages.specs.Requests.{without_bit, query_of, bound_of, sequence_of}
+use Rattle.pcep_messages.specs.Requests.{without_bit, wish_of}
 use Rattle.pcep_framing.specs.Feeding.{feed_of}
 use Rattle.plant_model.specs.Wire.{Codec, Checked, Admitted, Wrong}
 use Rattle.plant_model.specs.Laws.{IsCodec}
@@ -27,21 +23,6 @@ message_or_none (Ok m) = Some m
 message_or_none (Err e) = None
 
 -- ---- requests
-
-abbrev pub wanted_of : ℕ → List Object → Addr × Addr → Wanted
-wanted_of own os ends = record {
-  source = ends.0;
-  target = ends.1;
-  query = query_of own os;
-  bandwidth_word = bandwidth_of os;
-  bound_word = bound_of (metrics_of os);
-  masks = masks_of os;
-  sequence = sequence_of (iro_of os);
-}
-
-abbrev pub wish_of : ℕ → List Object → Option Wish
-wish_of own os =
-    cond (asks_key (rp_of os)) (option_map (λ k. Expand k.0 k.1) (key_of os)) (option_map (λ ends. Path (wanted_of own os ends)) (without_bit (end_points_of own os)))
 
 -- a request without a refusal has an RP, and asks for something
 abbrev pub checked : Option (ℕ × ℕ) → Option (ℕ × ℕ) → Option Wish → Checked

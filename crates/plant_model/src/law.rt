@@ -1,4 +1,5 @@
 //! The laws of the model: it says what the contracts of its parts say, and the wire is a codec.
+ghost use Rattle.plant_model.specs.Jobs.{JoinsWhatWasTold};
 ghost use Rattle.plant_model.specs.Meeting.{DeniedMeets, BranchMeets, CheckMeets, LiveMeets};
 ghost use Rattle.plant_model.specs.RealWire.{WireIsCodec};
 
@@ -9,6 +10,11 @@ pub fn model_meets_parts()
     ensures branches { BranchMeets }
     ensures requests { CheckMeets }
     ensures generations { LiveMeets }
+{}
+
+/// A way that is joined leads to a node that the next domain told.
+pub fn joins_what_was_told()
+    ensures { JoinsWhatWasTold }
 {}
 
 /// The functions of messages, frames, refusals and words are a codec, on whose laws those of

@@ -6,13 +6,15 @@ mod event;
 mod law;
 mod outcome;
 mod output;
+mod sample;
 mod settings;
 mod upper;
 
 pub use event::{BlindEvent, Event};
-pub use law::{model_meets_parts, wire_is_codec};
+pub use law::{joins_what_was_told, model_meets_parts, wire_is_codec};
 pub use outcome::{Outcome, Refused};
 pub use output::{Lost, Output, Outputs};
+pub use sample::sample_runs;
 pub use settings::{DenyRow, ElementRow, NetworkParts, PeerRow};
 pub use upper::{BorderJob, ChildRow};
 
