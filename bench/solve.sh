@@ -44,7 +44,7 @@ pub struct Size {
 }
 
 fn addr(first: u32, n: u32) -> Addr {
-    Addr(first.wrapping_add(n))
+    Addr::V4(first.wrapping_add(n))
 }
 
 fn link(alloc: Global, from: Addr, to: Addr, n: u32, te: u32) -> Link {
@@ -191,7 +191,7 @@ fn measure(rt: &HostRuntime, size: Size, target: Target) -> io::Result<()> {
 }
 
 fn main(rt: HostRuntime) -> io::Result<()> {
-    let node = Target::Node(Addr(1));
+    let node = Target::Node(Addr::V4(1));
     measure(&rt, Size { entries: 1, outs: 0 }, node)?;
     measure(&rt, Size { entries: 64, outs: 0 }, node)?;
     let next = Target::Next(As(2));

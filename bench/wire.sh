@@ -37,7 +37,7 @@ fn reply(alloc: Global) -> Result<Message, AllocError> {
     for k in 0..1250u32 {
         hops.push(Hop::Prefix {
             loose: false,
-            addr: Addr(0x0A00_0000 + k),
+            addr: Addr::V4(0x0A00_0000 + k),
             length: 32,
         })?;
     }

@@ -1,6 +1,6 @@
 //! What a peer is, and what it may have done.
-ghost use Rattle.std.specs.Prelude.{◌≡◌, ◌↔◌, IsTrue};
-ghost use Rattle.disclosure.specs.Policy.{can_expand, IsAllowed};
+ghost use Rattle.std.specs.Prelude.{◌≡◌, not};
+ghost use Rattle.disclosure.specs.Policy.{can_expand, denies_from, is_denied, DenialIsTested};
 
 use dom_base::As;
 
@@ -32,18 +32,30 @@ pub fn may_expand(class: Class) -> bool
     }
 }
 
+// Whether a row denies requests from one domain to another.
+fn denies(deny: &[Deny], from: u16, next: u16) -> bool
+    ensures { result ≡ denies_from from next deny.now }
+{
+    deny.iter()
+        .any(|row| row.from.0 == from && row.next.0 == next)
+}
+
 /// Whether a request of a peer may go on to the next domain; takes no memory. No row is about a
 /// parent.
 pub fn allows(deny: &[Deny], class: Class, next: As) -> bool
-    ensures { IsTrue result ↔ IsAllowed deny.now class next }
+    ensures { result ≡ not (is_denied deny.now class next) }
 {
-    let from = match class {
-        Class::Client { .. } => As(0),
-        Class::Neighbour(number) => number,
-        Class::Parent => return true,
-    };
-    deny.iter().all(|row| row.from != from || row.next != next)
+    match class {
+        Class::Client { .. } => !denies(deny, 0, next.0),
+        Class::Neighbour(number) => !denies(deny, number.0, next.0),
+        Class::Parent => true,
+    }
 }
+
+/// That no row is about a request, and the test of it, are one.
+pub fn denial_is_tested()
+    ensures { DenialIsTested }
+{}
 
 #[cfg(test)]
 mod tests;

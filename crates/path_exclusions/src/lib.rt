@@ -5,7 +5,7 @@ mod bars;
 mod support;
 
 pub use bars::{bars_link, bars_node};
-pub use support::{ExclusionError, copies_of_demands, copy_of, find_unsupported, supported};
+pub use support::{ExclusionError, copies_of_demands, find_unsupported, supported};
 
 #[cfg(test)]
 mod tests;

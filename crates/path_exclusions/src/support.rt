@@ -53,37 +53,6 @@ pub fn find_unsupported(list: &[Exclusion]) -> Option<usize>
     list.iter().position(|exclusion| !exclusion.avoid && !has_support(&exclusion.what))
 }
 
-fn copy_of_excluded(alloc: Global, what: &Excluded) -> Result<Excluded, NoMemory>
-    ensures { IfOk result (λ copy. copy ≡ what.now) }
-{
-    Ok(match what {
-        Excluded::Prefix {
-            addr,
-            length,
-            attribute,
-        } => Excluded::Prefix {
-            addr: *addr,
-            length: *length,
-            attribute: *attribute,
-        },
-        Excluded::AsNumber(number) => Excluded::AsNumber(*number),
-        Excluded::Srlg(number) => Excluded::Srlg(*number),
-        Excluded::Other { kind, body } => Excluded::Other {
-            kind: *kind,
-            body: List::from_vec(Vec::from_slice(alloc, body.as_slice())?),
-        },
-    })
-}
-
-/// The same exclusion in memory of its own.
-pub fn copy_of(alloc: Global, exclusion: &Exclusion) -> Result<Exclusion, NoMemory>
-    ensures { IfOk result (λ copy. copy ≡ exclusion.now) }
-{
-    let avoid = exclusion.avoid;
-    let what = copy_of_excluded(alloc, &exclusion.what)?;
-    Ok(Exclusion { avoid, what })
-}
-
 /// The exclusions that are demands, copied in their order, supported or not.
 pub fn copies_of_demands(alloc: Global, list: &[Exclusion]) -> Result<List<Exclusion>, NoMemory>
     ensures { IfOk result (λ kept. kept ≡ demands list.now) }
@@ -91,7 +60,7 @@ pub fn copies_of_demands(alloc: Global, list: &[Exclusion]) -> Result<List<Exclu
     let mut kept = List::new(alloc);
     for exclusion in list {
         if !exclusion.avoid {
-            kept.push(copy_of(alloc, exclusion)?)?;
+            kept.push(exclusion.copy(alloc)?)?;
         }
     }
     Ok(kept)

@@ -1,3 +1,4 @@
+//! What an OPEN offers.
 /// What one end of a session offers in its OPEN object (RFC 5440, section 7.3; RFC 8231, section
 /// 7.1.1).
 #[derive(Clone, Copy, Debug, PartialEq, Eq)]

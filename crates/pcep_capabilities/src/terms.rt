@@ -1,3 +1,4 @@
+//! What a session goes by.
 ghost use Rattle.std.specs.Prelude.{◌≡◌};
 ghost use Rattle.pcep_capabilities.specs.Terms.{agreed_of};
 

@@ -1,3 +1,4 @@
+//! Messages and their parts.
 ghost use Rattle.std.specs.Prelude.{◌≡◌};
 ghost use Rattle.pcep_messages.specs.declared.message.Bad.TheVariants as bad;
 ghost use Rattle.pcep_messages.specs.declared.message.Refusal.TheVariants as refusals;

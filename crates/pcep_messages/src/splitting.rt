@@ -1,3 +1,4 @@
+//! One message with several requests or replies, as one message for each.
 ghost use Rattle.std.specs.Prelude.{◌≡◌, ◌∷◌, [], map, count_by, IfOk};
 ghost use Rattle.pcep_messages.specs.Splitting.{octets_at, begins_rp, up_to_rp, groups_of, framed, frame_with, split_objects, split_of, GivesLength, GivesChunks, chunks_of};
 

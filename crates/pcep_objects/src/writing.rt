@@ -6,7 +6,7 @@ ghost use Rattle.pcep_objects.specs.Laws.{WrittenIsRead, WrittenIsOctets, NoneBe
 
 use crate::object::{Body, Object, OpenBody};
 use crate::room::room_behind_object;
-use dom_base::{List, NoMemory};
+use dom_base::{Addr, List, NoMemory};
 use pcep_subobjects::{Hop, Spelled, put_addr, write_exclusions, write_hops};
 use std::alloc::Global;
 
@@ -63,6 +63,13 @@ fn put_metric(
     Ok(())
 }
 
+fn put_ends(text: &mut Vec<u8>, source: Addr, target: Addr) -> Result<(), NoMemory>
+    ensures { OnOk result (text.new.items ≡ text.old.items ++ body_text (Body.EndPoints source target)) }
+{
+    put_addr(text, source)?;
+    put_addr(text, target)
+}
+
 fn put_body(alloc: Global, text: &mut Vec<u8>, body: &Body) -> Result<(), NoMemory>
     ensures { OnOk result (text.new.items ≡ text.old.items ++ body_text body.now) }
 {
@@ -70,10 +77,7 @@ fn put_body(alloc: Global, text: &mut Vec<u8>, body: &Body) -> Result<(), NoMemo
         Body::Open(opening) => put_open(text, *opening)?,
         Body::Rp { flags, id } => put_two(text, *flags, *id)?,
         Body::NoPath { nature, vector } => put_no_path(text, *nature, *vector)?,
-        Body::EndPoints { source, target } => {
-            put_addr(text, *source)?;
-            put_addr(text, *target)?;
-        }
+        Body::EndPoints { source, target } => put_ends(text, *source, *target)?,
         Body::Bandwidth(word) => text.extend_from_slice(&word.to_be_bytes())?,
         Body::Metric {
             bound,

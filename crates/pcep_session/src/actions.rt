@@ -1,5 +1,5 @@
-ghost use Rattle.std.specs.Prelude.{◌≡◌, [], ◌∷◌};
-ghost use Rattle.pcep_session.specs.Listed.{listed};
+//! What a step of a session asks for.
+ghost use Rattle.std.specs.Prelude.{◌≡◌, [], ◌∷◌, IsSome};
 
 use pcep_capabilities::Offer;
 use pcep_messages::Message;
@@ -44,15 +44,19 @@ pub enum Action {
     Pass(Message),
 }
 
-/// At most three actions, in order.
+/// At most three actions, in order: no field behind an empty one has an action.
 #[derive(Drop)]
 pub struct Actions {
     pub first: Option<Action>,
     pub second: Option<Action>,
     pub third: Option<Action>,
+    pub ghost second_behind_first: { IsSome second → IsSome first },
+    pub ghost third_behind_second: { IsSome third → IsSome second },
 }
 
 impl Actions {
+    ghost use Rattle.pcep_session.specs.Listed.{listed};
+
     pub fn none() -> Actions
         ensures { listed result ≡ [] }
     {

@@ -1,3 +1,4 @@
+//! The law on the order of what a session says.
 ghost use Rattle.pcep_session.specs.Order.{KeepsOrder};
 
 /// Over all lists of inputs: a session that is down takes no action again and said so once, it comes up

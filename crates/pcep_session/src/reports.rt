@@ -1,3 +1,4 @@
+//! What a message of errors says first.
 ghost use Rattle.std.specs.Prelude.{◌≡◌};
 ghost use Rattle.pcep_session.specs.Reports.{first_error_of, first_opening_of};
 

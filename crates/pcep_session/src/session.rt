@@ -1,3 +1,4 @@
+//! A session as a value, and its steps.
 ghost use Rattle.std.specs.Prelude.{◌≡◌, ◌↔◌, IsTrue};
 ghost use Rattle.pcep_session.specs.Listed.{listed};
 ghost use Rattle.pcep_session.specs.Table.{new_state, turn_of};

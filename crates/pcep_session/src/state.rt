@@ -1,3 +1,4 @@
+//! The state of a session, and the rows of its table.
 ghost use Rattle.std.specs.Prelude.{◌≡◌, ◌<◌};
 ghost use Rattle.pcep_session.specs.Listed.{listed};
 
