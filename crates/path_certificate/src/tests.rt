@@ -1,4 +1,6 @@
 //! Certificates that hold, that lie, and texts that are none.
+ghost use Rattle.path_certificate.specs.Rows.{AreRows};
+
 use crate::{
     CERTIFICATE_BYTES_MAX, CertError, Certificate, Place, Verdict, check, read_certificate,
     write_certificate,
@@ -272,7 +274,9 @@ label 2001:0db8:0000:0000:0000:0000:0000:0003 0 2001:0db8:0000:0000:0000:0000:00
 path 2001:0db8:0000:0000:0000:0000:0000:0001 10.1.0.2 2001:0db8:0000:0000:0000:0000:0001:0004
 ";
 
-fn check_both(alloc: Global, topology: &Topology, certificate: &Certificate) -> Result<bool, Fail> {
+fn check_both(alloc: Global, topology: &Topology, certificate: &Certificate) -> Result<bool, Fail>
+    requires { AreRows topology.now.nodes certificate.now.labels }
+{
     let last = Addr::V6(0x2001_0DB8_0000_0000_0000_0000_0000_0003);
     let seed = Seed {
         node: last,
