@@ -4,6 +4,7 @@ use Rattle.pcep_messages.specs.declared.message.Message.{Message}
 use Rattle.pcep_messages.specs.declared.message.Message.TheVariants as messages
 use Rattle.pcep_messages.specs.declared.message.Bad.TheVariants.{Malformed}
 use Rattle.pcep_messages.specs.declared.message.Asked.{Asked}
+use Rattle.pcep_messages.specs.declared.message.Wish.{Wish}
 use Rattle.pcep_messages.specs.declared.message.Wish.TheVariants as wishes
 use Rattle.pcep_messages.specs.Messages.{message_of}
 use Rattle.pcep_messages.specs.Said.{rp_of, iro_of, asks_key}
@@ -39,6 +40,11 @@ pub record IsPathRequest (own : ℕ) (text : List ℕ) (r : PathRequest) : Type 
   pub spells : SpellsRequest text asked
   pub asks : Asks own asked.objects (record { flags = r.flags; id = r.id; wish = wishes.Path r.wanted })
   pub stays : length r.wanted.sequence ≤ 1
+
+-- what one domain alone does not serve: what a path key stands for, or a path through further domains
+abbrev pub GoesOn : Wish → Type 0
+GoesOn (wishes.Path w) = 2 ≤ length w.sequence
+GoesOn (wishes.Expand key pce) = Unit {0}
 
 -- the request is admitted, but asks what a path key stands for, or for a path through further domains
 pub record IsNotBuilt (own : ℕ) (asked : Asked) : Type 0 where

@@ -1,11 +1,14 @@
 //! A request as hexadecimal text.
-ghost use Rattle.std.specs.Prelude.{◌≡◌, ◌≤◌, length, Err};
-ghost use Rattle.pce_tool.specs.Requests.{one_request as one_request_of, Reads};
+ghost use Rattle.std.specs.Prelude.{◌≡◌, ◌≤◌, length, Err, MatchOption};
+ghost use Rattle.pcep_messages.specs.declared.message.Wish.TheVariants as wishes;
+ghost use Rattle.pce_tool.specs.Requests.{one_request as one_request_of, GoesOn, Reads};
 
 use dom_base::As;
 use line_text::{HexError, read_hex};
 use one_domain::PathRequest;
-use pcep_messages::{Asked, Bad, Message, Refusal, Request, Wish, read_message, request_of};
+use pcep_messages::{
+    Asked, Bad, Message, Refusal, Request, Wanted, Wish, read_message, request_of,
+};
 use std::alloc::Global;
 use std::fmt;
 
@@ -57,6 +60,16 @@ fn one_request(message: Message) -> Option<Asked>
     requests.pop()
 }
 
+// The path that is wished for, where the domain alone serves it.
+fn staying(wish: Wish) -> Option<Wanted>
+    ensures { MatchOption result (GoesOn wish) (λ w. (wish ≡ wishes.Path w) × (length w.sequence ≤ 1)) }
+{
+    match wish {
+        Wish::Path(wanted) if wanted.sequence.len() <= 1 => Some(wanted),
+        _ => None,
+    }
+}
+
 /// Reads a request for a path within the domain `own`: hexadecimal text of one PCReq.
 pub fn read_path_request(alloc: Global, text: &[u8], own: As) -> Result<PathRequest, RequestError>
     ensures { Reads own.0 text.now result }
@@ -82,8 +95,8 @@ pub fn read_path_request(alloc: Global, text: &[u8], own: As) -> Result<PathRequ
         Err(Refusal::NoMemory) => return Err(RequestError::NoMemory),
     };
     let Request { flags, id, wish } = request;
-    match wish {
-        Wish::Path(wanted) if wanted.sequence.len() <= 1 => Ok(PathRequest { flags, id, wanted }),
-        _ => Err(RequestError::Not(Why::NotBuilt)),
+    match staying(wish) {
+        Some(wanted) => Ok(PathRequest { flags, id, wanted }),
+        None => Err(RequestError::Not(Why::NotBuilt)),
     }
 }
