@@ -1,0 +1,10 @@
+pub mod Potentials
+pub mod Standing
+pub mod Tracing
+pub mod Sums
+pub mod Best
+pub mod Cutting
+pub mod Counting
+pub mod Risen
+pub mod Leaving
+pub mod Judging

@@ -1,0 +1,11 @@
+pub mod Meeting
+pub mod ReadKinds
+pub mod Admitted
+pub mod SentOn
+pub mod PartsRead
+pub mod OnePart
+pub mod ReadSound
+pub mod Sends
+pub mod WireLaws
+pub mod Live
+pub mod Runs

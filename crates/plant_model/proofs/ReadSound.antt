@@ -1,0 +1,407 @@
+-- What is read from bytes is within the ranges of the wire.
+use Rattle.std.proofs.Common.{◌≡◌, ◌≤◌, ◌<◌, ◌^◌, ◌+◌, ◌-◌, ◌*◌, ◌/◌, ◌%◌, ℕ, Bool, true, false, cond, ◌==◌, ◌&&◌, ◌||◌, nat_le, nat_lt, List, [], ◌∷◌, length, take, drop, map, Option, Some, None, Result, Ok, Err, sym, ◌∙◌, ap, subst, inl, inr, refl, arith, length-take}
+use Rattle.std.specs.Prelude.{slice_index}
+use Rattle.std.specs.Option.{option_or}
+use Rattle.std.specs.List.{filter_map, cons_option, AllByRecursion}
+use Rattle.std.proofs.lemmas.Bool.{leb-true, eqb-true, ltb-false, cases_lt, or_from}
+use Rattle.std.proofs.lemmas.List.{get_or_past}
+use Rattle.std.proofs.lemmas.List.Elements.{All-take, All-drop, All-head}
+use Rattle.dom_base.specs.declared.query.Exclusion.{Exclusion}
+use Rattle.dom_base.specs.declared.query.Excluded.TheVariants as excluded
+use Rattle.dom_base.specs.declared.addr.Addr.{Addr}
+use Rattle.dom_base.specs.declared.addr.Addr.TheVariants.{V4, V6}
+use Rattle.dom_base.specs.declared.query.Excluded.{Excluded}
+use Rattle.dom_base.specs.Parts.{half_at, word_at}
+use Rattle.dom_base.specs.Words.{is_malformed}
+use Rattle.pcep_subobjects.specs.declared.hop.HopFault.{HopFault}
+use Rattle.pcep_subobjects.specs.declared.hop.HopFault.TheVariants as hop_faults
+use Rattle.pcep_subobjects.specs.declared.hop.Hop.{Hop}
+use Rattle.pcep_subobjects.specs.declared.hop.Hop.TheVariants as hops
+use Rattle.pcep_subobjects.specs.Hops.{hop_has_length, hop_of, hop_at, hops_of}
+use Rattle.pcep_subobjects.specs.Addresses.{wide_at, long_at, bits_of, IsAddr}
+use Rattle.pcep_subobjects.specs.Subobjects.{is_whole_words, AreOctets}
+use Rattle.pcep_subobjects.specs.Exclusions as exclusions
+use Rattle.pcep_subobjects.specs.Exclusions.{exclusion_has_length, excluded_of, exclusion_of, exclusion_at, exclusions_of, is_exclusion_kind}
+use Rattle.pcep_objects.specs.declared.object.Body.{Body}
+use Rattle.pcep_objects.specs.declared.object.Body.TheVariants as bodies
+use Rattle.pcep_objects.specs.declared.object.Object.{Object}
+use Rattle.pcep_objects.specs.declared.object.ObjectFault.TheVariants as faults
+use Rattle.pcep_objects.specs.declared.object.TlvFault.{TlvFault}
+use Rattle.pcep_objects.specs.Bodies as of
+use Rattle.pcep_objects.specs.Bodies.{body_of, second_kind, of_length, with_tlvs, of_parts}
+use Rattle.pcep_objects.specs.Objects.{with_body}
+use Rattle.pcep_objects.specs.Spelling.{IsWord}
+use Rattle.pcep_messages.specs.declared.message.Bad.{Bad}
+use Rattle.pcep_messages.specs.declared.message.Bad.TheVariants.{Malformed}
+use Rattle.pcep_messages.specs.declared.message.Message.{Message}
+use Rattle.pcep_messages.specs.declared.message.Message.TheVariants as messages
+use Rattle.pcep_messages.specs.declared.message.Asked.{Asked}
+use Rattle.pcep_messages.specs.declared.groups.Closer.TheVariants as closers
+use Rattle.pcep_messages.specs.Groups.{is_rp, cut, closes_by, begin_with, go_on_with, asked_of, requests_of, first_said}
+use Rattle.pcep_messages.specs.Messages.{placed, member_at, members_of, content_of, message_of}
+use Rattle.pcep_messages.specs.Said.{with_bit, first_with_bit, end_points_in, end_points_of, is_passed_over}
+use Rattle.plant_model.specs.Wire.{Bytes}
+use Rattle.plant_model.specs.RealWire.{message_or_none}
+use Rattle.plant_model.proofs.ReadKinds.{frame_kind}
+use Rattle.plant_model.proofs.PartsRead.{all_from, tail_bytes}
+use Rattle.plant_model.proofs.OnePart.{others_of, beyond_first, frame_is, all_is}
+
+-- ---- numbers
+
+byte_at : (bytes : Bytes) → AreOctets bytes → (k : ℕ) → slice_index bytes k < 256
+byte_at bytes all k = elim (cases_lt k (length bytes)) [
+  | inl within ↦ all k 0 within
+  | inr past ↦ beyond (slice_index bytes k) (get_or_past bytes k 0 past)
+]
+  where
+    beyond : (n : ℕ) → n ≡ 0 → n < 256
+    beyond n e = omega (arith, e)
+
+half_fits : (bytes : Bytes) → AreOctets bytes → (k : ℕ) → half_at bytes k < 2 ^ 16
+half_fits bytes all k = fits (slice_index bytes k) (slice_index bytes (k + 1)) (byte_at bytes all k) (byte_at bytes all (k + 1))
+  where
+    fits : (a b : ℕ) → a < 256 → b < 256 → 256 * a + b < 2 ^ 16
+    fits a b p q = omega (arith, p, q)
+
+word_fits : (bytes : Bytes) → AreOctets bytes → (k : ℕ) → word_at bytes k < 2 ^ 32
+word_fits bytes all k = fits (half_at bytes k) (half_at bytes (k + 2)) (half_fits bytes all k) (half_fits bytes all (k + 2))
+  where
+    fits : (a b : ℕ) → a < 2 ^ 16 → b < 2 ^ 16 → 65536 * a + b < 2 ^ 32
+    fits a b p q = omega (arith, p, q)
+
+wide_fits : (bytes : Bytes) → AreOctets bytes → (k : ℕ) → wide_at bytes k < 2 ^ 128
+wide_fits bytes all k = sixteen (long_at bytes k) (long_at bytes (k + 8)) (long k) (long (k + 8))
+  where
+    eight : (a b : ℕ) → a < 2 ^ 32 → b < 2 ^ 32 → 4294967296 * a + b < 2 ^ 64
+    eight a b p q = omega (arith, p, q)
+
+    long : (j : ℕ) → long_at bytes j < 2 ^ 64
+    long j = eight (word_at bytes j) (word_at bytes (j + 4)) (word_fits bytes all j) (word_fits bytes all (j + 4))
+
+    sixteen : (a b : ℕ) → a < 2 ^ 64 → b < 2 ^ 64 → 18446744073709551616 * a + b < 2 ^ 128
+    sixteen a b p q = omega (arith, p, q)
+
+-- ---- exclusions
+
+kept_is : (avoid : Bool) (kind n : ℕ) (content : Bytes) → kind < 128 → n < 256 → AreOctets content → (2 ≤ n → length content + 2 ≡ n) → exclusion_has_length kind n ≡ true → exclusions.IsWritten (exclusion_of avoid kind content)
+kept_is avoid kind n content low fits all long e = go (kind == 1) refl (kind == 2) refl (kind == 32) refl (kind == 34) refl e
+  where
+    word : (k : ℕ) → word_at content k < 2 ^ 32
+    word k = word_fits content all k
+
+    words : (r : Bool) → (n % 4 == 0) ≡ r → cond r (nat_le 4 n) false ≡ true → (n % 4 ≡ 0) × (4 ≤ n)
+    words true r h = (eqb-true (n % 4) 0 r, leb-true 4 n h)
+    words false r h = absurd cc
+
+    read : Bool → Bool → Bool → Bool → Excluded
+    read a d b c =
+        cond a (excluded.Prefix (V4 (word_at content 0)) (slice_index content 4) (slice_index content 5))
+        (cond d (excluded.Prefix (V6 (wide_at content 0)) (slice_index content 16) (slice_index content 17))
+        (cond b (excluded.AsNumber (record { 0 = half_at content 0 })) (cond c (excluded.Srlg (word_at content 0)) (excluded.Other kind content))))
+
+    go : (a : Bool) → (kind == 1) ≡ a → (d : Bool) → (kind == 2) ≡ d → (b : Bool) → (kind == 32) ≡ b → (c : Bool) → (kind == 34) ≡ c →
+        cond a (n == 8) (cond d (n == 20) (cond b (n == 4) (cond c (n == 8) (is_whole_words n)))) ≡ true → exclusions.IsWritten (record { avoid = avoid; what = read a d b c })
+    go true a' d d' b b' c c' h = (word 0, byte_at content all 4, byte_at content all 5)
+    go false a' true d' b b' c c' h = (wide_fits content all 0, byte_at content all 16, byte_at content all 17)
+    go false a' false d' true b' c c' h = half_fits content all 0
+    go false a' false d' false b' true c' h = word 0
+    go false a' false d' false b' false c' h =
+        let w = words (n % 4 == 0) refl h in
+        let l : length content + 2 ≡ n = long (omega (arith, w.1)) in
+        let other : is_exclusion_kind kind ≡ false = or_from (kind == 1) _ a' (or_from (kind == 2) _ d' (or_from (kind == 32) _ b' (or_from (kind == 34) false c' refl))) in
+        (other, (low, omega (arith, l, w.1), omega (arith, l, w.0, fits), omega (arith, l, w.0), all))
+
+exclusion_is : (x y : Exclusion × ℕ) → ◌≡◌ {A = Result (Exclusion × ℕ) (ℕ → HopFault)} (Ok x) (Ok y) → x ≡ y
+exclusion_is x y e = cc
+
+exclusion_kept : (bytes : Bytes) (x : Exclusion) (len : ℕ) → AreOctets bytes → exclusion_at bytes ≡ Ok (x, len) → exclusions.IsWritten x
+exclusion_kept [] x len all e = absurd (no e)
+  where
+    no : ◌≡◌ {A = Result (Exclusion × ℕ) (ℕ → HopFault)} (Err hop_faults.Short) (Ok (x, len)) → ⊥
+    no h = cc
+exclusion_kept (a ∷ []) x len all e = absurd (no e)
+  where
+    no : ◌≡◌ {A = Result (Exclusion × ℕ) (ℕ → HopFault)} (Err hop_faults.Short) (Ok (x, len)) → ⊥
+    no h = cc
+exclusion_kept (first ∷ n ∷ bytes) x len all e = go (nat_lt (length bytes + 2) n) refl (exclusion_has_length (first % 128) n) refl e
+  where
+    behind : AreOctets (n ∷ bytes)
+    behind = tail_bytes first (n ∷ bytes) all
+
+    no : (f : ℕ → HopFault) → ◌≡◌ {A = Result (Exclusion × ℕ) (ℕ → HopFault)} (Err f) (Ok (x, len)) → ⊥
+    no f h = cc
+
+    made : Exclusion
+    made = exclusion_of (nat_le 128 first) (first % 128) (take (n - 2) bytes)
+
+    go : (a : Bool) → nat_lt (length bytes + 2) n ≡ a → (b : Bool) → exclusion_has_length (first % 128) n ≡ b →
+        cond {A = Result (Exclusion × ℕ) (ℕ → HopFault)} a (Err hop_faults.Short) (cond b (Ok (made, n)) (Err hop_faults.BadLength)) ≡ Ok (x, len) → exclusions.IsWritten x
+    go true a' b b' h = absurd (no hop_faults.Short h)
+    go false a' false b' h = absurd (no hop_faults.BadLength h)
+    go false a' true b' h =
+        let within : n ≤ length bytes + 2 = ltb-false (length bytes + 2) n a' in
+        let same : made ≡ x = ap (λ (p : Exclusion × ℕ). p.0) (exclusion_is (made, n) (x, len) h) in
+        subst exclusions.IsWritten same
+        (kept_is (nat_le 128 first) (first % 128) n (take (n - 2) bytes) (omega arith) (All-head (λ (b : ℕ). b < 256) n bytes behind) (All-take (λ (b : ℕ). b < 256) (n - 2) bytes (tail_bytes n bytes behind))
+        (λ two. omega (arith, length-take (n - 2) bytes, within, two)) b')
+
+exclusions_kept : (bytes : Bytes) (xs : List Exclusion) → AreOctets bytes → exclusions_of bytes ≡ Ok xs → AllByRecursion exclusions.IsWritten xs
+exclusions_kept bytes xs all e = all_from exclusion_at AreOctets exclusions.IsWritten tail_bytes (λ b x len q h. exclusion_kept b x len q h) 0 0 bytes xs all e
+
+-- ---- hops
+
+-- the number of a domain has two octets
+abbrev pub HopIsSound : Hop → Type 0
+HopIsSound (hops.AsNumber loose number) = number.0 < 2 ^ 16
+HopIsSound _ = Unit {0}
+
+hop_is : (x y : Hop × ℕ) → ◌≡◌ {A = Result (Hop × ℕ) (ℕ → HopFault)} (Ok x) (Ok y) → x ≡ y
+hop_is x y e = cc
+
+meant_sound : (loose : Bool) (kind : ℕ) (content : Bytes) → AreOctets content → HopIsSound (hop_of loose kind content)
+meant_sound loose kind content all = go (kind == 1) (kind == 2) (kind == 32) (kind == 64) (kind == 65)
+  where
+    read : Bool → Bool → Bool → Bool → Bool → Hop
+    read a d b c f =
+        cond a (hops.Prefix loose (V4 (word_at content 0)) (slice_index content 4))
+        (cond d (hops.Prefix loose (V6 (wide_at content 0)) (slice_index content 16))
+        (cond b (hops.AsNumber loose (record { 0 = half_at content 0 }))
+        (cond c (hops.Key loose (half_at content 0) (V4 (word_at content 2)))
+        (cond f (hops.Key loose (half_at content 0) (V6 (wide_at content 2))) (hops.Other loose kind content)))))
+
+    go : (a d b c f : Bool) → HopIsSound (read a d b c f)
+    go true d b c f = tt
+    go false true b c f = tt
+    go false false true c f = half_fits content all 0
+    go false false false true f = tt
+    go false false false false true = tt
+    go false false false false false = tt
+
+hop_sound : (bytes : Bytes) (x : Hop) (len : ℕ) → AreOctets bytes → hop_at bytes ≡ Ok (x, len) → HopIsSound x
+hop_sound [] x len all e = absurd (no e)
+  where
+    no : ◌≡◌ {A = Result (Hop × ℕ) (ℕ → HopFault)} (Err hop_faults.Short) (Ok (x, len)) → ⊥
+    no h = cc
+hop_sound (a ∷ []) x len all e = absurd (no e)
+  where
+    no : ◌≡◌ {A = Result (Hop × ℕ) (ℕ → HopFault)} (Err hop_faults.Short) (Ok (x, len)) → ⊥
+    no h = cc
+hop_sound (first ∷ n ∷ bytes) x len all e = go (nat_lt (length bytes + 2) n) (hop_has_length (first % 128) n) e
+  where
+    no : (f : ℕ → HopFault) → ◌≡◌ {A = Result (Hop × ℕ) (ℕ → HopFault)} (Err f) (Ok (x, len)) → ⊥
+    no f h = cc
+
+    made : Hop
+    made = hop_of (nat_le 128 first) (first % 128) (take (n - 2) bytes)
+
+    go : (a b : Bool) → cond {A = Result (Hop × ℕ) (ℕ → HopFault)} a (Err hop_faults.Short) (cond b (Ok (made, n)) (Err hop_faults.BadLength)) ≡ Ok (x, len) → HopIsSound x
+    go true b h = absurd (no hop_faults.Short h)
+    go false false h = absurd (no hop_faults.BadLength h)
+    go false true h =
+        subst HopIsSound (ap (λ (p : Hop × ℕ). p.0) (hop_is (made, n) (x, len) h))
+        (meant_sound (nat_le 128 first) (first % 128) (take (n - 2) bytes) (All-take (λ (b : ℕ). b < 256) (n - 2) bytes (tail_bytes n bytes (tail_bytes first (n ∷ bytes) all))))
+
+hops_sound : (bytes : Bytes) (xs : List Hop) → AreOctets bytes → hops_of bytes ≡ Ok xs → AllByRecursion HopIsSound xs
+hops_sound bytes xs all e = all_from hop_at AreOctets HopIsSound tail_bytes (λ b x len q h. hop_sound b x len q h) 0 0 bytes xs all e
+
+-- ---- bodies
+
+-- the parts of a body that a request sends on
+abbrev pub IsSound : Body → Type 0
+IsSound (bodies.Rp flags id) = (flags < 2 ^ 32) × (id < 2 ^ 32)
+IsSound (bodies.EndPoints source target) = IsAddr source × IsAddr target × (bits_of source ≡ bits_of target)
+IsSound (bodies.Bandwidth word) = IsWord word
+IsSound (bodies.Metric b c kind word) = IsWord word
+IsSound (bodies.Lspa x y z setup holding flags) = (x < 2 ^ 32) × (y < 2 ^ 32) × (z < 2 ^ 32)
+IsSound (bodies.Iro route) = AllByRecursion HopIsSound route
+IsSound (bodies.Xro list) = AllByRecursion exclusions.IsWritten list
+IsSound _ = Unit {0}
+
+abbrev pub Maybe : {X : Type 0} → (X → Type 0) → Option X → Type 0
+Maybe Q None = Unit {0}
+Maybe Q (Some x) = Q x
+
+either : (c : Bool) (x y : Option Body) → Maybe IsSound x → Maybe IsSound y → Maybe IsSound (cond c x y)
+either true x y p q = p
+either false x y p q = q
+
+by_tlvs : (r : Result (Option ℕ) TlvFault) (body : Option ℕ → Body) → ((word : Option ℕ) → IsSound (body word)) → Maybe IsSound (with_tlvs r body)
+by_tlvs (Ok word) body s = s word
+by_tlvs (Err f) body s = tt
+
+by_length : (len : ℕ) (content : List ℕ) (malformed : Bool) (body : Body) → (malformed ≡ false → IsSound body) → Maybe IsSound (of_length len content malformed body)
+by_length len content true body s = tt
+by_length len content false body s = either (length content == len) (Some body) None (s refl) tt
+
+by_parts : {X : Type 0} (body : List X → Body) (r : Result (List X) HopFault) → ((xs : List X) → r ≡ Ok xs → IsSound (body xs)) → Maybe IsSound (of_parts body r)
+by_parts body (Ok xs) s = s xs refl
+by_parts body (Err f) s = tt
+
+module _ (content : Bytes) (all : AreOctets content) where
+  word : (k : ℕ) → word_at content k < 2 ^ 32
+  word k = word_fits content all k
+
+  others_sound : (class : ℕ) → Maybe IsSound (others_of class content)
+  others_sound class =
+      either (class == 3) (of.no_path_of content) _ (by_tlvs (of.word_behind 4 content 1) _ (λ w. tt))
+      (either (class == 4) (of.end_points_of content) _ (by_length 8 content false _ (λ e. (word 0, word 4, refl)))
+      (either (class == 5) (of.bandwidth_of content) _ (by_length 4 content (is_malformed (word_at content 0)) _ (λ e. (e, word 0)))
+      (either (class == 6) (of.metric_of content) _ (by_length 8 content (is_malformed (word_at content 4)) _ (λ e. (e, word 4)))
+      (either (class == 7) (of_parts bodies.Ero (hops_of content)) _ (by_parts bodies.Ero (hops_of content) (λ xs e. tt))
+      (either (class == 9) (of.lspa_of content) _ (by_tlvs (of.word_behind 16 content 0) _ (λ w. (word 0, word 4, word 8)))
+      (either (class == 10) (of_parts bodies.Iro (hops_of content)) _ (by_parts bodies.Iro (hops_of content) (λ xs e. hops_sound content xs all e))
+      (either (class == 12) (of.notification_of content) _ (by_tlvs (of.word_behind 4 content 0) _ (λ w. tt))
+      (either (class == 13) (of.error_of content) _ (by_tlvs (of.word_behind 4 content 0) _ (λ w. tt))
+      (either (class == 15) (of.close_of content) _ (by_tlvs (of.word_behind 4 content 0) _ (λ w. tt))
+      (either (class == 16) (of_parts bodies.PathKey (hops_of content)) _ (by_parts bodies.PathKey (hops_of content) (λ xs e. tt))
+      (either (class == 17) (of.xro_of content) (Some (bodies.Unread content))
+      (either (nat_le 4 (length content)) (of_parts bodies.Xro (exclusions_of (drop 4 content))) None
+      (by_parts bodies.Xro (exclusions_of (drop 4 content)) (λ xs e. exclusions_kept (drop 4 content) xs (All-drop (λ (b : ℕ). b < 256) 4 content all) e)) tt)
+      tt)))))))))))
+
+  second_sound : (class kind : ℕ) → Maybe IsSound (beyond_first class kind content)
+  second_sound class kind =
+      either (kind == 2) (second_kind class content) (Some (bodies.Unread content))
+      (either (class == 4) (of.longer_end_points_of content) (Some (bodies.Unread content))
+      (by_length 32 content false _ (λ e. (wide_fits content all 0, wide_fits content all 16, refl))) tt) tt
+
+  body_sound : (class kind : ℕ) → Maybe IsSound (body_of class kind content)
+  unfolding body_of
+  body_sound class kind =
+      either (kind == 1) _ (beyond_first class kind content)
+      (either (class == 1) (of.open_of content) _ (by_tlvs (of.word_behind 4 content 16) _ (λ w. tt))
+      (either (class == 2) (of.rp_of content) _ (by_tlvs (of.word_behind 8 content 0) _ (λ w. (word 0, word 4)))
+      (others_sound class)))
+      (second_sound class kind)
+
+-- ---- objects
+
+abbrev pub ObjectIsSound : Object → Type 0
+ObjectIsSound o = IsSound o.body
+
+object_is : (x y : Object × ℕ) → ◌≡◌ {A = Result (Object × ℕ) (ℕ → Bad)} (Ok x) (Ok y) → x ≡ y
+object_is x y e = cc
+
+object_sound : (bytes : Bytes) (o : Object) (len : ℕ) → AreOctets bytes → member_at bytes ≡ Ok (o, len) → ObjectIsSound o
+object_sound [] o len all e = absurd (no e)
+  where
+    no : ◌≡◌ {A = Result (Object × ℕ) (ℕ → Bad)} (Err Malformed) (Ok (o, len)) → ⊥
+    no h = cc
+object_sound (a ∷ []) o len all e = absurd (no e)
+  where
+    no : ◌≡◌ {A = Result (Object × ℕ) (ℕ → Bad)} (Err Malformed) (Ok (o, len)) → ⊥
+    no h = cc
+object_sound (a ∷ b ∷ []) o len all e = absurd (no e)
+  where
+    no : ◌≡◌ {A = Result (Object × ℕ) (ℕ → Bad)} (Err Malformed) (Ok (o, len)) → ⊥
+    no h = cc
+object_sound (a ∷ b ∷ c ∷ []) o len all e = absurd (no e)
+  where
+    no : ◌≡◌ {A = Result (Object × ℕ) (ℕ → Bad)} (Err Malformed) (Ok (o, len)) → ⊥
+    no h = cc
+object_sound (class ∷ second ∷ high ∷ low ∷ bytes) o len all e =
+    go (nat_lt (length bytes + 4) n) (nat_lt n 4) (n % 4 == 0) (body_of class (second / 16) (take (n - 4) bytes)) (body_sound (take (n - 4) bytes) content class (second / 16)) e
+  where
+    n : ℕ
+    n = 256 * high + low
+
+    content : AreOctets (take (n - 4) bytes)
+    content = All-take (λ (b : ℕ). b < 256) (n - 4) bytes (tail_bytes low bytes (tail_bytes high (low ∷ bytes) (tail_bytes second (high ∷ low ∷ bytes) (tail_bytes class (second ∷ high ∷ low ∷ bytes) all))))
+
+    no : ◌≡◌ {A = Result (Object × ℕ) (ℕ → Bad)} (Err Malformed) (Ok (o, len)) → ⊥
+    no h = cc
+
+    go : (p q r : Bool) (body : Option Body) → Maybe IsSound body →
+        placed (cond p (Err (λ _. faults.Short)) (cond q (Err (λ _. faults.BadLength)) (cond r (with_body class second n body) (Err (λ _. faults.BadLength))))) ≡ Ok (o, len) → ObjectIsSound o
+    go true q r body s h = absurd (no h)
+    go false true r body s h = absurd (no h)
+    go false false false body s h = absurd (no h)
+    go false false true None s h = absurd (no h)
+    go false false true (Some body) s h =
+        let made : Object = record { class = class; kind = second / 16; must = second / 2 % 2 == 1; body = body } in
+        subst ObjectIsSound (ap (λ (x : Object × ℕ). x.0) (object_is (made, n) (o, len) h)) s
+
+members_sound : (content : Bytes) (os : List Object) → AreOctets content → members_of content ≡ Ok os → AllByRecursion ObjectIsSound os
+members_sound content os all e = all_from member_at AreOctets ObjectIsSound tail_bytes (λ b o len q h. object_sound b o len q h) 4 0 content os all e
+
+-- ---- the one request of a message
+
+front_sound : (closed : Bool) (os : List Object) → AllByRecursion ObjectIsSound os → AllByRecursion ObjectIsSound (cut (closes_by closers.Rp) closed os).0
+front_sound closed [] all = tt
+front_sound closed (o ∷ os) all = go (is_rp o) closed (λ c. front_sound c os all.1)
+  where
+    go : (b c : Bool) → ((d : Bool) → AllByRecursion ObjectIsSound (cut (closes_by closers.Rp) d os).0) →
+        AllByRecursion ObjectIsSound (cond (b && c) (begin_with o (cut (closes_by closers.Rp) (is_rp o) os)) (go_on_with o (cut (closes_by closers.Rp) (c || is_rp o) os))).0
+    go true true more = tt
+    go true false more = (all.0, more (false || is_rp o))
+    go false c more = (all.0, more (c || is_rp o))
+
+pub request_sound : (bytes : Bytes) (a : Asked) → AreOctets bytes → message_or_none (message_of bytes) ≡ Some (messages.PcReq (a ∷ [])) → AllByRecursion ObjectIsSound a.objects
+request_sound [] a all e = absurd (no e)
+  where
+    no : ◌≡◌ {A = Option Message} None (Some (messages.PcReq (a ∷ []))) → ⊥
+    no h = cc
+request_sound (x ∷ []) a all e = absurd (no e)
+  where
+    no : ◌≡◌ {A = Option Message} None (Some (messages.PcReq (a ∷ []))) → ⊥
+    no h = cc
+request_sound (x ∷ y ∷ []) a all e = absurd (no e)
+  where
+    no : ◌≡◌ {A = Option Message} None (Some (messages.PcReq (a ∷ []))) → ⊥
+    no h = cc
+request_sound (x ∷ y ∷ z ∷ []) a all e = absurd (no e)
+  where
+    no : ◌≡◌ {A = Option Message} None (Some (messages.PcReq (a ∷ []))) → ⊥
+    no h = cc
+request_sound (first ∷ kind ∷ high ∷ low ∷ content) a all e =
+    let m : Message = messages.PcReq (a ∷ []) in
+    let at : kind ≡ 3 = frame_kind first kind high low content m e in
+    let frame = frame_is first kind high low content m e in
+    let is = all_is 3 (members_of content) m (ap (λ k. message_or_none (content_of k content)) (sym at) ∙ frame.is) in
+    let bytes : AreOctets content = tail_bytes low content (tail_bytes high (low ∷ content) (tail_bytes kind (high ∷ low ∷ content) (tail_bytes first (kind ∷ high ∷ low ∷ content) all))) in
+    subst (λ (os : List Object). AllByRecursion ObjectIsSound os) (front_is is.0 is.2) (front_sound false is.0 (members_sound content is.0 bytes is.1))
+  where
+    front_is : (os : List Object) → messages.PcReq (map asked_of (requests_of os)) ≡ messages.PcReq (a ∷ []) → (cut (closes_by closers.Rp) false os).0 ≡ a.objects
+    front_is os h = ap (λ (x : Asked). x.objects) (head_is (asked_of (cut (closes_by closers.Rp) false os).0) (map asked_of (cut (closes_by closers.Rp) false os).1) h)
+      where
+        head_is : (x : Asked) (xs : List Asked) → messages.PcReq (x ∷ xs) ≡ messages.PcReq (a ∷ []) → x ≡ a
+        head_is x xs h' = cc
+
+-- ---- what objects say
+
+module _ {X : Type 0} (what : Body → Option X) (Q : X → Type 0) (each : (b : Body) → IsSound b → Maybe Q (what b)) where
+  pub said_sound : (os : List Object) → AllByRecursion ObjectIsSound os → Maybe Q (first_said what os)
+  said_sound [] all = tt
+  said_sound (o ∷ os) all = go (what o.body) (each o.body all.0) (said_sound os all.1)
+    where
+      go : (r : Option X) → Maybe Q r → Maybe Q (first_said what os) → Maybe Q (option_or r (first_said what os))
+      go None q more = more
+      go (Some x) q more = q
+
+  pub bit_sound : (os : List Object) → AllByRecursion ObjectIsSound os → Maybe (λ (p : X × Bool). Q p.0) (first_with_bit what os)
+  bit_sound [] all = tt
+  bit_sound (o ∷ os) all = go (what o.body) (each o.body all.0) (bit_sound os all.1)
+    where
+      go : (r : Option X) → Maybe Q r → Maybe (λ (p : X × Bool). Q p.0) (first_with_bit what os) → Maybe (λ (p : X × Bool). Q p.0) (option_or (with_bit r o.must) (first_with_bit what os))
+      go None q more = more
+      go (Some x) q more = q
+
+  pub listed_sound : (os : List Object) → AllByRecursion ObjectIsSound os → AllByRecursion Q (filter_map (λ o. what o.body) os)
+  listed_sound [] all = tt
+  listed_sound (o ∷ os) all = go (what o.body) (each o.body all.0) (listed_sound os all.1)
+    where
+      go : (r : Option X) → Maybe Q r → AllByRecursion Q (filter_map (λ o. what o.body) os) → AllByRecursion Q (cons_option r (filter_map (λ o. what o.body) os))
+      go None q more = more
+      go (Some x) q more = (q, more)
+
+-- the END-POINTS that the element of a domain does not pass over
+pub ends_sound : (own : ℕ) (Q : Addr × Addr → Type 0) (each : (b : Body) → IsSound b → Maybe Q (end_points_in b)) (os : List Object) → AllByRecursion ObjectIsSound os →
+    Maybe (λ (p : (Addr × Addr) × Bool). Q p.0) (end_points_of own os)
+ends_sound own Q each [] all = tt
+ends_sound own Q each (o ∷ os) all = go (is_passed_over own o) (end_points_in o.body) (each o.body all.0) (ends_sound own Q each os all.1)
+  where
+    go : (b : Bool) (r : Option (Addr × Addr)) → Maybe Q r → Maybe (λ (p : (Addr × Addr) × Bool). Q p.0) (end_points_of own os) →
+        Maybe (λ (p : (Addr × Addr) × Bool). Q p.0) (option_or (cond b None (with_bit r o.must)) (end_points_of own os))
+    go true r q more = more
+    go false None q more = more
+    go false (Some x) q more = q

@@ -1,0 +1,49 @@
+-- That the functions of the model are what the contracts of its parts say: policy, branches, requests and generations.
+use Rattle.std.specs.Prelude.{◌≡◌, ◌↔◌, ℕ, ◌++◌, ◌==◌, List, Contains, count_by, Some, Result, Ok, Err, IsTrue, IsFalse}
+use Rattle.dom_base.specs.declared.names.As.{As}
+use Rattle.te_links.specs.Rows.{Rows}
+use Rattle.te_generations.specs.Shelf.{Shelf, IsShelf, pins_of, topology_of}
+use Rattle.te_generations.specs.Shelf as shelf
+use Rattle.pcep_subobjects.specs.declared.hop.Hop.{Hop}
+use Rattle.pcep_messages.specs.declared.message.Asked.{Asked}
+use Rattle.pcep_messages.specs.declared.message.Request.{Request}
+use Rattle.pcep_messages.specs.declared.message.Refusal.{Refusal}
+use Rattle.pcep_messages.specs.declared.message.Refusal.TheVariants as refusals
+use Rattle.pcep_messages.specs.Requests.{Answers}
+use Rattle.disclosure.specs.declared.class.Class.{Class}
+use Rattle.disclosure.specs.declared.class.Deny.{Deny}
+use Rattle.disclosure.specs.Policy.{IsAllowed}
+use Rattle.vspt_tree.specs.declared.branch.Best.{Best}
+use Rattle.vspt_tree.specs.declared.branch.Branch.{Branch}
+use Rattle.vspt_tree.specs.Branches.{IsBranchOf}
+use Rattle.plant_model.specs.Wire.{Checked, Admitted, Wrong}
+use Rattle.plant_model.specs.Branches.{onward}
+use Rattle.plant_model.specs.Element.{Row, is_denied}
+use Rattle.plant_model.specs.Plant.{Pin}
+use Rattle.plant_model.specs.Plant as plant
+use Rattle.plant_model.specs.RealWire.{check_of}
+
+abbrev pub DeniedMeets : Type 0
+DeniedMeets = (deny : List Deny) (class : Class) (next : As) → IsFalse (is_denied deny class next) ↔ IsAllowed deny class next
+
+abbrev pub BranchMeets : Type 0
+BranchMeets = (down : List Branch) (row : Best) (own : List Hop) (branch : Branch) → IsBranchOf down row own branch → branch.hops ≡ own ++ onward row.exit row.head down
+
+-- what a call answered is what is checked, unless memory ran out
+abbrev pub IsChecked : Result Request Refusal → Checked → Type 0
+IsChecked (Ok r) checked = checked ≡ Admitted r
+IsChecked (Err (refusals.Wire rp kind value)) checked = checked ≡ Wrong rp kind value
+IsChecked (Err refusals.NoMemory) checked = Unit {0}
+
+abbrev pub CheckMeets : Type 0
+CheckMeets = (asked : Asked) (own : As) (answer : Result Request Refusal) → Answers own.0 asked.objects answer → IsChecked answer (check_of asked own)
+
+-- The generations of an element keep what its requests pin: the current one, and for each request that is pending a pin.
+pub record Shelves (s : Shelf Rows) (current : Pin) (rows : List (Row Pin)) : Type 0 where
+  pub number : s.current.number ≡ current.number
+  pub topology : s.current.topology ≡ current.topology
+  pub pins : (number : ℕ) → pins_of s number ≡ count_by (λ h. h.1.item.pin.number == number) rows
+  pub pinned : (h : Row Pin) → Contains rows h → topology_of s h.1.item.pin.number ≡ Some h.1.item.pin.topology
+
+abbrev pub LiveMeets : Type 0
+LiveMeets = (s : Shelf Rows) (current : Pin) (rows : List (Row Pin)) → IsShelf s → Shelves s current rows → IsTrue (plant.is_full current.number rows) ↔ shelf.IsFull s

@@ -1,0 +1,182 @@
+-- An element takes a message (RFC 5440, sections 6.4 to 6.7; RFC 5441, section 5).
+use Rattle.std.specs.Prelude.{ℕ, Bool, false, cond, ◌==◌, List, [], ◌∷◌, Option, Some, None}
+use Rattle.dom_base.specs.declared.names.As.{As}
+use Rattle.dom_base.specs.declared.addr.Addr.{Addr}
+use Rattle.dom_base.specs.declared.names.Peer.{Peer}
+use Rattle.dom_base.specs.declared.names.Peer.TheVariants.{Inner}
+use Rattle.pcep_subobjects.specs.declared.hop.Hop.{Hop}
+use Rattle.pcep_messages.specs.declared.message.Message.{Message}
+use Rattle.pcep_messages.specs.declared.message.Message.TheVariants as messages
+use Rattle.pcep_messages.specs.declared.message.Asked.{Asked}
+use Rattle.pcep_messages.specs.declared.message.Reply.{Reply}
+use Rattle.pcep_messages.specs.declared.message.Notice.{Notice}
+use Rattle.pcep_messages.specs.declared.message.ErrorReport.{ErrorReport}
+use Rattle.pcep_messages.specs.declared.message.Answer.{Answer}
+use Rattle.pcep_messages.specs.declared.message.Answer.TheVariants.{Paths, NoPath}
+use Rattle.pcep_messages.specs.declared.message.Request.{Request}
+use Rattle.pcep_messages.specs.declared.message.Wanted.{Wanted}
+use Rattle.pcep_messages.specs.declared.message.Wish.{Wish}
+use Rattle.pcep_messages.specs.declared.message.Wish.TheVariants.{Path, Expand}
+use Rattle.disclosure.specs.declared.class.Class.{Class}
+use Rattle.request_table.specs.Pending.{number_of, opened_of, is_full, same_peer}
+use Rattle.request_table.specs.Lends.{written_of}
+use Rattle.path_keys.specs.Keys.{segment_of}
+use Rattle.disclosure.specs.Policy.{can_expand}
+use Rattle.plant_model.specs.Names.{same_addr, the_parent, has_pair}
+use Rattle.plant_model.specs.Wire.{Codec, Checked, Admitted, Wrong}
+use Rattle.plant_model.specs.Writing.{request_message, reply_message, error_message, busy, unavailable, no_key}
+use Rattle.plant_model.specs.Branches.{branches_in}
+use Rattle.plant_model.specs.Element.{Stage, Waits, Ready, Item, Row, Way, Element, Place, Taken, silent, only, each, ended, at_stage, waiting, fresh_id, way_to, with_last, is_denied, is_client}
+
+-- the domain sequence of a request: its own, or the element's domain alone
+abbrev pub sequence_or : As → List As → List As
+sequence_or own [] = own ∷ []
+sequence_or own (a ∷ rest) = a ∷ rest
+
+-- a client's request without a sequence goes to the parent, where the element has one
+abbrev pub goes_up : Bool → Class → List As → Bool
+goes_up parent class (a ∷ rest) = false
+goes_up parent class [] = cond (is_client class) parent false
+
+abbrev pub item_of : {P : Type 0} → P → Class → ℕ → Wanted → List As → Stage → Item P
+item_of pin class flags w sequence stage = record { class = class; flags = flags; wanted = w; sequence = sequence; pin = pin; stage = stage }
+
+-- the request waits on a peer, to which it was sent under a new id
+abbrev pub sent_on : {P : Type 0} {S : Type 0} → P → Peer → Class → ℕ → ℕ → Wanted → List As → List As → Element P S → Way → Taken P S
+sent_on pin p class flags x w sequence rest k way =
+    let y = fresh_id way.peer way.last_id k.pending.rows in
+    record {
+      element = record k { pending = opened_of k.pending p x (item_of pin class flags w sequence (Waits way.peer y)); ways = with_last way.peer y k.ways };
+      outputs = record { to = way.peer; message = request_message y w w.target rest } ∷ [];
+    }
+
+abbrev pub denied : {P : Type 0} {S : Type 0} → Peer → ℕ → ℕ → Element P S → Taken P S
+denied p flags x k = only p (reply_message flags x unavailable) k
+
+-- by the way there, where there is one
+abbrev pub send_on : {P : Type 0} {S : Type 0} → P → Peer → Class → ℕ → ℕ → Wanted → List As → List As → Bool → Element P S → Option Way → Taken P S
+send_on pin p class flags x w sequence rest refused k None = denied p flags x k
+send_on pin p class flags x w sequence rest refused k (Some way) =
+    cond way.up (cond refused (denied p flags x k) (sent_on pin p class flags x w sequence rest k way)) (denied p flags x k)
+
+-- along a sequence that begins with the own domain
+abbrev pub take_along : {P : Type 0} {S : Type 0} → Place → P → Peer → Class → ℕ → ℕ → Wanted → Element P S → List As → Taken P S
+take_along e pin p class flags x w k [] = denied p flags x k
+take_along e pin p class flags x w k (a ∷ []) = silent (record k { pending = opened_of k.pending p x (item_of pin class flags w (a ∷ []) (Ready [])) })
+take_along e pin p class flags x w k (a ∷ b ∷ rest) =
+    send_on pin p class flags x w (a ∷ b ∷ rest) (b ∷ rest) (is_denied e.deny class b) k (way_to (Inner b) k.ways)
+
+abbrev pub take_path : {P : Type 0} {S : Type 0} → Place → P → Peer → Class → ℕ → ℕ → Wanted → Element P S → Taken P S
+take_path e pin p class flags x w k =
+    cond (goes_up e.parent class w.sequence)
+    (send_on pin p class flags x w [] [] false k (way_to the_parent k.ways))
+    (take_along e pin p class flags x w k (sequence_or e.own w.sequence))
+
+-- A key's expansion (RFC 5520, section 3.2): what the key stands for is shown, or one and the same refusal.
+abbrev pub expansion_of : {S : Type 0} → (S → List Hop) → Option S → Answer
+expansion_of show None = no_key
+expansion_of show (Some stands) = Paths (record { hops = show stands; metric = None } ∷ [])
+
+abbrev pub expansion : {P : Type 0} {S : Type 0} → (S → List Hop) → Place → Class → ℕ → ℕ → Addr → Element P S → Answer
+expansion show e class now key pce k =
+    cond (same_addr pce e.id) (cond (can_expand class) (expansion_of show (segment_of k.keys now key)) no_key) no_key
+
+abbrev pub take_wish : {P : Type 0} {S : Type 0} → (S → List Hop) → Place → P → Peer → Class → ℕ → ℕ → ℕ → Element P S → Wish → Taken P S
+take_wish show e pin p class now flags x k (Path w) =
+    cond (is_full k.pending) (only p (busy flags x) k) (take_path e pin p class flags x w k)
+take_wish show e pin p class now flags x k (Expand key pce) = only p (reply_message flags x (expansion show e class now key pce k)) k
+
+-- a request that is pending already is answered once only
+abbrev pub take_new : {P : Type 0} {S : Type 0} → (S → List Hop) → Place → P → Peer → Class → ℕ → Request → Element P S → Option ℕ → Taken P S
+take_new show e pin p class now r k (Some number) = silent k
+take_new show e pin p class now r k None = take_wish show e pin p class now r.flags r.id k r.wish
+
+abbrev pub take_checked : {P : Type 0} {S : Type 0} → (S → List Hop) → Place → P → Peer → Class → ℕ → Element P S → Checked → Taken P S
+take_checked show e pin p class now k (Wrong rp kind value) = only p (error_message rp kind value) k
+take_checked show e pin p class now k (Admitted r) = take_new show e pin p class now r k (number_of k.pending p r.id)
+
+abbrev pub take_asked : {P : Type 0} {S : Type 0} → Codec → (S → List Hop) → Place → P → Peer → Class → ℕ → Asked → Element P S → Taken P S
+take_asked c show e pin p class now a k = take_checked show e pin p class now k (c.check a e.own)
+
+-- the asker of a request gets an answer, and the request ends
+abbrev pub answered : {P : Type 0} {S : Type 0} → Row P → Message → Element P S → Taken P S
+answered h m k = only h.1.key.peer m (ended h.0 k)
+
+-- the request of the row at another stage
+abbrev pub staged : {P : Type 0} {S : Type 0} → Row P → Stage → Element P S → Element P S
+staged h stage k = record k { pending = written_of k.pending h.0 (at_stage stage h.1.item) }
+
+abbrev pub made_ready : {P : Type 0} {S : Type 0} → Codec → Row P → Answer → Element P S → Taken P S
+made_ready c h (Paths ps) k = silent (staged h (Ready (branches_in c h.1.item.wanted.query.metric ps)) k)
+made_ready c h (NoPath nature vector) k =
+    cond (nature == 0)
+    (silent (staged h (Ready []) k))
+    (answered h (reply_message h.1.item.flags h.1.key.id unavailable) k)
+
+-- A reply to a request that waits. The parent's is passed on as it is.
+abbrev pub take_answer : {P : Type 0} {S : Type 0} → Codec → Peer → Reply → Element P S → Option (Row P) → Taken P S
+take_answer c p r k None = only p (error_message (Some (r.flags, r.id)) 8 0) k
+take_answer c p r k (Some h) =
+    cond (same_peer p the_parent) (answered h (reply_message h.1.item.flags h.1.key.id r.answer) k) (made_ready c h r.answer k)
+
+abbrev pub take_reply : {P : Type 0} {S : Type 0} → Codec → Peer → Reply → Element P S → Taken P S
+take_reply c p r k = take_answer c p r k (waiting p r.id k.pending.rows)
+
+-- the next has no room (1/2), or the peer cancels (1/1)
+abbrev pub told_busy : {P : Type 0} {S : Type 0} → Element P S → Option (Row P) → Taken P S
+told_busy k None = silent k
+told_busy k (Some h) = answered h (busy h.1.item.flags h.1.key.id) k
+
+abbrev pub cancelled : {P : Type 0} {S : Type 0} → Element P S → Option ℕ → Taken P S
+cancelled k None = silent k
+cancelled k (Some number) = silent (ended number k)
+
+abbrev pub take_busy : {P : Type 0} {S : Type 0} → Peer → ℕ × ℕ → Element P S → Taken P S
+take_busy p rp k = told_busy k (waiting p rp.1 k.pending.rows)
+
+abbrev pub take_cancel : {P : Type 0} {S : Type 0} → Peer → ℕ × ℕ → Element P S → Taken P S
+take_cancel p rp k = cancelled k (number_of k.pending p rp.1)
+
+-- the steps of one id of a notice, in order
+abbrev pub notice_steps : {P : Type 0} {S : Type 0} → List (ℕ × ℕ) → List (Peer → ℕ × ℕ → Element P S → Taken P S)
+notice_steps kinds =
+    cond (has_pair 1 2 kinds)
+    (cond (has_pair 1 1 kinds) (take_busy ∷ take_cancel ∷ []) (take_busy ∷ []))
+    (cond (has_pair 1 1 kinds) (take_cancel ∷ []) [])
+
+abbrev pub take_notice : {P : Type 0} {S : Type 0} → Peer → Notice → Element P S → Taken P S
+take_notice p n = each (λ rp. each (λ step. step p rp) (notice_steps n.kinds)) n.ids
+
+-- What an error of the next tells the asker: of a request out of the profile, that; that it answers a reply, nothing; else
+-- that the chain is not available.
+abbrev pub error_answer : ℕ × ℕ → ℕ → ℕ → List Message
+error_answer e flags x =
+    cond (has_pair 8 0 (e ∷ [])) []
+    (cond (has_pair e.0 e.1 ((4, 4) ∷ (13, 1) ∷ [])) (error_message (Some (flags, x)) 13 1 ∷ []) (reply_message flags x unavailable ∷ []))
+
+abbrev pub told_error : {P : Type 0} {S : Type 0} → Row P → Element P S → List Message → Taken P S
+told_error h k [] = silent k
+told_error h k (m ∷ ms) = answered h m k
+
+abbrev pub take_failure : {P : Type 0} {S : Type 0} → ℕ × ℕ → Element P S → Option (Row P) → Taken P S
+take_failure e k None = silent k
+take_failure e k (Some h) = told_error h k (error_answer e h.1.item.flags h.1.key.id)
+
+abbrev pub take_errors : {P : Type 0} {S : Type 0} → Peer → List (ℕ × ℕ) → List (ℕ × ℕ) → Element P S → Taken P S
+take_errors p ids [] = silent
+take_errors p ids (e ∷ es) = each (λ rp k. take_failure e k (waiting p rp.1 k.pending.rows)) ids
+
+abbrev pub take_report : {P : Type 0} {S : Type 0} → Peer → ErrorReport → Element P S → Taken P S
+take_report p r = take_errors p r.ids r.errors
+
+-- What an element does with a message that its session passes. The show tells what stands behind a key, and the pin is that
+-- of the current topology.
+abbrev pub take : {P : Type 0} {S : Type 0} → Codec → (S → List Hop) → Place → P → Peer → Class → ℕ → Message → Element P S → Taken P S
+take c show e pin p class now (messages.PcReq asks) = each (take_asked c show e pin p class now) asks
+take c show e pin p class now (messages.PcRep replies) = each (take_reply c p) replies
+take c show e pin p class now (messages.PcNtf notices) = each (take_notice p) notices
+take c show e pin p class now (messages.PcErr reports) = each (take_report p) reports
+take c show e pin p class now (messages.Open body) = silent
+take c show e pin p class now messages.Keepalive = silent
+take c show e pin p class now (messages.Close reason) = silent
+take c show e pin p class now (messages.Other kind) = silent

@@ -1,0 +1,24 @@
+//! The laws of the model: it says what the contracts of its parts say, and the wire is a codec.
+ghost use Rattle.plant_model.specs.Jobs.{JoinsWhatWasTold};
+ghost use Rattle.plant_model.specs.Meeting.{DeniedMeets, BranchMeets, CheckMeets, LiveMeets};
+ghost use Rattle.plant_model.specs.RealWire.{WireIsCodec};
+
+/// The model's policy, branches, refusals and live generations are what the contracts of those
+/// parts say.
+pub fn model_meets_parts()
+    ensures policy { DeniedMeets }
+    ensures branches { BranchMeets }
+    ensures requests { CheckMeets }
+    ensures generations { LiveMeets }
+{}
+
+/// A way that is joined leads to a node that the next domain told.
+pub fn joins_what_was_told()
+    ensures { JoinsWhatWasTold }
+{}
+
+/// The functions of messages, frames, refusals and words are a codec, on whose laws those of
+/// networks rest.
+pub fn wire_is_codec()
+    ensures { WireIsCodec }
+{}

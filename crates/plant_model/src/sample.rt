@@ -1,0 +1,13 @@
+//! Sample runs, worked out: what comes of them shows that the definitions mean what they should.
+ghost use Rattle.plant_model.specs.SampleRuns.{ThreeDomains, BreakIsTold, LoadKeepsPin, KeysAreGuarded, IdsTellWhoSent, NoPathTellsClients, ParentAnswers};
+
+/// Runs of a network of three domains and of one with a parent, over the wire of PCEP.
+pub fn sample_runs()
+    ensures path { ThreeDomains }
+    ensures broken { BreakIsTold }
+    ensures load { LoadKeepsPin }
+    ensures keys { KeysAreGuarded }
+    ensures ids { IdsTellWhoSent }
+    ensures no_path { NoPathTellsClients }
+    ensures parent { ParentAnswers }
+{}
