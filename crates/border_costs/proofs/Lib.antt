@@ -7,3 +7,6 @@ pub mod Picked
 pub mod WaysOut
 pub mod TableRows
 pub mod Heads
+pub mod Members
+pub mod Composing
+mod TablePairs

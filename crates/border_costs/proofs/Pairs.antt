@@ -17,6 +17,7 @@ use Rattle.walk_laws.specs.Labels.{IsLabel, IsSegment}
 use Rattle.walk_laws.specs.Borders.{AreBorderSeeds}
 use Rattle.walk_laws.proofs.Admitted.{reaches_admits}
 use Rattle.walk_laws.proofs.Joining.{label_joins, label_joins_at}
+use Rattle.walk_laws.proofs.Segments.{one_of}
 use Rattle.path_search.specs.Arcs.{label_at}
 use Rattle.path_search.specs.Search.{AreLabels}
 use Rattle.path_search.specs.Segments.{AreAt, HasSegment}
@@ -47,24 +48,7 @@ label_is g q seeds labels from n o are at_n at_label = subst (IsLabel g q seeds 
 
 -- far addresses of out links differ
 pub one_out : (outs : List OutLink) → AllPairs (λ o p. rank o.link.far < rank p.link.far) outs → (o p : OutLink) → Contains outs o → Contains outs p → o.link.far ≡ p.link.far → o ≡ p
-one_out outs rising o p (i, i_in, is_o) (j, j_in, is_p) far =
-    let at_p : get_or outs j o ≡ p = get_or_default outs j o p j_in ∙ is_p in
-    let at_o : get_or outs i p ≡ o = get_or_default outs i p o i_in ∙ is_o in
-    let same : rank o.link.far ≡ rank p.link.far = ap rank far in
-    elim (cases_eq i j) [
-      | inl one ↦ sym is_o ∙ ap (λ k. get_or outs k o) one ∙ at_p
-      | inr apart ↦ elim (cases_lt i j) [
-        | inl before ↦
-            let less = rising i j o before j_in in
-            let f : rank o.link.far < rank p.link.far = subst (λ (x : OutLink). rank o.link.far < rank x.link.far) at_p (subst (λ (x : OutLink). rank x.link.far < rank (get_or outs j o).link.far) is_o less) in
-            absurd (omega arith)
-        | inr past ↦
-            let later : j < i = omega (arith, past, apart) in
-            let less = rising j i p later i_in in
-            let f : rank p.link.far < rank o.link.far = subst (λ (x : OutLink). rank p.link.far < rank x.link.far) at_o (subst (λ (x : OutLink). rank x.link.far < rank (get_or outs i p).link.far) is_p less) in
-            absurd (omega arith)
-      ]
-    ]
+one_out outs rising o p in-o in-p far = one_of (λ (x : OutLink). rank x.link.far) outs rising o p in-o in-p (ap rank far)
 
 -- the head that stands with the exit's far address is the head of the exit
 pub head_is : (g : Rows) (q : Query) (b : As) (down : List Down) (seeds : List Seed) → AreBorderSeeds g q b (beyond down) seeds → IsInOrder g →

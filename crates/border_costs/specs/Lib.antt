@@ -3,3 +3,4 @@ pub mod Solutions
 pub mod Fields
 pub mod Tables
 pub mod Ways
+pub mod Composing

@@ -12,8 +12,8 @@ use std::alloc::Global;
 use te_links::Links;
 use vspt_tree::Best;
 
-// The node beyond the out link with this far address.
-fn head_of<'a, G: Links<'a>>(links: &G, far: Addr) -> Option<Addr>
+/// The node beyond the out link with this far address; none where there is no such link.
+pub fn head_of<'a, G: Links<'a>>(links: &G, far: Addr) -> Option<Addr>
     ensures head { MatchOption result (HasNoOut (G.rows links.now) far) (IsHeadOf (G.rows links.now) far) }
     ensures order { IsInOrder (G.rows links.now) }
 {

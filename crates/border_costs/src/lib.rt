@@ -5,6 +5,7 @@
 mod best;
 mod job;
 mod labelled;
+mod law;
 mod rows;
 mod seeds;
 mod solution;
@@ -12,9 +13,12 @@ mod solved;
 mod table;
 mod ways;
 
+pub use best::head_of;
 pub use job::{Ask, Down, Job, Target};
+pub use law::{rows_compose, table_tells_pairs};
 pub use rows::Rows;
-pub use solution::solve_rows;
+pub use seeds::seeds_of;
+pub use solution::{is_node, knows_target, solve_rows};
 pub use solved::{Solved, solve};
 pub use table::border_table;
 

@@ -12,14 +12,15 @@ use path_search::search;
 use std::alloc::Global;
 use te_links::Links;
 
-fn is_node<'a, G: Links<'a>>(links: &G, node: Addr) -> bool
+/// Whether the address is a node of the domain.
+pub fn is_node<'a, G: Links<'a>>(links: &G, node: Addr) -> bool
     ensures { IsTrue result ↔ Contains (G.rows links.now).nodes node }
 {
     links.find_node(node).is_some()
 }
 
-// Whether the target is a node of this domain, or lies beyond it.
-fn knows_target<'a, G: Links<'a>>(links: &G, target: Target) -> bool
+/// Whether the target is a node of the domain, or lies beyond it.
+pub fn knows_target<'a, G: Links<'a>>(links: &G, target: Target) -> bool
     ensures { IsTrue result ↔ IsKnownTarget (G.rows links.now) target }
 {
     match target {

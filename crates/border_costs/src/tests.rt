@@ -132,6 +132,9 @@ fn entries_have_their_best_ways(rt: HostRuntime) -> Result<(), Fail> {
     Ok(())
 }
 
+// Jobs are solved by threads, which hand out what they solved.
+fn goes_to_a_thread<T: Send>(_value: &T) {}
+
 #[test]
 fn a_certificate_has_each_node(rt: HostRuntime) -> Result<(), Fail> {
     let alloc = rt.alloc();
@@ -153,6 +156,8 @@ fn a_certificate_has_each_node(rt: HostRuntime) -> Result<(), Fail> {
     assert_eq!(rt; solved.certificate().labels.as_slice(), rows.as_slice());
     assert_eq!(rt; solved.at(), As(3));
     assert_eq!(rt; solved.number(), 1);
+    goes_to_a_thread(&job);
+    goes_to_a_thread(&solved);
     Ok(())
 }
 

@@ -8,3 +8,9 @@ pub mod Counting
 pub mod Risen
 pub mod Leaving
 pub mod Judging
+pub mod Gathering
+pub mod Ascending
+pub mod Told
+pub mod Whole
+pub mod RowSpelling
+pub mod ReadAgain

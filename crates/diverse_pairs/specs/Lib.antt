@@ -3,3 +3,8 @@ pub mod Potentials
 pub mod Conditions
 pub mod Chosen
 pub mod Steps
+pub mod Given
+pub mod RowText
+pub mod Text
+pub mod PairText
+pub mod Asking

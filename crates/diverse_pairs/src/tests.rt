@@ -1,9 +1,10 @@
-use crate::{PairCertificate, PairForm, PairVerdict, check_pair, is_rising};
+use crate::{PairCertificate, PairForm, PairVerdict, check_pair, is_rising, read_pair, write_pair};
 use dom_base::{Addr, As, Cost, Link, List, Metric, Query};
-use path_certificate::Place;
+use line_text::line_count;
+use path_certificate::{CertError, Place};
 use std::alloc::Global;
 use std::test::Fail;
-use te_links::{Parts, Topology};
+use te_links::{Parts, TopoFault, Topology};
 
 // Links by their ends and their weights. The far addresses are 102, 104 and so on.
 type Row = (u32, u32, u32);
@@ -189,5 +190,58 @@ fn cuts(rt: HostRuntime) -> Result<(), Fail> {
     assert_eq!(rt; without, PairVerdict::Fails(Place::Seed(0)));
     let stranger = cut(rt.alloc(), &TRAP, 9, &[])?;
     assert_eq!(rt; stranger, PairVerdict::Holds);
+    Ok(())
+}
+
+fn read(alloc: Global, text: &[u8]) -> Result<Result<PairCertificate, CertError>, Fail> {
+    if line_count(text) > 100 {
+        return Err("too many lines")?;
+    }
+    let topology = topology(alloc, &TRAP)?;
+    Ok(read_pair(alloc, text, &topology))
+}
+
+// Texts as they are written.
+const TEXTS: [&[u8]; 4] = [
+    b"pair 1\nat 0.0.0.2 4\nat 0.0.0.3 18446744073709551615\nfirst 0.0.0.1 0.0.0.102\nsecond 0.0.0.1\n",
+    b"pair 1\nfirst 0.0.0.1\nsecond 0.0.0.1\n",
+    b"pair 1\ncut 0.0.0.1 0.0.0.2\n",
+    b"pair 1\ncut -\n",
+];
+
+#[test]
+fn texts_are_written_again(rt: HostRuntime) -> Result<(), Fail> {
+    for text in TEXTS {
+        let Ok(certificate) = read(rt.alloc(), text)? else {
+            return Err("not read")?;
+        };
+        let again = write_pair(rt.alloc(), &certificate)?;
+        assert_eq!(rt; again.as_slice(), text);
+    }
+    Ok(())
+}
+
+// Texts outside the form, and their first wrong lines.
+const WRONG: [(&[u8], u32); 9] = [
+    (b"", 1),
+    (b"pair 2\ncut -\n", 1),
+    (b"pair 1\n", 2),
+    (b"pair 1\nat 0.0.0.3 1\nat 0.0.0.3 2\n", 3),
+    (b"pair 1\nat 0.0.0.3 18446744073709551616\n", 2),
+    (b"pair 1\ncut 0.0.0.2 0.0.0.2\n", 2),
+    (b"pair 1\nfirst 0.0.0.1\n# a remark\ncut -\n", 4),
+    (b"pair 1\nsecond 0.0.0.1\n", 2),
+    (b"pair 1\nfirst 0.0.0.1\nsecond 0.0.0.1\n\ncut -\n", 5),
+];
+
+#[test]
+fn a_wrong_line_is_named(rt: HostRuntime) -> Result<(), Fail> {
+    for row in &WRONG {
+        let fault = match read(rt.alloc(), row.0)? {
+            Ok(_certificate) => None,
+            Err(fault) => Some(fault),
+        };
+        assert_eq!(rt; fault, Some(CertError::At(row.1, TopoFault::Syntax)));
+    }
     Ok(())
 }

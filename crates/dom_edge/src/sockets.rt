@@ -141,8 +141,8 @@ impl<L: OpenListener + Drop, R: Clock + Drop> PortListener<L, R>
 where
     L::Stream: Read + Write + OpenStream + Drop,
 {
-    /// Over a listener of the system that was opened at that port.
-    pub fn new(rt: R, listener: L, port: u16) -> io::Result<Self>
+    // Over a listener of the system that was opened at that port.
+    pub(crate) fn new(rt: R, listener: L, port: u16) -> io::Result<Self>
         ensures { IfOk result (λ l. l ≡ record { port = port; faults = 0; quiets = 0 }) }
     {
         listener.set_nonblocking(true)?;

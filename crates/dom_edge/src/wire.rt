@@ -1,8 +1,8 @@
 //! A stream and a sink in one value: the trait, and its form in memory.
-ghost use Rattle.std.specs.Prelude.{◌≡◌, ◌<◌, ◌↔◌, length};
-ghost use Rattle.dom_edge.specs.Streams.{Reading, Writing, IsRead, IsWrite};
-ghost use Rattle.dom_edge.specs.Memory.{IsPlanned};
-ghost use Rattle.dom_edge.specs.Links.{stream_reading, sink_writing};
+ghost use Rattle.std.specs.Prelude.{◌≡◌, ◌≢◌, ◌<◌, ◌↔◌, length};
+ghost use Rattle.dom_edge.specs.Streams.{Reading, Writing, IsRead, IsWrite, IsPutWhole};
+ghost use Rattle.dom_edge.specs.Memory.{IsPlanned, IsCalled};
+ghost use Rattle.dom_edge.specs.Links.{IsPieceRead, stream_reading, sink_writing};
 
 use crate::sink::{MemorySink, Put, Sink};
 use crate::stream::{Got, MemoryStream, Stream};
@@ -72,6 +72,9 @@ impl Wire for MemoryLink {
         ensures writing { sink_writing self.new.sink ≡ sink_writing self.old.sink }
         ensures sink { self.new.sink ≡ self.old.sink }
         ensures planned { result ≡ Got.Failed ↔ IsPlanned self.old.stream.calls }
+        ensures kept { result ≡ Got.Failed → self.new.stream.pieces ≡ self.old.stream.pieces }
+        ensures pieces { result ≢ Got.Failed → IsPieceRead self.old.stream.pieces self.new.stream.pieces result (length into.old) }
+        ensures called { IsCalled self.old.stream.calls self.new.stream.calls (result ≡ Got.Failed) }
     {
         self.stream.read(into)
     }
@@ -82,6 +85,8 @@ impl Wire for MemoryLink {
         ensures reading { stream_reading self.new.stream ≡ stream_reading self.old.stream }
         ensures stream { self.new.stream ≡ self.old.stream }
         ensures planned { IsPlanned self.old.sink.calls → result ≡ Put.Failed }
+        ensures called { IsCalled self.old.sink.calls self.new.sink.calls (result ≡ Put.Failed) }
+        ensures whole { IsPutWhole result (length piece.now) }
     {
         self.sink.write(piece)
     }

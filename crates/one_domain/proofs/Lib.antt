@@ -1,3 +1,4 @@
 pub mod OneSeed
 pub mod Shown
 pub mod Sizes
+pub mod OneReply

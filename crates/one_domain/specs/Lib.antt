@@ -2,3 +2,4 @@
 pub mod Domain
 pub mod Replies
 pub mod Certified
+pub mod Once

@@ -4,8 +4,10 @@
 
 mod certifying;
 mod domain;
+mod law;
 mod replying;
 
 pub use certifying::certificate_of;
 pub use domain::{Chosen, DomainPath, search_domain, seeds_of};
+pub use law::reply_is_one;
 pub use replying::{PathRequest, answer_of, reply_of};

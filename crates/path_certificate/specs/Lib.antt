@@ -1,4 +1,5 @@
 pub mod Rows
+pub mod Limits
 pub mod Claims
 pub mod Offers
 pub mod Given

@@ -23,7 +23,7 @@ mod writing;
 pub use cert_error::CertError;
 pub use certificate::Certificate;
 pub use checker::check;
-pub use limits::{CERTIFICATE_BYTES_MAX, SEEDS_MAX};
+pub use limits::{CERTIFICATE_BYTES_MAX, SEEDS_MAX, limits_are_numbers};
 pub use reading::read_certificate;
 pub use verdict::{Place, Verdict};
 pub use writing::write_certificate;

@@ -156,9 +156,13 @@ fn prefixes_of_both_kinds(rt: HostRuntime) -> Result<(), Fail> {
         (short, 32, Addr::V4(0x0A01_0003), false),
         (short, 33, Addr::V4(0x0A01_0002), true),
         (short, 33, Addr::V4(0x0A01_0003), false),
+        (short, 64, Addr::V4(0x0A01_0002), true),
         (short, 64, Addr::V4(0x0A01_0003), false),
+        (short, 127, Addr::V4(0x0A01_0002), true),
         (short, 127, Addr::V4(0x0A01_0003), false),
         (short, 128, Addr::V4(0x0A01_0002), true),
+        (short, 128, Addr::V6(0x0A01_0002), false),
+        (short, 129, Addr::V4(0x0A01_0002), true),
         (short, 129, Addr::V4(0x0A01_0003), false),
         (
             long,

@@ -15,7 +15,7 @@ use Rattle.dom_base.specs.Admission.{weight}
 use Rattle.dom_base.specs.declared.query.Seed.{Seed}
 use Rattle.dom_base.specs.declared.query.Label.{Label}
 use Rattle.te_links.specs.Rows.{Rows, IsTopology, IsInnerLink}
-use Rattle.walk_laws.specs.Walks.{AdmitsNode}
+use Rattle.walk_laws.specs.Walks.{AdmitsNode, AdmitsLink}
 use Rattle.walk_laws.specs.Labels.{◌≼◌, IsLabel, EndsAt}
 use Rattle.walk_laws.specs.Certificate.{AtMost, before, SeedHolds, LinkHolds, NodeHolds, IsMadeBy, Certifies}
 use Rattle.walk_laws.proofs.Lower.{at_most_le, le_cost}
@@ -23,9 +23,8 @@ use Rattle.walk_laws.proofs.Reached.{certified}
 use Rattle.path_search.specs.declared.arc.Arc.{Arc}
 use Rattle.path_search.specs.Arcs.{label_at, joined, IsWithin, IsArcAmong, IsRelaxed, IsSupportedBy, Settles}
 use Rattle.path_search.specs.Starts.{IsCovered, AreStarts}
-use Rattle.path_search.specs.Search.{IsArcOf, AreArcs, AreLabels}
+use Rattle.path_search.specs.Search.{IsArcOf, AreLabels}
 use Rattle.path_search.proofs.Places.{same_place, place_of, label_of, label_of-at, label_of_found}
-use Rattle.path_search.proofs.Collecting.{IsBefore}
 
 le_antisym : (a b : Label) → a ≼ b → b ≼ a → a ≡ b
 le_antisym a b (inl lt) (inl lt') = absurd (omega arith)
@@ -39,7 +38,9 @@ le_antisym a b (inr le) (inr le') =
 -- What a search has at its end.
 pub record HasSettled (g : Rows) (q : Query) (seeds : List Seed) (arcs : List Arc) (start labels : List (Option Label)) : Type 0 where
   pub valid : IsTopology g
-  pub arcs_are : AreArcs g q (length g.links) arcs
+  pub each : All (λ a. IsArcOf g q a.link a) arcs
+  pub every : (p : ℕ) (l : Link) (i : ℕ) (b : Label) → slice_get g.links p ≡ Some l → AdmitsLink g q l → slice_get g.nodes i ≡ Some l.to → label_at labels i ≡ Some b →
+      (a : Arc) × (Contains arcs a × IsArcOf g q p a)
   pub starts_are : AreStarts g q seeds start
   pub settled : Settles q.cap arcs start labels
 
@@ -73,16 +74,17 @@ at_links : (g : Rows) (q : Query) (seeds : List Seed) (arcs : List Arc) (start l
     (l : Link) → LinkHolds g q (label_of g.nodes ls) l
 at_links g q seeds arcs start ls h l a admitted is within =
     let place = place_of g.links l admitted.is_link in
-    let e = h.arcs_are.every place.0 l (slice_get_within g.links place.0 l place.1) place.1 admitted in
+    let end = place_of g.nodes l.to admitted.to.is_node in
+    let e = h.every place.0 l end.0 a place.1 admitted end.1 (sym (by_place g q seeds arcs start ls h end.0 l.to end.1) ∙ is) in
     let arc = e.0 in
-    let of = e.2 in
+    let of = e.1.1 in
     let both : Some of.link ≡ Some l = sym of.at_link ∙ place.1 in
     let same : of.link ≡ l = cc in
     let head : slice_get g.nodes arc.head ≡ Some l.to = of.head ∙ ap (λ (m : Link). Some m.to) same in
     let tail : slice_get g.nodes arc.tail ≡ Some l.from = of.tail ∙ ap (λ (m : Link). Some m.from) same in
     let heavy : arc.weight ≡ weight q.metric l = of.weight ∙ ap (weight q.metric) same in
     let at_head : label_at ls arc.head ≡ Some a = sym (by_place g q seeds arcs start ls h arc.head l.to head) ∙ is in
-    let relaxed : IsRelaxed q.cap ls arc = All-contains (IsRelaxed q.cap ls) arcs arc h.settled.relaxed e.1 in
+    let relaxed : IsRelaxed q.cap ls arc = All-contains (IsRelaxed q.cap ls) arcs arc h.settled.relaxed e.1.0 in
     let most : AtMost (label_at ls arc.tail) (joined arc a) = relaxed a at_head (omega (arith, heavy, within)) in
     let at_from : AtMost (label_of g.nodes ls l.from) (joined arc a) =
     subst (λ (o : Option Label). AtMost o (joined arc a)) (sym (by_place g q seeds arcs start ls h arc.tail l.from tail)) most in
@@ -93,7 +95,7 @@ by_arc : (g : Rows) (q : Query) (seeds : List Seed) (arcs : List Arc) (start ls 
     (i : ℕ) (n : Addr) (b : Label) → slice_get g.nodes i ≡ Some n → label_at ls i ≡ Some b → b.cost ≤ q.cap →
     (arc : Arc) → Contains arcs arc → IsSupportedBy ls i b arc → (l : Link) × IsMadeBy g q (label_of g.nodes ls) n b l
 by_arc g q seeds arcs start ls h i n b at_i at_label within arc is_arc s =
-    let of = (All-contains (IsBefore g q (length g.links)) arcs arc h.arcs_are.each is_arc).1 in
+    let of = All-contains (λ (a : Arc). IsArcOf g q a.link a) arcs arc h.each is_arc in
     let l = of.link in
     let both : Some l.from ≡ Some n = sym of.tail ∙ ap (slice_get g.nodes) s.tail ∙ at_i in
     let from : l.from ≡ n = cc in
@@ -173,8 +175,3 @@ start_within g q seeds start are k d below = go (slice_index_or start k d) refl
     go : (o : Option Label) → slice_index_or start k d ≡ o → IsWithin q.cap o
     go None is = tt
     go (Some b) is = (are.made k b (get_or_default start k None d below ∙ is)).within
-
-pub all_among : (g : Rows) (q : Query) (seeds : List Seed) (arcs : List Arc) (start : List (Option Label)) → IsTopology g →
-    AreStarts g q seeds start → AreArcs g q (length g.links) arcs → All (IsArcAmong (length start)) arcs
-all_among g q seeds arcs start valid starts are =
-    λ k d below. arc_among g q (length start) (slice_index_or arcs k d) valid (sym starts.same_length) (are.each k d below).1

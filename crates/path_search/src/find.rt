@@ -1,58 +1,61 @@
-//! The search: its arcs, its starts, and their relaxation to the least labels.
-ghost use Rattle.std.specs.Prelude.{◌≡◌, ◌<◌, ◌≤◌, ◌+◌, [], length, IfOk, MatchOption};
-ghost use Rattle.path_search.specs.Search.{IsArcOf, IsNoArc, AreArcs, AreLabels};
+//! The search: its starts, and the settling of nodes, the least first.
+ghost use Rattle.std.specs.Prelude.{◌≡◌, ◌⊎◌, ◌↔◌, ◌<◌, ◌≤◌, ◌+◌, false, replicate, length, IsTrue, IfOk, MatchOption};
+ghost use Rattle.dom_base.specs.Admission.{BarsNode};
+ghost use Rattle.te_links.specs.Rows.{IsTopology};
+ghost use Rattle.te_links.specs.Index.{EndsAt};
+ghost use Rattle.path_search.specs.Reached.{ReadsReached};
+ghost use Rattle.path_search.specs.Search.{IsArcOf, IsNoArc, AreLabels};
 
 use crate::arc::Arc;
 use crate::labels::Labels;
-use crate::opened::open_place;
-use crate::settle::settle;
+use crate::spread::settle_all;
 use crate::starts::starts_of;
-use dom_base::{NoMemory, Query, Seed};
+use crate::waiting::Waiting;
+use dom_base::{Link, NoMemory, Query, Seed};
 use path_constraints::{fits, weight};
-use path_exclusions::bars_link;
+use path_exclusions::{bars_link, bars_node};
 use std::alloc::Global;
 use te_links::Links;
 
-// The arc of a link, if it is admitted.
-fn arc_of<'a, G: Links<'a>>(links: &mut G, query: &Query, index: u32) -> Option<Arc>
-    requires { index < length (G.rows links.old).links }
+// Whether a link begins or ends at a node that the query bars.
+fn bars_ends(query: &Query, link: &Link) -> bool
+    ensures { IsTrue result ↔ (BarsNode query.now link.now.from ⊎ BarsNode query.now link.now.to) }
+{
+    bars_node(query, link.from) || bars_node(query, link.to)
+}
+
+// The arc of a link into the node at a place, if the link is admitted.
+pub fn arc_of<'a, G: Links<'a>>(links: &mut G, query: &Query, head: u32, index: u32) -> Option<Arc>
+    requires rules { IsTopology (G.rows links.old) }
+    requires index { index < length (G.rows links.old).links }
+    requires ends { EndsAt (G.rows links.old).nodes (G.rows links.old).links head index }
     ensures arc { MatchOption result (IsNoArc (G.rows links.old) query.now index) (IsArcOf (G.rows links.old) query.now index) }
     ensures same { G.rows links.new ≡ G.rows links.old }
     ensures reads { G.reads links.new ≤ G.reads links.old + 1 }
 {
-    let link = links.link_at(index);
-    if !fits(query, link) || bars_link(query, link) {
+    let (link, tail) = links.link_with_tail(index);
+    if !fits(query, link) || bars_link(query, link) || bars_ends(query, link) {
         return None;
     }
     Some(Arc {
-        tail: open_place(links, query, link.from)?,
-        head: open_place(links, query, link.to)?,
+        tail,
+        head,
         weight: weight(link, query.metric),
         link: index,
     })
 }
 
-// The arcs of all admitted links, in the order of the links. Each link is read once.
-fn arcs_of<'a, G: Links<'a>>(
-    alloc: Global,
-    links: &mut G,
-    query: &Query,
-) -> Result<Vec<Arc>, NoMemory>
-    ensures arcs { IfOk result (λ arcs. AreArcs (G.rows links.old) query.now (length (G.rows links.old).links) arcs.items) }
-    ensures same { G.rows links.new ≡ G.rows links.old }
-    ensures reads { G.reads links.new ≤ G.reads links.old + length (G.rows links.old).links }
+// No node is settled.
+fn none_settled(alloc: Global, nodes: usize) -> Result<Vec<bool>, NoMemory>
+    ensures { IfOk result (λ done. done.items ≡ replicate nodes false) }
 {
-    let mut arcs = Vec::new(alloc);
-    for i in 0..links.link_count() {
-        if let Some(arc) = arc_of(links, query, i) {
-            arcs.push(arc)?;
-        }
-    }
-    Ok(arcs)
+    Ok(vec![in alloc; false; nodes]?)
 }
 
 /// The label of each node: the least pair of cost and exit over all admitted walks from it to a
-/// seed, within the query's cap; none where there is no such walk. Each link is read once.
+/// seed, within the query's cap; none where there is no such walk. Nodes are settled in the order of
+/// their labels, and a link is read when the node at its end is settled: no link into a node that
+/// has no label is read, and none twice.
 pub fn search<'a, G: Links<'a>>(
     alloc: Global,
     links: &mut G,
@@ -62,9 +65,11 @@ pub fn search<'a, G: Links<'a>>(
     ensures labels { IfOk result (AreLabels (G.rows links.old) query.now seeds.now) }
     ensures same { G.rows links.new ≡ G.rows links.old }
     ensures reads { G.reads links.new ≤ G.reads links.old + length (G.rows links.old).links }
+    ensures reached { IfOk result (λ labels. ReadsReached (G.rows links.old) labels (G.reads links.old) (G.reads links.new)) }
 {
     let mut labels = starts_of(alloc, links, query, seeds)?;
-    let arcs = arcs_of(alloc, links, query)?;
-    settle(query.cap, &arcs, &mut labels);
+    let mut waiting = Waiting::of(alloc, &labels)?;
+    let mut done = none_settled(alloc, labels.len())?;
+    settle_all(links, query, &mut labels, &mut waiting, &mut done);
     Ok(Labels::of(labels))
 }

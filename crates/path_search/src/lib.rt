@@ -5,12 +5,15 @@ mod arc;
 mod chosen;
 mod find;
 mod labels;
+mod matches;
 mod opened;
 mod settle;
 mod shown;
+mod spread;
 mod starts;
+mod waiting;
 
-pub use chosen::segment;
+pub use chosen::{Step, ends_at, segment, tight_step};
 pub use find::search;
 pub use labels::Labels;
 pub use shown::{label_rows, open_segment};

@@ -13,11 +13,14 @@ usage: pce COMMAND
 answer TOPO         reads a path request in hexadecimal, writes the reply in hexadecimal
 certify TOPO        reads the same, writes a certificate: the least labels and the chosen path
 verify TOPO CERT    reads the same, checks a certificate, writes `holds`
+pair-verify TOPO CERT
+                    reads two path requests joined by an SVEC, checks a certificate of their
+                    pair of paths that share no link, writes `holds`
 --help              writes this table
 --version           writes the versions of the program and of the toolchain
 ";
 
-const VERSION: &str = "pce 0.1.0, proved with rattle-kit-13f logic dac8208d650f15bf\n";
+const VERSION: &str = "pce 0.1.0, proved with rattle-kit-13b logic dac8208d650f15bf\n";
 
 // Writes a text to the standard output.
 fn say(rt: &HostRuntime, text: &str) -> Status {

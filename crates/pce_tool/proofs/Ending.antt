@@ -1,5 +1,5 @@
 -- How a run ends, from how its parts ended.
-use Rattle.std.proofs.Common.{◌≡◌, inl, inr, ℕ, List, ◌∷◌, Some, None, refl, sym, subst}
+use Rattle.std.proofs.Common.{◌≡◌, inl, inr, ℕ, List, [], ◌∷◌, Some, None, refl, sym, subst}
 use Rattle.std.specs.Prelude.{Err}
 use Rattle.std.specs.declared.option.Option.{Option}
 use Rattle.std.specs.Io.KnownBytes.{Keeps}
@@ -8,15 +8,16 @@ use Rattle.te_links.specs.declared.fault.TopoFault.{TopoFault}
 use Rattle.te_text.specs.Reads.{IsFaulty}
 use Rattle.path_certificate.specs.declared.cert_error.CertError.TheVariants.{At}
 use Rattle.path_certificate.specs.Text.{certificate_in}
+use Rattle.diverse_pairs.specs.Text.{pair_in}
 use Rattle.pce_tool.specs.declared.status.Status.{Status}
 use Rattle.pce_tool.specs.declared.status.Status.TheVariants as status
 use Rattle.pce_tool.specs.declared.status.NetFault.TheVariants.{Topo}
 use Rattle.pce_tool.specs.Limits.{topology_max, certificate_max}
 use Rattle.dom_edge.specs.Stores.{Files}
 use Rattle.pce_tool.specs.Worlds.{World, WroteNothing, IfFile}
-use Rattle.pce_tool.specs.Files.{File, TopologyFile, HasTopology, HoldsAtFile}
+use Rattle.pce_tool.specs.Files.{File, TopologyFile, CertificateFile, PairFile, HasTopology, HoldsAtFile, IsFaultIn, name_of, limit_of}
 use Rattle.pce_tool.specs.Parts.{IsFileStatus, IsInputStatus, IsFinished}
-use Rattle.pce_tool.specs.Run.{Command, Verify, FilesRead, IsOutput, Ends, files_of, topology_of}
+use Rattle.pce_tool.specs.Run.{Command, Verify, PairVerify, FilesRead, IsBad, IsOutput, Ends, files_of, topology_of}
 
 pub keeps_refl : (o : Option (List ℕ)) → Keeps o o
 keeps_refl None = tt
@@ -40,28 +41,46 @@ topology_ends w c name rest is nothing (status.BadRequest reason) why = absurd w
 topology_ends w c name rest is nothing (status.Refuted place) why = absurd why
 topology_ends w c name rest is nothing (status.TooLarge file) why = (nothing, inl (first w c name rest _ is why))
 
--- the topology was read, and the certificate was not
+-- the second file of a command
+second : (w : World) (c : Command) (topology : List ℕ) (g : Rows) (f : File) (P : File → Type 0) → files_of c ≡ TopologyFile topology ∷ f ∷ [] → HasTopology w.files topology g →
+    P f → HoldsAtFile w.files (files_of c) P
+second w c topology g f P is has holds = subst (λ (fs : List File). HoldsAtFile w.files fs P) (sym is) (inr ((g, has), inl holds))
+
+-- the topology was read, and the second file was not
+second_ends : (w : World) (c : Command) (topology : List ℕ) (g : Rows) (f : File) (IsFault : List ℕ → ℕ → TopoFault → Type 0) → files_of c ≡ TopologyFile topology ∷ f ∷ [] →
+    HasTopology w.files topology g → ((bytes : List ℕ) (line : ℕ) (fault : TopoFault) → IsFault bytes line fault → IsFaultIn w.files f bytes line fault) → WroteNothing w → (s : Status) →
+    IsFileStatus w.files (name_of f) (limit_of f) IsFault w.store_faults w.failed_at s → Ends w c s
+second_ends w c topology g f IsFault is has in_file nothing status.Ok why = absurd why
+second_ends w c topology g f IsFault is has in_file nothing status.Usage why = absurd why
+second_ends w c topology g f IsFault is has in_file nothing status.ReadFault why = (nothing, inl (second w c topology g f _ is has why))
+second_ends w c topology g f IsFault is has in_file nothing status.WriteFault why = absurd why
+second_ends w c topology g f IsFault is has in_file nothing (status.BadNetwork file line (Topo fault)) why = (nothing, second w c topology g f _ is has (why.0, told w.files why.1))
+  where
+    told : (files : Option Files) → IfFile files (name_of f) (λ bytes. IsFault bytes line fault) → IfFile files (name_of f) (λ bytes. IsFaultIn w.files f bytes line fault)
+    told None h = tt
+    told (Some fs) h = (h.0, h.1, in_file h.0 line fault h.2)
+second_ends w c topology g f IsFault is has in_file nothing status.NoMemory why = nothing
+second_ends w c topology g f IsFault is has in_file nothing (status.BadRequest reason) why = absurd why
+second_ends w c topology g f IsFault is has in_file nothing (status.Refuted place) why = absurd why
+second_ends w c topology g f IsFault is has in_file nothing (status.TooLarge file) why = (nothing, inl (second w c topology g f _ is has why))
+
+-- the topology was read, and the certificate of a path was not
 pub certificate_ends : (w : World) (topology certificate : List ℕ) (g : Rows) → HasTopology w.files topology g → WroteNothing w → (s : Status) →
     IsFileStatus w.files certificate certificate_max (λ bytes line fault. certificate_in g bytes ≡ Err (At line fault)) w.store_faults w.failed_at s →
     Ends w (Verify topology certificate) s
-certificate_ends w topology certificate g has nothing status.Ok why = absurd why
-certificate_ends w topology certificate g has nothing status.Usage why = absurd why
-certificate_ends w topology certificate g has nothing status.ReadFault why = (nothing, inl (inr ((g, has), inl why)))
-certificate_ends w topology certificate g has nothing status.WriteFault why = absurd why
-certificate_ends w topology certificate g has nothing (status.BadNetwork file line (Topo fault)) why = (nothing, inr ((g, has), inl (why.0, told w.files why.1)))
-  where
-    told : (files : Option Files) → IfFile files certificate (λ bytes. certificate_in g bytes ≡ Err (At line fault)) →
-        IfFile files certificate (λ bytes. (h : Rows) × HasTopology w.files topology h × (certificate_in h bytes ≡ Err (At line fault)))
-    told None h = tt
-    told (Some fs) h = (h.0, h.1, (g, has, h.2))
-certificate_ends w topology certificate g has nothing status.NoMemory why = nothing
-certificate_ends w topology certificate g has nothing (status.BadRequest reason) why = absurd why
-certificate_ends w topology certificate g has nothing (status.Refuted place) why = absurd why
-certificate_ends w topology certificate g has nothing (status.TooLarge file) why = (nothing, inl (inr ((g, has), inl why)))
+certificate_ends w topology certificate g has =
+    second_ends w (Verify topology certificate) topology g (CertificateFile certificate topology) _ refl has (λ bytes line fault is. (g, has, is))
+
+-- the topology was read, and the certificate of a pair was not
+pub pair_certificate_ends : (w : World) (topology certificate : List ℕ) (g : Rows) → HasTopology w.files topology g → WroteNothing w → (s : Status) →
+    IsFileStatus w.files certificate certificate_max (λ bytes line fault. pair_in g bytes ≡ Err (At line fault)) w.store_faults w.failed_at s →
+    Ends w (PairVerify topology certificate) s
+pair_certificate_ends w topology certificate g has =
+    second_ends w (PairVerify topology certificate) topology g (PairFile certificate topology) _ refl has (λ bytes line fault is. (g, has, is))
 
 -- the input gave no request
 pub input_ends : (w : World) (c : Command) (g : Rows) → FilesRead w c → HasTopology w.files (topology_of c) g → WroteNothing w → (s : Status) →
-    IsInputStatus w.input g.own.0 w.input_faults s → Ends w c s
+    IsInputStatus (IsBad c g.own.0) w.input w.input_faults s → Ends w c s
 input_ends w c g read has nothing status.Ok is = absurd is
 input_ends w c g read has nothing status.Usage is = absurd is
 input_ends w c g read has nothing status.ReadFault is = (nothing, inr (read, is))

@@ -2,3 +2,5 @@ pub mod Ending
 pub mod LineCount
 pub mod Words
 pub mod Beyond
+pub mod Unread
+pub mod InputEnds

@@ -1,3 +1,4 @@
 pub mod Answer
 pub mod Certify
 pub mod Verify
+pub mod PairVerify

@@ -9,7 +9,7 @@ use Rattle.pce_tool.specs.declared.status.NetFault.TheVariants.{Topo}
 use Rattle.pce_tool.specs.Limits.{input_max}
 use Rattle.pce_tool.specs.Worlds.{HasInput, HasRisen, IfFile, IsLongFile, IsLongInput, input_name}
 use Rattle.dom_edge.specs.Whole.{AppendsSome}
-use Rattle.pce_tool.specs.Requests.{IsWhy}
+use Rattle.pce_tool.specs.declared.reading.Why.{Why}
 
 -- Why a file of that name was not read: the status of a run that ends there. `counts` are the store's faults before and after.
 abbrev pub IsFileStatus : Option Files → List ℕ → ℕ → (List ℕ → ℕ → TopoFault → Type 0) → ℕ × ℕ → List ℕ → Status → Type 0
@@ -21,13 +21,23 @@ IsFileStatus files name limit IsFault counts failed_at (status.TooLarge file) = 
 IsFileStatus files name limit IsFault counts failed_at _ = ⊥
 
 -- Why an input gave no request: the status of a run that ends there. `counts` are the input's faults before and after.
-abbrev pub IsInputStatus : Option (List ℕ) → ℕ → ℕ × ℕ → Status → Type 0
-IsInputStatus input own counts status.ReadFault = HasRisen counts
-IsInputStatus input own counts status.NoMemory = Unit {0}
-IsInputStatus input own counts (status.BadRequest why) =
-    (bytes : List ℕ) × HasInput input bytes × (length bytes ≤ input_max) × IsWhy own bytes why
-IsInputStatus input own counts (status.TooLarge name) = (name ≡ input_name) × IsLongInput input
-IsInputStatus input own counts _ = ⊥
+-- `IsBad` is why bytes are no such request.
+abbrev pub IsInputStatus : (List ℕ → Why → Type 0) → Option (List ℕ) → ℕ × ℕ → Status → Type 0
+IsInputStatus IsBad input counts status.ReadFault = HasRisen counts
+IsInputStatus IsBad input counts status.NoMemory = Unit {0}
+IsInputStatus IsBad input counts (status.BadRequest why) =
+    (bytes : List ℕ) × HasInput input bytes × (length bytes ≤ input_max) × IsBad bytes why
+IsInputStatus IsBad input counts (status.TooLarge name) = (name ≡ input_name) × IsLongInput input
+IsInputStatus IsBad input counts _ = ⊥
+
+-- bytes that are taken as they are, are never bad
+abbrev pub IsNeverBad : List ℕ → Why → Type 0
+IsNeverBad bytes why = ⊥
+
+-- the bytes of an input that is not too long
+pub record IsInput (input : Option (List ℕ)) (bytes : List ℕ) : Type 0 where
+  pub is_input : HasInput input bytes
+  pub within : length bytes ≤ input_max
 
 -- bytes that are read as they are have no fault
 abbrev pub IsNoFault : List ℕ → ℕ → TopoFault → Type 0

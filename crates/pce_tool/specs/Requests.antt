@@ -1,4 +1,4 @@
--- What `answer`, `certify` and `verify` read: one path request within the topology's own domain, as hexadecimal text.
+-- What commands read, as hexadecimal text: one path request within the topology's own domain, or two for a pair within it.
 use Rattle.std.specs.Prelude.{◌≡◌, ◌⊎◌, ◌≤◌, ℕ, true, List, [], ◌∷◌, length, Option, Some, None, Result, Ok, Err}
 use Rattle.pcep_messages.specs.declared.message.Message.{Message}
 use Rattle.pcep_messages.specs.declared.message.Message.TheVariants as messages
@@ -12,6 +12,9 @@ use Rattle.pcep_messages.specs.Refusals.{refusal_of}
 use Rattle.pcep_messages.specs.Requests.{Asks, sequence_of}
 use Rattle.line_text.specs.Hexadecimal.{hex_bytes}
 use Rattle.one_domain.specs.declared.replying.PathRequest.{PathRequest}
+use Rattle.diverse_pairs.specs.declared.asking.Pair.{Pair}
+use Rattle.diverse_pairs.specs.Asking.{AskPair, first_refusal}
+use Rattle.pce_tool.specs.declared.pair_reading.PairRequest.{PairRequest}
 use Rattle.pce_tool.specs.declared.reading.RequestError.{RequestError}
 use Rattle.pce_tool.specs.declared.reading.RequestError.TheVariants as errors
 use Rattle.pce_tool.specs.declared.reading.Why.{Why}
@@ -59,6 +62,54 @@ IsWhy own text whys.Malformed = (frame : List ℕ) × (place : ℕ) × (hex_byte
 IsWhy own text whys.NotRequest = (m : Message) × Spells text m × (one_request m ≡ None)
 IsWhy own text (whys.Refused kind value) = (asked : Asked) × SpellsRequest text asked × (refusal_of own asked.objects ≡ Some (kind, value))
 IsWhy own text whys.NotBuilt = (asked : Asked) × SpellsRequest text asked × IsNotBuilt own asked
+
+-- ---- two requests for a pair
+
+-- two requests for one path, with the numbers of both
+abbrev pub pair_with : PairRequest → Pair
+pair_with r = record {
+  first = record { flags = r.flags; id = r.first; wish = wishes.Path r.wanted };
+  second = record { flags = r.flags; id = r.second; wish = wishes.Path r.wanted };
+}
+
+-- the text spells a PCReq with these requests
+abbrev pub SpellsRequests : List ℕ → List Asked → Type 0
+SpellsRequests text asked = Spells text (messages.PcReq asked)
+
+-- the text asks for a pair within the domain
+pub record IsPairRequest (own : ℕ) (text : List ℕ) (r : PairRequest) : Type 0 where
+  pub asked : List Asked
+  pub spells : SpellsRequests text asked
+  pub ask : AskPair own asked (pair_with r)
+
+abbrev pub IsRequests : Message → Type 0
+IsRequests (messages.PcReq asked) = Unit {0}
+IsRequests _ = ⊥
+
+-- Why a text asks for no such pair, the first that applies: it is no hexadecimal; the bytes are no message; the message is no PCReq;
+-- the first or the second request is refused with an error; a pair is not what they ask for.
+abbrev pub IsPairWhy : ℕ → List ℕ → Why → Type 0
+IsPairWhy own text whys.NotRequest = (m : Message) × Spells text m × (¬ IsRequests m)
+IsPairWhy own text (whys.Refused kind value) = (asked : List Asked) × SpellsRequests text asked × (first_refusal own asked ≡ Some (kind, value))
+IsPairWhy own text whys.NotBuilt = (asked : List Asked) × SpellsRequests text asked × (first_refusal own asked ≡ None) × ((p : Pair) → ¬ AskPair own asked p)
+IsPairWhy own text whys.Hex = hex_bytes text ≡ None
+IsPairWhy own text whys.Malformed = (frame : List ℕ) × (place : ℕ) × (hex_bytes text ≡ Some frame) × (message_of frame ≡ Err (Malformed place))
+
+-- what is read of a text, unless memory runs out
+abbrev pub ReadsPair : ℕ → List ℕ → Result PairRequest RequestError → Type 0
+ReadsPair own text (Ok r) = IsPairRequest own text r
+ReadsPair own text (Err (errors.Not why)) = IsPairWhy own text why
+ReadsPair own text (Err errors.NoMemory) = Unit {0}
+
+-- ---- what is read
+
+-- the message that a text spells, or why it spells none
+abbrev pub ReadsMessage : List ℕ → Result Message RequestError → Type 0
+ReadsMessage text (Ok m) = Spells text m
+ReadsMessage text (Err (errors.Not whys.Hex)) = hex_bytes text ≡ None
+ReadsMessage text (Err (errors.Not whys.Malformed)) = (frame : List ℕ) × (place : ℕ) × (hex_bytes text ≡ Some frame) × (message_of frame ≡ Err (Malformed place))
+ReadsMessage text (Err errors.NoMemory) = Unit {0}
+ReadsMessage text (Err _) = ⊥
 
 -- what is read of a text, unless memory runs out
 abbrev pub Reads : ℕ → List ℕ → Result PathRequest RequestError → Type 0

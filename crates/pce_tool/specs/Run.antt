@@ -13,25 +13,32 @@ use Rattle.pce_tool.specs.declared.status.Status.TheVariants as status
 use Rattle.pce_tool.specs.declared.status.NetFault.TheVariants.{Topo}
 use Rattle.pce_tool.specs.Limits.{input_max}
 use Rattle.pce_tool.specs.Worlds.{World, HasInput, HasRisen, IfFile, IsLongFile, IsLongInput, WroteNothing, input_name}
-use Rattle.pce_tool.specs.Files.{File, TopologyFile, CertificateFile, HasTopology, HasCertificate, HoldsAtFile, AreRead, IsFaultIn, name_of, limit_of}
+use Rattle.pce_tool.specs.Files.{File, TopologyFile, CertificateFile, PairFile, HasTopology, HasCertificate, HasPairCertificate, HoldsAtFile, AreRead, IsFaultIn, name_of, limit_of}
 use Rattle.dom_edge.specs.Whole.{AppendsSome}
-use Rattle.pce_tool.specs.Requests.{IsPathRequest, IsWhy}
+use Rattle.pce_tool.specs.Requests.{IsPathRequest, IsWhy, IsPairRequest, IsPairWhy}
 use Rattle.pce_tool.specs.Commands.Answer.{IsReplyText}
 use Rattle.pce_tool.specs.Commands.Certify.{IsCertifiedText}
 use Rattle.pce_tool.specs.Commands.Verify.{claim, holds_text}
+use Rattle.pce_tool.specs.Commands.PairVerify.{pair_asked}
+use Rattle.pce_tool.specs.declared.pair_reading.PairRequest.{PairRequest}
+use Rattle.diverse_pairs.specs.declared.certificate.PairCertificate.{PairCertificate}
+use Rattle.diverse_pairs.specs.Conditions.{HoldsAt as PairHoldsAt, IsFirstFalse as IsPairFirstFalse}
 
 -- a command, with the names of its files
 pub data Command : Type 0 where
   Answer : List ℕ → Command
   Certify : List ℕ → Command
   Verify : List ℕ → List ℕ → Command
+  PairVerify : List ℕ → List ℕ → Command
 
 -- the command that the words are, if any
 abbrev pub command_of : List (List ℕ) → Option Command
 command_of (verb ∷ topology ∷ []) =
     if bytes_eq verb (codes "answer") then Some (Answer topology)
     else (if bytes_eq verb (codes "certify") then Some (Certify topology) else None)
-command_of (verb ∷ topology ∷ certificate ∷ []) = if bytes_eq verb (codes "verify") then Some (Verify topology certificate) else None
+command_of (verb ∷ topology ∷ certificate ∷ []) =
+    if bytes_eq verb (codes "verify") then Some (Verify topology certificate)
+    else (if bytes_eq verb (codes "pair-verify") then Some (PairVerify topology certificate) else None)
 command_of _ = None
 
 -- the files that a command reads, in their order; then it reads the input
@@ -39,12 +46,14 @@ abbrev pub files_of : Command → List File
 files_of (Answer topology) = TopologyFile topology ∷ []
 files_of (Certify topology) = TopologyFile topology ∷ []
 files_of (Verify topology certificate) = TopologyFile topology ∷ CertificateFile certificate topology ∷ []
+files_of (PairVerify topology certificate) = TopologyFile topology ∷ PairFile certificate topology ∷ []
 
 -- the file of the topology that the request is read for
 abbrev pub topology_of : Command → List ℕ
 topology_of (Answer topology) = topology
 topology_of (Certify topology) = topology
 topology_of (Verify topology certificate) = topology
+topology_of (PairVerify topology certificate) = topology
 
 -- the request in the input, at the element of that domain
 pub record HasRequest (input : Option (List ℕ)) (own : ℕ) (r : PathRequest) : Type 0 where
@@ -52,6 +61,20 @@ pub record HasRequest (input : Option (List ℕ)) (own : ℕ) (r : PathRequest) 
   pub is_input : HasInput input bytes
   pub within : length bytes ≤ input_max
   pub is_request : IsPathRequest own bytes r
+
+-- the two requests for a pair in the input, at the element of that domain
+pub record HasPairRequest (input : Option (List ℕ)) (own : ℕ) (r : PairRequest) : Type 0 where
+  pub bytes : List ℕ
+  pub is_input : HasInput input bytes
+  pub within : length bytes ≤ input_max
+  pub is_request : IsPairRequest own bytes r
+
+-- why bytes are no request that a command answers
+abbrev pub IsBad : Command → ℕ → List ℕ → Why → Type 0
+IsBad (Answer topology) own = IsWhy own
+IsBad (Certify topology) own = IsWhy own
+IsBad (Verify topology certificate) own = IsWhy own
+IsBad (PairVerify topology certificate) own = IsPairWhy own
 
 -- what a command has to write
 abbrev pub IsOutput : World → Command → List ℕ → Type 0
@@ -62,12 +85,18 @@ IsOutput w (Certify topology) text =
 IsOutput w (Verify topology certificate) text =
     (g : Rows) × (c : Certificate) × (r : PathRequest) × HasTopology w.files topology g × HasCertificate w.files certificate g c × HasRequest w.input g.own.0 r
     × ((place : Place) → HoldsAt (claim g r c) place) × (text ≡ holds_text)
+IsOutput w (PairVerify topology certificate) text =
+    (g : Rows) × (c : PairCertificate) × (r : PairRequest) × HasTopology w.files topology g × HasPairCertificate w.files certificate g c
+    × HasPairRequest w.input g.own.0 r × ((place : Place) → PairHoldsAt (pair_asked g r) c.form place) × (text ≡ holds_text)
 
 -- the condition at the place is the first of the certificate's that is false
 abbrev pub IsRefuted : World → Command → Place → Type 0
 IsRefuted w (Verify topology certificate) place =
     (g : Rows) × (c : Certificate) × (r : PathRequest) × HasTopology w.files topology g × HasCertificate w.files certificate g c × HasRequest w.input g.own.0 r
     × IsFirstFalse (claim g r c) place
+IsRefuted w (PairVerify topology certificate) place =
+    (g : Rows) × (c : PairCertificate) × (r : PairRequest) × HasTopology w.files topology g × HasPairCertificate w.files certificate g c
+    × HasPairRequest w.input g.own.0 r × IsPairFirstFalse (pair_asked g r) c.form place
 IsRefuted w _ place = ⊥
 
 -- it holds of a file of the command, and those before it are read
@@ -93,7 +122,7 @@ pub record IsBadRequest (w : World) (c : Command) (why : Why) : Type 0 where
   pub bytes : List ℕ
   pub is_input : HasInput w.input bytes
   pub within : length bytes ≤ input_max
-  pub is_why : IsWhy topology.own.0 bytes why
+  pub is_why : IsBad c topology.own.0 bytes why
 
 -- Why a command ended as it did. After a status other than Ok and a write fault nothing was written; want of memory has no cause.
 abbrev pub Ends : World → Command → Status → Type 0

@@ -1,5 +1,5 @@
 -- What a run meets outside: files, input and output.
-use Rattle.std.specs.Prelude.{◌≡◌, ◌<◌, ◌≤◌, ℕ, List, codes, length, Option, Some, IfSome}
+use Rattle.std.specs.Prelude.{◌≡◌, ◌<◌, ℕ, List, codes, length, Option, Some, IfSome}
 use Rattle.std.specs.Io.KnownBytes.{Keeps}
 use Rattle.dom_edge.specs.Causes.{Rose}
 use Rattle.dom_edge.specs.Stores.{Files}

@@ -2,4 +2,5 @@
 
 pub(crate) mod answer;
 pub(crate) mod certify;
+pub(crate) mod pair_verify;
 pub(crate) mod verify;

@@ -7,11 +7,14 @@ ghost use Rattle.path_certificate.specs.Rows.{AreRows};
 ghost use Rattle.path_certificate.specs.Text.{certificate_in};
 ghost use Rattle.pce_tool.specs.Limits.{topology_max, certificate_max};
 ghost use Rattle.pce_tool.specs.Worlds.{HasFile};
-ghost use Rattle.pce_tool.specs.Files.{HasTopology, HasCertificate};
+ghost use Rattle.diverse_pairs.specs.Potentials.{HasRising};
+ghost use Rattle.diverse_pairs.specs.Text.{pair_in};
+ghost use Rattle.pce_tool.specs.Files.{HasTopology, HasCertificate, HasPairCertificate};
 ghost use Rattle.pce_tool.specs.Parts.{IsFileStatus, IsBadAt, IsNoFault};
 
 use crate::limits::{CERTIFICATE_MAX, TOPOLOGY_MAX};
 use crate::status::{NetFault, Status};
+use diverse_pairs::{PairCertificate, read_pair};
 use dom_base::{Bytes, Text};
 use dom_edge::{Store, StoreError};
 use path_certificate::{CertError, Certificate, read_certificate};
@@ -87,6 +90,27 @@ pub fn load_certificate<S: Store>(
 {
     let bytes = read_file(alloc, store, name, CERTIFICATE_MAX)?;
     match read_certificate(alloc, bytes.as_slice(), topology) {
+        Ok(certificate) => Ok(certificate),
+        Err(CertError::At(line, fault)) => Err(bad_network(alloc, name, line, fault)),
+        Err(CertError::NoMemory) => Err(Status::NoMemory),
+    }
+}
+
+/// The certificate of a pair in a file, for a topology.
+pub fn load_pair_certificate<S: Store>(
+    alloc: Global,
+    store: &mut S,
+    name: &str,
+    topology: &Topology,
+) -> Result<PairCertificate, Status>
+    ensures ok { IfOk result (HasPairCertificate (S.files store.old) name.now topology.now) }
+    ensures rising { IfOk result (λ c. HasRising c.form) }
+    ensures err { IfErr result (IsFileStatus (S.files store.old) name.now certificate_max (λ bytes line fault. pair_in topology.now bytes ≡ Err (At line fault)) (S.faults store.old, S.faults store.new) (S.failed_at store.new)) }
+    ensures files { S.files store.new ≡ S.files store.old }
+    ensures later { S.faults store.old ≤ S.faults store.new }
+{
+    let bytes = read_file(alloc, store, name, CERTIFICATE_MAX)?;
+    match read_pair(alloc, bytes.as_slice(), topology) {
         Ok(certificate) => Ok(certificate),
         Err(CertError::At(line, fault)) => Err(bad_network(alloc, name, line, fault)),
         Err(CertError::NoMemory) => Err(Status::NoMemory),

@@ -6,13 +6,15 @@ mod files;
 mod input;
 mod limits;
 mod output;
+mod pair_reading;
 mod reading;
 mod status;
 mod top;
 
 pub use commands::answer::reply_text;
-pub use files::{load_certificate, load_topology};
+pub use files::{load_certificate, load_pair_certificate, load_topology};
 pub use limits::{CERTIFICATE_MAX, INPUT_MAX, TOPOLOGY_MAX};
+pub use pair_reading::{PairRequest, read_pair_request};
 pub use reading::{RequestError, Why, read_path_request};
 pub use status::{NetFault, Status};
 pub use top::run;

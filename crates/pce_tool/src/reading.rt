@@ -1,7 +1,7 @@
 //! A request as hexadecimal text.
 ghost use Rattle.std.specs.Prelude.{◌≡◌, ◌≤◌, length, Err, MatchOption};
 ghost use Rattle.pcep_messages.specs.declared.message.Wish.TheVariants as wishes;
-ghost use Rattle.pce_tool.specs.Requests.{one_request as one_request_of, GoesOn, Reads};
+ghost use Rattle.pce_tool.specs.Requests.{one_request as one_request_of, GoesOn, Reads, ReadsMessage};
 
 use dom_base::As;
 use line_text::{HexError, read_hex};
@@ -19,11 +19,12 @@ pub enum Why {
     Hex,
     /// The bytes are no message of the protocol.
     Malformed,
-    /// The message is no PCReq with one request.
+    /// The message is no PCReq, or has more than the one request that the command answers.
     NotRequest,
     /// The request is answered with this type and value of PCEP-ERROR.
     Refused(u8, u8),
-    /// It asks what a path key stands for, or for a path through further domains.
+    /// It asks what a path key stands for, or for a path through further domains; or, where a pair is
+    /// to be asked for, the requests ask for none.
     NotBuilt,
 }
 
@@ -70,19 +71,30 @@ fn staying(wish: Wish) -> Option<Wanted>
     }
 }
 
-/// Reads a request for a path within the domain `own`: hexadecimal text of one PCReq.
-pub fn read_path_request(alloc: Global, text: &[u8], own: As) -> Result<PathRequest, RequestError>
-    ensures { Reads own.0 text.now result }
+/// The message that hexadecimal text spells.
+pub(crate) fn read_spelled(alloc: Global, text: &[u8]) -> Result<Message, RequestError>
+    ensures { ReadsMessage text.now result }
 {
     let frame = match read_hex(alloc, text) {
         Ok(frame) => frame,
         Err(HexError::NotHex) => return Err(RequestError::Not(Why::Hex)),
         Err(HexError::NoMemory) => return Err(RequestError::NoMemory),
     };
-    let message = match read_message(alloc, &frame) {
+    match read_message(alloc, &frame) {
+        Ok(message) => Ok(message),
+        Err(Bad::Malformed(_)) => Err(RequestError::Not(Why::Malformed)),
+        Err(Bad::NoMemory) => Err(RequestError::NoMemory),
+    }
+}
+
+/// Reads a request for a path within the domain `own`: hexadecimal text of one PCReq.
+#[tactic(auto, using(crate::proofs::Unread::unread, crate::proofs::Beyond::beyond))]
+pub fn read_path_request(alloc: Global, text: &[u8], own: As) -> Result<PathRequest, RequestError>
+    ensures { Reads own.0 text.now result }
+{
+    let message = match read_spelled(alloc, text) {
         Ok(message) => message,
-        Err(Bad::Malformed(_)) => return Err(RequestError::Not(Why::Malformed)),
-        Err(Bad::NoMemory) => return Err(RequestError::NoMemory),
+        Err(error) => return Err(error),
     };
     let Some(asked) = one_request(message) else {
         return Err(RequestError::Not(Why::NotRequest));

@@ -1,10 +1,14 @@
+//! Runs of the commands over memory, and each fault of the outside once.
+mod pair_rows;
 mod rows;
 
 use crate::{Status, run};
 use dom_base::{Bytes, List, Text};
 use dom_edge::{MemorySink, MemorySource, MemoryStore};
-use rows::{FILES, ROWS};
+use pair_rows::PAIR_ROWS;
+use rows::{FILES, ROWS, Row};
 use std::alloc::Global;
+use std::process::Abort;
 use std::test::Fail;
 
 fn bytes_of(alloc: Global, bytes: &[u8]) -> Result<Bytes, Fail> {
@@ -92,12 +96,25 @@ fn told(
     Ok((sink, text))
 }
 
+fn is_as_told(alloc: Global, rt: &impl Abort, row: &Row) -> Result<(), Fail> {
+    let (sink, status) = told(alloc, row.words, row.input, Fault::Nowhere)?;
+    assert_eq!(rt; status.as_str(), row.status, "{}", row.words);
+    assert_eq!(rt; sink.bytes(), row.output, "{}", row.words);
+    Ok(())
+}
+
 #[test]
 fn commands_write_what_they_should(rt: HostRuntime) -> Result<(), Fail> {
     for row in ROWS {
-        let (sink, status) = told(rt.alloc(), row.words, row.input, Fault::Nowhere)?;
-        assert_eq!(rt; status.as_str(), row.status, "{}", row.words);
-        assert_eq!(rt; sink.bytes(), row.output, "{}", row.words);
+        is_as_told(rt.alloc(), &rt, &row)?;
+    }
+    Ok(())
+}
+
+#[test]
+fn pairs_are_checked(rt: HostRuntime) -> Result<(), Fail> {
+    for row in PAIR_ROWS {
+        is_as_told(rt.alloc(), &rt, &row)?;
     }
     Ok(())
 }

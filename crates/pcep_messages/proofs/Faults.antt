@@ -1,11 +1,9 @@
 -- Faults of objects in a message, and what takes memory.
-use Rattle.std.proofs.Common.{◌≡◌, ℕ, true, List, Option, Some, None, Result, Ok, Err, refl, sym, ap, ◌∙◌}
-use Rattle.dom_base.specs.Parts.{parts_from}
+use Rattle.std.proofs.Common.{◌≡◌, ℕ, true, List, Option, None, Result, Ok, Err, refl, sym, ap, ◌∙◌}
 use Rattle.pcep_subobjects.proofs.PartLaws.{fault_of_one}
 use Rattle.pcep_objects.specs.declared.object.Body.{Body}
 use Rattle.pcep_objects.specs.declared.object.Body.TheVariants as bodies
 use Rattle.pcep_objects.specs.declared.object.Object.{Object}
-use Rattle.pcep_objects.specs.declared.object.OpenBody.{OpenBody}
 use Rattle.pcep_objects.specs.declared.object.ObjectFault.{ObjectFault}
 use Rattle.pcep_objects.specs.declared.object.ObjectFault.TheVariants as object_faults
 use Rattle.pcep_objects.specs.Objects.{object_at, is_kept, Gives}

@@ -8,3 +8,4 @@ pub mod RefusalLaws
 pub mod RoomLaws
 pub mod Frames
 pub mod MessageOctets
+pub mod WholeLaws

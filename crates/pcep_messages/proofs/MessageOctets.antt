@@ -1,13 +1,13 @@
 -- What is written of a message is octets.
-use Rattle.std.proofs.Common.{◌<◌, ◌+◌, ℕ, length, lit<}
+use Rattle.std.proofs.Common.{◌<◌, ◌+◌, length, lit<}
 use Rattle.std.specs.Int.{w16, to_be_bytes}
-use Rattle.pcep_subobjects.proofs.OctetLaws.{IsOctets, one_more, joined, half_octets, all_octets}
+use Rattle.pcep_subobjects.proofs.OctetLaws.{one_more, joined, half_octets, all_octets}
 use Rattle.pcep_objects.specs.Spelling.{object_text}
 use Rattle.pcep_objects.specs.Spelling as objects
 use Rattle.pcep_objects.proofs.ObjectOctets.{object_octets}
 use Rattle.pcep_messages.specs.declared.message.Message.{Message}
 use Rattle.pcep_messages.specs.declared.message.Message.TheVariants as messages
-use Rattle.pcep_messages.specs.Spelling.{IsWritten, HasShape, WrittenIsOctets, kind_of, objects_in, content_text}
+use Rattle.pcep_messages.specs.Spelling.{HasShape, WrittenIsOctets, kind_of, objects_in, content_text}
 
 kind_fits : (m : Message) → HasShape m → kind_of m < 256
 kind_fits (messages.Open opening) h = lit< tt

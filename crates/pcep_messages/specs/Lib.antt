@@ -5,3 +5,4 @@ pub mod Splitting
 pub mod Said
 pub mod Refusals
 pub mod Requests
+pub mod Wholes

@@ -3,6 +3,7 @@
 
 mod answers;
 mod groups;
+mod law;
 mod message;
 mod objects;
 mod reading;
@@ -13,6 +14,7 @@ mod said;
 mod splitting;
 mod writing;
 
+pub use law::{groups_are_whole, splits_are_whole};
 pub use message::{
     Answer, Asked, Bad, ErrorReport, Message, Notice, Path, Refusal, Reply, Request, Wanted, Wish,
     WriteError,

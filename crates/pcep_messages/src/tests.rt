@@ -1,3 +1,4 @@
+//! Messages read, written, split and refused.
 use super::*;
 use dom_base::{Addr, As, List, Metric};
 use pcep_objects::{Body, Object};

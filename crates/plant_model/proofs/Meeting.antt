@@ -19,7 +19,8 @@ use Rattle.pcep_messages.specs.Refusals.{refusal_of}
 use Rattle.pcep_messages.specs.Requests.{wish_of, without_bit}
 use Rattle.vspt_tree.specs.declared.branch.Branch.{Branch}
 use Rattle.vspt_tree.specs.Branches.{IsFirstLeast, IsOnward}
-use Rattle.plant_model.specs.Names.{same_as, same_addr}
+use Rattle.plant_text.specs.Names.{same_as}
+use Rattle.plant_model.specs.Names.{same_addr}
 use Rattle.plant_model.specs.Branches.{better, first_least, hops_of, onward}
 use Rattle.plant_model.specs.Element.{denies}
 use Rattle.plant_model.specs.Wire.{Wrong}

@@ -26,7 +26,7 @@ use Rattle.pcep_messages.specs.Said.{end_points_of, bandwidth_in, bandwidth_of, 
 use Rattle.pcep_messages.specs.Refusals.{Reason, because, first_of, request_rules, path_rules, unsupported, unsupported_among, is_optional, asked_type, is_bound, is_minimised, are_measures, can_exclude, can_follow, refusal_of, is_domain, domains, has_twice, among}
 use Rattle.pcep_messages.specs.Requests.{metric_of_type, bound_of, cap_of, units_of, demands_of, query_of, sequence_of, without_bit, wanted_of}
 use Rattle.walk_laws.specs.Crossing.{query_in}
-use Rattle.plant_model.specs.Names.{parent_as}
+use Rattle.plant_text.specs.Names.{parent_as}
 use Rattle.plant_model.specs.Writing.{as_hop, code, needed, ends, ends_kind, lspa, bandwidth, bound, iro, xro, asked_of, vspt_flag}
 use Rattle.plant_model.specs.Wire.{Checked, Wrong}
 use Rattle.plant_model.specs.RealWire.{check_of, wire}

@@ -15,19 +15,20 @@ use Rattle.border_costs.specs.Tables.{IsRowBefore, IsBorderTable}
 use Rattle.plant_model.specs.declared.outcome.Refused.TheVariants.{NoSuchPeer, NoSuchJob, NoMemory}
 use Rattle.plant_model.specs.declared.outcome.Outcome.TheVariants.{Done}
 use Rattle.plant_queues.specs.declared.sent.Sent.{Sent}
-use Rattle.plant_model.specs.declared.settings.NetworkParts.{NetworkParts}
+use Rattle.plant_text.specs.declared.settings.NetworkParts.{NetworkParts}
 use Rattle.plant_model.specs.declared.event.Event.{Event}
 use Rattle.plant_model.specs.declared.event.Event.TheVariants as event
 use Rattle.plant_model.specs.declared.event.BlindEvent.{BlindEvent}
 use Rattle.plant_model.specs.declared.event.BlindEvent.TheVariants as blind
-use Rattle.plant_model.specs.Names.{same_as, parent_as}
+use Rattle.plant_text.specs.Names.{same_as, parent_as}
 use Rattle.plant_model.specs.Wire.{Bytes, Codec}
 use Rattle.plant_model.specs.Branches.{downs}
 use Rattle.plant_model.specs.Jobs.{target_along, IsJoinOf}
 use Rattle.plant_model.specs.Element.{Ready, Item, is_client}
 use Rattle.plant_model.specs.BorderGraph.{Found, SolvesBorder}
 use Rattle.plant_model.specs.Parent as parent
-use Rattle.plant_model.specs.Settings.{class_of, family}
+use Rattle.plant_text.specs.Settings.{class_of}
+use Rattle.plant_model.specs.Settings.{family}
 use Rattle.plant_model.specs.State.{State, Deed, sent_in, Hands}
 use Rattle.plant_model.specs.Deeds as deeds
 use Rattle.plant_model.specs.Deeds.{Going}

@@ -4,7 +4,7 @@ use Rattle.dom_base.specs.declared.names.As.{As}
 use Rattle.dom_base.specs.declared.names.Peer.TheVariants.{Outside}
 use Rattle.pcep_subobjects.specs.declared.hop.Hop.{Hop}
 use Rattle.pcep_session.specs.declared.session.Input.TheVariants as input
-use Rattle.plant_model.specs.declared.settings.NetworkParts.{NetworkParts}
+use Rattle.plant_text.specs.declared.settings.NetworkParts.{NetworkParts}
 use Rattle.plant_model.specs.declared.outcome.Outcome.{Outcome}
 use Rattle.plant_model.specs.declared.outcome.Outcome.TheVariants.{Done, Drained}
 use Rattle.plant_model.specs.declared.outcome.Refused.{Refused}
@@ -15,12 +15,14 @@ use Rattle.pcep_session.specs.declared.state.Phase.{Phase}
 use Rattle.pcep_session.specs.declared.state.Phase.TheVariants as phase
 use Rattle.pcep_session.specs.Table.{new_state}
 use Rattle.pcep_framing.specs.Frames.{joined}
-use Rattle.plant_model.specs.Names.{same_as, parent_as, set_pair, set_number}
+use Rattle.plant_text.specs.Names.{same_as, parent_as}
+use Rattle.plant_model.specs.Names.{set_pair, set_number}
 use Rattle.plant_model.specs.Wire.{Bytes, Codec}
 use Rattle.plant_model.specs.Element.{Item}
 use Rattle.plant_model.specs.Element as element
 use Rattle.plant_model.specs.Parent as parent
-use Rattle.plant_model.specs.Settings.{Line, line, lines, is_linked, is_element, elements_of, ways, life, peer_row}
+use Rattle.plant_text.specs.Settings.{Line, line, lines, is_linked, is_element, elements_of, life, peer_row}
+use Rattle.plant_model.specs.Settings.{ways}
 use Rattle.plant_model.specs.State.{Connection, Access, State, Deed, Pops, Hands}
 use Rattle.plant_model.specs.Deeds as deeds
 use Rattle.plant_model.specs.Deeds.{Going, our_offer, element_of, input_of, with_inbox}

@@ -16,7 +16,7 @@ use Rattle.border_costs.specs.declared.job.Target.TheVariants.{Node, Next}
 use Rattle.border_costs.specs.declared.job.Down.{Down}
 use Rattle.border_costs.specs.declared.job.Ask.{Ask}
 use Rattle.border_costs.specs.Asks.{beyond}
-use Rattle.plant_model.specs.Names.{same_as}
+use Rattle.plant_text.specs.Names.{same_as}
 use Rattle.plant_model.specs.Rising.{has_addr, insert_addr}
 use Rattle.plant_model.specs.Branches.{downs}
 use Rattle.plant_model.specs.Element.{Item}

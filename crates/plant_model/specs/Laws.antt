@@ -18,13 +18,13 @@ use Rattle.pcep_messages.specs.declared.message.Wanted.{Wanted}
 use Rattle.pcep_messages.specs.declared.message.Wish.TheVariants as wishes
 use Rattle.pcep_messages.specs.Spelling.{IsWritten, kind_of}
 use Rattle.pcep_framing.specs.Frames.{Framing, FeedsTo}
-use Rattle.plant_model.specs.declared.settings.NetworkParts.{NetworkParts}
-use Rattle.plant_model.specs.declared.settings.ElementRow.{ElementRow}
-use Rattle.plant_model.specs.Names.{parent_as}
+use Rattle.plant_text.specs.declared.settings.NetworkParts.{NetworkParts}
+use Rattle.plant_text.specs.declared.settings.ElementRow.{ElementRow}
+use Rattle.plant_text.specs.Names.{parent_as}
 use Rattle.plant_model.specs.Wire.{Bytes, Codec, Admitted, Wrong}
 use Rattle.plant_model.specs.Writing.{ends_kind, asked_of, request_message, vspt_flag}
 use Rattle.pcep_subobjects.specs.Subobjects.{AreOctets}
-use Rattle.plant_model.specs.Settings.{is_element}
+use Rattle.plant_text.specs.Settings.{is_element}
 use Rattle.plant_model.specs.Plant.{IsLinkInRange}
 
 -- a sequence that begins with a domain: few, each once, and each the number of a domain

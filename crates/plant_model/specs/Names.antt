@@ -6,9 +6,7 @@ use Rattle.dom_base.specs.AddrOrder.{rank}
 use Rattle.dom_base.specs.declared.names.Peer.{Peer}
 use Rattle.dom_base.specs.declared.names.Peer.TheVariants.{Inner}
 use Rattle.request_table.specs.Pending.{same_peer}
-
-abbrev pub same_as : As → As → Bool
-same_as a b = a.0 == b.0
+use Rattle.plant_text.specs.Names.{same_as, parent_as}
 
 -- one place in the order of addresses is one address
 abbrev pub same_addr : Addr → Addr → Bool
@@ -17,14 +15,6 @@ same_addr a b = rank a == rank b
 -- the same peer and id
 abbrev pub same_id : Peer → ℕ → Peer → ℕ → Bool
 same_id p x p' x' = cond (same_peer p p') (x == x') false
-
--- one end and the other of a link, in either order
-abbrev pub same_link : As → As → As → As → Bool
-same_link a b c d = cond (same_as a c) (same_as b d) (cond (same_as a d) (same_as b c) false)
-
--- the number of the parent
-abbrev pub parent_as : As
-parent_as = record { 0 = 0 }
 
 abbrev pub the_parent : Peer
 the_parent = Inner parent_as

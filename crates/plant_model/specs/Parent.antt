@@ -25,7 +25,8 @@ use Rattle.plant_model.specs.declared.output.Output.{Output}
 use Rattle.plant_model.specs.declared.output.Lost.{Lost}
 use Rattle.plant_model.specs.declared.upper.ChildRow.{ChildRow}
 use Rattle.plant_model.specs.declared.upper.BorderJob.{BorderJob}
-use Rattle.plant_model.specs.Names.{same_as, same_id, parent_as, has_pair}
+use Rattle.plant_text.specs.Names.{same_as, parent_as}
+use Rattle.plant_model.specs.Names.{same_id, has_pair}
 use Rattle.plant_model.specs.Rising.{has_addr, insert_addr}
 use Rattle.plant_model.specs.Wire.{Codec, Checked, Admitted, Wrong}
 use Rattle.plant_model.specs.Writing.{request_message, reply_message, error_message, busy, unavailable, no_key, no_path}

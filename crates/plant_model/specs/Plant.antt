@@ -17,16 +17,18 @@ use Rattle.border_costs.specs.Solutions.{AreRows}
 use Rattle.plant_model.specs.declared.outcome.Outcome.TheVariants.{Done, Loaded}
 use Rattle.plant_model.specs.declared.outcome.Refused.{Refused}
 use Rattle.plant_model.specs.declared.outcome.Refused.TheVariants.{GenerationsFull, NoSuchPeer, NoSuchJob, NoMemory}
-use Rattle.plant_model.specs.declared.settings.NetworkParts.{NetworkParts}
+use Rattle.plant_text.specs.declared.settings.NetworkParts.{NetworkParts}
 use Rattle.plant_model.specs.declared.event.Event.{Event}
 use Rattle.plant_model.specs.declared.event.Event.TheVariants as event
-use Rattle.plant_model.specs.Names.{same_as, parent_as, set_as}
+use Rattle.plant_text.specs.Names.{same_as, parent_as}
+use Rattle.plant_model.specs.Names.{set_as}
 use Rattle.plant_model.specs.Wire.{Codec}
 use Rattle.plant_model.specs.Jobs.{ask_of}
 use Rattle.plant_model.specs.Element.{Ready, Item, Row}
 use Rattle.plant_model.specs.BorderGraph.{Found, SolvesBorder}
 use Rattle.plant_model.specs.Parent as parent
-use Rattle.plant_model.specs.Settings.{family, is_element}
+use Rattle.plant_text.specs.Settings.{is_element}
+use Rattle.plant_model.specs.Settings.{family}
 use Rattle.plant_model.specs.State.{State, Deed, Loads}
 use Rattle.plant_model.specs.Deeds as deeds
 use Rattle.plant_model.specs.Deeds.{Going}

@@ -1,9 +1,8 @@
--- Lists of names in rising order, each once.
+-- Lists of addresses in rising order, each once.
 use Rattle.std.specs.Prelude.{Bool, true, false, cond, nat_lt, List, [], ◌∷◌}
-use Rattle.dom_base.specs.declared.names.As.{As}
 use Rattle.dom_base.specs.declared.addr.Addr.{Addr}
 use Rattle.dom_base.specs.AddrOrder.{rank}
-use Rattle.plant_model.specs.Names.{same_as, same_addr}
+use Rattle.plant_model.specs.Names.{same_addr}
 
 abbrev pub has_addr : Addr → List Addr → Bool
 has_addr n [] = false
@@ -12,7 +11,3 @@ has_addr n (a ∷ rest) = cond (same_addr n a) true (has_addr n rest)
 abbrev pub insert_addr : Addr → List Addr → List Addr
 insert_addr n [] = n ∷ []
 insert_addr n (a ∷ rest) = cond (nat_lt (rank n) (rank a)) (n ∷ a ∷ rest) (cond (same_addr n a) (a ∷ rest) (a ∷ insert_addr n rest))
-
-abbrev pub insert_as : As → List As → List As
-insert_as n [] = n ∷ []
-insert_as n (a ∷ rest) = cond (nat_lt n.0 a.0) (n ∷ a ∷ rest) (cond (same_as n a) (a ∷ rest) (a ∷ insert_as n rest))

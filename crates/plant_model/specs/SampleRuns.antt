@@ -14,8 +14,8 @@ use Rattle.pcep_messages.specs.declared.message.Message.TheVariants as messages
 use Rattle.pcep_messages.specs.declared.message.Answer.TheVariants.{Paths, NoPath}
 use Rattle.disclosure.specs.declared.class.Class.TheVariants.{Client, Neighbour}
 use Rattle.vspt_tree.specs.declared.branch.Best.{Best}
-use Rattle.plant_model.specs.declared.settings.NetworkParts.{NetworkParts}
-use Rattle.plant_model.specs.declared.settings.ElementRow.{ElementRow}
+use Rattle.plant_text.specs.declared.settings.NetworkParts.{NetworkParts}
+use Rattle.plant_text.specs.declared.settings.ElementRow.{ElementRow}
 use Rattle.plant_model.specs.declared.event.Event.TheVariants as event
 use Rattle.plant_model.specs.Writing.{needed, reply_message, unavailable, no_key}
 use Rattle.plant_model.specs.RealWire.{wire}

@@ -7,7 +7,6 @@ mod law;
 mod outcome;
 mod output;
 mod sample;
-mod settings;
 mod upper;
 
 pub use event::{BlindEvent, Event};
@@ -15,7 +14,6 @@ pub use law::{joins_what_was_told, model_meets_parts, wire_is_codec};
 pub use outcome::{Outcome, Refused};
 pub use output::{Lost, Output, Outputs};
 pub use sample::sample_runs;
-pub use settings::{DenyRow, ElementRow, NetworkParts, PeerRow};
 pub use upper::{BorderJob, ChildRow};
 
 /// How many requests the parent may have pending.

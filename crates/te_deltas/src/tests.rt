@@ -177,6 +177,18 @@ fn tells_the_first_mistake_and_then_the_rules(rt: HostRuntime) {
             rule(TopoFault::OwnAs, RowKind::Out, 1),
         ),
         (
+            b"drop link 10.1.0.2\ndrop node 10.0.0.1".as_slice(),
+            rule(TopoFault::UnknownNode, RowKind::Entry, 0),
+        ),
+        (
+            b"add out 10.0.0.9 10.2.0.1 10.12.0.3 10.12.0.4 2 1 50 1000 00000000".as_slice(),
+            rule(TopoFault::UnknownNode, RowKind::Out, 1),
+        ),
+        (
+            b"add entry 10.0.0.2 1".as_slice(),
+            rule(TopoFault::OwnAs, RowKind::Entry, 1),
+        ),
+        (
             b"add link 10.0.0.2 10.0.0.1 10.1.0.5 10.1.0.6 0 5 1000 00000000".as_slice(),
             rule(TopoFault::BadMetric, RowKind::Link, 1),
         ),
@@ -221,6 +233,30 @@ fn the_last_node_of_the_limit(rt: HostRuntime) -> Result<(), Fail> {
     match changed(rt.alloc(), &before, two) {
         Ok(_text) => panic!(rt; "too many nodes"),
         Err(why) => assert_eq!(rt; why, rule(TopoFault::TooMany, RowKind::Node, 1_024)),
+    }
+    Ok(())
+}
+
+// A text that adds so many entries for one domain.
+fn entries_added(alloc: Global, count: u32) -> Result<Vec<u8>, NoMemory> {
+    let mut text = Vec::new(alloc);
+    for i in 0..count {
+        text.extend_from_slice(b"add entry 10.0.0.")?;
+        write_number(u64::from(i), &mut text)?;
+        text.extend_from_slice(b" 2\n")?;
+    }
+    Ok(text)
+}
+
+#[test]
+fn the_last_entry_of_the_limit(rt: HostRuntime) -> Result<(), Fail> {
+    let before = nodes_alone(rt.alloc(), 17)?;
+    let sixteen = entries_added(rt.alloc(), 16)?;
+    assert!(rt; changed(rt.alloc(), &before, &sixteen).is_ok());
+    let seventeen = entries_added(rt.alloc(), 17)?;
+    match changed(rt.alloc(), &before, &seventeen) {
+        Ok(_text) => panic!(rt; "too many entries"),
+        Err(why) => assert_eq!(rt; why, rule(TopoFault::TooMany, RowKind::Entry, 16)),
     }
     Ok(())
 }

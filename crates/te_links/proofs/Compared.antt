@@ -1,19 +1,18 @@
 -- What comparisons of addresses, and of entries, tell.
-use Rattle.std.proofs.Common.{◌≡◌, ◌⊎◌, inl, inr, ℕ, ◌<◌, ◌≤◌, Bool, true, false, ◌&&◌, List, nat_eq, eqb, ltb, refl, sym, ◌∙◌, ap, arith}
+use Rattle.std.proofs.Common.{◌≡◌, inl, inr, ℕ, ◌<◌, ◌≤◌, true, false, List, nat_eq, refl, sym, arith}
 use Rattle.std.specs.Bool.{Decides}
 use Rattle.std.specs.BTreeMap.{is_at}
 use Rattle.std.specs.Cmp.{both_tied}
 use Rattle.std.specs.List.Sorted.{IsNonDecreasingBy, IsSortedByKey}
 use Rattle.std.specs.Ordering.{is_lt, is_eq, on, ordering_then, nat_cmp}
 use Rattle.std.specs.Fn.{Called, ComputesKey}
-use Rattle.std.proofs.lemmas.Bool.{lt-ltb, ltb-true, le-ltb, eqb-true, cases_lt}
+use Rattle.std.proofs.lemmas.Bool.{lt-ltb, le-ltb, cases_lt}
 use Rattle.std.proofs.lemmas.Bool.Decides.{Decides-at, eqb_tells}
 use Rattle.std.proofs.lemmas.Fn.{always_returns_same}
 use Rattle.std.proofs.lemmas.List.Sorted.{IsNonDecreasingBy-from_sort}
 use denote.Ref.{Bor}
 use denote.Param.Members.{Mut}
 use Rattle.dom_base.specs.AddrOrder.{rank}
-use Rattle.dom_base.proofs.Ranks.{same_addr}
 use Rattle.dom_base.specs.declared.addr.Addr.{Addr}
 use Rattle.te_links.specs.declared.rows.Entry.{Entry}
 use Rattle.te_links.proofs.Different.{Decides-rank}

@@ -1,6 +1,7 @@
 pub mod Rising
 pub mod Searching
 pub mod Ends
+pub mod Turned
 pub mod Nothing
 pub mod Rules
 pub mod Different

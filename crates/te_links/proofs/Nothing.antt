@@ -5,7 +5,7 @@ use Rattle.dom_base.specs.declared.addr.Addr.TheVariants.{V4}
 use Rattle.dom_base.specs.declared.addr.Addr.{Addr}
 use Rattle.dom_base.specs.declared.names.As.{As}
 use Rattle.te_links.specs.Rows.{Rows, IsTopology, IsInOrder, FewDifferent}
-use Rattle.te_links.specs.Index.{IsIndex}
+use Rattle.te_links.specs.Index.{IsIndex, IsIndexFrom, AreTails}
 
 pub few_of_none : (most : ℕ) → FewDifferent most []
 few_of_none most list differ within =
@@ -44,3 +44,9 @@ nothing_in_order own = record {
 
 pub nothing_indexed : IsIndex [] [] []
 nothing_indexed = record { each = refl; at_node = λ i d below. absurd (omega arith) }
+
+pub nothing_begins : AreTails [] [] []
+nothing_begins = record { each = refl; at_link = λ p d below. absurd (omega arith) }
+
+pub nothing_leaving : IsIndexFrom [] [] []
+nothing_leaving = record { each = refl; at_node = λ i d below. absurd (omega arith) }

@@ -1,4 +1,4 @@
--- Which links end at which node.
+-- Which links end at which node, and where each begins.
 use Rattle.std.specs.Prelude.{◌≡◌, ◌<◌, ℕ, List, length, All, AllPairs, Contains, Some, slice_get, slice_index_or}
 use Rattle.std.specs.Global.{Vec}
 use Rattle.dom_base.specs.declared.addr.Addr.{Addr}
@@ -21,3 +21,25 @@ pub record IsLinksInto (nodes : List Addr) (links : List Link) (i : ℕ) (places
 pub record IsIndex (nodes : List Addr) (links : List Link) (into : List (Vec ℕ)) : Type 0 where
   pub each : length into ≡ length nodes
   pub at_node : (i : ℕ) (d : Vec ℕ) → i < length into → IsLinksInto nodes links i (slice_index_or into i d).items
+
+-- the link at place p begins at the node at place i
+pub record BeginsAt (nodes : List Addr) (links : List Link) (i p : ℕ) : Type 0 where
+  pub link : Link
+  pub at_link : slice_get links p ≡ Some link
+  pub at_node : slice_get nodes i ≡ Some link.from
+
+-- the places of exactly the links that begin at the node at place i, rising
+pub record IsLinksFrom (nodes : List Addr) (links : List Link) (i : ℕ) (places : List ℕ) : Type 0 where
+  pub begins : All (BeginsAt nodes links i) places
+  pub whole : (p : ℕ) → BeginsAt nodes links i p → Contains places p
+  pub order : AllPairs (λ p q. p < q) places
+
+-- for each node the links that begin there
+pub record IsIndexFrom (nodes : List Addr) (links : List Link) (leaving : List (Vec ℕ)) : Type 0 where
+  pub each : length leaving ≡ length nodes
+  pub at_node : (i : ℕ) (d : Vec ℕ) → i < length leaving → IsLinksFrom nodes links i (slice_index_or leaving i d).items
+
+-- for each link the place of the node that it begins at
+pub record AreTails (nodes : List Addr) (links : List Link) (tails : List ℕ) : Type 0 where
+  pub each : length tails ≡ length links
+  pub at_link : (p d : ℕ) → p < length tails → BeginsAt nodes links (slice_index_or tails p d) p

@@ -1,4 +1,5 @@
 pub mod Rows
+pub mod Limits
 pub mod Reads
 pub mod Index
 pub mod Fields

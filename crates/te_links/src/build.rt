@@ -5,7 +5,7 @@ ghost use Rattle.te_links.specs.Faults.{IsReason, rows_of_parts};
 
 use crate::checks::check;
 use crate::fault::BuildError;
-use crate::index::index_of;
+use crate::index::{index_from, index_of, tails_of};
 use crate::rows::Parts;
 use crate::survey::Survey;
 use crate::topology::Topology;
@@ -37,7 +37,9 @@ fn assemble(alloc: Global, parts: Parts) -> Result<Topology, AllocError>
     outs.sort_by_key(|o| o.link.far)?;
     entries.sort()?;
     let into = index_of(alloc, &nodes, &links)?;
-    Ok(Topology::of(own, nodes, links, outs, entries, into))
+    let tails = tails_of(alloc, &nodes, &links)?;
+    let leaving = index_from(alloc, &nodes, &links)?;
+    Ok(Topology::of(own, nodes, links, outs, entries, into, leaving, tails))
 }
 
 impl Topology {

@@ -1,5 +1,6 @@
 //! A topology that counts how often its links are read.
 ghost use Rattle.std.specs.Prelude.{◌≡◌, ◌<◌, length};
+ghost use Rattle.te_links.specs.Reads.{RoseByOne};
 
 use crate::links::Links;
 use crate::rows::OutLink;
@@ -36,6 +37,14 @@ impl<'a> Counted<'a> {
     {
         self.reads
     }
+
+    // One more link was read.
+    fn count(&mut self)
+        ensures topology { self.new.topology ≡ self.old.topology }
+        ensures counted { RoseByOne self.old.reads self.new.reads }
+    {
+        self.reads = self.reads.saturating_add(1);
+    }
 }
 
 impl<'a> Links<'a> for Counted<'a> {
@@ -67,12 +76,21 @@ impl<'a> Links<'a> for Counted<'a> {
         self.topology.links_into(node)
     }
 
+    fn links_from(&self, node: u32) -> &'a [u32] {
+        self.topology.links_from(node)
+    }
+
     fn out_at(&self, i: u32) -> &'a OutLink {
         self.topology.out_at(i)
     }
 
     fn link_at(&mut self, i: u32) -> &'a Link {
-        self.reads = self.reads.saturating_add(1);
+        self.count();
         self.topology.link_at(i)
+    }
+
+    fn link_with_tail(&mut self, i: u32) -> (&'a Link, u32) {
+        self.count();
+        (self.topology.link_at(i), self.topology.tail_of(i))
     }
 }

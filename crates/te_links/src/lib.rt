@@ -19,6 +19,7 @@ pub use counted::Counted;
 pub use fault::{BuildError, Row, RowKind, TopoFault};
 pub use limits::{
     ENTRIES_MAX, ENTRY_NODES_MAX, LINKS_MAX, METRIC_MAX, NODES_MAX, OUTS_MAX, SRLGS_MAX, TAILS_MAX,
+    limits_are_numbers,
 };
 pub use links::Links;
 pub use rows::{Entry, OutLink, Parts};

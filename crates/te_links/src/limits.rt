@@ -1,4 +1,6 @@
 //! How much a topology may have.
+ghost use Rattle.te_links.specs.Limits.{LimitsAreNumbers};
+
 /// How many nodes a topology may have.
 pub const NODES_MAX: usize = 1024;
 
@@ -22,3 +24,8 @@ pub const SRLGS_MAX: usize = 8;
 
 /// The greatest metric of a link.
 pub const METRIC_MAX: u32 = 16_777_215;
+
+/// A law: the limits are the numbers that the definition says.
+pub fn limits_are_numbers()
+    ensures { LimitsAreNumbers }
+{}

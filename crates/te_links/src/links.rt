@@ -1,14 +1,14 @@
 //! What a search sees of a topology.
 ghost use Rattle.std.specs.Prelude.{◌≡◌, ◌<◌, ℕ, length, slice_get, Contains, Some, MatchOption};
 ghost use Rattle.te_links.specs.Rows.{Rows, IsTopology, IsInOrder};
-ghost use Rattle.te_links.specs.Index.{IsLinksInto};
+ghost use Rattle.te_links.specs.Index.{IsLinksInto, IsLinksFrom};
 ghost use Rattle.te_links.specs.Reads.{RoseByOne};
 
 use crate::rows::OutLink;
 use dom_base::{Addr, Link};
 
-/// The rows of a topology, as a search sees them. An inner link is seen through `link_at` alone,
-/// which counts. What is handed out lives as long as the topology, and does not borrow the value.
+/// The rows of a topology, as a search sees them. An inner link is seen through `link_at` and
+/// `link_with_tail` alone, which count. What is handed out lives as long as the topology, and does not borrow the value.
 pub trait Links<'a> {
     /// The topology, which no call changes.
     ghost rows: { Self → Rows };
@@ -44,6 +44,13 @@ pub trait Links<'a> {
         requires { node < length (rows self.now).nodes }
         ensures { IsLinksInto (rows self.now).nodes (rows self.now).links node result.now };
 
+    /// The places of the links that begin at a node, in the order of their far addresses.
+    fn links_from(&self, node: u32) -> &'a [u32]
+        requires { node < length (rows self.now).nodes }
+        ensures places { IsLinksFrom (rows self.now).nodes (rows self.now).links node result.now }
+        ensures rules { IsTopology (rows self.now) }
+        ensures order { IsInOrder (rows self.now) };
+
     fn out_at(&self, i: u32) -> &'a OutLink
         requires { i < length (rows self.now).outs }
         ensures { slice_get (rows self.now).outs i ≡ Some result.now };
@@ -52,6 +59,15 @@ pub trait Links<'a> {
     fn link_at(&mut self, i: u32) -> &'a Link
         requires { i < length (rows self.old).links }
         ensures link { slice_get (rows self.old).links i ≡ Some result.now }
+        ensures same { rows self.new ≡ rows self.old }
+        ensures counted { RoseByOne (reads self.old) (reads self.new) };
+
+    /// Reads an inner link as `link_at` does, and tells with it the place of the node that it
+    /// begins at.
+    fn link_with_tail(&mut self, i: u32) -> (&'a Link, u32)
+        requires { i < length (rows self.old).links }
+        ensures link { slice_get (rows self.old).links i ≡ Some result.0.now }
+        ensures tail { slice_get (rows self.old).nodes result.1 ≡ Some result.0.now.from }
         ensures same { rows self.new ≡ rows self.old }
         ensures counted { RoseByOne (reads self.old) (reads self.new) };
 }

@@ -1,7 +1,7 @@
 //! The topology of one domain, by its rows in order.
 ghost use Rattle.std.specs.Prelude.{◌≡◌, ◌↔◌, ◌<◌, ◌^◌, [], vec_len, length, slice_get, Contains, Some, MatchOption};
 ghost use Rattle.te_links.specs.Rows.{IsTopology, IsInOrder};
-ghost use Rattle.te_links.specs.Index.{IsIndex, IsLinksInto};
+ghost use Rattle.te_links.specs.Index.{IsIndex, IsLinksInto, IsIndexFrom, IsLinksFrom, AreTails, BeginsAt};
 
 use crate::index::place_of;
 use crate::rows::{Entry, OutLink};
@@ -20,6 +20,8 @@ pub struct Topology {
     outs: Vec<OutLink>,
     entries: Vec<Entry>,
     into: Vec<Vec<u32>>,
+    leaving: Vec<Vec<u32>>,
+    tails: Vec<u32>,
 }
 
 impl Model for Topology {
@@ -42,11 +44,15 @@ impl Topology {
         outs: Vec<OutLink>,
         entries: Vec<Entry>,
         into: Vec<Vec<u32>>,
+        leaving: Vec<Vec<u32>>,
+        tails: Vec<u32>,
     ) -> Topology
         requires rules { IsTopology (record { own = own; nodes = nodes.items; links = links.items; outs = outs.items; entries = entries.items }) }
         requires order { IsInOrder (record { own = own; nodes = nodes.items; links = links.items; outs = outs.items; entries = entries.items }) }
         requires short { vec_len entries < 2 ^ 32 }
         requires index { IsIndex nodes.items links.items into.items }
+        requires leaving { IsIndexFrom nodes.items links.items leaving.items }
+        requires tails { AreTails nodes.items links.items tails.items }
         ensures { result ≡ record { own = own; nodes = nodes.items; links = links.items; outs = outs.items; entries = entries.items } }
     {
         Topology {
@@ -56,6 +62,8 @@ impl Topology {
             outs,
             entries,
             into,
+            leaving,
+            tails,
         }
     }
 
@@ -74,6 +82,8 @@ impl Topology {
             outs: Vec::new(alloc),
             entries: Vec::new(alloc),
             into: Vec::new(alloc),
+            leaving: Vec::new(alloc),
+            tails: Vec::new(alloc),
         }
     }
 
@@ -132,6 +142,14 @@ impl Topology {
         &self.links[i as usize]
     }
 
+    /// The place of the node that a link begins at.
+    pub fn tail_of(&self, i: u32) -> u32
+        requires { i < length self.now.links }
+        ensures { BeginsAt self.now.nodes self.now.links result i }
+    {
+        self.tails[i as usize]
+    }
+
     pub fn out_at(&self, i: u32) -> &OutLink
         requires { i < length self.now.outs }
         ensures { slice_get self.now.outs i ≡ Some result.now }
@@ -160,6 +178,17 @@ impl Topology {
         ensures { IsLinksInto self.now.nodes self.now.links node result.now }
     {
         let places = &self.into[node as usize];
+        places.as_slice()
+    }
+
+    /// The places of the links that begin at a node, in the order of their far addresses.
+    pub fn links_from(&self, node: u32) -> &[u32]
+        requires { node < length self.now.nodes }
+        ensures places { IsLinksFrom self.now.nodes self.now.links node result.now }
+        ensures rules { IsTopology self.now }
+        ensures order { IsInOrder self.now }
+    {
+        let places = &self.leaving[node as usize];
         places.as_slice()
     }
 }

@@ -19,7 +19,7 @@ use Rattle.walk_laws.specs.Composition.{AreBeyond, IsLeastOf}
 use Rattle.walk_laws.proofs.Lower.{le_cost}
 
 -- where a walk is feasible there is none without a least one that costs no more
-least_exists : (g : Rows) (q : Query) (u v : Addr) (n : ℕ) (ls : List Link) → cost q ls < n → IsFeasible g q u v ls →
+pub least_exists : (g : Rows) (q : Query) (u v : Addr) (n : ℕ) (ls : List Link) → cost q ls < n → IsFeasible g q u v ls →
     ¬ ((ms : List Link) → IsLeast g q u v ms → ¬ (cost q ms ≤ cost q ls))
 least_exists g q u v zero ls below f none = absurd (omega (arith, below))
 least_exists g q u v (suc n) ls below f none =

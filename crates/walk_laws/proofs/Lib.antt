@@ -8,3 +8,5 @@ pub mod Splitting
 pub mod Joining
 pub mod Composing
 pub mod Seeds
+pub mod Segments
+pub mod OneTable

@@ -1,5 +1,5 @@
 -- What a comparison of seeds, and a look for a seed, tells.
-use Rattle.std.proofs.Common.{◌≡◌, ◌<◌, ℕ, Bool, true, false, ◌&&◌, List, nat_eq, refl, ◌∙◌, ap, arith}
+use Rattle.std.proofs.Common.{◌≡◌, Bool, true, false, ◌&&◌, List, nat_eq, refl, ◌∙◌, ap}
 use Rattle.std.specs.Prelude.{Contains}
 use Rattle.std.specs.Bool.{Decides}
 use Rattle.std.specs.List.{IsAnyAnswer}
@@ -7,7 +7,6 @@ use Rattle.std.proofs.lemmas.Bool.Decides.{Decides-eqb}
 use Rattle.std.proofs.lemmas.List.{get_or_default}
 use Rattle.std.proofs.lemmas.List.Elements.{contains_decides}
 use Rattle.dom_base.specs.AddrOrder.{rank}
-use Rattle.dom_base.proofs.Ranks.{same_addr}
 use Rattle.dom_base.specs.declared.query.Seed.{Seed}
 use Rattle.te_links.proofs.Different.{Decides-rank}
 

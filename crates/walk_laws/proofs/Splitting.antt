@@ -1,11 +1,10 @@
--- Walks split and join, inside a domain and through several.
-use Rattle.std.proofs.Common.{◌≡◌, ◌+◌, ℕ, List, [], ◌∷◌, ◌++◌, arith, refl, sym, subst}
+-- Walks inside a domain split and join.
+use Rattle.std.proofs.Common.{◌≡◌, ◌+◌, List, [], ◌∷◌, ◌++◌, arith, refl, sym, subst}
 use Rattle.dom_base.specs.declared.addr.Addr.{Addr}
 use Rattle.dom_base.specs.declared.link.Link.{Link}
 use Rattle.dom_base.specs.declared.query.Query.{Query}
 use Rattle.te_links.specs.Rows.{Rows}
 use Rattle.walk_laws.specs.Walks.{AdmitsNode, Walk, cost}
-use Rattle.walk_laws.specs.Crossing.{Leg, CrossingWalk, crossing_cost, SplitCrossing}
 use Rattle.walk_laws.proofs.Admitted.{walk_admits}
 
 pub join : (g : Rows) (q : Query) (u v w : Addr) (ls ms : List Link) → Walk g q u v ls → Walk g q v w ms → Walk g q u w (ls ++ ms)
@@ -24,20 +23,3 @@ walk_ends g q u v (l ∷ ls) walk = walk_ends g q l.to v ls walk.2
 pub split : (g : Rows) (q : Query) (u w : Addr) (ls ms : List Link) → Walk g q u w (ls ++ ms) → (v : Addr) × Walk g q u v ls × Walk g q v w ms
 split g q u w [] ms walk = (u, (refl, walk_admits g q u w ms walk), walk)
 split g q u w (l ∷ ls) ms walk = let rest = split g q l.to w ls ms walk.2 in (rest.0, (walk.0, walk.1, rest.1), rest.2)
-
-pub split_crossing : (q : Query) (g h : Rows) (rest : List Rows) (s t : Addr) (legs : List Leg) (last : List Link) →
-    CrossingWalk q g (h ∷ rest) s t legs last → SplitCrossing q g h rest s t (crossing_cost q legs last)
-split_crossing q g h rest s t [] last walk = absurd walk
-split_crossing q g h rest s t (leg ∷ legs) last walk = record {
-  leg = leg;
-  walk = walk.0;
-  crosses = walk.1;
-  legs = legs;
-  last = last;
-  onward = walk.2;
-  sum = refl;
-}
-
-pub join_crossing : (q : Query) (g h : Rows) (rest : List Rows) (s t : Addr) (c : ℕ) → SplitCrossing q g h rest s t c →
-    (legs : List Leg) × (last : List Link) × CrossingWalk q g (h ∷ rest) s t legs last × (crossing_cost q legs last ≡ c)
-join_crossing q g h rest s t c parts = (parts.leg ∷ parts.legs, parts.last, (parts.walk, parts.crosses, parts.onward), sym parts.sum)

@@ -11,7 +11,7 @@ use Rattle.dom_base.specs.declared.query.Label.{Label}
 use Rattle.te_links.specs.Rows.{Rows}
 use Rattle.walk_laws.specs.Walks.{Walk, cost}
 use Rattle.walk_laws.specs.Labels.{IsLabel}
-use Rattle.walk_laws.specs.Crossing.{Leg, CrossingWalk, crossing_cost, query_in, IsLeastCost, HasNoCrossing, SplitCrossing}
+use Rattle.walk_laws.specs.Crossing.{query_in, IsLeastCost, HasNoCrossing}
 use Rattle.walk_laws.specs.Borders.{Beyond, IsJoin, IsJoinAt, AreBorderSeeds}
 
 -- walks that meet make one, and their costs add up
@@ -25,18 +25,6 @@ abbrev pub WalksSplit : Type 0
 WalksSplit =
     (g : Rows) (q : Query) (u w : Addr) (ls ms : List Link) → Walk g q u w (ls ++ ms) →
     (v : Addr) × Walk g q u v ls × Walk g q v w ms
-
--- a crossing walk splits at its first out link
-abbrev pub CrossingSplits : Type 0
-CrossingSplits =
-    (q : Query) (g h : Rows) (rest : List Rows) (s t : Addr) (legs : List Leg) (last : List Link) →
-    CrossingWalk q g (h ∷ rest) s t legs last → SplitCrossing q g h rest s t (crossing_cost q legs last)
-
--- and its parts join to one of the same cost
-abbrev pub CrossingJoins : Type 0
-CrossingJoins =
-    (q : Query) (g h : Rows) (rest : List Rows) (s t : Addr) (c : ℕ) → SplitCrossing q g h rest s t c →
-    (legs : List Leg) × (last : List Link) × CrossingWalk q g (h ∷ rest) s t legs last × (crossing_cost q legs last ≡ c)
 
 -- the labels over a job's seeds are its join
 abbrev pub LabelIsJoin : Type 0

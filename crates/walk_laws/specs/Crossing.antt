@@ -60,13 +60,3 @@ pub record IsLeastCost (q : Query) (g : Rows) (rest : List Rows) (s t : Addr) (c
 -- no crossing walk is feasible
 abbrev pub HasNoCrossing : Query → Rows → List Rows → Addr → Addr → Type 0
 HasNoCrossing q g rest s t = (legs : List Leg) (last : List Link) → ¬ IsFeasibleCrossing q g rest s t legs last
-
--- A crossing walk of this cost, split at its first out link.
-pub record SplitCrossing (q : Query) (g h : Rows) (rest : List Rows) (s t : Addr) (c : ℕ) : Type 0 where
-  pub leg : Leg
-  pub walk : Walk g (query_in q g.own) s leg.out.link.from leg.links
-  pub crosses : Crosses g h q leg.out
-  pub legs : List Leg
-  pub last : List Link
-  pub onward : CrossingWalk q h rest leg.out.link.to t legs last
-  pub sum : c ≡ cost q leg.links + weight q.metric leg.out.link + crossing_cost q legs last

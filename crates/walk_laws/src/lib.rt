@@ -3,7 +3,9 @@
 #![tactic(auto)]
 
 ghost use Rattle.walk_laws.specs.Least.{CertificateIsLeast, LeastIsCertified, PathIsWalk, SegmentLeads};
-ghost use Rattle.walk_laws.specs.Composition.{WalksJoin, WalksSplit, CrossingSplits, CrossingJoins, LabelIsJoin, LabelIsJoinAt, JoinComposes, JoinEnds};
+ghost use Rattle.walk_laws.specs.Composition.{WalksJoin, WalksSplit, LabelIsJoin, LabelIsJoinAt, JoinComposes, JoinEnds};
+ghost use Rattle.walk_laws.specs.Segments.{SegmentIsWalk, OneSegment, ShownComposes, ShownEnds};
+ghost use Rattle.walk_laws.specs.TableJoins.{OneTableJoin, OneTableEnd};
 
 /// A law: where the conditions of a certificate hold, each label is the least over all walks.
 pub fn certificate_is_least()
@@ -35,16 +37,6 @@ pub fn walks_split()
     ensures { WalksSplit }
 {}
 
-/// A law: a walk through several domains splits at its first out link.
-pub fn crossing_splits()
-    ensures { CrossingSplits }
-{}
-
-/// A law: what a crossing walk splits into joins again, at the same cost.
-pub fn crossing_joins()
-    ensures { CrossingJoins }
-{}
-
 /// A law: the labels of a search from all exits at once are the join of the border table.
 pub fn label_is_join()
     ensures { LabelIsJoin }
@@ -65,4 +57,32 @@ pub fn join_composes()
 /// The law of composition in the last domain.
 pub fn join_ends()
     ensures { JoinEnds }
+{}
+
+/// A law: the chosen segment is a walk of its label.
+pub fn segment_is_walk()
+    ensures { SegmentIsWalk }
+{}
+
+/// A law: a label has one chosen segment, where far addresses tell links apart; so what shows it is
+/// one text.
+pub fn one_segment()
+    ensures { OneSegment }
+{}
+
+/// A law: what the elements of a chain show, one behind the other (a chosen segment, the out link of
+/// its exit, what is shown beyond), is a least walk through the domains.
+pub fn shown_composes()
+    ensures { ShownComposes }
+{}
+
+/// A law: in the last domain the chosen segment alone is a least walk.
+pub fn shown_ends()
+    ensures { ShownEnds }
+{}
+
+/// A law: a border table has one join, at its border and in the last domain.
+pub fn one_table_join()
+    ensures join { OneTableJoin }
+    ensures last { OneTableEnd }
 {}

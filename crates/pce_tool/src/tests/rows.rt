@@ -1,5 +1,6 @@
+//! The rows of runs, worked by hand.
 /// The files of the rows, by their names.
-pub const FILES: [(&str, &[u8]); 12] = [
+pub const FILES: [(&str, &[u8]); 21] = [
     (
         "one.txt",
         b"topology 1\nnode 10.0.0.1\nnode 10.0.0.2\nnode 10.0.0.3\n\
@@ -64,6 +65,37 @@ pub const FILES: [(&str, &[u8]); 12] = [
          label 10.0.0.3 0 10.0.0.3\npath 10.0.0.1 10.1.0.6\n",
     ),
     ("other.cert", b"certificate 2\npath -\n"),
+    (
+        "trap.txt",
+        b"topology 1\nnode 10.0.0.1\nnode 10.0.0.2\nnode 10.0.0.3\nnode 10.0.0.4\n\
+         link 10.0.0.1 10.0.0.2 10.1.0.1 10.1.0.2 1 1 1000 00000000\n\
+         link 10.0.0.2 10.0.0.3 10.1.0.3 10.1.0.4 1 1 1000 00000000\n\
+         link 10.0.0.3 10.0.0.4 10.1.0.5 10.1.0.6 1 1 1000 00000000\n\
+         link 10.0.0.1 10.0.0.3 10.1.0.7 10.1.0.8 1 5 1000 00000000\n\
+         link 10.0.0.2 10.0.0.4 10.1.0.9 10.1.0.10 1 5 1000 00000000\n",
+    ),
+    (
+        "short.txt",
+        b"topology 1\nnode 10.0.0.1\nnode 10.0.0.2\nnode 10.0.0.3\nnode 10.0.0.4\n\
+         link 10.0.0.1 10.0.0.2 10.1.0.1 10.1.0.2 1 1 1000 00000000\n\
+         link 10.0.0.2 10.0.0.3 10.1.0.3 10.1.0.4 1 1 1000 00000000\n\
+         link 10.0.0.3 10.0.0.4 10.1.0.5 10.1.0.6 1 1 1000 00000000\n\
+         link 10.0.0.1 10.0.0.3 10.1.0.7 10.1.0.8 1 5 1000 00000000\n",
+    ),
+    (
+        "trap.pair",
+        b"pair 1\nat 10.0.0.2 4\nat 10.0.0.3 5\nat 10.0.0.4 9\n\
+         first 10.0.0.1 10.1.0.2 10.1.0.10\nsecond 10.0.0.1 10.1.0.8 10.1.0.6\n",
+    ),
+    (
+        "twice.pair",
+        b"pair 1\nfirst 10.0.0.1 10.1.0.2 10.1.0.10\nsecond 10.0.0.1 10.1.0.2 10.1.0.10\n",
+    ),
+    ("cut.pair", b"pair 1\ncut 10.0.0.1 10.0.0.2 10.0.0.3\n"),
+    ("none.pair", b"# nothing\n\npair 1\n  cut -\n"),
+    ("empty.pair", b"pair 1\ncut -\n"),
+    ("late.pair", b"pair 1\nat 10.0.0.2 4\ncut -\n"),
+    ("half.pair", b"pair 1\nfirst 10.0.0.1\n"),
 ];
 
 /// A run: its words and its input, and what it is to write and the text of its status.

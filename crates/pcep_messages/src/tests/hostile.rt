@@ -1,3 +1,4 @@
+//! Messages that were cut short, or changed in one octet.
 use super::*;
 
 // A request with one METRIC and an IRO.

@@ -1,3 +1,4 @@
+//! The table of a session, run by run.
 use super::{Input, Session};
 use crate::actions::{Action, Actions, Own, Reason};
 use dom_base::{List, NoMemory, Tick};

@@ -48,3 +48,25 @@ of-requires-clause-order c =
           entries_compared a b h)
           rules_hold.entries_differ;
     }
+
+pub tails_of-requires-clause-nodes_rise : goal.tails_of-requires-clause-nodes_rise
+tails_of-requires-clause-nodes_rise c =
+    let nodes = c.sort.new.self.items in
+    let moves = rw c.into_vec-nodes.ensures at c.in_ok-sort.ensures.permutation in
+    let up = IsNonDecreasingBy-from_sort (λ (a : Addr). rank a) nodes c.in_ok-sort.ensures.sorted in
+    rw c.deref-3.ensures.value (strictly (λ (a : Addr). a) nodes up (permuted_differ c.args.parts.nodes nodes moves c.requires.rules.nodes_differ))
+
+pub tails_of-requires-clause-known : goal.tails_of-requires-clause-known
+tails_of-requires-clause-known c =
+    let g : Rows = record { own = c.args.parts.own; nodes = c.sort.new.self.items; links = c.sort_by_key.new.self.items; outs = c.sort_by_key-2.new.self.items; entries = c.sort-2.new.self.items } in
+    let rules_hold : IsTopology g = moved (rows_of_parts c.args.parts) g.nodes g.links g.outs g.entries c.requires.rules
+    (rw c.into_vec-nodes.ensures at c.in_ok-sort.ensures.permutation) (rw c.into_vec-links.ensures at c.in_ok-sort_by_key.ensures.permutation)
+    (rw c.into_vec-outs.ensures at c.in_ok-sort_by_key-2.ensures.permutation) (rw c.into_vec-entries.ensures at c.in_ok-sort-2.ensures.permutation) in
+    rw (c.deref-3.ensures.value, c.deref-4.ensures.value) (λ k d below. (rules_hold.links k d below).link.from)
+
+pub index_from-requires-clause-nodes_rise : goal.index_from-requires-clause-nodes_rise
+index_from-requires-clause-nodes_rise c =
+    let nodes = c.sort.new.self.items in
+    let moves = rw c.into_vec-nodes.ensures at c.in_ok-sort.ensures.permutation in
+    let up = IsNonDecreasingBy-from_sort (λ (a : Addr). rank a) nodes c.in_ok-sort.ensures.sorted in
+    rw c.deref-5.ensures.value (strictly (λ (a : Addr). a) nodes up (permuted_differ c.args.parts.nodes nodes moves c.requires.rules.nodes_differ))

@@ -1,0 +1,4 @@
+pub mod Hopping
+pub mod Walking
+pub mod Answering
+pub mod Keeping

@@ -1,0 +1,132 @@
+//! Copies of objects.
+ghost use Rattle.std.specs.Prelude.{◌≡◌, IfOk};
+ghost use Rattle.diverse_pairs.specs.Asking.{is_svec as is_joining, plain};
+
+use dom_base::{Exclusion, List, NoMemory};
+use pcep_objects::{Body, Object};
+use pcep_subobjects::Hop;
+use std::alloc::Global;
+
+fn copy_hop(alloc: Global, hop: &Hop) -> Result<Hop, NoMemory>
+    ensures { IfOk result (λ copy. copy ≡ hop.now) }
+{
+    Ok(match *hop {
+        Hop::Prefix {
+            loose,
+            addr,
+            length,
+        } => Hop::Prefix {
+            loose,
+            addr,
+            length,
+        },
+        Hop::AsNumber { loose, number } => Hop::AsNumber { loose, number },
+        Hop::Key { loose, key, pce } => Hop::Key { loose, key, pce },
+        Hop::Other {
+            loose,
+            kind,
+            ref body,
+        } => Hop::Other {
+            loose,
+            kind,
+            body: body.copy(alloc)?,
+        },
+    })
+}
+
+fn copy_hops(alloc: Global, hops: &[Hop]) -> Result<List<Hop>, NoMemory>
+    ensures { IfOk result (λ copies. copies ≡ hops.now) }
+{
+    let mut copies = List::new(alloc);
+    for hop in hops {
+        copies.push(copy_hop(alloc, hop)?)?;
+    }
+    Ok(copies)
+}
+
+fn copy_exclusions(alloc: Global, list: &[Exclusion]) -> Result<List<Exclusion>, NoMemory>
+    ensures { IfOk result (λ copies. copies ≡ list.now) }
+{
+    let mut copies = List::new(alloc);
+    for exclusion in list {
+        copies.push(exclusion.copy(alloc)?)?;
+    }
+    Ok(copies)
+}
+
+fn copy_body(alloc: Global, body: &Body) -> Result<Body, NoMemory>
+    ensures { IfOk result (λ copy. copy ≡ body.now) }
+{
+    Ok(match *body {
+        Body::Open(opening) => Body::Open(opening),
+        Body::Rp { flags, id } => Body::Rp { flags, id },
+        Body::NoPath { nature, vector } => Body::NoPath { nature, vector },
+        Body::EndPoints { source, target } => Body::EndPoints { source, target },
+        Body::Bandwidth(word) => Body::Bandwidth(word),
+        Body::Metric {
+            bound,
+            computed,
+            kind,
+            word,
+        } => Body::Metric {
+            bound,
+            computed,
+            kind,
+            word,
+        },
+        Body::Ero(ref hops) => Body::Ero(copy_hops(alloc, hops.as_slice())?),
+        Body::Lspa {
+            exclude_any,
+            include_any,
+            include_all,
+            setup,
+            holding,
+            flags,
+        } => Body::Lspa {
+            exclude_any,
+            include_any,
+            include_all,
+            setup,
+            holding,
+            flags,
+        },
+        Body::Iro(ref hops) => Body::Iro(copy_hops(alloc, hops.as_slice())?),
+        Body::Notification(kind, value) => Body::Notification(kind, value),
+        Body::Error(kind, value) => Body::Error(kind, value),
+        Body::Close(reason) => Body::Close(reason),
+        Body::PathKey(ref hops) => Body::PathKey(copy_hops(alloc, hops.as_slice())?),
+        Body::Xro(ref list) => Body::Xro(copy_exclusions(alloc, list.as_slice())?),
+        Body::Unread(ref octets) => Body::Unread(octets.copy(alloc)?),
+    })
+}
+
+fn copy_object(alloc: Global, object: &Object) -> Result<Object, NoMemory>
+    ensures { IfOk result (λ copy. copy ≡ object.now) }
+{
+    Ok(Object {
+        class: object.class,
+        kind: object.kind,
+        must: object.must,
+        body: copy_body(alloc, &object.body)?,
+    })
+}
+
+/// Whether an object is an SVEC.
+pub fn is_svec(object: &Object) -> bool
+    ensures { result ≡ is_joining object.now }
+{
+    object.class == 11 && object.kind == 1
+}
+
+/// Copies of the objects that are no SVEC.
+pub fn copy_plain(alloc: Global, objects: &[Object]) -> Result<List<Object>, NoMemory>
+    ensures { IfOk result (λ copies. copies ≡ plain objects.now) }
+{
+    let mut copies = List::new(alloc);
+    for object in objects {
+        if !is_svec(object) {
+            copies.push(copy_object(alloc, object)?)?;
+        }
+    }
+    Ok(copies)
+}

@@ -1,0 +1,9 @@
+pub mod RowLemmas
+pub mod PinLemmas
+pub mod PlaceLemmas
+pub mod ScanLemmas
+pub mod WayLemmas
+pub mod KeySteps
+pub mod CloseLemmas
+pub mod ReadyLemmas
+pub mod LeaveLemmas

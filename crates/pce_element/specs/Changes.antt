@@ -1,0 +1,88 @@
+-- What a planned change makes of an element, and when it may be made.
+use Rattle.std.specs.Prelude.{◌≡◌, ◌≤◌, ◌+◌, ℕ, false, List, [], ◌∷◌, length, Option, Some, None}
+use Rattle.dom_base.specs.declared.names.Peer.{Peer}
+use Rattle.request_table.specs.Pending.{Pending, number_of, item_of, is_full, opened_of, closed_of}
+use Rattle.request_table.specs.Lends.{written_of}
+use Rattle.path_keys.specs.Keys.{Keys, live_most, live_at, issue_of}
+use Rattle.vspt_tree.specs.declared.branch.Branch.{Branch}
+use Rattle.border_costs.specs.Solutions.{Solution}
+use Rattle.plant_model.specs.Element as element
+use Rattle.plant_model.specs.Element.{Element, Item, Way, Taken, at_stage, ended, with_last}
+use Rattle.plant_model.specs.Plant.{Pin, Segment}
+use Rattle.pce_element.specs.declared.accepted.Stage.{Stage}
+use Rattle.pce_element.specs.declared.accepted.Stage.TheVariants.{Waits, Ready}
+use Rattle.pce_element.specs.declared.change.Change.{Change}
+use Rattle.pce_element.specs.declared.change.Change.TheVariants.{Nothing, Opens, Readies, Ends, Solves}
+use Rattle.pce_element.specs.declared.change.Draft.{Draft}
+use Rattle.pce_element.specs.Items.{new_item}
+use Rattle.pce_element.specs.Seen.{Seen}
+
+-- the id of a request that waits is the last one of its way
+abbrev pub ways_after : Stage → List Way → List Way
+ways_after (Waits on id) ways = with_last on id ways
+ways_after (Ready branches) ways = ways
+
+abbrev pub readied_item : ℕ → List Branch → Pending (Item Pin) → Option (Item Pin) → Pending (Item Pin)
+readied_item number branches pending None = pending
+readied_item number branches pending (Some item) = written_of pending number (at_stage (element.Ready branches) item)
+
+abbrev pub readied : ℕ → List Branch → Pending (Item Pin) → Pending (Item Pin)
+readied number branches pending = readied_item number branches pending (item_of pending number)
+
+abbrev pub all_closed : List ℕ → Pending (Item Pin) → Pending (Item Pin)
+all_closed [] pending = pending
+all_closed (n ∷ ns) pending = all_closed ns (closed_of pending n)
+
+abbrev pub all_ended : List ℕ → Element Pin Segment → Element Pin Segment
+all_ended ns k = record k { pending = all_closed ns k.pending }
+
+abbrev pub all_issued : ℕ → List Segment → Keys Segment → Keys Segment
+all_issued now [] keys = keys
+all_issued now (s ∷ ss) keys = all_issued now ss (issue_of keys now s)
+
+-- the element after a change, where this topology is the current one
+abbrev pub changed : Pin → Change → Element Pin Segment → Element Pin Segment
+changed current Nothing k = k
+changed current (Opens peer id opening) k = record k { pending = opened_of k.pending peer id (new_item opening current); ways = ways_after opening.stage k.ways }
+changed current (Readies number branches) k = record k { pending = readied number branches k.pending }
+changed current (Ends numbers) k = all_ended numbers k
+changed current (Solves solved now segments) k = ended solved.ask.number (record k { keys = all_issued now.0 segments k.keys })
+
+-- the solved job that a change holds
+abbrev pub solved_in : Change → Option Solution
+solved_in Nothing = None
+solved_in (Opens peer id opening) = None
+solved_in (Readies number branches) = None
+solved_in (Ends numbers) = None
+solved_in (Solves solved now segments) = Some solved
+
+pub record MayIssue (keys : Keys Segment) (now : ℕ) (segments : List Segment) : Type 0 where
+  pub clock : keys.clock ≤ now
+  pub free : length (live_at keys now) + length segments ≤ live_most
+
+pub record MayOpen (s : Seen) (peer : Peer) (id : ℕ) : Type 0 where
+  pub new : number_of s.losing.element.pending peer id ≡ None
+  pub fits : is_full s.losing.element.pending ≡ false
+
+-- the change is one of this element
+abbrev pub Fits : Seen → Change → Type 0
+Fits s Nothing = Unit {0}
+Fits s (Opens peer id opening) = MayOpen s peer id
+Fits s (Readies number branches) = Unit {0}
+Fits s (Ends numbers) = Unit {0}
+Fits s (Solves solved now segments) = MayIssue s.losing.element.keys now.0 segments
+
+-- there is memory for it
+abbrev pub HasRoom : Seen → Change → Type 0
+HasRoom s Nothing = Unit {0}
+HasRoom s (Opens peer id opening) = 1 ≤ s.room.requests
+HasRoom s (Readies number branches) = Unit {0}
+HasRoom s (Ends numbers) = Unit {0}
+HasRoom s (Solves solved now segments) = length segments ≤ s.room.keys
+
+-- A draft is one of this element, and makes this of it.
+pub record IsDraft (s : Seen) (taken : Taken Pin Segment) (d : Draft) : Type 0 where
+  pub fits : Fits s d.change
+  pub unsolved : solved_in d.change ≡ None
+  pub element : changed s.current d.change s.losing.element ≡ taken.element
+  pub outputs : d.outputs ≡ taken.outputs

@@ -1,0 +1,161 @@
+//! A request that was accepted.
+ghost use Rattle.std.specs.Prelude.{◌≡◌, None, Some};
+ghost use Rattle.std.specs.Option.{option_copied};
+ghost use Rattle.plant_model.specs.Element.{Ready, at_stage, is_ready, waits_for, waits_on};
+ghost use Rattle.request_table.specs.Pending.{same_peer};
+ghost use Rattle.pce_element.specs.Items.{branches_at, new_item};
+
+use disclosure::Class;
+use dom_base::{As, List, Peer};
+use pcep_messages::Wanted;
+use std::marker::Model;
+use std::snapshot::Snapshot;
+use te_generations::Pin;
+use te_links::Topology;
+use vspt_tree::Branch;
+
+/// A request waits for the answer to the id that was sent to a peer, or it is ready with the branches
+/// of that answer.
+#[derive(Drop)]
+pub(crate) enum Stage {
+    Waits { on: Peer, id: u32 },
+    Ready(List<Branch>),
+}
+
+/// What is asked for, by whom, and how far it is.
+#[derive(Drop)]
+pub(crate) struct Opening {
+    pub class: Class,
+    pub flags: u32,
+    pub wanted: Wanted,
+    pub sequence: List<As>,
+    pub stage: Stage,
+}
+
+/// An accepted request, with the topology that it pins.
+#[derive(Drop)]
+pub(crate) struct Accepted {
+    opening: Opening,
+    pin: Pin,
+    topology: Snapshot<Topology>,
+}
+
+impl Model for Accepted {
+    ghost use Rattle.plant_model.specs.Element.{Item};
+    ghost use Rattle.plant_model.specs.Plant.{Pin};
+
+    ghost Value = { Item Pin };
+
+    ghost use Rattle.pce_element.specs.ItemFields.{item_of};
+
+    ghost view = { item_of };
+}
+
+impl Accepted {
+    /// A request that pins a topology.
+    pub fn new(opening: Opening, pin: Pin, topology: &Topology) -> Accepted
+        ensures { result ≡ new_item opening (record { number = pin; topology = topology.now }) }
+    {
+        Accepted {
+            opening,
+            pin,
+            topology: Snapshot::of(topology),
+        }
+    }
+
+    /// What keeps its topology.
+    pub fn pin(&self) -> &Pin
+        ensures { result.now ≡ self.now.pin.number }
+    {
+        &self.pin
+    }
+
+    /// Gives its pin back.
+    pub fn into_pin(self) -> Pin
+        ensures { result ≡ self.pin.number }
+    {
+        self.pin
+    }
+
+    pub fn class(&self) -> Class
+        ensures { result ≡ self.now.class }
+    {
+        self.opening.class
+    }
+
+    pub fn flags(&self) -> u32
+        ensures { result ≡ self.now.flags }
+    {
+        self.opening.flags
+    }
+
+    pub fn wanted(&self) -> &Wanted
+        ensures { result.now ≡ self.now.wanted }
+    {
+        &self.opening.wanted
+    }
+
+    pub fn sequence(&self) -> &[As]
+        ensures { result.now ≡ self.now.sequence }
+    {
+        self.opening.sequence.as_slice()
+    }
+
+    /// Whether it waits for the answer to an id of a peer.
+    pub fn waits_for(&self, peer: Peer, id: u32) -> bool
+        ensures { result ≡ waits_for peer id self.now.stage }
+    {
+        match self.opening.stage {
+            Stage::Waits { on, id: sent } => is_same_peer(on, peer) && sent == id,
+            Stage::Ready(_) => false,
+        }
+    }
+
+    /// Whether it waits on a peer.
+    pub fn waits_on(&self, peer: Peer) -> bool
+        ensures { result ≡ waits_on peer self.now.stage }
+    {
+        match self.opening.stage {
+            Stage::Waits { on, id: _ } => is_same_peer(on, peer),
+            Stage::Ready(_) => false,
+        }
+    }
+
+    /// Whether it can be solved.
+    pub fn is_ready(&self) -> bool
+        ensures { result ≡ is_ready self.now.stage }
+    {
+        match self.opening.stage {
+            Stage::Waits { .. } => false,
+            Stage::Ready(_) => true,
+        }
+    }
+
+    /// The branches with which it is ready, where it is.
+    pub fn ready(&self) -> Option<&List<Branch>>
+        ensures { option_copied result ≡ branches_at self.now.stage }
+    {
+        match &self.opening.stage {
+            Stage::Waits { .. } => None,
+            Stage::Ready(branches) => Some(branches),
+        }
+    }
+
+    /// Makes it ready.
+    pub fn make_ready(&mut self, branches: List<Branch>)
+        ensures { self.new ≡ at_stage (Ready branches) self.old }
+    {
+        self.opening.stage = Stage::Ready(branches);
+    }
+}
+
+/// Whether two peers are one.
+pub(crate) fn is_same_peer(one: Peer, other: Peer) -> bool
+    ensures { result ≡ same_peer one other }
+{
+    match (one, other) {
+        (Peer::Outside(a), Peer::Outside(b)) => a == b,
+        (Peer::Inner(a), Peer::Inner(b)) => a.0 == b.0,
+        _ => false,
+    }
+}

@@ -1,0 +1,251 @@
+//! The pending requests of an element, with the topologies that they pin.
+ghost use Rattle.std.specs.Prelude.{◌≡◌, ◌≤◌, ◌<◌, ◌+◌, ◌↔◌, [], suc, false, None, Some, Err, IsTrue, IfOk, IfSome, OnOk, OnErr, MatchOption, slice_get, length};
+ghost use Rattle.std.specs.Option.{option_copied};
+ghost use Rattle.std.specs.Arc.{arc_value};
+ghost use Rattle.te_links.specs.Rows.{IsTopology, IsInOrder};
+ghost use Rattle.request_table.specs.Pending.{ArePending, number_of, item_of, key_at, is_full, opened_of, closed_of};
+ghost use Rattle.plant_model.specs.Element.{ready_numbers};
+ghost use Rattle.plant_model.specs.Plant.{first_pin};
+ghost use Rattle.plant_model.specs.Plant as plant;
+ghost use Rattle.pce_element.specs.Items.{new_item};
+ghost use Rattle.pce_element.specs.Rows.{row_of};
+ghost use Rattle.pce_element.specs.Leaving.{LeavesAt, SameButSpare};
+ghost use Rattle.pce_element.specs.Changes.{all_closed, readied};
+
+use crate::accepted::{Accepted, Opening, is_same_peer};
+use dom_base::{As, List, NoMemory, Peer};
+use plant_model::Lost;
+use request_table::{PENDING_MAX, RequestKey, Requests};
+use std::alloc::Global;
+use std::marker::Model;
+use te_generations::{Generations, LoadError};
+use te_links::Topology;
+use vspt_tree::Branch;
+
+/// A pending request, with its number.
+#[derive(Clone, Copy)]
+pub(crate) struct Row<'a> {
+    pub number: u64,
+    pub key: RequestKey,
+    pub item: &'a Accepted,
+}
+
+/// What becomes of a request when a session goes down.
+#[derive(Clone, Copy)]
+pub(crate) enum Leaves {
+    Stays,
+    Drops,
+    Loses(Lost),
+}
+
+/// Pending requests, each of which pins the topology that was current when it was accepted.
+#[derive(Drop)]
+pub(crate) struct PinnedRequests {
+    generations: Generations,
+    requests: Requests<Accepted>,
+    /// The number of the last request that was accepted.
+    last: u64,
+}
+
+impl Model for PinnedRequests {
+    ghost use Rattle.pce_element.specs.Pinned.{Pinned};
+
+    ghost Value = { Pinned };
+
+    ghost use Rattle.pce_element.specs.PinnedFields.{pinned_of, HoldsPins};
+
+    ghost view = { pinned_of };
+
+    ghost invariant = { HoldsPins };
+}
+
+impl PinnedRequests {
+    /// No requests, and a topology without nodes.
+    pub fn new(alloc: Global, own: As) -> Result<PinnedRequests, NoMemory>
+        ensures current { IfOk result (λ p. p.current ≡ first_pin own) }
+        ensures pending { IfOk result (λ p. p.pending ≡ record { limit = 1024; given = 0; rows = [] }) }
+    {
+        Ok(PinnedRequests {
+            generations: Generations::new(alloc, own)?,
+            requests: Requests::new(alloc)?,
+            last: 0,
+        })
+    }
+
+    /// Makes a topology the current one. Requests keep theirs.
+    pub fn load(&mut self, topology: Topology) -> Result<u64, LoadError>
+        ensures number { IfOk result (λ number. number ≡ suc self.old.current.number) }
+        ensures ok { OnOk result (self.new ≡ record self.old { current = record { number = suc self.old.current.number; topology = topology } }) }
+        ensures full { (result ≡ Err LoadError.Full) ↔ IsTrue (plant.is_full self.old.current.number self.old.pending.rows) }
+        ensures err { OnErr result (self.new ≡ self.old) }
+    {
+        let _last = self.generations.current();
+        self.generations.load(topology)
+    }
+
+    /// Makes room for one more request.
+    pub fn reserve(&mut self) -> Result<(), NoMemory>
+        ensures same { self.new ≡ record self.old { spare = self.new.spare } }
+        ensures ok { OnOk result (1 ≤ self.new.spare) }
+        ensures room { self.old.spare ≤ self.new.spare }
+    {
+        self.requests.reserve()
+    }
+
+    /// The request at a place.
+    pub fn row(&self, k: usize) -> Option<Row<'_>>
+        ensures row { MatchOption result (length self.now.pending.rows ≤ k) (λ row. slice_get self.now.pending.rows k ≡ Some (row_of row)) }
+        ensures rules { ArePending self.now.pending }
+    {
+        let _count = self.requests.len();
+        let Some(number) = self.requests.nth(k) else {
+            return None;
+        };
+        let Some(key) = self.requests.key(number) else {
+            unreachable!()
+        };
+        let Some(item) = self.requests.get(number) else {
+            unreachable!()
+        };
+        Some(Row { number, key, item })
+    }
+
+    /// How many requests are pending. They obey the rules of a table.
+    pub fn len(&self) -> usize
+        ensures count { result ≡ length self.now.pending.rows }
+        ensures rules { ArePending self.now.pending }
+    {
+        self.requests.len()
+    }
+
+    /// The number of the request of a peer under an id.
+    pub fn asked(&self, peer: Peer, id: u32) -> Option<u64>
+        ensures { result ≡ number_of self.now.pending peer id }
+    {
+        self.requests.asked(peer, id)
+    }
+
+    /// What belongs to a request.
+    pub fn get(&self, number: u64) -> Option<&Accepted>
+        ensures { option_copied result ≡ item_of self.now.pending number }
+    {
+        self.requests.get(number)
+    }
+
+    /// Whose a request is, and its id there.
+    pub fn key(&self, number: u64) -> Option<RequestKey>
+        ensures { result ≡ key_at self.now.pending number }
+    {
+        self.requests.key(number)
+    }
+
+    /// Whether no further request can be accepted.
+    pub fn is_full(&self) -> bool
+        ensures { result ≡ is_full self.now.pending }
+    {
+        self.requests.len() >= PENDING_MAX || self.last == u64::MAX
+    }
+
+    /// Accepts a request, which pins the current topology; takes no memory.
+    pub fn open(&mut self, peer: Peer, id: u32, opening: Opening)
+        requires room { 1 ≤ self.old.spare }
+        requires new { number_of self.old.pending peer id ≡ None }
+        requires fits { is_full self.old.pending ≡ false }
+        ensures opened { SameButSpare (record self.old { pending = opened_of self.old.pending peer id (new_item opening self.old.current) }) self.new }
+        ensures one { length self.new.pending.rows ≡ length self.old.pending.rows + 1 }
+    {
+        let _last = self.generations.current();
+        let _count = self.requests.len();
+        let pin = self.generations.pin();
+        let topology = self.generations.topology(&pin);
+        let item = Accepted::new(opening, pin, topology);
+        match self.requests.open(peer, id, item) {
+            Ok(number) => self.last = number,
+            Err(_) => unreachable!(),
+        }
+    }
+
+    /// Ends a request, and gives its pin back; takes no memory.
+    pub fn close(&mut self, number: u64)
+        ensures closed { SameButSpare (record self.old { pending = closed_of self.old.pending number }) self.new }
+        ensures fewer { length self.new.pending.rows ≤ length self.old.pending.rows }
+        ensures room { self.old.spare ≤ self.new.spare }
+    {
+        let _last = self.generations.current();
+        if let Some(item) = self.requests.close(number) {
+            self.generations.release(item.into_pin());
+        }
+    }
+
+    /// Ends requests, in order; takes no memory.
+    pub fn close_all(&mut self, numbers: &[u64])
+        ensures closed { SameButSpare (record self.old { pending = all_closed numbers.now self.old.pending }) self.new }
+        ensures fewer { length self.new.pending.rows ≤ length self.old.pending.rows }
+    {
+        for number in numbers {
+            self.close(*number);
+        }
+    }
+
+    /// A session goes down: the request at a place is dropped if the peer asked for it, and lost if it
+    /// waits on the peer; takes no memory.
+    pub fn leave(&mut self, k: usize, peer: Peer) -> Leaves
+        requires { k < length self.old.pending.rows }
+        ensures { LeavesAt peer k self.old self.new result }
+    {
+        let Some(Row { number, key, item }) = self.row(k) else {
+            unreachable!()
+        };
+        let waits = item.waits_on(peer);
+        let lost = Lost {
+            to: key.peer,
+            flags: item.flags(),
+            id: key.id,
+        };
+        if is_same_peer(key.peer, peer) {
+            self.close(number);
+            return Leaves::Drops;
+        }
+        if waits {
+            self.close(number);
+            return Leaves::Loses(lost);
+        }
+        Leaves::Stays
+    }
+
+    /// The number of the k-th request that can be solved.
+    pub fn ready(&self, k: usize) -> Option<u64>
+        ensures { result ≡ slice_get (ready_numbers self.now.pending.rows) k }
+    {
+        let mut left = k;
+        for i in 0..self.len() {
+            let Some(row) = self.row(i) else {
+                unreachable!()
+            };
+            if row.item.is_ready() {
+                if left == 0 {
+                    return Some(row.number);
+                }
+                left -= 1;
+            }
+        }
+        None
+    }
+
+    /// Makes a request ready with the branches of its answer; takes no memory.
+    pub fn make_ready(&mut self, number: u64, branches: List<Branch>)
+        ensures ready { self.new ≡ record self.old { pending = readied number branches self.old.pending } }
+        ensures count { length self.new.pending.rows ≡ length self.old.pending.rows }
+    {
+        set_ready(&mut self.requests, number, branches);
+    }
+}
+
+fn set_ready(requests: &mut Requests<Accepted>, number: u64, branches: List<Branch>)
+    ensures kept { requests.new.kept ≡ readied number branches requests.old.kept }
+    ensures spare { requests.new.spare ≡ requests.old.spare }
+{
+    if let Some(item) = requests.get_mut(number) {
+        item.make_ready(branches);
+    }
+}

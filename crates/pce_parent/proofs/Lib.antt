@@ -1,0 +1,17 @@
+pub mod SpotLaws
+pub mod PlaceLaws
+pub mod RowLaws
+mod Starting
+mod Relaxing
+mod Passes
+pub mod Steps
+pub mod Leasts
+mod Collecting
+mod Choosing
+mod Going
+mod Walking
+pub mod HeldLemmas
+pub mod HeldPlaces
+mod WayLemmas
+mod ScanLaws
+mod Leaving

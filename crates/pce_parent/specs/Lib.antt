@@ -1,0 +1,11 @@
+pub mod Places
+pub mod Arcs
+pub mod Costs
+pub mod Tight
+pub mod Solution
+pub mod Fields
+pub mod Routes
+pub mod Ways
+pub mod Pendings
+pub mod Seen
+pub mod ParentFields

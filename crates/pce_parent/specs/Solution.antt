@@ -1,0 +1,15 @@
+-- What a solved job of a parent is.
+use Rattle.std.specs.Prelude.{Option}
+use Rattle.te_links.specs.Rows.{IsMetric}
+use Rattle.dom_base.specs.declared.border.ParentLink.{ParentLink}
+use Rattle.plant_model.specs.declared.upper.BorderJob.{BorderJob}
+use Rattle.plant_model.specs.BorderGraph.{Found}
+
+pub record BorderSolution : Type 0 where
+  pub job : BorderJob
+  pub answer : Option Found
+
+-- the metrics of a link are those of a topology's
+pub record IsWeighed (l : ParentLink) : Type 0 where
+  pub igp : IsMetric l.link.igp
+  pub te : IsMetric l.link.te

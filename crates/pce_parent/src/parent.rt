@@ -1,0 +1,143 @@
+//! The parent.
+ghost use Rattle.std.specs.Prelude.{◌≡◌, ◌<◌, All, AllPairs, slice_get, IfOk, IfSome};
+ghost use Rattle.std.specs.Map.{lookup};
+ghost use Rattle.std.specs.Prelude.{nat_eq};
+ghost use Rattle.dom_base.specs.declared.names.As.{As as Domain};
+ghost use Rattle.plant_model.specs.Parent.{upped, down_of, next_lost_of, ready_numbers, start_of};
+ghost use Rattle.pce_parent.specs.Seen.{SameButRoom, IsNew, with_parent, with_losing, job_at};
+ghost use Rattle.pce_parent.specs.Solution.{IsWeighed};
+
+use crate::asking::Asking;
+use crate::copies::{copy_links, copy_rows};
+use crate::pending::{leave_all, ready_at};
+use crate::ways::Ways;
+use dom_base::{Addr, As, List, NoMemory, ParentLink, Peer};
+use plant_model::{BorderJob, Lost, PARENT_PENDING_MAX};
+use request_table::Requests;
+use std::alloc::Global;
+use std::collections::VecDeque;
+use std::marker::Model;
+
+/// The parent: its settings, the requests that it has accepted, and the children to which it sends
+/// requests.
+#[derive(Drop)]
+pub struct Parent {
+    alloc: Global,
+    id: Addr,
+    links: List<ParentLink>,
+    children: List<As>,
+    requests: Requests<Asking>,
+    ways: Ways,
+    lost: VecDeque<Lost>,
+}
+
+impl Model for Parent {
+    ghost use Rattle.pce_parent.specs.Seen.{Seen};
+
+    ghost Value = { Seen };
+
+    ghost use Rattle.pce_parent.specs.ParentFields.{seen_of, HoldsParent};
+
+    ghost view = { seen_of };
+
+    ghost invariant = { HoldsParent };
+}
+
+// Who asks: a child.
+fn start_of(peer: Peer) -> As
+    ensures { result ≡ start_of peer }
+{
+    match peer {
+        Peer::Inner(number) => number,
+        Peer::Outside(_) => As(0),
+    }
+}
+
+impl Parent {
+    /// The parent of these children, with the links between their domains.
+    pub fn new(
+        alloc: Global,
+        id: Addr,
+        children: List<As>,
+        links: List<ParentLink>,
+    ) -> Result<Parent, NoMemory>
+        requires rising { AllPairs (λ (a b : Domain). a.0 < b.0) children }
+        requires weighed { All IsWeighed links }
+        ensures { IfOk result (IsNew id (record { children = children; links = links })) }
+    {
+        let ways = Ways::new(alloc, children.as_slice())?;
+        Ok(Parent {
+            alloc,
+            id,
+            links,
+            children,
+            requests: Requests::with_limit(alloc, PARENT_PENDING_MAX)?,
+            ways,
+            lost: VecDeque::new(alloc),
+        })
+    }
+
+    /// Its id; takes no memory.
+    pub fn id(&self) -> Addr
+        ensures { result ≡ self.now.id }
+    {
+        self.id
+    }
+
+    /// The number of the k-th request that can be solved; takes no memory.
+    pub fn ready(&self, k: usize) -> Option<u64>
+        ensures { result ≡ slice_get (ready_numbers self.now.losing.parent.pending.rows) k }
+    {
+        ready_at(&self.requests, k)
+    }
+
+    /// The job of a request that can be solved.
+    pub fn job(&self, number: u64) -> Result<Option<BorderJob>, NoMemory>
+        ensures job { IfOk result (λ job. job ≡ job_at self.now number) }
+        ensures weighed { IfOk result (λ job. IfSome job (λ job. All IsWeighed job.links)) }
+    {
+        let Some(item) = self.requests.get(number) else {
+            return Ok(None);
+        };
+        let Some(key) = self.requests.key(number) else {
+            unreachable!()
+        };
+        if !item.is_ready() {
+            return Ok(None);
+        }
+        let wanted = item.wanted();
+        Ok(Some(BorderJob {
+            number,
+            start: start_of(key.peer),
+            source: wanted.source,
+            target: wanted.target,
+            query: wanted.query.copy(self.alloc)?,
+            rows: copy_rows(self.alloc, item.rows())?,
+            links: copy_links(self.alloc, self.links.as_slice())?,
+        }))
+    }
+
+    /// A session comes up; takes no memory.
+    pub fn up(&mut self, peer: Peer)
+        ensures { SameButRoom (with_parent (upped peer self.old.losing.parent) self.old) self.new }
+    {
+        self.ways.set_up(peer, true);
+    }
+
+    /// A session goes down: the requests of the peer are dropped, and those that wait on it are lost; takes
+    /// no memory.
+    pub fn down(&mut self, peer: Peer)
+        ensures { SameButRoom (with_losing (down_of peer self.old.losing) self.old) self.new }
+    {
+        leave_all(&mut self.requests, &mut self.lost, peer);
+        self.ways.set_up(peer, false);
+    }
+
+    /// Hands out the next lost request, in the order of their numbers; takes no memory.
+    pub fn next_lost(&mut self) -> Option<Lost>
+        ensures lost { result ≡ (next_lost_of self.old.losing).0 }
+        ensures rest { SameButRoom (with_losing (next_lost_of self.old.losing).1 self.old) self.new }
+    {
+        self.lost.pop_front()
+    }
+}

@@ -1,0 +1,91 @@
+//! Relaxation of costs over edges until none falls.
+ghost use Rattle.std.specs.Prelude.{◌≡◌, ◌≤◌, ◌+◌, ◌↔◌, All, IsTrue, SomeIff, MatchBool};
+ghost use Rattle.dom_base.specs.Limits.{cost_max};
+ghost use Rattle.pce_parent.specs.Costs.{IsBelow, IsStep, IsRelaxed, AreReached, Falls};
+
+use crate::arcs::Arc;
+use crate::costs::cost_of;
+use crate::spot::Spot;
+use dom_base::Cost;
+use plant_model::BorderJob;
+
+fn is_below(found: Cost, old: Option<Cost>) -> bool
+    ensures { IsTrue result ↔ IsBelow found old }
+{
+    match old {
+        None => true,
+        Some(cost) => found.get() < cost.get(),
+    }
+}
+
+// The sum of an edge's cost and what follows, if it is within the cap.
+fn sum_within(cap: Cost, cost: u32, rest: Cost) -> Option<Cost>
+    requires { cost ≤ cost_max }
+    ensures { SomeIff result (cost + rest ≤ cap) (cost + rest) }
+{
+    let sum = cost + rest.get();
+    if sum > cap.get() {
+        return None;
+    }
+    Cost::of(sum)
+}
+
+// Lowers the cost of the place that an edge leads from, where the way by the edge is better.
+fn relax(job: &BorderJob, _spots: &[Spot], arc: &Arc, costs: &mut [Option<Cost>]) -> bool
+    requires step { IsStep job.now _spots.now arc.now }
+    requires reached { AreReached job.now _spots.now costs.old }
+    ensures reached { AreReached job.now _spots.now costs.new }
+    ensures passes { MatchBool result (Falls costs.old costs.new) ((costs.new ≡ costs.old) × IsRelaxed job.now.query.cap costs.old arc.now) }
+{
+    let Some(rest) = cost_of(costs, arc.to) else {
+        return false;
+    };
+    let Some(found) = sum_within(job.query.cap, arc.cost, rest) else {
+        return false;
+    };
+    if !is_below(found, cost_of(costs, arc.from)) {
+        return false;
+    }
+    costs[arc.from] = Some(found);
+    true
+}
+
+// Goes over all edges once, and tells whether a cost changed.
+fn relax_all(job: &BorderJob, spots: &[Spot], arcs: &[Arc], costs: &mut [Option<Cost>]) -> bool
+    requires steps { All (IsStep job.now spots.now) arcs.now }
+    requires reached { AreReached job.now spots.now costs.old }
+    ensures reached { AreReached job.now spots.now costs.new }
+    ensures passes { MatchBool result (Falls costs.old costs.new) ((costs.new ≡ costs.old) × All (IsRelaxed job.now.query.cap costs.new) arcs.now) }
+{
+    let mut changed = false;
+    for arc in arcs {
+        if relax(job, spots, arc, costs) {
+            changed = true;
+        }
+    }
+    changed
+}
+
+/// Relaxes until nothing changes.
+pub fn settle(
+    job: &BorderJob,
+    spots: &[Spot],
+    rows: &[Arc],
+    links: &[Arc],
+    costs: &mut [Option<Cost>],
+)
+    requires row_steps { All (IsStep job.now spots.now) rows.now }
+    requires link_steps { All (IsStep job.now spots.now) links.now }
+    requires reached { AreReached job.now spots.now costs.old }
+    ensures reached { AreReached job.now spots.now costs.new }
+    ensures rows { All (IsRelaxed job.now.query.cap costs.new) rows.now }
+    ensures links { All (IsRelaxed job.now.query.cap costs.new) links.now }
+{
+    loop {
+        let by_rows = relax_all(job, spots, rows, costs);
+        let by_links = relax_all(job, spots, links, costs);
+        if !by_rows && !by_links {
+            return;
+        }
+    }
+}

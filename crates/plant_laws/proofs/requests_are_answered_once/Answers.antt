@@ -1,0 +1,5 @@
+use Rattle.plant_laws.proofs.Answering as Answering
+use Rattle.plant_laws.proofs.requests_are_answered_once.Goals as goal
+
+pub returns : goal.returns
+returns c = Answering.requests_are_answered_once

@@ -1,0 +1,133 @@
+-- What an answer is about: the request that is open, and the chain that it took; or the parent, which asked its children.
+use Rattle.std.specs.Prelude.{◌≡◌, ◌≤◌, ℕ, Bool, true, false, List, [], ◌∷◌, Contains, Option, Some, bit_and}
+use Rattle.dom_base.specs.declared.names.As.{As}
+use Rattle.dom_base.specs.declared.addr.Addr.{Addr}
+use Rattle.dom_base.specs.declared.link.Link.{Link}
+use Rattle.dom_base.specs.declared.names.Peer.{Peer}
+use Rattle.dom_base.specs.declared.names.Peer.TheVariants.{Inner}
+use Rattle.dom_base.specs.declared.query.Query.{Query}
+use Rattle.te_links.specs.Rows.{Rows}
+use Rattle.walk_laws.specs.Crossing.{IsLeastCrossing, HasNoCrossing, crossing_cost}
+use Rattle.walk_laws.specs.Crossing as crossing
+use Rattle.pcep_messages.specs.declared.message.Reply.{Reply}
+use Rattle.pcep_messages.specs.declared.message.Path.{Path}
+use Rattle.pcep_messages.specs.declared.message.Answer.TheVariants.{Paths, NoPath}
+use Rattle.pcep_messages.specs.declared.message.Message.TheVariants as messages
+use Rattle.pcep_messages.specs.declared.message.Request.{Request}
+use Rattle.pcep_messages.specs.declared.message.Wanted.{Wanted}
+use Rattle.pcep_messages.specs.declared.message.Wish.TheVariants as wishes
+use Rattle.plant_text.specs.declared.settings.NetworkParts.{NetworkParts}
+use Rattle.plant_model.specs.declared.output.Output.{Output}
+use Rattle.plant_model.specs.declared.upper.ChildRow.{ChildRow}
+use Rattle.plant_model.specs.declared.upper.BorderJob.{BorderJob}
+use Rattle.plant_text.specs.Names.{parent_as}
+use Rattle.plant_model.specs.Wire.{Codec}
+use Rattle.plant_model.specs.Writing.{code, request_message}
+use Rattle.plant_model.specs.Branches.{branches_in}
+use Rattle.plant_model.specs.Taking.{sequence_or, goes_up}
+use Rattle.plant_model.specs.BorderGraph.{SolvesBorder, Found}
+use Rattle.plant_model.specs.Parent.{rows_at, Errand, errands}
+use Rattle.plant_text.specs.Settings.{class_of}
+use Rattle.plant_model.specs.Settings.{place, family}
+use Rattle.plant_model.specs.State.{Takes}
+use Rattle.plant_model.specs.Plant.{PlantDeed}
+use Rattle.plant_laws.specs.Transcript.{Transcript, Within, opened, Delivered, Handed, SentIn, Leg, Chain, numbers, outputs_at, asks}
+use Rattle.plant_laws.specs.Shown.{Shows}
+use Rattle.dom_base.specs.declared.query.Metric.{Metric}
+use Rattle.pcep_messages.specs.declared.message.Answer.{Answer}
+use Rattle.vspt_tree.specs.declared.branch.Branch.{Branch}
+
+-- no id comes round
+abbrev pub IsShort : Transcript → Type 0
+IsShort now = (a b : As) → asks a b now ≤ 4294967295
+
+-- without the flag of a key's expansion
+abbrev pub IsPathAnswer : Reply → Type 0
+IsPathAnswer r = bit_and r.flags 256 ≡ 0
+
+-- In this moment of a run d sends a peer this reply.
+pub record Replies (now m older : Transcript) (d : As) (p : Peer) (r : Reply) : Type 0 where
+  pub deed : PlantDeed
+  pub is : m ≡ deed ∷ older
+  pub within : Within m now
+  pub sent : Contains (outputs_at d deed) (record { to = p; message = messages.PcRep (r ∷ []) })
+  pub answer : IsPathAnswer r
+
+-- The reply of d to the peer p, sent in the moment now, is about this request, which took this chain.
+pub record IsAbout (c : Codec) (n : NetworkParts) (older now : Transcript) (d : As) (p : Peer) (r : Request) (w : Wanted) (chain : List Leg) : Type 0 where
+  pub at : Transcript
+  pub is_open : opened c d p r.id older ≡ Some at
+  pub delivered : Delivered c at d p r
+  pub is_path : r.wish ≡ wishes.Path w
+  pub stays : goes_up (place n d).parent (class_of n p) w.sequence ≡ false
+  pub rest : List Leg
+  pub begins : chain ≡ record { own = d; at = at; solved = now } ∷ rest
+  pub chained : Chain now chain
+  pub along : numbers chain ≡ sequence_or d w.sequence
+
+-- the branches that a reply tells
+abbrev pub told_in : Codec → Metric → Answer → List Branch
+told_in c m (Paths paths) = branches_in c m paths
+told_in c m (NoPath nature vector) = []
+
+-- A row that the parent has from a child: of a reply to one of the requests that it sent in that moment.
+pub record IsGathered (c : Codec) (now asking : Transcript) (w : Wanted) (row : ChildRow) : Type 0 where
+  pub reply : Reply
+  pub sent : SentIn asking parent_as (Inner row.at) (request_message reply.id w row.target (row.at ∷ []))
+  pub os : List Output
+  pub older : Transcript
+  pub within : Within (Takes parent_as (Inner row.at) (messages.PcRep (reply ∷ [])) os ∷ older) now
+  pub is_row : Contains (rows_at row.at row.target (told_in c w.query.metric reply.answer)) row
+
+-- A child was asked in that moment for one of its ends of interest, it replied, and all rows of its reply are among these.
+pub record HasReplied (c : Codec) (now asking : Transcript) (w : Wanted) (rows : List ChildRow) (end : Errand) : Type 0 where
+  pub reply : Reply
+  pub sent : SentIn asking parent_as (Inner end.child) (request_message reply.id w end.target (end.child ∷ []))
+  pub os : List Output
+  pub older : Transcript
+  pub within : Within (Takes parent_as (Inner end.child) (messages.PcRep (reply ∷ [])) os ∷ older) now
+  pub all : (row : ChildRow) → Contains (rows_at end.child end.target (told_in c w.query.metric reply.answer)) row → Contains rows row
+
+-- The reply of d to its client is the parent's: this is what it found over its border graph, whose rows are those of its children's
+-- replies, one reply for each end of interest of each child.
+pub record IsViaParent (c : Codec) (n : NetworkParts) (older now : Transcript) (d : As) (p : Peer) (x : ℕ) (found : Option Found) : Type 0 where
+  pub at : Transcript
+  pub is_open : opened c d p x older ≡ Some at
+  pub request : Request
+  pub wanted : Wanted
+  pub delivered : Delivered c at d p request
+  pub is_path : request.wish ≡ wishes.Path wanted
+  pub goes : goes_up (place n d).parent (class_of n p) wanted.sequence ≡ true
+  pub asking : Transcript
+  pub handed : Handed d parent_as at asking
+  pub upper : Request
+  pub asked : Wanted
+  pub taken : Delivered c asking parent_as (Inner d) upper
+  pub is_asked : upper.wish ≡ wishes.Path asked
+  pub job : BorderJob
+  pub start : job.start ≡ d
+  pub source : job.source ≡ asked.source
+  pub target : job.target ≡ asked.target
+  pub query : job.query ≡ asked.query
+  pub links : job.links ≡ n.parent_links
+  pub each : (row : ChildRow) → Contains job.rows row → IsGathered c now asking asked row
+  pub every : (end : Errand) → Contains (errands n.parent_links asked.target (family n).children) end → HasReplied c now asking asked job.rows end
+  pub solved : SolvesBorder job found
+
+-- The first domain and the further ones of a chain, with a walk through them.
+abbrev pub IsLeastAlong : Query → List Rows → Addr → Addr → List crossing.Leg → List Link → Type 0
+IsLeastAlong q [] s t legs last = ⊥
+IsLeastAlong q (g ∷ rest) s t legs last = IsLeastCrossing q g rest s t legs last
+
+abbrev pub HasNoneAlong : Query → List Rows → Addr → Addr → Type 0
+HasNoneAlong q [] s t = ⊥
+HasNoneAlong q (g ∷ rest) s t = HasNoCrossing q g rest s t
+
+-- The path shows a walk from a node that is least through these domains, the first part open or closed, and its metric is the
+-- walk's cost.
+pub record IsLeastPath (c : Codec) (n : NetworkParts) (open' : Bool) (domains : List Rows) (chain : List Leg) (w : Wanted) (from : Addr) (path : Path) : Type 0 where
+  pub legs : List crossing.Leg
+  pub last : List Link
+  pub least : IsLeastAlong w.query domains from w.target legs last
+  pub metric : path.metric ≡ Some (code w.query.metric, c.word (crossing_cost w.query legs last))
+  pub shown : Shows n open' w.query w.target chain from path.hops legs last

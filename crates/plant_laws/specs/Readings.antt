@@ -1,0 +1,32 @@
+-- What is taken is what was meant, as long as all that was sent is in written form: from an inner queue the message that stood
+-- there first, and requests one at a time.
+use Rattle.std.specs.Prelude.{◌≡◌, List, ◌∷◌, length}
+use Rattle.dom_base.specs.declared.names.As.{As}
+use Rattle.dom_base.specs.declared.names.Peer.{Peer}
+use Rattle.dom_base.specs.declared.names.Peer.TheVariants.{Inner}
+use Rattle.pcep_messages.specs.declared.message.Asked.{Asked}
+use Rattle.pcep_messages.specs.declared.message.Message.{Message}
+use Rattle.pcep_messages.specs.declared.message.Message.TheVariants as messages
+use Rattle.pcep_messages.specs.Spelling.{IsWritten}
+use Rattle.plant_text.specs.declared.settings.NetworkParts.{NetworkParts}
+use Rattle.plant_model.specs.declared.output.Output.{Output}
+use Rattle.plant_model.specs.Wire.{Codec}
+use Rattle.plant_model.specs.Laws.{IsCodec}
+use Rattle.plant_model.specs.State.{Takes, Pops}
+use Rattle.plant_model.specs.Plant.{Plant, Entry, Run, deeds_of}
+use Rattle.plant_laws.specs.Transcript.{Transcript, Within, Standing, standing}
+use Rattle.plant_laws.specs.Sending.{AllSent}
+
+pub record IsFromQueue (a b : As) (m : Message) (older : Transcript) : Type 0 where
+  pub before : Transcript
+  pub is_popped : older ≡ Pops a b ∷ before
+  pub put : Transcript
+  pub rest : List Standing
+  pub stood : standing a b before ≡ record { message = m; put = put } ∷ rest
+
+pub record AreReadings (c : Codec) (n : NetworkParts) (es : List Entry) : Type 0 where
+  pub queues : (a b : As) (m : Message) (os : List Output) (older : Transcript) → Within (Takes b (Inner a) m os ∷ older) (deeds_of c n es) → IsFromQueue a b m older
+  pub single : (at : As) (p : Peer) (asks : List Asked) (os : List Output) (older : Transcript) → Within (Takes at p (messages.PcReq asks) os ∷ older) (deeds_of c n es) → length asks ≡ 1
+
+abbrev pub MessagesAreRead : Type 0
+MessagesAreRead = (c : Codec) → IsCodec c → (n : NetworkParts) (es : List Entry) (s : Plant) → Run c n es s → AllSent IsWritten (deeds_of c n es) → AreReadings c n es

@@ -1,0 +1,64 @@
+-- What elements tell their neighbours and the parent: for each entry the least cost of the rest of the chain, and nothing where
+-- there is no walk.
+use Rattle.std.specs.Prelude.{◌≡◌, ◌≢◌, ◌⊎◌, ℕ, true, false, List, [], ◌∷◌, Contains}
+use Rattle.dom_base.specs.declared.names.As.{As}
+use Rattle.dom_base.specs.declared.addr.Addr.{Addr}
+use Rattle.dom_base.specs.declared.names.Peer.{Peer}
+use Rattle.pcep_messages.specs.declared.message.Reply.{Reply}
+use Rattle.pcep_messages.specs.declared.message.Path.{Path}
+use Rattle.pcep_messages.specs.declared.message.Answer.TheVariants.{Paths, NoPath}
+use Rattle.pcep_messages.specs.declared.message.Request.{Request}
+use Rattle.pcep_messages.specs.declared.message.Wanted.{Wanted}
+use Rattle.disclosure.specs.declared.class.Class.{Class}
+use Rattle.plant_text.specs.declared.settings.NetworkParts.{NetworkParts}
+use Rattle.plant_model.specs.declared.output.Output.{Output}
+use Rattle.plant_text.specs.Names.{parent_as}
+use Rattle.plant_model.specs.Wire.{Codec}
+use Rattle.plant_model.specs.Jobs.{entries_of}
+use Rattle.plant_text.specs.Settings.{class_of}
+use Rattle.plant_model.specs.State.{Solves}
+use Rattle.path_keys.specs.declared.issued.Issued.{Issued}
+use Rattle.plant_model.specs.Plant.{Plant, Entry, Run, deeds_of, Segment}
+use Rattle.plant_model.specs.Blind.{is_closed}
+use Rattle.plant_model.specs.Laws.{IsCodec, IsNetwork}
+use Rattle.plant_laws.specs.Transcript.{Transcript, Within, Leg, domains, pinned}
+use Rattle.plant_laws.specs.About.{IsShort, Replies, IsAbout, HasNoneAlong, IsLeastPath}
+use Rattle.plant_laws.specs.Sending.{AllSent}
+use Rattle.pcep_messages.specs.Spelling.{IsWritten}
+
+-- the nodes that an asker of this class is answered for, in the first domain of a chain as it stood
+abbrev pub entries_along : Class → Wanted → List Leg → List Addr
+entries_along class w [] = []
+entries_along class w (leg ∷ legs) = entries_of class w.source (pinned leg.own leg.at)
+
+-- each path is least from one of the entries, and an entry without a path has no walk
+pub record AreRightful (c : Codec) (n : NetworkParts) (class : Class) (chain : List Leg) (w : Wanted) (paths : List Path) : Type 0 where
+  pub each : (path : Path) → Contains paths path → (e : Addr) × Contains (entries_along class w chain) e × IsLeastPath c n false (domains chain) chain w e path
+  pub every : (e : Addr) → Contains (entries_along class w chain) e →
+      HasNoneAlong w.query (domains chain) e w.target ⊎ ((path : Path) × Contains paths path × IsLeastPath c n false (domains chain) chain w e path)
+
+-- what an element told a closed peer about a request
+pub record IsRightful (c : Codec) (n : NetworkParts) (older now : Transcript) (d : As) (p : Peer) (r : Reply) (paths : List Path) : Type 0 where
+  pub request : Request
+  pub wanted : Wanted
+  pub chain : List Leg
+  pub same : request.id ≡ r.id
+  pub about : IsAbout c n older now d p request wanted chain
+  pub right : AreRightful c n (class_of n p) chain wanted paths
+
+-- Each reply of paths that an element sends a closed peer is rightful.
+abbrev pub LeastReplies : Type 0
+LeastReplies = (c : Codec) → IsCodec c → (n : NetworkParts) → IsNetwork n → (es : List Entry) (s : Plant) → Run c n es s → AllSent IsWritten (deeds_of c n es) → IsShort (deeds_of c n es) →
+    (m older : Transcript) (d : As) (p : Peer) (r : Reply) → d ≢ parent_as → is_closed n p ≡ true → Replies (deeds_of c n es) m older d p r →
+    (paths : List Path) → r.answer ≡ Paths paths → IsRightful c n older m d p r paths
+
+-- NO-PATH of nature 0 to a closed peer says that no entry has a walk.
+abbrev pub NoneReplies : Type 0
+NoneReplies = (c : Codec) → IsCodec c → (n : NetworkParts) → IsNetwork n → (es : List Entry) (s : Plant) → Run c n es s → AllSent IsWritten (deeds_of c n es) → IsShort (deeds_of c n es) →
+    (m older : Transcript) (d : As) (p : Peer) (r : Reply) → d ≢ parent_as → is_closed n p ≡ true → Replies (deeds_of c n es) m older d p r →
+    (vector : ℕ) → r.answer ≡ NoPath 0 vector → IsRightful c n older m d p r []
+
+-- Each solve sends one message.
+abbrev pub SolvesSendOne : Type 0
+SolvesSendOne = (c : Codec) (n : NetworkParts) (es : List Entry) (s : Plant) → Run c n es s →
+    (d : As) (k : ℕ) (os : List Output) (keys : List (Issued Segment)) (older : Transcript) → Within (Solves d k os keys ∷ older) (deeds_of c n es) → (o : Output) × (os ≡ o ∷ [])

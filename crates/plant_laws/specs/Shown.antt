@@ -1,0 +1,68 @@
+-- The walk that an answer shows (RFC 5520: a key stands for a segment).
+use Rattle.std.specs.Prelude.{◌≡◌, ℕ, Bool, true, false, List, [], ◌∷◌, ◌++◌, map, Contains, Some, None}
+use Rattle.dom_base.specs.declared.addr.Addr.{Addr}
+use Rattle.dom_base.specs.declared.link.Link.{Link}
+use Rattle.dom_base.specs.declared.query.Query.{Query}
+use Rattle.dom_base.specs.declared.query.Seed.{Seed}
+use Rattle.te_links.specs.Rows.{Rows}
+use Rattle.walk_laws.specs.Labels.{IsLabel, IsSegment}
+use Rattle.walk_laws.specs.Crossing.{query_in}
+use Rattle.walk_laws.specs.Crossing as crossing
+use Rattle.pcep_subobjects.specs.declared.hop.Hop.{Hop}
+use Rattle.plant_text.specs.declared.settings.NetworkParts.{NetworkParts}
+use Rattle.border_costs.specs.declared.job.Target.{Target}
+use Rattle.border_costs.specs.declared.job.Target.TheVariants.{Node, Next}
+use Rattle.border_costs.specs.declared.job.Down.{Down}
+use Rattle.path_keys.specs.declared.issued.Issued.{Issued}
+use Rattle.disclosure.specs.Shown.{open_of, closed_of}
+use Rattle.border_costs.specs.Asks.{AreSeedsTo, beyond}
+use Rattle.plant_model.specs.Settings.{place}
+use Rattle.plant_model.specs.Plant.{Segment}
+use Rattle.plant_laws.specs.Transcript.{Leg, pinned, keys_at, domains}
+use Rattle.pcep_subobjects.specs.Hops.{strict_hop}
+use Rattle.walk_laws.specs.Composition.{AreBeyond}
+
+-- the part of one domain: written out, or the entry and a key that stands for it
+abbrev pub segment_of : Addr → List Link → Segment
+segment_of entry links = entry ∷ map (λ l. l.far) links
+
+abbrev pub IsPart : Bool → List (Issued Segment) → Addr → Addr → List Link → List Hop → Type 0
+IsPart true keys id entry links part = part ≡ open_of (segment_of entry links)
+IsPart false keys id entry links part =
+    (k : Issued Segment) × Contains keys k × (k.segment ≡ segment_of entry links) × (part ≡ closed_of entry k.number id None)
+
+-- the chosen segment towards an exit, over rows of what lies beyond
+pub record IsChosenTo (g : Rows) (q : Query) (target : Target) (down : List Down) (entry exit : Addr) (links : List Link) : Type 0 where
+  pub seeds : List Seed
+  pub are_seeds : AreSeedsTo g q down target seeds
+  pub cost : ℕ
+  pub label : IsLabel g q seeds entry (Some (record { cost = cost; exit = exit }))
+  pub segment : IsSegment g q seeds entry (record { cost = cost; exit = exit }) links
+
+-- how a branch ends in the last domain
+abbrev pub ending : Bool → Addr → List Hop
+ending true t = []
+ending false t = strict_hop t ∷ []
+
+-- The hops show this walk along the chain, the first part open or closed, and the others closed. The part of each domain is the
+-- chosen segment over the least costs of the rest.
+abbrev pub Shows : NetworkParts → Bool → Query → Addr → List Leg → Addr → List Hop → List crossing.Leg → List Link → Type 0
+Shows n open' q t [] e hs legs last = ⊥
+Shows n open' q t (one ∷ []) e hs [] last = record {
+  part : List Hop;
+  is_part : IsPart open' (keys_at one.solved) (place n one.own).id e last part;
+  chosen : IsChosenTo (pinned one.own one.at) (query_in q one.own) (Node t) [] e t last;
+  is_hops : hs ≡ part ++ ending open' t;
+}
+Shows n open' q t (one ∷ []) e hs (l ∷ ls) last = ⊥
+Shows n open' q t (one ∷ next ∷ rest) e hs [] last = ⊥
+Shows n open' q t (one ∷ next ∷ rest) e hs (l ∷ ls) last = record {
+  part : List Hop;
+  is_part : IsPart open' (keys_at one.solved) (place n one.own).id e l.links part;
+  rows : List Down;
+  right : AreBeyond q one.own (pinned next.own next.at) (domains rest) t (beyond rows);
+  chosen : IsChosenTo (pinned one.own one.at) (query_in q one.own) (Next next.own) rows e l.out.link.far l.links;
+  below : List Hop;
+  shown : Shows n false q t (next ∷ rest) l.out.link.to below ls last;
+  is_hops : hs ≡ part ++ strict_hop l.out.link.far ∷ below;
+}

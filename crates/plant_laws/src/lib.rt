@@ -1,0 +1,210 @@
+//! The laws of a network of path computation elements, over all its runs. They are the contracts of calls that do nothing; each
+//! statement stands in one file of specs/.
+#![tactic(auto)]
+
+ghost use Rattle.plant_laws.specs.Answered.{RequestsAreAnsweredOnce};
+ghost use Rattle.plant_laws.specs.Certified.{SolvesCertify};
+ghost use Rattle.plant_laws.specs.Chains.{OneChain, QuietIsAnswered};
+ghost use Rattle.plant_laws.specs.Counted.{ElementIdsDiffer, IdsCount};
+ghost use Rattle.plant_laws.specs.Headline.{LeastAnswers, NoneAnswers};
+ghost use Rattle.plant_laws.specs.Issuing.{ExpandedAreIssued, KeysAreIssued, ToldKeysLast};
+ghost use Rattle.plant_laws.specs.Keys.{ExpandsRightly, KeysDiffer};
+ghost use Rattle.plant_laws.specs.Matched.{RepliesAnswer, RepliesMatch};
+ghost use Rattle.plant_laws.specs.Reading.{OutsideIsRead};
+ghost use Rattle.plant_laws.specs.Readings.{MessagesAreRead};
+ghost use Rattle.plant_laws.specs.Replies.{LeastReplies, NoneReplies, SolvesSendOne};
+ghost use Rattle.plant_laws.specs.Solves.{SolvesTell};
+ghost use Rattle.plant_laws.specs.Standing.{PinsAreCurrent, QueuesStand};
+ghost use Rattle.plant_laws.specs.Tables.{OpenIsPending};
+ghost use Rattle.plant_laws.specs.Topologies.{PinsAreDomains};
+ghost use Rattle.plant_laws.specs.Twins.{TwinWorlds};
+ghost use Rattle.plant_laws.specs.UnderWay.{WaitsAreUnderWay};
+ghost use Rattle.plant_laws.specs.Waiting.{WaitsApart, WaitsAreSent};
+ghost use Rattle.plant_laws.specs.Worlds.{BorderJoins, SaysAsBlind, SaysOneThing, TwoWorlds};
+
+// ---- least costs
+
+/// Where all that a run sent is in written form: each path that a client is answered is of least cost among
+/// all walks through the asked domains in order, each domain as it stood when its element took the request;
+/// and NO-PATH of nature 0 says that there is none. For a request that went to the parent, the same over its
+/// border graph.
+pub fn answers_are_least()
+    ensures paths { LeastAnswers }
+    ensures none { NoneAnswers }
+{}
+
+/// Where all that a run sent is in written form: what an element replies to its neighbours and the parent is,
+/// for each entry, of least cost among all walks through the rest of the domains, and an entry without a
+/// path has none.
+pub fn replies_are_least()
+    ensures paths { LeastReplies }
+    ensures none { NoneReplies }
+{}
+
+// ---- solves
+
+/// Each solve sends one message.
+pub fn solves_send_one()
+    ensures { SolvesSendOne }
+{}
+
+/// What a solve sends, and to whom, by cases: a branch for each entry of the join, that there is none, or
+/// that there are too few keys; and the same at the parent.
+pub fn solves_tell()
+    ensures { SolvesTell }
+{}
+
+/// Where all that a run sent is in written form: the certificate of a solve meets the conditions over the
+/// topology that the element had when it took the request, from the seeds that the taken reply gives.
+pub fn solves_certify()
+    ensures { SolvesCertify }
+{}
+
+// ---- requests
+
+/// Where all that a run sent is in written form: in a quiet state no request is pending.
+pub fn quiet_is_answered()
+    ensures { QuietIsAnswered }
+{}
+
+/// Where all that a run sent is in written form: each request that waits is in the next's queue, or pending
+/// there with the rest of its sequence, or its answer is in the queue back.
+pub fn waits_are_under_way()
+    ensures { WaitsAreUnderWay }
+{}
+
+/// Where all that a run sent is in written form: each path request that is accepted is pending, or is
+/// answered exactly once, or was dropped as its peer cancelled it or went down.
+pub fn requests_are_answered_once()
+    ensures { RequestsAreAnsweredOnce }
+{}
+
+/// Where all that a run sent is in written form: a request has one chain.
+pub fn one_chain()
+    ensures { OneChain }
+{}
+
+// ---- two worlds
+
+/// The best rows of an ask are the join of its border table with the rows that the next domain told, so a
+/// border table tells all that a closed peer is told.
+pub fn border_joins()
+    ensures { BorderJoins }
+{}
+
+/// What closed peers hear in a run is what the blind plant says on its disclosed trace, byte for byte and in
+/// order.
+pub fn says_as_blind()
+    ensures { SaysAsBlind }
+{}
+
+/// The network without topologies says one thing on a trace whose rows stand in order.
+pub fn says_one_thing()
+    ensures { SaysOneThing }
+{}
+
+/// Two runs with one disclosed trace give closed peers the same bytes.
+pub fn two_worlds()
+    ensures { TwoWorlds }
+{}
+
+/// Two runs that differ in the topologies of one element alone, whose border tables for closed peers are the
+/// same, give closed peers the same bytes.
+pub fn twin_worlds()
+    ensures { TwinWorlds }
+{}
+
+// ---- keys
+
+/// Where all that a run sent is in written form: a request to expand a key gets the open segment where the
+/// peer may see it, and else one and the same refusal.
+pub fn expands_rightly()
+    ensures { ExpandsRightly }
+{}
+
+/// The keys of an element have different numbers, which fit their field.
+pub fn keys_differ()
+    ensures { KeysDiffer }
+{}
+
+/// The solve that issued a key chose the segment that it stands for, and told the key for it.
+pub fn keys_are_issued()
+    ensures { KeysAreIssued }
+{}
+
+/// A key that a solve told is a key of the element for its life, and stands for the segment that the solve
+/// chose.
+pub fn told_keys_last()
+    ensures { ToldKeysLast }
+{}
+
+/// Each key that an element has when it takes a message was issued before, so an expansion shows the segment
+/// that the solve chose which issued the key.
+pub fn expanded_are_issued()
+    ensures { ExpandedAreIssued }
+{}
+
+// ---- what stands by the transcript
+
+/// In every state of a run the inner queues hold the texts of what stands in them by the transcript.
+pub fn queues_stand()
+    ensures { QueuesStand }
+{}
+
+/// In every state of a run the current pin of an element is of the topology that was last loaded.
+pub fn pins_are_current()
+    ensures { PinsAreCurrent }
+{}
+
+/// In every state of a run each current and each pinned topology obeys the rules of a topology, and is of its
+/// element's own domain.
+pub fn pins_are_domains()
+    ensures { PinsAreDomains }
+{}
+
+/// In every run each message that an outside peer's element takes was read from bytes, and came from a peer
+/// of the settings.
+pub fn outside_is_read()
+    ensures { OutsideIsRead }
+{}
+
+/// Where all that a run sent is in written form, each message that is taken from an inner queue is the one
+/// that stood there first, and requests are taken one at a time.
+pub fn messages_are_read()
+    ensures { MessagesAreRead }
+{}
+
+/// Where all that a run sent is in written form, the requests that are pending are those that the transcript
+/// shows open, each as it was delivered, with the topology that was current then.
+pub fn open_is_pending()
+    ensures { OpenIsPending }
+{}
+
+/// Where all that a run sent is in written form, a request that waits at an element was sent on in the moment
+/// that delivered it, under the id for which it waits.
+pub fn waits_are_sent()
+    ensures { WaitsAreSent }
+{}
+
+/// Where all that a run sent is in written form, no two requests of an element wait for the answer to one id
+/// of a peer.
+pub fn waits_apart()
+    ensures { WaitsApart }
+{}
+
+/// Where all that a run sent is in written form and no id came round, the last id of an element towards a
+/// neighbour is the number of the requests that it sent there, what waits has no greater id, and no id is
+/// given twice.
+pub fn ids_count()
+    ensures counts { IdsCount }
+    ensures differ { ElementIdsDiffer }
+{}
+
+/// Where all that a run sent is in written form and no id came round, a reply that stands in the queue to an
+/// element, under the id for which a row of it waits, answers the very request that the element sent in the
+/// moment that opened the row: the reply was put by the deed that ended that request, or that took it and
+/// answered at once. The same of each reply that an element takes.
+pub fn replies_match()
+    ensures standing { RepliesMatch }
+    ensures taken { RepliesAnswer }
+{}

@@ -1,0 +1,311 @@
+-- What settings are like that obey the rules.
+use Rattle.std.proofs.Common.{◌≡◌, ◌≢◌, ℕ, ◌+◌, ◌==◌, ◌&&◌, ◌||◌, ◌<◌, ◌≤◌, Bool, true, false, not, nat_le, nat_lt, is_some, codes, length, All, AllPairs, List, [], ◌∷◌, ◌++◌, Option, Some, None, refl, sym, ◌∙◌, ap, subst, append_assoc, arith, inl, inr}
+use Rattle.std.proofs.lemmas.Bool.{cases_Bool, and_parts, leb-true, ltb-true, eqb-false}
+use Rattle.std.proofs.lemmas.Bool.Decides.{not_from_Decides}
+use Rattle.std.proofs.lemmas.Slice.Eq.{bytes_eq-Decides}
+use Rattle.std.proofs.lemmas.List.Elements.{All-nil, All-cons}
+use Rattle.std.proofs.lemmas.List.Kept.{AllPairs-cons}
+use Rattle.std.specs.List.{list_any}
+use Rattle.std.specs.Str.{bytes_eq}
+use Rattle.dom_base.specs.declared.names.As.{As}
+use Rattle.dom_base.specs.declared.addr.Addr.{Addr}
+use Rattle.dom_base.specs.declared.border.ParentLink.{ParentLink}
+use Rattle.dom_base.specs.AddrOrder.{rank}
+use Rattle.plant_text.specs.declared.fault.Breach.{Breach}
+use Rattle.plant_text.specs.declared.fault.Breach.TheVariants.{TooMany, Shape, Duplicate, Unknown, NoParent}
+use Rattle.plant_text.specs.declared.fault.NetFault.TheVariants as fault
+use Rattle.plant_text.specs.declared.settings.NetworkParts.{NetworkParts}
+use Rattle.plant_text.specs.declared.settings.ElementRow.{ElementRow}
+use Rattle.plant_text.specs.declared.settings.PeerRow.{PeerRow}
+use Rattle.plant_text.specs.declared.settings.DenyRow.{DenyRow}
+use Rattle.plant_text.specs.declared.sheet.Sheet.{Sheet}
+use Rattle.plant_text.specs.Names.{same_as, same_link, parent_as}
+use Rattle.plant_text.specs.Settings.{is_element}
+use Rattle.plant_text.specs.Rules.{Rules, at_row, rows_from, table, rules_of, sheet_of, is_name, is_class, is_link, element_rules, link_rules, peer_rules, deny_rules, parent_link_rules, is_between, is_domain}
+use Rattle.plant_text.specs.Faults.{AreObeyed, first_of}
+use Rattle.plant_text.specs.Laws.{AreElements, AreLinks, ArePeers, AreDenials, AreParentLinks, AreSettings, RulesAreWorth}
+use Rattle.plant_text.proofs.RuleLaws.{none_of, none_front, none_back, few_rows}
+use Rattle.plant_text.proofs.SheetLaws.{AreClear, all_clear, left_false, right_false}
+
+-- ---- rules of rows
+
+-- the rules of a row that breaks none
+row_clear : (table : List ℕ) (i : ℕ) (rs : Rules Breach) → first_of (at_row table i rs) ≡ None → first_of rs ≡ None
+row_clear table i [] none = refl
+row_clear table i (r ∷ rs) none =
+    elim (cases_Bool r.0) [
+      | inl t ↦ absurd (let no : is_some (first_of (at_row table i (r ∷ rs))) ≡ false = ap is_some none in let yes : true ≡ false = rw t at no in cc)
+      | inr f ↦ rw f (row_clear table i rs (rw f at none))
+    ]
+
+-- a test in front that does not hold, and those behind it
+tail_clear : {X : Type 0} (b : Bool) (x : X) (rs : Rules X) → first_of ((b, x) ∷ rs) ≡ None → first_of rs ≡ None
+tail_clear true x rs none = absurd (let no : Some x ≡ None = none in cc)
+tail_clear false x rs none = none
+
+head_false : {X : Type 0} (b : Bool) (x : X) (rs : Rules X) → first_of ((b, x) ∷ rs) ≡ None → b ≡ false
+head_false true x rs none = absurd (let no : Some x ≡ None = none in cc)
+head_false false x rs none = refl
+
+-- a row of rows that break none, and those behind it
+head_clear : {R : Type 0} (name : List ℕ) (limit : ℕ) (asked : List R → R → Rules Breach) (i : ℕ) (before : List R) (row : R) (rows : List R) → first_of (rows_from name limit asked i before (row ∷ rows)) ≡ None → first_of (asked before row) ≡ None
+head_clear name limit asked i before row rows none =
+    let here = none_front (at_row name i ((nat_le limit i, TooMany) ∷ asked before row)) (rows_from name limit asked (i + 1) (before ++ row ∷ []) rows) none in
+    tail_clear (nat_le limit i) TooMany (asked before row) (row_clear name i ((nat_le limit i, TooMany) ∷ asked before row) here)
+
+others_clear : {R : Type 0} (name : List ℕ) (limit : ℕ) (asked : List R → R → Rules Breach) (i : ℕ) (before : List R) (row : R) (rows : List R) → first_of (rows_from name limit asked i before (row ∷ rows)) ≡ None → first_of (rows_from name limit asked (i + 1) (before ++ row ∷ []) rows) ≡ None
+others_clear name limit asked i before row rows none = none_back (at_row name i ((nat_le limit i, TooMany) ∷ asked before row)) (rows_from name limit asked (i + 1) (before ++ row ∷ []) rows) none
+
+-- what a row says that breaks nothing, whatever stands before it
+all_from : {R : Type 0} (Q : R → Type 0) (name : List ℕ) (limit : ℕ) (asked : List R → R → Rules Breach) (says : (before : List R) (row : R) → first_of (asked before row) ≡ None → Q row) (i : ℕ) (before rows : List R)
+    → first_of (rows_from name limit asked i before rows) ≡ None → All Q rows
+all_from Q name limit asked says i before [] none = All-nil Q
+all_from Q name limit asked says i before (row ∷ rows) none =
+    All-cons Q row rows (says before row (head_clear name limit asked i before row rows none))
+    (all_from Q name limit asked says (i + 1) (before ++ row ∷ []) rows (others_clear name limit asked i before row rows none))
+
+-- what it says of a row before it
+any_false : {R : Type 0} (p : R → Bool) (front : List R) (x : R) (back : List R) → list_any p (front ++ x ∷ back) ≡ false → p x ≡ false
+any_false p [] x back e = left_false (p x) (list_any p back) e
+any_false p (y ∷ front) x back e = any_false p front x back (right_false (p y) (list_any p (front ++ x ∷ back)) e)
+
+later_from : {R : Type 0} (P : R → R → Type 0) (name : List ℕ) (limit : ℕ) (asked : List R → R → Rules Breach)
+    (says : (front : List R) (x : R) (back : List R) (row : R) → first_of (asked (front ++ x ∷ back) row) ≡ None → P x row) (i : ℕ) (front : List R) (x : R) (back rows : List R)
+    → first_of (rows_from name limit asked i (front ++ x ∷ back) rows) ≡ None → All (P x) rows
+later_from P name limit asked says i front x back [] none = All-nil (P x)
+later_from P name limit asked says i front x back (row ∷ rows) none =
+    All-cons (P x) row rows (says front x back row (head_clear name limit asked i (front ++ x ∷ back) row rows none))
+    (later_from P name limit asked says (i + 1) front x (back ++ row ∷ []) rows
+    (rw (append_assoc front (x ∷ back) (row ∷ [])) at (others_clear name limit asked i (front ++ x ∷ back) row rows none)))
+
+pairs_from : {R : Type 0} (P : R → R → Type 0) (name : List ℕ) (limit : ℕ) (asked : List R → R → Rules Breach)
+    (says : (front : List R) (x : R) (back : List R) (row : R) → first_of (asked (front ++ x ∷ back) row) ≡ None → P x row) (i : ℕ) (before rows : List R)
+    → first_of (rows_from name limit asked i before rows) ≡ None → AllPairs P rows
+pairs_from P name limit asked says i before [] none = λ j k d below inside. absurd (omega arith)
+pairs_from P name limit asked says i before (row ∷ rows) none =
+    let others = others_clear name limit asked i before row rows none in
+    AllPairs-cons P row rows (later_from P name limit asked says (i + 1) before row [] rows others) (pairs_from P name limit asked says (i + 1) (before ++ row ∷ []) rows others)
+
+-- ---- tables
+
+all_in : {R : Type 0} (Q : R → Type 0) (name : List ℕ) (limit : ℕ) (asked : List R → R → Rules Breach) (says : (before : List R) (row : R) → first_of (asked before row) ≡ None → Q row) (rows : List R)
+    → first_of (table name limit asked rows None) ≡ None → All Q rows
+all_in Q name limit asked says rows none = all_from Q name limit asked says 0 [] rows (none_front (rows_from name limit asked 0 [] rows) [] none)
+
+pairs_in : {R : Type 0} (P : R → R → Type 0) (name : List ℕ) (limit : ℕ) (asked : List R → R → Rules Breach)
+    (says : (front : List R) (x : R) (back : List R) (row : R) → first_of (asked (front ++ x ∷ back) row) ≡ None → P x row) (rows : List R)
+    → first_of (table name limit asked rows None) ≡ None → AllPairs P rows
+pairs_in P name limit asked says rows none = pairs_from P name limit asked says 0 [] rows (none_front (rows_from name limit asked 0 [] rows) [] none)
+
+-- ---- tests that do not hold
+
+not_false : (b : Bool) → not b ≡ false → b ≡ true
+not_false true e = refl
+not_false false e = absurd (let no : true ≡ false = e in cc)
+
+not_true : (b : Bool) → not b ≡ true → b ≡ false
+not_true true e = absurd (let no : false ≡ true = e in cc)
+not_true false e = refl
+
+other_as : (a b : As) → same_as a b ≡ false → a ≢ b
+other_as a b e same = eqb-false a.0 b.0 e (ap (λ (x : As). x.0) same)
+
+is_other : (a : As) → is_domain a ≡ true → a ≢ parent_as
+is_other a is = other_as a parent_as (not_true (same_as a parent_as) is)
+
+other_addr : (a b : Addr) → (rank a == rank b) ≡ false → a ≢ b
+other_addr a b e same = eqb-false (rank a) (rank b) e (ap rank same)
+
+other_name : (a b : List ℕ) → bytes_eq a b ≡ false → a ≢ b
+other_name a b e = not_from_Decides (bytes_eq a b) (bytes_eq-Decides a b) e
+
+in_range : (low high n : ℕ) → is_between low high n ≡ true → (low ≤ n) × (n ≤ high)
+in_range low high n is =
+    let (above, below) = and_parts (nat_le low n) (nat_le n high) is in
+    (leb-true low n above, leb-true n high below)
+
+-- ---- elements
+
+element_form : (n : NetworkParts) (before : List ElementRow) (e : ElementRow) → first_of (element_rules (sheet_of n) before e) ≡ None → (is_domain e.own && is_between 1 3600 e.key_life) ≡ true
+element_form n before e none =
+    not_false (is_domain e.own && is_between 1 3600 e.key_life)
+    (head_false (not (is_domain e.own && is_between 1 3600 e.key_life)) Shape
+    ((list_any (λ (f : ElementRow). same_as f.own e.own || (rank f.id == rank e.id)) before, Duplicate) ∷ (e.parent && not (is_some n.parent || false), NoParent) ∷ []) none)
+
+element_again : (n : NetworkParts) (front : List ElementRow) (d : ElementRow) (back : List ElementRow) (e : ElementRow) → first_of (element_rules (sheet_of n) (front ++ d ∷ back) e) ≡ None → (same_as d.own e.own || (rank d.id == rank e.id)) ≡ false
+element_again n front d back e none =
+    any_false (λ (f : ElementRow). same_as f.own e.own || (rank f.id == rank e.id)) front d back
+    (head_false (list_any (λ (f : ElementRow). same_as f.own e.own || (rank f.id == rank e.id)) (front ++ d ∷ back)) Duplicate ((e.parent && not (is_some n.parent || false), NoParent) ∷ [])
+    (tail_clear (not (is_domain e.own && is_between 1 3600 e.key_life)) Shape
+    ((list_any (λ (f : ElementRow). same_as f.own e.own || (rank f.id == rank e.id)) (front ++ d ∷ back), Duplicate) ∷ (e.parent && not (is_some n.parent || false), NoParent) ∷ []) none))
+
+child_has : (child parent : Bool) → (child && not (parent || false)) ≡ false → child ≡ true → parent ≡ true
+child_has true true e is = refl
+child_has true false e is = absurd (let no : true ≡ false = e in cc)
+child_has false parent e is = absurd (let no : false ≡ true = is in cc)
+
+element_child : (n : NetworkParts) (before : List ElementRow) (e : ElementRow) → first_of (element_rules (sheet_of n) before e) ≡ None → e.parent ≡ true → is_some n.parent ≡ true
+element_child n before e none =
+    let again = list_any (λ (f : ElementRow). same_as f.own e.own || (rank f.id == rank e.id)) before in
+    let child = e.parent && not (is_some n.parent || false) in
+    child_has e.parent (is_some n.parent)
+    (head_false child NoParent []
+    (tail_clear again Duplicate ((child, NoParent) ∷ [])
+    (tail_clear (not (is_domain e.own && is_between 1 3600 e.key_life)) Shape ((again, Duplicate) ∷ (child, NoParent) ∷ []) none)))
+
+are_elements : (n : NetworkParts) → AreClear (sheet_of n) → AreElements n
+are_elements n c =
+    let none = c.elements_clear in
+    let asked = element_rules (sheet_of n) in
+    let name = codes "element" in
+    record {
+      few = few_rows name 16 asked n.elements None none;
+      numbers_differ =
+          pairs_in (λ (d e : ElementRow). d.own ≢ e.own) name 16 asked
+          (λ front d back e clear. other_as d.own e.own (left_false (same_as d.own e.own) (rank d.id == rank e.id) (element_again n front d back e clear))) n.elements none;
+      ids_differ =
+          pairs_in (λ (d e : ElementRow). d.id ≢ e.id) name 16 asked
+          (λ front d back e clear. other_addr d.id e.id (right_false (same_as d.own e.own) (rank d.id == rank e.id) (element_again n front d back e clear))) n.elements none;
+      domains =
+          all_in (λ (e : ElementRow). e.own ≢ parent_as) name 16 asked
+          (λ before e clear. is_other e.own (and_parts (is_domain e.own) (is_between 1 3600 e.key_life) (element_form n before e clear)).0) n.elements none;
+      lives =
+          all_in (λ (e : ElementRow). (1 ≤ e.key_life) × (e.key_life ≤ 3600)) name 16 asked
+          (λ before e clear. in_range 1 3600 e.key_life (and_parts (is_domain e.own) (is_between 1 3600 e.key_life) (element_form n before e clear)).1) n.elements none;
+      children = all_in (λ (e : ElementRow). e.parent ≡ true → is_some n.parent ≡ true) name 16 asked (element_child n) n.elements none;
+    }
+
+-- ---- links
+
+link_differs : (n : NetworkParts) (before : List (As × As)) (l : As × As) → first_of (link_rules (sheet_of n) before l) ≡ None → l.0 ≢ l.1
+link_differs n before l none =
+    other_as l.0 l.1
+    (head_false (same_as l.0 l.1) Shape
+    ((list_any (λ (m : As × As). same_link m.0 m.1 l.0 l.1) before, Duplicate) ∷ (not (is_element n l.0 && is_element n l.1), Unknown) ∷ []) none)
+
+link_again : (n : NetworkParts) (front : List (As × As)) (k : As × As) (back : List (As × As)) (l : As × As) → first_of (link_rules (sheet_of n) (front ++ k ∷ back) l) ≡ None → same_link k.0 k.1 l.0 l.1 ≡ false
+link_again n front k back l none =
+    let again = list_any (λ (m : As × As). same_link m.0 m.1 l.0 l.1) (front ++ k ∷ back) in
+    let unknown = not (is_element n l.0 && is_element n l.1) in
+    any_false (λ (m : As × As). same_link m.0 m.1 l.0 l.1) front k back
+    (head_false again Duplicate ((unknown, Unknown) ∷ []) (tail_clear (same_as l.0 l.1) Shape ((again, Duplicate) ∷ (unknown, Unknown) ∷ []) none))
+
+link_known : (n : NetworkParts) (before : List (As × As)) (l : As × As) → first_of (link_rules (sheet_of n) before l) ≡ None → (is_element n l.0 ≡ true) × (is_element n l.1 ≡ true)
+link_known n before l none =
+    let again = list_any (λ (m : As × As). same_link m.0 m.1 l.0 l.1) before in
+    let unknown = not (is_element n l.0 && is_element n l.1) in
+    and_parts (is_element n l.0) (is_element n l.1)
+    (not_false (is_element n l.0 && is_element n l.1)
+    (head_false unknown Unknown [] (tail_clear again Duplicate ((unknown, Unknown) ∷ []) (tail_clear (same_as l.0 l.1) Shape ((again, Duplicate) ∷ (unknown, Unknown) ∷ []) none))))
+
+are_links : (n : NetworkParts) → AreClear (sheet_of n) → AreLinks n
+are_links n c =
+    let none = c.links_clear in
+    let asked = link_rules (sheet_of n) in
+    let name = codes "link" in
+    record {
+      few = few_rows name 120 asked n.links None none;
+      differ = all_in (λ (l : As × As). l.0 ≢ l.1) name 120 asked (link_differs n) n.links none;
+      known = all_in (λ (l : As × As). (is_element n l.0 ≡ true) × (is_element n l.1 ≡ true)) name 120 asked (link_known n) n.links none;
+      once = pairs_in (λ (l m : As × As). same_link l.0 l.1 m.0 m.1 ≡ false) name 120 asked (link_again n) n.links none;
+    }
+
+-- ---- peers
+
+abbrev peer_formed : PeerRow → Bool
+peer_formed p = (is_name p.name && is_class p.class) && nat_lt 0 p.port
+
+peer_port : (n : NetworkParts) (before : List PeerRow) (p : PeerRow) → first_of (peer_rules (sheet_of n) before p) ≡ None → 0 < p.port
+peer_port n before p none =
+    let formed =
+    not_false (peer_formed p)
+    (head_false (not (peer_formed p)) Shape ((list_any (λ (q : PeerRow). bytes_eq q.name p.name) before, Duplicate) ∷ (not (is_element n p.at), Unknown) ∷ []) none) in
+    ltb-true 0 p.port (and_parts (is_name p.name && is_class p.class) (nat_lt 0 p.port) formed).1
+
+peer_again : (n : NetworkParts) (front : List PeerRow) (o : PeerRow) (back : List PeerRow) (p : PeerRow) → first_of (peer_rules (sheet_of n) (front ++ o ∷ back) p) ≡ None → o.name ≢ p.name
+peer_again n front o back p none =
+    let again = list_any (λ (q : PeerRow). bytes_eq q.name p.name) (front ++ o ∷ back) in
+    let unknown = not (is_element n p.at) in
+    other_name o.name p.name
+    (any_false (λ (q : PeerRow). bytes_eq q.name p.name) front o back
+    (head_false again Duplicate ((unknown, Unknown) ∷ []) (tail_clear (not (peer_formed p)) Shape ((again, Duplicate) ∷ (unknown, Unknown) ∷ []) none)))
+
+peer_known : (n : NetworkParts) (before : List PeerRow) (p : PeerRow) → first_of (peer_rules (sheet_of n) before p) ≡ None → is_element n p.at ≡ true
+peer_known n before p none =
+    let again = list_any (λ (q : PeerRow). bytes_eq q.name p.name) before in
+    let unknown = not (is_element n p.at) in
+    not_false (is_element n p.at)
+    (head_false unknown Unknown [] (tail_clear again Duplicate ((unknown, Unknown) ∷ []) (tail_clear (not (peer_formed p)) Shape ((again, Duplicate) ∷ (unknown, Unknown) ∷ []) none)))
+
+are_peers : (n : NetworkParts) → AreClear (sheet_of n) → ArePeers n
+are_peers n c =
+    let none = c.peers_clear in
+    let asked = peer_rules (sheet_of n) in
+    let name = codes "peer" in
+    record {
+      few = few_rows name 256 asked n.peers None none;
+      names_differ = pairs_in (λ (p q : PeerRow). p.name ≢ q.name) name 256 asked (peer_again n) n.peers none;
+      known = all_in (λ (p : PeerRow). is_element n p.at ≡ true) name 256 asked (peer_known n) n.peers none;
+      ports = all_in (λ (p : PeerRow). 0 < p.port) name 256 asked (peer_port n) n.peers none;
+    }
+
+-- ---- rows of policy
+
+denial_next : (n : NetworkParts) (before : List DenyRow) (r : DenyRow) → first_of (deny_rules (sheet_of n) before r) ≡ None → r.deny.next ≢ parent_as
+denial_next n before r none =
+    is_other r.deny.next
+    (not_false (is_domain r.deny.next) (head_false (not (is_domain r.deny.next)) Shape ((not (is_element n r.at), Unknown) ∷ []) none))
+
+denial_known : (n : NetworkParts) (before : List DenyRow) (r : DenyRow) → first_of (deny_rules (sheet_of n) before r) ≡ None → is_element n r.at ≡ true
+denial_known n before r none =
+    not_false (is_element n r.at)
+    (head_false (not (is_element n r.at)) Unknown [] (tail_clear (not (is_domain r.deny.next)) Shape ((not (is_element n r.at), Unknown) ∷ []) none))
+
+are_denials : (n : NetworkParts) → AreClear (sheet_of n) → AreDenials n
+are_denials n c =
+    let none = c.deny_clear in
+    let asked = deny_rules (sheet_of n) in
+    let name = codes "deny" in
+    record {
+      few = few_rows name 4096 asked n.deny None none;
+      known = all_in (λ (r : DenyRow). is_element n r.at ≡ true) name 4096 asked (denial_known n) n.deny none;
+      domains = all_in (λ (r : DenyRow). r.deny.next ≢ parent_as) name 4096 asked (denial_next n) n.deny none;
+    }
+
+-- ---- links of the parent
+
+parent_link_again : (n : NetworkParts) (front : List ParentLink) (k : ParentLink) (back : List ParentLink) (l : ParentLink) → first_of (parent_link_rules (sheet_of n) (front ++ k ∷ back) l) ≡ None → ((rank k.link.near == rank l.link.near) || (rank k.link.far == rank l.link.far)) ≡ false
+parent_link_again n front k back l none =
+    let again = list_any (λ (p : ParentLink). (rank p.link.near == rank l.link.near) || (rank p.link.far == rank l.link.far)) (front ++ k ∷ back) in
+    let unformed = not ((is_domain l.from_as && is_domain l.to_as) && is_link l.link) in
+    any_false (λ (p : ParentLink). (rank p.link.near == rank l.link.near) || (rank p.link.far == rank l.link.far)) front k back
+    (head_false again Duplicate []
+    (tail_clear unformed Shape ((again, Duplicate) ∷ []) (tail_clear (nat_lt 8 (length l.link.srlgs)) TooMany ((unformed, Shape) ∷ (again, Duplicate) ∷ []) none)))
+
+are_parent_links : (n : NetworkParts) → AreClear (sheet_of n) → AreParentLinks n
+are_parent_links n c =
+    let none = c.parent_links_clear in
+    let asked = parent_link_rules (sheet_of n) in
+    let name = codes "parent.link" in
+    record {
+      few = few_rows name 256 asked n.parent_links None none;
+      nears_differ =
+          pairs_in (λ (k l : ParentLink). k.link.near ≢ l.link.near) name 256 asked
+          (λ front k back l clear. other_addr k.link.near l.link.near (left_false (rank k.link.near == rank l.link.near) (rank k.link.far == rank l.link.far) (parent_link_again n front k back l clear))) n.parent_links none;
+      fars_differ =
+          pairs_in (λ (k l : ParentLink). k.link.far ≢ l.link.far) name 256 asked
+          (λ front k back l clear. other_addr k.link.far l.link.far (right_false (rank k.link.near == rank l.link.near) (rank k.link.far == rank l.link.far) (parent_link_again n front k back l clear))) n.parent_links none;
+    }
+
+-- ---- all
+
+are_workers : (n : NetworkParts) → AreClear (sheet_of n) → (1 ≤ n.workers) × (n.workers ≤ 8)
+are_workers n c =
+    in_range 1 8 n.workers
+    (not_false (is_between 1 8 n.workers)
+    (head_false (not (is_between 1 8 n.workers)) (fault.Shape (codes "workers") 0) [] c.workers_clear))
+
+pub rules_are_worth : RulesAreWorth
+rules_are_worth n obeyed =
+    let c = all_clear (sheet_of n) (none_of (rules_of n) obeyed) in
+    record { elements = are_elements n c; links = are_links n c; peers = are_peers n c; deny = are_denials n c; parent_links = are_parent_links n c; workers = are_workers n c }

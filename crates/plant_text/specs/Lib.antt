@@ -1,0 +1,12 @@
+pub mod Names
+pub mod Settings
+pub mod Rules
+pub mod Faults
+pub mod Networks
+pub mod Fields
+pub mod Given
+pub mod Lines
+pub mod Sents
+pub mod SettingsText
+pub mod Reads
+pub mod Laws

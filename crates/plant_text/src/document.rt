@@ -1,0 +1,177 @@
+//! Settings from their text.
+ghost use Rattle.std.specs.Prelude.{◌≡◌, Err, IfOk, MatchResult, Some, find, not, option_map, string_bytes};
+ghost use Rattle.std.specs.BTreeMap.{keys};
+ghost use Rattle.std.specs.List.{list_all};
+ghost use Rattle.std.specs.Option.{option_copied};
+ghost use Rattle.toml.specs.View.{table_view, view};
+ghost use Rattle.plant_text.specs.declared.fault.NetFault.{NetFault};
+ghost use Rattle.plant_text.specs.SettingsText.{has_only, is_table, names, parent_id, parent_key, parent_links_of, sheet_in, top_key, workers_of};
+ghost use Rattle.plant_text.specs.Reads.{IsFaulty, IsNoDocument, Reads, document};
+
+use crate::fault::{NetError, NetFault};
+use crate::network::Network;
+use crate::rows::{Found, rows_at};
+use crate::settings::NetworkParts;
+use crate::sheet::{Cuts, Sheet};
+use crate::value::{addr_at, value_at, whole_or};
+use dom_base::{Addr, List, NoMemory, ParentLink, Text};
+use std::alloc::Global;
+use std::str::from_utf8;
+use toml::{Table, Value, table_from_str};
+
+/// How many workers solve, where the settings do not say.
+const WORKERS: u64 = 2;
+
+// ---- the parent
+
+fn is_parent_key(key: &str) -> bool
+    ensures { result ≡ parent_key key.now }
+{
+    key == "id" || key == "link"
+}
+
+fn knows_parent_keys(table: &Table) -> bool
+    ensures { result ≡ list_all (λ k. parent_key (string_bytes k)) (keys table.now) }
+{
+    table.keys().all(|key| is_parent_key(key.as_str()))
+}
+
+fn has_parent_keys(table: &Table) -> bool
+    ensures { result ≡ has_only parent_key (table_view table.now) }
+{
+    knows_parent_keys(table)
+}
+
+fn is_a_table(value: Option<&Value>) -> bool
+    ensures { result ≡ is_table (option_map (λ v. view v.now) value.entry) }
+{
+    match value {
+        Some(value) => value.is_table(),
+        None => false,
+    }
+}
+
+fn id_of(value: Option<&Value>) -> Option<Addr>
+    ensures { result ≡ parent_id (option_map (λ v. view v.now) value.entry) }
+{
+    let table = value?.as_table()?;
+    if has_parent_keys(table) {
+        addr_at(table, "id")
+    } else {
+        None
+    }
+}
+
+fn parent_links(alloc: Global, value: Option<&Value>) -> Result<Found<ParentLink>, NoMemory>
+    ensures { IfOk result (λ found. found ≡ parent_links_of (option_map (λ v. view v.now) value.entry)) }
+{
+    let none = Found {
+        rows: List::new(alloc),
+        cut: None,
+    };
+    match value {
+        Some(value) => match value.as_table() {
+            Some(table) => rows_at(alloc, table, "link"),
+            None => Ok(none),
+        },
+        None => Ok(none),
+    }
+}
+
+// ---- names beside the tables
+
+fn is_top_key(key: &str) -> bool
+    ensures { result ≡ top_key key.now }
+{
+    key == "element"
+        || key == "link"
+        || key == "peer"
+        || key == "deny"
+        || key == "parent"
+        || key == "workers"
+}
+
+fn unknown_key(root: &Table) -> Option<&String>
+    ensures { option_copied result ≡ find (λ k. not (top_key (string_bytes k))) (keys root.now) }
+{
+    root.keys().find(|key| !is_top_key(key.as_str()))
+}
+
+// The first name that is not known.
+fn other_name(alloc: Global, root: &Table) -> Result<Option<Text>, NoMemory>
+    ensures { IfOk result (λ other. other ≡ find (λ k. not (top_key k)) (names (table_view root.now))) }
+{
+    match unknown_key(root) {
+        Some(key) => Ok(Some(Text::copy_of(alloc, key.as_str())?)),
+        None => Ok(None),
+    }
+}
+
+// ---- the whole
+
+// What a document says.
+fn sheet_of(alloc: Global, root: &Table) -> Result<Sheet, NoMemory>
+    ensures { IfOk result (λ sheet. sheet ≡ sheet_in (table_view root.now)) }
+{
+    let elements = rows_at(alloc, root, "element")?;
+    let links = rows_at(alloc, root, "link")?;
+    let peers = rows_at(alloc, root, "peer")?;
+    let deny = rows_at(alloc, root, "deny")?;
+    let parent = value_at(root, "parent");
+    let parent_links = parent_links(alloc, parent)?;
+    let id = id_of(parent);
+    let workers = whole_or(root, "workers", u64::from(u32::MAX), WORKERS);
+    let cuts = Cuts {
+        elements: elements.cut,
+        links: links.cut,
+        peers: peers.cut,
+        deny: deny.cut,
+        parent: is_a_table(parent) && id.is_none(),
+        no_parent: parent.is_some() && !is_a_table(parent),
+        parent_links: parent_links.cut,
+        workers: workers.is_none(),
+    };
+    let parts = NetworkParts {
+        elements: elements.rows,
+        links: links.rows,
+        peers: peers.rows,
+        deny: deny.rows,
+        parent: id,
+        parent_links: parent_links.rows,
+        workers: workers.unwrap_or(WORKERS) as u32,
+    };
+    Ok(Sheet {
+        parts,
+        cuts,
+        other: other_name(alloc, root)?,
+    })
+}
+
+// The document of a text.
+fn document_of(alloc: Global, bytes: &[u8]) -> Result<Table, NetError>
+    ensures { MatchResult result (λ root. document bytes.now ≡ Some (table_view root)) (IsNoDocument bytes.now) }
+{
+    let Ok(text) = from_utf8(bytes) else {
+        return Err(NetError::Fault(NetFault::NotToml));
+    };
+    match table_from_str(alloc, text) {
+        Ok(table) => Ok(table),
+        Err(error) => {
+            if error.is_memory() {
+                Err(NetError::NoMemory)
+            } else {
+                Err(NetError::Fault(NetFault::NotToml))
+            }
+        }
+    }
+}
+
+/// The network of a settings text, where it obeys the rules: else `NotToml`, or the first rule that is broken.
+pub fn read_network(alloc: Global, bytes: &[u8]) -> Result<Network, NetError>
+    ensures ok { IfOk result (Reads bytes.now) }
+    ensures refused { (fault : NetFault) → result ≡ Err (NetError.Fault fault) → IsFaulty bytes.now fault }
+{
+    let root = document_of(alloc, bytes)?;
+    let sheet = sheet_of(alloc, &root)?;
+    Network::of_sheet(alloc, sheet)
+}

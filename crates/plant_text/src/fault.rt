@@ -1,0 +1,94 @@
+//! What is wrong with the files of a network.
+ghost use Rattle.std.specs.Prelude.{◌≡◌};
+ghost use Rattle.plant_text.specs.declared.fault.NetError.TheVariants.{NoMemory};
+
+use dom_base::{NoMemory, Text};
+use std::alloc::{AllocError, AllocFailed};
+use std::fmt;
+use te_links::TopoFault;
+
+/// What is wrong in a file of a network. A row is told by the name of its table and its place there, from 0.
+#[derive(Drop)]
+pub enum NetFault {
+    /// The settings are no TOML document.
+    NotToml,
+    /// A table has too many rows, or a row of it too many shared risk groups.
+    TooMany(Text),
+    /// A row lacks a key, has one that is not known, or has a value out of form.
+    Shape(Text, u32),
+    /// A row repeats what an earlier one has.
+    Duplicate(Text, u32),
+    /// A row names an element that there is not.
+    Unknown(Text, u32),
+    /// An element asks a parent that there is not.
+    NoParent(u32),
+    /// A client is to be added at a domain that is no element.
+    NoElement,
+    /// A topology is of another domain than the one that it is for.
+    OtherAs,
+    /// A change drops a row that is not there.
+    Absent,
+    /// A change adds a row that is there.
+    Present,
+    /// A fault of a topology or of a certificate.
+    Topo(TopoFault),
+}
+
+impl fmt::Display for NetFault {
+    fn fmt<W: fmt::Write>(&self, f: &mut fmt::Formatter<W>) -> fmt::Result {
+        match self {
+            NetFault::NotToml => write!(f, "not toml"),
+            NetFault::TooMany(table) => write!(f, "too many {}", table.as_str()),
+            NetFault::Shape(table, index) => write!(f, "shape {} {index}", table.as_str()),
+            NetFault::Duplicate(table, index) => write!(f, "duplicate {} {index}", table.as_str()),
+            NetFault::Unknown(table, index) => write!(f, "unknown {} {index}", table.as_str()),
+            NetFault::NoParent(index) => write!(f, "no parent {index}"),
+            NetFault::NoElement => write!(f, "no element"),
+            NetFault::OtherAs => write!(f, "other as"),
+            NetFault::Absent => write!(f, "absent"),
+            NetFault::Present => write!(f, "present"),
+            NetFault::Topo(fault) => write!(f, "{fault}"),
+        }
+    }
+}
+
+/// Why settings make no network: the first rule that they break, or want of memory.
+#[derive(Drop)]
+pub enum NetError {
+    Fault(NetFault),
+    NoMemory,
+}
+
+impl From<NoMemory> for NetError {
+    ghost from_gives = { λ _ e. e ≡ NoMemory };
+
+    fn from(_: NoMemory) -> Self {
+        NetError::NoMemory
+    }
+}
+
+impl From<AllocError> for NetError {
+    ghost from_gives = { λ _ e. e ≡ NoMemory };
+
+    fn from(_: AllocError) -> Self {
+        NetError::NoMemory
+    }
+}
+
+impl<T: Drop> From<AllocFailed<T>> for NetError {
+    ghost from_gives = { λ _ e. e ≡ NoMemory };
+
+    fn from(_: AllocFailed<T>) -> Self {
+        NetError::NoMemory
+    }
+}
+
+/// What a row of settings can break; at a row these go in this order.
+#[derive(Clone, Copy, Debug, PartialEq, Eq)]
+pub enum Breach {
+    TooMany,
+    Shape,
+    Duplicate,
+    Unknown,
+    NoParent,
+}

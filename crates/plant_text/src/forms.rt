@@ -1,0 +1,307 @@
+//! The forms of the rows of a settings text.
+ghost use Rattle.std.specs.Prelude.{◌≡◌, None, Some, codes, nat_lt, option_map};
+ghost use Rattle.toml.specs.Data.{get_member};
+ghost use Rattle.toml.specs.View.{items_view, table_view, view};
+ghost use Rattle.plant_text.specs.Given.{Gives};
+ghost use Rattle.plant_text.specs.SettingsText.{class_in, class_of, end_key, file_of, has_many, item_count, link_in, optional, trait_key};
+
+use crate::fault::Breach;
+use crate::line::LineError;
+use crate::network::PORT;
+use crate::settings::{DenyRow, ElementRow, PeerRow};
+use crate::value::{
+    addr_at, as_at, as_of_value, bool_or, colour_at, numbers_or_none, text_at, value_at, whole_at,
+    whole_or,
+};
+use disclosure::{Class, Deny};
+use dom_base::{As, Link, ParentLink, Text};
+use std::alloc::Global;
+use te_links::SRLGS_MAX;
+use toml::{Table, Value};
+
+/// How many ticks keys live, where the settings do not say.
+const KEY_LIFE: u64 = 600;
+
+/// A row as a table of a settings text gives it.
+pub(crate) trait Formed: Sized {
+    ghost use Rattle.plant_text.specs.SettingsText.{Form};
+
+    ghost form: { Form Self };
+
+    /// Whether such a table may have a key.
+    fn is_key(key: &str) -> bool
+        ensures { result ≡ form.is_key key.now };
+
+    /// The row, of a table without other keys.
+    fn read(alloc: Global, table: &Table) -> Result<Self, LineError>
+        ensures { Gives result (form.read (table_view table.now)) };
+
+    /// What a table that gives no row breaks.
+    fn wrong(table: &Table) -> Breach
+        ensures { result ≡ form.wrong (table_view table.now) };
+}
+
+// ---- elements
+
+// The file of a topology, where one is named.
+fn file_or_none(alloc: Global, table: &Table) -> Result<Option<Text>, LineError>
+    ensures { Gives result (optional file_of None (codes "topology") (table_view table.now)) }
+{
+    let Some(value) = value_at(table, "topology") else {
+        return Ok(None);
+    };
+    let Some(name) = value.as_str() else {
+        return Err(LineError::Outside);
+    };
+    Ok(Some(Text::copy_of(alloc, name)?))
+}
+
+impl Formed for ElementRow {
+    ghost use Rattle.plant_text.specs.SettingsText.{element_form};
+
+    ghost form = { element_form };
+
+    fn is_key(key: &str) -> bool {
+        key == "as" || key == "id" || key == "topology" || key == "key_life" || key == "parent"
+    }
+
+    #[tactic(auto, unfolding(crate::specs::SettingsText::element_of))]
+    fn read(alloc: Global, table: &Table) -> Result<ElementRow, LineError> {
+        let own = as_at(table, "as").ok_or(LineError::Outside)?;
+        let id = addr_at(table, "id").ok_or(LineError::Outside)?;
+        let topology = file_or_none(alloc, table)?;
+        let life = whole_or(table, "key_life", u64::from(u16::MAX), KEY_LIFE);
+        let key_life = life.ok_or(LineError::Outside)?;
+        let parent = bool_or(table, "parent", false).ok_or(LineError::Outside)?;
+        Ok(ElementRow {
+            own,
+            id,
+            topology,
+            key_life: key_life as u16,
+            parent,
+        })
+    }
+
+    fn wrong(_table: &Table) -> Breach {
+        Breach::Shape
+    }
+}
+
+// ---- links
+
+impl Formed for (As, As) {
+    ghost use Rattle.plant_text.specs.SettingsText.{link_form};
+
+    ghost form = { link_form };
+
+    fn is_key(key: &str) -> bool {
+        key == "a" || key == "b"
+    }
+
+    #[tactic(auto, unfolding(crate::specs::SettingsText::link_of))]
+    fn read(_alloc: Global, table: &Table) -> Result<(As, As), LineError> {
+        let a = as_at(table, "a").ok_or(LineError::Outside)?;
+        let b = as_at(table, "b").ok_or(LineError::Outside)?;
+        Ok((a, b))
+    }
+
+    fn wrong(_table: &Table) -> Breach {
+        Breach::Shape
+    }
+}
+
+// ---- peers
+
+// The class of this name, with the value of `neighbour`, which is there exactly with that class.
+fn class_named(word: &str, expand: bool, neighbour: Option<&Value>) -> Option<Class>
+    ensures { result ≡ class_of word.now expand (option_map (λ v. view v.now) neighbour.entry) }
+{
+    match neighbour {
+        Some(value) => {
+            if word == "neighbour" {
+                Some(Class::Neighbour(as_of_value(value)?))
+            } else {
+                None
+            }
+        }
+        None => {
+            if word == "client" {
+                Some(Class::Client { expand })
+            } else if word == "parent" {
+                Some(Class::Parent)
+            } else {
+                None
+            }
+        }
+    }
+}
+
+fn class_at(table: &Table) -> Option<Class>
+    ensures { result ≡ class_in (table_view table.now) }
+{
+    let word = text_at(table, "class")?;
+    let expand = bool_or(table, "expand", true)?;
+    class_named(word, expand, value_at(table, "neighbour"))
+}
+
+impl Formed for PeerRow {
+    ghost use Rattle.plant_text.specs.SettingsText.{peer_form};
+
+    ghost form = { peer_form };
+
+    fn is_key(key: &str) -> bool {
+        key == "name"
+            || key == "as"
+            || key == "class"
+            || key == "neighbour"
+            || key == "port"
+            || key == "expand"
+    }
+
+    #[tactic(auto, unfolding(crate::specs::SettingsText::peer_of))]
+    fn read(alloc: Global, table: &Table) -> Result<PeerRow, LineError> {
+        let name = text_at(table, "name").ok_or(LineError::Outside)?;
+        let at = as_at(table, "as").ok_or(LineError::Outside)?;
+        let class = class_at(table).ok_or(LineError::Outside)?;
+        let port = whole_or(table, "port", u64::from(u16::MAX), u64::from(PORT));
+        let port = port.ok_or(LineError::Outside)?;
+        Ok(PeerRow {
+            name: Text::copy_of(alloc, name)?,
+            at,
+            class,
+            port: port as u16,
+        })
+    }
+
+    fn wrong(_table: &Table) -> Breach {
+        Breach::Shape
+    }
+}
+
+// ---- rows of policy
+
+impl Formed for DenyRow {
+    ghost use Rattle.plant_text.specs.SettingsText.{deny_form};
+
+    ghost form = { deny_form };
+
+    fn is_key(key: &str) -> bool {
+        key == "at" || key == "from" || key == "next"
+    }
+
+    #[tactic(auto, unfolding(crate::specs::SettingsText::deny_of))]
+    fn read(_alloc: Global, table: &Table) -> Result<DenyRow, LineError> {
+        let at = as_at(table, "at").ok_or(LineError::Outside)?;
+        let from = as_at(table, "from").ok_or(LineError::Outside)?;
+        let next = as_at(table, "next").ok_or(LineError::Outside)?;
+        Ok(DenyRow {
+            at,
+            deny: Deny { from, next },
+        })
+    }
+
+    fn wrong(_table: &Table) -> Breach {
+        Breach::Shape
+    }
+}
+
+// ---- links of the parent
+
+fn is_end_key(key: &str) -> bool
+    ensures { result ≡ end_key key.now }
+{
+    key == "from_as"
+        || key == "from"
+        || key == "to_as"
+        || key == "to"
+        || key == "near"
+        || key == "far"
+}
+
+fn is_trait_key(key: &str) -> bool
+    ensures { result ≡ trait_key key.now }
+{
+    key == "igp" || key == "te" || key == "bw" || key == "colour" || key == "srlg"
+}
+
+#[tactic(auto, unfolding(crate::specs::SettingsText::link_in))]
+fn link_of(alloc: Global, table: &Table) -> Result<Link, LineError>
+    ensures { Gives result (link_in (table_view table.now)) }
+{
+    let from = addr_at(table, "from").ok_or(LineError::Outside)?;
+    let to = addr_at(table, "to").ok_or(LineError::Outside)?;
+    let near = addr_at(table, "near").ok_or(LineError::Outside)?;
+    let far = addr_at(table, "far").ok_or(LineError::Outside)?;
+    let igp = whole_at(table, "igp", u64::from(u32::MAX)).ok_or(LineError::Outside)?;
+    let te = whole_at(table, "te", u64::from(u32::MAX)).ok_or(LineError::Outside)?;
+    let bytes_per_second = whole_at(table, "bw", u64::MAX).ok_or(LineError::Outside)?;
+    let colour = colour_at(table, "colour").ok_or(LineError::Outside)?;
+    let srlgs = numbers_or_none(alloc, table, "srlg")?;
+    Ok(Link {
+        from,
+        to,
+        near,
+        far,
+        igp: igp as u32,
+        te: te as u32,
+        bytes_per_second,
+        colour,
+        srlgs,
+    })
+}
+
+impl Formed for ParentLink {
+    ghost use Rattle.plant_text.specs.SettingsText.{parent_link_form};
+
+    ghost form = { parent_link_form };
+
+    fn is_key(key: &str) -> bool {
+        is_end_key(key) || is_trait_key(key)
+    }
+
+    #[tactic(auto, unfolding(crate::specs::SettingsText::parent_link_of))]
+    fn read(alloc: Global, table: &Table) -> Result<ParentLink, LineError> {
+        let from_as = as_at(table, "from_as").ok_or(LineError::Outside)?;
+        let to_as = as_at(table, "to_as").ok_or(LineError::Outside)?;
+        let link = link_of(alloc, table)?;
+        Ok(ParentLink {
+            from_as,
+            to_as,
+            link,
+        })
+    }
+
+    fn wrong(table: &Table) -> Breach {
+        if has_many_groups(table) {
+            Breach::TooMany
+        } else {
+            Breach::Shape
+        }
+    }
+}
+
+fn is_long(items: &[Value]) -> bool
+    ensures { result ≡ nat_lt SRLGS_MAX (item_count (items_view items.now)) }
+{
+    items.len() > SRLGS_MAX
+}
+
+#[tactic(auto, using(crate::proofs::DocumentLaws::many_items))]
+fn is_long_list(value: &Value) -> bool
+    ensures { result ≡ has_many (Some (view value.now)) }
+{
+    match value.as_array() {
+        Some(items) => is_long(items.as_slice()),
+        None => false,
+    }
+}
+
+// Whether a list of shared risk groups is too long, whatever its items are.
+fn has_many_groups(table: &Table) -> bool
+    ensures { result ≡ has_many (get_member (codes "srlg") (table_view table.now)) }
+{
+    match value_at(table, "srlg") {
+        Some(value) => is_long_list(value),
+        None => false,
+    }
+}

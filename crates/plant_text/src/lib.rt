@@ -1,0 +1,36 @@
+//! The settings of a network and the lines of its events.
+#![tactic(auto)]
+
+mod check;
+mod document;
+mod fault;
+mod forms;
+mod law;
+mod limits;
+mod line;
+mod lines;
+mod network;
+mod row;
+mod row_words;
+mod rows;
+mod settings;
+mod sheet;
+#[cfg(test)]
+mod tests;
+mod value;
+mod verb;
+mod word;
+mod write;
+
+pub use document::read_network;
+pub use fault::{NetError, NetFault};
+pub use law::settings_are_sound;
+pub use limits::{
+    DENY_MAX, ELEMENTS_MAX, KEY_LIFE_MAX, LINKS_MAX, NAME_MAX, PARENT_LINKS_MAX, PEERS_MAX,
+    ROW_ENTRIES_MAX, WORKERS_MAX,
+};
+pub use line::{LineError, LineEvent};
+pub use lines::{read_blind_line, read_line};
+pub use network::Network;
+pub use settings::{DenyRow, ElementRow, NetworkParts, PeerRow};
+pub use write::write_sent;

@@ -1,0 +1,3 @@
+pub mod Righting
+pub mod Turning
+pub mod Running

@@ -1,0 +1,26 @@
+use Rattle.std.proofs.Common.{Ok, Err}
+use Rattle.solve_workers.specs.Steps.{IsTurned}
+use Rattle.solve_workers.proofs.Running.{one_more, broken}
+use Rattle.solve_workers.proofs.working.work.Goals as goal
+
+pub returns-in-Err-clause-runs : goal.returns-in-Err-clause-runs
+returns-in-Err-clause-runs g c =
+    let old = g.B.Bench.benched c.args.bench.now in
+    let mid = g.B.Bench.benched c.loop-turn.bench in
+    let new = g.B.Bench.benched c.turn.new.bench in
+    let passed = g.G.Gate.passed c.args.gate.now in
+    let passed_mid = g.G.Gate.passed c.loop-turn.gate in
+    let passed_after = g.G.Gate.passed c.turn.new.gate in
+    let t : IsTurned c.args.index (Err c.in-Err.field-0) mid new passed_mid passed_after c.loop-turn.cache c.turn.new.cache = rw c.in-Err.is at c.turn.ensures in
+    broken c.args.index c.loop-turn._turn old mid new passed passed_mid passed_after c.loop-turn.cache c.turn.new.cache c.loop-turn.invariant c.args.turns c.in-Err.field-0 c.loop-turn-test.true t
+
+pub loop-turn-preserved : goal.loop-turn-preserved
+loop-turn-preserved g c =
+    let old = g.B.Bench.benched c.args.bench.now in
+    let mid = g.B.Bench.benched c.loop-turn.bench in
+    let new = g.B.Bench.benched c.turn.new.bench in
+    let passed = g.G.Gate.passed c.args.gate.now in
+    let passed_mid = g.G.Gate.passed c.loop-turn.gate in
+    let passed_after = g.G.Gate.passed c.turn.new.gate in
+    let t : IsTurned c.args.index (Ok tt) mid new passed_mid passed_after c.loop-turn.cache c.turn.new.cache = rw c.in_default-turn.is at c.turn.ensures in
+    one_more c.args.index c.loop-turn._turn old mid new passed passed_mid passed_after c.loop-turn.cache c.turn.new.cache c.loop-turn.invariant t

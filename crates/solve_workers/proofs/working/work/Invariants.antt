@@ -1,0 +1,6 @@
+use Rattle.solve_workers.proofs.Running.{IsRunning}
+use Rattle.solve_workers.proofs.working.work.Given as goal
+
+abbrev pub invariant-loop-turn : goal.invariant-loop-turn
+invariant-loop-turn g l =
+    IsRunning l.index l._turn (g.B.Bench.benched l.initial.bench) (g.B.Bench.benched l.bench) (g.G.Gate.passed l.initial.gate) (g.G.Gate.passed l.gate) l.cache

@@ -1,0 +1,38 @@
+//! Where jobs come from and solutions go.
+ghost use Rattle.std.specs.Prelude.{◌≡◌, IfOk, IfSome};
+ghost use Rattle.solve_workers.specs.Benches.{Benched, Goes, IsGiven, WasGiven, Ready, Look, Finish};
+
+use dom_base::{As, NoMemory};
+use pce_parent::{Done, Work};
+
+/// What became of a solution: it was taken, its job was no longer ready, or there was no memory.
+#[derive(Clone, Copy, Debug, PartialEq, Eq)]
+pub enum Finished {
+    Kept,
+    Stranger,
+    NoMemory,
+}
+
+/// A bench stands for the list of its calls with their answers, and for the topologies of its jobs
+/// by element and generation, to which calls only add.
+pub trait Bench {
+    ghost benched: { Self → Benched };
+
+    /// The k-th ready job, by its element and its number.
+    fn ready(&mut self, k: usize) -> Option<(As, u64)>
+        ensures { Goes (benched self.old) (benched self.new) (Ready k result) };
+
+    /// A job, unless it is no longer ready.
+    fn look(&mut self, at: As, number: u64) -> Result<Option<Work>, NoMemory>
+        ensures goes { Goes (benched self.old) (benched self.new) (Look at number result) }
+        ensures given { IfOk result (λ work. IfSome work (IsGiven (benched self.new))) };
+
+    /// Hands a solution back. Its job is one that a look gave.
+    fn finish(&mut self, done: Done) -> Finished
+        requires { WasGiven (benched self.old) done }
+        ensures { Goes (benched self.old) (benched self.new) (Finish done result) };
+
+    /// The number at which the bench was spent. From then on it answers that no job is ready.
+    fn spent(&self) -> Option<u64>
+        ensures { result ≡ (benched self.now).spent };
+}
