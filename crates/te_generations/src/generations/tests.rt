@@ -24,6 +24,16 @@ fn pin_and_load<R: Abort>(rt: &R, alloc: Global, all: &mut Generations, number: 
     pin
 }
 
+// Loads where no more generations may be live.
+fn load_in_vain<R: Abort>(rt: &R, alloc: Global, all: &mut Generations)
+    ensures pinned { (n : ℕ) → 1 ≤ pins_of all.old n → 1 ≤ pins_of all.new n }
+{
+    let current = all.current();
+    let refused = all.load(Topology::empty(alloc, As(99)));
+    assert_eq!(rt; refused, Err(LoadError::Full));
+    assert_eq!(rt; all.current(), current);
+}
+
 #[test]
 fn sixteen_are_live(rt: HostRuntime) -> Result<(), Fail> {
     let mut all = Generations::new(rt.alloc(), As(100))?;
@@ -32,8 +42,7 @@ fn sixteen_are_live(rt: HostRuntime) -> Result<(), Fail> {
     for number in 2..16u64 {
         let _ = pin_and_load(&rt, rt.alloc(), &mut all, number);
     }
-    let refused = all.load(Topology::empty(rt.alloc(), As(99)));
-    assert_eq!(rt; refused, Err(LoadError::Full));
+    load_in_vain(&rt, rt.alloc(), &mut all);
     assert_eq!(rt; all.of(&first)?.own(), As(100));
     assert_eq!(rt; all.topology(&first).own(), As(100));
     assert_eq!(rt; all.latest()?.own(), As(1));
