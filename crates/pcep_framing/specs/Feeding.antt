@@ -1,5 +1,6 @@
 -- A piece of a stream that is fed to a framer, as a function.
 use Rattle.std.specs.Prelude.{◌≡◌, ◌↔◌, ℕ, zero, suc, ◌+◌, ◌%◌, ◌==◌, ◌&&◌, not, Bool, true, false, nat_lt, nat_le, List, [], ◌∷◌, ◌++◌, length, take, drop, if◌then◌else◌}
+use Rattle.pcep_codes.specs.declared.TheConstants.{VERSION}
 use Rattle.pcep_framing.specs.Frames.{Framing, FeedsTo, version_of, length_field}
 
 -- the messages that a piece completes, and the framer after it
@@ -9,7 +10,7 @@ pub record Progress : Type 0 where
 
 -- the first four bytes are a header that a message may have
 abbrev pub is_head : List ℕ → Bool
-is_head bytes = (version_of bytes == 1) && (nat_le 4 (length_field bytes) && (length_field bytes % 4 == 0))
+is_head bytes = (version_of bytes == VERSION) && (nat_le 4 (length_field bytes) && (length_field bytes % 4 == 0))
 
 abbrev pub stopped : Bool → List ℕ → Progress
 stopped bad bytes = record { frames = []; framing = record { held = bytes; bad = bad } }

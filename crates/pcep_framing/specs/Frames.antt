@@ -2,6 +2,7 @@
 -- two bytes the length of the whole message.
 use Rattle.std.specs.Prelude.{◌≡◌, ◌⊎◌, ◌<◌, ◌≤◌, ℕ, ◌/◌, ◌%◌, Bool, true, false, List, [], ◌∷◌, ◌++◌, length, take, slice_index}
 use Rattle.dom_base.specs.Parts.{half_at}
+use Rattle.pcep_codes.specs.declared.TheConstants.{VERSION}
 
 abbrev pub version_of : List ℕ → ℕ
 version_of bytes = slice_index bytes 0 / 32
@@ -12,7 +13,7 @@ length_field bytes = half_at bytes 2
 -- the bytes begin with a header that a message may have
 pub record IsHead (bytes : List ℕ) : Type 0 where
   pub whole : 4 ≤ length bytes
-  pub version : version_of bytes ≡ 1
+  pub version : version_of bytes ≡ VERSION
   pub least : 4 ≤ length_field bytes
   pub multiple : length_field bytes % 4 ≡ 0
 

@@ -4,6 +4,7 @@ ghost use Rattle.pcep_framing.specs.Frames.{IsHead, length_field, Cuts, Stops};
 
 use crate::HEADER_LENGTH;
 use dom_base::{Bytes, List, NoMemory, half};
+use pcep_codes::VERSION;
 use std::alloc::Global;
 
 /// The messages at the front of some bytes, where they end, and whether a bad header stands there.
@@ -20,7 +21,7 @@ fn head_length(bytes: &[u8]) -> Option<usize>
     ensures { MatchOption result (¬ IsHead bytes.now) (λ n. IsHead bytes.now × (n ≡ length_field bytes.now)) }
 {
     let length = usize::from(half(bytes, 2));
-    if bytes[0] / 32 == 1 && length >= 4 && length % 4 == 0 {
+    if bytes[0] / 32 == VERSION && length >= 4 && length % 4 == 0 {
         Some(length)
     } else {
         None

@@ -2,7 +2,7 @@
 use Rattle.std.proofs.Common.{◌≡◌, ℕ, true, false, List, Some, None, refl}
 use Rattle.pcep_objects.specs.declared.object.Object.{Object}
 use Rattle.pcep_messages.specs.Said.{rp_of, asks_key}
-use Rattle.pcep_messages.specs.Refusals.{Reason, first_of, request_rules, key_rules, path_rules, refusal_of}
+use Rattle.pcep_messages.specs.Refusals.{first_of, request_rules, key_rules, path_rules, refusal_of}
 
 -- a rule for every request
 pub refused_at_once : (own : ℕ) (os : List Object) (e : ℕ × ℕ) → first_of (request_rules own os) ≡ Some e → refusal_of own os ≡ Some e

@@ -2,6 +2,8 @@
 use Rattle.std.specs.Prelude.{◌≡◌, ℕ, ◌+◌, ◌*◌, ◌/◌, List, ◌∷◌, length, map, Option, Some, None, Result, Ok, Err, IsOk, nat_le, ◌==◌, ◌&&◌, if◌then◌else◌}
 use Rattle.std.specs.List.{filter_map}
 use Rattle.dom_base.specs.Parts.{Reader, parts_from}
+use Rattle.pcep_codes.specs.declared.TheConstants.{VERSION}
+use Rattle.pcep_codes.specs.declared.messages.TheConstants as types
 use Rattle.pcep_objects.specs.declared.object.Body.{Body}
 use Rattle.pcep_objects.specs.declared.object.Body.TheVariants as bodies
 use Rattle.pcep_objects.specs.declared.object.Object.{Object}
@@ -49,10 +51,10 @@ made_by_first what message first all = of_its_kind message (said_at_first what f
 -- a message that all its objects make
 abbrev pub made_of : ℕ → List Object → Message
 made_of kind os =
-    if kind == 3 then messages.PcReq (map asked_of (requests_of os))
-    else (if kind == 4 then messages.PcRep (filter_map reply_of (reply_groups os))
-    else (if kind == 5 then messages.PcNtf (map notice_of (report_groups os))
-    else (if kind == 6 then messages.PcErr (map report_of (report_groups os))
+    if kind == types.PCREQ then messages.PcReq (map asked_of (requests_of os))
+    else (if kind == types.PCREP then messages.PcRep (filter_map reply_of (reply_groups os))
+    else (if kind == types.PCNTF then messages.PcNtf (map notice_of (report_groups os))
+    else (if kind == types.PCERR then messages.PcErr (map report_of (report_groups os))
     else messages.Keepalive)))
 
 abbrev pub made_by_all : ℕ → Result (List Object) Bad → Result Message Bad
@@ -62,15 +64,15 @@ made_by_all kind (Err e) = Err e
 -- The types: 1 Open, 2 Keepalive, 3 PCReq, 4 PCRep, 5 PCNtf, 6 PCErr, 7 Close (9.2). Of every other the content is not read.
 abbrev pub content_of : ℕ → List ℕ → Result Message Bad
 content_of kind bytes =
-    if kind == 1 then made_by_first opening_in messages.Open (object_at bytes) (members_of bytes)
-    else (if kind == 7 then made_by_first close_in messages.Close (object_at bytes) (members_of bytes)
-    else (if nat_le 2 kind && nat_le kind 6 then made_by_all kind (members_of bytes)
+    if kind == types.OPEN then made_by_first opening_in messages.Open (object_at bytes) (members_of bytes)
+    else (if kind == types.CLOSE then made_by_first close_in messages.Close (object_at bytes) (members_of bytes)
+    else (if nat_le types.KEEPALIVE kind && nat_le kind types.PCERR then made_by_all kind (members_of bytes)
     else Ok (messages.Other kind)))
 
 -- The message that a frame is, or the place at fault. The length in the header is that of the frame.
 abbrev pub message_of : List ℕ → Result Message Bad
 message_of (first ∷ kind ∷ high ∷ low ∷ bytes) =
-    if first / 32 == 1 then (if 256 * high + low == length bytes + 4 then content_of kind bytes else Err (Malformed 0)) else Err (Malformed 0)
+    if first / 32 == VERSION then (if 256 * high + low == length bytes + 4 then content_of kind bytes else Err (Malformed 0)) else Err (Malformed 0)
 message_of _ = Err (Malformed 0)
 
 -- the message stands in the frame

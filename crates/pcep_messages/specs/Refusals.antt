@@ -1,21 +1,27 @@
 -- Why a request is refused. The rules are tried in the order in which they stand, and the first that applies is the
--- answer: a type and a value of PCEP-ERROR (RFC 5440, section 7.15; 4/4, a parameter that is not supported, RFC 5441).
+-- answer: a type and a value of PCEP-ERROR (RFC 5440, section 7.15).
 use Rattle.std.specs.Prelude.{ℕ, Bool, true, false, not, List, [], ◌∷◌, length, Option, Some, None, is_none, count_by, bit_and, nat_le, ◌==◌, ◌&&◌, ◌||◌, if◌then◌else◌}
 use Rattle.std.specs.List.{filter_map, list_any, list_all}
 use Rattle.std.specs.Option.{option_or}
 use Rattle.dom_base.specs.declared.query.Exclusion.{Exclusion}
 use Rattle.path_exclusions.specs.Support as exclusions
+use Rattle.pcep_codes.specs.declared.classes.TheConstants as classes
+use Rattle.pcep_codes.specs.declared.kinds.TheConstants as kinds
+use Rattle.pcep_codes.specs.declared.flags.TheConstants as flags
+use Rattle.pcep_codes.specs.declared.metrics.TheConstants as metrics
+use Rattle.pcep_codes.specs.declared.errors.TheConstants as errors
 use Rattle.pcep_subobjects.specs.declared.hop.Hop.{Hop}
 use Rattle.pcep_subobjects.specs.declared.hop.Hop.TheVariants as hops
 use Rattle.pcep_objects.specs.declared.object.Object.{Object}
+use Rattle.pcep_objects.specs.Spelling.{read_classes}
 use Rattle.pcep_messages.specs.Said.{rp_of, end_points_of, metric_in, metrics_of, xro_of, iro_of, key_of, asks_key}
 
 -- an error type and value, where a rule applies
 abbrev pub Reason : Type 0
 Reason = Option (ℕ × ℕ)
 
-abbrev pub because : Bool → ℕ → ℕ → Reason
-because applies kind value = if applies then Some (kind, value) else None
+abbrev pub because : Bool → ℕ × ℕ → Reason
+because applies error = if applies then Some error else None
 
 -- what the first rule that applies says
 abbrev pub first_of : List Reason → Reason
@@ -27,17 +33,21 @@ first_of (r ∷ rs) = option_or r (first_of rs)
 abbrev pub among : List ℕ → ℕ → Bool
 among xs n = list_any (λ x. x == n) xs
 
+-- the classes that are read, but in no request
+abbrev pub no_request_classes : List ℕ
+no_request_classes = classes.OPEN ∷ classes.NO_PATH ∷ classes.ERO ∷ classes.NOTIFICATION ∷ classes.PCEP_ERROR ∷ classes.CLOSE ∷ []
+
 -- An object is not supported where no such class is known (3/1), no such type of the class (3/2), or where a request
--- can't be served with such a class (4/1) or type (4/2). At the parent, whose number is 0, END-POINTS of type 2 (those of
--- IPv6) can't be served either.
+-- can't be served with such a class (4/1) or type (4/2). At the parent, whose number is 0, END-POINTS of IPv6 can't be
+-- served either.
 abbrev pub unsupported : ℕ → ℕ → ℕ → Reason
 unsupported own class kind =
-    if among (8 ∷ 11 ∷ 14 ∷ []) class then Some (4, 1)
-    else (if not (among (1 ∷ 2 ∷ 3 ∷ 4 ∷ 5 ∷ 6 ∷ 7 ∷ 9 ∷ 10 ∷ 12 ∷ 13 ∷ 15 ∷ 16 ∷ 17 ∷ []) class) then Some (3, 1)
-    else (if (class == 5) && (kind == 2) then Some (4, 2)
-    else (if (class == 4) && (kind == 2) then because (own == 0) 4 2
-    else (if not (kind == 1) then Some (3, 2)
-    else because (among (1 ∷ 3 ∷ 7 ∷ 12 ∷ 13 ∷ 15 ∷ []) class) 4 1))))
+    if among (classes.RRO ∷ classes.SVEC ∷ classes.LOAD_BALANCING ∷ []) class then Some errors.CLASS_NOT_SERVED
+    else (if not (among read_classes class) then Some errors.UNKNOWN_CLASS
+    else (if (class == classes.BANDWIDTH) && (kind == kinds.BANDWIDTH_IN_USE) then Some errors.KIND_NOT_SERVED
+    else (if (class == classes.END_POINTS) && (kind == kinds.END_POINTS_IPV6) then because (own == 0) errors.KIND_NOT_SERVED
+    else (if not (kind == kinds.FIRST) then Some errors.UNKNOWN_KIND
+    else because (among no_request_classes class) errors.CLASS_NOT_SERVED))))
 
 -- of the first object with P set that is not supported; with P clear such objects are ignored
 abbrev pub unsupported_among : ℕ → List Object → Reason
@@ -55,11 +65,11 @@ has_no_number (Some rp) = rp.0.1 == 0
 
 abbrev pub asks_other_path : Option ((ℕ × ℕ) × Bool) → Bool
 asks_other_path None = false
-asks_other_path (Some rp) = not (bit_and rp.0.0 0x18 == 0)
+asks_other_path (Some rp) = not (bit_and rp.0.0 flags.OTHER_PATH == 0)
 
--- the type of the first METRIC: IGP (1), TE (2) or hops (3); without one it is TE
+-- the type of the first METRIC; without one it is TE
 abbrev pub asked_type : List (Bool × ℕ × ℕ) → ℕ
-asked_type [] = 2
+asked_type [] = metrics.TE
 asked_type (m ∷ ms) = m.1
 
 -- a METRIC with the B flag, and one without it
@@ -81,7 +91,7 @@ is_minimised o = bit_of (metric_in o.body)
 abbrev pub are_measures : List Object → Bool
 are_measures os =
     let kind = asked_type (metrics_of os) in
-    (nat_le 1 kind && nat_le kind 3)
+    (nat_le metrics.IGP kind && nat_le kind metrics.HOPS)
     && (list_all (λ m. m.1 == kind) (metrics_of os) && (nat_le (count_by is_bound os) 1 && nat_le (count_by is_minimised os) 1))
 
 -- at most 256 exclusions, and each that is more than a wish is supported
@@ -122,26 +132,26 @@ can_follow own (Some route) =
 abbrev pub request_rules : ℕ → List Object → List Reason
 request_rules own os =
     unsupported_among own os  -- RFC 5440, 7.2: an object with P set that is not supported
-    ∷ because (is_none (rp_of os)) 6 1  -- RFC 5440, 6.4: the RP is missing
-    ∷ because (is_optional (rp_of os)) 10 1  -- RFC 5440, 7.4: the RP has P clear
-    ∷ because (has_no_number (rp_of os)) 4 4  -- RFC 5440, 7.4.1: the number of the request is 0
-    ∷ because (asks_other_path (rp_of os)) 4 4  -- RFC 5440, 7.4.1: reoptimisation (R), a path both ways (B)
+    ∷ because (is_none (rp_of os)) errors.RP_MISSING  -- RFC 5440, 6.4: the RP is missing
+    ∷ because (is_optional (rp_of os)) errors.P_CLEAR  -- RFC 5440, 7.4: the RP has P clear
+    ∷ because (has_no_number (rp_of os)) errors.PARAMETER_NOT_SERVED  -- RFC 5440, 7.4.1: the number of the request is 0
+    ∷ because (asks_other_path (rp_of os)) errors.PARAMETER_NOT_SERVED  -- RFC 5440, 7.4.1: reoptimisation (R), a path both ways (B)
     ∷ []
 
 -- for a request that asks what a path key stands for
 abbrev pub key_rules : List Object → List Reason
 key_rules os =
-    because (is_none (key_of os)) 4 4  -- RFC 5520, 3.2.3: there is no path key
+    because (is_none (key_of os)) errors.PARAMETER_NOT_SERVED  -- RFC 5520, 3.2.3: there is no path key
     ∷ []
 
 -- for a request for a path, at the element of a domain
 abbrev pub path_rules : ℕ → List Object → List Reason
 path_rules own os =
-    because (is_none (end_points_of own os)) 6 3  -- RFC 5440, 6.4: the END-POINTS are missing
-    ∷ because (is_optional (end_points_of own os)) 10 1  -- RFC 5440, 7.6: the END-POINTS have P clear
-    ∷ because (not (are_measures os)) 4 4  -- RFC 5440, 7.8: no one metric with at most one bound
-    ∷ because (not (can_exclude (xro_of os))) 4 4  -- RFC 5521, 2.1: exclusions that can't be kept
-    ∷ because (not (can_follow own (iro_of os))) 4 4  -- RFC 5440, 7.12: no sequence of domains from this one on
+    because (is_none (end_points_of own os)) errors.END_POINTS_MISSING  -- RFC 5440, 6.4: the END-POINTS are missing
+    ∷ because (is_optional (end_points_of own os)) errors.P_CLEAR  -- RFC 5440, 7.6: the END-POINTS have P clear
+    ∷ because (not (are_measures os)) errors.PARAMETER_NOT_SERVED  -- RFC 5440, 7.8: no one metric with at most one bound
+    ∷ because (not (can_exclude (xro_of os))) errors.PARAMETER_NOT_SERVED  -- RFC 5521, 2.1: exclusions that can't be kept
+    ∷ because (not (can_follow own (iro_of os))) errors.PARAMETER_NOT_SERVED  -- RFC 5440, 7.12: no sequence of domains from this one on
     ∷ []
 
 -- The error that a request is answered with, if any.

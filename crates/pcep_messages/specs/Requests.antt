@@ -10,6 +10,7 @@ use Rattle.dom_base.specs.declared.query.Exclusion.{Exclusion}
 use Rattle.dom_base.specs.declared.limits.TheConstants.{COST_MAX}
 use Rattle.dom_base.specs.Words.{units, whole}
 use Rattle.path_exclusions.specs.Support.{demands}
+use Rattle.pcep_codes.specs.declared.metrics.TheConstants as types
 use Rattle.pcep_subobjects.specs.declared.hop.Hop.{Hop}
 use Rattle.pcep_objects.specs.declared.object.Object.{Object}
 use Rattle.pcep_messages.specs.declared.message.Request.{Request}
@@ -24,7 +25,7 @@ use Rattle.pcep_messages.specs.Refusals.{asked_type, domains, refusal_of}
 -- ---- the query
 
 abbrev pub metric_of_type : ℕ → Metric
-metric_of_type kind = if kind == 1 then metrics.Igp else (if kind == 3 then metrics.Hops else metrics.Te)
+metric_of_type kind = if kind == types.IGP then metrics.Igp else (if kind == types.HOPS then metrics.Hops else metrics.Te)
 
 -- the word of the METRIC that is a bound
 abbrev pub bound_of : List (Bool × ℕ × ℕ) → Option ℕ

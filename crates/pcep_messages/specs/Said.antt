@@ -4,6 +4,8 @@ use Rattle.std.specs.List.{filter_map}
 use Rattle.std.specs.Option.{option_or}
 use Rattle.dom_base.specs.declared.addr.Addr.{Addr}
 use Rattle.dom_base.specs.declared.query.Exclusion.{Exclusion}
+use Rattle.pcep_codes.specs.declared.kinds.TheConstants as kinds
+use Rattle.pcep_codes.specs.declared.flags.TheConstants as flags
 use Rattle.pcep_subobjects.specs.declared.hop.Hop.{Hop}
 use Rattle.pcep_subobjects.specs.declared.hop.Hop.TheVariants as hops
 use Rattle.pcep_objects.specs.declared.object.Body.{Body}
@@ -30,7 +32,7 @@ end_points_in _ = None
 
 -- The parent, whose number is 0, knows no END-POINTS of type 2 (those of IPv6): it passes them over.
 abbrev pub is_passed_over : ℕ → Object → Bool
-is_passed_over own o = (own == 0) && (o.kind == 2)
+is_passed_over own o = (own == 0) && (o.kind == kinds.END_POINTS_IPV6)
 
 -- the first END-POINTS and its P bit, at the element of a domain
 abbrev pub end_points_of : ℕ → List Object → Option ((Addr × Addr) × Bool)
@@ -47,7 +49,7 @@ bandwidth_of os = first_said bandwidth_in os
 
 -- the three masks of colours
 abbrev pub masks_in : Body → Option (ℕ × ℕ × ℕ)
-masks_in (bodies.Lspa exclude_any include_any include_all setup holding flags) = Some (exclude_any, include_any, include_all)
+masks_in (bodies.Lspa exclude_any include_any include_all setup holding bits) = Some (exclude_any, include_any, include_all)
 masks_in _ = None
 
 abbrev pub masks_of : List Object → Option (ℕ × ℕ × ℕ)
@@ -98,4 +100,4 @@ key_of os = key_among (first_said path_key_in os)
 -- whether the flag of path keys is set (RFC 5520, section 3.2.1)
 abbrev pub asks_key : Option ((ℕ × ℕ) × Bool) → Bool
 asks_key None = false
-asks_key (Some rp) = not (bit_and rp.0.0 0x100 == 0)
+asks_key (Some rp) = not (bit_and rp.0.0 flags.PATH_KEY == 0)

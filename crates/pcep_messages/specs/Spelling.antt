@@ -1,8 +1,12 @@
 -- The one spelling of a message, by its objects (RFC 5440, 6.2 to 6.8). P is set in the RP of a reply and in nothing else
 -- but what a request says itself.
-use Rattle.std.specs.Prelude.{◌≡◌, ℕ, ◌+◌, ◌≤◌, true, false, List, [], ◌∷◌, ◌++◌, length, map, Option, Some, None, IsSome}
+use Rattle.std.specs.Prelude.{◌≡◌, ℕ, ◌+◌, ◌*◌, ◌≤◌, Bool, true, false, List, [], ◌∷◌, ◌++◌, length, map, Option, Some, None, IsSome}
 use Rattle.std.specs.List.{flat_map, AllByRecursion, list_any}
 use Rattle.std.specs.Int.{w16, to_be_bytes}
+use Rattle.pcep_codes.specs.declared.TheConstants.{VERSION}
+use Rattle.pcep_codes.specs.declared.messages.TheConstants as types
+use Rattle.pcep_codes.specs.declared.classes.TheConstants as classes
+use Rattle.pcep_codes.specs.declared.kinds.TheConstants as kinds
 use Rattle.pcep_subobjects.specs.Subobjects.{AreOctets}
 use Rattle.pcep_objects.specs.declared.object.Body.{Body}
 use Rattle.pcep_objects.specs.declared.object.Body.TheVariants as bodies
@@ -22,35 +26,39 @@ use Rattle.pcep_messages.specs.declared.message.ErrorReport.{ErrorReport}
 use Rattle.pcep_messages.specs.Messages.{Reads}
 use Rattle.pcep_messages.specs.Groups.{is_rp}
 
--- an object of type 1 with P clear
+-- an object of the first type of its class
+abbrev pub first_kind : ℕ → Bool → Body → Object
+first_kind class must body = record { class = class; kind = kinds.FIRST; must = must; body = body }
+
+-- one with P clear
 abbrev pub plain : ℕ → Body → Object
-plain class body = record { class = class; kind = 1; must = false; body = body }
+plain class body = first_kind class false body
 
 abbrev pub opening_object : OpenBody → Object
-opening_object opening = plain 1 (bodies.Open opening)
+opening_object opening = plain classes.OPEN (bodies.Open opening)
 
 abbrev pub id_object : ℕ × ℕ → Object
-id_object id = plain 2 (bodies.Rp id.0 id.1)
+id_object id = plain classes.RP (bodies.Rp id.0 id.1)
 
 abbrev pub metric_objects : Option (ℕ × ℕ) → List Object
 metric_objects None = []
-metric_objects (Some m) = plain 6 (bodies.Metric false false m.0 m.1) ∷ []
+metric_objects (Some m) = plain classes.METRIC (bodies.Metric false false m.0 m.1) ∷ []
 
 abbrev pub path_objects : Path → List Object
-path_objects p = plain 7 (bodies.Ero p.hops) ∷ metric_objects p.metric
+path_objects p = plain classes.ERO (bodies.Ero p.hops) ∷ metric_objects p.metric
 
 abbrev pub answer_objects : Answer → List Object
 answer_objects (answers.Paths paths) = flat_map path_objects paths
-answer_objects (answers.NoPath nature vector) = plain 3 (bodies.NoPath nature vector) ∷ []
+answer_objects (answers.NoPath nature vector) = plain classes.NO_PATH (bodies.NoPath nature vector) ∷ []
 
 abbrev pub reply_objects : Reply → List Object
-reply_objects r = record { class = 2; kind = 1; must = true; body = bodies.Rp r.flags r.id } ∷ answer_objects r.answer
+reply_objects r = first_kind classes.RP true (bodies.Rp r.flags r.id) ∷ answer_objects r.answer
 
 abbrev pub kind_object : ℕ × ℕ → Object
-kind_object k = plain 12 (bodies.Notification k.0 k.1)
+kind_object k = plain classes.NOTIFICATION (bodies.Notification k.0 k.1)
 
 abbrev pub error_object : ℕ × ℕ → Object
-error_object k = plain 13 (bodies.Error k.0 k.1)
+error_object k = plain classes.PCEP_ERROR (bodies.Error k.0 k.1)
 
 abbrev pub notice_objects : Notice → List Object
 notice_objects n = map id_object n.ids ++ map kind_object n.kinds
@@ -64,13 +72,13 @@ abbrev pub report_objects : ErrorReport → List Object
 report_objects r = map id_object r.ids ++ map error_object r.errors ++ opening_objects r.opening
 
 abbrev pub kind_of : Message → ℕ
-kind_of (messages.Open opening) = 1
-kind_of messages.Keepalive = 2
-kind_of (messages.PcReq asked) = 3
-kind_of (messages.PcRep replies) = 4
-kind_of (messages.PcNtf notices) = 5
-kind_of (messages.PcErr reports) = 6
-kind_of (messages.Close reason) = 7
+kind_of (messages.Open opening) = types.OPEN
+kind_of messages.Keepalive = types.KEEPALIVE
+kind_of (messages.PcReq asked) = types.PCREQ
+kind_of (messages.PcRep replies) = types.PCREP
+kind_of (messages.PcNtf notices) = types.PCNTF
+kind_of (messages.PcErr reports) = types.PCERR
+kind_of (messages.Close reason) = types.CLOSE
 kind_of (messages.Other kind) = kind
 
 abbrev pub objects_in : Message → List Object
@@ -80,7 +88,7 @@ objects_in (messages.PcReq asked) = flat_map (λ (a : Asked). a.objects) asked
 objects_in (messages.PcRep replies) = flat_map reply_objects replies
 objects_in (messages.PcNtf notices) = flat_map notice_objects notices
 objects_in (messages.PcErr reports) = flat_map report_objects reports
-objects_in (messages.Close reason) = plain 15 (bodies.Close reason) ∷ []
+objects_in (messages.Close reason) = plain classes.CLOSE (bodies.Close reason) ∷ []
 objects_in (messages.Other kind) = []
 
 abbrev pub objects_text : List Object → List ℕ
@@ -90,7 +98,7 @@ abbrev pub content_text : Message → List ℕ
 content_text m = objects_text (objects_in m)
 
 abbrev pub message_text : Message → List ℕ
-message_text m = 32 ∷ kind_of m ∷ to_be_bytes w16 (length (content_text m) + 4) ++ content_text m
+message_text m = VERSION * 32 ∷ kind_of m ∷ to_be_bytes w16 (length (content_text m) + 4) ++ content_text m
 
 -- ---- what is written and read again
 

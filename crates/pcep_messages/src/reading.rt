@@ -4,6 +4,7 @@ ghost use Rattle.pcep_messages.specs.Messages.{Gives, content_of, message_of, ma
 ghost use Rattle.pcep_objects.specs.Objects.{object_at};
 ghost use Rattle.pcep_messages.specs.Spelling.{WrittenIsRead, WrittenIsOctets, NoneBeginsAnother};
 ghost use Rattle.pcep_messages.specs.Groups.{opening_in, report_groups};
+ghost use Rattle.pcep_codes.specs.declared.messages.TheConstants as types;
 ghost use Rattle.pcep_messages.specs.declared.message.Message.TheVariants as messages;
 
 use crate::answers::{notices, replies, reports, requests};
@@ -11,6 +12,7 @@ use crate::groups::{Closer, cut_groups, opening};
 use crate::message::{Bad, Message};
 use crate::objects::{fault_of_members, read_members};
 use dom_base::{List, NoMemory};
+use pcep_codes::{VERSION, messages};
 use pcep_objects::{Body, Object, OpenBody, read_object};
 use std::alloc::Global;
 
@@ -71,7 +73,7 @@ fn close(alloc: Global, bytes: &[u8]) -> Result<Message, Bad>
 
 fn keepalive(bytes: &[u8]) -> Result<Message, Bad>
     requires { length bytes.now ≤ 65536 }
-    ensures { Gives result (made_by_all 2 (members_of bytes.now)) }
+    ensures { Gives result (made_by_all types.KEEPALIVE (members_of bytes.now)) }
 {
     match fault_of_members(bytes) {
         Some(place) => Err(Bad::Malformed(place)),
@@ -93,19 +95,19 @@ fn made(alloc: Global, kind: u8, objects: List<Object>) -> Result<Message, NoMem
     ensures { IfOk result (λ m. m ≡ made_of kind objects) }
 {
     match kind {
-        3 => {
+        messages::PCREQ => {
             let groups = cut_groups(alloc, Closer::Rp, false, objects)?;
             Ok(Message::PcReq(requests(alloc, groups)?))
         }
-        4 => {
+        messages::PCREP => {
             let groups = cut_groups(alloc, Closer::Rp, true, objects)?;
             Ok(Message::PcRep(replies(alloc, groups)?))
         }
-        5 => {
+        messages::PCNTF => {
             let groups = groups_of_reports(alloc, objects)?;
             Ok(Message::PcNtf(notices(alloc, groups.as_slice())?))
         }
-        6 => {
+        messages::PCERR => {
             let groups = groups_of_reports(alloc, objects)?;
             Ok(Message::PcErr(reports(alloc, groups.as_slice())?))
         }
@@ -129,10 +131,10 @@ fn content(alloc: Global, kind: u8, bytes: &[u8]) -> Result<Message, Bad>
     ensures { Gives result (content_of kind bytes.now) }
 {
     match kind {
-        1 => open(alloc, bytes),
-        2 => keepalive(bytes),
-        3..=6 => made_by_members(alloc, kind, bytes),
-        7 => close(alloc, bytes),
+        messages::OPEN => open(alloc, bytes),
+        messages::KEEPALIVE => keepalive(bytes),
+        messages::PCREQ..=messages::PCERR => made_by_members(alloc, kind, bytes),
+        messages::CLOSE => close(alloc, bytes),
         _ => Ok(Message::Other(kind)),
     }
 }
@@ -146,7 +148,7 @@ pub fn read_message(alloc: Global, frame: &[u8]) -> Result<Message, Bad>
     match frame {
         [first, kind, high, low, rest @ ..] => {
             let len = 256 * *high as usize + *low as usize;
-            if *first / 32 != 1 || rest.len() + 4 != len {
+            if *first / 32 != VERSION || rest.len() + 4 != len {
                 return Err(Bad::Malformed(0));
             }
             content(alloc, *kind, rest)

@@ -10,6 +10,7 @@ use crate::said::{
 };
 use dom_base::{Addr, As};
 use path_exclusions::find_unsupported;
+use pcep_codes::{classes, errors, flags, kinds, metrics};
 use pcep_objects::{Body, Object};
 use pcep_subobjects::Hop;
 
@@ -19,18 +20,42 @@ fn unsupported_kind(own: As, class: u8, kind: u8) -> Option<(u8, u8)>
     ensures { result ≡ unsupported own.0 class kind }
 {
     match class {
-        8 | 11 | 14 => Some((4, 1)),
-        5 if kind == 2 => Some((4, 2)),
-        4 if kind == 2 => { if own == As(0) { Some((4, 2)) } else { None } }
-        1 | 3 | 7 | 12 | 13 | 15 => {
-            if kind == 1 {
-                Some((4, 1))
+        classes::RRO | classes::SVEC | classes::LOAD_BALANCING => Some(errors::CLASS_NOT_SERVED),
+        classes::BANDWIDTH if kind == kinds::BANDWIDTH_IN_USE => Some(errors::KIND_NOT_SERVED),
+        classes::END_POINTS if kind == kinds::END_POINTS_IPV6 => {
+            if own == As(0) {
+                Some(errors::KIND_NOT_SERVED)
             } else {
-                Some((3, 2))
+                None
             }
         }
-        2 | 4 | 5 | 6 | 9 | 10 | 16 | 17 => { if kind == 1 { None } else { Some((3, 2)) } }
-        _ => Some((3, 1)),
+        classes::OPEN
+        | classes::NO_PATH
+        | classes::ERO
+        | classes::NOTIFICATION
+        | classes::PCEP_ERROR
+        | classes::CLOSE => {
+            if kind == kinds::FIRST {
+                Some(errors::CLASS_NOT_SERVED)
+            } else {
+                Some(errors::UNKNOWN_KIND)
+            }
+        }
+        classes::RP
+        | classes::END_POINTS
+        | classes::BANDWIDTH
+        | classes::METRIC
+        | classes::LSPA
+        | classes::IRO
+        | classes::PATH_KEY
+        | classes::XRO => {
+            if kind == kinds::FIRST {
+                None
+            } else {
+                Some(errors::UNKNOWN_KIND)
+            }
+        }
+        _ => Some(errors::UNKNOWN_CLASS),
     }
 }
 
@@ -65,14 +90,14 @@ pub fn find_request(objects: &[Object], own: As) -> Result<(u32, u32), (u8, u8)>
         return Err(error);
     }
     match find_rp(objects) {
-        None => Err((6, 1)),
-        Some((_, false)) => Err((10, 1)),
-        Some(((_, 0), true)) => Err((4, 4)),
+        None => Err(errors::RP_MISSING),
+        Some((_, false)) => Err(errors::P_CLEAR),
+        Some(((_, 0), true)) => Err(errors::PARAMETER_NOT_SERVED),
         Some(((flags, id), true)) => {
-            if flags & 0x18 == 0 {
+            if flags & flags::OTHER_PATH == 0 {
                 Ok((flags, id))
             } else {
-                Err((4, 4))
+                Err(errors::PARAMETER_NOT_SERVED)
             }
         }
     }
@@ -86,7 +111,7 @@ pub fn find_asked_key(objects: &[Object]) -> Result<(u16, Addr), (u8, u8)>
 {
     match find_key(objects) {
         Some(key) => Ok(key),
-        None => Err((4, 4)),
+        None => Err(errors::PARAMETER_NOT_SERVED),
     }
 }
 
@@ -94,7 +119,7 @@ fn measures(objects: &[Object]) -> bool
     ensures { result ≡ are_measures objects.now }
 {
     let kind = metric_type(objects);
-    (1 <= kind && kind <= 3)
+    (metrics::IGP <= kind && kind <= metrics::HOPS)
         && are_of_type(objects, kind)
         && count_bounds(objects) <= 1
         && count_minimised(objects) <= 1
@@ -192,13 +217,13 @@ pub fn find_ends(objects: &[Object], own: As) -> Result<(Addr, Addr), (u8, u8)>
         (λ e. first_of (path_rules own.0 objects.now) ≡ Some e) }
 {
     match find_end_points(objects, own) {
-        None => Err((6, 3)),
-        Some((_, false)) => Err((10, 1)),
+        None => Err(errors::END_POINTS_MISSING),
+        Some((_, false)) => Err(errors::P_CLEAR),
         Some((ends, true)) => {
             if measures(objects) && excludes(objects) && follows(objects, own) {
                 Ok(ends)
             } else {
-                Err((4, 4))
+                Err(errors::PARAMETER_NOT_SERVED)
             }
         }
     }
@@ -210,6 +235,6 @@ pub fn asks_for_key(rp: Option<((u32, u32), bool)>) -> bool
 {
     match rp {
         None => false,
-        Some(((flags, _), _)) => flags & 0x100 != 0,
+        Some(((flags, _), _)) => flags & flags::PATH_KEY != 0,
     }
 }

@@ -13,6 +13,7 @@ use dom_base::{
     whole_of_word,
 };
 use path_exclusions::copies_of_demands;
+use pcep_codes::metrics;
 use pcep_objects::{Body, Object};
 use pcep_subobjects::Hop;
 use std::alloc::Global;
@@ -21,8 +22,8 @@ fn metric_of(kind: u8) -> Metric
     ensures { result ≡ metric_of_type kind }
 {
     match kind {
-        1 => Metric::Igp,
-        3 => Metric::Hops,
+        metrics::IGP => Metric::Igp,
+        metrics::HOPS => Metric::Hops,
         _ => Metric::Te,
     }
 }

@@ -4,20 +4,21 @@ ghost use Rattle.std.specs.Prelude.{◌-◌, ◌*◌, ◌≤◌, map, SomeIff};
 ghost use Rattle.std.specs.List.{flat_map};
 ghost use Rattle.pcep_subobjects.specs.Subobjects.{IsLeftBehind};
 ghost use Rattle.pcep_objects.specs.Spelling.{object_text};
-ghost use Rattle.pcep_messages.specs.Spelling.{id_object, kind_object, error_object, path_objects, answer_objects, reply_objects, notice_objects, report_objects, objects_text, content_text};
+ghost use Rattle.pcep_messages.specs.Spelling.{first_kind, id_object, kind_object, error_object, path_objects, answer_objects, reply_objects, notice_objects, report_objects, objects_text, content_text};
 
 use crate::message::{Answer, Asked, ErrorReport, Message, Notice, Path, Reply};
+use pcep_codes::{classes, kinds};
 use pcep_objects::{Body, Object, room_behind_object, room_behind_route};
 
 // Each function says how many octets of a room are left behind a text, and None where the text has
 // no room.
 
 fn behind(class: u8, must: bool, body: Body, room: usize) -> Option<usize>
-    ensures { IsLeftBehind (object_text (record { class = class; kind = 1; must = must; body = body })) room result }
+    ensures { IsLeftBehind (object_text (first_kind class must body)) room result }
 {
     let object = Object {
         class,
-        kind: 1,
+        kind: kinds::FIRST,
         must,
         body,
     };
@@ -86,7 +87,7 @@ fn behind_answer(answer: &Answer, room: usize) -> Option<usize>
                 nature: *nature,
                 vector: *vector,
             };
-            behind(3, false, body, room)
+            behind(classes::NO_PATH, false, body, room)
         }
     }
 }
@@ -177,7 +178,7 @@ fn behind_report(report: &ErrorReport, room: usize) -> Option<usize>
         None => return None,
     };
     match report.opening {
-        Some(opening) => behind(1, false, Body::Open(opening), left),
+        Some(opening) => behind(classes::OPEN, false, Body::Open(opening), left),
         None => Some(left),
     }
 }
@@ -199,12 +200,12 @@ pub fn behind_content(message: &Message, room: usize) -> Option<usize>
     ensures { IsLeftBehind (content_text message.now) room result }
 {
     match message {
-        Message::Open(opening) => behind(1, false, Body::Open(*opening), room),
+        Message::Open(opening) => behind(classes::OPEN, false, Body::Open(*opening), room),
         Message::PcReq(asked) => behind_requests(asked.as_slice(), room),
         Message::PcRep(replies) => behind_replies(replies.as_slice(), room),
         Message::PcNtf(notices) => behind_notices(notices.as_slice(), room),
         Message::PcErr(reports) => behind_reports(reports.as_slice(), room),
-        Message::Close(reason) => behind(15, false, Body::Close(*reason), room),
+        Message::Close(reason) => behind(classes::CLOSE, false, Body::Close(*reason), room),
         Message::Keepalive | Message::Other(_) => Some(room),
     }
 }

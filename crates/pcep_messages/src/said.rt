@@ -9,6 +9,7 @@ ghost use Rattle.pcep_messages.specs.Requests.{bound_of};
 
 use crate::groups::rp;
 use dom_base::{Addr, As};
+use pcep_codes::{kinds, metrics};
 use pcep_objects::{Body, Object};
 use pcep_subobjects::Hop;
 
@@ -36,7 +37,7 @@ fn end_points(object: &Object) -> Option<(Addr, Addr)>
 fn end_points_with_bit(object: &Object, own: As) -> Option<((Addr, Addr), bool)>
     ensures { result ≡ (if is_passed_over own.0 object.now then None else with_bit (end_points_in object.now.body) object.now.must) }
 {
-    if own == As(0) && object.kind == 2 {
+    if own == As(0) && object.kind == kinds::END_POINTS_IPV6 {
         return None;
     }
     let said = end_points(object)?;
@@ -125,7 +126,7 @@ pub fn metric_type(objects: &[Object]) -> u8
             return kind;
         }
     }
-    2
+    metrics::TE
 }
 
 /// The word of the first METRIC that is a bound.

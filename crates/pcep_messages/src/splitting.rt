@@ -3,6 +3,7 @@ ghost use Rattle.std.specs.Prelude.{◌≡◌, ◌∷◌, [], map, count_by, IfO
 ghost use Rattle.pcep_messages.specs.Splitting.{octets_at, begins_rp, up_to_rp, groups_of, framed, frame_with, split_objects, split_of, GivesLength, GivesChunks, chunks_of};
 
 use dom_base::{Bytes, List, NoMemory, half};
+use pcep_codes::{VERSION, classes, kinds, messages};
 use std::alloc::Global;
 
 /// How many octets the object at the front has.
@@ -41,7 +42,7 @@ fn chunks(alloc: Global, bytes: &[u8]) -> Result<Option<List<Bytes>>, NoMemory>
 fn begins(object: &[u8]) -> bool
     ensures { result ≡ begins_rp object.now }
 {
-    object.len() >= 2 && object[0] == 2 && object[1] / 16 == 1
+    object.len() >= 2 && object[0] == classes::RP && object[1] / 16 == kinds::FIRST
 }
 
 fn frame(alloc: Global, first: u8, kind: u8, content: &[u8]) -> Result<Bytes, NoMemory>
@@ -126,7 +127,10 @@ pub fn split_message(alloc: Global, frame: &[u8]) -> Result<List<Bytes>, NoMemor
         [first, kind, high, low, rest @ ..] => {
             let len = 256 * *high as usize + *low as usize;
             let is_whole = len == rest.len() + 4;
-            if *first / 32 == 1 && is_whole && (*kind == 3 || *kind == 4) {
+            if *first / 32 == VERSION
+                && is_whole
+                && (*kind == messages::PCREQ || *kind == messages::PCREP)
+            {
                 split(alloc, frame, *first, *kind, rest)
             } else {
                 alone(alloc, frame)

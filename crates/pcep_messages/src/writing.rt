@@ -2,20 +2,21 @@
 ghost use Rattle.std.specs.Prelude.{◌≡◌, ◌<◌, ◌↔◌, ◌++◌, length, map, OnOk, OnErr};
 ghost use Rattle.std.specs.List.{flat_map};
 ghost use Rattle.pcep_objects.specs.Spelling.{object_text};
-ghost use Rattle.pcep_messages.specs.Spelling.{id_object, kind_object, error_object, path_objects, answer_objects, reply_objects, notice_objects, report_objects, content_text, message_text, kind_of};
+ghost use Rattle.pcep_messages.specs.Spelling.{first_kind, id_object, kind_object, error_object, path_objects, answer_objects, reply_objects, notice_objects, report_objects, content_text, message_text, kind_of};
 
 use crate::message::{Answer, Asked, ErrorReport, Message, Notice, Path, Reply, WriteError};
 use crate::room::behind_content;
 use dom_base::NoMemory;
+use pcep_codes::{VERSION, classes, kinds, messages};
 use pcep_objects::{Body, Object, write_object, write_route};
 use std::alloc::Global;
 
 fn put(alloc: Global, text: &mut Vec<u8>, class: u8, must: bool, body: Body) -> Result<(), NoMemory>
-    ensures { OnOk result (text.new.items ≡ text.old.items ++ object_text (record { class = class; kind = 1; must = must; body = body })) }
+    ensures { OnOk result (text.new.items ≡ text.old.items ++ object_text (first_kind class must body)) }
 {
     let object = Object {
         class,
-        kind: 1,
+        kind: kinds::FIRST,
         must,
         body,
     };
@@ -51,7 +52,7 @@ fn put_path(alloc: Global, text: &mut Vec<u8>, path: &Path) -> Result<(), NoMemo
             kind,
             word,
         };
-        put(alloc, text, 6, false, metric)?;
+        put(alloc, text, classes::METRIC, false, metric)?;
     }
     Ok(())
 }
@@ -75,7 +76,7 @@ fn put_answer(alloc: Global, text: &mut Vec<u8>, answer: &Answer) -> Result<(), 
                 nature: *nature,
                 vector: *vector,
             };
-            put(alloc, text, 3, false, body)
+            put(alloc, text, classes::NO_PATH, false, body)
         }
     }
 }
@@ -87,7 +88,7 @@ fn put_reply(alloc: Global, text: &mut Vec<u8>, reply: &Reply) -> Result<(), NoM
         flags: reply.flags,
         id: reply.id,
     };
-    put(alloc, text, 2, true, rp)?;
+    put(alloc, text, classes::RP, true, rp)?;
     put_answer(alloc, text, &reply.answer)
 }
 
@@ -108,7 +109,7 @@ fn put_ids(alloc: Global, text: &mut Vec<u8>, ids: &[(u32, u32)]) -> Result<(), 
             flags: *flags,
             id: *id,
         };
-        put(alloc, text, 2, false, rp)?;
+        put(alloc, text, classes::RP, false, rp)?;
     }
     Ok(())
 }
@@ -117,7 +118,13 @@ fn put_kinds(alloc: Global, text: &mut Vec<u8>, kinds: &[(u8, u8)]) -> Result<()
     ensures { OnOk result (text.new.items ≡ text.old.items ++ flat_map object_text (map kind_object kinds.now)) }
 {
     for (kind, value) in kinds {
-        put(alloc, text, 12, false, Body::Notification(*kind, *value))?;
+        put(
+            alloc,
+            text,
+            classes::NOTIFICATION,
+            false,
+            Body::Notification(*kind, *value),
+        )?;
     }
     Ok(())
 }
@@ -142,7 +149,13 @@ fn put_errors(alloc: Global, text: &mut Vec<u8>, errors: &[(u8, u8)]) -> Result<
     ensures { OnOk result (text.new.items ≡ text.old.items ++ flat_map object_text (map error_object errors.now)) }
 {
     for (kind, value) in errors {
-        put(alloc, text, 13, false, Body::Error(*kind, *value))?;
+        put(
+            alloc,
+            text,
+            classes::PCEP_ERROR,
+            false,
+            Body::Error(*kind, *value),
+        )?;
     }
     Ok(())
 }
@@ -153,7 +166,7 @@ fn put_report(alloc: Global, text: &mut Vec<u8>, report: &ErrorReport) -> Result
     put_ids(alloc, text, report.ids.as_slice())?;
     put_errors(alloc, text, report.errors.as_slice())?;
     if let Some(opening) = report.opening {
-        put(alloc, text, 1, false, Body::Open(opening))?;
+        put(alloc, text, classes::OPEN, false, Body::Open(opening))?;
     }
     Ok(())
 }
@@ -171,12 +184,12 @@ fn put_content(alloc: Global, text: &mut Vec<u8>, message: &Message) -> Result<(
     ensures { OnOk result (text.new.items ≡ text.old.items ++ content_text message.now) }
 {
     match message {
-        Message::Open(opening) => put(alloc, text, 1, false, Body::Open(*opening)),
+        Message::Open(opening) => put(alloc, text, classes::OPEN, false, Body::Open(*opening)),
         Message::PcReq(asked) => put_asked(alloc, text, asked.as_slice()),
         Message::PcRep(replies) => put_replies(alloc, text, replies.as_slice()),
         Message::PcNtf(notices) => put_notices(alloc, text, notices.as_slice()),
         Message::PcErr(reports) => put_reports(alloc, text, reports.as_slice()),
-        Message::Close(reason) => put(alloc, text, 15, false, Body::Close(*reason)),
+        Message::Close(reason) => put(alloc, text, classes::CLOSE, false, Body::Close(*reason)),
         Message::Keepalive | Message::Other(_) => Ok(()),
     }
 }
@@ -185,13 +198,13 @@ fn kind(message: &Message) -> u8
     ensures { result ≡ kind_of message.now }
 {
     match message {
-        Message::Open(_) => 1,
-        Message::Keepalive => 2,
-        Message::PcReq(_) => 3,
-        Message::PcRep(_) => 4,
-        Message::PcNtf(_) => 5,
-        Message::PcErr(_) => 6,
-        Message::Close(_) => 7,
+        Message::Open(_) => messages::OPEN,
+        Message::Keepalive => messages::KEEPALIVE,
+        Message::PcReq(_) => messages::PCREQ,
+        Message::PcRep(_) => messages::PCREP,
+        Message::PcNtf(_) => messages::PCNTF,
+        Message::PcErr(_) => messages::PCERR,
+        Message::Close(_) => messages::CLOSE,
         Message::Other(kind) => *kind,
     }
 }
@@ -214,7 +227,7 @@ pub fn write_message(alloc: Global, message: &Message, into: &mut Vec<u8>) -> Re
     put_content(alloc, &mut content, message)?;
     let [high, low] = ((content.len() + 4) as u16).to_be_bytes();
     let mut text = Vec::new(alloc);
-    text.extend_from_slice(&[32, kind(message), high, low])?;
+    text.extend_from_slice(&[VERSION * 32, kind(message), high, low])?;
     text.extend_from_slice(&content)?;
     into.extend_from_slice(&text)?;
     Ok(())

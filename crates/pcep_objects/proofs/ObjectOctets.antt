@@ -5,7 +5,7 @@ use Rattle.pcep_subobjects.specs.Hops.{hop_text}
 use Rattle.pcep_subobjects.specs.Hops as hops
 use Rattle.pcep_subobjects.specs.Exclusions.{exclusion_text}
 use Rattle.pcep_subobjects.specs.Exclusions as exclusions
-use Rattle.pcep_subobjects.proofs.OctetLaws.{IsOctets, none, one_more, joined, half_octets, word_octets, addr_is_octets, all_octets, two, four, hop_octets, exclusion_octets}
+use Rattle.pcep_subobjects.proofs.OctetLaws.{IsOctets, none, one_more, joined, half_octets, word_octets, addr_is_octets, all_octets, four, hop_octets, exclusion_octets}
 use Rattle.pcep_objects.specs.declared.object.Body.{Body}
 use Rattle.pcep_objects.specs.declared.object.Body.TheVariants as bodies
 use Rattle.pcep_objects.specs.declared.object.Object.{Object}

@@ -1,6 +1,7 @@
 //! The objects of messages, as octets and back.
 #![tactic(auto)]
 
+mod bits;
 mod bodies;
 mod object;
 mod reading;

@@ -3,8 +3,10 @@ ghost use Rattle.std.specs.Prelude.{◌≡◌, ◌≤◌, ◌+◌, ◌/◌, Err,
 ghost use Rattle.pcep_objects.specs.Bodies.{body_of};
 ghost use Rattle.pcep_objects.specs.Objects.{object_at, with_body, Gives, Measures};
 
+use crate::bits::has_flag;
 use crate::bodies::{is_body, read_body};
 use crate::object::{Object, ObjectFault};
+use pcep_codes::flags;
 use std::alloc::Global;
 
 /// The class, the octet of type and flags, and the body of the object at the front.
@@ -43,7 +45,7 @@ fn object(
     ensures len { IfOk result (λ x. x.1 ≡ length content.now + 4) }
 {
     let kind = second / 16;
-    let must = second / 2 % 2 == 1;
+    let must = has_flag(second, flags::MUST);
     let body = read_body(alloc, class, kind, content)?;
     let object = Object {
         class,

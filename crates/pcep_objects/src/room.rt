@@ -1,7 +1,6 @@
 //! How much room the text of an object takes.
-ghost use Rattle.std.specs.Prelude.{false};
 ghost use Rattle.pcep_subobjects.specs.Subobjects.{IsLeftBehind};
-ghost use Rattle.pcep_objects.specs.Spelling.{body_text, framed_text, object_text};
+ghost use Rattle.pcep_objects.specs.Spelling.{body_text, object_text, route_text};
 
 use crate::object::{Body, Object};
 use dom_base::List;
@@ -48,7 +47,7 @@ pub fn room_behind_object(object: &Object, room: usize) -> Option<usize>
 
 /// The same for an ERO of this route.
 pub fn room_behind_route(route: &List<Hop>, room: usize) -> Option<usize>
-    ensures { IsLeftBehind (framed_text 7 1 false (body_text (Body.Ero route.now))) room result }
+    ensures { IsLeftBehind (route_text route.now) room result }
 {
     match room.checked_sub(4) {
         Some(left) => room_behind_hops(route.as_slice(), left),

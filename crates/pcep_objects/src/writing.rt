@@ -1,19 +1,25 @@
 //! Objects as octets.
-ghost use Rattle.std.specs.Prelude.{◌≡◌, ◌++◌, false, OnOk, OnErr};
-ghost use Rattle.pcep_objects.specs.Spelling.{body_text, framed_text, object_text, flag};
+ghost use Rattle.std.specs.Prelude.{◌≡◌, ◌++◌, OnOk, OnErr};
+ghost use Rattle.pcep_objects.specs.Spelling.{body_text, framed_text, object_text, route_text, tlv_text};
 ghost use Rattle.std.specs.Int.{w32, to_be_bytes};
 ghost use Rattle.pcep_objects.specs.Laws.{WrittenIsRead, WrittenIsOctets, NoneBeginsAnother};
 
+use crate::bits::flag;
 use crate::object::{Body, Object, OpenBody};
 use crate::room::room_behind_object;
 use dom_base::{Addr, List, NoMemory};
+use pcep_codes::{classes, flags, kinds, tlvs};
 use pcep_subobjects::{Hop, Spelled, put_addr, write_exclusions, write_hops};
 use std::alloc::Global;
 
-fn flag(set: bool, value: u8) -> u8
-    ensures { result ≡ flag set value }
+/// A TLV of one word.
+fn put_tlv(text: &mut Vec<u8>, kind: u16, word: u32) -> Result<(), NoMemory>
+    ensures { OnOk result (text.new.items ≡ text.old.items ++ tlv_text kind word) }
 {
-    if set { value } else { 0 }
+    let [high, low] = kind.to_be_bytes();
+    let [a, b, c, d] = word.to_be_bytes();
+    text.extend_from_slice(&[high, low, 0, 4, a, b, c, d])?;
+    Ok(())
 }
 
 fn put_open(text: &mut Vec<u8>, opening: OpenBody) -> Result<(), NoMemory>
@@ -23,7 +29,7 @@ fn put_open(text: &mut Vec<u8>, opening: OpenBody) -> Result<(), NoMemory>
     let first = opening.version % 8 * 32;
     text.extend_from_slice(&[first, offer.keepalive, offer.dead, offer.sid])?;
     if offer.stateful {
-        text.extend_from_slice(&[0, 16, 0, 4, 0, 0, 0, 0])?;
+        put_tlv(text, tlvs::STATEFUL, 0)?;
     }
     Ok(())
 }
@@ -33,8 +39,7 @@ fn put_no_path(text: &mut Vec<u8>, nature: u8, vector: u32) -> Result<(), NoMemo
 {
     text.extend_from_slice(&[nature, 0, 0, 0])?;
     if vector != 0 {
-        let [a, b, c, d] = vector.to_be_bytes();
-        text.extend_from_slice(&[0, 1, 0, 4, a, b, c, d])?;
+        put_tlv(text, tlvs::NO_PATH_VECTOR, vector)?;
     }
     Ok(())
 }
@@ -48,6 +53,21 @@ fn put_two(text: &mut Vec<u8>, first: u32, second: u32) -> Result<(), NoMemory>
     Ok(())
 }
 
+fn put_masks(
+    text: &mut Vec<u8>,
+    exclude_any: u32,
+    include_any: u32,
+    include_all: u32,
+) -> Result<(), NoMemory>
+    ensures { OnOk result (text.new.items ≡ text.old.items ++ (to_be_bytes w32 exclude_any ++ to_be_bytes w32 include_any ++ to_be_bytes w32 include_all)) }
+{
+    let [a, b, c, d] = exclude_any.to_be_bytes();
+    let [e, f, g, h] = include_any.to_be_bytes();
+    let [i, j, k, l] = include_all.to_be_bytes();
+    text.extend_from_slice(&[a, b, c, d, e, f, g, h, i, j, k, l])?;
+    Ok(())
+}
+
 fn put_metric(
     text: &mut Vec<u8>,
     bound: bool,
@@ -58,7 +78,7 @@ fn put_metric(
     ensures { OnOk result (text.new.items ≡ text.old.items ++ body_text (Body.Metric bound computed kind word)) }
 {
     let [a, b, c, d] = word.to_be_bytes();
-    let flags = flag(computed, 2) + flag(bound, 1);
+    let flags = flag(computed, flags::COMPUTED) + flag(bound, flags::BOUND);
     text.extend_from_slice(&[0, 0, flags, kind, a, b, c, d])?;
     Ok(())
 }
@@ -96,12 +116,8 @@ fn put_body(alloc: Global, text: &mut Vec<u8>, body: &Body) -> Result<(), NoMemo
             holding,
             flags,
         } => {
-            let [a, b, c, d] = exclude_any.to_be_bytes();
-            let [e, f, g, h] = include_any.to_be_bytes();
-            let [i, j, k, l] = include_all.to_be_bytes();
-            text.extend_from_slice(&[
-                a, b, c, d, e, f, g, h, i, j, k, l, *setup, *holding, *flags, 0,
-            ])?;
+            put_masks(text, *exclude_any, *include_any, *include_all)?;
+            text.extend_from_slice(&[*setup, *holding, *flags, 0])?;
         }
         Body::Notification(kind, value) | Body::Error(kind, value) => {
             text.extend_from_slice(&[0, 0, *kind, *value])?
@@ -129,7 +145,7 @@ fn write_framed(
     ensures err { OnErr result (into.new.items ≡ into.old.items) }
 {
     let [high, low] = (((body.len() % 65536 + 4) % 65536) as u16).to_be_bytes();
-    let second = kind % 16 * 16 + flag(must, 2);
+    let second = kind % 16 * 16 + flag(must, flags::MUST);
     let mut text = Vec::new(alloc);
     text.extend_from_slice(&[class, second, high, low])?;
     text.extend_from_slice(body)?;
@@ -150,12 +166,12 @@ pub fn write_object(alloc: Global, object: &Object, into: &mut Vec<u8>) -> Resul
 
 /// Appends the text of an ERO of this route, with P clear.
 pub fn write_route(alloc: Global, route: &List<Hop>, into: &mut Vec<u8>) -> Result<(), NoMemory>
-    ensures ok { OnOk result (into.new.items ≡ into.old.items ++ framed_text 7 1 false (body_text (Body.Ero route.now))) }
+    ensures ok { OnOk result (into.new.items ≡ into.old.items ++ route_text route.now) }
     ensures err { OnErr result (into.new.items ≡ into.old.items) }
 {
     let mut body = Vec::new(alloc);
     write_hops(alloc, route.as_slice(), &mut body)?;
-    write_framed(alloc, 7, 1, false, &body, into)
+    write_framed(alloc, classes::ERO, kinds::FIRST, false, &body, into)
 }
 
 /// An object in written form is read again from its text, whatever follows it.

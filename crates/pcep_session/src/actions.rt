@@ -1,5 +1,6 @@
 //! What a step of a session asks for.
 ghost use Rattle.std.specs.Prelude.{◌≡◌, [], ◌∷◌, IsSome};
+ghost use Rattle.pcep_session.specs.Table.{error_of};
 
 use pcep_capabilities::Offer;
 use pcep_messages::Message;
@@ -52,6 +53,13 @@ pub struct Actions {
     pub third: Option<Action>,
     pub ghost second_behind_first: { IsSome second → IsSome first },
     pub ghost third_behind_second: { IsSome third → IsSome second },
+}
+
+/// Sends an error, by type and value.
+pub(crate) fn send_error(error: (u8, u8)) -> Action
+    ensures { result ≡ Action.Send (error_of error) }
+{
+    Action::Send(Own::Error(error.0, error.1))
 }
 
 impl Actions {

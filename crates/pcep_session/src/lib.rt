@@ -11,10 +11,3 @@ pub use actions::{Action, Actions, Own, Reason};
 pub use law::sessions_keep_order;
 pub use session::{Input, Session};
 pub use state::{Phase, State, Unknown};
-
-/// How long a peer may take to open a session, in seconds (RFC 5440, appendix A: OpenWait and KeepWait).
-pub const WAIT: u64 = 60;
-
-/// Five unknown messages end a session where the first of them is at most so many seconds old (RFC 5440,
-/// section 6.9).
-pub const UNKNOWN_SPAN: u64 = 59;

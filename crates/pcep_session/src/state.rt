@@ -2,12 +2,13 @@
 ghost use Rattle.std.specs.Prelude.{◌≡◌, ◌<◌};
 ghost use Rattle.pcep_session.specs.Listed.{listed};
 
-use crate::actions::{Action, Actions, Own, Reason};
+use crate::actions::{Action, Actions, Own, Reason, send_error};
 use crate::reports::{first_error, first_opening};
 use crate::session::Input;
-use crate::{UNKNOWN_SPAN, WAIT};
 use dom_base::Tick;
 use pcep_capabilities::{Agreed, Offer, negotiate};
+use pcep_codes::timers::{UNKNOWN_SPAN, WAIT};
+use pcep_codes::{VERSION, errors, messages, reasons};
 use pcep_messages::{ErrorReport, Message};
 use pcep_objects::OpenBody;
 
@@ -114,7 +115,7 @@ impl State {
     {
         self.enter(Phase::Down);
         Actions::two(
-            Action::Send(Own::Error(1, error)),
+            Action::Send(Own::Error(errors::SESSION, error)),
             Action::Down(Reason::Opening(error)),
         )
     }
@@ -180,10 +181,10 @@ impl State {
                 self.heard = self.clock;
                 self.got_in_open_wait(message)
             }
-            Input::Bad => self.fail(1),
+            Input::Bad => self.fail(errors::INVALID_OPEN),
             Input::Tick(tick) => {
                 self.advance(tick);
-                self.wait(2)
+                self.wait(errors::OPEN_WAIT_EXPIRED)
             }
         }
     }
@@ -198,10 +199,10 @@ impl State {
                 self.heard = self.clock;
                 self.got_in_keep_wait(message)
             }
-            Input::Bad => self.fail(1),
+            Input::Bad => self.fail(errors::INVALID_OPEN),
             Input::Tick(tick) => {
                 self.advance(tick);
-                self.wait(7)
+                self.wait(errors::KEEP_WAIT_EXPIRED)
             }
         }
     }
@@ -216,7 +217,7 @@ impl State {
                 self.heard = self.clock;
                 self.got_in_up(message)
             }
-            Input::Bad => self.close(3, Reason::Malformed),
+            Input::Bad => self.close(reasons::MALFORMED, Reason::Malformed),
             Input::Tick(tick) => {
                 self.advance(tick);
                 self.tick_in_up()
@@ -231,7 +232,7 @@ impl State {
         match message {
             Message::Open(body) => self.opened(body),
             Message::Close(_) => self.end(Reason::Peer),
-            _ => self.fail(1),
+            _ => self.fail(errors::INVALID_OPEN),
         }
     }
 
@@ -239,8 +240,8 @@ impl State {
         ensures actions { listed result ≡ (open_wait self.old (Message.Open body)).actions }
         ensures next { self.new ≡ (open_wait self.old (Message.Open body)).next }
     {
-        if body.version != 1 {
-            return self.fail(8);
+        if body.version != VERSION {
+            return self.fail(errors::OTHER_VERSION);
         }
         self.enter(Phase::KeepWait);
         self.agreed = negotiate(self.offer, body.offer);
@@ -259,7 +260,7 @@ impl State {
             }
             Message::PcErr(reports) => self.refused_by(reports.as_slice()),
             Message::Close(_) => self.end(Reason::Peer),
-            _ => self.fail(1),
+            _ => self.fail(errors::INVALID_OPEN),
         }
     }
 
@@ -268,7 +269,7 @@ impl State {
         ensures next { self.new ≡ (refused self.old (first_error_of reports.now) (first_opening_of reports.now)).next }
     {
         match first_error(reports) {
-            Some((1, 4)) => self.other_terms(first_opening(reports)),
+            Some((errors::SESSION, errors::NEGOTIABLE)) => self.other_terms(first_opening(reports)),
             _ => self.end(Reason::Peer),
         }
     }
@@ -287,7 +288,7 @@ impl State {
                 self.sent = self.clock;
                 Actions::one(Action::Send(Own::Open(self.offer)))
             }
-            _ => self.fail(6),
+            _ => self.fail(errors::NOT_NEGOTIABLE),
         }
     }
 
@@ -297,23 +298,23 @@ impl State {
     {
         match message {
             Message::Keepalive => Actions::none(),
-            Message::Open(_) => Actions::one(Action::Send(Own::Error(9, 0))),
+            Message::Open(_) => Actions::one(send_error(errors::SECOND_OPEN)),
             Message::Close(_) => self.end(Reason::Peer),
-            Message::Other(10) => self.stateful(5),
-            Message::Other(11) => self.stateful(2),
+            Message::Other(messages::PCRPT) => self.stateful(errors::REPORT_NOT_OFFERED),
+            Message::Other(messages::PCUPD) => self.stateful(errors::UPDATE_NOT_OFFERED),
             Message::Other(_) => self.unknown_type(),
             message => Actions::one(Action::Pass(message)),
         }
     }
 
-    fn stateful(&mut self, value: u8) -> Actions
-        ensures actions { listed result ≡ (stateful self.old value).actions }
-        ensures next { self.new ≡ (stateful self.old value).next }
+    fn stateful(&mut self, error: (u8, u8)) -> Actions
+        ensures actions { listed result ≡ (stateful self.old error).actions }
+        ensures next { self.new ≡ (stateful self.old error).next }
     {
         self.enter(Phase::Down);
         Actions::three(
-            Action::Send(Own::Error(19, value)),
-            Action::Send(Own::Close(1)),
+            send_error(error),
+            Action::Send(Own::Close(reasons::UNEXPLAINED)),
             Action::Down(Reason::Stateful),
         )
     }
@@ -329,8 +330,8 @@ impl State {
         if recent {
             self.enter(Phase::Down);
             return Actions::three(
-                Action::Send(Own::Error(2, 0)),
-                Action::Send(Own::Close(5)),
+                send_error(errors::UNKNOWN_MESSAGE),
+                Action::Send(Own::Close(reasons::UNKNOWN_MESSAGES)),
                 Action::Down(Reason::Unknown),
             );
         }
@@ -340,7 +341,7 @@ impl State {
             newer: self.unknown.newest,
             newest: Some(self.clock),
         };
-        Actions::one(Action::Send(Own::Error(2, 0)))
+        Actions::one(send_error(errors::UNKNOWN_MESSAGE))
     }
 
     fn tick_in_up(&mut self) -> Actions
@@ -353,7 +354,7 @@ impl State {
             ..
         } = self.agreed;
         if dead != 0 && self.passed(self.heard, u64::from(dead)) {
-            return self.close(2, Reason::Dead);
+            return self.close(reasons::DEAD, Reason::Dead);
         }
         if keepalive != 0 && self.passed(self.sent, u64::from(keepalive)) {
             self.sent = self.clock;

@@ -9,6 +9,7 @@ use crate::octets::{addr_len, first, put_addr, wide};
 use crate::part::{Spelled, build_parts, check_parts, room_behind_parts, write_parts};
 use crate::subobject::Subobject;
 use dom_base::{Addr, As, Excluded, Exclusion, List, NoMemory, half, word};
+use pcep_codes::subobjects;
 use std::alloc::Global;
 
 impl Subobject for Exclusion {
@@ -18,27 +19,27 @@ impl Subobject for Exclusion {
 
     fn fits(kind: u8, len: usize) -> bool {
         match kind {
-            1 | 34 => len == 8,
-            2 => len == 20,
-            32 => len == 4,
+            subobjects::IPV4 | subobjects::SRLG => len == 8,
+            subobjects::IPV6 => len == 20,
+            subobjects::AS_NUMBER => len == 4,
             _ => len % 4 == 0 && len >= 4,
         }
     }
 
     fn of(alloc: Global, avoid: bool, kind: u8, content: &[u8]) -> Result<Exclusion, NoMemory> {
         let what = match kind {
-            1 => Excluded::Prefix {
+            subobjects::IPV4 => Excluded::Prefix {
                 addr: Addr::V4(word(content, 0)),
                 length: content[4],
                 attribute: content[5],
             },
-            2 => Excluded::Prefix {
+            subobjects::IPV6 => Excluded::Prefix {
                 addr: Addr::V6(wide(content, 0)),
                 length: content[16],
                 attribute: content[17],
             },
-            32 => Excluded::AsNumber(As(half(content, 0))),
-            34 => Excluded::Srlg(word(content, 0)),
+            subobjects::AS_NUMBER => Excluded::AsNumber(As(half(content, 0))),
+            subobjects::SRLG => Excluded::Srlg(word(content, 0)),
             _ => Excluded::Other {
                 kind,
                 body: List::from_vec(Vec::from_slice(alloc, content)?),
@@ -77,8 +78,8 @@ impl Spelled for Exclusion {
                 attribute,
             } => {
                 let (kind, len) = match *addr {
-                    Addr::V4(_) => (1, 8),
-                    Addr::V6(_) => (2, 20),
+                    Addr::V4(_) => (subobjects::IPV4, 8),
+                    Addr::V6(_) => (subobjects::IPV6, 20),
                 };
                 text.extend_from_slice(&[first(avoid, kind), len])?;
                 put_addr(text, *addr)?;
@@ -86,11 +87,11 @@ impl Spelled for Exclusion {
             }
             Excluded::AsNumber(number) => {
                 let [a, b] = number.0.to_be_bytes();
-                text.extend_from_slice(&[first(avoid, 32), 4, a, b])?;
+                text.extend_from_slice(&[first(avoid, subobjects::AS_NUMBER), 4, a, b])?;
             }
             Excluded::Srlg(number) => {
                 let [a, b, c, d] = number.to_be_bytes();
-                text.extend_from_slice(&[first(avoid, 34), 8, a, b, c, d, 0, 2])?;
+                text.extend_from_slice(&[first(avoid, subobjects::SRLG), 8, a, b, c, d, 0, 2])?;
             }
             Excluded::Other { kind, body } => {
                 let len = (body.len() % 256 + 2) % 256;

@@ -9,6 +9,7 @@ use crate::octets::{addr_len, first, put_addr, wide};
 use crate::part::{Spelled, build_parts, check_parts, room_behind_parts, write_parts};
 use crate::subobject::Subobject;
 use dom_base::{Addr, As, List, NoMemory, half, word};
+use pcep_codes::subobjects;
 use std::alloc::Global;
 
 impl Subobject for Hop {
@@ -18,35 +19,35 @@ impl Subobject for Hop {
 
     fn fits(kind: u8, len: usize) -> bool {
         match kind {
-            1 | 64 => len == 8,
-            2 | 65 => len == 20,
-            32 => len == 4,
+            subobjects::IPV4 | subobjects::PATH_KEY_IPV4 => len == 8,
+            subobjects::IPV6 | subobjects::PATH_KEY_IPV6 => len == 20,
+            subobjects::AS_NUMBER => len == 4,
             _ => len % 4 == 0 && len >= 4,
         }
     }
 
     fn of(alloc: Global, loose: bool, kind: u8, content: &[u8]) -> Result<Hop, NoMemory> {
         match kind {
-            1 => Ok(Hop::Prefix {
+            subobjects::IPV4 => Ok(Hop::Prefix {
                 loose,
                 addr: Addr::V4(word(content, 0)),
                 length: content[4],
             }),
-            2 => Ok(Hop::Prefix {
+            subobjects::IPV6 => Ok(Hop::Prefix {
                 loose,
                 addr: Addr::V6(wide(content, 0)),
                 length: content[16],
             }),
-            32 => Ok(Hop::AsNumber {
+            subobjects::AS_NUMBER => Ok(Hop::AsNumber {
                 loose,
                 number: As(half(content, 0)),
             }),
-            64 => Ok(Hop::Key {
+            subobjects::PATH_KEY_IPV4 => Ok(Hop::Key {
                 loose,
                 key: half(content, 0),
                 pce: Addr::V4(word(content, 2)),
             }),
-            65 => Ok(Hop::Key {
+            subobjects::PATH_KEY_IPV6 => Ok(Hop::Key {
                 loose,
                 key: half(content, 0),
                 pce: Addr::V6(wide(content, 2)),
@@ -96,12 +97,12 @@ fn put_prefix(text: &mut Vec<u8>, addr: Addr) -> Result<(), NoMemory>
 {
     match addr {
         Addr::V4(_) => {
-            text.extend_from_slice(&[1, 8])?;
+            text.extend_from_slice(&[subobjects::IPV4, 8])?;
             put_addr(text, addr)?;
             text.extend_from_slice(&[32, 0])?;
         }
         Addr::V6(_) => {
-            text.extend_from_slice(&[2, 20])?;
+            text.extend_from_slice(&[subobjects::IPV6, 20])?;
             put_addr(text, addr)?;
             text.extend_from_slice(&[128, 0])?;
         }
@@ -113,8 +114,8 @@ fn put_key(text: &mut Vec<u8>, loose: bool, key: u16, pce: Addr) -> Result<(), N
     ensures { OnOk result (text.new.items ≡ text.old.items ++ hop_text (Hop.Key loose key pce)) }
 {
     let (kind, len) = match pce {
-        Addr::V4(_) => (64, 8),
-        Addr::V6(_) => (65, 20),
+        Addr::V4(_) => (subobjects::PATH_KEY_IPV4, 8),
+        Addr::V6(_) => (subobjects::PATH_KEY_IPV6, 20),
     };
     let [a, b] = key.to_be_bytes();
     text.extend_from_slice(&[first(loose, kind), len, a, b])?;
@@ -129,7 +130,7 @@ impl Spelled for Hop {
             Hop::Prefix { addr, .. } => put_prefix(text, *addr)?,
             Hop::AsNumber { loose, number } => {
                 let [a, b] = number.0.to_be_bytes();
-                text.extend_from_slice(&[first(*loose, 32), 4, a, b])?;
+                text.extend_from_slice(&[first(*loose, subobjects::AS_NUMBER), 4, a, b])?;
             }
             Hop::Key { loose, key, pce } => put_key(text, *loose, *key, *pce)?,
             Hop::Other { loose, kind, body } => {

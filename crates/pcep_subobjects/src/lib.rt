@@ -1,6 +1,7 @@
 //! The subobjects of routes and of exclusions, as octets and back.
 #![tactic(auto)]
 
+mod copying;
 mod exclusions;
 mod hop;
 mod hops;
@@ -8,6 +9,7 @@ mod octets;
 mod part;
 mod subobject;
 
+pub use copying::{append_hops, copy_hop, copy_hops};
 pub use exclusions::{
     check_exclusions, exclusions_are_read_again, no_exclusion_begins_another, read_exclusions,
     room_behind_exclusions, write_exclusions,

@@ -6,6 +6,7 @@ ghost use Rattle.pcep_subobjects.specs.declared.hop.HopFault.{HopFault};
 use crate::hop::HopFault;
 use crate::part::Part;
 use dom_base::NoMemory;
+use pcep_codes::subobjects::FIRST_BIT;
 use std::alloc::Global;
 
 /// A kind of subobjects: those of routes, or those of exclusions.
@@ -38,7 +39,7 @@ fn frame<S: Subobject>(place: usize, bytes: &[u8]) -> Result<(u8, &[u8]), HopFau
             if rest.len() + 2 < len {
                 return Err(HopFault::Short(place));
             }
-            if !S::fits(*first % 128, len) {
+            if !S::fits(*first % FIRST_BIT, len) {
                 return Err(HopFault::BadLength(place));
             }
             let (content, _) = rest.split_at(len - 2);
@@ -61,7 +62,7 @@ impl<S: Subobject> Part<HopFault> for S {
     fn build(alloc: Global, bytes: &[u8]) -> Result<(S, usize), NoMemory> {
         match frame::<S>(0, bytes) {
             Ok((first, content)) => {
-                let part = S::of(alloc, first >= 128, first % 128, content)?;
+                let part = S::of(alloc, first >= FIRST_BIT, first % FIRST_BIT, content)?;
                 Ok((part, content.len() + 2))
             }
             Err(_) => unreachable!(),

@@ -220,7 +220,8 @@ fn each_type_has_its_lengths(rt: HostRuntime) {
 fn a_strict_hop_names_one_address(rt: HostRuntime) -> Result<(), Fail> {
     let hops = [strict_hop(Addr::V4(0x0A02_0001)), strict_hop(Addr::V6(1))];
     let mut text = Vec::new(rt.alloc());
-    write_hops(rt.alloc(), &hops, &mut text)?;
+    let copies = copy_hops(rt.alloc(), &hops)?;
+    write_hops(rt.alloc(), copies.as_slice(), &mut text)?;
     let expected = [
         1, 8, 10, 2, 0, 1, 32, 0, 2, 20, 0, 0, 0, 0, 0, 0, 0, 0, 0, 0, 0, 0, 0, 0, 0, 1, 128, 0,
     ];

@@ -20,6 +20,7 @@ use Rattle.pcep_messages.specs.declared.message.Wanted.{Wanted}
 use Rattle.pcep_messages.specs.declared.message.Wish.{Wish}
 use Rattle.pcep_messages.specs.declared.message.Wish.TheVariants.{Path, Expand}
 use Rattle.pcep_messages.specs.Said.{rp_of, end_points_of, metrics_of, iro_of, xro_of, key_of, asks_key}
+use Rattle.pcep_codes.specs.declared.errors.TheConstants as errors
 use Rattle.pcep_messages.specs.Refusals.{Reason, because, first_of, request_rules, path_rules, unsupported_among, is_optional, has_no_number, are_measures, can_exclude, can_follow, refusal_of, is_domain, domain_in, domains, has_twice, begins_with, among}
 use Rattle.pcep_messages.specs.Requests.{without_bit, bound_of, cap_of, sequence_of, wanted_of, wish_of}
 use Rattle.plant_model.specs.Wire.{Admitted, Wrong}
@@ -32,9 +33,9 @@ none_said : (a b : Reason) → option_or a b ≡ None → (a ≡ None) × (b ≡
 none_said (Some x) b e = absurd cc
 none_said None b e = (refl, e)
 
-not_so : (b : Bool) (kind value : ℕ) → because b kind value ≡ None → b ≡ false
-not_so true kind value e = absurd cc
-not_so false kind value e = refl
+not_so : (b : Bool) (error : ℕ × ℕ) → because b error ≡ None → b ≡ false
+not_so true error e = absurd cc
+not_so false error e = refl
 
 -- what the rules leave of a request for a path
 pub record Passes (own : ℕ) (os : List Object) : Type 0 where
@@ -47,20 +48,20 @@ pub passes : (own : ℕ) (os : List Object) → refusal_of own os ≡ None → a
 passes own os e asks =
     let first = none_said (first_of (request_rules own os)) _ e in
     let supported = none_said (unsupported_among own os) _ first.0 in
-    let missing = none_said (because (is_none (rp_of os)) 6 1) _ supported.1 in
-    let optional = none_said (because (is_optional (rp_of os)) 10 1) _ missing.1 in
-    let number = none_said (because (has_no_number (rp_of os)) 4 4) _ optional.1 in
+    let missing = none_said (because (is_none (rp_of os)) errors.RP_MISSING) _ supported.1 in
+    let optional = none_said (because (is_optional (rp_of os)) errors.P_CLEAR) _ missing.1 in
+    let number = none_said (because (has_no_number (rp_of os)) errors.PARAMETER_NOT_SERVED) _ optional.1 in
     let path : first_of (path_rules own os) ≡ None = rw asks at first.1 in
-    let ends = none_said (because (is_none (end_points_of own os)) 6 3) _ path in
-    let bit = none_said (because (is_optional (end_points_of own os)) 10 1) _ ends.1 in
-    let measures = none_said (because (not (are_measures os)) 4 4) _ bit.1 in
-    let excludes = none_said (because (not (can_exclude (xro_of os))) 4 4) _ measures.1 in
-    let follows = none_said (because (not (can_follow own (iro_of os))) 4 4) _ excludes.1 in
+    let ends = none_said (because (is_none (end_points_of own os)) errors.END_POINTS_MISSING) _ path in
+    let bit = none_said (because (is_optional (end_points_of own os)) errors.P_CLEAR) _ ends.1 in
+    let measures = none_said (because (not (are_measures os)) errors.PARAMETER_NOT_SERVED) _ bit.1 in
+    let excludes = none_said (because (not (can_exclude (xro_of os))) errors.PARAMETER_NOT_SERVED) _ measures.1 in
+    let follows = none_said (because (not (can_follow own (iro_of os))) errors.PARAMETER_NOT_SERVED) _ excludes.1 in
     record {
-      number = not_so (has_no_number (rp_of os)) 4 4 number.0;
-      measures = not-false (are_measures os) (not_so (not (are_measures os)) 4 4 measures.0);
-      excludes = not-false (can_exclude (xro_of os)) (not_so (not (can_exclude (xro_of os))) 4 4 excludes.0);
-      follows = not-false (can_follow own (iro_of os)) (not_so (not (can_follow own (iro_of os))) 4 4 follows.0);
+      number = not_so (has_no_number (rp_of os)) errors.PARAMETER_NOT_SERVED number.0;
+      measures = not-false (are_measures os) (not_so (not (are_measures os)) errors.PARAMETER_NOT_SERVED measures.0);
+      excludes = not-false (can_exclude (xro_of os)) (not_so (not (can_exclude (xro_of os))) errors.PARAMETER_NOT_SERVED excludes.0);
+      follows = not-false (can_follow own (iro_of os)) (not_so (not (can_follow own (iro_of os))) errors.PARAMETER_NOT_SERVED follows.0);
     }
 
 -- ---- admitted

@@ -23,6 +23,7 @@ use Rattle.pcep_messages.specs.declared.message.Asked.{Asked}
 use Rattle.pcep_messages.specs.declared.message.Wanted.{Wanted}
 use Rattle.pcep_messages.specs.Groups.{first_said}
 use Rattle.pcep_messages.specs.Said.{end_points_of, bandwidth_in, bandwidth_of, masks_in, masks_of, metric_in, metrics_of, iro_in, iro_of, xro_in, xro_of}
+use Rattle.pcep_codes.specs.declared.errors.TheConstants as errors
 use Rattle.pcep_messages.specs.Refusals.{Reason, because, first_of, request_rules, path_rules, unsupported, unsupported_among, is_optional, asked_type, is_bound, is_minimised, are_measures, can_exclude, can_follow, refusal_of, is_domain, domains, has_twice, among}
 use Rattle.pcep_messages.specs.Requests.{metric_of_type, bound_of, cap_of, units_of, demands_of, query_of, sequence_of, without_bit, wanted_of}
 use Rattle.walk_laws.specs.Crossing.{query_in}
@@ -291,7 +292,7 @@ ends_supported own (V4 m) t h = refl
 ends_supported own (V6 m) (V4 n) h = refl
 ends_supported own (V6 m) (V6 n) h = go (own == 0) h
   where
-    go : (b : Bool) → (b && true) ≡ false → because b 4 2 ≡ None
+    go : (b : Bool) → (b && true) ≡ false → because b errors.KIND_NOT_SERVED ≡ None
     go true e = absurd cc
     go false e = refl
 
@@ -523,7 +524,7 @@ module _ (id : ℕ) (w : Wanted) (t : Addr) (s : List As) where
   -- no rule refuses it
   module _ (next : As) (some : 1 ≤ id) (can : CanAsk w) (along : can_follow next.0 (iro_said s) ≡ true) (serves : Serves next.0 w.source t) where
     request_passes : first_of (request_rules next.0 os) ≡ None
-    request_passes = both (unsupported_among next.0 os) _ (all_supported next.0 serves) (ap (λ (b : Bool). option_or (because b 4 4) None) (ne_eqb id 0 (not_zero id some)))
+    request_passes = both (unsupported_among next.0 os) _ (all_supported next.0 serves) (ap (λ (b : Bool). option_or (because b errors.PARAMETER_NOT_SERVED) None) (ne_eqb id 0 (not_zero id some)))
       where
         not_zero : (k : ℕ) → 1 ≤ k → k ≡ 0 → ⊥
         not_zero k le e = omega arith
@@ -541,13 +542,13 @@ module _ (id : ℕ) (w : Wanted) (t : Addr) (s : List As) where
 
     path_passes : first_of (path_rules next.0 os) ≡ None
     path_passes =
-        ap (λ (e : Option ((Addr × Addr) × Bool)). option_or (because (is_none e) 6 3) (option_or (because (is_optional e) 10 1) last)) (ends_are next.0 serves)
+        ap (λ (e : Option ((Addr × Addr) × Bool)). option_or (because (is_none e) errors.END_POINTS_MISSING) (option_or (because (is_optional e) errors.P_CLEAR) last)) (ends_are next.0 serves)
         ∙ three (are_measures os) (can_exclude (xro_of os)) (can_follow next.0 (iro_of os)) measures_fit excludes (ap (can_follow next.0) iro_is ∙ along)
       where
         last : Reason
-        last = first_of (because (not (are_measures os)) 4 4 ∷ because (not (can_exclude (xro_of os))) 4 4 ∷ because (not (can_follow next.0 (iro_of os))) 4 4 ∷ [])
+        last = first_of (because (not (are_measures os)) errors.PARAMETER_NOT_SERVED ∷ because (not (can_exclude (xro_of os))) errors.PARAMETER_NOT_SERVED ∷ because (not (can_follow next.0 (iro_of os))) errors.PARAMETER_NOT_SERVED ∷ [])
 
-        three : (a b c : Bool) → a ≡ true → b ≡ true → c ≡ true → option_or (because (not a) 4 4) (option_or (because (not b) 4 4) (option_or (because (not c) 4 4) None)) ≡ None
+        three : (a b c : Bool) → a ≡ true → b ≡ true → c ≡ true → option_or (because (not a) errors.PARAMETER_NOT_SERVED) (option_or (because (not b) errors.PARAMETER_NOT_SERVED) (option_or (because (not c) errors.PARAMETER_NOT_SERVED) None)) ≡ None
         three true true true e f g = refl
         three false b c e f g = absurd cc
         three true false c e f g = absurd cc

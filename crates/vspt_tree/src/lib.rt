@@ -3,7 +3,6 @@
 #![tactic(auto)]
 
 mod branch;
-mod hops;
 mod tree;
 
 pub use branch::{Best, Branch};

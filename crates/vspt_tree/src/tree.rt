@@ -2,10 +2,9 @@
 ghost use Rattle.std.specs.Prelude.{◌≡◌, All, length, IfOk, IfSome, IsSomeAnd};
 ghost use Rattle.vspt_tree.specs.Branches.{HasBranchAt, IsFirstLeast, IsBranchOf, AreBranchesOf};
 
-use crate::hops::append_hops;
 use crate::{Best, Branch};
 use dom_base::{Addr, List, NoMemory};
-use pcep_subobjects::{Hop, strict_hop};
+use pcep_subobjects::{Hop, append_hops, strict_hop};
 use std::alloc::Global;
 
 fn first_least(down: &[Branch], node: Addr) -> Option<&Branch>

@@ -1,11 +1,12 @@
 //! Copies of hops.
 ghost use Rattle.std.specs.Prelude.{◌≡◌, ◌++◌, IfOk, OnOk};
 
+use crate::hop::Hop;
 use dom_base::{List, NoMemory};
-use pcep_subobjects::Hop;
 use std::alloc::Global;
 
-fn copy_hop(alloc: Global, hop: &Hop) -> Result<Hop, NoMemory>
+/// An equal hop in memory of its own.
+pub fn copy_hop(alloc: Global, hop: &Hop) -> Result<Hop, NoMemory>
     ensures { IfOk result (λ copy. copy ≡ hop.now) }
 {
     Ok(match *hop {
@@ -27,12 +28,12 @@ fn copy_hop(alloc: Global, hop: &Hop) -> Result<Hop, NoMemory>
         } => Hop::Other {
             loose,
             kind,
-            body: List::from_vec(Vec::from_slice(alloc, body.as_slice())?),
+            body: body.copy(alloc)?,
         },
     })
 }
 
-/// Appends copies of hops.
+/// Appends copies of hops. After a refusal some of them may stand there.
 pub fn append_hops(alloc: Global, hops: &mut List<Hop>, more: &[Hop]) -> Result<(), NoMemory>
     ensures { OnOk result (hops.new ≡ hops.old ++ more.now) }
 {
@@ -40,4 +41,13 @@ pub fn append_hops(alloc: Global, hops: &mut List<Hop>, more: &[Hop]) -> Result<
         hops.push(copy_hop(alloc, hop)?)?;
     }
     Ok(())
+}
+
+/// Equal hops in memory of their own.
+pub fn copy_hops(alloc: Global, hops: &[Hop]) -> Result<List<Hop>, NoMemory>
+    ensures { IfOk result (λ copies. copies ≡ hops.now) }
+{
+    let mut copies = List::new(alloc);
+    append_hops(alloc, &mut copies, hops)?;
+    Ok(copies)
 }

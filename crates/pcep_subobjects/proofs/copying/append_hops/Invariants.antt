@@ -1,5 +1,5 @@
 use Rattle.std.proofs.Common.{◌≡◌, ◌++◌, take}
-use Rattle.vspt_tree.proofs.hops.append_hops.Given as goal
+use Rattle.pcep_subobjects.proofs.copying.append_hops.Given as goal
 
 abbrev pub invariant-loop-hop : goal.invariant-loop-hop
 invariant-loop-hop l = l.hops ≡ l.initial.hops ++ take l.hop-index l.more
