@@ -1,36 +1,44 @@
-//! A tree of matches between labels, whose root is the least.
+//! A tree of matches between costs, whose root is the least.
 ghost use Rattle.std.specs.Prelude.{◌≡◌, ◌<◌, ◌≤◌, ◌^◌, ◌+◌, ◌↔◌, length, drop, slice_set, Some, IsTrue};
-ghost use Rattle.path_search.specs.Arcs.{label_at};
-ghost use Rattle.path_search.specs.Front.{HoldsLeast};
-ghost use Rattle.path_search.specs.Tree.{IsLesser, IsTree, IsTreeBut};
+ghost use Rattle.path_search.specs.Front.{cost_at, HoldsLeast};
+ghost use Rattle.path_search.specs.Tree.{IsLower, IsLesser, IsTree, IsTreeBut};
 
-use crate::settle::is_below;
-use dom_base::Label;
+use dom_base::Cost;
 
-// The lesser of two labels.
-fn lesser(left: &Option<Label>, right: &Option<Label>) -> Option<Label>
+// Whether a cost is less than what stands at a node.
+fn is_lower(cost: &Cost, other: &Option<Cost>) -> bool
+    ensures { IsTrue result ↔ IsLower cost.now other.now }
+{
+    match other {
+        None => true,
+        Some(other) => cost.get() < other.get(),
+    }
+}
+
+// The lesser of two costs.
+fn lesser(left: &Option<Cost>, right: &Option<Cost>) -> Option<Cost>
     ensures { IsLesser result left.now right.now }
 {
     match left {
-        Some(label) if !is_below(label, right) => *right,
+        Some(cost) if !is_lower(cost, right) => *right,
         None => *right,
         _ => *left,
     }
 }
 
-// Whether two labels are one.
-fn is_same(one: &Option<Label>, other: &Option<Label>) -> bool
+// Whether two costs are one.
+fn is_same(one: &Option<Cost>, other: &Option<Cost>) -> bool
     ensures { IsTrue result ↔ (one.now ≡ other.now) }
 {
     match (one, other) {
-        (Some(label), Some(same)) => label == same,
+        (Some(cost), Some(same)) => cost.get() == same.get(),
         (None, None) => true,
         _ => false,
     }
 }
 
 // Plays the matches above a node again, up to the first whose winner stays.
-fn climb(tree: &mut [Option<Label>], nodes: usize, leaf: usize)
+fn climb(tree: &mut [Option<Cost>], nodes: usize, leaf: usize)
     requires long { length tree.old ≡ nodes + nodes }
     requires short { nodes < 2 ^ 31 }
     requires leaf { leaf < length tree.old }
@@ -51,29 +59,29 @@ fn climb(tree: &mut [Option<Label>], nodes: usize, leaf: usize)
     }
 }
 
-/// Puts a label at a leaf.
-pub(crate) fn set_leaf(tree: &mut [Option<Label>], nodes: usize, place: usize, label: Option<Label>)
+/// Puts a cost at a leaf.
+pub(crate) fn set_leaf(tree: &mut [Option<Cost>], nodes: usize, place: usize, cost: Option<Cost>)
     requires long { length tree.old ≡ nodes + nodes }
     requires short { nodes < 2 ^ 31 }
     requires place { place < nodes }
     requires played { IsTree tree.old nodes }
     ensures played { IsTree tree.new nodes }
-    ensures leaves { drop nodes tree.new ≡ slice_set (drop nodes tree.old) place label }
+    ensures leaves { drop nodes tree.new ≡ slice_set (drop nodes tree.old) place cost }
     ensures long { length tree.new ≡ length tree.old }
 {
     let leaf = nodes + place;
-    tree[leaf] = label;
+    tree[leaf] = cost;
     climb(tree, nodes, leaf);
 }
 
-// A leaf with the label of the root.
-fn descend(tree: &[Option<Label>], nodes: usize, least: &Label) -> usize
+// A leaf with the cost of the root.
+fn descend(tree: &[Option<Cost>], nodes: usize, least: &Cost) -> usize
     requires long { length tree.now ≡ nodes + nodes }
     requires short { nodes < 2 ^ 31 }
     requires some { 1 ≤ nodes }
     requires played { IsTree tree.now nodes }
-    requires root { label_at tree.now 1 ≡ Some least.now }
-    ensures same { label_at tree.now result ≡ Some least.now }
+    requires root { cost_at tree.now 1 ≡ Some least.now }
+    ensures same { cost_at tree.now result ≡ Some least.now }
     ensures leaf { nodes ≤ result }
     ensures within { result < nodes + nodes }
 {
@@ -88,16 +96,16 @@ fn descend(tree: &[Option<Label>], nodes: usize, least: &Label) -> usize
     at
 }
 
-// The label of the root.
-fn winner(tree: &[Option<Label>]) -> Option<Label>
+// The cost of the root.
+fn winner(tree: &[Option<Cost>]) -> Option<Cost>
     requires { 1 < length tree.now }
-    ensures { result ≡ label_at tree.now 1 }
+    ensures { result ≡ cost_at tree.now 1 }
 {
     tree[1]
 }
 
-/// The place of a leaf with the least label.
-pub(crate) fn least_leaf(tree: &[Option<Label>], nodes: usize) -> Option<u32>
+/// The place of a leaf with the least cost.
+pub(crate) fn least_leaf(tree: &[Option<Cost>], nodes: usize) -> Option<u32>
     requires long { length tree.now ≡ nodes + nodes }
     requires short { nodes < 2 ^ 31 }
     requires played { IsTree tree.now nodes }

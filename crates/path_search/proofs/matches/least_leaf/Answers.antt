@@ -1,6 +1,6 @@
 use Rattle.std.proofs.Common.{◌≡◌, ◌≤◌, ◌-◌, Some, sym, ◌∙◌, arith}
 use Rattle.std.proofs.lemmas.List.{length-drop}
-use Rattle.path_search.specs.Arcs.{label_at}
+use Rattle.path_search.specs.Front.{cost_at}
 use Rattle.path_search.proofs.Tournament.{leaf_least, none_left}
 use Rattle.path_search.proofs.matches.least_leaf.Goals as goal
 
@@ -11,7 +11,7 @@ returns-in-Some c =
     let k = c.descend.result in
     let d = c.descend.ensures in
     let some : 1 ≤ n = omega (arith, c.if-nodes-eq0.false) in
-    let at_root : label_at tree 1 ≡ Some c.in-Some.least = sym c.winner.ensures ∙ c.in-Some.is in (
+    let at_root : cost_at tree 1 ≡ Some c.in-Some.least = sym c.winner.ensures ∙ c.in-Some.is in (
       omega (arith, length-drop n tree, c.requires.long, d.leaf, d.within),
       (c.in-Some.least, leaf_least tree n k c.in-Some.least c.requires.long c.requires.played d.leaf d.within some at_root d.same (k - n) (omega (arith, d.leaf))),
     )
