@@ -2,16 +2,17 @@
 ghost use Rattle.std.specs.Prelude.{◌≡◌, ◌<◌, ◌^◌, length, map, replicate, slice_set, None, IfOk};
 ghost use Rattle.path_search.specs.Arcs.{label_at};
 ghost use Rattle.path_search.specs.Front.{cost_of, HoldsLeast};
+ghost use Rattle.path_search.specs.declared.matches.TheConstants.{NOTHING};
 
-use crate::matches::{least_leaf, set_leaf};
+use crate::matches::{NOTHING, least_leaf, set_leaf};
 use dom_base::{Cost, Label, NoMemory};
 use std::alloc::Global;
 use std::marker::Model;
 
-fn no_costs(alloc: Global, count: usize) -> Result<Vec<Option<Cost>>, NoMemory>
-    ensures { IfOk result (λ costs. costs.items ≡ replicate count None) }
+fn no_costs(alloc: Global, count: usize) -> Result<Vec<u32>, NoMemory>
+    ensures { IfOk result (λ costs. costs.items ≡ replicate count NOTHING) }
 {
-    Ok(vec![in alloc; None; count]?)
+    Ok(vec![in alloc; NOTHING; count]?)
 }
 
 fn label_of(labels: &[Option<Label>], place: u32) -> Option<Label>
@@ -43,7 +44,7 @@ pub(crate) fn cost_from(labels: &[Option<Label>], place: u32) -> Option<Cost>
 /// nodes of one cost do not lower one another.
 #[derive(Drop)]
 pub(crate) struct Waiting {
-    tree: Vec<Option<Cost>>,
+    tree: Vec<u32>,
     nodes: usize,
 }
 
@@ -85,7 +86,7 @@ impl Waiting {
         requires { place < length self.old }
         ensures { self.new ≡ slice_set self.old place cost }
     {
-        set_leaf(&mut self.tree, self.nodes, place as usize, cost);
+        set_leaf(&mut self.tree, self.nodes, place as usize, &cost);
     }
 
     /// The place of a least cost.
