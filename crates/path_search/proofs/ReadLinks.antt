@@ -1,5 +1,5 @@
 -- Links are read one after another, each at most once.
-use Rattle.std.proofs.Common.{◌≡◌, ◌≢◌, inl, inr, ℕ, zero, suc, ◌+◌, ◌<◌, ◌≤◌, Bool, true, false, nat_eq, List, [], ◌∷◌, ◌++◌, length, take, replicate, arith, refl, sym, ◌∙◌, ap, subst, None, Some, length-append}
+use Rattle.std.proofs.Common.{◌≡◌, ◌≢◌, inl, inr, ℕ, zero, suc, ◌+◌, ◌<◌, ◌≤◌, Bool, true, false, nat_eq, List, [], ◌∷◌, ◌++◌, length, map, take, replicate, arith, refl, sym, ◌∙◌, ap, subst, None, Some, length-append}
 use Rattle.std.specs.Prelude.{Contains, All, AllPairs, slice_get, slice_index_or, slice_set, sum_by}
 use Rattle.std.specs.declared.option.Option.{Option}
 use Rattle.std.specs.Bool.{Decides}
@@ -7,13 +7,12 @@ use Rattle.std.specs.Set.{is_member}
 use Rattle.std.proofs.lemmas.Bool.{cases_lt}
 use Rattle.std.proofs.lemmas.Bool.Decides.{eqb_tells, Decides-eqb}
 use Rattle.std.proofs.lemmas.Cmp.{nat_eq_equiv}
-use Rattle.std.proofs.lemmas.List.{take_all, get_or_default, get_or_past, get_or-replicate, length-replicate}
+use Rattle.std.proofs.lemmas.List.{take_all, get_or_default, get_or_past, get_or-replicate, get_or-map, length-map, length-replicate}
 use Rattle.std.proofs.lemmas.List.Elements.{All-push, All-more, All-weaker, All-contains, All-contains_itself, Contains-push, Contains-append_left, Contains-append_cases}
 use Rattle.std.proofs.lemmas.List.Quantifiers.{all_pairs_push}
 use Rattle.std.proofs.lemmas.Map.Made.{IsDistinct-from_AllPairs, is_member-Decides, length-le_from_is_member}
 use Rattle.std.proofs.lemmas.Option.{slice_get_within}
 use Rattle.std.proofs.lemmas.List.Sums.{sum_by-set}
-use Rattle.dom_base.proofs.Ranks.{rank_of_v4}
 use Rattle.dom_base.specs.declared.addr.Addr.TheVariants.{V4}
 use Rattle.dom_base.specs.declared.link.Link.{Link}
 use Rattle.dom_base.specs.declared.query.Query.{Query}
@@ -23,18 +22,17 @@ use Rattle.te_links.specs.Index.{EndsAt, IsLinksInto}
 use Rattle.path_search.specs.declared.arc.Arc.{Arc}
 use Rattle.path_search.specs.Arcs.{label_at, IsArcAmong, IsWithin, joined, IsBelow}
 use Rattle.path_search.specs.Search.{IsArcOf, IsNoArc}
-use Rattle.path_search.specs.Front.{is_done, IsFront, IsLeastAt, Spreads}
+use Rattle.path_search.specs.Front.{cost_of, cost_at, is_done, IsFront, IsLeastAt, Spreads}
 use Rattle.path_search.specs.Reached.{EndsAtLabel}
 use Rattle.path_search.specs.Reading.{IsReading, IsHeadDone, IsOpened, IsResting, IsSpreading, SpreadsLink}
 use Rattle.walk_laws.specs.Certificate.{AtMost}
-use Rattle.walk_laws.specs.Labels.{◌≼◌}
 use Rattle.dom_base.specs.declared.query.Seed.{Seed}
 use Rattle.path_search.specs.Starts.{AreStarts}
 use Rattle.path_search.specs.Search.{AreLabels}
 use Rattle.path_search.proofs.Relaxing.{IsWritten, written, same_le}
 use Rattle.path_search.proofs.Places.{same_place, place_of, contains_at}
 use Rattle.path_search.proofs.Certified.{searched, arc_among}
-use Rattle.path_search.proofs.Fronts.{front_spread, front_taken, front_over, unsettled, set_done}
+use Rattle.path_search.proofs.Fronts.{front_spread, front_taken, front_over, label_that_waits, undone, unsettled, set_done}
 
 up_to : ℕ → List ℕ
 up_to zero = []
@@ -109,7 +107,7 @@ read_pushed g q arcs read p a r below fresh of = record {
     only p s (suc k, lt, is) = absurd (omega (arith, lt))
 
 -- the label of a settled node stays
-stays : (g : Rows) (q : Query) (arcs : List Arc) (a : Arc) (start old new waiting next : List (Option Label)) (done : List Bool) (last : Label) →
+stays : (g : Rows) (q : Query) (arcs : List Arc) (a : Arc) (start old new : List (Option Label)) (waiting next : List (Option ℕ)) (done : List Bool) (last : Label) →
     IsFront q.cap arcs start old waiting done last → IsArcAmong (length old) a → label_at old a.head ≡ Some last → Spreads q.cap a old new waiting next →
     (i : ℕ) → is_done done i ≡ true → label_at new i ≡ label_at old i
 stays g q arcs a start old new waiting next done last f among at_head (inl low) i done_i =
@@ -144,7 +142,7 @@ read_on places read k p below is part =
     (subst (Contains (read ++ p ∷ [])) (sym is) (Contains-push read p))
 
 -- one more link into the node was read
-pub spread_step : (g : Rows) (q : Query) (start old new waiting next : List (Option Label)) (done : List Bool) (v : ℕ) (places : List ℕ) (k n p : ℕ) →
+pub spread_step : (g : Rows) (q : Query) (start old new : List (Option Label)) (waiting next : List (Option ℕ)) (done : List Bool) (v : ℕ) (places : List ℕ) (k n p : ℕ) →
     IsTopology g → length old ≡ length g.nodes → IsLinksInto g.nodes g.links v places → k < length places → slice_index_or places k p ≡ p →
     IsSpreading g q start old waiting done v places k n → SpreadsLink g q p old new waiting next → IsSpreading g q start new next done v places (k + 1) (n + 1)
 spread_step g q start old new waiting next done v places k n p valid long into below is s step =
@@ -172,7 +170,7 @@ spread_step g q start old new waiting next done v places k n p valid long into b
       arcs = s.arcs;
       read = s.read ++ p ∷ [];
       front = subst (λ (ls : List (Option Label)). IsFront q.cap s.arcs start ls next done s.last) (sym none.1.0)
-          (subst (λ (ws : List (Option Label)). IsFront q.cap s.arcs start old ws done s.last) (sym none.1.1) s.front);
+          (subst (λ (ws : List (Option ℕ)). IsFront q.cap s.arcs start old ws done s.last) (sym none.1.1) s.front);
       reading = read_skipped g q s.arcs s.read p s.reading within fresh none.0;
       heads = heads;
       here = s.here;
@@ -207,7 +205,7 @@ spread_step g q start old new waiting next done v places k n p valid long into b
         }
 
 -- before the first link
-pub spread_first : (g : Rows) (q : Query) (start labels waiting : List (Option Label)) (done : List Bool) (v : ℕ) (places : List ℕ) (n : ℕ) →
+pub spread_first : (g : Rows) (q : Query) (start labels : List (Option Label)) (waiting : List (Option ℕ)) (done : List Bool) (v : ℕ) (places : List ℕ) (n : ℕ) →
     IsLinksInto g.nodes g.links v places → IsOpened g q start labels waiting done v n → IsSpreading g q start labels waiting done v places 0 n
 spread_first g q start labels waiting done v places n into o = record {
   last = o.last;
@@ -225,7 +223,7 @@ spread_first g q start labels waiting done v places n into o = record {
 }
 
 -- behind the last link
-pub spread_last : (g : Rows) (q : Query) (start labels waiting : List (Option Label)) (done : List Bool) (v : ℕ) (places : List ℕ) (k n : ℕ) →
+pub spread_last : (g : Rows) (q : Query) (start labels : List (Option Label)) (waiting : List (Option ℕ)) (done : List Bool) (v : ℕ) (places : List ℕ) (k n : ℕ) →
     IsLinksInto g.nodes g.links v places → length places ≤ k → IsSpreading g q start labels waiting done v places k n → IsResting g q start labels waiting done n
 spread_last g q start labels waiting done v places k n into past s = record {
   last = s.last;
@@ -243,13 +241,15 @@ spread_last g q start labels waiting done v places k n into past s = record {
 }
 
 -- the least node that waits is settled
-pub opened : (g : Rows) (q : Query) (start labels waiting next : List (Option Label)) (done after : List Bool) (b : Label) (v n : ℕ) →
-    IsResting g q start labels waiting done n → v < length waiting → v < length done → IsLeastAt waiting v b → next ≡ slice_set waiting v None → after ≡ slice_set done v true →
+pub opened : (g : Rows) (q : Query) (start labels : List (Option Label)) (waiting next : List (Option ℕ)) (done after : List Bool) (m v n : ℕ) →
+    IsResting g q start labels waiting done n → v < length waiting → v < length done → IsLeastAt waiting v m → next ≡ slice_set waiting v None → after ≡ slice_set done v true →
     IsOpened g q start labels next after v n
-opened g q start labels waiting next done after b v n r below room least is is_after =
+opened g q start labels waiting next done after m v n r below room least is is_after =
+    let found = label_that_waits q.cap r.arcs start labels waiting done r.last v m r.front least.at in
+    let b : Label = found.0 in
     let here : is_done after v ≡ true = rw is_after ((set_done done v room).0) in
     let kept : (i : ℕ) → i ≢ v → is_done after i ≡ is_done done i = λ i other. rw is_after ((set_done done v room).1 i other) in
-    let front : IsFront q.cap r.arcs start labels next after b = front_taken q.cap r.arcs start labels waiting next done after r.last b v r.front below room least is is_after in
+    let front : IsFront q.cap r.arcs start labels next after b = front_taken q.cap r.arcs start labels waiting next done after r.last b v m r.front below room least found.1.0 found.1.1 is is_after in
     record {
       last = b;
       arcs = r.arcs;
@@ -259,17 +259,13 @@ opened g q start labels waiting next done after b v n r below room least is is_a
       heads = All-weaker (IsHeadDone g done) (IsHeadDone g after)
           (λ p h i at. elim (eqb_tells i v) [ inl same ↦ ap (is_done after) same.1 ∙ here | inr differs ↦ kept i differs.1 ∙ h i at ]) r.read r.heads;
       here = here;
-      at_here = go (is_done done v) refl;
+      at_here = found.1.0;
       whole = λ i p other done_i at. r.whole i p (sym (kept i other) ∙ done_i) at;
       unread = λ p at has.
           let done_v : is_done done v ≡ true = All-contains (IsHeadDone g done) r.read p r.heads has v at in
-          let bad : None ≡ Some b = sym (r.front.apart v done_v) ∙ least.at in cc;
+          let bad : None ≡ Some m = sym (r.front.apart v done_v) ∙ least.at in cc;
       count = r.count;
     }
-  where
-    go : (t : Bool) → is_done done v ≡ t → label_at labels v ≡ Some b
-    go false now = sym (r.front.waits v now) ∙ least.at
-    go true now = let bad : None ≡ Some b = sym (r.front.apart v now) ∙ least.at in cc
 
 all_within : (cap : ℕ) (ls : List (Option Label)) → All (IsWithin cap) ls → (i : ℕ) (b : Label) → label_at ls i ≡ Some b → b.cost ≤ cap
 all_within cap ls within i b is =
@@ -281,9 +277,15 @@ all_within cap ls within i b is =
 abbrev least_label : Label
 least_label = record { cost = 0; exit = V4 0 }
 
+cost_of_each : (ls : List (Option Label)) (i : ℕ) → cost_at (map cost_of ls) i ≡ cost_of (label_at ls i)
+cost_of_each ls i = elim (cases_lt i (length ls)) [
+  | inl below ↦ get_or-map cost_of ls i None None below
+  | inr past ↦ get_or_past (map cost_of ls) i None (omega (arith, past, length-map ls cost_of)) ∙ sym (ap cost_of (get_or_past ls i None past))
+]
+
 -- before the first node
 pub rests_at_first : (g : Rows) (q : Query) (start : List (Option Label)) (done : List Bool) →
-    All (IsWithin q.cap) start → ((i : ℕ) → is_done done i ≡ false) → IsResting g q start start start done 0
+    All (IsWithin q.cap) start → ((i : ℕ) → is_done done i ≡ false) → IsResting g q start start (map cost_of start) done 0
 rests_at_first g q start done cheap none =
     let never : (i : ℕ) → is_done done i ≡ true → ⊥ = λ i is. let bad : false ≡ true = sym (none i) ∙ is in cc in
     record {
@@ -292,13 +294,13 @@ rests_at_first g q start done cheap none =
       read = [];
       front = record {
         same_length = refl;
-        as_long = refl;
+        as_long = length-map start cost_of;
         supported = λ i b is. record { within = all_within q.cap start cheap i b is; made = inl is };
         no_higher = λ i b is. subst (λ (o : Option Label). AtMost o b) (sym is) (same_le b b refl);
         settled = λ i is. absurd (never i is);
         apart = λ i is. absurd (never i is);
-        waits = λ i is. refl;
-        later = λ i b is. least_of_all b;
+        waits = λ i is. cost_of_each start i;
+        later = λ i n is. omega arith;
         heads = λ k d below. absurd (omega arith);
         relaxed = λ k d below. absurd (omega arith);
       };
@@ -312,13 +314,10 @@ rests_at_first g q start done cheap none =
       whole = λ i p is at. absurd (never i is);
       count = refl;
     }
-  where
-    least_of_all : (b : Label) → least_label ≼ b
-    least_of_all b = elim (cases_lt 0 b.cost) [ inl lt ↦ inl lt | inr ge ↦ inr (omega arith, omega (arith, rank_of_v4 0 (omega arith))) ]
 
 -- when no node waits each node has its label
-pub rests_over : (g : Rows) (q : Query) (seeds : List Seed) (start labels waiting : List (Option Label)) (done : List Bool) (n : ℕ) → IsTopology g →
-    AreStarts g q seeds start → IsResting g q start labels waiting done n → ((i : ℕ) → label_at waiting i ≡ None) → AreLabels g q seeds labels
+pub rests_over : (g : Rows) (q : Query) (seeds : List Seed) (start labels : List (Option Label)) (waiting : List (Option ℕ)) (done : List Bool) (n : ℕ) → IsTopology g →
+    AreStarts g q seeds start → IsResting g q start labels waiting done n → ((i : ℕ) → cost_at waiting i ≡ None) → AreLabels g q seeds labels
 rests_over g q seeds start labels waiting done n valid starts r over =
     searched g q seeds r.arcs start labels
     (record {
@@ -332,9 +331,9 @@ rests_over g q seeds start labels waiting done n valid starts r over =
   where
     all_done : (i : ℕ) (b : Label) → label_at labels i ≡ Some b → (t : Bool) → is_done done i ≡ t → is_done done i ≡ true
     all_done i b is true now = now
-    all_done i b is false now = let bad : None ≡ Some b = sym (over i) ∙ (r.front.waits i now ∙ is) in cc
+    all_done i b is false now = let bad : None ≡ Some b.cost = sym (over i) ∙ (r.front.waits i now ∙ ap cost_of is) in cc
 
-pub few_reads : (g : Rows) (q : Query) (start labels waiting : List (Option Label)) (done : List Bool) (n : ℕ) → IsResting g q start labels waiting done n → n ≤ length g.links
+pub few_reads : (g : Rows) (q : Query) (start labels : List (Option Label)) (waiting : List (Option ℕ)) (done : List Bool) (n : ℕ) → IsResting g q start labels waiting done n → n ≤ length g.links
 few_reads g q start labels waiting done n r = omega (arith, few_below (length g.links) r.read r.reading.within r.reading.apart, r.count)
 
 found_at : {X : Type 0} (xs : List X) (i : ℕ) → i < length xs → (x : X) × (slice_get xs i ≡ Some x)
@@ -343,7 +342,7 @@ found_at (x ∷ xs) zero below = (x, refl)
 found_at (x ∷ xs) (suc i) below = found_at xs i (omega arith)
 
 -- a link that was read ends at a node with a label
-read_reached : (g : Rows) (q : Query) (start labels waiting : List (Option Label)) (done : List Bool) (n p : ℕ) → IsTopology g →
+read_reached : (g : Rows) (q : Query) (start labels : List (Option Label)) (waiting : List (Option ℕ)) (done : List Bool) (n p : ℕ) → IsTopology g →
     (r : IsResting g q start labels waiting done n) → Contains r.read p → EndsAtLabel g labels p
 read_reached g q start labels waiting done n p valid r has =
     let below : p < length g.links = All-contains (λ s. s < length g.links) r.read p r.reading.within has in
@@ -356,7 +355,7 @@ read_reached g q start labels waiting done n p valid r has =
     let s = r.front.settled end.0 (All-contains (IsHeadDone g done) r.read p r.heads has end.0 ends) in
     record { node = end.0; ends = ends; label = s.0; at_label = s.1.0 }
 
-pub few_reached : (g : Rows) (q : Query) (start labels waiting : List (Option Label)) (done : List Bool) (n : ℕ) → IsTopology g →
+pub few_reached : (g : Rows) (q : Query) (start labels : List (Option Label)) (waiting : List (Option ℕ)) (done : List Bool) (n : ℕ) → IsTopology g →
     IsResting g q start labels waiting done n → (places : List ℕ) → ((p : ℕ) → EndsAtLabel g labels p → Contains places p) → n ≤ length places
 few_reached g q start labels waiting done n valid r places whole =
     omega (arith, fits_in r.read places r.reading.apart (λ p has. whole p (read_reached g q start labels waiting done n p valid r has)), r.count)
@@ -375,13 +374,9 @@ open_falls done v below is =
     omega (arith, sums, one)
 
 -- a node that waits isn't settled yet
-pub waits_open : (g : Rows) (q : Query) (start labels waiting : List (Option Label)) (done : List Bool) (v n : ℕ) (b : Label) →
-    IsResting g q start labels waiting done n → label_at waiting v ≡ Some b → is_done done v ≡ false
-waits_open g q start labels waiting done v n b r is = go (is_done done v) refl
-  where
-    go : (t : Bool) → is_done done v ≡ t → is_done done v ≡ false
-    go false now = now
-    go true now = let bad : None ≡ Some b = sym (r.front.apart v now) ∙ is in cc
+pub waits_open : (g : Rows) (q : Query) (start labels : List (Option Label)) (waiting : List (Option ℕ)) (done : List Bool) (v n m : ℕ) →
+    IsResting g q start labels waiting done n → cost_at waiting v ≡ Some m → is_done done v ≡ false
+waits_open g q start labels waiting done v n m r is = undone q.cap r.arcs start labels waiting done r.last v m r.front is
 
 pub none_done : (n i : ℕ) → is_done (replicate n false) i ≡ false
 none_done n i = elim (cases_lt i n) [

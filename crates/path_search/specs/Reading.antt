@@ -26,7 +26,7 @@ abbrev pub IsHeadDone : Rows → List Bool → ℕ → Type 0
 IsHeadDone g done p = (i : ℕ) → EndsAt g.nodes g.links i p → is_done done i ≡ true
 
 -- between two nodes: all links into the settled nodes were read
-pub record IsResting (g : Rows) (q : Query) (start labels waiting : List (Option Label)) (done : List Bool) (reads : ℕ) : Type 0 where
+pub record IsResting (g : Rows) (q : Query) (start labels : List (Option Label)) (waiting : List (Option ℕ)) (done : List Bool) (reads : ℕ) : Type 0 where
   pub last : Label
   pub arcs : List Arc
   pub read : List ℕ
@@ -37,7 +37,7 @@ pub record IsResting (g : Rows) (q : Query) (start labels waiting : List (Option
   pub count : length read ≡ reads
 
 -- a node was just settled, and none of the links into it were read
-pub record IsOpened (g : Rows) (q : Query) (start labels waiting : List (Option Label)) (done : List Bool) (v : ℕ) (reads : ℕ) : Type 0 where
+pub record IsOpened (g : Rows) (q : Query) (start labels : List (Option Label)) (waiting : List (Option ℕ)) (done : List Bool) (v : ℕ) (reads : ℕ) : Type 0 where
   pub last : Label
   pub arcs : List Arc
   pub read : List ℕ
@@ -51,7 +51,7 @@ pub record IsOpened (g : Rows) (q : Query) (start labels waiting : List (Option 
   pub count : length read ≡ reads
 
 -- at a node that was just settled: the first k of the links into it were read
-pub record IsSpreading (g : Rows) (q : Query) (start labels waiting : List (Option Label)) (done : List Bool) (v : ℕ) (places : List ℕ) (k : ℕ) (reads : ℕ) : Type 0 where
+pub record IsSpreading (g : Rows) (q : Query) (start labels : List (Option Label)) (waiting : List (Option ℕ)) (done : List Bool) (v : ℕ) (places : List ℕ) (k : ℕ) (reads : ℕ) : Type 0 where
   pub last : Label
   pub arcs : List Arc
   pub read : List ℕ
@@ -66,12 +66,12 @@ pub record IsSpreading (g : Rows) (q : Query) (start labels waiting : List (Opti
   pub count : length read ≡ reads
 
 -- the arc of a link is relaxed, if it has one
-abbrev pub SpreadsLink : Rows → Query → ℕ → List (Option Label) → List (Option Label) → List (Option Label) → List (Option Label) → Type 0
+abbrev pub SpreadsLink : Rows → Query → ℕ → List (Option Label) → List (Option Label) → List (Option ℕ) → List (Option ℕ) → Type 0
 SpreadsLink g q p old new waiting next =
     (IsNoArc g q p × ((new ≡ old) × (next ≡ waiting))) ⊎ ((a : Arc) × (IsArcOf g q p a × Spreads q.cap a old new waiting next))
 
 -- all links into a node that was just settled are read, and their arcs relaxed
-abbrev pub SpreadsNode : Rows → Query → ℕ → List (Option Label) → List (Option Label) → List (Option Label) → List (Option Label) → ℕ → ℕ → Type 0
+abbrev pub SpreadsNode : Rows → Query → ℕ → List (Option Label) → List (Option Label) → List (Option ℕ) → List (Option ℕ) → ℕ → ℕ → Type 0
 SpreadsNode g q v old new waiting next reads reads' =
     (start : List (Option Label)) (done : List Bool) (n : ℕ) → IsOpened g q start old waiting done v n →
     (m : ℕ) × (IsResting g q start new next done m × (reads' + n ≤ reads + m))

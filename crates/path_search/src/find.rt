@@ -1,40 +1,41 @@
 //! The search: its starts, and the settling of nodes, the least first.
-ghost use Rattle.std.specs.Prelude.{◌≡◌, ◌⊎◌, ◌↔◌, ◌<◌, ◌≤◌, ◌+◌, false, replicate, length, IsTrue, IfOk, MatchOption};
-ghost use Rattle.dom_base.specs.Admission.{BarsNode};
+ghost use Rattle.std.specs.Prelude.{◌≡◌, ◌<◌, ◌≤◌, ◌+◌, false, replicate, length, IfOk, MatchOption};
 ghost use Rattle.te_links.specs.Rows.{IsTopology};
 ghost use Rattle.te_links.specs.Index.{EndsAt};
+ghost use Rattle.path_search.specs.Barred.{AreBarred};
 ghost use Rattle.path_search.specs.Reached.{ReadsReached};
 ghost use Rattle.path_search.specs.Search.{IsArcOf, IsNoArc, AreLabels};
 
 use crate::arc::Arc;
+use crate::barred::{barred_nodes, bars_ends};
 use crate::labels::Labels;
 use crate::spread::settle_all;
 use crate::starts::starts_of;
 use crate::waiting::Waiting;
-use dom_base::{Link, NoMemory, Query, Seed};
+use dom_base::{NoMemory, Query, Seed};
 use path_constraints::{fits, weight};
-use path_exclusions::{bars_link, bars_node};
+use path_exclusions::bars_link;
 use std::alloc::Global;
 use te_links::Links;
 
-// Whether a link begins or ends at a node that the query bars.
-fn bars_ends(query: &Query, link: &Link) -> bool
-    ensures { IsTrue result ↔ (BarsNode query.now link.now.from ⊎ BarsNode query.now link.now.to) }
-{
-    bars_node(query, link.from) || bars_node(query, link.to)
-}
-
 // The arc of a link into the node at a place, if the link is admitted.
-pub fn arc_of<'a, G: Links<'a>>(links: &mut G, query: &Query, head: u32, index: u32) -> Option<Arc>
+pub fn arc_of<'a, G: Links<'a>>(
+    links: &mut G,
+    query: &Query,
+    barred: &[bool],
+    head: u32,
+    index: u32,
+) -> Option<Arc>
     requires rules { IsTopology (G.rows links.old) }
     requires index { index < length (G.rows links.old).links }
+    requires barred { AreBarred (G.rows links.old) query.now barred.now }
     requires ends { EndsAt (G.rows links.old).nodes (G.rows links.old).links head index }
     ensures arc { MatchOption result (IsNoArc (G.rows links.old) query.now index) (IsArcOf (G.rows links.old) query.now index) }
     ensures same { G.rows links.new ≡ G.rows links.old }
     ensures reads { G.reads links.new ≤ G.reads links.old + 1 }
 {
     let (link, tail) = links.link_with_tail(index);
-    if !fits(query, link) || bars_link(query, link) || bars_ends(query, link) {
+    if !fits(query, link) || bars_link(query, link) || bars_ends(barred, tail, head) {
         return None;
     }
     Some(Arc {
@@ -68,8 +69,9 @@ pub fn search<'a, G: Links<'a>>(
     ensures reached { IfOk result (λ labels. ReadsReached (G.rows links.old) labels (G.reads links.old) (G.reads links.new)) }
 {
     let mut labels = starts_of(alloc, links, query, seeds)?;
+    let barred = barred_nodes(alloc, links, query)?;
     let mut waiting = Waiting::of(alloc, &labels)?;
     let mut done = none_settled(alloc, labels.len())?;
-    settle_all(links, query, &mut labels, &mut waiting, &mut done);
+    settle_all(links, query, &barred, &mut labels, &mut waiting, &mut done);
     Ok(Labels::of(labels))
 }

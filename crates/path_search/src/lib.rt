@@ -2,6 +2,7 @@
 #![tactic(auto)]
 
 mod arc;
+mod barred;
 mod chosen;
 mod find;
 mod labels;

@@ -1,20 +1,21 @@
 //! Nodes are settled one after another, and the links into each are read.
-ghost use Rattle.std.specs.Prelude.{◌≡◌, ◌<◌, ◌≤◌, ◌+◌, ℕ, length, false, All};
+ghost use Rattle.std.specs.Prelude.{◌≡◌, ◌<◌, ◌≤◌, ◌+◌, ℕ, length, map, false, All};
 ghost use Rattle.te_links.specs.Rows.{IsTopology};
 ghost use Rattle.te_links.specs.Index.{EndsAt};
 ghost use Rattle.path_search.specs.Arcs.{IsArcAmong, IsWithin};
-ghost use Rattle.path_search.specs.Front.{is_done, Spreads};
+ghost use Rattle.path_search.specs.Barred.{AreBarred};
+ghost use Rattle.path_search.specs.Front.{cost_of, is_done, Spreads};
 ghost use Rattle.path_search.specs.Reached.{ReadsReached};
 ghost use Rattle.path_search.specs.Reading.{SpreadsLink, SpreadsNode, FindsLabels};
 
 use crate::arc::Arc;
 use crate::find::arc_of;
 use crate::settle::relax;
-use crate::waiting::Waiting;
+use crate::waiting::{Waiting, cost_from};
 use dom_base::{Cost, Label, Query};
 use te_links::Links;
 
-// Relaxes an arc. A label that is lowered waits.
+// Relaxes an arc. A node whose label is lowered waits.
 fn spread_arc(cap: Cost, arc: Arc, labels: &mut [Option<Label>], waiting: &mut Waiting)
     requires among { IsArcAmong (length labels.old) arc }
     requires as_long { length waiting.old ≡ length labels.old }
@@ -23,7 +24,7 @@ fn spread_arc(cap: Cost, arc: Arc, labels: &mut [Option<Label>], waiting: &mut W
     ensures waiting { length waiting.new ≡ length waiting.old }
 {
     if relax(cap, arc, labels) {
-        waiting.put(arc.tail, labels[arc.tail as usize]);
+        waiting.put(arc.tail, cost_from(labels, arc.tail));
     }
 }
 
@@ -31,12 +32,14 @@ fn spread_arc(cap: Cost, arc: Arc, labels: &mut [Option<Label>], waiting: &mut W
 fn spread_link<'a, G: Links<'a>>(
     links: &mut G,
     query: &Query,
+    barred: &[bool],
     head: u32,
     index: u32,
     labels: &mut [Option<Label>],
     waiting: &mut Waiting,
 )
     requires rules { IsTopology (G.rows links.old) }
+    requires barred { AreBarred (G.rows links.old) query.now barred.now }
     requires index { index < length (G.rows links.old).links }
     requires ends { EndsAt (G.rows links.old).nodes (G.rows links.old).links head index }
     requires labels { length labels.old ≡ length (G.rows links.old).nodes }
@@ -47,7 +50,7 @@ fn spread_link<'a, G: Links<'a>>(
     ensures same { G.rows links.new ≡ G.rows links.old }
     ensures reads { G.reads links.new ≤ G.reads links.old + 1 }
 {
-    if let Some(arc) = arc_of(links, query, head, index) {
+    if let Some(arc) = arc_of(links, query, barred, head, index) {
         spread_arc(query.cap, arc, labels, waiting);
     }
 }
@@ -56,11 +59,13 @@ fn spread_link<'a, G: Links<'a>>(
 pub(crate) fn spread_node<'a, G: Links<'a>>(
     links: &mut G,
     query: &Query,
+    barred: &[bool],
     place: u32,
     labels: &mut [Option<Label>],
     waiting: &mut Waiting,
 )
     requires rules { IsTopology (G.rows links.old) }
+    requires barred { AreBarred (G.rows links.old) query.now barred.now }
     requires place { place < length (G.rows links.old).nodes }
     requires labels { length labels.old ≡ length (G.rows links.old).nodes }
     requires as_long { length waiting.old ≡ length labels.old }
@@ -71,7 +76,7 @@ pub(crate) fn spread_node<'a, G: Links<'a>>(
 {
     let places = links.links_into(place);
     for index in places {
-        spread_link(links, query, place, *index, labels, waiting);
+        spread_link(links, query, barred, place, *index, labels, waiting);
     }
 }
 
@@ -79,14 +84,16 @@ pub(crate) fn spread_node<'a, G: Links<'a>>(
 pub(crate) fn settle_all<'a, G: Links<'a>>(
     links: &mut G,
     query: &Query,
+    barred: &[bool],
     labels: &mut [Option<Label>],
     waiting: &mut Waiting,
     done: &mut [bool],
 )
     requires rules { IsTopology (G.rows links.old) }
+    requires barred { AreBarred (G.rows links.old) query.now barred.now }
     requires labels { length labels.old ≡ length (G.rows links.old).nodes }
     requires within { All (IsWithin query.now.cap) labels.old }
-    requires all_wait { waiting.old ≡ labels.old }
+    requires all_wait { waiting.old ≡ map cost_of labels.old }
     requires places { length done.old ≡ length labels.old }
     requires none_done { (i : ℕ) → is_done done.old i ≡ false }
     ensures labels { FindsLabels (G.rows links.old) query.now labels.old labels.new }
@@ -98,6 +105,6 @@ pub(crate) fn settle_all<'a, G: Links<'a>>(
     while let Some(place) = waiting.least() {
         waiting.put(place, None);
         done[place as usize] = true;
-        spread_node(links, query, place, labels, waiting);
+        spread_node(links, query, barred, place, labels, waiting);
     }
 }

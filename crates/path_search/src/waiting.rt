@@ -1,32 +1,58 @@
 //! The nodes that wait to be settled, the least first.
-ghost use Rattle.std.specs.Prelude.{◌≡◌, ◌<◌, ◌^◌, length, replicate, slice_set, None, IfOk};
-ghost use Rattle.path_search.specs.Front.{HoldsLeast};
+ghost use Rattle.std.specs.Prelude.{◌≡◌, ◌<◌, ◌^◌, length, map, replicate, slice_set, None, IfOk};
+ghost use Rattle.path_search.specs.Arcs.{label_at};
+ghost use Rattle.path_search.specs.Front.{cost_of, HoldsLeast};
+ghost use Rattle.path_search.specs.declared.matches.TheConstants.{NOTHING};
 
-use crate::matches::{least_leaf, set_leaf};
-use dom_base::{Label, NoMemory};
+use crate::matches::{NOTHING, least_leaf, set_leaf};
+use dom_base::{Cost, Label, NoMemory};
 use std::alloc::Global;
 use std::marker::Model;
 
-fn no_labels(alloc: Global, count: usize) -> Result<Vec<Option<Label>>, NoMemory>
-    ensures { IfOk result (λ labels. labels.items ≡ replicate count None) }
+fn no_costs(alloc: Global, count: usize) -> Result<Vec<u32>, NoMemory>
+    ensures { IfOk result (λ costs. costs.items ≡ replicate count NOTHING) }
 {
-    Ok(vec![in alloc; None; count]?)
+    Ok(vec![in alloc; NOTHING; count]?)
 }
 
-/// The labels of the nodes that wait to be settled, by their places. They are the leaves of a tree
-/// of matches, whose root is the least.
+fn label_of(labels: &[Option<Label>], place: u32) -> Option<Label>
+    requires { place < length labels.now }
+    ensures { result ≡ label_at labels.now place }
+{
+    labels[place as usize]
+}
+
+fn cost_of_label(label: &Option<Label>) -> Option<Cost>
+    ensures { result ≡ cost_of label.now }
+{
+    match label {
+        Some(label) => Some(label.cost),
+        None => None,
+    }
+}
+
+/// The cost of the label at a place.
+pub(crate) fn cost_from(labels: &[Option<Label>], place: u32) -> Option<Cost>
+    requires { place < length labels.now }
+    ensures { result ≡ cost_of (label_at labels.now place) }
+{
+    cost_of_label(&label_of(labels, place))
+}
+
+/// The costs of the nodes that wait to be settled, by their places. They are the leaves of a tree
+/// of matches, whose root is the least. Exits have no part in it: each link costs something, so
+/// nodes of one cost do not lower one another.
 #[derive(Drop)]
 pub(crate) struct Waiting {
-    tree: Vec<Option<Label>>,
+    tree: Vec<u32>,
     nodes: usize,
 }
 
 impl Model for Waiting {
-    ghost use Rattle.std.specs.Prelude.{List};
+    ghost use Rattle.std.specs.Prelude.{List, ℕ};
     ghost use Rattle.std.specs.declared.option.Option.{Option};
-    ghost use Rattle.dom_base.specs.declared.query.Label.{Label};
 
-    ghost Value = { List (Option Label) };
+    ghost Value = { List (Option ℕ) };
 
     ghost use Rattle.path_search.specs.Tree.{leaves_of, HoldsTree};
 
@@ -40,30 +66,30 @@ impl Waiting {
         requires { nodes < 2 ^ 31 }
         ensures { IfOk result (λ waiting. waiting ≡ replicate nodes None) }
     {
-        let tree = no_labels(alloc, nodes * 2)?;
+        let tree = no_costs(alloc, nodes * 2)?;
         Ok(Waiting { tree, nodes })
     }
 
     pub(crate) fn of(alloc: Global, labels: &[Option<Label>]) -> Result<Waiting, NoMemory>
         requires { length labels.now < 2 ^ 31 }
-        ensures { IfOk result (λ waiting. waiting ≡ labels.now) }
+        ensures { IfOk result (λ waiting. waiting ≡ map cost_of labels.now) }
     {
         let mut waiting = Waiting::none(alloc, labels.len())?;
         for i in 0..labels.len() as u32 {
-            waiting.put(i, labels[i as usize]);
+            waiting.put(i, cost_from(labels, i));
         }
         Ok(waiting)
     }
 
-    /// Puts a label at a place.
-    pub(crate) fn put(&mut self, place: u32, label: Option<Label>)
+    /// Puts a cost at a place.
+    pub(crate) fn put(&mut self, place: u32, cost: Option<Cost>)
         requires { place < length self.old }
-        ensures { self.new ≡ slice_set self.old place label }
+        ensures { self.new ≡ slice_set self.old place cost }
     {
-        set_leaf(&mut self.tree, self.nodes, place as usize, label);
+        set_leaf(&mut self.tree, self.nodes, place as usize, &cost);
     }
 
-    /// The place of a least label.
+    /// The place of a least cost.
     pub(crate) fn least(&self) -> Option<u32>
         ensures { HoldsLeast self.now result }
     {

@@ -1,6 +1,6 @@
-use Rattle.std.proofs.Common.{◌≡◌, Bool, false, List, length, drop, refl, sym, ◌∙◌, subst, ap, arith}
+use Rattle.std.proofs.Common.{◌≡◌, Bool, false, List, length, drop, map, refl, sym, ◌∙◌, subst, ap, arith}
 use Rattle.std.proofs.lemmas.List.{take_at, length-replicate}
-use Rattle.path_search.specs.Front.{is_done}
+use Rattle.path_search.specs.Front.{cost_of, is_done}
 use Rattle.path_search.proofs.Certified.{start_within}
 use Rattle.path_search.proofs.ReadLinks.{none_done}
 use Rattle.path_search.proofs.find.search.Goals as goal
@@ -11,19 +11,22 @@ settle_all-requires g c κs =
     let starts = c.in_ok-labels.ensures.starts in
     let labels = c.in_ok-labels.labels.items in
     let done = c.in_ok-done.done.items in
-    rw (c.deref_mut.ensures.value, c.deref_mut-2.ensures.value) (
+    rw (c.deref-2.ensures.value, c.deref_mut.ensures.value, c.deref_mut-2.ensures.value) (
       (refl, tt),
       (
         c.in_ok-labels.ensures.rules,
         (
-          starts.same_length,
+          c.in_ok-barred.ensures,
           (
-            start_within rows c.args.query.now c.args.seeds.now labels starts,
+            starts.same_length,
             (
-              c.in_ok-waiting.ensures ∙ c.deref.ensures.value,
+              start_within rows c.args.query.now c.args.seeds.now labels starts,
               (
-                omega (arith, ap (λ (bs : List Bool). length bs) c.in_ok-done.ensures, length-replicate {A = Bool} c.len.result false, c.len.ensures),
-                (λ i. subst (λ (bs : List Bool). is_done bs i ≡ false) (sym c.in_ok-done.ensures) (none_done c.len.result i)),
+                c.in_ok-waiting.ensures ∙ ap (map cost_of) c.deref.ensures.value,
+                (
+                  omega (arith, ap (λ (bs : List Bool). length bs) c.in_ok-done.ensures, length-replicate {A = Bool} c.len.result false, c.len.ensures),
+                  (λ i. subst (λ (bs : List Bool). is_done bs i ≡ false) (sym c.in_ok-done.ensures) (none_done c.len.result i)),
+                ),
               ),
             ),
           ),

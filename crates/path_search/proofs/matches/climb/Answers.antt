@@ -1,6 +1,6 @@
-use Rattle.std.proofs.Common.{◌≡◌, ◌<◌, ◌+◌, ◌/◌, ◌*◌, ℕ, length, slice_set, ◌∙◌, arith}
+use Rattle.std.proofs.Common.{◌≡◌, ◌<◌, ◌+◌, ◌/◌, ◌*◌, ℕ, length, slice_set, slice_index_or, ◌∙◌, arith}
 use Rattle.std.proofs.Math.ListN.{length-set}
-use Rattle.std.proofs.lemmas.List.{drop-set-lt}
+use Rattle.std.proofs.lemmas.List.{drop-set-lt, get_or_default}
 use Rattle.path_search.proofs.Tournament.{half_of, lesser_at, played_once}
 use Rattle.path_search.proofs.matches.climb.Goals as goal
 
@@ -15,8 +15,11 @@ loop-at-preserved c =
     let half = half_of k in
     let inner : p < n = omega (arith, inv.within, inv.long, c.requires.long) in
     let within : p < length tree = omega (arith, inner, inv.long, c.requires.long) in
-    let lesser = lesser_at tree p (p * 2) (p * 2 + 1) c.index-tree-above.result c.index-tree-above-in-loop-at.result winner
-    (omega arith) (omega arith) (omega (arith, inner, inv.long, c.requires.long)) c.index-tree-above.is c.index-tree-above-in-loop-at.is c.lesser-winner.ensures in
+    let left : ℕ = slice_index_or tree (p * 2) 0 in
+    let right : ℕ = slice_index_or tree (p * 2 + 1) 0 in
+    let last : p * 2 + 1 < length tree = omega (arith, inner, inv.long, c.requires.long) in
+    let lesser = lesser_at tree p (p * 2) (p * 2 + 1) left right winner
+    (omega arith) (omega arith) last (get_or_default tree (p * 2) 0 left (omega (arith, last))) (get_or_default tree (p * 2 + 1) 0 right last) c.lesser-winner.ensures in
     record {
       others = played_once tree n k p winner half (omega (arith, c.loop-at-test.true)) within inv.others lesser;
       leaves = drop-set-lt n tree p winner inner ∙ inv.leaves;

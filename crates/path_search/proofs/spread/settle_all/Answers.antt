@@ -1,8 +1,9 @@
-use Rattle.std.proofs.Common.{◌≡◌, ◌<◌, List, length, true, slice_set, refl, sym, ◌∙◌, ap, subst, arith}
+use Rattle.std.proofs.Common.{◌≡◌, ◌<◌, ℕ, List, length, true, slice_set, refl, sym, ◌∙◌, ap, subst, arith}
 use Rattle.std.proofs.Math.ListN.{length-set}
+use Rattle.std.proofs.lemmas.List.{length-map}
 use Rattle.std.specs.declared.option.Option.{Option}
-use Rattle.dom_base.specs.declared.query.Label.{Label}
 use Rattle.te_links.specs.Rows.{Rows}
+use Rattle.path_search.specs.Front.{cost_of}
 use Rattle.path_search.specs.Reading.{IsOpened, IsResting, SpreadsNode}
 use Rattle.path_search.proofs.ReadLinks.{opened, rests_at_first, rests_over, few_reads, few_reached}
 use Rattle.path_search.proofs.spread.settle_all.Goals as goal
@@ -14,12 +15,12 @@ loop-place-init g c =
     let labels = c.args.labels.now in
     record {
       n = 0;
-      rests = subst (λ (ws : List (Option Label)). IsResting rows q labels labels ws c.args.done.now 0) (sym c.requires.all_wait)
+      rests = subst (λ (ws : List (Option ℕ)). IsResting rows q labels labels ws c.args.done.now 0) (sym c.requires.all_wait)
           (rests_at_first rows q labels c.args.done.now c.requires.within c.requires.none_done);
       few = omega arith;
       same = refl;
       long = refl;
-      as_long = ap length c.requires.all_wait;
+      as_long = ap length c.requires.all_wait ∙ length-map labels cost_of;
       places = c.requires.places;
     }
 

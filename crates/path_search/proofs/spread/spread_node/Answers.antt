@@ -3,6 +3,7 @@ use Rattle.std.proofs.lemmas.List.{get_or_default}
 use Rattle.std.proofs.lemmas.Option.{slice_get_within}
 use Rattle.te_links.specs.Rows.{Rows, IsTopology}
 use Rattle.te_links.specs.Index.{EndsAt}
+use Rattle.path_search.specs.Barred.{AreBarred}
 use Rattle.path_search.specs.Reading.{SpreadsLink}
 use Rattle.path_search.proofs.ReadLinks.{spread_first, spread_step, spread_last}
 use Rattle.path_search.proofs.spread.spread_node.Goals as goal
@@ -34,12 +35,15 @@ spread_link-requires g c κs =
       (
         subst IsTopology (sym inv.same) c.requires.rules,
         (
-          subst (λ (h : Rows). p < length h.links) (sym inv.same) within,
+          subst (λ (h : Rows). AreBarred h c.args.query.now c.args.barred.now) (sym inv.same) c.requires.barred,
           (
-            subst (λ (h : Rows). EndsAt h.nodes h.links c.args.place p) (sym inv.same) ends,
+            subst (λ (h : Rows). p < length h.links) (sym inv.same) within,
             (
-              subst (λ (h : Rows). length c.loop-index.labels ≡ length h.nodes) (sym inv.same) (inv.long ∙ c.requires.labels),
-              inv.as_long ∙ (c.requires.as_long ∙ sym inv.long),
+              subst (λ (h : Rows). EndsAt h.nodes h.links c.args.place p) (sym inv.same) ends,
+              (
+                subst (λ (h : Rows). length c.loop-index.labels ≡ length h.nodes) (sym inv.same) (inv.long ∙ c.requires.labels),
+                inv.as_long ∙ (c.requires.as_long ∙ sym inv.long),
+              ),
             ),
           ),
         ),

@@ -1,0 +1,24 @@
+-- A node that is barred is an end of no admitted link.
+use Rattle.std.proofs.Common.{◌≡◌, ◌⊎◌, ◌∙◌, ℕ, List, Bool, true, Some, ap, sym, inl, inr}
+use Rattle.std.specs.Prelude.{slice_get}
+use Rattle.std.proofs.lemmas.Option.{slice_get_within}
+use Rattle.dom_base.specs.declared.link.Link.{Link}
+use Rattle.dom_base.specs.declared.query.Query.{Query}
+use Rattle.te_links.specs.Rows.{Rows}
+use Rattle.te_links.specs.Index.{EndsAt}
+use Rattle.path_search.specs.Barred.{is_barred, AreBarred}
+use Rattle.path_search.specs.Search.{IsNoArc}
+
+pub barred_no_arc : (g : Rows) (q : Query) (barred : List Bool) (read : Link) (tail head index : ℕ) → AreBarred g q barred → slice_get g.links index ≡ Some read →
+    slice_get g.nodes tail ≡ Some read.from → EndsAt g.nodes g.links head index → (is_barred barred tail ≡ true) ⊎ (is_barred barred head ≡ true) → IsNoArc g q index
+barred_no_arc g q barred read tail head index are at_read at_tail ends bars l at admitted =
+    let one : Some read ≡ Some l = sym at_read ∙ at in
+    let read_is : read ≡ l = cc in
+    let other : Some ends.link ≡ Some l = sym ends.at_link ∙ at in
+    let end_is : ends.link ≡ l = cc in
+    let from_at : slice_get g.nodes tail ≡ Some l.from = at_tail ∙ ap (λ (m : Link). Some m.from) read_is in
+    let to_at : slice_get g.nodes head ≡ Some l.to = ends.at_node ∙ ap (λ (m : Link). Some m.to) end_is in
+    elim bars [
+      | inl here ↦ admitted.from.free ((are.each tail l.from (slice_get_within g.nodes tail l.from from_at) from_at).0 here)
+      | inr there ↦ admitted.to.free ((are.each head l.to (slice_get_within g.nodes head l.to to_at) to_at).0 there)
+    ]
