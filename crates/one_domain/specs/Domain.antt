@@ -17,6 +17,7 @@ use Rattle.pcep_messages.specs.declared.message.Wanted.{Wanted}
 use Rattle.border_costs.specs.declared.job.Ask.{Ask}
 use Rattle.border_costs.specs.declared.job.Target.TheVariants.{Node}
 use Rattle.border_costs.specs.Asks.{target_seed}
+use Rattle.pcep_codes.specs.declared.no_paths.TheConstants as no_paths
 use Rattle.one_domain.specs.declared.domain.Chosen.{Chosen}
 
 -- the seeds of a search for one target: the target itself
@@ -57,9 +58,9 @@ IsBitWhere P bit n = (P × (n ≡ bit)) ⊎ ((¬ P) × (n ≡ 0))
 -- is the lowest.
 pub record IsUnknownVector (g : Rows) (s t : Addr) (vector : ℕ) : Type 0 where
   pub source : ℕ
-  pub unknown_source : IsBitWhere (¬ Contains g.nodes s) 4 source
+  pub unknown_source : IsBitWhere (¬ Contains g.nodes s) no_paths.UNKNOWN_SOURCE source
   pub target : ℕ
-  pub unknown_target : IsBitWhere (¬ Contains g.nodes t) 2 target
+  pub unknown_target : IsBitWhere (¬ Contains g.nodes t) no_paths.UNKNOWN_TARGET target
   pub sum : vector ≡ source + target
 
 -- the chosen path, or none where there is no path within the cap

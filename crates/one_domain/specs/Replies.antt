@@ -6,6 +6,8 @@ use Rattle.dom_base.specs.declared.query.Metric.TheVariants.{Igp, Te, Hops}
 use Rattle.dom_base.specs.Words.{HasValue}
 use Rattle.te_links.specs.Rows.{Rows}
 use Rattle.disclosure.specs.Shown.{open_of}
+use Rattle.pcep_codes.specs.declared.metrics.TheConstants as metrics
+use Rattle.pcep_codes.specs.declared.no_paths.TheConstants as no_paths
 use Rattle.pcep_messages.specs.declared.message.Answer.{Answer}
 use Rattle.pcep_messages.specs.declared.message.Answer.TheVariants as answers
 use Rattle.pcep_messages.specs.declared.message.Message.{Message}
@@ -17,9 +19,9 @@ use Rattle.one_domain.specs.Domain.{ShowsLeast, HasNone, IsUnknownVector}
 
 -- the type of a METRIC (RFC 5440, section 7.8)
 abbrev pub metric_type : Metric → ℕ
-metric_type Igp = 1
-metric_type Te = 2
-metric_type Hops = 3
+metric_type Igp = metrics.IGP
+metric_type Te = metrics.TE
+metric_type Hops = metrics.HOPS
 
 -- a path of least cost, with a METRIC whose word is its cost
 pub record AnswersLeast (g : Rows) (w : Wanted) (answer : Answer) : Type 0 where
@@ -35,7 +37,7 @@ pub record AnswersNone (g : Rows) (w : Wanted) (answer : Answer) : Type 0 where
   pub none : HasNone g w.query w.source w.target
   pub vector : ℕ
   pub is_vector : IsUnknownVector g w.source w.target vector
-  pub is : answer ≡ answers.NoPath 0 vector
+  pub is : answer ≡ answers.NoPath no_paths.NONE_FOUND vector
 
 abbrev pub IsAnswer : Rows → Wanted → Answer → Type 0
 IsAnswer g w answer = AnswersLeast g w answer ⊎ AnswersNone g w answer

@@ -7,6 +7,7 @@ ghost use Rattle.one_domain.specs.Domain.{ask_of, target_seeds, HasLabels, IsCho
 use border_costs::{Ask, Rows, Target, solve_rows};
 use dom_base::{Addr, As, Cost, List, NoMemory, Seed};
 use path_certificate::Certificate;
+use pcep_codes::no_paths;
 use pcep_messages::Wanted;
 use std::alloc::Global;
 use te_links::{Counted, Topology};
@@ -21,8 +22,7 @@ pub struct Chosen {
 
 /// What one search for a request's target gives: the chosen path from its source, if there is
 /// one; the bits of a NO-PATH-VECTOR for ends that the domain does not know (RFC 5440, section
-/// 7.5: 0x04 for the source, 0x02 for the target); and the labels of all nodes, as a certificate
-/// without a path.
+/// 7.5); and the labels of all nodes, as a certificate without a path.
 #[derive(Drop)]
 pub struct DomainPath {
     pub chosen: Option<Chosen>,
@@ -91,8 +91,16 @@ fn path_of(best: List<Best>) -> Option<Chosen>
 fn vector_of(source_known: bool, target_known: bool) -> u32
     ensures { result ≡ (if source_known then 0 else 4) + (if target_known then 0 else 2) }
 {
-    let source = if source_known { 0 } else { 4 };
-    let target = if target_known { 0 } else { 2 };
+    let source = if source_known {
+        0
+    } else {
+        no_paths::UNKNOWN_SOURCE
+    };
+    let target = if target_known {
+        0
+    } else {
+        no_paths::UNKNOWN_TARGET
+    };
     source + target
 }
 

@@ -6,6 +6,7 @@ ghost use Rattle.one_domain.specs.Replies.{metric_type, IsPathAnswer, IsAnswer, 
 use crate::domain::{Chosen, DomainPath, search_domain};
 use disclosure::open_hops;
 use dom_base::{List, Metric, NoMemory, word_of_cost};
+use pcep_codes::{metrics, no_paths};
 use pcep_messages::{Answer, Message, Path, Reply, Wanted};
 use std::alloc::Global;
 use te_links::Topology;
@@ -22,9 +23,9 @@ fn type_of(metric: Metric) -> u8
     ensures { result ≡ metric_type metric }
 {
     match metric {
-        Metric::Igp => 1,
-        Metric::Te => 2,
-        Metric::Hops => 3,
+        Metric::Igp => metrics::IGP,
+        Metric::Te => metrics::TE,
+        Metric::Hops => metrics::HOPS,
     }
 }
 
@@ -47,7 +48,10 @@ pub fn answer_of(alloc: Global, topology: &Topology, wanted: &Wanted) -> Result<
     let DomainPath { chosen, vector, .. } = search_domain(alloc, topology, wanted)?;
     match chosen {
         Some(chosen) => path_answer(alloc, wanted.query.metric, &chosen),
-        None => Ok(Answer::NoPath { nature: 0, vector }),
+        None => Ok(Answer::NoPath {
+            nature: no_paths::NONE_FOUND,
+            vector,
+        }),
     }
 }
 

@@ -6,16 +6,17 @@ use Rattle.std.specs.Io.KnownBytes.{Keeps}
 use Rattle.te_links.specs.Rows.{Rows}
 use Rattle.te_links.specs.declared.fault.TopoFault.{TopoFault}
 use Rattle.te_text.specs.Reads.{IsFaulty}
+use Rattle.topology_files.specs.Loading.{HasTopology, topology_max}
+use Rattle.plant_text.specs.declared.fault.NetFault.{NetFault}
 use Rattle.path_certificate.specs.declared.cert_error.CertError.TheVariants.{At}
 use Rattle.path_certificate.specs.Text.{certificate_in}
 use Rattle.diverse_pairs.specs.Text.{pair_in}
 use Rattle.pce_tool.specs.declared.status.Status.{Status}
 use Rattle.pce_tool.specs.declared.status.Status.TheVariants as status
-use Rattle.pce_tool.specs.declared.status.NetFault.TheVariants.{Topo}
-use Rattle.pce_tool.specs.Limits.{topology_max, certificate_max}
-use Rattle.dom_edge.specs.Stores.{Files}
-use Rattle.pce_tool.specs.Worlds.{World, WroteNothing, IfFile}
-use Rattle.pce_tool.specs.Files.{File, TopologyFile, CertificateFile, PairFile, HasTopology, HoldsAtFile, IsFaultIn, name_of, limit_of}
+use Rattle.pce_tool.specs.Limits.{certificate_max}
+use Rattle.dom_edge.specs.Stores.{Files, IfFile}
+use Rattle.pce_tool.specs.Worlds.{World, WroteNothing}
+use Rattle.pce_tool.specs.Files.{File, TopologyFile, CertificateFile, PairFile, HoldsAtFile, IsTopo, IsFaultIn, name_of, limit_of}
 use Rattle.pce_tool.specs.Parts.{IsFileStatus, IsInputStatus, IsFinished}
 use Rattle.pce_tool.specs.Run.{Command, Verify, PairVerify, FilesRead, IsBad, IsOutput, Ends, files_of, topology_of}
 
@@ -30,12 +31,12 @@ first w c name rest P is holds = subst (λ (fs : List File). HoldsAtFile w.files
 
 -- the topology was not read
 pub topology_ends : (w : World) (c : Command) (name : List ℕ) (rest : List File) → files_of c ≡ TopologyFile name ∷ rest → WroteNothing w → (s : Status) →
-    IsFileStatus w.files name topology_max IsFaulty w.store_faults w.failed_at s → Ends w c s
+    IsFileStatus w.files name topology_max (λ bytes line. IsTopo (λ told. IsFaulty bytes line told)) w.store_faults w.failed_at s → Ends w c s
 topology_ends w c name rest is nothing status.Ok why = absurd why
 topology_ends w c name rest is nothing status.Usage why = absurd why
 topology_ends w c name rest is nothing status.ReadFault why = (nothing, inl (first w c name rest _ is why))
 topology_ends w c name rest is nothing status.WriteFault why = absurd why
-topology_ends w c name rest is nothing (status.BadNetwork file line (Topo fault)) why = (nothing, first w c name rest _ is why)
+topology_ends w c name rest is nothing (status.BadNetwork file line fault) why = (nothing, first w c name rest _ is why)
 topology_ends w c name rest is nothing status.NoMemory why = nothing
 topology_ends w c name rest is nothing (status.BadRequest reason) why = absurd why
 topology_ends w c name rest is nothing (status.Refuted place) why = absurd why
@@ -47,14 +48,14 @@ second : (w : World) (c : Command) (topology : List ℕ) (g : Rows) (f : File) (
 second w c topology g f P is has holds = subst (λ (fs : List File). HoldsAtFile w.files fs P) (sym is) (inr ((g, has), inl holds))
 
 -- the topology was read, and the second file was not
-second_ends : (w : World) (c : Command) (topology : List ℕ) (g : Rows) (f : File) (IsFault : List ℕ → ℕ → TopoFault → Type 0) → files_of c ≡ TopologyFile topology ∷ f ∷ [] →
-    HasTopology w.files topology g → ((bytes : List ℕ) (line : ℕ) (fault : TopoFault) → IsFault bytes line fault → IsFaultIn w.files f bytes line fault) → WroteNothing w → (s : Status) →
+second_ends : (w : World) (c : Command) (topology : List ℕ) (g : Rows) (f : File) (IsFault : List ℕ → ℕ → NetFault → Type 0) → files_of c ≡ TopologyFile topology ∷ f ∷ [] →
+    HasTopology w.files topology g → ((bytes : List ℕ) (line : ℕ) (fault : NetFault) → IsFault bytes line fault → IsFaultIn w.files f bytes line fault) → WroteNothing w → (s : Status) →
     IsFileStatus w.files (name_of f) (limit_of f) IsFault w.store_faults w.failed_at s → Ends w c s
 second_ends w c topology g f IsFault is has in_file nothing status.Ok why = absurd why
 second_ends w c topology g f IsFault is has in_file nothing status.Usage why = absurd why
 second_ends w c topology g f IsFault is has in_file nothing status.ReadFault why = (nothing, inl (second w c topology g f _ is has why))
 second_ends w c topology g f IsFault is has in_file nothing status.WriteFault why = absurd why
-second_ends w c topology g f IsFault is has in_file nothing (status.BadNetwork file line (Topo fault)) why = (nothing, second w c topology g f _ is has (why.0, told w.files why.1))
+second_ends w c topology g f IsFault is has in_file nothing (status.BadNetwork file line fault) why = (nothing, second w c topology g f _ is has (why.0, told w.files why.1))
   where
     told : (files : Option Files) → IfFile files (name_of f) (λ bytes. IsFault bytes line fault) → IfFile files (name_of f) (λ bytes. IsFaultIn w.files f bytes line fault)
     told None h = tt
@@ -66,17 +67,17 @@ second_ends w c topology g f IsFault is has in_file nothing (status.TooLarge fil
 
 -- the topology was read, and the certificate of a path was not
 pub certificate_ends : (w : World) (topology certificate : List ℕ) (g : Rows) → HasTopology w.files topology g → WroteNothing w → (s : Status) →
-    IsFileStatus w.files certificate certificate_max (λ bytes line fault. certificate_in g bytes ≡ Err (At line fault)) w.store_faults w.failed_at s →
+    IsFileStatus w.files certificate certificate_max (λ bytes line. IsTopo (λ told. certificate_in g bytes ≡ Err (At line told))) w.store_faults w.failed_at s →
     Ends w (Verify topology certificate) s
 certificate_ends w topology certificate g has =
-    second_ends w (Verify topology certificate) topology g (CertificateFile certificate topology) _ refl has (λ bytes line fault is. (g, has, is))
+    second_ends w (Verify topology certificate) topology g (CertificateFile certificate topology) _ refl has (λ bytes line fault is. (is.0, is.1, (g, has, is.2)))
 
 -- the topology was read, and the certificate of a pair was not
 pub pair_certificate_ends : (w : World) (topology certificate : List ℕ) (g : Rows) → HasTopology w.files topology g → WroteNothing w → (s : Status) →
-    IsFileStatus w.files certificate certificate_max (λ bytes line fault. pair_in g bytes ≡ Err (At line fault)) w.store_faults w.failed_at s →
+    IsFileStatus w.files certificate certificate_max (λ bytes line. IsTopo (λ told. pair_in g bytes ≡ Err (At line told))) w.store_faults w.failed_at s →
     Ends w (PairVerify topology certificate) s
 pair_certificate_ends w topology certificate g has =
-    second_ends w (PairVerify topology certificate) topology g (PairFile certificate topology) _ refl has (λ bytes line fault is. (g, has, is))
+    second_ends w (PairVerify topology certificate) topology g (PairFile certificate topology) _ refl has (λ bytes line fault is. (is.0, is.1, (g, has, is.2)))
 
 -- the input gave no request
 pub input_ends : (w : World) (c : Command) (g : Rows) → FilesRead w c → HasTopology w.files (topology_of c) g → WroteNothing w → (s : Status) →

@@ -1,5 +1,4 @@
 pub mod Ending
-pub mod LineCount
 pub mod Words
 pub mod Beyond
 pub mod Unread

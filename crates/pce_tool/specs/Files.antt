@@ -1,23 +1,18 @@
 -- The files that a command reads, in their order.
 use Rattle.std.specs.Prelude.{◌≡◌, ◌⊎◌, ◌≤◌, ℕ, List, [], ◌∷◌, length, Option, Ok, Err}
-use Rattle.dom_edge.specs.Stores.{Files}
+use Rattle.dom_edge.specs.Stores.{Files, HasFile}
 use Rattle.te_links.specs.Rows.{Rows}
 use Rattle.te_links.specs.declared.fault.TopoFault.{TopoFault}
-use Rattle.te_text.specs.Reads.{Reads, IsFaulty}
+use Rattle.te_text.specs.Reads.{IsFaulty}
+use Rattle.topology_files.specs.Loading.{HasTopology, topology_max}
 use Rattle.path_certificate.specs.declared.cert_error.CertError.TheVariants.{At}
 use Rattle.path_certificate.specs.declared.certificate.Certificate.{Certificate}
 use Rattle.path_certificate.specs.Text.{certificate_in}
 use Rattle.diverse_pairs.specs.declared.certificate.PairCertificate.{PairCertificate}
 use Rattle.diverse_pairs.specs.Text.{pair_in}
-use Rattle.pce_tool.specs.Limits.{topology_max, certificate_max}
-use Rattle.pce_tool.specs.Worlds.{HasFile}
-
--- the topology in the file of that name
-pub record HasTopology (files : Option Files) (name : List ℕ) (g : Rows) : Type 0 where
-  pub bytes : List ℕ
-  pub is_file : HasFile files name bytes
-  pub within : length bytes ≤ topology_max
-  pub is_text : Reads bytes g
+use Rattle.plant_text.specs.declared.fault.NetFault.{NetFault}
+use Rattle.plant_text.specs.declared.fault.NetFault.TheVariants.{Topo}
+use Rattle.pce_tool.specs.Limits.{certificate_max}
 
 -- the certificate in the file of that name, for a topology
 pub record HasCertificate (files : Option Files) (name : List ℕ) (g : Rows) (c : Certificate) : Type 0 where
@@ -55,13 +50,17 @@ IsRead files (TopologyFile name) = (g : Rows) × HasTopology files name g
 IsRead files (CertificateFile name topology) = (g : Rows) × HasTopology files topology g × ((c : Certificate) × HasCertificate files name g c)
 IsRead files (PairFile name topology) = (g : Rows) × HasTopology files topology g × ((c : PairCertificate) × HasPairCertificate files name g c)
 
+-- a fault of a topology or of a certificate, and such
+abbrev pub IsTopo : (TopoFault → Type 0) → NetFault → Type 0
+IsTopo P fault = (told : TopoFault) × (fault ≡ Topo told) × P told
+
 -- the bytes of the file are at fault at a line, the first that is
-abbrev pub IsFaultIn : Option Files → File → List ℕ → ℕ → TopoFault → Type 0
-IsFaultIn files (TopologyFile name) bytes line fault = IsFaulty bytes line fault
-IsFaultIn files (CertificateFile name topology) bytes line fault =
-    (g : Rows) × HasTopology files topology g × (certificate_in g bytes ≡ Err (At line fault))
-IsFaultIn files (PairFile name topology) bytes line fault =
-    (g : Rows) × HasTopology files topology g × (pair_in g bytes ≡ Err (At line fault))
+abbrev pub IsFaultIn : Option Files → File → List ℕ → ℕ → NetFault → Type 0
+IsFaultIn files (TopologyFile name) bytes line = IsTopo (λ told. IsFaulty bytes line told)
+IsFaultIn files (CertificateFile name topology) bytes line =
+    IsTopo (λ told. (g : Rows) × HasTopology files topology g × (certificate_in g bytes ≡ Err (At line told)))
+IsFaultIn files (PairFile name topology) bytes line =
+    IsTopo (λ told. (g : Rows) × HasTopology files topology g × (pair_in g bytes ≡ Err (At line told)))
 
 -- it holds of a file in the list, and those before it are read
 abbrev pub HoldsAtFile : Option Files → List File → (File → Type 0) → Type 0

@@ -3,6 +3,8 @@ use Rattle.std.specs.Prelude.{◌≡◌, ◌⊎◌, ◌≤◌, ℕ, List, [], �
 use Rattle.std.specs.Str.{bytes_eq}
 use Rattle.std.specs.Io.KnownBytes.{Appends}
 use Rattle.te_links.specs.Rows.{Rows}
+use Rattle.dom_edge.specs.Stores.{IfFile, IsLongFile}
+use Rattle.topology_files.specs.Loading.{HasTopology}
 use Rattle.path_certificate.specs.declared.certificate.Certificate.{Certificate}
 use Rattle.path_certificate.specs.declared.verdict.Place.{Place}
 use Rattle.path_certificate.specs.Claims.{HoldsAt, IsFirstFalse}
@@ -10,10 +12,9 @@ use Rattle.one_domain.specs.declared.replying.PathRequest.{PathRequest}
 use Rattle.pce_tool.specs.declared.reading.Why.{Why}
 use Rattle.pce_tool.specs.declared.status.Status.{Status}
 use Rattle.pce_tool.specs.declared.status.Status.TheVariants as status
-use Rattle.pce_tool.specs.declared.status.NetFault.TheVariants.{Topo}
 use Rattle.pce_tool.specs.Limits.{input_max}
-use Rattle.pce_tool.specs.Worlds.{World, HasInput, HasRisen, IfFile, IsLongFile, IsLongInput, WroteNothing, input_name}
-use Rattle.pce_tool.specs.Files.{File, TopologyFile, CertificateFile, PairFile, HasTopology, HasCertificate, HasPairCertificate, HoldsAtFile, AreRead, IsFaultIn, name_of, limit_of}
+use Rattle.pce_tool.specs.Worlds.{World, HasInput, HasRisen, IsLongInput, WroteNothing, input_name}
+use Rattle.pce_tool.specs.Files.{File, TopologyFile, CertificateFile, PairFile, HasCertificate, HasPairCertificate, HoldsAtFile, AreRead, IsFaultIn, name_of, limit_of}
 use Rattle.dom_edge.specs.Whole.{AppendsSome}
 use Rattle.pce_tool.specs.Requests.{IsPathRequest, IsWhy, IsPairRequest, IsPairWhy}
 use Rattle.pce_tool.specs.Commands.Answer.{IsReplyText}
@@ -131,7 +132,7 @@ Ends w c status.Usage = ⊥
 Ends w c status.ReadFault =
     WroteNothing w × (AtFile w c (λ f. HasRisen w.store_faults × (w.failed_at ≡ name_of f)) ⊎ (FilesRead w c × HasRisen w.input_faults))
 Ends w c status.WriteFault = IsWriteFault w c
-Ends w c (status.BadNetwork file line (Topo fault)) =
+Ends w c (status.BadNetwork file line fault) =
     WroteNothing w × AtFile w c (λ f. (file ≡ name_of f) × IfFile w.files (name_of f) (λ bytes. IsFaultIn w.files f bytes line fault))
 Ends w c status.NoMemory = WroteNothing w
 Ends w c (status.BadRequest why) = WroteNothing w × IsBadRequest w c why

@@ -1,5 +1,5 @@
 -- What a run meets outside: files, input and output.
-use Rattle.std.specs.Prelude.{◌≡◌, ◌<◌, ℕ, List, codes, length, Option, Some, IfSome}
+use Rattle.std.specs.Prelude.{◌≡◌, ◌<◌, ℕ, List, codes, length, Option, IfSome}
 use Rattle.std.specs.Io.KnownBytes.{Keeps}
 use Rattle.dom_edge.specs.Causes.{Rose}
 use Rattle.dom_edge.specs.Stores.{Files}
@@ -30,14 +30,6 @@ world files input written store_faults input_faults output_faults failed_at = re
   failed_at = failed_at;
 }
 
--- the file of that name has these bytes, where that is told
-abbrev pub HasFile : Option Files → List ℕ → List ℕ → Type 0
-HasFile files name bytes = IfSome files (λ fs. fs name ≡ Some bytes)
-
--- the file of that name is told, and its bytes are such
-abbrev pub IfFile : Option Files → List ℕ → (List ℕ → Type 0) → Type 0
-IfFile files name P = IfSome files (λ fs. (bytes : List ℕ) × (fs name ≡ Some bytes) × P bytes)
-
 -- the input is these bytes, where that is told
 abbrev pub HasInput : Option (List ℕ) → List ℕ → Type 0
 HasInput input bytes = IfSome input (λ left. bytes ≡ left)
@@ -49,10 +41,7 @@ HasRisen counts = Rose counts.0 counts.1
 abbrev pub WroteNothing : World → Type 0
 WroteNothing w = Keeps w.before w.after
 
--- more bytes stand in the file of that name, or in the input
-abbrev pub IsLongFile : Option Files → List ℕ → ℕ → Type 0
-IsLongFile files name limit = IfFile files name (λ bytes. limit < length bytes)
-
+-- more bytes stand in the input
 abbrev pub IsLongInput : Option (List ℕ) → Type 0
 IsLongInput input = IfSome input (λ left. input_max < length left)
 

@@ -5,22 +5,24 @@ ghost use Rattle.te_text.specs.Reads.{IsFaulty};
 ghost use Rattle.te_links.specs.declared.fault.TopoFault.{TopoFault};
 ghost use Rattle.path_certificate.specs.Rows.{AreRows};
 ghost use Rattle.path_certificate.specs.Text.{certificate_in};
-ghost use Rattle.pce_tool.specs.Limits.{topology_max, certificate_max};
-ghost use Rattle.pce_tool.specs.Worlds.{HasFile};
+ghost use Rattle.pce_tool.specs.Limits.{certificate_max};
+ghost use Rattle.dom_edge.specs.Stores.{HasFile};
+ghost use Rattle.topology_files.specs.Loading.{HasTopology, topology_max};
 ghost use Rattle.diverse_pairs.specs.Potentials.{HasRising};
 ghost use Rattle.diverse_pairs.specs.Text.{pair_in};
-ghost use Rattle.pce_tool.specs.Files.{HasTopology, HasCertificate, HasPairCertificate};
-ghost use Rattle.pce_tool.specs.Parts.{IsFileStatus, IsBadAt, IsNoFault};
+ghost use Rattle.pce_tool.specs.Files.{HasCertificate, HasPairCertificate, IsTopo};
+ghost use Rattle.pce_tool.specs.Parts.{IsFileStatus, IsBadAt, IsNoFault, IsTooLarge};
 
-use crate::limits::{CERTIFICATE_MAX, TOPOLOGY_MAX};
-use crate::status::{NetFault, Status};
+use crate::limits::CERTIFICATE_MAX;
+use crate::status::Status;
 use diverse_pairs::{PairCertificate, read_pair};
 use dom_base::{Bytes, Text};
 use dom_edge::{Store, StoreError};
 use path_certificate::{CertError, Certificate, read_certificate};
+use plant_text::NetFault;
 use std::alloc::Global;
 use te_links::{TopoFault, Topology};
-use te_text::{TextError, read_topology};
+use topology_files::LoadError;
 
 // The status of a run that ends at a line of a file.
 fn bad_network(alloc: Global, name: &str, line: u32, fault: TopoFault) -> Status
@@ -32,6 +34,16 @@ fn bad_network(alloc: Global, name: &str, line: u32, fault: TopoFault) -> Status
             line,
             fault: NetFault::Topo(fault),
         },
+        Err(_) => Status::NoMemory,
+    }
+}
+
+// The status of a run that ends at a file above its limit.
+fn too_large(alloc: Global, name: &str) -> Status
+    ensures { IsTooLarge name.now result }
+{
+    match Text::copy_of(alloc, name) {
+        Ok(file) => Status::TooLarge(file),
         Err(_) => Status::NoMemory,
     }
 }
@@ -51,10 +63,7 @@ fn read_file<S: Store>(
 {
     match store.read(alloc, name, limit) {
         Ok(bytes) => Ok(bytes),
-        Err(StoreError::TooLong) => match Text::copy_of(alloc, name) {
-            Ok(name) => Err(Status::TooLarge(name)),
-            Err(_) => Err(Status::NoMemory),
-        },
+        Err(StoreError::TooLong) => Err(too_large(alloc, name)),
         Err(StoreError::Failed) => Err(Status::ReadFault),
         Err(StoreError::NoMemory) => Err(Status::NoMemory),
     }
@@ -63,15 +72,16 @@ fn read_file<S: Store>(
 /// The topology in a file.
 pub fn load_topology<S: Store>(alloc: Global, store: &mut S, name: &str) -> Result<Topology, Status>
     ensures ok { IfOk result (HasTopology (S.files store.old) name.now) }
-    ensures err { IfErr result (IsFileStatus (S.files store.old) name.now topology_max IsFaulty (S.faults store.old, S.faults store.new) (S.failed_at store.new)) }
+    ensures err { IfErr result (IsFileStatus (S.files store.old) name.now topology_max (λ bytes line. IsTopo (λ told. IsFaulty bytes line told)) (S.faults store.old, S.faults store.new) (S.failed_at store.new)) }
     ensures files { S.files store.new ≡ S.files store.old }
     ensures later { S.faults store.old ≤ S.faults store.new }
 {
-    let bytes = read_file(alloc, store, name, TOPOLOGY_MAX)?;
-    match read_topology(alloc, bytes.as_slice()) {
+    match topology_files::load_topology(alloc, store, name) {
         Ok(topology) => Ok(topology),
-        Err(TextError::At(line, fault)) => Err(bad_network(alloc, name, line, fault)),
-        Err(TextError::NoMemory) => Err(Status::NoMemory),
+        Err(LoadError::Failed) => Err(Status::ReadFault),
+        Err(LoadError::TooLong) => Err(too_large(alloc, name)),
+        Err(LoadError::At(line, fault)) => Err(bad_network(alloc, name, line, fault)),
+        Err(LoadError::NoMemory) => Err(Status::NoMemory),
     }
 }
 
@@ -84,7 +94,7 @@ pub fn load_certificate<S: Store>(
 ) -> Result<Certificate, Status>
     ensures ok { IfOk result (HasCertificate (S.files store.old) name.now topology.now) }
     ensures rows { IfOk result (λ c. AreRows topology.now.nodes c.labels) }
-    ensures err { IfErr result (IsFileStatus (S.files store.old) name.now certificate_max (λ bytes line fault. certificate_in topology.now bytes ≡ Err (At line fault)) (S.faults store.old, S.faults store.new) (S.failed_at store.new)) }
+    ensures err { IfErr result (IsFileStatus (S.files store.old) name.now certificate_max (λ bytes line. IsTopo (λ told. certificate_in topology.now bytes ≡ Err (At line told))) (S.faults store.old, S.faults store.new) (S.failed_at store.new)) }
     ensures files { S.files store.new ≡ S.files store.old }
     ensures later { S.faults store.old ≤ S.faults store.new }
 {
@@ -105,7 +115,7 @@ pub fn load_pair_certificate<S: Store>(
 ) -> Result<PairCertificate, Status>
     ensures ok { IfOk result (HasPairCertificate (S.files store.old) name.now topology.now) }
     ensures rising { IfOk result (λ c. HasRising c.form) }
-    ensures err { IfErr result (IsFileStatus (S.files store.old) name.now certificate_max (λ bytes line fault. pair_in topology.now bytes ≡ Err (At line fault)) (S.faults store.old, S.faults store.new) (S.failed_at store.new)) }
+    ensures err { IfErr result (IsFileStatus (S.files store.old) name.now certificate_max (λ bytes line. IsTopo (λ told. pair_in topology.now bytes ≡ Err (At line told))) (S.faults store.old, S.faults store.new) (S.failed_at store.new)) }
     ensures files { S.files store.new ≡ S.files store.old }
     ensures later { S.faults store.old ≤ S.faults store.new }
 {

@@ -1,8 +1,5 @@
 //! How many bytes a run reads at most.
 
-/// How many bytes a topology file may have.
-pub const TOPOLOGY_MAX: usize = 4_194_304;
-
 /// How many bytes a certificate file may have.
 pub const CERTIFICATE_MAX: usize = 1_048_576;
 

@@ -5,8 +5,8 @@ ghost use Rattle.pce_tool.specs.Statuses.{number_of};
 use crate::reading::Why;
 use dom_base::Text;
 use path_certificate::Place;
+use plant_text::NetFault;
 use std::fmt;
-use te_links::TopoFault;
 
 /// How a run ended. Each status has a number, which is the program's exit status, and a text.
 #[derive(Drop)]
@@ -32,21 +32,6 @@ pub enum Status {
     Refuted(Place),
     /// A file, by its name, or the `input` has more bytes than its limit.
     TooLarge(Text),
-}
-
-/// What is wrong in a file.
-#[derive(Clone, Copy, Debug, PartialEq, Eq)]
-pub enum NetFault {
-    /// A fault of a topology or of a certificate.
-    Topo(TopoFault),
-}
-
-impl fmt::Display for NetFault {
-    fn fmt<W: fmt::Write>(&self, f: &mut fmt::Formatter<W>) -> fmt::Result {
-        match self {
-            NetFault::Topo(fault) => write!(f, "{fault}"),
-        }
-    }
 }
 
 impl Status {
