@@ -47,6 +47,8 @@ use Rattle.plant_laws.proofs.Moments.{within_here}
 use Rattle.plant_laws.proofs.Given.{Given, IsSolved}
 use Rattle.plant_laws.proofs.FromElement.{own_sequence, real_next}
 use Rattle.plant_laws.proofs.LeastChains.{taken_asked, taken_admits, told_beyond, solve_chained}
+use Rattle.plant_laws.proofs.Inboxes.{contains}
+use Rattle.plant_laws.proofs.InForm.{all_append}
 use Rattle.plant_laws.proofs.BestFits.{hop_short}
 
 -- ---- sizes
@@ -98,10 +100,6 @@ pub record HopsFit (most : ℕ) (hs : List Hop) : Type 0 where
 
 abbrev pub BranchesFit : ℕ → List Branch → Type 0
 BranchesFit most bs = AllByRecursion (λ (b : Branch). HopsFit most b.hops) bs
-
-pub all_append : {X : Type 0} (Q : X → Type 0) (xs ys : List X) → AllByRecursion Q xs → AllByRecursion Q ys → AllByRecursion Q (xs ++ ys)
-all_append Q [] ys h k = k
-all_append Q (x ∷ xs) ys h k = (h.0, all_append Q xs ys h.1 k)
 
 with_fits : (most cost : ℕ) (hs : List Hop) (entry : Addr) → HopsFit most hs → BranchesFit most (branch_with cost hs entry)
 with_fits most cost hs entry fit = go (nat_le cost COST_MAX)
@@ -162,11 +160,6 @@ pub both_fit : (most : ℕ) (ps : List Path) → AllByRecursion (λ (p : Path). 
 both_fit most [] written short = tt
 both_fit most (p ∷ ps) written short = (record { written = written.0; short = short p (inl refl) }, both_fit most ps written.1 (λ q i. short q (inr i)))
 
-pub in_contains : {A : Type 0} (x : A) (xs : List A) → In x xs → Contains xs x
-in_contains x [] none = absurd none
-in_contains x (y ∷ ys) (inl same) = (0, omega arith, same)
-in_contains x (y ∷ ys) (inr more) = let r = in_contains x ys more in (suc r.0, omega (arith, r.1), r.2)
-
 pub sent_within : (m now : Transcript) → Within m now → AllSent IsWritten now → AllSent IsWritten m
 sent_within m [] w h = subst (λ (l : Transcript). AllSent IsWritten l) (sym w) tt
 sent_within m (e ∷ now) (inl is) h = subst (λ (l : Transcript). AllSent IsWritten l) (sym is) h
@@ -212,7 +205,7 @@ module _ (c : Codec) (codec : IsCodec c) (n : NetworkParts) (now : Transcript) (
             let legs = legs_long chain (b ∷ rest) beyond.along in
             let texts = told_written answered.reply answered.paths (taken_written d b answered.reply answered.outputs answered.before answered.within) answered.tells in
             let all = both_fit 900 answered.paths texts (λ p i.
-            let told = beyond.told.each p (in_contains p answered.paths i) in
+            let told = beyond.told.each p (contains p answered.paths i) in
             let short = shows_short n w.query w.target chain told.0 p.hops told.2.legs told.2.last told.2.shown in
             omega (arith, short, legs, few)) in
             subst (BranchesFit 900) (sym answered.is) (branches_fit 900 c w.query.metric answered.paths all)

@@ -60,10 +60,11 @@ use Rattle.plant_laws.proofs.LeastChains.{leg, neighbour_stays, solve_chained}
 use Rattle.plant_laws.proofs.Asks.{closed_class}
 use Rattle.plant_laws.proofs.OpenedRuns.{lookup_in}
 use Rattle.plant_laws.proofs.GatheredRuns.{has_gathered}
-use Rattle.plant_laws.proofs.OfRun.{in_contains, given_of}
-use Rattle.plant_laws.proofs.InForm.{no_path_written, paths_written}
+use Rattle.plant_laws.proofs.Inboxes.{contains}
+use Rattle.plant_laws.proofs.OfRun.{given_of}
+use Rattle.plant_laws.proofs.InForm.{all_append, no_path_written, paths_written}
 use Rattle.plant_laws.proofs.BestFits.{hop_short}
-use Rattle.plant_laws.proofs.DownsFit.{HopsFit, BranchesFit, text_cons, text_append, shows_short, branches_fit, told_written, both_fit, drop_front, all_append, taken_written}
+use Rattle.plant_laws.proofs.DownsFit.{HopsFit, BranchesFit, text_cons, text_append, shows_short, branches_fit, told_written, both_fit, drop_front, taken_written}
 use Rattle.plant_laws.proofs.SolvesWritten.{metric_fits}
 use Rattle.plant_laws.proofs.ElementSays.{Ok, under}
 use Rattle.plant_laws.proofs.ParentSays.{IsDown, IsMetBelow, asking_flags, asking_wanted}
@@ -278,7 +279,7 @@ module _ (c : Codec) (codec : IsCodec c) (n : NetworkParts) (now : Transcript) (
         let same = same_request y.taken.request (record { flags = vspt_flag; id = alone.0; wish = wishes.Path alone.1 }) alone.3 in
         let wanted : y.held.item.wanted ≡ alone.1 = same_wanted y.held.item.wanted alone.1 (sym y.taken.wanted ∙ ap (λ (q : Request). q.wish) same) in
         let along : numbers (one ∷ ch.chain) ≡ b ∷ [] = ch.along ∙ ap (λ (v : Wanted). sequence_or b v.sequence) wanted ∙ ap (sequence_or b) alone.2 in
-        let told = right.2.each p (in_contains p paths inside) in
+        let told = right.2.each p (contains p paths inside) in
         let short = shows_short n y.held.item.wanted.query y.held.item.wanted.target (one ∷ ch.chain) told.0 p.hops told.2.legs told.2.last told.2.shown in
         omega (arith, short, one_long (one ∷ ch.chain) b along)
 
@@ -328,10 +329,10 @@ module _ (c : Codec) (codec : IsCodec c) (n : NetworkParts) (net : IsNetwork n) 
 
       rows_fit : AllByRecursion (λ (r : ChildRow). HopsFit 60 r.hops) x.held.item.rows
       rows_fit =
-          let there : Contains s.parent.pending.rows (k, x.held) = in_contains (k, x.held) s.parent.pending.rows (lookup_in k s.parent.pending.rows x.held x.is_held) in
+          let there : Contains s.parent.pending.rows (k, x.held) = contains (k, x.held) s.parent.pending.rows (lookup_in k s.parent.pending.rows x.held x.is_held) in
           let g = has_gathered c codec n es s run written (k, x.held) there x.ready in
           let asking = opened_within c parent_as x.held.key.peer x.held.key.id (deeds_of c n es) g.at g.is_open in
-          all_rows x.held.item.rows (λ r i. gathered_fits c codec n (deeds_of c n es) (given_of c codec n net es s run written short) written down g.at x.held.item.wanted r asking (g.each r (in_contains r x.held.item.rows i)))
+          all_rows x.held.item.rows (λ r i. gathered_fits c codec n (deeds_of c n es) (given_of c codec n net es s run written short) written down g.at x.held.item.wanted r asking (g.each r (contains r x.held.item.rows i)))
         where
           all_rows : (rs : List ChildRow) → ((r : ChildRow) → In r rs → HopsFit 60 r.hops) → AllByRecursion (λ (r : ChildRow). HopsFit 60 r.hops) rs
           all_rows [] each = tt

@@ -44,9 +44,9 @@ use Rattle.plant_model.specs.Plant.{Pin, Segment, Plant, Happened, Entry as RunE
 use Rattle.plant_laws.specs.Topologies.{IsDomain}
 use Rattle.plant_laws.specs.About.{IsShort}
 use Rattle.plant_laws.specs.Sending.{AreAll, AllSent}
-use Rattle.plant_laws.proofs.InForm.{busy_written, no_path_written, MetricFits, PathFits, room, paths_written}
+use Rattle.plant_laws.proofs.InForm.{all_append, busy_written, no_path_written, MetricFits, PathFits, room, paths_written}
 use Rattle.plant_laws.proofs.BestFits.{BestFits, open_written, open_short, hop_short, rows_fit}
-use Rattle.plant_laws.proofs.DownsFit.{HopsFit, BranchesFit, text_cons, text_append, closed_short, ended_short, all_append, downs_fit}
+use Rattle.plant_laws.proofs.DownsFit.{HopsFit, BranchesFit, text_cons, text_append, closed_short, ended_short, downs_fit}
 use Rattle.plant_laws.proofs.ElementSays.{Ok, under}
 use Rattle.plant_laws.proofs.AllWritten.{AllFit}
 use Rattle.plant_laws.proofs.EntriesRise.{nodes_rise}

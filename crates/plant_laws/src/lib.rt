@@ -4,23 +4,23 @@
 #![tactic(auto)]
 
 ghost use Rattle.plant_laws.specs.Answered.{RequestsAreAnsweredOnce, RequestsAreAnsweredOnceIn};
-ghost use Rattle.plant_laws.specs.Certified.{SolvesCertify};
-ghost use Rattle.plant_laws.specs.Chains.{OneChain, QuietIsAnswered, QuietIsAnsweredIn};
+ghost use Rattle.plant_laws.specs.Certified.{SolvesCertify, SolvesCertifyIn};
+ghost use Rattle.plant_laws.specs.Chains.{OneChain, OneChainIn, QuietIsAnswered, QuietIsAnsweredIn};
 ghost use Rattle.plant_laws.specs.Counted.{ElementIdsDiffer, IdsCount};
 ghost use Rattle.plant_laws.specs.Headline.{LeastAnswers, LeastAnswersIn, NoneAnswers, NoneAnswersIn};
 ghost use Rattle.plant_laws.specs.Issuing.{ExpandedAreIssued, KeysAreIssued, ToldKeysLast};
-ghost use Rattle.plant_laws.specs.Keys.{ExpandsRightly, KeysDiffer};
+ghost use Rattle.plant_laws.specs.Keys.{ExpandsRightly, ExpandsRightlyIn, KeysDiffer};
 ghost use Rattle.plant_laws.specs.Matched.{RepliesAnswer, RepliesMatch};
 ghost use Rattle.plant_laws.specs.Reading.{OutsideIsRead};
 ghost use Rattle.plant_laws.specs.Readings.{MessagesAreRead};
-ghost use Rattle.plant_laws.specs.Replies.{LeastReplies, NoneReplies, SolvesSendOne};
+ghost use Rattle.plant_laws.specs.Replies.{LeastReplies, LeastRepliesIn, NoneReplies, NoneRepliesIn, SolvesSendOne};
 ghost use Rattle.plant_laws.specs.Runs.{AllIsWritten, InShortRuns, OverPcep};
 ghost use Rattle.plant_laws.specs.Solves.{SolvesTell};
 ghost use Rattle.plant_laws.specs.Standing.{PinsAreCurrent, QueuesStand};
 ghost use Rattle.plant_laws.specs.Tables.{OpenIsPending};
 ghost use Rattle.plant_laws.specs.Topologies.{PinsAreDomains};
 ghost use Rattle.plant_laws.specs.Twins.{TwinWorlds};
-ghost use Rattle.plant_laws.specs.UnderWay.{WaitsAreUnderWay};
+ghost use Rattle.plant_laws.specs.UnderWay.{WaitsAreUnderWay, WaitsAreUnderWayIn};
 ghost use Rattle.plant_laws.specs.Waiting.{WaitsApart, WaitsAreSent};
 ghost use Rattle.plant_laws.specs.Worlds.{BorderJoins, SaysAsBlind, SaysOneThing, TwoWorlds};
 
@@ -32,14 +32,6 @@ ghost use Rattle.plant_laws.specs.Worlds.{BorderJoins, SaysAsBlind, SaysOneThing
 pub fn answers_are_least()
     ensures paths { LeastAnswers }
     ensures none { NoneAnswers }
-{}
-
-/// The same over the wire of PCEP, with no premise but the rules of settings and the number of ids.
-pub fn answers_over_pcep()
-    ensures paths { OverPcep LeastAnswersIn }
-    ensures none { OverPcep NoneAnswersIn }
-    ensures quiet { OverPcep QuietIsAnsweredIn }
-    ensures once { OverPcep RequestsAreAnsweredOnceIn }
 {}
 
 /// What an element replies to its neighbours and the parent is, for each entry, of least cost among all
@@ -219,4 +211,22 @@ pub fn ids_count()
 pub fn replies_match()
     ensures standing { RepliesMatch }
     ensures taken { RepliesAnswer }
+{}
+
+// ---- over PCEP
+
+/// Over the wire of PCEP, with no premise but the rules of settings and the number of ids: what clients and
+/// closed peers are answered, certificates, quiet, what is under way, one answer and one chain for each
+/// request, and what a key shows to whom.
+pub fn laws_over_pcep()
+    ensures paths { OverPcep LeastAnswersIn }
+    ensures none { OverPcep NoneAnswersIn }
+    ensures told { OverPcep LeastRepliesIn }
+    ensures told_none { OverPcep NoneRepliesIn }
+    ensures certified { OverPcep SolvesCertifyIn }
+    ensures quiet { OverPcep QuietIsAnsweredIn }
+    ensures under_way { OverPcep WaitsAreUnderWayIn }
+    ensures once { OverPcep RequestsAreAnsweredOnceIn }
+    ensures chain { OverPcep OneChainIn }
+    ensures keys { OverPcep ExpandsRightlyIn }
 {}
