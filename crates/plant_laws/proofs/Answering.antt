@@ -29,7 +29,7 @@ use Rattle.plant_model.specs.Plant.{Pin, Segment, Plant, Happened, Entry, Run, d
 use Rattle.plant_laws.specs.Transcript.{Transcript, Within, opened, after, effect, Effect, Keeps, Ends, Begins, ends_if, asks_effect, begins_if, begins, take_effect, cancels, count_answers, answers_to}
 use Rattle.plant_laws.proofs.Acts.{Acts, rests, hears, carries, nods, hands, rises, falls, says, clears, expires}
 use Rattle.plant_laws.specs.Chains.{is_pending}
-use Rattle.plant_laws.specs.Answered.{besides_asking, answers_in, DropsFor, cancelled, went_down, IsEnd, pending, answered, dropped, IsAnsweredOnce, RequestsAreAnsweredOnce}
+use Rattle.plant_laws.specs.Answered.{besides_asking, answers_in, DropsFor, cancelled, went_down, IsEnd, pending, answered, dropped, IsAnsweredOnce, RequestsAreAnsweredOnceIn}
 use Rattle.plant_laws.proofs.Induction.{run_holds}
 use Rattle.plant_laws.proofs.Queues.{same_as_is}
 use Rattle.plant_laws.proofs.Handing.{Within-length}
@@ -38,6 +38,7 @@ use Rattle.plant_laws.proofs.OpenTables.{open_is_pending}
 use Rattle.plant_laws.proofs.Counting.{IsFair}
 use Rattle.plant_laws.proofs.Counting as counting
 use Rattle.plant_laws.proofs.CountingUpper as upper
+use Rattle.plant_laws.proofs.WhereWritten.{WrittenNet}
 
 -- ---- what is said in each deed
 
@@ -428,6 +429,6 @@ module _ (c : Codec) (d : As) (p : Peer) (x : ℕ) where
     silent = λ e older w' open' keeps. (behaves e (Each-within IsFairDeed now fair e older w')).silent keeps;
   }
 
-pub requests_are_answered_once : RequestsAreAnsweredOnce
+pub requests_are_answered_once : WrittenNet RequestsAreAnsweredOnceIn
 requests_are_answered_once c codec n network es s run written d p x at w is =
     answered_once c d p x (deeds_of c n es) s (run_kept c n es s run).1 (λ at' open'. (open_is_pending c codec n es s run written).pending d p x at' open') at w is

@@ -8,12 +8,13 @@ use Rattle.plant_text.specs.Names.{same_as, parent_as}
 use Rattle.plant_model.specs.State.{Deed, Loads, Pops, Takes, Says, Ups, Downs, Clears, Solves, Expires, Hands}
 use Rattle.plant_model.specs.Plant.{Segment, deeds_of}
 use Rattle.plant_laws.specs.Transcript.{Transcript, Within, outputs_at, put_into}
-use Rattle.plant_laws.specs.Chains.{OneChain}
+use Rattle.plant_laws.specs.Chains.{OneChainIn}
 use Rattle.plant_laws.proofs.Queues.{same_as_is}
 use Rattle.plant_laws.proofs.Handing.{IsTerse, AreTerse, same_moments}
 use Rattle.plant_laws.proofs.Sends.{IsAlone, IsTerseOut, IsSparing, Each, put_terse, run_spares}
 use Rattle.plant_laws.proofs.Again.{all_read}
 use Rattle.plant_laws.proofs.Alone.{takes_alone}
+use Rattle.plant_laws.proofs.WhereWritten.{WrittenNet}
 
 none_terse : (b : As) → IsTerse (put_into b [])
 none_terse b = inr (omega arith)
@@ -45,6 +46,6 @@ all_terse a b real [] spare alone = tt
 all_terse a b real (e ∷ older) spare alone =
     (deed_terse a b real e older spare.0 alone, all_terse a b real older spare.1 (λ d p m os m' w. alone d p m os m' (inr w)))
 
-pub one_chain : OneChain
+pub one_chain : WrittenNet OneChainIn
 one_chain c codec n network es s run written one other rest rest' at real h h' same =
     same_moments (deeds_of c n es) (λ a b real. all_terse a b real (deeds_of c n es) (run_spares c n es s run) (takes_alone c codec n es s run (all_read c codec (deeds_of c n es) written))) one other rest rest' at real h h' same

@@ -14,12 +14,13 @@ use Rattle.plant_model.specs.Wire.{Codec}
 use Rattle.plant_model.specs.Writing.{asked_of, request_message, needed, vspt_flag}
 use Rattle.plant_model.specs.Plant.{Pin, PlantDeed, deeds_of}
 use Rattle.plant_laws.specs.Transcript.{Transcript, Within, SentIn, asks, outputs_at, count_asks, put_into}
-use Rattle.plant_laws.specs.Counted.{IdsCount, ElementIdsDiffer}
+use Rattle.plant_laws.specs.Counted.{IdsCountIn, ElementIdsDifferIn}
 use Rattle.plant_laws.proofs.Queues.{same_as_is}
 use Rattle.plant_laws.proofs.Rows.{In, in_of}
 use Rattle.plant_laws.proofs.ReadBack.{run_single}
 use Rattle.plant_laws.proofs.Numbers.{way_last, fresh_is_next}
 use Rattle.plant_laws.proofs.NumberRuns.{AreNumbered, IsNumbered, peer_self, run_last}
+use Rattle.plant_laws.proofs.WhereWritten.{WrittenIds}
 
 head_of : Object → List Object → Object
 head_of x [] = x
@@ -105,11 +106,11 @@ ids_differ c a b now all (e ∷ o) (e' ∷ o') within within' x w w' t t' rest r
     first_message [] = request_message x w t rest
     first_message (o ∷ os) = o.message
 
-pub element_ids_differ : ElementIdsDiffer
+pub element_ids_differ : WrittenIds ElementIdsDifferIn
 element_ids_differ c codec n es s run written short m m' within within' a b real x w w' t t' rest rest' sent sent' =
     ids_differ c a b (deeds_of c n es) (run_last c codec n es s run (run_single c n codec es s run written) short a (low_of a real)).1 m m' within within' x w w' t t' rest rest' sent sent'
 
-pub ids_count : IdsCount
+pub ids_count : WrittenIds IdsCountIn
 ids_count c codec n es s run written short a b real =
     let r = (run_last c codec n es s run (run_single c n codec es s run written) short a (low_of a real)).0 b in
     record {

@@ -88,7 +88,7 @@ insert_rises n (a ∷ rest) up = go (nat_lt (rank n) (rank a)) refl (same_addr n
         let apart = eqb-false (rank n) (rank a) is' in
         AllPairs-cons Under a (insert_addr n rest) (insert_over (rank a) n rest (omega (arith, no_less, apart)) (pairs_head Under a rest up)) more
 
-nodes_rise : (es : List Entry) → AllPairs Under (entry_nodes es)
+pub nodes_rise : (es : List Entry) → AllPairs Under (entry_nodes es)
 nodes_rise [] = pairs_nil
 nodes_rise (e ∷ es) = insert_rises e.node (entry_nodes es) (nodes_rise es)
 

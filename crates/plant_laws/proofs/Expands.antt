@@ -35,7 +35,7 @@ use Rattle.plant_model.specs.State.{Takes, Pops}
 use Rattle.plant_model.specs.Plant.{Pin, Segment, Plant, Entry, Run, deeds_of}
 use Rattle.plant_model.specs.Laws.{IsCodec, IsNetwork}
 use Rattle.plant_laws.specs.Transcript.{Transcript, Within, opened}
-use Rattle.plant_laws.specs.Keys.{clock_at, last_keys, MaySee, one_reply, shown_answer, ExpandsRightly}
+use Rattle.plant_laws.specs.Keys.{clock_at, last_keys, MaySee, one_reply, shown_answer, ExpandsRightlyIn}
 use Rattle.plant_laws.proofs.Lists.{Stands, contains_of, stands_of}
 use Rattle.plant_laws.proofs.KeyedRuns.{KeysAre, run_keys, taken_from}
 use Rattle.dom_base.specs.AddrOrder.{rank}
@@ -43,6 +43,7 @@ use Rattle.dom_base.proofs.Ranks.{same_addr as one_place}
 use Rattle.plant_laws.proofs.OpenTables.{open_is_pending}
 use Rattle.plant_laws.specs.Sending.{AllSent}
 use Rattle.pcep_messages.specs.Spelling.{IsWritten}
+use Rattle.plant_laws.proofs.WhereWritten.{WrittenNet}
 
 not_both : {X : Type 0} (t : Bool) → t ≡ true → t ≡ false → X
 not_both true e f = cc
@@ -229,7 +230,7 @@ module _ (c : Codec) (codec : IsCodec c) (n : NetworkParts) (network : IsNetwork
       by_keys from.entries from.state (run_keys c n from.entries from.state from.run) older before p r key pce os
       (from.outputs ∙ answered from.state p a r key pce admitted wish (not_pending from.entries from.state from.run sent p r.id (sym (before.open' p r.id) ∙ none)))
 
-pub expands_rightly : ExpandsRightly
+pub expands_rightly : WrittenNet ExpandsRightlyIn
 expands_rightly c codec n network es s run written d p a os older other within r key pce admitted wish none =
     expands c codec n network d (upper (same_as d parent_as) refl) es s run written p a os older within r key pce admitted wish none
   where

@@ -283,7 +283,7 @@ module _ (c : Codec) (n : NetworkParts) where
 
   -- lives fit their field
   module _ (lives : (d : As) → (1 ≤ life n d) × (life n d ≤ 3600)) where
-    record Run-good (es : List Entry) (s : Plant) : Type 0 where
+    pub record Run-good (es : List Entry) (s : Plant) : Type 0 where
       pub fine : AllFine s
       pub solved : AllSolved (deeds_of c n es)
 
@@ -293,7 +293,7 @@ module _ (c : Codec) (n : NetworkParts) where
       clock = omega arith;
     }
 
-    run_good : (es : List Entry) (s : Plant) → Run c n es s → Run-good es s
+    pub run_good : (es : List Entry) (s : Plant) → Run c n es s → Run-good es s
     run_good [] s is =
         let calm = opened_calm c n in
         record {

@@ -112,7 +112,7 @@ module _ (c : Codec) (codec : IsCodec c) (n : NetworkParts) (now : Transcript) (
     pub told : IsTold c n d (record { own = b; at = at_next; solved = solved }) chain w paths
 
   -- a solve and the request of it
-  module _ (d : As) (real : d ≢ parent_as) (k : ℕ) (os : List Output) (keys : List (Issued Segment)) (older : Transcript) (within : Within (Solves d k os keys ∷ older) now) (x : Solved d k os keys older) where
+  module _ (d : As) (real : d ≢ parent_as) (k : ℕ) (os : List Output) (keys : List (Issued Segment)) (older : Transcript) (before : Within older now) (x : Solved d k os keys older) where
     abbrev w : Wanted
     w = x.held.item.wanted
 
@@ -121,9 +121,6 @@ module _ (c : Codec) (codec : IsCodec c) (n : NetworkParts) (now : Transcript) (
 
     at_within : Within at older
     at_within = opened_within c d x.held.key.peer x.held.key.id older at x.taken.is_open
-
-    before : Within older now
-    before = within_tail (Solves d k os keys) older now within
 
     pub taken_asked : (a : Asked) × (c.check a d ≡ Admitted x.taken.request)
     taken_asked = admitted_at c at d x.held.key.peer x.taken.request x.taken.delivered
@@ -309,26 +306,27 @@ module _ (c : Codec) (codec : IsCodec c) (n : NetworkParts) (now : Transcript) (
             let before_older : Within carried.before older = within_tail (Pops b d) carried.before older (subst (λ (o : Transcript). Within o older) carried.is (within_tail deed answered.before older answered.within)) in
             by_put carried.put (within_trans carried.put carried.before older was.within before_older) was.sent
 
-  by_sequence : (d : As) (real : d ≢ parent_as) (k : ℕ) (os : List Output) (keys : List (Issued Segment)) (older : Transcript) (within : Within (Solves d k os keys ∷ older) now) (x : Solved d k os keys older) →
+  -- the solve itself may be newer than what is given
+  pub by_sequence : (d : As) (real : d ≢ parent_as) (k : ℕ) (os : List Output) (keys : List (Issued Segment)) (older : Transcript) (before : Within older now) (x : Solved d k os keys older) →
       ((b : As) → (upper : b ≢ parent_as) → (k' : ℕ) (os' : List Output) (keys' : List (Issued Segment)) (older' : Transcript) → length older' < length older → (w' : Within (Solves b k' os' keys' ∷ older') now) →
       Chained b k' os' keys' older' (given.solved b k' os' keys' older' upper w')) → Chained d k os keys older x
-  by_sequence d real k os keys older within x ih =
-      let asked = taken_asked d real k os keys older within x in
-      let admits = taken_admits d real k os keys older within x in
+  by_sequence d real k os keys older before x ih =
+      let asked = taken_asked d real k os keys older before x in
+      let admits = taken_admits d real k os keys older before x in
       let sequence = (codec.own asked.0 d x.taken.request.flags x.taken.request.id x.held.item.wanted admits).2 in
       elim (own_sequence d x.held.item.wanted.sequence sequence) [
-        | inl short ↦ chained_end d real k os keys older within x short
+        | inl short ↦ chained_end d real k os keys older before x short
         | inr long ↦
             let b = long.0 in
             let rest = long.1 in
             let upper = real_next d b rest long.3 in
             let answered : IsAnswered c older d x.taken.at x.held.item.wanted b rest x.down = subst (λ (l : List As). IsServed c older d x.taken.at x.held.item.wanted l x.down) (x.along ∙ long.2) x.served in
-            chained_on d real k os keys older within x b rest long.2 answered (told_beyond d real k os keys older within x b rest long.2 upper answered (ih b upper))
+            chained_on d real k os keys older before x b rest long.2 answered (told_beyond d real k os keys older before x b rest long.2 upper answered (ih b upper))
       ]
 
   pub solve_chained : (fuel : ℕ) (d : As) (real : d ≢ parent_as) (k : ℕ) (os : List Output) (keys : List (Issued Segment)) (older : Transcript) (within : Within (Solves d k os keys ∷ older) now) →
       length older < fuel → Chained d k os keys older (given.solved d k os keys older real within)
   solve_chained zero d real k os keys older within less = absurd (omega (arith, less))
   solve_chained (suc fuel) d real k os keys older within less =
-      by_sequence d real k os keys older within (given.solved d k os keys older real within)
+      by_sequence d real k os keys older (within_tail (Solves d k os keys) older now within) (given.solved d k os keys older real within)
       (λ b upper k' os' keys' older' less' w'. solve_chained fuel b upper k' os' keys' older' w' (omega (arith, less, less')))

@@ -127,3 +127,15 @@ pub mod Founded
 pub mod Counted
 pub mod NumberRuns
 pub mod Numbers
+pub mod InForm
+pub mod BestFits
+pub mod ElementSays
+pub mod ParentSays
+pub mod AllWritten
+pub mod OwnSays
+pub mod EachWritten
+pub mod DownsFit
+pub mod SolvesWritten
+pub mod ParentWritten
+pub mod EveryWritten
+pub mod WhereWritten

@@ -23,7 +23,7 @@ use Rattle.plant_model.specs.Plant.{PlantDeed, deeds_of}
 use Rattle.plant_laws.specs.Transcript.{Transcript, Within, opened, Effect, Keeps, Ends, Begins, effect, after, Delivered, outputs_at, put_into, left_of, standing_of, Standing, standing, Handed, SentIn, asks, count_asks, answers_to, count_answers, one_if}
 use Rattle.plant_laws.specs.About.{IsShort}
 use Rattle.plant_laws.specs.Answered.{besides_asking, answers_in}
-use Rattle.plant_laws.specs.Matched.{ends, at_once, RepliesMatch, IsReplyTo, RepliesAnswer}
+use Rattle.plant_laws.specs.Matched.{ends, at_once, RepliesMatchIn, IsReplyTo, RepliesAnswerIn}
 use Rattle.plant_laws.proofs.Queues.{same_as_is}
 use Rattle.plant_laws.proofs.Rows.{In, in_of, in_append}
 use Rattle.plant_laws.proofs.Inboxes.{contains}
@@ -38,6 +38,7 @@ use Rattle.plant_laws.proofs.Readings.{messages_are_read}
 use Rattle.plant_laws.proofs.Counted.{low_of, numbered_within, asks_within, ids_differ}
 use Rattle.plant_laws.proofs.Founded.{IsFounded, AreFounded, run_founded}
 use Rattle.plant_laws.proofs.SentOnAsks.{ends_are}
+use Rattle.plant_laws.proofs.WhereWritten.{WrittenIds}
 
 -- ---- what stands was put there
 
@@ -272,7 +273,7 @@ founded_within c (d ∷ ds) all e older (inl is) =
     subst (λ (x : PlantDeed). IsFounded c x older) (sym heads) (subst (λ (l : Transcript). IsFounded c d l) (sym tails) all.0)
 founded_within c (d ∷ ds) all e older (inr w) = founded_within c ds all.1 e older w
 
-pub replies_match : RepliesMatch
+pub replies_match : WrittenIds RepliesMatchIn
 replies_match c codec n es s run written short a b real r put there h i waits =
     let now = deeds_of c n es in
     let single = run_single c n codec es s run written in
@@ -311,7 +312,7 @@ whole : (l : Transcript) → Within l l
 whole [] = refl
 whole (g ∷ l) = inl refl
 
-pub replies_answer : RepliesAnswer
+pub replies_answer : WrittenIds RepliesAnswerIn
 replies_answer c codec n es s run written short a b real r os older w = first older (read_within (deeds_of c n es) (run_read c n codec es s run written) (Takes a (Inner b) (messages.PcRep (r ∷ [])) os) older w) w
   where
     first : (older : Transcript) → StoodFirst b a (messages.PcRep (r ∷ [])) older → Within (Takes a (Inner b) (messages.PcRep (r ∷ [])) os ∷ older) (deeds_of c n es) → IsReplyTo c (deeds_of c n es) a b r

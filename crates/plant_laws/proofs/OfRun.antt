@@ -18,14 +18,16 @@ use Rattle.plant_model.specs.Wire.{Codec}
 use Rattle.plant_model.specs.Element.{Row}
 use Rattle.plant_model.specs.Parent.{AskingRow}
 use Rattle.plant_text.specs.Settings.{class_of}
+use Rattle.plant_model.specs.Solving.{commit}
+use Rattle.plant_model.specs.Settings.{place}
 use Rattle.plant_model.specs.State.{Loads, Pops, Takes, Says, Ups, Downs, Clears, Solves, Expires, Hands}
 use Rattle.plant_model.specs.Plant.{Pin, Segment, Plant, PlantDeed, Happened, Entry, Run, deeds_of, ElementSolves, ParentSolves, ask}
 use Rattle.plant_model.specs.Laws.{IsCodec, IsNetwork}
 use Rattle.plant_laws.specs.Transcript.{Transcript, Within, opened, outputs_at, Delivered}
 use Rattle.plant_laws.specs.Sending.{AllSent}
 use Rattle.plant_laws.specs.About.{IsGathered, HasReplied, IsShort}
-use Rattle.plant_laws.specs.Replies.{LeastReplies, NoneReplies}
-use Rattle.plant_laws.specs.Headline.{LeastAnswers, NoneAnswers}
+use Rattle.plant_laws.specs.Replies.{LeastRepliesIn, NoneRepliesIn}
+use Rattle.plant_laws.specs.Headline.{LeastAnswersIn, NoneAnswersIn}
 use Rattle.plant_laws.proofs.Headline.{least_replies, none_replies, least_answers, none_answers, element_answers}
 use Rattle.plant_laws.proofs.Rows.{In}
 use Rattle.plant_laws.proofs.OpenedRuns.{lookup_in}
@@ -50,18 +52,19 @@ use Rattle.plant_laws.proofs.ViaParent.{above_says}
 use Rattle.plant_laws.proofs.Moments.{within_trans, opened_within, no_more}
 use Rattle.plant_laws.proofs.FromElement.{within_tail}
 use Rattle.pcep_messages.specs.declared.message.Answer.{Answer}
-use Rattle.plant_laws.specs.Certified.{Tells, IsServed, SolvesCertify}
+use Rattle.plant_laws.specs.Certified.{Tells, IsServed, SolvesCertifyIn}
 use Rattle.plant_model.specs.Jobs.{entries_of, target_along}
 use Rattle.disclosure.specs.declared.class.Class.{Class}
 use Rattle.te_links.specs.Rows.{Rows}
 use Rattle.border_costs.specs.Solutions.{AreRows}
+use Rattle.plant_laws.proofs.WhereWritten.{WrittenNet, WrittenNetIds}
 
-in_contains : {A : Type 0} (x : A) (xs : List A) → In x xs → Contains xs x
+pub in_contains : {A : Type 0} (x : A) (xs : List A) → In x xs → Contains xs x
 in_contains x [] none = absurd none
 in_contains x (y ∷ ys) (inl same) = subst (λ (z : _). Contains (y ∷ ys) z) same (contains_head y ys)
 in_contains x (y ∷ ys) (inr more) = contains_tail y ys x (in_contains x ys more)
 
-same_moment : (o : Option Transcript) (a b : Transcript) → o ≡ Some a → o ≡ Some b → a ≡ b
+pub same_moment : (o : Option Transcript) (a b : Transcript) → o ≡ Some a → o ≡ Some b → a ≡ b
 same_moment o a b e f = let one : Some a ≡ Some b = sym e ∙ f in cc
 
 module _ (c : Codec) (codec : IsCodec c) (n : NetworkParts) (net : IsNetwork n) where
@@ -77,31 +80,38 @@ module _ (c : Codec) (codec : IsCodec c) (n : NetworkParts) (net : IsNetwork n) 
   IsMoment (Expires t) older = Unit {0}
   IsMoment (Hands i bytes) older = Unit {0}
 
+  -- a solve, from the state before it
+  abbrev pub solved_of : (es : List Entry) (s : Plant) → Run c n es s → AllSent IsWritten (deeds_of c n es) → (d : As) (k : ℕ) (h : Happened) (x : ElementSolves c n d k s h) →
+      IsSolved c n (deeds_of c n es) d k
+      (commit c (place n d) (k, x.held) x.down s.clock (λ b. b.segment) x.rows.source_known x.rows.target_known x.rows.best (s.elements d)).outputs
+      (commit c (place n d) (k, x.held) x.down s.clock (λ b. b.segment) x.rows.source_known x.rows.target_known x.rows.best (s.elements d)).element.keys.issued
+  solved_of es s run written d k h x =
+      let row : Row Pin = (k, x.held) in
+      let there : Contains (s.elements d).pending.rows row = in_contains row (s.elements d).pending.rows (lookup_in k (s.elements d).pending.rows x.held x.is_held) in
+      let taken = (open_is_pending c codec n es s run written).taken d row there in
+      let r = is_readied c codec n es s run written d row there x.down x.ready in
+      let same = same_moment (opened c d x.held.key.peer x.held.key.id (deeds_of c n es)) r.at taken.at r.is_open taken.is_open in
+      record {
+        held = x.held;
+        taken = taken;
+        domain = (pins_are_domains c n es s run).pinned d row there;
+        along = r.along;
+        stays = r.stays;
+        down = x.down;
+        served = subst (λ (at : Transcript). IsServed c (deeds_of c n es) d at x.held.item.wanted x.held.item.sequence x.down) same r.served;
+        rows = x.rows;
+        right = x.right;
+        now = s.clock;
+        element = s.elements d;
+        life = run_lives c n net es s run d;
+        sends = refl;
+        has = refl;
+      }
+
   element_made : (es : List Entry) (s : Plant) → Run c n es s → AllSent IsWritten (deeds_of c n es) → (d : As) (k : ℕ) (h : Happened) (x : ElementSolves c n d k s h) →
       IsMoment (element_deed c n d k s h x) (deeds_of c n es)
   element_made es s run written d k h x = (
-    (λ real.
-        let row : Row Pin = (k, x.held) in
-        let there : Contains (s.elements d).pending.rows row = in_contains row (s.elements d).pending.rows (lookup_in k (s.elements d).pending.rows x.held x.is_held) in
-        let taken = (open_is_pending c codec n es s run written).taken d row there in
-        let r = is_readied c codec n es s run written d row there x.down x.ready in
-        let same = same_moment (opened c d x.held.key.peer x.held.key.id (deeds_of c n es)) r.at taken.at r.is_open taken.is_open in
-        record {
-          held = x.held;
-          taken = taken;
-          domain = (pins_are_domains c n es s run).pinned d row there;
-          along = r.along;
-          stays = r.stays;
-          down = x.down;
-          served = subst (λ (at : Transcript). IsServed c (deeds_of c n es) d at x.held.item.wanted x.held.item.sequence x.down) same r.served;
-          rows = x.rows;
-          right = x.right;
-          now = s.clock;
-          element = s.elements d;
-          life = run_lives c n net es s run d;
-          sends = refl;
-          has = refl;
-        }),
+    (λ real. solved_of es s run written d k h x),
     (λ up. absurd (apart (sym (eq-eqb d.0 parent_as.0 (ap (λ (a : As). a.0) up)) ∙ x.upper))),
   )
 
@@ -180,22 +190,22 @@ module _ (c : Codec) (codec : IsCodec c) (n : NetworkParts) (net : IsNetwork n) 
 
 -- ---- the statements
 
-pub least_replies_are : LeastReplies
+pub least_replies_are : WrittenNetIds LeastRepliesIn
 least_replies_are c codec n net es s run written short m older d =
     least_replies c codec n (deeds_of c n es) (given_of c codec n net es s run written short) m older d
 
-pub none_replies_are : NoneReplies
+pub none_replies_are : WrittenNetIds NoneRepliesIn
 none_replies_are c codec n net es s run written short m older d =
     none_replies c codec n (deeds_of c n es) (given_of c codec n net es s run written short) m older d
 
-pub least_answers_are : LeastAnswers
+pub least_answers_are : WrittenNetIds LeastAnswersIn
 least_answers_are c codec n net es s run written short m older d i r client replies paths is =
     let given = given_of c codec n net es s run written short in (
       element_answers c codec n (deeds_of c n es) given m older d i r paths (subst (λ (a : Answer). Tells a paths) (sym is) refl) replies,
       least_answers c codec n (deeds_of c n es) given m older d i r client replies paths is,
     )
 
-pub none_answers_are : NoneAnswers
+pub none_answers_are : WrittenNetIds NoneAnswersIn
 none_answers_are c codec n net es s run written short m older d i r client replies vector is =
     let given = given_of c codec n net es s run written short in (
       element_answers c codec n (deeds_of c n es) given m older d i r [] (subst (λ (a : Answer). Tells a []) (sym is) (refl, refl)) replies,
@@ -203,7 +213,7 @@ none_answers_are c codec n net es s run written short m older d i r client repli
     )
 
 -- the certificate of a solve
-pub solves_certify : SolvesCertify
+pub solves_certify : WrittenNet SolvesCertifyIn
 solves_certify c codec n net es s run written d k os keys older real w =
     let y = (run_moments c n (IsMoment c codec n net) (element_made c codec n net) (upper_made c codec n net) d k os keys older es s run written w).0 real in
     let i = y.held.item in

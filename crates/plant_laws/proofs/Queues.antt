@@ -198,13 +198,13 @@ module _ (c : Codec) (n : NetworkParts) where
   abbrev StandIn : Transcript → Plant → Type 0
   StandIn ds s = Stand ds s
 
-  solve_stands : (ds : Transcript) (s : Plant) (d : As) (k : ℕ) (h : Happened) → StandIn ds s → ElementSolves c n d k s h → StandIn (h.deeds ++ ds) h.state
+  pub solve_stands : (ds : Transcript) (s : Plant) (d : As) (k : ℕ) (h : Happened) → StandIn ds s → ElementSolves c n d k s h → StandIn (h.deeds ++ ds) h.state
   solve_stands ds s d k h stand x =
       let r = commit c (place n d) (k, x.held) x.down s.clock (λ b. b.segment) x.rows.source_known x.rows.target_known x.rows.best (s.elements d) in
       subst (λ (h' : Happened). StandIn (h'.deeds ++ ds) h'.state) (sym x.is)
       (sent_stands d r.outputs s (with_element Pin Segment c n open_of d r.element s) ds (Solves d k r.outputs r.element.keys.issued) refl (λ a. refl) (λ a b xs. refl) stand)
 
-  upper_stands : (ds : Transcript) (s : Plant) (k : ℕ) (h : Happened) → StandIn ds s → ParentSolves c n k s h → StandIn (h.deeds ++ ds) h.state
+  pub upper_stands : (ds : Transcript) (s : Plant) (k : ℕ) (h : Happened) → StandIn ds s → ParentSolves c n k s h → StandIn (h.deeds ++ ds) h.state
   upper_stands ds s k h stand x =
       let r = parent.commit c (k, x.held) x.answer s.parent in
       subst (λ (h' : Happened). StandIn (h'.deeds ++ ds) h'.state) (sym x.is)

@@ -29,12 +29,13 @@ use Rattle.plant_model.specs.Events.{is_ready_row, is_ready_asking}
 use Rattle.plant_model.specs.Plant.{Pin, Segment, Plant, Happened, Entry, Run, ElementSolves, ParentSolves}
 use Rattle.plant_laws.specs.Transcript.{Transcript}
 use Rattle.plant_laws.proofs.Acts.{Acts, rests, hears, carries, nods, hands, rises, falls, says, clears, expires}
-use Rattle.plant_laws.specs.Chains.{IsQuiet, QuietIsAnswered}
-use Rattle.plant_laws.specs.UnderWay.{IsUnderWay, coming, taken, taken_up, answered, GoesOn, along, upward, AreUnderWay, WaitsAreUnderWay}
+use Rattle.plant_laws.specs.Chains.{IsQuiet, QuietIsAnsweredIn}
+use Rattle.plant_laws.specs.UnderWay.{IsUnderWay, coming, taken, taken_up, answered, GoesOn, along, upward, AreUnderWay, WaitsAreUnderWayIn}
 use Rattle.plant_laws.proofs.Induction.{run_holds}
 use Rattle.plant_laws.proofs.Handing.{In}
 use Rattle.plant_laws.proofs.Queues.{same_as_is}
 use Rattle.plant_laws.proofs.Answering.{InOrder, run_kept, puts_elements}
+use Rattle.plant_laws.proofs.WhereWritten.{WrittenNetIds}
 
 -- ---- lists
 
@@ -234,7 +235,7 @@ module _ (c : Codec) (s : Plant) (quiet : IsQuiet s) (order : InOrder s) (above'
   no_rows [] none = refl
   no_rows (h ∷ rows) none = absurd (none h (contains_head h rows))
 
-pub quiet_is_answered : WaitsAreUnderWay → QuietIsAnswered
+pub quiet_is_answered : WrittenNetIds WaitsAreUnderWayIn → WrittenNetIds QuietIsAnsweredIn
 quiet_is_answered way c codec n network es s run written short quiet =
     let order = (run_kept c n es s run).0 in
     let above' = run_none c n es s run in

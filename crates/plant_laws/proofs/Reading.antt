@@ -442,7 +442,7 @@ module _ (c : Codec) (codec : IsCodec c) (n : NetworkParts) where
       let r = parent.commit c (k, x.held) x.answer s.parent in
       subst (Kept c n ds) (sym x.is) (solve_ok Pin Segment c codec n open_of parent_as r.outputs s (with_parent Pin Segment c n open_of r.parent s) refl ok, (tt, read))
 
-  run_read : (es : List Entry) (s : Plant) → Run c n es s → Ok Pin Segment c codec n open_of s × AreRead c n (deeds_of c n es)
+  pub run_read : (es : List Entry) (s : Plant) → Run c n es s → Ok Pin Segment c codec n open_of s × AreRead c n (deeds_of c n es)
   run_read [] s is =
       let good = opening_good Pin Segment c codec n open_of first_pin in
       (subst (λ (p : Plant). Ok Pin Segment c codec n open_of p) (sym is) good.inboxes, good.read)

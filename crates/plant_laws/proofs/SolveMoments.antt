@@ -74,7 +74,7 @@ module _ (c : Codec) (n : NetworkParts) where
   act_plain s t es (clears x s') = (tt, tt)
   act_plain s t es (expires now s') = (tt, tt)
 
-  goes_plain : (s t : Plant) (es : Transcript) → Goes Pin Segment c n open_of s es t → ArePlain es
+  pub goes_plain : (s t : Plant) (es : Transcript) → Goes Pin Segment c n open_of s es t → ArePlain es
   goes_plain s t es (stands s') = tt
   goes_plain s u es (goes_on s' t u' fs gs r a) = plain_append gs fs (act_plain t u gs a) (goes_plain s t fs r)
 
@@ -83,7 +83,7 @@ module _ (c : Codec) (n : NetworkParts) where
   begun [] s0 g r = r
   begun (x ∷ xs) s0 g r = begun xs s0 (begin_line Pin Segment c n open_of 0 x g) (begin_line_on Pin Segment c n open_of s0 0 x g r)
 
-  opening_plain : ArePlain (deeds_of c n [])
+  pub opening_plain : ArePlain (deeds_of c n [])
   opening_plain =
       let b = events.bare Pin Segment c n open_of first_pin in
       let g = events.opening Pin Segment c n open_of first_pin in

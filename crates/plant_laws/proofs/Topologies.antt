@@ -58,7 +58,7 @@ empty_topology d = record {
   entries_differ = λ i j e less within. absurd (below_none j within);
 }
 
-empty_domain : (d : As) → IsDomain d (empty_rows d)
+pub empty_domain : (d : As) → IsDomain d (empty_rows d)
 empty_domain d = record {
   own = refl;
   topology = empty_topology d;
@@ -164,19 +164,19 @@ module _ (c : Codec) (n : NetworkParts) where
   act_keeps s t es (clears x s') = record { current = refl; pinned = λ current old. old }
   act_keeps s t es (expires now s') = record { current = refl; pinned = λ current old. old }
 
-  act_good : (ds : Transcript) (s t : Plant) (es : Transcript) → Good ds s → Acts Pin Segment c n open_of s es t → Good (es ++ ds) t
+  pub act_good : (ds : Transcript) (s t : Plant) (es : Transcript) → Good ds s → Acts Pin Segment c n open_of s es t → Good (es ++ ds) t
   act_good ds s t es good act =
       let k = act_keeps s t es act in
       record { current = λ d. subst (λ (f : As → Pin). IsPinned d (f d)) (sym k.current) (good.current d); pinned = k.pinned good.current good.pinned }
 
-  load_good : (ds : Transcript) (s : Plant) (d : As) (g : Rows) → IsGiven (event.Load d g) → Good ds s → Good (Loads d g ∷ ds) (load_new c n d g s).state
+  pub load_good : (ds : Transcript) (s : Plant) (d : As) (g : Rows) → IsGiven (event.Load d g) → Good ds s → Good (Loads d g ∷ ds) (load_new c n d g s).state
   load_good ds s d g given good = record { current = λ d'. go d' (same_as d d') refl; pinned = good.pinned }
     where
       go : (d' : As) (b : Bool) → same_as d d' ≡ b → IsPinned d' (cond b (record { number = suc (s.current d).number; topology = g }) (s.current d'))
       go d' true is = subst (λ (x : As). IsDomain x g) (same_as_is d d' is) (record { own = given.0; topology = given.1; order = given.2; range = given.3 })
       go d' false is = good.current d'
 
-  solve_good : (ds : Transcript) (s : Plant) (d : As) (k : ℕ) (h : Happened) → Good ds s → ElementSolves c n d k s h → Good (h.deeds ++ ds) h.state
+  pub solve_good : (ds : Transcript) (s : Plant) (d : As) (k : ℕ) (h : Happened) → Good ds s → ElementSolves c n d k s h → Good (h.deeds ++ ds) h.state
   solve_good ds s d k h good x =
       let r = commit c (place n d) (k, x.held) x.down s.clock (λ b. b.segment) x.rows.source_known x.rows.target_known x.rows.best (s.elements d) in
       let v = with_element Pin Segment c n open_of d r.element s in
@@ -187,7 +187,7 @@ module _ (c : Codec) (n : NetworkParts) where
             (commit_keeps Pin Segment (IsPinned d) c (place n d) (k, x.held) x.down s.clock (λ b. b.segment) x.rows.source_known x.rows.target_known x.rows.best (s.elements d) (good.pinned d)) good.pinned;
       })
 
-  upper_good : (ds : Transcript) (s : Plant) (k : ℕ) (h : Happened) → Good ds s → ParentSolves c n k s h → Good (h.deeds ++ ds) h.state
+  pub upper_good : (ds : Transcript) (s : Plant) (k : ℕ) (h : Happened) → Good ds s → ParentSolves c n k s h → Good (h.deeds ++ ds) h.state
   upper_good ds s k h good x =
       let r = parent.commit c (k, x.held) x.answer s.parent in
       let v = with_parent Pin Segment c n open_of r.parent s in

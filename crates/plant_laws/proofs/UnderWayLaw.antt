@@ -30,9 +30,9 @@ use Rattle.plant_model.specs.Taking.{sequence_or, goes_up}
 use Rattle.plant_model.specs.Plant.{Pin, Segment, Plant, deeds_of}
 use Rattle.plant_laws.specs.Transcript.{Transcript, opened, Delivered, tail_of}
 use Rattle.plant_laws.specs.Standing.{texts}
-use Rattle.plant_laws.specs.Chains.{QuietIsAnswered}
+use Rattle.plant_laws.specs.Chains.{QuietIsAnsweredIn}
 use Rattle.plant_laws.specs.Waiting as waiting
-use Rattle.plant_laws.specs.UnderWay.{IsUnderWay, coming, taken, taken_up, answered, GoesOn, along, upward, WaitsAreUnderWay}
+use Rattle.plant_laws.specs.UnderWay.{IsUnderWay, coming, taken, taken_up, answered, GoesOn, along, upward, WaitsAreUnderWayIn}
 use Rattle.plant_laws.proofs.Queues.{same_as_is, Stand}
 use Rattle.plant_laws.proofs.Handing.{In}
 use Rattle.plant_laws.proofs.Rows as table
@@ -53,6 +53,7 @@ use Rattle.plant_laws.proofs.Asks.{Asks}
 use Rattle.plant_laws.proofs.Alive.{IsAlive, CancelsNone}
 use Rattle.plant_laws.proofs.Known.{IsForm, own_none, Prem}
 use Rattle.plant_laws.proofs.UnderWayRuns.{run_inv}
+use Rattle.plant_laws.proofs.WhereWritten.{WrittenNetIds}
 
 in_flip : {A : Type 0} (x : A) (xs : List A) → table.In x xs → In x xs
 in_flip x [] h = absurd h
@@ -167,7 +168,7 @@ module _ (c : Codec) (n : NetworkParts) (codec : IsCodec c) (ds : Transcript) (s
           let w = subst (λ (l : List As). waits_of s.elements s.parent d on'.1 id l) (ap (λ (l : List As). tail_of l) whole) (wait on'.1 on'.5) in
           along on'.1 on'.2 on'.5 g.1 g.0 (under d on'.1 id (on'.1 ∷ on'.2) (cases_Bool (same_as on'.1 parent_as)) (alive d on'.1 id (on'.1 ∷ on'.2) w))
 
-pub waits_are_under_way : WaitsAreUnderWay
+pub waits_are_under_way : WrittenNetIds WaitsAreUnderWayIn
 waits_are_under_way c codec n net es s run written short =
     let inv = run_inv c n codec net es s run in
     let single = run_single c n codec es s run written in
@@ -189,5 +190,5 @@ waits_are_under_way c codec n net es s run written short =
           );
     }
 
-pub quiet_is_answered : QuietIsAnswered
+pub quiet_is_answered : WrittenNetIds QuietIsAnsweredIn
 quiet_is_answered = quiet.quiet_is_answered waits_are_under_way

@@ -11,12 +11,10 @@ use Rattle.plant_text.specs.declared.settings.NetworkParts.{NetworkParts}
 use Rattle.plant_model.specs.declared.output.Output.{Output}
 use Rattle.plant_model.specs.Wire.{Codec}
 use Rattle.plant_model.specs.State.{Loads, Pops, Takes, Says, Ups, Downs, Clears, Solves, Expires, Hands}
-use Rattle.plant_model.specs.Plant.{Plant, PlantDeed, Entry, Run, deeds_of}
-use Rattle.plant_model.specs.Laws.{IsCodec, IsNetwork}
+use Rattle.plant_model.specs.Plant.{Plant, PlantDeed, Entry, deeds_of}
 use Rattle.plant_laws.specs.Transcript.{Transcript, Within, opened, outputs_at, answers_to, cancels, effect, Ends}
 use Rattle.plant_laws.specs.Chains.{is_pending}
-use Rattle.plant_laws.specs.Sending.{AllSent}
-use Rattle.pcep_messages.specs.Spelling.{IsWritten}
+use Rattle.plant_laws.specs.Runs.{InShortRuns}
 
 -- How many answers to the open request x of p a deed of d has. What is said to a message that asks is about that message, whose
 -- sender may use the id again.
@@ -73,6 +71,8 @@ pub record IsAnsweredOnce (c : Codec) (now : Transcript) (s : Plant) (d : As) (p
   pub silent : (e : PlantDeed) (older : Transcript) → Within (e ∷ older) now → opened c d p x older ≡ Some at → effect c d p x e ≢ Ends → answers_in d p x e ≡ 0
 
 -- In every state of every run, each path request that an element or the parent accepted is answered once.
+abbrev pub RequestsAreAnsweredOnceIn : Codec → NetworkParts → List Entry → Plant → Type 0
+RequestsAreAnsweredOnceIn c n es s = (d : As) (p : Peer) (x : ℕ) (at : Transcript) → Within at (deeds_of c n es) → opened c d p x at ≡ Some at → IsAnsweredOnce c (deeds_of c n es) s d p x at
+
 abbrev pub RequestsAreAnsweredOnce : Type 0
-RequestsAreAnsweredOnce = (c : Codec) → IsCodec c → (n : NetworkParts) → IsNetwork n → (es : List Entry) (s : Plant) → Run c n es s → AllSent IsWritten (deeds_of c n es) →
-    (d : As) (p : Peer) (x : ℕ) (at : Transcript) → Within at (deeds_of c n es) → opened c d p x at ≡ Some at → IsAnsweredOnce c (deeds_of c n es) s d p x at
+RequestsAreAnsweredOnce = InShortRuns RequestsAreAnsweredOnceIn

@@ -4,7 +4,6 @@ use Rattle.std.specs.Prelude.{◌≡◌, ◌≢◌, ℕ, List, [], ◌∷◌, So
 use Rattle.dom_base.specs.declared.names.As.{As}
 use Rattle.dom_base.specs.declared.names.Peer.{Peer}
 use Rattle.dom_base.specs.declared.names.Peer.TheVariants.{Inner}
-use Rattle.pcep_messages.specs.Spelling.{IsWritten}
 use Rattle.pcep_messages.specs.declared.message.Answer.{Answer}
 use Rattle.pcep_messages.specs.declared.message.Answer.TheVariants.{Paths, NoPath}
 use Rattle.pcep_messages.specs.declared.message.Path.{Path}
@@ -28,10 +27,9 @@ use Rattle.plant_model.specs.Branches.{branches_in, downs}
 use Rattle.plant_model.specs.Jobs.{entries_of, target_along}
 use Rattle.plant_model.specs.Taking.{sequence_or}
 use Rattle.plant_model.specs.State.{Takes, Solves}
-use Rattle.plant_model.specs.Plant.{Segment, Plant, Entry, Run, deeds_of}
-use Rattle.plant_model.specs.Laws.{IsCodec, IsNetwork}
+use Rattle.plant_model.specs.Plant.{Segment, Plant, Entry, deeds_of}
 use Rattle.plant_laws.specs.Transcript.{Transcript, Within, SentIn, Delivered, opened, pinned}
-use Rattle.plant_laws.specs.Sending.{AllSent}
+use Rattle.plant_laws.specs.Runs.{InShortRuns}
 
 -- what an answer tells of paths: these, or that there are none
 abbrev pub Tells : Answer → List Path → Type 0
@@ -79,6 +77,8 @@ pub record IsCertified (c : Codec) (n : NetworkParts) (older : Transcript) (d : 
   pub right : AreRows (pinned d at) job rows
 
 -- In every run, of every solve at an element.
+abbrev pub SolvesCertifyIn : Codec → NetworkParts → List Entry → Plant → Type 0
+SolvesCertifyIn c n es s = (d : As) (k : ℕ) (os : List Output) (keys : List (Issued Segment)) (older : Transcript) → d ≢ parent_as → Within (Solves d k os keys ∷ older) (deeds_of c n es) → IsCertified c n older d
+
 abbrev pub SolvesCertify : Type 0
-SolvesCertify = (c : Codec) → IsCodec c → (n : NetworkParts) → IsNetwork n → (es : List Entry) (s : Plant) → Run c n es s → AllSent IsWritten (deeds_of c n es) →
-    (d : As) (k : ℕ) (os : List Output) (keys : List (Issued Segment)) (older : Transcript) → d ≢ parent_as → Within (Solves d k os keys ∷ older) (deeds_of c n es) → IsCertified c n older d
+SolvesCertify = InShortRuns SolvesCertifyIn

@@ -8,12 +8,9 @@ use Rattle.plant_text.specs.Names.{same_as, parent_as}
 use Rattle.plant_model.specs.Wire.{Codec}
 use Rattle.plant_model.specs.State.{Connection}
 use Rattle.plant_model.specs.Events.{is_ready}
-use Rattle.plant_model.specs.Plant.{Plant, Entry, Run, deeds_of}
-use Rattle.plant_model.specs.Laws.{IsCodec, IsNetwork}
+use Rattle.plant_model.specs.Plant.{Plant, Entry, deeds_of}
 use Rattle.plant_laws.specs.Transcript.{Transcript, Leg, Chain, numbers}
-use Rattle.plant_laws.specs.About.{IsShort}
-use Rattle.plant_laws.specs.Sending.{AllSent}
-use Rattle.pcep_messages.specs.Spelling.{IsWritten}
+use Rattle.plant_laws.specs.Runs.{InShortRuns}
 
 -- A request has one chain: two that begin with the same moment and lead through the same domains have the same moments.
 abbrev pub moments : List Leg → List Transcript
@@ -25,11 +22,14 @@ abbrev pub AreElements : List Leg → Type 0
 AreElements [] = Unit {0}
 AreElements (leg ∷ legs) = (leg.own ≢ parent_as) × AreElements legs
 
-abbrev pub OneChain : Type 0
-OneChain = (c : Codec) → IsCodec c → (n : NetworkParts) → IsNetwork n → (es : List Entry) (s : Plant) → Run c n es s → AllSent IsWritten (deeds_of c n es) →
+abbrev pub OneChainIn : Codec → NetworkParts → List Entry → Plant → Type 0
+OneChainIn c n es s =
     (one other : Leg) (rest rest' : List Leg) → one.at ≡ other.at → AreElements (one ∷ rest) →
     Chain (deeds_of c n es) (one ∷ rest) → Chain (deeds_of c n es) (other ∷ rest') →
     numbers (one ∷ rest) ≡ numbers (other ∷ rest') → moments (one ∷ rest) ≡ moments (other ∷ rest')
+
+abbrev pub OneChain : Type 0
+OneChain = InShortRuns OneChainIn
 
 -- every inbox and every inner queue is empty, and no job is ready
 abbrev pub HasEmptyInbox : Option Connection → Type 0
@@ -42,9 +42,11 @@ pub record IsQuiet (s : Plant) : Type 0 where
   pub jobs : (d : As) (k : ℕ) → is_ready d k s ≡ false
 
 -- Quiet means answered.
+abbrev pub QuietIsAnsweredIn : Codec → NetworkParts → List Entry → Plant → Type 0
+QuietIsAnsweredIn c n es s = IsQuiet s → (s.parent.pending.rows ≡ []) × ((d : As) → (s.elements d).pending.rows ≡ [])
+
 abbrev pub QuietIsAnswered : Type 0
-QuietIsAnswered = (c : Codec) → IsCodec c → (n : NetworkParts) → IsNetwork n → (es : List Entry) (s : Plant) → Run c n es s → AllSent IsWritten (deeds_of c n es) → IsShort (deeds_of c n es) →
-    IsQuiet s → (s.parent.pending.rows ≡ []) × ((d : As) → (s.elements d).pending.rows ≡ [])
+QuietIsAnswered = InShortRuns QuietIsAnsweredIn
 
 -- is the request x of p pending at d
 abbrev pub is_pending : Plant → As → Peer → ℕ → Bool

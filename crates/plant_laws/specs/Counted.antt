@@ -5,17 +5,14 @@ use Rattle.dom_base.specs.declared.names.As.{As}
 use Rattle.dom_base.specs.declared.addr.Addr.{Addr}
 use Rattle.dom_base.specs.declared.names.Peer.TheVariants.{Inner}
 use Rattle.pcep_messages.specs.declared.message.Wanted.{Wanted}
-use Rattle.pcep_messages.specs.Spelling.{IsWritten}
 use Rattle.plant_text.specs.declared.settings.NetworkParts.{NetworkParts}
 use Rattle.plant_text.specs.Names.{parent_as}
 use Rattle.plant_model.specs.Wire.{Codec}
-use Rattle.plant_model.specs.Laws.{IsCodec}
 use Rattle.plant_model.specs.Writing.{request_message}
 use Rattle.plant_model.specs.Element.{Waits, Row, Way, way_to, fresh_id}
-use Rattle.plant_model.specs.Plant.{Pin, Plant, Entry, Run, deeds_of}
+use Rattle.plant_model.specs.Plant.{Pin, Plant, Entry, deeds_of}
 use Rattle.plant_laws.specs.Transcript.{Transcript, Within, SentIn, asks}
-use Rattle.plant_laws.specs.About.{IsShort}
-use Rattle.plant_laws.specs.Sending.{AllSent}
+use Rattle.plant_laws.specs.Runs.{InShortRuns}
 
 -- the ids of an element towards a neighbour
 pub record AreCounted (now : Transcript) (s : Plant) (a b : As) : Type 0 where
@@ -24,13 +21,18 @@ pub record AreCounted (now : Transcript) (s : Plant) (a b : As) : Type 0 where
   pub next : asks a b now < 4294967295 → fresh_id (Inner b) (asks a b now) (s.elements a).pending.rows ≡ suc (asks a b now)
 
 -- In every state of a run.
+abbrev pub IdsCountIn : Codec → NetworkParts → List Entry → Plant → Type 0
+IdsCountIn c n es s = (a b : As) → a ≢ parent_as → AreCounted (deeds_of c n es) s a b
+
 abbrev pub IdsCount : Type 0
-IdsCount = (c : Codec) → IsCodec c → (n : NetworkParts) (es : List Entry) (s : Plant) → Run c n es s → AllSent IsWritten (deeds_of c n es) → IsShort (deeds_of c n es) →
-    (a b : As) → a ≢ parent_as → AreCounted (deeds_of c n es) s a b
+IdsCount = InShortRuns IdsCountIn
 
 -- No two requests that an element sends to a neighbour have one id.
-abbrev pub ElementIdsDiffer : Type 0
-ElementIdsDiffer = (c : Codec) → IsCodec c → (n : NetworkParts) (es : List Entry) (s : Plant) → Run c n es s → AllSent IsWritten (deeds_of c n es) → IsShort (deeds_of c n es) →
+abbrev pub ElementIdsDifferIn : Codec → NetworkParts → List Entry → Plant → Type 0
+ElementIdsDifferIn c n es s =
     (m m' : Transcript) → Within m (deeds_of c n es) → Within m' (deeds_of c n es) → (a b : As) → a ≢ parent_as → (x : ℕ) (w w' : Wanted) (t t' : Addr) (rest rest' : List As) →
     SentIn m a (Inner b) (request_message x w t rest) → SentIn m' a (Inner b) (request_message x w' t' rest') →
     (m ≡ m') × (request_message x w t rest ≡ request_message x w' t' rest')
+
+abbrev pub ElementIdsDiffer : Type 0
+ElementIdsDiffer = InShortRuns ElementIdsDifferIn

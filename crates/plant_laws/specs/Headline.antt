@@ -13,13 +13,11 @@ use Rattle.plant_model.specs.Branches.{path_of}
 use Rattle.plant_model.specs.Element.{is_client}
 use Rattle.plant_model.specs.BorderGraph.{Found}
 use Rattle.plant_text.specs.Settings.{class_of}
-use Rattle.plant_model.specs.Plant.{Plant, Entry, Run, deeds_of}
-use Rattle.plant_model.specs.Laws.{IsCodec, IsNetwork}
+use Rattle.plant_model.specs.Plant.{Plant, Entry, deeds_of}
 use Rattle.plant_laws.specs.Transcript.{Transcript, Leg, domains}
-use Rattle.plant_laws.specs.About.{IsShort, Replies, IsAbout, IsViaParent, HasNoneAlong, IsLeastPath}
+use Rattle.plant_laws.specs.About.{Replies, IsAbout, IsViaParent, HasNoneAlong, IsLeastPath}
 use Rattle.plant_text.specs.Names.{parent_as}
-use Rattle.plant_laws.specs.Sending.{AllSent}
-use Rattle.pcep_messages.specs.Spelling.{IsWritten}
+use Rattle.plant_laws.specs.Runs.{InShortRuns}
 
 -- The path that a client gets was found by the parent over its border graph.
 pub record IsOfParent (c : Codec) (n : NetworkParts) (older now : Transcript) (d : As) (i : ℕ) (r : Reply) (paths : List Path) : Type 0 where
@@ -40,10 +38,13 @@ pub record IsOfChain (c : Codec) (n : NetworkParts) (older now : Transcript) (d 
 
 -- A client is answered by an element. Each path answered to a client is of least cost among all walks through the asked domains in order, each domain as it stood
 -- when its element took the request.
-abbrev pub LeastAnswers : Type 0
-LeastAnswers = (c : Codec) → IsCodec c → (n : NetworkParts) → IsNetwork n → (es : List Entry) (s : Plant) → Run c n es s → AllSent IsWritten (deeds_of c n es) → IsShort (deeds_of c n es) →
+abbrev pub LeastAnswersIn : Codec → NetworkParts → List Entry → Plant → Type 0
+LeastAnswersIn c n es s =
     (m older : Transcript) (d : As) (i : ℕ) (r : Reply) → is_client (class_of n (Outside i)) ≡ true → Replies (deeds_of c n es) m older d (Outside i) r →
     (paths : List Path) → r.answer ≡ Paths paths → (d ≢ parent_as) × (IsOfParent c n older m d i r paths ⊎ IsOfChain c n older m d i r paths)
+
+abbrev pub LeastAnswers : Type 0
+LeastAnswers = InShortRuns LeastAnswersIn
 
 -- There is no walk along the chain of the client's request.
 pub record HasNoneOfChain (c : Codec) (n : NetworkParts) (older now : Transcript) (d : As) (i : ℕ) (r : Reply) : Type 0 where
@@ -55,7 +56,10 @@ pub record HasNoneOfChain (c : Codec) (n : NetworkParts) (older now : Transcript
   pub none : HasNoneAlong wanted.query (domains chain) wanted.source wanted.target
 
 -- NO-PATH of nature 0 to a client says that there is none.
-abbrev pub NoneAnswers : Type 0
-NoneAnswers = (c : Codec) → IsCodec c → (n : NetworkParts) → IsNetwork n → (es : List Entry) (s : Plant) → Run c n es s → AllSent IsWritten (deeds_of c n es) → IsShort (deeds_of c n es) →
+abbrev pub NoneAnswersIn : Codec → NetworkParts → List Entry → Plant → Type 0
+NoneAnswersIn c n es s =
     (m older : Transcript) (d : As) (i : ℕ) (r : Reply) → is_client (class_of n (Outside i)) ≡ true → Replies (deeds_of c n es) m older d (Outside i) r →
     (vector : ℕ) → r.answer ≡ NoPath 0 vector → (d ≢ parent_as) × (IsViaParent c n older m d (Outside i) r.id None ⊎ HasNoneOfChain c n older m d i r)
+
+abbrev pub NoneAnswers : Type 0
+NoneAnswers = InShortRuns NoneAnswersIn

@@ -21,10 +21,9 @@ use Rattle.plant_text.specs.Settings.{class_of, life}
 use Rattle.plant_model.specs.Settings.{place}
 use Rattle.plant_model.specs.State.{Loads, Pops, Takes, Says, Ups, Downs, Clears, Solves, Expires, Hands}
 use Rattle.plant_model.specs.Plant.{Plant, Entry, Run, deeds_of, Segment}
-use Rattle.plant_model.specs.Laws.{IsCodec, IsNetwork}
+use Rattle.plant_model.specs.Laws.{IsNetwork}
 use Rattle.plant_laws.specs.Transcript.{Transcript, Within, opened}
-use Rattle.plant_laws.specs.Sending.{AllSent}
-use Rattle.pcep_messages.specs.Spelling.{IsWritten}
+use Rattle.plant_laws.specs.Runs.{InShortRuns}
 
 -- the last tick
 abbrev pub clock_at : Transcript → ℕ
@@ -71,12 +70,15 @@ abbrev pub shown_answer : Segment → Answer
 shown_answer segment = Paths (record { hops = open_of segment; metric = None } ∷ [])
 
 -- A request to expand a key gets the open segment where the peer may see it, and else one and the same refusal.
-abbrev pub ExpandsRightly : Type 0
-ExpandsRightly = (c : Codec) → IsCodec c → (n : NetworkParts) → IsNetwork n → (es : List Entry) (s : Plant) → Run c n es s → AllSent IsWritten (deeds_of c n es) →
+abbrev pub ExpandsRightlyIn : Codec → NetworkParts → List Entry → Plant → Type 0
+ExpandsRightlyIn c n es s =
     (d : As) (p : Peer) (a : Asked) (os : List Output) (older : Transcript) → d ≢ parent_as → Within (Takes d p (messages.PcReq (a ∷ [])) os ∷ older) (deeds_of c n es) →
     (r : Request) (key : ℕ) (pce : Addr) → c.check a d ≡ Admitted r → r.wish ≡ wishes.Expand key pce → opened c d p r.id older ≡ None →
     ((segment : Segment) × MaySee n older d p key pce segment × (os ≡ one_reply p r (shown_answer segment)))
     ⊎ (((segment : Segment) → ¬ MaySee n older d p key pce segment) × (os ≡ one_reply p r no_key))
+
+abbrev pub ExpandsRightly : Type 0
+ExpandsRightly = InShortRuns ExpandsRightlyIn
 
 -- The keys of an element have different numbers, which fit their field.
 abbrev pub KeysDiffer : Type 0

@@ -22,3 +22,4 @@ pub mod UnderWay
 pub mod Counted
 pub mod Matched
 pub mod Certified
+pub mod Runs

@@ -7,19 +7,16 @@ use Rattle.pcep_messages.specs.declared.message.Asked.{Asked}
 use Rattle.pcep_messages.specs.declared.message.Reply.{Reply}
 use Rattle.pcep_messages.specs.declared.message.Message.TheVariants as messages
 use Rattle.pcep_messages.specs.declared.message.Wanted.{Wanted}
-use Rattle.pcep_messages.specs.Spelling.{IsWritten}
 use Rattle.plant_text.specs.declared.settings.NetworkParts.{NetworkParts}
 use Rattle.plant_model.specs.declared.output.Output.{Output}
 use Rattle.plant_text.specs.Names.{parent_as}
 use Rattle.plant_model.specs.Wire.{Codec}
-use Rattle.plant_model.specs.Laws.{IsCodec}
 use Rattle.plant_model.specs.Writing.{request_message}
 use Rattle.plant_model.specs.Element.{Waits, Row}
 use Rattle.plant_model.specs.State.{Takes}
-use Rattle.plant_model.specs.Plant.{Pin, Plant, PlantDeed, Entry, Run, deeds_of}
+use Rattle.plant_model.specs.Plant.{Pin, Plant, PlantDeed, Entry, deeds_of}
 use Rattle.plant_laws.specs.Transcript.{Transcript, Within, opened, effect, Ends, standing, Handed, SentIn}
-use Rattle.plant_laws.specs.About.{IsShort}
-use Rattle.plant_laws.specs.Sending.{AllSent}
+use Rattle.plant_laws.specs.Runs.{InShortRuns}
 
 -- How the deed of b, with what was before it, is about the request y of a that a sent in the moment.
 pub data Answering (c : Codec) (a b : As) (y : ℕ) (sending : Transcript) (deed : PlantDeed) (older : Transcript) : Type 0 where
@@ -40,10 +37,13 @@ pub record IsMatched (c : Codec) (now : Transcript) (a b : As) (h : Row Pin) (y 
   pub answering : Answering c a b y sending deed older
 
 -- In every state of a run in which no id came round, of each reply that stands in an inner queue.
-abbrev pub RepliesMatch : Type 0
-RepliesMatch = (c : Codec) → IsCodec c → (n : NetworkParts) (es : List Entry) (s : Plant) → Run c n es s → AllSent IsWritten (deeds_of c n es) → IsShort (deeds_of c n es) →
+abbrev pub RepliesMatchIn : Codec → NetworkParts → List Entry → Plant → Type 0
+RepliesMatchIn c n es s =
     (a b : As) → a ≢ parent_as → (r : Reply) (put : Transcript) → Contains (standing b a (deeds_of c n es)) (record { message = messages.PcRep (r ∷ []); put = put }) →
     (h : Row Pin) → Contains (s.elements a).pending.rows h → h.1.item.stage ≡ Waits (Inner b) r.id → IsMatched c (deeds_of c n es) a b h r.id put
+
+abbrev pub RepliesMatch : Type 0
+RepliesMatch = InShortRuns RepliesMatchIn
 
 -- The same of a reply that a takes, with the moment in which a sent the request under its id.
 pub record Concerns (c : Codec) (a b : As) (y : ℕ) (deed : PlantDeed) (older : Transcript) : Type 0 where
@@ -61,6 +61,8 @@ pub record IsReplyTo (c : Codec) (now : Transcript) (a b : As) (r : Reply) : Typ
   pub said : SentIn (deed ∷ older) b (Inner a) (messages.PcRep (r ∷ []))
   pub concerns : Concerns c a b r.id deed older
 
+abbrev pub RepliesAnswerIn : Codec → NetworkParts → List Entry → Plant → Type 0
+RepliesAnswerIn c n es s = (a b : As) → a ≢ parent_as → (r : Reply) (os : List Output) (older : Transcript) → Within (Takes a (Inner b) (messages.PcRep (r ∷ [])) os ∷ older) (deeds_of c n es) → IsReplyTo c (deeds_of c n es) a b r
+
 abbrev pub RepliesAnswer : Type 0
-RepliesAnswer = (c : Codec) → IsCodec c → (n : NetworkParts) (es : List Entry) (s : Plant) → Run c n es s → AllSent IsWritten (deeds_of c n es) → IsShort (deeds_of c n es) →
-    (a b : As) → a ≢ parent_as → (r : Reply) (os : List Output) (older : Transcript) → Within (Takes a (Inner b) (messages.PcRep (r ∷ [])) os ∷ older) (deeds_of c n es) → IsReplyTo c (deeds_of c n es) a b r
+RepliesAnswer = InShortRuns RepliesAnswerIn

@@ -7,15 +7,13 @@ use Rattle.dom_base.specs.declared.names.Peer.TheVariants.{Inner}
 use Rattle.pcep_messages.specs.declared.message.Asked.{Asked}
 use Rattle.pcep_messages.specs.declared.message.Message.{Message}
 use Rattle.pcep_messages.specs.declared.message.Message.TheVariants as messages
-use Rattle.pcep_messages.specs.Spelling.{IsWritten}
 use Rattle.plant_text.specs.declared.settings.NetworkParts.{NetworkParts}
 use Rattle.plant_model.specs.declared.output.Output.{Output}
 use Rattle.plant_model.specs.Wire.{Codec}
-use Rattle.plant_model.specs.Laws.{IsCodec}
 use Rattle.plant_model.specs.State.{Takes, Pops}
-use Rattle.plant_model.specs.Plant.{Plant, Entry, Run, deeds_of}
+use Rattle.plant_model.specs.Plant.{Plant, Entry, deeds_of}
 use Rattle.plant_laws.specs.Transcript.{Transcript, Within, Standing, standing}
-use Rattle.plant_laws.specs.Sending.{AllSent}
+use Rattle.plant_laws.specs.Runs.{InShortRuns}
 
 pub record IsFromQueue (a b : As) (m : Message) (older : Transcript) : Type 0 where
   pub before : Transcript
@@ -28,5 +26,8 @@ pub record AreReadings (c : Codec) (n : NetworkParts) (es : List Entry) : Type 0
   pub queues : (a b : As) (m : Message) (os : List Output) (older : Transcript) → Within (Takes b (Inner a) m os ∷ older) (deeds_of c n es) → IsFromQueue a b m older
   pub single : (at : As) (p : Peer) (asks : List Asked) (os : List Output) (older : Transcript) → Within (Takes at p (messages.PcReq asks) os ∷ older) (deeds_of c n es) → length asks ≡ 1
 
+abbrev pub MessagesAreReadIn : Codec → NetworkParts → List Entry → Plant → Type 0
+MessagesAreReadIn c n es s = AreReadings c n es
+
 abbrev pub MessagesAreRead : Type 0
-MessagesAreRead = (c : Codec) → IsCodec c → (n : NetworkParts) (es : List Entry) (s : Plant) → Run c n es s → AllSent IsWritten (deeds_of c n es) → AreReadings c n es
+MessagesAreRead = InShortRuns MessagesAreReadIn

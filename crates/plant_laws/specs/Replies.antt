@@ -20,11 +20,9 @@ use Rattle.plant_model.specs.State.{Solves}
 use Rattle.path_keys.specs.declared.issued.Issued.{Issued}
 use Rattle.plant_model.specs.Plant.{Plant, Entry, Run, deeds_of, Segment}
 use Rattle.plant_model.specs.Blind.{is_closed}
-use Rattle.plant_model.specs.Laws.{IsCodec, IsNetwork}
 use Rattle.plant_laws.specs.Transcript.{Transcript, Within, Leg, domains, pinned}
-use Rattle.plant_laws.specs.About.{IsShort, Replies, IsAbout, HasNoneAlong, IsLeastPath}
-use Rattle.plant_laws.specs.Sending.{AllSent}
-use Rattle.pcep_messages.specs.Spelling.{IsWritten}
+use Rattle.plant_laws.specs.About.{Replies, IsAbout, HasNoneAlong, IsLeastPath}
+use Rattle.plant_laws.specs.Runs.{InShortRuns}
 
 -- the nodes that an asker of this class is answered for, in the first domain of a chain as it stood
 abbrev pub entries_along : Class → Wanted → List Leg → List Addr
@@ -47,16 +45,22 @@ pub record IsRightful (c : Codec) (n : NetworkParts) (older now : Transcript) (d
   pub right : AreRightful c n (class_of n p) chain wanted paths
 
 -- Each reply of paths that an element sends a closed peer is rightful.
-abbrev pub LeastReplies : Type 0
-LeastReplies = (c : Codec) → IsCodec c → (n : NetworkParts) → IsNetwork n → (es : List Entry) (s : Plant) → Run c n es s → AllSent IsWritten (deeds_of c n es) → IsShort (deeds_of c n es) →
+abbrev pub LeastRepliesIn : Codec → NetworkParts → List Entry → Plant → Type 0
+LeastRepliesIn c n es s =
     (m older : Transcript) (d : As) (p : Peer) (r : Reply) → d ≢ parent_as → is_closed n p ≡ true → Replies (deeds_of c n es) m older d p r →
     (paths : List Path) → r.answer ≡ Paths paths → IsRightful c n older m d p r paths
 
+abbrev pub LeastReplies : Type 0
+LeastReplies = InShortRuns LeastRepliesIn
+
 -- NO-PATH of nature 0 to a closed peer says that no entry has a walk.
-abbrev pub NoneReplies : Type 0
-NoneReplies = (c : Codec) → IsCodec c → (n : NetworkParts) → IsNetwork n → (es : List Entry) (s : Plant) → Run c n es s → AllSent IsWritten (deeds_of c n es) → IsShort (deeds_of c n es) →
+abbrev pub NoneRepliesIn : Codec → NetworkParts → List Entry → Plant → Type 0
+NoneRepliesIn c n es s =
     (m older : Transcript) (d : As) (p : Peer) (r : Reply) → d ≢ parent_as → is_closed n p ≡ true → Replies (deeds_of c n es) m older d p r →
     (vector : ℕ) → r.answer ≡ NoPath 0 vector → IsRightful c n older m d p r []
+
+abbrev pub NoneReplies : Type 0
+NoneReplies = InShortRuns NoneRepliesIn
 
 -- Each solve sends one message.
 abbrev pub SolvesSendOne : Type 0

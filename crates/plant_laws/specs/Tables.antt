@@ -5,19 +5,17 @@ use Rattle.dom_base.specs.declared.names.As.{As}
 use Rattle.dom_base.specs.declared.names.Peer.{Peer}
 use Rattle.pcep_messages.specs.declared.message.Request.{Request}
 use Rattle.pcep_messages.specs.declared.message.Wish.TheVariants as wishes
-use Rattle.pcep_messages.specs.Spelling.{IsWritten}
 use Rattle.request_table.specs.Pending.{ArePending}
 use Rattle.plant_text.specs.declared.settings.NetworkParts.{NetworkParts}
 use Rattle.plant_text.specs.Names.{parent_as}
 use Rattle.plant_model.specs.Wire.{Codec}
 use Rattle.plant_model.specs.Element.{Row}
 use Rattle.plant_model.specs.Parent.{AskingRow}
-use Rattle.plant_model.specs.Plant.{Pin, Plant, Entry, Run, deeds_of}
-use Rattle.plant_model.specs.Laws.{IsCodec}
+use Rattle.plant_model.specs.Plant.{Pin, Plant, Entry, deeds_of}
 use Rattle.plant_laws.specs.Transcript.{Transcript, loads, opened, Delivered}
 use Rattle.plant_laws.specs.Pending.{IsTaken}
 use Rattle.plant_laws.specs.Chains.{is_pending}
-use Rattle.plant_laws.specs.Sending.{AllSent}
+use Rattle.plant_laws.specs.Runs.{InShortRuns}
 
 -- a request that is pending at the parent
 pub record IsTakenAbove (c : Codec) (now : Transcript) (h : AskingRow) : Type 0 where
@@ -41,5 +39,8 @@ pub record AreTables (c : Codec) (n : NetworkParts) (es : List Entry) (s : Plant
   pub pending : (d : As) (p : Peer) (x : ℕ) (at : Transcript) → opened c d p x (deeds_of c n es) ≡ Some at → is_pending s d p x ≡ true
   pub «open» : (d : As) (p : Peer) (x : ℕ) → is_pending s d p x ≡ true → (at : Transcript) × (opened c d p x (deeds_of c n es) ≡ Some at)
 
+abbrev pub OpenIsPendingIn : Codec → NetworkParts → List Entry → Plant → Type 0
+OpenIsPendingIn c n es s = AreTables c n es s
+
 abbrev pub OpenIsPending : Type 0
-OpenIsPending = (c : Codec) → IsCodec c → (n : NetworkParts) (es : List Entry) (s : Plant) → Run c n es s → AllSent IsWritten (deeds_of c n es) → AreTables c n es s
+OpenIsPending = InShortRuns OpenIsPendingIn

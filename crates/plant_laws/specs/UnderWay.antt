@@ -13,12 +13,9 @@ use Rattle.plant_model.specs.Wire.{Codec}
 use Rattle.plant_model.specs.Writing.{request_message}
 use Rattle.plant_model.specs.Element.{Waits, Row}
 use Rattle.plant_model.specs.Parent.{Wait, AskingRow}
-use Rattle.plant_model.specs.Plant.{Pin, Plant, Entry, Run, deeds_of}
-use Rattle.plant_model.specs.Laws.{IsCodec, IsNetwork}
+use Rattle.plant_model.specs.Plant.{Pin, Plant, Entry}
 use Rattle.plant_laws.specs.Transcript.{count_answers}
-use Rattle.plant_laws.specs.About.{IsShort}
-use Rattle.plant_laws.specs.Sending.{AllSent}
-use Rattle.pcep_messages.specs.Spelling.{IsWritten}
+use Rattle.plant_laws.specs.Runs.{InShortRuns}
 
 -- The request that a sent on to b under an id, along a sequence, is on its way, is pending there, or is answered by what is on
 -- its way back.
@@ -38,5 +35,8 @@ pub record AreUnderWay (c : Codec) (s : Plant) : Type 0 where
   pub elements : (d : As) (h : Row Pin) (on : Peer) (id : ℕ) → Contains (s.elements d).pending.rows h → h.1.item.stage ≡ Waits on id → GoesOn c s d h on id
   pub parent : (h : AskingRow) (w : Wait) → Contains s.parent.pending.rows h → Contains h.1.item.waits w → (w.child ≢ parent_as) × IsUnderWay c s parent_as w.child w.id (w.child ∷ [])
 
+abbrev pub WaitsAreUnderWayIn : Codec → NetworkParts → List Entry → Plant → Type 0
+WaitsAreUnderWayIn c n es s = AreUnderWay c s
+
 abbrev pub WaitsAreUnderWay : Type 0
-WaitsAreUnderWay = (c : Codec) → IsCodec c → (n : NetworkParts) → IsNetwork n → (es : List Entry) (s : Plant) → Run c n es s → AllSent IsWritten (deeds_of c n es) → IsShort (deeds_of c n es) → AreUnderWay c s
+WaitsAreUnderWay = InShortRuns WaitsAreUnderWayIn

@@ -4,17 +4,15 @@ use Rattle.std.specs.Prelude.{◌≡◌, ◌⊎◌, ℕ, false, List, [], ◌∷
 use Rattle.dom_base.specs.declared.names.As.{As}
 use Rattle.dom_base.specs.declared.names.Peer.{Peer}
 use Rattle.dom_base.specs.declared.names.Peer.TheVariants.{Inner}
-use Rattle.pcep_messages.specs.Spelling.{IsWritten}
 use Rattle.request_table.specs.Pending.{same_key}
 use Rattle.plant_text.specs.declared.settings.NetworkParts.{NetworkParts}
 use Rattle.plant_model.specs.Names.{the_parent, same_id}
 use Rattle.plant_model.specs.Wire.{Codec}
-use Rattle.plant_model.specs.Laws.{IsCodec}
 use Rattle.plant_model.specs.Writing.{request_message}
 use Rattle.plant_model.specs.Element.{Waits, Row, Stage, Ready}
-use Rattle.plant_model.specs.Plant.{Pin, Plant, Entry, Run, deeds_of}
+use Rattle.plant_model.specs.Plant.{Pin, Plant, Entry, deeds_of}
 use Rattle.plant_laws.specs.Transcript.{Transcript, opened, SentIn}
-use Rattle.plant_laws.specs.Sending.{AllSent}
+use Rattle.plant_laws.specs.Runs.{InShortRuns}
 
 -- to the parent without a sequence, or to the next domain
 abbrev pub GoesOn : List As → List As → Peer → Type 0
@@ -29,9 +27,11 @@ pub record WasSentOn (c : Codec) (now : Transcript) (d : As) (h : Row Pin) (b : 
   pub sent : SentIn at d b (request_message y h.1.item.wanted h.1.item.wanted.target rest)
   pub goes : GoesOn h.1.item.sequence rest b
 
+abbrev pub WaitsAreSentIn : Codec → NetworkParts → List Entry → Plant → Type 0
+WaitsAreSentIn c n es s = (d : As) (h : Row Pin) → Contains (s.elements d).pending.rows h → (b : Peer) (y : ℕ) → h.1.item.stage ≡ Waits b y → WasSentOn c (deeds_of c n es) d h b y
+
 abbrev pub WaitsAreSent : Type 0
-WaitsAreSent = (c : Codec) → IsCodec c → (n : NetworkParts) (es : List Entry) (s : Plant) → Run c n es s → AllSent IsWritten (deeds_of c n es) →
-    (d : As) (h : Row Pin) → Contains (s.elements d).pending.rows h → (b : Peer) (y : ℕ) → h.1.item.stage ≡ Waits b y → WasSentOn c (deeds_of c n es) d h b y
+WaitsAreSent = InShortRuns WaitsAreSentIn
 
 -- two stages wait for the answer to one id
 abbrev pub wait_alike : Stage → Stage → Bool
@@ -40,7 +40,10 @@ wait_alike (Waits p x) (Ready branches) = false
 wait_alike (Ready branches) stage = false
 
 -- No two requests of an element wait for the answer to one id of a peer, also where ids came round.
-abbrev pub WaitsApart : Type 0
-WaitsApart = (c : Codec) → IsCodec c → (n : NetworkParts) (es : List Entry) (s : Plant) → Run c n es s → AllSent IsWritten (deeds_of c n es) →
+abbrev pub WaitsApartIn : Codec → NetworkParts → List Entry → Plant → Type 0
+WaitsApartIn c n es s =
     (d : As) (h g : Row Pin) → Contains (s.elements d).pending.rows h → Contains (s.elements d).pending.rows g →
     same_key h.1.key g.1.key ≡ false → wait_alike h.1.item.stage g.1.item.stage ≡ false
+
+abbrev pub WaitsApart : Type 0
+WaitsApart = InShortRuns WaitsApartIn

@@ -1,41 +1,41 @@
 //! The laws of a network of path computation elements, over all its runs. They are the contracts of calls that do nothing; each
-//! statement stands in one file of specs/.
+//! statement stands in one file of specs/. Where ids or messages read come in, the runs are those in which no element and no parent
+//! sends a neighbour more requests than there are ids.
 #![tactic(auto)]
 
-ghost use Rattle.plant_laws.specs.Answered.{RequestsAreAnsweredOnce};
-ghost use Rattle.plant_laws.specs.Certified.{SolvesCertify};
-ghost use Rattle.plant_laws.specs.Chains.{OneChain, QuietIsAnswered};
+ghost use Rattle.plant_laws.specs.Answered.{RequestsAreAnsweredOnce, RequestsAreAnsweredOnceIn};
+ghost use Rattle.plant_laws.specs.Certified.{SolvesCertify, SolvesCertifyIn};
+ghost use Rattle.plant_laws.specs.Chains.{OneChain, OneChainIn, QuietIsAnswered, QuietIsAnsweredIn};
 ghost use Rattle.plant_laws.specs.Counted.{ElementIdsDiffer, IdsCount};
-ghost use Rattle.plant_laws.specs.Headline.{LeastAnswers, NoneAnswers};
+ghost use Rattle.plant_laws.specs.Headline.{LeastAnswers, LeastAnswersIn, NoneAnswers, NoneAnswersIn};
 ghost use Rattle.plant_laws.specs.Issuing.{ExpandedAreIssued, KeysAreIssued, ToldKeysLast};
-ghost use Rattle.plant_laws.specs.Keys.{ExpandsRightly, KeysDiffer};
+ghost use Rattle.plant_laws.specs.Keys.{ExpandsRightly, ExpandsRightlyIn, KeysDiffer};
 ghost use Rattle.plant_laws.specs.Matched.{RepliesAnswer, RepliesMatch};
 ghost use Rattle.plant_laws.specs.Reading.{OutsideIsRead};
 ghost use Rattle.plant_laws.specs.Readings.{MessagesAreRead};
-ghost use Rattle.plant_laws.specs.Replies.{LeastReplies, NoneReplies, SolvesSendOne};
+ghost use Rattle.plant_laws.specs.Replies.{LeastReplies, LeastRepliesIn, NoneReplies, NoneRepliesIn, SolvesSendOne};
+ghost use Rattle.plant_laws.specs.Runs.{AllIsWritten, InShortRuns, OverPcep};
 ghost use Rattle.plant_laws.specs.Solves.{SolvesTell};
 ghost use Rattle.plant_laws.specs.Standing.{PinsAreCurrent, QueuesStand};
 ghost use Rattle.plant_laws.specs.Tables.{OpenIsPending};
 ghost use Rattle.plant_laws.specs.Topologies.{PinsAreDomains};
 ghost use Rattle.plant_laws.specs.Twins.{TwinWorlds};
-ghost use Rattle.plant_laws.specs.UnderWay.{WaitsAreUnderWay};
+ghost use Rattle.plant_laws.specs.UnderWay.{WaitsAreUnderWay, WaitsAreUnderWayIn};
 ghost use Rattle.plant_laws.specs.Waiting.{WaitsApart, WaitsAreSent};
 ghost use Rattle.plant_laws.specs.Worlds.{BorderJoins, SaysAsBlind, SaysOneThing, TwoWorlds};
 
 // ---- least costs
 
-/// Where all that a run sent is in written form: each path that a client is answered is of least cost among
-/// all walks through the asked domains in order, each domain as it stood when its element took the request;
-/// and NO-PATH of nature 0 says that there is none. For a request that went to the parent, the same over its
-/// border graph.
+/// Each path that a client is answered is of least cost among all walks through the asked domains in order,
+/// each domain as it stood when its element took the request; and NO-PATH of nature 0 says that there is
+/// none. For a request that went to the parent, the same over its border graph.
 pub fn answers_are_least()
     ensures paths { LeastAnswers }
     ensures none { NoneAnswers }
 {}
 
-/// Where all that a run sent is in written form: what an element replies to its neighbours and the parent is,
-/// for each entry, of least cost among all walks through the rest of the domains, and an entry without a
-/// path has none.
+/// What an element replies to its neighbours and the parent is, for each entry, of least cost among all
+/// walks through the rest of the domains, and an entry without a path has none.
 pub fn replies_are_least()
     ensures paths { LeastReplies }
     ensures none { NoneReplies }
@@ -54,32 +54,32 @@ pub fn solves_tell()
     ensures { SolvesTell }
 {}
 
-/// Where all that a run sent is in written form: the certificate of a solve meets the conditions over the
-/// topology that the element had when it took the request, from the seeds that the taken reply gives.
+/// The certificate of a solve meets the conditions over the topology that the element had when it took the
+/// request, from the seeds that the taken reply gives.
 pub fn solves_certify()
     ensures { SolvesCertify }
 {}
 
 // ---- requests
 
-/// Where all that a run sent is in written form: in a quiet state no request is pending.
+/// In a quiet state no request is pending.
 pub fn quiet_is_answered()
     ensures { QuietIsAnswered }
 {}
 
-/// Where all that a run sent is in written form: each request that waits is in the next's queue, or pending
-/// there with the rest of its sequence, or its answer is in the queue back.
+/// Each request that waits is in the next's queue, or pending there with the rest of its sequence, or its
+/// answer is in the queue back.
 pub fn waits_are_under_way()
     ensures { WaitsAreUnderWay }
 {}
 
-/// Where all that a run sent is in written form: each path request that is accepted is pending, or is
-/// answered exactly once, or was dropped as its peer cancelled it or went down.
+/// Each path request that is accepted is pending, or is answered exactly once, or was dropped as its peer
+/// cancelled it or went down.
 pub fn requests_are_answered_once()
     ensures { RequestsAreAnsweredOnce }
 {}
 
-/// Where all that a run sent is in written form: a request has one chain.
+/// A request has one chain.
 pub fn one_chain()
     ensures { OneChain }
 {}
@@ -116,8 +116,8 @@ pub fn twin_worlds()
 
 // ---- keys
 
-/// Where all that a run sent is in written form: a request to expand a key gets the open segment where the
-/// peer may see it, and else one and the same refusal.
+/// A request to expand a key gets the open segment where the peer may see it, and else one and the same
+/// refusal.
 pub fn expands_rightly()
     ensures { ExpandsRightly }
 {}
@@ -144,6 +144,13 @@ pub fn expanded_are_issued()
     ensures { ExpandedAreIssued }
 {}
 
+// ---- what is sent
+
+/// All that is sent in a run is in written form, so it is read as it was meant.
+pub fn all_is_written()
+    ensures { InShortRuns AllIsWritten }
+{}
+
 // ---- what stands by the transcript
 
 /// In every state of a run the inner queues hold the texts of what stands in them by the transcript.
@@ -156,8 +163,8 @@ pub fn pins_are_current()
     ensures { PinsAreCurrent }
 {}
 
-/// In every state of a run each current and each pinned topology obeys the rules of a topology, and is of its
-/// element's own domain.
+/// In every state of a run each current and each pinned topology obeys the rules of a topology, and is of
+/// its element's own domain.
 pub fn pins_are_domains()
     ensures { PinsAreDomains }
 {}
@@ -168,43 +175,58 @@ pub fn outside_is_read()
     ensures { OutsideIsRead }
 {}
 
-/// Where all that a run sent is in written form, each message that is taken from an inner queue is the one
-/// that stood there first, and requests are taken one at a time.
+/// Each message that is taken from an inner queue is the one that stood there first, and requests are taken
+/// one at a time.
 pub fn messages_are_read()
     ensures { MessagesAreRead }
 {}
 
-/// Where all that a run sent is in written form, the requests that are pending are those that the transcript
-/// shows open, each as it was delivered, with the topology that was current then.
+/// The requests that are pending are those that the transcript shows open, each as it was delivered, with
+/// the topology that was current then.
 pub fn open_is_pending()
     ensures { OpenIsPending }
 {}
 
-/// Where all that a run sent is in written form, a request that waits at an element was sent on in the moment
-/// that delivered it, under the id for which it waits.
+/// A request that waits at an element was sent on in the moment that delivered it, under the id for which it
+/// waits.
 pub fn waits_are_sent()
     ensures { WaitsAreSent }
 {}
 
-/// Where all that a run sent is in written form, no two requests of an element wait for the answer to one id
-/// of a peer.
+/// No two requests of an element wait for the answer to one id of a peer.
 pub fn waits_apart()
     ensures { WaitsApart }
 {}
 
-/// Where all that a run sent is in written form and no id came round, the last id of an element towards a
-/// neighbour is the number of the requests that it sent there, what waits has no greater id, and no id is
-/// given twice.
+/// The last id of an element towards a neighbour is the number of the requests that it sent there, what
+/// waits has no greater id, and no id is given twice.
 pub fn ids_count()
     ensures counts { IdsCount }
     ensures differ { ElementIdsDiffer }
 {}
 
-/// Where all that a run sent is in written form and no id came round, a reply that stands in the queue to an
-/// element, under the id for which a row of it waits, answers the very request that the element sent in the
-/// moment that opened the row: the reply was put by the deed that ended that request, or that took it and
-/// answered at once. The same of each reply that an element takes.
+/// A reply that stands in the queue to an element, under the id for which a row of it waits, answers the
+/// very request that the element sent in the moment that opened the row: the reply was put by the deed that
+/// ended that request, or that took it and answered at once. The same of each reply that an element takes.
 pub fn replies_match()
     ensures standing { RepliesMatch }
     ensures taken { RepliesAnswer }
+{}
+
+// ---- over PCEP
+
+/// Over the wire of PCEP, with no premise but the rules of settings and the number of ids: what clients and
+/// closed peers are answered, certificates, quiet, what is under way, one answer and one chain for each
+/// request, and what a key shows to whom.
+pub fn laws_over_pcep()
+    ensures paths { OverPcep LeastAnswersIn }
+    ensures none { OverPcep NoneAnswersIn }
+    ensures told { OverPcep LeastRepliesIn }
+    ensures told_none { OverPcep NoneRepliesIn }
+    ensures certified { OverPcep SolvesCertifyIn }
+    ensures quiet { OverPcep QuietIsAnsweredIn }
+    ensures under_way { OverPcep WaitsAreUnderWayIn }
+    ensures once { OverPcep RequestsAreAnsweredOnceIn }
+    ensures chain { OverPcep OneChainIn }
+    ensures keys { OverPcep ExpandsRightlyIn }
 {}

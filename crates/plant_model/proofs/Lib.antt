@@ -5,6 +5,7 @@ pub mod SentOn
 pub mod PartsRead
 pub mod OnePart
 pub mod ReadSound
+pub mod ReadNumbers
 pub mod Sends
 pub mod WireLaws
 pub mod Live

@@ -1,5 +1,5 @@
 -- What is read from bytes is within the ranges of the wire.
-use Rattle.std.proofs.Common.{◌≡◌, ◌≤◌, ◌<◌, ◌^◌, ◌+◌, ◌-◌, ◌*◌, ◌/◌, ◌%◌, ℕ, Bool, true, false, cond, ◌==◌, ◌&&◌, ◌||◌, nat_le, nat_lt, List, [], ◌∷◌, length, take, drop, map, Option, Some, None, Result, Ok, Err, sym, ◌∙◌, ap, subst, inl, inr, refl, arith, length-take}
+use Rattle.std.proofs.Common.{◌≡◌, ◌≤◌, ◌<◌, ◌^◌, ◌+◌, ◌-◌, ◌*◌, ◌/◌, ◌%◌, ℕ, Bool, true, false, cond, ◌==◌, ◌&&◌, ◌||◌, nat_le, nat_lt, List, [], ◌∷◌, length, take, drop, map, Option, Some, None, Result, Ok, Err, sym, ◌∙◌, ap, subst, inl, inr, refl, arith, length-take, ◌⊎◌}
 use Rattle.std.specs.Prelude.{slice_index}
 use Rattle.std.specs.Option.{option_or}
 use Rattle.std.specs.List.{filter_map, cons_option, AllByRecursion}
@@ -37,7 +37,10 @@ use Rattle.pcep_messages.specs.declared.message.Message.{Message}
 use Rattle.pcep_messages.specs.declared.message.Message.TheVariants as messages
 use Rattle.pcep_messages.specs.declared.message.Asked.{Asked}
 use Rattle.pcep_messages.specs.declared.groups.Closer.TheVariants as closers
-use Rattle.pcep_messages.specs.Groups.{is_rp, cut, closes_by, begin_with, go_on_with, asked_of, requests_of, first_said}
+use Rattle.pcep_messages.specs.declared.message.Reply.{Reply}
+use Rattle.pcep_messages.specs.declared.message.ErrorReport.{ErrorReport}
+use Rattle.pcep_messages.specs.declared.groups.Closer.{Closer}
+use Rattle.pcep_messages.specs.Groups.{is_rp, cut, closes_by, begin_with, go_on_with, asked_of, requests_of, first_said, reply_groups, reply_of, report_groups, report_of}
 use Rattle.pcep_messages.specs.Messages.{placed, member_at, members_of, content_of, message_of}
 use Rattle.pcep_messages.specs.Said.{with_bit, first_with_bit, end_points_in, end_points_of, is_passed_over}
 use Rattle.plant_model.specs.Wire.{Bytes}
@@ -208,6 +211,7 @@ hops_sound bytes xs all e = all_from hop_at AreOctets HopIsSound tail_bytes (λ 
 
 -- the parts of a body that a request sends on
 abbrev pub IsSound : Body → Type 0
+IsSound (bodies.Open o) = (o.offer.keepalive < 256) × (o.offer.dead < 256)
 IsSound (bodies.Rp flags id) = (flags < 2 ^ 32) × (id < 2 ^ 32)
 IsSound (bodies.EndPoints source target) = IsAddr source × IsAddr target × (bits_of source ≡ bits_of target)
 IsSound (bodies.Bandwidth word) = IsWord word
@@ -265,107 +269,266 @@ module _ (content : Bytes) (all : AreOctets content) where
       (either (class == 4) (of.longer_end_points_of content) (Some (bodies.Unread content))
       (by_length 32 content false _ (λ e. (wide_fits content all 0, wide_fits content all 16, refl))) tt) tt
 
-  body_sound : (class kind : ℕ) → Maybe IsSound (body_of class kind content)
+  pub body_sound : (class kind : ℕ) → Maybe IsSound (body_of class kind content)
   unfolding body_of
   body_sound class kind =
       either (kind == 1) _ (beyond_first class kind content)
-      (either (class == 1) (of.open_of content) _ (by_tlvs (of.word_behind 4 content 16) _ (λ w. tt))
+      (either (class == 1) (of.open_of content) _ (by_tlvs (of.word_behind 4 content 16) _ (λ w. (byte_at content all 1, byte_at content all 2)))
       (either (class == 2) (of.rp_of content) _ (by_tlvs (of.word_behind 8 content 0) _ (λ w. (word 0, word 4)))
       (others_sound class)))
       (second_sound class kind)
 
 -- ---- objects
 
+-- What holds of each body that is read, by its type, holds of the objects of messages.
+module _ (Q : ℕ → Body → Type 0) (bodies_have : (content : Bytes) → AreOctets content → (class kind : ℕ) → Maybe (Q kind) (body_of class kind content)) where
+  abbrev pub Has : Object → Type 0
+  Has o = Q o.kind o.body
+
+  object_is : (x y : Object × ℕ) → ◌≡◌ {A = Result (Object × ℕ) (ℕ → Bad)} (Ok x) (Ok y) → x ≡ y
+  object_is x y e = cc
+
+  object_has : (bytes : Bytes) (o : Object) (len : ℕ) → AreOctets bytes → member_at bytes ≡ Ok (o, len) → Has o
+  object_has [] o len all e = absurd (no e)
+    where
+      no : ◌≡◌ {A = Result (Object × ℕ) (ℕ → Bad)} (Err Malformed) (Ok (o, len)) → ⊥
+      no h = cc
+  object_has (a ∷ []) o len all e = absurd (no e)
+    where
+      no : ◌≡◌ {A = Result (Object × ℕ) (ℕ → Bad)} (Err Malformed) (Ok (o, len)) → ⊥
+      no h = cc
+  object_has (a ∷ b ∷ []) o len all e = absurd (no e)
+    where
+      no : ◌≡◌ {A = Result (Object × ℕ) (ℕ → Bad)} (Err Malformed) (Ok (o, len)) → ⊥
+      no h = cc
+  object_has (a ∷ b ∷ c ∷ []) o len all e = absurd (no e)
+    where
+      no : ◌≡◌ {A = Result (Object × ℕ) (ℕ → Bad)} (Err Malformed) (Ok (o, len)) → ⊥
+      no h = cc
+  object_has (class ∷ second ∷ high ∷ low ∷ bytes) o len all e =
+      go (nat_lt (length bytes + 4) n) (nat_lt n 4) (n % 4 == 0) (body_of class (second / 16) (take (n - 4) bytes)) (bodies_have (take (n - 4) bytes) content class (second / 16)) e
+    where
+      n : ℕ
+      n = 256 * high + low
+
+      content : AreOctets (take (n - 4) bytes)
+      content = All-take (λ (b : ℕ). b < 256) (n - 4) bytes (tail_bytes low bytes (tail_bytes high (low ∷ bytes) (tail_bytes second (high ∷ low ∷ bytes) (tail_bytes class (second ∷ high ∷ low ∷ bytes) all))))
+
+      no : ◌≡◌ {A = Result (Object × ℕ) (ℕ → Bad)} (Err Malformed) (Ok (o, len)) → ⊥
+      no h = cc
+
+      go : (p q r : Bool) (body : Option Body) → Maybe (Q (second / 16)) body →
+          placed (cond p (Err (λ _. faults.Short)) (cond q (Err (λ _. faults.BadLength)) (cond r (with_body class second n body) (Err (λ _. faults.BadLength))))) ≡ Ok (o, len) → Has o
+      go true q r body s h = absurd (no h)
+      go false true r body s h = absurd (no h)
+      go false false false body s h = absurd (no h)
+      go false false true None s h = absurd (no h)
+      go false false true (Some body) s h =
+          let made : Object = record { class = class; kind = second / 16; must = second / 2 % 2 == 1; body = body } in
+          subst Has (ap (λ (x : Object × ℕ). x.0) (object_is (made, n) (o, len) h)) s
+
+  members_have : (content : Bytes) (os : List Object) → AreOctets content → members_of content ≡ Ok os → AllByRecursion Has os
+  members_have content os all e = all_from member_at AreOctets Has tail_bytes (λ b o len q h. object_has b o len q h) 4 0 content os all e
+
+  -- ---- the one request of a message
+
+  front_has : (by : Closer) (closed : Bool) (os : List Object) → AllByRecursion Has os → AllByRecursion Has (cut (closes_by by) closed os).0
+  front_has by closed [] all = tt
+  front_has by closed (o ∷ os) all = go (is_rp o) closed (λ c. front_has by c os all.1)
+    where
+      go : (b c : Bool) → ((d : Bool) → AllByRecursion Has (cut (closes_by by) d os).0) →
+          AllByRecursion Has (cond (b && c) (begin_with o (cut (closes_by by) (closes_by by o) os)) (go_on_with o (cut (closes_by by) (c || closes_by by o) os))).0
+      go true true more = tt
+      go true false more = (all.0, more (false || closes_by by o))
+      go false c more = (all.0, more (c || closes_by by o))
+
+  pub request_has : (bytes : Bytes) (a : Asked) → AreOctets bytes → message_or_none (message_of bytes) ≡ Some (messages.PcReq (a ∷ [])) → AllByRecursion Has a.objects
+  request_has [] a all e = absurd (no e)
+    where
+      no : ◌≡◌ {A = Option Message} None (Some (messages.PcReq (a ∷ []))) → ⊥
+      no h = cc
+  request_has (x ∷ []) a all e = absurd (no e)
+    where
+      no : ◌≡◌ {A = Option Message} None (Some (messages.PcReq (a ∷ []))) → ⊥
+      no h = cc
+  request_has (x ∷ y ∷ []) a all e = absurd (no e)
+    where
+      no : ◌≡◌ {A = Option Message} None (Some (messages.PcReq (a ∷ []))) → ⊥
+      no h = cc
+  request_has (x ∷ y ∷ z ∷ []) a all e = absurd (no e)
+    where
+      no : ◌≡◌ {A = Option Message} None (Some (messages.PcReq (a ∷ []))) → ⊥
+      no h = cc
+  request_has (first ∷ kind ∷ high ∷ low ∷ content) a all e =
+      let m : Message = messages.PcReq (a ∷ []) in
+      let at : kind ≡ 3 = frame_kind first kind high low content m e in
+      let frame = frame_is first kind high low content m e in
+      let is = all_is 3 (members_of content) m (ap (λ k. message_or_none (content_of k content)) (sym at) ∙ frame.is) in
+      let bytes : AreOctets content = tail_bytes low content (tail_bytes high (low ∷ content) (tail_bytes kind (high ∷ low ∷ content) (tail_bytes first (kind ∷ high ∷ low ∷ content) all))) in
+      subst (λ (os : List Object). AllByRecursion Has os) (front_is is.0 is.2) (front_has closers.Rp false is.0 (members_have content is.0 bytes is.1))
+    where
+      front_is : (os : List Object) → messages.PcReq (map asked_of (requests_of os)) ≡ messages.PcReq (a ∷ []) → (cut (closes_by closers.Rp) false os).0 ≡ a.objects
+      front_is os h = ap (λ (x : Asked). x.objects) (head_is (asked_of (cut (closes_by closers.Rp) false os).0) (map asked_of (cut (closes_by closers.Rp) false os).1) h)
+        where
+          head_is : (x : Asked) (xs : List Asked) → messages.PcReq (x ∷ xs) ≡ messages.PcReq (a ∷ []) → x ≡ a
+          head_is x xs h' = cc
+
+  -- the groups behind the first
+  behind_has : (by : Closer) (closed : Bool) (os : List Object) → AllByRecursion Has os → AllByRecursion (AllByRecursion Has) (cut (closes_by by) closed os).1
+  behind_has by closed [] all = tt
+  behind_has by closed (o ∷ os) all = go (is_rp o) closed (λ c. behind_has by c os all.1)
+    where
+      go : (b c : Bool) → ((d : Bool) → AllByRecursion (AllByRecursion Has) (cut (closes_by by) d os).1) →
+          AllByRecursion (AllByRecursion Has) (cond (b && c) (begin_with o (cut (closes_by by) (closes_by by o) os)) (go_on_with o (cut (closes_by by) (c || closes_by by o) os))).1
+      go true true more = ((all.0, front_has by (closes_by by o) os all.1), more (closes_by by o))
+      go true false more = more (false || closes_by by o)
+      go false c more = more (c || closes_by by o)
+
+  -- the objects of each reply
+  pub replies_have : (bytes : Bytes) (rs : List Reply) → AreOctets bytes → message_or_none (message_of bytes) ≡ Some (messages.PcRep rs) →
+      (groups : List (List Object)) × AllByRecursion (AllByRecursion Has) groups × (filter_map reply_of groups ≡ rs)
+  replies_have [] rs all e = absurd (no e)
+    where
+      no : ◌≡◌ {A = Option Message} None (Some (messages.PcRep rs)) → ⊥
+      no h = cc
+  replies_have (x ∷ []) rs all e = absurd (no e)
+    where
+      no : ◌≡◌ {A = Option Message} None (Some (messages.PcRep rs)) → ⊥
+      no h = cc
+  replies_have (x ∷ y ∷ []) rs all e = absurd (no e)
+    where
+      no : ◌≡◌ {A = Option Message} None (Some (messages.PcRep rs)) → ⊥
+      no h = cc
+  replies_have (x ∷ y ∷ z ∷ []) rs all e = absurd (no e)
+    where
+      no : ◌≡◌ {A = Option Message} None (Some (messages.PcRep rs)) → ⊥
+      no h = cc
+  replies_have (first ∷ kind ∷ high ∷ low ∷ content) rs all e =
+      let m : Message = messages.PcRep rs in
+      let at : kind ≡ 4 = frame_kind first kind high low content m e in
+      let frame = frame_is first kind high low content m e in
+      let is = all_is 4 (members_of content) m (ap (λ k. message_or_none (content_of k content)) (sym at) ∙ frame.is) in
+      let bytes : AreOctets content = tail_bytes low content (tail_bytes high (low ∷ content) (tail_bytes kind (high ∷ low ∷ content) (tail_bytes first (kind ∷ high ∷ low ∷ content) all))) in
+      (reply_groups is.0, behind_has closers.Rp true is.0 (members_have content is.0 bytes is.1), replies_are (filter_map reply_of (reply_groups is.0)) rs is.2)
+    where
+      replies_are : (a b : List Reply) → messages.PcRep a ≡ messages.PcRep b → a ≡ b
+      replies_are a b h = cc
+
+  -- the objects of each report
+  reports_of : (os : List Object) → AllByRecursion Has os → AllByRecursion (AllByRecursion Has) (report_groups os)
+  reports_of [] all = tt
+  reports_of (o ∷ os) all = (front_has closers.Report false (o ∷ os) all, behind_has closers.Report false (o ∷ os) all)
+
+  pub reports_have : (bytes : Bytes) (rs : List ErrorReport) → AreOctets bytes → message_or_none (message_of bytes) ≡ Some (messages.PcErr rs) →
+      (groups : List (List Object)) × AllByRecursion (AllByRecursion Has) groups × (map report_of groups ≡ rs)
+  reports_have [] rs all e = absurd (no e)
+    where
+      no : ◌≡◌ {A = Option Message} None (Some (messages.PcErr rs)) → ⊥
+      no h = cc
+  reports_have (x ∷ []) rs all e = absurd (no e)
+    where
+      no : ◌≡◌ {A = Option Message} None (Some (messages.PcErr rs)) → ⊥
+      no h = cc
+  reports_have (x ∷ y ∷ []) rs all e = absurd (no e)
+    where
+      no : ◌≡◌ {A = Option Message} None (Some (messages.PcErr rs)) → ⊥
+      no h = cc
+  reports_have (x ∷ y ∷ z ∷ []) rs all e = absurd (no e)
+    where
+      no : ◌≡◌ {A = Option Message} None (Some (messages.PcErr rs)) → ⊥
+      no h = cc
+  reports_have (first ∷ kind ∷ high ∷ low ∷ content) rs all e =
+      let m : Message = messages.PcErr rs in
+      let at : kind ≡ 6 = frame_kind first kind high low content m e in
+      let frame = frame_is first kind high low content m e in
+      let is = all_is 6 (members_of content) m (ap (λ k. message_or_none (content_of k content)) (sym at) ∙ frame.is) in
+      let bytes : AreOctets content = tail_bytes low content (tail_bytes high (low ∷ content) (tail_bytes kind (high ∷ low ∷ content) (tail_bytes first (kind ∷ high ∷ low ∷ content) all))) in
+      (report_groups is.0, reports_of is.0 (members_have content is.0 bytes is.1), reports_are (map report_of (report_groups is.0)) rs is.2)
+    where
+      reports_are : (a b : List ErrorReport) → messages.PcErr a ≡ messages.PcErr b → a ≡ b
+      reports_are a b h = cc
+
 abbrev pub ObjectIsSound : Object → Type 0
 ObjectIsSound o = IsSound o.body
 
-object_is : (x y : Object × ℕ) → ◌≡◌ {A = Result (Object × ℕ) (ℕ → Bad)} (Ok x) (Ok y) → x ≡ y
-object_is x y e = cc
-
-object_sound : (bytes : Bytes) (o : Object) (len : ℕ) → AreOctets bytes → member_at bytes ≡ Ok (o, len) → ObjectIsSound o
-object_sound [] o len all e = absurd (no e)
-  where
-    no : ◌≡◌ {A = Result (Object × ℕ) (ℕ → Bad)} (Err Malformed) (Ok (o, len)) → ⊥
-    no h = cc
-object_sound (a ∷ []) o len all e = absurd (no e)
-  where
-    no : ◌≡◌ {A = Result (Object × ℕ) (ℕ → Bad)} (Err Malformed) (Ok (o, len)) → ⊥
-    no h = cc
-object_sound (a ∷ b ∷ []) o len all e = absurd (no e)
-  where
-    no : ◌≡◌ {A = Result (Object × ℕ) (ℕ → Bad)} (Err Malformed) (Ok (o, len)) → ⊥
-    no h = cc
-object_sound (a ∷ b ∷ c ∷ []) o len all e = absurd (no e)
-  where
-    no : ◌≡◌ {A = Result (Object × ℕ) (ℕ → Bad)} (Err Malformed) (Ok (o, len)) → ⊥
-    no h = cc
-object_sound (class ∷ second ∷ high ∷ low ∷ bytes) o len all e =
-    go (nat_lt (length bytes + 4) n) (nat_lt n 4) (n % 4 == 0) (body_of class (second / 16) (take (n - 4) bytes)) (body_sound (take (n - 4) bytes) content class (second / 16)) e
-  where
-    n : ℕ
-    n = 256 * high + low
-
-    content : AreOctets (take (n - 4) bytes)
-    content = All-take (λ (b : ℕ). b < 256) (n - 4) bytes (tail_bytes low bytes (tail_bytes high (low ∷ bytes) (tail_bytes second (high ∷ low ∷ bytes) (tail_bytes class (second ∷ high ∷ low ∷ bytes) all))))
-
-    no : ◌≡◌ {A = Result (Object × ℕ) (ℕ → Bad)} (Err Malformed) (Ok (o, len)) → ⊥
-    no h = cc
-
-    go : (p q r : Bool) (body : Option Body) → Maybe IsSound body →
-        placed (cond p (Err (λ _. faults.Short)) (cond q (Err (λ _. faults.BadLength)) (cond r (with_body class second n body) (Err (λ _. faults.BadLength))))) ≡ Ok (o, len) → ObjectIsSound o
-    go true q r body s h = absurd (no h)
-    go false true r body s h = absurd (no h)
-    go false false false body s h = absurd (no h)
-    go false false true None s h = absurd (no h)
-    go false false true (Some body) s h =
-        let made : Object = record { class = class; kind = second / 16; must = second / 2 % 2 == 1; body = body } in
-        subst ObjectIsSound (ap (λ (x : Object × ℕ). x.0) (object_is (made, n) (o, len) h)) s
-
-members_sound : (content : Bytes) (os : List Object) → AreOctets content → members_of content ≡ Ok os → AllByRecursion ObjectIsSound os
-members_sound content os all e = all_from member_at AreOctets ObjectIsSound tail_bytes (λ b o len q h. object_sound b o len q h) 4 0 content os all e
-
--- ---- the one request of a message
-
-front_sound : (closed : Bool) (os : List Object) → AllByRecursion ObjectIsSound os → AllByRecursion ObjectIsSound (cut (closes_by closers.Rp) closed os).0
-front_sound closed [] all = tt
-front_sound closed (o ∷ os) all = go (is_rp o) closed (λ c. front_sound c os all.1)
-  where
-    go : (b c : Bool) → ((d : Bool) → AllByRecursion ObjectIsSound (cut (closes_by closers.Rp) d os).0) →
-        AllByRecursion ObjectIsSound (cond (b && c) (begin_with o (cut (closes_by closers.Rp) (is_rp o) os)) (go_on_with o (cut (closes_by closers.Rp) (c || is_rp o) os))).0
-    go true true more = tt
-    go true false more = (all.0, more (false || is_rp o))
-    go false c more = (all.0, more (c || is_rp o))
-
 pub request_sound : (bytes : Bytes) (a : Asked) → AreOctets bytes → message_or_none (message_of bytes) ≡ Some (messages.PcReq (a ∷ [])) → AllByRecursion ObjectIsSound a.objects
-request_sound [] a all e = absurd (no e)
+request_sound bytes a all e = request_has (λ kind. IsSound) body_sound bytes a all e
+
+-- ---- END-POINTS are of IPv4, or of type 2
+
+abbrev pub EndsBy : ℕ → Body → Type 0
+EndsBy kind (bodies.EndPoints source target) = (kind ≡ 2) ⊎ (bits_of source ≡ 32)
+EndsBy kind _ = Unit {0}
+
+module _ (content : Bytes) (kind : ℕ) where
+  abbrev By : Option Body → Type 0
+  By o = Maybe (EndsBy kind) o
+
+  by_either : (c : Bool) (x y : Option Body) → By x → By y → By (cond c x y)
+  by_either true x y p q = p
+  by_either false x y p q = q
+
+  by_words : (r : Result (Option ℕ) TlvFault) (body : Option ℕ → Body) → ((word : Option ℕ) → EndsBy kind (body word)) → By (with_tlvs r body)
+  by_words (Ok word) body s = s word
+  by_words (Err f) body s = tt
+
+  by_size : (len : ℕ) (malformed : Bool) (body : Body) → EndsBy kind body → By (of_length len content malformed body)
+  by_size len true body s = tt
+  by_size len false body s = by_either (length content == len) (Some body) None s tt
+
+  by_list : {X : Type 0} (body : List X → Body) (r : Result (List X) HopFault) → ((xs : List X) → EndsBy kind (body xs)) → By (of_parts body r)
+  by_list body (Ok xs) s = s xs
+  by_list body (Err f) s = tt
+
+  others_by : (class : ℕ) → By (others_of class content)
+  others_by class =
+      by_either (class == 3) (of.no_path_of content) _ (by_words (of.word_behind 4 content 1) _ (λ w. tt))
+      (by_either (class == 4) (of.end_points_of content) _ (by_size 8 false _ (inr refl))
+      (by_either (class == 5) (of.bandwidth_of content) _ (by_size 4 (is_malformed (word_at content 0)) _ tt)
+      (by_either (class == 6) (of.metric_of content) _ (by_size 8 (is_malformed (word_at content 4)) _ tt)
+      (by_either (class == 7) (of_parts bodies.Ero (hops_of content)) _ (by_list bodies.Ero (hops_of content) (λ xs. tt))
+      (by_either (class == 9) (of.lspa_of content) _ (by_words (of.word_behind 16 content 0) _ (λ w. tt))
+      (by_either (class == 10) (of_parts bodies.Iro (hops_of content)) _ (by_list bodies.Iro (hops_of content) (λ xs. tt))
+      (by_either (class == 12) (of.notification_of content) _ (by_words (of.word_behind 4 content 0) _ (λ w. tt))
+      (by_either (class == 13) (of.error_of content) _ (by_words (of.word_behind 4 content 0) _ (λ w. tt))
+      (by_either (class == 15) (of.close_of content) _ (by_words (of.word_behind 4 content 0) _ (λ w. tt))
+      (by_either (class == 16) (of_parts bodies.PathKey (hops_of content)) _ (by_list bodies.PathKey (hops_of content) (λ xs. tt))
+      (by_either (class == 17) (of.xro_of content) (Some (bodies.Unread content))
+      (by_either (nat_le 4 (length content)) (of_parts bodies.Xro (exclusions_of (drop 4 content))) None (by_list bodies.Xro (exclusions_of (drop 4 content)) (λ xs. tt)) tt)
+      tt)))))))))))
+
+  second_by : (class : ℕ) (b : Bool) → (kind == 2) ≡ b → By (cond b (second_kind class content) (Some (bodies.Unread content)))
+  second_by class true is = by_either (class == 4) (of.longer_end_points_of content) (Some (bodies.Unread content)) (by_size 32 false _ (inl (eqb-true kind 2 is))) tt
+  second_by class false is = tt
+
+  body_by : (class : ℕ) → By (body_of class kind content)
+  unfolding body_of
+  body_by class =
+      by_either (kind == 1) _ (beyond_first class kind content)
+      (by_either (class == 1) (of.open_of content) _ (by_words (of.word_behind 4 content 16) _ (λ w. tt))
+      (by_either (class == 2) (of.rp_of content) _ (by_words (of.word_behind 8 content 0) _ (λ w. tt))
+      (others_by class)))
+      (second_by class (kind == 2) refl)
+
+abbrev pub ObjectEndsBy : Object → Type 0
+ObjectEndsBy o = EndsBy o.kind o.body
+
+pub request_by : (bytes : Bytes) (a : Asked) → AreOctets bytes → message_or_none (message_of bytes) ≡ Some (messages.PcReq (a ∷ [])) → AllByRecursion ObjectEndsBy a.objects
+request_by bytes a all e = request_has EndsBy (λ content octets class kind. body_by content kind class) bytes a all e
+
+-- the parent passes over END-POINTS of type 2
+pub ends_above : (os : List Object) → AllByRecursion ObjectEndsBy os → Maybe (λ (p : (Addr × Addr) × Bool). bits_of p.0.0 ≡ 32) (end_points_of 0 os)
+ends_above [] all = tt
+ends_above (o ∷ os) all = go (is_passed_over 0 o) refl o.body all.0 (ends_above os all.1)
   where
-    no : ◌≡◌ {A = Option Message} None (Some (messages.PcReq (a ∷ []))) → ⊥
-    no h = cc
-request_sound (x ∷ []) a all e = absurd (no e)
-  where
-    no : ◌≡◌ {A = Option Message} None (Some (messages.PcReq (a ∷ []))) → ⊥
-    no h = cc
-request_sound (x ∷ y ∷ []) a all e = absurd (no e)
-  where
-    no : ◌≡◌ {A = Option Message} None (Some (messages.PcReq (a ∷ []))) → ⊥
-    no h = cc
-request_sound (x ∷ y ∷ z ∷ []) a all e = absurd (no e)
-  where
-    no : ◌≡◌ {A = Option Message} None (Some (messages.PcReq (a ∷ []))) → ⊥
-    no h = cc
-request_sound (first ∷ kind ∷ high ∷ low ∷ content) a all e =
-    let m : Message = messages.PcReq (a ∷ []) in
-    let at : kind ≡ 3 = frame_kind first kind high low content m e in
-    let frame = frame_is first kind high low content m e in
-    let is = all_is 3 (members_of content) m (ap (λ k. message_or_none (content_of k content)) (sym at) ∙ frame.is) in
-    let bytes : AreOctets content = tail_bytes low content (tail_bytes high (low ∷ content) (tail_bytes kind (high ∷ low ∷ content) (tail_bytes first (kind ∷ high ∷ low ∷ content) all))) in
-    subst (λ (os : List Object). AllByRecursion ObjectIsSound os) (front_is is.0 is.2) (front_sound false is.0 (members_sound content is.0 bytes is.1))
-  where
-    front_is : (os : List Object) → messages.PcReq (map asked_of (requests_of os)) ≡ messages.PcReq (a ∷ []) → (cut (closes_by closers.Rp) false os).0 ≡ a.objects
-    front_is os h = ap (λ (x : Asked). x.objects) (head_is (asked_of (cut (closes_by closers.Rp) false os).0) (map asked_of (cut (closes_by closers.Rp) false os).1) h)
-      where
-        head_is : (x : Asked) (xs : List Asked) → messages.PcReq (x ∷ xs) ≡ messages.PcReq (a ∷ []) → x ≡ a
-        head_is x xs h' = cc
+    passed : o.kind ≡ 2 → is_passed_over 0 o ≡ false → ⊥
+    passed two not = let out : true ≡ false = sym (ap (λ (k : ℕ). (0 == 0) && (k == 2)) two) ∙ not in cc
+
+    go : (b : Bool) → is_passed_over 0 o ≡ b → (body : Body) → EndsBy o.kind body → Maybe (λ (p : (Addr × Addr) × Bool). bits_of p.0.0 ≡ 32) (end_points_of 0 os) → Maybe (λ (p : (Addr × Addr) × Bool). bits_of p.0.0 ≡ 32) (option_or (cond b None (with_bit (end_points_in body) o.must)) (end_points_of 0 os))
+    go true is body by more = more
+    go false is (bodies.EndPoints s t) (inl two) more = absurd (passed two is)
+    go false is (bodies.EndPoints s t) (inr four) more = four
+    go false is _ by more = more
 
 -- ---- what objects say
 

@@ -11,6 +11,7 @@ use Rattle.plant_model.specs.RealWire.{WireIsCodec, message_or_none, wire}
 use Rattle.plant_model.proofs.ReadKinds as kinds
 use Rattle.pcep_messages.proofs.MessageOctets.{written_is_octets}
 use Rattle.plant_model.proofs.OnePart as parts
+use Rattle.plant_model.proofs.ReadNumbers as numbers
 use Rattle.plant_model.proofs.Sends as sends
 use Rattle.plant_model.proofs.SentOn as sent
 use Rattle.plant_model.proofs.Admitted as admitted
@@ -43,6 +44,10 @@ wire_is_codec = record {
   sends = sends.sends;
   admits = sent.admits;
   admits_upward = sent.admits_upward;
+  checks = numbers.checks;
+  replies = numbers.replies;
+  openings = numbers.openings;
+  admits_ipv4 = numbers.admits_ipv4;
   refuses_upward = sent.refuses_upward;
   own = admitted.own;
   expands = admitted.expands;

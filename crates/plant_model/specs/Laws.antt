@@ -1,5 +1,6 @@
 -- What is asked of the wire and of the settings.
-use Rattle.std.specs.Prelude.{◌≡◌, ◌≢◌, ◌≤◌, ◌<◌, ◌⊎◌, ◌^◌, ℕ, true, is_some, List, [], ◌∷◌, length, AllPairs, All, Contains, Some, bit_and}
+use Rattle.std.specs.Prelude.{◌≡◌, ◌≢◌, ◌≤◌, ◌<◌, ◌⊎◌, ◌^◌, ℕ, true, is_some, List, [], ◌∷◌, length, AllPairs, All, Contains, Option, Some, None, bit_and}
+use Rattle.std.specs.List.{AllByRecursion}
 use Rattle.dom_base.specs.declared.names.As.{As}
 use Rattle.dom_base.specs.declared.addr.Addr.{Addr}
 use Rattle.dom_base.specs.declared.limits.TheConstants.{COST_MAX}
@@ -10,7 +11,10 @@ use Rattle.te_links.specs.Rows.{IsMetric}
 use Rattle.walk_laws.specs.Crossing.{query_in}
 use Rattle.pcep_objects.specs.Spelling.{IsWord}
 use Rattle.pcep_messages.specs.declared.message.Asked.{Asked}
+use Rattle.pcep_objects.specs.declared.object.OpenBody.{OpenBody}
 use Rattle.pcep_messages.specs.declared.message.Reply.{Reply}
+use Rattle.pcep_messages.specs.declared.message.ErrorReport.{ErrorReport}
+use Rattle.pcep_session.specs.Reports.{first_opening_of}
 use Rattle.pcep_messages.specs.declared.message.Message.{Message}
 use Rattle.pcep_messages.specs.declared.message.Message.TheVariants as messages
 use Rattle.pcep_messages.specs.declared.message.Request.{Request}
@@ -21,7 +25,7 @@ use Rattle.pcep_framing.specs.Frames.{Framing, FeedsTo}
 use Rattle.plant_text.specs.declared.settings.NetworkParts.{NetworkParts}
 use Rattle.plant_text.specs.declared.settings.ElementRow.{ElementRow}
 use Rattle.plant_text.specs.Names.{parent_as}
-use Rattle.plant_model.specs.Wire.{Bytes, Codec, Admitted, Wrong}
+use Rattle.plant_model.specs.Wire.{Bytes, Codec, Checked, Admitted, Wrong}
 use Rattle.plant_model.specs.Writing.{ends_kind, asked_of, request_message, vspt_flag}
 use Rattle.pcep_subobjects.specs.Subobjects.{AreOctets}
 use Rattle.plant_text.specs.Settings.{is_element}
@@ -52,6 +56,24 @@ abbrev pub CanBeSent : Wanted → Type 0
 CanBeSent w = (id : ℕ) (t : Addr) (sequence : List As) → id < 2 ^ 32 → IsAddr t → bits_of w.source ≡ bits_of t → length sequence ≤ 16 → All (λ (a : As). a.0 < 2 ^ 16) sequence →
     IsWritten (request_message id w t sequence)
 
+-- flags and an id have 32 bits
+abbrev pub AreWords : ℕ × ℕ → Type 0
+AreWords rp = (rp.0 < 2 ^ 32) × (rp.1 < 2 ^ 32)
+
+abbrev pub HasWords : Option (ℕ × ℕ) → Type 0
+HasWords None = Unit {0}
+HasWords (Some rp) = AreWords rp
+
+-- what a request was found to be has numbers that can be said back
+abbrev pub HasNumbers : Checked → Type 0
+HasNumbers (Admitted r) = AreWords (r.flags, r.id)
+HasNumbers (Wrong rp kind value) = HasWords rp × (kind < 256) × (value < 256)
+
+-- the timers of an OPEN are octets
+abbrev pub HasTimers : Option OpenBody → Type 0
+HasTimers None = Unit {0}
+HasTimers (Some body) = (body.offer.keepalive < 256) × (body.offer.dead < 256)
+
 -- What is written is read as what was meant, a request sent on asks for the same at the next element, and costs keep their
 -- value.
 pub record IsCodec (c : Codec) : Type 0 where
@@ -69,7 +91,13 @@ pub record IsCodec (c : Codec) : Type 0 where
       Admits c (asked_of id w t (next ∷ rest)) next vspt_flag id (record w { target = t; query = query_in w.query next; sequence = next ∷ rest })
   pub admits_upward : (a : Asked) (own : As) (flags x : ℕ) (w : Wanted) → Admits c a own flags x w → ends_kind w.source w.target ≡ 1 → (id : ℕ) → 1 ≤ id → id < 2 ^ 32 →
       Admits c (asked_of id w w.target []) parent_as vspt_flag id (record w { query = query_in w.query parent_as; sequence = [] })
+  -- what came as octets has numbers that can be said back
+  pub checks : (bytes : Bytes) (a : Asked) (own : As) → AreOctets bytes → c.read bytes ≡ Some (messages.PcReq (a ∷ [])) → HasNumbers (c.check a own)
+  pub replies : (bytes : Bytes) (replies : List Reply) → AreOctets bytes → c.read bytes ≡ Some (messages.PcRep replies) → AllByRecursion (λ (r : Reply). AreWords (r.flags, r.id)) replies
+  pub openings : (bytes : Bytes) (reports : List ErrorReport) → AreOctets bytes → c.read bytes ≡ Some (messages.PcErr reports) → HasTimers (first_opening_of reports)
   -- the parent serves IPv4 alone
+  pub admits_ipv4 : (bytes : Bytes) (a : Asked) (flags x : ℕ) (w : Wanted) → AreOctets bytes → c.read bytes ≡ Some (messages.PcReq (a ∷ [])) → Admits c a parent_as flags x w →
+      bits_of w.source ≡ 32
   pub refuses_upward : (w : Wanted) (id : ℕ) → ends_kind w.source w.target ≡ 2 →
       c.check (asked_of id w w.target []) parent_as ≡ Wrong (Some (vspt_flag, id)) 4 2
   -- a request to expand a key has the flag of one

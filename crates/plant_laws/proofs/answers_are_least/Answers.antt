@@ -1,5 +1,7 @@
+use Rattle.plant_laws.specs.Headline.{LeastAnswersIn, NoneAnswersIn}
+use Rattle.plant_laws.proofs.EveryWritten.{of_written_net_ids}
 use Rattle.plant_laws.proofs.OfRun as OfRun
 use Rattle.plant_laws.proofs.answers_are_least.Goals as goal
 
 pub returns : goal.returns
-returns c = record { paths = OfRun.least_answers_are; none = OfRun.none_answers_are }
+returns c = record { paths = of_written_net_ids LeastAnswersIn OfRun.least_answers_are; none = of_written_net_ids NoneAnswersIn OfRun.none_answers_are }

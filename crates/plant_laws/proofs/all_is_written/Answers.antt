@@ -1,0 +1,5 @@
+use Rattle.plant_laws.proofs.EveryWritten.{every_written}
+use Rattle.plant_laws.proofs.all_is_written.Goals as goal
+
+pub returns : goal.returns
+returns c = every_written
