@@ -5,11 +5,15 @@ use Rattle.std.specs.Option.{option_or}
 use Rattle.std.specs.List.{AllByRecursion, filter_map, cons_option}
 use Rattle.dom_base.specs.declared.names.As.{As}
 use Rattle.dom_base.specs.declared.addr.Addr.{Addr}
+use Rattle.pcep_codes.specs.declared.classes.TheConstants as classes
+use Rattle.pcep_codes.specs.declared.errors.TheConstants as errors
+use Rattle.pcep_codes.specs.declared.kinds.TheConstants as kinds
 use Rattle.pcep_subobjects.specs.Addresses.{bits_of}
 use Rattle.pcep_subobjects.specs.Subobjects.{AreOctets}
 use Rattle.pcep_objects.specs.declared.object.Body.{Body}
 use Rattle.pcep_objects.specs.declared.object.Body.TheVariants as bodies
 use Rattle.pcep_objects.specs.declared.object.Object.{Object}
+use Rattle.pcep_objects.specs.Spelling.{read_classes}
 use Rattle.pcep_messages.specs.declared.message.Asked.{Asked}
 use Rattle.pcep_messages.specs.declared.message.Answer.{Answer}
 use Rattle.pcep_messages.specs.declared.message.Message.TheVariants as messages
@@ -21,7 +25,7 @@ use Rattle.pcep_messages.specs.declared.message.ErrorReport.{ErrorReport}
 use Rattle.pcep_session.specs.Reports.{or_else, first_opening_of}
 use Rattle.pcep_messages.specs.Groups.{rp_in, opening_in, first_said, reply_with, reply_of, report_of, answer_of}
 use Rattle.pcep_messages.specs.Messages.{message_of}
-use Rattle.pcep_messages.specs.Refusals.{Reason, because, first_of, unsupported, unsupported_among, among, is_optional, has_no_number, asks_other_path, are_measures, can_exclude, can_follow, request_rules, key_rules, path_rules, refusal_of}
+use Rattle.pcep_messages.specs.Refusals.{Reason, because, first_of, unsupported, unsupported_among, no_request_classes, among, is_optional, has_no_number, asks_other_path, are_measures, can_exclude, can_follow, request_rules, key_rules, path_rules, refusal_of}
 use Rattle.pcep_messages.specs.Requests.{without_bit, wish_of}
 use Rattle.pcep_messages.specs.Said.{rp_of, end_points_of, key_of, xro_of, iro_of, asks_key}
 use Rattle.plant_text.specs.Names.{parent_as}
@@ -37,9 +41,9 @@ abbrev pub IsReason : Reason → Type 0
 IsReason None = Unit {0}
 IsReason (Some e) = (e.0 < 256) × (e.1 < 256)
 
-by_rule : (b : Bool) (kind value : ℕ) → kind < 256 → value < 256 → IsReason (because b kind value)
-by_rule true kind value p q = (p, q)
-by_rule false kind value p q = tt
+by_rule : (b : Bool) (e : ℕ × ℕ) → IsReason (Some e) → IsReason (because b e)
+by_rule true e octets = octets
+by_rule false e octets = tt
 
 either : (b : Bool) (x y : Reason) → IsReason x → IsReason y → IsReason (cond b x y)
 either true x y p q = p
@@ -55,12 +59,12 @@ first_is (r ∷ rs) all = else_is r (first_of rs) all.0 (first_is rs all.1)
 
 unsupported_is : (own class kind : ℕ) → IsReason (unsupported own class kind)
 unsupported_is own class kind =
-    either (among (8 ∷ 11 ∷ 14 ∷ []) class) (Some (4, 1)) _ (omega arith, omega arith)
-    (either (not (among (1 ∷ 2 ∷ 3 ∷ 4 ∷ 5 ∷ 6 ∷ 7 ∷ 9 ∷ 10 ∷ 12 ∷ 13 ∷ 15 ∷ 16 ∷ 17 ∷ []) class)) (Some (3, 1)) _ (omega arith, omega arith)
-    (either ((class == 5) && (kind == 2)) (Some (4, 2)) _ (omega arith, omega arith)
-    (either ((class == 4) && (kind == 2)) (because (own == 0) 4 2) _ (by_rule (own == 0) 4 2 (omega arith) (omega arith))
-    (either (not (kind == 1)) (Some (3, 2)) _ (omega arith, omega arith)
-    (by_rule (among (1 ∷ 3 ∷ 7 ∷ 12 ∷ 13 ∷ 15 ∷ []) class) 4 1 (omega arith) (omega arith))))))
+    either (among (classes.RRO ∷ classes.SVEC ∷ classes.LOAD_BALANCING ∷ []) class) (Some errors.CLASS_NOT_SERVED) _ (omega arith, omega arith)
+    (either (not (among read_classes class)) (Some errors.UNKNOWN_CLASS) _ (omega arith, omega arith)
+    (either ((class == classes.BANDWIDTH) && (kind == kinds.BANDWIDTH_IN_USE)) (Some errors.KIND_NOT_SERVED) _ (omega arith, omega arith)
+    (either ((class == classes.END_POINTS) && (kind == kinds.END_POINTS_IPV6)) (because (own == 0) errors.KIND_NOT_SERVED) _ (by_rule (own == 0) errors.KIND_NOT_SERVED (omega arith, omega arith))
+    (either (not (kind == kinds.FIRST)) (Some errors.UNKNOWN_KIND) _ (omega arith, omega arith)
+    (by_rule (among no_request_classes class) errors.CLASS_NOT_SERVED (omega arith, omega arith))))))
 
 among_is : (own : ℕ) (os : List Object) → IsReason (unsupported_among own os)
 among_is own [] = tt
@@ -72,27 +76,27 @@ refusal_is own os =
     (first_is (request_rules own os) (
       among_is own os,
       (
-        by_rule (is_none (rp_of os)) 6 1 (omega arith) (omega arith),
+        by_rule (is_none (rp_of os)) errors.RP_MISSING (omega arith, omega arith),
         (
-          by_rule (is_optional (rp_of os)) 10 1 (omega arith) (omega arith),
+          by_rule (is_optional (rp_of os)) errors.P_CLEAR (omega arith, omega arith),
           (
-            by_rule (has_no_number (rp_of os)) 4 4 (omega arith) (omega arith),
-            (by_rule (asks_other_path (rp_of os)) 4 4 (omega arith) (omega arith), tt),
+            by_rule (has_no_number (rp_of os)) errors.PARAMETER_NOT_SERVED (omega arith, omega arith),
+            (by_rule (asks_other_path (rp_of os)) errors.PARAMETER_NOT_SERVED (omega arith, omega arith), tt),
           ),
         ),
       ),
     ))
     (either (asks_key (rp_of os)) (first_of (key_rules os)) (first_of (path_rules own os))
-    (first_is (key_rules os) (by_rule (is_none (key_of os)) 4 4 (omega arith) (omega arith), tt))
+    (first_is (key_rules os) (by_rule (is_none (key_of os)) errors.PARAMETER_NOT_SERVED (omega arith, omega arith), tt))
     (first_is (path_rules own os) (
-      by_rule (is_none (end_points_of own os)) 6 3 (omega arith) (omega arith),
+      by_rule (is_none (end_points_of own os)) errors.END_POINTS_MISSING (omega arith, omega arith),
       (
-        by_rule (is_optional (end_points_of own os)) 10 1 (omega arith) (omega arith),
+        by_rule (is_optional (end_points_of own os)) errors.P_CLEAR (omega arith, omega arith),
         (
-          by_rule (not (are_measures os)) 4 4 (omega arith) (omega arith),
+          by_rule (not (are_measures os)) errors.PARAMETER_NOT_SERVED (omega arith, omega arith),
           (
-            by_rule (not (can_exclude (xro_of os))) 4 4 (omega arith) (omega arith),
-            (by_rule (not (can_follow own (iro_of os))) 4 4 (omega arith) (omega arith), tt),
+            by_rule (not (can_exclude (xro_of os))) errors.PARAMETER_NOT_SERVED (omega arith, omega arith),
+            (by_rule (not (can_follow own (iro_of os))) errors.PARAMETER_NOT_SERVED (omega arith, omega arith), tt),
           ),
         ),
       ),
