@@ -7,7 +7,7 @@ ghost use Rattle.pcep_objects.specs.Laws.{WrittenIsRead, WrittenIsOctets, NoneBe
 use crate::bits::flag;
 use crate::object::{Body, Object, OpenBody};
 use crate::room::room_behind_object;
-use dom_base::{Addr, List, NoMemory};
+use dom_base::{Addr, Exclusion, List, NoMemory};
 use pcep_codes::{classes, flags, kinds, tlvs};
 use pcep_subobjects::{Hop, Spelled, put_addr, write_exclusions, write_hops};
 use std::alloc::Global;
@@ -90,6 +90,13 @@ fn put_ends(text: &mut Vec<u8>, source: Addr, target: Addr) -> Result<(), NoMemo
     put_addr(text, target)
 }
 
+fn put_xro(alloc: Global, text: &mut Vec<u8>, list: &List<Exclusion>) -> Result<(), NoMemory>
+    ensures { OnOk result (text.new.items ≡ text.old.items ++ body_text (Body.Xro list.now)) }
+{
+    text.extend_from_slice(&[0, 0, 0, 0])?;
+    write_exclusions(alloc, list.as_slice(), text)
+}
+
 fn put_body(alloc: Global, text: &mut Vec<u8>, body: &Body) -> Result<(), NoMemory>
     ensures { OnOk result (text.new.items ≡ text.old.items ++ body_text body.now) }
 {
@@ -123,10 +130,7 @@ fn put_body(alloc: Global, text: &mut Vec<u8>, body: &Body) -> Result<(), NoMemo
             text.extend_from_slice(&[0, 0, *kind, *value])?
         }
         Body::Close(reason) => text.extend_from_slice(&[0, 0, 0, *reason])?,
-        Body::Xro(list) => {
-            text.extend_from_slice(&[0, 0, 0, 0])?;
-            write_exclusions(alloc, list.as_slice(), text)?;
-        }
+        Body::Xro(list) => put_xro(alloc, text, list)?,
         Body::Unread(bytes) => text.extend_from_slice(bytes.as_slice())?,
     }
     Ok(())
