@@ -285,8 +285,8 @@ cat >"$crate/proofs/asking/again/Invariants.antt" <<'ANTT'
 use Rattle.cost_cache.specs.Entries.{IsGoodForAll}
 use Rattle.cache_bench.proofs.asking.again.Given as goal
 
-abbrev pub invariant-loop-_round : goal.invariant-loop-_round
-invariant-loop-_round l = IsGoodForAll l.topology l.cache
+abbrev pub invariant-loop-round : goal.invariant-loop-round
+invariant-loop-round l = IsGoodForAll l.topology l.cache
 ANTT
 
 cd "$crate"
