@@ -11,3 +11,6 @@ mod working;
 pub use benches::{Bench, Finished};
 pub use gates::Gate;
 pub use working::{Worked, work};
+
+#[cfg(test)]
+mod tests;
