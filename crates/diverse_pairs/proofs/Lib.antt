@@ -14,3 +14,13 @@ pub mod Told
 pub mod Whole
 pub mod RowSpelling
 pub mod ReadAgain
+pub mod Lowering
+pub mod Walking
+pub mod Flow
+pub mod Hops
+pub mod Tightness
+pub mod Beside
+pub mod Linked
+pub mod Uncapped
+pub mod FirstLabels
+pub mod SecondWalk

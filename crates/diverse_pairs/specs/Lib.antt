@@ -8,3 +8,8 @@ pub mod RowText
 pub mod Text
 pub mod PairText
 pub mod Asking
+pub mod Arcs
+pub mod Distances
+pub mod Paths
+pub mod Residual
+pub mod Network

@@ -3,6 +3,7 @@
 #![tactic(auto)]
 
 mod admitted;
+mod arcs;
 mod asking;
 mod certificate;
 mod checker;
@@ -12,9 +13,15 @@ mod false_crossing;
 mod false_links;
 mod false_path;
 mod look_up;
+mod lower;
+mod lowest;
+mod network;
 mod pair_row;
 mod reading;
+mod residual;
 mod rising;
+mod tight;
+mod turning;
 mod verdict;
 mod writing;
 
