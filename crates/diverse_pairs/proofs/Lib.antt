@@ -24,3 +24,4 @@ pub mod Linked
 pub mod Uncapped
 pub mod FirstLabels
 pub mod SecondWalk
+pub mod Showing

@@ -13,3 +13,6 @@ pub mod Distances
 pub mod Paths
 pub mod Residual
 pub mod Network
+pub mod Shown
+pub mod Solution
+pub mod Solving

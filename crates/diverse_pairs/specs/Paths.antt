@@ -3,6 +3,7 @@ use Rattle.std.specs.Prelude.{◌≡◌, ◌≢◌, ◌⊎◌, ◌<◌, ◌≤�
 use Rattle.std.specs.declared.option.Option.{Option}
 use Rattle.diverse_pairs.specs.declared.arcs.Arc.{Arc}
 use Rattle.diverse_pairs.specs.Arcs.{IsArc, at, is_used, HasArcFrom}
+use Rattle.diverse_pairs.specs.Distances.{AreTight}
 
 -- the first arc in use from a node, and where it leads
 pub record IsFirstFrom (arcs : List (Option Arc)) (in_use : List Bool) (from place head : ℕ) : Type 0 where
@@ -38,3 +39,16 @@ Falling arcs in_use heights = (i : ℕ) (a : Arc) → IsArc arcs i a → is_used
 abbrev pub turned : List Bool → List ℕ → List Bool
 turned in_use [] = in_use
 turned in_use (i ∷ is) = turned (slice_set in_use i (not (is_used in_use i))) is
+
+-- the arcs of the path by the first tight arcs are turned
+pub record TurnsTight (arcs : List (Option Arc)) (distances : List ℕ) (source target : ℕ) (old new : List Bool) : Type 0 where
+  pub marks : List Bool
+  pub path : List ℕ
+  pub tight : AreTight arcs distances marks
+  pub goes : Goes arcs marks source path target
+  pub is : new ≡ turned old path
+
+-- the arcs of the path by the first arcs in use are taken out of use
+pub record TakesPath (arcs : List (Option Arc)) (source target : ℕ) (old new : List Bool) (path : List ℕ) : Type 0 where
+  pub goes : Goes arcs old source path target
+  pub is : new ≡ turned old path

@@ -20,6 +20,8 @@ mod pair_row;
 mod reading;
 mod residual;
 mod rising;
+mod shown;
+mod solve;
 mod tight;
 mod turning;
 mod verdict;
@@ -30,6 +32,7 @@ pub use certificate::{PairCertificate, PairForm};
 pub use checker::check_pair;
 pub use reading::read_pair;
 pub use rising::is_rising;
+pub use solve::solve_pair;
 pub use verdict::PairVerdict;
 pub use writing::write_pair;
 

@@ -1,0 +1,139 @@
+//! The chosen pair (Suurballe): a least path, then a second one over what it leaves, turned round or
+//! beside it, and two paths over the links in use then.
+ghost use Rattle.std.specs.Prelude.{◌≡◌, ◌<◌, length, IfOk, MatchOption};
+ghost use Rattle.walk_laws.specs.Walks.{AdmitsNode};
+ghost use Rattle.diverse_pairs.specs.declared.verdict.PairVerdict.TheVariants.{Holds};
+ghost use Rattle.diverse_pairs.specs.Conditions.{asked_of, IsVerdict, Shows};
+ghost use Rattle.diverse_pairs.specs.Potentials.{HasRising};
+ghost use Rattle.diverse_pairs.specs.PairText.{CanBeTold};
+ghost use Rattle.diverse_pairs.specs.Solution.{IsAnswer, IsSolved};
+ghost use Rattle.diverse_pairs.specs.Solving.{IsOpenAt, IsPlaced, MakePaths, ArePathsIn, IsCutForm};
+
+use crate::arcs::{Arc, UNREACHED};
+use crate::certificate::{PairCertificate, PairForm};
+use crate::lower::distances;
+use crate::network::arcs_of;
+use crate::residual::{heights, residual_arcs};
+use crate::shown::{cut_off, far_addresses, potentials};
+use crate::turning::{take_path, turn_tight};
+use dom_base::{Addr, List, NoMemory, Query};
+use path_exclusions::bars_node;
+use std::alloc::Global;
+use te_links::Topology;
+
+// The place of an admitted node.
+fn open_place(topology: &Topology, query: &Query, node: Addr) -> Option<usize>
+    ensures { MatchOption result (¬ AdmitsNode topology.now query.now node) (IsOpenAt topology.now query.now node) }
+{
+    let Some(place) = topology.find_node(node) else {
+        return None;
+    };
+    if bars_node(query, node) {
+        None
+    } else {
+        Some(place as usize)
+    }
+}
+
+// The cut at the nodes without a distance.
+fn cut_form(
+    alloc: Global,
+    topology: &Topology,
+    distances: &[u64],
+) -> Result<PairForm, NoMemory>
+    requires { length distances.now ≡ length topology.now.nodes }
+    ensures { IfOk result (IsCutForm topology.now distances.now) }
+{
+    let nodes = cut_off(alloc, topology, distances)?;
+    Ok(PairForm::Cut(List::from_vec(nodes)))
+}
+
+// Two paths over the arcs in use, with potentials by the heights.
+fn paths_form(
+    alloc: Global,
+    topology: &Topology,
+    source: Addr,
+    arcs: &[Option<Arc>],
+    mut in_use: Vec<bool>,
+    heights: &[u64],
+    from: usize,
+    to: usize,
+) -> Result<PairForm, NoMemory>
+    requires arcs { length arcs.now ≡ length topology.now.links }
+    requires in_use { length in_use.items ≡ length arcs.now }
+    requires heights { length heights.now ≡ length topology.now.nodes }
+    requires paths { MakePaths arcs.now from to in_use.items heights.now }
+    ensures { IfOk result (ArePathsIn topology.now source arcs.now from to in_use.items heights.now) }
+{
+    let potentials = potentials(alloc, topology, heights)?;
+    let one = take_path(alloc, arcs, &mut in_use, heights, from, to)?;
+    let other = take_path(alloc, arcs, &mut in_use, heights, from, to)?;
+    Ok(PairForm::Paths {
+        potentials: List::from_vec(potentials),
+        first: List::from_vec(far_addresses(alloc, topology, source, &one)?),
+        second: List::from_vec(far_addresses(alloc, topology, source, &other)?),
+    })
+}
+
+// The chosen pair between nodes at places, or a cut.
+fn solve_between(
+    alloc: Global,
+    topology: &Topology,
+    query: &Query,
+    source: Addr,
+    _target: Addr,
+    from: usize,
+    to: usize,
+) -> Result<PairForm, NoMemory>
+    requires { IsPlaced topology.now query.now source _target from to }
+    ensures { IfOk result (IsSolved (asked_of topology.now query.now source _target)) }
+{
+    let nodes = topology.node_count() as usize;
+    let arcs = arcs_of(alloc, topology, query)?;
+    let first = distances(alloc, &arcs, nodes, to)?;
+    if first[from] == UNREACHED {
+        return cut_form(alloc, topology, &first);
+    }
+    let mut in_use = vec![in alloc; false; arcs.len()]?;
+    turn_tight(alloc, &arcs, &first, &mut in_use, from, to)?;
+    let left = residual_arcs(alloc, &arcs, &first, &in_use)?;
+    let second = distances(alloc, &left, nodes, to)?;
+    if second[from] == UNREACHED {
+        return cut_form(alloc, topology, &second);
+    }
+    turn_tight(alloc, &left, &second, &mut in_use, from, to)?;
+    let heights = heights(alloc, &first, &second)?;
+    paths_form(alloc, topology, source, &arcs, in_use, &heights, from, to)
+}
+
+/// A certificate of the chosen pair from the source to the target, whatever its sum; a cut where
+/// there is no pair. It holds, and it can be written and read again.
+pub fn solve_pair(
+    alloc: Global,
+    topology: &Topology,
+    query: &Query,
+    source: Addr,
+    target: Addr,
+) -> Result<PairCertificate, NoMemory>
+    ensures own { IfOk result (λ c. c.own ≡ topology.now.own) }
+    ensures holds { IfOk result (λ c. IsVerdict (asked_of topology.now query.now source target) c.form Holds) }
+    ensures answer { IfOk result (λ c. IsAnswer (asked_of topology.now query.now source target) c.form) }
+    ensures rising { IfOk result (λ c. HasRising c.form) }
+    ensures told { IfOk result (λ c. CanBeTold c.form) }
+{
+    let own = topology.own();
+    let Some(from) = open_place(topology, query, source) else {
+        return Ok(PairCertificate {
+            own,
+            form: PairForm::Cut(List::new(alloc)),
+        });
+    };
+    let Some(to) = open_place(topology, query, target) else {
+        return Ok(PairCertificate {
+            own,
+            form: PairForm::Cut(List::new(alloc)),
+        });
+    };
+    let form = solve_between(alloc, topology, query, source, target, from, to)?;
+    Ok(PairCertificate { own, form })
+}
