@@ -25,3 +25,8 @@ pub mod Uncapped
 pub mod FirstLabels
 pub mod SecondWalk
 pub mod Showing
+pub mod Walked
+pub mod Places
+pub mod InUse
+pub mod Certifying
+pub mod CutShown

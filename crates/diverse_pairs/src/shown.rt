@@ -19,6 +19,8 @@ pub fn far_addresses(
     requires { All (λ i. i < length topology.now.links) places.now }
     ensures { IfOk result (λ shown. (ls : List Link) → AreAt topology.now.links places.now ls → shown.items ≡ source ∷ map (λ l. l.far) ls) }
 {
+    // A topology obeys the rules, so a place fits.
+    let _own = topology.own();
     let mut shown = Vec::new(alloc);
     shown.push(source)?;
     for place in places {
