@@ -30,7 +30,7 @@ weight_is : (ds : List ℕ) (v : Bool) (a : Arc) → (residual_arc ds v a).weigh
 weight_is ds false a = refl
 weight_is ds true a = refl
 
-ends_are : (n : ℕ) (ds : List ℕ) (v : Bool) (a : Arc) → IsAmong n a → IsAmong n (residual_arc ds v a)
+pub ends_are : (n : ℕ) (ds : List ℕ) (v : Bool) (a : Arc) → IsAmong n a → IsAmong n (residual_arc ds v a)
 ends_are n ds false a good = record { tail = good.tail; head = good.head; heavy = omega arith }
 ends_are n ds true a good = record { tail = good.head; head = good.tail; heavy = omega arith }
 

@@ -4,7 +4,7 @@ use Rattle.std.specs.Prelude.{◌↔◌, AllPairs, Contains, slice_get, slice_in
 use Rattle.std.specs.declared.option.Option.{Option}
 use Rattle.std.proofs.lemmas.Bool.{cases_lt}
 use Rattle.std.proofs.lemmas.Bool.Decides.{eqb_tells}
-use Rattle.std.proofs.lemmas.List.{take_all, get_or_default}
+use Rattle.std.proofs.lemmas.List.{take_all, get_or_default, length-map}
 use Rattle.std.proofs.lemmas.List.Elements.{Contains-append_cases, Contains-append_left, Contains-append_right}
 use Rattle.std.proofs.lemmas.Option.{slice_get_within}
 use Rattle.dom_base.specs.AddrOrder.{rank}
@@ -17,28 +17,32 @@ use Rattle.te_links.specs.Rows.{Rows, IsTopology, IsInOrder}
 use Rattle.walk_laws.specs.Walks.{AdmitsLink}
 use Rattle.path_search.specs.Segments.{AreAt}
 use Rattle.path_search.proofs.Places.{same_place}
+use Rattle.path_search.proofs.OpenForm.{same_length}
 use Rattle.diverse_pairs.specs.declared.arcs.Arc.{Arc}
 use Rattle.diverse_pairs.specs.declared.arcs.TheConstants.{UNREACHED}
-use Rattle.diverse_pairs.specs.declared.certificate.PairForm.TheVariants.{Paths}
+use Rattle.diverse_pairs.specs.declared.certificate.PairForm.TheVariants.{Paths, Cut}
+use Rattle.diverse_pairs.specs.declared.certificate.PairForm.{PairForm}
 use Rattle.diverse_pairs.specs.declared.verdict.PairVerdict.TheVariants.{Holds}
-use Rattle.diverse_pairs.specs.Arcs.{IsArc, at, is_used}
+use Rattle.diverse_pairs.specs.Arcs.{IsArc, at, is_used, IsAmong, AreAmong}
 use Rattle.diverse_pairs.specs.Paths.{Goes, turned}
 use Rattle.diverse_pairs.specs.Potentials.{potential_in}
-use Rattle.diverse_pairs.specs.Conditions.{asked_of, LeadsTo, Traces, TracesOver, ListHolds, PathHolds, LinkHoldsAt, RisesRight, IsVerdict, fars_of}
+use Rattle.diverse_pairs.specs.Conditions.{asked_of, LeadsTo, Traces, TracesOver, ListHolds, PathHolds, LinkHoldsAt, LinkHolds, IsVerdict, fars_of}
+use Rattle.diverse_pairs.specs.Pairs.{IsPair, IsLeastPair}
 use Rattle.diverse_pairs.specs.Shown.{IsHigh, ArePotentials}
 use Rattle.diverse_pairs.specs.Solution.{IsSolved}
-use Rattle.diverse_pairs.specs.Solving.{IsPlaced, IsSearched, IsWalked, IsTurned, ArePaths}
-use Rattle.diverse_pairs.proofs.Best.{link_of, far_among}
+use Rattle.diverse_pairs.specs.Solving.{IsPlaced, IsSearched, IsWalked, IsTurned, ArePaths, ArePathsIn}
+use Rattle.diverse_pairs.proofs.Best.{link_of, far_among, least_pair}
 use Rattle.diverse_pairs.proofs.Counting.{both_hold}
 use Rattle.diverse_pairs.proofs.Flow.{Among, Fresh, fresh, lies}
 use Rattle.diverse_pairs.proofs.Beside.{is_near, first_reached, reached_at, far_height}
-use Rattle.diverse_pairs.proofs.Judging.{paths_hold}
+use Rattle.diverse_pairs.proofs.Judging.{paths_hold, links_differ}
 use Rattle.diverse_pairs.proofs.Linked.{admitted_arc, one_link, at_among, among_at}
+use Rattle.diverse_pairs.proofs.Shortness.{path_few}
 use Rattle.diverse_pairs.proofs.Places.{one_far, fars_differ, at_append, fresh_append}
 use Rattle.diverse_pairs.proofs.Potentials.{potential_present, potential_absent}
 use Rattle.diverse_pairs.proofs.Tracing.{ended, front_differs}
-use Rattle.diverse_pairs.proofs.Walked.{is_left, drops, climbs, falling_both, falling_taken, fresh_path, lies_path, taken_used, all_taken}
-use Rattle.diverse_pairs.proofs.InUse.{leads, path_links, chosen_pair}
+use Rattle.diverse_pairs.proofs.Walked.{is_left, among_ds, drops, climbs, falling_both, falling_taken, fresh_path, lies_path, taken_used, all_taken}
+use Rattle.diverse_pairs.proofs.InUse.{leads, walked, path_links, chosen_pair}
 
 -- a list of the source and of far addresses that lead on, each new, holds
 pub list_holds : (g : Rows) (q : Query) (used : List Addr) (s t : Addr) (fars : List Addr) → AllPairs (λ a b. a ≢ b) (used ++ fars) → LeadsTo g q s fars t → (k : ℕ) → ListHolds g q used s t (s ∷ fars) k
@@ -193,6 +197,34 @@ module _ (g : Rows) (q : Query) (s t : Addr) (from to : ℕ) (arcs : List (Optio
           go false is = is
           go true is = absurd (unused (far_used i l b at_l is_b is))
 
+  is_pair : IsPair g q s t one_links.0 other_links.0
+  is_pair = record {
+    first_walk = walked g q s t from to arcs ds us rs ls p f w both hs u both a.one from s one_links.0 p.source.at_place a.goes_one one_links.1;
+    second_walk = walked g q s t from to arcs ds us rs ls p f w both hs u (turned both a.one) a.other from s other_links.0 p.source.at_place a.goes_other other_links.1;
+    diverse = links_differ (one_links.0 ++ other_links.0) (subst (AllPairs (λ x y. x ≢ y)) (sym (map_append one_links.0 other_links.0)) differ);
+  }
+
+  is_least : IsLeastPair g q s t one_links.0 other_links.0
+  is_least = least_pair g q (potential_in rows) s t one_links.0 other_links.0 p.order is_pair (λ l admitted.
+      let h = admitted_arc g q arcs f.are l admitted in
+      let used : fars_of first ++ fars_of second ≡ map (λ (k : TeLink). k.far) (one_links.0 ++ other_links.0) =
+      ap (λ xs. xs ++ fars_of second) first_fars ∙ ap (λ xs. map (λ (k : TeLink). k.far) one_links.0 ++ xs) second_fars ∙ sym (map_append one_links.0 other_links.0) in
+      subst (λ xs. LinkHolds q (potential_in rows) xs l) used (links_hold h.place l h.at_link admitted))
+
+  long_hs : length hs ≡ length g.nodes
+  long_hs = u.heights.long ∙ f.long
+
+  among_hs : AreAmong (length hs) arcs
+  among_hs i b is_b = subst (λ n. IsAmong n b) (sym u.heights.long) (among_ds g q s t from to arcs ds us rs ls p f w i b is_b)
+
+  from_in : from < length hs
+  from_in = omega (arith, long_hs, slice_get_within g.nodes from s p.source.at_place)
+
+  -- a path with fewer links than there are nodes shows no more addresses
+  few_shown : (shown : List Addr) (is : List ℕ) (ms : List TeLink) → shown ≡ s ∷ map (λ (l : TeLink). l.far) ms → AreAt g.links is ms → length is < length hs → length shown ≤ length g.nodes
+  few_shown shown is ms shows at_links few =
+      omega (arith, few, long_hs, ap length shows, length-map {A = TeLink} {B = Addr} ms (λ l. l.far), same_length g.links is ms at_links)
+
   pub solved : IsSolved (asked_of g q s t) (Paths rows first second)
   solved = record {
     holds = paths_hold (asked_of g q s t) rows first second paths links_hold;
@@ -201,6 +233,7 @@ module _ (g : Rows) (q : Query) (s t : Addr) (from to : ℕ) (arcs : List (Optio
       other = other_links.0;
       shows_one = first_is;
       shows_other = second_is;
+      least = is_least;
       chosen = chosen_pair g q s t from to arcs ds us rs ls p f w both hs u a.one a.other one_links.0 other_links.0 a.goes_one a.goes_other one_links.1 other_links.1;
     };
     rising = a.potentials.rising;
@@ -209,4 +242,15 @@ module _ (g : Rows) (q : Query) (s t : Addr) (from to : ℕ) (arcs : List (Optio
       λ none. let bad : [] ≡ s ∷ map (λ (l : TeLink). l.far) one_links.0 = sym none ∙ first_is in cc,
       λ none. let bad : [] ≡ s ∷ map (λ (l : TeLink). l.far) other_links.0 = sym none ∙ second_is in cc,
     );
+    short = (
+      few_shown first a.one one_links.0 first_is one_links.1 (path_few arcs both hs to (falling_both g q s t from to arcs ds us rs ls p f w both hs u) among_hs a.one from a.goes_one from_in),
+      few_shown second a.other other_links.0 second_is other_links.1
+          (path_few arcs (turned both a.one) hs to (falling_taken g q s t from to arcs ds us rs ls p f w both hs u a.one a.goes_one) among_hs a.other from a.goes_other from_in),
+    );
   }
+
+-- paths that are made so are solved
+pub form_solved : (g : Rows) (q : Query) (s t : Addr) (from to : ℕ) (arcs : List (Option Arc)) (ds : List ℕ) (us : List Bool) (rs : List (Option Arc)) (ls : List ℕ) → IsPlaced g q s t from to → IsSearched g q to arcs ds →
+    IsWalked from to arcs ds us rs ls → (both : List Bool) (hs : List ℕ) → IsTurned from to ds us rs ls both hs → (form : PairForm) → ArePathsIn g s arcs from to both hs form → IsSolved (asked_of g q s t) form
+form_solved g q s t from to arcs ds us rs ls p f w both hs u (Paths rows first second) a = solved g q s t from to arcs ds us rs ls p f w both hs u rows first second a
+form_solved g q s t from to arcs ds us rs ls p f w both hs u (Cut nodes) a = absurd a

@@ -9,7 +9,7 @@ use Rattle.diverse_pairs.specs.Arcs.{IsArc, at, AreAmong}
 use Rattle.diverse_pairs.specs.Distances.{IsLow, AreLow, IsMadeBy, AreMade, AreDistances}
 
 -- how many numbers are below x
-below : ℕ → List ℕ → ℕ
+pub below : ℕ → List ℕ → ℕ
 below x [] = 0
 below x (y ∷ ys) = (if nat_lt y x then 1 else 0) + below x ys
 
@@ -23,7 +23,7 @@ below_more x z up (y ∷ ys) =
       | inr ge ↦ rw (le-ltb y x ge) (elim (cases_lt y z) [ inl l ↦ rw (lt-ltb y z l) (omega (arith, rest)) | inr g ↦ rw (le-ltb y z g) (omega (arith, rest)) ])
     ]
 
-below_less : (x z i : ℕ) (ys : List ℕ) → x < z → i < length ys → at ys i ≡ x → below x ys < below z ys
+pub below_less : (x z i : ℕ) (ys : List ℕ) → x < z → i < length ys → at ys i ≡ x → below x ys < below z ys
 unfolding below
 below_less x z i [] up inside is = absurd (omega arith)
 below_less x z zero (y ∷ ys) up inside is =
@@ -45,7 +45,7 @@ below_all x (y ∷ ys) =
     let rest = below_all x ys in
     elim (cases_lt y x) [ inl lt ↦ rw (lt-ltb y x lt) (omega (arith, rest)) | inr ge ↦ rw (le-ltb y x ge) (omega (arith, rest)) ]
 
-below_some : (x i : ℕ) (ys : List ℕ) → i < length ys → at ys i ≡ x → below x ys < length ys
+pub below_some : (x i : ℕ) (ys : List ℕ) → i < length ys → at ys i ≡ x → below x ys < length ys
 below_some x i ys inside is = let one = below_less x (suc x) i ys (omega arith) inside is in let all = below_all (suc x) ys in omega (arith, one, all)
 
 -- a distance is made up of so many arcs, no more than there are nodes at a smaller one

@@ -8,7 +8,7 @@ use Rattle.dom_base.specs.declared.addr.Addr.{Addr}
 use Rattle.dom_base.specs.declared.link.Link.{Link}
 use Rattle.dom_base.specs.declared.query.Query.{Query}
 use Rattle.te_links.specs.Rows.{Rows, IsTopology, IsInOrder}
-use Rattle.walk_laws.specs.Walks.{AdmitsNode, AdmitsLink}
+use Rattle.walk_laws.specs.Walks.{AdmitsNode, AdmitsLink, Walk}
 use Rattle.path_search.specs.Segments.{AreAt}
 use Rattle.path_search.proofs.Places.{same_place}
 use Rattle.diverse_pairs.specs.declared.arcs.Arc.{Arc}
@@ -39,16 +39,16 @@ pub record StandsBeside (g : Rows) (q : Query) (us : List Bool) (is : List ℕ) 
   pub among : Among is place
   pub link : Link
   pub at_link : slice_get g.links place ≡ Some link
-  pub is : o ≡ beside q (is_used us place) link
+  pub same : o ≡ beside q (is_used us place) link
 
 pub among_beside : (g : Rows) (q : Query) (us : List Bool) (is : List ℕ) (rr : List Residual) (o : Residual) → AreBeside g q us is rr → Contains rr o → StandsBeside g q us is o
 among_beside g q us [] [] o all (k, below, is_o) = absurd (omega arith)
 among_beside g q us [] (r ∷ rr) o all has = absurd all
 among_beside g q us (i ∷ is) [] o all has = absurd all
-among_beside g q us (i ∷ is) (r ∷ rr) o all (zero, below, is_o) = record { place = i; among = inl refl; link = all.0.0; at_link = all.0.1; is = sym is_o ∙ all.0.2 }
+among_beside g q us (i ∷ is) (r ∷ rr) o all (zero, below, is_o) = record { place = i; among = inl refl; link = all.0.0; at_link = all.0.1; same = sym is_o ∙ all.0.2 }
 among_beside g q us (i ∷ is) (r ∷ rr) o all (suc k, below, is_o) =
     let rest = among_beside g q us is rr o all.1 (k, omega arith, is_o) in
-    record { place = rest.place; among = inr rest.among; link = rest.link; at_link = rest.at_link; is = rest.is }
+    record { place = rest.place; among = inr rest.among; link = rest.link; at_link = rest.at_link; same = rest.same }
 
 pub beside_among : (g : Rows) (q : Query) (us : List Bool) (is : List ℕ) (rr : List Residual) (j : ℕ) (l : Link) → AreBeside g q us is rr → Among is j → slice_get g.links j ≡ Some l →
     Contains rr (beside q (is_used us j) l)
@@ -76,7 +76,7 @@ module _ (g : Rows) (q : Query) (s t : Addr) (from to : ℕ) (arcs : List (Optio
   stands_at : (i : ℕ) (l : Link) (v : Bool) → slice_get g.links i ≡ Some l → Contains rest_links.0 (beside q v l) → Among u.turns.path i
   stands_at i l v at_l has =
       let b = among_beside g q us u.turns.path rest_links.0 (beside q v l) rest_links.1 has in
-      let fars : rank l.far ≡ rank b.link.far = ap rank (sym (far_of q v l) ∙ ap (λ (o : Residual). o.far) b.is ∙ far_of q (is_used us b.place) b.link) in
+      let fars : rank l.far ≡ rank b.link.far = ap rank (sym (far_of q v l) ∙ ap (λ (o : Residual). o.far) b.same ∙ far_of q (is_used us b.place) b.link) in
       subst (Among u.turns.path) (sym (one_far g p.order i b.place l b.link at_l b.at_link fars)) b.among
 
   pub in_use : (i : ℕ) (l : Link) → slice_get g.links i ≡ Some l → AdmitsLink g q l → (is_used both i ≡ true) ↔ IsInUse g q (walk_links g q s t from to arcs ds us rs ls p f w).0 rest_links.0 l
@@ -146,6 +146,21 @@ module _ (g : Rows) (q : Query) (s t : Addr) (from to : ℕ) (arcs : List (Optio
       let tail : slice_get g.nodes v ≡ Some l.from = ap (slice_get g.nodes) (sym step.tail) ∙ of.tail ∙ ap (λ (k : Link). Some k.from) same in
       let head : slice_get g.nodes goes.1 ≡ Some l.to = ap (slice_get g.nodes) (sym step.same_head) ∙ of.head ∙ ap (λ (k : Link). Some k.to) same in
       (l, refl, one_node g.nodes v l.from n tail at_v, subst (AdmitsLink g q) same of.at_place.admitted, leads flags is goes.1 l.to ms head goes.3 at_links.1)
+
+  -- and its links are a walk
+  pub walked : (flags : List Bool) (is : List ℕ) (v : ℕ) (n : Addr) (ms : List Link) → slice_get g.nodes v ≡ Some n → Goes arcs flags v is to → AreAt g.links is ms → Walk g q n t ms
+  walked flags [] v n [] at_v goes at_links =
+      let same : n ≡ t = one_node g.nodes to n t (ap (slice_get g.nodes) (sym goes) ∙ at_v) p.target.at_place in
+      (same, subst (AdmitsNode g q) (sym same) p.target.admitted)
+  walked flags [] v n (m ∷ ms) at_v goes at_links = absurd at_links
+  walked flags (i ∷ is) v n [] at_v goes at_links = absurd at_links
+  walked flags (i ∷ is) v n (l ∷ ms) at_v goes at_links =
+      let step = goes.2 in
+      let of = arc_link g q arcs f.are i step.arc step.is_arc in
+      let same : of.link ≡ l = one_link g.links i of.link l of.at_place.at_link at_links.0 in
+      let tail : slice_get g.nodes v ≡ Some l.from = ap (slice_get g.nodes) (sym step.tail) ∙ of.tail ∙ ap (λ (k : Link). Some k.from) same in
+      let head : slice_get g.nodes goes.1 ≡ Some l.to = ap (slice_get g.nodes) (sym step.same_head) ∙ of.head ∙ ap (λ (k : Link). Some k.to) same in
+      (one_node g.nodes v l.from n tail at_v, subst (AdmitsLink g q) same of.at_place.admitted, walked flags is goes.1 l.to ms head goes.3 at_links.1)
 
   pub path_links : (flags : List Bool) (is : List ℕ) (v : ℕ) → Goes arcs flags v is to → (ms : List Link) × AreAt g.links is ms
   path_links flags [] v goes = ([], tt)

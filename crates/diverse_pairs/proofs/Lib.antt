@@ -30,3 +30,6 @@ pub mod Places
 pub mod InUse
 pub mod Certifying
 pub mod CutShown
+pub mod Beginning
+pub mod Shortness
+pub mod Adding

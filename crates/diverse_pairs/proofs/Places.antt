@@ -43,7 +43,7 @@ fresh_differ (i ∷ is) zero (suc k) fresh before below same = fresh.0 (subst (A
 fresh_differ (i ∷ is) (suc j) (suc k) fresh before below same = fresh_differ is j k fresh.1 (omega arith) (omega arith) same
 
 pub fars_differ : (g : Rows) (is : List ℕ) (ls : List Link) → IsInOrder g → AreAt g.links is ls → Fresh is → AllPairs (λ a b. a ≢ b) (map (λ (l : Link). l.far) ls)
-fars_differ g is [] order at fresh j k d before below = absurd (omega arith)
+fars_differ g is [] order at fresh j k d before below same = absurd (omega arith)
 fars_differ g is (m ∷ ls) order at fresh j k d before below same =
     let all : List Link = m ∷ ls in
     let long : length (map (λ (l : Link). l.far) all) ≡ length all = length-map {A = Link} {B = Addr} all (λ l. l.far) in

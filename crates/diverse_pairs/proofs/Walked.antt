@@ -389,7 +389,7 @@ module _ (g : Rows) (q : Query) (s t : Addr) (from to : ℕ) (arcs : List (Optio
                   | inl among ↦
                       let l = lies arcs mid hs to (falling_taken one goes_one) other from j goes_other among in
                       l.used
-                  | inr no ↦ sym (turned_other other mid j no) ∙ in_use
+                  | inr apart ↦ sym (turned_other other mid j apart) ∙ in_use
                 ]) in
                 absurd (none_left arcs (turned mid other) hs falling_end (λ n. omega (arith, even n)) (suc (at hs a.tail)) i a (omega arith) is_arc left')
           ]
