@@ -16,7 +16,7 @@ pub record IsNext (q : Query) (fars : List Addr) (ls : List Link) (i : ℕ) (d :
   pub link : Link
   pub among : Contains ls link
   pub far : link.far ≡ slice_index_or fars i d
-  pub more : cost q (take (i + 1) ls) ≡ cost q (take i ls) + weight q.metric link
+  pub more : cost q (take (suc i) ls) ≡ cost q (take i ls) + weight q.metric link
 
 next_of : (q : Query) (ls : List Link) (i : ℕ) (d : Addr) → i < length ls → IsNext q (map (λ (l : Link). l.far) ls) ls i d
 next_of q [] i d inside = absurd (omega arith)

@@ -193,8 +193,9 @@ fn solve_between(
         return cut_form(alloc, topology, first);
     }
     let walked = walk(alloc, topology, query, arcs, first, from, to)?;
-    if walked.distances[from] == UNREACHED {
-        return cut_form(alloc, topology, walked.distances.as_slice());
+    let over = walked.distances.as_slice();
+    if over[from] == UNREACHED {
+        return cut_form(alloc, topology, over);
     }
     second(
         alloc, topology, query, source, target, arcs, first, from, to, walked,

@@ -123,3 +123,6 @@ replies_fit flags first second one other small_one small_other =
       reply_short flags first one small_one,
       reply_short flags second other small_other,
     )
+
+pub path_again : (w : Wanted) (shown : List Addr) (n m : ℕ) (a : Answer) → n ≡ m → IsShownPath w.query.metric shown n a → IsShownPath w.query.metric shown m a
+path_again w shown n m a same path = subst (λ k. IsShownPath w.query.metric shown k a) same path

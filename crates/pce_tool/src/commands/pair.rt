@@ -1,7 +1,9 @@
 //! `pair`: the replies of a domain's element to a client that asks for a pair.
 ghost use Rattle.std.specs.Prelude.{◌≡◌, ◌≤◌, ◌<◌, ◌+◌, ◌*◌, List, length, IfOk, MatchOption};
 ghost use Rattle.dom_base.specs.declared.link.Link.{Link};
+ghost use Rattle.diverse_pairs.specs.Conditions.{asked_of};
 ghost use Rattle.diverse_pairs.specs.Pairs.{IsFeasiblePair};
+ghost use Rattle.diverse_pairs.specs.Solution.{ShowsChosen};
 ghost use Rattle.dom_base.specs.Limits.{cost_max};
 ghost use Rattle.te_links.specs.declared.limits.TheConstants.{NODES_MAX, METRIC_MAX};
 ghost use Rattle.pcep_messages.specs.Spelling.{message_text};
@@ -95,34 +97,58 @@ fn no_pair(alloc: Global, topology: &Topology, wanted: &Wanted) -> Result<Answer
     ensures answers { IfOk result (λ a. ArePairAnswers topology.now wanted.now a.one a.other) }
     ensures small { IfOk result AreSmall }
 {
-    let vector = search_domain(alloc, topology, wanted)?.vector;
+    let searched = search_domain(alloc, topology, wanted)?;
+    let vector = searched.vector;
     Ok(Answers {
         one: Answer::NoPath { nature: 0, vector },
         other: Answer::NoPath { nature: 0, vector },
     })
 }
 
-// The chosen pair, if it is within the greatest cost.
+// The answers with the chosen pair, if it is within the greatest cost.
+fn paths_answers(
+    alloc: Global,
+    topology: &Topology,
+    wanted: &Wanted,
+    first: &[Addr],
+    second: &[Addr],
+) -> Result<Answers, NoMemory>
+    requires chosen { ShowsChosen (asked_of topology.now wanted.now.query wanted.now.source wanted.now.target) first.now second.now }
+    requires few_first { length first.now ≤ 1024 }
+    requires few_second { length second.now ≤ 1024 }
+    ensures answers { IfOk result (λ a. ArePairAnswers topology.now wanted.now a.one a.other) }
+    ensures small { IfOk result AreSmall }
+{
+    let query = &wanted.query;
+    let first_cost = path_cost(topology, query, first);
+    let second_cost = path_cost(topology, query, second);
+    let Some(costs) = costs_within(first_cost, second_cost) else {
+        return no_pair(alloc, topology, wanted);
+    };
+    let one = path_answer(alloc, query.metric, first, costs.one)?;
+    let other = path_answer(alloc, query.metric, second, costs.other)?;
+    Ok(Answers { one, other })
+}
+
 fn pair_answers(alloc: Global, topology: &Topology, wanted: &Wanted) -> Result<Answers, NoMemory>
     ensures answers { IfOk result (λ a. ArePairAnswers topology.now wanted.now a.one a.other) }
     ensures small { IfOk result AreSmall }
 {
     // A topology obeys the rules, so its nodes are few.
     let _nodes = topology.node_count();
-    let query = &wanted.query;
-    let certificate = solve_pair(alloc, topology, query, wanted.source, wanted.target)?;
-    let PairForm::Paths { first, second, .. } = &certificate.form else {
-        return no_pair(alloc, topology, wanted);
-    };
-    let one = path_cost(topology, query, first.as_slice());
-    let other = path_cost(topology, query, second.as_slice());
-    let Some(costs) = costs_within(one, other) else {
-        return no_pair(alloc, topology, wanted);
-    };
-    Ok(Answers {
-        one: path_answer(alloc, query.metric, first.as_slice(), costs.one)?,
-        other: path_answer(alloc, query.metric, second.as_slice(), costs.other)?,
-    })
+    let certificate = solve_pair(
+        alloc,
+        topology,
+        &wanted.query,
+        wanted.source,
+        wanted.target,
+    )?;
+    match &certificate.form {
+        PairForm::Paths { first, second, .. } => {
+            paths_answers(alloc, topology, wanted, first.as_slice(), second.as_slice())
+        }
+        PairForm::Cut(_) => no_pair(alloc, topology, wanted),
+    }
 }
 
 // Two replies of one message, which are not too long together.

@@ -1,7 +1,8 @@
-use Rattle.std.proofs.Common.{◌+◌, arith, sym, ◌∙◌}
+use Rattle.std.proofs.Common.{◌≡◌, ◌+◌, suc, take, arith, ap, ◌∙◌}
 use Rattle.std.proofs.lemmas.List.Elements.{All-contains}
 use Rattle.std.specs.Prelude.{Contains}
 use Rattle.dom_base.specs.declared.addr.Addr.TheVariants.{V4}
+use Rattle.walk_laws.specs.Walks.{cost}
 use Rattle.diverse_pairs.proofs.Adding.{next_link, all_added}
 use Rattle.diverse_pairs.proofs.costs.sum_of.Goals as goal
 
@@ -15,7 +16,8 @@ loop-far-preserved c =
       cost = λ ls is all.
           let n = next_link q c.args.fars.now ls i (V4 0) is c.loop-far-test.true in
           let here = c.weight_at.ensures.weight n.link (All-contains (Contains g.links) ls n.link all n.among) n.far in
-          omega (arith, c.loop-far.invariant.cost ls is all, n.more, here);
+          let one : i + 1 ≡ suc i = omega arith in
+          omega (arith, c.loop-far.invariant.cost ls is all, n.more, here, ap (λ k. cost q (take k ls)) one);
     }
 
 pub returns-clause-cost : goal.returns-clause-cost

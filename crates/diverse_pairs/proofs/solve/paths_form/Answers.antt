@@ -1,5 +1,6 @@
-use Rattle.std.proofs.Common.{◌≡◌, sym, subst, length}
-use Rattle.diverse_pairs.specs.Paths.{Goes, turned}
+use Rattle.std.proofs.Common.{◌≡◌, ◌∙◌, ap, subst, length}
+use Rattle.diverse_pairs.specs.Paths.{Goes}
+use Rattle.diverse_pairs.proofs.Flow.{length_turned}
 use Rattle.diverse_pairs.proofs.Beginning.{path_within}
 use Rattle.diverse_pairs.proofs.solve.paths_form.Goals as goal
 
@@ -24,3 +25,6 @@ returns c = record {
   top = c.in_ok-potentials.ensures.0;
   potentials = rw c.from_vec.ensures c.in_ok-potentials.ensures.1;
 }
+
+pub take_path-requires-2-clause-long : goal.take_path-requires-2-clause-long
+take_path-requires-2-clause-long c = ap length c.in_ok-one.ensures.taken.is ∙ length_turned c.in_ok-one.one.path.items c.args.in_use.items ∙ c.requires.in_use
