@@ -87,9 +87,15 @@ module _ (g : Rows) (q : Query) (s t : Addr) (from to : ℕ) (arcs : List (Optio
 
       go : (b : Bool) → is_used us i ≡ b → (is_used both i ≡ true) ↔ IsInUse g q (walk_links g q s t from to arcs ds us rs ls p f w).0 rest_links.0 l
       go true is = (
-        λ used. (admitted, inl (m.0 is, λ has.
-            let among = stands_at i l true at_l has in
-            let bad : false ≡ true = sym (both_at g q s t from to arcs ds us rs ls p f w both hs u i among ∙ ap not is) ∙ used in absurd cc)),
+        λ used. (
+          admitted,
+          inl (
+            m.0 is,
+            λ has.
+                let among = stands_at i l true at_l has in
+                let bad : false ≡ true = sym (both_at g q s t from to arcs ds us rs ls p f w both hs u i among ∙ ap not is) ∙ used in absurd cc,
+          ),
+        ),
         λ uses. elim uses.1 [
           | inl kept ↦ elim (decide u.turns.path i) [
             | inl among ↦ absurd (kept.1 (subst (λ v. Contains rest_links.0 (beside q v l)) is (beside_among g q us u.turns.path rest_links.0 i l rest_links.1 among at_l)))
@@ -182,10 +188,12 @@ module _ (g : Rows) (q : Query) (s t : Addr) (from to : ℕ) (arcs : List (Optio
       left_told : (i : ℕ) (l : Link) → slice_get g.links i ≡ Some l → AdmitsLink g q l → (is_used (turned both one) i ≡ true) ↔ (IsInUse g q (walk_links g q s t from to arcs ds us rs ls p f w).0 rest_links.0 l × ¬ Contains ms l)
       left_told i l at_l admitted = (
         λ used.
-            let t' = taken_used g q s t from to arcs ds us rs ls p f w both hs u one goes_one i used in
-            ((in_use i l at_l admitted).0 t'.0, λ has.
-            let m = among_at g.links one ms l at_one has in
-            t'.1 (subst (Among one) (one_far g p.order m.0 i l l m.2 at_l refl) m.1)),
+            let t' = taken_used g q s t from to arcs ds us rs ls p f w both hs u one goes_one i used in (
+              (in_use i l at_l admitted).0 t'.0,
+              λ has.
+                  let m = among_at g.links one ms l at_one has in
+                  t'.1 (subst (Among one) (one_far g p.order m.0 i l l m.2 at_l refl) m.1),
+            ),
         λ uses.
             let lacks : ¬ Among one i = λ among.
             let m = at_among g.links one ms i at_one among in

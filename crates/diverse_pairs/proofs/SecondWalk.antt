@@ -297,9 +297,10 @@ module _ (g : Rows) (q : Query) (t : Addr) (walk : List Link) (arcs rs : List (O
   step_reached : (marks : List Bool) → AreTight rs ls marks → (u i v : ℕ) (step : IsFirstFrom rs marks u i v) → IsReached ds ls hs step.arc.tail × IsReached ds ls hs step.arc.head
   step_reached marks tight u i v step =
       let t' : IsTight ls step.arc = (tight i step.arc step.is_arc).0 step.used in
-      let good = left_among arcs rs place ds ls us k.left i step.arc step.is_arc in
-      (reached_at arcs rs place ds ls us k.left hs heights step.arc.tail (omega (arith, good.tail, k.left.long)) t'.reached,
-      reached_at arcs rs place ds ls us k.left hs heights step.arc.head (omega (arith, good.head, k.left.long)) (omega (arith, t'.sum, t'.reached)))
+      let good = left_among arcs rs place ds ls us k.left i step.arc step.is_arc in (
+        reached_at arcs rs place ds ls us k.left hs heights step.arc.tail (omega (arith, good.tail, k.left.long)) t'.reached,
+        reached_at arcs rs place ds ls us k.left hs heights step.arc.head (omega (arith, good.head, k.left.long)) (omega (arith, t'.sum, t'.reached)),
+      )
 
   measured : (marks : List Bool) → AreTight rs ls marks → (is : List ℕ) (u : ℕ) (rr : List Residual) → Goes rs marks u is place → AreBeside g q us is rr → (x : IsReached ds ls hs u) →
       (residual_cost rr ≡ pos (at hs u)) × (length rr ≡ x.hops)
@@ -316,9 +317,10 @@ module _ (g : Rows) (q : Query) (t : Addr) (walk : List Link) (arcs rs : List (O
       let ts = tight_steps i step.arc step.is_arc l beside'.0.1 ends.0 ends.1 t' in
       let y = moved step.arc.head goes.1 step.same_head ends.1 in
       let rest = measured marks tight is goes.1 rr goes.3 beside'.1 y in
-      let weighs : r.weight ≡ (beside q (is_used us i) l).weight = ap (λ (p : Residual). p.weight) beside'.0.2 in
-      (omega (arith, ints, ts.0, rest.0, weighs, ap (at hs) step.tail, ap (at hs) step.same_head),
-      omega (arith, rest.1, ts.1, hops_moved step.arc.head goes.1 step.same_head ends.1, hops_moved step.arc.tail u step.tail ends.0, same_hops arcs rs place ds ls us k.left hs heights u x (moved step.arc.tail u step.tail ends.0)))
+      let weighs : r.weight ≡ (beside q (is_used us i) l).weight = ap (λ (p : Residual). p.weight) beside'.0.2 in (
+        omega (arith, ints, ts.0, rest.0, weighs, ap (at hs) step.tail, ap (at hs) step.same_head),
+        omega (arith, rest.1, ts.1, hops_moved step.arc.head goes.1 step.same_head ends.1, hops_moved step.arc.tail u step.tail ends.0, same_hops arcs rs place ds ls us k.left hs heights u x (moved step.arc.tail u step.tail ends.0)),
+      )
 
   -- a link beside the walk is a residual link, between the places of its arc
   pub record Lays (i : ℕ) (r : Arc) (o : Residual) : Type 0 where
@@ -362,10 +364,11 @@ module _ (g : Rows) (q : Query) (t : Addr) (walk : List Link) (arcs rs : List (O
   walks marks (i ∷ is) u n (r ∷ rr) at_u goes beside' =
       let step = goes.2 in
       let l : Link = beside'.0.0 in
-      let L = subst (Lays i step.arc) (sym beside'.0.2) (lays i step.arc step.is_arc l beside'.0.1) in
-      (one_node g.nodes u r.from n (ap (slice_get g.nodes) (sym step.tail) ∙ L.tail) at_u,
-      L.residual,
-      walks marks is goes.1 r.to rr (ap (slice_get g.nodes) (sym step.same_head) ∙ L.head) goes.3 beside'.1)
+      let L = subst (Lays i step.arc) (sym beside'.0.2) (lays i step.arc step.is_arc l beside'.0.1) in (
+        one_node g.nodes u r.from n (ap (slice_get g.nodes) (sym step.tail) ∙ L.tail) at_u,
+        L.residual,
+        walks marks is goes.1 r.to rr (ap (slice_get g.nodes) (sym step.same_head) ∙ L.head) goes.3 beside'.1,
+      )
 
   -- ---- it comes first
 
@@ -415,7 +418,7 @@ module _ (g : Rows) (q : Query) (t : Addr) (walk : List Link) (arcs rs : List (O
             inr (
               omega (arith, ap rank far_r, ap rank far_o, ap (λ (m : Link). rank m.far) links),
               in_order marks tight is goes.1 o.to rr os (ap (slice_get g.nodes) (sym next) ∙ w.at_next) goes.3 beside'.1 z way.2 (sym rest ∙ ap (λ v. pos (at hs v)) next)
-              (omega (arith, rest_few, one, hx, mx, my, hops_moved w.next goes.1 next y, long)),
+                  (omega (arith, rest_few, one, hx, mx, my, hops_moved w.next goes.1 next y, long)),
             )
       ]
 
@@ -429,12 +432,15 @@ module _ (g : Rows) (q : Query) (t : Addr) (walk : List Link) (arcs rs : List (O
         least = λ others way.
             let b = bounded others u n at_u way in
             by_lt_z (residual_cost rr) (residual_cost others) (λ lt. inl lt) (λ ge.
-                let same : residual_cost rr ≡ residual_cost others = omega (arith, ints, ge, m.0, b.low) in
-                let few = b.few x (sym m.0 ∙ same) in
-                inr (same, elim (cases_lt (length rr) (length others)) [
-                  | inl lt ↦ inl lt
-                  | inr more ↦
-                      let long : length rr ≡ length others = omega (arith, more, few, m.1) in
-                      inr (long, in_order marks tight is u n rr others at_u goes beside' x way (sym same ∙ m.0) (sym long ∙ m.1))
-                ]));
+            let same : residual_cost rr ≡ residual_cost others = omega (arith, ints, ge, m.0, b.low) in
+            let few = b.few x (sym m.0 ∙ same) in
+            inr (
+              same,
+              elim (cases_lt (length rr) (length others)) [
+                | inl lt ↦ inl lt
+                | inr more ↦
+                    let long : length rr ≡ length others = omega (arith, more, few, m.1) in
+                    inr (long, in_order marks tight is u n rr others at_u goes beside' x way (sym same ∙ m.0) (sym long ∙ m.1))
+              ],
+            ));
       }

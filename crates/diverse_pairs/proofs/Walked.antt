@@ -235,9 +235,10 @@ module _ (g : Rows) (q : Query) (s t : Addr) (from to : ℕ) (arcs : List (Optio
 
     ends_at : (i : ℕ) (r : Arc) → IsArc rs i r → at ls r.head < UNREACHED → IsReached ds ls hs r.tail × IsReached ds ls hs r.head
     ends_at i r is_r reached =
-        let good = left_among arcs rs to ds ls us is_left i r is_r in
-        (reached_at arcs rs to ds ls us is_left hs u.heights r.tail (omega (arith, good.tail, w.long)) (back_reached arcs rs to ds ls us is_left i r is_r reached),
-        reached_at arcs rs to ds ls us is_left hs u.heights r.head (omega (arith, good.head, w.long)) reached)
+        let good = left_among arcs rs to ds ls us is_left i r is_r in (
+          reached_at arcs rs to ds ls us is_left hs u.heights r.tail (omega (arith, good.tail, w.long)) (back_reached arcs rs to ds ls us is_left i r is_r reached),
+          reached_at arcs rs to ds ls us is_left hs u.heights r.head (omega (arith, good.head, w.long)) reached,
+        )
 
     -- over an arc in use the height falls by at least its weight
     pub record Drops (a : Arc) : Type 0 where

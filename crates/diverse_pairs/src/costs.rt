@@ -43,8 +43,8 @@ fn sum_of(topology: &Topology, query: &Query, fars: &[Addr]) -> u64
 
 /// The cost of a path that is shown by its source and then the far addresses of its links.
 pub fn path_cost(topology: &Topology, query: &Query, shown: &[Addr]) -> u64
-    requires few { length shown.now ≤ NODES_MAX }
-    ensures bound { result ≤ NODES_MAX * METRIC_MAX }
+    requires few { length shown.now ≤ 1024 }
+    ensures bound { result ≤ 1024 * 16777215 }
     ensures cost { (s : Address) (ls : List Link) → IsShownBy s ls shown.now → All (Contains topology.now.links) ls → result ≡ cost query.now ls }
 {
     // A topology obeys the rules.

@@ -6,7 +6,6 @@ ghost use Rattle.diverse_pairs.specs.Arcs.{at, is_used, IsAmong, AreAmong, AreLi
 ghost use Rattle.diverse_pairs.specs.Distances.{IsLow, AreLow, IsNear, AreNear};
 ghost use Rattle.diverse_pairs.specs.Residual.{residual_of, AreResidual, height_of, AreHeights};
 
-
 use crate::arcs::{Arc, UNREACHED};
 use dom_base::NoMemory;
 use std::alloc::Global;

@@ -63,11 +63,7 @@ pub fn potentials(
 }
 
 /// The nodes without a distance.
-pub fn cut_off(
-    alloc: Global,
-    topology: &Topology,
-    distances: &[u64],
-) -> Result<Vec<Addr>, NoMemory>
+pub fn cut_off(alloc: Global, topology: &Topology, distances: &[u64]) -> Result<Vec<Addr>, NoMemory>
     requires { length distances.now ≡ length topology.now.nodes }
     ensures { IfOk result (λ nodes. AreCutOff topology.now distances.now nodes.items) }
 {

@@ -39,11 +39,7 @@ fn open_place(topology: &Topology, query: &Query, node: Addr) -> Option<usize>
 }
 
 // The cut at the nodes without a distance.
-fn cut_form(
-    alloc: Global,
-    topology: &Topology,
-    distances: &[u64],
-) -> Result<PairForm, NoMemory>
+fn cut_form(alloc: Global, topology: &Topology, distances: &[u64]) -> Result<PairForm, NoMemory>
     requires { length distances.now ≡ length topology.now.nodes }
     ensures { IfOk result (IsCutForm topology.now distances.now) }
 {
@@ -170,7 +166,16 @@ fn second(
         to,
     )?;
     let heights = heights(alloc, first, distances.as_slice())?;
-    paths_form(alloc, topology, source, arcs, both, heights.as_slice(), from, to)
+    paths_form(
+        alloc,
+        topology,
+        source,
+        arcs,
+        both,
+        heights.as_slice(),
+        from,
+        to,
+    )
 }
 
 // The chosen pair between nodes at places, or a cut.

@@ -136,13 +136,7 @@ fn pair_answers(alloc: Global, topology: &Topology, wanted: &Wanted) -> Result<A
 {
     // A topology obeys the rules, so its nodes are few.
     let _nodes = topology.node_count();
-    let certificate = solve_pair(
-        alloc,
-        topology,
-        &wanted.query,
-        wanted.source,
-        wanted.target,
-    )?;
+    let certificate = solve_pair(alloc, topology, &wanted.query, wanted.source, wanted.target)?;
     match &certificate.form {
         PairForm::Paths { first, second, .. } => {
             paths_answers(alloc, topology, wanted, first.as_slice(), second.as_slice())
@@ -167,9 +161,7 @@ fn reply_of(alloc: Global, topology: &Topology, request: &PairRequest) -> Result
         id: request.second,
         answer: other,
     };
-    Ok(Message::PcRep(List::from_vec(
-        vec![in alloc; first, second]?,
-    )))
+    Ok(Message::PcRep(List::from_vec(vec![in alloc; first, second]?)))
 }
 
 // The replies as lower-case hexadecimal text with a line end.

@@ -24,13 +24,7 @@ fn certificate_text(
     ensures { IfOk result (IsPairCertifiedText topology.now request.now) }
 {
     let wanted = &request.wanted;
-    let certificate = solve_pair(
-        alloc,
-        topology,
-        &wanted.query,
-        wanted.source,
-        wanted.target,
-    )?;
+    let certificate = solve_pair(alloc, topology, &wanted.query, wanted.source, wanted.target)?;
     write_pair(alloc, &certificate)
 }
 
