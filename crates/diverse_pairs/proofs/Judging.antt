@@ -130,7 +130,7 @@ map_both : (ls ms : List TeLink) → map (λ (l : TeLink). l.far) (ls ++ ms) ≡
 map_both [] ms = refl
 map_both (l ∷ ls) ms = ap (λ xs. l.far ∷ xs) (map_both ls ms)
 
-links_differ : (ls : List TeLink) → AllPairs (λ a b. a ≢ b) (map (λ (l : TeLink). l.far) ls) → AllPairs (λ l m. l ≢ m) ls
+pub links_differ : (ls : List TeLink) → AllPairs (λ a b. a ≢ b) (map (λ (l : TeLink). l.far) ls) → AllPairs (λ l m. l ≢ m) ls
 links_differ ls differ i j d before below same =
     differ i j d.far before (omega (arith, below, length-map {A = TeLink} {B = Addr} ls (λ l. l.far)))
     (get_or-map (λ (l : TeLink). l.far) ls i d d.far (omega arith) ∙ ap (λ (l : TeLink). l.far) same ∙ sym (get_or-map (λ (l : TeLink). l.far) ls j d d.far below))

@@ -7,14 +7,13 @@ use Rattle.dom_base.specs.declared.query.Query.{Query}
 use Rattle.dom_base.specs.declared.query.Label.{Label}
 use Rattle.dom_base.specs.declared.query.Seed.{Seed}
 use Rattle.dom_base.specs.Admission.{weight}
-use Rattle.te_links.specs.declared.limits.TheConstants.{NODES_MAX, METRIC_MAX}
 use Rattle.te_links.specs.Rows.{Rows}
 use Rattle.walk_laws.specs.Walks.{AdmitsNode, AdmitsLink}
 use Rattle.walk_laws.specs.Labels.{IsLabel, IsSegment}
 
--- the query without a cap: no least walk costs more than this
+-- the query without a cap: no least walk costs more than this, since a topology has at most 1,024 nodes and a metric is at most 16,777,215
 abbrev pub uncapped : Query → Query
-uncapped q = record q { cap = NODES_MAX * METRIC_MAX }
+uncapped q = record q { cap = 1024 * 16777215 }
 
 -- the one seed: the target, at no cost
 abbrev pub target_seed : Addr → Seed

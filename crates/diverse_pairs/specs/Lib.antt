@@ -8,3 +8,11 @@ pub mod RowText
 pub mod Text
 pub mod PairText
 pub mod Asking
+pub mod Arcs
+pub mod Distances
+pub mod Paths
+pub mod Residual
+pub mod Network
+pub mod Shown
+pub mod Solution
+pub mod Solving

@@ -1,4 +1,7 @@
-use crate::{PairCertificate, PairForm, PairVerdict, check_pair, is_rising, read_pair, write_pair};
+use crate::{
+    PairCertificate, PairForm, PairVerdict, check_pair, is_rising, read_pair, solve_pair,
+    write_pair,
+};
 use dom_base::{Addr, As, Cost, Link, List, Metric, Query};
 use line_text::line_count;
 use path_certificate::{CertError, Place};
@@ -190,6 +193,24 @@ fn cuts(rt: HostRuntime) -> Result<(), Fail> {
     assert_eq!(rt; without, PairVerdict::Fails(Place::Seed(0)));
     let stranger = cut(rt.alloc(), &TRAP, 9, &[])?;
     assert_eq!(rt; stranger, PairVerdict::Holds);
+    Ok(())
+}
+
+fn solved(alloc: Global, rows: &[Row]) -> Result<List<u8>, Fail> {
+    let topology = topology(alloc, rows)?;
+    let query = query(alloc)?;
+    let certificate = solve_pair(alloc, &topology, &query, Addr::V4(1), Addr::V4(4))?;
+    Ok(write_pair(alloc, &certificate)?)
+}
+
+// The pair of the trap, by hand; without its last link there is none.
+#[test]
+fn pairs_are_solved(rt: HostRuntime) -> Result<(), Fail> {
+    let paths: &[u8] =
+        b"pair 1\nat 0.0.0.1 0\nat 0.0.0.2 4\nat 0.0.0.3 5\nat 0.0.0.4 9\nfirst 0.0.0.1 0.0.0.102 0.0.0.110\nsecond 0.0.0.1 0.0.0.108 0.0.0.106\n";
+    assert_eq!(rt; solved(rt.alloc(), &TRAP)?.as_slice(), paths);
+    let cut: &[u8] = b"pair 1\ncut 0.0.0.1 0.0.0.2 0.0.0.3\n";
+    assert_eq!(rt; solved(rt.alloc(), &TRAP[..4])?.as_slice(), cut);
     Ok(())
 }
 

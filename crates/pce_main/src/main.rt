@@ -13,9 +13,11 @@ usage: pce COMMAND
 answer TOPO         reads a path request in hexadecimal, writes the reply in hexadecimal
 certify TOPO        reads the same, writes a certificate: the least labels and the chosen path
 verify TOPO CERT    reads the same, checks a certificate, writes `holds`
+pair TOPO           reads two path requests joined by an SVEC, writes the two replies: the least pair
+                    of paths that share no link
+pair-certify TOPO   reads the same, writes a certificate of that pair, or that there is none
 pair-verify TOPO CERT
-                    reads two path requests joined by an SVEC, checks a certificate of their
-                    pair of paths that share no link, writes `holds`
+                    reads the same, checks a certificate of a pair, writes `holds`
 --help              writes this table
 --version           writes the versions of the program and of the toolchain
 ";

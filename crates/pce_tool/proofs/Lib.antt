@@ -3,3 +3,4 @@ pub mod Words
 pub mod Beyond
 pub mod Unread
 pub mod InputEnds
+pub mod PairReplies

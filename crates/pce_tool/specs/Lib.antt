@@ -8,3 +8,4 @@ pub mod Limits
 pub mod Statuses
 -- what the parts of a run say to one another
 pub mod Parts
+pub mod PairParts

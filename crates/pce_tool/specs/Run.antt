@@ -21,6 +21,8 @@ use Rattle.pce_tool.specs.Commands.Answer.{IsReplyText}
 use Rattle.pce_tool.specs.Commands.Certify.{IsCertifiedText}
 use Rattle.pce_tool.specs.Commands.Verify.{claim, holds_text}
 use Rattle.pce_tool.specs.Commands.PairVerify.{pair_asked}
+use Rattle.pce_tool.specs.Commands.Pair.{IsPairReplyText}
+use Rattle.pce_tool.specs.Commands.PairCertify.{IsPairCertifiedText}
 use Rattle.pce_tool.specs.declared.pair_reading.PairRequest.{PairRequest}
 use Rattle.diverse_pairs.specs.declared.certificate.PairCertificate.{PairCertificate}
 use Rattle.diverse_pairs.specs.Conditions.{HoldsAt as PairHoldsAt, IsFirstFalse as IsPairFirstFalse}
@@ -31,12 +33,16 @@ pub data Command : Type 0 where
   Certify : List ℕ → Command
   Verify : List ℕ → List ℕ → Command
   PairVerify : List ℕ → List ℕ → Command
+  Pair : List ℕ → Command
+  PairCertify : List ℕ → Command
 
 -- the command that the words are, if any
 abbrev pub command_of : List (List ℕ) → Option Command
 command_of (verb ∷ topology ∷ []) =
     if bytes_eq verb (codes "answer") then Some (Answer topology)
-    else (if bytes_eq verb (codes "certify") then Some (Certify topology) else None)
+    else (if bytes_eq verb (codes "certify") then Some (Certify topology)
+    else (if bytes_eq verb (codes "pair") then Some (Pair topology)
+    else (if bytes_eq verb (codes "pair-certify") then Some (PairCertify topology) else None)))
 command_of (verb ∷ topology ∷ certificate ∷ []) =
     if bytes_eq verb (codes "verify") then Some (Verify topology certificate)
     else (if bytes_eq verb (codes "pair-verify") then Some (PairVerify topology certificate) else None)
@@ -48,6 +54,8 @@ files_of (Answer topology) = TopologyFile topology ∷ []
 files_of (Certify topology) = TopologyFile topology ∷ []
 files_of (Verify topology certificate) = TopologyFile topology ∷ CertificateFile certificate topology ∷ []
 files_of (PairVerify topology certificate) = TopologyFile topology ∷ PairFile certificate topology ∷ []
+files_of (Pair topology) = TopologyFile topology ∷ []
+files_of (PairCertify topology) = TopologyFile topology ∷ []
 
 -- the file of the topology that the request is read for
 abbrev pub topology_of : Command → List ℕ
@@ -55,6 +63,8 @@ topology_of (Answer topology) = topology
 topology_of (Certify topology) = topology
 topology_of (Verify topology certificate) = topology
 topology_of (PairVerify topology certificate) = topology
+topology_of (Pair topology) = topology
+topology_of (PairCertify topology) = topology
 
 -- the request in the input, at the element of that domain
 pub record HasRequest (input : Option (List ℕ)) (own : ℕ) (r : PathRequest) : Type 0 where
@@ -76,6 +86,8 @@ IsBad (Answer topology) own = IsWhy own
 IsBad (Certify topology) own = IsWhy own
 IsBad (Verify topology certificate) own = IsWhy own
 IsBad (PairVerify topology certificate) own = IsPairWhy own
+IsBad (Pair topology) own = IsPairWhy own
+IsBad (PairCertify topology) own = IsPairWhy own
 
 -- what a command has to write
 abbrev pub IsOutput : World → Command → List ℕ → Type 0
@@ -89,6 +101,10 @@ IsOutput w (Verify topology certificate) text =
 IsOutput w (PairVerify topology certificate) text =
     (g : Rows) × (c : PairCertificate) × (r : PairRequest) × HasTopology w.files topology g × HasPairCertificate w.files certificate g c
     × HasPairRequest w.input g.own.0 r × ((place : Place) → PairHoldsAt (pair_asked g r) c.form place) × (text ≡ holds_text)
+IsOutput w (Pair topology) text =
+    (g : Rows) × (r : PairRequest) × HasTopology w.files topology g × HasPairRequest w.input g.own.0 r × IsPairReplyText g r text
+IsOutput w (PairCertify topology) text =
+    (g : Rows) × (r : PairRequest) × HasTopology w.files topology g × HasPairRequest w.input g.own.0 r × IsPairCertifiedText g r text
 
 -- the condition at the place is the first of the certificate's that is false
 abbrev pub IsRefuted : World → Command → Place → Type 0

@@ -2,5 +2,7 @@
 
 pub(crate) mod answer;
 pub(crate) mod certify;
+pub(crate) mod pair;
+pub(crate) mod pair_certify;
 pub(crate) mod pair_verify;
 pub(crate) mod verify;

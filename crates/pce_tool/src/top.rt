@@ -3,7 +3,7 @@ ghost use Rattle.std.specs.Prelude.{◌≡◌, ◌↔◌, ◌∷◌, [], map, st
 ghost use Rattle.pce_tool.specs.Run.{command_of, Runs};
 ghost use Rattle.pce_tool.specs.Worlds.{world};
 
-use crate::commands::{answer, certify, pair_verify, verify};
+use crate::commands::{answer, certify, pair, pair_certify, pair_verify, verify};
 use crate::status::Status;
 use dom_edge::{Sink, Source, Store};
 use std::alloc::Global;
@@ -25,6 +25,12 @@ fn run_over<S: Store, I: Source, K: Sink>(
     }
     if verb == "certify" {
         return certify::run(alloc, topology, store, input, out);
+    }
+    if verb == "pair" {
+        return pair::run(alloc, topology, store, input, out);
+    }
+    if verb == "pair-certify" {
+        return pair_certify::run(alloc, topology, store, input, out);
     }
     Status::Usage
 }

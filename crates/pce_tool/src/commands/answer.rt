@@ -18,7 +18,7 @@ use std::alloc::Global;
 use te_links::Topology;
 
 // The bytes of a message that is not too long.
-fn message_bytes(alloc: Global, message: &Message) -> Result<Vec<u8>, NoMemory>
+pub(crate) fn message_bytes(alloc: Global, message: &Message) -> Result<Vec<u8>, NoMemory>
     requires { length (message_text message.now) ≤ 65532 }
     ensures { IfOk result (λ bytes. bytes.items ≡ message_text message.now) }
 {

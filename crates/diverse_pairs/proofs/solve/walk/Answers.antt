@@ -1,0 +1,24 @@
+use Rattle.std.proofs.Common.{◌≡◌, ◌∙◌, ap, length, rules}
+use Rattle.diverse_pairs.proofs.Flow.{length_turned}
+use Rattle.diverse_pairs.proofs.Beginning.{searched_among, searched_near, residual_among}
+use Rattle.diverse_pairs.proofs.solve.walk.Goals as goal
+
+pub turn_tight-requires-clause-among : goal.turn_tight-requires-clause-among
+turn_tight-requires-clause-among c = searched_among c.args._topology.now c.args._query.now c.args.to c.args.arcs.now c.args.first.now c.requires.rules c.requires.searched
+
+pub residual_arcs-requires-clause-among : goal.residual_arcs-requires-clause-among
+residual_arcs-requires-clause-among c = searched_among c.args._topology.now c.args._query.now c.args.to c.args.arcs.now c.args.first.now c.requires.rules c.requires.searched
+
+pub residual_arcs-requires-clause-near : goal.residual_arcs-requires-clause-near
+residual_arcs-requires-clause-near c = searched_near c.args._topology.now c.args._query.now c.args.to c.args.arcs.now c.args.first.now c.requires.rules c.requires.searched
+
+pub distances-requires-clause-among : goal.distances-requires-clause-among
+distances-requires-clause-among c = λ i a is_arc.
+    residual_among c.args.arcs.now c.in_ok-left.left.items c.args.first.now c.as_slice.result.now
+    (searched_among c.args._topology.now c.args._query.now c.args.to c.args.arcs.now c.args.first.now c.requires.rules c.requires.searched)
+    c.in_ok-left.ensures i a (rw c.as_slice-2.ensures.value at is_arc)
+
+pub residual_arcs-requires-clause-long : goal.residual_arcs-requires-clause-long
+residual_arcs-requires-clause-long c =
+    let long : length c.in_ok-none.none.items ≡ length c.args.arcs.now = search rules in
+    ap length c.as_slice.ensures.value ∙ ap length c.in_ok-in_use.ensures.turned.is ∙ length_turned c.in_ok-in_use.ensures.turned.path c.in_ok-none.none.items ∙ long

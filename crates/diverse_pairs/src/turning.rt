@@ -1,0 +1,70 @@
+//! Arcs that are put into use and taken out of use along a path.
+ghost use Rattle.std.specs.Prelude.{◌≡◌, ◌<◌, length, All, IfOk};
+ghost use Rattle.diverse_pairs.specs.declared.arcs.TheConstants.{UNREACHED as unreached};
+ghost use Rattle.diverse_pairs.specs.Arcs.{at, AreAmong};
+ghost use Rattle.diverse_pairs.specs.Distances.{AreDistances};
+ghost use Rattle.diverse_pairs.specs.Paths.{turned, LeadsOn, Falling, TurnsTight, TakesPath};
+
+use crate::arcs::Arc;
+use crate::lowest::lowest_path;
+use crate::tight::tight_arcs;
+use dom_base::NoMemory;
+use std::alloc::Global;
+
+/// A path, and what is left in use without it.
+#[derive(Drop)]
+pub struct Taken {
+    pub path: Vec<usize>,
+    pub in_use: Vec<bool>,
+}
+
+// Puts each arc of a path into use, or takes it out of use.
+fn turn(mut in_use: Vec<bool>, path: &[usize]) -> Vec<bool>
+    requires within { All (λ i. i < length in_use.items) path.now }
+    ensures turned { result.items ≡ turned in_use.items path.now }
+{
+    for arc in path {
+        in_use[*arc] = !in_use[*arc];
+    }
+    in_use
+}
+
+/// Turns the arcs of the path by the first tight arcs.
+pub fn turn_tight(
+    alloc: Global,
+    arcs: &[Option<Arc>],
+    distances: &[u64],
+    in_use: Vec<bool>,
+    source: usize,
+    target: usize,
+) -> Result<Vec<bool>, NoMemory>
+    requires long { length in_use.items ≡ length arcs.now }
+    requires among { AreAmong (length distances.now) arcs.now }
+    requires distances { AreDistances arcs.now target distances.now }
+    requires source { source < length distances.now }
+    requires reached { at distances.now source < unreached }
+    ensures turned { IfOk result (λ new. TurnsTight arcs.now distances.now source target in_use.items new.items) }
+{
+    let tight = tight_arcs(alloc, arcs, distances)?;
+    let path = lowest_path(alloc, arcs, tight.as_slice(), distances, source, target)?;
+    Ok(turn(in_use, path.as_slice()))
+}
+
+/// Takes the arcs of the path by the first arcs in use out of use.
+pub fn take_path(
+    alloc: Global,
+    arcs: &[Option<Arc>],
+    in_use: Vec<bool>,
+    heights: &[u64],
+    source: usize,
+    target: usize,
+) -> Result<Taken, NoMemory>
+    requires long { length in_use.items ≡ length arcs.now }
+    requires leads { LeadsOn arcs.now in_use.items source target }
+    requires falling { Falling arcs.now in_use.items heights.now }
+    ensures taken { IfOk result (λ taken. TakesPath arcs.now source target in_use.items taken.in_use.items taken.path.items) }
+{
+    let path = lowest_path(alloc, arcs, in_use.as_slice(), heights, source, target)?;
+    let in_use = turn(in_use, path.as_slice());
+    Ok(Taken { path, in_use })
+}
