@@ -1,5 +1,5 @@
 -- The wait that is answered, found place by place.
-use Rattle.std.proofs.Common.{◌≡◌, ◌<◌, ◌≤◌, ◌+◌, ℕ, zero, suc, Bool, true, false, cond, Some, None, List, [], ◌∷◌, ◌++◌, length, take, drop, arith, refl, sym, ◌∙◌, ap, append_assoc}
+use Rattle.std.proofs.Common.{◌≡◌, ◌<◌, ◌+◌, ℕ, suc, Bool, true, cond, Some, List, [], ◌∷◌, ◌++◌, length, take, drop, arith, refl, sym, ◌∙◌, ap, append_assoc}
 use Rattle.std.specs.Prelude.{slice_get}
 use Rattle.std.specs.List.{remove}
 use Rattle.dom_base.specs.declared.names.Peer.{Peer}
@@ -9,32 +9,15 @@ use Rattle.plant_model.specs.Names.{same_id}
 use Rattle.pcep_messages.specs.declared.message.Wanted.{Wanted}
 use Rattle.pce_parent.specs.Changes.{with_answer}
 use Rattle.plant_model.specs.Parent.{Asking, Wait, among, rows_at, rows_for, without}
-use Rattle.pce_parent.specs.Answered.{Answers, IsAnsweredAt}
+use Rattle.pce_parent.specs.Answered.{IsAnsweredAt}
 use Rattle.pce_parent.specs.Joined.{joined}
-use Rattle.pce_parent.proofs.HeldPlaces.{nothing_dropped, taken_at, dropped_at}
-use Rattle.pce_parent.proofs.ScanLaws.{dropped_next}
+use Rattle.pce_parent.proofs.HeldPlaces.{taken_at, dropped_at}
 
 -- none of those before the place is answered
 pub record NoneBefore (p : Peer) (y i : ℕ) (ws : List Wait) : Type 0 where
   pub among_is : among p ws y ≡ among p (drop i ws) y
   pub rows_are : (bs : List Branch) → rows_for p y bs ws ≡ rows_for p y bs (drop i ws)
   pub without_is : without p y ws ≡ take i ws ++ without p y (drop i ws)
-
-pub none_yet : (p : Peer) (y : ℕ) (ws : List Wait) → NoneBefore p y 0 ws
-none_yet p y [] = record { among_is = refl; rows_are = λ bs. refl; without_is = refl }
-none_yet p y (w ∷ ws) = record { among_is = refl; rows_are = λ bs. refl; without_is = refl }
-
-pub not_this : (p : Peer) (y i : ℕ) (ws : List Wait) (w : Wait) → slice_get ws i ≡ Some w → same_id w.peer w.id p y ≡ false → NoneBefore p y i ws → NoneBefore p y (i + 1) ws
-not_this p y i ws w at_i other none =
-    let rest = drop (i + 1) ws in
-    let next : drop i ws ≡ w ∷ rest = dropped_next ws i w at_i in
-    record {
-      among_is = none.among_is ∙ ap (λ (xs : List Wait). among p xs y) next ∙ ap (λ (b : Bool). cond b true (among p rest y)) other;
-      rows_are = λ bs. none.rows_are bs ∙ ap (rows_for p y bs) next ∙ ap (λ (b : Bool). cond b (rows_at w.child w.target bs) (rows_for p y bs rest)) other;
-      without_is = none.without_is ∙ ap (λ (xs : List Wait). take i ws ++ without p y xs) next ∙ ap (λ (b : Bool). take i ws ++ cond b rest (w ∷ without p y rest)) other
-          ∙ sym (append_assoc (take i ws) (w ∷ []) (without p y rest))
-          ∙ ap (λ (xs : List Wait). xs ++ without p y rest) (sym (taken_at ws i w at_i) ∙ ap (λ (j : ℕ). take j ws) (let e : suc i ≡ i + 1 = omega arith in e));
-    }
 
 pub this_one : (p : Peer) (y i : ℕ) (ws : List Wait) (w : Wait) → i < length ws → slice_get ws i ≡ Some w → same_id w.peer w.id p y ≡ true → NoneBefore p y i ws → IsAnsweredAt p y i ws
 this_one p y i ws w below at_i same none =
@@ -50,9 +33,6 @@ this_one p y i ws w below at_i same none =
       };
       rest = none.without_is ∙ ap (λ (xs : List Wait). take i ws ++ without p y xs) next ∙ ap (λ (b : Bool). take i ws ++ cond b rest (w ∷ without p y rest)) same;
     }
-
-pub none_at_all : (p : Peer) (y i : ℕ) (ws : List Wait) → length ws ≤ i → NoneBefore p y i ws → among p ws y ≡ false
-none_at_all p y i ws past none = none.among_is ∙ ap (λ (xs : List Wait). among p xs y) (nothing_dropped ws i past)
 
 -- ---- answers one behind the other
 

@@ -1,23 +1,20 @@
 -- Drafts of a change, one for each row of what a parent does with a message.
-use Rattle.std.proofs.Common.{◌≡◌, ◌⊎◌, ℕ, Bool, true, false, cond, Option, Some, None, List, [], ◌∷◌, ◌++◌, nat_eq, inl, inr, refl, sym, ◌∙◌, ap, subst, option_map}
+use Rattle.std.proofs.Common.{◌≡◌, ℕ, true, Option, Some, None, List, [], ◌∷◌, inl, inr, refl, sym, ◌∙◌, ap, subst, option_map}
 use Rattle.std.specs.Prelude.{Contains}
-use Rattle.std.specs.Map.{lookup}
 use Rattle.std.proofs.lemmas.Bool.{cases_Bool}
 use Rattle.dom_base.specs.declared.names.Peer.{Peer}
-use Rattle.pcep_messages.specs.declared.message.Message.{Message}
 use Rattle.vspt_tree.specs.declared.branch.Branch.{Branch}
 use Rattle.request_table.specs.declared.held.Held.{Held}
 use Rattle.request_table.specs.Pending.{Pending, ArePending, item_of}
 use Rattle.request_table.specs.Lends.{written_of}
-use Rattle.plant_model.specs.declared.output.Output.{Output}
 use Rattle.plant_model.specs.declared.upper.ChildRow.{ChildRow}
-use Rattle.plant_model.specs.Parent.{Parent, Given, Asking, AskingRow, Wait, among, gathered, gathers, only, rows_at, rows_for, silent, waiting}
+use Rattle.plant_model.specs.Parent.{Parent, Given, Asking, AskingRow, Wait, among, gathered, gathers, rows_at, waiting}
 use Rattle.pce_parent.specs.declared.change.Change.{Change}
-use Rattle.pce_parent.specs.declared.change.Change.TheVariants.{Nothing, Gathers, Ends}
+use Rattle.pce_parent.specs.declared.change.Change.TheVariants.{Gathers, Ends}
 use Rattle.pce_parent.specs.declared.change.Draft.{Draft}
 use Rattle.pce_parent.specs.declared.ending.Ending.{Ending}
 use Rattle.pce_parent.specs.Answered.{Answers}
-use Rattle.pce_parent.specs.Changes.{Fits, IsDraft, Waits, all_ended, answered_item, changed, solved_in, with_answer}
+use Rattle.pce_parent.specs.Changes.{Fits, IsDraft, Waits, answered_item, changed, solved_in, with_answer}
 use Rattle.pce_parent.specs.Endings.{given_by}
 use Rattle.pce_parent.specs.Seen.{Seen}
 use Rattle.pce_parent.proofs.HeldLemmas.{first_in, later_in, in_found}
@@ -30,12 +27,6 @@ module _ (s : Seen) (d : Draft) where
     parent = ap (λ (c : Change). changed c s.losing.parent) is ∙ parent;
     outputs = outputs;
   }
-
-  pub nothing_new : d.change ≡ Nothing → d.outputs ≡ [] → IsDraft s (silent s.losing.parent) d
-  nothing_new is outputs = of_change Nothing (silent s.losing.parent) is tt refl refl outputs
-
-  pub one_said : (to : Peer) (m : Message) → d.change ≡ Nothing → d.outputs ≡ record { to = to; message = m } ∷ [] → IsDraft s (only to m s.losing.parent) d
-  one_said to m is outputs = of_change Nothing (only to m s.losing.parent) is tt refl refl outputs
 
   pub these_end : (e : Ending) (given : Given) → d.change ≡ Ends e.numbers.items → d.outputs ≡ e.outputs → given_by s.losing.parent e ≡ given → IsDraft s given d
   these_end e given is outputs ends = of_change (Ends e.numbers.items) given is tt refl (ap (λ (g : Given). g.parent) ends) (outputs ∙ ap (λ (g : Given). g.outputs) ends)

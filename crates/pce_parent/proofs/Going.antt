@@ -1,14 +1,12 @@
 -- The tight edge of least choice between two vertices, by the places where they stand.
-use Rattle.std.proofs.Common.{◌≡◌, inl, inr, ℕ, ◌+◌, ◌<◌, ◌≤◌, List, [], ◌∷◌, length, arith, refl, sym, ◌∙◌, ap, subst, None, Some}
+use Rattle.std.proofs.Common.{◌≡◌, inl, inr, ℕ, ◌+◌, ◌<◌, ◌≤◌, List, [], ◌∷◌, length, arith, refl, sym, ◌∙◌, ap, subst, Some}
 use Rattle.std.specs.Prelude.{Contains, All, slice_get}
 use Rattle.std.specs.declared.option.Option.{Option}
 use Rattle.std.proofs.lemmas.Bool.{cases_lt}
-use Rattle.std.proofs.lemmas.List.Elements.{All-contains, All-weaker}
+use Rattle.std.proofs.lemmas.List.Elements.{All-weaker}
 use Rattle.std.proofs.lemmas.Option.{slice_get_within}
 use Rattle.dom_base.specs.AddrOrder.{rank}
 use Rattle.dom_base.specs.declared.names.As.{As}
-use Rattle.dom_base.specs.declared.addr.Addr.{Addr}
-use Rattle.dom_base.specs.declared.border.ParentLink.{ParentLink}
 use Rattle.dom_base.specs.Admission.{weight}
 use Rattle.pcep_subobjects.specs.declared.hop.Hop.{Hop}
 use Rattle.pcep_subobjects.specs.Hops.{strict_hop}
@@ -19,10 +17,10 @@ use Rattle.pce_parent.specs.declared.arcs.Arc.{Arc}
 use Rattle.pce_parent.specs.declared.spot.Spot.{Spot}
 use Rattle.pce_parent.specs.declared.route.Stand.{Stand}
 use Rattle.pce_parent.specs.Places.{IsAt}
-use Rattle.pce_parent.specs.Arcs.{IsRowArc, IsLinkArc, IsSomeRowArc, IsSomeLinkArc}
+use Rattle.pce_parent.specs.Arcs.{IsRowArc, IsSomeRowArc, IsSomeLinkArc}
 use Rattle.pce_parent.specs.Costs.{cost_at, IsStep, Reaches}
 use Rattle.pce_parent.specs.Tight.{IsTight, IsBefore, IsChosen}
-use Rattle.pce_parent.specs.Routes.{AreLeast, StandsIn, StandsOut, StandsInHeavier, GoesOn, GoesOver}
+use Rattle.pce_parent.specs.Routes.{AreLeast, StandsIn, StandsOut, GoesOn}
 use Rattle.pce_parent.proofs.PlaceLaws.{same_vertex, same_place}
 use Rattle.pce_parent.proofs.RowLaws.{AreAlike, contains_at, is_first_row}
 use Rattle.pce_parent.proofs.Steps.{row_steps, link_steps}

@@ -1,5 +1,5 @@
 -- Requests that end one after the other, by their numbers.
-use Rattle.std.proofs.Common.{◌≡◌, ◌<◌, ◌+◌, ◌==◌, ℕ, Bool, true, false, not, cond, Option, Some, None, List, [], ◌∷◌, ◌++◌, length, nat_eq, suc, take, drop, arith, refl, sym, ◌∙◌, ap, subst, inl, inr, append-nil, append_assoc}
+use Rattle.std.proofs.Common.{◌≡◌, ◌<◌, ◌+◌, ◌==◌, ℕ, Bool, true, false, not, cond, Option, Some, List, [], ◌∷◌, ◌++◌, nat_eq, suc, take, drop, arith, refl, sym, ◌∙◌, ap, inl, inr}
 use Rattle.std.specs.Prelude.{slice_get, filter}
 use Rattle.std.specs.Map.{remove_entry}
 use Rattle.std.specs.Option.{option_map}
@@ -12,7 +12,6 @@ use Rattle.pce_parent.specs.declared.sought.Sought.{Sought}
 use Rattle.pce_parent.specs.Soughts.{is_sought, first_sought, has_number, without_these}
 use Rattle.pce_parent.specs.Changes.{all_closed}
 use Rattle.pce_parent.specs.Pendings.{with_rows}
-use Rattle.pce_parent.proofs.HeldLemmas.{above_low, first_in}
 use Rattle.pce_parent.proofs.HeldPlaces.{taken_at}
 use Rattle.pce_parent.proofs.ScanLaws.{dropped_next}
 

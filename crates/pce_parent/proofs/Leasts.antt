@@ -1,6 +1,6 @@
 -- Costs that nothing lowers are the least costs of walks to an end.
-use Rattle.std.proofs.Common.{◌≡◌, inl, inr, ℕ, ◌+◌, ◌<◌, ◌≤◌, List, [], ◌∷◌, length, arith, refl, sym, ◌∙◌, ap, subst, None, Some}
-use Rattle.std.specs.Prelude.{Contains, All, slice_get}
+use Rattle.std.proofs.Common.{◌≡◌, inl, inr, ℕ, ◌+◌, ◌≤◌, List, [], ◌∷◌, arith, sym, ◌∙◌, ap, subst, Some}
+use Rattle.std.specs.Prelude.{Contains, All}
 use Rattle.std.specs.declared.option.Option.{Option}
 use Rattle.std.proofs.lemmas.Bool.{cases_lt}
 use Rattle.std.proofs.lemmas.Option.{slice_get_within}
@@ -10,7 +10,7 @@ use Rattle.dom_base.specs.declared.addr.Addr.{Addr}
 use Rattle.dom_base.specs.declared.border.ParentLink.{ParentLink}
 use Rattle.plant_model.specs.declared.upper.ChildRow.{ChildRow}
 use Rattle.plant_model.specs.declared.upper.BorderJob.{BorderJob}
-use Rattle.plant_model.specs.BorderGraph.{Vertex, Enter, Leave, Edge, IsEdge, IsEnd, BorderWalk, IsLeastTo, ExcludesAs}
+use Rattle.plant_model.specs.BorderGraph.{Vertex, Enter, Leave, Edge, IsEdge, BorderWalk, IsLeastTo, ExcludesAs}
 use Rattle.pce_parent.specs.declared.arcs.Arc.{Arc}
 use Rattle.pce_parent.specs.declared.spot.Spot.{Spot}
 use Rattle.pce_parent.specs.Places.{spot_of, IsAt, HasLink, HasEnd}

@@ -1,7 +1,6 @@
 -- Requests that are dropped or lost, one by one.
-use Rattle.std.proofs.Common.{◌≡◌, ◌+◌, ◌<◌, ◌≤◌, ℕ, suc, Bool, true, false, not, cond, Some, List, [], ◌∷◌, ◌++◌, length, nat_eq, take, drop, map, arith, refl, sym, ◌∙◌, ap, subst, append-nil, append_assoc, add-zero, get_or}
+use Rattle.std.proofs.Common.{◌≡◌, ◌+◌, ◌<◌, ◌≤◌, ℕ, suc, Bool, true, false, not, cond, Some, List, [], ◌∷◌, ◌++◌, length, take, drop, map, arith, sym, ◌∙◌, ap, subst, append-nil, append_assoc, add-zero, get_or}
 use Rattle.std.specs.Prelude.{slice_get, filter}
-use Rattle.std.specs.Map.{remove_entry}
 use Rattle.std.proofs.lemmas.List.{map-append, length-append, length-drop}
 use Rattle.std.proofs.lemmas.Option.{slice_get-get_or}
 use Rattle.std.proofs.lemmas.List.Elements.{filter-append}

@@ -16,11 +16,9 @@ mod WayLemmas
 mod ScanLaws
 mod Leaving
 mod Gone
-mod OneByOne
 mod Sends
 mod Ends
 mod Answering
 mod RowsSaid
 mod Drafts
 mod Telling
-mod Commitments

@@ -1,10 +1,9 @@
 -- The costs of walks without an edge.
-use Rattle.std.proofs.Common.{◌≡◌, inl, inr, ℕ, ◌<◌, ◌≤◌, Bool, true, false, cond, List, [], length, map, arith, refl, sym, ◌∙◌, ap, subst, None, Some, get_or}
-use Rattle.std.specs.Prelude.{Contains, slice_get}
+use Rattle.std.proofs.Common.{◌≡◌, inl, inr, ℕ, ◌<◌, ◌≤◌, Bool, true, cond, List, [], length, map, arith, refl, sym, ◌∙◌, ap, subst, None, Some, get_or}
 use Rattle.std.specs.declared.option.Option.{Option}
 use Rattle.std.proofs.lemmas.Bool.{cases_lt}
 use Rattle.std.proofs.lemmas.List.{get_or-map, get_or_past, length-map}
-use Rattle.std.proofs.lemmas.Option.{get_or_from_slice_get, cond_some, slice_get_within}
+use Rattle.std.proofs.lemmas.Option.{get_or_from_slice_get, cond_some}
 use Rattle.dom_base.specs.declared.names.As.{As}
 use Rattle.dom_base.specs.declared.addr.Addr.{Addr}
 use Rattle.dom_base.specs.declared.addr.Addr.TheVariants.{V4, V6}

@@ -1,6 +1,6 @@
 -- The edges between places are those of the border graph.
-use Rattle.std.proofs.Common.{◌≡◌, ℕ, ◌<◌, ◌≤◌, ◌++◌, ◌∷◌, [], List, length, refl, sym, ◌∙◌, ap, subst, arith, Some}
-use Rattle.std.specs.Prelude.{Contains, All, slice_get}
+use Rattle.std.proofs.Common.{◌≡◌, ◌∷◌, [], List, refl, sym, ◌∙◌, subst, arith}
+use Rattle.std.specs.Prelude.{Contains, All}
 use Rattle.std.proofs.lemmas.List.Elements.{All-weaker, Contains-append_right}
 use Rattle.dom_base.specs.declared.border.ParentLink.{ParentLink}
 use Rattle.dom_base.specs.Admission.{weight}

@@ -9,7 +9,7 @@ use Rattle.dom_base.specs.Limits.{cost_max}
 use Rattle.dom_base.specs.Admission.{weight, Fits, BarsLink}
 use Rattle.plant_model.specs.declared.upper.ChildRow.{ChildRow}
 use Rattle.plant_model.specs.declared.upper.BorderJob.{BorderJob}
-use Rattle.plant_model.specs.BorderGraph.{Vertex, Enter, Leave, ExcludesAs}
+use Rattle.plant_model.specs.BorderGraph.{Enter, Leave, ExcludesAs}
 use Rattle.pce_parent.specs.declared.arcs.Arc.{Arc}
 use Rattle.pce_parent.specs.declared.spot.Spot.{Spot}
 use Rattle.pce_parent.specs.Places.{IsAt}

@@ -1,5 +1,5 @@
 -- Costs by the places of vertices, and their relaxation over edges.
-use Rattle.std.specs.Prelude.{◌≡◌, ◌<◌, ◌≤◌, ◌+◌, ◌^◌, ℕ, cond, true, List, length, Option, Some, None, slice_index_or, sum_by}
+use Rattle.std.specs.Prelude.{◌≡◌, ◌<◌, ◌≤◌, ◌+◌, ◌^◌, ℕ, cond, List, length, Option, Some, None, slice_index_or, sum_by}
 use Rattle.dom_base.specs.declared.addr.Addr.{Addr}
 use Rattle.dom_base.specs.Limits.{cost_max}
 use Rattle.plant_model.specs.declared.upper.BorderJob.{BorderJob}

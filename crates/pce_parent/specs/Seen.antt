@@ -1,5 +1,5 @@
 -- The parent as its callers see it.
-use Rattle.std.specs.Prelude.{◌≡◌, ◌≤◌, ℕ, cond, nat_eq, List, [], length, map, Option, Some, None}
+use Rattle.std.specs.Prelude.{◌≡◌, ◌≤◌, ℕ, cond, nat_eq, [], length, map, Option, Some, None}
 use Rattle.std.specs.Map.{lookup}
 use Rattle.dom_base.specs.declared.addr.Addr.{Addr}
 use Rattle.request_table.specs.declared.held.Held.{Held}

@@ -1,5 +1,5 @@
 -- A pending request that a peer names by an id, among those that have not ended.
-use Rattle.std.specs.Prelude.{ℕ, Bool, true, false, not, cond, ◌==◌, List, [], ◌∷◌, filter, Option, Some, None, MatchOption, ◌≡◌}
+use Rattle.std.specs.Prelude.{ℕ, Bool, true, false, not, cond, ◌==◌, List, [], ◌∷◌, filter, Option, Some, None}
 use Rattle.request_table.specs.Pending.{same_key, key_of}
 use Rattle.plant_model.specs.Parent.{AskingRow, among}
 use Rattle.pce_parent.specs.declared.sought.Sought.{Sought}

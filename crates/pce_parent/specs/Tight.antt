@@ -1,5 +1,5 @@
 -- Tight edges, and the one that is chosen.
-use Rattle.std.specs.Prelude.{◌≡◌, ◌⊎◌, ◌<◌, ◌≤◌, ◌+◌, ℕ, List, Contains, Option, Some, None}
+use Rattle.std.specs.Prelude.{◌≡◌, ◌⊎◌, ◌<◌, ◌+◌, ℕ, List, Contains, Option, Some, None}
 use Rattle.dom_base.specs.AddrOrder.{rank}
 use Rattle.pce_parent.specs.declared.arcs.Arc.{Arc}
 use Rattle.pce_parent.specs.Costs.{cost_at}

@@ -1,4 +1,4 @@
-use Rattle.std.proofs.Common.{◌≡◌, ℕ, ◌<◌, get_or}
+use Rattle.std.proofs.Common.{ℕ, ◌<◌, get_or}
 use Rattle.dom_base.specs.declared.query.Exclusion.{Exclusion}
 use Rattle.pce_parent.specs.Arcs.{NamesDomain}
 use Rattle.pce_parent.proofs.arcs.excludes.Given as goal

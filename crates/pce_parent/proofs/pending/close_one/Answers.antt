@@ -1,4 +1,4 @@
-use Rattle.std.proofs.Common.{◌≤◌, ℕ, length, nat_eq, sym, subst}
+use Rattle.std.proofs.Common.{◌≤◌, length, nat_eq, sym, subst}
 use Rattle.request_table.specs.Pending.{Pending}
 use Rattle.request_table.proofs.PendingLemmas.{length-remove}
 use Rattle.plant_model.specs.Parent.{Asking}

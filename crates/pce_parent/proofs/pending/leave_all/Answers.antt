@@ -1,5 +1,5 @@
-use Rattle.std.proofs.Common.{◌≤◌, ◌<◌, length, refl, sym, append-nil, arith}
-use Rattle.pce_parent.proofs.Leaving.{Left, within_left, one_left, all_left}
+use Rattle.std.proofs.Common.{refl, sym, append-nil, arith}
+use Rattle.pce_parent.proofs.Leaving.{within_left, one_left, all_left}
 use Rattle.pce_parent.proofs.pending.leave_all.Goals as goal
 
 pub loop-turn-init : goal.loop-turn-init

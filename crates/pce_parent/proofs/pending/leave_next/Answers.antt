@@ -1,7 +1,5 @@
-use Rattle.std.proofs.Common.{◌≡◌, ◌+◌, ◌≤◌, ℕ, List, length, true, false, sym, ◌∙◌, ap, arith}
-use Rattle.std.specs.Prelude.{Some, slice_get}
-use Rattle.dom_base.specs.declared.names.Peer.{Peer}
-use Rattle.request_table.specs.Pending.{Pending, same_peer}
+use Rattle.std.proofs.Common.{◌≡◌, ℕ, List, length, true, false, sym, ◌∙◌, ap, arith}
+use Rattle.request_table.specs.Pending.{Pending}
 use Rattle.plant_model.specs.declared.output.Lost.{Lost}
 use Rattle.plant_model.specs.Parent.{Asking, AskingRow, Wait, any_on, lost_of}
 use Rattle.pce_parent.specs.Pendings.{row_of}

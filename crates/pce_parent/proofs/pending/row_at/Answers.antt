@@ -1,4 +1,4 @@
-use Rattle.std.proofs.Common.{◌≡◌, ◌∙◌, sym, ap}
+use Rattle.std.proofs.Common.{◌∙◌, sym}
 use Rattle.pce_parent.proofs.HeldPlaces.{no_key_none, row_at}
 use Rattle.pce_parent.proofs.pending.row_at.Goals as goal
 

@@ -1,5 +1,4 @@
-use Rattle.std.proofs.Common.{◌≡◌, ◌<◌, ◌^◌, ℕ, true, arith, refl, sym, ◌∙◌, subst}
-use Rattle.std.specs.declared.option.Option.{Option}
+use Rattle.std.proofs.Common.{◌≡◌, ℕ, true, arith, refl, sym, ◌∙◌, subst}
 use Rattle.pce_parent.specs.Costs.{cost_at, IsBelow}
 use Rattle.pce_parent.proofs.Relaxing.{lowered, no_better}
 use Rattle.pce_parent.proofs.relax.relax.Goals as goal

@@ -1,4 +1,4 @@
-use Rattle.std.proofs.Common.{◌≡◌, take}
+use Rattle.std.proofs.Common.{take}
 use Rattle.pce_parent.specs.Costs.{AreReached}
 use Rattle.pce_parent.proofs.Passes.{Passed}
 use Rattle.pce_parent.proofs.relax.relax_all.Given as goal

@@ -1,4 +1,4 @@
-use Rattle.std.proofs.Common.{◌≤◌, sym, ◌∙◌, arith, subst}
+use Rattle.std.proofs.Common.{sym, ◌∙◌, arith}
 use Rattle.pce_parent.proofs.Walking.{set_out, arrive, go_on}
 use Rattle.pce_parent.proofs.route.chosen_hops.Goals as goal
 

@@ -5,7 +5,6 @@ use Rattle.pce_parent.specs.declared.arcs.Arc.{Arc}
 use Rattle.pce_parent.specs.declared.spot.Spot.{Spot}
 use Rattle.pce_parent.specs.Arcs.{AreRowArcs, AreLinkArcs}
 use Rattle.pce_parent.specs.Costs.{IsStep, IsRelaxed, AreReached}
-use Rattle.pce_parent.specs.Routes.{AreLeast}
 use Rattle.pce_parent.proofs.Steps.{row_steps, link_steps}
 use Rattle.pce_parent.proofs.solved.solve_border.Goals as goal
 

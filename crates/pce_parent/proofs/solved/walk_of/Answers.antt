@@ -1,10 +1,9 @@
-use Rattle.std.proofs.Common.{◌≡◌, List, ℕ, Some, None, refl, sym, ◌∙◌, ap, subst}
-use Rattle.std.specs.declared.option.Option.{Option}
+use Rattle.std.proofs.Common.{◌≡◌, List, Some, None, sym, ◌∙◌, ap, subst}
 use Rattle.plant_model.specs.BorderGraph.{Enter}
 use Rattle.pce_parent.specs.declared.spot.Spot.{Spot}
 use Rattle.pce_parent.specs.declared.route.Stand.{Stand}
 use Rattle.pce_parent.specs.Places.{place_of, spot_of, IsAt}
-use Rattle.pce_parent.specs.Routes.{StandsIn, IsRoute}
+use Rattle.pce_parent.specs.Routes.{IsRoute}
 use Rattle.pce_parent.proofs.PlaceLaws.{has_place}
 use Rattle.pce_parent.proofs.Walking.{no_walk, some_walk}
 use Rattle.pce_parent.proofs.solved.walk_of.Goals as goal

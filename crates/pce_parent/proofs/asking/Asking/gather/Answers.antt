@@ -1,4 +1,4 @@
-use Rattle.std.proofs.Common.{◌≡◌, ◌∙◌, List, ap, subst}
+use Rattle.std.proofs.Common.{◌∙◌, List, ap, subst}
 use Rattle.plant_model.specs.Parent.{Wait}
 use Rattle.pce_parent.specs.Answered.{IsAnsweredAt}
 use Rattle.pce_parent.specs.Changes.{with_answer}

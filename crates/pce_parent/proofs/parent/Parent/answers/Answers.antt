@@ -2,7 +2,7 @@ use Rattle.std.proofs.Common.{◌∙◌}
 use Rattle.plant_model.specs.Parent.{answered}
 use Rattle.pce_parent.specs.Pendings.{row_of}
 use Rattle.pce_parent.proofs.Drafts.{these_end}
-use Rattle.pce_parent.proofs.OneByOne.{at_first}
+use Rattle.pce_parent.proofs.Telling.{at_first}
 use Rattle.pce_parent.proofs.parent.Parent.answers.Goals as goal
 
 pub returns : goal.returns

@@ -1,8 +1,7 @@
-use Rattle.std.proofs.Common.{◌≡◌, ◌∙◌, ℕ, List, Some, None, sym, ap, subst}
-use Rattle.pcep_messages.specs.declared.message.Message.{Message}
-use Rattle.plant_model.specs.Parent.{AskingRow, answered, ended, silent, take_busy, take_cancel, take_failure, waiting}
-use Rattle.pce_parent.specs.declared.sought.Sought.TheVariants.{Asked, Awaited}
-use Rattle.pce_parent.specs.Endings.{GoesOn, listed}
+use Rattle.std.proofs.Common.{◌≡◌, ℕ, List, Some, None, subst}
+use Rattle.plant_model.specs.Parent.{take_cancel}
+use Rattle.pce_parent.specs.declared.sought.Sought.TheVariants.{Asked}
+use Rattle.pce_parent.specs.Endings.{GoesOn}
 use Rattle.pce_parent.specs.ParentFields.{parent_of}
 use Rattle.pce_parent.specs.Pendings.{row_of}
 use Rattle.pce_parent.specs.Seen.{Seen}

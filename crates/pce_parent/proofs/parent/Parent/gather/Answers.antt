@@ -1,4 +1,4 @@
-use Rattle.std.proofs.Common.{◌≡◌, ◌∙◌, true, false, List, Some, refl, sym, ap, subst}
+use Rattle.std.proofs.Common.{◌≡◌, ◌∙◌, true, false, refl, sym, ap, subst}
 use Rattle.pcep_messages.specs.declared.message.Wanted.{Wanted}
 use Rattle.plant_model.specs.Branches.{branches_in}
 use Rattle.plant_model.specs.RealWire.{wire}

@@ -1,4 +1,4 @@
-use Rattle.std.proofs.Common.{◌≡◌, ◌∙◌, length, ap, sym, arith}
+use Rattle.std.proofs.Common.{◌∙◌, ap, sym, arith}
 use Rattle.request_table.specs.Pending.{Pending}
 use Rattle.plant_model.specs.Parent.{Asking}
 use Rattle.pce_parent.proofs.Gone.{closed_keeps}

@@ -1,4 +1,4 @@
-use Rattle.std.proofs.Common.{◌≡◌, ◌∙◌, List, Some, sym, ap, subst, arith}
+use Rattle.std.proofs.Common.{◌∙◌, List, Some, sym, ap, subst, arith}
 use Rattle.plant_model.specs.Element.{Way, way_to}
 use Rattle.pce_parent.specs.Ways.{IsFirstTo, IsNowhere}
 use Rattle.pce_parent.proofs.WayLemmas.{first_within, way_nowhere, way_first}
