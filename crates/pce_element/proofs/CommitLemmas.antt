@@ -161,3 +161,9 @@ answers_for s x now r held down told a number found ready same answers =
       are = here;
       one = commit_one s x now (x.ask.number, held) down;
     }
+
+-- what was solved of the job of a number is this element's
+pub own_of : (s : Seen) (n : ℕ) (w : Work) (x : Solution) → Some w ≡ job_at s n → x.ask ≡ w.ask → x.topology ≡ w.topology → w.ask.number ≡ n → IsOwnJob s x
+own_of s n w x at asked over number =
+    let is : x.ask.number ≡ n = ap (λ (a : Ask). a.number) asked ∙ number in
+    subst (λ (o : Option Work). IfSome o (λ (v : Work). (x.ask ≡ v.ask) × (x.topology ≡ v.topology))) (at ∙ ap (job_at s) (sym is)) (asked, over)

@@ -7,8 +7,8 @@ use Rattle.std.proofs.Common.{append_assoc}
 use Rattle.dom_base.specs.declared.names.Peer.{Peer}
 use Rattle.request_table.specs.Pending.{ArePending, same_peer, closed_of}
 use Rattle.plant_model.specs.declared.output.Lost.{Lost}
-use Rattle.plant_model.specs.Element.{Row, stays, is_lost, lost_of, waits_on}
-use Rattle.plant_model.specs.Plant.{Pin}
+use Rattle.plant_model.specs.Element.{Element, Row, handed_lost, stays, is_lost, lost_of, waits_on}
+use Rattle.plant_model.specs.Plant.{Pin, Segment}
 use Rattle.pce_element.specs.declared.pinned.Leaves.{Leaves}
 use Rattle.pce_element.specs.declared.pinned.Leaves.TheVariants.{Stays, Drops, Loses}
 use Rattle.pce_element.specs.Pinned.{Pinned}
@@ -154,3 +154,9 @@ turned p i k old mid new told within before place leaves = (
 
     at : slice_get rows0 i ≡ Some leaves.row
     at = first.1 ∙ ap (λ (x : Row Pin). Some x) step.0
+
+-- ---- lost requests that are handed out
+
+pub lost_keeps : (k : Element Pin Segment) (ls : List Lost) → (handed_lost k ls).1.element ≡ k
+lost_keeps k [] = refl
+lost_keeps k (l ∷ ls) = refl

@@ -263,6 +263,7 @@ impl Element {
         ensures same { SameButRoom self.old self.new }
         ensures from { IfOk result (λ plan. plan.from ≡ self.new) }
         ensures taken { IfOk result (λ plan. committed self.old solved now.0 ≡ Some plan.taken) }
+        ensures clock { IfOk result (λ plan. plan.taken.element.keys.clock ≤ now.0) }
         ensures solved { IfOk result (λ plan. plan.solved ≡ Some solved) }
         ensures err { IfErr result (λ why. why ≡ CommitError.NoMemory solved) }
     {
@@ -287,6 +288,7 @@ impl Element {
         ensures from { IfOk result (λ plan. plan.from ≡ self.new) }
         ensures taken { IfOk result (λ plan. committed self.old solved now.0 ≡ Some plan.taken) }
         ensures one { IfOk result (λ plan. length plan.taken.outputs ≡ 1) }
+        ensures clock { IfOk result (λ plan. plan.taken.element.keys.clock ≤ now.0) }
         ensures solved { IfOk result (λ plan. plan.solved ≡ Some solved) }
         ensures stranger { (result ≡ Err (CommitError.Stranger solved)) ↔ (job_at self.old solved.ask.number ≡ None) }
         ensures back { IfErr result (λ why. handed_back why ≡ solved) }

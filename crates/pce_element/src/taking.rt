@@ -78,6 +78,7 @@ impl Element {
         ensures same { SameButRoom self.old self.new }
         ensures from { IfOk result (λ plan. plan.from ≡ self.new) }
         ensures taken { IfOk result (λ plan. plan.taken ≡ take wire open_of self.old.place self.old.current peer class now.0 message self.old.losing.element) }
+        ensures keys { IfOk result (λ plan. plan.taken.element.keys ≡ self.old.losing.element.keys) }
         ensures solved { IfOk result (λ plan. plan.solved ≡ None) }
     {
         let draft = self.take_message(peer, class, message, now)?;
