@@ -1,6 +1,6 @@
 -- The numbers of requests and replies that came as octets can be said back, and the parent admits IPv4 alone.
-use Rattle.std.proofs.Common.{◌≡◌, ◌<◌, ◌^◌, ◌==◌, ◌&&◌, ℕ, Bool, true, false, cond, not, List, [], ◌∷◌, map, Option, Some, None, subst, refl, arith}
-use Rattle.std.specs.Prelude.{is_none, nat_le}
+use Rattle.std.proofs.Common.{◌≡◌, ◌<◌, ◌==◌, ◌&&◌, ℕ, Bool, true, false, cond, not, List, [], ◌∷◌, map, Option, Some, None, subst, arith}
+use Rattle.std.specs.Prelude.{is_none}
 use Rattle.std.specs.Option.{option_or}
 use Rattle.std.specs.List.{AllByRecursion, filter_map, cons_option}
 use Rattle.dom_base.specs.declared.names.As.{As}
@@ -15,7 +15,6 @@ use Rattle.pcep_objects.specs.declared.object.Body.TheVariants as bodies
 use Rattle.pcep_objects.specs.declared.object.Object.{Object}
 use Rattle.pcep_objects.specs.Spelling.{read_classes}
 use Rattle.pcep_messages.specs.declared.message.Asked.{Asked}
-use Rattle.pcep_messages.specs.declared.message.Answer.{Answer}
 use Rattle.pcep_messages.specs.declared.message.Message.TheVariants as messages
 use Rattle.pcep_messages.specs.declared.message.Reply.{Reply}
 use Rattle.pcep_messages.specs.declared.message.Wanted.{Wanted}
@@ -29,10 +28,10 @@ use Rattle.pcep_messages.specs.Refusals.{Reason, because, first_of, unsupported,
 use Rattle.pcep_messages.specs.Requests.{without_bit, wish_of}
 use Rattle.pcep_messages.specs.Said.{rp_of, end_points_of, key_of, xro_of, iro_of, asks_key}
 use Rattle.plant_text.specs.Names.{parent_as}
-use Rattle.plant_model.specs.Wire.{Bytes, Checked}
+use Rattle.plant_model.specs.Wire.{Bytes}
 use Rattle.plant_model.specs.RealWire.{message_or_none, checked, check_of, wire}
 use Rattle.plant_model.specs.Laws.{Admits, AreWords, HasWords, HasNumbers, HasTimers}
-use Rattle.plant_model.proofs.Admitted.{IsAdmitted, admitted_is}
+use Rattle.plant_model.proofs.Admitted.{admitted_is}
 use Rattle.plant_model.proofs.ReadSound.{IsSound, Maybe, ObjectIsSound, body_sound, request_sound, bit_sound, replies_have, reports_have, request_by, ends_above}
 
 -- ---- reasons are octets
