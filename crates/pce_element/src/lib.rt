@@ -20,8 +20,6 @@ mod replying;
 mod searching;
 mod taking;
 mod telling;
-#[cfg(test)]
-mod tests;
 mod ways;
 
 pub use committing::CommitError;

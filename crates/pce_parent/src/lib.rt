@@ -39,6 +39,3 @@ pub use parent::Parent;
 pub use plan::BorderPlan;
 pub use solved::{BorderSolved, solve_border};
 pub use work::{Done, Work};
-
-#[cfg(test)]
-mod tests;

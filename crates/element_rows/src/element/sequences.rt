@@ -1,7 +1,7 @@
 //! What an element of domain 2 says, message by message. It has the id 192.0.2.2, sends requests to domains
 //! 1 and 3, to domain 5, whose session never comes up, and to the parent, and denies the step from domain 7
 //! to domain 3. Everything is in hexadecimal digits, worked out by hand.
-use crate::tests::{Sequence, Step};
+use super::{Sequence, Step};
 use Step::{Down, Load, Solve, Take, Tick, Up};
 use dom_base::{As, Peer};
 

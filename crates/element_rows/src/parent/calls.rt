@@ -6,7 +6,7 @@ ghost use Rattle.pce_parent.specs.Seen.{HasOnePart};
 mod scripts;
 
 use super::{LinkOf, RowOf, is_at, links};
-use crate::{Parent, ParentCommitError, solve_border};
+use pce_parent::{Parent, ParentCommitError, solve_border};
 use dom_base::{Addr, As, List, NoMemory, Peer, Tick};
 use pcep_messages::{Message, read_message, write_message};
 use plant_model::{ChildRow, Lost, Output, Outputs};

@@ -5,7 +5,7 @@ ghost use Rattle.pce_parent.specs.Solution.{IsWeighed};
 mod calls;
 mod cases;
 
-use crate::solve_border;
+use pce_parent::solve_border;
 use cases::CASES;
 use dom_base::{
     Addr, As, Cost, Excluded, Exclusion, Link, List, Metric, NoMemory, ParentLink, Query,

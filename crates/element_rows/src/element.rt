@@ -4,7 +4,7 @@ ghost use Rattle.pce_element.specs.Messages.{HasOnePart};
 
 mod sequences;
 
-use crate::Element;
+use pce_element::Element;
 use border_costs::solve;
 use disclosure::{Class, Deny};
 use dom_base::{Addr, As, List, Peer, Tick};
@@ -114,7 +114,7 @@ fn load(alloc: Global, element: &mut Element, text: &'static [u8]) -> Result<(),
 }
 
 // Whether exactly these requests are lost.
-#[tactic(auto, using(crate::proofs::LeaveLemmas::lost_keeps))]
+#[tactic(auto, using(pce_element::proofs::LeaveLemmas::lost_keeps))]
 fn lost_are(element: &mut Element, lost: &[(Peer, u32, u32)]) -> bool
     ensures { element.new.losing.element ≡ element.old.losing.element }
 {
