@@ -37,6 +37,3 @@ pub use rising::is_rising;
 pub use solve::solve_pair;
 pub use verdict::PairVerdict;
 pub use writing::write_pair;
-
-#[cfg(test)]
-mod tests;

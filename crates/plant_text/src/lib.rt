@@ -15,8 +15,6 @@ mod row_words;
 mod rows;
 mod settings;
 mod sheet;
-#[cfg(test)]
-mod tests;
 mod value;
 mod verb;
 mod word;

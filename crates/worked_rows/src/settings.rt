@@ -1,5 +1,5 @@
 //! Small settings files, each with the one answer that it gets.
-use crate::{NetError, read_network};
+use plant_text::{NetError, read_network};
 use std::alloc::Global;
 use std::test::Fail;
 

@@ -1,4 +1,5 @@
-use crate::{
+//! Pairs of paths that share no link: solved, checked, written and read.
+use diverse_pairs::{
     PairCertificate, PairForm, PairVerdict, check_pair, is_rising, read_pair, solve_pair,
     write_pair,
 };

@@ -1,5 +1,5 @@
 //! Lines of events, each with what it gives.
-use crate::{LineError, LineEvent, Network, read_blind_line, read_line, read_network, write_sent};
+use plant_text::{LineError, LineEvent, Network, read_blind_line, read_line, read_network, write_sent};
 use dom_base::{As, Text};
 use std::alloc::Global;
 use std::test::Fail;

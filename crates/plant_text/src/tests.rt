@@ -1,3 +1,0 @@
-//! What is told of small texts, and what lines give.
-mod lines;
-mod settings;
