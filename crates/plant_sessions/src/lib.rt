@@ -18,7 +18,8 @@ pub use link::{End, Link};
 pub use own::{ShortText, lost_text, our_offer, own_text};
 pub use session::any_fall;
 
-/// The greatest length, in octets, of a message that a session says of itself.
+/// The greatest length, in octets, of a message that a session says of itself. Its Open offers no
+/// capability.
 pub const OWN_LENGTH: usize = 12;
 
 /// The length, in octets, of what a lost request is answered.

@@ -1,11 +1,12 @@
 //! The texts of short messages, which take no memory.
-ghost use Rattle.std.specs.Prelude.{◌≡◌};
+ghost use Rattle.std.specs.Prelude.{◌≡◌, length};
 ghost use Rattle.pcep_messages.specs.Spelling.{message_text};
 ghost use Rattle.plant_model.specs.Deeds as deeds;
 ghost use Rattle.plant_model.specs.Element.{lost_output};
 ghost use Rattle.plant_sessions.specs.Ends.{own_bytes};
 ghost use Rattle.plant_sessions.specs.OwnFields.{octets_of};
 
+use crate::ANSWER_LENGTH;
 use pcep_capabilities::Offer;
 use pcep_session::Own;
 use plant_model::Lost;
@@ -114,7 +115,8 @@ pub(crate) fn open_text(sid: u8) -> ShortText
 /// The text of what a lost request is answered: the chain of elements is not available (RFC 5441,
 /// section 7). It takes no memory.
 pub fn lost_text(lost: &Lost) -> ShortText
-    ensures { result ≡ message_text (lost_output lost.now).message }
+    ensures text { result ≡ message_text (lost_output lost.now).message }
+    ensures length { length result ≡ ANSWER_LENGTH }
 {
     let [f0, f1, f2, f3] = lost.flags.to_be_bytes();
     let [i0, i1, i2, i3] = lost.id.to_be_bytes();
