@@ -12,6 +12,7 @@ use Rattle.dom_base.specs.declared.link.Link.{Link}
 use Rattle.te_links.specs.Rows.{Rows}
 use Rattle.walk_laws.specs.Walks.{Walk, cost}
 use Rattle.pcep_subobjects.specs.Hops.{hop_text, hops_text, strict_hop}
+use Rattle.pcep_objects.specs.Spelling.{object_text}
 use Rattle.disclosure.specs.Shown.{open_of}
 use Rattle.pcep_messages.specs.declared.message.Answer.{Answer}
 use Rattle.pcep_messages.specs.declared.message.Answer.TheVariants as answers
@@ -111,7 +112,7 @@ reply_short flags id (answers.NoPath nature vector) is =
 two_replies : (r k : Reply) → length (message_text (messages.PcRep (r ∷ k ∷ []))) ≡ 4 + length (reply_text r) + length (reply_text k)
 two_replies r k =
     let objects = flat_map-cons reply_objects r (k ∷ []) ∙ ap (λ os. reply_objects r ++ os) (flat_map-cons reply_objects k [] ∙ append-nil (reply_objects k)) in
-    let text : objects_text (flat_map reply_objects (r ∷ k ∷ [])) ≡ reply_text r ++ reply_text k = ap objects_text objects ∙ flat_map-append _ (reply_objects r) (reply_objects k) in
+    let text : objects_text (flat_map reply_objects (r ∷ k ∷ [])) ≡ reply_text r ++ reply_text k = ap objects_text objects ∙ flat_map-append object_text (reply_objects r) (reply_objects k) in
     omega (arith, ap length text, length-append (reply_text r) (reply_text k))
 
 pub replies_fit : (flags first second : ℕ) (one other : Answer) → IsSmallAnswer one → IsSmallAnswer other →
