@@ -19,7 +19,8 @@ pub(crate) fn is_same_addr(one: Addr, other: Addr) -> bool
 }
 
 impl Element {
-    pub(crate) fn own(&self) -> As
+    /// The number of the domain whose element this is.
+    pub fn own(&self) -> As
         ensures { result ≡ self.now.place.own }
     {
         self.own
