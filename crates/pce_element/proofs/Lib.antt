@@ -7,3 +7,9 @@ pub mod KeySteps
 pub mod CloseLemmas
 pub mod ReadyLemmas
 pub mod LeaveLemmas
+pub mod SearchLemmas
+pub mod EndLemmas
+pub mod BranchLemmas
+pub mod AskLemmas
+pub mod EntryLemmas
+pub mod CommitLemmas

@@ -18,6 +18,7 @@ use Rattle.plant_model.specs.Element.{Item, Row}
 use Rattle.plant_model.specs.Plant.{Pin}
 use Rattle.plant_model.specs.Meeting.{Shelves}
 use Rattle.pce_element.specs.PinnedFields.{current_of}
+use Rattle.pce_element.specs.Rows.{pin_with}
 use Rattle.pce_element.proofs.RowLemmas.{counted_more, counted_some, found_in, removed_in, counted_removed, length-removed, none_removed, counted_written, written_in, length-written}
 
 abbrev pins_row : ℕ → Held (Item Pin) → Bool
@@ -201,3 +202,14 @@ opened_some s new pending after peer id item pin topology keeps count at made sh
     let counts : all_pins (pinned_of s) ≡ length (pending.rows ++ row ∷ []) = omega (arith, count, length_push pending.rows row) in
     let kept : Keeps (pinned_of s) (pending.rows ++ row ∷ []) = record { shelves = shelves; count = counts } in
     subst (λ (t : Shelf Rows). Keeps t after.rows) (sym made) (subst (λ (p : Pending (Item Pin)). Keeps (pinned_of s) p.rows) (sym opened) kept)
+
+-- the topology that a pin of a request gives
+pub pinned_is : (s : Shelf Rows) (rows : List (Row Pin)) (number : ℕ) (item : Item Pin) (n m : ℕ) (topology : Rows) → Shelves s (current_of s) rows → option_map (λ (h : Held (Item Pin)). h.item) (lookup (nat_eq number) rows) ≡ Some item →
+    n ≡ item.pin.number → m ≡ item.pin.number → topology_of s m ≡ Some topology → pin_with n topology ≡ item.pin
+pinned_is s rows number item n m topology keeps found is own shown =
+    let there = found_item rows number item found in
+    let kept : topology_of s there.0.item.pin.number ≡ Some there.0.item.pin.topology = keeps.pinned (number, there.0) (found_in number rows there.0 there.1) in
+    let at : topology_of s m ≡ Some item.pin.topology = ap (topology_of s) own ∙ subst (λ (i : Item Pin). topology_of s i.pin.number ≡ Some i.pin.topology) there.2 kept in
+    let both : Some topology ≡ Some item.pin.topology = sym shown ∙ at in
+    let same : topology ≡ item.pin.topology = cc in
+    ap (λ (k : ℕ). pin_with k topology) is ∙ ap (pin_with item.pin.number) same

@@ -1,5 +1,7 @@
 -- for readers
 pub mod Seen
+pub mod Messages
+pub mod Jobs
 -- inner
 pub mod Items
 pub mod ItemFields
@@ -12,3 +14,6 @@ pub mod Fields
 pub mod Changes
 pub mod Plans
 pub mod PlanFields
+pub mod Branches
+pub mod Endings
+pub mod Committing

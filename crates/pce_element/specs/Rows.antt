@@ -1,8 +1,18 @@
 -- A pending request that is looked at.
+use Rattle.std.specs.Prelude.{ℕ}
+use Rattle.te_links.specs.Rows.{Rows}
 use Rattle.request_table.specs.declared.held.Held.{Held}
 use Rattle.plant_model.specs.Element as element
+use Rattle.plant_model.specs.Element.{Item}
 use Rattle.plant_model.specs.Plant.{Pin}
 use Rattle.pce_element.specs.declared.pinned.Row.{Row}
 
 abbrev pub row_of : Row → element.Row Pin
 row_of r = (r.number, record { key = r.key; item = r.item.now })
+
+-- what a request pins
+abbrev pub pin_in : Item Pin → Pin
+pin_in i = i.pin
+
+abbrev pub pin_with : ℕ → Rows → Pin
+pin_with number topology = record { number = number; topology = topology }

@@ -3,15 +3,27 @@
 #![tactic(auto)]
 
 mod accepted;
+mod asking;
+mod branches;
 mod change;
+mod committing;
+mod drafts;
 mod element;
+mod jobs;
 mod leaving;
+mod looks;
 mod making;
+mod messages;
 mod pinned;
 mod plan;
+mod replying;
+mod searching;
+mod taking;
+mod telling;
 #[cfg(test)]
 mod tests;
 mod ways;
 
+pub use committing::CommitError;
 pub use element::Element;
 pub use plan::Plan;

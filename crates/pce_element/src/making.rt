@@ -86,7 +86,7 @@ impl Element {
     }
 
     /// Makes room for so many keys.
-    fn reserve_keys(&mut self, count: u32) -> Result<(), NoMemory>
+    pub(crate) fn reserve_keys(&mut self, count: u32) -> Result<(), NoMemory>
         ensures same { SameButRoom self.old self.new }
         ensures ok { OnOk result (count ≤ self.new.room.keys) }
     {

@@ -1,6 +1,6 @@
 //! The pending requests of an element, with the topologies that they pin.
 ghost use Rattle.std.specs.Prelude.{◌≡◌, ◌≤◌, ◌<◌, ◌+◌, ◌↔◌, [], suc, false, None, Some, Err, IsTrue, IfOk, IfSome, OnOk, OnErr, MatchOption, slice_get, length};
-ghost use Rattle.std.specs.Option.{option_copied};
+ghost use Rattle.std.specs.Option.{option_copied, option_map};
 ghost use Rattle.std.specs.Arc.{arc_value};
 ghost use Rattle.te_links.specs.Rows.{IsTopology, IsInOrder};
 ghost use Rattle.request_table.specs.Pending.{ArePending, number_of, item_of, key_at, is_full, opened_of, closed_of};
@@ -8,7 +8,7 @@ ghost use Rattle.plant_model.specs.Element.{ready_numbers};
 ghost use Rattle.plant_model.specs.Plant.{first_pin};
 ghost use Rattle.plant_model.specs.Plant as plant;
 ghost use Rattle.pce_element.specs.Items.{new_item};
-ghost use Rattle.pce_element.specs.Rows.{row_of};
+ghost use Rattle.pce_element.specs.Rows.{pin_in, pin_with, row_of};
 ghost use Rattle.pce_element.specs.Leaving.{LeavesAt, SameButSpare};
 ghost use Rattle.pce_element.specs.Changes.{all_closed, readied};
 
@@ -18,6 +18,7 @@ use plant_model::Lost;
 use request_table::{PENDING_MAX, RequestKey, Requests};
 use std::alloc::Global;
 use std::marker::Model;
+use std::sync::Arc;
 use te_generations::{Generations, LoadError};
 use te_links::Topology;
 use vspt_tree::Branch;
@@ -137,6 +138,19 @@ impl PinnedRequests {
         ensures { result ≡ key_at self.now.pending number }
     {
         self.requests.key(number)
+    }
+
+    /// The topology that a request pins, with its number, as a further owner of it.
+    pub fn pinned(&self, number: u64) -> Result<Option<(u64, Arc<Topology>)>, NoMemory>
+        ensures { IfOk result (λ pin. option_map (λ p. pin_with p.0 (arc_value p.1)) pin ≡ option_map pin_in (item_of self.now.pending number)) }
+    {
+        let _last = self.generations.current();
+        let Some(item) = self.requests.get(number) else {
+            return Ok(None);
+        };
+        let generation = self.generations.generation(item.pin());
+        let topology = self.generations.of(item.pin())?;
+        Ok(Some((generation, topology)))
     }
 
     /// Whether no further request can be accepted.

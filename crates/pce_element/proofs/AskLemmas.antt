@@ -1,0 +1,81 @@
+-- What an element does with a request, by what its code looks at.
+use Rattle.std.proofs.Common.{◌≡◌, ◌∙◌, ◌≤◌, ◌<◌, ◌==◌, ◌&&◌, ◌||◌, ℕ, suc, Bool, true, false, not, cond, Option, Some, None, List, [], ◌∷◌, ◌++◌, length, drop, arith, refl, sym, ap, subst}
+use Rattle.std.specs.Prelude.{slice_get}
+use Rattle.std.proofs.lemmas.List.{append-nil}
+use Rattle.dom_base.specs.declared.names.As.{As}
+use Rattle.dom_base.specs.declared.names.Peer.{Peer}
+use Rattle.dom_base.specs.declared.names.Peer.TheVariants.{Inner}
+use Rattle.pcep_messages.specs.declared.message.Wanted.{Wanted}
+use Rattle.disclosure.specs.declared.class.Class.{Class}
+use Rattle.disclosure.specs.declared.class.Class.TheVariants.{Client, Neighbour, Parent}
+use Rattle.disclosure.specs.declared.class.Deny.{Deny}
+use Rattle.disclosure.specs.Policy as policy
+use Rattle.disclosure.specs.Policy.{denies_from}
+use Rattle.request_table.specs.Pending.{opened_of}
+use Rattle.plant_model.specs.declared.output.Output.{Output}
+use Rattle.plant_model.specs.Element.{Element, Place, Ready, Taken, Way, denies, each, is_denied, silent, way_to}
+use Rattle.plant_model.specs.Plant.{Pin, Segment}
+use Rattle.plant_model.specs.Taking.{item_of, send_on, take_along}
+use Rattle.pce_element.specs.Changes.{IsDraft}
+use Rattle.pce_element.specs.Seen.{Seen}
+use Rattle.pce_element.specs.declared.change.Draft.{Draft}
+
+pub along_next : (e : Place) (pin : Pin) (p : Peer) (class : Class) (flags x : ℕ) (w : Wanted) (k : Element Pin Segment) (sequence : List As) (next : As) → slice_get sequence 1 ≡ Some next →
+    send_on pin p class flags x w sequence (drop 1 sequence) (is_denied e.deny class next) k (way_to (Inner next) k.ways) ≡ take_along e pin p class flags x w k sequence
+along_next e pin p class flags x w k [] next at = absurd (let no : None ≡ Some next = at in cc)
+along_next e pin p class flags x w k (a ∷ []) next at = absurd (let no : None ≡ Some next = at in cc)
+along_next e pin p class flags x w k (a ∷ b ∷ rest) next at =
+    let same : Some b ≡ Some next = at in
+    ap (λ (n : As). send_on pin p class flags x w (a ∷ b ∷ rest) (b ∷ rest) (is_denied e.deny class n) k (way_to (Inner n) k.ways)) (let e : next ≡ b = cc in e)
+
+pub along_own : (e : Place) (pin : Pin) (p : Peer) (class : Class) (flags x : ℕ) (w : Wanted) (k : Element Pin Segment) (sequence : List As) → length sequence ≡ 1 →
+    silent (record k { pending = opened_of k.pending p x (item_of pin class flags w sequence (Ready [])) }) ≡ take_along e pin p class flags x w k sequence
+along_own e pin p class flags x w k [] one = absurd (omega (arith, one))
+along_own e pin p class flags x w k (a ∷ []) one = refl
+along_own e pin p class flags x w k (a ∷ b ∷ rest) one = absurd (omega (arith, one))
+
+pub own_alone : (sequence : List As) → 1 ≤ length sequence → slice_get sequence 1 ≡ None → length sequence ≡ 1
+own_alone [] some none = absurd (omega (arith, some))
+own_alone (a ∷ []) some none = refl
+own_alone (a ∷ b ∷ rest) some none = absurd (let no : Some b ≡ None = none in cc)
+
+-- ---- a message of one part
+
+pub draft_of : (s : Seen) (t u : Taken Pin Segment) (d : Draft) → t ≡ u → IsDraft s t d → IsDraft s u d
+draft_of s t u d same is = subst (λ (x : Taken Pin Segment). IsDraft s x d) same is
+
+pub only_one : {X : Type 0} (f : X → Element Pin Segment → Taken Pin Segment) (x : X) (k : Element Pin Segment) → f x k ≡ each f (x ∷ []) k
+only_one f x k = ap (λ (os : List Output). let t : Taken Pin Segment = record { element = (f x k).element; outputs = os } in t) (sym (append-nil (f x k).outputs))
+
+pub one_of : {X : Type 0} (xs rest : List X) (x : X) → xs ≡ rest ++ x ∷ [] → length xs ≤ 1 → xs ≡ x ∷ []
+one_of xs [] x is few = is
+one_of xs (y ∷ rest) x is few = absurd (two rest (subst (λ (zs : _). length zs ≤ 1) is few))
+  where
+    two : (zs : List _) → length (y ∷ zs ++ x ∷ []) ≤ 1 → ⊥
+    two [] few' = omega (arith, few')
+    two (z ∷ zs) few' = omega (arith, few')
+
+pub first_of_one : {X : Type 0} (xs rest : List X) (x : X) → xs ≡ x ∷ rest → length xs ≤ 1 → xs ≡ x ∷ []
+first_of_one xs [] x is few = is
+first_of_one xs (y ∷ rest) x is few = absurd (omega (arith, subst (λ (zs : _). length zs ≤ 1) is few))
+
+-- ---- policy
+
+denies_is : (rows : List Deny) (a next : As) → denies rows a next ≡ denies_from a.0 next.0 rows
+denies_is [] a next = refl
+denies_is (row ∷ rows) a next =
+    go (row.from.0 == a.0) (row.next.0 == next.0) (denies rows a next) ∙ ap (λ (b : Bool). ((row.from.0 == a.0) && (row.next.0 == next.0)) || b) (denies_is rows a next)
+  where
+    go : (x y d : Bool) → cond x (cond y true d) d ≡ (x && y) || d
+    go true true d = refl
+    go true false d = refl
+    go false y d = refl
+
+pub denied_is : (rows : List Deny) (class : Class) (next : As) → policy.is_denied rows class next ≡ is_denied rows class next
+denied_is rows (Client may) next = sym (denies_is rows (record { 0 = 0 }) next)
+denied_is rows (Neighbour a) next = sym (denies_is rows a next)
+denied_is rows Parent next = refl
+
+pub not_back : (a b : Bool) → a ≡ not b → not a ≡ b
+not_back a true is = ap not is
+not_back a false is = ap not is

@@ -1,0 +1,163 @@
+-- A solved job that is answered: its branches, its keys, its one message.
+use Rattle.std.proofs.Common.{◌≡◌, ◌∙◌, ◌<◌, ◌≤◌, ◌+◌, ◌-◌, ◌==◌, ℕ, suc, Bool, true, false, cond, nat_lt, nat_eq, Option, Some, None, List, [], ◌∷◌, ◌++◌, length, map, arith, refl, sym, ap, subst, option_map}
+use Rattle.std.specs.Prelude.{All, Any, Contains, IfSome}
+use Rattle.std.specs.List.{AllZip, zip}
+use Rattle.std.specs.Map.{lookup}
+use Rattle.std.proofs.lemmas.Bool.{le-ltb}
+use Rattle.std.proofs.lemmas.List.Elements.{All-nil, All-cons}
+use Rattle.dom_base.specs.declared.addr.Addr.{Addr}
+use Rattle.dom_base.specs.declared.query.Metric.{Metric}
+use Rattle.pcep_subobjects.specs.declared.hop.Hop.{Hop}
+use Rattle.pcep_messages.specs.declared.message.Message.{Message}
+use Rattle.pcep_messages.specs.declared.message.Answer.TheVariants.{Paths}
+use Rattle.pcep_messages.specs.declared.message.Path.{Path}
+use Rattle.request_table.specs.declared.held.Held.{Held}
+use Rattle.request_table.specs.Pending.{item_of, key_at}
+use Rattle.request_table.specs.declared.held.RequestKey.{RequestKey}
+use Rattle.path_keys.specs.Keys.{Keys, live_at, live_most, number_after}
+use Rattle.vspt_tree.specs.declared.branch.Best.{Best}
+use Rattle.vspt_tree.specs.declared.branch.Branch.{Branch}
+use Rattle.vspt_tree.specs.Branches.{AreBranchesOf, HasBranchAt, IsBranchOf}
+use Rattle.border_costs.specs.declared.job.Ask.{Ask}
+use Rattle.border_costs.specs.declared.job.Down.{Down}
+use Rattle.border_costs.specs.Solutions.{AreRows, Solution}
+use Rattle.border_costs.proofs.Heads.{heads_have_branches}
+use Rattle.plant_model.proofs.Meeting.{branch_meets}
+use Rattle.plant_model.specs.Branches.{downs, end_of, onward, closed_branch, path_of}
+use Rattle.plant_model.specs.Element.{Element, Item, Row, Stage, Taken, Waits, Ready, ended, is_client}
+use Rattle.plant_model.specs.declared.output.Output.{Output}
+use Rattle.plant_model.specs.Plant.{Pin, Segment}
+use Rattle.plant_model.specs.RealWire.{wire}
+use Rattle.plant_model.specs.Solving.{client_reply, closed_paths, closed_reply, free, issued_all}
+use Rattle.plant_model.specs.Taking.{answered}
+use Rattle.plant_model.specs.Writing.{busy, reply_message}
+use Rattle.pce_element.specs.Changes.{all_issued}
+use Rattle.pce_element.specs.Committing.{Answers, AnswersClosed, AnswersFor, IsOwnJob, client_answer, closed_parts, commit_held, commit_row, commit_stage, committed, paths_by, segments_in}
+use Rattle.pce_element.specs.Jobs.{Work, job_at, work_at, work_for}
+use Rattle.pce_element.specs.Items.{branches_at}
+use Rattle.pce_element.specs.Seen.{Seen}
+use Rattle.pce_element.specs.declared.committing.Answered.{Answered}
+use Rattle.pce_element.proofs.RowLemmas.{first_in, later_in}
+
+-- ---- each node beyond has a branch
+
+branch_in : (whole : List Branch) (b : Branch) → Contains whole b → HasBranchAt whole b.entry
+branch_in whole b has = (has.0, b, has.1, has.2, refl)
+
+each_has : (whole bs : List Branch) → ((b : Branch) → Contains bs b → Contains whole b) → All (λ (d : Down). HasBranchAt whole d.node) (downs bs)
+each_has whole [] there = All-nil (λ (d : Down). HasBranchAt whole d.node)
+each_has whole (b ∷ bs) there =
+    All-cons (λ (d : Down). HasBranchAt whole d.node) (record { node = b.entry; cost = b.cost }) (downs bs) (branch_in whole b (there b (first_in b bs))) (each_has whole bs (λ x has. there x (later_in b bs x has)))
+
+pub own_heads : (s : Seen) (x : Solution) (held : Held (Item Pin)) (down : List Branch) → lookup (nat_eq x.ask.number) s.losing.element.pending.rows ≡ Some held → held.item.stage ≡ Ready down → IsOwnJob s x → AreRows x.topology x.ask x.rows →
+    All (λ row. IfSome row.head (HasBranchAt down)) x.rows.best
+own_heads s x held down found ready own are =
+    let job : job_at s x.ask.number ≡ work_at s.place.own x.ask.number held.item (Ready down) =
+    ap (λ (o : Option (Held (Item Pin))). work_for s.place.own x.ask.number (option_map (λ (h : Held (Item Pin)). h.item) o)) found ∙ ap (work_at s.place.own x.ask.number held.item) ready in
+    let same = subst (λ (o : Option Work). IfSome o (λ (w : Work). (x.ask ≡ w.ask) × (x.topology ≡ w.topology))) job own in
+    let told : x.ask.down ≡ downs down = ap (λ (a : Ask). a.down) same.0 in
+    heads_have_branches x.topology x.ask x.rows down are (subst (All (λ (d : Down). HasBranchAt down d.node)) (sym told) (each_has down down (λ b has. has)))
+
+-- ---- paths
+
+pub joined_paths : (m : Metric) (down : List Branch) (best : List Best) (own : List (List Hop)) (branches : List Branch) → AreBranchesOf down best own branches → map (λ (b : Branch). path_of wire m b.cost b.hops) branches ≡ paths_by m down best own
+joined_paths m down [] own [] are = refl
+joined_paths m down [] own (x ∷ branches) are = absurd are
+joined_paths m down (b ∷ best) [] [] are = refl
+joined_paths m down (b ∷ best) [] (x ∷ branches) are = absurd are
+joined_paths m down (b ∷ best) (part ∷ own) [] are = absurd are
+joined_paths m down (b ∷ best) (part ∷ own) (x ∷ branches) are =
+    let is : IsBranchOf down b part x = are.0 in
+    let here : path_of wire m x.cost x.hops ≡ path_of wire m b.cost (part ++ onward b.exit b.head down) = ap (λ (c : ℕ). path_of wire m c x.hops) is.cost ∙ ap (path_of wire m b.cost) (branch_meets down b part x is) in
+    ap (λ (p : Path). p ∷ map (λ (y : Branch). path_of wire m y.cost y.hops) branches) here ∙ ap (λ (ps : List Path). path_of wire m b.cost (part ++ onward b.exit b.head down) ∷ ps) (joined_paths m down best own branches are.1)
+
+pub closed_are : (pce : Addr) (m : Metric) (target : Addr) (down : List Branch) (key : ℕ) (best : List Best) → paths_by m down best (closed_parts pce target key best) ≡ closed_paths wire pce m target down key best
+closed_are pce m target down key [] = refl
+closed_are pce m target down key (b ∷ best) = ap (λ (ps : List Path). path_of wire m b.cost (closed_branch key pce target b down) ∷ ps) (closed_are pce m target down (number_after key) best)
+
+pub length-parts : (pce target : Addr) (key : ℕ) (best : List Best) → length best ≡ length (closed_parts pce target key best)
+length-parts pce target key [] = refl
+length-parts pce target key (b ∷ best) = ap suc (length-parts pce target (number_after key) best)
+
+pub length-segments : (best : List Best) → length (segments_in best) ≡ length best
+length-segments [] = refl
+length-segments (b ∷ best) = ap suc (length-segments best)
+
+pub client_is : (h : Row Pin) (down : List Branch) (source_known target_known : Bool) (best : List Best) →
+    reply_message h.1.item.flags h.1.key.id (client_answer h.1.item.wanted.query.metric down source_known target_known best) ≡ client_reply wire h down source_known target_known best
+client_is h down source_known target_known [] = refl
+client_is h down source_known target_known (b ∷ best) = refl
+
+-- ---- keys
+
+pub issued_are : (now : ℕ) (best : List Best) (keys : Keys Segment) → all_issued now (segments_in best) keys ≡ issued_all now (λ (b : Best). b.segment) best keys
+issued_are now [] keys = refl
+issued_are now (b ∷ best) keys = issued_are now best _
+
+-- ---- one message
+
+one_either : (b : Bool) (t u : Taken Pin Segment) → length t.outputs ≡ 1 → length u.outputs ≡ 1 → length (let v : Taken Pin Segment = cond b t u in v).outputs ≡ 1
+one_either true t u first second = first
+one_either false t u first second = second
+
+closed_one : (s : Seen) (now : ℕ) (h : Row Pin) (down : List Branch) (best : List Best) → length (closed_reply wire s.place h down now (λ (b : Best). b.segment) s.losing.element best).outputs ≡ 1
+closed_one s now h down [] = refl
+closed_one s now h down (b ∷ bs) =
+    let k = s.losing.element in
+    one_either (nat_lt (free now k.keys) (length (b ∷ bs))) (answered h (busy h.1.item.flags h.1.key.id) k)
+    (answered h
+    (reply_message h.1.item.flags h.1.key.id (Paths (closed_paths wire s.place.id h.1.item.wanted.query.metric h.1.item.wanted.target down k.keys.next (b ∷ bs))))
+    (record k { keys = issued_all now (λ (x : Best). x.segment) (b ∷ bs) k.keys })) refl refl
+
+pub commit_one : (s : Seen) (x : Solution) (now : ℕ) (h : Row Pin) (down : List Branch) → length (commit_row s x now h down).outputs ≡ 1
+commit_one s x now h down =
+    one_either (is_client h.1.item.class) (answered h (client_reply wire h down x.rows.source_known x.rows.target_known x.rows.best) s.losing.element)
+    (closed_reply wire s.place h down now (λ (b : Best). b.segment) s.losing.element x.rows.best) refl (closed_one s now h down x.rows.best)
+
+-- ---- to closed peers
+
+pub closed_answers : (s : Seen) (x : Solution) (now : ℕ) (h : Row Pin) (down : List Branch) (best : List Best) (a : Answered) (left : ℕ) (m : Message) (paths : List Path) → x.rows.best ≡ best → (length best == 0) ≡ false → length best ≤ left →
+    left + length (live_at s.losing.element.keys now) ≡ live_most →
+    paths ≡ closed_paths wire s.place.id h.1.item.wanted.query.metric h.1.item.wanted.target down s.losing.element.keys.next best → m ≡ reply_message h.1.item.flags h.1.key.id (Paths paths) →
+    a.outputs ≡ (let o : Output = record { to = h.1.key.peer; message = m } in o) ∷ [] → a.segments ≡ segments_in best → AnswersClosed s x now h down a
+closed_answers s x now h down [] a left m paths whole some enough count are says outputs segments = absurd (let no' : true ≡ false = some in cc)
+closed_answers s x now h down (b ∷ bs) a left m paths whole some enough count are says outputs segments =
+    let k = s.losing.element in
+    let few : length (b ∷ bs) ≤ free now k.keys = omega (arith, enough, count) in
+    let reply : Message = reply_message h.1.item.flags h.1.key.id (Paths (closed_paths wire s.place.id h.1.item.wanted.query.metric h.1.item.wanted.target down k.keys.next (b ∷ bs))) in
+    let next : Element Pin Segment = record k { keys = issued_all now (λ (y : Best). y.segment) (b ∷ bs) k.keys } in
+    let busy_one : Taken Pin Segment = answered h (busy h.1.item.flags h.1.key.id) k in
+    let is : closed_reply wire s.place h down now (λ (y : Best). y.segment) k x.rows.best ≡ answered h reply next =
+    ap (closed_reply wire s.place h down now (λ (y : Best). y.segment) k) whole ∙ ap (λ (t : Bool). let u : Taken Pin Segment = cond t busy_one (answered h reply next) in u) (le-ltb (free now k.keys) (length (b ∷ bs)) few) in
+    let said : m ≡ reply = says ∙ ap (λ (ps : List Path). reply_message h.1.item.flags h.1.key.id (Paths ps)) are in
+    record {
+      outputs = outputs ∙ ap (λ (y : Message). (let o : Output = record { to = h.1.key.peer; message = y } in o) ∷ []) said ∙ ap (λ (t : Taken Pin Segment). t.outputs) (sym is);
+      element = ap (λ (ss : List Segment). let e : Element Pin Segment = ended h.0 (record k { keys = all_issued now ss k.keys }) in e) segments
+          ∙ ap (λ (ks : Keys Segment). let e : Element Pin Segment = ended h.0 (record k { keys = ks }) in e) (issued_are now (b ∷ bs) k.keys) ∙ ap (λ (t : Taken Pin Segment). t.element) (sym is);
+    }
+
+-- ---- by the request that was found
+
+pub ready_stage : (st : Stage) (b : List Branch) → Some b ≡ branches_at st → st ≡ Ready b
+ready_stage (Waits on id) b is = absurd (let none : Some b ≡ None = is in cc)
+ready_stage (Ready d) b is = let same : Some b ≡ Some d = is in ap Ready (let e : d ≡ b = cc in e)
+
+pub job_there : (s : Seen) (n : ℕ) (held : Held (Item Pin)) (down : List Branch) → lookup (nat_eq n) s.losing.element.pending.rows ≡ Some held → held.item.stage ≡ Ready down → job_at s n ≡ None → ⊥
+job_there s n held down found ready none =
+    let job : job_at s n ≡ work_at s.place.own n held.item (Ready down) =
+    ap (λ (o : Option (Held (Item Pin))). work_for s.place.own n (option_map (λ (h : Held (Item Pin)). h.item) o)) found ∙ ap (work_at s.place.own n held.item) ready in
+    some_none _ (sym job ∙ none)
+  where
+    some_none : (w : Work) → Some w ≡ None → ⊥
+    some_none w is = cc
+
+pub answers_for : (s : Seen) (x : Solution) (now r : ℕ) (held : Held (Item Pin)) (down told : List Branch) (a : Answered) → r ≡ x.ask.number → lookup (nat_eq x.ask.number) s.losing.element.pending.rows ≡ Some held → held.item.stage ≡ Ready down →
+    told ≡ down → Answers s x now (r, held) told a → AnswersFor s x now a
+answers_for s x now r held down told a number found ready same answers =
+    let here : Answers s x now (x.ask.number, held) down a = subst (λ (n : ℕ). Answers s x now (n, held) down a) number (subst (λ (d : List Branch). Answers s x now (r, held) d a) same answers) in
+    record {
+      taken = commit_row s x now (x.ask.number, held) down;
+      is = ap (commit_held s x now x.ask.number) found ∙ ap (commit_stage s x now (x.ask.number, held)) ready;
+      are = here;
+      one = commit_one s x now (x.ask.number, held) down;
+    }

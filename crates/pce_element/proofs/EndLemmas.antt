@@ -1,0 +1,93 @@
+-- Requests that end one after the other, step by step.
+use Rattle.std.proofs.Common.{◌≡◌, ◌∙◌, ℕ, Option, Some, None, List, [], ◌∷◌, ◌++◌, Result, Ok, Err, OnOk, refl, sym, ap, append_assoc}
+use Rattle.std.specs.Prelude.{IfOk}
+use Rattle.std.proofs.lemmas.List.{append-nil}
+use Rattle.dom_base.specs.declared.names.Peer.{Peer}
+use Rattle.pcep_messages.specs.declared.message.Message.{Message}
+use Rattle.request_table.specs.Pending.{closed_of, number_of}
+use Rattle.plant_model.specs.declared.output.Output.{Output}
+use Rattle.plant_model.specs.Element.{Element, Item, Row, Taken, each, ended, silent, waiting}
+use Rattle.plant_model.specs.Plant.{Pin, Segment}
+use Rattle.plant_model.specs.Taking.{answered, cancelled, error_answer, take_busy, take_cancel, take_failure, told_busy, told_error}
+use Rattle.plant_model.specs.Writing.{busy}
+use Rattle.pce_element.specs.Changes.{all_closed, all_ended}
+use Rattle.pce_element.specs.Endings.{after, failing, reached}
+use Rattle.pce_element.specs.declared.telling.Ending.{Ending}
+use Rattle.pce_element.proofs.CloseLemmas.{all_closed-more}
+
+-- ---- what holds where a call succeeds
+
+pub on_ok : {T E : Type 0} {P Q : Type 0} (r : Result T E) → (P → Q) → OnOk r P → OnOk r Q
+on_ok (Ok x) f p = f p
+on_ok (Err e) f p = tt
+
+pub on_ok_both : {T E : Type 0} {P Q R : Type 0} (r : Result T E) → (P → Q → R) → OnOk r P → OnOk r Q → OnOk r R
+on_ok_both (Ok x) f p q = f p q
+on_ok_both (Err e) f p q = tt
+
+pub if_ok_both : {T E : Type 0} {P Q R : T → Type 0} (r : Result T E) → ((x : T) → P x → Q x → R x) → IfOk r P → IfOk r Q → IfOk r R
+if_ok_both (Ok x) f p q = f x p q
+if_ok_both (Err e) f p q = tt
+
+-- ---- steps
+
+pub after_each : {X : Type 0} (t : Taken Pin Segment) (f : X → Element Pin Segment → Taken Pin Segment) (x : X) (xs : List X) → after t (each f (x ∷ xs)) ≡ after (after t (f x)) (each f xs)
+after_each t f x xs =
+    let first = f x t.element in
+    let rest = each f xs first.element in
+    ap (λ (os : List Output). let u : Taken Pin Segment = record { element = rest.element; outputs = os } in u) (sym (append_assoc t.outputs first.outputs rest.outputs))
+
+pub after_none : (t : Taken Pin Segment) → after t silent ≡ t
+after_none t = ap (λ (os : List Output). let u : Taken Pin Segment = record { element = t.element; outputs = os } in u) (append-nil t.outputs)
+
+-- ---- what one step makes
+
+pub answered_after : (k : Element Pin Segment) (old new : Ending) (h : Row Pin) (m : Message) → new.numbers ≡ old.numbers ++ h.0 ∷ [] → new.outputs ≡ old.outputs ++ (let o : Output = record { to = h.1.key.peer; message = m } in o) ∷ [] →
+    reached k new ≡ after (reached k old) (answered h m)
+answered_after k old new h m numbers outputs =
+    ap (λ (ns : List ℕ). let u : Taken Pin Segment = record { element = all_ended ns k; outputs = new.outputs } in u) numbers
+    ∙ ap (λ (os : List Output). let u : Taken Pin Segment = record { element = all_ended (old.numbers ++ h.0 ∷ []) k; outputs = os } in u) outputs
+    ∙ ap (λ p. let u : Taken Pin Segment = record { element = record k { pending = p }; outputs = old.outputs ++ (let o : Output = record { to = h.1.key.peer; message = m } in o) ∷ [] } in u) (all_closed-more old.numbers h.0 k.pending)
+
+pub ended_after : (k : Element Pin Segment) (old new : Ending) (n : ℕ) → new.numbers ≡ old.numbers ++ n ∷ [] → new.outputs ≡ old.outputs → reached k new ≡ after (reached k old) (λ e. silent (ended n e))
+ended_after k old new n numbers outputs =
+    ap (λ (ns : List ℕ). let u : Taken Pin Segment = record { element = all_ended ns k; outputs = new.outputs } in u) numbers
+    ∙ ap (λ (os : List Output). let u : Taken Pin Segment = record { element = all_ended (old.numbers ++ n ∷ []) k; outputs = os } in u) (outputs ∙ sym (append-nil old.outputs))
+    ∙ ap (λ p. let u : Taken Pin Segment = record { element = record k { pending = p }; outputs = old.outputs ++ [] } in u) (all_closed-more old.numbers n k.pending)
+
+-- ---- by what is found
+
+pub busy_none : (k : Element Pin Segment) (e : Ending) (p : Peer) (rp : ℕ × ℕ) → waiting p rp.1 (all_closed e.numbers k.pending).rows ≡ None → reached k e ≡ after (reached k e) (take_busy p rp)
+busy_none k e p rp none =
+    sym (after_none (reached k e)) ∙ ap (λ (o : Option (Row Pin)). after (reached k e) (λ x. told_busy x o)) (sym none)
+
+pub busy_some : (k : Element Pin Segment) (old new : Ending) (p : Peer) (rp : ℕ × ℕ) (h : Row Pin) (m : Message) → waiting p rp.1 (all_closed old.numbers k.pending).rows ≡ Some h → m ≡ busy h.1.item.flags h.1.key.id →
+    new.numbers ≡ old.numbers ++ h.0 ∷ [] → new.outputs ≡ old.outputs ++ (let o : Output = record { to = h.1.key.peer; message = m } in o) ∷ [] → reached k new ≡ after (reached k old) (take_busy p rp)
+busy_some k old new p rp h m found says numbers outputs =
+    answered_after k old new h m numbers outputs ∙ ap (λ (x : Message). after (reached k old) (answered h x)) says ∙ ap (λ (o : Option (Row Pin)). after (reached k old) (λ x. told_busy x o)) (sym found)
+
+pub cancel_none : (k : Element Pin Segment) (e : Ending) (p : Peer) (rp : ℕ × ℕ) → number_of (all_closed e.numbers k.pending) p rp.1 ≡ None → reached k e ≡ after (reached k e) (take_cancel p rp)
+cancel_none k e p rp none =
+    sym (after_none (reached k e)) ∙ ap (λ (o : Option ℕ). after (reached k e) (λ x. cancelled x o)) (sym none)
+
+pub cancel_some : (k : Element Pin Segment) (old new : Ending) (p : Peer) (rp : ℕ × ℕ) (n : ℕ) → number_of (all_closed old.numbers k.pending) p rp.1 ≡ Some n → new.numbers ≡ old.numbers ++ n ∷ [] → new.outputs ≡ old.outputs →
+    reached k new ≡ after (reached k old) (take_cancel p rp)
+cancel_some k old new p rp n found numbers outputs =
+    ended_after k old new n numbers outputs ∙ ap (λ (o : Option ℕ). after (reached k old) (λ x. cancelled x o)) (sym found)
+
+pub failure_none : (k : Element Pin Segment) (e : Ending) (p : Peer) (error rp : ℕ × ℕ) → waiting p rp.1 (all_closed e.numbers k.pending).rows ≡ None → reached k e ≡ after (reached k e) (failing p error rp)
+failure_none k e p error rp none =
+    sym (after_none (reached k e)) ∙ ap (λ (o : Option (Row Pin)). after (reached k e) (λ x. take_failure error x o)) (sym none)
+
+pub failure_silent : (k : Element Pin Segment) (e : Ending) (p : Peer) (error rp : ℕ × ℕ) (h : Row Pin) → waiting p rp.1 (all_closed e.numbers k.pending).rows ≡ Some h → error_answer error h.1.item.flags h.1.key.id ≡ [] →
+    reached k e ≡ after (reached k e) (failing p error rp)
+failure_silent k e p error rp h found says =
+    sym (after_none (reached k e)) ∙ ap (λ (ms : List Message). after (reached k e) (λ x. told_error h x ms)) (sym says)
+    ∙ ap (λ (o : Option (Row Pin)). after (reached k e) (λ x. take_failure error x o)) (sym found)
+
+pub failure_some : (k : Element Pin Segment) (old new : Ending) (p : Peer) (error rp : ℕ × ℕ) (h : Row Pin) (m : Message) → waiting p rp.1 (all_closed old.numbers k.pending).rows ≡ Some h →
+    m ∷ [] ≡ error_answer error h.1.item.flags h.1.key.id → new.numbers ≡ old.numbers ++ h.0 ∷ [] → new.outputs ≡ old.outputs ++ (let o : Output = record { to = h.1.key.peer; message = m } in o) ∷ [] →
+    reached k new ≡ after (reached k old) (failing p error rp)
+failure_some k old new p error rp h m found says numbers outputs =
+    answered_after k old new h m numbers outputs ∙ ap (λ (ms : List Message). after (reached k old) (λ x. told_error h x ms)) says
+    ∙ ap (λ (o : Option (Row Pin)). after (reached k old) (λ x. take_failure error x o)) (sym found)

@@ -1,0 +1,27 @@
+use Rattle.std.proofs.Common.{◌≡◌, ◌∙◌, ◌<◌, Bool, List, Some, not, length, sym, ap, subst}
+use Rattle.std.specs.Prelude.{IfOk, slice_get}
+use Rattle.std.proofs.lemmas.Bool.{ltb-true}
+use Rattle.std.proofs.lemmas.Option.{slice_get_read}
+use Rattle.std.proofs.Common.{drop, refl}
+use Rattle.dom_base.specs.declared.names.As.{As}
+use Rattle.dom_base.specs.declared.names.Peer.TheVariants.{Inner}
+use Rattle.plant_model.specs.Element.{Taken, is_denied, way_to}
+use Rattle.plant_model.specs.Plant.{Pin, Segment}
+use Rattle.plant_model.specs.Taking.{send_on}
+use Rattle.pce_element.specs.Changes.{IsDraft}
+use Rattle.pce_element.proofs.AskLemmas.{along_next, not_back}
+use Rattle.pce_element.proofs.element.Element.take_along.Goals as goal
+
+pub returns-in-Some : goal.returns-in-Some
+returns-in-Some c =
+    let s = c.args.self.now in
+    let a = c.args.asker in
+    let next = c.in-Some.next.now in
+    let seen : List As = c.as_slice.result.now in
+    let looked = c.in-Some.ensures.lookup in
+    let read : slice_get seen 1 ≡ Some next = slice_get_read seen (length seen) 1 next refl (ltb-true 1 (length seen) (sym looked.0)) looked.1 in
+    let at : slice_get c.args.sequence 1 ≡ Some next = ap (λ (xs : List As). slice_get xs 1) (sym c.as_slice.ensures) ∙ read in
+    let refused : not c.allows-refused.result ≡ is_denied s.place.deny a.class next = not_back c.allows-refused.result (is_denied s.place.deny a.class next) c.allows-refused.ensures in
+    let same = ap (λ (b : Bool). send_on s.current a.peer a.class a.flags a.id c.args.wanted c.args.sequence (drop 1 c.args.sequence) b s.losing.element (way_to (Inner next) s.losing.element.ways)) refused
+    ∙ along_next s.place s.current a.peer a.class a.flags a.id c.args.wanted s.losing.element c.args.sequence next at in
+    subst (λ (t : Taken Pin Segment). IfOk c.send_on.result (IsDraft s t)) same c.send_on.ensures

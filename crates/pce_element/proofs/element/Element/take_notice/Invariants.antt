@@ -1,0 +1,8 @@
+use Rattle.std.proofs.Common.{◌≡◌, drop}
+use Rattle.plant_model.specs.Element.{each}
+use Rattle.plant_model.specs.Taking.{notice_steps, take_notice}
+use Rattle.pce_element.specs.Endings.{after, reached}
+use Rattle.pce_element.proofs.element.Element.take_notice.Given as goal
+
+abbrev pub invariant-loop-rp : goal.invariant-loop-rp
+invariant-loop-rp l = after (reached l.self.losing.element l.ending) (each (λ rp. each (λ step. step l.peer rp) (notice_steps l.notice.kinds)) (drop l.rp-index l.notice.ids)) ≡ after (reached l.self.losing.element l.initial.ending) (take_notice l.peer l.notice)

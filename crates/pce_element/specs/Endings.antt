@@ -1,0 +1,22 @@
+-- Requests that end one after the other.
+use Rattle.std.specs.Prelude.{ℕ, ◌++◌, List}
+use Rattle.dom_base.specs.declared.names.Peer.{Peer}
+use Rattle.plant_model.specs.Element.{Element, Taken, waiting}
+use Rattle.plant_model.specs.Plant.{Pin, Segment}
+use Rattle.plant_model.specs.Taking.{take_failure}
+use Rattle.pce_element.specs.Changes.{all_ended}
+use Rattle.pce_element.specs.declared.telling.Ending.{Ending}
+
+-- the element after those that have ended, and what was sent
+abbrev pub reached : Element Pin Segment → Ending → Taken Pin Segment
+reached k e = record { element = all_ended e.numbers k; outputs = e.outputs }
+
+-- with one more step
+abbrev pub after : Taken Pin Segment → (Element Pin Segment → Taken Pin Segment) → Taken Pin Segment
+after t step =
+    let next = step t.element in
+    record { element = next.element; outputs = t.outputs ++ next.outputs }
+
+-- an error about the request that waits for the answer to an id
+abbrev pub failing : Peer → ℕ × ℕ → ℕ × ℕ → Element Pin Segment → Taken Pin Segment
+failing p error rp k = take_failure error k (waiting p rp.1 k.pending.rows)

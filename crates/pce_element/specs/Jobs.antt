@@ -1,0 +1,41 @@
+-- The job of a request that is ready.
+use Rattle.std.specs.Prelude.{◌≡◌, ℕ, List, map, filter, Option, Some, None, IfSome}
+use Rattle.std.specs.Arc.{arc_value}
+use Rattle.dom_base.specs.declared.addr.Addr.{Addr}
+use Rattle.dom_base.specs.declared.names.As.{As}
+use Rattle.te_links.specs.declared.rows.Entry.{Entry}
+use Rattle.te_links.specs.Rows.{Rows}
+use Rattle.request_table.specs.Pending.{item_of}
+use Rattle.vspt_tree.specs.declared.branch.Branch.{Branch}
+use Rattle.border_costs.specs.declared.job.Ask.{Ask}
+use Rattle.border_costs.specs.declared.job.Job.{Job}
+use Rattle.plant_text.specs.Names.{same_as}
+use Rattle.plant_model.specs.Element.{Item, Stage, Waits, Ready}
+use Rattle.plant_model.specs.Jobs.{ask_of}
+use Rattle.plant_model.specs.Plant.{Pin}
+use Rattle.pce_element.specs.Seen.{Seen}
+
+-- what is asked, and the topology that it is computed in
+pub record Work : Type 0 where
+  pub ask : Ask
+  pub topology : Rows
+
+abbrev pub work_of : Job → Work
+work_of j = record { ask = j.ask; topology = arc_value j.topology }
+
+-- the entries from a neighbour
+abbrev pub nodes_from : As → List Entry → List Addr
+nodes_from a entries = map (λ e. e.node) (filter (λ e. same_as e.from_as a) entries)
+
+-- a request is asked over the topology that it pinned, with the branches that the next domain told
+abbrev pub work_at : As → ℕ → Item Pin → Stage → Option Work
+work_at own number i (Waits on id) = None
+work_at own number i (Ready down) = Some (record { ask = ask_of own number i down i.pin.number i.pin.topology; topology = i.pin.topology })
+
+abbrev pub work_for : As → ℕ → Option (Item Pin) → Option Work
+work_for own number None = None
+work_for own number (Some i) = work_at own number i i.stage
+
+-- the job of the request of a number, where it can be solved
+abbrev pub job_at : Seen → ℕ → Option Work
+job_at s number = work_for s.place.own number (item_of s.losing.element.pending number)

@@ -1,0 +1,81 @@
+//! What an element looks up in itself.
+ghost use Rattle.std.specs.Prelude.{◌≡◌, ◌+◌, length, not};
+ghost use Rattle.std.specs.Option.{option_copied};
+ghost use Rattle.path_keys.specs.Keys.{live_at, live_most, segment_of};
+ghost use Rattle.plant_model.specs.Element.{is_denied, way_to};
+ghost use Rattle.plant_model.specs.Names.{same_addr};
+
+use crate::element::Element;
+use crate::pinned::PinnedRequests;
+use crate::ways::Way;
+use disclosure::{Class, allows};
+use dom_base::{Addr, As, List, Peer, Tick};
+
+/// Whether two addresses are one.
+pub(crate) fn is_same_addr(one: Addr, other: Addr) -> bool
+    ensures { result ≡ same_addr one other }
+{
+    one == other
+}
+
+impl Element {
+    pub(crate) fn own(&self) -> As
+        ensures { result ≡ self.now.place.own }
+    {
+        self.own
+    }
+
+    pub(crate) fn id(&self) -> Addr
+        ensures { result ≡ self.now.place.id }
+    {
+        self.id
+    }
+
+    pub(crate) fn has_parent(&self) -> bool
+        ensures { result ≡ self.now.place.parent }
+    {
+        self.parent
+    }
+
+    pub(crate) fn requests(&self) -> &PinnedRequests
+        ensures pending { result.now.pending ≡ self.now.losing.element.pending }
+        ensures current { result.now.current ≡ self.now.current }
+    {
+        &self.requests
+    }
+
+    /// The way to a peer.
+    pub(crate) fn way_to(&self, peer: Peer) -> Option<&Way>
+        ensures { option_copied result ≡ way_to peer self.now.losing.element.ways }
+    {
+        self.ways.to(peer)
+    }
+
+    /// Whether policy lets requests of a class go on to a domain.
+    pub(crate) fn allows(&self, class: Class, next: As) -> bool
+        ensures { result ≡ not (is_denied self.now.place.deny class next) }
+    {
+        allows(self.deny.as_slice(), class, next)
+    }
+
+    /// What a live key stands for.
+    pub(crate) fn segment(&self, now: Tick, key: u16) -> Option<&List<Addr>>
+        ensures { option_copied result ≡ segment_of self.now.losing.element.keys now.0 key }
+    {
+        self.keys.expand(now, key)
+    }
+
+    /// The number that the next key will have.
+    pub(crate) fn next_key(&self) -> u16
+        ensures { result ≡ self.now.losing.element.keys.next }
+    {
+        self.keys.next()
+    }
+
+    /// How many more keys may be live.
+    pub(crate) fn free_keys(&self, now: Tick) -> u32
+        ensures { result + length (live_at self.now.losing.element.keys now.0) ≡ live_most }
+    {
+        self.keys.free(now)
+    }
+}

@@ -1,0 +1,70 @@
+//! What an element does with a reply.
+ghost use Rattle.std.specs.Prelude.{◌≡◌, Contains, IfOk};
+ghost use Rattle.plant_model.specs.RealWire.{wire};
+ghost use Rattle.plant_model.specs.Taking.{made_ready, take_answer, take_reply};
+ghost use Rattle.std.specs.Prelude.{Some};
+ghost use Rattle.pce_element.specs.Changes.{IsDraft};
+ghost use Rattle.pce_element.specs.Rows.{row_of};
+
+use crate::accepted::is_same_peer;
+use crate::branches::branches_in;
+use crate::change::Draft;
+use crate::element::Element;
+use crate::messages::{error_message, reply_message, unavailable};
+use crate::pinned::Row;
+use dom_base::{As, List, NoMemory, Peer};
+use pcep_messages::{Answer, Reply};
+
+impl Element {
+    // The answer of the next domain makes a request ready, or ends it.
+    fn made_ready(&self, row: &Row<'_>, answer: Answer) -> Result<Draft, NoMemory>
+        requires { Contains self.now.losing.element.pending.rows (row_of row.now) }
+        ensures { IfOk result (IsDraft self.now (made_ready wire (row_of row.now) answer self.now.losing.element)) }
+    {
+        match answer {
+            Answer::Paths(paths) => {
+                let metric = row.item.wanted().query.metric;
+                let branches = branches_in(self.alloc, metric, paths)?;
+                Ok(self.readied(row, branches))
+            }
+            Answer::NoPath { nature, vector: _ } => {
+                if nature == 0 {
+                    return Ok(self.readied(row, List::new(self.alloc)));
+                }
+                let message = reply_message(
+                    self.alloc,
+                    row.item.flags(),
+                    row.key.id,
+                    unavailable(),
+                )?;
+                self.answered(row, message)
+            }
+        }
+    }
+
+    // The parent's answer is passed on as it is.
+    fn take_answer(&self, peer: Peer, row: &Row<'_>, reply: Reply) -> Result<Draft, NoMemory>
+        requires { Contains self.now.losing.element.pending.rows (row_of row.now) }
+        ensures { IfOk result (IsDraft self.now (take_answer wire peer reply self.now.losing.element (Some (row_of row.now)))) }
+    {
+        if is_same_peer(peer, Peer::Inner(As(0))) {
+            let message = reply_message(self.alloc, row.item.flags(), row.key.id, reply.answer)?;
+            return self.answered(row, message);
+        }
+        self.made_ready(row, reply.answer)
+    }
+
+    /// A reply of a peer.
+    pub(crate) fn take_reply(&self, peer: Peer, reply: Reply) -> Result<Draft, NoMemory>
+        ensures { IfOk result (IsDraft self.now (take_reply wire peer reply self.now.losing.element)) }
+    {
+        match self.requests().waiting(&[], peer, reply.id) {
+            Some(row) => self.take_answer(peer, &row, reply),
+            None => {
+                let rp = Some((reply.flags, reply.id));
+                let message = error_message(self.alloc, rp, 8, 0)?;
+                self.only(peer, message)
+            }
+        }
+    }
+}

@@ -1,0 +1,106 @@
+//! Pending requests that are looked for.
+ghost use Rattle.std.specs.Prelude.{◌≡◌, Contains, None, Some, MatchOption, nat_eq};
+ghost use Rattle.std.specs.Map.{lookup};
+ghost use Rattle.request_table.specs.Pending.{number_of};
+ghost use Rattle.plant_model.specs.Element.{after_id, fresh_id, is_waiting, waiting};
+ghost use Rattle.plant_model.specs.Plant.{has_number};
+ghost use Rattle.pce_element.specs.Changes.{all_closed};
+ghost use Rattle.pce_element.specs.Rows.{row_of};
+
+use crate::pinned::{PinnedRequests, Row};
+use dom_base::Peer;
+
+fn has_number(numbers: &[u64], number: u64) -> bool
+    ensures { result ≡ has_number number numbers.now }
+{
+    for other in numbers {
+        if number == *other {
+            return true;
+        }
+    }
+    false
+}
+
+// 1 follows the last.
+fn after_id(id: u32) -> u32
+    ensures { result ≡ after_id id }
+{
+    if id == u32::MAX { 1 } else { id + 1 }
+}
+
+impl PinnedRequests {
+    /// The request that waits for the answer to an id of a peer, where those of some numbers have
+    /// ended.
+    pub fn waiting(&self, ended: &[u64], peer: Peer, id: u32) -> Option<Row<'_>>
+        ensures row { MatchOption result (waiting peer id (all_closed ended.now self.now.pending).rows ≡ None) (λ row. waiting peer id (all_closed ended.now self.now.pending).rows ≡ Some (row_of row)) }
+        ensures has { MatchOption result (Unit {0}) (λ row. Contains self.now.pending.rows (row_of row)) }
+    {
+        for k in 0..self.len() {
+            let Some(row) = self.row(k) else {
+                unreachable!()
+            };
+            if row.item.waits_for(peer, id) && !has_number(ended, row.number) {
+                return Some(row);
+            }
+        }
+        None
+    }
+
+    /// The number of the request of a peer under an id, where those of some numbers have ended.
+    pub fn asked_still(&self, ended: &[u64], peer: Peer, id: u32) -> Option<u64>
+        ensures { result ≡ number_of (all_closed ended.now self.now.pending) peer id }
+    {
+        let _count = self.len();
+        let Some(number) = self.asked(peer, id) else {
+            return None;
+        };
+        if has_number(ended, number) {
+            None
+        } else {
+            Some(number)
+        }
+    }
+
+    /// The request of a number.
+    pub fn found(&self, number: u64) -> Option<Row<'_>>
+        ensures row { MatchOption result (lookup (nat_eq number) self.now.pending.rows ≡ None) (λ row. lookup (nat_eq number) self.now.pending.rows ≡ Some (row_of row).1) }
+        ensures number { MatchOption result (Unit {0}) (λ row. row.number ≡ number) }
+    {
+        let Some(item) = self.get(number) else {
+            return None;
+        };
+        let Some(key) = self.key(number) else {
+            unreachable!()
+        };
+        Some(Row { number, key, item })
+    }
+
+    /// Whether a request waits for the answer to an id of a peer.
+    fn is_waiting(&self, peer: Peer, id: u32) -> bool
+        ensures { result ≡ is_waiting peer self.now.pending.rows id }
+    {
+        for k in 0..self.len() {
+            let Some(row) = self.row(k) else {
+                unreachable!()
+            };
+            if row.item.waits_for(peer, id) {
+                return true;
+            }
+        }
+        false
+    }
+
+    /// The next id towards a peer: one that waits is passed over.
+    pub fn fresh_id(&self, peer: Peer, last: u32) -> u32
+        ensures { result ≡ fresh_id peer last self.now.pending.rows }
+    {
+        let mut id = after_id(last);
+        for _row in 0..self.len() {
+            if !self.is_waiting(peer, id) {
+                return id;
+            }
+            id = after_id(id);
+        }
+        id
+    }
+}

@@ -1,0 +1,202 @@
+//! What an element does with notices and errors, which end requests one after the other.
+ghost use Rattle.std.specs.Prelude.{◌≡◌, ◌++◌, ◌∷◌, [], IfOk, OnOk};
+ghost use Rattle.std.specs.Option.{option_to_list};
+ghost use Rattle.plant_model.specs.Element.{each, waiting};
+ghost use Rattle.plant_model.specs.Names.{has_pair};
+ghost use Rattle.plant_model.specs.Taking.{error_answer, notice_steps, take_busy, take_cancel, take_errors, take_failure, take_notice, take_report};
+ghost use Rattle.pce_element.specs.Changes.{IsDraft};
+ghost use Rattle.pce_element.specs.Endings.{after, reached, failing};
+
+use crate::change::{Change, Draft};
+use crate::element::Element;
+use crate::messages::{busy, error_message, reply_message, unavailable};
+use crate::pinned::Row;
+use dom_base::{List, NoMemory, Peer};
+use pcep_messages::{ErrorReport, Message, Notice};
+use plant_model::{Output, Outputs};
+use std::alloc::Global;
+
+/// Requests that are to end, and what is sent.
+#[derive(Drop)]
+pub(crate) struct Ending {
+    pub numbers: List<u64>,
+    pub outputs: Outputs,
+}
+
+impl Ending {
+    fn new(alloc: Global) -> Ending
+        ensures numbers { result.numbers ≡ [] }
+        ensures outputs { result.outputs ≡ [] }
+    {
+        Ending {
+            numbers: List::new(alloc),
+            outputs: List::new(alloc),
+        }
+    }
+
+    // The asker of a request gets an answer, and the request ends.
+    fn answer(&mut self, row: &Row<'_>, message: Message) -> Result<(), NoMemory>
+        ensures numbers { OnOk result (self.new.numbers ≡ self.old.numbers ++ row.now.number ∷ []) }
+        ensures outputs { OnOk result (self.new.outputs ≡ self.old.outputs ++ (record { to = row.now.key.peer; message = message }) ∷ []) }
+    {
+        let to = row.key.peer;
+        self.numbers.push(row.number)?;
+        self.outputs.push(Output { to, message })
+    }
+}
+
+// Whether a pair of a type and a value is among others.
+fn has_pair(pairs: &[(u8, u8)], kind: u8, value: u8) -> bool
+    ensures { result ≡ has_pair kind value pairs.now }
+{
+    for pair in pairs {
+        if pair.0 == kind && pair.1 == value {
+            return true;
+        }
+    }
+    false
+}
+
+// What an error of the next tells the asker.
+fn error_answer(
+    alloc: Global,
+    error: (u8, u8),
+    flags: u32,
+    id: u32,
+) -> Result<Option<Message>, NoMemory>
+    ensures { IfOk result (λ message. option_to_list message ≡ error_answer error flags id) }
+{
+    match error {
+        (8, 0) => Ok(None),
+        (4, 4) | (13, 1) => Ok(Some(error_message(alloc, Some((flags, id)), 13, 1)?)),
+        _ => Ok(Some(reply_message(alloc, flags, id, unavailable())?)),
+    }
+}
+
+impl Element {
+    // The next has no room for a request.
+    fn take_busy(&self, ending: &mut Ending, peer: Peer, rp: (u32, u32)) -> Result<(), NoMemory>
+        ensures { OnOk result (reached self.now.losing.element ending.new ≡ after (reached self.now.losing.element ending.old) (take_busy peer rp)) }
+    {
+        let waiting = self
+            .requests()
+            .waiting(ending.numbers.as_slice(), peer, rp.1);
+        let Some(row) = waiting else {
+            return Ok(());
+        };
+        let message = busy(self.alloc, row.item.flags(), row.key.id)?;
+        ending.answer(&row, message)
+    }
+
+    // A peer cancels its request.
+    fn take_cancel(&self, ending: &mut Ending, peer: Peer, rp: (u32, u32)) -> Result<(), NoMemory>
+        ensures { OnOk result (reached self.now.losing.element ending.new ≡ after (reached self.now.losing.element ending.old) (take_cancel peer rp)) }
+    {
+        let asked = self
+            .requests()
+            .asked_still(ending.numbers.as_slice(), peer, rp.1);
+        match asked {
+            Some(number) => ending.numbers.push(number),
+            None => Ok(()),
+        }
+    }
+
+    // The steps of one id of a notice.
+    fn take_noted(
+        &self,
+        ending: &mut Ending,
+        peer: Peer,
+        kinds: &[(u8, u8)],
+        rp: (u32, u32),
+    ) -> Result<(), NoMemory>
+        ensures { OnOk result (reached self.now.losing.element ending.new ≡ after (reached self.now.losing.element ending.old) (each (λ step. step peer rp) (notice_steps kinds.now))) }
+    {
+        if has_pair(kinds, 1, 2) {
+            self.take_busy(ending, peer, rp)?;
+        }
+        if has_pair(kinds, 1, 1) {
+            self.take_cancel(ending, peer, rp)?;
+        }
+        Ok(())
+    }
+
+    fn take_notice(&self, ending: &mut Ending, peer: Peer, notice: &Notice) -> Result<(), NoMemory>
+        ensures { OnOk result (reached self.now.losing.element ending.new ≡ after (reached self.now.losing.element ending.old) (take_notice peer notice.now)) }
+    {
+        for rp in notice.ids.as_slice() {
+            self.take_noted(ending, peer, notice.kinds.as_slice(), *rp)?;
+        }
+        Ok(())
+    }
+
+    /// Notices of a peer.
+    pub(crate) fn take_notices(&self, peer: Peer, notices: &[Notice]) -> Result<Draft, NoMemory>
+        ensures { IfOk result (IsDraft self.now (each (take_notice peer) notices.now self.now.losing.element)) }
+    {
+        let mut ending = Ending::new(self.alloc);
+        for notice in notices {
+            self.take_notice(&mut ending, peer, notice)?;
+        }
+        Ok(Draft {
+            change: Change::Ends(ending.numbers),
+            outputs: ending.outputs,
+        })
+    }
+
+    // An error of the next about a request that waits on it.
+    fn take_failure(
+        &self,
+        ending: &mut Ending,
+        peer: Peer,
+        error: (u8, u8),
+        rp: (u32, u32),
+    ) -> Result<(), NoMemory>
+        ensures { OnOk result (reached self.now.losing.element ending.new ≡ after (reached self.now.losing.element ending.old) (failing peer error rp)) }
+    {
+        let waiting = self
+            .requests()
+            .waiting(ending.numbers.as_slice(), peer, rp.1);
+        let Some(row) = waiting else {
+            return Ok(());
+        };
+        match error_answer(self.alloc, error, row.item.flags(), row.key.id)? {
+            Some(message) => ending.answer(&row, message),
+            None => Ok(()),
+        }
+    }
+
+    fn take_report(
+        &self,
+        ending: &mut Ending,
+        peer: Peer,
+        report: &ErrorReport,
+    ) -> Result<(), NoMemory>
+        ensures { OnOk result (reached self.now.losing.element ending.new ≡ after (reached self.now.losing.element ending.old) (take_report peer report.now)) }
+    {
+        let Some(error) = report.errors.as_slice().first() else {
+            return Ok(());
+        };
+        for rp in report.ids.as_slice() {
+            self.take_failure(ending, peer, *error, *rp)?;
+        }
+        Ok(())
+    }
+
+    /// Errors that a peer reports.
+    pub(crate) fn take_reports(
+        &self,
+        peer: Peer,
+        reports: &[ErrorReport],
+    ) -> Result<Draft, NoMemory>
+        ensures { IfOk result (IsDraft self.now (each (take_report peer) reports.now self.now.losing.element)) }
+    {
+        let mut ending = Ending::new(self.alloc);
+        for report in reports {
+            self.take_report(&mut ending, peer, report)?;
+        }
+        Ok(Draft {
+            change: Change::Ends(ending.numbers),
+            outputs: ending.outputs,
+        })
+    }
+}
