@@ -15,3 +15,12 @@ pub mod HeldPlaces
 mod WayLemmas
 mod ScanLaws
 mod Leaving
+mod Gone
+mod OneByOne
+mod Sends
+mod Ends
+mod Answering
+mod RowsSaid
+mod Drafts
+mod Telling
+mod Commitments

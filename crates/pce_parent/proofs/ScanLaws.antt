@@ -1,6 +1,6 @@
 -- Requests and waits looked through one by one.
-use Rattle.std.proofs.Common.{◌≡◌, ◌<◌, ◌≤◌, ◌+◌, ◌-◌, ℕ, zero, suc, Bool, true, false, not, cond, Some, None, List, [], ◌∷◌, length, drop, map, arith, refl, sym, ◌∙◌, ap, subst}
-use Rattle.std.specs.Prelude.{slice_get, filter}
+use Rattle.std.proofs.Common.{◌≡◌, ◌<◌, ◌≤◌, ◌+◌, ◌-◌, ℕ, zero, suc, Bool, true, false, not, cond, Option, Some, None, Result, Ok, Err, List, [], ◌∷◌, length, drop, map, arith, refl, sym, ◌∙◌, ap, subst}
+use Rattle.std.specs.Prelude.{slice_get, filter, OnOk, OnSome}
 use Rattle.dom_base.specs.declared.names.Peer.{Peer}
 use Rattle.request_table.specs.Pending.{same_peer}
 use Rattle.plant_model.specs.Names.{same_id}
@@ -9,6 +9,14 @@ use Rattle.pce_parent.proofs.HeldPlaces.{dropped_at}
 
 pub dropped_next : {X : Type 0} (xs : List X) (k : ℕ) (x : X) → slice_get xs k ≡ Some x → drop k xs ≡ x ∷ drop (k + 1) xs
 dropped_next xs k x at_k = dropped_at xs k x at_k ∙ ap (λ (j : ℕ). x ∷ drop j xs) (let e : suc k ≡ k + 1 = omega arith in e)
+
+pub on_some : {A : Type 0} (o : Option A) (x : A) (P : Type 0) → o ≡ Some x → OnSome o P → P
+on_some None x P is p = absurd (let no : None ≡ Some x = is in cc)
+on_some (Some y) x P is p = p
+
+pub on_ok : {A : Type 0} {E : Type 0} (r : Result A E) (P Q : Type 0) → (P → Q) → OnOk r P → OnOk r Q
+on_ok (Ok x) P Q f p = f p
+on_ok (Err e) P Q f p = tt
 
 -- ---- that is ready
 

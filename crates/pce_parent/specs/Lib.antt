@@ -9,3 +9,15 @@ pub mod Ways
 pub mod Pendings
 pub mod Seen
 pub mod ParentFields
+pub mod Joined
+pub mod AskingFields
+pub mod Answered
+pub mod Answers
+pub mod Sending
+pub mod Soughts
+pub mod Endings
+pub mod Changes
+pub mod Plans
+pub mod PlanFields
+pub mod Refused
+pub mod Commits

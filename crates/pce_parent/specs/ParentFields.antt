@@ -25,5 +25,6 @@ seen_of a = record {
 pub record HoldsParent (a : Inside) : Type 0 where
   pub lost_fit : deque_len a.lost + length a.requests.kept.rows ≤ deque_capacity a.lost
   pub limit : a.requests.kept.limit ≡ 64
+  pub last : a.last ≡ a.requests.kept.given
   pub rising : AllPairs (λ (x y : As). x.0 < y.0) a.children
   pub weighed : All IsWeighed a.links

@@ -1,54 +1,26 @@
 //! A request that the parent accepted, and what it waits for.
-ghost use Rattle.std.specs.Prelude.{◌≡◌};
-ghost use Rattle.request_table.specs.Pending.{same_peer};
-ghost use Rattle.plant_model.specs.Names.{same_id};
-ghost use Rattle.plant_model.specs.Parent.{among, any_on, is_ready};
+ghost use Rattle.std.specs.Prelude.{◌≡◌, [], true, false, IfOk, MatchOption};
+ghost use Rattle.plant_model.specs.Parent.{among, is_ready};
+ghost use Rattle.pce_parent.specs.Changes.{with_answer};
+ghost use Rattle.pce_parent.specs.Answered.{IsAnsweredAt, Answers};
+ghost use Rattle.pce_parent.specs.Joined.{joined};
 
-use dom_base::{Addr, As, List, Peer};
+use crate::copies::append_rows;
+use crate::wait::Wait;
+use dom_base::{List, NoMemory, Peer};
 use pcep_messages::Wanted;
 use plant_model::ChildRow;
+use std::alloc::Global;
 use std::marker::Model;
 
-/// A request to a child that is not answered yet.
-#[derive(Drop)]
-pub struct Wait {
-    pub peer: Peer,
-    pub id: u32,
-    pub child: As,
-    pub target: Addr,
-}
-
-impl Model for Wait {
-    ghost use Rattle.plant_model.specs.Parent.{Wait};
-
-    ghost Value = { Wait };
-
-    ghost view = { λ w. record { peer = w.peer; id = w.id; child = w.child; target = w.target } };
-}
-
-impl Wait {
-    /// Whether it waits for the answer to an id of a peer.
-    pub fn is_for(&self, peer: Peer, id: u32) -> bool
-        ensures { result ≡ same_id self.now.peer self.now.id peer id }
-    {
-        is_same_peer(self.peer, peer) && self.id == id
-    }
-
-    /// Whether it waits on a peer.
-    pub fn is_on(&self, peer: Peer) -> bool
-        ensures { result ≡ same_peer self.now.peer peer }
-    {
-        is_same_peer(self.peer, peer)
-    }
-}
-
-/// An accepted request: what it waits for, and the rows that came.
+/// An accepted request: what it waits for, and the rows that came, answer by answer. There is memory for
+/// the answers that it waits for.
 #[derive(Drop)]
 pub struct Asking {
-    pub flags: u32,
-    pub wanted: Wanted,
-    pub waits: List<Wait>,
-    pub rows: List<ChildRow>,
+    flags: u32,
+    wanted: Wanted,
+    waits: Vec<Wait>,
+    answers: Vec<List<ChildRow>>,
 }
 
 impl Model for Asking {
@@ -56,10 +28,32 @@ impl Model for Asking {
 
     ghost Value = { Asking };
 
-    ghost view = { λ a. record { flags = a.flags; wanted = a.wanted; waits = a.waits; rows = a.rows } };
+    ghost use Rattle.pce_parent.specs.AskingFields.{asking_of, HasPlaces};
+
+    ghost view = { asking_of };
+
+    ghost invariant = { HasPlaces };
 }
 
 impl Asking {
+    /// A request that waits for all its answers.
+    pub fn new(
+        alloc: Global,
+        flags: u32,
+        wanted: Wanted,
+        waits: Vec<Wait>,
+    ) -> Result<Asking, NoMemory>
+        ensures { IfOk result (λ asking. asking ≡ record { flags = flags; wanted = wanted; waits = waits.items; rows = [] }) }
+    {
+        let answers = Vec::with_capacity(alloc, waits.len())?;
+        Ok(Asking {
+            flags,
+            wanted,
+            waits,
+            answers,
+        })
+    }
+
     pub fn flags(&self) -> u32
         ensures { result ≡ self.now.flags }
     {
@@ -72,16 +66,17 @@ impl Asking {
         &self.wanted
     }
 
-    pub fn rows(&self) -> &[ChildRow]
-        ensures { result.now ≡ self.now.rows }
-    {
-        self.rows.as_slice()
-    }
-
     pub fn waits(&self) -> &[Wait]
         ensures { result.now ≡ self.now.waits }
     {
         self.waits.as_slice()
+    }
+
+    /// Its rows in memory of their own.
+    pub fn copy_rows(&self, alloc: Global) -> Result<List<ChildRow>, NoMemory>
+        ensures { IfOk result (λ rows. rows ≡ self.now.rows) }
+    {
+        copy_answers(alloc, &self.answers)
     }
 
     /// Whether it can be solved.
@@ -90,39 +85,51 @@ impl Asking {
     {
         self.waits.is_empty()
     }
-}
 
-/// Whether one of the waits is for the answer to an id of a peer.
-pub fn waits_for(waits: &[Wait], peer: Peer, id: u32) -> bool
-    ensures { result ≡ among peer waits.now id }
-{
-    for wait in waits {
-        if wait.is_for(peer, id) {
-            return true;
+    /// The wait for the answer to an id of a peer.
+    pub fn wait(&self, peer: Peer, id: u32) -> Option<Wait>
+        ensures { MatchOption result (among peer self.now.waits id ≡ false) (λ wait. Answers peer id wait self.now.waits) }
+    {
+        let Some(place) = place_for(&self.waits, peer, id) else {
+            return None;
+        };
+        Some(self.waits[place])
+    }
+
+    /// The answer to an id of a peer has come, with these rows; takes no memory.
+    pub fn gather(&mut self, peer: Peer, id: u32, rows: List<ChildRow>)
+        requires { among peer self.old.waits id ≡ true }
+        ensures { self.new ≡ with_answer peer id rows self.old }
+    {
+        let Some(place) = place_for(&self.waits, peer, id) else {
+            unreachable!()
+        };
+        let _wait = self.waits.remove(place);
+        match self.answers.push(rows) {
+            Ok(()) => {}
+            Err(_) => unreachable!(),
         }
     }
-    false
 }
 
-/// Whether one of the waits is on a peer.
-pub fn waits_on(waits: &[Wait], peer: Peer) -> bool
-    ensures { result ≡ any_on peer waits.now }
+// The place of the first wait for the answer to an id of a peer.
+fn place_for(waits: &[Wait], peer: Peer, id: u32) -> Option<usize>
+    ensures { MatchOption result (among peer waits.now id ≡ false) (λ i. IsAnsweredAt peer id i waits.now) }
 {
-    for wait in waits {
-        if wait.is_on(peer) {
-            return true;
+    for i in 0..waits.len() {
+        if waits[i].is_for(peer, id) {
+            return Some(i);
         }
     }
-    false
+    None
 }
 
-/// Whether two peers are one.
-pub fn is_same_peer(one: Peer, other: Peer) -> bool
-    ensures { result ≡ same_peer one other }
+fn copy_answers(alloc: Global, answers: &[List<ChildRow>]) -> Result<List<ChildRow>, NoMemory>
+    ensures { IfOk result (λ rows. rows ≡ joined answers.now) }
 {
-    match (one, other) {
-        (Peer::Outside(a), Peer::Outside(b)) => a == b,
-        (Peer::Inner(a), Peer::Inner(b)) => a.0 == b.0,
-        _ => false,
+    let mut rows = List::new(alloc);
+    for answer in answers {
+        append_rows(alloc, &mut rows, answer.as_slice())?;
     }
+    Ok(rows)
 }

@@ -1,5 +1,5 @@
 //! Copies of what a job holds.
-ghost use Rattle.std.specs.Prelude.{◌≡◌, IfOk};
+ghost use Rattle.std.specs.Prelude.{◌≡◌, ◌++◌, IfOk, OnOk};
 
 use crate::hops::append_hops;
 use dom_base::{Link, List, NoMemory, ParentLink};
@@ -20,15 +20,18 @@ fn copy_row(alloc: Global, row: &ChildRow) -> Result<ChildRow, NoMemory>
     })
 }
 
-/// Equal rows in memory of their own.
-pub fn copy_rows(alloc: Global, rows: &[ChildRow]) -> Result<List<ChildRow>, NoMemory>
-    ensures { IfOk result (λ copies. copies ≡ rows.now) }
+/// Appends copies of rows.
+pub fn append_rows(
+    alloc: Global,
+    rows: &mut List<ChildRow>,
+    more: &[ChildRow],
+) -> Result<(), NoMemory>
+    ensures { OnOk result (rows.new ≡ rows.old ++ more.now) }
 {
-    let mut copies = List::new(alloc);
-    for row in rows {
-        copies.push(copy_row(alloc, row)?)?;
+    for row in more {
+        rows.push(copy_row(alloc, row)?)?;
     }
-    Ok(copies)
+    Ok(())
 }
 
 fn copy_link(alloc: Global, link: &Link) -> Result<Link, NoMemory>

@@ -2,24 +2,41 @@
 //! rows with its own links, and answers.
 #![tactic(auto)]
 
+mod accepting;
 mod arcs;
 mod asking;
+mod change;
+mod committing;
 mod copies;
 mod costs;
+mod ending;
+mod errands;
+mod gathering;
 mod hops;
+mod making;
+mod messages;
 mod parent;
 mod pending;
 mod places;
+mod plan;
 mod relax;
 mod route;
+mod rows;
+mod sending;
 mod solved;
+mod sought;
 mod spot;
 mod starts;
+mod taking;
 mod tight;
+mod told;
+mod wait;
 mod ways;
 mod work;
 
+pub use committing::ParentCommitError;
 pub use parent::Parent;
+pub use plan::BorderPlan;
 pub use solved::{BorderSolved, solve_border};
 pub use work::{Done, Work};
 

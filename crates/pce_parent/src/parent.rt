@@ -8,7 +8,7 @@ ghost use Rattle.pce_parent.specs.Seen.{SameButRoom, IsNew, with_parent, with_lo
 ghost use Rattle.pce_parent.specs.Solution.{IsWeighed};
 
 use crate::asking::Asking;
-use crate::copies::{copy_links, copy_rows};
+use crate::copies::copy_links;
 use crate::pending::{leave_all, ready_at};
 use crate::ways::Ways;
 use dom_base::{Addr, As, List, NoMemory, ParentLink, Peer};
@@ -22,13 +22,15 @@ use std::marker::Model;
 /// requests.
 #[derive(Drop)]
 pub struct Parent {
-    alloc: Global,
-    id: Addr,
-    links: List<ParentLink>,
-    children: List<As>,
-    requests: Requests<Asking>,
-    ways: Ways,
-    lost: VecDeque<Lost>,
+    pub(crate) alloc: Global,
+    pub(crate) id: Addr,
+    pub(crate) links: List<ParentLink>,
+    pub(crate) children: List<As>,
+    pub(crate) requests: Requests<Asking>,
+    /// The number of the last request that was accepted.
+    pub(crate) last: u64,
+    pub(crate) ways: Ways,
+    pub(crate) lost: VecDeque<Lost>,
 }
 
 impl Model for Parent {
@@ -72,6 +74,7 @@ impl Parent {
             links,
             children,
             requests: Requests::with_limit(alloc, PARENT_PENDING_MAX)?,
+            last: 0,
             ways,
             lost: VecDeque::new(alloc),
         })
@@ -112,7 +115,7 @@ impl Parent {
             source: wanted.source,
             target: wanted.target,
             query: wanted.query.copy(self.alloc)?,
-            rows: copy_rows(self.alloc, item.rows())?,
+            rows: item.copy_rows(self.alloc)?,
             links: copy_links(self.alloc, self.links.as_slice())?,
         }))
     }

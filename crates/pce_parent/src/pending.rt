@@ -1,13 +1,15 @@
 //! The pending requests of the parent, one by one.
 ghost use Rattle.std.specs.Prelude.{◌≡◌, ◌≤◌, ◌<◌, ◌+◌, ◌++◌, ◌∷◌, [], length, slice_get, Some, MatchOption};
 ghost use Rattle.std.specs.VecDeque.{deque_capacity, deque_len};
-ghost use Rattle.request_table.specs.Pending.{ArePending};
+ghost use Rattle.request_table.specs.Pending.{ArePending, closed_of, item_of};
 ghost use Rattle.plant_model.specs.Parent.{kept, lost, ready_numbers};
 ghost use Rattle.pce_parent.specs.Pendings.{Leaves, row_of, with_rows};
+ghost use Rattle.pce_parent.specs.Changes.{Waits, all_closed, answered_at};
 
-use crate::asking::{Asking, is_same_peer, waits_on};
-use dom_base::Peer;
-use plant_model::Lost;
+use crate::asking::Asking;
+use crate::wait::{is_same_peer, waits_on};
+use dom_base::{List, Peer};
+use plant_model::{ChildRow, Lost};
 use request_table::{RequestKey, Requests};
 use std::collections::VecDeque;
 
@@ -116,5 +118,40 @@ pub fn leave_all(requests: &mut Requests<Asking>, gone: &mut VecDeque<Lost>, pee
     let mut k = 0;
     for _turn in 0..requests.len() {
         k = leave_next(requests, gone, k, peer);
+    }
+}
+
+/// A request ends; takes no memory.
+pub fn close_one(requests: &mut Requests<Asking>, number: u64)
+    ensures kept { requests.new.kept ≡ closed_of requests.old.kept number }
+    ensures fewer { length requests.new.kept.rows ≤ length requests.old.kept.rows }
+{
+    let _ = requests.close(number);
+}
+
+/// Requests end, in order; takes no memory.
+pub fn close_all(requests: &mut Requests<Asking>, numbers: &[u64])
+    ensures kept { requests.new.kept ≡ all_closed numbers.now requests.old.kept }
+    ensures fewer { length requests.new.kept.rows ≤ length requests.old.kept.rows }
+{
+    for number in numbers {
+        close_one(requests, *number);
+    }
+}
+
+/// The answer to an id of a peer has come for a request, with these rows; takes no memory.
+pub fn gather_at(
+    requests: &mut Requests<Asking>,
+    number: u64,
+    peer: Peer,
+    id: u32,
+    rows: List<ChildRow>,
+)
+    requires { Waits peer id (item_of requests.old.kept number) }
+    ensures kept { requests.new.kept ≡ answered_at number peer id rows requests.old.kept }
+    ensures count { length requests.new.kept.rows ≡ length requests.old.kept.rows }
+{
+    if let Some(item) = requests.get_mut(number) {
+        item.gather(peer, id, rows);
     }
 }

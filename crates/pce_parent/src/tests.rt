@@ -2,6 +2,7 @@
 ghost use Rattle.std.specs.Prelude.{◌≤◌, All, IfOk};
 ghost use Rattle.pce_parent.specs.Solution.{IsWeighed};
 
+mod calls;
 mod cases;
 
 use crate::solve_border;

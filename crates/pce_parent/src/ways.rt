@@ -3,15 +3,16 @@ ghost use Rattle.std.specs.Prelude.{◌≡◌, ◌<◌, map, length, slice_set, 
 ghost use Rattle.std.specs.List.{slice_index_or};
 ghost use Rattle.std.specs.Option.{option_copied};
 ghost use Rattle.plant_model.specs.Element.{way_to, with_last, with_up};
+ghost use Rattle.plant_model.specs.Parent.{is_up};
 ghost use Rattle.pce_parent.specs.Ways.{way_of, no_way, IsFirstTo, IsNowhere};
 
-use crate::asking::is_same_peer;
+use crate::wait::is_same_peer;
 use dom_base::{As, List, NoMemory, Peer};
 use std::alloc::Global;
 use std::marker::Model;
 
 /// A peer to which requests are sent, whether its session is up, and the last id sent to it.
-#[derive(Drop)]
+#[derive(Clone, Copy)]
 pub struct Way {
     peer: Peer,
     up: bool,
@@ -24,6 +25,8 @@ impl Model for Way {
     ghost Value = { Way };
 
     ghost view = { λ w. record { peer = w.peer; up = w.up; last_id = w.last_id } };
+
+    ghost inverse = { λ w. record { peer = w.peer; up = w.up; last_id = w.last_id } };
 }
 
 impl Way {
@@ -93,6 +96,25 @@ impl Ways {
             rows.push(Way::new(*number))?;
         }
         Ok(Ways { rows })
+    }
+
+    /// Equal ways in memory of their own.
+    pub fn copy(&self, alloc: Global) -> Result<Ways, NoMemory>
+        ensures { IfOk result (λ ways. ways ≡ self.now) }
+    {
+        Ok(Ways {
+            rows: Vec::from_slice(alloc, &self.rows)?,
+        })
+    }
+
+    /// Whether the session with a peer is up.
+    pub fn is_up(&self, peer: Peer) -> bool
+        ensures { result ≡ is_up (way_to peer self.now) }
+    {
+        match self.to(peer) {
+            None => false,
+            Some(way) => way.is_up(),
+        }
     }
 
     /// The way to a peer.

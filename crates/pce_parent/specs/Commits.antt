@@ -1,0 +1,29 @@
+-- The answer to the request of a solved job.
+use Rattle.std.specs.Prelude.{◌≡◌, ℕ, true, nat_eq, List, [], ◌∷◌, Option, Some, None}
+use Rattle.std.specs.Map.{lookup}
+use Rattle.dom_base.specs.declared.query.Metric.{Metric}
+use Rattle.pcep_messages.specs.declared.message.Answer.{Answer}
+use Rattle.pcep_messages.specs.declared.message.Answer.TheVariants.{Paths}
+use Rattle.plant_model.specs.RealWire.{wire}
+use Rattle.plant_model.specs.declared.output.Output.{Output}
+use Rattle.plant_model.specs.Writing.{no_path, reply_message}
+use Rattle.plant_model.specs.Branches.{path_of}
+use Rattle.plant_model.specs.BorderGraph.{Found}
+use Rattle.plant_model.specs.Parent.{AskingRow, is_ready}
+use Rattle.pce_parent.specs.declared.pending.Row.{Row}
+use Rattle.pce_parent.specs.Pendings.{row_of}
+use Rattle.pce_parent.specs.Seen.{Seen}
+
+abbrev pub answer_of : Metric → Option Found → Answer
+answer_of m None = no_path true true
+answer_of m (Some a) = Paths (path_of wire m a.cost a.hops ∷ [])
+
+-- to whom asked
+abbrev pub outputs_for : AskingRow → Option Found → List Output
+outputs_for h found = record { to = h.1.key.peer; message = reply_message h.1.item.flags h.1.key.id (answer_of h.1.item.wanted.query.metric found) } ∷ []
+
+-- the request of a number, which can be solved
+pub record IsReadyRow (s : Seen) (number : ℕ) (r : Row) : Type 0 where
+  pub number_is : (row_of r).0 ≡ number
+  pub here : lookup (nat_eq number) s.losing.parent.pending.rows ≡ Some (row_of r).1
+  pub ready : is_ready (row_of r).1.item ≡ true

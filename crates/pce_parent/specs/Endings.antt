@@ -1,0 +1,20 @@
+-- Requests that end one after the other.
+use Rattle.std.specs.Prelude.{◌≡◌, ◌++◌, ℕ, List, [], ◌∷◌, Option, Some, None}
+use Rattle.plant_model.specs.Parent.{Parent, Given}
+use Rattle.pce_parent.specs.Changes.{all_ended}
+use Rattle.pce_parent.specs.declared.ending.Ending.{Ending}
+
+-- what is made of a parent when these requests end, and what is said
+abbrev pub given_by : Parent → Ending → Given
+given_by k e = record { parent = all_ended e.numbers.items k; outputs = e.outputs }
+
+-- what is done next
+abbrev pub then_given : Given → (Parent → Given) → Given
+then_given g f = let next = f g.parent in record { parent = next.parent; outputs = g.outputs ++ next.outputs }
+
+abbrev pub GoesOn : Parent → (Parent → Given) → Ending → Ending → Type 0
+GoesOn k f old new = given_by k new ≡ then_given (given_by k old) f
+
+abbrev pub listed : {X : Type 0} → Option X → List X
+listed None = []
+listed (Some x) = x ∷ []

@@ -1,0 +1,97 @@
+//! A solved job is answered.
+ghost use Rattle.std.specs.Prelude.{◌≡◌, ◌↔◌, Err, None, Some, IfOk, IfErr, MatchOption};
+ghost use Rattle.pce_parent.specs.Refused.{handed_back};
+ghost use Rattle.pce_parent.specs.Commits.{IsReadyRow, answer_of, outputs_for};
+ghost use Rattle.pce_parent.specs.Pendings.{row_of};
+ghost use Rattle.pce_parent.specs.Seen.{committed, job_at};
+
+use crate::change::{Change, Draft};
+use crate::hops::append_hops;
+use crate::messages::{code, no_path, reply_message};
+use crate::parent::Parent;
+use crate::pending::Row;
+use crate::plan::BorderPlan;
+use crate::solved::BorderSolved;
+use dom_base::{List, Metric, NoMemory, Tick, word_of_cost};
+use pcep_messages::{Answer, Path};
+use plant_model::{Output, Outputs};
+use std::alloc::Global;
+
+/// Why a solved job is not answered. It hands the job back.
+#[derive(Drop)]
+pub enum ParentCommitError {
+    /// No request of that number is ready.
+    Stranger(BorderSolved),
+    NoMemory(BorderSolved),
+}
+
+// The path that was found, or that there is none.
+fn answer_of(alloc: Global, metric: Metric, solved: &BorderSolved) -> Result<Answer, NoMemory>
+    ensures { IfOk result (λ answer. answer ≡ answer_of metric solved.now.answer) }
+{
+    let Some((cost, found)) = solved.answer() else {
+        return Ok(no_path());
+    };
+    let mut hops = List::new(alloc);
+    append_hops(alloc, &mut hops, found)?;
+    let mut paths = List::new(alloc);
+    paths.push(Path {
+        hops,
+        metric: Some((code(metric), word_of_cost(cost))),
+    })?;
+    Ok(Answer::Paths(paths))
+}
+
+fn outputs_of(alloc: Global, row: Row<'_>, solved: &BorderSolved) -> Result<Outputs, NoMemory>
+    ensures { IfOk result (λ outputs. outputs ≡ outputs_for (row_of row.entry) solved.now.answer) }
+{
+    let answer = answer_of(alloc, row.item.wanted().query.metric, solved)?;
+    let message = reply_message(alloc, row.item.flags(), row.key.id, answer)?;
+    let mut outputs = List::new(alloc);
+    outputs.push(Output {
+        to: row.key.peer,
+        message,
+    })?;
+    Ok(outputs)
+}
+
+impl Parent {
+    // The request of a number, where it can be solved.
+    fn ready_row(&self, number: u64) -> Option<Row<'_>>
+        ensures { MatchOption result (job_at self.now number ≡ None) (IsReadyRow self.now number) }
+    {
+        let Some(item) = self.requests.get(number) else {
+            return None;
+        };
+        let Some(key) = self.requests.key(number) else {
+            unreachable!()
+        };
+        if !item.is_ready() {
+            return None;
+        }
+        Some(Row { number, key, item })
+    }
+
+    /// Plans the answer to the request of a solved job. Of the parent nothing changes.
+    pub fn commit(
+        &mut self,
+        solved: BorderSolved,
+        _now: Tick,
+    ) -> Result<BorderPlan, ParentCommitError>
+        ensures same { self.new ≡ self.old }
+        ensures from { IfOk result (λ plan. plan.from ≡ self.old) }
+        ensures given { IfOk result (λ plan. committed solved self.old.losing.parent ≡ Some plan.given) }
+        ensures solved { IfOk result (λ plan. plan.solved ≡ Some solved) }
+        ensures stranger { (result ≡ Err (ParentCommitError.Stranger solved)) ↔ (job_at self.old solved.job.number ≡ None) }
+        ensures back { IfErr result (λ why. handed_back why ≡ solved) }
+    {
+        let Some(row) = self.ready_row(solved.number()) else {
+            return Err(ParentCommitError::Stranger(solved));
+        };
+        let Ok(outputs) = outputs_of(self.alloc, row, &solved) else {
+            return Err(ParentCommitError::NoMemory(solved));
+        };
+        let change = Change::Solves(solved);
+        Ok(BorderPlan::of(self, Draft { change, outputs }))
+    }
+}
