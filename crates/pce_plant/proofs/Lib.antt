@@ -1,0 +1,4 @@
+pub mod DomainLemmas
+pub mod LoadLemmas
+pub mod ReadyLemmas
+pub mod PlaceLoads

@@ -1,0 +1,7 @@
+-- for readers
+pub mod Elements
+-- inner
+pub mod ElementFields
+pub mod Loading
+pub mod Ready
+pub mod Whole
