@@ -1,0 +1,10 @@
+-- for readers
+pub mod Ends
+pub mod Rooms
+pub mod Links
+pub mod Inboxes
+-- inner
+pub mod OwnFields
+pub mod SideFields
+pub mod ConnectionFields
+pub mod LinkFields
