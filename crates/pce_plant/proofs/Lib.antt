@@ -2,3 +2,4 @@ pub mod DomainLemmas
 pub mod LoadLemmas
 pub mod ReadyLemmas
 pub mod PlaceLoads
+pub mod FreshLemmas

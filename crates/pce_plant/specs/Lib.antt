@@ -5,3 +5,4 @@ pub mod ElementFields
 pub mod Loading
 pub mod Ready
 pub mod Whole
+pub mod Fresh

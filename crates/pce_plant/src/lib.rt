@@ -2,4 +2,5 @@
 #![tactic(auto)]
 
 mod elements;
+mod fresh;
 mod ready;
