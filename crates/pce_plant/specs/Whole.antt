@@ -1,0 +1,28 @@
+-- A network as its callers see it, and what an event leaves.
+use Rattle.std.specs.Prelude.{◌≡◌, List, ◌∷◌, OnOk, OnErr}
+use Rattle.plant_text.specs.declared.settings.NetworkParts.{NetworkParts}
+use Rattle.plant_queues.specs.declared.sent.Sent.{Sent}
+use Rattle.plant_model.specs.declared.event.Event.{Event}
+use Rattle.plant_model.specs.Events.{Answered}
+use Rattle.plant_model.specs.State.{said}
+use Rattle.plant_model.specs.Plant.{Plant, PlantDeed, Steps, Entry, Run}
+use Rattle.plant_model.specs.RealWire.{wire}
+
+-- its settings, its state, and the messages that the last accepted event put into queues
+pub record Whole : Type 0 where
+  pub network : NetworkParts
+  pub state : Plant
+  pub said : List Sent
+
+-- An event is what happens in the model, or it is refused for want of memory; an event that is refused changes nothing. What was
+-- said is what its deeds put into queues; after a refusal it is as before.
+pub record Stepped (old : Whole) (e : Event) (answer : Answered) (new : Whole) : Type 0 where
+  pub network : new.network ≡ old.network
+  pub deeds : List PlantDeed
+  pub steps : Steps wire old.network old.state e (record { answer = answer; state = new.state; deeds = deeds })
+  pub accepted : OnOk answer (new.said ≡ said wire deeds)
+  pub refused : OnErr answer (new.said ≡ old.said)
+
+-- a run goes on by this event
+abbrev pub GoesOn : Whole → Event → Answered → Whole → Type 0
+GoesOn old e answer new = (entries : List Entry) → Run wire old.network entries old.state → (deeds : List PlantDeed) × Run wire old.network (record { event = e; answer = answer; deeds = deeds } ∷ entries) new.state

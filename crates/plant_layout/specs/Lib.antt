@@ -1,0 +1,4 @@
+-- for readers
+pub mod Lines
+-- inner
+pub mod Places

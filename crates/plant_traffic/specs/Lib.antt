@@ -1,0 +1,3 @@
+-- for readers
+pub mod Peers
+pub mod Happenings
