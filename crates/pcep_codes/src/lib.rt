@@ -5,6 +5,7 @@ pub mod classes;
 pub mod errors;
 pub mod flags;
 pub mod kinds;
+mod law;
 pub mod messages;
 pub mod metrics;
 pub mod no_paths;
@@ -13,8 +14,6 @@ pub mod reasons;
 pub mod subobjects;
 pub mod timers;
 pub mod tlvs;
-
-mod law;
 
 pub use law::codes_are_numbers;
 

@@ -4,11 +4,11 @@ ghost use Rattle.pce_element.specs.Messages.{HasOnePart};
 
 mod sequences;
 
-use pce_element::Element;
 use border_costs::solve;
 use disclosure::{Class, Deny};
 use dom_base::{Addr, As, List, Peer, Tick};
 use line_text::{line_count, read_hex};
+use pce_element::Element;
 use pcep_messages::{Message, read_message, write_message};
 use plant_model::{Lost, Outputs};
 use sequences::{GROUPS, sequences};

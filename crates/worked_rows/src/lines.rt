@@ -1,6 +1,8 @@
 //! Lines of events, each with what it gives.
-use plant_text::{LineError, LineEvent, Network, read_blind_line, read_line, read_network, write_sent};
 use dom_base::{As, Text};
+use plant_text::{
+    LineError, LineEvent, Network, read_blind_line, read_line, read_network, write_sent,
+};
 use std::alloc::Global;
 use std::test::Fail;
 

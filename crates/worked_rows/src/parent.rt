@@ -5,11 +5,11 @@ ghost use Rattle.pce_parent.specs.Solution.{IsWeighed};
 mod calls;
 mod cases;
 
-use pce_parent::solve_border;
 use cases::CASES;
 use dom_base::{
     Addr, As, Cost, Excluded, Exclusion, Link, List, Metric, NoMemory, ParentLink, Query,
 };
+use pce_parent::solve_border;
 use pcep_subobjects::{Hop, strict_hop};
 use plant_model::{BorderJob, ChildRow};
 use std::alloc::Global;

@@ -6,8 +6,8 @@ ghost use Rattle.pce_parent.specs.Seen.{HasOnePart};
 mod scripts;
 
 use super::{LinkOf, RowOf, is_at, links};
-use pce_parent::{Parent, ParentCommitError, solve_border};
 use dom_base::{Addr, As, List, NoMemory, Peer, Tick};
+use pce_parent::{Parent, ParentCommitError, solve_border};
 use pcep_messages::{Message, read_message, write_message};
 use plant_model::{ChildRow, Lost, Output, Outputs};
 use scripts::SCRIPTS;
