@@ -1,6 +1,8 @@
+-- for readers
 pub mod Asks
 pub mod Solutions
-pub mod Fields
 pub mod Tables
-pub mod Ways
 pub mod Composing
+-- inner
+pub mod Fields
+pub mod Ways

@@ -1,5 +1,7 @@
+-- for readers
 pub mod Keys
 pub mod Entries
 pub mod SameKeys
+-- inner
 pub mod Hops
 pub mod Shown

@@ -26,7 +26,7 @@ use Rattle.diverse_pairs.specs.declared.verdict.PairVerdict.TheVariants.{Holds}
 use Rattle.diverse_pairs.specs.Arcs.{IsArc, at, is_used, IsAmong, AreAmong}
 use Rattle.diverse_pairs.specs.Paths.{Goes, turned}
 use Rattle.diverse_pairs.specs.Potentials.{potential_in}
-use Rattle.diverse_pairs.specs.Conditions.{asked_of, LeadsTo, Traces, TracesOver, ListHolds, PathHolds, LinkHoldsAt, LinkHolds, IsVerdict, fars_of}
+use Rattle.diverse_pairs.specs.Conditions.{asked_of, LeadsAlong, Traces, TracesOver, ListHolds, PathHolds, LinkHoldsAt, LinkHolds, IsVerdict, fars_of}
 use Rattle.diverse_pairs.specs.Pairs.{IsPair, IsLeastPair}
 use Rattle.diverse_pairs.specs.Shown.{IsHigh, ArePotentials}
 use Rattle.diverse_pairs.specs.Solution.{IsSolved}
@@ -45,11 +45,11 @@ use Rattle.diverse_pairs.proofs.Walked.{is_left, among_ds, drops, climbs, fallin
 use Rattle.diverse_pairs.proofs.InUse.{leads, walked, path_links, chosen_pair}
 
 -- a list of the source and of far addresses that lead on, each new, holds
-pub list_holds : (g : Rows) (q : Query) (used : List Addr) (s t : Addr) (fars : List Addr) → AllPairs (λ a b. a ≢ b) (used ++ fars) → LeadsTo g q s fars t → (k : ℕ) → ListHolds g q used s t (s ∷ fars) k
+pub list_holds : (g : Rows) (q : Query) (used : List Addr) (s t : Addr) (fars : List Addr) → AllPairs (λ a b. a ≢ b) (used ++ fars) → LeadsAlong g q s fars t → (k : ℕ) → ListHolds g q used s t (s ∷ fars) k
 list_holds g q used s t fars new leads' k =
     let full : fars ≡ take (length fars) fars = sym (take_all (length fars) fars (omega arith)) in
     let traces : Traces g q used s (take (length fars) fars) t = record {
-      leads = subst (λ xs. LeadsTo g q s xs t) full leads';
+      leads = subst (λ xs. LeadsAlong g q s xs t) full leads';
       new = subst (λ xs. AllPairs (λ a b. a ≢ b) (used ++ xs)) full new;
     } in
     (refl, ended g q used s t fars (length fars) t (omega arith) traces refl k)

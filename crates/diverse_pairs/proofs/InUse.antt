@@ -16,7 +16,7 @@ use Rattle.diverse_pairs.specs.Arcs.{IsArc, at, is_used}
 use Rattle.diverse_pairs.specs.Network.{AreArcs}
 use Rattle.diverse_pairs.specs.Paths.{Goes, turned}
 use Rattle.diverse_pairs.specs.Chosen.{Residual, taken, turned as turned_link, IsInUse, IsLowest, IsChosenPair}
-use Rattle.diverse_pairs.specs.Conditions.{LeadsTo}
+use Rattle.diverse_pairs.specs.Conditions.{LeadsAlong}
 use Rattle.diverse_pairs.specs.Solving.{IsPlaced, IsSearched, IsWalked, IsTurned}
 use Rattle.diverse_pairs.proofs.Sums.{head_of, behind_head}
 use Rattle.diverse_pairs.proofs.Flow.{Among}
@@ -139,7 +139,7 @@ module _ (g : Rows) (q : Query) (s t : Addr) (from to : ℕ) (arcs : List (Optio
       )
 
   -- and its far addresses lead on
-  pub leads : (flags : List Bool) (is : List ℕ) (v : ℕ) (n : Addr) (ms : List Link) → slice_get g.nodes v ≡ Some n → Goes arcs flags v is to → AreAt g.links is ms → LeadsTo g q n (map (λ (l : Link). l.far) ms) t
+  pub leads : (flags : List Bool) (is : List ℕ) (v : ℕ) (n : Addr) (ms : List Link) → slice_get g.nodes v ≡ Some n → Goes arcs flags v is to → AreAt g.links is ms → LeadsAlong g q n (map (λ (l : Link). l.far) ms) t
   leads flags [] v n [] at_v goes at_links =
       let same : n ≡ t = one_node g.nodes to n t (ap (slice_get g.nodes) (sym goes) ∙ at_v) p.target.at_place in
       (same, subst (AdmitsNode g q) (sym same) p.target.admitted)

@@ -16,7 +16,7 @@ use Rattle.diverse_pairs.specs.declared.verdict.PairVerdict.{PairVerdict}
 use Rattle.diverse_pairs.specs.declared.verdict.PairVerdict.TheVariants.{Holds, Fails}
 use Rattle.diverse_pairs.specs.Pairs.{IsPair}
 use Rattle.diverse_pairs.specs.Potentials.{potential_in}
-use Rattle.diverse_pairs.specs.Conditions.{Asked, LeadsTo, TracesOver, ListHolds, PathHolds, LinkHoldsAt, LinkHolds, HasEnds, EndsHold, IsOnlyToLeave, HoldsAt, IsBefore, IsVerdict, ShowsLeast, Shows, fars_of}
+use Rattle.diverse_pairs.specs.Conditions.{Asked, LeadsAlong, TracesOver, ListHolds, PathHolds, LinkHoldsAt, LinkHolds, HasEnds, EndsHold, IsOnlyToLeave, HoldsAt, IsBefore, IsVerdict, ShowsLeast, Shows, fars_of}
 use Rattle.diverse_pairs.specs.Steps.{IsFirstNot}
 use Rattle.diverse_pairs.proofs.Best.{least_pair}
 use Rattle.diverse_pairs.proofs.Cutting.{no_pair}
@@ -97,7 +97,7 @@ pub record WalkOf (g : Rows) (q : Query) (n : Addr) (fars : List Addr) (m : Addr
   pub walk : Walk g q n m links
   pub shown : map (λ l. l.far) links ≡ fars
 
-pub walk_of : (g : Rows) (q : Query) (fars : List Addr) (n m : Addr) → LeadsTo g q n fars m → WalkOf g q n fars m
+pub walk_of : (g : Rows) (q : Query) (fars : List Addr) (n m : Addr) → LeadsAlong g q n fars m → WalkOf g q n fars m
 walk_of g q [] n m leads = record { links = []; walk = leads; shown = refl }
 walk_of g q (far ∷ fars) n m leads =
     let rest = walk_of g q fars leads.0.to m leads.4 in
@@ -110,7 +110,7 @@ walk_of g q (far ∷ fars) n m leads =
 -- a list that holds throughout
 pub record Whole (g : Rows) (q : Query) (used : List Addr) (s t : Addr) (shown : List Addr) : Type 0 where
   pub begins : shown ≡ s ∷ fars_of shown
-  pub leads : LeadsTo g q s (fars_of shown) t
+  pub leads : LeadsAlong g q s (fars_of shown) t
   pub new : AllPairs (λ a b. a ≢ b) (used ++ fars_of shown)
 
 pub whole : (g : Rows) (q : Query) (used : List Addr) (s t : Addr) (shown : List Addr) → ((k : ℕ) → ListHolds g q used s t shown k) → Whole g q used s t shown
@@ -122,7 +122,7 @@ whole g q used s t (start ∷ fars) holds =
     let ends : over.node ≡ t = over.ends (omega arith) in
     record {
       begins = ap (λ a. a ∷ fars) all.0;
-      leads = subst (λ (m : Addr). LeadsTo g q s fars m) ends (subst (λ xs. LeadsTo g q s xs over.node) full over.traces.leads);
+      leads = subst (λ (m : Addr). LeadsAlong g q s fars m) ends (subst (λ xs. LeadsAlong g q s xs over.node) full over.traces.leads);
       new = subst (λ xs. AllPairs (λ a b. a ≢ b) (used ++ xs)) full over.traces.new;
     }
 

@@ -15,7 +15,7 @@ use Rattle.walk_laws.specs.Walks.{AdmitsNode}
 use Rattle.path_certificate.specs.Offers.{IsLinkAt, IsAdmittedAt}
 use Rattle.path_certificate.proofs.Making.{place_of, contains_at}
 use Rattle.path_certificate.proofs.Leading.{same_link}
-use Rattle.diverse_pairs.specs.Conditions.{LeadsTo, Traces, TracesOver}
+use Rattle.diverse_pairs.specs.Conditions.{LeadsAlong, Traces, TracesOver}
 use Rattle.diverse_pairs.specs.Steps.{IsStep, IsFirstNot}
 
 -- ---- one step
@@ -48,32 +48,32 @@ step_made g q n far i l at is from =
 
 -- ---- many steps
 
-pub lead_once : (g : Rows) (q : Query) (fars : List Addr) (n m k : Addr) → IsInOrder g → LeadsTo g q n fars m → LeadsTo g q n fars k → m ≡ k
+pub lead_once : (g : Rows) (q : Query) (fars : List Addr) (n m k : Addr) → IsInOrder g → LeadsAlong g q n fars m → LeadsAlong g q n fars k → m ≡ k
 lead_once g q [] n m k order one other = sym one.0 ∙ other.0
 lead_once g q (far ∷ fars) n m k order one other =
     let same : other.0 ≡ one.0 = same_link g other.0 one.0 order other.3.is_link one.3.is_link (other.1 ∙ sym one.1) in
-    lead_once g q fars one.0.to m k order one.4 (subst (λ (l : Link). LeadsTo g q l.to fars k) same other.4)
+    lead_once g q fars one.0.to m k order one.4 (subst (λ (l : Link). LeadsAlong g q l.to fars k) same other.4)
 
-pub step_leads : (g : Rows) (q : Query) (n far m : Addr) → IsStep g q n far m → LeadsTo g q n (far ∷ []) m
+pub step_leads : (g : Rows) (q : Query) (n far m : Addr) → IsStep g q n far m → LeadsAlong g q n (far ∷ []) m
 step_leads g q n far m step = (step.link, step.same_far, step.from, step.admitted, (step.to, step.admitted.to))
 
-pub leads_step : (g : Rows) (q : Query) (n far m : Addr) → LeadsTo g q n (far ∷ []) m → IsStep g q n far m
+pub leads_step : (g : Rows) (q : Query) (n far m : Addr) → LeadsAlong g q n (far ∷ []) m → IsStep g q n far m
 leads_step g q n far m leads = record { link = leads.0; same_far = leads.1; from = leads.2; admitted = leads.3; to = leads.4.0 }
 
-pub lead_on : (g : Rows) (q : Query) (fars more : List Addr) (n m k : Addr) → LeadsTo g q n fars m → LeadsTo g q m more k → LeadsTo g q n (fars ++ more) k
-lead_on g q [] more n m k one next = subst (λ (u : Addr). LeadsTo g q u more k) (sym one.0) next
+pub lead_on : (g : Rows) (q : Query) (fars more : List Addr) (n m k : Addr) → LeadsAlong g q n fars m → LeadsAlong g q m more k → LeadsAlong g q n (fars ++ more) k
+lead_on g q [] more n m k one next = subst (λ (u : Addr). LeadsAlong g q u more k) (sym one.0) next
 lead_on g q (far ∷ fars) more n m k one next = (one.0, one.1, one.2, one.3, lead_on g q fars more one.0.to m k one.4 next)
 
 pub record Halves (g : Rows) (q : Query) (n : Addr) (fars more : List Addr) (k : Addr) : Type 0 where
   pub node : Addr
-  pub first : LeadsTo g q n fars node
-  pub second : LeadsTo g q node more k
+  pub first : LeadsAlong g q n fars node
+  pub second : LeadsAlong g q node more k
 
-starts : (g : Rows) (q : Query) (fars : List Addr) (n k : Addr) → LeadsTo g q n fars k → AdmitsNode g q n
+starts : (g : Rows) (q : Query) (fars : List Addr) (n k : Addr) → LeadsAlong g q n fars k → AdmitsNode g q n
 starts g q [] n k leads = leads.1
 starts g q (far ∷ fars) n k leads = subst (AdmitsNode g q) leads.2 leads.3.from
 
-pub halves : (g : Rows) (q : Query) (fars more : List Addr) (n k : Addr) → LeadsTo g q n (fars ++ more) k → Halves g q n fars more k
+pub halves : (g : Rows) (q : Query) (fars more : List Addr) (n k : Addr) → LeadsAlong g q n (fars ++ more) k → Halves g q n fars more k
 halves g q [] more n k leads = record { node = n; first = (refl, starts g q more n k leads); second = leads }
 halves g q (far ∷ fars) more n k leads =
     let h = halves g q fars more leads.0.to k leads.4 in
@@ -103,7 +103,7 @@ pub shorter : (g : Rows) (q : Query) (used : List Addr) (s t : Addr) (fars : Lis
 shorter g q used s t fars j k m within below traces =
     let cut : take j fars ++ drop j (take k fars) ≡ take k fars =
     ap (λ xs. xs ++ drop j (take k fars)) (sym (take-take j k fars within)) ∙ take-append-drop j (take k fars) in
-    let h = halves g q (take j fars) (drop j (take k fars)) s m (subst (λ xs. LeadsTo g q s xs m) (sym cut) traces.leads) in
+    let h = halves g q (take j fars) (drop j (take k fars)) s m (subst (λ xs. LeadsAlong g q s xs m) (sym cut) traces.leads) in
     let new : AllPairs (λ a b. a ≢ b) ((used ++ take j fars) ++ drop j (take k fars)) =
     subst (AllPairs (λ a b. a ≢ b)) (sym (append_assoc used (take j fars) (drop j (take k fars)) ∙ ap (λ xs. used ++ xs) cut)) traces.new in
     record {
@@ -128,9 +128,9 @@ pub stops_at : (g : Rows) (q : Query) (used : List Addr) (s t : Addr) (fars : Li
     Traces g q used s (take k fars) m → ((u : Addr) → IsStep g q m far u → ⊥) → TracesOver g q used s t fars (k + 1) → ⊥
 stops_at g q used s t fars k m far order below is traces none over =
     let more : take (k + 1) fars ≡ take k fars ++ far ∷ [] = take_more fars k far below ∙ ap (λ f. take k fars ++ f ∷ []) (sym is) in
-    let h = halves g q (take k fars) (far ∷ []) s over.node (subst (λ xs. LeadsTo g q s xs over.node) more over.traces.leads) in
+    let h = halves g q (take k fars) (far ∷ []) s over.node (subst (λ xs. LeadsAlong g q s xs over.node) more over.traces.leads) in
     let one : h.node ≡ m = lead_once g q (take k fars) s h.node m order h.first traces.leads in
-    none over.node (leads_step g q m far over.node (subst (λ (u : Addr). LeadsTo g q u (far ∷ []) over.node) one h.second))
+    none over.node (leads_step g q m far over.node (subst (λ (u : Addr). LeadsAlong g q u (far ∷ []) over.node) one h.second))
 
 -- the next far address goes on
 pub goes_on : (g : Rows) (q : Query) (used : List Addr) (s : Addr) (fars : List Addr) (k : ℕ) (m u far : Addr) → k < length fars → far ≡ get_or fars k far →
@@ -138,7 +138,7 @@ pub goes_on : (g : Rows) (q : Query) (used : List Addr) (s : Addr) (fars : List 
 goes_on g q used s fars k m u far below is traces step new =
     let more : take (k + 1) fars ≡ take k fars ++ far ∷ [] = take_more fars k far below ∙ ap (λ f. take k fars ++ f ∷ []) (sym is) in
     record {
-      leads = subst (λ xs. LeadsTo g q s xs u) (sym more) (lead_on g q (take k fars) (far ∷ []) s m u traces.leads (step_leads g q m far u step));
+      leads = subst (λ xs. LeadsAlong g q s xs u) (sym more) (lead_on g q (take k fars) (far ∷ []) s m u traces.leads (step_leads g q m far u step));
       new = subst (AllPairs (λ a b. a ≢ b)) (sym (one_more used fars k far below is)) (push_differs (used ++ take k fars) far traces.new new);
     }
 
@@ -170,7 +170,7 @@ far_of : (g : Rows) (l : Link) → Contains g.links l → Contains (map (λ (k :
 far_of g l (i, below, is) =
     (i, omega (arith, below, length-map {A = Link} {B = Addr} g.links (λ k. k.far)), get_or-map (λ (k : Link). k.far) g.links i l l.far below ∙ ap (λ (k : Link). k.far) is)
 
-all_fars : (g : Rows) (q : Query) (fars : List Addr) (n m : Addr) → LeadsTo g q n fars m → All (Contains (map (λ (k : Link). k.far) g.links)) fars
+all_fars : (g : Rows) (q : Query) (fars : List Addr) (n m : Addr) → LeadsAlong g q n fars m → All (Contains (map (λ (k : Link). k.far) g.links)) fars
 all_fars g q [] n m leads = All-nil (Contains (map (λ (k : Link). k.far) g.links))
 all_fars g q (far ∷ fars) n m leads =
     All-cons (Contains (map (λ (k : Link). k.far) g.links)) far fars

@@ -3,6 +3,8 @@ use Rattle.std.specs.Prelude.{IsTrue, ◌≡◌, ◌≢◌, ◌≤◌, ◌==◌,
 use Rattle.std.specs.Int.{w32, to_be_bytes}
 use Rattle.std.specs.Option.{option_or}
 use Rattle.std.specs.List.{list_any}
+use Rattle.pcep_codes.specs.declared.classes.TheConstants as classes
+use Rattle.pcep_codes.specs.declared.kinds.TheConstants as kinds
 use Rattle.pcep_objects.specs.declared.object.Body.{Body}
 use Rattle.pcep_objects.specs.declared.object.Body.TheVariants as bodies
 use Rattle.pcep_objects.specs.declared.object.Object.{Object}
@@ -18,7 +20,7 @@ use Rattle.diverse_pairs.specs.declared.asking.PairError.TheVariants as errors
 
 -- an SVEC (section 7.13)
 abbrev pub is_svec : Object → Bool
-is_svec o = (o.class == 11) && (o.kind == 1)
+is_svec o = (o.class == classes.SVEC) && (o.kind == kinds.FIRST)
 
 -- the objects of a request without SVECs
 abbrev pub plain : List Object → List Object

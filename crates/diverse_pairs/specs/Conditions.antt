@@ -17,13 +17,13 @@ use Rattle.diverse_pairs.specs.Potentials.{potential_in}
 use Rattle.diverse_pairs.specs.Pairs.{IsLeastPair, HasNoPair}
 
 -- The far addresses lead from a node to a node: each is that of an admitted link, which begins at the present node.
-abbrev pub LeadsTo : Rows → Query → Addr → List Addr → Addr → Type 0
-LeadsTo g q n [] m = (n ≡ m) × AdmitsNode g q n
-LeadsTo g q n (far ∷ fars) m = (l : TeLink) × (l.far ≡ far) × (l.from ≡ n) × AdmitsLink g q l × LeadsTo g q l.to fars m
+abbrev pub LeadsAlong : Rows → Query → Addr → List Addr → Addr → Type 0
+LeadsAlong g q n [] m = (n ≡ m) × AdmitsNode g q n
+LeadsAlong g q n (far ∷ fars) m = (l : TeLink) × (l.far ≡ far) × (l.from ≡ n) × AdmitsLink g q l × LeadsAlong g q l.to fars m
 
 -- they lead there, and none of them was used before
 pub record Traces (g : Rows) (q : Query) (used : List Addr) (n : Addr) (fars : List Addr) (m : Addr) : Type 0 where
-  pub leads : LeadsTo g q n fars m
+  pub leads : LeadsAlong g q n fars m
   pub new : AllPairs (λ a b. a ≢ b) (used ++ fars)
 
 -- the first k far addresses do; if these are all, they lead to the target

@@ -1,18 +1,19 @@
+-- for readers
 pub mod Pairs
 pub mod Potentials
 pub mod Conditions
 pub mod Chosen
-pub mod Steps
-pub mod Given
+pub mod Asking
+pub mod Solution
 pub mod RowText
 pub mod Text
 pub mod PairText
-pub mod Asking
+-- inner
+pub mod Steps
+pub mod Network
 pub mod Arcs
 pub mod Distances
 pub mod Paths
 pub mod Residual
-pub mod Network
 pub mod Shown
-pub mod Solution
 pub mod Solving

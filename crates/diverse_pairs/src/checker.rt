@@ -4,7 +4,6 @@ ghost use Rattle.te_links.specs.Rows.{IsTopology, IsInOrder};
 ghost use Rattle.diverse_pairs.specs.Conditions.{asked_of, IsVerdict, Shows};
 ghost use Rattle.diverse_pairs.specs.Potentials.{HasRising, AreRising};
 
-use crate::admitted::admits_node;
 use crate::certificate::{PairCertificate, PairForm};
 use crate::false_crossing::second_to_leave;
 use crate::false_links::false_link;
@@ -12,7 +11,7 @@ use crate::false_path::false_address;
 use crate::look_up::stands;
 use crate::verdict::PairVerdict;
 use dom_base::{Addr, Query};
-use path_certificate::Place;
+use path_certificate::{Place, admits_node};
 use te_links::Topology;
 
 // What a check says of paths with potentials.

@@ -3,46 +3,10 @@ ghost use Rattle.std.specs.Prelude.{◌≡◌, IfOk};
 ghost use Rattle.diverse_pairs.specs.Asking.{is_svec as is_joining, plain};
 
 use dom_base::{Exclusion, List, NoMemory};
+use pcep_codes::{classes, kinds};
 use pcep_objects::{Body, Object};
-use pcep_subobjects::Hop;
+use pcep_subobjects::copy_hops;
 use std::alloc::Global;
-
-fn copy_hop(alloc: Global, hop: &Hop) -> Result<Hop, NoMemory>
-    ensures { IfOk result (λ copy. copy ≡ hop.now) }
-{
-    Ok(match *hop {
-        Hop::Prefix {
-            loose,
-            addr,
-            length,
-        } => Hop::Prefix {
-            loose,
-            addr,
-            length,
-        },
-        Hop::AsNumber { loose, number } => Hop::AsNumber { loose, number },
-        Hop::Key { loose, key, pce } => Hop::Key { loose, key, pce },
-        Hop::Other {
-            loose,
-            kind,
-            ref body,
-        } => Hop::Other {
-            loose,
-            kind,
-            body: body.copy(alloc)?,
-        },
-    })
-}
-
-fn copy_hops(alloc: Global, hops: &[Hop]) -> Result<List<Hop>, NoMemory>
-    ensures { IfOk result (λ copies. copies ≡ hops.now) }
-{
-    let mut copies = List::new(alloc);
-    for hop in hops {
-        copies.push(copy_hop(alloc, hop)?)?;
-    }
-    Ok(copies)
-}
 
 fn copy_exclusions(alloc: Global, list: &[Exclusion]) -> Result<List<Exclusion>, NoMemory>
     ensures { IfOk result (λ copies. copies ≡ list.now) }
@@ -52,6 +16,17 @@ fn copy_exclusions(alloc: Global, list: &[Exclusion]) -> Result<List<Exclusion>,
         copies.push(exclusion.copy(alloc)?)?;
     }
     Ok(copies)
+}
+
+fn metric(bound: bool, computed: bool, kind: u8, word: u32) -> Body
+    ensures { result ≡ Body.Metric bound computed kind word }
+{
+    Body::Metric {
+        bound,
+        computed,
+        kind,
+        word,
+    }
 }
 
 fn copy_body(alloc: Global, body: &Body) -> Result<Body, NoMemory>
@@ -68,12 +43,7 @@ fn copy_body(alloc: Global, body: &Body) -> Result<Body, NoMemory>
             computed,
             kind,
             word,
-        } => Body::Metric {
-            bound,
-            computed,
-            kind,
-            word,
-        },
+        } => metric(bound, computed, kind, word),
         Body::Ero(ref hops) => Body::Ero(copy_hops(alloc, hops.as_slice())?),
         Body::Lspa {
             exclude_any,
@@ -115,7 +85,7 @@ fn copy_object(alloc: Global, object: &Object) -> Result<Object, NoMemory>
 pub fn is_svec(object: &Object) -> bool
     ensures { result ≡ is_joining object.now }
 {
-    object.class == 11 && object.kind == 1
+    object.class == classes::SVEC && object.kind == kinds::FIRST
 }
 
 /// Copies of the objects that are no SVEC.

@@ -8,8 +8,8 @@ ghost use Rattle.te_links.specs.Rows.{IsTopology, IsInOrder};
 ghost use Rattle.walk_laws.specs.Walks.{cost};
 ghost use Rattle.diverse_pairs.specs.Conditions.{IsShownBy};
 
-use crate::look_up::link_with;
 use dom_base::{Addr, Query};
+use path_certificate::link_with;
 use path_constraints::weight;
 use te_links::Topology;
 

@@ -4,9 +4,9 @@ ghost use Rattle.te_links.specs.Rows.{IsTopology};
 ghost use Rattle.diverse_pairs.specs.Conditions.{IsOnlyToLeave, Leaves};
 ghost use Rattle.diverse_pairs.specs.Steps.{IsFirstNot};
 
-use crate::admitted::admitted_link;
 use crate::look_up::stands;
 use dom_base::{Addr, Query};
+use path_certificate::admitted_link;
 use te_links::Topology;
 
 // Whether the link at a place is admitted and leaves the nodes.

@@ -5,9 +5,9 @@ ghost use Rattle.diverse_pairs.specs.Conditions.{LinkHoldsAt, RisesRight};
 ghost use Rattle.diverse_pairs.specs.Potentials.{potential_in, AreRising};
 ghost use Rattle.diverse_pairs.specs.Steps.{IsFirstNot};
 
-use crate::admitted::admitted_link;
 use crate::look_up::{is_in_use, potential_of};
 use dom_base::{Addr, Link, Query};
+use path_certificate::admitted_link;
 use path_constraints::weight;
 use te_links::Topology;
 

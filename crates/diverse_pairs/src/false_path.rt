@@ -5,9 +5,9 @@ ghost use Rattle.walk_laws.specs.Walks.{AdmitsNode};
 ghost use Rattle.diverse_pairs.specs.Conditions.{ListHolds, PathHolds, TracesOver};
 ghost use Rattle.diverse_pairs.specs.Steps.{IsStep, IsFirstNot};
 
-use crate::admitted::{admits_node, admitted_link};
-use crate::look_up::{is_in_use, link_with};
+use crate::look_up::is_in_use;
 use dom_base::{Addr, Query};
+use path_certificate::{admits_node, admitted_link, link_with};
 use te_links::{LINKS_MAX, Topology};
 
 // Where the admitted link with a far address leads from a node.

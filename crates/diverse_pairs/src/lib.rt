@@ -2,7 +2,6 @@
 //! trusts nobody.
 #![tactic(auto)]
 
-mod admitted;
 mod arcs;
 mod asking;
 mod certificate;

@@ -1,11 +1,8 @@
-//! What stands in the rows of a certificate and of a topology.
-ghost use Rattle.std.specs.Prelude.{◌≡◌, ◌++◌, ◌↔◌, Contains, IsTrue, MatchOption, ℕ};
-ghost use Rattle.path_certificate.specs.Offers.{IsLinkAt};
-ghost use Rattle.te_links.specs.Rows.{IsInOrder};
+//! What stands in the rows of a certificate.
+ghost use Rattle.std.specs.Prelude.{◌≡◌, ◌++◌, ◌↔◌, Contains, IsTrue};
 ghost use Rattle.diverse_pairs.specs.Potentials.{potential_in, AreRising};
 
 use dom_base::Addr;
-use te_links::Topology;
 
 /// Whether an address stands in a list.
 pub fn stands(addrs: &[Addr], addr: Addr) -> bool
@@ -43,26 +40,4 @@ pub fn potential_of(rows: &[(Addr, u64)], node: Addr) -> u64
         }
     }
     0
-}
-
-/// The place of the link with a far address.
-pub fn link_with(topology: &Topology, far: Addr) -> Option<u32>
-    requires { IsInOrder topology.now }
-    ensures { MatchOption result ((i : ℕ) → ¬ IsLinkAt topology.now far i) (IsLinkAt topology.now far) }
-{
-    let mut low = 0;
-    let mut high = topology.link_count();
-    while low < high {
-        let middle = low + (high - low) / 2;
-        let here = topology.link_at(middle).far;
-        if here == far {
-            return Some(middle);
-        }
-        if here < far {
-            low = middle + 1;
-        } else {
-            high = middle;
-        }
-    }
-    None
 }

@@ -5,9 +5,9 @@ ghost use Rattle.te_links.specs.Rows.{IsTopology};
 ghost use Rattle.path_certificate.specs.Offers.{IsAdmittedAt};
 ghost use Rattle.diverse_pairs.specs.Network.{IsArcOf, AreArcs};
 
-use crate::admitted::admitted_link;
 use crate::arcs::Arc;
 use dom_base::{NoMemory, Query};
+use path_certificate::admitted_link;
 use path_constraints::weight;
 use std::alloc::Global;
 use te_links::Topology;

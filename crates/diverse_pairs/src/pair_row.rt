@@ -1,16 +1,12 @@
 //! One line of a pair's certificate.
-ghost use Rattle.std.specs.Prelude.{◌≡◌, ◌==◌, Some, None, MatchOption, length};
-ghost use Rattle.dom_base.specs.AddrText.{addr_in};
-ghost use Rattle.dom_base.specs.AddrOrder.{rank};
-ghost use Rattle.std.specs.Prelude.{nat_le};
+ghost use Rattle.std.specs.Prelude.{◌≡◌, Some, None, MatchOption};
 ghost use Rattle.te_text.specs.RowText.{first, number_64};
-ghost use Rattle.path_certificate.specs.RowText.{addrs_behind, is_dash as means_nothing};
-ghost use Rattle.path_certificate.specs.Text.{least_behind};
-ghost use Rattle.diverse_pairs.specs.Given.{GivesRow};
+ghost use Rattle.path_certificate.specs.Given.{GivesRow};
 ghost use Rattle.diverse_pairs.specs.RowText.{nodes_behind, potential_row, rising_behind, row_in, some_addrs};
 
-use dom_base::{Addr, List, NoMemory, read_addr, read_number};
+use dom_base::{Addr, List, read_addr, read_number};
 use line_text::Words;
+use path_certificate::{RowError, addrs_of, is_behind, is_dash, is_end, next_addr};
 use std::alloc::Global;
 
 /// A line of a pair's certificate behind its header.
@@ -22,56 +18,10 @@ pub enum PairRow {
     Cut(List<Addr>),
 }
 
-/// Why words give no such line.
-#[derive(Clone, Copy, Debug, PartialEq, Eq)]
-pub enum RowError {
-    Syntax,
-    NoMemory,
-}
-
-impl From<NoMemory> for RowError {
-    ghost use Rattle.diverse_pairs.specs.declared.pair_row.RowError.TheVariants.{NoMemory};
-
-    ghost from_gives = { λ _ e. e ≡ NoMemory };
-
-    fn from(_: NoMemory) -> Self {
-        RowError::NoMemory
-    }
-}
-
-/// Whether no word is left.
-pub fn is_end(words: &mut Words<'_>) -> bool
-    ensures { result ≡ (length words.old == 0) }
-{
-    words.next_word().is_none()
-}
-
-/// Whether an address comes behind the last one.
-pub fn is_behind(last: Option<Addr>, addr: Addr) -> bool
-    ensures { result ≡ nat_le (least_behind last) (rank addr) }
-{
-    match last {
-        None => true,
-        Some(before) => before < addr,
-    }
-}
-
-fn next_addr(words: &mut Words<'_>) -> Option<Addr>
-    ensures { MatchOption result (first addr_in words.old ≡ None) (λ addr. first addr_in words.old ≡ Some (addr, words.new)) }
-{
-    read_addr(words.next_word()?)
-}
-
 fn next_number(words: &mut Words<'_>) -> Option<u64>
     ensures { MatchOption result (first number_64 words.old ≡ None) (λ n. first number_64 words.old ≡ Some (n, words.new)) }
 {
     read_number(words.next_word()?, u64::MAX)
-}
-
-fn is_dash(word: &[u8]) -> bool
-    ensures { result ≡ means_nothing word.now }
-{
-    word == b"-".as_slice()
 }
 
 // The potential in the words behind the first one.
@@ -87,29 +37,14 @@ fn potential_of(words: &mut Words<'_>) -> Option<PairRow>
     }
 }
 
-// An address and those in the words behind it, up to the last.
-fn addrs_from(alloc: Global, start: Addr, words: &mut Words<'_>) -> Result<List<Addr>, RowError>
-    ensures { GivesRow result (addrs_behind start words.old) }
-{
-    let mut addrs = List::new(alloc);
-    addrs.push(start)?;
-    while let Some(word) = words.next_word() {
-        let Some(addr) = read_addr(word) else {
-            return Err(RowError::Syntax);
-        };
-        addrs.push(addr)?;
-    }
-    Ok(addrs)
-}
-
 // One address or more, up to the last word.
-fn addrs_of(alloc: Global, words: &mut Words<'_>) -> Result<List<Addr>, RowError>
+fn path_of(alloc: Global, words: &mut Words<'_>) -> Result<List<Addr>, RowError>
     ensures { GivesRow result (some_addrs words.old) }
 {
     let Some(start) = next_addr(words) else {
         return Err(RowError::Syntax);
     };
-    addrs_from(alloc, start, words)
+    addrs_of(alloc, start, words)
 }
 
 // An address and those in the words behind it, each behind the one before it.
@@ -169,11 +104,11 @@ pub fn read_row(alloc: Global, words: &mut Words<'_>) -> Result<PairRow, RowErro
         };
     }
     if name == b"first".as_slice() {
-        let addrs = addrs_of(alloc, words)?;
+        let addrs = path_of(alloc, words)?;
         return Ok(PairRow::First(addrs));
     }
     if name == b"second".as_slice() {
-        let addrs = addrs_of(alloc, words)?;
+        let addrs = path_of(alloc, words)?;
         return Ok(PairRow::Second(addrs));
     }
     if name == b"cut".as_slice() {

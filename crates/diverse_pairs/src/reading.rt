@@ -7,10 +7,10 @@ ghost use Rattle.diverse_pairs.specs.Potentials.{HasRising};
 ghost use Rattle.diverse_pairs.specs.Text.{body_in, cut_says, header_at, nothing_in, own_behind, pair_in, row_at, second_in};
 
 use crate::certificate::{PairCertificate, PairForm};
-use crate::pair_row::{PairRow, RowError, is_behind, is_end, read_row};
+use crate::pair_row::{PairRow, read_row};
 use dom_base::{Addr, As, List, read_number};
 use line_text::{Line, Lines, Words, is_trimmed, line_count};
-use path_certificate::CertError;
+use path_certificate::{CertError, RowError, is_behind, is_end};
 use std::alloc::Global;
 use te_links::{TopoFault, Topology};
 

@@ -21,7 +21,7 @@ use Rattle.path_certificate.specs.declared.verdict.Place.{Place}
 use Rattle.path_certificate.specs.declared.verdict.Place.TheVariants.{Seed, Link, Node, Path}
 use Rattle.path_certificate.specs.declared.verdict.Verdict.{Verdict}
 use Rattle.path_certificate.specs.declared.verdict.Verdict.TheVariants.{Holds, Fails}
-use Rattle.path_certificate.specs.Rows.{label_in, AreRows}
+use Rattle.path_certificate.specs.Rows.{label_in, AreLabelRows}
 use Rattle.path_certificate.specs.Claims.{Claim, claim_of, LeadsOver, SeedHoldsAt, LinkHoldsAt, NodeHoldsAt, PathHoldsAt, HoldsAt, IsBefore, IsVerdict, ShowsWalk, seed_told, seed_bound, link_told, link_bound, node_told}
 use Rattle.path_certificate.specs.Offers.{IsFirstBroken}
 use Rattle.path_certificate.proofs.Making.{place_of, contains_at}
@@ -110,7 +110,7 @@ named nodes (row ∷ rows) n a at is =
       | inr f ↦ named nodes rows n a (λ r found. at r (later row r rows found)) (rw f.0 at is)
     ]
 
-pub are_certified : (g : Rows) (q : Query) (seeds : List SeedRow) (rows : List (Addr × Option Label)) → AreRows g.nodes rows →
+pub are_certified : (g : Rows) (q : Query) (seeds : List SeedRow) (rows : List (Addr × Option Label)) → AreLabelRows g.nodes rows →
     ((i : ℕ) → SeedHoldsAt g q (label_in rows) seeds i) → ((i : ℕ) → LinkHoldsAt g q (label_in rows) i) → ((i : ℕ) → NodeHoldsAt g q seeds (label_in rows) i) →
     Certifies g q seeds (label_in rows)
 are_certified g q seeds rows are at_seeds at_links at_nodes = record {
@@ -165,7 +165,7 @@ pub record Says (g : Rows) (q : Query) (seeds : List SeedRow) (source : Addr) (c
   pub least : v ≡ Holds → (n : Addr) → IsLabel g q seeds n (label_in c.labels n)
   pub walk : v ≡ Holds → ShowsWalk g q seeds (label_in c.labels) source c.path
 
-pub says : (g : Rows) (q : Query) (seeds : List SeedRow) (source : Addr) (c : Certificate) (v : Verdict) → IsTopology g → AreRows g.nodes c.labels →
+pub says : (g : Rows) (q : Query) (seeds : List SeedRow) (source : Addr) (c : Certificate) (v : Verdict) → IsTopology g → AreLabelRows g.nodes c.labels →
     IsVerdict (claim_of g q seeds source c) v → Says g q seeds source c v
 says g q seeds source c Holds valid are is =
     let certifies = are_certified g q seeds c.labels are (λ i. is (Seed i)) (λ i. is (Link i)) (λ i. is (Node i)) in
@@ -182,7 +182,7 @@ says g q seeds source c (Fails place told bound) valid are is = record {
 }
 
 -- where all conditions hold of the rows
-pub good : (g : Rows) (q : Query) (seeds : List SeedRow) (source : Addr) (c : Certificate) (rows : List (Addr × Option Label)) → rows ≡ c.labels → IsTopology g → AreRows g.nodes c.labels →
+pub good : (g : Rows) (q : Query) (seeds : List SeedRow) (source : Addr) (c : Certificate) (rows : List (Addr × Option Label)) → rows ≡ c.labels → IsTopology g → AreLabelRows g.nodes c.labels →
     ((i : ℕ) → SeedHoldsAt g q (label_in rows) seeds i) → ((i : ℕ) → LinkHoldsAt g q (label_in rows) i) → ((i : ℕ) → NodeHoldsAt g q seeds (label_in rows) i) →
     ((k : ℕ) → PathHoldsAt g q seeds (label_in rows) source c.path k) → Says g q seeds source c Holds
 good g q seeds source c rows same valid are at_seeds at_links at_nodes at_path =

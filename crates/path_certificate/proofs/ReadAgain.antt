@@ -16,7 +16,7 @@ use Rattle.te_links.specs.Rows.{Rows}
 use Rattle.path_certificate.specs.declared.certificate.Certificate.{Certificate}
 use Rattle.path_certificate.specs.declared.text_row.TextRow.{TextRow}
 use Rattle.path_certificate.specs.declared.text_row.TextRow.TheVariants as rows
-use Rattle.path_certificate.specs.Rows.{AreRows}
+use Rattle.path_certificate.specs.Rows.{AreLabelRows}
 use Rattle.path_certificate.specs.RowText.{row_in}
 use Rattle.path_certificate.specs.Text.{header_at, row_at, body_in, Body, LabelLine, is_node, first_stranger, certificate_in}
 use Rattle.path_certificate.specs.CertificateText.{header_words, row_words, label_words, certificate_text, rows_text, IsPathWritten, IsWritten, IsWrittenHeader}
@@ -84,7 +84,7 @@ lines_are [] path written = (path_line path, tt)
 lines_are (row ∷ others) path written = (written.0.line, lines_are others path written.1)
 
 pub read_again : (c : Certificate) (g : Rows) → IsWrittenHeader c.own → All (λ row. IsWritten (rows.Label row.0 row.1)) c.labels → IsPathWritten c.path →
-    g.own ≡ c.own → AreRows g.nodes c.labels → c.path ≢ Some [] → certificate_in g (certificate_text c) ≡ Ok c
+    g.own ≡ c.own → AreLabelRows g.nodes c.labels → c.path ≢ Some [] → certificate_in g (certificate_text c) ≡ Ok c
 read_again c g header labels path own are some =
     let written : AllRead c.labels = recursion_from_All (λ (row : Addr × Option Label). IsWritten (rows.Label row.0 row.1)) c.labels labels in
     let good : AreGood g.nodes 0 c.labels = good_rows g.nodes 0 c.labels (λ d some. omega arith) are.rising are.at_nodes in

@@ -19,7 +19,7 @@ use Rattle.path_certificate.specs.declared.reading.Gathered.{Gathered}
 use Rattle.path_certificate.specs.declared.cert_error.CertError.{CertError}
 use Rattle.path_certificate.specs.declared.cert_error.CertError.TheVariants.{At, NoMemory}
 use Rattle.path_certificate.specs.Given.{GivesText}
-use Rattle.path_certificate.specs.Rows.{AreRows}
+use Rattle.path_certificate.specs.Rows.{AreLabelRows}
 use Rattle.path_certificate.specs.Text.{and_then, header_at, row_at, body_in, line_says, path_last, with_label, Body, LabelLine, is_node, first_stranger, gathered, unless_stranger, lines_say, certificate_in}
 use Rattle.path_certificate.proofs.Gathering.{Labels}
 use Rattle.path_certificate.proofs.Strangers.{is_node_contains}
@@ -125,15 +125,15 @@ all_nodes nodes (row ∷ others) none =
     ]
 
 pub rows_read : (nodes : List Addr) (end : ℕ) (others : List NumberedLine) (x : Gathered) → and_then (body_in end 0 others) (λ body. Ok (gathered nodes body)) ≡ Ok x →
-    x.stranger ≡ None → AreRows nodes x.labels
+    x.stranger ≡ None → AreLabelRows nodes x.labels
 rows_read nodes end others x said none = go (body_in end 0 others) (λ b is. body_rises end 0 others b is) said
   where
-    go : (r : Result Body CertError) → ((b : Body) → r ≡ Ok b → RisingFrom 0 (labels_of b)) → and_then r (λ body. Ok (gathered nodes body)) ≡ Ok x → AreRows nodes x.labels
+    go : (r : Result Body CertError) → ((b : Body) → r ≡ Ok b → RisingFrom 0 (labels_of b)) → and_then r (λ body. Ok (gathered nodes body)) ≡ Ok x → AreLabelRows nodes x.labels
     go (Err e) up is = absurd (cc)
     go (Ok b) up is =
         let same : gathered nodes b ≡ x = cc in
-        let rows_are : AreRows nodes (labels_of b) = record {
+        let rows_are : AreLabelRows nodes (labels_of b) = record {
           rising = rising_pairs 0 (labels_of b) (up b refl);
           at_nodes = all_nodes nodes b.labels (ap (λ (y : Gathered). y.stranger) same ∙ none);
         } in
-        subst (λ (y : Gathered). AreRows nodes y.labels) same rows_are
+        subst (λ (y : Gathered). AreLabelRows nodes y.labels) same rows_are

@@ -41,16 +41,16 @@ NodeHoldsAt g q seeds label i = (n : Addr) (a : Label) → slice_get g.nodes i �
 
 -- The far addresses lead from a node with a label to another node and its label: each is that of a link that makes the
 -- label of its beginning.
-abbrev pub LeadsTo : Rows → Query → Labelling → Addr → Label → List Addr → Addr → Label → Type 0
-LeadsTo g q label n a [] m b = (n ≡ m) × (a ≡ b)
-LeadsTo g q label n a (far ∷ fars) m b =
-    (l : TeLink) × (l.far ≡ far) × ((made : IsMadeBy g q label n a l) × LeadsTo g q label l.to made.rest fars m b)
+abbrev pub LeadsByLabels : Rows → Query → Labelling → Addr → Label → List Addr → Addr → Label → Type 0
+LeadsByLabels g q label n a [] m b = (n ≡ m) × (a ≡ b)
+LeadsByLabels g q label n a (far ∷ fars) m b =
+    (l : TeLink) × (l.far ≡ far) × ((made : IsMadeBy g q label n a l) × LeadsByLabels g q label l.to made.rest fars m b)
 
 -- The first k far addresses lead on from a node with a label. If these are all, a seed equals the label where they end.
 pub record LeadsOver (g : Rows) (q : Query) (seeds : List SeedRow) (label : Labelling) (n : Addr) (a : Label) (fars : List Addr) (k : ℕ) : Type 0 where
   pub node : Addr
   pub rest : Label
-  pub leads : LeadsTo g q label n a (take k fars) node rest
+  pub leads : LeadsByLabels g q label n a (take k fars) node rest
   pub ends : length fars ≤ k → EndsAt seeds node rest
 
 -- The path holds up to the address at place k: it is absent where the source has no label, and else begins at the source and

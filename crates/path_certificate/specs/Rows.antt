@@ -11,6 +11,6 @@ label_in [] n = None
 label_in (row ∷ rows) n = if rank row.0 == rank n then row.1 else label_in rows n
 
 -- the rows stand in strictly rising order of address, each at a node
-pub record AreRows (nodes : List Addr) (rows : List (Addr × Option Label)) : Type 0 where
+pub record AreLabelRows (nodes : List Addr) (rows : List (Addr × Option Label)) : Type 0 where
   pub rising : AllPairs (λ a b. rank a.0 < rank b.0) rows
   pub at_nodes : All (λ row. Contains nodes row.0) rows

@@ -2,7 +2,7 @@
 ghost use Rattle.std.specs.Prelude.{◌≡◌, ◌≤◌, ◌↔◌, length};
 ghost use Rattle.walk_laws.specs.Labels.{IsLabel};
 ghost use Rattle.walk_laws.specs.Certificate.{Certifies, PathHolds};
-ghost use Rattle.path_certificate.specs.Rows.{label_in, AreRows};
+ghost use Rattle.path_certificate.specs.Rows.{label_in, AreLabelRows};
 ghost use Rattle.path_certificate.specs.Claims.{claim_of, IsVerdict, ShowsWalk};
 
 use crate::SEEDS_MAX;
@@ -27,7 +27,7 @@ pub fn check(
     certificate: &Certificate,
 ) -> Verdict
     requires few_seeds { length seeds.now ≤ SEEDS_MAX }
-    requires rows { AreRows topology.now.nodes certificate.now.labels }
+    requires rows { AreLabelRows topology.now.nodes certificate.now.labels }
     ensures verdict { IsVerdict (claim_of topology.now query.now seeds.now source certificate.now) result }
 
     // It holds exactly where the labels and the path meet the conditions.

@@ -1,7 +1,7 @@
 //! The first false condition at a link.
 ghost use Rattle.std.specs.Prelude.{◌≡◌, ◌<◌, ℕ, Some, slice_get, length, MatchOption};
 ghost use Rattle.te_links.specs.Rows.{IsTopology, IsInOrder};
-ghost use Rattle.path_certificate.specs.Rows.{label_in, AreRows};
+ghost use Rattle.path_certificate.specs.Rows.{label_in, AreLabelRows};
 ghost use Rattle.path_certificate.specs.Claims.{LinkHoldsAt, link_told, link_bound};
 ghost use Rattle.path_certificate.specs.Offers.{IsBroken, IsFirstBroken};
 
@@ -20,7 +20,7 @@ fn broken_link(
     index: u32,
 ) -> Option<Broken>
     requires rules { IsTopology topology.now }
-    requires rows { AreRows topology.now.nodes rows.now }
+    requires rows { AreLabelRows topology.now.nodes rows.now }
     requires index { index < length topology.now.links }
     ensures { MatchOption result
         (LinkHoldsAt topology.now query.now (label_in rows.now) index)
@@ -51,7 +51,7 @@ pub fn false_link(
     query: &Query,
     rows: &[(Addr, Option<Label>)],
 ) -> Option<Broken>
-    requires rows { AreRows topology.now.nodes rows.now }
+    requires rows { AreLabelRows topology.now.nodes rows.now }
     ensures first { MatchOption result
         ((i : ℕ) → LinkHoldsAt topology.now query.now (label_in rows.now) i)
         (IsFirstBroken (LinkHoldsAt topology.now query.now (label_in rows.now)) (link_told topology.now (label_in rows.now)) (link_bound topology.now query.now (label_in rows.now))) }

@@ -2,7 +2,7 @@
 ghost use Rattle.std.specs.Prelude.{◌≡◌, ◌<◌, ◌≤◌, ◌⊎◌, ◌↔◌, ℕ, None, length, IsTrue, MatchOption};
 ghost use Rattle.dom_base.specs.Admission.{BarsNode};
 ghost use Rattle.walk_laws.specs.Labels.{EndsAt};
-ghost use Rattle.path_certificate.specs.Rows.{label_in, AreRows};
+ghost use Rattle.path_certificate.specs.Rows.{label_in, AreLabelRows};
 ghost use Rattle.path_certificate.specs.Claims.{NodeHoldsAt, node_told};
 ghost use Rattle.path_certificate.specs.Offers.{MakesNode, IsBroken, IsFirstBroken};
 
@@ -32,7 +32,7 @@ fn broken_node(
     index: u32,
     made: bool,
 ) -> Option<Broken>
-    requires rows { AreRows topology.now.nodes rows.now }
+    requires rows { AreLabelRows topology.now.nodes rows.now }
     requires index { index < length topology.now.nodes }
     requires made { IsTrue made ↔ ((i : ℕ) × MakesNode topology.now query.now (label_in rows.now) i index) }
     ensures { MatchOption result
@@ -58,7 +58,7 @@ pub fn false_node(
     seeds: &[Seed],
     rows: &[(Addr, Option<Label>)],
 ) -> Option<Broken>
-    requires rows { AreRows topology.now.nodes rows.now }
+    requires rows { AreLabelRows topology.now.nodes rows.now }
     ensures { MatchOption result
         ((i : ℕ) → NodeHoldsAt topology.now query.now seeds.now (label_in rows.now) i)
         (IsFirstBroken (NodeHoldsAt topology.now query.now seeds.now (label_in rows.now)) (node_told topology.now (label_in rows.now)) (λ _. None)) }

@@ -1,8 +1,8 @@
 //! The first false step of the path.
 ghost use Rattle.std.specs.Prelude.{◌≡◌, ◌<◌, ◌∷◌, ℕ, [], MatchOption};
 ghost use Rattle.te_links.specs.Rows.{IsTopology, IsInOrder};
-ghost use Rattle.path_certificate.specs.Rows.{label_in, AreRows};
-ghost use Rattle.path_certificate.specs.Claims.{LeadsTo, LeadsOver, PathHoldsAt};
+ghost use Rattle.path_certificate.specs.Rows.{label_in, AreLabelRows};
+ghost use Rattle.path_certificate.specs.Claims.{LeadsByLabels, LeadsOver, PathHoldsAt};
 
 use crate::look_up::{label_of, link_with};
 use crate::offers::offer_of;
@@ -28,10 +28,10 @@ fn step_over(
 ) -> Option<Step>
     requires rules { IsTopology topology.now }
     requires order { IsInOrder topology.now }
-    requires rows { AreRows topology.now.nodes rows.now }
+    requires rows { AreLabelRows topology.now.nodes rows.now }
     ensures { MatchOption result
-        ((m : Addr) (b : Label) → ¬ LeadsTo topology.now query.now (label_in rows.now) node label.now (far ∷ []) m b)
-        (λ step. LeadsTo topology.now query.now (label_in rows.now) node label.now (far ∷ []) step.node step.rest) }
+        ((m : Addr) (b : Label) → ¬ LeadsByLabels topology.now query.now (label_in rows.now) node label.now (far ∷ []) m b)
+        (λ step. LeadsByLabels topology.now query.now (label_in rows.now) node label.now (far ∷ []) step.node step.rest) }
 {
     let index = link_with(topology, far)?;
     let offer = offer_of(topology, query, rows, index)?;
@@ -57,7 +57,7 @@ fn false_step(
 ) -> Option<u32>
     requires rules { IsTopology topology.now }
     requires order { IsInOrder topology.now }
-    requires rows { AreRows topology.now.nodes rows.now }
+    requires rows { AreLabelRows topology.now.nodes rows.now }
     ensures { MatchOption result
         ((k : ℕ) → LeadsOver topology.now query.now seeds.now (label_in rows.now) node label fars.now k)
         (λ k. (¬ LeadsOver topology.now query.now seeds.now (label_in rows.now) node label fars.now k) × ((j : ℕ) → j < k → LeadsOver topology.now query.now seeds.now (label_in rows.now) node label fars.now j)) }
@@ -91,7 +91,7 @@ pub fn false_place(
 ) -> Option<u32>
     requires rules { IsTopology topology.now }
     requires order { IsInOrder topology.now }
-    requires rows { AreRows topology.now.nodes rows.now }
+    requires rows { AreLabelRows topology.now.nodes rows.now }
     ensures { MatchOption result
         ((k : ℕ) → PathHoldsAt topology.now query.now seeds.now (label_in rows.now) source path.now k)
         (λ k. (¬ PathHoldsAt topology.now query.now seeds.now (label_in rows.now) source path.now k) × ((j : ℕ) → j < k → PathHoldsAt topology.now query.now seeds.now (label_in rows.now) source path.now j)) }

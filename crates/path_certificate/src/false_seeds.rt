@@ -1,7 +1,7 @@
 //! The first false condition at a seed.
 ghost use Rattle.std.specs.Prelude.{◌≡◌, ◌<◌, ◌≤◌, ◌^◌, ◌↔◌, ℕ, Some, slice_get, length, IsTrue, MatchOption};
 ghost use Rattle.walk_laws.specs.Certificate.{SeedHolds};
-ghost use Rattle.path_certificate.specs.Rows.{label_in, AreRows};
+ghost use Rattle.path_certificate.specs.Rows.{label_in, AreLabelRows};
 ghost use Rattle.path_certificate.specs.Claims.{SeedHoldsAt, seed_told, seed_bound};
 ghost use Rattle.path_certificate.specs.Offers.{IsBroken, IsFirstBroken};
 
@@ -21,7 +21,7 @@ fn broken_seed(
     seeds: &[Seed],
     index: usize,
 ) -> Option<Broken>
-    requires rows { AreRows topology.now.nodes rows.now }
+    requires rows { AreLabelRows topology.now.nodes rows.now }
     requires index { index < length seeds.now }
     requires few { length seeds.now ≤ SEEDS_MAX }
     ensures { MatchOption result
@@ -54,7 +54,7 @@ pub fn false_seed(
     rows: &[(Addr, Option<Label>)],
     seeds: &[Seed],
 ) -> Option<Broken>
-    requires rows { AreRows topology.now.nodes rows.now }
+    requires rows { AreLabelRows topology.now.nodes rows.now }
     requires few { length seeds.now ≤ SEEDS_MAX }
     ensures { MatchOption result
         ((i : ℕ) → SeedHoldsAt topology.now query.now (label_in rows.now) seeds.now i)

@@ -24,7 +24,10 @@ pub use cert_error::CertError;
 pub use certificate::Certificate;
 pub use checker::check;
 pub use limits::{CERTIFICATE_BYTES_MAX, SEEDS_MAX, limits_are_numbers};
-pub use reading::read_certificate;
+pub use look_up::link_with;
+pub use offers::{admits_node, admitted_link};
+pub use reading::{is_behind, read_certificate};
+pub use text_row::{RowError, addrs_of, is_dash, is_end, next_addr};
 pub use verdict::{Place, Verdict};
 pub use writing::write_certificate;
 

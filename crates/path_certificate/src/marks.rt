@@ -1,7 +1,7 @@
 //! Which nodes have a label that a link makes.
 ghost use Rattle.std.specs.Prelude.{◌≡◌, ◌<◌, ◌≤◌, ℕ, Bool, false, All, length, MatchOption};
 ghost use Rattle.te_links.specs.Rows.{IsTopology};
-ghost use Rattle.path_certificate.specs.Rows.{label_in, AreRows};
+ghost use Rattle.path_certificate.specs.Rows.{label_in, AreLabelRows};
 ghost use Rattle.path_certificate.specs.Offers.{MakesNode, AreMarks};
 
 use crate::look_up::label_of;
@@ -17,7 +17,7 @@ fn node_made(
     index: u32,
 ) -> Option<u32>
     requires rules { IsTopology topology.now }
-    requires rows { AreRows topology.now.nodes rows.now }
+    requires rows { AreLabelRows topology.now.nodes rows.now }
     requires index { index < length topology.now.links }
     ensures { MatchOption result
         ((place : ℕ) → ¬ MakesNode topology.now query.now (label_in rows.now) index place)
@@ -39,7 +39,7 @@ pub fn mark_made(
     rows: &[(Addr, Option<Label>)],
     marks: &mut [bool],
 )
-    requires rows { AreRows topology.now.nodes rows.now }
+    requires rows { AreLabelRows topology.now.nodes rows.now }
     requires room { length topology.now.nodes ≤ length marks.old }
     requires blank { All (λ mark. mark ≡ false) marks.old }
     ensures { AreMarks topology.now query.now (label_in rows.now) (length topology.now.links) marks.new }

@@ -2,7 +2,7 @@
 ghost use Rattle.std.specs.Prelude.{◌≡◌, ◌<◌, ◌↔◌, ℕ, length, slice_get, Some, IsTrue, MatchOption};
 ghost use Rattle.te_links.specs.Rows.{IsTopology};
 ghost use Rattle.walk_laws.specs.Walks.{AdmitsNode, AdmitsLink};
-ghost use Rattle.path_certificate.specs.Rows.{label_in, AreRows};
+ghost use Rattle.path_certificate.specs.Rows.{label_in, AreLabelRows};
 ghost use Rattle.path_certificate.specs.Offers.{IsAdmittedAt, IsOffer, IsNoOffer};
 
 use crate::look_up::label_of;
@@ -39,8 +39,8 @@ pub fn admits_node(topology: &Topology, query: &Query, node: Addr) -> bool
     topology.find_node(node).is_some() && !bars_node(query, node)
 }
 
-// The link at a place, if the query admits it. Its ends are nodes, by the rules of a topology.
-fn admitted_link<'a>(topology: &'a Topology, query: &Query, index: u32) -> Option<&'a Link>
+/// The link at a place, if the query admits it. Its ends are nodes, by the rules of a topology.
+pub fn admitted_link<'a>(topology: &'a Topology, query: &Query, index: u32) -> Option<&'a Link>
     requires rules { IsTopology topology.now }
     requires index { index < length topology.now.links }
     ensures { MatchOption result ((l : Link) → ¬ IsAdmittedAt topology.now query.now index l) (λ l. IsAdmittedAt topology.now query.now index l.now) }
@@ -65,7 +65,7 @@ pub fn offer_of(
     index: u32,
 ) -> Option<Offer>
     requires rules { IsTopology topology.now }
-    requires rows { AreRows topology.now.nodes rows.now }
+    requires rows { AreLabelRows topology.now.nodes rows.now }
     requires index { index < length topology.now.links }
     ensures { MatchOption result (IsNoOffer topology.now query.now (label_in rows.now) index) (IsOffer topology.now query.now (label_in rows.now) index) }
 {

@@ -2,7 +2,7 @@
 ghost use Rattle.std.specs.Prelude.{◌≡◌, ◌+◌, ◌≤◌, ◌<◌, ◌^◌, Ok, IfOk, length, nat_le, ℕ};
 ghost use Rattle.dom_base.specs.AddrOrder.{rank};
 ghost use Rattle.std.specs.Str.Lines.{lines as lines_of};
-ghost use Rattle.path_certificate.specs.Rows.{AreRows};
+ghost use Rattle.path_certificate.specs.Rows.{AreLabelRows};
 ghost use Rattle.path_certificate.specs.Given.{GivesText};
 ghost use Rattle.path_certificate.specs.Text.{and_then, body_in, certificate_in, gathered, header_at, is_node, least_behind, or_first, own_behind, row_at, stranger_at as stranger_of};
 
@@ -90,8 +90,8 @@ fn first_stranger(topology: &Topology, before: Option<u32>, line: u32, addr: Add
     }
 }
 
-// Whether an address comes behind the last one.
-fn is_behind(last: Option<Addr>, addr: Addr) -> bool
+/// Whether an address comes behind the last one.
+pub fn is_behind(last: Option<Addr>, addr: Addr) -> bool
     ensures { result ≡ nat_le (least_behind last) (rank addr) }
 {
     match last {
@@ -152,7 +152,7 @@ pub fn read_certificate(
     ensures text { GivesText result (certificate_in topology.now bytes.now) }
 
     // So a check may be asked for it.
-    ensures rows { IfOk result (λ c. AreRows topology.now.nodes c.labels) }
+    ensures rows { IfOk result (λ c. AreLabelRows topology.now.nodes c.labels) }
 {
     let end = line_count(bytes) as u32 + 1;
     let mut lines = Lines::new(bytes);

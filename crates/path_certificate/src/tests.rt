@@ -1,5 +1,5 @@
 //! Certificates that hold, that lie, and texts that are none.
-ghost use Rattle.path_certificate.specs.Rows.{AreRows};
+ghost use Rattle.path_certificate.specs.Rows.{AreLabelRows};
 
 use crate::{
     CERTIFICATE_BYTES_MAX, CertError, Certificate, Place, Verdict, check, read_certificate,
@@ -275,7 +275,7 @@ path 2001:0db8:0000:0000:0000:0000:0000:0001 10.1.0.2 2001:0db8:0000:0000:0000:0
 ";
 
 fn check_both(alloc: Global, topology: &Topology, certificate: &Certificate) -> Result<bool, Fail>
-    requires { AreRows topology.now.nodes certificate.now.labels }
+    requires { AreLabelRows topology.now.nodes certificate.now.labels }
 {
     let last = Addr::V6(0x2001_0DB8_0000_0000_0000_0000_0000_0003);
     let seed = Seed {

@@ -40,7 +40,8 @@ pub fn is_end(words: &mut Words<'_>) -> bool
     words.next_word().is_none()
 }
 
-fn next_addr(words: &mut Words<'_>) -> Option<Addr>
+/// The address in the next word.
+pub fn next_addr(words: &mut Words<'_>) -> Option<Addr>
     ensures { MatchOption result (first addr_in words.old ≡ None) (λ addr. first addr_in words.old ≡ Some (addr, words.new)) }
 {
     read_addr(words.next_word()?)
@@ -53,7 +54,8 @@ fn read_cost(word: &[u8]) -> Option<Cost>
     Cost::of(number as u32)
 }
 
-fn is_dash(word: &[u8]) -> bool
+/// Whether a word stands for nothing.
+pub fn is_dash(word: &[u8]) -> bool
     ensures { result ≡ means_nothing word.now }
 {
     word == b"-".as_slice()
@@ -77,8 +79,8 @@ fn label_of(words: &mut Words<'_>) -> Option<Option<Label>>
     }
 }
 
-// An address and those in the words behind it, up to the last.
-fn addrs_of(alloc: Global, start: Addr, words: &mut Words<'_>) -> Result<List<Addr>, RowError>
+/// An address and those in the words behind it, up to the last.
+pub fn addrs_of(alloc: Global, start: Addr, words: &mut Words<'_>) -> Result<List<Addr>, RowError>
     ensures { GivesRow result (addrs_behind start words.old) }
 {
     let mut addrs = List::new(alloc);

@@ -3,7 +3,7 @@ ghost use Rattle.std.specs.Prelude.{◌≡◌, ◌≢◌, ◌++◌, ◌∷◌, [
 ghost use Rattle.dom_base.specs.AddrText.{addr_in, addr_text};
 ghost use Rattle.line_text.specs.Spelling.{line_text};
 ghost use Rattle.te_links.specs.Rows.{Rows};
-ghost use Rattle.path_certificate.specs.Rows.{AreRows};
+ghost use Rattle.path_certificate.specs.Rows.{AreLabelRows};
 ghost use Rattle.path_certificate.specs.Text.{certificate_in};
 ghost use Rattle.path_certificate.specs.CertificateText.{certificate_text, header_words, row_words, rows_text, spaced, AreAddrs, IsPathWritten, IsWritten, IsWrittenHeader};
 
@@ -111,7 +111,7 @@ fn write_rows(rows: &[(Addr, Option<Label>)], into: &mut Vec<u8>) -> Result<(), 
 /// where the labels stand at nodes in rising order and the path, if there is one, has an address.
 pub fn write_certificate(alloc: Global, certificate: &Certificate) -> Result<Bytes, NoMemory>
     ensures text { IfOk result (λ bytes. bytes ≡ certificate_text certificate.now) }
-    ensures again { IfOk result (λ bytes. (g : Rows) → g.own ≡ certificate.now.own → AreRows g.nodes certificate.now.labels → certificate.now.path ≢ Some [] → certificate_in g bytes ≡ Ok certificate.now) }
+    ensures again { IfOk result (λ bytes. (g : Rows) → g.own ≡ certificate.now.own → AreLabelRows g.nodes certificate.now.labels → certificate.now.path ≢ Some [] → certificate_in g bytes ≡ Ok certificate.now) }
 {
     let mut text = Vec::new(alloc);
     write_header(certificate.own, &mut text)?;

@@ -1,5 +1,5 @@
 -- What an element does with a request, by what its code looks at.
-use Rattle.std.proofs.Common.{◌≡◌, ◌∙◌, ◌≤◌, ◌<◌, ◌==◌, ◌&&◌, ◌||◌, ℕ, suc, Bool, true, false, not, cond, Option, Some, None, List, [], ◌∷◌, ◌++◌, length, drop, arith, refl, sym, ap, subst}
+use Rattle.std.proofs.Common.{◌≡◌, ◌∙◌, ◌≤◌, ◌==◌, ◌&&◌, ◌||◌, ℕ, Bool, true, false, not, cond, Some, None, List, [], ◌∷◌, ◌++◌, length, drop, arith, refl, sym, ap, subst}
 use Rattle.std.specs.Prelude.{slice_get}
 use Rattle.std.proofs.lemmas.List.{append-nil}
 use Rattle.dom_base.specs.declared.names.As.{As}
@@ -13,7 +13,7 @@ use Rattle.disclosure.specs.Policy as policy
 use Rattle.disclosure.specs.Policy.{denies_from}
 use Rattle.request_table.specs.Pending.{opened_of}
 use Rattle.plant_model.specs.declared.output.Output.{Output}
-use Rattle.plant_model.specs.Element.{Element, Place, Ready, Taken, Way, denies, each, is_denied, silent, way_to}
+use Rattle.plant_model.specs.Element.{Element, Place, Ready, Taken, denies, each, is_denied, silent, way_to}
 use Rattle.plant_model.specs.Plant.{Pin, Segment}
 use Rattle.plant_model.specs.Taking.{item_of, send_on, take_along}
 use Rattle.pce_element.specs.Changes.{IsDraft}

@@ -1,7 +1,6 @@
 -- A solved job that is answered: its branches, its keys, its one message.
-use Rattle.std.proofs.Common.{◌≡◌, ◌∙◌, ◌<◌, ◌≤◌, ◌+◌, ◌-◌, ◌==◌, ℕ, suc, Bool, true, false, cond, nat_lt, nat_eq, Option, Some, None, List, [], ◌∷◌, ◌++◌, length, map, arith, refl, sym, ap, subst, option_map}
-use Rattle.std.specs.Prelude.{All, Any, Contains, IfSome}
-use Rattle.std.specs.List.{AllZip, zip}
+use Rattle.std.proofs.Common.{◌≡◌, ◌∙◌, ◌≤◌, ◌+◌, ◌==◌, ℕ, suc, Bool, true, false, cond, nat_lt, nat_eq, Option, Some, None, List, [], ◌∷◌, ◌++◌, length, map, arith, refl, sym, ap, subst, option_map}
+use Rattle.std.specs.Prelude.{All, Contains, IfSome}
 use Rattle.std.specs.Map.{lookup}
 use Rattle.std.proofs.lemmas.Bool.{le-ltb}
 use Rattle.std.proofs.lemmas.List.Elements.{All-nil, All-cons}
@@ -12,8 +11,6 @@ use Rattle.pcep_messages.specs.declared.message.Message.{Message}
 use Rattle.pcep_messages.specs.declared.message.Answer.TheVariants.{Paths}
 use Rattle.pcep_messages.specs.declared.message.Path.{Path}
 use Rattle.request_table.specs.declared.held.Held.{Held}
-use Rattle.request_table.specs.Pending.{item_of, key_at}
-use Rattle.request_table.specs.declared.held.RequestKey.{RequestKey}
 use Rattle.path_keys.specs.Keys.{Keys, live_at, live_most, number_after}
 use Rattle.vspt_tree.specs.declared.branch.Best.{Best}
 use Rattle.vspt_tree.specs.declared.branch.Branch.{Branch}
@@ -23,7 +20,7 @@ use Rattle.border_costs.specs.declared.job.Down.{Down}
 use Rattle.border_costs.specs.Solutions.{AreRows, Solution}
 use Rattle.border_costs.proofs.Heads.{heads_have_branches}
 use Rattle.plant_model.proofs.Meeting.{branch_meets}
-use Rattle.plant_model.specs.Branches.{downs, end_of, onward, closed_branch, path_of}
+use Rattle.plant_model.specs.Branches.{downs, onward, closed_branch, path_of}
 use Rattle.plant_model.specs.Element.{Element, Item, Row, Stage, Taken, Waits, Ready, ended, is_client}
 use Rattle.plant_model.specs.declared.output.Output.{Output}
 use Rattle.plant_model.specs.Plant.{Pin, Segment}
@@ -32,7 +29,7 @@ use Rattle.plant_model.specs.Solving.{client_reply, closed_paths, closed_reply, 
 use Rattle.plant_model.specs.Taking.{answered}
 use Rattle.plant_model.specs.Writing.{busy, reply_message}
 use Rattle.pce_element.specs.Changes.{all_issued}
-use Rattle.pce_element.specs.Committing.{Answers, AnswersClosed, AnswersFor, IsOwnJob, client_answer, closed_parts, commit_held, commit_row, commit_stage, committed, paths_by, segments_in}
+use Rattle.pce_element.specs.Committing.{Answers, AnswersClosed, AnswersFor, IsOwnJob, client_answer, closed_parts, commit_held, commit_row, commit_stage, paths_by, segments_in}
 use Rattle.pce_element.specs.Jobs.{Work, job_at, work_at, work_for}
 use Rattle.pce_element.specs.Items.{branches_at}
 use Rattle.pce_element.specs.Seen.{Seen}

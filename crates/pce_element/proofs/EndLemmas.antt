@@ -1,12 +1,12 @@
 -- Requests that end one after the other, step by step.
-use Rattle.std.proofs.Common.{◌≡◌, ◌∙◌, ℕ, Option, Some, None, List, [], ◌∷◌, ◌++◌, Result, Ok, Err, OnOk, refl, sym, ap, append_assoc}
+use Rattle.std.proofs.Common.{◌≡◌, ◌∙◌, ℕ, Option, Some, None, List, [], ◌∷◌, ◌++◌, Result, Ok, Err, OnOk, sym, ap, append_assoc}
 use Rattle.std.specs.Prelude.{IfOk}
 use Rattle.std.proofs.lemmas.List.{append-nil}
 use Rattle.dom_base.specs.declared.names.Peer.{Peer}
 use Rattle.pcep_messages.specs.declared.message.Message.{Message}
-use Rattle.request_table.specs.Pending.{closed_of, number_of}
+use Rattle.request_table.specs.Pending.{number_of}
 use Rattle.plant_model.specs.declared.output.Output.{Output}
-use Rattle.plant_model.specs.Element.{Element, Item, Row, Taken, each, ended, silent, waiting}
+use Rattle.plant_model.specs.Element.{Element, Row, Taken, each, ended, silent, waiting}
 use Rattle.plant_model.specs.Plant.{Pin, Segment}
 use Rattle.plant_model.specs.Taking.{answered, cancelled, error_answer, take_busy, take_cancel, take_failure, told_busy, told_error}
 use Rattle.plant_model.specs.Writing.{busy}

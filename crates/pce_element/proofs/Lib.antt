@@ -13,3 +13,4 @@ pub mod BranchLemmas
 pub mod AskLemmas
 pub mod EntryLemmas
 pub mod CommitLemmas
+pub mod LastingLemmas

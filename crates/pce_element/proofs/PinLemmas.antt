@@ -1,12 +1,12 @@
 -- The generations keep what the requests pin, through loads, pins and releases.
-use Rattle.std.proofs.Common.{◌≡◌, ◌≢◌, ◌+◌, ◌-◌, ◌<◌, ◌≤◌, ◌==◌, ℕ, suc, Bool, true, false, cond, Option, Some, None, Result, Ok, Err, OnOk, OnErr, List, [], ◌∷◌, ◌++◌, length, nat_eq, arith, inl, inr, refl, sym, ◌∙◌, ap, subst, option_map}
+use Rattle.std.proofs.Common.{◌≡◌, ◌≢◌, ◌+◌, ◌-◌, ◌<◌, ◌≤◌, ◌==◌, ℕ, Bool, cond, Option, Some, None, Result, Ok, Err, OnOk, OnErr, List, [], ◌∷◌, ◌++◌, length, nat_eq, arith, inl, inr, refl, sym, ◌∙◌, ap, subst, option_map}
 use Rattle.std.specs.Prelude.{Contains, count_by}
 use Rattle.std.specs.Map.{lookup, remove_entry}
-use Rattle.std.proofs.lemmas.Bool.{cases_eq, eqb-true, eq-eqb, ne_eqb}
+use Rattle.std.proofs.lemmas.Bool.{cases_eq, eq-eqb}
 use Rattle.std.proofs.lemmas.List.{length_push}
 use Rattle.std.proofs.lemmas.List.Elements.{Contains-push_cases}
 use Rattle.te_links.specs.Rows.{Rows}
-use Rattle.te_generations.specs.Shelf.{Generation, Shelf, IsShelf, pins_among, pins_of, topology_of, all_pins, pin_count, loaded_of, pinned_of, released_among, released_of, ArePinned}
+use Rattle.te_generations.specs.Shelf.{Generation, Shelf, IsShelf, pins_among, pins_of, topology_of, all_pins, pin_count, loaded_of, pinned_of, released_among, released_of}
 use Rattle.te_generations.proofs.ShelfLemmas.{test_false, test_true}
 use Rattle.te_generations.proofs.RunLemmas.{below_bound, load_keeps, release_keeps}
 use Rattle.te_generations.proofs.CountLemmas.{all_pins-loaded, pins_of-loaded, pins_of-pinned, pins_of-released}
@@ -19,7 +19,7 @@ use Rattle.plant_model.specs.Plant.{Pin}
 use Rattle.plant_model.specs.Meeting.{Shelves}
 use Rattle.pce_element.specs.PinnedFields.{current_of}
 use Rattle.pce_element.specs.Rows.{pin_with}
-use Rattle.pce_element.proofs.RowLemmas.{counted_more, counted_some, found_in, removed_in, counted_removed, length-removed, none_removed, counted_written, written_in, length-written}
+use Rattle.pce_element.proofs.RowLemmas.{counted_more, counted_some, found_in, removed_in, counted_removed, length-removed, none_removed, counted_written, written_in}
 
 abbrev pins_row : ℕ → Held (Item Pin) → Bool
 pins_row n h = h.item.pin.number == n

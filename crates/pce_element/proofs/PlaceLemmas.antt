@@ -1,8 +1,8 @@
 -- Requests gone through by their places.
-use Rattle.std.proofs.Common.{◌≡◌, ◌≢◌, ◌⊎◌, ◌+◌, ◌-◌, ◌<◌, ◌≤◌, ℕ, zero, suc, Bool, true, false, cond, Option, Some, None, List, [], ◌∷◌, ◌++◌, length, nat_eq, take, drop, get_or, map, arith, inl, inr, refl, sym, ◌∙◌, ap, subst, option_map}
+use Rattle.std.proofs.Common.{◌≡◌, ◌+◌, ◌≤◌, ℕ, zero, suc, Bool, cond, Option, Some, None, List, [], ◌∷◌, ◌++◌, length, nat_eq, take, drop, arith, inl, inr, refl, sym, ◌∙◌, ap, subst, option_map}
 use Rattle.std.specs.Prelude.{slice_get, filter, Contains}
 use Rattle.std.specs.Map.{lookup, remove_entry}
-use Rattle.std.proofs.lemmas.Bool.{cases_Bool, eqb-true, eq-eqb, ne_eqb}
+use Rattle.std.proofs.lemmas.Bool.{cases_Bool, eq-eqb, ne_eqb}
 use Rattle.request_table.specs.declared.held.Held.{Held}
 use Rattle.request_table.specs.declared.held.RequestKey.{RequestKey}
 use Rattle.request_table.specs.Pending.{Pending, ArePending, NumbersRise, nth_of, key_at, item_of}

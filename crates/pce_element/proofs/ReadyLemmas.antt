@@ -1,14 +1,14 @@
 -- A request that becomes ready.
-use Rattle.std.proofs.Common.{◌≡◌, ◌∙◌, ℕ, Option, Some, None, List, [], ◌∷◌, length, nat_eq, refl, sym, ap, subst, option_map}
+use Rattle.std.proofs.Common.{◌≡◌, ◌∙◌, ℕ, true, false, Option, Some, None, List, length, refl, sym, ap, subst, option_map}
 use Rattle.std.specs.Prelude.{Contains}
-use Rattle.std.specs.Map.{lookup}
+use Rattle.dom_base.specs.declared.names.Peer.{Peer}
 use Rattle.te_links.specs.Rows.{Rows}
 use Rattle.te_generations.specs.Shelf.{Shelf, all_pins}
 use Rattle.request_table.specs.declared.held.Held.{Held}
 use Rattle.request_table.specs.Pending.{Pending, NumbersRise, item_of}
 use Rattle.request_table.specs.Lends.{written_of, with_item}
 use Rattle.vspt_tree.specs.declared.branch.Branch.{Branch}
-use Rattle.plant_model.specs.Element.{Element, Item, Row, Ready, at_stage}
+use Rattle.plant_model.specs.Element.{Element, Item, Row, Stage, Waits, Ready, at_stage, is_ready, waits_for}
 use Rattle.plant_model.specs.Plant.{Pin, Segment}
 use Rattle.plant_model.specs.Meeting.{Shelves}
 use Rattle.plant_model.specs.Taking.{staged}
@@ -20,11 +20,25 @@ use Rattle.pce_element.proofs.PinLemmas.{Keeps, found_item, written_keeps}
 pub readied_is : (number : ℕ) (branches : List Branch) (pending : Pending (Item Pin)) (item : Item Pin) → item_of pending number ≡ Some item → readied number branches pending ≡ written_of pending number (at_stage (Ready branches) item)
 readied_is number branches pending item is = ap (readied_item number branches pending) is
 
+row_found : (k : Element Pin Segment) (h : Row Pin) → NumbersRise 0 k.pending.rows k.pending.given → Contains k.pending.rows h → item_of k.pending h.0 ≡ Some h.1.item
+row_found k h rises has = ap (λ (o : Option (Held (Item Pin))). option_map (λ (x : Held (Item Pin)). x.item) o) (in_found 0 k.pending.given k.pending.rows h rises has)
+
+-- what waits for an answer can't be solved
+pub waits_yet : (p : Peer) (y : ℕ) (s : Stage) → waits_for p y s ≡ true → is_ready s ≡ false
+waits_yet p y (Waits on id) is = refl
+waits_yet p y (Ready branches) is = absurd (let no : false ≡ true = is in cc)
+
+pub row_waits : (k : Element Pin Segment) (h : Row Pin) → NumbersRise 0 k.pending.rows k.pending.given → Contains k.pending.rows h → is_ready h.1.item.stage ≡ false →
+    (i : Item Pin) → item_of k.pending h.0 ≡ Some i → is_ready i.stage ≡ false
+row_waits k h rises has waits i found =
+    let one : Some h.1.item ≡ Some i = sym (row_found k h rises has) ∙ found in
+    let same : h.1.item ≡ i = cc in
+    ap (λ (x : Item Pin). is_ready x.stage) (sym same) ∙ waits
+
 -- the request of a row is staged
 pub readied_row : (k : Element Pin Segment) (h : Row Pin) (branches : List Branch) → NumbersRise 0 k.pending.rows k.pending.given → Contains k.pending.rows h → record k { pending = readied h.0 branches k.pending } ≡ staged h (Ready branches) k
 readied_row k h branches rises has =
-    let found : item_of k.pending h.0 ≡ Some h.1.item = ap (λ (o : Option (Held (Item Pin))). option_map (λ (x : Held (Item Pin)). x.item) o) (in_found 0 k.pending.given k.pending.rows h rises has) in
-    ap (λ (p : Pending (Item Pin)). let e : Element Pin Segment = record k { pending = p } in e) (readied_is h.0 branches k.pending h.1.item found)
+    ap (λ (p : Pending (Item Pin)). let e : Element Pin Segment = record k { pending = p } in e) (readied_is h.0 branches k.pending h.1.item (row_found k h rises has))
 
 -- pins and counts stay
 pub record StaysPinned (s : Shelf Rows) (before after : Pending (Item Pin)) : Type 0 where

@@ -1,5 +1,5 @@
 -- Requests looked through one by one.
-use Rattle.std.proofs.Common.{◌≡◌, ◌<◌, ◌≤◌, ◌+◌, ◌-◌, ℕ, zero, suc, Bool, true, false, not, cond, Option, Some, None, List, [], ◌∷◌, length, drop, map, arith, refl, sym, ◌∙◌, ap, subst}
+use Rattle.std.proofs.Common.{◌≡◌, ◌<◌, ◌+◌, ◌-◌, ℕ, zero, suc, Bool, true, false, cond, Option, Some, None, List, [], ◌∷◌, length, drop, map, arith, refl, ◌∙◌, ap}
 use Rattle.std.specs.Prelude.{slice_get, filter, OnSome}
 use Rattle.plant_model.specs.Element.{Row, is_ready, ready_numbers}
 use Rattle.plant_model.specs.Plant.{Pin}
@@ -37,3 +37,12 @@ there_is (x ∷ xs) (suc k) within = there_is xs k (omega (arith, within))
 pub on_some : {A : Type 0} (o : Option A) (x : A) (P : Type 0) → o ≡ Some x → OnSome o P → P
 on_some None x P is p = absurd (let no : None ≡ Some x = is in cc)
 on_some (Some y) x P is p = p
+
+-- ---- how many pass a test
+
+pub tally_next : {X : Type 0} (p : X → Bool) (xs : List X) (k : ℕ) (x : X) → slice_get xs k ≡ Some x → length (filter p (drop k xs)) ≡ cond (p x) 1 0 + length (filter p (drop (k + 1) xs))
+tally_next {X} p xs k x at = ap (λ (ys : List X). length (filter p ys)) (dropped_next xs k x at) ∙ go (p x)
+  where
+    go : (b : Bool) → length (cond b (x ∷ filter p (drop (k + 1) xs)) (filter p (drop (k + 1) xs))) ≡ cond b 1 0 + length (filter p (drop (k + 1) xs))
+    go true = omega arith
+    go false = omega arith

@@ -1,7 +1,7 @@
 -- Requests that are looked for among those that have not ended.
-use Rattle.std.proofs.Common.{◌≡◌, ◌≢◌, ◌⊎◌, ◌∙◌, ◌<◌, ◌+◌, ◌==◌, ℕ, suc, Bool, true, false, not, cond, Option, Some, None, List, [], ◌∷◌, nat_eq, drop, length, arith, inl, inr, refl, sym, ap, subst}
-use Rattle.std.specs.Prelude.{Contains, filter, slice_get}
-use Rattle.std.specs.Map.{lookup, remove_entry}
+use Rattle.std.proofs.Common.{◌≡◌, ◌∙◌, ◌<◌, ◌+◌, ℕ, Bool, true, false, not, cond, Option, Some, None, List, [], ◌∷◌, nat_eq, drop, length, arith, inl, inr, refl, sym, ap}
+use Rattle.std.specs.Prelude.{filter, slice_get}
+use Rattle.std.specs.Map.{remove_entry}
 use Rattle.std.proofs.lemmas.Bool.{cases_Bool, eqb-true, eq-eqb, ne_eqb}
 use Rattle.dom_base.specs.declared.names.Peer.{Peer}
 use Rattle.request_table.specs.declared.held.RequestKey.{RequestKey}
@@ -11,7 +11,6 @@ use Rattle.request_table.proofs.PendingLemmas.{NumbersRise-remove}
 use Rattle.plant_model.specs.Element.{Item, Row, after_id, is_waiting, pass_over, waiting, waits_for}
 use Rattle.plant_model.specs.Plant.{Pin, has_number}
 use Rattle.pce_element.specs.Changes.{all_closed}
-use Rattle.pce_element.proofs.RowLemmas.{above_low, later_in, first_in}
 use Rattle.pce_element.proofs.ScanLemmas.{dropped_next, there_is}
 
 -- those that have not ended

@@ -7,7 +7,7 @@ use Rattle.path_keys.specs.Keys.{Keys, live_most, live_at, issue_of}
 use Rattle.vspt_tree.specs.declared.branch.Branch.{Branch}
 use Rattle.border_costs.specs.Solutions.{Solution}
 use Rattle.plant_model.specs.Element as element
-use Rattle.plant_model.specs.Element.{Element, Item, Way, Taken, at_stage, ended, with_last}
+use Rattle.plant_model.specs.Element.{Element, Item, Way, Taken, at_stage, ended, is_ready, with_last}
 use Rattle.plant_model.specs.Plant.{Pin, Segment}
 use Rattle.pce_element.specs.declared.accepted.Stage.{Stage}
 use Rattle.pce_element.specs.declared.accepted.Stage.TheVariants.{Waits, Ready}
@@ -64,11 +64,15 @@ pub record MayOpen (s : Seen) (peer : Peer) (id : ℕ) : Type 0 where
   pub new : number_of s.losing.element.pending peer id ≡ None
   pub fits : is_full s.losing.element.pending ≡ false
 
+-- the request of a number can't be solved yet
+abbrev pub IsWaiting : Seen → ℕ → Type 0
+IsWaiting s number = (i : Item Pin) → item_of s.losing.element.pending number ≡ Some i → is_ready i.stage ≡ false
+
 -- the change is one of this element
 abbrev pub Fits : Seen → Change → Type 0
 Fits s Nothing = Unit {0}
 Fits s (Opens peer id opening) = MayOpen s peer id
-Fits s (Readies number branches) = Unit {0}
+Fits s (Readies number branches) = IsWaiting s number
 Fits s (Ends numbers) = Unit {0}
 Fits s (Solves solved now segments) = MayIssue s.losing.element.keys now.0 segments
 

@@ -9,7 +9,7 @@ use Rattle.pcep_messages.specs.declared.message.Answer.{Answer}
 use Rattle.pcep_messages.specs.declared.message.Answer.TheVariants.{Paths}
 use Rattle.request_table.specs.declared.held.Held.{Held}
 use Rattle.path_keys.specs.Keys.{number_after}
-use Rattle.disclosure.specs.Shown.{closed_of, open_of}
+use Rattle.disclosure.specs.Shown.{closed_of}
 use Rattle.vspt_tree.specs.declared.branch.Best.{Best}
 use Rattle.vspt_tree.specs.declared.branch.Branch.{Branch}
 use Rattle.border_costs.specs.Solutions.{Solution}

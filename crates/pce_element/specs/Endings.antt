@@ -1,5 +1,5 @@
 -- Requests that end one after the other.
-use Rattle.std.specs.Prelude.{ℕ, ◌++◌, List}
+use Rattle.std.specs.Prelude.{ℕ, ◌++◌}
 use Rattle.dom_base.specs.declared.names.Peer.{Peer}
 use Rattle.plant_model.specs.Element.{Element, Taken, waiting}
 use Rattle.plant_model.specs.Plant.{Pin, Segment}

@@ -2,6 +2,7 @@
 pub mod Seen
 pub mod Messages
 pub mod Jobs
+pub mod Lasting
 -- inner
 pub mod Items
 pub mod ItemFields

@@ -1,7 +1,6 @@
 -- A pending request that is looked at.
 use Rattle.std.specs.Prelude.{ℕ}
 use Rattle.te_links.specs.Rows.{Rows}
-use Rattle.request_table.specs.declared.held.Held.{Held}
 use Rattle.plant_model.specs.Element as element
 use Rattle.plant_model.specs.Element.{Item}
 use Rattle.plant_model.specs.Plant.{Pin}

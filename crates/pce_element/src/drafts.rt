@@ -1,6 +1,6 @@
 //! The parts of which drafts of changes are made.
-ghost use Rattle.std.specs.Prelude.{◌≡◌, Contains, IfOk};
-ghost use Rattle.plant_model.specs.Element.{Ready, only, silent};
+ghost use Rattle.std.specs.Prelude.{◌≡◌, false, Contains, IfOk};
+ghost use Rattle.plant_model.specs.Element.{Ready, is_ready, only, silent};
 ghost use Rattle.plant_model.specs.Taking.{answered, staged};
 ghost use Rattle.pce_element.specs.Changes.{IsDraft};
 ghost use Rattle.pce_element.specs.Rows.{row_of};
@@ -48,7 +48,8 @@ impl Element {
 
     /// A request becomes ready.
     pub(crate) fn readied(&self, row: &Row<'_>, branches: List<Branch>) -> Draft
-        requires { Contains self.now.losing.element.pending.rows (row_of row.now) }
+        requires has { Contains self.now.losing.element.pending.rows (row_of row.now) }
+        requires waits { is_ready (row_of row.now).1.item.stage ≡ false }
         ensures { IsDraft self.now (silent (staged (row_of row.now) (Ready branches) self.now.losing.element)) result }
     {
         let _count = self.requests().len();

@@ -2,6 +2,7 @@
 ghost use Rattle.std.specs.Prelude.{◌≡◌, ◌≤◌, ◌↔◌, suc, map, slice_get, Err, IsTrue, IfOk, OnOk, OnErr};
 ghost use Rattle.plant_model.specs.Element.{upped, down_of, next_lost_of, ticked, ready_numbers};
 ghost use Rattle.plant_model.specs.Plant.{is_full};
+ghost use Rattle.pce_element.specs.Lasting.{JobsLast};
 ghost use Rattle.pce_element.specs.Seen.{SameButRoom, IsNew, with_current, with_element, with_losing};
 
 use crate::leaving::leave_all;
@@ -102,8 +103,10 @@ impl Element {
     /// A session goes down: the requests of the peer are dropped, and those that wait on it are lost;
     /// takes no memory.
     pub fn down(&mut self, peer: Peer)
-        ensures { SameButRoom (with_losing (down_of peer self.old.losing) self.old) self.new }
+        ensures down { SameButRoom (with_losing (down_of peer self.old.losing) self.old) self.new }
+        ensures jobs { JobsLast self.old self.new }
     {
+        let _count = self.requests.len();
         leave_all(&mut self.requests, &mut self.lost, peer);
         self.ways.set_up(peer, false);
     }

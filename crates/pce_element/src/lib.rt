@@ -10,6 +10,7 @@ mod committing;
 mod drafts;
 mod element;
 mod jobs;
+mod law;
 mod leaving;
 mod looks;
 mod making;
@@ -24,4 +25,5 @@ mod ways;
 
 pub use committing::CommitError;
 pub use element::Element;
+pub use law::jobs_last;
 pub use plan::Plan;

@@ -1,6 +1,7 @@
 //! What an element looks up in itself.
-ghost use Rattle.std.specs.Prelude.{◌≡◌, ◌+◌, length, not};
+ghost use Rattle.std.specs.Prelude.{◌≡◌, ◌≤◌, ◌+◌, filter, length, not};
 ghost use Rattle.std.specs.Option.{option_copied};
+ghost use Rattle.request_table.specs.Pending.{same_peer};
 ghost use Rattle.path_keys.specs.Keys.{live_at, live_most, segment_of};
 ghost use Rattle.plant_model.specs.Element.{is_denied, way_to};
 ghost use Rattle.plant_model.specs.Names.{same_addr};
@@ -24,6 +25,21 @@ impl Element {
         ensures { result ≡ self.now.place.own }
     {
         self.own
+    }
+
+    /// How many requests are pending; takes no memory.
+    pub fn pending(&self) -> usize
+        ensures count { result ≡ length self.now.losing.element.pending.rows }
+        ensures few { result ≤ 1024 }
+    {
+        self.requests.len()
+    }
+
+    /// How many requests of a peer are pending; takes no memory.
+    pub fn owed(&self, peer: Peer) -> usize
+        ensures { result ≡ length (filter (λ h. same_peer h.1.key.peer peer) self.now.losing.element.pending.rows) }
+    {
+        self.requests.owed(peer)
     }
 
     pub(crate) fn id(&self) -> Addr

@@ -7,6 +7,7 @@ ghost use Rattle.plant_model.specs.Element.{ended};
 ghost use Rattle.plant_model.specs.Plant.{Pin, Segment};
 ghost use Rattle.pce_element.specs.Changes.{HasRoom, Fits, MayIssue, MayOpen, all_ended, all_issued, changed, readied, solved_in, ways_after};
 ghost use Rattle.pce_element.specs.Items.{new_item};
+ghost use Rattle.pce_element.specs.Lasting.{JobsLast};
 ghost use Rattle.pce_element.specs.Seen.{SameButRoom, with_element};
 ghost use Rattle.request_table.specs.Pending.{opened_of};
 
@@ -54,12 +55,13 @@ impl Element {
         self.requests.open(peer, id, opening);
     }
 
-    /// Makes a planned change; takes no memory.
-    pub fn make(&mut self, plan: Plan)
-        requires { plan.from ≡ self.old }
-        ensures { SameButRoom (with_element plan.taken.element self.old) self.new }
+    // Makes a change for which there is room.
+    fn change(&mut self, change: Change)
+        requires fits { Fits self.old change }
+        requires room { HasRoom self.old change }
+        ensures { SameButRoom (with_element (changed self.old.current change self.old.losing.element) self.old) self.new }
     {
-        match plan.into_change() {
+        match change {
             Change::Nothing => {}
             Change::Opens { peer, id, opening } => self.open(peer, id, opening),
             Change::Readies { number, branches } => self.requests.make_ready(number, branches),
@@ -73,6 +75,16 @@ impl Element {
                 self.requests.close(solved.number());
             }
         }
+    }
+
+    /// Makes a planned change; takes no memory.
+    pub fn make(&mut self, plan: Plan)
+        requires { plan.from ≡ self.old }
+        ensures made { SameButRoom (with_element plan.taken.element self.old) self.new }
+        ensures jobs { JobsLast self.old self.new }
+    {
+        let _count = self.requests().len();
+        self.change(plan.into_change());
     }
 
     /// Makes room for one more request.

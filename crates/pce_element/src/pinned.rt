@@ -1,9 +1,9 @@
 //! The pending requests of an element, with the topologies that they pin.
-ghost use Rattle.std.specs.Prelude.{◌≡◌, ◌≤◌, ◌<◌, ◌+◌, ◌↔◌, [], suc, false, None, Some, Err, IsTrue, IfOk, IfSome, OnOk, OnErr, MatchOption, slice_get, length};
+ghost use Rattle.std.specs.Prelude.{◌≡◌, ◌≤◌, ◌<◌, ◌+◌, ◌↔◌, [], suc, false, None, Some, Err, IsTrue, IfOk, IfSome, OnOk, OnErr, MatchOption, slice_get, filter, length};
 ghost use Rattle.std.specs.Option.{option_copied, option_map};
 ghost use Rattle.std.specs.Arc.{arc_value};
 ghost use Rattle.te_links.specs.Rows.{IsTopology, IsInOrder};
-ghost use Rattle.request_table.specs.Pending.{ArePending, number_of, item_of, key_at, is_full, opened_of, closed_of};
+ghost use Rattle.request_table.specs.Pending.{ArePending, number_of, item_of, key_at, is_full, opened_of, closed_of, same_peer};
 ghost use Rattle.plant_model.specs.Element.{ready_numbers};
 ghost use Rattle.plant_model.specs.Plant.{first_pin};
 ghost use Rattle.plant_model.specs.Plant as plant;
@@ -115,8 +115,25 @@ impl PinnedRequests {
     pub fn len(&self) -> usize
         ensures count { result ≡ length self.now.pending.rows }
         ensures rules { ArePending self.now.pending }
+        ensures few { result ≤ 1024 }
     {
         self.requests.len()
+    }
+
+    /// How many requests of a peer are pending.
+    pub fn owed(&self, peer: Peer) -> usize
+        ensures { result ≡ length (filter (λ h. same_peer h.1.key.peer peer) self.now.pending.rows) }
+    {
+        let mut count = 0;
+        for i in 0..self.len() {
+            let Some(row) = self.row(i) else {
+                unreachable!()
+            };
+            if is_same_peer(row.key.peer, peer) {
+                count += 1;
+            }
+        }
+        count
     }
 
     /// The number of the request of a peer under an id.

@@ -1,5 +1,6 @@
 //! What an element does with a reply.
-ghost use Rattle.std.specs.Prelude.{◌≡◌, Contains, IfOk};
+ghost use Rattle.std.specs.Prelude.{◌≡◌, false, Contains, IfOk};
+ghost use Rattle.plant_model.specs.Element.{is_ready};
 ghost use Rattle.plant_model.specs.RealWire.{wire};
 ghost use Rattle.plant_model.specs.Taking.{made_ready, take_answer, take_reply};
 ghost use Rattle.std.specs.Prelude.{Some};
@@ -18,7 +19,8 @@ use pcep_messages::{Answer, Reply};
 impl Element {
     // The answer of the next domain makes a request ready, or ends it.
     fn made_ready(&self, row: &Row<'_>, answer: Answer) -> Result<Draft, NoMemory>
-        requires { Contains self.now.losing.element.pending.rows (row_of row.now) }
+        requires has { Contains self.now.losing.element.pending.rows (row_of row.now) }
+        requires waits { is_ready (row_of row.now).1.item.stage ≡ false }
         ensures { IfOk result (IsDraft self.now (made_ready wire (row_of row.now) answer self.now.losing.element)) }
     {
         match answer {
@@ -44,7 +46,8 @@ impl Element {
 
     // The parent's answer is passed on as it is.
     fn take_answer(&self, peer: Peer, row: &Row<'_>, reply: Reply) -> Result<Draft, NoMemory>
-        requires { Contains self.now.losing.element.pending.rows (row_of row.now) }
+        requires has { Contains self.now.losing.element.pending.rows (row_of row.now) }
+        requires waits { is_ready (row_of row.now).1.item.stage ≡ false }
         ensures { IfOk result (IsDraft self.now (take_answer wire peer reply self.now.losing.element (Some (row_of row.now)))) }
     {
         if is_same_peer(peer, Peer::Inner(As(0))) {

@@ -1,8 +1,8 @@
 //! Pending requests that are looked for.
-ghost use Rattle.std.specs.Prelude.{◌≡◌, Contains, None, Some, MatchOption, nat_eq};
+ghost use Rattle.std.specs.Prelude.{◌≡◌, false, Contains, None, Some, MatchOption, nat_eq};
 ghost use Rattle.std.specs.Map.{lookup};
 ghost use Rattle.request_table.specs.Pending.{number_of};
-ghost use Rattle.plant_model.specs.Element.{after_id, fresh_id, is_waiting, waiting};
+ghost use Rattle.plant_model.specs.Element.{after_id, fresh_id, is_ready, is_waiting, waiting};
 ghost use Rattle.plant_model.specs.Plant.{has_number};
 ghost use Rattle.pce_element.specs.Changes.{all_closed};
 ghost use Rattle.pce_element.specs.Rows.{row_of};
@@ -34,6 +34,7 @@ impl PinnedRequests {
     pub fn waiting(&self, ended: &[u64], peer: Peer, id: u32) -> Option<Row<'_>>
         ensures row { MatchOption result (waiting peer id (all_closed ended.now self.now.pending).rows ≡ None) (λ row. waiting peer id (all_closed ended.now self.now.pending).rows ≡ Some (row_of row)) }
         ensures has { MatchOption result (Unit {0}) (λ row. Contains self.now.pending.rows (row_of row)) }
+        ensures waits { MatchOption result (Unit {0}) (λ row. is_ready (row_of row).1.item.stage ≡ false) }
     {
         for k in 0..self.len() {
             let Some(row) = self.row(k) else {

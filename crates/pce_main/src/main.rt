@@ -22,7 +22,7 @@ pair-verify TOPO CERT
 --version           writes the versions of the program and of the toolchain
 ";
 
-const VERSION: &str = "pce 0.1.0, proved with rattle-kit-13b logic dac8208d650f15bf\n";
+const VERSION: &str = "pce 0.1.0, proved with rattle-kit-13f logic dac8208d650f15bf\n";
 
 // Writes a text to the standard output.
 fn say(rt: &HostRuntime, text: &str) -> Status {

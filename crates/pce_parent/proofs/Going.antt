@@ -19,7 +19,7 @@ use Rattle.pce_parent.specs.declared.route.Stand.{Stand}
 use Rattle.pce_parent.specs.Places.{IsAt}
 use Rattle.pce_parent.specs.Arcs.{IsRowArc, IsSomeRowArc, IsSomeLinkArc}
 use Rattle.pce_parent.specs.Costs.{cost_at, IsStep, Reaches}
-use Rattle.pce_parent.specs.Tight.{IsTight, IsBefore, IsChosen}
+use Rattle.pce_parent.specs.Tight.{HasEnds, IsTight, IsBefore, IsChosen}
 use Rattle.pce_parent.specs.Routes.{AreLeast, StandsIn, StandsOut, GoesOn}
 use Rattle.pce_parent.proofs.PlaceLaws.{same_vertex, same_place}
 use Rattle.pce_parent.proofs.RowLaws.{AreAlike, contains_at, is_first_row}
@@ -27,14 +27,16 @@ use Rattle.pce_parent.proofs.Steps.{row_steps, link_steps}
 use Rattle.pce_parent.proofs.Leasts.{Arrives, some_is, entering_is, leaving_is, onward, row_arrives, link_arrives, lower, least_at, is_cost}
 
 module _ (j : BorderJob) (spots : List Spot) (rows links : List Arc) (costs : List (Option ℕ)) (is : AreLeast j spots rows links costs) where
-  head_within : (arcs : List Arc) → All (IsStep j spots) arcs → All (λ a. a.to < length costs) arcs
-  head_within arcs steps = All-weaker (IsStep j spots) (λ (a : Arc). a.to < length costs) (λ a step. omega (arith, step.head, is.reached.same_length)) arcs steps
+  ends_within : (arcs : List Arc) → All (IsStep j spots) arcs → All (HasEnds costs) arcs
+  ends_within arcs steps =
+      All-weaker (IsStep j spots) (HasEnds costs)
+      (λ a step. record { tail = omega (arith, step.tail, is.reached.same_length); head = omega (arith, step.head, is.reached.same_length) }) arcs steps
 
-  pub row_heads : All (λ a. a.to < length costs) rows
-  row_heads = head_within rows (row_steps j spots rows is.row_arcs.each)
+  pub row_ends : All (HasEnds costs) rows
+  row_ends = ends_within rows (row_steps j spots rows is.row_arcs.each)
 
-  pub link_heads : All (λ a. a.to < length costs) links
-  link_heads = head_within links (link_steps j spots links is.link_arcs.each)
+  pub link_ends : All (HasEnds costs) links
+  link_ends = ends_within links (link_steps j spots links is.link_arcs.each)
 
   -- ---- some edge is tight
 

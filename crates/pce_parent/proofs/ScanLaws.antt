@@ -1,5 +1,5 @@
 -- Requests and waits looked through one by one.
-use Rattle.std.proofs.Common.{◌≡◌, ◌<◌, ◌+◌, ◌-◌, ℕ, zero, suc, Bool, true, false, cond, Option, Some, None, Result, Ok, Err, List, ◌∷◌, drop, map, arith, ◌∙◌, ap}
+use Rattle.std.proofs.Common.{◌≡◌, ◌<◌, ◌+◌, ◌-◌, ℕ, zero, suc, Bool, true, false, cond, Option, Some, None, Result, Ok, Err, List, ◌∷◌, drop, length, map, arith, ◌∙◌, ap}
 use Rattle.std.specs.Prelude.{slice_get, filter, OnOk, OnSome}
 use Rattle.dom_base.specs.declared.names.Peer.{Peer}
 use Rattle.request_table.specs.Pending.{same_peer}
@@ -50,3 +50,12 @@ on_here p k ws w at_k same = ap (λ (xs : List Wait). any_on p xs) (dropped_next
 
 pub on_more : (p : Peer) (k : ℕ) (ws : List Wait) (w : Wait) → slice_get ws k ≡ Some w → same_peer w.peer p ≡ false → any_on p (drop k ws) ≡ any_on p (drop (k + 1) ws)
 on_more p k ws w at_k same = ap (λ (xs : List Wait). any_on p xs) (dropped_next ws k w at_k) ∙ ap (λ (b : Bool). cond b true (any_on p (drop (k + 1) ws))) same
+
+-- ---- how many pass a test
+
+pub tally_next : {X : Type 0} (p : X → Bool) (xs : List X) (k : ℕ) (x : X) → slice_get xs k ≡ Some x → length (filter p (drop k xs)) ≡ cond (p x) 1 0 + length (filter p (drop (k + 1) xs))
+tally_next {X} p xs k x at_k = ap (λ (ys : List X). length (filter p ys)) (dropped_next xs k x at_k) ∙ go (p x)
+  where
+    go : (b : Bool) → length (cond b (x ∷ filter p (drop (k + 1) xs)) (filter p (drop (k + 1) xs))) ≡ cond b 1 0 + length (filter p (drop (k + 1) xs))
+    go true = omega arith
+    go false = omega arith

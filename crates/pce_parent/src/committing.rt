@@ -6,7 +6,6 @@ ghost use Rattle.pce_parent.specs.Pendings.{row_of};
 ghost use Rattle.pce_parent.specs.Seen.{committed, job_at};
 
 use crate::change::{Change, Draft};
-use crate::hops::append_hops;
 use crate::messages::{code, no_path, reply_message};
 use crate::parent::Parent;
 use crate::pending::Row;
@@ -14,6 +13,7 @@ use crate::plan::BorderPlan;
 use crate::solved::BorderSolved;
 use dom_base::{List, Metric, NoMemory, Tick, word_of_cost};
 use pcep_messages::{Answer, Path};
+use pcep_subobjects::append_hops;
 use plant_model::{Output, Outputs};
 use std::alloc::Global;
 

@@ -1,8 +1,8 @@
 //! Copies of what a job holds.
 ghost use Rattle.std.specs.Prelude.{◌≡◌, ◌++◌, IfOk, OnOk};
 
-use crate::hops::append_hops;
 use dom_base::{Link, List, NoMemory, ParentLink};
+use pcep_subobjects::append_hops;
 use plant_model::ChildRow;
 use std::alloc::Global;
 

@@ -12,9 +12,9 @@ mod costs;
 mod ending;
 mod errands;
 mod gathering;
-mod hops;
 mod making;
 mod messages;
+mod order;
 mod parent;
 mod pending;
 mod places;
@@ -35,6 +35,7 @@ mod ways;
 mod work;
 
 pub use committing::ParentCommitError;
+pub use copies::copy_links;
 pub use parent::Parent;
 pub use plan::BorderPlan;
 pub use solved::{BorderSolved, solve_border};

@@ -1,15 +1,16 @@
 //! The parent.
-ghost use Rattle.std.specs.Prelude.{◌≡◌, ◌<◌, All, AllPairs, slice_get, IfOk, IfSome};
+ghost use Rattle.std.specs.Prelude.{◌≡◌, ◌<◌, ◌≤◌, All, AllPairs, filter, length, slice_get, IfOk, IfSome};
 ghost use Rattle.std.specs.Map.{lookup};
 ghost use Rattle.std.specs.Prelude.{nat_eq};
 ghost use Rattle.dom_base.specs.declared.names.As.{As as Domain};
+ghost use Rattle.request_table.specs.Pending.{same_peer};
 ghost use Rattle.plant_model.specs.Parent.{upped, down_of, next_lost_of, ready_numbers, start_of};
 ghost use Rattle.pce_parent.specs.Seen.{SameButRoom, IsNew, with_parent, with_losing, job_at};
 ghost use Rattle.pce_parent.specs.Solution.{IsWeighed};
 
 use crate::asking::Asking;
 use crate::copies::copy_links;
-use crate::pending::{leave_all, ready_at};
+use crate::pending::{leave_all, owed, ready_at};
 use crate::ways::Ways;
 use dom_base::{Addr, As, List, NoMemory, ParentLink, Peer};
 use plant_model::{BorderJob, Lost, PARENT_PENDING_MAX};
@@ -85,6 +86,21 @@ impl Parent {
         ensures { result ≡ self.now.id }
     {
         self.id
+    }
+
+    /// How many requests are pending; takes no memory.
+    pub fn pending(&self) -> usize
+        ensures count { result ≡ length self.now.losing.parent.pending.rows }
+        ensures few { result ≤ 64 }
+    {
+        self.requests.len()
+    }
+
+    /// How many requests of a peer are pending; takes no memory.
+    pub fn owed(&self, peer: Peer) -> usize
+        ensures { result ≡ length (filter (λ h. same_peer h.1.key.peer peer) self.now.losing.parent.pending.rows) }
+    {
+        owed(&self.requests, peer)
     }
 
     /// The number of the k-th request that can be solved; takes no memory.

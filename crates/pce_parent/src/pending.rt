@@ -1,7 +1,7 @@
 //! The pending requests of the parent, one by one.
-ghost use Rattle.std.specs.Prelude.{◌≡◌, ◌≤◌, ◌<◌, ◌+◌, ◌++◌, ◌∷◌, [], length, slice_get, Some, MatchOption};
+ghost use Rattle.std.specs.Prelude.{◌≡◌, ◌≤◌, ◌<◌, ◌+◌, ◌++◌, ◌∷◌, [], filter, length, slice_get, Some, MatchOption};
 ghost use Rattle.std.specs.VecDeque.{deque_capacity, deque_len};
-ghost use Rattle.request_table.specs.Pending.{ArePending, closed_of, item_of};
+ghost use Rattle.request_table.specs.Pending.{ArePending, closed_of, item_of, same_peer};
 ghost use Rattle.plant_model.specs.Parent.{kept, lost, ready_numbers};
 ghost use Rattle.pce_parent.specs.Pendings.{Leaves, row_of, with_rows};
 ghost use Rattle.pce_parent.specs.Changes.{Waits, all_closed, answered_at};
@@ -37,6 +37,22 @@ pub fn row_at(requests: &Requests<Asking>, k: usize) -> Option<Row<'_>>
         unreachable!()
     };
     Some(Row { number, key, item })
+}
+
+/// How many requests of a peer are pending.
+pub fn owed(requests: &Requests<Asking>, peer: Peer) -> usize
+    ensures { result ≡ length (filter (λ h. same_peer h.1.key.peer peer) requests.now.kept.rows) }
+{
+    let mut count = 0;
+    for i in 0..requests.len() {
+        let Some(row) = row_at(requests, i) else {
+            unreachable!()
+        };
+        if is_same_peer(row.key.peer, peer) {
+            count += 1;
+        }
+    }
+    count
 }
 
 /// The number of the k-th request that can be solved.

@@ -1,13 +1,15 @@
 //! Relaxation of costs over edges until none falls.
-ghost use Rattle.std.specs.Prelude.{◌≡◌, ◌≤◌, ◌+◌, ◌↔◌, All, IsTrue, SomeIff, MatchBool};
+ghost use Rattle.std.specs.Prelude.{◌≡◌, ◌≤◌, ◌+◌, ◌↔◌, All, IsTrue, SomeIff, MatchBool, OnOk};
 ghost use Rattle.dom_base.specs.Limits.{cost_max};
 ghost use Rattle.pce_parent.specs.Costs.{IsBelow, IsStep, IsRelaxed, AreReached, Falls};
 
 use crate::arcs::Arc;
 use crate::costs::cost_of;
+use crate::order::relax_in_order;
 use crate::spot::Spot;
-use dom_base::Cost;
+use dom_base::{Cost, NoMemory};
 use plant_model::BorderJob;
+use std::alloc::Global;
 
 fn is_below(found: Cost, old: Option<Cost>) -> bool
     ensures { IsTrue result ↔ IsBelow found old }
@@ -30,8 +32,8 @@ fn sum_within(cap: Cost, cost: u32, rest: Cost) -> Option<Cost>
     Cost::of(sum)
 }
 
-// Lowers the cost of the place that an edge leads from, where the way by the edge is better.
-fn relax(job: &BorderJob, _spots: &[Spot], arc: &Arc, costs: &mut [Option<Cost>]) -> bool
+/// Lowers the cost of the place that an edge leads from, where the way by the edge is better.
+pub fn relax(job: &BorderJob, _spots: &[Spot], arc: &Arc, costs: &mut [Option<Cost>]) -> bool
     requires step { IsStep job.now _spots.now arc.now }
     requires reached { AreReached job.now _spots.now costs.old }
     ensures reached { AreReached job.now _spots.now costs.new }
@@ -66,8 +68,8 @@ fn relax_all(job: &BorderJob, spots: &[Spot], arcs: &[Arc], costs: &mut [Option<
     changed
 }
 
-/// Relaxes until nothing changes.
-pub fn settle(
+// Relaxes until nothing changes.
+fn relax_to_end(
     job: &BorderJob,
     spots: &[Spot],
     rows: &[Arc],
@@ -88,4 +90,25 @@ pub fn settle(
             return;
         }
     }
+}
+
+/// Relaxes in the order of costs, and then until nothing changes, which is once over all edges.
+pub fn settle(
+    alloc: Global,
+    job: &BorderJob,
+    spots: &[Spot],
+    rows: &[Arc],
+    links: &[Arc],
+    costs: &mut [Option<Cost>],
+) -> Result<(), NoMemory>
+    requires row_steps { All (IsStep job.now spots.now) rows.now }
+    requires link_steps { All (IsStep job.now spots.now) links.now }
+    requires reached { AreReached job.now spots.now costs.old }
+    ensures reached { OnOk result (AreReached job.now spots.now costs.new) }
+    ensures rows { OnOk result (All (IsRelaxed job.now.query.cap costs.new) rows.now) }
+    ensures links { OnOk result (All (IsRelaxed job.now.query.cap costs.new) links.now) }
+{
+    relax_in_order(alloc, job, spots, rows, links, costs)?;
+    relax_to_end(job, spots, rows, links, costs);
+    Ok(())
 }

@@ -1,14 +1,14 @@
 //! The chosen walk of least cost, as hops.
 ghost use Rattle.std.specs.Prelude.{◌≤◌, IfOk};
+ghost use Rattle.pce_parent.specs.Tight.{AreChosen};
 ghost use Rattle.pce_parent.specs.Routes.{AreLeast, StandsIn, StandsOut, GoesOver, StandsInHeavier, IsRoute};
 
 use crate::arcs::Arc;
 use crate::costs::cost_of;
-use crate::hops::append_hops;
 use crate::spot::Spot;
-use crate::tight::next_arc;
+use crate::tight::{next_arc, next_arcs};
 use dom_base::{Cost, List, NoMemory};
-use pcep_subobjects::{Hop, strict_hop};
+use pcep_subobjects::{Hop, append_hops, strict_hop};
 use plant_model::BorderJob;
 use std::alloc::Global;
 
@@ -27,15 +27,17 @@ fn over_row(
     rows: &[Arc],
     _links: &[Arc],
     costs: &[Option<Cost>],
+    next: &[Option<Arc>],
     at: &Stand,
     hops: &mut List<Hop>,
 ) -> Result<Stand, NoMemory>
     requires least { AreLeast job.now _spots.now rows.now _links.now costs.now }
+    requires next { AreChosen rows.now costs.now next.now }
     requires stands { StandsIn _spots.now costs.now at.now }
     ensures stands { IfOk result (StandsOut _spots.now costs.now) }
     ensures goes { IfOk result (λ to. GoesOver job.now _spots.now at.now to hops.old hops.new) }
 {
-    let Some(arc) = next_arc(rows, costs, at.place, at.rest) else {
+    let Some(arc) = next_arc(rows, costs, next, at.place, at.rest) else {
         unreachable!()
     };
     let Some(rest) = cost_of(costs, arc.to) else {
@@ -55,16 +57,18 @@ fn over_link(
     _rows: &[Arc],
     links: &[Arc],
     costs: &[Option<Cost>],
+    next: &[Option<Arc>],
     at: &Stand,
     hops: &mut List<Hop>,
 ) -> Result<Stand, NoMemory>
     requires least { AreLeast job.now _spots.now _rows.now links.now costs.now }
+    requires next { AreChosen links.now costs.now next.now }
     requires stands { StandsOut _spots.now costs.now at.now }
     requires more { 1 ≤ at.now.rest }
     ensures stands { IfOk result (StandsInHeavier _spots.now costs.now at.now) }
     ensures goes { IfOk result (λ to. GoesOver job.now _spots.now at.now to hops.old hops.new) }
 {
-    let Some(arc) = next_arc(links, costs, at.place, at.rest) else {
+    let Some(arc) = next_arc(links, costs, next, at.place, at.rest) else {
         unreachable!()
     };
     let Some(rest) = cost_of(costs, arc.to) else {
@@ -91,13 +95,17 @@ pub fn chosen_hops(
     requires stands { StandsIn spots.now costs.now start }
     ensures { IfOk result (IsRoute job.now spots.now start) }
 {
+    let by_row = next_arcs(alloc, rows, costs)?;
+    let by_link = next_arcs(alloc, links, costs)?;
     let mut hops = List::new(alloc);
     let mut at = start;
     loop {
-        let left = over_row(alloc, job, spots, rows, links, costs, &at, &mut hops)?;
+        let left = over_row(
+            alloc, job, spots, rows, links, costs, &by_row, &at, &mut hops,
+        )?;
         if left.rest.get() == 0 {
             return Ok(hops);
         }
-        at = over_link(job, spots, rows, links, costs, &left, &mut hops)?;
+        at = over_link(job, spots, rows, links, costs, &by_link, &left, &mut hops)?;
     }
 }

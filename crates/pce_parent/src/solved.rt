@@ -101,7 +101,7 @@ pub fn solve_border(alloc: Global, job: &BorderJob) -> Result<BorderSolved, NoMe
     let rows = row_arcs(alloc, job, &spots)?;
     let links = link_arcs(alloc, job, &spots)?;
     let mut costs = starts_of(alloc, job, spots.as_slice())?;
-    settle(job, spots.as_slice(), &rows, &links, &mut costs);
+    settle(alloc, job, spots.as_slice(), &rows, &links, &mut costs)?;
     let found = walk_of(alloc, job, &spots, &rows, &links, &costs)?;
     Ok(BorderSolved {
         job: Snapshot::of(job),

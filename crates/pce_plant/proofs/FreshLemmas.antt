@@ -1,5 +1,5 @@
 -- Elements that are made one after the other.
-use Rattle.std.proofs.Common.{◌≡◌, ◌<◌, ◌≤◌, ℕ, zero, suc, Bool, true, false, cond, Option, Some, None, Result, List, [], ◌∷◌, ◌++◌, length, map, take, get_or, All, arith, refl, sym, ◌∙◌, ap, subst}
+use Rattle.std.proofs.Common.{◌≡◌, ◌<◌, ◌≤◌, ℕ, zero, suc, Bool, true, false, cond, Option, Some, None, Result, List, [], ◌∷◌, ◌++◌, length, map, take, get_or, arith, refl, sym, ◌∙◌, ap, subst}
 use Rattle.std.specs.Prelude.{IfOk}
 use mathlib.Core.Path.{fun_ext}
 use Rattle.dom_base.specs.declared.names.As.{As}
@@ -35,7 +35,7 @@ pub life_is : (o : Option ElementRow) → life_from o ≡ (figures_from o).key_l
 life_is None = refl
 life_is (Some r) = refl
 
-own_place : (n : NetworkParts) (d : As) → (place n d).own ≡ d
+pub own_place : (n : NetworkParts) (d : As) → (place n d).own ≡ d
 own_place n d = ap (λ (p : Place). p.own) (place_is n d (row_of d n.elements))
 
 pub own_new : (n : NetworkParts) (d : As) (e : Seen) → IsNew (place n d) (life n d) (others d (lines n)) e → own_of e ≡ d

@@ -23,7 +23,7 @@ pub numbers_past : (numbers : List ℕ) (k : ℕ) → slice_get numbers k ≡ No
 numbers_past numbers k none = past_end numbers k none
 
 -- the rest of the jobs, behind the one element's
-behind : (d : As) (numbers : List ℕ) (js : List (As × ℕ)) (k : ℕ) → slice_get numbers k ≡ None → slice_get (jobs_at d numbers ++ js) k ≡ slice_get js (k - length numbers)
+pub behind : (d : As) (numbers : List ℕ) (js : List (As × ℕ)) (k : ℕ) → slice_get numbers k ≡ None → slice_get (jobs_at d numbers ++ js) k ≡ slice_get js (k - length numbers)
 behind d [] js k none = let e : k ≡ k - 0 = omega arith in ap (slice_get js) e
 behind d (x ∷ xs) js zero none = absurd (some_none x none)
   where
@@ -31,7 +31,7 @@ behind d (x ∷ xs) js zero none = absurd (some_none x none)
     some_none y is = cc
 behind d (x ∷ xs) js (suc k) none = behind d xs js k none ∙ (let e : k - length xs ≡ suc k - length (x ∷ xs) = omega arith in ap (slice_get js) e)
 
-among : (d : As) (numbers : List ℕ) (js : List (As × ℕ)) (k n : ℕ) → slice_get numbers k ≡ Some n → slice_get (jobs_at d numbers ++ js) k ≡ Some (d, n)
+pub among : (d : As) (numbers : List ℕ) (js : List (As × ℕ)) (k n : ℕ) → slice_get numbers k ≡ Some n → slice_get (jobs_at d numbers ++ js) k ≡ Some (d, n)
 among d [] js k n found = absurd (none_some n found)
   where
     none_some : (y : ℕ) → None ≡ Some y → ⊥

@@ -1,6 +1,10 @@
 -- for readers
 pub mod Elements
+pub mod Becoming
+pub mod Tiers
+pub mod Answering
 -- inner
+pub mod TierFields
 pub mod ElementFields
 pub mod Loading
 pub mod Ready

@@ -1,5 +1,5 @@
 //! The elements of a network, each by its domain.
-ghost use Rattle.std.specs.Prelude.{◌≡◌, ◌<◌, [], length, MatchOption};
+ghost use Rattle.std.specs.Prelude.{◌≡◌, ◌<◌, [], is_some, length, MatchOption};
 ghost use Rattle.std.specs.List.{slice_index_or};
 ghost use Rattle.std.specs.Option.{option_copied};
 ghost use Rattle.plant_text.specs.Names.{same_as};
@@ -40,7 +40,7 @@ fn is_same(a: As, b: As) -> bool
 }
 
 // The place of a domain.
-fn place_of(domains: &[As], at: As) -> Option<usize>
+pub(crate) fn place_of(domains: &[As], at: As) -> Option<usize>
     ensures { MatchOption result (IsNowhere at domains.now) (λ i. IsFirstAt at i domains.now) }
 {
     for i in 0..domains.len() {
@@ -87,6 +87,16 @@ impl Elements {
         match place_of(&self.domains, at) {
             Some(i) => Some(&self.items[i]),
             None => None,
+        }
+    }
+
+    /// Whether there is an element of a domain; takes no memory.
+    pub fn has(&self, at: As) -> bool
+        ensures { result ≡ is_some (at_domain at self.now) }
+    {
+        match self.at(at) {
+            Some(_) => true,
+            None => false,
         }
     }
 

@@ -3,7 +3,7 @@ ghost use Rattle.std.specs.Prelude.{◌≡◌, ◌≤◌, ◌<◌, ◌^◌, ℕ,
 ghost use Rattle.path_certificate.specs.declared.cert_error.CertError.TheVariants.{At};
 ghost use Rattle.te_text.specs.Reads.{IsFaulty};
 ghost use Rattle.te_links.specs.declared.fault.TopoFault.{TopoFault};
-ghost use Rattle.path_certificate.specs.Rows.{AreRows};
+ghost use Rattle.path_certificate.specs.Rows.{AreLabelRows};
 ghost use Rattle.path_certificate.specs.Text.{certificate_in};
 ghost use Rattle.pce_tool.specs.Limits.{certificate_max};
 ghost use Rattle.dom_edge.specs.Stores.{HasFile};
@@ -93,7 +93,7 @@ pub fn load_certificate<S: Store>(
     topology: &Topology,
 ) -> Result<Certificate, Status>
     ensures ok { IfOk result (HasCertificate (S.files store.old) name.now topology.now) }
-    ensures rows { IfOk result (λ c. AreRows topology.now.nodes c.labels) }
+    ensures rows { IfOk result (λ c. AreLabelRows topology.now.nodes c.labels) }
     ensures err { IfErr result (IsFileStatus (S.files store.old) name.now certificate_max (λ bytes line. IsTopo (λ told. certificate_in topology.now bytes ≡ Err (At line told))) (S.faults store.old, S.faults store.new) (S.failed_at store.new)) }
     ensures files { S.files store.new ≡ S.files store.old }
     ensures later { S.faults store.old ≤ S.faults store.new }

@@ -87,12 +87,16 @@ is_minimised o = bit_of (metric_in o.body)
     bit_of None = false
     bit_of (Some m) = not m.0
 
--- one type of the three, at most one METRIC to be minimised and one bound
+-- one type of the three
+abbrev pub is_metric : ℕ → Bool
+is_metric kind = nat_le metrics.IGP kind && nat_le kind metrics.HOPS
+
+-- each METRIC of one type, at most one to be minimised and one a bound
+abbrev pub agree_on : ℕ → List Object → Bool
+agree_on kind os = list_all (λ m. m.1 == kind) (metrics_of os) && (nat_le (count_by is_bound os) 1 && nat_le (count_by is_minimised os) 1)
+
 abbrev pub are_measures : List Object → Bool
-are_measures os =
-    let kind = asked_type (metrics_of os) in
-    (nat_le metrics.IGP kind && nat_le kind metrics.HOPS)
-    && (list_all (λ m. m.1 == kind) (metrics_of os) && (nat_le (count_by is_bound os) 1 && nat_le (count_by is_minimised os) 1))
+are_measures os = is_metric (asked_type (metrics_of os)) && agree_on (asked_type (metrics_of os)) os
 
 -- at most 256 exclusions, and each that is more than a wish is supported
 abbrev pub can_exclude : Option (List Exclusion) → Bool

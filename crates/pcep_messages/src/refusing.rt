@@ -2,13 +2,14 @@
 
 ghost use Rattle.std.specs.Prelude.{◌≡◌, None, Some, MatchResult, not, true, if◌then◌else◌};
 ghost use Rattle.std.specs.List.{list_all};
-ghost use Rattle.pcep_messages.specs.Said.{asks_key, end_points_of, iro_of, key_of, rp_of, xro_of};
-ghost use Rattle.pcep_messages.specs.Refusals.{unsupported, unsupported_among, among, are_measures, can_exclude, domain_in, domains, is_domain, has_twice, begins_with, can_follow, first_of, request_rules, key_rules, path_rules};
+ghost use Rattle.pcep_messages.specs.Said.{asks_key, end_points_of, iro_of, key_of, metrics_of, rp_of, xro_of};
+ghost use Rattle.pcep_messages.specs.Requests.{metric_of_type};
+ghost use Rattle.pcep_messages.specs.Refusals.{asked_type, is_metric, agree_on, unsupported, unsupported_among, among, are_measures, can_exclude, domain_in, domains, is_domain, has_twice, begins_with, can_follow, first_of, request_rules, key_rules, path_rules};
 
 use crate::said::{
     are_of_type, count_bounds, count_minimised, find_end_points, find_key, find_rp, metric_type,
 };
-use dom_base::{Addr, As};
+use dom_base::{Addr, As, Metric};
 use path_exclusions::find_unsupported;
 use pcep_codes::{classes, errors, flags, kinds, metrics};
 use pcep_objects::{Body, Object};
@@ -115,14 +116,32 @@ pub fn find_asked_key(objects: &[Object]) -> Result<(u16, Addr), (u8, u8)>
     }
 }
 
-fn measures(objects: &[Object]) -> bool
-    ensures { result ≡ are_measures objects.now }
+fn metric_of(kind: u8) -> Option<Metric>
+    ensures { result ≡ (if is_metric kind then Some (metric_of_type kind) else None) }
+{
+    match kind {
+        metrics::IGP => Some(Metric::Igp),
+        metrics::TE => Some(Metric::Te),
+        metrics::HOPS => Some(Metric::Hops),
+        _ => None,
+    }
+}
+
+fn agree(objects: &[Object], kind: u8) -> bool
+    ensures { result ≡ agree_on kind objects.now }
+{
+    are_of_type(objects, kind) && count_bounds(objects) <= 1 && count_minimised(objects) <= 1
+}
+
+/// What the path is measured by, unless there is no one metric with at most one bound.
+fn find_metric(objects: &[Object]) -> Option<Metric>
+    ensures { result ≡ (if are_measures objects.now then Some (metric_of_type (asked_type (metrics_of objects.now))) else None) }
 {
     let kind = metric_type(objects);
-    (metrics::IGP <= kind && kind <= metrics::HOPS)
-        && are_of_type(objects, kind)
-        && count_bounds(objects) <= 1
-        && count_minimised(objects) <= 1
+    match metric_of(kind) {
+        Some(metric) if agree(objects, kind) => Some(metric),
+        _ => None,
+    }
 }
 
 fn excludes(objects: &[Object]) -> bool
@@ -210,22 +229,21 @@ fn follows(objects: &[Object], own: As) -> bool
     true
 }
 
-/// The ends of the path that is asked for, or the error.
-pub fn find_ends(objects: &[Object], own: As) -> Result<(Addr, Addr), (u8, u8)>
+/// The ends of the path that is asked for and what it is measured by, or the error.
+pub fn find_ends(objects: &[Object], own: As) -> Result<((Addr, Addr), Metric), (u8, u8)>
     ensures { MatchResult result
-        (λ ends. (first_of (path_rules own.0 objects.now) ≡ None) × (end_points_of own.0 objects.now ≡ Some (ends, true)))
+        (λ found. (first_of (path_rules own.0 objects.now) ≡ None)
+        × (end_points_of own.0 objects.now ≡ Some (found.0, true))
+        × (found.1 ≡ metric_of_type (asked_type (metrics_of objects.now))))
         (λ e. first_of (path_rules own.0 objects.now) ≡ Some e) }
 {
     match find_end_points(objects, own) {
         None => Err(errors::END_POINTS_MISSING),
         Some((_, false)) => Err(errors::P_CLEAR),
-        Some((ends, true)) => {
-            if measures(objects) && excludes(objects) && follows(objects, own) {
-                Ok(ends)
-            } else {
-                Err(errors::PARAMETER_NOT_SERVED)
-            }
-        }
+        Some((ends, true)) => match find_metric(objects) {
+            Some(metric) if excludes(objects) && follows(objects, own) => Ok((ends, metric)),
+            _ => Err(errors::PARAMETER_NOT_SERVED),
+        },
     }
 }
 

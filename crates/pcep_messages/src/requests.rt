@@ -1,32 +1,21 @@
 //! What a request asks for, or why it is refused.
 
 ghost use Rattle.std.specs.Prelude.{◌≡◌, IfOk, None, Some, true, false};
-ghost use Rattle.pcep_messages.specs.Said.{asks_key, iro_of, rp_of, xro_of};
-ghost use Rattle.pcep_messages.specs.Refusals.{first_of, request_rules};
+ghost use Rattle.pcep_messages.specs.Said.{asks_key, iro_of, metrics_of, rp_of, xro_of};
+ghost use Rattle.pcep_messages.specs.Refusals.{asked_type, first_of, request_rules};
 ghost use Rattle.pcep_messages.specs.Requests.{Answers, bound_of, cap_of, demands_of, metric_of_type, query_of, sequence_of, units_of, wanted_of, without_bit};
 
 use crate::message::{Asked, Refusal, Request, Wanted, Wish};
 use crate::refusing::{asks_for_key, domain, find_asked_key, find_ends, find_request};
-use crate::said::{find_bandwidth, find_bound, find_masks, find_rp, metric_type};
+use crate::said::{find_bandwidth, find_bound, find_masks, find_rp};
 use dom_base::{
     Addr, As, COST_MAX, Cost, Exclusion, List, Metric, NoMemory, Query, units_of_word,
     whole_of_word,
 };
 use path_exclusions::copies_of_demands;
-use pcep_codes::metrics;
 use pcep_objects::{Body, Object};
 use pcep_subobjects::Hop;
 use std::alloc::Global;
-
-fn metric_of(kind: u8) -> Metric
-    ensures { result ≡ metric_of_type kind }
-{
-    match kind {
-        metrics::IGP => Metric::Igp,
-        metrics::HOPS => Metric::Hops,
-        _ => Metric::Te,
-    }
-}
 
 fn cap(bound: Option<u32>) -> Cost
     ensures { result ≡ cap_of bound }
@@ -82,14 +71,15 @@ fn sequence(alloc: Global, objects: &[Object]) -> Result<List<As>, NoMemory>
     Ok(List::new(alloc))
 }
 
-fn query(alloc: Global, objects: &[Object], own: As) -> Result<Query, NoMemory>
+fn query(alloc: Global, objects: &[Object], own: As, metric: Metric) -> Result<Query, NoMemory>
+    requires metric { metric ≡ metric_of_type (asked_type (metrics_of objects.now)) }
     ensures { IfOk result (λ query. query ≡ query_of own.0 objects.now) }
 {
     let exclusions = exclusions(alloc, objects)?;
     let (exclude_any, include_any, include_all) = find_masks(objects).unwrap_or((0, 0, 0));
     Ok(Query {
         own,
-        metric: metric_of(metric_type(objects)),
+        metric,
         cap: cap(find_bound(objects)),
         bandwidth: units(find_bandwidth(objects)),
         exclude_any,
@@ -104,10 +94,12 @@ fn wanted(
     objects: &[Object],
     own: As,
     ends: (Addr, Addr),
+    metric: Metric,
 ) -> Result<Wanted, NoMemory>
+    requires metric { metric ≡ metric_of_type (asked_type (metrics_of objects.now)) }
     ensures { IfOk result (λ wanted. wanted ≡ wanted_of own.0 objects.now ends) }
 {
-    let query = query(alloc, objects, own)?;
+    let query = query(alloc, objects, own, metric)?;
     let sequence = sequence(alloc, objects)?;
     let (source, target) = ends;
     Ok(Wanted {
@@ -167,7 +159,7 @@ fn path_request(
     ensures { Answers own.0 objects.now result }
 {
     match find_ends(objects, own) {
-        Ok(ends) => match wanted(alloc, objects, own, ends) {
+        Ok((ends, metric)) => match wanted(alloc, objects, own, ends, metric) {
             Ok(wanted) => Ok(Request {
                 flags: rp.0,
                 id: rp.1,

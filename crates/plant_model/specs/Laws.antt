@@ -6,6 +6,9 @@ use Rattle.dom_base.specs.declared.addr.Addr.{Addr}
 use Rattle.dom_base.specs.declared.limits.TheConstants.{COST_MAX}
 use Rattle.dom_base.specs.declared.border.ParentLink.{ParentLink}
 use Rattle.dom_base.specs.declared.link.Link.{Link}
+use Rattle.pcep_codes.specs.declared.kinds.TheConstants as object_types
+use Rattle.pcep_codes.specs.declared.flags.TheConstants as rp_flags
+use Rattle.pcep_codes.specs.declared.errors.TheConstants as errors
 use Rattle.pcep_subobjects.specs.Addresses.{IsAddr, bits_of}
 use Rattle.te_links.specs.Rows.{IsMetric}
 use Rattle.walk_laws.specs.Crossing.{query_in}
@@ -89,7 +92,7 @@ pub record IsCodec (c : Codec) : Type 0 where
   pub admits : (a : Asked) (own : As) (flags x : ℕ) (w : Wanted) → Admits c a own flags x w →
       (id : ℕ) (t : Addr) (next : As) (rest : List As) → 1 ≤ id → id < 2 ^ 32 → IsSequence next rest →
       Admits c (asked_of id w t (next ∷ rest)) next vspt_flag id (record w { target = t; query = query_in w.query next; sequence = next ∷ rest })
-  pub admits_upward : (a : Asked) (own : As) (flags x : ℕ) (w : Wanted) → Admits c a own flags x w → ends_kind w.source w.target ≡ 1 → (id : ℕ) → 1 ≤ id → id < 2 ^ 32 →
+  pub admits_upward : (a : Asked) (own : As) (flags x : ℕ) (w : Wanted) → Admits c a own flags x w → ends_kind w.source w.target ≡ object_types.FIRST → (id : ℕ) → 1 ≤ id → id < 2 ^ 32 →
       Admits c (asked_of id w w.target []) parent_as vspt_flag id (record w { query = query_in w.query parent_as; sequence = [] })
   -- what came as octets has numbers that can be said back
   pub checks : (bytes : Bytes) (a : Asked) (own : As) → AreOctets bytes → c.read bytes ≡ Some (messages.PcReq (a ∷ [])) → HasNumbers (c.check a own)
@@ -98,10 +101,10 @@ pub record IsCodec (c : Codec) : Type 0 where
   -- the parent serves IPv4 alone
   pub admits_ipv4 : (bytes : Bytes) (a : Asked) (flags x : ℕ) (w : Wanted) → AreOctets bytes → c.read bytes ≡ Some (messages.PcReq (a ∷ [])) → Admits c a parent_as flags x w →
       bits_of w.source ≡ 32
-  pub refuses_upward : (w : Wanted) (id : ℕ) → ends_kind w.source w.target ≡ 2 →
-      c.check (asked_of id w w.target []) parent_as ≡ Wrong (Some (vspt_flag, id)) 4 2
+  pub refuses_upward : (w : Wanted) (id : ℕ) → ends_kind w.source w.target ≡ object_types.END_POINTS_IPV6 →
+      c.check (asked_of id w w.target []) parent_as ≡ Wrong (Some (vspt_flag, id)) errors.KIND_NOT_SERVED.0 errors.KIND_NOT_SERVED.1
   -- a request to expand a key has the flag of one
-  pub expands : (a : Asked) (own : As) (r : Request) (key : ℕ) (pce : Addr) → c.check a own ≡ Admitted r → r.wish ≡ wishes.Expand key pce → bit_and r.flags 256 ≢ 0
+  pub expands : (a : Asked) (own : As) (r : Request) (key : ℕ) (pce : Addr) → c.check a own ≡ Admitted r → r.wish ≡ wishes.Expand key pce → bit_and r.flags rp_flags.PATH_KEY ≢ 0
   -- what a request that was admitted is like
   pub own : (a : Asked) (own : As) (flags x : ℕ) (w : Wanted) → Admits c a own flags x w →
       (w.query.own ≡ own) × (w.query.cap ≤ COST_MAX) × ((w.sequence ≡ []) ⊎ ((rest : List As) × (w.sequence ≡ own ∷ rest) × IsSequence own rest))

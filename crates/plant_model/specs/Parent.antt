@@ -5,6 +5,9 @@ use Rattle.dom_base.specs.declared.addr.Addr.{Addr}
 use Rattle.dom_base.specs.declared.border.ParentLink.{ParentLink}
 use Rattle.dom_base.specs.declared.names.Peer.{Peer}
 use Rattle.dom_base.specs.declared.names.Peer.TheVariants.{Outside, Inner}
+use Rattle.pcep_codes.specs.declared.errors.TheConstants as errors
+use Rattle.pcep_codes.specs.declared.notices.TheConstants as notices
+use Rattle.pcep_codes.specs.declared.no_paths.TheConstants as no_paths
 use Rattle.pcep_messages.specs.declared.message.Message.{Message}
 use Rattle.pcep_messages.specs.declared.message.Message.TheVariants as messages
 use Rattle.pcep_messages.specs.declared.message.Asked.{Asked}
@@ -201,10 +204,10 @@ gathers p y bs h k = silent (record k { pending = written_of k.pending h.0 (gath
 abbrev pub take_answer : Codec → Peer → ℕ → AskingRow → Parent → Answer → Given
 take_answer c p y h k (Paths ps) = gathers p y (branches_in c h.1.item.wanted.query.metric ps) h k
 take_answer c p y h k (NoPath nature vector) =
-    cond (nature == 0) (gathers p y [] h k) (answered h (reply_message h.1.item.flags h.1.key.id unavailable) k)
+    cond (nature == no_paths.NONE_FOUND) (gathers p y [] h k) (answered h (reply_message h.1.item.flags h.1.key.id unavailable) k)
 
 abbrev pub take_found : Codec → Peer → Reply → Parent → Option AskingRow → Given
-take_found c p r k None = only p (error_message (Some (r.flags, r.id)) 8 0) k
+take_found c p r k None = only p (error_message (Some (r.flags, r.id)) errors.UNKNOWN_REQUEST.0 errors.UNKNOWN_REQUEST.1) k
 take_found c p r k (Some h) = take_answer c p r.id h k r.answer
 
 abbrev pub take_reply : Codec → Peer → Reply → Parent → Given
@@ -226,9 +229,9 @@ take_cancel p rp k = cancelled k (number_of k.pending p rp.1)
 
 abbrev pub notice_steps : List (ℕ × ℕ) → List (Peer → ℕ × ℕ → Parent → Given)
 notice_steps kinds =
-    cond (has_pair 1 2 kinds)
-    (cond (has_pair 1 1 kinds) (take_busy ∷ take_cancel ∷ []) (take_busy ∷ []))
-    (cond (has_pair 1 1 kinds) (take_cancel ∷ []) [])
+    cond (has_pair notices.BUSY.0 notices.BUSY.1 kinds)
+    (cond (has_pair notices.CANCELLED.0 notices.CANCELLED.1 kinds) (take_busy ∷ take_cancel ∷ []) (take_busy ∷ []))
+    (cond (has_pair notices.CANCELLED.0 notices.CANCELLED.1 kinds) (take_cancel ∷ []) [])
 
 abbrev pub take_notice : Peer → Notice → Parent → Given
 take_notice p n = each (λ rp. each (λ step. step p rp) (notice_steps n.kinds)) n.ids

@@ -2,6 +2,7 @@
 use Rattle.std.specs.Prelude.{ℕ, Option, Some, None, Result, Ok, Err}
 use Rattle.dom_base.specs.declared.names.As.{As}
 use Rattle.dom_base.specs.Words.{units, word_of}
+use Rattle.pcep_codes.specs.declared.errors.TheConstants as errors
 use Rattle.pcep_messages.specs.declared.message.Message.{Message}
 use Rattle.pcep_messages.specs.declared.message.Asked.{Asked}
 use Rattle.pcep_messages.specs.declared.message.Bad.{Bad}
@@ -28,8 +29,8 @@ message_or_none (Err e) = None
 abbrev pub checked : Option (ℕ × ℕ) → Option (ℕ × ℕ) → Option Wish → Checked
 checked rp (Some error) wish = Wrong rp error.0 error.1
 checked (Some rp) None (Some wish) = Admitted (record { flags = rp.0; id = rp.1; wish = wish })
-checked (Some rp) None None = Wrong (Some rp) 6 3
-checked None None wish = Wrong None 6 1
+checked (Some rp) None None = Wrong (Some rp) errors.END_POINTS_MISSING.0 errors.END_POINTS_MISSING.1
+checked None None wish = Wrong None errors.RP_MISSING.0 errors.RP_MISSING.1
 
 abbrev pub check_of : Asked → As → Checked
 check_of a own = checked (without_bit (rp_of a.objects)) (refusal_of own.0 a.objects) (wish_of own.0 a.objects)

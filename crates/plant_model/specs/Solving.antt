@@ -1,10 +1,10 @@
 -- An element answers a job that was solved: an open path to a client, closed branches to the others.
-use Rattle.std.specs.Prelude.{ℕ, Bool, cond, nat_lt, ◌-◌, List, [], ◌∷◌, length}
+use Rattle.std.specs.Prelude.{ℕ, Bool, true, cond, nat_lt, ◌-◌, List, [], ◌∷◌, length}
 use Rattle.dom_base.specs.declared.addr.Addr.{Addr}
 use Rattle.dom_base.specs.declared.query.Metric.{Metric}
 use Rattle.pcep_messages.specs.declared.message.Message.{Message}
 use Rattle.pcep_messages.specs.declared.message.Path.{Path}
-use Rattle.pcep_messages.specs.declared.message.Answer.TheVariants.{Paths, NoPath}
+use Rattle.pcep_messages.specs.declared.message.Answer.TheVariants.{Paths}
 use Rattle.vspt_tree.specs.declared.branch.Best.{Best}
 use Rattle.vspt_tree.specs.declared.branch.Branch.{Branch}
 use Rattle.path_keys.specs.Keys.{Keys, live_most, live_at, issue_of, number_after}
@@ -35,7 +35,7 @@ abbrev pub free : {S : Type 0} → ℕ → Keys S → ℕ
 free now keys = live_most - length (live_at keys now)
 
 abbrev pub closed_reply : {P : Type 0} {S : Type 0} → Codec → Place → Row P → List Branch → ℕ → (Best → S) → Element P S → List Best → Taken P S
-closed_reply c e h down now stands k [] = answered h (reply_message h.1.item.flags h.1.key.id (NoPath 0 0)) k
+closed_reply c e h down now stands k [] = answered h (reply_message h.1.item.flags h.1.key.id (no_path true true)) k
 closed_reply c e h down now stands k (b ∷ bs) =
     cond (nat_lt (free now k.keys) (length (b ∷ bs)))
     (answered h (busy h.1.item.flags h.1.key.id) k)

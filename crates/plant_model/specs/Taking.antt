@@ -4,6 +4,9 @@ use Rattle.dom_base.specs.declared.names.As.{As}
 use Rattle.dom_base.specs.declared.addr.Addr.{Addr}
 use Rattle.dom_base.specs.declared.names.Peer.{Peer}
 use Rattle.dom_base.specs.declared.names.Peer.TheVariants.{Inner}
+use Rattle.pcep_codes.specs.declared.errors.TheConstants as errors
+use Rattle.pcep_codes.specs.declared.notices.TheConstants as notices
+use Rattle.pcep_codes.specs.declared.no_paths.TheConstants as no_paths
 use Rattle.pcep_subobjects.specs.declared.hop.Hop.{Hop}
 use Rattle.pcep_messages.specs.declared.message.Message.{Message}
 use Rattle.pcep_messages.specs.declared.message.Message.TheVariants as messages
@@ -109,20 +112,20 @@ staged h stage k = record k { pending = written_of k.pending h.0 (at_stage stage
 abbrev pub made_ready : {P : Type 0} {S : Type 0} → Codec → Row P → Answer → Element P S → Taken P S
 made_ready c h (Paths ps) k = silent (staged h (Ready (branches_in c h.1.item.wanted.query.metric ps)) k)
 made_ready c h (NoPath nature vector) k =
-    cond (nature == 0)
+    cond (nature == no_paths.NONE_FOUND)
     (silent (staged h (Ready []) k))
     (answered h (reply_message h.1.item.flags h.1.key.id unavailable) k)
 
 -- A reply to a request that waits. The parent's is passed on as it is.
 abbrev pub take_answer : {P : Type 0} {S : Type 0} → Codec → Peer → Reply → Element P S → Option (Row P) → Taken P S
-take_answer c p r k None = only p (error_message (Some (r.flags, r.id)) 8 0) k
+take_answer c p r k None = only p (error_message (Some (r.flags, r.id)) errors.UNKNOWN_REQUEST.0 errors.UNKNOWN_REQUEST.1) k
 take_answer c p r k (Some h) =
     cond (same_peer p the_parent) (answered h (reply_message h.1.item.flags h.1.key.id r.answer) k) (made_ready c h r.answer k)
 
 abbrev pub take_reply : {P : Type 0} {S : Type 0} → Codec → Peer → Reply → Element P S → Taken P S
 take_reply c p r k = take_answer c p r k (waiting p r.id k.pending.rows)
 
--- the next has no room (1/2), or the peer cancels (1/1)
+-- the next has no room, or the peer cancels
 abbrev pub told_busy : {P : Type 0} {S : Type 0} → Element P S → Option (Row P) → Taken P S
 told_busy k None = silent k
 told_busy k (Some h) = answered h (busy h.1.item.flags h.1.key.id) k
@@ -140,9 +143,9 @@ take_cancel p rp k = cancelled k (number_of k.pending p rp.1)
 -- the steps of one id of a notice, in order
 abbrev pub notice_steps : {P : Type 0} {S : Type 0} → List (ℕ × ℕ) → List (Peer → ℕ × ℕ → Element P S → Taken P S)
 notice_steps kinds =
-    cond (has_pair 1 2 kinds)
-    (cond (has_pair 1 1 kinds) (take_busy ∷ take_cancel ∷ []) (take_busy ∷ []))
-    (cond (has_pair 1 1 kinds) (take_cancel ∷ []) [])
+    cond (has_pair notices.BUSY.0 notices.BUSY.1 kinds)
+    (cond (has_pair notices.CANCELLED.0 notices.CANCELLED.1 kinds) (take_busy ∷ take_cancel ∷ []) (take_busy ∷ []))
+    (cond (has_pair notices.CANCELLED.0 notices.CANCELLED.1 kinds) (take_cancel ∷ []) [])
 
 abbrev pub take_notice : {P : Type 0} {S : Type 0} → Peer → Notice → Element P S → Taken P S
 take_notice p n = each (λ rp. each (λ step. step p rp) (notice_steps n.kinds)) n.ids
@@ -151,8 +154,10 @@ take_notice p n = each (λ rp. each (λ step. step p rp) (notice_steps n.kinds))
 -- that the chain is not available.
 abbrev pub error_answer : ℕ × ℕ → ℕ → ℕ → List Message
 error_answer e flags x =
-    cond (has_pair 8 0 (e ∷ [])) []
-    (cond (has_pair e.0 e.1 ((4, 4) ∷ (13, 1) ∷ [])) (error_message (Some (flags, x)) 13 1 ∷ []) (reply_message flags x unavailable ∷ []))
+    cond (has_pair errors.UNKNOWN_REQUEST.0 errors.UNKNOWN_REQUEST.1 (e ∷ [])) []
+    (cond (has_pair e.0 e.1 (errors.PARAMETER_NOT_SERVED ∷ errors.CHAIN_FAILED ∷ []))
+    (error_message (Some (flags, x)) errors.CHAIN_FAILED.0 errors.CHAIN_FAILED.1 ∷ [])
+    (reply_message flags x unavailable ∷ []))
 
 abbrev pub told_error : {P : Type 0} {S : Type 0} → Row P → Element P S → List Message → Taken P S
 told_error h k [] = silent k

@@ -6,6 +6,7 @@ use Rattle.plant_sessions.specs.declared.link.Link.TheInside.{Inside}
 abbrev pub link_of : Inside → Joined
 link_of a = record { line = record { lower = a.below; upper = a.above }; lower = a.lower; upper = a.upper }
 
--- the number of the lower session
-abbrev pub KeepsNumber : Inside → Type 0
-KeepsNumber a = a.lower.kept.session.offer.sid ≡ a.sid
+-- the numbers of both sessions
+pub record KeepsNumbers (a : Inside) : Type 0 where
+  pub lower : a.lower.kept.session.offer.sid ≡ a.lower_sid
+  pub upper : a.upper.kept.session.offer.sid ≡ a.upper_sid

@@ -1,7 +1,8 @@
 //! An inner link, between two elements or an element and the parent.
-ghost use Rattle.std.specs.Prelude.{◌≡◌, [], drop, length, slice_get, Some, IfOk, OnOk};
+ghost use Rattle.std.specs.Prelude.{◌≡◌, [], drop, length, not, slice_get, Some, IfOk, OnOk};
 ghost use Rattle.std.specs.Option.{option_map};
 ghost use Rattle.plant_queues.specs.Messages.{Covers};
+ghost use Rattle.plant_model.specs.Names.{is_empty};
 ghost use Rattle.plant_model.specs.RealWire.{wire};
 ghost use Rattle.plant_model.specs.Deeds as deeds;
 ghost use Rattle.plant_sessions.specs.Ends as ends;
@@ -31,7 +32,8 @@ pub struct Link {
     alloc: Global,
     below: As,
     above: As,
-    sid: u8,
+    lower_sid: u8,
+    upper_sid: u8,
     lower: Side,
     upper: Side,
 }
@@ -41,11 +43,11 @@ impl Model for Link {
 
     ghost Value = { Joined };
 
-    ghost use Rattle.plant_sessions.specs.LinkFields.{link_of, KeepsNumber};
+    ghost use Rattle.plant_sessions.specs.LinkFields.{link_of, KeepsNumbers};
 
     ghost view = { link_of };
 
-    ghost invariant = { KeepsNumber };
+    ghost invariant = { KeepsNumbers };
 }
 
 impl Link {
@@ -59,7 +61,8 @@ impl Link {
             alloc,
             below: lower,
             above: upper,
-            sid: 0,
+            lower_sid: 0,
+            upper_sid: 0,
             lower: Side::new(alloc, 0, Tick(0)),
             upper: Side::new(alloc, 0, Tick(0)),
         }
@@ -97,6 +100,13 @@ impl Link {
             End::Lower => self.lower.set_session(session),
             End::Upper => self.upper.set_session(session),
         }
+    }
+
+    /// Whether a message that an end has sent is on its way.
+    pub fn has_sent(&self, from: End) -> bool
+        ensures { result ≡ not (is_empty (at_end from self.now).kept.out) }
+    {
+        self.side(from).first().is_some()
     }
 
     /// The first message that an end has sent, as the session at the other end takes it. It stays in
@@ -169,11 +179,14 @@ impl Link {
         self.upper.clear();
     }
 
-    /// The number of the sessions that come after those of now.
-    pub fn next_sid(&self) -> u8
-        ensures { result ≡ next_sid self.now.lower.kept.session }
+    /// The number of the session that comes after that of now at an end.
+    pub fn next_sid(&self, at: End) -> u8
+        ensures { result ≡ next_sid (at_end at self.now).kept.session }
     {
-        self.sid.wrapping_add(1)
+        match at {
+            End::Lower => self.lower_sid.wrapping_add(1),
+            End::Upper => self.upper_sid.wrapping_add(1),
+        }
     }
 
     /// The session at an end is made anew and begun: it sends its Open. It takes no memory.
@@ -186,9 +199,12 @@ impl Link {
         match at {
             End::Lower => {
                 self.lower.begin(sid, now);
-                self.sid = sid;
+                self.lower_sid = sid;
             }
-            End::Upper => self.upper.begin(sid, now),
+            End::Upper => {
+                self.upper.begin(sid, now);
+                self.upper_sid = sid;
+            }
         }
     }
 }

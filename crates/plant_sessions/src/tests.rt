@@ -130,7 +130,7 @@ fn a_link_begins_and_breaks(rt: HostRuntime) -> Result<(), Fail> {
     assert_eq!(rt; sid_of_open(link.first_input(End::Lower)?), Some(0));
     link.drop_first(End::Lower);
     assert!(rt; link.first_input(End::Lower)?.is_none());
-    assert_eq!(rt; link.next_sid(), 1);
+    assert_eq!(rt; link.next_sid(End::Lower), 1);
     link.clear();
     assert!(rt; link.first_input(End::Upper)?.is_none());
     let (lower, upper) = link.line();

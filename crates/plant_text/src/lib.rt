@@ -25,7 +25,7 @@ pub use fault::{NetError, NetFault};
 pub use law::settings_are_sound;
 pub use limits::{
     DENY_MAX, ELEMENTS_MAX, KEY_LIFE_MAX, LINKS_MAX, NAME_MAX, PARENT_LINKS_MAX, PEERS_MAX,
-    ROW_ENTRIES_MAX, WORKERS_MAX,
+    ROW_ENTRIES_MAX, WORKERS_MAX, limits_are_numbers,
 };
 pub use line::{LineError, LineEvent};
 pub use lines::{read_blind_line, read_line};

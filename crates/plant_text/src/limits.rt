@@ -1,4 +1,6 @@
 //! How much the settings of a network may have.
+ghost use Rattle.plant_text.specs.Limits.{LimitsAreNumbers};
+
 /// How many elements a network may have, besides one parent.
 pub const ELEMENTS_MAX: u32 = 16;
 
@@ -26,3 +28,8 @@ pub const WORKERS_MAX: u32 = 8;
 /// How many different entries the rows of a border table may have: the nodes at which paths may enter a domain,
 /// and the node that a job asks from.
 pub const ROW_ENTRIES_MAX: usize = 65;
+
+/// A law: the limits are the numbers that the definition says.
+pub fn limits_are_numbers()
+    ensures { LimitsAreNumbers }
+{}

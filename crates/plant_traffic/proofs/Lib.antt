@@ -1,3 +1,9 @@
 pub mod PeerLemmas
-pub mod FeedLemmas
-pub mod DrainLemmas
+pub mod AccessLemmas
+pub mod PlaceLemmas
+pub mod SideLemmas
+pub mod RowLemmas
+pub mod FreshLemmas
+pub mod FlowLemmas
+pub mod HappenLemmas
+pub mod WaitLemmas

@@ -1,3 +1,10 @@
 -- for readers
-pub mod Peers
+pub mod Flow
+pub mod Carried
 pub mod Happenings
+pub mod Waiting
+-- inner
+pub mod Sides
+pub mod Peers
+pub mod Accesses
+pub mod TrafficFields

@@ -1,87 +1,117 @@
--- Outside peers by their numbers, and what comes of a feed and a drain.
-use Rattle.std.specs.Prelude.{◌≡◌, ◌==◌, ℕ, Bool, true, false, List, Option, Some, None, Result, Err, IfOk, OnOk, OnErr, slice_get, slice_set, length, All}
-use Rattle.std.specs.List.{slice_index_or}
+-- Outside peers by their numbers.
+use Rattle.std.specs.Prelude.{◌≡◌, ◌==◌, ℕ, Bool, true, false, List, [], Option, Some, None, Result, Err, IfOk, OnOk, OnErr, slice_get, drop, length}
 use Rattle.std.specs.Option.{option_map}
+use Rattle.dom_base.specs.declared.names.NoMemory.{NoMemory as Want}
+use Rattle.dom_base.specs.declared.names.Tick.{Tick}
 use Rattle.pcep_framing.specs.Frames.{joined}
+use Rattle.plant_queues.specs.Messages.{Spare}
 use Rattle.plant_model.specs.declared.outcome.Refused.{Refused}
 use Rattle.plant_model.specs.declared.outcome.Refused.TheVariants.{NoSuchPeer, NotHolder, NoMemory}
+use Rattle.plant_model.specs.Names.{set_number}
 use Rattle.plant_model.specs.Wire.{Bytes}
 use Rattle.plant_model.specs.State as model
+use Rattle.plant_model.specs.Deeds.{on_connection, with_inbox, with_more}
 use Rattle.plant_model.specs.Events.{is_down, drained}
 use Rattle.plant_sessions.specs.declared.access.Access.{Access}
-use Rattle.plant_sessions.specs.Ends.{Connected, with_kept, fed_while_up}
+use Rattle.plant_sessions.specs.Ends.{Connected, fed_while_up}
+use Rattle.plant_sessions.specs.Rooms.{Queue, KeepsRoom, Grows, Spends, Frees, queue}
+use Rattle.plant_traffic.specs.Flow.{just_opened, no_room, out_of}
 use Rattle.plant_traffic.specs.declared.peers.Drained.{Drained}
-
--- ---- what the model has of them
 
 abbrev pub never_open : Access
 never_open = record { opened = 0; connection = None }
-
-abbrev pub AreNew : ℕ → List Access → Type 0
-AreNew count as' = (length as' ≡ count) × All (λ a. a ≡ never_open) as'
 
 abbrev pub access_of : Access → model.Access
 access_of a = record { opened = a.opened; connection = option_map (λ (x : Connected). x.kept) a.connection }
 
 -- beyond the last peer nobody was ever open
-abbrev pub peer_or : Option Access → model.Access
-peer_or None = record { opened = 0; connection = None }
-peer_or (Some a) = access_of a
+abbrev pub access_or : Option Access → model.Access
+access_or None = record { opened = 0; connection = None }
+access_or (Some a) = access_of a
 
-abbrev pub peer_at : List Access → ℕ → model.Access
-peer_at as' = λ i. peer_or (slice_get as' i)
+abbrev pub room_of : Option Connected → Spare
+room_of None = no_room
+room_of (Some x) = x.spare
+
+abbrev pub room_or : Option Access → Spare
+room_or None = no_room
+room_or (Some a) = room_of a.connection
+
+-- ---- peers as contracts see them
+
+pub record Guests : Type 0 where
+  pub count : ℕ
+  pub accesses : ℕ → model.Access
+  pub room : ℕ → Spare
+
+abbrev pub guests_of : List Access → Guests
+guests_of as' = record { count = length as'; accesses = λ i. access_or (slice_get as' i); room = λ i. room_or (slice_get as' i) }
+
+abbrev pub no_guests : ℕ → Guests
+no_guests count = record { count = count; accesses = λ i. record { opened = 0; connection = None }; room = λ i. no_room }
+
+abbrev pub set_guest : ℕ → model.Access → Spare → Guests → Guests
+set_guest i a spare g = record g { accesses = set_number i a g.accesses; room = set_number i spare g.room }
+
+-- a connection changes, if it is open
+abbrev pub change_guest : ℕ → (model.Connection → model.Connection) → Guests → Guests
+change_guest i f g = record g { accesses = set_number i (on_connection f (g.accesses i)) g.accesses }
+
+abbrev pub drop_first : model.Connection → model.Connection
+drop_first x = with_inbox (drop 1 x.inbox) x
+
+-- ---- opened, and room
+
+abbrev pub queue_to : ℕ → Guests → Queue
+queue_to i g = queue (out_of (g.accesses i).connection) (g.room i)
+
+-- its queue keeps room for what its session says of itself
+pub record Connects (i holder : ℕ) (now : Tick) (old : Guests) (r : Result (Unit {0}) Want) (new : Guests) : Type 0 where
+  pub ok : OnOk r (new ≡ set_guest i (just_opened holder now (old.accesses i)) (new.room i) old)
+  pub room : OnOk r (KeepsRoom 0 0 (queue_to i new))
+  pub err : OnErr r (new ≡ old)
+
+-- the room of one queue, which is no less
+pub record GrowsGuest (i messages bytes : ℕ) (old : Guests) (r : Result (Unit {0}) Want) (new : Guests) : Type 0 where
+  pub same : new ≡ record old { room = set_number i (new.room i) old.room }
+  pub room : Grows (old.room i) (new.room i)
+  pub ok : OnOk r (KeepsRoom messages bytes (queue_to i new))
+
+pub record SendsGuest (i : ℕ) (message : Bytes) (old new : Guests) : Type 0 where
+  pub kept : new ≡ record (change_guest i (with_more message) old) { room = set_number i (new.room i) old.room }
+  pub room : Spends message (old.room i) (new.room i)
 
 -- ---- a feed
 
-pub record FeedsOpen (piece : Bytes) (x : Connected) (old : Access) (r : Result (Unit {0}) Refused) (new : Access) : Type 0 where
-  pub ok : OnOk r (new ≡ record old { connection = Some (with_kept (fed_while_up piece x.kept) x) })
+pub record FeedsOpen (i : ℕ) (piece : Bytes) (old : Guests) (r : Result (Unit {0}) Refused) (new : Guests) : Type 0 where
+  pub ok : OnOk r (new ≡ change_guest i (fed_while_up piece) old)
   pub err : OnErr r ((r ≡ Err NoMemory) × (new ≡ old))
 
-abbrev pub FeedsConnection : Bytes → Option Connected → Access → Result (Unit {0}) Refused → Access → Type 0
-FeedsConnection piece None old r new = (r ≡ Err NoSuchPeer) × (new ≡ old)
-FeedsConnection piece (Some x) old r new = FeedsOpen piece x old r new
+abbrev pub FeedsConnection : ℕ → Bytes → Option model.Connection → Guests → Result (Unit {0}) Refused → Guests → Type 0
+FeedsConnection i piece None old r new = (r ≡ Err NoSuchPeer) × (new ≡ old)
+FeedsConnection i piece (Some x) old r new = FeedsOpen i piece old r new
 
-abbrev pub FeedsAccess : Bytes → Access → Result (Unit {0}) Refused → Access → Type 0
-FeedsAccess piece old r new = FeedsConnection piece old.connection old r new
-
-pub record FeedsPlace (i : ℕ) (piece : Bytes) (old : List Access) (r : Result (Unit {0}) Refused) (new : List Access) : Type 0 where
-  pub next : Access
-  pub is : new ≡ slice_set old i next
-  pub feeds : FeedsAccess piece (slice_index_or old i never_open) r next
-
-abbrev pub FeedsAt : ℕ → Bytes → Option Access → List Access → Result (Unit {0}) Refused → List Access → Type 0
-FeedsAt i piece None old r new = (r ≡ Err NoSuchPeer) × (new ≡ old)
-FeedsAt i piece (Some a) old r new = FeedsPlace i piece old r new
-
-abbrev pub FeedsPeer : ℕ → Bytes → List Access → Result (Unit {0}) Refused → List Access → Type 0
-FeedsPeer i piece old r new = FeedsAt i piece (slice_get old i) old r new
+abbrev pub FeedsPeer : ℕ → Bytes → Guests → Result (Unit {0}) Refused → Guests → Type 0
+FeedsPeer i piece old r new = FeedsConnection i piece (old.accesses i).connection old r new
 
 -- ---- a drain
 
-pub record DrainsOpen (x : Connected) (old : Access) (r : Result Drained Refused) (new : Access) : Type 0 where
-  pub bytes : IfOk r (λ d. d ≡ record { bytes = joined x.kept.out; ended = is_down x.kept.session.phase })
-  pub ok : OnOk r ((y : Connected) × (y.kept ≡ drained x.kept) × (new ≡ record old { connection = Some y }))
+abbrev pub IsDrained : model.Connection → Result Drained Refused → Type 0
+IsDrained x r = IfOk r (λ d. d ≡ record { bytes = joined x.out; ended = is_down x.session.phase })
+
+pub record DrainsOpen (i : ℕ) (x : model.Connection) (old : Guests) (r : Result Drained Refused) (new : Guests) : Type 0 where
+  pub bytes : IsDrained x r
+  pub ok : OnOk r (new ≡ record (change_guest i drained old) { room = set_number i (new.room i) old.room })
+  pub room : OnOk r (Frees (queue x.out (old.room i)) (queue [] (new.room i)))
   pub err : OnErr r ((r ≡ Err NoMemory) × (new ≡ old))
 
-abbrev pub DrainsHeld : Bool → Connected → Access → Result Drained Refused → Access → Type 0
-DrainsHeld false x old r new = (r ≡ Err (NotHolder x.kept.holder)) × (new ≡ old)
-DrainsHeld true x old r new = DrainsOpen x old r new
+abbrev pub DrainsHeld : ℕ → Bool → model.Connection → Guests → Result Drained Refused → Guests → Type 0
+DrainsHeld i false x old r new = (r ≡ Err (NotHolder x.holder)) × (new ≡ old)
+DrainsHeld i true x old r new = DrainsOpen i x old r new
 
-abbrev pub DrainsConnection : ℕ → Option Connected → Access → Result Drained Refused → Access → Type 0
-DrainsConnection holder None old r new = (r ≡ Err NoSuchPeer) × (new ≡ old)
-DrainsConnection holder (Some x) old r new = DrainsHeld (x.kept.holder == holder) x old r new
+abbrev pub DrainsConnection : ℕ → ℕ → Option model.Connection → Guests → Result Drained Refused → Guests → Type 0
+DrainsConnection i holder None old r new = (r ≡ Err NoSuchPeer) × (new ≡ old)
+DrainsConnection i holder (Some x) old r new = DrainsHeld i (x.holder == holder) x old r new
 
-abbrev pub DrainsAccess : ℕ → Access → Result Drained Refused → Access → Type 0
-DrainsAccess holder old r new = DrainsConnection holder old.connection old r new
-
-pub record DrainsPlace (i holder : ℕ) (old : List Access) (r : Result Drained Refused) (new : List Access) : Type 0 where
-  pub next : Access
-  pub is : new ≡ slice_set old i next
-  pub drains : DrainsAccess holder (slice_index_or old i never_open) r next
-
-abbrev pub DrainsAt : ℕ → ℕ → Option Access → List Access → Result Drained Refused → List Access → Type 0
-DrainsAt i holder None old r new = (r ≡ Err NoSuchPeer) × (new ≡ old)
-DrainsAt i holder (Some a) old r new = DrainsPlace i holder old r new
-
-abbrev pub DrainsPeer : ℕ → ℕ → List Access → Result Drained Refused → List Access → Type 0
-DrainsPeer i holder old r new = DrainsAt i holder (slice_get old i) old r new
+abbrev pub DrainsPeer : ℕ → ℕ → Guests → Result Drained Refused → Guests → Type 0
+DrainsPeer i holder old r new = DrainsConnection i holder (old.accesses i).connection old r new

@@ -1,8 +1,14 @@
-//! What comes to a network and leaves it, whatever its elements are: its outside peers by their numbers.
+//! What is on its way in a network, whatever its elements are: its clock, its outside peers, its inner
+//! links, and the messages of a step.
 #![tactic(auto)]
 
+mod accesses;
+mod links;
 mod peers;
 #[cfg(test)]
 mod tests;
+mod traffic;
+mod waiting;
 
-pub use peers::{Drained, Peers};
+pub use peers::Drained;
+pub use traffic::Traffic;

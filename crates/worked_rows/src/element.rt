@@ -2,11 +2,14 @@
 ghost use Rattle.std.specs.Prelude.{◌≡◌, ◌≤◌, IfOk, IfSome, OnOk};
 ghost use Rattle.pce_element.specs.Messages.{HasOnePart};
 
+mod endings;
+mod limits;
 mod sequences;
 
 use border_costs::solve;
 use disclosure::{Class, Deny};
 use dom_base::{Addr, As, List, Peer, Tick};
+use endings::{ENDINGS, KEPT};
 use line_text::{line_count, read_hex};
 use pce_element::Element;
 use pcep_messages::{Message, read_message, write_message};
@@ -14,6 +17,7 @@ use plant_model::{Lost, Outputs};
 use sequences::{GROUPS, sequences};
 use std::alloc::Global;
 use std::test::Fail;
+use te_generations::LoadError;
 use te_text::read_topology;
 
 /// A message to a peer, in hexadecimal digits.
@@ -22,12 +26,18 @@ pub type Says = (Peer, &'static [u8]);
 /// What happens to an element, and what it says.
 pub enum Step {
     Load(&'static [u8]),
+    /// A topology is refused, since as many as may be are current or pinned.
+    LoadFull(&'static [u8]),
+    /// Requests of domain 1 with the ids 2 to 15, each before this topology is loaded.
+    PinEach(&'static [u8]),
     Up(Peer),
     /// With the lost requests: whom they are of, their flags and their ids.
     Down(Peer, &'static [(Peer, u32, u32)]),
     Tick(u64),
     Take(Peer, &'static [u8], &'static [Says]),
     Solve(u64, Says),
+    /// A solved job is handed back, and its request can still be solved.
+    GiveUp(u64),
 }
 
 /// What happens one after the other.
@@ -99,7 +109,8 @@ fn one_part(message: Message) -> Option<Message>
     }
 }
 
-fn load(alloc: Global, element: &mut Element, text: &'static [u8]) -> Result<(), Fail>
+// The number of a topology; none where as many as may be are live.
+fn load(alloc: Global, element: &mut Element, text: &[u8]) -> Result<Option<u64>, Fail>
     ensures { OnOk result (element.new.losing ≡ element.old.losing) }
 {
     if line_count(text) > 1_000 {
@@ -109,8 +120,11 @@ fn load(alloc: Global, element: &mut Element, text: &'static [u8]) -> Result<(),
     if topology.own() != element.own() {
         return Err(Fail::from("another domain"));
     }
-    element.load(topology)?;
-    Ok(())
+    match element.load(topology) {
+        Ok(number) => Ok(Some(number)),
+        Err(LoadError::Full) => Ok(None),
+        Err(LoadError::NoMemory) => Err(Fail::from("no memory")),
+    }
 }
 
 // Whether exactly these requests are lost.
@@ -142,7 +156,20 @@ fn take(
     ensures { OnOk result (element.new.losing.element.keys ≡ element.old.losing.element.keys) }
 {
     let frame = read_hex(alloc, text)?;
-    let message = read_message(alloc, frame.as_slice())?;
+    take_frame(alloc, element, from, frame.as_slice(), now, expected)
+}
+
+fn take_frame(
+    alloc: Global,
+    element: &mut Element,
+    from: Peer,
+    frame: &[u8],
+    now: Tick,
+    expected: &[Says],
+) -> Result<bool, Fail>
+    ensures { OnOk result (element.new.losing.element.keys ≡ element.old.losing.element.keys) }
+{
+    let message = read_message(alloc, frame)?;
     let Some(message) = one_part(message) else {
         return Err(Fail::from("more than one part"));
     };
@@ -152,12 +179,72 @@ fn take(
     Ok(held)
 }
 
+// A request of domain 1 under this id, from 10.1.0.1 to 10.3.0.9 through domains 2 and 3.
+fn asked(alloc: Global, id: u16) -> Result<Vec<u8>, Fail> {
+    let mut frame = read_hex(alloc, b"20030034 0212000c 00000040 0000")?;
+    frame.push((id >> 8) as u8)?;
+    frame.push((id & 255) as u8)?;
+    let rest = b"0412000c 0a010001 0a030009 0612000c 00000202 00000000 0a12000c 20040002 20040003";
+    frame.extend_from_slice(read_hex(alloc, rest)?.as_slice())?;
+    Ok(frame)
+}
+
+// The same request sent on.
+fn sent_on(alloc: Global, id: u16) -> Result<Vec<u8>, Fail> {
+    let mut frame = read_hex(alloc, b"20030030 0212000c 00000040 0000")?;
+    frame.push((id >> 8) as u8)?;
+    frame.push((id & 255) as u8)?;
+    let rest = b"0412000c 0a010001 0a030009 0612000c 00000202 00000000 0a120008 20040003";
+    frame.extend_from_slice(read_hex(alloc, rest)?.as_slice())?;
+    Ok(frame)
+}
+
+// Whether one message is sent, and is this.
+fn says_one(alloc: Global, outputs: &Outputs, to: Peer, frame: &[u8]) -> Result<bool, Fail> {
+    let [output] = outputs.as_slice() else {
+        return Ok(false);
+    };
+    let mut said = Vec::new(alloc);
+    write_message(alloc, &output.message, &mut said)?;
+    Ok(output.to == to && said.as_slice() == frame)
+}
+
+// Whether a request of domain 1 is sent on under its own id.
+fn ask(alloc: Global, element: &mut Element, id: u16, now: Tick) -> Result<bool, Fail>
+    ensures { OnOk result (element.new.losing.element.keys ≡ element.old.losing.element.keys) }
+{
+    let message = read_message(alloc, asked(alloc, id)?.as_slice())?;
+    let Some(message) = one_part(message) else {
+        return Err(Fail::from("more than one part"));
+    };
+    let from = Peer::Inner(As(1));
+    let plan = element.take(from, class_of(from), message, now)?;
+    let frame = sent_on(alloc, id)?;
+    let held = says_one(alloc, plan.outputs(), Peer::Inner(As(3)), frame.as_slice())?;
+    element.make(plan);
+    Ok(held)
+}
+
+fn pin_each(alloc: Global, element: &mut Element, text: &[u8], now: Tick) -> Result<bool, Fail>
+    ensures { OnOk result (element.new.losing.element.keys ≡ element.old.losing.element.keys) }
+{
+    for id in 2..16 {
+        if !ask(alloc, element, id, now)? {
+            return Ok(false);
+        }
+        if load(alloc, element, text)?.is_none() {
+            return Ok(false);
+        }
+    }
+    Ok(true)
+}
+
 fn solve_job(
     alloc: Global,
     element: &mut Element,
     number: u64,
     now: Tick,
-    expected: Says,
+    expected: Option<Says>,
 ) -> Result<bool, Fail>
     requires { element.old.losing.element.keys.clock ≤ now.0 }
     ensures { OnOk result (element.new.losing.element.keys.clock ≤ now.0) }
@@ -170,9 +257,30 @@ fn solve_job(
     let Ok(plan) = element.commit(solved, now) else {
         return Err(Fail::from("no plan"));
     };
-    let held = says(alloc, plan.outputs(), &[expected])?;
+    let held = match expected {
+        Some(expected) => says(alloc, plan.outputs(), &[expected])?,
+        None => true,
+    };
     element.make(plan);
     Ok(held)
+}
+
+fn give_up(alloc: Global, element: &mut Element, number: u64, now: Tick) -> Result<bool, Fail>
+    requires { element.old.losing.element.keys.clock ≤ now.0 }
+    ensures { OnOk result (element.new.losing.element.keys.clock ≤ now.0) }
+{
+    let found = element.job(number)?;
+    let Some(job) = found else {
+        return Err(Fail::from("no job"));
+    };
+    let solved = solve(alloc, &job)?;
+    let Ok(plan) = element.commit(solved, now) else {
+        return Err(Fail::from("no plan"));
+    };
+    let Some(solved) = plan.back() else {
+        return Ok(false);
+    };
+    Ok(solved.number() == number && element.ready(0) == Some(number))
 }
 
 // The moment after a step; none where something else is said.
@@ -181,10 +289,9 @@ fn after(alloc: Global, element: &mut Element, step: &Step, now: Tick) -> Result
     ensures { IfOk result (λ next. IfSome next (λ next. element.new.losing.element.keys.clock ≤ next.0)) }
 {
     let held = match step {
-        Step::Load(text) => {
-            load(alloc, element, text)?;
-            true
-        }
+        Step::Load(text) => load(alloc, element, text)?.is_some(),
+        Step::LoadFull(text) => load(alloc, element, text)?.is_none(),
+        Step::PinEach(text) => pin_each(alloc, element, text, now)?,
         Step::Up(peer) => {
             element.up(*peer);
             true
@@ -201,7 +308,8 @@ fn after(alloc: Global, element: &mut Element, step: &Step, now: Tick) -> Result
             return Ok(Some(Tick(*tick)));
         }
         Step::Take(from, text, expected) => take(alloc, element, *from, text, now, expected)?,
-        Step::Solve(number, expected) => solve_job(alloc, element, *number, now, *expected)?,
+        Step::Solve(number, expected) => solve_job(alloc, element, *number, now, Some(*expected))?,
+        Step::GiveUp(number) => give_up(alloc, element, *number, now)?,
     };
     Ok(if held { Some(now) } else { None })
 }
@@ -226,6 +334,23 @@ fn each_sequence_holds(rt: HostRuntime) -> Result<(), Fail> {
         for sequence in sequences(group) {
             assert!(rt; holds(rt.alloc(), sequence.steps)?, "{}", sequence.about);
         }
+    }
+    Ok(())
+}
+
+// A topology is free once its request has ended, however it ends.
+#[test]
+fn each_end_frees_a_topology(rt: HostRuntime) -> Result<(), Fail> {
+    for sequence in ENDINGS {
+        assert!(rt; holds(rt.alloc(), sequence.steps)?, "{}", sequence.about);
+    }
+    Ok(())
+}
+
+#[test]
+fn a_request_that_is_pending_keeps_its_topology(rt: HostRuntime) -> Result<(), Fail> {
+    for sequence in KEPT {
+        assert!(rt; holds(rt.alloc(), sequence.steps)?, "{}", sequence.about);
     }
     Ok(())
 }

@@ -4,11 +4,13 @@ ghost use Rattle.pce_parent.specs.Solution.{IsWeighed};
 
 mod calls;
 mod cases;
+mod drawn;
 
 use cases::CASES;
 use dom_base::{
     Addr, As, Cost, Excluded, Exclusion, Link, List, Metric, NoMemory, ParentLink, Query,
 };
+use drawn::DRAWN;
 use pce_parent::solve_border;
 use pcep_subobjects::{Hop, strict_hop};
 use plant_model::{BorderJob, ChildRow};
@@ -188,6 +190,14 @@ fn holds(alloc: Global, case: &Case) -> Result<bool, Fail> {
 #[test]
 fn border_graphs_have_these_answers(rt: HostRuntime) -> Result<(), Fail> {
     for case in &CASES {
+        assert!(&rt; holds(rt.alloc(), case)?);
+    }
+    Ok(())
+}
+
+#[test]
+fn graphs_drawn_at_random_have_the_answers_of_a_list_of_walks(rt: HostRuntime) -> Result<(), Fail> {
+    for case in &DRAWN {
         assert!(&rt; holds(rt.alloc(), case)?);
     }
     Ok(())

@@ -1,4 +1,4 @@
-use Rattle.std.proofs.Common.{◌≡◌, ◌∙◌}
+use Rattle.std.proofs.Common.{◌∙◌}
 use Rattle.std.proofs.lemmas.Result.{IfOk-weaker}
 use Rattle.pce_element.proofs.CommitLemmas.{joined_paths}
 use Rattle.pce_element.proofs.committing.paths_by.Goals as goal

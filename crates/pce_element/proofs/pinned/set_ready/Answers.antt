@@ -1,4 +1,4 @@
-use Rattle.std.proofs.Common.{◌≡◌, ◌∙◌, ap, sym}
+use Rattle.std.proofs.Common.{◌∙◌, ap, sym}
 use Rattle.dom_base.specs.Room.{Room}
 use Rattle.request_table.specs.Pending.{Pending}
 use Rattle.request_table.specs.Lends.{written_of}

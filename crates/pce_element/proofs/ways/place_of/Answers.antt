@@ -1,4 +1,4 @@
-use Rattle.std.proofs.Common.{◌≡◌, ◌∙◌, ◌+◌, ◌<◌, suc, true, false, sym, ap, subst, arith, get_or, length, Bool}
+use Rattle.std.proofs.Common.{◌≡◌, ◌∙◌, ◌+◌, suc, true, false, sym, ap, subst, arith, get_or}
 use Rattle.dom_base.specs.declared.names.Peer.{Peer}
 use Rattle.request_table.specs.Pending.{same_peer}
 use Rattle.plant_model.specs.Element.{Way}

@@ -1,6 +1,13 @@
 use Rattle.std.proofs.Common.{sym, ◌∙◌, arith}
+use Rattle.pce_parent.proofs.Going.{row_ends, link_ends}
 use Rattle.pce_parent.proofs.Walking.{set_out, arrive, go_on}
 use Rattle.pce_parent.proofs.route.chosen_hops.Goals as goal
+
+pub next_arcs-requires : goal.next_arcs-requires
+next_arcs-requires c = row_ends c.args.job.now c.args.spots.now c.args.rows.now c.args.links.now c.args.costs.now c.requires.least
+
+pub next_arcs-requires-2 : goal.next_arcs-requires-2
+next_arcs-requires-2 c = link_ends c.args.job.now c.args.spots.now c.args.rows.now c.args.links.now c.args.costs.now c.requires.least
 
 pub loop-hops-init : goal.loop-hops-init
 loop-hops-init c = rw c.new-hops.ensures (set_out c.args.job.now c.args.spots.now c.args.costs.now c.args.start c.requires.stands)

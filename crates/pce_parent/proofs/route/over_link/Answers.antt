@@ -9,11 +9,8 @@ use Rattle.pce_parent.specs.Places.{IsAt}
 use Rattle.pce_parent.specs.Arcs.{IsSomeLinkArc}
 use Rattle.pce_parent.specs.Costs.{cost_at}
 use Rattle.pce_parent.specs.Tight.{IsChosen}
-use Rattle.pce_parent.proofs.Going.{link_heads, some_link_tight, link_sum, goes_by_link, goes_between}
+use Rattle.pce_parent.proofs.Going.{some_link_tight, link_sum, goes_by_link, goes_between}
 use Rattle.pce_parent.proofs.route.over_link.Goals as goal
-
-pub next_arc-requires : goal.next_arc-requires
-next_arc-requires c = link_heads c.args.job.now c.args._spots.now c.args._rows.now c.args.links.now c.args.costs.now c.requires.least
 
 pub unreachable-requires : goal.unreachable-requires
 unreachable-requires c =

@@ -9,11 +9,8 @@ use Rattle.pce_parent.specs.Places.{IsAt}
 use Rattle.pce_parent.specs.Arcs.{IsSomeRowArc}
 use Rattle.pce_parent.specs.Costs.{cost_at}
 use Rattle.pce_parent.specs.Tight.{IsChosen}
-use Rattle.pce_parent.proofs.Going.{row_heads, some_row_tight, row_sum, goes_by_row, goes_between}
+use Rattle.pce_parent.proofs.Going.{some_row_tight, row_sum, goes_by_row, goes_between}
 use Rattle.pce_parent.proofs.route.over_row.Goals as goal
-
-pub next_arc-requires : goal.next_arc-requires
-next_arc-requires c = row_heads c.args.job.now c.args._spots.now c.args.rows.now c.args._links.now c.args.costs.now c.requires.least
 
 pub unreachable-requires : goal.unreachable-requires
 unreachable-requires c =

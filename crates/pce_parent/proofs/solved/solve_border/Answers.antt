@@ -28,7 +28,7 @@ walk_of-requires c =
     let spots = c.in_ok-spots.spots.keys in
     let new : List (Option ℕ) = c.settle.new.costs in
     let first = c.in_ok-costs.ensures in
-    let long : length new ≡ c.in_ok-costs.costs.len = omega (arith, c.settle.ensures.reached.same_length, first.same_length, c.in_ok-costs.costs.ok.0) in
+    let long : length new ≡ c.in_ok-costs.costs.len = omega (arith, c.in_ok-settle.ensures.reached.same_length, first.same_length, c.in_ok-costs.costs.ok.0) in
     let costs : c.deref-5.result.now ≡ new = c.deref-5.ensures.value ∙ take_at new (drop (length new) c.in_ok-costs.costs.items) c.in_ok-costs.costs.len long in
     let rows : c.deref-3.result.now ≡ c.in_ok-rows.rows.items = c.deref-3.ensures.value in
     let links : c.deref-4.result.now ≡ c.in_ok-links.links.items = c.deref-4.ensures.value in
@@ -36,9 +36,9 @@ walk_of-requires c =
       vertices = c.in_ok-spots.ensures;
       row_arcs = subst (λ (as' : List Arc). AreRowArcs j spots (length j.rows) as') (sym rows) c.in_ok-rows.ensures;
       link_arcs = subst (λ (as' : List Arc). AreLinkArcs j spots (length j.links) as') (sym links) c.in_ok-links.ensures;
-      reached = subst (λ (cs : List (Option ℕ)). AreReached j spots cs) (sym costs) (subst (λ (ss : List Spot). AreReached j ss new) c.as_slice-2.ensures.keys c.settle.ensures.reached);
+      reached = subst (λ (cs : List (Option ℕ)). AreReached j spots cs) (sym costs) (subst (λ (ss : List Spot). AreReached j ss new) c.as_slice-2.ensures.keys c.in_ok-settle.ensures.reached);
       rows_relaxed = subst (λ (cs : List (Option ℕ)). All (IsRelaxed j.query.cap cs) c.deref-3.result.now) (sym costs)
-          (subst (λ (as' : List Arc). All (IsRelaxed j.query.cap new) as') (c.deref.ensures.value ∙ sym rows) c.settle.ensures.rows);
+          (subst (λ (as' : List Arc). All (IsRelaxed j.query.cap new) as') (c.deref.ensures.value ∙ sym rows) c.in_ok-settle.ensures.rows);
       links_relaxed = subst (λ (cs : List (Option ℕ)). All (IsRelaxed j.query.cap cs) c.deref-4.result.now) (sym costs)
-          (subst (λ (as' : List Arc). All (IsRelaxed j.query.cap new) as') (c.deref-2.ensures.value ∙ sym links) c.settle.ensures.links);
+          (subst (λ (as' : List Arc). All (IsRelaxed j.query.cap new) as') (c.deref-2.ensures.value ∙ sym links) c.in_ok-settle.ensures.links);
     }

@@ -1,7 +1,6 @@
-use Rattle.std.proofs.Common.{◌≡◌, ◌∙◌, List, ap}
+use Rattle.std.proofs.Common.{◌∙◌, List, ap}
 use Rattle.plant_text.specs.declared.settings.ElementRow.{ElementRow}
-use Rattle.plant_text.specs.declared.settings.DenyRow.{DenyRow}
-use Rattle.plant_text.specs.Settings.{Line, row_of, deny_at}
+use Rattle.plant_text.specs.Settings.{row_of, deny_at}
 use Rattle.plant_layout.specs.Lines.{others}
 use Rattle.pce_plant.specs.Fresh.{figures_from}
 use Rattle.pce_plant.proofs.FreshLemmas.{new_for, life_least, life_most}

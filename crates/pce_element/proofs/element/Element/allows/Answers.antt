@@ -1,4 +1,4 @@
-use Rattle.std.proofs.Common.{◌≡◌, ◌∙◌, not, List, ap}
+use Rattle.std.proofs.Common.{◌∙◌, not, List, ap}
 use Rattle.disclosure.specs.declared.class.Deny.{Deny}
 use Rattle.disclosure.specs.Policy as policy
 use Rattle.plant_model.specs.Element.{is_denied}

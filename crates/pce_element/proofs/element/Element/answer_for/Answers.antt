@@ -7,7 +7,7 @@ use Rattle.vspt_tree.specs.declared.branch.Branch.{Branch}
 use Rattle.plant_model.specs.Element.{Item}
 use Rattle.plant_model.specs.Plant.{Pin}
 use Rattle.pce_element.specs.Rows.{row_of}
-use Rattle.pce_element.proofs.CommitLemmas.{answers_for, job_there, own_heads, ready_stage}
+use Rattle.pce_element.proofs.CommitLemmas.{answers_for, own_heads, ready_stage}
 use Rattle.pce_element.proofs.element.Element.answer_for.Goals as goal
 
 pub answer_to-requires : goal.answer_to-requires

@@ -1,4 +1,4 @@
-use Rattle.std.proofs.Common.{◌≡◌, ◌∙◌, sym}
+use Rattle.std.proofs.Common.{◌∙◌, sym}
 use Rattle.pce_element.proofs.SearchLemmas.{asked_ended, asked_is_left, nobody_asked}
 use Rattle.pce_element.proofs.pinned.PinnedRequests.asked_still.Goals as goal
 

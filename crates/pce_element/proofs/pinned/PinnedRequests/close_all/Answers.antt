@@ -1,4 +1,4 @@
-use Rattle.std.proofs.Common.{◌≡◌, ◌<◌, length, arith}
+use Rattle.std.proofs.Common.{arith}
 use Rattle.std.proofs.lemmas.Option.{slice_get-get_or}
 use Rattle.pce_element.proofs.CloseLemmas.{closed_next}
 use Rattle.pce_element.proofs.pinned.PinnedRequests.close_all.Goals as goal

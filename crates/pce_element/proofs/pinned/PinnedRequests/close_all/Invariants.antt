@@ -1,4 +1,4 @@
-use Rattle.std.proofs.Common.{◌≡◌, ◌≤◌, take, length}
+use Rattle.std.proofs.Common.{◌≤◌, take, length}
 use Rattle.pce_element.specs.Leaving.{SameButSpare}
 use Rattle.pce_element.specs.Changes.{all_closed}
 use Rattle.pce_element.proofs.pinned.PinnedRequests.close_all.Given as goal

@@ -1,4 +1,4 @@
-use Rattle.std.proofs.Common.{◌≡◌, ◌∙◌, ◌<◌, ◌+◌, ℕ, List, drop, length, arith, sym, ap}
+use Rattle.std.proofs.Common.{◌∙◌, ◌<◌, ◌+◌, ℕ, List, drop, length, arith, sym, ap}
 use Rattle.plant_model.specs.Element.{Row, is_waiting, pass_over}
 use Rattle.plant_model.specs.Plant.{Pin}
 use Rattle.pce_element.proofs.SearchLemmas.{not_passed, passed_over}

@@ -1,4 +1,4 @@
-use Rattle.std.proofs.Common.{◌≡◌, ◌∙◌, ◌+◌, ◌<◌, ℕ, sym, ap, arith, drop, length, List}
+use Rattle.std.proofs.Common.{◌∙◌, sym, ap, arith, List}
 use Rattle.plant_model.specs.Element.{Row, is_waiting}
 use Rattle.plant_model.specs.Plant.{Pin}
 use Rattle.pce_element.specs.Rows.{row_of}

@@ -1,5 +1,4 @@
-use Rattle.std.proofs.Common.{◌≡◌, ◌∙◌, ℕ, sym, ap}
-use Rattle.dom_base.specs.declared.names.Peer.{Peer}
+use Rattle.std.proofs.Common.{◌∙◌, ℕ, sym, ap}
 use Rattle.plant_model.specs.declared.output.Lost.{Lost}
 use Rattle.pce_element.specs.Rows.{row_of}
 use Rattle.pce_element.proofs.LeaveLemmas.{drops, loses, stays_there}

@@ -1,4 +1,4 @@
-use Rattle.std.proofs.Common.{◌≡◌, ◌∙◌, sym, ap}
+use Rattle.std.proofs.Common.{◌∙◌}
 use Rattle.plant_model.proofs.Live.{live_meets}
 use Rattle.pce_element.specs.PinnedFields.{current_of}
 use Rattle.pce_element.proofs.PinLemmas.{load_holds, load_counts}

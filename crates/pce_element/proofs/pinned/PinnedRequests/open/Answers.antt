@@ -1,4 +1,4 @@
-use Rattle.std.proofs.Common.{◌≡◌, ◌∙◌, sym, ap}
+use Rattle.std.proofs.Common.{◌∙◌, sym, ap}
 use Rattle.request_table.specs.Pending.{Pending}
 use Rattle.plant_model.specs.Element.{Item}
 use Rattle.plant_model.specs.Plant.{Pin}

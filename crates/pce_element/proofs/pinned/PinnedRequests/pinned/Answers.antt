@@ -1,4 +1,4 @@
-use Rattle.std.proofs.Common.{◌≡◌, ◌≤◌, ◌∙◌, ℕ, Some, sym, ap, subst, option_map}
+use Rattle.std.proofs.Common.{◌≤◌, ◌∙◌, ℕ, Some, sym, ap, subst, option_map}
 use Rattle.te_generations.specs.Shelf.{pins_of}
 use Rattle.request_table.specs.Pending.{item_of}
 use Rattle.plant_model.specs.Plant.{Pin}

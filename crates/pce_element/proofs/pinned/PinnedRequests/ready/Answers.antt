@@ -1,4 +1,4 @@
-use Rattle.std.proofs.Common.{◌≡◌, ◌∙◌, ◌<◌, ◌+◌, ℕ, sym, ap, arith, drop}
+use Rattle.std.proofs.Common.{◌∙◌, ◌<◌, ◌+◌, ℕ, sym, ap, arith, drop}
 use Rattle.std.specs.Prelude.{slice_get}
 use Rattle.plant_model.specs.Element.{ready_numbers}
 use Rattle.pce_element.specs.Rows.{row_of}

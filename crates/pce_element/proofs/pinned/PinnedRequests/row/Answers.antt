@@ -1,4 +1,4 @@
-use Rattle.std.proofs.Common.{◌≡◌, ◌∙◌, sym, ap}
+use Rattle.std.proofs.Common.{◌∙◌, sym}
 use Rattle.pce_element.proofs.PlaceLemmas.{no_key_none, row_at}
 use Rattle.pce_element.proofs.pinned.PinnedRequests.row.Goals as goal
 

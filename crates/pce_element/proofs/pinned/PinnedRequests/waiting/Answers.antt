@@ -1,8 +1,9 @@
-use Rattle.std.proofs.Common.{◌≡◌, ◌∙◌, ◌≤◌, ℕ, List, drop, length, arith, sym, ap}
+use Rattle.std.proofs.Common.{◌∙◌, ◌≤◌, List, length, arith, sym, ap}
 use Rattle.plant_model.specs.Element.{Row, waiting}
 use Rattle.plant_model.specs.Plant.{Pin}
 use Rattle.pce_element.specs.Rows.{row_of}
 use Rattle.pce_element.proofs.PlaceLemmas.{listed_at, nothing_dropped}
+use Rattle.pce_element.proofs.ReadyLemmas.{waits_yet}
 use Rattle.pce_element.proofs.SearchLemmas.{closed_rows, has_ended, left_of, waits_here, waits_not}
 use Rattle.pce_element.proofs.pinned.PinnedRequests.waiting.Goals as goal
 use Rattle.pce_element.proofs.pinned.PinnedRequests.waiting.Goals.{else-waits_for-via-then-waits_for+else-not-has_number, else-waits_for-via-else-waits_for}
@@ -14,6 +15,9 @@ returns-then-not-has_number-clause-row c =
 
 pub returns-then-not-has_number-clause-has : goal.returns-then-not-has_number-clause-has
 returns-then-not-has_number-clause-has c = listed_at c.args.self.now.pending.rows c.loop-k.k (row_of c.in-Some.row) c.in-Some.ensures.row
+
+pub returns-then-not-has_number-clause-waits : goal.returns-then-not-has_number-clause-waits
+returns-then-not-has_number-clause-waits c = waits_yet c.args.peer c.args.id c.in-Some.row.item.now.stage (sym c.waits_for.ensures ∙ c.if-waits_for.true)
 
 pub loop-k-preserved : goal.loop-k-preserved
 loop-k-preserved c =

@@ -1,4 +1,4 @@
-use Rattle.std.proofs.Common.{◌≡◌, ◌∙◌, List, sym, ap, subst}
+use Rattle.std.proofs.Common.{◌∙◌, List, sym, ap, subst}
 use Rattle.plant_model.specs.Element.{Way, with_last}
 use Rattle.pce_element.specs.Ways.{IsFirstTo, IsNowhere, no_way}
 use Rattle.pce_element.proofs.WayLemmas.{first_within, last_nowhere, last_first}

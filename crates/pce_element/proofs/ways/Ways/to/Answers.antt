@@ -1,4 +1,4 @@
-use Rattle.std.proofs.Common.{◌≡◌, ◌∙◌, ◌<◌, ℕ, List, Some, sym, ap, subst}
+use Rattle.std.proofs.Common.{◌∙◌, ◌<◌, ℕ, List, Some, sym, ap, subst}
 use Rattle.plant_model.specs.Element.{Way, way_to}
 use Rattle.pce_element.specs.Ways.{IsFirstTo, IsNowhere}
 use Rattle.pce_element.proofs.WayLemmas.{first_within, way_nowhere, way_first}

@@ -1,4 +1,4 @@
-use Rattle.std.proofs.Common.{◌≡◌, ◌∙◌}
+use Rattle.std.proofs.Common.{◌∙◌}
 use Rattle.pce_plant.proofs.FreshLemmas.{owns_new}
 use Rattle.pce_plant.proofs.elements.Elements.of.Goals as goal
 

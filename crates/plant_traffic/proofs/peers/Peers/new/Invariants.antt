@@ -1,4 +1,4 @@
-use Rattle.plant_traffic.specs.Peers.{AreNew}
+use Rattle.plant_traffic.proofs.FreshLemmas.{AreNew}
 use Rattle.plant_traffic.proofs.peers.Peers.new.Given as goal
 
 abbrev pub invariant-loop-i : goal.invariant-loop-i

@@ -1,0 +1,78 @@
+-- Events by which requests are lost, a break and a shut: there is room for them, and the room that is kept stays so.
+use Rattle.std.proofs.Common.{◌≡◌, ◌≤◌, ◌<◌, ℕ, is_some, Bool, true, false, cond, nat_lt, Option, Some, None, List, [], ◌∷◌, length, refl, sym, subst, arith}
+use Rattle.std.specs.Prelude.{slice_get}
+use Rattle.std.proofs.lemmas.Option.{slice_get_within}
+use Rattle.dom_base.specs.declared.names.As.{As}
+use Rattle.dom_base.specs.declared.names.Peer.TheVariants.{Outside, Inner}
+use Rattle.pcep_subobjects.specs.declared.hop.Hop.{Hop}
+use Rattle.plant_text.specs.declared.settings.NetworkParts.{NetworkParts}
+use Rattle.plant_text.specs.Names.{same_as}
+use Rattle.plant_text.specs.Settings.{Line, has_line, line, lines}
+use Rattle.plant_model.specs.declared.output.Lost.{Lost}
+use Rattle.plant_model.specs.RealWire.{wire}
+use Rattle.plant_model.specs.Deeds as deeds
+use Rattle.plant_model.specs.Deeds.{element_of}
+use Rattle.plant_model.specs.Events as events
+use Rattle.plant_sessions.specs.declared.access.Access.{Access}
+use Rattle.plant_traffic.specs.Carried.{Carried, flow_of}
+use Rattle.plant_traffic.specs.Flow.{Flow, ClearsSaid, shut}
+use Rattle.plant_traffic.specs.Peers.{access_or}
+use Rattle.plant_deeds.specs.Breaking.{RoomToBreak}
+use Rattle.plant_members.specs.Membership.{AreJoined, Membership, fallen, is_member, lost_at}
+use Rattle.plant_deeds.specs.Rooms.{IsRoomy, own_most}
+use Rattle.plant_deeds.specs.Standing.{Goes, here, state_of}
+use Rattle.plant_deeds.specs.Telling.{RoomToTell}
+use Rattle.plant_deeds.proofs.EventLaws.{begins_at}
+use Rattle.plant_deeds.proofs.RoomyNeeds.{breaks_room, line_back, tells_room}
+use Rattle.plant_deeds.proofs.RoomySteps.{begins_keeps, ends_roomy}
+use Rattle.plant_deeds.proofs.RoomyEvents.{break_keeps}
+use Rattle.plant_deeds.proofs.RoomyOpens.{shut_keeps}
+
+some_lines : (a b : As) (xs : List Line) → has_line a b xs ≡ true → 1 ≤ length xs
+some_lines a b [] e = absurd (let both : false ≡ true = e in cc)
+some_lines a b (x ∷ xs) e = omega arith
+
+-- what is said has room for two Opens, where there is a link
+some_words : (n : NetworkParts) (a b : As) → has_line a b (lines n) ≡ true → 2 ≤ own_most n
+some_words n a b e = omega (arith, some_lines a b (lines n) e)
+
+pub ends_linked : (a b l u : As) (xs : List Line) → l ≡ (line a b).lower → u ≡ (line a b).upper → has_line a b xs ≡ true → has_line l u xs ≡ true
+ends_linked a b l u xs lower upper e =
+    subst (λ (x : As). has_line x u xs ≡ true) (sym lower) (subst (λ (x : As). has_line (line a b).lower x xs ≡ true) (sym upper) (go (nat_lt b.0 a.0)))
+  where
+    go : (c : Bool) → has_line (cond {A = Line} c (record { lower = b; upper = a }) (record { lower = a; upper = b })).lower (cond {A = Line} c (record { lower = b; upper = a }) (record { lower = a; upper = b })).upper xs ≡ true
+    go true = line_back a b xs e
+    go false = e
+
+-- an outside peer that is open is one of the network
+pub open_below : (x : Carried) (i : ℕ) → is_some ((flow_of x).accesses i).connection ≡ true → i < (flow_of x).peers
+open_below x i e = go (slice_get x.peers i) refl e
+  where
+    go : (o : Option Access) → slice_get x.peers i ≡ o → is_some (access_or o).connection ≡ true → i < length x.peers
+    go None is e' = absurd (let both : false ≡ true = e' in cc)
+    go (Some a) is e' = slice_get_within x.peers i a is
+
+module _ {P : Type 0} {S : Type 0} (n : NetworkParts) where
+  pub room_to_break : (l u : As) (ms : Membership P S) (f f1 : Flow) → AreJoined n → ((a b : As) → has_line a b (lines n) ≡ true → same_as a b ≡ false) → has_line l u (lines n) ≡ true →
+      ClearsSaid f f1 → IsRoomy n ms f → RoomToBreak l u (lost_at l (Inner u) ms) (lost_at u (Inner l) (fallen l (Inner u) ms)) f1
+  room_to_break l u ms f f1 joined apart linked clears roomy =
+      breaks_room n (own_most n) l u ms f1 (apart l u linked) (joined.links l u linked) (joined.links u l (line_back l u (lines n) linked)) linked (some_words n l u linked) (begins_keeps n ms f f1 clears roomy)
+
+  pub room_to_shut : (at : As) (i : ℕ) (ms : Membership P S) (f f1 : Flow) → is_member n at ≡ true → ClearsSaid f f1 → IsRoomy n ms f → RoomToTell at (lost_at at (Outside i) ms) f1
+  room_to_shut at i ms f f1 member clears roomy = tells_room n (own_most n) at (Outside i) ms f1 member (begins_keeps n ms f f1 clears roomy)
+
+  module _ (show : S → List Hop) where
+    pub break_roomy : (l u : As) (n' : NetworkParts) (ms ms' : Membership P S) (lost lost' : As → List Lost) (f f1 f' : Flow) → AreJoined n → ((a b : As) → has_line a b (lines n) ≡ true → same_as a b ≡ false) → has_line l u (lines n) ≡ true →
+        ClearsSaid f f1 → IsRoomy n ms f → Goes (λ k. deeds.break_line P S wire k show (record { lower = l; upper = u })) (here n ms lost f1) (here n' ms' lost' f') → IsRoomy n ms' f'
+    break_roomy l u n' ms ms' lost lost' f f1 f' joined apart linked clears roomy goes =
+        ends_roomy n 0 ms' f'
+        (break_keeps show n 0 (own_most n) l u (events.idle P S wire n show (state_of ms f)) n' ms ms' lost lost' f1 f' (omega (arith, some_words n l u linked)) (apart l u linked) (joined.links l u linked)
+        (joined.links u l (line_back l u (lines n) linked)) goes (begins_at show n ms f f1 clears) (begins_keeps n ms f f1 clears roomy))
+
+    pub shut_roomy : (i : ℕ) (at : As) (n' : NetworkParts) (ms ms' : Membership P S) (lost lost' : As → List Lost) (f f1 f2 f3 : Flow) → at ≡ element_of n i → is_member n (element_of n i) ≡ true →
+        ClearsSaid f f1 → IsRoomy n ms f → Goes (λ k. deeds.fall P S wire k show at (Outside i)) (here n ms lost f1) (here n' ms' lost' f2) → f3 ≡ shut i f2 → IsRoomy n ms' f3
+    shut_roomy i at n' ms ms' lost lost' f f1 f2 f3 at_is member clears roomy goes is =
+        let goes' = subst (λ (a : As). Goes (λ k. deeds.fall P S wire k show a (Outside i)) (here n ms lost f1) (here n' ms' lost' f2)) at_is goes in
+        subst (λ (x : Flow). IsRoomy n ms' x) (sym is)
+        (ends_roomy n (own_most n) ms' (shut i f2)
+        (shut_keeps show n (own_most n) i (events.idle P S wire n show (state_of ms f)) n' ms ms' lost lost' f1 f2 member goes' (begins_at show n ms f f1 clears) (begins_keeps n ms f f1 clears roomy)))

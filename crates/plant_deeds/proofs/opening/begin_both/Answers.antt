@@ -1,0 +1,15 @@
+use Rattle.plant_model.specs.RealWire.{wire}
+use Rattle.plant_model.specs.Deeds as deeds
+use Rattle.plant_traffic.specs.Carried.{flow_of}
+use Rattle.plant_deeds.specs.Standing.{here}
+use Rattle.plant_deeds.proofs.GoLaws.{goes_then}
+use Rattle.plant_deeds.proofs.opening.begin_both.Goals as goal
+
+pub returns : goal.returns
+returns g c =
+    let at = here (g.M.Members.network c.args.members.now) (g.M.Members.seen c.args.members.now) (g.M.Members.lost c.args.members.now) in
+    goes_then
+    (λ n. deeds.begin_end g.M.Members.Pin g.M.Members.Key wire n g.M.Members.show 0 c.args.lower c.args.upper)
+    (λ n. deeds.begin_end g.M.Members.Pin g.M.Members.Key wire n g.M.Members.show 0 c.args.upper c.args.lower)
+    (at (flow_of c.args.traffic.now)) (at (flow_of c.begin_one.new.traffic)) (at (flow_of c.begin_one-2.new.traffic))
+    c.in_ok-begin_one.ensures c.in_ok-begin_one-2.ensures

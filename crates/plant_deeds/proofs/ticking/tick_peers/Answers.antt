@@ -1,0 +1,47 @@
+use Rattle.std.proofs.Common.{◌≡◌, ◌<◌, ◌%◌, ℕ, true, sym, subst, arith, add-one, length}
+use Rattle.std.proofs.Math.Nat.{mod-eq_of_lt}
+use Rattle.plant_text.specs.declared.settings.NetworkParts.{NetworkParts}
+use Rattle.plant_model.specs.Deeds.{element_of}
+use Rattle.plant_traffic.specs.Carried.{flow_of}
+use Rattle.plant_members.specs.Membership.{is_member}
+use Rattle.plant_deeds.specs.Standing.{here}
+use Rattle.plant_deeds.proofs.RoomyNeeds.{fits_tick}
+use Rattle.plant_deeds.proofs.TickLaws.{peers_to}
+use Rattle.plant_deeds.proofs.TickingLaws.{Until, peer_more, peer_uses, peers_end, room_left}
+use Rattle.plant_deeds.proofs.ticking.tick_peers.Goals as goal
+
+pub outside_input-requires-clause-room : goal.outside_input-requires-clause-room
+outside_input-requires-clause-room g c =
+    let n = g.M.Members.network c.args.members.now in
+    let k = c.loop-peer.peer in
+    let few : c.peers-count.result < 4294967296 = omega (arith, c.requires.few, c.requires.of.peers_are, c.peers-count.ensures) in
+    let all : c.peers-count.result % 4294967296 ≡ c.peers-count.result = mod-eq_of_lt few in
+    let below : k < length n.peers = omega (arith, c.loop-peer-test.true, all, c.requires.of.peers_are, c.peers-count.ensures) in
+    fits_tick (g.M.Members.network c.loop-peer.members) 1 k c.args.now (g.M.Members.seen c.loop-peer.members) (flow_of c.loop-peer.traffic)
+    (subst (λ (m : NetworkParts). is_member m (element_of m k) ≡ true) (sym c.loop-peer.invariant.uses.goes.network) (c.requires.joined.peers k below)) (omega arith)
+    (room_left k 1 (length n.peers) c.loop-peer.invariant.uses c.requires.on (omega (arith, below)) c.requires.keeps)
+
+pub loop-peer-preserved : goal.loop-peer-preserved
+loop-peer-preserved g c =
+    let n = g.M.Members.network c.args.members.now in
+    let k = c.loop-peer.peer in
+    let start = here n (g.M.Members.seen c.args.members.now) (g.M.Members.lost c.args.members.now) (flow_of c.args.traffic.now) in
+    let now = here (g.M.Members.network c.loop-peer.members) (g.M.Members.seen c.loop-peer.members) (g.M.Members.lost c.loop-peer.members) (flow_of c.loop-peer.traffic) in
+    let then = here (g.M.Members.network c.outside_input.new.members) (g.M.Members.seen c.outside_input.new.members) (g.M.Members.lost c.outside_input.new.members) (flow_of c.outside_input.new.traffic) in
+    let few : c.peers-count.result < 4294967296 = omega (arith, c.requires.few, c.requires.of.peers_are, c.peers-count.ensures) in
+    let all : c.peers-count.result % 4294967296 ≡ c.peers-count.result = mod-eq_of_lt few in
+    let below : k < length n.peers = omega (arith, c.loop-peer-test.true, all, c.requires.of.peers_are, c.peers-count.ensures) in
+    let member = subst (λ (m : NetworkParts). is_member m (element_of m k) ≡ true) (sym c.loop-peer.invariant.uses.goes.network) (c.requires.joined.peers k below) in
+    subst (λ (j : ℕ). Until (λ m. peers_to g.M.Members.show m c.args.now j) j j (length n.peers) start then) (sym (add-one k))
+    (record { within = omega (arith, below); uses = peer_more g.M.Members.show c.args.now k start now then c.loop-peer.invariant.uses (peer_uses g.M.Members.show c.args.now k now then member c.outside_input.ensures) })
+
+pub returns : goal.returns
+returns g c =
+    let n = g.M.Members.network c.args.members.now in
+    let few : c.peers-count.result < 4294967296 = omega (arith, c.requires.few, c.requires.of.peers_are, c.peers-count.ensures) in
+    let all : c.peers-count.result % 4294967296 ≡ c.peers-count.result = mod-eq_of_lt few in
+    let end : c.loop-peer.peer ≡ length n.peers = omega (arith, c.loop-peer-test.false, c.loop-peer.invariant.within, all, c.requires.of.peers_are, c.peers-count.ensures) in
+    peers_end g.M.Members.show c.args.now c.loop-peer.peer
+    (here n (g.M.Members.seen c.args.members.now) (g.M.Members.lost c.args.members.now) (flow_of c.args.traffic.now))
+    (here (g.M.Members.network c.loop-peer.members) (g.M.Members.seen c.loop-peer.members) (g.M.Members.lost c.loop-peer.members) (flow_of c.loop-peer.traffic))
+    end c.loop-peer.invariant.uses

@@ -1,0 +1,16 @@
+-- for readers
+pub mod Accounts
+pub mod Standing
+pub mod Telling
+pub mod Laws
+pub mod Rooms
+pub mod Giving
+pub mod Passing
+pub mod Stepping
+pub mod Breaking
+pub mod Acting
+pub mod Turns
+pub mod Roomy
+pub mod Happening
+pub mod Using
+pub mod Answering

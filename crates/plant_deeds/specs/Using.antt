@@ -1,0 +1,18 @@
+-- Deeds that use up words of sessions' own, of the room that is kept in an event.
+use Rattle.std.specs.Prelude.{ℕ, ◌+◌}
+use Rattle.plant_text.specs.declared.settings.NetworkParts.{NetworkParts}
+use Rattle.plant_model.specs.Deeds.{Going}
+use Rattle.plant_traffic.specs.Flow.{Flow}
+use Rattle.plant_members.specs.Membership.{Membership}
+use Rattle.plant_deeds.specs.Roomy.{KeepsOn}
+use Rattle.plant_deeds.specs.Standing.{IsAt, Here, Goes}
+
+-- an event has gone so far
+pub record IsOn {P : Type 0} {S : Type 0} (ms : Membership P S) (f : Flow) : Type 0 where
+  pub going : Going P S
+  pub at : IsAt going ms f
+
+-- A deed of the model is done, in which sessions say so many words of their own at most: room for others is kept.
+pub record Uses {P : Type 0} {S : Type 0} (step : NetworkParts → Going P S → Going P S) (words : ℕ) (old new : Here P S) : Type 0 where
+  pub goes : Goes step old new
+  pub keeps : (g : Going P S) → IsAt g old.seen old.flow → (own : ℕ) → KeepsOn (words + own) old.network old.seen old.flow → KeepsOn own old.network new.seen new.flow

@@ -1,0 +1,48 @@
+//! A member answers a pending request. All memory is taken before anything changes.
+ghost use Rattle.std.specs.Prelude.{◌≡◌, true, IfErr, OnErr, OnOk};
+ghost use Rattle.plant_traffic.specs.Carried.{flow_of};
+ghost use Rattle.plant_members.specs.Membership.{is_member};
+ghost use Rattle.plant_deeds.specs.Answering.{IsAnswer, Sends};
+ghost use Rattle.plant_deeds.specs.Giving.{OnlyGrows};
+ghost use Rattle.plant_deeds.specs.Passing.{IsOf};
+ghost use Rattle.plant_deeds.specs.Rooms.{IsRoomy};
+
+use crate::giving::{perform, prepare_plan};
+use dom_base::As;
+use plant_members::Members;
+use plant_traffic::Traffic;
+use std::alloc::Global;
+
+/// Makes a plan that answers a pending request, and puts its message into the queue to the asker. Without
+/// memory nothing changes but room, and the plan comes back.
+pub fn answer<M: Members>(
+    alloc: Global,
+    members: &mut M,
+    traffic: &mut Traffic,
+    at: As,
+    plan: M::Plan,
+) -> Result<(), M::Plan>
+    requires member { is_member (M.network members.old) at ≡ true }
+    requires fits { M.fits members.old plan }
+    requires answers { IsAnswer (M.network members.old) at (M.sends plan) (M.seen members.old) (M.next members.old plan) }
+    requires lines { IsOf (M.network members.old) (flow_of traffic.old) }
+    requires roomy { IsRoomy (M.network members.old) (M.seen members.old) (flow_of traffic.old) }
+    ensures network { M.network members.new ≡ M.network members.old }
+    ensures lost { M.lost members.new ≡ M.lost members.old }
+    ensures lines { IsOf (M.network members.old) (flow_of traffic.new) }
+    ensures roomy { IsRoomy (M.network members.old) (M.seen members.new) (flow_of traffic.new) }
+    ensures next { OnOk result (M.seen members.new ≡ M.next members.old plan) }
+    ensures sends { OnOk result (Sends (M.network members.old) M.show at (M.sends plan) (M.seen members.new) (flow_of traffic.old) (flow_of traffic.new)) }
+    ensures back { IfErr result (λ back. back ≡ plan) }
+    ensures seen { OnErr result (M.seen members.new ≡ M.seen members.old) }
+    ensures grows { OnErr result (OnlyGrows (flow_of traffic.old) (flow_of traffic.new)) }
+{
+    match prepare_plan(alloc, members, traffic, at, plan) {
+        Ok(prepared) => {
+            traffic.clear_said();
+            perform(members, traffic, prepared);
+            Ok(())
+        }
+        Err(plan) => Err(plan),
+    }
+}

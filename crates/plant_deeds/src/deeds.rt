@@ -1,0 +1,65 @@
+//! What a session says, that it comes up, and that it goes down.
+ghost use Rattle.std.specs.Prelude.{◌≡◌, ◌≤◌, true, [], length};
+ghost use Rattle.plant_queues.specs.Messages.{Covers};
+ghost use Rattle.dom_base.specs.declared.names.As.{As};
+ghost use Rattle.plant_model.specs.Names.{set_as};
+ghost use Rattle.plant_model.specs.RealWire.{wire};
+ghost use Rattle.plant_model.specs.Deeds as deeds;
+ghost use Rattle.plant_sessions.specs.Ends.{own_bytes};
+ghost use Rattle.plant_traffic.specs.Flow.{Puts, room_at};
+ghost use Rattle.plant_traffic.specs.Carried.{flow_of};
+ghost use Rattle.plant_members.specs.Membership.{is_member, fallen, lost_at};
+ghost use Rattle.plant_deeds.specs.Standing.{Goes, here};
+ghost use Rattle.plant_deeds.specs.Telling.{RoomToTell, Tells};
+
+use dom_base::{As, Peer};
+use pcep_session::Own;
+use plant_members::Members;
+use plant_sessions::{lost_text, own_text};
+use plant_traffic::Traffic;
+
+/// A session says a message of its own, for which there is room.
+pub(crate) fn say(traffic: &mut Traffic, at: As, to: Peer, own: Own)
+    requires there { Covers (room_at at to (flow_of traffic.old)) 1 (length (own_bytes own)) }
+    requires said { Covers (flow_of traffic.old).room.said 1 (length (own_bytes own)) }
+    ensures { Puts at to (own_bytes own) (flow_of traffic.old) (flow_of traffic.new) }
+{
+    traffic.put(at, to, own_text(own).as_slice());
+}
+
+/// A session of a member comes up.
+pub(crate) fn rise<M: Members>(members: &mut M, traffic: &Traffic, at: As, peer: Peer)
+    requires { is_member (M.network members.old) at ≡ true }
+    ensures { Goes (λ n. deeds.rise M.Pin M.Key wire n M.show at peer) (here (M.network members.old) (M.seen members.old) (M.lost members.old) (flow_of traffic.now)) (here (M.network members.new) (M.seen members.new) (M.lost members.new) (flow_of traffic.now)) }
+{
+    let _peers = traffic.peers();
+    members.up(at, peer);
+}
+
+// The lost requests of a member are answered, for which there is room.
+fn tell_lost<M: Members>(members: &mut M, traffic: &mut Traffic, at: As)
+    requires member { is_member (M.network members.old) at ≡ true }
+    requires room { RoomToTell at (M.lost members.old at) (flow_of traffic.old) }
+    ensures network { M.network members.new ≡ M.network members.old }
+    ensures seen { M.seen members.new ≡ M.seen members.old }
+    ensures lost { (a : As) → M.lost members.new a ≡ set_as at [] (M.lost members.old) a }
+    ensures tells { Tells at (M.lost members.old at) (flow_of traffic.old) (flow_of traffic.new) }
+{
+    while let Some(lost) = members.next_lost(at) {
+        traffic.put(at, lost.to, lost_text(&lost).as_slice());
+    }
+}
+
+/// A session of a member goes down; its lost requests are answered, for which there is room.
+pub(crate) fn fall<M: Members>(members: &mut M, traffic: &mut Traffic, at: As, peer: Peer)
+    requires member { is_member (M.network members.old) at ≡ true }
+    requires none { (a : As) → M.lost members.old a ≡ [] }
+    requires room { RoomToTell at (lost_at at peer (M.seen members.old)) (flow_of traffic.old) }
+    ensures network { M.network members.new ≡ M.network members.old }
+    ensures seen { M.seen members.new ≡ fallen at peer (M.seen members.old) }
+    ensures tells { Tells at (lost_at at peer (M.seen members.old)) (flow_of traffic.old) (flow_of traffic.new) }
+    ensures goes { Goes (λ n. deeds.fall M.Pin M.Key wire n M.show at peer) (here (M.network members.old) (M.seen members.old) (M.lost members.old) (flow_of traffic.old)) (here (M.network members.new) (M.seen members.new) (M.lost members.new) (flow_of traffic.new)) }
+{
+    members.down(at, peer);
+    tell_lost(members, traffic, at);
+}

@@ -1,0 +1,26 @@
+//! How a network goes on, whatever its elements are: what its sessions, queues and links do at each event.
+#![tactic(auto)]
+
+mod answering;
+mod deeds;
+mod events;
+mod feeding;
+mod giving;
+mod inner;
+mod law;
+mod links;
+mod opened;
+mod opening;
+mod outside;
+mod passing;
+mod taking;
+mod ticking;
+
+pub use answering::answer;
+pub use events::{break_link, shut};
+pub use feeding::{drain, feed};
+pub use law::{requests_are_counted, steps_are_turns};
+pub use opened::open;
+pub use opening::begin_links;
+pub use taking::{carry, take};
+pub use ticking::tick;

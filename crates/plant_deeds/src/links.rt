@@ -1,0 +1,34 @@
+//! An inner link that begins, and one that breaks.
+ghost use Rattle.std.specs.Prelude.{◌≡◌, ◌≤◌, true, false, []};
+ghost use Rattle.dom_base.specs.declared.names.Peer.TheVariants.{Inner};
+ghost use Rattle.dom_base.specs.declared.names.As.{As};
+ghost use Rattle.plant_text.specs.Names.{same_as};
+ghost use Rattle.plant_model.specs.RealWire.{wire};
+ghost use Rattle.plant_model.specs.Deeds as deeds;
+ghost use Rattle.plant_traffic.specs.Carried.{flow_of};
+ghost use Rattle.plant_members.specs.Membership.{is_member, fallen, lost_at};
+ghost use Rattle.plant_deeds.specs.Standing.{Goes, here};
+ghost use Rattle.plant_deeds.specs.Breaking.{RoomToBreak};
+
+use crate::deeds::fall;
+use dom_base::{As, Peer};
+use plant_members::Members;
+use plant_traffic::Traffic;
+
+/// A link breaks: both ends go down, the lower first, both queues are emptied, and both sessions are
+/// begun anew.
+pub(crate) fn break_line<M: Members>(members: &mut M, traffic: &mut Traffic, lower: As, upper: As)
+    requires lower { is_member (M.network members.old) lower ≡ true }
+    requires upper { is_member (M.network members.old) upper ≡ true }
+    requires apart { same_as lower upper ≡ false }
+    requires none { (a : As) → M.lost members.old a ≡ [] }
+    requires room { RoomToBreak lower upper (lost_at lower (Inner upper) (M.seen members.old)) (lost_at upper (Inner lower) (fallen lower (Inner upper) (M.seen members.old))) (flow_of traffic.old) }
+    ensures { Goes (λ n. deeds.break_line M.Pin M.Key wire n M.show (record { lower = lower; upper = upper })) (here (M.network members.old) (M.seen members.old) (M.lost members.old) (flow_of traffic.old)) (here (M.network members.new) (M.seen members.new) (M.lost members.new) (flow_of traffic.new)) }
+{
+    let sid = traffic.next_sid(lower, upper);
+    fall(members, traffic, lower, Peer::Inner(upper));
+    fall(members, traffic, upper, Peer::Inner(lower));
+    traffic.clear(lower, upper);
+    traffic.begin_end(lower, upper, sid);
+    traffic.begin_end(upper, lower, sid);
+}

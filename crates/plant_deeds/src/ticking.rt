@@ -1,0 +1,128 @@
+//! A tick: the clock goes on, each session is told so, and keys expire. It takes no memory.
+ghost use Rattle.std.specs.Prelude.{◌≡◌, ◌<◌, ◌+◌, ◌*◌, true, false, [], length, Ok};
+ghost use Rattle.dom_base.specs.declared.names.As.{As};
+ghost use Rattle.plant_text.specs.Names.{same_as};
+ghost use Rattle.plant_text.specs.Settings.{has_line, lines};
+ghost use Rattle.plant_layout.specs.Lines.{line_of};
+ghost use Rattle.plant_model.specs.RealWire.{wire};
+ghost use Rattle.plant_model.specs.Deeds as deeds;
+ghost use Rattle.plant_model.specs.Events as events;
+ghost use Rattle.pcep_session.specs.declared.session.Input.TheVariants as inputs;
+ghost use Rattle.plant_traffic.specs.Carried.{flow_of};
+ghost use Rattle.plant_deeds.specs.Happening.{IsDone};
+ghost use Rattle.plant_members.specs.Membership.{AreJoined, KeysBefore, is_member};
+ghost use Rattle.plant_deeds.specs.Passing.{IsOf};
+ghost use Rattle.plant_deeds.specs.Rooms.{IsRoomy};
+ghost use Rattle.plant_deeds.specs.Roomy.{KeepsOn};
+ghost use Rattle.plant_deeds.specs.Standing.{here, state_of};
+ghost use Rattle.plant_deeds.specs.Using.{IsOn, Uses};
+
+use crate::events::expire;
+use crate::inner::inner_input;
+use crate::outside::outside_input;
+use dom_base::{As, Tick};
+use pcep_session::Input;
+use plant_members::Members;
+use plant_model::{Outcome, Refused};
+use plant_traffic::Traffic;
+
+// The sessions of the outside peers are told, by number.
+fn tick_peers<M: Members>(members: &mut M, traffic: &mut Traffic, now: Tick)
+    requires joined { AreJoined (M.network members.old) }
+    requires few { length (M.network members.old).peers < 4294967296 }
+    requires of { IsOf (M.network members.old) (flow_of traffic.old) }
+    requires none { (d : As) → M.lost members.old d ≡ [] }
+    requires on { IsOn (M.seen members.old) (flow_of traffic.old) }
+    requires keeps { KeepsOn (length (M.network members.old).peers) (M.network members.old) (M.seen members.old) (flow_of traffic.old) }
+    ensures { Uses (λ n. deeds.tick_outside M.Pin M.Key wire n M.show 0 n.peers now) (length (M.network members.old).peers) (here (M.network members.old) (M.seen members.old) (M.lost members.old) (flow_of traffic.old)) (here (M.network members.new) (M.seen members.new) (M.lost members.new) (flow_of traffic.new)) }
+{
+    let count = traffic.peers() as u32;
+    for peer in 0..count {
+        outside_input(members, traffic, peer, Input::Tick(now), true);
+    }
+}
+
+// Both ends of a link are told, the lower first.
+fn tick_line<M: Members>(members: &mut M, traffic: &mut Traffic, line: (As, As), now: Tick)
+    requires lower { is_member (M.network members.old) line.0 ≡ true }
+    requires upper { is_member (M.network members.old) line.1 ≡ true }
+    requires apart { same_as line.0 line.1 ≡ false }
+    requires linked { has_line line.0 line.1 (lines (M.network members.old)) ≡ true }
+    requires of { IsOf (M.network members.old) (flow_of traffic.old) }
+    requires none { (d : As) → M.lost members.old d ≡ [] }
+    requires on { IsOn (M.seen members.old) (flow_of traffic.old) }
+    requires keeps { KeepsOn 4 (M.network members.old) (M.seen members.old) (flow_of traffic.old) }
+    ensures { Uses (λ n g. deeds.inner_input M.Pin M.Key wire n M.show (line_of line) line.1 line.0 (inputs.Tick now) (deeds.inner_input M.Pin M.Key wire n M.show (line_of line) line.0 line.1 (inputs.Tick now) g)) 4 (here (M.network members.old) (M.seen members.old) (M.lost members.old) (flow_of traffic.old)) (here (M.network members.new) (M.seen members.new) (M.lost members.new) (flow_of traffic.new)) }
+{
+    inner_input(
+        members,
+        traffic,
+        line,
+        line.0,
+        line.1,
+        Input::Tick(now),
+        true,
+    );
+    inner_input(
+        members,
+        traffic,
+        line,
+        line.1,
+        line.0,
+        Input::Tick(now),
+        true,
+    );
+}
+
+// The sessions of the links are told, link by link.
+fn tick_lines<M: Members>(members: &mut M, traffic: &mut Traffic, now: Tick)
+    requires joined { AreJoined (M.network members.old) }
+    requires apart { (a b : As) → has_line a b (lines (M.network members.old)) ≡ true → same_as a b ≡ false }
+    requires of { IsOf (M.network members.old) (flow_of traffic.old) }
+    requires none { (d : As) → M.lost members.old d ≡ [] }
+    requires on { IsOn (M.seen members.old) (flow_of traffic.old) }
+    requires keeps { KeepsOn (4 * length (lines (M.network members.old))) (M.network members.old) (M.seen members.old) (flow_of traffic.old) }
+    ensures { Uses (λ n. deeds.tick_lines M.Pin M.Key wire n M.show (lines n) now) (4 * length (lines (M.network members.old))) (here (M.network members.old) (M.seen members.old) (M.lost members.old) (flow_of traffic.old)) (here (M.network members.new) (M.seen members.new) (M.lost members.new) (flow_of traffic.new)) }
+{
+    for k in 0..traffic.lines() {
+        let Some(line) = traffic.line_at(k) else {
+            unreachable!()
+        };
+        tick_line(members, traffic, line, now);
+    }
+}
+
+// The later of two moments.
+fn later(clock: Tick, at: Tick) -> Tick
+    ensures { result ≡ record { 0 = events.later clock.0 at.0 } }
+{
+    if clock.0 < at.0 { at } else { clock }
+}
+
+/// The clock goes on to this moment, but never back; takes no memory, and is never refused.
+pub fn tick<M: Members>(
+    members: &mut M,
+    traffic: &mut Traffic,
+    at: Tick,
+) -> Result<Outcome, Refused>
+    requires joined { AreJoined (M.network members.old) }
+    requires apart { (a b : As) → has_line a b (lines (M.network members.old)) ≡ true → same_as a b ≡ false }
+    requires few { length (M.network members.old).peers < 4294967296 }
+    requires of { IsOf (M.network members.old) (flow_of traffic.old) }
+    requires none { (d : As) → M.lost members.old d ≡ [] }
+    requires keys { KeysBefore (events.later (flow_of traffic.old).clock at.0) (M.network members.old) (M.seen members.old) }
+    requires roomy { IsRoomy (M.network members.old) (M.seen members.old) (flow_of traffic.old) }
+    ensures network { M.network members.new ≡ M.network members.old }
+    ensures none { (d : As) → M.lost members.new d ≡ [] }
+    ensures of { IsOf (M.network members.old) (flow_of traffic.new) }
+    ensures roomy { IsRoomy (M.network members.old) (M.seen members.new) (flow_of traffic.new) }
+    ensures done { IsDone (events.tick M.Pin M.Key wire (M.network members.old) M.show at.0 (state_of (M.seen members.old) (flow_of traffic.old))) result (M.seen members.new) (flow_of traffic.new) }
+{
+    let now = later(traffic.clock(), at);
+    traffic.clear_said();
+    traffic.set_clock(now);
+    tick_peers(members, traffic, now);
+    tick_lines(members, traffic, now);
+    expire(members, traffic, now);
+    Ok(Outcome::Done)
+}

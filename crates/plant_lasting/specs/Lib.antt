@@ -1,0 +1,4 @@
+-- for readers
+pub mod Lasting
+-- inner
+pub mod Onward

@@ -1,0 +1,3 @@
+-- for readers
+pub mod Membership
+pub mod Owed

@@ -1,0 +1,334 @@
+//! What is on its way in a network.
+ghost use Rattle.std.specs.Prelude.{◌≡◌, ◌<◌, true, false, [], drop, length, not, slice_get, Some, None, IfOk, OnOk, OnErr, is_some};
+ghost use Rattle.std.specs.Option.{option_map};
+ghost use Rattle.plant_text.specs.Settings.{has_line};
+ghost use Rattle.plant_layout.specs.Lines.{line_of, are_lines};
+ghost use Rattle.plant_queues.specs.Messages.{Covers};
+ghost use Rattle.plant_model.specs.Names.{is_empty};
+ghost use Rattle.plant_model.specs.RealWire.{wire};
+ghost use Rattle.plant_model.specs.Deeds as deeds;
+ghost use Rattle.plant_sessions.specs.Ends.{is_left_out, own_bytes};
+ghost use Rattle.plant_sessions.specs.Links.{next_sid};
+ghost use Rattle.plant_traffic.specs.Carried.{flow_of};
+ghost use Rattle.plant_traffic.specs.Flow.{ClearsSaid, Clears, Connects, DropsFirst, GrowsAt, GrowsSaid, IsBare, KeepsRoomAt, Puts, Begins, change_access, inbox_of, out_of, room_at, set_session, shut};
+ghost use Rattle.plant_traffic.specs.Happenings.{DrainsIn, FeedsIn};
+ghost use Rattle.plant_traffic.specs.Peers.{drop_first};
+
+use crate::links::Links;
+use crate::peers::{Drained, Peers};
+use dom_base::{As, NoMemory, Peer, Tick};
+use pcep_session::{Input, Own, Session};
+use plant_model::Refused;
+use plant_queues::Said;
+use plant_sessions::{OWN_LENGTH, our_offer, own_text};
+use std::alloc::Global;
+use std::marker::Model;
+
+/// The clock, the connections of the outside peers, the inner links, and the messages that the last
+/// step put into queues. What takes no memory says no `Err`.
+#[derive(Drop)]
+pub struct Traffic {
+    alloc: Global,
+    clock: Tick,
+    peers: Peers,
+    links: Links,
+    said: Said,
+}
+
+impl Model for Traffic {
+    ghost use Rattle.plant_traffic.specs.Carried.{Carried};
+
+    ghost Value = { Carried };
+
+    ghost use Rattle.plant_traffic.specs.TrafficFields.{carried_of};
+
+    ghost view = { carried_of };
+}
+
+impl Traffic {
+    /// Links, each with its lower end first, and so many outside peers. Nothing has begun.
+    pub fn new(alloc: Global, lines: &[(As, As)], peers: usize) -> Result<Traffic, NoMemory>
+        ensures { IfOk result (λ traffic. IsBare (are_lines lines.now) peers (flow_of traffic)) }
+    {
+        let peers = Peers::new(alloc, peers)?;
+        let links = Links::new(alloc, lines)?;
+        Ok(Traffic {
+            alloc,
+            clock: Tick(0),
+            peers,
+            links,
+            said: Said::new(alloc),
+        })
+    }
+
+    pub fn clock(&self) -> Tick
+        ensures { result ≡ record { 0 = (flow_of self.now).clock } }
+    {
+        self.clock
+    }
+
+    pub fn set_clock(&mut self, now: Tick)
+        ensures { (flow_of self.new) ≡ record (flow_of self.old) { clock = now.0 } }
+    {
+        self.clock = now;
+    }
+
+    // ---- outside peers
+
+    /// How many outside peers there are.
+    pub fn peers(&self) -> usize
+        ensures { result ≡ (flow_of self.now).peers }
+    {
+        self.peers.count()
+    }
+
+    pub fn is_open(&self, peer: u32) -> bool
+        ensures { result ≡ is_some ((flow_of self.now).accesses peer).connection }
+    {
+        self.peers.is_open(peer)
+    }
+
+    /// Who holds the connection of an outside peer that is open.
+    pub fn holder(&self, peer: u32) -> Option<u32>
+        ensures { result ≡ option_map (λ x. x.holder) ((flow_of self.now).accesses peer).connection }
+    {
+        self.peers.holder(peer)
+    }
+
+    /// The session of an outside peer that is open; a copy can be stepped and kept or not.
+    pub fn session(&self, peer: u32) -> Option<Session>
+        ensures { result ≡ option_map (λ x. x.session) ((flow_of self.now).accesses peer).connection }
+    {
+        self.peers.session(peer)
+    }
+
+    /// A later state of the session of an outside peer that is open.
+    pub fn set_session(&mut self, peer: u32, session: Session)
+        ensures { (flow_of self.new) ≡ change_access peer (deeds.with_session session) (flow_of self.old) }
+    {
+        self.peers.set_session(peer, session);
+    }
+
+    /// The first item of a peer's inbox, as its session takes it. It stays in the inbox.
+    pub fn first_input(&self, peer: u32) -> Result<Option<Input>, NoMemory>
+        ensures { IfOk result (λ input. input ≡ option_map (deeds.input_of wire) (slice_get (inbox_of ((flow_of self.now).accesses peer).connection) 0)) }
+    {
+        self.peers.first_input(peer)
+    }
+
+    /// Drops the first item of a peer's inbox.
+    pub fn drop_first(&mut self, peer: u32)
+        ensures { (flow_of self.new) ≡ change_access peer drop_first (flow_of self.old) }
+    {
+        self.peers.drop_first(peer);
+    }
+
+    pub fn empty_inbox(&mut self, peer: u32)
+        ensures { (flow_of self.new) ≡ change_access peer (deeds.with_inbox []) (flow_of self.old) }
+    {
+        self.peers.empty_inbox(peer);
+    }
+
+    /// Whether a message of the session itself is left out: a Keepalive at a tick, where the queue
+    /// holds bytes.
+    pub fn leaves_out(&self, peer: u32, ticks: bool, own: &Own) -> bool
+        ensures { result ≡ is_left_out ticks own.now (out_of ((flow_of self.now).accesses peer).connection) }
+    {
+        self.peers.leaves_out(peer, ticks, own)
+    }
+
+    /// An outside peer gets a connection with this holder, whose session has not begun and has room for
+    /// what it says of itself. An `Err` changes nothing.
+    pub fn connect(&mut self, peer: u32, holder: u32) -> Result<(), NoMemory>
+        requires { peer < (flow_of self.old).peers }
+        ensures { Connects peer holder (flow_of self.old) result (flow_of self.new) }
+    {
+        self.peers.connect(self.alloc, peer, holder, self.clock)
+    }
+
+    /// The connection of an outside peer is closed.
+    pub fn shut(&mut self, peer: u32)
+        ensures { (flow_of self.new) ≡ shut peer (flow_of self.old) }
+    {
+        self.peers.shut(peer);
+    }
+
+    /// An outside peer feeds bytes.
+    pub fn feed(&mut self, peer: u32, piece: &[u8]) -> Result<(), Refused>
+        ensures { FeedsIn peer piece.now (flow_of self.old) result (flow_of self.new) }
+    {
+        self.peers.feed(peer, piece)
+    }
+
+    /// What waits for an outside peer is handed out to the holder of its connection.
+    pub fn drain(&mut self, peer: u32, holder: u32) -> Result<Drained, Refused>
+        ensures { DrainsIn peer holder (flow_of self.old) result (flow_of self.new) }
+    {
+        self.peers.drain(peer, holder)
+    }
+
+    // ---- inner links
+
+    /// How many inner links there are.
+    pub fn lines(&self) -> usize
+        ensures { result ≡ length (flow_of self.now).lines }
+    {
+        self.links.count()
+    }
+
+    pub fn is_linked(&self, a: As, b: As) -> bool
+        ensures { result ≡ has_line a b (flow_of self.now).lines }
+    {
+        self.links.is_linked(a, b)
+    }
+
+    /// The lower and the upper end of the k-th link.
+    pub fn line_at(&self, k: usize) -> Option<(As, As)>
+        ensures { option_map line_of result ≡ slice_get (flow_of self.now).lines k }
+    {
+        self.links.line_at(k)
+    }
+
+    /// The session of an end of a link with the other; a copy can be stepped and kept or not.
+    pub fn session_inner(&self, at: As, to: As) -> Session
+        ensures { result ≡ (flow_of self.now).sessions at to }
+    {
+        self.links.session(at, to)
+    }
+
+    /// A later state of the session at an end of a link, which has the number that it had.
+    pub fn set_session_inner(&mut self, at: As, to: As, session: Session)
+        requires linked { has_line at to (flow_of self.old).lines ≡ true }
+        requires sid { session.offer.sid ≡ ((flow_of self.old).sessions at to).offer.sid }
+        ensures { (flow_of self.new) ≡ set_session at to session (flow_of self.old) }
+    {
+        self.links.set_session(at, to, session);
+    }
+
+    /// The first message of the queue between two ends, as the session at the other end takes it. It
+    /// stays in the queue.
+    pub fn first_input_inner(&self, from: As, to: As) -> Result<Option<Input>, NoMemory>
+        ensures { IfOk result (λ input. input ≡ option_map (λ frame. deeds.input_of wire (Some frame)) (slice_get ((flow_of self.now).queues from to) 0)) }
+    {
+        self.links.first_input(from, to)
+    }
+
+    /// Whether a message is on its way between two ends.
+    pub fn is_on_its_way(&self, from: As, to: As) -> bool
+        ensures { result ≡ not (is_empty ((flow_of self.now).queues from to)) }
+    {
+        self.links.is_on_its_way(from, to)
+    }
+
+    /// Drops the first message of the queue between two ends.
+    pub fn drop_first_inner(&mut self, from: As, to: As)
+        ensures { DropsFirst from to (flow_of self.old) (flow_of self.new) }
+    {
+        self.links.drop_first(from, to);
+    }
+
+    /// Whether a message of the session itself is left out: a Keepalive at a tick, where the queue
+    /// holds bytes.
+    pub fn leaves_out_inner(&self, at: As, to: As, ticks: bool, own: &Own) -> bool
+        ensures { result ≡ is_left_out ticks own.now ((flow_of self.now).queues at to) }
+    {
+        self.links.leaves_out(at, to, ticks, own)
+    }
+
+    /// Empties both queues of a link.
+    pub fn clear(&mut self, a: As, b: As)
+        ensures { Clears a b (flow_of self.old) (flow_of self.new) }
+    {
+        self.links.clear(a, b);
+    }
+
+    /// The number of the session that comes after that of now.
+    pub fn next_sid(&self, at: As, to: As) -> u8
+        ensures { result ≡ next_sid ((flow_of self.now).sessions at to) }
+    {
+        self.links.next_sid(at, to)
+    }
+
+    /// The session at an end of a link is made anew and begun: it says its Open.
+    pub fn begin_end(&mut self, at: As, to: As, sid: u8)
+        requires there { Covers ((flow_of self.old).room.inner at to) 1 OWN_LENGTH }
+        requires said { Covers (flow_of self.old).room.said 1 OWN_LENGTH }
+        ensures { Begins at to sid (flow_of self.old) (flow_of self.new) }
+    {
+        self.links.begin(at, to, sid, self.clock);
+        let open = own_text(Own::Open(our_offer(sid)));
+        self.said.put(at, Peer::Inner(to), open.as_slice());
+    }
+
+    // ---- both
+
+    /// Makes room in the queue from a member to a peer for so many more messages, of so many bytes
+    /// together, besides those of the session itself. It refuses too where there is no such queue.
+    pub fn reserve(
+        &mut self,
+        at: As,
+        to: Peer,
+        messages: usize,
+        bytes: usize,
+    ) -> Result<(), NoMemory>
+        ensures grows { GrowsAt at to (flow_of self.old) (flow_of self.new) }
+        ensures ok { OnOk result (KeepsRoomAt at to messages bytes (flow_of self.new)) }
+    {
+        match to {
+            Peer::Outside(peer) => self.peers.reserve(peer, messages, bytes),
+            Peer::Inner(other) => self.links.reserve(at, other, messages, bytes),
+        }
+    }
+
+    /// Makes room in what is said.
+    pub fn reserve_said(&mut self, messages: usize, bytes: usize) -> Result<(), NoMemory>
+        ensures grows { GrowsSaid (flow_of self.old) (flow_of self.new) }
+        ensures ok { OnOk result (Covers (flow_of self.new).room.said messages bytes) }
+    {
+        self.said.reserve(messages, bytes)
+    }
+
+    /// Another step begins: nothing has been said in it.
+    pub fn clear_said(&mut self)
+        ensures { ClearsSaid (flow_of self.old) (flow_of self.new) }
+    {
+        self.said.clear();
+    }
+
+    /// A message for which there is room is put into the queue from a member to a peer, and said.
+    pub fn put(&mut self, at: As, to: Peer, message: &[u8])
+        requires there { Covers (room_at at to (flow_of self.old)) 1 (length message.now) }
+        requires said { Covers (flow_of self.old).room.said 1 (length message.now) }
+        ensures { Puts at to message.now (flow_of self.old) (flow_of self.new) }
+    {
+        match to {
+            Peer::Outside(peer) => self.put_outside(at, peer, message),
+            Peer::Inner(other) => self.put_inner(at, other, message),
+        }
+    }
+
+    fn put_outside(&mut self, at: As, peer: u32, message: &[u8])
+        requires there { Covers ((flow_of self.old).room.outside peer) 1 (length message.now) }
+        requires said { Covers (flow_of self.old).room.said 1 (length message.now) }
+        ensures { Puts at (Peer.Outside peer) message.now (flow_of self.old) (flow_of self.new) }
+    {
+        self.peers.put(peer, message);
+        self.said.put(at, Peer::Outside(peer), message);
+    }
+
+    fn put_inner(&mut self, at: As, to: As, message: &[u8])
+        requires there { Covers ((flow_of self.old).room.inner at to) 1 (length message.now) }
+        requires said { Covers (flow_of self.old).room.said 1 (length message.now) }
+        ensures { Puts at (Peer.Inner to) message.now (flow_of self.old) (flow_of self.new) }
+    {
+        self.links.put(at, to, message);
+        self.said.put(at, Peer::Inner(to), message);
+    }
+
+    /// The messages that were said since they were last cleared.
+    pub fn said(&self) -> &Said
+        ensures { result.now ≡ record { kept = (flow_of self.now).said; spare = (flow_of self.now).room.said } }
+    {
+        &self.said
+    }
+}

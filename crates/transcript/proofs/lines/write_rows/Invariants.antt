@@ -1,0 +1,6 @@
+use Rattle.std.proofs.Common.{◌≡◌, ◌++◌, drop}
+use Rattle.transcript.specs.Lines.{rows_text}
+use Rattle.transcript.proofs.lines.write_rows.Given as goal
+
+abbrev pub invariant-loop-row : goal.invariant-loop-row
+invariant-loop-row l = l.into.items ++ rows_text l.line (drop l.row-index l.rows) ≡ l.initial.into.items ++ rows_text l.line l.rows

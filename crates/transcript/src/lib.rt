@@ -1,0 +1,12 @@
+//! How the events of a run and the answers to a client are told: the lines of a transcript.
+#![tactic(auto)]
+
+mod lines;
+mod replies;
+#[cfg(test)]
+mod tests;
+
+pub use lines::{
+    write_answer, write_carry, write_certified, write_rows, write_said, write_solve, write_take,
+};
+pub use replies::write_message_lines;
