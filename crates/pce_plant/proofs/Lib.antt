@@ -1,15 +1,9 @@
-pub mod DomainLemmas
-pub mod LoadLemmas
-pub mod ReadyLemmas
-pub mod PlaceLoads
-pub mod FreshLemmas
-pub mod BecomingLemmas
-pub mod TierLemmas
-pub mod RisingDomains
 pub mod StepLemmas
-pub mod TickLemmas
-pub mod NetworkLemmas
-pub mod JoinedLemmas
-pub mod BegunLemmas
-pub mod TierLoads
-pub mod AnswerLemmas
+pub mod SoundLemmas
+pub mod BeginLemmas
+pub mod JobLemmas
+pub mod SolveLemmas
+pub mod LoadLemmas
+pub mod HistoryLemmas
+mod CrossingParts
+pub mod Crossing

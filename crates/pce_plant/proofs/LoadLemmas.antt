@@ -1,102 +1,91 @@
--- An element that loads a topology is the event of the model.
-use Rattle.std.proofs.Common.{◌≡◌, ℕ, suc, Bool, true, false, cond, is_some, Option, Some, None, Result, Ok, Err, List, [], ◌∷◌, refl, sym, ◌∙◌, ap, ap₂, subst, inl, inr}
+-- An element of a network loads a topology.
+use Rattle.std.proofs.Common.{◌≡◌, ℕ, ◌+◌, ◌*◌, length, Result, Ok, Err, List, [], ◌∷◌, refl, sym, ◌∙◌, ap, ap₂, subst}
+use Rattle.std.specs.Prelude.{OnOk, OnErr}
 use Rattle.dom_base.specs.declared.names.As.{As}
 use Rattle.te_links.specs.Rows.{Rows}
 use Rattle.plant_text.specs.declared.settings.NetworkParts.{NetworkParts}
-use Rattle.plant_text.specs.Names.{same_as}
-use Rattle.plant_text.specs.Settings.{is_element}
 use Rattle.plant_model.specs.declared.event.Event.TheVariants as event
-use Rattle.plant_model.specs.declared.outcome.Outcome.TheVariants.{Loaded}
 use Rattle.plant_model.specs.declared.outcome.Refused.{Refused}
-use Rattle.plant_model.specs.declared.outcome.Refused.TheVariants.{NoSuchPeer, GenerationsFull}
-use Rattle.plant_model.specs.Names.{set_as}
-use Rattle.plant_model.specs.Wire.{Codec}
 use Rattle.plant_model.specs.Element.{Element}
-use Rattle.plant_model.specs.State.{Loads}
-use Rattle.plant_model.specs.Plant.{Pin, Segment, Plant, Happened, Steps, load, refused, is_full}
-use Rattle.pce_element.specs.Seen.{Seen}
-use Rattle.pce_plant.specs.Elements.{own_of, at_domain, with_seen, element_or, elements_in, current_or, current_in, loaded, LoadsElement, LoadsAt}
-use Rattle.pce_plant.specs.Loading.{answer_of, deeds_of, with_elements}
-use Rattle.pce_plant.proofs.DomainLemmas.{same_as_is, currents_with, elements_with, set_again}
+use Rattle.plant_model.specs.Events.{Answered}
+use Rattle.plant_model.specs.Parent.{Parent}
+use Rattle.plant_model.specs.Plant.{Pin, Segment, Plant, PlantDeed, Steps}
+use Rattle.plant_model.specs.RealWire.{wire}
+use Rattle.plant_model.specs.State.{said}
+use Rattle.plant_traffic.specs.Carried.{Carried, flow_of}
+use Rattle.plant_traffic.specs.Flow.{Flow, ClearsSaid}
+use Rattle.plant_members.specs.Membership.{Membership}
+use Rattle.plant_members.specs.Owed.{pending_at}
+use Rattle.plant_queues.specs.Messages.{Covers}
+use Rattle.plant_sessions.specs.declared.TheConstants.{ANSWER_LENGTH, OWN_LENGTH}
+use Rattle.plant_text.specs.Settings.{elements_of}
+use Rattle.plant_deeds.specs.Passing.{IsOf}
+use Rattle.plant_deeds.specs.Rooms.{IsRoomy, own_most, said_in_all}
+use Rattle.plant_deeds.proofs.FeedLaws.{cleared_roomy}
+use Rattle.plant_deeds.proofs.RoomySteps.{emptied_keeps}
+use Rattle.plant_hierarchy.specs.Loading.{Loads, answer_of, deeds_of}
+use Rattle.plant_hierarchy.specs.Tiers.{Tiers, lost_in, members_of}
+use Rattle.pce_plant.specs.Held.{Held, held, whole, IsKept, IsSound, Moves}
+use Rattle.pce_plant.specs.Whole.{Stepped}
+use Rattle.pce_plant.proofs.StepLemmas.{kept}
 
-pub found_own : (d : As) (es : List Seen) (e : Seen) → at_domain d es ≡ Some e → own_of e ≡ d
-found_own d [] e found = absurd (none_some e found)
+module _ (d : As) (g : Rows) (old : Held) (r : Result ℕ Refused) (t : Tiers) (loads : Loads d g old.members r t) where
+  abbrev n : NetworkParts
+  n = old.members.network
+
+  -- with another topology, whatever requests there are
+  abbrev with_current : Membership Pin Segment → Membership Pin Segment
+  with_current ms = record ms { current = (members_of t).current }
+
+  pending_current : (ds : List As) → pending_at ds (with_current (members_of old.members)) ≡ pending_at ds (members_of old.members)
+  pending_current [] = refl
+  pending_current (d' ∷ ds) = ap (λ (k : ℕ). length ((members_of old.members).elements d').pending.rows + k) (pending_current ds)
+
+  other_current : (f : Flow) → IsRoomy n (members_of old.members) f → IsRoomy n (with_current (members_of old.members)) f
+  other_current f roomy = record {
+    answers = record { live = roomy.answers.live; dead = roomy.answers.dead };
+    said =
+        subst (λ (k : ℕ). let pending = length (members_of old.members).parent.pending.rows + k in Covers (said_in_all f) (own_most n + pending) (OWN_LENGTH * own_most n + ANSWER_LENGTH * pending))
+        (sym (pending_current (elements_of n.elements))) roomy.said;
+  }
+
+  members_are : with_current (members_of old.members) ≡ members_of t
+  members_are = ap₂ (λ (es : As → Element Pin Segment) (p : Parent). let ms : Membership Pin Segment = record { elements = es; parent = p; current = (members_of t).current } in ms) (sym loads.elements) (sym loads.parent)
+
+  roomy_on : (f : Flow) → IsRoomy n (members_of old.members) f → IsRoomy n (members_of t) f
+  roomy_on f roomy = subst (λ (ms : Membership Pin Segment). IsRoomy n ms f) members_are (other_current f roomy)
+
+  -- the state with this flow
+  abbrev state_at : Parent → Flow → Plant
+  state_at p f = record { clock = f.clock; elements = (members_of t).elements; parent = p; current = (members_of t).current; accesses = f.accesses; sessions = f.sessions; queues = f.queues }
+
+  steps_to : (f : Flow) → state_at (members_of t).parent (flow_of old.carried) ≡ state_at (members_of t).parent f →
+      Steps wire n (whole old).state (event.Load d g) (record { answer = answer_of r; state = state_at (members_of t).parent f; deeds = deeds_of d g r })
+  steps_to f same =
+      subst (λ (s : Plant). Steps wire n (whole old).state (event.Load d g) (record { answer = answer_of r; state = s; deeds = deeds_of d g r }))
+      (ap (λ (p : Parent). state_at p (flow_of old.carried)) (sym loads.parent) ∙ same) (loads.steps (whole old).state)
+
+  none_on : IsSound old → (d' : As) → lost_in t d' ≡ []
+  none_on sound d' = ap (λ (ls : As → List _). ls d') loads.lost ∙ sound.kept.none d'
+
+pub load_refused : (d : As) (g : Rows) (old : Held) (why : Refused) (t : Tiers) → IsSound old → Loads d g old.members (Err why) t → Moves old (event.Load d g) (Err why) (held t old.carried)
+load_refused d g old why t sound loads = record {
+  stepped = record { network = loads.network; deeds = []; steps = steps_to d g old (Err why) t loads (flow_of old.carried) refl; accepted = tt; refused = refl };
+  kept = kept old (held t old.carried) loads.network sound.kept.of (none_on d g old (Err why) t loads sound) (roomy_on d g old (Err why) t loads (flow_of old.carried) sound.kept.roomy);
+}
+
+pub load_accepted : (d : As) (g : Rows) (old : Held) (k : ℕ) (t : Tiers) (carried : Carried) → IsSound old → Loads d g old.members (Ok k) t → ClearsSaid (flow_of old.carried) (flow_of carried) → Moves old (event.Load d g) (answer_of (Ok k)) (held t carried)
+load_accepted d g old k t carried sound loads clears = record {
+  stepped = record {
+    network = loads.network;
+    deeds = deeds_of d g (Ok k);
+    steps = steps_to d g old (Ok k) t loads (flow_of carried) (ap (state_at d g old (Ok k) t loads (members_of t).parent) (sym clears.kept));
+    accepted = ap (λ (f : Flow). f.said) clears.kept;
+    refused = tt;
+  };
+  kept = kept old (held t carried) loads.network of (none_on d g old (Ok k) t loads sound)
+      (cleared_roomy old.members.network (members_of t) (flow_of old.carried) (flow_of carried) clears (emptied_keeps old.members.network (members_of t) (flow_of old.carried) (roomy_on d g old (Ok k) t loads (flow_of old.carried) sound.kept.roomy)));
+}
   where
-    none_some : (y : Seen) → None ≡ Some y → ⊥
-    none_some y is = cc
-found_own d (y ∷ es) e found = go (found_own d es e) (same_as (own_of y) d) refl found
-  where
-    one : (a b : Seen) → Some a ≡ Some b → a ≡ b
-    one a b is = cc
-
-    go : (at_domain d es ≡ Some e → own_of e ≡ d) → (b : Bool) → same_as (own_of y) d ≡ b → cond b (Some y) (at_domain d es) ≡ Some e → own_of e ≡ d
-    go more true same is = ap own_of (sym (one y e is)) ∙ same_as_is (own_of y) d same
-    go more false same is = more is
-
-module _ (c : Codec) (n : NetworkParts) (now : ℕ) (d : As) (g : Rows) (old : List Seen) (s : Plant) where
-  abbrev before : Plant
-  before = with_elements n now old s
-
-  abbrev Claim : Result ℕ Refused → List Seen → Type 0
-  Claim r new = Steps c n before (event.Load d g) (record { answer = answer_of r; state = with_elements n now new s; deeds = deeds_of d g r })
-
-  -- what the model does, by what is found at the domain
-  abbrev by_found : Option Seen → Happened
-  by_found o =
-      cond (is_some o)
-      (cond (is_full (current_or d o).number (element_or n now d o).pending.rows)
-      (refused c n GenerationsFull before)
-      (record { answer = Ok (Loaded (suc (current_or d o).number)); state = record before { current = set_as d (record { number = suc (current_or d o).number; topology = g }) before.current }; deeds = Loads d g ∷ [] }))
-      (refused c n NoSuchPeer before)
-
-  abbrev refuses : Refused → List Seen → Happened
-  refuses w es = record { answer = Err w; state = with_elements n now es s; deeds = [] }
-
-  abbrev loads_new : Seen → Happened
-  loads_new e = record { answer = Ok (Loaded (suc e.current.number)); state = record before { current = set_as d (record { number = suc e.current.number; topology = g }) before.current }; deeds = Loads d g ∷ [] }
-
-  is_found : is_element n d ≡ is_some (at_domain d old) → load c n d g before ≡ by_found (at_domain d old)
-  is_found known = ap (λ (b : Bool). cond b (cond (is_full (before.current d).number (before.elements d).pending.rows) (refused c n GenerationsFull before) (record { answer = Ok (Loaded (suc (before.current d).number)); state = record before { current = set_as d (record { number = suc (before.current d).number; topology = g }) before.current }; deeds = Loads d g ∷ [] })) (refused c n NoSuchPeer before)) known
-
-  -- the state in which the element has the new topology
-  state_with : (e x : Seen) (new : List Seen) → at_domain d old ≡ Some e → x ≡ record (loaded g e) { room = x.room } → new ≡ with_seen x old →
-      with_elements n now new s ≡ record before { current = set_as d (record { number = suc e.current.number; topology = g }) before.current }
-  state_with e x new found same is = ap₂ (λ (es : As → Element Pin Segment) (cs : As → Pin). let t : Plant = record s { elements = es; current = cs } in t) elements currents
-    where
-      own : own_of x ≡ d
-      own = ap own_of same ∙ found_own d old e found
-
-      there : at_domain (own_of x) old ≡ Some e
-      there = ap (λ (a : As). at_domain a old) own ∙ found
-
-      currents : current_in new ≡ set_as d (record { number = suc e.current.number; topology = g }) (current_in old)
-      currents = ap current_in is ∙ currents_with x old e there ∙ ap₂ (λ (a : As) (p : Pin). set_as a p (current_in old)) own (ap (λ (y : Seen). y.current) same)
-
-      again : elements_in n now old (own_of x) ≡ x.losing.element
-      again = ap (element_or n now (own_of x)) there ∙ sym (ap (λ (y : Seen). y.losing.element) same)
-
-      elements : elements_in n now new ≡ elements_in n now old
-      elements = ap (elements_in n now) is ∙ elements_with n now x old e there ∙ set_again (own_of x) x.losing.element (elements_in n now old) again
-
-  pub load_steps : (r : Result ℕ Refused) (new : List Seen) → is_element n d ≡ is_some (at_domain d old) → LoadsAt (at_domain d old) g old r new →
-      Steps c n before (event.Load d g) (record { answer = answer_of r; state = with_elements n now new s; deeds = deeds_of d g r })
-  load_steps r new known loads = go (at_domain d old) refl loads
-    where
-      model : (o : Option Seen) → at_domain d old ≡ o → load c n d g before ≡ by_found o
-      model o at = is_found known ∙ ap by_found at
-
-      ok_err : (k : ℕ) (why : Refused) → Ok k ≡ Err why → ⊥
-      ok_err k why is = cc
-
-      pick : (e : Seen) → at_domain d old ≡ Some e → (x : Result ℕ Refused) → LoadsElement e g old x new → (b : Bool) → is_full e.current.number e.losing.element.pending.rows ≡ b → Claim x new
-      pick e at (Ok k) h true full = absurd (ok_err k GenerationsFull (h.full.1 full))
-      pick e at (Ok k) h false full =
-          inl (ap₂ (λ (m : ℕ) (t : Plant). let z : Happened = record { answer = Ok (Loaded m); state = t; deeds = Loads d g ∷ [] } in z) h.number (state_with e h.ok.0 new at h.ok.1 h.ok.2)
-          ∙ sym (model (Some e) at ∙ ap (λ (z : Bool). cond z (refused c n GenerationsFull before) (loads_new e)) full))
-      pick e at (Err why) h b full = elim (h.why why refl) [ inl is ↦ inl (ap₂ refuses is h.err ∙ sym (model (Some e) at ∙ ap (λ (z : Bool). cond z (refused c n GenerationsFull before) (loads_new e)) (h.full.0 (ap (λ (w : Refused). let x : Result ℕ Refused = Err w in x) is)))) | inr is ↦ inr (refl, ap₂ refuses is h.err) ]
-
-      go : (o : Option Seen) → at_domain d old ≡ o → LoadsAt o g old r new → Claim r new
-      go None at h =
-          subst (λ (x : Result ℕ Refused). Claim x new) (sym h.0)
-          (inl (ap (refuses NoSuchPeer) h.1 ∙ sym (model None at)))
-      go (Some e) at h = pick e at r h (is_full e.current.number e.losing.element.pending.rows) refl
+    of : IsOf old.members.network (flow_of carried)
+    of = record { lines_are = ap (λ (f : Flow). f.lines) clears.kept ∙ sound.kept.of.lines_are; peers_are = ap (λ (f : Flow). f.peers) clears.kept ∙ sound.kept.of.peers_are }

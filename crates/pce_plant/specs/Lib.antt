@@ -1,12 +1,9 @@
 -- for readers
-pub mod Elements
-pub mod Becoming
-pub mod Tiers
-pub mod Answering
--- inner
-pub mod TierFields
-pub mod ElementFields
-pub mod Loading
-pub mod Ready
 pub mod Whole
-pub mod Fresh
+pub mod Held
+pub mod Jobs
+pub mod Turns
+pub mod Histories
+-- inner
+pub mod PlantFields
+pub mod TurnLaws

@@ -1,11 +1,12 @@
 -- A network as its callers see it, and what an event leaves.
-use Rattle.std.specs.Prelude.{◌≡◌, List, ◌∷◌, OnOk, OnErr}
+use Rattle.std.specs.Prelude.{◌≡◌, List, [], ◌∷◌, OnOk, OnErr}
 use Rattle.plant_text.specs.declared.settings.NetworkParts.{NetworkParts}
 use Rattle.plant_queues.specs.declared.sent.Sent.{Sent}
 use Rattle.plant_model.specs.declared.event.Event.{Event}
+use Rattle.plant_model.specs.declared.event.Event.TheVariants as event
 use Rattle.plant_model.specs.Events.{Answered}
 use Rattle.plant_model.specs.State.{said}
-use Rattle.plant_model.specs.Plant.{Plant, PlantDeed, Steps, Entry, Run}
+use Rattle.plant_model.specs.Plant.{Plant, PlantDeed, Steps, Entry, IsGiven, Run}
 use Rattle.plant_model.specs.RealWire.{wire}
 
 -- its settings, its state, and the messages that the last accepted event put into queues
@@ -23,6 +24,16 @@ pub record Stepped (old : Whole) (e : Event) (answer : Answered) (new : Whole) :
   pub accepted : OnOk answer (new.said ≡ said wire deeds)
   pub refused : OnErr answer (new.said ≡ old.said)
 
--- a run goes on by this event
+-- a topology is loaded by the element of its own domain
+abbrev pub IsOwnLoad : Event → Type 0
+IsOwnLoad (event.Load d g) = g.own ≡ d
+IsOwnLoad e = Unit {0}
+
+-- a network has just been made: a run of no event ends in its state
+abbrev pub IsBegun : NetworkParts → Whole → Type 0
+IsBegun n w = (w.network ≡ n) × Run wire n [] w.state × (w.said ≡ [])
+
+-- a run goes on by this event, where what is given is what its types say
 abbrev pub GoesOn : Whole → Event → Answered → Whole → Type 0
-GoesOn old e answer new = (entries : List Entry) → Run wire old.network entries old.state → (deeds : List PlantDeed) × Run wire old.network (record { event = e; answer = answer; deeds = deeds } ∷ entries) new.state
+GoesOn old e answer new =
+    IsGiven e → (entries : List Entry) → Run wire old.network entries old.state → (deeds : List PlantDeed) × Run wire old.network (record { event = e; answer = answer; deeds = deeds } ∷ entries) new.state

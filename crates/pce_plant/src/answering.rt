@@ -1,148 +1,142 @@
-//! A solved job is answered.
-ghost use Rattle.std.specs.Prelude.{◌≡◌, ◌<◌, ◌≤◌, length, Some, IfErr, IfOk, IfSome, false, true};
-ghost use Rattle.std.specs.List.{slice_index_or};
-ghost use Rattle.plant_text.specs.Names.{same_as, parent_as};
-ghost use Rattle.plant_text.specs.Settings.{is_element};
+//! Jobs are solved and answered.
+ghost use Rattle.std.specs.Prelude.{◌≡◌, true, is_some, Some, IfErr, IfOk};
+ghost use Rattle.plant_model.specs.declared.event.Event.TheVariants.{Solve};
 ghost use Rattle.plant_model.specs.Events.{has_jobs};
-ghost use Rattle.plant_members.specs.Membership.{KeysBefore};
-ghost use Rattle.pce_element.specs.Committing.{IsOwnJob, committed};
-ghost use Rattle.pce_parent.specs.Seen as above;
-ghost use Rattle.pce_plant.specs.Answering.{Commits, IsBack, IsOwnDone, told_below};
-ghost use Rattle.pce_plant.specs.Becoming.{Becomes, BecomesAt, HasElement, unchanged};
-ghost use Rattle.pce_plant.specs.Elements.{at_domain, no_one};
-ghost use Rattle.pce_plant.specs.Tiers.{members_of};
+ghost use Rattle.plant_hierarchy.specs.Answering.{IsOwnDone, IsRefusedFor, IsWeighedWork, back_of};
+ghost use Rattle.plant_hierarchy.specs.Tiers.{members_of};
+ghost use Rattle.pce_plant.specs.Held.{IsSound, Moves, held};
+ghost use Rattle.pce_plant.specs.Jobs.{IsSolvedBy, answer_of, handed_back, refusal_of, solved_at, solved_number, told};
 
-use crate::elements::Elements;
-use crate::hierarchy::{Hierarchy, is_parent};
-use crate::plan::MemberPlan;
-use border_costs::Solved;
-use dom_base::{As, Tick};
-use pce_element::{CommitError, Element, Plan};
-use pce_parent::{BorderSolved, Done, ParentCommitError};
-use plant_model::Refused;
+use border_costs::solve as solve_domain;
+use dom_base::{As, NoMemory};
+use pce_parent::{Done, Work, solve_border};
+use plant_deeds::answer as send_answer;
+use plant_hierarchy::{Hierarchy, MemberPlan, Unanswered};
+use plant_model::{Outcome, Refused};
+use plant_traffic::Traffic;
+use std::alloc::Global;
 
-/// Why a solved job is not answered, and the job.
+/// Why a solved job is not answered. It hands back what was solved.
 #[derive(Drop)]
-pub(crate) struct Unanswered {
-    pub why: Refused,
-    pub done: Done,
+pub enum CommitRefused {
+    /// The request of that number can't be solved, or there is no such domain.
+    NoSuchJob(Done),
+    NoMemory(Done),
 }
 
-fn commit_at(
-    items: &mut Vec<Element>,
-    i: usize,
-    solved: Solved,
-    now: Tick,
-) -> Result<Plan, CommitError>
-    requires within { i < length items.old.items }
-    requires clock { (slice_index_or items.old.items i no_one).losing.element.keys.clock ≤ now.0 }
-    requires own { IsOwnJob (slice_index_or items.old.items i no_one) solved }
-    ensures same { BecomesAt i unchanged items.old.items items.new.items }
-    ensures from { IfOk result (λ plan. plan.from ≡ slice_index_or items.new.items i no_one) }
-    ensures taken { IfOk result (λ plan. committed (slice_index_or items.old.items i no_one) solved now.0 ≡ Some plan.taken) }
-    ensures one { IfOk result (λ plan. length plan.taken.outputs ≡ 1) }
-    ensures back { IfErr result (IsBack (slice_index_or items.old.items i no_one) solved) }
+fn refusal_of(unanswered: Unanswered) -> CommitRefused
+    ensures { result ≡ refusal_of unanswered }
 {
-    items[i].commit(solved, now)
+    let Unanswered { why, done } = unanswered;
+    match why {
+        Refused::NoMemory => CommitRefused::NoMemory(done),
+        _other => CommitRefused::NoSuchJob(done),
+    }
 }
 
-// What is told of an element's answer.
-fn told_below(at: As, answer: Result<Plan, CommitError>) -> Result<MemberPlan, Unanswered>
-    ensures { result ≡ told_below at answer }
+fn at_of(done: &Done) -> As
+    ensures { result ≡ solved_at done.now }
+{
+    match done {
+        Done::Domain(solved) => solved.at(),
+        Done::Border(_solved) => As(0),
+    }
+}
+
+// What a plan was made for.
+fn done_of(plan: MemberPlan) -> Done
+    requires { is_some (back_of plan) ≡ true }
+    ensures { back_of plan ≡ Some result }
+{
+    match plan.back() {
+        Some(done) => done,
+        None => unreachable!(),
+    }
+}
+
+/// Answers a job that was solved.
+fn answer(
+    alloc: Global,
+    members: &mut Hierarchy,
+    traffic: &mut Traffic,
+    done: Done,
+) -> Result<Outcome, Unanswered>
+    requires sound { IsSound (held members.old traffic.old) }
+    requires own { IsOwnDone members.old (solved_at done) done }
+    ensures moves { Moves (held members.old traffic.old) (Solve (solved_at done) (solved_number done)) (told result) (held members.new traffic.new) }
+    ensures why { IfErr result (λ u. IsRefusedFor members.old.network (solved_at done) (solved_number done) (members_of members.old) u.why) }
+    ensures back { IfErr result (λ u. u.done ≡ done) }
+{
+    let at = at_of(&done);
+    let plan = members.commit(at, done, traffic.clock())?;
+    match send_answer(alloc, members, traffic, at, plan) {
+        Ok(()) => Ok(Outcome::Done),
+        Err(plan) => Err(Unanswered {
+            why: Refused::NoMemory,
+            done: done_of(plan),
+        }),
+    }
+}
+
+fn solve_work(alloc: Global, work: &Work) -> Result<Done, NoMemory>
+    requires { IsWeighedWork work.now }
+    ensures { IfOk result (IsSolvedBy work.now) }
+{
+    match work {
+        Work::Domain(job) => Ok(Done::Domain(solve_domain(alloc, job)?)),
+        Work::Border(job) => Ok(Done::Border(solve_border(alloc, job)?)),
+    }
+}
+
+fn told(answer: Result<Outcome, Unanswered>) -> Result<Outcome, Refused>
+    ensures { result ≡ told answer }
 {
     match answer {
-        Ok(plan) => Ok(MemberPlan::Element { at, plan }),
-        Err(CommitError::Stranger(solved)) => Err(Unanswered {
-            why: Refused::NoSuchJob,
-            done: Done::Domain(solved),
-        }),
-        Err(CommitError::NoMemory(solved)) => Err(Unanswered {
-            why: Refused::NoMemory,
-            done: Done::Domain(solved),
-        }),
+        Ok(outcome) => Ok(outcome),
+        Err(unanswered) => Err(unanswered.why),
     }
 }
 
-impl Elements {
-    /// Plans the answer to a job of the element of a domain that was solved.
-    pub fn commit(&mut self, at: As, solved: Solved, now: Tick) -> Result<Plan, CommitError>
-        requires there { HasElement at self.old }
-        requires clock { IfSome (at_domain at self.old) (λ e. e.losing.element.keys.clock ≤ now.0) }
-        requires own { IfSome (at_domain at self.old) (λ e. IsOwnJob e solved) }
-        ensures same { Becomes at unchanged self.old self.new }
-        ensures from { IfOk result (λ plan. at_domain at self.new ≡ Some plan.from) }
-        ensures taken { IfOk result (λ plan. IfSome (at_domain at self.old) (λ e. committed e solved now.0 ≡ Some plan.taken)) }
-        ensures one { IfOk result (λ plan. length plan.taken.outputs ≡ 1) }
-        ensures back { IfErr result (λ why. IfSome (at_domain at self.old) (λ e. IsBack e solved why)) }
-    {
-        let i = self.place(at);
-        commit_at(&mut self.items, i, solved, now)
+/// Solves a job, and answers it.
+pub(crate) fn solve(
+    alloc: Global,
+    members: &mut Hierarchy,
+    traffic: &mut Traffic,
+    at: As,
+    number: u64,
+) -> Result<Outcome, Refused>
+    requires sound { IsSound (held members.old traffic.old) }
+    ensures { Moves (held members.old traffic.old) (Solve at number) result (held members.new traffic.new) }
+{
+    if !members.has_jobs(at) {
+        return Err(Refused::NoSuchPeer);
     }
+    let Ok(found) = members.job(at, number) else {
+        return Err(Refused::NoMemory);
+    };
+    let Some(work) = found else {
+        return Err(Refused::NoSuchJob);
+    };
+    let Ok(done) = solve_work(alloc, &work) else {
+        return Err(Refused::NoMemory);
+    };
+    told(answer(alloc, members, traffic, done))
 }
 
-impl Hierarchy {
-    /// Whether there is such an element, or the parent.
-    pub(crate) fn has_jobs(&self, at: As) -> bool
-        ensures { result ≡ has_jobs self.now.network at }
-    {
-        if is_parent(at) {
-            self.network.parts().parent.is_some()
-        } else {
-            self.elements.has(at)
-        }
-    }
-
-    fn commit_below(&mut self, at: As, solved: Solved, now: Tick) -> Result<MemberPlan, Unanswered>
-        requires below { same_as at parent_as ≡ false }
-        requires there { is_element self.old.network at ≡ true }
-        requires clock { KeysBefore now.0 self.old.network (members_of self.old) }
-        requires own { IfSome (at_domain at self.old.elements) (λ e. IsOwnJob e solved) }
-        ensures { Commits at now.0 (Done.Domain solved) self.old result self.new }
-    {
-        let _at = solved.at();
-        told_below(at, self.elements.commit(at, solved, now))
-    }
-
-    fn commit_above(
-        &mut self,
-        at: As,
-        solved: BorderSolved,
-        now: Tick,
-    ) -> Result<MemberPlan, Unanswered>
-        requires above { same_as at parent_as ≡ true }
-        requires there { has_jobs self.old.network at ≡ true }
-        requires own { IfSome (above.job_at self.old.parent solved.job.number) (λ j. solved.job ≡ j) }
-        ensures { Commits at now.0 (Done.Border solved) self.old result self.new }
-    {
-        let _number = solved.number();
-        match self.parent.commit(solved, now) {
-            Ok(plan) => Ok(MemberPlan::Parent(plan)),
-            Err(ParentCommitError::Stranger(solved)) => Err(Unanswered {
-                why: Refused::NoSuchJob,
-                done: Done::Border(solved),
-            }),
-            Err(ParentCommitError::NoMemory(solved)) => Err(Unanswered {
-                why: Refused::NoMemory,
-                done: Done::Border(solved),
-            }),
-        }
-    }
-
-    /// Plans the answer to a job of a member that was solved, which changes nothing yet.
-    pub fn commit(&mut self, at: As, done: Done, now: Tick) -> Result<MemberPlan, Unanswered>
-        requires clock { KeysBefore now.0 self.old.network (members_of self.old) }
-        requires own { IsOwnDone self.old at done }
-        ensures { Commits at now.0 done self.old result self.new }
-    {
-        if !self.has_jobs(at) {
-            return Err(Unanswered {
-                why: Refused::NoSuchPeer,
-                done,
-            });
-        }
-        match done {
-            Done::Domain(solved) => self.commit_below(at, solved, now),
-            Done::Border(solved) => self.commit_above(at, solved, now),
-        }
+/// Answers a job that was solved; a refusal hands it back.
+pub(crate) fn commit(
+    alloc: Global,
+    members: &mut Hierarchy,
+    traffic: &mut Traffic,
+    done: Done,
+) -> Result<Outcome, CommitRefused>
+    requires sound { IsSound (held members.old traffic.old) }
+    requires own { IsOwnDone members.old (solved_at done) done }
+    ensures moves { Moves (held members.old traffic.old) (Solve (solved_at done) (solved_number done)) (answer_of (has_jobs members.old.network (solved_at done)) result) (held members.new traffic.new) }
+    ensures back { IfErr result (λ why. handed_back why ≡ done) }
+{
+    match answer(alloc, members, traffic, done) {
+        Ok(outcome) => Ok(outcome),
+        Err(unanswered) => Err(refusal_of(unanswered)),
     }
 }

@@ -1,13 +1,17 @@
-//! A network of path computation elements as one value, which takes one event at a time.
+//! A network of path computation elements as one value, which takes one event at a time (RFC 4655).
 #![tactic(auto)]
 
+mod acts;
 mod answering;
-mod becoming;
-mod counting;
-mod elements;
-mod fresh;
-mod hierarchy;
-mod members;
-mod plan;
-mod ready;
-mod steps;
+mod events;
+mod histories;
+mod plant;
+#[cfg(test)]
+mod tests;
+mod turned;
+
+pub use acts::{Act, Acted, Turn};
+pub use answering::CommitRefused;
+pub use histories::histories_are_runs;
+pub use pce_parent::{Done, Work};
+pub use plant::Plant;

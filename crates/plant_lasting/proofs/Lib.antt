@@ -1,6 +1,6 @@
 pub mod Tables
-mod JobsKept
+pub mod JobsKept
 mod ElementsLast
 mod ParentsLast
 mod DeedsLast
-mod EventsLast
+pub mod EventsLast

@@ -1,0 +1,55 @@
+-- A network, its acts and its answers may go to another thread.
+use denote.Param.Send.{IsSend, IsSync, sendable}
+use Rattle.std.proofs.Crossing.{crosses}
+use Rattle.te_generations.specs.contracts.generations.Generations as Generations
+use Rattle.plant_model.specs.contracts.event.Event as Event
+use Rattle.pce_element.specs.contracts.accepted.Accepted as Accepted
+use Rattle.pce_element.specs.contracts.element.Element as Element
+use Rattle.pce_element.specs.contracts.pinned.PinnedRequests as PinnedRequests
+use Rattle.pce_parent.specs.contracts.work.Done as Done
+use Rattle.plant_hierarchy.specs.contracts.elements.Elements as Elements
+use Rattle.plant_hierarchy.specs.contracts.hierarchy.Hierarchy as Hierarchy
+use Rattle.pce_plant.specs.contracts.acts.Act as Act
+use Rattle.pce_plant.specs.contracts.acts.Acted as Acted
+use Rattle.pce_plant.specs.contracts.acts.Turn as Turn
+use Rattle.pce_plant.specs.contracts.plant.Plant as Plant
+use Rattle.pce_plant.proofs.CrossingParts.{border_solved_send, network_send, outcome_send, parent_send, refused_send, solved_send, topology_send, traffic_send, work_send}
+
+-- the same where one is a field of another type
+event_field_send : IsSend (Event.the_field).row
+event_field_send = search (sendable, crosses, topology_send) depth 60 fits 30000
+
+done_field_send : IsSend (Done.the_field).row
+done_field_send = search (sendable, crosses, solved_send, border_solved_send) depth 60 fits 30000
+
+acted_field_send : IsSend (Acted.the_field).row
+acted_field_send = search (sendable, crosses, outcome_send, work_send, refused_send) depth 60 fits 30000
+
+pub act_send : IsSend Act.the_row
+act_send = search (event_field_send, done_field_send, sendable, crosses) depth 60 fits 10000
+
+pub turn_send : IsSend Turn.the_row
+turn_send = search (acted_field_send, sendable, crosses) depth 60 fits 10000
+
+generations_send : IsSend Generations.the_row
+generations_send = search (sendable, crosses) depth 60 fits 30000
+
+accepted_send : IsSend Accepted.the_row
+accepted_send = search (sendable, crosses) depth 60 fits 30000
+
+pinned_send : IsSend PinnedRequests.the_row
+pinned_send = search (generations_send, accepted_send, sendable, crosses) depth 60 fits 10000
+
+element_send : IsSend Element.the_row
+element_send = search (pinned_send, sendable, crosses) depth 60 fits 30000
+
+elements_send : IsSend Elements.the_row
+elements_send = search (element_send, sendable, crosses) depth 60 fits 30000
+
+hierarchy_send : IsSend Hierarchy.the_row
+hierarchy_send = search (network_send, elements_send, parent_send, sendable, crosses) depth 60 fits 30000
+
+pub plant_send : IsSend Plant.the_row
+plant_send = search (hierarchy_send, traffic_send, sendable, crosses) depth 60 fits 30000
+
+pub ruleset crosses_with_plants = (plant_send, act_send, turn_send)

@@ -1,0 +1,285 @@
+-- A member that answers a solved job is the model's solve.
+use Rattle.std.proofs.Common.{◌≡◌, ◌≤◌, ℕ, Bool, true, false, cond, nat_lt, Option, Some, None, Ok, Err, List, [], ◌∷◌, length, inl, inr, refl, sym, ◌∙◌, ap, subst}
+use Rattle.dom_base.specs.declared.names.As.{As}
+use Rattle.disclosure.specs.Shown.{open_of}
+use Rattle.pcep_messages.specs.declared.message.Answer.TheVariants.{Paths}
+use Rattle.pcep_messages.specs.declared.message.Message.{Message}
+use Rattle.request_table.specs.Pending.{closed_of}
+use Rattle.request_table.proofs.KeyLemmas.{same_peer_self}
+use Rattle.vspt_tree.specs.declared.branch.Best.{Best}
+use Rattle.vspt_tree.specs.declared.branch.Branch.{Branch}
+use Rattle.plant_text.specs.declared.settings.NetworkParts.{NetworkParts}
+use Rattle.plant_text.specs.Names.{parent_as}
+use Rattle.plant_model.specs.declared.event.Event.TheVariants.{Solve}
+use Rattle.plant_model.specs.declared.outcome.Outcome.TheVariants as outcome
+use Rattle.plant_model.specs.declared.outcome.Refused.{Refused}
+use Rattle.plant_model.specs.declared.outcome.Refused.TheVariants as refused
+use Rattle.plant_model.specs.declared.output.Lost.{Lost}
+use Rattle.plant_model.specs.declared.output.Output.{Output}
+use Rattle.plant_model.specs.BorderGraph.{Found}
+use Rattle.plant_model.specs.Deeds as deeds
+use Rattle.plant_model.specs.Element.{Element, Place, Row, Taken, is_client}
+use Rattle.plant_model.specs.Events.{has_jobs}
+use Rattle.plant_model.specs.Parent as parent
+use Rattle.plant_model.specs.Plant.{Pin, Plant, PlantDeed, Happened, Segment, Steps}
+use Rattle.plant_model.specs.RealWire.{wire}
+use Rattle.plant_model.specs.Settings.{place}
+use Rattle.plant_model.specs.Solving.{client_reply, closed_paths, closed_reply, commit, free, issued_all}
+use Rattle.plant_model.specs.State.{Solves, said, sent_by}
+use Rattle.plant_model.specs.Taking.{answered}
+use Rattle.plant_model.specs.Writing.{busy, reply_message}
+use Rattle.plant_traffic.specs.Carried.{Carried, flow_of}
+use Rattle.plant_traffic.specs.Flow.{Flow, SameFlow}
+use Rattle.plant_members.specs.Membership.{Membership, Replied, is_member, with_element, with_parent}
+use Rattle.plant_members.specs.Owed.{count_by_asker, is_peer}
+use Rattle.plant_deeds.specs.Answering.{IsAnswer, Sends}
+use Rattle.plant_deeds.specs.Giving.{OnlyGrows}
+use Rattle.plant_deeds.specs.Passing.{IsOf}
+use Rattle.plant_deeds.specs.Rooms.{IsRoomy}
+use Rattle.plant_deeds.specs.Standing.{state_of}
+use Rattle.plant_deeds.proofs.AnswerLaws.{count_found, owed_above, owed_below, pending_above, pending_below}
+use Rattle.plant_hierarchy.specs.Answering.{Commits, ElementAnswers, IsRefusedFor, MemberAnswers, ParentAnswers, number_of}
+use Rattle.plant_hierarchy.specs.Tiers.{Become, Tiers, lost_in, members_of, next_by}
+use Rattle.plant_hierarchy.specs.Tiers as tiers
+use Rattle.plant_hierarchy.specs.declared.plan.MemberPlan.{MemberPlan}
+use Rattle.plant_hierarchy.specs.declared.answering.Unanswered.{Unanswered}
+use Rattle.pce_parent.specs.declared.work.Done.{Done}
+use Rattle.pce_plant.specs.Held.{IsKept, IsSound, Moves, held, whole}
+use Rattle.pce_plant.specs.Jobs.{solved_at, solved_number}
+
+-- ---- the answer of the model
+
+-- one message to the asker, and the request ends
+record Ends (h : Row Pin) (k : Element Pin Segment) (t : Taken Pin Segment) : Type 0 where
+  message : Message
+  outputs : t.outputs ≡ (let o : Output = record { to = h.1.key.peer; message = message } in o) ∷ []
+  ends : t.element.pending ≡ closed_of k.pending h.0
+
+closed_ends : (e : Place) (h : Row Pin) (down : List Branch) (now : ℕ) (stands : Best → Segment) (best : List Best) (k : Element Pin Segment) → Ends h k (closed_reply wire e h down now stands k best)
+closed_ends e h down now stands [] k = record { message = _; outputs = refl; ends = refl }
+closed_ends e h down now stands (b ∷ bs) k = go (nat_lt (free now k.keys) (length (b ∷ bs)))
+  where
+    go : (c : Bool) → Ends h k (cond c (answered h (busy h.1.item.flags h.1.key.id) k)
+        (answered h (reply_message h.1.item.flags h.1.key.id (Paths (closed_paths wire e.id h.1.item.wanted.query.metric h.1.item.wanted.target down k.keys.next (b ∷ bs)))) (record k { keys = issued_all now stands (b ∷ bs) k.keys })))
+    go true = record { message = busy h.1.item.flags h.1.key.id; outputs = refl; ends = refl }
+    go false = record { message = reply_message h.1.item.flags h.1.key.id (Paths (closed_paths wire e.id h.1.item.wanted.query.metric h.1.item.wanted.target down k.keys.next (b ∷ bs))); outputs = refl; ends = refl }
+
+commit_ends : (e : Place) (h : Row Pin) (down : List Branch) (now : ℕ) (stands : Best → Segment) (source_known target_known : Bool) (best : List Best) (k : Element Pin Segment) → Ends h k (commit wire e h down now stands source_known target_known best k)
+commit_ends e h down now stands source_known target_known best k = go (is_client h.1.item.class)
+  where
+    go : (c : Bool) → Ends h k (cond c (answered h (client_reply wire h down source_known target_known best) k) (closed_reply wire e h down now stands k best))
+    go true = record { message = client_reply wire h down source_known target_known best; outputs = refl; ends = refl }
+    go false = closed_ends e h down now stands best k
+
+record EndsAbove (h : parent.AskingRow) (k : parent.Parent) (g : parent.Given) : Type 0 where
+  message : Message
+  outputs : g.outputs ≡ (let o : Output = record { to = h.1.key.peer; message = message } in o) ∷ []
+  ends : g.parent.pending ≡ closed_of k.pending h.0
+
+commit_ends_above : (h : parent.AskingRow) (a : Option Found) (k : parent.Parent) → EndsAbove h k (parent.commit wire h a k)
+commit_ends_above h None k = record { message = _; outputs = refl; ends = refl }
+commit_ends_above h (Some a) k = record { message = _; outputs = refl; ends = refl }
+
+-- ---- it is an answer
+
+module _ (n : NetworkParts) (now : ℕ) (d : As) (k : ℕ) (ms : Membership Pin Segment) (r : Replied Pin Segment) where
+  element_answer : ElementAnswers n now d k ms r → IsAnswer n d r.outputs ms r.members
+  element_answer a = subst (λ (y : Replied Pin Segment). IsAnswer n d y.outputs ms y.members) (sym a.is) (record {
+    to = a.held.key.peer;
+    message = e.message;
+    outputs_are = e.outputs;
+    owed_before =
+        subst (λ (b : Bool). 1 ≤ cond b (count_by_asker (is_peer a.held.key.peer) ms.parent.pending.rows) (count_by_asker (is_peer a.held.key.peer) (ms.elements d).pending.rows)) (sym a.upper)
+        (count_found (is_peer a.held.key.peer) k (ms.elements d).pending.rows a.held a.is_held (same_peer_self a.held.key.peer));
+    owed_after = owed_below d t.element ms k e.ends;
+    pending_after = pending_below d t.element ms k n.elements e.ends;
+  })
+    where
+      t : Taken Pin Segment
+      t = commit wire (place n d) (k, a.held) a.down now (λ b. b.segment) a.rows.source_known a.rows.target_known a.rows.best (ms.elements d)
+
+      e : Ends (k, a.held) (ms.elements d) t
+      e = commit_ends (place n d) (k, a.held) a.down now (λ b. b.segment) a.rows.source_known a.rows.target_known a.rows.best (ms.elements d)
+
+  parent_answer : ParentAnswers n k ms r → IsAnswer n parent_as r.outputs ms r.members
+  parent_answer a = subst (λ (y : Replied Pin Segment). IsAnswer n parent_as y.outputs ms y.members) (sym a.is) (record {
+    to = a.held.key.peer;
+    message = e.message;
+    outputs_are = e.outputs;
+    owed_before = count_found (is_peer a.held.key.peer) k ms.parent.pending.rows a.held a.is_held (same_peer_self a.held.key.peer);
+    owed_after = owed_above (parent.commit wire (k, a.held) a.answer ms.parent).parent ms k e.ends;
+    pending_after = pending_above (parent.commit wire (k, a.held) a.answer ms.parent).parent ms k n.elements e.ends;
+  })
+    where
+      e : EndsAbove (k, a.held) ms.parent (parent.commit wire (k, a.held) a.answer ms.parent)
+      e = commit_ends_above (k, a.held) a.answer ms.parent
+
+  pub member_answer : MemberAnswers n now d k ms r → IsAnswer n d r.outputs ms r.members
+  member_answer (inl a) = element_answer a
+  member_answer (inr a) = subst (λ (x : As). IsAnswer n x r.outputs ms r.members) (sym a.0) (parent_answer a.1)
+
+-- ---- it is the model's solve
+
+-- what is put into queues, and the deed that it is
+record IsDeed (n : NetworkParts) (d : As) (k : ℕ) (ms ms' : Membership Pin Segment) (f f' : Flow) : Type 0 where
+  deeds_are : List PlantDeed
+  steps : Steps wire n (state_of ms f) (Solve d k) (record { answer = Ok outcome.Done; state = state_of ms' f'; deeds = deeds_are })
+  says : f'.said ≡ said wire deeds_are
+
+module _ (n : NetworkParts) (d : As) (k : ℕ) (ms ms' : Membership Pin Segment) (r : Replied Pin Segment) (f f' : Flow) (jobs : has_jobs n d ≡ true) (next : ms' ≡ r.members) where
+  element_deed : ElementAnswers n f.clock d k ms r → Sends n open_of d r.outputs ms' f f' → IsDeed n d k ms ms' f f'
+  element_deed a sends = record {
+    deeds_are = Solves d k t.outputs t.element.keys.issued ∷ [];
+    steps = inl (inr (inr (inl (
+      jobs,
+      record {
+        upper = a.upper;
+        held = a.held;
+        is_held = a.is_held;
+        down = a.down;
+        ready = a.ready;
+        rows = a.rows;
+        right = a.right;
+        is = ap (λ (s : Plant). let h : Happened = record { answer = Ok outcome.Done; state = s; deeds = Solves d k t.outputs t.element.keys.issued ∷ [] } in h) state_is;
+      },
+    ))));
+    says = sends.said ∙ ap (λ (y : Replied Pin Segment). sent_by wire d y.outputs) a.is;
+  }
+    where
+      t : Taken Pin Segment
+      t = commit wire (place n d) (k, a.held) a.down f.clock (λ b. b.segment) a.rows.source_known a.rows.target_known a.rows.best (ms.elements d)
+
+      state_is : state_of ms' f' ≡ deeds.puts Pin Segment wire n open_of d t.outputs (state_of (with_element d t.element ms) f)
+      state_is =
+          sends.state
+          ∙ ap (λ (m : Membership Pin Segment). deeds.puts Pin Segment wire n open_of d r.outputs (state_of m f)) next
+          ∙ ap (λ (y : Replied Pin Segment). deeds.puts Pin Segment wire n open_of d y.outputs (state_of y.members f)) a.is
+
+  parent_deed : ParentAnswers n k ms r → d ≡ parent_as → Sends n open_of d r.outputs ms' f f' → IsDeed n d k ms ms' f f'
+  parent_deed a upper sends = record {
+    deeds_are = Solves parent_as k g.outputs [] ∷ [];
+    steps = inl (inr (inr (inr (
+      jobs,
+      upper,
+      record {
+        held = a.held;
+        is_held = a.is_held;
+        ready = a.ready;
+        answer = a.answer;
+        solves = a.solves;
+        is = ap (λ (s : Plant). let h : Happened = record { answer = Ok outcome.Done; state = s; deeds = Solves parent_as k g.outputs [] ∷ [] } in h) state_is;
+      },
+    ))));
+    says = sends.said ∙ ap (λ (y : Replied Pin Segment). sent_by wire d y.outputs) a.is ∙ ap (λ (x : As). sent_by wire x g.outputs) upper;
+  }
+    where
+      g : parent.Given
+      g = parent.commit wire (k, a.held) a.answer ms.parent
+
+      state_is : state_of ms' f' ≡ deeds.puts Pin Segment wire n open_of parent_as g.outputs (state_of (with_parent g.parent ms) f)
+      state_is =
+          sends.state
+          ∙ ap (λ (m : Membership Pin Segment). deeds.puts Pin Segment wire n open_of d r.outputs (state_of m f)) next
+          ∙ ap (λ (y : Replied Pin Segment). deeds.puts Pin Segment wire n open_of d y.outputs (state_of y.members f)) a.is
+          ∙ ap (λ (x : As). deeds.puts Pin Segment wire n open_of x g.outputs (state_of (with_parent g.parent ms) f)) upper
+
+  member_deed : MemberAnswers n f.clock d k ms r → Sends n open_of d r.outputs ms' f f' → IsDeed n d k ms ms' f f'
+  member_deed (inl a) sends = element_deed a sends
+  member_deed (inr a) sends = parent_deed a.1 a.0 sends
+
+-- ---- it is refused
+
+refused_steps : (n : NetworkParts) (d : As) (k : ℕ) (ms : Membership Pin Segment) (f : Flow) (s : Plant) (why : Refused) → s ≡ state_of ms f → IsRefusedFor n d k ms why →
+    Steps wire n (state_of ms f) (Solve d k) (record { answer = Err why; state = s; deeds = [] })
+refused_steps n d k ms f s why same is = go why is
+  where
+    told_so : (w : Refused) → (let h : Happened = record { answer = Err w; state = s; deeds = [] } in h) ≡ (let h : Happened = record { answer = Err w; state = state_of ms f; deeds = [] } in h)
+    told_so w = ap (λ (x : Plant). let h : Happened = record { answer = Err w; state = x; deeds = [] } in h) same
+
+    go : (w : Refused) → IsRefusedFor n d k ms w → Steps wire n (state_of ms f) (Solve d k) (record { answer = Err w; state = s; deeds = [] })
+    go refused.NoSuchPeer none = inl (inl (none, told_so refused.NoSuchPeer))
+    go refused.NoSuchJob none = inl (inr (inl (none.0, none.1, told_so refused.NoSuchJob)))
+    go refused.NoMemory none = inr (refl, told_so refused.NoMemory)
+    go refused.GenerationsFull none = absurd none
+    go (refused.NotHolder holder) none = absurd none
+    go refused.NothingToCarry none = absurd none
+
+-- ---- the event
+
+-- what is not changed but for room is kept
+pub kept_still : (t t' : Tiers) (c : Carried) → IsKept (held t c) → Become t (members_of t) (lost_in t) t' → IsKept (held t' c)
+kept_still t t' c kept still = record {
+  of = subst (λ (m : NetworkParts). IsOf m (flow_of c)) (sym still.network) kept.of;
+  none = λ d. ap (λ (l : As → List Lost). l d) still.lost_is ∙ kept.none d;
+  roomy = subst (λ (m : NetworkParts). IsRoomy m (members_of t') (flow_of c)) (sym still.network) (subst (λ (ms : Membership Pin Segment). IsRoomy t.network ms (flow_of c)) (sym still.seen) kept.roomy);
+}
+
+pub stays : (t : Tiers) → Become t (members_of t) (lost_in t) t
+stays t = record { network = refl; seen = refl; lost_is = refl }
+
+module _ (t t' : Tiers) (c c' : Carried) (d : As) (k : ℕ) where
+  pub moves_refused : Become t (members_of t) (lost_in t) t' → SameFlow (flow_of c) (flow_of c') → IsKept (held t' c') → (why : Refused) → IsRefusedFor t.network d k (members_of t) why →
+      Moves (held t c) (Solve d k) (Err why) (held t' c')
+  moves_refused still same kept why is = record {
+    stepped = record {
+      network = still.network;
+      deeds = [];
+      steps = refused_steps t.network d k (members_of t) (flow_of c) (whole (held t' c')).state why
+          (ap (λ (f : Flow). state_of (members_of t') f) same ∙ ap (λ (ms : Membership Pin Segment). state_of ms (flow_of c)) still.seen) is;
+      accepted = tt;
+      refused = ap (λ (f : Flow). f.said) same;
+    };
+    kept = kept;
+  }
+
+  pub moves_done : (r : Replied Pin Segment) → t'.network ≡ t.network → has_jobs t.network d ≡ true → MemberAnswers t.network (flow_of c).clock d k (members_of t) r → members_of t' ≡ r.members →
+      Sends t.network open_of d r.outputs (members_of t') (flow_of c) (flow_of c') → IsKept (held t' c') → Moves (held t c) (Solve d k) (Ok outcome.Done) (held t' c')
+  moves_done r network jobs answers next sends kept =
+      let deed = member_deed t.network d k (members_of t) (members_of t') r (flow_of c) (flow_of c') jobs next answers sends in
+      record {
+        stepped = record { network = network; deeds = deed.deeds_are; steps = deed.steps; accepted = deed.says; refused = tt };
+        kept = kept;
+      }
+
+-- ---- what is planned, and then done
+
+module _ (t t1 : Tiers) (c : Carried) (d : As) (now : ℕ) (x : Done) (at_is : d ≡ solved_at x) (sound : IsSound (held t c)) where
+  pub planned_err : (u : Unanswered) → Commits d now x t (Err u) t1 → Moves (held t c) (Solve (solved_at x) (solved_number x)) (Err u.why) (held t1 c)
+  planned_err u m =
+      subst (λ (a : As). Moves (held t c) (Solve a (solved_number x)) (Err u.why) (held t1 c)) at_is
+      (moves_refused t t1 c c d (number_of x) m.same refl (kept_still t t1 c sound.kept m.same) u.why m.why)
+
+  module _ (p : MemberPlan) (m : Commits d now x t (Ok p) t1) where
+    pub plan_member : is_member t1.network d ≡ true
+    plan_member = ap (λ (n : NetworkParts). is_member n d) m.same.network ∙ m.there
+
+    pub plan_answers : IsAnswer t1.network d (tiers.sent_by p) (members_of t1) (next_by t1 p)
+    plan_answers =
+        subst (λ (n : NetworkParts). IsAnswer n d (tiers.sent_by p) (members_of t1) (next_by t1 p)) (sym m.same.network)
+        (subst (λ (ms : Membership Pin Segment). IsAnswer t.network d (tiers.sent_by p) ms (next_by t1 p)) (sym m.same.seen)
+        (member_answer t.network now d (number_of x) (members_of t) (record { members = next_by t1 p; outputs = tiers.sent_by p }) m.answers))
+
+    pub plan_kept : IsKept (held t1 c)
+    plan_kept = kept_still t t1 c sound.kept m.same
+
+    module _ (t' : Tiers) (c' : Carried) (network : t'.network ≡ t1.network) (lost : lost_in t' ≡ lost_in t1) (lines : IsOf t1.network (flow_of c')) (roomy : IsRoomy t1.network (members_of t') (flow_of c')) where
+      kept_then : IsKept (held t' c')
+      kept_then = record {
+        of = subst (λ (n : NetworkParts). IsOf n (flow_of c')) (sym network) lines;
+        none = λ a. ap (λ (l : As → List Lost). l a) (lost ∙ m.same.lost_is) ∙ sound.kept.none a;
+        roomy = subst (λ (n : NetworkParts). IsRoomy n (members_of t') (flow_of c')) (sym network) roomy;
+      }
+
+      pub plan_done : now ≡ (flow_of c).clock → members_of t' ≡ next_by t1 p → Sends t1.network open_of d (tiers.sent_by p) (members_of t') (flow_of c) (flow_of c') →
+          Moves (held t c) (Solve (solved_at x) (solved_number x)) (Ok outcome.Done) (held t' c')
+      plan_done clock next sends =
+          let r : Replied Pin Segment = record { members = next_by t1 p; outputs = tiers.sent_by p } in
+          subst (λ (a : As). Moves (held t c) (Solve a (solved_number x)) (Ok outcome.Done) (held t' c')) at_is
+          (moves_done t t' c c' d (number_of x) r (network ∙ m.same.network) m.there (subst (λ (i : ℕ). MemberAnswers t.network i d (number_of x) (members_of t) r) clock m.answers) next
+          (subst (λ (n : NetworkParts). Sends n open_of d (tiers.sent_by p) (members_of t') (flow_of c) (flow_of c')) m.same.network sends) kept_then)
+
+      pub plan_lacks : members_of t' ≡ members_of t1 → OnlyGrows (flow_of c) (flow_of c') → Moves (held t c) (Solve (solved_at x) (solved_number x)) (Err refused.NoMemory) (held t' c')
+      plan_lacks seen grows =
+          let still : Become t (members_of t) (lost_in t) t' = record { network = network ∙ m.same.network; seen = seen ∙ m.same.seen; lost_is = lost ∙ m.same.lost_is } in
+          subst (λ (a : As). Moves (held t c) (Solve a (solved_number x)) (Err refused.NoMemory) (held t' c')) at_is
+          (moves_refused t t' c c' d (number_of x) still grows.same kept_then refused.NoMemory tt)

@@ -1,5 +1,0 @@
-use Rattle.pce_plant.specs.Becoming.{TickedTo}
-use Rattle.pce_plant.proofs.counting.tick_all.Given as goal
-
-abbrev pub invariant-loop-i : goal.invariant-loop-i
-invariant-loop-i l = TickedTo l.now.0 l.i l.initial.items.items l.items.items

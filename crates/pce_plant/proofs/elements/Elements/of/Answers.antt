@@ -1,6 +1,0 @@
-use Rattle.std.proofs.Common.{◌∙◌}
-use Rattle.pce_plant.proofs.FreshLemmas.{owns_new}
-use Rattle.pce_plant.proofs.elements.Elements.of.Goals as goal
-
-pub invariant_of-result : goal.invariant_of-result
-invariant_of-result c = owns_new c.args.parts.now c.deref.result.now c.in_ok-items.items.items c.in_ok-items.ensures ∙ c.deref.ensures.value

@@ -1,0 +1,17 @@
+use Rattle.std.proofs.Common.{ℕ, Result, Ok, Err, subst}
+use Rattle.plant_model.specs.declared.outcome.Refused.{Refused}
+use Rattle.plant_traffic.specs.Carried.{flow_of}
+use Rattle.plant_hierarchy.specs.Loading.{Loads}
+use Rattle.pce_plant.specs.Held.{held}
+use Rattle.pce_plant.proofs.LoadLemmas.{load_accepted, load_refused}
+use Rattle.pce_plant.proofs.events.load.Goals as goal
+
+pub returns-in-Ok : goal.returns-in-Ok
+returns-in-Ok c =
+    load_accepted c.args.at c.args.topology (held c.args.members.now c.args.traffic.now) c.in-Ok.number c.load.new.self c.clear_said.new.self c.requires.sound
+    (subst (λ (r : Result ℕ Refused). Loads c.args.at c.args.topology c.args.members.now r c.load.new.self) c.in-Ok.is c.load.ensures) c.clear_said.ensures
+
+pub returns-in-Err : goal.returns-in-Err
+returns-in-Err c =
+    load_refused c.args.at c.args.topology (held c.args.members.now c.args.traffic.now) c.in-Err.why c.load.new.self c.requires.sound
+    (subst (λ (r : Result ℕ Refused). Loads c.args.at c.args.topology c.args.members.now r c.load.new.self) c.in-Err.is c.load.ensures)

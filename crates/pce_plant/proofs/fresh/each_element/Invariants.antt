@@ -1,6 +1,0 @@
-use Rattle.std.proofs.Common.{take}
-use Rattle.pce_plant.specs.Fresh.{AreNew}
-use Rattle.pce_plant.proofs.fresh.each_element.Given as goal
-
-abbrev pub invariant-loop-own : goal.invariant-loop-own
-invariant-loop-own l = AreNew l.parts (take l.own-index l.domains) l.items.items

@@ -1,6 +1,0 @@
-use Rattle.std.proofs.Common.{◌≤◌, length}
-use Rattle.plant_model.specs.Parent.{ready_numbers}
-use Rattle.pce_plant.proofs.hierarchy.count_above.Given as goal
-
-abbrev pub invariant-loop-count : goal.invariant-loop-count
-invariant-loop-count l = l.count ≤ length (ready_numbers l.parent.losing.parent.pending.rows)

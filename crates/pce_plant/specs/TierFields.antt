@@ -1,9 +1,0 @@
--- What the elements of a network and the parent above them are, by their fields.
-use Rattle.pce_plant.specs.Tiers.{Tiers, AreSet}
-use Rattle.pce_plant.specs.declared.hierarchy.Hierarchy.TheInside.{Inside}
-
-abbrev pub tiers_of : Inside → Tiers
-tiers_of a = record { network = a.network; clock = a.clock.0; elements = a.elements; parent = a.parent }
-
-abbrev pub HoldsTiers : Inside → Type 0
-HoldsTiers a = AreSet (tiers_of a)

@@ -1,0 +1,154 @@
+//! A network as one value.
+ghost use Rattle.std.specs.Prelude.{◌≡◌, [], length, slice_get, IfErr, IfOk, OnOk, IfSome};
+ghost use Rattle.plant_model.specs.Events.{has_jobs, ready_jobs};
+ghost use Rattle.plant_model.specs.declared.event.Event.TheVariants.{Solve};
+ghost use Rattle.plant_lasting.specs.Lasting.{HaveGiven, JobsLast};
+ghost use Rattle.plant_hierarchy.specs.Answering.{IsWeighedWork};
+ghost use Rattle.plant_traffic.specs.Carried.{flow_of};
+ghost use Rattle.plant_traffic.specs.Waiting.{WaitsNext};
+ghost use Rattle.plant_deeds.specs.Passing.{IsOf};
+ghost use Rattle.plant_deeds.specs.Rooms.{IsRoomy};
+ghost use Rattle.plant_hierarchy.specs.Fresh.{begun};
+ghost use Rattle.plant_hierarchy.specs.Tiers.{members_of};
+ghost use Rattle.plant_model.specs.Plant.{Run};
+ghost use Rattle.plant_model.specs.RealWire.{wire};
+ghost use Rattle.plant_text.specs.Settings.{lines};
+ghost use Rattle.plant_traffic.specs.Flow.{IsBare};
+ghost use Rattle.pce_plant.specs.Held.{held, whole};
+ghost use Rattle.pce_plant.specs.Jobs.{IsOwn, IsWork, answer_of, handed_back, solved_at, solved_number};
+ghost use Rattle.pce_plant.specs.Whole.{GoesOn, IsBegun, IsOwnLoad, Stepped};
+
+use crate::answering::{CommitRefused, commit};
+use crate::events::act;
+use dom_base::{As, NoMemory};
+use pce_parent::{Done, Work};
+use plant_deeds::begin_links;
+use plant_hierarchy::Hierarchy;
+use plant_layout::lines_of;
+use plant_model::{Event, Outcome, Refused};
+use plant_queues::Said;
+use plant_text::{Network, NetworkParts};
+use plant_traffic::Traffic;
+use std::alloc::Global;
+use std::marker::Model;
+
+/// All elements of a network, their parent, their sessions with one another and with outside peers, the
+/// queues between them, and the clock.
+#[derive(Drop)]
+pub struct Plant {
+    alloc: Global,
+    members: Hierarchy,
+    traffic: Traffic,
+}
+
+impl Model for Plant {
+    ghost use Rattle.pce_plant.specs.Held.{Held};
+
+    ghost Value = { Held };
+
+    ghost use Rattle.pce_plant.specs.PlantFields.{held_of, HoldsSound};
+
+    ghost view = { held_of };
+
+    ghost invariant = { HoldsSound };
+}
+
+// The links begin, between members that have just been made.
+fn begin(members: &Hierarchy, traffic: &mut Traffic) -> Result<(), NoMemory>
+    requires bare { IsBare (lines members.now.network) (length members.now.network.peers) (flow_of traffic.old) }
+    requires begun { members_of members.now ≡ begun members.now.network }
+    ensures of { OnOk result (IsOf members.now.network (flow_of traffic.new)) }
+    ensures said { OnOk result ((flow_of traffic.new).said ≡ []) }
+    ensures run { OnOk result (Run wire members.now.network [] (whole (held members.now traffic.new)).state) }
+    ensures room { OnOk result (IsRoomy members.now.network (members_of members.now) (flow_of traffic.new)) }
+{
+    begin_links(members, traffic)
+}
+
+impl Plant {
+    /// A network of these settings. Each inner link is begun: an Open is in each of its queues (RFC 5440,
+    /// section 4.2.1). No element has a topology yet.
+    pub fn new(alloc: Global, network: Network) -> Result<Plant, NoMemory>
+        ensures { IfOk result (λ plant. IsBegun network (whole plant)) }
+    {
+        let lines = lines_of(alloc, network.parts())?;
+        let peers = network.parts().peers.len();
+        let mut traffic = Traffic::new(alloc, lines.as_slice(), peers)?;
+        let members = Hierarchy::new(alloc, network)?;
+        begin(&members, &mut traffic)?;
+        Ok(Plant {
+            alloc,
+            members,
+            traffic,
+        })
+    }
+
+    /// The settings.
+    pub fn parts(&self) -> &NetworkParts
+        ensures { result.now ≡ (whole self.now).network }
+    {
+        self.members.parts()
+    }
+
+    /// Does one event. What is refused changes nothing. A tick is never refused; a break and a shut only where
+    /// there is no such link or open peer.
+    pub fn step(&mut self, event: Event) -> Result<Outcome, Refused>
+        requires own { IsOwnLoad event }
+        ensures steps { Stepped (whole self.old) event result (whole self.new) }
+        ensures goes { GoesOn (whole self.old) event result (whole self.new) }
+        ensures lasts { JobsLast (whole self.old).state (whole self.new).state }
+    {
+        act(self.alloc, &mut self.members, &mut self.traffic, event)
+    }
+
+    /// The messages that the last accepted event put into queues, in order; takes no memory.
+    pub fn said(&self) -> &Said
+        ensures { result.now.kept ≡ (whole self.now).said }
+    {
+        self.traffic.said()
+    }
+
+    /// The least pair of sender and receiver between which a message is on its way; takes no memory.
+    pub fn waiting(&self) -> Option<(As, As)>
+        ensures { WaitsNext (flow_of self.now.carried) result }
+    {
+        self.traffic.waiting()
+    }
+
+    /// The k-th job that can be solved: those of the parent are first, then the others by the domain, each by
+    /// its number; takes no memory.
+    pub fn ready(&self, k: usize) -> Option<(As, u64)>
+        ensures { result ≡ slice_get (ready_jobs (whole self.now).network (whole self.now).state) k }
+    {
+        self.members.ready(k)
+    }
+
+    /// The job of a request, where it can be solved.
+    pub fn job(&self, at: As, number: u64) -> Result<Option<Work>, NoMemory>
+        ensures work { IfOk result (IsWork (whole self.now) at number) }
+        ensures weighed { IfOk result (λ work. IfSome work IsWeighedWork) }
+    {
+        self.members.job(at, number)
+    }
+
+    /// Answers a job that was solved, in or out of this network. It is the event of that solve, but that a domain
+    /// that is not configured has no such job. A refusal hands it back.
+    pub fn commit(&mut self, done: Done) -> Result<Outcome, CommitRefused>
+        requires own { IsOwn (whole self.old) done }
+        ensures steps { Stepped (whole self.old) (Solve (solved_at done) (solved_number done)) (answer_of (has_jobs (whole self.old).network (solved_at done)) result) (whole self.new) }
+        ensures goes { GoesOn (whole self.old) (Solve (solved_at done) (solved_number done)) (answer_of (has_jobs (whole self.old).network (solved_at done)) result) (whole self.new) }
+        ensures lasts { JobsLast (whole self.old).state (whole self.new).state }
+        ensures back { IfErr result (λ why. handed_back why ≡ done) }
+    {
+        commit(self.alloc, &mut self.members, &mut self.traffic, done)
+    }
+}
+
+impl Plant {
+    // What the network keeps between two events, for a job that is looked at and answered later.
+    pub(crate) fn requests_have_given_numbers(&self)
+        ensures { HaveGiven (whole self.now).state }
+    {
+        let _members = &self.members;
+    }
+}

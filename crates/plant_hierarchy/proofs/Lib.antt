@@ -1,0 +1,16 @@
+pub mod DomainLemmas
+pub mod LoadLemmas
+pub mod ReadyLemmas
+pub mod PlaceLoads
+pub mod FreshLemmas
+pub mod BecomingLemmas
+pub mod TierLemmas
+pub mod RisingDomains
+pub mod StepLemmas
+pub mod TickLemmas
+pub mod NetworkLemmas
+pub mod JoinedLemmas
+pub mod BegunLemmas
+pub mod TierLoads
+pub mod AnswerLemmas
+pub mod ApartLemmas

@@ -1,0 +1,18 @@
+use Rattle.std.proofs.Common.{◌∙◌, ap, subst}
+use Rattle.plant_model.specs.Names.{set_as}
+use Rattle.plant_model.specs.Parent.{down_of}
+use Rattle.plant_members.specs.Membership.{fallen, lost_at}
+use Rattle.plant_hierarchy.specs.Tiers.{Tiers, Become, members_of, lost_in}
+use Rattle.plant_hierarchy.specs.TierFields.{tiers_of}
+use Rattle.plant_hierarchy.proofs.TierLemmas.{set_above}
+use Rattle.plant_hierarchy.proofs.StepLemmas as step
+use Rattle.plant_hierarchy.proofs.hierarchy.Hierarchy.down_above.Goals as goal
+
+pub invariant_of-self : goal.invariant_of-self
+invariant_of-self c = set_above (down_of c.args.peer) (tiers_of c.self.inside) c.down.new.self c.down.ensures c.self.invariant
+
+pub returns : goal.returns
+returns c =
+    let t = tiers_of c.self.inside in
+    subst (λ (u : Tiers). Become u (fallen c.args.at c.args.peer (members_of u)) (set_as c.args.at (lost_at c.args.at c.args.peer (members_of u)) (lost_in u)) (record t { parent = c.down.new.self })) c.self.view_is
+    (step.falls_above c.args.at c.args.peer t c.down.new.self c.down.ensures c.requires.above (ap (λ (u : Tiers). lost_in u c.args.at) c.self.view_is ∙ c.requires.none))

@@ -1,0 +1,16 @@
+use Rattle.std.proofs.Common.{subst}
+use Rattle.plant_members.specs.Membership.{with_parent}
+use Rattle.plant_hierarchy.specs.Tiers.{Tiers, Become, members_of, lost_in}
+use Rattle.plant_hierarchy.specs.TierFields.{tiers_of}
+use Rattle.plant_hierarchy.proofs.TierLemmas.{set_above}
+use Rattle.plant_hierarchy.proofs.StepLemmas as step
+use Rattle.plant_hierarchy.proofs.hierarchy.Hierarchy.make_above.Goals as goal
+
+pub invariant_of-self : goal.invariant_of-self
+invariant_of-self c = set_above (λ l. record l { parent = c.args.plan.given.parent }) (tiers_of c.self.inside) c.make.new.self c.make.ensures c.self.invariant
+
+pub returns : goal.returns
+returns c =
+    let t = tiers_of c.self.inside in
+    subst (λ (u : Tiers). Become u (with_parent c.args.plan.given.parent (members_of u)) (lost_in u) (record t { parent = c.make.new.self })) c.self.view_is
+    (step.makes_above c.args.plan.given.parent t c.make.new.self c.make.ensures)

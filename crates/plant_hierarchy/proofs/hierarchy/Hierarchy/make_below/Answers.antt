@@ -1,0 +1,16 @@
+use Rattle.std.proofs.Common.{subst}
+use Rattle.plant_members.specs.Membership.{with_element}
+use Rattle.plant_hierarchy.specs.Tiers.{Tiers, Become, members_of, lost_in}
+use Rattle.plant_hierarchy.specs.TierFields.{tiers_of}
+use Rattle.plant_hierarchy.proofs.TierLemmas.{set_below}
+use Rattle.plant_hierarchy.proofs.StepLemmas as step
+use Rattle.plant_hierarchy.proofs.hierarchy.Hierarchy.make_below.Goals as goal
+
+pub invariant_of-self : goal.invariant_of-self
+invariant_of-self c = set_below c.args.at (λ l. record l { element = c.args.plan.taken.element }) (tiers_of c.self.inside) c.make.new.self c.make.ensures c.self.invariant
+
+pub returns : goal.returns
+returns c =
+    let t = tiers_of c.self.inside in
+    subst (λ (u : Tiers). Become u (with_element c.args.at c.args.plan.taken.element (members_of u)) (lost_in u) (record t { elements = c.make.new.self })) c.self.view_is
+    (step.makes_below c.args.at c.args.plan.taken.element t c.make.new.self c.make.ensures c.requires.below)

@@ -1,0 +1,25 @@
+use Rattle.std.proofs.Common.{◌≡◌, ◌∙◌, true, sym, ap, subst}
+use Rattle.std.specs.Prelude.{IfOk, IfSome}
+use Rattle.disclosure.specs.declared.class.Class.{Class}
+use Rattle.plant_text.specs.declared.settings.NetworkParts.{NetworkParts}
+use Rattle.plant_text.specs.Settings.{class_of, is_element}
+use Rattle.plant_hierarchy.specs.Becoming.{taken_by, unchanged}
+use Rattle.plant_hierarchy.specs.Elements.{at_domain}
+use Rattle.plant_hierarchy.specs.Tiers.{Tiers}
+use Rattle.plant_hierarchy.specs.TierFields.{tiers_of}
+use Rattle.plant_hierarchy.proofs.TierLemmas.{set_below}
+use Rattle.plant_hierarchy.proofs.StepLemmas as step
+use Rattle.plant_hierarchy.proofs.hierarchy.Hierarchy.take_below.Goals as goal
+
+pub take-requires-clause-there : goal.take-requires-clause-there
+take-requires-clause-there c = step.has_element (tiers_of c.self.inside) c.args.at c.self.invariant (subst (λ (t : Tiers). is_element t.network c.args.at ≡ true) (sym c.self.view_is) c.requires.there)
+
+pub invariant_of-self : goal.invariant_of-self
+invariant_of-self c = set_below c.args.at unchanged (tiers_of c.self.inside) c.take.new.self c.take.ensures.same c.self.invariant
+
+pub returns : goal.returns
+returns c =
+    let t = tiers_of c.self.inside in
+    let class : c.class_of-class.result ≡ class_of t.network c.args.peer = c.class_of-class.ensures ∙ ap (λ (n : NetworkParts). class_of n c.args.peer) c.parts.ensures.parts in
+    let taken = subst (λ (k : Class). IfOk c.take.result (λ x. IfSome (at_domain c.args.at t.elements) (λ e. x.taken ≡ taken_by c.args.peer k c.args.now.0 c.args.message e))) class c.take.ensures.taken in
+    step.planned_takes c.args.at c.args.peer c.args.now.0 c.args.message t c.args.self.now c.take.new.self c.take.result c.planned_below.result c.self.view_is c.planned_below.ensures c.self.invariant c.take.ensures.same c.requires.below c.take.ensures.from taken

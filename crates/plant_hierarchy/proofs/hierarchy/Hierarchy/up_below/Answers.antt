@@ -1,0 +1,20 @@
+use Rattle.std.proofs.Common.{◌≡◌, true, sym, subst}
+use Rattle.plant_text.specs.Settings.{is_element}
+use Rattle.plant_members.specs.Membership.{raised}
+use Rattle.plant_hierarchy.specs.Tiers.{Tiers, Become, members_of, lost_in}
+use Rattle.plant_hierarchy.specs.TierFields.{tiers_of}
+use Rattle.plant_hierarchy.proofs.TierLemmas.{set_below}
+use Rattle.plant_hierarchy.proofs.StepLemmas as step
+use Rattle.plant_hierarchy.proofs.hierarchy.Hierarchy.up_below.Goals as goal
+
+pub up-requires : goal.up-requires
+up-requires c = step.has_element (tiers_of c.self.inside) c.args.at c.self.invariant (subst (λ (t : Tiers). is_element t.network c.args.at ≡ true) (sym c.self.view_is) c.requires.there)
+
+pub invariant_of-self : goal.invariant_of-self
+invariant_of-self c = set_below c.args.at _ (tiers_of c.self.inside) c.up.new.self c.up.ensures c.self.invariant
+
+pub returns : goal.returns
+returns c =
+    let t = tiers_of c.self.inside in
+    subst (λ (u : Tiers). Become u (raised c.args.at c.args.peer (members_of u)) (lost_in u) (record t { elements = c.up.new.self })) c.self.view_is
+    (step.rises_below c.args.at c.args.peer t c.up.new.self c.up.ensures c.requires.below)

@@ -1,0 +1,21 @@
+use Rattle.std.proofs.Common.{◌≡◌, ◌∙◌, true, sym, ap, subst}
+use Rattle.plant_members.specs.Membership.{is_member}
+use Rattle.plant_members.specs.Owed.{owed}
+use Rattle.plant_hierarchy.specs.Tiers.{Tiers, members_of}
+use Rattle.plant_hierarchy.specs.TierFields.{tiers_of}
+use Rattle.plant_hierarchy.proofs.StepLemmas.{has_element, member_below, owed_below}
+use Rattle.plant_hierarchy.proofs.members.HierarchyMembers.owed.Goals as goal
+
+pub owed-requires-else-is_parent : goal.owed-requires-else-is_parent
+owed-requires-else-is_parent c =
+    let t = tiers_of c.self.inside in
+    has_element t c.args.at c.self.invariant
+    (member_below t c.args.at (sym c.is_parent.ensures ∙ c.if-is_parent.false) (subst (λ (u : Tiers). is_member u.network c.args.at ≡ true) (sym c.self.view_is) c.requires))
+
+pub returns-else-is_parent : goal.returns-else-is_parent
+returns-else-is_parent c =
+    let t = tiers_of c.self.inside in
+    owed_below t c.args.at c.args.peer c.owed-else-is_parent.result (sym c.is_parent.ensures ∙ c.if-is_parent.false) c.self.invariant
+    (member_below t c.args.at (sym c.is_parent.ensures ∙ c.if-is_parent.false) (subst (λ (u : Tiers). is_member u.network c.args.at ≡ true) (sym c.self.view_is) c.requires))
+    c.owed-else-is_parent.ensures
+    ∙ ap (λ (u : Tiers). owed c.args.at c.args.peer (members_of u)) c.self.view_is

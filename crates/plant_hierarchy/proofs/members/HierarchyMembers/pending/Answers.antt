@@ -1,0 +1,23 @@
+use Rattle.std.proofs.Common.{◌≡◌, ◌∙◌, ◌+◌, ℕ, length, map, arith, sym, ap}
+use Rattle.plant_text.specs.Settings.{elements_of}
+use Rattle.plant_members.specs.Owed.{pending_in}
+use Rattle.plant_hierarchy.specs.Elements.{own_of}
+use Rattle.plant_hierarchy.specs.Tiers.{Tiers, members_of}
+use Rattle.plant_hierarchy.specs.TierFields.{tiers_of}
+use Rattle.plant_hierarchy.proofs.NetworkLemmas.{few_elements}
+use Rattle.plant_hierarchy.proofs.TickLemmas.{length_owns, pending_is}
+use Rattle.plant_hierarchy.proofs.members.HierarchyMembers.pending.Goals as goal
+
+pub pending-requires-2 : goal.pending-requires-2
+pending-requires-2 c =
+    let t = tiers_of c.self.inside in
+    let same : length (map own_of t.elements) ≡ length (elements_of t.network.elements) = ap length c.self.invariant.domains in
+    omega (arith, same, length_owns t.elements, few_elements t.network c.parts-settings.ensures.rules)
+
+pub returns : goal.returns
+returns c =
+    let t = tiers_of c.self.inside in
+    let parent : c.pending.result ≡ length t.parent.losing.parent.pending.rows = c.pending.ensures.count in
+    ap (λ (n : ℕ). n + c.pending-2.result) parent
+    ∙ ap (λ (n : ℕ). length t.parent.losing.parent.pending.rows + n) (c.pending-2.ensures.count ∙ sym (pending_is t c.self.invariant))
+    ∙ ap (λ (u : Tiers). pending_in (elements_of u.network.elements) (members_of u)) c.self.view_is

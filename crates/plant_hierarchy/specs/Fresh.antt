@@ -1,0 +1,42 @@
+-- The elements of a network that has just been made.
+use Rattle.std.specs.Prelude.{◌≤◌, false, List, [], ◌∷◌, Option, Some, None}
+use Rattle.dom_base.specs.declared.names.As.{As}
+use Rattle.dom_base.specs.declared.addr.Addr.{Addr}
+use Rattle.dom_base.specs.declared.addr.Addr.TheVariants.{V4}
+use Rattle.disclosure.specs.Shown.{open_of}
+use Rattle.plant_text.specs.declared.settings.NetworkParts.{NetworkParts}
+use Rattle.plant_text.specs.declared.settings.ElementRow.{ElementRow}
+use Rattle.plant_text.specs.Settings.{lines, life}
+use Rattle.plant_model.specs.Events.{bare}
+use Rattle.plant_model.specs.Plant.{Pin, Segment, first_pin}
+use Rattle.plant_model.specs.RealWire.{wire}
+use Rattle.plant_model.specs.Settings.{place}
+use Rattle.plant_members.specs.Membership.{Membership}
+use Rattle.plant_layout.specs.Lines.{others}
+use Rattle.pce_element.specs.Seen.{Seen, IsNew}
+use Rattle.plant_hierarchy.specs.declared.fresh.Figures.{Figures}
+
+-- an element for each of these domains, without requests, keys and topology
+abbrev pub AreNew : NetworkParts → List As → List Seen → Type 0
+AreNew n [] [] = Unit {0}
+AreNew n [] (e ∷ es) = ⊥
+AreNew n (d ∷ ds) [] = ⊥
+AreNew n (d ∷ ds) (e ∷ es) = IsNew (place n d) (life n d) (others d (lines n)) e × AreNew n ds es
+
+-- how long the keys of each element live
+pub record LivesFit (n : NetworkParts) : Type 0 where
+  pub least : (d : As) → 1 ≤ life n d
+  pub most : (d : As) → life n d ≤ 3600
+
+abbrev pub figures_from : Option ElementRow → Figures
+figures_from None = record { id = V4 0; key_life = 600; parent = false }
+figures_from (Some r) = record { id = r.id; key_life = r.key_life; parent = r.parent }
+
+-- the address of the parent, where there is one
+abbrev pub parent_id : Option Addr → Addr
+parent_id None = V4 0
+parent_id (Some id) = id
+
+-- the members of a network in the model's beginning
+abbrev pub begun : NetworkParts → Membership Pin Segment
+begun n = let s = bare Pin Segment wire n open_of first_pin in record { elements = s.elements; parent = s.parent; current = s.current }

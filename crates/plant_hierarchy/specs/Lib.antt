@@ -1,0 +1,11 @@
+-- for readers
+pub mod Elements
+pub mod Becoming
+pub mod Tiers
+pub mod Answering
+pub mod Loading
+-- inner
+pub mod TierFields
+pub mod ElementFields
+pub mod Ready
+pub mod Fresh

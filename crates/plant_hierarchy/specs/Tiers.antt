@@ -1,0 +1,86 @@
+-- The elements of a network and the parent above them, and what the model has of them.
+use Rattle.std.specs.Prelude.{◌≡◌, ℕ, false, cond, List, [], ◌∷◌, map, Option, Some, None, Result, Ok, Err, IfOk}
+use Rattle.dom_base.specs.declared.names.As.{As}
+use Rattle.dom_base.specs.declared.names.NoMemory.{NoMemory}
+use Rattle.dom_base.specs.declared.names.Peer.{Peer}
+use Rattle.pcep_messages.specs.declared.message.Message.{Message}
+use Rattle.disclosure.specs.Shown.{open_of}
+use Rattle.plant_text.specs.declared.settings.NetworkParts.{NetworkParts}
+use Rattle.plant_text.specs.Names.{same_as, parent_as}
+use Rattle.plant_text.specs.Settings.{elements_of}
+use Rattle.plant_model.specs.declared.output.Lost.{Lost}
+use Rattle.plant_model.specs.declared.output.Output.{Output}
+use Rattle.plant_model.specs.Settings.{place, family}
+use Rattle.plant_model.specs.RealWire.{wire}
+use Rattle.plant_model.specs.Plant.{Pin, Segment}
+use Rattle.plant_members.specs.Membership.{Membership, given, with_element, with_parent}
+use Rattle.pce_element.specs.Plans.{Planned}
+use Rattle.pce_element.specs.Seen.{Seen}
+use Rattle.pce_parent.specs.Seen as above
+use Rattle.plant_hierarchy.specs.Elements.{at_domain, elements_in, current_in, own_of}
+use Rattle.plant_hierarchy.specs.declared.plan.MemberPlan.{MemberPlan}
+use Rattle.plant_hierarchy.specs.declared.plan.MemberPlan.TheVariants.{Element, Parent}
+
+-- the settings, the moment, the elements in the order of their domains, and the parent
+pub record Tiers : Type 0 where
+  pub network : NetworkParts
+  pub clock : ℕ
+  pub elements : List Seen
+  pub parent : above.Seen
+
+-- each element has the settings of its domain
+abbrev pub ArePlaced : NetworkParts → List Seen → Type 0
+ArePlaced n [] = Unit {0}
+ArePlaced n (e ∷ es) = (e.place ≡ place n (own_of e)) × ArePlaced n es
+
+-- they are those of the settings
+pub record AreSet (t : Tiers) : Type 0 where
+  pub domains : map own_of t.elements ≡ elements_of t.network.elements
+  pub places : ArePlaced t.network t.elements
+  pub is_family : t.parent.family ≡ family t.network
+
+-- ---- what the model has of them
+
+abbrev pub members_of : Tiers → Membership Pin Segment
+members_of t = record { elements = elements_in t.network t.clock t.elements; parent = t.parent.losing.parent; current = current_in t.elements }
+
+abbrev pub lost_or : Option Seen → List Lost
+lost_or None = []
+lost_or (Some e) = e.losing.lost
+
+-- the requests that were lost at a member and are not yet handed out
+abbrev pub lost_in : Tiers → As → List Lost
+lost_in t = λ d. cond (same_as d parent_as) t.parent.losing.lost (lost_or (at_domain d t.elements))
+
+-- they become these members, with these lost requests
+pub record Become (old : Tiers) (members : Membership Pin Segment) (lost : As → List Lost) (new : Tiers) : Type 0 where
+  pub network : new.network ≡ old.network
+  pub seen : members_of new ≡ members
+  pub lost_is : lost_in new ≡ lost
+
+-- ---- plans
+
+-- the plan is one of the member as it stands
+abbrev pub FitsIn : Tiers → MemberPlan → Type 0
+FitsIn t (Element at plan) = (same_as at parent_as ≡ false) × (at_domain at t.elements ≡ Some plan.from)
+FitsIn t (Parent plan) = plan.from ≡ t.parent
+
+abbrev pub next_by : Tiers → MemberPlan → Membership Pin Segment
+next_by t (Element at plan) = with_element at plan.taken.element (members_of t)
+next_by t (Parent plan) = with_parent plan.given.parent (members_of t)
+
+abbrev pub sent_by : MemberPlan → List Output
+sent_by (Element at plan) = plan.taken.outputs
+sent_by (Parent plan) = plan.given.outputs
+
+-- a message is planned: nothing changes, and the plan is what the model does
+pub record Takes (at : As) (peer : Peer) (now : ℕ) (message : Message) (old : Tiers) (result : Result MemberPlan NoMemory) (new : Tiers) : Type 0 where
+  pub same : Become old (members_of old) (lost_in old) new
+  pub fits : IfOk result (FitsIn new)
+  pub next : IfOk result (λ plan. next_by new plan ≡ (given wire old.network open_of at peer now message (members_of old)).members)
+  pub sends : IfOk result (λ plan. sent_by plan ≡ (given wire old.network open_of at peer now message (members_of old)).outputs)
+
+-- the plan of an element as that of a member
+abbrev pub planned_below : As → Result Planned NoMemory → Result MemberPlan NoMemory
+planned_below d (Ok x) = Ok (Element d x)
+planned_below d (Err why) = Err why

@@ -1,0 +1,150 @@
+//! The elements of a network and the parent above them (RFC 6805).
+ghost use Rattle.std.specs.Prelude.{◌≡◌, ◌≤◌, [], All, length, slice_get, IfOk, IfSome, false, true};
+ghost use Rattle.dom_base.specs.declared.names.As.{As as Domain};
+ghost use Rattle.plant_text.specs.Names.{same_as, parent_as};
+ghost use Rattle.plant_text.specs.Settings.{elements_of};
+ghost use Rattle.plant_model.specs.Events.{ready_jobs};
+ghost use Rattle.plant_model.specs.Parent.{ready_numbers};
+ghost use Rattle.plant_model.specs.Plant.{Plant};
+ghost use Rattle.plant_model.specs.Settings.{family};
+ghost use Rattle.pce_parent.specs.Seen.{IsNew};
+ghost use Rattle.pce_parent.specs.Solution.{IsWeighed};
+ghost use Rattle.plant_hierarchy.specs.Elements.{at_domain};
+ghost use Rattle.plant_hierarchy.specs.Loading.{Loads};
+ghost use Rattle.plant_hierarchy.specs.Answering.{IsElementWork, IsParentWork, IsWeighedWork, border_job};
+ghost use Rattle.plant_hierarchy.specs.Fresh.{AreNew, begun, parent_id};
+ghost use Rattle.plant_hierarchy.specs.Ready.{work_in};
+ghost use Rattle.plant_hierarchy.specs.Tiers.{lost_in, members_of};
+
+use crate::elements::Elements;
+use dom_base::{Addr, As, NoMemory, Tick};
+use pce_parent::{Parent, Work, copy_links};
+use plant_layout::{children_of, lines_of};
+use plant_model::Refused;
+use plant_text::{Network, NetworkParts};
+use std::alloc::Global;
+use std::marker::Model;
+use te_links::Topology;
+
+/// The elements of a network, each by its domain, and the parent above them.
+#[derive(Drop)]
+pub struct Hierarchy {
+    pub(crate) network: Network,
+    /// The last moment.
+    pub(crate) clock: Tick,
+    pub(crate) elements: Elements,
+    /// Without children where the settings have no parent.
+    pub(crate) parent: Parent,
+}
+
+impl Model for Hierarchy {
+    ghost use Rattle.plant_hierarchy.specs.Tiers.{Tiers};
+
+    ghost Value = { Tiers };
+
+    ghost use Rattle.plant_hierarchy.specs.TierFields.{tiers_of, HoldsTiers};
+
+    ghost view = { tiers_of };
+
+    ghost invariant = { HoldsTiers };
+}
+
+/// Whether this is the number of the parent.
+pub fn is_parent(at: As) -> bool
+    ensures { result ≡ same_as at parent_as }
+{
+    at.0 == 0
+}
+
+fn parent_id(parts: &NetworkParts) -> Addr
+    ensures { result ≡ parent_id parts.now.parent }
+{
+    match parts.parent {
+        Some(id) => id,
+        None => Addr::V4(0),
+    }
+}
+
+fn parent_of(alloc: Global, parts: &NetworkParts) -> Result<Parent, NoMemory>
+    requires weighed { All IsWeighed parts.now.parent_links }
+    ensures { IfOk result (IsNew (parent_id parts.now.parent) (family parts.now)) }
+{
+    let children = children_of(alloc, parts.elements.as_slice())?;
+    let links = copy_links(alloc, parts.parent_links.as_slice())?;
+    Parent::new(alloc, parent_id(parts), children, links)
+}
+
+// How many requests of the parent can be solved.
+fn count_above(parent: &Parent, most: usize) -> usize
+    requires { length (ready_numbers parent.now.losing.parent.pending.rows) ≤ most }
+    ensures { result ≡ length (ready_numbers parent.now.losing.parent.pending.rows) }
+{
+    for count in 0..most {
+        if parent.ready(count).is_none() {
+            return count;
+        }
+    }
+    most
+}
+
+impl Hierarchy {
+    /// The elements and the parent of a network, without requests, keys and topologies.
+    pub fn new(alloc: Global, network: Network) -> Result<Hierarchy, NoMemory>
+        ensures network { IfOk result (λ h. h.network ≡ network) }
+        ensures clock { IfOk result (λ h. h.clock ≡ 0) }
+        ensures elements { IfOk result (λ h. AreNew network (elements_of network.elements) h.elements) }
+        ensures parent { IfOk result (λ h. IsNew (parent_id network.parent) (family network) h.parent) }
+        ensures begun { IfOk result (λ h. members_of h ≡ begun network) }
+        ensures none { IfOk result (λ h. (d : Domain) → lost_in h d ≡ []) }
+    {
+        let parts = network.parts();
+        let lines = lines_of(alloc, parts)?;
+        let elements = Elements::of(alloc, parts, lines.as_slice())?;
+        let parent = parent_of(alloc, parts)?;
+        Ok(Hierarchy {
+            network,
+            clock: Tick(0),
+            elements,
+            parent,
+        })
+    }
+
+    /// The settings.
+    pub fn parts(&self) -> &NetworkParts
+        ensures { result.now ≡ self.now.network }
+    {
+        self.network.parts()
+    }
+
+    /// The element of a domain loads a topology.
+    pub fn load(&mut self, at: As, topology: Topology) -> Result<u64, Refused>
+        requires own { topology.own ≡ at }
+        ensures { Loads at topology self.old result self.new }
+    {
+        self.elements.load(at, topology)
+    }
+
+    /// The job of a request of a member, where it can be solved.
+    pub fn job(&self, at: As, number: u64) -> Result<Option<Work>, NoMemory>
+        ensures below { same_as at parent_as ≡ false → IfOk result (IsElementWork (work_in number (at_domain at self.now.elements))) }
+        ensures above { same_as at parent_as ≡ true → IfOk result (IsParentWork (border_job self.now number)) }
+        ensures weighed { IfOk result (λ work. IfSome work IsWeighedWork) }
+    {
+        if is_parent(at) {
+            Ok(self.parent.job(number)?.map(Work::Border))
+        } else {
+            Ok(self.elements.job(at, number)?.map(Work::Domain))
+        }
+    }
+
+    /// The k-th job that can be solved: those of the parent are first, then the others by the domain, each by
+    /// its number; takes no memory.
+    pub fn ready(&self, k: usize) -> Option<(As, u64)>
+        ensures { (s : Plant) → s.elements ≡ (members_of self.now).elements → s.parent ≡ (members_of self.now).parent → result ≡ slice_get (ready_jobs self.now.network s) k }
+    {
+        if let Some(number) = self.parent.ready(k) {
+            return Some((As(0), number));
+        }
+        self.elements.ready(k - count_above(&self.parent, k))
+    }
+}

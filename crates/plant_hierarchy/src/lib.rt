@@ -1,0 +1,17 @@
+//! The elements of a network and the parent above them, each a member that takes messages and answers jobs (RFC 4655, RFC 6805).
+#![tactic(auto)]
+
+mod answering;
+mod becoming;
+mod counting;
+mod elements;
+mod fresh;
+mod hierarchy;
+mod members;
+mod plan;
+mod ready;
+mod steps;
+
+pub use answering::Unanswered;
+pub use hierarchy::{Hierarchy, is_parent};
+pub use plan::MemberPlan;

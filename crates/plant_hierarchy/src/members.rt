@@ -1,0 +1,126 @@
+//! The elements of a network and the parent above them, as the deeds of a network see them.
+ghost use Rattle.std.specs.Prelude.{◌≡◌};
+ghost use Rattle.disclosure.specs.Shown.{open_of};
+ghost use Rattle.plant_text.specs.Settings.{peer_row};
+ghost use Rattle.plant_model.specs.Deeds.{at_row};
+ghost use Rattle.plant_model.specs.Plant.{Pin as Generation, Segment};
+ghost use Rattle.plant_hierarchy.specs.Tiers.{FitsIn, lost_in, members_of, next_by, sent_by};
+
+use crate::hierarchy::{Hierarchy, is_parent};
+use crate::plan::MemberPlan;
+use crate::steps::has_one_part;
+use dom_base::{As, NoMemory, Peer, Tick};
+use pcep_messages::Message;
+use plant_members::Members;
+use plant_model::{Lost, Outputs};
+use plant_text::PeerRow;
+
+// The element of a peer.
+fn at_peer(peers: &[PeerRow], peer: u32) -> As
+    ensures { result ≡ at_row (peer_row peer peers.now) }
+{
+    match peers.get(peer as usize) {
+        Some(row) => row.at,
+        None => As(0),
+    }
+}
+
+impl Members for Hierarchy {
+    type Plan = MemberPlan;
+
+    ghost Pin = { Generation };
+
+    ghost Key = { Segment };
+
+    ghost show = { open_of };
+
+    ghost network = { λ t. t.network };
+
+    ghost seen = { members_of };
+
+    ghost lost = { lost_in };
+
+    ghost fits = { FitsIn };
+
+    ghost next = { next_by };
+
+    ghost sends = { sent_by };
+
+    // A message with more parts than one was not split, and is refused.
+    fn take(
+        &mut self,
+        at: As,
+        peer: Peer,
+        message: Message,
+        now: Tick,
+    ) -> Result<MemberPlan, NoMemory> {
+        if !has_one_part(&message) {
+            return Err(NoMemory);
+        }
+        if is_parent(at) {
+            self.take_above(at, peer, message, now)
+        } else {
+            self.take_below(at, peer, message, now)
+        }
+    }
+
+    fn outputs(plan: &MemberPlan) -> &Outputs {
+        match plan {
+            MemberPlan::Element { at: _at, plan } => plan.outputs(),
+            MemberPlan::Parent(plan) => plan.outputs(),
+        }
+    }
+
+    fn make(&mut self, plan: MemberPlan) {
+        match plan {
+            MemberPlan::Element { at, plan } => self.make_below(at, plan),
+            MemberPlan::Parent(plan) => self.make_above(plan),
+        }
+    }
+
+    fn up(&mut self, at: As, peer: Peer) {
+        if is_parent(at) {
+            self.up_above(at, peer);
+        } else {
+            self.up_below(at, peer);
+        }
+    }
+
+    fn down(&mut self, at: As, peer: Peer) {
+        if is_parent(at) {
+            self.down_above(at, peer);
+        } else {
+            self.down_below(at, peer);
+        }
+    }
+
+    fn next_lost(&mut self, at: As) -> Option<Lost> {
+        if is_parent(at) {
+            self.next_lost_above(at)
+        } else {
+            self.next_lost_below(at)
+        }
+    }
+
+    fn tick(&mut self, now: Tick) {
+        self.elements.tick(now);
+        self.clock = now;
+    }
+
+    fn owed(&self, at: As, peer: Peer) -> usize {
+        if is_parent(at) {
+            self.parent.owed(peer)
+        } else {
+            self.elements.owed(at, peer)
+        }
+    }
+
+    fn pending(&self) -> usize {
+        let _settings = self.network.parts();
+        self.parent.pending() + self.elements.pending()
+    }
+
+    fn element_of(&self, peer: u32) -> As {
+        at_peer(self.network.parts().peers.as_slice(), peer)
+    }
+}

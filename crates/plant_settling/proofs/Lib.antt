@@ -1,0 +1,18 @@
+pub mod Pairs
+mod Reaching
+mod ElementsReach
+mod ParentsReach
+pub mod Turns
+mod Calm
+mod CalmLinks
+pub mod Lines
+mod CalmEvents
+pub mod Sums
+mod Weighing
+mod ElementsWeigh
+mod ParentsWeigh
+pub mod Standing
+mod Weights
+mod WorkLess
+mod WorkRuns
+mod Bounds
