@@ -1,5 +1,5 @@
 #!/bin/sh
-# What one element takes for a request, in processor time, beside `solve` alone: 1,024 requests of a client are pending at once, over a
+# What one element takes for a request, in microseconds, beside `solve` alone: 1,024 requests of a client are pending at once, over a
 # topology of 1,024 nodes and 8,192 inner links. Each is read and taken, its job is solved, and its answer is planned, written and made.
 # It makes a program in a copy of the repository, proves and builds it there, and runs it. The figures hold for the
 # machine and the moment alone: no clause speaks of time.
@@ -256,23 +256,18 @@ use crate::serving::{REQUESTS, answer_all, new_element, take_all};
 use border_costs::solve;
 use pce_element::Element;
 use std::io;
-use std::time::CpuClock;
+use std::time::Instant;
 
-const ROUNDS: u32 = 20;
+const ROUNDS: u32 = 5;
 
-// The processor time that was used, in nanoseconds.
-fn used(rt: &HostRuntime) -> io::Result<u128> {
-    Ok(rt.thread_cpu_time()?.as_nanos())
-}
-
-// How long the job of a number takes to be solved.
+// How long the job of a number takes to be solved, in nanoseconds.
 fn solve_one(rt: &HostRuntime, element: &Element, number: u64) -> io::Result<u128> {
     let Ok(Some(job)) = element.job(number) else {
         return Ok(0);
     };
-    let start = used(rt)?;
+    let start = Instant::now(rt)?;
     let solved = solve(rt.alloc(), &job);
-    let took = used(rt)?.saturating_sub(start);
+    let took = start.elapsed(rt)?.as_nanos();
     Ok(if solved.is_ok() { took } else { 0 })
 }
 
@@ -285,27 +280,27 @@ fn solve_each(rt: &HostRuntime, element: &Element) -> io::Result<u128> {
 }
 
 fn each(nanoseconds: u128) -> u128 {
-    nanoseconds / u128::from(REQUESTS)
+    nanoseconds / 1_000 / u128::from(REQUESTS)
 }
 
 fn time_taking(rt: &HostRuntime, element: &mut Element) -> io::Result<u128>
     requires { element.old.losing.element.keys.clock ≤ 0 }
     ensures { OnOk result (element.new.losing.element.keys.clock ≤ 0) }
 {
-    let start = used(rt)?;
+    let start = Instant::now(rt)?;
     if take_all(rt.alloc(), element).is_err() {
         return Err(io::Error::from(io::ErrorKind::OutOfMemory));
     }
-    Ok(used(rt)?.saturating_sub(start))
+    Ok(start.elapsed(rt)?.as_nanos())
 }
 
 fn time_answering(rt: &HostRuntime, element: &mut Element) -> io::Result<u128>
     requires { element.old.losing.element.keys.clock ≤ 0 }
 {
-    let start = used(rt)?;
+    let start = Instant::now(rt)?;
     match answer_all(rt.alloc(), element) {
         Ok(octets) => {
-            let took = used(rt)?.saturating_sub(start);
+            let took = start.elapsed(rt)?.as_nanos();
             println!(rt; "{octets} octets answered")?;
             Ok(took)
         }
@@ -317,7 +312,7 @@ fn report(rt: &HostRuntime, taken: u128, alone: u128, answered: u128) -> io::Res
     let taken = each(taken);
     let alone = each(alone);
     let answered = each(answered);
-    println!(rt; "a request: taken in {taken} ns, solved and answered in {answered} ns, `solve` alone {alone} ns")
+    println!(rt; "a request: taken in {taken} us, solved and answered in {answered} us, `solve` alone {alone} us")
 }
 
 fn serve(rt: &HostRuntime, element: &mut Element) -> io::Result<()>
