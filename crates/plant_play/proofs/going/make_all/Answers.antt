@@ -1,0 +1,14 @@
+use Rattle.pce_plant.specs.Held.{whole}
+use Rattle.plant_play.specs.Making.{event_of}
+use Rattle.plant_play.proofs.GoingLemmas.{given_nothing, one_due, stuck}
+use Rattle.plant_play.proofs.going.make_all.Goals as goal
+
+pub loop-preserved : goal.loop-preserved
+loop-preserved c =
+    one_due c.args.line c.args.modes c.args.until (whole c.args.plant.now) (whole c.loop.plant) (whole c.make_due.new.plant) (event_of c.in-Some.due) c.args.into.now.items c.loop.into.items c.make_due.new.into.items c.loop.counter
+    c.loop.invariant c.in-Some.ensures (given_nothing c.in-Some.due) (rw c.if-not-branch.false at c.in_ok-make_due.ensures.makes)
+
+pub returns-then-not-branch-clause-refused : goal.returns-then-not-branch-clause-refused
+returns-then-not-branch-clause-refused c =
+    stuck c.args.line c.args.modes c.args.until (whole c.args.plant.now) (whole c.loop.plant) (whole c.make_due.new.plant) (event_of c.in-Some.due) c.args.into.now.items c.loop.into.items c.make_due.new.into.items c.loop.counter
+    c.loop.invariant c.in-Some.ensures (rw c.if-not-branch.true at c.in_ok-make_due.ensures.makes)

@@ -1,0 +1,8 @@
+-- for readers
+pub mod Turns
+pub mod Due
+pub mod Loading
+pub mod Playing
+-- inner
+pub mod Making
+pub mod PlayerFields
