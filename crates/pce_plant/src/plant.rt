@@ -108,9 +108,11 @@ impl Plant {
         self.traffic.said()
     }
 
-    /// The least pair of sender and receiver between which a message is on its way; takes no memory.
+    /// The least pair of sender and receiver between which a message is on its way, along the links of the settings;
+    /// takes no memory.
     pub fn waiting(&self) -> Option<(As, As)>
-        ensures { WaitsNext (flow_of self.now.carried) result }
+        ensures next { WaitsNext (flow_of self.now.carried) result }
+        ensures along { (flow_of self.now.carried).lines ≡ lines (whole self.now).network }
     {
         self.traffic.waiting()
     }
