@@ -1,8 +1,10 @@
 //! One path computation element.
 ghost use Rattle.std.specs.Prelude.{◌≡◌, ◌≤◌, ◌↔◌, suc, map, slice_get, Err, IsTrue, IfOk, OnOk, OnErr};
+ghost use Rattle.std.specs.Arc.{arc_value};
 ghost use Rattle.plant_model.specs.Element.{upped, down_of, next_lost_of, ticked, ready_numbers};
 ghost use Rattle.plant_model.specs.Plant.{is_full};
 ghost use Rattle.pce_element.specs.Lasting.{JobsLast};
+ghost use Rattle.pce_element.specs.Rows.{pin_with};
 ghost use Rattle.pce_element.specs.Seen.{SameButRoom, IsNew, with_current, with_element, with_losing};
 
 use crate::leaving::leave_all;
@@ -15,6 +17,7 @@ use plant_model::Lost;
 use std::alloc::Global;
 use std::collections::VecDeque;
 use std::marker::Model;
+use std::sync::Arc;
 use te_generations::LoadError;
 use te_links::Topology;
 
@@ -84,6 +87,13 @@ impl Element {
         ensures err { OnErr result (self.new ≡ self.old) }
     {
         self.requests.load(topology)
+    }
+
+    /// The number of the current topology, and the topology as a further owner of it.
+    pub fn topology(&self) -> Result<(u64, Arc<Topology>), NoMemory>
+        ensures { IfOk result (λ latest. pin_with latest.0 (arc_value latest.1) ≡ self.now.current) }
+    {
+        self.requests.latest()
     }
 
     /// The number of the k-th request that can be solved; takes no memory.

@@ -84,6 +84,14 @@ impl PinnedRequests {
         self.generations.load(topology)
     }
 
+    /// The number of the current topology, and the topology as a further owner of it.
+    pub fn latest(&self) -> Result<(u64, Arc<Topology>), NoMemory>
+        ensures { IfOk result (λ latest. pin_with latest.0 (arc_value latest.1) ≡ self.now.current) }
+    {
+        let topology = self.generations.latest()?;
+        Ok((self.generations.current(), topology))
+    }
+
     /// Makes room for one more request.
     pub fn reserve(&mut self) -> Result<(), NoMemory>
         ensures same { self.new ≡ record self.old { spare = self.new.spare } }

@@ -18,6 +18,12 @@ pair TOPO           reads two path requests joined by an SVEC, writes the two re
 pair-certify TOPO   reads the same, writes a certificate of that pair, or that there is none
 pair-verify TOPO CERT
                     reads the same, checks a certificate of a pair, writes `holds`
+path NET SRC DST AS ..
+                    asks a network for a path through these domains, as a client of the first, writes
+                    its cost and hops, a line each
+path NET SRC DST parent AS
+                    asks for a path from that domain, whose domains the parent finds
+play NET            reads a script of events, plays it on a network, writes its transcript
 --help              writes this table
 --version           writes the versions of the program and of the toolchain
 ";

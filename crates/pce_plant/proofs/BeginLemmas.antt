@@ -8,7 +8,7 @@ use Rattle.pcep_session.specs.declared.state.State.{State as Session}
 use Rattle.plant_text.specs.declared.settings.NetworkParts.{NetworkParts}
 use Rattle.plant_text.specs.Names.{same_as, parent_as}
 use Rattle.plant_text.specs.Networks.{IsNetwork}
-use Rattle.plant_text.specs.Settings.{has_line, lines}
+use Rattle.plant_text.specs.Settings.{has_line, is_element, lines}
 use Rattle.plant_model.specs.Events as events
 use Rattle.plant_model.specs.Plant.{Pin, Segment, Plant, Run, first_pin}
 use Rattle.plant_model.specs.RealWire.{wire}
@@ -22,7 +22,7 @@ use Rattle.plant_deeds.specs.Standing.{state_of}
 use Rattle.plant_lasting.proofs.EventsLast.{runs_are_in_order, runs_have_keys_before}
 use Rattle.plant_hierarchy.specs.Fresh.{begun}
 use Rattle.plant_hierarchy.proofs.ApartLemmas.{ends_are_two}
-use Rattle.plant_hierarchy.proofs.JoinedLemmas.{are_joined}
+use Rattle.plant_hierarchy.proofs.JoinedLemmas.{are_joined, elements_below}
 use Rattle.pce_plant.specs.Held.{Held, whole, IsKept, IsSound}
 
 -- ---- nothing is pending
@@ -70,16 +70,17 @@ begins_if n ms f g (Err why) is bare state = tt
 
 -- what the settings of a network are
 abbrev AreSettled : NetworkParts → Type 0
-AreSettled n = AreJoined n × ((a b : As) → has_line a b (lines n) ≡ true → same_as a b ≡ false) × (length n.peers < 2 ^ 32)
+AreSettled n = AreJoined n × ((a b : As) → has_line a b (lines n) ≡ true → same_as a b ≡ false) × ((d : As) → is_element n d ≡ true → same_as d parent_as ≡ false) × (length n.peers < 2 ^ 32)
 
 -- it is sound
 pub begun_sound : (n : NetworkParts) (h : Held) → IsNetwork n → n ≡ h.members.network → IsKept h → Run wire n [] (whole h).state → IsSound h
 begun_sound n h net is kept run =
-    let settled : AreSettled h.members.network = subst AreSettled is (are_joined n net, ends_are_two n net, net.few) in
+    let settled : AreSettled h.members.network = subst AreSettled is (are_joined n net, ends_are_two n net, elements_below n net, net.few) in
     record {
       joined = settled.0;
       apart = settled.1;
-      few = settled.2;
+      below = settled.2;
+      few = settled.3;
       kept = kept;
       order = runs_are_in_order wire n [] (whole h).state run;
       keys = runs_have_keys_before wire n [] (whole h).state run;

@@ -7,3 +7,4 @@ pub mod LoadLemmas
 pub mod HistoryLemmas
 mod CrossingParts
 pub mod Crossing
+pub mod ReadyLemmas

@@ -3,7 +3,7 @@ use Rattle.std.proofs.Common.{◌≡◌, ◌≤◌, ◌<◌, ◌^◌, ℕ, Bool,
 use Rattle.std.proofs.lemmas.Bool.{cases_lt, lt-ltb, le-ltb}
 use Rattle.dom_base.specs.declared.names.As.{As}
 use Rattle.plant_text.specs.declared.settings.NetworkParts.{NetworkParts}
-use Rattle.plant_text.specs.Names.{same_as}
+use Rattle.plant_text.specs.Names.{parent_as, same_as}
 use Rattle.plant_text.specs.Settings.{has_line, is_element, lines}
 use Rattle.plant_model.specs.declared.event.Event.{Event}
 use Rattle.plant_model.specs.Events.{Answered, later}
@@ -32,6 +32,7 @@ sound_after old new e told sound moves =
     record {
       joined = subst AreJoined same sound.joined;
       apart = subst (λ (n : NetworkParts). (a b : As) → has_line a b (lines n) ≡ true → same_as a b ≡ false) same sound.apart;
+      below = subst (λ (n : NetworkParts). (d : As) → is_element n d ≡ true → same_as d parent_as ≡ false) same sound.below;
       few = subst (λ (n : NetworkParts). length n.peers < 2 ^ 32) same sound.few;
       kept = moves.kept;
       order = (order_after old new e told sound moves).0;

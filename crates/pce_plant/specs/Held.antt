@@ -1,8 +1,8 @@
 -- What a network holds: its members, and what is on its way between them.
 use Rattle.std.specs.Prelude.{◌≡◌, ◌<◌, ◌^◌, true, false, [], length}
 use Rattle.dom_base.specs.declared.names.As.{As}
-use Rattle.plant_text.specs.Names.{same_as}
-use Rattle.plant_text.specs.Settings.{has_line, lines}
+use Rattle.plant_text.specs.Names.{parent_as, same_as}
+use Rattle.plant_text.specs.Settings.{has_line, is_element, lines}
 use Rattle.plant_model.specs.declared.event.Event.{Event}
 use Rattle.plant_model.specs.Events.{Answered}
 use Rattle.plant_traffic.specs.Carried.{Carried, flow_of}
@@ -35,6 +35,7 @@ pub record IsKept (h : Held) : Type 0 where
 pub record IsSound (h : Held) : Type 0 where
   pub joined : AreJoined h.members.network
   pub apart : (a b : As) → has_line a b (lines h.members.network) ≡ true → same_as a b ≡ false
+  pub below : (d : As) → is_element h.members.network d ≡ true → same_as d parent_as ≡ false
   pub few : length h.members.network.peers < 2 ^ 32
   pub kept : IsKept h
   pub order : AreInOrder (whole h).state

@@ -13,7 +13,7 @@ use Rattle.plant_model.specs.declared.outcome.Refused.{Refused}
 use Rattle.plant_model.specs.declared.outcome.Refused.TheVariants as refused
 use Rattle.plant_model.specs.declared.upper.BorderJob.{BorderJob}
 use Rattle.plant_model.specs.Element.{Item, Ready}
-use Rattle.plant_model.specs.Events.{Answered, is_ready}
+use Rattle.plant_model.specs.Events.{Answered, has_jobs, is_ready}
 use Rattle.plant_model.specs.Parent as parent
 use Rattle.plant_model.specs.Plant.{Pin, ask}
 use Rattle.plant_model.specs.RealWire.{wire}
@@ -51,6 +51,11 @@ abbrev pub IsWork : Whole → As → ℕ → Option Work → Type 0
 IsWork w d k None = is_ready d k w.state ≡ false
 IsWork w d k (Some (work.Domain j)) = (same_as d parent_as ≡ false) × IsAsked w d k j.ask (arc_value j.topology)
 IsWork w d k (Some (work.Border j)) = (same_as d parent_as ≡ true) × IsAskedAbove w k j
+
+-- a request can be solved, of an element or of the parent, where there is one: a solve of it is refused for want of memory alone
+pub record CanSolve (w : Whole) (d : As) (k : ℕ) : Type 0 where
+  pub has : has_jobs w.network d ≡ true
+  pub ready : is_ready d k w.state ≡ true
 
 -- ---- solved jobs
 

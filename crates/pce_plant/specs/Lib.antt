@@ -2,6 +2,7 @@
 pub mod Whole
 pub mod Held
 pub mod Jobs
+pub mod Current
 pub mod Turns
 pub mod Histories
 -- inner

@@ -1,5 +1,8 @@
 //! A network as one value.
 ghost use Rattle.std.specs.Prelude.{◌≡◌, [], length, slice_get, IfErr, IfOk, OnOk, IfSome};
+ghost use Rattle.std.specs.Arc.{arc_value};
+ghost use Rattle.std.specs.Option.{option_map};
+ghost use Rattle.pce_element.specs.Rows.{pin_with};
 ghost use Rattle.plant_model.specs.Events.{has_jobs, ready_jobs};
 ghost use Rattle.plant_model.specs.declared.event.Event.TheVariants.{Solve};
 ghost use Rattle.plant_lasting.specs.Lasting.{HaveGiven, JobsLast};
@@ -15,7 +18,8 @@ ghost use Rattle.plant_model.specs.RealWire.{wire};
 ghost use Rattle.plant_text.specs.Settings.{lines};
 ghost use Rattle.plant_traffic.specs.Flow.{IsBare};
 ghost use Rattle.pce_plant.specs.Held.{held, whole};
-ghost use Rattle.pce_plant.specs.Jobs.{IsOwn, IsWork, answer_of, handed_back, solved_at, solved_number};
+ghost use Rattle.pce_plant.specs.Current.{IsCurrent};
+ghost use Rattle.pce_plant.specs.Jobs.{CanSolve, IsOwn, IsWork, answer_of, handed_back, solved_at, solved_number};
 ghost use Rattle.pce_plant.specs.Whole.{GoesOn, IsBegun, IsOwnLoad, Stepped};
 
 use crate::answering::{CommitRefused, commit};
@@ -31,6 +35,8 @@ use plant_text::{Network, NetworkParts};
 use plant_traffic::Traffic;
 use std::alloc::Global;
 use std::marker::Model;
+use std::sync::Arc;
+use te_links::Topology;
 
 /// All elements of a network, their parent, their sessions with one another and with outside peers, the
 /// queues between them, and the clock.
@@ -90,6 +96,13 @@ impl Plant {
         self.members.parts()
     }
 
+    /// The settings as the value that they came in.
+    pub fn network(&self) -> &Network
+        ensures { result.now ≡ (whole self.now).network }
+    {
+        self.members.network()
+    }
+
     /// Does one event. What is refused changes nothing. A tick is never refused; a break and a shut only where
     /// there is no such link or open peer.
     pub fn step(&mut self, event: Event) -> Result<Outcome, Refused>
@@ -120,9 +133,17 @@ impl Plant {
     /// The k-th job that can be solved: those of the parent are first, then the others by the domain, each by
     /// its number; takes no memory.
     pub fn ready(&self, k: usize) -> Option<(As, u64)>
-        ensures { result ≡ slice_get (ready_jobs (whole self.now).network (whole self.now).state) k }
+        ensures found { result ≡ slice_get (ready_jobs (whole self.now).network (whole self.now).state) k }
+        ensures can { IfSome result (λ job. CanSolve (whole self.now) job.0 job.1) }
     {
         self.members.ready(k)
+    }
+
+    /// The current topology of an element, and its number; None where there is no such element.
+    pub fn topology(&self, at: As) -> Result<Option<(u64, Arc<Topology>)>, NoMemory>
+        ensures { IfOk result (λ found. IsCurrent (whole self.now) at (option_map (λ p. pin_with p.0 (arc_value p.1)) found)) }
+    {
+        self.members.topology(at)
     }
 
     /// The job of a request, where it can be solved.

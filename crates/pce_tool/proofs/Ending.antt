@@ -37,6 +37,7 @@ topology_ends w c name rest is nothing status.Usage why = absurd why
 topology_ends w c name rest is nothing status.ReadFault why = (nothing, inl (first w c name rest _ is why))
 topology_ends w c name rest is nothing status.WriteFault why = absurd why
 topology_ends w c name rest is nothing (status.BadNetwork file line fault) why = (nothing, first w c name rest _ is why)
+topology_ends w c name rest is nothing (status.BadLine line) why = absurd why
 topology_ends w c name rest is nothing status.NoMemory why = nothing
 topology_ends w c name rest is nothing (status.BadRequest reason) why = absurd why
 topology_ends w c name rest is nothing (status.Refuted place) why = absurd why
@@ -60,6 +61,7 @@ second_ends w c topology g f IsFault is has in_file nothing (status.BadNetwork f
     told : (files : Option Files) → IfFile files (name_of f) (λ bytes. IsFault bytes line fault) → IfFile files (name_of f) (λ bytes. IsFaultIn w.files f bytes line fault)
     told None h = tt
     told (Some fs) h = (h.0, h.1, in_file h.0 line fault h.2)
+second_ends w c topology g f IsFault is has in_file nothing (status.BadLine line) why = absurd why
 second_ends w c topology g f IsFault is has in_file nothing status.NoMemory why = nothing
 second_ends w c topology g f IsFault is has in_file nothing (status.BadRequest reason) why = absurd why
 second_ends w c topology g f IsFault is has in_file nothing (status.Refuted place) why = absurd why
@@ -87,6 +89,7 @@ input_ends w c g read has nothing status.Usage is = absurd is
 input_ends w c g read has nothing status.ReadFault is = (nothing, inr (read, is))
 input_ends w c g read has nothing status.WriteFault is = absurd is
 input_ends w c g read has nothing (status.BadNetwork file line fault) is = absurd is
+input_ends w c g read has nothing (status.BadLine line) is = absurd is
 input_ends w c g read has nothing status.NoMemory is = nothing
 input_ends w c g read has nothing (status.BadRequest why) is =
     (nothing, record { read = read; topology = g; is_topology = has; bytes = is.0; is_input = is.1; within = is.2; is_why = is.3 })
@@ -100,6 +103,7 @@ finished w c text out status.Usage is = absurd is
 finished w c text out status.ReadFault is = absurd is
 finished w c text out status.WriteFault is = record { rose = is.0; text = text; is_output = out; part = is.1 }
 finished w c text out (status.BadNetwork file line fault) is = absurd is
+finished w c text out (status.BadLine line) is = absurd is
 finished w c text out status.NoMemory is = absurd is
 finished w c text out (status.BadRequest why) is = absurd is
 finished w c text out (status.Refuted place) is = absurd is

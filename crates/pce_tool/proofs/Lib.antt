@@ -4,3 +4,7 @@ pub mod Beyond
 pub mod Unread
 pub mod InputEnds
 pub mod PairReplies
+pub mod NetworkEnds
+pub mod RouteLemmas
+pub mod HeadlineLemmas
+pub mod ShortWords

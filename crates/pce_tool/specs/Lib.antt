@@ -1,5 +1,8 @@
 -- what a reader needs, in this order
+pub mod Tasks
 pub mod Run
+pub mod Networks
+pub mod Headline
 pub mod Commands
 pub mod Requests
 pub mod Files

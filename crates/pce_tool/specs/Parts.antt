@@ -50,6 +50,12 @@ IsBadAt name line fault status.NoMemory = Unit {0}
 IsBadAt name line fault (status.BadNetwork file at other) = (file ≡ name) × (at ≡ line) × (other ≡ Topo fault)
 IsBadAt name line fault _ = ⊥
 
+-- the status names the file of settings and the fault, unless memory ran out
+abbrev pub IsBadSettings : List ℕ → NetFault → Status → Type 0
+IsBadSettings name fault status.NoMemory = Unit {0}
+IsBadSettings name fault (status.BadNetwork file at other) = (file ≡ name) × (at ≡ 0) × (other ≡ fault)
+IsBadSettings name fault _ = ⊥
+
 -- the status names the file, unless memory ran out
 abbrev pub IsTooLarge : List ℕ → Status → Type 0
 IsTooLarge name status.NoMemory = Unit {0}

@@ -150,13 +150,9 @@ Ends w c status.ReadFault =
 Ends w c status.WriteFault = IsWriteFault w c
 Ends w c (status.BadNetwork file line fault) =
     WroteNothing w × AtFile w c (λ f. (file ≡ name_of f) × IfFile w.files (name_of f) (λ bytes. IsFaultIn w.files f bytes line fault))
+Ends w c (status.BadLine line) = ⊥
 Ends w c status.NoMemory = WroteNothing w
 Ends w c (status.BadRequest why) = WroteNothing w × IsBadRequest w c why
 Ends w c (status.Refuted place) = WroteNothing w × IsRefuted w c place
 Ends w c (status.TooLarge name) =
     WroteNothing w × (AtFile w c (λ f. (name ≡ name_of f) × IsLongFile w.files (name_of f) (limit_of f)) ⊎ (FilesRead w c × (name ≡ input_name) × IsLongInput w.input))
-
--- a run of words that are no command does nothing
-abbrev pub Runs : World → Option Command → Status → Type 0
-Runs w None s = (s ≡ status.Usage) × WroteNothing w
-Runs w (Some c) s = Ends w c s

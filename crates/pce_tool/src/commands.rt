@@ -5,4 +5,6 @@ pub(crate) mod certify;
 pub(crate) mod pair;
 pub(crate) mod pair_certify;
 pub(crate) mod pair_verify;
+pub(crate) mod path;
+pub(crate) mod play;
 pub(crate) mod verify;

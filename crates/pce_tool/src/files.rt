@@ -5,21 +5,22 @@ ghost use Rattle.te_text.specs.Reads.{IsFaulty};
 ghost use Rattle.te_links.specs.declared.fault.TopoFault.{TopoFault};
 ghost use Rattle.path_certificate.specs.Rows.{AreLabelRows};
 ghost use Rattle.path_certificate.specs.Text.{certificate_in};
-ghost use Rattle.pce_tool.specs.Limits.{certificate_max};
+ghost use Rattle.pce_tool.specs.Limits.{certificate_max, settings_max};
+ghost use Rattle.pce_tool.specs.Networks.{HasNetwork, IsSettingsFault};
 ghost use Rattle.dom_edge.specs.Stores.{HasFile};
 ghost use Rattle.topology_files.specs.Loading.{HasTopology, topology_max};
 ghost use Rattle.diverse_pairs.specs.Potentials.{HasRising};
 ghost use Rattle.diverse_pairs.specs.Text.{pair_in};
 ghost use Rattle.pce_tool.specs.Files.{HasCertificate, HasPairCertificate, IsTopo};
-ghost use Rattle.pce_tool.specs.Parts.{IsFileStatus, IsBadAt, IsNoFault, IsTooLarge};
+ghost use Rattle.pce_tool.specs.Parts.{IsFileStatus, IsBadAt, IsBadSettings, IsNoFault, IsTooLarge};
 
-use crate::limits::CERTIFICATE_MAX;
+use crate::limits::{CERTIFICATE_MAX, SETTINGS_MAX};
 use crate::status::Status;
 use diverse_pairs::{PairCertificate, read_pair};
 use dom_base::{Bytes, Text};
 use dom_edge::{Store, StoreError};
 use path_certificate::{CertError, Certificate, read_certificate};
-use plant_text::NetFault;
+use plant_text::{NetError, NetFault, Network, read_network};
 use std::alloc::Global;
 use te_links::{TopoFault, Topology};
 use topology_files::LoadError;
@@ -33,6 +34,20 @@ fn bad_network(alloc: Global, name: &str, line: u32, fault: TopoFault) -> Status
             file,
             line,
             fault: NetFault::Topo(fault),
+        },
+        Err(_) => Status::NoMemory,
+    }
+}
+
+// The status of a run that ends at settings.
+pub(crate) fn bad_settings(alloc: Global, name: &str, fault: NetFault) -> Status
+    ensures { IsBadSettings name.now fault result }
+{
+    match Text::copy_of(alloc, name) {
+        Ok(file) => Status::BadNetwork {
+            file,
+            line: 0,
+            fault,
         },
         Err(_) => Status::NoMemory,
     }
@@ -124,5 +139,24 @@ pub fn load_pair_certificate<S: Store>(
         Ok(certificate) => Ok(certificate),
         Err(CertError::At(line, fault)) => Err(bad_network(alloc, name, line, fault)),
         Err(CertError::NoMemory) => Err(Status::NoMemory),
+    }
+}
+
+/// The settings in a file.
+pub(crate) fn load_network<S: Store>(
+    alloc: Global,
+    store: &mut S,
+    name: &str,
+) -> Result<Network, Status>
+    ensures ok { IfOk result (HasNetwork (S.files store.old) name.now) }
+    ensures err { IfErr result (IsFileStatus (S.files store.old) name.now settings_max IsSettingsFault (S.faults store.old, S.faults store.new) (S.failed_at store.new)) }
+    ensures files { S.files store.new ≡ S.files store.old }
+    ensures later { S.faults store.old ≤ S.faults store.new }
+{
+    let bytes = read_file(alloc, store, name, SETTINGS_MAX)?;
+    match read_network(alloc, bytes.as_slice()) {
+        Ok(network) => Ok(network),
+        Err(NetError::Fault(fault)) => Err(bad_settings(alloc, name, fault)),
+        Err(NetError::NoMemory) => Err(Status::NoMemory),
     }
 }

@@ -25,12 +25,14 @@ pub enum Status {
         line: u32,
         fault: NetFault,
     },
+    /// This line of the input, from 1, is outside the form.
+    BadLine(u32),
     NoMemory,
     /// The input is no request that the command answers.
     BadRequest(Why),
     /// The certificate does not hold: the first condition that is false.
     Refuted(Place),
-    /// A file, by its name, or the `input` has more bytes than its limit.
+    /// A file, by its name, or the `input` or a line of it has more bytes than its limit.
     TooLarge(Text),
 }
 
@@ -45,6 +47,7 @@ impl Status {
             Status::ReadFault => 2,
             Status::WriteFault => 3,
             Status::BadNetwork { .. } => 4,
+            Status::BadLine(_) => 5,
             Status::NoMemory => 6,
             Status::BadRequest(_) => 7,
             Status::Refuted(_) => 8,
@@ -63,6 +66,7 @@ impl fmt::Display for Status {
             Status::BadNetwork { file, line, fault } => {
                 write!(f, "bad network {} {line} {fault}", file.as_str())
             }
+            Status::BadLine(line) => write!(f, "bad line {line}"),
             Status::NoMemory => write!(f, "no memory"),
             Status::BadRequest(why) => write!(f, "bad request {why}"),
             Status::Refuted(place) => write!(f, "refuted {place}"),

@@ -1,9 +1,12 @@
 //! The top call.
-ghost use Rattle.std.specs.Prelude.{◌≡◌, ◌↔◌, ◌∷◌, [], map, string_bytes, None};
-ghost use Rattle.pce_tool.specs.Run.{command_of, Runs};
+ghost use Rattle.std.specs.Prelude.{◌≡◌, ◌↔◌, ◌∷◌, [], map, string_bytes, None, Some};
+ghost use Rattle.pce_tool.specs.Headline.{RunsAreWorth};
+ghost use Rattle.pce_tool.specs.Networks.{Runs};
+ghost use Rattle.pce_tool.specs.Tasks.{AsksForPath, path_in, path_task, task_of};
 ghost use Rattle.pce_tool.specs.Worlds.{world};
 
-use crate::commands::{answer, certify, pair, pair_certify, pair_verify, verify};
+use crate::commands::{answer, certify, pair, pair_certify, pair_verify, path, play, verify};
+use crate::route::path_of;
 use crate::status::Status;
 use dom_edge::{Sink, Source, Store};
 use std::alloc::Global;
@@ -17,8 +20,8 @@ fn run_over<S: Store, I: Source, K: Sink>(
     input: &mut I,
     out: &mut K,
 ) -> Status
-    ensures usage { (result ≡ Status.Usage) ↔ (command_of (verb.now ∷ topology.now ∷ []) ≡ None) }
-    ensures ends { Runs (world (S.files store.old) (I.left input.old) (K.written out.old, K.written out.new) (S.faults store.old, S.faults store.new) (I.faults input.old, I.faults input.new) (K.faults out.old, K.faults out.new) (S.failed_at store.new)) (command_of (verb.now ∷ topology.now ∷ [])) result }
+    ensures usage { (result ≡ Status.Usage) ↔ (task_of (verb.now ∷ topology.now ∷ []) ≡ None) }
+    ensures ends { Runs (world (S.files store.old) (I.left input.old) (K.written out.old, K.written out.new) (S.faults store.old, S.faults store.new) (I.faults input.old, I.faults input.new) (K.faults out.old, K.faults out.new) (S.failed_at store.new)) (task_of (verb.now ∷ topology.now ∷ [])) result }
 {
     if verb == "answer" {
         return answer::run(alloc, topology, store, input, out);
@@ -31,6 +34,9 @@ fn run_over<S: Store, I: Source, K: Sink>(
     }
     if verb == "pair-certify" {
         return pair_certify::run(alloc, topology, store, input, out);
+    }
+    if verb == "play" {
+        return play::run(alloc, topology, store, input, out);
     }
     Status::Usage
 }
@@ -45,8 +51,8 @@ fn run_with<S: Store, I: Source, K: Sink>(
     input: &mut I,
     out: &mut K,
 ) -> Status
-    ensures usage { (result ≡ Status.Usage) ↔ (command_of (verb.now ∷ topology.now ∷ certificate.now ∷ []) ≡ None) }
-    ensures ends { Runs (world (S.files store.old) (I.left input.old) (K.written out.old, K.written out.new) (S.faults store.old, S.faults store.new) (I.faults input.old, I.faults input.new) (K.faults out.old, K.faults out.new) (S.failed_at store.new)) (command_of (verb.now ∷ topology.now ∷ certificate.now ∷ [])) result }
+    ensures usage { (result ≡ Status.Usage) ↔ (task_of (verb.now ∷ topology.now ∷ certificate.now ∷ []) ≡ None) }
+    ensures ends { Runs (world (S.files store.old) (I.left input.old) (K.written out.old, K.written out.new) (S.faults store.old, S.faults store.new) (I.faults input.old, I.faults input.new) (K.faults out.old, K.faults out.new) (S.failed_at store.new)) (task_of (verb.now ∷ topology.now ∷ certificate.now ∷ [])) result }
 {
     if verb == "verify" {
         return verify::run(alloc, topology, certificate, store, input, out);
@@ -57,8 +63,31 @@ fn run_with<S: Store, I: Source, K: Sink>(
     Status::Usage
 }
 
+// Runs the command that asks a network for a path.
+fn run_path<S: Store, I: Source, K: Sink>(
+    alloc: Global,
+    network: &str,
+    source: &str,
+    target: &str,
+    domains: &[String],
+    store: &mut S,
+    input: &mut I,
+    out: &mut K,
+) -> Status
+    ensures usage { (result ≡ Status.Usage) ↔ (path_in source.now target.now (map string_bytes domains.now) ≡ None) }
+    ensures ends { Runs (world (S.files store.old) (I.left input.old) (K.written out.old, K.written out.new) (S.faults store.old, S.faults store.new) (I.faults input.old, I.faults input.new) (K.faults out.old, K.faults out.new) (S.failed_at store.new)) (path_task network.now source.now target.now (map string_bytes domains.now)) result }
+    ensures unread { input.new ≡ input.old }
+{
+    match path_of(alloc, source, target, domains) {
+        Ok(Some(route)) => path::run(alloc, network, route, store, input, out),
+        Ok(None) => Status::Usage,
+        Err(_) => Status::NoMemory,
+    }
+}
+
 /// Runs the command that the words are: reads the files in the order of the words, then the input,
-/// and writes to `out`. It returns on every input.
+/// and writes to `out`. It returns on every input. What a run of a network is worth is a clause of its own.
+#[tactic(auto, using(crate::proofs::HeadlineLemmas::runs_are_worth))]
 pub fn run<S: Store, I: Source, K: Sink>(
     alloc: Global,
     words: &[String],
@@ -66,8 +95,10 @@ pub fn run<S: Store, I: Source, K: Sink>(
     input: &mut I,
     out: &mut K,
 ) -> Status
-    ensures usage { (result ≡ Status.Usage) ↔ (command_of (map string_bytes words.now) ≡ None) }
-    ensures ends { Runs (world (S.files store.old) (I.left input.old) (K.written out.old, K.written out.new) (S.faults store.old, S.faults store.new) (I.faults input.old, I.faults input.new) (K.faults out.old, K.faults out.new) (S.failed_at store.new)) (command_of (map string_bytes words.now)) result }
+    ensures usage { (result ≡ Status.Usage) ↔ (task_of (map string_bytes words.now) ≡ None) }
+    ensures ends { Runs (world (S.files store.old) (I.left input.old) (K.written out.old, K.written out.new) (S.faults store.old, S.faults store.new) (I.faults input.old, I.faults input.new) (K.faults out.old, K.faults out.new) (S.failed_at store.new)) (task_of (map string_bytes words.now)) result }
+    ensures worth { RunsAreWorth (S.files store.old) (task_of (map string_bytes words.now)) }
+    ensures unread { AsksForPath (task_of (map string_bytes words.now)) → input.new ≡ input.old }
 {
     match words {
         [verb, topology] => run_over(alloc, verb.as_str(), topology.as_str(), store, input, out),
@@ -76,6 +107,16 @@ pub fn run<S: Store, I: Source, K: Sink>(
             verb.as_str(),
             topology.as_str(),
             certificate.as_str(),
+            store,
+            input,
+            out,
+        ),
+        [verb, network, source, target, domains @ ..] if verb.as_str() == "path" => run_path(
+            alloc,
+            network.as_str(),
+            source.as_str(),
+            target.as_str(),
+            domains,
             store,
             input,
             out,

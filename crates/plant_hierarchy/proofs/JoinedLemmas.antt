@@ -150,6 +150,10 @@ are_joined n net = record {
   links = λ a b is. linked_member n a b (lines n) (between_lines n net) is;
 }
 
+-- no element has the number of the parent
+pub elements_below : (n : NetworkParts) → IsNetwork n → (d : As) → is_element n d ≡ true → same_as d parent_as ≡ false
+elements_below n net d is = not_upper d n.elements (settings_of n net).elements.domains is
+
 -- ---- the ways of the parent
 
 abbrev AreApart : List Line → Type 0

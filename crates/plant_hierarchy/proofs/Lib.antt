@@ -14,3 +14,4 @@ pub mod BegunLemmas
 pub mod TierLoads
 pub mod AnswerLemmas
 pub mod ApartLemmas
+pub mod CurrentLemmas

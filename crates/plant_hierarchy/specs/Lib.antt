@@ -2,6 +2,7 @@
 pub mod Elements
 pub mod Becoming
 pub mod Tiers
+pub mod Current
 pub mod Answering
 pub mod Loading
 -- inner

@@ -1,15 +1,18 @@
 //! The elements of a network, each by its domain.
-ghost use Rattle.std.specs.Prelude.{◌≡◌, ◌<◌, [], is_some, length, MatchOption};
+ghost use Rattle.std.specs.Prelude.{◌≡◌, ◌<◌, [], is_some, length, IfOk, MatchOption};
 ghost use Rattle.std.specs.List.{slice_index_or};
-ghost use Rattle.std.specs.Option.{option_copied};
+ghost use Rattle.std.specs.Option.{option_copied, option_map};
+ghost use Rattle.std.specs.Arc.{arc_value};
 ghost use Rattle.plant_text.specs.Names.{same_as};
+ghost use Rattle.pce_element.specs.Rows.{pin_with};
 ghost use Rattle.plant_hierarchy.specs.Elements.{at_domain, no_one, IsFirstAt, IsNowhere, LoadsAt, LoadsPlace, told};
 
-use dom_base::As;
+use dom_base::{As, NoMemory};
 use pce_element::Element;
 use plant_model::Refused;
 use std::alloc::Global;
 use std::marker::Model;
+use std::sync::Arc;
 use te_generations::LoadError;
 use te_links::Topology;
 
@@ -109,5 +112,15 @@ impl Elements {
             return Err(Refused::NoSuchPeer);
         };
         told(load_at(&mut self.items, i, topology))
+    }
+
+    /// The current topology of the element of a domain, and its number.
+    pub fn topology(&self, at: As) -> Result<Option<(u64, Arc<Topology>)>, NoMemory>
+        ensures { IfOk result (λ found. option_map (λ p. pin_with p.0 (arc_value p.1)) found ≡ option_map (λ e. e.current) (at_domain at self.now)) }
+    {
+        match self.at(at) {
+            Some(element) => Ok(Some(element.topology()?)),
+            None => Ok(None),
+        }
     }
 }

@@ -1,5 +1,7 @@
 //! The elements of a network and the parent above them (RFC 6805).
 ghost use Rattle.std.specs.Prelude.{◌≡◌, ◌≤◌, [], All, length, slice_get, IfOk, IfSome, false, true};
+ghost use Rattle.std.specs.Arc.{arc_value};
+ghost use Rattle.std.specs.Option.{option_map};
 ghost use Rattle.dom_base.specs.declared.names.As.{As as Domain};
 ghost use Rattle.plant_text.specs.Names.{same_as, parent_as};
 ghost use Rattle.plant_text.specs.Settings.{elements_of};
@@ -9,11 +11,13 @@ ghost use Rattle.plant_model.specs.Plant.{Plant};
 ghost use Rattle.plant_model.specs.Settings.{family};
 ghost use Rattle.pce_parent.specs.Seen.{IsNew};
 ghost use Rattle.pce_parent.specs.Solution.{IsWeighed};
+ghost use Rattle.pce_element.specs.Rows.{pin_with};
 ghost use Rattle.plant_hierarchy.specs.Elements.{at_domain};
 ghost use Rattle.plant_hierarchy.specs.Loading.{Loads};
 ghost use Rattle.plant_hierarchy.specs.Answering.{IsElementWork, IsParentWork, IsWeighedWork, border_job};
 ghost use Rattle.plant_hierarchy.specs.Fresh.{AreNew, begun, parent_id};
 ghost use Rattle.plant_hierarchy.specs.Ready.{work_in};
+ghost use Rattle.plant_hierarchy.specs.Current.{IsCurrent};
 ghost use Rattle.plant_hierarchy.specs.Tiers.{lost_in, members_of};
 
 use crate::elements::Elements;
@@ -24,6 +28,7 @@ use plant_model::Refused;
 use plant_text::{Network, NetworkParts};
 use std::alloc::Global;
 use std::marker::Model;
+use std::sync::Arc;
 use te_links::Topology;
 
 /// The elements of a network, each by its domain, and the parent above them.
@@ -116,12 +121,26 @@ impl Hierarchy {
         self.network.parts()
     }
 
+    /// The settings as the value that they came in.
+    pub fn network(&self) -> &Network
+        ensures { result.now ≡ self.now.network }
+    {
+        &self.network
+    }
+
     /// The element of a domain loads a topology.
     pub fn load(&mut self, at: As, topology: Topology) -> Result<u64, Refused>
         requires own { topology.own ≡ at }
         ensures { Loads at topology self.old result self.new }
     {
         self.elements.load(at, topology)
+    }
+
+    /// The current topology of an element, and its number; None where there is no such element.
+    pub fn topology(&self, at: As) -> Result<Option<(u64, Arc<Topology>)>, NoMemory>
+        ensures { IfOk result (λ found. IsCurrent self.now.network (members_of self.now).current at (option_map (λ p. pin_with p.0 (arc_value p.1)) found)) }
+    {
+        self.elements.topology(at)
     }
 
     /// The job of a request of a member, where it can be solved.

@@ -1,14 +1,13 @@
 -- No two rows of a topology have one name.
-use Rattle.std.proofs.Common.{◌≡◌, ◌≢◌, ℕ, zero, suc, ◌+◌, ◌<◌, ◌||◌, Bool, true, false, List, [], ◌∷◌, ◌++◌, length, map, get_or, refl, sym, ◌∙◌, ap, subst, inl, inr, arith, length-append}
+use Rattle.std.proofs.Common.{◌≡◌, ◌≢◌, ℕ, zero, suc, ◌<◌, ◌||◌, Bool, true, false, List, [], ◌∷◌, ◌++◌, length, map, get_or, refl, subst, inl, inr, arith, length-append}
 use Rattle.std.specs.Prelude.{AllPairs}
-use Rattle.std.specs.List.{list_any}
 use Rattle.std.proofs.lemmas.Bool.{cases_Bool}
 use Rattle.std.proofs.lemmas.List.{length-map, get_or_append_left}
 use Rattle.dom_base.specs.declared.addr.Addr.{Addr}
 use Rattle.dom_base.specs.declared.link.Link.{Link}
 use Rattle.te_links.specs.declared.rows.OutLink.{OutLink}
 use Rattle.te_links.specs.declared.rows.Entry.{Entry}
-use Rattle.te_links.specs.Rows.{Rows, IsTopology, all_links}
+use Rattle.te_links.specs.Rows.{Rows, IsTopology}
 use Rattle.te_text.specs.declared.row.TextRow.{TextRow}
 use Rattle.te_text.specs.declared.row.TextRow.TheVariants as rows
 use Rattle.te_text.specs.TopologyText.{rows_in_order}

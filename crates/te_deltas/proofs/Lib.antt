@@ -4,3 +4,4 @@ pub mod GatherLemmas
 pub mod Listing
 pub mod Apart
 pub mod Turns
+pub mod BlameLemmas

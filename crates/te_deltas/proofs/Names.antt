@@ -1,15 +1,12 @@
 -- Names of rows that are the same.
-use Rattle.std.proofs.Common.{◌≡◌, ℕ, ◌==◌, ◌&&◌, Bool, true, false, refl, sym, ◌∙◌, ap, rules}
+use Rattle.std.proofs.Common.{◌≡◌, Bool, true, false, refl, sym, ◌∙◌, ap}
 use Rattle.std.specs.Bool.{Decides}
 use Rattle.std.specs.BTreeMap.{is_at}
-use Rattle.std.proofs.lemmas.Bool.{eqb-true, eq-eqb, and_parts, and_from}
 use Rattle.std.proofs.lemmas.Bool.Decides.{same_from_decides}
-use Rattle.dom_base.specs.declared.addr.Addr.{Addr}
-use Rattle.dom_base.specs.declared.names.As.{As}
-use Rattle.te_links.specs.declared.rows.Entry.{Entry}
 use Rattle.te_deltas.specs.declared.name.RowName.{RowName}
 use Rattle.te_deltas.specs.declared.name.RowName.TheVariants.{Node, Link, Out, Entry as EntryName}
 use Rattle.te_deltas.specs.contracts.name.RowNameOrd.TheImpl as derived
+use Rattle.te_deltas.specs.contracts.name.RowNamePartialEq.TheImpl as compared
 use Rattle.te_deltas.specs.Changes.{same_name}
 use Rattle.te_links.proofs.Different.{Decides-rank}
 use Rattle.te_links.proofs.Compared.{addr_told, entry_told}
@@ -72,3 +69,22 @@ order_same (Out a) (EntryName b) = refl
 order_same (EntryName a) (Node b) = refl
 order_same (EntryName a) (Link b) = refl
 order_same (EntryName a) (Out b) = refl
+
+-- and so does the derived comparison
+pub compared_same : (a b : RowName) → compared.eq-value.it a b ≡ same_name a b
+compared_same (Node a) (Node b) = refl
+compared_same (Link a) (Link b) = refl
+compared_same (Out a) (Out b) = refl
+compared_same (EntryName a) (EntryName b) = refl
+compared_same (Node a) (Link b) = refl
+compared_same (Node a) (Out b) = refl
+compared_same (Node a) (EntryName b) = refl
+compared_same (Link a) (Node b) = refl
+compared_same (Link a) (Out b) = refl
+compared_same (Link a) (EntryName b) = refl
+compared_same (Out a) (Node b) = refl
+compared_same (Out a) (Link b) = refl
+compared_same (Out a) (EntryName b) = refl
+compared_same (EntryName a) (Node b) = refl
+compared_same (EntryName a) (Link b) = refl
+compared_same (EntryName a) (Out b) = refl

@@ -1,5 +1,5 @@
 -- Rows in slots, found by their names.
-use Rattle.std.proofs.Common.{◌≡◌, ℕ, zero, suc, ◌<◌, ◌||◌, not, Bool, true, false, cond, Option, Some, None, option_map, List, [], ◌∷◌, ◌++◌, length, set, filter, refl, sym, ◌∙◌, ap, subst, inl, inr, arith}
+use Rattle.std.proofs.Common.{◌≡◌, ℕ, suc, ◌<◌, ◌||◌, Bool, true, false, cond, Option, Some, None, option_map, List, [], ◌∷◌, ◌++◌, length, set, refl, sym, ◌∙◌, ap, inl, inr, arith}
 use Rattle.std.specs.Option.{is_some}
 use Rattle.std.specs.BTreeMap.{BTreeMap, get, is_at}
 use Rattle.std.proofs.lemmas.Bool.{cases_Bool}
@@ -8,7 +8,7 @@ use Rattle.te_deltas.specs.declared.name.RowName.{RowName}
 use Rattle.te_deltas.specs.contracts.name.RowNameOrd.TheImpl as derived
 use Rattle.te_deltas.specs.Changes.{name_of, same_name, has_name, without}
 use Rattle.te_deltas.specs.Slots.{live, place_in, DifferByName}
-use Rattle.te_deltas.proofs.Names.{name_is, name_self, name_back, order_same}
+use Rattle.te_deltas.proofs.Names.{name_is, name_back, order_same}
 
 -- ---- places
 

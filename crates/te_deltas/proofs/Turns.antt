@@ -1,18 +1,15 @@
 -- Changes that are made one after the other.
-use Rattle.std.proofs.Common.{◌≡◌, ℕ, zero, suc, ◌+◌, ◌<◌, not, Bool, true, false, List, [], ◌∷◌, ◌++◌, length, take, Some, None, slice_get, refl, sym, ◌∙◌, ap, subst, inl, inr, arith}
-use Rattle.std.specs.Prelude.{IsPermutation}
+use Rattle.std.proofs.Common.{◌≡◌, ℕ, zero, suc, ◌+◌, not, Bool, true, false, List, [], ◌∷◌, ◌++◌, take, Some, None, slice_get, refl, sym, ◌∙◌, ap, subst, inl, inr, arith}
 use Rattle.std.proofs.lemmas.Bool.{cases_lt}
-use Rattle.te_links.specs.Rows.{Rows, IsTopology}
-use Rattle.te_links.specs.Faults.{rows_of_parts, IsFirstBreach}
-use Rattle.te_links.specs.declared.rows.Parts.{Parts}
+use Rattle.te_links.specs.Rows.{Rows}
 use Rattle.te_text.specs.declared.row.TextRow.{TextRow}
 use Rattle.te_text.specs.TopologyText.{rows_in_order}
 use Rattle.te_deltas.specs.declared.changes.Change.{Change}
 use Rattle.te_deltas.specs.declared.changes.Change.TheVariants.{AddNode, DropNode, AddLink, DropLink, AddOut, DropOut, AddEntry, DropEntry}
 use Rattle.te_deltas.specs.declared.making.ChangeError.{ChangeError}
 use Rattle.te_deltas.specs.declared.making.ChangeError.TheVariants.{Absent, Present, Rule, NoMemory}
-use Rattle.te_deltas.specs.Changes.{CanBeMade, IsFirstMistake, NoneBefore, changed, is_mistake, rows_after, rows_of}
-use Rattle.te_deltas.specs.Answers.{IsBuilt, IsMistake, IsWhy, changed_rows, mistake}
+use Rattle.te_deltas.specs.Changes.{IsFirstMistake, NoneBefore, changed, is_mistake, rows_after}
+use Rattle.te_deltas.specs.Answers.{IsMistake, IsWhy, mistake}
 
 rows_after_push : (list : List TextRow) (changes : List Change) (change : Change) → rows_after list (changes ++ change ∷ []) ≡ changed (rows_after list changes) change
 rows_after_push list [] change = refl

@@ -1,5 +1,5 @@
 -- What is answered to changes of a topology.
-use Rattle.std.specs.Prelude.{◌≡◌, ℕ, List, Option, Some, None, is_some, true, false, IsPermutation}
+use Rattle.std.specs.Prelude.{◌≡◌, ℕ, List, IsPermutation}
 use Rattle.te_links.specs.Rows.{Rows, IsTopology, IsInOrder}
 use Rattle.te_links.specs.Faults.{IsFirstBreach}
 use Rattle.te_text.specs.declared.row.TextRow.{TextRow}

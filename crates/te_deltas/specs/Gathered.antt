@@ -1,5 +1,5 @@
 -- Rows by their kinds, as further ones come.
-use Rattle.std.specs.Prelude.{List, [], ◌∷◌, ◌++◌}
+use Rattle.std.specs.Prelude.{[], ◌∷◌, ◌++◌}
 use Rattle.dom_base.specs.declared.names.As.{As}
 use Rattle.te_links.specs.Rows.{Rows}
 use Rattle.te_text.specs.declared.row.TextRow.{TextRow}

@@ -1,6 +1,7 @@
 //! Changes to a topology: rows that are dropped and added, one after the other.
 #![tactic(auto)]
 
+mod blaming;
 mod changes;
 mod copy;
 mod law;
@@ -12,6 +13,7 @@ mod table;
 #[cfg(test)]
 mod tests;
 
+pub use blaming::line_of_fault;
 pub use changes::Change;
 pub use law::built_once;
 pub use making::{ChangeError, apply};

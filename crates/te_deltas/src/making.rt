@@ -1,15 +1,16 @@
 //! Changes, made to a topology.
 ghost use Rattle.std.specs.Prelude.{◌≡◌, not, true, IfOk, IfErr, OnOk};
+ghost use Rattle.te_links.specs.Faults.{rows_of_parts};
 ghost use Rattle.te_text.specs.TopologyText.{rows_in_order};
 ghost use Rattle.te_deltas.specs.Changes.{CanBeMade, changed, is_mistake, rows_after};
-ghost use Rattle.te_deltas.specs.Answers.{IsBuiltOf, IsMistake, IsWhy, mistake};
+ghost use Rattle.te_deltas.specs.Answers.{IsBuiltOf, IsMistake, IsWhy, changed_rows, mistake};
 
 use crate::changes::Change;
 use crate::rows::rows_of_topology;
 use crate::table::Table;
 use dom_base::NoMemory;
 use std::alloc::Global;
-use te_links::{BuildError, Row, TopoFault, Topology};
+use te_links::{BuildError, Parts, Row, TopoFault, Topology};
 
 /// Why no topology was made. The numbers are places among the changes, from 0.
 #[derive(Clone, Copy, Debug, PartialEq, Eq)]
@@ -85,6 +86,22 @@ fn make_all(alloc: Global, table: &mut Table, changes: &[Change]) -> Result<(), 
     Ok(())
 }
 
+// The rows after all changes, by their kinds, or the first mistake.
+pub(crate) fn changed_parts(
+    alloc: Global,
+    topology: &Topology,
+    changes: &[Change],
+) -> Result<Parts, ChangeError>
+    ensures made { OnOk result (CanBeMade (rows_in_order topology.now) changes.now) }
+    ensures rows { IfOk result (λ parts. rows_of_parts parts ≡ changed_rows topology.now changes.now) }
+    ensures mistake { IfErr result (IsMistake (rows_in_order topology.now) changes.now) }
+{
+    let mut table = table_of(alloc, topology)?;
+    make_all(alloc, &mut table, changes)?;
+    let parts = table.into_parts(alloc, topology.own())?;
+    Ok(parts)
+}
+
 /// The topology that `build` gives of the changed rows: the changes are made one at a time, in
 /// their order, where a drop takes its row out and an add appends its row to those of its kind.
 /// `Absent` and `Present` name the first change that is a mistake; only where there is none the
@@ -98,9 +115,7 @@ pub fn apply(
     ensures ok { IfOk result (IsBuiltOf topology.now changes.now) }
     ensures refused { IfErr result (IsWhy topology.now changes.now) }
 {
-    let mut table = table_of(alloc, topology)?;
-    make_all(alloc, &mut table, changes)?;
-    let parts = table.into_parts(alloc, topology.own())?;
+    let parts = changed_parts(alloc, topology, changes)?;
     match Topology::build(alloc, parts) {
         Ok(changed) => Ok(changed),
         Err(BuildError::Rule(fault, row)) => Err(ChangeError::Rule(fault, row)),

@@ -1,7 +1,7 @@
 //! Changes and their answers; texts of changes.
 ghost use Rattle.std.specs.Prelude.{◌≤◌};
 
-use crate::{Change, ChangeError, apply, is_change_file, read_changes};
+use crate::{Change, ChangeError, apply, is_change_file, line_of_fault, read_changes};
 use dom_base::{List, NoMemory, write_number};
 use std::alloc::Global;
 use std::test::Fail;
@@ -207,6 +207,55 @@ fn tells_the_first_mistake_and_then_the_rules(rt: HostRuntime) {
     ];
     for (changes, why) in &cases {
         assert_eq!(rt; refusal(rt.alloc(), changes), Some(*why));
+    }
+}
+
+// The line that is to blame where the changes of a file cannot be made.
+fn blamed(alloc: Global, file: &[u8]) -> Option<u32> {
+    if !is_change_file(file) {
+        return None;
+    }
+    let Ok(topology) = topology_of(alloc, BEFORE) else {
+        return None;
+    };
+    let Ok(changes) = read_changes(alloc, file) else {
+        return None;
+    };
+    let Err(why) = apply(alloc, &topology, changes.as_slice()) else {
+        return None;
+    };
+    match line_of_fault(alloc, &topology, changes.as_slice(), file, why) {
+        Ok(line) => Some(line),
+        Err(_) => None,
+    }
+}
+
+#[test]
+fn tells_the_line_to_blame(rt: HostRuntime) {
+    let cases = [
+        // a row that is not there, and one that is
+        (b"# a\n\ndrop node 10.9.9.9\n".as_slice(), 3),
+        (b"add node 10.0.0.3\n \nadd node 10.0.0.1".as_slice(), 3),
+        // the link was there, and its node is dropped
+        (b"\ndrop node 10.0.0.2\n".as_slice(), 0),
+        // a link to a node that is not there
+        (
+            b"\nadd link 10.0.0.2 10.0.0.9 10.1.0.5 10.1.0.6 1 5 1000 00000000\nadd node 10.0.0.3\n".as_slice(),
+            2,
+        ),
+        // the entry was there, and is added again
+        (
+            b"drop link 10.1.0.2\ndrop entry 10.0.0.1 2\n# again\nadd entry 10.0.0.1 2\ndrop node 10.0.0.1\n".as_slice(),
+            4,
+        ),
+        // an out link to the own domain, added for the second time
+        (
+            b"add out 10.0.0.1 10.1.0.1 10.12.0.3 10.12.0.4 2 1 50 1000 00000000\ndrop out 10.12.0.4\nadd out 10.0.0.1 10.1.0.1 10.12.0.3 10.12.0.4 1 1 50 1000 00000000".as_slice(),
+            3,
+        ),
+    ];
+    for (file, line) in &cases {
+        assert_eq!(rt; blamed(rt.alloc(), file), Some(*line));
     }
 }
 

@@ -1,4 +1,4 @@
-use Rattle.std.proofs.Common.{◌≡◌, ◌∙◌, true, false, slice_get, take, Some, List, sym, ap, arith}
+use Rattle.std.proofs.Common.{◌≡◌, ◌∙◌, false, slice_get, take, Some, List, sym, ap, arith}
 use Rattle.std.proofs.lemmas.Option.{slice_get-get_or}
 use Rattle.te_text.specs.declared.row.TextRow.{TextRow}
 use Rattle.te_deltas.specs.declared.changes.Change.{Change}

@@ -1,8 +1,7 @@
-use Rattle.std.proofs.Common.{◌≡◌, ◌∙◌, List, [], sym, ap, subst, arith}
+use Rattle.std.proofs.Common.{◌∙◌, List, sym, ap, arith}
 use Rattle.std.proofs.lemmas.Result.{err_from_is_err_and}
 use Rattle.line_text.specs.Lines.{NumberedLine}
 use Rattle.line_text.proofs.Counts.{lines_at_most}
-use Rattle.te_text.specs.Given.{GivesText}
 use Rattle.te_deltas.specs.declared.changes.Change.{Change}
 use Rattle.te_deltas.specs.ChangeText.{changes_in}
 use Rattle.te_deltas.proofs.Listing.{further, none_further, goes_on, ends, stays}

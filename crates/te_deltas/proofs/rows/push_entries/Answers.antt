@@ -1,4 +1,4 @@
-use Rattle.std.proofs.Common.{◌++◌, ◌∷◌, [], ◌∙◌, ap, arith}
+use Rattle.std.proofs.Common.{arith}
 use Rattle.te_text.specs.declared.row.TextRow.TheVariants as rows
 use Rattle.te_deltas.proofs.GatherLemmas.{map_further, map_whole}
 use Rattle.te_deltas.proofs.rows.push_entries.Goals as goal

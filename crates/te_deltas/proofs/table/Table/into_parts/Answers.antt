@@ -1,11 +1,11 @@
-use Rattle.std.proofs.Common.{◌≡◌, ◌∙◌, ◌++◌, ◌∷◌, [], List, length, Some, None, Option, sym, ap, arith}
+use Rattle.std.proofs.Common.{◌≡◌, ◌∙◌, ◌++◌, ◌∷◌, [], length, Some, None, Option, sym, ap, arith}
 use Rattle.std.specs.Vec.Iter.{into_iter_items}
 use Rattle.te_links.specs.Rows.{Rows}
 use Rattle.te_text.specs.declared.row.TextRow.{TextRow}
 use Rattle.te_deltas.specs.Changes.{rows_of}
 use Rattle.te_deltas.specs.Gathered.{with_last}
 use Rattle.te_deltas.specs.Slots.{live}
-use Rattle.te_deltas.proofs.GatherLemmas.{rows_push, live_some, live_none, turn, no_more}
+use Rattle.te_deltas.proofs.GatherLemmas.{rows_push, live_some, live_none, turn}
 use Rattle.te_deltas.proofs.table.Table.into_parts.Goals as goal
 
 pub loop-slot-preserved-in-Continue-1 : goal.loop-slot-preserved-in-Continue-1

@@ -1,6 +1,5 @@
-use Rattle.std.proofs.Common.{◌≡◌, ◌∙◌, true, false, sym, ap, refl, subst, List, arith}
+use Rattle.std.proofs.Common.{◌≡◌, ◌∙◌, true, false, sym, ap, refl, subst}
 use Rattle.std.specs.Option.{is_some}
-use Rattle.te_text.specs.declared.row.TextRow.{TextRow}
 use Rattle.te_deltas.specs.Changes.{has_name, without}
 use Rattle.te_deltas.specs.Slots.{live, DifferByName}
 use Rattle.te_deltas.proofs.SlotLemmas.{there, tells_cleared, live_clear, without_none, differ_without, place_within}

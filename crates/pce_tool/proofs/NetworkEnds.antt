@@ -1,0 +1,130 @@
+-- How a run over a network ends, from how its parts ended.
+use Rattle.std.proofs.Common.{◌≡◌, ◌≤◌, ℕ, true, List, length, Some, None, inl, inr, sym, subst}
+use Rattle.std.specs.declared.option.Option.{Option}
+use Rattle.std.specs.Io.KnownBytes.{Appends}
+use Rattle.dom_base.specs.declared.names.As.{As}
+use Rattle.dom_edge.specs.Stores.{Files, HasFile, IfFile}
+use Rattle.dom_edge.specs.Whole.{AppendsSome}
+use Rattle.plant_text.specs.declared.fault.NetFault.{NetFault}
+use Rattle.plant_text.specs.declared.settings.NetworkParts.{NetworkParts}
+use Rattle.plant_text.specs.Networks.{with_path}
+use Rattle.plant_text.specs.Reads.{IsFaulty}
+use Rattle.plant_text.specs.Settings.{is_element}
+use Rattle.plant_play.specs.Playing.{Stage}
+use Rattle.plant_script.specs.declared.stop.Stop.{Stop}
+use Rattle.plant_script.specs.declared.stop.Stop.TheVariants as stop
+use Rattle.plant_script.specs.Scripts.{around}
+use Rattle.plant_script.proofs.ScriptLemmas.{file_before, script_before}
+use Rattle.plant_client.specs.Asking.{AskStops, Asks, StopsAtFile, load_line, topologies}
+use Rattle.plant_client.specs.Telling.{told_text}
+use Rattle.pce_tool.specs.declared.route.Route.{Route}
+use Rattle.pce_tool.specs.declared.status.Status.{Status}
+use Rattle.pce_tool.specs.declared.status.Status.TheVariants as status
+use Rattle.pce_tool.specs.Limits.{settings_max}
+use Rattle.pce_tool.specs.Worlds.{World, WroteNothing}
+use Rattle.pce_tool.specs.Parts.{IsBadSettings, IsFileStatus, IsFinished}
+use Rattle.pce_tool.specs.Networks.{HasNetwork, HasScript, IsPathStatus, IsPlayStatus, IsSettingsFault, IsStopStatus, PathEnds, PlayEnds, around_of, question_of, status_of}
+
+-- ---- settings
+
+in_file : (files : Option Files) (name bytes : List ℕ) (line : ℕ) (fault : NetFault) → HasFile files name bytes → IsSettingsFault bytes line fault →
+    IfFile files name (λ b. IsSettingsFault b line fault)
+in_file None name bytes line fault has is = tt
+in_file (Some fs) name bytes line fault has is = (bytes, has, is)
+
+pub settings_status : (files : Option Files) (name bytes : List ℕ) (fault : NetFault) (counts : ℕ × ℕ) (failed : List ℕ) → HasFile files name bytes → IsFaulty bytes fault →
+    (s : Status) → IsBadSettings name fault s → IsFileStatus files name settings_max IsSettingsFault counts failed s
+settings_status files name bytes fault counts failed has is status.Ok bad = absurd bad
+settings_status files name bytes fault counts failed has is status.Usage bad = absurd bad
+settings_status files name bytes fault counts failed has is status.ReadFault bad = absurd bad
+settings_status files name bytes fault counts failed has is status.WriteFault bad = absurd bad
+settings_status files name bytes fault counts failed has is (status.BadNetwork file line other) bad =
+    (bad.0, in_file files name bytes line other has (bad.1, subst (IsFaulty bytes) (sym bad.2) is))
+settings_status files name bytes fault counts failed has is (status.BadLine line) bad = absurd bad
+settings_status files name bytes fault counts failed has is status.NoMemory bad = tt
+settings_status files name bytes fault counts failed has is (status.BadRequest why) bad = absurd bad
+settings_status files name bytes fault counts failed has is (status.Refuted place) bad = absurd bad
+settings_status files name bytes fault counts failed has is (status.TooLarge file) bad = absurd bad
+
+-- ---- a script
+
+play_before : (files : Option Files) (n : NetworkParts) (script : List ℕ) (written : Option (List ℕ) × Option (List ℕ)) (f0 f1 f2 : ℕ) (o : ℕ × ℕ) (failed : List ℕ) → f0 ≤ f1 → (s : Status) →
+    IsPlayStatus (around files written (f1, f2) o failed) n script s → IsPlayStatus (around files written (f0, f2) o failed) n script s
+play_before files n script written f0 f1 f2 o failed le status.Ok is = is
+play_before files n script written f0 f1 f2 o failed le status.Usage is = is
+play_before files n script written f0 f1 f2 o failed le status.ReadFault is = script_before files n script written f0 f1 f2 o failed le stop.ReadFault is
+play_before files n script written f0 f1 f2 o failed le status.WriteFault is = script_before files n script written f0 f1 f2 o failed le stop.WriteFault is
+play_before files n script written f0 f1 f2 o failed le (status.BadNetwork file line fault) is =
+    script_before files n script written f0 f1 f2 o failed le (stop.BadNetwork file line fault) is
+play_before files n script written f0 f1 f2 o failed le (status.BadLine line) is = script_before files n script written f0 f1 f2 o failed le (stop.BadLine line) is
+play_before files n script written f0 f1 f2 o failed le status.NoMemory is = script_before files n script written f0 f1 f2 o failed le stop.NoMemory is
+play_before files n script written f0 f1 f2 o failed le (status.BadRequest why) is = is
+play_before files n script written f0 f1 f2 o failed le (status.Refuted place) is = is
+play_before files n script written f0 f1 f2 o failed le (status.TooLarge name) is = script_before files n script written f0 f1 f2 o failed le (stop.TooLarge name) is
+
+pub script_played : (w : World) (net : List ℕ) (n : NetworkParts) → HasNetwork w.files net n → (script : List ℕ) → HasScript w.input script → (f0 f1 f2 : ℕ) → w.store_faults ≡ (f0, f2) → f0 ≤ f1 →
+    (s : Status) → IsPlayStatus (around w.files (w.before, w.after) (f1, f2) w.output_faults w.failed_at) n script s → PlayEnds w net s
+script_played w net n has script has_script f0 f1 f2 counts le s is =
+    inr (inr (record {
+      network = n;
+      has = has;
+      script = script;
+      has_script = has_script;
+      ends = subst (λ (c : ℕ × ℕ). IsPlayStatus (around w.files (w.before, w.after) c w.output_faults w.failed_at) n script s) (sym counts)
+          (play_before w.files n script (w.before, w.after) f0 f1 f2 w.output_faults w.failed_at le s is);
+    }))
+
+-- ---- a path
+
+-- what is told is written, or a part of it
+told : (w : World) (n : NetworkParts) (r : Route) (received text : List ℕ) → Asks w.files (with_path n r.at) (length n.peers) (question_of r) received → text ≡ told_text received →
+    (s : Status) → IsFinished w.before w.after w.output_faults text s → IsPathStatus w n r s
+told w n r received text asks is status.Ok fin = (received, asks, subst (Appends w.before w.after) is fin)
+told w n r received text asks is status.Usage fin = absurd fin
+told w n r received text asks is status.ReadFault fin = absurd fin
+told w n r received text asks is status.WriteFault fin =
+    record { received = received; answered = asks; rose = fin.0; part = subst (AppendsSome w.before w.after) is fin.1 }
+told w n r received text asks is (status.BadNetwork file line fault) fin = absurd fin
+told w n r received text asks is (status.BadLine line) fin = absurd fin
+told w n r received text asks is status.NoMemory fin = absurd fin
+told w n r received text asks is (status.BadRequest why) fin = absurd fin
+told w n r received text asks is (status.Refuted place) fin = absurd fin
+told w n r received text asks is (status.TooLarge name) fin = absurd fin
+
+pub path_told : (w : World) (net : List ℕ) (n : NetworkParts) → HasNetwork w.files net n → (r : Route) → is_element n r.at ≡ true → (received text : List ℕ) →
+    Asks w.files (with_path n r.at) (length n.peers) (question_of r) received → text ≡ told_text received → (s : Status) → IsFinished w.before w.after w.output_faults text s → PathEnds w net r s
+path_told w net n has r element received text asks is s fin =
+    inr (inr (record { network = n; has = has; element = element; ends = told w n r received text asks is s fin }))
+
+loads_before : (files : Option Files) (ts : List (As × List ℕ)) (old : Stage) (f0 f1 f2 : ℕ) (failed : List ℕ) → f0 ≤ f1 → (why : Stop) →
+    StopsAtFile files ts old (f1, f2) failed why → StopsAtFile files ts old (f0, f2) failed why
+loads_before files ts old f0 f1 f2 failed le why is = record {
+  before = is.before;
+  topology = is.topology;
+  behind = is.behind;
+  parts = is.parts;
+  loaded = is.loaded;
+  lines = is.lines;
+  end = is.end;
+  stops = file_before files is.topology.1 (load_line is.topology) is.loaded is.end f0 f1 f2 failed le why is.stops;
+}
+
+stopped : (w : World) (n : NetworkParts) (r : Route) (f0 f1 f2 : ℕ) → w.store_faults ≡ (f0, f2) → f0 ≤ f1 → WroteNothing w → (why : Stop) →
+    AskStops w.files (with_path n r.at) (f1, f2) w.failed_at why → IsPathStatus w n r (status_of why)
+stopped w n r f0 f1 f2 counts le nothing stop.ReadFault is =
+    (nothing, subst (λ (c : ℕ × ℕ). AskStops w.files (with_path n r.at) c w.failed_at stop.ReadFault) (sym counts)
+    (is.0, is.1, loads_before w.files (topologies (with_path n r.at).elements) is.0 f0 f1 f2 w.failed_at le stop.ReadFault is.2))
+stopped w n r f0 f1 f2 counts le nothing stop.WriteFault is = absurd is.2.stops
+stopped w n r f0 f1 f2 counts le nothing (stop.BadNetwork file line fault) is =
+    (nothing, subst (λ (c : ℕ × ℕ). AskStops w.files (with_path n r.at) c w.failed_at (stop.BadNetwork file line fault)) (sym counts)
+    (is.0, is.1, loads_before w.files (topologies (with_path n r.at).elements) is.0 f0 f1 f2 w.failed_at le (stop.BadNetwork file line fault) is.2))
+stopped w n r f0 f1 f2 counts le nothing (stop.BadLine line) is = absurd is.2.stops
+stopped w n r f0 f1 f2 counts le nothing (stop.TooLarge name) is =
+    (nothing, subst (λ (c : ℕ × ℕ). AskStops w.files (with_path n r.at) c w.failed_at (stop.TooLarge name)) (sym counts)
+    (is.0, is.1, loads_before w.files (topologies (with_path n r.at).elements) is.0 f0 f1 f2 w.failed_at le (stop.TooLarge name) is.2))
+stopped w n r f0 f1 f2 counts le nothing stop.NoMemory is = nothing
+
+pub path_stopped : (w : World) (net : List ℕ) (n : NetworkParts) → HasNetwork w.files net n → (r : Route) → is_element n r.at ≡ true → (f0 f1 f2 : ℕ) → w.store_faults ≡ (f0, f2) → f0 ≤ f1 → WroteNothing w →
+    (s : Status) → IsStopStatus w.files (with_path n r.at) (f1, f2) w.failed_at s → PathEnds w net r s
+path_stopped w net n has r element f0 f1 f2 counts le nothing s is =
+    inr (inr (record { network = n; has = has; element = element; ends = subst (IsPathStatus w n r) (sym is.2) (stopped w n r f0 f1 f2 counts le nothing is.0 is.1) }))

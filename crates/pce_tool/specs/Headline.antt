@@ -1,0 +1,42 @@
+-- What every run of a network is worth that a command plays.
+use Rattle.std.specs.Prelude.{◌≡◌, ◌≤◌, ℕ, true, List, [], ◌++◌, length, Option, Some, None}
+use Rattle.dom_edge.specs.Stores.{Files}
+use Rattle.line_text.specs.Lines.{NumberedLine, told_lines}
+use Rattle.plant_text.specs.declared.settings.NetworkParts.{NetworkParts}
+use Rattle.plant_text.specs.Networks.{with_path}
+use Rattle.plant_text.specs.Settings.{is_element}
+use Rattle.plant_counting.specs.Counting.{HasNoParent}
+use Rattle.plant_play.specs.Playing.{Stage}
+use Rattle.plant_play.specs.Turns.{Turn, entries_of}
+use Rattle.script_laws.specs.Headline.{HasIdsLeft, IsRight}
+use Rattle.plant_script.specs.Scripts.{Playing, script_most}
+use Rattle.plant_client.specs.Asking.{Asks}
+use Rattle.plant_client.specs.Questions.{sequence_most}
+use Rattle.pce_tool.specs.declared.route.Route.{Route}
+use Rattle.pce_tool.specs.Networks.{HasNetwork, question_of}
+use Rattle.pce_tool.specs.Tasks.{Task, Path, Play}
+
+-- A run is right; and without a parent no id comes round in it, so what is said of it then has no premise.
+pub record IsWorth (n : NetworkParts) (turns : List Turn) (end : Stage) : Type 0 where
+  pub right : IsRight n (entries_of turns []) end.state
+  pub short : HasNoParent n → HasIdsLeft n (entries_of turns [])
+
+-- The first lines of a script, however many, that are played on the network of these settings.
+abbrev pub PlaysAreWorth : Option Files → List ℕ → Type 0
+PlaysAreWorth files net =
+    (n : NetworkParts) (script : List ℕ) (done others : List NumberedLine) (turns : List Turn) (told : List ℕ) (end : Stage)
+    → HasNetwork files net n → length script ≤ script_most → told_lines script ≡ done ++ others → Playing files n done turns told end → IsWorth n turns end
+
+-- What is played until a client is answered.
+abbrev pub PathsAreWorth : Option Files → List ℕ → Route → Type 0
+PathsAreWorth files net r =
+    (n : NetworkParts) (received : List ℕ) → HasNetwork files net n → is_element n r.at ≡ true → length r.sequence ≤ sequence_most
+    → (a : Asks files (with_path n r.at) (length n.peers) (question_of r) received) → IsWorth (with_path n r.at) a.lines.turns a.asked
+
+-- Of every run of a network that the words ask for: each path that a client is answered is feasible and of least cost among all walks
+-- through the asked domains in order, each domain as it stood when its element took the request; where a client is answered NO-PATH of
+-- nature 0, none exists; and what closed peers hear is a function of requests, policy and disclosed border costs alone.
+abbrev pub RunsAreWorth : Option Files → Option Task → Type 0
+RunsAreWorth files (Some (Play net)) = PlaysAreWorth files net
+RunsAreWorth files (Some (Path net r)) = PathsAreWorth files net r
+RunsAreWorth files task = Unit {0}

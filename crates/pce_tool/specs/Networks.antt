@@ -1,0 +1,163 @@
+-- How a run over a network ends: the settings in a file; a script that is played, from the input; or a path that a client asks for.
+use Rattle.std.specs.Prelude.{◌≡◌, ◌⊎◌, ◌<◌, ◌≤◌, ℕ, true, false, List, length, Option, Some, None, IfSome}
+use Rattle.std.specs.Io.KnownBytes.{Appends}
+use Rattle.dom_base.specs.declared.names.As.{As}
+use Rattle.dom_edge.specs.Stores.{Files, HasFile}
+use Rattle.dom_edge.specs.Whole.{AppendsSome}
+use Rattle.plant_text.specs.declared.fault.NetFault.{NetFault}
+use Rattle.plant_text.specs.declared.fault.NetFault.TheVariants.{NoElement}
+use Rattle.plant_text.specs.declared.settings.NetworkParts.{NetworkParts}
+use Rattle.plant_text.specs.Networks.{with_path}
+use Rattle.plant_text.specs.Reads.{IsFaulty, Reads}
+use Rattle.plant_text.specs.Settings.{is_element}
+use Rattle.plant_script.specs.declared.stop.Stop.{Stop}
+use Rattle.plant_script.specs.declared.stop.Stop.TheVariants as stop
+use Rattle.plant_script.specs.Scripts.{Around, IsWhole, ScriptStops, around, script_most}
+use Rattle.pce_tool.specs.declared.status.Status.{Status}
+use Rattle.pce_tool.specs.declared.status.Status.TheVariants as status
+use Rattle.pce_tool.specs.Limits.{settings_max}
+use Rattle.pce_tool.specs.Worlds.{World, HasInput, HasRisen, WroteNothing, input_name}
+use Rattle.plant_client.specs.declared.question.Question.{Question}
+use Rattle.plant_client.specs.Asking.{AskStops, Asks}
+use Rattle.plant_client.specs.Telling.{told_text}
+use Rattle.pce_tool.specs.declared.route.Route.{Route}
+use Rattle.pce_tool.specs.Parts.{IsFileStatus}
+use Rattle.pce_tool.specs.Run.{Ends}
+use Rattle.pce_tool.specs.Tasks.{Task, Domain, Path, Play}
+
+-- the settings in the file of that name
+pub record HasNetwork (files : Option Files) (name : List ℕ) (n : NetworkParts) : Type 0 where
+  pub bytes : List ℕ
+  pub is_file : HasFile files name bytes
+  pub within : length bytes ≤ settings_max
+  pub is_text : Reads bytes n
+
+-- the bytes are no settings, for that reason; a fault of settings has no line
+abbrev pub IsSettingsFault : List ℕ → ℕ → NetFault → Type 0
+IsSettingsFault bytes line fault = (line ≡ 0) × IsFaulty bytes fault
+
+-- why settings were not read
+abbrev pub IsSettingsStatus : World → List ℕ → Status → Type 0
+IsSettingsStatus w name s = IsFileStatus w.files name settings_max IsSettingsFault w.store_faults w.failed_at s
+
+-- the script in the input
+pub record HasScript (input : Option (List ℕ)) (script : List ℕ) : Type 0 where
+  pub is_input : HasInput input script
+  pub within : length script ≤ script_most
+
+-- why the script was not read
+abbrev pub IsScriptStatus : Option (List ℕ) → ℕ × ℕ → Status → Type 0
+IsScriptStatus input counts status.ReadFault = HasRisen counts
+IsScriptStatus input counts status.NoMemory = Unit {0}
+IsScriptStatus input counts (status.TooLarge name) = (name ≡ input_name) × IfSome input (λ left. script_most < length left)
+IsScriptStatus input counts s = ⊥
+
+-- what a script meets of the outside of a run
+abbrev pub around_of : World → Around
+around_of w = around w.files (w.before, w.after) w.store_faults w.output_faults w.failed_at
+
+-- the status of a run whose script stopped
+abbrev pub status_of : Stop → Status
+status_of stop.ReadFault = status.ReadFault
+status_of stop.WriteFault = status.WriteFault
+status_of (stop.BadNetwork file line fault) = status.BadNetwork file line fault
+status_of (stop.BadLine line) = status.BadLine line
+status_of (stop.TooLarge name) = status.TooLarge name
+status_of stop.NoMemory = status.NoMemory
+
+-- how a script ends that is played: all of it, or up to where it stops
+abbrev pub IsPlayStatus : Around → NetworkParts → List ℕ → Status → Type 0
+IsPlayStatus a n script status.Ok = IsWhole a n script
+IsPlayStatus a n script status.ReadFault = ScriptStops a n script stop.ReadFault
+IsPlayStatus a n script status.WriteFault = ScriptStops a n script stop.WriteFault
+IsPlayStatus a n script (status.BadNetwork file line fault) = ScriptStops a n script (stop.BadNetwork file line fault)
+IsPlayStatus a n script (status.BadLine line) = ScriptStops a n script (stop.BadLine line)
+IsPlayStatus a n script status.NoMemory = ScriptStops a n script stop.NoMemory
+IsPlayStatus a n script (status.TooLarge name) = ScriptStops a n script (stop.TooLarge name)
+IsPlayStatus a n script s = ⊥
+
+-- the settings are read, and the script is not
+pub record HasNoScript (w : World) (net : List ℕ) (s : Status) : Type 0 where
+  pub network : NetworkParts
+  pub has : HasNetwork w.files net network
+  pub nothing : WroteNothing w
+  pub why : IsScriptStatus w.input w.input_faults s
+
+-- the settings and the script are read, and it is played
+pub record IsPlayed (w : World) (net : List ℕ) (s : Status) : Type 0 where
+  pub network : NetworkParts
+  pub has : HasNetwork w.files net network
+  pub script : List ℕ
+  pub has_script : HasScript w.input script
+  pub ends : IsPlayStatus (around_of w) network script s
+
+-- How a run that plays a script ends: the settings are not read, or the script is not, or it is played.
+abbrev pub PlayEnds : World → List ℕ → Status → Type 0
+PlayEnds w net s = (WroteNothing w × IsSettingsStatus w net s) ⊎ HasNoScript w net s ⊎ IsPlayed w net s
+
+-- ---- a path
+
+abbrev pub question_of : Route → Question
+question_of r = record { source = r.source; target = r.target; sequence = r.sequence }
+
+-- why the settings have no element for the client that asks
+abbrev pub IsNoClientStatus : List ℕ → NetworkParts → As → Status → Type 0
+IsNoClientStatus net n at (status.BadNetwork file line fault) = (file ≡ net) × (line ≡ 0) × (fault ≡ NoElement) × (is_element n at ≡ false)
+IsNoClientStatus net n at status.NoMemory = Unit {0}
+IsNoClientStatus net n at s = ⊥
+
+-- The client `path` of that domain, which stands behind all peers, asks and receives this.
+abbrev pub IsAnswered : World → NetworkParts → Route → List ℕ → Type 0
+IsAnswered w n r received = Asks w.files (with_path n r.at) (length n.peers) (question_of r) received
+
+-- a first part of what it is told is written, and the output failed
+pub record IsCutAnswer (w : World) (n : NetworkParts) (r : Route) : Type 0 where
+  pub received : List ℕ
+  pub answered : IsAnswered w n r received
+  pub rose : HasRisen w.output_faults
+  pub part : AppendsSome w.before w.after (told_text received)
+
+-- why it does not come to an answer: the status of a run whose script stopped so
+abbrev pub IsStopStatus : Option Files → NetworkParts → ℕ × ℕ → List ℕ → Status → Type 0
+IsStopStatus files n counts failed_at s = (why : Stop) × AskStops files n counts failed_at why × (s ≡ status_of why)
+
+-- nothing is written, since it does not come to an answer
+abbrev pub StopsAsking : World → NetworkParts → Route → Stop → Type 0
+StopsAsking w n r why = WroteNothing w × AskStops w.files (with_path n r.at) w.store_faults w.failed_at why
+
+-- how it ends that a client asks
+abbrev pub IsPathStatus : World → NetworkParts → Route → Status → Type 0
+IsPathStatus w n r status.Ok = (received : List ℕ) × IsAnswered w n r received × Appends w.before w.after (told_text received)
+IsPathStatus w n r status.ReadFault = StopsAsking w n r stop.ReadFault
+IsPathStatus w n r status.WriteFault = IsCutAnswer w n r
+IsPathStatus w n r (status.BadNetwork file line fault) = StopsAsking w n r (stop.BadNetwork file line fault)
+IsPathStatus w n r status.NoMemory = WroteNothing w
+IsPathStatus w n r (status.TooLarge name) = StopsAsking w n r (stop.TooLarge name)
+IsPathStatus w n r s = ⊥
+
+-- the settings are read, and there is no client
+pub record HasNoClient (w : World) (net : List ℕ) (r : Route) (s : Status) : Type 0 where
+  pub network : NetworkParts
+  pub has : HasNetwork w.files net network
+  pub nothing : WroteNothing w
+  pub why : IsNoClientStatus net network r.at s
+
+-- the settings are read, and the client of an element asks
+pub record IsAsked (w : World) (net : List ℕ) (r : Route) (s : Status) : Type 0 where
+  pub network : NetworkParts
+  pub has : HasNetwork w.files net network
+  pub element : is_element network r.at ≡ true
+  pub ends : IsPathStatus w network r s
+
+-- How a run ends that asks for a path: the settings are not read, or there is no client, or it asks.
+abbrev pub PathEnds : World → List ℕ → Route → Status → Type 0
+PathEnds w net r s = (WroteNothing w × IsSettingsStatus w net s) ⊎ HasNoClient w net r s ⊎ IsAsked w net r s
+
+-- ---- all runs
+
+-- A run of words that are not in the table does nothing.
+abbrev pub Runs : World → Option Task → Status → Type 0
+Runs w None s = (s ≡ status.Usage) × WroteNothing w
+Runs w (Some (Domain c)) s = Ends w c s
+Runs w (Some (Play net)) s = PlayEnds w net s
+Runs w (Some (Path net route)) s = PathEnds w net route s

@@ -1,0 +1,180 @@
+-- Lines that are played one behind the other, and files that stop one of them.
+use Rattle.std.proofs.Common.{◌≡◌, ◌≤◌, ◌<◌, ◌+◌, ◌∙◌, ℕ, Option, Some, Result, Ok, Err, List, [], ◌∷◌, ◌++◌, map, take, drop, length, refl, sym, ap, subst, arith, append_assoc, get_or}
+use Rattle.std.specs.Result.{IfOk, OnOk}
+use Rattle.std.proofs.lemmas.List.{append-nil, drop_more, map-append, take-append-drop, take_all, take_more}
+use Rattle.dom_base.specs.declared.names.As.{As}
+use Rattle.dom_edge.specs.Stores.{Files}
+use Rattle.pcep_subobjects.specs.Subobjects.{AreOctets}
+use Rattle.plant_text.specs.declared.line.LineEvent.{LineEvent}
+use Rattle.plant_text.specs.declared.line.LineEvent.TheVariants as line
+use Rattle.plant_text.specs.declared.settings.NetworkParts.{NetworkParts}
+use Rattle.plant_model.specs.Events.{Answered}
+use Rattle.plant_play.specs.Playing.{Cue, IsNewStage, Stage}
+use Rattle.plant_play.specs.Scripts.{AllPlayed}
+use Rattle.plant_play.specs.Turns.{Turn}
+use Rattle.plant_script.specs.declared.stop.Stop.{Stop}
+use Rattle.plant_script.specs.declared.stop.Stop.TheVariants as stop
+use Rattle.plant_script.specs.Cues.{IsFileStop, PlaysCue}
+use Rattle.plant_client.specs.Asking.{AreCues, ArePlayed, Asks, IsPlayed, LoadsStop, Receives, load_line, question_lines, topologies}
+use Rattle.plant_client.specs.declared.question.Question.{Question}
+use Rattle.plant_client.specs.Questions.{opening_text, question_text}
+
+-- ---- one behind the other
+
+abbrev Named : Type 0
+Named = As × List ℕ
+
+pub all_append : (old mid new : Stage) (cs ds : List Cue) (ts us : List Turn) (told more : List ℕ) → AllPlayed old cs ts told mid → AllPlayed mid ds us more new → AllPlayed old (cs ++ ds) (ts ++ us) (told ++ more) new
+all_append old mid new [] ds ts us told more p q =
+    subst (λ (l : List Turn). AllPlayed old ds l (told ++ more) new) (sym (ap (λ (l : List Turn). l ++ us) p.0))
+    (subst (λ (l : List ℕ). AllPlayed old ds us l new) (sym (ap (λ (l : List ℕ). l ++ more) p.1))
+    (subst (λ (s : Stage). AllPlayed s ds us more new) p.2 q))
+all_append old mid new (c ∷ cs) ds ts us told more p q = record {
+  answer = p.answer;
+  first = p.first;
+  said = p.said;
+  mid = p.mid;
+  plays = p.plays;
+  later = p.later ++ us;
+  more = p.more ++ more;
+  others = all_append p.mid mid new cs ds p.later us p.more more p.others q;
+  turns_are = ap (λ (l : List Turn). l ++ us) p.turns_are ∙ append_assoc p.first p.later us;
+  told_is = ap (λ (l : List ℕ). l ++ more) p.told_is ∙ append_assoc p.said p.more more;
+}
+
+pub cues_append : (files : Option Files) (es fs : List LineEvent) (cs ds : List Cue) → AreCues files es cs → AreCues files fs ds → AreCues files (es ++ fs) (cs ++ ds)
+cues_append files [] fs [] ds p q = q
+cues_append files [] fs (c ∷ cs) ds p q = absurd p
+cues_append files (e ∷ es) fs [] ds p q = absurd p
+cues_append files (e ∷ es) fs (c ∷ cs) ds p q = (p.0, cues_append files es fs cs ds p.1 q)
+
+-- the files stay the same
+pub then_played : (files later : Option Files) (es fs : List LineEvent) (old mid new : Stage) → later ≡ files → ArePlayed files es old mid → ArePlayed later fs mid new → ArePlayed files (es ++ fs) old new
+then_played files later es fs old mid new same p q =
+    let r = subst (λ (f : Option Files). ArePlayed f fs mid new) same q in
+    record {
+      cues = p.cues ++ r.cues;
+      are_cues = cues_append files es fs p.cues r.cues p.are_cues r.are_cues;
+      turns = p.turns ++ r.turns;
+      told = p.told ++ r.told;
+      played = all_append old mid new p.cues r.cues p.turns r.turns p.told r.told p.played r.played;
+    }
+
+pub none_played : (files : Option Files) (s : Stage) → ArePlayed files [] s s
+none_played files s = record { cues = []; are_cues = tt; turns = []; told = []; played = (refl, refl, refl) }
+
+-- five lines, over files that stay the same
+pub five_played : (files f g h k : Option Files) (a b c d e : LineEvent) (s t u v w x : Stage) → f ≡ files → g ≡ f → h ≡ g → k ≡ h →
+    ArePlayed files (a ∷ []) s t → ArePlayed f (b ∷ []) t u → ArePlayed g (c ∷ []) u v → ArePlayed h (d ∷ []) v w → ArePlayed k (e ∷ []) w x → ArePlayed files (a ∷ b ∷ c ∷ d ∷ e ∷ []) s x
+five_played files f g h k a b c d e s t u v w x one two three four p q r y z =
+    then_played files f (a ∷ []) (b ∷ c ∷ d ∷ e ∷ []) s t x one p
+    (then_played f g (b ∷ []) (c ∷ d ∷ e ∷ []) t u x two q
+    (then_played g h (c ∷ []) (d ∷ e ∷ []) u v x three r
+    (then_played h k (d ∷ []) (e ∷ []) v w x four y z)))
+
+-- a question that is put, by its bytes
+pub put_played : (files f g h k : Option Files) (client : ℕ) (question : Question) (opening asked : List ℕ) (s t u v w x : Stage) (r : Result (Unit {0}) Stop) →
+    opening ≡ opening_text → asked ≡ question_text question → f ≡ files → g ≡ f → h ≡ g → k ≡ h →
+    ArePlayed files (line.Settle ∷ []) s t → ArePlayed f (line.Open (Some client) 0 ∷ []) t u → ArePlayed g (line.Feed (Some client) opening ∷ []) u v →
+    ArePlayed h (line.Feed (Some client) asked ∷ []) v w → OnOk r (ArePlayed k (line.Finish ∷ []) w x) → OnOk r (ArePlayed files (question_lines client question) s x)
+put_played files f g h k client question opening asked s t u v w x (Err why) o a one two three four p q y z last = last
+put_played files f g h k client question opening asked s t u v w x (Ok done) o a one two three four p q y z last =
+    let all = five_played files f g h k line.Settle (line.Open (Some client) 0) (line.Feed (Some client) opening) (line.Feed (Some client) asked) line.Finish s t u v w x one two three four p q y z last in
+    subst (λ (l : List ℕ). ArePlayed files (line.Settle ∷ line.Open (Some client) 0 ∷ line.Feed (Some client) l ∷ line.Feed (Some client) (question_text question) ∷ line.Finish ∷ []) s x) o
+    (subst (λ (l : List ℕ). ArePlayed files (line.Settle ∷ line.Open (Some client) 0 ∷ line.Feed (Some client) opening ∷ line.Feed (Some client) l ∷ line.Finish ∷ []) s x) a all)
+
+-- all topologies are loaded, a question is put, and it receives
+pub ask_played : (files f g : Option Files) (n : NetworkParts) (client : ℕ) (question : Question) (found : List Named) (start loaded asked : Stage) (r : Result (List ℕ) Stop) →
+    IsNewStage n start → found ≡ topologies n.elements → f ≡ files → g ≡ f → ArePlayed files (map load_line found) start loaded → ArePlayed f (question_lines client question) loaded asked → AreOctets (question_text question) →
+    IfOk r (λ received. Receives g client asked received) → IfOk r (λ received. Asks files n client question received)
+ask_played files f g n client question found start loaded asked (Err why) new are one two p q octets last = last
+ask_played files f g n client question found start loaded asked (Ok received) new are one two p q octets last = record {
+  start = start;
+  new = new;
+  asked = asked;
+  lines = then_played files f (map load_line (topologies n.elements)) (question_lines client question) start loaded asked one (subst (λ (l : List Named). ArePlayed files (map load_line l) start loaded) are p) q;
+  octets = octets;
+  receives = subst (λ (o : Option Files). Receives o client asked received) (two ∙ one) last;
+}
+
+-- ---- topologies, one behind the other
+
+pub next_load : (xs : List Named) (i : ℕ) (x : Named) → i < length xs → x ≡ get_or xs i x → map load_line (take (i + 1) xs) ≡ map load_line (take i xs) ++ load_line x ∷ []
+next_load xs i x inside is =
+    ap (λ (l : List Named). map load_line l) (take_more xs i x inside ∙ ap (λ (y : Named). take i xs ++ y ∷ []) (sym is)) ∙ map-append load_line (take i xs) (x ∷ [])
+
+pub parts_at : (xs : List Named) (i : ℕ) (x : Named) → i < length xs → x ≡ get_or xs i x → xs ≡ take i xs ++ x ∷ drop (i + 1) xs
+parts_at xs i x inside is =
+    sym (take-append-drop i xs) ∙ ap (λ (l : List Named). take i xs ++ l) (drop_more xs i x inside ∙ ap (λ (y : Named). y ∷ drop (i + 1) xs) (sym is))
+
+pub all_loaded : (files : Option Files) (xs : List Named) (i : ℕ) (old new : Stage) → length xs ≤ i → ArePlayed files (map load_line (take i xs)) old new → ArePlayed files (map load_line xs) old new
+all_loaded files xs i old new past p = subst (λ (l : List Named). ArePlayed files (map load_line l) old new) (take_all i xs past) p
+
+-- one topology more
+pub load_next : (files later : Option Files) (xs : List Named) (i : ℕ) (x : Named) (old mid new : Stage) → i < length xs → x ≡ get_or xs i x → later ≡ files →
+    ArePlayed files (map load_line (take i xs)) old mid → ArePlayed later (load_line x ∷ []) mid new → ArePlayed files (map load_line (take (i + 1) xs)) old new
+load_next files later xs i x old mid new inside is same p q =
+    subst (λ (l : List LineEvent). ArePlayed files l old new) (sym (next_load xs i x inside is)) (then_played files later (map load_line (take i xs)) (load_line x ∷ []) old mid new same p q)
+
+-- ---- one line
+
+pub is_played : (files : Option Files) (e : LineEvent) (answer : Answered) (old new : Stage) (before after : List ℕ) → PlaysCue files 0 e answer old new before after → IsPlayed files e old answer new
+is_played files e answer old new before after p = record {
+  cue = record { number = 0; event = e; file = p.file };
+  is_cue = record { number = refl; event = refl; has = p.has };
+  turns = p.turns;
+  told = p.told;
+  plays = p.plays;
+}
+
+pub if_played : (files : Option Files) (e : LineEvent) (old new : Stage) (before after : List ℕ) (r : Result Answered Stop) → IfOk r (λ answer. PlaysCue files 0 e answer old new before after) → IfOk r (λ answer. IsPlayed files e old answer new)
+if_played files e old new before after (Ok answer) p = is_played files e answer old new before after p
+if_played files e old new before after (Err why) p = p
+
+pub one_played : (files : Option Files) (e : LineEvent) (answer : Answered) (old new : Stage) → IsPlayed files e old answer new → ArePlayed files (e ∷ []) old new
+one_played files e answer old new p = record {
+  cues = p.cue ∷ [];
+  are_cues = (p.is_cue, tt);
+  turns = p.turns;
+  told = p.told;
+  played = record {
+    answer = answer;
+    first = p.turns;
+    said = p.told;
+    mid = new;
+    plays = p.plays;
+    later = [];
+    more = [];
+    others = (refl, refl, refl);
+    turns_are = sym (append-nil p.turns);
+    told_is = sym (append-nil p.told);
+  };
+}
+
+-- ---- files that stop
+
+-- the store had failed no more often before
+pub stop_earlier : (files : Option Files) (name : List ℕ) (e : LineEvent) (old new : Stage) (before mid now : ℕ) (failed_at : List ℕ) (why : Stop) → before ≤ mid → IsFileStop files name e old new (mid, now) failed_at why → IsFileStop files name e old new (before, now) failed_at why
+stop_earlier files name e old new before mid now failed_at stop.ReadFault le p = (omega (arith, le, p.0), p.1)
+stop_earlier files name e old new before mid now failed_at stop.WriteFault le p = p
+stop_earlier files name e old new before mid now failed_at (stop.BadNetwork file line fault) le p = p
+stop_earlier files name e old new before mid now failed_at (stop.BadLine line) le p = p
+stop_earlier files name e old new before mid now failed_at (stop.TooLarge file) le p = p
+stop_earlier files name e old new before mid now failed_at stop.NoMemory le p = p
+
+loads_stop_by : (files : Option Files) (all before behind : List Named) (x : Named) (old mid new : Stage) (counts : ℕ × ℕ) (failed_at : List ℕ) (why : Stop) →
+    all ≡ before ++ x ∷ behind → ArePlayed files (map load_line before) old mid → IsFileStop files x.1 (load_line x) mid new counts failed_at why → LoadsStop files all old counts failed_at why
+loads_stop_by files all before behind x old mid new counts failed_at stop.ReadFault parts played p = record { before = before; topology = x; behind = behind; parts = parts; loaded = mid; lines = played; end = new; stops = p }
+loads_stop_by files all before behind x old mid new counts failed_at stop.WriteFault parts played p = absurd p
+loads_stop_by files all before behind x old mid new counts failed_at (stop.BadNetwork file line fault) parts played p = record { before = before; topology = x; behind = behind; parts = parts; loaded = mid; lines = played; end = new; stops = p }
+loads_stop_by files all before behind x old mid new counts failed_at (stop.BadLine line) parts played p = absurd p
+loads_stop_by files all before behind x old mid new counts failed_at (stop.TooLarge file) parts played p = record { before = before; topology = x; behind = behind; parts = parts; loaded = mid; lines = played; end = new; stops = p }
+loads_stop_by files all before behind x old mid new counts failed_at stop.NoMemory parts played p = tt
+
+-- the files that were there before and the count before it serve as well
+pub loads_stop : (files later : Option Files) (all before behind : List Named) (x : Named) (old mid new : Stage) (first count now : ℕ) (failed_at : List ℕ) (why : Stop) →
+    later ≡ files → first ≤ count → all ≡ before ++ x ∷ behind → ArePlayed files (map load_line before) old mid → IsFileStop later x.1 (load_line x) mid new (count, now) failed_at why →
+    LoadsStop files all old (first, now) failed_at why
+loads_stop files later all before behind x old mid new first count now failed_at why same le parts played p =
+    let here = subst (λ (f : Option Files). IsFileStop f x.1 (load_line x) mid new (count, now) failed_at why) same p in
+    loads_stop_by files all before behind x old mid new (first, now) failed_at why parts played (stop_earlier files x.1 (load_line x) mid new first count now failed_at why le here)

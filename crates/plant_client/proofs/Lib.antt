@@ -1,0 +1,3 @@
+pub mod QuestionLemmas
+pub mod TellingLemmas
+pub mod AskingLemmas

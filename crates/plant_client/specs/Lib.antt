@@ -1,0 +1,4 @@
+-- for readers
+pub mod Questions
+pub mod Asking
+pub mod Telling

@@ -1,0 +1,11 @@
+pub mod Below
+mod Steps
+mod Heavy
+mod Putting
+mod Passing
+mod NoChildren
+mod Asking
+mod Pieces
+mod Feeding
+mod Fed
+pub mod FewOctets

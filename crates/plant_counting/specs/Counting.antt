@@ -1,0 +1,71 @@
+-- How many requests a network without a parent sends: to one neighbour no more than it is fed octets. So no id comes round where few are fed.
+use Rattle.std.specs.Prelude.{◌≡◌, ◌≤◌, ◌+◌, ℕ, List, [], ◌∷◌, length, None}
+use Rattle.dom_base.specs.declared.names.As.{As}
+use Rattle.dom_base.specs.declared.names.Peer.TheVariants.{Outside, Inner}
+use Rattle.plant_text.specs.declared.settings.NetworkParts.{NetworkParts}
+use Rattle.plant_model.specs.declared.event.Event.{Event}
+use Rattle.plant_model.specs.declared.event.Event.TheVariants as event
+use Rattle.plant_model.specs.Wire.{Codec}
+use Rattle.plant_model.specs.RealWire.{wire}
+use Rattle.plant_model.specs.Laws.{IsNetwork}
+use Rattle.plant_model.specs.State.{Loads, Pops, Takes, Says, Ups, Downs, Clears, Solves, Expires, Hands}
+use Rattle.plant_model.specs.Plant.{Plant, PlantDeed, Entry, Run, deeds_of}
+use Rattle.plant_laws.specs.Transcript.{Transcript, asks}
+use Rattle.plant_laws.specs.About.{IsShort}
+
+-- the octets that outside peers feed, whether they are accepted or not
+abbrev pub fed_by : Event → ℕ
+fed_by (event.Feed i bytes) = length bytes
+fed_by (event.Load d g) = 0
+fed_by (event.Open i holder) = 0
+fed_by (event.Shut i) = 0
+fed_by (event.Take i) = 0
+fed_by (event.Carry a b) = 0
+fed_by (event.Break a b) = 0
+fed_by (event.Solve d k) = 0
+fed_by (event.Tick t) = 0
+fed_by (event.Drain i holder) = 0
+
+abbrev pub fed_bytes : List Entry → ℕ
+fed_bytes [] = 0
+fed_bytes (e ∷ older) = fed_by e.event + fed_bytes older
+
+-- the messages that are taken from outside peers
+abbrev pub heard_in : PlantDeed → ℕ
+heard_in (Takes at (Outside i) m os) = 1
+heard_in (Takes at (Inner a) m os) = 0
+heard_in (Loads at g) = 0
+heard_in (Pops a b) = 0
+heard_in (Says at o) = 0
+heard_in (Ups at p) = 0
+heard_in (Downs at p os) = 0
+heard_in (Clears a b) = 0
+heard_in (Solves at k os keys) = 0
+heard_in (Expires now) = 0
+heard_in (Hands i bytes) = 0
+
+abbrev pub heard : Transcript → ℕ
+heard [] = 0
+heard (d ∷ older) = heard_in d + heard older
+
+-- the settings have no parent
+abbrev pub HasNoParent : NetworkParts → Type 0
+HasNoParent n = n.parent ≡ None
+
+-- No more messages are taken from outside than octets were fed.
+abbrev pub TakenAreFed : Type 0
+TakenAreFed = (n : NetworkParts) (es : List Entry) (s : Plant) → Run wire n es s → heard (deeds_of wire n es) ≤ fed_bytes es
+
+-- A message from outside has one request, and a request goes through each domain once: so without a parent no element sends a neighbour
+-- more requests than messages were taken from outside.
+abbrev pub AskedAreFew : Type 0
+AskedAreFew = (n : NetworkParts) → IsNetwork n → HasNoParent n → (es : List Entry) (s : Plant) → Run wire n es s → (a b : As) →
+    asks a b (deeds_of wire n es) ≤ heard (deeds_of wire n es)
+
+-- So where no more octets were fed than there are ids, none comes round.
+abbrev pub FewAreShort : Type 0
+FewAreShort = (n : NetworkParts) → IsNetwork n → HasNoParent n → (es : List Entry) (s : Plant) → Run wire n es s → fed_bytes es ≤ 4294967295 → IsShort (deeds_of wire n es)
+
+-- the runs of a network without a parent, over the wire of PCEP, that were fed no more octets than there are ids
+abbrev pub OverFewOctets : (Codec → NetworkParts → List Entry → Plant → Type 0) → Type 0
+OverFewOctets Holds = (n : NetworkParts) → IsNetwork n → HasNoParent n → (es : List Entry) (s : Plant) → Run wire n es s → fed_bytes es ≤ 4294967295 → Holds wire n es s

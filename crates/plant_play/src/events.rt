@@ -1,0 +1,130 @@
+//! One event of a line, done and told.
+ghost use Rattle.std.specs.Prelude.{◌≡◌, ◌++◌, IfErr, Err, IfOk, MatchBool, OnOk};
+ghost use Rattle.plant_play.specs.Loading.{IsWant};
+ghost use Rattle.plant_text.specs.Settings.{peer_row};
+ghost use Rattle.pce_plant.specs.Held.{whole};
+ghost use Rattle.pce_plant.specs.Whole.{IsOwnLoad};
+ghost use Rattle.transcript.specs.Lines.{name_from};
+ghost use Rattle.plant_play.specs.Making.{DoesLine, Makes, MakesTurn, Refuses, event_of, lacks_memory, stage};
+ghost use Rattle.plant_play.specs.Playing.{PlaysNone, PlaysOne};
+ghost use Rattle.plant_play.specs.Turns.{event_line};
+
+use crate::error::PlayError;
+use crate::showing::{Modes, job_to_show, write_brought};
+use dom_base::{As, NoMemory};
+use pce_plant::Plant;
+use plant_model::{Event, Outcome, Refused};
+use plant_text::PeerRow;
+use std::alloc::Global;
+use transcript::{write_answer, write_carry, write_solve, write_take};
+
+/// What came of an event: an outcome, or why it was refused.
+pub type Answer = Result<Outcome, Refused>;
+
+/// An event that is due in a network that goes on by itself.
+#[derive(Clone, Copy, Debug, PartialEq, Eq)]
+pub enum Due {
+    Take(u32),
+    Carry(As, As),
+    Solve(As, u64),
+}
+
+fn event_of(due: Due) -> Event
+    ensures { result ≡ event_of due }
+{
+    match due {
+        Due::Take(peer) => Event::Take(peer),
+        Due::Carry(from, to) => Event::Carry(from, to),
+        Due::Solve(at, number) => Event::Solve(at, number),
+    }
+}
+
+fn lacks_memory(answer: &Answer) -> bool
+    ensures { result ≡ lacks_memory answer.now }
+{
+    match answer {
+        Err(Refused::NoMemory) => true,
+        _other => false,
+    }
+}
+
+/// Does an event. Want of memory is no answer of the network.
+pub(crate) fn done(plant: &mut Plant, event: Event) -> Result<Answer, PlayError>
+    requires { IsOwnLoad event }
+    ensures refused { IfErr result IsWant }
+    ensures makes { IfOk result (λ answer. Makes (whole plant.old) event answer (whole plant.new)) }
+{
+    let answer = plant.step(event);
+    if lacks_memory(&answer) {
+        Err(PlayError::NoMemory)
+    } else {
+        Ok(answer)
+    }
+}
+
+/// The event of a line: its answer is told first. Gives that.
+pub(crate) fn play_event(
+    alloc: Global,
+    plant: &mut Plant,
+    modes: Modes,
+    line: u32,
+    event: Event,
+    into: &mut Vec<u8>,
+) -> Result<Answer, PlayError>
+    requires { IsOwnLoad event }
+    ensures plays { IfOk result (DoesLine (whole plant.old) (PlaysOne line (stage modes (whole plant.old)) event) (whole plant.new) into.old.items into.new.items) }
+    ensures refused { IfErr result IsWant }
+{
+    let job = job_to_show(plant, modes, &event)?;
+    let answer = done(plant, event)?;
+    write_answer(alloc, line, &answer, into)?;
+    write_brought(alloc, line, plant, modes, &answer, &job, into)?;
+    Ok(answer)
+}
+
+// The name of an outside peer; nothing where there is none of that number.
+fn name_at(peers: &[PeerRow], number: u32) -> &str
+    ensures { result.now ≡ name_from (peer_row number peers.now) }
+{
+    match peers.get(number as usize) {
+        Some(row) => row.name.as_str(),
+        None => "",
+    }
+}
+
+// The line of an event that is not the line's own.
+fn write_due(line: u32, peers: &[PeerRow], due: Due, into: &mut Vec<u8>) -> Result<(), NoMemory>
+    ensures { OnOk result (into.new.items ≡ into.old.items ++ event_line line peers.now (event_of due)) }
+{
+    match due {
+        Due::Take(peer) => write_take(line, name_at(peers, peer), into),
+        Due::Carry(from, to) => write_carry(line, from, to, into),
+        Due::Solve(at, number) => write_solve(line, at, number, into),
+    }
+}
+
+/// An event that is not the line's own: it is told by a line of its own where it is not refused. Whether it was
+/// accepted.
+pub(crate) fn make_due(
+    alloc: Global,
+    plant: &mut Plant,
+    modes: Modes,
+    line: u32,
+    due: Due,
+    into: &mut Vec<u8>,
+) -> Result<bool, PlayError>
+    ensures refused { IfErr result IsWant }
+    ensures makes { IfOk result (λ accepted. MatchBool accepted
+        (MakesTurn line modes (whole plant.old) (event_of due) (whole plant.new) into.old.items into.new.items)
+        (Refuses (whole plant.old) (event_of due) (whole plant.new) into.old.items into.new.items)) }
+{
+    let event = event_of(due);
+    let job = job_to_show(plant, modes, &event)?;
+    let answer = done(plant, event)?;
+    if answer.is_err() {
+        return Ok(false);
+    }
+    write_due(line, plant.parts().peers.as_slice(), due, into)?;
+    write_brought(alloc, line, plant, modes, &answer, &job, into)?;
+    Ok(true)
+}

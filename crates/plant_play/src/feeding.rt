@@ -1,0 +1,58 @@
+//! Bytes that a peer feeds, and the messages that are taken of them.
+ghost use Rattle.std.specs.Prelude.{◌≡◌, ◌++◌, IfErr, IfOk, OnOk};
+ghost use Rattle.plant_play.specs.Loading.{IsWant};
+ghost use Rattle.pce_plant.specs.Held.{whole};
+ghost use Rattle.plant_play.specs.Due.{IsDueTake};
+ghost use Rattle.plant_play.specs.Making.{DoesAll, DoesLine, stage};
+ghost use Rattle.plant_play.specs.Playing.{PlaysFeed};
+
+use crate::error::PlayError;
+use crate::events::{Answer, Due, done, make_due};
+use crate::showing::Modes;
+use dom_base::Bytes;
+use pce_plant::Plant;
+use plant_model::Event;
+use std::alloc::Global;
+use transcript::write_answer;
+
+// Takes what is in the inbox of a peer.
+fn take_all(
+    alloc: Global,
+    plant: &mut Plant,
+    modes: Modes,
+    line: u32,
+    peer: u32,
+    into: &mut Vec<u8>,
+) -> Result<(), PlayError>
+    ensures plays { OnOk result (DoesAll line modes (IsDueTake peer) (whole plant.old) (whole plant.new) into.old.items into.new.items) }
+    ensures refused { IfErr result IsWant }
+{
+    let mut taken = true;
+    while taken {
+        taken = make_due(alloc, plant, modes, line, Due::Take(peer), into)?;
+    }
+    Ok(())
+}
+
+/// Feeds bytes, and takes what is in the inbox then; if the feed is refused, its answer is all.
+pub(crate) fn feed(
+    alloc: Global,
+    plant: &mut Plant,
+    modes: Modes,
+    line: u32,
+    peer: u32,
+    bytes: Bytes,
+    into: &mut Vec<u8>,
+) -> Result<Answer, PlayError>
+    ensures plays { IfOk result (DoesLine (whole plant.old) (PlaysFeed line (stage modes (whole plant.old)) peer bytes) (whole plant.new) into.old.items into.new.items) }
+    ensures refused { IfErr result IsWant }
+{
+    let answer = done(plant, Event::Feed(peer, bytes))?;
+    if answer.is_err() {
+        write_answer(alloc, line, &answer, into)?;
+        return Ok(answer);
+    }
+    take_all(alloc, plant, modes, line, peer, into)?;
+    write_answer(alloc, line, &answer, into)?;
+    Ok(answer)
+}

@@ -1,0 +1,16 @@
+//! The lines of a script, played on a network one at a time, and told as a transcript.
+#![tactic(auto)]
+
+mod changing;
+mod error;
+mod events;
+mod feeding;
+mod going;
+mod lines;
+mod player;
+mod showing;
+
+pub use error::PlayError;
+pub use events::Answer;
+pub use player::Player;
+pub use showing::Modes;

@@ -1,0 +1,102 @@
+//! Who plays the lines of a script.
+ghost use Rattle.std.specs.Prelude.{◌≡◌, ◌≤◌, ◌++◌, ℕ, List, length, IfErr, IfOk, OnErr, OnOk};
+ghost use Rattle.te_deltas.specs.ChangeText.{change_file_most};
+ghost use Rattle.plant_play.specs.Playing.{IsNewStage, IsWhyNot, Played, cue, stage_of};
+
+use crate::error::PlayError;
+use crate::events::Answer;
+use crate::lines::{modes_after, play_line};
+use crate::showing::Modes;
+use dom_base::NoMemory;
+use pce_plant::Plant;
+use plant_text::{LineEvent, Network, NetworkParts};
+use std::alloc::Global;
+use std::marker::Model;
+
+/// A network whose events come as the lines of a script, and what its transcript shows of solved jobs.
+#[derive(Drop)]
+pub struct Player {
+    alloc: Global,
+    plant: Plant,
+    modes: Modes,
+}
+
+impl Model for Player {
+    ghost use Rattle.plant_play.specs.Playing.{Scene};
+
+    ghost Value = { Scene };
+
+    ghost use Rattle.plant_play.specs.PlayerFields.{scene_of};
+
+    ghost view = { scene_of };
+}
+
+// Puts a text behind another; after a refusal nothing is put.
+fn append(into: &mut Vec<u8>, text: &[u8]) -> Result<(), NoMemory>
+    ensures ok { OnOk result (into.new.items ≡ into.old.items ++ text.now) }
+    ensures err { OnErr result (into.new.items ≡ into.old.items) }
+{
+    into.extend_from_slice(text)?;
+    Ok(())
+}
+
+impl Player {
+    /// A new network of these settings; nothing is shown of solved jobs.
+    pub fn new(alloc: Global, network: Network) -> Result<Player, NoMemory>
+        ensures { IfOk result (λ player. IsNewStage network (stage_of player)) }
+    {
+        Ok(Player {
+            alloc,
+            plant: Plant::new(alloc, network)?,
+            modes: Modes {
+                certify: false,
+                disclose: false,
+            },
+        })
+    }
+
+    /// The settings.
+    pub fn parts(&self) -> &NetworkParts
+        ensures { result.now ≡ (stage_of self.now).network }
+    {
+        self.plant.parts()
+    }
+
+    /// The settings as the value that they came in.
+    pub fn network(&self) -> &Network
+        ensures { result.now ≡ (stage_of self.now).network }
+    {
+        self.plant.network()
+    }
+
+    /// Plays a line of this number, and puts what is told of it at the end of `into`; gives the answer of the line. `file`
+    /// is the text of the file that the line names. After an error nothing is put there; where it is no fault of the
+    /// file, what the line did up to there stays done.
+    pub fn play(
+        &mut self,
+        line: u32,
+        event: LineEvent,
+        file: &[u8],
+        into: &mut Vec<u8>,
+    ) -> Result<Answer, PlayError>
+        requires { length file.now ≤ change_file_most }
+        ensures plays { IfOk result (λ answer. Played (cue line event file.now) (stage_of self.old) answer (stage_of self.new) into.old.items into.new.items) }
+        ensures refused { IfErr result (IsWhyNot event file.now (stage_of self.old) (stage_of self.new)) }
+        ensures untold { OnErr result (into.new.items ≡ into.old.items) }
+    {
+        let after = modes_after(&event, self.modes);
+        let mut text = Vec::new(self.alloc);
+        let answer = play_line(
+            self.alloc,
+            &mut self.plant,
+            self.modes,
+            line,
+            event,
+            file,
+            &mut text,
+        )?;
+        self.modes = after;
+        append(into, &text)?;
+        Ok(answer)
+    }
+}

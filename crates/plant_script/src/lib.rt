@@ -1,0 +1,10 @@
+//! A script of events, played on a network line by line, with the files that its lines name.
+#![tactic(auto)]
+
+mod cue;
+mod script;
+mod stop;
+
+pub use cue::{FILE_MAX, play_cue};
+pub use script::{LINE_MAX, SCRIPT_MAX, play_script};
+pub use stop::Stop;

@@ -1,0 +1,109 @@
+//! All lines of a script, one after the other.
+ghost use Rattle.std.specs.Prelude.{◌≡◌, ◌≤◌, false, length, IfErr, IfOk, OnOk};
+ghost use Rattle.line_text.specs.Lines.{is_skipped};
+ghost use Rattle.plant_play.specs.Playing.{IsNewStage, stage_of};
+ghost use Rattle.plant_script.specs.Scripts.{HasEvent, IsNoEvent, IsWhole, LinePlays, LineStops, ScriptStops, WroteAll, around, numbered, script_most};
+
+use crate::cue::{play_cue, too_large};
+use crate::stop::Stop;
+use dom_edge::{Sink, Store, write_all};
+use line_text::{Line, Lines};
+use plant_play::Player;
+use plant_text::{LineError, LineEvent, Network, read_line};
+use std::alloc::Global;
+
+/// How many bytes a line of a script may have.
+pub const LINE_MAX: usize = 262_144;
+
+/// How many bytes a script may have.
+pub const SCRIPT_MAX: usize = 67_108_864;
+
+// The event of a line that tells something.
+fn event_of(
+    alloc: Global,
+    network: &Network,
+    number: u32,
+    text: &[u8],
+) -> Result<LineEvent, Stop>
+    requires told { is_skipped text.now ≡ false }
+    ensures event { IfOk result (HasEvent network.now (numbered number text.now)) }
+    ensures none { IfErr result (IsNoEvent network.now (numbered number text.now)) }
+{
+    if text.len() > LINE_MAX {
+        return Err(too_large(alloc, "input"));
+    }
+    match read_line(alloc, text, network) {
+        Ok(Some(event)) => Ok(event),
+        Ok(None) => unreachable!(),
+        Err(LineError::Outside) => Err(Stop::BadLine(number)),
+        Err(LineError::NoMemory) => Err(Stop::NoMemory),
+    }
+}
+
+// Plays a line, and writes what is told of it.
+fn play_line<S: Store, K: Sink>(
+    alloc: Global,
+    store: &mut S,
+    player: &mut Player,
+    number: u32,
+    text: &[u8],
+    out: &mut K,
+) -> Result<(), Stop>
+    requires told { is_skipped text.now ≡ false }
+    ensures plays { OnOk result (LinePlays (S.files store.old) (stage_of player.old).network (numbered number text.now) (stage_of player.old) (stage_of player.new) (WroteAll (around (S.files store.old) (K.written out.old, K.written out.new) (S.faults store.old, S.faults store.new) (K.faults out.old, K.faults out.new) (S.failed_at store.new)))) }
+    ensures stops { IfErr result (LineStops (around (S.files store.old) (K.written out.old, K.written out.new) (S.faults store.old, S.faults store.new) (K.faults out.old, K.faults out.new) (S.failed_at store.new)) (stage_of player.old).network (numbered number text.now) (stage_of player.old) (stage_of player.new)) }
+    ensures files { S.files store.new ≡ S.files store.old }
+    ensures later { S.faults store.old ≤ S.faults store.new }
+    ensures after { K.faults out.old ≤ K.faults out.new }
+{
+    let event = event_of(alloc, player.network(), number, text)?;
+    let mut told = Vec::new(alloc);
+    let _answer = play_cue(alloc, store, player, number, event, &mut told)?;
+    match write_all(out, &told) {
+        Ok(()) => Ok(()),
+        Err(_) => Err(Stop::WriteFault),
+    }
+}
+
+// Plays the lines on a network that has just been made.
+fn play_lines<S: Store, K: Sink>(
+    alloc: Global,
+    store: &mut S,
+    player: &mut Player,
+    script: &[u8],
+    out: &mut K,
+) -> Result<(), Stop>
+    requires within { length script.now ≤ script_most }
+    requires new { IsNewStage (stage_of player.old).network (stage_of player.old) }
+    ensures whole { OnOk result (IsWhole (around (S.files store.old) (K.written out.old, K.written out.new) (S.faults store.old, S.faults store.new) (K.faults out.old, K.faults out.new) (S.failed_at store.new)) (stage_of player.old).network script.now) }
+    ensures stops { IfErr result (ScriptStops (around (S.files store.old) (K.written out.old, K.written out.new) (S.faults store.old, S.faults store.new) (K.faults out.old, K.faults out.new) (S.failed_at store.new)) (stage_of player.old).network script.now) }
+    ensures files { S.files store.new ≡ S.files store.old }
+    ensures later { S.faults store.old ≤ S.faults store.new }
+{
+    let mut lines = Lines::new(script);
+    while let Some(line) = lines.next_line() {
+        play_line(alloc, store, player, line.number, line.text, out)?;
+    }
+    Ok(())
+}
+
+/// Plays the lines of a script one after the other on a new network of these settings, and writes what is told of each
+/// before the next is read: its number, its answer, and what else it brought about. Blank lines and lines that begin
+/// with `#` are no events, but they count. A line reads the file that it names when its turn comes. Of the lines
+/// before one that stops the script all is written.
+pub fn play_script<S: Store, K: Sink>(
+    alloc: Global,
+    store: &mut S,
+    network: Network,
+    script: &[u8],
+    out: &mut K,
+) -> Result<(), Stop>
+    requires within { length script.now ≤ script_most }
+    ensures whole { OnOk result (IsWhole (around (S.files store.old) (K.written out.old, K.written out.new) (S.faults store.old, S.faults store.new) (K.faults out.old, K.faults out.new) (S.failed_at store.new)) network script.now) }
+    ensures stops { IfErr result (ScriptStops (around (S.files store.old) (K.written out.old, K.written out.new) (S.faults store.old, S.faults store.new) (K.faults out.old, K.faults out.new) (S.failed_at store.new)) network script.now) }
+    ensures files { S.files store.new ≡ S.files store.old }
+    ensures later { S.faults store.old ≤ S.faults store.new }
+{
+    let mut player = Player::new(alloc, network)?;
+    play_lines(alloc, store, &mut player, script, out)
+}

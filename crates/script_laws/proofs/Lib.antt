@@ -1,0 +1,5 @@
+mod Givens
+mod Onward
+mod FedBytes
+pub mod Rightly
+pub mod Loadable

@@ -1,0 +1,36 @@
+-- Every script that is played is right.
+use Rattle.std.proofs.Common.{ℕ, List, [], ◌≤◌, arith}
+use Rattle.plant_text.specs.declared.settings.NetworkParts.{NetworkParts}
+use Rattle.plant_model.proofs.WireLaws.{wire_is_codec}
+use Rattle.plant_model.specs.Laws.{IsNetwork}
+use Rattle.plant_model.specs.Plant.{Entry, Plant, Run}
+use Rattle.plant_model.specs.RealWire.{wire}
+use Rattle.plant_laws.specs.Headline.{LeastAnswersIn, NoneAnswersIn}
+use Rattle.plant_laws.proofs.EveryWritten.{of_written_net_ids}
+use Rattle.plant_laws.proofs.OfRun as OfRun
+use Rattle.plant_laws.proofs.SaysBlind.{says_as_blind}
+use Rattle.plant_counting.specs.Counting.{HasNoParent}
+use Rattle.plant_counting.proofs.FewOctets.{few_are_short}
+use Rattle.plant_play.specs.Playing.{Cue, IsNewStage, Stage}
+use Rattle.plant_play.specs.Scripts.{AllPlayed}
+use Rattle.plant_play.specs.Turns.{Turn, entries_of}
+use Rattle.script_laws.specs.Headline.{HasIdsLeft, IsRight, all_octets}
+use Rattle.script_laws.specs.Laws.{FeedOctets}
+use Rattle.script_laws.proofs.FedBytes.{script_fed}
+use Rattle.script_laws.proofs.Loadable.{runs_are_loadable}
+use Rattle.script_laws.proofs.Onward.{scripts_are_runs}
+
+runs_are_right : (n : NetworkParts) → IsNetwork n → (es : List Entry) (s : Plant) → Run wire n es s → IsRight n es s
+runs_are_right n ok es s run = record {
+  run = run;
+  least = of_written_net_ids LeastAnswersIn OfRun.least_answers_are wire wire_is_codec n ok es s run;
+  none = of_written_net_ids NoneAnswersIn OfRun.none_answers_are wire wire_is_codec n ok es s run;
+  closed = λ trace disclosed. says_as_blind wire n es trace s disclosed;
+}
+
+pub scripts_are_right : (n : NetworkParts) → IsNetwork n → (new end : Stage) (cues : List Cue) (turns : List Turn) (told : List ℕ) → IsNewStage n new → FeedOctets cues → AllPlayed new cues turns told end
+    → IsRight n (entries_of turns []) end.state × (HasNoParent n → all_octets cues ≤ 4294967295 → HasIdsLeft n (entries_of turns []))
+scripts_are_right n ok new end cues turns told is octets all =
+    let run = scripts_are_runs runs_are_loadable n new end cues turns told is octets all in
+    (runs_are_right n ok (entries_of turns []) end.state run,
+    λ alone few. few_are_short n ok alone (entries_of turns []) end.state run (omega (arith, few, script_fed new end cues turns told all [])))

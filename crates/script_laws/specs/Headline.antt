@@ -1,0 +1,47 @@
+-- What every script that is played is worth: to those who ask for paths, and to the owners of domains.
+use Rattle.std.specs.Prelude.{◌≡◌, ◌≤◌, ◌+◌, ℕ, List, [], ◌∷◌, length}
+use Rattle.plant_text.specs.declared.line.LineEvent.{LineEvent}
+use Rattle.plant_text.specs.declared.line.LineEvent.TheVariants as line
+use Rattle.plant_text.specs.declared.settings.NetworkParts.{NetworkParts}
+use Rattle.plant_model.specs.declared.event.BlindEvent.{BlindEvent}
+use Rattle.plant_model.specs.Blind.{BlindSays, BlindState, heard}
+use Rattle.plant_model.specs.Laws.{IsNetwork}
+use Rattle.plant_model.specs.Plant.{Entry, Plant, Run, deeds_of}
+use Rattle.plant_model.specs.RealWire.{wire}
+use Rattle.plant_laws.specs.About.{IsShort}
+use Rattle.plant_laws.specs.Headline.{LeastAnswersIn, NoneAnswersIn}
+use Rattle.plant_laws.specs.Worlds.{DisclosedRun}
+use Rattle.plant_counting.specs.Counting.{HasNoParent}
+use Rattle.plant_play.specs.Playing.{Cue, IsNewStage, Stage}
+use Rattle.plant_play.specs.Scripts.{AllPlayed}
+use Rattle.plant_play.specs.Turns.{Turn, entries_of}
+use Rattle.script_laws.specs.Laws.{FeedOctets}
+
+-- the octets that a line feeds
+abbrev pub fed_octets : LineEvent → ℕ
+fed_octets (line.Feed peer bytes) = length bytes
+fed_octets e = 0
+
+abbrev pub all_octets : List Cue → ℕ
+all_octets [] = 0
+all_octets (c ∷ cs) = fed_octets c.event + all_octets cs
+
+-- The entries are those of a run. Each path that a client is answered in it is feasible and of least cost among all walks through the
+-- asked domains in order, each domain as it stood when its element took the request; where a client is answered NO-PATH of nature 0,
+-- none exists. And what closed peers hear is what a network without topologies says on the disclosed trace: requests, policy and
+-- disclosed border costs are all that it has.
+pub record IsRight (n : NetworkParts) (es : List Entry) (s : Plant) : Type 0 where
+  pub run : Run wire n es s
+  pub least : IsShort (deeds_of wire n es) → LeastAnswersIn wire n es s
+  pub none : IsShort (deeds_of wire n es) → NoneAnswersIn wire n es s
+  pub closed : (trace : List BlindEvent) → DisclosedRun wire n es trace s → (b : BlindState) × BlindSays wire n trace (heard wire n (deeds_of wire n es)) b
+
+-- no element sends a neighbour more requests than there are ids
+abbrev pub HasIdsLeft : NetworkParts → List Entry → Type 0
+HasIdsLeft n es = IsShort (deeds_of wire n es)
+
+-- Every script is right; and without a parent no id comes round in one that feeds no more octets than there are ids.
+abbrev pub ScriptsAreRight : Type 0
+ScriptsAreRight =
+    (n : NetworkParts) → IsNetwork n → (new end : Stage) (cues : List Cue) (turns : List Turn) (told : List ℕ) → IsNewStage n new → FeedOctets cues → AllPlayed new cues turns told end
+    → IsRight n (entries_of turns []) end.state × (HasNoParent n → all_octets cues ≤ 4294967295 → HasIdsLeft n (entries_of turns []))

@@ -1,0 +1,33 @@
+//! Lines of a script that are played one after the other are a run of the model. Laws, as the contracts of calls that
+//! do nothing.
+#![tactic(auto)]
+
+ghost use Rattle.script_laws.specs.Headline.{ScriptsAreRight};
+ghost use Rattle.script_laws.specs.Laws.{LinesAreGiven, LinesGoOn, RunsAreLoadable, ScriptsAreRuns, ScriptsGoOn, ScriptsKeepSettings};
+
+/// In every run each element's current topology is one that may be loaded.
+pub fn runs_are_loadable()
+    ensures { RunsAreLoadable }
+{}
+
+/// Where that holds before a line is played, what the events of the line are given is what their types say; so a run goes
+/// on by them.
+pub fn lines_go_on()
+    ensures given { LinesAreGiven }
+    ensures go_on { LinesGoOn }
+{}
+
+/// So lines that are played one after the other are a run, from wherever a run has come to, and the whole run where the
+/// network was new. The settings stay.
+pub fn scripts_are_runs()
+    ensures go_on { ScriptsGoOn }
+    ensures from_start { ScriptsAreRuns }
+    ensures settings { ScriptsKeepSettings }
+{}
+
+/// So what is proved of every run of the model holds of every script that is played: paths that clients are answered are
+/// least, NO-PATH means that none exists, and closed peers hear what a network without topologies says. The first
+/// two suppose that no id comes round, which is so without a parent where no more octets are fed than there are ids.
+pub fn scripts_are_right()
+    ensures { ScriptsAreRight }
+{}

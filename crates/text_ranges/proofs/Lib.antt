@@ -1,0 +1,10 @@
+pub mod AddrRanges
+pub mod RowRanges
+pub mod ChangeRanges
+pub mod FedWords
+pub mod FedOctets
+pub mod Lengths
+pub mod FedLengths
+pub mod GivenNetworks
+pub mod FieldRanges
+pub mod ModelledNetworks

@@ -1,0 +1,4 @@
+-- for readers
+pub mod Ranges
+pub mod Sizes
+pub mod Settings

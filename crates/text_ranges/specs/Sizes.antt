@@ -1,0 +1,19 @@
+-- How much a text gives: a line feeds no more octets than it has bytes, and lines are no longer than their text.
+use Rattle.std.specs.Prelude.{◌≡◌, ◌≤◌, ℕ, List, length, Option, Some}
+use Rattle.std.specs.List.{sum_by}
+use Rattle.line_text.specs.Lines.{NumberedLine, told_lines}
+use Rattle.plant_text.specs.declared.line.LineEvent.TheVariants.{Feed}
+use Rattle.plant_text.specs.declared.settings.NetworkParts.{NetworkParts}
+use Rattle.plant_text.specs.Lines.{line_in}
+
+-- What a line of `play` feeds has no more octets than the line has bytes.
+abbrev pub FeedsAreShort : Type 0
+FeedsAreShort = (n : NetworkParts) (line : List ℕ) (peer : Option ℕ) (bytes : List ℕ) → line_in n line ≡ Some (Some (Feed peer bytes)) → length bytes ≤ length line
+
+-- how many bytes lines have together
+abbrev pub all_lengths : List NumberedLine → ℕ
+all_lengths lines = sum_by (λ (line : NumberedLine). length line.text) lines
+
+-- The lines that tell something have together no more bytes than their text.
+abbrev pub LinesAreShort : Type 0
+LinesAreShort = (text : List ℕ) → all_lengths (told_lines text) ≤ length text
