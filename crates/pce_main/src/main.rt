@@ -26,6 +26,8 @@ path NET SRC DST parent AS
 play NET            reads a script of events, plays it on a network, writes its transcript
 --help              writes this table
 --version           writes the versions of the program and of the toolchain
+
+Files that settings and scripts name are looked for in the folder of the settings.
 ";
 
 const VERSION: &str = "pce 0.1.0, proved with rattle-kit-13f logic dac8208d650f15bf\n";
@@ -50,23 +52,63 @@ fn words_of(rt: &HostRuntime) -> Result<Vec<String>, Status> {
     }
 }
 
-fn status_of(rt: &HostRuntime, words: &[String]) -> Status {
-    match words {
+// Whether the word behind this command is the file of a network's settings.
+fn takes_settings(verb: &str) -> bool {
+    matches!(verb, "path" | "play")
+}
+
+// A file's folder and its name there; none where the name begins in the working folder.
+fn folder_and_name(file: &str) -> Option<(&str, &str)> {
+    match file.rsplit_once('/') {
+        Some(("", name)) => Some(("/", name)),
+        parts => parts,
+    }
+}
+
+// Makes the folder of a network's settings the working folder, and names them as they are named there: so the files that settings
+// and scripts name are looked for beside the settings. Where that folder can't be entered the words stay as they are.
+fn enter_folder(rt: &HostRuntime, words: &mut [String]) -> Result<(), Status> {
+    let [verb, settings, ..] = words else {
+        return Ok(());
+    };
+    if !takes_settings(verb.as_str()) {
+        return Ok(());
+    }
+    let Some((folder, name)) = folder_and_name(settings.as_str()) else {
+        return Ok(());
+    };
+    let Ok(name) = name.to_string(rt.alloc()) else {
+        return Err(Status::NoMemory);
+    };
+    if env::set_current_dir(rt, folder).is_ok() {
+        *settings = name;
+    }
+    Ok(())
+}
+
+// Runs a command over the real files, input and output.
+fn run_command(rt: &HostRuntime, mut words: Vec<String>) -> Status {
+    if let Err(status) = enter_folder(rt, &mut words) {
+        return status;
+    }
+    let alloc = rt.alloc();
+    let mut store = FileStore::new(alloc, *rt);
+    let mut input = InputSource::new(rt.reader());
+    let mut out = OutputSink::new(io::writer(rt));
+    run(alloc, &words, &mut store, &mut input, &mut out)
+}
+
+fn status_of(rt: &HostRuntime, words: Vec<String>) -> Status {
+    match words.as_slice() {
         [word] if word.as_str() == "--help" => say(rt, HELP),
         [word] if word.as_str() == "--version" => say(rt, VERSION),
-        _ => {
-            let alloc = rt.alloc();
-            let mut store = FileStore::new(alloc, *rt);
-            let mut input = InputSource::new(rt.reader());
-            let mut out = OutputSink::new(io::writer(rt));
-            run(alloc, words, &mut store, &mut input, &mut out)
-        }
+        _ => run_command(rt, words),
     }
 }
 
 fn main(rt: HostRuntime) -> ExitCode {
     let status = match words_of(&rt) {
-        Ok(words) => status_of(&rt, words.as_slice()),
+        Ok(words) => status_of(&rt, words),
         Err(status) => status,
     };
     let number = status.number();
