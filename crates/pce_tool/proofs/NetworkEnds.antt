@@ -111,17 +111,23 @@ loads_before files ts old f0 f1 f2 failed le why is = record {
 
 stopped : (w : World) (n : NetworkParts) (r : Route) (f0 f1 f2 : ℕ) → w.store_faults ≡ (f0, f2) → f0 ≤ f1 → WroteNothing w → (why : Stop) →
     AskStops w.files (with_path n r.at) (f1, f2) w.failed_at why → IsPathStatus w n r (status_of why)
-stopped w n r f0 f1 f2 counts le nothing stop.ReadFault is =
-    (nothing, subst (λ (c : ℕ × ℕ). AskStops w.files (with_path n r.at) c w.failed_at stop.ReadFault) (sym counts)
-    (is.0, is.1, loads_before w.files (topologies (with_path n r.at).elements) is.0 f0 f1 f2 w.failed_at le stop.ReadFault is.2))
+stopped w n r f0 f1 f2 counts le nothing stop.ReadFault is = (
+  nothing,
+  subst (λ (c : ℕ × ℕ). AskStops w.files (with_path n r.at) c w.failed_at stop.ReadFault) (sym counts)
+      (is.0, is.1, loads_before w.files (topologies (with_path n r.at).elements) is.0 f0 f1 f2 w.failed_at le stop.ReadFault is.2),
+)
 stopped w n r f0 f1 f2 counts le nothing stop.WriteFault is = absurd is.2.stops
-stopped w n r f0 f1 f2 counts le nothing (stop.BadNetwork file line fault) is =
-    (nothing, subst (λ (c : ℕ × ℕ). AskStops w.files (with_path n r.at) c w.failed_at (stop.BadNetwork file line fault)) (sym counts)
-    (is.0, is.1, loads_before w.files (topologies (with_path n r.at).elements) is.0 f0 f1 f2 w.failed_at le (stop.BadNetwork file line fault) is.2))
+stopped w n r f0 f1 f2 counts le nothing (stop.BadNetwork file line fault) is = (
+  nothing,
+  subst (λ (c : ℕ × ℕ). AskStops w.files (with_path n r.at) c w.failed_at (stop.BadNetwork file line fault)) (sym counts)
+      (is.0, is.1, loads_before w.files (topologies (with_path n r.at).elements) is.0 f0 f1 f2 w.failed_at le (stop.BadNetwork file line fault) is.2),
+)
 stopped w n r f0 f1 f2 counts le nothing (stop.BadLine line) is = absurd is.2.stops
-stopped w n r f0 f1 f2 counts le nothing (stop.TooLarge name) is =
-    (nothing, subst (λ (c : ℕ × ℕ). AskStops w.files (with_path n r.at) c w.failed_at (stop.TooLarge name)) (sym counts)
-    (is.0, is.1, loads_before w.files (topologies (with_path n r.at).elements) is.0 f0 f1 f2 w.failed_at le (stop.TooLarge name) is.2))
+stopped w n r f0 f1 f2 counts le nothing (stop.TooLarge name) is = (
+  nothing,
+  subst (λ (c : ℕ × ℕ). AskStops w.files (with_path n r.at) c w.failed_at (stop.TooLarge name)) (sym counts)
+      (is.0, is.1, loads_before w.files (topologies (with_path n r.at).elements) is.0 f0 f1 f2 w.failed_at le (stop.TooLarge name) is.2),
+)
 stopped w n r f0 f1 f2 counts le nothing stop.NoMemory is = nothing
 
 pub path_stopped : (w : World) (net : List ℕ) (n : NetworkParts) → HasNetwork w.files net n → (r : Route) → is_element n r.at ≡ true → (f0 f1 f2 : ℕ) → w.store_faults ≡ (f0, f2) → f0 ≤ f1 → WroteNothing w →

@@ -1,4 +1,5 @@
 //! Runs of the commands over memory, and each fault of the outside once.
+mod network_faults;
 mod pair_rows;
 mod rows;
 
@@ -15,9 +16,9 @@ fn bytes_of(alloc: Global, bytes: &[u8]) -> Result<Bytes, Fail> {
     Ok(List::from_vec(bytes.to_vec(alloc)?))
 }
 
-fn store_of(alloc: Global, fails: List<u64>) -> Result<MemoryStore, Fail> {
+fn store_of(alloc: Global, named: &[(&str, &[u8])], fails: List<u64>) -> Result<MemoryStore, Fail> {
     let mut files = Vec::new(alloc);
-    for (name, text) in FILES {
+    for (name, text) in named {
         files.push((Text::copy_of(alloc, name)?, bytes_of(alloc, text)?))?;
     }
     Ok(MemoryStore::new(alloc, List::from_vec(files), fails))
@@ -83,12 +84,13 @@ fn in_output(fault: Fault) -> Option<u64> {
 // Runs a command over the files; answers what it wrote, and the text of its status.
 fn told(
     alloc: Global,
+    files: &[(&str, &[u8])],
     words: &str,
     input: &[u8],
     fault: Fault,
 ) -> Result<(MemorySink, String), Fail> {
     let words = words_of(alloc, words)?;
-    let mut store = store_of(alloc, failing(alloc, in_store(fault))?)?;
+    let mut store = store_of(alloc, files, failing(alloc, in_store(fault))?)?;
     let mut source = MemorySource::new(bytes_of(alloc, input)?, failing(alloc, in_input(fault))?);
     let mut sink = MemorySink::new(alloc, failing(alloc, in_output(fault))?);
     let status = ended(alloc, words.as_slice(), &mut store, &mut source, &mut sink);
@@ -97,7 +99,7 @@ fn told(
 }
 
 fn is_as_told(alloc: Global, rt: &impl Abort, row: &Row) -> Result<(), Fail> {
-    let (sink, status) = told(alloc, row.words, row.input, Fault::Nowhere)?;
+    let (sink, status) = told(alloc, &FILES, row.words, row.input, Fault::Nowhere)?;
     assert_eq!(rt; status.as_str(), row.status, "{}", row.words);
     assert_eq!(rt; sink.bytes(), row.output, "{}", row.words);
     Ok(())
@@ -135,7 +137,13 @@ const FAULTS: [(Fault, &str); 8] = [
 fn faults_are_told_and_write_a_prefix(rt: HostRuntime) -> Result<(), Fail> {
     let request = b"2003001C0212000C00000000000000010412000C0A0000010A000003";
     for (fault, expected) in FAULTS {
-        let (sink, status) = told(rt.alloc(), "verify one.txt holds.cert", request, fault)?;
+        let (sink, status) = told(
+            rt.alloc(),
+            &FILES,
+            "verify one.txt holds.cert",
+            request,
+            fault,
+        )?;
         assert_eq!(rt; status.as_str(), expected);
         assert!(rt; b"holds\n".starts_with(sink.bytes()));
     }
