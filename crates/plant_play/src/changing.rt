@@ -25,7 +25,10 @@ pub(crate) fn topology_of(alloc: Global, at: As, file: &[u8]) -> Result<Topology
 {
     let topology = match read_topology(alloc, file) {
         Ok(topology) => topology,
-        Err(TextError::At(line, fault)) => return Err(PlayError::BadFile(line, NetFault::Topo(fault))),
+        Err(TextError::At(line, fault)) => return Err(PlayError::BadFile(
+            line,
+            NetFault::Topo(fault),
+        )),
         Err(TextError::NoMemory) => return Err(PlayError::NoMemory),
     };
     if topology.own() == at {

@@ -199,6 +199,11 @@ new_stage n = record { network = n; state = (opened wire n).state; modes = recor
 pub stops_unbegun : (files : Option Files) (n : NetworkParts) (script : List ℕ) (w : Option (List ℕ)) (f o : ℕ) (failed : List ℕ) →
     ScriptStops (around files (w, w) (f, f) (o, o) failed) n script stop.NoMemory
 stops_unbegun files n script w f o failed =
-    let start = new_stage n in
-    (told_lines script, (start, cut_here files n script w w (told_lines script) start
-    (at_start files n script w start (record { network = refl; run = refl; modes = refl }))))
+    let start = new_stage n in (
+      told_lines script,
+      (
+        start,
+        cut_here files n script w w (told_lines script) start
+            (at_start files n script w start (record { network = refl; run = refl; modes = refl })),
+      ),
+    )

@@ -19,12 +19,7 @@ pub const LINE_MAX: usize = 262_144;
 pub const SCRIPT_MAX: usize = 67_108_864;
 
 // The event of a line that tells something.
-fn event_of(
-    alloc: Global,
-    network: &Network,
-    number: u32,
-    text: &[u8],
-) -> Result<LineEvent, Stop>
+fn event_of(alloc: Global, network: &Network, number: u32, text: &[u8]) -> Result<LineEvent, Stop>
     requires told { is_skipped text.now ≡ false }
     ensures event { IfOk result (HasEvent network.now (numbered number text.now)) }
     ensures none { IfErr result (IsNoEvent network.now (numbered number text.now)) }

@@ -31,6 +31,7 @@ runs_are_right n ok es s run = record {
 pub scripts_are_right : (n : NetworkParts) → IsNetwork n → (new end : Stage) (cues : List Cue) (turns : List Turn) (told : List ℕ) → IsNewStage n new → FeedOctets cues → AllPlayed new cues turns told end
     → IsRight n (entries_of turns []) end.state × (HasNoParent n → all_octets cues ≤ 4294967295 → HasIdsLeft n (entries_of turns []))
 scripts_are_right n ok new end cues turns told is octets all =
-    let run = scripts_are_runs runs_are_loadable n new end cues turns told is octets all in
-    (runs_are_right n ok (entries_of turns []) end.state run,
-    λ alone few. few_are_short n ok alone (entries_of turns []) end.state run (omega (arith, few, script_fed new end cues turns told all [])))
+    let run = scripts_are_runs runs_are_loadable n new end cues turns told is octets all in (
+      runs_are_right n ok (entries_of turns []) end.state run,
+      λ alone few. few_are_short n ok alone (entries_of turns []) end.state run (omega (arith, few, script_fed new end cues turns told all [])),
+    )
