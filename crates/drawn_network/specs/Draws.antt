@@ -1,10 +1,14 @@
 -- Numbers that are drawn one after the other: a linear congruential generator modulo 2^64 (Knuth's constants), of whose states the upper 31 bits count.
 use Rattle.std.specs.Prelude.{ℕ, zero, suc, ◌+◌, ◌*◌, ◌/◌, ◌%◌, ◌^◌}
 
+-- the state behind a state
+abbrev pub state_after : ℕ → ℕ
+state_after x = (x * 6364136223846793005 + 1442695040888963407) % 2 ^ 64
+
 -- the state after so many draws
-pub state_at : ℕ → ℕ
+unfoldable pub state_at : ℕ → ℕ
 state_at zero = 1
-state_at (suc k) = (state_at k * 6364136223846793005 + 1442695040888963407) % 2 ^ 64
+state_at (suc k) = state_after (state_at k)
 
 -- the number that is drawn after so many others
 abbrev pub drawn : ℕ → ℕ

@@ -18,7 +18,7 @@ ten a b c = V4 (167772160 + a * 65536 + b * 256 + c)
 abbrev pub node : ℕ → ℕ → Addr
 node d i = ten d 0 i
 
-abbrev pub numbers : List ℕ
+unfoldable pub numbers : List ℕ
 numbers = range_with_len 1 50
 
 -- ---- inner links
@@ -35,12 +35,15 @@ is_far a b = (a == 1 || a == 11 || a == 21 || a == 31) && (a + 10 == b)
 abbrev pub are_joined : ℕ → ℕ → Bool
 are_joined a b = is_next a b || is_next b a || is_far a b || is_far b a
 
--- the links that end at a node, by the nodes at which they begin
+abbrev pub span : ℕ → ℕ → Span
+span to from = record { from = from; to = to }
+
+-- the links that end at a node, in the order of the nodes at which they begin
 abbrev pub spans_to : ℕ → List Span
-spans_to to = map (λ from. record { from = from; to = to }) (filter (λ from. are_joined from to) numbers)
+spans_to to = filter (λ s. are_joined s.from s.to) (map (span to) numbers)
 
 -- all of them, in the order of their far addresses
-abbrev pub spans : List Span
+unfoldable pub spans : List Span
 spans = flat_map spans_to numbers
 
 -- the end of a link at one of its nodes

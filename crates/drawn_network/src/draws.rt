@@ -1,6 +1,6 @@
 //! Numbers that are drawn one after the other.
-ghost use Rattle.std.specs.Prelude.{◌≡◌, ◌+◌, ◌*◌, ◌%◌, ◌^◌, ◌<◌};
-ghost use Rattle.drawn_network.specs.Draws.{drawn, draws_most, state_at};
+ghost use Rattle.std.specs.Prelude.{◌≡◌, ◌+◌, ◌<◌};
+ghost use Rattle.drawn_network.specs.Draws.{drawn, draws_most, state_after};
 
 use std::marker::Model;
 
@@ -28,7 +28,7 @@ const INCREMENT: u128 = 1_442_695_040_888_963_407;
 
 // The state behind a state.
 fn state_after(state: u64) -> u64
-    ensures { result ≡ (state * 6364136223846793005 + 1442695040888963407) % 2 ^ 64 }
+    ensures { result ≡ state_after state }
 {
     ((u128::from(state) * MULTIPLIER + INCREMENT) % 0x1_0000_0000_0000_0000) as u64
 }

@@ -1,5 +1,5 @@
 //! The files of the topologies.
-ghost use Rattle.std.specs.Prelude.{◌≡◌, ◌≤◌, ◌+◌, IfOk, OnOk};
+ghost use Rattle.std.specs.Prelude.{◌≡◌, ◌≤◌, ◌+◌, ◌∷◌, [], IfOk, OnOk};
 ghost use Rattle.drawn_network.specs.Draws.{draws_most};
 ghost use Rattle.drawn_network.specs.Files.{AreFiles, IsBuilt, IsFile, links_draws};
 ghost use Rattle.drawn_network.specs.Settings.{file_name};
@@ -35,6 +35,23 @@ fn draw_file(alloc: Global, domain: u8, draws: &mut Draws) -> Result<(Text, Byte
     Ok((file_name(alloc, domain)?, text))
 }
 
+fn four(
+    alloc: Global,
+    first: (Text, Bytes),
+    second: (Text, Bytes),
+    third: (Text, Bytes),
+    fourth: (Text, Bytes),
+) -> Result<List<(Text, Bytes)>, NoMemory>
+    ensures { IfOk result (λ files. files ≡ first ∷ second ∷ third ∷ fourth ∷ []) }
+{
+    let mut files = List::new(alloc);
+    files.push(first)?;
+    files.push(second)?;
+    files.push(third)?;
+    files.push(fourth)?;
+    Ok(files)
+}
+
 /// The files that the settings name, drawn in the order of domains.
 pub fn draw_files(alloc: Global, draws: &mut Draws) -> Result<List<(Text, Bytes)>, NoMemory>
     requires { draws.old ≡ 0 }
@@ -45,10 +62,5 @@ pub fn draw_files(alloc: Global, draws: &mut Draws) -> Result<List<(Text, Bytes)
     let second = draw_file(alloc, 2, draws)?;
     let third = draw_file(alloc, 3, draws)?;
     let fourth = draw_file(alloc, 4, draws)?;
-    let mut files = List::new(alloc);
-    files.push(first)?;
-    files.push(second)?;
-    files.push(third)?;
-    files.push(fourth)?;
-    Ok(files)
+    four(alloc, first, second, third, fourth)
 }

@@ -6,19 +6,26 @@ use dom_base::{Addr, As, List, NoMemory, Text};
 use plant_text::{ElementRow, NetError, Network, NetworkParts};
 use std::alloc::Global;
 
+fn name_of(domain: u8) -> &'static str
+    ensures { result.now ≡ file_name domain }
+{
+    if domain == 1 {
+        return "f1.txt";
+    }
+    if domain == 2 {
+        return "f2.txt";
+    }
+    if domain == 3 {
+        return "f3.txt";
+    }
+    "f4.txt"
+}
+
 /// The name of the file of a domain's topology.
 pub(crate) fn file_name(alloc: Global, domain: u8) -> Result<Text, NoMemory>
     ensures { IfOk result (λ name. name ≡ file_name domain) }
 {
-    Text::copy_of(
-        alloc,
-        match domain {
-            1 => "f1.txt",
-            2 => "f2.txt",
-            3 => "f3.txt",
-            _ => "f4.txt",
-        },
-    )
+    Text::copy_of(alloc, name_of(domain))
 }
 
 fn element(alloc: Global, domain: u8) -> Result<ElementRow, NoMemory>

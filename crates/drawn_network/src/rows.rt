@@ -1,7 +1,7 @@
 //! The rows of a domain that is drawn.
-ghost use Rattle.std.specs.Prelude.{◌≡◌, ◌≤◌, ◌<◌, ◌+◌, ◌*◌, ◌++◌, length, IfOk, OnOk};
+ghost use Rattle.std.specs.Prelude.{◌≡◌, ◌≤◌, ◌+◌, ◌*◌, ◌++◌, ◌∷◌, [], cond, length, IfOk, OnOk};
 ghost use Rattle.drawn_network.specs.Draws.{draws_most};
-ghost use Rattle.drawn_network.specs.Rows.{are_joined, drawn_link, drawn_links, entries_of, is_far, is_next, node, nodes_of, out_address, out_link, outs_of, parts_of, side, spans, spans_to};
+ghost use Rattle.drawn_network.specs.Rows.{are_joined, drawn_link, drawn_links, entries_of, is_far, is_next, node, nodes_of, out_address, out_link, outs_of, parts_of, side, span, spans, spans_to};
 
 use crate::draws::Draws;
 use dom_base::{Addr, As, Link, List, NoMemory};
@@ -58,15 +58,25 @@ fn are_joined(a: u8, b: u8) -> bool
     is_next(a, b) || is_next(b, a) || is_far(a, b) || is_far(b, a)
 }
 
+// Puts the span behind others, if it is one.
+fn add_span(from: u8, to: u8, into: &mut Vec<Span>) -> Result<(), NoMemory>
+    requires from_within { from ≤ 50 }
+    requires to_within { to ≤ 50 }
+    ensures { OnOk result (into.new.items ≡ into.old.items ++ cond (are_joined from to) (span to from ∷ []) []) }
+{
+    if are_joined(from, to) {
+        into.push(Span { from, to })?;
+    }
+    Ok(())
+}
+
 // Puts the spans that end at a node behind others.
 fn add_spans(to: u8, into: &mut Vec<Span>) -> Result<(), NoMemory>
     requires { to ≤ 50 }
     ensures { OnOk result (into.new.items ≡ into.old.items ++ spans_to to) }
 {
     for from in 1..NODES + 1 {
-        if are_joined(from, to) {
-            into.push(Span { from, to })?;
-        }
+        add_span(from, to, into)?;
     }
     Ok(())
 }
