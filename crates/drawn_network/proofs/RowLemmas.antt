@@ -69,9 +69,9 @@ one_turn_more to n items new place so_far added =
     )
 
 pub all_spans : (n : ℕ) (items : List Span) → n ≡ 50 → items ≡ flat_map spans_to (range_with_len 1 n) → items ≡ spans
-unfolding spans, numbers
+unfolding spans numbers
 all_spans n items all so_far = so_far ∙ ap (λ (k : ℕ). flat_map spans_to (range_with_len 1 k)) all
 
 pub spans_count : length spans ≡ 106
-unfolding spans, numbers
+unfolding spans numbers
 spans_count = refl
