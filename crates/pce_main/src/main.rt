@@ -24,6 +24,7 @@ path NET SRC DST AS ..
 path NET SRC DST parent AS
                     asks for a path from that domain, whose domains the parent finds
 play NET            reads a script of events, plays it on a network, writes its transcript
+bulk N              draws a large network and N requests (1 to 8000), writes what they are answered in all
 --help              writes this table
 --version           writes the versions of the program and of the toolchain
 
