@@ -1,17 +1,20 @@
 -- Questions that are put one behind the other, and one more.
-use Rattle.std.proofs.Common.{◌≡◌, ◌+◌, ◌∙◌, ℕ, Option, List, [], ◌∷◌, ◌++◌, refl, sym, ap, subst, append_assoc}
+use Rattle.std.proofs.Common.{◌≡◌, ◌+◌, ◌∙◌, ℕ, Option, Some, Result, Ok, Err, List, [], ◌∷◌, ◌++◌, refl, sym, ap, subst, append_assoc}
 use Rattle.std.proofs.lemmas.List.{append-nil}
 use Rattle.std.proofs.lemmas.List.FromFn.{map-range_with_len_more}
-use Rattle.dom_edge.specs.Stores.{Files}
+use Rattle.std.specs.Result.{IfOk}
+use Rattle.dom_base.specs.declared.names.NoMemory.{NoMemory}
+use Rattle.dom_edge.specs.Stores.{Files, file_named}
+use Rattle.drawn_network.specs.Files.{AreFiles}
 use Rattle.plant_play.specs.Playing.{Stage}
 use Rattle.plant_play.specs.Turns.{Turn}
 use Rattle.plant_client.specs.declared.hearing.Heard.{Heard}
 use Rattle.plant_client.specs.declared.question.Question.{Question}
-use Rattle.plant_client.specs.Asking.{Exchanges}
+use Rattle.plant_client.specs.Asking.{Begins, Exchanges}
 use Rattle.plant_client.specs.Hearing.{heard_in}
 use Rattle.plant_bulk.specs.declared.requests.Demand.{Demand}
 use Rattle.plant_bulk.specs.declared.tally.Tally.{Tally}
-use Rattle.plant_bulk.specs.Playing.{AreTallied, AsksAll, client, turns_of}
+use Rattle.plant_bulk.specs.Playing.{AreTallied, AsksAll, IsTallied, client, network, turns_of}
 use Rattle.plant_bulk.specs.Requests.{question, questions}
 use Rattle.plant_bulk.specs.Tallies.{tally_of, with_heard}
 use Rattle.plant_bulk.proofs.TallyLemmas.{tally_more}
@@ -64,3 +67,11 @@ one_tallied_more files later d k old mid new before after came heard same p x he
       subst (λ (qs : List Question). AsksAll files client qs old (p.0 ++ came ∷ []) (p.1 ++ turns_of y) new) (sym (map-range_with_len_more (question d) 0 k k refl)) all,
       tally,
     )
+
+-- a run over files that are those of the drawn topologies
+pub tallied_of : (files held : List (List ℕ × List ℕ)) (later : Option Files) (d : Demand) (n : ℕ) (begun end : Stage) (r : Result Tally NoMemory) → AreFiles files → held ≡ files →
+    later ≡ Some (file_named held) → Begins (Some (file_named held)) network client begun → IfOk r (AreTallied later (questions d n) begun end) → IfOk r (IsTallied d n)
+tallied_of files held later d n begun end (Err why) drawn are same begins last = last
+tallied_of files held later d n begun end (Ok tally) drawn are same begins last =
+    let here = subst (λ (f : Option Files). AreTallied f (questions d n) begun end tally) same last in
+    (here.0, record { files = held; drawn = subst AreFiles (sym are) drawn; begun = begun; begins = begins; turns = here.1; end = end; asks = here.2 }, here.3)
