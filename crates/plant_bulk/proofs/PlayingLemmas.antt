@@ -1,5 +1,5 @@
 -- Questions that are put one behind the other, and one more.
-use Rattle.std.proofs.Common.{◌≡◌, ◌+◌, ◌∙◌, ℕ, Option, Some, Result, Ok, Err, List, [], ◌∷◌, ◌++◌, refl, sym, ap, subst, append_assoc}
+use Rattle.std.proofs.Common.{◌≡◌, ◌+◌, ◌∙◌, ℕ, Option, Some, Result, Ok, Err, List, [], ◌∷◌, ◌++◌, refl, sym, ap, subst, arith, append_assoc}
 use Rattle.std.proofs.lemmas.List.{append-nil}
 use Rattle.std.proofs.lemmas.List.FromFn.{map-range_with_len_more}
 use Rattle.std.specs.Result.{IfOk}
@@ -58,13 +58,14 @@ pub one_tallied_more : (files later : Option Files) (d : Demand) (k : ℕ) (old 
     AreTallied files (questions d (k + 1)) old new after
 one_tallied_more files later d k old mid new before after came heard same p x hears counts =
     let y = subst (λ (f : Option Files). Exchanges f client (question d k) mid came new) same x in
+    let place : 0 + k ≡ k = omega arith in
     let all = one_more files (questions d k) (question d k) old mid new p.0 came p.1 p.2 y in
     let tally : after ≡ tally_of (p.0 ++ came ∷ []) =
     counts ∙ (ap (λ (h : Heard). with_heard before h) hears ∙ (ap (λ (t : Tally). with_heard t (heard_in came)) p.3 ∙ sym (tally_more p.0 came))) in
     (
       p.0 ++ came ∷ [],
       p.1 ++ turns_of y,
-      subst (λ (qs : List Question). AsksAll files client qs old (p.0 ++ came ∷ []) (p.1 ++ turns_of y) new) (sym (map-range_with_len_more (question d) 0 k k refl)) all,
+      subst (λ (qs : List Question). AsksAll files client qs old (p.0 ++ came ∷ []) (p.1 ++ turns_of y) new) (sym (map-range_with_len_more (question d) 0 k k place)) all,
       tally,
     )
 

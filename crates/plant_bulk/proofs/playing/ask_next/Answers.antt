@@ -4,4 +4,4 @@ use Rattle.plant_client.specs.Questions.{sequence_most}
 use Rattle.plant_bulk.proofs.playing.ask_next.Goals as goal
 
 pub exchange-requires : goal.exchange-requires
-exchange-requires g c = subst (λ (q : Question). length q.sequence ≤ sequence_most) (sym c.in_ok-question.ensures) (omega arith)
+exchange-requires g c = record { few = subst (λ (q : Question). length q.sequence ≤ sequence_most) (sym c.in_ok-question.ensures.question) (omega arith) }
