@@ -61,8 +61,7 @@ one_tallied_more files later d k old mid new before after came heard same p x he
     let place : 0 + k ≡ k = omega arith in
     let all = one_more files (questions d k) (question d k) old mid new p.0 came p.1 p.2 y in
     let tally : after ≡ tally_of (p.0 ++ came ∷ []) =
-    counts ∙ (ap (λ (h : Heard). with_heard before h) hears ∙ (ap (λ (t : Tally). with_heard t (heard_in came)) p.3 ∙ sym (tally_more p.0 came))) in
-    (
+    counts ∙ (ap (λ (h : Heard). with_heard before h) hears ∙ (ap (λ (t : Tally). with_heard t (heard_in came)) p.3 ∙ sym (tally_more p.0 came))) in (
       p.0 ++ came ∷ [],
       p.1 ++ turns_of y,
       subst (λ (qs : List Question). AsksAll files client qs old (p.0 ++ came ∷ []) (p.1 ++ turns_of y) new) (sym (map-range_with_len_more (question d) 0 k k place)) all,

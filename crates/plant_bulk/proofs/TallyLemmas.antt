@@ -1,5 +1,5 @@
 -- One answer more.
-use Rattle.std.proofs.Common.{◌≡◌, ◌+◌, ◌∙◌, ℕ, true, cond, max, List, [], ◌∷◌, ◌++◌, length, sum, count_by, refl, ap, arith, length-append}
+use Rattle.std.proofs.Common.{◌≡◌, ◌+◌, ◌∙◌, ℕ, cond, max, List, [], ◌∷◌, ◌++◌, length, sum, count_by, ap, arith, length-append}
 use Rattle.std.specs.List.{cons_option}
 use Rattle.std.proofs.lemmas.List.{append-nil}
 use Rattle.std.proofs.lemmas.List.Elements.{filter_map-append}
