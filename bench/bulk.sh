@@ -9,15 +9,18 @@ set -eu
 rounds=${1:-5}
 top=$(cd "$(dirname "$0")/.." && pwd)
 copy=$(mktemp -d)
-trap 'rm -rf "$copy"' EXIT
+trap '[ -n "${KEEP:-}" ] || rm -rf "$copy"' EXIT
 cc -O2 -o "$copy/plain" "$top/bench/plain/bulk.c"
 mkdir -p "$copy/crates"
 cp "$top/HANDLES" "$copy/"
 libraries=$(sed -n 's/^plant_bulk: //p' "$top/crates.txt")
 for name in $libraries plant_bulk; do
     [ -d "$top/crates/$name" ] || continue
-    cp -r "$top/crates/$name" "$copy/crates/"
-    rm -rf "$copy/crates/$name/must-fail"
+    mkdir -p "$copy/crates/$name/out"
+    cp -r "$top/crates/$name/src" "$copy/crates/$name/"
+    for part in specs proofs out/rlib; do
+        [ ! -d "$top/crates/$name/$part" ] || cp -r "$top/crates/$name/$part" "$copy/crates/$name/$part"
+    done
     grep "^$name[ :]" "$top/crates.txt" >>"$copy/crates.txt"
 done
 echo "bulk_bench: $libraries plant_bulk" >>"$copy/crates.txt"
@@ -26,6 +29,8 @@ mkdir -p "$crate/src"
 cat >"$crate/src/main.rt" <<RT
 //! Times requests over the drawn network.
 #![tactic(auto)]
+
+ghost use Rattle.std.specs.Prelude.{◌≤◌};
 
 use plant_bulk::{Demand, play};
 use std::io;
@@ -51,7 +56,6 @@ fn main(rt: HostRuntime) -> io::Result<()> {
     measure(&rt, 8_000)
 }
 RT
-sed -i '1a ghost use Rattle.std.specs.Prelude.{◌≤◌};' "$crate/src/main.rt"
 (cd "$crate" && rt run >"$copy/figures" 2>"$copy/log") || {
     tail -40 "$copy/log" >&2
     exit 1
