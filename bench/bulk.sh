@@ -9,7 +9,7 @@ set -eu
 rounds=${1:-5}
 top=$(cd "$(dirname "$0")/.." && pwd)
 copy=$(mktemp -d)
-trap '[ -n "${KEEP:-}" ] || rm -rf "$copy"' EXIT
+trap 'rm -rf "$copy"' EXIT
 cc -O2 -o "$copy/plain" "$top/bench/plain/bulk.c"
 mkdir -p "$copy/crates"
 cp "$top/HANDLES" "$copy/"
