@@ -8,9 +8,9 @@ fn answers_of_requests(rt: HostRuntime) -> Result<(), Fail> {
     let free = tell(alloc, 100, play(alloc, Demand::Zero, 100)?)?;
     assert_eq!(rt;
         free.as_slice(),
-        b"bulk 100 paths 100 none 0 sum 2573582 max 31854\n"
+        b"bulk 100 paths 100 none 0 sum 2573582 max 31854\n".as_slice()
     );
     let barred = tell(alloc, 2, play(alloc, Demand::One, 2)?)?;
-    assert_eq!(rt; barred.as_slice(), b"bulk 2 paths 0 none 2 sum 0 max 0\n");
+    assert_eq!(rt; barred.as_slice(), b"bulk 2 paths 0 none 2 sum 0 max 0\n".as_slice());
     Ok(())
 }
