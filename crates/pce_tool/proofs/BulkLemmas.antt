@@ -12,7 +12,7 @@ use Rattle.plant_model.specs.Events.{Answered}
 use Rattle.plant_play.specs.Playing.{Cue, Stage}
 use Rattle.plant_play.specs.Scripts.{AllPlayed}
 use Rattle.plant_play.specs.Turns.{Turn}
-use Rattle.script_laws.specs.Headline.{all_octets, fed_octets}
+use Rattle.script_laws.specs.Headline.{all_octets}
 use Rattle.script_laws.specs.Laws.{FeedOctets, FeedsOctets}
 use Rattle.script_laws.proofs.Rightly.{scripts_are_right}
 use Rattle.plant_client.specs.declared.question.Question.{Question}
@@ -21,11 +21,11 @@ use Rattle.plant_client.specs.Questions.{opening_text, question_text, sequence_m
 use Rattle.plant_client.proofs.AskingLemmas.{all_append}
 use Rattle.plant_client.proofs.QuestionLemmas.{question_few}
 use Rattle.plant_bulk.specs.declared.requests.Demand.{Demand}
-use Rattle.plant_bulk.specs.Playing.{AsksAll, IsBulk, bulk_turns, client, network, turns_of}
-use Rattle.plant_bulk.specs.Requests.{question, questions, requests_most}
+use Rattle.plant_bulk.specs.Playing.{AsksAll, bulk_turns, client, network, turns_of}
+use Rattle.plant_bulk.specs.Requests.{question}
 use Rattle.pce_tool.specs.Headline.{BulksAreWorth}
 use Rattle.pce_tool.proofs.DrawnNetwork.{network_modelled}
-use Rattle.pce_tool.proofs.HeadlineLemmas.{FeedAll, Feeds, loads_feed, no_lines, one_line, opening_feeds}
+use Rattle.pce_tool.proofs.HeadlineLemmas.{FeedAll, loads_feed, no_lines, one_line, opening_feeds}
 
 -- ---- what lines feed
 

@@ -4,7 +4,6 @@ use Rattle.std.specs.Prelude.{Err}
 use Rattle.std.specs.declared.option.Option.{Option}
 use Rattle.std.specs.Io.KnownBytes.{Keeps}
 use Rattle.te_links.specs.Rows.{Rows}
-use Rattle.te_links.specs.declared.fault.TopoFault.{TopoFault}
 use Rattle.te_text.specs.Reads.{IsFaulty}
 use Rattle.topology_files.specs.Loading.{HasTopology, topology_max}
 use Rattle.plant_text.specs.declared.fault.NetFault.{NetFault}

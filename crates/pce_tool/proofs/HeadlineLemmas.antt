@@ -1,5 +1,5 @@
 -- Every run of a network that a command plays is worth what is proved of runs.
-use Rattle.std.proofs.Common.{◌≡◌, ◌≤◌, ◌<◌, ◌+◌, ℕ, true, List, [], ◌∷◌, ◌++◌, All, map, length, Option, Some, None, refl, sym, ap, subst, ◌∙◌, arith}
+use Rattle.std.proofs.Common.{◌≡◌, ◌≤◌, ◌<◌, ◌+◌, ℕ, true, List, [], ◌∷◌, ◌++◌, All, map, length, Option, Some, refl, sym, ap, subst, ◌∙◌, arith}
 use Rattle.std.proofs.Math.Dec.{ltb}
 use Rattle.std.proofs.lemmas.Bool.{ltb-true}
 use Rattle.std.proofs.lemmas.List.Elements.{All-nil, All-cons, All-weaker}
@@ -18,21 +18,19 @@ use Rattle.text_ranges.proofs.FedLengths.{feeds_short}
 use Rattle.text_ranges.proofs.FedOctets.{line_octets}
 use Rattle.text_ranges.proofs.ModelledNetworks.{client_is_modelled, settings_are_modelled}
 use Rattle.text_ranges.proofs.Lengths.{all_lengths_append, all_lengths_cons, told_lines_short}
-use Rattle.plant_counting.specs.Counting.{HasNoParent}
-use Rattle.plant_play.specs.Playing.{Cue, Stage}
-use Rattle.plant_play.specs.Turns.{Turn, entries_of}
+use Rattle.plant_play.specs.Playing.{Cue}
 use Rattle.script_laws.specs.Headline.{all_octets, fed_octets}
 use Rattle.script_laws.specs.Laws.{FeedOctets, FeedsOctets}
 use Rattle.script_laws.proofs.Rightly.{scripts_are_right}
-use Rattle.plant_script.specs.Scripts.{AreCues, Playing, script_most}
+use Rattle.plant_script.specs.Scripts.{AreCues}
 use Rattle.plant_client.specs.declared.question.Question.{Question}
 use Rattle.plant_client.specs.Asking.{Asks, lines_of, load_line, question_lines, topologies}
 use Rattle.plant_client.specs.Asking as asking
 use Rattle.plant_client.specs.Questions.{opening_text, question_text, sequence_most}
 use Rattle.plant_client.proofs.QuestionLemmas.{question_short}
 use Rattle.pce_tool.specs.declared.route.Route.{Route}
-use Rattle.pce_tool.specs.Headline.{IsWorth, PathsAreWorth, PlaysAreWorth}
-use Rattle.pce_tool.specs.Networks.{HasNetwork, question_of}
+use Rattle.pce_tool.specs.Headline.{PathsAreWorth, PlaysAreWorth}
+use Rattle.pce_tool.specs.Networks.{question_of}
 
 -- ---- what lines feed
 

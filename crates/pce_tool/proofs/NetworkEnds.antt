@@ -1,5 +1,5 @@
 -- How a run over a network ends, from how its parts ended.
-use Rattle.std.proofs.Common.{◌≡◌, ◌≤◌, ℕ, true, List, length, Some, None, inl, inr, sym, subst}
+use Rattle.std.proofs.Common.{◌≡◌, ◌≤◌, ℕ, true, List, length, Some, None, inr, sym, subst}
 use Rattle.std.specs.declared.option.Option.{Option}
 use Rattle.std.specs.Io.KnownBytes.{Appends}
 use Rattle.dom_base.specs.declared.names.As.{As}
@@ -25,7 +25,7 @@ use Rattle.pce_tool.specs.declared.status.Status.TheVariants as status
 use Rattle.pce_tool.specs.Limits.{settings_max}
 use Rattle.pce_tool.specs.Worlds.{World, WroteNothing}
 use Rattle.pce_tool.specs.Parts.{IsBadSettings, IsFileStatus, IsFinished}
-use Rattle.pce_tool.specs.Networks.{BulkEnds, HasNetwork, HasScript, IsCounted, IsPathStatus, IsPlayStatus, IsSettingsFault, IsStopStatus, PathEnds, PlayEnds, around_of, question_of, status_of}
+use Rattle.pce_tool.specs.Networks.{BulkEnds, HasNetwork, HasScript, IsCounted, IsPathStatus, IsPlayStatus, IsSettingsFault, IsStopStatus, PathEnds, PlayEnds, question_of, status_of}
 
 -- ---- settings
 

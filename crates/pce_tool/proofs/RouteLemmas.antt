@@ -5,7 +5,7 @@ use Rattle.dom_base.specs.declared.addr.Addr.{Addr}
 use Rattle.dom_base.specs.declared.names.As.{As}
 use Rattle.dom_base.specs.Steps.{◌>>=◌}
 use Rattle.pce_tool.specs.declared.route.Route.{Route}
-use Rattle.pce_tool.specs.Tasks.{along_in, are_different, are_sequence, domain_in, domains_in, is_sequence, route_along, sequence_most}
+use Rattle.pce_tool.specs.Tasks.{along_in, are_different, are_sequence, domain_in, domains_in, route_along, sequence_most}
 
 -- what the words name, where all are domains
 parted : (o : Option As) (os : Option (List As)) → is_some (o >>= λ d. os >>= λ ds. Some (d ∷ ds)) ≡ true → (d : As) × (o ≡ Some d) × (is_some os ≡ true)

@@ -1,9 +1,9 @@
 -- No three words leave the input as it was.
-use Rattle.std.proofs.Common.{◌≤◌, ℕ, Bool, true, false, if◌then◌else◌, List, [], ◌∷◌, Option, Some, None, length, arith}
+use Rattle.std.proofs.Common.{◌≤◌, ℕ, Bool, true, false, if◌then◌else◌, List, [], ◌∷◌, Some, None, length, arith}
 use Rattle.std.specs.Prelude.{codes}
 use Rattle.std.specs.Str.{bytes_eq}
-use Rattle.pce_tool.specs.Run.{Command, PairVerify, Verify}
-use Rattle.pce_tool.specs.Tasks.{LeavesInput, Task, task_of, task_or}
+use Rattle.pce_tool.specs.Run.{PairVerify, Verify}
+use Rattle.pce_tool.specs.Tasks.{LeavesInput, task_of, task_or}
 
 three : (t u : List ℕ) (a b : Bool) → LeavesInput (task_or None (if a then Some (Verify t u) else (if b then Some (PairVerify t u) else None))) → ⊥
 three t u true b is = is

@@ -1,5 +1,5 @@
 -- What every run of a network is worth that a command plays.
-use Rattle.std.specs.Prelude.{◌≡◌, ◌≤◌, ℕ, true, List, [], ◌++◌, length, Option, Some, None}
+use Rattle.std.specs.Prelude.{◌≡◌, ◌≤◌, ℕ, true, List, [], ◌++◌, length, Option, Some}
 use Rattle.dom_edge.specs.Stores.{Files}
 use Rattle.line_text.specs.Lines.{NumberedLine, told_lines}
 use Rattle.plant_text.specs.declared.settings.NetworkParts.{NetworkParts}
