@@ -11,6 +11,9 @@ fn answers_of_requests(rt: HostRuntime) -> Result<(), Fail> {
         b"bulk 100 paths 100 none 0 sum 2573582 max 31854\n".as_slice()
     );
     let barred = tell(alloc, 2, play(alloc, Demand::One, 2)?)?;
-    assert_eq!(rt; barred.as_slice(), b"bulk 2 paths 0 none 2 sum 0 max 0\n".as_slice());
+    assert_eq!(rt;
+        barred.as_slice(),
+        b"bulk 2 paths 0 none 2 sum 0 max 0\n".as_slice()
+    );
     Ok(())
 }
