@@ -38,7 +38,7 @@ fn assemble(alloc: Global, parts: Parts) -> Result<Topology, AllocError>
     entries.sort()?;
     let into = index_of(alloc, &nodes, &links)?;
     let tails = tails_of(alloc, &nodes, &links)?;
-    let leaving = index_from(alloc, &nodes, &links)?;
+    let leaving = index_from(alloc, &nodes, &links, &tails)?;
     Ok(Topology::of(own, nodes, links, outs, entries, into, leaving, tails))
 }
 
