@@ -47,6 +47,12 @@ shown_at costs i = elim (cases_lt i (length costs)) [
       get_or_past (map shown_cost costs) i None (omega (arith, past, length-map costs shown_cost)) ∙ sym (ap shown_cost (get_or_past costs i NOTHING past) ∙ shown_none NOTHING (omega arith))
 ]
 
+pub at_most_nothing : (numbers : List ℕ) (least : ℕ) → IsLeastOf numbers least → least ≤ NOTHING
+at_most_nothing numbers least is =
+    let past : num_at numbers (length numbers) ≡ NOTHING = get_or_past numbers (length numbers) NOTHING (omega arith) in
+    let bound = is.no_more (length numbers) in
+    omega (arith, past, bound)
+
 -- no cost is less than the least of all blocks
 least_below : (costs least : List ℕ) (lowest j : ℕ) → AreBlocks costs least → IsLeastOf least lowest → lowest ≤ NOTHING → lowest ≤ num_at costs j
 least_below costs least lowest j blocks is small = elim (cases_lt j (length costs)) [
