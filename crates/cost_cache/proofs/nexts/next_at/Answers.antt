@@ -8,7 +8,7 @@ use Rattle.walk_laws.specs.Labels.{EndsAt}
 use Rattle.path_search.specs.Segments.{AreOpen, IsTightAt, IsLoose}
 use Rattle.path_search.proofs.Choosing.{are_open}
 use Rattle.cost_cache.proofs.Hopping.{only_tail}
-use Rattle.cost_cache.proofs.nexts.hop_at.Goals as goal
+use Rattle.cost_cache.proofs.nexts.next_at.Goals as goal
 
 pub tight_step-requires : goal.tight_step-requires
 tight_step-requires g c κs =
