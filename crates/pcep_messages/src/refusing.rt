@@ -4,7 +4,7 @@ ghost use Rattle.std.specs.Prelude.{◌≡◌, None, Some, MatchResult, not, tru
 ghost use Rattle.std.specs.List.{list_all};
 ghost use Rattle.pcep_messages.specs.Said.{asks_key, end_points_of, iro_of, key_of, metrics_of, rp_of, xro_of};
 ghost use Rattle.pcep_messages.specs.Requests.{metric_of_type};
-ghost use Rattle.pcep_messages.specs.Refusals.{asked_type, is_metric, agree_on, unsupported, unsupported_among, among, are_measures, can_exclude, domain_in, domains, is_domain, has_twice, begins_with, can_follow, first_of, request_rules, key_rules, path_rules};
+ghost use Rattle.pcep_messages.specs.Refusals.{asked_type, ipv6_at, is_metric, agree_on, unsupported, unsupported_among, among, are_measures, can_exclude, domain_in, domains, is_domain, has_twice, begins_with, can_follow, first_of, request_rules, key_rules, path_rules};
 
 use crate::said::{
     are_of_type, count_bounds, count_minimised, find_end_points, find_key, find_rp, metric_type,
@@ -15,6 +15,17 @@ use pcep_codes::{classes, errors, flags, kinds, metrics};
 use pcep_objects::{Body, Object};
 use pcep_subobjects::Hop;
 
+// The error that END-POINTS of IPv6 give at the parent.
+fn ipv6_at(own: As) -> Option<(u8, u8)>
+    ensures { result ≡ ipv6_at own.0 }
+{
+    if own == As(0) {
+        Some(errors::KIND_NOT_SERVED)
+    } else {
+        None
+    }
+}
+
 /// The type and value of the error that an object of a class and type gives, if it has to be taken
 /// into account.
 fn unsupported_kind(own: As, class: u8, kind: u8) -> Option<(u8, u8)>
@@ -23,13 +34,7 @@ fn unsupported_kind(own: As, class: u8, kind: u8) -> Option<(u8, u8)>
     match class {
         classes::RRO | classes::SVEC | classes::LOAD_BALANCING => Some(errors::CLASS_NOT_SERVED),
         classes::BANDWIDTH if kind == kinds::BANDWIDTH_IN_USE => Some(errors::KIND_NOT_SERVED),
-        classes::END_POINTS if kind == kinds::END_POINTS_IPV6 => {
-            if own == As(0) {
-                Some(errors::KIND_NOT_SERVED)
-            } else {
-                None
-            }
-        }
+        classes::END_POINTS if kind == kinds::END_POINTS_IPV6 => ipv6_at(own),
         classes::OPEN
         | classes::NO_PATH
         | classes::ERO
