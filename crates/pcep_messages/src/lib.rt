@@ -19,7 +19,9 @@ pub use message::{
     Answer, Asked, Bad, ErrorReport, Message, Notice, Path, Refusal, Reply, Request, Wanted, Wish,
     WriteError,
 };
-pub use reading::{messages_are_read_again, no_message_begins_another, read_message};
+pub use reading::{
+    messages_are_octets, messages_are_read_again, no_message_begins_another, read_message,
+};
 pub use requests::request_of;
 pub use splitting::split_message;
 pub use writing::write_message;
