@@ -1,3 +1,4 @@
+-- for readers
 pub mod Rows
 pub mod Limits
 pub mod Claims
