@@ -65,7 +65,7 @@ fn keep_first(nexts: &mut Vec<Option<Next>>, hop: Hop)
 }
 
 /// The next link of the chosen segment of each node with a label, each link read twice at most.
-pub fn nexts_of<'a, G: Links<'a>>(
+pub(crate) fn nexts_of<'a, G: Links<'a>>(
     alloc: Global,
     links: &mut G,
     query: &Query,

@@ -91,7 +91,7 @@ fn nodes_of(alloc: Global, words: &mut Words<'_>) -> Result<List<Addr>, RowError
 /// What words say, all of them: `at ADDR N`, `first ADDR ..`, `second ADDR ..`, `cut ADDR ..` in
 /// rising order, or `cut -`. `Syntax` exactly for other words.
 #[tactic(auto, unfolding(crate::specs::RowText::row_in))]
-pub fn read_row(alloc: Global, words: &mut Words<'_>) -> Result<PairRow, RowError>
+pub(crate) fn read_row(alloc: Global, words: &mut Words<'_>) -> Result<PairRow, RowError>
     ensures { GivesRow result (row_in words.old) }
 {
     let Some(name) = words.next_word() else {

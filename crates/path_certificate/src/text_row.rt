@@ -119,7 +119,7 @@ fn path_of(alloc: Global, words: &mut Words<'_>) -> Result<Option<List<Addr>>, R
 /// What words say, all of them: `label ADDR COST EXIT`, `label ADDR -`, `path ADDR ..` or `path -`.
 /// `Syntax` exactly for other words.
 #[tactic(auto, unfolding(crate::specs::RowText::row_in))]
-pub fn read_row(alloc: Global, words: &mut Words<'_>) -> Result<TextRow, RowError>
+pub(crate) fn read_row(alloc: Global, words: &mut Words<'_>) -> Result<TextRow, RowError>
     ensures { GivesRow result (row_in words.old) }
 {
     let Some(name) = words.next_word() else {

@@ -87,7 +87,7 @@ fn find_unsupported_object(objects: &[Object], own: As) -> Option<(u8, u8)>
 }
 
 /// The flags and the number of a request, or the error that it is answered with whatever it asks for.
-pub fn find_request(objects: &[Object], own: As) -> Result<(u32, u32), (u8, u8)>
+pub(crate) fn find_request(objects: &[Object], own: As) -> Result<(u32, u32), (u8, u8)>
     ensures { MatchResult result
         (λ rp. (first_of (request_rules own.0 objects.now) ≡ None) × (rp_of objects.now ≡ Some (rp, true)))
         (λ e. first_of (request_rules own.0 objects.now) ≡ Some e) }
@@ -110,7 +110,7 @@ pub fn find_request(objects: &[Object], own: As) -> Result<(u32, u32), (u8, u8)>
 }
 
 /// The path key that is asked for, and the element that keeps it, or the error.
-pub fn find_asked_key(objects: &[Object]) -> Result<(u16, Addr), (u8, u8)>
+pub(crate) fn find_asked_key(objects: &[Object]) -> Result<(u16, Addr), (u8, u8)>
     ensures { MatchResult result
         (λ k. (first_of (key_rules objects.now) ≡ None) × (key_of objects.now ≡ Some k))
         (λ e. first_of (key_rules objects.now) ≡ Some e) }
@@ -160,7 +160,7 @@ fn excludes(objects: &[Object]) -> bool
     true
 }
 
-pub fn domain(hop: &Hop) -> Option<u16>
+pub(crate) fn domain(hop: &Hop) -> Option<u16>
     ensures { result ≡ domain_in hop.now }
 {
     match hop {
@@ -235,7 +235,7 @@ fn follows(objects: &[Object], own: As) -> bool
 }
 
 /// The ends of the path that is asked for and what it is measured by, or the error.
-pub fn find_ends(objects: &[Object], own: As) -> Result<((Addr, Addr), Metric), (u8, u8)>
+pub(crate) fn find_ends(objects: &[Object], own: As) -> Result<((Addr, Addr), Metric), (u8, u8)>
     ensures { MatchResult result
         (λ found. (first_of (path_rules own.0 objects.now) ≡ None)
         × (end_points_of own.0 objects.now ≡ Some (found.0, true))
@@ -253,7 +253,7 @@ pub fn find_ends(objects: &[Object], own: As) -> Result<((Addr, Addr), Metric), 
 }
 
 /// Whether the flag of path keys is set.
-pub fn asks_for_key(rp: Option<((u32, u32), bool)>) -> bool
+pub(crate) fn asks_for_key(rp: Option<((u32, u32), bool)>) -> bool
     ensures { result ≡ asks_key rp }
 {
     match rp {
