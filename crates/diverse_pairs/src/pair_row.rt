@@ -1,13 +1,14 @@
 //! One line of a pair's certificate.
 ghost use Rattle.std.specs.Prelude.{◌≡◌, Some, None, MatchOption};
 ghost use Rattle.te_text.specs.RowText.{first, number_64};
-ghost use Rattle.path_certificate.specs.Given.{GivesRow};
+ghost use Rattle.te_text.specs.Given.{GivesRow};
 ghost use Rattle.diverse_pairs.specs.RowText.{nodes_behind, potential_row, rising_behind, row_in, some_addrs};
 
 use dom_base::{Addr, List, read_addr, read_number};
 use line_text::Words;
-use path_certificate::{RowError, addrs_of, is_behind, is_dash, is_end, next_addr};
+use path_certificate::{addrs_of, is_behind, is_dash};
 use std::alloc::Global;
+use te_text::{RowError, is_end, next_addr};
 
 /// A line of a pair's certificate behind its header.
 #[derive(Drop)]
