@@ -4,14 +4,15 @@ ghost use Rattle.std.specs.Prelude.{◌≡◌, None, Some, MatchResult, not, tru
 ghost use Rattle.std.specs.List.{list_all};
 ghost use Rattle.pcep_messages.specs.Said.{asks_key, end_points_of, iro_of, key_of, metrics_of, rp_of, xro_of};
 ghost use Rattle.pcep_messages.specs.Requests.{metric_of_type};
-ghost use Rattle.pcep_messages.specs.Refusals.{asked_type, ipv6_at, is_metric, agree_on, unsupported, unsupported_among, among, are_measures, can_exclude, domain_in, domains, is_domain, has_twice, begins_with, can_follow, first_of, request_rules, key_rules, path_rules};
+ghost use Rattle.pcep_messages.specs.Refusals.{asked_type, ipv6_at, agree_on, unsupported, unsupported_among, among, are_measures, can_exclude, domain_in, domains, is_domain, has_twice, begins_with, can_follow, first_of, request_rules, key_rules, path_rules};
 
+use crate::metric::metric_of_type;
 use crate::said::{
     are_of_type, count_bounds, count_minimised, find_end_points, find_key, find_rp, metric_type,
 };
 use dom_base::{Addr, As, Metric};
 use path_exclusions::find_unsupported;
-use pcep_codes::{classes, errors, flags, kinds, metrics};
+use pcep_codes::{classes, errors, flags, kinds};
 use pcep_objects::{Body, Object};
 use pcep_subobjects::Hop;
 
@@ -121,17 +122,6 @@ pub(crate) fn find_asked_key(objects: &[Object]) -> Result<(u16, Addr), (u8, u8)
     }
 }
 
-fn metric_of(kind: u8) -> Option<Metric>
-    ensures { result ≡ (if is_metric kind then Some (metric_of_type kind) else None) }
-{
-    match kind {
-        metrics::IGP => Some(Metric::Igp),
-        metrics::TE => Some(Metric::Te),
-        metrics::HOPS => Some(Metric::Hops),
-        _ => None,
-    }
-}
-
 fn agree(objects: &[Object], kind: u8) -> bool
     ensures { result ≡ agree_on kind objects.now }
 {
@@ -143,7 +133,7 @@ fn find_metric(objects: &[Object]) -> Option<Metric>
     ensures { result ≡ (if are_measures objects.now then Some (metric_of_type (asked_type (metrics_of objects.now))) else None) }
 {
     let kind = metric_type(objects);
-    match metric_of(kind) {
+    match metric_of_type(kind) {
         Some(metric) if agree(objects, kind) => Some(metric),
         _ => None,
     }
