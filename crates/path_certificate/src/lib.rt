@@ -27,7 +27,7 @@ pub use offers::{admits_node, admitted_link};
 pub use reading::{is_behind, read_certificate};
 pub use text_row::{addrs_of, is_dash};
 pub use verdict::{Place, Verdict};
-pub use writing::write_certificate;
+pub use writing::{write_addrs, write_certificate};
 
 #[cfg(test)]
 mod tests;
