@@ -1,5 +1,5 @@
 //! The reply to a client (RFC 5440, section 6.5).
-ghost use Rattle.std.specs.Prelude.{◌≡◌, ◌≤◌, length, IfOk};
+ghost use Rattle.std.specs.Prelude.{◌≤◌, length, IfOk};
 ghost use Rattle.pcep_messages.specs.Spelling.{message_text};
 ghost use Rattle.one_domain.specs.Replies.{IsPathAnswer, IsAnswer, IsReply};
 

@@ -1,5 +1,5 @@
 //! `pair`: the replies of a domain's element to a client that asks for a pair.
-ghost use Rattle.std.specs.Prelude.{◌≡◌, ◌≤◌, ◌<◌, ◌+◌, ◌*◌, List, length, IfOk, MatchOption};
+ghost use Rattle.std.specs.Prelude.{◌≤◌, ◌<◌, ◌+◌, ◌*◌, List, length, IfOk, MatchOption};
 ghost use Rattle.dom_base.specs.declared.link.Link.{Link};
 ghost use Rattle.diverse_pairs.specs.Conditions.{asked_of};
 ghost use Rattle.diverse_pairs.specs.Pairs.{IsFeasiblePair};
