@@ -1,20 +1,17 @@
 -- What a text says of a pair: `pair AS` first; then a potential for each node that has one, in strictly rising order of address, and the two paths; or a cut.
 use Rattle.std.specs.Prelude.{ℕ, ◌+◌, List, [], ◌∷◌, length, nat_le, Option, Some, None, Result, Ok, Err, codes, if◌then◌else◌}
-use Rattle.std.specs.Str.{bytes_eq}
 use Rattle.std.specs.Str.Lines.{lines}
 use Rattle.dom_base.specs.AddrOrder.{rank}
 use Rattle.dom_base.specs.declared.addr.Addr.{Addr}
-use Rattle.dom_base.specs.declared.names.As.{As}
 use Rattle.dom_base.specs.Steps.{◌>>=◌}
 use Rattle.line_text.specs.Words.{words_of}
 use Rattle.line_text.specs.Lines.{NumberedLine, told_lines}
 use Rattle.te_links.specs.Rows.{Rows}
 use Rattle.te_links.specs.declared.fault.TopoFault.TheVariants.{Syntax}
-use Rattle.te_text.specs.RowText.{as_in, first, last}
 use Rattle.te_text.specs.declared.error.TextError.{TextError}
 use Rattle.te_text.specs.declared.error.TextError.TheVariants.{At}
 use Rattle.te_text.specs.Reading.{and_then, or_syntax}
-use Rattle.path_certificate.specs.Text.{least_behind, same_own}
+use Rattle.path_certificate.specs.Text.{header_at, least_behind}
 use Rattle.diverse_pairs.specs.declared.certificate.PairCertificate.{PairCertificate}
 use Rattle.diverse_pairs.specs.declared.certificate.PairForm.{PairForm}
 use Rattle.diverse_pairs.specs.declared.certificate.PairForm.TheVariants.{Paths, Cut}
@@ -22,23 +19,10 @@ use Rattle.diverse_pairs.specs.declared.pair_row.PairRow.{PairRow}
 use Rattle.diverse_pairs.specs.declared.pair_row.PairRow.TheVariants as rows
 use Rattle.diverse_pairs.specs.RowText.{row_in}
 
--- ---- the header
+-- ---- the header: `pair AS`
 
 abbrev pub pair_word : List ℕ
 pair_word = codes "pair"
-
--- `pair AS`, and no other word
-unfoldable pub own_behind : List (List ℕ) → Option As
-own_behind [] = None
-own_behind (name ∷ words) =
-    if bytes_eq name pair_word then (do
-      own ← first as_in words
-      last own.0 own.1)
-    else None
-
--- of this domain
-unfoldable pub header_at : As → NumberedLine → Result As TextError
-header_at own line = or_syntax line.number (words_of line.text >>= own_behind >>= same_own own)
 
 -- ---- the lines behind it
 
@@ -90,7 +74,7 @@ body_in end before (line ∷ others) = and_then (row_at line) (line_says end bef
 abbrev pub lines_say : Rows → ℕ → List NumberedLine → Result PairCertificate TextError
 lines_say g end [] = Err (At end Syntax)
 lines_say g end (line ∷ others) =
-    and_then (header_at g.own line) (λ own. and_then (body_in end None others) (λ form. Ok (record { own = own; form = form })))
+    and_then (header_at pair_word g.own line) (λ own. and_then (body_in end None others) (λ form. Ok (record { own = own; form = form })))
 
 -- what a text says
 unfoldable pub pair_in : Rows → List ℕ → Result PairCertificate TextError

@@ -4,43 +4,22 @@ ghost use Rattle.std.specs.Str.Lines.{lines as lines_of};
 ghost use Rattle.te_text.specs.Given.{GivesText};
 ghost use Rattle.diverse_pairs.specs.PairText.{CanBeTold};
 ghost use Rattle.diverse_pairs.specs.Potentials.{HasRising};
-ghost use Rattle.diverse_pairs.specs.Text.{body_in, cut_says, header_at, nothing_in, own_behind, pair_in, row_at, second_in};
+ghost use Rattle.path_certificate.specs.Text.{header_at};
+ghost use Rattle.diverse_pairs.specs.Text.{body_in, cut_says, nothing_in, pair_in, pair_word, row_at, second_in};
 
 use crate::certificate::{PairCertificate, PairForm};
 use crate::pair_row::{PairRow, read_row};
 use dom_base::{Addr, As, List};
 use line_text::{Line, Lines, Words, is_trimmed, line_count};
-use path_certificate::is_behind;
+use path_certificate::{is_behind, read_own};
 use std::alloc::Global;
 use te_links::{TopoFault, Topology};
-use te_text::{RowError, TextError, is_end, next_as};
+use te_text::{RowError, TextError};
 
-// The number of the domain, in the words of a header.
-#[tactic(auto, unfolding(crate::specs::Text::own_behind))]
-fn own_of(words: &mut Words<'_>) -> Option<As>
-    ensures { result ≡ own_behind words.old }
-{
-    let name = words.next_word()?;
-    if name != b"pair".as_slice() {
-        return None;
-    }
-    let own = next_as(words)?;
-    if is_end(words) { Some(own) } else { None }
-}
-
-// The header of a domain.
-#[tactic(auto, unfolding(crate::specs::Text::header_at))]
 fn read_header(own: As, line: &Line<'_>) -> Result<As, TextError>
-    ensures { result ≡ header_at own (record { number = line.now.number; text = line.now.text.now }) }
+    ensures { result ≡ header_at pair_word own (record { number = line.now.number; text = line.now.text.now }) }
 {
-    let fault = TextError::At(line.number, TopoFault::Syntax);
-    if !is_trimmed(line.text) {
-        return Err(fault);
-    }
-    match own_of(&mut Words::new(line.text)) {
-        Some(number) if number == own => Ok(own),
-        _ => Err(fault),
-    }
+    read_own(b"pair".as_slice(), own, line)
 }
 
 #[tactic(auto, unfolding(crate::specs::Text::row_at))]

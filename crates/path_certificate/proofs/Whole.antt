@@ -21,7 +21,7 @@ use Rattle.te_text.specs.declared.error.TextError.TheVariants.{At, NoMemory}
 use Rattle.te_text.specs.Given.{GivesText}
 use Rattle.path_certificate.specs.Rows.{AreLabelRows}
 use Rattle.te_text.specs.Reading.{and_then}
-use Rattle.path_certificate.specs.Text.{header_at, row_at, body_in, line_says, path_last, with_label, Body, LabelLine, is_node, first_stranger, gathered, unless_stranger, lines_say, certificate_in}
+use Rattle.path_certificate.specs.Text.{certificate_word, header_at, row_at, body_in, line_says, path_last, with_label, Body, LabelLine, is_node, first_stranger, gathered, unless_stranger, lines_say, certificate_in}
 use Rattle.path_certificate.proofs.Gathering.{Labels}
 use Rattle.path_certificate.proofs.Strangers.{is_node_contains}
 
@@ -33,12 +33,12 @@ text_is g bytes count told told_are counted = ap (λ n. lines_say g (n + 1) (tol
 
 -- a header that is refused
 pub header_stays : (g : Rows) (end : ℕ) (line : NumberedLine) (others : List NumberedLine) (e : TextError) (all : Result Certificate TextError) →
-    all ≡ lines_say g end (line ∷ others) → Err e ≡ header_at g.own line → GivesText {X = Certificate} (Err e) all
+    all ≡ lines_say g end (line ∷ others) → Err e ≡ header_at certificate_word g.own line → GivesText {X = Certificate} (Err e) all
 header_stays g end line others (At number fault) all is at = is ∙ rw (sym at) refl
 header_stays g end line others NoMemory all is at = tt
 
 -- behind a good header
-behind : (g : Rows) (end : ℕ) (line : NumberedLine) (others : List NumberedLine) (own : As) → Ok own ≡ header_at g.own line →
+behind : (g : Rows) (end : ℕ) (line : NumberedLine) (others : List NumberedLine) (own : As) → Ok own ≡ header_at certificate_word g.own line →
     lines_say g end (line ∷ others) ≡ and_then (body_in end 0 others) (λ body. unless_stranger own (gathered g.nodes body) (first_stranger g.nodes body.labels))
 behind g end line others own at = rw (sym at) refl
 
@@ -49,7 +49,7 @@ refused g own (Err f) e is = let same : f ≡ e = cc in ap (λ (x : TextError). 
 
 -- lines that are refused
 pub body_stays : (g : Rows) (end : ℕ) (line : NumberedLine) (others : List NumberedLine) (own : As) (e : TextError) (all : Result Certificate TextError) →
-    all ≡ lines_say g end (line ∷ others) → Ok own ≡ header_at g.own line → GivesText {X = Gathered} (Err e) (and_then (body_in end 0 others) (λ body. Ok (gathered g.nodes body))) →
+    all ≡ lines_say g end (line ∷ others) → Ok own ≡ header_at certificate_word g.own line → GivesText {X = Gathered} (Err e) (and_then (body_in end 0 others) (λ body. Ok (gathered g.nodes body))) →
     GivesText {X = Certificate} (Err e) all
 body_stays g end line others own (At number fault) all is at said = is ∙ behind g end line others own at ∙ refused g own (body_in end 0 others) (At number fault) said
 body_stays g end line others own NoMemory all is at said = tt
@@ -62,7 +62,7 @@ accepted g own (Ok body) x is =
     ap (λ (y : Gathered). unless_stranger own y y.stranger) same
 
 pub body_accepted : (g : Rows) (end : ℕ) (line : NumberedLine) (others : List NumberedLine) (own : As) (x : Gathered) (all : Result Certificate TextError) →
-    all ≡ lines_say g end (line ∷ others) → Ok own ≡ header_at g.own line → and_then (body_in end 0 others) (λ body. Ok (gathered g.nodes body)) ≡ Ok x →
+    all ≡ lines_say g end (line ∷ others) → Ok own ≡ header_at certificate_word g.own line → and_then (body_in end 0 others) (λ body. Ok (gathered g.nodes body)) ≡ Ok x →
     all ≡ unless_stranger own x x.stranger
 body_accepted g end line others own x all is at said = is ∙ behind g end line others own at ∙ accepted g own (body_in end 0 others) x said
 

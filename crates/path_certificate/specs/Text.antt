@@ -22,16 +22,16 @@ use Rattle.te_text.specs.RowText.{as_in, first, last}
 use Rattle.te_text.specs.Reading.{and_then, or_syntax}
 use Rattle.path_certificate.specs.RowText.{row_in}
 
--- ---- the header
+-- ---- the header: `certificate AS`
 
 abbrev pub certificate_word : List ℕ
 certificate_word = codes "certificate"
 
--- `certificate AS`, and no other word
-unfoldable pub own_behind : List (List ℕ) → Option As
-own_behind [] = None
-own_behind (name ∷ words) =
-    if bytes_eq name certificate_word then (do
+-- a word, `AS`, and no other word
+unfoldable pub own_behind : List ℕ → List (List ℕ) → Option As
+own_behind word [] = None
+own_behind word (name ∷ words) =
+    if bytes_eq name word then (do
       own ← first as_in words
       last own.0 own.1)
     else None
@@ -40,8 +40,8 @@ own_behind (name ∷ words) =
 abbrev pub same_own : As → As → Option As
 same_own own number = if number.0 == own.0 then Some own else None
 
-unfoldable pub header_at : As → NumberedLine → Result As TextError
-header_at own line = or_syntax line.number (words_of line.text >>= own_behind >>= same_own own)
+unfoldable pub header_at : List ℕ → As → NumberedLine → Result As TextError
+header_at word own line = or_syntax line.number (words_of line.text >>= own_behind word >>= same_own own)
 
 -- ---- the lines behind it
 
@@ -115,7 +115,7 @@ unless_stranger own g (Some line) = Err (At line UnknownNode)
 abbrev pub lines_say : Rows → ℕ → List NumberedLine → Result Certificate TextError
 lines_say g end [] = Err (At end Syntax)
 lines_say g end (line ∷ others) =
-    and_then (header_at g.own line) (λ own. and_then (body_in end 0 others) (λ body. unless_stranger own (gathered g.nodes body) (first_stranger g.nodes body.labels)))
+    and_then (header_at certificate_word g.own line) (λ own. and_then (body_in end 0 others) (λ body. unless_stranger own (gathered g.nodes body) (first_stranger g.nodes body.labels)))
 
 -- what a text says
 unfoldable pub certificate_in : Rows → List ℕ → Result Certificate TextError

@@ -24,7 +24,7 @@ pub use checker::check;
 pub use limits::{CERTIFICATE_BYTES_MAX, SEEDS_MAX, limits_are_numbers};
 pub use look_up::link_with;
 pub use offers::{admits_node, admitted_link};
-pub use reading::{is_behind, read_certificate};
+pub use reading::{is_behind, read_certificate, read_own};
 pub use text_row::{addrs_of, is_dash};
 pub use verdict::{Place, Verdict};
 pub use writing::{write_addrs, write_certificate};

@@ -5,7 +5,7 @@ ghost use Rattle.std.specs.Str.Lines.{lines as lines_of};
 ghost use Rattle.path_certificate.specs.Rows.{AreLabelRows};
 ghost use Rattle.te_text.specs.Given.{GivesText};
 ghost use Rattle.te_text.specs.Reading.{and_then};
-ghost use Rattle.path_certificate.specs.Text.{body_in, certificate_in, gathered, header_at, is_node, least_behind, or_first, own_behind, row_at, stranger_at as stranger_of};
+ghost use Rattle.path_certificate.specs.Text.{body_in, certificate_in, certificate_word, gathered, header_at, is_node, least_behind, or_first, own_behind, row_at, stranger_at as stranger_of};
 
 use crate::certificate::Certificate;
 use crate::limits::CERTIFICATE_BYTES_MAX;
@@ -26,30 +26,37 @@ pub struct Gathered {
 
 // The number of the domain, in the words of a header.
 #[tactic(auto, unfolding(crate::specs::Text::own_behind))]
-fn own_of(words: &mut Words<'_>) -> Option<As>
-    ensures { result ≡ own_behind words.old }
+fn own_of(word: &[u8], words: &mut Words<'_>) -> Option<As>
+    ensures { result ≡ own_behind word.now words.old }
 {
     let name = words.next_word()?;
-    if name != b"certificate".as_slice() {
+    if name != word {
         return None;
     }
     let own = next_as(words)?;
     if is_end(words) { Some(own) } else { None }
 }
 
-// The header of a domain.
+/// The domain of a header that begins with a word; a line that is no such header, or that of another
+/// domain, is at fault.
 #[tactic(auto, unfolding(crate::specs::Text::header_at))]
-fn read_header(own: As, line: &Line<'_>) -> Result<As, TextError>
-    ensures { result ≡ header_at own (record { number = line.now.number; text = line.now.text.now }) }
+pub fn read_own(word: &[u8], own: As, line: &Line<'_>) -> Result<As, TextError>
+    ensures { result ≡ header_at word.now own (record { number = line.now.number; text = line.now.text.now }) }
 {
     let fault = TextError::At(line.number, TopoFault::Syntax);
     if !is_trimmed(line.text) {
         return Err(fault);
     }
-    match own_of(&mut Words::new(line.text)) {
+    match own_of(word, &mut Words::new(line.text)) {
         Some(number) if number == own => Ok(own),
         _ => Err(fault),
     }
+}
+
+fn read_header(own: As, line: &Line<'_>) -> Result<As, TextError>
+    ensures { result ≡ header_at certificate_word own (record { number = line.now.number; text = line.now.text.now }) }
+{
+    read_own(b"certificate".as_slice(), own, line)
 }
 
 #[tactic(auto, unfolding(crate::specs::Text::row_at))]
