@@ -1,6 +1,6 @@
 -- Rows of a border table that are joined one after the other.
 use Rattle.std.proofs.Common.{◌≡◌, ◌≢◌, ◌⊎◌, ◌∙◌, ◌+◌, ◌<◌, ◌≤◌, ℕ, zero, suc, Bool, true, false, cond, nat_lt, Option, Some, None, List, [], ◌∷◌, ◌++◌, length, get_or, map, take, drop, arith, inl, inr, refl, sym, ap, subst, length-append, append_assoc}
-use Rattle.std.specs.Prelude.{All, AllPairs, Contains, IfSome, slice_get}
+use Rattle.std.specs.Prelude.{All, AllPairs, Contains, IfSome, MatchOption, SomeIff, slice_get}
 use Rattle.std.proofs.lemmas.List.{length_push, map-append, take_more}
 use Rattle.std.proofs.lemmas.Bool.{cases_lt, lt-ltb, le-ltb}
 use Rattle.std.proofs.lemmas.List.Elements.{All-nil, All-cons, Contains-append_left, Contains-push, Contains-push_cases}
@@ -362,6 +362,16 @@ next_above cap b down r rest is above e c exit (Some head) joins =
     let there : IsDown (beyond down) r.head joins.1 = subst (λ (a : Addr). IsDown (beyond down) a joins.1) (sym (ap (λ (x : BorderRow). x.head) same)) joins.3 in
     let both : rest ≡ joins.1 = down_unique (beyond down) r.head rest joins.1 is there in
     above (omega (arith, joins.4, joins.5, own, both))
+
+pub node_within : (cap : ℕ) (t : Addr) (down : List Down) (r : BorderRow) (got : ℕ) (o : Option ℕ) → r.head ≡ r.far → got ≡ r.cost → SomeIff o (got ≤ cap) got → MatchOption o (JoinsNothing cap (Node t) down r) (JoinsOver cap (Node t) down r)
+node_within cap t down r got None is own above = node_above cap t down r (elim (cases_lt cap r.cost) [ inl less ↦ less | inr within ↦ absurd (above (omega (arith, within, own))) ])
+node_within cap t down r got (Some c) is own some =
+    subst (λ (n : ℕ). JoinsOver cap (Node t) down r n) (sym (some.1 ∙ own)) (node_joins cap t down r is (omega (arith, some.0, own)))
+
+pub next_within : (cap : ℕ) (b : As) (down : List Down) (r : BorderRow) (got rest more : ℕ) (o : Option ℕ) → got ≡ r.cost → more ≡ rest → IsDown (beyond down) r.head rest → SomeIff o (got + more ≤ cap) (got + more) →
+    MatchOption o (JoinsNothing cap (Next b) down r) (JoinsOver cap (Next b) down r)
+next_within cap b down r got rest more None own there is above = next_above cap b down r rest is (λ within. above (omega (arith, within, own, there)))
+next_within cap b down r got rest more (Some c) own there is some = next_joins cap b down r rest c is (omega (arith, some.0, own, there)) (omega (arith, some.1, own, there))
 
 pub way_is : (cap : ℕ) (target : Target) (down : List Down) (r : BorderRow) (w : Best) → JoinsOver cap target down r w.cost → w.entry ≡ r.entry → w.exit ≡ r.far → w.head ≡ head_over target r → IsJoinOfRow cap target down r w
 way_is cap target down r w over entry exit head = record {

@@ -34,15 +34,14 @@ fn cost_from(down: &[Branch], node: Addr) -> Option<Cost>
     least
 }
 
-// The sum of two costs, if it is within the cap.
-fn sum_within(cap: Cost, own: Cost, rest: Cost) -> Option<Cost>
-    ensures { SomeIff result (own + rest ≤ cap) (own + rest) }
+// A cost, if it is within the cap.
+fn within(cap: Cost, cost: u32) -> Option<Cost>
+    ensures { SomeIff result (cost ≤ cap) cost }
 {
-    let sum = own.get() + rest.get();
-    if sum > cap.get() {
+    if cost > cap.get() {
         return None;
     }
-    Cost::of(sum)
+    Cost::of(cost)
 }
 
 // The cost of the way that a row makes by itself: in the last domain its own, where it ends there, and else
@@ -52,17 +51,16 @@ fn joined_cost(cap: Cost, target: Target, row: &BorderRow, down: &[Branch]) -> O
 {
     match target {
         Target::Node(_end) => {
-            if row.head == row.far && row.cost <= cap {
-                Some(row.cost)
-            } else {
-                None
+            if row.head != row.far {
+                return None;
             }
+            within(cap, row.cost.get())
         }
         Target::Next(_next) => {
             let Some(rest) = cost_from(down, row.head) else {
                 return None;
             };
-            sum_within(cap, row.cost, rest)
+            within(cap, row.cost.get() + rest.get())
         }
     }
 }
