@@ -1,4 +1,4 @@
-use Rattle.std.proofs.Common.{List, arith, length, refl, sym, subst}
+use Rattle.std.proofs.Common.{List, [], arith, length, refl, sym, subst}
 use Rattle.std.proofs.lemmas.List.{take_all}
 use Rattle.std.proofs.lemmas.Option.{slice_get_read}
 use Rattle.vspt_tree.specs.declared.branch.Best.{Best}

@@ -1,4 +1,4 @@
-use Rattle.std.proofs.Common.{◌≡◌, sym, subst}
+use Rattle.std.proofs.Common.{◌≡◌, rules, sym, subst}
 use Rattle.std.specs.Prelude.{MatchOption}
 use Rattle.te_links.proofs.Different.{Decides-rank}
 use Rattle.border_costs.specs.declared.job.Target.{Target}
