@@ -1,0 +1,4 @@
+pub mod HeldRows
+pub mod HeldPlaces
+pub mod WayLemmas
+pub mod BranchLemmas
