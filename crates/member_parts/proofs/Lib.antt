@@ -1,4 +1,3 @@
 pub mod HeldRows
 pub mod HeldPlaces
 pub mod WayLemmas
-pub mod BranchLemmas

@@ -5,7 +5,7 @@ ghost use Rattle.plant_model.specs.Branches.{branch_of};
 ghost use Rattle.plant_model.specs.RealWire.{wire};
 ghost use Rattle.member_parts.specs.Branches.{entry_in, cost_told};
 
-use crate::messages::code;
+use crate::objects::code;
 use dom_base::{Addr, COST_MAX, Cost, Metric, units_of_word};
 use pcep_messages::Path;
 use pcep_subobjects::Hop;

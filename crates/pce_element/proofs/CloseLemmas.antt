@@ -7,7 +7,7 @@ use Rattle.plant_model.specs.Plant.{Pin}
 use Rattle.pce_element.specs.Changes.{all_closed}
 use Rattle.pce_element.specs.Pinned.{Pinned}
 use Rattle.pce_element.specs.Leaving.{SameButSpare}
-use Rattle.pce_element.proofs.PlaceLemmas.{taken_at}
+use Rattle.member_parts.proofs.HeldPlaces.{taken_at}
 
 pub all_closed-more : (ns : List ℕ) (n : ℕ) (p : Pending (Item Pin)) → all_closed (ns ++ n ∷ []) p ≡ closed_of (all_closed ns p) n
 all_closed-more [] n p = refl

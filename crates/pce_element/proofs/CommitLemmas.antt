@@ -34,7 +34,7 @@ use Rattle.pce_element.specs.Jobs.{Work, job_at, work_at, work_for}
 use Rattle.pce_element.specs.Items.{branches_at}
 use Rattle.pce_element.specs.Seen.{Seen}
 use Rattle.pce_element.specs.declared.committing.Answered.{Answered}
-use Rattle.pce_element.proofs.RowLemmas.{first_in, later_in}
+use Rattle.member_parts.proofs.HeldRows.{first_in, later_in}
 
 -- ---- each node beyond has a branch
 

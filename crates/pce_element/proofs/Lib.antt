@@ -1,15 +1,11 @@
-pub mod RowLemmas
 pub mod PinLemmas
-pub mod PlaceLemmas
 pub mod ScanLemmas
-pub mod WayLemmas
 pub mod KeySteps
 pub mod CloseLemmas
 pub mod ReadyLemmas
 pub mod LeaveLemmas
 pub mod SearchLemmas
 pub mod EndLemmas
-pub mod BranchLemmas
 pub mod AskLemmas
 pub mod EntryLemmas
 pub mod CommitLemmas

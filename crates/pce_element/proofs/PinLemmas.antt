@@ -19,7 +19,7 @@ use Rattle.plant_model.specs.Plant.{Pin}
 use Rattle.plant_model.specs.Meeting.{Shelves}
 use Rattle.pce_element.specs.PinnedFields.{current_of}
 use Rattle.pce_element.specs.Rows.{pin_with}
-use Rattle.pce_element.proofs.RowLemmas.{counted_more, counted_some, found_in, removed_in, counted_removed, length-removed, none_removed, counted_written, written_in}
+use Rattle.member_parts.proofs.HeldRows.{counted_more, counted_some, found_in, removed_in, counted_removed, length-removed, none_removed, counted_written, written_in}
 
 abbrev pins_row : ℕ → Held (Item Pin) → Bool
 pins_row n h = h.item.pin.number == n

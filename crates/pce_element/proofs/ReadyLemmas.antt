@@ -14,7 +14,7 @@ use Rattle.plant_model.specs.Meeting.{Shelves}
 use Rattle.plant_model.specs.Taking.{staged}
 use Rattle.pce_element.specs.PinnedFields.{current_of}
 use Rattle.pce_element.specs.Changes.{readied, readied_item}
-use Rattle.pce_element.proofs.RowLemmas.{in_found, length-written}
+use Rattle.member_parts.proofs.HeldRows.{in_found, length-written}
 use Rattle.pce_element.proofs.PinLemmas.{Keeps, found_item, written_keeps}
 
 pub readied_is : (number : ℕ) (branches : List Branch) (pending : Pending (Item Pin)) (item : Item Pin) → item_of pending number ≡ Some item → readied number branches pending ≡ written_of pending number (at_stage (Ready branches) item)

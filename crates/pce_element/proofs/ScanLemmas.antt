@@ -3,7 +3,7 @@ use Rattle.std.proofs.Common.{◌≡◌, ◌<◌, ◌+◌, ◌-◌, ℕ, zero, s
 use Rattle.std.specs.Prelude.{slice_get, filter, OnSome}
 use Rattle.plant_model.specs.Element.{Row, is_ready, ready_numbers}
 use Rattle.plant_model.specs.Plant.{Pin}
-use Rattle.pce_element.proofs.PlaceLemmas.{dropped_at}
+use Rattle.member_parts.proofs.HeldPlaces.{dropped_at}
 
 pub dropped_next : {X : Type 0} (xs : List X) (k : ℕ) (x : X) → slice_get xs k ≡ Some x → drop k xs ≡ x ∷ drop (k + 1) xs
 dropped_next xs k x at = dropped_at xs k x at ∙ ap (λ (j : ℕ). x ∷ drop j xs) (let e : suc k ≡ k + 1 = omega arith in e)

@@ -1,12 +1,10 @@
 -- for readers
 pub mod Seen
-pub mod Messages
 pub mod Jobs
 pub mod Lasting
 -- inner
 pub mod Items
 pub mod ItemFields
-pub mod Ways
 pub mod Pinned
 pub mod PinnedFields
 pub mod Rows
@@ -15,6 +13,5 @@ pub mod Fields
 pub mod Changes
 pub mod Plans
 pub mod PlanFields
-pub mod Branches
 pub mod Endings
 pub mod Committing

@@ -3,7 +3,7 @@ use Rattle.std.specs.Prelude.{◌≡◌, ℕ, List, [], map}
 use Rattle.dom_base.specs.declared.names.As.{As}
 use Rattle.plant_model.specs.Element.{Element, Place, Losing}
 use Rattle.plant_model.specs.Plant.{Pin, Segment, first_pin}
-use Rattle.pce_element.specs.Ways.{way_of}
+use Rattle.member_parts.specs.Ways.{way_of}
 
 -- how many more requests and keys there is memory for
 pub record Spare : Type 0 where

@@ -7,6 +7,7 @@ ghost use Rattle.pce_element.specs.Items.{branches_at, new_item};
 
 use disclosure::Class;
 use dom_base::{As, List, Peer};
+use member_parts::is_same_peer;
 use pcep_messages::Wanted;
 use std::marker::Model;
 use std::snapshot::Snapshot;
@@ -146,16 +147,5 @@ impl Accepted {
         ensures { self.new ≡ at_stage (Ready branches) self.old }
     {
         self.opening.stage = Stage::Ready(branches);
-    }
-}
-
-/// Whether two peers are one.
-pub(crate) fn is_same_peer(one: Peer, other: Peer) -> bool
-    ensures { result ≡ same_peer one other }
-{
-    match (one, other) {
-        (Peer::Outside(a), Peer::Outside(b)) => a == b,
-        (Peer::Inner(a), Peer::Inner(b)) => a.0 == b.0,
-        _ => false,
     }
 }

@@ -11,12 +11,11 @@ use crate::accepted::{Opening, Stage};
 use crate::change::{Change, Draft};
 use crate::element::Element;
 use crate::looks::is_same_addr;
-use crate::messages::{
-    busy, error_message, no_key, one, reply_message, request_message, unavailable,
-};
-use crate::ways::Way;
 use disclosure::{Class, may_expand, open_hops};
 use dom_base::{Addr, As, List, NoMemory, Peer, Tick};
+use member_parts::{
+    Way, busy, error_message, no_key, one, reply_message, request_message, unavailable,
+};
 use pcep_messages::{Answer, Asked, Path, Refusal, Request, Wanted, Wish, request_of};
 use plant_model::Output;
 
@@ -249,7 +248,7 @@ impl Element {
         match request_of(self.alloc, asked, self.own()) {
             Ok(request) => self.take_new(peer, class, request, now),
             Err(Refusal::Wire { rp, kind, value }) => {
-                let message = error_message(self.alloc, rp, kind, value)?;
+                let message = error_message(self.alloc, rp, (kind, value))?;
                 self.only(peer, message)
             }
             Err(Refusal::NoMemory) => Err(NoMemory),

@@ -12,12 +12,12 @@ ghost use Rattle.pce_element.specs.Seen.{SameButRoom};
 
 use crate::change::{Change, Draft};
 use crate::element::Element;
-use crate::messages::{busy, code, no_path, one, reply_message};
 use crate::pinned::Row;
 use crate::plan::Plan;
 use border_costs::Solved;
 use disclosure::{Class, closed_hops, open_hops};
 use dom_base::{Addr, List, Metric, NoMemory, Tick, word_of_cost};
+use member_parts::{busy, code, no_path, one, reply_message};
 use path_keys::KEY_LAST;
 use pcep_messages::{Answer, Message, Path, Wanted};
 use pcep_subobjects::Hop;

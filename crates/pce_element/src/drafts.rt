@@ -7,9 +7,9 @@ ghost use Rattle.pce_element.specs.Rows.{row_of};
 
 use crate::change::{Change, Draft};
 use crate::element::Element;
-use crate::messages::one;
 use crate::pinned::Row;
 use dom_base::{List, NoMemory, Peer};
+use member_parts::one;
 use pcep_messages::Message;
 use plant_model::Output;
 use vspt_tree::Branch;

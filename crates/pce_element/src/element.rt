@@ -9,9 +9,9 @@ ghost use Rattle.pce_element.specs.Seen.{SameButRoom, IsNew, with_current, with_
 
 use crate::leaving::leave_all;
 use crate::pinned::PinnedRequests;
-use crate::ways::Ways;
 use disclosure::Deny;
 use dom_base::{Addr, As, List, NoMemory, Peer, Tick};
+use member_parts::Ways;
 use path_keys::PathKeys;
 use plant_model::Lost;
 use std::alloc::Global;

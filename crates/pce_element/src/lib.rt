@@ -14,14 +14,12 @@ mod law;
 mod leaving;
 mod looks;
 mod making;
-mod messages;
 mod pinned;
 mod plan;
 mod replying;
 mod searching;
 mod taking;
 mod telling;
-mod ways;
 
 pub use committing::CommitError;
 pub use element::Element;

@@ -8,9 +8,9 @@ ghost use Rattle.plant_model.specs.Names.{same_addr};
 
 use crate::element::Element;
 use crate::pinned::PinnedRequests;
-use crate::ways::Way;
 use disclosure::{Class, allows};
 use dom_base::{Addr, As, List, Peer, Tick};
+use member_parts::Way;
 
 /// Whether two addresses are one.
 pub(crate) fn is_same_addr(one: Addr, other: Addr) -> bool

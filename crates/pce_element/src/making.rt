@@ -15,8 +15,8 @@ use crate::accepted::{Opening, Stage};
 use crate::change::{Change, Draft};
 use crate::element::Element;
 use crate::plan::Plan;
-use crate::ways::Ways;
 use dom_base::{Addr, List, NoMemory, Peer, Tick};
+use member_parts::Ways;
 use path_keys::PathKeys;
 use std::collections::VecDeque;
 

@@ -12,8 +12,9 @@ ghost use Rattle.pce_element.specs.Rows.{pin_in, pin_with, row_of};
 ghost use Rattle.pce_element.specs.Leaving.{LeavesAt, SameButSpare};
 ghost use Rattle.pce_element.specs.Changes.{all_closed, readied};
 
-use crate::accepted::{Accepted, Opening, is_same_peer};
+use crate::accepted::{Accepted, Opening};
 use dom_base::{As, List, NoMemory, Peer};
+use member_parts::is_same_peer;
 use plant_model::Lost;
 use request_table::{PENDING_MAX, RequestKey, Requests};
 use std::alloc::Global;

@@ -7,13 +7,13 @@ ghost use Rattle.std.specs.Prelude.{Some};
 ghost use Rattle.pce_element.specs.Changes.{IsDraft};
 ghost use Rattle.pce_element.specs.Rows.{row_of};
 
-use crate::accepted::is_same_peer;
 use crate::branches::branches_in;
 use crate::change::Draft;
 use crate::element::Element;
-use crate::messages::{error_message, reply_message, unavailable};
 use crate::pinned::Row;
 use dom_base::{As, List, NoMemory, Peer};
+use member_parts::{error_message, is_same_peer, reply_message, unavailable};
+use pcep_codes::errors;
 use pcep_messages::{Answer, Reply};
 
 impl Element {
@@ -65,7 +65,7 @@ impl Element {
             Some(row) => self.take_answer(peer, &row, reply),
             None => {
                 let rp = Some((reply.flags, reply.id));
-                let message = error_message(self.alloc, rp, 8, 0)?;
+                let message = error_message(self.alloc, rp, errors::UNKNOWN_REQUEST)?;
                 self.only(peer, message)
             }
         }

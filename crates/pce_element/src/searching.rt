@@ -2,31 +2,13 @@
 ghost use Rattle.std.specs.Prelude.{◌≡◌, false, Contains, None, Some, MatchOption, nat_eq};
 ghost use Rattle.std.specs.Map.{lookup};
 ghost use Rattle.request_table.specs.Pending.{number_of};
-ghost use Rattle.plant_model.specs.Element.{after_id, fresh_id, is_ready, is_waiting, waiting};
-ghost use Rattle.plant_model.specs.Plant.{has_number};
+ghost use Rattle.plant_model.specs.Element.{fresh_id, is_ready, is_waiting, waiting};
 ghost use Rattle.pce_element.specs.Changes.{all_closed};
 ghost use Rattle.pce_element.specs.Rows.{row_of};
 
 use crate::pinned::{PinnedRequests, Row};
 use dom_base::Peer;
-
-fn has_number(numbers: &[u64], number: u64) -> bool
-    ensures { result ≡ has_number number numbers.now }
-{
-    for other in numbers {
-        if number == *other {
-            return true;
-        }
-    }
-    false
-}
-
-// 1 follows the last.
-fn after_id(id: u32) -> u32
-    ensures { result ≡ after_id id }
-{
-    if id == u32::MAX { 1 } else { id + 1 }
-}
+use member_parts::{after_id, has_number};
 
 impl PinnedRequests {
     /// The request that waits for the answer to an id of a peer, where those of some numbers have

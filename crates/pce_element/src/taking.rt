@@ -5,7 +5,7 @@ ghost use Rattle.plant_model.specs.Element.{each};
 ghost use Rattle.plant_model.specs.RealWire.{wire};
 ghost use Rattle.plant_model.specs.Taking.{take, take_asked, take_reply};
 ghost use Rattle.pce_element.specs.Changes.{IsDraft};
-ghost use Rattle.pce_element.specs.Messages.{HasOnePart};
+ghost use Rattle.member_parts.specs.Messages.{HasOnePart};
 ghost use Rattle.pce_element.specs.Seen.{SameButRoom};
 
 use crate::change::Draft;

@@ -1,17 +1,16 @@
 //! What an element does with notices and errors, which end requests one after the other.
 ghost use Rattle.std.specs.Prelude.{◌≡◌, ◌++◌, ◌∷◌, [], IfOk, OnOk};
-ghost use Rattle.std.specs.Option.{option_to_list};
 ghost use Rattle.plant_model.specs.Element.{each, waiting};
-ghost use Rattle.plant_model.specs.Names.{has_pair};
-ghost use Rattle.plant_model.specs.Taking.{error_answer, notice_steps, take_busy, take_cancel, take_errors, take_failure, take_notice, take_report};
+ghost use Rattle.plant_model.specs.Taking.{notice_steps, take_busy, take_cancel, take_errors, take_failure, take_notice, take_report};
 ghost use Rattle.pce_element.specs.Changes.{IsDraft};
 ghost use Rattle.pce_element.specs.Endings.{after, reached, failing};
 
 use crate::change::{Change, Draft};
 use crate::element::Element;
-use crate::messages::{busy, error_message, reply_message, unavailable};
 use crate::pinned::Row;
 use dom_base::{List, NoMemory, Peer};
+use member_parts::{busy, error_answer, has_pair};
+use pcep_codes::notices;
 use pcep_messages::{ErrorReport, Message, Notice};
 use plant_model::{Output, Outputs};
 use std::alloc::Global;
@@ -42,34 +41,6 @@ impl Ending {
         let to = row.key.peer;
         self.numbers.push(row.number)?;
         self.outputs.push(Output { to, message })
-    }
-}
-
-// Whether a pair of a type and a value is among others.
-fn has_pair(pairs: &[(u8, u8)], kind: u8, value: u8) -> bool
-    ensures { result ≡ has_pair kind value pairs.now }
-{
-    for pair in pairs {
-        if pair.0 == kind && pair.1 == value {
-            return true;
-        }
-    }
-    false
-}
-
-// What an error of the next tells the asker.
-fn error_answer(
-    alloc: Global,
-    error: (u8, u8),
-    flags: u32,
-    id: u32,
-) -> Result<Option<Message>, NoMemory>
-    ensures { IfOk result (λ message. option_to_list message ≡ error_answer error flags id) }
-{
-    match error {
-        (8, 0) => Ok(None),
-        (4, 4) | (13, 1) => Ok(Some(error_message(alloc, Some((flags, id)), 13, 1)?)),
-        _ => Ok(Some(reply_message(alloc, flags, id, unavailable())?)),
     }
 }
 
@@ -111,10 +82,10 @@ impl Element {
     ) -> Result<(), NoMemory>
         ensures { OnOk result (reached self.now.losing.element ending.new ≡ after (reached self.now.losing.element ending.old) (each (λ step. step peer rp) (notice_steps kinds.now))) }
     {
-        if has_pair(kinds, 1, 2) {
+        if has_pair(kinds, notices::BUSY) {
             self.take_busy(ending, peer, rp)?;
         }
-        if has_pair(kinds, 1, 1) {
+        if has_pair(kinds, notices::CANCELLED) {
             self.take_cancel(ending, peer, rp)?;
         }
         Ok(())

@@ -5,7 +5,7 @@ use Rattle.dom_base.specs.declared.names.Peer.{Peer}
 use Rattle.request_table.specs.Pending.{same_peer}
 use Rattle.plant_model.specs.Names.{same_id}
 use Rattle.plant_model.specs.Parent.{Wait, AskingRow, among, any_on, is_ready, ready_numbers}
-use Rattle.pce_parent.proofs.HeldPlaces.{dropped_at}
+use Rattle.member_parts.proofs.HeldPlaces.{dropped_at}
 
 pub dropped_next : {X : Type 0} (xs : List X) (k : ℕ) (x : X) → slice_get xs k ≡ Some x → drop k xs ≡ x ∷ drop (k + 1) xs
 dropped_next xs k x at_k = dropped_at xs k x at_k ∙ ap (λ (j : ℕ). x ∷ drop j xs) (let e : suc k ≡ k + 1 = omega arith in e)

@@ -6,12 +6,12 @@ ghost use Rattle.pce_parent.specs.Pendings.{row_of};
 ghost use Rattle.pce_parent.specs.Seen.{committed, job_at};
 
 use crate::change::{Change, Draft};
-use crate::messages::{code, no_path, reply_message};
 use crate::parent::Parent;
 use crate::pending::Row;
 use crate::plan::BorderPlan;
 use crate::solved::BorderSolved;
 use dom_base::{List, Metric, NoMemory, Tick, word_of_cost};
+use member_parts::{code, no_path, reply_message};
 use pcep_messages::{Answer, Path};
 use pcep_subobjects::append_hops;
 use plant_model::{Output, Outputs};
@@ -30,7 +30,7 @@ fn answer_of(alloc: Global, metric: Metric, solved: &BorderSolved) -> Result<Ans
     ensures { IfOk result (λ answer. answer ≡ answer_of metric solved.now.answer) }
 {
     let Some((cost, found)) = solved.answer() else {
-        return Ok(no_path());
+        return Ok(no_path(true, true));
     };
     let mut hops = List::new(alloc);
     append_hops(alloc, &mut hops, found)?;

@@ -2,7 +2,7 @@
 ghost use Rattle.std.specs.Prelude.{◌≡◌, ◌≤◌, ◌<◌, length, map, Some, IfOk, IfSome};
 ghost use Rattle.std.specs.List.{slice_index_or};
 ghost use Rattle.plant_model.specs.Element.{upped, down_of, next_lost_of};
-ghost use Rattle.pce_element.specs.Messages.{HasOnePart};
+ghost use Rattle.member_parts.specs.Messages.{HasOnePart};
 ghost use Rattle.plant_hierarchy.specs.Elements.{at_domain, no_one, own_of, IsFirstAt};
 ghost use Rattle.plant_hierarchy.specs.Becoming.{Becomes, BecomesAt, HasElement, taken_by, unchanged};
 

@@ -5,8 +5,7 @@ ghost use Rattle.plant_text.specs.Names.{same_as, parent_as};
 ghost use Rattle.plant_text.specs.Settings.{is_element};
 ghost use Rattle.plant_model.specs.Names.{set_as};
 ghost use Rattle.plant_members.specs.Membership.{fallen, lost_at, raised, with_element, with_parent, HandsOut};
-ghost use Rattle.pce_element.specs.Messages.{HasOnePart};
-ghost use Rattle.pce_parent.specs.Seen as above;
+ghost use Rattle.member_parts.specs.Messages.{HasOnePart};
 ghost use Rattle.plant_hierarchy.specs.Elements.{at_domain};
 ghost use Rattle.plant_hierarchy.specs.Tiers.{Become, Takes, lost_in, members_of, planned_below};
 
@@ -21,8 +20,7 @@ use plant_model::Lost;
 
 /// Whether a message has at most one request or reply.
 pub(crate) fn has_one_part(message: &Message) -> bool
-    ensures below { OnTrue result (HasOnePart message.now) }
-    ensures above { OnTrue result (above.HasOnePart message.now) }
+    ensures { OnTrue result (HasOnePart message.now) }
 {
     match message {
         Message::PcReq(asks) => asks.len() <= 1,
@@ -66,7 +64,7 @@ impl Hierarchy {
         now: Tick,
     ) -> Result<MemberPlan, NoMemory>
         requires above { same_as at parent_as ≡ true }
-        requires part { above.HasOnePart message }
+        requires part { HasOnePart message }
         ensures { Takes at peer now.0 message self.old result self.new }
     {
         Ok(MemberPlan::Parent(self.parent.take(peer, message, now)?))

@@ -18,7 +18,7 @@ use Rattle.plant_model.specs.Plant.{Pin, Plant, Segment, Happened, Happens, IsGi
 use Rattle.plant_model.specs.RealWire.{wire}
 use Rattle.plant_traffic.specs.Carried.{flow_of}
 use Rattle.plant_traffic.specs.Waiting.{IsAtMost, WaitsNext, ways}
-use Rattle.pce_element.proofs.RowLemmas.{in_cases, none_in}
+use Rattle.member_parts.proofs.HeldRows.{in_cases, none_in}
 use Rattle.pce_plant.specs.Held.{Held, whole}
 use Rattle.pce_plant.specs.Jobs.{CanSolve}
 use Rattle.pce_plant.specs.Whole.{Stepped, Whole}

@@ -1,6 +1,6 @@
 //! What an element says, message by message.
 ghost use Rattle.std.specs.Prelude.{◌≡◌, ◌≤◌, IfOk, IfSome, OnOk};
-ghost use Rattle.pce_element.specs.Messages.{HasOnePart};
+ghost use Rattle.member_parts.specs.Messages.{HasOnePart};
 
 mod endings;
 mod limits;

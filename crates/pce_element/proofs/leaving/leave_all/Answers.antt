@@ -9,7 +9,7 @@ use Rattle.plant_model.specs.Element.{Row, stays, is_lost, lost_of}
 use Rattle.plant_model.specs.Plant.{Pin}
 use Rattle.pce_element.specs.Pinned.{Pinned}
 use Rattle.pce_element.specs.Leaving.{with_rows}
-use Rattle.pce_element.proofs.PlaceLemmas.{all_taken, nothing_dropped}
+use Rattle.member_parts.proofs.HeldPlaces.{all_taken, nothing_dropped}
 use Rattle.pce_element.proofs.LeaveLemmas.{turned, stays_told, drops_told, loses_told}
 use Rattle.pce_element.proofs.leaving.leave_all.Goals as goal
 use Rattle.pce_element.proofs.leaving.leave_all.Goals.{in-Stays, in-Drops, in-Loses+in-Ok}

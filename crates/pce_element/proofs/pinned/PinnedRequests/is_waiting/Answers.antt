@@ -2,7 +2,7 @@ use Rattle.std.proofs.Common.{◌∙◌, sym, ap, arith, List}
 use Rattle.plant_model.specs.Element.{Row, is_waiting}
 use Rattle.plant_model.specs.Plant.{Pin}
 use Rattle.pce_element.specs.Rows.{row_of}
-use Rattle.pce_element.proofs.PlaceLemmas.{nothing_dropped}
+use Rattle.member_parts.proofs.HeldPlaces.{nothing_dropped}
 use Rattle.pce_element.proofs.SearchLemmas.{is_waiting_here, is_waiting_later}
 use Rattle.pce_element.proofs.pinned.PinnedRequests.is_waiting.Goals as goal
 

@@ -1,5 +1,5 @@
 use Rattle.std.proofs.Common.{◌∙◌, sym}
-use Rattle.pce_element.proofs.PlaceLemmas.{no_key_none, row_at}
+use Rattle.member_parts.proofs.HeldPlaces.{no_key_none, row_at}
 use Rattle.pce_element.proofs.pinned.PinnedRequests.row.Goals as goal
 
 pub unreachable-requires : goal.unreachable-requires

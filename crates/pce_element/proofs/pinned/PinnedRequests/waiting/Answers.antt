@@ -2,7 +2,7 @@ use Rattle.std.proofs.Common.{◌∙◌, ◌≤◌, List, length, arith, sym, ap
 use Rattle.plant_model.specs.Element.{Row, waiting}
 use Rattle.plant_model.specs.Plant.{Pin}
 use Rattle.pce_element.specs.Rows.{row_of}
-use Rattle.pce_element.proofs.PlaceLemmas.{listed_at, nothing_dropped}
+use Rattle.member_parts.proofs.HeldPlaces.{listed_at, nothing_dropped}
 use Rattle.pce_element.proofs.ReadyLemmas.{waits_yet}
 use Rattle.pce_element.proofs.SearchLemmas.{closed_rows, has_ended, left_of, waits_here, waits_not}
 use Rattle.pce_element.proofs.pinned.PinnedRequests.waiting.Goals as goal
