@@ -14,7 +14,7 @@ use Rattle.pce_element.specs.declared.pinned.Leaves.TheVariants.{Stays, Drops, L
 use Rattle.pce_element.specs.Pinned.{Pinned}
 use Rattle.pce_element.specs.Leaving.{leaves_of, with_rows, SameButSpare, LeavesAt}
 use Rattle.member_parts.proofs.HeldPlaces.{split_at, taken_at, removed_at, kept_step, kept_length}
-use Rattle.pce_element.proofs.ScanLemmas.{there_is}
+use Rattle.member_parts.proofs.Scans.{there_is}
 
 abbrev left : Peer → ℕ → List (Row Pin) → Row Pin → List (Row Pin)
 left p k rows h = take k rows ++ cond (stays p h) (h ∷ []) [] ++ drop (suc k) rows

@@ -1,5 +1,4 @@
 pub mod PinLemmas
-pub mod ScanLemmas
 pub mod KeySteps
 pub mod CloseLemmas
 pub mod ReadyLemmas

@@ -11,7 +11,7 @@ use Rattle.request_table.proofs.PendingLemmas.{NumbersRise-remove}
 use Rattle.plant_model.specs.Element.{Item, Row, after_id, is_waiting, pass_over, waiting, waits_for}
 use Rattle.plant_model.specs.Plant.{Pin, has_number}
 use Rattle.pce_element.specs.Changes.{all_closed}
-use Rattle.pce_element.proofs.ScanLemmas.{dropped_next, there_is}
+use Rattle.member_parts.proofs.Scans.{dropped_next, there_is}
 
 -- those that have not ended
 abbrev pub left_of : List ℕ → List (Row Pin) → List (Row Pin)

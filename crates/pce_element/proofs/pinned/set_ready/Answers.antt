@@ -5,7 +5,7 @@ use Rattle.request_table.specs.Lends.{written_of}
 use Rattle.plant_model.specs.Element.{Item}
 use Rattle.plant_model.specs.Plant.{Pin}
 use Rattle.pce_element.proofs.ReadyLemmas.{readied_is}
-use Rattle.pce_element.proofs.ScanLemmas.{on_some}
+use Rattle.member_parts.proofs.Scans.{on_some}
 use Rattle.pce_element.proofs.pinned.set_ready.Goals as goal
 
 pub returns-in-Some-clause-kept : goal.returns-in-Some-clause-kept

@@ -3,7 +3,7 @@ use Rattle.request_table.specs.Pending.{same_peer}
 use Rattle.plant_model.specs.Element.{Row}
 use Rattle.plant_model.specs.Plant.{Pin}
 use Rattle.pce_element.specs.Rows.{row_of}
-use Rattle.pce_element.proofs.ScanLemmas.{tally_next}
+use Rattle.member_parts.proofs.Scans.{tally_next}
 use Rattle.pce_element.proofs.pinned.PinnedRequests.owed.Goals as goal
 use Rattle.pce_element.proofs.pinned.PinnedRequests.owed.Goals.{then-is_same_peer, else-is_same_peer}
 
