@@ -14,7 +14,7 @@ use Rattle.pce_parent.specs.Soughts.{is_sought, first_sought, without_these}
 use Rattle.pce_parent.specs.Changes.{all_closed}
 use Rattle.pce_parent.specs.Pendings.{with_rows}
 use Rattle.member_parts.proofs.HeldPlaces.{taken_at}
-use Rattle.pce_parent.proofs.ScanLaws.{dropped_next}
+use Rattle.member_parts.proofs.Scans.{dropped_next}
 
 -- ---- what is sought
 

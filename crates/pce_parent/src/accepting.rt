@@ -11,8 +11,8 @@ use crate::change::{Change, Draft};
 use crate::errands::errands;
 use crate::parent::Parent;
 use crate::sending::{Sending, send_all};
-use dom_base::{As, List, NoMemory, Peer};
-use member_parts::{busy, error_message, no_key, reply_message, unavailable};
+use dom_base::{As, NoMemory, Peer};
+use member_parts::{busy, error_message, no_key, one, reply_message, unavailable};
 use pcep_messages::{Asked, Message, Refusal, Request, Wanted, Wish, request_of};
 use plant_model::{Output, PARENT_PENDING_MAX};
 
@@ -21,11 +21,9 @@ impl Parent {
     pub(crate) fn says(&self, to: Peer, message: Message) -> Result<Draft, NoMemory>
         ensures { IfOk result (IsDraft self.now (only to message self.now.losing.parent)) }
     {
-        let mut outputs = List::new(self.alloc);
-        outputs.push(Output { to, message })?;
         Ok(Draft {
             change: Change::Nothing,
-            outputs,
+            outputs: one(self.alloc, Output { to, message })?,
         })
     }
 
