@@ -5,9 +5,10 @@ ghost use Rattle.plant_model.specs.Taking.{notice_steps, take_busy, take_cancel,
 ghost use Rattle.pce_element.specs.Changes.{IsDraft};
 ghost use Rattle.pce_element.specs.Endings.{after, reached, failing};
 
-use crate::change::{Change, Draft};
+use crate::change::{Change, Draft, DraftIn};
 use crate::element::Element;
 use crate::pinned::Row;
+use crate::world::World;
 use dom_base::{List, NoMemory, Peer};
 use member_parts::{busy, error_answer, has_pair};
 use pcep_codes::notices;
@@ -34,7 +35,7 @@ impl Ending {
     }
 
     // The asker of a request gets an answer, and the request ends.
-    fn answer(&mut self, row: &Row<'_>, message: Message) -> Result<(), NoMemory>
+    fn answer<P: Drop>(&mut self, row: &Row<'_, P>, message: Message) -> Result<(), NoMemory>
         ensures numbers { OnOk result (self.new.numbers ≡ self.old.numbers ++ row.now.number ∷ []) }
         ensures outputs { OnOk result (self.new.outputs ≡ self.old.outputs ++ (record { to = row.now.key.peer; message = message }) ∷ []) }
     {
@@ -44,7 +45,7 @@ impl Ending {
     }
 }
 
-impl Element {
+impl<W: World> Element<W> {
     // The next has no room for a request.
     fn take_busy(&self, ending: &mut Ending, peer: Peer, rp: (u32, u32)) -> Result<(), NoMemory>
         ensures { OnOk result (reached self.now.losing.element ending.new ≡ after (reached self.now.losing.element ending.old) (take_busy peer rp)) }
@@ -101,7 +102,11 @@ impl Element {
     }
 
     /// Notices of a peer.
-    pub(crate) fn take_notices(&self, peer: Peer, notices: &[Notice]) -> Result<Draft, NoMemory>
+    pub(crate) fn take_notices(
+        &self,
+        peer: Peer,
+        notices: &[Notice],
+    ) -> Result<DraftIn<W>, NoMemory>
         ensures { IfOk result (IsDraft self.now (each (take_notice peer) notices.now self.now.losing.element)) }
     {
         let mut ending = Ending::new(self.alloc);
@@ -158,7 +163,7 @@ impl Element {
         &self,
         peer: Peer,
         reports: &[ErrorReport],
-    ) -> Result<Draft, NoMemory>
+    ) -> Result<DraftIn<W>, NoMemory>
         ensures { IfOk result (IsDraft self.now (each (take_report peer) reports.now self.now.losing.element)) }
     {
         let mut ending = Ending::new(self.alloc);
