@@ -9,3 +9,5 @@ pub mod AskLemmas
 pub mod EntryLemmas
 pub mod CommitLemmas
 pub mod LastingLemmas
+pub mod JoinLemmas
+pub mod BlindLemmas

@@ -14,6 +14,7 @@ pub struct Blind;
 
 impl World for Blind {
     ghost use Rattle.plant_model.specs.Blind.{show_nothing};
+    ghost use Rattle.pce_element.specs.Blind.{stands_for_nothing};
 
     type Pin = ();
 
@@ -27,7 +28,7 @@ impl World for Blind {
 
     ghost Keeps = { λ world pins. Unit {0} };
 
-    ghost stands = { λ best. tt };
+    ghost stands = { stands_for_nothing };
 
     ghost show = { show_nothing };
 

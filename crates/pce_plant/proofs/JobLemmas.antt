@@ -25,7 +25,7 @@ use Rattle.plant_model.specs.Settings.{family}
 use Rattle.plant_members.specs.Membership.{Membership}
 use Rattle.pce_element.specs.Committing.{IsOwnJob}
 use Rattle.pce_element.specs.Jobs as element
-use Rattle.pce_element.specs.Seen.{Seen}
+use Rattle.plant_hierarchy.specs.Seen.{Seen}
 use Rattle.pce_parent.specs.Seen.{job_when}
 use Rattle.pce_parent.specs.Solution.{BorderSolution}
 use Rattle.pce_parent.specs.declared.work.Done.{Done}

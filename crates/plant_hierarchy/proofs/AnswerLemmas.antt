@@ -21,10 +21,9 @@ use Rattle.plant_model.specs.RealWire.{wire}
 use Rattle.plant_model.specs.Settings.{family, place}
 use Rattle.plant_model.specs.Solving.{commit}
 use Rattle.plant_members.specs.Membership.{Membership, Replied, with_element, with_parent}
-use Rattle.pce_element.specs.Committing.{IsOwnJob, commit_held, commit_row, commit_stage, committed}
+use Rattle.pce_element.specs.Committing.{IsOwnJob, commit_held, commit_solved, commit_stage, committed}
 use Rattle.pce_element.specs.Jobs.{Work, job_at, work_for, work_at}
-use Rattle.pce_element.specs.Plans.{Planned}
-use Rattle.pce_element.specs.Seen.{Seen}
+use Rattle.plant_hierarchy.specs.Seen.{Planned, Seen}
 use Rattle.pce_element.specs.declared.committing.CommitError.{CommitError}
 use Rattle.pce_element.specs.declared.committing.CommitError.TheVariants as commit_error
 use Rattle.pce_parent.specs.Plans.{Planned as BorderPlanned}
@@ -51,7 +50,7 @@ record IsAnswered (s : Seen) (x : Solution) (now : ℕ) (taken : Taken Pin Segme
   found : lookup (nat_eq x.ask.number) s.losing.element.pending.rows ≡ Some held
   down : List Branch
   ready : held.item.stage ≡ Ready down
-  is : taken ≡ commit_row s x now (x.ask.number, held) down
+  is : taken ≡ commit_solved s x now (x.ask.number, held) down
 
 is_answered : (s : Seen) (x : Solution) (now : ℕ) (taken : Taken Pin Segment) → committed s x now ≡ Some taken → IsAnswered s x now taken
 is_answered s x now taken is = go (lookup (nat_eq x.ask.number) s.losing.element.pending.rows) refl is
@@ -64,7 +63,7 @@ is_answered s x now taken is = go (lookup (nat_eq x.ask.number) s.losing.element
 
     at_stage : (h : Held (Item Pin)) → lookup (nat_eq x.ask.number) s.losing.element.pending.rows ≡ Some h → (stage : Stage) → h.item.stage ≡ stage → commit_stage s x now (x.ask.number, h) stage ≡ Some taken → IsAnswered s x now taken
     at_stage h found (Waits on id) stands e = absurd (none_some e)
-    at_stage h found (Ready down) stands e = record { held = h; found = found; down = down; ready = stands; is = sym (some_one (commit_row s x now (x.ask.number, h) down) taken e) }
+    at_stage h found (Ready down) stands e = record { held = h; found = found; down = down; ready = stands; is = sym (some_one (commit_solved s x now (x.ask.number, h) down) taken e) }
 
     go : (o : Option (Held (Item Pin))) → lookup (nat_eq x.ask.number) s.losing.element.pending.rows ≡ o → commit_held s x now x.ask.number o ≡ Some taken → IsAnswered s x now taken
     go None found e = absurd (none_some e)

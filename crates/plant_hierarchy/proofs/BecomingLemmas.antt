@@ -7,7 +7,7 @@ use Rattle.plant_text.specs.declared.settings.NetworkParts.{NetworkParts}
 use Rattle.plant_model.specs.Names.{set_as}
 use Rattle.plant_model.specs.Element.{Element}
 use Rattle.plant_model.specs.Plant.{Pin, Segment}
-use Rattle.pce_element.specs.Seen.{Seen}
+use Rattle.plant_hierarchy.specs.Seen.{Seen}
 use Rattle.plant_hierarchy.specs.Elements.{own_of, at_domain, no_one, elements_in, current_or, current_in, IsFirstAt, IsNowhere}
 use Rattle.plant_hierarchy.specs.Becoming.{Course, Becomes, BecomesAt, HasElement}
 use Rattle.plant_hierarchy.proofs.DomainLemmas.{first_own, at_first, at_nowhere, set_first, owns_set, elements_with, currents_with, set_again}

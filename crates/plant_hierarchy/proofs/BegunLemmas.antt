@@ -11,7 +11,7 @@ use Rattle.plant_model.specs.Parent as parent
 use Rattle.plant_model.specs.Settings.{family, place}
 use Rattle.plant_model.specs.Plant.{Pin, Segment}
 use Rattle.plant_members.specs.Membership.{Membership}
-use Rattle.pce_element.specs.Seen.{Seen}
+use Rattle.plant_hierarchy.specs.Seen.{Seen}
 use Rattle.pce_parent.specs.Seen as above
 use Rattle.plant_hierarchy.specs.Elements.{own_of, at_domain}
 use Rattle.plant_hierarchy.specs.Fresh.{AreNew, begun}

@@ -4,7 +4,7 @@ use Rattle.std.specs.Option.{option_map}
 use Rattle.dom_base.specs.declared.names.As.{As}
 use Rattle.plant_text.specs.Settings.{elements_of}
 use Rattle.plant_model.specs.Plant.{Pin}
-use Rattle.pce_element.specs.Seen.{Seen}
+use Rattle.plant_hierarchy.specs.Seen.{Seen}
 use Rattle.plant_hierarchy.specs.Current.{IsCurrent}
 use Rattle.plant_hierarchy.specs.Elements.{at_domain, current_or, own_of}
 use Rattle.plant_hierarchy.specs.Tiers.{Tiers, members_of}

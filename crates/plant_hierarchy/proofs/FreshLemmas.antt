@@ -14,13 +14,14 @@ use Rattle.plant_model.specs.Settings.{place, place_from}
 use Rattle.plant_model.specs.Plant.{Pin, Segment, first_pin}
 use Rattle.plant_layout.specs.Lines.{others}
 use Rattle.plant_layout.proofs.LineLemmas.{ways_to_others}
-use Rattle.pce_element.specs.Seen.{Seen, IsNew}
+use Rattle.pce_element.specs.Seen.{IsNew}
+use Rattle.plant_hierarchy.specs.Seen.{Seen}
 use Rattle.plant_hierarchy.specs.declared.fresh.Figures.{Figures}
 use Rattle.plant_hierarchy.specs.Elements.{own_of, at_domain, nobody, element_or, elements_in, current_or, current_in}
 use Rattle.plant_hierarchy.specs.Fresh.{AreNew, LivesFit, figures_from}
 use Rattle.plant_hierarchy.proofs.DomainLemmas.{same_as_is}
 
-pub one_more : (n : NetworkParts) (ds : List As) (es : List Seen) (d : As) (e : Seen) → AreNew n ds es → IsNew (place n d) (life n d) (others d (lines n)) e → AreNew n (ds ++ d ∷ []) (es ++ e ∷ [])
+pub one_more : (n : NetworkParts) (ds : List As) (es : List Seen) (d : As) (e : Seen) → AreNew n ds es → IsNew first_pin (place n d) (life n d) (others d (lines n)) e → AreNew n (ds ++ d ∷ []) (es ++ e ∷ [])
 one_more n [] [] d e are new = (new, tt)
 one_more n [] (x ∷ es) d e are new = absurd are
 one_more n (a ∷ ds) [] d e are new = absurd are
@@ -38,7 +39,7 @@ life_is (Some r) = refl
 pub own_place : (n : NetworkParts) (d : As) → (place n d).own ≡ d
 own_place n d = ap (λ (p : Place). p.own) (place_is n d (row_of d n.elements))
 
-pub own_new : (n : NetworkParts) (d : As) (e : Seen) → IsNew (place n d) (life n d) (others d (lines n)) e → own_of e ≡ d
+pub own_new : (n : NetworkParts) (d : As) (e : Seen) → IsNew first_pin (place n d) (life n d) (others d (lines n)) e → own_of e ≡ d
 own_new n d e new = ap own_of new ∙ own_place n d
 
 pub owns_new : (n : NetworkParts) (ds : List As) (es : List Seen) → AreNew n ds es → map own_of es ≡ ds
@@ -84,11 +85,11 @@ told_of d f deny = record { own = d; id = f.id; parent = f.parent; deny = deny }
 
 pub new_for : (n : NetworkParts) (d : As) (f : Figures) (deny : List Deny) (links : List As) (r : Result Seen NoMemory) →
     f ≡ figures_from (row_of d n.elements) → deny ≡ deny_at d n.deny → links ≡ others d (lines n) →
-    IfOk r (IsNew (told_of d f deny) f.key_life links) → IfOk r (IsNew (place n d) (life n d) (others d (lines n)))
+    IfOk r (IsNew first_pin (told_of d f deny) f.key_life links) → IfOk r (IsNew first_pin (place n d) (life n d) (others d (lines n)))
 new_for n d f deny links r fs ds ls ok =
-    subst (λ (l : List As). IfOk r (IsNew (place n d) (life n d) l)) ls
-    (subst (λ (p : Place). IfOk r (IsNew p (life n d) links)) (same ∙ sym (place_is n d (row_of d n.elements)))
-    (subst (λ (k : ℕ). IfOk r (IsNew (told_of d f deny) k links)) (ap (λ (x : Figures). x.key_life) fs ∙ sym (life_is (row_of d n.elements))) ok))
+    subst (λ (l : List As). IfOk r (IsNew first_pin (place n d) (life n d) l)) ls
+    (subst (λ (p : Place). IfOk r (IsNew first_pin p (life n d) links)) (same ∙ sym (place_is n d (row_of d n.elements)))
+    (subst (λ (k : ℕ). IfOk r (IsNew first_pin (told_of d f deny) k links)) (ap (λ (x : Figures). x.key_life) fs ∙ sym (life_is (row_of d n.elements))) ok))
   where
     same : told_of d f deny ≡ told_of d (figures_from (row_of d n.elements)) (deny_at d n.deny)
     same = ap (λ (x : Figures). told_of d x deny) fs ∙ ap (told_of d (figures_from (row_of d n.elements))) ds
@@ -100,7 +101,7 @@ pub life_most : (n : NetworkParts) (d : As) (f : Figures) → f ≡ figures_from
 life_most n d f fs fit = subst (λ (k : ℕ). k ≤ 3600) (life_is (row_of d n.elements) ∙ sym (ap (λ (x : Figures). x.key_life) fs)) (fit.most d)
 
 pub take_more : (n : NetworkParts) (ds : List As) (i : ℕ) (x : As) (es : List Seen) (e : Seen) → i < length ds → AreNew n (take i ds) es →
-    IsNew (place n (get_or ds i x)) (life n (get_or ds i x)) (others (get_or ds i x) (lines n)) e → AreNew n (take (suc i) ds) (es ++ e ∷ [])
+    IsNew first_pin (place n (get_or ds i x)) (life n (get_or ds i x)) (others (get_or ds i x) (lines n)) e → AreNew n (take (suc i) ds) (es ++ e ∷ [])
 take_more n [] i x es e inside are new = absurd (omega arith)
 take_more n (a ∷ ds) zero x [] e inside are new = (new, tt)
 take_more n (a ∷ ds) zero x (y ∷ es) e inside are new = absurd are

@@ -14,7 +14,7 @@ use Rattle.plant_model.specs.Wire.{Codec}
 use Rattle.plant_model.specs.Element.{Element}
 use Rattle.plant_model.specs.State.{Loads}
 use Rattle.plant_model.specs.Plant.{Pin, Segment, Plant, Happened, Steps, load, refused, is_full}
-use Rattle.pce_element.specs.Seen.{Seen}
+use Rattle.plant_hierarchy.specs.Seen.{Seen}
 use Rattle.plant_hierarchy.specs.Elements.{own_of, at_domain, with_seen, element_or, elements_in, current_or, current_in, loaded, LoadsElement, LoadsAt}
 use Rattle.plant_hierarchy.specs.Loading.{answer_of, deeds_of, with_elements}
 use Rattle.plant_hierarchy.proofs.DomainLemmas.{same_as_is, currents_with, elements_with, set_again}

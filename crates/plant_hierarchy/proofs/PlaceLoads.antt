@@ -7,7 +7,7 @@ use Rattle.te_generations.specs.declared.generations.LoadError.{LoadError}
 use Rattle.te_generations.specs.declared.generations.LoadError.TheVariants as load_error
 use Rattle.plant_model.specs.declared.outcome.Refused.{Refused}
 use Rattle.plant_model.specs.declared.outcome.Refused.TheVariants.{GenerationsFull, NoMemory}
-use Rattle.pce_element.specs.Seen.{Seen}
+use Rattle.plant_hierarchy.specs.Seen.{Seen}
 use Rattle.plant_hierarchy.specs.Elements.{own_of, at_domain, no_one, told, IsFirstAt, LoadsAt, LoadsElement, LoadsPlace}
 use Rattle.plant_hierarchy.proofs.DomainLemmas.{first_own, at_first, set_first, owns_set}
 

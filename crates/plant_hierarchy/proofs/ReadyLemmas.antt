@@ -4,7 +4,7 @@ use Rattle.std.specs.Prelude.{slice_get}
 use Rattle.dom_base.specs.declared.names.As.{As}
 use Rattle.plant_model.specs.Element.{ready_numbers}
 use Rattle.plant_model.specs.Events.{jobs_at}
-use Rattle.pce_element.specs.Seen.{Seen}
+use Rattle.plant_hierarchy.specs.Seen.{Seen}
 use Rattle.plant_hierarchy.specs.Elements.{own_of}
 use Rattle.plant_hierarchy.specs.Ready.{jobs_in}
 

@@ -8,7 +8,7 @@ use Rattle.plant_text.specs.declared.settings.NetworkParts.{NetworkParts}
 use Rattle.plant_text.specs.declared.settings.ElementRow.{ElementRow}
 use Rattle.plant_text.specs.Names.{same_as, insert_as}
 use Rattle.plant_text.specs.Settings.{children_of, elements_of, is_element, row_of}
-use Rattle.pce_element.specs.Seen.{Seen}
+use Rattle.plant_hierarchy.specs.Seen.{Seen}
 use Rattle.plant_hierarchy.specs.Elements.{own_of, at_domain}
 use Rattle.plant_hierarchy.proofs.DomainLemmas.{same_as_is, as_self}
 

@@ -19,8 +19,7 @@ use Rattle.plant_model.specs.Taking.{take}
 use Rattle.plant_model.specs.Plant.{Pin, Segment}
 use Rattle.plant_members.specs.Membership.{Membership, Replied, given, is_member, raised, fallen, lost_at, with_element, with_parent, HandsOut}
 use Rattle.plant_members.specs.Owed.{count_by_asker, is_peer, owed}
-use Rattle.pce_element.specs.Plans.{Planned}
-use Rattle.pce_element.specs.Seen.{Seen}
+use Rattle.plant_hierarchy.specs.Seen.{Planned, Seen}
 use Rattle.pce_parent.specs.Plans as border
 use Rattle.pce_parent.specs.Seen as above
 use Rattle.plant_hierarchy.specs.Elements.{at_domain, element_or, current_or}

@@ -10,7 +10,8 @@ use Rattle.plant_model.specs.Plant.{Pin, Segment}
 use Rattle.plant_model.specs.Settings.{place}
 use Rattle.plant_members.specs.Membership.{Membership, KeysBefore, expired}
 use Rattle.plant_members.specs.Owed.{pending_at}
-use Rattle.pce_element.specs.Seen.{Seen, SameButRoom, with_losing}
+use Rattle.pce_element.specs.Seen.{SameButRoom, with_losing}
+use Rattle.plant_hierarchy.specs.Seen.{Seen}
 use Rattle.plant_hierarchy.specs.Elements.{own_of, at_domain, no_one, element_or, elements_in, current_or}
 use Rattle.plant_hierarchy.specs.Becoming.{AreBefore, AreTicked, BecomesAt, TickedTo, all_pending, ticked_by}
 use Rattle.plant_hierarchy.specs.Tiers.{Tiers, ArePlaced, AreSet, Become, members_of, lost_in, lost_or}

@@ -12,7 +12,7 @@ use Rattle.plant_model.specs.Parent as parent
 use Rattle.plant_model.specs.Settings.{place}
 use Rattle.plant_model.specs.Plant.{Pin, Segment}
 use Rattle.plant_members.specs.Membership.{Membership, with_element, with_parent}
-use Rattle.pce_element.specs.Seen.{Seen}
+use Rattle.plant_hierarchy.specs.Seen.{Seen}
 use Rattle.pce_parent.specs.Seen as above
 use Rattle.plant_hierarchy.specs.Elements.{own_of, at_domain, with_seen, element_or, elements_in}
 use Rattle.plant_hierarchy.specs.Becoming.{Course, Becomes}

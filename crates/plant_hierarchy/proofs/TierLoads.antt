@@ -14,7 +14,8 @@ use Rattle.plant_model.specs.Plant.{Pin, Segment, Plant}
 use Rattle.plant_model.specs.RealWire.{wire}
 use Rattle.plant_model.specs.Settings.{place}
 use Rattle.plant_model.specs.Element as element
-use Rattle.pce_element.specs.Seen.{Seen, SameButRoom}
+use Rattle.pce_element.specs.Seen.{SameButRoom}
+use Rattle.plant_hierarchy.specs.Seen.{Seen}
 use Rattle.plant_hierarchy.specs.Elements.{own_of, at_domain, with_seen, element_or, elements_in, loaded, LoadsAt, LoadsElement}
 use Rattle.plant_hierarchy.specs.Loading.{Loads}
 use Rattle.plant_hierarchy.specs.Ready.{jobs_in}

@@ -22,8 +22,7 @@ use Rattle.plant_model.specs.Settings.{family, place}
 use Rattle.plant_model.specs.Solving.{commit}
 use Rattle.plant_members.specs.Membership.{Membership, Replied, with_element, with_parent}
 use Rattle.pce_element.specs.Committing.{IsOwnJob}
-use Rattle.pce_element.specs.Plans.{Planned}
-use Rattle.pce_element.specs.Seen.{Seen}
+use Rattle.plant_hierarchy.specs.Seen.{Planned, Seen}
 use Rattle.pce_element.specs.declared.committing.CommitError.{CommitError}
 use Rattle.pce_element.specs.declared.committing.CommitError.TheVariants as commit_error
 use Rattle.pce_element.specs.Jobs as element

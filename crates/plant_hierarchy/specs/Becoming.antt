@@ -11,7 +11,8 @@ use Rattle.plant_model.specs.Element.{Losing, Taken, ticked}
 use Rattle.plant_model.specs.Plant.{Pin, Segment}
 use Rattle.plant_model.specs.RealWire.{wire}
 use Rattle.plant_model.specs.Taking.{take}
-use Rattle.pce_element.specs.Seen.{Seen, SameButRoom, with_losing}
+use Rattle.pce_element.specs.Seen.{SameButRoom, with_losing}
+use Rattle.plant_hierarchy.specs.Seen.{Seen}
 use Rattle.plant_hierarchy.specs.Elements.{at_domain, with_seen, no_one}
 
 -- what becomes of an element and its lost requests

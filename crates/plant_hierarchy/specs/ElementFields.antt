@@ -1,6 +1,6 @@
 -- What the elements are, by their fields.
 use Rattle.std.specs.Prelude.{◌≡◌, List, map}
-use Rattle.pce_element.specs.Seen.{Seen}
+use Rattle.plant_hierarchy.specs.Seen.{Seen}
 use Rattle.plant_hierarchy.specs.Elements.{own_of}
 use Rattle.plant_hierarchy.specs.declared.elements.Elements.TheInside.{Inside}
 

@@ -14,7 +14,8 @@ use Rattle.plant_model.specs.declared.outcome.Refused.TheVariants.{NoSuchPeer, G
 use Rattle.plant_model.specs.Settings.{ways}
 use Rattle.plant_model.specs.Element.{Element}
 use Rattle.plant_model.specs.Plant.{Pin, Segment, first_pin, is_full}
-use Rattle.pce_element.specs.Seen.{Seen, SameButRoom, new_element, with_current}
+use Rattle.pce_element.specs.Seen.{SameButRoom, new_element, with_current}
+use Rattle.plant_hierarchy.specs.Seen.{Seen}
 
 abbrev pub own_of : Seen → As
 own_of e = e.place.own

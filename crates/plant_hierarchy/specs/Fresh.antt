@@ -13,7 +13,8 @@ use Rattle.plant_model.specs.RealWire.{wire}
 use Rattle.plant_model.specs.Settings.{place}
 use Rattle.plant_members.specs.Membership.{Membership}
 use Rattle.plant_layout.specs.Lines.{others}
-use Rattle.pce_element.specs.Seen.{Seen, IsNew}
+use Rattle.pce_element.specs.Seen.{IsNew}
+use Rattle.plant_hierarchy.specs.Seen.{Seen}
 use Rattle.plant_hierarchy.specs.declared.fresh.Figures.{Figures}
 
 -- an element for each of these domains, without requests, keys and topology
@@ -21,7 +22,7 @@ abbrev pub AreNew : NetworkParts → List As → List Seen → Type 0
 AreNew n [] [] = Unit {0}
 AreNew n [] (e ∷ es) = ⊥
 AreNew n (d ∷ ds) [] = ⊥
-AreNew n (d ∷ ds) (e ∷ es) = IsNew (place n d) (life n d) (others d (lines n)) e × AreNew n ds es
+AreNew n (d ∷ ds) (e ∷ es) = IsNew first_pin (place n d) (life n d) (others d (lines n)) e × AreNew n ds es
 
 -- how long the keys of each element live
 pub record LivesFit (n : NetworkParts) : Type 0 where

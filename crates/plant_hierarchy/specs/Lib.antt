@@ -1,4 +1,5 @@
 -- for readers
+pub mod Seen
 pub mod Elements
 pub mod Becoming
 pub mod Tiers

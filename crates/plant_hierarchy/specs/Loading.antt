@@ -11,7 +11,7 @@ use Rattle.plant_model.specs.RealWire.{wire}
 use Rattle.plant_model.specs.State as deeds
 use Rattle.plant_model.specs.Plant.{Pin, Segment, Plant, PlantDeed, Steps}
 use Rattle.plant_members.specs.Membership.{Membership}
-use Rattle.pce_element.specs.Seen.{Seen}
+use Rattle.plant_hierarchy.specs.Seen.{Seen}
 use Rattle.plant_hierarchy.specs.Elements.{elements_in, current_in}
 use Rattle.plant_hierarchy.specs.Tiers.{Tiers, lost_in, members_of}
 

@@ -3,7 +3,7 @@ use Rattle.std.specs.Prelude.{ℕ, List, [], ◌∷◌, ◌++◌, Option, Some, 
 use Rattle.dom_base.specs.declared.names.As.{As}
 use Rattle.plant_model.specs.Element.{ready_numbers}
 use Rattle.plant_model.specs.Events.{jobs_at}
-use Rattle.pce_element.specs.Seen.{Seen}
+use Rattle.plant_hierarchy.specs.Seen.{Seen}
 use Rattle.pce_element.specs.Jobs.{Work, job_at}
 use Rattle.plant_hierarchy.specs.Elements.{own_of}
 

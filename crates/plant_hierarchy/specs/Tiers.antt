@@ -14,8 +14,7 @@ use Rattle.plant_model.specs.Settings.{place, family}
 use Rattle.plant_model.specs.RealWire.{wire}
 use Rattle.plant_model.specs.Plant.{Pin, Segment}
 use Rattle.plant_members.specs.Membership.{Membership, given, with_element, with_parent}
-use Rattle.pce_element.specs.Plans.{Planned}
-use Rattle.pce_element.specs.Seen.{Seen}
+use Rattle.plant_hierarchy.specs.Seen.{Planned, Seen}
 use Rattle.pce_parent.specs.Seen as above
 use Rattle.plant_hierarchy.specs.Elements.{at_domain, elements_in, current_in, own_of}
 use Rattle.plant_hierarchy.specs.declared.plan.MemberPlan.{MemberPlan}

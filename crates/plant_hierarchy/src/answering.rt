@@ -16,7 +16,7 @@ use crate::hierarchy::{Hierarchy, is_parent};
 use crate::plan::MemberPlan;
 use border_costs::Solved;
 use dom_base::{As, Tick};
-use pce_element::{CommitError, Element, Plan};
+use pce_element::{CommitError, Element, Plan, Topologies};
 use pce_parent::{BorderPlan, BorderSolved, Done, ParentCommitError};
 use plant_model::Refused;
 
@@ -28,11 +28,11 @@ pub struct Unanswered {
 }
 
 fn commit_at(
-    items: &mut Vec<Element>,
+    items: &mut Vec<Element<Topologies>>,
     i: usize,
     solved: Solved,
     now: Tick,
-) -> Result<Plan, CommitError>
+) -> Result<Plan<Topologies>, CommitError>
     requires within { i < length items.old.items }
     requires clock { (slice_index_or items.old.items i no_one).losing.element.keys.clock ≤ now.0 }
     requires own { IsOwnJob (slice_index_or items.old.items i no_one) solved }
@@ -47,7 +47,7 @@ fn commit_at(
 }
 
 // What is told of an element's answer.
-fn told_below(at: As, answer: Result<Plan, CommitError>) -> Result<MemberPlan, Unanswered>
+fn told_below(at: As, answer: Result<Plan<Topologies>, CommitError>) -> Result<MemberPlan, Unanswered>
     ensures { result ≡ told_below at answer }
 {
     match answer {
@@ -82,7 +82,7 @@ fn told_above(answer: Result<BorderPlan, ParentCommitError>) -> Result<MemberPla
 
 impl Elements {
     /// Plans the answer to a job of the element of a domain that was solved.
-    pub fn commit(&mut self, at: As, solved: Solved, now: Tick) -> Result<Plan, CommitError>
+    pub fn commit(&mut self, at: As, solved: Solved, now: Tick) -> Result<Plan<Topologies>, CommitError>
         requires there { HasElement at self.old }
         requires clock { IfSome (at_domain at self.old) (λ e. e.losing.element.keys.clock ≤ now.0) }
         requires own { IfSome (at_domain at self.old) (λ e. IsOwnJob e solved) }

@@ -9,18 +9,18 @@ ghost use Rattle.plant_hierarchy.specs.Becoming.{Becomes, BecomesAt, HasElement,
 use crate::elements::{Elements, place_of};
 use disclosure::Class;
 use dom_base::{As, NoMemory, Peer, Tick};
-use pce_element::{Element, Plan};
+use pce_element::{Element, Plan, Topologies};
 use pcep_messages::Message;
 use plant_model::Lost;
 
 fn take_at(
-    items: &mut Vec<Element>,
+    items: &mut Vec<Element<Topologies>>,
     i: usize,
     peer: Peer,
     class: Class,
     message: Message,
     now: Tick,
-) -> Result<Plan, NoMemory>
+) -> Result<Plan<Topologies>, NoMemory>
     requires within { i < length items.old.items }
     requires part { HasOnePart message }
     ensures same { BecomesAt i unchanged items.old.items items.new.items }
@@ -30,7 +30,7 @@ fn take_at(
     items[i].take(peer, class, message, now)
 }
 
-fn make_at(items: &mut Vec<Element>, i: usize, plan: Plan)
+fn make_at(items: &mut Vec<Element<Topologies>>, i: usize, plan: Plan<Topologies>)
     requires within { i < length items.old.items }
     requires from { plan.from ≡ slice_index_or items.old.items i no_one }
     ensures { BecomesAt i (λ l. record l { element = plan.taken.element }) items.old.items items.new.items }
@@ -38,21 +38,21 @@ fn make_at(items: &mut Vec<Element>, i: usize, plan: Plan)
     items[i].make(plan);
 }
 
-fn up_at(items: &mut Vec<Element>, i: usize, peer: Peer)
+fn up_at(items: &mut Vec<Element<Topologies>>, i: usize, peer: Peer)
     requires { i < length items.old.items }
     ensures { BecomesAt i (λ l. record l { element = upped peer l.element }) items.old.items items.new.items }
 {
     items[i].up(peer);
 }
 
-fn down_at(items: &mut Vec<Element>, i: usize, peer: Peer)
+fn down_at(items: &mut Vec<Element<Topologies>>, i: usize, peer: Peer)
     requires { i < length items.old.items }
     ensures { BecomesAt i (down_of peer) items.old.items items.new.items }
 {
     items[i].down(peer);
 }
 
-fn next_lost_at(items: &mut Vec<Element>, i: usize) -> Option<Lost>
+fn next_lost_at(items: &mut Vec<Element<Topologies>>, i: usize) -> Option<Lost>
     requires { i < length items.old.items }
     ensures lost { result ≡ (next_lost_of (slice_index_or items.old.items i no_one).losing).0 }
     ensures rest { BecomesAt i (λ l. (next_lost_of l).1) items.old.items items.new.items }
@@ -80,7 +80,7 @@ impl Elements {
         class: Class,
         message: Message,
         now: Tick,
-    ) -> Result<Plan, NoMemory>
+    ) -> Result<Plan<Topologies>, NoMemory>
         requires there { HasElement at self.old }
         requires part { HasOnePart message }
         ensures same { Becomes at unchanged self.old self.new }
@@ -92,7 +92,7 @@ impl Elements {
     }
 
     /// Makes a plan; takes no memory.
-    pub fn make(&mut self, at: As, plan: Plan)
+    pub fn make(&mut self, at: As, plan: Plan<Topologies>)
         requires { at_domain at self.old ≡ Some plan.from }
         ensures { Becomes at (λ l. record l { element = plan.taken.element }) self.old self.new }
     {

@@ -6,9 +6,9 @@ ghost use Rattle.plant_hierarchy.specs.Becoming.{AreBefore, AreTicked, BecomesAt
 
 use crate::elements::Elements;
 use dom_base::{As, Peer, Tick};
-use pce_element::Element;
+use pce_element::{Element, Topologies};
 
-fn tick_at(items: &mut Vec<Element>, i: usize, now: Tick)
+fn tick_at(items: &mut Vec<Element<Topologies>>, i: usize, now: Tick)
     requires within { i < length items.old.items }
     requires clock { (slice_index_or items.old.items i no_one).losing.element.keys.clock ≤ now.0 }
     ensures { BecomesAt i (ticked_by now.0) items.old.items items.new.items }
@@ -16,7 +16,7 @@ fn tick_at(items: &mut Vec<Element>, i: usize, now: Tick)
     items[i].tick(now);
 }
 
-fn tick_all(items: &mut Vec<Element>, now: Tick)
+fn tick_all(items: &mut Vec<Element<Topologies>>, now: Tick)
     requires { AreBefore now.0 items.old.items }
     ensures { AreTicked now.0 items.old.items items.new.items }
 {

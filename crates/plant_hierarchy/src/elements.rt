@@ -8,7 +8,7 @@ ghost use Rattle.pce_element.specs.Rows.{pin_with};
 ghost use Rattle.plant_hierarchy.specs.Elements.{at_domain, no_one, IsFirstAt, IsNowhere, LoadsAt, LoadsPlace, told};
 
 use dom_base::{As, NoMemory};
-use pce_element::Element;
+use pce_element::{Element, Topologies};
 use plant_model::Refused;
 use std::alloc::Global;
 use std::marker::Model;
@@ -20,12 +20,12 @@ use te_links::Topology;
 #[derive(Drop)]
 pub(crate) struct Elements {
     pub(crate) domains: Vec<As>,
-    pub(crate) items: Vec<Element>,
+    pub(crate) items: Vec<Element<Topologies>>,
 }
 
 impl Model for Elements {
     ghost use Rattle.std.specs.Prelude.{List};
-    ghost use Rattle.pce_element.specs.Seen.{Seen};
+    ghost use Rattle.plant_hierarchy.specs.Seen.{Seen};
 
     ghost Value = { List Seen };
 
@@ -54,7 +54,7 @@ pub(crate) fn place_of(domains: &[As], at: As) -> Option<usize>
     None
 }
 
-fn load_at(items: &mut Vec<Element>, i: usize, topology: Topology) -> Result<u64, LoadError>
+fn load_at(items: &mut Vec<Element<Topologies>>, i: usize, topology: Topology) -> Result<u64, LoadError>
     requires within { i < length items.old.items }
     requires own { topology.own ≡ (slice_index_or items.old.items i no_one).place.own }
     ensures { LoadsPlace i topology items.old.items result items.new.items }
@@ -84,7 +84,7 @@ impl Elements {
     }
 
     /// The element of a domain.
-    pub fn at(&self, at: As) -> Option<&Element>
+    pub fn at(&self, at: As) -> Option<&Element<Topologies>>
         ensures { option_copied result ≡ at_domain at self.now }
     {
         match place_of(&self.domains, at) {

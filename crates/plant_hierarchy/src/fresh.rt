@@ -2,6 +2,7 @@
 ghost use Rattle.std.specs.Prelude.{◌≡◌, IfOk};
 ghost use Rattle.plant_text.specs.Names.{same_as};
 ghost use Rattle.plant_text.specs.Settings.{elements_of, life, lines, row_of};
+ghost use Rattle.plant_model.specs.Plant.{first_pin};
 ghost use Rattle.plant_model.specs.Settings.{place};
 ghost use Rattle.plant_layout.specs.Lines.{are_lines, others};
 ghost use Rattle.pce_element.specs.Seen.{IsNew};
@@ -9,7 +10,7 @@ ghost use Rattle.plant_hierarchy.specs.Fresh.{AreNew, LivesFit, figures_from};
 
 use crate::elements::Elements;
 use dom_base::{Addr, As, NoMemory};
-use pce_element::Element;
+use pce_element::{Element, Topologies};
 use plant_layout::{deny_at, elements_of, others_along};
 use plant_text::{ElementRow, NetworkParts};
 use std::alloc::Global;
@@ -53,10 +54,10 @@ fn element_of(
     parts: &NetworkParts,
     inner: &[(As, As)],
     own: As,
-) -> Result<Element, NoMemory>
+) -> Result<Element<Topologies>, NoMemory>
     requires lives { LivesFit parts.now }
     requires lines { are_lines inner.now ≡ lines parts.now }
-    ensures { IfOk result (IsNew (place parts.now own) (life parts.now own) (others own (lines parts.now))) }
+    ensures { IfOk result (IsNew first_pin (place parts.now own) (life parts.now own) (others own (lines parts.now))) }
 {
     let figures = figures_of(parts.elements.as_slice(), own);
     let deny = deny_at(alloc, own, parts.deny.as_slice())?;
@@ -77,7 +78,7 @@ fn each_element(
     parts: &NetworkParts,
     inner: &[(As, As)],
     domains: &[As],
-) -> Result<Vec<Element>, NoMemory>
+) -> Result<Vec<Element<Topologies>>, NoMemory>
     requires lives { LivesFit parts.now }
     requires lines { are_lines inner.now ≡ lines parts.now }
     ensures { IfOk result (λ items. AreNew parts.now domains.now items.items) }

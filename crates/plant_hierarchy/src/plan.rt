@@ -3,13 +3,13 @@ ghost use Rattle.std.specs.Prelude.{◌≡◌};
 ghost use Rattle.plant_hierarchy.specs.Answering.{back_of};
 
 use dom_base::As;
-use pce_element::Plan;
+use pce_element::{Plan, Topologies};
 use pce_parent::{BorderPlan, Done};
 
 /// A planned change of the element of a domain or of the parent, and the messages that are sent with it.
 #[derive(Drop)]
 pub enum MemberPlan {
-    Element { at: As, plan: Plan },
+    Element { at: As, plan: Plan<Topologies> },
     Parent(BorderPlan),
 }
 

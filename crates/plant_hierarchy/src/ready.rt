@@ -9,10 +9,10 @@ ghost use Rattle.plant_hierarchy.specs.Ready.{jobs_in, work_in};
 use crate::elements::Elements;
 use border_costs::Job;
 use dom_base::{As, NoMemory};
-use pce_element::Element;
+use pce_element::{Element, Topologies};
 
 // How many requests of an element can be solved.
-fn count_ready(element: &Element, most: usize) -> usize
+fn count_ready(element: &Element<Topologies>, most: usize) -> usize
     requires { length (ready_numbers element.now.losing.element.pending.rows) ≤ most }
     ensures { result ≡ length (ready_numbers element.now.losing.element.pending.rows) }
 {

@@ -12,7 +12,7 @@ ghost use Rattle.plant_hierarchy.specs.Tiers.{Become, Takes, lost_in, members_of
 use crate::hierarchy::Hierarchy;
 use crate::plan::MemberPlan;
 use dom_base::{As, NoMemory, Peer, Tick};
-use pce_element::Plan;
+use pce_element::{Plan, Topologies};
 use pce_parent::BorderPlan;
 use pcep_messages::Message;
 use plant_layout::class_of;
@@ -30,7 +30,7 @@ pub(crate) fn has_one_part(message: &Message) -> bool
 }
 
 // The plan of an element as that of a member.
-fn planned_below(at: As, plan: Result<Plan, NoMemory>) -> Result<MemberPlan, NoMemory>
+fn planned_below(at: As, plan: Result<Plan<Topologies>, NoMemory>) -> Result<MemberPlan, NoMemory>
     ensures { result ≡ planned_below at plan }
 {
     match plan {
@@ -70,7 +70,7 @@ impl Hierarchy {
         Ok(MemberPlan::Parent(self.parent.take(peer, message, now)?))
     }
 
-    pub(crate) fn make_below(&mut self, at: As, plan: Plan)
+    pub(crate) fn make_below(&mut self, at: As, plan: Plan<Topologies>)
         requires below { same_as at parent_as ≡ false }
         requires from { at_domain at self.old.elements ≡ Some plan.from }
         ensures { Become self.old (with_element at plan.taken.element (members_of self.old)) (lost_in self.old) self.new }

@@ -1,5 +1,5 @@
 use Rattle.std.proofs.Common.{◌≡◌, ◌+◌, suc, List, take, arith, sym, subst}
-use Rattle.pce_element.specs.Seen.{Seen}
+use Rattle.plant_hierarchy.specs.Seen.{Seen}
 use Rattle.plant_hierarchy.specs.Fresh.{AreNew}
 use Rattle.plant_hierarchy.proofs.FreshLemmas.{take_more}
 use Rattle.plant_hierarchy.proofs.fresh.each_element.Goals as goal

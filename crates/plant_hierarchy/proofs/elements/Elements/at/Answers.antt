@@ -1,6 +1,6 @@
 use Rattle.std.proofs.Common.{◌∙◌, List, Some, map, arith, sym, ap, subst}
 use Rattle.dom_base.specs.declared.names.As.{As}
-use Rattle.pce_element.specs.Seen.{Seen}
+use Rattle.plant_hierarchy.specs.Seen.{Seen}
 use Rattle.plant_hierarchy.specs.Elements.{at_domain, own_of, IsFirstAt, IsNowhere}
 use Rattle.plant_hierarchy.proofs.DomainLemmas.{first_within, at_first, at_nowhere}
 use Rattle.plant_hierarchy.proofs.elements.Elements.at.Goals as goal

@@ -1,5 +1,5 @@
 use Rattle.std.proofs.Common.{◌∙◌, List, map, sym, ap, subst}
-use Rattle.pce_element.specs.Seen.{Seen}
+use Rattle.plant_hierarchy.specs.Seen.{Seen}
 use Rattle.plant_hierarchy.specs.Elements.{at_domain, own_of, IsFirstAt}
 use Rattle.plant_hierarchy.specs.Becoming.{Becomes}
 use Rattle.plant_hierarchy.proofs.DomainLemmas.{first_within}

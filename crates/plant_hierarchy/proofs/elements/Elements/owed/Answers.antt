@@ -1,6 +1,6 @@
 use Rattle.std.proofs.Common.{◌≡◌, ◌∙◌, Option, Some, List, map, arith, sym, ap, subst}
 use Rattle.std.specs.Prelude.{IfSome}
-use Rattle.pce_element.specs.Seen.{Seen}
+use Rattle.plant_hierarchy.specs.Seen.{Seen}
 use Rattle.plant_hierarchy.specs.Becoming.{owed_by}
 use Rattle.plant_hierarchy.specs.Elements.{at_domain, own_of, IsFirstAt}
 use Rattle.plant_hierarchy.proofs.DomainLemmas.{first_within, at_first}

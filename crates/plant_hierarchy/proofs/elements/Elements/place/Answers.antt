@@ -1,6 +1,6 @@
 use Rattle.std.proofs.Common.{◌∙◌, List, map, sym, subst}
 use Rattle.dom_base.specs.declared.names.As.{As}
-use Rattle.pce_element.specs.Seen.{Seen}
+use Rattle.plant_hierarchy.specs.Seen.{Seen}
 use Rattle.plant_hierarchy.specs.Elements.{own_of, IsFirstAt, IsNowhere}
 use Rattle.plant_hierarchy.specs.Becoming.{HasElement}
 use Rattle.plant_hierarchy.proofs.BecomingLemmas.{none_there}
