@@ -5,6 +5,7 @@ pub mod Tiers
 pub mod Current
 pub mod Answering
 pub mod Loading
+pub mod Blind
 -- inner
 pub mod TierFields
 pub mod ElementFields
