@@ -13,7 +13,7 @@ abbrev pub pins_in : {P : Type 0} → List (Row P) → List P
 pins_in rows = map (λ h. h.1.item.pin) rows
 
 -- the world keeps what the requests pin, and nothing else
-pub record HoldsPins {P : Type 0} (Keeps : List P → Type 0) (pending : Pending (Item P)) (last : ℕ) : Type 0 where
+pub record HoldsPins {P : Type 0} (Keeps : List P → Type 0) (pending : Pending (Item P)) (number : ℕ) : Type 0 where
   pub pins : Keeps (pins_in pending.rows)
   pub limit : pending.limit ≡ 1024
-  pub last : last ≡ pending.given
+  pub last : number ≡ pending.given

@@ -1,7 +1,7 @@
 use Rattle.std.proofs.Common.{◌≡◌, ◌++◌, length, map}
 use Rattle.plant_model.specs.Branches.{path_of}
 use Rattle.plant_model.specs.RealWire.{wire}
-use Rattle.pce_element.proofs.committing.each_path.Given as goal
+use Rattle.pce_element.proofs.answering.each_path.Given as goal
 
 abbrev pub invariant-loop-branch : goal.invariant-loop-branch
 invariant-loop-branch l = l.paths ++ map (λ b. path_of wire l.metric b.cost b.hops) l.left.items ≡ map (λ b. path_of wire l.metric b.cost b.hops) l.fn.branches

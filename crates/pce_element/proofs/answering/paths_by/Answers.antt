@@ -1,7 +1,7 @@
 use Rattle.std.proofs.Common.{◌∙◌}
 use Rattle.std.proofs.lemmas.Result.{IfOk-weaker}
 use Rattle.pce_element.proofs.CommitLemmas.{joined_paths}
-use Rattle.pce_element.proofs.committing.paths_by.Goals as goal
+use Rattle.pce_element.proofs.answering.paths_by.Goals as goal
 
 pub returns : goal.returns
 returns c =
