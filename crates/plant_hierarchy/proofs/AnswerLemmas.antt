@@ -163,13 +163,13 @@ module _ (d : As) (now : ℕ) (x : Solution) (t : Tiers Pin Segment) (es : List 
 -- ---- at the parent
 
 -- the request that is answered
-record IsAnsweredAbove (x : BorderSolution) (k : parent.Parent) (given : parent.Given) : Type 0 where
-  held : Held parent.Asking
-  found : lookup (nat_eq x.job.number) k.pending.rows ≡ Some held
-  ready : parent.is_ready held.item ≡ true
-  is : given ≡ parent.commit wire (x.job.number, held) x.answer k
+pub record IsAnsweredAbove (x : BorderSolution) (k : parent.Parent) (given : parent.Given) : Type 0 where
+  pub held : Held parent.Asking
+  pub found : lookup (nat_eq x.job.number) k.pending.rows ≡ Some held
+  pub ready : parent.is_ready held.item ≡ true
+  pub is : given ≡ parent.commit wire (x.job.number, held) x.answer k
 
-answered_above : (x : BorderSolution) (k : parent.Parent) (given : parent.Given) → border.committed x k ≡ Some given → IsAnsweredAbove x k given
+pub answered_above : (x : BorderSolution) (k : parent.Parent) (given : parent.Given) → border.committed x k ≡ Some given → IsAnsweredAbove x k given
 answered_above x k given is = go (lookup (nat_eq x.job.number) k.pending.rows) refl is
   where
     some_one : (a b : parent.Given) → Some a ≡ Some b → a ≡ b
