@@ -24,7 +24,8 @@ use Rattle.plant_deeds.specs.Rooms.{IsRoomy, own_most, said_in_all}
 use Rattle.plant_deeds.proofs.FeedLaws.{cleared_roomy}
 use Rattle.plant_deeds.proofs.RoomySteps.{emptied_keeps}
 use Rattle.plant_hierarchy.specs.Loading.{Loads, answer_of, deeds_of}
-use Rattle.plant_hierarchy.specs.Tiers.{Tiers, lost_in, members_of}
+use Rattle.plant_hierarchy.specs.Tiers.{lost_in}
+use Rattle.plant_hierarchy.specs.Topologies.{Tiers, members_of}
 use Rattle.plant_network.proofs.StepLemmas.{kept}
 use Rattle.pce_plant.specs.Held.{Held, held, standing, whole, IsSound, Moves}
 

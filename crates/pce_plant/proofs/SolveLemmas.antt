@@ -27,11 +27,11 @@ use Rattle.plant_deeds.specs.Passing.{IsOf}
 use Rattle.plant_deeds.specs.Rooms.{IsRoomy}
 use Rattle.plant_deeds.specs.Standing.{state_of}
 use Rattle.plant_hierarchy.specs.Answering.{Commits, ElementAnswers, IsRefusedFor, MemberAnswers, ParentAnswers, number_of}
-use Rattle.plant_hierarchy.specs.Tiers.{Become, Tiers, lost_in, members_of, next_by}
+use Rattle.plant_hierarchy.specs.Tiers.{lost_in}
 use Rattle.plant_hierarchy.specs.Tiers as tiers
-use Rattle.plant_hierarchy.specs.declared.plan.MemberPlan.{MemberPlan}
 use Rattle.plant_hierarchy.specs.declared.answering.Unanswered.{Unanswered}
 use Rattle.pce_parent.specs.declared.work.Done.{Done}
+use Rattle.plant_hierarchy.specs.Topologies.{Become, MemberPlan, Tiers, members_of, next_by}
 use Rattle.plant_network.proofs.AnswerLemmas.{element_answer, parent_answer}
 use Rattle.pce_plant.specs.Held.{IsKept, IsSound, Moves, held, whole}
 use Rattle.pce_plant.specs.Jobs.{solved_at, solved_number}

@@ -5,7 +5,8 @@ use Rattle.plant_model.specs.Plant.{Pin, Segment, Steps}
 use Rattle.plant_model.specs.RealWire.{wire}
 use Rattle.plant_traffic.specs.Carried.{Carried, flow_of}
 use Rattle.plant_deeds.specs.Standing.{Here, here}
-use Rattle.plant_hierarchy.specs.Tiers.{Tiers, lost_in, members_of}
+use Rattle.plant_hierarchy.specs.Tiers.{lost_in}
+use Rattle.plant_hierarchy.specs.Topologies.{Tiers, members_of}
 use Rattle.plant_network.specs.Moving as network
 use Rattle.pce_plant.specs.Whole.{Whole}
 

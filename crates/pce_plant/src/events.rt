@@ -6,6 +6,7 @@ ghost use Rattle.pce_plant.specs.Whole.{IsOwnLoad};
 
 use crate::answering::solve;
 use dom_base::As;
+use pce_element::Topologies;
 use plant_hierarchy::Hierarchy;
 use plant_model::{Event, Outcome, Refused};
 use plant_network::{break_link, carry, drain, feed, open, shut, take, tick};
@@ -14,7 +15,7 @@ use std::alloc::Global;
 use te_links::Topology;
 
 fn load(
-    members: &mut Hierarchy,
+    members: &mut Hierarchy<Topologies>,
     traffic: &mut Traffic,
     at: As,
     topology: Topology,
@@ -35,7 +36,7 @@ fn load(
 /// Does one event.
 pub(crate) fn act(
     alloc: Global,
-    members: &mut Hierarchy,
+    members: &mut Hierarchy<Topologies>,
     traffic: &mut Traffic,
     event: Event,
 ) -> Result<Outcome, Refused>

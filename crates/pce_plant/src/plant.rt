@@ -18,6 +18,7 @@ ghost use Rattle.pce_plant.specs.Whole.{GoesOn, IsBegun, IsOwnLoad, Stepped};
 use crate::answering::{CommitRefused, commit};
 use crate::events::act;
 use dom_base::{As, NoMemory};
+use pce_element::Topologies;
 use pce_parent::{Done, Work};
 use plant_hierarchy::Hierarchy;
 use plant_model::{Event, Outcome, Refused};
@@ -35,7 +36,7 @@ use te_links::Topology;
 #[derive(Drop)]
 pub struct Plant {
     alloc: Global,
-    members: Hierarchy,
+    members: Hierarchy<Topologies>,
     traffic: Traffic,
 }
 

@@ -19,10 +19,10 @@ use Rattle.plant_hierarchy.specs.Tiers.{Tiers, ArePlaced, AreSet, members_of, lo
 use Rattle.plant_hierarchy.proofs.FreshLemmas.{elements_new, currents_new, owns_new, own_new}
 use Rattle.plant_hierarchy.proofs.JoinedLemmas.{ways_above}
 
-module _ {P : Type 0} {S : Type 0} (initial : As → P) where
-  abbrev pub beginning : NetworkParts → List (Seen P S) → above.Seen → Tiers P S
-  beginning n es s = record { network = n; clock = 0; elements = es; parent = s }
+abbrev pub beginning : {P : Type 0} {S : Type 0} → NetworkParts → List (Seen P S) → above.Seen → Tiers P S
+beginning n es s = record { network = n; clock = 0; elements = es; parent = s }
 
+module _ {P : Type 0} {S : Type 0} (initial : As → P) where
   pub placed_new : (n : NetworkParts) (ds : List As) (es : List (Seen P S)) → AreNew initial n ds es → ArePlaced n es
   placed_new n [] [] are = tt
   placed_new n [] (e ∷ es) are = absurd are

@@ -84,6 +84,19 @@ stands_rows d (r ∷ rows) = stands_insert d r.own (elements_of rows) ∙ go (sa
     go true more = refl
     go false more = more
 
+pub length_insert : (n : As) (ds : List As) → length (insert_as n ds) ≤ suc (length ds)
+length_insert n [] = omega arith
+length_insert n (a ∷ ds) = go (length_insert n ds) (nat_lt n.0 a.0) (same_as n a)
+  where
+    go : length (insert_as n ds) ≤ suc (length ds) → (b c : Bool) → length (cond b (n ∷ a ∷ ds) (cond c (a ∷ ds) (a ∷ insert_as n ds))) ≤ suc (suc (length ds))
+    go more true c = omega arith
+    go more false true = omega arith
+    go more false false = omega (arith, more)
+
+pub few_domains : (rows : List ElementRow) → length (elements_of rows) ≤ length rows
+few_domains [] = omega arith
+few_domains (r ∷ rows) = omega (arith, length_insert r.own (elements_of rows), few_domains rows)
+
 module _ {P : Type 0} {S : Type 0} where
   stands_seen : (d : As) (es : List (Seen P S)) → stands_in d (map own_of es) ≡ is_some (at_domain d es)
   stands_seen d [] = refl
@@ -106,19 +119,6 @@ module _ {P : Type 0} {S : Type 0} where
   -- the first is found by its domain, and each of the others is not it
   pub first_found : (e : Seen P S) (es : List (Seen P S)) → at_domain (own_of e) (e ∷ es) ≡ Some e
   first_found e es = ap (λ (b : Bool). cond b (Some e) (at_domain (own_of e) es)) (as_self (own_of e))
-
-  pub length_insert : (n : As) (ds : List As) → length (insert_as n ds) ≤ suc (length ds)
-  length_insert n [] = omega arith
-  length_insert n (a ∷ ds) = go (length_insert n ds) (nat_lt n.0 a.0) (same_as n a)
-    where
-      go : length (insert_as n ds) ≤ suc (length ds) → (b c : Bool) → length (cond b (n ∷ a ∷ ds) (cond c (a ∷ ds) (a ∷ insert_as n ds))) ≤ suc (suc (length ds))
-      go more true c = omega arith
-      go more false true = omega arith
-      go more false false = omega (arith, more)
-
-  pub few_domains : (rows : List ElementRow) → length (elements_of rows) ≤ length rows
-  few_domains [] = omega arith
-  few_domains (r ∷ rows) = omega (arith, length_insert r.own (elements_of rows), few_domains rows)
 
   -- each of these is found by its domain among all
   abbrev pub AreFound : List (Seen P S) → List (Seen P S) → Type 0

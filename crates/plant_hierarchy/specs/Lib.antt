@@ -4,6 +4,7 @@ pub mod Becoming
 pub mod Tiers
 pub mod Current
 pub mod Answering
+pub mod Topologies
 pub mod Loading
 pub mod Blind
 -- inner

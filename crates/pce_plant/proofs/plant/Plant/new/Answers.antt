@@ -7,8 +7,7 @@ use Rattle.plant_model.specs.Events.{opening}
 use Rattle.plant_model.specs.Plant.{Pin, Run, Segment, first_pin}
 use Rattle.plant_model.specs.RealWire.{wire}
 use Rattle.plant_members.specs.Membership.{Membership}
-use Rattle.plant_hierarchy.specs.Fresh.{begun}
-use Rattle.plant_hierarchy.specs.Tiers.{members_of}
+use Rattle.plant_hierarchy.specs.Topologies.{begun, members_of}
 use Rattle.plant_network.specs.Beginning.{AreBare}
 use Rattle.pce_plant.specs.Held.{held, whole}
 use Rattle.pce_plant.proofs.plant.Plant.new.Goals as goal
