@@ -32,7 +32,7 @@ use Rattle.pce_parent.specs.declared.committing.ParentCommitError.{ParentCommitE
 use Rattle.pce_parent.specs.declared.committing.ParentCommitError.TheVariants as parent_error
 use Rattle.plant_hierarchy.specs.Answering.{border_job, is_ready_at}
 use Rattle.plant_hierarchy.specs.Becoming.{Becomes, unchanged}
-use Rattle.plant_hierarchy.specs.Blind.{MemberAnswers, Solves, nothing_first, told_above, told_below}
+use Rattle.plant_hierarchy.specs.Blind.{IsUnsolved, MemberAnswers, Solves, nothing_first, told_above, told_below}
 use Rattle.plant_hierarchy.specs.Elements.{own_of, at_domain, element_or}
 use Rattle.plant_hierarchy.specs.Tiers.{Tiers, AreSet, Become, lost_in, members_of}
 use Rattle.plant_hierarchy.specs.declared.plan.MemberPlan.{MemberPlan}
@@ -111,17 +111,19 @@ module _ (d : As) (k : ℕ) (rows : List BorderRow) (now : ℕ) (t : Tiers Nothi
   stays : Become nothing_first t (members_of nothing_first t) (lost_in t) t
   stays = record { network = refl; seen = refl; lost_is = refl }
 
-  pub lacks_above : {W : Type 0} {D : Type 0} → Solves {W = W} {D = D} d k rows now t (Err refused.NoMemory) t
-  lacks_above = record { same = stays; there = tt; fits = tt; answers = tt; why = tt }
-
   not_ready : border.job_at t.parent k ≡ None → is_ready_at d k (members_of nothing_first t) ≡ false
   not_ready none =
       let asking = t.parent.losing.parent.pending.rows in
       ap (λ (c : Bool). cond c (is_ready_asking (lookup (nat_eq k) asking)) (is_ready_row (lookup (nat_eq k) ((members_of nothing_first t).elements d).pending.rows))) upper
       ∙ no_border_job t.parent.family k (lookup (nat_eq k) asking) none
 
-  pub none_above : {W : Type 0} {D : Type 0} → border.job_at t.parent k ≡ None → Solves {W = W} {D = D} d k rows now t (Err refused.NoSuchJob) t
-  none_above none = record { same = stays; there = tt; fits = tt; answers = tt; why = (there, not_ready none) }
+  pub unsolved_above : {W : Type 0} {D : Type 0} (why : Refused) → IsUnsolved (border.job_at t.parent k) why → Solves {W = W} {D = D} d k rows now t (Err why) t
+  unsolved_above refused.NoSuchJob none = record { same = stays; there = tt; fits = tt; answers = tt; why = (there, not_ready none) }
+  unsolved_above refused.NoMemory none = record { same = stays; there = tt; fits = tt; answers = tt; why = tt }
+  unsolved_above refused.NoSuchPeer none = absurd none
+  unsolved_above refused.GenerationsFull none = absurd none
+  unsolved_above (refused.NotHolder holder) none = absurd none
+  unsolved_above refused.NothingToCarry none = absurd none
 
   module _ (x : BorderSolution) (s : border.Seen) (job : border.job_at t.parent k ≡ Some x.job) (right : SolvesBorder x.job x.answer) (still : s ≡ t.parent) where
     same_above : Become nothing_first t (members_of nothing_first t) (lost_in t) (record t { parent = s })

@@ -214,7 +214,7 @@ module _ {P : Type 0} {S : Type 0} (initial : As → P) (show : S → List Hop) 
     hands_below es b below is =
         let u : Tiers P S = record t { elements = es } in
         let l : Losing P S = losing_at d t in
-        let goes = goes_below d (λ x. (next_lost_of x).1) t es b below in
+        let goes = goes_below d (λ x. (next_lost_of x).1) t es b below initial in
         let rest : (next_lost_of l).1 ≡ record { element = l.element; lost = rest_lost l.lost } = handed_rest l.element l.lost in
         let first : r ≡ (next_lost_of b.one.losing).0 = subst (λ (o : Option (Seen P S)). IfSome o (λ e. r ≡ (next_lost_of e.losing).0)) b.found is in (
           record {

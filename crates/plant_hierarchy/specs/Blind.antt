@@ -11,6 +11,7 @@ use Rattle.plant_text.specs.declared.settings.NetworkParts.{NetworkParts}
 use Rattle.plant_text.specs.Names.{same_as, parent_as}
 use Rattle.plant_model.specs.declared.outcome.Refused.{Refused}
 use Rattle.plant_model.specs.declared.outcome.Refused.TheVariants as refused
+use Rattle.plant_model.specs.declared.upper.BorderJob.{BorderJob}
 use Rattle.plant_model.specs.Blind.{Joined, Nothing}
 use Rattle.plant_model.specs.Element.{Item, Ready}
 use Rattle.plant_model.specs.Events.{has_jobs}
@@ -63,3 +64,12 @@ abbrev pub told_above : {W : Type 0} {D : Type 0} → Result border.Planned Pare
 told_above (Ok x) = Ok (plan.Parent x)
 told_above (Err (parent_error.Stranger y)) = Err refused.NoSuchJob
 told_above (Err (parent_error.NoMemory y)) = Err refused.NoMemory
+
+-- why a job of the parent is not solved: there is none, or memory lacks
+abbrev pub IsUnsolved : Option BorderJob → Refused → Type 0
+IsUnsolved o refused.NoSuchJob = o ≡ None
+IsUnsolved o refused.NoMemory = Unit {0}
+IsUnsolved o refused.NoSuchPeer = ⊥
+IsUnsolved o refused.GenerationsFull = ⊥
+IsUnsolved o (refused.NotHolder holder) = ⊥
+IsUnsolved o refused.NothingToCarry = ⊥

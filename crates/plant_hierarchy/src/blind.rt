@@ -1,14 +1,16 @@
 //! Members without topologies answer requests by rows that come from outside.
-ghost use Rattle.std.specs.Prelude.{◌≡◌, ◌<◌, ◌≤◌, length, Some, IfOk, IfSome, MatchOption, MatchResult, false, true};
+ghost use Rattle.std.specs.Prelude.{◌≡◌, ◌<◌, ◌≤◌, length, Some, IfErr, IfOk, IfSome, MatchOption, false, true};
 ghost use Rattle.std.specs.List.{slice_index_or};
 ghost use Rattle.plant_text.specs.Names.{same_as, parent_as};
 ghost use Rattle.plant_text.specs.Settings.{is_element};
 ghost use Rattle.plant_model.specs.Blind.{AreGivenRows};
+ghost use Rattle.plant_model.specs.BorderGraph.{SolvesBorder};
 ghost use Rattle.plant_model.specs.Events.{has_jobs};
 ghost use Rattle.plant_members.specs.Membership.{KeysBefore};
 ghost use Rattle.pce_element.specs.Blind.{HasNoJob, IsSolvedBy};
+ghost use Rattle.pce_parent.specs.Seen.{job_at};
 ghost use Rattle.plant_hierarchy.specs.Becoming.{Becomes, BecomesAt, HasElement, unchanged};
-ghost use Rattle.plant_hierarchy.specs.Blind.{Solves, nothing_first, told_above, told_below};
+ghost use Rattle.plant_hierarchy.specs.Blind.{IsUnsolved, Solves, nothing_first, told_above, told_below};
 ghost use Rattle.plant_hierarchy.specs.Elements.{at_domain, no_one};
 ghost use Rattle.plant_hierarchy.specs.Tiers.{members_of};
 
@@ -17,7 +19,7 @@ use crate::hierarchy::{Hierarchy, is_parent};
 use crate::plan::MemberPlan;
 use dom_base::{As, BorderRow, NoMemory, Tick};
 use pce_element::{Blind, Element, Plan};
-use pce_parent::{BorderPlan, ParentCommitError, solve_border};
+use pce_parent::{BorderPlan, BorderSolved, Parent, ParentCommitError, solve_border};
 use plant_model::Refused;
 use std::alloc::Global;
 
@@ -36,6 +38,24 @@ fn solve_at(
     ensures taken { IfOk result (λ plan. MatchOption plan (HasNoJob (slice_index_or items.old.items i (no_one nothing_first)) number) (λ plan. IsSolvedBy (slice_index_or items.old.items i (no_one nothing_first)) number rows.now now.0 plan.taken)) }
 {
     items[i].solve(number, rows, now)
+}
+
+// What solves the job of a request of the parent.
+fn solve_job(alloc: Global, parent: &Parent, number: u64) -> Result<BorderSolved, Refused>
+    ensures job { IfOk result (λ solved. job_at parent.now number ≡ Some solved.job) }
+    ensures answer { IfOk result (λ solved. SolvesBorder solved.job solved.answer) }
+    ensures why { IfErr result (IsUnsolved (job_at parent.now number)) }
+{
+    let Ok(found) = parent.job(number) else {
+        return Err(Refused::NoMemory);
+    };
+    let Some(job) = found else {
+        return Err(Refused::NoSuchJob);
+    };
+    let Ok(solved) = solve_border(alloc, &job) else {
+        return Err(Refused::NoMemory);
+    };
+    Ok(solved)
 }
 
 // What is told of an element's answer.
@@ -110,15 +130,7 @@ impl Hierarchy<Blind> {
         requires there { has_jobs self.old.network at ≡ true }
         ensures { Solves at number _rows.now now.0 self.old result self.new }
     {
-        let Ok(found) = self.parent.job(number) else {
-            return Err(Refused::NoMemory);
-        };
-        let Some(job) = found else {
-            return Err(Refused::NoSuchJob);
-        };
-        let Ok(solved) = solve_border(alloc, &job) else {
-            return Err(Refused::NoMemory);
-        };
+        let solved = solve_job(alloc, &self.parent, number)?;
         told_above(self.parent.commit(solved, now))
     }
 
