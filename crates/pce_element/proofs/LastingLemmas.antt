@@ -226,15 +226,17 @@ lasts_over a b c first second = record {
 -- ---- calls
 
 pub made_last : {P : Type 0} {S : Type 0} {D : Type 0} → (s t : Seen P S) (change : Change D S) → ArePending s.losing.element.pending → Fits s change → SameButRoom (with_element (changed s.current change s.losing.element) s) t → ReadyLast s t
-made_last {P} {S} {D} s t change are fits is =
-    subst (λ (x : Seen P S). RequestsLast s.losing.element.pending x.losing.element.pending) (sym is) (changed_last s change are.numbers fits)
+made_last {P} {S} {D} s t change are fits is = record {
+  requests = subst (λ (x : Seen P S). RequestsLast s.losing.element.pending x.losing.element.pending) (sym is) (changed_last s change are.numbers fits)
+}
 
 pub down_last : {P : Type 0} {S : Type 0} → (s t : Seen P S) (peer : Peer) → ArePending s.losing.element.pending → SameButRoom (with_losing (down_of peer s.losing) s) t → ReadyLast s t
-down_last {P} {S} s t peer are is =
-    subst (λ (x : Seen P S). RequestsLast s.losing.element.pending x.losing.element.pending) (sym is) (left_last peer s.losing.element.pending are.numbers)
+down_last {P} {S} s t peer are is = record {
+  requests = subst (λ (x : Seen P S). RequestsLast s.losing.element.pending x.losing.element.pending) (sym is) (left_last peer s.losing.element.pending are.numbers)
+}
 
 pub lasts_with : LastsWithRequests
-lasts_with a b are place last = jobs_last a b are.numbers (ap (λ (x : Place). x.own) place) last
+lasts_with a b are place last = jobs_last a b are.numbers (ap (λ (x : Place). x.own) place) last.requests
 
 pub still_last : LastsStill
-still_last a b are place same = lasts_with a b are place (pending_same a.losing.element.pending b.losing.element.pending same)
+still_last a b are place same = lasts_with a b are place (record { requests = pending_same a.losing.element.pending b.losing.element.pending same })

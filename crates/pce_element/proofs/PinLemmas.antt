@@ -2,7 +2,7 @@
 use Rattle.std.proofs.Common.{◌≡◌, ◌≢◌, ◌+◌, ◌-◌, ◌<◌, ◌≤◌, ◌==◌, ◌^◌, ◌||◌, nat_le, ℕ, Bool, true, false, cond, Option, Some, None, Result, Ok, Err, OnOk, OnErr, List, [], ◌∷◌, ◌++◌, length, map, nat_eq, arith, inl, inr, refl, sym, ◌∙◌, ap, subst, option_map}
 use Rattle.std.specs.Prelude.{Contains, count_by}
 use Rattle.std.specs.Map.{lookup, remove_entry}
-use Rattle.std.proofs.lemmas.Bool.{cases_Bool, cases_eq, eq-eqb}
+use Rattle.std.proofs.lemmas.Bool.{cases_Bool, cases_eq, eq-eqb, leb-false}
 use Rattle.std.proofs.lemmas.List.{length_push, length-map, map-append}
 use Rattle.std.proofs.lemmas.List.Elements.{Contains-push_cases, Contains-append_left, Contains-append_right, Contains-append_cases}
 use Rattle.te_links.specs.Rows.{Rows}
@@ -25,7 +25,7 @@ use Rattle.pce_element.proofs.RowLemmas.{counted, counted_more, counted_some, fi
 -- ---- what requests pin
 
 pub length-pins : {P : Type 0} → (rows : List (Row P)) → length (pins_in rows) ≡ length rows
-length-pins {P} rows = length-map (λ (h : Row P). h.1.item.pin) rows
+length-pins {P} rows = length-map rows (λ (h : Row P). h.1.item.pin)
 
 pub pins_opened : {P : Type 0} → (rows : List (Row P)) (row : Row P) → pins_in (rows ++ row ∷ []) ≡ pins_in rows ++ row.1.item.pin ∷ []
 pins_opened {P} rows row = map-append (λ (h : Row P). h.1.item.pin) rows (row ∷ [])

@@ -4,6 +4,7 @@ use Rattle.dom_base.specs.declared.addr.Addr.{Addr}
 use Rattle.dom_base.specs.declared.border.BorderRow.{BorderRow}
 use Rattle.vspt_tree.specs.declared.branch.Best.{Best}
 use Rattle.border_costs.specs.declared.job.Target.{Target}
+use Rattle.border_costs.specs.declared.job.Target.TheVariants.{Node, Next}
 use Rattle.border_costs.specs.declared.job.Down.{Down}
 use Rattle.plant_model.specs.Jobs.{JoinsBy}
 
@@ -11,7 +12,17 @@ use Rattle.plant_model.specs.Jobs.{JoinsBy}
 abbrev pub JoinsNothing : ℕ → Target → List Down → BorderRow → Type 0
 JoinsNothing cap target down r = (e : Addr) (c : ℕ) (exit : Addr) (head : Option Addr) → ¬ JoinsBy cap target (r ∷ []) down e c exit head
 
--- what a row joins to by itself
+-- the node beyond the exit of a row; none in the last domain
+abbrev pub head_over : Target → BorderRow → Option Addr
+head_over (Node t) r = None
+head_over (Next b) r = Some r.head
+
+-- the sum to which a row by itself joins
+pub record JoinsOver (cap : ℕ) (target : Target) (down : List Down) (r : BorderRow) (cost : ℕ) : Type 0 where
+  pub joins : JoinsBy cap target (r ∷ []) down r.entry cost r.far (head_over target r)
+  pub one : (e : Addr) (c : ℕ) (exit : Addr) (head : Option Addr) → JoinsBy cap target (r ∷ []) down e c exit head → c ≡ cost
+
+-- the way that a row makes by itself
 pub record IsJoinOfRow (cap : ℕ) (target : Target) (down : List Down) (r : BorderRow) (b : Best) : Type 0 where
   pub joins : JoinsBy cap target (r ∷ []) down b.entry b.cost b.exit b.head
   pub entry : b.entry ≡ r.entry
@@ -27,3 +38,7 @@ abbrev pub TakesIn : Best → List Best → List Best → Type 0
 TakesIn b old new =
     ((older : List Best) × (last : Best) × (old ≡ older ++ last ∷ []) × (last.entry ≡ b.entry) × (new ≡ older ++ cond (nat_lt b.cost last.cost) b last ∷ []))
     ⊎ (EndsElsewhere b.entry old × (new ≡ old ++ b ∷ []))
+
+-- A further row: it joins to nothing and leaves the ways as they are, or its way is taken in.
+abbrev pub JoinsRow : ℕ → Target → List Down → BorderRow → List Best → List Best → Type 0
+JoinsRow cap target down r old new = (JoinsNothing cap target down r × (new ≡ old)) ⊎ ((b : Best) × IsJoinOfRow cap target down r b × TakesIn b old new)

@@ -17,9 +17,9 @@ pub record RequestsLast {P : Type 0} (old new : Pending (Item P)) : Type 0 where
   pub given : old.given ≤ new.given
   pub each : (n : ℕ) → n ≤ old.given → LastsAs (item_of old n) (item_of new n)
 
--- before and after a call
-abbrev pub ReadyLast : {P : Type 0} {S : Type 0} → Seen P S → Seen P S → Type 0
-ReadyLast old new = RequestsLast old.losing.element.pending new.losing.element.pending
+-- The requests of an element before and after a call.
+pub record ReadyLast {P : Type 0} {S : Type 0} (old new : Seen P S) : Type 0 where
+  pub requests : RequestsLast old.losing.element.pending new.losing.element.pending
 
 -- The jobs of an element with topologies, before and after a call.
 pub record JobsLast (old new : Seen Pin Segment) : Type 0 where

@@ -5,7 +5,7 @@ ghost use Rattle.border_costs.specs.Asks.{HasNoDown, IsBelow, beyond};
 ghost use Rattle.plant_model.specs.Blind.{AreGivenRows};
 ghost use Rattle.plant_model.specs.Branches.{downs};
 ghost use Rattle.plant_model.specs.Jobs.{IsJoinOf};
-ghost use Rattle.pce_element.specs.Joining.{IsJoinOfRow, JoinsNothing, TakesIn};
+ghost use Rattle.pce_element.specs.Joining.{IsJoinOfRow, JoinsNothing, JoinsOver, JoinsRow, TakesIn, head_over};
 
 use border_costs::Target;
 use dom_base::{Addr, BorderRow, Cost, List, NoMemory};
@@ -45,35 +45,36 @@ fn sum_within(cap: Cost, own: Cost, rest: Cost) -> Option<Cost>
     Cost::of(sum)
 }
 
-// The way that a row makes by itself, in the last domain.
-fn way_to_node(alloc: Global, cap: Cost, row: &BorderRow) -> Option<Best> {
-    if row.head != row.far || row.cost > cap {
-        return None;
+// The cost of the way that a row makes by itself: in the last domain its own, where it ends there, and else
+// with what lies beyond.
+fn joined_cost(cap: Cost, target: Target, row: &BorderRow, down: &[Branch]) -> Option<Cost>
+    ensures { MatchOption result (JoinsNothing cap target (downs down.now) row.now) (JoinsOver cap target (downs down.now) row.now) }
+{
+    match target {
+        Target::Node(_end) => {
+            if row.head == row.far && row.cost <= cap {
+                Some(row.cost)
+            } else {
+                None
+            }
+        }
+        Target::Next(_next) => {
+            let Some(rest) = cost_from(down, row.head) else {
+                return None;
+            };
+            sum_within(cap, row.cost, rest)
+        }
     }
-    Some(Best {
-        entry: row.entry,
-        cost: row.cost,
-        exit: row.far,
-        head: None,
-        segment: List::new(alloc),
-    })
 }
 
-// The way that a row makes by itself, over a node of which the next domain told.
-fn way_beyond(alloc: Global, cap: Cost, row: &BorderRow, down: &[Branch]) -> Option<Best> {
-    let Some(rest) = cost_from(down, row.head) else {
-        return None;
-    };
-    let Some(cost) = sum_within(cap, row.cost, rest) else {
-        return None;
-    };
-    Some(Best {
-        entry: row.entry,
-        cost,
-        exit: row.far,
-        head: Some(row.head),
-        segment: List::new(alloc),
-    })
+// The node beyond the exit of a row.
+fn head_over(target: Target, row: &BorderRow) -> Option<Addr>
+    ensures { result ≡ head_over target row.now }
+{
+    match target {
+        Target::Node(_end) => None,
+        Target::Next(_next) => Some(row.head),
+    }
 }
 
 // The way that a row makes by itself.
@@ -86,10 +87,16 @@ fn way_over(
 ) -> Option<Best>
     ensures { MatchOption result (JoinsNothing cap target (downs down.now) row.now) (IsJoinOfRow cap target (downs down.now) row.now) }
 {
-    match target {
-        Target::Node(_end) => way_to_node(alloc, cap, row),
-        Target::Next(_next) => way_beyond(alloc, cap, row, down),
-    }
+    let Some(cost) = joined_cost(cap, target, row, down) else {
+        return None;
+    };
+    Some(Best {
+        entry: row.entry,
+        cost,
+        exit: row.far,
+        head: head_over(target, row),
+        segment: List::new(alloc),
+    })
 }
 
 // Of two ways from one entry the cheaper, and the first of equals.
@@ -107,18 +114,34 @@ fn cheaper(first: Best, second: Best) -> Best
 fn take_in(best: &mut Vec<Best>, way: Best) -> Result<(), NoMemory>
     ensures { OnOk result (TakesIn way best.old.items best.new.items) }
 {
-    match best.pop() {
-        Some(last) => {
-            if last.entry == way.entry {
-                best.push(cheaper(last, way))?;
-            } else {
-                best.push(last)?;
-                best.push(way)?;
-            }
-        }
-        None => best.push(way)?,
+    let Some(last) = best.pop() else {
+        best.push(way)?;
+        return Ok(());
+    };
+    if last.entry == way.entry {
+        best.push(cheaper(last, way))?;
+        return Ok(());
     }
+    best.push(last)?;
+    best.push(way)?;
     Ok(())
+}
+
+// A further row.
+fn join_row(
+    alloc: Global,
+    cap: Cost,
+    target: Target,
+    row: &BorderRow,
+    down: &[Branch],
+    best: &mut Vec<Best>,
+) -> Result<(), NoMemory>
+    ensures { OnOk result (JoinsRow cap target (downs down.now) row.now best.old.items best.new.items) }
+{
+    match way_over(alloc, cap, target, row, down) {
+        Some(way) => take_in(best, way),
+        None => Ok(()),
+    }
 }
 
 /// The join of rows with what the next domain told: the least sum of each entry, and of equal sums that
@@ -135,9 +158,7 @@ pub(crate) fn join_rows(
 {
     let mut best = Vec::new(alloc);
     for row in rows {
-        if let Some(way) = way_over(alloc, cap, target, row, down) {
-            take_in(&mut best, way)?;
-        }
+        join_row(alloc, cap, target, row, down, &mut best)?;
     }
     Ok(List::from_vec(best))
 }

@@ -1,7 +1,9 @@
 //! An element without topologies answers a job by the rows that are given for it.
-ghost use Rattle.std.specs.Prelude.{◌≡◌, ◌≤◌, ◌+◌, length, IfOk, IfSome, MatchOption};
+ghost use Rattle.std.specs.Prelude.{◌≡◌, ◌≤◌, ◌+◌, All, length, IfOk, IfSome, MatchOption};
 ghost use Rattle.path_keys.specs.Keys.{live_at, live_most};
+ghost use Rattle.vspt_tree.specs.Branches.{HasBranchAt};
 ghost use Rattle.plant_model.specs.Blind.{AreGivenRows};
+ghost use Rattle.plant_model.specs.Element.{is_client};
 ghost use Rattle.pce_element.specs.Blind.{AnswersBlindly, AreJoined, HasNoJob, IsSolvedBy};
 ghost use Rattle.pce_element.specs.Seen.{SameButRoom};
 
@@ -17,6 +19,15 @@ use dom_base::{BorderRow, List, NoMemory, Tick};
 use std::alloc::Global;
 use vspt_tree::{Best, Branch};
 
+fn is_client(class: Class) -> bool
+    ensures { result ≡ is_client class }
+{
+    match class {
+        Class::Client { .. } => true,
+        Class::Neighbour(_) | Class::Parent => false,
+    }
+}
+
 // What the rows of a request join to. A client's are not looked at: what it is answered nobody closed sees.
 fn best_of(
     alloc: Global,
@@ -25,9 +36,10 @@ fn best_of(
     down: &[Branch],
 ) -> Result<List<Best>, NoMemory>
     requires { AreGivenRows rows.now }
-    ensures { IfOk result (AreJoined item.now rows.now down.now) }
+    ensures joined { IfOk result (AreJoined item.now rows.now down.now) }
+    ensures goes_on { IfOk result (All (λ row. IfSome row.head (HasBranchAt down.now))) }
 {
-    if let Class::Client { .. } = item.class() {
+    if is_client(item.class()) {
         return Ok(List::new(alloc));
     }
     let wanted = item.wanted();
@@ -53,13 +65,14 @@ impl Element<Blind> {
         let Some(down) = row.item.ready() else {
             return Ok(None);
         };
-        let best = best_of(self.alloc, row.item, rows, down.as_slice())?;
+        let down = down.as_slice();
+        let best = best_of(self.alloc, row.item, rows, down)?;
         let found = Found {
             source_known: true,
             target_known: true,
             best: best.as_slice(),
         };
-        Ok(Some(self.answer_to(&row, down.as_slice(), &found, now)?))
+        Ok(Some(self.answer_to(&row, down, &found, now)?))
     }
 
     /// Plans the answer to the request of a number by the rows of its border table, and makes the room for

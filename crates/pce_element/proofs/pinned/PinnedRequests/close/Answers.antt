@@ -10,7 +10,7 @@ use Rattle.pce_element.proofs.pinned.PinnedRequests.close.Goals as goal
 pub release-requires : goal.release-requires
 release-requires g c =
     let a = c.self.inside in
-    subst (λ p. IsKept (g.W.World.Keeps a.world) p) (sym c.into_pin.ensures) (kept_pin (g.W.World.Keeps a.world) c.args.number a.requests.kept.rows c.in-Some.item c.in-Some.ensures.item c.self.invariant.pins)
+    subst (λ p. IsKept (g.W.World.Keeps a.world) p) (sym c.into_pin.ensures) (kept_pin (g.W.World.Keeps a.world) c.args.number a.requests.kept.rows c.in-Some.item (sym c.in-Some.ensures.item) c.self.invariant.pins)
 
 pub invariant_of-self : goal.invariant_of-self
 invariant_of-self g c =

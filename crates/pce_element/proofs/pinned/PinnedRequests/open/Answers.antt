@@ -1,12 +1,12 @@
 use Rattle.std.proofs.Common.{◌≡◌, ◌∙◌, ◌<◌, ◌++◌, ◌∷◌, [], List, length, arith, sym, ap, subst}
-use Rattle.request_table.specs.Pending.{Pending}
+use Rattle.request_table.specs.Pending.{Pending, is_full}
 use Rattle.plant_model.specs.Element.{Item, Row}
 use Rattle.pce_element.specs.Pinned.{Pinned, pins_in}
 use Rattle.pce_element.proofs.PinLemmas.{few_pins, opened_keeps}
 use Rattle.pce_element.proofs.pinned.PinnedRequests.open.Goals as goal
 
-pub pin-requires : goal.pin-requires
-pin-requires g c =
+pub pin-pin-requires : goal.pin-pin-requires
+pin-pin-requires g c =
     let a = c.self.inside in
     (pins_in a.requests.kept.rows, c.self.invariant.pins, few_pins a.requests.kept c.self.invariant.limit (ap (λ (p : Pinned _). is_full p.pending) c.self.view_is ∙ c.requires.fits))
 
