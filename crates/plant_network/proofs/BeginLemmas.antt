@@ -29,17 +29,20 @@ use Rattle.plant_hierarchy.proofs.JoinedLemmas.{are_joined, elements_below}
 use Rattle.plant_network.specs.Beginning.{AreBare, Begins}
 use Rattle.plant_network.specs.Moving.{IsKept, IsSound, whole}
 
+none_either : (b : Bool) (z : ℕ) → cond b z z ≡ z
+none_either true z = refl
+none_either false z = refl
+
+abbrev new_sessions : As → As → Session
+new_sessions = λ a b. new_sender.session
+
 module _ {P : Type 0} {S : Type 0} (n : NetworkParts) (show : S → List Hop) where
   -- ---- nothing is pending
-
-  none_either : (b : Bool) → cond b 0 0 ≡ 0
-  none_either true = refl
-  none_either false = refl
 
   pub owes_nothing : (ms : Membership P S) → AreBare n show ms → (at : As) (p : Peer) → owed at p ms ≡ 0
   owes_nothing ms are at p =
       ap₂ (λ (k : Parent) (es : As → Element P S). cond (same_as at parent_as) (count_by_asker (is_peer p) k.pending.rows) (count_by_asker (is_peer p) (es at).pending.rows)) are.parent are.elements
-      ∙ none_either (same_as at parent_as)
+      ∙ none_either (same_as at parent_as) 0
 
   none_at : (ms : Membership P S) → AreBare n show ms → (ds : List As) → pending_at ds ms ≡ 0
   none_at ms are [] = refl
@@ -54,9 +57,6 @@ module _ {P : Type 0} {S : Type 0} (n : NetworkParts) (show : S → List Hop) wh
   bare_at first clock accesses sessions queues =
       let s = events.bare P S wire n show first in
       record { clock = clock; elements = s.elements; parent = s.parent; current = first; accesses = accesses; sessions = sessions; queues = queues }
-
-  abbrev new_sessions : As → As → Session
-  new_sessions = λ a b. new_sender.session
 
   bare_is : (ms : Membership P S) (f : Flow) → AreBare n show ms → IsBare (lines n) (length n.peers) f → state_of ms f ≡ events.bare P S wire n show ms.current
   bare_is ms f are bare =

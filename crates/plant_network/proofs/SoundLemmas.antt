@@ -12,6 +12,9 @@ use Rattle.plant_lasting.specs.Lasting.{AreInOrder, KeysInTime}
 use Rattle.plant_network.specs.Whole.{Step}
 use Rattle.plant_network.specs.Moving.{IsSound, Moves, whole}
 
+later_least : (now t : ℕ) → now ≤ later now t
+later_least now t = elim (cases_lt now t) [ inl lt ↦ rw (lt-ltb now t lt) (le_of_lt lt) | inr ge ↦ rw (le-ltb now t ge) (le_refl now) ]
+
 module _ {P : Type 0} {S : Type 0} where
   -- a network that is sound stays so, where its tables stay in order and its keys in time
   pub sound_after : (step : Step P S) (old new : Here P S) (told : Answered) → IsSound old → Moves step old told new → AreInOrder (whole new).state → KeysInTime (whole new).state → IsSound new
@@ -28,8 +31,5 @@ module _ {P : Type 0} {S : Type 0} where
       }
 
   -- no key was issued after a later moment
-  later_least : (now t : ℕ) → now ≤ later now t
-  later_least now t = elim (cases_lt now t) [ inl lt ↦ rw (lt-ltb now t lt) (le_of_lt lt) | inr ge ↦ rw (le-ltb now t ge) (le_refl now) ]
-
   pub keys_before : (h : Here P S) (t : ℕ) → IsSound h → KeysBefore (later h.flow.clock t) h.network h.seen
   keys_before h t sound = λ d is. le_trans (sound.keys d) (later_least h.flow.clock t)

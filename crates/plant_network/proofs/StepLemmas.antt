@@ -19,14 +19,14 @@ use Rattle.plant_deeds.specs.Standing.{Here, state_of}
 use Rattle.plant_network.specs.Whole.{Step, Stepped}
 use Rattle.plant_network.specs.Moving.{IsKept, Moves, OrLacks, whole}
 
+same_said : (f g : Flow) → OnlyGrows f g → g.said ≡ f.said
+same_said f g grows = ap (λ (x : Flow). x.said) grows.same
+
 module _ {P : Type 0} {S : Type 0} where
   -- what is refused leaves members, and what is on its way but for room
   pub record Stays (old new : Here P S) : Type 0 where
     pub seen : new.seen ≡ old.seen
     pub grows : OnlyGrows old.flow new.flow
-
-  same_said : (f g : Flow) → OnlyGrows f g → g.said ≡ f.said
-  same_said f g grows = ap (λ (x : Flow). x.said) grows.same
 
   same_state : (old new : Here P S) → Stays old new → (whole new).state ≡ (whole old).state
   same_state old new s = ap₂ (λ (ms : Membership P S) (f : Flow). state_of ms f) s.seen s.grows.same

@@ -4,7 +4,7 @@ use Rattle.plant_text.specs.Settings.{elements_of}
 use Rattle.plant_traffic.specs.Carried.{flow_of}
 use Rattle.plant_deeds.specs.Standing.{here}
 use Rattle.plant_network.proofs.BeginLemmas.{begins_if, owes_nothing, pends_nothing}
-use Rattle.plant_network.proofs.begin.begin.Goals as goal
+use Rattle.plant_network.proofs.beginning.begin.Goals as goal
 
 pub begin_links-requires-clause-nothing : goal.begin_links-requires-clause-nothing
 begin_links-requires-clause-nothing g c = owes_nothing (g.M.Members.network c.args.members.now) g.M.Members.show (g.M.Members.seen c.args.members.now) c.requires.new
