@@ -1,5 +1,5 @@
 -- A network that has just been made.
-use Rattle.std.proofs.Common.{◌≡◌, ◌<◌, ◌+◌, ◌^◌, ℕ, None, Result, Ok, Err, OnOk, Bool, true, false, cond, List, [], ◌∷◌, length, refl, sym, ◌∙◌, ap, ap₂, subst}
+use Rattle.std.proofs.Common.{◌≡◌, ◌+◌, ℕ, None, Result, Ok, Err, OnOk, Bool, true, false, cond, List, [], ◌∷◌, length, refl, sym, ◌∙◌, ap, ap₂, subst}
 use Rattle.dom_base.specs.declared.names.As.{As}
 use Rattle.dom_base.specs.declared.names.NoMemory.{NoMemory}
 use Rattle.dom_base.specs.declared.names.Peer.{Peer}
@@ -8,7 +8,7 @@ use Rattle.pcep_session.specs.declared.state.State.{State as Session}
 use Rattle.plant_text.specs.declared.settings.NetworkParts.{NetworkParts}
 use Rattle.plant_text.specs.Names.{same_as, parent_as}
 use Rattle.plant_text.specs.Networks.{IsNetwork}
-use Rattle.plant_text.specs.Settings.{has_line, is_element, lines}
+use Rattle.plant_text.specs.Settings.{lines}
 use Rattle.plant_model.specs.Element.{Element}
 use Rattle.plant_model.specs.Events as events
 use Rattle.plant_model.specs.Parent.{Parent}
@@ -17,7 +17,7 @@ use Rattle.plant_model.specs.State.{Access, State}
 use Rattle.plant_model.specs.Wire.{Bytes}
 use Rattle.plant_traffic.specs.Flow.{Flow, IsBare}
 use Rattle.plant_sessions.specs.Links.{new_sender}
-use Rattle.plant_members.specs.Membership.{AreJoined, Membership}
+use Rattle.plant_members.specs.Membership.{Membership}
 use Rattle.plant_members.specs.Owed.{count_by_asker, is_peer, owed, pending_at, pending_in}
 use Rattle.plant_deeds.specs.Passing.{IsOf}
 use Rattle.plant_deeds.specs.Rooms.{IsRoomy}
@@ -27,7 +27,7 @@ use Rattle.plant_lasting.proofs.HappeningsLast.{opened_in_order, opened_in_time}
 use Rattle.plant_hierarchy.proofs.ApartLemmas.{ends_are_two}
 use Rattle.plant_hierarchy.proofs.JoinedLemmas.{are_joined, elements_below}
 use Rattle.plant_network.specs.Beginning.{AreBare, Begins}
-use Rattle.plant_network.specs.Moving.{IsKept, IsSound, whole}
+use Rattle.plant_network.specs.Moving.{IsKept, whole}
 
 none_either : (b : Bool) (z : ℕ) → cond b z z ≡ z
 none_either true z = refl

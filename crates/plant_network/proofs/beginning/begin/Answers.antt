@@ -1,5 +1,3 @@
-use Rattle.std.proofs.Common.{Result, Ok, Err}
-use Rattle.std.specs.Prelude.{OnOk}
 use Rattle.plant_text.specs.Settings.{elements_of}
 use Rattle.plant_traffic.specs.Carried.{flow_of}
 use Rattle.plant_deeds.specs.Standing.{here}
