@@ -62,4 +62,3 @@ module _ {P : Type 0} {S : Type 0} (initial : As → P) (show : S → List Hop) 
       ap₂ (λ (ks : As → Element P S) (cs : As → P). let m : Membership P S = record { elements = ks; parent = s.losing.parent; current = cs } in m)
       (elements_new initial n (elements_of n.elements) es are) (currents_new initial n (elements_of n.elements) es are)
       ∙ ap (λ (k : parent.Parent). let m : Membership P S = record { elements = (begun initial show n).elements; parent = k; current = (begun initial show n).current } in m) parent_is
-

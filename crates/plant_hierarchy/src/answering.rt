@@ -48,7 +48,10 @@ fn commit_at(
 }
 
 // What is told of an element's answer.
-fn told_below(at: As, answer: Result<Plan<Topologies>, CommitError>) -> Result<MemberPlan<Topologies>, Unanswered>
+fn told_below(
+    at: As,
+    answer: Result<Plan<Topologies>, CommitError>,
+) -> Result<MemberPlan<Topologies>, Unanswered>
     ensures { result ≡ told_below at answer }
 {
     match answer {
@@ -65,7 +68,9 @@ fn told_below(at: As, answer: Result<Plan<Topologies>, CommitError>) -> Result<M
 }
 
 // The same of the parent's.
-fn told_above(answer: Result<BorderPlan, ParentCommitError>) -> Result<MemberPlan<Topologies>, Unanswered>
+fn told_above(
+    answer: Result<BorderPlan, ParentCommitError>,
+) -> Result<MemberPlan<Topologies>, Unanswered>
     ensures { result ≡ told_above answer }
 {
     match answer {
@@ -83,7 +88,12 @@ fn told_above(answer: Result<BorderPlan, ParentCommitError>) -> Result<MemberPla
 
 impl Elements<Topologies> {
     /// Plans the answer to a job of the element of a domain that was solved.
-    pub fn commit(&mut self, at: As, solved: Solved, now: Tick) -> Result<Plan<Topologies>, CommitError>
+    pub fn commit(
+        &mut self,
+        at: As,
+        solved: Solved,
+        now: Tick,
+    ) -> Result<Plan<Topologies>, CommitError>
         requires there { HasElement at self.old }
         requires clock { IfSome (at_domain at self.old) (λ e. e.losing.element.keys.clock ≤ now.0) }
         requires own { IfSome (at_domain at self.old) (λ e. IsOwnJob e solved) }
@@ -100,7 +110,12 @@ impl Elements<Topologies> {
 }
 
 impl Hierarchy<Topologies> {
-    fn commit_below(&mut self, at: As, solved: Solved, now: Tick) -> Result<MemberPlan<Topologies>, Unanswered>
+    fn commit_below(
+        &mut self,
+        at: As,
+        solved: Solved,
+        now: Tick,
+    ) -> Result<MemberPlan<Topologies>, Unanswered>
         requires below { same_as at parent_as ≡ false }
         requires there { is_element self.old.network at ≡ true }
         requires clock { KeysBefore now.0 self.old.network (members_of first_pin self.old) }
@@ -127,7 +142,12 @@ impl Hierarchy<Topologies> {
     }
 
     /// Plans the answer to a job of a member that was solved, which changes nothing yet.
-    pub fn commit(&mut self, at: As, done: Done, now: Tick) -> Result<MemberPlan<Topologies>, Unanswered>
+    pub fn commit(
+        &mut self,
+        at: As,
+        done: Done,
+        now: Tick,
+    ) -> Result<MemberPlan<Topologies>, Unanswered>
         requires clock { KeysBefore now.0 self.old.network (members_of first_pin self.old) }
         requires own { IsOwnDone self.old at done }
         ensures { Commits at now.0 done self.old result self.new }

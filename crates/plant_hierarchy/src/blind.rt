@@ -59,7 +59,10 @@ fn solve_job(alloc: Global, parent: &Parent, number: u64) -> Result<BorderSolved
 }
 
 // What is told of an element's answer.
-fn told_below(at: As, answer: Result<Option<Plan<Blind>>, NoMemory>) -> Result<MemberPlan<Blind>, Refused>
+fn told_below(
+    at: As,
+    answer: Result<Option<Plan<Blind>>, NoMemory>,
+) -> Result<MemberPlan<Blind>, Refused>
     ensures { result ≡ told_below at answer }
 {
     match answer {

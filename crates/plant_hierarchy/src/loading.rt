@@ -25,7 +25,11 @@ use std::sync::Arc;
 use te_generations::LoadError;
 use te_links::Topology;
 
-fn load_at(items: &mut Vec<Element<Topologies>>, i: usize, topology: Topology) -> Result<u64, LoadError>
+fn load_at(
+    items: &mut Vec<Element<Topologies>>,
+    i: usize,
+    topology: Topology,
+) -> Result<u64, LoadError>
     requires within { i < length items.old.items }
     requires own { topology.own ≡ (slice_index_or items.old.items i (no_one first_pin)).place.own }
     ensures { LoadsPlace i topology items.old.items result items.new.items }
