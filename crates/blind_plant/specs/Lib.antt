@@ -1,0 +1,4 @@
+pub mod Network
+pub mod Whole
+pub mod Held
+pub mod PlantFields
