@@ -160,4 +160,4 @@ module _ (P : Type 0) (S : Type 0) (c : Codec) (n : NetworkParts) (show : S → 
   take_less h is = subst (LeavesLess (length (inbox_of i s))) (sym is) (open_less (s.accesses i).connection refl)
 
   pub take_empty : (h : Happened P S) → h ≡ events.take P S c n show i s → is_accepted h.answer ≡ false → FoundNothing i s h
-  take_empty h is no = let found = subst (IsEmptyAt (inbox_of i s)) (sym is) (open_empty (s.accesses i).connection) no in record { empty = found.0; state = found.1; deeds = found.2 }
+  take_empty h is not_taken = let found = subst (IsEmptyAt (inbox_of i s)) (sym is) (open_empty (s.accesses i).connection) not_taken in record { empty = found.0; state = found.1; deeds = found.2 }

@@ -9,25 +9,24 @@ use Rattle.plant_model.specs.State.{State}
 use Rattle.plant_model.specs.Wire.{Codec}
 use Rattle.plant_due.specs.Due.{IsLeast, inbox_of}
 
--- A take that is accepted leaves less in the inbox.
-abbrev pub TakesLeaveLess : Type 1
-TakesLeaveLess =
-    (P S : Type 0) (c : Codec) (n : NetworkParts) (show : S → List Hop) (i : ℕ) (s : State P S)
-    → is_accepted (take P S c n show i s).answer ≡ true → length (inbox_of i (take P S c n show i s).state) < length (inbox_of i s)
-
--- One that is refused found nothing, and changes and says nothing.
+-- A take that is refused found nothing, and changes and says nothing.
 pub record FoundNothing {P : Type 0} {S : Type 0} (i : ℕ) (s : State P S) (h : Happened P S) : Type 0 where
   pub empty : inbox_of i s ≡ []
   pub state : h.state ≡ s
   pub deeds : h.deeds ≡ []
 
-abbrev pub RefusedTakesFindNothing : Type 1
-RefusedTakesFindNothing =
-    (P S : Type 0) (c : Codec) (n : NetworkParts) (show : S → List Hop) (i : ℕ) (s : State P S)
-    → is_accepted (take P S c n show i s).answer ≡ false → FoundNothing i s (take P S c n show i s)
+module _ (P : Type 0) (S : Type 0) (show : S → List Hop) where
+  -- A take that is accepted leaves less in the inbox.
+  abbrev pub TakesLeaveLess : Type 0
+  TakesLeaveLess =
+      (c : Codec) (n : NetworkParts) (i : ℕ) (s : State P S)
+      → is_accepted (take P S c n show i s).answer ≡ true → length (inbox_of i (take P S c n show i s).state) < length (inbox_of i s)
 
--- The message of the least pair can be carried.
-abbrev pub LeastIsCarried : Type 1
-LeastIsCarried =
-    (P S : Type 0) (c : Codec) (n : NetworkParts) (show : S → List Hop) (a b : As) (s : State P S)
-    → IsLeast n s (a, b) → is_accepted (carry P S c n show a b s).answer ≡ true
+  abbrev pub RefusedTakesFindNothing : Type 0
+  RefusedTakesFindNothing =
+      (c : Codec) (n : NetworkParts) (i : ℕ) (s : State P S) → is_accepted (take P S c n show i s).answer ≡ false → FoundNothing i s (take P S c n show i s)
+
+  -- The message of the least pair can be carried.
+  abbrev pub LeastIsCarried : Type 0
+  LeastIsCarried =
+      (c : Codec) (n : NetworkParts) (a b : As) (s : State P S) → IsLeast n s (a, b) → is_accepted (carry P S c n show a b s).answer ≡ true

@@ -76,7 +76,7 @@ so_many last [] = refl
 so_many last (row ∷ rows) = go (rank last.entry == rank row.entry) (so_many row rows)
   where
     go : (b : Bool) → length (entries_after row rows) ≡ new_entries_after row rows → length (cond b (entries_after row rows) (row.entry ∷ entries_after row rows)) ≡ cond b 0 1 + new_entries_after row rows
-    go true is = is
+    go true is = omega (arith, is)
     go false is = omega (arith, is)
 
 behind_one : (x : Addr) (xs ys : List Addr) → All (Contains xs) ys → All (Contains (x ∷ xs)) ys
