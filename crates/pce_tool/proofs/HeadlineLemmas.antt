@@ -31,14 +31,13 @@ use Rattle.plant_client.specs.Asking as asking
 use Rattle.plant_client.specs.Questions.{opening_text, question_text, sequence_most}
 use Rattle.plant_client.proofs.QuestionLemmas.{question_short}
 use Rattle.pce_tool.specs.declared.route.Route.{Route}
-use Rattle.pce_tool.specs.Headline.{IsWorth, PathsAreWorth, PlaysAreWorth, RunsAreWorth}
+use Rattle.pce_tool.specs.Headline.{IsWorth, PathsAreWorth, PlaysAreWorth}
 use Rattle.pce_tool.specs.Networks.{HasNetwork, question_of}
-use Rattle.pce_tool.specs.Tasks.{Task, Domain, Path, Play}
 
 -- ---- what lines feed
 
 -- octets, and few
-abbrev Feeds : LineEvent → ℕ → Type 0
+abbrev pub Feeds : LineEvent → ℕ → Type 0
 Feeds e most = FeedsOctets e × (fed_octets e ≤ most)
 
 line_feeds : (n : NetworkParts) (text : List ℕ) (e : LineEvent) → line_in n text ≡ Some (Some e) → Feeds e (length text)
@@ -66,7 +65,7 @@ script_feeds files n (l ∷ ls) (c ∷ cs) are =
     let others = script_feeds files n ls cs are.1 in
     (All-cons (λ (x : Cue). FeedsOctets x.event) c cs one.0 others.0, omega (arith, one.1, others.1, all_lengths_cons l ls))
 
-plays_are_worth : (files : Option Files) (net : List ℕ) → PlaysAreWorth files net
+pub plays_are_worth : (files : Option Files) (net : List ℕ) → PlaysAreWorth files net
 plays_are_worth files net n script done others turns told end has within parts p =
     let feeds = script_feeds files n done p.cues p.are_cues in
     let right = scripts_are_right n (settings_are_modelled has.bytes n has.is_text) p.start end p.cues turns told p.new feeds.0 p.played in
@@ -76,21 +75,21 @@ plays_are_worth files net n script done others turns told end has within parts p
 -- ---- what a client's lines feed
 
 -- the lines of a client feed octets, and so many
-abbrev FeedAll : List LineEvent → ℕ → Type 0
+abbrev pub FeedAll : List LineEvent → ℕ → Type 0
 FeedAll es most = (files : Option Files) (cs : List Cue) → asking.AreCues files es cs → FeedOctets cs × (all_octets cs ≤ most)
 
-no_lines : FeedAll [] 0
+pub no_lines : FeedAll [] 0
 no_lines files [] are = (All-nil (λ (c : Cue). FeedsOctets c.event), omega arith)
 no_lines files (c ∷ cs) are = absurd are
 
-one_line : (e : LineEvent) (es : List LineEvent) (first others : ℕ) → Feeds e first → FeedAll es others → FeedAll (e ∷ es) (first + others)
+pub one_line : (e : LineEvent) (es : List LineEvent) (first others : ℕ) → Feeds e first → FeedAll es others → FeedAll (e ∷ es) (first + others)
 one_line e es first others feeds all files [] are = absurd are
 one_line e es first others feeds all files (c ∷ cs) are =
     let here : Feeds c.event first = subst (λ (x : LineEvent). Feeds x first) (sym are.0.event) feeds in
     let rest = all files cs are.1 in
     (All-cons (λ (x : Cue). FeedsOctets x.event) c cs here.0 rest.0, omega (arith, here.1, rest.1))
 
-loads_feed : (ts : List (As × List ℕ)) (es : List LineEvent) (most : ℕ) → FeedAll es most → FeedAll (map load_line ts ++ es) most
+pub loads_feed : (ts : List (As × List ℕ)) (es : List LineEvent) (most : ℕ) → FeedAll es most → FeedAll (map load_line ts ++ es) most
 loads_feed [] es most all = all
 loads_feed (t ∷ ts) es most all =
     let whole : 0 + most ≡ most = omega arith in
@@ -103,7 +102,7 @@ below bytes is =
 opening_octets : All (λ (b : ℕ). b < 256) opening_text
 opening_octets = below opening_text refl
 
-opening_feeds : (client : ℕ) → Feeds (line.Feed (Some client) opening_text) 16
+pub opening_feeds : (client : ℕ) → Feeds (line.Feed (Some client) opening_text) 16
 opening_feeds client = (opening_octets, omega arith)
 
 question_feeds : (n : NetworkParts) (client : ℕ) (q : Question) → FeedsOctets (line.Feed (Some client) (question_text q)) → length q.sequence ≤ sequence_most →
@@ -119,18 +118,10 @@ question_feeds n client q octets few =
     (one_line (line.Feed (Some client) (question_text q)) last 65532 0 (octets, question_short q few)
     (one_line line.Finish [] 0 0 (tt, omega arith) no_lines)))))
 
-paths_are_worth : (files : Option Files) (net : List ℕ) (r : Route) → PathsAreWorth files net r
+pub paths_are_worth : (files : Option Files) (net : List ℕ) (r : Route) → PathsAreWorth files net r
 paths_are_worth files net r n received has element few a =
     let m = with_path n r.at in
     let played = a.lines in
     let feeds = question_feeds m (length n.peers) (question_of r) a.octets few files played.cues played.are_cues in
     let right = scripts_are_right m (client_is_modelled has.bytes n r.at has.is_text element) a.start a.asked played.cues played.turns played.told a.new feeds.0 played.played in
     record { right = right.0; short = λ alone. right.1 alone (omega (arith, feeds.1)) }
-
--- ---- all tasks
-
-pub runs_are_worth : (files : Option Files) (task : Option Task) → RunsAreWorth files task
-runs_are_worth files None = tt
-runs_are_worth files (Some (Domain c)) = tt
-runs_are_worth files (Some (Play net)) = plays_are_worth files net
-runs_are_worth files (Some (Path net r)) = paths_are_worth files net r

@@ -8,3 +8,6 @@ pub mod NetworkEnds
 pub mod RouteLemmas
 pub mod HeadlineLemmas
 pub mod ShortWords
+pub mod DrawnNetwork
+pub mod BulkLemmas
+pub mod RunsAreWorth

@@ -12,9 +12,12 @@ use Rattle.script_laws.specs.Headline.{HasIdsLeft, IsRight}
 use Rattle.plant_script.specs.Scripts.{Playing, script_most}
 use Rattle.plant_client.specs.Asking.{Asks}
 use Rattle.plant_client.specs.Questions.{sequence_most}
+use Rattle.plant_bulk.specs.declared.requests.Demand.{Demand}
+use Rattle.plant_bulk.specs.Playing.{IsBulk, bulk_turns, network}
+use Rattle.plant_bulk.specs.Requests.{requests_most}
 use Rattle.pce_tool.specs.declared.route.Route.{Route}
 use Rattle.pce_tool.specs.Networks.{HasNetwork, question_of}
-use Rattle.pce_tool.specs.Tasks.{Task, Path, Play}
+use Rattle.pce_tool.specs.Tasks.{Task, Bulk, Path, Play}
 
 -- A run is right; and without a parent no id comes round in it, so what is said of it then has no premise.
 pub record IsWorth (n : NetworkParts) (turns : List Turn) (end : Stage) : Type 0 where
@@ -33,10 +36,15 @@ PathsAreWorth files net r =
     (n : NetworkParts) (received : List ℕ) → HasNetwork files net n → is_element n r.at ≡ true → length r.sequence ≤ sequence_most
     → (a : Asks files (with_path n r.at) (length n.peers) (question_of r) received) → IsWorth (with_path n r.at) a.lines.turns a.asked
 
+-- What is played of a drawn network and so many requests, whatever bandwidth they ask for.
+abbrev pub BulksAreWorth : ℕ → Type 0
+BulksAreWorth n = (d : Demand) (received : List (List ℕ)) → n ≤ requests_most → (b : IsBulk d n received) → IsWorth network (bulk_turns b) b.end
+
 -- Of every run of a network that the words ask for: each path that a client is answered is feasible and of least cost among all walks
 -- through the asked domains in order, each domain as it stood when its element took the request; where a client is answered NO-PATH of
 -- nature 0, none exists; and what closed peers hear is a function of requests, policy and disclosed border costs alone.
 abbrev pub RunsAreWorth : Option Files → Option Task → Type 0
 RunsAreWorth files (Some (Play net)) = PlaysAreWorth files net
 RunsAreWorth files (Some (Path net r)) = PathsAreWorth files net r
+RunsAreWorth files (Some (Bulk n)) = BulksAreWorth n
 RunsAreWorth files task = Unit {0}

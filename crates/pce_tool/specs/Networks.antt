@@ -1,4 +1,4 @@
--- How a run over a network ends: the settings in a file; a script that is played, from the input; or a path that a client asks for.
+-- How a run over a network ends: the settings in a file; a script that is played, from the input; a path that a client asks for; or a network that is drawn.
 use Rattle.std.specs.Prelude.{◌≡◌, ◌⊎◌, ◌<◌, ◌≤◌, ℕ, true, false, List, length, Option, Some, None, IfSome}
 use Rattle.std.specs.Io.KnownBytes.{Appends}
 use Rattle.dom_base.specs.declared.names.As.{As}
@@ -13,6 +13,10 @@ use Rattle.plant_text.specs.Settings.{is_element}
 use Rattle.plant_script.specs.declared.stop.Stop.{Stop}
 use Rattle.plant_script.specs.declared.stop.Stop.TheVariants as stop
 use Rattle.plant_script.specs.Scripts.{Around, IsWhole, ScriptStops, around, script_most}
+use Rattle.plant_bulk.specs.declared.requests.Demand.TheVariants.{One}
+use Rattle.plant_bulk.specs.declared.tally.Tally.{Tally}
+use Rattle.plant_bulk.specs.Playing.{IsTallied}
+use Rattle.plant_bulk.specs.Telling.{tally_text}
 use Rattle.pce_tool.specs.declared.status.Status.{Status}
 use Rattle.pce_tool.specs.declared.status.Status.TheVariants as status
 use Rattle.pce_tool.specs.Limits.{settings_max}
@@ -23,7 +27,7 @@ use Rattle.plant_client.specs.Telling.{told_text}
 use Rattle.pce_tool.specs.declared.route.Route.{Route}
 use Rattle.pce_tool.specs.Parts.{IsFileStatus}
 use Rattle.pce_tool.specs.Run.{Ends}
-use Rattle.pce_tool.specs.Tasks.{Task, Domain, Path, Play}
+use Rattle.pce_tool.specs.Tasks.{Task, Bulk, Domain, Path, Play}
 
 -- the settings in the file of that name
 pub record HasNetwork (files : Option Files) (name : List ℕ) (n : NetworkParts) : Type 0 where
@@ -98,7 +102,7 @@ PlayEnds w net s = (WroteNothing w × IsSettingsStatus w net s) ⊎ HasNoScript 
 -- ---- a path
 
 abbrev pub question_of : Route → Question
-question_of r = record { source = r.source; target = r.target; sequence = r.sequence }
+question_of r = record { id = 1; source = r.source; target = r.target; bandwidth = None; sequence = r.sequence }
 
 -- why the settings have no element for the client that asks
 abbrev pub IsNoClientStatus : List ℕ → NetworkParts → As → Status → Type 0
@@ -153,6 +157,26 @@ pub record IsAsked (w : World) (net : List ℕ) (r : Route) (s : Status) : Type 
 abbrev pub PathEnds : World → List ℕ → Route → Status → Type 0
 PathEnds w net r s = (WroteNothing w × IsSettingsStatus w net s) ⊎ HasNoClient w net r s ⊎ IsAsked w net r s
 
+-- ---- requests over a drawn network
+
+-- what the answers to so many requests come to
+abbrev pub IsCounted : ℕ → Tally → Type 0
+IsCounted n tally = IsTallied One n tally
+
+-- a first part of what they come to is written, and the output failed
+pub record IsCutTally (w : World) (n : ℕ) : Type 0 where
+  pub tally : Tally
+  pub counted : IsCounted n tally
+  pub rose : HasRisen w.output_faults
+  pub part : AppendsSome w.before w.after (tally_text n tally)
+
+-- How a run ends that draws a network and puts so many requests. It reads no file.
+abbrev pub BulkEnds : World → ℕ → Status → Type 0
+BulkEnds w n status.Ok = (tally : Tally) × IsCounted n tally × Appends w.before w.after (tally_text n tally)
+BulkEnds w n status.WriteFault = IsCutTally w n
+BulkEnds w n status.NoMemory = WroteNothing w
+BulkEnds w n s = ⊥
+
 -- ---- all runs
 
 -- A run of words that are not in the table does nothing.
@@ -161,3 +185,4 @@ Runs w None s = (s ≡ status.Usage) × WroteNothing w
 Runs w (Some (Domain c)) s = Ends w c s
 Runs w (Some (Play net)) s = PlayEnds w net s
 Runs w (Some (Path net route)) s = PathEnds w net route s
+Runs w (Some (Bulk n)) s = BulkEnds w n s

@@ -9,14 +9,16 @@ use Rattle.dom_base.specs.Numerals.{number_in}
 use Rattle.dom_base.specs.Steps.{◌>>=◌}
 use Rattle.pcep_subobjects.specs.Addresses.{bits_of}
 use Rattle.plant_text.specs.Names.{same_as}
+use Rattle.plant_bulk.specs.Requests.{requests_most}
 use Rattle.pce_tool.specs.declared.route.Route.{Route}
 use Rattle.pce_tool.specs.Run.{Command, command_of}
 
--- a command over one domain; a script on a network; or a path that a client of a network asks for
+-- a command over one domain; a script on a network; a path that a client of a network asks for; or so many requests over a drawn network
 pub data Task : Type 0 where
   Domain : Command → Task
   Play : List ℕ → Task
   Path : List ℕ → Route → Task
+  Bulk : ℕ → Task
 
 -- ---- the words of a path
 
@@ -86,14 +88,23 @@ are_alike a b = bits_of a == bits_of b
 abbrev pub path_in : List ℕ → List ℕ → List (List ℕ) → Option Route
 path_in source target words = addr_in source >>= λ s. addr_in target >>= λ t. if are_alike s t then route_in s t words else None
 
+-- ---- the word of `bulk`
+
+-- how many requests, without a leading zero
+abbrev pub count_in : List ℕ → Option ℕ
+count_in word = if slice_index word 0 == 48 then None else number_in requests_most word
+
 -- ---- all words
+
+abbrev pub bulk_task : List ℕ → Option Task
+bulk_task word = count_in word >>= λ n. Some (Bulk n)
 
 abbrev pub path_task : List ℕ → List ℕ → List ℕ → List (List ℕ) → Option Task
 path_task net source target words = path_in source target words >>= λ r. Some (Path net r)
 
 -- what words ask for that are no command over one domain
 abbrev pub network_task : List (List ℕ) → Option Task
-network_task (verb ∷ net ∷ []) = if bytes_eq verb (codes "play") then Some (Play net) else None
+network_task (verb ∷ word ∷ []) = if bytes_eq verb (codes "play") then Some (Play word) else (if bytes_eq verb (codes "bulk") then bulk_task word else None)
 network_task (verb ∷ net ∷ source ∷ target ∷ words) = if bytes_eq verb (codes "path") then path_task net source target words else None
 network_task words = None
 
@@ -105,7 +116,8 @@ task_or other (Some c) = Some (Domain c)
 abbrev pub task_of : List (List ℕ) → Option Task
 task_of words = task_or (network_task words) (command_of words)
 
--- a path is asked for
-abbrev pub AsksForPath : Option Task → Type 0
-AsksForPath (Some (Path net route)) = Unit {0}
-AsksForPath task = ⊥
+-- the input is left as it was
+abbrev pub LeavesInput : Option Task → Type 0
+LeavesInput (Some (Path net route)) = Unit {0}
+LeavesInput (Some (Bulk n)) = Unit {0}
+LeavesInput task = ⊥

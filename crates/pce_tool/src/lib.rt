@@ -2,6 +2,7 @@
 #![tactic(auto)]
 
 mod commands;
+mod count;
 mod files;
 mod input;
 mod limits;

@@ -2,41 +2,64 @@
 ghost use Rattle.std.specs.Prelude.{◌≡◌, ◌↔◌, ◌∷◌, [], map, string_bytes, None, Some};
 ghost use Rattle.pce_tool.specs.Headline.{RunsAreWorth};
 ghost use Rattle.pce_tool.specs.Networks.{Runs};
-ghost use Rattle.pce_tool.specs.Tasks.{AsksForPath, path_in, path_task, task_of};
+ghost use Rattle.pce_tool.specs.Tasks.{LeavesInput, bulk_task, count_in, path_in, path_task, task_of};
 ghost use Rattle.pce_tool.specs.Worlds.{world};
 
-use crate::commands::{answer, certify, pair, pair_certify, pair_verify, path, play, verify};
+use crate::commands::{answer, bulk, certify, pair, pair_certify, pair_verify, path, play, verify};
+use crate::count::count_of;
 use crate::route::path_of;
 use crate::status::Status;
 use dom_edge::{Sink, Source, Store};
 use std::alloc::Global;
 
-// Runs a command of one file.
-fn run_over<S: Store, I: Source, K: Sink>(
+// Runs the command that draws a network.
+fn run_bulk<S: Store, I: Source, K: Sink>(
     alloc: Global,
-    verb: &str,
-    topology: &str,
+    count: &str,
     store: &mut S,
     input: &mut I,
     out: &mut K,
 ) -> Status
-    ensures usage { (result ≡ Status.Usage) ↔ (task_of (verb.now ∷ topology.now ∷ []) ≡ None) }
-    ensures ends { Runs (world (S.files store.old) (I.left input.old) (K.written out.old, K.written out.new) (S.faults store.old, S.faults store.new) (I.faults input.old, I.faults input.new) (K.faults out.old, K.faults out.new) (S.failed_at store.new)) (task_of (verb.now ∷ topology.now ∷ [])) result }
+    ensures usage { (result ≡ Status.Usage) ↔ (count_in count.now ≡ None) }
+    ensures ends { Runs (world (S.files store.old) (I.left input.old) (K.written out.old, K.written out.new) (S.faults store.old, S.faults store.new) (I.faults input.old, I.faults input.new) (K.faults out.old, K.faults out.new) (S.failed_at store.new)) (bulk_task count.now) result }
+    ensures unread { input.new ≡ input.old }
+{
+    match count_of(count) {
+        Some(count) => bulk::run(alloc, count, store, input, out),
+        None => Status::Usage,
+    }
+}
+
+// Runs a command of one file, or of one number.
+fn run_over<S: Store, I: Source, K: Sink>(
+    alloc: Global,
+    verb: &str,
+    word: &str,
+    store: &mut S,
+    input: &mut I,
+    out: &mut K,
+) -> Status
+    ensures usage { (result ≡ Status.Usage) ↔ (task_of (verb.now ∷ word.now ∷ []) ≡ None) }
+    ensures ends { Runs (world (S.files store.old) (I.left input.old) (K.written out.old, K.written out.new) (S.faults store.old, S.faults store.new) (I.faults input.old, I.faults input.new) (K.faults out.old, K.faults out.new) (S.failed_at store.new)) (task_of (verb.now ∷ word.now ∷ [])) result }
+    ensures unread { LeavesInput (task_of (verb.now ∷ word.now ∷ [])) → input.new ≡ input.old }
 {
     if verb == "answer" {
-        return answer::run(alloc, topology, store, input, out);
+        return answer::run(alloc, word, store, input, out);
     }
     if verb == "certify" {
-        return certify::run(alloc, topology, store, input, out);
+        return certify::run(alloc, word, store, input, out);
     }
     if verb == "pair" {
-        return pair::run(alloc, topology, store, input, out);
+        return pair::run(alloc, word, store, input, out);
     }
     if verb == "pair-certify" {
-        return pair_certify::run(alloc, topology, store, input, out);
+        return pair_certify::run(alloc, word, store, input, out);
     }
     if verb == "play" {
-        return play::run(alloc, topology, store, input, out);
+        return play::run(alloc, word, store, input, out);
+    }
+    if verb == "bulk" {
+        return run_bulk(alloc, word, store, input, out);
     }
     Status::Usage
 }
@@ -87,7 +110,7 @@ fn run_path<S: Store, I: Source, K: Sink>(
 
 /// Runs the command that the words are: reads the files in the order of the words, then the input,
 /// and writes to `out`. It returns on every input. What a run of a network is worth is a clause of its own.
-#[tactic(auto, using(crate::proofs::HeadlineLemmas::runs_are_worth))]
+#[tactic(auto, using(crate::proofs::RunsAreWorth::runs_are_worth))]
 pub fn run<S: Store, I: Source, K: Sink>(
     alloc: Global,
     words: &[String],
@@ -98,10 +121,10 @@ pub fn run<S: Store, I: Source, K: Sink>(
     ensures usage { (result ≡ Status.Usage) ↔ (task_of (map string_bytes words.now) ≡ None) }
     ensures ends { Runs (world (S.files store.old) (I.left input.old) (K.written out.old, K.written out.new) (S.faults store.old, S.faults store.new) (I.faults input.old, I.faults input.new) (K.faults out.old, K.faults out.new) (S.failed_at store.new)) (task_of (map string_bytes words.now)) result }
     ensures worth { RunsAreWorth (S.files store.old) (task_of (map string_bytes words.now)) }
-    ensures unread { AsksForPath (task_of (map string_bytes words.now)) → input.new ≡ input.old }
+    ensures unread { LeavesInput (task_of (map string_bytes words.now)) → input.new ≡ input.old }
 {
     match words {
-        [verb, topology] => run_over(alloc, verb.as_str(), topology.as_str(), store, input, out),
+        [verb, word] => run_over(alloc, verb.as_str(), word.as_str(), store, input, out),
         [verb, topology, certificate] => run_with(
             alloc,
             verb.as_str(),

@@ -15,7 +15,7 @@ use Rattle.plant_play.specs.Turns.{Turn}
 use Rattle.plant_script.specs.declared.stop.Stop.{Stop}
 use Rattle.plant_script.specs.declared.stop.Stop.TheVariants as stop
 use Rattle.plant_script.specs.Cues.{IsFileStop, PlaysCue}
-use Rattle.plant_client.specs.Asking.{AreCues, ArePlayed, Asks, IsPlayed, LoadsStop, Receives, load_line, question_lines, topologies}
+use Rattle.plant_client.specs.Asking.{AreCues, ArePlayed, Asks, Begins, Exchanges, IsPlayed, LoadsStop, Receives, asking_lines, load_line, opening_lines, session_lines, topologies}
 use Rattle.plant_client.specs.declared.question.Question.{Question}
 use Rattle.plant_client.specs.Questions.{opening_text, question_text}
 
@@ -63,39 +63,63 @@ then_played files later es fs old mid new same p q =
 pub none_played : (files : Option Files) (s : Stage) → ArePlayed files [] s s
 none_played files s = record { cues = []; are_cues = tt; turns = []; told = []; played = (refl, refl, refl) }
 
--- five lines, over files that stay the same
-pub five_played : (files f g h k : Option Files) (a b c d e : LineEvent) (s t u v w x : Stage) → f ≡ files → g ≡ f → h ≡ g → k ≡ h →
-    ArePlayed files (a ∷ []) s t → ArePlayed f (b ∷ []) t u → ArePlayed g (c ∷ []) u v → ArePlayed h (d ∷ []) v w → ArePlayed k (e ∷ []) w x → ArePlayed files (a ∷ b ∷ c ∷ d ∷ e ∷ []) s x
-five_played files f g h k a b c d e s t u v w x one two three four p q r y z =
-    then_played files f (a ∷ []) (b ∷ c ∷ d ∷ e ∷ []) s t x one p
-    (then_played f g (b ∷ []) (c ∷ d ∷ e ∷ []) t u x two q
-    (then_played g h (c ∷ []) (d ∷ e ∷ []) u v x three r
-    (then_played h k (d ∷ []) (e ∷ []) v w x four y z)))
+-- a session is opened, by its bytes; over files that stay the same
+pub session_played : (files f g : Option Files) (client : ℕ) (opening : List ℕ) (s t u v : Stage) (r : Result (Unit {0}) Stop) → opening ≡ opening_text → f ≡ files → g ≡ f →
+    ArePlayed files (line.Settle ∷ []) s t → ArePlayed f (line.Open (Some client) 0 ∷ []) t u → OnOk r (ArePlayed g (line.Feed (Some client) opening ∷ []) u v) →
+    OnOk r (ArePlayed files (session_lines client) s v)
+session_played files f g client opening s t u v (Err why) o same next one two last = last
+session_played files f g client opening s t u v (Ok done) o same next one two last =
+    let feeds = subst (λ (l : List ℕ). ArePlayed g (line.Feed (Some client) l ∷ []) u v) o last in
+    then_played files f (line.Settle ∷ []) (line.Open (Some client) 0 ∷ line.Feed (Some client) opening_text ∷ []) s t v same one
+    (then_played f g (line.Open (Some client) 0 ∷ []) (line.Feed (Some client) opening_text ∷ []) t u v next two feeds)
 
 -- a question that is put, by its bytes
-pub put_played : (files f g h k : Option Files) (client : ℕ) (question : Question) (opening asked : List ℕ) (s t u v w x : Stage) (r : Result (Unit {0}) Stop) →
-    opening ≡ opening_text → asked ≡ question_text question → f ≡ files → g ≡ f → h ≡ g → k ≡ h →
-    ArePlayed files (line.Settle ∷ []) s t → ArePlayed f (line.Open (Some client) 0 ∷ []) t u → ArePlayed g (line.Feed (Some client) opening ∷ []) u v →
-    ArePlayed h (line.Feed (Some client) asked ∷ []) v w → OnOk r (ArePlayed k (line.Finish ∷ []) w x) → OnOk r (ArePlayed files (question_lines client question) s x)
-put_played files f g h k client question opening asked s t u v w x (Err why) o a one two three four p q y z last = last
-put_played files f g h k client question opening asked s t u v w x (Ok done) o a one two three four p q y z last =
-    let all = five_played files f g h k line.Settle (line.Open (Some client) 0) (line.Feed (Some client) opening) (line.Feed (Some client) asked) line.Finish s t u v w x one two three four p q y z last in
-    subst (λ (l : List ℕ). ArePlayed files (line.Settle ∷ line.Open (Some client) 0 ∷ line.Feed (Some client) l ∷ line.Feed (Some client) (question_text question) ∷ line.Finish ∷ []) s x) o
-    (subst (λ (l : List ℕ). ArePlayed files (line.Settle ∷ line.Open (Some client) 0 ∷ line.Feed (Some client) opening ∷ line.Feed (Some client) l ∷ line.Finish ∷ []) s x) a all)
+pub asking_played : (files f : Option Files) (client : ℕ) (question : Question) (asked : List ℕ) (s t u : Stage) (r : Result (Unit {0}) Stop) → asked ≡ question_text question → f ≡ files →
+    ArePlayed files (line.Feed (Some client) asked ∷ []) s t → OnOk r (ArePlayed f (line.Finish ∷ []) t u) → OnOk r (ArePlayed files (asking_lines client question) s u)
+asking_played files f client question asked s t u (Err why) a same one last = last
+asking_played files f client question asked s t u (Ok done) a same one last =
+    then_played files f (line.Feed (Some client) (question_text question) ∷ []) (line.Finish ∷ []) s t u same
+    (subst (λ (l : List ℕ). ArePlayed files (line.Feed (Some client) l ∷ []) s t) a one) last
 
--- all topologies are loaded, a question is put, and it receives
-pub ask_played : (files f g : Option Files) (n : NetworkParts) (client : ℕ) (question : Question) (found : List Named) (start loaded asked : Stage) (r : Result (List ℕ) Stop) →
-    IsNewStage n start → found ≡ topologies n.elements → f ≡ files → g ≡ f → ArePlayed files (map load_line found) start loaded → ArePlayed f (question_lines client question) loaded asked → AreOctets (question_text question) →
-    IfOk r (λ received. Receives g client asked received) → IfOk r (λ received. Asks files n client question received)
-ask_played files f g n client question found start loaded asked (Err why) new are one two p q octets last = last
-ask_played files f g n client question found start loaded asked (Ok received) new are one two p q octets last = record {
+-- all topologies are loaded, and a session is opened
+pub begin_played : (files f : Option Files) (n : NetworkParts) (client : ℕ) (found : List Named) (start loaded begun : Stage) (r : Result (Unit {0}) Stop) → IsNewStage n start → found ≡ topologies n.elements →
+    f ≡ files → ArePlayed files (map load_line found) start loaded → OnOk r (ArePlayed f (session_lines client) loaded begun) → OnOk r (Begins files n client begun)
+begin_played files f n client found start loaded begun (Err why) new are same one last = last
+begin_played files f n client found start loaded begun (Ok done) new are same one last = record {
   start = start;
   new = new;
-  asked = asked;
-  lines = then_played files f (map load_line (topologies n.elements)) (question_lines client question) start loaded asked one (subst (λ (l : List Named). ArePlayed files (map load_line l) start loaded) are p) q;
-  octets = octets;
-  receives = subst (λ (o : Option Files). Receives o client asked received) (two ∙ one) last;
+  lines = then_played files f (map load_line (topologies n.elements)) (session_lines client) start loaded begun same
+      (subst (λ (l : List Named). ArePlayed files (map load_line l) start loaded) are one) last;
 }
+
+-- a question is put, and the client receives
+pub exchange_played : (files f : Option Files) (client : ℕ) (question : Question) (old asked new : Stage) (r : Result (List ℕ) Stop) → f ≡ files → ArePlayed files (asking_lines client question) old asked →
+    AreOctets (question_text question) → IfOk r (λ received. Receives f client asked received new) → IfOk r (λ received. Exchanges files client question old received new)
+exchange_played files f client question old asked new (Err why) same lines octets last = last
+exchange_played files f client question old asked new (Ok received) same lines octets last = record {
+  asked = asked;
+  lines = lines;
+  octets = octets;
+  receives = subst (λ (o : Option Files). Receives o client asked received new) same last;
+}
+
+-- a client that asks once
+pub ask_played : (files f : Option Files) (n : NetworkParts) (client : ℕ) (question : Question) (begun new : Stage) (r : Result (List ℕ) Stop) → f ≡ files → Begins files n client begun →
+    IfOk r (λ received. Exchanges f client question begun received new) → IfOk r (λ received. Asks files n client question received)
+ask_played files f n client question begun new (Err why) same b last = last
+ask_played files f n client question begun new (Ok received) same b last =
+    let x = subst (λ (o : Option Files). Exchanges o client question begun received new) same last in
+    let loads = map load_line (topologies n.elements) in
+    record {
+      start = b.start;
+      new = b.new;
+      asked = x.asked;
+      lines = subst (λ (l : List LineEvent). ArePlayed files l b.start x.asked) (append_assoc loads (session_lines client) (asking_lines client question))
+          (then_played files files (opening_lines n client) (asking_lines client question) b.start begun x.asked refl b.lines x.lines);
+      octets = x.octets;
+      end = new;
+      receives = x.receives;
+    }
 
 -- ---- topologies, one behind the other
 

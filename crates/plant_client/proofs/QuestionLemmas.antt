@@ -1,5 +1,5 @@
 -- How many octets a question takes.
-use Rattle.std.proofs.Common.{◌≡◌, ◌≤◌, ◌+◌, ◌*◌, List, [], ◌∷◌, ◌++◌, length, map, refl, ap, arith, length-append}
+use Rattle.std.proofs.Common.{◌≡◌, ◌≤◌, ◌+◌, ◌*◌, ℕ, Option, Some, None, List, [], ◌∷◌, ◌++◌, length, map, refl, ap, arith, length-append}
 use Rattle.std.proofs.lemmas.List.{append-nil}
 use Rattle.dom_base.specs.declared.names.As.{As}
 use Rattle.dom_base.specs.declared.addr.Addr.{Addr}
@@ -8,7 +8,7 @@ use Rattle.pcep_subobjects.specs.Hops.{hop_text, hops_text}
 use Rattle.pcep_objects.specs.declared.object.Object.{Object}
 use Rattle.pcep_objects.specs.Spelling.{object_text}
 use Rattle.pcep_messages.specs.Spelling.{objects_text}
-use Rattle.plant_model.specs.Writing.{as_hop, ends, iro}
+use Rattle.plant_model.specs.Writing.{as_hop, bandwidth, ends, iro}
 use Rattle.plant_client.specs.declared.question.Question.{Question}
 use Rattle.plant_client.specs.Questions.{question_text, sequence_most}
 
@@ -26,9 +26,17 @@ ends_long (V4 m) (V6 n) = omega arith
 ends_long (V6 m) (V4 n) = omega arith
 ends_long (V6 m) (V6 n) = omega arith
 
-text_long : (q : Question) → length (question_text q) ≡ 16 + (length (object_text (ends q.source q.target)) + length (objects_text (iro q.sequence ++ [])))
+bandwidth_long : (o : Option ℕ) (rest : List Object) → length (objects_text (bandwidth o ++ rest)) ≤ 8 + length (objects_text rest)
+bandwidth_long None rest = omega arith
+bandwidth_long (Some word) rest = omega arith
+
+text_long : (q : Question) → length (question_text q) ≡ 16 + (length (object_text (ends q.source q.target)) + length (objects_text ((bandwidth q.bandwidth ++ iro q.sequence) ++ [])))
 text_long q = simp (length-append) (omega arith)
 
+-- a question takes few octets
+pub question_few : (q : Question) → length q.sequence ≤ sequence_most → length (question_text q) ≤ 132
+question_few q few =
+    omega (arith, text_long q, ends_long q.source q.target, iro_long q.sequence, bandwidth_long q.bandwidth (iro q.sequence), ap (λ (os : List Object). length (objects_text os)) (append-nil (bandwidth q.bandwidth ++ iro q.sequence)), few)
+
 pub question_short : (q : Question) → length q.sequence ≤ sequence_most → length (question_text q) ≤ 65532
-question_short q few =
-    omega (arith, text_long q, ends_long q.source q.target, iro_long q.sequence, ap (λ (os : List Object). length (objects_text os)) (append-nil (iro q.sequence)), few)
+question_short q few = omega (arith, question_few q few)

@@ -42,12 +42,22 @@ topologies rows = topologies_at rows (elements_of rows)
 abbrev pub load_line : As × List ℕ → LineEvent
 load_line topology = line.Load topology.0 topology.1
 
--- a session is opened, a path is asked for, and the network goes on to its end
-abbrev pub question_lines : ℕ → Question → List LineEvent
-question_lines client question =
-    line.Settle ∷ line.Open (Some client) 0 ∷ line.Feed (Some client) opening_text ∷ line.Feed (Some client) (question_text question) ∷ line.Finish ∷ []
+-- the network settles, and a session is opened
+abbrev pub session_lines : ℕ → List LineEvent
+session_lines client = line.Settle ∷ line.Open (Some client) 0 ∷ line.Feed (Some client) opening_text ∷ []
 
--- all topologies are loaded, and then it is asked
+-- a path is asked for, and the network goes on to its end
+abbrev pub asking_lines : ℕ → Question → List LineEvent
+asking_lines client question = line.Feed (Some client) (question_text question) ∷ line.Finish ∷ []
+
+abbrev pub question_lines : ℕ → Question → List LineEvent
+question_lines client question = session_lines client ++ asking_lines client question
+
+-- all topologies are loaded, and a session is opened
+abbrev pub opening_lines : NetworkParts → ℕ → List LineEvent
+opening_lines n client = map load_line (topologies n.elements) ++ session_lines client
+
+-- then it is asked
 abbrev pub lines_of : NetworkParts → ℕ → Question → List LineEvent
 lines_of n client question = map load_line (topologies n.elements) ++ question_lines client question
 
@@ -91,20 +101,33 @@ received_in (Ok (outcome.Loaded generation)) = []
 received_in (Err why) = []
 
 -- what waits for the client is handed out
-pub record Receives (files : Option Files) (client : ℕ) (old : Stage) (received : List ℕ) : Type 0 where
+pub record Receives (files : Option Files) (client : ℕ) (old : Stage) (received : List ℕ) (new : Stage) : Type 0 where
   pub answer : Answered
-  pub end : Stage
-  pub drains : IsPlayed files (line.Drain (Some client) 0) old answer end
+  pub drains : IsPlayed files (line.Drain (Some client) 0) old answer new
   pub bytes : received ≡ received_in answer
 
--- Over a network of these settings that has just been made, all lines are played, and then it receives. What it sends is octets.
+-- Over a network of these settings that has just been made, all topologies are loaded, and the client opens its session.
+pub record Begins (files : Option Files) (n : NetworkParts) (client : ℕ) (begun : Stage) : Type 0 where
+  pub start : Stage
+  pub new : IsNewStage n start
+  pub lines : ArePlayed files (opening_lines n client) start begun
+
+-- The client asks, and receives. What it sends is octets.
+pub record Exchanges (files : Option Files) (client : ℕ) (question : Question) (old : Stage) (received : List ℕ) (new : Stage) : Type 0 where
+  pub asked : Stage
+  pub lines : ArePlayed files (asking_lines client question) old asked
+  pub octets : AreOctets (question_text question)
+  pub receives : Receives files client asked received new
+
+-- The same of a client that asks once: all lines are played, and then it receives.
 pub record Asks (files : Option Files) (n : NetworkParts) (client : ℕ) (question : Question) (received : List ℕ) : Type 0 where
   pub start : Stage
   pub new : IsNewStage n start
   pub asked : Stage
   pub lines : ArePlayed files (lines_of n client question) start asked
   pub octets : AreOctets (question_text question)
-  pub receives : Receives files client asked received
+  pub end : Stage
+  pub receives : Receives files client asked received end
 
 -- ---- why it does not come to that
 

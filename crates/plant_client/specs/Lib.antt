@@ -2,3 +2,4 @@
 pub mod Questions
 pub mod Asking
 pub mod Telling
+pub mod Hearing

@@ -1,4 +1,4 @@
--- What a client sends (RFC 5440, 6.2 to 6.4): it opens its session, and asks for one path.
+-- What a client sends (RFC 5440, 6.2 to 6.4): it opens its session, and asks for paths.
 use Rattle.std.specs.Prelude.{ℕ, false, List, [], ◌∷◌, ◌++◌}
 use Rattle.pcep_codes.specs.declared.TheConstants.{VERSION}
 use Rattle.pcep_codes.specs.declared.classes.TheConstants as classes
@@ -7,16 +7,16 @@ use Rattle.pcep_messages.specs.declared.message.Asked.{Asked}
 use Rattle.pcep_messages.specs.declared.message.Message.{Message}
 use Rattle.pcep_messages.specs.declared.message.Message.TheVariants as messages
 use Rattle.pcep_messages.specs.Spelling.{message_text}
-use Rattle.plant_model.specs.Writing.{ends, iro, needed}
+use Rattle.plant_model.specs.Writing.{bandwidth, ends, iro, needed}
 use Rattle.plant_client.specs.declared.question.Question.{Question}
 
 -- how many domains a sequence may have
 abbrev pub sequence_most : ℕ
 sequence_most = 16
 
--- one request, the first of its session: the two ends, and the sequence of domains where there is one
+-- one request: its number, the two ends, and the bandwidth and the sequence of domains where there are such
 abbrev pub asked_of : Question → Asked
-asked_of q = record { objects = needed classes.RP (bodies.Rp 0 1) ∷ ends q.source q.target ∷ iro q.sequence }
+asked_of q = record { objects = needed classes.RP (bodies.Rp 0 q.id) ∷ ends q.source q.target ∷ bandwidth q.bandwidth ++ iro q.sequence }
 
 abbrev pub question_message : Question → Message
 question_message q = messages.PcReq (asked_of q ∷ [])

@@ -1,10 +1,10 @@
-//! A client asks: topologies are loaded, a session is opened, a path is asked for, and the network goes on to its end.
+//! A client asks: topologies are loaded, a session is opened, paths are asked for, and the network goes on to its end.
 ghost use Rattle.std.specs.Prelude.{◌≡◌, ◌≤◌, ◌++◌, ◌∷◌, [], length, map, IfErr, IfOk, MatchOption, None, OnOk, Some};
 ghost use Rattle.pcep_subobjects.specs.Subobjects.{AreOctets};
 ghost use Rattle.plant_text.specs.Settings.{row_of};
 ghost use Rattle.plant_play.specs.Playing.{IsNewStage, stage_of};
 ghost use Rattle.plant_script.specs.Cues.{IsCueStop, IsFileStop, file_name};
-ghost use Rattle.plant_client.specs.Asking.{ArePlayed, AskStops, Asks, IsPlayed, LoadsStop, Receives, load_line, name_in, named, question_lines, received_in, topologies};
+ghost use Rattle.plant_client.specs.Asking.{ArePlayed, AskStops, Asks, Begins, Exchanges, IsPlayed, LoadsStop, Receives, asking_lines, load_line, name_in, named, received_in, session_lines, topologies};
 ghost use Rattle.plant_client.specs.Questions.{question_text, sequence_most};
 
 use crate::question::{Question, opening_bytes, question_bytes};
@@ -148,7 +148,25 @@ fn load_all<S: Store>(
     Ok(())
 }
 
-// A session is opened, a path is asked for, and the network goes on to its end.
+// The network settles, and a session is opened.
+fn open_session<S: Store>(
+    alloc: Global,
+    store: &mut S,
+    player: &mut Player,
+    client: u32,
+) -> Result<(), Stop>
+    ensures opens { OnOk result (ArePlayed (S.files store.old) (session_lines client) (stage_of player.old) (stage_of player.new)) }
+    ensures refused { IfErr result (λ why. why ≡ Stop.NoMemory) }
+    ensures files { S.files store.new ≡ S.files store.old }
+    ensures later { S.faults store.old ≤ S.faults store.new }
+{
+    let opening = opening_bytes(alloc)?;
+    play_alone(alloc, store, player, LineEvent::Settle)?;
+    play_alone(alloc, store, player, LineEvent::Open(Some(client), 0))?;
+    play_alone(alloc, store, player, LineEvent::Feed(Some(client), opening))
+}
+
+// A path is asked for, and the network goes on to its end.
 fn put<S: Store>(
     alloc: Global,
     store: &mut S,
@@ -157,17 +175,13 @@ fn put<S: Store>(
     question: &Question,
 ) -> Result<(), Stop>
     requires few { length question.now.sequence ≤ sequence_most }
-    ensures asks { OnOk result (ArePlayed (S.files store.old) (question_lines client question.now) (stage_of player.old) (stage_of player.new)) }
+    ensures asks { OnOk result (ArePlayed (S.files store.old) (asking_lines client question.now) (stage_of player.old) (stage_of player.new)) }
     ensures octets { OnOk result (AreOctets (question_text question.now)) }
     ensures refused { IfErr result (λ why. why ≡ Stop.NoMemory) }
     ensures files { S.files store.new ≡ S.files store.old }
     ensures later { S.faults store.old ≤ S.faults store.new }
 {
-    let opening = opening_bytes(alloc)?;
     let asked = question_bytes(alloc, question)?;
-    play_alone(alloc, store, player, LineEvent::Settle)?;
-    play_alone(alloc, store, player, LineEvent::Open(Some(client), 0))?;
-    play_alone(alloc, store, player, LineEvent::Feed(Some(client), opening))?;
     play_alone(alloc, store, player, LineEvent::Feed(Some(client), asked))?;
     play_alone(alloc, store, player, LineEvent::Finish)
 }
@@ -195,7 +209,7 @@ fn receive<S: Store>(
     player: &mut Player,
     client: u32,
 ) -> Result<Bytes, Stop>
-    ensures receives { IfOk result (λ received. Receives (S.files store.old) client (stage_of player.old) received) }
+    ensures receives { IfOk result (λ received. Receives (S.files store.old) client (stage_of player.old) received (stage_of player.new)) }
     ensures refused { IfErr result (λ why. why ≡ Stop.NoMemory) }
     ensures files { S.files store.new ≡ S.files store.old }
     ensures later { S.faults store.old ≤ S.faults store.new }
@@ -204,32 +218,66 @@ fn receive<S: Store>(
     Ok(received_in(alloc, answer))
 }
 
-// A network that has just been made is asked: its topologies are loaded, and then the client asks and receives.
-fn ask_new<S: Store>(
+// A network that has just been made is loaded, and the client opens its session.
+fn begin_new<S: Store>(
     alloc: Global,
     store: &mut S,
     player: &mut Player,
     named: &[(As, Text)],
     client: u32,
-    question: &Question,
-) -> Result<Bytes, Stop>
-    requires few { length question.now.sequence ≤ sequence_most }
+) -> Result<(), Stop>
     requires new { IsNewStage (stage_of player.old).network (stage_of player.old) }
     requires found { named.now ≡ topologies (stage_of player.old).network.elements }
-    ensures asks { IfOk result (λ received. Asks (S.files store.old) (stage_of player.old).network client question.now received) }
+    ensures begins { OnOk result (Begins (S.files store.old) (stage_of player.old).network client (stage_of player.new)) }
     ensures stops { IfErr result (AskStops (S.files store.old) (stage_of player.old).network (S.faults store.old, S.faults store.new) (S.failed_at store.new)) }
     ensures files { S.files store.new ≡ S.files store.old }
     ensures later { S.faults store.old ≤ S.faults store.new }
 {
     load_all(alloc, store, player, named)?;
+    open_session(alloc, store, player, client)
+}
+
+/// A network of these settings begins, with a session of its outside peer `client`: each topology that the settings name
+/// is loaded, in rising order of domains; the network settles; and the client opens its session. It stops at the first
+/// file that gives no topology.
+pub fn begin<S: Store>(
+    alloc: Global,
+    store: &mut S,
+    network: Network,
+    client: u32,
+) -> Result<Player, Stop>
+    ensures begins { IfOk result (λ player. Begins (S.files store.old) network client (stage_of player)) }
+    ensures stops { IfErr result (AskStops (S.files store.old) network (S.faults store.old, S.faults store.new) (S.failed_at store.new)) }
+    ensures files { S.files store.new ≡ S.files store.old }
+    ensures later { S.faults store.old ≤ S.faults store.new }
+{
+    let topologies = topologies(alloc, network.parts().elements.as_slice())?;
+    let mut player = Player::new(alloc, network)?;
+    begin_new(alloc, store, &mut player, &topologies, client)?;
+    Ok(player)
+}
+
+/// A client asks for a path: the network goes on until no message is on its way and no job can be solved; and what then
+/// waits for the client is handed out.
+pub fn exchange<S: Store>(
+    alloc: Global,
+    store: &mut S,
+    player: &mut Player,
+    client: u32,
+    question: &Question,
+) -> Result<Bytes, Stop>
+    requires few { length question.now.sequence ≤ sequence_most }
+    ensures exchanges { IfOk result (λ received. Exchanges (S.files store.old) client question.now (stage_of player.old) received (stage_of player.new)) }
+    ensures refused { IfErr result (λ why. why ≡ Stop.NoMemory) }
+    ensures files { S.files store.new ≡ S.files store.old }
+    ensures later { S.faults store.old ≤ S.faults store.new }
+{
     put(alloc, store, player, client, question)?;
     receive(alloc, store, player, client)
 }
 
-/// A network of these settings is asked for a path, as its outside peer `client`: each topology that the settings name
-/// is loaded, in rising order of domains; the network settles; the client opens its session and asks; the network goes
-/// on until no message is on its way and no job can be solved; and what then waits for the client is handed out. It
-/// stops at the first file that gives no topology.
+/// A network of these settings is asked for one path, as its outside peer `client`: it begins, the client asks, and
+/// what it receives is handed out. It stops at the first file that gives no topology.
 pub fn ask<S: Store>(
     alloc: Global,
     store: &mut S,
@@ -243,7 +291,6 @@ pub fn ask<S: Store>(
     ensures files { S.files store.new ≡ S.files store.old }
     ensures later { S.faults store.old ≤ S.faults store.new }
 {
-    let topologies = topologies(alloc, network.parts().elements.as_slice())?;
-    let mut player = Player::new(alloc, network)?;
-    ask_new(alloc, store, &mut player, &topologies, client, question)
+    let mut player = begin(alloc, store, network, client)?;
+    exchange(alloc, store, &mut player, client, question)
 }

@@ -1,10 +1,12 @@
-//! A client that asks a network for a path, and what it is told.
+//! A client that asks a network for paths, and what it is told.
 #![tactic(auto)]
 
 mod asking;
+mod hearing;
 mod question;
 mod telling;
 
-pub use asking::ask;
+pub use asking::{ask, begin, exchange};
+pub use hearing::{Heard, hear};
 pub use question::Question;
 pub use telling::tell;

@@ -2,7 +2,7 @@
 ghost use Rattle.std.specs.Prelude.{◌≡◌, ◌≤◌, length, map, IfOk, OnOk};
 ghost use Rattle.std.specs.Option.{option_to_list};
 ghost use Rattle.pcep_subobjects.specs.Subobjects.{AreOctets};
-ghost use Rattle.plant_model.specs.Writing.{as_hop, ends, ends_kind, iro, needed};
+ghost use Rattle.plant_model.specs.Writing.{as_hop, bandwidth, ends, ends_kind, iro, needed};
 ghost use Rattle.plant_client.specs.Questions.{asked_of, opening_text, question_message, question_text, sequence_most};
 
 use dom_base::{Addr, As, Bytes, List, NoMemory};
@@ -12,12 +12,14 @@ use pcep_objects::{Body, Object};
 use pcep_subobjects::Hop;
 use std::alloc::{AllocError, Global};
 
-/// A path that is asked for: from where, to where, and the domains that it goes through, in order. Where no domains
-/// are named, the parent finds them.
+/// A path that is asked for: the number of the request, from where, to where, the word of the bandwidth that it is to
+/// have, and the domains that it goes through, in order. Where no domains are named, the parent finds them.
 #[derive(Drop)]
 pub struct Question {
+    pub id: u32,
     pub source: Addr,
     pub target: Addr,
+    pub bandwidth: Option<u32>,
     pub sequence: List<As>,
 }
 
@@ -76,13 +78,28 @@ fn sequence_object(alloc: Global, sequence: &[As]) -> Result<Option<Object>, NoM
     }
 }
 
+fn bandwidth_object(word: Option<u32>) -> Option<Object>
+    ensures { option_to_list result ≡ bandwidth word }
+{
+    match word {
+        Some(word) => Some(needed(classes::BANDWIDTH, Body::Bandwidth(word))),
+        None => None,
+    }
+}
+
 fn asked_of(alloc: Global, question: &Question) -> Result<Asked, NoMemory>
     ensures { IfOk result (λ asked. asked ≡ asked_of question.now) }
 {
-    let rp = Body::Rp { flags: 0, id: 1 };
+    let rp = Body::Rp {
+        flags: 0,
+        id: question.id,
+    };
     let mut objects = List::new(alloc);
     objects.push(needed(classes::RP, rp))?;
     objects.push(ends(question.source, question.target))?;
+    if let Some(object) = bandwidth_object(question.bandwidth) {
+        objects.push(object)?;
+    }
     if let Some(object) = sequence_object(alloc, question.sequence.as_slice())? {
         objects.push(object)?;
     }

@@ -79,8 +79,10 @@ pub(crate) fn run<S: Store, I: Source, K: Sink>(
         Err(status) => return status,
     };
     let question = Question {
+        id: 1,
         source: route.source,
         target: route.target,
+        bandwidth: None,
         sequence: route.sequence,
     };
     match answered(alloc, store, network, client, &question) {

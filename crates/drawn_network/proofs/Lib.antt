@@ -1,0 +1,4 @@
+pub mod DrawLemmas
+pub mod RowLemmas
+pub mod FileLemmas
+pub mod SettingsLemmas

@@ -1,0 +1,13 @@
+use Rattle.std.proofs.Common.{◌≡◌, ◌+◌, ◌*◌}
+use Rattle.plant_play.specs.Playing.{stage_of}
+use Rattle.drawn_network.specs.Files.{links_draws}
+use Rattle.plant_bulk.specs.Playing.{AreTallied}
+use Rattle.plant_bulk.specs.Requests.{questions}
+use Rattle.plant_bulk.proofs.playing.ask_all.Given as goal
+
+abbrev pub invariant-loop-request : goal.invariant-loop-request
+invariant-loop-request g l = record {
+  files : g.S.Store.files l.store ≡ g.S.Store.files l.initial.store;
+  place : l.draws ≡ links_draws + 2 * l.request;
+  tallied : AreTallied (g.S.Store.files l.initial.store) (questions l.demand l.request) (stage_of l.initial.player) (stage_of l.player) l.tally;
+}
