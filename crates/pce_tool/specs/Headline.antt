@@ -15,9 +15,13 @@ use Rattle.plant_client.specs.Questions.{sequence_most}
 use Rattle.plant_bulk.specs.declared.requests.Demand.{Demand}
 use Rattle.plant_bulk.specs.Playing.{IsBulk, bulk_turns, network}
 use Rattle.plant_bulk.specs.Requests.{requests_most}
+use Rattle.blind_play.specs.Laws.{SaysSo}
+use Rattle.blind_play.specs.Playing.{Stage as BlindStage}
+use Rattle.blind_play.specs.Turns.{Turn as BlindTurn}
+use Rattle.blind_script.specs.Scripts.{Playing as BlindlyPlaying}
 use Rattle.pce_tool.specs.declared.route.Route.{Route}
 use Rattle.pce_tool.specs.Networks.{HasNetwork, question_of}
-use Rattle.pce_tool.specs.Tasks.{Task, Bulk, Path, Play}
+use Rattle.pce_tool.specs.Tasks.{Task, Blind, Bulk, Path, Play}
 
 -- A run is right; and without a parent no id comes round in it, so what is said of it then has no premise.
 pub record IsWorth (n : NetworkParts) (turns : List Turn) (end : Stage) : Type 0 where
@@ -40,11 +44,17 @@ PathsAreWorth files net r =
 abbrev pub BulksAreWorth : ℕ → Type 0
 BulksAreWorth n = (d : Demand) (received : List (List ℕ)) → n ≤ requests_most → (b : IsBulk d n received) → IsWorth network (bulk_turns b) b.end
 
+-- What is told of the first lines of a script, however many, that are played on a network without topologies: it is what such a network
+-- says on their trace. On the disclosed trace of a run of a network with topologies that is what closed peers hear of this one.
+abbrev pub BlindsSaySo : Type 0
+BlindsSaySo = (n : NetworkParts) (done : List NumberedLine) (turns : List BlindTurn) (told : List ℕ) (end : BlindStage) → BlindlyPlaying n done turns told end → SaysSo n turns told end
+
 -- Of every run of a network that the words ask for: each path that a client is answered is feasible and of least cost among all walks
 -- through the asked domains in order, each domain as it stood when its element took the request; where a client is answered NO-PATH of
 -- nature 0, none exists; and what closed peers hear is a function of requests, policy and disclosed border costs alone.
 abbrev pub RunsAreWorth : Option Files → Option Task → Type 0
 RunsAreWorth files (Some (Play net)) = PlaysAreWorth files net
+RunsAreWorth files (Some (Blind net)) = BlindsSaySo
 RunsAreWorth files (Some (Path net r)) = PathsAreWorth files net r
 RunsAreWorth files (Some (Bulk n)) = BulksAreWorth n
 RunsAreWorth files task = Unit {0}
