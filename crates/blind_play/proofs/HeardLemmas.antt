@@ -17,8 +17,9 @@ use Rattle.plant_model.specs.declared.event.BlindEvent.{BlindEvent}
 use Rattle.plant_model.specs.declared.event.BlindEvent.TheVariants as blind
 use Rattle.plant_model.specs.declared.outcome.Outcome.TheVariants as outcome
 use Rattle.plant_model.specs.declared.outcome.Refused.TheVariants as refused
-use Rattle.plant_model.specs.Blind.{BlindHappened, BlindHappens, BlindState, Drained, Heard, Message, Nothing, SolveHappens, happened, heard, heard_in, heard_of, is_accepted, is_closed, show_nothing}
+use Rattle.plant_model.specs.Blind.{BlindHappened, BlindHappens, BlindState, Drained, Heard, Message, Nothing, SolveHappens, done as blind_done, happened, heard, heard_in, heard_of, is_accepted, is_closed, show_nothing}
 use Rattle.plant_model.specs.Deeds as deeds
+use Rattle.plant_model.specs.Deeds.{Going}
 use Rattle.plant_model.specs.Events as events
 use Rattle.plant_model.specs.Events.{Answered}
 use Rattle.plant_model.specs.RealWire.{wire}
@@ -114,7 +115,7 @@ module _ (line : ℕ) (n : NetworkParts) where
   -- ---- which events are refused
 
   answered : (h : BlindHappened) → is_accepted h.answer ≡ true → IsSilent h
-  answered h yes = λ no. absurd (let both : true ≡ false = sym yes ∙ no in cc)
+  answered h ok = λ other. absurd (let both : true ≡ false = sym ok ∙ other in cc)
 
   choose : (b : Bool) (g h : BlindHappened) → IsSilent g → IsSilent h → IsSilent (cond b g h)
   choose true g h x y = x
@@ -193,11 +194,19 @@ module _ (line : ℕ) (n : NetworkParts) where
   abbrev IsFair : Option ℕ → BlindHappened → Type 0
   IsFair drainer h = IsTold drainer h × IsSilent h
 
+  -- a job that is answered
+  solved_fair : (g : Going Nothing Nothing) (h : BlindHappened) → IsMute g.deeds → h ≡ blind_done wire n g → IsFair None h
+  solved_fair g h mute is =
+      let ok : is_accepted h.answer ≡ true = ap (λ (y : BlindHappened). is_accepted y.answer) is in
+      (mute_told h (subst (λ (y : BlindHappened). IsMute y.deeds) (sym is) mute), answered h ok)
+
   solve_fair : (d : As) (k : ℕ) (rows : List BorderRow) (s : BlindState) (h : BlindHappened) → SolveHappens wire n d k rows s h → IsFair None h
   solve_fair d k rows s h (inl x) = subst (IsFair None) (sym x.1) (mute_told (events.refused Nothing Nothing wire n show_nothing refused.NoSuchPeer s) tt, λ no. refl)
   solve_fair d k rows s h (inr (inl x)) = subst (IsFair None) (sym x.2) (mute_told (events.refused Nothing Nothing wire n show_nothing refused.NoSuchJob s) tt, λ no. refl)
-  solve_fair d k rows s h (inr (inr (inl x))) = subst (IsFair None) (sym x.1.is) (mute_told _ (tt, tt), λ no. absurd (let both : true ≡ false = no in cc))
-  solve_fair d k rows s h (inr (inr (inr x))) = subst (IsFair None) (sym x.2.is) (mute_told _ (tt, tt), λ no. absurd (let both : true ≡ false = no in cc))
+  solve_fair d k rows s h (inr (inr (inl x))) =
+      let p = x.1 in
+      solved_fair (deeds.solve Nothing Nothing wire n show_nothing d (k, p.held) p.down (λ b. tt) true true p.best s) h (tt, tt) p.is
+  solve_fair d k rows s h (inr (inr (inr x))) = let p = x.2 in solved_fair (deeds.solve_upper Nothing Nothing wire n show_nothing (k, p.held) p.answer s) h (tt, tt) p.is
 
   one_fair : (e : BlindEvent) (s : BlindState) (h : BlindHappened) → h ≡ happened wire n s e → IsFair (drainer_of e) (happened wire n s e) → IsFair (drainer_of e) h
   one_fair e s h is fair = subst (IsFair (drainer_of e)) (sym is) fair

@@ -40,7 +40,7 @@ none_played line w b = record { network = refl; turns = []; plays = (refl, refl)
 -- ---- a feed
 
 pub feed_refused : (line i : ℕ) (bytes : Bytes) (old new : Whole) (accepted : Bool) (b0 b1 : List ℕ) → accepted ≡ false → MakesTurn line old (blind.Feed i bytes) accepted new b0 b1 → Does line (PlaysFeed i bytes) old new b0 b1
-feed_refused line i bytes old new accepted b0 b1 no makes =
+feed_refused line i bytes old new accepted b0 b1 is makes =
     let fed = makes.turn in
     record {
       network = makes.network;
@@ -51,14 +51,14 @@ feed_refused line i bytes old new accepted b0 b1 no makes =
         are = refl;
         event = makes.event;
         is_turn = makes.is_turn;
-        takes = subst (λ (b : Bool). cond b (AreAllDue (IsDueTake i) old.network fed.after [] new.state) ((◌≡◌ {A = List Turn} [] []) × (new.state ≡ fed.after))) (sym (makes.answers ∙ no)) (refl, makes.ends);
+        takes = subst (λ (b : Bool). cond b (AreAllDue (IsDueTake i) old.network fed.after [] new.state) ((◌≡◌ {A = List Turn} [] []) × (new.state ≡ fed.after))) (sym (makes.answers ∙ is)) (refl, makes.ends);
       };
       tells = makes.tells ∙ ap (λ (t : List ℕ). b0 ++ t) (sym (append-nil (turn_text line old.network fed)));
     }
 
 pub feed_taken : (line i : ℕ) (bytes : Bytes) (old mid new : Whole) (accepted : Bool) (b0 b1 b2 : List ℕ) → accepted ≡ true → MakesTurn line old (blind.Feed i bytes) accepted mid b0 b1 → DoesAll line (IsDueTake i) mid new b1 b2 →
     Does line (PlaysFeed i bytes) old new b0 b2
-feed_taken line i bytes old mid new accepted b0 b1 b2 yes makes all =
+feed_taken line i bytes old mid new accepted b0 b1 b2 is makes all =
     let fed = makes.turn in
     let ts = all.some.turns in
     let due : AreDue (IsDueTake i) old.network fed.after ts new.state =
@@ -72,7 +72,7 @@ feed_taken line i bytes old mid new accepted b0 b1 b2 yes makes all =
         are = refl;
         event = makes.event;
         is_turn = makes.is_turn;
-        takes = subst (λ (b : Bool). cond b (AreAllDue (IsDueTake i) old.network fed.after ts new.state) ((ts ≡ []) × (new.state ≡ fed.after))) (sym (makes.answers ∙ yes)) (record { due = due; over = all.over });
+        takes = subst (λ (b : Bool). cond b (AreAllDue (IsDueTake i) old.network fed.after ts new.state) ((ts ≡ []) × (new.state ≡ fed.after))) (sym (makes.answers ∙ is)) (record { due = due; over = all.over });
       };
       tells =
           all.some.tells ∙ ap (λ (n : NetworkParts). b1 ++ turns_text line n ts) makes.network ∙ ap (λ (b : List ℕ). b ++ turns_text line old.network ts) makes.tells
