@@ -149,7 +149,7 @@ module _ (n : NetworkParts) where
       let text : Tells n (all_heard n p.first) p.said =
       subst (λ (t : List ℕ). Tells n (all_heard n p.first) t) (sym (one.tells ∙ ap (λ (m : NetworkParts). turns_text c.number m p.first) same)) (tells_turns c.number p.first) in
       let rest = lines_say cues p.mid end p.later p.more (trace_of p.first older) (hs ++ all_heard n p.first) (one.network ∙ same) (All-tail (λ (x : Cue). IsBlindLine x.event) c cues given) here
-          (given_more older old.state p.first p.mid.state were follow) p.others in
+      (given_more older old.state p.first p.mid.state were follow) p.others in
       let whole : SoFar older hs (p.first ++ p.later) (p.said ++ p.more) end.state = (
         subst (λ (es : List BlindEvent). BlindSays wire n es (hs ++ all_heard n (p.first ++ p.later)) end.state) (sym (trace_append p.first p.later older))
             (subst (λ (ks : List Heard). BlindSays wire n (trace_of p.later (trace_of p.first older)) ks end.state)

@@ -104,7 +104,13 @@ pub(crate) fn play_line(
         }
         LineEvent::Break(a, b) => play_one(alloc, plant, line, BlindEvent::Break(a, b), into),
         LineEvent::Solve(at, number, rows) => {
-            play_one(alloc, plant, line, BlindEvent::Solve(at, number, rows), into)
+            play_one(
+                alloc,
+                plant,
+                line,
+                BlindEvent::Solve(at, number, rows),
+                into,
+            )
         }
         LineEvent::Tick(now) => play_one(alloc, plant, line, BlindEvent::Tick(now), into),
         LineEvent::Drain(peer, holder) => {

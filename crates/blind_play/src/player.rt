@@ -61,12 +61,7 @@ impl BlindPlayer {
 
     /// Plays a line of this number, and puts what closed peers hear of it at the end of `into`: messages to them, and what
     /// they drain. After an error nothing is put there, and what the line did up to there stays done.
-    pub fn play(
-        &mut self,
-        line: u32,
-        event: LineEvent,
-        into: &mut Vec<u8>,
-    ) -> Result<(), NoMemory>
+    pub fn play(&mut self, line: u32, event: LineEvent, into: &mut Vec<u8>) -> Result<(), NoMemory>
         requires { IsBlindLine event }
         ensures plays { OnOk result (Played (cue line event) (stage_of self.old) (stage_of self.new) into.old.items into.new.items) }
         ensures untold { OnErr result (into.new.items ≡ into.old.items) }

@@ -1,4 +1,5 @@
 use Rattle.std.proofs.Common.{refl}
+use Rattle.dom_base.specs.declared.names.As.{As}
 use Rattle.pce_plant.specs.Held.{whole}
 use Rattle.plant_traffic.specs.Carried.{flow_of}
 use Rattle.plant_due.proofs.CarryLemmas.{least_here, settled_here}
@@ -15,5 +16,5 @@ pub returns-in-Some-clause-possible : goal.returns-in-Some-clause-possible
 returns-in-Some-clause-possible c =
     let h = c.args.plant.now in
     let w = whole h in
-    let way = (c.in-Some.from, c.in-Some.to) in
+    let way : As × As = (c.in-Some.from, c.in-Some.to) in
     can_carry w c.in-Some.from c.in-Some.to (least_here w.network (flow_of h.carried) w.state way refl c.in-Some.ensures.next c.in-Some.ensures.along)
