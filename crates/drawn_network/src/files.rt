@@ -5,8 +5,8 @@ ghost use Rattle.drawn_network.specs.Files.{AreFiles, IsBuilt, IsFile, links_dra
 ghost use Rattle.drawn_network.specs.Settings.{file_name};
 
 use crate::draws::Draws;
-use crate::rows::draw_rows;
 use crate::network::file_name;
+use crate::rows::draw_rows;
 use dom_base::{Bytes, List, NoMemory, Text};
 use std::alloc::Global;
 use te_links::{Parts, Topology};

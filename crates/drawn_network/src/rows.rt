@@ -24,7 +24,9 @@ pub struct Span {
 fn address(domain: u8, third: u8, last: u8) -> Addr
     ensures { result ≡ Addr.V4 (167772160 + domain * 65536 + third * 256 + last) }
 {
-    Addr::V4(0x0a00_0000 + u32::from(domain) * 0x1_0000 + u32::from(third) * 0x100 + u32::from(last))
+    Addr::V4(
+        0x0a00_0000 + u32::from(domain) * 0x1_0000 + u32::from(third) * 0x100 + u32::from(last),
+    )
 }
 
 /// A node of a domain.

@@ -26,6 +26,7 @@ path NET SRC DST parent AS
 play NET            reads a script of events, plays it on a network, writes its transcript
 blind NET           reads a script whose solves have border tables, plays it on a network without
                     topologies, writes what closed peers hear
+bulk N              draws a large network and N requests (1 to 8000), writes what they are answered in all
 --help              writes this table
 --version           writes the versions of the program and of the toolchain
 

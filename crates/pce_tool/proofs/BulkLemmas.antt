@@ -1,12 +1,14 @@
 -- What questions that are put to the drawn network feed, and what its runs are worth.
 use Rattle.std.proofs.Common.{◌≡◌, ◌≤◌, ◌+◌, ◌*◌, ℕ, List, [], ◌∷◌, ◌++◌, map, length, Option, Some, refl, sym, subst, arith}
 use Rattle.std.specs.List.{range_with_len}
+use Rattle.std.proofs.lemmas.List.{append-nil}
 use Rattle.std.proofs.lemmas.List.Elements.{All-nil, All-append}
 use Rattle.std.proofs.lemmas.List.FromFn.{length-range_with_len}
 use Rattle.dom_edge.specs.Stores.{Files, file_named}
 use Rattle.plant_text.specs.declared.line.LineEvent.{LineEvent}
 use Rattle.plant_text.specs.declared.line.LineEvent.TheVariants as line
 use Rattle.plant_text.specs.declared.settings.NetworkParts.{NetworkParts}
+use Rattle.plant_model.specs.Events.{Answered}
 use Rattle.plant_play.specs.Playing.{Cue, Stage}
 use Rattle.plant_play.specs.Scripts.{AllPlayed}
 use Rattle.plant_play.specs.Turns.{Turn}
@@ -14,9 +16,9 @@ use Rattle.script_laws.specs.Headline.{all_octets, fed_octets}
 use Rattle.script_laws.specs.Laws.{FeedOctets, FeedsOctets}
 use Rattle.script_laws.proofs.Rightly.{scripts_are_right}
 use Rattle.plant_client.specs.declared.question.Question.{Question}
-use Rattle.plant_client.specs.Asking.{ArePlayed, Exchanges, asking_lines, opening_lines, session_lines, topologies}
+use Rattle.plant_client.specs.Asking.{ArePlayed, Exchanges, IsPlayed, asking_lines, opening_lines, session_lines, topologies}
 use Rattle.plant_client.specs.Questions.{opening_text, question_text, sequence_most}
-use Rattle.plant_client.proofs.AskingLemmas.{all_append, one_played}
+use Rattle.plant_client.proofs.AskingLemmas.{all_append}
 use Rattle.plant_client.proofs.QuestionLemmas.{question_few}
 use Rattle.plant_bulk.specs.declared.requests.Demand.{Demand}
 use Rattle.plant_bulk.specs.Playing.{AsksAll, IsBulk, bulk_turns, client, network, turns_of}
@@ -57,8 +59,30 @@ of_lines files es old new most feeds p =
     let fed = feeds files p.cues p.are_cues in
     record { cues = p.cues; told = p.told; feeds = fed.0; few = fed.1; played = p.played }
 
+of_played : (files : Option Files) (e : LineEvent) (old : Stage) (answer : Answered) (new : Stage) (most : ℕ) → FeedAll (e ∷ []) most → (p : IsPlayed files e old answer new) → IsScript old new p.turns most
+of_played files e old answer new most feeds p =
+    let fed = feeds files (p.cue ∷ []) (p.is_cue, tt) in
+    record {
+      cues = p.cue ∷ [];
+      told = p.told;
+      feeds = fed.0;
+      few = fed.1;
+      played = record {
+        answer = answer;
+        first = p.turns;
+        said = p.told;
+        mid = new;
+        plays = p.plays;
+        later = [];
+        more = [];
+        others = (refl, refl, refl);
+        turns_are = sym (append-nil p.turns);
+        told_is = sym (append-nil p.told);
+      };
+    }
+
 octets_append : (cs ds : List Cue) → all_octets (cs ++ ds) ≡ all_octets cs + all_octets ds
-octets_append [] ds = refl
+octets_append [] ds = omega arith
 octets_append (c ∷ cs) ds = omega (arith, octets_append cs ds)
 
 both : (old mid new : Stage) (turns more : List Turn) (a b : ℕ) → IsScript old mid turns a → IsScript mid new more b → IsScript old new (turns ++ more) (a + b)
@@ -75,7 +99,7 @@ exchange_script files q old new came few x =
     let drains = x.receives.drains in
     both old x.asked new x.lines.turns drains.turns 132 0
     (of_lines files (asking_lines client q) old x.asked 132 (asking_feeds client q x.octets few) x.lines)
-    (of_lines files (line.Drain (Some client) 0 ∷ []) x.asked new 0 (drain_feeds client) (one_played files (line.Drain (Some client) 0) x.receives.answer x.asked new drains))
+    (of_played files (line.Drain (Some client) 0) x.asked x.receives.answer new 0 (drain_feeds client) drains)
 
 asks_script : (files : Option Files) (d : Demand) (ks : List ℕ) (old new : Stage) (received : List (List ℕ)) (turns : List Turn) → AsksAll files client (map (question d) ks) old received turns new →
     IsScript old new turns (132 * length ks)

@@ -18,13 +18,15 @@ use Rattle.plant_script.proofs.ScriptLemmas.{file_before, script_before}
 use Rattle.blind_script.specs.Scripts.{ScriptStops}
 use Rattle.plant_client.specs.Asking.{AskStops, Asks, StopsAtFile, load_line, topologies}
 use Rattle.plant_client.specs.Telling.{told_text}
+use Rattle.plant_bulk.specs.declared.tally.Tally.{Tally}
+use Rattle.plant_bulk.specs.Telling.{tally_text}
 use Rattle.pce_tool.specs.declared.route.Route.{Route}
 use Rattle.pce_tool.specs.declared.status.Status.{Status}
 use Rattle.pce_tool.specs.declared.status.Status.TheVariants as status
 use Rattle.pce_tool.specs.Limits.{settings_max}
 use Rattle.pce_tool.specs.Worlds.{World, WroteNothing}
 use Rattle.pce_tool.specs.Parts.{IsBadSettings, IsFileStatus, IsFinished}
-use Rattle.pce_tool.specs.Networks.{BlindEnds, HasNetwork, HasScript, IsBlindStatus, IsPathStatus, IsPlayStatus, IsSettingsFault, IsStopStatus, PathEnds, PlayEnds, around_of, question_of, status_of}
+use Rattle.pce_tool.specs.Networks.{BlindEnds, BulkEnds, HasNetwork, HasScript, IsBlindStatus, IsCounted, IsPathStatus, IsPlayStatus, IsSettingsFault, IsStopStatus, PathEnds, PlayEnds, around_of, question_of, status_of}
 
 -- ---- settings
 
@@ -149,3 +151,17 @@ pub path_stopped : (w : World) (net : List ℕ) (n : NetworkParts) → HasNetwor
     (s : Status) → IsStopStatus w.files (with_path n r.at) (f1, f2) w.failed_at s → PathEnds w net r s
 path_stopped w net n has r element f0 f1 f2 counts le nothing s is =
     inr (inr (record { network = n; has = has; element = element; ends = subst (IsPathStatus w n r) (sym is.2) (stopped w n r f0 f1 f2 counts le nothing is.0 is.1) }))
+
+-- ---- requests over a drawn network
+
+pub bulk_told : (w : World) (n : ℕ) (tally : Tally) (text : List ℕ) → IsCounted n tally → text ≡ tally_text n tally → (s : Status) → IsFinished w.before w.after w.output_faults text s → BulkEnds w n s
+bulk_told w n tally text counted is status.Ok fin = (tally, counted, subst (Appends w.before w.after) is fin)
+bulk_told w n tally text counted is status.Usage fin = absurd fin
+bulk_told w n tally text counted is status.ReadFault fin = absurd fin
+bulk_told w n tally text counted is status.WriteFault fin = record { tally = tally; counted = counted; rose = fin.0; part = subst (AppendsSome w.before w.after) is fin.1 }
+bulk_told w n tally text counted is (status.BadNetwork file line fault) fin = absurd fin
+bulk_told w n tally text counted is (status.BadLine line) fin = absurd fin
+bulk_told w n tally text counted is status.NoMemory fin = absurd fin
+bulk_told w n tally text counted is (status.BadRequest why) fin = absurd fin
+bulk_told w n tally text counted is (status.Refuted place) fin = absurd fin
+bulk_told w n tally text counted is (status.TooLarge name) fin = absurd fin

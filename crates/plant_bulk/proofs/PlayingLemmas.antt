@@ -1,17 +1,20 @@
 -- Questions that are put one behind the other, and one more.
-use Rattle.std.proofs.Common.{◌≡◌, ◌+◌, ◌∙◌, ℕ, Option, List, [], ◌∷◌, ◌++◌, refl, sym, ap, subst, append_assoc}
+use Rattle.std.proofs.Common.{◌≡◌, ◌+◌, ◌∙◌, ℕ, Option, Some, Result, Ok, Err, List, [], ◌∷◌, ◌++◌, refl, sym, ap, subst, arith, append_assoc}
 use Rattle.std.proofs.lemmas.List.{append-nil}
 use Rattle.std.proofs.lemmas.List.FromFn.{map-range_with_len_more}
-use Rattle.dom_edge.specs.Stores.{Files}
+use Rattle.std.specs.Result.{IfOk}
+use Rattle.dom_base.specs.declared.names.NoMemory.{NoMemory}
+use Rattle.dom_edge.specs.Stores.{Files, file_named}
+use Rattle.drawn_network.specs.Files.{AreFiles}
 use Rattle.plant_play.specs.Playing.{Stage}
 use Rattle.plant_play.specs.Turns.{Turn}
 use Rattle.plant_client.specs.declared.hearing.Heard.{Heard}
 use Rattle.plant_client.specs.declared.question.Question.{Question}
-use Rattle.plant_client.specs.Asking.{Exchanges}
+use Rattle.plant_client.specs.Asking.{Begins, Exchanges}
 use Rattle.plant_client.specs.Hearing.{heard_in}
 use Rattle.plant_bulk.specs.declared.requests.Demand.{Demand}
 use Rattle.plant_bulk.specs.declared.tally.Tally.{Tally}
-use Rattle.plant_bulk.specs.Playing.{AreTallied, AsksAll, client, turns_of}
+use Rattle.plant_bulk.specs.Playing.{AreTallied, AsksAll, IsTallied, client, network, turns_of}
 use Rattle.plant_bulk.specs.Requests.{question, questions}
 use Rattle.plant_bulk.specs.Tallies.{tally_of, with_heard}
 use Rattle.plant_bulk.proofs.TallyLemmas.{tally_more}
@@ -55,12 +58,20 @@ pub one_tallied_more : (files later : Option Files) (d : Demand) (k : ℕ) (old 
     AreTallied files (questions d (k + 1)) old new after
 one_tallied_more files later d k old mid new before after came heard same p x hears counts =
     let y = subst (λ (f : Option Files). Exchanges f client (question d k) mid came new) same x in
+    let place : 0 + k ≡ k = omega arith in
     let all = one_more files (questions d k) (question d k) old mid new p.0 came p.1 p.2 y in
     let tally : after ≡ tally_of (p.0 ++ came ∷ []) =
-    counts ∙ (ap (λ (h : Heard). with_heard before h) hears ∙ (ap (λ (t : Tally). with_heard t (heard_in came)) p.3 ∙ sym (tally_more p.0 came))) in
-    (
+    counts ∙ (ap (λ (h : Heard). with_heard before h) hears ∙ (ap (λ (t : Tally). with_heard t (heard_in came)) p.3 ∙ sym (tally_more p.0 came))) in (
       p.0 ++ came ∷ [],
       p.1 ++ turns_of y,
-      subst (λ (qs : List Question). AsksAll files client qs old (p.0 ++ came ∷ []) (p.1 ++ turns_of y) new) (sym (map-range_with_len_more (question d) 0 k k refl)) all,
+      subst (λ (qs : List Question). AsksAll files client qs old (p.0 ++ came ∷ []) (p.1 ++ turns_of y) new) (sym (map-range_with_len_more (question d) 0 k k place)) all,
       tally,
     )
+
+-- a run over files that are those of the drawn topologies
+pub tallied_of : (files held : List (List ℕ × List ℕ)) (later : Option Files) (d : Demand) (n : ℕ) (begun end : Stage) (r : Result Tally NoMemory) → AreFiles files → held ≡ files →
+    later ≡ Some (file_named held) → Begins (Some (file_named held)) network client begun → IfOk r (AreTallied later (questions d n) begun end) → IfOk r (IsTallied d n)
+tallied_of files held later d n begun end (Err why) drawn are same begins last = last
+tallied_of files held later d n begun end (Ok tally) drawn are same begins last =
+    let here = subst (λ (f : Option Files). AreTallied f (questions d n) begun end tally) same last in
+    (here.0, record { files = held; drawn = subst AreFiles (sym are) drawn; begun = begun; begins = begins; turns = here.1; end = end; asks = here.2 }, here.3)

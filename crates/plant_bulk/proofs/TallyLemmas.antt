@@ -1,7 +1,6 @@
 -- One answer more.
-use Rattle.std.proofs.Common.{◌≡◌, ◌+◌, ◌∙◌, ℕ, true, cond, max, List, [], ◌∷◌, ◌++◌, length, sum, count_by, refl, ap, arith, length-append}
-use Rattle.std.specs.List.{sum_by}
-use Rattle.std.specs.Option.{cons_option}
+use Rattle.std.proofs.Common.{◌≡◌, ◌+◌, ◌∙◌, ℕ, cond, max, List, [], ◌∷◌, ◌++◌, length, sum, count_by, ap, arith, length-append}
+use Rattle.std.specs.List.{cons_option}
 use Rattle.std.proofs.lemmas.List.{append-nil}
 use Rattle.std.proofs.lemmas.List.Elements.{filter_map-append}
 use Rattle.std.proofs.lemmas.List.Sums.{sum_by-append}
@@ -12,7 +11,7 @@ use Rattle.plant_bulk.specs.declared.tally.Tally.{Tally}
 use Rattle.plant_bulk.specs.Tallies.{cost_in, costs_in, greatest, is_no_path, tally_of, with_heard}
 
 sum_more : (cs : List ℕ) (c : ℕ) → sum (cs ++ c ∷ []) ≡ sum cs + c
-sum_more cs c = let both : sum (cs ++ c ∷ []) ≡ sum cs + (c + 0) = sum_by-append (λ (x : ℕ). x) cs (c ∷ []) in omega (arith, both)
+sum_more cs c = let both : sum (cs ++ c ∷ []) ≡ sum cs + (0 + c) = sum_by-append (λ (x : ℕ). x) cs (c ∷ []) in omega (arith, both)
 
 greatest_more : (cs : List ℕ) (c : ℕ) → greatest (cs ++ c ∷ []) ≡ max (greatest cs) c
 greatest_more [] c = omega arith
@@ -29,7 +28,7 @@ one_cost cs n c =
     ∙ (ap (λ (k : ℕ). parts (length cs + 1) k (greatest all)) (sum_more cs c)
     ∙ ap (λ (k : ℕ). parts (length cs + 1) (sum cs + c) k) (greatest_more cs c))
 
-with_parts : (cs all : List ℕ) (n m : ℕ) (h : Heard) → all ≡ cs ++ cons_option (cost_in h) [] → m ≡ n + (cond (is_no_path h) 1 0 + 0) → made all m ≡ with_heard (made cs n) h
+with_parts : (cs all : List ℕ) (n m : ℕ) (h : Heard) → all ≡ cs ++ cons_option (cost_in h) [] → m ≡ n + (0 + cond (is_no_path h) 1 0) → made all m ≡ with_heard (made cs n) h
 with_parts cs all n m (heard.Path c) costs none =
     let same : m ≡ n = omega (arith, none) in
     ap (λ (l : List ℕ). made l m) costs ∙ (ap (λ (k : ℕ). made (cs ++ c ∷ []) k) same ∙ one_cost cs n c)

@@ -1,7 +1,4 @@
-use Rattle.std.proofs.Common.{◌∙◌, ℕ, List, ap}
-use Rattle.std.specs.Result.{IfOk}
-use Rattle.plant_client.specs.Hearing.{in_frame}
-use Rattle.plant_client.specs.Telling.{last_of}
+use Rattle.std.proofs.Common.{◌∙◌}
 use Rattle.plant_client.proofs.TellingLemmas.{frames_are}
 use Rattle.plant_client.proofs.hearing.hear.Goals as goal
 
