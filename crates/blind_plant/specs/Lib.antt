@@ -1,4 +1,5 @@
-pub mod Network
+-- for readers
 pub mod Whole
 pub mod Held
+-- inner
 pub mod PlantFields

@@ -1,11 +1,11 @@
 -- A network without topologies as its callers see it, and what an event leaves.
-use Rattle.std.specs.Prelude.{◌≡◌, List, []}
+use Rattle.std.specs.Prelude.{◌≡◌, []}
 use Rattle.plant_text.specs.declared.settings.NetworkParts.{NetworkParts}
 use Rattle.plant_model.specs.declared.event.BlindEvent.{BlindEvent}
 use Rattle.plant_model.specs.Blind.{BlindSteps, Nothing, blind_opened}
 use Rattle.plant_model.specs.Events.{Answered}
 use Rattle.plant_model.specs.RealWire.{wire}
-use Rattle.blind_plant.specs.Network as network
+use Rattle.plant_network.specs.Whole as network
 
 -- its settings, its state, and the messages that the last accepted event put into queues
 abbrev pub Whole : Type 0

@@ -14,3 +14,5 @@ pub mod AskLemmas
 pub mod EntryLemmas
 pub mod CommitLemmas
 pub mod LastingLemmas
+pub mod JoinLemmas
+pub mod BlindLemmas

@@ -2,7 +2,6 @@
 use Rattle.std.proofs.Common.{◌≡◌, ◌<◌, ◌+◌, ◌-◌, ℕ, zero, suc, Bool, true, false, cond, Option, Some, None, List, [], ◌∷◌, length, drop, map, arith, refl, ◌∙◌, ap}
 use Rattle.std.specs.Prelude.{slice_get, filter, OnSome}
 use Rattle.plant_model.specs.Element.{Row, is_ready, ready_numbers}
-use Rattle.plant_model.specs.Plant.{Pin}
 use Rattle.pce_element.proofs.PlaceLemmas.{dropped_at}
 
 pub dropped_next : {X : Type 0} (xs : List X) (k : ℕ) (x : X) → slice_get xs k ≡ Some x → drop k xs ≡ x ∷ drop (k + 1) xs
@@ -10,22 +9,22 @@ dropped_next xs k x at = dropped_at xs k x at ∙ ap (λ (j : ℕ). x ∷ drop j
 
 -- ---- that is ready
 
-pub ready_here : (k : ℕ) (rows : List (Row Pin)) (h : Row Pin) → slice_get rows k ≡ Some h → is_ready h.1.item.stage ≡ true → slice_get (ready_numbers (drop k rows)) 0 ≡ Some h.0
-ready_here k rows h at ready =
-    ap (λ (rs : List (Row Pin)). slice_get (ready_numbers rs) 0) (dropped_next rows k h at)
-    ∙ ap (λ (b : Bool). slice_get (map (λ (r : Row Pin). r.0) (cond b (h ∷ filter (λ (r : Row Pin). is_ready r.1.item.stage) (drop (k + 1) rows)) (filter (λ (r : Row Pin). is_ready r.1.item.stage) (drop (k + 1) rows)))) 0) ready
+pub ready_here : {P : Type 0} → (k : ℕ) (rows : List (Row P)) (h : Row P) → slice_get rows k ≡ Some h → is_ready h.1.item.stage ≡ true → slice_get (ready_numbers (drop k rows)) 0 ≡ Some h.0
+ready_here {P} k rows h at ready =
+    ap (λ (rs : List (Row P)). slice_get (ready_numbers rs) 0) (dropped_next rows k h at)
+    ∙ ap (λ (b : Bool). slice_get (map (λ (r : Row P). r.0) (cond b (h ∷ filter (λ (r : Row P). is_ready r.1.item.stage) (drop (k + 1) rows)) (filter (λ (r : Row P). is_ready r.1.item.stage) (drop (k + 1) rows)))) 0) ready
 
-pub ready_next : (k left : ℕ) (rows : List (Row Pin)) (h : Row Pin) → slice_get rows k ≡ Some h → is_ready h.1.item.stage ≡ true → 0 < left → slice_get (ready_numbers (drop k rows)) left ≡ slice_get (ready_numbers (drop (k + 1) rows)) (left - 1)
+pub ready_next : {P : Type 0} → (k left : ℕ) (rows : List (Row P)) (h : Row P) → slice_get rows k ≡ Some h → is_ready h.1.item.stage ≡ true → 0 < left → slice_get (ready_numbers (drop k rows)) left ≡ slice_get (ready_numbers (drop (k + 1) rows)) (left - 1)
 ready_next k zero rows h at ready some = absurd (omega (arith, some))
-ready_next k (suc n) rows h at ready some =
-    ap (λ (rs : List (Row Pin)). slice_get (ready_numbers rs) (suc n)) (dropped_next rows k h at)
-    ∙ ap (λ (b : Bool). slice_get (map (λ (r : Row Pin). r.0) (cond b (h ∷ filter (λ (r : Row Pin). is_ready r.1.item.stage) (drop (k + 1) rows)) (filter (λ (r : Row Pin). is_ready r.1.item.stage) (drop (k + 1) rows)))) (suc n)) ready
+ready_next {P} k (suc n) rows h at ready some =
+    ap (λ (rs : List (Row P)). slice_get (ready_numbers rs) (suc n)) (dropped_next rows k h at)
+    ∙ ap (λ (b : Bool). slice_get (map (λ (r : Row P). r.0) (cond b (h ∷ filter (λ (r : Row P). is_ready r.1.item.stage) (drop (k + 1) rows)) (filter (λ (r : Row P). is_ready r.1.item.stage) (drop (k + 1) rows)))) (suc n)) ready
     ∙ ap (λ (j : ℕ). slice_get (ready_numbers (drop (k + 1) rows)) j) (let e : n ≡ suc n - 1 = omega arith in e)
 
-pub ready_more : (k left : ℕ) (rows : List (Row Pin)) (h : Row Pin) → slice_get rows k ≡ Some h → is_ready h.1.item.stage ≡ false → slice_get (ready_numbers (drop k rows)) left ≡ slice_get (ready_numbers (drop (k + 1) rows)) left
-ready_more k left rows h at ready =
-    ap (λ (rs : List (Row Pin)). slice_get (ready_numbers rs) left) (dropped_next rows k h at)
-    ∙ ap (λ (b : Bool). slice_get (map (λ (r : Row Pin). r.0) (cond b (h ∷ filter (λ (r : Row Pin). is_ready r.1.item.stage) (drop (k + 1) rows)) (filter (λ (r : Row Pin). is_ready r.1.item.stage) (drop (k + 1) rows)))) left) ready
+pub ready_more : {P : Type 0} → (k left : ℕ) (rows : List (Row P)) (h : Row P) → slice_get rows k ≡ Some h → is_ready h.1.item.stage ≡ false → slice_get (ready_numbers (drop k rows)) left ≡ slice_get (ready_numbers (drop (k + 1) rows)) left
+ready_more {P} k left rows h at ready =
+    ap (λ (rs : List (Row P)). slice_get (ready_numbers rs) left) (dropped_next rows k h at)
+    ∙ ap (λ (b : Bool). slice_get (map (λ (r : Row P). r.0) (cond b (h ∷ filter (λ (r : Row P). is_ready r.1.item.stage) (drop (k + 1) rows)) (filter (λ (r : Row P). is_ready r.1.item.stage) (drop (k + 1) rows)))) left) ready
 
 -- ---- a place has an element
 

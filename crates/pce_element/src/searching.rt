@@ -8,6 +8,7 @@ ghost use Rattle.pce_element.specs.Changes.{all_closed};
 ghost use Rattle.pce_element.specs.Rows.{row_of};
 
 use crate::pinned::{PinnedRequests, Row};
+use crate::world::World;
 use dom_base::Peer;
 
 fn has_number(numbers: &[u64], number: u64) -> bool
@@ -28,10 +29,10 @@ fn after_id(id: u32) -> u32
     if id == u32::MAX { 1 } else { id + 1 }
 }
 
-impl PinnedRequests {
+impl<W: World> PinnedRequests<W> {
     /// The request that waits for the answer to an id of a peer, where those of some numbers have
     /// ended.
-    pub fn waiting(&self, ended: &[u64], peer: Peer, id: u32) -> Option<Row<'_>>
+    pub fn waiting(&self, ended: &[u64], peer: Peer, id: u32) -> Option<Row<'_, W::Pin>>
         ensures row { MatchOption result (waiting peer id (all_closed ended.now self.now.pending).rows ≡ None) (λ row. waiting peer id (all_closed ended.now self.now.pending).rows ≡ Some (row_of row)) }
         ensures has { MatchOption result (Unit {0}) (λ row. Contains self.now.pending.rows (row_of row)) }
         ensures waits { MatchOption result (Unit {0}) (λ row. is_ready (row_of row).1.item.stage ≡ false) }
@@ -63,7 +64,7 @@ impl PinnedRequests {
     }
 
     /// The request of a number.
-    pub fn found(&self, number: u64) -> Option<Row<'_>>
+    pub fn found(&self, number: u64) -> Option<Row<'_, W::Pin>>
         ensures row { MatchOption result (lookup (nat_eq number) self.now.pending.rows ≡ None) (λ row. lookup (nat_eq number) self.now.pending.rows ≡ Some (row_of row).1) }
         ensures number { MatchOption result (Unit {0}) (λ row. row.number ≡ number) }
     {

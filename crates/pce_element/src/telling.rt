@@ -7,10 +7,11 @@ ghost use Rattle.plant_model.specs.Taking.{error_answer, notice_steps, take_busy
 ghost use Rattle.pce_element.specs.Changes.{IsDraft};
 ghost use Rattle.pce_element.specs.Endings.{after, reached, failing};
 
-use crate::change::{Change, Draft};
+use crate::change::{Change, Draft, DraftIn};
 use crate::element::Element;
 use crate::messages::{busy, error_message, reply_message, unavailable};
 use crate::pinned::Row;
+use crate::world::World;
 use dom_base::{List, NoMemory, Peer};
 use pcep_messages::{ErrorReport, Message, Notice};
 use plant_model::{Output, Outputs};
@@ -35,7 +36,7 @@ impl Ending {
     }
 
     // The asker of a request gets an answer, and the request ends.
-    fn answer(&mut self, row: &Row<'_>, message: Message) -> Result<(), NoMemory>
+    fn answer<P: Drop>(&mut self, row: &Row<'_, P>, message: Message) -> Result<(), NoMemory>
         ensures numbers { OnOk result (self.new.numbers ≡ self.old.numbers ++ row.now.number ∷ []) }
         ensures outputs { OnOk result (self.new.outputs ≡ self.old.outputs ++ (record { to = row.now.key.peer; message = message }) ∷ []) }
     {
@@ -73,7 +74,7 @@ fn error_answer(
     }
 }
 
-impl Element {
+impl<W: World> Element<W> {
     // The next has no room for a request.
     fn take_busy(&self, ending: &mut Ending, peer: Peer, rp: (u32, u32)) -> Result<(), NoMemory>
         ensures { OnOk result (reached self.now.losing.element ending.new ≡ after (reached self.now.losing.element ending.old) (take_busy peer rp)) }
@@ -130,7 +131,7 @@ impl Element {
     }
 
     /// Notices of a peer.
-    pub(crate) fn take_notices(&self, peer: Peer, notices: &[Notice]) -> Result<Draft, NoMemory>
+    pub(crate) fn take_notices(&self, peer: Peer, notices: &[Notice]) -> Result<DraftIn<W>, NoMemory>
         ensures { IfOk result (IsDraft self.now (each (take_notice peer) notices.now self.now.losing.element)) }
     {
         let mut ending = Ending::new(self.alloc);
@@ -187,7 +188,7 @@ impl Element {
         &self,
         peer: Peer,
         reports: &[ErrorReport],
-    ) -> Result<Draft, NoMemory>
+    ) -> Result<DraftIn<W>, NoMemory>
         ensures { IfOk result (IsDraft self.now (each (take_report peer) reports.now self.now.losing.element)) }
     {
         let mut ending = Ending::new(self.alloc);

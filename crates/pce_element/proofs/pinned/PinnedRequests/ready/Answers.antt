@@ -7,13 +7,13 @@ use Rattle.pce_element.proofs.pinned.PinnedRequests.ready.Goals as goal
 use Rattle.pce_element.proofs.pinned.PinnedRequests.ready.Goals.{then-is_ready+else-left-eq0, else-is_ready}
 
 pub returns-then-left-eq0 : goal.returns-then-left-eq0
-returns-then-left-eq0 c =
+returns-then-left-eq0 g c =
     let rows = c.args.self.now.pending.rows in
     sym (c.loop-i.invariant ∙ ap (λ (n : ℕ). slice_get (ready_numbers (drop c.loop-i.i rows)) n) c.if-left-eq0.true
     ∙ ready_here c.loop-i.i rows (row_of c.in-Some.row) c.in-Some.ensures.row (sym c.is_ready.ensures ∙ c.if-is_ready.true))
 
 pub loop-i-preserved : goal.loop-i-preserved
-loop-i-preserved c =
+loop-i-preserved g c =
     let rows = c.args.self.now.pending.rows in
     elim c.if-is_ready.branch [
       | then-is_ready+else-left-eq0 w ↦
