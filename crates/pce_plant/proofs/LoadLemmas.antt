@@ -1,15 +1,13 @@
 -- An element of a network loads a topology.
 use Rattle.std.proofs.Common.{◌≡◌, ℕ, ◌+◌, ◌*◌, length, Result, Ok, Err, List, [], ◌∷◌, refl, sym, ◌∙◌, ap, ap₂, subst}
-use Rattle.std.specs.Prelude.{OnOk, OnErr}
 use Rattle.dom_base.specs.declared.names.As.{As}
 use Rattle.te_links.specs.Rows.{Rows}
 use Rattle.plant_text.specs.declared.settings.NetworkParts.{NetworkParts}
 use Rattle.plant_model.specs.declared.event.Event.TheVariants as event
 use Rattle.plant_model.specs.declared.outcome.Refused.{Refused}
 use Rattle.plant_model.specs.Element.{Element}
-use Rattle.plant_model.specs.Events.{Answered}
 use Rattle.plant_model.specs.Parent.{Parent}
-use Rattle.plant_model.specs.Plant.{Pin, Segment, Plant, PlantDeed, Steps}
+use Rattle.plant_model.specs.Plant.{Pin, Segment, Plant, Steps}
 use Rattle.plant_model.specs.RealWire.{wire}
 use Rattle.plant_model.specs.State.{said}
 use Rattle.plant_traffic.specs.Carried.{Carried, flow_of}

@@ -1,5 +1,5 @@
 -- A member that answers a solved job is the model's solve.
-use Rattle.std.proofs.Common.{◌≡◌, ◌≤◌, ℕ, Bool, true, false, cond, nat_lt, Option, Some, None, Ok, Err, List, [], ◌∷◌, length, inl, inr, refl, sym, ◌∙◌, ap, subst}
+use Rattle.std.proofs.Common.{◌≡◌, ℕ, true, Ok, Err, List, [], ◌∷◌, inl, inr, refl, sym, ◌∙◌, ap, subst}
 use Rattle.dom_base.specs.declared.names.As.{As}
 use Rattle.disclosure.specs.Shown.{open_of}
 use Rattle.plant_text.specs.declared.settings.NetworkParts.{NetworkParts}

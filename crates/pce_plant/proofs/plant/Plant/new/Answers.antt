@@ -30,8 +30,7 @@ invariant_of-result c = c.in_ok-begin.ensures.sound
 pub returns : goal.returns
 returns c =
     let h = held c.in_ok-members.members c.begin.new.traffic in
-    let first : (members_of h.members).current ≡ first_pin = ap (λ (ms : Membership Pin Segment). ms.current) c.in_ok-members.ensures.begun in
-    (
+    let first : (members_of h.members).current ≡ first_pin = ap (λ (ms : Membership Pin Segment). ms.current) c.in_ok-members.ensures.begun in (
       c.in_ok-members.ensures.network,
       subst (λ (n : NetworkParts). Run wire n [] (whole h).state) c.in_ok-members.ensures.network (c.in_ok-begin.ensures.state ∙ ap (λ (f : As → Pin). (opening Pin Segment wire h.members.network open_of f).state) first),
       c.in_ok-begin.ensures.said,
