@@ -8,7 +8,7 @@ use Rattle.std.proofs.lemmas.List.Elements.{Contains-append_left, Contains-push,
 use Rattle.dom_base.specs.declared.addr.Addr.{Addr}
 use Rattle.walk_laws.specs.Borders.{Beyond, IsDown}
 use Rattle.border_costs.specs.declared.job.Down.{Down}
-use Rattle.border_costs.specs.Asks.{beyond, HasNoDown, IsBelow}
+use Rattle.border_costs.specs.Asks.{beyond, HasNoDown, IsLess}
 
 abbrev pub row_of : Down → Beyond
 row_of d = record { node = d.node; cost = d.cost }
@@ -53,12 +53,12 @@ down_unique rows n c d one other = omega (arith, one.least d other.is_row, other
 
 module _ (rows : List Beyond) (row : Beyond) (n : Addr) where
   -- the row is the least so far
-  pub step_taken : (o : Option ℕ) → MatchOption o (HasNoDown rows n) (IsDown rows n) → row.node ≡ n → IsBelow row.cost o → IsDown (rows ++ row ∷ []) n row.cost
+  pub step_taken : (o : Option ℕ) → MatchOption o (HasNoDown rows n) (IsDown rows n) → row.node ≡ n → IsLess row.cost o → IsDown (rows ++ row ∷ []) n row.cost
   step_taken None none here below = least_new rows row n here (λ c has. absurd (none c has))
   step_taken (Some c) is here below = least_new rows row n here (λ d has. let low = is.least d has in omega arith)
 
   -- it is of another node, or no less
-  pub step_left : (o : Option ℕ) → MatchOption o (HasNoDown rows n) (IsDown rows n) → ((row.node ≡ n → ⊥) ⊎ (IsBelow row.cost o → ⊥)) →
+  pub step_left : (o : Option ℕ) → MatchOption o (HasNoDown rows n) (IsDown rows n) → ((row.node ≡ n → ⊥) ⊎ (IsLess row.cost o → ⊥)) →
       MatchOption o (HasNoDown (rows ++ row ∷ []) n) (IsDown (rows ++ row ∷ []) n)
   step_left None none (inl other) = none_kept rows row n none other
   step_left None none (inr no_less) = absurd (no_less tt)

@@ -24,9 +24,9 @@ abbrev pub HasNoDown : List Beyond → Addr → Type 0
 HasNoDown down n = (c : ℕ) → ¬ Contains down (record { node = n; cost = c })
 
 -- strictly less than the cost, if there is one
-abbrev pub IsBelow : ℕ → Option ℕ → Type 0
-IsBelow c None = Unit {0}
-IsBelow c (Some least) = c < least
+abbrev pub IsLess : ℕ → Option ℕ → Type 0
+IsLess c None = Unit {0}
+IsLess c (Some least) = c < least
 
 -- a target in this domain, at no cost, with itself as the exit
 abbrev pub target_seed : Addr → Seed

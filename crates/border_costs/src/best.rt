@@ -64,7 +64,7 @@ fn best_of<'a, G: Links<'a>>(
 }
 
 /// The best way from each entry of the ask that has one, in their order.
-pub fn best_rows<'a, G: Links<'a>>(
+pub(crate) fn best_rows<'a, G: Links<'a>>(
     alloc: Global,
     ask: &Ask,
     links: &mut G,

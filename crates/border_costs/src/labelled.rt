@@ -11,7 +11,7 @@ use std::alloc::Global;
 use te_links::Links;
 
 /// The labels of all nodes as a certificate, without a path.
-pub fn certificate_of<'a, G: Links<'a>>(
+pub(crate) fn certificate_of<'a, G: Links<'a>>(
     alloc: Global,
     ask: &Ask,
     links: &G,

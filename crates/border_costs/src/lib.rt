@@ -17,7 +17,7 @@ pub use best::head_of;
 pub use job::{Ask, Down, Job, Target};
 pub use law::{rows_compose, table_tells_pairs};
 pub use rows::Rows;
-pub use seeds::seeds_of;
+pub use seeds::{seed_of_target, seeds_of};
 pub use solution::{is_node, knows_target, solve_rows};
 pub use solved::{Solved, solve};
 pub use table::border_table;

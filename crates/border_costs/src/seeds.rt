@@ -1,7 +1,7 @@
 //! The seeds of an ask: its target, or its out links with what lies beyond.
 ghost use Rattle.std.specs.Prelude.{◌≡◌, ◌<◌, ◌≤◌, ◌+◌, ◌↔◌, length, IsTrue, SomeIff, IfOk, MatchOption};
 ghost use Rattle.walk_laws.specs.Borders.{IsDown};
-ghost use Rattle.border_costs.specs.Asks.{beyond, AreSeeds, target_seed, HasNoDown, IsBelow, IsSeedAt, IsNoSeedAt};
+ghost use Rattle.border_costs.specs.Asks.{beyond, AreSeeds, target_seed, HasNoDown, IsLess, IsSeedAt, IsNoSeedAt};
 
 use crate::job::{Ask, Down, Target};
 use dom_base::{Addr, As, Cost, NoMemory, Query, Seed};
@@ -11,7 +11,7 @@ use std::alloc::Global;
 use te_links::Links;
 
 fn is_less(cost: Cost, least: &Option<Cost>) -> bool
-    ensures { IsTrue result ↔ IsBelow cost least.now }
+    ensures { IsTrue result ↔ IsLess cost least.now }
 {
     match least {
         Some(least) => cost < *least,

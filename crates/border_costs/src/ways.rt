@@ -53,7 +53,11 @@ fn way_at<'a, G: Links<'a>>(links: &G, query: &Query, next: As, index: u32) -> O
 
 /// The ways out of an ask, in the order of their far addresses: the target in this domain, or one
 /// for each admitted out link to the next domain whose weight is within the cap.
-pub fn ways_of<'a, G: Links<'a>>(alloc: Global, ask: &Ask, links: &G) -> Result<Vec<Way>, NoMemory>
+pub(crate) fn ways_of<'a, G: Links<'a>>(
+    alloc: Global,
+    ask: &Ask,
+    links: &G,
+) -> Result<Vec<Way>, NoMemory>
     ensures ways { IfOk result (λ ways. AreWays (G.rows links.now) ask.now.query ask.now.target ways.items) }
 {
     let mut ways = Vec::new(alloc);

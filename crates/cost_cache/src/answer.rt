@@ -16,7 +16,11 @@ use std::alloc::Global;
 use te_links::Links;
 
 /// What is kept of an ask: one search from all its seeds, and the next link of each node.
-pub fn keep<'a, G: Links<'a>>(alloc: Global, ask: &Ask, links: &mut G) -> Result<Kept, NoMemory>
+pub(crate) fn keep<'a, G: Links<'a>>(
+    alloc: Global,
+    ask: &Ask,
+    links: &mut G,
+) -> Result<Kept, NoMemory>
     ensures kept { IfOk result (IsKept (G.rows links.old) (key_of ask.now)) }
     ensures same { G.rows links.new ≡ G.rows links.old }
 {
@@ -37,7 +41,7 @@ fn obeys_rules<'a, G: Links<'a>>(links: &G)
 }
 
 /// The rows of an ask by what is kept under its key. No link is read.
-pub fn answer<'a, G: Links<'a>>(
+pub(crate) fn answer<'a, G: Links<'a>>(
     alloc: Global,
     ask: &Ask,
     links: &G,

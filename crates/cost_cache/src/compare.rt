@@ -73,7 +73,7 @@ fn equal_numbers(a: &Query, b: &Query) -> bool
         && a.include_all == b.include_all
 }
 
-pub fn equal_queries(a: &Query, b: &Query) -> bool
+pub(crate) fn equal_queries(a: &Query, b: &Query) -> bool
     ensures { result ≡ same_query a.now b.now }
 {
     equal_numbers(a, b)
@@ -81,7 +81,7 @@ pub fn equal_queries(a: &Query, b: &Query) -> bool
         && equal_exclusions(a.exclusions.as_slice(), b.exclusions.as_slice())
 }
 
-pub fn equal_targets(a: Target, b: Target) -> bool
+pub(crate) fn equal_targets(a: Target, b: Target) -> bool
     ensures { result ≡ same_target a b }
 {
     match (a, b) {
@@ -91,7 +91,7 @@ pub fn equal_targets(a: Target, b: Target) -> bool
     }
 }
 
-pub fn equal_downs(a: &[Down], b: &[Down]) -> bool
+pub(crate) fn equal_downs(a: &[Down], b: &[Down]) -> bool
     ensures { result ≡ pointwise same_down a.now b.now }
 {
     a == b

@@ -19,7 +19,7 @@ struct Hop {
 }
 
 // The link at a place as a next link, if it is tight from a node where no segment ends.
-fn hop_at<'a, G: Links<'a>>(
+fn next_at<'a, G: Links<'a>>(
     links: &mut G,
     query: &Query,
     seeds: &[Seed],
@@ -65,7 +65,7 @@ fn keep_first(nexts: &mut Vec<Option<Next>>, hop: Hop)
 }
 
 /// The next link of the chosen segment of each node with a label, each link read twice at most.
-pub fn nexts_of<'a, G: Links<'a>>(
+pub(crate) fn nexts_of<'a, G: Links<'a>>(
     alloc: Global,
     links: &mut G,
     query: &Query,
@@ -78,7 +78,7 @@ pub fn nexts_of<'a, G: Links<'a>>(
 {
     let mut nexts = Vec::from_elem(alloc, None, links.node_count() as usize)?;
     for index in 0..links.link_count() {
-        if let Some(hop) = hop_at(links, query, seeds, labels, index) {
+        if let Some(hop) = next_at(links, query, seeds, labels, index) {
             keep_first(&mut nexts, hop);
         }
     }

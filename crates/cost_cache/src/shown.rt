@@ -15,7 +15,7 @@ use te_links::Links;
 
 /// The open form of the chosen segment from an entry with a label: its address, and then the far
 /// address of each link. No link is read.
-pub fn shown_from<'a, G: Links<'a>>(
+pub(crate) fn shown_from<'a, G: Links<'a>>(
     alloc: Global,
     _ask: &Ask,
     _links: &G,

@@ -6,10 +6,11 @@ use Rattle.dom_base.specs.AddrText.{addr_in}
 use Rattle.dom_base.specs.Steps.{◌>>=◌}
 use Rattle.line_text.specs.Lines.{NumberedLine}
 use Rattle.te_links.specs.declared.fault.TopoFault.TheVariants.{Syntax}
-use Rattle.path_certificate.specs.declared.cert_error.CertError.{CertError}
-use Rattle.path_certificate.specs.declared.cert_error.CertError.TheVariants.{At, NoMemory}
-use Rattle.path_certificate.specs.Given.{GivesText}
-use Rattle.path_certificate.specs.Text.{and_then, least_behind}
+use Rattle.te_text.specs.declared.error.TextError.{TextError}
+use Rattle.te_text.specs.declared.error.TextError.TheVariants.{At, NoMemory}
+use Rattle.te_text.specs.Given.{GivesText}
+use Rattle.te_text.specs.Reading.{and_then}
+use Rattle.path_certificate.specs.Text.{least_behind}
 use Rattle.path_certificate.proofs.Gathering.{in_front}
 use Rattle.diverse_pairs.specs.declared.certificate.PairForm.{PairForm}
 use Rattle.diverse_pairs.specs.declared.certificate.PairForm.TheVariants.{Paths, Cut}
@@ -45,15 +46,15 @@ behind done (Paths potentials one other) = Paths (done ++ potentials) one other
 behind done (Cut nodes) = Cut nodes
 
 -- what was gathered, with what further lines say
-abbrev pub further : Potentials → Result PairForm CertError → Result PairForm CertError
+abbrev pub further : Potentials → Result PairForm TextError → Result PairForm TextError
 further done said = and_then said (λ form. Ok (behind done form))
 
-pub nothing_yet : (said : Result PairForm CertError) → further [] said ≡ said
+pub nothing_yet : (said : Result PairForm TextError) → further [] said ≡ said
 nothing_yet (Ok (Paths potentials one other)) = refl
 nothing_yet (Ok (Cut nodes)) = refl
 nothing_yet (Err e) = refl
 
-moves : (done : Potentials) (row : Addr × ℕ) (said : Result PairForm CertError) →
+moves : (done : Potentials) (row : Addr × ℕ) (said : Result PairForm TextError) →
     further done (and_then said (λ form. Ok (with_potential row form))) ≡ further (done ++ row ∷ []) said
 moves done row (Err e) = refl
 moves done row (Ok (Paths potentials one other)) = ap (λ (ps : Potentials). Ok (Paths ps one other)) (sym (append_assoc done (row ∷ []) potentials))
@@ -74,7 +75,7 @@ unfolding body_in
 out_of_order done end before line others addr number e below = rw (e, below) refl
 
 -- a line that is outside the form
-stops : (done : Potentials) (end : ℕ) (before : Option Addr) (line : NumberedLine) (others : List NumberedLine) (fault : CertError)
+stops : (done : Potentials) (end : ℕ) (before : Option Addr) (line : NumberedLine) (others : List NumberedLine) (fault : TextError)
     → row_at line ≡ Err fault → further done (body_in end before (line ∷ others)) ≡ Err fault
 unfolding body_in
 stops done end before line others fault e = rw e refl
@@ -86,7 +87,7 @@ pub first_said : (done : Potentials) (end : ℕ) (before : Option Addr) (line : 
 unfolding body_in
 first_said done end before line others one e = rw e (go (second_in end others))
   where
-    go : (said : Result (List Addr) CertError) → further done (and_then said (λ other. Ok (Paths [] one other))) ≡ and_then said (λ other. Ok (Paths done one other))
+    go : (said : Result (List Addr) TextError) → further done (and_then said (λ other. Ok (Paths [] one other))) ≡ and_then said (λ other. Ok (Paths done one other))
     go (Ok other) = ap (λ (ps : Potentials). Ok (Paths ps one other)) (append-nil done)
     go (Err fault) = refl
 
@@ -112,8 +113,8 @@ unfolding body_in
 missing done end before = refl
 
 -- where a line was not read
-pub fault_stays : (done : Potentials) (end : ℕ) (before : Option Addr) (lines left : List NumberedLine) (line : NumberedLine) (e : CertError)
-    (all : Result PairForm CertError) → further done (body_in end before lines) ≡ all → lines ≡ line ∷ left
+pub fault_stays : (done : Potentials) (end : ℕ) (before : Option Addr) (lines left : List NumberedLine) (line : NumberedLine) (e : TextError)
+    (all : Result PairForm TextError) → further done (body_in end before lines) ≡ all → lines ≡ line ∷ left
     → GivesText {X = PairRow} (Err e) (row_at line) → GivesText {X = PairForm} (Err e) all
 fault_stays done end before lines left line (At number fault) all so_far split said =
     sym so_far ∙ ap (λ (ls : List NumberedLine). further done (body_in end before ls)) split ∙ stops done end before line left (At number fault) said
@@ -121,7 +122,7 @@ fault_stays done end before lines left line NoMemory all so_far split said = tt
 
 -- a line with a potential, as the loop goes over it
 pub moved_on : (done : Potentials) (end : ℕ) (before : Option Addr) (lines left : List NumberedLine) (line : NumberedLine) (row : PairRow)
-    (addr : Addr) (number : ℕ) (done' : Potentials) (all : Result PairForm CertError)
+    (addr : Addr) (number : ℕ) (done' : Potentials) (all : Result PairForm TextError)
     → row_at line ≡ Ok row → row ≡ rows.At addr number → leb (least_behind before) (rank addr) ≡ true → lines ≡ line ∷ left
     → done' ≡ done ++ (addr, number) ∷ []
     → further done (body_in end before lines) ≡ all → further done' (body_in end (Some addr) left) ≡ all
@@ -132,28 +133,28 @@ moved_on done end before lines left line row addr number done' all at is above s
     ∙ so_far
 
 -- the second path was not read
-pub first_stays : (done : Potentials) (end : ℕ) (before : Option Addr) (lines left : List NumberedLine) (line : NumberedLine) (one : List Addr) (e : CertError)
-    (all : Result PairForm CertError) → further done (body_in end before lines) ≡ all → lines ≡ line ∷ left → row_at line ≡ Ok (rows.First one)
+pub first_stays : (done : Potentials) (end : ℕ) (before : Option Addr) (lines left : List NumberedLine) (line : NumberedLine) (one : List Addr) (e : TextError)
+    (all : Result PairForm TextError) → further done (body_in end before lines) ≡ all → lines ≡ line ∷ left → row_at line ≡ Ok (rows.First one)
     → GivesText {X = List Addr} (Err e) (second_in end left) → GivesText {X = PairForm} (Err e) all
 first_stays done end before lines left line one (At number fault) all so_far split at said =
     sym so_far ∙ ap (λ (ls : List NumberedLine). further done (body_in end before ls)) split ∙ first_said done end before line left one at
-    ∙ ap (λ (s : Result (List Addr) CertError). and_then s (λ other. Ok (Paths done one other))) said
+    ∙ ap (λ (s : Result (List Addr) TextError). and_then s (λ other. Ok (Paths done one other))) said
 first_stays done end before lines left line one NoMemory all so_far split at said = tt
 
 pub first_accepted : (done : Potentials) (end : ℕ) (before : Option Addr) (lines left : List NumberedLine) (line : NumberedLine) (one other : List Addr)
-    (all : Result PairForm CertError) → further done (body_in end before lines) ≡ all → lines ≡ line ∷ left → row_at line ≡ Ok (rows.First one)
+    (all : Result PairForm TextError) → further done (body_in end before lines) ≡ all → lines ≡ line ∷ left → row_at line ≡ Ok (rows.First one)
     → second_in end left ≡ Ok other → all ≡ Ok (Paths done one other)
 first_accepted done end before lines left line one other all so_far split at said =
     sym so_far ∙ ap (λ (ls : List NumberedLine). further done (body_in end before ls)) split ∙ first_said done end before line left one at
-    ∙ ap (λ (s : Result (List Addr) CertError). and_then s (λ o. Ok (Paths done one o))) said
+    ∙ ap (λ (s : Result (List Addr) TextError). and_then s (λ o. Ok (Paths done one o))) said
 
-same_gives : (r s : Result PairForm CertError) → s ≡ r → GivesText r s
+same_gives : (r s : Result PairForm TextError) → s ≡ r → GivesText r s
 same_gives (Ok form) s is = is
 same_gives (Err (At number fault)) s is = is
 same_gives (Err NoMemory) s is = tt
 
-pub cut_gives : (done : Potentials) (end : ℕ) (before : Option Addr) (lines left : List NumberedLine) (line : NumberedLine) (nodes : List Addr) (r : Result PairForm CertError)
-    (all : Result PairForm CertError) → further done (body_in end before lines) ≡ all → lines ≡ line ∷ left → row_at line ≡ Ok (rows.Cut nodes)
+pub cut_gives : (done : Potentials) (end : ℕ) (before : Option Addr) (lines left : List NumberedLine) (line : NumberedLine) (nodes : List Addr) (r : Result PairForm TextError)
+    (all : Result PairForm TextError) → further done (body_in end before lines) ≡ all → lines ≡ line ∷ left → row_at line ≡ Ok (rows.Cut nodes)
     → r ≡ cut_says before line.number left nodes → GivesText r all
 cut_gives done end before lines left line nodes r all so_far split at said =
     same_gives r all

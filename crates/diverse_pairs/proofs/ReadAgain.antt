@@ -12,14 +12,14 @@ use Rattle.dom_base.specs.declared.names.As.{As}
 use Rattle.line_text.specs.Spelling.{joined, line_text, text_of, IsLine, numbered_after}
 use Rattle.line_text.proofs.Again.{line_again, lines_again}
 use Rattle.te_links.specs.Rows.{Rows}
-use Rattle.path_certificate.specs.Text.{least_behind}
+use Rattle.path_certificate.specs.Text.{header_at, least_behind}
 use Rattle.diverse_pairs.specs.declared.certificate.PairCertificate.{PairCertificate}
 use Rattle.diverse_pairs.specs.declared.certificate.PairForm.{PairForm}
 use Rattle.diverse_pairs.specs.declared.certificate.PairForm.TheVariants.{Paths, Cut}
 use Rattle.diverse_pairs.specs.declared.pair_row.PairRow.{PairRow}
 use Rattle.diverse_pairs.specs.declared.pair_row.PairRow.TheVariants as rows
 use Rattle.diverse_pairs.specs.RowText.{row_in}
-use Rattle.diverse_pairs.specs.Text.{header_at, row_at, body_in, pair_in}
+use Rattle.diverse_pairs.specs.Text.{pair_word, row_at, body_in, pair_in}
 use Rattle.diverse_pairs.specs.PairText.{header_words, row_words, potential_words, form_lines, pair_text, CanBeTold, IsFormWritten, IsWritten, IsWrittenHeader}
 use Rattle.diverse_pairs.proofs.Ascending.{RisingFrom, pairs_rise}
 use Rattle.diverse_pairs.proofs.Gathering.{Potentials}
@@ -33,7 +33,7 @@ row_again : (number : ℕ) (row : PairRow) → IsLine (row_words row) → row_in
 unfolding row_at
 row_again number row line again = rw (line_again (row_words row) line, again) refl
 
-header_again : (own number : As) (line : ℕ) → own ≡ number → IsWrittenHeader number → header_at own (record { number = line; text = joined (header_words number) }) ≡ Ok own
+header_again : (own number : As) (line : ℕ) → own ≡ number → IsWrittenHeader number → header_at pair_word own (record { number = line; text = joined (header_words number) }) ≡ Ok own
 unfolding header_at
 header_again own number line same w =
     rw (line_again (header_words number) w.line, w.again, eq-eqb number.0 own.0 (ap (λ (a : As). a.0) (sym same))) refl

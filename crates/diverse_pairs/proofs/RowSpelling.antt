@@ -21,7 +21,8 @@ use Rattle.path_certificate.proofs.RowSpelling.{joined_spaced}
 use Rattle.diverse_pairs.specs.declared.pair_row.PairRow.{PairRow}
 use Rattle.diverse_pairs.specs.declared.pair_row.PairRow.TheVariants as rows
 use Rattle.diverse_pairs.specs.RowText.{at_word, first_word, second_word, cut_word, rising_in, nodes_behind, row_in}
-use Rattle.diverse_pairs.specs.Text.{pair_word, own_behind}
+use Rattle.path_certificate.specs.Text.{own_behind}
+use Rattle.diverse_pairs.specs.Text.{pair_word}
 use Rattle.diverse_pairs.specs.PairText.{header_words, nodes_words, row_words, IsWritten, IsWrittenHeader}
 use Rattle.diverse_pairs.proofs.Ascending.{RisingFrom}
 
@@ -43,7 +44,7 @@ cut_is_word = record { some = omega arith; bytes = (omega arith, (omega arith, (
 dash_is_word : IsWord dash
 dash_is_word = record { some = omega arith; bytes = (omega arith, tt) }
 
-own_again : (own : As) → number_in (2 ^ 16 - 1) (decimal own.0) ≡ Some own.0 → own_behind (header_words own) ≡ Some own
+own_again : (own : As) → number_in (2 ^ 16 - 1) (decimal own.0) ≡ Some own.0 → own_behind pair_word (header_words own) ≡ Some own
 unfolding own_behind
 own_again own e = rw e refl
 

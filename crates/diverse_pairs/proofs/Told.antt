@@ -10,10 +10,11 @@ use Rattle.line_text.specs.Words.{words_of}
 use Rattle.line_text.specs.Lines.{NumberedLine}
 use Rattle.te_links.specs.declared.fault.TopoFault.TheVariants.{Syntax}
 use Rattle.te_text.specs.RowText.{first, last, number_64}
-use Rattle.path_certificate.specs.declared.cert_error.CertError.{CertError}
-use Rattle.path_certificate.specs.declared.cert_error.CertError.TheVariants.{At}
+use Rattle.te_text.specs.declared.error.TextError.{TextError}
+use Rattle.te_text.specs.declared.error.TextError.TheVariants.{At}
 use Rattle.path_certificate.specs.RowText.{addrs_in, addrs_behind, is_dash}
-use Rattle.path_certificate.specs.Text.{and_then, or_syntax, least_behind}
+use Rattle.te_text.specs.Reading.{and_then, or_syntax}
+use Rattle.path_certificate.specs.Text.{least_behind}
 use Rattle.diverse_pairs.specs.declared.certificate.PairForm.{PairForm}
 use Rattle.diverse_pairs.specs.declared.certificate.PairForm.TheVariants.{Paths, Cut}
 use Rattle.diverse_pairs.specs.declared.pair_row.PairRow.{PairRow}
@@ -148,7 +149,7 @@ second_told end (line ∷ others) other is = go (row_at line) (λ row e. line_go
     ends o some [] h = let same : o ≡ other = cc in subst (λ (x : List Addr). x ≢ []) same some
     ends o some (l ∷ left) h = absurd (cc)
 
-    go : (r : Result PairRow CertError) → ((row : PairRow) → r ≡ Ok row → IsGood row) → and_then r (second_says line others) ≡ Ok other → other ≢ []
+    go : (r : Result PairRow TextError) → ((row : PairRow) → r ≡ Ok row → IsGood row) → and_then r (second_says line others) ≡ Ok other → other ≢ []
     go (Err e) good h = absurd (cc)
     go (Ok (rows.At addr number)) good h = absurd (cc)
     go (Ok (rows.First one)) good h = absurd (cc)
@@ -161,14 +162,14 @@ cut_told least (Some addr) line left nodes form up is = absurd (cc)
 cut_told least None line (l ∷ left) nodes form up is = absurd (cc)
 cut_told least None line [] nodes form up is = let same : Cut nodes ≡ form = cc in subst (ToldFrom least) same up
 
-paths_told : (least : ℕ) (one : List Addr) (said : Result (List Addr) CertError) (form : PairForm) → one ≢ [] → ((other : List Addr) → said ≡ Ok other → other ≢ []) →
+paths_told : (least : ℕ) (one : List Addr) (said : Result (List Addr) TextError) (form : PairForm) → one ≢ [] → ((other : List Addr) → said ≡ Ok other → other ≢ []) →
     and_then said (λ other. Ok (Paths [] one other)) ≡ Ok form → ToldFrom least form
 paths_told least one (Err e) form some each is = absurd (cc)
 paths_told least one (Ok other) form some each is =
     let same : Paths [] one other ≡ form = cc in
     subst (ToldFrom least) same (tt, some, each other refl)
 
-potential_told : (least number : ℕ) (addr : Addr) (said : Result PairForm CertError) (form : PairForm) → least ≤ rank addr →
+potential_told : (least number : ℕ) (addr : Addr) (said : Result PairForm TextError) (form : PairForm) → least ≤ rank addr →
     ((f : PairForm) → said ≡ Ok f → ToldFrom (rank addr + 1) f) → and_then said (λ f. Ok (with_potential (addr, number) f)) ≡ Ok form → ToldFrom least form
 potential_told least number addr (Err e) form above each is = absurd (cc)
 potential_told least number addr (Ok (Paths potentials one other)) form above each is =
@@ -184,7 +185,7 @@ unfolding body_in
 body_told end before [] form is = absurd (cc)
 body_told end before (line ∷ others) form is = go (row_at line) (λ row e. line_good line row e) (λ addr f e. body_told end (Some addr) others f e) is
   where
-    go : (r : Result PairRow CertError) → ((row : PairRow) → r ≡ Ok row → IsGood row) →
+    go : (r : Result PairRow TextError) → ((row : PairRow) → r ≡ Ok row → IsGood row) →
         ((addr : Addr) (f : PairForm) → body_in end (Some addr) others ≡ Ok f → ToldFrom (rank addr + 1) f) →
         and_then r (line_says end before line others (λ addr. body_in end (Some addr) others)) ≡ Ok form → ToldFrom (least_behind before) form
     go (Err e) good rest h = absurd (cc)

@@ -14,7 +14,8 @@ use Rattle.diverse_pairs.specs.declared.certificate.PairForm.TheVariants.{Paths,
 use Rattle.diverse_pairs.specs.declared.pair_row.PairRow.{PairRow}
 use Rattle.diverse_pairs.specs.declared.pair_row.PairRow.TheVariants as rows
 use Rattle.diverse_pairs.specs.RowText.{at_word, first_word, second_word, cut_word, row_in}
-use Rattle.diverse_pairs.specs.Text.{pair_word, own_behind}
+use Rattle.path_certificate.specs.Text.{own_behind}
+use Rattle.diverse_pairs.specs.Text.{pair_word}
 use Rattle.diverse_pairs.specs.Potentials.{AreRising}
 
 abbrev pub header_words : As → List (List ℕ)
@@ -47,7 +48,7 @@ pub record IsWritten (row : PairRow) : Type 0 where
 
 pub record IsWrittenHeader (own : As) : Type 0 where
   pub line : IsLine (header_words own)
-  pub again : own_behind (header_words own) ≡ Some own
+  pub again : own_behind pair_word (header_words own) ≡ Some own
 
 -- potentials, and the nodes of a cut, stand in strictly rising order of address; each path has an address
 abbrev pub CanBeTold : PairForm → Type 0

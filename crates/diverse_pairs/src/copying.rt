@@ -82,14 +82,14 @@ fn copy_object(alloc: Global, object: &Object) -> Result<Object, NoMemory>
 }
 
 /// Whether an object is an SVEC.
-pub fn is_svec(object: &Object) -> bool
+pub(crate) fn is_svec(object: &Object) -> bool
     ensures { result ≡ is_joining object.now }
 {
     object.class == classes::SVEC && object.kind == kinds::FIRST
 }
 
 /// Copies of the objects that are no SVEC.
-pub fn copy_plain(alloc: Global, objects: &[Object]) -> Result<List<Object>, NoMemory>
+pub(crate) fn copy_plain(alloc: Global, objects: &[Object]) -> Result<List<Object>, NoMemory>
     ensures { IfOk result (λ copies. copies ≡ plain objects.now) }
 {
     let mut copies = List::new(alloc);

@@ -124,7 +124,7 @@ fn is_same_path(one: &Wanted, other: &Wanted) -> bool
 }
 
 /// Whether two wishes are for one path, or for what one key stands for.
-pub fn is_same_wish(one: &Wish, other: &Wish) -> bool
+pub(crate) fn is_same_wish(one: &Wish, other: &Wish) -> bool
     ensures { IsTrue result ↔ (one.now ≡ other.now) }
 {
     match one {

@@ -24,7 +24,7 @@ fn leaves(topology: &Topology, query: &Query, nodes: &[Addr], index: u32) -> boo
 }
 
 /// The second link that is admitted and leaves the nodes.
-pub fn second_to_leave(topology: &Topology, query: &Query, nodes: &[Addr]) -> Option<u32>
+pub(crate) fn second_to_leave(topology: &Topology, query: &Query, nodes: &[Addr]) -> Option<u32>
     ensures { MatchOption result
         ((i : ℕ) → IsOnlyToLeave topology.now query.now nodes.now i)
         (IsFirstNot (IsOnlyToLeave topology.now query.now nodes.now)) }

@@ -47,7 +47,7 @@ fn holds_at(
 }
 
 /// The first link whose condition is false; `first` and `second` are the far addresses in use.
-pub fn false_link(
+pub(crate) fn false_link(
     topology: &Topology,
     query: &Query,
     potentials: &[(Addr, u64)],

@@ -85,7 +85,7 @@ fn false_place(
 }
 
 /// The first address of two paths that is false, counted through the first and then the second.
-pub fn false_address(
+pub(crate) fn false_address(
     topology: &Topology,
     query: &Query,
     source: Addr,

@@ -5,14 +5,14 @@ ghost use Rattle.diverse_pairs.specs.Potentials.{potential_in, AreRising};
 use dom_base::Addr;
 
 /// Whether an address stands in a list.
-pub fn stands(addrs: &[Addr], addr: Addr) -> bool
+pub(crate) fn stands(addrs: &[Addr], addr: Addr) -> bool
     ensures { IsTrue result ↔ Contains addrs.now addr }
 {
     addrs.contains(&addr)
 }
 
 /// Whether a far address stands in one of two lists.
-pub fn is_in_use(first: &[Addr], second: &[Addr], far: Addr) -> bool
+pub(crate) fn is_in_use(first: &[Addr], second: &[Addr], far: Addr) -> bool
     ensures { IsTrue result ↔ Contains (first.now ++ second.now) far }
 {
     let in_first = stands(first, far);
@@ -21,7 +21,7 @@ pub fn is_in_use(first: &[Addr], second: &[Addr], far: Addr) -> bool
 }
 
 /// The potential of an address among rows in rising order.
-pub fn potential_of(rows: &[(Addr, u64)], node: Addr) -> u64
+pub(crate) fn potential_of(rows: &[(Addr, u64)], node: Addr) -> u64
     requires { AreRising rows.now }
     ensures { result ≡ potential_in rows.now node }
 {

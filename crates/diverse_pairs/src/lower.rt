@@ -44,7 +44,7 @@ fn lower_all(arcs: &[Option<Arc>], _target: usize, distances: &mut [u64]) -> boo
 }
 
 /// The distance of each node to the target, over arcs.
-pub fn distances(
+pub(crate) fn distances(
     alloc: Global,
     arcs: &[Option<Arc>],
     nodes: usize,

@@ -35,7 +35,7 @@ fn first_from(arcs: &[Option<Arc>], in_use: &[bool], from: usize) -> Step
 }
 
 /// The path between two nodes that takes at each node the first arc in use.
-pub fn lowest_path(
+pub(crate) fn lowest_path(
     alloc: Global,
     arcs: &[Option<Arc>],
     in_use: &[bool],

@@ -35,7 +35,7 @@ fn arc_of(topology: &Topology, query: &Query, index: u32) -> Option<Arc>
 }
 
 /// The arcs of all links, by the places of the links.
-pub fn arcs_of(
+pub(crate) fn arcs_of(
     alloc: Global,
     topology: &Topology,
     query: &Query,

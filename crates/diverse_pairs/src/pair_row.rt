@@ -1,13 +1,14 @@
 //! One line of a pair's certificate.
 ghost use Rattle.std.specs.Prelude.{◌≡◌, Some, None, MatchOption};
 ghost use Rattle.te_text.specs.RowText.{first, number_64};
-ghost use Rattle.path_certificate.specs.Given.{GivesRow};
+ghost use Rattle.te_text.specs.Given.{GivesRow};
 ghost use Rattle.diverse_pairs.specs.RowText.{nodes_behind, potential_row, rising_behind, row_in, some_addrs};
 
 use dom_base::{Addr, List, read_addr, read_number};
 use line_text::Words;
-use path_certificate::{RowError, addrs_of, is_behind, is_dash, is_end, next_addr};
+use path_certificate::{addrs_of, is_behind, is_dash};
 use std::alloc::Global;
+use te_text::{RowError, is_end, next_addr};
 
 /// A line of a pair's certificate behind its header.
 #[derive(Drop)]
@@ -91,7 +92,7 @@ fn nodes_of(alloc: Global, words: &mut Words<'_>) -> Result<List<Addr>, RowError
 /// What words say, all of them: `at ADDR N`, `first ADDR ..`, `second ADDR ..`, `cut ADDR ..` in
 /// rising order, or `cut -`. `Syntax` exactly for other words.
 #[tactic(auto, unfolding(crate::specs::RowText::row_in))]
-pub fn read_row(alloc: Global, words: &mut Words<'_>) -> Result<PairRow, RowError>
+pub(crate) fn read_row(alloc: Global, words: &mut Words<'_>) -> Result<PairRow, RowError>
     ensures { GivesRow result (row_in words.old) }
 {
     let Some(name) = words.next_word() else {

@@ -1,87 +1,63 @@
 //! A pair's certificate from its text.
 ghost use Rattle.std.specs.Prelude.{◌≡◌, ◌+◌, ◌-◌, ◌<◌, ◌^◌, Ok, None, IfOk, length, nat_le, ℕ};
 ghost use Rattle.std.specs.Str.Lines.{lines as lines_of};
-ghost use Rattle.path_certificate.specs.Given.{GivesText};
+ghost use Rattle.te_text.specs.Given.{GivesText};
 ghost use Rattle.diverse_pairs.specs.PairText.{CanBeTold};
 ghost use Rattle.diverse_pairs.specs.Potentials.{HasRising};
-ghost use Rattle.diverse_pairs.specs.Text.{body_in, cut_says, header_at, nothing_in, own_behind, pair_in, row_at, second_in};
+ghost use Rattle.path_certificate.specs.Text.{header_at};
+ghost use Rattle.diverse_pairs.specs.Text.{body_in, cut_says, nothing_in, pair_in, pair_word, row_at, second_in};
 
 use crate::certificate::{PairCertificate, PairForm};
 use crate::pair_row::{PairRow, read_row};
-use dom_base::{Addr, As, List, read_number};
+use dom_base::{Addr, As, List};
 use line_text::{Line, Lines, Words, is_trimmed, line_count};
-use path_certificate::{CertError, RowError, is_behind, is_end};
+use path_certificate::{is_behind, read_own};
 use std::alloc::Global;
 use te_links::{TopoFault, Topology};
+use te_text::{RowError, TextError};
 
-// The number of the domain, in the words of a header.
-#[tactic(auto, unfolding(crate::specs::Text::own_behind))]
-fn own_of(words: &mut Words<'_>) -> Option<As>
-    ensures { result ≡ own_behind words.old }
+fn read_header(own: As, line: &Line<'_>) -> Result<As, TextError>
+    ensures { result ≡ header_at pair_word own (record { number = line.now.number; text = line.now.text.now }) }
 {
-    let name = words.next_word()?;
-    if name != b"pair".as_slice() {
-        return None;
-    }
-    let number = read_number(words.next_word()?, u64::from(u16::MAX))?;
-    if is_end(words) {
-        Some(As(number as u16))
-    } else {
-        None
-    }
-}
-
-// The header of a domain.
-#[tactic(auto, unfolding(crate::specs::Text::header_at))]
-fn read_header(own: As, line: &Line<'_>) -> Result<As, CertError>
-    ensures { result ≡ header_at own (record { number = line.now.number; text = line.now.text.now }) }
-{
-    let fault = CertError::At(line.number, TopoFault::Syntax);
-    if !is_trimmed(line.text) {
-        return Err(fault);
-    }
-    match own_of(&mut Words::new(line.text)) {
-        Some(number) if number == own => Ok(own),
-        _ => Err(fault),
-    }
+    read_own(b"pair".as_slice(), own, line)
 }
 
 #[tactic(auto, unfolding(crate::specs::Text::row_at))]
-fn read_line(alloc: Global, line: &Line<'_>) -> Result<PairRow, CertError>
+fn read_line(alloc: Global, line: &Line<'_>) -> Result<PairRow, TextError>
     ensures { GivesText result (row_at (record { number = line.now.number; text = line.now.text.now })) }
 {
     if !is_trimmed(line.text) {
-        return Err(CertError::At(line.number, TopoFault::Syntax));
+        return Err(TextError::At(line.number, TopoFault::Syntax));
     }
     match read_row(alloc, &mut Words::new(line.text)) {
         Ok(row) => Ok(row),
-        Err(RowError::Syntax) => Err(CertError::At(line.number, TopoFault::Syntax)),
-        Err(RowError::NoMemory) => Err(CertError::NoMemory),
+        Err(RowError::Syntax) => Err(TextError::At(line.number, TopoFault::Syntax)),
+        Err(RowError::NoMemory) => Err(TextError::NoMemory),
     }
 }
 
-fn read_end(lines: &mut Lines<'_>) -> Result<(), CertError>
+fn read_end(lines: &mut Lines<'_>) -> Result<(), TextError>
     ensures { result ≡ nothing_in lines.old }
 {
     match lines.next_line() {
-        Some(line) => Err(CertError::At(line.number, TopoFault::Syntax)),
+        Some(line) => Err(TextError::At(line.number, TopoFault::Syntax)),
         None => Ok(()),
     }
 }
 
 // The second path, and nothing behind it.
-fn read_second(alloc: Global, end: u32, lines: &mut Lines<'_>) -> Result<List<Addr>, CertError>
+fn read_second(alloc: Global, end: u32, lines: &mut Lines<'_>) -> Result<List<Addr>, TextError>
     ensures { GivesText result (second_in end lines.old) }
 {
     let Some(line) = lines.next_line() else {
-        return Err(CertError::At(end, TopoFault::Syntax));
+        return Err(TextError::At(end, TopoFault::Syntax));
     };
     match read_line(alloc, &line)? {
         PairRow::Second(second) => {
             read_end(lines)?;
             Ok(second)
         }
-        _ => Err(CertError::At(line.number, TopoFault::Syntax)),
+        _ => Err(TextError::At(line.number, TopoFault::Syntax)),
     }
 }
 
@@ -91,18 +67,18 @@ fn read_cut(
     line: u32,
     nodes: List<Addr>,
     lines: &mut Lines<'_>,
-) -> Result<PairForm, CertError>
+) -> Result<PairForm, TextError>
     ensures { result ≡ cut_says last line lines.old nodes }
 {
     if last.is_some() {
-        return Err(CertError::At(line, TopoFault::Syntax));
+        return Err(TextError::At(line, TopoFault::Syntax));
     }
     read_end(lines)?;
     Ok(PairForm::Cut(nodes))
 }
 
 // What the lines behind the header say; `end` is the line after the last.
-fn read_body(alloc: Global, end: u32, lines: &mut Lines<'_>) -> Result<PairForm, CertError>
+fn read_body(alloc: Global, end: u32, lines: &mut Lines<'_>) -> Result<PairForm, TextError>
     ensures { GivesText result (body_in end None lines.old) }
 {
     let mut potentials = List::new(alloc);
@@ -111,7 +87,7 @@ fn read_body(alloc: Global, end: u32, lines: &mut Lines<'_>) -> Result<PairForm,
         match read_line(alloc, &line)? {
             PairRow::At(addr, number) => {
                 if !is_behind(last, addr) {
-                    return Err(CertError::At(line.number, TopoFault::Syntax));
+                    return Err(TextError::At(line.number, TopoFault::Syntax));
                 }
                 last = Some(addr);
                 potentials.push((addr, number))?;
@@ -125,12 +101,12 @@ fn read_body(alloc: Global, end: u32, lines: &mut Lines<'_>) -> Result<PairForm,
                 });
             }
             PairRow::Second(_second) => {
-                return Err(CertError::At(line.number, TopoFault::Syntax));
+                return Err(TextError::At(line.number, TopoFault::Syntax));
             }
             PairRow::Cut(nodes) => return read_cut(last, line.number, nodes, lines),
         }
     }
-    Err(CertError::At(end, TopoFault::Syntax))
+    Err(TextError::At(end, TopoFault::Syntax))
 }
 
 /// The certificate that a text says, for a topology. Lines end with LF; words stand apart by blanks;
@@ -142,7 +118,7 @@ pub fn read_pair(
     alloc: Global,
     bytes: &[u8],
     topology: &Topology,
-) -> Result<PairCertificate, CertError>
+) -> Result<PairCertificate, TextError>
     requires lines { length (lines_of bytes.now) < 2 ^ 32 - 1 }
     ensures text { GivesText result (pair_in topology.now bytes.now) }
 
@@ -153,7 +129,7 @@ pub fn read_pair(
     let end = line_count(bytes) as u32 + 1;
     let mut lines = Lines::new(bytes);
     let Some(line) = lines.next_line() else {
-        return Err(CertError::At(end, TopoFault::Syntax));
+        return Err(TextError::At(end, TopoFault::Syntax));
     };
     let own = read_header(topology.own(), &line)?;
     let form = read_body(alloc, end, &mut lines)?;

@@ -41,7 +41,7 @@ fn residual_arc(arc: &Arc, distances: &[u64], used: bool) -> Option<Arc>
 }
 
 /// The arcs that a walk leaves, those in use being the walk's.
-pub fn residual_arcs(
+pub(crate) fn residual_arcs(
     alloc: Global,
     arcs: &[Option<Arc>],
     distances: &[u64],
@@ -78,7 +78,7 @@ fn height(first: u64, second: u64) -> u64
 }
 
 /// The distance of each node over what a walk leaves, as costs.
-pub fn heights(alloc: Global, first: &[u64], second: &[u64]) -> Result<Vec<u64>, NoMemory>
+pub(crate) fn heights(alloc: Global, first: &[u64], second: &[u64]) -> Result<Vec<u64>, NoMemory>
     requires long { length second.now ≡ length first.now }
     requires near { AreNear first.now }
     requires reached { (n : ℕ) → at second.now n < unreached → at first.now n < unreached }

@@ -10,7 +10,7 @@ use std::alloc::Global;
 use te_links::Topology;
 
 /// The source, and then the far addresses of the links at these places.
-pub fn far_addresses(
+pub(crate) fn far_addresses(
     alloc: Global,
     topology: &Topology,
     source: Addr,
@@ -43,7 +43,7 @@ fn greatest(heights: &[u64]) -> u64
 }
 
 /// The potential of each node that has a height: how far it is below the greatest.
-pub fn potentials(
+pub(crate) fn potentials(
     alloc: Global,
     topology: &Topology,
     heights: &[u64],
@@ -63,7 +63,11 @@ pub fn potentials(
 }
 
 /// The nodes without a distance.
-pub fn cut_off(alloc: Global, topology: &Topology, distances: &[u64]) -> Result<Vec<Addr>, NoMemory>
+pub(crate) fn cut_off(
+    alloc: Global,
+    topology: &Topology,
+    distances: &[u64],
+) -> Result<Vec<Addr>, NoMemory>
     requires { length distances.now ≡ length topology.now.nodes }
     ensures { IfOk result (λ nodes. AreCutOff topology.now distances.now nodes.items) }
 {

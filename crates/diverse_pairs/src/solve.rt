@@ -157,25 +157,9 @@ fn second(
         left,
         distances,
     } = walked;
-    let both = turn_tight(
-        alloc,
-        left.as_slice(),
-        distances.as_slice(),
-        in_use,
-        from,
-        to,
-    )?;
-    let heights = heights(alloc, first, distances.as_slice())?;
-    paths_form(
-        alloc,
-        topology,
-        source,
-        arcs,
-        both,
-        heights.as_slice(),
-        from,
-        to,
-    )
+    let both = turn_tight(alloc, &left, &distances, in_use, from, to)?;
+    let heights = heights(alloc, first, &distances)?;
+    paths_form(alloc, topology, source, arcs, both, &heights, from, to)
 }
 
 // The chosen pair between nodes at places, or a cut.

@@ -17,7 +17,7 @@ fn is_tight(arc: &Arc, distances: &[u64]) -> bool
 }
 
 /// Which arcs are tight.
-pub fn tight_arcs(
+pub(crate) fn tight_arcs(
     alloc: Global,
     arcs: &[Option<Arc>],
     distances: &[u64],

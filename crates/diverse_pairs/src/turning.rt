@@ -30,7 +30,7 @@ fn turn(mut in_use: Vec<bool>, path: &[usize]) -> Vec<bool>
 }
 
 /// Turns the arcs of the path by the first tight arcs.
-pub fn turn_tight(
+pub(crate) fn turn_tight(
     alloc: Global,
     arcs: &[Option<Arc>],
     distances: &[u64],
@@ -51,7 +51,7 @@ pub fn turn_tight(
 }
 
 /// Takes the arcs of the path by the first arcs in use out of use.
-pub fn take_path(
+pub(crate) fn take_path(
     alloc: Global,
     arcs: &[Option<Arc>],
     in_use: Vec<bool>,

@@ -11,6 +11,7 @@ ghost use Rattle.diverse_pairs.specs.declared.pair_row.PairRow.TheVariants as ro
 
 use crate::certificate::{PairCertificate, PairForm};
 use dom_base::{Addr, As, Bytes, List, NoMemory, write_addr, write_number};
+use path_certificate::write_addrs;
 use std::alloc::Global;
 
 // Each of these writes lines at the end. After a refusal a part of them may stand there.
@@ -47,15 +48,12 @@ fn write_potentials(potentials: &[(Addr, u64)], into: &mut Vec<u8>) -> Result<()
     Ok(())
 }
 
-// Addresses with a blank before each, behind the first word of a line, and the end of the line.
-fn write_addrs(addrs: &[Addr], into: &mut Vec<u8>) -> Result<(), NoMemory>
+// Addresses behind the first word of a line, and the end of the line.
+fn end_line(addrs: &[Addr], into: &mut Vec<u8>) -> Result<(), NoMemory>
     ensures ok { OnOk result (into.new.items ≡ into.old.items ++ (spaced (map addr_text addrs.now) ++ 10 ∷ [])) }
     ensures again { OnOk result (AreAddrs addrs.now) }
 {
-    for addr in addrs {
-        into.push(b' ')?;
-        write_addr(*addr, into)?;
-    }
+    write_addrs(addrs, into)?;
     into.push(b'\n')?;
     Ok(())
 }
@@ -65,7 +63,7 @@ fn write_first(addrs: &[Addr], into: &mut Vec<u8>) -> Result<(), NoMemory>
     ensures again { OnOk result (AreAddrs addrs.now) }
 {
     into.extend_from_slice(b"first")?;
-    write_addrs(addrs, into)?;
+    end_line(addrs, into)?;
     Ok(())
 }
 
@@ -74,7 +72,7 @@ fn write_second(addrs: &[Addr], into: &mut Vec<u8>) -> Result<(), NoMemory>
     ensures again { OnOk result (AreAddrs addrs.now) }
 {
     into.extend_from_slice(b"second")?;
-    write_addrs(addrs, into)?;
+    end_line(addrs, into)?;
     Ok(())
 }
 
@@ -87,7 +85,7 @@ fn write_cut(nodes: &[Addr], into: &mut Vec<u8>) -> Result<(), NoMemory>
         return Ok(());
     }
     into.extend_from_slice(b"cut")?;
-    write_addrs(nodes, into)?;
+    end_line(nodes, into)?;
     Ok(())
 }
 

@@ -17,7 +17,8 @@ use Rattle.pcep_messages.specs.declared.message.Message.TheVariants as messages
 use Rattle.pcep_messages.specs.declared.message.Wanted.{Wanted}
 use Rattle.one_domain.specs.declared.replying.PathRequest.{PathRequest}
 use Rattle.one_domain.specs.Domain.{target_seeds, IsBitWhere}
-use Rattle.one_domain.specs.Replies.{metric_type, AnswersLeast, AnswersNone, IsAnswer, IsReply}
+use Rattle.pcep_messages.specs.Requests.{type_of_metric}
+use Rattle.one_domain.specs.Replies.{AnswersLeast, AnswersNone, IsAnswer, IsReply}
 
 abbrev paths : ℕ → List Addr → ℕ → Answer
 paths kind addrs word = answers.Paths (record { hops = open_of addrs; metric = Some (kind, word) } ∷ [])
@@ -39,7 +40,7 @@ one_path g w a b order cap x y =
     one_segment g w.query (target_seeds w.target) w.source (record { cost = x.cost; exit = w.target }) x.shows.links y.shows.links order x.shows.chosen chosen in
     let addrs : x.addrs ≡ y.addrs = x.shows.shown ∙ ap (λ (ls : List Link). w.source ∷ map (λ (l : Link). l.far) ls) links ∙ sym y.shows.shown in
     let words : x.word ≡ y.word = one_word x.word x.cost small x.value ∙ ap word_of costs ∙ sym (one_word y.word y.cost small' y.value) in
-    let kind : ℕ = metric_type w.query.metric in
+    let kind : ℕ = type_of_metric w.query.metric in
     x.is ∙ ap (λ (hops : List Addr). paths kind hops x.word) addrs ∙ ap (λ (n : ℕ). paths kind y.addrs n) words ∙ sym y.is
 
 one_bit : (P : Type 0) (bit m n : ℕ) → IsBitWhere P bit m → IsBitWhere P bit n → m ≡ n

@@ -21,7 +21,8 @@ use Rattle.pcep_messages.specs.Spelling.{message_text}
 use Rattle.one_domain.specs.Domain.{target_seeds, ShowsLeast}
 use Rattle.pcep_subobjects.specs.Hops.{strict_hop}
 use Rattle.disclosure.specs.Shown.{open_of}
-use Rattle.one_domain.specs.Replies.{metric_type, IsAnswer}
+use Rattle.pcep_messages.specs.Requests.{type_of_metric}
+use Rattle.one_domain.specs.Replies.{IsAnswer}
 use Rattle.one_domain.proofs.OneSeed.{joins_label}
 
 -- ---- the path is short
@@ -67,5 +68,5 @@ none_text flags id vector = elim (eqb_tells vector 0) [ inl t ↦ rw t.0 (omega 
 pub reply_fits : (g : Rows) (w : Wanted) (flags id : ℕ) (answer : Answer) → IsTopology g → IsAnswer g w answer → length (message_text (reply_of flags id answer)) ≤ 65532
 reply_fits g w flags id answer valid (inl a) =
     let few = few_hops g w.query w.source w.target a.addrs a.cost valid a.shows in
-    rw a.is (omega (arith, few, path_text flags id (metric_type w.query.metric) a.word (open_of a.addrs), hops_short a.addrs))
+    rw a.is (omega (arith, few, path_text flags id (type_of_metric w.query.metric) a.word (open_of a.addrs), hops_short a.addrs))
 reply_fits g w flags id answer valid (inr n) = rw n.is (omega (arith, none_text flags id n.vector))

@@ -2,26 +2,19 @@
 use Rattle.std.specs.Prelude.{◌≡◌, ◌⊎◌, ℕ, List, [], ◌∷◌, Some}
 use Rattle.dom_base.specs.declared.addr.Addr.{Addr}
 use Rattle.dom_base.specs.declared.query.Metric.{Metric}
-use Rattle.dom_base.specs.declared.query.Metric.TheVariants.{Igp, Te, Hops}
 use Rattle.dom_base.specs.Words.{HasValue}
 use Rattle.te_links.specs.Rows.{Rows}
 use Rattle.disclosure.specs.Shown.{open_of}
-use Rattle.pcep_codes.specs.declared.metrics.TheConstants as metrics
 use Rattle.pcep_codes.specs.declared.no_paths.TheConstants as no_paths
 use Rattle.pcep_messages.specs.declared.message.Answer.{Answer}
 use Rattle.pcep_messages.specs.declared.message.Answer.TheVariants as answers
 use Rattle.pcep_messages.specs.declared.message.Message.{Message}
 use Rattle.pcep_messages.specs.declared.message.Message.TheVariants as messages
 use Rattle.pcep_messages.specs.declared.message.Wanted.{Wanted}
+use Rattle.pcep_messages.specs.Requests.{type_of_metric}
 use Rattle.one_domain.specs.declared.replying.PathRequest.{PathRequest}
 use Rattle.one_domain.specs.declared.domain.Chosen.{Chosen}
 use Rattle.one_domain.specs.Domain.{ShowsLeast, HasNone, IsUnknownVector}
-
--- the type of a METRIC (RFC 5440, section 7.8)
-abbrev pub metric_type : Metric → ℕ
-metric_type Igp = metrics.IGP
-metric_type Te = metrics.TE
-metric_type Hops = metrics.HOPS
 
 -- a path of least cost, with a METRIC whose word is its cost
 pub record AnswersLeast (g : Rows) (w : Wanted) (answer : Answer) : Type 0 where
@@ -30,7 +23,7 @@ pub record AnswersLeast (g : Rows) (w : Wanted) (answer : Answer) : Type 0 where
   pub shows : ShowsLeast g w.query w.source w.target addrs cost
   pub word : ℕ
   pub value : HasValue word cost
-  pub is : answer ≡ answers.Paths (record { hops = open_of addrs; metric = Some (metric_type w.query.metric, word) } ∷ [])
+  pub is : answer ≡ answers.Paths (record { hops = open_of addrs; metric = Some (type_of_metric w.query.metric, word) } ∷ [])
 
 -- there is no path within the cap: nature 0, with the bits for ends that are not known
 pub record AnswersNone (g : Rows) (w : Wanted) (answer : Answer) : Type 0 where
@@ -52,4 +45,4 @@ pub record IsReply (g : Rows) (r : PathRequest) (message : Message) : Type 0 whe
 pub record IsPathAnswer (metric : Metric) (chosen : Chosen) (answer : Answer) : Type 0 where
   pub word : ℕ
   pub value : HasValue word chosen.cost
-  pub is : answer ≡ answers.Paths (record { hops = open_of chosen.hops; metric = Some (metric_type metric, word) } ∷ [])
+  pub is : answer ≡ answers.Paths (record { hops = open_of chosen.hops; metric = Some (type_of_metric metric, word) } ∷ [])

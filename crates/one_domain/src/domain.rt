@@ -4,7 +4,7 @@ ghost use Rattle.border_costs.specs.Solutions.{AreRows};
 ghost use Rattle.vspt_tree.specs.declared.branch.Best.{Best};
 ghost use Rattle.one_domain.specs.Domain.{ask_of, target_seeds, HasLabels, IsChosen, IsUnknownVector};
 
-use border_costs::{Ask, Rows, Target, solve_rows};
+use border_costs::{Ask, Rows, Target, seed_of_target, solve_rows};
 use dom_base::{Addr, As, Cost, List, NoMemory, Seed};
 use path_certificate::Certificate;
 use pcep_codes::no_paths;
@@ -30,24 +30,11 @@ pub struct DomainPath {
     pub certificate: Certificate,
 }
 
-fn zero_cost() -> Cost
-    ensures { result ≡ 0 }
-{
-    let Some(zero) = Cost::of(0) else {
-        unreachable!()
-    };
-    zero
-}
-
 /// The seeds of a search for one target: the target, at no cost, with itself as the exit.
 pub fn seeds_of(target: Addr) -> [Seed; 1]
     ensures { result ≡ target_seeds target }
 {
-    [Seed {
-        node: target,
-        cost: zero_cost(),
-        exit: target,
-    }]
+    [seed_of_target(target)]
 }
 
 // What is asked of the domain.

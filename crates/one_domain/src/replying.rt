@@ -1,13 +1,13 @@
 //! The reply to a client (RFC 5440, section 6.5).
-ghost use Rattle.std.specs.Prelude.{◌≡◌, ◌≤◌, length, IfOk};
+ghost use Rattle.std.specs.Prelude.{◌≤◌, length, IfOk};
 ghost use Rattle.pcep_messages.specs.Spelling.{message_text};
-ghost use Rattle.one_domain.specs.Replies.{metric_type, IsPathAnswer, IsAnswer, IsReply};
+ghost use Rattle.one_domain.specs.Replies.{IsPathAnswer, IsAnswer, IsReply};
 
 use crate::domain::{Chosen, DomainPath, search_domain};
 use disclosure::open_hops;
 use dom_base::{List, Metric, NoMemory, word_of_cost};
-use pcep_codes::{metrics, no_paths};
-use pcep_messages::{Answer, Message, Path, Reply, Wanted};
+use pcep_codes::no_paths;
+use pcep_messages::{Answer, Message, Path, Reply, Wanted, type_of_metric};
 use std::alloc::Global;
 use te_links::Topology;
 
@@ -19,23 +19,13 @@ pub struct PathRequest {
     pub wanted: Wanted,
 }
 
-fn type_of(metric: Metric) -> u8
-    ensures { result ≡ metric_type metric }
-{
-    match metric {
-        Metric::Igp => metrics::IGP,
-        Metric::Te => metrics::TE,
-        Metric::Hops => metrics::HOPS,
-    }
-}
-
 // The answer with a path of least cost.
 fn path_answer(alloc: Global, metric: Metric, chosen: &Chosen) -> Result<Answer, NoMemory>
     ensures { IfOk result (IsPathAnswer metric chosen.now) }
 {
     let path = Path {
         hops: open_hops(alloc, chosen.hops.as_slice())?,
-        metric: Some((type_of(metric), word_of_cost(chosen.cost))),
+        metric: Some((type_of_metric(metric), word_of_cost(chosen.cost))),
     };
     Ok(Answer::Paths(List::from_vec(vec![in alloc; path]?)))
 }

@@ -10,11 +10,12 @@ use Rattle.te_links.specs.declared.fault.TopoFault.TheVariants.{Syntax}
 use Rattle.path_certificate.specs.declared.text_row.TextRow.{TextRow}
 use Rattle.path_certificate.specs.declared.text_row.TextRow.TheVariants as rows
 use Rattle.path_certificate.specs.declared.reading.Gathered.{Gathered}
-use Rattle.path_certificate.specs.declared.cert_error.CertError.{CertError}
-use Rattle.path_certificate.specs.declared.cert_error.CertError.TheVariants.{At, NoMemory}
-use Rattle.path_certificate.specs.Given.{GivesText}
+use Rattle.te_text.specs.declared.error.TextError.{TextError}
+use Rattle.te_text.specs.declared.error.TextError.TheVariants.{At, NoMemory}
+use Rattle.te_text.specs.Given.{GivesText}
 use Rattle.path_certificate.specs.RowText.{addrs_in}
-use Rattle.path_certificate.specs.Text.{and_then, row_at, body_in, with_label, Body, LabelLine, stranger_at, or_first, first_stranger, gathered}
+use Rattle.te_text.specs.Reading.{and_then}
+use Rattle.path_certificate.specs.Text.{row_at, body_in, with_label, Body, LabelLine, stranger_at, or_first, first_stranger, gathered}
 
 abbrev pub in_front : List Addr → Option (List Addr) → Option (List Addr)
 in_front done (Some addrs) = Some (done ++ addrs)
@@ -44,7 +45,7 @@ abbrev pub Labels : Type 0
 Labels = List (Addr × Option Label)
 
 -- what was gathered, with what further lines say
-abbrev pub further : List Addr → Labels → Option ℕ → Result Body CertError → Result Gathered CertError
+abbrev pub further : List Addr → Labels → Option ℕ → Result Body TextError → Result Gathered TextError
 further nodes labels stranger said =
     and_then said (λ body. Ok (record {
       labels = labels ++ map (λ row. row.1) body.labels;
@@ -52,7 +53,7 @@ further nodes labels stranger said =
       path = body.path;
     }))
 
-pub nothing_yet : (nodes : List Addr) (said : Result Body CertError) → further nodes [] None said ≡ and_then said (λ body. Ok (gathered nodes body))
+pub nothing_yet : (nodes : List Addr) (said : Result Body TextError) → further nodes [] None said ≡ and_then said (λ body. Ok (gathered nodes body))
 nothing_yet nodes (Ok body) = refl
 nothing_yet nodes (Err e) = refl
 
@@ -60,13 +61,13 @@ or_first_assoc : (a b c : Option ℕ) → or_first a (or_first b c) ≡ or_first
 or_first_assoc (Some l) b c = refl
 or_first_assoc None b c = refl
 
-moves : (nodes : List Addr) (labels : Labels) (stranger : Option ℕ) (number : ℕ) (addr : Addr) (label : Option Label) (said : Result Body CertError)
+moves : (nodes : List Addr) (labels : Labels) (stranger : Option ℕ) (number : ℕ) (addr : Addr) (label : Option Label) (said : Result Body TextError)
     → further nodes labels stranger (and_then said (λ body. Ok (with_label (number, (addr, label)) body)))
     ≡ further nodes (labels ++ (addr, label) ∷ []) (or_first stranger (stranger_at nodes number addr)) said
 moves nodes labels stranger number addr label (Err e) = refl
 moves nodes labels stranger number addr label (Ok body) =
     let row : Addr × Option Label = (addr, label) in
-    let make : Labels → Option ℕ → Result Gathered CertError = λ xs s. Ok (record { labels = xs; stranger = s; path = body.path }) in
+    let make : Labels → Option ℕ → Result Gathered TextError = λ xs s. Ok (record { labels = xs; stranger = s; path = body.path }) in
     let rest : Labels = map (λ (r : LabelLine). r.1) body.labels in
     ap (λ s. make (labels ++ row ∷ rest) s) (or_first_assoc stranger (stranger_at nodes number addr) (first_stranger nodes body.labels))
     ∙ ap (λ xs. make xs (or_first (or_first stranger (stranger_at nodes number addr)) (first_stranger nodes body.labels))) (sym (append_assoc labels (row ∷ []) rest))
@@ -87,7 +88,7 @@ unfolding body_in
 out_of_order nodes labels stranger end least line others addr label e below = rw (e, below) refl
 
 -- a line that is outside the form
-pub stops : (nodes : List Addr) (labels : Labels) (stranger : Option ℕ) (end least : ℕ) (line : NumberedLine) (others : List NumberedLine) (fault : CertError)
+pub stops : (nodes : List Addr) (labels : Labels) (stranger : Option ℕ) (end least : ℕ) (line : NumberedLine) (others : List NumberedLine) (fault : TextError)
     → row_at line ≡ Err fault → further nodes labels stranger (body_in end least (line ∷ others)) ≡ Err fault
 unfolding body_in
 stops nodes labels stranger end least line others fault e = rw e refl
@@ -114,8 +115,8 @@ unfolding body_in
 missing nodes labels stranger end least = refl
 
 -- where a line was not read
-pub fault_stays : (nodes : List Addr) (labels : Labels) (stranger : Option ℕ) (end least : ℕ) (lines left : List NumberedLine) (line : NumberedLine) (e : CertError)
-    (all : Result Gathered CertError) → further nodes labels stranger (body_in end least lines) ≡ all → lines ≡ line ∷ left
+pub fault_stays : (nodes : List Addr) (labels : Labels) (stranger : Option ℕ) (end least : ℕ) (lines left : List NumberedLine) (line : NumberedLine) (e : TextError)
+    (all : Result Gathered TextError) → further nodes labels stranger (body_in end least lines) ≡ all → lines ≡ line ∷ left
     → GivesText {X = TextRow} (Err e) (row_at line) → GivesText {X = Gathered} (Err e) all
 fault_stays nodes labels stranger end least lines left line (At number fault) all so_far split said =
     sym so_far ∙ ap (λ (ls : List NumberedLine). further nodes labels stranger (body_in end least ls)) split ∙ stops nodes labels stranger end least line left (At number fault) said
@@ -123,7 +124,7 @@ fault_stays nodes labels stranger end least lines left line NoMemory all so_far 
 
 -- a line with a label, as the loop goes over it
 pub moved_on : (nodes : List Addr) (labels : Labels) (stranger : Option ℕ) (end least : ℕ) (lines left : List NumberedLine) (line : NumberedLine) (row : TextRow)
-    (addr : Addr) (label : Option Label) (labels' : Labels) (stranger' : Option ℕ) (n : ℕ) (all : Result Gathered CertError)
+    (addr : Addr) (label : Option Label) (labels' : Labels) (stranger' : Option ℕ) (n : ℕ) (all : Result Gathered TextError)
     → row_at line ≡ Ok row → row ≡ rows.Label addr label → leb least (rank addr) ≡ true → lines ≡ line ∷ left
     → labels' ≡ labels ++ (addr, label) ∷ [] → stranger' ≡ or_first stranger (stranger_at nodes line.number addr) → n ≡ rank addr
     → further nodes labels stranger (body_in end least lines) ≡ all → further nodes labels' stranger' (body_in end (n + 1) left) ≡ all

@@ -18,7 +18,7 @@ use Rattle.path_certificate.specs.declared.text_row.TextRow.{TextRow}
 use Rattle.path_certificate.specs.declared.text_row.TextRow.TheVariants as rows
 use Rattle.path_certificate.specs.Rows.{AreLabelRows}
 use Rattle.path_certificate.specs.RowText.{row_in}
-use Rattle.path_certificate.specs.Text.{header_at, row_at, body_in, Body, LabelLine, is_node, first_stranger, certificate_in}
+use Rattle.path_certificate.specs.Text.{certificate_word, header_at, row_at, body_in, Body, LabelLine, is_node, first_stranger, certificate_in}
 use Rattle.path_certificate.specs.CertificateText.{header_words, row_words, label_words, certificate_text, rows_text, IsPathWritten, IsWritten, IsWrittenHeader}
 use Rattle.path_certificate.proofs.Gathering.{Labels}
 use Rattle.path_certificate.proofs.Strangers.{contains_is_node}
@@ -74,7 +74,7 @@ body_again nodes end least k (row ∷ others) path written good again =
       body_again nodes end (rank row.0 + 1) (k + 1) others path written.1 good.2 again,
     ) refl
 
-header_again : (own number : As) (line : ℕ) → own ≡ number → IsWrittenHeader number → header_at own (record { number = line; text = joined (header_words number) }) ≡ Ok own
+header_again : (own number : As) (line : ℕ) → own ≡ number → IsWrittenHeader number → header_at certificate_word own (record { number = line; text = joined (header_words number) }) ≡ Ok own
 unfolding header_at
 header_again own number line same w =
     rw (line_again (header_words number) w.line, w.again, eq-eqb number.0 own.0 (ap (λ (a : As). a.0) (sym same))) refl

@@ -30,7 +30,7 @@ path_is_word = record { some = omega arith; bytes = (omega arith, (omega arith, 
 dash_is_word : IsWord dash
 dash_is_word = record { some = omega arith; bytes = (omega arith, tt) }
 
-own_again : (own : As) → number_in (2 ^ 16 - 1) (decimal own.0) ≡ Some own.0 → own_behind (header_words own) ≡ Some own
+own_again : (own : As) → number_in (2 ^ 16 - 1) (decimal own.0) ≡ Some own.0 → own_behind certificate_word (header_words own) ≡ Some own
 unfolding own_behind
 own_again own e = rw e refl
 

@@ -16,11 +16,12 @@ use Rattle.path_certificate.specs.declared.certificate.Certificate.{Certificate}
 use Rattle.path_certificate.specs.declared.text_row.TextRow.{TextRow}
 use Rattle.path_certificate.specs.declared.text_row.TextRow.TheVariants as rows
 use Rattle.path_certificate.specs.declared.reading.Gathered.{Gathered}
-use Rattle.path_certificate.specs.declared.cert_error.CertError.{CertError}
-use Rattle.path_certificate.specs.declared.cert_error.CertError.TheVariants.{At, NoMemory}
-use Rattle.path_certificate.specs.Given.{GivesText}
+use Rattle.te_text.specs.declared.error.TextError.{TextError}
+use Rattle.te_text.specs.declared.error.TextError.TheVariants.{At, NoMemory}
+use Rattle.te_text.specs.Given.{GivesText}
 use Rattle.path_certificate.specs.Rows.{AreLabelRows}
-use Rattle.path_certificate.specs.Text.{and_then, header_at, row_at, body_in, line_says, path_last, with_label, Body, LabelLine, is_node, first_stranger, gathered, unless_stranger, lines_say, certificate_in}
+use Rattle.te_text.specs.Reading.{and_then}
+use Rattle.path_certificate.specs.Text.{certificate_word, header_at, row_at, body_in, line_says, path_last, with_label, Body, LabelLine, is_node, first_stranger, gathered, unless_stranger, lines_say, certificate_in}
 use Rattle.path_certificate.proofs.Gathering.{Labels}
 use Rattle.path_certificate.proofs.Strangers.{is_node_contains}
 
@@ -31,37 +32,37 @@ unfolding certificate_in
 text_is g bytes count told told_are counted = ap (λ n. lines_say g (n + 1) (told_lines bytes)) (sym counted) ∙ ap (lines_say g (count + 1)) told_are
 
 -- a header that is refused
-pub header_stays : (g : Rows) (end : ℕ) (line : NumberedLine) (others : List NumberedLine) (e : CertError) (all : Result Certificate CertError) →
-    all ≡ lines_say g end (line ∷ others) → Err e ≡ header_at g.own line → GivesText {X = Certificate} (Err e) all
+pub header_stays : (g : Rows) (end : ℕ) (line : NumberedLine) (others : List NumberedLine) (e : TextError) (all : Result Certificate TextError) →
+    all ≡ lines_say g end (line ∷ others) → Err e ≡ header_at certificate_word g.own line → GivesText {X = Certificate} (Err e) all
 header_stays g end line others (At number fault) all is at = is ∙ rw (sym at) refl
 header_stays g end line others NoMemory all is at = tt
 
 -- behind a good header
-behind : (g : Rows) (end : ℕ) (line : NumberedLine) (others : List NumberedLine) (own : As) → Ok own ≡ header_at g.own line →
+behind : (g : Rows) (end : ℕ) (line : NumberedLine) (others : List NumberedLine) (own : As) → Ok own ≡ header_at certificate_word g.own line →
     lines_say g end (line ∷ others) ≡ and_then (body_in end 0 others) (λ body. unless_stranger own (gathered g.nodes body) (first_stranger g.nodes body.labels))
 behind g end line others own at = rw (sym at) refl
 
-refused : (g : Rows) (own : As) (said : Result Body CertError) (e : CertError) → and_then said (λ body. Ok (gathered g.nodes body)) ≡ Err e →
+refused : (g : Rows) (own : As) (said : Result Body TextError) (e : TextError) → and_then said (λ body. Ok (gathered g.nodes body)) ≡ Err e →
     and_then said (λ body. unless_stranger own (gathered g.nodes body) (first_stranger g.nodes body.labels)) ≡ Err e
 refused g own (Ok body) e is = absurd (cc)
-refused g own (Err f) e is = let same : f ≡ e = cc in ap (λ (x : CertError). Err x) same
+refused g own (Err f) e is = let same : f ≡ e = cc in ap (λ (x : TextError). Err x) same
 
 -- lines that are refused
-pub body_stays : (g : Rows) (end : ℕ) (line : NumberedLine) (others : List NumberedLine) (own : As) (e : CertError) (all : Result Certificate CertError) →
-    all ≡ lines_say g end (line ∷ others) → Ok own ≡ header_at g.own line → GivesText {X = Gathered} (Err e) (and_then (body_in end 0 others) (λ body. Ok (gathered g.nodes body))) →
+pub body_stays : (g : Rows) (end : ℕ) (line : NumberedLine) (others : List NumberedLine) (own : As) (e : TextError) (all : Result Certificate TextError) →
+    all ≡ lines_say g end (line ∷ others) → Ok own ≡ header_at certificate_word g.own line → GivesText {X = Gathered} (Err e) (and_then (body_in end 0 others) (λ body. Ok (gathered g.nodes body))) →
     GivesText {X = Certificate} (Err e) all
 body_stays g end line others own (At number fault) all is at said = is ∙ behind g end line others own at ∙ refused g own (body_in end 0 others) (At number fault) said
 body_stays g end line others own NoMemory all is at said = tt
 
-accepted : (g : Rows) (own : As) (said : Result Body CertError) (x : Gathered) → and_then said (λ body. Ok (gathered g.nodes body)) ≡ Ok x →
+accepted : (g : Rows) (own : As) (said : Result Body TextError) (x : Gathered) → and_then said (λ body. Ok (gathered g.nodes body)) ≡ Ok x →
     and_then said (λ body. unless_stranger own (gathered g.nodes body) (first_stranger g.nodes body.labels)) ≡ unless_stranger own x x.stranger
 accepted g own (Err f) x is = absurd (cc)
 accepted g own (Ok body) x is =
     let same : gathered g.nodes body ≡ x = cc in
     ap (λ (y : Gathered). unless_stranger own y y.stranger) same
 
-pub body_accepted : (g : Rows) (end : ℕ) (line : NumberedLine) (others : List NumberedLine) (own : As) (x : Gathered) (all : Result Certificate CertError) →
-    all ≡ lines_say g end (line ∷ others) → Ok own ≡ header_at g.own line → and_then (body_in end 0 others) (λ body. Ok (gathered g.nodes body)) ≡ Ok x →
+pub body_accepted : (g : Rows) (end : ℕ) (line : NumberedLine) (others : List NumberedLine) (own : As) (x : Gathered) (all : Result Certificate TextError) →
+    all ≡ lines_say g end (line ∷ others) → Ok own ≡ header_at certificate_word g.own line → and_then (body_in end 0 others) (λ body. Ok (gathered g.nodes body)) ≡ Ok x →
     all ≡ unless_stranger own x x.stranger
 body_accepted g end line others own x all is at said = is ∙ behind g end line others own at ∙ accepted g own (body_in end 0 others) x said
 
@@ -81,7 +82,7 @@ path_rises least path [] body is =
     subst (λ (b : Body). RisingFrom least (labels_of b)) same tt
 path_rises least path (line ∷ others) body is = absurd (cc)
 
-label_rises : (least number : ℕ) (addr : Addr) (label : Option Label) (said : Result Body CertError) (body : Body) → least ≤ rank addr →
+label_rises : (least number : ℕ) (addr : Addr) (label : Option Label) (said : Result Body TextError) (body : Body) → least ≤ rank addr →
     ((b : Body) → said ≡ Ok b → RisingFrom (rank addr + 1) (labels_of b)) →
     and_then said (λ b. Ok (with_label (number, (addr, label)) b)) ≡ Ok body → RisingFrom least (labels_of body)
 label_rises least number addr label (Err e) body above rest is = absurd (cc)
@@ -94,7 +95,7 @@ unfolding body_in
 body_rises end least [] body is = absurd (cc)
 body_rises end least (line ∷ others) body is = go (row_at line) (λ next b. body_rises end next others b) is
   where
-    go : (r : Result TextRow CertError) → ((next : ℕ) (b : Body) → body_in end next others ≡ Ok b → RisingFrom next (labels_of b)) →
+    go : (r : Result TextRow TextError) → ((next : ℕ) (b : Body) → body_in end next others ≡ Ok b → RisingFrom next (labels_of b)) →
         and_then r (line_says line.number least others (λ next. body_in end next others)) ≡ Ok body → RisingFrom least (labels_of body)
     go (Err e) rest h = absurd (cc)
     go (Ok (rows.Path path)) rest h = path_rises least path others body h
@@ -128,7 +129,7 @@ pub rows_read : (nodes : List Addr) (end : ℕ) (others : List NumberedLine) (x 
     x.stranger ≡ None → AreLabelRows nodes x.labels
 rows_read nodes end others x said none = go (body_in end 0 others) (λ b is. body_rises end 0 others b is) said
   where
-    go : (r : Result Body CertError) → ((b : Body) → r ≡ Ok b → RisingFrom 0 (labels_of b)) → and_then r (λ body. Ok (gathered nodes body)) ≡ Ok x → AreLabelRows nodes x.labels
+    go : (r : Result Body TextError) → ((b : Body) → r ≡ Ok b → RisingFrom 0 (labels_of b)) → and_then r (λ body. Ok (gathered nodes body)) ≡ Ok x → AreLabelRows nodes x.labels
     go (Err e) up is = absurd (cc)
     go (Ok b) up is =
         let same : gathered nodes b ≡ x = cc in

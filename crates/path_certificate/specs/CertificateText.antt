@@ -45,7 +45,7 @@ pub record IsWritten (row : TextRow) : Type 0 where
 
 pub record IsWrittenHeader (own : As) : Type 0 where
   pub line : IsLine (header_words own)
-  pub again : own_behind (header_words own) ≡ Some own
+  pub again : own_behind certificate_word (header_words own) ≡ Some own
 
 -- the addresses of a path, if there is one, are read again
 abbrev pub IsPathWritten : Option (List Addr) → Type 0

@@ -16,31 +16,22 @@ use Rattle.path_certificate.specs.declared.certificate.Certificate.{Certificate}
 use Rattle.path_certificate.specs.declared.text_row.TextRow.{TextRow}
 use Rattle.path_certificate.specs.declared.text_row.TextRow.TheVariants as rows
 use Rattle.path_certificate.specs.declared.reading.Gathered.{Gathered}
-use Rattle.path_certificate.specs.declared.cert_error.CertError.{CertError}
-use Rattle.path_certificate.specs.declared.cert_error.CertError.TheVariants.{At}
+use Rattle.te_text.specs.declared.error.TextError.{TextError}
+use Rattle.te_text.specs.declared.error.TextError.TheVariants.{At}
 use Rattle.te_text.specs.RowText.{as_in, first, last}
+use Rattle.te_text.specs.Reading.{and_then, or_syntax}
 use Rattle.path_certificate.specs.RowText.{row_in}
 
--- goes on with what was read; the first fault stays
-abbrev pub and_then : {X Y : Type 0} → Result X CertError → (X → Result Y CertError) → Result Y CertError
-and_then (Ok x) others = others x
-and_then (Err fault) others = Err fault
-
--- what a line says, or that it is outside the form
-abbrev pub or_syntax : {X : Type 0} → ℕ → Option X → Result X CertError
-or_syntax line (Some x) = Ok x
-or_syntax line None = Err (At line Syntax)
-
--- ---- the header
+-- ---- the header: `certificate AS`
 
 abbrev pub certificate_word : List ℕ
 certificate_word = codes "certificate"
 
--- `certificate AS`, and no other word
-unfoldable pub own_behind : List (List ℕ) → Option As
-own_behind [] = None
-own_behind (name ∷ words) =
-    if bytes_eq name certificate_word then (do
+-- a word, `AS`, and no other word
+unfoldable pub own_behind : List ℕ → List (List ℕ) → Option As
+own_behind word [] = None
+own_behind word (name ∷ words) =
+    if bytes_eq name word then (do
       own ← first as_in words
       last own.0 own.1)
     else None
@@ -49,13 +40,13 @@ own_behind (name ∷ words) =
 abbrev pub same_own : As → As → Option As
 same_own own number = if number.0 == own.0 then Some own else None
 
-unfoldable pub header_at : As → NumberedLine → Result As CertError
-header_at own line = or_syntax line.number (words_of line.text >>= own_behind >>= same_own own)
+unfoldable pub header_at : List ℕ → As → NumberedLine → Result As TextError
+header_at word own line = or_syntax line.number (words_of line.text >>= own_behind word >>= same_own own)
 
 -- ---- the lines behind it
 
 -- what such a line says
-unfoldable pub row_at : NumberedLine → Result TextRow CertError
+unfoldable pub row_at : NumberedLine → Result TextRow TextError
 row_at line = or_syntax line.number (words_of line.text >>= row_in)
 
 -- a label, with the number of its line
@@ -71,12 +62,12 @@ abbrev pub with_label : LabelLine → Body → Body
 with_label label body = record { labels = label ∷ body.labels; path = body.path }
 
 -- nothing stands behind the path
-abbrev pub path_last : Option (List Addr) → List NumberedLine → Result Body CertError
+abbrev pub path_last : Option (List Addr) → List NumberedLine → Result Body TextError
 path_last path [] = Ok (record { labels = []; path = path })
 path_last path (line ∷ others) = Err (At line.number Syntax)
 
 -- what a line says, with those behind it: where it has a label, they have addresses above its own
-abbrev pub line_says : ℕ → ℕ → List NumberedLine → (ℕ → Result Body CertError) → TextRow → Result Body CertError
+abbrev pub line_says : ℕ → ℕ → List NumberedLine → (ℕ → Result Body TextError) → TextRow → Result Body TextError
 line_says number least others above (rows.Path path) = path_last path others
 line_says number least others above (rows.Label addr label) =
     if nat_le least (rank addr) then and_then (above (rank addr + 1)) (λ body. Ok (with_label (number, (addr, label)) body)) else Err (At number Syntax)
@@ -88,7 +79,7 @@ least_behind (Some last) = rank last + 1
 
 -- What lines say whose addresses have the place `least` or one behind it, or the first line that is outside the form; `end` is where the
 -- path is missing.
-unfoldable pub body_in : ℕ → ℕ → List NumberedLine → Result Body CertError
+unfoldable pub body_in : ℕ → ℕ → List NumberedLine → Result Body TextError
 body_in end least [] = Err (At end Syntax)
 body_in end least (line ∷ others) = and_then (row_at line) (line_says line.number least others (λ next. body_in end next others))
 
@@ -116,16 +107,16 @@ gathered nodes body = record { labels = map (λ row. row.1) body.labels; strange
 -- ---- the whole
 
 -- a certificate, unless a line names what is no node
-abbrev pub unless_stranger : As → Gathered → Option ℕ → Result Certificate CertError
+abbrev pub unless_stranger : As → Gathered → Option ℕ → Result Certificate TextError
 unless_stranger own g None = Ok (record { own = own; labels = g.labels; path = g.path })
 unless_stranger own g (Some line) = Err (At line UnknownNode)
 
 -- what lines say, where `end` is the line after the last
-abbrev pub lines_say : Rows → ℕ → List NumberedLine → Result Certificate CertError
+abbrev pub lines_say : Rows → ℕ → List NumberedLine → Result Certificate TextError
 lines_say g end [] = Err (At end Syntax)
 lines_say g end (line ∷ others) =
-    and_then (header_at g.own line) (λ own. and_then (body_in end 0 others) (λ body. unless_stranger own (gathered g.nodes body) (first_stranger g.nodes body.labels)))
+    and_then (header_at certificate_word g.own line) (λ own. and_then (body_in end 0 others) (λ body. unless_stranger own (gathered g.nodes body) (first_stranger g.nodes body.labels)))
 
 -- what a text says
-unfoldable pub certificate_in : Rows → List ℕ → Result Certificate CertError
+unfoldable pub certificate_in : Rows → List ℕ → Result Certificate TextError
 certificate_in g bytes = lines_say g (length (lines bytes) + 1) (told_lines bytes)

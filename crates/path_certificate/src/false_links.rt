@@ -46,7 +46,7 @@ fn broken_link(
 }
 
 /// The first link whose condition is false.
-pub fn false_link(
+pub(crate) fn false_link(
     topology: &Topology,
     query: &Query,
     rows: &[(Addr, Option<Label>)],

@@ -52,7 +52,7 @@ fn broken_node(
 }
 
 /// The first node whose condition is false.
-pub fn false_node(
+pub(crate) fn false_node(
     topology: &Topology,
     query: &Query,
     seeds: &[Seed],

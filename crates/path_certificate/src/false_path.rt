@@ -81,7 +81,7 @@ fn false_step(
 }
 
 /// The first place of the path that is false.
-pub fn false_place(
+pub(crate) fn false_place(
     topology: &Topology,
     query: &Query,
     seeds: &[Seed],

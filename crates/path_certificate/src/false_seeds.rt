@@ -48,7 +48,7 @@ fn broken_seed(
 }
 
 /// The first seed whose condition is false.
-pub fn false_seed(
+pub(crate) fn false_seed(
     topology: &Topology,
     query: &Query,
     rows: &[(Addr, Option<Label>)],

@@ -3,7 +3,6 @@
 #![tactic(auto)]
 
 mod broken;
-mod cert_error;
 mod certificate;
 mod checker;
 mod false_links;
@@ -20,16 +19,15 @@ mod text_row;
 mod verdict;
 mod writing;
 
-pub use cert_error::CertError;
 pub use certificate::Certificate;
 pub use checker::check;
 pub use limits::{CERTIFICATE_BYTES_MAX, SEEDS_MAX, limits_are_numbers};
 pub use look_up::link_with;
 pub use offers::{admits_node, admitted_link};
-pub use reading::{is_behind, read_certificate};
-pub use text_row::{RowError, addrs_of, is_dash, is_end, next_addr};
+pub use reading::{is_behind, read_certificate, read_own};
+pub use text_row::{addrs_of, is_dash};
 pub use verdict::{Place, Verdict};
-pub use writing::write_certificate;
+pub use writing::{write_addrs, write_certificate};
 
 #[cfg(test)]
 mod tests;

@@ -9,7 +9,7 @@ use dom_base::{Addr, Label};
 use te_links::Topology;
 
 /// The label of an address among rows in rising order.
-pub fn label_of(rows: &[(Addr, Option<Label>)], node: Addr) -> Option<Label>
+pub(crate) fn label_of(rows: &[(Addr, Option<Label>)], node: Addr) -> Option<Label>
     requires { AllPairs (λ a b. rank a.0 < rank b.0) rows.now }
     ensures { result ≡ label_in rows.now node }
 {

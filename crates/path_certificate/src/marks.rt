@@ -33,7 +33,7 @@ fn node_made(
 }
 
 /// Marks the nodes whose label a link makes. Each link is looked at once.
-pub fn mark_made(
+pub(crate) fn mark_made(
     topology: &Topology,
     query: &Query,
     rows: &[(Addr, Option<Label>)],

@@ -58,7 +58,7 @@ pub fn admitted_link<'a>(topology: &'a Topology, query: &Query, index: u32) -> O
 }
 
 /// What the link at a place offers: nothing where it isn't admitted, or its end has no label.
-pub fn offer_of(
+pub(crate) fn offer_of(
     topology: &Topology,
     query: &Query,
     rows: &[(Addr, Option<Label>)],

@@ -6,7 +6,7 @@ ghost use Rattle.walk_laws.specs.Certificate.{AtMost};
 use dom_base::{Addr, Label, Seed};
 
 /// Whether a label is at most another one; no label is the greatest.
-pub fn is_at_most(told: &Option<Label>, bound: &Label) -> bool
+pub(crate) fn is_at_most(told: &Option<Label>, bound: &Label) -> bool
     ensures { IsTrue result ↔ AtMost told.now bound.now }
 {
     match told {
@@ -19,7 +19,7 @@ pub fn is_at_most(told: &Option<Label>, bound: &Label) -> bool
 }
 
 /// Whether a seed at the node equals the label.
-pub fn ends_at(seeds: &[Seed], node: Addr, label: &Label) -> bool
+pub(crate) fn ends_at(seeds: &[Seed], node: Addr, label: &Label) -> bool
     ensures { IsTrue result ↔ EndsAt seeds.now node label.now }
 {
     seeds.contains(&Seed {

@@ -3,17 +3,18 @@ ghost use Rattle.std.specs.Prelude.{◌≡◌, ◌+◌, ◌≤◌, ◌<◌, ◌^
 ghost use Rattle.dom_base.specs.AddrOrder.{rank};
 ghost use Rattle.std.specs.Str.Lines.{lines as lines_of};
 ghost use Rattle.path_certificate.specs.Rows.{AreLabelRows};
-ghost use Rattle.path_certificate.specs.Given.{GivesText};
-ghost use Rattle.path_certificate.specs.Text.{and_then, body_in, certificate_in, gathered, header_at, is_node, least_behind, or_first, own_behind, row_at, stranger_at as stranger_of};
+ghost use Rattle.te_text.specs.Given.{GivesText};
+ghost use Rattle.te_text.specs.Reading.{and_then};
+ghost use Rattle.path_certificate.specs.Text.{body_in, certificate_in, certificate_word, gathered, header_at, is_node, least_behind, or_first, own_behind, row_at, stranger_at as stranger_of};
 
-use crate::cert_error::CertError;
 use crate::certificate::Certificate;
 use crate::limits::CERTIFICATE_BYTES_MAX;
-use crate::text_row::{RowError, TextRow, is_end, read_row};
-use dom_base::{Addr, As, Label, List, read_number};
+use crate::text_row::{TextRow, read_row};
+use dom_base::{Addr, As, Label, List};
 use line_text::{Line, Lines, Words, is_trimmed, line_count};
 use std::alloc::Global;
 use te_links::{TopoFault, Topology};
+use te_text::{RowError, TextError, is_end, next_as};
 
 /// What the lines behind the header say, and the first line whose address is no node.
 #[derive(Drop)]
@@ -25,47 +26,50 @@ pub struct Gathered {
 
 // The number of the domain, in the words of a header.
 #[tactic(auto, unfolding(crate::specs::Text::own_behind))]
-fn own_of(words: &mut Words<'_>) -> Option<As>
-    ensures { result ≡ own_behind words.old }
+fn own_of(word: &[u8], words: &mut Words<'_>) -> Option<As>
+    ensures { result ≡ own_behind word.now words.old }
 {
     let name = words.next_word()?;
-    if name != b"certificate".as_slice() {
+    if name != word {
         return None;
     }
-    let number = read_number(words.next_word()?, u64::from(u16::MAX))?;
-    if is_end(words) {
-        Some(As(number as u16))
-    } else {
-        None
-    }
+    let own = next_as(words)?;
+    if is_end(words) { Some(own) } else { None }
 }
 
-// The header of a domain.
+/// The domain of a header that begins with a word; a line that is no such header, or that of another
+/// domain, is at fault.
 #[tactic(auto, unfolding(crate::specs::Text::header_at))]
-fn read_header(own: As, line: &Line<'_>) -> Result<As, CertError>
-    ensures { result ≡ header_at own (record { number = line.now.number; text = line.now.text.now }) }
+pub fn read_own(word: &[u8], own: As, line: &Line<'_>) -> Result<As, TextError>
+    ensures { result ≡ header_at word.now own (record { number = line.now.number; text = line.now.text.now }) }
 {
-    let fault = CertError::At(line.number, TopoFault::Syntax);
+    let fault = TextError::At(line.number, TopoFault::Syntax);
     if !is_trimmed(line.text) {
         return Err(fault);
     }
-    match own_of(&mut Words::new(line.text)) {
+    match own_of(word, &mut Words::new(line.text)) {
         Some(number) if number == own => Ok(own),
         _ => Err(fault),
     }
 }
 
+fn read_header(own: As, line: &Line<'_>) -> Result<As, TextError>
+    ensures { result ≡ header_at certificate_word own (record { number = line.now.number; text = line.now.text.now }) }
+{
+    read_own(b"certificate".as_slice(), own, line)
+}
+
 #[tactic(auto, unfolding(crate::specs::Text::row_at))]
-fn read_line(alloc: Global, line: &Line<'_>) -> Result<TextRow, CertError>
+fn read_line(alloc: Global, line: &Line<'_>) -> Result<TextRow, TextError>
     ensures { GivesText result (row_at (record { number = line.now.number; text = line.now.text.now })) }
 {
     if !is_trimmed(line.text) {
-        return Err(CertError::At(line.number, TopoFault::Syntax));
+        return Err(TextError::At(line.number, TopoFault::Syntax));
     }
     match read_row(alloc, &mut Words::new(line.text)) {
         Ok(row) => Ok(row),
-        Err(RowError::Syntax) => Err(CertError::At(line.number, TopoFault::Syntax)),
-        Err(RowError::NoMemory) => Err(CertError::NoMemory),
+        Err(RowError::Syntax) => Err(TextError::At(line.number, TopoFault::Syntax)),
+        Err(RowError::NoMemory) => Err(TextError::NoMemory),
     }
 }
 
@@ -106,7 +110,7 @@ fn read_body(
     topology: &Topology,
     end: u32,
     lines: &mut Lines<'_>,
-) -> Result<Gathered, CertError>
+) -> Result<Gathered, TextError>
     ensures { GivesText result (and_then (body_in end 0 lines.old) (λ body. Ok (gathered topology.now.nodes body))) }
 {
     let mut labels = List::new(alloc);
@@ -116,7 +120,7 @@ fn read_body(
         match read_line(alloc, &line)? {
             TextRow::Label(addr, label) => {
                 if !is_behind(last, addr) {
-                    return Err(CertError::At(line.number, TopoFault::Syntax));
+                    return Err(TextError::At(line.number, TopoFault::Syntax));
                 }
                 last = Some(addr);
                 stranger = first_stranger(topology, stranger, line.number, addr);
@@ -124,7 +128,7 @@ fn read_body(
             }
             TextRow::Path(path) => {
                 return match lines.next_line() {
-                    Some(other) => Err(CertError::At(other.number, TopoFault::Syntax)),
+                    Some(other) => Err(TextError::At(other.number, TopoFault::Syntax)),
                     None => Ok(Gathered {
                         labels,
                         stranger,
@@ -134,7 +138,7 @@ fn read_body(
             }
         }
     }
-    Err(CertError::At(end, TopoFault::Syntax))
+    Err(TextError::At(end, TopoFault::Syntax))
 }
 
 /// The certificate that a text says, for a topology. Lines end with LF; words stand apart by blanks;
@@ -147,7 +151,7 @@ pub fn read_certificate(
     alloc: Global,
     bytes: &[u8],
     topology: &Topology,
-) -> Result<Certificate, CertError>
+) -> Result<Certificate, TextError>
     requires { length bytes.now ≤ CERTIFICATE_BYTES_MAX }
     ensures text { GivesText result (certificate_in topology.now bytes.now) }
 
@@ -157,7 +161,7 @@ pub fn read_certificate(
     let end = line_count(bytes) as u32 + 1;
     let mut lines = Lines::new(bytes);
     let Some(line) = lines.next_line() else {
-        return Err(CertError::At(end, TopoFault::Syntax));
+        return Err(TextError::At(end, TopoFault::Syntax));
     };
     let own = read_header(topology.own(), &line)?;
     let Gathered {
@@ -166,7 +170,7 @@ pub fn read_certificate(
         path,
     } = read_body(alloc, topology, end, &mut lines)?;
     match stranger {
-        Some(line) => Err(CertError::At(line, TopoFault::UnknownNode)),
+        Some(line) => Err(TextError::At(line, TopoFault::UnknownNode)),
         None => Ok(Certificate { own, labels, path }),
     }
 }

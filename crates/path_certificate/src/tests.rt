@@ -2,15 +2,14 @@
 ghost use Rattle.path_certificate.specs.Rows.{AreLabelRows};
 
 use crate::{
-    CERTIFICATE_BYTES_MAX, CertError, Certificate, Place, Verdict, check, read_certificate,
-    write_certificate,
+    CERTIFICATE_BYTES_MAX, Certificate, Place, Verdict, check, read_certificate, write_certificate,
 };
 use dom_base::{Addr, As, Cost, Label, List, Metric, Query, Seed};
 use line_text::line_count;
 use std::alloc::Global;
 use std::test::Fail;
 use te_links::{TopoFault, Topology};
-use te_text::read_topology;
+use te_text::{TextError, read_topology};
 
 const FIRST: Addr = Addr::V4(0x0A00_0001);
 
@@ -241,7 +240,7 @@ fn refuses_texts(rt: HostRuntime) -> Result<(), Fail> {
     for (text, line, fault) in REFUSED {
         if text.len() <= CERTIFICATE_BYTES_MAX {
             let said = read_certificate(rt.alloc(), text, &topology).err();
-            assert_eq!(rt; said, Some(CertError::At(line, fault)));
+            assert_eq!(rt; said, Some(TextError::At(line, fault)));
         }
     }
     Ok(())

@@ -1,50 +1,18 @@
 //! One line of a certificate.
-ghost use Rattle.std.specs.Prelude.{◌≡◌, ◌==◌, Some, None, MatchOption, length};
-ghost use Rattle.dom_base.specs.AddrText.{addr_in};
-ghost use Rattle.te_text.specs.RowText.{first};
-ghost use Rattle.path_certificate.specs.Given.{GivesRow};
+ghost use Rattle.std.specs.Prelude.{◌≡◌, Some, None};
+ghost use Rattle.te_text.specs.Given.{GivesRow};
 ghost use Rattle.path_certificate.specs.RowText.{addrs_behind, cost_in, is_dash as means_nothing, label_behind, path_behind, row_in};
 
-use dom_base::{Addr, COST_MAX, Cost, Label, List, NoMemory, read_addr, read_number};
+use dom_base::{Addr, COST_MAX, Cost, Label, List, read_addr, read_number};
 use line_text::Words;
 use std::alloc::Global;
+use te_text::{RowError, is_end, next_addr};
 
 /// A line of a certificate behind its header.
 #[derive(Drop)]
 pub enum TextRow {
     Label(Addr, Option<Label>),
     Path(Option<List<Addr>>),
-}
-
-/// Why words give no such line.
-#[derive(Clone, Copy, Debug, PartialEq, Eq)]
-pub enum RowError {
-    Syntax,
-    NoMemory,
-}
-
-impl From<NoMemory> for RowError {
-    ghost use Rattle.path_certificate.specs.declared.text_row.RowError.TheVariants.{NoMemory};
-
-    ghost from_gives = { λ _ e. e ≡ NoMemory };
-
-    fn from(_: NoMemory) -> Self {
-        RowError::NoMemory
-    }
-}
-
-/// Whether no word is left.
-pub fn is_end(words: &mut Words<'_>) -> bool
-    ensures { result ≡ (length words.old == 0) }
-{
-    words.next_word().is_none()
-}
-
-/// The address in the next word.
-pub fn next_addr(words: &mut Words<'_>) -> Option<Addr>
-    ensures { MatchOption result (first addr_in words.old ≡ None) (λ addr. first addr_in words.old ≡ Some (addr, words.new)) }
-{
-    read_addr(words.next_word()?)
 }
 
 fn read_cost(word: &[u8]) -> Option<Cost>
@@ -119,7 +87,7 @@ fn path_of(alloc: Global, words: &mut Words<'_>) -> Result<Option<List<Addr>>, R
 /// What words say, all of them: `label ADDR COST EXIT`, `label ADDR -`, `path ADDR ..` or `path -`.
 /// `Syntax` exactly for other words.
 #[tactic(auto, unfolding(crate::specs::RowText::row_in))]
-pub fn read_row(alloc: Global, words: &mut Words<'_>) -> Result<TextRow, RowError>
+pub(crate) fn read_row(alloc: Global, words: &mut Words<'_>) -> Result<TextRow, RowError>
     ensures { GivesRow result (row_in words.old) }
 {
     let Some(name) = words.next_word() else {

@@ -58,8 +58,9 @@ fn write_row(addr: Addr, label: &Option<Label>, into: &mut Vec<u8>) -> Result<()
     }
 }
 
-// Addresses with a blank before each.
-fn write_addrs(addrs: &[Addr], into: &mut Vec<u8>) -> Result<(), NoMemory>
+/// Writes addresses at the end, with a blank before each. After a refusal a part of them may stand
+/// there.
+pub fn write_addrs(addrs: &[Addr], into: &mut Vec<u8>) -> Result<(), NoMemory>
     ensures ok { OnOk result (into.new.items ≡ into.old.items ++ spaced (map addr_text addrs.now)) }
     ensures again { OnOk result (AreAddrs addrs.now) }
 {

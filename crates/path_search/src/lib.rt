@@ -3,10 +3,10 @@
 
 mod arc;
 mod barred;
+mod blocks;
 mod chosen;
 mod find;
 mod labels;
-mod matches;
 mod opened;
 mod settle;
 mod shown;

@@ -2,9 +2,9 @@
 ghost use Rattle.std.specs.Prelude.{◌≡◌, ◌<◌, ◌^◌, length, map, replicate, slice_set, None, IfOk};
 ghost use Rattle.path_search.specs.Arcs.{label_at};
 ghost use Rattle.path_search.specs.Front.{cost_of, HoldsLeast};
-ghost use Rattle.path_search.specs.declared.matches.TheConstants.{NOTHING};
+ghost use Rattle.path_search.specs.declared.blocks.TheConstants.{NOTHING};
 
-use crate::matches::{NOTHING, least_leaf, set_leaf};
+use crate::blocks::{BLOCK, NOTHING, least_place, set_cost};
 use dom_base::{Cost, Label, NoMemory};
 use std::alloc::Global;
 use std::marker::Model;
@@ -39,13 +39,13 @@ pub(crate) fn cost_from(labels: &[Option<Label>], place: u32) -> Option<Cost>
     cost_of_label(&label_of(labels, place))
 }
 
-/// The costs of the nodes that wait to be settled, by their places. They are the leaves of a tree
-/// of matches, whose root is the least. Exits have no part in it: each link costs something, so
-/// nodes of one cost do not lower one another.
+/// The costs of the nodes that wait to be settled, by their places, in blocks that each know their
+/// least. Exits have no part in it: each link costs something, so nodes of one cost do not lower
+/// one another.
 #[derive(Drop)]
 pub(crate) struct Waiting {
-    tree: Vec<u32>,
-    nodes: usize,
+    costs: Vec<u32>,
+    least: Vec<u32>,
 }
 
 impl Model for Waiting {
@@ -54,11 +54,11 @@ impl Model for Waiting {
 
     ghost Value = { List (Option ℕ) };
 
-    ghost use Rattle.path_search.specs.Tree.{leaves_of, HoldsTree};
+    ghost use Rattle.path_search.specs.Blocks.{costs_of, HoldsBlocks};
 
-    ghost view = { leaves_of };
+    ghost view = { costs_of };
 
-    ghost invariant = { HoldsTree };
+    ghost invariant = { HoldsBlocks };
 }
 
 impl Waiting {
@@ -66,8 +66,9 @@ impl Waiting {
         requires { nodes < 2 ^ 31 }
         ensures { IfOk result (λ waiting. waiting ≡ replicate nodes None) }
     {
-        let tree = no_costs(alloc, nodes * 2)?;
-        Ok(Waiting { tree, nodes })
+        let costs = no_costs(alloc, nodes)?;
+        let least = no_costs(alloc, nodes / BLOCK + 1)?;
+        Ok(Waiting { costs, least })
     }
 
     pub(crate) fn of(alloc: Global, labels: &[Option<Label>]) -> Result<Waiting, NoMemory>
@@ -86,13 +87,13 @@ impl Waiting {
         requires { place < length self.old }
         ensures { self.new ≡ slice_set self.old place cost }
     {
-        set_leaf(&mut self.tree, self.nodes, place as usize, &cost);
+        set_cost(&mut self.costs, &mut self.least, place as usize, &cost);
     }
 
     /// The place of a least cost.
     pub(crate) fn least(&self) -> Option<u32>
         ensures { HoldsLeast self.now result }
     {
-        least_leaf(&self.tree, self.nodes)
+        least_place(&self.costs, &self.least)
     }
 }

@@ -14,13 +14,12 @@ use Rattle.disclosure.specs.Policy.{denies_from}
 use Rattle.request_table.specs.Pending.{opened_of}
 use Rattle.plant_model.specs.declared.output.Output.{Output}
 use Rattle.plant_model.specs.Element.{Element, Place, Ready, Taken, denies, each, is_denied, silent, way_to}
-use Rattle.plant_model.specs.Plant.{Pin, Segment}
 use Rattle.plant_model.specs.Taking.{item_of, send_on, take_along}
 use Rattle.pce_element.specs.Changes.{IsDraft}
 use Rattle.pce_element.specs.Seen.{Seen}
 use Rattle.pce_element.specs.declared.change.Draft.{Draft}
 
-pub along_next : (e : Place) (pin : Pin) (p : Peer) (class : Class) (flags x : ℕ) (w : Wanted) (k : Element Pin Segment) (sequence : List As) (next : As) → slice_get sequence 1 ≡ Some next →
+pub along_next : {P : Type 0} {S : Type 0} → (e : Place) (pin : P) (p : Peer) (class : Class) (flags x : ℕ) (w : Wanted) (k : Element P S) (sequence : List As) (next : As) → slice_get sequence 1 ≡ Some next →
     send_on pin p class flags x w sequence (drop 1 sequence) (is_denied e.deny class next) k (way_to (Inner next) k.ways) ≡ take_along e pin p class flags x w k sequence
 along_next e pin p class flags x w k [] next at = absurd (let no : None ≡ Some next = at in cc)
 along_next e pin p class flags x w k (a ∷ []) next at = absurd (let no : None ≡ Some next = at in cc)
@@ -28,7 +27,7 @@ along_next e pin p class flags x w k (a ∷ b ∷ rest) next at =
     let same : Some b ≡ Some next = at in
     ap (λ (n : As). send_on pin p class flags x w (a ∷ b ∷ rest) (b ∷ rest) (is_denied e.deny class n) k (way_to (Inner n) k.ways)) (let e : next ≡ b = cc in e)
 
-pub along_own : (e : Place) (pin : Pin) (p : Peer) (class : Class) (flags x : ℕ) (w : Wanted) (k : Element Pin Segment) (sequence : List As) → length sequence ≡ 1 →
+pub along_own : {P : Type 0} {S : Type 0} → (e : Place) (pin : P) (p : Peer) (class : Class) (flags x : ℕ) (w : Wanted) (k : Element P S) (sequence : List As) → length sequence ≡ 1 →
     silent (record k { pending = opened_of k.pending p x (item_of pin class flags w sequence (Ready [])) }) ≡ take_along e pin p class flags x w k sequence
 along_own e pin p class flags x w k [] one = absurd (omega (arith, one))
 along_own e pin p class flags x w k (a ∷ []) one = refl
@@ -41,11 +40,11 @@ own_alone (a ∷ b ∷ rest) some none = absurd (let no : Some b ≡ None = none
 
 -- ---- a message of one part
 
-pub draft_of : (s : Seen) (t u : Taken Pin Segment) (d : Draft) → t ≡ u → IsDraft s t d → IsDraft s u d
-draft_of s t u d same is = subst (λ (x : Taken Pin Segment). IsDraft s x d) same is
+pub draft_of : {P : Type 0} {S : Type 0} {D : Type 0} → (s : Seen P S) (t u : Taken P S) (d : Draft D S) → t ≡ u → IsDraft s t d → IsDraft s u d
+draft_of {P} {S} {D} s t u d same is = subst (λ (x : Taken P S). IsDraft s x d) same is
 
-pub only_one : {X : Type 0} (f : X → Element Pin Segment → Taken Pin Segment) (x : X) (k : Element Pin Segment) → f x k ≡ each f (x ∷ []) k
-only_one f x k = ap (λ (os : List Output). let t : Taken Pin Segment = record { element = (f x k).element; outputs = os } in t) (sym (append-nil (f x k).outputs))
+pub only_one : {P : Type 0} {S : Type 0} → {X : Type 0} (f : X → Element P S → Taken P S) (x : X) (k : Element P S) → f x k ≡ each f (x ∷ []) k
+only_one {P} {S} f x k = ap (λ (os : List Output). let t : Taken P S = record { element = (f x k).element; outputs = os } in t) (sym (append-nil (f x k).outputs))
 
 pub one_of : {X : Type 0} (xs rest : List X) (x : X) → xs ≡ rest ++ x ∷ [] → length xs ≤ 1 → xs ≡ x ∷ []
 one_of xs [] x is few = is

@@ -7,7 +7,6 @@ use Rattle.pcep_messages.specs.declared.message.Message.{Message}
 use Rattle.request_table.specs.Pending.{number_of}
 use Rattle.plant_model.specs.declared.output.Output.{Output}
 use Rattle.plant_model.specs.Element.{Element, Row, Taken, each, ended, silent, waiting}
-use Rattle.plant_model.specs.Plant.{Pin, Segment}
 use Rattle.plant_model.specs.Taking.{answered, cancelled, error_answer, take_busy, take_cancel, take_failure, told_busy, told_error}
 use Rattle.plant_model.specs.Writing.{busy}
 use Rattle.pce_element.specs.Changes.{all_closed, all_ended}
@@ -31,63 +30,63 @@ if_ok_both (Err e) f p q = tt
 
 -- ---- steps
 
-pub after_each : {X : Type 0} (t : Taken Pin Segment) (f : X → Element Pin Segment → Taken Pin Segment) (x : X) (xs : List X) → after t (each f (x ∷ xs)) ≡ after (after t (f x)) (each f xs)
-after_each t f x xs =
+pub after_each : {P : Type 0} {S : Type 0} → {X : Type 0} (t : Taken P S) (f : X → Element P S → Taken P S) (x : X) (xs : List X) → after t (each f (x ∷ xs)) ≡ after (after t (f x)) (each f xs)
+after_each {P} {S} t f x xs =
     let first = f x t.element in
     let rest = each f xs first.element in
-    ap (λ (os : List Output). let u : Taken Pin Segment = record { element = rest.element; outputs = os } in u) (sym (append_assoc t.outputs first.outputs rest.outputs))
+    ap (λ (os : List Output). let u : Taken P S = record { element = rest.element; outputs = os } in u) (sym (append_assoc t.outputs first.outputs rest.outputs))
 
-pub after_none : (t : Taken Pin Segment) → after t silent ≡ t
-after_none t = ap (λ (os : List Output). let u : Taken Pin Segment = record { element = t.element; outputs = os } in u) (append-nil t.outputs)
+pub after_none : {P : Type 0} {S : Type 0} → (t : Taken P S) → after t silent ≡ t
+after_none {P} {S} t = ap (λ (os : List Output). let u : Taken P S = record { element = t.element; outputs = os } in u) (append-nil t.outputs)
 
 -- ---- what one step makes
 
-pub answered_after : (k : Element Pin Segment) (old new : Ending) (h : Row Pin) (m : Message) → new.numbers ≡ old.numbers ++ h.0 ∷ [] → new.outputs ≡ old.outputs ++ (let o : Output = record { to = h.1.key.peer; message = m } in o) ∷ [] →
+pub answered_after : {P : Type 0} {S : Type 0} → (k : Element P S) (old new : Ending) (h : Row P) (m : Message) → new.numbers ≡ old.numbers ++ h.0 ∷ [] → new.outputs ≡ old.outputs ++ (let o : Output = record { to = h.1.key.peer; message = m } in o) ∷ [] →
     reached k new ≡ after (reached k old) (answered h m)
-answered_after k old new h m numbers outputs =
-    ap (λ (ns : List ℕ). let u : Taken Pin Segment = record { element = all_ended ns k; outputs = new.outputs } in u) numbers
-    ∙ ap (λ (os : List Output). let u : Taken Pin Segment = record { element = all_ended (old.numbers ++ h.0 ∷ []) k; outputs = os } in u) outputs
-    ∙ ap (λ p. let u : Taken Pin Segment = record { element = record k { pending = p }; outputs = old.outputs ++ (let o : Output = record { to = h.1.key.peer; message = m } in o) ∷ [] } in u) (all_closed-more old.numbers h.0 k.pending)
+answered_after {P} {S} k old new h m numbers outputs =
+    ap (λ (ns : List ℕ). let u : Taken P S = record { element = all_ended ns k; outputs = new.outputs } in u) numbers
+    ∙ ap (λ (os : List Output). let u : Taken P S = record { element = all_ended (old.numbers ++ h.0 ∷ []) k; outputs = os } in u) outputs
+    ∙ ap (λ p. let u : Taken P S = record { element = record k { pending = p }; outputs = old.outputs ++ (let o : Output = record { to = h.1.key.peer; message = m } in o) ∷ [] } in u) (all_closed-more old.numbers h.0 k.pending)
 
-pub ended_after : (k : Element Pin Segment) (old new : Ending) (n : ℕ) → new.numbers ≡ old.numbers ++ n ∷ [] → new.outputs ≡ old.outputs → reached k new ≡ after (reached k old) (λ e. silent (ended n e))
-ended_after k old new n numbers outputs =
-    ap (λ (ns : List ℕ). let u : Taken Pin Segment = record { element = all_ended ns k; outputs = new.outputs } in u) numbers
-    ∙ ap (λ (os : List Output). let u : Taken Pin Segment = record { element = all_ended (old.numbers ++ n ∷ []) k; outputs = os } in u) (outputs ∙ sym (append-nil old.outputs))
-    ∙ ap (λ p. let u : Taken Pin Segment = record { element = record k { pending = p }; outputs = old.outputs ++ [] } in u) (all_closed-more old.numbers n k.pending)
+pub ended_after : {P : Type 0} {S : Type 0} → (k : Element P S) (old new : Ending) (n : ℕ) → new.numbers ≡ old.numbers ++ n ∷ [] → new.outputs ≡ old.outputs → reached k new ≡ after (reached k old) (λ e. silent (ended n e))
+ended_after {P} {S} k old new n numbers outputs =
+    ap (λ (ns : List ℕ). let u : Taken P S = record { element = all_ended ns k; outputs = new.outputs } in u) numbers
+    ∙ ap (λ (os : List Output). let u : Taken P S = record { element = all_ended (old.numbers ++ n ∷ []) k; outputs = os } in u) (outputs ∙ sym (append-nil old.outputs))
+    ∙ ap (λ p. let u : Taken P S = record { element = record k { pending = p }; outputs = old.outputs ++ [] } in u) (all_closed-more old.numbers n k.pending)
 
 -- ---- by what is found
 
-pub busy_none : (k : Element Pin Segment) (e : Ending) (p : Peer) (rp : ℕ × ℕ) → waiting p rp.1 (all_closed e.numbers k.pending).rows ≡ None → reached k e ≡ after (reached k e) (take_busy p rp)
-busy_none k e p rp none =
-    sym (after_none (reached k e)) ∙ ap (λ (o : Option (Row Pin)). after (reached k e) (λ x. told_busy x o)) (sym none)
+pub busy_none : {P : Type 0} {S : Type 0} → (k : Element P S) (e : Ending) (p : Peer) (rp : ℕ × ℕ) → waiting p rp.1 (all_closed e.numbers k.pending).rows ≡ None → reached k e ≡ after (reached k e) (take_busy p rp)
+busy_none {P} {S} k e p rp none =
+    sym (after_none (reached k e)) ∙ ap (λ (o : Option (Row P)). after (reached k e) (λ x. told_busy x o)) (sym none)
 
-pub busy_some : (k : Element Pin Segment) (old new : Ending) (p : Peer) (rp : ℕ × ℕ) (h : Row Pin) (m : Message) → waiting p rp.1 (all_closed old.numbers k.pending).rows ≡ Some h → m ≡ busy h.1.item.flags h.1.key.id →
+pub busy_some : {P : Type 0} {S : Type 0} → (k : Element P S) (old new : Ending) (p : Peer) (rp : ℕ × ℕ) (h : Row P) (m : Message) → waiting p rp.1 (all_closed old.numbers k.pending).rows ≡ Some h → m ≡ busy h.1.item.flags h.1.key.id →
     new.numbers ≡ old.numbers ++ h.0 ∷ [] → new.outputs ≡ old.outputs ++ (let o : Output = record { to = h.1.key.peer; message = m } in o) ∷ [] → reached k new ≡ after (reached k old) (take_busy p rp)
-busy_some k old new p rp h m found says numbers outputs =
-    answered_after k old new h m numbers outputs ∙ ap (λ (x : Message). after (reached k old) (answered h x)) says ∙ ap (λ (o : Option (Row Pin)). after (reached k old) (λ x. told_busy x o)) (sym found)
+busy_some {P} {S} k old new p rp h m found says numbers outputs =
+    answered_after k old new h m numbers outputs ∙ ap (λ (x : Message). after (reached k old) (answered h x)) says ∙ ap (λ (o : Option (Row P)). after (reached k old) (λ x. told_busy x o)) (sym found)
 
-pub cancel_none : (k : Element Pin Segment) (e : Ending) (p : Peer) (rp : ℕ × ℕ) → number_of (all_closed e.numbers k.pending) p rp.1 ≡ None → reached k e ≡ after (reached k e) (take_cancel p rp)
+pub cancel_none : {P : Type 0} {S : Type 0} → (k : Element P S) (e : Ending) (p : Peer) (rp : ℕ × ℕ) → number_of (all_closed e.numbers k.pending) p rp.1 ≡ None → reached k e ≡ after (reached k e) (take_cancel p rp)
 cancel_none k e p rp none =
     sym (after_none (reached k e)) ∙ ap (λ (o : Option ℕ). after (reached k e) (λ x. cancelled x o)) (sym none)
 
-pub cancel_some : (k : Element Pin Segment) (old new : Ending) (p : Peer) (rp : ℕ × ℕ) (n : ℕ) → number_of (all_closed old.numbers k.pending) p rp.1 ≡ Some n → new.numbers ≡ old.numbers ++ n ∷ [] → new.outputs ≡ old.outputs →
+pub cancel_some : {P : Type 0} {S : Type 0} → (k : Element P S) (old new : Ending) (p : Peer) (rp : ℕ × ℕ) (n : ℕ) → number_of (all_closed old.numbers k.pending) p rp.1 ≡ Some n → new.numbers ≡ old.numbers ++ n ∷ [] → new.outputs ≡ old.outputs →
     reached k new ≡ after (reached k old) (take_cancel p rp)
 cancel_some k old new p rp n found numbers outputs =
     ended_after k old new n numbers outputs ∙ ap (λ (o : Option ℕ). after (reached k old) (λ x. cancelled x o)) (sym found)
 
-pub failure_none : (k : Element Pin Segment) (e : Ending) (p : Peer) (error rp : ℕ × ℕ) → waiting p rp.1 (all_closed e.numbers k.pending).rows ≡ None → reached k e ≡ after (reached k e) (failing p error rp)
-failure_none k e p error rp none =
-    sym (after_none (reached k e)) ∙ ap (λ (o : Option (Row Pin)). after (reached k e) (λ x. take_failure error x o)) (sym none)
+pub failure_none : {P : Type 0} {S : Type 0} → (k : Element P S) (e : Ending) (p : Peer) (error rp : ℕ × ℕ) → waiting p rp.1 (all_closed e.numbers k.pending).rows ≡ None → reached k e ≡ after (reached k e) (failing p error rp)
+failure_none {P} {S} k e p error rp none =
+    sym (after_none (reached k e)) ∙ ap (λ (o : Option (Row P)). after (reached k e) (λ x. take_failure error x o)) (sym none)
 
-pub failure_silent : (k : Element Pin Segment) (e : Ending) (p : Peer) (error rp : ℕ × ℕ) (h : Row Pin) → waiting p rp.1 (all_closed e.numbers k.pending).rows ≡ Some h → error_answer error h.1.item.flags h.1.key.id ≡ [] →
+pub failure_silent : {P : Type 0} {S : Type 0} → (k : Element P S) (e : Ending) (p : Peer) (error rp : ℕ × ℕ) (h : Row P) → waiting p rp.1 (all_closed e.numbers k.pending).rows ≡ Some h → error_answer error h.1.item.flags h.1.key.id ≡ [] →
     reached k e ≡ after (reached k e) (failing p error rp)
-failure_silent k e p error rp h found says =
+failure_silent {P} {S} k e p error rp h found says =
     sym (after_none (reached k e)) ∙ ap (λ (ms : List Message). after (reached k e) (λ x. told_error h x ms)) (sym says)
-    ∙ ap (λ (o : Option (Row Pin)). after (reached k e) (λ x. take_failure error x o)) (sym found)
+    ∙ ap (λ (o : Option (Row P)). after (reached k e) (λ x. take_failure error x o)) (sym found)
 
-pub failure_some : (k : Element Pin Segment) (old new : Ending) (p : Peer) (error rp : ℕ × ℕ) (h : Row Pin) (m : Message) → waiting p rp.1 (all_closed old.numbers k.pending).rows ≡ Some h →
+pub failure_some : {P : Type 0} {S : Type 0} → (k : Element P S) (old new : Ending) (p : Peer) (error rp : ℕ × ℕ) (h : Row P) (m : Message) → waiting p rp.1 (all_closed old.numbers k.pending).rows ≡ Some h →
     m ∷ [] ≡ error_answer error h.1.item.flags h.1.key.id → new.numbers ≡ old.numbers ++ h.0 ∷ [] → new.outputs ≡ old.outputs ++ (let o : Output = record { to = h.1.key.peer; message = m } in o) ∷ [] →
     reached k new ≡ after (reached k old) (failing p error rp)
-failure_some k old new p error rp h m found says numbers outputs =
+failure_some {P} {S} k old new p error rp h m found says numbers outputs =
     answered_after k old new h m numbers outputs ∙ ap (λ (ms : List Message). after (reached k old) (λ x. told_error h x ms)) says
-    ∙ ap (λ (o : Option (Row Pin)). after (reached k old) (λ x. take_failure error x o)) (sym found)
+    ∙ ap (λ (o : Option (Row P)). after (reached k old) (λ x. take_failure error x o)) (sym found)

@@ -1,41 +1,126 @@
--- The generations keep what the requests pin, through loads, pins and releases.
-use Rattle.std.proofs.Common.{◌≡◌, ◌≢◌, ◌+◌, ◌-◌, ◌<◌, ◌≤◌, ◌==◌, ℕ, Bool, cond, Option, Some, None, Result, Ok, Err, OnOk, OnErr, List, [], ◌∷◌, ◌++◌, length, nat_eq, arith, inl, inr, refl, sym, ◌∙◌, ap, subst, option_map}
+-- What requests pin, through opens and closes; and generations that keep pins, through loads, pins and releases.
+use Rattle.std.proofs.Common.{◌≡◌, ◌≢◌, ◌+◌, ◌-◌, ◌<◌, ◌≤◌, ◌==◌, ◌^◌, ◌||◌, nat_le, ℕ, Bool, true, false, cond, Option, Some, None, Result, Ok, Err, OnOk, OnErr, List, [], ◌∷◌, ◌++◌, length, map, nat_eq, arith, inl, inr, refl, sym, ◌∙◌, ap, subst, option_map}
 use Rattle.std.specs.Prelude.{Contains, count_by}
 use Rattle.std.specs.Map.{lookup, remove_entry}
-use Rattle.std.proofs.lemmas.Bool.{cases_eq, eq-eqb}
-use Rattle.std.proofs.lemmas.List.{length_push}
-use Rattle.std.proofs.lemmas.List.Elements.{Contains-push_cases}
+use Rattle.std.proofs.lemmas.Bool.{cases_Bool, cases_eq, eq-eqb, leb-false}
+use Rattle.std.proofs.lemmas.List.{length_push, length-map, map-append}
+use Rattle.std.proofs.lemmas.List.Elements.{Contains-push_cases, Contains-append_left, Contains-append_right, Contains-append_cases}
 use Rattle.te_links.specs.Rows.{Rows}
 use Rattle.te_generations.specs.Shelf.{Generation, Shelf, IsShelf, pins_among, pins_of, topology_of, all_pins, pin_count, loaded_of, pinned_of, released_among, released_of}
 use Rattle.te_generations.proofs.ShelfLemmas.{test_false, test_true}
 use Rattle.te_generations.proofs.RunLemmas.{below_bound, load_keeps, release_keeps}
 use Rattle.te_generations.proofs.CountLemmas.{all_pins-loaded, pins_of-loaded, pins_of-pinned, pins_of-released}
-use Rattle.dom_base.specs.declared.names.Peer.{Peer}
 use Rattle.request_table.specs.declared.held.Held.{Held}
-use Rattle.request_table.specs.Pending.{Pending, key_of, opened_of}
+use Rattle.dom_base.specs.declared.names.Peer.{Peer}
+use Rattle.request_table.specs.Pending.{Pending, is_full, key_of, opened_of}
 use Rattle.request_table.specs.Lends.{with_item}
 use Rattle.plant_model.specs.Element.{Item, Row}
 use Rattle.plant_model.specs.Plant.{Pin}
 use Rattle.plant_model.specs.Meeting.{Shelves}
-use Rattle.pce_element.specs.PinnedFields.{current_of}
-use Rattle.pce_element.specs.Rows.{pin_with}
-use Rattle.pce_element.proofs.RowLemmas.{counted_more, counted_some, found_in, removed_in, counted_removed, length-removed, none_removed, counted_written, written_in}
+use Rattle.pce_element.specs.Pinned.{pins_in}
+use Rattle.pce_element.specs.Topologies.{KeepsPins, current_of}
+use Rattle.pce_element.specs.Worlds.{IsKept, KeepsOneLess, KeepsOneMore}
+use Rattle.member_parts.proofs.HeldRows.{counted, counted_more, counted_some, first_in, later_in, none_in, in_cases, none_removed}
 
-abbrev pins_row : ℕ → Held (Item Pin) → Bool
-pins_row n h = h.item.pin.number == n
+-- ---- what requests pin
 
-abbrev pins_in : ℕ → List (Row Pin) → ℕ
-pins_in n rows = count_by (λ (h : Row Pin). pins_row n h.1) rows
+pub length-pins : {P : Type 0} → (rows : List (Row P)) → length (pins_in rows) ≡ length rows
+length-pins {P} rows = length-map rows (λ (h : Row P). h.1.item.pin)
 
--- a request's generation has a pin
-pub has_pin : (s : Shelf Rows) (rows : List (Row Pin)) (h : Row Pin) → Shelves s (current_of s) rows → Contains rows h → 1 ≤ pins_of s h.1.item.pin.number
-has_pin s rows h keeps has =
-    let n = h.1.item.pin.number in
-    let some : 1 ≤ pins_in n rows = counted_some (λ (r : Row Pin). pins_row n r.1) rows h has (eq-eqb n n refl) in
-    subst (λ (k : ℕ). 1 ≤ k) (sym (keeps.pins n)) some
+pub pins_opened : {P : Type 0} → (rows : List (Row P)) (row : Row P) → pins_in (rows ++ row ∷ []) ≡ pins_in rows ++ row.1.item.pin ∷ []
+pins_opened {P} rows row = map-append (λ (h : Row P). h.1.item.pin) rows (row ∷ [])
 
-pub found_has_pin : (s : Shelf Rows) (rows : List (Row Pin)) (number : ℕ) (held : Held (Item Pin)) → Shelves s (current_of s) rows → lookup (nat_eq number) rows ≡ Some held → 1 ≤ pins_of s held.item.pin.number
-found_has_pin s rows number held keeps found = has_pin s rows (number, held) keeps (found_in number rows held found)
+not_full : {T : Type 0} → (pending : Pending T) → is_full pending ≡ false → length pending.rows < pending.limit
+not_full pending fits = go (nat_le pending.limit (length pending.rows)) refl (pending.given == 2 ^ 64 - 1) fits
+  where
+    go : (b : Bool) → nat_le pending.limit (length pending.rows) ≡ b → (c : Bool) → b || c ≡ false → length pending.rows < pending.limit
+    go true is c no = absurd (let never : true ≡ false = no in cc)
+    go false is c no = leb-false pending.limit (length pending.rows) is
+
+-- a request more may be accepted, so a pin more may be given
+pub few_pins : {P : Type 0} → (pending : Pending (Item P)) → pending.limit ≡ 1024 → is_full pending ≡ false → length (pins_in pending.rows) < 1024
+few_pins pending limit fits = omega (arith, limit, length-pins pending.rows, not_full pending fits)
+
+-- one is accepted
+pub opened_keeps : {P : Type 0} → (Before After : List P → Type 0) (pending more : Pending (Item P)) (peer : Peer) (id : ℕ) (item : Item P) (pin : P) → item.pin ≡ pin → more ≡ opened_of pending peer id item → KeepsOneMore Before pin After →
+    Before (pins_in pending.rows) → After (pins_in more.rows)
+opened_keeps {P} Before After pending more peer id item pin is opened one keeps =
+    let row : Row P = (pending.given + 1, record { key = key_of peer id; item = item }) in
+    let pins : pins_in more.rows ≡ pins_in pending.rows ++ pin ∷ [] =
+    ap (λ (p : Pending (Item P)). pins_in p.rows) opened ∙ pins_opened pending.rows row ∙ ap (λ (p : P). pins_in pending.rows ++ p ∷ []) is in
+    subst After (sym pins) (one (pins_in pending.rows) keeps)
+
+-- the pin of a request that is found stands between others, which are those that it leaves
+pub record Stands {P : Type 0} (rows left : List (Row P)) (pin : P) : Type 0 where
+  pub front : List P
+  pub back : List P
+  pub is : pins_in rows ≡ front ++ pin ∷ back
+  pub leaves : pins_in left ≡ front ++ back
+
+pub stands_found : {P : Type 0} → (number : ℕ) (rows : List (Row P)) (item : Item P) → option_map (λ (h : Held (Item P)). h.item) (lookup (nat_eq number) rows) ≡ Some item → Stands rows (remove_entry (nat_eq number) rows) item.pin
+stands_found {P} number [] item found = absurd (let no : None ≡ Some item = found in cc)
+stands_found {P} number (h ∷ rows) item found =
+    elim (cases_Bool (nat_eq number h.0)) [
+      | inl hit ↦
+          let same : Some h.1.item ≡ Some item = rw hit at found in
+          let is : h.1.item ≡ item = cc in
+          rw hit (record { front = []; back = pins_in rows; is = ap (λ (i : Item P). i.pin ∷ pins_in rows) is; leaves = refl })
+      | inr miss ↦
+          let rest : Stands rows (remove_entry (nat_eq number) rows) item.pin = stands_found number rows item (rw miss at found) in
+          rw miss (record {
+            front = h.1.item.pin ∷ rest.front;
+            back = rest.back;
+            is = ap (λ (ps : List P). h.1.item.pin ∷ ps) rest.is;
+            leaves = ap (λ (ps : List P). h.1.item.pin ∷ ps) rest.leaves;
+          })
+    ]
+
+pub stands_in : {P : Type 0} → (front back : List P) (pin : P) → Contains (front ++ pin ∷ back) pin
+stands_in {P} front back pin = Contains-append_right front (pin ∷ back) pin (first_in pin back)
+
+-- what a request that is found pins is kept
+pub kept_pin : {P : Type 0} → (Keeps : List P → Type 0) (number : ℕ) (rows : List (Row P)) (item : Item P) → option_map (λ (h : Held (Item P)). h.item) (lookup (nat_eq number) rows) ≡ Some item → Keeps (pins_in rows) → IsKept Keeps item.pin
+kept_pin {P} Keeps number rows item found keeps =
+    let there = stands_found number rows item found in
+    (pins_in rows, keeps, subst (λ (ps : List P). Contains ps item.pin) (sym there.is) (stands_in there.front there.back item.pin))
+
+-- it ends
+pub ended_keeps : {P : Type 0} → (Before After : List P → Type 0) (number : ℕ) (rows left : List (Row P)) (item : Item P) (pin : P) → option_map (λ (h : Held (Item P)). h.item) (lookup (nat_eq number) rows) ≡ Some item →
+    pin ≡ item.pin → left ≡ remove_entry (nat_eq number) rows → KeepsOneLess Before pin After → Before (pins_in rows) → After (pins_in left)
+ended_keeps {P} Before After number rows left item pin found is gone less keeps =
+    let there = stands_found number rows item found in
+    let stood : pins_in rows ≡ there.front ++ pin ∷ there.back = there.is ∙ ap (λ (p : P). there.front ++ p ∷ there.back) (sym is) in
+    let left_is : pins_in left ≡ there.front ++ there.back = ap pins_in gone ∙ there.leaves in
+    subst After (sym left_is) (less there.front there.back (subst Before stood keeps))
+
+-- there is none
+pub none_ended : {P : Type 0} → (rows left : List (Row P)) (number : ℕ) → option_map (λ (h : Held (Item P)). h.item) (lookup (nat_eq number) rows) ≡ None → left ≡ remove_entry (nat_eq number) rows → left ≡ rows
+none_ended {P} rows left number none gone = gone ∙ none_removed number rows (go (lookup (nat_eq number) rows) none)
+  where
+    go : (o : Option (Held (Item P))) → option_map (λ (h : Held (Item P)). h.item) o ≡ None → o ≡ None
+    go None is = refl
+    go (Some held) is = absurd (let no : Some held.item ≡ None = is in cc)
+
+-- a request is written, and keeps its pin
+pub pins_written : {P : Type 0} → (number : ℕ) (item : Item P) (rows : List (Row P)) (old : Item P) → option_map (λ (h : Held (Item P)). h.item) (lookup (nat_eq number) rows) ≡ Some old → item.pin ≡ old.pin → pins_in (with_item number item rows) ≡ pins_in rows
+pins_written {P} number item [] old found same = refl
+pins_written {P} number item (h ∷ rows) old found same =
+    elim (cases_Bool (nat_eq number h.0)) [
+      | inl hit ↦
+          let one : Some h.1.item ≡ Some old = rw hit at found in
+          let is : h.1.item ≡ old = cc in
+          rw hit (ap (λ (p : P). p ∷ pins_in rows) (same ∙ ap (λ (i : Item P). i.pin) (sym is)))
+      | inr miss ↦ rw miss (ap (λ (ps : List P). h.1.item.pin ∷ ps) (pins_written number item rows old (rw miss at found) same))
+    ]
+
+-- ---- generations
+
+abbrev is_of : ℕ → Pin → Bool
+is_of n p = p.number == n
+
+-- a pin's generation has a pin
+pub has_pin : (s : Shelf Rows) (pins : List Pin) (p : Pin) → KeepsPins s pins → Contains pins p → 1 ≤ pins_of s p.number
+has_pin s pins p keeps has = subst (λ (k : ℕ). 1 ≤ k) (sym (keeps.each p.number)) (counted_some (is_of p.number) pins p has (eq-eqb p.number p.number refl))
 
 -- ---- a load
 
@@ -48,46 +133,47 @@ none_above s n is above =
       | inr some ↦ absurd (omega (arith, below_bound n 0 s.current.number s.older is.older (omega (arith, some))))
     ])
 
-pub loaded_keeps : (s : Shelf Rows) (topology : Rows) (rows : List (Row Pin)) → IsShelf s → Shelves s (current_of s) rows → Shelves (loaded_of s topology) (current_of (loaded_of s topology)) rows
-loaded_keeps s topology rows is keeps = record {
-  number = refl;
-  topology = refl;
-  pins = λ n. pins_of-loaded s topology n is ∙ elim (cases_eq (s.current.number + 1) n) [
-    | inl new ↦ rw (test_true (s.current.number + 1) n new) (sym (none_above s n is (omega (arith, new))) ∙ keeps.pins n)
-    | inr old ↦ rw (test_false (s.current.number + 1) n old) (keeps.pins n)
+pub loaded_keeps : (s : Shelf Rows) (topology : Rows) (pins : List Pin) → IsShelf s → KeepsPins s pins → KeepsPins (loaded_of s topology) pins
+loaded_keeps s topology pins is keeps = record {
+  count = all_pins-loaded s topology ∙ keeps.count;
+  each = λ n. pins_of-loaded s topology n is ∙ elim (cases_eq (s.current.number + 1) n) [
+    | inl new ↦ rw (test_true (s.current.number + 1) n new) (sym (none_above s n is (omega (arith, new))) ∙ keeps.each n)
+    | inr old ↦ rw (test_false (s.current.number + 1) n old) (keeps.each n)
   ];
-  pinned = λ h has. load_keeps s h.1.item.pin.number topology is (has_pin s rows h keeps has) ∙ keeps.pinned h has;
+  topology = λ p has. load_keeps s p.number topology is (has_pin s pins p keeps has) ∙ keeps.topology p has;
 }
 
-pub load_holds : {E : Type 0} (r : Result ℕ E) (s new : Shelf Rows) (topology : Rows) (rows : List (Row Pin)) → OnOk r (new ≡ loaded_of s topology) → OnErr r (new ≡ s) → IsShelf s →
-    Shelves s (current_of s) rows → Shelves new (current_of new) rows
-load_holds (Ok number) s new topology rows ok err is keeps = subst (λ (t : Shelf Rows). Shelves t (current_of t) rows) (sym ok) (loaded_keeps s topology rows is keeps)
-load_holds (Err why) s new topology rows ok err is keeps = subst (λ (t : Shelf Rows). Shelves t (current_of t) rows) (sym err) keeps
+pub load_holds : {E : Type 0} (r : Result ℕ E) (s new : Shelf Rows) (topology : Rows) (pins : List Pin) → OnOk r (new ≡ loaded_of s topology) → OnErr r (new ≡ s) → IsShelf s → KeepsPins s pins → KeepsPins new pins
+load_holds (Ok number) s new topology pins ok err is keeps = subst (λ (t : Shelf Rows). KeepsPins t pins) (sym ok) (loaded_keeps s topology pins is keeps)
+load_holds (Err why) s new topology pins ok err is keeps = subst (λ (t : Shelf Rows). KeepsPins t pins) (sym err) keeps
 
-pub load_counts : {E : Type 0} (r : Result ℕ E) (s new : Shelf Rows) (topology : Rows) → OnOk r (new ≡ loaded_of s topology) → OnErr r (new ≡ s) → all_pins new ≡ all_pins s
-load_counts (Ok number) s new topology ok err = ap all_pins ok ∙ all_pins-loaded s topology
-load_counts (Err why) s new topology ok err = ap all_pins err
+-- ---- a pin is given
 
--- ---- a request is opened
-
-pub opened_keeps : (s : Shelf Rows) (rows : List (Row Pin)) (row : Row Pin) → Shelves s (current_of s) rows → row.1.item.pin ≡ current_of s → Shelves (pinned_of s) (current_of (pinned_of s)) (rows ++ row ∷ [])
-opened_keeps s rows row keeps is = record {
-  number = refl;
-  topology = refl;
-  pins = λ n.
-      let own : s.current.number ≡ row.1.item.pin.number = ap (λ (p : Pin). p.number) (sym is) in
-      pins_of-pinned s n ∙ ap (λ (k : ℕ). k + cond (s.current.number == n) 1 0) (keeps.pins n) ∙ ap (λ (k : ℕ). pins_in n rows + cond (k == n) 1 0) own
-      ∙ sym (counted_more (λ (h : Row Pin). pins_row n h.1) rows row);
-  pinned = λ h has. elim (Contains-push_cases rows row h has) [
-    | inl before ↦ keeps.pinned h before
+pub pinned_keeps : (s new : Shelf Rows) (pins : List Pin) (pin : Pin) → KeepsPins s pins → new ≡ pinned_of s → pin ≡ current_of s → KeepsPins new (pins ++ pin ∷ [])
+pinned_keeps s new pins pin keeps made is = subst (λ (t : Shelf Rows). KeepsPins t (pins ++ pin ∷ [])) (sym made) (record {
+  count = omega (arith, keeps.count, length_push pins pin);
+  each = λ n.
+      let own : s.current.number ≡ pin.number = ap (λ (p : Pin). p.number) (sym is) in
+      pins_of-pinned s n ∙ ap (λ (k : ℕ). k + cond (s.current.number == n) 1 0) (keeps.each n) ∙ ap (λ (k : ℕ). count_by (is_of n) pins + cond (k == n) 1 0) own
+      ∙ sym (counted_more (is_of n) pins pin);
+  topology = λ p has. elim (Contains-push_cases pins pin p has) [
+    | inl before ↦ keeps.topology p before
     | inr last ↦
-        let same : h.1.item.pin ≡ current_of s = ap (λ (r : Row Pin). r.1.item.pin) (sym last) ∙ is in
         let here : topology_of (pinned_of s) s.current.number ≡ Some s.current.topology = rw (test_true s.current.number s.current.number refl) refl in
-        subst (λ (p : Pin). topology_of (pinned_of s) p.number ≡ Some p.topology) (sym same) here
+        subst (λ (q : Pin). topology_of (pinned_of s) q.number ≡ Some q.topology) (sym is ∙ last) here
   ];
-}
+})
 
--- ---- a request ends
+-- the pin that was made is the current one
+pub made_is : (s new : Shelf Rows) (number : ℕ) (topology : Rows) → number ≡ s.current.number → new ≡ pinned_of s → topology_of new number ≡ Some topology → (let p : Pin = record { number = number; topology = topology } in p) ≡ current_of s
+made_is s new number topology at made shown =
+    let here : topology_of (pinned_of s) s.current.number ≡ Some s.current.topology = rw (test_true s.current.number s.current.number refl) refl in
+    let there : topology_of (pinned_of s) s.current.number ≡ Some topology = ap (topology_of (pinned_of s)) (sym at) ∙ ap (λ (t : Shelf Rows). topology_of t number) (sym made) ∙ shown in
+    let both : Some topology ≡ Some s.current.topology = sym there ∙ here in
+    let same : topology ≡ s.current.topology = cc in
+    ap (λ (n : ℕ). let p : Pin = record { number = n; topology = topology } in p) at ∙ ap (λ (t : Rows). let p : Pin = record { number = s.current.number; topology = t } in p) same
+
+-- ---- a pin is taken back
 
 one_released : (gone : ℕ) (gs : List (Generation Rows)) → 1 ≤ pins_among gone gs → pin_count (released_among gone gs) + 1 ≡ pin_count gs
 one_released gone [] some = absurd (omega (arith, some))
@@ -109,107 +195,61 @@ all_pins-released s gone some =
       | inr other ↦ rw (test_false s.current.number gone other) (omega (arith, one_released gone s.older (rw (test_false s.current.number gone other) at some)))
     ]
 
-pub closed_keeps : (s : Shelf Rows) (rows : List (Row Pin)) (number : ℕ) (held : Held (Item Pin)) → IsShelf s → Shelves s (current_of s) rows → lookup (nat_eq number) rows ≡ Some held →
-    Shelves (released_of s held.item.pin.number) (current_of (released_of s held.item.pin.number)) (remove_entry (nat_eq number) rows)
-closed_keeps s rows number held is keeps found = record {
-  number = refl;
-  topology = refl;
-  pins = pins;
-  pinned = λ h has.
-      let n = h.1.item.pin.number in
-      let some : 1 ≤ pins_in n left = counted_some (λ (r : Row Pin). pins_row n r.1) left h has (eq-eqb n n refl) in
-      release_keeps s n gone is (subst (λ (k : ℕ). 1 ≤ k) (sym (pins n)) some) ∙ keeps.pinned h (removed_in (nat_eq number) rows h has);
-}
+-- a list with one more between its parts
+length_between : {X : Type 0} → (front back : List X) (x : X) → length (front ++ x ∷ back) ≡ length (front ++ back) + 1
+length_between [] back x = omega arith
+length_between (y ∷ front) back x = omega (arith, length_between front back x)
+
+counted_between : {X : Type 0} → (test : X → Bool) (front back : List X) (x : X) → count_by test (front ++ x ∷ back) ≡ cond (test x) 1 0 + count_by test (front ++ back)
+counted_between test [] back x = counted test x back
+counted_between test (y ∷ front) back x = omega (arith, counted test y (front ++ x ∷ back), counted test y (front ++ back), counted_between test front back x)
+
+among_both : {X : Type 0} → (front back : List X) (x y : X) → Contains (front ++ back) y → Contains (front ++ x ∷ back) y
+among_both front back x y has = elim (Contains-append_cases front back y has) [
+  | inl before ↦ Contains-append_left front (x ∷ back) y before
+  | inr behind ↦ Contains-append_right front (x ∷ back) y (later_in x back y behind)
+]
+
+pub released_keeps : (s new : Shelf Rows) (front back : List Pin) (pin : Pin) → IsShelf s → KeepsPins s (front ++ pin ∷ back) → new ≡ released_of s pin.number → KeepsPins new (front ++ back)
+released_keeps s new front back pin is keeps made = subst (λ (t : Shelf Rows). KeepsPins t (front ++ back)) (sym made) (record {
+  count = omega (arith, all_pins-released s gone some, length_between front back pin, keeps.count);
+  each = each;
+  topology = λ p has.
+      let left : 1 ≤ count_by (is_of p.number) (front ++ back) = counted_some (is_of p.number) (front ++ back) p has (eq-eqb p.number p.number refl) in
+      release_keeps s p.number gone is (subst (λ (k : ℕ). 1 ≤ k) (sym (each p.number)) left) ∙ keeps.topology p (among_both front back pin p has);
+})
   where
     gone : ℕ
-    gone = held.item.pin.number
+    gone = pin.number
 
-    left : List (Row Pin)
-    left = remove_entry (nat_eq number) rows
+    some : 1 ≤ pins_of s gone
+    some = has_pin s (front ++ pin ∷ back) pin keeps (stands_in front back pin)
 
-    pins : (n : ℕ) → pins_of (released_of s gone) n ≡ pins_in n left
-    pins n =
-        let counts : pins_in n left + cond (gone == n) 1 0 ≡ pins_in n rows = counted_removed (pins_row n) number rows held found in
-        pins_of-released s n gone is ∙ ap (λ (k : ℕ). k - cond (gone == n) 1 0) (keeps.pins n) ∙ (let e : pins_in n rows - cond (gone == n) 1 0 ≡ pins_in n left = omega (arith, counts) in e)
+    each : (n : ℕ) → pins_of (released_of s gone) n ≡ count_by (is_of n) (front ++ back)
+    each n =
+        let counts : count_by (is_of n) (front ++ pin ∷ back) ≡ cond (gone == n) 1 0 + count_by (is_of n) (front ++ back) = counted_between (is_of n) front back pin in
+        pins_of-released s n gone is ∙ ap (λ (k : ℕ). k - cond (gone == n) 1 0) (keeps.each n) ∙ (let e : count_by (is_of n) (front ++ pin ∷ back) - cond (gone == n) 1 0 ≡ count_by (is_of n) (front ++ back) = omega (arith, counts) in e)
 
--- ---- a request is written, and keeps its pin
+-- ---- the model's generations
 
-pub written_keeps : (s : Shelf Rows) (rows : List (Row Pin)) (number : ℕ) (held : Held (Item Pin)) (item : Item Pin) → Shelves s (current_of s) rows → lookup (nat_eq number) rows ≡ Some held → item.pin ≡ held.item.pin →
-    Shelves s (current_of s) (with_item number item rows)
-written_keeps s rows number held item keeps found same = record {
+counted_pins : (n : ℕ) (rows : List (Row Pin)) → count_by (is_of n) (pins_in rows) ≡ count_by (λ (h : Row Pin). h.1.item.pin.number == n) rows
+counted_pins n [] = refl
+counted_pins n (h ∷ rows) = omega (arith, counted (is_of n) h.1.item.pin (pins_in rows), counted (λ (r : Row Pin). r.1.item.pin.number == n) h rows, counted_pins n rows)
+
+pinned_in : (rows : List (Row Pin)) (h : Row Pin) → Contains rows h → Contains (pins_in rows) h.1.item.pin
+pinned_in rows h has = mapped_in (λ (r : Row Pin). r.1.item.pin) rows h has
+  where
+    mapped_in : {X : Type 0} {Y : Type 0} → (f : X → Y) (xs : List X) (x : X) → Contains xs x → Contains (map f xs) (f x)
+    mapped_in f [] x has = absurd (none_in x has)
+    mapped_in {X} {Y} f (y ∷ xs) x has = elim (in_cases y xs x has) [
+      | inl same ↦ subst (λ (z : Y). Contains (f y ∷ map f xs) z) (ap f same) (first_in (f y) (map f xs))
+      | inr there ↦ later_in (f y) (map f xs) (f x) (mapped_in f xs x there)
+    ]
+
+pub are_shelves : (s : Shelf Rows) (rows : List (Row Pin)) → KeepsPins s (pins_in rows) → Shelves s (current_of s) rows
+are_shelves s rows keeps = record {
   number = refl;
   topology = refl;
-  pins = λ n. keeps.pins n ∙ sym (counted_written (pins_row n) number item rows held found (ap (λ (p : Pin). p.number == n) same));
-  pinned = λ h has. elim (written_in number item rows held h found has) [
-    | inl before ↦ keeps.pinned h before
-    | inr own ↦
-        let is : h.1.item.pin ≡ held.item.pin = ap (λ (x : Held (Item Pin)). x.item.pin) own ∙ same in
-        subst (λ (p : Pin). topology_of s p.number ≡ Some p.topology) (sym is) (keeps.pinned (number, held) (found_in number rows held found))
-  ];
+  pins = λ n. keeps.each n ∙ counted_pins n rows;
+  pinned = λ h has. keeps.topology h.1.item.pin (pinned_in rows h has);
 }
-
--- ---- the same, from what calls say
-
-pub found_item : (rows : List (Row Pin)) (number : ℕ) (item : Item Pin) → option_map (λ (h : Held (Item Pin)). h.item) (lookup (nat_eq number) rows) ≡ Some item →
-    (held : Held (Item Pin)) × (lookup (nat_eq number) rows ≡ Some held) × (held.item ≡ item)
-found_item rows number item is = go (lookup (nat_eq number) rows) refl is
-  where
-    go : (o : Option (Held (Item Pin))) → lookup (nat_eq number) rows ≡ o → option_map (λ (h : Held (Item Pin)). h.item) o ≡ Some item → (held : Held (Item Pin)) × (lookup (nat_eq number) rows ≡ Some held) × (held.item ≡ item)
-    go None found is' = absurd (let no : None ≡ Some item = is' in cc)
-    go (Some held) found is' = (held, found, (let same : Some held.item ≡ Some item = is' in cc))
-
-pub item_has_pin : (s : Shelf Rows) (rows : List (Row Pin)) (number : ℕ) (item : Item Pin) → Shelves s (current_of s) rows → option_map (λ (h : Held (Item Pin)). h.item) (lookup (nat_eq number) rows) ≡ Some item → 1 ≤ pins_of s item.pin.number
-item_has_pin s rows number item keeps is =
-    let there = found_item rows number item is in
-    subst (λ (i : Item Pin). 1 ≤ pins_of s i.pin.number) there.2 (found_has_pin s rows number there.0 keeps there.1)
-
--- the generations keep what these requests pin, one pin for each
-pub record Keeps (s : Shelf Rows) (rows : List (Row Pin)) : Type 0 where
-  pub shelves : Shelves s (current_of s) rows
-  pub count : all_pins s ≡ length rows
-
-pub closed_some : (s new : Shelf Rows) (rows after : List (Row Pin)) (number pin : ℕ) (item : Item Pin) → IsShelf s → Shelves s (current_of s) rows → all_pins s ≡ length rows →
-    option_map (λ (h : Held (Item Pin)). h.item) (lookup (nat_eq number) rows) ≡ Some item → pin ≡ item.pin.number → new ≡ released_of s pin → after ≡ remove_entry (nat_eq number) rows → Keeps new after
-closed_some s new rows after number pin item is keeps count found pinned released left =
-    let there = found_item rows number item found in
-    let held : Held (Item Pin) = there.0 in
-    let gone : pin ≡ held.item.pin.number = pinned ∙ ap (λ (i : Item Pin). i.pin.number) (sym there.2) in
-    let new_is : new ≡ released_of s held.item.pin.number = released ∙ ap (released_of s) gone in
-    let some : 1 ≤ pins_of s held.item.pin.number = found_has_pin s rows number held keeps there.1 in
-    let shelves : Shelves (released_of s held.item.pin.number) (current_of (released_of s held.item.pin.number)) (remove_entry (nat_eq number) rows) = closed_keeps s rows number held is keeps there.1 in
-    let counts : all_pins (released_of s held.item.pin.number) ≡ length (remove_entry (nat_eq number) rows) =
-    omega (arith, all_pins-released s held.item.pin.number some, length-removed number rows held there.1, count) in
-    let both : Keeps (released_of s held.item.pin.number) (remove_entry (nat_eq number) rows) = record { shelves = shelves; count = counts } in
-    subst (λ (t : Shelf Rows). Keeps t after) (sym new_is) (subst (λ (rs : List (Row Pin)). Keeps (released_of s held.item.pin.number) rs) (sym left) both)
-
-pub closed_none : (rows after : List (Row Pin)) (number : ℕ) → option_map (λ (h : Held (Item Pin)). h.item) (lookup (nat_eq number) rows) ≡ None → after ≡ remove_entry (nat_eq number) rows → after ≡ rows
-closed_none rows after number none left = left ∙ none_removed number rows (go (lookup (nat_eq number) rows) refl none)
-  where
-    go : (o : Option (Held (Item Pin))) → lookup (nat_eq number) rows ≡ o → option_map (λ (h : Held (Item Pin)). h.item) o ≡ None → lookup (nat_eq number) rows ≡ None
-    go None found is' = found
-    go (Some held) found is' = absurd (let no : Some held.item ≡ None = is' in cc)
-
-pub opened_some : (s new : Shelf Rows) (pending after : Pending (Item Pin)) (peer : Peer) (id : ℕ) (item : Item Pin) (pin : ℕ) (topology : Rows) → Shelves s (current_of s) pending.rows → all_pins s ≡ length pending.rows →
-    pin ≡ s.current.number → new ≡ pinned_of s → topology_of new pin ≡ Some topology → item.pin ≡ record { number = pin; topology = topology } → after ≡ opened_of pending peer id item → Keeps new after.rows
-opened_some s new pending after peer id item pin topology keeps count at made shown own opened =
-    let here : topology_of (pinned_of s) s.current.number ≡ Some s.current.topology = rw (test_true s.current.number s.current.number refl) refl in
-    let there : topology_of (pinned_of s) s.current.number ≡ Some topology = ap (topology_of (pinned_of s)) (sym at) ∙ ap (λ (t : Shelf Rows). topology_of t pin) (sym made) ∙ shown in
-    let both : Some topology ≡ Some s.current.topology = sym there ∙ here in
-    let same : topology ≡ s.current.topology = cc in
-    let pin_is : item.pin ≡ current_of s = own ∙ ap (λ (n : ℕ). let p : Pin = record { number = n; topology = topology } in p) at ∙ ap (λ (t : Rows). let p : Pin = record { number = s.current.number; topology = t } in p) same in
-    let row : Row Pin = (pending.given + 1, record { key = key_of peer id; item = item }) in
-    let shelves = opened_keeps s pending.rows row keeps pin_is in
-    let counts : all_pins (pinned_of s) ≡ length (pending.rows ++ row ∷ []) = omega (arith, count, length_push pending.rows row) in
-    let kept : Keeps (pinned_of s) (pending.rows ++ row ∷ []) = record { shelves = shelves; count = counts } in
-    subst (λ (t : Shelf Rows). Keeps t after.rows) (sym made) (subst (λ (p : Pending (Item Pin)). Keeps (pinned_of s) p.rows) (sym opened) kept)
-
--- the topology that a pin of a request gives
-pub pinned_is : (s : Shelf Rows) (rows : List (Row Pin)) (number : ℕ) (item : Item Pin) (n m : ℕ) (topology : Rows) → Shelves s (current_of s) rows → option_map (λ (h : Held (Item Pin)). h.item) (lookup (nat_eq number) rows) ≡ Some item →
-    n ≡ item.pin.number → m ≡ item.pin.number → topology_of s m ≡ Some topology → pin_with n topology ≡ item.pin
-pinned_is s rows number item n m topology keeps found is own shown =
-    let there = found_item rows number item found in
-    let kept : topology_of s there.0.item.pin.number ≡ Some there.0.item.pin.topology = keeps.pinned (number, there.0) (found_in number rows there.0 there.1) in
-    let at : topology_of s m ≡ Some item.pin.topology = ap (topology_of s) own ∙ subst (λ (i : Item Pin). topology_of s i.pin.number ≡ Some i.pin.topology) there.2 kept in
-    let both : Some topology ≡ Some item.pin.topology = sym shown ∙ at in
-    let same : topology ≡ item.pin.topology = cc in
-    ap (λ (k : ℕ). pin_with k topology) is ∙ ap (pin_with item.pin.number) same

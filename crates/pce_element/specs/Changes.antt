@@ -5,10 +5,8 @@ use Rattle.request_table.specs.Pending.{Pending, number_of, item_of, is_full, op
 use Rattle.request_table.specs.Lends.{written_of}
 use Rattle.path_keys.specs.Keys.{Keys, live_most, live_at, issue_of}
 use Rattle.vspt_tree.specs.declared.branch.Branch.{Branch}
-use Rattle.border_costs.specs.Solutions.{Solution}
 use Rattle.plant_model.specs.Element as element
 use Rattle.plant_model.specs.Element.{Element, Item, Way, Taken, at_stage, ended, is_ready, with_last}
-use Rattle.plant_model.specs.Plant.{Pin, Segment}
 use Rattle.pce_element.specs.declared.accepted.Stage.{Stage}
 use Rattle.pce_element.specs.declared.accepted.Stage.TheVariants.{Waits, Ready}
 use Rattle.pce_element.specs.declared.change.Change.{Change}
@@ -22,70 +20,70 @@ abbrev pub ways_after : Stage → List Way → List Way
 ways_after (Waits on id) ways = with_last on id ways
 ways_after (Ready branches) ways = ways
 
-abbrev pub readied_item : ℕ → List Branch → Pending (Item Pin) → Option (Item Pin) → Pending (Item Pin)
+abbrev pub readied_item : {P : Type 0} → ℕ → List Branch → Pending (Item P) → Option (Item P) → Pending (Item P)
 readied_item number branches pending None = pending
 readied_item number branches pending (Some item) = written_of pending number (at_stage (element.Ready branches) item)
 
-abbrev pub readied : ℕ → List Branch → Pending (Item Pin) → Pending (Item Pin)
+abbrev pub readied : {P : Type 0} → ℕ → List Branch → Pending (Item P) → Pending (Item P)
 readied number branches pending = readied_item number branches pending (item_of pending number)
 
-abbrev pub all_closed : List ℕ → Pending (Item Pin) → Pending (Item Pin)
+abbrev pub all_closed : {P : Type 0} → List ℕ → Pending (Item P) → Pending (Item P)
 all_closed [] pending = pending
 all_closed (n ∷ ns) pending = all_closed ns (closed_of pending n)
 
-abbrev pub all_ended : List ℕ → Element Pin Segment → Element Pin Segment
+abbrev pub all_ended : {P : Type 0} {S : Type 0} → List ℕ → Element P S → Element P S
 all_ended ns k = record k { pending = all_closed ns k.pending }
 
-abbrev pub all_issued : ℕ → List Segment → Keys Segment → Keys Segment
+abbrev pub all_issued : {S : Type 0} → ℕ → List S → Keys S → Keys S
 all_issued now [] keys = keys
 all_issued now (s ∷ ss) keys = all_issued now ss (issue_of keys now s)
 
--- the element after a change, where this topology is the current one
-abbrev pub changed : Pin → Change → Element Pin Segment → Element Pin Segment
+-- the element after a change, where this pin is the current one
+abbrev pub changed : {P : Type 0} {S : Type 0} {D : Type 0} → P → Change D S → Element P S → Element P S
 changed current Nothing k = k
 changed current (Opens peer id opening) k = record k { pending = opened_of k.pending peer id (new_item opening current); ways = ways_after opening.stage k.ways }
 changed current (Readies number branches) k = record k { pending = readied number branches k.pending }
 changed current (Ends numbers) k = all_ended numbers k
-changed current (Solves solved now segments) k = ended solved.ask.number (record k { keys = all_issued now.0 segments k.keys })
+changed current (Solves number solved now segments) k = ended number (record k { keys = all_issued now.0 segments k.keys })
 
--- the solved job that a change holds
-abbrev pub solved_in : Change → Option Solution
+-- what was solved, in a change that answers it
+abbrev pub solved_in : {S : Type 0} {D : Type 0} → Change D S → Option D
 solved_in Nothing = None
 solved_in (Opens peer id opening) = None
 solved_in (Readies number branches) = None
 solved_in (Ends numbers) = None
-solved_in (Solves solved now segments) = Some solved
+solved_in (Solves number solved now segments) = Some solved
 
-pub record MayIssue (keys : Keys Segment) (now : ℕ) (segments : List Segment) : Type 0 where
+pub record MayIssue {S : Type 0} (keys : Keys S) (now : ℕ) (segments : List S) : Type 0 where
   pub clock : keys.clock ≤ now
   pub free : length (live_at keys now) + length segments ≤ live_most
 
-pub record MayOpen (s : Seen) (peer : Peer) (id : ℕ) : Type 0 where
+pub record MayOpen {P : Type 0} {S : Type 0} (s : Seen P S) (peer : Peer) (id : ℕ) : Type 0 where
   pub new : number_of s.losing.element.pending peer id ≡ None
   pub fits : is_full s.losing.element.pending ≡ false
 
 -- the request of a number can't be solved yet
-abbrev pub IsWaiting : Seen → ℕ → Type 0
-IsWaiting s number = (i : Item Pin) → item_of s.losing.element.pending number ≡ Some i → is_ready i.stage ≡ false
+abbrev pub IsWaiting : {P : Type 0} {S : Type 0} → Seen P S → ℕ → Type 0
+IsWaiting {P} s number = (i : Item P) → item_of s.losing.element.pending number ≡ Some i → is_ready i.stage ≡ false
 
 -- the change is one of this element
-abbrev pub Fits : Seen → Change → Type 0
+abbrev pub Fits : {P : Type 0} {S : Type 0} {D : Type 0} → Seen P S → Change D S → Type 0
 Fits s Nothing = Unit {0}
 Fits s (Opens peer id opening) = MayOpen s peer id
 Fits s (Readies number branches) = IsWaiting s number
 Fits s (Ends numbers) = Unit {0}
-Fits s (Solves solved now segments) = MayIssue s.losing.element.keys now.0 segments
+Fits s (Solves number solved now segments) = MayIssue s.losing.element.keys now.0 segments
 
 -- there is memory for it
-abbrev pub HasRoom : Seen → Change → Type 0
+abbrev pub HasRoom : {P : Type 0} {S : Type 0} {D : Type 0} → Seen P S → Change D S → Type 0
 HasRoom s Nothing = Unit {0}
 HasRoom s (Opens peer id opening) = 1 ≤ s.room.requests
 HasRoom s (Readies number branches) = Unit {0}
 HasRoom s (Ends numbers) = Unit {0}
-HasRoom s (Solves solved now segments) = length segments ≤ s.room.keys
+HasRoom s (Solves number solved now segments) = length segments ≤ s.room.keys
 
 -- A draft is one of this element, and makes this of it.
-pub record IsDraft (s : Seen) (taken : Taken Pin Segment) (d : Draft) : Type 0 where
+pub record IsDraft {P : Type 0} {S : Type 0} {D : Type 0} (s : Seen P S) (taken : Taken P S) (d : Draft D S) : Type 0 where
   pub fits : Fits s d.change
   pub unsolved : solved_in d.change ≡ None
   pub element : changed s.current d.change s.losing.element ≡ taken.element

@@ -2,21 +2,20 @@
 use Rattle.std.specs.Prelude.{ℕ, ◌++◌}
 use Rattle.dom_base.specs.declared.names.Peer.{Peer}
 use Rattle.plant_model.specs.Element.{Element, Taken, waiting}
-use Rattle.plant_model.specs.Plant.{Pin, Segment}
 use Rattle.plant_model.specs.Taking.{take_failure}
 use Rattle.pce_element.specs.Changes.{all_ended}
 use Rattle.pce_element.specs.declared.telling.Ending.{Ending}
 
 -- the element after those that have ended, and what was sent
-abbrev pub reached : Element Pin Segment → Ending → Taken Pin Segment
+abbrev pub reached : {P : Type 0} {S : Type 0} → Element P S → Ending → Taken P S
 reached k e = record { element = all_ended e.numbers k; outputs = e.outputs }
 
 -- with one more step
-abbrev pub after : Taken Pin Segment → (Element Pin Segment → Taken Pin Segment) → Taken Pin Segment
+abbrev pub after : {P : Type 0} {S : Type 0} → Taken P S → (Element P S → Taken P S) → Taken P S
 after t step =
     let next = step t.element in
     record { element = next.element; outputs = t.outputs ++ next.outputs }
 
 -- an error about the request that waits for the answer to an id
-abbrev pub failing : Peer → ℕ × ℕ → ℕ × ℕ → Element Pin Segment → Taken Pin Segment
+abbrev pub failing : {P : Type 0} {S : Type 0} → Peer → ℕ × ℕ → ℕ × ℕ → Element P S → Taken P S
 failing p error rp k = take_failure error k (waiting p rp.1 k.pending.rows)

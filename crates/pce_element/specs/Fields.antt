@@ -1,23 +1,30 @@
--- What an element is, by its fields.
-use Rattle.std.specs.Prelude.{◌+◌, ◌-◌, ◌≤◌, min, length}
+-- What an element is, by its parts.
+use Rattle.std.specs.Prelude.{◌+◌, ◌-◌, ◌≤◌, min, length, List}
+use Rattle.std.specs.Global.{Global}
 use Rattle.std.specs.VecDeque.{deque_capacity, deque_len}
-use Rattle.plant_model.specs.Element.{Element, Place}
-use Rattle.plant_model.specs.Plant.{Pin, Segment}
+use Rattle.std.specs.declared.collections.VecDeque.{VecDeque}
+use Rattle.dom_base.specs.Room.{Room}
+use Rattle.path_keys.specs.Keys.{Keys}
+use Rattle.plant_model.specs.declared.output.Lost.{Lost}
+use Rattle.plant_model.specs.Element.{Element, Place, Way}
+use Rattle.pce_element.specs.Pinned.{Pinned}
 use Rattle.pce_element.specs.Seen.{Seen, Spare}
-use Rattle.pce_element.specs.declared.element.Element.TheInside.{Inside}
 
-abbrev pub place_of : Inside → Place
-place_of a = record { own = a.own; id = a.id; parent = a.parent; deny = a.deny }
-
-abbrev pub element_of : Inside → Element Pin Segment
-element_of a = record { pending = a.requests.pending; keys = a.keys.kept; ways = a.ways }
+abbrev pub element_of : {P : Type 0} {S : Type 0} → Pinned P → Keys S → List Way → Element P S
+element_of requests keys ways = record { pending = requests.pending; keys = keys; ways = ways }
 
 -- a request that is pending may be lost, and there is memory for that
-abbrev pub room_of : Inside → Spare
-room_of a = record { requests = min a.requests.spare (deque_capacity a.lost - (deque_len a.lost + length a.requests.pending.rows)); keys = a.keys.spare }
+abbrev pub room_of : {P : Type 0} {S : Type 0} → Pinned P → Room (Keys S) → VecDeque Lost Global → Spare
+room_of requests keys lost =
+    record { requests = min requests.spare (deque_capacity lost - (deque_len lost + length requests.pending.rows)); keys = keys.spare }
 
-abbrev pub seen_of : Inside → Seen
-seen_of a = record { place = place_of a; current = a.requests.current; losing = record { element = element_of a; lost = a.lost.items }; room = room_of a }
+abbrev pub seen_of : {P : Type 0} {S : Type 0} → Place → Pinned P → Room (Keys S) → List Way → VecDeque Lost Global → Seen P S
+seen_of place requests keys ways lost = record {
+  place = place;
+  current = requests.current;
+  losing = record { element = element_of requests keys.kept ways; lost = lost.items };
+  room = room_of requests keys lost;
+}
 
-abbrev pub HoldsLost : Inside → Type 0
-HoldsLost a = deque_len a.lost + length a.requests.pending.rows ≤ deque_capacity a.lost
+abbrev pub HoldsLost : {P : Type 0} → Pinned P → VecDeque Lost Global → Type 0
+HoldsLost requests lost = deque_len lost + length requests.pending.rows ≤ deque_capacity lost

@@ -3,7 +3,6 @@ use Rattle.std.specs.Prelude.{List, Option, Some, None}
 use Rattle.vspt_tree.specs.declared.branch.Branch.{Branch}
 use Rattle.plant_model.specs.Element as element
 use Rattle.plant_model.specs.Element.{Item}
-use Rattle.plant_model.specs.Plant.{Pin}
 use Rattle.pce_element.specs.declared.accepted.Stage.{Stage}
 use Rattle.pce_element.specs.declared.accepted.Stage.TheVariants.{Waits, Ready}
 use Rattle.pce_element.specs.declared.accepted.Opening.{Opening}
@@ -13,7 +12,7 @@ stage_of (Waits on id) = element.Waits on id
 stage_of (Ready branches) = element.Ready branches
 
 -- a request at its begin, with its pin
-abbrev pub new_item : Opening → Pin → Item Pin
+abbrev pub new_item : {P : Type 0} → Opening → P → Item P
 new_item o pin = record { class = o.class; flags = o.flags; wanted = o.wanted; sequence = o.sequence; pin = pin; stage = stage_of o.stage }
 
 -- the branches with which a request is ready

@@ -11,7 +11,7 @@ use Rattle.border_costs.specs.declared.job.Job.{Job}
 use Rattle.plant_text.specs.Names.{same_as}
 use Rattle.plant_model.specs.Element.{Item, Stage, Waits, Ready}
 use Rattle.plant_model.specs.Jobs.{ask_of}
-use Rattle.plant_model.specs.Plant.{Pin}
+use Rattle.plant_model.specs.Plant.{Pin, Segment}
 use Rattle.pce_element.specs.Seen.{Seen}
 
 -- what is asked, and the topology that it is computed in
@@ -36,5 +36,5 @@ work_for own number None = None
 work_for own number (Some i) = work_at own number i i.stage
 
 -- the job of the request of a number, where it can be solved
-abbrev pub job_at : Seen → ℕ → Option Work
+abbrev pub job_at : Seen Pin Segment → ℕ → Option Work
 job_at s number = work_for s.place.own number (item_of s.losing.element.pending number)

@@ -1,20 +1,19 @@
 -- for readers
+pub mod Worlds
 pub mod Seen
-pub mod Messages
 pub mod Jobs
 pub mod Lasting
+pub mod Blind
 -- inner
+pub mod Topologies
 pub mod Items
-pub mod ItemFields
-pub mod Ways
 pub mod Pinned
-pub mod PinnedFields
 pub mod Rows
 pub mod Leaving
 pub mod Fields
 pub mod Changes
 pub mod Plans
-pub mod PlanFields
-pub mod Branches
 pub mod Endings
+pub mod Answering
 pub mod Committing
+pub mod Joining

@@ -6,7 +6,7 @@ use Rattle.plant_model.specs.Element.{Item}
 use Rattle.plant_model.specs.Plant.{Pin}
 use Rattle.pce_element.specs.declared.pinned.Row.{Row}
 
-abbrev pub row_of : Row → element.Row Pin
+abbrev pub row_of : {P : Type 0} → Row P → element.Row P
 row_of r = (r.number, record { key = r.key; item = r.item.now })
 
 -- what a request pins

@@ -2,42 +2,43 @@
 use Rattle.std.specs.Prelude.{◌≡◌, ℕ, List, [], map}
 use Rattle.dom_base.specs.declared.names.As.{As}
 use Rattle.plant_model.specs.Element.{Element, Place, Losing}
-use Rattle.plant_model.specs.Plant.{Pin, Segment, first_pin}
-use Rattle.pce_element.specs.Ways.{way_of}
+use Rattle.member_parts.specs.Ways.{way_of}
 
 -- how many more requests and keys there is memory for
 pub record Spare : Type 0 where
   pub requests : ℕ
   pub keys : ℕ
 
--- its settings, its newest topology, what it holds, and the lost requests that it has yet to hand out
-pub record Seen : Type 0 where
+-- Its settings, what a request would pin, what it holds, and the lost requests that it has yet to hand out. P is what a pin
+-- is, and S what a key stands for.
+pub record Seen (P : Type 0) (S : Type 0) : Type 0 where
   pub place : Place
-  pub current : Pin
-  pub losing : Losing Pin Segment
+  pub current : P
+  pub losing : Losing P S
   pub room : Spare
 
-abbrev pub with_losing : Losing Pin Segment → Seen → Seen
+abbrev pub with_losing : {P : Type 0} {S : Type 0} → Losing P S → Seen P S → Seen P S
 with_losing l s = record s { losing = l }
 
-abbrev pub with_element : Element Pin Segment → Seen → Seen
+abbrev pub with_element : {P : Type 0} {S : Type 0} → Element P S → Seen P S → Seen P S
 with_element k s = record s { losing = record s.losing { element = k } }
 
-abbrev pub with_current : Pin → Seen → Seen
+abbrev pub with_current : {P : Type 0} {S : Type 0} → P → Seen P S → Seen P S
 with_current pin s = record s { current = pin }
 
 -- the same, whatever memory there is
-abbrev pub SameButRoom : Seen → Seen → Type 0
+abbrev pub SameButRoom : {P : Type 0} {S : Type 0} → Seen P S → Seen P S → Type 0
 SameButRoom a b = b ≡ record a { room = b.room }
 
--- an element without requests, keys and topology, whose keys will live so long
-abbrev pub new_element : ℕ → List As → Element Pin Segment
+-- an element without requests and keys, whose keys will live so long
+abbrev pub new_element : {P : Type 0} {S : Type 0} → ℕ → List As → Element P S
 new_element life links = record {
   pending = record { limit = 1024; given = 0; rows = [] };
   keys = record { life = life; next = 1; clock = 0; issued = [] };
   ways = map way_of links;
 }
 
-abbrev pub IsNew : Place → ℕ → List As → Seen → Type 0
-IsNew place life links s =
-    s ≡ record { place = place; current = first_pin place.own; losing = record { element = new_element life links; lost = [] }; room = s.room }
+-- The first pin of a domain is that of a world that has just begun.
+abbrev pub IsNew : {P : Type 0} {S : Type 0} → (As → P) → Place → ℕ → List As → Seen P S → Type 0
+IsNew first place life links s =
+    s ≡ record { place = place; current = first place.own; losing = record { element = new_element life links; lost = [] }; room = s.room }

@@ -7,11 +7,9 @@ ghost use Rattle.pce_element.specs.Items.{branches_at, new_item};
 
 use disclosure::Class;
 use dom_base::{As, List, Peer};
+use member_parts::is_same_peer;
 use pcep_messages::Wanted;
 use std::marker::Model;
-use std::snapshot::Snapshot;
-use te_generations::Pin;
-use te_links::Topology;
 use vspt_tree::Branch;
 
 /// A request waits for the answer to the id that was sent to a peer, or it is ready with the branches
@@ -32,47 +30,41 @@ pub(crate) struct Opening {
     pub stage: Stage,
 }
 
-/// An accepted request, with the topology that it pins.
+/// An accepted request, with what it pins.
 #[derive(Drop)]
-pub(crate) struct Accepted {
+pub(crate) struct Accepted<P> {
     opening: Opening,
-    pin: Pin,
-    topology: Snapshot<Topology>,
+    pin: P,
 }
 
-impl Model for Accepted {
+impl<P> Model for Accepted<P> {
     ghost use Rattle.plant_model.specs.Element.{Item};
-    ghost use Rattle.plant_model.specs.Plant.{Pin};
 
-    ghost Value = { Item Pin };
+    ghost Value = { Item P };
 
-    ghost use Rattle.pce_element.specs.ItemFields.{item_of};
+    ghost use Rattle.pce_element.specs.Items.{new_item};
 
-    ghost view = { item_of };
+    ghost view = { λ a. new_item a.opening a.pin };
 }
 
-impl Accepted {
-    /// A request that pins a topology.
-    pub fn new(opening: Opening, pin: Pin, topology: &Topology) -> Accepted
-        ensures { result ≡ new_item opening (record { number = pin; topology = topology.now }) }
+impl<P: Drop> Accepted<P> {
+    /// A request with its pin.
+    pub fn new(opening: Opening, pin: P) -> Accepted<P>
+        ensures { result ≡ new_item opening pin }
     {
-        Accepted {
-            opening,
-            pin,
-            topology: Snapshot::of(topology),
-        }
+        Accepted { opening, pin }
     }
 
-    /// What keeps its topology.
-    pub fn pin(&self) -> &Pin
-        ensures { result.now ≡ self.now.pin.number }
+    /// What it pins.
+    pub fn pin(&self) -> &P
+        ensures { result.now ≡ self.now.pin }
     {
         &self.pin
     }
 
     /// Gives its pin back.
-    pub fn into_pin(self) -> Pin
-        ensures { result ≡ self.pin.number }
+    pub fn into_pin(self) -> P
+        ensures { result ≡ self.pin }
     {
         self.pin
     }
@@ -146,16 +138,5 @@ impl Accepted {
         ensures { self.new ≡ at_stage (Ready branches) self.old }
     {
         self.opening.stage = Stage::Ready(branches);
-    }
-}
-
-/// Whether two peers are one.
-pub(crate) fn is_same_peer(one: Peer, other: Peer) -> bool
-    ensures { result ≡ same_peer one other }
-{
-    match (one, other) {
-        (Peer::Outside(a), Peer::Outside(b)) => a == b,
-        (Peer::Inner(a), Peer::Inner(b)) => a.0 == b.0,
-        _ => false,
     }
 }

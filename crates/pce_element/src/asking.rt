@@ -1,6 +1,5 @@
 //! What an element does with a request.
 ghost use Rattle.std.specs.Prelude.{◌≡◌, ◌≤◌, drop, false, length, IfOk, None};
-ghost use Rattle.disclosure.specs.Shown.{open_of};
 ghost use Rattle.request_table.specs.Pending.{is_full, number_of};
 ghost use Rattle.plant_model.specs.Element.{way_to};
 ghost use Rattle.plant_model.specs.RealWire.{wire};
@@ -8,15 +7,15 @@ ghost use Rattle.plant_model.specs.Taking.{denied, expansion, goes_up, send_on, 
 ghost use Rattle.pce_element.specs.Changes.{IsDraft};
 
 use crate::accepted::{Opening, Stage};
-use crate::change::{Change, Draft};
+use crate::change::{Change, Draft, DraftIn};
 use crate::element::Element;
 use crate::looks::is_same_addr;
-use crate::messages::{
-    busy, error_message, no_key, one, reply_message, request_message, unavailable,
-};
-use crate::ways::Way;
-use disclosure::{Class, may_expand, open_hops};
+use crate::world::World;
+use disclosure::{Class, may_expand};
 use dom_base::{Addr, As, List, NoMemory, Peer, Tick};
+use member_parts::{
+    Way, busy, error_message, no_key, one, reply_message, request_message, unavailable,
+};
 use pcep_messages::{Answer, Asked, Path, Refusal, Request, Wanted, Wish, request_of};
 use plant_model::Output;
 
@@ -39,9 +38,9 @@ fn goes_up(parent: bool, class: Class, sequence: &[As]) -> bool
     }
 }
 
-impl Element {
+impl<W: World> Element<W> {
     // The chain is not available.
-    fn denied(&self, asker: Asker) -> Result<Draft, NoMemory>
+    fn denied(&self, asker: Asker) -> Result<DraftIn<W>, NoMemory>
         ensures { IfOk result (IsDraft self.now (denied asker.peer asker.flags asker.id self.now.losing.element)) }
     {
         let message = reply_message(self.alloc, asker.flags, asker.id, unavailable())?;
@@ -55,7 +54,7 @@ impl Element {
         wanted: Wanted,
         sequence: List<As>,
         way: &Way,
-    ) -> Result<Draft, NoMemory>
+    ) -> Result<DraftIn<W>, NoMemory>
         requires new { number_of self.now.losing.element.pending asker.peer asker.id ≡ None }
         requires fits { is_full self.now.losing.element.pending ≡ false }
         ensures { IfOk result (IsDraft self.now (sent_on self.now.current asker.peer asker.class asker.flags asker.id wanted sequence (drop 1 sequence) self.now.losing.element way.now)) }
@@ -92,7 +91,7 @@ impl Element {
         sequence: List<As>,
         refused: bool,
         to: Peer,
-    ) -> Result<Draft, NoMemory>
+    ) -> Result<DraftIn<W>, NoMemory>
         requires new { number_of self.now.losing.element.pending asker.peer asker.id ≡ None }
         requires fits { is_full self.now.losing.element.pending ≡ false }
         ensures { IfOk result (IsDraft self.now (send_on self.now.current asker.peer asker.class asker.flags asker.id wanted sequence (drop 1 sequence) refused self.now.losing.element (way_to to self.now.losing.element.ways))) }
@@ -108,7 +107,7 @@ impl Element {
     }
 
     // The job of a request whose sequence ends here is ready at once.
-    fn own_job(&self, asker: Asker, wanted: Wanted, sequence: List<As>) -> Draft
+    fn own_job(&self, asker: Asker, wanted: Wanted, sequence: List<As>) -> DraftIn<W>
         requires new { number_of self.now.losing.element.pending asker.peer asker.id ≡ None }
         requires fits { is_full self.now.losing.element.pending ≡ false }
         requires own { length sequence ≡ 1 }
@@ -137,7 +136,7 @@ impl Element {
         asker: Asker,
         wanted: Wanted,
         sequence: List<As>,
-    ) -> Result<Draft, NoMemory>
+    ) -> Result<DraftIn<W>, NoMemory>
         requires new { number_of self.now.losing.element.pending asker.peer asker.id ≡ None }
         requires fits { is_full self.now.losing.element.pending ≡ false }
         requires begins { 1 ≤ length sequence }
@@ -164,7 +163,7 @@ impl Element {
         }
     }
 
-    fn take_path(&self, asker: Asker, wanted: Wanted) -> Result<Draft, NoMemory>
+    fn take_path(&self, asker: Asker, wanted: Wanted) -> Result<DraftIn<W>, NoMemory>
         requires new { number_of self.now.losing.element.pending asker.peer asker.id ≡ None }
         requires fits { is_full self.now.losing.element.pending ≡ false }
         ensures { IfOk result (IsDraft self.now (take_path self.now.place self.now.current asker.peer asker.class asker.flags asker.id wanted self.now.losing.element)) }
@@ -179,7 +178,7 @@ impl Element {
 
     // What a key stands for is shown, or one and the same refusal (RFC 5520, section 3.2).
     fn expansion(&self, class: Class, key: u16, pce: Addr, now: Tick) -> Result<Answer, NoMemory>
-        ensures { IfOk result (λ answer. answer ≡ expansion open_of self.now.place class now.0 key pce self.now.losing.element) }
+        ensures { IfOk result (λ answer. answer ≡ expansion W.show self.now.place class now.0 key pce self.now.losing.element) }
     {
         if !is_same_addr(pce, self.id()) || !may_expand(class) {
             return Ok(no_key());
@@ -188,15 +187,15 @@ impl Element {
             return Ok(no_key());
         };
         let path = Path {
-            hops: open_hops(self.alloc, segment.as_slice())?,
+            hops: W::hops(self.alloc, segment)?,
             metric: None,
         };
         Ok(Answer::Paths(one(self.alloc, path)?))
     }
 
-    fn take_wish(&self, asker: Asker, wish: Wish, now: Tick) -> Result<Draft, NoMemory>
+    fn take_wish(&self, asker: Asker, wish: Wish, now: Tick) -> Result<DraftIn<W>, NoMemory>
         requires { number_of self.now.losing.element.pending asker.peer asker.id ≡ None }
-        ensures { IfOk result (IsDraft self.now (take_wish open_of self.now.place self.now.current asker.peer asker.class now.0 asker.flags asker.id self.now.losing.element wish)) }
+        ensures { IfOk result (IsDraft self.now (take_wish W.show self.now.place self.now.current asker.peer asker.class now.0 asker.flags asker.id self.now.losing.element wish)) }
     {
         match wish {
             Wish::Path(wanted) => {
@@ -221,8 +220,8 @@ impl Element {
         class: Class,
         request: Request,
         now: Tick,
-    ) -> Result<Draft, NoMemory>
-        ensures { IfOk result (IsDraft self.now (take_new open_of self.now.place self.now.current peer class now.0 request self.now.losing.element (number_of self.now.losing.element.pending peer request.id))) }
+    ) -> Result<DraftIn<W>, NoMemory>
+        ensures { IfOk result (IsDraft self.now (take_new W.show self.now.place self.now.current peer class now.0 request self.now.losing.element (number_of self.now.losing.element.pending peer request.id))) }
     {
         let asker = Asker {
             peer,
@@ -243,13 +242,13 @@ impl Element {
         class: Class,
         asked: &Asked,
         now: Tick,
-    ) -> Result<Draft, NoMemory>
-        ensures { IfOk result (IsDraft self.now (take_asked wire open_of self.now.place self.now.current peer class now.0 asked.now self.now.losing.element)) }
+    ) -> Result<DraftIn<W>, NoMemory>
+        ensures { IfOk result (IsDraft self.now (take_asked wire W.show self.now.place self.now.current peer class now.0 asked.now self.now.losing.element)) }
     {
         match request_of(self.alloc, asked, self.own()) {
             Ok(request) => self.take_new(peer, class, request, now),
             Err(Refusal::Wire { rp, kind, value }) => {
-                let message = error_message(self.alloc, rp, kind, value)?;
+                let message = error_message(self.alloc, rp, (kind, value))?;
                 self.only(peer, message)
             }
             Err(Refusal::NoMemory) => Err(NoMemory),

@@ -1,13 +1,13 @@
 //! What is to change in an element, and what is sent with it.
 use crate::accepted::Opening;
-use border_costs::Solved;
-use dom_base::{Addr, List, Peer, Tick};
+use crate::world::World;
+use dom_base::{List, Peer, Tick};
 use plant_model::Outputs;
 use vspt_tree::Branch;
 
-/// What is to change.
+/// What is to change, with what was solved and what keys are to stand for.
 #[derive(Drop)]
-pub(crate) enum Change {
+pub(crate) enum Change<D, S> {
     Nothing,
     /// A request is accepted, of a peer under an id.
     Opens {
@@ -24,15 +24,19 @@ pub(crate) enum Change {
     Ends(List<u64>),
     /// A solved request ends, and these segments get keys.
     Solves {
-        solved: Solved,
+        number: u64,
+        solved: D,
         now: Tick,
-        segments: List<List<Addr>>,
+        segments: List<S>,
     },
 }
 
 /// A change for which no memory was taken yet, and its messages.
 #[derive(Drop)]
-pub(crate) struct Draft {
-    pub change: Change,
+pub(crate) struct Draft<D, S> {
+    pub change: Change<D, S>,
     pub outputs: Outputs,
 }
+
+/// A draft in a world.
+pub(crate) type DraftIn<W> = Draft<<W as World>::Solved, <W as World>::Segment>;

@@ -5,18 +5,19 @@ ghost use Rattle.plant_model.specs.Taking.{answered, staged};
 ghost use Rattle.pce_element.specs.Changes.{IsDraft};
 ghost use Rattle.pce_element.specs.Rows.{row_of};
 
-use crate::change::{Change, Draft};
+use crate::change::{Change, Draft, DraftIn};
 use crate::element::Element;
-use crate::messages::one;
 use crate::pinned::Row;
+use crate::world::World;
 use dom_base::{List, NoMemory, Peer};
+use member_parts::one;
 use pcep_messages::Message;
 use plant_model::Output;
 use vspt_tree::Branch;
 
-impl Element {
+impl<W: World> Element<W> {
     /// Nothing changes, and nothing is sent.
-    pub(crate) fn silent(&self) -> Draft
+    pub(crate) fn silent(&self) -> DraftIn<W>
         ensures { IsDraft self.now (silent self.now.losing.element) result }
     {
         Draft {
@@ -26,7 +27,7 @@ impl Element {
     }
 
     /// A message is sent, and nothing changes.
-    pub(crate) fn only(&self, to: Peer, message: Message) -> Result<Draft, NoMemory>
+    pub(crate) fn only(&self, to: Peer, message: Message) -> Result<DraftIn<W>, NoMemory>
         ensures { IfOk result (IsDraft self.now (only to message self.now.losing.element)) }
     {
         Ok(Draft {
@@ -36,7 +37,11 @@ impl Element {
     }
 
     /// The asker of a request gets an answer, and the request ends.
-    pub(crate) fn answered(&self, row: &Row<'_>, message: Message) -> Result<Draft, NoMemory>
+    pub(crate) fn answered(
+        &self,
+        row: &Row<'_, W::Pin>,
+        message: Message,
+    ) -> Result<DraftIn<W>, NoMemory>
         ensures { IfOk result (IsDraft self.now (answered (row_of row.now) message self.now.losing.element)) }
     {
         let to = row.key.peer;
@@ -47,7 +52,7 @@ impl Element {
     }
 
     /// A request becomes ready.
-    pub(crate) fn readied(&self, row: &Row<'_>, branches: List<Branch>) -> Draft
+    pub(crate) fn readied(&self, row: &Row<'_, W::Pin>, branches: List<Branch>) -> DraftIn<W>
         requires has { Contains self.now.losing.element.pending.rows (row_of row.now) }
         requires waits { is_ready (row_of row.now).1.item.stage ≡ false }
         ensures { IsDraft self.now (silent (staged (row_of row.now) (Ready branches) self.now.losing.element)) result }

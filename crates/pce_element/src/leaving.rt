@@ -5,12 +5,17 @@ ghost use Rattle.plant_model.specs.Element.{kept, lost};
 ghost use Rattle.pce_element.specs.Leaving.{SameButSpare, with_rows};
 
 use crate::pinned::{Leaves, PinnedRequests};
+use crate::world::World;
 use dom_base::Peer;
 use plant_model::Lost;
 use std::collections::VecDeque;
 
 /// The requests of a peer are dropped, and those that wait on it are lost; takes no memory.
-pub(crate) fn leave_all(requests: &mut PinnedRequests, gone: &mut VecDeque<Lost>, peer: Peer)
+pub(crate) fn leave_all<W: World>(
+    requests: &mut PinnedRequests<W>,
+    gone: &mut VecDeque<Lost>,
+    peer: Peer,
+)
     requires { deque_len gone.old + length requests.old.pending.rows ≤ deque_capacity gone.old }
     ensures kept { SameButSpare (with_rows (kept peer requests.old.pending.rows) requests.old) requests.new }
     ensures lost { gone.new.items ≡ gone.old.items ++ lost peer requests.old.pending.rows }

@@ -8,9 +8,10 @@ ghost use Rattle.plant_model.specs.Names.{same_addr};
 
 use crate::element::Element;
 use crate::pinned::PinnedRequests;
-use crate::ways::Way;
+use crate::world::World;
 use disclosure::{Class, allows};
-use dom_base::{Addr, As, List, Peer, Tick};
+use dom_base::{Addr, As, Peer, Tick};
+use member_parts::Way;
 
 /// Whether two addresses are one.
 pub(crate) fn is_same_addr(one: Addr, other: Addr) -> bool
@@ -19,7 +20,7 @@ pub(crate) fn is_same_addr(one: Addr, other: Addr) -> bool
     one == other
 }
 
-impl Element {
+impl<W: World> Element<W> {
     /// The number of the domain whose element this is.
     pub fn own(&self) -> As
         ensures { result ≡ self.now.place.own }
@@ -54,7 +55,7 @@ impl Element {
         self.parent
     }
 
-    pub(crate) fn requests(&self) -> &PinnedRequests
+    pub(crate) fn requests(&self) -> &PinnedRequests<W>
         ensures pending { result.now.pending ≡ self.now.losing.element.pending }
         ensures current { result.now.current ≡ self.now.current }
     {
@@ -76,7 +77,7 @@ impl Element {
     }
 
     /// What a live key stands for.
-    pub(crate) fn segment(&self, now: Tick, key: u16) -> Option<&List<Addr>>
+    pub(crate) fn segment(&self, now: Tick, key: u16) -> Option<&W::Segment>
         ensures { option_copied result ≡ segment_of self.now.losing.element.keys now.0 key }
     {
         self.keys.expand(now, key)

@@ -4,24 +4,24 @@ ghost use Rattle.std.specs.Prelude.{false, None, IfOk};
 ghost use Rattle.path_keys.specs.Keys.{live_at, live_most};
 ghost use Rattle.request_table.specs.Pending.{is_full, number_of};
 ghost use Rattle.plant_model.specs.Element.{ended};
-ghost use Rattle.plant_model.specs.Plant.{Pin, Segment};
 ghost use Rattle.pce_element.specs.Changes.{HasRoom, Fits, MayIssue, MayOpen, all_ended, all_issued, changed, readied, solved_in, ways_after};
 ghost use Rattle.pce_element.specs.Items.{new_item};
-ghost use Rattle.pce_element.specs.Lasting.{JobsLast};
+ghost use Rattle.pce_element.specs.Lasting.{ReadyLast};
 ghost use Rattle.pce_element.specs.Seen.{SameButRoom, with_element};
 ghost use Rattle.request_table.specs.Pending.{opened_of};
 
 use crate::accepted::{Opening, Stage};
-use crate::change::{Change, Draft};
+use crate::change::{Change, DraftIn};
 use crate::element::Element;
 use crate::plan::Plan;
-use crate::ways::Ways;
-use dom_base::{Addr, List, NoMemory, Peer, Tick};
+use crate::world::World;
+use dom_base::{List, NoMemory, Peer, Tick};
+use member_parts::Ways;
 use path_keys::PathKeys;
 use std::collections::VecDeque;
 
 /// Keys for segments; takes no memory.
-fn issue_all(keys: &mut PathKeys<List<Addr>>, now: Tick, segments: List<List<Addr>>)
+fn issue_all<S: Drop>(keys: &mut PathKeys<S>, now: Tick, segments: List<S>)
     requires may { MayIssue keys.old.kept now.0 segments }
     requires room { length segments ≤ keys.old.spare }
     ensures { keys.new.kept ≡ all_issued now.0 segments keys.old.kept }
@@ -45,7 +45,7 @@ fn note_id(ways: &mut Ways, stage: &Stage)
     }
 }
 
-impl Element {
+impl<W: World> Element<W> {
     fn open(&mut self, peer: Peer, id: u32, opening: Opening)
         requires may { MayOpen self.old peer id }
         requires room { 1 ≤ self.old.room.requests }
@@ -56,7 +56,7 @@ impl Element {
     }
 
     // Makes a change for which there is room.
-    fn change(&mut self, change: Change)
+    fn change(&mut self, change: Change<W::Solved, W::Segment>)
         requires fits { Fits self.old change }
         requires room { HasRoom self.old change }
         ensures { SameButRoom (with_element (changed self.old.current change self.old.losing.element) self.old) self.new }
@@ -67,21 +67,22 @@ impl Element {
             Change::Readies { number, branches } => self.requests.make_ready(number, branches),
             Change::Ends(numbers) => self.requests.close_all(numbers.as_slice()),
             Change::Solves {
-                solved,
+                number,
+                solved: _solved,
                 now,
                 segments,
             } => {
                 issue_all(&mut self.keys, now, segments);
-                self.requests.close(solved.number());
+                self.requests.close(number);
             }
         }
     }
 
     /// Makes a planned change; takes no memory.
-    pub fn make(&mut self, plan: Plan)
+    pub fn make(&mut self, plan: Plan<W>)
         requires { plan.from ≡ self.old }
         ensures made { SameButRoom (with_element plan.taken.element self.old) self.new }
-        ensures jobs { JobsLast self.old self.new }
+        ensures ready { ReadyLast self.old self.new }
     {
         let _count = self.requests().len();
         self.change(plan.into_change());
@@ -106,7 +107,7 @@ impl Element {
     }
 
     /// Makes the room that a draft needs.
-    pub(crate) fn plan(&mut self, draft: Draft) -> Result<Plan, NoMemory>
+    pub(crate) fn plan(&mut self, draft: DraftIn<W>) -> Result<Plan<W>, NoMemory>
         requires fits { Fits self.old draft.change }
         requires keys { solved_in draft.change ≡ None }
         ensures same { SameButRoom self.old self.new }

@@ -1,34 +1,29 @@
-//! The pending requests of an element, with the topologies that they pin.
-ghost use Rattle.std.specs.Prelude.{◌≡◌, ◌≤◌, ◌<◌, ◌+◌, ◌↔◌, [], suc, false, None, Some, Err, IsTrue, IfOk, IfSome, OnOk, OnErr, MatchOption, slice_get, filter, length};
-ghost use Rattle.std.specs.Option.{option_copied, option_map};
-ghost use Rattle.std.specs.Arc.{arc_value};
-ghost use Rattle.te_links.specs.Rows.{IsTopology, IsInOrder};
+//! The pending requests of an element, with what they pin.
+ghost use Rattle.std.specs.Prelude.{◌≡◌, ◌≤◌, ◌<◌, ◌+◌, [], false, None, Some, IfOk, OnOk, MatchOption, slice_get, filter, length};
+ghost use Rattle.std.specs.Option.{option_copied};
 ghost use Rattle.request_table.specs.Pending.{ArePending, number_of, item_of, key_at, is_full, opened_of, closed_of, same_peer};
 ghost use Rattle.plant_model.specs.Element.{ready_numbers};
-ghost use Rattle.plant_model.specs.Plant.{first_pin};
-ghost use Rattle.plant_model.specs.Plant as plant;
 ghost use Rattle.pce_element.specs.Items.{new_item};
-ghost use Rattle.pce_element.specs.Rows.{pin_in, pin_with, row_of};
+ghost use Rattle.pce_element.specs.Rows.{row_of};
 ghost use Rattle.pce_element.specs.Leaving.{LeavesAt, SameButSpare};
 ghost use Rattle.pce_element.specs.Changes.{all_closed, readied};
 
-use crate::accepted::{Accepted, Opening, is_same_peer};
+use crate::accepted::{Accepted, Opening};
+use crate::world::World;
 use dom_base::{As, List, NoMemory, Peer};
+use member_parts::is_same_peer;
 use plant_model::Lost;
 use request_table::{PENDING_MAX, RequestKey, Requests};
 use std::alloc::Global;
 use std::marker::Model;
-use std::sync::Arc;
-use te_generations::{Generations, LoadError};
-use te_links::Topology;
 use vspt_tree::Branch;
 
 /// A pending request, with its number.
-#[derive(Clone, Copy)]
-pub(crate) struct Row<'a> {
+#[derive(Drop)]
+pub(crate) struct Row<'a, P> {
     pub number: u64,
     pub key: RequestKey,
-    pub item: &'a Accepted,
+    pub item: &'a Accepted<P>,
 }
 
 /// What becomes of a request when a session goes down.
@@ -39,57 +34,36 @@ pub(crate) enum Leaves {
     Loses(Lost),
 }
 
-/// Pending requests, each of which pins the topology that was current when it was accepted.
+/// Pending requests, each of which pins what was current when it was accepted.
 #[derive(Drop)]
-pub(crate) struct PinnedRequests {
-    generations: Generations,
-    requests: Requests<Accepted>,
+pub(crate) struct PinnedRequests<W: World> {
+    pub(crate) world: W,
+    pub(crate) requests: Requests<Accepted<W::Pin>>,
     /// The number of the last request that was accepted.
-    last: u64,
+    pub(crate) last: u64,
 }
 
-impl Model for PinnedRequests {
-    ghost use Rattle.pce_element.specs.Pinned.{Pinned};
+impl<W: World> Model for PinnedRequests<W> {
+    ghost use Rattle.pce_element.specs.Pinned.{HoldsPins, Pinned};
 
-    ghost Value = { Pinned };
+    ghost Value = { Pinned W.Pin };
 
-    ghost use Rattle.pce_element.specs.PinnedFields.{pinned_of, HoldsPins};
+    ghost view = { λ a. record { current = W.current a.world; pending = a.requests.kept; spare = a.requests.spare } };
 
-    ghost view = { pinned_of };
-
-    ghost invariant = { HoldsPins };
+    ghost invariant = { λ a. HoldsPins (W.Keeps a.world) a.requests.kept a.last };
 }
 
-impl PinnedRequests {
-    /// No requests, and a topology without nodes.
-    pub fn new(alloc: Global, own: As) -> Result<PinnedRequests, NoMemory>
-        ensures current { IfOk result (λ p. p.current ≡ first_pin own) }
+impl<W: World> PinnedRequests<W> {
+    /// No requests, in a world that begins.
+    pub fn new(alloc: Global, own: As) -> Result<PinnedRequests<W>, NoMemory>
+        ensures current { IfOk result (λ p. p.current ≡ W.first own) }
         ensures pending { IfOk result (λ p. p.pending ≡ record { limit = 1024; given = 0; rows = [] }) }
     {
         Ok(PinnedRequests {
-            generations: Generations::new(alloc, own)?,
+            world: W::begin(alloc, own)?,
             requests: Requests::new(alloc)?,
             last: 0,
         })
-    }
-
-    /// Makes a topology the current one. Requests keep theirs.
-    pub fn load(&mut self, topology: Topology) -> Result<u64, LoadError>
-        ensures number { IfOk result (λ number. number ≡ suc self.old.current.number) }
-        ensures ok { OnOk result (self.new ≡ record self.old { current = record { number = suc self.old.current.number; topology = topology } }) }
-        ensures full { (result ≡ Err LoadError.Full) ↔ IsTrue (plant.is_full self.old.current.number self.old.pending.rows) }
-        ensures err { OnErr result (self.new ≡ self.old) }
-    {
-        let _last = self.generations.current();
-        self.generations.load(topology)
-    }
-
-    /// The number of the current topology, and the topology as a further owner of it.
-    pub fn latest(&self) -> Result<(u64, Arc<Topology>), NoMemory>
-        ensures { IfOk result (λ latest. pin_with latest.0 (arc_value latest.1) ≡ self.now.current) }
-    {
-        let topology = self.generations.latest()?;
-        Ok((self.generations.current(), topology))
     }
 
     /// Makes room for one more request.
@@ -102,7 +76,7 @@ impl PinnedRequests {
     }
 
     /// The request at a place.
-    pub fn row(&self, k: usize) -> Option<Row<'_>>
+    pub fn row(&self, k: usize) -> Option<Row<'_, W::Pin>>
         ensures row { MatchOption result (length self.now.pending.rows ≤ k) (λ row. slice_get self.now.pending.rows k ≡ Some (row_of row)) }
         ensures rules { ArePending self.now.pending }
     {
@@ -152,7 +126,7 @@ impl PinnedRequests {
     }
 
     /// What belongs to a request.
-    pub fn get(&self, number: u64) -> Option<&Accepted>
+    pub fn get(&self, number: u64) -> Option<&Accepted<W::Pin>>
         ensures { option_copied result ≡ item_of self.now.pending number }
     {
         self.requests.get(number)
@@ -165,19 +139,6 @@ impl PinnedRequests {
         self.requests.key(number)
     }
 
-    /// The topology that a request pins, with its number, as a further owner of it.
-    pub fn pinned(&self, number: u64) -> Result<Option<(u64, Arc<Topology>)>, NoMemory>
-        ensures { IfOk result (λ pin. option_map (λ p. pin_with p.0 (arc_value p.1)) pin ≡ option_map pin_in (item_of self.now.pending number)) }
-    {
-        let _last = self.generations.current();
-        let Some(item) = self.requests.get(number) else {
-            return Ok(None);
-        };
-        let generation = self.generations.generation(item.pin());
-        let topology = self.generations.of(item.pin())?;
-        Ok(Some((generation, topology)))
-    }
-
     /// Whether no further request can be accepted.
     pub fn is_full(&self) -> bool
         ensures { result ≡ is_full self.now.pending }
@@ -185,7 +146,7 @@ impl PinnedRequests {
         self.requests.len() >= PENDING_MAX || self.last == u64::MAX
     }
 
-    /// Accepts a request, which pins the current topology; takes no memory.
+    /// Accepts a request, with the current pin; takes no memory.
     pub fn open(&mut self, peer: Peer, id: u32, opening: Opening)
         requires room { 1 ≤ self.old.spare }
         requires new { number_of self.old.pending peer id ≡ None }
@@ -193,11 +154,9 @@ impl PinnedRequests {
         ensures opened { SameButSpare (record self.old { pending = opened_of self.old.pending peer id (new_item opening self.old.current) }) self.new }
         ensures one { length self.new.pending.rows ≡ length self.old.pending.rows + 1 }
     {
-        let _last = self.generations.current();
         let _count = self.requests.len();
-        let pin = self.generations.pin();
-        let topology = self.generations.topology(&pin);
-        let item = Accepted::new(opening, pin, topology);
+        let pin = self.world.pin();
+        let item = Accepted::new(opening, pin);
         match self.requests.open(peer, id, item) {
             Ok(number) => self.last = number,
             Err(_) => unreachable!(),
@@ -210,9 +169,8 @@ impl PinnedRequests {
         ensures fewer { length self.new.pending.rows ≤ length self.old.pending.rows }
         ensures room { self.old.spare ≤ self.new.spare }
     {
-        let _last = self.generations.current();
         if let Some(item) = self.requests.close(number) {
-            self.generations.release(item.into_pin());
+            self.world.release(item.into_pin());
         }
     }
 
@@ -280,7 +238,7 @@ impl PinnedRequests {
     }
 }
 
-fn set_ready(requests: &mut Requests<Accepted>, number: u64, branches: List<Branch>)
+fn set_ready<P: Drop>(requests: &mut Requests<Accepted<P>>, number: u64, branches: List<Branch>)
     ensures kept { requests.new.kept ≡ readied number branches requests.old.kept }
     ensures spare { requests.new.spare ≡ requests.old.spare }
 {

@@ -2,35 +2,33 @@
 ghost use Rattle.std.specs.Prelude.{◌≡◌};
 ghost use Rattle.pce_element.specs.Changes.{Fits, HasRoom, changed, solved_in};
 
-use crate::change::{Change, Draft};
+use crate::change::{Change, DraftIn};
 use crate::element::Element;
-use border_costs::Solved;
+use crate::world::World;
 use plant_model::Outputs;
 use std::marker::Model;
 use std::snapshot::Snapshot;
 
 /// A planned change of an element, for which it has the memory, and the messages that are sent with it.
 #[derive(Drop)]
-pub struct Plan {
-    from: Snapshot<Element>,
-    change: Change,
+pub struct Plan<W: World> {
+    from: Snapshot<Element<W>>,
+    change: Change<W::Solved, W::Segment>,
     outputs: Outputs,
 }
 
-impl Model for Plan {
-    ghost use Rattle.pce_element.specs.Plans.{Planned};
+impl<W: World> Model for Plan<W> {
+    ghost use Rattle.pce_element.specs.Plans.{Planned, planned_of, MayBeMade};
 
-    ghost Value = { Planned };
+    ghost Value = { Planned W.Pin W.Segment W.Solved };
 
-    ghost use Rattle.pce_element.specs.PlanFields.{planned_of, MayBeMade};
+    ghost view = { λ a. planned_of a.from.value a.change a.outputs };
 
-    ghost view = { planned_of };
-
-    ghost invariant = { MayBeMade };
+    ghost invariant = { λ a. MayBeMade a.from.value a.change };
 }
 
-impl Plan {
-    pub(crate) fn of(element: &Element, draft: Draft) -> Plan
+impl<W: World> Plan<W> {
+    pub(crate) fn of(element: &Element<W>, draft: DraftIn<W>) -> Plan<W>
         requires fits { Fits element.now draft.change }
         requires room { HasRoom element.now draft.change }
         ensures from { result.from ≡ element.now }
@@ -54,11 +52,12 @@ impl Plan {
 
     /// Gives the change up, and hands back what was solved, where it was planned for that; takes no
     /// memory.
-    pub fn back(self) -> Option<Solved>
+    pub fn back(self) -> Option<W::Solved>
         ensures { result ≡ self.solved }
     {
         match self.into_change() {
             Change::Solves {
+                number: _number,
                 solved,
                 now: _now,
                 segments: _segments,
@@ -68,7 +67,7 @@ impl Plan {
     }
 
     /// What is to change.
-    pub(crate) fn into_change(self) -> Change
+    pub(crate) fn into_change(self) -> Change<W::Solved, W::Segment>
         ensures element { changed self.from.current result self.from.losing.element ≡ self.taken.element }
         ensures fits { Fits self.from result }
         ensures room { HasRoom self.from result }

@@ -7,18 +7,19 @@ ghost use Rattle.std.specs.Prelude.{Some};
 ghost use Rattle.pce_element.specs.Changes.{IsDraft};
 ghost use Rattle.pce_element.specs.Rows.{row_of};
 
-use crate::accepted::is_same_peer;
 use crate::branches::branches_in;
-use crate::change::Draft;
+use crate::change::DraftIn;
 use crate::element::Element;
-use crate::messages::{error_message, reply_message, unavailable};
 use crate::pinned::Row;
+use crate::world::World;
 use dom_base::{As, List, NoMemory, Peer};
+use member_parts::{error_message, is_same_peer, reply_message, unavailable};
+use pcep_codes::errors;
 use pcep_messages::{Answer, Reply};
 
-impl Element {
+impl<W: World> Element<W> {
     // The answer of the next domain makes a request ready, or ends it.
-    fn made_ready(&self, row: &Row<'_>, answer: Answer) -> Result<Draft, NoMemory>
+    fn made_ready(&self, row: &Row<'_, W::Pin>, answer: Answer) -> Result<DraftIn<W>, NoMemory>
         requires has { Contains self.now.losing.element.pending.rows (row_of row.now) }
         requires waits { is_ready (row_of row.now).1.item.stage ≡ false }
         ensures { IfOk result (IsDraft self.now (made_ready wire (row_of row.now) answer self.now.losing.element)) }
@@ -45,7 +46,12 @@ impl Element {
     }
 
     // The parent's answer is passed on as it is.
-    fn take_answer(&self, peer: Peer, row: &Row<'_>, reply: Reply) -> Result<Draft, NoMemory>
+    fn take_answer(
+        &self,
+        peer: Peer,
+        row: &Row<'_, W::Pin>,
+        reply: Reply,
+    ) -> Result<DraftIn<W>, NoMemory>
         requires has { Contains self.now.losing.element.pending.rows (row_of row.now) }
         requires waits { is_ready (row_of row.now).1.item.stage ≡ false }
         ensures { IfOk result (IsDraft self.now (take_answer wire peer reply self.now.losing.element (Some (row_of row.now)))) }
@@ -58,14 +64,14 @@ impl Element {
     }
 
     /// A reply of a peer.
-    pub(crate) fn take_reply(&self, peer: Peer, reply: Reply) -> Result<Draft, NoMemory>
+    pub(crate) fn take_reply(&self, peer: Peer, reply: Reply) -> Result<DraftIn<W>, NoMemory>
         ensures { IfOk result (IsDraft self.now (take_reply wire peer reply self.now.losing.element)) }
     {
         match self.requests().waiting(&[], peer, reply.id) {
             Some(row) => self.take_answer(peer, &row, reply),
             None => {
                 let rp = Some((reply.flags, reply.id));
-                let message = error_message(self.alloc, rp, 8, 0)?;
+                let message = error_message(self.alloc, rp, errors::UNKNOWN_REQUEST)?;
                 self.only(peer, message)
             }
         }

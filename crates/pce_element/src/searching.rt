@@ -2,36 +2,19 @@
 ghost use Rattle.std.specs.Prelude.{◌≡◌, false, Contains, None, Some, MatchOption, nat_eq};
 ghost use Rattle.std.specs.Map.{lookup};
 ghost use Rattle.request_table.specs.Pending.{number_of};
-ghost use Rattle.plant_model.specs.Element.{after_id, fresh_id, is_ready, is_waiting, waiting};
-ghost use Rattle.plant_model.specs.Plant.{has_number};
+ghost use Rattle.plant_model.specs.Element.{fresh_id, is_ready, is_waiting, waiting};
 ghost use Rattle.pce_element.specs.Changes.{all_closed};
 ghost use Rattle.pce_element.specs.Rows.{row_of};
 
 use crate::pinned::{PinnedRequests, Row};
+use crate::world::World;
 use dom_base::Peer;
+use member_parts::{after_id, has_number};
 
-fn has_number(numbers: &[u64], number: u64) -> bool
-    ensures { result ≡ has_number number numbers.now }
-{
-    for other in numbers {
-        if number == *other {
-            return true;
-        }
-    }
-    false
-}
-
-// 1 follows the last.
-fn after_id(id: u32) -> u32
-    ensures { result ≡ after_id id }
-{
-    if id == u32::MAX { 1 } else { id + 1 }
-}
-
-impl PinnedRequests {
+impl<W: World> PinnedRequests<W> {
     /// The request that waits for the answer to an id of a peer, where those of some numbers have
     /// ended.
-    pub fn waiting(&self, ended: &[u64], peer: Peer, id: u32) -> Option<Row<'_>>
+    pub fn waiting(&self, ended: &[u64], peer: Peer, id: u32) -> Option<Row<'_, W::Pin>>
         ensures row { MatchOption result (waiting peer id (all_closed ended.now self.now.pending).rows ≡ None) (λ row. waiting peer id (all_closed ended.now self.now.pending).rows ≡ Some (row_of row)) }
         ensures has { MatchOption result (Unit {0}) (λ row. Contains self.now.pending.rows (row_of row)) }
         ensures waits { MatchOption result (Unit {0}) (λ row. is_ready (row_of row).1.item.stage ≡ false) }
@@ -63,7 +46,7 @@ impl PinnedRequests {
     }
 
     /// The request of a number.
-    pub fn found(&self, number: u64) -> Option<Row<'_>>
+    pub fn found(&self, number: u64) -> Option<Row<'_, W::Pin>>
         ensures row { MatchOption result (lookup (nat_eq number) self.now.pending.rows ≡ None) (λ row. lookup (nat_eq number) self.now.pending.rows ≡ Some (row_of row).1) }
         ensures number { MatchOption result (Unit {0}) (λ row. row.number ≡ number) }
     {

@@ -1,30 +1,30 @@
 //! What an element does with a message.
 ghost use Rattle.std.specs.Prelude.{◌≡◌, ◌≤◌, length, IfOk, None};
-ghost use Rattle.disclosure.specs.Shown.{open_of};
 ghost use Rattle.plant_model.specs.Element.{each};
 ghost use Rattle.plant_model.specs.RealWire.{wire};
 ghost use Rattle.plant_model.specs.Taking.{take, take_asked, take_reply};
 ghost use Rattle.pce_element.specs.Changes.{IsDraft};
-ghost use Rattle.pce_element.specs.Messages.{HasOnePart};
+ghost use Rattle.member_parts.specs.Messages.{HasOnePart};
 ghost use Rattle.pce_element.specs.Seen.{SameButRoom};
 
-use crate::change::Draft;
+use crate::change::DraftIn;
 use crate::element::Element;
 use crate::plan::Plan;
+use crate::world::World;
 use disclosure::Class;
 use dom_base::{List, NoMemory, Peer, Tick};
 use pcep_messages::{Asked, Message, Reply};
 
-impl Element {
+impl<W: World> Element<W> {
     fn take_requests(
         &self,
         peer: Peer,
         class: Class,
         asks: &[Asked],
         now: Tick,
-    ) -> Result<Draft, NoMemory>
+    ) -> Result<DraftIn<W>, NoMemory>
         requires { length asks.now ≤ 1 }
-        ensures { IfOk result (IsDraft self.now (each (take_asked wire open_of self.now.place self.now.current peer class now.0) asks.now self.now.losing.element)) }
+        ensures { IfOk result (IsDraft self.now (each (take_asked wire W.show self.now.place self.now.current peer class now.0) asks.now self.now.losing.element)) }
     {
         match asks {
             [] => Ok(self.silent()),
@@ -32,7 +32,7 @@ impl Element {
         }
     }
 
-    fn take_replies(&self, peer: Peer, replies: List<Reply>) -> Result<Draft, NoMemory>
+    fn take_replies(&self, peer: Peer, replies: List<Reply>) -> Result<DraftIn<W>, NoMemory>
         requires { length replies ≤ 1 }
         ensures { IfOk result (IsDraft self.now (each (take_reply wire peer) replies self.now.losing.element)) }
     {
@@ -50,9 +50,9 @@ impl Element {
         class: Class,
         message: Message,
         now: Tick,
-    ) -> Result<Draft, NoMemory>
+    ) -> Result<DraftIn<W>, NoMemory>
         requires { HasOnePart message }
-        ensures { IfOk result (IsDraft self.now (take wire open_of self.now.place self.now.current peer class now.0 message self.now.losing.element)) }
+        ensures { IfOk result (IsDraft self.now (take wire W.show self.now.place self.now.current peer class now.0 message self.now.losing.element)) }
     {
         match message {
             Message::PcReq(asks) => self.take_requests(peer, class, asks.as_slice(), now),
@@ -73,11 +73,11 @@ impl Element {
         class: Class,
         message: Message,
         now: Tick,
-    ) -> Result<Plan, NoMemory>
+    ) -> Result<Plan<W>, NoMemory>
         requires { HasOnePart message }
         ensures same { SameButRoom self.old self.new }
         ensures from { IfOk result (λ plan. plan.from ≡ self.new) }
-        ensures taken { IfOk result (λ plan. plan.taken ≡ take wire open_of self.old.place self.old.current peer class now.0 message self.old.losing.element) }
+        ensures taken { IfOk result (λ plan. plan.taken ≡ take wire W.show self.old.place self.old.current peer class now.0 message self.old.losing.element) }
         ensures keys { IfOk result (λ plan. plan.taken.element.keys ≡ self.old.losing.element.keys) }
         ensures solved { IfOk result (λ plan. plan.solved ≡ None) }
     {

@@ -1,17 +1,17 @@
 //! What an element does with notices and errors, which end requests one after the other.
 ghost use Rattle.std.specs.Prelude.{◌≡◌, ◌++◌, ◌∷◌, [], IfOk, OnOk};
-ghost use Rattle.std.specs.Option.{option_to_list};
 ghost use Rattle.plant_model.specs.Element.{each, waiting};
-ghost use Rattle.plant_model.specs.Names.{has_pair};
-ghost use Rattle.plant_model.specs.Taking.{error_answer, notice_steps, take_busy, take_cancel, take_errors, take_failure, take_notice, take_report};
+ghost use Rattle.plant_model.specs.Taking.{notice_steps, take_busy, take_cancel, take_errors, take_failure, take_notice, take_report};
 ghost use Rattle.pce_element.specs.Changes.{IsDraft};
 ghost use Rattle.pce_element.specs.Endings.{after, reached, failing};
 
-use crate::change::{Change, Draft};
+use crate::change::{Change, Draft, DraftIn};
 use crate::element::Element;
-use crate::messages::{busy, error_message, reply_message, unavailable};
 use crate::pinned::Row;
+use crate::world::World;
 use dom_base::{List, NoMemory, Peer};
+use member_parts::{busy, error_answer, has_pair};
+use pcep_codes::notices;
 use pcep_messages::{ErrorReport, Message, Notice};
 use plant_model::{Output, Outputs};
 use std::alloc::Global;
@@ -35,7 +35,7 @@ impl Ending {
     }
 
     // The asker of a request gets an answer, and the request ends.
-    fn answer(&mut self, row: &Row<'_>, message: Message) -> Result<(), NoMemory>
+    fn answer<P: Drop>(&mut self, row: &Row<'_, P>, message: Message) -> Result<(), NoMemory>
         ensures numbers { OnOk result (self.new.numbers ≡ self.old.numbers ++ row.now.number ∷ []) }
         ensures outputs { OnOk result (self.new.outputs ≡ self.old.outputs ++ (record { to = row.now.key.peer; message = message }) ∷ []) }
     {
@@ -45,35 +45,7 @@ impl Ending {
     }
 }
 
-// Whether a pair of a type and a value is among others.
-fn has_pair(pairs: &[(u8, u8)], kind: u8, value: u8) -> bool
-    ensures { result ≡ has_pair kind value pairs.now }
-{
-    for pair in pairs {
-        if pair.0 == kind && pair.1 == value {
-            return true;
-        }
-    }
-    false
-}
-
-// What an error of the next tells the asker.
-fn error_answer(
-    alloc: Global,
-    error: (u8, u8),
-    flags: u32,
-    id: u32,
-) -> Result<Option<Message>, NoMemory>
-    ensures { IfOk result (λ message. option_to_list message ≡ error_answer error flags id) }
-{
-    match error {
-        (8, 0) => Ok(None),
-        (4, 4) | (13, 1) => Ok(Some(error_message(alloc, Some((flags, id)), 13, 1)?)),
-        _ => Ok(Some(reply_message(alloc, flags, id, unavailable())?)),
-    }
-}
-
-impl Element {
+impl<W: World> Element<W> {
     // The next has no room for a request.
     fn take_busy(&self, ending: &mut Ending, peer: Peer, rp: (u32, u32)) -> Result<(), NoMemory>
         ensures { OnOk result (reached self.now.losing.element ending.new ≡ after (reached self.now.losing.element ending.old) (take_busy peer rp)) }
@@ -111,10 +83,10 @@ impl Element {
     ) -> Result<(), NoMemory>
         ensures { OnOk result (reached self.now.losing.element ending.new ≡ after (reached self.now.losing.element ending.old) (each (λ step. step peer rp) (notice_steps kinds.now))) }
     {
-        if has_pair(kinds, 1, 2) {
+        if has_pair(kinds, notices::BUSY) {
             self.take_busy(ending, peer, rp)?;
         }
-        if has_pair(kinds, 1, 1) {
+        if has_pair(kinds, notices::CANCELLED) {
             self.take_cancel(ending, peer, rp)?;
         }
         Ok(())
@@ -130,7 +102,11 @@ impl Element {
     }
 
     /// Notices of a peer.
-    pub(crate) fn take_notices(&self, peer: Peer, notices: &[Notice]) -> Result<Draft, NoMemory>
+    pub(crate) fn take_notices(
+        &self,
+        peer: Peer,
+        notices: &[Notice],
+    ) -> Result<DraftIn<W>, NoMemory>
         ensures { IfOk result (IsDraft self.now (each (take_notice peer) notices.now self.now.losing.element)) }
     {
         let mut ending = Ending::new(self.alloc);
@@ -187,7 +163,7 @@ impl Element {
         &self,
         peer: Peer,
         reports: &[ErrorReport],
-    ) -> Result<Draft, NoMemory>
+    ) -> Result<DraftIn<W>, NoMemory>
         ensures { IfOk result (IsDraft self.now (each (take_report peer) reports.now self.now.losing.element)) }
     {
         let mut ending = Ending::new(self.alloc);

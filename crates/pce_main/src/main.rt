@@ -24,6 +24,8 @@ path NET SRC DST AS ..
 path NET SRC DST parent AS
                     asks for a path from that domain, whose domains the parent finds
 play NET            reads a script of events, plays it on a network, writes its transcript
+blind NET           reads a script whose solves have border tables, plays it on a network without
+                    topologies, writes what closed peers hear
 bulk N              draws a large network and N requests (1 to 8000), writes what they are answered in all
 --help              writes this table
 --version           writes the versions of the program and of the toolchain
@@ -55,7 +57,7 @@ fn words_of(rt: &HostRuntime) -> Result<Vec<String>, Status> {
 
 // Whether the word behind this command is the file of a network's settings.
 fn takes_settings(verb: &str) -> bool {
-    matches!(verb, "path" | "play")
+    matches!(verb, "path" | "play" | "blind")
 }
 
 // A file's folder and its name there; none where the name begins in the working folder.

@@ -11,7 +11,7 @@ use Rattle.pce_parent.specs.Changes.{with_answer}
 use Rattle.plant_model.specs.Parent.{Asking, Wait, among, rows_at, rows_for, without}
 use Rattle.pce_parent.specs.Answered.{IsAnsweredAt}
 use Rattle.pce_parent.specs.Joined.{joined}
-use Rattle.pce_parent.proofs.HeldPlaces.{taken_at, dropped_at}
+use Rattle.member_parts.proofs.HeldPlaces.{taken_at, dropped_at}
 
 -- none of those before the place is answered
 pub record NoneBefore (p : Peer) (y i : ℕ) (ws : List Wait) : Type 0 where

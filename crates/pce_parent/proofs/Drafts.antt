@@ -17,7 +17,7 @@ use Rattle.pce_parent.specs.Answered.{Answers}
 use Rattle.pce_parent.specs.Changes.{Fits, IsDraft, Waits, answered_item, changed, solved_in, with_answer}
 use Rattle.pce_parent.specs.Endings.{given_by}
 use Rattle.pce_parent.specs.Seen.{Seen}
-use Rattle.pce_parent.proofs.HeldLemmas.{first_in, later_in, in_found}
+use Rattle.member_parts.proofs.HeldRows.{first_in, later_in, in_found}
 
 module _ (s : Seen) (d : Draft) where
   of_change : (change : Change) (given : Given) → d.change ≡ change → Fits s change → solved_in change ≡ None → changed change s.losing.parent ≡ given.parent → d.outputs ≡ given.outputs → IsDraft s given d

@@ -9,11 +9,12 @@ use Rattle.request_table.specs.Pending.{Pending, ArePending, NumbersRise, closed
 use Rattle.plant_model.specs.Parent.{Asking, AskingRow, among, waiting}
 use Rattle.pce_parent.specs.declared.sought.Sought.TheVariants.{Asked, Awaited}
 use Rattle.pce_parent.specs.declared.sought.Sought.{Sought}
-use Rattle.pce_parent.specs.Soughts.{is_sought, first_sought, has_number, without_these}
+use Rattle.plant_model.specs.Plant.{has_number}
+use Rattle.pce_parent.specs.Soughts.{is_sought, first_sought, without_these}
 use Rattle.pce_parent.specs.Changes.{all_closed}
 use Rattle.pce_parent.specs.Pendings.{with_rows}
-use Rattle.pce_parent.proofs.HeldPlaces.{taken_at}
-use Rattle.pce_parent.proofs.ScanLaws.{dropped_next}
+use Rattle.member_parts.proofs.HeldPlaces.{taken_at}
+use Rattle.member_parts.proofs.Scans.{dropped_next}
 
 -- ---- what is sought
 

@@ -9,8 +9,8 @@ use Rattle.request_table.specs.Pending.{Pending, ArePending, same_peer, closed_o
 use Rattle.plant_model.specs.declared.output.Lost.{Lost}
 use Rattle.plant_model.specs.Parent.{Asking, AskingRow, any_on, stays, is_lost, lost_of}
 use Rattle.pce_parent.specs.Pendings.{Leaves, with_rows}
-use Rattle.pce_parent.proofs.HeldPlaces.{removed_at, split_at, taken_at, all_taken, nothing_dropped, kept_step, kept_length}
-use Rattle.pce_parent.proofs.HeldLemmas.{length-removed, at_found}
+use Rattle.member_parts.proofs.HeldPlaces.{removed_at, split_at, taken_at, all_taken, nothing_dropped, kept_step, kept_length}
+use Rattle.member_parts.proofs.HeldRows.{length-removed, at_found}
 
 -- ---- one request
 

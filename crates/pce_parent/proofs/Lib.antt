@@ -10,9 +10,6 @@ mod Collecting
 mod Choosing
 mod Going
 mod Walking
-pub mod HeldLemmas
-pub mod HeldPlaces
-mod WayLemmas
 mod ScanLaws
 mod Leaving
 mod Gone

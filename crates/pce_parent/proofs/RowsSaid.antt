@@ -1,5 +1,6 @@
 -- The rows that the paths of an answer give.
 use Rattle.std.proofs.Common.{◌≡◌, ℕ, Option, List, [], ◌∷◌, ◌++◌, refl, sym, ◌∙◌, ap, append_assoc}
+use Rattle.std.specs.Option.{option_to_list}
 use Rattle.dom_base.specs.declared.names.As.{As}
 use Rattle.dom_base.specs.declared.addr.Addr.{Addr}
 use Rattle.dom_base.specs.declared.query.Metric.{Metric}
@@ -10,7 +11,6 @@ use Rattle.plant_model.specs.declared.upper.ChildRow.{ChildRow}
 use Rattle.plant_model.specs.Branches.{branch_of, branches_in}
 use Rattle.plant_model.specs.Parent.{rows_at}
 use Rattle.plant_model.specs.RealWire.{wire}
-use Rattle.pce_parent.specs.Endings.{listed}
 
 abbrev pub row_made : As → Addr → Addr → ℕ → List Hop → ChildRow
 row_made child target entry cost hs = record { at = child; entry = entry; target = target; cost = cost; hops = hs }
@@ -19,12 +19,12 @@ rows_append : (child : As) (target : Addr) (bs cs : List Branch) → rows_at chi
 rows_append child target [] cs = refl
 rows_append child target (b ∷ bs) cs = ap (λ (rs : List ChildRow). row_made child target b.entry b.cost b.hops ∷ rs) (rows_append child target bs cs)
 
-pub rows_next : (child : As) (target : Addr) (m : Metric) (p : Path) (left rest : List Path) (rows more : List ChildRow) (found : Option ChildRow) → left ≡ p ∷ rest → listed found ≡ rows_at child target (branch_of wire m p.hops p.metric) →
-    more ≡ rows ++ listed found → more ++ rows_at child target (branches_in wire m rest) ≡ rows ++ rows_at child target (branches_in wire m left)
+pub rows_next : (child : As) (target : Addr) (m : Metric) (p : Path) (left rest : List Path) (rows more : List ChildRow) (found : Option ChildRow) → left ≡ p ∷ rest → option_to_list found ≡ rows_at child target (branch_of wire m p.hops p.metric) →
+    more ≡ rows ++ option_to_list found → more ++ rows_at child target (branches_in wire m rest) ≡ rows ++ rows_at child target (branches_in wire m left)
 rows_next child target m p left rest rows more found left_is found_is more_is =
     let behind : List ChildRow = rows_at child target (branches_in wire m rest) in
     ap (λ (rs : List ChildRow). rs ++ behind) more_is
-    ∙ append_assoc rows (listed found) behind
+    ∙ append_assoc rows (option_to_list found) behind
     ∙ ap (λ (rs : List ChildRow). rows ++ (rs ++ behind)) found_is
     ∙ ap (λ (rs : List ChildRow). rows ++ rs) (sym (rows_append child target (branch_of wire m p.hops p.metric) (branches_in wire m rest)))
     ∙ ap (λ (ps : List Path). rows ++ rows_at child target (branches_in wire m ps)) (sym left_is)

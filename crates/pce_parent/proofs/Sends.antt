@@ -11,7 +11,7 @@ use Rattle.plant_model.specs.Element.{Way, after_id, pass_over, way_to, with_las
 use Rattle.plant_model.specs.Parent.{AskingRow, Wait, Errand, Asks, all_waits, among, ask_all, last_to, next_id}
 use Rattle.pce_parent.specs.declared.sending.Sending.{Sending}
 use Rattle.pce_parent.specs.Sending.{wait_of, id_for, asked_by, IsSent}
-use Rattle.pce_parent.proofs.ScanLaws.{dropped_next}
+use Rattle.member_parts.proofs.Scans.{dropped_next}
 
 -- ---- the same waits, in another order
 

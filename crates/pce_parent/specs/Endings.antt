@@ -14,7 +14,3 @@ then_given g f = let next = f g.parent in record { parent = next.parent; outputs
 
 abbrev pub GoesOn : Parent → (Parent → Given) → Ending → Ending → Type 0
 GoesOn k f old new = given_by k new ≡ then_given (given_by k old) f
-
-abbrev pub listed : {X : Type 0} → Option X → List X
-listed None = []
-listed (Some x) = x ∷ []

@@ -5,14 +5,12 @@ pub mod Tight
 pub mod Solution
 pub mod Fields
 pub mod Routes
-pub mod Ways
 pub mod Pendings
 pub mod Seen
 pub mod ParentFields
 pub mod Joined
 pub mod AskingFields
 pub mod Answered
-pub mod Answers
 pub mod Sending
 pub mod Soughts
 pub mod Endings

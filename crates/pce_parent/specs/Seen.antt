@@ -1,15 +1,13 @@
 -- The parent as its callers see it.
-use Rattle.std.specs.Prelude.{◌≡◌, ◌≤◌, ℕ, cond, nat_eq, [], length, map, Option, Some, None}
+use Rattle.std.specs.Prelude.{◌≡◌, ℕ, cond, nat_eq, [], map, Option, Some, None}
 use Rattle.std.specs.Map.{lookup}
 use Rattle.dom_base.specs.declared.addr.Addr.{Addr}
 use Rattle.request_table.specs.declared.held.Held.{Held}
 use Rattle.plant_model.specs.declared.upper.BorderJob.{BorderJob}
-use Rattle.pcep_messages.specs.declared.message.Message.{Message}
-use Rattle.pcep_messages.specs.declared.message.Message.TheVariants as messages
 use Rattle.plant_model.specs.RealWire.{wire}
 use Rattle.plant_model.specs.Parent.{Parent, Family, Given, Losing, Asking, is_ready, job_of, commit}
 use Rattle.pce_parent.specs.Solution.{BorderSolution}
-use Rattle.pce_parent.specs.Ways.{way_of}
+use Rattle.member_parts.specs.Ways.{way_of}
 
 -- its id and settings, what it holds, the lost requests that it has yet to hand out, and for how many more requests there is
 -- memory
@@ -43,17 +41,6 @@ job_when f n (Some h) = cond (is_ready h.item) (Some (job_of f (n, h))) None
 
 abbrev pub job_at : Seen → ℕ → Option BorderJob
 job_at s n = job_when s.family n (lookup (nat_eq n) s.losing.parent.pending.rows)
-
--- a message with at most one request or reply
-abbrev pub HasOnePart : Message → Type 0
-HasOnePart (messages.PcReq asks) = length asks ≤ 1
-HasOnePart (messages.PcRep replies) = length replies ≤ 1
-HasOnePart (messages.PcNtf notices) = Unit {0}
-HasOnePart (messages.PcErr reports) = Unit {0}
-HasOnePart (messages.Open body) = Unit {0}
-HasOnePart messages.Keepalive = Unit {0}
-HasOnePart (messages.Close reason) = Unit {0}
-HasOnePart (messages.Other kind) = Unit {0}
 
 -- what comes of a solved job, where its request is ready
 abbrev pub committed_when : BorderSolution → Parent → Option (Held Asking) → Option Given

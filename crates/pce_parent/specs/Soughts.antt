@@ -2,6 +2,7 @@
 use Rattle.std.specs.Prelude.{ℕ, Bool, true, false, not, cond, ◌==◌, List, [], ◌∷◌, filter, Option, Some, None}
 use Rattle.request_table.specs.Pending.{same_key, key_of}
 use Rattle.plant_model.specs.Parent.{AskingRow, among}
+use Rattle.plant_model.specs.Plant.{has_number}
 use Rattle.pce_parent.specs.declared.sought.Sought.{Sought}
 use Rattle.pce_parent.specs.declared.sought.Sought.TheVariants.{Asked, Awaited}
 
@@ -12,10 +13,6 @@ is_sought (Awaited p y) h = among p h.1.item.waits y
 abbrev pub first_sought : Sought → List AskingRow → Option AskingRow
 first_sought s [] = None
 first_sought s (h ∷ hs) = cond (is_sought s h) (Some h) (first_sought s hs)
-
-abbrev pub has_number : ℕ → List ℕ → Bool
-has_number n [] = false
-has_number n (m ∷ ms) = cond (n == m) true (has_number n ms)
 
 -- the requests whose numbers are none of these
 abbrev pub without_these : List ℕ → List AskingRow → List AskingRow

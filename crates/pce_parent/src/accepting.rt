@@ -9,10 +9,10 @@ ghost use Rattle.pce_parent.specs.Changes.{IsDraft};
 use crate::asking::Asking;
 use crate::change::{Change, Draft};
 use crate::errands::errands;
-use crate::messages::{busy, error_message, no_key, reply_message, unavailable};
 use crate::parent::Parent;
 use crate::sending::{Sending, send_all};
-use dom_base::{As, List, NoMemory, Peer};
+use dom_base::{As, NoMemory, Peer};
+use member_parts::{busy, error_message, no_key, one, reply_message, unavailable};
 use pcep_messages::{Asked, Message, Refusal, Request, Wanted, Wish, request_of};
 use plant_model::{Output, PARENT_PENDING_MAX};
 
@@ -21,11 +21,9 @@ impl Parent {
     pub(crate) fn says(&self, to: Peer, message: Message) -> Result<Draft, NoMemory>
         ensures { IfOk result (IsDraft self.now (only to message self.now.losing.parent)) }
     {
-        let mut outputs = List::new(self.alloc);
-        outputs.push(Output { to, message })?;
         Ok(Draft {
             change: Change::Nothing,
-            outputs,
+            outputs: one(self.alloc, Output { to, message })?,
         })
     }
 
@@ -106,7 +104,7 @@ impl Parent {
         match request_of(self.alloc, asked, As(0)) {
             Ok(request) => self.take_new(peer, request),
             Err(Refusal::Wire { rp, kind, value }) => {
-                self.says(peer, error_message(self.alloc, rp, kind, value)?)
+                self.says(peer, error_message(self.alloc, rp, (kind, value))?)
             }
             Err(Refusal::NoMemory) => Err(NoMemory),
         }

@@ -3,8 +3,8 @@ ghost use Rattle.std.specs.Prelude.{◌≡◌, []};
 
 use crate::asking::Asking;
 use crate::solved::BorderSolved;
-use crate::ways::Ways;
 use dom_base::{List, Peer};
+use member_parts::Ways;
 use plant_model::{ChildRow, Outputs};
 use std::alloc::Global;
 

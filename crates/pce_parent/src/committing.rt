@@ -6,12 +6,12 @@ ghost use Rattle.pce_parent.specs.Pendings.{row_of};
 ghost use Rattle.pce_parent.specs.Seen.{committed, job_at};
 
 use crate::change::{Change, Draft};
-use crate::messages::{code, no_path, reply_message};
 use crate::parent::Parent;
 use crate::pending::Row;
 use crate::plan::BorderPlan;
 use crate::solved::BorderSolved;
 use dom_base::{List, Metric, NoMemory, Tick, word_of_cost};
+use member_parts::{code, no_path, one, reply_message};
 use pcep_messages::{Answer, Path};
 use pcep_subobjects::append_hops;
 use plant_model::{Output, Outputs};
@@ -30,16 +30,15 @@ fn answer_of(alloc: Global, metric: Metric, solved: &BorderSolved) -> Result<Ans
     ensures { IfOk result (λ answer. answer ≡ answer_of metric solved.now.answer) }
 {
     let Some((cost, found)) = solved.answer() else {
-        return Ok(no_path());
+        return Ok(no_path(true, true));
     };
     let mut hops = List::new(alloc);
     append_hops(alloc, &mut hops, found)?;
-    let mut paths = List::new(alloc);
-    paths.push(Path {
+    let path = Path {
         hops,
         metric: Some((code(metric), word_of_cost(cost))),
-    })?;
-    Ok(Answer::Paths(paths))
+    };
+    Ok(Answer::Paths(one(alloc, path)?))
 }
 
 fn outputs_of(alloc: Global, row: Row<'_>, solved: &BorderSolved) -> Result<Outputs, NoMemory>
@@ -47,12 +46,8 @@ fn outputs_of(alloc: Global, row: Row<'_>, solved: &BorderSolved) -> Result<Outp
 {
     let answer = answer_of(alloc, row.item.wanted().query.metric, solved)?;
     let message = reply_message(alloc, row.item.flags(), row.key.id, answer)?;
-    let mut outputs = List::new(alloc);
-    outputs.push(Output {
-        to: row.key.peer,
-        message,
-    })?;
-    Ok(outputs)
+    let to = row.key.peer;
+    one(alloc, Output { to, message })
 }
 
 impl Parent {

@@ -8,12 +8,13 @@ ghost use Rattle.pce_parent.specs.Pendings.{row_of};
 
 use crate::change::{Change, Draft};
 use crate::ending::Ending;
-use crate::messages::{error_message, reply_message, unavailable};
 use crate::parent::Parent;
 use crate::pending::Row;
 use crate::rows::rows_of;
 use crate::sought::{Sought, find};
 use dom_base::{List, NoMemory, Peer};
+use member_parts::{error_message, reply_message, unavailable};
+use pcep_codes::errors;
 use pcep_messages::{Answer, Message, Path, Reply};
 
 impl Parent {
@@ -87,7 +88,10 @@ impl Parent {
             Some(row) => self.take_answer(peer, reply.id, row, reply.answer),
             None => {
                 let rp = Some((reply.flags, reply.id));
-                self.says(peer, error_message(self.alloc, rp, 8, 0)?)
+                self.says(
+                    peer,
+                    error_message(self.alloc, rp, errors::UNKNOWN_REQUEST)?,
+                )
             }
         }
     }

@@ -13,7 +13,6 @@ mod ending;
 mod errands;
 mod gathering;
 mod making;
-mod messages;
 mod order;
 mod parent;
 mod pending;
@@ -31,7 +30,6 @@ mod taking;
 mod tight;
 mod told;
 mod wait;
-mod ways;
 mod work;
 
 pub use committing::ParentCommitError;

@@ -9,8 +9,8 @@ use crate::change::{Change, Draft};
 use crate::parent::Parent;
 use crate::pending::{close_all, close_one, gather_at};
 use crate::plan::BorderPlan;
-use crate::ways::Ways;
 use dom_base::{NoMemory, Peer};
+use member_parts::Ways;
 
 impl Parent {
     fn open(&mut self, peer: Peer, id: u32, asking: Asking, ways: Ways)

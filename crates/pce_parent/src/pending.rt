@@ -7,8 +7,9 @@ ghost use Rattle.pce_parent.specs.Pendings.{Leaves, row_of, with_rows};
 ghost use Rattle.pce_parent.specs.Changes.{Waits, all_closed, answered_at};
 
 use crate::asking::Asking;
-use crate::wait::{is_same_peer, waits_on};
+use crate::wait::waits_on;
 use dom_base::{List, Peer};
+use member_parts::is_same_peer;
 use plant_model::{ChildRow, Lost};
 use request_table::{RequestKey, Requests};
 use std::collections::VecDeque;

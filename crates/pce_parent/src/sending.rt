@@ -2,18 +2,16 @@
 ghost use Rattle.std.specs.Prelude.{◌≡◌, ◌++◌, [], ◌∷◌, IfOk, OnOk};
 ghost use Rattle.std.specs.Option.{option_copied};
 ghost use Rattle.dom_base.specs.declared.names.Peer.TheVariants.{Inner};
-ghost use Rattle.plant_model.specs.Element.{after_id};
 ghost use Rattle.plant_model.specs.Parent.{all_waits, next_id, last_to};
 ghost use Rattle.plant_model.specs.Element.{way_to};
 ghost use Rattle.pce_parent.specs.Sending.{IsSent, AreSent};
 
 use crate::asking::Asking;
 use crate::errands::Errand;
-use crate::messages::request_message;
 use crate::pending::row_at;
 use crate::wait::{Wait, waits_for};
-use crate::ways::Ways;
 use dom_base::{List, NoMemory, Peer};
+use member_parts::{Ways, after_id, request_message};
 use pcep_messages::Wanted;
 use plant_model::{Output, Outputs};
 use request_table::Requests;
@@ -41,13 +39,6 @@ fn all_waits(alloc: Global, requests: &Requests<Asking>) -> Result<Vec<Wait>, No
         waits.extend_from_slice(row.item.waits())?;
     }
     Ok(waits)
-}
-
-// The id that follows.
-fn after_id(id: u32) -> u32
-    ensures { result ≡ after_id id }
-{
-    if id == u32::MAX { 1 } else { id + 1 }
 }
 
 fn last_to(ways: &Ways, peer: Peer) -> u32

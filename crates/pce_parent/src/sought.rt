@@ -2,12 +2,13 @@
 ghost use Rattle.std.specs.Prelude.{◌≡◌, None, Some, MatchOption};
 ghost use Rattle.request_table.specs.Pending.{ArePending, same_key};
 ghost use Rattle.pce_parent.specs.Pendings.{row_of};
-ghost use Rattle.pce_parent.specs.Soughts.{is_sought, first_sought, has_number, without_these};
+ghost use Rattle.pce_parent.specs.Soughts.{is_sought, first_sought, without_these};
 
 use crate::asking::Asking;
 use crate::pending::{Row, row_at};
-use crate::wait::{is_same_peer, waits_for};
+use crate::wait::waits_for;
 use dom_base::Peer;
+use member_parts::{has_number, is_same_peer};
 use request_table::{RequestKey, Requests};
 
 /// What a peer names by an id.
@@ -34,17 +35,6 @@ impl Sought {
             Sought::Awaited(peer, id) => waits_for(row.item.waits(), peer, id),
         }
     }
-}
-
-fn has_number(numbers: &[u64], number: u64) -> bool
-    ensures { result ≡ has_number number numbers.now }
-{
-    for own in numbers {
-        if number == *own {
-            return true;
-        }
-    }
-    false
 }
 
 /// The first request that is sought, among those that have not ended.

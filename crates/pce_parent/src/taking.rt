@@ -2,7 +2,8 @@
 ghost use Rattle.std.specs.Prelude.{◌≡◌, None, IfOk};
 ghost use Rattle.plant_model.specs.RealWire.{wire};
 ghost use Rattle.plant_model.specs.Parent.{take};
-ghost use Rattle.pce_parent.specs.Seen.{SameButRoom, HasOnePart};
+ghost use Rattle.member_parts.specs.Messages.{HasOnePart};
+ghost use Rattle.pce_parent.specs.Seen.{SameButRoom};
 ghost use Rattle.pce_parent.specs.Changes.{IsDraft};
 
 use crate::change::Draft;

@@ -1,46 +1,17 @@
 //! What peers tell of requests: notices and errors.
 ghost use Rattle.std.specs.Prelude.{◌≡◌, IfOk, OnOk};
-ghost use Rattle.plant_model.specs.Names.{has_pair};
-ghost use Rattle.plant_model.specs.Taking.{error_answer};
 ghost use Rattle.plant_model.specs.Parent.{each, waiting, notice_steps, take_busy, take_cancel, take_failure, take_notice, take_report};
 ghost use Rattle.pce_parent.specs.Changes.{IsDraft};
-ghost use Rattle.pce_parent.specs.Endings.{GoesOn, listed};
+ghost use Rattle.pce_parent.specs.Endings.{GoesOn};
 
 use crate::change::Draft;
 use crate::ending::Ending;
-use crate::messages::{busy, error_message, reply_message, unavailable};
 use crate::parent::Parent;
 use crate::sought::{Sought, find};
 use dom_base::{NoMemory, Peer};
-use pcep_messages::{ErrorReport, Message, Notice};
-use std::alloc::Global;
-
-fn has_pair(kinds: &[(u8, u8)], kind: u8, value: u8) -> bool
-    ensures { result ≡ has_pair kind value kinds.now }
-{
-    for own in kinds {
-        if own.0 == kind && own.1 == value {
-            return true;
-        }
-    }
-    false
-}
-
-// What the asker of a request is told when an error is reported of it.
-fn error_answer(
-    alloc: Global,
-    error: (u8, u8),
-    flags: u32,
-    id: u32,
-) -> Result<Option<Message>, NoMemory>
-    ensures { IfOk result (λ message. listed message ≡ error_answer error flags id) }
-{
-    match error {
-        (8, 0) => Ok(None),
-        (4, 4) | (13, 1) => Ok(Some(error_message(alloc, Some((flags, id)), 13, 1)?)),
-        _ => Ok(Some(reply_message(alloc, flags, id, unavailable())?)),
-    }
-}
+use member_parts::{busy, error_answer, has_pair};
+use pcep_codes::notices;
+use pcep_messages::{ErrorReport, Notice};
 
 impl Parent {
     // A child has no room.
@@ -76,10 +47,10 @@ impl Parent {
     ) -> Result<(), NoMemory>
         ensures { OnOk result (GoesOn self.now.losing.parent (each (λ step. step peer rp) (notice_steps kinds.now)) ending.old ending.new) }
     {
-        if has_pair(kinds, 1, 2) {
+        if has_pair(kinds, notices::BUSY) {
             self.tell_busy(ending, peer, rp)?;
         }
-        if has_pair(kinds, 1, 1) {
+        if has_pair(kinds, notices::CANCELLED) {
             self.cancel(ending, peer, rp)?;
         }
         Ok(())

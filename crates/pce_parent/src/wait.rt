@@ -6,6 +6,7 @@ ghost use Rattle.plant_model.specs.Parent.{among, any_on};
 ghost use Rattle.pce_parent.specs.Sending.{wait_of};
 
 use dom_base::{Addr, As, Peer};
+use member_parts::is_same_peer;
 use std::marker::Model;
 
 /// A request to a child that is not answered yet.
@@ -89,15 +90,4 @@ pub fn waits_on(waits: &[Wait], peer: Peer) -> bool
         }
     }
     false
-}
-
-/// Whether two peers are one.
-pub fn is_same_peer(one: Peer, other: Peer) -> bool
-    ensures { result ≡ same_peer one other }
-{
-    match (one, other) {
-        (Peer::Outside(a), Peer::Outside(b)) => a == b,
-        (Peer::Inner(a), Peer::Inner(b)) => a.0 == b.0,
-        _ => false,
-    }
 }

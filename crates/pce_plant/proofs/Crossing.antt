@@ -4,8 +4,8 @@ use Rattle.std.proofs.Crossing.{crosses}
 use Rattle.te_generations.specs.contracts.generations.Generations as Generations
 use Rattle.plant_model.specs.contracts.event.Event as Event
 use Rattle.pce_element.specs.contracts.accepted.Accepted as Accepted
-use Rattle.pce_element.specs.contracts.element.Element as Element
-use Rattle.pce_element.specs.contracts.pinned.PinnedRequests as PinnedRequests
+use Rattle.pce_element.specs.contracts.topologies.PinnedTopology as PinnedTopology
+use Rattle.pce_element.specs.contracts.topologies.Topologies as Topologies
 use Rattle.pce_parent.specs.contracts.work.Done as Done
 use Rattle.plant_hierarchy.specs.contracts.elements.Elements as Elements
 use Rattle.plant_hierarchy.specs.contracts.hierarchy.Hierarchy as Hierarchy
@@ -34,17 +34,17 @@ turn_send = search (acted_field_send, sendable, crosses) depth 60 fits 10000
 generations_send : IsSend Generations.the_row
 generations_send = search (sendable, crosses) depth 60 fits 30000
 
-accepted_send : IsSend Accepted.the_row
-accepted_send = search (sendable, crosses) depth 60 fits 30000
+topologies_send : IsSend Topologies.the_row
+topologies_send = search (generations_send, sendable, crosses) depth 60 fits 30000
 
-pinned_send : IsSend PinnedRequests.the_row
-pinned_send = search (generations_send, accepted_send, sendable, crosses) depth 60 fits 10000
+pinned_topology_send : IsSend PinnedTopology.the_row
+pinned_topology_send = search (sendable, crosses) depth 60 fits 30000
 
-element_send : IsSend Element.the_row
-element_send = search (pinned_send, sendable, crosses) depth 60 fits 30000
+accepted_send : IsSend (Accepted.the_row PinnedTopology.the_row)
+accepted_send = search (pinned_topology_send, sendable, crosses) depth 60 fits 30000
 
 elements_send : IsSend Elements.the_row
-elements_send = search (element_send, sendable, crosses) depth 60 fits 30000
+elements_send = search (topologies_send, accepted_send, sendable, crosses) depth 90 fits 60000
 
 hierarchy_send : IsSend Hierarchy.the_row
 hierarchy_send = search (network_send, elements_send, parent_send, sendable, crosses) depth 60 fits 30000

@@ -25,7 +25,6 @@ use Rattle.plant_model.specs.Settings.{family}
 use Rattle.plant_members.specs.Membership.{Membership}
 use Rattle.pce_element.specs.Committing.{IsOwnJob}
 use Rattle.pce_element.specs.Jobs as element
-use Rattle.pce_element.specs.Seen.{Seen}
 use Rattle.pce_parent.specs.Seen.{job_when}
 use Rattle.pce_parent.specs.Solution.{BorderSolution}
 use Rattle.pce_parent.specs.declared.work.Done.{Done}
@@ -37,8 +36,8 @@ use Rattle.plant_hierarchy.specs.Elements.{at_domain, element_or, own_of}
 use Rattle.plant_hierarchy.specs.Ready.{work_in}
 use Rattle.plant_hierarchy.specs.declared.answering.Unanswered.{Unanswered}
 use Rattle.plant_hierarchy.proofs.AnswerLemmas.{no_border_job, no_job}
-use Rattle.plant_hierarchy.proofs.DomainLemmas.{as_self, same_as_is}
-use Rattle.plant_hierarchy.proofs.LoadLemmas.{found_own}
+use Rattle.plant_hierarchy.proofs.DomainLemmas.{as_self, found_own, same_as_is}
+use Rattle.plant_hierarchy.specs.Topologies.{Seen}
 use Rattle.pce_plant.specs.Held.{Held, whole}
 use Rattle.pce_plant.specs.Whole.{Whole}
 use Rattle.pce_plant.specs.Jobs.{IsAsked, IsAskedAbove, IsOwn, IsSolvedBy, IsWork, answer_of, handed_back, refusal_of, solved_at, solved_number}

@@ -1,6 +1,4 @@
-pub mod StepLemmas
 pub mod SoundLemmas
-pub mod BeginLemmas
 pub mod JobLemmas
 pub mod SolveLemmas
 pub mod LoadLemmas

@@ -1,15 +1,13 @@
 -- An element of a network loads a topology.
 use Rattle.std.proofs.Common.{◌≡◌, ℕ, ◌+◌, ◌*◌, length, Result, Ok, Err, List, [], ◌∷◌, refl, sym, ◌∙◌, ap, ap₂, subst}
-use Rattle.std.specs.Prelude.{OnOk, OnErr}
 use Rattle.dom_base.specs.declared.names.As.{As}
 use Rattle.te_links.specs.Rows.{Rows}
 use Rattle.plant_text.specs.declared.settings.NetworkParts.{NetworkParts}
 use Rattle.plant_model.specs.declared.event.Event.TheVariants as event
 use Rattle.plant_model.specs.declared.outcome.Refused.{Refused}
 use Rattle.plant_model.specs.Element.{Element}
-use Rattle.plant_model.specs.Events.{Answered}
 use Rattle.plant_model.specs.Parent.{Parent}
-use Rattle.plant_model.specs.Plant.{Pin, Segment, Plant, PlantDeed, Steps}
+use Rattle.plant_model.specs.Plant.{Pin, Segment, Plant, Steps}
 use Rattle.plant_model.specs.RealWire.{wire}
 use Rattle.plant_model.specs.State.{said}
 use Rattle.plant_traffic.specs.Carried.{Carried, flow_of}
@@ -24,10 +22,10 @@ use Rattle.plant_deeds.specs.Rooms.{IsRoomy, own_most, said_in_all}
 use Rattle.plant_deeds.proofs.FeedLaws.{cleared_roomy}
 use Rattle.plant_deeds.proofs.RoomySteps.{emptied_keeps}
 use Rattle.plant_hierarchy.specs.Loading.{Loads, answer_of, deeds_of}
-use Rattle.plant_hierarchy.specs.Tiers.{Tiers, lost_in, members_of}
-use Rattle.pce_plant.specs.Held.{Held, held, whole, IsKept, IsSound, Moves}
-use Rattle.pce_plant.specs.Whole.{Stepped}
-use Rattle.pce_plant.proofs.StepLemmas.{kept}
+use Rattle.plant_hierarchy.specs.Tiers.{lost_in}
+use Rattle.plant_hierarchy.specs.Topologies.{Tiers, members_of}
+use Rattle.plant_network.proofs.StepLemmas.{kept}
+use Rattle.pce_plant.specs.Held.{Held, held, standing, whole, IsSound, Moves}
 
 module _ (d : As) (g : Rows) (old : Held) (r : Result ℕ Refused) (t : Tiers) (loads : Loads d g old.members r t) where
   abbrev n : NetworkParts
@@ -71,7 +69,7 @@ module _ (d : As) (g : Rows) (old : Held) (r : Result ℕ Refused) (t : Tiers) (
 pub load_refused : (d : As) (g : Rows) (old : Held) (why : Refused) (t : Tiers) → IsSound old → Loads d g old.members (Err why) t → Moves old (event.Load d g) (Err why) (held t old.carried)
 load_refused d g old why t sound loads = record {
   stepped = record { network = loads.network; deeds = []; steps = steps_to d g old (Err why) t loads (flow_of old.carried) refl; accepted = tt; refused = refl };
-  kept = kept old (held t old.carried) loads.network sound.kept.of (none_on d g old (Err why) t loads sound) (roomy_on d g old (Err why) t loads (flow_of old.carried) sound.kept.roomy);
+  kept = kept (standing old) (standing (held t old.carried)) loads.network sound.kept.of (none_on d g old (Err why) t loads sound) (roomy_on d g old (Err why) t loads (flow_of old.carried) sound.kept.roomy);
 }
 
 pub load_accepted : (d : As) (g : Rows) (old : Held) (k : ℕ) (t : Tiers) (carried : Carried) → IsSound old → Loads d g old.members (Ok k) t → ClearsSaid (flow_of old.carried) (flow_of carried) → Moves old (event.Load d g) (answer_of (Ok k)) (held t carried)
@@ -83,7 +81,7 @@ load_accepted d g old k t carried sound loads clears = record {
     accepted = ap (λ (f : Flow). f.said) clears.kept;
     refused = tt;
   };
-  kept = kept old (held t carried) loads.network of (none_on d g old (Ok k) t loads sound)
+  kept = kept (standing old) (standing (held t carried)) loads.network of (none_on d g old (Ok k) t loads sound)
       (cleared_roomy old.members.network (members_of t) (flow_of old.carried) (flow_of carried) clears (emptied_keeps old.members.network (members_of t) (flow_of old.carried) (roomy_on d g old (Ok k) t loads (flow_of old.carried) sound.kept.roomy)));
 }
   where

@@ -1,13 +1,7 @@
 -- A member that answers a solved job is the model's solve.
-use Rattle.std.proofs.Common.{◌≡◌, ◌≤◌, ℕ, Bool, true, false, cond, nat_lt, Option, Some, None, Ok, Err, List, [], ◌∷◌, length, inl, inr, refl, sym, ◌∙◌, ap, subst}
+use Rattle.std.proofs.Common.{◌≡◌, ℕ, true, Ok, Err, List, [], ◌∷◌, inl, inr, refl, sym, ◌∙◌, ap, subst}
 use Rattle.dom_base.specs.declared.names.As.{As}
 use Rattle.disclosure.specs.Shown.{open_of}
-use Rattle.pcep_messages.specs.declared.message.Answer.TheVariants.{Paths}
-use Rattle.pcep_messages.specs.declared.message.Message.{Message}
-use Rattle.request_table.specs.Pending.{closed_of}
-use Rattle.request_table.proofs.KeyLemmas.{same_peer_self}
-use Rattle.vspt_tree.specs.declared.branch.Best.{Best}
-use Rattle.vspt_tree.specs.declared.branch.Branch.{Branch}
 use Rattle.plant_text.specs.declared.settings.NetworkParts.{NetworkParts}
 use Rattle.plant_text.specs.Names.{parent_as}
 use Rattle.plant_model.specs.declared.event.Event.TheVariants.{Solve}
@@ -15,108 +9,47 @@ use Rattle.plant_model.specs.declared.outcome.Outcome.TheVariants as outcome
 use Rattle.plant_model.specs.declared.outcome.Refused.{Refused}
 use Rattle.plant_model.specs.declared.outcome.Refused.TheVariants as refused
 use Rattle.plant_model.specs.declared.output.Lost.{Lost}
-use Rattle.plant_model.specs.declared.output.Output.{Output}
-use Rattle.plant_model.specs.BorderGraph.{Found}
 use Rattle.plant_model.specs.Deeds as deeds
-use Rattle.plant_model.specs.Element.{Element, Place, Row, Taken, is_client}
+use Rattle.plant_model.specs.Element.{Taken}
 use Rattle.plant_model.specs.Events.{has_jobs}
 use Rattle.plant_model.specs.Parent as parent
 use Rattle.plant_model.specs.Plant.{Pin, Plant, PlantDeed, Happened, Segment, Steps}
 use Rattle.plant_model.specs.RealWire.{wire}
 use Rattle.plant_model.specs.Settings.{place}
-use Rattle.plant_model.specs.Solving.{client_reply, closed_paths, closed_reply, commit, free, issued_all}
+use Rattle.plant_model.specs.Solving.{commit}
 use Rattle.plant_model.specs.State.{Solves, said, sent_by}
-use Rattle.plant_model.specs.Taking.{answered}
-use Rattle.plant_model.specs.Writing.{busy, reply_message}
 use Rattle.plant_traffic.specs.Carried.{Carried, flow_of}
 use Rattle.plant_traffic.specs.Flow.{Flow, SameFlow}
 use Rattle.plant_members.specs.Membership.{Membership, Replied, is_member, with_element, with_parent}
-use Rattle.plant_members.specs.Owed.{count_by_asker, is_peer}
 use Rattle.plant_deeds.specs.Answering.{IsAnswer, Sends}
 use Rattle.plant_deeds.specs.Giving.{OnlyGrows}
 use Rattle.plant_deeds.specs.Passing.{IsOf}
 use Rattle.plant_deeds.specs.Rooms.{IsRoomy}
 use Rattle.plant_deeds.specs.Standing.{state_of}
-use Rattle.plant_deeds.proofs.AnswerLaws.{count_found, owed_above, owed_below, pending_above, pending_below}
 use Rattle.plant_hierarchy.specs.Answering.{Commits, ElementAnswers, IsRefusedFor, MemberAnswers, ParentAnswers, number_of}
-use Rattle.plant_hierarchy.specs.Tiers.{Become, Tiers, lost_in, members_of, next_by}
+use Rattle.plant_hierarchy.specs.Tiers.{lost_in}
 use Rattle.plant_hierarchy.specs.Tiers as tiers
-use Rattle.plant_hierarchy.specs.declared.plan.MemberPlan.{MemberPlan}
 use Rattle.plant_hierarchy.specs.declared.answering.Unanswered.{Unanswered}
 use Rattle.pce_parent.specs.declared.work.Done.{Done}
+use Rattle.plant_hierarchy.specs.Topologies.{Become, MemberPlan, Tiers, members_of, next_by}
+use Rattle.plant_network.proofs.AnswerLemmas.{element_answer, parent_answer}
 use Rattle.pce_plant.specs.Held.{IsKept, IsSound, Moves, held, whole}
 use Rattle.pce_plant.specs.Jobs.{solved_at, solved_number}
-
--- ---- the answer of the model
-
--- one message to the asker, and the request ends
-record Ends (h : Row Pin) (k : Element Pin Segment) (t : Taken Pin Segment) : Type 0 where
-  message : Message
-  outputs : t.outputs ≡ (let o : Output = record { to = h.1.key.peer; message = message } in o) ∷ []
-  ends : t.element.pending ≡ closed_of k.pending h.0
-
-closed_ends : (e : Place) (h : Row Pin) (down : List Branch) (now : ℕ) (stands : Best → Segment) (best : List Best) (k : Element Pin Segment) → Ends h k (closed_reply wire e h down now stands k best)
-closed_ends e h down now stands [] k = record { message = _; outputs = refl; ends = refl }
-closed_ends e h down now stands (b ∷ bs) k = go (nat_lt (free now k.keys) (length (b ∷ bs)))
-  where
-    go : (c : Bool) → Ends h k (cond c (answered h (busy h.1.item.flags h.1.key.id) k)
-        (answered h (reply_message h.1.item.flags h.1.key.id (Paths (closed_paths wire e.id h.1.item.wanted.query.metric h.1.item.wanted.target down k.keys.next (b ∷ bs)))) (record k { keys = issued_all now stands (b ∷ bs) k.keys })))
-    go true = record { message = busy h.1.item.flags h.1.key.id; outputs = refl; ends = refl }
-    go false = record { message = reply_message h.1.item.flags h.1.key.id (Paths (closed_paths wire e.id h.1.item.wanted.query.metric h.1.item.wanted.target down k.keys.next (b ∷ bs))); outputs = refl; ends = refl }
-
-commit_ends : (e : Place) (h : Row Pin) (down : List Branch) (now : ℕ) (stands : Best → Segment) (source_known target_known : Bool) (best : List Best) (k : Element Pin Segment) → Ends h k (commit wire e h down now stands source_known target_known best k)
-commit_ends e h down now stands source_known target_known best k = go (is_client h.1.item.class)
-  where
-    go : (c : Bool) → Ends h k (cond c (answered h (client_reply wire h down source_known target_known best) k) (closed_reply wire e h down now stands k best))
-    go true = record { message = client_reply wire h down source_known target_known best; outputs = refl; ends = refl }
-    go false = closed_ends e h down now stands best k
-
-record EndsAbove (h : parent.AskingRow) (k : parent.Parent) (g : parent.Given) : Type 0 where
-  message : Message
-  outputs : g.outputs ≡ (let o : Output = record { to = h.1.key.peer; message = message } in o) ∷ []
-  ends : g.parent.pending ≡ closed_of k.pending h.0
-
-commit_ends_above : (h : parent.AskingRow) (a : Option Found) (k : parent.Parent) → EndsAbove h k (parent.commit wire h a k)
-commit_ends_above h None k = record { message = _; outputs = refl; ends = refl }
-commit_ends_above h (Some a) k = record { message = _; outputs = refl; ends = refl }
 
 -- ---- it is an answer
 
 module _ (n : NetworkParts) (now : ℕ) (d : As) (k : ℕ) (ms : Membership Pin Segment) (r : Replied Pin Segment) where
-  element_answer : ElementAnswers n now d k ms r → IsAnswer n d r.outputs ms r.members
-  element_answer a = subst (λ (y : Replied Pin Segment). IsAnswer n d y.outputs ms y.members) (sym a.is) (record {
-    to = a.held.key.peer;
-    message = e.message;
-    outputs_are = e.outputs;
-    owed_before =
-        subst (λ (b : Bool). 1 ≤ cond b (count_by_asker (is_peer a.held.key.peer) ms.parent.pending.rows) (count_by_asker (is_peer a.held.key.peer) (ms.elements d).pending.rows)) (sym a.upper)
-        (count_found (is_peer a.held.key.peer) k (ms.elements d).pending.rows a.held a.is_held (same_peer_self a.held.key.peer));
-    owed_after = owed_below d t.element ms k e.ends;
-    pending_after = pending_below d t.element ms k n.elements e.ends;
-  })
-    where
-      t : Taken Pin Segment
-      t = commit wire (place n d) (k, a.held) a.down now (λ b. b.segment) a.rows.source_known a.rows.target_known a.rows.best (ms.elements d)
+  by_element : ElementAnswers n now d k ms r → IsAnswer n d r.outputs ms r.members
+  by_element a =
+      subst (λ (y : Replied Pin Segment). IsAnswer n d y.outputs ms y.members) (sym a.is)
+      (element_answer n ms (place n d) now d k a.held a.down (λ b. b.segment) a.rows.source_known a.rows.target_known a.rows.best a.upper a.is_held)
 
-      e : Ends (k, a.held) (ms.elements d) t
-      e = commit_ends (place n d) (k, a.held) a.down now (λ b. b.segment) a.rows.source_known a.rows.target_known a.rows.best (ms.elements d)
-
-  parent_answer : ParentAnswers n k ms r → IsAnswer n parent_as r.outputs ms r.members
-  parent_answer a = subst (λ (y : Replied Pin Segment). IsAnswer n parent_as y.outputs ms y.members) (sym a.is) (record {
-    to = a.held.key.peer;
-    message = e.message;
-    outputs_are = e.outputs;
-    owed_before = count_found (is_peer a.held.key.peer) k ms.parent.pending.rows a.held a.is_held (same_peer_self a.held.key.peer);
-    owed_after = owed_above (parent.commit wire (k, a.held) a.answer ms.parent).parent ms k e.ends;
-    pending_after = pending_above (parent.commit wire (k, a.held) a.answer ms.parent).parent ms k n.elements e.ends;
-  })
-    where
-      e : EndsAbove (k, a.held) ms.parent (parent.commit wire (k, a.held) a.answer ms.parent)
-      e = commit_ends_above (k, a.held) a.answer ms.parent
+  by_parent : ParentAnswers n k ms r → IsAnswer n parent_as r.outputs ms r.members
+  by_parent a = subst (λ (y : Replied Pin Segment). IsAnswer n parent_as y.outputs ms y.members) (sym a.is) (parent_answer n ms k a.held a.answer a.is_held)
 
   pub member_answer : MemberAnswers n now d k ms r → IsAnswer n d r.outputs ms r.members
-  member_answer (inl a) = element_answer a
-  member_answer (inr a) = subst (λ (x : As). IsAnswer n x r.outputs ms r.members) (sym a.0) (parent_answer a.1)
+  member_answer (inl a) = by_element a
+  member_answer (inr a) = subst (λ (x : As). IsAnswer n x r.outputs ms r.members) (sym a.0) (by_parent a.1)
 
 -- ---- it is the model's solve
 

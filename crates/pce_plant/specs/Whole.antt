@@ -1,28 +1,21 @@
--- A network as its callers see it, and what an event leaves.
-use Rattle.std.specs.Prelude.{◌≡◌, List, [], ◌∷◌, OnOk, OnErr}
+-- A network with topologies as its callers see it, and what an event leaves.
+use Rattle.std.specs.Prelude.{◌≡◌, List, [], ◌∷◌}
 use Rattle.plant_text.specs.declared.settings.NetworkParts.{NetworkParts}
-use Rattle.plant_queues.specs.declared.sent.Sent.{Sent}
 use Rattle.plant_model.specs.declared.event.Event.{Event}
 use Rattle.plant_model.specs.declared.event.Event.TheVariants as event
 use Rattle.plant_model.specs.Events.{Answered}
-use Rattle.plant_model.specs.State.{said}
-use Rattle.plant_model.specs.Plant.{Plant, PlantDeed, Steps, Entry, IsGiven, Run}
+use Rattle.plant_model.specs.Plant.{Pin, Segment, PlantDeed, Steps, Entry, IsGiven, Run}
 use Rattle.plant_model.specs.RealWire.{wire}
+use Rattle.plant_network.specs.Whole as network
 
 -- its settings, its state, and the messages that the last accepted event put into queues
-pub record Whole : Type 0 where
-  pub network : NetworkParts
-  pub state : Plant
-  pub said : List Sent
+abbrev pub Whole : Type 0
+Whole = network.Whole Pin Segment
 
 -- An event is what happens in the model, or it is refused for want of memory; an event that is refused changes nothing. What was
 -- said is what its deeds put into queues; after a refusal it is as before.
-pub record Stepped (old : Whole) (e : Event) (answer : Answered) (new : Whole) : Type 0 where
-  pub network : new.network ≡ old.network
-  pub deeds : List PlantDeed
-  pub steps : Steps wire old.network old.state e (record { answer = answer; state = new.state; deeds = deeds })
-  pub accepted : OnOk answer (new.said ≡ said wire deeds)
-  pub refused : OnErr answer (new.said ≡ old.said)
+abbrev pub Stepped : Whole → Event → Answered → Whole → Type 0
+Stepped old e answer new = network.Stepped (λ n s h. Steps wire n s e h) old answer new
 
 -- a topology is loaded by the element of its own domain
 abbrev pub IsOwnLoad : Event → Type 0

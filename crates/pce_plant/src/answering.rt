@@ -3,12 +3,13 @@ ghost use Rattle.std.specs.Prelude.{◌≡◌, true, is_some, Some, IfErr, IfOk}
 ghost use Rattle.plant_model.specs.declared.event.Event.TheVariants.{Solve};
 ghost use Rattle.plant_model.specs.Events.{has_jobs};
 ghost use Rattle.plant_hierarchy.specs.Answering.{IsOwnDone, IsRefusedFor, IsWeighedWork, back_of};
-ghost use Rattle.plant_hierarchy.specs.Tiers.{members_of};
+ghost use Rattle.plant_hierarchy.specs.Topologies.{members_of};
 ghost use Rattle.pce_plant.specs.Held.{IsSound, Moves, held};
 ghost use Rattle.pce_plant.specs.Jobs.{IsSolvedBy, answer_of, handed_back, refusal_of, solved_at, solved_number, told};
 
 use border_costs::solve as solve_domain;
 use dom_base::{As, NoMemory};
+use pce_element::Topologies;
 use pce_parent::{Done, Work, solve_border};
 use plant_deeds::answer as send_answer;
 use plant_hierarchy::{Hierarchy, MemberPlan, Unanswered};
@@ -44,7 +45,7 @@ fn at_of(done: &Done) -> As
 }
 
 // What a plan was made for.
-fn done_of(plan: MemberPlan) -> Done
+fn done_of(plan: MemberPlan<Topologies>) -> Done
     requires { is_some (back_of plan) ≡ true }
     ensures { back_of plan ≡ Some result }
 {
@@ -57,7 +58,7 @@ fn done_of(plan: MemberPlan) -> Done
 /// Answers a job that was solved.
 fn answer(
     alloc: Global,
-    members: &mut Hierarchy,
+    members: &mut Hierarchy<Topologies>,
     traffic: &mut Traffic,
     done: Done,
 ) -> Result<Outcome, Unanswered>
@@ -100,7 +101,7 @@ fn told(answer: Result<Outcome, Unanswered>) -> Result<Outcome, Refused>
 /// Solves a job, and answers it.
 pub(crate) fn solve(
     alloc: Global,
-    members: &mut Hierarchy,
+    members: &mut Hierarchy<Topologies>,
     traffic: &mut Traffic,
     at: As,
     number: u64,
@@ -126,7 +127,7 @@ pub(crate) fn solve(
 /// Answers a job that was solved; a refusal hands it back.
 pub(crate) fn commit(
     alloc: Global,
-    members: &mut Hierarchy,
+    members: &mut Hierarchy<Topologies>,
     traffic: &mut Traffic,
     done: Done,
 ) -> Result<Outcome, CommitRefused>

@@ -1,5 +1,5 @@
 //! A network as one value.
-ghost use Rattle.std.specs.Prelude.{◌≡◌, [], length, slice_get, IfErr, IfOk, OnOk, IfSome};
+ghost use Rattle.std.specs.Prelude.{◌≡◌, slice_get, IfErr, IfOk, IfSome};
 ghost use Rattle.std.specs.Arc.{arc_value};
 ghost use Rattle.std.specs.Option.{option_map};
 ghost use Rattle.pce_element.specs.Rows.{pin_with};
@@ -9,15 +9,8 @@ ghost use Rattle.plant_lasting.specs.Lasting.{HaveGiven, JobsLast};
 ghost use Rattle.plant_hierarchy.specs.Answering.{IsWeighedWork};
 ghost use Rattle.plant_traffic.specs.Carried.{flow_of};
 ghost use Rattle.plant_traffic.specs.Waiting.{WaitsNext};
-ghost use Rattle.plant_deeds.specs.Passing.{IsOf};
-ghost use Rattle.plant_deeds.specs.Rooms.{IsRoomy};
-ghost use Rattle.plant_hierarchy.specs.Fresh.{begun};
-ghost use Rattle.plant_hierarchy.specs.Tiers.{members_of};
-ghost use Rattle.plant_model.specs.Plant.{Run};
-ghost use Rattle.plant_model.specs.RealWire.{wire};
 ghost use Rattle.plant_text.specs.Settings.{lines};
-ghost use Rattle.plant_traffic.specs.Flow.{IsBare};
-ghost use Rattle.pce_plant.specs.Held.{held, whole};
+ghost use Rattle.pce_plant.specs.Held.{whole};
 ghost use Rattle.pce_plant.specs.Current.{IsCurrent};
 ghost use Rattle.pce_plant.specs.Jobs.{CanSolve, IsOwn, IsWork, answer_of, handed_back, solved_at, solved_number};
 ghost use Rattle.pce_plant.specs.Whole.{GoesOn, IsBegun, IsOwnLoad, Stepped};
@@ -25,11 +18,11 @@ ghost use Rattle.pce_plant.specs.Whole.{GoesOn, IsBegun, IsOwnLoad, Stepped};
 use crate::answering::{CommitRefused, commit};
 use crate::events::act;
 use dom_base::{As, NoMemory};
+use pce_element::Topologies;
 use pce_parent::{Done, Work};
-use plant_deeds::begin_links;
 use plant_hierarchy::Hierarchy;
-use plant_layout::lines_of;
 use plant_model::{Event, Outcome, Refused};
+use plant_network::{begin, traffic_of};
 use plant_queues::Said;
 use plant_text::{Network, NetworkParts};
 use plant_traffic::Traffic;
@@ -43,7 +36,7 @@ use te_links::Topology;
 #[derive(Drop)]
 pub struct Plant {
     alloc: Global,
-    members: Hierarchy,
+    members: Hierarchy<Topologies>,
     traffic: Traffic,
 }
 
@@ -59,27 +52,13 @@ impl Model for Plant {
     ghost invariant = { HoldsSound };
 }
 
-// The links begin, between members that have just been made.
-fn begin(members: &Hierarchy, traffic: &mut Traffic) -> Result<(), NoMemory>
-    requires bare { IsBare (lines members.now.network) (length members.now.network.peers) (flow_of traffic.old) }
-    requires begun { members_of members.now ≡ begun members.now.network }
-    ensures of { OnOk result (IsOf members.now.network (flow_of traffic.new)) }
-    ensures said { OnOk result ((flow_of traffic.new).said ≡ []) }
-    ensures run { OnOk result (Run wire members.now.network [] (whole (held members.now traffic.new)).state) }
-    ensures room { OnOk result (IsRoomy members.now.network (members_of members.now) (flow_of traffic.new)) }
-{
-    begin_links(members, traffic)
-}
-
 impl Plant {
     /// A network of these settings. Each inner link is begun: an Open is in each of its queues (RFC 5440,
     /// section 4.2.1). No element has a topology yet.
     pub fn new(alloc: Global, network: Network) -> Result<Plant, NoMemory>
         ensures { IfOk result (λ plant. IsBegun network (whole plant)) }
     {
-        let lines = lines_of(alloc, network.parts())?;
-        let peers = network.parts().peers.len();
-        let mut traffic = Traffic::new(alloc, lines.as_slice(), peers)?;
+        let mut traffic = traffic_of(alloc, network.parts())?;
         let members = Hierarchy::new(alloc, network)?;
         begin(&members, &mut traffic)?;
         Ok(Plant {

@@ -7,7 +7,7 @@ use Rattle.te_links.specs.Rows.{Rows}
 use Rattle.te_text.specs.Reads.{IsFaulty}
 use Rattle.topology_files.specs.Loading.{HasTopology, topology_max}
 use Rattle.plant_text.specs.declared.fault.NetFault.{NetFault}
-use Rattle.path_certificate.specs.declared.cert_error.CertError.TheVariants.{At}
+use Rattle.te_text.specs.declared.error.TextError.TheVariants.{At}
 use Rattle.path_certificate.specs.Text.{certificate_in}
 use Rattle.diverse_pairs.specs.Text.{pair_in}
 use Rattle.pce_tool.specs.declared.status.Status.{Status}

@@ -9,5 +9,6 @@ pub mod RouteLemmas
 pub mod HeadlineLemmas
 pub mod ShortWords
 pub mod DrawnNetwork
+pub mod BlindLemmas
 pub mod BulkLemmas
 pub mod RunsAreWorth

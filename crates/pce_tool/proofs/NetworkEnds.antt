@@ -15,6 +15,7 @@ use Rattle.plant_script.specs.declared.stop.Stop.{Stop}
 use Rattle.plant_script.specs.declared.stop.Stop.TheVariants as stop
 use Rattle.plant_script.specs.Scripts.{around}
 use Rattle.plant_script.proofs.ScriptLemmas.{file_before, script_before}
+use Rattle.blind_script.specs.Scripts.{ScriptStops}
 use Rattle.plant_client.specs.Asking.{AskStops, Asks, StopsAtFile, load_line, topologies}
 use Rattle.plant_client.specs.Telling.{told_text}
 use Rattle.plant_bulk.specs.declared.tally.Tally.{Tally}
@@ -25,7 +26,7 @@ use Rattle.pce_tool.specs.declared.status.Status.TheVariants as status
 use Rattle.pce_tool.specs.Limits.{settings_max}
 use Rattle.pce_tool.specs.Worlds.{World, WroteNothing}
 use Rattle.pce_tool.specs.Parts.{IsBadSettings, IsFileStatus, IsFinished}
-use Rattle.pce_tool.specs.Networks.{BulkEnds, HasNetwork, HasScript, IsCounted, IsPathStatus, IsPlayStatus, IsSettingsFault, IsStopStatus, PathEnds, PlayEnds, question_of, status_of}
+use Rattle.pce_tool.specs.Networks.{BlindEnds, BulkEnds, HasNetwork, HasScript, IsBlindStatus, IsCounted, IsPathStatus, IsPlayStatus, IsSettingsFault, IsStopStatus, PathEnds, PlayEnds, around_of, question_of, status_of}
 
 -- ---- settings
 
@@ -75,6 +76,20 @@ script_played w net n has script has_script f0 f1 f2 counts le s is =
       ends = subst (λ (c : ℕ × ℕ). IsPlayStatus (around w.files (w.before, w.after) c w.output_faults w.failed_at) n script s) (sym counts)
           (play_before w.files n script (w.before, w.after) f0 f1 f2 w.output_faults w.failed_at le s is);
     }))
+
+-- ---- a script on a network without topologies
+
+pub blind_stopped : (written : Option (List ℕ) × Option (List ℕ)) (counts : ℕ × ℕ) (n : NetworkParts) (script : List ℕ) (why : Stop) → ScriptStops written counts n script why → IsBlindStatus written counts n script (status_of why)
+blind_stopped written counts n script stop.ReadFault is = absurd is.stops
+blind_stopped written counts n script stop.WriteFault is = is
+blind_stopped written counts n script (stop.BadNetwork file line fault) is = absurd is.stops
+blind_stopped written counts n script (stop.BadLine line) is = is
+blind_stopped written counts n script (stop.TooLarge name) is = is
+blind_stopped written counts n script stop.NoMemory is = is
+
+pub blindly_played : (w : World) (net : List ℕ) (n : NetworkParts) → HasNetwork w.files net n → (script : List ℕ) → HasScript w.input script → (s : Status) →
+    IsBlindStatus (w.before, w.after) w.output_faults n script s → BlindEnds w net s
+blindly_played w net n has script has_script s is = inr (inr (record { network = n; has = has; script = script; has_script = has_script; ends = is }))
 
 -- ---- a path
 

@@ -4,9 +4,9 @@ use Rattle.std.specs.Prelude.{Err}
 use Rattle.pce_tool.specs.declared.reading.RequestError.{RequestError}
 use Rattle.pce_tool.specs.declared.reading.RequestError.TheVariants.{Not, NoMemory}
 use Rattle.pce_tool.specs.declared.reading.Why.TheVariants.{Hex, Malformed, NotRequest, Refused, NotBuilt}
-use Rattle.pce_tool.specs.Requests.{ReadsMessage, Reads, ReadsPair}
+use Rattle.pce_tool.specs.Requests.{ReadsMessage, ReadsRequest, ReadsPair}
 
-pub unread : (own : ℕ) (text : List ℕ) (e : RequestError) → ReadsMessage text (Err e) → Reads own text (Err e)
+pub unread : (own : ℕ) (text : List ℕ) (e : RequestError) → ReadsMessage text (Err e) → ReadsRequest own text (Err e)
 unread own text (Not Hex) h = h
 unread own text (Not Malformed) h = h
 unread own text (Not NotRequest) h = absurd h

@@ -1,3 +1,4 @@
+-- The commands over one domain, each with what it writes.
 pub mod Answer
 pub mod Certify
 pub mod Verify

@@ -5,6 +5,10 @@ use Rattle.line_text.specs.Lines.{NumberedLine, told_lines}
 use Rattle.plant_text.specs.declared.settings.NetworkParts.{NetworkParts}
 use Rattle.plant_text.specs.Networks.{with_path}
 use Rattle.plant_text.specs.Settings.{is_element}
+use Rattle.plant_model.specs.Blind.{blind_opened, heard}
+use Rattle.plant_model.specs.Plant.{Entry, Plant, deeds_of}
+use Rattle.plant_model.specs.RealWire.{wire}
+use Rattle.plant_laws.specs.Worlds.{DisclosedRun}
 use Rattle.plant_counting.specs.Counting.{HasNoParent}
 use Rattle.plant_play.specs.Playing.{Stage}
 use Rattle.plant_play.specs.Turns.{Turn, entries_of}
@@ -15,9 +19,14 @@ use Rattle.plant_client.specs.Questions.{sequence_most}
 use Rattle.plant_bulk.specs.declared.requests.Demand.{Demand}
 use Rattle.plant_bulk.specs.Playing.{IsBulk, bulk_turns, network}
 use Rattle.plant_bulk.specs.Requests.{requests_most}
+use Rattle.blind_play.specs.Laws.{SaysSo}
+use Rattle.blind_play.specs.Playing.{Stage as BlindStage}
+use Rattle.blind_play.specs.Turns.{Turn as BlindTurn}
+use Rattle.blind_play.specs.Turns.{all_heard, trace_of}
+use Rattle.blind_script.specs.Scripts.{Playing as BlindlyPlaying}
 use Rattle.pce_tool.specs.declared.route.Route.{Route}
 use Rattle.pce_tool.specs.Networks.{HasNetwork, question_of}
-use Rattle.pce_tool.specs.Tasks.{Task, Bulk, Path, Play}
+use Rattle.pce_tool.specs.Tasks.{Task, Blind, Bulk, Path, Play}
 
 -- A run is right; and without a parent no id comes round in it, so what is said of it then has no premise.
 pub record IsWorth (n : NetworkParts) (turns : List Turn) (end : Stage) : Type 0 where
@@ -40,11 +49,23 @@ PathsAreWorth files net r =
 abbrev pub BulksAreWorth : ℕ → Type 0
 BulksAreWorth n = (d : Demand) (received : List (List ℕ)) → n ≤ requests_most → (b : IsBulk d n received) → IsWorth network (bulk_turns b) b.end
 
+-- What is told of lines that are played on a network without topologies is what such a network says on the trace of their events. Where
+-- that is what a run of a network with topologies discloses, it is what closed peers hear of that run once its links have begun.
+pub record IsHeard (n : NetworkParts) (turns : List BlindTurn) (told : List ℕ) (end : BlindStage) : Type 0 where
+  pub says : SaysSo n turns told end
+  pub hears : (es : List Entry) (s : Plant) → DisclosedRun wire n es (trace_of turns []) s → heard wire n (deeds_of wire n es) ≡ heard wire n (blind_opened wire n).deeds ++ all_heard n turns
+
+-- The first lines of a script, however many, that are played on the network of these settings without topologies.
+abbrev pub BlindsAreHeard : Option Files → List ℕ → Type 0
+BlindsAreHeard files net =
+    (n : NetworkParts) (done : List NumberedLine) (turns : List BlindTurn) (told : List ℕ) (end : BlindStage) → HasNetwork files net n → BlindlyPlaying n done turns told end → IsHeard n turns told end
+
 -- Of every run of a network that the words ask for: each path that a client is answered is feasible and of least cost among all walks
 -- through the asked domains in order, each domain as it stood when its element took the request; where a client is answered NO-PATH of
 -- nature 0, none exists; and what closed peers hear is a function of requests, policy and disclosed border costs alone.
 abbrev pub RunsAreWorth : Option Files → Option Task → Type 0
 RunsAreWorth files (Some (Play net)) = PlaysAreWorth files net
+RunsAreWorth files (Some (Blind net)) = BlindsAreHeard files net
 RunsAreWorth files (Some (Path net r)) = PathsAreWorth files net r
 RunsAreWorth files (Some (Bulk n)) = BulksAreWorth n
 RunsAreWorth files task = Unit {0}

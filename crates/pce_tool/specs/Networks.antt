@@ -1,4 +1,4 @@
--- How a run over a network ends: the settings in a file; a script that is played, from the input; a path that a client asks for; or a network that is drawn.
+-- How a run over a network ends: the settings in a file; a script that is played, from the input, with topologies or without; a path that a client asks for; or a network that is drawn.
 use Rattle.std.specs.Prelude.{◌≡◌, ◌⊎◌, ◌<◌, ◌≤◌, ℕ, true, false, List, length, Option, Some, None, IfSome}
 use Rattle.std.specs.Io.KnownBytes.{Appends}
 use Rattle.dom_base.specs.declared.names.As.{As}
@@ -17,6 +17,7 @@ use Rattle.plant_bulk.specs.declared.requests.Demand.TheVariants.{One}
 use Rattle.plant_bulk.specs.declared.tally.Tally.{Tally}
 use Rattle.plant_bulk.specs.Playing.{IsTallied}
 use Rattle.plant_bulk.specs.Telling.{tally_text}
+use Rattle.blind_script.specs.Scripts as blind
 use Rattle.pce_tool.specs.declared.status.Status.{Status}
 use Rattle.pce_tool.specs.declared.status.Status.TheVariants as status
 use Rattle.pce_tool.specs.Limits.{settings_max}
@@ -27,7 +28,7 @@ use Rattle.plant_client.specs.Telling.{told_text}
 use Rattle.pce_tool.specs.declared.route.Route.{Route}
 use Rattle.pce_tool.specs.Parts.{IsFileStatus}
 use Rattle.pce_tool.specs.Run.{Ends}
-use Rattle.pce_tool.specs.Tasks.{Task, Bulk, Domain, Path, Play}
+use Rattle.pce_tool.specs.Tasks.{Task, Blind, Bulk, Domain, Path, Play}
 
 -- the settings in the file of that name
 pub record HasNetwork (files : Option Files) (name : List ℕ) (n : NetworkParts) : Type 0 where
@@ -98,6 +99,30 @@ pub record IsPlayed (w : World) (net : List ℕ) (s : Status) : Type 0 where
 -- How a run that plays a script ends: the settings are not read, or the script is not, or it is played.
 abbrev pub PlayEnds : World → List ℕ → Status → Type 0
 PlayEnds w net s = (WroteNothing w × IsSettingsStatus w net s) ⊎ HasNoScript w net s ⊎ IsPlayed w net s
+
+-- ---- a script on a network without topologies
+
+-- How it ends: all of it is played, or up to where it stops. It names no file. `written` is what was written before it and after,
+-- `counts` are the output's faults.
+abbrev pub IsBlindStatus : Option (List ℕ) × Option (List ℕ) → ℕ × ℕ → NetworkParts → List ℕ → Status → Type 0
+IsBlindStatus written counts n script status.Ok = blind.IsWhole written n script
+IsBlindStatus written counts n script status.WriteFault = blind.ScriptStops written counts n script stop.WriteFault
+IsBlindStatus written counts n script (status.BadLine line) = blind.ScriptStops written counts n script (stop.BadLine line)
+IsBlindStatus written counts n script status.NoMemory = blind.ScriptStops written counts n script stop.NoMemory
+IsBlindStatus written counts n script (status.TooLarge name) = blind.ScriptStops written counts n script (stop.TooLarge name)
+IsBlindStatus written counts n script s = ⊥
+
+-- the settings and the script are read, and it is played
+pub record IsBlindlyPlayed (w : World) (net : List ℕ) (s : Status) : Type 0 where
+  pub network : NetworkParts
+  pub has : HasNetwork w.files net network
+  pub script : List ℕ
+  pub has_script : HasScript w.input script
+  pub ends : IsBlindStatus (w.before, w.after) w.output_faults network script s
+
+-- How a run that plays such a script ends: the settings are not read, or the script is not, or it is played.
+abbrev pub BlindEnds : World → List ℕ → Status → Type 0
+BlindEnds w net s = (WroteNothing w × IsSettingsStatus w net s) ⊎ HasNoScript w net s ⊎ IsBlindlyPlayed w net s
 
 -- ---- a path
 
@@ -184,5 +209,6 @@ abbrev pub Runs : World → Option Task → Status → Type 0
 Runs w None s = (s ≡ status.Usage) × WroteNothing w
 Runs w (Some (Domain c)) s = Ends w c s
 Runs w (Some (Play net)) s = PlayEnds w net s
+Runs w (Some (Blind net)) s = BlindEnds w net s
 Runs w (Some (Path net route)) s = PathEnds w net route s
 Runs w (Some (Bulk n)) s = BulkEnds w n s

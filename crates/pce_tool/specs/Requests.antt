@@ -112,7 +112,7 @@ ReadsMessage text (Err errors.NoMemory) = Unit {0}
 ReadsMessage text (Err _) = ⊥
 
 -- what is read of a text, unless memory runs out
-abbrev pub Reads : ℕ → List ℕ → Result PathRequest RequestError → Type 0
-Reads own text (Ok r) = IsPathRequest own text r
-Reads own text (Err (errors.Not why)) = IsWhy own text why
-Reads own text (Err errors.NoMemory) = Unit {0}
+abbrev pub ReadsRequest : ℕ → List ℕ → Result PathRequest RequestError → Type 0
+ReadsRequest own text (Ok r) = IsPathRequest own text r
+ReadsRequest own text (Err (errors.Not why)) = IsWhy own text why
+ReadsRequest own text (Err errors.NoMemory) = Unit {0}

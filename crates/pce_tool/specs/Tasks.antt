@@ -13,10 +13,11 @@ use Rattle.plant_bulk.specs.Requests.{requests_most}
 use Rattle.pce_tool.specs.declared.route.Route.{Route}
 use Rattle.pce_tool.specs.Run.{Command, command_of}
 
--- a command over one domain; a script on a network; a path that a client of a network asks for; or so many requests over a drawn network
+-- a command over one domain; a script on a network, or on one without topologies; a path that a client of a network asks for; or so many requests over a drawn network
 pub data Task : Type 0 where
   Domain : Command → Task
   Play : List ℕ → Task
+  Blind : List ℕ → Task
   Path : List ℕ → Route → Task
   Bulk : ℕ → Task
 
@@ -104,7 +105,10 @@ path_task net source target words = path_in source target words >>= λ r. Some (
 
 -- what words ask for that are no command over one domain
 abbrev pub network_task : List (List ℕ) → Option Task
-network_task (verb ∷ word ∷ []) = if bytes_eq verb (codes "play") then Some (Play word) else (if bytes_eq verb (codes "bulk") then bulk_task word else None)
+network_task (verb ∷ word ∷ []) =
+    if bytes_eq verb (codes "play") then Some (Play word)
+    else (if bytes_eq verb (codes "blind") then Some (Blind word)
+    else (if bytes_eq verb (codes "bulk") then bulk_task word else None))
 network_task (verb ∷ net ∷ source ∷ target ∷ words) = if bytes_eq verb (codes "path") then path_task net source target words else None
 network_task words = None
 

@@ -1,6 +1,7 @@
 //! The commands, one a file.
 
 pub(crate) mod answer;
+pub(crate) mod blind;
 pub(crate) mod bulk;
 pub(crate) mod certify;
 pub(crate) mod pair;

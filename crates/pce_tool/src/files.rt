@@ -1,6 +1,6 @@
 //! The files of a command.
 ghost use Rattle.std.specs.Prelude.{◌≡◌, ◌≤◌, ◌<◌, ◌^◌, ℕ, List, length, IfOk, IfErr, Err, Some};
-ghost use Rattle.path_certificate.specs.declared.cert_error.CertError.TheVariants.{At};
+ghost use Rattle.te_text.specs.declared.error.TextError.TheVariants.{At};
 ghost use Rattle.te_text.specs.Reads.{IsFaulty};
 ghost use Rattle.te_links.specs.declared.fault.TopoFault.{TopoFault};
 ghost use Rattle.path_certificate.specs.Rows.{AreLabelRows};
@@ -19,10 +19,11 @@ use crate::status::Status;
 use diverse_pairs::{PairCertificate, read_pair};
 use dom_base::{Bytes, Text};
 use dom_edge::{Store, StoreError};
-use path_certificate::{CertError, Certificate, read_certificate};
+use path_certificate::{Certificate, read_certificate};
 use plant_text::{NetError, NetFault, Network, read_network};
 use std::alloc::Global;
 use te_links::{TopoFault, Topology};
+use te_text::TextError;
 use topology_files::LoadError;
 
 // The status of a run that ends at a line of a file.
@@ -116,8 +117,8 @@ pub fn load_certificate<S: Store>(
     let bytes = read_file(alloc, store, name, CERTIFICATE_MAX)?;
     match read_certificate(alloc, bytes.as_slice(), topology) {
         Ok(certificate) => Ok(certificate),
-        Err(CertError::At(line, fault)) => Err(bad_network(alloc, name, line, fault)),
-        Err(CertError::NoMemory) => Err(Status::NoMemory),
+        Err(TextError::At(line, fault)) => Err(bad_network(alloc, name, line, fault)),
+        Err(TextError::NoMemory) => Err(Status::NoMemory),
     }
 }
 
@@ -137,8 +138,8 @@ pub fn load_pair_certificate<S: Store>(
     let bytes = read_file(alloc, store, name, CERTIFICATE_MAX)?;
     match read_pair(alloc, bytes.as_slice(), topology) {
         Ok(certificate) => Ok(certificate),
-        Err(CertError::At(line, fault)) => Err(bad_network(alloc, name, line, fault)),
-        Err(CertError::NoMemory) => Err(Status::NoMemory),
+        Err(TextError::At(line, fault)) => Err(bad_network(alloc, name, line, fault)),
+        Err(TextError::NoMemory) => Err(Status::NoMemory),
     }
 }
 

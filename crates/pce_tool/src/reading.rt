@@ -1,7 +1,7 @@
 //! A request as hexadecimal text.
 ghost use Rattle.std.specs.Prelude.{◌≡◌, ◌≤◌, length, Err, MatchOption};
 ghost use Rattle.pcep_messages.specs.declared.message.Wish.TheVariants as wishes;
-ghost use Rattle.pce_tool.specs.Requests.{one_request as one_request_of, GoesOn, Reads, ReadsMessage};
+ghost use Rattle.pce_tool.specs.Requests.{one_request as one_request_of, GoesOn, ReadsMessage, ReadsRequest};
 
 use dom_base::As;
 use line_text::{HexError, read_hex};
@@ -90,7 +90,7 @@ pub(crate) fn read_spelled(alloc: Global, text: &[u8]) -> Result<Message, Reques
 /// Reads a request for a path within the domain `own`: hexadecimal text of one PCReq.
 #[tactic(auto, using(crate::proofs::Unread::unread, crate::proofs::Beyond::beyond))]
 pub fn read_path_request(alloc: Global, text: &[u8], own: As) -> Result<PathRequest, RequestError>
-    ensures { Reads own.0 text.now result }
+    ensures { ReadsRequest own.0 text.now result }
 {
     let message = match read_spelled(alloc, text) {
         Ok(message) => message,

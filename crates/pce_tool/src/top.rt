@@ -5,7 +5,9 @@ ghost use Rattle.pce_tool.specs.Networks.{Runs};
 ghost use Rattle.pce_tool.specs.Tasks.{LeavesInput, bulk_task, count_in, path_in, path_task, task_of};
 ghost use Rattle.pce_tool.specs.Worlds.{world};
 
-use crate::commands::{answer, bulk, certify, pair, pair_certify, pair_verify, path, play, verify};
+use crate::commands::{
+    answer, blind, bulk, certify, pair, pair_certify, pair_verify, path, play, verify,
+};
 use crate::count::count_of;
 use crate::route::path_of;
 use crate::status::Status;
@@ -57,6 +59,9 @@ fn run_over<S: Store, I: Source, K: Sink>(
     }
     if verb == "play" {
         return play::run(alloc, word, store, input, out);
+    }
+    if verb == "blind" {
+        return blind::run(alloc, word, store, input, out);
     }
     if verb == "bulk" {
         return run_bulk(alloc, word, store, input, out);

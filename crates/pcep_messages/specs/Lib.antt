@@ -1,3 +1,4 @@
+-- for readers
 pub mod Groups
 pub mod Messages
 pub mod Spelling

@@ -37,15 +37,18 @@ among xs n = list_any (λ x. x == n) xs
 abbrev pub no_request_classes : List ℕ
 no_request_classes = classes.OPEN ∷ classes.NO_PATH ∷ classes.ERO ∷ classes.NOTIFICATION ∷ classes.PCEP_ERROR ∷ classes.CLOSE ∷ []
 
+-- at the parent, whose number is 0, END-POINTS of IPv6 can't be served
+abbrev pub ipv6_at : ℕ → Reason
+ipv6_at own = because (own == 0) errors.KIND_NOT_SERVED
+
 -- An object is not supported where no such class is known (3/1), no such type of the class (3/2), or where a request
--- can't be served with such a class (4/1) or type (4/2). At the parent, whose number is 0, END-POINTS of IPv6 can't be
--- served either.
+-- can't be served with such a class (4/1) or type (4/2).
 abbrev pub unsupported : ℕ → ℕ → ℕ → Reason
 unsupported own class kind =
     if among (classes.RRO ∷ classes.SVEC ∷ classes.LOAD_BALANCING ∷ []) class then Some errors.CLASS_NOT_SERVED
     else (if not (among read_classes class) then Some errors.UNKNOWN_CLASS
     else (if (class == classes.BANDWIDTH) && (kind == kinds.BANDWIDTH_IN_USE) then Some errors.KIND_NOT_SERVED
-    else (if (class == classes.END_POINTS) && (kind == kinds.END_POINTS_IPV6) then because (own == 0) errors.KIND_NOT_SERVED
+    else (if (class == classes.END_POINTS) && (kind == kinds.END_POINTS_IPV6) then ipv6_at own
     else (if not (kind == kinds.FIRST) then Some errors.UNKNOWN_KIND
     else because (among no_request_classes class) errors.CLASS_NOT_SERVED))))
 

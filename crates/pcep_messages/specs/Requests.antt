@@ -24,6 +24,12 @@ use Rattle.pcep_messages.specs.Refusals.{asked_type, domains, refusal_of}
 
 -- ---- the query
 
+-- the type of a METRIC (RFC 5440, section 7.8)
+abbrev pub type_of_metric : Metric → ℕ
+type_of_metric metrics.Igp = types.IGP
+type_of_metric metrics.Te = types.TE
+type_of_metric metrics.Hops = types.HOPS
+
 abbrev pub metric_of_type : ℕ → Metric
 metric_of_type kind = if kind == types.IGP then metrics.Igp else (if kind == types.HOPS then metrics.Hops else metrics.Te)
 

@@ -5,6 +5,7 @@ mod answers;
 mod groups;
 mod law;
 mod message;
+mod metric;
 mod objects;
 mod reading;
 mod refusing;
@@ -19,7 +20,10 @@ pub use message::{
     Answer, Asked, Bad, ErrorReport, Message, Notice, Path, Refusal, Reply, Request, Wanted, Wish,
     WriteError,
 };
-pub use reading::{messages_are_read_again, no_message_begins_another, read_message};
+pub use metric::type_of_metric;
+pub use reading::{
+    messages_are_octets, messages_are_read_again, no_message_begins_another, read_message,
+};
 pub use requests::request_of;
 pub use splitting::split_message;
 pub use writing::write_message;

@@ -4,16 +4,28 @@ ghost use Rattle.std.specs.Prelude.{◌≡◌, None, Some, MatchResult, not, tru
 ghost use Rattle.std.specs.List.{list_all};
 ghost use Rattle.pcep_messages.specs.Said.{asks_key, end_points_of, iro_of, key_of, metrics_of, rp_of, xro_of};
 ghost use Rattle.pcep_messages.specs.Requests.{metric_of_type};
-ghost use Rattle.pcep_messages.specs.Refusals.{asked_type, is_metric, agree_on, unsupported, unsupported_among, among, are_measures, can_exclude, domain_in, domains, is_domain, has_twice, begins_with, can_follow, first_of, request_rules, key_rules, path_rules};
+ghost use Rattle.pcep_messages.specs.Refusals.{asked_type, ipv6_at, agree_on, unsupported, unsupported_among, among, are_measures, can_exclude, domain_in, domains, is_domain, has_twice, begins_with, can_follow, first_of, request_rules, key_rules, path_rules};
 
+use crate::metric::metric_of_type;
 use crate::said::{
     are_of_type, count_bounds, count_minimised, find_end_points, find_key, find_rp, metric_type,
 };
 use dom_base::{Addr, As, Metric};
 use path_exclusions::find_unsupported;
-use pcep_codes::{classes, errors, flags, kinds, metrics};
+use pcep_codes::{classes, errors, flags, kinds};
 use pcep_objects::{Body, Object};
 use pcep_subobjects::Hop;
+
+// The error that END-POINTS of IPv6 give at the parent.
+fn ipv6_at(own: As) -> Option<(u8, u8)>
+    ensures { result ≡ ipv6_at own.0 }
+{
+    if own == As(0) {
+        Some(errors::KIND_NOT_SERVED)
+    } else {
+        None
+    }
+}
 
 /// The type and value of the error that an object of a class and type gives, if it has to be taken
 /// into account.
@@ -23,13 +35,7 @@ fn unsupported_kind(own: As, class: u8, kind: u8) -> Option<(u8, u8)>
     match class {
         classes::RRO | classes::SVEC | classes::LOAD_BALANCING => Some(errors::CLASS_NOT_SERVED),
         classes::BANDWIDTH if kind == kinds::BANDWIDTH_IN_USE => Some(errors::KIND_NOT_SERVED),
-        classes::END_POINTS if kind == kinds::END_POINTS_IPV6 => {
-            if own == As(0) {
-                Some(errors::KIND_NOT_SERVED)
-            } else {
-                None
-            }
-        }
+        classes::END_POINTS if kind == kinds::END_POINTS_IPV6 => ipv6_at(own),
         classes::OPEN
         | classes::NO_PATH
         | classes::ERO
@@ -82,7 +88,7 @@ fn find_unsupported_object(objects: &[Object], own: As) -> Option<(u8, u8)>
 }
 
 /// The flags and the number of a request, or the error that it is answered with whatever it asks for.
-pub fn find_request(objects: &[Object], own: As) -> Result<(u32, u32), (u8, u8)>
+pub(crate) fn find_request(objects: &[Object], own: As) -> Result<(u32, u32), (u8, u8)>
     ensures { MatchResult result
         (λ rp. (first_of (request_rules own.0 objects.now) ≡ None) × (rp_of objects.now ≡ Some (rp, true)))
         (λ e. first_of (request_rules own.0 objects.now) ≡ Some e) }
@@ -105,7 +111,7 @@ pub fn find_request(objects: &[Object], own: As) -> Result<(u32, u32), (u8, u8)>
 }
 
 /// The path key that is asked for, and the element that keeps it, or the error.
-pub fn find_asked_key(objects: &[Object]) -> Result<(u16, Addr), (u8, u8)>
+pub(crate) fn find_asked_key(objects: &[Object]) -> Result<(u16, Addr), (u8, u8)>
     ensures { MatchResult result
         (λ k. (first_of (key_rules objects.now) ≡ None) × (key_of objects.now ≡ Some k))
         (λ e. first_of (key_rules objects.now) ≡ Some e) }
@@ -113,17 +119,6 @@ pub fn find_asked_key(objects: &[Object]) -> Result<(u16, Addr), (u8, u8)>
     match find_key(objects) {
         Some(key) => Ok(key),
         None => Err(errors::PARAMETER_NOT_SERVED),
-    }
-}
-
-fn metric_of(kind: u8) -> Option<Metric>
-    ensures { result ≡ (if is_metric kind then Some (metric_of_type kind) else None) }
-{
-    match kind {
-        metrics::IGP => Some(Metric::Igp),
-        metrics::TE => Some(Metric::Te),
-        metrics::HOPS => Some(Metric::Hops),
-        _ => None,
     }
 }
 
@@ -138,7 +133,7 @@ fn find_metric(objects: &[Object]) -> Option<Metric>
     ensures { result ≡ (if are_measures objects.now then Some (metric_of_type (asked_type (metrics_of objects.now))) else None) }
 {
     let kind = metric_type(objects);
-    match metric_of(kind) {
+    match metric_of_type(kind) {
         Some(metric) if agree(objects, kind) => Some(metric),
         _ => None,
     }
@@ -155,7 +150,7 @@ fn excludes(objects: &[Object]) -> bool
     true
 }
 
-pub fn domain(hop: &Hop) -> Option<u16>
+pub(crate) fn domain(hop: &Hop) -> Option<u16>
     ensures { result ≡ domain_in hop.now }
 {
     match hop {
@@ -230,7 +225,7 @@ fn follows(objects: &[Object], own: As) -> bool
 }
 
 /// The ends of the path that is asked for and what it is measured by, or the error.
-pub fn find_ends(objects: &[Object], own: As) -> Result<((Addr, Addr), Metric), (u8, u8)>
+pub(crate) fn find_ends(objects: &[Object], own: As) -> Result<((Addr, Addr), Metric), (u8, u8)>
     ensures { MatchResult result
         (λ found. (first_of (path_rules own.0 objects.now) ≡ None)
         × (end_points_of own.0 objects.now ≡ Some (found.0, true))
@@ -248,7 +243,7 @@ pub fn find_ends(objects: &[Object], own: As) -> Result<((Addr, Addr), Metric), 
 }
 
 /// Whether the flag of path keys is set.
-pub fn asks_for_key(rp: Option<((u32, u32), bool)>) -> bool
+pub(crate) fn asks_for_key(rp: Option<((u32, u32), bool)>) -> bool
     ensures { result ≡ asks_key rp }
 {
     match rp {

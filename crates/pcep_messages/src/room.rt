@@ -196,7 +196,7 @@ fn behind_reports(reports: &[ErrorReport], room: usize) -> Option<usize>
     Some(left)
 }
 
-pub fn behind_content(message: &Message, room: usize) -> Option<usize>
+pub(crate) fn behind_content(message: &Message, room: usize) -> Option<usize>
     ensures { IsLeftBehind (content_text message.now) room result }
 {
     match message {

@@ -14,7 +14,7 @@ use pcep_objects::{Body, Object};
 use pcep_subobjects::Hop;
 
 /// The flags and the number of the first RP, and its P bit.
-pub fn find_rp(objects: &[Object]) -> Option<((u32, u32), bool)>
+pub(crate) fn find_rp(objects: &[Object]) -> Option<((u32, u32), bool)>
     ensures { result ≡ rp_of objects.now }
 {
     for object in objects {
@@ -45,7 +45,7 @@ fn end_points_with_bit(object: &Object, own: As) -> Option<((Addr, Addr), bool)>
 }
 
 /// The first END-POINTS, and its P bit. The parent passes those of type 2 over.
-pub fn find_end_points(objects: &[Object], own: As) -> Option<((Addr, Addr), bool)>
+pub(crate) fn find_end_points(objects: &[Object], own: As) -> Option<((Addr, Addr), bool)>
     ensures { result ≡ end_points_of own.0 objects.now }
 {
     for object in objects {
@@ -66,7 +66,7 @@ fn bandwidth(object: &Object) -> Option<u32>
 }
 
 /// The word of the first BANDWIDTH.
-pub fn find_bandwidth(objects: &[Object]) -> Option<u32>
+pub(crate) fn find_bandwidth(objects: &[Object]) -> Option<u32>
     ensures { result ≡ bandwidth_of objects.now }
 {
     for object in objects {
@@ -92,7 +92,7 @@ fn masks(object: &Object) -> Option<(u32, u32, u32)>
 }
 
 /// The masks of colours of the first LSPA.
-pub fn find_masks(objects: &[Object]) -> Option<(u32, u32, u32)>
+pub(crate) fn find_masks(objects: &[Object]) -> Option<(u32, u32, u32)>
     ensures { result ≡ masks_of objects.now }
 {
     for object in objects {
@@ -118,7 +118,7 @@ fn metric(object: &Object) -> Option<(bool, u8, u32)>
 }
 
 /// The type of the first METRIC, or that of TE.
-pub fn metric_type(objects: &[Object]) -> u8
+pub(crate) fn metric_type(objects: &[Object]) -> u8
     ensures { result ≡ asked_type (metrics_of objects.now) }
 {
     for object in objects {
@@ -130,7 +130,7 @@ pub fn metric_type(objects: &[Object]) -> u8
 }
 
 /// The word of the first METRIC that is a bound.
-pub fn find_bound(objects: &[Object]) -> Option<u32>
+pub(crate) fn find_bound(objects: &[Object]) -> Option<u32>
     ensures { result ≡ bound_of (metrics_of objects.now) }
 {
     for object in objects {
@@ -141,7 +141,7 @@ pub fn find_bound(objects: &[Object]) -> Option<u32>
     None
 }
 
-pub fn are_of_type(objects: &[Object], kind: u8) -> bool
+pub(crate) fn are_of_type(objects: &[Object], kind: u8) -> bool
     ensures { result ≡ list_all (λ m. m.1 == kind) (metrics_of objects.now) }
 {
     objects
@@ -164,7 +164,7 @@ fn minimises(object: &Object) -> bool
     matches!(metric(object), Some((false, _, _)))
 }
 
-pub fn count_bounds(objects: &[Object]) -> usize
+pub(crate) fn count_bounds(objects: &[Object]) -> usize
     ensures { result ≡ count_by is_bound objects.now }
 {
     let mut count = 0;
@@ -176,7 +176,7 @@ pub fn count_bounds(objects: &[Object]) -> usize
     count
 }
 
-pub fn count_minimised(objects: &[Object]) -> usize
+pub(crate) fn count_minimised(objects: &[Object]) -> usize
     ensures { result ≡ count_by is_minimised objects.now }
 {
     let mut count = 0;
@@ -200,7 +200,7 @@ fn first_key_of(route: &[Hop]) -> Option<(u16, Addr)>
 }
 
 /// The path key that is asked for, and the element that keeps it.
-pub fn find_key(objects: &[Object]) -> Option<(u16, Addr)>
+pub(crate) fn find_key(objects: &[Object]) -> Option<(u16, Addr)>
     ensures { result ≡ key_of objects.now }
 {
     for object in objects {

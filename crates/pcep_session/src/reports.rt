@@ -6,7 +6,7 @@ use pcep_messages::ErrorReport;
 use pcep_objects::OpenBody;
 
 /// The first error of a message, by type and value.
-pub fn first_error(reports: &[ErrorReport]) -> Option<(u8, u8)>
+pub(crate) fn first_error(reports: &[ErrorReport]) -> Option<(u8, u8)>
     ensures { result ≡ first_error_of reports.now }
 {
     for report in reports {
@@ -18,7 +18,7 @@ pub fn first_error(reports: &[ErrorReport]) -> Option<(u8, u8)>
 }
 
 /// The first OPEN of a message of errors.
-pub fn first_opening(reports: &[ErrorReport]) -> Option<OpenBody>
+pub(crate) fn first_opening(reports: &[ErrorReport]) -> Option<OpenBody>
     ensures { result ≡ first_opening_of reports.now }
 {
     for report in reports {

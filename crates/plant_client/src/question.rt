@@ -1,16 +1,16 @@
 //! What a client asks for, and the bytes that it sends.
-ghost use Rattle.std.specs.Prelude.{◌≡◌, ◌≤◌, length, map, IfOk, OnOk};
+ghost use Rattle.std.specs.Prelude.{◌≡◌, ◌≤◌, length, IfOk, OnOk};
 ghost use Rattle.std.specs.Option.{option_to_list};
 ghost use Rattle.pcep_subobjects.specs.Subobjects.{AreOctets};
-ghost use Rattle.plant_model.specs.Writing.{as_hop, bandwidth, ends, ends_kind, iro, needed};
+ghost use Rattle.plant_model.specs.Writing.{bandwidth};
 ghost use Rattle.plant_client.specs.Questions.{asked_of, opening_text, question_message, question_text, sequence_most};
 
 use dom_base::{Addr, As, Bytes, List, NoMemory};
-use pcep_codes::{classes, kinds};
+use member_parts::{ends, needed, one, sequence_object};
+use pcep_codes::classes;
 use pcep_messages::{Asked, Message, WriteError, write_message};
 use pcep_objects::{Body, Object};
-use pcep_subobjects::Hop;
-use std::alloc::{AllocError, Global};
+use std::alloc::Global;
 
 /// A path that is asked for: the number of the request, from where, to where, the word of the bandwidth that it is to
 /// have, and the domains that it goes through, in order. Where no domains are named, the parent finds them.
@@ -21,61 +21,6 @@ pub struct Question {
     pub target: Addr,
     pub bandwidth: Option<u32>,
     pub sequence: List<As>,
-}
-
-fn needed(class: u8, body: Body) -> Object
-    ensures { result ≡ needed class body }
-{
-    Object {
-        class,
-        kind: kinds::FIRST,
-        must: true,
-        body,
-    }
-}
-
-fn ends_kind(source: Addr, target: Addr) -> u8
-    ensures { result ≡ ends_kind source target }
-{
-    match (source, target) {
-        (Addr::V6(_), Addr::V6(_)) => kinds::END_POINTS_IPV6,
-        _ => kinds::FIRST,
-    }
-}
-
-fn ends(source: Addr, target: Addr) -> Object
-    ensures { result ≡ ends source target }
-{
-    Object {
-        class: classes::END_POINTS,
-        kind: ends_kind(source, target),
-        must: true,
-        body: Body::EndPoints { source, target },
-    }
-}
-
-fn domain_hops(alloc: Global, sequence: &[As]) -> Result<Vec<Hop>, AllocError>
-    ensures { IfOk result (λ hops. hops.items ≡ map as_hop sequence.now) }
-{
-    sequence
-        .iter()
-        .map(|number| Hop::AsNumber {
-            loose: false,
-            number: *number,
-        })
-        .collect(alloc)
-}
-
-fn sequence_object(alloc: Global, sequence: &[As]) -> Result<Option<Object>, NoMemory>
-    ensures { IfOk result (λ object. option_to_list object ≡ iro sequence.now) }
-{
-    match sequence {
-        [] => Ok(None),
-        [_first, ..] => {
-            let hops = domain_hops(alloc, sequence)?;
-            Ok(Some(needed(classes::IRO, Body::Iro(List::from_vec(hops)))))
-        }
-    }
 }
 
 fn bandwidth_object(word: Option<u32>) -> Option<Object>
@@ -109,9 +54,8 @@ fn asked_of(alloc: Global, question: &Question) -> Result<Asked, NoMemory>
 fn question_message(alloc: Global, question: &Question) -> Result<Message, NoMemory>
     ensures { IfOk result (λ message. message ≡ question_message question.now) }
 {
-    let mut asked = List::new(alloc);
-    asked.push(asked_of(alloc, question)?)?;
-    Ok(Message::PcReq(asked))
+    let asked = asked_of(alloc, question)?;
+    Ok(Message::PcReq(one(alloc, asked)?))
 }
 
 // Bytes are octets.

@@ -4,6 +4,7 @@ use Rattle.std.specs.Prelude.{IfErr, IfOk, IfSome, ◌↔◌}
 use Rattle.std.specs.Map.{lookup}
 use Rattle.dom_base.specs.declared.names.As.{As}
 use Rattle.request_table.specs.declared.held.Held.{Held}
+use Rattle.disclosure.specs.Shown.{open_of}
 use Rattle.te_links.specs.Rows.{Rows}
 use Rattle.vspt_tree.specs.declared.branch.Branch.{Branch}
 use Rattle.border_costs.specs.declared.job.Ask.{Ask}
@@ -16,12 +17,12 @@ use Rattle.plant_model.specs.Element.{Element, Item, Place, Stage, Taken, Waits,
 use Rattle.plant_model.specs.Events.{has_jobs, is_ready_asking, is_ready_row}
 use Rattle.plant_model.specs.Jobs.{ask_of}
 use Rattle.plant_model.specs.Parent as parent
-use Rattle.plant_model.specs.Plant.{Pin, Segment, ask}
+use Rattle.plant_model.specs.Plant.{Pin, Segment, ask, first_pin}
 use Rattle.plant_model.specs.RealWire.{wire}
 use Rattle.plant_model.specs.Settings.{family, place}
 use Rattle.plant_model.specs.Solving.{commit}
 use Rattle.plant_members.specs.Membership.{Membership, Replied, with_element, with_parent}
-use Rattle.pce_element.specs.Committing.{IsOwnJob, commit_held, commit_row, commit_stage, committed}
+use Rattle.pce_element.specs.Committing.{IsOwnJob, commit_held, commit_solved, commit_stage, committed, own_part}
 use Rattle.pce_element.specs.Jobs.{Work, job_at, work_for, work_at}
 use Rattle.pce_element.specs.Plans.{Planned}
 use Rattle.pce_element.specs.Seen.{Seen}
@@ -41,19 +42,19 @@ use Rattle.plant_hierarchy.specs.Elements.{own_of, at_domain, element_or}
 use Rattle.plant_hierarchy.specs.Tiers.{Tiers, AreSet, Become, lost_in, members_of}
 use Rattle.plant_hierarchy.specs.declared.answering.Unanswered.{Unanswered}
 use Rattle.plant_hierarchy.specs.declared.plan.MemberPlan.{MemberPlan}
-use Rattle.plant_hierarchy.proofs.LoadLemmas.{found_own}
+use Rattle.plant_hierarchy.proofs.DomainLemmas.{found_own}
 use Rattle.plant_hierarchy.proofs.StepLemmas.{is_upper, keeps_below}
 use Rattle.plant_hierarchy.proofs.TierLemmas.{placed_at}
 
 -- the request that is answered
-record IsAnswered (s : Seen) (x : Solution) (now : ℕ) (taken : Taken Pin Segment) : Type 0 where
+record IsAnswered (s : Seen Pin Segment) (x : Solution) (now : ℕ) (taken : Taken Pin Segment) : Type 0 where
   held : Held (Item Pin)
   found : lookup (nat_eq x.ask.number) s.losing.element.pending.rows ≡ Some held
   down : List Branch
   ready : held.item.stage ≡ Ready down
-  is : taken ≡ commit_row s x now (x.ask.number, held) down
+  is : taken ≡ commit_solved s x now (x.ask.number, held) down
 
-is_answered : (s : Seen) (x : Solution) (now : ℕ) (taken : Taken Pin Segment) → committed s x now ≡ Some taken → IsAnswered s x now taken
+is_answered : (s : Seen Pin Segment) (x : Solution) (now : ℕ) (taken : Taken Pin Segment) → committed s x now ≡ Some taken → IsAnswered s x now taken
 is_answered s x now taken is = go (lookup (nat_eq x.ask.number) s.losing.element.pending.rows) refl is
   where
     some_one : (a b : Taken Pin Segment) → Some a ≡ Some b → a ≡ b
@@ -64,14 +65,14 @@ is_answered s x now taken is = go (lookup (nat_eq x.ask.number) s.losing.element
 
     at_stage : (h : Held (Item Pin)) → lookup (nat_eq x.ask.number) s.losing.element.pending.rows ≡ Some h → (stage : Stage) → h.item.stage ≡ stage → commit_stage s x now (x.ask.number, h) stage ≡ Some taken → IsAnswered s x now taken
     at_stage h found (Waits on id) stands e = absurd (none_some e)
-    at_stage h found (Ready down) stands e = record { held = h; found = found; down = down; ready = stands; is = sym (some_one (commit_row s x now (x.ask.number, h) down) taken e) }
+    at_stage h found (Ready down) stands e = record { held = h; found = found; down = down; ready = stands; is = sym (some_one (commit_solved s x now (x.ask.number, h) down) taken e) }
 
     go : (o : Option (Held (Item Pin))) → lookup (nat_eq x.ask.number) s.losing.element.pending.rows ≡ o → commit_held s x now x.ask.number o ≡ Some taken → IsAnswered s x now taken
     go None found e = absurd (none_some e)
     go (Some h) found e = at_stage h found h.item.stage refl e
 
 -- what was solved is its job
-own_work : (s : Seen) (x : Solution) (now : ℕ) (taken : Taken Pin Segment) (a : IsAnswered s x now taken) → IsOwnJob s x → (x.ask ≡ ask_of (own_of s) x.ask.number a.held.item a.down a.held.item.pin.number a.held.item.pin.topology) × (x.topology ≡ a.held.item.pin.topology)
+own_work : (s : Seen Pin Segment) (x : Solution) (now : ℕ) (taken : Taken Pin Segment) (a : IsAnswered s x now taken) → IsOwnJob s x → (x.ask ≡ ask_of (own_of s) x.ask.number a.held.item a.down a.held.item.pin.number a.held.item.pin.topology) × (x.topology ≡ a.held.item.pin.topology)
 own_work s x now taken a own =
     let k = x.ask.number in
     let w : Work = record { ask = ask_of (own_of s) k a.held.item a.down a.held.item.pin.number a.held.item.pin.topology; topology = a.held.item.pin.topology } in
@@ -81,7 +82,7 @@ own_work s x now taken a own =
     subst (λ (o : Option Work). IfSome o (λ v. (x.ask ≡ v.ask) × (x.topology ≡ v.topology))) job own
 
 -- a request without a job is not ready
-pub no_job : (s : Seen) (k : ℕ) → job_at s k ≡ None → is_ready_row (lookup (nat_eq k) s.losing.element.pending.rows) ≡ false
+pub no_job : (s : Seen Pin Segment) (k : ℕ) → job_at s k ≡ None → is_ready_row (lookup (nat_eq k) s.losing.element.pending.rows) ≡ false
 no_job s k none = go (lookup (nat_eq k) s.losing.element.pending.rows) none
   where
     at_stage : (i : Item Pin) (stage : Stage) → work_at (own_of s) k i stage ≡ None → is_ready stage ≡ false
@@ -92,28 +93,28 @@ no_job s k none = go (lookup (nat_eq k) s.losing.element.pending.rows) none
     go None e = refl
     go (Some h) e = at_stage h.item h.item.stage e
 
-module _ (d : As) (now : ℕ) (x : Solution) (t : Tiers) (es : List Seen) (are : AreSet t) (below : same_as d parent_as ≡ false) (there : is_element t.network d ≡ true)
+module _ (d : As) (now : ℕ) (x : Solution) (t : Tiers Pin Segment) (es : List (Seen Pin Segment)) (are : AreSet t) (below : same_as d parent_as ≡ false) (there : is_element t.network d ≡ true)
     (right : AreRows x.topology x.ask x.rows) (own : IfSome (at_domain d t.elements) (λ e. IsOwnJob e x)) (b : Becomes d unchanged t.elements es) where
-  abbrev u : Tiers
+  abbrev u : Tiers Pin Segment
   u = record t { elements = es }
 
   jobs : has_jobs t.network d ≡ true
   jobs = ap (λ (c : Bool). cond c (is_some t.network.parent) (is_element t.network d)) below ∙ there
 
   one_own : IsOwnJob b.one x
-  one_own = subst (λ (o : Option Seen). IfSome o (λ e. IsOwnJob e x)) b.found own
+  one_own = subst (λ (o : Option (Seen Pin Segment)). IfSome o (λ e. IsOwnJob e x)) b.found own
 
-  answers : (p : Planned) → committed b.one x now ≡ Some p.taken → MemberAnswers t.network now d x.ask.number (members_of t) (record { members = with_element d p.taken.element (members_of u); outputs = p.taken.outputs })
+  answers : (p : Planned Pin Segment Solution) → committed b.one x now ≡ Some p.taken → MemberAnswers t.network now d x.ask.number (members_of first_pin t) (record { members = with_element d p.taken.element (members_of first_pin u); outputs = p.taken.outputs })
   answers p is =
       let a = is_answered b.one x now p.taken is in
       let work = own_work b.one x now p.taken a one_own in
       let k = x.ask.number in
       let domain : own_of b.one ≡ d = found_own d t.elements b.one b.found in
-      let same = keeps_below d t es b below in
-      let element_is : b.one.losing.element ≡ (members_of t).elements d = ap (element_or t.network t.clock d) (sym b.found) in
+      let same = keeps_below first_pin open_of d t es b below in
+      let element_is : b.one.losing.element ≡ (members_of first_pin t).elements d = ap (element_or t.network t.clock d) (sym b.found) in
       let place_is : b.one.place ≡ place t.network d = placed_at t.network d t.elements b.one are.places b.found ∙ ap (place t.network) domain in
       let asked : x.ask ≡ ask wire t.network d (k, a.held) a.down = work.0 ∙ ap (λ (o : As). ask_of o k a.held.item a.down a.held.item.pin.number a.held.item.pin.topology) domain in
-      let taken_is : p.taken ≡ commit wire (place t.network d) (k, a.held) a.down now (λ s. s.segment) x.rows.source_known x.rows.target_known x.rows.best ((members_of t).elements d) =
+      let taken_is : p.taken ≡ commit wire (place t.network d) (k, a.held) a.down now (λ s. s.segment) x.rows.source_known x.rows.target_known x.rows.best ((members_of first_pin t).elements d) =
       a.is ∙ ap₂ (λ (e : Place) (m : Element Pin Segment). commit wire e (k, a.held) a.down now (λ s. s.segment) x.rows.source_known x.rows.target_known x.rows.best m) place_is element_is in
       inl (record {
         upper = below;
@@ -126,23 +127,23 @@ module _ (d : As) (now : ℕ) (x : Solution) (t : Tiers) (es : List Seen) (are :
         is = ap₂ (λ (r : Taken Pin Segment) (ms : Membership Pin Segment). let z : Replied Pin Segment = record { members = with_element d r.element ms; outputs = r.outputs } in z) taken_is same.seen;
       })
 
-  pub commits_below : (r : Result Planned CommitError) → IfOk r (λ p. at_domain d es ≡ Some p.from) → IfOk r (λ p. IfSome (at_domain d t.elements) (λ e. committed e x now ≡ Some p.taken)) → IfOk r (λ p. length p.taken.outputs ≡ 1)
+  pub commits_below : {W : Type 0} → (r : Result (Planned Pin Segment Solution) CommitError) → IfOk r (λ p. at_domain d es ≡ Some p.from) → IfOk r (λ p. IfSome (at_domain d t.elements) (λ e. committed e x now ≡ Some p.taken)) → IfOk r (λ p. length p.taken.outputs ≡ 1)
       → IfOk r (λ p. p.solved ≡ Some x) → IfErr r (λ why. IfSome (at_domain d t.elements) (λ e. IsBack e x why)) → Commits d now (done.Domain x) t (told_below d r) u
   commits_below (Ok p) from taken one solved back = record {
-    same = keeps_below d t es b below;
+    same = keeps_below first_pin open_of d t es b below;
     there = jobs;
     fits = (below, from);
-    answers = answers p (subst (λ (o : Option Seen). IfSome o (λ e. committed e x now ≡ Some p.taken)) b.found taken);
+    answers = answers p (subst (λ (o : Option (Seen Pin Segment)). IfSome o (λ e. committed e x now ≡ Some p.taken)) b.found taken);
     one = one;
     solved = ap (option_map done.Domain) solved;
     why = tt;
     back = tt;
   }
   commits_below (Err (commit_error.Stranger y)) from taken one solved back =
-      let is : IsBack b.one x (commit_error.Stranger y) = subst (λ (o : Option Seen). IfSome o (λ e. IsBack e x (commit_error.Stranger y))) b.found back in
-      let element_is : b.one.losing.element ≡ (members_of t).elements d = ap (element_or t.network t.clock d) (sym b.found) in
+      let is : IsBack b.one x (commit_error.Stranger y) = subst (λ (o : Option (Seen Pin Segment)). IfSome o (λ e. IsBack e x (commit_error.Stranger y))) b.found back in
+      let element_is : b.one.losing.element ≡ (members_of first_pin t).elements d = ap (element_or t.network t.clock d) (sym b.found) in
       record {
-        same = keeps_below d t es b below;
+        same = keeps_below first_pin open_of d t es b below;
         there = tt;
         fits = tt;
         answers = tt;
@@ -150,25 +151,25 @@ module _ (d : As) (now : ℕ) (x : Solution) (t : Tiers) (es : List Seen) (are :
         solved = tt;
         why = (
           jobs,
-          ap (λ (c : Bool). cond c (is_ready_asking (lookup (nat_eq x.ask.number) t.parent.losing.parent.pending.rows)) (is_ready_row (lookup (nat_eq x.ask.number) ((members_of t).elements d).pending.rows))) below
+          ap (λ (c : Bool). cond c (is_ready_asking (lookup (nat_eq x.ask.number) t.parent.losing.parent.pending.rows)) (is_ready_row (lookup (nat_eq x.ask.number) ((members_of first_pin t).elements d).pending.rows))) below
               ∙ ap (λ (m : Element Pin Segment). is_ready_row (lookup (nat_eq x.ask.number) m.pending.rows)) (sym element_is) ∙ no_job b.one x.ask.number is.1,
         );
         back = ap done.Domain is.0;
       }
   commits_below (Err (commit_error.NoMemory y)) from taken one solved back =
-      let is : IsBack b.one x (commit_error.NoMemory y) = subst (λ (o : Option Seen). IfSome o (λ e. IsBack e x (commit_error.NoMemory y))) b.found back in
-      record { same = keeps_below d t es b below; there = tt; fits = tt; answers = tt; one = tt; solved = tt; why = tt; back = ap done.Domain is }
+      let is : IsBack b.one x (commit_error.NoMemory y) = subst (λ (o : Option (Seen Pin Segment)). IfSome o (λ e. IsBack e x (commit_error.NoMemory y))) b.found back in
+      record { same = keeps_below first_pin open_of d t es b below; there = tt; fits = tt; answers = tt; one = tt; solved = tt; why = tt; back = ap done.Domain is }
 
 -- ---- at the parent
 
 -- the request that is answered
-record IsAnsweredAbove (x : BorderSolution) (k : parent.Parent) (given : parent.Given) : Type 0 where
-  held : Held parent.Asking
-  found : lookup (nat_eq x.job.number) k.pending.rows ≡ Some held
-  ready : parent.is_ready held.item ≡ true
-  is : given ≡ parent.commit wire (x.job.number, held) x.answer k
+pub record IsAnsweredAbove (x : BorderSolution) (k : parent.Parent) (given : parent.Given) : Type 0 where
+  pub held : Held parent.Asking
+  pub found : lookup (nat_eq x.job.number) k.pending.rows ≡ Some held
+  pub ready : parent.is_ready held.item ≡ true
+  pub is : given ≡ parent.commit wire (x.job.number, held) x.answer k
 
-answered_above : (x : BorderSolution) (k : parent.Parent) (given : parent.Given) → border.committed x k ≡ Some given → IsAnsweredAbove x k given
+pub answered_above : (x : BorderSolution) (k : parent.Parent) (given : parent.Given) → border.committed x k ≡ Some given → IsAnsweredAbove x k given
 answered_above x k given is = go (lookup (nat_eq x.job.number) k.pending.rows) refl is
   where
     some_one : (a b : parent.Given) → Some a ≡ Some b → a ≡ b
@@ -201,19 +202,19 @@ no_border_job f k (Some h) none = go (parent.is_ready h.item) none
     go true e = absurd (some_none (parent.job_of f (k, h)) e)
     go false e = refl
 
-module _ (d : As) (now : ℕ) (x : BorderSolution) (t : Tiers) (s : border.Seen) (are : AreSet t) (upper : same_as d parent_as ≡ true) (there : has_jobs t.network d ≡ true)
+module _ (d : As) (now : ℕ) (x : BorderSolution) (t : Tiers Pin Segment) (s : border.Seen) (are : AreSet t) (upper : same_as d parent_as ≡ true) (there : has_jobs t.network d ≡ true)
     (right : SolvesBorder x.job x.answer) (own : IfSome (border_job t x.job.number) (λ j. x.job ≡ j)) (stays : s ≡ t.parent) where
-  abbrev v : Tiers
+  abbrev v : Tiers Pin Segment
   v = record t { parent = s }
 
-  still : Become t (members_of t) (lost_in t) v
+  still : Become first_pin t (members_of first_pin t) (lost_in t) v
   still = record {
     network = refl;
-    seen = ap (λ (y : border.Seen). members_of (record t { parent = y })) stays;
+    seen = ap (λ (y : border.Seen). members_of first_pin (record t { parent = y })) stays;
     lost_is = ap (λ (y : border.Seen). lost_in (record t { parent = y })) stays;
   }
 
-  answers_above : (p : BorderPlanned) → border.committed x t.parent.losing.parent ≡ Some p.given → MemberAnswers t.network now d x.job.number (members_of t) (record { members = with_parent p.given.parent (members_of v); outputs = p.given.outputs })
+  answers_above : (p : BorderPlanned) → border.committed x t.parent.losing.parent ≡ Some p.given → MemberAnswers t.network now d x.job.number (members_of first_pin t) (record { members = with_parent p.given.parent (members_of first_pin v); outputs = p.given.outputs })
   answers_above p is =
       let a = answered_above x t.parent.losing.parent p.given is in
       let k = x.job.number in
@@ -233,14 +234,14 @@ module _ (d : As) (now : ℕ) (x : BorderSolution) (t : Tiers) (s : border.Seen)
         },
       )
 
-  not_ready : border.job_at t.parent x.job.number ≡ None → is_ready_at d x.job.number (members_of t) ≡ false
+  not_ready : border.job_at t.parent x.job.number ≡ None → is_ready_at d x.job.number (members_of first_pin t) ≡ false
   not_ready none =
       let k = x.job.number in
       let rows = t.parent.losing.parent.pending.rows in
-      ap (λ (c : Bool). cond c (is_ready_asking (lookup (nat_eq k) rows)) (is_ready_row (lookup (nat_eq k) ((members_of t).elements d).pending.rows))) upper
+      ap (λ (c : Bool). cond c (is_ready_asking (lookup (nat_eq k) rows)) (is_ready_row (lookup (nat_eq k) ((members_of first_pin t).elements d).pending.rows))) upper
       ∙ no_border_job t.parent.family k (lookup (nat_eq k) rows) none
 
-  pub commits_above : (r : Result BorderPlanned ParentCommitError) → IfOk r (λ p. p.from ≡ t.parent) → IfOk r (λ p. border.committed x t.parent.losing.parent ≡ Some p.given) → IfOk r (λ p. p.solved ≡ Some x)
+  pub commits_above : {W : Type 0} → (r : Result BorderPlanned ParentCommitError) → IfOk r (λ p. p.from ≡ t.parent) → IfOk r (λ p. border.committed x t.parent.losing.parent ≡ Some p.given) → IfOk r (λ p. p.solved ≡ Some x)
       → ((r ≡ Err (parent_error.Stranger x)) ↔ (border.job_at t.parent x.job.number ≡ None)) → IfErr r (λ why. border_back why ≡ x) → Commits d now (done.Border x) t (told_above r) v
   commits_above (Ok p) from given solved stranger back =
       let a = answered_above x t.parent.losing.parent p.given given in
@@ -275,5 +276,5 @@ module _ (d : As) (now : ℕ) (x : BorderSolution) (t : Tiers) (s : border.Seen)
     back = ap done.Border back;
   }
 
-pub commits_as : (t u : Tiers) → t ≡ u → (d : As) (now : ℕ) (x : Done) (r r' : Result MemberPlan Unanswered) (v : Tiers) → r ≡ r' → Commits d now x t r v → Commits d now x u r' v
-commits_as t u is d now x r r' v same h = subst (λ (z : Result MemberPlan Unanswered). Commits d now x u z v) same (subst (λ (y : Tiers). Commits d now x y r v) is h)
+pub commits_as : {W : Type 0} → (t u : Tiers Pin Segment) → t ≡ u → (d : As) (now : ℕ) (x : Done) (r r' : Result (MemberPlan W Pin Segment Solution) Unanswered) (v : Tiers Pin Segment) → r ≡ r' → Commits d now x t r v → Commits d now x u r' v
+commits_as t u is d now x r r' v same h = subst (λ (z : Result (MemberPlan W Pin Segment Solution) Unanswered). Commits d now x u z v) same (subst (λ (y : Tiers Pin Segment). Commits d now x y r v) is h)

@@ -15,7 +15,7 @@ use Rattle.plant_model.specs.Element.{Way}
 use Rattle.plant_model.specs.Deeds.{at_row}
 use Rattle.plant_model.specs.Settings.{way, ways, ways_along}
 use Rattle.plant_members.specs.Membership.{AreJoined, is_member}
-use Rattle.pce_parent.specs.Ways.{way_of}
+use Rattle.member_parts.specs.Ways.{way_of}
 use Rattle.plant_hierarchy.proofs.DomainLemmas.{same_as_is, as_self}
 use Rattle.plant_hierarchy.proofs.NetworkLemmas.{settings_of}
 

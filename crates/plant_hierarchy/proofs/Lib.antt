@@ -15,3 +15,4 @@ pub mod TierLoads
 pub mod AnswerLemmas
 pub mod ApartLemmas
 pub mod CurrentLemmas
+pub mod BlindLemmas

@@ -7,15 +7,16 @@ use Rattle.te_generations.specs.declared.generations.LoadError.{LoadError}
 use Rattle.te_generations.specs.declared.generations.LoadError.TheVariants as load_error
 use Rattle.plant_model.specs.declared.outcome.Refused.{Refused}
 use Rattle.plant_model.specs.declared.outcome.Refused.TheVariants.{GenerationsFull, NoMemory}
+use Rattle.plant_model.specs.Plant.{Pin, Segment, first_pin}
 use Rattle.pce_element.specs.Seen.{Seen}
 use Rattle.plant_hierarchy.specs.Elements.{own_of, at_domain, no_one, told, IsFirstAt, LoadsAt, LoadsElement, LoadsPlace}
 use Rattle.plant_hierarchy.proofs.DomainLemmas.{first_own, at_first, set_first, owns_set}
 
-pub loads_at : (d : As) (i : ℕ) (g : Rows) (es new : List Seen) (r : Result ℕ LoadError) → IsFirstAt d i (map own_of es) → LoadsPlace i g es r new → LoadsAt (at_domain d es) g es (told r) new
-loads_at d i g es new r first loads = subst (λ (o : Option Seen). LoadsAt o g es (told r) new) (sym (at_first d i es no_one first)) (go r loads)
+pub loads_at : (d : As) (i : ℕ) (g : Rows) (es new : List (Seen Pin Segment)) (r : Result ℕ LoadError) → IsFirstAt d i (map own_of es) → LoadsPlace i g es r new → LoadsAt (at_domain d es) g es (told r) new
+loads_at d i g es new r first loads = subst (λ (o : Option (Seen Pin Segment)). LoadsAt o g es (told r) new) (sym (at_first d i es (no_one first_pin) first)) (go r loads)
   where
-    e : Seen
-    e = get_or es i no_one
+    e : Seen Pin Segment
+    e = get_or es i (no_one first_pin)
 
     ok_err : (k : ℕ) (why : Refused) → Ok k ≡ Err why → ⊥
     ok_err k why is = cc
@@ -35,7 +36,7 @@ loads_at d i g es new r first loads = subst (λ (o : Option Seen). LoadsAt o g e
     go : (x : Result ℕ LoadError) → LoadsPlace i g es x new → LoadsElement e g es (told x) new
     go (Ok k) h = record {
       number = h.number;
-      ok = (h.next, h.ok, h.is ∙ set_first d i es h.next (ap own_of h.ok ∙ first_own d i es no_one first) first);
+      ok = (h.next, h.ok, h.is ∙ set_first d i es h.next (ap own_of h.ok ∙ first_own d i es (no_one first_pin) first) first);
       full = (λ is. absurd (ok_err k GenerationsFull is), λ full. absurd (ok_load k load_error.Full (h.full.1 full)));
       err = tt;
       why = λ why is. absurd (ok_err k why is);
@@ -44,17 +45,17 @@ loads_at d i g es new r first loads = subst (λ (o : Option Seen). LoadsAt o g e
       number = tt;
       ok = tt;
       full = (λ is. h.full.0 refl, λ full. refl);
-      err = h.is ∙ ap (set es i) h.err ∙ set-get_or es i no_one;
+      err = h.is ∙ ap (set es i) h.err ∙ set-get_or es i (no_one first_pin);
       why = λ why is. inl (sym (err_one GenerationsFull why is));
     }
     go (Err load_error.NoMemory) h = record {
       number = tt;
       ok = tt;
       full = (λ is. absurd (apart is), λ full. absurd (other (h.full.1 full)));
-      err = h.is ∙ ap (set es i) h.err ∙ set-get_or es i no_one;
+      err = h.is ∙ ap (set es i) h.err ∙ set-get_or es i (no_one first_pin);
       why = λ why is. inr (sym (err_one NoMemory why is));
     }
 
-pub owns_kept : (i : ℕ) (g : Rows) (es new : List Seen) (r : Result ℕ LoadError) → LoadsPlace i g es r new → map own_of new ≡ map own_of es
-owns_kept i g es new (Ok k) h = ap (map own_of) h.is ∙ owns_set i es h.next no_one (ap own_of h.ok)
-owns_kept i g es new (Err why) h = ap (map own_of) h.is ∙ owns_set i es h.next no_one (ap own_of h.err)
+pub owns_kept : (i : ℕ) (g : Rows) (es new : List (Seen Pin Segment)) (r : Result ℕ LoadError) → LoadsPlace i g es r new → map own_of new ≡ map own_of es
+owns_kept i g es new (Ok k) h = ap (map own_of) h.is ∙ owns_set i es h.next (no_one first_pin) (ap own_of h.ok)
+owns_kept i g es new (Err why) h = ap (map own_of) h.is ∙ owns_set i es h.next (no_one first_pin) (ap own_of h.err)

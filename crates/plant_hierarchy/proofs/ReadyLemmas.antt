@@ -8,9 +8,6 @@ use Rattle.pce_element.specs.Seen.{Seen}
 use Rattle.plant_hierarchy.specs.Elements.{own_of}
 use Rattle.plant_hierarchy.specs.Ready.{jobs_in}
 
-abbrev pub numbers_of : Seen → List ℕ
-numbers_of e = ready_numbers e.losing.element.pending.rows
-
 past_end : {A : Type 0} → (xs : List A) (k : ℕ) → slice_get xs k ≡ None → length xs ≤ k
 past_end [] k none = omega arith
 past_end (x ∷ xs) zero none = absurd (some_none x none)
@@ -42,22 +39,26 @@ among d (x ∷ xs) js zero n found = ap (λ (o : ℕ). Some (d, o)) (one x n fou
     one a b is = cc
 among d (x ∷ xs) js (suc k) n found = among d xs js k n found
 
-pub drop_step : (es : List Seen) (i : ℕ) (e : Seen) → i < length es → e ≡ get_or es i e → jobs_in (drop i es) ≡ jobs_at (own_of e) (numbers_of e) ++ jobs_in (drop (suc i) es)
-drop_step [] i e inside is = absurd (omega arith)
-drop_step (x ∷ es) zero e inside is = ap (λ (y : Seen). jobs_at (own_of y) (numbers_of y) ++ jobs_in es) (sym is)
-drop_step (x ∷ es) (suc i) e inside is = drop_step es i e (omega arith) is
+module _ {P : Type 0} {S : Type 0} where
+  abbrev pub numbers_of : Seen P S → List ℕ
+  numbers_of e = ready_numbers e.losing.element.pending.rows
 
-pub ready_behind : (es : List Seen) (i k : ℕ) (e : Seen) → i < length es → e ≡ get_or es i e → slice_get (numbers_of e) k ≡ None → slice_get (jobs_in (drop i es)) k ≡ slice_get (jobs_in (drop (suc i) es)) (k - length (numbers_of e))
-ready_behind es i k e inside is none = ap (λ (js : List (As × ℕ)). slice_get js k) (drop_step es i e inside is) ∙ behind (own_of e) (numbers_of e) (jobs_in (drop (suc i) es)) k none
+  pub drop_step : (es : List (Seen P S)) (i : ℕ) (e : Seen P S) → i < length es → e ≡ get_or es i e → jobs_in (drop i es) ≡ jobs_at (own_of e) (numbers_of e) ++ jobs_in (drop (suc i) es)
+  drop_step [] i e inside is = absurd (omega arith)
+  drop_step (x ∷ es) zero e inside is = ap (λ (y : Seen P S). jobs_at (own_of y) (numbers_of y) ++ jobs_in es) (sym is)
+  drop_step (x ∷ es) (suc i) e inside is = drop_step es i e (omega arith) is
 
-pub ready_among : (es : List Seen) (i k n : ℕ) (e : Seen) → i < length es → e ≡ get_or es i e → slice_get (numbers_of e) k ≡ Some n → slice_get (jobs_in (drop i es)) k ≡ Some (own_of e, n)
-ready_among es i k n e inside is found = ap (λ (js : List (As × ℕ)). slice_get js k) (drop_step es i e inside is) ∙ among (own_of e) (numbers_of e) (jobs_in (drop (suc i) es)) k n found
+  pub ready_behind : (es : List (Seen P S)) (i k : ℕ) (e : Seen P S) → i < length es → e ≡ get_or es i e → slice_get (numbers_of e) k ≡ None → slice_get (jobs_in (drop i es)) k ≡ slice_get (jobs_in (drop (suc i) es)) (k - length (numbers_of e))
+  ready_behind es i k e inside is none = ap (λ (js : List (As × ℕ)). slice_get js k) (drop_step es i e inside is) ∙ behind (own_of e) (numbers_of e) (jobs_in (drop (suc i) es)) k none
 
-pub ready_none : (es : List Seen) (k : ℕ) → slice_get (jobs_in (drop (length es) es)) k ≡ None
-ready_none [] k = refl
-ready_none (e ∷ es) k = ready_none es k
+  pub ready_among : (es : List (Seen P S)) (i k n : ℕ) (e : Seen P S) → i < length es → e ≡ get_or es i e → slice_get (numbers_of e) k ≡ Some n → slice_get (jobs_in (drop i es)) k ≡ Some (own_of e, n)
+  ready_among es i k n e inside is found = ap (λ (js : List (As × ℕ)). slice_get js k) (drop_step es i e inside is) ∙ among (own_of e) (numbers_of e) (jobs_in (drop (suc i) es)) k n found
 
-pub own_at : (es : List Seen) (i : ℕ) (e : Seen) (a : As) → i < length es → e ≡ get_or es i e → a ≡ get_or (map own_of es) i a → a ≡ own_of e
-own_at [] i e a inside is at = absurd (omega arith)
-own_at (x ∷ es) zero e a inside is at = at ∙ ap own_of (sym is)
-own_at (x ∷ es) (suc i) e a inside is at = own_at es i e a (omega arith) is at
+  pub ready_none : (es : List (Seen P S)) (k : ℕ) → slice_get (jobs_in (drop (length es) es)) k ≡ None
+  ready_none [] k = refl
+  ready_none (e ∷ es) k = ready_none es k
+
+  pub own_at : (es : List (Seen P S)) (i : ℕ) (e : Seen P S) (a : As) → i < length es → e ≡ get_or es i e → a ≡ get_or (map own_of es) i a → a ≡ own_of e
+  own_at [] i e a inside is at = absurd (omega arith)
+  own_at (x ∷ es) zero e a inside is at = at ∙ ap own_of (sym is)
+  own_at (x ∷ es) (suc i) e a inside is at = own_at es i e a (omega arith) is at

@@ -84,28 +84,6 @@ stands_rows d (r ∷ rows) = stands_insert d r.own (elements_of rows) ∙ go (sa
     go true more = refl
     go false more = more
 
-stands_seen : (d : As) (es : List Seen) → stands_in d (map own_of es) ≡ is_some (at_domain d es)
-stands_seen d [] = refl
-stands_seen d (e ∷ es) = go (same_as (own_of e) d) (stands_seen d es)
-  where
-    go : (b : Bool) → stands_in d (map own_of es) ≡ is_some (at_domain d es) → cond b true (stands_in d (map own_of es)) ≡ is_some (cond b (Some e) (at_domain d es))
-    go true more = refl
-    go false more = more
-
--- an element of the settings is one of the elements
-pub element_is : (n : NetworkParts) (d : As) (es : List Seen) → map own_of es ≡ elements_of n.elements → is_element n d ≡ is_some (at_domain d es)
-element_is n d es are = sym (stands_rows d n.elements) ∙ ap (stands_in d) (sym are) ∙ stands_seen d es
-
--- ---- an element among those whose domains rise
-
-not_below : (d : As) (low : ℕ) (es : List Seen) → Rises low (map own_of es) → d.0 < low → at_domain d es ≡ None
-not_below d low [] rises less = refl
-not_below d low (e ∷ es) rises less = rw (ne_eqb (own_of e).0 d.0 (λ is. omega (arith, is, less, rises.0))) (not_below d (suc (own_of e).0) es rises.1 (omega (arith, less, rises.0)))
-
--- the first is found by its domain, and each of the others is not it
-pub first_found : (e : Seen) (es : List Seen) → at_domain (own_of e) (e ∷ es) ≡ Some e
-first_found e es = ap (λ (b : Bool). cond b (Some e) (at_domain (own_of e) es)) (as_self (own_of e))
-
 pub length_insert : (n : As) (ds : List As) → length (insert_as n ds) ≤ suc (length ds)
 length_insert n [] = omega arith
 length_insert n (a ∷ ds) = go (length_insert n ds) (nat_lt n.0 a.0) (same_as n a)
@@ -119,30 +97,53 @@ pub few_domains : (rows : List ElementRow) → length (elements_of rows) ≤ len
 few_domains [] = omega arith
 few_domains (r ∷ rows) = omega (arith, length_insert r.own (elements_of rows), few_domains rows)
 
--- each of these is found by its domain among all
-abbrev pub AreFound : List Seen → List Seen → Type 0
-AreFound all [] = Unit {0}
-AreFound all (e ∷ es) = (at_domain (own_of e) all ≡ Some e) × AreFound all es
+module _ {P : Type 0} {S : Type 0} where
+  stands_seen : (d : As) (es : List (Seen P S)) → stands_in d (map own_of es) ≡ is_some (at_domain d es)
+  stands_seen d [] = refl
+  stands_seen d (e ∷ es) = go (same_as (own_of e) d) (stands_seen d es)
+    where
+      go : (b : Bool) → stands_in d (map own_of es) ≡ is_some (at_domain d es) → cond b true (stands_in d (map own_of es)) ≡ is_some (cond b (Some e) (at_domain d es))
+      go true more = refl
+      go false more = more
 
-found_behind : (first : Seen) (all : List Seen) (x : Seen) → Rises (suc (own_of first).0) (map own_of all) → at_domain (own_of x) all ≡ Some x → at_domain (own_of x) (first ∷ all) ≡ Some x
-found_behind first all x rises found = go (same_as (own_of first) (own_of x)) refl
-  where
-    none_some : None ≡ Some x → ⊥
-    none_some is = cc
+  -- an element of the settings is one of the elements
+  pub element_is : (n : NetworkParts) (d : As) (es : List (Seen P S)) → map own_of es ≡ elements_of n.elements → is_element n d ≡ is_some (at_domain d es)
+  element_is n d es are = sym (stands_rows d n.elements) ∙ ap (stands_in d) (sym are) ∙ stands_seen d es
 
-    go : (b : Bool) → same_as (own_of first) (own_of x) ≡ b → cond b (Some first) (at_domain (own_of x) all) ≡ Some x
-    go false is = found
-    go true is =
-        let one : (own_of x).0 ≡ (own_of first).0 = sym (eqb-true (own_of first).0 (own_of x).0 is) in
-        absurd (none_some (sym (not_below (own_of x) (suc (own_of first).0) all rises (omega (arith, one))) ∙ found))
+  -- ---- an element among those whose domains rise
 
-found_later : (first : Seen) (all es : List Seen) → Rises (suc (own_of first).0) (map own_of all) → AreFound all es → AreFound (first ∷ all) es
-found_later first all [] rises are = tt
-found_later first all (e ∷ es) rises are = (found_behind first all e rises are.0, found_later first all es rises are.1)
+  not_below : (d : As) (low : ℕ) (es : List (Seen P S)) → Rises low (map own_of es) → d.0 < low → at_domain d es ≡ None
+  not_below d low [] rises less = refl
+  not_below d low (e ∷ es) rises less = rw (ne_eqb (own_of e).0 d.0 (λ is. omega (arith, is, less, rises.0))) (not_below d (suc (own_of e).0) es rises.1 (omega (arith, less, rises.0)))
 
-pub found_all : (low : ℕ) (es : List Seen) → Rises low (map own_of es) → AreFound es es
-found_all low [] rises = tt
-found_all low (e ∷ es) rises = (first_found e es, found_later e es es rises.1 (found_all (suc (own_of e).0) es rises.1))
+  -- the first is found by its domain, and each of the others is not it
+  pub first_found : (e : Seen P S) (es : List (Seen P S)) → at_domain (own_of e) (e ∷ es) ≡ Some e
+  first_found e es = ap (λ (b : Bool). cond b (Some e) (at_domain (own_of e) es)) (as_self (own_of e))
 
-pub all_found : (n : NetworkParts) (es : List Seen) → map own_of es ≡ elements_of n.elements → AreFound es es
-all_found n es are = found_all 0 es (subst (λ (ds : List As). Rises 0 ds) (sym are) (elements_rise n.elements))
+  -- each of these is found by its domain among all
+  abbrev pub AreFound : List (Seen P S) → List (Seen P S) → Type 0
+  AreFound all [] = Unit {0}
+  AreFound all (e ∷ es) = (at_domain (own_of e) all ≡ Some e) × AreFound all es
+
+  found_behind : (first : Seen P S) (all : List (Seen P S)) (x : Seen P S) → Rises (suc (own_of first).0) (map own_of all) → at_domain (own_of x) all ≡ Some x → at_domain (own_of x) (first ∷ all) ≡ Some x
+  found_behind first all x rises found = go (same_as (own_of first) (own_of x)) refl
+    where
+      none_some : None ≡ Some x → ⊥
+      none_some is = cc
+
+      go : (b : Bool) → same_as (own_of first) (own_of x) ≡ b → cond b (Some first) (at_domain (own_of x) all) ≡ Some x
+      go false is = found
+      go true is =
+          let one : (own_of x).0 ≡ (own_of first).0 = sym (eqb-true (own_of first).0 (own_of x).0 is) in
+          absurd (none_some (sym (not_below (own_of x) (suc (own_of first).0) all rises (omega (arith, one))) ∙ found))
+
+  found_later : (first : Seen P S) (all es : List (Seen P S)) → Rises (suc (own_of first).0) (map own_of all) → AreFound all es → AreFound (first ∷ all) es
+  found_later first all [] rises are = tt
+  found_later first all (e ∷ es) rises are = (found_behind first all e rises are.0, found_later first all es rises are.1)
+
+  pub found_all : (low : ℕ) (es : List (Seen P S)) → Rises low (map own_of es) → AreFound es es
+  found_all low [] rises = tt
+  found_all low (e ∷ es) rises = (first_found e es, found_later e es es rises.1 (found_all (suc (own_of e).0) es rises.1))
+
+  pub all_found : (n : NetworkParts) (es : List (Seen P S)) → map own_of es ≡ elements_of n.elements → AreFound es es
+  all_found n es are = found_all 0 es (subst (λ (ds : List As). Rises 0 ds) (sym are) (elements_rise n.elements))

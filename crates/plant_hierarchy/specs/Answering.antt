@@ -4,6 +4,7 @@ use Rattle.std.specs.Map.{lookup}
 use Rattle.std.specs.Option.{option_map}
 use Rattle.dom_base.specs.declared.names.As.{As}
 use Rattle.request_table.specs.declared.held.Held.{Held}
+use Rattle.vspt_tree.specs.declared.branch.Best.{Best}
 use Rattle.vspt_tree.specs.declared.branch.Branch.{Branch}
 use Rattle.border_costs.specs.declared.rows.Rows.{Rows as Answer}
 use Rattle.border_costs.specs.Solutions.{AreRows, Solution}
@@ -16,12 +17,12 @@ use Rattle.plant_model.specs.BorderGraph.{Found, SolvesBorder}
 use Rattle.plant_model.specs.Element.{Item, Ready, Row}
 use Rattle.plant_model.specs.Events.{has_jobs, is_ready_asking, is_ready_row}
 use Rattle.plant_model.specs.Parent as parent
-use Rattle.plant_model.specs.Plant.{Pin, Segment, ask}
+use Rattle.plant_model.specs.Plant.{Pin, Segment, ask, first_pin}
 use Rattle.plant_model.specs.RealWire.{wire}
 use Rattle.plant_model.specs.Settings.{family, place}
 use Rattle.plant_model.specs.Solving.{commit}
 use Rattle.plant_members.specs.Membership.{Membership, Replied, with_element, with_parent}
-use Rattle.pce_element.specs.Committing.{IsOwnJob}
+use Rattle.pce_element.specs.Committing.{IsOwnJob, own_part}
 use Rattle.pce_element.specs.Plans.{Planned}
 use Rattle.pce_element.specs.Seen.{Seen}
 use Rattle.pce_element.specs.declared.committing.CommitError.{CommitError}
@@ -42,7 +43,45 @@ use Rattle.plant_hierarchy.specs.declared.answering.Unanswered.{Unanswered}
 use Rattle.plant_hierarchy.specs.declared.plan.MemberPlan.{MemberPlan}
 use Rattle.plant_hierarchy.specs.declared.plan.MemberPlan.TheVariants as plan
 
--- ---- jobs
+module _ {P : Type 0} {S : Type 0} where
+  -- the job of a request of the parent, where it can be solved
+  abbrev pub border_job : Tiers P S → ℕ → Option BorderJob
+  border_job t k = job_when (family t.network) k (lookup (nat_eq k) t.parent.losing.parent.pending.rows)
+
+  abbrev pub is_ready_at : As → ℕ → Membership P S → Bool
+  is_ready_at d k ms =
+      cond (same_as d parent_as) (is_ready_asking (lookup (nat_eq k) ms.parent.pending.rows)) (is_ready_row (lookup (nat_eq k) (ms.elements d).pending.rows))
+
+  -- the answer to a request of an element, and to one of the parent
+  abbrev pub solved_below : (Best → S) → NetworkParts → ℕ → As → Row P → List Branch → Bool → Bool → List Best → Membership P S → Replied P S
+  solved_below stands n now d h down source_known target_known best ms =
+      let r = commit wire (place n d) h down now stands source_known target_known best (ms.elements d) in
+      record { members = with_element d r.element ms; outputs = r.outputs }
+
+  abbrev pub solved_above : parent.AskingRow → Option Found → Membership P S → Replied P S
+  solved_above h a ms =
+      let r = parent.commit wire h a ms.parent in
+      record { members = with_parent r.parent ms; outputs = r.outputs }
+
+  -- the request of the parent that is ready is answered by what solves its job
+  pub record ParentAnswers (n : NetworkParts) (k : ℕ) (ms : Membership P S) (r : Replied P S) : Type 0 where
+    pub held : Held parent.Asking
+    pub is_held : lookup (nat_eq k) ms.parent.pending.rows ≡ Some held
+    pub ready : parent.is_ready held.item ≡ true
+    pub answer : Option Found
+    pub solves : SolvesBorder (parent.job_of (family n) (k, held)) answer
+    pub is : r ≡ solved_above (k, held) answer ms
+
+  -- why a job is not answered
+  abbrev pub IsRefusedFor : NetworkParts → As → ℕ → Membership P S → Refused → Type 0
+  IsRefusedFor n d k ms refused.NoSuchPeer = has_jobs n d ≡ false
+  IsRefusedFor n d k ms refused.NoSuchJob = (has_jobs n d ≡ true) × (is_ready_at d k ms ≡ false)
+  IsRefusedFor n d k ms refused.NoMemory = Unit {0}
+  IsRefusedFor n d k ms refused.GenerationsFull = ⊥
+  IsRefusedFor n d k ms (refused.NotHolder holder) = ⊥
+  IsRefusedFor n d k ms refused.NothingToCarry = ⊥
+
+-- ---- jobs with topologies
 
 -- the job of an element's request, or of the parent's
 abbrev pub IsElementWork : Option element.Work → Option Work → Type 0
@@ -55,18 +94,10 @@ IsParentWork o None = o ≡ None
 IsParentWork o (Some (work.Domain j)) = ⊥
 IsParentWork o (Some (work.Border j)) = o ≡ Some j
 
--- the job of a request of the parent, where it can be solved
-abbrev pub border_job : Tiers → ℕ → Option BorderJob
-border_job t k = job_when (family t.network) k (lookup (nat_eq k) t.parent.losing.parent.pending.rows)
-
 -- the links of a job of the parent have the metrics of a topology's
 abbrev pub IsWeighedWork : Work → Type 0
 IsWeighedWork (work.Domain j) = Unit {0}
 IsWeighedWork (work.Border j) = All IsWeighed j.links
-
-abbrev pub is_ready_at : As → ℕ → Membership Pin Segment → Bool
-is_ready_at d k ms =
-    cond (same_as d parent_as) (is_ready_asking (lookup (nat_eq k) ms.parent.pending.rows)) (is_ready_row (lookup (nat_eq k) (ms.elements d).pending.rows))
 
 -- ---- solved jobs
 
@@ -75,19 +106,9 @@ number_of (done.Domain x) = x.ask.number
 number_of (done.Border x) = x.job.number
 
 -- what was solved is the job of the member's request of its number, where that one is ready
-abbrev pub IsOwnDone : Tiers → As → Done → Type 0
+abbrev pub IsOwnDone : Tiers Pin Segment → As → Done → Type 0
 IsOwnDone t d (done.Domain x) = (same_as d parent_as ≡ false) × IfSome (at_domain d t.elements) (λ e. IsOwnJob e x)
 IsOwnDone t d (done.Border x) = (same_as d parent_as ≡ true) × IfSome (border_job t x.job.number) (λ j. x.job ≡ j)
-
-abbrev pub solved_below : NetworkParts → ℕ → As → Row Pin → List Branch → Answer → Membership Pin Segment → Replied Pin Segment
-solved_below n now d h down rows ms =
-    let r = commit wire (place n d) h down now (λ b. b.segment) rows.source_known rows.target_known rows.best (ms.elements d) in
-    record { members = with_element d r.element ms; outputs = r.outputs }
-
-abbrev pub solved_above : parent.AskingRow → Option Found → Membership Pin Segment → Replied Pin Segment
-solved_above h a ms =
-    let r = parent.commit wire h a ms.parent in
-    record { members = with_parent r.parent ms; outputs = r.outputs }
 
 -- the request of an element that is ready is answered by rows of its job
 pub record ElementAnswers (n : NetworkParts) (now : ℕ) (d : As) (k : ℕ) (ms : Membership Pin Segment) (r : Replied Pin Segment) : Type 0 where
@@ -98,58 +119,40 @@ pub record ElementAnswers (n : NetworkParts) (now : ℕ) (d : As) (k : ℕ) (ms 
   pub ready : held.item.stage ≡ Ready down
   pub rows : Answer
   pub right : AreRows held.item.pin.topology (ask wire n d (k, held) down) rows
-  pub is : r ≡ solved_below n now d (k, held) down rows ms
-
--- the same at the parent
-pub record ParentAnswers (n : NetworkParts) (k : ℕ) (ms : Membership Pin Segment) (r : Replied Pin Segment) : Type 0 where
-  pub held : Held parent.Asking
-  pub is_held : lookup (nat_eq k) ms.parent.pending.rows ≡ Some held
-  pub ready : parent.is_ready held.item ≡ true
-  pub answer : Option Found
-  pub solves : SolvesBorder (parent.job_of (family n) (k, held)) answer
-  pub is : r ≡ solved_above (k, held) answer ms
+  pub is : r ≡ solved_below own_part n now d (k, held) down rows.source_known rows.target_known rows.best ms
 
 abbrev pub MemberAnswers : NetworkParts → ℕ → As → ℕ → Membership Pin Segment → Replied Pin Segment → Type 0
 MemberAnswers n now d k ms r = ElementAnswers n now d k ms r ⊎ ((d ≡ parent_as) × ParentAnswers n k ms r)
 
 -- what a plan was made for, where that was a solved job
-abbrev pub back_of : MemberPlan → Option Done
+abbrev pub back_of : {W : Type 0} {P : Type 0} {S : Type 0} → MemberPlan W P S Solution → Option Done
 back_of (plan.Element d p) = option_map done.Domain p.solved
 back_of (plan.Parent p) = option_map done.Border p.solved
 
--- why one is not answered
-abbrev pub IsRefusedFor : NetworkParts → As → ℕ → Membership Pin Segment → Refused → Type 0
-IsRefusedFor n d k ms refused.NoSuchPeer = has_jobs n d ≡ false
-IsRefusedFor n d k ms refused.NoSuchJob = (has_jobs n d ≡ true) × (is_ready_at d k ms ≡ false)
-IsRefusedFor n d k ms refused.NoMemory = Unit {0}
-IsRefusedFor n d k ms refused.GenerationsFull = ⊥
-IsRefusedFor n d k ms (refused.NotHolder holder) = ⊥
-IsRefusedFor n d k ms refused.NothingToCarry = ⊥
-
 -- a solved job is planned: nothing changes, and the plan is its answer, or it is handed back
-pub record Commits (d : As) (now : ℕ) (x : Done) (old : Tiers) (result : Result MemberPlan Unanswered) (new : Tiers) : Type 0 where
-  pub same : Become old (members_of old) (lost_in old) new
+pub record Commits {W : Type 0} (d : As) (now : ℕ) (x : Done) (old : Tiers Pin Segment) (result : Result (MemberPlan W Pin Segment Solution) Unanswered) (new : Tiers Pin Segment) : Type 0 where
+  pub same : Become first_pin old (members_of first_pin old) (lost_in old) new
   pub there : OnOk result (has_jobs old.network d ≡ true)
   pub fits : IfOk result (FitsIn new)
-  pub answers : IfOk result (λ plan. MemberAnswers old.network now d (number_of x) (members_of old) (record { members = next_by new plan; outputs = sent_by plan }))
+  pub answers : IfOk result (λ plan. MemberAnswers old.network now d (number_of x) (members_of first_pin old) (record { members = next_by first_pin new plan; outputs = sent_by plan }))
   pub one : IfOk result (λ plan. length (sent_by plan) ≡ 1)
   pub solved : IfOk result (λ plan. back_of plan ≡ Some x)
-  pub why : IfErr result (λ u. IsRefusedFor old.network d (number_of x) (members_of old) u.why)
+  pub why : IfErr result (λ u. IsRefusedFor old.network d (number_of x) (members_of first_pin old) u.why)
   pub back : IfErr result (λ u. u.done ≡ x)
 
 -- why an element does not answer, with what was solved
-abbrev pub IsBack : Seen → Solution → CommitError → Type 0
+abbrev pub IsBack : Seen Pin Segment → Solution → CommitError → Type 0
 IsBack e x (commit_error.Stranger y) = (y ≡ x) × (element.job_at e x.ask.number ≡ None)
 IsBack e x (commit_error.NoMemory y) = y ≡ x
 
 -- what is told of an element's answer
-abbrev pub told_below : As → Result Planned CommitError → Result MemberPlan Unanswered
+abbrev pub told_below : {W : Type 0} → As → Result (Planned Pin Segment Solution) CommitError → Result (MemberPlan W Pin Segment Solution) Unanswered
 told_below d (Ok x) = Ok (plan.Element d x)
 told_below d (Err (commit_error.Stranger y)) = Err (record { why = refused.NoSuchJob; done = done.Domain y })
 told_below d (Err (commit_error.NoMemory y)) = Err (record { why = refused.NoMemory; done = done.Domain y })
 
 -- the same of the parent's
-abbrev pub told_above : Result border.Planned ParentCommitError → Result MemberPlan Unanswered
+abbrev pub told_above : {W : Type 0} → Result border.Planned ParentCommitError → Result (MemberPlan W Pin Segment Solution) Unanswered
 told_above (Ok x) = Ok (plan.Parent x)
 told_above (Err (parent_error.Stranger y)) = Err (record { why = refused.NoSuchJob; done = done.Border y })
 told_above (Err (parent_error.NoMemory y)) = Err (record { why = refused.NoMemory; done = done.Border y })

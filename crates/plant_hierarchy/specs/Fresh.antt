@@ -3,12 +3,11 @@ use Rattle.std.specs.Prelude.{◌≤◌, false, List, [], ◌∷◌, Option, Som
 use Rattle.dom_base.specs.declared.names.As.{As}
 use Rattle.dom_base.specs.declared.addr.Addr.{Addr}
 use Rattle.dom_base.specs.declared.addr.Addr.TheVariants.{V4}
-use Rattle.disclosure.specs.Shown.{open_of}
+use Rattle.pcep_subobjects.specs.declared.hop.Hop.{Hop}
 use Rattle.plant_text.specs.declared.settings.NetworkParts.{NetworkParts}
 use Rattle.plant_text.specs.declared.settings.ElementRow.{ElementRow}
 use Rattle.plant_text.specs.Settings.{lines, life}
 use Rattle.plant_model.specs.Events.{bare}
-use Rattle.plant_model.specs.Plant.{Pin, Segment, first_pin}
 use Rattle.plant_model.specs.RealWire.{wire}
 use Rattle.plant_model.specs.Settings.{place}
 use Rattle.plant_members.specs.Membership.{Membership}
@@ -16,12 +15,12 @@ use Rattle.plant_layout.specs.Lines.{others}
 use Rattle.pce_element.specs.Seen.{Seen, IsNew}
 use Rattle.plant_hierarchy.specs.declared.fresh.Figures.{Figures}
 
--- an element for each of these domains, without requests, keys and topology
-abbrev pub AreNew : NetworkParts → List As → List Seen → Type 0
-AreNew n [] [] = Unit {0}
-AreNew n [] (e ∷ es) = ⊥
-AreNew n (d ∷ ds) [] = ⊥
-AreNew n (d ∷ ds) (e ∷ es) = IsNew (place n d) (life n d) (others d (lines n)) e × AreNew n ds es
+-- an element for each of these domains, without requests and keys, in a world that has just begun
+abbrev pub AreNew : {P : Type 0} {S : Type 0} → (As → P) → NetworkParts → List As → List (Seen P S) → Type 0
+AreNew first n [] [] = Unit {0}
+AreNew first n [] (e ∷ es) = ⊥
+AreNew first n (d ∷ ds) [] = ⊥
+AreNew first n (d ∷ ds) (e ∷ es) = IsNew first (place n d) (life n d) (others d (lines n)) e × AreNew first n ds es
 
 -- how long the keys of each element live
 pub record LivesFit (n : NetworkParts) : Type 0 where
@@ -38,5 +37,5 @@ parent_id None = V4 0
 parent_id (Some id) = id
 
 -- the members of a network in the model's beginning
-abbrev pub begun : NetworkParts → Membership Pin Segment
-begun n = let s = bare Pin Segment wire n open_of first_pin in record { elements = s.elements; parent = s.parent; current = s.current }
+abbrev pub begun : {P : Type 0} {S : Type 0} → (As → P) → (S → List Hop) → NetworkParts → Membership P S
+begun {P} {S} first show n = let s = bare P S wire n show first in record { elements = s.elements; parent = s.parent; current = s.current }

@@ -9,7 +9,7 @@ use Rattle.plant_model.specs.declared.outcome.Refused.{Refused}
 use Rattle.plant_model.specs.Events.{Answered}
 use Rattle.plant_model.specs.RealWire.{wire}
 use Rattle.plant_model.specs.State as deeds
-use Rattle.plant_model.specs.Plant.{Pin, Segment, Plant, PlantDeed, Steps}
+use Rattle.plant_model.specs.Plant.{Pin, Segment, first_pin, Plant, PlantDeed, Steps}
 use Rattle.plant_members.specs.Membership.{Membership}
 use Rattle.pce_element.specs.Seen.{Seen}
 use Rattle.plant_hierarchy.specs.Elements.{elements_in, current_in}
@@ -24,18 +24,18 @@ deeds_of d g (Ok k) = deeds.Loads d g ∷ []
 deeds_of d g (Err why) = []
 
 -- a network with these elements
-abbrev pub with_elements : NetworkParts → ℕ → List Seen → Plant → Plant
-with_elements n now es s = record s { elements = elements_in n now es; current = current_in es }
+abbrev pub with_elements : NetworkParts → ℕ → List (Seen Pin Segment) → Plant → Plant
+with_elements n now es s = record s { elements = elements_in n now es; current = current_in first_pin es }
 
 -- a network with these members
 abbrev pub with_members : Membership Pin Segment → Plant → Plant
 with_members ms s = record s { elements = ms.elements; current = ms.current }
 
 -- An element loads a topology, which is the model's step, whatever is on its way. Requests and keys stay.
-pub record Loads (d : As) (g : Rows) (old : Tiers) (r : Result ℕ Refused) (new : Tiers) : Type 0 where
+pub record Loads (d : As) (g : Rows) (old : Tiers Pin Segment) (r : Result ℕ Refused) (new : Tiers Pin Segment) : Type 0 where
   pub network : new.network ≡ old.network
   pub lost : lost_in new ≡ lost_in old
-  pub elements : (members_of new).elements ≡ (members_of old).elements
-  pub parent : (members_of new).parent ≡ (members_of old).parent
+  pub elements : (members_of first_pin new).elements ≡ (members_of first_pin old).elements
+  pub parent : (members_of first_pin new).parent ≡ (members_of first_pin old).parent
   pub steps : (s : Plant) →
-      Steps wire old.network (with_members (members_of old) s) (event.Load d g) (record { answer = answer_of r; state = with_members (members_of new) s; deeds = deeds_of d g r })
+      Steps wire old.network (with_members (members_of first_pin old) s) (event.Load d g) (record { answer = answer_of r; state = with_members (members_of first_pin new) s; deeds = deeds_of d g r })

@@ -3,16 +3,17 @@ use Rattle.std.specs.Prelude.{ℕ, List, [], ◌∷◌, ◌++◌, Option, Some, 
 use Rattle.dom_base.specs.declared.names.As.{As}
 use Rattle.plant_model.specs.Element.{ready_numbers}
 use Rattle.plant_model.specs.Events.{jobs_at}
+use Rattle.plant_model.specs.Plant.{Pin, Segment}
 use Rattle.pce_element.specs.Seen.{Seen}
 use Rattle.pce_element.specs.Jobs.{Work, job_at}
 use Rattle.plant_hierarchy.specs.Elements.{own_of}
 
 -- those that can be solved, by the order of the elements and then by their numbers
-abbrev pub jobs_in : List Seen → List (As × ℕ)
+abbrev pub jobs_in : {P : Type 0} {S : Type 0} → List (Seen P S) → List (As × ℕ)
 jobs_in [] = []
 jobs_in (e ∷ es) = jobs_at (own_of e) (ready_numbers e.losing.element.pending.rows) ++ jobs_in es
 
 -- what is asked, where there is such an element and its request can be solved
-abbrev pub work_in : ℕ → Option Seen → Option Work
+abbrev pub work_in : ℕ → Option (Seen Pin Segment) → Option Work
 work_in k None = None
 work_in k (Some e) = job_at e k

@@ -1,9 +1,12 @@
 -- What the elements of a network and the parent above them are, by their fields.
+use Rattle.std.specs.Prelude.{ℕ, List}
+use Rattle.plant_text.specs.declared.settings.NetworkParts.{NetworkParts}
+use Rattle.pce_element.specs.Seen.{Seen}
+use Rattle.pce_parent.specs.Seen as above
 use Rattle.plant_hierarchy.specs.Tiers.{Tiers, AreSet}
-use Rattle.plant_hierarchy.specs.declared.hierarchy.Hierarchy.TheInside.{Inside}
 
-abbrev pub tiers_of : Inside → Tiers
-tiers_of a = record { network = a.network; clock = a.clock.0; elements = a.elements; parent = a.parent }
+abbrev pub tiers_of : {P : Type 0} {S : Type 0} → NetworkParts → ℕ → List (Seen P S) → above.Seen → Tiers P S
+tiers_of network clock elements parent = record { network = network; clock = clock; elements = elements; parent = parent }
 
-abbrev pub HoldsTiers : Inside → Type 0
-HoldsTiers a = AreSet (tiers_of a)
+abbrev pub HoldsTiers : {P : Type 0} {S : Type 0} → Tiers P S → Type 0
+HoldsTiers t = AreSet t

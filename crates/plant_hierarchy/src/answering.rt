@@ -4,6 +4,7 @@ ghost use Rattle.std.specs.List.{slice_index_or};
 ghost use Rattle.plant_text.specs.Names.{same_as, parent_as};
 ghost use Rattle.plant_text.specs.Settings.{is_element};
 ghost use Rattle.plant_model.specs.Events.{has_jobs};
+ghost use Rattle.plant_model.specs.Plant.{first_pin};
 ghost use Rattle.plant_members.specs.Membership.{KeysBefore};
 ghost use Rattle.pce_element.specs.Committing.{IsOwnJob, committed};
 ghost use Rattle.plant_hierarchy.specs.Answering.{Commits, IsBack, IsOwnDone, border_job, told_above, told_below};
@@ -12,11 +13,11 @@ ghost use Rattle.plant_hierarchy.specs.Elements.{at_domain, no_one};
 ghost use Rattle.plant_hierarchy.specs.Tiers.{members_of};
 
 use crate::elements::Elements;
-use crate::hierarchy::{Hierarchy, is_parent};
+use crate::hierarchy::Hierarchy;
 use crate::plan::MemberPlan;
 use border_costs::Solved;
 use dom_base::{As, Tick};
-use pce_element::{CommitError, Element, Plan};
+use pce_element::{CommitError, Element, Plan, Topologies};
 use pce_parent::{BorderPlan, BorderSolved, Done, ParentCommitError};
 use plant_model::Refused;
 
@@ -28,26 +29,29 @@ pub struct Unanswered {
 }
 
 fn commit_at(
-    items: &mut Vec<Element>,
+    items: &mut Vec<Element<Topologies>>,
     i: usize,
     solved: Solved,
     now: Tick,
-) -> Result<Plan, CommitError>
+) -> Result<Plan<Topologies>, CommitError>
     requires within { i < length items.old.items }
-    requires clock { (slice_index_or items.old.items i no_one).losing.element.keys.clock ≤ now.0 }
-    requires own { IsOwnJob (slice_index_or items.old.items i no_one) solved }
-    ensures same { BecomesAt i unchanged items.old.items items.new.items }
-    ensures from { IfOk result (λ plan. plan.from ≡ slice_index_or items.new.items i no_one) }
-    ensures taken { IfOk result (λ plan. committed (slice_index_or items.old.items i no_one) solved now.0 ≡ Some plan.taken) }
+    requires clock { (slice_index_or items.old.items i (no_one first_pin)).losing.element.keys.clock ≤ now.0 }
+    requires own { IsOwnJob (slice_index_or items.old.items i (no_one first_pin)) solved }
+    ensures same { BecomesAt first_pin i unchanged items.old.items items.new.items }
+    ensures from { IfOk result (λ plan. plan.from ≡ slice_index_or items.new.items i (no_one first_pin)) }
+    ensures taken { IfOk result (λ plan. committed (slice_index_or items.old.items i (no_one first_pin)) solved now.0 ≡ Some plan.taken) }
     ensures one { IfOk result (λ plan. length plan.taken.outputs ≡ 1) }
     ensures solved { IfOk result (λ plan. plan.solved ≡ Some solved) }
-    ensures back { IfErr result (IsBack (slice_index_or items.old.items i no_one) solved) }
+    ensures back { IfErr result (IsBack (slice_index_or items.old.items i (no_one first_pin)) solved) }
 {
     items[i].commit(solved, now)
 }
 
 // What is told of an element's answer.
-fn told_below(at: As, answer: Result<Plan, CommitError>) -> Result<MemberPlan, Unanswered>
+fn told_below(
+    at: As,
+    answer: Result<Plan<Topologies>, CommitError>,
+) -> Result<MemberPlan<Topologies>, Unanswered>
     ensures { result ≡ told_below at answer }
 {
     match answer {
@@ -64,7 +68,9 @@ fn told_below(at: As, answer: Result<Plan, CommitError>) -> Result<MemberPlan, U
 }
 
 // The same of the parent's.
-fn told_above(answer: Result<BorderPlan, ParentCommitError>) -> Result<MemberPlan, Unanswered>
+fn told_above(
+    answer: Result<BorderPlan, ParentCommitError>,
+) -> Result<MemberPlan<Topologies>, Unanswered>
     ensures { result ≡ told_above answer }
 {
     match answer {
@@ -80,9 +86,14 @@ fn told_above(answer: Result<BorderPlan, ParentCommitError>) -> Result<MemberPla
     }
 }
 
-impl Elements {
+impl Elements<Topologies> {
     /// Plans the answer to a job of the element of a domain that was solved.
-    pub fn commit(&mut self, at: As, solved: Solved, now: Tick) -> Result<Plan, CommitError>
+    pub fn commit(
+        &mut self,
+        at: As,
+        solved: Solved,
+        now: Tick,
+    ) -> Result<Plan<Topologies>, CommitError>
         requires there { HasElement at self.old }
         requires clock { IfSome (at_domain at self.old) (λ e. e.losing.element.keys.clock ≤ now.0) }
         requires own { IfSome (at_domain at self.old) (λ e. IsOwnJob e solved) }
@@ -98,22 +109,16 @@ impl Elements {
     }
 }
 
-impl Hierarchy {
-    /// Whether there is such an element, or the parent.
-    pub fn has_jobs(&self, at: As) -> bool
-        ensures { result ≡ has_jobs self.now.network at }
-    {
-        if is_parent(at) {
-            self.network.parts().parent.is_some()
-        } else {
-            self.elements.has(at)
-        }
-    }
-
-    fn commit_below(&mut self, at: As, solved: Solved, now: Tick) -> Result<MemberPlan, Unanswered>
+impl Hierarchy<Topologies> {
+    fn commit_below(
+        &mut self,
+        at: As,
+        solved: Solved,
+        now: Tick,
+    ) -> Result<MemberPlan<Topologies>, Unanswered>
         requires below { same_as at parent_as ≡ false }
         requires there { is_element self.old.network at ≡ true }
-        requires clock { KeysBefore now.0 self.old.network (members_of self.old) }
+        requires clock { KeysBefore now.0 self.old.network (members_of first_pin self.old) }
         requires own { IfSome (at_domain at self.old.elements) (λ e. IsOwnJob e solved) }
         ensures { Commits at now.0 (Done.Domain solved) self.old result self.new }
     {
@@ -126,7 +131,7 @@ impl Hierarchy {
         at: As,
         solved: BorderSolved,
         now: Tick,
-    ) -> Result<MemberPlan, Unanswered>
+    ) -> Result<MemberPlan<Topologies>, Unanswered>
         requires above { same_as at parent_as ≡ true }
         requires there { has_jobs self.old.network at ≡ true }
         requires own { IfSome (border_job self.old solved.job.number) (λ j. solved.job ≡ j) }
@@ -137,8 +142,13 @@ impl Hierarchy {
     }
 
     /// Plans the answer to a job of a member that was solved, which changes nothing yet.
-    pub fn commit(&mut self, at: As, done: Done, now: Tick) -> Result<MemberPlan, Unanswered>
-        requires clock { KeysBefore now.0 self.old.network (members_of self.old) }
+    pub fn commit(
+        &mut self,
+        at: As,
+        done: Done,
+        now: Tick,
+    ) -> Result<MemberPlan<Topologies>, Unanswered>
+        requires clock { KeysBefore now.0 self.old.network (members_of first_pin self.old) }
         requires own { IsOwnDone self.old at done }
         ensures { Commits at now.0 done self.old result self.new }
     {

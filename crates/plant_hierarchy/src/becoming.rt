@@ -2,65 +2,65 @@
 ghost use Rattle.std.specs.Prelude.{◌≡◌, ◌≤◌, ◌<◌, length, map, Some, IfOk, IfSome};
 ghost use Rattle.std.specs.List.{slice_index_or};
 ghost use Rattle.plant_model.specs.Element.{upped, down_of, next_lost_of};
-ghost use Rattle.pce_element.specs.Messages.{HasOnePart};
+ghost use Rattle.member_parts.specs.Messages.{HasOnePart};
 ghost use Rattle.plant_hierarchy.specs.Elements.{at_domain, no_one, own_of, IsFirstAt};
 ghost use Rattle.plant_hierarchy.specs.Becoming.{Becomes, BecomesAt, HasElement, taken_by, unchanged};
 
 use crate::elements::{Elements, place_of};
 use disclosure::Class;
 use dom_base::{As, NoMemory, Peer, Tick};
-use pce_element::{Element, Plan};
+use pce_element::{Element, Plan, World};
 use pcep_messages::Message;
 use plant_model::Lost;
 
-fn take_at(
-    items: &mut Vec<Element>,
+fn take_at<W: World>(
+    items: &mut Vec<Element<W>>,
     i: usize,
     peer: Peer,
     class: Class,
     message: Message,
     now: Tick,
-) -> Result<Plan, NoMemory>
+) -> Result<Plan<W>, NoMemory>
     requires within { i < length items.old.items }
     requires part { HasOnePart message }
-    ensures same { BecomesAt i unchanged items.old.items items.new.items }
-    ensures from { IfOk result (λ plan. plan.from ≡ slice_index_or items.new.items i no_one) }
-    ensures taken { IfOk result (λ plan. plan.taken ≡ taken_by peer class now.0 message (slice_index_or items.old.items i no_one)) }
+    ensures same { BecomesAt W.first i unchanged items.old.items items.new.items }
+    ensures from { IfOk result (λ plan. plan.from ≡ slice_index_or items.new.items i (no_one W.first)) }
+    ensures taken { IfOk result (λ plan. plan.taken ≡ taken_by W.show peer class now.0 message (slice_index_or items.old.items i (no_one W.first))) }
 {
     items[i].take(peer, class, message, now)
 }
 
-fn make_at(items: &mut Vec<Element>, i: usize, plan: Plan)
+fn make_at<W: World>(items: &mut Vec<Element<W>>, i: usize, plan: Plan<W>)
     requires within { i < length items.old.items }
-    requires from { plan.from ≡ slice_index_or items.old.items i no_one }
-    ensures { BecomesAt i (λ l. record l { element = plan.taken.element }) items.old.items items.new.items }
+    requires from { plan.from ≡ slice_index_or items.old.items i (no_one W.first) }
+    ensures { BecomesAt W.first i (λ l. record l { element = plan.taken.element }) items.old.items items.new.items }
 {
     items[i].make(plan);
 }
 
-fn up_at(items: &mut Vec<Element>, i: usize, peer: Peer)
+fn up_at<W: World>(items: &mut Vec<Element<W>>, i: usize, peer: Peer)
     requires { i < length items.old.items }
-    ensures { BecomesAt i (λ l. record l { element = upped peer l.element }) items.old.items items.new.items }
+    ensures { BecomesAt W.first i (λ l. record l { element = upped peer l.element }) items.old.items items.new.items }
 {
     items[i].up(peer);
 }
 
-fn down_at(items: &mut Vec<Element>, i: usize, peer: Peer)
+fn down_at<W: World>(items: &mut Vec<Element<W>>, i: usize, peer: Peer)
     requires { i < length items.old.items }
-    ensures { BecomesAt i (down_of peer) items.old.items items.new.items }
+    ensures { BecomesAt W.first i (down_of peer) items.old.items items.new.items }
 {
     items[i].down(peer);
 }
 
-fn next_lost_at(items: &mut Vec<Element>, i: usize) -> Option<Lost>
+fn next_lost_at<W: World>(items: &mut Vec<Element<W>>, i: usize) -> Option<Lost>
     requires { i < length items.old.items }
-    ensures lost { result ≡ (next_lost_of (slice_index_or items.old.items i no_one).losing).0 }
-    ensures rest { BecomesAt i (λ l. (next_lost_of l).1) items.old.items items.new.items }
+    ensures lost { result ≡ (next_lost_of (slice_index_or items.old.items i (no_one W.first)).losing).0 }
+    ensures rest { BecomesAt W.first i (λ l. (next_lost_of l).1) items.old.items items.new.items }
 {
     items[i].next_lost()
 }
 
-impl Elements {
+impl<W: World> Elements<W> {
     /// The place of the element of a domain.
     pub(crate) fn place(&self, at: As) -> usize
         requires { HasElement at self.now }
@@ -80,19 +80,19 @@ impl Elements {
         class: Class,
         message: Message,
         now: Tick,
-    ) -> Result<Plan, NoMemory>
+    ) -> Result<Plan<W>, NoMemory>
         requires there { HasElement at self.old }
         requires part { HasOnePart message }
         ensures same { Becomes at unchanged self.old self.new }
         ensures from { IfOk result (λ plan. at_domain at self.new ≡ Some plan.from) }
-        ensures taken { IfOk result (λ plan. IfSome (at_domain at self.old) (λ e. plan.taken ≡ taken_by peer class now.0 message e)) }
+        ensures taken { IfOk result (λ plan. IfSome (at_domain at self.old) (λ e. plan.taken ≡ taken_by W.show peer class now.0 message e)) }
     {
         let i = self.place(at);
         take_at(&mut self.items, i, peer, class, message, now)
     }
 
     /// Makes a plan; takes no memory.
-    pub fn make(&mut self, at: As, plan: Plan)
+    pub fn make(&mut self, at: As, plan: Plan<W>)
         requires { at_domain at self.old ≡ Some plan.from }
         ensures { Becomes at (λ l. record l { element = plan.taken.element }) self.old self.new }
     {

@@ -6,17 +6,17 @@ ghost use Rattle.plant_hierarchy.specs.Becoming.{AreBefore, AreTicked, BecomesAt
 
 use crate::elements::Elements;
 use dom_base::{As, Peer, Tick};
-use pce_element::Element;
+use pce_element::{Element, World};
 
-fn tick_at(items: &mut Vec<Element>, i: usize, now: Tick)
+fn tick_at<W: World>(items: &mut Vec<Element<W>>, i: usize, now: Tick)
     requires within { i < length items.old.items }
-    requires clock { (slice_index_or items.old.items i no_one).losing.element.keys.clock ≤ now.0 }
-    ensures { BecomesAt i (ticked_by now.0) items.old.items items.new.items }
+    requires clock { (slice_index_or items.old.items i (no_one W.first)).losing.element.keys.clock ≤ now.0 }
+    ensures { BecomesAt W.first i (ticked_by now.0) items.old.items items.new.items }
 {
     items[i].tick(now);
 }
 
-fn tick_all(items: &mut Vec<Element>, now: Tick)
+fn tick_all<W: World>(items: &mut Vec<Element<W>>, now: Tick)
     requires { AreBefore now.0 items.old.items }
     ensures { AreTicked now.0 items.old.items items.new.items }
 {
@@ -25,7 +25,7 @@ fn tick_all(items: &mut Vec<Element>, now: Tick)
     }
 }
 
-impl Elements {
+impl<W: World> Elements<W> {
     /// The moment, which never falls: keys expire; takes no memory.
     pub fn tick(&mut self, now: Tick)
         requires { AreBefore now.0 self.old }

@@ -9,7 +9,7 @@ ghost use Rattle.plant_hierarchy.specs.Fresh.{AreNew, LivesFit, figures_from};
 
 use crate::elements::Elements;
 use dom_base::{Addr, As, NoMemory};
-use pce_element::Element;
+use pce_element::{Element, World};
 use plant_layout::{deny_at, elements_of, others_along};
 use plant_text::{ElementRow, NetworkParts};
 use std::alloc::Global;
@@ -48,15 +48,15 @@ fn figures_of(rows: &[ElementRow], own: As) -> Figures
     }
 }
 
-fn element_of(
+fn element_of<W: World>(
     alloc: Global,
     parts: &NetworkParts,
     inner: &[(As, As)],
     own: As,
-) -> Result<Element, NoMemory>
+) -> Result<Element<W>, NoMemory>
     requires lives { LivesFit parts.now }
     requires lines { are_lines inner.now ≡ lines parts.now }
-    ensures { IfOk result (IsNew (place parts.now own) (life parts.now own) (others own (lines parts.now))) }
+    ensures { IfOk result (IsNew W.first (place parts.now own) (life parts.now own) (others own (lines parts.now))) }
 {
     let figures = figures_of(parts.elements.as_slice(), own);
     let deny = deny_at(alloc, own, parts.deny.as_slice())?;
@@ -72,15 +72,15 @@ fn element_of(
     )
 }
 
-fn each_element(
+fn each_element<W: World>(
     alloc: Global,
     parts: &NetworkParts,
     inner: &[(As, As)],
     domains: &[As],
-) -> Result<Vec<Element>, NoMemory>
+) -> Result<Vec<Element<W>>, NoMemory>
     requires lives { LivesFit parts.now }
     requires lines { are_lines inner.now ≡ lines parts.now }
-    ensures { IfOk result (λ items. AreNew parts.now domains.now items.items) }
+    ensures { IfOk result (λ items. AreNew W.first parts.now domains.now items.items) }
 {
     let mut items = Vec::new(alloc);
     for own in domains {
@@ -89,13 +89,17 @@ fn each_element(
     Ok(items)
 }
 
-impl Elements {
-    /// The elements of a network with these settings and these inner links, without requests, keys and
-    /// topologies, in the order of their domains.
-    pub fn of(alloc: Global, parts: &NetworkParts, inner: &[(As, As)]) -> Result<Elements, NoMemory>
+impl<W: World> Elements<W> {
+    /// The elements of a network with these settings and these inner links, without requests and keys, in
+    /// the order of their domains.
+    pub fn of(
+        alloc: Global,
+        parts: &NetworkParts,
+        inner: &[(As, As)],
+    ) -> Result<Elements<W>, NoMemory>
         requires lives { LivesFit parts.now }
         requires lines { are_lines inner.now ≡ lines parts.now }
-        ensures { IfOk result (AreNew parts.now (elements_of parts.now.elements)) }
+        ensures { IfOk result (AreNew W.first parts.now (elements_of parts.now.elements)) }
     {
         let domains = elements_of(alloc, parts.elements.as_slice())?.into_vec();
         let items = each_element(alloc, parts, inner, &domains)?;

@@ -1,57 +1,47 @@
 //! The elements of a network and the parent above them (RFC 6805).
-ghost use Rattle.std.specs.Prelude.{◌≡◌, ◌≤◌, [], All, length, slice_get, IfOk, IfSome, false, true};
-ghost use Rattle.std.specs.Arc.{arc_value};
-ghost use Rattle.std.specs.Option.{option_map};
+ghost use Rattle.std.specs.Prelude.{◌≡◌, ◌≤◌, [], All, length, slice_get, IfOk};
 ghost use Rattle.dom_base.specs.declared.names.As.{As as Domain};
 ghost use Rattle.plant_text.specs.Names.{same_as, parent_as};
 ghost use Rattle.plant_text.specs.Settings.{elements_of};
-ghost use Rattle.plant_model.specs.Events.{ready_jobs};
+ghost use Rattle.plant_model.specs.Events.{has_jobs, ready_jobs};
 ghost use Rattle.plant_model.specs.Parent.{ready_numbers};
-ghost use Rattle.plant_model.specs.Plant.{Plant};
+ghost use Rattle.plant_model.specs.State.{State};
 ghost use Rattle.plant_model.specs.Settings.{family};
 ghost use Rattle.pce_parent.specs.Seen.{IsNew};
 ghost use Rattle.pce_parent.specs.Solution.{IsWeighed};
-ghost use Rattle.pce_element.specs.Rows.{pin_with};
-ghost use Rattle.plant_hierarchy.specs.Elements.{at_domain};
-ghost use Rattle.plant_hierarchy.specs.Loading.{Loads};
-ghost use Rattle.plant_hierarchy.specs.Answering.{IsElementWork, IsParentWork, IsWeighedWork, border_job};
 ghost use Rattle.plant_hierarchy.specs.Fresh.{AreNew, begun, parent_id};
-ghost use Rattle.plant_hierarchy.specs.Ready.{work_in};
-ghost use Rattle.plant_hierarchy.specs.Current.{IsCurrent};
 ghost use Rattle.plant_hierarchy.specs.Tiers.{lost_in, members_of};
 
 use crate::elements::Elements;
 use dom_base::{Addr, As, NoMemory, Tick};
-use pce_parent::{Parent, Work, copy_links};
+use pce_element::World;
+use pce_parent::{Parent, copy_links};
 use plant_layout::{children_of, lines_of};
-use plant_model::Refused;
 use plant_text::{Network, NetworkParts};
 use std::alloc::Global;
 use std::marker::Model;
-use std::sync::Arc;
-use te_links::Topology;
 
 /// The elements of a network, each by its domain, and the parent above them.
 #[derive(Drop)]
-pub struct Hierarchy {
+pub struct Hierarchy<W: World> {
     pub(crate) network: Network,
     /// The last moment.
     pub(crate) clock: Tick,
-    pub(crate) elements: Elements,
+    pub(crate) elements: Elements<W>,
     /// Without children where the settings have no parent.
     pub(crate) parent: Parent,
 }
 
-impl Model for Hierarchy {
+impl<W: World> Model for Hierarchy<W> {
     ghost use Rattle.plant_hierarchy.specs.Tiers.{Tiers};
 
-    ghost Value = { Tiers };
+    ghost Value = { Tiers W.Pin W.Segment };
 
     ghost use Rattle.plant_hierarchy.specs.TierFields.{tiers_of, HoldsTiers};
 
-    ghost view = { tiers_of };
+    ghost view = { λ a. tiers_of a.network a.clock.0 a.elements a.parent };
 
-    ghost invariant = { HoldsTiers };
+    ghost invariant = { λ a. HoldsTiers (tiers_of a.network a.clock.0 a.elements a.parent) };
 }
 
 /// Whether this is the number of the parent.
@@ -92,14 +82,15 @@ fn count_above(parent: &Parent, most: usize) -> usize
     most
 }
 
-impl Hierarchy {
-    /// The elements and the parent of a network, without requests, keys and topologies.
-    pub fn new(alloc: Global, network: Network) -> Result<Hierarchy, NoMemory>
+impl<W: World> Hierarchy<W> {
+    /// The elements and the parent of a network, without requests and keys, in a world
+    /// that has just begun.
+    pub fn new(alloc: Global, network: Network) -> Result<Hierarchy<W>, NoMemory>
         ensures network { IfOk result (λ h. h.network ≡ network) }
         ensures clock { IfOk result (λ h. h.clock ≡ 0) }
-        ensures elements { IfOk result (λ h. AreNew network (elements_of network.elements) h.elements) }
+        ensures elements { IfOk result (λ h. AreNew W.first network (elements_of network.elements) h.elements) }
         ensures parent { IfOk result (λ h. IsNew (parent_id network.parent) (family network) h.parent) }
-        ensures begun { IfOk result (λ h. members_of h ≡ begun network) }
+        ensures begun { IfOk result (λ h. members_of W.first h ≡ begun W.first W.show network) }
         ensures none { IfOk result (λ h. (d : Domain) → lost_in h d ≡ []) }
     {
         let parts = network.parts();
@@ -128,38 +119,21 @@ impl Hierarchy {
         &self.network
     }
 
-    /// The element of a domain loads a topology.
-    pub fn load(&mut self, at: As, topology: Topology) -> Result<u64, Refused>
-        requires own { topology.own ≡ at }
-        ensures { Loads at topology self.old result self.new }
-    {
-        self.elements.load(at, topology)
-    }
-
-    /// The current topology of an element, and its number; None where there is no such element.
-    pub fn topology(&self, at: As) -> Result<Option<(u64, Arc<Topology>)>, NoMemory>
-        ensures { IfOk result (λ found. IsCurrent self.now.network (members_of self.now).current at (option_map (λ p. pin_with p.0 (arc_value p.1)) found)) }
-    {
-        self.elements.topology(at)
-    }
-
-    /// The job of a request of a member, where it can be solved.
-    pub fn job(&self, at: As, number: u64) -> Result<Option<Work>, NoMemory>
-        ensures below { same_as at parent_as ≡ false → IfOk result (IsElementWork (work_in number (at_domain at self.now.elements))) }
-        ensures above { same_as at parent_as ≡ true → IfOk result (IsParentWork (border_job self.now number)) }
-        ensures weighed { IfOk result (λ work. IfSome work IsWeighedWork) }
+    /// Whether there is such an element, or the parent.
+    pub fn has_jobs(&self, at: As) -> bool
+        ensures { result ≡ has_jobs self.now.network at }
     {
         if is_parent(at) {
-            Ok(self.parent.job(number)?.map(Work::Border))
+            self.network.parts().parent.is_some()
         } else {
-            Ok(self.elements.job(at, number)?.map(Work::Domain))
+            self.elements.has(at)
         }
     }
 
     /// The k-th job that can be solved: those of the parent are first, then the others by the domain, each by
     /// its number; takes no memory.
     pub fn ready(&self, k: usize) -> Option<(As, u64)>
-        ensures { (s : Plant) → s.elements ≡ (members_of self.now).elements → s.parent ≡ (members_of self.now).parent → result ≡ slice_get (ready_jobs self.now.network s) k }
+        ensures { (s : State W.Pin W.Segment) → s.elements ≡ (members_of W.first self.now).elements → s.parent ≡ (members_of W.first self.now).parent → result ≡ slice_get (ready_jobs self.now.network s) k }
     {
         if let Some(number) = self.parent.ready(k) {
             return Some((As(0), number));

@@ -3,10 +3,12 @@
 
 mod answering;
 mod becoming;
+mod blind;
 mod counting;
 mod elements;
 mod fresh;
 mod hierarchy;
+mod loading;
 mod members;
 mod plan;
 mod ready;

@@ -1,15 +1,14 @@
 //! The elements of a network and the parent above them, as the deeds of a network see them.
 ghost use Rattle.std.specs.Prelude.{◌≡◌};
-ghost use Rattle.disclosure.specs.Shown.{open_of};
 ghost use Rattle.plant_text.specs.Settings.{peer_row};
 ghost use Rattle.plant_model.specs.Deeds.{at_row};
-ghost use Rattle.plant_model.specs.Plant.{Pin as Generation, Segment};
 ghost use Rattle.plant_hierarchy.specs.Tiers.{FitsIn, lost_in, members_of, next_by, sent_by};
 
 use crate::hierarchy::{Hierarchy, is_parent};
 use crate::plan::MemberPlan;
 use crate::steps::has_one_part;
 use dom_base::{As, NoMemory, Peer, Tick};
+use pce_element::World;
 use pcep_messages::Message;
 use plant_members::Members;
 use plant_model::{Lost, Outputs};
@@ -25,24 +24,24 @@ fn at_peer(peers: &[PeerRow], peer: u32) -> As
     }
 }
 
-impl Members for Hierarchy {
-    type Plan = MemberPlan;
+impl<W: World> Members for Hierarchy<W> {
+    type Plan = MemberPlan<W>;
 
-    ghost Pin = { Generation };
+    ghost Pin = { W.Pin };
 
-    ghost Key = { Segment };
+    ghost Key = { W.Segment };
 
-    ghost show = { open_of };
+    ghost show = { W.show };
 
     ghost network = { λ t. t.network };
 
-    ghost seen = { members_of };
+    ghost seen = { members_of W.first };
 
     ghost lost = { lost_in };
 
     ghost fits = { FitsIn };
 
-    ghost next = { next_by };
+    ghost next = { next_by W.first };
 
     ghost sends = { sent_by };
 
@@ -53,7 +52,7 @@ impl Members for Hierarchy {
         peer: Peer,
         message: Message,
         now: Tick,
-    ) -> Result<MemberPlan, NoMemory> {
+    ) -> Result<MemberPlan<W>, NoMemory> {
         if !has_one_part(&message) {
             return Err(NoMemory);
         }
@@ -64,14 +63,14 @@ impl Members for Hierarchy {
         }
     }
 
-    fn outputs(plan: &MemberPlan) -> &Outputs {
+    fn outputs(plan: &MemberPlan<W>) -> &Outputs {
         match plan {
             MemberPlan::Element { at: _at, plan } => plan.outputs(),
             MemberPlan::Parent(plan) => plan.outputs(),
         }
     }
 
-    fn make(&mut self, plan: MemberPlan) {
+    fn make(&mut self, plan: MemberPlan<W>) {
         match plan {
             MemberPlan::Element { at, plan } => self.make_below(at, plan),
             MemberPlan::Parent(plan) => self.make_above(plan),

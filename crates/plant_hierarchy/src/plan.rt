@@ -3,17 +3,17 @@ ghost use Rattle.std.specs.Prelude.{◌≡◌};
 ghost use Rattle.plant_hierarchy.specs.Answering.{back_of};
 
 use dom_base::As;
-use pce_element::Plan;
+use pce_element::{Plan, Topologies, World};
 use pce_parent::{BorderPlan, Done};
 
 /// A planned change of the element of a domain or of the parent, and the messages that are sent with it.
 #[derive(Drop)]
-pub enum MemberPlan {
-    Element { at: As, plan: Plan },
+pub enum MemberPlan<W: World> {
+    Element { at: As, plan: Plan<W> },
     Parent(BorderPlan),
 }
 
-impl MemberPlan {
+impl MemberPlan<Topologies> {
     /// Gives the plan up, and hands back what was solved, where it was planned for that; takes no memory.
     pub fn back(self) -> Option<Done>
         ensures { result ≡ back_of self }

@@ -5,15 +5,14 @@ ghost use Rattle.plant_text.specs.Names.{same_as, parent_as};
 ghost use Rattle.plant_text.specs.Settings.{is_element};
 ghost use Rattle.plant_model.specs.Names.{set_as};
 ghost use Rattle.plant_members.specs.Membership.{fallen, lost_at, raised, with_element, with_parent, HandsOut};
-ghost use Rattle.pce_element.specs.Messages.{HasOnePart};
-ghost use Rattle.pce_parent.specs.Seen as above;
+ghost use Rattle.member_parts.specs.Messages.{HasOnePart};
 ghost use Rattle.plant_hierarchy.specs.Elements.{at_domain};
 ghost use Rattle.plant_hierarchy.specs.Tiers.{Become, Takes, lost_in, members_of, planned_below};
 
 use crate::hierarchy::Hierarchy;
 use crate::plan::MemberPlan;
 use dom_base::{As, NoMemory, Peer, Tick};
-use pce_element::Plan;
+use pce_element::{Plan, World};
 use pce_parent::BorderPlan;
 use pcep_messages::Message;
 use plant_layout::class_of;
@@ -21,8 +20,7 @@ use plant_model::Lost;
 
 /// Whether a message has at most one request or reply.
 pub(crate) fn has_one_part(message: &Message) -> bool
-    ensures below { OnTrue result (HasOnePart message.now) }
-    ensures above { OnTrue result (above.HasOnePart message.now) }
+    ensures { OnTrue result (HasOnePart message.now) }
 {
     match message {
         Message::PcReq(asks) => asks.len() <= 1,
@@ -32,7 +30,10 @@ pub(crate) fn has_one_part(message: &Message) -> bool
 }
 
 // The plan of an element as that of a member.
-fn planned_below(at: As, plan: Result<Plan, NoMemory>) -> Result<MemberPlan, NoMemory>
+fn planned_below<W: World>(
+    at: As,
+    plan: Result<Plan<W>, NoMemory>,
+) -> Result<MemberPlan<W>, NoMemory>
     ensures { result ≡ planned_below at plan }
 {
     match plan {
@@ -41,18 +42,18 @@ fn planned_below(at: As, plan: Result<Plan, NoMemory>) -> Result<MemberPlan, NoM
     }
 }
 
-impl Hierarchy {
+impl<W: World> Hierarchy<W> {
     pub(crate) fn take_below(
         &mut self,
         at: As,
         peer: Peer,
         message: Message,
         now: Tick,
-    ) -> Result<MemberPlan, NoMemory>
+    ) -> Result<MemberPlan<W>, NoMemory>
         requires below { same_as at parent_as ≡ false }
         requires there { is_element self.old.network at ≡ true }
         requires part { HasOnePart message }
-        ensures { Takes at peer now.0 message self.old result self.new }
+        ensures { Takes W.first W.show at peer now.0 message self.old result self.new }
     {
         let class = class_of(self.network.parts(), peer);
         planned_below(at, self.elements.take(at, peer, class, message, now))
@@ -64,25 +65,25 @@ impl Hierarchy {
         peer: Peer,
         message: Message,
         now: Tick,
-    ) -> Result<MemberPlan, NoMemory>
+    ) -> Result<MemberPlan<W>, NoMemory>
         requires above { same_as at parent_as ≡ true }
-        requires part { above.HasOnePart message }
-        ensures { Takes at peer now.0 message self.old result self.new }
+        requires part { HasOnePart message }
+        ensures { Takes W.first W.show at peer now.0 message self.old result self.new }
     {
         Ok(MemberPlan::Parent(self.parent.take(peer, message, now)?))
     }
 
-    pub(crate) fn make_below(&mut self, at: As, plan: Plan)
+    pub(crate) fn make_below(&mut self, at: As, plan: Plan<W>)
         requires below { same_as at parent_as ≡ false }
         requires from { at_domain at self.old.elements ≡ Some plan.from }
-        ensures { Become self.old (with_element at plan.taken.element (members_of self.old)) (lost_in self.old) self.new }
+        ensures { Become W.first self.old (with_element at plan.taken.element (members_of W.first self.old)) (lost_in self.old) self.new }
     {
         self.elements.make(at, plan);
     }
 
     pub(crate) fn make_above(&mut self, plan: BorderPlan)
         requires { plan.from ≡ self.old.parent }
-        ensures { Become self.old (with_parent plan.given.parent (members_of self.old)) (lost_in self.old) self.new }
+        ensures { Become W.first self.old (with_parent plan.given.parent (members_of W.first self.old)) (lost_in self.old) self.new }
     {
         self.parent.make(plan);
     }
@@ -90,14 +91,14 @@ impl Hierarchy {
     pub(crate) fn up_below(&mut self, at: As, peer: Peer)
         requires below { same_as at parent_as ≡ false }
         requires there { is_element self.old.network at ≡ true }
-        ensures { Become self.old (raised at peer (members_of self.old)) (lost_in self.old) self.new }
+        ensures { Become W.first self.old (raised at peer (members_of W.first self.old)) (lost_in self.old) self.new }
     {
         self.elements.up(at, peer);
     }
 
     pub(crate) fn up_above(&mut self, at: As, peer: Peer)
         requires { same_as at parent_as ≡ true }
-        ensures { Become self.old (raised at peer (members_of self.old)) (lost_in self.old) self.new }
+        ensures { Become W.first self.old (raised at peer (members_of W.first self.old)) (lost_in self.old) self.new }
     {
         self.parent.up(peer);
     }
@@ -106,7 +107,7 @@ impl Hierarchy {
         requires below { same_as at parent_as ≡ false }
         requires there { is_element self.old.network at ≡ true }
         requires none { lost_in self.old at ≡ [] }
-        ensures { Become self.old (fallen at peer (members_of self.old)) (set_as at (lost_at at peer (members_of self.old)) (lost_in self.old)) self.new }
+        ensures { Become W.first self.old (fallen at peer (members_of W.first self.old)) (set_as at (lost_at at peer (members_of W.first self.old)) (lost_in self.old)) self.new }
     {
         self.elements.down(at, peer);
     }
@@ -114,7 +115,7 @@ impl Hierarchy {
     pub(crate) fn down_above(&mut self, at: As, peer: Peer)
         requires above { same_as at parent_as ≡ true }
         requires none { lost_in self.old at ≡ [] }
-        ensures { Become self.old (fallen at peer (members_of self.old)) (set_as at (lost_at at peer (members_of self.old)) (lost_in self.old)) self.new }
+        ensures { Become W.first self.old (fallen at peer (members_of W.first self.old)) (set_as at (lost_at at peer (members_of W.first self.old)) (lost_in self.old)) self.new }
     {
         self.parent.down(peer);
     }
@@ -122,7 +123,7 @@ impl Hierarchy {
     pub(crate) fn next_lost_below(&mut self, at: As) -> Option<Lost>
         requires below { same_as at parent_as ≡ false }
         requires there { is_element self.old.network at ≡ true }
-        ensures rest { Become self.old (members_of self.old) (lost_in self.new) self.new }
+        ensures rest { Become W.first self.old (members_of W.first self.old) (lost_in self.new) self.new }
         ensures lost { HandsOut at (lost_in self.old) result (lost_in self.new) }
     {
         self.elements.next_lost(at)
@@ -130,7 +131,7 @@ impl Hierarchy {
 
     pub(crate) fn next_lost_above(&mut self, at: As) -> Option<Lost>
         requires { same_as at parent_as ≡ true }
-        ensures rest { Become self.old (members_of self.old) (lost_in self.new) self.new }
+        ensures rest { Become W.first self.old (members_of W.first self.old) (lost_in self.new) self.new }
         ensures lost { HandsOut at (lost_in self.old) result (lost_in self.new) }
     {
         self.parent.next_lost()

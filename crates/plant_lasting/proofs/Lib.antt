@@ -3,4 +3,6 @@ pub mod JobsKept
 mod ElementsLast
 mod ParentsLast
 mod DeedsLast
+pub mod HappeningsLast
 pub mod EventsLast
+pub mod BlindLast

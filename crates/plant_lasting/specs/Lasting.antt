@@ -6,10 +6,12 @@ use Rattle.request_table.specs.declared.held.Held.{Held}
 use Rattle.request_table.specs.Pending.{Pending, NumbersRise}
 use Rattle.plant_text.specs.declared.settings.NetworkParts.{NetworkParts}
 use Rattle.plant_model.specs.declared.event.Event.{Event}
+use Rattle.plant_model.specs.declared.event.BlindEvent.{BlindEvent}
 use Rattle.plant_model.specs.Wire.{Codec}
 use Rattle.plant_model.specs.Element.{Item, is_ready}
 use Rattle.plant_model.specs.Parent as parent
 use Rattle.plant_model.specs.State.{State}
+use Rattle.plant_model.specs.Blind.{BlindState, BlindHappened, BlindSteps, blind_opened}
 use Rattle.plant_model.specs.Plant.{Pin, Plant, Happened, Entry, Run, Steps}
 
 -- ---- one table of requests
@@ -97,3 +99,18 @@ KeysAreBefore = (c : Codec) (n : NetworkParts) (s : Plant) (e : Event) (h : Happ
 
 abbrev pub RunsHaveKeysBefore : Type 0
 RunsHaveKeysBefore = (c : Codec) (n : NetworkParts) (es : List Entry) (s : Plant) → Run c n es s → KeysInTime s
+
+-- ---- without topologies
+
+-- what lasts in a step
+pub record Goes {P : Type 0} {S : Type 0} (old new : State P S) : Type 0 where
+  pub order : AreInOrder new
+  pub jobs : JobsLast old new
+  pub keys : KeysInTime new
+
+-- the same in each step of the blind plant, and in its beginning
+abbrev pub BlindStepsLast : Type 0
+BlindStepsLast = (c : Codec) (n : NetworkParts) (s : BlindState) (e : BlindEvent) (h : BlindHappened) → AreInOrder s → KeysInTime s → BlindSteps c n s e h → Goes s h.state
+
+abbrev pub BlindBegins : Type 0
+BlindBegins = (c : Codec) (n : NetworkParts) → AreInOrder (blind_opened c n).state × KeysInTime (blind_opened c n).state

@@ -2,7 +2,7 @@
 //! that do nothing.
 #![tactic(auto)]
 
-ghost use Rattle.plant_lasting.specs.Lasting.{ElementsKeepJobs, KeysAreBefore, LastsOn, LastsStill, OrderGives, ParentsKeepJobs, RunsAreInOrder, RunsHaveKeysBefore, StepsLast};
+ghost use Rattle.plant_lasting.specs.Lasting.{BlindBegins, BlindStepsLast, ElementsKeepJobs, KeysAreBefore, LastsOn, LastsStill, OrderGives, ParentsKeepJobs, RunsAreInOrder, RunsHaveKeysBefore, StepsLast};
 
 /// In each step the numbers of requests stay in order, a number that was given is never given again, and a request
 /// that can be solved stays as it is until it ends.
@@ -33,4 +33,11 @@ pub fn jobs_are_kept()
 pub fn keys_are_before()
     ensures steps { KeysAreBefore }
     ensures runs { RunsHaveKeysBefore }
+{}
+
+/// In each step of the blind plant the numbers of requests stay in order, jobs last, and no key is issued after its moment; in
+/// its beginning it is so.
+pub fn blind_steps_last()
+    ensures steps { BlindStepsLast }
+    ensures begins { BlindBegins }
 {}

@@ -1,8 +1,12 @@
+-- the headline
 pub mod Transcript
-pub mod Standing
 pub mod Shown
 pub mod About
 pub mod Headline
+pub mod Sending
+pub mod Runs
+-- other laws
+pub mod Standing
 pub mod Replies
 pub mod Chains
 pub mod Pending
@@ -12,7 +16,6 @@ pub mod Reading
 pub mod Topologies
 pub mod Twins
 pub mod Issuing
-pub mod Sending
 pub mod Tables
 pub mod Waiting
 pub mod Readings
@@ -22,4 +25,3 @@ pub mod UnderWay
 pub mod Counted
 pub mod Matched
 pub mod Certified
-pub mod Runs

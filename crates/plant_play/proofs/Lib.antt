@@ -1,7 +1,6 @@
 pub mod EventLemmas
 pub mod FeedLemmas
 pub mod GoingLemmas
-pub mod InboxLemmas
 pub mod LineLemmas
 pub mod ShownLemmas
 pub mod TurnLemmas

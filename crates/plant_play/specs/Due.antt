@@ -1,37 +1,19 @@
--- What is due in a network that goes on by itself, and events that are due one after the other.
-use Rattle.std.specs.Prelude.{◌≡◌, ℕ, Bool, true, false, not, List, [], ◌∷◌, All, Contains, Option, Some, None, slice_get}
+-- What is due in a network with topologies that goes on by itself, and events that are due one after the other.
+use Rattle.std.specs.Prelude.{◌≡◌, ℕ, true, List, [], ◌∷◌, Option, Some, None, slice_get}
 use Rattle.dom_base.specs.declared.names.As.{As}
 use Rattle.plant_text.specs.declared.settings.NetworkParts.{NetworkParts}
-use Rattle.plant_text.specs.Settings.{lines}
 use Rattle.plant_model.specs.declared.event.Event.{Event}
 use Rattle.plant_model.specs.declared.event.Event.TheVariants as event
 use Rattle.plant_model.specs.Blind.{is_accepted}
 use Rattle.plant_model.specs.Events.{ready_jobs}
-use Rattle.plant_model.specs.Names.{is_empty}
 use Rattle.plant_model.specs.Plant.{Plant}
-use Rattle.plant_model.specs.State.{Connection}
-use Rattle.plant_model.specs.Wire.{Bytes}
-use Rattle.plant_traffic.specs.Waiting.{IsAtMost, ways}
+use Rattle.plant_due.specs.Due.{IsLeast, IsSettled, inbox_of}
 use Rattle.plant_play.specs.declared.going.Until.{Until}
 use Rattle.plant_play.specs.declared.going.Until.TheVariants.{Settled, Finished}
 use Rattle.plant_play.specs.declared.showing.Modes.{Modes}
 use Rattle.plant_play.specs.Turns.{IsTurn, Turn}
 
 -- ---- what is due
-
--- a message is on its way from one to the other
-abbrev pub has_mail : Plant → As × As → Bool
-has_mail s p = not (is_empty (s.queues p.0 p.1))
-
--- of the pairs of sender and receiver between which messages are on their way it is the least
-pub record IsLeast (n : NetworkParts) (s : Plant) (p : As × As) : Type 0 where
-  pub there : Contains (ways (lines n)) p
-  pub waits : has_mail s p ≡ true
-  pub least : All (λ q. has_mail s q ≡ true → IsAtMost p q) (ways (lines n))
-
--- no message is on its way
-abbrev pub IsSettled : NetworkParts → Plant → Type 0
-IsSettled n s = All (λ q. has_mail s q ≡ false) (ways (lines n))
 
 -- the jobs that are solved; none where a network only settles
 abbrev pub jobs_due : Until → NetworkParts → Plant → List (As × ℕ)
@@ -44,14 +26,6 @@ IsDue until n s None = IsSettled n s × (jobs_due until n s ≡ [])
 IsDue until n s (Some (event.Carry a b)) = IsLeast n s (a, b)
 IsDue until n s (Some (event.Solve d k)) = IsSettled n s × (slice_get (jobs_due until n s) 0 ≡ Some (d, k))
 IsDue until n s (Some e) = ⊥
-
-abbrev pub inbox_from : Option Connection → List (Option Bytes)
-inbox_from None = []
-inbox_from (Some x) = x.inbox
-
--- what came from an outside peer and is not yet taken
-abbrev pub inbox_of : ℕ → Plant → List (Option Bytes)
-inbox_of i s = inbox_from (s.accesses i).connection
 
 -- the first item of a peer's inbox is taken; where it is empty, nothing is due
 abbrev pub IsDueTake : ℕ → Plant → Option Event → Type 0

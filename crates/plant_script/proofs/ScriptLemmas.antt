@@ -42,10 +42,10 @@ script_tells script = told_tell 0 (lines script)
 
 -- ---- what is written
 
-some_of_all : (a b : Option (List ℕ)) (xs : List ℕ) → Appends a b xs → AppendsSome a b xs
+pub some_of_all : (a b : Option (List ℕ)) (xs : List ℕ) → Appends a b xs → AppendsSome a b xs
 some_of_all a b xs is = record { count = length xs; within = omega arith; added = subst (Appends a b) (sym (take-length xs)) is }
 
-some_more : (a b c : Option (List ℕ)) (xs ys : List ℕ) → Appends a b xs → AppendsSome b c ys → AppendsSome a c (xs ++ ys)
+pub some_more : (a b c : Option (List ℕ)) (xs ys : List ℕ) → Appends a b xs → AppendsSome b c ys → AppendsSome a c (xs ++ ys)
 some_more a b c xs ys one two = record {
   count = length xs + two.count;
   within = omega (arith, two.within, length-append xs ys);

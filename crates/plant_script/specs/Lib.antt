@@ -1,2 +1,3 @@
+-- for readers
 pub mod Cues
 pub mod Scripts

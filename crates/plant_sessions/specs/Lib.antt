@@ -1,4 +1,5 @@
 -- for readers
+pub mod Lengths
 pub mod Ends
 pub mod Rooms
 pub mod Links

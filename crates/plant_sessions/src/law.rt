@@ -1,4 +1,5 @@
 //! Laws of rooms and of sessions.
+ghost use Rattle.plant_sessions.specs.Lengths.{LengthsAreNumbers};
 ghost use Rattle.plant_sessions.specs.Ends.{StepsKeepNumber};
 ghost use Rattle.plant_sessions.specs.Rooms.{PutLeavesRoom, FirstLeavesRoom, LessLeavesRoom};
 
@@ -13,4 +14,9 @@ pub fn room_is_left()
 /// No step changes a session's number.
 pub fn steps_keep_number()
     ensures { StepsKeepNumber }
+{}
+
+/// The lengths are the numbers that the definition says.
+pub fn lengths_are_numbers()
+    ensures { LengthsAreNumbers }
 {}

@@ -13,7 +13,7 @@ mod side;
 
 pub use access::Access;
 pub use connection::Connection;
-pub use law::{room_is_left, steps_keep_number};
+pub use law::{lengths_are_numbers, room_is_left, steps_keep_number};
 pub use link::{End, Link};
 pub use own::{ShortText, lost_text, our_offer, own_text};
 pub use session::any_fall;

@@ -1,2 +1,3 @@
+-- for readers
 pub mod Laws
 pub mod Headline

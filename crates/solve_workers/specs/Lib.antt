@@ -1,3 +1,5 @@
+-- for readers
 pub mod Benches
 pub mod Turns
+-- inner
 pub mod Steps

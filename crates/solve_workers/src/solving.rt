@@ -27,7 +27,7 @@ fn solve_domain(cache: &mut Cache, job: &Job) -> Result<Solved, NoMemory>
 }
 
 /// A job solved: a domain's by the cache, the parent's by itself.
-pub fn solve(alloc: Global, cache: &mut Cache, work: &Work) -> Result<Done, NoMemory>
+pub(crate) fn solve(alloc: Global, cache: &mut Cache, work: &Work) -> Result<Done, NoMemory>
     requires can { CanSolve cache.old work.now }
     ensures of { IfOk result (λ done. IsOf done work.now) }
     ensures holds { OnOk result (Holds (key_of_work work.now) cache.old cache.new) }

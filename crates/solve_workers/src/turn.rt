@@ -46,7 +46,7 @@ fn finish<B: Bench>(
 
 /// One turn: a job that is ready is looked at, and one that is given passes the gate, is solved and
 /// finished.
-pub fn turn<B: Bench, G: Gate>(
+pub(crate) fn turn<B: Bench, G: Gate>(
     alloc: Global,
     bench: &mut B,
     gate: &mut G,

@@ -1,6 +1,7 @@
 -- What is answered to changes of a topology.
-use Rattle.std.specs.Prelude.{◌≡◌, ℕ, List, IsPermutation}
-use Rattle.te_links.specs.Rows.{Rows, IsTopology, IsInOrder}
+use Rattle.std.specs.Prelude.{◌≡◌, ℕ, List}
+use Rattle.te_links.specs.Rows.{Rows, IsInOrder}
+use Rattle.te_links.specs.Built.{IsBuilt}
 use Rattle.te_links.specs.Faults.{IsFirstBreach}
 use Rattle.te_text.specs.declared.row.TextRow.{TextRow}
 use Rattle.te_text.specs.TopologyText.{rows_in_order}
@@ -13,15 +14,6 @@ use Rattle.te_deltas.specs.Changes.{CanBeMade, IsFirstMistake, rows_after, rows_
 -- the rows of a topology after all changes
 abbrev pub changed_rows : Rows → List Change → Rows
 changed_rows g changes = rows_of g.own (rows_after (rows_in_order g) changes)
-
--- the topology has exactly these rows, which obey the rules
-pub record IsBuilt (g t : Rows) : Type 0 where
-  pub rules : IsTopology g
-  pub own : t.own ≡ g.own
-  pub nodes : IsPermutation g.nodes t.nodes
-  pub links : IsPermutation g.links t.links
-  pub outs : IsPermutation g.outs t.outs
-  pub entries : IsPermutation g.entries t.entries
 
 -- Only one topology in order is built of rows.
 abbrev pub BuiltOnce : Type 0

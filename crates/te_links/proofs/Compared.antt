@@ -4,7 +4,7 @@ use Rattle.std.specs.Bool.{Decides}
 use Rattle.std.specs.BTreeMap.{is_at}
 use Rattle.std.specs.Cmp.{both_tied}
 use Rattle.std.specs.List.Sorted.{IsNonDecreasingBy, IsSortedByKey}
-use Rattle.std.specs.Ordering.{is_lt, is_eq, on, ordering_then, nat_cmp}
+use Rattle.std.specs.Ordering.{is_lt, is_ge, is_eq, on, ordering_then, nat_cmp}
 use Rattle.std.specs.Fn.{Called, ComputesKey}
 use Rattle.std.proofs.lemmas.Bool.{lt-ltb, le-ltb, cases_lt}
 use Rattle.std.proofs.lemmas.Bool.Decides.{Decides-at, eqb_tells}
@@ -33,6 +33,24 @@ not_below_told m n is =
     elim (cases_lt m n) [
       | inl lt ↦ absurd (let h : true ≡ false = rw (lt-ltb m n lt) at is in cc)
       | inr ge ↦ ge
+    ]
+
+-- what it tells that an address is not before another
+pub reached_told : (m n : ℕ) → is_ge (nat_cmp m n) ≡ true → n ≤ m
+reached_told m n is =
+    elim (cases_lt m n) [
+      | inl lt ↦ absurd (let h : false ≡ true = rw (lt-ltb m n lt) at is in cc)
+      | inr ge ↦ ge
+    ]
+
+pub not_reached_told : (m n : ℕ) → is_ge (nat_cmp m n) ≡ false → m < n
+not_reached_told m n is =
+    elim (cases_lt m n) [
+      | inl lt ↦ lt
+      | inr ge ↦ elim (eqb_tells m n) [
+        | inl t ↦ absurd (let h : true ≡ false = rw (le-ltb m n ge, t.0) at is in cc)
+        | inr f ↦ absurd (let h : true ≡ false = rw (le-ltb m n ge, f.0) at is in cc)
+      ]
     ]
 
 tied_told : (m n : ℕ) → nat_eq m n ≡ is_eq (nat_cmp m n)

@@ -43,7 +43,11 @@ pairs_differ {X} keys new i j d before below is =
     new j x (slice_get-get_or keys j d below)
     (i, omega (arith, length-take-le j keys (omega arith)), get_or-take j keys i x before ∙ get_or_default keys i x d (omega arith) ∙ is)
 
--- and the other way round
+-- addresses that rise differ
+pub risen_differ : (addrs : List Addr) → AllPairs (λ a b. rank a < rank b) addrs → AllPairs (λ a b. a ≢ b) addrs
+risen_differ addrs up i j d before below is = let less = up i j d before below in let same = ap rank is in omega (arith, less, same)
+
+-- where keys differ, none stands before its own place
 pub new_of_different : {X : Type 0} (keys : List X) → AllPairs (λ a b. a ≢ b) keys → (k : ℕ) (x : X) → slice_get keys k ≡ Some x → ¬ Contains (take k keys) x
 new_of_different keys differ k x at_k has =
     let below = slice_get_within keys k x at_k in

@@ -1,14 +1,15 @@
 -- What counts of keys tell of repeats.
-use Rattle.std.proofs.Common.{◌≡◌, ℕ, ◌+◌, ◌<◌, ◌≤◌, ◌==◌, Bool, true, false, cond, List, [], ◌∷◌, ◌++◌, map, take, get_or, nat_eq, Some, refl, sym, ◌∙◌, ap, subst, arith}
+use Rattle.std.proofs.Common.{◌≡◌, ◌≢◌, ℕ, ◌+◌, ◌<◌, ◌≤◌, ◌==◌, Bool, true, false, cond, List, [], ◌∷◌, ◌++◌, length, map, take, replicate, get_or, nat_eq, Some, refl, sym, ◌∙◌, ap, subst, arith}
 use Rattle.std.specs.Prelude.{AllPairs, Contains, count_by, slice_get, slice_index_or}
 use Rattle.std.specs.Bool.{Decides}
 use Rattle.std.specs.BTreeMap.{is_at}
 use Rattle.std.specs.List.Sorted.{IsNonDecreasingBy}
 use Rattle.std.specs.declared.cmp.Ordering.{Ordering}
 use Rattle.std.proofs.lemmas.Bool.Decides.{Decides-eqb}
-use Rattle.std.proofs.lemmas.List.{map-append, take-map}
+use Rattle.std.proofs.lemmas.List.{map-append, take-map, length-replicate, get_or-replicate}
 use Rattle.std.proofs.lemmas.List.Elements.{Contains-append_right}
 use Rattle.std.proofs.lemmas.List.Sums.{sum_by-cons, get_or-le-sum_by}
+use Rattle.std.proofs.lemmas.Option.{slice_get_within}
 use Rattle.dom_base.specs.declared.addr.Addr.{Addr}
 use Rattle.dom_base.specs.declared.names.As.{As}
 use Rattle.dom_base.specs.declared.link.Link.{Link}
@@ -16,6 +17,7 @@ use Rattle.te_links.specs.declared.rows.OutLink.{OutLink}
 use Rattle.te_links.specs.declared.rows.Entry.{Entry}
 use Rattle.te_links.specs.Rows.{Rows, all_links}
 use Rattle.te_links.specs.Survey.{CountsBefore, TellsRepeats}
+use Rattle.te_links.proofs.Different.{new_of_different}
 use Rattle.te_links.proofs.Sound.{to_map}
 
 some_counted : {K : Type 0} (p : K → Bool) (xs : List K) → 0 < count_by p xs → (y : K) × Contains xs y × (p y ≡ true)
@@ -31,6 +33,16 @@ some_counted {K} p (x ∷ xs) some =
           (rest.0, Contains-append_right (x ∷ []) xs rest.0 rest.1, rest.2)
     ] in
     go (p x) refl
+
+-- where all differ, none is repeated
+pub none_repeat : {K : Type 0} (keys : List K) (counts : List ℕ) → counts ≡ replicate (length keys) 0 → AllPairs (λ a b. a ≢ b) keys → TellsRepeats keys counts
+none_repeat keys counts zeros differ = record {
+  each = ap length zeros ∙ length-replicate (length keys) 0;
+  repeats = λ k x at some.
+      let none : slice_index_or counts k 0 ≡ 0 = ap (λ (ns : List ℕ). get_or ns k 0) zeros ∙ get_or-replicate (length keys) k 0 0 (slice_get_within keys k x at) in
+      absurd (omega (arith, some, none));
+  differs = λ k x at _. new_of_different keys differ k x at;
+}
 
 pub tells : {K : Type 0} (cmp : K → K → Ordering) (keys : List K) (counts : List ℕ) → CountsBefore cmp keys counts → ((a b : K) → Decides (is_at (cmp a) b) (a ≡ b)) → TellsRepeats keys counts
 tells cmp keys counts count same = record {

@@ -1,8 +1,11 @@
+-- for readers
 pub mod Rows
 pub mod Limits
+pub mod Faults
+pub mod Built
 pub mod Reads
 pub mod Index
+-- inner
 pub mod Fields
-pub mod Faults
 pub mod Survey
 pub mod Checks

@@ -1,6 +1,7 @@
 //! Topologies from rows: the rules are tested, and the rows are brought into order.
-ghost use Rattle.std.specs.Prelude.{◌≡◌, ◌<◌, ◌^◌, length, IsPermutation, IfOk, IfErr, OnOk, OnErr};
+ghost use Rattle.std.specs.Prelude.{◌<◌, ◌^◌, length, IfOk, IfErr};
 ghost use Rattle.te_links.specs.Rows.{IsTopology};
+ghost use Rattle.te_links.specs.Built.{IsBuilt};
 ghost use Rattle.te_links.specs.Faults.{IsReason, rows_of_parts};
 
 use crate::checks::check;
@@ -15,11 +16,7 @@ use std::alloc::{AllocError, Global};
 fn assemble(alloc: Global, parts: Parts) -> Result<Topology, AllocError>
     requires rules { IsTopology (rows_of_parts parts) }
     requires short { length parts.entries < 2 ^ 32 }
-    ensures own { IfOk result (λ t. t.own ≡ parts.own) }
-    ensures nodes { IfOk result (λ t. IsPermutation parts.nodes t.nodes) }
-    ensures links { IfOk result (λ t. IsPermutation parts.links t.links) }
-    ensures outs { IfOk result (λ t. IsPermutation parts.outs t.outs) }
-    ensures entries { IfOk result (λ t. IsPermutation parts.entries t.entries) }
+    ensures built { IfOk result (IsBuilt (rows_of_parts parts)) }
 {
     let Parts {
         own,
@@ -38,7 +35,7 @@ fn assemble(alloc: Global, parts: Parts) -> Result<Topology, AllocError>
     entries.sort()?;
     let into = index_of(alloc, &nodes, &links)?;
     let tails = tails_of(alloc, &nodes, &links)?;
-    let leaving = index_from(alloc, &nodes, &links)?;
+    let leaving = index_from(alloc, &nodes, &links, &tails)?;
     Ok(Topology::of(own, nodes, links, outs, entries, into, leaving, tails))
 }
 
@@ -48,13 +45,8 @@ impl Topology {
     /// in the given order; at a row the rules go in the order of `TopoFault`. Takes time in
     /// proportion to the rows and the logarithm of their number.
     pub fn build(alloc: Global, parts: Parts) -> Result<Topology, BuildError>
-        ensures rules { OnOk result (IsTopology (rows_of_parts parts)) }
+        ensures built { IfOk result (IsBuilt (rows_of_parts parts)) }
         ensures refused { IfErr result (IsReason (rows_of_parts parts)) }
-        ensures own { IfOk result (λ t. t.own ≡ parts.own) }
-        ensures nodes { IfOk result (λ t. IsPermutation parts.nodes t.nodes) }
-        ensures links { IfOk result (λ t. IsPermutation parts.links t.links) }
-        ensures outs { IfOk result (λ t. IsPermutation parts.outs t.outs) }
-        ensures entries { IfOk result (λ t. IsPermutation parts.entries t.entries) }
     {
         let survey = Survey::of(alloc, &parts)?;
         check(&parts, &survey)?;

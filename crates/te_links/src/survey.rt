@@ -1,9 +1,10 @@
 //! What the rules ask of rows together: repeats and limits on different nodes.
-ghost use Rattle.std.specs.Prelude.{◌≡◌, ◌++◌, Contains, IfOk, map};
+ghost use Rattle.std.specs.Prelude.{◌≡◌, ◌≢◌, ◌<◌, ◌++◌, AllPairs, Contains, IfOk, map};
 ghost use Rattle.std.specs.Bool.{Decides};
 ghost use Rattle.std.specs.BTreeMap.{is_at};
+ghost use Rattle.dom_base.specs.AddrOrder.{rank};
 ghost use Rattle.te_links.specs.Faults.{rows_of_parts};
-ghost use Rattle.te_links.specs.Survey.{CountsBefore, IsFewUpTo, IsSurvey};
+ghost use Rattle.te_links.specs.Survey.{CountsBefore, IsFewUpTo, IsSurvey, TellsRepeats};
 
 use crate::rows::Parts;
 use crate::{ENTRY_NODES_MAX, TAILS_MAX};
@@ -42,6 +43,38 @@ fn counts_before<K: Ord + Copy>(alloc: Global, keys: &[K]) -> Result<Vec<usize>,
         seen.insert(*key, count + 1)?;
     }
     Ok(counts)
+}
+
+// Whether each address comes before the next.
+fn rises(addrs: &[Addr]) -> bool
+    ensures { Decides result (AllPairs (λ a b. rank a < rank b) addrs.now) }
+{
+    for i in 1..addrs.len() {
+        if addrs[i - 1] >= addrs[i] {
+            return false;
+        }
+    }
+    true
+}
+
+// Whether no address is there twice.
+fn all_differ(alloc: Global, addrs: &[Addr]) -> Result<bool, AllocError>
+    ensures { IfOk result (λ differ. Decides differ (AllPairs (λ a b. a ≢ b) addrs.now)) }
+{
+    let mut sorted = Vec::from_slice(alloc, addrs)?;
+    sorted.sort_unstable();
+    Ok(rises(&sorted))
+}
+
+// For each address how often it stands among those before it: never, in a topology, and a sort
+// tells so sooner than a map.
+fn repeats_of(alloc: Global, addrs: &[Addr]) -> Result<Vec<usize>, AllocError>
+    ensures { IfOk result (λ counts. TellsRepeats addrs.now counts.items) }
+{
+    if all_differ(alloc, addrs)? {
+        return Ok(vec![in alloc; 0; addrs.len()]?);
+    }
+    counts_before(alloc, addrs)
 }
 
 fn is_among(addrs: &[Addr], addr: Addr) -> bool
@@ -115,7 +148,7 @@ impl Survey {
         ensures { IfOk result (IsSurvey (rows_of_parts parts.now)) }
     {
         let mut nodes = Vec::from_slice(alloc, parts.nodes.as_slice())?;
-        let same_node = counts_before(alloc, &nodes)?;
+        let same_node = repeats_of(alloc, &nodes)?;
         nodes.sort()?;
         let nears = nears_of(alloc, parts)?;
         let fars = fars_of(alloc, parts)?;
@@ -125,8 +158,8 @@ impl Survey {
         Ok(Survey {
             nodes,
             same_node,
-            same_near: counts_before(alloc, &nears)?,
-            same_far: counts_before(alloc, &fars)?,
+            same_near: repeats_of(alloc, &nears)?,
+            same_far: repeats_of(alloc, &fars)?,
             same_entry: counts_before(alloc, parts.entries.as_slice())?,
             same_domain: counts_before(alloc, &domains)?,
             tails_end: few_up_to(alloc, &tails, TAILS_MAX)?,

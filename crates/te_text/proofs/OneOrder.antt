@@ -10,9 +10,8 @@ use Rattle.dom_base.specs.declared.addr.Addr.{Addr}
 use Rattle.dom_base.specs.declared.link.Link.{Link}
 use Rattle.te_links.specs.declared.rows.OutLink.{OutLink}
 use Rattle.te_links.specs.declared.rows.Entry.{Entry}
-use Rattle.te_links.specs.declared.rows.Parts.{Parts}
 use Rattle.te_links.specs.Rows.{Rows, IsInOrder, IsEntryBefore}
-use Rattle.te_text.specs.Reads.{IsOf}
+use Rattle.te_links.specs.Built.{IsBuilt}
 
 abbrev In : {X : Type 0} → X → List X → Type 0
 In x [] = ⊥
@@ -99,7 +98,7 @@ abbrev made : As → List Addr → List Link → List OutLink → List Entry →
 made own nodes links outs entries = record { own = own; nodes = nodes; links = links; outs = outs; entries = entries }
 
 -- topologies in order of the same rows are one
-pub one_topology : (given : Parts) (t u : Rows) → IsOf given t → IsOf given u → IsInOrder t → IsInOrder u → u ≡ t
+pub one_topology : (given t u : Rows) → IsBuilt given t → IsBuilt given u → IsInOrder t → IsInOrder u → u ≡ t
 one_topology given t u p q h k =
     let own : u.own ≡ t.own = q.own ∙ sym p.own in
     let nodes : u.nodes ≡ t.nodes = both (λ a b. rank a < rank b) (by_number (λ (a : Addr). rank a)) given.nodes u.nodes t.nodes k.nodes h.nodes q.nodes p.nodes in

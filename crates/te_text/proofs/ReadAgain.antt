@@ -8,6 +8,8 @@ use Rattle.line_text.specs.Spelling.{joined, IsLine, numbered_after}
 use Rattle.line_text.proofs.Again.{words_again, line_again, lines_again}
 use Rattle.te_links.specs.declared.rows.Parts.{Parts}
 use Rattle.te_links.specs.Rows.{Rows, IsTopology, IsInOrder}
+use Rattle.te_links.specs.Faults.{rows_of_parts}
+use Rattle.te_links.specs.Built.{IsBuilt}
 use Rattle.te_text.specs.declared.row.TextRow.{TextRow}
 use Rattle.te_text.specs.declared.row.TextRow.TheVariants as rows
 use Rattle.te_text.specs.declared.reading.Reading.{Reading}
@@ -18,7 +20,7 @@ use Rattle.te_links.specs.declared.fault.TopoFault.TheVariants.{NoHeader}
 use Rattle.te_text.specs.declared.error.TextError.TheVariants.{At}
 use Rattle.te_text.specs.Reading.{or_syntax, begins_topology, header_own, header_at, row_at, rows_in, reading_of, reading_in, text_in}
 use Rattle.te_text.specs.TopologyText.{row_words, header_words, rows_in_order, topology_text, IsWritten, IsWrittenHeader}
-use Rattle.te_text.specs.Reads.{IsOf, Reads}
+use Rattle.te_text.specs.Reads.{Reads}
 use Rattle.te_text.proofs.OneOrder.{one_topology}
 
 -- ---- lines of rows
@@ -114,8 +116,8 @@ says_again t w =
 parts_again : (t : Rows) → (reading_of t.own (placed_after 1 (rows_in_order t))).parts ≡ record { own = t.own; nodes = t.nodes; links = t.links; outs = t.outs; entries = t.entries }
 parts_again t = nodes_first t.own 1 t.nodes t.links t.outs t.entries
 
-same_rows : (p : Parts) (t : Rows) → p ≡ record { own = t.own; nodes = t.nodes; links = t.links; outs = t.outs; entries = t.entries } → IsTopology t → IsOf p t
-same_rows p t e rules = subst (λ (q : Parts). IsOf q t) (sym e) (record {
+same_rows : (p : Parts) (t : Rows) → p ≡ record { own = t.own; nodes = t.nodes; links = t.links; outs = t.outs; entries = t.entries } → IsTopology t → IsBuilt (rows_of_parts p) t
+same_rows p t e rules = subst (λ (q : Parts). IsBuilt (rows_of_parts q) t) (sym e) (record {
   rules = rules;
   own = refl;
   nodes = IsPermutation-refl t.nodes;
@@ -141,6 +143,6 @@ pub reads_only : (t : Rows) → AllWritten t → IsTopology t → IsInOrder t �
 reads_only t w rules order u in_order r =
     let mine : Reading = reading_of t.own (placed_after 1 (rows_in_order t)) in
     let same : mine ≡ r.reading = ok_is mine r.reading (sym (says_again t w) ∙ r.form) in
-    let of_mine : IsOf mine.parts t = same_rows mine.parts t (parts_again t) rules in
-    let of_theirs : IsOf r.reading.parts t = subst (λ (s : Reading). IsOf s.parts t) same of_mine in
-    one_topology r.reading.parts t u of_theirs r.rows order in_order
+    let of_mine : IsBuilt (rows_of_parts mine.parts) t = same_rows mine.parts t (parts_again t) rules in
+    let of_theirs : IsBuilt (rows_of_parts r.reading.parts) t = subst (λ (s : Reading). IsBuilt (rows_of_parts s.parts) t) same of_mine in
+    one_topology (rows_of_parts r.reading.parts) t u of_theirs r.rows order in_order

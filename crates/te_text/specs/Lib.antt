@@ -1,7 +1,9 @@
+-- for readers
 pub mod Given
 pub mod RowText
 pub mod Reading
-pub mod Gathered
 pub mod Reads
 pub mod TopologyText
+-- inner
+pub mod Gathered
 pub mod Spelled

@@ -1,31 +1,22 @@
 -- Which topology a text gives, and at which line it fails to give one.
-use Rattle.std.specs.Prelude.{◌≡◌, ◌⊎◌, ℕ, List, Ok, Err, Some, slice_get, IsPermutation}
-use Rattle.te_links.specs.declared.rows.Parts.{Parts}
+use Rattle.std.specs.Prelude.{◌≡◌, ◌⊎◌, ℕ, List, Ok, Err, Some, slice_get}
 use Rattle.te_links.specs.declared.fault.Row.{Row}
 use Rattle.te_links.specs.declared.fault.RowKind.{RowKind}
 use Rattle.te_links.specs.declared.fault.RowKind.TheVariants.{Node, Link, Out, Entry}
 use Rattle.te_links.specs.declared.fault.TopoFault.{TopoFault}
-use Rattle.te_links.specs.Rows.{Rows, IsTopology}
+use Rattle.te_links.specs.Rows.{Rows}
 use Rattle.te_links.specs.Faults.{rows_of_parts, IsFirstBreach}
+use Rattle.te_links.specs.Built.{IsBuilt}
 use Rattle.te_text.specs.declared.reading.RowLines.{RowLines}
 use Rattle.te_text.specs.declared.reading.Reading.{Reading}
 use Rattle.te_text.specs.declared.error.TextError.TheVariants.{At}
 use Rattle.te_text.specs.Reading.{text_in}
 
--- the topology has exactly the given rows, which obey the rules
-pub record IsOf (parts : Parts) (t : Rows) : Type 0 where
-  pub rules : IsTopology (rows_of_parts parts)
-  pub own : t.own ≡ parts.own
-  pub nodes : IsPermutation parts.nodes t.nodes
-  pub links : IsPermutation parts.links t.links
-  pub outs : IsPermutation parts.outs t.outs
-  pub entries : IsPermutation parts.entries t.entries
-
 -- the text has the form, and its rows are those of the topology
 pub record Reads (bytes : List ℕ) (t : Rows) : Type 0 where
   pub reading : Reading
   pub form : text_in bytes ≡ Ok reading
-  pub rows : IsOf reading.parts t
+  pub rows : IsBuilt (rows_of_parts reading.parts) t
 
 -- the lines of the rows of a kind
 abbrev pub lines_of_kind : RowLines → RowKind → List ℕ

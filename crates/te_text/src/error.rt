@@ -1,8 +1,9 @@
-//! Why a text is no topology.
+//! What is wrong with a text.
 use dom_base::NoMemory;
 use te_links::TopoFault;
 
-/// Why a text is no topology: what is wrong at which line, from 1, or want of memory.
+/// Why a text is no topology, or says nothing of one: what is wrong at which line, from 1, or want of
+/// memory.
 #[derive(Clone, Copy, Debug, PartialEq, Eq)]
 pub enum TextError {
     At(u32, TopoFault),

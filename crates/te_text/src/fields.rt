@@ -26,19 +26,21 @@ pub struct Traits {
 }
 
 /// Whether no word is left.
-pub(crate) fn is_end(words: &mut Words<'_>) -> bool
+pub fn is_end(words: &mut Words<'_>) -> bool
     ensures { result ≡ (length words.old == 0) }
 {
     words.next_word().is_none()
 }
 
-pub(crate) fn next_addr(words: &mut Words<'_>) -> Option<Addr>
+/// The address in the next word.
+pub fn next_addr(words: &mut Words<'_>) -> Option<Addr>
     ensures { MatchOption result (first addr_in words.old ≡ None) (λ addr. first addr_in words.old ≡ Some (addr, words.new)) }
 {
     read_addr(words.next_word()?)
 }
 
-pub(crate) fn next_as(words: &mut Words<'_>) -> Option<As>
+/// The number of a domain in the next word.
+pub fn next_as(words: &mut Words<'_>) -> Option<As>
     ensures { MatchOption result (first as_in words.old ≡ None) (λ number. first as_in words.old ≡ Some (number, words.new)) }
 {
     let number = read_number(words.next_word()?, u64::from(u16::MAX))?;

@@ -18,7 +18,7 @@ pub enum TextRow {
     Entry(Entry),
 }
 
-/// Why words give no row.
+/// Why words give no row of a text.
 #[derive(Clone, Copy, Debug, PartialEq, Eq)]
 pub enum RowError {
     Syntax,

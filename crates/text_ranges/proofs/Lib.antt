@@ -3,6 +3,7 @@ pub mod RowRanges
 pub mod ChangeRanges
 pub mod FedWords
 pub mod FedOctets
+pub mod GivenRows
 pub mod Lengths
 pub mod FedLengths
 pub mod GivenNetworks

@@ -1,4 +1,5 @@
 -- for readers
 pub mod Ranges
 pub mod Sizes
+pub mod Given
 pub mod Settings

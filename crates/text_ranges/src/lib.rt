@@ -1,8 +1,9 @@
 //! What texts give is within bounds: the addresses of a topology, also behind changes, are numbers of their kinds; what
-//! a line feeds is octets, and no more than its bytes; lines are no longer than their text; settings obey the rules of a
+//! a line feeds is octets, and no more than its bytes; rows that a line gives are in order; lines are no longer than their text; settings obey the rules of a
 //! network. Laws, as the contracts of calls that do nothing.
 #![tactic(auto)]
 
+ghost use Rattle.text_ranges.specs.Given.{BlindLinesAreGiven};
 ghost use Rattle.text_ranges.specs.Ranges.{BlindFeedsAreOctets, ChangesKeepRange, FeedsAreOctets, TextsAreInRange};
 ghost use Rattle.text_ranges.specs.Settings.{ClientsAreAdded, ClientsAreModelled, SettingsAreModelled, SettingsAreNetworks};
 ghost use Rattle.text_ranges.specs.Sizes.{FeedsAreShort, LinesAreShort};
@@ -21,6 +22,12 @@ pub fn changes_keep_range()
 pub fn feeds_are_octets()
     ensures played { FeedsAreOctets }
     ensures blind { BlindFeedsAreOctets }
+{}
+
+/// A line of a network without topologies asks for an event that such a network has: no topology is loaded, and the rows
+/// of a solve are in order, of few entries, and within the greatest cost.
+pub fn blind_lines_are_given()
+    ensures { BlindLinesAreGiven }
 {}
 
 /// What a line feeds to a peer has no more octets than the line has bytes.

@@ -1,1 +1,2 @@
+-- for readers
 pub mod Loading

@@ -1,2 +1,3 @@
+-- for readers
 pub mod Lines
 pub mod Replies

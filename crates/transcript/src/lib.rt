@@ -7,6 +7,7 @@ mod replies;
 mod tests;
 
 pub use lines::{
-    write_answer, write_carry, write_certified, write_rows, write_said, write_solve, write_take,
+    write_answer, write_carry, write_certified, write_rows, write_said, write_sent, write_solve,
+    write_take,
 };
 pub use replies::write_message_lines;

@@ -213,7 +213,9 @@ fn write_way(peers: &[PeerRow], from: As, to: Peer, into: &mut Vec<u8>) -> Resul
     Ok(())
 }
 
-fn write_sent(
+/// Writes a message of an event as `LINE FROM>TO HEX`: an element by its domain, the parent as 0, an outside peer by its
+/// name in the settings.
+pub fn write_sent(
     alloc: Global,
     line: u32,
     peers: &[PeerRow],
@@ -248,8 +250,7 @@ fn write_kth(
     Ok(())
 }
 
-/// Writes the messages of an event, each as `LINE FROM>TO HEX`: an element by its domain, the parent as 0, an outside
-/// peer by its name in the settings.
+/// Writes the messages of an event, one by one.
 pub fn write_said(
     alloc: Global,
     line: u32,

@@ -1,6 +1,6 @@
 //! What an element says, message by message.
 ghost use Rattle.std.specs.Prelude.{◌≡◌, ◌≤◌, IfOk, IfSome, OnOk};
-ghost use Rattle.pce_element.specs.Messages.{HasOnePart};
+ghost use Rattle.member_parts.specs.Messages.{HasOnePart};
 
 mod endings;
 mod limits;
@@ -11,7 +11,7 @@ use disclosure::{Class, Deny};
 use dom_base::{Addr, As, List, Peer, Tick};
 use endings::{ENDINGS, KEPT};
 use line_text::{line_count, read_hex};
-use pce_element::Element;
+use pce_element::{Element, Topologies};
 use pcep_messages::{Message, read_message, write_message};
 use plant_model::{Lost, Outputs};
 use sequences::{GROUPS, sequences};
@@ -56,7 +56,7 @@ fn class_of(peer: Peer) -> Class {
     }
 }
 
-fn new_element(alloc: Global) -> Result<Element, Fail>
+fn new_element(alloc: Global) -> Result<Element<Topologies>, Fail>
     ensures { IfOk result (λ element. element.losing.element.keys.clock ≡ 0) }
 {
     let links = [As(1), As(3), As(5), As(0)];
@@ -110,7 +110,7 @@ fn one_part(message: Message) -> Option<Message>
 }
 
 // The number of a topology; none where as many as may be are live.
-fn load(alloc: Global, element: &mut Element, text: &[u8]) -> Result<Option<u64>, Fail>
+fn load(alloc: Global, element: &mut Element<Topologies>, text: &[u8]) -> Result<Option<u64>, Fail>
     ensures { OnOk result (element.new.losing ≡ element.old.losing) }
 {
     if line_count(text) > 1_000 {
@@ -129,7 +129,7 @@ fn load(alloc: Global, element: &mut Element, text: &[u8]) -> Result<Option<u64>
 
 // Whether exactly these requests are lost.
 #[tactic(auto, using(pce_element::proofs::LeaveLemmas::lost_keeps))]
-fn lost_are(element: &mut Element, lost: &[(Peer, u32, u32)]) -> bool
+fn lost_are(element: &mut Element<Topologies>, lost: &[(Peer, u32, u32)]) -> bool
     ensures { element.new.losing.element ≡ element.old.losing.element }
 {
     for (to, flags, id) in lost {
@@ -147,7 +147,7 @@ fn lost_are(element: &mut Element, lost: &[(Peer, u32, u32)]) -> bool
 
 fn take(
     alloc: Global,
-    element: &mut Element,
+    element: &mut Element<Topologies>,
     from: Peer,
     text: &[u8],
     now: Tick,
@@ -161,7 +161,7 @@ fn take(
 
 fn take_frame(
     alloc: Global,
-    element: &mut Element,
+    element: &mut Element<Topologies>,
     from: Peer,
     frame: &[u8],
     now: Tick,
@@ -210,7 +210,7 @@ fn says_one(alloc: Global, outputs: &Outputs, to: Peer, frame: &[u8]) -> Result<
 }
 
 // Whether a request of domain 1 is sent on under its own id.
-fn ask(alloc: Global, element: &mut Element, id: u16, now: Tick) -> Result<bool, Fail>
+fn ask(alloc: Global, element: &mut Element<Topologies>, id: u16, now: Tick) -> Result<bool, Fail>
     ensures { OnOk result (element.new.losing.element.keys ≡ element.old.losing.element.keys) }
 {
     let message = read_message(alloc, asked(alloc, id)?.as_slice())?;
@@ -225,7 +225,12 @@ fn ask(alloc: Global, element: &mut Element, id: u16, now: Tick) -> Result<bool,
     Ok(held)
 }
 
-fn pin_each(alloc: Global, element: &mut Element, text: &[u8], now: Tick) -> Result<bool, Fail>
+fn pin_each(
+    alloc: Global,
+    element: &mut Element<Topologies>,
+    text: &[u8],
+    now: Tick,
+) -> Result<bool, Fail>
     ensures { OnOk result (element.new.losing.element.keys ≡ element.old.losing.element.keys) }
 {
     for id in 2..16 {
@@ -241,7 +246,7 @@ fn pin_each(alloc: Global, element: &mut Element, text: &[u8], now: Tick) -> Res
 
 fn solve_job(
     alloc: Global,
-    element: &mut Element,
+    element: &mut Element<Topologies>,
     number: u64,
     now: Tick,
     expected: Option<Says>,
@@ -265,7 +270,12 @@ fn solve_job(
     Ok(held)
 }
 
-fn give_up(alloc: Global, element: &mut Element, number: u64, now: Tick) -> Result<bool, Fail>
+fn give_up(
+    alloc: Global,
+    element: &mut Element<Topologies>,
+    number: u64,
+    now: Tick,
+) -> Result<bool, Fail>
     requires { element.old.losing.element.keys.clock ≤ now.0 }
     ensures { OnOk result (element.new.losing.element.keys.clock ≤ now.0) }
 {
@@ -284,7 +294,12 @@ fn give_up(alloc: Global, element: &mut Element, number: u64, now: Tick) -> Resu
 }
 
 // The moment after a step; none where something else is said.
-fn after(alloc: Global, element: &mut Element, step: &Step, now: Tick) -> Result<Option<Tick>, Fail>
+fn after(
+    alloc: Global,
+    element: &mut Element<Topologies>,
+    step: &Step,
+    now: Tick,
+) -> Result<Option<Tick>, Fail>
     requires { element.old.losing.element.keys.clock ≤ now.0 }
     ensures { IfOk result (λ next. IfSome next (λ next. element.new.losing.element.keys.clock ≤ next.0)) }
 {

@@ -5,10 +5,11 @@ use diverse_pairs::{
 };
 use dom_base::{Addr, As, Cost, Link, List, Metric, Query};
 use line_text::line_count;
-use path_certificate::{CertError, Place};
+use path_certificate::Place;
 use std::alloc::Global;
 use std::test::Fail;
 use te_links::{Parts, TopoFault, Topology};
+use te_text::TextError;
 
 // Links by their ends and their weights. The far addresses are 102, 104 and so on.
 type Row = (u32, u32, u32);
@@ -215,7 +216,7 @@ fn pairs_are_solved(rt: HostRuntime) -> Result<(), Fail> {
     Ok(())
 }
 
-fn read(alloc: Global, text: &[u8]) -> Result<Result<PairCertificate, CertError>, Fail> {
+fn read(alloc: Global, text: &[u8]) -> Result<Result<PairCertificate, TextError>, Fail> {
     if line_count(text) > 100 {
         return Err("too many lines")?;
     }
@@ -263,7 +264,7 @@ fn a_wrong_line_is_named(rt: HostRuntime) -> Result<(), Fail> {
             Ok(_certificate) => None,
             Err(fault) => Some(fault),
         };
-        assert_eq!(rt; fault, Some(CertError::At(row.1, TopoFault::Syntax)));
+        assert_eq!(rt; fault, Some(TextError::At(row.1, TopoFault::Syntax)));
     }
     Ok(())
 }

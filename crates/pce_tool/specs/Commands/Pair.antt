@@ -15,7 +15,7 @@ use Rattle.pcep_messages.specs.declared.message.Message.TheVariants as messages
 use Rattle.pcep_messages.specs.declared.message.Wanted.{Wanted}
 use Rattle.pcep_messages.specs.Spelling.{message_text}
 use Rattle.one_domain.specs.Domain.{IsUnknownVector}
-use Rattle.one_domain.specs.Replies.{metric_type}
+use Rattle.pcep_messages.specs.Requests.{type_of_metric}
 use Rattle.diverse_pairs.specs.Pairs.{IsFeasiblePair, IsLeastPair}
 use Rattle.diverse_pairs.specs.Chosen.{IsChosenPair}
 use Rattle.pce_tool.specs.declared.pair_reading.PairRequest.{PairRequest}
@@ -24,7 +24,7 @@ use Rattle.pce_tool.specs.declared.pair_reading.PairRequest.{PairRequest}
 pub record IsShownPath (metric : Metric) (shown : List Addr) (total : ℕ) (answer : Answer) : Type 0 where
   pub word : ℕ
   pub value : HasValue word total
-  pub is : answer ≡ answers.Paths (record { hops = open_of shown; metric = Some (metric_type metric, word) } ∷ [])
+  pub is : answer ≡ answers.Paths (record { hops = open_of shown; metric = Some (type_of_metric metric, word) } ∷ [])
 
 -- the source, and then the far address of each link; its own cost
 abbrev pub ShowsWalk : Wanted → List Link → Answer → Type 0

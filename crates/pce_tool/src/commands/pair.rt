@@ -1,5 +1,5 @@
 //! `pair`: the replies of a domain's element to a client that asks for a pair.
-ghost use Rattle.std.specs.Prelude.{◌≡◌, ◌≤◌, ◌<◌, ◌+◌, ◌*◌, List, length, IfOk, MatchOption};
+ghost use Rattle.std.specs.Prelude.{◌≤◌, ◌<◌, ◌+◌, ◌*◌, List, length, IfOk, MatchOption};
 ghost use Rattle.dom_base.specs.declared.link.Link.{Link};
 ghost use Rattle.diverse_pairs.specs.Conditions.{asked_of};
 ghost use Rattle.diverse_pairs.specs.Pairs.{IsFeasiblePair};
@@ -7,7 +7,6 @@ ghost use Rattle.diverse_pairs.specs.Solution.{ShowsChosen};
 ghost use Rattle.dom_base.specs.Limits.{cost_max};
 ghost use Rattle.te_links.specs.declared.limits.TheConstants.{NODES_MAX, METRIC_MAX};
 ghost use Rattle.pcep_messages.specs.Spelling.{message_text};
-ghost use Rattle.one_domain.specs.Replies.{metric_type};
 ghost use Rattle.pce_tool.specs.Commands.Pair.{ArePairAnswers, IsPairReply, IsPairReplyText, IsShownPath};
 ghost use Rattle.pce_tool.specs.PairParts.{AreCosts, AreSmall, IsSmallAnswer};
 ghost use Rattle.pce_tool.specs.Run.{Pair, Ends};
@@ -25,7 +24,7 @@ use dom_base::{Addr, COST_MAX, Cost, List, Metric, NoMemory, word_of_cost};
 use dom_edge::{Sink, Source, Store};
 use line_text::write_hex;
 use one_domain::search_domain;
-use pcep_messages::{Answer, Message, Path, Reply, Wanted};
+use pcep_messages::{Answer, Message, Path, Reply, Wanted, type_of_metric};
 use std::alloc::Global;
 use te_links::Topology;
 
@@ -63,16 +62,6 @@ fn costs_within(one: u64, other: u64) -> Option<Costs>
     })
 }
 
-fn type_of(metric: Metric) -> u8
-    ensures { result ≡ metric_type metric }
-{
-    match metric {
-        Metric::Igp => 1,
-        Metric::Te => 2,
-        Metric::Hops => 3,
-    }
-}
-
 // The answer with a path.
 fn path_answer(
     alloc: Global,
@@ -86,7 +75,7 @@ fn path_answer(
 {
     let path = Path {
         hops: open_hops(alloc, shown)?,
-        metric: Some((type_of(metric), word_of_cost(cost))),
+        metric: Some((type_of_metric(metric), word_of_cost(cost))),
     };
     Ok(Answer::Paths(List::from_vec(vec![in alloc; path]?)))
 }

@@ -12,8 +12,8 @@ use plant_script::{SCRIPT_MAX, Stop, play_script};
 use plant_text::Network;
 use std::alloc::Global;
 
-// The script in the input.
-fn read_script<I: Source>(alloc: Global, input: &mut I) -> Result<Vec<u8>, Status>
+/// The script in the input.
+pub(crate) fn read_script<I: Source>(alloc: Global, input: &mut I) -> Result<Vec<u8>, Status>
     ensures ok { IfOk result (λ script. HasScript (I.left input.old) script.items) }
     ensures err { IfErr result (IsScriptStatus (I.left input.old) (I.faults input.old, I.faults input.new)) }
 {

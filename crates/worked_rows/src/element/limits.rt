@@ -4,14 +4,19 @@ ghost use Rattle.std.specs.Prelude.{◌≡◌, ◌≤◌, OnOk};
 use super::sequences::{D2, ONE, PARENT};
 use super::{ask, asked, load, new_element, read_message, says_one, solve_job, take, take_frame};
 use dom_base::{As, Peer, Tick};
-use pce_element::Element;
+use pce_element::{Element, Topologies};
 use std::alloc::Global;
 use std::test::Fail;
 
 const START: Tick = Tick(0);
 
 // Whether requests of these ids are sent on.
-fn ask_all(alloc: Global, element: &mut Element, first: u16, last: u16) -> Result<bool, Fail> {
+fn ask_all(
+    alloc: Global,
+    element: &mut Element<Topologies>,
+    first: u16,
+    last: u16,
+) -> Result<bool, Fail> {
     for id in first..=last {
         if !ask(alloc, element, id, START)? {
             return Ok(false);
@@ -20,7 +25,12 @@ fn ask_all(alloc: Global, element: &mut Element, first: u16, last: u16) -> Resul
     Ok(true)
 }
 
-fn busy(alloc: Global, element: &mut Element, id: u16, says: &'static [u8]) -> Result<bool, Fail> {
+fn busy(
+    alloc: Global,
+    element: &mut Element<Topologies>,
+    id: u16,
+    says: &'static [u8],
+) -> Result<bool, Fail> {
     let frame = asked(alloc, id)?;
     take_frame(alloc, element, ONE, frame.as_slice(), START, &[(ONE, says)])
 }
@@ -43,7 +53,7 @@ fn a_thousand_and_twenty_four_requests_are_pending(rt: HostRuntime) -> Result<()
 }
 
 // Whether requests of the ids 1 to 15 are sent on, each before a topology of its number.
-fn pin_fifteen(alloc: Global, element: &mut Element) -> Result<bool, Fail> {
+fn pin_fifteen(alloc: Global, element: &mut Element<Topologies>) -> Result<bool, Fail> {
     for id in 1..16 {
         if !ask(alloc, element, id, START)? {
             return Ok(false);
@@ -93,7 +103,7 @@ fn star(alloc: Global) -> Result<Vec<u8>, Fail> {
 }
 
 // The parent asks from every entry, and each answer issues 64 keys.
-fn use_up_keys(alloc: Global, element: &mut Element) -> Result<bool, Fail>
+fn use_up_keys(alloc: Global, element: &mut Element<Topologies>) -> Result<bool, Fail>
     requires { element.old.losing.element.keys.clock ≤ 0 }
     ensures { OnOk result (element.new.losing.element.keys.clock ≤ 0) }
 {

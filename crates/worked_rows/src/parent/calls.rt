@@ -1,7 +1,7 @@
 //! The parent through sequences of messages, with all that it says.
 ghost use Rattle.std.specs.Prelude.{◌≤◌, ◌<◌, AllPairs, IfOk, IsTrue};
 ghost use Rattle.dom_base.specs.declared.names.As.{As as Domain};
-ghost use Rattle.pce_parent.specs.Seen.{HasOnePart};
+ghost use Rattle.member_parts.specs.Messages.{HasOnePart};
 
 mod scripts;
 

@@ -14,15 +14,15 @@ loop-index-preserved g c =
     let i = c.loop-index.index in
     let inv = c.loop-index.invariant in
     record {
-      same = c.hop_at.ensures.same ∙ inv.same;
-      nexts = elim c.match-hop_at.branch [
+      same = c.next_at.ensures.same ∙ inv.same;
+      nexts = elim c.match-next_at.branch [
         | in-Some w ↦
-            let is : IsHopAt (g.G.Links.rows c.loop-index.links) q seeds labels i w.in-Some.hop = rw w.in-Some.is at c.hop_at.ensures.hop in
+            let is : IsHopAt (g.G.Links.rows c.loop-index.links) q seeds labels i w.in-Some.hop = rw w.in-Some.is at c.next_at.ensures.hop in
             let at : IsHopAt rows q seeds labels i w.in-Some.hop = subst (λ (h : Rows). IsHopAt h q seeds labels i w.in-Some.hop) inv.same is in
             let more = hop_more rows q seeds labels i c.loop-index.nexts.items w.in-Some.hop c.node_count.ensures.rules inv.nexts at in
             rw (w.nexts-is, w.keep_first.ensures) more
         | in_default w ↦
-            let is : IsNoHop (g.G.Links.rows c.loop-index.links) q seeds labels i = rw w.in_default.is at c.hop_at.ensures.hop in
+            let is : IsNoHop (g.G.Links.rows c.loop-index.links) q seeds labels i = rw w.in_default.is at c.next_at.ensures.hop in
             let none : IsNoHop rows q seeds labels i = subst (λ (h : Rows). IsNoHop h q seeds labels i) inv.same is in
             rw w.nexts-is (none_more rows q seeds labels i c.loop-index.nexts.items inv.nexts none)
       ];

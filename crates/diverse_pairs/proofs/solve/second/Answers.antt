@@ -19,14 +19,14 @@ pub turn_tight-requires-clause-long : goal.turn_tight-requires-clause-long
 turn_tight-requires-clause-long c =
     long_us c.args.topology.now c.args._query.now c.args.source c.args._target c.args.from c.args.to c.args.arcs.now c.args.first.now c.args.walked.in_use.items c.args.walked.left.items c.args.walked.distances.items
     c.requires.placed c.requires.searched c.requires.walked
-    ∙ sym c.requires.walked.residual.long ∙ ap length (sym c.as_slice.ensures.value)
+    ∙ sym c.requires.walked.residual.long ∙ ap length (sym c.deref.ensures.value)
 
 pub turn_tight-requires-clause-among : goal.turn_tight-requires-clause-among
 turn_tight-requires-clause-among c = λ i a is_arc.
-    rw c.as_slice-2.ensures.value
+    rw c.deref-2.ensures.value
     (left_among c.args.arcs.now c.args.walked.left.items c.args.to c.args.first.now c.args.walked.distances.items c.args.walked.in_use.items
     (is_left c.args.topology.now c.args._query.now c.args.source c.args._target c.args.from c.args.to c.args.arcs.now c.args.first.now c.args.walked.in_use.items c.args.walked.left.items c.args.walked.distances.items
-    c.requires.placed c.requires.searched c.requires.walked) i a (rw c.as_slice.ensures.value at is_arc))
+    c.requires.placed c.requires.searched c.requires.walked) i a (rw c.deref.ensures.value at is_arc))
 
 pub turn_tight-requires-clause-source : goal.turn_tight-requires-clause-source
 turn_tight-requires-clause-source c =
@@ -35,7 +35,7 @@ turn_tight-requires-clause-source c =
       slice_get_within c.args.topology.now.nodes c.args.from c.args.source c.requires.placed.source.at_place,
       c.requires.searched.long,
       c.requires.walked.long,
-      ap length c.as_slice-2.ensures.value,
+      ap length c.deref-2.ensures.value,
     )
 
 pub heights-requires-clause-near : goal.heights-requires-clause-near
@@ -45,7 +45,7 @@ pub heights-requires-clause-reached : goal.heights-requires-clause-reached
 heights-requires-clause-reached c = λ n reached.
     first_reached c.args.arcs.now c.args.walked.left.items c.args.to c.args.first.now c.args.walked.distances.items c.args.walked.in_use.items
     (is_left c.args.topology.now c.args._query.now c.args.source c.args._target c.args.from c.args.to c.args.arcs.now c.args.first.now c.args.walked.in_use.items c.args.walked.left.items c.args.walked.distances.items
-    c.requires.placed c.requires.searched c.requires.walked) n (rw c.as_slice-3.ensures.value at reached)
+    c.requires.placed c.requires.searched c.requires.walked) n (rw c.deref-3.ensures.value at reached)
 
 pub paths_form-requires-clause-in_use : goal.paths_form-requires-clause-in_use
 paths_form-requires-clause-in_use c =
@@ -55,20 +55,20 @@ paths_form-requires-clause-in_use c =
 
 pub paths_form-requires-clause-paths : goal.paths_form-requires-clause-paths
 paths_form-requires-clause-paths c =
-    let heights : AreHeights c.args.first.now c.args.walked.distances.items c.as_slice-4.result.now = rw c.as_slice-4.ensures.value (rw c.as_slice-3.ensures.value at c.in_ok-heights.ensures) in
+    let heights : AreHeights c.args.first.now c.args.walked.distances.items c.deref-4.result.now = rw c.deref-4.ensures.value (rw c.deref-3.ensures.value at c.in_ok-heights.ensures) in
     let turns : TurnsTight c.args.walked.left.items c.args.walked.distances.items c.args.from c.args.to c.args.walked.in_use.items c.in_ok-both.both.items =
-    rw (c.as_slice.ensures.value, c.as_slice-2.ensures.value) at c.in_ok-both.ensures.turned in
+    rw (c.deref.ensures.value, c.deref-2.ensures.value) at c.in_ok-both.ensures.turned in
     make_paths c.args.topology.now c.args._query.now c.args.source c.args._target c.args.from c.args.to c.args.arcs.now c.args.first.now c.args.walked.in_use.items c.args.walked.left.items c.args.walked.distances.items
-    c.requires.placed c.requires.searched c.requires.walked c.in_ok-both.both.items c.as_slice-4.result.now (record { reached = c.requires.reached; turns = turns; heights = heights })
+    c.requires.placed c.requires.searched c.requires.walked c.in_ok-both.both.items c.deref-4.result.now (record { reached = c.requires.reached; turns = turns; heights = heights })
 
 pub returns : goal.returns
 returns c =
-    let heights : AreHeights c.args.first.now c.args.walked.distances.items c.as_slice-4.result.now = rw c.as_slice-4.ensures.value (rw c.as_slice-3.ensures.value at c.in_ok-heights.ensures) in
+    let heights : AreHeights c.args.first.now c.args.walked.distances.items c.deref-4.result.now = rw c.deref-4.ensures.value (rw c.deref-3.ensures.value at c.in_ok-heights.ensures) in
     let turns : TurnsTight c.args.walked.left.items c.args.walked.distances.items c.args.from c.args.to c.args.walked.in_use.items c.in_ok-both.both.items =
-    rw (c.as_slice.ensures.value, c.as_slice-2.ensures.value) at c.in_ok-both.ensures.turned in
-    IfOk-weaker c.paths_form.result (ArePathsIn c.args.topology.now c.args.source c.args.arcs.now c.args.from c.args.to c.in_ok-both.both.items c.as_slice-4.result.now)
+    rw (c.deref.ensures.value, c.deref-2.ensures.value) at c.in_ok-both.ensures.turned in
+    IfOk-weaker c.paths_form.result (ArePathsIn c.args.topology.now c.args.source c.args.arcs.now c.args.from c.args.to c.in_ok-both.both.items c.deref-4.result.now)
     (IsSolved (asked_of c.args.topology.now c.args._query.now c.args.source c.args._target))
     (λ form a.
     form_solved c.args.topology.now c.args._query.now c.args.source c.args._target c.args.from c.args.to c.args.arcs.now c.args.first.now c.args.walked.in_use.items c.args.walked.left.items c.args.walked.distances.items
-    c.requires.placed c.requires.searched c.requires.walked c.in_ok-both.both.items c.as_slice-4.result.now (record { reached = c.requires.reached; turns = turns; heights = heights }) form a)
+    c.requires.placed c.requires.searched c.requires.walked c.in_ok-both.both.items c.deref-4.result.now (record { reached = c.requires.reached; turns = turns; heights = heights }) form a)
     c.paths_form.ensures

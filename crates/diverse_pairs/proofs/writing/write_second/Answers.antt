@@ -7,6 +7,6 @@ use Rattle.diverse_pairs.proofs.writing.write_second.Goals as goal
 
 pub returns-clause-ok : goal.returns-clause-ok
 returns-clause-ok c =
-    c.in_ok-write_addrs.ensures.ok
+    c.in_ok-end_line.ensures.ok
     ∙ ap (λ (v : List ℕ). v ++ (spaced (map addr_text c.args.addrs.now) ++ 10 ∷ [])) c.in_ok-extend_from_slice.ensures.items
     ∙ spelled c.args.into.now.items second_word (map addr_text c.args.addrs.now)

@@ -1,6 +1,7 @@
 use Rattle.std.proofs.Common.{◌≡◌, length}
 use Rattle.std.specs.Prelude.{Ok}
-use Rattle.path_certificate.specs.Text.{and_then, body_in, gathered, least_behind}
+use Rattle.te_text.specs.Reading.{and_then}
+use Rattle.path_certificate.specs.Text.{body_in, gathered, least_behind}
 use Rattle.path_certificate.proofs.Gathering.{further}
 use Rattle.path_certificate.proofs.reading.read_body.Given as goal
 

@@ -2,7 +2,7 @@ use Rattle.std.proofs.Common.{◌≡◌, ◌+◌, [], ◌∷◌, None, Some, sym
 use Rattle.std.proofs.lemmas.Result.{err_from_is_err_and}
 use Rattle.dom_base.specs.declared.names.As.{As}
 use Rattle.line_text.specs.Lines.{NumberedLine}
-use Rattle.path_certificate.specs.Text.{header_at, unless_stranger}
+use Rattle.path_certificate.specs.Text.{certificate_word, header_at, unless_stranger}
 use Rattle.path_certificate.proofs.Whole.{text_is, header_stays, body_stays, body_accepted, rows_read}
 use Rattle.path_certificate.proofs.reading.read_certificate.Goals as goal
 
@@ -18,7 +18,7 @@ returns-in_err-own-clause-text c =
     rw (p.1, p.2)
     (header_stays g (c.line_count.result + 1) line c.next_line.new.self c.in_err-own.field-0.0 _
     (text_is g c.args.bytes.now c.line_count.result (line ∷ c.next_line.new.self) (sym c.new-lines.ensures ∙ c.in-Some.ensures) c.line_count.ensures.count)
-    (c.in_err-own.ensures ∙ ap (λ (o : As). header_at o line) c.own.ensures.own))
+    (c.in_err-own.ensures ∙ ap (λ (o : As). header_at certificate_word o line) c.own.ensures.own))
 
 pub returns-in_err-labels-clause-text : goal.returns-in_err-labels-clause-text
 returns-in_err-labels-clause-text c =
@@ -28,7 +28,7 @@ returns-in_err-labels-clause-text c =
     rw (p.1, p.2)
     (body_stays g (c.line_count.result + 1) line c.next_line.new.self c.in_ok-own.own c.in_err-labels.field-0.0 _
     (text_is g c.args.bytes.now c.line_count.result (line ∷ c.next_line.new.self) (sym c.new-lines.ensures ∙ c.in-Some.ensures) c.line_count.ensures.count)
-    (c.in_ok-own.ensures ∙ ap (λ (o : As). header_at o line) c.own.ensures.own) c.in_err-labels.ensures)
+    (c.in_ok-own.ensures ∙ ap (λ (o : As). header_at certificate_word o line) c.own.ensures.own) c.in_err-labels.ensures)
 
 pub returns-in-Some-stranger-clause-text : goal.returns-in-Some-stranger-clause-text
 returns-in-Some-stranger-clause-text c =
@@ -38,7 +38,7 @@ returns-in-Some-stranger-clause-text c =
     let named : x.stranger ≡ Some c.in-Some-stranger.line = c.in-Some-stranger.is in
     body_accepted g (c.line_count.result + 1) line c.next_line.new.self c.in_ok-own.own x _
     (text_is g c.args.bytes.now c.line_count.result (line ∷ c.next_line.new.self) (sym c.new-lines.ensures ∙ c.in-Some.ensures) c.line_count.ensures.count)
-    (c.in_ok-own.ensures ∙ ap (λ (o : As). header_at o line) c.own.ensures.own) c.in_ok-labels.ensures
+    (c.in_ok-own.ensures ∙ ap (λ (o : As). header_at certificate_word o line) c.own.ensures.own) c.in_ok-labels.ensures
     ∙ ap (unless_stranger c.in_ok-own.own x) named
 
 pub returns-in-None-clause-text : goal.returns-in-None-clause-text
@@ -49,7 +49,7 @@ returns-in-None-clause-text c =
     let named : x.stranger ≡ None = c.in-None.is in
     body_accepted g (c.line_count.result + 1) line c.next_line.new.self c.in_ok-own.own x _
     (text_is g c.args.bytes.now c.line_count.result (line ∷ c.next_line.new.self) (sym c.new-lines.ensures ∙ c.in-Some.ensures) c.line_count.ensures.count)
-    (c.in_ok-own.ensures ∙ ap (λ (o : As). header_at o line) c.own.ensures.own) c.in_ok-labels.ensures
+    (c.in_ok-own.ensures ∙ ap (λ (o : As). header_at certificate_word o line) c.own.ensures.own) c.in_ok-labels.ensures
     ∙ ap (unless_stranger c.in_ok-own.own x) named
 
 pub returns-in-None-clause-rows : goal.returns-in-None-clause-rows

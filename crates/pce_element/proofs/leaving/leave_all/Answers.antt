@@ -6,10 +6,9 @@ use Rattle.std.specs.Global.{Global}
 use Rattle.std.proofs.lemmas.List.{append-nil}
 use Rattle.plant_model.specs.declared.output.Lost.{Lost}
 use Rattle.plant_model.specs.Element.{Row, stays, is_lost, lost_of}
-use Rattle.plant_model.specs.Plant.{Pin}
 use Rattle.pce_element.specs.Pinned.{Pinned}
 use Rattle.pce_element.specs.Leaving.{with_rows}
-use Rattle.pce_element.proofs.PlaceLemmas.{all_taken, nothing_dropped}
+use Rattle.member_parts.proofs.HeldPlaces.{all_taken, nothing_dropped}
 use Rattle.pce_element.proofs.LeaveLemmas.{turned, stays_told, drops_told, loses_told}
 use Rattle.pce_element.proofs.leaving.leave_all.Goals as goal
 use Rattle.pce_element.proofs.leaving.leave_all.Goals.{in-Stays, in-Drops, in-Loses+in-Ok}
@@ -18,10 +17,10 @@ abbrev Gone : Type 0
 Gone = VecDeque Lost Global
 
 pub loop-turn-preserved : goal.loop-turn-preserved
-loop-turn-preserved c =
+loop-turn-preserved g c =
     let p = c.args.peer in
     let i = c.loop-turn._turn in
-    let old : Pinned = c.args.requests.now in
+    let old : Pinned _ = c.args.requests.now in
     let within : i < length old.pending.rows = omega (arith, c.len-turn-end.ensures.count, c.loop-turn-test.true) in
     let both = turned p i c.loop-turn.k old c.loop-turn.requests c.leave.new.self c.leave.result within c.loop-turn.invariant.rows c.loop-turn.invariant.place c.leave.ensures in
     let t = both.0 in
@@ -65,7 +64,7 @@ loop-turn-preserved c =
     ]
 
 pub returns : goal.returns
-returns c =
+returns g c =
     let p = c.args.peer in
     let i = c.loop-turn._turn in
     let rows = c.args.requests.now.pending.rows in
@@ -74,8 +73,8 @@ returns c =
     let none = nothing_dropped rows i past in
     record {
       kept = c.loop-turn.invariant.rows
-          ∙ ap (λ (rs : List (Row Pin)). let q : Pinned = record (with_rows rs c.args.requests.now) { spare = c.loop-turn.requests.spare } in q)
-          (ap (λ (rs : List (Row Pin)). filter (stays p) rs ++ drop i rows) all ∙ ap (λ (rs : List (Row Pin)). filter (stays p) rows ++ rs) none ∙ append-nil (filter (stays p) rows));
-      lost = c.loop-turn.invariant.lost ∙ ap (λ (rs : List (Row Pin)). c.args.gone.now.items ++ map lost_of (filter (is_lost p) rs)) all;
+          ∙ ap (λ (rs : List (Row _)). let q : Pinned _ = record (with_rows rs c.args.requests.now) { spare = c.loop-turn.requests.spare } in q)
+          (ap (λ (rs : List (Row _)). filter (stays p) rs ++ drop i rows) all ∙ ap (λ (rs : List (Row _)). filter (stays p) rows ++ rs) none ∙ append-nil (filter (stays p) rows));
+      lost = c.loop-turn.invariant.lost ∙ ap (λ (rs : List (Row _)). c.args.gone.now.items ++ map lost_of (filter (is_lost p) rs)) all;
       room = c.loop-turn.invariant.room;
     }

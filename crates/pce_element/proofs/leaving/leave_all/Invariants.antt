@@ -6,7 +6,7 @@ use Rattle.pce_element.specs.Leaving.{SameButSpare, with_rows}
 use Rattle.pce_element.proofs.leaving.leave_all.Given as goal
 
 abbrev pub invariant-loop-turn : goal.invariant-loop-turn
-invariant-loop-turn l = record {
+invariant-loop-turn g l = record {
   rows : SameButSpare (with_rows (filter (stays l.peer) (take l._turn l.initial.requests.pending.rows) ++ drop l._turn l.initial.requests.pending.rows) l.initial.requests) l.requests;
   place : l.k ≡ length (filter (stays l.peer) (take l._turn l.initial.requests.pending.rows));
   lost : l.gone.items ≡ l.initial.gone.items ++ map lost_of (filter (is_lost l.peer) (take l._turn l.initial.requests.pending.rows));

@@ -4,8 +4,8 @@ use Rattle.request_table.specs.Pending.{Pending}
 use Rattle.request_table.specs.Lends.{written_of}
 use Rattle.plant_model.specs.Parent.{Asking}
 use Rattle.pce_parent.specs.Changes.{answered_item}
-use Rattle.pce_parent.proofs.HeldLemmas.{length-written}
-use Rattle.pce_parent.proofs.ScanLaws.{on_some}
+use Rattle.member_parts.proofs.HeldRows.{length-written}
+use Rattle.member_parts.proofs.Scans.{on_some}
 use Rattle.pce_parent.proofs.pending.gather_at.Goals as goal
 
 pub returns-in-Some-clause-kept : goal.returns-in-Some-clause-kept

@@ -2,7 +2,7 @@ use Rattle.std.proofs.Common.{◌≡◌, ◌∙◌, ℕ, Bool, cond, arith, sym,
 use Rattle.request_table.specs.Pending.{same_peer}
 use Rattle.plant_model.specs.Parent.{AskingRow}
 use Rattle.pce_parent.specs.Pendings.{row_of}
-use Rattle.pce_parent.proofs.ScanLaws.{tally_next}
+use Rattle.member_parts.proofs.Scans.{tally_next}
 use Rattle.pce_parent.proofs.pending.owed.Goals as goal
 use Rattle.pce_parent.proofs.pending.owed.Goals.{then-is_same_peer, else-is_same_peer}
 

@@ -1,5 +1,5 @@
 use Rattle.std.proofs.Common.{◌∙◌, sym}
-use Rattle.pce_parent.proofs.HeldPlaces.{no_key_none, row_at}
+use Rattle.member_parts.proofs.HeldPlaces.{no_key_none, row_at}
 use Rattle.pce_parent.proofs.pending.row_at.Goals as goal
 
 pub unreachable-requires : goal.unreachable-requires

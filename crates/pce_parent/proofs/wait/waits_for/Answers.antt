@@ -3,7 +3,7 @@ use Rattle.std.specs.Prelude.{slice_get}
 use Rattle.std.proofs.lemmas.Option.{slice_get_read}
 use Rattle.plant_model.specs.Parent.{Wait, among}
 use Rattle.pce_parent.proofs.ScanLaws.{for_here, for_more}
-use Rattle.pce_parent.proofs.HeldPlaces.{nothing_dropped}
+use Rattle.member_parts.proofs.HeldPlaces.{nothing_dropped}
 use Rattle.pce_parent.proofs.wait.waits_for.Goals as goal
 
 pub returns-then-is_for : goal.returns-then-is_for

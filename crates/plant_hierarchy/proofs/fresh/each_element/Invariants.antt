@@ -3,4 +3,4 @@ use Rattle.plant_hierarchy.specs.Fresh.{AreNew}
 use Rattle.plant_hierarchy.proofs.fresh.each_element.Given as goal
 
 abbrev pub invariant-loop-own : goal.invariant-loop-own
-invariant-loop-own l = AreNew l.parts (take l.own-index l.domains) l.items.items
+invariant-loop-own g l = AreNew g.W.World.first l.parts (take l.own-index l.domains) l.items.items

@@ -7,14 +7,14 @@ use Rattle.plant_hierarchy.proofs.FreshLemmas.{new_for, life_least, life_most}
 use Rattle.plant_hierarchy.proofs.fresh.element_of.Goals as goal
 
 pub new-requires-clause-least : goal.new-requires-clause-least
-new-requires-clause-least c = life_least c.args.parts.now c.args.own c.figures_of-figures.result (c.figures_of-figures.ensures ∙ ap (λ (rows : List ElementRow). figures_from (row_of c.args.own rows)) c.as_slice.ensures) c.requires.lives
+new-requires-clause-least g c = life_least c.args.parts.now c.args.own c.figures_of-figures.result (c.figures_of-figures.ensures ∙ ap (λ (rows : List ElementRow). figures_from (row_of c.args.own rows)) c.as_slice.ensures) c.requires.lives
 
 pub new-requires-clause-most : goal.new-requires-clause-most
-new-requires-clause-most c = life_most c.args.parts.now c.args.own c.figures_of-figures.result (c.figures_of-figures.ensures ∙ ap (λ (rows : List ElementRow). figures_from (row_of c.args.own rows)) c.as_slice.ensures) c.requires.lives
+new-requires-clause-most g c = life_most c.args.parts.now c.args.own c.figures_of-figures.result (c.figures_of-figures.ensures ∙ ap (λ (rows : List ElementRow). figures_from (row_of c.args.own rows)) c.as_slice.ensures) c.requires.lives
 
 pub returns : goal.returns
-returns c =
-    new_for c.args.parts.now c.args.own c.figures_of-figures.result c.in_ok-deny.deny c.as_slice-3.result.now c.new.result
+returns g c =
+    new_for g.W.World.first c.args.parts.now c.args.own c.figures_of-figures.result c.in_ok-deny.deny c.as_slice-3.result.now c.new.result
     (c.figures_of-figures.ensures ∙ ap (λ (rows : List ElementRow). figures_from (row_of c.args.own rows)) c.as_slice.ensures)
     (c.in_ok-deny.ensures ∙ ap (deny_at c.args.own) c.as_slice-2.ensures)
     (c.as_slice-3.ensures ∙ c.in_ok-links.ensures ∙ ap (others c.args.own) c.requires.lines)

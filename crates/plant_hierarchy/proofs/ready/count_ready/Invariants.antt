@@ -3,4 +3,4 @@ use Rattle.plant_model.specs.Element.{ready_numbers}
 use Rattle.plant_hierarchy.proofs.ready.count_ready.Given as goal
 
 abbrev pub invariant-loop-count : goal.invariant-loop-count
-invariant-loop-count l = l.count ≤ length (ready_numbers l.element.losing.element.pending.rows)
+invariant-loop-count g l = l.count ≤ length (ready_numbers l.element.losing.element.pending.rows)

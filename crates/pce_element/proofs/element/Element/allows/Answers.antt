@@ -7,6 +7,6 @@ use Rattle.pce_element.proofs.AskLemmas.{denied_is}
 use Rattle.pce_element.proofs.element.Element.allows.Goals as goal
 
 pub returns : goal.returns
-returns c =
+returns g c =
     c.allows.ensures ∙ ap (λ (rows : List Deny). not (policy.is_denied rows c.args.class c.args.next)) c.as_slice.ensures ∙ ap not (denied_is c.self.inside.deny c.args.class c.args.next)
-    ∙ ap (λ (s : Seen). not (is_denied s.place.deny c.args.class c.args.next)) c.self.view_is
+    ∙ ap (λ (s : Seen _ _). not (is_denied s.place.deny c.args.class c.args.next)) c.self.view_is

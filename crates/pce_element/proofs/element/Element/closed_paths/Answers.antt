@@ -1,15 +1,15 @@
 use Rattle.std.proofs.Common.{◌≡◌, ◌∙◌, ℕ, length, sym, ap}
 use Rattle.std.proofs.lemmas.Result.{IfOk-weaker}
 use Rattle.dom_base.specs.declared.addr.Addr.{Addr}
-use Rattle.pce_element.specs.Committing.{closed_parts, paths_by}
+use Rattle.pce_element.specs.Answering.{closed_parts, paths_by}
 use Rattle.pce_element.proofs.CommitLemmas.{closed_are, length-parts}
 use Rattle.pce_element.proofs.element.Element.closed_paths.Goals as goal
 
 pub paths_by-requires-clause-one_part_each : goal.paths_by-requires-clause-one_part_each
-paths_by-requires-clause-one_part_each c = length-parts _ _ _ c.args.best.now ∙ ap length (sym c.in_ok-own.ensures) ∙ ap length (sym c.as_slice.ensures)
+paths_by-requires-clause-one_part_each g c = length-parts _ _ _ c.args.best.now ∙ ap length (sym c.in_ok-own.ensures) ∙ ap length (sym c.as_slice.ensures)
 
 pub returns : goal.returns
-returns c =
+returns g c =
     let best = c.args.best.now in
     let down = c.args.down.now in
     let m = c.args.wanted.now.query.metric in

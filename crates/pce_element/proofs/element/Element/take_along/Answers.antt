@@ -6,14 +6,13 @@ use Rattle.std.proofs.Common.{drop, refl}
 use Rattle.dom_base.specs.declared.names.As.{As}
 use Rattle.dom_base.specs.declared.names.Peer.TheVariants.{Inner}
 use Rattle.plant_model.specs.Element.{Taken, is_denied, way_to}
-use Rattle.plant_model.specs.Plant.{Pin, Segment}
 use Rattle.plant_model.specs.Taking.{send_on}
 use Rattle.pce_element.specs.Changes.{IsDraft}
 use Rattle.pce_element.proofs.AskLemmas.{along_next, not_back}
 use Rattle.pce_element.proofs.element.Element.take_along.Goals as goal
 
 pub returns-in-Some : goal.returns-in-Some
-returns-in-Some c =
+returns-in-Some g c =
     let s = c.args.self.now in
     let a = c.args.asker in
     let next = c.in-Some.next.now in
@@ -24,4 +23,4 @@ returns-in-Some c =
     let refused : not c.allows-refused.result ≡ is_denied s.place.deny a.class next = not_back c.allows-refused.result (is_denied s.place.deny a.class next) c.allows-refused.ensures in
     let same = ap (λ (b : Bool). send_on s.current a.peer a.class a.flags a.id c.args.wanted c.args.sequence (drop 1 c.args.sequence) b s.losing.element (way_to (Inner next) s.losing.element.ways)) refused
     ∙ along_next s.place s.current a.peer a.class a.flags a.id c.args.wanted s.losing.element c.args.sequence next at in
-    subst (λ (t : Taken Pin Segment). IfOk c.send_on.result (IsDraft s t)) same c.send_on.ensures
+    subst (λ (t : Taken _ _). IfOk c.send_on.result (IsDraft s t)) same c.send_on.ensures

@@ -1,7 +1,6 @@
 use Rattle.std.proofs.Common.{◌≡◌, ◌∙◌, ℕ, List, Some, sym, ap}
 use Rattle.request_table.specs.Pending.{Pending}
 use Rattle.plant_model.specs.Element.{Item, waiting}
-use Rattle.plant_model.specs.Plant.{Pin}
 use Rattle.plant_model.specs.Writing.{busy}
 use Rattle.pce_element.specs.Changes.{all_closed}
 use Rattle.pce_element.specs.Rows.{row_of}
@@ -9,11 +8,11 @@ use Rattle.pce_element.proofs.EndLemmas.{busy_some, on_ok_both}
 use Rattle.pce_element.proofs.element.Element.take_busy.Goals as goal
 
 pub returns : goal.returns
-returns c =
+returns g c =
     let k = c.args.self.now.losing.element in
     let e = c.args.ending.now in
     let found : waiting c.args.peer c.args.rp.1 (all_closed e.numbers k.pending).rows ≡ Some (row_of c.in-Some.row) =
     ap (λ (ns : List ℕ). waiting c.args.peer c.args.rp.1 (all_closed ns k.pending).rows) (sym c.as_slice.ensures)
-    ∙ ap (λ (p : Pending (Item Pin)). waiting c.args.peer c.args.rp.1 (all_closed c.as_slice.result.now p).rows) (sym c.requests.ensures.pending) ∙ c.in-Some.ensures.row in
+    ∙ ap (λ (p : Pending (Item _)). waiting c.args.peer c.args.rp.1 (all_closed c.as_slice.result.now p).rows) (sym c.requests.ensures.pending) ∙ c.in-Some.ensures.row in
     let says = c.in_ok-message.ensures ∙ ap (λ (f : ℕ). busy f c.in-Some.row.key.id) c.flags.ensures in
     on_ok_both c.answer.result (λ numbers outputs. busy_some k e c.answer.new.self c.args.peer c.args.rp (row_of c.in-Some.row) c.in_ok-message.message found says numbers outputs) c.answer.ensures.numbers c.answer.ensures.outputs

@@ -3,4 +3,4 @@ use Rattle.plant_model.specs.Element.{is_waiting}
 use Rattle.pce_element.proofs.pinned.PinnedRequests.is_waiting.Given as goal
 
 abbrev pub invariant-loop-k : goal.invariant-loop-k
-invariant-loop-k l = is_waiting l.peer (drop l.k l.self.pending.rows) l.id ≡ is_waiting l.peer l.self.pending.rows l.id
+invariant-loop-k g l = is_waiting l.peer (drop l.k l.self.pending.rows) l.id ≡ is_waiting l.peer l.self.pending.rows l.id

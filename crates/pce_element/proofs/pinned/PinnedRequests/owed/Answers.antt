@@ -1,16 +1,15 @@
 use Rattle.std.proofs.Common.{◌≡◌, ◌∙◌, ℕ, Bool, cond, arith, sym, ap}
 use Rattle.request_table.specs.Pending.{same_peer}
 use Rattle.plant_model.specs.Element.{Row}
-use Rattle.plant_model.specs.Plant.{Pin}
 use Rattle.pce_element.specs.Rows.{row_of}
-use Rattle.pce_element.proofs.ScanLemmas.{tally_next}
+use Rattle.member_parts.proofs.Scans.{tally_next}
 use Rattle.pce_element.proofs.pinned.PinnedRequests.owed.Goals as goal
 use Rattle.pce_element.proofs.pinned.PinnedRequests.owed.Goals.{then-is_same_peer, else-is_same_peer}
 
 pub loop-i-preserved : goal.loop-i-preserved
-loop-i-preserved c =
+loop-i-preserved g c =
     let rows = c.args.self.now.pending.rows in
-    let next = tally_next (λ (h : Row Pin). same_peer h.1.key.peer c.args.peer) rows c.loop-i.i (row_of c.in-Some.row) c.in-Some.ensures.row in
+    let next = tally_next (λ (h : Row _). same_peer h.1.key.peer c.args.peer) rows c.loop-i.i (row_of c.in-Some.row) c.in-Some.ensures.row in
     elim c.if-is_same_peer.branch [
       | then-is_same_peer w ↦
           let one : ◌≡◌ {A = ℕ} (cond (same_peer c.in-Some.row.key.peer c.args.peer) 1 0) 1 = ap (λ (b : Bool). let n : ℕ = cond b 1 0 in n) (sym c.is_same_peer.ensures ∙ w.if-is_same_peer.true) in

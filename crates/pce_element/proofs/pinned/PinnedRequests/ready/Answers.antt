@@ -1,28 +1,28 @@
 use Rattle.std.proofs.Common.{◌∙◌, ◌<◌, ◌+◌, ℕ, sym, ap, arith, drop}
 use Rattle.std.specs.Prelude.{slice_get}
-use Rattle.plant_model.specs.Element.{ready_numbers}
+use Rattle.plant_model.specs.Element.{Row, is_ready, ready_numbers}
 use Rattle.pce_element.specs.Rows.{row_of}
-use Rattle.pce_element.proofs.ScanLemmas.{ready_here, ready_next, ready_more}
+use Rattle.member_parts.proofs.Scans.{picked_here, picked_next, picked_more}
 use Rattle.pce_element.proofs.pinned.PinnedRequests.ready.Goals as goal
 use Rattle.pce_element.proofs.pinned.PinnedRequests.ready.Goals.{then-is_ready+else-left-eq0, else-is_ready}
 
 pub returns-then-left-eq0 : goal.returns-then-left-eq0
-returns-then-left-eq0 c =
+returns-then-left-eq0 g c =
     let rows = c.args.self.now.pending.rows in
     sym (c.loop-i.invariant ∙ ap (λ (n : ℕ). slice_get (ready_numbers (drop c.loop-i.i rows)) n) c.if-left-eq0.true
-    ∙ ready_here c.loop-i.i rows (row_of c.in-Some.row) c.in-Some.ensures.row (sym c.is_ready.ensures ∙ c.if-is_ready.true))
+    ∙ picked_here (λ (r : Row _). is_ready r.1.item.stage) (λ (r : Row _). r.0) c.loop-i.i rows (row_of c.in-Some.row) c.in-Some.ensures.row (sym c.is_ready.ensures ∙ c.if-is_ready.true))
 
 pub loop-i-preserved : goal.loop-i-preserved
-loop-i-preserved c =
+loop-i-preserved g c =
     let rows = c.args.self.now.pending.rows in
     elim c.if-is_ready.branch [
       | then-is_ready+else-left-eq0 w ↦
           let some : 0 < c.loop-i.left = omega (arith, w.if-left-eq0.false) in
           c.loop-i.invariant
-          ∙ ready_next c.loop-i.i c.loop-i.left rows (row_of c.in-Some.row) c.in-Some.ensures.row (sym c.is_ready.ensures ∙ w.if-is_ready.true) some
+          ∙ picked_next (λ (r : Row _). is_ready r.1.item.stage) (λ (r : Row _). r.0) c.loop-i.i c.loop-i.left rows (row_of c.in-Some.row) c.in-Some.ensures.row (sym c.is_ready.ensures ∙ w.if-is_ready.true) some
           ∙ ap (λ (n : ℕ). slice_get (ready_numbers (drop (c.loop-i.i + 1) rows)) n) (sym w.left-is)
       | else-is_ready w ↦
           c.loop-i.invariant
-          ∙ ready_more c.loop-i.i c.loop-i.left rows (row_of c.in-Some.row) c.in-Some.ensures.row (sym c.is_ready.ensures ∙ w.if-is_ready.false)
+          ∙ picked_more (λ (r : Row _). is_ready r.1.item.stage) (λ (r : Row _). r.0) c.loop-i.i c.loop-i.left rows (row_of c.in-Some.row) c.in-Some.ensures.row (sym c.is_ready.ensures ∙ w.if-is_ready.false)
           ∙ ap (λ (n : ℕ). slice_get (ready_numbers (drop (c.loop-i.i + 1) rows)) n) (sym w.left-is)
     ]

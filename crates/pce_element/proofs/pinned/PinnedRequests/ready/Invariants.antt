@@ -4,4 +4,4 @@ use Rattle.plant_model.specs.Element.{ready_numbers}
 use Rattle.pce_element.proofs.pinned.PinnedRequests.ready.Given as goal
 
 abbrev pub invariant-loop-i : goal.invariant-loop-i
-invariant-loop-i l = slice_get (ready_numbers l.self.pending.rows) l.k ≡ slice_get (ready_numbers (drop l.i l.self.pending.rows)) l.left
+invariant-loop-i g l = slice_get (ready_numbers l.self.pending.rows) l.k ≡ slice_get (ready_numbers (drop l.i l.self.pending.rows)) l.left

@@ -4,4 +4,4 @@ use Rattle.pce_element.proofs.SearchLemmas.{left_of}
 use Rattle.pce_element.proofs.pinned.PinnedRequests.waiting.Given as goal
 
 abbrev pub invariant-loop-k : goal.invariant-loop-k
-invariant-loop-k l = waiting l.peer l.id (left_of l.ended (drop l.k l.self.pending.rows)) ≡ waiting l.peer l.id (left_of l.ended l.self.pending.rows)
+invariant-loop-k g l = waiting l.peer l.id (left_of l.ended (drop l.k l.self.pending.rows)) ≡ waiting l.peer l.id (left_of l.ended l.self.pending.rows)

@@ -1,7 +1,9 @@
-use Rattle.std.proofs.Common.{◌≡◌, ◌∙◌, ℕ, List, [], ◌∷◌, Some, None, sym, ap, subst}
+use Rattle.std.proofs.Common.{◌≡◌, ◌∙◌, ℕ, List, [], ◌∷◌, Option, Some, None, sym, ap, subst}
+use Rattle.std.specs.Option.{option_to_list}
+use Rattle.pcep_messages.specs.declared.message.Message.{Message}
 use Rattle.plant_model.specs.Parent.{AskingRow, take_failure, waiting}
 use Rattle.pce_parent.specs.declared.sought.Sought.TheVariants.{Awaited}
-use Rattle.pce_parent.specs.Endings.{GoesOn, listed}
+use Rattle.pce_parent.specs.Endings.{GoesOn}
 use Rattle.pce_parent.specs.ParentFields.{parent_of}
 use Rattle.pce_parent.specs.Pendings.{row_of}
 use Rattle.pce_parent.specs.Seen.{Seen}
@@ -31,7 +33,7 @@ returns-in-Some-2 c =
     let new = c.answer.new.self in
     let h : AskingRow = row_of c.in-Some.row in
     let m = c.in-Some-2.message in
-    let says : m ∷ [] ≡ error_answer c.args.error h.1.item.flags h.1.key.id = sym (ap listed c.in-Some-2.is) ∙ c.in_ok-error_answer.ensures ∙ ap (λ (f : ℕ). error_answer c.args.error f h.1.key.id) c.flags.ensures in
+    let says : m ∷ [] ≡ error_answer c.args.error h.1.item.flags h.1.key.id = sym (ap (λ (o : Option Message). option_to_list o) c.in-Some-2.is) ∙ c.in_ok-error_answer.ensures ∙ ap (λ (f : ℕ). error_answer c.args.error f h.1.key.id) c.flags.ensures in
     on_ok c.answer.result _ (GoesOn c.args.self.now.losing.parent (λ q. take_failure c.args.error q (waiting c.args.peer rp.1 q.pending.rows)) e new) (λ step.
     subst (λ (s : Seen). GoesOn s.losing.parent (λ q. take_failure c.args.error q (waiting c.args.peer rp.1 q.pending.rows)) e new) c.self.view_is
     (fail_some (parent_of a) c.in-Some.ensures.rules c.args.peer rp e c.args.error h m new found says (step (parent_of a)))) c.answer.ensures

@@ -1,26 +1,37 @@
-use Rattle.std.proofs.Common.{◌≡◌, [], refl, sym, subst}
+use Rattle.std.proofs.Common.{◌≡◌, ◌∙◌, [], refl, sym, ap, subst}
+use Rattle.dom_base.specs.declared.names.As.{As}
 use Rattle.plant_text.specs.declared.settings.NetworkParts.{NetworkParts}
 use Rattle.plant_text.specs.Networks.{IsNetwork}
-use Rattle.plant_model.specs.Plant.{Run}
+use Rattle.disclosure.specs.Shown.{open_of}
+use Rattle.plant_model.specs.Events.{opening}
+use Rattle.plant_model.specs.Plant.{Pin, Run, Segment, first_pin}
 use Rattle.plant_model.specs.RealWire.{wire}
-use Rattle.plant_hierarchy.specs.Fresh.{begun}
-use Rattle.plant_hierarchy.specs.Tiers.{members_of}
+use Rattle.plant_members.specs.Membership.{Membership}
+use Rattle.plant_hierarchy.specs.Topologies.{begun, members_of}
+use Rattle.plant_network.specs.Beginning.{AreBare}
 use Rattle.pce_plant.specs.Held.{held, whole}
-use Rattle.pce_plant.proofs.BeginLemmas.{begun_sound}
 use Rattle.pce_plant.proofs.plant.Plant.new.Goals as goal
 
-pub begin-requires-clause-begun : goal.begin-requires-clause-begun
-begin-requires-clause-begun c = subst (λ (n : NetworkParts). members_of c.in_ok-members.members ≡ begun n) (sym c.in_ok-members.ensures.network) c.in_ok-members.ensures.begun
+-- members that are those of the model's beginning are so whatever they pin
+are_bare : (n : NetworkParts) (ms : Membership Pin Segment) → ms ≡ begun n → AreBare n open_of ms
+are_bare n ms is = subst (AreBare n open_of) (sym is) (record { elements = refl; parent = refl })
+
+pub begin-requires-clause-rules : goal.begin-requires-clause-rules
+begin-requires-clause-rules c = subst IsNetwork (sym c.in_ok-members.ensures.network) c.parts.ensures.rules
+
+pub begin-requires-clause-new : goal.begin-requires-clause-new
+begin-requires-clause-new c =
+    are_bare c.in_ok-members.members.network (members_of c.in_ok-members.members)
+    (subst (λ (n : NetworkParts). members_of c.in_ok-members.members ≡ begun n) (sym c.in_ok-members.ensures.network) c.in_ok-members.ensures.begun)
 
 pub invariant_of-result : goal.invariant_of-result
-invariant_of-result c =
-    let h = held c.in_ok-members.members c.begin.new.traffic in
-    begun_sound h.members.network h (subst IsNetwork (sym c.in_ok-members.ensures.network) c.parts.ensures.rules) refl
-    (record { of = c.in_ok-begin.ensures.of; none = c.in_ok-members.ensures.none; roomy = c.in_ok-begin.ensures.room }) c.in_ok-begin.ensures.run
+invariant_of-result c = c.in_ok-begin.ensures.sound
 
 pub returns : goal.returns
-returns c = (
-  c.in_ok-members.ensures.network,
-  subst (λ (n : NetworkParts). Run wire n [] (whole (held c.in_ok-members.members c.begin.new.traffic)).state) c.in_ok-members.ensures.network c.in_ok-begin.ensures.run,
-  c.in_ok-begin.ensures.said,
-)
+returns c =
+    let h = held c.in_ok-members.members c.begin.new.traffic in
+    let first : (members_of h.members).current ≡ first_pin = ap (λ (ms : Membership Pin Segment). ms.current) c.in_ok-members.ensures.begun in (
+      c.in_ok-members.ensures.network,
+      subst (λ (n : NetworkParts). Run wire n [] (whole h).state) c.in_ok-members.ensures.network (c.in_ok-begin.ensures.state ∙ ap (λ (f : As → Pin). (opening Pin Segment wire h.members.network open_of f).state) first),
+      c.in_ok-begin.ensures.said,
+    )

@@ -7,16 +7,16 @@ use Rattle.plant_hierarchy.proofs.BecomingLemmas.{becomes, owns_become, one_ther
 use Rattle.plant_hierarchy.proofs.elements.Elements.make.Goals as goal
 
 pub place-i-requires : goal.place-i-requires
-place-i-requires c = one_there c.args.at c.args.self.now c.args.plan.from c.requires
+place-i-requires g c = one_there c.args.at c.args.self.now c.args.plan.from c.requires
 
 pub make_at-requires-clause-within : goal.make_at-requires-clause-within
-make_at-requires-clause-within c = first_within c.args.at c.place-i.result c.self.inside.items.items (subst (λ (es : List Seen). IsFirstAt c.args.at c.place-i.result (map own_of es)) (sym c.self.view_is) c.place-i.ensures)
+make_at-requires-clause-within g c = first_within c.args.at c.place-i.result c.self.inside.items.items (subst (λ (es : List (Seen _ _)). IsFirstAt c.args.at c.place-i.result (map own_of es)) (sym c.self.view_is) c.place-i.ensures)
 
 pub make_at-requires-clause-from : goal.make_at-requires-clause-from
-make_at-requires-clause-from c = from_here c.args.at c.place-i.result c.self.inside.items.items c.args.plan.from (subst (λ (es : List Seen). IsFirstAt c.args.at c.place-i.result (map own_of es)) (sym c.self.view_is) c.place-i.ensures) (ap (at_domain c.args.at) c.self.view_is ∙ c.requires)
+make_at-requires-clause-from g c = from_here g.W.World.first c.args.at c.place-i.result c.self.inside.items.items c.args.plan.from (subst (λ (es : List (Seen _ _)). IsFirstAt c.args.at c.place-i.result (map own_of es)) (sym c.self.view_is) c.place-i.ensures) (ap (at_domain c.args.at) c.self.view_is ∙ c.requires)
 
 pub invariant_of-self : goal.invariant_of-self
-invariant_of-self c = owns_become c.place-i.result _ c.self.inside.items.items c.make_at.new.items.items c.make_at.ensures ∙ c.self.invariant
+invariant_of-self g c = owns_become g.W.World.first c.place-i.result _ c.self.inside.items.items c.make_at.new.items.items c.make_at.ensures ∙ c.self.invariant
 
 pub returns : goal.returns
-returns c = subst (λ (es : List Seen). Becomes c.args.at (λ l. record l { element = c.args.plan.taken.element }) es c.make_at.new.items.items) c.self.view_is (becomes c.args.at c.place-i.result (λ l. record l { element = c.args.plan.taken.element }) c.self.inside.items.items c.make_at.new.items.items (subst (λ (es : List Seen). IsFirstAt c.args.at c.place-i.result (map own_of es)) (sym c.self.view_is) c.place-i.ensures) c.make_at.ensures)
+returns g c = subst (λ (es : List (Seen _ _)). Becomes c.args.at (λ l. record l { element = c.args.plan.taken.element }) es c.make_at.new.items.items) c.self.view_is (becomes g.W.World.first c.args.at c.place-i.result (λ l. record l { element = c.args.plan.taken.element }) c.self.inside.items.items c.make_at.new.items.items (subst (λ (es : List (Seen _ _)). IsFirstAt c.args.at c.place-i.result (map own_of es)) (sym c.self.view_is) c.place-i.ensures) c.make_at.ensures)

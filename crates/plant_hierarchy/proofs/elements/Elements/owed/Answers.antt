@@ -7,13 +7,13 @@ use Rattle.plant_hierarchy.proofs.DomainLemmas.{first_within, at_first}
 use Rattle.plant_hierarchy.proofs.elements.Elements.owed.Goals as goal
 
 pub index-requires : goal.index-requires
-index-requires c =
+index-requires g c =
     let items = c.self.inside.items in
-    omega (arith, items.ok.0, first_within c.args.at c.place-i.result items.items (subst (λ (es : List Seen). IsFirstAt c.args.at c.place-i.result (map own_of es)) (sym c.self.view_is) c.place-i.ensures))
+    omega (arith, items.ok.0, first_within c.args.at c.place-i.result items.items (subst (λ (es : List (Seen _ _)). IsFirstAt c.args.at c.place-i.result (map own_of es)) (sym c.self.view_is) c.place-i.ensures))
 
 pub returns : goal.returns
-returns c =
+returns g c =
     let items = c.self.inside.items.items in
-    let first : IsFirstAt c.args.at c.place-i.result (map own_of items) = subst (λ (es : List Seen). IsFirstAt c.args.at c.place-i.result (map own_of es)) (sym c.self.view_is) c.place-i.ensures in
-    subst (λ (o : Option Seen). IfSome o (λ e. c.owed.result ≡ owed_by c.args.peer e))
-    (ap (λ (e : Seen). Some e) c.index.ensures ∙ sym (at_first c.args.at c.place-i.result items c.index.result.now first) ∙ ap (at_domain c.args.at) c.self.view_is) c.owed.ensures
+    let first : IsFirstAt c.args.at c.place-i.result (map own_of items) = subst (λ (es : List (Seen _ _)). IsFirstAt c.args.at c.place-i.result (map own_of es)) (sym c.self.view_is) c.place-i.ensures in
+    subst (λ (o : Option (Seen _ _)). IfSome o (λ e. c.owed.result ≡ owed_by c.args.peer e))
+    (ap (λ (e : Seen _ _). Some e) c.index.ensures ∙ sym (at_first c.args.at c.place-i.result items c.index.result.now first) ∙ ap (at_domain c.args.at) c.self.view_is) c.owed.ensures

@@ -4,4 +4,4 @@ use Rattle.plant_hierarchy.specs.Ready.{jobs_in}
 use Rattle.plant_hierarchy.proofs.elements.Elements.ready.Given as goal
 
 abbrev pub invariant-loop-i : goal.invariant-loop-i
-invariant-loop-i l = slice_get (jobs_in (drop l.i l.self)) l.left ≡ slice_get (jobs_in l.self) l.k
+invariant-loop-i g l = slice_get (jobs_in (drop l.i l.self)) l.left ≡ slice_get (jobs_in l.self) l.k

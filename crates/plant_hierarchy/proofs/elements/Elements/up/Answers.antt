@@ -8,10 +8,10 @@ use Rattle.plant_hierarchy.proofs.BecomingLemmas.{becomes, owns_become}
 use Rattle.plant_hierarchy.proofs.elements.Elements.up.Goals as goal
 
 pub up_at-requires : goal.up_at-requires
-up_at-requires c = first_within c.args.at c.place-i.result c.self.inside.items.items (subst (λ (es : List Seen). IsFirstAt c.args.at c.place-i.result (map own_of es)) (sym c.self.view_is) c.place-i.ensures)
+up_at-requires g c = first_within c.args.at c.place-i.result c.self.inside.items.items (subst (λ (es : List (Seen _ _)). IsFirstAt c.args.at c.place-i.result (map own_of es)) (sym c.self.view_is) c.place-i.ensures)
 
 pub invariant_of-self : goal.invariant_of-self
-invariant_of-self c = owns_become c.place-i.result _ c.self.inside.items.items c.up_at.new.items.items c.up_at.ensures ∙ c.self.invariant
+invariant_of-self g c = owns_become g.W.World.first c.place-i.result _ c.self.inside.items.items c.up_at.new.items.items c.up_at.ensures ∙ c.self.invariant
 
 pub returns : goal.returns
-returns c = subst (λ (es : List Seen). Becomes c.args.at (λ l. record l { element = upped c.args.peer l.element }) es c.up_at.new.items.items) c.self.view_is (becomes c.args.at c.place-i.result (λ l. record l { element = upped c.args.peer l.element }) c.self.inside.items.items c.up_at.new.items.items (subst (λ (es : List Seen). IsFirstAt c.args.at c.place-i.result (map own_of es)) (sym c.self.view_is) c.place-i.ensures) c.up_at.ensures)
+returns g c = subst (λ (es : List (Seen _ _)). Becomes c.args.at (λ l. record l { element = upped c.args.peer l.element }) es c.up_at.new.items.items) c.self.view_is (becomes g.W.World.first c.args.at c.place-i.result (λ l. record l { element = upped c.args.peer l.element }) c.self.inside.items.items c.up_at.new.items.items (subst (λ (es : List (Seen _ _)). IsFirstAt c.args.at c.place-i.result (map own_of es)) (sym c.self.view_is) c.place-i.ensures) c.up_at.ensures)

@@ -7,8 +7,8 @@ use Rattle.plant_hierarchy.proofs.RisingDomains.{element_is}
 use Rattle.plant_hierarchy.proofs.hierarchy.Hierarchy.has_jobs.Goals as goal
 
 pub returns-else-is_parent : goal.returns-else-is_parent
-returns-else-is_parent c =
-    let t = tiers_of c.self.inside in
+returns-else-is_parent g c =
+    let t = tiers_of c.self.inside.network c.self.inside.clock.0 c.self.inside.elements c.self.inside.parent in
     c.has.ensures ∙ sym (element_is t.network c.args.at t.elements c.self.invariant.domains)
     ∙ sym (ap (λ (b : Bool). cond b (is_some t.network.parent) (is_element t.network c.args.at)) (sym c.is_parent.ensures ∙ c.if-is_parent.false))
-    ∙ ap (λ (u : Tiers). has_jobs u.network c.args.at) c.self.view_is
+    ∙ ap (λ (u : Tiers _ _). has_jobs u.network c.args.at) c.self.view_is

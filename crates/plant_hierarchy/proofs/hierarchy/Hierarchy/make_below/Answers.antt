@@ -7,10 +7,10 @@ use Rattle.plant_hierarchy.proofs.StepLemmas as step
 use Rattle.plant_hierarchy.proofs.hierarchy.Hierarchy.make_below.Goals as goal
 
 pub invariant_of-self : goal.invariant_of-self
-invariant_of-self c = set_below c.args.at (λ l. record l { element = c.args.plan.taken.element }) (tiers_of c.self.inside) c.make.new.self c.make.ensures c.self.invariant
+invariant_of-self g c = set_below c.args.at (λ l. record l { element = c.args.plan.taken.element }) (tiers_of c.self.inside.network c.self.inside.clock.0 c.self.inside.elements c.self.inside.parent) c.make.new.self c.make.ensures c.self.invariant
 
 pub returns : goal.returns
-returns c =
-    let t = tiers_of c.self.inside in
-    subst (λ (u : Tiers). Become u (with_element c.args.at c.args.plan.taken.element (members_of u)) (lost_in u) (record t { elements = c.make.new.self })) c.self.view_is
-    (step.makes_below c.args.at c.args.plan.taken.element t c.make.new.self c.make.ensures c.requires.below)
+returns g c =
+    let t = tiers_of c.self.inside.network c.self.inside.clock.0 c.self.inside.elements c.self.inside.parent in
+    subst (λ (u : Tiers _ _). Become g.W.World.first u (with_element c.args.at c.args.plan.taken.element (members_of g.W.World.first u)) (lost_in u) (record t { elements = c.make.new.self })) c.self.view_is
+    (step.makes_below g.W.World.first g.W.World.show c.args.at c.args.plan.taken.element t c.make.new.self c.make.ensures c.requires.below)

@@ -10,28 +10,28 @@ use Rattle.plant_hierarchy.proofs.BegunLemmas.{set_new, begun_is, none_lost}
 use Rattle.plant_hierarchy.proofs.hierarchy.Hierarchy.new.Goals as goal
 
 pub of-requires-clause-lives : goal.of-requires-clause-lives
-of-requires-clause-lives c = subst LivesFit (sym c.parts-parts.ensures.parts) (lives_fit c.args.network c.parts-parts.ensures.rules)
+of-requires-clause-lives g c = subst LivesFit (sym c.parts-parts.ensures.parts) (lives_fit c.args.network c.parts-parts.ensures.rules)
 
 pub parent_of-requires : goal.parent_of-requires
-parent_of-requires c = record { weighed = subst (λ (n : NetworkParts). All IsWeighed n.parent_links) (sym c.parts-parts.ensures.parts) (weighed_links c.args.network c.parts-parts.ensures.rules) }
+parent_of-requires g c = record { weighed = subst (λ (n : NetworkParts). All IsWeighed n.parent_links) (sym c.parts-parts.ensures.parts) (weighed_links c.args.network c.parts-parts.ensures.rules) }
 
 pub invariant_of-result : goal.invariant_of-result
-invariant_of-result c =
+invariant_of-result g c =
     let n = c.args.network in
-    set_new n c.in_ok-elements.elements (parent_id n.parent) c.in_ok-parent.parent
-    (subst (λ (m : NetworkParts). AreNew m (elements_of m.elements) c.in_ok-elements.elements) c.parts-parts.ensures.parts c.in_ok-elements.ensures)
+    set_new g.W.World.first n c.in_ok-elements.elements (parent_id n.parent) c.in_ok-parent.parent
+    (subst (λ (m : NetworkParts). AreNew g.W.World.first m (elements_of m.elements) c.in_ok-elements.elements) c.parts-parts.ensures.parts c.in_ok-elements.ensures)
     (subst (λ (m : NetworkParts). IsNew (parent_id m.parent) (family m) c.in_ok-parent.parent) c.parts-parts.ensures.parts c.in_ok-parent.ensures)
 
 pub returns-clause-begun : goal.returns-clause-begun
-returns-clause-begun c =
+returns-clause-begun g c =
     let n = c.args.network in
-    begun_is n c.in_ok-elements.elements (parent_id n.parent) c.in_ok-parent.parent c.parts-parts.ensures.rules
-    (subst (λ (m : NetworkParts). AreNew m (elements_of m.elements) c.in_ok-elements.elements) c.parts-parts.ensures.parts c.in_ok-elements.ensures)
+    begun_is g.W.World.first g.W.World.show n c.in_ok-elements.elements (parent_id n.parent) c.in_ok-parent.parent c.parts-parts.ensures.rules
+    (subst (λ (m : NetworkParts). AreNew g.W.World.first m (elements_of m.elements) c.in_ok-elements.elements) c.parts-parts.ensures.parts c.in_ok-elements.ensures)
     (subst (λ (m : NetworkParts). IsNew (parent_id m.parent) (family m) c.in_ok-parent.parent) c.parts-parts.ensures.parts c.in_ok-parent.ensures)
 
 pub returns-clause-none : goal.returns-clause-none
-returns-clause-none c =
+returns-clause-none g c =
     let n = c.args.network in
-    none_lost n c.in_ok-elements.elements (parent_id n.parent) c.in_ok-parent.parent
-    (subst (λ (m : NetworkParts). AreNew m (elements_of m.elements) c.in_ok-elements.elements) c.parts-parts.ensures.parts c.in_ok-elements.ensures)
+    none_lost g.W.World.first n c.in_ok-elements.elements (parent_id n.parent) c.in_ok-parent.parent
+    (subst (λ (m : NetworkParts). AreNew g.W.World.first m (elements_of m.elements) c.in_ok-elements.elements) c.parts-parts.ensures.parts c.in_ok-elements.ensures)
     (subst (λ (m : NetworkParts). IsNew (parent_id m.parent) (family m) c.in_ok-parent.parent) c.parts-parts.ensures.parts c.in_ok-parent.ensures)

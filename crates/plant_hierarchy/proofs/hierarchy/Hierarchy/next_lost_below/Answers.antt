@@ -8,19 +8,19 @@ use Rattle.plant_hierarchy.proofs.StepLemmas as step
 use Rattle.plant_hierarchy.proofs.hierarchy.Hierarchy.next_lost_below.Goals as goal
 
 pub next_lost-requires : goal.next_lost-requires
-next_lost-requires c = step.has_element (tiers_of c.self.inside) c.args.at c.self.invariant (subst (λ (t : Tiers). is_element t.network c.args.at ≡ true) (sym c.self.view_is) c.requires.there)
+next_lost-requires g c = step.has_element g.W.World.first g.W.World.show (tiers_of c.self.inside.network c.self.inside.clock.0 c.self.inside.elements c.self.inside.parent) c.args.at c.self.invariant (subst (λ (t : Tiers _ _). is_element t.network c.args.at ≡ true) (sym c.self.view_is) c.requires.there)
 
 pub invariant_of-self : goal.invariant_of-self
-invariant_of-self c = set_below c.args.at _ (tiers_of c.self.inside) c.next_lost.new.self c.next_lost.ensures.rest c.self.invariant
+invariant_of-self g c = set_below c.args.at _ (tiers_of c.self.inside.network c.self.inside.clock.0 c.self.inside.elements c.self.inside.parent) c.next_lost.new.self c.next_lost.ensures.rest c.self.invariant
 
 pub returns-clause-rest : goal.returns-clause-rest
-returns-clause-rest c =
-    let t = tiers_of c.self.inside in
-    let u : Tiers = record t { elements = c.next_lost.new.self } in
-    subst (λ (v : Tiers). Become v (members_of v) (lost_in u) u) c.self.view_is (step.hands_below c.args.at t c.next_lost.result c.next_lost.new.self c.next_lost.ensures.rest c.requires.below c.next_lost.ensures.lost).0
+returns-clause-rest g c =
+    let t = tiers_of c.self.inside.network c.self.inside.clock.0 c.self.inside.elements c.self.inside.parent in
+    let u : Tiers _ _ = record t { elements = c.next_lost.new.self } in
+    subst (λ (v : Tiers _ _). Become g.W.World.first v (members_of g.W.World.first v) (lost_in u) u) c.self.view_is (step.hands_below g.W.World.first g.W.World.show c.args.at t c.next_lost.result c.next_lost.new.self c.next_lost.ensures.rest c.requires.below c.next_lost.ensures.lost).0
 
 pub returns-clause-lost : goal.returns-clause-lost
-returns-clause-lost c =
-    let t = tiers_of c.self.inside in
-    let u : Tiers = record t { elements = c.next_lost.new.self } in
-    subst (λ (v : Tiers). HandsOut c.args.at (lost_in v) c.next_lost.result (lost_in u)) c.self.view_is (step.hands_below c.args.at t c.next_lost.result c.next_lost.new.self c.next_lost.ensures.rest c.requires.below c.next_lost.ensures.lost).1
+returns-clause-lost g c =
+    let t = tiers_of c.self.inside.network c.self.inside.clock.0 c.self.inside.elements c.self.inside.parent in
+    let u : Tiers _ _ = record t { elements = c.next_lost.new.self } in
+    subst (λ (v : Tiers _ _). HandsOut c.args.at (lost_in v) c.next_lost.result (lost_in u)) c.self.view_is (step.hands_below g.W.World.first g.W.World.show c.args.at t c.next_lost.result c.next_lost.new.self c.next_lost.ensures.rest c.requires.below c.next_lost.ensures.lost).1

@@ -8,10 +8,10 @@ use Rattle.plant_hierarchy.proofs.StepLemmas as step
 use Rattle.plant_hierarchy.proofs.hierarchy.Hierarchy.up_above.Goals as goal
 
 pub invariant_of-self : goal.invariant_of-self
-invariant_of-self c = set_above (λ l. record l { parent = upped c.args.peer l.parent }) (tiers_of c.self.inside) c.up.new.self c.up.ensures c.self.invariant
+invariant_of-self g c = set_above (λ l. record l { parent = upped c.args.peer l.parent }) (tiers_of c.self.inside.network c.self.inside.clock.0 c.self.inside.elements c.self.inside.parent) c.up.new.self c.up.ensures c.self.invariant
 
 pub returns : goal.returns
-returns c =
-    let t = tiers_of c.self.inside in
-    subst (λ (u : Tiers). Become u (raised c.args.at c.args.peer (members_of u)) (lost_in u) (record t { parent = c.up.new.self })) c.self.view_is
-    (step.rises_above c.args.at c.args.peer t c.up.new.self c.up.ensures c.requires)
+returns g c =
+    let t = tiers_of c.self.inside.network c.self.inside.clock.0 c.self.inside.elements c.self.inside.parent in
+    subst (λ (u : Tiers _ _). Become g.W.World.first u (raised c.args.at c.args.peer (members_of g.W.World.first u)) (lost_in u) (record t { parent = c.up.new.self })) c.self.view_is
+    (step.rises_above g.W.World.first g.W.World.show c.args.at c.args.peer t c.up.new.self c.up.ensures c.requires)

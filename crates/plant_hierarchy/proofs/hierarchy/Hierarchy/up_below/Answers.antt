@@ -8,13 +8,13 @@ use Rattle.plant_hierarchy.proofs.StepLemmas as step
 use Rattle.plant_hierarchy.proofs.hierarchy.Hierarchy.up_below.Goals as goal
 
 pub up-requires : goal.up-requires
-up-requires c = step.has_element (tiers_of c.self.inside) c.args.at c.self.invariant (subst (λ (t : Tiers). is_element t.network c.args.at ≡ true) (sym c.self.view_is) c.requires.there)
+up-requires g c = step.has_element g.W.World.first g.W.World.show (tiers_of c.self.inside.network c.self.inside.clock.0 c.self.inside.elements c.self.inside.parent) c.args.at c.self.invariant (subst (λ (t : Tiers _ _). is_element t.network c.args.at ≡ true) (sym c.self.view_is) c.requires.there)
 
 pub invariant_of-self : goal.invariant_of-self
-invariant_of-self c = set_below c.args.at _ (tiers_of c.self.inside) c.up.new.self c.up.ensures c.self.invariant
+invariant_of-self g c = set_below c.args.at _ (tiers_of c.self.inside.network c.self.inside.clock.0 c.self.inside.elements c.self.inside.parent) c.up.new.self c.up.ensures c.self.invariant
 
 pub returns : goal.returns
-returns c =
-    let t = tiers_of c.self.inside in
-    subst (λ (u : Tiers). Become u (raised c.args.at c.args.peer (members_of u)) (lost_in u) (record t { elements = c.up.new.self })) c.self.view_is
-    (step.rises_below c.args.at c.args.peer t c.up.new.self c.up.ensures c.requires.below)
+returns g c =
+    let t = tiers_of c.self.inside.network c.self.inside.clock.0 c.self.inside.elements c.self.inside.parent in
+    subst (λ (u : Tiers _ _). Become g.W.World.first u (raised c.args.at c.args.peer (members_of g.W.World.first u)) (lost_in u) (record t { elements = c.up.new.self })) c.self.view_is
+    (step.rises_below g.W.World.first g.W.World.show c.args.at c.args.peer t c.up.new.self c.up.ensures c.requires.below)

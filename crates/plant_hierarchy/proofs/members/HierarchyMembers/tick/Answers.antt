@@ -6,13 +6,13 @@ use Rattle.plant_hierarchy.proofs.TickLemmas.{are_before, goes_ticked, set_ticke
 use Rattle.plant_hierarchy.proofs.members.HierarchyMembers.tick.Goals as goal
 
 pub tick-requires : goal.tick-requires
-tick-requires c = are_before c.args.now.0 (tiers_of c.self.inside) c.self.invariant (subst (λ (t : Tiers). KeysBefore c.args.now.0 t.network (members_of t)) (sym c.self.view_is) c.requires)
+tick-requires g c = are_before g.W.World.first c.args.now.0 (tiers_of c.self.inside.network c.self.inside.clock.0 c.self.inside.elements c.self.inside.parent) c.self.invariant (subst (λ (t : Tiers _ _). KeysBefore c.args.now.0 t.network (members_of g.W.World.first t)) (sym c.self.view_is) c.requires)
 
 pub invariant_of-self : goal.invariant_of-self
-invariant_of-self c = set_ticked c.args.now.0 (tiers_of c.self.inside) c.tick.new.self c.tick.ensures c.self.invariant
+invariant_of-self g c = set_ticked g.W.World.first c.args.now.0 (tiers_of c.self.inside.network c.self.inside.clock.0 c.self.inside.elements c.self.inside.parent) c.tick.new.self c.tick.ensures c.self.invariant
 
 pub returns-clause-seen : goal.returns-clause-seen
-returns-clause-seen c = (goes_ticked c.args.now.0 (tiers_of c.self.inside) c.tick.new.self c.tick.ensures).seen ∙ ap (λ (t : Tiers). expired c.args.now.0 (members_of t)) c.self.view_is
+returns-clause-seen g c = (goes_ticked g.W.World.first c.args.now.0 (tiers_of c.self.inside.network c.self.inside.clock.0 c.self.inside.elements c.self.inside.parent) c.tick.new.self c.tick.ensures).seen ∙ ap (λ (t : Tiers _ _). expired c.args.now.0 (members_of g.W.World.first t)) c.self.view_is
 
 pub returns-clause-lost : goal.returns-clause-lost
-returns-clause-lost c = (goes_ticked c.args.now.0 (tiers_of c.self.inside) c.tick.new.self c.tick.ensures).lost_is ∙ ap lost_in c.self.view_is
+returns-clause-lost g c = (goes_ticked g.W.World.first c.args.now.0 (tiers_of c.self.inside.network c.self.inside.clock.0 c.self.inside.elements c.self.inside.parent) c.tick.new.self c.tick.ensures).lost_is ∙ ap lost_in c.self.view_is

@@ -8,7 +8,7 @@ use Rattle.dom_base.specs.declared.names.As.{As}
 use Rattle.te_links.specs.declared.rows.Entry.{Entry}
 use Rattle.te_links.specs.Faults.{rows_of_parts}
 use Rattle.te_links.specs.Survey.{TellsRepeats, IsFewUpTo}
-use Rattle.te_links.proofs.Compared.{addr_told, entry_told}
+use Rattle.te_links.proofs.Compared.{entry_told}
 use Rattle.te_links.proofs.Surveyed.{tells, domains_told, keys_of_all, in_order}
 use Rattle.te_links.proofs.survey.Survey.of.Goals as goal
 
@@ -23,27 +23,18 @@ returns c =
       nodes = subst (λ (xs : List Addr). IsPermutation xs c.sort.new.self.items) nodes c.in_ok-sort.ensures.permutation;
       rising = in_order (λ (a : Addr). rank a) c.sort.new.self.items (IsNonDecreasingBy-from_sort (λ (a : Addr). rank a) c.sort.new.self.items c.in_ok-sort.ensures.sorted);
       same_node = subst (λ (xs : List Addr). TellsRepeats xs c.in_ok-same_node.same_node.items) (c.deref.ensures.value ∙ nodes)
-          (tells _ c.deref.result.now c.in_ok-same_node.same_node.items c.in_ok-same_node.ensures addr_told);
-      same_near = subst (λ (xs : List Addr). TellsRepeats xs c.in_ok-counts_before.field-0.items) (nears ∙ sym (keys_of_all g (λ l. l.near)))
-          (tells _ c.deref-2.result.now c.in_ok-counts_before.field-0.items c.in_ok-counts_before.ensures addr_told);
-      same_far = subst (λ (xs : List Addr). TellsRepeats xs c.in_ok-counts_before-2.field-0.items) (fars ∙ sym (keys_of_all g (λ l. l.far)))
-          (tells _ c.deref-3.result.now c.in_ok-counts_before-2.field-0.items c.in_ok-counts_before-2.ensures addr_told);
-      same_entry = subst (λ (xs : List Entry). TellsRepeats xs c.in_ok-counts_before-3.field-0.items) c.as_slice-2.ensures
-          (tells _ c.as_slice-2.result.now c.in_ok-counts_before-3.field-0.items c.in_ok-counts_before-3.ensures entry_told);
-      domains = c.in_ok-counts_before-4.ensures.each ∙ ap (length {A = As}) domains ∙ length-map g.entries (λ (e : Entry). e.from_as);
-      same_domain = domains_told _ g.entries c.in_ok-counts_before-4.field-0.items (rw domains at c.in_ok-counts_before-4.ensures) (λ a b. search rules);
+          c.in_ok-same_node.ensures;
+      same_near = subst (λ (xs : List Addr). TellsRepeats xs c.in_ok-repeats_of.field-0.items) (nears ∙ sym (keys_of_all g (λ l. l.near)))
+          c.in_ok-repeats_of.ensures;
+      same_far = subst (λ (xs : List Addr). TellsRepeats xs c.in_ok-repeats_of-2.field-0.items) (fars ∙ sym (keys_of_all g (λ l. l.far)))
+          c.in_ok-repeats_of-2.ensures;
+      same_entry = subst (λ (xs : List Entry). TellsRepeats xs c.in_ok-counts_before.field-0.items) c.as_slice-2.ensures
+          (tells _ c.as_slice-2.result.now c.in_ok-counts_before.field-0.items c.in_ok-counts_before.ensures entry_told);
+      domains = c.in_ok-counts_before-2.ensures.each ∙ ap (length {A = As}) domains ∙ length-map g.entries (λ (e : Entry). e.from_as);
+      same_domain = domains_told _ g.entries c.in_ok-counts_before-2.field-0.items (rw domains at c.in_ok-counts_before-2.ensures) (λ a b. search rules);
       tails = subst (λ (xs : List Addr). IsFewUpTo 16 xs c.in_ok-few_up_to.field-0) (c.deref-5.ensures.value ∙ c.in_ok-tails.ensures) c.in_ok-few_up_to.ensures;
       entry_nodes = subst (λ (xs : List Addr). IsFewUpTo 64 xs c.in_ok-few_up_to-2.field-0) (c.deref-6.ensures.value ∙ c.in_ok-entry_nodes.ensures) c.in_ok-few_up_to-2.ensures;
     }
 
 pub counts_before-requires : goal.counts_before-requires
-counts_before-requires c = addr_told
-
-pub counts_before-requires-2 : goal.counts_before-requires-2
-counts_before-requires-2 c = addr_told
-
-pub counts_before-requires-3 : goal.counts_before-requires-3
-counts_before-requires-3 c = addr_told
-
-pub counts_before-requires-4 : goal.counts_before-requires-4
-counts_before-requires-4 c = entry_told
+counts_before-requires c = entry_told

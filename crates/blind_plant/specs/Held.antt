@@ -1,0 +1,32 @@
+-- What a network without topologies holds: its members, and what is on its way between them.
+use Rattle.plant_model.specs.declared.event.BlindEvent.{BlindEvent}
+use Rattle.plant_model.specs.Blind.{BlindSteps, Nothing}
+use Rattle.plant_model.specs.Events.{Answered}
+use Rattle.plant_model.specs.RealWire.{wire}
+use Rattle.plant_traffic.specs.Carried.{Carried, flow_of}
+use Rattle.plant_deeds.specs.Standing.{Here, here}
+use Rattle.plant_hierarchy.specs.Blind.{nothing_first}
+use Rattle.plant_hierarchy.specs.Tiers.{Tiers, lost_in, members_of}
+use Rattle.plant_network.specs.Moving as network
+use Rattle.blind_plant.specs.Whole.{Whole}
+
+pub record Held : Type 0 where
+  pub members : Tiers Nothing Nothing
+  pub carried : Carried
+
+abbrev pub held : Tiers Nothing Nothing → Carried → Held
+held t c = record { members = t; carried = c }
+
+abbrev pub standing : Held → Here Nothing Nothing
+standing h = here h.members.network (members_of nothing_first h.members) (lost_in h.members) (flow_of h.carried)
+
+abbrev pub whole : Held → Whole
+whole h = network.whole (standing h)
+
+-- between two events
+abbrev pub IsSound : Held → Type 0
+IsSound h = network.IsSound (standing h)
+
+-- an event is done, and what it needs to be sound again is kept
+abbrev pub Moves : Held → BlindEvent → Answered → Held → Type 0
+Moves old e answer new = network.Moves (λ n s h. BlindSteps wire n s e h) (standing old) answer (standing new)

@@ -1,0 +1,5 @@
+-- for readers
+pub mod Whole
+pub mod Held
+-- inner
+pub mod PlantFields

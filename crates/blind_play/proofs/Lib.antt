@@ -1,0 +1,5 @@
+pub mod MuteLemmas
+pub mod HeardLemmas
+pub mod TurnLemmas
+pub mod LineLemmas
+pub mod SayingLemmas

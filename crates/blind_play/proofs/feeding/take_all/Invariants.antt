@@ -1,0 +1,13 @@
+use Rattle.std.proofs.Common.{◌≡◌, [], false, suc, cond, length}
+use Rattle.blind_plant.specs.Held.{whole}
+use Rattle.plant_due.specs.Due.{inbox_of}
+use Rattle.blind_play.specs.Due.{IsDueTake}
+use Rattle.blind_play.specs.Making.{DoesSome}
+use Rattle.blind_play.proofs.feeding.take_all.Given as goal
+
+abbrev pub invariant-loop-taken : goal.invariant-loop-taken
+invariant-loop-taken l =
+    DoesSome l.line (IsDueTake l.peer) (whole l.initial.plant) (whole l.plant) l.initial.into.items l.into.items × (l.taken ≡ false → inbox_of l.peer (whole l.plant).state ≡ [])
+
+abbrev pub decreases-loop-taken : goal.decreases-loop-taken
+decreases-loop-taken l = cond l.taken (suc (length (inbox_of l.peer (whole l.plant).state))) 0

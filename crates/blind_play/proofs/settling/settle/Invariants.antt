@@ -1,0 +1,7 @@
+use Rattle.blind_plant.specs.Held.{whole}
+use Rattle.blind_play.specs.Due.{IsDueCarry}
+use Rattle.blind_play.specs.Making.{DoesSome}
+use Rattle.blind_play.proofs.settling.settle.Given as goal
+
+abbrev pub invariant-loop : goal.invariant-loop
+invariant-loop l = DoesSome l.line IsDueCarry (whole l.initial.plant) (whole l.plant) l.initial.into.items l.into.items

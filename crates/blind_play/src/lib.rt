@@ -1,0 +1,19 @@
+//! The lines of a script, played one at a time on a network without topologies; what closed peers hear is told.
+#![tactic(auto)]
+
+ghost use Rattle.blind_play.specs.Laws.{LinesSaySo};
+
+mod events;
+mod feeding;
+mod lines;
+mod player;
+mod settling;
+mod telling;
+
+pub use player::BlindPlayer;
+
+/// What is told of lines that are played on a new network is what a network without topologies says on their trace, each
+/// thing once and in order.
+pub fn lines_say_so()
+    ensures { LinesSaySo }
+{}

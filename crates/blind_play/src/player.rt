@@ -1,0 +1,74 @@
+//! Who plays the lines of a script on a network without topologies.
+ghost use Rattle.std.specs.Prelude.{◌≡◌, ◌++◌, IfOk, OnErr, OnOk};
+ghost use Rattle.text_ranges.specs.Given.{IsBlindLine};
+ghost use Rattle.blind_play.specs.Playing.{IsNewStage, Played, cue, stage_of};
+
+use crate::lines::play_line;
+use blind_plant::BlindPlant;
+use dom_base::NoMemory;
+use plant_text::{LineEvent, Network, NetworkParts};
+use std::alloc::Global;
+use std::marker::Model;
+
+/// A network without topologies, whose events come as the lines of a script.
+#[derive(Drop)]
+pub struct BlindPlayer {
+    alloc: Global,
+    plant: BlindPlant,
+}
+
+impl Model for BlindPlayer {
+    ghost use Rattle.blind_plant.specs.Held.{Held};
+
+    ghost Value = { Held };
+
+    ghost view = { λ a. a.plant };
+}
+
+// Puts a text behind another; after a refusal nothing is put.
+fn append(into: &mut Vec<u8>, text: &[u8]) -> Result<(), NoMemory>
+    ensures ok { OnOk result (into.new.items ≡ into.old.items ++ text.now) }
+    ensures err { OnErr result (into.new.items ≡ into.old.items) }
+{
+    into.extend_from_slice(text)?;
+    Ok(())
+}
+
+impl BlindPlayer {
+    /// A new network of these settings.
+    pub fn new(alloc: Global, network: Network) -> Result<BlindPlayer, NoMemory>
+        ensures { IfOk result (λ player. IsNewStage network (stage_of player)) }
+    {
+        Ok(BlindPlayer {
+            alloc,
+            plant: BlindPlant::new(alloc, network)?,
+        })
+    }
+
+    /// The settings.
+    pub fn parts(&self) -> &NetworkParts
+        ensures { result.now ≡ (stage_of self.now).network }
+    {
+        self.plant.parts()
+    }
+
+    /// The settings as the value that they came in.
+    pub fn network(&self) -> &Network
+        ensures { result.now ≡ (stage_of self.now).network }
+    {
+        self.plant.network()
+    }
+
+    /// Plays a line of this number, and puts what closed peers hear of it at the end of `into`: messages to them, and what
+    /// they drain. After an error nothing is put there, and what the line did up to there stays done.
+    pub fn play(&mut self, line: u32, event: LineEvent, into: &mut Vec<u8>) -> Result<(), NoMemory>
+        requires { IsBlindLine event }
+        ensures plays { OnOk result (Played (cue line event) (stage_of self.old) (stage_of self.new) into.old.items into.new.items) }
+        ensures untold { OnErr result (into.new.items ≡ into.old.items) }
+    {
+        let mut text = Vec::new(self.alloc);
+        play_line(self.alloc, &mut self.plant, line, event, &mut text)?;
+        append(into, &text)?;
+        Ok(())
+    }
+}

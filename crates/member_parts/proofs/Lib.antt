@@ -1,0 +1,4 @@
+pub mod HeldRows
+pub mod HeldPlaces
+pub mod Scans
+pub mod WayLemmas

@@ -1,0 +1,5 @@
+-- for readers
+pub mod Messages
+pub mod Ways
+-- inner
+pub mod Branches

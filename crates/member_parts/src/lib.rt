@@ -1,0 +1,21 @@
+//! What the element of a domain and the parent above it have in common: ways to other members, the messages
+//! that both write, what errors and notices of a peer say, and the branches of replies.
+#![tactic(auto)]
+
+mod branches;
+mod messages;
+mod numbers;
+mod objects;
+mod peers;
+mod reported;
+mod ways;
+
+pub use branches::branch_of;
+pub use messages::{
+    busy, error_message, no_key, no_path, one, reply_message, request_message, unavailable,
+};
+pub use numbers::{after_id, has_number};
+pub use objects::{code, ends, needed, sequence_object};
+pub use peers::is_same_peer;
+pub use reported::{error_answer, has_pair};
+pub use ways::{Way, Ways};

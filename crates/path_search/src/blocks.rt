@@ -1,0 +1,99 @@
+//! Costs in blocks, each with its least.
+ghost use Rattle.std.specs.Prelude.{◌≡◌, ◌≢◌, ◌<◌, ◌≤◌, ◌^◌, ◌*◌, ℕ, length, map, slice_set, MatchOption};
+ghost use Rattle.path_search.specs.Front.{HoldsLeast};
+ghost use Rattle.path_search.specs.Blocks.{AreBlocks, IsBlock, IsLeastOf, num_at, shown_cost};
+
+use dom_base::Cost;
+
+/// Stands where there is no cost: greater than each.
+pub(crate) const NOTHING: u32 = u32::MAX;
+
+/// So many costs are a block.
+pub(crate) const BLOCK: usize = 32;
+
+// The least of numbers.
+fn least_of(numbers: &[u32]) -> u32
+    ensures { IsLeastOf numbers.now result }
+{
+    let mut least = NOTHING;
+    for number in numbers {
+        if *number < least {
+            least = *number;
+        }
+    }
+    least
+}
+
+// The place of a number.
+fn place_of(numbers: &[u32], number: u32) -> Option<usize>
+    ensures { MatchOption result
+        ((i : ℕ) → i < length numbers.now → num_at numbers.now i ≢ number)
+        (λ i. (i < length numbers.now) × (num_at numbers.now i ≡ number)) }
+{
+    for (i, other) in numbers.iter().enumerate() {
+        if *other == number {
+            return Some(i);
+        }
+    }
+    None
+}
+
+// The costs of a block.
+fn block_of(costs: &[u32], block: usize) -> &[u32]
+    requires start { block * 32 ≤ length costs.now }
+    requires short { length costs.now < 2 ^ 31 }
+    ensures { IsBlock costs.now (block * 32) result.now }
+{
+    let start = block * BLOCK;
+    let end = (start + BLOCK).min(costs.len());
+    &costs[start..end]
+}
+
+// The number that stands for a cost.
+fn number_of(cost: &Option<Cost>) -> u32
+    ensures { shown_cost result ≡ cost.now }
+{
+    match cost {
+        Some(cost) => cost.get(),
+        None => NOTHING,
+    }
+}
+
+/// Puts a cost at a place.
+pub(crate) fn set_cost(costs: &mut [u32], least: &mut [u32], place: usize, cost: &Option<Cost>)
+    requires blocks { AreBlocks costs.old least.old }
+    requires short { length costs.old < 2 ^ 31 }
+    requires place { place < length costs.old }
+    ensures blocks { AreBlocks costs.new least.new }
+    ensures costs { map shown_cost costs.new ≡ slice_set (map shown_cost costs.old) place cost.now }
+    ensures long { length costs.new ≡ length costs.old }
+{
+    let block = place / BLOCK;
+    let number = number_of(cost);
+    let was = costs[place];
+    costs[place] = number;
+    if number < least[block] {
+        least[block] = number;
+    } else if was == least[block] {
+        least[block] = least_of(block_of(costs, block));
+    }
+}
+
+/// The place of a least cost.
+pub(crate) fn least_place(costs: &[u32], least: &[u32]) -> Option<u32>
+    requires blocks { AreBlocks costs.now least.now }
+    requires short { length costs.now < 2 ^ 31 }
+    ensures { HoldsLeast (map shown_cost costs.now) result }
+{
+    let lowest = least_of(least);
+    if lowest == NOTHING {
+        return None;
+    }
+    let Some(block) = place_of(least, lowest) else {
+        unreachable!()
+    };
+    let Some(place) = place_of(block_of(costs, block), lowest) else {
+        unreachable!()
+    };
+    Some((block * BLOCK + place) as u32)
+}

@@ -1,0 +1,10 @@
+use Rattle.std.proofs.Common.{◌≡◌, ◌++◌, length, map}
+use Rattle.plant_model.specs.Branches.{path_of}
+use Rattle.plant_model.specs.RealWire.{wire}
+use Rattle.pce_element.proofs.answering.each_path.Given as goal
+
+abbrev pub invariant-loop-branch : goal.invariant-loop-branch
+invariant-loop-branch l = l.paths ++ map (λ b. path_of wire l.metric b.cost b.hops) l.left.items ≡ map (λ b. path_of wire l.metric b.cost b.hops) l.fn.branches
+
+abbrev pub decreases-loop-branch : goal.decreases-loop-branch
+decreases-loop-branch l = length l.left.items

@@ -1,0 +1,7 @@
+use Rattle.std.proofs.Common.{take}
+use Rattle.plant_model.specs.Branches.{downs}
+use Rattle.plant_model.specs.Jobs.{IsJoinOf}
+use Rattle.pce_element.proofs.joining.join_rows.Given as goal
+
+abbrev pub invariant-loop-row : goal.invariant-loop-row
+invariant-loop-row l = IsJoinOf l.cap l.target (take l.row-index l.rows) (downs l.down) l.best.items

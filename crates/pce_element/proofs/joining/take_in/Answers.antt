@@ -1,0 +1,19 @@
+use Rattle.std.proofs.Common.{List, [], ◌∷◌, ◌++◌, ◌∙◌, ap, sym}
+use Rattle.te_links.proofs.Different.{Decides-rank}
+use Rattle.vspt_tree.specs.declared.branch.Best.{Best}
+use Rattle.pce_element.proofs.JoinLemmas.{behind_other, first_way, with_last}
+use Rattle.pce_element.proofs.joining.take_in.Goals as goal
+
+pub returns-in_default : goal.returns-in_default
+returns-in_default c =
+    first_way c.args.best.now.items c.args.way _ c.in_default.ensures.cases.0 (c.in_ok-push.ensures.items ∙ ap (λ (bs : List Best). bs ++ c.args.way ∷ []) c.in_default.ensures.cases.1)
+
+pub returns-then-eq : goal.returns-then-eq
+returns-then-eq c =
+    with_last c.args.best.now.items c.pop.new.self.items c.in-Some.last c.args.way c.cheaper.result _ c.in-Some.ensures.items ((Decides-rank c.in-Some.last.entry c.args.way.entry).0 (sym c.if-eq.ensures)) c.cheaper.ensures c.in_ok-push-2.ensures.items
+
+pub returns : goal.returns
+returns c =
+    let same = Decides-rank c.in-Some.last.entry c.args.way.entry in
+    behind_other c.args.best.now.items c.pop.new.self.items c.in-Some.last c.args.way _ c.in-Some.ensures.items (λ is. let yes = same.1 is in let no_ = c.if-eq.ensures in cc)
+    (c.in_ok-push-4.ensures.items ∙ ap (λ (bs : List Best). bs ++ c.args.way ∷ []) c.in_ok-push-3.ensures.items)

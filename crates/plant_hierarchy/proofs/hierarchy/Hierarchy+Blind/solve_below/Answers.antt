@@ -1,0 +1,36 @@
+use Rattle.std.proofs.Common.{◌≡◌, ◌≤◌, true, Option, Some, None, List, is_some, sym, ap, subst}
+use Rattle.std.specs.Prelude.{IfSome}
+use Rattle.plant_text.specs.Settings.{is_element}
+use Rattle.plant_model.specs.Blind.{Nothing, show_nothing}
+use Rattle.plant_members.specs.Membership.{KeysBefore}
+use Rattle.pce_element.specs.Seen.{Seen}
+use Rattle.plant_hierarchy.specs.Becoming.{unchanged}
+use Rattle.plant_hierarchy.specs.Blind.{nothing_first, told_below}
+use Rattle.plant_hierarchy.specs.Elements.{at_domain, element_or}
+use Rattle.plant_hierarchy.specs.Tiers.{Tiers, members_of}
+use Rattle.plant_hierarchy.specs.TierFields.{tiers_of}
+use Rattle.plant_hierarchy.proofs.BlindLemmas.{clock_there, solves_as, solves_below}
+use Rattle.plant_hierarchy.proofs.StepLemmas as step
+use Rattle.plant_hierarchy.proofs.TierLemmas.{set_below}
+use Rattle.plant_hierarchy.proofs.hierarchy.Hierarchy+Blind.solve_below.Goals as goal
+
+pub solve-requires-clause-there : goal.solve-requires-clause-there
+solve-requires-clause-there c =
+    step.has_element nothing_first show_nothing (tiers_of c.self.inside.network c.self.inside.clock.0 c.self.inside.elements c.self.inside.parent) c.args.at c.self.invariant
+    (subst (λ (t : Tiers Nothing Nothing). is_element t.network c.args.at ≡ true) (sym c.self.view_is) c.requires.there)
+
+pub solve-requires-clause-clock : goal.solve-requires-clause-clock
+solve-requires-clause-clock c =
+    clock_there c.args.at c.args.now.0 (tiers_of c.self.inside.network c.self.inside.clock.0 c.self.inside.elements c.self.inside.parent)
+    (subst (λ (t : Tiers Nothing Nothing). is_element t.network c.args.at ≡ true) (sym c.self.view_is) c.requires.there)
+    (subst (λ (t : Tiers Nothing Nothing). KeysBefore c.args.now.0 t.network (members_of nothing_first t)) (sym c.self.view_is) c.requires.clock)
+
+pub invariant_of-self : goal.invariant_of-self
+invariant_of-self c = set_below c.args.at unchanged (tiers_of c.self.inside.network c.self.inside.clock.0 c.self.inside.elements c.self.inside.parent) c.solve.new.self c.solve.ensures.same c.self.invariant
+
+pub returns : goal.returns
+returns c =
+    let t = tiers_of c.self.inside.network c.self.inside.clock.0 c.self.inside.elements c.self.inside.parent in
+    solves_as t c.args.self.now c.self.view_is c.args.at c.args.number c.args.rows.now c.args.now.0 (told_below c.args.at c.solve.result) c.told_below.result _ (sym c.told_below.ensures)
+    (solves_below c.args.at c.args.number c.args.rows.now c.args.now.0 t c.solve.new.self c.self.invariant c.requires.below (subst (λ (u : Tiers Nothing Nothing). is_element u.network c.args.at ≡ true) (sym c.self.view_is) c.requires.there)
+    c.solve.ensures.same c.solve.result c.solve.ensures.from c.solve.ensures.taken)

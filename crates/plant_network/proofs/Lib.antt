@@ -1,0 +1,4 @@
+pub mod StepLemmas
+pub mod SoundLemmas
+pub mod BeginLemmas
+pub mod AnswerLemmas

@@ -1,0 +1,14 @@
+use Rattle.plant_model.specs.Events as events
+use Rattle.plant_model.specs.RealWire.{wire}
+use Rattle.plant_traffic.specs.Carried.{flow_of}
+use Rattle.plant_deeds.specs.Standing.{here}
+use Rattle.plant_network.proofs.StepLemmas.{either_moves}
+use Rattle.plant_network.proofs.events.carry.Goals as goal
+
+pub returns : goal.returns
+returns g c =
+    let m = g.M.Members in
+    let old = here (m.network c.args.members.now) (m.seen c.args.members.now) (m.lost c.args.members.now) (flow_of c.args.traffic.now) in
+    let new = here (m.network c.carry.new.members) (m.seen c.carry.new.members) (m.lost c.carry.new.members) (flow_of c.carry.new.traffic) in
+    let after = c.carry.ensures in
+    either_moves m.show (λ n s. events.carry m.Pin m.Key wire n m.show c.args.from c.args.to s) old new c.carry.result after.network after.of after.none after.roomy after.done after.refused

@@ -1,0 +1,15 @@
+use Rattle.std.proofs.Common.{false}
+use Rattle.plant_model.specs.Events as events
+use Rattle.plant_model.specs.RealWire.{wire}
+use Rattle.plant_traffic.specs.Carried.{flow_of}
+use Rattle.plant_deeds.specs.Standing.{here}
+use Rattle.plant_network.proofs.StepLemmas.{done_moves}
+use Rattle.plant_network.proofs.events.shut.Goals as goal
+
+pub returns : goal.returns
+returns g c =
+    let m = g.M.Members in
+    let old = here (m.network c.args.members.now) (m.seen c.args.members.now) (m.lost c.args.members.now) (flow_of c.args.traffic.now) in
+    let new = here (m.network c.shut.new.members) (m.seen c.shut.new.members) (m.lost c.shut.new.members) (flow_of c.shut.new.traffic) in
+    let after = c.shut.ensures in
+    done_moves m.show (λ n s. events.shut m.Pin m.Key wire n m.show c.args.peer s) old new c.shut.result after.network after.of after.none after.roomy false after.done after.refused

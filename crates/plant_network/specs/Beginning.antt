@@ -1,0 +1,21 @@
+-- A network that has just been made.
+use Rattle.std.specs.Prelude.{◌≡◌, List, []}
+use Rattle.pcep_subobjects.specs.declared.hop.Hop.{Hop}
+use Rattle.plant_text.specs.declared.settings.NetworkParts.{NetworkParts}
+use Rattle.plant_model.specs.Events.{bare, opening}
+use Rattle.plant_model.specs.RealWire.{wire}
+use Rattle.plant_members.specs.Membership.{Membership}
+use Rattle.plant_deeds.specs.Standing.{Here}
+use Rattle.plant_network.specs.Moving.{IsSound, whole}
+
+module _ {P : Type 0} {S : Type 0} where
+  -- the members are those of the model's beginning, whatever they pin
+  pub record AreBare (n : NetworkParts) (show : S → List Hop) (ms : Membership P S) : Type 0 where
+    pub elements : ms.elements ≡ (bare P S wire n show ms.current).elements
+    pub parent : ms.parent ≡ (bare P S wire n show ms.current).parent
+
+  -- it is the model's opening state, in which nothing was said
+  pub record Begins (show : S → List Hop) (h : Here P S) : Type 0 where
+    pub state : (whole h).state ≡ (opening P S wire h.network show h.seen.current).state
+    pub said : h.flow.said ≡ []
+    pub sound : IsSound h

@@ -1,0 +1,4 @@
+-- for readers
+pub mod Whole
+pub mod Moving
+pub mod Beginning

@@ -1,0 +1,38 @@
+//! A network begins.
+ghost use Rattle.std.specs.Prelude.{◌≡◌, [], length, IfOk, OnOk};
+ghost use Rattle.dom_base.specs.declared.names.As.{As as Domain};
+ghost use Rattle.plant_text.specs.Networks.{IsNetwork};
+ghost use Rattle.plant_text.specs.Settings.{lines};
+ghost use Rattle.plant_traffic.specs.Carried.{flow_of};
+ghost use Rattle.plant_traffic.specs.Flow.{IsBare};
+ghost use Rattle.plant_deeds.specs.Standing.{here};
+ghost use Rattle.plant_network.specs.Beginning.{AreBare, Begins};
+
+use dom_base::NoMemory;
+use plant_deeds::begin_links;
+use plant_layout::lines_of;
+use plant_members::Members;
+use plant_text::NetworkParts;
+use plant_traffic::Traffic;
+use std::alloc::Global;
+
+/// The outside peers and the links of these settings, on which nothing has begun.
+pub fn traffic_of(alloc: Global, parts: &NetworkParts) -> Result<Traffic, NoMemory>
+    requires rules { IsNetwork parts.now }
+    ensures bare { IfOk result (λ traffic. IsBare (lines parts.now) (length parts.now.peers) (flow_of traffic)) }
+{
+    let lines = lines_of(alloc, parts)?;
+    Traffic::new(alloc, lines.as_slice(), parts.peers.len())
+}
+
+/// The inner links begin between members that have just been made: an Open is in each of their queues (RFC 5440,
+/// section 4.2.1).
+pub fn begin<M: Members>(members: &M, traffic: &mut Traffic) -> Result<(), NoMemory>
+    requires rules { IsNetwork (M.network members.now) }
+    requires bare { IsBare (lines (M.network members.now)) (length (M.network members.now).peers) (flow_of traffic.old) }
+    requires new { AreBare (M.network members.now) M.show (M.seen members.now) }
+    requires none { (d : Domain) → M.lost members.now d ≡ [] }
+    ensures { OnOk result (Begins M.show (here (M.network members.now) (M.seen members.now) (M.lost members.now) (flow_of traffic.new))) }
+{
+    begin_links(members, traffic)
+}
