@@ -15,7 +15,7 @@ use Rattle.border_costs.specs.declared.job.Down.{Down}
 use Rattle.border_costs.specs.declared.job.Target.{Target}
 use Rattle.border_costs.specs.declared.job.Target.TheVariants.{Node, Next}
 use Rattle.border_costs.specs.declared.job.Ask.{Ask}
-use Rattle.border_costs.specs.declared.rows.Rows.{Rows as Answer}
+use Rattle.border_costs.specs.declared.answer.Answer.{Answer}
 use Rattle.border_costs.specs.Asks.{beyond, IsPair}
 use Rattle.border_costs.specs.Solutions.{AreRows}
 use Rattle.border_costs.specs.Tables.{IsBorderTable}

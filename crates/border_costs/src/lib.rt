@@ -2,21 +2,21 @@
 //! the next domain told (RFC 5441).
 #![tactic(auto)]
 
+mod answer;
 mod best;
 mod job;
 mod labelled;
 mod law;
-mod rows;
 mod seeds;
 mod solution;
 mod solved;
 mod table;
 mod ways;
 
+pub use answer::Answer;
 pub use best::head_of;
 pub use job::{Ask, Down, Job, Target};
 pub use law::{rows_compose, table_tells_pairs};
-pub use rows::Rows;
 pub use seeds::{seed_of_target, seeds_of};
 pub use solution::{is_node, knows_target, solve_rows};
 pub use solved::{Solved, solve};

@@ -2,10 +2,10 @@
 ghost use Rattle.std.specs.Prelude.{◌≡◌, ◌↔◌, Contains, IfOk, IsTrue};
 ghost use Rattle.border_costs.specs.Solutions.{AreRows, IsKnownTarget};
 
+use crate::answer::Answer;
 use crate::best::best_rows;
 use crate::job::{Ask, Target};
 use crate::labelled::certificate_of;
-use crate::rows::Rows;
 use crate::seeds::seeds_of;
 use dom_base::{Addr, List, NoMemory};
 use path_search::search;
@@ -35,7 +35,7 @@ pub fn solve_rows<'a, G: Links<'a>>(
     alloc: Global,
     ask: &Ask,
     links: &mut G,
-) -> Result<Rows, NoMemory>
+) -> Result<Answer, NoMemory>
     ensures rows { IfOk result (AreRows (G.rows links.old) ask.now) }
     ensures same { G.rows links.new ≡ G.rows links.old }
 {
@@ -43,7 +43,7 @@ pub fn solve_rows<'a, G: Links<'a>>(
     let labels = search(alloc, links, &ask.query, &seeds)?;
     let best = best_rows(alloc, ask, links, &seeds, &labels)?;
     let certificate = certificate_of(alloc, ask, links, &seeds, &labels)?;
-    Ok(Rows {
+    Ok(Answer {
         best: List::from_vec(best),
         source_known: is_node(links, ask.source),
         target_known: knows_target(links, ask.target),

@@ -4,8 +4,8 @@ ghost use Rattle.std.specs.Arc.{arc_value};
 ghost use Rattle.te_links.specs.Rows.{IsTopology, IsInOrder};
 ghost use Rattle.border_costs.specs.Solutions.{AreRows};
 
+use crate::answer::Answer;
 use crate::job::{Ask, Job};
-use crate::rows::Rows;
 use crate::solution::solve_rows;
 use dom_base::{As, NoMemory};
 use path_certificate::Certificate;
@@ -23,7 +23,7 @@ pub struct Solved {
     at: As,
     number: u64,
     own: As,
-    rows: Rows,
+    rows: Answer,
 }
 
 impl Model for Solved {
@@ -40,7 +40,7 @@ impl Model for Solved {
 
 impl Solved {
     /// The rows of a job as its solution. It takes no memory, so it never answers want of it.
-    pub fn of(job: &Job, rows: Rows) -> Result<Solved, NoMemory>
+    pub fn of(job: &Job, rows: Answer) -> Result<Solved, NoMemory>
         requires rows { AreRows (arc_value job.now.topology) job.now.ask rows }
         ensures solved { IsOkAnd result (λ solved. solved ≡ record { ask = job.now.ask; topology = arc_value job.now.topology; rows = rows }) }
     {

@@ -8,7 +8,7 @@ ghost use Rattle.cost_cache.specs.Keys.{key_of};
 use crate::best::best_rows;
 use crate::kept::Kept;
 use crate::nexts::nexts_of;
-use border_costs::{Ask, Rows, is_node, knows_target, seeds_of};
+use border_costs::{Answer, Ask, is_node, knows_target, seeds_of};
 use dom_base::{List, NoMemory};
 use path_certificate::Certificate;
 use path_search::{label_rows, search};
@@ -46,14 +46,14 @@ pub(crate) fn answer<'a, G: Links<'a>>(
     ask: &Ask,
     links: &G,
     kept: &Kept,
-) -> Result<Rows, NoMemory>
+) -> Result<Answer, NoMemory>
     requires { IsKept (G.rows links.now) (key_of ask.now) kept.now }
     ensures { IfOk result (AreRows (G.rows links.now) ask.now) }
 {
     obeys_rules(links);
     let best = best_rows(alloc, ask, links, kept)?;
     let labels = label_rows(alloc, links, &kept.labels)?;
-    Ok(Rows {
+    Ok(Answer {
         best: List::from_vec(best),
         source_known: is_node(links, ask.source),
         target_known: knows_target(links, ask.target),

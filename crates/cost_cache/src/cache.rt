@@ -8,7 +8,7 @@ ghost use Rattle.cost_cache.specs.Entries.{Has, IsGood, IsGoodEverywhere, KeepsO
 use crate::answer::{answer, keep};
 use crate::kept::Kept;
 use crate::key::Key;
-use border_costs::{Ask, Rows};
+use border_costs::{Answer, Ask};
 use dom_base::NoMemory;
 use lru::LruCache;
 use std::alloc::Global;
@@ -52,7 +52,7 @@ impl Cache {
     /// The rows of an ask over the topology of `links`, as `solve_rows` gives them. Where the cache
     /// has the key of the ask it reads no link; the entries and the source may be others than those
     /// of the ask under which the key was solved.
-    pub fn solve<'a, G: Links<'a>>(&mut self, ask: &Ask, links: &mut G) -> Result<Rows, NoMemory>
+    pub fn solve<'a, G: Links<'a>>(&mut self, ask: &Ask, links: &mut G) -> Result<Answer, NoMemory>
         requires good { IsGood ask.now.at ask.now.generation (G.rows links.old) self.old }
         ensures rows { IfOk result (AreRows (G.rows links.old) ask.now) }
         ensures same { G.rows links.new ≡ G.rows links.old }

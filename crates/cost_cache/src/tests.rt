@@ -7,7 +7,7 @@ ghost use Rattle.cost_cache.specs.Entries.{IsGoodForAll};
 
 use crate::Cache;
 use asks::{ASKS, AskRow, CROSSING, TARGET_DOMAIN, TRANSIT};
-use border_costs::{Ask, Down, Job, Rows, Solved, Target, solve_rows};
+use border_costs::{Answer, Ask, Down, Job, Solved, Target, solve_rows};
 use dom_base::{Addr, As, Cost, List, Metric, NoMemory, Query, write_addr, write_number};
 use line_text::line_count;
 use std::alloc::Global;
@@ -59,7 +59,7 @@ fn ask_of(alloc: Global, row: AskRow) -> Result<Ask, Fail> {
 }
 
 // The rows of an ask, and how often a link was read for them.
-fn solve(cache: &mut Cache, ask: &Ask, topology: &Topology) -> Result<(Rows, u64), NoMemory>
+fn solve(cache: &mut Cache, ask: &Ask, topology: &Topology) -> Result<(Answer, u64), NoMemory>
     requires { IsGoodForAll topology.now cache.old }
     ensures good { IsGoodForAll topology.now cache.new }
     ensures rows { IfOk result (λ r. AreRows topology.now ask.now r.0) }
@@ -93,7 +93,7 @@ fn write_best(best: &Best, into: &mut Vec<u8>) -> Result<(), NoMemory> {
 }
 
 // The best ways, which ends are known, and the label of each node.
-fn rows_text(alloc: Global, rows: &Rows) -> Result<Vec<u8>, NoMemory> {
+fn rows_text(alloc: Global, rows: &Answer) -> Result<Vec<u8>, NoMemory> {
     let mut text = Vec::new(alloc);
     for best in rows.best.as_slice() {
         write_best(best, &mut text)?;

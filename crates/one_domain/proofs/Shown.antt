@@ -14,7 +14,7 @@ use Rattle.walk_laws.specs.Borders.{JoinsAt}
 use Rattle.path_search.specs.Search.{AreLabels}
 use Rattle.vspt_tree.specs.declared.branch.Best.{Best}
 use Rattle.pcep_messages.specs.declared.message.Wanted.{Wanted}
-use Rattle.border_costs.specs.declared.rows.Rows.{Rows as Answer}
+use Rattle.border_costs.specs.declared.answer.Answer.{Answer}
 use Rattle.border_costs.specs.Solutions.{AreRows, AreBest, IsBest}
 use Rattle.one_domain.specs.declared.domain.Chosen.{Chosen}
 use Rattle.one_domain.specs.Domain.{target_seeds, ask_of, ShowsLeast, HasNone, IsChosen, IsBitWhere, IsUnknownVector, HasLabels}

@@ -4,7 +4,7 @@ ghost use Rattle.border_costs.specs.Solutions.{AreRows};
 ghost use Rattle.vspt_tree.specs.declared.branch.Best.{Best};
 ghost use Rattle.one_domain.specs.Domain.{ask_of, target_seeds, HasLabels, IsChosen, IsUnknownVector};
 
-use border_costs::{Ask, Rows, Target, seed_of_target, solve_rows};
+use border_costs::{Answer, Ask, Target, seed_of_target, solve_rows};
 use dom_base::{Addr, As, Cost, List, NoMemory, Seed};
 use path_certificate::Certificate;
 use pcep_codes::no_paths;
@@ -55,7 +55,7 @@ fn ask_for(alloc: Global, own: As, wanted: &Wanted) -> Result<Ask, NoMemory>
     })
 }
 
-fn rows_for(alloc: Global, topology: &Topology, wanted: &Wanted) -> Result<Rows, NoMemory>
+fn rows_for(alloc: Global, topology: &Topology, wanted: &Wanted) -> Result<Answer, NoMemory>
     ensures { IfOk result (AreRows topology.now (ask_of topology.now.own wanted.now)) }
 {
     let ask = ask_for(alloc, topology.own(), wanted)?;
@@ -92,13 +92,13 @@ fn vector_of(source_known: bool, target_known: bool) -> u32
 }
 
 // What the rows of the ask show.
-fn shown(_topology: &Topology, _wanted: &Wanted, rows: Rows) -> DomainPath
+fn shown(_topology: &Topology, _wanted: &Wanted, rows: Answer) -> DomainPath
     requires { AreRows _topology.now (ask_of _topology.now.own _wanted.now) rows }
     ensures chosen { IsChosen _topology.now _wanted.now result.chosen }
     ensures vector { IsUnknownVector _topology.now _wanted.now.source _wanted.now.target result.vector }
     ensures labels { HasLabels _topology.now _wanted.now result.certificate }
 {
-    let Rows {
+    let Answer {
         best,
         source_known,
         target_known,

@@ -5,12 +5,12 @@ use Rattle.std.proofs.lemmas.Option.{slice_get_within}
 use Rattle.dom_base.specs.declared.link.Link.{Link}
 use Rattle.dom_base.specs.declared.query.Query.{Query}
 use Rattle.te_links.specs.Rows.{Rows}
-use Rattle.te_links.specs.Index.{EndsAt}
+use Rattle.te_links.specs.Index.{LinkEndsAt}
 use Rattle.path_search.specs.Barred.{is_barred, AreBarred}
 use Rattle.path_search.specs.Search.{IsNoArc}
 
 pub barred_no_arc : (g : Rows) (q : Query) (barred : List Bool) (read : Link) (tail head index : ℕ) → AreBarred g q barred → slice_get g.links index ≡ Some read →
-    slice_get g.nodes tail ≡ Some read.from → EndsAt g.nodes g.links head index → (is_barred barred tail ≡ true) ⊎ (is_barred barred head ≡ true) → IsNoArc g q index
+    slice_get g.nodes tail ≡ Some read.from → LinkEndsAt g.nodes g.links head index → (is_barred barred tail ≡ true) ⊎ (is_barred barred head ≡ true) → IsNoArc g q index
 barred_no_arc g q barred read tail head index are at_read at_tail ends bars l at admitted =
     let one : Some read ≡ Some l = sym at_read ∙ at in
     let read_is : read ≡ l = cc in

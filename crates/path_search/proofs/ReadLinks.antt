@@ -18,7 +18,7 @@ use Rattle.dom_base.specs.declared.link.Link.{Link}
 use Rattle.dom_base.specs.declared.query.Query.{Query}
 use Rattle.dom_base.specs.declared.query.Label.{Label}
 use Rattle.te_links.specs.Rows.{Rows, IsTopology, IsInnerLink}
-use Rattle.te_links.specs.Index.{EndsAt, IsLinksInto}
+use Rattle.te_links.specs.Index.{LinkEndsAt, IsLinksInto}
 use Rattle.path_search.specs.declared.arc.Arc.{Arc}
 use Rattle.path_search.specs.Arcs.{label_at, IsArcAmong, IsWithin, joined, IsBelow}
 use Rattle.path_search.specs.Search.{IsArcOf, IsNoArc}
@@ -146,24 +146,24 @@ pub spread_step : (g : Rows) (q : Query) (start old new : List (Option Label)) (
     IsTopology g → length old ≡ length g.nodes → IsLinksInto g.nodes g.links v places → k < length places → slice_index_or places k p ≡ p →
     IsSpreading g q start old waiting done v places k n → SpreadsLink g q p old new waiting next → IsSpreading g q start new next done v places (k + 1) (n + 1)
 spread_step g q start old new waiting next done v places k n p valid long into below is s step =
-    let ends : EndsAt g.nodes g.links v p = subst (EndsAt g.nodes g.links v) is (into.ends k p below) in
+    let ends : LinkEndsAt g.nodes g.links v p = subst (LinkEndsAt g.nodes g.links v) is (into.ends k p below) in
     let within : p < length g.links = slice_get_within g.links p ends.link ends.at_link in
     let fresh : ¬ Contains s.read p = subst (λ r. ¬ Contains s.read r) is (s.unread k p (omega arith) below) in
     let heads : All (IsHeadDone g done) (s.read ++ p ∷ []) = All-push (IsHeadDone g done) s.read p s.heads
     (λ i at. let both : Some at.link ≡ Some ends.link = sym at.at_link ∙ ends.at_link in
     let same : at.link ≡ ends.link = cc in
     subst (λ j. is_done done j ≡ true) (same_place g.nodes valid.nodes_differ v i ends.link.to ends.at_node (at.at_node ∙ ap (λ (l : Link). Some l.to) same)) s.here) in
-    let whole : (i r : ℕ) → i ≢ v → is_done done i ≡ true → EndsAt g.nodes g.links i r → Contains (s.read ++ p ∷ []) r =
+    let whole : (i r : ℕ) → i ≢ v → is_done done i ≡ true → LinkEndsAt g.nodes g.links i r → Contains (s.read ++ p ∷ []) r =
     λ i r other done_i at. Contains-append_left s.read (p ∷ []) r (s.whole i r other done_i at) in
     let part = read_on places s.read k p below is s.part in
     let unread = later_unread s.read places k p into.order is s.unread in
     let count : length (s.read ++ p ∷ []) ≡ n + 1 = (let e = length-append s.read (p ∷ []) in let c = s.count in omega (arith, e, c)) in
     go heads whole part unread count ends within fresh step
   where
-    go : All (IsHeadDone g done) (s.read ++ p ∷ []) → ((i r : ℕ) → i ≢ v → is_done done i ≡ true → EndsAt g.nodes g.links i r → Contains (s.read ++ p ∷ []) r) →
+    go : All (IsHeadDone g done) (s.read ++ p ∷ []) → ((i r : ℕ) → i ≢ v → is_done done i ≡ true → LinkEndsAt g.nodes g.links i r → Contains (s.read ++ p ∷ []) r) →
         All (Contains (s.read ++ p ∷ [])) (take (k + 1) places) →
         ((j : ℕ) (d : ℕ) → k + 1 ≤ j → j < length places → ¬ Contains (s.read ++ p ∷ []) (slice_index_or places j d)) →
-        length (s.read ++ p ∷ []) ≡ n + 1 → EndsAt g.nodes g.links v p → p < length g.links → ¬ Contains s.read p →
+        length (s.read ++ p ∷ []) ≡ n + 1 → LinkEndsAt g.nodes g.links v p → p < length g.links → ¬ Contains s.read p →
         SpreadsLink g q p old new waiting next → IsSpreading g q start new next done v places (k + 1) (n + 1)
     go heads whole part unread count ends within fresh (inl none) = record {
       last = s.last;
@@ -234,7 +234,7 @@ spread_last g q start labels waiting done v places k n into past s = record {
   heads = s.heads;
   whole = λ i p done_i at.
       elim (eqb_tells i v) [
-        | inl same ↦ All-contains (Contains s.read) places p (subst (All (Contains s.read)) (take_all k places past) s.part) (into.whole p (subst (λ j. EndsAt g.nodes g.links j p) same.1 at))
+        | inl same ↦ All-contains (Contains s.read) places p (subst (All (Contains s.read)) (take_all k places past) s.part) (into.whole p (subst (λ j. LinkEndsAt g.nodes g.links j p) same.1 at))
         | inr differs ↦ s.whole i p differs.1 done_i at
       ];
   count = s.count;
@@ -351,7 +351,7 @@ read_reached g q start labels waiting done n p valid r has =
     let at : slice_get g.links p ≡ Some l = found.1 in
     let inner : IsInnerLink g.nodes l = All-contains (IsInnerLink g.nodes) g.links l valid.links (contains_at g.links p l at) in
     let end = place_of g.nodes l.to inner.to in
-    let ends : EndsAt g.nodes g.links end.0 p = record { link = l; at_link = at; at_node = end.1 } in
+    let ends : LinkEndsAt g.nodes g.links end.0 p = record { link = l; at_link = at; at_node = end.1 } in
     let s = r.front.settled end.0 (All-contains (IsHeadDone g done) r.read p r.heads has end.0 ends) in
     record { node = end.0; ends = ends; label = s.0; at_label = s.1.0 }
 

@@ -3,13 +3,13 @@ use Rattle.std.specs.Prelude.{◌≡◌, ◌≤◌, ◌+◌, ℕ, List, length, 
 use Rattle.std.specs.declared.option.Option.{Option}
 use Rattle.dom_base.specs.declared.query.Label.{Label}
 use Rattle.te_links.specs.Rows.{Rows}
-use Rattle.te_links.specs.Index.{EndsAt}
+use Rattle.te_links.specs.Index.{LinkEndsAt}
 use Rattle.path_search.specs.Arcs.{label_at}
 
 -- the link at place p ends at a node with a label
 pub record EndsAtLabel (g : Rows) (labels : List (Option Label)) (p : ℕ) : Type 0 where
   pub node : ℕ
-  pub ends : EndsAt g.nodes g.links node p
+  pub ends : LinkEndsAt g.nodes g.links node p
   pub label : Label
   pub at_label : label_at labels node ≡ Some label
 

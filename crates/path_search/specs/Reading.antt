@@ -5,7 +5,7 @@ use Rattle.dom_base.specs.declared.link.Link.{Link}
 use Rattle.dom_base.specs.declared.query.Query.{Query}
 use Rattle.dom_base.specs.declared.query.Label.{Label}
 use Rattle.te_links.specs.Rows.{Rows}
-use Rattle.te_links.specs.Index.{EndsAt}
+use Rattle.te_links.specs.Index.{LinkEndsAt}
 use Rattle.walk_laws.specs.Walks.{AdmitsLink}
 use Rattle.path_search.specs.declared.arc.Arc.{Arc}
 use Rattle.path_search.specs.Arcs.{label_at}
@@ -23,7 +23,7 @@ pub record IsReading (g : Rows) (q : Query) (arcs : List Arc) (read : List ℕ) 
 
 -- where a link ends is settled
 abbrev pub IsHeadDone : Rows → List Bool → ℕ → Type 0
-IsHeadDone g done p = (i : ℕ) → EndsAt g.nodes g.links i p → is_done done i ≡ true
+IsHeadDone g done p = (i : ℕ) → LinkEndsAt g.nodes g.links i p → is_done done i ≡ true
 
 -- between two nodes: all links into the settled nodes were read
 pub record IsResting (g : Rows) (q : Query) (start labels : List (Option Label)) (waiting : List (Option ℕ)) (done : List Bool) (reads : ℕ) : Type 0 where
@@ -33,7 +33,7 @@ pub record IsResting (g : Rows) (q : Query) (start labels : List (Option Label))
   pub front : IsFront q.cap arcs start labels waiting done last
   pub reading : IsReading g q arcs read
   pub heads : All (IsHeadDone g done) read
-  pub whole : (i p : ℕ) → is_done done i ≡ true → EndsAt g.nodes g.links i p → Contains read p
+  pub whole : (i p : ℕ) → is_done done i ≡ true → LinkEndsAt g.nodes g.links i p → Contains read p
   pub count : length read ≡ reads
 
 -- a node was just settled, and none of the links into it were read
@@ -46,8 +46,8 @@ pub record IsOpened (g : Rows) (q : Query) (start labels : List (Option Label)) 
   pub heads : All (IsHeadDone g done) read
   pub here : is_done done v ≡ true
   pub at_here : label_at labels v ≡ Some last
-  pub whole : (i p : ℕ) → i ≢ v → is_done done i ≡ true → EndsAt g.nodes g.links i p → Contains read p
-  pub unread : (p : ℕ) → EndsAt g.nodes g.links v p → ¬ Contains read p
+  pub whole : (i p : ℕ) → i ≢ v → is_done done i ≡ true → LinkEndsAt g.nodes g.links i p → Contains read p
+  pub unread : (p : ℕ) → LinkEndsAt g.nodes g.links v p → ¬ Contains read p
   pub count : length read ≡ reads
 
 -- at a node that was just settled: the first k of the links into it were read
@@ -60,7 +60,7 @@ pub record IsSpreading (g : Rows) (q : Query) (start labels : List (Option Label
   pub heads : All (IsHeadDone g done) read
   pub here : is_done done v ≡ true
   pub at_here : label_at labels v ≡ Some last
-  pub whole : (i p : ℕ) → i ≢ v → is_done done i ≡ true → EndsAt g.nodes g.links i p → Contains read p
+  pub whole : (i p : ℕ) → i ≢ v → is_done done i ≡ true → LinkEndsAt g.nodes g.links i p → Contains read p
   pub part : All (Contains read) (take k places)
   pub unread : (j : ℕ) (d : ℕ) → k ≤ j → j < length places → ¬ Contains read (slice_index_or places j d)
   pub count : length read ≡ reads

@@ -1,7 +1,7 @@
 //! The search: its starts, and the settling of nodes, the least first.
 ghost use Rattle.std.specs.Prelude.{◌≡◌, ◌<◌, ◌≤◌, ◌+◌, false, replicate, length, IfOk, MatchOption};
 ghost use Rattle.te_links.specs.Rows.{IsTopology};
-ghost use Rattle.te_links.specs.Index.{EndsAt};
+ghost use Rattle.te_links.specs.Index.{LinkEndsAt};
 ghost use Rattle.path_search.specs.Barred.{AreBarred};
 ghost use Rattle.path_search.specs.Reached.{ReadsReached};
 ghost use Rattle.path_search.specs.Search.{IsArcOf, IsNoArc, AreLabels};
@@ -29,7 +29,7 @@ pub fn arc_of<'a, G: Links<'a>>(
     requires rules { IsTopology (G.rows links.old) }
     requires index { index < length (G.rows links.old).links }
     requires barred { AreBarred (G.rows links.old) query.now barred.now }
-    requires ends { EndsAt (G.rows links.old).nodes (G.rows links.old).links head index }
+    requires ends { LinkEndsAt (G.rows links.old).nodes (G.rows links.old).links head index }
     ensures arc { MatchOption result (IsNoArc (G.rows links.old) query.now index) (IsArcOf (G.rows links.old) query.now index) }
     ensures same { G.rows links.new ≡ G.rows links.old }
     ensures reads { G.reads links.new ≤ G.reads links.old + 1 }

@@ -1,7 +1,7 @@
 //! Nodes are settled one after another, and the links into each are read.
 ghost use Rattle.std.specs.Prelude.{◌≡◌, ◌<◌, ◌≤◌, ◌+◌, ℕ, length, map, false, All};
 ghost use Rattle.te_links.specs.Rows.{IsTopology};
-ghost use Rattle.te_links.specs.Index.{EndsAt};
+ghost use Rattle.te_links.specs.Index.{LinkEndsAt};
 ghost use Rattle.path_search.specs.Arcs.{IsArcAmong, IsWithin};
 ghost use Rattle.path_search.specs.Barred.{AreBarred};
 ghost use Rattle.path_search.specs.Front.{cost_of, is_done, Spreads};
@@ -41,7 +41,7 @@ fn spread_link<'a, G: Links<'a>>(
     requires rules { IsTopology (G.rows links.old) }
     requires barred { AreBarred (G.rows links.old) query.now barred.now }
     requires index { index < length (G.rows links.old).links }
-    requires ends { EndsAt (G.rows links.old).nodes (G.rows links.old).links head index }
+    requires ends { LinkEndsAt (G.rows links.old).nodes (G.rows links.old).links head index }
     requires labels { length labels.old ≡ length (G.rows links.old).nodes }
     requires as_long { length waiting.old ≡ length labels.old }
     ensures spreads { SpreadsLink (G.rows links.old) query.now index labels.old labels.new waiting.old waiting.new }

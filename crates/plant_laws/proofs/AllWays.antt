@@ -13,7 +13,7 @@ use Rattle.vspt_tree.specs.declared.branch.Best.{Best}
 use Rattle.vspt_tree.specs.declared.branch.Branch.{Branch}
 use Rattle.border_costs.specs.declared.job.Target.TheVariants.{Node, Next}
 use Rattle.border_costs.specs.declared.job.Ask.{Ask}
-use Rattle.border_costs.specs.declared.rows.Rows.{Rows as Answers}
+use Rattle.border_costs.specs.declared.answer.Answer.{Answer as Answers}
 use Rattle.border_costs.specs.Asks.{beyond}
 use Rattle.border_costs.specs.Solutions.{AreRows}
 use Rattle.plant_text.specs.declared.settings.NetworkParts.{NetworkParts}

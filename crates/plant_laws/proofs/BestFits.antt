@@ -28,7 +28,7 @@ use Rattle.border_costs.proofs.Members.{contains_none, contains_head, contains_t
 use Rattle.border_costs.specs.declared.job.Ask.{Ask}
 use Rattle.border_costs.specs.declared.job.Target.{Target}
 use Rattle.border_costs.specs.declared.job.Target.TheVariants.{Node, Next}
-use Rattle.border_costs.specs.declared.rows.Rows.{Rows as Answer}
+use Rattle.border_costs.specs.declared.answer.Answer.{Answer}
 use Rattle.border_costs.specs.Solutions.{AreRows, AreBest, IsBest, IsHead}
 use Rattle.plant_model.specs.Plant.{IsLinkInRange}
 use Rattle.plant_model.specs.Laws.{AreWords}

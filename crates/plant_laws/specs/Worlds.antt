@@ -4,7 +4,7 @@ use Rattle.dom_base.specs.declared.addr.Addr.{Addr}
 use Rattle.dom_base.specs.declared.border.BorderRow.{BorderRow}
 use Rattle.te_links.specs.Rows.{Rows, IsInOrder}
 use Rattle.border_costs.specs.declared.job.Ask.{Ask}
-use Rattle.border_costs.specs.declared.rows.Rows.{Rows as Answer}
+use Rattle.border_costs.specs.declared.answer.Answer.{Answer}
 use Rattle.border_costs.specs.Solutions.{AreRows}
 use Rattle.border_costs.specs.Tables.{IsBorderTable}
 use Rattle.plant_text.specs.declared.settings.NetworkParts.{NetworkParts}

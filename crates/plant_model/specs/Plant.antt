@@ -12,7 +12,7 @@ use Rattle.disclosure.specs.Shown.{open_of}
 use Rattle.request_table.specs.declared.held.Held.{Held}
 use Rattle.vspt_tree.specs.declared.branch.Branch.{Branch}
 use Rattle.border_costs.specs.declared.job.Ask.{Ask}
-use Rattle.border_costs.specs.declared.rows.Rows.{Rows as Answer}
+use Rattle.border_costs.specs.declared.answer.Answer.{Answer}
 use Rattle.border_costs.specs.Solutions.{AreRows}
 use Rattle.plant_model.specs.declared.outcome.Outcome.TheVariants.{Done, Loaded}
 use Rattle.plant_model.specs.declared.outcome.Refused.{Refused}

@@ -4,7 +4,7 @@ use Rattle.std.specs.Arc.{arc_value}
 use Rattle.dom_base.specs.declared.border.BorderRow.{BorderRow}
 use Rattle.path_certificate.specs.declared.certificate.Certificate.{Certificate}
 use Rattle.border_costs.specs.declared.job.Job.{Job}
-use Rattle.border_costs.specs.declared.rows.Rows.{Rows as Answer}
+use Rattle.border_costs.specs.declared.answer.Answer.{Answer}
 use Rattle.border_costs.specs.Solutions.{AreRows}
 use Rattle.plant_model.specs.Blind.{is_accepted}
 use Rattle.plant_model.specs.Events.{Answered}

@@ -5,7 +5,7 @@ use Rattle.dom_base.specs.declared.addr.Addr.{Addr}
 use Rattle.dom_base.specs.declared.link.Link.{Link}
 
 -- the link at place p ends at the node at place i
-pub record EndsAt (nodes : List Addr) (links : List Link) (i p : ℕ) : Type 0 where
+pub record LinkEndsAt (nodes : List Addr) (links : List Link) (i p : ℕ) : Type 0 where
   pub link : Link
   pub at_link : slice_get links p ≡ Some link
   pub at_node : slice_get nodes i ≡ Some link.to
@@ -13,8 +13,8 @@ pub record EndsAt (nodes : List Addr) (links : List Link) (i p : ℕ) : Type 0 w
 -- The places of exactly the links that end at the node at place i, rising: the links stand in the order of their far
 -- addresses, so these do.
 pub record IsLinksInto (nodes : List Addr) (links : List Link) (i : ℕ) (places : List ℕ) : Type 0 where
-  pub ends : All (EndsAt nodes links i) places
-  pub whole : (p : ℕ) → EndsAt nodes links i p → Contains places p
+  pub ends : All (LinkEndsAt nodes links i) places
+  pub whole : (p : ℕ) → LinkEndsAt nodes links i p → Contains places p
   pub order : AllPairs (λ p q. p < q) places
 
 -- for each node the links that end there
@@ -23,15 +23,15 @@ pub record IsIndex (nodes : List Addr) (links : List Link) (into : List (Vec ℕ
   pub at_node : (i : ℕ) (d : Vec ℕ) → i < length into → IsLinksInto nodes links i (slice_index_or into i d).items
 
 -- the link at place p begins at the node at place i
-pub record BeginsAt (nodes : List Addr) (links : List Link) (i p : ℕ) : Type 0 where
+pub record LinkBeginsAt (nodes : List Addr) (links : List Link) (i p : ℕ) : Type 0 where
   pub link : Link
   pub at_link : slice_get links p ≡ Some link
   pub at_node : slice_get nodes i ≡ Some link.from
 
 -- the places of exactly the links that begin at the node at place i, rising
 pub record IsLinksFrom (nodes : List Addr) (links : List Link) (i : ℕ) (places : List ℕ) : Type 0 where
-  pub begins : All (BeginsAt nodes links i) places
-  pub whole : (p : ℕ) → BeginsAt nodes links i p → Contains places p
+  pub begins : All (LinkBeginsAt nodes links i) places
+  pub whole : (p : ℕ) → LinkBeginsAt nodes links i p → Contains places p
   pub order : AllPairs (λ p q. p < q) places
 
 -- for each node the links that begin there
@@ -42,4 +42,4 @@ pub record IsIndexFrom (nodes : List Addr) (links : List Link) (leaving : List (
 -- for each link the place of the node that it begins at
 pub record AreTails (nodes : List Addr) (links : List Link) (tails : List ℕ) : Type 0 where
   pub each : length tails ≡ length links
-  pub at_link : (p d : ℕ) → p < length tails → BeginsAt nodes links (slice_index_or tails p d) p
+  pub at_link : (p d : ℕ) → p < length tails → LinkBeginsAt nodes links (slice_index_or tails p d) p

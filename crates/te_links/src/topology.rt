@@ -1,7 +1,7 @@
 //! The topology of one domain, by its rows in order.
 ghost use Rattle.std.specs.Prelude.{◌≡◌, ◌↔◌, ◌<◌, ◌^◌, [], vec_len, length, slice_get, Contains, Some, MatchOption};
 ghost use Rattle.te_links.specs.Rows.{IsTopology, IsInOrder};
-ghost use Rattle.te_links.specs.Index.{IsIndex, IsLinksInto, IsIndexFrom, IsLinksFrom, AreTails, BeginsAt};
+ghost use Rattle.te_links.specs.Index.{IsIndex, IsLinksInto, IsIndexFrom, IsLinksFrom, AreTails, LinkBeginsAt};
 
 use crate::index::place_of;
 use crate::rows::{Entry, OutLink};
@@ -145,7 +145,7 @@ impl Topology {
     /// The place of the node that a link begins at.
     pub fn tail_of(&self, i: u32) -> u32
         requires { i < length self.now.links }
-        ensures { BeginsAt self.now.nodes self.now.links result i }
+        ensures { LinkBeginsAt self.now.nodes self.now.links result i }
     {
         self.tails[i as usize]
     }

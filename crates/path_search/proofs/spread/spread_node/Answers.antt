@@ -2,7 +2,7 @@ use Rattle.std.proofs.Common.{◌≡◌, ◌<◌, ◌+◌, length, slice_index_o
 use Rattle.std.proofs.lemmas.List.{get_or_default}
 use Rattle.std.proofs.lemmas.Option.{slice_get_within}
 use Rattle.te_links.specs.Rows.{Rows, IsTopology}
-use Rattle.te_links.specs.Index.{EndsAt}
+use Rattle.te_links.specs.Index.{LinkEndsAt}
 use Rattle.path_search.specs.Barred.{AreBarred}
 use Rattle.path_search.specs.Reading.{SpreadsLink}
 use Rattle.path_search.proofs.ReadLinks.{spread_first, spread_step, spread_last}
@@ -39,7 +39,7 @@ spread_link-requires g c κs =
           (
             subst (λ (h : Rows). p < length h.links) (sym inv.same) within,
             (
-              subst (λ (h : Rows). EndsAt h.nodes h.links c.args.place p) (sym inv.same) ends,
+              subst (λ (h : Rows). LinkEndsAt h.nodes h.links c.args.place p) (sym inv.same) ends,
               (
                 subst (λ (h : Rows). length c.loop-index.labels ≡ length h.nodes) (sym inv.same) (inv.long ∙ c.requires.labels),
                 inv.as_long ∙ (c.requires.as_long ∙ sym inv.long),

@@ -7,7 +7,7 @@ use vspt_tree::Best;
 /// ask's entries; whether the source and the target are nodes of the domain (a target beyond it
 /// counts as known); and the labels of all nodes, as a certificate without a path.
 #[derive(Drop)]
-pub struct Rows {
+pub struct Answer {
     pub best: List<Best>,
     pub source_known: bool,
     pub target_known: bool,
