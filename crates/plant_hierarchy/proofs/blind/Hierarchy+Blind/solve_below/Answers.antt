@@ -12,7 +12,7 @@ use Rattle.plant_hierarchy.specs.TierFields.{tiers_of}
 use Rattle.plant_hierarchy.proofs.BlindLemmas.{clock_there, solves_as, solves_below}
 use Rattle.plant_hierarchy.proofs.StepLemmas as step
 use Rattle.plant_hierarchy.proofs.TierLemmas.{set_below}
-use Rattle.plant_hierarchy.proofs.hierarchy.Hierarchy+Blind.solve_below.Goals as goal
+use Rattle.plant_hierarchy.proofs.blind.Hierarchy+Blind.solve_below.Goals as goal
 
 pub solve-requires-clause-there : goal.solve-requires-clause-there
 solve-requires-clause-there c =

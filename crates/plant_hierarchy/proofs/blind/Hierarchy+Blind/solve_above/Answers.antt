@@ -10,7 +10,7 @@ use Rattle.plant_hierarchy.specs.Blind.{IsUnsolved, Solves, told_above}
 use Rattle.plant_hierarchy.specs.Tiers.{Tiers}
 use Rattle.plant_hierarchy.specs.TierFields.{tiers_of}
 use Rattle.plant_hierarchy.proofs.BlindLemmas.{solves_above, solves_as, unsolved_above}
-use Rattle.plant_hierarchy.proofs.hierarchy.Hierarchy+Blind.solve_above.Goals as goal
+use Rattle.plant_hierarchy.proofs.blind.Hierarchy+Blind.solve_above.Goals as goal
 
 pub returns-in_err-solved : goal.returns-in_err-solved
 returns-in_err-solved c =

@@ -8,7 +8,7 @@ use Rattle.plant_hierarchy.specs.Blind.{nothing_first}
 use Rattle.plant_hierarchy.specs.Elements.{at_domain, no_one, own_of, IsFirstAt}
 use Rattle.plant_hierarchy.proofs.DomainLemmas.{first_within}
 use Rattle.plant_hierarchy.proofs.BecomingLemmas.{at_then, becomes, of_there, ok_more, owns_become, there_of}
-use Rattle.plant_hierarchy.proofs.elements.Elements+Blind.solve.Goals as goal
+use Rattle.plant_hierarchy.proofs.blind.Elements+Blind.solve.Goals as goal
 
 pub solve_at-requires-clause-within : goal.solve_at-requires-clause-within
 solve_at-requires-clause-within c = first_within c.args.at c.place-i.result c.self.inside.items.items (subst (λ (es : List (Seen Nothing Nothing)). IsFirstAt c.args.at c.place-i.result (map own_of es)) (sym c.self.view_is) c.place-i.ensures)

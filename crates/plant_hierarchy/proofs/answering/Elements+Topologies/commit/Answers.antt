@@ -8,7 +8,7 @@ use Rattle.plant_hierarchy.specs.Becoming.{Becomes}
 use Rattle.plant_hierarchy.proofs.DomainLemmas.{first_within}
 use Rattle.plant_hierarchy.proofs.BecomingLemmas.{becomes, owns_become, at_then, there_of, of_there, ok_more, err_more}
 use Rattle.plant_model.specs.Plant.{Pin, Segment, first_pin}
-use Rattle.plant_hierarchy.proofs.elements.Elements+Topologies.commit.Goals as goal
+use Rattle.plant_hierarchy.proofs.answering.Elements+Topologies.commit.Goals as goal
 
 pub commit_at-requires-clause-within : goal.commit_at-requires-clause-within
 commit_at-requires-clause-within c = first_within c.args.at c.place-i.result c.self.inside.items.items (subst (λ (es : List (Seen Pin Segment)). IsFirstAt c.args.at c.place-i.result (map own_of es)) (sym c.self.view_is) c.place-i.ensures)
