@@ -1,7 +1,7 @@
 //! Rows of a border table joined with what the next domain told (RFC 5441, section 4.2).
 ghost use Rattle.std.specs.Prelude.{◌≡◌, ◌+◌, ◌≤◌, ◌<◌, ◌↔◌, cond, nat_lt, IsTrue, IfOk, OnOk, SomeIff, MatchOption};
 ghost use Rattle.walk_laws.specs.Borders.{IsDown};
-ghost use Rattle.border_costs.specs.Asks.{HasNoDown, IsBelow, beyond};
+ghost use Rattle.border_costs.specs.Asks.{HasNoDown, IsLess, beyond};
 ghost use Rattle.plant_model.specs.Blind.{AreGivenRows};
 ghost use Rattle.plant_model.specs.Branches.{downs};
 ghost use Rattle.plant_model.specs.Jobs.{IsJoinOf};
@@ -13,7 +13,7 @@ use std::alloc::Global;
 use vspt_tree::{Best, Branch};
 
 fn is_less(cost: Cost, least: &Option<Cost>) -> bool
-    ensures { IsTrue result ↔ IsBelow cost least.now }
+    ensures { IsTrue result ↔ IsLess cost least.now }
 {
     match least {
         Some(least) => cost < *least,
