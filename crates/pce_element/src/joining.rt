@@ -7,6 +7,7 @@ ghost use Rattle.plant_model.specs.Branches.{downs};
 ghost use Rattle.plant_model.specs.Jobs.{IsJoinOf};
 ghost use Rattle.pce_element.specs.Joining.{IsJoinOfRow, JoinsNothing, JoinsOver, JoinsRow, TakesIn, head_over};
 
+use crate::looks::is_same_addr;
 use border_costs::Target;
 use dom_base::{Addr, BorderRow, Cost, List, NoMemory};
 use std::alloc::Global;
@@ -51,7 +52,7 @@ fn joined_cost(cap: Cost, target: Target, row: &BorderRow, down: &[Branch]) -> O
 {
     match target {
         Target::Node(_end) => {
-            if row.head != row.far {
+            if !is_same_addr(row.head, row.far) {
                 return None;
             }
             within(cap, row.cost.get())
