@@ -1,4 +1,4 @@
-use Rattle.std.proofs.Common.{◌≡◌, ◌∙◌, true, Result, Some, Err, sym, ap, subst}
+use Rattle.std.proofs.Common.{◌≡◌, true, Result, Err, sym, subst}
 use Rattle.std.specs.Prelude.{IfErr}
 use Rattle.std.proofs.lemmas.Result.{err_from_is_err_and}
 use Rattle.plant_model.specs.declared.outcome.Refused.{Refused}

@@ -1,12 +1,9 @@
-use Rattle.std.proofs.Common.{◌≡◌, ◌≤◌, true, Option, Some, None, List, is_some, sym, ap, subst}
-use Rattle.std.specs.Prelude.{IfSome}
+use Rattle.std.proofs.Common.{◌≡◌, true, sym, subst}
 use Rattle.plant_text.specs.Settings.{is_element}
 use Rattle.plant_model.specs.Blind.{Nothing, show_nothing}
 use Rattle.plant_members.specs.Membership.{KeysBefore}
-use Rattle.pce_element.specs.Seen.{Seen}
 use Rattle.plant_hierarchy.specs.Becoming.{unchanged}
 use Rattle.plant_hierarchy.specs.Blind.{nothing_first, told_below}
-use Rattle.plant_hierarchy.specs.Elements.{at_domain, element_or}
 use Rattle.plant_hierarchy.specs.Tiers.{Tiers, members_of}
 use Rattle.plant_hierarchy.specs.TierFields.{tiers_of}
 use Rattle.plant_hierarchy.proofs.BlindLemmas.{clock_there, solves_as, solves_below}
