@@ -1,5 +1,7 @@
 mod Givens
+mod PlayedTurns
 mod Onward
 mod FedBytes
 pub mod Rightly
 pub mod Loadable
+pub mod Disclosing
