@@ -1,16 +1,20 @@
--- What a script shows with its rows on is what its run discloses.
+-- Each run has a disclosed trace, and where a script shows rows it is what is shown.
 use Rattle.std.specs.Prelude.{◌≡◌, ℕ, true, cond, List, [], ◌∷◌}
 use Rattle.plant_text.specs.declared.line.LineEvent.TheVariants.{DiscloseOn}
 use Rattle.plant_text.specs.declared.settings.NetworkParts.{NetworkParts}
 use Rattle.plant_model.specs.declared.event.BlindEvent.{BlindEvent}
 use Rattle.plant_model.specs.Blind.{blind_of, is_accepted, with_event}
-use Rattle.plant_model.specs.Plant.{Entry}
+use Rattle.plant_model.specs.Plant.{Entry, Plant, Run}
 use Rattle.plant_model.specs.RealWire.{wire}
 use Rattle.plant_laws.specs.Worlds.{DisclosedRun}
 use Rattle.plant_play.specs.Playing.{Cue, IsNewStage, Stage}
 use Rattle.plant_play.specs.Scripts.{AllPlayed}
 use Rattle.plant_play.specs.Turns.{Turn, entries_of}
 use Rattle.script_laws.specs.Laws.{FeedOctets}
+
+-- Each run has a disclosed trace: that none is one can't be.
+abbrev pub RunsDisclose : Type 0
+RunsDisclose = (n : NetworkParts) (es : List Entry) (s : Plant) → Run wire n es s → ¬ ((trace : List BlindEvent) → ¬ DisclosedRun wire n es trace s)
 
 -- The events as a network without topologies sees them, the newest first, in front of older ones: each solve has the rows that are
 -- shown of it. Loads and refused events are not seen.
