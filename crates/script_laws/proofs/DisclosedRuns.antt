@@ -1,5 +1,5 @@
 -- Each run has a disclosed trace.
-use Rattle.std.proofs.Common.{◌≡◌, ℕ, nat_eq, Bool, true, false, cond, List, [], ◌∷◌, Some, Ok, Err, refl, sym, ap, subst, ◌∙◌, inl, inr}
+use Rattle.std.proofs.Common.{◌≡◌, ℕ, nat_eq, Bool, true, false, cond, List, [], ◌∷◌, Some, refl, sym, ap, subst, ◌∙◌, inl, inr}
 use Rattle.std.specs.Map.{lookup}
 use Rattle.dom_base.specs.declared.names.As.{As}
 use Rattle.dom_base.specs.declared.border.BorderRow.{BorderRow}
@@ -11,9 +11,9 @@ use Rattle.plant_text.specs.Names.{same_as, parent_as}
 use Rattle.plant_model.specs.declared.event.BlindEvent.{BlindEvent}
 use Rattle.plant_model.specs.declared.event.Event.{Event}
 use Rattle.plant_model.specs.declared.event.Event.TheVariants as event
-use Rattle.plant_model.specs.Blind.{Discloses, Traces, blind_of, is_accepted, with_event}
+use Rattle.plant_model.specs.Blind.{Discloses, blind_of, is_accepted, with_event}
 use Rattle.plant_model.specs.Element.{Item, Ready, is_client}
-use Rattle.plant_model.specs.Plant.{ElementSolves, Entry, Happened, Pin, Plant, Run, SolveHappens, Steps, ask}
+use Rattle.plant_model.specs.Plant.{Entry, Happened, Pin, Plant, Run, SolveHappens, Steps, ask}
 use Rattle.plant_model.specs.RealWire.{wire}
 use Rattle.plant_laws.specs.Worlds.{DisclosedRun}
 use Rattle.plant_laws.proofs.EntriesRise.{entries_rise}

@@ -1,5 +1,5 @@
 -- While rows are shown, what is shown of each solve is what it discloses.
-use Rattle.std.proofs.Common.{◌≡◌, ℕ, nat_eq, Bool, true, false, not, cond, ◌&&◌, List, [], ◌∷◌, ◌++◌, Option, Some, None, Ok, Err, refl, sym, ap, subst, ◌∙◌, inl, inr}
+use Rattle.std.proofs.Common.{◌≡◌, ℕ, nat_eq, Bool, true, false, not, cond, ◌&&◌, List, [], ◌∷◌, ◌++◌, Some, Ok, Err, refl, sym, ap, subst, ◌∙◌, inl, inr}
 use Rattle.std.specs.Map.{lookup}
 use Rattle.std.proofs.lemmas.List.Elements.{All-head, All-tail}
 use Rattle.dom_base.specs.declared.names.As.{As}
@@ -19,7 +19,7 @@ use Rattle.plant_model.specs.declared.event.BlindEvent.{BlindEvent}
 use Rattle.plant_model.specs.declared.event.Event.{Event}
 use Rattle.plant_model.specs.declared.event.Event.TheVariants as event
 use Rattle.plant_model.specs.declared.outcome.Outcome.{Outcome}
-use Rattle.plant_model.specs.Blind.{Discloses, Traces, blind_of, is_accepted, with_event}
+use Rattle.plant_model.specs.Blind.{Discloses, blind_of, is_accepted, with_event}
 use Rattle.plant_model.specs.Element.{Item, Ready, is_client}
 use Rattle.plant_model.specs.Events.{Answered}
 use Rattle.plant_model.specs.Plant.{Entry, Happened, Happens, Pin, Plant, PlantDeed, Run, SolveHappens, ask}
@@ -81,7 +81,7 @@ module _ (n : NetworkParts) (s : Plant) (older : List Entry) (run : Run wire n o
 
   solve_tells : (d : As) (k : ℕ) (h : Happened) (o : Outcome) → SolveHappens wire n d k s h → h.answer ≡ Ok o → same_as d parent_as ≡ false → ElementTells wire n s d k h.deeds
   solve_tells d k h o happens ok below =
-      elim solves_tell wire n older s run d k h (inl happens) o ok [
+      elim (solves_tell wire n older s run d k h (inl happens) o ok) [
         inl tells ↦ tells
         | inr above ↦ absurd (let no : same_as parent_as parent_as ≡ false = subst (λ (a : As). same_as a parent_as ≡ false) above.0 below in let yes : true ≡ false = no in cc)
       ]

@@ -1,13 +1,12 @@
 -- Each job has a border table.
-use Rattle.std.proofs.Common.{◌≡◌, ◌⊎◌, ◌+◌, ◌<◌, ◌≤◌, ℕ, zero, suc, List, [], ◌∷◌, ◌++◌, length, refl, sym, ap, subst, ◌∙◌, inl, inr, arith}
-use Rattle.std.specs.Prelude.{All, AllPairs, Contains, slice_index_or}
+use Rattle.std.proofs.Common.{◌≡◌, ◌⊎◌, ◌<◌, ℕ, zero, suc, List, [], ◌∷◌, ◌++◌, refl, sym, ap, subst, ◌∙◌, inl, inr, arith}
+use Rattle.std.specs.Prelude.{All, AllPairs, Contains}
 use Rattle.std.proofs.lemmas.List.Elements.{All-append, All-contains, All-contains_itself, All-weaker, Contains-append_cases, Contains-append_left, Contains-append_right}
 use Rattle.std.proofs.lemmas.List.Kept.{AllPairs-cons}
 use Rattle.dom_base.specs.AddrOrder.{rank}
 use Rattle.dom_base.specs.declared.addr.Addr.{Addr}
 use Rattle.dom_base.specs.declared.names.As.{As}
 use Rattle.dom_base.specs.declared.border.BorderRow.{BorderRow}
-use Rattle.dom_base.specs.declared.link.Link.{Link}
 use Rattle.dom_base.specs.declared.query.Query.{Query}
 use Rattle.te_links.specs.declared.rows.OutLink.{OutLink}
 use Rattle.te_links.specs.Rows.{Rows, IsInOrder}
@@ -16,7 +15,7 @@ use Rattle.walk_laws.proofs.Segments.{one_of}
 use Rattle.border_costs.specs.declared.job.Ask.{Ask}
 use Rattle.border_costs.specs.declared.job.Target.{Target}
 use Rattle.border_costs.specs.declared.job.Target.TheVariants.{Node, Next}
-use Rattle.border_costs.specs.Tables.{IsBorderTable, IsRowAt, IsRowBefore, IsRowOver, IsRowTo, IsTableRow}
+use Rattle.border_costs.specs.Tables.{IsBorderTable, IsRowAt, IsRowBefore, IsRowOver, IsRowTo}
 
 -- ---- what stands in a list
 
