@@ -1,5 +1,5 @@
 -- The files of the topologies.
-use Rattle.std.specs.Prelude.{◌≡◌, ℕ, ◌+◌, List, [], ◌∷◌}
+use Rattle.std.specs.Prelude.{◌≡◌, ℕ, List, [], ◌∷◌}
 use Rattle.te_links.specs.declared.rows.Parts.{Parts}
 use Rattle.te_links.specs.Built.{IsBuilt}
 use Rattle.te_links.specs.Faults.{rows_of_parts}
