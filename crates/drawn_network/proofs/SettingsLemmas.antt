@@ -1,5 +1,5 @@
 -- The settings break no rule.
-use Rattle.std.proofs.Common.{◌≡◌, ◌∙◌, List, Option, Some, None, true, ◌∷◌, ◌++◌, refl, sym, ap}
+use Rattle.std.proofs.Common.{◌≡◌, ◌∙◌, Some, None, true, ◌∷◌, refl, sym, ap}
 use Rattle.dom_base.specs.AddrOrder.{rank}
 use Rattle.plant_text.specs.declared.fault.NetFault.{NetFault}
 use Rattle.plant_text.specs.Faults.{IsFirst, first_of}

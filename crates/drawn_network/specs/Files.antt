@@ -1,22 +1,23 @@
 -- The files of the topologies.
-use Rattle.std.specs.Prelude.{◌≡◌, ℕ, ◌+◌, List, [], ◌∷◌}
+use Rattle.std.specs.Prelude.{◌≡◌, ℕ, List, [], ◌∷◌}
 use Rattle.te_links.specs.declared.rows.Parts.{Parts}
+use Rattle.te_links.specs.Built.{IsBuilt}
+use Rattle.te_links.specs.Faults.{rows_of_parts}
 use Rattle.te_links.specs.Rows.{IsInOrder, Rows}
-use Rattle.te_text.specs.Reads.{IsOf}
 use Rattle.te_text.specs.TopologyText.{topology_text}
 use Rattle.drawn_network.specs.Rows.{parts_of}
 use Rattle.drawn_network.specs.Settings.{file_name}
 
 -- the topology of these rows
-pub record IsBuilt (parts : Parts) (t : Rows) : Type 0 where
-  pub rows : IsOf parts t
+pub record IsDrawn (parts : Parts) (t : Rows) : Type 0 where
+  pub rows : IsBuilt (rows_of_parts parts) t
   pub order : IsInOrder t
 
 -- The file of domain d, whose links take the draws from the k-th on: its name, and the text of its topology.
 pub record IsFile (d k : ℕ) (file : List ℕ × List ℕ) : Type 0 where
   pub name : file.0 ≡ file_name d
   pub topology : Rows
-  pub drawn : IsBuilt (parts_of d k) topology
+  pub drawn : IsDrawn (parts_of d k) topology
   pub text : file.1 ≡ topology_text topology
 
 -- how many draws the links of a domain take, and those of all domains

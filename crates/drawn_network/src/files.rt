@@ -1,7 +1,7 @@
 //! The files of the topologies.
 ghost use Rattle.std.specs.Prelude.{◌≡◌, ◌≤◌, ◌+◌, ◌∷◌, [], IfOk, OnOk};
 ghost use Rattle.drawn_network.specs.Draws.{draws_most};
-ghost use Rattle.drawn_network.specs.Files.{AreFiles, IsBuilt, IsFile, links_draws};
+ghost use Rattle.drawn_network.specs.Files.{AreFiles, IsDrawn, IsFile, links_draws};
 ghost use Rattle.drawn_network.specs.Settings.{file_name};
 
 use crate::draws::Draws;
@@ -14,7 +14,7 @@ use te_text::write_topology;
 
 // The topology of these rows. They obey its rules; were it otherwise, it would be told as want of memory.
 fn build(alloc: Global, rows: Parts) -> Result<Topology, NoMemory>
-    ensures { IfOk result (λ topology. IsBuilt rows topology) }
+    ensures { IfOk result (λ topology. IsDrawn rows topology) }
 {
     match Topology::build(alloc, rows) {
         Ok(topology) => Ok(topology),

@@ -18,9 +18,15 @@ use Rattle.text_ranges.proofs.FedLengths.{feeds_short}
 use Rattle.text_ranges.proofs.FedOctets.{line_octets}
 use Rattle.text_ranges.proofs.ModelledNetworks.{client_is_modelled, settings_are_modelled}
 use Rattle.text_ranges.proofs.Lengths.{all_lengths_append, all_lengths_cons, told_lines_short}
-use Rattle.plant_play.specs.Playing.{Cue}
+use Rattle.plant_model.specs.RealWire.{wire}
+use Rattle.plant_laws.specs.Worlds.{DisclosedRun}
+use Rattle.plant_play.specs.Playing.{Cue, IsNewStage, Stage}
+use Rattle.plant_play.specs.Scripts.{AllPlayed}
+use Rattle.plant_play.specs.Turns.{Turn, entries_of}
+use Rattle.script_laws.specs.Disclosing.{shown_trace}
 use Rattle.script_laws.specs.Headline.{all_octets, fed_octets}
 use Rattle.script_laws.specs.Laws.{FeedOctets, FeedsOctets}
+use Rattle.script_laws.proofs.Disclosing.{shown_from_the_first}
 use Rattle.script_laws.proofs.Rightly.{scripts_are_right}
 use Rattle.plant_script.specs.Scripts.{AreCues}
 use Rattle.plant_client.specs.declared.question.Question.{Question}
@@ -29,7 +35,7 @@ use Rattle.plant_client.specs.Asking as asking
 use Rattle.plant_client.specs.Questions.{opening_text, question_text, sequence_most}
 use Rattle.plant_client.proofs.QuestionLemmas.{question_short}
 use Rattle.pce_tool.specs.declared.route.Route.{Route}
-use Rattle.pce_tool.specs.Headline.{PathsAreWorth, PlaysAreWorth}
+use Rattle.pce_tool.specs.Headline.{PathsAreWorth, PlaysAreWorth, ShowsRows}
 use Rattle.pce_tool.specs.Networks.{question_of}
 
 -- ---- what lines feed
@@ -63,12 +69,19 @@ script_feeds files n (l ∷ ls) (c ∷ cs) are =
     let others = script_feeds files n ls cs are.1 in
     (All-cons (λ (x : Cue). FeedsOctets x.event) c cs one.0 others.0, omega (arith, one.1, others.1, all_lengths_cons l ls))
 
+shown_disclosed : (n : NetworkParts) (new end : Stage) (cs : List Cue) (turns : List Turn) (told : List ℕ) → IsNewStage n new → FeedOctets cs → AllPlayed new cs turns told end → ShowsRows cs →
+    DisclosedRun wire n (entries_of turns []) (shown_trace turns []) end.state
+shown_disclosed n new end [] turns told is octets all on = absurd on
+shown_disclosed n new end (c ∷ cs) turns told is octets all on = shown_from_the_first n new end c cs turns told is octets on all
+
 pub plays_are_worth : (files : Option Files) (net : List ℕ) → PlaysAreWorth files net
 plays_are_worth files net n script done others turns told end has within parts p =
     let feeds = script_feeds files n done p.cues p.are_cues in
     let right = scripts_are_right n (settings_are_modelled has.bytes n has.is_text) p.start end p.cues turns told p.new feeds.0 p.played in
-    let all : all_lengths (told_lines script) ≡ all_lengths done + all_lengths others = ap all_lengths parts ∙ all_lengths_append done others in
-    record { right = right.0; short = λ alone. right.1 alone (omega (arith, feeds.1, all, told_lines_short script, within)) }
+    let all : all_lengths (told_lines script) ≡ all_lengths done + all_lengths others = ap all_lengths parts ∙ all_lengths_append done others in (
+      record { right = right.0; short = λ alone. right.1 alone (omega (arith, feeds.1, all, told_lines_short script, within)) },
+      shown_disclosed n p.start end p.cues turns told p.new feeds.0 p.played,
+    )
 
 -- ---- what a client's lines feed
 

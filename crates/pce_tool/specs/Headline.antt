@@ -1,7 +1,8 @@
 -- What every run of a network is worth that a command plays.
-use Rattle.std.specs.Prelude.{◌≡◌, ◌≤◌, ℕ, true, List, [], ◌++◌, length, Option, Some}
+use Rattle.std.specs.Prelude.{◌≡◌, ◌≤◌, ℕ, true, List, [], ◌∷◌, ◌++◌, length, Option, Some}
 use Rattle.dom_edge.specs.Stores.{Files}
 use Rattle.line_text.specs.Lines.{NumberedLine, told_lines}
+use Rattle.plant_text.specs.declared.line.LineEvent.TheVariants.{DiscloseOn}
 use Rattle.plant_text.specs.declared.settings.NetworkParts.{NetworkParts}
 use Rattle.plant_text.specs.Networks.{with_path}
 use Rattle.plant_text.specs.Settings.{is_element}
@@ -10,8 +11,9 @@ use Rattle.plant_model.specs.Plant.{Entry, Plant, deeds_of}
 use Rattle.plant_model.specs.RealWire.{wire}
 use Rattle.plant_laws.specs.Worlds.{DisclosedRun}
 use Rattle.plant_counting.specs.Counting.{HasNoParent}
-use Rattle.plant_play.specs.Playing.{Stage}
+use Rattle.plant_play.specs.Playing.{Cue, Stage}
 use Rattle.plant_play.specs.Turns.{Turn, entries_of}
+use Rattle.script_laws.specs.Disclosing.{shown_trace}
 use Rattle.script_laws.specs.Headline.{HasIdsLeft, IsRight}
 use Rattle.plant_script.specs.Scripts.{Playing, script_most}
 use Rattle.plant_client.specs.Asking.{Asks}
@@ -33,11 +35,18 @@ pub record IsWorth (n : NetworkParts) (turns : List Turn) (end : Stage) : Type 0
   pub right : IsRight n (entries_of turns []) end.state
   pub short : HasNoParent n → HasIdsLeft n (entries_of turns [])
 
--- The first lines of a script, however many, that are played on the network of these settings.
+-- rows are shown from the first line on
+abbrev pub ShowsRows : List Cue → Type 0
+ShowsRows [] = ⊥
+ShowsRows (c ∷ cs) = c.event ≡ DiscloseOn
+
+-- The first lines of a script, however many, that are played on the network of these settings; and where rows are shown from the first
+-- line on, the events with the rows that are shown of them are the trace that the run discloses.
 abbrev pub PlaysAreWorth : Option Files → List ℕ → Type 0
 PlaysAreWorth files net =
     (n : NetworkParts) (script : List ℕ) (done others : List NumberedLine) (turns : List Turn) (told : List ℕ) (end : Stage)
-    → HasNetwork files net n → length script ≤ script_most → told_lines script ≡ done ++ others → Playing files n done turns told end → IsWorth n turns end
+    → HasNetwork files net n → length script ≤ script_most → told_lines script ≡ done ++ others → (p : Playing files n done turns told end)
+    → IsWorth n turns end × (ShowsRows p.cues → DisclosedRun wire n (entries_of turns []) (shown_trace turns []) end.state)
 
 -- What is played until a client is answered.
 abbrev pub PathsAreWorth : Option Files → List ℕ → Route → Type 0

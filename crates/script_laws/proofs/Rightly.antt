@@ -16,6 +16,7 @@ use Rattle.plant_play.specs.Scripts.{AllPlayed}
 use Rattle.plant_play.specs.Turns.{Turn, entries_of}
 use Rattle.script_laws.specs.Headline.{HasIdsLeft, IsRight, all_octets}
 use Rattle.script_laws.specs.Laws.{FeedOctets}
+use Rattle.script_laws.proofs.DisclosedRuns.{runs_disclose}
 use Rattle.script_laws.proofs.FedBytes.{script_fed}
 use Rattle.script_laws.proofs.Loadable.{runs_are_loadable}
 use Rattle.script_laws.proofs.Onward.{scripts_are_runs}
@@ -25,6 +26,7 @@ runs_are_right n ok es s run = record {
   run = run;
   least = of_written_net_ids LeastAnswersIn OfRun.least_answers_are wire wire_is_codec n ok es s run;
   none = of_written_net_ids NoneAnswersIn OfRun.none_answers_are wire wire_is_codec n ok es s run;
+  traced = runs_disclose n es s run;
   closed = λ trace disclosed. says_as_blind wire n es trace s disclosed;
 }
 

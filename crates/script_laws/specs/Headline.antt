@@ -28,12 +28,13 @@ all_octets (c ∷ cs) = fed_octets c.event + all_octets cs
 
 -- The entries are those of a run. Each path that a client is answered in it is feasible and of least cost among all walks through the
 -- asked domains in order, each domain as it stood when its element took the request; where a client is answered NO-PATH of nature 0,
--- none exists. And what closed peers hear is what a network without topologies says on the disclosed trace: requests, policy and
--- disclosed border costs are all that it has.
+-- none exists. And what closed peers hear is what a network without topologies says on the disclosed trace, which there is: requests,
+-- policy and disclosed border costs are all that it has.
 pub record IsRight (n : NetworkParts) (es : List Entry) (s : Plant) : Type 0 where
   pub run : Run wire n es s
   pub least : IsShort (deeds_of wire n es) → LeastAnswersIn wire n es s
   pub none : IsShort (deeds_of wire n es) → NoneAnswersIn wire n es s
+  pub traced : ¬ ((trace : List BlindEvent) → ¬ DisclosedRun wire n es trace s)
   pub closed : (trace : List BlindEvent) → DisclosedRun wire n es trace s → (b : BlindState) × BlindSays wire n trace (heard wire n (deeds_of wire n es)) b
 
 -- no element sends a neighbour more requests than there are ids

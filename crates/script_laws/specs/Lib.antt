@@ -1,3 +1,4 @@
 -- for readers
 pub mod Laws
 pub mod Headline
+pub mod Disclosing

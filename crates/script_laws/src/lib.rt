@@ -2,6 +2,7 @@
 //! do nothing.
 #![tactic(auto)]
 
+ghost use Rattle.script_laws.specs.Disclosing.{RunsDisclose, ShownFromTheFirst, ShownIsDisclosed};
 ghost use Rattle.script_laws.specs.Headline.{ScriptsAreRight};
 ghost use Rattle.script_laws.specs.Laws.{LinesAreGiven, LinesGoOn, RunsAreLoadable, ScriptsAreRuns, ScriptsGoOn, ScriptsKeepSettings};
 
@@ -30,4 +31,16 @@ pub fn scripts_are_runs()
 /// two suppose that no id comes round, which is so without a parent where no more octets are fed than there are ids.
 pub fn scripts_are_right()
     ensures { ScriptsAreRight }
+{}
+
+/// Each run has a disclosed trace.
+pub fn runs_disclose()
+    ensures { RunsDisclose }
+{}
+
+/// While rows are shown, what is shown of each solve is what it discloses. So a transcript that shows rows from its first
+/// line on has the disclosed trace of its run.
+pub fn shown_is_disclosed()
+    ensures go_on { ShownIsDisclosed }
+    ensures from_start { ShownFromTheFirst }
 {}
