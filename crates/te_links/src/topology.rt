@@ -1,9 +1,9 @@
 //! The topology of one domain, by its rows in order.
 ghost use Rattle.std.specs.Prelude.{◌≡◌, ◌↔◌, ◌<◌, ◌^◌, [], vec_len, length, slice_get, Contains, Some, MatchOption};
 ghost use Rattle.te_links.specs.Rows.{IsTopology, IsInOrder};
-ghost use Rattle.te_links.specs.Index.{IsIndex, IsLinksInto, IsIndexFrom, IsLinksFrom, AreTails, LinkBeginsAt};
+ghost use Rattle.te_links.specs.Index.{IsIndex, IsLinksInto, IsIndexFrom, IsLinksFrom, AreTails, AreHeads, LinkBeginsAt, LinkEndsAt};
 
-use crate::index::place_of;
+use crate::index::{Ends, place_of};
 use crate::rows::{Entry, OutLink};
 use dom_base::{Addr, As, Link};
 use std::alloc::Global;
@@ -21,7 +21,7 @@ pub struct Topology {
     entries: Vec<Entry>,
     into: Vec<Vec<u32>>,
     leaving: Vec<Vec<u32>>,
-    tails: Vec<u32>,
+    ends: Ends,
 }
 
 impl Model for Topology {
@@ -45,14 +45,15 @@ impl Topology {
         entries: Vec<Entry>,
         into: Vec<Vec<u32>>,
         leaving: Vec<Vec<u32>>,
-        tails: Vec<u32>,
+        ends: Ends,
     ) -> Topology
         requires rules { IsTopology (record { own = own; nodes = nodes.items; links = links.items; outs = outs.items; entries = entries.items }) }
         requires order { IsInOrder (record { own = own; nodes = nodes.items; links = links.items; outs = outs.items; entries = entries.items }) }
         requires short { vec_len entries < 2 ^ 32 }
         requires index { IsIndex nodes.items links.items into.items }
         requires leaving { IsIndexFrom nodes.items links.items leaving.items }
-        requires tails { AreTails nodes.items links.items tails.items }
+        requires tails { AreTails nodes.items links.items ends.tails.items }
+        requires heads { AreHeads nodes.items links.items ends.heads.items }
         ensures { result ≡ record { own = own; nodes = nodes.items; links = links.items; outs = outs.items; entries = entries.items } }
     {
         Topology {
@@ -63,7 +64,7 @@ impl Topology {
             entries,
             into,
             leaving,
-            tails,
+            ends,
         }
     }
 
@@ -83,7 +84,7 @@ impl Topology {
             entries: Vec::new(alloc),
             into: Vec::new(alloc),
             leaving: Vec::new(alloc),
-            tails: Vec::new(alloc),
+            ends: Ends::none(alloc),
         }
     }
 
@@ -147,7 +148,15 @@ impl Topology {
         requires { i < length self.now.links }
         ensures { LinkBeginsAt self.now.nodes self.now.links result i }
     {
-        self.tails[i as usize]
+        self.ends.tails[i as usize]
+    }
+
+    /// The place of the node that a link ends at.
+    pub fn head_of(&self, i: u32) -> u32
+        requires { i < length self.now.links }
+        ensures { LinkEndsAt self.now.nodes self.now.links result i }
+    {
+        self.ends.heads[i as usize]
     }
 
     pub fn out_at(&self, i: u32) -> &OutLink
