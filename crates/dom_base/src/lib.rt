@@ -25,6 +25,6 @@ pub use list::{Bytes, List};
 pub use names::{As, NoMemory, Peer, Tick};
 pub use numerals::{read_colour, read_number, write_colour, write_number};
 pub use octets::{half, word};
-pub use query::{Excluded, Exclusion, Label, Metric, Query, Seed};
+pub use query::{Excluded, Exclusion, Label, Metric, Query, Seed, copy_exclusions};
 pub use text::Text;
 pub use words::{units_of_word, whole_of_word};
