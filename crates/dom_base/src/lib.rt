@@ -19,7 +19,7 @@ pub use addr::Addr;
 pub use addr_text::{read_addr, write_addr};
 pub use border::{BorderRow, ParentLink};
 pub use cost::{Cost, word_of_cost};
-pub use limits::COST_MAX;
+pub use limits::{COST_MAX, limits_are_numbers};
 pub use link::Link;
 pub use list::{Bytes, List};
 pub use names::{As, NoMemory, Peer, Tick};

@@ -1,6 +1,6 @@
 //! Relaxation of costs over edges until none falls.
 ghost use Rattle.std.specs.Prelude.{◌≡◌, ◌≤◌, ◌+◌, ◌↔◌, All, IsTrue, SomeIff, MatchBool, OnOk};
-ghost use Rattle.dom_base.specs.Limits.{cost_max};
+ghost use Rattle.dom_base.specs.declared.limits.TheConstants.{COST_MAX};
 ghost use Rattle.pce_parent.specs.Costs.{IsBelow, IsStep, IsRelaxed, AreReached, Falls};
 
 use crate::arcs::Arc;
@@ -22,7 +22,7 @@ fn is_below(found: Cost, old: Option<Cost>) -> bool
 
 // The sum of an edge's cost and what follows, if it is within the cap.
 fn sum_within(cap: Cost, cost: u32, rest: Cost) -> Option<Cost>
-    requires { cost ≤ cost_max }
+    requires { cost ≤ COST_MAX }
     ensures { SomeIff result (cost + rest ≤ cap) (cost + rest) }
 {
     let sum = cost + rest.get();
