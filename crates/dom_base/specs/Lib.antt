@@ -7,3 +7,4 @@ pub mod Steps
 pub mod AddrOrder
 pub mod AddrText
 pub mod Limits
+pub mod AddrRows

@@ -2,6 +2,7 @@
 #![tactic(auto)]
 
 mod addr;
+mod addr_rows;
 mod addr_text;
 mod border;
 mod cost;
@@ -16,6 +17,7 @@ mod text;
 mod words;
 
 pub use addr::Addr;
+pub use addr_rows::said_of;
 pub use addr_text::{read_addr, write_addr};
 pub use border::{BorderRow, ParentLink};
 pub use cost::{Cost, word_of_cost};
