@@ -5,8 +5,7 @@ ghost use Rattle.border_costs.specs.Asks.{beyond, AreSeeds, target_seed, HasNoDo
 
 use crate::job::{Ask, Down, Target};
 use dom_base::{Addr, As, Cost, NoMemory, Query, Seed};
-use path_constraints::{fits, weight};
-use path_exclusions::bars_link;
+use path_constraints::{allows, weight};
 use std::alloc::Global;
 use te_links::Links;
 
@@ -72,7 +71,7 @@ fn seed_at<'a, G: Links<'a>>(
     ensures { MatchOption result (IsNoSeedAt (G.rows links.now) query.now next down.now index) (IsSeedAt (G.rows links.now) query.now next down.now index) }
 {
     let out = links.out_at(index);
-    if out.to_as != next || !fits(query, &out.link) || bars_link(query, &out.link) {
+    if out.to_as != next || !allows(query, &out.link) {
         return None;
     }
     let Some(beyond) = down_cost(down, out.link.to) else {

@@ -5,8 +5,7 @@ ghost use Rattle.border_costs.specs.Ways.{IsWayAt, IsNoWayAt, AreWays};
 use crate::job::{Ask, Target};
 use crate::seeds::seed_of_target;
 use dom_base::{Addr, As, Cost, NoMemory, Query, Seed};
-use path_constraints::{fits, weight};
-use path_exclusions::bars_link;
+use path_constraints::{allows, weight};
 use std::alloc::Global;
 use te_links::Links;
 
@@ -35,7 +34,7 @@ fn way_at<'a, G: Links<'a>>(links: &G, query: &Query, next: As, index: u32) -> O
     ensures { MatchOption result (IsNoWayAt (G.rows links.now) query.now next index) (IsWayAt (G.rows links.now) query.now next index) }
 {
     let out = links.out_at(index);
-    if out.to_as != next || !fits(query, &out.link) || bars_link(query, &out.link) {
+    if out.to_as != next || !allows(query, &out.link) {
         return None;
     }
     let Some(cost) = cost_within(query.cap, weight(&out.link, query.metric)) else {

@@ -6,7 +6,7 @@ use Rattle.dom_base.specs.declared.query.Query.{Query}
 use Rattle.dom_base.specs.declared.query.Exclusion.{Exclusion}
 use Rattle.dom_base.specs.declared.query.Excluded.TheVariants.{AsNumber}
 use Rattle.dom_base.specs.declared.limits.TheConstants.{COST_MAX}
-use Rattle.dom_base.specs.Admission.{weight, Fits, BarsLink}
+use Rattle.dom_base.specs.Admission.{weight, Allows}
 use Rattle.plant_model.specs.declared.upper.ChildRow.{ChildRow}
 use Rattle.plant_model.specs.declared.upper.BorderJob.{BorderJob}
 use Rattle.plant_model.specs.BorderGraph.{Enter, Leave, ExcludesAs}
@@ -20,8 +20,7 @@ NamesDomain x a = x ≡ record { avoid = false; what = AsNumber a }
 
 -- the query admits a link between two domains
 pub record IsOpenLink (q : Query) (l : ParentLink) : Type 0 where
-  pub fits : Fits q l.link
-  pub free : ¬ BarsLink q l.link
+  pub allowed : Allows q l.link
   pub from_open : ¬ ExcludesAs q l.from_as
   pub to_open : ¬ ExcludesAs q l.to_as
 
