@@ -12,11 +12,6 @@ use Rattle.pce_parent.specs.Places.{IsAt, same_spot, spot_of}
 abbrev pub cost_at : List (Option ℕ) → ℕ → Option ℕ
 cost_at costs k = slice_index_or costs k None
 
--- strictly less; no cost is the greatest
-abbrev pub IsBelow : ℕ → Option ℕ → Type 0
-IsBelow n None = Unit {0}
-IsBelow n (Some c) = n < c
-
 -- what stands at first
 abbrev pub start_cost : Addr → Spot → Option ℕ
 start_cost target s = cond (same_spot s (spot_of (Leave s.own target))) (Some 0) None
