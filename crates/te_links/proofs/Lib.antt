@@ -1,5 +1,4 @@
 pub mod Rising
-pub mod Searching
 pub mod Ends
 pub mod Grouping
 pub mod Nothing

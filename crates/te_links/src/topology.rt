@@ -1,9 +1,9 @@
 //! The topology of one domain, by its rows in order.
-ghost use Rattle.std.specs.Prelude.{◌≡◌, ◌↔◌, ◌<◌, ◌^◌, [], vec_len, length, slice_get, Contains, Some, MatchOption};
+ghost use Rattle.std.specs.Prelude.{◌≡◌, ◌↔◌, ◌<◌, ◌^◌, ℕ, [], vec_len, length, slice_get, Contains, Some, MatchOption};
 ghost use Rattle.te_links.specs.Rows.{IsTopology, IsInOrder};
-ghost use Rattle.te_links.specs.Index.{IsIndex, IsLinksInto, IsIndexFrom, IsLinksFrom, AreTails, AreHeads, LinkBeginsAt, LinkEndsAt};
+ghost use Rattle.te_links.specs.Index.{IsIndex, IsLinksInto, IsIndexFrom, IsLinksFrom, IsLinkAt, AreTails, AreHeads, LinkBeginsAt, LinkEndsAt};
 
-use crate::index::{Ends, place_of};
+use crate::index::{Ends, place_of, place_of_far};
 use crate::rows::{Entry, OutLink};
 use dom_base::{Addr, As, Link};
 use std::alloc::Global;
@@ -178,6 +178,17 @@ impl Topology {
         ensures { MatchOption result (¬ Contains self.now.nodes addr) (λ i. slice_get self.now.nodes i ≡ Some addr) }
     {
         let place = place_of(&self.nodes, addr)?;
+        Some(place as u32)
+    }
+
+    /// The place of the link with a far address; none where there is no such link. Takes logarithmic
+    /// time.
+    pub fn find_link(&self, far: Addr) -> Option<u32>
+        ensures { MatchOption result ((i : ℕ) → ¬ IsLinkAt self.now.links far i) (IsLinkAt self.now.links far) }
+    {
+        let Some(place) = place_of_far(&self.links, far) else {
+            return None;
+        };
         Some(place as u32)
     }
 
