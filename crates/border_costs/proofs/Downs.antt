@@ -8,7 +8,8 @@ use Rattle.std.proofs.lemmas.List.Elements.{Contains-append_left, Contains-push,
 use Rattle.dom_base.specs.declared.addr.Addr.{Addr}
 use Rattle.walk_laws.specs.Borders.{Beyond, IsDown}
 use Rattle.border_costs.specs.declared.job.Down.{Down}
-use Rattle.border_costs.specs.Asks.{beyond, HasNoDown, IsLess}
+use Rattle.dom_base.specs.Costs.{IsLess}
+use Rattle.border_costs.specs.Asks.{beyond, HasNoDown}
 
 abbrev pub row_of : Down → Beyond
 row_of d = record { node = d.node; cost = d.cost }

@@ -1,6 +1,6 @@
 -- Where each row that the next domain told is of a branch, each node beyond an exit has a branch.
-use Rattle.std.proofs.Common.{◌≡◌, List, [], ◌∷◌, inl, inr, None, Some, sym, ap, ◌∙◌, subst}
-use Rattle.std.specs.Prelude.{All, Contains, IfSome}
+use Rattle.std.proofs.Common.{◌≡◌, List, [], ◌∷◌, inl, inr, sym, ap, subst}
+use Rattle.std.specs.Prelude.{All, IfSome}
 use Rattle.std.specs.declared.option.Option.{Option}
 use Rattle.std.proofs.lemmas.List.Elements.{All-nil, All-cons, All-contains}
 use Rattle.dom_base.specs.declared.addr.Addr.{Addr}

@@ -1,5 +1,5 @@
 -- The pairs of an ask are the joins of its border table.
-use Rattle.std.proofs.Common.{◌≡◌, ◌⊎◌, ◌+◌, ◌≤◌, ℕ, suc, List, ◌∷◌, Option, Some, None, sym, ◌∙◌, ap, subst, inl, inr, refl, arith}
+use Rattle.std.proofs.Common.{◌≡◌, suc, List, Option, Some, None, sym, ◌∙◌, ap, subst, inr, refl, arith}
 use Rattle.std.specs.Prelude.{Contains, ◌↔◌}
 use Rattle.dom_base.specs.AddrOrder.{rank}
 use Rattle.dom_base.specs.declared.addr.Addr.{Addr}
@@ -9,16 +9,15 @@ use Rattle.dom_base.specs.declared.link.Link.{Link}
 use Rattle.dom_base.specs.declared.query.Query.{Query}
 use Rattle.dom_base.specs.declared.query.Label.{Label}
 use Rattle.te_links.specs.Rows.{Rows}
-use Rattle.walk_laws.specs.Walks.{IsFeasible, IsLeast, cost}
+use Rattle.walk_laws.specs.Walks.{IsLeast, cost}
 use Rattle.walk_laws.specs.Borders.{Beyond, IsDown, IsBorderRow, Joins, IsJoin, IsJoinAt}
 use Rattle.walk_laws.specs.TableJoins.{RowJoins, RowEnds, IsTableJoin, IsTableEnd}
 use Rattle.walk_laws.proofs.Composing.{least_exists}
 use Rattle.border_costs.specs.declared.job.Target.{Target}
 use Rattle.border_costs.specs.declared.job.Target.TheVariants.{Node, Next}
 use Rattle.border_costs.specs.declared.job.Down.{Down}
-use Rattle.border_costs.specs.declared.job.Ask.{Ask}
 use Rattle.border_costs.specs.Asks.{beyond, IsPairTo}
-use Rattle.border_costs.specs.Tables.{IsRowTo, IsRowOver, IsRowAt, IsTableRow}
+use Rattle.border_costs.specs.Tables.{IsRowTo, IsRowAt}
 use Rattle.border_costs.specs.Composing.{IsTableJoinTo, TableTellsPairs}
 
 -- the table has the rows of an entry to a target, and no others

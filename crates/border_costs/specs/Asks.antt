@@ -1,5 +1,5 @@
 -- What an ask means: its seeds, and for each entry the least pair of a cost and an exit (RFC 5441, section 4.2).
-use Rattle.std.specs.Prelude.{◌≡◌, ◌≤◌, ◌<◌, ℕ, List, [], ◌∷◌, length, map, Contains, None, Some, slice_get}
+use Rattle.std.specs.Prelude.{◌≡◌, ◌≤◌, ℕ, List, [], ◌∷◌, length, map, Contains, None, Some, slice_get}
 use Rattle.std.specs.declared.option.Option.{Option}
 use Rattle.dom_base.specs.declared.addr.Addr.{Addr}
 use Rattle.dom_base.specs.declared.names.As.{As}
@@ -22,11 +22,6 @@ beyond down = map (λ d. record { node = d.node; cost = d.cost }) down
 -- no row is of this node
 abbrev pub HasNoDown : List Beyond → Addr → Type 0
 HasNoDown down n = (c : ℕ) → ¬ Contains down (record { node = n; cost = c })
-
--- strictly less than the cost, if there is one
-abbrev pub IsLess : ℕ → Option ℕ → Type 0
-IsLess c None = Unit {0}
-IsLess c (Some least) = c < least
 
 -- a target in this domain, at no cost, with itself as the exit
 abbrev pub target_seed : Addr → Seed

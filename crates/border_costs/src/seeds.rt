@@ -1,23 +1,13 @@
 //! The seeds of an ask: its target, or its out links with what lies beyond.
-ghost use Rattle.std.specs.Prelude.{◌≡◌, ◌<◌, ◌≤◌, ◌+◌, ◌↔◌, length, IsTrue, SomeIff, IfOk, MatchOption};
+ghost use Rattle.std.specs.Prelude.{◌≡◌, ◌<◌, length, IfOk, MatchOption};
 ghost use Rattle.walk_laws.specs.Borders.{IsDown};
-ghost use Rattle.border_costs.specs.Asks.{beyond, AreSeeds, target_seed, HasNoDown, IsLess, IsSeedAt, IsNoSeedAt};
+ghost use Rattle.border_costs.specs.Asks.{beyond, AreSeeds, target_seed, HasNoDown, IsSeedAt, IsNoSeedAt};
 
 use crate::job::{Ask, Down, Target};
 use dom_base::{Addr, As, Cost, NoMemory, Query, Seed};
-use path_constraints::{fits, weight};
-use path_exclusions::bars_link;
+use path_constraints::{allows, weight};
 use std::alloc::Global;
 use te_links::Links;
-
-fn is_less(cost: Cost, least: &Option<Cost>) -> bool
-    ensures { IsTrue result ↔ IsLess cost least.now }
-{
-    match least {
-        Some(least) => cost < *least,
-        None => true,
-    }
-}
 
 // The least cost among the rows of a node.
 fn down_cost(down: &[Down], node: Addr) -> Option<Cost>
@@ -25,7 +15,7 @@ fn down_cost(down: &[Down], node: Addr) -> Option<Cost>
 {
     let mut least: Option<Cost> = None;
     for row in down {
-        if row.node == node && is_less(row.cost, &least) {
+        if row.node == node && row.cost.is_less(&least) {
             least = Some(row.cost);
         }
     }
@@ -36,27 +26,11 @@ fn down_cost(down: &[Down], node: Addr) -> Option<Cost>
 pub fn seed_of_target(target: Addr) -> Seed
     ensures { result ≡ target_seed target }
 {
-    let Some(cost) = Cost::of(0) else {
-        unreachable!()
-    };
     Seed {
         node: target,
-        cost,
+        cost: Cost::zero(),
         exit: target,
     }
-}
-
-// The sum of a weight and a cost, if it is within the cap.
-fn sum_within(cap: Cost, weight: u32, cost: Cost) -> Option<Cost>
-    ensures { SomeIff result (weight + cost ≤ cap) (weight + cost) }
-{
-    let Some(sum) = weight.checked_add(cost.get()) else {
-        return None;
-    };
-    if sum > cap.get() {
-        return None;
-    }
-    Cost::of(sum)
 }
 
 // The seed of the out link at a place, if it leads to the next domain, is admitted and has a row
@@ -72,13 +46,13 @@ fn seed_at<'a, G: Links<'a>>(
     ensures { MatchOption result (IsNoSeedAt (G.rows links.now) query.now next down.now index) (IsSeedAt (G.rows links.now) query.now next down.now index) }
 {
     let out = links.out_at(index);
-    if out.to_as != next || !fits(query, &out.link) || bars_link(query, &out.link) {
+    if out.to_as != next || !allows(query, &out.link) {
         return None;
     }
     let Some(beyond) = down_cost(down, out.link.to) else {
         return None;
     };
-    let Some(cost) = sum_within(query.cap, weight(&out.link, query.metric), beyond) else {
+    let Some(cost) = Cost::sum_within(query.cap, weight(&out.link, query.metric), beyond) else {
         return None;
     };
     Some(Seed {

@@ -1,12 +1,11 @@
 //! The ways out of a domain, each as the seed of a search.
-ghost use Rattle.std.specs.Prelude.{◌≡◌, ◌<◌, ◌≤◌, length, SomeIff, IfOk, MatchOption};
+ghost use Rattle.std.specs.Prelude.{◌≡◌, ◌<◌, length, IfOk, MatchOption};
 ghost use Rattle.border_costs.specs.Ways.{IsWayAt, IsNoWayAt, AreWays};
 
 use crate::job::{Ask, Target};
 use crate::seeds::seed_of_target;
 use dom_base::{Addr, As, Cost, NoMemory, Query, Seed};
-use path_constraints::{fits, weight};
-use path_exclusions::bars_link;
+use path_constraints::{allows, weight};
 use std::alloc::Global;
 use te_links::Links;
 
@@ -18,16 +17,6 @@ pub struct Way {
     pub head: Addr,
 }
 
-// A weight as a cost, if it is within the cap.
-fn cost_within(cap: Cost, weight: u32) -> Option<Cost>
-    ensures { SomeIff result (weight ≤ cap) weight }
-{
-    if weight > cap.get() {
-        return None;
-    }
-    Cost::of(weight)
-}
-
 // The way over the out link at a place, if it leads to the next domain and is admitted, and its
 // weight is within the cap.
 fn way_at<'a, G: Links<'a>>(links: &G, query: &Query, next: As, index: u32) -> Option<Way>
@@ -35,10 +24,10 @@ fn way_at<'a, G: Links<'a>>(links: &G, query: &Query, next: As, index: u32) -> O
     ensures { MatchOption result (IsNoWayAt (G.rows links.now) query.now next index) (IsWayAt (G.rows links.now) query.now next index) }
 {
     let out = links.out_at(index);
-    if out.to_as != next || !fits(query, &out.link) || bars_link(query, &out.link) {
+    if out.to_as != next || !allows(query, &out.link) {
         return None;
     }
-    let Some(cost) = cost_within(query.cap, weight(&out.link, query.metric)) else {
+    let Some(cost) = Cost::within(query.cap, weight(&out.link, query.metric)) else {
         return None;
     };
     Some(Way {

@@ -39,7 +39,7 @@ use Rattle.diverse_pairs.proofs.Judging.{paths_hold, links_differ}
 use Rattle.diverse_pairs.proofs.Linked.{admitted_arc, one_link, at_among, among_at}
 use Rattle.diverse_pairs.proofs.Shortness.{path_few}
 use Rattle.diverse_pairs.proofs.Places.{one_far, fars_differ, at_append, fresh_append}
-use Rattle.diverse_pairs.proofs.Potentials.{potential_present, potential_absent}
+use Rattle.dom_base.proofs.Said.{said_present, said_absent}
 use Rattle.diverse_pairs.proofs.Tracing.{ended, front_differs}
 use Rattle.diverse_pairs.proofs.Walked.{is_left, among_ds, drops, climbs, falling_both, falling_taken, fresh_path, lies_path, taken_used, all_taken}
 use Rattle.diverse_pairs.proofs.InUse.{leads, walked, path_links, chosen_pair}
@@ -68,8 +68,8 @@ potential_is g heights top rows i n valid are at_i = record {
   high = λ reached.
       let row : Addr × ℕ = (n, top - at heights i) in
       let has = are.whole i n (record { at_place = at_i; reached = reached }) in
-      potential_present rows n has.0 row are.rising has.1 (ap (λ (r : Addr × ℕ). rank r.0) has.2) ∙ ap (λ (r : Addr × ℕ). r.1) has.2;
-  none = λ far. potential_absent rows n (λ k d below same.
+      said_present 0 rows n has.0 row are.rising has.1 (ap (λ (r : Addr × ℕ). rank r.0) has.2) ∙ ap (λ (r : Addr × ℕ). r.1) has.2;
+  none = λ far. said_absent 0 rows n (λ k d below same.
       let r = slice_index_or rows k d in
       let stands = are.sound r.0 r.1 (k, below, get_or_default rows k r d below) in
       let node : r.0 ≡ n = same_addr r.0 n same in

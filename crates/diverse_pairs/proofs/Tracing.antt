@@ -12,7 +12,8 @@ use Rattle.te_links.specs.Rows.{Rows, IsTopology, IsInOrder}
 use Rattle.te_links.specs.declared.limits.TheConstants.{LINKS_MAX}
 use Rattle.te_links.proofs.Different.{few_covered}
 use Rattle.walk_laws.specs.Walks.{AdmitsNode}
-use Rattle.path_certificate.specs.Offers.{IsLinkAt, IsAdmittedAt}
+use Rattle.te_links.specs.Index.{IsLinkAt}
+use Rattle.path_certificate.specs.Offers.{IsAdmittedAt}
 use Rattle.path_certificate.proofs.Making.{place_of, contains_at}
 use Rattle.path_certificate.proofs.Leading.{same_link}
 use Rattle.diverse_pairs.specs.Conditions.{LeadsAlong, Traces, TracesOver}
@@ -20,29 +21,29 @@ use Rattle.diverse_pairs.specs.Steps.{IsStep, IsFirstNot}
 
 -- ---- one step
 
-pub no_link : (g : Rows) (q : Query) (n far : Addr) → ((i : ℕ) → IsLinkAt g far i → ⊥) → (m : Addr) → IsStep g q n far m → ⊥
+pub no_link : (g : Rows) (q : Query) (n far : Addr) → ((i : ℕ) → IsLinkAt g.links far i → ⊥) → (m : Addr) → IsStep g q n far m → ⊥
 no_link g q n far none m step =
     let at = place_of g.links step.link step.admitted.is_link in
     none at.0 (record { link = step.link; at_link = at.1; same_far = step.same_far })
 
 -- the link of a step is the one at its place
-pub step_at : (g : Rows) (q : Query) (n far : Addr) (i : ℕ) → IsInOrder g → (at : IsLinkAt g far i) → (m : Addr) → (step : IsStep g q n far m) → at.link ≡ step.link
+pub step_at : (g : Rows) (q : Query) (n far : Addr) (i : ℕ) → IsInOrder g → (at : IsLinkAt g.links far i) → (m : Addr) → (step : IsStep g q n far m) → at.link ≡ step.link
 step_at g q n far i order at m step =
     same_link g at.link step.link order (contains_at g.links i at.link at.at_link) step.admitted.is_link (at.same_far ∙ sym step.same_far)
 
-pub not_admitted : (g : Rows) (q : Query) (n far : Addr) (i : ℕ) → IsInOrder g → IsLinkAt g far i → ((l : Link) → IsAdmittedAt g q i l → ⊥) → (m : Addr) → IsStep g q n far m → ⊥
+pub not_admitted : (g : Rows) (q : Query) (n far : Addr) (i : ℕ) → IsInOrder g → IsLinkAt g.links far i → ((l : Link) → IsAdmittedAt g q i l → ⊥) → (m : Addr) → IsStep g q n far m → ⊥
 not_admitted g q n far i order at none m step =
     none step.link (record { at_link = at.at_link ∙ ap (λ (l : Link). Some l) (step_at g q n far i order at m step); admitted = step.admitted })
 
-one_link : (g : Rows) (q : Query) (far : Addr) (i : ℕ) (l : Link) → (at : IsLinkAt g far i) → IsAdmittedAt g q i l → at.link ≡ l
+one_link : (g : Rows) (q : Query) (far : Addr) (i : ℕ) (l : Link) → (at : IsLinkAt g.links far i) → IsAdmittedAt g q i l → at.link ≡ l
 one_link g q far i l at is = let both : Some at.link ≡ Some l = sym at.at_link ∙ is.at_link in cc
 
-pub starts_elsewhere : (g : Rows) (q : Query) (n far : Addr) (i : ℕ) (l : Link) → IsInOrder g → IsLinkAt g far i → IsAdmittedAt g q i l → (l.from ≡ n → ⊥) → (m : Addr) → IsStep g q n far m → ⊥
+pub starts_elsewhere : (g : Rows) (q : Query) (n far : Addr) (i : ℕ) (l : Link) → IsInOrder g → IsLinkAt g.links far i → IsAdmittedAt g q i l → (l.from ≡ n → ⊥) → (m : Addr) → IsStep g q n far m → ⊥
 starts_elsewhere g q n far i l order at is other m step =
     let same : l ≡ step.link = sym (one_link g q far i l at is) ∙ step_at g q n far i order at m step in
     other (ap (λ (k : Link). k.from) same ∙ step.from)
 
-pub step_made : (g : Rows) (q : Query) (n far : Addr) (i : ℕ) (l : Link) → IsLinkAt g far i → IsAdmittedAt g q i l → l.from ≡ n → IsStep g q n far l.to
+pub step_made : (g : Rows) (q : Query) (n far : Addr) (i : ℕ) (l : Link) → IsLinkAt g.links far i → IsAdmittedAt g q i l → l.from ≡ n → IsStep g q n far l.to
 step_made g q n far i l at is from =
     record { link = l; same_far = ap (λ (k : Link). k.far) (sym (one_link g q far i l at is)) ∙ at.same_far; from = from; admitted = is.admitted; to = refl }
 

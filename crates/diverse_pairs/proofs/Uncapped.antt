@@ -22,8 +22,10 @@ node_down g q n a = record { is_node = a.is_node; free = λ bars. a.free (record
 pub link_up : (g : Rows) (q : Query) (l : Link) → AdmitsLink g q l → AdmitsLink g (uncapped q) l
 link_up g q l a = record {
   is_link = a.is_link;
-  fits = record { bandwidth = a.fits.bandwidth; exclude_any = a.fits.exclude_any; include_any = a.fits.include_any; include_all = a.fits.include_all };
-  free = λ bars. a.free (record { row = bars.row; is_row = bars.is_row; strict = bars.strict; names = bars.names });
+  allowed = record {
+    fits = record { bandwidth = a.allowed.fits.bandwidth; exclude_any = a.allowed.fits.exclude_any; include_any = a.allowed.fits.include_any; include_all = a.allowed.fits.include_all };
+    free = λ bars. a.allowed.free (record { row = bars.row; is_row = bars.is_row; strict = bars.strict; names = bars.names });
+  };
   from = node_up g q l.from a.from;
   to = node_up g q l.to a.to;
 }
@@ -31,8 +33,10 @@ link_up g q l a = record {
 pub link_down : (g : Rows) (q : Query) (l : Link) → AdmitsLink g (uncapped q) l → AdmitsLink g q l
 link_down g q l a = record {
   is_link = a.is_link;
-  fits = record { bandwidth = a.fits.bandwidth; exclude_any = a.fits.exclude_any; include_any = a.fits.include_any; include_all = a.fits.include_all };
-  free = λ bars. a.free (record { row = bars.row; is_row = bars.is_row; strict = bars.strict; names = bars.names });
+  allowed = record {
+    fits = record { bandwidth = a.allowed.fits.bandwidth; exclude_any = a.allowed.fits.exclude_any; include_any = a.allowed.fits.include_any; include_all = a.allowed.fits.include_all };
+    free = λ bars. a.allowed.free (record { row = bars.row; is_row = bars.is_row; strict = bars.strict; names = bars.names });
+  };
   from = node_down g q l.from a.from;
   to = node_down g q l.to a.to;
 }

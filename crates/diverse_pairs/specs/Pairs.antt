@@ -1,6 +1,6 @@
 -- Pairs of walks that have no link in common (RFC 5440, section 7.13.2, link diversity), and which of them are least.
 use Rattle.std.specs.Prelude.{◌≢◌, ◌+◌, ◌≤◌, ℕ, List, ◌++◌, AllPairs}
-use Rattle.dom_base.specs.Limits.{cost_max}
+use Rattle.dom_base.specs.declared.limits.TheConstants.{COST_MAX}
 use Rattle.dom_base.specs.declared.addr.Addr.{Addr}
 use Rattle.dom_base.specs.declared.link.Link.{Link}
 use Rattle.dom_base.specs.declared.query.Query.{Query}
@@ -20,7 +20,7 @@ pair_sum q first second = cost q first + cost q second
 -- a pair within the greatest cost
 pub record IsFeasiblePair (g : Rows) (q : Query) (s t : Addr) (first second : List Link) : Type 0 where
   pub pair : IsPair g q s t first second
-  pub within : pair_sum q first second ≤ cost_max
+  pub within : pair_sum q first second ≤ COST_MAX
 
 -- no pair has a smaller sum
 pub record IsLeastPair (g : Rows) (q : Query) (s t : Addr) (first second : List Link) : Type 0 where

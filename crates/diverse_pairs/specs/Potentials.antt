@@ -1,14 +1,14 @@
 -- Potentials: a number for each address.
-use Rattle.std.specs.Prelude.{ℕ, ◌<◌, ◌==◌, List, [], ◌∷◌, AllPairs, if◌then◌else◌}
+use Rattle.std.specs.Prelude.{ℕ, ◌<◌, List, AllPairs}
 use Rattle.dom_base.specs.AddrOrder.{rank}
+use Rattle.dom_base.specs.AddrRows.{said_of}
 use Rattle.dom_base.specs.declared.addr.Addr.{Addr}
 use Rattle.diverse_pairs.specs.declared.certificate.PairForm.{PairForm}
 use Rattle.diverse_pairs.specs.declared.certificate.PairForm.TheVariants.{Paths, Cut}
 
 -- the potential of an address, which is 0 where no row names it
 abbrev pub potential_in : List (Addr × ℕ) → Addr → ℕ
-potential_in [] n = 0
-potential_in (row ∷ rows) n = if rank row.0 == rank n then row.1 else potential_in rows n
+potential_in rows n = said_of 0 rows n
 
 -- the rows stand in strictly rising order of address
 abbrev pub AreRising : List (Addr × ℕ) → Type 0

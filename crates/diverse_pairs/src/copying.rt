@@ -2,21 +2,11 @@
 ghost use Rattle.std.specs.Prelude.{◌≡◌, IfOk};
 ghost use Rattle.diverse_pairs.specs.Asking.{is_svec as is_joining, plain};
 
-use dom_base::{Exclusion, List, NoMemory};
+use dom_base::{List, NoMemory, copy_exclusions};
 use pcep_codes::{classes, kinds};
 use pcep_objects::{Body, Object};
 use pcep_subobjects::copy_hops;
 use std::alloc::Global;
-
-fn copy_exclusions(alloc: Global, list: &[Exclusion]) -> Result<List<Exclusion>, NoMemory>
-    ensures { IfOk result (λ copies. copies ≡ list.now) }
-{
-    let mut copies = List::new(alloc);
-    for exclusion in list {
-        copies.push(exclusion.copy(alloc)?)?;
-    }
-    Ok(copies)
-}
 
 fn metric(bound: bool, computed: bool, kind: u8, word: u32) -> Body
     ensures { result ≡ Body.Metric bound computed kind word }

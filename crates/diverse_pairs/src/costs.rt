@@ -9,7 +9,6 @@ ghost use Rattle.walk_laws.specs.Walks.{cost};
 ghost use Rattle.diverse_pairs.specs.Conditions.{IsShownBy};
 
 use dom_base::{Addr, Query};
-use path_certificate::link_with;
 use path_constraints::weight;
 use te_links::Topology;
 
@@ -20,7 +19,7 @@ fn weight_at(topology: &Topology, query: &Query, far: Addr) -> u32
     ensures bound { result ≤ METRIC_MAX }
     ensures weight { (l : Link) → Contains topology.now.links l → l.far ≡ far → result ≡ weight_of query.now.metric l }
 {
-    let Some(index) = link_with(topology, far) else {
+    let Some(index) = topology.find_link(far) else {
         return 0;
     };
     let link = topology.link_at(index);

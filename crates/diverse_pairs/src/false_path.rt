@@ -7,7 +7,7 @@ ghost use Rattle.diverse_pairs.specs.Steps.{IsStep, IsFirstNot};
 
 use crate::look_up::is_in_use;
 use dom_base::{Addr, Query};
-use path_certificate::{admits_node, admitted_link, link_with};
+use path_certificate::{admits_node, admitted_link};
 use te_links::{LINKS_MAX, Topology};
 
 // Where the admitted link with a far address leads from a node.
@@ -16,7 +16,7 @@ fn step_over(topology: &Topology, query: &Query, node: Addr, far: Addr) -> Optio
     requires order { IsInOrder topology.now }
     ensures { MatchOption result ((m : Addr) → ¬ IsStep topology.now query.now node far m) (IsStep topology.now query.now node far) }
 {
-    let index = link_with(topology, far)?;
+    let index = topology.find_link(far)?;
     let link = admitted_link(topology, query, index)?;
     if link.from == node {
         Some(link.to)

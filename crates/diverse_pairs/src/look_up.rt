@@ -2,7 +2,7 @@
 ghost use Rattle.std.specs.Prelude.{◌≡◌, ◌++◌, ◌↔◌, Contains, IsTrue};
 ghost use Rattle.diverse_pairs.specs.Potentials.{potential_in, AreRising};
 
-use dom_base::Addr;
+use dom_base::{Addr, said_of};
 
 /// Whether an address stands in a list.
 pub(crate) fn stands(addrs: &[Addr], addr: Addr) -> bool
@@ -25,19 +25,5 @@ pub(crate) fn potential_of(rows: &[(Addr, u64)], node: Addr) -> u64
     requires { AreRising rows.now }
     ensures { result ≡ potential_in rows.now node }
 {
-    let mut low = 0;
-    let mut high = rows.len();
-    while low < high {
-        let middle = low + (high - low) / 2;
-        let here = rows[middle].0;
-        if here == node {
-            return rows[middle].1;
-        }
-        if here < node {
-            low = middle + 1;
-        } else {
-            high = middle;
-        }
-    }
-    0
+    said_of(rows, 0, node)
 }

@@ -9,3 +9,5 @@ pub mod AddrLaws
 pub mod Ranks
 pub mod Cuts
 pub mod CostWords
+pub mod Searching
+pub mod Said

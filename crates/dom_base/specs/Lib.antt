@@ -7,3 +7,5 @@ pub mod Steps
 pub mod AddrOrder
 pub mod AddrText
 pub mod Limits
+pub mod Costs
+pub mod AddrRows

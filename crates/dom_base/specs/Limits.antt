@@ -1,6 +1,7 @@
--- Limits.
-use Rattle.std.specs.Prelude.{ℕ}
+-- The limit of costs, as a number: that which the constant of the code is.
+use Rattle.std.specs.Prelude.{◌≡◌}
+use Rattle.dom_base.specs.declared.limits.TheConstants.{COST_MAX}
 
 -- the greatest cost of a feasible path: 24 bits, so that its word of single precision is exact
-abbrev pub cost_max : ℕ
-cost_max = 16777215
+pub record LimitsAreNumbers : Type 0 where
+  pub cost : COST_MAX ≡ 16777215

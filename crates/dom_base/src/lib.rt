@@ -2,6 +2,7 @@
 #![tactic(auto)]
 
 mod addr;
+mod addr_rows;
 mod addr_text;
 mod border;
 mod cost;
@@ -16,15 +17,16 @@ mod text;
 mod words;
 
 pub use addr::Addr;
+pub use addr_rows::said_of;
 pub use addr_text::{read_addr, write_addr};
 pub use border::{BorderRow, ParentLink};
 pub use cost::{Cost, word_of_cost};
-pub use limits::COST_MAX;
+pub use limits::{COST_MAX, limits_are_numbers};
 pub use link::Link;
 pub use list::{Bytes, List};
 pub use names::{As, NoMemory, Peer, Tick};
 pub use numerals::{read_colour, read_number, write_colour, write_number};
 pub use octets::{half, word};
-pub use query::{Excluded, Exclusion, Label, Metric, Query, Seed};
+pub use query::{Excluded, Exclusion, Label, Metric, Query, Seed, copy_exclusions};
 pub use text::Text;
 pub use words::{units_of_word, whole_of_word};

@@ -1,6 +1,6 @@
 -- A label has one chosen segment, and so a request one reply.
 use Rattle.std.proofs.Common.{◌≡◌, ◌≤◌, inl, inr, ℕ, List, [], ◌∷◌, map, Some, refl, sym, ◌∙◌, ap, subst, arith}
-use Rattle.dom_base.specs.Limits.{cost_max}
+use Rattle.dom_base.specs.declared.limits.TheConstants.{COST_MAX}
 use Rattle.dom_base.specs.Words.{word_of}
 use Rattle.dom_base.proofs.CostWords.{one_word}
 use Rattle.dom_base.specs.declared.addr.Addr.{Addr}
@@ -23,7 +23,7 @@ use Rattle.one_domain.specs.Replies.{AnswersLeast, AnswersNone, IsAnswer, IsRepl
 abbrev paths : ℕ → List Addr → ℕ → Answer
 paths kind addrs word = answers.Paths (record { hops = open_of addrs; metric = Some (kind, word) } ∷ [])
 
-one_path : (g : Rows) (w : Wanted) (a b : Answer) → IsInOrder g → w.query.cap ≤ cost_max → AnswersLeast g w a → AnswersLeast g w b → a ≡ b
+one_path : (g : Rows) (w : Wanted) (a b : Answer) → IsInOrder g → w.query.cap ≤ COST_MAX → AnswersLeast g w a → AnswersLeast g w b → a ≡ b
 one_path g w a b order cap x y =
     let costs : x.cost ≡ y.cost = omega (
       arith,
@@ -32,8 +32,8 @@ one_path g w a b order cap x y =
       x.shows.least.least y.shows.links y.shows.least.feasible,
       y.shows.least.least x.shows.links x.shows.least.feasible,
     ) in
-    let small : x.cost ≤ cost_max = omega (arith, x.shows.is_cost, x.shows.least.feasible.within, cap) in
-    let small' : y.cost ≤ cost_max = omega (arith, costs, small) in
+    let small : x.cost ≤ COST_MAX = omega (arith, x.shows.is_cost, x.shows.least.feasible.within, cap) in
+    let small' : y.cost ≤ COST_MAX = omega (arith, costs, small) in
     let chosen : IsSegment g w.query (target_seeds w.target) w.source (record { cost = x.cost; exit = w.target }) y.shows.links =
     subst (λ (n : ℕ). IsSegment g w.query (target_seeds w.target) w.source (record { cost = n; exit = w.target }) y.shows.links) (sym costs) y.shows.chosen in
     let links : x.shows.links ≡ y.shows.links =
@@ -56,7 +56,7 @@ one_none g w a b x y =
     let vectors : x.vector ≡ y.vector = omega (arith, x.is_vector.sum, y.is_vector.sum, sources, targets) in
     x.is ∙ ap (λ (n : ℕ). answers.NoPath 0 n) vectors ∙ sym y.is
 
-one_answer : (g : Rows) (w : Wanted) (a b : Answer) → IsInOrder g → w.query.cap ≤ cost_max → IsAnswer g w a → IsAnswer g w b → a ≡ b
+one_answer : (g : Rows) (w : Wanted) (a b : Answer) → IsInOrder g → w.query.cap ≤ COST_MAX → IsAnswer g w a → IsAnswer g w b → a ≡ b
 one_answer g w a b order cap (inl x) (inl y) = one_path g w a b order cap x y
 one_answer g w a b order cap (inl x) (inr y) = absurd (y.none x.shows.links x.shows.least.feasible)
 one_answer g w a b order cap (inr x) (inl y) = absurd (x.none y.shows.links y.shows.least.feasible)
@@ -65,6 +65,6 @@ one_answer g w a b order cap (inr x) (inr y) = one_none g w a b x y
 abbrev replies : PathRequest → Answer → Message
 replies r answer = messages.PcRep (record { flags = r.flags; id = r.id; answer = answer } ∷ [])
 
-pub one_reply : (g : Rows) (r : PathRequest) (m n : Message) → IsInOrder g → r.wanted.query.cap ≤ cost_max → IsReply g r m → IsReply g r n → m ≡ n
+pub one_reply : (g : Rows) (r : PathRequest) (m n : Message) → IsInOrder g → r.wanted.query.cap ≤ COST_MAX → IsReply g r m → IsReply g r n → m ≡ n
 one_reply g r m n order cap x y =
     x.is ∙ ap (replies r) (one_answer g r.wanted x.answer y.answer order cap x.is_answer y.is_answer) ∙ sym y.is

@@ -16,7 +16,8 @@ use Rattle.walk_laws.proofs.Reached.{weight_positive}
 use Rattle.std.proofs.lemmas.List.Elements.{All-contains}
 use Rattle.path_certificate.specs.declared.offers.Offer.{Offer}
 use Rattle.path_certificate.specs.Claims.{LeadsByLabels, LeadsOver}
-use Rattle.path_certificate.specs.Offers.{offered, IsLinkAt, IsOffer, IsNoOffer}
+use Rattle.te_links.specs.Index.{IsLinkAt}
+use Rattle.path_certificate.specs.Offers.{offered, IsOffer, IsNoOffer}
 use Rattle.path_certificate.proofs.Making.{place_of, contains_at}
 
 -- links with the same far address are the same
@@ -35,19 +36,19 @@ same_link g l m order (i, below_i, at_i) (j, below_j, at_j) fars =
     ]
 
 -- one step needs a link with the far address
-pub no_link : (g : Rows) (q : Query) (label : Labelling) (n : Addr) (a : Label) (far : Addr) → ((i : ℕ) → IsLinkAt g far i → ⊥) →
+pub no_link : (g : Rows) (q : Query) (label : Labelling) (n : Addr) (a : Label) (far : Addr) → ((i : ℕ) → IsLinkAt g.links far i → ⊥) →
     (m : Addr) (b : Label) → LeadsByLabels g q label n a (far ∷ []) m b → ⊥
 no_link g q label n a far none m b leads =
     let at = place_of g.links leads.0 leads.2.0.admitted.is_link in
     none at.0 (record { link = leads.0; at_link = at.1; same_far = leads.1 })
 
 -- the link of a step is the one at its place
-step_link : (g : Rows) (q : Query) (label : Labelling) (n : Addr) (a : Label) (far : Addr) (i : ℕ) → IsInOrder g → (at : IsLinkAt g far i) →
+step_link : (g : Rows) (q : Query) (label : Labelling) (n : Addr) (a : Label) (far : Addr) (i : ℕ) → IsInOrder g → (at : IsLinkAt g.links far i) →
     (m : Addr) (b : Label) → (leads : LeadsByLabels g q label n a (far ∷ []) m b) → at.link ≡ leads.0
 step_link g q label n a far i order at m b leads =
     same_link g at.link leads.0 order (contains_at g.links i at.link at.at_link) leads.2.0.admitted.is_link (at.same_far ∙ sym leads.1)
 
-pub no_offer : (g : Rows) (q : Query) (label : Labelling) (n : Addr) (a : Label) (far : Addr) (i : ℕ) → IsInOrder g → IsLinkAt g far i → IsNoOffer g q label i →
+pub no_offer : (g : Rows) (q : Query) (label : Labelling) (n : Addr) (a : Label) (far : Addr) (i : ℕ) → IsInOrder g → IsLinkAt g.links far i → IsNoOffer g q label i →
     (m : Addr) (b : Label) → LeadsByLabels g q label n a (far ∷ []) m b → ⊥
 no_offer g q label n a far i order at none m b leads =
     let same : at.link ≡ leads.0 = step_link g q label n a far i order at m b leads in
@@ -55,7 +56,7 @@ no_offer g q label n a far i order at none m b leads =
     none leads.0 made.rest (record { at_link = at.at_link ∙ ap (λ (l : Link). Some l) same; admitted = made.admitted }) made.at_end
 
 -- a step takes what the link offers
-pub step_is : (g : Rows) (q : Query) (label : Labelling) (n : Addr) (a : Label) (far : Addr) (i : ℕ) (offer : Offer) → IsInOrder g → IsLinkAt g far i → IsOffer g q label i offer →
+pub step_is : (g : Rows) (q : Query) (label : Labelling) (n : Addr) (a : Label) (far : Addr) (i : ℕ) (offer : Offer) → IsInOrder g → IsLinkAt g.links far i → IsOffer g q label i offer →
     (m : Addr) (b : Label) → LeadsByLabels g q label n a (far ∷ []) m b → (offer.from ≡ n) × (a ≡ offered offer)
 step_is g q label n a far i offer order at is m b leads =
     let same : at.link ≡ leads.0 = step_link g q label n a far i order at m b leads in
@@ -69,7 +70,7 @@ step_is g q label n a far i offer order at is m b leads =
       made.sum ∙ ap (λ (l : Link). before q l made.rest) (sym link) ∙ ap (before q is.link) rest ∙ sym is.sum,
     )
 
-pub step_made : (g : Rows) (q : Query) (label : Labelling) (n : Addr) (a : Label) (far : Addr) (i : ℕ) (offer : Offer) → IsLinkAt g far i → IsOffer g q label i offer →
+pub step_made : (g : Rows) (q : Query) (label : Labelling) (n : Addr) (a : Label) (far : Addr) (i : ℕ) (offer : Offer) → IsLinkAt g.links far i → IsOffer g q label i offer →
     offer.from ≡ n → a ≡ offered offer → LeadsByLabels g q label n a (far ∷ []) offer.to offer.rest
 step_made g q label n a far i offer at is from sum =
     let both : Some is.link ≡ Some at.link = sym is.at_place.at_link ∙ at.at_link in

@@ -11,12 +11,6 @@ use Rattle.walk_laws.specs.Certificate.{Labelling, before, IsMadeBy}
 use Rattle.path_certificate.specs.declared.offers.Offer.{Offer}
 use Rattle.path_certificate.specs.declared.broken.Broken.{Broken}
 
--- a link with this far address stands at place i
-pub record IsLinkAt (g : Rows) (far : Addr) (i : ℕ) : Type 0 where
-  pub link : Link
-  pub at_link : slice_get g.links i ≡ Some link
-  pub same_far : link.far ≡ far
-
 -- an admitted link stands at place i
 pub record IsAdmittedAt (g : Rows) (q : Query) (i : ℕ) (link : Link) : Type 0 where
   pub at_link : slice_get g.links i ≡ Some link

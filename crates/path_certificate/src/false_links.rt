@@ -27,11 +27,11 @@ fn broken_link(
         (IsBroken (LinkHoldsAt topology.now query.now (label_in rows.now)) (link_told topology.now (label_in rows.now)) (link_bound topology.now query.now (label_in rows.now)) index) }
 {
     let offer = offer_of(topology, query, rows, index)?;
-    if offer.cost > query.cap.get() {
+    let Some(cost) = Cost::within(query.cap, offer.cost) else {
         return None;
-    }
+    };
     let bound = Label {
-        cost: Cost::of(offer.cost)?,
+        cost,
         exit: offer.rest.exit,
     };
     let told = label_of(rows, offer.from);

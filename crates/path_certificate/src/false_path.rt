@@ -4,7 +4,7 @@ ghost use Rattle.te_links.specs.Rows.{IsTopology, IsInOrder};
 ghost use Rattle.path_certificate.specs.Rows.{label_in, AreLabelRows};
 ghost use Rattle.path_certificate.specs.Claims.{LeadsByLabels, LeadsOver, PathHoldsAt};
 
-use crate::look_up::{label_of, link_with};
+use crate::look_up::label_of;
 use crate::offers::offer_of;
 use crate::ordered::ends_at;
 use dom_base::{Addr, Label, List, Query, Seed};
@@ -33,7 +33,7 @@ fn step_over(
         ((m : Addr) (b : Label) → ¬ LeadsByLabels topology.now query.now (label_in rows.now) node label.now (far ∷ []) m b)
         (λ step. LeadsByLabels topology.now query.now (label_in rows.now) node label.now (far ∷ []) step.node step.rest) }
 {
-    let index = link_with(topology, far)?;
+    let index = topology.find_link(far)?;
     let offer = offer_of(topology, query, rows, index)?;
     if offer.from == node && offer.is(label) {
         Some(Step {

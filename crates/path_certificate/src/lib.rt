@@ -22,7 +22,6 @@ mod writing;
 pub use certificate::Certificate;
 pub use checker::check;
 pub use limits::{CERTIFICATE_BYTES_MAX, SEEDS_MAX, limits_are_numbers};
-pub use look_up::link_with;
 pub use offers::{admits_node, admitted_link};
 pub use reading::{is_behind, read_certificate, read_own};
 pub use text_row::{addrs_of, is_dash};

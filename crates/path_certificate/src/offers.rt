@@ -7,8 +7,8 @@ ghost use Rattle.path_certificate.specs.Offers.{IsAdmittedAt, IsOffer, IsNoOffer
 
 use crate::look_up::label_of;
 use dom_base::{Addr, Label, Link, Query};
-use path_constraints::{fits, weight};
-use path_exclusions::{bars_link, bars_node};
+use path_constraints::{allows, weight};
+use path_exclusions::bars_node;
 use te_links::Topology;
 
 /// What an admitted link offers its beginning: `rest`, the label of its end, at `cost`, the sum of
@@ -46,11 +46,7 @@ pub fn admitted_link<'a>(topology: &'a Topology, query: &Query, index: u32) -> O
     ensures { MatchOption result ((l : Link) → ¬ IsAdmittedAt topology.now query.now index l) (λ l. IsAdmittedAt topology.now query.now index l.now) }
 {
     let link = topology.link_at(index);
-    if fits(query, link)
-        && !bars_link(query, link)
-        && !bars_node(query, link.from)
-        && !bars_node(query, link.to)
-    {
+    if allows(query, link) && !bars_node(query, link.from) && !bars_node(query, link.to) {
         Some(link)
     } else {
         None

@@ -13,8 +13,7 @@ use crate::spread::settle_all;
 use crate::starts::starts_of;
 use crate::waiting::Waiting;
 use dom_base::{NoMemory, Query, Seed};
-use path_constraints::{fits, weight};
-use path_exclusions::bars_link;
+use path_constraints::{allows, weight};
 use std::alloc::Global;
 use te_links::Links;
 
@@ -35,7 +34,7 @@ pub fn arc_of<'a, G: Links<'a>>(
     ensures reads { G.reads links.new ≤ G.reads links.old + 1 }
 {
     let (link, tail) = links.link_with_tail(index);
-    if !fits(query, link) || bars_link(query, link) || bars_ends(barred, tail, head) {
+    if !allows(query, link) || bars_ends(barred, tail, head) {
         return None;
     }
     Some(Arc {

@@ -1,7 +1,7 @@
 //! Rows of a border table joined with what the next domain told (RFC 5441, section 4.2).
 ghost use Rattle.std.specs.Prelude.{◌≡◌, ◌+◌, ◌≤◌, ◌<◌, ◌↔◌, cond, nat_lt, IsTrue, IfOk, OnOk, SomeIff, MatchOption};
 ghost use Rattle.walk_laws.specs.Borders.{IsDown};
-ghost use Rattle.border_costs.specs.Asks.{HasNoDown, IsLess, beyond};
+ghost use Rattle.border_costs.specs.Asks.{HasNoDown, beyond};
 ghost use Rattle.plant_model.specs.Blind.{AreGivenRows};
 ghost use Rattle.plant_model.specs.Branches.{downs};
 ghost use Rattle.plant_model.specs.Jobs.{IsJoinOf};
@@ -13,36 +13,17 @@ use dom_base::{Addr, BorderRow, Cost, List, NoMemory};
 use std::alloc::Global;
 use vspt_tree::{Best, Branch};
 
-fn is_less(cost: Cost, least: &Option<Cost>) -> bool
-    ensures { IsTrue result ↔ IsLess cost least.now }
-{
-    match least {
-        Some(least) => cost < *least,
-        None => true,
-    }
-}
-
 // The least cost among the branches of a node.
 fn cost_from(down: &[Branch], node: Addr) -> Option<Cost>
     ensures { MatchOption result (HasNoDown (beyond (downs down.now)) node) (IsDown (beyond (downs down.now)) node) }
 {
     let mut least: Option<Cost> = None;
     for branch in down {
-        if branch.entry == node && is_less(branch.cost, &least) {
+        if branch.entry == node && branch.cost.is_less(&least) {
             least = Some(branch.cost);
         }
     }
     least
-}
-
-// A cost, if it is within the cap.
-fn within(cap: Cost, cost: u32) -> Option<Cost>
-    ensures { SomeIff result (cost ≤ cap) cost }
-{
-    if cost > cap.get() {
-        return None;
-    }
-    Cost::of(cost)
 }
 
 // The cost of the way that a row makes by itself: in the last domain its own, where it ends there, and else
@@ -55,13 +36,13 @@ fn joined_cost(cap: Cost, target: Target, row: &BorderRow, down: &[Branch]) -> O
             if !is_same_addr(row.head, row.far) {
                 return None;
             }
-            within(cap, row.cost.get())
+            Cost::within(cap, row.cost.get())
         }
         Target::Next(_next) => {
             let Some(rest) = cost_from(down, row.head) else {
                 return None;
             };
-            within(cap, row.cost.get() + rest.get())
+            Cost::sum_within(cap, row.cost.get(), rest)
         }
     }
 }

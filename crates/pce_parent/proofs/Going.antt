@@ -206,7 +206,7 @@ module _ (j : BorderJob) (spots : List Spot) (rows links : List Arc) (costs : Li
           record {
             edge = record { cost = weight j.query.metric some.link.link; choice = some.link.link.far; hops = strict_hop some.link.link.far ∷ [] };
             tight = (
-              (some.link, contains_at j.links a.index some.link some.at_index, refl, refl, refl, refl, opened.fits, opened.free, opened.from_open, opened.to_open, refl),
+              (some.link, contains_at j.links a.index some.link some.at_index, refl, refl, refl, refl, opened.allowed, opened.from_open, opened.to_open, refl),
               least_at j spots rows links costs is u a.to rest some.is_arc.head at_head,
               omega (arith, link_sum, some.is_arc.same_cost),
             );

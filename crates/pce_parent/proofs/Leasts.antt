@@ -95,10 +95,9 @@ module _ (j : BorderJob) (spots : List Spot) (rows links : List Arc) (costs : Li
       let here : IsAt spots (Leave l.from_as l.link.from) k = subst (λ (v : Vertex). IsAt spots v k) (sym (leaving_is l.from_as a l.link.from n edge.2 edge.3)) at_k in
       let there : IsAt spots (Enter l.to_as l.link.to) m = subst (λ (v : Vertex). IsAt spots v m) (sym (entering_is l.to_as b l.link.to t edge.4 edge.5)) at_m in
       let opened : IsOpenLink j.query l = record {
-        fits = edge.6;
-        free = edge.7;
-        from_open = subst (λ (d : As). ¬ ExcludesAs j.query d) (sym edge.2) edge.8;
-        to_open = subst (λ (d : As). ¬ ExcludesAs j.query d) (sym edge.4) edge.9;
+        allowed = edge.6;
+        from_open = subst (λ (d : As). ¬ ExcludesAs j.query d) (sym edge.2) edge.7;
+        to_open = subst (λ (d : As). ¬ ExcludesAs j.query d) (sym edge.4) edge.8;
       } in
       let found = is.link_arcs.every place.0 l (slice_get_within j.links place.0 l place.1) place.1 opened k m here there in
       let arc : IsLinkArc j spots place.0 l found.0 = found.2 in
@@ -107,8 +106,8 @@ module _ (j : BorderJob) (spots : List Spot) (rows links : List Arc) (costs : Li
         is_arc = found.1;
         from_place = same_place spots (Leave l.from_as l.link.from) found.0.from k arc.tail here;
         to_place = same_place spots (Enter l.to_as l.link.to) found.0.to m arc.head there;
-        same_cost = arc.same_cost ∙ sym (ap (λ (y : Edge). y.cost) edge.10);
-        same_choice = arc.same_choice ∙ sym (ap (λ (y : Edge). y.choice) edge.10);
+        same_cost = arc.same_cost ∙ sym (ap (λ (y : Edge). y.cost) edge.9);
+        same_choice = arc.same_choice ∙ sym (ap (λ (y : Edge). y.choice) edge.9);
       }
 
   -- ---- the costs are least

@@ -11,14 +11,15 @@ use Rattle.plant_model.specs.BorderGraph.{Vertex}
 use Rattle.pce_parent.specs.declared.arcs.Arc.{Arc}
 use Rattle.pce_parent.specs.declared.spot.Spot.{Spot}
 use Rattle.pce_parent.specs.Places.{IsAt}
-use Rattle.pce_parent.specs.Costs.{cost_at, IsBelow, Reaches, IsStep, AreReached, IsRelaxed, height, potential, Falls}
+use Rattle.dom_base.specs.Costs.{IsLess}
+use Rattle.pce_parent.specs.Costs.{cost_at, Reaches, IsStep, AreReached, IsRelaxed, height, potential, Falls}
 
 some_is : (a b : ℕ) → Some a ≡ Some b → a ≡ b
 some_is a b is = cc
 
 module _ (j : BorderJob) (spots : List Spot) (a : Arc) (old new : List (Option ℕ)) (rest found : ℕ)
     (step : IsStep j spots a) (reached : AreReached j spots old) (at_head : cost_at old a.to ≡ Some rest) (sum : found ≡ a.cost + rest)
-    (within : found ≤ j.query.cap) (better : IsBelow found (cost_at old a.from)) (is : new ≡ slice_set old a.from (Some found)) where
+    (within : found ≤ j.query.cap) (better : IsLess found (cost_at old a.from)) (is : new ≡ slice_set old a.from (Some found)) where
   below : a.from < length old
   below = omega (arith, step.tail, reached.same_length)
 
@@ -38,7 +39,7 @@ module _ (j : BorderJob) (spots : List Spot) (a : Arc) (old new : List (Option �
   no_end : (o : Option ℕ) → cost_at old a.from ≡ o → o ≡ Some 0 → ⊥
   no_end None here' is0 = cc
   no_end (Some c) here' is0 =
-      let lt : found < c = subst (IsBelow found) here' better in
+      let lt : found < c = subst (IsLess found) here' better in
       omega (arith, lt, some_is c 0 is0)
 
   pub lowered : AreReached j spots new
@@ -63,7 +64,7 @@ module _ (j : BorderJob) (spots : List Spot) (a : Arc) (old new : List (Option �
         ];
   }
 
-  drops : (small : found < 2 ^ 32) (o : Option ℕ) → IsBelow found o → found < height o
+  drops : (small : found < 2 ^ 32) (o : Option ℕ) → IsLess found o → found < height o
   drops small None b = small
   drops small (Some c) b = b
 
@@ -87,12 +88,12 @@ too_far cap costs a rest is far other is_other within =
     let one : rest ≡ other = some_is rest other (sym is ∙ is_other) in
     absurd (far (omega (arith, within, one)))
 
-not_below : (o : Option ℕ) (sum : ℕ) → (IsBelow sum o → ⊥) → (c : ℕ) × (o ≡ Some c) × (c ≤ sum)
+not_below : (o : Option ℕ) (sum : ℕ) → (IsLess sum o → ⊥) → (c : ℕ) × (o ≡ Some c) × (c ≤ sum)
 not_below None sum no_lower = absurd (no_lower tt)
 not_below (Some c) sum no_lower = (c, refl, omega (arith, no_lower))
 
 -- the way by the edge is no better
-pub no_better : (cap : ℕ) (costs : List (Option ℕ)) (a : Arc) (rest found : ℕ) → cost_at costs a.to ≡ Some rest → found ≡ a.cost + rest → (IsBelow found (cost_at costs a.from) → ⊥) → IsRelaxed cap costs a
+pub no_better : (cap : ℕ) (costs : List (Option ℕ)) (a : Arc) (rest found : ℕ) → cost_at costs a.to ≡ Some rest → found ≡ a.cost + rest → (IsLess found (cost_at costs a.from) → ⊥) → IsRelaxed cap costs a
 no_better cap costs a rest found is sum no_lower other is_other within =
     let one : rest ≡ other = some_is rest other (sym is ∙ is_other) in
     let has = not_below (cost_at costs a.from) found no_lower in

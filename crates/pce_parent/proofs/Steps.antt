@@ -49,7 +49,7 @@ link_step j spots a is =
       Enter l.to_as l.link.to,
       x,
       arc.head,
-      (l, contains_at j.links a.index l is.at_index, refl, refl, refl, refl, arc.link_open.fits, arc.link_open.free, arc.link_open.from_open, arc.link_open.to_open, refl),
+      (l, contains_at j.links a.index l is.at_index, refl, refl, refl, refl, arc.link_open.allowed, arc.link_open.from_open, arc.link_open.to_open, refl),
       sym arc.same_cost,
     ) in
     record {

@@ -5,8 +5,8 @@ use Rattle.dom_base.specs.declared.border.ParentLink.{ParentLink}
 use Rattle.dom_base.specs.declared.query.Query.{Query}
 use Rattle.dom_base.specs.declared.query.Exclusion.{Exclusion}
 use Rattle.dom_base.specs.declared.query.Excluded.TheVariants.{AsNumber}
-use Rattle.dom_base.specs.Limits.{cost_max}
-use Rattle.dom_base.specs.Admission.{weight, Fits, BarsLink}
+use Rattle.dom_base.specs.declared.limits.TheConstants.{COST_MAX}
+use Rattle.dom_base.specs.Admission.{weight, Allows}
 use Rattle.plant_model.specs.declared.upper.ChildRow.{ChildRow}
 use Rattle.plant_model.specs.declared.upper.BorderJob.{BorderJob}
 use Rattle.plant_model.specs.BorderGraph.{Enter, Leave, ExcludesAs}
@@ -20,8 +20,7 @@ NamesDomain x a = x ≡ record { avoid = false; what = AsNumber a }
 
 -- the query admits a link between two domains
 pub record IsOpenLink (q : Query) (l : ParentLink) : Type 0 where
-  pub fits : Fits q l.link
-  pub free : ¬ BarsLink q l.link
+  pub allowed : Allows q l.link
   pub from_open : ¬ ExcludesAs q l.from_as
   pub to_open : ¬ ExcludesAs q l.to_as
 
@@ -32,7 +31,7 @@ pub record IsRowArc (j : BorderJob) (spots : List Spot) (i : ℕ) (row : ChildRo
   pub tail : IsAt spots (Enter row.at row.entry) a.from
   pub head : IsAt spots (Leave row.at row.target) a.to
   pub same_cost : a.cost ≡ row.cost
-  pub light : a.cost ≤ cost_max
+  pub light : a.cost ≤ COST_MAX
   pub same_choice : a.choice ≡ row.target
 
 -- the row has none: its domain is excluded, or a vertex has no place
@@ -58,7 +57,7 @@ pub record IsLinkArc (j : BorderJob) (spots : List Spot) (i : ℕ) (l : ParentLi
   pub tail : IsAt spots (Leave l.from_as l.link.from) a.from
   pub head : IsAt spots (Enter l.to_as l.link.to) a.to
   pub same_cost : a.cost ≡ weight j.query.metric l.link
-  pub light : a.cost ≤ cost_max
+  pub light : a.cost ≤ COST_MAX
   pub heavy : 1 ≤ a.cost
   pub same_choice : a.choice ≡ l.link.far
 

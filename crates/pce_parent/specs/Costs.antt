@@ -1,7 +1,7 @@
 -- Costs by the places of vertices, and their relaxation over edges.
 use Rattle.std.specs.Prelude.{◌≡◌, ◌<◌, ◌≤◌, ◌+◌, ◌^◌, ℕ, cond, List, length, Option, Some, None, slice_index_or, sum_by}
 use Rattle.dom_base.specs.declared.addr.Addr.{Addr}
-use Rattle.dom_base.specs.Limits.{cost_max}
+use Rattle.dom_base.specs.declared.limits.TheConstants.{COST_MAX}
 use Rattle.plant_model.specs.declared.upper.BorderJob.{BorderJob}
 use Rattle.plant_model.specs.BorderGraph.{Vertex, Leave, Edge, IsEdge, IsEnd, BorderWalk}
 use Rattle.pce_parent.specs.declared.arcs.Arc.{Arc}
@@ -11,11 +11,6 @@ use Rattle.pce_parent.specs.Places.{IsAt, same_spot, spot_of}
 -- the cost at a place
 abbrev pub cost_at : List (Option ℕ) → ℕ → Option ℕ
 cost_at costs k = slice_index_or costs k None
-
--- strictly less; no cost is the greatest
-abbrev pub IsBelow : ℕ → Option ℕ → Type 0
-IsBelow n None = Unit {0}
-IsBelow n (Some c) = n < c
 
 -- what stands at first
 abbrev pub start_cost : Addr → Spot → Option ℕ
@@ -29,7 +24,7 @@ Reaches j v c = (us : List Vertex) × BorderWalk j us v c
 pub record IsStep (j : BorderJob) (spots : List Spot) (a : Arc) : Type 0 where
   pub tail : a.from < length spots
   pub head : a.to < length spots
-  pub light : a.cost ≤ cost_max
+  pub light : a.cost ≤ COST_MAX
   pub edge : (v : Vertex) → IsAt spots v a.from → (u : Vertex) × (x : Edge) × IsAt spots u a.to × IsEdge j v u x × (x.cost ≡ a.cost)
 
 -- each cost is that of a walk within the cap, and an end has none

@@ -8,8 +8,7 @@ use crate::places::place_at;
 use crate::spot::{Spot, entering, leaving};
 use dom_base::{Addr, As, Excluded, Exclusion, NoMemory, ParentLink, Query};
 use indexmap::IndexSet;
-use path_constraints::{fits, weight};
-use path_exclusions::bars_link;
+use path_constraints::{allows, weight};
 use plant_model::{BorderJob, ChildRow};
 use std::alloc::Global;
 
@@ -81,10 +80,7 @@ pub fn row_arcs(
 fn is_open(query: &Query, link: &ParentLink) -> bool
     ensures { IsTrue result ↔ IsOpenLink query.now link.now }
 {
-    fits(query, &link.link)
-        && !bars_link(query, &link.link)
-        && !excludes(query, link.from_as)
-        && !excludes(query, link.to_as)
+    allows(query, &link.link) && !excludes(query, link.from_as) && !excludes(query, link.to_as)
 }
 
 fn arc_of_link(

@@ -1,7 +1,6 @@
 //! Relaxation of costs over edges until none falls.
-ghost use Rattle.std.specs.Prelude.{◌≡◌, ◌≤◌, ◌+◌, ◌↔◌, All, IsTrue, SomeIff, MatchBool, OnOk};
-ghost use Rattle.dom_base.specs.Limits.{cost_max};
-ghost use Rattle.pce_parent.specs.Costs.{IsBelow, IsStep, IsRelaxed, AreReached, Falls};
+ghost use Rattle.std.specs.Prelude.{◌≡◌, All, MatchBool, OnOk};
+ghost use Rattle.pce_parent.specs.Costs.{IsStep, IsRelaxed, AreReached, Falls};
 
 use crate::arcs::Arc;
 use crate::costs::cost_of;
@@ -10,27 +9,6 @@ use crate::spot::Spot;
 use dom_base::{Cost, NoMemory};
 use plant_model::BorderJob;
 use std::alloc::Global;
-
-fn is_below(found: Cost, old: Option<Cost>) -> bool
-    ensures { IsTrue result ↔ IsBelow found old }
-{
-    match old {
-        None => true,
-        Some(cost) => found.get() < cost.get(),
-    }
-}
-
-// The sum of an edge's cost and what follows, if it is within the cap.
-fn sum_within(cap: Cost, cost: u32, rest: Cost) -> Option<Cost>
-    requires { cost ≤ cost_max }
-    ensures { SomeIff result (cost + rest ≤ cap) (cost + rest) }
-{
-    let sum = cost + rest.get();
-    if sum > cap.get() {
-        return None;
-    }
-    Cost::of(sum)
-}
 
 /// Lowers the cost of the place that an edge leads from, where the way by the edge is better.
 pub fn relax(job: &BorderJob, _spots: &[Spot], arc: &Arc, costs: &mut [Option<Cost>]) -> bool
@@ -42,10 +20,10 @@ pub fn relax(job: &BorderJob, _spots: &[Spot], arc: &Arc, costs: &mut [Option<Co
     let Some(rest) = cost_of(costs, arc.to) else {
         return false;
     };
-    let Some(found) = sum_within(job.query.cap, arc.cost, rest) else {
+    let Some(found) = Cost::sum_within(job.query.cap, arc.cost, rest) else {
         return false;
     };
-    if !is_below(found, cost_of(costs, arc.from)) {
+    if !found.is_less(&cost_of(costs, arc.from)) {
         return false;
     }
     costs[arc.from] = Some(found);

@@ -11,7 +11,7 @@ fn start_at(target: Addr, spot: &Spot) -> Option<Cost>
     ensures { result ≡ start_cost target spot.now }
 {
     if *spot == leaving(spot.own, target) {
-        Cost::of(0)
+        Some(Cost::zero())
     } else {
         None
     }

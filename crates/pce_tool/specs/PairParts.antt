@@ -1,6 +1,6 @@
 -- What the parts of the answer to a request for a pair say to one another.
 use Rattle.std.specs.Prelude.{◌≡◌, ◌≤◌, ◌+◌, ℕ, List, [], ◌∷◌, length, Some}
-use Rattle.dom_base.specs.Limits.{cost_max}
+use Rattle.dom_base.specs.declared.limits.TheConstants.{COST_MAX}
 use Rattle.dom_base.specs.declared.addr.Addr.{Addr}
 use Rattle.disclosure.specs.Shown.{open_of}
 use Rattle.pcep_messages.specs.declared.message.Answer.{Answer}
@@ -12,7 +12,7 @@ use Rattle.pce_tool.specs.declared.commands.pair.Answers.{Answers}
 pub record AreCosts (one other : ℕ) (costs : Costs) : Type 0 where
   pub same_one : costs.one ≡ one
   pub same_other : costs.other ≡ other
-  pub within : one + other ≤ cost_max
+  pub within : one + other ≤ COST_MAX
 
 -- a path of few hops, each of them strict, or none
 abbrev pub IsSmallAnswer : Answer → Type 0

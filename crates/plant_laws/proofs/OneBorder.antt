@@ -82,11 +82,11 @@ module _ (j : BorderJob) (apart : Rising Apart j.links) where
   one_edge (Leave a m) (Enter b k) (Enter b' k') x y c r r' f g choice least least' sum sum' =
       let l = f.0 in
       let l' = g.0 in
-      let fars : l.link.far ≡ l'.link.far = sym (ap (λ (z : Edge). z.choice) f.10) ∙ choice ∙ ap (λ (z : Edge). z.choice) g.10 in
+      let fars : l.link.far ≡ l'.link.far = sym (ap (λ (z : Edge). z.choice) f.9) ∙ choice ∙ ap (λ (z : Edge). z.choice) g.9 in
       let same : l ≡ l' = one_link j.links apart l l' (stands_of j.links l f.1) (stands_of j.links l' g.1) fars in
       let vertex : Enter b k ≡ Enter b' k' = ap (λ (z : As). Enter z k) (sym f.4 ∙ ap (λ (p : ParentLink). p.to_as) same ∙ g.4) ∙ ap (λ (z : Addr). Enter b' z) (sym f.5 ∙ ap (λ (p : ParentLink). p.link.to) same ∙ g.5) in
       let made : ParentLink → Edge = λ p. record { cost = weight j.query.metric p.link; choice = p.link.far; hops = strict_hop p.link.far ∷ [] } in
-      record { vertex = vertex; edge = f.10 ∙ ap made same ∙ sym g.10 }
+      record { vertex = vertex; edge = f.9 ∙ ap made same ∙ sym g.9 }
   one_edge (Leave a m) (Enter b k) (Leave b' k') x y c r r' f g choice least least' sum sum' = absurd g
   one_edge (Leave a m) (Leave b k) w x y c r r' f g choice least least' sum sum' = absurd f
 

@@ -31,14 +31,14 @@ module _ (q : Query) (b : As) where
   walk_free g [] s t (leg ∷ legs) last w = w
   walk_free g (h ∷ rest) s t [] last w = w
   walk_free g (h ∷ rest) s t (leg ∷ legs) last w =
-      (w.0, record { is_out = w.1.is_out; towards = w.1.towards; fits = w.1.fits; free = w.1.free; entry = w.1.entry }, walk_free h rest leg.out.link.to t legs last w.2)
+      (w.0, record { is_out = w.1.is_out; towards = w.1.towards; allowed = w.1.allowed; entry = w.1.entry }, walk_free h rest leg.out.link.to t legs last w.2)
 
   free_walk : (g : Rows) (rest : List Rows) (s t : Addr) (legs : List Part) (last : List Link) → CrossingWalk q g rest s t legs last → CrossingWalk (query_in q b) g rest s t legs last
   free_walk g [] s t [] last w = w
   free_walk g [] s t (leg ∷ legs) last w = w
   free_walk g (h ∷ rest) s t [] last w = w
   free_walk g (h ∷ rest) s t (leg ∷ legs) last w =
-      (w.0, record { is_out = w.1.is_out; towards = w.1.towards; fits = w.1.fits; free = w.1.free; entry = w.1.entry }, free_walk h rest leg.out.link.to t legs last w.2)
+      (w.0, record { is_out = w.1.is_out; towards = w.1.towards; allowed = w.1.allowed; entry = w.1.entry }, free_walk h rest leg.out.link.to t legs last w.2)
 
   free_feasible : (g : Rows) (rest : List Rows) (s t : Addr) (legs : List Part) (last : List Link) → IsFeasibleCrossing q g rest s t legs last → IsFeasibleCrossing (query_in q b) g rest s t legs last
   free_feasible g rest s t legs last f = record { walk = free_walk g rest s t legs last f.walk; within = omega (arith, f.within, crossing_free legs last) }

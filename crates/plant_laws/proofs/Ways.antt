@@ -7,7 +7,7 @@ use Rattle.dom_base.specs.declared.addr.Addr.{Addr}
 use Rattle.dom_base.specs.declared.names.As.{As}
 use Rattle.dom_base.specs.declared.link.Link.{Link}
 use Rattle.dom_base.specs.declared.query.Query.{Query}
-use Rattle.dom_base.specs.Admission.{Fits, BarsLink}
+use Rattle.dom_base.specs.Admission.{Allows}
 use Rattle.te_links.specs.Rows.{Rows}
 use Rattle.pcep_subobjects.specs.declared.hop.Hop.{Hop}
 use Rattle.pcep_messages.specs.declared.message.Path.{Path}
@@ -105,8 +105,7 @@ module _ (n : NetworkParts) (w : Wanted) (one : Leg) (own : w.query ≡ query_in
         let crosses : Crosses g h q part.out = record {
           is_out = part.leads.is_out;
           towards = part.leads.towards ∙ sym at_next;
-          fits = subst (λ (x : Query). Fits x part.out.link) home part.leads.fits;
-          free = subst (λ (x : Query). ¬ BarsLink x part.out.link) home part.leads.free;
+          allowed = subst (λ (x : Query). Allows x part.out.link) home part.leads.allowed;
           entry = entry;
         } in
         let after : CrossingWalk q h (domains chain) part.out.link.to t f.least.legs f.least.last =

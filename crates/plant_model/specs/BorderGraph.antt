@@ -6,7 +6,7 @@ use Rattle.dom_base.specs.declared.names.As.{As}
 use Rattle.dom_base.specs.declared.border.ParentLink.{ParentLink}
 use Rattle.dom_base.specs.declared.query.Query.{Query}
 use Rattle.dom_base.specs.declared.query.Excluded.TheVariants.{AsNumber}
-use Rattle.dom_base.specs.Admission.{weight, Fits, BarsLink}
+use Rattle.dom_base.specs.Admission.{weight, Allows}
 use Rattle.pcep_subobjects.specs.declared.hop.Hop.{Hop}
 use Rattle.pcep_subobjects.specs.Hops.{strict_hop}
 use Rattle.plant_model.specs.declared.upper.ChildRow.{ChildRow}
@@ -41,7 +41,7 @@ IsEdge j (Enter a e) (Leave b t) x =
     × (x ≡ record { cost = row.cost; choice = t; hops = row.hops })
 IsEdge j (Leave a n) (Enter b m) x =
     (l : ParentLink) × Contains j.links l × (l.from_as ≡ a) × (l.link.from ≡ n) × (l.to_as ≡ b) × (l.link.to ≡ m)
-    × Fits j.query l.link × (¬ BarsLink j.query l.link) × (¬ ExcludesAs j.query a) × (¬ ExcludesAs j.query b)
+    × Allows j.query l.link × (¬ ExcludesAs j.query a) × (¬ ExcludesAs j.query b)
     × (x ≡ record { cost = weight j.query.metric l.link; choice = l.link.far; hops = strict_hop l.link.far ∷ [] })
 IsEdge j (Enter a e) (Enter b m) x = ⊥
 IsEdge j (Leave a n) (Leave b m) x = ⊥

@@ -7,7 +7,7 @@ use Rattle.dom_base.specs.declared.names.Tick.{Tick}
 use Rattle.dom_base.specs.declared.border.BorderRow.{BorderRow}
 use Rattle.dom_base.specs.AddrOrder.{rank}
 use Rattle.dom_base.specs.AddrText.{addr_in}
-use Rattle.dom_base.specs.Limits.{cost_max}
+use Rattle.dom_base.specs.declared.limits.TheConstants.{COST_MAX}
 use Rattle.dom_base.specs.Numerals.{number_in}
 use Rattle.dom_base.specs.Steps.{◌>>=◌}
 use Rattle.line_text.specs.Hexadecimal.{hex_bytes, is_blank as is_gap}
@@ -56,7 +56,7 @@ abbrev pub hex_in : List ℕ → Option (List ℕ)
 hex_in word = if (length word == 0) || list_any is_gap word then None else hex_bytes word
 
 abbrev pub cost_in : List ℕ → Option ℕ
-cost_in word = number_in cost_max word
+cost_in word = number_in COST_MAX word
 
 -- ---- the first word
 

@@ -1,7 +1,6 @@
 pub mod Rising
-pub mod Searching
 pub mod Ends
-pub mod Turned
+pub mod Grouping
 pub mod Nothing
 pub mod Rules
 pub mod Different

@@ -5,7 +5,7 @@ use Rattle.dom_base.specs.declared.addr.Addr.TheVariants.{V4}
 use Rattle.dom_base.specs.declared.addr.Addr.{Addr}
 use Rattle.dom_base.specs.declared.names.As.{As}
 use Rattle.te_links.specs.Rows.{Rows, IsTopology, IsInOrder, FewDifferent}
-use Rattle.te_links.specs.Index.{IsIndex, IsIndexFrom, AreTails}
+use Rattle.te_links.specs.Index.{IsIndex, IsIndexFrom, AreTails, AreHeads}
 
 pub few_of_none : (most : ℕ) → FewDifferent most []
 few_of_none most list differ within =
@@ -50,3 +50,6 @@ nothing_begins = record { each = refl; at_link = λ p d below. absurd (omega ari
 
 pub nothing_leaving : IsIndexFrom [] [] []
 nothing_leaving = record { each = refl; at_node = λ i d below. absurd (omega arith) }
+
+pub nothing_ends : AreHeads [] [] []
+nothing_ends = record { each = refl; at_link = λ p d below. absurd (omega arith) }

@@ -1,4 +1,4 @@
--- Which links end at which node, and where each begins.
+-- Which links end at which node, where each begins and ends, and which has a far address.
 use Rattle.std.specs.Prelude.{◌≡◌, ◌<◌, ℕ, List, length, All, AllPairs, Contains, Some, slice_get, slice_index_or}
 use Rattle.std.specs.Global.{Vec}
 use Rattle.dom_base.specs.declared.addr.Addr.{Addr}
@@ -43,3 +43,14 @@ pub record IsIndexFrom (nodes : List Addr) (links : List Link) (leaving : List (
 pub record AreTails (nodes : List Addr) (links : List Link) (tails : List ℕ) : Type 0 where
   pub each : length tails ≡ length links
   pub at_link : (p d : ℕ) → p < length tails → LinkBeginsAt nodes links (slice_index_or tails p d) p
+
+-- for each link the place of the node that it ends at
+pub record AreHeads (nodes : List Addr) (links : List Link) (heads : List ℕ) : Type 0 where
+  pub each : length heads ≡ length links
+  pub at_link : (p d : ℕ) → p < length heads → LinkEndsAt nodes links (slice_index_or heads p d) p
+
+-- a link with this far address stands at place i
+pub record IsLinkAt (links : List Link) (far : Addr) (i : ℕ) : Type 0 where
+  pub link : Link
+  pub at_link : slice_get links i ≡ Some link
+  pub same_far : link.far ≡ far

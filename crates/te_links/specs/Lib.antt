@@ -7,5 +7,6 @@ pub mod Reads
 pub mod Index
 -- inner
 pub mod Fields
+pub mod Grouped
 pub mod Survey
 pub mod Checks

@@ -6,7 +6,7 @@ ghost use Rattle.te_links.specs.Faults.{IsReason, rows_of_parts};
 
 use crate::checks::check;
 use crate::fault::BuildError;
-use crate::index::{index_from, index_of, tails_of};
+use crate::index::{ends_of, links_by};
 use crate::rows::Parts;
 use crate::survey::Survey;
 use crate::topology::Topology;
@@ -33,10 +33,10 @@ fn assemble(alloc: Global, parts: Parts) -> Result<Topology, AllocError>
     links.sort_by_key(|l| l.far)?;
     outs.sort_by_key(|o| o.link.far)?;
     entries.sort()?;
-    let into = index_of(alloc, &nodes, &links)?;
-    let tails = tails_of(alloc, &nodes, &links)?;
-    let leaving = index_from(alloc, &nodes, &links, &tails)?;
-    Ok(Topology::of(own, nodes, links, outs, entries, into, leaving, tails))
+    let ends = ends_of(alloc, &nodes, &links)?;
+    let into = links_by(alloc, nodes.len(), &ends.heads)?;
+    let leaving = links_by(alloc, nodes.len(), &ends.tails)?;
+    Ok(Topology::of(own, nodes, links, outs, entries, into, leaving, ends))
 }
 
 impl Topology {

@@ -93,4 +93,9 @@ impl<'a> Links<'a> for Counted<'a> {
         self.count();
         (self.topology.link_at(i), self.topology.tail_of(i))
     }
+
+    fn link_with_head(&mut self, i: u32) -> (&'a Link, u32) {
+        self.count();
+        (self.topology.link_at(i), self.topology.head_of(i))
+    }
 }

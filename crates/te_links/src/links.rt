@@ -7,8 +7,8 @@ ghost use Rattle.te_links.specs.Reads.{RoseByOne};
 use crate::rows::OutLink;
 use dom_base::{Addr, Link};
 
-/// The rows of a topology, as a search sees them. An inner link is seen through `link_at` and
-/// `link_with_tail` alone, which count. What is handed out lives as long as the topology, and does not borrow the value.
+/// The rows of a topology, as a search sees them. An inner link is seen through `link_at`,
+/// `link_with_tail` and `link_with_head` alone, which count. What is handed out lives as long as the topology, and does not borrow the value.
 pub trait Links<'a> {
     /// The topology, which no call changes.
     ghost rows: { Self → Rows };
@@ -68,6 +68,14 @@ pub trait Links<'a> {
         requires { i < length (rows self.old).links }
         ensures link { slice_get (rows self.old).links i ≡ Some result.0.now }
         ensures tail { slice_get (rows self.old).nodes result.1 ≡ Some result.0.now.from }
+        ensures same { rows self.new ≡ rows self.old }
+        ensures counted { RoseByOne (reads self.old) (reads self.new) };
+
+    /// Reads an inner link as `link_at` does, and tells with it the place of the node that it ends at.
+    fn link_with_head(&mut self, i: u32) -> (&'a Link, u32)
+        requires { i < length (rows self.old).links }
+        ensures link { slice_get (rows self.old).links i ≡ Some result.0.now }
+        ensures head { slice_get (rows self.old).nodes result.1 ≡ Some result.0.now.to }
         ensures same { rows self.new ≡ rows self.old }
         ensures counted { RoseByOne (reads self.old) (reads self.new) };
 }

@@ -1,9 +1,9 @@
 //! The topology of one domain, by its rows in order.
-ghost use Rattle.std.specs.Prelude.{◌≡◌, ◌↔◌, ◌<◌, ◌^◌, [], vec_len, length, slice_get, Contains, Some, MatchOption};
+ghost use Rattle.std.specs.Prelude.{◌≡◌, ◌↔◌, ◌<◌, ◌^◌, ℕ, [], vec_len, length, slice_get, Contains, Some, MatchOption};
 ghost use Rattle.te_links.specs.Rows.{IsTopology, IsInOrder};
-ghost use Rattle.te_links.specs.Index.{IsIndex, IsLinksInto, IsIndexFrom, IsLinksFrom, AreTails, LinkBeginsAt};
+ghost use Rattle.te_links.specs.Index.{IsIndex, IsLinksInto, IsIndexFrom, IsLinksFrom, IsLinkAt, AreTails, AreHeads, LinkBeginsAt, LinkEndsAt};
 
-use crate::index::place_of;
+use crate::index::{Ends, place_of, place_of_far};
 use crate::rows::{Entry, OutLink};
 use dom_base::{Addr, As, Link};
 use std::alloc::Global;
@@ -21,7 +21,7 @@ pub struct Topology {
     entries: Vec<Entry>,
     into: Vec<Vec<u32>>,
     leaving: Vec<Vec<u32>>,
-    tails: Vec<u32>,
+    ends: Ends,
 }
 
 impl Model for Topology {
@@ -45,14 +45,15 @@ impl Topology {
         entries: Vec<Entry>,
         into: Vec<Vec<u32>>,
         leaving: Vec<Vec<u32>>,
-        tails: Vec<u32>,
+        ends: Ends,
     ) -> Topology
         requires rules { IsTopology (record { own = own; nodes = nodes.items; links = links.items; outs = outs.items; entries = entries.items }) }
         requires order { IsInOrder (record { own = own; nodes = nodes.items; links = links.items; outs = outs.items; entries = entries.items }) }
         requires short { vec_len entries < 2 ^ 32 }
         requires index { IsIndex nodes.items links.items into.items }
         requires leaving { IsIndexFrom nodes.items links.items leaving.items }
-        requires tails { AreTails nodes.items links.items tails.items }
+        requires tails { AreTails nodes.items links.items ends.tails.items }
+        requires heads { AreHeads nodes.items links.items ends.heads.items }
         ensures { result ≡ record { own = own; nodes = nodes.items; links = links.items; outs = outs.items; entries = entries.items } }
     {
         Topology {
@@ -63,7 +64,7 @@ impl Topology {
             entries,
             into,
             leaving,
-            tails,
+            ends,
         }
     }
 
@@ -83,7 +84,7 @@ impl Topology {
             entries: Vec::new(alloc),
             into: Vec::new(alloc),
             leaving: Vec::new(alloc),
-            tails: Vec::new(alloc),
+            ends: Ends::none(alloc),
         }
     }
 
@@ -147,7 +148,15 @@ impl Topology {
         requires { i < length self.now.links }
         ensures { LinkBeginsAt self.now.nodes self.now.links result i }
     {
-        self.tails[i as usize]
+        self.ends.tails[i as usize]
+    }
+
+    /// The place of the node that a link ends at.
+    pub fn head_of(&self, i: u32) -> u32
+        requires { i < length self.now.links }
+        ensures { LinkEndsAt self.now.nodes self.now.links result i }
+    {
+        self.ends.heads[i as usize]
     }
 
     pub fn out_at(&self, i: u32) -> &OutLink
@@ -169,6 +178,17 @@ impl Topology {
         ensures { MatchOption result (¬ Contains self.now.nodes addr) (λ i. slice_get self.now.nodes i ≡ Some addr) }
     {
         let place = place_of(&self.nodes, addr)?;
+        Some(place as u32)
+    }
+
+    /// The place of the link with a far address; none where there is no such link. Takes logarithmic
+    /// time.
+    pub fn find_link(&self, far: Addr) -> Option<u32>
+        ensures { MatchOption result ((i : ℕ) → ¬ IsLinkAt self.now.links far i) (IsLinkAt self.now.links far) }
+    {
+        let Some(place) = place_of_far(&self.links, far) else {
+            return None;
+        };
         Some(place as u32)
     }
 

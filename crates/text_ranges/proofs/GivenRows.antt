@@ -11,7 +11,7 @@ use Rattle.dom_base.specs.declared.border.BorderRow.{BorderRow}
 use Rattle.dom_base.specs.declared.limits.TheConstants.{COST_MAX}
 use Rattle.dom_base.specs.AddrOrder.{rank}
 use Rattle.dom_base.specs.AddrText.{addr_in}
-use Rattle.dom_base.specs.Limits.{cost_max}
+use Rattle.dom_base.specs.declared.limits.TheConstants.{COST_MAX}
 use Rattle.dom_base.specs.Steps.{◌>>=◌}
 use Rattle.dom_base.proofs.NumeralLaws.{at_most}
 use Rattle.dom_base.proofs.Ranks.{same_addr}
@@ -109,9 +109,9 @@ row_cost entry far head cost row is =
     let f = by_parts (addr_in far) _ row e.2 in
     let h = by_parts (addr_in head) _ row f.2 in
     let c = by_parts (cost_in cost) _ row h.2 in
-    go e.0 f.0 h.0 c.0 (at_most cost_max c.0 cost c.1) c.2
+    go e.0 f.0 h.0 c.0 (at_most COST_MAX c.0 cost c.1) c.2
   where
-    go : (e f h : Addr) (c : ℕ) → c ≤ cost_max → ◌≡◌ {A = Option BorderRow} (Some (record { entry = e; far = f; head = h; cost = c })) (Some row) → row.cost ≤ COST_MAX
+    go : (e f h : Addr) (c : ℕ) → c ≤ COST_MAX → ◌≡◌ {A = Option BorderRow} (Some (record { entry = e; far = f; head = h; cost = c })) (Some row) → row.cost ≤ COST_MAX
     go e f h c most made =
         let same : ◌≡◌ {A = BorderRow} (record { entry = e; far = f; head = h; cost = c }) row = cc in
         subst (λ (r : BorderRow). r.cost ≤ COST_MAX) same most

@@ -82,7 +82,7 @@ module _ (q : Query) (g h : Rows) (rest : List Rows) (t : Addr) (down : List Bey
             let inner : IsFeasible g (query_in q g.own) entry leg.out.link.from leg.links = record { walk = f.walk.0; within = omega (arith, f.within) } in
             least_exists g (query_in q g.own) entry leg.out.link.from (suc (cost (query_in q g.own) leg.links)) leg.links (omega arith) inner
             (λ ms least no_more.
-            let out : LeadsTo g (query_in q g.own) h.own leg.out = record { is_out = crosses.is_out; towards = crosses.towards; fits = crosses.fits; free = crosses.free } in
+            let out : LeadsTo g (query_in q g.own) h.own leg.out = record { is_out = crosses.is_out; towards = crosses.towards; allowed = crosses.allowed } in
             let total : ℕ = cost (query_in q g.own) ms + weight q.metric leg.out.link in
             let fits : total + c ≤ q.cap = omega (arith, no_more, low, right.is, f.within) in
             none (record { cost = total + c; exit = leg.out.link.far })
@@ -113,7 +113,7 @@ module _ (q : Query) (g h : Rows) (rest : List Rows) (t : Addr) (down : List Bey
         record {
           walk = (
             j.row.least.feasible.walk,
-            record { is_out = out.is_out; towards = out.towards; fits = out.fits; free = out.free; entry = beyond.0 },
+            record { is_out = out.is_out; towards = out.towards; allowed = out.allowed; entry = beyond.0 },
             onward.least.feasible.walk,
           );
           within = omega (arith, sum, j.within);

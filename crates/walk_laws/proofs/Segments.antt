@@ -127,7 +127,7 @@ shown_composes q g h rest t down seeds order are are_seeds entry a links is segm
         let joined = composes q g h rest t down are entry (Some a) (label_joins g own h.own down seeds are_seeds entry (Some a) is) in
         let walk : CrossingWalk q g (h ∷ rest) entry t (record { links = links; out = o } ∷ legs) last = (
           subst (λ (n : Addr). Walk g own entry n links) s.node on.walk,
-          record { is_out = out.is_out; towards = out.towards; fits = out.fits; free = out.free; entry = told.0 },
+          record { is_out = out.is_out; towards = out.towards; allowed = out.allowed; entry = told.0 },
           onward.feasible.walk,
         ) in (
           record {

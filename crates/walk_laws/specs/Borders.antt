@@ -7,7 +7,7 @@ use Rattle.dom_base.specs.declared.link.Link.{Link}
 use Rattle.dom_base.specs.declared.query.Query.{Query}
 use Rattle.dom_base.specs.declared.query.Label.{Label}
 use Rattle.dom_base.specs.declared.query.Seed.{Seed}
-use Rattle.dom_base.specs.Admission.{weight, Fits, BarsLink}
+use Rattle.dom_base.specs.Admission.{weight, Allows}
 use Rattle.te_links.specs.declared.rows.OutLink.{OutLink}
 use Rattle.te_links.specs.Rows.{Rows}
 use Rattle.walk_laws.specs.Walks.{IsFeasible, IsLeast, cost}
@@ -17,8 +17,7 @@ use Rattle.walk_laws.specs.Labels.{◌≼◌}
 pub record LeadsTo (g : Rows) (q : Query) (next : As) (o : OutLink) : Type 0 where
   pub is_out : Contains g.outs o
   pub towards : o.to_as ≡ next
-  pub fits : Fits q o.link
-  pub free : ¬ BarsLink q o.link
+  pub allowed : Allows q o.link
 
 -- the row of an entry and an out link: the least cost to the link's tail and its weight, within the cap
 pub record IsBorderRow (g : Rows) (q : Query) (next : As) (entry : Addr) (o : OutLink) (total : ℕ) : Type 0 where

@@ -4,7 +4,7 @@ use Rattle.dom_base.specs.declared.addr.Addr.{Addr}
 use Rattle.dom_base.specs.declared.names.As.{As}
 use Rattle.dom_base.specs.declared.link.Link.{Link}
 use Rattle.dom_base.specs.declared.query.Query.{Query}
-use Rattle.dom_base.specs.Admission.{weight, Fits, BarsLink}
+use Rattle.dom_base.specs.Admission.{weight, Allows}
 use Rattle.te_links.specs.declared.rows.OutLink.{OutLink}
 use Rattle.te_links.specs.Rows.{Rows}
 use Rattle.walk_laws.specs.Walks.{Walk, cost}
@@ -17,8 +17,7 @@ query_in q own = record q { own = own }
 pub record Crosses (g h : Rows) (q : Query) (o : OutLink) : Type 0 where
   pub is_out : Contains g.outs o
   pub towards : o.to_as ≡ h.own
-  pub fits : Fits (query_in q g.own) o.link
-  pub free : ¬ BarsLink (query_in q g.own) o.link
+  pub allowed : Allows (query_in q g.own) o.link
   pub entry : Contains h.entries (record { node = o.link.to; from_as = g.own })
 
 -- the part of a walk in one domain, and the out link by which it leaves

@@ -4,7 +4,7 @@ ghost use Rattle.dom_base.specs.declared.link.Link.{Link};
 ghost use Rattle.diverse_pairs.specs.Conditions.{asked_of};
 ghost use Rattle.diverse_pairs.specs.Pairs.{IsFeasiblePair};
 ghost use Rattle.diverse_pairs.specs.Solution.{ShowsChosen};
-ghost use Rattle.dom_base.specs.Limits.{cost_max};
+ghost use Rattle.dom_base.specs.declared.limits.TheConstants.{COST_MAX};
 ghost use Rattle.te_links.specs.declared.limits.TheConstants.{NODES_MAX, METRIC_MAX};
 ghost use Rattle.pcep_messages.specs.Spelling.{message_text};
 ghost use Rattle.pce_tool.specs.Commands.Pair.{ArePairAnswers, IsPairReply, IsPairReplyText, IsShownPath};
@@ -45,7 +45,7 @@ struct Answers {
 fn costs_within(one: u64, other: u64) -> Option<Costs>
     requires one { one ≤ NODES_MAX * METRIC_MAX }
     requires other { other ≤ NODES_MAX * METRIC_MAX }
-    ensures { MatchOption result (cost_max < one + other) (AreCosts one other) }
+    ensures { MatchOption result (COST_MAX < one + other) (AreCosts one other) }
 {
     if one + other > u64::from(COST_MAX) {
         return None;

@@ -32,8 +32,7 @@ returns g c =
         out = record {
           is_out = (c.args.index, slice_get_within outs c.args.index out c.out_at-out.ensures, get_or_from_slice_get outs c.args.index out out c.out_at-out.ensures);
           towards = search rules;
-          fits = search rules;
-          free = search rules;
+          allowed = search rules;
         };
         beyond = c.in-Some.beyond;
         is_down = c.in-Some.ensures;

@@ -3,7 +3,6 @@ use Rattle.std.proofs.lemmas.Option.{slice_get_within}
 use Rattle.std.proofs.lemmas.Bool.Decides.{eqb_tells}
 use Rattle.dom_base.specs.AddrOrder.{rank}
 use Rattle.dom_base.proofs.Ranks.{same_addr}
-use Rattle.dom_base.specs.declared.addr.Addr.{Addr}
 use Rattle.path_certificate.specs.Rows.{label_in}
 use Rattle.path_certificate.proofs.Leading.{no_link, no_offer, step_is, step_made}
 use Rattle.path_certificate.proofs.false_path.step_over.Goals as goal

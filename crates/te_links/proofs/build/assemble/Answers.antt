@@ -1,4 +1,4 @@
-use Rattle.std.proofs.Common.{◌≡◌, ◌+◌, false, get_or, arith, rules}
+use Rattle.std.proofs.Common.{◌≡◌, ◌+◌, ◌∙◌, false, length, get_or, sym, ap, arith, rules}
 use Rattle.std.specs.Ordering.{is_lt, ordering_then, nat_cmp}
 use Rattle.std.specs.List.Sorted.{IsNonDecreasingBy}
 use Rattle.std.proofs.lemmas.List.Sorted.{IsNonDecreasingBy-from_sort}
@@ -12,14 +12,8 @@ use Rattle.te_links.specs.Faults.{rows_of_parts}
 use Rattle.te_links.proofs.Compared.{rising_from_sort}
 use Rattle.te_links.proofs.Moved.{moved, strictly, links_rise, outs_rise, entries_rise, entries_compared}
 use Rattle.te_links.proofs.Moved.{permuted_differ}
+use Rattle.te_links.proofs.Grouping.{index_of, index_from, heads_within, tails_within}
 use Rattle.te_links.proofs.build.assemble.Goals as goal
-
-pub index_of-requires-clause-nodes_rise : goal.index_of-requires-clause-nodes_rise
-index_of-requires-clause-nodes_rise c =
-    let nodes = c.sort.new.self.items in
-    let moves = rw c.into_vec-nodes.ensures at c.in_ok-sort.ensures.permutation in
-    let up = IsNonDecreasingBy-from_sort (λ (a : Addr). rank a) nodes c.in_ok-sort.ensures.sorted in
-    rw c.deref.ensures.value (strictly (λ (a : Addr). a) nodes up (permuted_differ c.args.parts.nodes nodes moves c.requires.rules.nodes_differ))
 
 pub of-requires-clause-rules : goal.of-requires-clause-rules
 of-requires-clause-rules c =
@@ -49,24 +43,55 @@ of-requires-clause-order c =
           rules_hold.entries_differ;
     }
 
-pub tails_of-requires-clause-nodes_rise : goal.tails_of-requires-clause-nodes_rise
-tails_of-requires-clause-nodes_rise c =
+pub ends_of-requires-clause-nodes_rise : goal.ends_of-requires-clause-nodes_rise
+ends_of-requires-clause-nodes_rise c =
     let nodes = c.sort.new.self.items in
     let moves = rw c.into_vec-nodes.ensures at c.in_ok-sort.ensures.permutation in
     let up = IsNonDecreasingBy-from_sort (λ (a : Addr). rank a) nodes c.in_ok-sort.ensures.sorted in
-    rw c.deref-3.ensures.value (strictly (λ (a : Addr). a) nodes up (permuted_differ c.args.parts.nodes nodes moves c.requires.rules.nodes_differ))
+    rw c.deref.ensures.value (strictly (λ (a : Addr). a) nodes up (permuted_differ c.args.parts.nodes nodes moves c.requires.rules.nodes_differ))
 
-pub tails_of-requires-clause-known : goal.tails_of-requires-clause-known
-tails_of-requires-clause-known c =
+pub ends_of-requires-clause-from : goal.ends_of-requires-clause-from
+ends_of-requires-clause-from c =
     let g : Rows = record { own = c.args.parts.own; nodes = c.sort.new.self.items; links = c.sort_by_key.new.self.items; outs = c.sort_by_key-2.new.self.items; entries = c.sort-2.new.self.items } in
     let rules_hold : IsTopology g = moved (rows_of_parts c.args.parts) g.nodes g.links g.outs g.entries c.requires.rules
     (rw c.into_vec-nodes.ensures at c.in_ok-sort.ensures.permutation) (rw c.into_vec-links.ensures at c.in_ok-sort_by_key.ensures.permutation)
     (rw c.into_vec-outs.ensures at c.in_ok-sort_by_key-2.ensures.permutation) (rw c.into_vec-entries.ensures at c.in_ok-sort-2.ensures.permutation) in
-    rw (c.deref-3.ensures.value, c.deref-4.ensures.value) (λ k d below. (rules_hold.links k d below).link.from)
+    rw (c.deref.ensures.value, c.deref-2.ensures.value) (λ k d below. (rules_hold.links k d below).link.from)
 
-pub index_from-requires-clause-nodes_rise : goal.index_from-requires-clause-nodes_rise
-index_from-requires-clause-nodes_rise c =
+pub ends_of-requires-clause-to : goal.ends_of-requires-clause-to
+ends_of-requires-clause-to c =
+    let g : Rows = record { own = c.args.parts.own; nodes = c.sort.new.self.items; links = c.sort_by_key.new.self.items; outs = c.sort_by_key-2.new.self.items; entries = c.sort-2.new.self.items } in
+    let rules_hold : IsTopology g = moved (rows_of_parts c.args.parts) g.nodes g.links g.outs g.entries c.requires.rules
+    (rw c.into_vec-nodes.ensures at c.in_ok-sort.ensures.permutation) (rw c.into_vec-links.ensures at c.in_ok-sort_by_key.ensures.permutation)
+    (rw c.into_vec-outs.ensures at c.in_ok-sort_by_key-2.ensures.permutation) (rw c.into_vec-entries.ensures at c.in_ok-sort-2.ensures.permutation) in
+    rw (c.deref.ensures.value, c.deref-2.ensures.value) (λ k d below. (rules_hold.links k d below).to)
+
+pub links_by-requires-clause-known : goal.links_by-requires-clause-known
+links_by-requires-clause-known c =
+    let count : c.len.result ≡ length c.deref.result.now = c.len.ensures ∙ sym c.deref.ensures.len in
+    rw (c.deref-3.ensures.value, count) (heads_within c.deref.result.now c.deref-2.result.now c.in_ok-ends.ends.heads.items c.in_ok-ends.ensures.heads)
+
+pub links_by-requires-2-clause-known : goal.links_by-requires-2-clause-known
+links_by-requires-2-clause-known c =
+    let count : c.len-2.result ≡ length c.deref.result.now = c.len-2.ensures ∙ sym c.deref.ensures.len in
+    rw (c.deref-4.ensures.value, count) (tails_within c.deref.result.now c.deref-2.result.now c.in_ok-ends.ends.tails.items c.in_ok-ends.ensures.tails)
+
+pub of-requires-clause-index : goal.of-requires-clause-index
+of-requires-clause-index c =
     let nodes = c.sort.new.self.items in
     let moves = rw c.into_vec-nodes.ensures at c.in_ok-sort.ensures.permutation in
-    let up = IsNonDecreasingBy-from_sort (λ (a : Addr). rank a) nodes c.in_ok-sort.ensures.sorted in
-    rw c.deref-5.ensures.value (strictly (λ (a : Addr). a) nodes up (permuted_differ c.args.parts.nodes nodes moves c.requires.rules.nodes_differ))
+    let up = strictly (λ (a : Addr). a) nodes (IsNonDecreasingBy-from_sort (λ (a : Addr). rank a) nodes c.in_ok-sort.ensures.sorted) (permuted_differ c.args.parts.nodes nodes moves c.requires.rules.nodes_differ) in
+    let count : c.len.result ≡ length nodes = c.len.ensures ∙ sym c.deref.ensures.len ∙ ap length c.deref.ensures.value in
+    index_of nodes c.sort_by_key.new.self.items c.in_ok-ends.ends.heads.items c.in_ok-into.into.items up
+    (rw (c.deref.ensures.value, c.deref-2.ensures.value) at c.in_ok-ends.ensures.heads)
+    (rw (c.deref-3.ensures.value, count) at c.in_ok-into.ensures)
+
+pub of-requires-clause-leaving : goal.of-requires-clause-leaving
+of-requires-clause-leaving c =
+    let nodes = c.sort.new.self.items in
+    let moves = rw c.into_vec-nodes.ensures at c.in_ok-sort.ensures.permutation in
+    let up = strictly (λ (a : Addr). a) nodes (IsNonDecreasingBy-from_sort (λ (a : Addr). rank a) nodes c.in_ok-sort.ensures.sorted) (permuted_differ c.args.parts.nodes nodes moves c.requires.rules.nodes_differ) in
+    let count : c.len-2.result ≡ length nodes = c.len-2.ensures ∙ sym c.deref.ensures.len ∙ ap length c.deref.ensures.value in
+    index_from nodes c.sort_by_key.new.self.items c.in_ok-ends.ends.tails.items c.in_ok-leaving.leaving.items up
+    (rw (c.deref.ensures.value, c.deref-2.ensures.value) at c.in_ok-ends.ensures.tails)
+    (rw (c.deref-4.ensures.value, count) at c.in_ok-leaving.ensures)

@@ -1,5 +1,4 @@
 use Rattle.std.proofs.Common.{◌≡◌, ◌∙◌, sym, ap, arith}
-use Rattle.dom_base.specs.declared.addr.Addr.{Addr}
 use Rattle.dom_base.specs.declared.query.Label.{Label}
 use Rattle.te_links.proofs.Different.{Decides-rank}
 use Rattle.path_certificate.proofs.offers.Offer.is.Goals as goal
