@@ -1,4 +1,4 @@
-use Rattle.std.proofs.Common.{◌≡◌, ◌∙◌, sym, subst}
+use Rattle.std.proofs.Common.{◌≡◌, ◌∙◌, refl, sym, subst}
 use Rattle.std.specs.Prelude.{MatchOption}
 use Rattle.border_costs.specs.declared.job.Target.{Target}
 use Rattle.plant_model.specs.Branches.{downs}
@@ -30,5 +30,5 @@ pub returns-in-Some : goal.returns-in-Some
 returns-in-Some c =
     let r = c.args.row.now in
     let down = downs c.args.down.now in
-    subst (λ (t : Target). MatchOption c.within-in-Next.result (JoinsNothing c.args.cap t down r) (JoinsOver c.args.cap t down r)) (sym c.in-Next.is)
-    (next_within c.args.cap c.in-Next._next down r c.get-in-Next.result c.in-Some.rest c.get-in-Next-2.result c.within-in-Next.result c.get-in-Next.ensures.number c.get-in-Next-2.ensures.number c.in-Some.ensures c.within-in-Next.ensures)
+    subst (λ (t : Target). MatchOption c.sum_within.result (JoinsNothing c.args.cap t down r) (JoinsOver c.args.cap t down r)) (sym c.in-Next.is)
+    (next_within c.args.cap c.in-Next._next down r c.get-in-Next.result c.in-Some.rest c.in-Some.rest c.sum_within.result c.get-in-Next.ensures.number refl c.in-Some.ensures c.sum_within.ensures)
