@@ -2,13 +2,14 @@
 use Rattle.std.proofs.Common.{◌≡◌, ◌≢◌, ◌⊎◌, ◌∙◌, ◌+◌, ◌<◌, ◌≤◌, ℕ, zero, suc, Bool, true, false, cond, nat_lt, Option, Some, None, List, [], ◌∷◌, ◌++◌, length, get_or, map, take, drop, arith, inl, inr, refl, sym, ap, subst, length-append, append_assoc}
 use Rattle.std.specs.Prelude.{All, AllPairs, Contains, IfSome, MatchOption, SomeIff, slice_get}
 use Rattle.std.proofs.lemmas.List.{length_push, map-append, take_more}
-use Rattle.std.proofs.lemmas.Bool.{cases_lt, lt-ltb, le-ltb}
+use Rattle.std.proofs.lemmas.Bool.{cases_lt, eq-eqb, eqb-true, lt-ltb, le-ltb}
 use Rattle.std.proofs.lemmas.List.Elements.{All-nil, All-cons, Contains-append_left, Contains-push, Contains-push_cases}
 use Rattle.std.proofs.lemmas.List.Quantifiers.{all_pairs_push}
 use Rattle.dom_base.specs.AddrOrder.{rank}
 use Rattle.dom_base.specs.declared.addr.Addr.{Addr}
 use Rattle.dom_base.specs.declared.names.As.{As}
 use Rattle.dom_base.specs.declared.border.BorderRow.{BorderRow}
+use Rattle.dom_base.proofs.Ranks.{same_addr as one_place}
 use Rattle.walk_laws.specs.Borders.{Beyond, IsDown}
 use Rattle.vspt_tree.specs.Branches.{HasBranchAt}
 use Rattle.vspt_tree.specs.declared.branch.Best.{Best}
@@ -21,6 +22,7 @@ use Rattle.border_costs.specs.declared.job.Target.TheVariants.{Node, Next}
 use Rattle.border_costs.proofs.Downs.{down_unique}
 use Rattle.plant_model.specs.Branches.{downs}
 use Rattle.plant_model.specs.Jobs.{IsJoinOf, JoinsBy}
+use Rattle.plant_model.specs.Names.{same_addr}
 use Rattle.pce_element.specs.Joining.{EndsElsewhere, IsJoinOfRow, JoinsNothing, JoinsOver, JoinsRow, TakesIn, head_over}
 use Rattle.member_parts.proofs.HeldPlaces.{split_at, taken_at}
 use Rattle.member_parts.proofs.HeldRows.{first_in, in_cases, later_in, none_in}
@@ -70,25 +72,25 @@ has_last (y ∷ xs) x has = last_of y xs
 
 -- ---- what rows join to
 
-make : Addr → Addr → Addr → ℕ → BorderRow
+abbrev make : Addr → Addr → Addr → ℕ → BorderRow
 make e far head c = record { entry = e; far = far; head = head; cost = c }
 
-joins_more : (cap : ℕ) (target : Target) (rows more : List BorderRow) (down : List Down) (e : Addr) (c : ℕ) (exit : Addr) (head : Option Addr) → ((r : BorderRow) → Contains rows r → Contains more r) →
-    JoinsBy cap target rows down e c exit head → JoinsBy cap target more down e c exit head
-joins_more cap (Node t) rows more down e c exit None there joins = (there (make e exit exit c) joins.0, joins.1)
-joins_more cap (Node t) rows more down e c exit (Some head) there joins = absurd joins
-joins_more cap (Next b) rows more down e c exit None there joins = absurd joins
-joins_more cap (Next b) rows more down e c exit (Some head) there joins = (joins.0, joins.1, there (make e exit head joins.0) joins.2, joins.3, joins.4, joins.5)
+joins_more : (bound : ℕ) (target : Target) (rows more : List BorderRow) (down : List Down) (e : Addr) (c : ℕ) (exit : Addr) (head : Option Addr) → ((r : BorderRow) → Contains rows r → Contains more r) →
+    JoinsBy bound target rows down e c exit head → JoinsBy bound target more down e c exit head
+joins_more bound (Node t) rows more down e c exit None there joins = (there (make e exit exit c) joins.0, joins.1)
+joins_more bound (Node t) rows more down e c exit (Some head) there joins = absurd joins
+joins_more bound (Next b) rows more down e c exit None there joins = absurd joins
+joins_more bound (Next b) rows more down e c exit (Some head) there joins = (joins.0, joins.1, there (make e exit head joins.0) joins.2, joins.3, joins.4, joins.5)
 
-joins_split : (cap : ℕ) (target : Target) (rows : List BorderRow) (r : BorderRow) (down : List Down) (e : Addr) (c : ℕ) (exit : Addr) (head : Option Addr) → JoinsBy cap target (rows ++ r ∷ []) down e c exit head →
-    JoinsBy cap target rows down e c exit head ⊎ JoinsBy cap target (r ∷ []) down e c exit head
-joins_split cap (Node t) rows r down e c exit None joins = elim (Contains-push_cases rows r (make e exit exit c) joins.0) [
+joins_split : (bound : ℕ) (target : Target) (rows : List BorderRow) (r : BorderRow) (down : List Down) (e : Addr) (c : ℕ) (exit : Addr) (head : Option Addr) → JoinsBy bound target (rows ++ r ∷ []) down e c exit head →
+    JoinsBy bound target rows down e c exit head ⊎ JoinsBy bound target (r ∷ []) down e c exit head
+joins_split bound (Node t) rows r down e c exit None joins = elim (Contains-push_cases rows r (make e exit exit c) joins.0) [
   | inl before ↦ inl (before, joins.1)
   | inr same ↦ inr (subst (λ (x : BorderRow). Contains (r ∷ []) x) same (first_in r []), joins.1)
 ]
-joins_split cap (Node t) rows r down e c exit (Some head) joins = absurd joins
-joins_split cap (Next b) rows r down e c exit None joins = absurd joins
-joins_split cap (Next b) rows r down e c exit (Some head) joins = elim (Contains-push_cases rows r (make e exit head joins.0) joins.2) [
+joins_split bound (Node t) rows r down e c exit (Some head) joins = absurd joins
+joins_split bound (Next b) rows r down e c exit None joins = absurd joins
+joins_split bound (Next b) rows r down e c exit (Some head) joins = elim (Contains-push_cases rows r (make e exit head joins.0) joins.2) [
   | inl before ↦ inl (joins.0, joins.1, before, joins.3, joins.4, joins.5)
   | inr same ↦ inr (joins.0, joins.1, subst (λ (x : BorderRow). Contains (r ∷ []) x) same (first_in r []), joins.3, joins.4, joins.5)
 ]
@@ -100,100 +102,100 @@ record GoesBy (rows : List BorderRow) (e exit : Addr) : Type 0 where
   entry : row.entry ≡ e
   far : row.far ≡ exit
 
-goes_by : (cap : ℕ) (target : Target) (rows : List BorderRow) (down : List Down) (e : Addr) (c : ℕ) (exit : Addr) (head : Option Addr) → JoinsBy cap target rows down e c exit head → GoesBy rows e exit
-goes_by cap (Node t) rows down e c exit None joins = record { row = make e exit exit c; has = joins.0; entry = refl; far = refl }
-goes_by cap (Node t) rows down e c exit (Some head) joins = absurd joins
-goes_by cap (Next b) rows down e c exit None joins = absurd joins
-goes_by cap (Next b) rows down e c exit (Some head) joins = record { row = make e exit head joins.0; has = joins.2; entry = refl; far = refl }
+goes_by : (bound : ℕ) (target : Target) (rows : List BorderRow) (down : List Down) (e : Addr) (c : ℕ) (exit : Addr) (head : Option Addr) → JoinsBy bound target rows down e c exit head → GoesBy rows e exit
+goes_by bound (Node t) rows down e c exit None joins = record { row = make e exit exit c; has = joins.0; entry = refl; far = refl }
+goes_by bound (Node t) rows down e c exit (Some head) joins = absurd joins
+goes_by bound (Next b) rows down e c exit None joins = absurd joins
+goes_by bound (Next b) rows down e c exit (Some head) joins = record { row = make e exit head joins.0; has = joins.2; entry = refl; far = refl }
 
 alone_is : (r x : BorderRow) → Contains (r ∷ []) x → r ≡ x
 alone_is r x has = elim (in_cases r [] x has) [ inl same ↦ same | inr none ↦ absurd (none_in x none) ]
 
 -- a row by itself
-alone_entry : (cap : ℕ) (target : Target) (r : BorderRow) (down : List Down) (e : Addr) (c : ℕ) (exit : Addr) (head : Option Addr) → JoinsBy cap target (r ∷ []) down e c exit head → e ≡ r.entry
-alone_entry cap target r down e c exit head joins =
-    let by = goes_by cap target (r ∷ []) down e c exit head joins in
+alone_entry : (bound : ℕ) (target : Target) (r : BorderRow) (down : List Down) (e : Addr) (c : ℕ) (exit : Addr) (head : Option Addr) → JoinsBy bound target (r ∷ []) down e c exit head → e ≡ r.entry
+alone_entry bound target r down e c exit head joins =
+    let by = goes_by bound target (r ∷ []) down e c exit head joins in
     sym (ap (λ (x : BorderRow). x.entry) (alone_is r by.row by.has) ∙ by.entry)
 
-alone_exit : (cap : ℕ) (target : Target) (r : BorderRow) (down : List Down) (e : Addr) (c : ℕ) (exit : Addr) (head : Option Addr) → JoinsBy cap target (r ∷ []) down e c exit head → exit ≡ r.far
-alone_exit cap target r down e c exit head joins =
-    let by = goes_by cap target (r ∷ []) down e c exit head joins in
+alone_exit : (bound : ℕ) (target : Target) (r : BorderRow) (down : List Down) (e : Addr) (c : ℕ) (exit : Addr) (head : Option Addr) → JoinsBy bound target (r ∷ []) down e c exit head → exit ≡ r.far
+alone_exit bound target r down e c exit head joins =
+    let by = goes_by bound target (r ∷ []) down e c exit head joins in
     sym (ap (λ (x : BorderRow). x.far) (alone_is r by.row by.has) ∙ by.far)
 
 -- ---- one row more
 
-module _ (cap : ℕ) (target : Target) (down : List Down) (rows : List BorderRow) (r : BorderRow) (order : (x : BorderRow) → Contains rows x → IsRowBefore x r) where
+module _ (bound : ℕ) (target : Target) (down : List Down) (rows : List BorderRow) (r : BorderRow) (order : (x : BorderRow) → Contains rows x → IsRowBefore x r) where
   -- a way over the rows before is not from a later entry, and from the same entry over a lower far address
-  earlier : (e : Addr) (c : ℕ) (exit : Addr) (head : Option Addr) → JoinsBy cap target rows down e c exit head → (rank e < rank r.entry) ⊎ ((e ≡ r.entry) × (rank exit < rank r.far))
+  earlier : (e : Addr) (c : ℕ) (exit : Addr) (head : Option Addr) → JoinsBy bound target rows down e c exit head → (rank e < rank r.entry) ⊎ ((e ≡ r.entry) × (rank exit < rank r.far))
   earlier e c exit head joins =
-      let by = goes_by cap target rows down e c exit head joins in
+      let by = goes_by bound target rows down e c exit head joins in
       elim (order by.row by.has) [
         | inl less ↦ inl (subst (λ (a : Addr). rank a < rank r.entry) by.entry less)
         | inr same ↦ inr (sym by.entry ∙ same.0, subst (λ (a : Addr). rank a < rank r.far) by.far same.1)
       ]
 
-  from_before : (e : Addr) (c : ℕ) (exit : Addr) (head : Option Addr) → JoinsBy cap target rows down e c exit head → JoinsBy cap target (rows ++ r ∷ []) down e c exit head
-  from_before e c exit head joins = joins_more cap target rows (rows ++ r ∷ []) down e c exit head (λ x has. Contains-append_left rows (r ∷ []) x has) joins
+  from_before : (e : Addr) (c : ℕ) (exit : Addr) (head : Option Addr) → JoinsBy bound target rows down e c exit head → JoinsBy bound target (rows ++ r ∷ []) down e c exit head
+  from_before e c exit head joins = joins_more bound target rows (rows ++ r ∷ []) down e c exit head (λ x has. Contains-append_left rows (r ∷ []) x has) joins
 
-  from_row : (e : Addr) (c : ℕ) (exit : Addr) (head : Option Addr) → JoinsBy cap target (r ∷ []) down e c exit head → JoinsBy cap target (rows ++ r ∷ []) down e c exit head
+  from_row : (e : Addr) (c : ℕ) (exit : Addr) (head : Option Addr) → JoinsBy bound target (r ∷ []) down e c exit head → JoinsBy bound target (rows ++ r ∷ []) down e c exit head
   from_row e c exit head joins =
-      joins_more cap target (r ∷ []) (rows ++ r ∷ []) down e c exit head (λ x has. subst (λ (y : BorderRow). Contains (rows ++ r ∷ []) y) (alone_is r x has) (Contains-push rows r)) joins
+      joins_more bound target (r ∷ []) (rows ++ r ∷ []) down e c exit head (λ x has. subst (λ (y : BorderRow). Contains (rows ++ r ∷ []) y) (alone_is r x has) (Contains-push rows r)) joins
 
   -- the row joins to nothing
-  pub skipped : (best : List Best) → JoinsNothing cap target down r → IsJoinOf cap target rows down best → IsJoinOf cap target (rows ++ r ∷ []) down best
+  pub skipped : (best : List Best) → JoinsNothing bound target down r → IsJoinOf bound target rows down best → IsJoinOf bound target (rows ++ r ∷ []) down best
   skipped best nothing is = record {
     rising = is.rising;
     each = λ b has. from_before b.entry b.cost b.exit b.head (is.each b has);
-    least = λ b has c exit head joins. elim (joins_split cap target rows r down b.entry c exit head joins) [
+    least = λ b has c exit head joins. elim (joins_split bound target rows r down b.entry c exit head joins) [
       | inl before ↦ is.least b has c exit head before
       | inr here ↦ absurd (nothing b.entry c exit head here)
     ];
-    all = λ e c exit head joins. elim (joins_split cap target rows r down e c exit head joins) [
+    all = λ e c exit head joins. elim (joins_split bound target rows r down e c exit head joins) [
       | inl before ↦ is.all e c exit head before
       | inr here ↦ absurd (nothing e c exit head here)
     ];
   }
 
   -- a way from an entry that has none yet
-  pub added : (best : List Best) (w : Best) → IsJoinOfRow cap target down r w → IsJoinOf cap target rows down best → ((b : Best) → Contains best b → rank b.entry < rank w.entry) → IsJoinOf cap target (rows ++ r ∷ []) down (best ++ w ∷ [])
+  pub added : (best : List Best) (w : Best) → IsJoinOfRow bound target down r w → IsJoinOf bound target rows down best → ((b : Best) → Contains best b → rank b.entry < rank w.entry) → IsJoinOf bound target (rows ++ r ∷ []) down (best ++ w ∷ [])
   added best w new is below = record {
     rising = pairs_more (λ (x y : Best). rank x.entry < rank y.entry) best w is.rising below;
     each = λ b has. elim (Contains-push_cases best w b has) [
       | inl old ↦ from_before b.entry b.cost b.exit b.head (is.each b old)
-      | inr same ↦ subst (λ (x : Best). JoinsBy cap target (rows ++ r ∷ []) down x.entry x.cost x.exit x.head) same (from_row w.entry w.cost w.exit w.head new.joins)
+      | inr same ↦ subst (λ (x : Best). JoinsBy bound target (rows ++ r ∷ []) down x.entry x.cost x.exit x.head) same (from_row w.entry w.cost w.exit w.head new.joins)
     ];
     least = λ b has c exit head joins. elim (Contains-push_cases best w b has) [
-      | inl old ↦ elim (joins_split cap target rows r down b.entry c exit head joins) [
+      | inl old ↦ elim (joins_split bound target rows r down b.entry c exit head joins) [
         | inl before ↦ is.least b old c exit head before
-        | inr here ↦ absurd (omega (arith, below b old, ap rank (alone_entry cap target r down b.entry c exit head here ∙ sym new.entry)))
+        | inr here ↦ absurd (omega (arith, below b old, ap rank (alone_entry bound target r down b.entry c exit head here ∙ sym new.entry)))
       ]
       | inr same ↦
-          let own : JoinsBy cap target (rows ++ r ∷ []) down w.entry c exit head = subst (λ (x : Best). JoinsBy cap target (rows ++ r ∷ []) down x.entry c exit head) (sym same) joins in
-          subst (λ (x : Best). (x.cost < c) ⊎ ((x.cost ≡ c) × (rank x.exit ≤ rank exit))) same (elim (joins_split cap target rows r down w.entry c exit head own) [
+          let own : JoinsBy bound target (rows ++ r ∷ []) down w.entry c exit head = subst (λ (x : Best). JoinsBy bound target (rows ++ r ∷ []) down x.entry c exit head) (sym same) joins in
+          subst (λ (x : Best). (x.cost < c) ⊎ ((x.cost ≡ c) × (rank x.exit ≤ rank exit))) same (elim (joins_split bound target rows r down w.entry c exit head own) [
             | inl before ↦ let there = is.all w.entry c exit head before in absurd (omega (arith, below there.0 there.1, ap rank there.2))
-            | inr here ↦ inr (sym (new.cost w.entry c exit head here), (let exits : exit ≡ w.exit = alone_exit cap target r down w.entry c exit head here ∙ sym new.exit in omega (arith, ap rank exits)))
+            | inr here ↦ inr (sym (new.cost w.entry c exit head here), (let exits : exit ≡ w.exit = alone_exit bound target r down w.entry c exit head here ∙ sym new.exit in omega (arith, ap rank exits)))
           ])
     ];
-    all = λ e c exit head joins. elim (joins_split cap target rows r down e c exit head joins) [
+    all = λ e c exit head joins. elim (joins_split bound target rows r down e c exit head joins) [
       | inl before ↦ let there = is.all e c exit head before in (there.0, Contains-append_left best (w ∷ []) there.0 there.1, there.2)
-      | inr here ↦ (w, Contains-push best w, new.entry ∙ sym (alone_entry cap target r down e c exit head here))
+      | inr here ↦ (w, Contains-push best w, new.entry ∙ sym (alone_entry bound target r down e c exit head here))
     ];
   }
 
   -- a way from the entry of the last one, which is kept
-  pub kept_last : (older : List Best) (last w : Best) → IsJoinOfRow cap target down r w → IsJoinOf cap target rows down (older ++ last ∷ []) → last.entry ≡ w.entry → last.cost ≤ w.cost → IsJoinOf cap target (rows ++ r ∷ []) down (older ++ last ∷ [])
+  pub kept_last : (older : List Best) (last w : Best) → IsJoinOfRow bound target down r w → IsJoinOf bound target rows down (older ++ last ∷ []) → last.entry ≡ w.entry → last.cost ≤ w.cost → IsJoinOf bound target (rows ++ r ∷ []) down (older ++ last ∷ [])
   kept_last older last w new is same cheap = record {
     rising = is.rising;
     each = λ b has. from_before b.entry b.cost b.exit b.head (is.each b has);
-    least = λ b has c exit head joins. elim (joins_split cap target rows r down b.entry c exit head joins) [
+    least = λ b has c exit head joins. elim (joins_split bound target rows r down b.entry c exit head joins) [
       | inl before ↦ is.least b has c exit head before
       | inr here ↦ elim (Contains-push_cases older last b has) [
         | inl old ↦
             let less : rank b.entry < rank last.entry = before_last (λ (x y : Best). rank x.entry < rank y.entry) older last b is.rising old in
-            absurd (omega (arith, less, ap rank (alone_entry cap target r down b.entry c exit head here ∙ sym new.entry ∙ sym same)))
+            absurd (omega (arith, less, ap rank (alone_entry bound target r down b.entry c exit head here ∙ sym new.entry ∙ sym same)))
         | inr is_last ↦
             let cost_is : c ≡ w.cost = new.cost b.entry c exit head here in
-            let exit_is : exit ≡ r.far = alone_exit cap target r down b.entry c exit head here in
+            let exit_is : exit ≡ r.far = alone_exit bound target r down b.entry c exit head here in
             let lower : rank last.exit < rank r.far = last_lower older last w new is same in
             subst (λ (x : Best). (x.cost < c) ⊎ ((x.cost ≡ c) × (rank x.exit ≤ rank exit))) is_last (elim (cases_lt last.cost c) [
               | inl less ↦ inl less
@@ -201,51 +203,51 @@ module _ (cap : ℕ) (target : Target) (down : List Down) (rows : List BorderRow
             ])
       ]
     ];
-    all = λ e c exit head joins. elim (joins_split cap target rows r down e c exit head joins) [
+    all = λ e c exit head joins. elim (joins_split bound target rows r down e c exit head joins) [
       | inl before ↦ is.all e c exit head before
-      | inr here ↦ (last, Contains-push older last, same ∙ new.entry ∙ sym (alone_entry cap target r down e c exit head here))
+      | inr here ↦ (last, Contains-push older last, same ∙ new.entry ∙ sym (alone_entry bound target r down e c exit head here))
     ];
   }
     where
-      last_lower : (older : List Best) (last w : Best) → IsJoinOfRow cap target down r w → IsJoinOf cap target rows down (older ++ last ∷ []) → last.entry ≡ w.entry → rank last.exit < rank r.far
+      last_lower : (older : List Best) (last w : Best) → IsJoinOfRow bound target down r w → IsJoinOf bound target rows down (older ++ last ∷ []) → last.entry ≡ w.entry → rank last.exit < rank r.far
       last_lower older last w new is same = elim (earlier last.entry last.cost last.exit last.head (is.each last (Contains-push older last))) [
         | inl less ↦ absurd (omega (arith, less, ap rank (same ∙ new.entry)))
         | inr here ↦ here.1
       ]
 
   -- a way from the entry of the last one, which is cheaper
-  pub replaced : (older : List Best) (last w : Best) → IsJoinOfRow cap target down r w → IsJoinOf cap target rows down (older ++ last ∷ []) → last.entry ≡ w.entry → w.cost < last.cost → IsJoinOf cap target (rows ++ r ∷ []) down (older ++ w ∷ [])
+  pub replaced : (older : List Best) (last w : Best) → IsJoinOfRow bound target down r w → IsJoinOf bound target rows down (older ++ last ∷ []) → last.entry ≡ w.entry → w.cost < last.cost → IsJoinOf bound target (rows ++ r ∷ []) down (older ++ w ∷ [])
   replaced older last w new is same cheap = record {
     rising = pairs_more (λ (x y : Best). rank x.entry < rank y.entry) older w (pairs_front (λ (x y : Best). rank x.entry < rank y.entry) older (last ∷ []) is.rising) (λ b has. below b has);
     each = λ b has. elim (Contains-push_cases older w b has) [
       | inl old ↦ from_before b.entry b.cost b.exit b.head (is.each b (Contains-append_left older (last ∷ []) b old))
-      | inr is_w ↦ subst (λ (x : Best). JoinsBy cap target (rows ++ r ∷ []) down x.entry x.cost x.exit x.head) is_w (from_row w.entry w.cost w.exit w.head new.joins)
+      | inr is_w ↦ subst (λ (x : Best). JoinsBy bound target (rows ++ r ∷ []) down x.entry x.cost x.exit x.head) is_w (from_row w.entry w.cost w.exit w.head new.joins)
     ];
     least = λ b has c exit head joins. elim (Contains-push_cases older w b has) [
-      | inl old ↦ elim (joins_split cap target rows r down b.entry c exit head joins) [
+      | inl old ↦ elim (joins_split bound target rows r down b.entry c exit head joins) [
         | inl before ↦ is.least b (Contains-append_left older (last ∷ []) b old) c exit head before
-        | inr here ↦ absurd (omega (arith, below b old, ap rank (alone_entry cap target r down b.entry c exit head here ∙ sym new.entry)))
+        | inr here ↦ absurd (omega (arith, below b old, ap rank (alone_entry bound target r down b.entry c exit head here ∙ sym new.entry)))
       ]
       | inr is_w ↦
-          let own : JoinsBy cap target (rows ++ r ∷ []) down w.entry c exit head = subst (λ (x : Best). JoinsBy cap target (rows ++ r ∷ []) down x.entry c exit head) (sym is_w) joins in
-          subst (λ (x : Best). (x.cost < c) ⊎ ((x.cost ≡ c) × (rank x.exit ≤ rank exit))) is_w (elim (joins_split cap target rows r down w.entry c exit head own) [
+          let own : JoinsBy bound target (rows ++ r ∷ []) down w.entry c exit head = subst (λ (x : Best). JoinsBy bound target (rows ++ r ∷ []) down x.entry c exit head) (sym is_w) joins in
+          subst (λ (x : Best). (x.cost < c) ⊎ ((x.cost ≡ c) × (rank x.exit ≤ rank exit))) is_w (elim (joins_split bound target rows r down w.entry c exit head own) [
             | inl before ↦
-                let at_last : JoinsBy cap target rows down last.entry c exit head = subst (λ (a : Addr). JoinsBy cap target rows down a c exit head) (sym same) before in
+                let at_last : JoinsBy bound target rows down last.entry c exit head = subst (λ (a : Addr). JoinsBy bound target rows down a c exit head) (sym same) before in
                 elim (is.least last (Contains-push older last) c exit head at_last) [
                   | inl less ↦ inl (omega (arith, less, cheap))
                   | inr equal ↦ inl (omega (arith, equal.0, cheap))
                 ]
-            | inr here ↦ inr (sym (new.cost w.entry c exit head here), (let exits : exit ≡ w.exit = alone_exit cap target r down w.entry c exit head here ∙ sym new.exit in omega (arith, ap rank exits)))
+            | inr here ↦ inr (sym (new.cost w.entry c exit head here), (let exits : exit ≡ w.exit = alone_exit bound target r down w.entry c exit head here ∙ sym new.exit in omega (arith, ap rank exits)))
           ])
     ];
-    all = λ e c exit head joins. elim (joins_split cap target rows r down e c exit head joins) [
+    all = λ e c exit head joins. elim (joins_split bound target rows r down e c exit head joins) [
       | inl before ↦
           let there = is.all e c exit head before in
           elim (Contains-push_cases older last there.0 there.1) [
             | inl old ↦ (there.0, Contains-append_left older (w ∷ []) there.0 old, there.2)
             | inr is_last ↦ (w, Contains-push older w, sym same ∙ ap (λ (x : Best). x.entry) is_last ∙ there.2)
           ]
-      | inr here ↦ (w, Contains-push older w, new.entry ∙ sym (alone_entry cap target r down e c exit head here))
+      | inr here ↦ (w, Contains-push older w, new.entry ∙ sym (alone_entry bound target r down e c exit head here))
     ];
   }
     where
@@ -253,43 +255,43 @@ module _ (cap : ℕ) (target : Target) (down : List Down) (rows : List BorderRow
       below b has = subst (λ (a : Addr). rank b.entry < rank a) same (before_last (λ (x y : Best). rank x.entry < rank y.entry) older last b is.rising has)
 
   -- the last way is from another entry, so all are from lower ones
-  all_lower : (best : List Best) (w : Best) → IsJoinOfRow cap target down r w → IsJoinOf cap target rows down best → EndsElsewhere w.entry best → (b : Best) → Contains best b → rank b.entry < rank w.entry
+  all_lower : (best : List Best) (w : Best) → IsJoinOfRow bound target down r w → IsJoinOf bound target rows down best → EndsElsewhere w.entry best → (b : Best) → Contains best b → rank b.entry < rank w.entry
   all_lower best w new is elsewhere b has =
       let parts = has_last best b has in
-      let there : IsJoinOf cap target rows down (parts.0 ++ parts.1 ∷ []) = subst (λ (bs : List Best). IsJoinOf cap target rows down bs) parts.2 is in
+      let there : IsJoinOf bound target rows down (parts.0 ++ parts.1 ∷ []) = subst (λ (bs : List Best). IsJoinOf bound target rows down bs) parts.2 is in
       let lower : rank parts.1.entry < rank w.entry = last_below parts.0 parts.1 there (elsewhere parts.0 parts.1 parts.2) in
       elim (Contains-push_cases parts.0 parts.1 b (subst (λ (bs : List Best). Contains bs b) parts.2 has)) [
         | inl old ↦ omega (arith, lower, before_last (λ (x y : Best). rank x.entry < rank y.entry) parts.0 parts.1 b there.rising old)
         | inr is_last ↦ subst (λ (x : Best). rank x.entry < rank w.entry) is_last lower
       ]
     where
-      last_below : (older : List Best) (last : Best) → IsJoinOf cap target rows down (older ++ last ∷ []) → last.entry ≢ w.entry → rank last.entry < rank w.entry
+      last_below : (older : List Best) (last : Best) → IsJoinOf bound target rows down (older ++ last ∷ []) → last.entry ≢ w.entry → rank last.entry < rank w.entry
       last_below older last there differs = elim (earlier last.entry last.cost last.exit last.head (there.each last (Contains-push older last))) [
         | inl less ↦ omega (arith, less, ap rank new.entry)
         | inr here ↦ absurd (differs (here.0 ∙ sym new.entry))
       ]
 
   -- a way that is taken in
-  pub taken_in : (best after : List Best) (w : Best) → IsJoinOfRow cap target down r w → IsJoinOf cap target rows down best → TakesIn w best after → IsJoinOf cap target (rows ++ r ∷ []) down after
+  pub taken_in : (best after : List Best) (w : Best) → IsJoinOfRow bound target down r w → IsJoinOf bound target rows down best → TakesIn w best after → IsJoinOf bound target (rows ++ r ∷ []) down after
   taken_in best after w new is (inl same) =
       let older = same.0 in
       let last = same.1 in
-      let there : IsJoinOf cap target rows down (older ++ last ∷ []) = subst (λ (bs : List Best). IsJoinOf cap target rows down bs) same.2 is in
-      subst (λ (bs : List Best). IsJoinOf cap target (rows ++ r ∷ []) down bs) (sym same.4) (elim (cases_lt w.cost last.cost) [
-        | inl less ↦ subst (λ (b : Bool). IsJoinOf cap target (rows ++ r ∷ []) down (older ++ cond b w last ∷ [])) (sym (lt-ltb w.cost last.cost less)) (replaced older last w new there same.3 less)
-        | inr above ↦ subst (λ (b : Bool). IsJoinOf cap target (rows ++ r ∷ []) down (older ++ cond b w last ∷ [])) (sym (le-ltb w.cost last.cost above)) (kept_last older last w new there same.3 above)
+      let there : IsJoinOf bound target rows down (older ++ last ∷ []) = subst (λ (bs : List Best). IsJoinOf bound target rows down bs) same.2 is in
+      subst (λ (bs : List Best). IsJoinOf bound target (rows ++ r ∷ []) down bs) (sym same.4) (elim (cases_lt w.cost last.cost) [
+        | inl less ↦ subst (λ (b : Bool). IsJoinOf bound target (rows ++ r ∷ []) down (older ++ cond b w last ∷ [])) (sym (lt-ltb w.cost last.cost less)) (replaced older last w new there same.3 less)
+        | inr above ↦ subst (λ (b : Bool). IsJoinOf bound target (rows ++ r ∷ []) down (older ++ cond b w last ∷ [])) (sym (le-ltb w.cost last.cost above)) (kept_last older last w new there same.3 above)
       ])
   taken_in best after w new is (inr other) =
-      subst (λ (bs : List Best). IsJoinOf cap target (rows ++ r ∷ []) down bs) (sym other.1) (added best w new is (all_lower best w new is other.0))
+      subst (λ (bs : List Best). IsJoinOf bound target (rows ++ r ∷ []) down bs) (sym other.1) (added best w new is (all_lower best w new is other.0))
 
 -- ---- the steps of a loop
 
-pub no_rows : (cap : ℕ) (target : Target) (down : List Down) → IsJoinOf cap target [] down []
-no_rows cap target down = record {
+pub no_rows : (bound : ℕ) (target : Target) (down : List Down) → IsJoinOf bound target [] down []
+no_rows bound target down = record {
   rising = λ i j d less within. absurd (omega (arith, within));
   each = λ b has. absurd (none_in b has);
   least = λ b has c exit head joins. absurd (none_in b has);
-  all = λ e c exit head joins. let by = goes_by cap target [] down e c exit head joins in absurd (none_in by.row by.has);
+  all = λ e c exit head joins. let by = goes_by bound target [] down e c exit head joins in absurd (none_in by.row by.has);
 }
 
 row_order : (rows : List BorderRow) (i : ℕ) (r : BorderRow) → AllPairs IsRowBefore rows → slice_get rows i ≡ Some r → (x : BorderRow) → Contains (take i rows) x → IsRowBefore x r
@@ -300,45 +302,51 @@ row_order rows i r pairs at x has =
 one_further : (rows : List BorderRow) (i : ℕ) (r : BorderRow) → slice_get rows i ≡ Some r → take i rows ++ r ∷ [] ≡ take (i + 1) rows
 one_further rows i r at = sym (ap (λ (j : ℕ). take j rows) (let e : i + 1 ≡ suc i = omega arith in e) ∙ taken_at rows i r at)
 
-pub row_joined : (cap : ℕ) (target : Target) (down : List Down) (rows : List BorderRow) (i : ℕ) (r : BorderRow) (best after : List Best) → AllPairs IsRowBefore rows → slice_get rows i ≡ Some r →
-    IsJoinOf cap target (take i rows) down best → JoinsRow cap target down r best after → IsJoinOf cap target (take (i + 1) rows) down after
-row_joined cap target down rows i r best after pairs at is (inl none) =
-    subst (λ (rs : List BorderRow). IsJoinOf cap target rs down after) (one_further rows i r at)
-    (subst (λ (bs : List Best). IsJoinOf cap target (take i rows ++ r ∷ []) down bs) (sym none.1) (skipped cap target down (take i rows) r (row_order rows i r pairs at) best none.0 is))
-row_joined cap target down rows i r best after pairs at is (inr some) =
-    subst (λ (rs : List BorderRow). IsJoinOf cap target rs down after) (one_further rows i r at) (taken_in cap target down (take i rows) r (row_order rows i r pairs at) best after some.0 some.1 is some.2)
+pub row_joined : (bound : ℕ) (target : Target) (down : List Down) (rows : List BorderRow) (i : ℕ) (r : BorderRow) (best after : List Best) → AllPairs IsRowBefore rows → slice_get rows i ≡ Some r →
+    IsJoinOf bound target (take i rows) down best → JoinsRow bound target down r best after → IsJoinOf bound target (take (i + 1) rows) down after
+row_joined bound target down rows i r best after pairs at is (inl none) =
+    subst (λ (rs : List BorderRow). IsJoinOf bound target rs down after) (one_further rows i r at)
+    (subst (λ (bs : List Best). IsJoinOf bound target (take i rows ++ r ∷ []) down bs) (sym none.1) (skipped bound target down (take i rows) r (row_order rows i r pairs at) best none.0 is))
+row_joined bound target down rows i r best after pairs at is (inr some) =
+    subst (λ (rs : List BorderRow). IsJoinOf bound target rs down after) (one_further rows i r at) (taken_in bound target down (take i rows) r (row_order rows i r pairs at) best after some.0 some.1 is some.2)
 
 -- ---- one row by itself
 
-pub node_joins : (cap : ℕ) (t : Addr) (down : List Down) (r : BorderRow) → r.head ≡ r.far → r.cost ≤ cap → JoinsOver cap (Node t) down r r.cost
-node_joins cap t down r is within = record {
+pub addrs_same : (a b : Addr) → same_addr a b ≡ true → a ≡ b
+addrs_same a b is = one_place a b (eqb-true (rank a) (rank b) is)
+
+pub addrs_differ : (a b : Addr) → same_addr a b ≡ false → a ≡ b → ⊥
+addrs_differ a b other is = let one : same_addr a b ≡ true = eq-eqb (rank a) (rank b) (ap rank is) in cc
+
+pub node_joins : (bound : ℕ) (t : Addr) (down : List Down) (r : BorderRow) → r.head ≡ r.far → r.cost ≤ bound → JoinsOver bound (Node t) down r r.cost
+node_joins bound t down r is within = record {
   joins = (subst (λ (x : BorderRow). Contains (r ∷ []) x) (ap (λ (h : Addr). make r.entry r.far h r.cost) is) (first_in r []), within);
   one = one;
 }
   where
-    one : (e : Addr) (c : ℕ) (exit : Addr) (head : Option Addr) → JoinsBy cap (Node t) (r ∷ []) down e c exit head → c ≡ r.cost
+    one : (e : Addr) (c : ℕ) (exit : Addr) (head : Option Addr) → JoinsBy bound (Node t) (r ∷ []) down e c exit head → c ≡ r.cost
     one e c exit None joins = sym (ap (λ (x : BorderRow). x.cost) (alone_is r (make e exit exit c) joins.0))
     one e c exit (Some head) joins = absurd joins
 
-pub node_elsewhere : (cap : ℕ) (t : Addr) (down : List Down) (r : BorderRow) → (r.head ≡ r.far → ⊥) → JoinsNothing cap (Node t) down r
-node_elsewhere cap t down r differs e c exit None joins =
+pub node_elsewhere : (bound : ℕ) (t : Addr) (down : List Down) (r : BorderRow) → (r.head ≡ r.far → ⊥) → JoinsNothing bound (Node t) down r
+node_elsewhere bound t down r differs e c exit None joins =
     let same : r ≡ make e exit exit c = alone_is r (make e exit exit c) joins.0 in
     differs (ap (λ (x : BorderRow). x.head) same ∙ sym (ap (λ (x : BorderRow). x.far) same))
-node_elsewhere cap t down r differs e c exit (Some head) joins = joins
+node_elsewhere bound t down r differs e c exit (Some head) joins = joins
 
-pub node_above : (cap : ℕ) (t : Addr) (down : List Down) (r : BorderRow) → cap < r.cost → JoinsNothing cap (Node t) down r
-node_above cap t down r above e c exit None joins =
+pub node_above : (bound : ℕ) (t : Addr) (down : List Down) (r : BorderRow) → bound < r.cost → JoinsNothing bound (Node t) down r
+node_above bound t down r above e c exit None joins =
     let cost : r.cost ≡ c = ap (λ (x : BorderRow). x.cost) (alone_is r (make e exit exit c) joins.0) in
     omega (arith, above, cost, joins.1)
-node_above cap t down r above e c exit (Some head) joins = joins
+node_above bound t down r above e c exit (Some head) joins = joins
 
-pub next_joins : (cap : ℕ) (b : As) (down : List Down) (r : BorderRow) (rest total : ℕ) → IsDown (beyond down) r.head rest → r.cost + rest ≤ cap → r.cost + rest ≡ total → JoinsOver cap (Next b) down r total
-next_joins cap b down r rest total is within sum = record {
+pub next_joins : (bound : ℕ) (b : As) (down : List Down) (r : BorderRow) (rest total : ℕ) → IsDown (beyond down) r.head rest → r.cost + rest ≤ bound → r.cost + rest ≡ total → JoinsOver bound (Next b) down r total
+next_joins bound b down r rest total is within sum = record {
   joins = (r.cost, rest, first_in r [], is, sym sum, omega (arith, within, sum));
   one = one;
 }
   where
-    one : (e : Addr) (c : ℕ) (exit : Addr) (head : Option Addr) → JoinsBy cap (Next b) (r ∷ []) down e c exit head → c ≡ total
+    one : (e : Addr) (c : ℕ) (exit : Addr) (head : Option Addr) → JoinsBy bound (Next b) (r ∷ []) down e c exit head → c ≡ total
     one e c exit None joins = absurd joins
     one e c exit (Some head) joins =
         let same : r ≡ make e exit head joins.0 = alone_is r (make e exit head joins.0) joins.2 in
@@ -347,34 +355,34 @@ next_joins cap b down r rest total is within sum = record {
         let both : rest ≡ joins.1 = down_unique (beyond down) r.head rest joins.1 is there in
         omega (arith, joins.4, own, both, sum)
 
-pub next_nowhere : (cap : ℕ) (b : As) (down : List Down) (r : BorderRow) → HasNoDown (beyond down) r.head → JoinsNothing cap (Next b) down r
-next_nowhere cap b down r none e c exit None joins = joins
-next_nowhere cap b down r none e c exit (Some head) joins =
+pub next_nowhere : (bound : ℕ) (b : As) (down : List Down) (r : BorderRow) → HasNoDown (beyond down) r.head → JoinsNothing bound (Next b) down r
+next_nowhere bound b down r none e c exit None joins = joins
+next_nowhere bound b down r none e c exit (Some head) joins =
     let same : r ≡ make e exit head joins.0 = alone_is r (make e exit head joins.0) joins.2 in
     let there : IsDown (beyond down) r.head joins.1 = subst (λ (a : Addr). IsDown (beyond down) a joins.1) (sym (ap (λ (x : BorderRow). x.head) same)) joins.3 in
     none joins.1 there.is_row
 
-pub next_above : (cap : ℕ) (b : As) (down : List Down) (r : BorderRow) (rest : ℕ) → IsDown (beyond down) r.head rest → ¬ (r.cost + rest ≤ cap) → JoinsNothing cap (Next b) down r
-next_above cap b down r rest is above e c exit None joins = joins
-next_above cap b down r rest is above e c exit (Some head) joins =
+pub next_above : (bound : ℕ) (b : As) (down : List Down) (r : BorderRow) (rest : ℕ) → IsDown (beyond down) r.head rest → ¬ (r.cost + rest ≤ bound) → JoinsNothing bound (Next b) down r
+next_above bound b down r rest is above e c exit None joins = joins
+next_above bound b down r rest is above e c exit (Some head) joins =
     let same : r ≡ make e exit head joins.0 = alone_is r (make e exit head joins.0) joins.2 in
     let own : r.cost ≡ joins.0 = ap (λ (x : BorderRow). x.cost) same in
     let there : IsDown (beyond down) r.head joins.1 = subst (λ (a : Addr). IsDown (beyond down) a joins.1) (sym (ap (λ (x : BorderRow). x.head) same)) joins.3 in
     let both : rest ≡ joins.1 = down_unique (beyond down) r.head rest joins.1 is there in
     above (omega (arith, joins.4, joins.5, own, both))
 
-pub node_within : (cap : ℕ) (t : Addr) (down : List Down) (r : BorderRow) (got : ℕ) (o : Option ℕ) → r.head ≡ r.far → got ≡ r.cost → SomeIff o (got ≤ cap) got → MatchOption o (JoinsNothing cap (Node t) down r) (JoinsOver cap (Node t) down r)
-node_within cap t down r got None is own above = node_above cap t down r (elim (cases_lt cap r.cost) [ inl less ↦ less | inr within ↦ absurd (above (omega (arith, within, own))) ])
-node_within cap t down r got (Some c) is own some =
-    subst (λ (n : ℕ). JoinsOver cap (Node t) down r n) (sym (some.1 ∙ own)) (node_joins cap t down r is (omega (arith, some.0, own)))
+pub node_within : (bound : ℕ) (t : Addr) (down : List Down) (r : BorderRow) (got : ℕ) (o : Option ℕ) → r.head ≡ r.far → got ≡ r.cost → SomeIff o (got ≤ bound) got → MatchOption o (JoinsNothing bound (Node t) down r) (JoinsOver bound (Node t) down r)
+node_within bound t down r got None is own above = node_above bound t down r (elim (cases_lt bound r.cost) [ inl less ↦ less | inr within ↦ absurd (above (omega (arith, within, own))) ])
+node_within bound t down r got (Some c) is own some =
+    subst (λ (n : ℕ). JoinsOver bound (Node t) down r n) (sym (some.1 ∙ own)) (node_joins bound t down r is (omega (arith, some.0, own)))
 
-pub next_within : (cap : ℕ) (b : As) (down : List Down) (r : BorderRow) (got rest more : ℕ) (o : Option ℕ) → got ≡ r.cost → more ≡ rest → IsDown (beyond down) r.head rest → SomeIff o (got + more ≤ cap) (got + more) →
-    MatchOption o (JoinsNothing cap (Next b) down r) (JoinsOver cap (Next b) down r)
-next_within cap b down r got rest more None own there is above = next_above cap b down r rest is (λ within. above (omega (arith, within, own, there)))
-next_within cap b down r got rest more (Some c) own there is some = next_joins cap b down r rest c is (omega (arith, some.0, own, there)) (omega (arith, some.1, own, there))
+pub next_within : (bound : ℕ) (b : As) (down : List Down) (r : BorderRow) (got rest more : ℕ) (o : Option ℕ) → got ≡ r.cost → more ≡ rest → IsDown (beyond down) r.head rest → SomeIff o (got + more ≤ bound) (got + more) →
+    MatchOption o (JoinsNothing bound (Next b) down r) (JoinsOver bound (Next b) down r)
+next_within bound b down r got rest more None own there is above = next_above bound b down r rest is (λ within. above (omega (arith, within, own, there)))
+next_within bound b down r got rest more (Some c) own there is some = next_joins bound b down r rest c is (omega (arith, some.0, own, there)) (omega (arith, some.1, own, there))
 
-pub way_is : (cap : ℕ) (target : Target) (down : List Down) (r : BorderRow) (w : Best) → JoinsOver cap target down r w.cost → w.entry ≡ r.entry → w.exit ≡ r.far → w.head ≡ head_over target r → IsJoinOfRow cap target down r w
-way_is cap target down r w over entry exit head = record {
+pub way_is : (bound : ℕ) (target : Target) (down : List Down) (r : BorderRow) (w : Best) → JoinsOver bound target down r w.cost → w.entry ≡ r.entry → w.exit ≡ r.far → w.head ≡ head_over target r → IsJoinOfRow bound target down r w
+way_is bound target down r w over entry exit head = record {
   joins = rw (entry, exit, head) over.joins;
   entry = entry;
   exit = exit;
@@ -400,7 +408,7 @@ pub first_way : (old : List Best) (w : Best) (after : List Best) → old ≡ [] 
 first_way old w after is made = inr ((λ front end whole same. none_ends front end (sym is ∙ whole)), made ∙ ap (λ (bs : List Best). bs ++ w ∷ []) (sym is))
   where
     none_ends : (front : List Best) (end : Best) → [] ≡ front ++ end ∷ [] → ⊥
-    none_ends front end no = omega (arith, length_push front end, ap length no)
+    none_ends front end whole = omega (arith, length_push front end, ap length whole)
 
 -- ---- ways lead to nodes of which the next domain told
 
@@ -411,14 +419,14 @@ told_at (b ∷ down) n c has = elim (in_cases _ (beyond (downs down)) _ has) [
   | inr there ↦ let rest = told_at down n c there in (suc rest.0, rest.1, omega (arith, rest.2), rest.3, rest.4)
 ]
 
-head_told : (cap : ℕ) (target : Target) (rows : List BorderRow) (down : List Branch) (e : Addr) (c : ℕ) (exit : Addr) (head : Option Addr) → JoinsBy cap target rows (downs down) e c exit head → IfSome head (HasBranchAt down)
-head_told cap (Node t) rows down e c exit None joins = tt
-head_told cap (Node t) rows down e c exit (Some head) joins = absurd joins
-head_told cap (Next b) rows down e c exit None joins = tt
-head_told cap (Next b) rows down e c exit (Some head) joins = told_at down head joins.1 joins.3.is_row
+head_told : (bound : ℕ) (target : Target) (rows : List BorderRow) (down : List Branch) (e : Addr) (c : ℕ) (exit : Addr) (head : Option Addr) → JoinsBy bound target rows (downs down) e c exit head → IfSome head (HasBranchAt down)
+head_told bound (Node t) rows down e c exit None joins = tt
+head_told bound (Node t) rows down e c exit (Some head) joins = absurd joins
+head_told bound (Next b) rows down e c exit None joins = tt
+head_told bound (Next b) rows down e c exit (Some head) joins = told_at down head joins.1 joins.3.is_row
 
-pub heads_told : (cap : ℕ) (target : Target) (rows : List BorderRow) (down : List Branch) (best : List Best) → IsJoinOf cap target rows (downs down) best → All (λ row. IfSome row.head (HasBranchAt down)) best
-heads_told cap target rows down best is = each best (λ b has. head_told cap target rows down b.entry b.cost b.exit b.head (is.each b has))
+pub heads_told : (bound : ℕ) (target : Target) (rows : List BorderRow) (down : List Branch) (best : List Best) → IsJoinOf bound target rows (downs down) best → All (λ row. IfSome row.head (HasBranchAt down)) best
+heads_told bound target rows down best is = each best (λ b has. head_told bound target rows down b.entry b.cost b.exit b.head (is.each b has))
   where
     each : (bs : List Best) → ((b : Best) → Contains bs b → IfSome b.head (HasBranchAt down)) → All (λ (row : Best). IfSome row.head (HasBranchAt down)) bs
     each [] all = All-nil (λ (row : Best). IfSome row.head (HasBranchAt down))

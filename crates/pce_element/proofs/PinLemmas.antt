@@ -34,8 +34,8 @@ not_full : {T : Type 0} → (pending : Pending T) → is_full pending ≡ false 
 not_full pending fits = go (nat_le pending.limit (length pending.rows)) refl (pending.given == 2 ^ 64 - 1) fits
   where
     go : (b : Bool) → nat_le pending.limit (length pending.rows) ≡ b → (c : Bool) → b || c ≡ false → length pending.rows < pending.limit
-    go true is c no = absurd (let never : true ≡ false = no in cc)
-    go false is c no = leb-false pending.limit (length pending.rows) is
+    go true is c fits' = absurd (let never : true ≡ false = fits' in cc)
+    go false is c fits' = leb-false pending.limit (length pending.rows) is
 
 -- a request more may be accepted, so a pin more may be given
 pub few_pins : {P : Type 0} → (pending : Pending (Item P)) → pending.limit ≡ 1024 → is_full pending ≡ false → length (pins_in pending.rows) < 1024

@@ -1,19 +1,20 @@
 //! Rows of a border table joined with what the next domain told (RFC 5441, section 4.2).
 ghost use Rattle.std.specs.Prelude.{◌≡◌, ◌+◌, ◌≤◌, ◌<◌, ◌↔◌, cond, nat_lt, IsTrue, IfOk, OnOk, SomeIff, MatchOption};
 ghost use Rattle.walk_laws.specs.Borders.{IsDown};
-ghost use Rattle.border_costs.specs.Asks.{HasNoDown, IsBelow, beyond};
+ghost use Rattle.border_costs.specs.Asks.{HasNoDown, IsLess, beyond};
 ghost use Rattle.plant_model.specs.Blind.{AreGivenRows};
 ghost use Rattle.plant_model.specs.Branches.{downs};
 ghost use Rattle.plant_model.specs.Jobs.{IsJoinOf};
 ghost use Rattle.pce_element.specs.Joining.{IsJoinOfRow, JoinsNothing, JoinsOver, JoinsRow, TakesIn, head_over};
 
+use crate::looks::is_same_addr;
 use border_costs::Target;
 use dom_base::{Addr, BorderRow, Cost, List, NoMemory};
 use std::alloc::Global;
 use vspt_tree::{Best, Branch};
 
 fn is_less(cost: Cost, least: &Option<Cost>) -> bool
-    ensures { IsTrue result ↔ IsBelow cost least.now }
+    ensures { IsTrue result ↔ IsLess cost least.now }
 {
     match least {
         Some(least) => cost < *least,
@@ -51,7 +52,7 @@ fn joined_cost(cap: Cost, target: Target, row: &BorderRow, down: &[Branch]) -> O
 {
     match target {
         Target::Node(_end) => {
-            if row.head != row.far {
+            if !is_same_addr(row.head, row.far) {
                 return None;
             }
             within(cap, row.cost.get())

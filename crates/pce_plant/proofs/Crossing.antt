@@ -1,11 +1,16 @@
 -- A network, its acts and its answers may go to another thread.
-use denote.Param.Send.{IsSend, IsSync, sendable}
+use denote.Param.Send.{IsSend, sendable}
+use denote.RattleType.{RattleType}
 use Rattle.std.proofs.Crossing.{crosses}
+use Rattle.dom_base.specs.contracts.addr.Addr as Addr
+use Rattle.dom_base.specs.contracts.list.List as List
+use Rattle.border_costs.specs.contracts.solved.Solved as Solved
 use Rattle.te_generations.specs.contracts.generations.Generations as Generations
 use Rattle.plant_model.specs.contracts.event.Event as Event
 use Rattle.pce_element.specs.contracts.accepted.Accepted as Accepted
 use Rattle.pce_element.specs.contracts.topologies.PinnedTopology as PinnedTopology
 use Rattle.pce_element.specs.contracts.topologies.Topologies as Topologies
+use Rattle.pce_element.specs.contracts.topologies.TopologiesWorld.TheImpl as TopologiesWorld
 use Rattle.pce_parent.specs.contracts.work.Done as Done
 use Rattle.plant_hierarchy.specs.contracts.elements.Elements as Elements
 use Rattle.plant_hierarchy.specs.contracts.hierarchy.Hierarchy as Hierarchy
@@ -43,10 +48,14 @@ pinned_topology_send = search (sendable, crosses) depth 60 fits 30000
 accepted_send : IsSend (Accepted.the_row PinnedTopology.the_row)
 accepted_send = search (pinned_topology_send, sendable, crosses) depth 60 fits 30000
 
-elements_send : IsSend Elements.the_row
+-- what a key stands for
+abbrev segment : RattleType
+segment = List.the_row Addr.the_row
+
+elements_send : IsSend (Elements.the_row Topologies.the_row PinnedTopology.the_row segment Solved.the_row TopologiesWorld.ghosts)
 elements_send = search (topologies_send, accepted_send, sendable, crosses) depth 90 fits 60000
 
-hierarchy_send : IsSend Hierarchy.the_row
+hierarchy_send : IsSend (Hierarchy.the_row Topologies.the_row PinnedTopology.the_row segment Solved.the_row TopologiesWorld.ghosts)
 hierarchy_send = search (network_send, elements_send, parent_send, sendable, crosses) depth 60 fits 30000
 
 pub plant_send : IsSend Plant.the_row

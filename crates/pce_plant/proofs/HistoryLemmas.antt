@@ -7,15 +7,14 @@ use Rattle.plant_model.specs.declared.event.Event.{Event}
 use Rattle.plant_model.specs.Events.{Answered}
 use Rattle.plant_model.specs.Plant.{Entry, IsGiven, Run}
 use Rattle.plant_model.specs.RealWire.{wire}
-use Rattle.plant_lock.specs.History.{Legal, replay}
+use Rattle.plant_lock.specs.History.{replay}
 use Rattle.pce_plant.specs.Histories.{HistoriesAreRuns, IsGivenIn, event_of, events_of, done_by}
-use Rattle.pce_plant.specs.Turns.{Admits, Allowed, IsAnswer, IsDone, left_by}
+use Rattle.pce_plant.specs.Turns.{IsAnswer, IsDone, left_by}
 use Rattle.pce_plant.specs.Whole.{Whole}
 use Rattle.pce_plant.specs.declared.acts.Act.{Act}
 use Rattle.pce_plant.specs.declared.acts.Act.TheVariants.{Do, Look, Ready, Finish}
 use Rattle.pce_plant.specs.declared.acts.Acted.{Acted}
 use Rattle.pce_plant.specs.declared.acts.Acted.TheVariants.{Did, Looked, Found, Committed}
-use Rattle.pce_plant.specs.declared.acts.Turn.{Turn}
 
 -- a run goes on to the next state, by these events
 abbrev pub Onward : Whole → List Entry → Whole → List (Event × Answered) → Type 0

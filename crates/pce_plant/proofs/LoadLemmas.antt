@@ -9,7 +9,6 @@ use Rattle.plant_model.specs.Element.{Element}
 use Rattle.plant_model.specs.Parent.{Parent}
 use Rattle.plant_model.specs.Plant.{Pin, Segment, Plant, Steps}
 use Rattle.plant_model.specs.RealWire.{wire}
-use Rattle.plant_model.specs.State.{said}
 use Rattle.plant_traffic.specs.Carried.{Carried, flow_of}
 use Rattle.plant_traffic.specs.Flow.{Flow, ClearsSaid}
 use Rattle.plant_members.specs.Membership.{Membership}

@@ -25,7 +25,6 @@ use Rattle.plant_members.specs.Owed.{count_by_asker, is_peer}
 use Rattle.plant_traffic.specs.Carried.{flow_of}
 use Rattle.plant_deeds.specs.Rooms.{is_live, is_talking}
 use Rattle.plant_deeds.proofs.TakingLaws.{peer_member}
-use Rattle.plant_hierarchy.specs.Topologies.{members_of}
 use Rattle.pce_plant.specs.Held.{Held, IsSound, whole}
 use Rattle.pce_plant.specs.Jobs.{CanSolve}
 

@@ -177,7 +177,7 @@ module _ (t t' : Tiers) (c c' : Carried) (d : As) (k : ℕ) where
 -- ---- what is planned, and then done
 
 module _ (t t1 : Tiers) (c : Carried) (d : As) (now : ℕ) (x : Done) (at_is : d ≡ solved_at x) (sound : IsSound (held t c)) where
-  pub planned_err : (u : Unanswered) → Commits d now x t (Err u) t1 → Moves (held t c) (Solve (solved_at x) (solved_number x)) (Err u.why) (held t1 c)
+  pub planned_err : {W : Type 0} → (u : Unanswered) → Commits {W = W} d now x t (Err u) t1 → Moves (held t c) (Solve (solved_at x) (solved_number x)) (Err u.why) (held t1 c)
   planned_err u m =
       subst (λ (a : As). Moves (held t c) (Solve a (solved_number x)) (Err u.why) (held t1 c)) at_is
       (moves_refused t t1 c c d (number_of x) m.same refl (kept_still t t1 c sound.kept m.same) u.why m.why)

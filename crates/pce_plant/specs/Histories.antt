@@ -12,7 +12,7 @@ use Rattle.pce_plant.specs.Whole.{Whole}
 use Rattle.pce_plant.specs.declared.acts.Act.{Act}
 use Rattle.pce_plant.specs.declared.acts.Act.TheVariants.{Do, Look, Ready, Finish}
 use Rattle.pce_plant.specs.declared.acts.Acted.{Acted}
-use Rattle.pce_plant.specs.declared.acts.Acted.TheVariants.{Did, Looked, Found, Committed}
+use Rattle.pce_plant.specs.declared.acts.Acted.TheVariants.{Did, Committed}
 use Rattle.pce_plant.specs.declared.acts.Turn.{Turn}
 
 -- the event of an act, with its answer; to look at a job and to ask which can be solved are none

@@ -1,8 +1,7 @@
 -- After a look at a job its solution is admitted as long as others take their turns: the job of that number stays, or ends.
-use Rattle.std.proofs.Common.{◌≡◌, ◌∙◌, ℕ, nat_eq, Bool, true, false, List, [], ◌∷◌, Option, Some, None, refl, ap, sym, subst}
+use Rattle.std.proofs.Common.{◌≡◌, ◌∙◌, ℕ, false, List, [], ◌∷◌, Some, refl, ap, sym, subst}
 use Rattle.std.specs.Prelude.{Ok}
 use Rattle.std.specs.Arc.{arc_value}
-use Rattle.std.specs.Map.{lookup}
 use Rattle.dom_base.specs.declared.names.As.{As}
 use Rattle.te_links.specs.Rows.{Rows}
 use Rattle.request_table.specs.declared.held.Held.{Held as Asked}
@@ -15,10 +14,10 @@ use Rattle.plant_text.specs.Names.{same_as, parent_as}
 use Rattle.plant_model.specs.declared.upper.BorderJob.{BorderJob}
 use Rattle.plant_model.specs.Element.{Item, Ready as CanSolve, Stage, Waits, is_ready}
 use Rattle.plant_model.specs.Parent as parent
-use Rattle.plant_model.specs.Plant.{Pin, Plant, ask}
+use Rattle.plant_model.specs.Plant.{Pin, ask}
 use Rattle.plant_model.specs.RealWire.{wire}
 use Rattle.plant_model.specs.Settings.{family}
-use Rattle.plant_lasting.specs.Lasting.{HaveGiven, JobsLast, held_at}
+use Rattle.plant_lasting.specs.Lasting.{HaveGiven, held_at}
 use Rattle.plant_lasting.specs.Onward.{jobs_on, jobs_still}
 use Rattle.plant_lasting.proofs.JobsKept.{elements_keep_jobs, parents_keep_jobs}
 use Rattle.plant_lock.specs.History.{Legal, replay}
@@ -31,9 +30,9 @@ use Rattle.pce_plant.specs.Jobs.{IsAsked, IsAskedAbove, IsOwn, IsSolvedBy, IsWor
 use Rattle.pce_plant.specs.Turns.{Admits, Allowed, IsAnswer, LastsTo, Warrants, left_by}
 use Rattle.pce_plant.specs.Whole.{Whole}
 use Rattle.pce_plant.specs.declared.acts.Act.{Act}
-use Rattle.pce_plant.specs.declared.acts.Act.TheVariants.{Do, Look, Ready, Finish}
+use Rattle.pce_plant.specs.declared.acts.Act.TheVariants.{Look, Finish}
 use Rattle.pce_plant.specs.declared.acts.Acted.{Acted}
-use Rattle.pce_plant.specs.declared.acts.Acted.TheVariants.{Did, Looked, Found, Committed}
+use Rattle.pce_plant.specs.declared.acts.Acted.TheVariants.{Looked}
 use Rattle.pce_plant.specs.declared.acts.Turn.{Turn}
 
 -- ---- what lasts

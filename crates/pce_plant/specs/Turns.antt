@@ -1,5 +1,5 @@
 -- What may be done to a network in a turn, which answers are allowed, and which look warrants a finish.
-use Rattle.std.specs.Prelude.{◌≡◌, ℕ, Option, Some, None, Result, Ok, Err, IfOk, IfErr, IfSome, slice_get}
+use Rattle.std.specs.Prelude.{◌≡◌, ℕ, Option, Some, Result, Ok, IfOk, IfErr, IfSome, slice_get}
 use Rattle.dom_base.specs.declared.names.As.{As}
 use Rattle.dom_base.specs.declared.names.NoMemory.{NoMemory}
 use Rattle.plant_model.specs.declared.event.Event.{Event}

@@ -22,7 +22,7 @@ use Rattle.plant_model.specs.RealWire.{wire}
 use Rattle.plant_model.specs.Settings.{family, place}
 use Rattle.plant_model.specs.Solving.{commit}
 use Rattle.plant_members.specs.Membership.{Membership, Replied, with_element, with_parent}
-use Rattle.pce_element.specs.Committing.{IsOwnJob, commit_held, commit_solved, commit_stage, committed, own_part}
+use Rattle.pce_element.specs.Committing.{IsOwnJob, commit_held, commit_solved, commit_stage, committed}
 use Rattle.pce_element.specs.Jobs.{Work, job_at, work_for, work_at}
 use Rattle.pce_element.specs.Plans.{Planned}
 use Rattle.pce_element.specs.Seen.{Seen}
@@ -128,7 +128,7 @@ module _ (d : As) (now : ℕ) (x : Solution) (t : Tiers Pin Segment) (es : List 
       })
 
   pub commits_below : {W : Type 0} → (r : Result (Planned Pin Segment Solution) CommitError) → IfOk r (λ p. at_domain d es ≡ Some p.from) → IfOk r (λ p. IfSome (at_domain d t.elements) (λ e. committed e x now ≡ Some p.taken)) → IfOk r (λ p. length p.taken.outputs ≡ 1)
-      → IfOk r (λ p. p.solved ≡ Some x) → IfErr r (λ why. IfSome (at_domain d t.elements) (λ e. IsBack e x why)) → Commits d now (done.Domain x) t (told_below d r) u
+      → IfOk r (λ p. p.solved ≡ Some x) → IfErr r (λ why. IfSome (at_domain d t.elements) (λ e. IsBack e x why)) → Commits {W = W} d now (done.Domain x) t (told_below d r) u
   commits_below (Ok p) from taken one solved back = record {
     same = keeps_below first_pin open_of d t es b below;
     there = jobs;
@@ -242,7 +242,7 @@ module _ (d : As) (now : ℕ) (x : BorderSolution) (t : Tiers Pin Segment) (s : 
       ∙ no_border_job t.parent.family k (lookup (nat_eq k) rows) none
 
   pub commits_above : {W : Type 0} → (r : Result BorderPlanned ParentCommitError) → IfOk r (λ p. p.from ≡ t.parent) → IfOk r (λ p. border.committed x t.parent.losing.parent ≡ Some p.given) → IfOk r (λ p. p.solved ≡ Some x)
-      → ((r ≡ Err (parent_error.Stranger x)) ↔ (border.job_at t.parent x.job.number ≡ None)) → IfErr r (λ why. border_back why ≡ x) → Commits d now (done.Border x) t (told_above r) v
+      → ((r ≡ Err (parent_error.Stranger x)) ↔ (border.job_at t.parent x.job.number ≡ None)) → IfErr r (λ why. border_back why ≡ x) → Commits {W = W} d now (done.Border x) t (told_above r) v
   commits_above (Ok p) from given solved stranger back =
       let a = answered_above x t.parent.losing.parent p.given given in
       record {
@@ -277,4 +277,4 @@ module _ (d : As) (now : ℕ) (x : BorderSolution) (t : Tiers Pin Segment) (s : 
   }
 
 pub commits_as : {W : Type 0} → (t u : Tiers Pin Segment) → t ≡ u → (d : As) (now : ℕ) (x : Done) (r r' : Result (MemberPlan W Pin Segment Solution) Unanswered) (v : Tiers Pin Segment) → r ≡ r' → Commits d now x t r v → Commits d now x u r' v
-commits_as t u is d now x r r' v same h = subst (λ (z : Result (MemberPlan W Pin Segment Solution) Unanswered). Commits d now x u z v) same (subst (λ (y : Tiers Pin Segment). Commits d now x y r v) is h)
+commits_as {W = W} t u is d now x r r' v same h = subst (λ (z : Result (MemberPlan W Pin Segment Solution) Unanswered). Commits d now x u z v) same (subst (λ (y : Tiers Pin Segment). Commits d now x y r v) is h)

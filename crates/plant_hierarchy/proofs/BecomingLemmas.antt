@@ -1,12 +1,13 @@
 -- One element that becomes another, by its place and by its domain.
-use Rattle.std.proofs.Common.{◌≡◌, ℕ, true, is_some, Option, Some, None, Result, Ok, Err, List, map, get_or, refl, sym, ◌∙◌, ap, ap₂, subst}
+use Rattle.std.proofs.Common.{◌≡◌, ◌<◌, ℕ, true, is_some, Option, Some, None, Result, Ok, Err, List, length, map, get_or, set, refl, sym, ◌∙◌, ap, ap₂, subst}
 use Rattle.std.specs.Prelude.{IfErr, IfOk, IfSome}
 use Rattle.std.proofs.lemmas.Bool.{false≢true}
+use Rattle.std.proofs.lemmas.List.{get_or_read}
 use Rattle.dom_base.specs.declared.names.As.{As}
 use Rattle.plant_text.specs.declared.settings.NetworkParts.{NetworkParts}
 use Rattle.plant_model.specs.Names.{set_as}
 use Rattle.plant_model.specs.Element.{Element}
-use Rattle.pce_element.specs.Seen.{Seen}
+use Rattle.pce_element.specs.Seen.{Seen, SameButRoom, with_losing}
 use Rattle.plant_hierarchy.specs.Elements.{own_of, at_domain, no_one, elements_in, current_or, current_in, IsFirstAt, IsNowhere}
 use Rattle.plant_hierarchy.specs.Becoming.{Course, Becomes, BecomesAt, HasElement}
 use Rattle.plant_hierarchy.proofs.DomainLemmas.{found_own, first_own, at_first, at_nowhere, set_first, owns_set, elements_with, currents_with, set_again}
@@ -37,6 +38,14 @@ module _ {P : Type 0} {S : Type 0} where
       go (Some e) is has = (e, is)
 
 module _ {P : Type 0} {S : Type 0} (initial : As → P) where
+  -- the element that is at a place is written there
+  pub becomes_here : (i : ℕ) (f : Course P S) (old : List (Seen P S)) (e next : Seen P S) → i < length old → e ≡ get_or old i e → SameButRoom (with_losing (f e.losing) e) next → BecomesAt initial i f old (set old i next)
+  becomes_here i f old e next within is same = record {
+    next = next;
+    same = subst (λ (x : Seen P S). SameButRoom (with_losing (f x.losing) x) next) (get_or_read old i e within is (no_one initial)) same;
+    is = refl;
+  }
+
   pub becomes : (d : As) (i : ℕ) (f : Course P S) (old new : List (Seen P S)) → IsFirstAt d i (map own_of old) → BecomesAt initial i f old new → Becomes d f old new
   becomes d i f old new first h = record {
     one = get_or old i (no_one initial);

@@ -2,7 +2,6 @@
 use Rattle.std.proofs.Common.{◌≡◌, ◌≤◌, ℕ, Bool, true, false, cond, nat_eq, is_some, option_map, Option, Some, None, Result, Ok, Err, List, inl, inr, refl, sym, ◌∙◌, ap, ap₂, subst}
 use Rattle.std.specs.Prelude.{IfErr, IfOk, IfSome, MatchOption, ◌↔◌}
 use Rattle.std.specs.Map.{lookup}
-use Rattle.std.proofs.lemmas.Bool.{false≢true}
 use Rattle.dom_base.specs.declared.names.As.{As}
 use Rattle.dom_base.specs.declared.names.NoMemory.{NoMemory}
 use Rattle.dom_base.specs.declared.border.BorderRow.{BorderRow}
@@ -14,7 +13,7 @@ use Rattle.plant_model.specs.declared.outcome.Refused.TheVariants as refused
 use Rattle.plant_model.specs.declared.upper.BorderJob.{BorderJob}
 use Rattle.plant_model.specs.Blind.{Nothing, show_nothing}
 use Rattle.plant_model.specs.BorderGraph.{SolvesBorder}
-use Rattle.plant_model.specs.Element.{Element, Item, Place, Stage, Taken, is_ready}
+use Rattle.plant_model.specs.Element.{Element, Item, Place, Taken, is_ready}
 use Rattle.plant_model.specs.Events.{has_jobs, is_ready_asking, is_ready_row}
 use Rattle.plant_model.specs.Parent as parent
 use Rattle.plant_model.specs.RealWire.{wire}
@@ -30,10 +29,10 @@ use Rattle.pce_parent.specs.Seen as border
 use Rattle.pce_parent.specs.Solution.{BorderSolution}
 use Rattle.pce_parent.specs.declared.committing.ParentCommitError.{ParentCommitError}
 use Rattle.pce_parent.specs.declared.committing.ParentCommitError.TheVariants as parent_error
-use Rattle.plant_hierarchy.specs.Answering.{border_job, is_ready_at}
+use Rattle.plant_hierarchy.specs.Answering.{is_ready_at}
 use Rattle.plant_hierarchy.specs.Becoming.{Becomes, unchanged}
 use Rattle.plant_hierarchy.specs.Blind.{IsUnsolved, MemberAnswers, Solves, nothing_first, told_above, told_below}
-use Rattle.plant_hierarchy.specs.Elements.{own_of, at_domain, element_or}
+use Rattle.plant_hierarchy.specs.Elements.{at_domain, element_or}
 use Rattle.plant_hierarchy.specs.Tiers.{Tiers, AreSet, Become, lost_in, members_of}
 use Rattle.plant_hierarchy.specs.declared.plan.MemberPlan.{MemberPlan}
 use Rattle.plant_hierarchy.proofs.AnswerLemmas.{IsAnsweredAbove, answered_above, no_border_job}

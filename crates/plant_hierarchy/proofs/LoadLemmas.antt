@@ -3,7 +3,6 @@ use Rattle.std.proofs.Common.{◌≡◌, ℕ, suc, Bool, true, false, cond, is_s
 use Rattle.dom_base.specs.declared.names.As.{As}
 use Rattle.te_links.specs.Rows.{Rows}
 use Rattle.plant_text.specs.declared.settings.NetworkParts.{NetworkParts}
-use Rattle.plant_text.specs.Names.{same_as}
 use Rattle.plant_text.specs.Settings.{is_element}
 use Rattle.plant_model.specs.declared.event.Event.TheVariants as event
 use Rattle.plant_model.specs.declared.outcome.Outcome.TheVariants.{Loaded}
@@ -56,7 +55,7 @@ module _ (c : Codec) (n : NetworkParts) (now : ℕ) (d : As) (g : Rows) (old : L
       there = ap (λ (a : As). at_domain a old) own ∙ found
 
       currents : current_in first_pin new ≡ set_as d (record { number = suc e.current.number; topology = g }) (current_in first_pin old)
-      currents = ap current_in first_pin is ∙ currents_with first_pin x old e there ∙ ap₂ (λ (a : As) (p : Pin). set_as a p (current_in first_pin old)) own (ap (λ (y : Seen Pin Segment). y.current) same)
+      currents = ap (current_in first_pin) is ∙ currents_with first_pin x old e there ∙ ap₂ (λ (a : As) (p : Pin). set_as a p (current_in first_pin old)) own (ap (λ (y : Seen Pin Segment). y.current) same)
 
       again : elements_in n now old (own_of x) ≡ x.losing.element
       again = ap (element_or n now (own_of x)) there ∙ sym (ap (λ (y : Seen Pin Segment). y.losing.element) same)

@@ -264,10 +264,10 @@ module _ {P : Type 0} {S : Type 0} (initial : As → P) (show : S → List Hop) 
 
   pub planned_takes : {W : Type 0} {D : Type 0} → (d : As) (p : Peer) (now : ℕ) (m : Message) (t u : Tiers P S) (es : List (Seen P S)) (r : Result (Planned P S D) NoMemory) (r' : Result (MemberPlan W P S D) NoMemory) → t ≡ u → r' ≡ planned_below d r → AreSet t → Becomes d unchanged t.elements es → same_as d parent_as ≡ false →
       IfOk r (λ x. at_domain d es ≡ Some x.from) → IfOk r (λ x. IfSome (at_domain d t.elements) (λ e. x.taken ≡ taken_by show p (class_of t.network p) now m e)) → Takes initial show d p now m u r' (record t { elements = es })
-  planned_takes d p now m t u es r r' is same are b below from taken =
+  planned_takes {W = W} {D = D} d p now m t u es r r' is same are b below from taken =
       subst (λ (z : Result (MemberPlan W P S D) NoMemory). Takes initial show d p now m u z (record t { elements = es })) (sym same)
       (takes_as t u is d p now m (planned_below d r) (record t { elements = es }) (go r from taken))
     where
-      go : (x : Result (Planned P S D) NoMemory) → IfOk x (λ y. at_domain d es ≡ Some y.from) → IfOk x (λ y. IfSome (at_domain d t.elements) (λ e. y.taken ≡ taken_by show p (class_of t.network p) now m e)) → Takes initial show d p now m t (planned_below d x) (record t { elements = es })
+      go : (x : Result (Planned P S D) NoMemory) → IfOk x (λ y. at_domain d es ≡ Some y.from) → IfOk x (λ y. IfSome (at_domain d t.elements) (λ e. y.taken ≡ taken_by show p (class_of t.network p) now m e)) → Takes {W = W} initial show d p now m t (planned_below d x) (record t { elements = es })
       go (Ok x) from taken = takes_below d p now m t es x are b below from taken
       go (Err e) from taken = refused_below d p now m t es e b below

@@ -1,5 +1,6 @@
 -- All elements come to a moment, and how many requests are pending at all.
-use Rattle.std.proofs.Common.{◌≡◌, ◌<◌, ◌≤◌, ◌+◌, ℕ, zero, suc, Bool, true, false, cond, is_some, Option, Some, List, [], ◌∷◌, length, map, get_or, set, arith, refl, sym, ◌∙◌, ap, ap₂, subst}
+use Rattle.std.proofs.Common.{◌≡◌, ◌<◌, ◌≤◌, ◌+◌, ℕ, zero, suc, Bool, true, false, cond, is_some, Option, Some, List, [], ◌∷◌, length, map, drop, get_or, set, arith, refl, sym, ◌∙◌, ap, ap₂, subst}
+use Rattle.std.proofs.lemmas.List.{at_drop_more}
 use mathlib.Core.Path.{fun_ext}
 use Rattle.dom_base.specs.declared.names.As.{As}
 use Rattle.plant_text.specs.declared.settings.NetworkParts.{NetworkParts}
@@ -11,7 +12,7 @@ use Rattle.plant_members.specs.Membership.{Membership, KeysBefore, expired}
 use Rattle.plant_members.specs.Owed.{pending_at}
 use Rattle.pce_element.specs.Seen.{Seen, SameButRoom, with_losing}
 use Rattle.plant_hierarchy.specs.Elements.{own_of, at_domain, no_one, element_or, elements_in, current_or}
-use Rattle.plant_hierarchy.specs.Becoming.{AreBefore, AreTicked, BecomesAt, TickedTo, all_pending, ticked_by}
+use Rattle.plant_hierarchy.specs.Becoming.{AreBefore, AreTicked, BecomesAt, TickedTo, all_pending, pending_of, ticked_by}
 use Rattle.plant_hierarchy.specs.Tiers.{Tiers, ArePlaced, AreSet, Become, members_of, lost_in, lost_or}
 use Rattle.plant_hierarchy.proofs.RisingDomains.{AreFound, all_found, element_is}
 
@@ -131,3 +132,9 @@ module _ {P : Type 0} {S : Type 0} (initial : As → P) where
   pub length_owns : (es : List (Seen P S)) → length (map own_of es) ≡ length es
   length_owns [] = refl
   length_owns (e ∷ es) = ap suc (length_owns es)
+
+-- the pending requests of one element, and of those behind it
+pub pending_next : {P : Type 0} {S : Type 0} → (all here : List (Seen P S)) (i : ℕ) (e : Seen P S) → here ≡ all → i < length here → e ≡ get_or here i e → all_pending (drop i all) ≡ pending_of e + all_pending (drop (i + 1) all)
+pending_next {P = P} {S = S} all here i e same within is =
+    at_drop_more all_pending all i e (subst (λ (es : List (Seen P S)). i < length es) same within)
+    ∙ ap (λ (x : Seen P S). pending_of x + all_pending (drop (i + 1) all)) (sym (is ∙ ap (λ (es : List (Seen P S)). get_or es i e) same))

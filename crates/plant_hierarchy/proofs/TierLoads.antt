@@ -10,7 +10,7 @@ use Rattle.plant_model.specs.declared.output.Lost.{Lost}
 use Rattle.plant_model.specs.Element.{Element}
 use Rattle.plant_model.specs.Events.{jobs_at, jobs_of, ready_jobs}
 use Rattle.plant_model.specs.Parent as parent
-use Rattle.plant_model.specs.Plant.{Pin, Segment, Plant, first_pin}
+use Rattle.plant_model.specs.Plant.{Pin, Segment}
 use Rattle.plant_model.specs.State.{State}
 use Rattle.plant_model.specs.RealWire.{wire}
 use Rattle.plant_model.specs.Settings.{place}
@@ -81,6 +81,9 @@ loads d g t es r are h = record {
   parent = refl;
   steps = λ s. load_steps wire t.network t.clock d g t.elements s r es (element_is t.network d t.elements are.domains) h;
 }
+
+pub loads_as : (d : As) (g : Rows) (t u : Tiers Pin Segment) (r : Result ℕ Refused) (v : Tiers Pin Segment) → t ≡ u → Loads d g t r v → Loads d g u r v
+loads_as d g t u r v is h = subst (λ (x : Tiers Pin Segment). Loads d g x r v) is h
 
 module _ {P : Type 0} {S : Type 0} (initial : As → P) where
   -- ---- jobs

@@ -18,17 +18,17 @@ abbrev pub Course : Type 0 → Type 0 → Type 0
 Course P S = Losing P S → Losing P S
 
 module _ {P : Type 0} {S : Type 0} where
-  abbrev pub unchanged : Course
+  abbrev pub unchanged : Course P S
   unchanged l = l
 
   -- the element at a place
-  pub record BecomesAt (i : ℕ) (f : Course) (old new : List (Seen P S)) : Type 0 where
+  pub record BecomesAt (first : As → P) (i : ℕ) (f : Course P S) (old new : List (Seen P S)) : Type 0 where
     pub next : Seen P S
     pub same : SameButRoom (with_losing (f (slice_index_or old i (no_one first)).losing) (slice_index_or old i (no_one first))) next
     pub is : new ≡ slice_set old i next
 
   -- the element of a domain
-  pub record Becomes (d : As) (f : Course) (old new : List (Seen P S)) : Type 0 where
+  pub record Becomes (d : As) (f : Course P S) (old new : List (Seen P S)) : Type 0 where
     pub one : Seen P S
     pub found : at_domain d old ≡ Some one
     pub next : Seen P S
@@ -45,7 +45,7 @@ module _ {P : Type 0} {S : Type 0} where
 
   -- ---- all elements
 
-  abbrev pub ticked_by : ℕ → Course
+  abbrev pub ticked_by : ℕ → Course P S
   ticked_by now l = record l { element = ticked now l.element }
 
   -- the first so many have come to the moment

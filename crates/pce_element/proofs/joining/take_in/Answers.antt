@@ -1,4 +1,5 @@
-use Rattle.std.proofs.Common.{List, [], ◌∷◌, ◌++◌, ◌∙◌, ap, sym}
+use Rattle.std.proofs.Common.{List, [], ◌∷◌, ◌++◌, ◌∙◌, arith, ap, sym}
+use Rattle.std.proofs.lemmas.List.{nil_from_length}
 use Rattle.te_links.proofs.Different.{Decides-rank}
 use Rattle.vspt_tree.specs.declared.branch.Best.{Best}
 use Rattle.pce_element.proofs.JoinLemmas.{behind_other, first_way, with_last}
@@ -6,7 +7,10 @@ use Rattle.pce_element.proofs.joining.take_in.Goals as goal
 
 pub returns-in_default : goal.returns-in_default
 returns-in_default c =
-    first_way c.args.best.now.items c.args.way _ c.in_default.ensures.cases.0 (c.in_ok-push.ensures.items ∙ ap (λ (bs : List Best). bs ++ c.args.way ∷ []) c.in_default.ensures.cases.1)
+    let cases = c.in_default.ensures.cases in
+    let before = nil_from_length c.args.best.now.items (omega (arith, cases.0)) in
+    let after = nil_from_length c.pop.new.self.items (omega (arith, cases.1)) in
+    first_way c.args.best.now.items c.args.way _ before (c.in_ok-push.ensures.items ∙ ap (λ (bs : List Best). bs ++ c.args.way ∷ []) after)
 
 pub returns-then-eq : goal.returns-then-eq
 returns-then-eq c =

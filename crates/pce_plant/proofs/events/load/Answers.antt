@@ -1,6 +1,5 @@
-use Rattle.std.proofs.Common.{ℕ, Result, Ok, Err, subst}
+use Rattle.std.proofs.Common.{ℕ, Result, subst}
 use Rattle.plant_model.specs.declared.outcome.Refused.{Refused}
-use Rattle.plant_traffic.specs.Carried.{flow_of}
 use Rattle.plant_hierarchy.specs.Loading.{Loads}
 use Rattle.pce_plant.specs.Held.{held}
 use Rattle.pce_plant.proofs.LoadLemmas.{load_accepted, load_refused}

@@ -1,4 +1,4 @@
-use Rattle.std.proofs.Common.{◌≡◌, ◌∙◌, [], refl, sym, ap, subst}
+use Rattle.std.proofs.Common.{◌≡◌, [], refl, sym, ap, subst}
 use Rattle.dom_base.specs.declared.names.As.{As}
 use Rattle.plant_text.specs.declared.settings.NetworkParts.{NetworkParts}
 use Rattle.plant_text.specs.Networks.{IsNetwork}
@@ -32,6 +32,6 @@ returns c =
     let h = held c.in_ok-members.members c.begin.new.traffic in
     let first : (members_of h.members).current ≡ first_pin = ap (λ (ms : Membership Pin Segment). ms.current) c.in_ok-members.ensures.begun in (
       c.in_ok-members.ensures.network,
-      subst (λ (n : NetworkParts). Run wire n [] (whole h).state) c.in_ok-members.ensures.network (c.in_ok-begin.ensures.state ∙ ap (λ (f : As → Pin). (opening Pin Segment wire h.members.network open_of f).state) first),
+      subst (λ (n : NetworkParts). Run wire n [] (whole h).state) c.in_ok-members.ensures.network (subst (λ (f : As → Pin). (whole h).state ≡ (opening Pin Segment wire h.members.network open_of f).state) first c.in_ok-begin.ensures.state),
       c.in_ok-begin.ensures.said,
     )

@@ -1,4 +1,4 @@
-use Rattle.std.proofs.Common.{sym, subst}
+use Rattle.std.proofs.Common.{subst}
 use Rattle.plant_lasting.specs.Lasting.{JobsLast}
 use Rattle.pce_plant.specs.Held.{Held, held, whole}
 use Rattle.pce_plant.specs.PlantFields.{held_of}

@@ -21,4 +21,4 @@ returns-clause-lost g c =
     (there_of g.W.World.first (λ e. c.next_lost_at.result ≡ (next_lost_of e.losing).0) c.args.at c.place-i.result items (subst (λ (es : List (Seen _ _)). IsFirstAt c.args.at c.place-i.result (map own_of es)) (sym c.self.view_is) c.place-i.ensures) c.next_lost_at.ensures.lost)
 
 pub returns-clause-rest : goal.returns-clause-rest
-returns-clause-rest g c = subst (λ (es : List (Seen _ _)). Becomes c.args.at _ es c.next_lost_at.new.items.items) c.self.view_is (becomes g.W.World.first c.args.at c.place-i.result _ c.self.inside.items.items c.next_lost_at.new.items.items (subst (λ (es : List (Seen _ _)). IsFirstAt c.args.at c.place-i.result (map own_of es)) (sym c.self.view_is) c.place-i.ensures) c.next_lost_at.ensures.rest)
+returns-clause-rest g c = subst (λ (es : List (Seen _ _)). Becomes c.args.at (λ l. (next_lost_of l).1) es c.next_lost_at.new.items.items) c.self.view_is (becomes g.W.World.first c.args.at c.place-i.result _ c.self.inside.items.items c.next_lost_at.new.items.items (subst (λ (es : List (Seen _ _)). IsFirstAt c.args.at c.place-i.result (map own_of es)) (sym c.self.view_is) c.place-i.ensures) c.next_lost_at.ensures.rest)

@@ -2,7 +2,7 @@ use Rattle.std.proofs.Common.{◌≡◌, ◌∙◌, List, Some, map, get_or, sym
 use Rattle.std.specs.Prelude.{IfSome}
 use Rattle.pce_element.specs.Seen.{Seen}
 use Rattle.plant_hierarchy.specs.Elements.{at_domain, own_of, no_one, IsFirstAt}
-use Rattle.plant_hierarchy.specs.Becoming.{Becomes, taken_by}
+use Rattle.plant_hierarchy.specs.Becoming.{Becomes, taken_by, unchanged}
 use Rattle.plant_hierarchy.proofs.DomainLemmas.{first_within}
 use Rattle.plant_hierarchy.proofs.BecomingLemmas.{becomes, owns_become, at_then, there_of, ok_more}
 use Rattle.plant_hierarchy.proofs.elements.Elements.take.Goals as goal
@@ -14,7 +14,7 @@ pub invariant_of-self : goal.invariant_of-self
 invariant_of-self g c = owns_become g.W.World.first c.place-i.result _ c.self.inside.items.items c.take_at.new.items.items c.take_at.ensures.same ∙ c.self.invariant
 
 pub returns-clause-same : goal.returns-clause-same
-returns-clause-same g c = subst (λ (es : List (Seen _ _)). Becomes c.args.at _ es c.take_at.new.items.items) c.self.view_is (becomes g.W.World.first c.args.at c.place-i.result _ c.self.inside.items.items c.take_at.new.items.items (subst (λ (es : List (Seen _ _)). IsFirstAt c.args.at c.place-i.result (map own_of es)) (sym c.self.view_is) c.place-i.ensures) c.take_at.ensures.same)
+returns-clause-same g c = subst (λ (es : List (Seen _ _)). Becomes c.args.at unchanged es c.take_at.new.items.items) c.self.view_is (becomes g.W.World.first c.args.at c.place-i.result _ c.self.inside.items.items c.take_at.new.items.items (subst (λ (es : List (Seen _ _)). IsFirstAt c.args.at c.place-i.result (map own_of es)) (sym c.self.view_is) c.place-i.ensures) c.take_at.ensures.same)
 
 pub returns-clause-from : goal.returns-clause-from
 returns-clause-from g c =

@@ -7,7 +7,7 @@ use Rattle.plant_hierarchy.specs.Elements.{at_domain, own_of, no_one, told, IsFi
 use Rattle.plant_hierarchy.proofs.DomainLemmas.{first_within, first_own, at_nowhere}
 use Rattle.plant_hierarchy.proofs.PlaceLoads.{loads_at, owns_kept}
 use Rattle.plant_model.specs.Plant.{Pin, Segment, first_pin}
-use Rattle.plant_hierarchy.proofs.elements.Elements+Topologies.load.Goals as goal
+use Rattle.plant_hierarchy.proofs.loading.Elements+Topologies.load.Goals as goal
 
 pub returns-in_default : goal.returns-in_default
 returns-in_default c =

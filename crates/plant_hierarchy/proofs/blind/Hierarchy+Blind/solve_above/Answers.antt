@@ -1,4 +1,4 @@
-use Rattle.std.proofs.Common.{◌≡◌, ◌∙◌, true, Result, Some, Err, sym, ap, subst}
+use Rattle.std.proofs.Common.{◌≡◌, true, Result, Err, sym, subst}
 use Rattle.std.specs.Prelude.{IfErr}
 use Rattle.std.proofs.lemmas.Result.{err_from_is_err_and}
 use Rattle.plant_model.specs.declared.outcome.Refused.{Refused}
@@ -10,7 +10,7 @@ use Rattle.plant_hierarchy.specs.Blind.{IsUnsolved, Solves, told_above}
 use Rattle.plant_hierarchy.specs.Tiers.{Tiers}
 use Rattle.plant_hierarchy.specs.TierFields.{tiers_of}
 use Rattle.plant_hierarchy.proofs.BlindLemmas.{solves_above, solves_as, unsolved_above}
-use Rattle.plant_hierarchy.proofs.hierarchy.Hierarchy+Blind.solve_above.Goals as goal
+use Rattle.plant_hierarchy.proofs.blind.Hierarchy+Blind.solve_above.Goals as goal
 
 pub returns-in_err-solved : goal.returns-in_err-solved
 returns-in_err-solved c =

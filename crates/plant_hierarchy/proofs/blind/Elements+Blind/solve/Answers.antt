@@ -3,12 +3,12 @@ use Rattle.std.specs.Prelude.{IfSome, MatchOption}
 use Rattle.plant_model.specs.Blind.{Nothing}
 use Rattle.pce_element.specs.Blind.{HasNoJob, IsSolvedBy}
 use Rattle.pce_element.specs.Seen.{Seen}
-use Rattle.plant_hierarchy.specs.Becoming.{Becomes}
+use Rattle.plant_hierarchy.specs.Becoming.{Becomes, unchanged}
 use Rattle.plant_hierarchy.specs.Blind.{nothing_first}
 use Rattle.plant_hierarchy.specs.Elements.{at_domain, no_one, own_of, IsFirstAt}
 use Rattle.plant_hierarchy.proofs.DomainLemmas.{first_within}
 use Rattle.plant_hierarchy.proofs.BecomingLemmas.{at_then, becomes, of_there, ok_more, owns_become, there_of}
-use Rattle.plant_hierarchy.proofs.elements.Elements+Blind.solve.Goals as goal
+use Rattle.plant_hierarchy.proofs.blind.Elements+Blind.solve.Goals as goal
 
 pub solve_at-requires-clause-within : goal.solve_at-requires-clause-within
 solve_at-requires-clause-within c = first_within c.args.at c.place-i.result c.self.inside.items.items (subst (λ (es : List (Seen Nothing Nothing)). IsFirstAt c.args.at c.place-i.result (map own_of es)) (sym c.self.view_is) c.place-i.ensures)
@@ -22,7 +22,7 @@ pub invariant_of-self : goal.invariant_of-self
 invariant_of-self c = owns_become nothing_first c.place-i.result _ c.self.inside.items.items c.solve_at.new.items.items c.solve_at.ensures.same ∙ c.self.invariant
 
 pub returns-clause-same : goal.returns-clause-same
-returns-clause-same c = subst (λ (es : List (Seen Nothing Nothing)). Becomes c.args.at _ es c.solve_at.new.items.items) c.self.view_is (becomes nothing_first c.args.at c.place-i.result _ c.self.inside.items.items c.solve_at.new.items.items (subst (λ (es : List (Seen Nothing Nothing)). IsFirstAt c.args.at c.place-i.result (map own_of es)) (sym c.self.view_is) c.place-i.ensures) c.solve_at.ensures.same)
+returns-clause-same c = subst (λ (es : List (Seen Nothing Nothing)). Becomes c.args.at unchanged es c.solve_at.new.items.items) c.self.view_is (becomes nothing_first c.args.at c.place-i.result _ c.self.inside.items.items c.solve_at.new.items.items (subst (λ (es : List (Seen Nothing Nothing)). IsFirstAt c.args.at c.place-i.result (map own_of es)) (sym c.self.view_is) c.place-i.ensures) c.solve_at.ensures.same)
 
 -- what is told of a plan, where there is one
 each_more : {A : Type 0} (P Q : A → Type 0) (o : Option A) → ((x : A) → P x → Q x) → IfSome o P → IfSome o Q

@@ -1,18 +1,15 @@
-use Rattle.std.proofs.Common.{◌≡◌, ◌≤◌, true, Option, Some, None, List, is_some, sym, ap, subst}
-use Rattle.std.specs.Prelude.{IfSome}
+use Rattle.std.proofs.Common.{◌≡◌, true, sym, subst}
 use Rattle.plant_text.specs.Settings.{is_element}
 use Rattle.plant_model.specs.Blind.{Nothing, show_nothing}
 use Rattle.plant_members.specs.Membership.{KeysBefore}
-use Rattle.pce_element.specs.Seen.{Seen}
 use Rattle.plant_hierarchy.specs.Becoming.{unchanged}
 use Rattle.plant_hierarchy.specs.Blind.{nothing_first, told_below}
-use Rattle.plant_hierarchy.specs.Elements.{at_domain, element_or}
 use Rattle.plant_hierarchy.specs.Tiers.{Tiers, members_of}
 use Rattle.plant_hierarchy.specs.TierFields.{tiers_of}
 use Rattle.plant_hierarchy.proofs.BlindLemmas.{clock_there, solves_as, solves_below}
 use Rattle.plant_hierarchy.proofs.StepLemmas as step
 use Rattle.plant_hierarchy.proofs.TierLemmas.{set_below}
-use Rattle.plant_hierarchy.proofs.hierarchy.Hierarchy+Blind.solve_below.Goals as goal
+use Rattle.plant_hierarchy.proofs.blind.Hierarchy+Blind.solve_below.Goals as goal
 
 pub solve-requires-clause-there : goal.solve-requires-clause-there
 solve-requires-clause-there c =

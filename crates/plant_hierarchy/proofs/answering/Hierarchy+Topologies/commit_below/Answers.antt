@@ -13,7 +13,7 @@ use Rattle.plant_hierarchy.proofs.TierLemmas.{set_below}
 use Rattle.plant_hierarchy.proofs.StepLemmas as step
 use Rattle.disclosure.specs.Shown.{open_of}
 use Rattle.plant_model.specs.Plant.{Pin, Segment, first_pin}
-use Rattle.plant_hierarchy.proofs.hierarchy.Hierarchy+Topologies.commit_below.Goals as goal
+use Rattle.plant_hierarchy.proofs.answering.Hierarchy+Topologies.commit_below.Goals as goal
 
 pub commit-requires-clause-there : goal.commit-requires-clause-there
 commit-requires-clause-there c = step.has_element first_pin open_of (tiers_of c.self.inside.network c.self.inside.clock.0 c.self.inside.elements c.self.inside.parent) c.args.at c.self.invariant (subst (λ (t : Tiers Pin Segment). is_element t.network c.args.at ≡ true) (sym c.self.view_is) c.requires.there)

@@ -4,11 +4,11 @@ use Rattle.pce_element.specs.Committing.{IsOwnJob, committed}
 use Rattle.pce_element.specs.Seen.{Seen}
 use Rattle.plant_hierarchy.specs.Elements.{at_domain, own_of, no_one, IsFirstAt}
 use Rattle.plant_hierarchy.specs.Answering.{IsBack}
-use Rattle.plant_hierarchy.specs.Becoming.{Becomes}
+use Rattle.plant_hierarchy.specs.Becoming.{Becomes, unchanged}
 use Rattle.plant_hierarchy.proofs.DomainLemmas.{first_within}
 use Rattle.plant_hierarchy.proofs.BecomingLemmas.{becomes, owns_become, at_then, there_of, of_there, ok_more, err_more}
 use Rattle.plant_model.specs.Plant.{Pin, Segment, first_pin}
-use Rattle.plant_hierarchy.proofs.elements.Elements+Topologies.commit.Goals as goal
+use Rattle.plant_hierarchy.proofs.answering.Elements+Topologies.commit.Goals as goal
 
 pub commit_at-requires-clause-within : goal.commit_at-requires-clause-within
 commit_at-requires-clause-within c = first_within c.args.at c.place-i.result c.self.inside.items.items (subst (λ (es : List (Seen Pin Segment)). IsFirstAt c.args.at c.place-i.result (map own_of es)) (sym c.self.view_is) c.place-i.ensures)
@@ -27,7 +27,7 @@ pub invariant_of-self : goal.invariant_of-self
 invariant_of-self c = owns_become first_pin c.place-i.result _ c.self.inside.items.items c.commit_at.new.items.items c.commit_at.ensures.same ∙ c.self.invariant
 
 pub returns-clause-same : goal.returns-clause-same
-returns-clause-same c = subst (λ (es : List (Seen Pin Segment)). Becomes c.args.at _ es c.commit_at.new.items.items) c.self.view_is (becomes first_pin c.args.at c.place-i.result _ c.self.inside.items.items c.commit_at.new.items.items (subst (λ (es : List (Seen Pin Segment)). IsFirstAt c.args.at c.place-i.result (map own_of es)) (sym c.self.view_is) c.place-i.ensures) c.commit_at.ensures.same)
+returns-clause-same c = subst (λ (es : List (Seen Pin Segment)). Becomes c.args.at unchanged es c.commit_at.new.items.items) c.self.view_is (becomes first_pin c.args.at c.place-i.result _ c.self.inside.items.items c.commit_at.new.items.items (subst (λ (es : List (Seen Pin Segment)). IsFirstAt c.args.at c.place-i.result (map own_of es)) (sym c.self.view_is) c.place-i.ensures) c.commit_at.ensures.same)
 
 pub returns-clause-from : goal.returns-clause-from
 returns-clause-from c =

@@ -6,8 +6,8 @@ use Rattle.plant_hierarchy.specs.Answering.{border_job, told_above}
 use Rattle.plant_hierarchy.specs.Tiers.{Tiers}
 use Rattle.plant_hierarchy.specs.TierFields.{tiers_of}
 use Rattle.plant_hierarchy.proofs.AnswerLemmas.{commits_as, commits_above}
-use Rattle.plant_model.specs.Plant.{Pin, Segment, first_pin}
-use Rattle.plant_hierarchy.proofs.hierarchy.Hierarchy+Topologies.commit_above.Goals as goal
+use Rattle.plant_model.specs.Plant.{Pin, Segment}
+use Rattle.plant_hierarchy.proofs.answering.Hierarchy+Topologies.commit_above.Goals as goal
 
 pub returns : goal.returns
 returns c =
