@@ -14,7 +14,7 @@ copy=$(mktemp -d)
 trap 'rm -rf "$copy"' EXIT
 mkdir -p "$copy/crates"
 cp "$top/HANDLES" "$copy/"
-for name in dom_base line_text te_links te_text te_generations path_constraints path_exclusions walk_laws path_search path_certificate pcep_codes pcep_capabilities pcep_subobjects pcep_objects pcep_messages pcep_framing pcep_session vspt_tree border_costs request_table path_keys disclosure plant_queues plant_text plant_model pce_element; do
+for name in dom_base line_text te_links te_text te_generations path_constraints path_exclusions walk_laws path_search path_certificate pcep_codes pcep_capabilities pcep_subobjects pcep_objects pcep_messages pcep_framing pcep_session vspt_tree border_costs request_table path_keys disclosure plant_queues plant_text plant_model member_parts pce_element; do
     cp -r "$top/crates/$name" "$copy/crates/"
     rm -rf "$copy/crates/$name/must-fail"
     grep "^$name[ :]" "$top/crates.txt" >>"$copy/crates.txt"
@@ -101,13 +101,13 @@ RT
 cat >"$crate/src/serving.rt" <<'RT'
 //! Requests that one element takes and answers.
 ghost use Rattle.std.specs.Prelude.{◌≡◌, ◌≤◌, IfOk, IfSome, OnOk};
-ghost use Rattle.pce_element.specs.Messages.{HasOnePart};
+ghost use Rattle.member_parts.specs.Messages.{HasOnePart};
 
 use crate::network::{NODES, topology};
 use border_costs::solve;
 use disclosure::Class;
 use dom_base::{Addr, As, List, NoMemory, Peer, Tick};
-use pce_element::Element;
+use pce_element::{Element, Topologies};
 use pcep_messages::{Message, read_message, write_message};
 use plant_model::Outputs;
 use std::alloc::Global;
@@ -120,7 +120,7 @@ const CLIENT: Peer = Peer::Outside(1);
 const NOW: Tick = Tick(0);
 
 /// An element that has the topology.
-pub fn new_element(alloc: Global) -> Result<Element, NoMemory>
+pub fn new_element(alloc: Global) -> Result<Element<Topologies>, NoMemory>
     ensures { IfOk result (λ element. element.losing.element.keys.clock ≤ 0) }
 {
     let own = As(1);
@@ -178,7 +178,7 @@ fn read(alloc: Global, id: u32) -> Result<Message, NoMemory>
     Ok(message)
 }
 
-fn take(alloc: Global, element: &mut Element, id: u32) -> Result<(), NoMemory>
+fn take(alloc: Global, element: &mut Element<Topologies>, id: u32) -> Result<(), NoMemory>
     ensures { OnOk result (element.new.losing.element.keys ≡ element.old.losing.element.keys) }
 {
     let message = read(alloc, id)?;
@@ -188,7 +188,7 @@ fn take(alloc: Global, element: &mut Element, id: u32) -> Result<(), NoMemory>
 }
 
 /// Takes all requests.
-pub fn take_all(alloc: Global, element: &mut Element) -> Result<(), NoMemory>
+pub fn take_all(alloc: Global, element: &mut Element<Topologies>) -> Result<(), NoMemory>
     requires { element.old.losing.element.keys.clock ≤ 0 }
     ensures { OnOk result (element.new.losing.element.keys.clock ≤ 0) }
 {
@@ -210,7 +210,7 @@ fn written(alloc: Global, outputs: &Outputs) -> Result<usize, NoMemory> {
 }
 
 // Answers the request of a number, and tells how many octets the answer has.
-fn answer(alloc: Global, element: &mut Element, number: u64) -> Result<usize, NoMemory>
+fn answer(alloc: Global, element: &mut Element<Topologies>, number: u64) -> Result<usize, NoMemory>
     requires { element.old.losing.element.keys.clock ≤ 0 }
     ensures { OnOk result (element.new.losing.element.keys.clock ≤ 0) }
 {
@@ -228,7 +228,7 @@ fn answer(alloc: Global, element: &mut Element, number: u64) -> Result<usize, No
 }
 
 /// Answers all requests, each the first that is ready, and tells how many octets the answers have.
-pub fn answer_all(alloc: Global, element: &mut Element) -> Result<usize, NoMemory>
+pub fn answer_all(alloc: Global, element: &mut Element<Topologies>) -> Result<usize, NoMemory>
     requires { element.old.losing.element.keys.clock ≤ 0 }
     ensures { OnOk result (element.new.losing.element.keys.clock ≤ 0) }
 {
@@ -254,14 +254,14 @@ mod serving;
 
 use crate::serving::{REQUESTS, answer_all, new_element, take_all};
 use border_costs::solve;
-use pce_element::Element;
+use pce_element::{Element, Topologies};
 use std::io;
 use std::time::Instant;
 
 const ROUNDS: u32 = 5;
 
 // How long the job of a number takes to be solved, in nanoseconds.
-fn solve_one(rt: &HostRuntime, element: &Element, number: u64) -> io::Result<u128> {
+fn solve_one(rt: &HostRuntime, element: &Element<Topologies>, number: u64) -> io::Result<u128> {
     let Ok(Some(job)) = element.job(number) else {
         return Ok(0);
     };
@@ -271,7 +271,7 @@ fn solve_one(rt: &HostRuntime, element: &Element, number: u64) -> io::Result<u12
     Ok(if solved.is_ok() { took } else { 0 })
 }
 
-fn solve_each(rt: &HostRuntime, element: &Element) -> io::Result<u128> {
+fn solve_each(rt: &HostRuntime, element: &Element<Topologies>) -> io::Result<u128> {
     let mut sum = 0u128;
     for number in 1..=u64::from(REQUESTS) {
         sum = sum.saturating_add(solve_one(rt, element, number)?);
@@ -283,7 +283,7 @@ fn each(nanoseconds: u128) -> u128 {
     nanoseconds / 1_000 / u128::from(REQUESTS)
 }
 
-fn time_taking(rt: &HostRuntime, element: &mut Element) -> io::Result<u128>
+fn time_taking(rt: &HostRuntime, element: &mut Element<Topologies>) -> io::Result<u128>
     requires { element.old.losing.element.keys.clock ≤ 0 }
     ensures { OnOk result (element.new.losing.element.keys.clock ≤ 0) }
 {
@@ -294,7 +294,7 @@ fn time_taking(rt: &HostRuntime, element: &mut Element) -> io::Result<u128>
     Ok(start.elapsed(rt)?.as_nanos())
 }
 
-fn time_answering(rt: &HostRuntime, element: &mut Element) -> io::Result<u128>
+fn time_answering(rt: &HostRuntime, element: &mut Element<Topologies>) -> io::Result<u128>
     requires { element.old.losing.element.keys.clock ≤ 0 }
 {
     let start = Instant::now(rt)?;
@@ -315,7 +315,7 @@ fn report(rt: &HostRuntime, taken: u128, alone: u128, answered: u128) -> io::Res
     println!(rt; "a request: taken in {taken} us, solved and answered in {answered} us, `solve` alone {alone} us")
 }
 
-fn serve(rt: &HostRuntime, element: &mut Element) -> io::Result<()>
+fn serve(rt: &HostRuntime, element: &mut Element<Topologies>) -> io::Result<()>
     requires { element.old.losing.element.keys.clock ≤ 0 }
 {
     let taken = time_taking(rt, element)?;
