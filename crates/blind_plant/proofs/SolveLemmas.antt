@@ -29,7 +29,6 @@ use Rattle.plant_deeds.specs.Standing.{state_of}
 use Rattle.pce_element.specs.Blind.{stands_for_nothing}
 use Rattle.plant_hierarchy.specs.Answering.{IsRefusedFor, ParentAnswers}
 use Rattle.plant_hierarchy.specs.Blind.{ElementAnswers, MemberAnswers, nothing_first}
-use Rattle.plant_hierarchy.specs.Blind as solving
 use Rattle.plant_hierarchy.specs.Tiers.{Become, Tiers, lost_in, members_of, next_by}
 use Rattle.plant_hierarchy.specs.Tiers as tiers
 use Rattle.plant_hierarchy.specs.declared.plan.MemberPlan.{MemberPlan}

@@ -1,4 +1,4 @@
-use Rattle.std.proofs.Common.{◌≡◌, Ok, Err, Result, List, ap, sym, subst}
+use Rattle.std.proofs.Common.{Ok, Err, Result, List, ap, subst}
 use Rattle.std.proofs.lemmas.Result.{err_from_is_err_and}
 use Rattle.dom_base.specs.declared.names.Tick.{Tick}
 use Rattle.dom_base.specs.declared.border.BorderRow.{BorderRow}
@@ -6,7 +6,6 @@ use Rattle.plant_model.specs.declared.event.BlindEvent.TheVariants.{Solve}
 use Rattle.plant_model.specs.declared.outcome.Outcome.TheVariants.{Done}
 use Rattle.plant_model.specs.declared.outcome.Refused.{Refused}
 use Rattle.plant_model.specs.declared.outcome.Refused.TheVariants.{NoMemory}
-use Rattle.plant_model.specs.Blind.{AreGivenRows}
 use Rattle.plant_hierarchy.specs.Blind.{Solves}
 use Rattle.plant_hierarchy.specs.declared.plan.MemberPlan.{MemberPlan}
 use Rattle.blind_plant.specs.Held.{Moves, held}
@@ -45,8 +44,8 @@ returns-in-Ok c =
     c.answer.new.members c.answer.new.traffic c.in-Ok.ensures.network c.in-Ok.ensures.lost c.in-Ok.ensures.lines c.in-Ok.ensures.roomy
     (ap (λ (t : Tick). t.0) c.clock-now.ensures) c.in-Ok.ensures.next c.in-Ok.ensures.sends)
 
-pub returns-in-Err : goal.returns-in-Err
-returns-in-Err c =
+pub returns : goal.returns
+returns c =
     let old = held c.args.members.now c.args.traffic.now in
     let m : Solves c.args.at c.args.number c.as_slice.result.now c.clock-now.result.0 c.args.members.now (Ok c.in_ok-plan.plan) c.solve.new.self =
     subst (λ (r : Result (MemberPlan _ _ _ _) Refused). Solves c.args.at c.args.number c.as_slice.result.now c.clock-now.result.0 c.args.members.now r c.solve.new.self) c.in_ok-plan.was c.solve.ensures in

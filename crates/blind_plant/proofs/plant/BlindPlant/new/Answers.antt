@@ -1,5 +1,4 @@
-use Rattle.std.proofs.Common.{◌≡◌, ◌∙◌, refl, sym, ap, subst}
-use Rattle.dom_base.specs.declared.names.As.{As}
+use Rattle.std.proofs.Common.{◌≡◌, refl, sym, subst}
 use Rattle.plant_text.specs.declared.settings.NetworkParts.{NetworkParts}
 use Rattle.plant_text.specs.Networks.{IsNetwork}
 use Rattle.plant_model.specs.Blind.{Nothing, blind_opened, show_nothing}
