@@ -181,8 +181,8 @@ module _ (j : BorderJob) (links : All IsParentLink j.links) (rows : AllByRecursi
       let l = e.0 in
       let is = All-contains IsParentLink j.links l links e.1 in
       let more = trace us (Enter b m) shows.rest shows.below shows.tight.1 shows.shown in
-      let own : shows.edge.hops ≡ strict_hop l.link.far ∷ [] = ap (λ (x : Edge). x.hops) e.10 in
-      let cost : shows.edge.cost ≡ weight j.query.metric l.link = ap (λ (x : Edge). x.cost) e.10 in
+      let own : shows.edge.hops ≡ strict_hop l.link.far ∷ [] = ap (λ (x : Edge). x.hops) e.9 in
+      let cost : shows.edge.cost ≡ weight j.query.metric l.link = ap (λ (x : Edge). x.cost) e.9 in
       let some = weight_some j.query.metric l is in
       let sum = shows.tight.2 in
       let less : shows.rest < c = omega (arith, sum, cost, some) in
