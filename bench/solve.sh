@@ -1,6 +1,7 @@
 #!/bin/sh
 # What a job costs at the limits, in microseconds: 1,024 nodes and 8,192 inner links, 64 entries and 256 out links at 16 nodes,
-# whose labels come of one search from all exits; beside it jobs with one exit, and with the destination as the one seed.
+# whose labels come of one search from all exits; beside it jobs with one exit, and with the destination as the one seed, and beside each
+# one search with its seeds.
 # It makes a program in a copy of the repository, proves and builds it there, and runs it. The figures hold for the
 # machine and the moment alone: no clause speaks of time.
 # usage: bench/solve.sh
@@ -19,7 +20,7 @@ for name in dom_base line_text te_links te_text path_constraints path_exclusions
     rm -rf "$copy/crates/$name/must-fail"
     grep "^$name[ :]" "$top/crates.txt" >>"$copy/crates.txt"
 done
-echo 'solve_bench: dom_base te_links border_costs' >>"$copy/crates.txt"
+sed -n 's/^border_costs: /solve_bench: border_costs /p' "$top/crates.txt" >>"$copy/crates.txt"
 crate=$copy/crates/solve_bench
 mkdir -p "$crate/src"
 
@@ -168,24 +169,43 @@ cat >"$crate/src/main.rt" <<'RT'
 mod network;
 
 use crate::network::{Size, job};
-use border_costs::{Target, solve};
+use border_costs::{Job, Target, seeds_of, solve};
 use dom_base::{Addr, As};
+use path_search::search;
 use std::io;
 use std::time::Instant;
+use te_links::Counted;
+
+const ROUNDS: u32 = 20;
+
+// One search with the seeds of the job, in microseconds; none where memory lacks.
+fn search_alone(rt: &HostRuntime, job: &Job) -> io::Result<Option<u128>> {
+    let mut links = Counted::new(&job.topology);
+    let Ok(seeds) = seeds_of(rt.alloc(), &job.ask, &links) else {
+        return Ok(None);
+    };
+    let start = Instant::now(rt)?;
+    let labels = search(rt.alloc(), &mut links, &job.ask.query, &seeds);
+    let took = start.elapsed(rt)?.as_micros();
+    Ok(if labels.is_ok() { Some(took) } else { None })
+}
 
 fn measure(rt: &HostRuntime, size: Size, target: Target) -> io::Result<()> {
     let Ok(Some(job)) = job(rt.alloc(), size, target) else {
         return println!(rt; "no job");
     };
     let Size { entries, outs } = size;
-    for _round in 0..5 {
+    for _round in 0..ROUNDS {
+        let Some(alone) = search_alone(rt, &job)? else {
+            return println!(rt; "no memory");
+        };
         let start = Instant::now(rt)?;
         let Ok(solved) = solve(rt.alloc(), &job) else {
             return println!(rt; "no memory");
         };
         let took = start.elapsed(rt)?.as_micros();
         let rows = solved.best().len();
-        println!(rt; "{entries} entries, {outs} out links: {rows} rows in {took} us")?;
+        println!(rt; "{entries} entries, {outs} out links: {rows} rows in {took} us, one search {alone} us")?;
     }
     Ok(())
 }
