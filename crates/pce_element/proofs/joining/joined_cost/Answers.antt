@@ -1,6 +1,6 @@
 use Rattle.std.proofs.Common.{◌≡◌, rules, sym, subst}
 use Rattle.std.specs.Prelude.{MatchOption}
-use Rattle.te_links.proofs.Different.{Decides-rank}
+use Rattle.dom_base.proofs.Ranks.{Decides-rank}
 use Rattle.border_costs.specs.declared.job.Target.{Target}
 use Rattle.plant_model.specs.Branches.{downs}
 use Rattle.pce_element.specs.Joining.{JoinsNothing, JoinsOver}
