@@ -10,7 +10,7 @@ use Rattle.dom_base.specs.declared.query.Query.{Query}
 use Rattle.dom_base.specs.declared.query.Seed.{Seed}
 use Rattle.dom_base.specs.declared.query.Label.{Label}
 use Rattle.te_links.specs.Rows.{Rows}
-use Rattle.te_links.proofs.Different.{Decides-rank}
+use Rattle.dom_base.proofs.Ranks.{Decides-rank}
 use Rattle.walk_laws.specs.Labels.{IsLabel}
 use Rattle.walk_laws.specs.Certificate.{Certifies}
 use Rattle.walk_laws.proofs.Admitted.{reaches_admits}

@@ -7,7 +7,7 @@ ghost use Rattle.border_costs.specs.Ways.{AreColumns, row_at};
 
 use crate::job::{Ask, Job};
 use crate::ways::{Way, ways_of};
-use dom_base::{Addr, BorderRow, List, NoMemory};
+use dom_base::{Addr, BorderRow, List, NoMemory, stands};
 use path_search::{Labels, search};
 use std::alloc::Global;
 use te_links::{Counted, Links};
@@ -69,12 +69,6 @@ fn push_rows(
         }
     }
     Ok(())
-}
-
-fn stands(entries: &[Addr], node: Addr) -> bool
-    ensures { IsTrue result ↔ Contains entries.now node }
-{
-    entries.contains(&node)
 }
 
 // The rows of all nodes that are entries of the ask, in the order of the nodes.

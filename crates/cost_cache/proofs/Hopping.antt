@@ -13,7 +13,7 @@ use Rattle.dom_base.specs.declared.query.Seed.{Seed}
 use Rattle.dom_base.specs.declared.query.Label.{Label}
 use Rattle.te_links.specs.Rows.{Rows, IsTopology, IsInOrder}
 use Rattle.walk_laws.specs.Labels.{EndsAt, IsLabel}
-use Rattle.walk_laws.proofs.Seeds.{seed_eq, same_seed}
+use Rattle.dom_base.proofs.Seeds.{seed_eq, same_seed}
 use Rattle.path_search.specs.Arcs.{label_at}
 use Rattle.path_search.specs.Search.{AreLabels}
 use Rattle.path_search.specs.Segments.{IsTightAt, IsLoose}

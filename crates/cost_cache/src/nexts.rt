@@ -6,8 +6,8 @@ ghost use Rattle.cost_cache.specs.Entries.{AreNexts};
 ghost use Rattle.cost_cache.specs.Hops.{IsHopAt, IsNoHop, first_kept};
 
 use crate::kept::Next;
-use dom_base::{NoMemory, Query, Seed};
-use path_search::{Labels, ends_at, tight_step};
+use dom_base::{NoMemory, Query, Seed, ends_at};
+use path_search::{Labels, tight_step};
 use std::alloc::Global;
 use te_links::Links;
 

@@ -1,5 +1,4 @@
 pub mod Potentials
-pub mod Standing
 pub mod Tracing
 pub mod Sums
 pub mod Best

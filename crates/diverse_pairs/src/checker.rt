@@ -8,9 +8,8 @@ use crate::certificate::{PairCertificate, PairForm};
 use crate::false_crossing::second_to_leave;
 use crate::false_links::false_link;
 use crate::false_path::false_address;
-use crate::look_up::stands;
 use crate::verdict::PairVerdict;
-use dom_base::{Addr, Query};
+use dom_base::{Addr, Query, stands};
 use path_certificate::{Place, admits_node};
 use te_links::Topology;
 

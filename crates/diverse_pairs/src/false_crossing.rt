@@ -4,8 +4,7 @@ ghost use Rattle.te_links.specs.Rows.{IsTopology};
 ghost use Rattle.diverse_pairs.specs.Conditions.{IsOnlyToLeave, Leaves};
 ghost use Rattle.diverse_pairs.specs.Steps.{IsFirstNot};
 
-use crate::look_up::stands;
-use dom_base::{Addr, Query};
+use dom_base::{Addr, Query, stands};
 use path_certificate::admitted_link;
 use te_links::Topology;
 

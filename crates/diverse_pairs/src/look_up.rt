@@ -2,14 +2,7 @@
 ghost use Rattle.std.specs.Prelude.{◌≡◌, ◌++◌, ◌↔◌, Contains, IsTrue};
 ghost use Rattle.diverse_pairs.specs.Potentials.{potential_in, AreRising};
 
-use dom_base::{Addr, said_of};
-
-/// Whether an address stands in a list.
-pub(crate) fn stands(addrs: &[Addr], addr: Addr) -> bool
-    ensures { IsTrue result ↔ Contains addrs.now addr }
-{
-    addrs.contains(&addr)
-}
+use dom_base::{Addr, said_of, stands};
 
 /// Whether a far address stands in one of two lists.
 pub(crate) fn is_in_use(first: &[Addr], second: &[Addr], far: Addr) -> bool

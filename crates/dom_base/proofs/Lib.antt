@@ -11,3 +11,4 @@ pub mod Cuts
 pub mod CostWords
 pub mod Searching
 pub mod Said
+pub mod Seeds

@@ -1,5 +1,7 @@
 -- The places of addresses in their order: addresses with one place are one address.
-use Rattle.std.proofs.Common.{◌≡◌, ℕ, ◌+◌, ◌*◌, ◌^◌, ◌<◌, ltb, eqb, Bool, true, false, cond, refl, ap, sym, arith}
+use Rattle.std.proofs.Common.{◌≡◌, ℕ, ◌+◌, ◌*◌, ◌^◌, ◌<◌, ltb, eqb, Bool, true, false, cond, refl, ap, sym, arith, nat_eq}
+use Rattle.std.specs.Bool.{Decides}
+use Rattle.std.proofs.lemmas.Bool.Decides.{Decides-eqb}
 use Rattle.std.proofs.lemmas.Bool.{lt-ltb, ltb-true, eqb-true, eqb-false, eq-eqb, ne_eqb}
 use Rattle.dom_base.specs.declared.addr.Addr.{Addr}
 use Rattle.dom_base.specs.declared.addr.Addr.TheVariants.{V4, V6}
@@ -47,6 +49,10 @@ same_addr (V4 m) (V4 n) is = ap V4 (one_v4 m n (ltb m (2 ^ 32)) (ltb n (2 ^ 32))
 same_addr (V4 m) (V6 n) is = absurd (apart m n (ltb m (2 ^ 32)) (ltb n (2 ^ 128)) refl refl is)
 same_addr (V6 m) (V4 n) is = absurd (apart n m (ltb n (2 ^ 32)) (ltb m (2 ^ 128)) refl refl (sym is))
 same_addr (V6 m) (V6 n) is = ap V6 (one_v6 m n (ltb m (2 ^ 128)) (ltb n (2 ^ 128)) refl refl is)
+
+-- a comparison of places decides whether two addresses are one
+pub Decides-rank : (a b : Addr) → Decides (nat_eq (rank a) (rank b)) (a ≡ b)
+Decides-rank a b = let d = Decides-eqb (rank a) (rank b) in (λ t. same_addr a b (d.0 t), λ is. d.1 (ap rank is))
 
 -- ---- what the comparisons of code compute
 

@@ -1,9 +1,9 @@
-//! Rows that say something of addresses.
-ghost use Rattle.std.specs.Prelude.{◌≡◌, ◌<◌, AllPairs};
+//! Rows that say something of addresses, and lists in which an address or a seed stands.
+ghost use Rattle.std.specs.Prelude.{◌≡◌, ◌<◌, ◌↔◌, AllPairs, Contains, IsTrue};
 ghost use Rattle.dom_base.specs.AddrOrder.{rank};
 ghost use Rattle.dom_base.specs.AddrRows.{said_of as value_said};
 
-use crate::Addr;
+use crate::{Addr, Label, Seed};
 
 /// What the row of an address says, among rows in rising order of address; `nothing` where no row
 /// names it. Takes logarithmic time.
@@ -15,4 +15,22 @@ pub fn said_of<V: Copy>(rows: &[(Addr, V)], nothing: V, addr: Addr) -> V
         Ok(place) => rows[place].1,
         Err(_) => nothing,
     }
+}
+
+/// Whether an address stands in a list.
+pub fn stands(addrs: &[Addr], addr: Addr) -> bool
+    ensures { IsTrue result ↔ Contains addrs.now addr }
+{
+    addrs.contains(&addr)
+}
+
+/// Whether a seed at the node equals the label, so that a walk of the label may end there.
+pub fn ends_at(seeds: &[Seed], node: Addr, label: &Label) -> bool
+    ensures { IsTrue result ↔ Contains seeds.now (record { node = node; cost = label.now.cost; exit = label.now.exit }) }
+{
+    seeds.contains(&Seed {
+        node,
+        cost: label.cost,
+        exit: label.exit,
+    })
 }

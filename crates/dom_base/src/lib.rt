@@ -17,7 +17,7 @@ mod text;
 mod words;
 
 pub use addr::Addr;
-pub use addr_rows::said_of;
+pub use addr_rows::{ends_at, said_of, stands};
 pub use addr_text::{read_addr, write_addr};
 pub use border::{BorderRow, ParentLink};
 pub use cost::{Cost, word_of_cost};

@@ -1,4 +1,5 @@
-pub mod Words
+-- for readers
 pub mod Lines
+pub mod Words
 pub mod Spelling
 pub mod Hexadecimal

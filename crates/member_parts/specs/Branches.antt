@@ -6,7 +6,7 @@ use Rattle.dom_base.specs.declared.query.Metric.{Metric}
 use Rattle.dom_base.specs.declared.limits.TheConstants.{COST_MAX}
 use Rattle.pcep_subobjects.specs.declared.hop.Hop.{Hop}
 use Rattle.pcep_subobjects.specs.declared.hop.Hop.TheVariants.{Prefix, AsNumber, Key, Other}
-use Rattle.plant_model.specs.Writing.{code}
+use Rattle.pcep_messages.specs.Requests.{type_of_metric}
 
 -- the address of the first hop
 abbrev pub entry_in : List Hop → Option Addr
@@ -24,4 +24,4 @@ cost_in (Some n) = cond (nat_le n COST_MAX) (Some n) None
 -- the cost that a metric of the asked type tells
 abbrev pub cost_told : Metric → Option (ℕ × ℕ) → Option ℕ
 cost_told m None = None
-cost_told m (Some told) = cond (told.0 == code m) (cost_in (units told.1)) None
+cost_told m (Some told) = cond (told.0 == type_of_metric m) (cost_in (units told.1)) None

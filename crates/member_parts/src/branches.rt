@@ -5,9 +5,8 @@ ghost use Rattle.plant_model.specs.Branches.{branch_of};
 ghost use Rattle.plant_model.specs.RealWire.{wire};
 ghost use Rattle.member_parts.specs.Branches.{entry_in, cost_told};
 
-use crate::objects::code;
 use dom_base::{Addr, COST_MAX, Cost, Metric, units_of_word};
-use pcep_messages::Path;
+use pcep_messages::{Path, type_of_metric};
 use pcep_subobjects::Hop;
 use vspt_tree::Branch;
 
@@ -28,7 +27,7 @@ fn cost_of(metric: Metric, told: Option<(u8, u32)>) -> Option<Cost>
     let Some((kind, word)) = told else {
         return None;
     };
-    if kind != code(metric) {
+    if kind != type_of_metric(metric) {
         return None;
     }
     let Some(units) = units_of_word(word) else {

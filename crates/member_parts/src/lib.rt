@@ -15,7 +15,7 @@ pub use messages::{
     busy, error_message, no_key, no_path, one, reply_message, request_message, unavailable,
 };
 pub use numbers::{after_id, has_number};
-pub use objects::{code, ends, needed, sequence_object};
+pub use objects::{ends, needed, sequence_object};
 pub use peers::is_same_peer;
 pub use reported::{error_answer, has_pair};
 pub use ways::{Way, Ways};

@@ -4,12 +4,12 @@ ghost use Rattle.std.specs.Option.{option_to_list};
 ghost use Rattle.plant_model.specs.Writing.{asked_of, busy, error_message, no_key, no_path, reply_message, request_message, unavailable};
 
 use crate::objects::{
-    bandwidth_object, bound_object, code, ends, exclusions_object, masks_object, needed,
+    bandwidth_object, bound_object, ends, exclusions_object, masks_object, needed,
     sequence_object,
 };
 use dom_base::{Addr, As, Exclusion, List, NoMemory, Query};
 use pcep_codes::{classes, flags, no_paths, notices};
-use pcep_messages::{Answer, Asked, ErrorReport, Message, Notice, Reply, Wanted};
+use pcep_messages::{Answer, Asked, ErrorReport, Message, Notice, Reply, Wanted, type_of_metric};
 use pcep_objects::{Body, Object};
 use std::alloc::Global;
 
@@ -56,7 +56,7 @@ fn asked_of(
     let computed = Body::Metric {
         bound: false,
         computed: true,
-        kind: code(metric),
+        kind: type_of_metric(metric),
         word: 0,
     };
     let mut objects = List::new(alloc);

@@ -1,10 +1,11 @@
 //! The objects of requests (RFC 5440, section 7).
 ghost use Rattle.std.specs.Prelude.{◌≡◌, map, IfOk};
 ghost use Rattle.std.specs.Option.{option_to_list};
-ghost use Rattle.plant_model.specs.Writing.{as_hop, bandwidth, bound, code, ends, ends_kind, iro, lspa, needed, xro};
+ghost use Rattle.plant_model.specs.Writing.{as_hop, bandwidth, bound, ends, ends_kind, iro, lspa, needed, xro};
 
 use dom_base::{Addr, As, Exclusion, List, Metric, NoMemory};
-use pcep_codes::{classes, kinds, metrics};
+use pcep_codes::{classes, kinds};
+use pcep_messages::type_of_metric;
 use pcep_objects::{Body, Object};
 use pcep_subobjects::Hop;
 use std::alloc::{AllocError, Global};
@@ -18,17 +19,6 @@ pub fn needed(class: u8, body: Body) -> Object
         kind: kinds::FIRST,
         must: true,
         body,
-    }
-}
-
-/// The type of a metric (RFC 5440, section 7.8).
-pub fn code(metric: Metric) -> u8
-    ensures { result ≡ code metric }
-{
-    match metric {
-        Metric::Igp => metrics::IGP,
-        Metric::Te => metrics::TE,
-        Metric::Hops => metrics::HOPS,
     }
 }
 
@@ -89,7 +79,7 @@ pub(crate) fn bound_object(metric: Metric, word: Option<u32>) -> Option<Object>
     let body = Body::Metric {
         bound: true,
         computed: false,
-        kind: code(metric),
+        kind: type_of_metric(metric),
         word,
     };
     Some(needed(classes::METRIC, body))

@@ -9,8 +9,7 @@ ghost use Rattle.path_certificate.specs.Offers.{MakesNode, IsBroken, IsFirstBrok
 use crate::broken::Broken;
 use crate::look_up::label_of;
 use crate::marks::mark_made;
-use crate::ordered::ends_at;
-use dom_base::{Addr, Label, Query, Seed};
+use dom_base::{Addr, Label, Query, Seed, ends_at};
 use path_exclusions::bars_node;
 use te_links::{NODES_MAX, Topology};
 

@@ -6,8 +6,7 @@ ghost use Rattle.path_certificate.specs.Claims.{LeadsByLabels, LeadsOver, PathHo
 
 use crate::look_up::label_of;
 use crate::offers::offer_of;
-use crate::ordered::ends_at;
-use dom_base::{Addr, Label, List, Query, Seed};
+use dom_base::{Addr, Label, List, Query, Seed, ends_at};
 use te_links::Topology;
 
 // Where a link leads, and the label there.

@@ -1,9 +1,8 @@
-//! Comparisons of labels and seeds.
+//! Comparisons of labels.
 ghost use Rattle.std.specs.Prelude.{◌↔◌, IsTrue};
-ghost use Rattle.walk_laws.specs.Labels.{EndsAt};
 ghost use Rattle.walk_laws.specs.Certificate.{AtMost};
 
-use dom_base::{Addr, Label, Seed};
+use dom_base::Label;
 
 /// Whether a label is at most another one; no label is the greatest.
 pub(crate) fn is_at_most(told: &Option<Label>, bound: &Label) -> bool
@@ -16,15 +15,4 @@ pub(crate) fn is_at_most(told: &Option<Label>, bound: &Label) -> bool
                 || label.cost.get() == bound.cost.get() && label.exit <= bound.exit
         }
     }
-}
-
-/// Whether a seed at the node equals the label.
-pub(crate) fn ends_at(seeds: &[Seed], node: Addr, label: &Label) -> bool
-    ensures { IsTrue result ↔ EndsAt seeds.now node label.now }
-{
-    seeds.contains(&Seed {
-        node,
-        cost: label.cost,
-        exit: label.exit,
-    })
 }

@@ -18,7 +18,7 @@ use std::alloc::Global;
 use te_links::Links;
 
 // The arc of a link into the node at a place, if the link is admitted.
-pub fn arc_of<'a, G: Links<'a>>(
+pub(crate) fn arc_of<'a, G: Links<'a>>(
     links: &mut G,
     query: &Query,
     barred: &[bool],

@@ -14,7 +14,7 @@ mod spread;
 mod starts;
 mod waiting;
 
-pub use chosen::{Step, ends_at, segment, tight_step};
+pub use chosen::{Step, segment, tight_step};
 pub use find::search;
 pub use labels::Labels;
 pub use shown::{label_rows, open_segment};

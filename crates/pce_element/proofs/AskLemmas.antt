@@ -9,11 +9,10 @@ use Rattle.pcep_messages.specs.declared.message.Wanted.{Wanted}
 use Rattle.disclosure.specs.declared.class.Class.{Class}
 use Rattle.disclosure.specs.declared.class.Class.TheVariants.{Client, Neighbour, Parent}
 use Rattle.disclosure.specs.declared.class.Deny.{Deny}
-use Rattle.disclosure.specs.Policy as policy
-use Rattle.disclosure.specs.Policy.{denies_from}
+use Rattle.disclosure.specs.Policy.{is_denied}
 use Rattle.request_table.specs.Pending.{opened_of}
 use Rattle.plant_model.specs.declared.output.Output.{Output}
-use Rattle.plant_model.specs.Element.{Element, Place, Ready, Taken, denies, each, is_denied, silent, way_to}
+use Rattle.plant_model.specs.Element.{Element, Place, Ready, Taken, each, silent, way_to}
 use Rattle.plant_model.specs.Taking.{item_of, send_on, take_along}
 use Rattle.pce_element.specs.Changes.{IsDraft}
 use Rattle.pce_element.specs.Seen.{Seen}
@@ -57,23 +56,6 @@ one_of xs (y ∷ rest) x is few = absurd (two rest (subst (λ (zs : _). length z
 pub first_of_one : {X : Type 0} (xs rest : List X) (x : X) → xs ≡ x ∷ rest → length xs ≤ 1 → xs ≡ x ∷ []
 first_of_one xs [] x is few = is
 first_of_one xs (y ∷ rest) x is few = absurd (omega (arith, subst (λ (zs : _). length zs ≤ 1) is few))
-
--- ---- policy
-
-denies_is : (rows : List Deny) (a next : As) → denies rows a next ≡ denies_from a.0 next.0 rows
-denies_is [] a next = refl
-denies_is (row ∷ rows) a next =
-    go (row.from.0 == a.0) (row.next.0 == next.0) (denies rows a next) ∙ ap (λ (b : Bool). ((row.from.0 == a.0) && (row.next.0 == next.0)) || b) (denies_is rows a next)
-  where
-    go : (x y d : Bool) → cond x (cond y true d) d ≡ (x && y) || d
-    go true true d = refl
-    go true false d = refl
-    go false y d = refl
-
-pub denied_is : (rows : List Deny) (class : Class) (next : As) → policy.is_denied rows class next ≡ is_denied rows class next
-denied_is rows (Client may) next = sym (denies_is rows (record { 0 = 0 }) next)
-denied_is rows (Neighbour a) next = sym (denies_is rows a next)
-denied_is rows Parent next = refl
 
 pub not_back : (a b : Bool) → a ≡ not b → not a ≡ b
 not_back a true is = ap not is

@@ -18,9 +18,9 @@ use crate::plan::Plan;
 use crate::world::World;
 use disclosure::{Class, closed_hops, open_hops};
 use dom_base::{Addr, List, Metric, NoMemory, Tick, word_of_cost};
-use member_parts::{busy, code, no_path, one, reply_message};
+use member_parts::{busy, no_path, one, reply_message};
 use path_keys::KEY_LAST;
-use pcep_messages::{Answer, Message, Path, Wanted};
+use pcep_messages::{Answer, Message, Path, Wanted, type_of_metric};
 use pcep_subobjects::Hop;
 use plant_model::{Output, Outputs};
 use std::alloc::Global;
@@ -47,7 +47,7 @@ fn path_of(metric: Metric, branch: Branch) -> Path
 {
     Path {
         hops: branch.hops,
-        metric: Some((code(metric), word_of_cost(branch.cost))),
+        metric: Some((type_of_metric(metric), word_of_cost(branch.cost))),
     }
 }
 

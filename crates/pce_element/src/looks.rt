@@ -3,7 +3,8 @@ ghost use Rattle.std.specs.Prelude.{◌≡◌, ◌≤◌, ◌+◌, filter, lengt
 ghost use Rattle.std.specs.Option.{option_copied};
 ghost use Rattle.request_table.specs.Pending.{same_peer};
 ghost use Rattle.path_keys.specs.Keys.{live_at, live_most, segment_of};
-ghost use Rattle.plant_model.specs.Element.{is_denied, way_to};
+ghost use Rattle.disclosure.specs.Policy.{is_denied};
+ghost use Rattle.plant_model.specs.Element.{way_to};
 ghost use Rattle.plant_model.specs.Names.{same_addr};
 
 use crate::element::Element;

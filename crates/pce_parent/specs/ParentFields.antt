@@ -2,6 +2,7 @@
 use Rattle.std.specs.Prelude.{◌≡◌, ◌<◌, ◌+◌, ◌-◌, ◌≤◌, min, length, All, AllPairs}
 use Rattle.std.specs.VecDeque.{deque_capacity, deque_len}
 use Rattle.dom_base.specs.declared.names.As.{As}
+use Rattle.plant_model.specs.declared.TheConstants.{PARENT_PENDING_MAX}
 use Rattle.plant_model.specs.Parent.{Parent, Family}
 use Rattle.pce_parent.specs.Seen.{Seen}
 use Rattle.pce_parent.specs.Solution.{IsWeighed}
@@ -24,7 +25,7 @@ seen_of a = record {
 
 pub record HoldsParent (a : Inside) : Type 0 where
   pub lost_fit : deque_len a.lost + length a.requests.kept.rows ≤ deque_capacity a.lost
-  pub limit : a.requests.kept.limit ≡ 64
+  pub limit : a.requests.kept.limit ≡ PARENT_PENDING_MAX
   pub last : a.last ≡ a.requests.kept.given
   pub rising : AllPairs (λ (x y : As). x.0 < y.0) a.children
   pub weighed : All IsWeighed a.links

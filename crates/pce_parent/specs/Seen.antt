@@ -3,6 +3,7 @@ use Rattle.std.specs.Prelude.{◌≡◌, ℕ, cond, nat_eq, [], map, Option, Som
 use Rattle.std.specs.Map.{lookup}
 use Rattle.dom_base.specs.declared.addr.Addr.{Addr}
 use Rattle.request_table.specs.declared.held.Held.{Held}
+use Rattle.plant_model.specs.declared.TheConstants.{PARENT_PENDING_MAX}
 use Rattle.plant_model.specs.declared.upper.BorderJob.{BorderJob}
 use Rattle.plant_model.specs.RealWire.{wire}
 use Rattle.plant_model.specs.Parent.{Parent, Family, Given, Losing, Asking, is_ready, job_of, commit}
@@ -29,7 +30,7 @@ SameButRoom a b = b ≡ record a { room = b.room }
 
 -- a parent without requests, whose sessions are not up
 abbrev pub new_parent : Family → Parent
-new_parent f = record { pending = record { limit = 64; given = 0; rows = [] }; ways = map way_of f.children }
+new_parent f = record { pending = record { limit = PARENT_PENDING_MAX; given = 0; rows = [] }; ways = map way_of f.children }
 
 abbrev pub IsNew : Addr → Family → Seen → Type 0
 IsNew id f s = s ≡ record { id = id; family = f; losing = record { parent = new_parent f; lost = [] }; room = s.room }

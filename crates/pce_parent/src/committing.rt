@@ -11,8 +11,8 @@ use crate::pending::Row;
 use crate::plan::BorderPlan;
 use crate::solved::BorderSolved;
 use dom_base::{List, Metric, NoMemory, Tick, word_of_cost};
-use member_parts::{code, no_path, one, reply_message};
-use pcep_messages::{Answer, Path};
+use member_parts::{no_path, one, reply_message};
+use pcep_messages::{Answer, Path, type_of_metric};
 use pcep_subobjects::append_hops;
 use plant_model::{Output, Outputs};
 use std::alloc::Global;
@@ -36,7 +36,7 @@ fn answer_of(alloc: Global, metric: Metric, solved: &BorderSolved) -> Result<Ans
     append_hops(alloc, &mut hops, found)?;
     let path = Path {
         hops,
-        metric: Some((code(metric), word_of_cost(cost))),
+        metric: Some((type_of_metric(metric), word_of_cost(cost))),
     };
     Ok(Answer::Paths(one(alloc, path)?))
 }

@@ -1,4 +1,5 @@
 -- for readers
+pub mod Limits
 pub mod Groups
 pub mod Messages
 pub mod Spelling

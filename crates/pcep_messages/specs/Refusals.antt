@@ -14,6 +14,7 @@ use Rattle.pcep_subobjects.specs.declared.hop.Hop.{Hop}
 use Rattle.pcep_subobjects.specs.declared.hop.Hop.TheVariants as hops
 use Rattle.pcep_objects.specs.declared.object.Object.{Object}
 use Rattle.pcep_objects.specs.Spelling.{read_classes}
+use Rattle.pcep_messages.specs.declared.limits.TheConstants.{EXCLUSIONS_MAX, SEQUENCE_MAX}
 use Rattle.pcep_messages.specs.Said.{rp_of, end_points_of, metric_in, metrics_of, xro_of, iro_of, key_of, asks_key}
 
 -- an error type and value, where a rule applies
@@ -101,10 +102,10 @@ agree_on kind os = list_all (λ m. m.1 == kind) (metrics_of os) && (nat_le (coun
 abbrev pub are_measures : List Object → Bool
 are_measures os = is_metric (asked_type (metrics_of os)) && agree_on (asked_type (metrics_of os)) os
 
--- at most 256 exclusions, and each that is more than a wish is supported
+-- few exclusions, and each that is more than a wish is supported
 abbrev pub can_exclude : Option (List Exclusion) → Bool
 can_exclude None = true
-can_exclude (Some list) = nat_le (length list) 256 && is_none (exclusions.first_unsupported list)
+can_exclude (Some list) = nat_le (length list) EXCLUSIONS_MAX && is_none (exclusions.first_unsupported list)
 
 -- the number of a domain (RFC 3209, section 4.3.3.4)
 abbrev pub domain_in : Hop → Option ℕ
@@ -127,11 +128,11 @@ abbrev pub begins_with : ℕ → List ℕ → Bool
 begins_with own [] = false
 begins_with own (n ∷ ns) = n == own
 
--- at most 16 domains, each once, from the own one on
+-- few domains, each once, from the own one on
 abbrev pub can_follow : ℕ → Option (List Hop) → Bool
 can_follow own None = true
 can_follow own (Some route) =
-    nat_le (length route) 16 && (list_all is_domain route && (not (has_twice (domains route)) && begins_with own (domains route)))
+    nat_le (length route) SEQUENCE_MAX && (list_all is_domain route && (not (has_twice (domains route)) && begins_with own (domains route)))
 
 -- ---- the rules
 

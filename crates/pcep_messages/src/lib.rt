@@ -4,6 +4,7 @@
 mod answers;
 mod groups;
 mod law;
+mod limits;
 mod message;
 mod metric;
 mod objects;
@@ -16,6 +17,7 @@ mod splitting;
 mod writing;
 
 pub use law::{groups_are_whole, splits_are_whole};
+pub use limits::{EXCLUSIONS_MAX, SEQUENCE_MAX, limits_are_numbers};
 pub use message::{
     Answer, Asked, Bad, ErrorReport, Message, Notice, Path, Refusal, Reply, Request, Wanted, Wish,
     WriteError,

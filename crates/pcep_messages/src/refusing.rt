@@ -6,6 +6,7 @@ ghost use Rattle.pcep_messages.specs.Said.{asks_key, end_points_of, iro_of, key_
 ghost use Rattle.pcep_messages.specs.Requests.{metric_of_type};
 ghost use Rattle.pcep_messages.specs.Refusals.{asked_type, ipv6_at, agree_on, unsupported, unsupported_among, among, are_measures, can_exclude, domain_in, domains, is_domain, has_twice, begins_with, can_follow, first_of, request_rules, key_rules, path_rules};
 
+use crate::limits::{EXCLUSIONS_MAX, SEQUENCE_MAX};
 use crate::metric::metric_of_type;
 use crate::said::{
     are_of_type, count_bounds, count_minimised, find_end_points, find_key, find_rp, metric_type,
@@ -144,7 +145,7 @@ fn excludes(objects: &[Object]) -> bool
 {
     for object in objects {
         if let Body::Xro(list) = &object.body {
-            return list.len() <= 256 && find_unsupported(list.as_slice()).is_none();
+            return list.len() <= EXCLUSIONS_MAX && find_unsupported(list.as_slice()).is_none();
         }
     }
     true
@@ -215,7 +216,7 @@ fn follows(objects: &[Object], own: As) -> bool
     for object in objects {
         if let Body::Iro(route) = &object.body {
             let route = route.as_slice();
-            return route.len() <= 16
+            return route.len() <= SEQUENCE_MAX
                 && name_domains(route)
                 && !names_twice(route)
                 && begins_at(route, own.0);

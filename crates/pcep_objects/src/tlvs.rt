@@ -42,7 +42,7 @@ fn first_of(found: Option<u32>, kind: u16, type_here: u16, value: &[u8]) -> Opti
 }
 
 /// The number in the first TLV of a type that has four octets, if all the bytes are TLVs.
-pub fn word_of_tlv(kind: u16, bytes: &[u8]) -> Result<Option<u32>, TlvFault>
+pub(crate) fn word_of_tlv(kind: u16, bytes: &[u8]) -> Result<Option<u32>, TlvFault>
     ensures { result ≡ word_among kind (tlvs_of bytes.now) }
 {
     let mut found: Option<u32> = None;

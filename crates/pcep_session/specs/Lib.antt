@@ -1,4 +1,6 @@
-pub mod Reports
-pub mod Listed
+-- for readers
 pub mod Table
+pub mod Reports
 pub mod Order
+-- inner
+pub mod Listed

@@ -6,7 +6,7 @@ use dom_base::{List, NoMemory};
 use std::alloc::Global;
 
 /// An equal hop in memory of its own.
-pub fn copy_hop(alloc: Global, hop: &Hop) -> Result<Hop, NoMemory>
+pub(crate) fn copy_hop(alloc: Global, hop: &Hop) -> Result<Hop, NoMemory>
     ensures { IfOk result (λ copy. copy ≡ hop.now) }
 {
     Ok(match *hop {

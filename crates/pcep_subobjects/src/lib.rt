@@ -9,7 +9,7 @@ mod octets;
 mod part;
 mod subobject;
 
-pub use copying::{append_hops, copy_hop, copy_hops};
+pub use copying::{append_hops, copy_hops};
 pub use exclusions::{
     check_exclusions, exclusions_are_read_again, no_exclusion_begins_another, read_exclusions,
     room_behind_exclusions, write_exclusions,
@@ -20,7 +20,7 @@ pub use hops::{
     strict_hop, write_hops,
 };
 pub use octets::{addr_len, put_addr, wide};
-pub use part::{Part, Spelled, build_parts, check_parts, room_behind_parts, write_parts};
+pub use part::{Part, Spelled, build_parts, check_parts};
 
 #[cfg(test)]
 mod tests;

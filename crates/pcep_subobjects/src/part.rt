@@ -85,7 +85,7 @@ pub fn build_parts<F, P: Part<F>>(
 }
 
 /// Appends the octets of parts, one behind the other. After a refusal `into` is as before.
-pub fn write_parts<P: Spelled>(
+pub(crate) fn write_parts<P: Spelled>(
     alloc: Global,
     list: &[P],
     into: &mut Vec<u8>,
@@ -103,7 +103,7 @@ pub fn write_parts<P: Spelled>(
 
 /// How many octets of a room are left behind parts; None exactly where they have no room. Takes no
 /// memory.
-pub fn room_behind_parts<P: Spelled>(list: &[P], room: usize) -> Option<usize>
+pub(crate) fn room_behind_parts<P: Spelled>(list: &[P], room: usize) -> Option<usize>
     ensures { IsLeftBehind (flat_map P.spelling list.now) room result }
 {
     let mut left = room;

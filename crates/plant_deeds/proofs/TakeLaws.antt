@@ -22,7 +22,8 @@ use Rattle.plant_model.specs.Names.{has_pair, the_parent}
 use Rattle.plant_model.specs.Wire.{Codec, Checked, Admitted, Wrong}
 use Rattle.plant_model.specs.Writing.{reply_message, unavailable, busy}
 use Rattle.plant_model.specs.Branches.{branches_in}
-use Rattle.plant_model.specs.Element.{Stage, Waits, Ready, fresh_id, Item, Row, Way, Element, Place, Taken, each, ended, at_stage, waiting, way_to, is_denied}
+use Rattle.disclosure.specs.Policy.{is_denied}
+use Rattle.plant_model.specs.Element.{Stage, Waits, Ready, fresh_id, Item, Row, Way, Element, Place, Taken, each, ended, at_stage, waiting, way_to}
 use Rattle.plant_model.specs.Taking.{item_of, sequence_or, goes_up, sent_on, send_on, take_along, take_path, take_wish, take_new, take_checked, take_asked, staged, answered, made_ready, take_answer, take_reply, told_busy, cancelled, take_busy, take_cancel, notice_steps, take_notice, error_answer, told_error, take_failure, take_errors, take_report, take}
 use Rattle.plant_members.specs.Owed.{count_by_asker, asked_in}
 use Rattle.plant_deeds.proofs.CountLaws.{one_if, for_each, for_each_is, count_push, count_removed, count_written}

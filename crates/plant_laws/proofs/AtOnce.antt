@@ -22,7 +22,8 @@ use Rattle.plant_text.specs.Names.{same_as, parent_as}
 use Rattle.plant_model.specs.Names.{the_parent}
 use Rattle.plant_model.specs.Wire.{Codec, Checked, Admitted, Wrong}
 use Rattle.plant_model.specs.Writing.{reply_message, unavailable, no_key}
-use Rattle.plant_model.specs.Element.{Element, Way, Place, Taken, way_to, is_denied, with_last, upped, downed}
+use Rattle.disclosure.specs.Policy.{is_denied}
+use Rattle.plant_model.specs.Element.{Element, Way, Place, Taken, way_to, with_last, upped, downed}
 use Rattle.plant_model.specs.Taking.{take, take_asked, take_checked, take_new, take_wish, take_along, send_on, sequence_or, goes_up, expansion}
 use Rattle.plant_model.specs.Parent as parent
 use Rattle.plant_model.specs.Parent.{Family, Parent, Given, Wait, Errand}

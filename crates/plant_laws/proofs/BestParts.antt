@@ -25,7 +25,8 @@ use Rattle.border_costs.specs.declared.job.Ask.{Ask}
 use Rattle.border_costs.specs.Asks.{beyond, target_seed, AreSeedsTo, IsPairTo}
 use Rattle.border_costs.specs.Solutions.{IsHead, GoesOver, IsBest}
 use Rattle.plant_model.specs.Names.{same_addr}
-use Rattle.plant_model.specs.Branches.{downs, better, first_least}
+use Rattle.vspt_tree.specs.Branches.{better, first_least}
+use Rattle.plant_model.specs.Branches.{downs}
 use Rattle.plant_laws.specs.Shown.{segment_of, IsChosenTo}
 use Rattle.border_costs.proofs.Members.{contains_none, contains_head, contains_tail, contains_cases}
 use Rattle.plant_laws.proofs.BorderJoins.{one_out}

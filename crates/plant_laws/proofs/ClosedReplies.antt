@@ -19,7 +19,8 @@ use Rattle.request_table.specs.declared.held.Held.{Held}
 use Rattle.plant_model.specs.declared.output.Output.{Output}
 use Rattle.plant_text.specs.declared.settings.NetworkParts.{NetworkParts}
 use Rattle.plant_model.specs.Wire.{Codec}
-use Rattle.plant_model.specs.Writing.{code, reply_message, no_path, busy}
+use Rattle.pcep_messages.specs.Requests.{type_of_metric}
+use Rattle.plant_model.specs.Writing.{reply_message, no_path, busy}
 use Rattle.plant_model.specs.Branches.{path_of, closed_branch, open_branch}
 use Rattle.plant_model.specs.Element.{Item, Element, Taken, is_client}
 use Rattle.plant_model.specs.Taking.{answered}
@@ -69,7 +70,7 @@ module _ (c : Codec) (n : NetworkParts) (d : As) (k : ℕ) (held : Held (Item Pi
     legs = way.legs;
     last = way.last;
     least = way.least;
-    metric = ap (λ (x : ℕ). let o : Option (ℕ × ℕ) = Some (code w.query.metric, c.word x) in o) way.sum;
+    metric = ap (λ (x : ℕ). let o : Option (ℕ × ℕ) = Some (type_of_metric w.query.metric, c.word x) in o) way.sum;
     shown = subst (λ (x : As). Shows n false w.query w.target (one ∷ chain) b.entry (closed_branch key.number (place n x).id w.target b down) way.legs way.last) own (way.closed key is_key stands);
   }
 
@@ -161,7 +162,7 @@ module _ (c : Codec) (n : NetworkParts) (d : As) (k : ℕ) (held : Held (Item Pi
     legs = way.legs;
     last = way.last;
     least = way.least;
-    metric = ap (λ (x : ℕ). let o : Option (ℕ × ℕ) = Some (code w.query.metric, c.word x) in o) way.sum;
+    metric = ap (λ (x : ℕ). let o : Option (ℕ × ℕ) = Some (type_of_metric w.query.metric, c.word x) in o) way.sum;
     shown = way.opened;
   }
 

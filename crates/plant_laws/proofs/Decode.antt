@@ -16,7 +16,8 @@ use Rattle.pcep_messages.specs.declared.message.Wanted.{Wanted}
 use Rattle.plant_model.specs.declared.output.Output.{Output}
 use Rattle.request_table.specs.Pending.{same_peer}
 use Rattle.plant_text.specs.Names.{parent_as}
-use Rattle.plant_model.specs.Writing.{as_hop, lspa, bandwidth, bound, iro, xro, needed, code, request_message}
+use Rattle.pcep_messages.specs.Requests.{type_of_metric}
+use Rattle.plant_model.specs.Writing.{as_hop, lspa, bandwidth, bound, iro, xro, needed, request_message}
 use Rattle.plant_laws.specs.Transcript.{put_into}
 use Rattle.plant_laws.proofs.Handing.{In, IsAsk}
 use Rattle.plant_laws.proofs.Sends.{NoneAsks}
@@ -99,12 +100,12 @@ sequence_of id w t l = first w.masks w.bandwidth_word
     last None = in_iro l w.query.exclusions
     last (Some word) = in_iro l w.query.exclusions
 
-    middle : (o : Option ℕ) → sequence_in (bandwidth o ++ needed 6 (bodies.Metric false true (code w.query.metric) 0) ∷ [] ++ bound w.query.metric w.bound_word ++ iro l ++ xro w.query.exclusions) ≡ l
+    middle : (o : Option ℕ) → sequence_in (bandwidth o ++ needed 6 (bodies.Metric false true (type_of_metric w.query.metric) 0) ∷ [] ++ bound w.query.metric w.bound_word ++ iro l ++ xro w.query.exclusions) ≡ l
     middle None = last w.bound_word
     middle (Some word) = last w.bound_word
 
     first : (o : Option (ℕ × ℕ × ℕ)) (b : Option ℕ) →
-        sequence_in (lspa o ++ bandwidth b ++ needed 6 (bodies.Metric false true (code w.query.metric) 0) ∷ [] ++ bound w.query.metric w.bound_word ++ iro l ++ xro w.query.exclusions) ≡ l
+        sequence_in (lspa o ++ bandwidth b ++ needed 6 (bodies.Metric false true (type_of_metric w.query.metric) 0) ∷ [] ++ bound w.query.metric w.bound_word ++ iro l ++ xro w.query.exclusions) ≡ l
     first None b = middle b
     first (Some m) b = middle b
 

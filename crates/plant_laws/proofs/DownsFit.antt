@@ -33,7 +33,7 @@ use Rattle.plant_model.specs.declared.output.Output.{Output}
 use Rattle.plant_model.specs.Wire.{Codec}
 use Rattle.plant_model.specs.Laws.{IsCodec}
 use Rattle.plant_model.specs.Branches.{branch_with, branch_at, branch_by, branch_of, branches_in}
-use Rattle.plant_model.specs.Writing.{code}
+use Rattle.pcep_messages.specs.Requests.{type_of_metric}
 use Rattle.plant_model.specs.State.{Takes}
 use Rattle.plant_model.specs.Settings.{place}
 use Rattle.plant_model.specs.Plant.{Segment, PlantDeed}
@@ -121,7 +121,7 @@ by_fits most hs (Some cost) fit = at_fits most cost hs hs fit
 
 branch_fits : (most : ℕ) (c : Codec) (m : Metric) (hs : List Hop) (o : Option (ℕ × ℕ)) → HopsFit most hs → BranchesFit most (branch_of c m hs o)
 branch_fits most c m hs None fit = tt
-branch_fits most c m hs (Some metric) fit = go (metric.0 == code m) (by_fits most hs (c.units metric.1) fit)
+branch_fits most c m hs (Some metric) fit = go (metric.0 == type_of_metric m) (by_fits most hs (c.units metric.1) fit)
   where
     go : (b : Bool) → BranchesFit most (branch_by hs (c.units metric.1)) → BranchesFit most (cond b (branch_by hs (c.units metric.1)) [])
     go true more = more

@@ -19,7 +19,8 @@ use Rattle.plant_model.specs.declared.output.Output.{Output}
 use Rattle.plant_model.specs.Names.{the_parent}
 use Rattle.plant_model.specs.Wire.{Codec, Checked, Admitted, Wrong}
 use Rattle.plant_model.specs.Writing.{request_message, reply_message, busy, unavailable}
-use Rattle.plant_model.specs.Element.{Stage, Waits, Ready, Item, Way, Element, Place, Taken, silent, only, fresh_id, way_to, is_denied}
+use Rattle.disclosure.specs.Policy.{is_denied}
+use Rattle.plant_model.specs.Element.{Stage, Waits, Ready, Item, Way, Element, Place, Taken, silent, only, fresh_id, way_to}
 use Rattle.plant_model.specs.Taking as taking
 use Rattle.plant_model.specs.Taking.{sequence_or, goes_up}
 use Rattle.plant_laws.specs.Transcript.{answers_to, Effect, Keeps, begins_if}

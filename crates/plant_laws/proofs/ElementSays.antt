@@ -24,7 +24,7 @@ use Rattle.pcep_messages.specs.declared.message.Wish.{Wish}
 use Rattle.pcep_messages.specs.declared.message.Wish.TheVariants.{Path, Expand}
 use Rattle.pcep_messages.specs.Spelling.{IsWritten}
 use Rattle.disclosure.specs.declared.class.Class.{Class}
-use Rattle.disclosure.specs.Policy.{can_expand}
+use Rattle.disclosure.specs.Policy.{is_denied, can_expand}
 use Rattle.request_table.specs.declared.held.Held.{Held}
 use Rattle.request_table.specs.Pending.{number_of, opened_of, same_peer, is_full}
 use Rattle.request_table.specs.Lends.{with_item}
@@ -37,7 +37,7 @@ use Rattle.plant_model.specs.Names.{same_addr, the_parent, has_pair}
 use Rattle.plant_model.specs.Wire.{Codec, Checked, Admitted, Wrong}
 use Rattle.plant_model.specs.Laws.{IsCodec, Admits, IsRequestInRange, CanBeSent, IsSequence, AreWords, HasNumbers}
 use Rattle.plant_model.specs.Writing.{request_message, reply_message, error_message, busy, unavailable, no_key}
-use Rattle.plant_model.specs.Element.{Item, Stage, Ready, Waits, Row, Way, Element, Place, Taken, each, way_to, with_last, with_up, upped, ticked, waiting, waits_for, at_stage, lost_of, is_lost, stays, after_id, pass_over, is_waiting, fresh_id, is_denied, is_client, lost_output, downed}
+use Rattle.plant_model.specs.Element.{Item, Stage, Ready, Waits, Row, Way, Element, Place, Taken, each, way_to, with_last, with_up, upped, ticked, waiting, waits_for, at_stage, lost_of, is_lost, stays, after_id, pass_over, is_waiting, fresh_id, is_client, lost_output, downed}
 use Rattle.plant_model.specs.Element as element
 use Rattle.plant_model.specs.Taking as taking
 use Rattle.plant_model.specs.Taking.{take, sequence_or, goes_up, error_answer}

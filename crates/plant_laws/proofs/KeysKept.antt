@@ -19,7 +19,8 @@ use Rattle.path_keys.specs.Keys.{Keys}
 use Rattle.plant_model.specs.Names.{the_parent, has_pair}
 use Rattle.plant_model.specs.Wire.{Codec, Checked, Admitted, Wrong}
 use Rattle.plant_model.specs.Writing.{reply_message, busy, unavailable}
-use Rattle.plant_model.specs.Element.{Ready, Row, Way, Element, Place, Taken, silent, only, each, ended, waiting, way_to, is_denied}
+use Rattle.disclosure.specs.Policy.{is_denied}
+use Rattle.plant_model.specs.Element.{Ready, Row, Way, Element, Place, Taken, silent, only, each, ended, waiting, way_to}
 use Rattle.plant_model.specs.Taking.{take, take_asked, take_checked, take_new, take_wish, take_path, take_along, goes_up, sequence_or, send_on, sent_on, denied, answered, staged, made_ready, take_answer, take_reply, told_busy, cancelled, take_busy, take_cancel, notice_steps, take_notice, told_error, take_failure, error_answer, take_errors, take_report}
 
 module _ (P : Type 0) (S : Type 0) (keys : Keys S) where

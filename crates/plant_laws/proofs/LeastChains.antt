@@ -25,7 +25,8 @@ use Rattle.plant_text.specs.declared.settings.NetworkParts.{NetworkParts}
 use Rattle.plant_model.specs.declared.output.Output.{Output}
 use Rattle.plant_text.specs.Names.{same_as, parent_as}
 use Rattle.plant_model.specs.Wire.{Codec, Admitted}
-use Rattle.plant_model.specs.Writing.{code, asked_of, request_message, vspt_flag}
+use Rattle.pcep_messages.specs.Requests.{type_of_metric}
+use Rattle.plant_model.specs.Writing.{asked_of, request_message, vspt_flag}
 use Rattle.plant_model.specs.Element.{is_client}
 use Rattle.plant_model.specs.Taking.{sequence_or, goes_up}
 use Rattle.plant_model.specs.Solving.{commit}
@@ -56,7 +57,7 @@ same_path c n chain w b rest e path p = record {
   legs = p.legs;
   last = p.last;
   least = along_free w.query b (domains chain) e w.target p.legs p.last p.least;
-  metric = p.metric ∙ ap (λ (x : ℕ). let o : Option (ℕ × ℕ) = Some (code w.query.metric, c.word x) in o) (crossing_free w.query b p.legs p.last);
+  metric = p.metric ∙ ap (λ (x : ℕ). let o : Option (ℕ × ℕ) = Some (type_of_metric w.query.metric, c.word x) in o) (crossing_free w.query b p.legs p.last);
   shown = shows_free w.query b n w.target false chain e path.hops p.legs p.last p.shown;
 }
 

@@ -28,7 +28,8 @@ use Rattle.plant_model.specs.Names.{has_pair, the_parent}
 use Rattle.plant_model.specs.Wire.{Codec, Checked, Admitted, Wrong}
 use Rattle.plant_model.specs.Writing.{error_message, reply_message, unavailable, busy, request_message, no_path}
 use Rattle.plant_model.specs.Branches.{branches_in, open_branch, path_of}
-use Rattle.plant_model.specs.Element.{Waits, Ready, Element, Item, Row, Way, Place, Taken, silent, only, each, way_to, is_denied, waiting, at_stage, fresh_id, with_last, is_client, lost, lost_of, lost_output, is_lost, stays, waits_on, downed}
+use Rattle.disclosure.specs.Policy.{is_denied}
+use Rattle.plant_model.specs.Element.{Waits, Ready, Element, Item, Row, Way, Place, Taken, silent, only, each, way_to, waiting, at_stage, fresh_id, with_last, is_client, lost, lost_of, lost_output, is_lost, stays, waits_on, downed}
 use Rattle.plant_model.specs.Taking.{take, take_asked, take_checked, take_new, take_wish, take_path, take_along, send_on, item_of, sequence_or, goes_up, expansion, answered, staged, take_reply, take_answer, made_ready, take_notice, notice_steps, take_busy, take_cancel, told_busy, cancelled, take_report, take_errors, take_failure, told_error, error_answer}
 use Rattle.vspt_tree.specs.declared.branch.Best.{Best}
 use Rattle.vspt_tree.specs.declared.branch.Branch.{Branch}

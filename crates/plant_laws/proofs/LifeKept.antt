@@ -10,6 +10,7 @@ use Rattle.plant_model.specs.declared.output.Output.{Output}
 use Rattle.plant_text.specs.Names.{same_as, parent_as}
 use Rattle.plant_model.specs.Names.{the_parent, set_as}
 use Rattle.plant_model.specs.Wire.{Codec}
+use Rattle.disclosure.specs.Policy.{is_denied}
 use Rattle.plant_model.specs.Element.{Element, Row, upped, downed}
 use Rattle.plant_model.specs.Taking.{take}
 use Rattle.plant_model.specs.Solving.{commit}

@@ -27,7 +27,8 @@ use Rattle.plant_model.specs.Names.{has_pair, the_parent}
 use Rattle.plant_model.specs.Wire.{Codec, Checked, Admitted, Wrong}
 use Rattle.plant_model.specs.Laws.{Admits}
 use Rattle.plant_model.specs.Writing.{request_message, error_message, reply_message, unavailable}
-use Rattle.plant_model.specs.Element.{Stage, Waits, Ready, Item, Row, Way, Element, Place, Taken, each, is_ready, is_waiting, waits_for, waiting, after_id, pass_over, fresh_id, way_to, with_last, with_up, is_denied, is_client}
+use Rattle.disclosure.specs.Policy.{is_denied}
+use Rattle.plant_model.specs.Element.{Stage, Waits, Ready, Item, Row, Way, Element, Place, Taken, each, is_ready, is_waiting, waits_for, waiting, after_id, pass_over, fresh_id, way_to, with_last, with_up, is_client}
 use Rattle.plant_model.specs.Taking as taking
 use Rattle.plant_model.specs.Taking.{take, sequence_or, goes_up, error_answer}
 use Rattle.plant_model.specs.Solving as solving

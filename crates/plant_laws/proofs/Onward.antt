@@ -23,7 +23,8 @@ use Rattle.plant_model.specs.declared.output.Lost.{Lost}
 use Rattle.plant_model.specs.Names.{the_parent, has_pair}
 use Rattle.plant_model.specs.Wire.{Codec, Checked, Admitted, Wrong}
 use Rattle.plant_model.specs.Writing.{request_message, reply_message, error_message, busy, unavailable}
-use Rattle.plant_model.specs.Element.{Row, Way, Element, Place, Taken, silent, only, each, waiting, fresh_id, way_to, with_last, with_up, is_denied, is_client, lost_output}
+use Rattle.disclosure.specs.Policy.{is_denied}
+use Rattle.plant_model.specs.Element.{Row, Way, Element, Place, Taken, silent, only, each, waiting, fresh_id, way_to, with_last, with_up, is_client, lost_output}
 use Rattle.plant_model.specs.Taking.{take, take_asked, take_checked, take_new, take_wish, take_path, take_along, send_on, sequence_or, goes_up, answered, take_reply, take_answer, made_ready, take_notice, notice_steps, take_busy, take_cancel, told_busy, cancelled, take_report, take_errors, take_failure, told_error, error_answer}
 use Rattle.plant_model.specs.Solving.{commit, client_reply, closed_reply, free}
 use Rattle.plant_model.specs.Parent.{last_to}

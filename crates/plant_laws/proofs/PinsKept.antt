@@ -23,7 +23,8 @@ use Rattle.vspt_tree.specs.declared.branch.Branch.{Branch}
 use Rattle.plant_model.specs.Names.{has_pair, the_parent}
 use Rattle.plant_model.specs.Wire.{Codec, Checked, Admitted, Wrong}
 use Rattle.plant_model.specs.Writing.{reply_message, unavailable, busy}
-use Rattle.plant_model.specs.Element.{Ready, Item, Row, Way, Element, Place, Taken, each, at_stage, waiting, waits_for, way_to, stays, downed, is_denied, is_client}
+use Rattle.disclosure.specs.Policy.{is_denied}
+use Rattle.plant_model.specs.Element.{Ready, Item, Row, Way, Element, Place, Taken, each, at_stage, waiting, waits_for, way_to, stays, downed, is_client}
 use Rattle.plant_model.specs.Branches.{branches_in}
 use Rattle.plant_model.specs.Taking.{sequence_or, goes_up, send_on, take_along, take_path, take_wish, take_new, take_checked, take_asked, answered, made_ready, take_answer, take_reply, told_busy, cancelled, take_busy, take_cancel, notice_steps, take_notice, error_answer, told_error, take_failure, take_errors, take_report, take}
 use Rattle.plant_model.specs.Solving.{commit, client_reply, closed_reply, closed_paths, issued_all, free}

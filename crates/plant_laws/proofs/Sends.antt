@@ -23,7 +23,8 @@ use Rattle.plant_model.specs.declared.output.Lost.{Lost}
 use Rattle.plant_text.specs.Names.{same_as, parent_as}
 use Rattle.plant_model.specs.Names.{has_pair, the_parent}
 use Rattle.plant_model.specs.Wire.{Codec, Checked, Admitted, Wrong}
-use Rattle.plant_model.specs.Element.{Element, Row, Way, Place, Taken, each, way_to, is_denied, is_client, lost, lost_output, downed, waiting, upped}
+use Rattle.disclosure.specs.Policy.{is_denied}
+use Rattle.plant_model.specs.Element.{Element, Row, Way, Place, Taken, each, way_to, is_client, lost, lost_output, downed, waiting, upped}
 use Rattle.plant_model.specs.Taking.{take, take_asked, take_checked, take_new, take_wish, take_path, take_along, send_on, sequence_or, goes_up, take_reply, take_answer, made_ready, take_notice, notice_steps, take_busy, take_cancel, told_busy, cancelled, take_report, take_errors, take_failure, told_error, error_answer}
 use Rattle.plant_model.specs.Writing.{error_message, reply_message, unavailable}
 use Rattle.plant_model.specs.Solving.{commit, closed_reply}

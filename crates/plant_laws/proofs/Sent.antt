@@ -27,7 +27,8 @@ use Rattle.plant_text.specs.Names.{same_as, parent_as}
 use Rattle.plant_model.specs.Names.{the_parent, has_pair}
 use Rattle.plant_model.specs.Wire.{Codec, Checked, Admitted, Wrong}
 use Rattle.plant_model.specs.Writing.{request_message, reply_message, error_message, busy, unavailable, no_key}
-use Rattle.plant_model.specs.Element.{Row, Way, Element, Place, Taken, each, way_to, with_last, upped, waiting, is_denied, is_client, lost_output, downed}
+use Rattle.disclosure.specs.Policy.{is_denied}
+use Rattle.plant_model.specs.Element.{Row, Way, Element, Place, Taken, each, way_to, with_last, upped, waiting, is_client, lost_output, downed}
 use Rattle.plant_model.specs.Taking as taking
 use Rattle.plant_model.specs.Taking.{take, sequence_or, goes_up, error_answer}
 use Rattle.plant_model.specs.Solving.{commit, client_reply, closed_reply, free}

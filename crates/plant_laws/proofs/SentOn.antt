@@ -18,7 +18,8 @@ use Rattle.plant_model.specs.declared.output.Output.{Output}
 use Rattle.plant_model.specs.Names.{the_parent, same_id}
 use Rattle.plant_model.specs.Wire.{Codec, Checked, Admitted, Wrong}
 use Rattle.plant_model.specs.Writing.{request_message, busy}
-use Rattle.plant_model.specs.Element.{Stage, Waits, Ready, Item, Row, Way, Element, Place, Taken, silent, only, waits_for, is_waiting, fresh_id, way_to, is_denied}
+use Rattle.disclosure.specs.Policy.{is_denied}
+use Rattle.plant_model.specs.Element.{Stage, Waits, Ready, Item, Row, Way, Element, Place, Taken, silent, only, waits_for, is_waiting, fresh_id, way_to}
 use Rattle.plant_model.specs.Taking as taking
 use Rattle.plant_model.specs.Taking.{take, sequence_or, goes_up}
 use Rattle.plant_laws.proofs.Decompose.{nil_right}

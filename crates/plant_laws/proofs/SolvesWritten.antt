@@ -34,8 +34,10 @@ use Rattle.plant_model.specs.Names.{same_addr}
 use Rattle.plant_model.specs.Rising.{has_addr, insert_addr}
 use Rattle.plant_model.specs.Wire.{Codec}
 use Rattle.plant_model.specs.Laws.{IsCodec, IsNetwork, IsElement, AreWords}
-use Rattle.plant_model.specs.Writing.{code, no_path, reply_message}
-use Rattle.plant_model.specs.Branches.{better, first_least, hops_of, onward, open_branch, end_of, path_of}
+use Rattle.pcep_messages.specs.Requests.{type_of_metric}
+use Rattle.plant_model.specs.Writing.{no_path, reply_message}
+use Rattle.vspt_tree.specs.Branches.{better, first_least}
+use Rattle.plant_model.specs.Branches.{hops_of, onward, open_branch, end_of, path_of}
 use Rattle.plant_model.specs.Jobs.{entry_nodes, entries_of}
 use Rattle.plant_model.specs.Element.{Item, Row, Element, Place, Taken, is_client}
 use Rattle.plant_model.specs.Solving.{commit, client_reply, closed_reply, closed_paths, free}
@@ -146,7 +148,7 @@ onward_fits exit (Some head) down is all = go (first_least head down) (first_fit
 
 -- ---- the paths of a solve
 
-pub metric_fits : (c : Codec) → IsCodec c → (m : Metric) (cost : ℕ) → cost ≤ COST_MAX → MetricFits (Some (code m, c.word cost))
+pub metric_fits : (c : Codec) → IsCodec c → (m : Metric) (cost : ℕ) → cost ≤ COST_MAX → MetricFits (Some (type_of_metric m, c.word cost))
 metric_fits c codec Igp cost le = (omega arith, codec.words cost le)
 metric_fits c codec Te cost le = (omega arith, codec.words cost le)
 metric_fits c codec Hops cost le = (omega arith, codec.words cost le)

@@ -24,7 +24,8 @@ use Rattle.plant_model.specs.declared.output.Output.{Output}
 use Rattle.plant_model.specs.Names.{the_parent}
 use Rattle.plant_model.specs.Wire.{Codec, Checked, Admitted, Wrong}
 use Rattle.plant_model.specs.Writing.{reply_message, error_message, request_message, unavailable, busy}
-use Rattle.plant_model.specs.Element.{Item, Row, Way, Element, Place, Taken, each, waiting, waits_for, way_to, fresh_id, is_denied}
+use Rattle.disclosure.specs.Policy.{is_denied}
+use Rattle.plant_model.specs.Element.{Item, Row, Way, Element, Place, Taken, each, waiting, waits_for, way_to, fresh_id}
 use Rattle.plant_model.specs.Taking.{goes_up, sequence_or, send_on, take_along, take_path, take_wish, take_new, take_checked, take_asked, take_answer, take_reply, made_ready, answered, expansion}
 use Rattle.plant_model.specs.Plant.{Pin, Segment}
 use Rattle.border_costs.proofs.Members.{contains_none}

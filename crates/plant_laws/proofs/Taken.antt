@@ -23,7 +23,8 @@ use Rattle.plant_model.specs.Names.{the_parent}
 use Rattle.plant_model.specs.Wire.{Codec, Checked, Admitted}
 use Rattle.plant_model.specs.Writing.{error_message, reply_message, unavailable, busy, request_message}
 use Rattle.plant_model.specs.Branches.{branches_in}
-use Rattle.plant_model.specs.Element.{Stage, Waits, Ready, Element, Item, Row, Way, Place, Taken, silent, only, is_client, way_to, is_denied, waiting, waits_for, at_stage, fresh_id, with_last}
+use Rattle.disclosure.specs.Policy.{is_denied}
+use Rattle.plant_model.specs.Element.{Stage, Waits, Ready, Element, Item, Row, Way, Place, Taken, silent, only, is_client, way_to, waiting, waits_for, at_stage, fresh_id, with_last}
 use Rattle.plant_model.specs.Taking.{take, take_asked, take_checked, take_new, take_path, take_along, send_on, item_of, sequence_or, goes_up, answered, staged, take_answer, made_ready, told_busy, take_failure}
 use Rattle.plant_laws.proofs.Handing.{In}
 use Rattle.plant_laws.proofs.Counting.{waiting_in}

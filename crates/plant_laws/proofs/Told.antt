@@ -22,7 +22,7 @@ use Rattle.border_costs.specs.Asks.{beyond}
 use Rattle.plant_text.specs.declared.settings.NetworkParts.{NetworkParts}
 use Rattle.plant_text.specs.Names.{same_as}
 use Rattle.plant_model.specs.Wire.{Codec}
-use Rattle.plant_model.specs.Writing.{code}
+use Rattle.pcep_messages.specs.Requests.{type_of_metric}
 use Rattle.plant_model.specs.Branches.{downs, branch_at, branch_by, branch_of, branches_in}
 use Rattle.plant_model.specs.Laws.{IsCodec}
 use Rattle.plant_laws.specs.Transcript.{Leg, pinned, domains}
@@ -74,9 +74,9 @@ node_of_entry d (e ∷ es) n h = go (same_as e.from_as d) refl (λ h'. node_of_e
 
 -- a path with this metric and first hop is read as a branch
 pub branch_made : (c : Codec) (m : Metric) (cost : ℕ) → c.units (c.word cost) ≡ Some cost → cost ≤ COST_MAX → (e : Addr) (hs rest : List Hop) → hs ≡ strict_hop e ∷ rest →
-    branch_of c m hs (Some (code m, c.word cost)) ≡ record { entry = e; cost = cost; hops = hs } ∷ []
+    branch_of c m hs (Some (type_of_metric m, c.word cost)) ≡ record { entry = e; cost = cost; hops = hs } ∷ []
 branch_made c m cost units le e hs rest is =
-    ap (λ (b : Bool). cond b (branch_by hs (c.units (c.word cost))) []) (eq-eqb (code m) (code m) refl)
+    ap (λ (b : Bool). cond b (branch_by hs (c.units (c.word cost))) []) (eq-eqb (type_of_metric m) (type_of_metric m) refl)
     ∙ ap (λ (o : Option ℕ). branch_by hs o) units
     ∙ ap (λ (l : List Hop). branch_at cost hs l) is
     ∙ ap (λ (b : Bool). cond b (record { entry = e; cost = cost; hops = hs } ∷ []) []) (le-leb cost COST_MAX le)

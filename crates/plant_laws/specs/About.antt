@@ -22,7 +22,8 @@ use Rattle.plant_model.specs.declared.upper.ChildRow.{ChildRow}
 use Rattle.plant_model.specs.declared.upper.BorderJob.{BorderJob}
 use Rattle.plant_text.specs.Names.{parent_as}
 use Rattle.plant_model.specs.Wire.{Codec}
-use Rattle.plant_model.specs.Writing.{code, request_message}
+use Rattle.pcep_messages.specs.Requests.{type_of_metric}
+use Rattle.plant_model.specs.Writing.{request_message}
 use Rattle.plant_model.specs.Branches.{branches_in}
 use Rattle.plant_model.specs.Taking.{sequence_or, goes_up}
 use Rattle.plant_model.specs.BorderGraph.{SolvesBorder, Found}
@@ -129,5 +130,5 @@ pub record IsLeastPath (c : Codec) (n : NetworkParts) (open' : Bool) (domains : 
   pub legs : List crossing.Leg
   pub last : List Link
   pub least : IsLeastAlong w.query domains from w.target legs last
-  pub metric : path.metric ≡ Some (code w.query.metric, c.word (crossing_cost w.query legs last))
+  pub metric : path.metric ≡ Some (type_of_metric w.query.metric, c.word (crossing_cost w.query legs last))
   pub shown : Shows n open' w.query w.target chain from path.hops legs last

@@ -12,6 +12,7 @@ use Rattle.pcep_messages.specs.declared.message.Wish.TheVariants as wishes
 use Rattle.disclosure.specs.Policy.{can_expand}
 use Rattle.disclosure.specs.Shown.{open_of}
 use Rattle.path_keys.specs.declared.issued.Issued.{Issued}
+use Rattle.path_keys.specs.Keys.{number_most}
 use Rattle.plant_text.specs.declared.settings.NetworkParts.{NetworkParts}
 use Rattle.plant_model.specs.declared.output.Output.{Output}
 use Rattle.plant_text.specs.Names.{same_as, parent_as}
@@ -84,4 +85,4 @@ ExpandsRightly = InShortRuns ExpandsRightlyIn
 abbrev pub KeysDiffer : Type 0
 KeysDiffer = (c : Codec) (n : NetworkParts) → IsNetwork n → (es : List Entry) (s : Plant) → Run c n es s →
     (d : As) (k : ℕ) (os : List Output) (keys : List (Issued Segment)) (older : Transcript) → Within (Solves d k os keys ∷ older) (deeds_of c n es) →
-    AllPairs (λ x y. x.number ≢ y.number) keys × All (λ x. (1 ≤ x.number) × (x.number ≤ 65535)) keys
+    AllPairs (λ x y. x.number ≢ y.number) keys × All (λ x. (1 ≤ x.number) × (x.number ≤ number_most)) keys

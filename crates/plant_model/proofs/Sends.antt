@@ -34,11 +34,11 @@ use Rattle.pcep_messages.specs.Groups.{is_rp, rp_in}
 use Rattle.pcep_messages.specs.Messages.{message_of}
 use Rattle.pcep_messages.specs.Said.{rp_of, end_points_in, end_points_of, bandwidth_in, masks_in, metric_in, metrics_of, xro_in, xro_of, iro_in, iro_of}
 use Rattle.pcep_messages.specs.Refusals.{has_no_number, domains}
-use Rattle.pcep_messages.specs.Requests.{without_bit, bound_of, demands_of, sequence_of}
+use Rattle.pcep_messages.specs.Requests.{type_of_metric, without_bit, bound_of, demands_of, sequence_of}
 use Rattle.pcep_messages.specs.Spelling.{BeginsRequest, objects_in, content_text, message_text}
 use Rattle.plant_model.specs.Wire.{Bytes}
 use Rattle.pcep_subobjects.specs.Subobjects.{AreOctets}
-use Rattle.plant_model.specs.Writing.{as_hop, code, needed, ends, lspa, bandwidth, bound, iro, xro, asked_of, request_message, vspt_flag}
+use Rattle.plant_model.specs.Writing.{as_hop, needed, ends, lspa, bandwidth, bound, iro, xro, asked_of, request_message, vspt_flag}
 use Rattle.plant_model.specs.RealWire.{message_or_none, wire}
 use Rattle.plant_model.specs.Laws.{Admits, IsRequestInRange, CanBeSent}
 use Rattle.plant_model.proofs.Admitted.{IsAdmitted, admitted_is}
@@ -199,7 +199,7 @@ joined n k xs ys a b = record {
 zero_word : IsWord 0
 zero_word = (refl, omega arith)
 
-code_fits : (m : Metric) → code m < 256
+code_fits : (m : Metric) → type_of_metric m < 256
 code_fits Igp = omega arith
 code_fits Te = omega arith
 code_fits Hops = omega arith
@@ -241,7 +241,7 @@ bandwidth_part : (o : Option ℕ) → Maybe IsWord o → IsPart 8 (bandwidth o)
 bandwidth_part None h = nothing 8
 bandwidth_part (Some word) h = record { written = (record { class = omega arith; octets = tt; kind = omega arith; placed = (refl, refl); fits = h; small = omega arith }, tt); short = omega arith; no_rp = refl }
 
-metric_part : (b c : Bool) (m : Metric) (word : ℕ) → IsWord word → IsPart 12 (needed 6 (bodies.Metric b c (code m) word) ∷ [])
+metric_part : (b c : Bool) (m : Metric) (word : ℕ) → IsWord word → IsPart 12 (needed 6 (bodies.Metric b c (type_of_metric m) word) ∷ [])
 metric_part b c m word h = record { written = (record { class = omega arith; octets = code_fits m; kind = omega arith; placed = (refl, refl); fits = h; small = omega arith }, tt); short = omega arith; no_rp = refl }
 
 bound_part : (m : Metric) (o : Option ℕ) → Maybe IsWord o → IsPart 12 (bound m o)
@@ -319,7 +319,7 @@ can_be_sent w from id t s at_id at_t alike few all =
         joined 36 (20 + (8 + (12 + (12 + (68 + 64520))))) (ends w.source t ∷ []) (lspa w.masks ++ after_lspa id w t s) (ends_part w.source t from.ends.0 at_t alike)
         (joined 20 (8 + (12 + (12 + (68 + 64520)))) (lspa w.masks) (after_lspa id w t s) (lspa_part w.masks from.masks)
         (joined 8 (12 + (12 + (68 + 64520))) (bandwidth w.bandwidth_word) _ (bandwidth_part w.bandwidth_word from.bandwidth)
-        (joined 12 (12 + (68 + 64520)) (needed 6 (bodies.Metric false true (code w.query.metric) 0) ∷ []) _ (metric_part false true w.query.metric 0 zero_word)
+        (joined 12 (12 + (68 + 64520)) (needed 6 (bodies.Metric false true (type_of_metric w.query.metric) 0) ∷ []) _ (metric_part false true w.query.metric 0 zero_word)
         (joined 12 (68 + 64520) (bound w.query.metric w.bound_word) _ (bound_part w.query.metric w.bound_word from.bound)
         (joined 68 64520 (iro s) (xro w.query.exclusions) (iro_part s few all) (xro_part w.query.exclusions from.few from.exclusions))))))
 

@@ -25,10 +25,10 @@ use Rattle.pcep_messages.specs.Groups.{first_said}
 use Rattle.pcep_messages.specs.Said.{end_points_of, bandwidth_in, bandwidth_of, masks_in, masks_of, metric_in, metrics_of, iro_in, iro_of, xro_in, xro_of}
 use Rattle.pcep_codes.specs.declared.errors.TheConstants as errors
 use Rattle.pcep_messages.specs.Refusals.{Reason, because, first_of, request_rules, path_rules, unsupported, unsupported_among, is_optional, asked_type, is_bound, is_minimised, are_measures, can_exclude, can_follow, refusal_of, is_domain, domains, has_twice, among}
-use Rattle.pcep_messages.specs.Requests.{metric_of_type, bound_of, cap_of, units_of, demands_of, query_of, sequence_of, without_bit, wanted_of}
+use Rattle.pcep_messages.specs.Requests.{type_of_metric, metric_of_type, bound_of, cap_of, units_of, demands_of, query_of, sequence_of, without_bit, wanted_of}
 use Rattle.walk_laws.specs.Crossing.{query_in}
 use Rattle.plant_text.specs.Names.{parent_as}
-use Rattle.plant_model.specs.Writing.{as_hop, code, needed, ends, ends_kind, lspa, bandwidth, bound, iro, xro, asked_of, vspt_flag}
+use Rattle.plant_model.specs.Writing.{as_hop, needed, ends, ends_kind, lspa, bandwidth, bound, iro, xro, asked_of, vspt_flag}
 use Rattle.plant_model.specs.Wire.{Checked, Wrong}
 use Rattle.plant_model.specs.RealWire.{check_of, wire}
 use Rattle.plant_model.specs.Laws.{Admits, IsSequence}
@@ -166,7 +166,7 @@ module _ {X : Type 0} (what : Body → Option X) where
 
   silent_bound : ((b c : Bool) (k n : ℕ) → what (bodies.Metric b c k n) ≡ None) → (m : Metric) (o : Option ℕ) → first_said what (bound m o) ≡ None
   silent_bound none m None = refl
-  silent_bound none m (Some word) = ap (λ r. option_or r None) (none true false (code m) word)
+  silent_bound none m (Some word) = ap (λ r. option_or r None) (none true false (type_of_metric m) word)
 
   silent_iro : ((route : List Hop) → what (bodies.Iro route) ≡ None) → (s : List As) → first_said what (iro s) ≡ None
   silent_iro none [] = refl
@@ -186,7 +186,7 @@ xro_said (x ∷ xs) = Some (x ∷ xs)
 
 abbrev bound_said : Metric → Option ℕ → List (Bool × ℕ × ℕ)
 bound_said m None = []
-bound_said m (Some word) = (true, code m, word) ∷ []
+bound_said m (Some word) = (true, type_of_metric m, word) ∷ []
 
 -- ---- sequences
 
@@ -243,12 +243,12 @@ can_go next rest is =
 
 -- ---- measures
 
-metric_back : (m : Metric) → metric_of_type (code m) ≡ m
+metric_back : (m : Metric) → metric_of_type (type_of_metric m) ≡ m
 metric_back Igp = refl
 metric_back Te = refl
 metric_back Hops = refl
 
-bound_back : (m : Metric) (o : Option ℕ) → bound_of ((false, code m, 0) ∷ bound_said m o) ≡ o
+bound_back : (m : Metric) (o : Option ℕ) → bound_of ((false, type_of_metric m, 0) ∷ bound_said m o) ≡ o
 bound_back m None = refl
 bound_back m (Some word) = refl
 
@@ -260,7 +260,7 @@ bounds_in : Option ℕ → ℕ
 bounds_in None = 0
 bounds_in (Some word) = 1
 
-is_measured : (m : Metric) (o : Option ℕ) → measured ((false, code m, 0) ∷ bound_said m o) (bounds_in o) 1 ≡ true
+is_measured : (m : Metric) (o : Option ℕ) → measured ((false, type_of_metric m, 0) ∷ bound_said m o) (bounds_in o) 1 ≡ true
 unfolding bounds_in
 is_measured Igp None = refl
 is_measured Te None = refl
@@ -313,7 +313,7 @@ module _ (id : ℕ) (w : Wanted) (t : Addr) (s : List As) where
   after_bound = iro s ++ xro w.query.exclusions
 
   abbrev after_bandwidth : List Object
-  after_bandwidth = needed 6 (bodies.Metric false true (code m) 0) ∷ (bound m w.bound_word ++ after_bound)
+  after_bandwidth = needed 6 (bodies.Metric false true (type_of_metric m) 0) ∷ (bound m w.bound_word ++ after_bound)
 
   abbrev pub after_lspa : List Object
   after_lspa = bandwidth w.bandwidth_word ++ after_bandwidth
@@ -378,12 +378,12 @@ module _ (id : ℕ) (w : Wanted) (t : Addr) (s : List As) where
       alone [] = refl
       alone (x ∷ l) = refl
 
-  metrics_are : metrics_of os ≡ (false, code m, 0) ∷ bound_said m w.bound_word
+  metrics_are : metrics_of os ≡ (false, type_of_metric m, 0) ∷ bound_said m w.bound_word
   metrics_are =
       ap metrics_of flat
       ∙ behind (lspa w.masks) after_lspa (no_lspa w.masks)
       ∙ behind (bandwidth w.bandwidth_word) after_bandwidth (no_bandwidth w.bandwidth_word)
-      ∙ ap (λ l. (false, code m, 0) ∷ l) (filter_map-append (λ o. metric_in o.body) (bound m w.bound_word) after_bound
+      ∙ ap (λ l. (false, type_of_metric m, 0) ∷ l) (filter_map-append (λ o. metric_in o.body) (bound m w.bound_word) after_bound
       ∙ ap (λ l. metrics_of (bound m w.bound_word) ++ l) (behind (iro s) (xro w.query.exclusions) (no_iro s) ∙ no_xro w.query.exclusions)
       ∙ append-nil (metrics_of (bound m w.bound_word))
       ∙ alone w.bound_word)
@@ -419,7 +419,7 @@ module _ (id : ℕ) (w : Wanted) (t : Addr) (s : List As) where
       ∙ counted_behind is_bound (ends w.source t ∷ []) (lspa w.masks ++ after_lspa) refl
       ∙ counted_behind is_bound (lspa w.masks) after_lspa (no_lspa w.masks)
       ∙ counted_behind is_bound (bandwidth w.bandwidth_word) after_bandwidth (no_bandwidth w.bandwidth_word)
-      ∙ counted_behind is_bound (needed 6 (bodies.Metric false true (code m) 0) ∷ []) (bound m w.bound_word ++ after_bound) refl
+      ∙ counted_behind is_bound (needed 6 (bodies.Metric false true (type_of_metric m) 0) ∷ []) (bound m w.bound_word ++ after_bound) refl
       ∙ sum_by-append (λ o. cond (is_bound o) 1 0) (bound m w.bound_word) after_bound
       ∙ ap (λ k. count_by is_bound (bound m w.bound_word) + k) (counted_behind is_bound (iro s) (xro w.query.exclusions) (no_iro s) ∙ no_xro w.query.exclusions)
       ∙ alone w.bound_word
@@ -452,7 +452,7 @@ module _ (id : ℕ) (w : Wanted) (t : Addr) (s : List As) where
       ∙ counted_behind is_minimised (ends w.source t ∷ []) (lspa w.masks ++ after_lspa) refl
       ∙ counted_behind is_minimised (lspa w.masks) after_lspa (no_lspa w.masks)
       ∙ counted_behind is_minimised (bandwidth w.bandwidth_word) after_bandwidth (no_bandwidth w.bandwidth_word)
-      ∙ one_more is_minimised (needed 6 (bodies.Metric false true (code m) 0)) (bound m w.bound_word ++ after_bound)
+      ∙ one_more is_minimised (needed 6 (bodies.Metric false true (type_of_metric m) 0)) (bound m w.bound_word ++ after_bound)
       ∙ ap (λ k. 1 + k) (counted_behind is_minimised (bound m w.bound_word) after_bound (no_bound w.bound_word)
       ∙ counted_behind is_minimised (iro s) (xro w.query.exclusions) (no_iro s) ∙ no_xro w.query.exclusions)
     where
@@ -479,8 +479,8 @@ module _ (id : ℕ) (w : Wanted) (t : Addr) (s : List As) where
   measures_fit : are_measures os ≡ true
   measures_fit =
       ap (λ ms. measured ms (count_by is_bound os) (count_by is_minimised os)) metrics_are
-      ∙ ap (λ k. measured ((false, code m, 0) ∷ bound_said m w.bound_word) k (count_by is_minimised os)) bounds_are
-      ∙ ap (λ k. measured ((false, code m, 0) ∷ bound_said m w.bound_word) (bounds_in w.bound_word) k) minimised_are
+      ∙ ap (λ k. measured ((false, type_of_metric m, 0) ∷ bound_said m w.bound_word) k (count_by is_minimised os)) bounds_are
+      ∙ ap (λ k. measured ((false, type_of_metric m, 0) ∷ bound_said m w.bound_word) (bounds_in w.bound_word) k) minimised_are
       ∙ is_measured m w.bound_word
 
   all_supported : (own : ℕ) → Serves own w.source t → unsupported_among own os ≡ None
@@ -567,7 +567,7 @@ module _ (id : ℕ) (w : Wanted) (t : Addr) (s : List As) where
     asks_same : query_of next.0 os ≡ query_in w.query next
     asks_same =
         ap (λ ms. query_by next (metric_of_type (asked_type ms)) (bound_of ms) (bandwidth_of os) (masks_of os) (demands_of (xro_of os))) metrics_are
-        ∙ ap (λ k. query_by next k (bound_of ((false, code m, 0) ∷ bound_said m w.bound_word)) (bandwidth_of os) (masks_of os) (demands_of (xro_of os))) (metric_back m)
+        ∙ ap (λ k. query_by next k (bound_of ((false, type_of_metric m, 0) ∷ bound_said m w.bound_word)) (bandwidth_of os) (masks_of os) (demands_of (xro_of os))) (metric_back m)
         ∙ ap (λ o. query_by next m o (bandwidth_of os) (masks_of os) (demands_of (xro_of os))) (bound_back m w.bound_word)
         ∙ ap (λ o. query_by next m w.bound_word o (masks_of os) (demands_of (xro_of os))) bandwidth_is
         ∙ ap (λ o. query_by next m w.bound_word w.bandwidth_word o (demands_of (xro_of os))) masks_are

@@ -16,6 +16,7 @@ use Rattle.plant_model.specs.declared.outcome.Refused.TheVariants.{NoSuchPeer, N
 use Rattle.plant_model.specs.declared.outcome.Outcome.TheVariants.{Done}
 use Rattle.plant_queues.specs.declared.sent.Sent.{Sent}
 use Rattle.plant_text.specs.declared.settings.NetworkParts.{NetworkParts}
+use Rattle.plant_text.specs.declared.limits.TheConstants.{ROW_ENTRIES_MAX}
 use Rattle.plant_model.specs.declared.event.Event.{Event}
 use Rattle.plant_model.specs.declared.event.Event.TheVariants as event
 use Rattle.plant_model.specs.declared.event.BlindEvent.{BlindEvent}
@@ -125,7 +126,7 @@ module _ (c : Codec) (n : NetworkParts) where
 -- The rows that the caller of a solve gives: each entry and far address once, in order, and few entries.
 pub record AreGivenRows (rows : List BorderRow) : Type 0 where
   pub order : AllPairs IsRowBefore rows
-  pub few : FewDifferent 65 (map (λ (r : BorderRow). r.entry) rows)
+  pub few : FewDifferent ROW_ENTRIES_MAX (map (λ (r : BorderRow). r.entry) rows)
   pub costs : All (λ (r : BorderRow). r.cost ≤ COST_MAX) rows
 
 abbrev pub IsBlindGiven : BlindEvent → Type 0

@@ -8,12 +8,12 @@ use Rattle.pcep_subobjects.specs.declared.hop.Hop.TheVariants.{Prefix, AsNumber,
 use Rattle.pcep_messages.specs.declared.message.Path.{Path}
 use Rattle.vspt_tree.specs.declared.branch.Branch.{Branch}
 use Rattle.vspt_tree.specs.declared.branch.Best.{Best}
+use Rattle.vspt_tree.specs.Branches.{first_least}
 use Rattle.border_costs.specs.declared.job.Down.{Down}
 use Rattle.pcep_subobjects.specs.Hops.{strict_hop}
 use Rattle.disclosure.specs.Shown.{open_of, closed_of}
-use Rattle.plant_model.specs.Names.{same_addr}
 use Rattle.plant_model.specs.Wire.{Codec}
-use Rattle.plant_model.specs.Writing.{code}
+use Rattle.pcep_messages.specs.Requests.{type_of_metric}
 
 -- A path gives a branch where its first hop is an address, its metric is of the asked type and its cost is one.
 abbrev pub branch_with : ℕ → List Hop → Addr → List Branch
@@ -32,7 +32,7 @@ branch_by hs (Some cost) = branch_at cost hs hs
 
 abbrev pub branch_of : Codec → Metric → List Hop → Option (ℕ × ℕ) → List Branch
 branch_of c m hs None = []
-branch_of c m hs (Some metric) = cond (metric.0 == code m) (branch_by hs (c.units metric.1)) []
+branch_of c m hs (Some metric) = cond (metric.0 == type_of_metric m) (branch_by hs (c.units metric.1)) []
 
 abbrev pub branches_in : Codec → Metric → List Path → List Branch
 branches_in c m [] = []
@@ -41,15 +41,6 @@ branches_in c m (p ∷ ps) = branch_of c m p.hops p.metric ++ branches_in c m ps
 -- what is beyond the border, to a search
 abbrev pub downs : List Branch → List Down
 downs branches = map (λ b. record { node = b.entry; cost = b.cost }) branches
-
--- the first of least cost among the branches of a node
-abbrev pub better : Branch → Option Branch → Option Branch
-better b None = Some b
-better b (Some other) = cond (nat_lt other.cost b.cost) (Some other) (Some b)
-
-abbrev pub first_least : Addr → List Branch → Option Branch
-first_least n [] = None
-first_least n (b ∷ bs) = cond (same_addr b.entry n) (better b (first_least n bs)) (first_least n bs)
 
 abbrev pub hops_of : Option Branch → List Hop
 hops_of None = []
@@ -74,4 +65,4 @@ abbrev pub closed_branch : ℕ → Addr → Addr → Best → List Branch → Li
 closed_branch key pce target b down = closed_of b.entry key pce (end_of b.head target) ++ onward b.exit b.head down
 
 abbrev pub path_of : Codec → Metric → ℕ → List Hop → Path
-path_of c m cost hs = record { hops = hs; metric = Some (code m, c.word cost) }
+path_of c m cost hs = record { hops = hs; metric = Some (type_of_metric m, c.word cost) }

@@ -175,16 +175,6 @@ next_lost_of l = handed_lost l.element l.lost
 abbrev pub ticked : {P : Type 0} {S : Type 0} → ℕ → Element P S → Element P S
 ticked now k = record k { keys = expired_of k.keys now }
 
--- Policy: may a request of this class go on to the next domain. A client counts as 0, and no row is about a parent.
-abbrev pub denies : List Deny → As → As → Bool
-denies [] a b = false
-denies (row ∷ rows) a b = cond (same_as row.from a) (cond (same_as row.next b) true (denies rows a b)) (denies rows a b)
-
-abbrev pub is_denied : List Deny → Class → As → Bool
-is_denied deny (Client may) next = denies deny (record { 0 = 0 }) next
-is_denied deny (Neighbour a) next = denies deny a next
-is_denied deny Parent next = false
-
 abbrev pub is_client : Class → Bool
 is_client (Client may) = true
 is_client (Neighbour a) = false

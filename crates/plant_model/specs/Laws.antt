@@ -26,6 +26,8 @@ use Rattle.pcep_messages.specs.declared.message.Wish.TheVariants as wishes
 use Rattle.pcep_messages.specs.Spelling.{IsWritten, kind_of}
 use Rattle.pcep_framing.specs.Frames.{Framing, FeedsTo}
 use Rattle.plant_text.specs.declared.settings.NetworkParts.{NetworkParts}
+use Rattle.plant_text.specs.declared.limits.TheConstants.{ELEMENTS_MAX, PARENT_LINKS_MAX, KEY_LIFE_MAX}
+use Rattle.pcep_messages.specs.declared.limits.TheConstants.{SEQUENCE_MAX}
 use Rattle.plant_text.specs.declared.settings.ElementRow.{ElementRow}
 use Rattle.plant_text.specs.Names.{parent_as}
 use Rattle.plant_model.specs.Wire.{Bytes, Codec, Checked, Admitted, Wrong}
@@ -36,7 +38,7 @@ use Rattle.plant_model.specs.Plant.{IsLinkInRange}
 
 -- a sequence that begins with a domain: few, each once, and each the number of a domain
 pub record IsSequence (own : As) (rest : List As) : Type 0 where
-  pub few : length (own ∷ rest) ≤ 16
+  pub few : length (own ∷ rest) ≤ SEQUENCE_MAX
   pub differ : AllPairs (λ (a b : As). a ≢ b) (own ∷ rest)
   pub real : All (λ (a : As). 1 ≤ a.0) (own ∷ rest)
 
@@ -56,7 +58,7 @@ pub record IsRequestInRange (flags id : ℕ) (w : Wanted) : Type 0 where
 
 -- it can be sent on as bytes, under any id, to any end and along any sequence
 abbrev pub CanBeSent : Wanted → Type 0
-CanBeSent w = (id : ℕ) (t : Addr) (sequence : List As) → id < 2 ^ 32 → IsAddr t → bits_of w.source ≡ bits_of t → length sequence ≤ 16 → All (λ (a : As). a.0 < 2 ^ 16) sequence →
+CanBeSent w = (id : ℕ) (t : Addr) (sequence : List As) → id < 2 ^ 32 → IsAddr t → bits_of w.source ≡ bits_of t → length sequence ≤ SEQUENCE_MAX → All (λ (a : As). a.0 < 2 ^ 16) sequence →
     IsWritten (request_message id w t sequence)
 
 -- flags and an id have 32 bits
@@ -132,17 +134,17 @@ pub record IsElement (a : ElementRow) : Type 0 where
   pub own : a.own.0 < 2 ^ 16
   pub id : IsAddr a.id
   pub life : 1 ≤ a.key_life
-  pub life_most : a.key_life ≤ 3600
+  pub life_most : a.key_life ≤ KEY_LIFE_MAX
 
 -- The rules of the settings that the theorems rest on.
 pub record IsNetwork (n : NetworkParts) : Type 0 where
   pub elements_differ : AllPairs (λ (a b : ElementRow). (a.own ≢ b.own) × (a.id ≢ b.id)) n.elements
   pub elements : All IsElement n.elements
-  pub few : length n.elements ≤ 16
+  pub few : length n.elements ≤ ELEMENTS_MAX
   pub has_parent : All (λ (a : ElementRow). a.parent ≡ true → is_some n.parent ≡ true) n.elements
   pub links : All (λ (p : As × As). (is_element n p.0 ≡ true) × (is_element n p.1 ≡ true) × (p.0 ≢ p.1)) n.links
   pub links_differ : AllPairs (λ (p q : As × As). ((p.0 ≡ q.0) × (p.1 ≡ q.1) → ⊥) × ((p.0 ≡ q.1) × (p.1 ≡ q.0) → ⊥)) n.links
   pub peers : All (λ r. is_element n r.at ≡ true) n.peers
-  pub few_parent_links : length n.parent_links ≤ 256
+  pub few_parent_links : length n.parent_links ≤ PARENT_LINKS_MAX
   pub parent_links : All IsParentLink n.parent_links
   pub parent_links_differ : AllPairs (λ (l m : ParentLink). (l.link.far ≢ m.link.far) × (l.link.near ≢ m.link.near)) n.parent_links

@@ -1,5 +1,5 @@
--- That the functions of the model are what the contracts of its parts say: policy, branches, requests and generations.
-use Rattle.std.specs.Prelude.{◌≡◌, ◌↔◌, ℕ, ◌++◌, ◌==◌, List, Contains, count_by, Some, Result, Ok, Err, IsTrue, IsFalse}
+-- That the functions of the model are what the contracts of its parts say: branches, requests and generations.
+use Rattle.std.specs.Prelude.{◌≡◌, ◌↔◌, ℕ, ◌++◌, ◌==◌, List, Contains, count_by, Some, Result, Ok, Err, IsTrue}
 use Rattle.dom_base.specs.declared.names.As.{As}
 use Rattle.te_links.specs.Rows.{Rows}
 use Rattle.te_generations.specs.Shelf.{Shelf, IsShelf, pins_of, topology_of}
@@ -10,21 +10,15 @@ use Rattle.pcep_messages.specs.declared.message.Request.{Request}
 use Rattle.pcep_messages.specs.declared.message.Refusal.{Refusal}
 use Rattle.pcep_messages.specs.declared.message.Refusal.TheVariants as refusals
 use Rattle.pcep_messages.specs.Requests.{Answers}
-use Rattle.disclosure.specs.declared.class.Class.{Class}
-use Rattle.disclosure.specs.declared.class.Deny.{Deny}
-use Rattle.disclosure.specs.Policy.{IsAllowed}
 use Rattle.vspt_tree.specs.declared.branch.Best.{Best}
 use Rattle.vspt_tree.specs.declared.branch.Branch.{Branch}
 use Rattle.vspt_tree.specs.Branches.{IsBranchOf}
 use Rattle.plant_model.specs.Wire.{Checked, Admitted, Wrong}
 use Rattle.plant_model.specs.Branches.{onward}
-use Rattle.plant_model.specs.Element.{Row, is_denied}
+use Rattle.plant_model.specs.Element.{Row}
 use Rattle.plant_model.specs.Plant.{Pin}
 use Rattle.plant_model.specs.Plant as plant
 use Rattle.plant_model.specs.RealWire.{check_of}
-
-abbrev pub DeniedMeets : Type 0
-DeniedMeets = (deny : List Deny) (class : Class) (next : As) → IsFalse (is_denied deny class next) ↔ IsAllowed deny class next
 
 abbrev pub BranchMeets : Type 0
 BranchMeets = (down : List Branch) (row : Best) (own : List Hop) (branch : Branch) → IsBranchOf down row own branch → branch.hops ≡ own ++ onward row.exit row.head down

@@ -8,6 +8,7 @@ use Rattle.te_links.specs.declared.rows.Entry.{Entry as EntryRow}
 use Rattle.te_links.specs.Rows.{Rows, IsTopology, IsInOrder, all_links}
 use Rattle.pcep_subobjects.specs.Addresses.{IsAddr}
 use Rattle.te_generations.specs.Live.{empty_rows}
+use Rattle.te_generations.specs.Shelf.{live_most}
 use Rattle.disclosure.specs.Shown.{open_of}
 use Rattle.request_table.specs.declared.held.Held.{Held}
 use Rattle.vspt_tree.specs.declared.branch.Branch.{Branch}
@@ -69,7 +70,7 @@ abbrev pub live_numbers : ℕ → List (Row Pin) → List ℕ
 live_numbers current rows = differing (current ∷ map (λ h. h.1.item.pin.number) rows)
 
 abbrev pub is_full : ℕ → List (Row Pin) → Bool
-is_full current rows = nat_le 16 (length (live_numbers current rows)) || (current == 2 ^ 64 - 1)
+is_full current rows = nat_le live_most (length (live_numbers current rows)) || (current == 2 ^ 64 - 1)
 
 module _ (c : Codec) (n : NetworkParts) where
   abbrev pub refused : Refused → Plant → Happened

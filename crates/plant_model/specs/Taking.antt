@@ -24,12 +24,12 @@ use Rattle.disclosure.specs.declared.class.Class.{Class}
 use Rattle.request_table.specs.Pending.{number_of, opened_of, is_full, same_peer}
 use Rattle.request_table.specs.Lends.{written_of}
 use Rattle.path_keys.specs.Keys.{segment_of}
-use Rattle.disclosure.specs.Policy.{can_expand}
+use Rattle.disclosure.specs.Policy.{is_denied, can_expand}
 use Rattle.plant_model.specs.Names.{same_addr, the_parent, has_pair}
 use Rattle.plant_model.specs.Wire.{Codec, Checked, Admitted, Wrong}
 use Rattle.plant_model.specs.Writing.{request_message, reply_message, error_message, busy, unavailable, no_key}
 use Rattle.plant_model.specs.Branches.{branches_in}
-use Rattle.plant_model.specs.Element.{Stage, Waits, Ready, Item, Row, Way, Element, Place, Taken, silent, only, each, ended, at_stage, waiting, fresh_id, way_to, with_last, is_denied, is_client}
+use Rattle.plant_model.specs.Element.{Stage, Waits, Ready, Item, Row, Way, Element, Place, Taken, silent, only, each, ended, at_stage, waiting, fresh_id, way_to, with_last, is_client}
 
 -- the domain sequence of a request: its own, or the element's domain alone
 abbrev pub sequence_or : As → List As → List As

@@ -4,12 +4,10 @@ use Rattle.dom_base.specs.declared.names.As.{As}
 use Rattle.dom_base.specs.declared.addr.Addr.{Addr}
 use Rattle.dom_base.specs.declared.addr.Addr.TheVariants.{V4, V6}
 use Rattle.dom_base.specs.declared.query.Metric.{Metric}
-use Rattle.dom_base.specs.declared.query.Metric.TheVariants.{Igp, Te, Hops}
 use Rattle.dom_base.specs.declared.query.Exclusion.{Exclusion}
 use Rattle.pcep_codes.specs.declared.classes.TheConstants as classes
 use Rattle.pcep_codes.specs.declared.kinds.TheConstants as kinds
 use Rattle.pcep_codes.specs.declared.flags.TheConstants as flags
-use Rattle.pcep_codes.specs.declared.metrics.TheConstants as metrics
 use Rattle.pcep_codes.specs.declared.no_paths.TheConstants as no_paths
 use Rattle.pcep_codes.specs.declared.notices.TheConstants as notices
 use Rattle.pcep_subobjects.specs.declared.hop.Hop.{Hop}
@@ -23,15 +21,10 @@ use Rattle.pcep_messages.specs.declared.message.Asked.{Asked}
 use Rattle.pcep_messages.specs.declared.message.Answer.{Answer}
 use Rattle.pcep_messages.specs.declared.message.Answer.TheVariants.{NoPath}
 use Rattle.pcep_messages.specs.declared.message.Wanted.{Wanted}
+use Rattle.pcep_messages.specs.Requests.{type_of_metric}
 
 abbrev pub as_hop : As → Hop
 as_hop a = AsNumber false a
-
--- the type of a metric
-abbrev pub code : Metric → ℕ
-code Igp = metrics.IGP
-code Te = metrics.TE
-code Hops = metrics.HOPS
 
 -- an object that must be taken into account
 abbrev pub needed : ℕ → Body → Object
@@ -56,7 +49,7 @@ bandwidth (Some word) = needed classes.BANDWIDTH (bodies.Bandwidth word) ∷ []
 
 abbrev pub bound : Metric → Option ℕ → List Object
 bound m None = []
-bound m (Some word) = needed classes.METRIC (bodies.Metric true false (code m) word) ∷ []
+bound m (Some word) = needed classes.METRIC (bodies.Metric true false (type_of_metric m) word) ∷ []
 
 abbrev pub iro : List As → List Object
 iro [] = []
@@ -74,7 +67,7 @@ vspt_flag = flags.VSPT
 abbrev pub asked_of : ℕ → Wanted → Addr → List As → Asked
 asked_of id w target sequence = record {
   objects = needed classes.RP (bodies.Rp vspt_flag id) ∷ ends w.source target ∷ []
-      ++ lspa w.masks ++ bandwidth w.bandwidth_word ++ needed classes.METRIC (bodies.Metric false true (code w.query.metric) 0) ∷ []
+      ++ lspa w.masks ++ bandwidth w.bandwidth_word ++ needed classes.METRIC (bodies.Metric false true (type_of_metric w.query.metric) 0) ∷ []
       ++ bound w.query.metric w.bound_word ++ iro sequence ++ xro w.query.exclusions;
 }
 

@@ -1,12 +1,10 @@
 //! The laws of the model: it says what the contracts of its parts say, and the wire is a codec.
 ghost use Rattle.plant_model.specs.Jobs.{JoinsWhatWasTold};
-ghost use Rattle.plant_model.specs.Meeting.{DeniedMeets, BranchMeets, CheckMeets, LiveMeets};
+ghost use Rattle.plant_model.specs.Meeting.{BranchMeets, CheckMeets, LiveMeets};
 ghost use Rattle.plant_model.specs.RealWire.{WireIsCodec};
 
-/// The model's policy, branches, refusals and live generations are what the contracts of those
-/// parts say.
+/// The model's branches, refusals and live generations are what the contracts of those parts say.
 pub fn model_meets_parts()
-    ensures policy { DeniedMeets }
     ensures branches { BranchMeets }
     ensures requests { CheckMeets }
     ensures generations { LiveMeets }

@@ -27,7 +27,8 @@ use Rattle.plant_model.specs.Names.{has_pair, the_parent}
 use Rattle.plant_model.specs.Wire.{Codec, Checked, Admitted, Wrong}
 use Rattle.plant_model.specs.Writing.{reply_message, error_message, unavailable, busy, no_path}
 use Rattle.plant_model.specs.Branches.{branches_in}
-use Rattle.plant_model.specs.Element.{Stage, Ready, Row, Way, Element, Place, Taken, silent, only, each, ended, waiting, waits_for, waits_on, way_to, fresh_id, at_stage, stays, is_lost, lost_of, lost_output, lost, upped, downed, is_denied, is_client}
+use Rattle.disclosure.specs.Policy.{is_denied}
+use Rattle.plant_model.specs.Element.{Stage, Ready, Row, Way, Element, Place, Taken, silent, only, each, ended, waiting, waits_for, waits_on, way_to, fresh_id, at_stage, stays, is_lost, lost_of, lost_output, lost, upped, downed, is_client}
 use Rattle.plant_model.specs.Taking.{sequence_or, goes_up, send_on, sent_on, take_along, take_path, take_wish, take_new, take_checked, take_asked, staged, answered, made_ready, take_answer, take_reply, told_busy, cancelled, take_busy, take_cancel, notice_steps, take_notice, error_answer, told_error, take_failure, take_errors, take_report, take, denied, expansion}
 use Rattle.plant_model.specs.Solving.{commit, client_reply, closed_reply, closed_paths, issued_all, free}
 use Rattle.plant_model.specs.Parent as parent

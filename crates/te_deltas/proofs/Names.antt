@@ -8,7 +8,7 @@ use Rattle.te_deltas.specs.declared.name.RowName.TheVariants.{Node, Link, Out, E
 use Rattle.te_deltas.specs.contracts.name.RowNameOrd.TheImpl as derived
 use Rattle.te_deltas.specs.contracts.name.RowNamePartialEq.TheImpl as compared
 use Rattle.te_deltas.specs.Changes.{same_name}
-use Rattle.te_links.proofs.Different.{Decides-rank}
+use Rattle.dom_base.proofs.Ranks.{Decides-rank}
 use Rattle.te_links.proofs.Compared.{addr_told, entry_told}
 use Rattle.te_links.proofs.Moved.{same_entry as entry_tested}
 

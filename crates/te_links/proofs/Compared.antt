@@ -15,7 +15,7 @@ use denote.Param.Members.{Mut}
 use Rattle.dom_base.specs.AddrOrder.{rank}
 use Rattle.dom_base.specs.declared.addr.Addr.{Addr}
 use Rattle.te_links.specs.declared.rows.Entry.{Entry}
-use Rattle.te_links.proofs.Different.{Decides-rank}
+use Rattle.dom_base.proofs.Ranks.{Decides-rank}
 use Rattle.te_links.proofs.Moved.{entry_eq, same_entry}
 
 pub below_told : (m n : ℕ) → is_lt (nat_cmp m n) ≡ true → m < n

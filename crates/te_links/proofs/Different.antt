@@ -4,20 +4,15 @@ use Rattle.std.specs.Prelude.{All, AllPairs, Contains, slice_get}
 use Rattle.std.specs.Bool.{Decides}
 use Rattle.std.specs.Set.{is_member}
 use Rattle.std.proofs.lemmas.Bool.{cases_lt}
-use Rattle.std.proofs.lemmas.Bool.Decides.{Decides-eqb}
 use Rattle.std.proofs.lemmas.Cmp.{nat_eq_equiv}
 use Rattle.std.proofs.lemmas.List.{get_or-take, get_or_default, length-take-le, take_all}
 use Rattle.std.proofs.lemmas.List.Elements.{All-contains, All-weaker}
 use Rattle.std.proofs.lemmas.Map.Made.{IsDistinct-from_AllPairs, is_member-Decides, length-le_from_is_member}
 use Rattle.std.proofs.lemmas.Option.{slice_get-get_or, slice_get_cases, get_or_from_slice_get, slice_get_within}
 use Rattle.dom_base.specs.AddrOrder.{rank}
-use Rattle.dom_base.proofs.Ranks.{same_addr}
+use Rattle.dom_base.proofs.Ranks.{Decides-rank}
 use Rattle.dom_base.specs.declared.addr.Addr.{Addr}
 use Rattle.te_links.specs.Rows.{FewDifferent}
-
--- a comparison of places decides whether two addresses are one
-pub Decides-rank : (a b : Addr) → Decides (nat_eq (rank a) (rank b)) (a ≡ b)
-Decides-rank a b = let d = Decides-eqb (rank a) (rank b) in (λ t. same_addr a b (d.0 t), λ is. d.1 (ap rank is))
 
 abbrev same : Addr → Addr → Bool
 same a b = nat_eq (rank a) (rank b)

@@ -14,13 +14,13 @@ use Rattle.std.proofs.lemmas.Map.Keys.{IsDistinct-IsPermutation}
 use Rattle.std.proofs.lemmas.Map.Made.{AllPairs-from_IsDistinct, IsDistinct-from_AllPairs}
 use Rattle.std.proofs.lemmas.Option.{slice_get_cases}
 use Rattle.dom_base.specs.AddrOrder.{rank}
-use Rattle.dom_base.proofs.Ranks.{same_addr}
+use Rattle.dom_base.proofs.Ranks.{same_addr, Decides-rank}
 use Rattle.dom_base.specs.declared.addr.Addr.{Addr}
 use Rattle.dom_base.specs.declared.link.Link.{Link}
 use Rattle.te_links.specs.declared.rows.OutLink.{OutLink}
 use Rattle.te_links.specs.declared.rows.Entry.{Entry}
 use Rattle.te_links.specs.Rows.{Rows, IsTopology, IsInnerLink, IsLink, IsOutLink, IsEntry, all_links, FewDifferent, IsEntryBefore}
-use Rattle.te_links.proofs.Different.{Decides-rank, few_fewer}
+use Rattle.te_links.proofs.Different.{few_fewer}
 use Rattle.te_links.proofs.Sound.{by_key}
 
 pub permuted_differ : (xs ys : List Addr) → IsPermutation xs ys → AllPairs (λ a b. a ≢ b) xs → AllPairs (λ a b. a ≢ b) ys

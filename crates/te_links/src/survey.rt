@@ -8,7 +8,7 @@ ghost use Rattle.te_links.specs.Survey.{CountsBefore, IsFewUpTo, IsSurvey, Tells
 
 use crate::rows::Parts;
 use crate::{ENTRY_NODES_MAX, TAILS_MAX};
-use dom_base::{Addr, As};
+use dom_base::{Addr, As, stands};
 use std::alloc::{AllocError, Global};
 use std::collections::BTreeMap;
 
@@ -77,19 +77,13 @@ fn repeats_of(alloc: Global, addrs: &[Addr]) -> Result<Vec<usize>, AllocError>
     counts_before(alloc, addrs)
 }
 
-fn is_among(addrs: &[Addr], addr: Addr) -> bool
-    ensures { Decides result (Contains addrs.now addr) }
-{
-    addrs.contains(&addr)
-}
-
 // How many addresses there are from the front on among which at most `most` differ.
 fn few_up_to(alloc: Global, addrs: &[Addr], most: usize) -> Result<usize, AllocError>
     ensures { IfOk result (IsFewUpTo most addrs.now) }
 {
     let mut different = Vec::new(alloc);
     for (i, addr) in addrs.iter().enumerate() {
-        if is_among(&different, *addr) {
+        if stands(&different, *addr) {
             continue;
         }
         if different.len() >= most {

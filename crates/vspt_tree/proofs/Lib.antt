@@ -1,3 +1,4 @@
 pub mod LeastLemmas
 pub mod ZipLemmas
 pub mod BranchLaws
+pub mod FirstLeast

@@ -3,9 +3,11 @@
 #![tactic(auto)]
 
 mod branch;
+mod law;
 mod tree;
 
 pub use branch::{Best, Branch};
+pub use law::first_least_is_found;
 pub use tree::join;
 
 #[cfg(test)]

@@ -7,6 +7,5 @@ pub mod Complete
 pub mod Splitting
 pub mod Joining
 pub mod Composing
-pub mod Seeds
 pub mod Segments
 pub mod OneTable

@@ -1,6 +1,6 @@
 use Rattle.std.proofs.Common.{inl, inr, arith, refl, sym, take}
 use Rattle.std.proofs.lemmas.List.{take_all}
-use Rattle.te_links.proofs.Different.{Decides-rank}
+use Rattle.dom_base.proofs.Ranks.{Decides-rank}
 use Rattle.border_costs.specs.Asks.{beyond}
 use Rattle.border_costs.proofs.Downs.{step_taken, step_left}
 use Rattle.plant_model.specs.Branches.{downs}

@@ -2,9 +2,6 @@ use Rattle.plant_model.proofs.Meeting as Meeting
 use Rattle.plant_model.proofs.Live as Live
 use Rattle.plant_model.proofs.law.model_meets_parts.Goals as goal
 
-pub returns-clause-policy : goal.returns-clause-policy
-returns-clause-policy c = Meeting.denied_meets
-
 pub returns-clause-branches : goal.returns-clause-branches
 returns-clause-branches c = Meeting.branch_meets
 

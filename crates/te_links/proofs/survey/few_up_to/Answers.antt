@@ -16,17 +16,17 @@ loop-i-preserved c =
     let i = c.loop-i.i in
     let different = c.loop-i.different.items in
     let no_addr : Addr = V4 0 in
-    let lacks = subst (λ (l : List Addr). ¬ Contains l (get_or addrs i no_addr)) c.deref.ensures.value (not_decided c.is_among.result c.is_among.ensures c.if-is_among.false) in
+    let lacks = subst (λ (l : List Addr). ¬ Contains l (get_or addrs i no_addr)) c.deref.ensures.value (not_decided c.stands.result c.stands.ensures c.if-stands.false) in
     let room : length different < c.args.most = omega (arith, c.len.ensures, c.if-len-most.false, c.loop-i.different.ok.0) in
     rw (take_more addrs i no_addr c.loop-i-test.true, c.in_ok-push.ensures.items) (covers_more (take i addrs) different (get_or addrs i no_addr) c.args.most lacks room c.loop-i.invariant)
 
-pub loop-i-preserved-then-is_among : goal.loop-i-preserved-then-is_among
-loop-i-preserved-then-is_among c =
+pub loop-i-preserved-then-stands : goal.loop-i-preserved-then-stands
+loop-i-preserved-then-stands c =
     let addrs = c.args.addrs.now in
     let i = c.loop-i.i in
     let different = c.loop-i.different.items in
     let no_addr : Addr = V4 0 in
-    let has = subst (λ (l : List Addr). Contains l (get_or addrs i no_addr)) c.deref.ensures.value (c.is_among.ensures.0 c.if-is_among.true) in
+    let has = subst (λ (l : List Addr). Contains l (get_or addrs i no_addr)) c.deref.ensures.value (c.stands.ensures.0 c.if-stands.true) in
     rw (take_more addrs i no_addr c.loop-i-test.true) (covers_kept (take i addrs) different (get_or addrs i no_addr) c.args.most has c.loop-i.invariant)
 
 pub returns : goal.returns
@@ -41,7 +41,7 @@ returns-then-len-most c =
     let i = c.loop-i.i in
     let different = c.loop-i.different.items in
     let no_addr : Addr = V4 0 in
-    let lacks = subst (λ (l : List Addr). ¬ Contains l (get_or addrs i no_addr)) c.deref.ensures.value (not_decided c.is_among.result c.is_among.ensures c.if-is_among.false) in
+    let lacks = subst (λ (l : List Addr). ¬ Contains l (get_or addrs i no_addr)) c.deref.ensures.value (not_decided c.stands.result c.stands.ensures c.if-stands.false) in
     let no_room : c.args.most ≤ length different = omega (arith, c.len.ensures, c.if-len-most.true, c.loop-i.different.ok.0) in
     full addrs i different (get_or addrs i no_addr) c.args.most c.loop-i-test.true
     (get_or_default addrs i no_addr (get_or addrs i no_addr) c.loop-i-test.true) lacks no_room c.loop-i.invariant

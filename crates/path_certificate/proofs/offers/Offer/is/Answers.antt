@@ -1,6 +1,6 @@
 use Rattle.std.proofs.Common.{◌≡◌, ◌∙◌, sym, ap, arith}
 use Rattle.dom_base.specs.declared.query.Label.{Label}
-use Rattle.te_links.proofs.Different.{Decides-rank}
+use Rattle.dom_base.proofs.Ranks.{Decides-rank}
 use Rattle.path_certificate.proofs.offers.Offer.is.Goals as goal
 
 pub returns-then-get-self : goal.returns-then-get-self

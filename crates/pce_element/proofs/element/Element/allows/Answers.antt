@@ -1,12 +1,10 @@
 use Rattle.std.proofs.Common.{◌∙◌, not, List, ap}
 use Rattle.disclosure.specs.declared.class.Deny.{Deny}
-use Rattle.disclosure.specs.Policy as policy
-use Rattle.plant_model.specs.Element.{is_denied}
+use Rattle.disclosure.specs.Policy.{is_denied}
 use Rattle.pce_element.specs.Seen.{Seen}
-use Rattle.pce_element.proofs.AskLemmas.{denied_is}
 use Rattle.pce_element.proofs.element.Element.allows.Goals as goal
 
 pub returns : goal.returns
 returns g c =
-    c.allows.ensures ∙ ap (λ (rows : List Deny). not (policy.is_denied rows c.args.class c.args.next)) c.as_slice.ensures ∙ ap not (denied_is c.self.inside.deny c.args.class c.args.next)
+    c.allows.ensures ∙ ap (λ (rows : List Deny). not (is_denied rows c.args.class c.args.next)) c.as_slice.ensures
     ∙ ap (λ (s : Seen _ _). not (is_denied s.place.deny c.args.class c.args.next)) c.self.view_is

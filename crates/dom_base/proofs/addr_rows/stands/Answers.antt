@@ -1,5 +1,5 @@
-use Rattle.diverse_pairs.proofs.Standing.{addr_found}
-use Rattle.diverse_pairs.proofs.look_up.stands.Goals as goal
+use Rattle.dom_base.proofs.Seeds.{addr_found}
+use Rattle.dom_base.proofs.addr_rows.stands.Goals as goal
 
 pub returns : goal.returns
 returns c = addr_found c.args.addrs.now c.args.addr c.contains.result c.contains.ensures.cases

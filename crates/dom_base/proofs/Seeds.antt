@@ -1,4 +1,4 @@
--- What a comparison of seeds, and a look for a seed, tells.
+-- What a comparison of seeds, and a look for a seed or an address, tells.
 use Rattle.std.proofs.Common.{◌≡◌, Bool, true, false, ◌&&◌, List, nat_eq, refl, ◌∙◌, ap}
 use Rattle.std.specs.Prelude.{Contains}
 use Rattle.std.specs.Bool.{Decides}
@@ -7,8 +7,9 @@ use Rattle.std.proofs.lemmas.Bool.Decides.{Decides-eqb}
 use Rattle.std.proofs.lemmas.List.{get_or_default}
 use Rattle.std.proofs.lemmas.List.Elements.{contains_decides}
 use Rattle.dom_base.specs.AddrOrder.{rank}
+use Rattle.dom_base.specs.declared.addr.Addr.{Addr}
 use Rattle.dom_base.specs.declared.query.Seed.{Seed}
-use Rattle.te_links.proofs.Different.{Decides-rank}
+use Rattle.dom_base.proofs.Ranks.{Decides-rank}
 
 abbrev pub seed_eq : Seed → Seed → Bool
 seed_eq a b = nat_eq (rank a.node) (rank b.node) && (nat_eq a.cost b.cost && nat_eq (rank a.exit) (rank b.exit))
@@ -41,4 +42,12 @@ seed_found seeds seed r answer =
     let told = contains_decides seed_eq same_seed seeds seed r answer in (
       λ is. let has = told.0 is in (has.0, has.1, has.2 seed),
       λ has. told.1 (has.0, has.1, λ d. get_or_default seeds has.0 d seed has.1 ∙ has.2),
+    )
+
+-- what a look for an address tells
+pub addr_found : (addrs : List Addr) (a : Addr) (r : Bool) → IsAnyAnswer (λ s t. nat_eq (rank s) (rank a) ≡ t) addrs r → Decides r (Contains addrs a)
+addr_found addrs a r answer =
+    let told = contains_decides (λ s t. nat_eq (rank s) (rank t)) Decides-rank addrs a r answer in (
+      λ is. let has = told.0 is in (has.0, has.1, has.2 a),
+      λ has. told.1 (has.0, has.1, λ d. get_or_default addrs has.0 d a has.1 ∙ has.2),
     )

@@ -1,6 +1,6 @@
 use Rattle.dom_base.specs.declared.query.Seed.{Seed}
-use Rattle.walk_laws.proofs.Seeds.{seed_found}
-use Rattle.path_certificate.proofs.ordered.ends_at.Goals as goal
+use Rattle.dom_base.proofs.Seeds.{seed_found}
+use Rattle.dom_base.proofs.addr_rows.ends_at.Goals as goal
 
 pub returns : goal.returns
 returns c =

@@ -1,8 +1,0 @@
-use Rattle.dom_base.specs.declared.query.Seed.{Seed}
-use Rattle.walk_laws.proofs.Seeds.{seed_found}
-use Rattle.path_search.proofs.chosen.ends_at.Goals as goal
-
-pub returns : goal.returns
-returns c =
-    let seed : Seed = record { node = c.args.node; cost = c.args.label.now.cost; exit = c.args.label.now.exit } in
-    seed_found c.args.seeds.now seed c.contains.result c.contains.ensures.cases
