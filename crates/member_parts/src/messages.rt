@@ -4,8 +4,7 @@ ghost use Rattle.std.specs.Option.{option_to_list};
 ghost use Rattle.plant_model.specs.Writing.{asked_of, busy, error_message, no_key, no_path, reply_message, request_message, unavailable};
 
 use crate::objects::{
-    bandwidth_object, bound_object, ends, exclusions_object, masks_object, needed,
-    sequence_object,
+    bandwidth_object, bound_object, ends, exclusions_object, masks_object, needed, sequence_object,
 };
 use dom_base::{Addr, As, Exclusion, List, NoMemory, Query};
 use pcep_codes::{classes, flags, no_paths, notices};

@@ -61,7 +61,7 @@ module _ (n : NetworkParts) (s : Plant) (older : List Entry) (run : Run wire n o
       let stages : Ready asked.down ≡ Ready down = sym asked.ready ∙ ap (λ (x : Held (Item Pin)). x.item.stage) same ∙ ready in
       let downs : asked.down ≡ down = cc in
       let asks : t.asked ≡ ask wire n d (k, h) down =
-          asked.asks ∙ ap (λ (x : Held (Item Pin)). ask wire n d (k, x) asked.down) same ∙ ap (λ (bs : List Branch). ask wire n d (k, h) bs) downs in
+      asked.asks ∙ ap (λ (x : Held (Item Pin)). ask wire n d (k, x) asked.down) same ∙ ap (λ (bs : List Branch). ask wire n d (k, h) bs) downs in
       let pinned : t.topology ≡ h.item.pin.topology = asked.pinned ∙ ap (λ (x : Held (Item Pin)). x.item.pin.topology) same in
       subst (λ (g : Rows). IsBorderTable g (ask wire n d (k, h) down) rows) pinned (subst (λ (a : Ask). IsBorderTable t.topology a rows) asks t.table)
 
@@ -82,7 +82,7 @@ module _ (n : NetworkParts) (s : Plant) (older : List Entry) (run : Run wire n o
   solve_tells : (d : As) (k : ℕ) (h : Happened) (o : Outcome) → SolveHappens wire n d k s h → h.answer ≡ Ok o → same_as d parent_as ≡ false → ElementTells wire n s d k h.deeds
   solve_tells d k h o happens ok below =
       elim (solves_tell wire n older s run d k h (inl happens) o ok) [
-        inl tells ↦ tells
+        | inl tells ↦ tells
         | inr above ↦ absurd (let no : same_as parent_as parent_as ≡ false = subst (λ (a : As). same_as a parent_as ≡ false) above.0 below in let yes : true ≡ false = no in cc)
       ]
 
@@ -91,9 +91,12 @@ module _ (n : NetworkParts) (s : Plant) (older : List Entry) (run : Run wire n o
       cond (not upper) (cond (tells_closed n (said wire h.deeds)) (HasTable (unsaid n s) d k rows) (rows ≡ [])) (rows ≡ []) → Discloses wire n s (event.Solve d k) rows
   solve_discloses d k h o rows true is happens ok shown = inl (is, shown)
   solve_discloses d k h o rows false is happens ok shown =
-      inr (is, λ held down found ready.
-      by_class d k rows held down (is_client held.item.class) found ready
-      (subst (λ (b : Bool). cond b (HasTable (unsaid n s) d k rows) (rows ≡ [])) (told_closed d k h.deeds held found (solve_tells d k h o happens ok is)) shown))
+      inr (
+        is,
+        λ held down found ready.
+            by_class d k rows held down (is_client held.item.class) found ready
+            (subst (λ (b : Bool). cond b (HasTable (unsaid n s) d k rows) (rows ≡ [])) (told_closed d k h.deeds held found (solve_tells d k h o happens ok is)) shown),
+      )
 
   event_discloses : (e : Event) (h : Happened) (o : Outcome) (rows : List BorderRow) → Happens wire n s e h → h.answer ≡ Ok o →
       cond (is_domain_solve e) (cond (tells_closed n (said wire h.deeds)) (TableAt (unsaid n s) e rows) (rows ≡ [])) (rows ≡ []) → Discloses wire n s e rows
