@@ -22,13 +22,14 @@ use Rattle.walk_laws.proofs.Reached.{certified}
 use Rattle.walk_laws.proofs.Tight.{label_unique}
 use Rattle.path_search.specs.Arcs.{label_at}
 use Rattle.path_search.proofs.Places.{same_place, label_of, label_of-at, label_of_found}
+use Rattle.path_search.specs.Segments.{AreAt}
 use Rattle.diverse_pairs.specs.declared.arcs.Arc.{Arc}
 use Rattle.diverse_pairs.specs.declared.arcs.TheConstants.{UNREACHED}
 use Rattle.diverse_pairs.specs.Arcs.{IsArc, at, is_used, IsAmong}
 use Rattle.diverse_pairs.specs.Distances.{AreDistances, IsTight, AreTight, AreNear}
 use Rattle.diverse_pairs.specs.Paths.{Goes}
 use Rattle.diverse_pairs.specs.Chosen.{target_seed}
-use Rattle.diverse_pairs.specs.Network.{AreArcs, AreAt}
+use Rattle.diverse_pairs.specs.Network.{AreArcs}
 use Rattle.diverse_pairs.proofs.Beside.{near}
 use Rattle.diverse_pairs.proofs.Linked.{HasArc, admitted_arc, arc_link, arcs_among, arcs_light, one_node, one_link, rank_le}
 

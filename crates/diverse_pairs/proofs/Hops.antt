@@ -6,7 +6,7 @@ use Rattle.std.proofs.lemmas.Bool.{cases_lt, lt-ltb, le-ltb}
 use Rattle.diverse_pairs.specs.declared.arcs.Arc.{Arc}
 use Rattle.diverse_pairs.specs.declared.arcs.TheConstants.{UNREACHED}
 use Rattle.diverse_pairs.specs.Arcs.{IsArc, at, AreAmong}
-use Rattle.diverse_pairs.specs.Distances.{IsLow, AreLow, IsMadeBy, AreMade, AreDistances}
+use Rattle.diverse_pairs.specs.Distances.{IsLow, AreLow, IsReachedBy, AreMade, AreDistances}
 
 -- how many numbers are below x
 pub below : ℕ → List ℕ → ℕ

@@ -16,9 +16,10 @@ use Rattle.walk_laws.specs.Walks.{AdmitsNode, AdmitsLink}
 use Rattle.path_certificate.specs.Offers.{IsAdmittedAt}
 use Rattle.path_search.proofs.Places.{same_place, place_of, contains_at}
 use Rattle.path_search.proofs.Certified.{weight_bounds}
+use Rattle.path_search.specs.Segments.{AreAt}
 use Rattle.diverse_pairs.specs.declared.arcs.Arc.{Arc}
 use Rattle.diverse_pairs.specs.Arcs.{IsArc, AreAmong, AreLight}
-use Rattle.diverse_pairs.specs.Network.{IsArcOf, AreArcs, AreAt}
+use Rattle.diverse_pairs.specs.Network.{IsArcOf, AreArcs}
 use Rattle.diverse_pairs.proofs.Flow.{Among}
 use Rattle.diverse_pairs.proofs.Sums.{head_of, behind_head}
 

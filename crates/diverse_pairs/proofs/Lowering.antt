@@ -10,7 +10,7 @@ use Rattle.std.proofs.lemmas.List.Sums.{sum_by-set}
 use Rattle.diverse_pairs.specs.declared.arcs.Arc.{Arc}
 use Rattle.diverse_pairs.specs.declared.arcs.TheConstants.{UNREACHED}
 use Rattle.diverse_pairs.specs.Arcs.{IsArc, at, IsAmong, AreAmong}
-use Rattle.diverse_pairs.specs.Distances.{IsLow, AreLow, Lowers, Falls, IsMadeBy, AreMade, AreDistances}
+use Rattle.diverse_pairs.specs.Distances.{IsLow, AreLow, Lowers, Falls, IsReachedBy, AreMade, AreDistances}
 
 module _ (arcs : List (Option Arc)) (t i : ℕ) (a : Arc) (old new : List ℕ) (is_arc : IsArc arcs i a) (among : IsAmong (length old) a) (low : Lowers a old new) where
   here : at new a.tail ≡ a.weight + at old a.head

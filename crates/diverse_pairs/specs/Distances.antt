@@ -23,7 +23,7 @@ abbrev pub Falls : List ℕ → List ℕ → Type 0
 Falls old new = sum new < sum old
 
 -- the way over an arc from the node is as short as its distance
-pub record IsMadeBy (arcs : List (Option Arc)) (distances : List ℕ) (n : ℕ) : Type 0 where
+pub record IsReachedBy (arcs : List (Option Arc)) (distances : List ℕ) (n : ℕ) : Type 0 where
   pub place : ℕ
   pub arc : Arc
   pub is_arc : IsArc arcs place arc
@@ -34,7 +34,7 @@ pub record IsMadeBy (arcs : List (Option Arc)) (distances : List ℕ) (n : ℕ) 
 pub record AreMade (arcs : List (Option Arc)) (target : ℕ) (distances : List ℕ) : Type 0 where
   pub at_target : at distances target ≡ 0
   pub within : (n : ℕ) → at distances n ≤ UNREACHED
-  pub each : (n : ℕ) → n < length distances → at distances n < UNREACHED → (n ≡ target) ⊎ IsMadeBy arcs distances n
+  pub each : (n : ℕ) → n < length distances → at distances n < UNREACHED → (n ≡ target) ⊎ IsReachedBy arcs distances n
 
 pub record AreDistances (arcs : List (Option Arc)) (target : ℕ) (distances : List ℕ) : Type 0 where
   pub made : AreMade arcs target distances

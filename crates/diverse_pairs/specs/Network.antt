@@ -1,6 +1,5 @@
--- The arcs of the admitted links of a topology, and links by their places.
+-- The arcs of the admitted links of a topology.
 use Rattle.std.specs.Prelude.{◌≡◌, ◌<◌, ℕ, List, length, None, Some, slice_get, slice_index_or, MatchOption}
-use Rattle.std.specs.List.{AllZip}
 use Rattle.std.specs.declared.option.Option.{Option}
 use Rattle.dom_base.specs.declared.link.Link.{Link}
 use Rattle.dom_base.specs.declared.query.Query.{Query}
@@ -21,7 +20,3 @@ pub record IsArcOf (g : Rows) (q : Query) (i : ℕ) (a : Arc) : Type 0 where
 pub record AreArcs (g : Rows) (q : Query) (arcs : List (Option Arc)) : Type 0 where
   pub long : length arcs ≡ length g.links
   pub each : (i : ℕ) → i < length g.links → MatchOption (slice_index_or arcs i None) ((l : Link) → ¬ IsAdmittedAt g q i l) (IsArcOf g q i)
-
--- links by their places
-abbrev pub AreAt : List Link → List ℕ → List Link → Type 0
-AreAt links = AllZip (λ i l. slice_get links i ≡ Some l)

@@ -1,11 +1,11 @@
 -- How far the solving of a pair has come: places of the ends, a first walk, what it leaves with a second one, and the paths.
-use Rattle.std.specs.Prelude.{◌≡◌, ◌<◌, ℕ, Bool, false, List, ◌∷◌, length, map, replicate, Some, slice_get}
+use Rattle.std.specs.Prelude.{◌≡◌, ◌<◌, ℕ, Bool, false, List, ◌∷◌, length, map, replicate}
 use Rattle.std.specs.declared.option.Option.{Option}
 use Rattle.dom_base.specs.declared.addr.Addr.{Addr}
 use Rattle.dom_base.specs.declared.link.Link.{Link}
 use Rattle.dom_base.specs.declared.query.Query.{Query}
 use Rattle.te_links.specs.Rows.{Rows, IsTopology, IsInOrder}
-use Rattle.walk_laws.specs.Walks.{AdmitsNode}
+use Rattle.path_search.specs.Search.{IsOpenAt}
 use Rattle.path_search.specs.Segments.{AreAt}
 use Rattle.diverse_pairs.specs.declared.arcs.Arc.{Arc}
 use Rattle.diverse_pairs.specs.declared.arcs.TheConstants.{UNREACHED}
@@ -17,11 +17,6 @@ use Rattle.diverse_pairs.specs.Network.{AreArcs}
 use Rattle.diverse_pairs.specs.Paths.{Goes, LeadsOn, Falling, TurnsTight, turned}
 use Rattle.diverse_pairs.specs.Residual.{AreResidual, AreHeights}
 use Rattle.diverse_pairs.specs.Shown.{ArePotentials, AreCutOff}
-
--- an admitted node stands at the place
-pub record IsOpenAt (g : Rows) (q : Query) (n : Addr) (place : ℕ) : Type 0 where
-  pub at_place : slice_get g.nodes place ≡ Some n
-  pub admitted : AdmitsNode g q n
 
 -- what is asked, by the places of its ends
 pub record IsPlaced (g : Rows) (q : Query) (s t : Addr) (from to : ℕ) : Type 0 where

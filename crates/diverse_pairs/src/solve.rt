@@ -10,7 +10,8 @@ ghost use Rattle.diverse_pairs.specs.Conditions.{asked_of, IsVerdict};
 ghost use Rattle.diverse_pairs.specs.Potentials.{HasRising};
 ghost use Rattle.diverse_pairs.specs.PairText.{CanBeTold};
 ghost use Rattle.diverse_pairs.specs.Solution.{IsAnswer, IsShort, IsSolved};
-ghost use Rattle.diverse_pairs.specs.Solving.{IsOpenAt, IsPlaced, IsSearched, IsWalked, MakePaths, ArePathsIn, IsCutForm};
+ghost use Rattle.path_search.specs.Search.{IsOpenAt};
+ghost use Rattle.diverse_pairs.specs.Solving.{IsPlaced, IsSearched, IsWalked, MakePaths, ArePathsIn, IsCutForm};
 
 use crate::arcs::{Arc, UNREACHED};
 use crate::certificate::{PairCertificate, PairForm};

@@ -10,7 +10,7 @@ use Rattle.dom_base.specs.declared.query.Label.{Label}
 use Rattle.path_search.specs.declared.blocks.TheConstants.{NOTHING}
 use Rattle.path_search.specs.Arcs.{label_at}
 use Rattle.path_search.specs.Front.{cost_of, cost_at, IsLeastAt}
-use Rattle.path_search.specs.Blocks.{num_at, cost_if, shown_cost, IsLeastOf, IsLeastFrom, IsBlock, AreBlocks}
+use Rattle.path_search.specs.Blocks.{num_at, cost_if, shown_cost, IsLeastNumber, IsLeastFrom, IsBlock, AreBlocks}
 
 pub shown_is : (n m : ℕ) → shown_cost n ≡ Some m → n ≡ m
 shown_is n m is = go (nat_lt n NOTHING) is
@@ -47,14 +47,14 @@ shown_at costs i = elim (cases_lt i (length costs)) [
       get_or_past (map shown_cost costs) i None (omega (arith, past, length-map costs shown_cost)) ∙ sym (ap shown_cost (get_or_past costs i NOTHING past) ∙ shown_none NOTHING (omega arith))
 ]
 
-pub at_most_nothing : (numbers : List ℕ) (least : ℕ) → IsLeastOf numbers least → least ≤ NOTHING
+pub at_most_nothing : (numbers : List ℕ) (least : ℕ) → IsLeastNumber numbers least → least ≤ NOTHING
 at_most_nothing numbers least is =
     let past : num_at numbers (length numbers) ≡ NOTHING = get_or_past numbers (length numbers) NOTHING (omega arith) in
     let bound = is.no_more (length numbers) in
     omega (arith, past, bound)
 
 -- no cost is less than the least of all blocks
-least_below : (costs least : List ℕ) (lowest j : ℕ) → AreBlocks costs least → IsLeastOf least lowest → lowest ≤ NOTHING → lowest ≤ num_at costs j
+least_below : (costs least : List ℕ) (lowest j : ℕ) → AreBlocks costs least → IsLeastNumber least lowest → lowest ≤ NOTHING → lowest ≤ num_at costs j
 least_below costs least lowest j blocks is small = elim (cases_lt j (length costs)) [
   | inl below ↦
       let inside : j / 32 < length least = omega (arith, below, blocks.enough) in
@@ -64,7 +64,7 @@ least_below costs least lowest j blocks is small = elim (cases_lt j (length cost
   | inr past ↦ let nothing : num_at costs j ≡ NOTHING = get_or_past costs j NOTHING past in omega (arith, nothing, small)
 ]
 
-pub least_at : (costs least : List ℕ) (lowest place : ℕ) → AreBlocks costs least → IsLeastOf least lowest → lowest < NOTHING → num_at costs place ≡ lowest →
+pub least_at : (costs least : List ℕ) (lowest place : ℕ) → AreBlocks costs least → IsLeastNumber least lowest → lowest < NOTHING → num_at costs place ≡ lowest →
     IsLeastAt (map shown_cost costs) place lowest
 least_at costs least lowest place blocks is small at = record {
   at = shown_at costs place ∙ (ap shown_cost at ∙ shown_below lowest small);
@@ -74,7 +74,7 @@ least_at costs least lowest place blocks is small at = record {
       omega (arith, number, bound);
 }
 
-pub none_left : (costs least : List ℕ) → AreBlocks costs least → IsLeastOf least NOTHING → (i : ℕ) → cost_at (map shown_cost costs) i ≡ None
+pub none_left : (costs least : List ℕ) → AreBlocks costs least → IsLeastNumber least NOTHING → (i : ℕ) → cost_at (map shown_cost costs) i ≡ None
 none_left costs least blocks is i = shown_at costs i ∙ shown_none (num_at costs i) (least_below costs least NOTHING i blocks is (omega arith))
 
 -- a number that stands for a cost stands within
@@ -101,7 +101,7 @@ block_is costs start end from is =
     }
 
 -- the least of a block that is cut out is that of the block
-pub of_block : (costs block : List ℕ) (start least : ℕ) → IsBlock costs start block → IsLeastOf block least → IsLeastFrom costs start least
+pub of_block : (costs block : List ℕ) (start least : ℕ) → IsBlock costs start block → IsLeastNumber block least → IsLeastFrom costs start least
 of_block costs block start least cut is = record {
   no_more = λ i from to.
       let at : num_at block (i - start) ≡ num_at costs (start + (i - start)) = cut.same (i - start) (omega (arith, from, to)) in

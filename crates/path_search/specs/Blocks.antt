@@ -17,7 +17,7 @@ abbrev pub shown_cost : ℕ → Option ℕ
 shown_cost n = cost_if (nat_lt n NOTHING) n
 
 -- no number is less, and one of them is as small if it stands for a cost
-pub record IsLeastOf (numbers : List ℕ) (least : ℕ) : Type 0 where
+pub record IsLeastNumber (numbers : List ℕ) (least : ℕ) : Type 0 where
   pub no_more : (i : ℕ) → least ≤ num_at numbers i
   pub stands : least < NOTHING → (i : ℕ) × (num_at numbers i ≡ least)
 

@@ -1,7 +1,7 @@
 //! Costs in blocks, each with its least.
 ghost use Rattle.std.specs.Prelude.{◌≡◌, ◌≢◌, ◌<◌, ◌≤◌, ◌^◌, ◌*◌, ℕ, length, map, slice_set, MatchOption};
 ghost use Rattle.path_search.specs.Front.{HoldsLeast};
-ghost use Rattle.path_search.specs.Blocks.{AreBlocks, IsBlock, IsLeastOf, num_at, shown_cost};
+ghost use Rattle.path_search.specs.Blocks.{AreBlocks, IsBlock, IsLeastNumber, num_at, shown_cost};
 
 use dom_base::Cost;
 
@@ -13,7 +13,7 @@ pub(crate) const BLOCK: usize = 32;
 
 // The least of numbers.
 fn least_of(numbers: &[u32]) -> u32
-    ensures { IsLeastOf numbers.now result }
+    ensures { IsLeastNumber numbers.now result }
 {
     let mut least = NOTHING;
     for number in numbers {

@@ -1,12 +1,12 @@
 use Rattle.std.proofs.Common.{◌≡◌, ◌+◌, ◌-◌, ◌*◌, ◌<◌, ℕ, sym, ◌∙◌, ap, subst, arith}
 use Rattle.std.proofs.lemmas.List.{length-map}
 use Rattle.path_search.specs.declared.blocks.TheConstants.{NOTHING}
-use Rattle.path_search.specs.Blocks.{num_at, shown_cost, IsLeastOf, IsLeastFrom, StandsFrom}
+use Rattle.path_search.specs.Blocks.{num_at, shown_cost, IsLeastNumber, IsLeastFrom, StandsFrom}
 use Rattle.path_search.proofs.InBlocks.{at_most_nothing, least_at, none_left, stands_within}
 use Rattle.path_search.proofs.blocks.least_place.Goals as goal
 
 pub returns-then-lowest : goal.returns-then-lowest
-returns-then-lowest c = none_left c.args.costs.now c.args.least.now c.requires.blocks (subst (IsLeastOf c.args.least.now) c.if-lowest.true c.least_of-lowest.ensures)
+returns-then-lowest c = none_left c.args.costs.now c.args.least.now c.requires.blocks (subst (IsLeastNumber c.args.least.now) c.if-lowest.true c.least_of-lowest.ensures)
 
 pub unreachable-requires : goal.unreachable-requires
 unreachable-requires c =
