@@ -3,7 +3,7 @@ ghost use Rattle.std.specs.Prelude.{◌≡◌, ◌≢◌, ◌↔◌, ◌≤◌, 
 ghost use Rattle.std.specs.declared.option.Option.{Option};
 ghost use Rattle.std.specs.Option.{option_copied};
 ghost use Rattle.dom_edge.specs.Causes.{HasCause, IsCounted};
-ghost use Rattle.dom_edge.specs.Stores.{Files, Reads, file_named};
+ghost use Rattle.dom_edge.specs.Stores.{Files, ReadsFile, file_named};
 ghost use Rattle.dom_edge.specs.Memory.{IsPlanned, IsCalled, HasFault, IsLong, no_calls};
 
 use crate::calls::PlannedCalls;
@@ -36,7 +36,7 @@ pub trait Store {
 
     /// The bytes of a file, which are no more than `limit`.
     fn read(&mut self, alloc: Global, name: &str, limit: usize) -> Result<Bytes, StoreError>
-        ensures reads { Reads (files self.old) name.now limit result }
+        ensures reads { ReadsFile (files self.old) name.now limit result }
         ensures within { IfOk result (λ bytes. length bytes ≤ limit) }
         ensures files { files self.new ≡ files self.old }
         ensures cause { HasCause (faults self.old) (faults self.new) (result ≡ Err StoreError.Failed) }
@@ -113,7 +113,7 @@ impl Store for MemoryStore {
     /// Is too long exactly where the call is not one that is to fail, and fails only where it is or
     /// the name is not there: in its place memory may run out, since the name is kept.
     fn read(&mut self, alloc: Global, name: &str, limit: usize) -> Result<Bytes, StoreError>
-        ensures reads { Reads (Some (file_named self.old.files)) name.now limit result }
+        ensures reads { ReadsFile (Some (file_named self.old.files)) name.now limit result }
         ensures within { IfOk result (λ bytes. length bytes ≤ limit) }
         ensures files { Some (file_named self.new.files) ≡ Some (file_named self.old.files) }
         ensures cause { HasCause self.old.calls.faults self.new.calls.faults (result ≡ Err StoreError.Failed) }
@@ -214,7 +214,7 @@ impl<R: Files + Drop> Store for FileStore<R> {
     ghost failed_at = { λ s. s.failed_at };
 
     fn read(&mut self, alloc: Global, name: &str, limit: usize) -> Result<Bytes, StoreError>
-        ensures reads { Reads None name.now limit result }
+        ensures reads { ReadsFile None name.now limit result }
         ensures within { IfOk result (λ bytes. length bytes ≤ limit) }
         ensures files { ◌≡◌ {A = Option Files} None None }
         ensures cause { HasCause self.old.faults self.new.faults (result ≡ Err StoreError.Failed) }
