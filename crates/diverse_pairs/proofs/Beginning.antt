@@ -1,5 +1,5 @@
 -- What searches and paths ask for before they begin.
-use Rattle.std.proofs.Common.{◌≡◌, inl, inr, ℕ, ◌+◌, ◌<◌, ◌≤◌, Bool, List, [], ◌∷◌, length, arith, refl, sym, ◌∙◌, ap, subst, None, Some}
+use Rattle.std.proofs.Common.{◌≡◌, inl, inr, ℕ, ◌<◌, Bool, List, [], ◌∷◌, length, arith, refl, sym, ◌∙◌, ap, subst, None, Some}
 use Rattle.std.specs.Prelude.{All, slice_index_or}
 use Rattle.std.specs.declared.option.Option.{Option}
 use Rattle.std.proofs.lemmas.Bool.Decides.{eqb_tells}
@@ -8,13 +8,12 @@ use Rattle.dom_base.specs.declared.query.Query.{Query}
 use Rattle.te_links.specs.Rows.{Rows, IsTopology}
 use Rattle.diverse_pairs.specs.declared.arcs.Arc.{Arc}
 use Rattle.diverse_pairs.specs.declared.arcs.TheConstants.{UNREACHED}
-use Rattle.diverse_pairs.specs.Arcs.{IsArc, at, is_used, IsAmong, AreAmong}
+use Rattle.diverse_pairs.specs.Arcs.{at, is_used, IsAmong, AreAmong}
 use Rattle.diverse_pairs.specs.Distances.{AreNear}
 use Rattle.diverse_pairs.specs.Residual.{residual_arc, residual_of, AreResidual}
 use Rattle.diverse_pairs.specs.Paths.{Goes}
 use Rattle.diverse_pairs.specs.Solving.{IsSearched}
 use Rattle.diverse_pairs.proofs.Beside.{ends_are, near}
-use Rattle.diverse_pairs.proofs.Flow.{Among}
 use Rattle.diverse_pairs.proofs.Linked.{arcs_among, arcs_light}
 use Rattle.diverse_pairs.proofs.Lowering.{arc_within}
 

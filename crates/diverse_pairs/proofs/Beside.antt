@@ -1,6 +1,6 @@
 -- What distances over the arcs that a walk leaves tell: the heights that they make rise over each arc by no more than its weight, and over
 -- each arc of the walk by no less.
-use Rattle.std.proofs.Common.{◌≡◌, ◌≢◌, ◌⊎◌, inl, inr, ℕ, zero, suc, ◌+◌, ◌-◌, ◌*◌, ◌/◌, ◌^◌, ◌<◌, ◌≤◌, ◌==◌, Bool, true, false, not, List, length, arith, refl, sym, ◌∙◌, ap, subst, None, Some, if◌then◌else◌}
+use Rattle.std.proofs.Common.{◌≡◌, inl, inr, ℕ, ◌+◌, ◌-◌, ◌*◌, ◌/◌, ◌^◌, ◌<◌, ◌≤◌, Bool, true, false, not, List, length, arith, refl, sym, ◌∙◌, ap, subst, None, Some}
 use Rattle.std.specs.Prelude.{slice_index_or}
 use Rattle.std.specs.declared.option.Option.{Option}
 use Rattle.std.proofs.lemmas.Bool.{cases_lt}
@@ -8,11 +8,10 @@ use Rattle.std.proofs.lemmas.Bool.Decides.{eqb_tells}
 use Rattle.std.proofs.lemmas.List.{get_or_past}
 use Rattle.diverse_pairs.specs.declared.arcs.Arc.{Arc}
 use Rattle.diverse_pairs.specs.declared.arcs.TheConstants.{UNREACHED}
-use Rattle.diverse_pairs.specs.declared.residual.TheConstants.{SCALE}
 use Rattle.diverse_pairs.specs.Arcs.{IsArc, at, is_used, IsAmong, AreAmong, AreLight}
 use Rattle.diverse_pairs.specs.Distances.{AreDistances, IsTight, AreNear}
-use Rattle.diverse_pairs.specs.Residual.{excess, scaled, residual_arc, residual_of, AreResidual, height_of, AreHeights}
-use Rattle.diverse_pairs.proofs.Flow.{IsAlong, RunsAlong}
+use Rattle.diverse_pairs.specs.Residual.{excess, scaled, residual_arc, residual_of, AreResidual, AreHeights}
+use Rattle.diverse_pairs.proofs.Flow.{RunsAlong}
 use Rattle.diverse_pairs.proofs.Hops.{IsMadeUp, AreScaled, made_up}
 
 -- distances over links are near

@@ -1,9 +1,8 @@
 -- The two paths with the potentials meet the conditions of a certificate.
-use Rattle.std.proofs.Common.{◌≡◌, ◌≢◌, ◌⊎◌, inl, inr, ℕ, zero, suc, ◌+◌, ◌-◌, ◌<◌, ◌≤◌, Bool, true, false, List, [], ◌∷◌, ◌++◌, length, take, drop, map, arith, refl, sym, ◌∙◌, ap, subst, None, Some}
-use Rattle.std.specs.Prelude.{◌↔◌, AllPairs, Contains, slice_get, slice_index_or}
+use Rattle.std.proofs.Common.{◌≡◌, ◌≢◌, inl, inr, ℕ, ◌-◌, ◌<◌, ◌≤◌, Bool, true, false, List, [], ◌∷◌, ◌++◌, length, take, map, arith, refl, sym, ◌∙◌, ap, subst, Some}
+use Rattle.std.specs.Prelude.{AllPairs, Contains, slice_get, slice_index_or}
 use Rattle.std.specs.declared.option.Option.{Option}
 use Rattle.std.proofs.lemmas.Bool.{cases_lt}
-use Rattle.std.proofs.lemmas.Bool.Decides.{eqb_tells}
 use Rattle.std.proofs.lemmas.List.{take_all, get_or_default, length-map}
 use Rattle.std.proofs.lemmas.List.Elements.{Contains-append_cases, Contains-append_left, Contains-append_right}
 use Rattle.std.proofs.lemmas.Option.{slice_get_within}
@@ -12,9 +11,7 @@ use Rattle.dom_base.proofs.Ranks.{same_addr}
 use Rattle.dom_base.specs.declared.addr.Addr.{Addr}
 use Rattle.dom_base.specs.declared.link.Link.{Link as TeLink}
 use Rattle.dom_base.specs.declared.query.Query.{Query}
-use Rattle.dom_base.specs.Admission.{weight}
-use Rattle.te_links.specs.Rows.{Rows, IsTopology, IsInOrder}
-use Rattle.walk_laws.specs.Walks.{AdmitsLink}
+use Rattle.te_links.specs.Rows.{Rows, IsTopology}
 use Rattle.path_search.specs.Segments.{AreAt}
 use Rattle.path_search.proofs.Places.{same_place}
 use Rattle.path_search.proofs.OpenForm.{same_length}
@@ -22,13 +19,12 @@ use Rattle.diverse_pairs.specs.declared.arcs.Arc.{Arc}
 use Rattle.diverse_pairs.specs.declared.arcs.TheConstants.{UNREACHED}
 use Rattle.diverse_pairs.specs.declared.certificate.PairForm.TheVariants.{Paths, Cut}
 use Rattle.diverse_pairs.specs.declared.certificate.PairForm.{PairForm}
-use Rattle.diverse_pairs.specs.declared.verdict.PairVerdict.TheVariants.{Holds}
 use Rattle.diverse_pairs.specs.Arcs.{IsArc, at, is_used, IsAmong, AreAmong}
-use Rattle.diverse_pairs.specs.Paths.{Goes, turned}
+use Rattle.diverse_pairs.specs.Paths.{turned}
 use Rattle.diverse_pairs.specs.Potentials.{potential_in}
-use Rattle.diverse_pairs.specs.Conditions.{asked_of, LeadsAlong, Traces, TracesOver, ListHolds, PathHolds, LinkHoldsAt, LinkHolds, IsVerdict, fars_of}
+use Rattle.diverse_pairs.specs.Conditions.{asked_of, LeadsAlong, Traces, ListHolds, PathHolds, LinkHoldsAt, LinkHolds, fars_of}
 use Rattle.diverse_pairs.specs.Pairs.{IsPair, IsLeastPair}
-use Rattle.diverse_pairs.specs.Shown.{IsHigh, ArePotentials}
+use Rattle.diverse_pairs.specs.Shown.{ArePotentials}
 use Rattle.diverse_pairs.specs.Solution.{IsSolved}
 use Rattle.diverse_pairs.specs.Solving.{IsPlaced, IsSearched, IsWalked, IsTurned, ArePaths, ArePathsIn}
 use Rattle.diverse_pairs.proofs.Best.{link_of, far_among, least_pair}

@@ -1,12 +1,11 @@
 -- The nodes without a distance make a cut that at most one link leaves.
-use Rattle.std.proofs.Common.{◌≡◌, ◌≢◌, ◌⊎◌, inl, inr, ℕ, zero, suc, ◌+◌, ◌<◌, ◌≤◌, Bool, true, false, List, [], ◌∷◌, length, arith, refl, sym, ◌∙◌, ap, subst, None, Some}
-use Rattle.std.specs.Prelude.{AllPairs, Contains, slice_get, slice_index_or}
+use Rattle.std.proofs.Common.{◌≡◌, ◌≢◌, inl, inr, ℕ, ◌<◌, Bool, true, false, List, [], ◌∷◌, length, arith, refl, sym, ◌∙◌, ap, subst}
+use Rattle.std.specs.Prelude.{AllPairs}
 use Rattle.std.specs.declared.option.Option.{Option}
 use Rattle.dom_base.specs.AddrOrder.{rank}
 use Rattle.dom_base.specs.declared.addr.Addr.{Addr}
-use Rattle.dom_base.specs.declared.link.Link.{Link as TeLink}
 use Rattle.dom_base.specs.declared.query.Query.{Query}
-use Rattle.te_links.specs.Rows.{Rows, IsTopology}
+use Rattle.te_links.specs.Rows.{Rows}
 use Rattle.walk_laws.specs.Walks.{AdmitsNode}
 use Rattle.path_search.proofs.Places.{same_place}
 use Rattle.diverse_pairs.specs.declared.arcs.Arc.{Arc}
@@ -17,17 +16,17 @@ use Rattle.diverse_pairs.specs.Arcs.{IsArc, at, is_used, IsAmong}
 use Rattle.diverse_pairs.specs.Paths.{Goes}
 use Rattle.diverse_pairs.specs.Residual.{residual_arc}
 use Rattle.diverse_pairs.specs.Conditions.{Asked, asked_of, HasEnds, EndsHold, Leaves, IsOnlyToLeave}
-use Rattle.diverse_pairs.specs.Shown.{IsCutOff, AreCutOff}
+use Rattle.diverse_pairs.specs.Shown.{AreCutOff}
 use Rattle.diverse_pairs.specs.Solution.{IsSolved}
 use Rattle.diverse_pairs.specs.Solving.{IsPlaced, IsSearched, IsWalked, IsCutForm}
 use Rattle.diverse_pairs.proofs.Cutting.{no_pair}
 use Rattle.diverse_pairs.proofs.Judging.{cut_holds}
 use Rattle.diverse_pairs.proofs.Lowering.{one_arc}
 use Rattle.diverse_pairs.proofs.Flow.{Among}
-use Rattle.diverse_pairs.proofs.Beside.{is_near, near, left, stays, first_reached, back_reached, straight_ends}
-use Rattle.diverse_pairs.proofs.Linked.{HasArc, admitted_arc, arcs_among, arcs_light}
+use Rattle.diverse_pairs.proofs.Beside.{near, left, stays, first_reached, back_reached, straight_ends}
+use Rattle.diverse_pairs.proofs.Linked.{admitted_arc, arcs_among, arcs_light}
 use Rattle.diverse_pairs.proofs.Places.{one_far}
-use Rattle.diverse_pairs.proofs.Walked.{among_ds, is_left, used_walk, walk_used, stays_reached, later_reached}
+use Rattle.diverse_pairs.proofs.Walked.{is_left, used_walk, walk_used, later_reached}
 
 pub cut_solved : (a : Asked) (nodes : List Addr) → AllPairs (λ x y. rank x < rank y) nodes → EndsHold a nodes →
     (HasEnds a → (i : ℕ) → IsOnlyToLeave a.topology a.query nodes i) → IsSolved a (Cut nodes)

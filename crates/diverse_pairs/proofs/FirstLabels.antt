@@ -1,6 +1,6 @@
 -- Distances to a node are the labels of a search from it, and the path that goes by the first tight arcs is the chosen segment.
-use Rattle.std.proofs.Common.{◌≡◌, ◌≢◌, inl, inr, ℕ, zero, suc, ◌+◌, ◌*◌, ◌<◌, ◌≤◌, ◌==◌, Bool, true, false, List, [], ◌∷◌, length, map, arith, refl, sym, ◌∙◌, ap, subst, None, Some, if◌then◌else◌}
-use Rattle.std.specs.Prelude.{Contains, slice_get, slice_index_or}
+use Rattle.std.proofs.Common.{◌≡◌, inl, inr, ℕ, zero, suc, ◌+◌, ◌*◌, ◌<◌, ◌≤◌, ◌==◌, Bool, List, [], ◌∷◌, length, map, arith, refl, sym, ◌∙◌, ap, subst, None, Some, if◌then◌else◌}
+use Rattle.std.specs.Prelude.{Contains, slice_get}
 use Rattle.std.specs.declared.option.Option.{Option}
 use Rattle.std.proofs.lemmas.Bool.{cases_lt}
 use Rattle.std.proofs.lemmas.Bool.Decides.{eqb_tells}
@@ -16,8 +16,8 @@ use Rattle.dom_base.specs.Admission.{weight}
 use Rattle.te_links.specs.declared.limits.TheConstants.{NODES_MAX, METRIC_MAX}
 use Rattle.te_links.specs.Rows.{Rows, IsTopology, IsInOrder}
 use Rattle.walk_laws.specs.Walks.{AdmitsNode, AdmitsLink}
-use Rattle.walk_laws.specs.Labels.{◌≼◌, IsLabel, EndsAt, IsTight as IsTightLink, IsSegment, IsChosen}
-use Rattle.walk_laws.specs.Certificate.{AtMost, before, SeedHolds, LinkHolds, NodeHolds, Certifies, Labelling}
+use Rattle.walk_laws.specs.Labels.{IsLabel, EndsAt, IsSegment}
+use Rattle.walk_laws.specs.Certificate.{AtMost, before, SeedHolds, LinkHolds, NodeHolds, Labelling}
 use Rattle.walk_laws.proofs.Reached.{certified}
 use Rattle.walk_laws.proofs.Tight.{label_unique}
 use Rattle.path_search.specs.Arcs.{label_at}
@@ -25,13 +25,13 @@ use Rattle.path_search.proofs.Places.{same_place, label_of, label_of-at, label_o
 use Rattle.path_search.specs.Segments.{AreAt}
 use Rattle.diverse_pairs.specs.declared.arcs.Arc.{Arc}
 use Rattle.diverse_pairs.specs.declared.arcs.TheConstants.{UNREACHED}
-use Rattle.diverse_pairs.specs.Arcs.{IsArc, at, is_used, IsAmong}
+use Rattle.diverse_pairs.specs.Arcs.{at, IsAmong}
 use Rattle.diverse_pairs.specs.Distances.{AreDistances, IsTight, AreTight, AreNear}
 use Rattle.diverse_pairs.specs.Paths.{Goes}
 use Rattle.diverse_pairs.specs.Chosen.{target_seed}
 use Rattle.diverse_pairs.specs.Network.{AreArcs}
 use Rattle.diverse_pairs.proofs.Beside.{near}
-use Rattle.diverse_pairs.proofs.Linked.{HasArc, admitted_arc, arc_link, arcs_among, arcs_light, one_node, one_link, rank_le}
+use Rattle.diverse_pairs.proofs.Linked.{admitted_arc, arc_link, arcs_among, arcs_light, one_node, one_link, rank_le}
 
 pub made_label : ℕ → Addr → Label
 made_label d t = record { cost = d; exit = t }

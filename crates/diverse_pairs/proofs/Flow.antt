@@ -1,6 +1,6 @@
 -- How many arcs in use begin and end at each node, as arcs are put into use and taken out of use along a path.
-use Rattle.std.proofs.Common.{◌≡◌, ◌≢◌, ◌⊎◌, inl, inr, ℕ, zero, suc, ◌+◌, ◌<◌, ◌≤◌, ◌==◌, Bool, true, false, not, List, [], ◌∷◌, length, arith, refl, sym, ◌∙◌, ap, subst, None, Some, if◌then◌else◌}
-use Rattle.std.specs.Prelude.{slice_set, slice_index_or, Contains}
+use Rattle.std.proofs.Common.{◌≡◌, ◌⊎◌, inl, inr, ℕ, zero, suc, ◌+◌, ◌<◌, ◌≤◌, ◌==◌, Bool, true, false, not, List, [], ◌∷◌, length, arith, refl, sym, ◌∙◌, ap, subst, None, Some, if◌then◌else◌}
+use Rattle.std.specs.Prelude.{slice_set, slice_index_or}
 use Rattle.std.specs.declared.option.Option.{Option}
 use Rattle.std.proofs.lemmas.Bool.{cases_lt}
 use Rattle.std.proofs.lemmas.Bool.Decides.{eqb_tells}
@@ -8,7 +8,7 @@ use Rattle.std.proofs.lemmas.List.{get_or-set_same, get_or-set_other, get_or_pas
 use Rattle.std.proofs.Math.ListN.{length-set}
 use Rattle.diverse_pairs.specs.declared.arcs.Arc.{Arc}
 use Rattle.diverse_pairs.specs.Arcs.{IsArc, at, is_used, HasArcFrom}
-use Rattle.diverse_pairs.specs.Paths.{IsFirstFrom, Goes, HasArcInto, LeadsOn, Falling, turned}
+use Rattle.diverse_pairs.specs.Paths.{Goes, LeadsOn, Falling, turned}
 
 -- 1 at a node, and 0 elsewhere
 abbrev pub one_at : ℕ → ℕ → ℕ

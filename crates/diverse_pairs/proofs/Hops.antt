@@ -1,12 +1,12 @@
 -- Distances over arcs each of which weighs a multiple of a scale and 1 more: the multiples add up to a cost, and the 1s to a number of arcs
 -- that is below the number of nodes.
-use Rattle.std.proofs.Common.{◌≡◌, ◌≢◌, ◌⊎◌, inl, inr, ℕ, zero, suc, ◌+◌, ◌*◌, ◌<◌, ◌≤◌, Bool, true, false, List, [], ◌∷◌, length, arith, refl, sym, ◌∙◌, ap, subst, None, Some, if◌then◌else◌, nat_lt}
+use Rattle.std.proofs.Common.{◌≡◌, inl, inr, ℕ, zero, suc, ◌+◌, ◌*◌, ◌<◌, ◌≤◌, List, [], ◌∷◌, length, arith, refl, ap, if◌then◌else◌, nat_lt}
 use Rattle.std.specs.declared.option.Option.{Option}
 use Rattle.std.proofs.lemmas.Bool.{cases_lt, lt-ltb, le-ltb}
 use Rattle.diverse_pairs.specs.declared.arcs.Arc.{Arc}
 use Rattle.diverse_pairs.specs.declared.arcs.TheConstants.{UNREACHED}
 use Rattle.diverse_pairs.specs.Arcs.{IsArc, at, AreAmong}
-use Rattle.diverse_pairs.specs.Distances.{IsLow, AreLow, IsReachedBy, AreMade, AreDistances}
+use Rattle.diverse_pairs.specs.Distances.{AreDistances}
 
 -- how many numbers are below x
 pub below : ℕ → List ℕ → ℕ

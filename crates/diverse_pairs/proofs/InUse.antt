@@ -1,21 +1,19 @@
 -- The arcs in use are those of the links in use, and the paths over them are the chosen pair.
-use Rattle.std.proofs.Common.{◌≡◌, ◌≢◌, ◌⊎◌, inl, inr, ℕ, zero, suc, ◌+◌, ◌<◌, ◌≤◌, Bool, true, false, not, List, [], ◌∷◌, length, map, arith, refl, sym, ◌∙◌, ap, subst, None, Some}
-use Rattle.std.specs.Prelude.{◌↔◌, Contains, slice_get, slice_index_or}
-use Rattle.std.specs.List.{AllZip}
+use Rattle.std.proofs.Common.{◌≡◌, inl, inr, ℕ, zero, suc, Bool, true, false, not, List, [], ◌∷◌, map, arith, refl, sym, ◌∙◌, ap, subst, Some}
+use Rattle.std.specs.Prelude.{◌↔◌, Contains, slice_get}
 use Rattle.std.specs.declared.option.Option.{Option}
 use Rattle.dom_base.specs.AddrOrder.{rank}
 use Rattle.dom_base.specs.declared.addr.Addr.{Addr}
 use Rattle.dom_base.specs.declared.link.Link.{Link}
 use Rattle.dom_base.specs.declared.query.Query.{Query}
-use Rattle.te_links.specs.Rows.{Rows, IsTopology, IsInOrder}
+use Rattle.te_links.specs.Rows.{Rows}
 use Rattle.walk_laws.specs.Walks.{AdmitsNode, AdmitsLink, Walk}
 use Rattle.path_search.specs.Segments.{AreAt}
 use Rattle.path_search.proofs.Places.{same_place}
 use Rattle.diverse_pairs.specs.declared.arcs.Arc.{Arc}
-use Rattle.diverse_pairs.specs.Arcs.{IsArc, at, is_used}
-use Rattle.diverse_pairs.specs.Network.{AreArcs}
+use Rattle.diverse_pairs.specs.Arcs.{is_used}
 use Rattle.diverse_pairs.specs.Paths.{Goes, turned}
-use Rattle.diverse_pairs.specs.Chosen.{Residual, taken, turned as turned_link, IsInUse, IsLowest, IsChosenPair}
+use Rattle.diverse_pairs.specs.Chosen.{Residual, IsInUse, IsLowest, IsChosenPair}
 use Rattle.diverse_pairs.specs.Conditions.{LeadsAlong}
 use Rattle.diverse_pairs.specs.Solving.{IsPlaced, IsSearched, IsWalked, IsTurned}
 use Rattle.diverse_pairs.proofs.Sums.{head_of, behind_head}
@@ -24,7 +22,7 @@ use Rattle.diverse_pairs.proofs.Beside.{left}
 use Rattle.diverse_pairs.proofs.Linked.{arc_link, admitted_arc, one_link, one_node, rank_le, at_among, among_at}
 use Rattle.diverse_pairs.proofs.SecondWalk.{AreBeside, beside, second}
 use Rattle.diverse_pairs.proofs.Places.{one_far}
-use Rattle.diverse_pairs.proofs.Walked.{decide, walk_links, marked, walk_used, is_left, are_left, is_walk, lies_second, both_other, both_at, long_both, lies_path, taken_at, taken_used, taken_other, links_of}
+use Rattle.diverse_pairs.proofs.Walked.{decide, walk_links, marked, is_left, are_left, is_walk, lies_second, both_other, both_at, taken_used, taken_other}
 
 -- links by their places, as they stand beside the walk
 pub beside_of : (g : Rows) (q : Query) (us : List Bool) (is : List ℕ) → ((j : ℕ) → Among is j → (l : Link) × (slice_get g.links j ≡ Some l)) → (rr : List Residual) × AreBeside g q us is rr

@@ -1,5 +1,5 @@
 -- Arcs and the links that they are of.
-use Rattle.std.proofs.Common.{◌≡◌, ◌≢◌, inl, inr, ℕ, zero, suc, ◌+◌, ◌<◌, ◌≤◌, List, [], ◌∷◌, length, arith, refl, sym, ◌∙◌, ap, subst, None, Some}
+use Rattle.std.proofs.Common.{◌≡◌, inl, inr, ℕ, zero, suc, ◌<◌, ◌≤◌, List, [], ◌∷◌, length, arith, refl, sym, ◌∙◌, ap, subst, None, Some}
 use Rattle.std.specs.Prelude.{Contains, MatchOption, slice_get, slice_index_or}
 use Rattle.std.specs.declared.option.Option.{Option}
 use Rattle.std.proofs.lemmas.Bool.{cases_lt}
@@ -12,9 +12,9 @@ use Rattle.dom_base.specs.declared.link.Link.{Link}
 use Rattle.dom_base.specs.declared.query.Query.{Query}
 use Rattle.dom_base.specs.Admission.{weight as weight_of}
 use Rattle.te_links.specs.Rows.{Rows, IsTopology, IsInOrder, IsInnerLink}
-use Rattle.walk_laws.specs.Walks.{AdmitsNode, AdmitsLink}
+use Rattle.walk_laws.specs.Walks.{AdmitsLink}
 use Rattle.path_certificate.specs.Offers.{IsAdmittedAt}
-use Rattle.path_search.proofs.Places.{same_place, place_of, contains_at}
+use Rattle.path_search.proofs.Places.{place_of}
 use Rattle.path_search.proofs.Certified.{weight_bounds}
 use Rattle.path_search.specs.Segments.{AreAt}
 use Rattle.diverse_pairs.specs.declared.arcs.Arc.{Arc}

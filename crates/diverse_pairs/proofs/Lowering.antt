@@ -1,6 +1,6 @@
 -- Distances that are lowered over arcs until none falls.
-use Rattle.std.proofs.Common.{◌≡◌, ◌≢◌, inl, inr, ℕ, ◌+◌, ◌<◌, ◌≤◌, Bool, true, false, List, length, arith, refl, sym, ◌∙◌, ap, subst, None, Some, replicate}
-use Rattle.std.specs.Prelude.{MatchBool, slice_set, slice_index_or, sum}
+use Rattle.std.proofs.Common.{◌≡◌, ◌≢◌, inl, inr, ℕ, ◌+◌, ◌<◌, ◌≤◌, Bool, true, false, List, length, arith, sym, ◌∙◌, ap, subst, None, Some, replicate}
+use Rattle.std.specs.Prelude.{MatchBool, slice_set, sum}
 use Rattle.std.specs.declared.option.Option.{Option}
 use Rattle.std.proofs.lemmas.Bool.{cases_lt}
 use Rattle.std.proofs.lemmas.Bool.Decides.{eqb_tells}
@@ -9,8 +9,8 @@ use Rattle.std.proofs.Math.ListN.{length-set}
 use Rattle.std.proofs.lemmas.List.Sums.{sum_by-set}
 use Rattle.diverse_pairs.specs.declared.arcs.Arc.{Arc}
 use Rattle.diverse_pairs.specs.declared.arcs.TheConstants.{UNREACHED}
-use Rattle.diverse_pairs.specs.Arcs.{IsArc, at, IsAmong, AreAmong}
-use Rattle.diverse_pairs.specs.Distances.{IsLow, AreLow, Lowers, Falls, IsReachedBy, AreMade, AreDistances}
+use Rattle.diverse_pairs.specs.Arcs.{IsArc, at, IsAmong}
+use Rattle.diverse_pairs.specs.Distances.{IsLow, AreLow, Lowers, Falls, AreMade}
 
 module _ (arcs : List (Option Arc)) (t i : ℕ) (a : Arc) (old new : List ℕ) (is_arc : IsArc arcs i a) (among : IsAmong (length old) a) (low : Lowers a old new) where
   here : at new a.tail ≡ a.weight + at old a.head

@@ -1,7 +1,5 @@
 -- Lines that were written say again what was written.
-use Rattle.std.proofs.Common.{◌≡◌, ◌≢◌, ℕ, ◌+◌, ◌-◌, ◌^◌, ◌<◌, ◌≤◌, List, [], ◌∷◌, ◌++◌, length, map, get_or, false, true, leb, Option, Some, None, append_assoc, refl, sym, ap, ◌∙◌, arith}
-use Rattle.std.specs.Prelude.{AllPairs}
-use Rattle.std.proofs.lemmas.List.{append-nil}
+use Rattle.std.proofs.Common.{◌≡◌, ◌≢◌, ℕ, ◌+◌, ◌-◌, ◌^◌, ◌<◌, List, [], ◌∷◌, ◌++◌, length, map, get_or, false, Some, None, append_assoc, refl, sym, ap, ◌∙◌, arith}
 use Rattle.std.proofs.lemmas.Bool.{false_from_ne_true, le-leb}
 use Rattle.std.proofs.lemmas.Slice.Eq.{bytes_eq-Decides}
 use Rattle.std.specs.Fmt.{decimal}
@@ -11,14 +9,12 @@ use Rattle.dom_base.specs.declared.addr.Addr.{Addr}
 use Rattle.dom_base.specs.declared.names.As.{As}
 use Rattle.dom_base.specs.Numerals.{number_in}
 use Rattle.dom_base.specs.AddrText.{addr_in, addr_text, octet_in}
-use Rattle.dom_base.specs.Steps.{◌>>=◌}
 use Rattle.line_text.specs.Spelling.{joined, line_text, IsWord, IsLine}
 use Rattle.te_text.specs.RowText.{number_64}
 use Rattle.te_text.proofs.Spelling.{addr_word, number_word}
 use Rattle.path_certificate.specs.RowText.{dash, is_dash, addrs_in}
 use Rattle.path_certificate.specs.CertificateText.{spaced, AreAddrs}
 use Rattle.path_certificate.proofs.RowSpelling.{joined_spaced}
-use Rattle.diverse_pairs.specs.declared.pair_row.PairRow.{PairRow}
 use Rattle.diverse_pairs.specs.declared.pair_row.PairRow.TheVariants as rows
 use Rattle.diverse_pairs.specs.RowText.{at_word, first_word, second_word, cut_word, rising_in, nodes_behind, row_in}
 use Rattle.path_certificate.specs.Text.{own_behind}

@@ -1,6 +1,6 @@
 -- The path by the first tight arcs that a walk leaves is the least residual walk.
-use Rattle.std.proofs.Common.{◌≡◌, ◌≢◌, ◌⊎◌, inl, inr, ℕ, zero, suc, ◌+◌, ◌<◌, ◌≤◌, Bool, true, false, List, [], ◌∷◌, length, map, arith, refl, sym, ◌∙◌, ap, subst, None, Some}
-use Rattle.std.specs.Prelude.{◌↔◌, Contains, slice_get, slice_index_or, ℤ, pos, ◌+ℤ◌, ◌-ℤ◌, ◌<ℤ◌, ◌≤ℤ◌}
+use Rattle.std.proofs.Common.{◌≡◌, inl, inr, ℕ, ◌+◌, ◌<◌, ◌≤◌, Bool, true, false, List, [], ◌∷◌, length, arith, refl, sym, ◌∙◌, ap, subst, None, Some}
+use Rattle.std.specs.Prelude.{◌↔◌, Contains, slice_get, slice_index_or, pos, ◌+ℤ◌, ◌≤ℤ◌}
 use Rattle.std.specs.List.{AllZip}
 use Rattle.std.specs.declared.option.Option.{Option}
 use Rattle.std.proofs.lemmas.Bool.{cases_lt}
@@ -17,13 +17,13 @@ use Rattle.path_search.proofs.Places.{same_place, place_of}
 use Rattle.diverse_pairs.specs.declared.arcs.Arc.{Arc}
 use Rattle.diverse_pairs.specs.declared.arcs.TheConstants.{UNREACHED}
 use Rattle.diverse_pairs.specs.Arcs.{IsArc, at, is_used}
-use Rattle.diverse_pairs.specs.Distances.{AreDistances, IsTight, AreTight}
+use Rattle.diverse_pairs.specs.Distances.{IsTight, AreTight}
 use Rattle.diverse_pairs.specs.Residual.{residual_arc, AreHeights}
 use Rattle.diverse_pairs.specs.Paths.{Goes, IsFirstFrom}
-use Rattle.diverse_pairs.specs.Chosen.{Residual, taken, turned, IsResidual, ResidualWalk, residual_cost, residual_fars, ComesFirst, IsAtMost, IsSecondWalk}
+use Rattle.diverse_pairs.specs.Chosen.{Residual, taken, turned, IsResidual, ResidualWalk, residual_cost, residual_fars, ComesFirst, IsSecondWalk}
 use Rattle.diverse_pairs.specs.Network.{AreArcs}
-use Rattle.diverse_pairs.proofs.Beside.{Left, left, stays, first_reached, left_among, back_reached, runs_along, IsReached, reached_at, same_hops, straight_low, straight_tight, back_low, back_tight, straight_again, back_again, straight_ends, back_ends}
-use Rattle.diverse_pairs.proofs.Linked.{HasArc, admitted_arc, arc_link, one_node, one_link}
+use Rattle.diverse_pairs.proofs.Beside.{Left, left, stays, first_reached, left_among, back_reached, IsReached, reached_at, same_hops, straight_low, straight_tight, back_low, back_tight, straight_again, back_again, straight_ends, back_ends}
+use Rattle.diverse_pairs.proofs.Linked.{admitted_arc, arc_link, one_node, one_link}
 
 -- a link as it stands beside the walk, by whether it is in use
 abbrev pub beside : Query → Bool → Link → Residual

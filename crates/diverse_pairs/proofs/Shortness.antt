@@ -1,8 +1,8 @@
 -- A path over which heights fall has fewer arcs than there are nodes.
-use Rattle.std.proofs.Common.{◌≡◌, ℕ, ◌+◌, ◌<◌, ◌≤◌, Bool, List, [], ◌∷◌, length, arith, refl, ap}
+use Rattle.std.proofs.Common.{ℕ, ◌<◌, ◌≤◌, Bool, List, [], ◌∷◌, length, arith, refl, ap}
 use Rattle.std.specs.declared.option.Option.{Option}
 use Rattle.diverse_pairs.specs.declared.arcs.Arc.{Arc}
-use Rattle.diverse_pairs.specs.Arcs.{IsArc, at, AreAmong}
+use Rattle.diverse_pairs.specs.Arcs.{at, AreAmong}
 use Rattle.diverse_pairs.specs.Paths.{Goes, Falling}
 use Rattle.diverse_pairs.proofs.Hops.{below, below_less, below_some}
 

@@ -1,11 +1,11 @@
 -- Tight arcs lead on, from a node with a distance, to the target.
-use Rattle.std.proofs.Common.{◌≡◌, ◌≢◌, ◌⊎◌, inl, inr, ℕ, zero, suc, ◌+◌, ◌<◌, ◌≤◌, Bool, true, false, not, List, length, arith, refl, sym, ◌∙◌, ap, subst, None, Some}
+use Rattle.std.proofs.Common.{◌≢◌, inl, inr, ℕ, ◌<◌, Bool, List, length, arith, ap}
 use Rattle.std.specs.declared.option.Option.{Option}
 use Rattle.diverse_pairs.specs.declared.arcs.Arc.{Arc}
 use Rattle.diverse_pairs.specs.declared.arcs.TheConstants.{UNREACHED}
-use Rattle.diverse_pairs.specs.Arcs.{IsArc, at, is_used, AreAmong, HasArcFrom}
+use Rattle.diverse_pairs.specs.Arcs.{at, AreAmong, HasArcFrom}
 use Rattle.diverse_pairs.specs.Distances.{AreDistances, IsTight, AreTight}
-use Rattle.diverse_pairs.specs.Paths.{HasArcInto, LeadsOn, Falling}
+use Rattle.diverse_pairs.specs.Paths.{LeadsOn, Falling}
 
 pub tight_falls : (arcs : List (Option Arc)) (ds : List ℕ) (marks : List Bool) → AreAmong (length ds) arcs → AreTight arcs ds marks → Falling arcs marks ds
 tight_falls arcs ds marks among tight i a is_arc marked =

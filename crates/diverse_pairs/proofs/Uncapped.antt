@@ -1,11 +1,10 @@
 -- What a query admits doesn't depend on its cap.
-use Rattle.std.proofs.Common.{◌≡◌, ℕ, List, refl, ap, None, Some}
+use Rattle.std.proofs.Common.{ℕ, List, None, Some}
 use Rattle.std.specs.Prelude.{MatchOption, slice_index_or}
 use Rattle.std.specs.declared.option.Option.{Option}
 use Rattle.dom_base.specs.declared.addr.Addr.{Addr}
 use Rattle.dom_base.specs.declared.link.Link.{Link}
 use Rattle.dom_base.specs.declared.query.Query.{Query}
-use Rattle.dom_base.specs.Admission.{Fits, BarsLink, BarsNode}
 use Rattle.te_links.specs.Rows.{Rows}
 use Rattle.walk_laws.specs.Walks.{AdmitsNode, AdmitsLink}
 use Rattle.path_certificate.specs.Offers.{IsAdmittedAt}

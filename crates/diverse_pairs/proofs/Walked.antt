@@ -1,6 +1,6 @@
 -- A first walk, what it leaves, and a second one: which arcs are in use then, how many begin and end at each node, and how the heights fall.
-use Rattle.std.proofs.Common.{◌≡◌, ◌≢◌, ◌⊎◌, inl, inr, ℕ, zero, suc, ◌+◌, ◌<◌, ◌≤◌, Bool, true, false, not, List, [], ◌∷◌, length, replicate, arith, refl, sym, ◌∙◌, ap, subst, None, Some}
-use Rattle.std.specs.Prelude.{◌↔◌, Contains, slice_get, slice_index_or}
+use Rattle.std.proofs.Common.{◌≡◌, ◌⊎◌, inl, inr, ℕ, suc, ◌+◌, ◌<◌, ◌≤◌, Bool, true, false, not, List, [], ◌∷◌, length, replicate, arith, refl, sym, ◌∙◌, ap, subst, Some}
+use Rattle.std.specs.Prelude.{◌↔◌, Contains, slice_get}
 use Rattle.std.specs.declared.option.Option.{Option}
 use Rattle.std.proofs.lemmas.Bool.{cases_lt}
 use Rattle.std.proofs.lemmas.Bool.Decides.{eqb_tells}
@@ -17,14 +17,14 @@ use Rattle.diverse_pairs.specs.declared.arcs.TheConstants.{UNREACHED}
 use Rattle.diverse_pairs.specs.Arcs.{IsArc, at, is_used, IsAmong, AreAmong}
 use Rattle.diverse_pairs.specs.Distances.{IsTight}
 use Rattle.diverse_pairs.specs.Residual.{residual_arc}
-use Rattle.diverse_pairs.specs.Paths.{Goes, LeadsOn, Falling, turned}
+use Rattle.diverse_pairs.specs.Paths.{Goes, Falling, turned}
 use Rattle.diverse_pairs.specs.Chosen.{IsChosenWalk, uncapped}
 use Rattle.diverse_pairs.specs.Solving.{IsPlaced, IsSearched, IsWalked, IsTurned, MakePaths}
 use Rattle.diverse_pairs.proofs.Lowering.{one_arc, arc_within}
-use Rattle.diverse_pairs.proofs.Flow.{Among, Fresh, Lies, lies, fresh, turned_at, turned_other, length_turned, Balances, plus, one_at, path_turned, path_taken, none_in_use, tails, heads, leads_on, none_left, RunsAlong, one_other, one_same}
+use Rattle.diverse_pairs.proofs.Flow.{Among, Fresh, Lies, lies, fresh, turned_at, turned_other, length_turned, Balances, plus, path_turned, path_taken, none_in_use, leads_on, none_left, RunsAlong, one_other}
 use Rattle.diverse_pairs.proofs.Tightness.{tight_falls}
 use Rattle.diverse_pairs.proofs.Beside.{Left, left, stays, first_reached, left_among, back_reached, runs_along, IsReached, reached_at, straight_low, straight_tight, back_low, back_tight, straight_ends, back_ends}
-use Rattle.diverse_pairs.proofs.Linked.{arc_link, one_link, one_node, arcs_among, arcs_light, at_among, among_at}
+use Rattle.diverse_pairs.proofs.Linked.{arc_link, one_link, arcs_among, arcs_light, at_among, among_at}
 use Rattle.diverse_pairs.proofs.Uncapped.{arcs_up, node_up}
 use Rattle.diverse_pairs.proofs.FirstLabels.{made_label, AreFound, has_label, segment}
 use Rattle.diverse_pairs.proofs.SecondWalk.{AreLeft}

@@ -1,8 +1,7 @@
 -- Paths that take the first arc at each node.
-use Rattle.std.proofs.Common.{◌≡◌, ◌≢◌, inl, inr, ℕ, ◌+◌, ◌<◌, ◌≤◌, Bool, true, false, List, [], ◌∷◌, ◌++◌, length, arith, refl, sym, ◌∙◌, ap, subst, None, Some, append_assoc, append-nil}
+use Rattle.std.proofs.Common.{◌≡◌, ◌≢◌, ℕ, Bool, List, [], ◌∷◌, ◌++◌, append_assoc, append-nil}
 use Rattle.std.specs.declared.option.Option.{Option}
 use Rattle.diverse_pairs.specs.declared.arcs.Arc.{Arc}
-use Rattle.diverse_pairs.specs.Arcs.{IsArc, at, is_used}
 use Rattle.diverse_pairs.specs.Paths.{IsFirstFrom, Goes}
 
 -- what goes on from here goes on from the source

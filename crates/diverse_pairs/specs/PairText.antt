@@ -1,11 +1,10 @@
 -- The text of a pair's certificate as it is written: its header, then the potentials in their order and the two paths, or the cut.
 use Rattle.std.specs.Prelude.{◌≡◌, ◌≢◌, ◌<◌, ℕ, List, [], ◌∷◌, ◌++◌, Some, map, decimal, All, AllPairs}
-use Rattle.std.specs.List.{AllByRecursion}
 use Rattle.dom_base.specs.AddrOrder.{rank}
 use Rattle.dom_base.specs.declared.addr.Addr.{Addr}
 use Rattle.dom_base.specs.declared.names.As.{As}
 use Rattle.dom_base.specs.AddrText.{addr_text}
-use Rattle.line_text.specs.Spelling.{line_text, text_of, IsLine}
+use Rattle.line_text.specs.Spelling.{text_of, IsLine}
 use Rattle.path_certificate.specs.RowText.{dash}
 use Rattle.path_certificate.specs.CertificateText.{AreAddrs}
 use Rattle.diverse_pairs.specs.declared.certificate.PairCertificate.{PairCertificate}

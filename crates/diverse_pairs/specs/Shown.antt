@@ -1,5 +1,5 @@
 -- What a certificate says of distances: potentials that rise as the heights fall, and the nodes that have no distance.
-use Rattle.std.specs.Prelude.{◌≡◌, ◌<◌, ◌≤◌, ◌-◌, ◌↔◌, ℕ, List, Contains, AllPairs, Some, slice_get}
+use Rattle.std.specs.Prelude.{◌≡◌, ◌<◌, ◌≤◌, ◌-◌, ℕ, List, Contains, AllPairs, Some, slice_get}
 use Rattle.dom_base.specs.AddrOrder.{rank}
 use Rattle.dom_base.specs.declared.addr.Addr.{Addr}
 use Rattle.te_links.specs.Rows.{Rows}

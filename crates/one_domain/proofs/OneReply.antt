@@ -1,11 +1,10 @@
 -- A label has one chosen segment, and so a request one reply.
-use Rattle.std.proofs.Common.{◌≡◌, ◌≤◌, inl, inr, ℕ, List, [], ◌∷◌, map, Some, refl, sym, ◌∙◌, ap, subst, arith}
+use Rattle.std.proofs.Common.{◌≡◌, ◌≤◌, inl, inr, ℕ, List, [], ◌∷◌, map, Some, sym, ◌∙◌, ap, subst, arith}
 use Rattle.dom_base.specs.declared.limits.TheConstants.{COST_MAX}
 use Rattle.dom_base.specs.Words.{word_of}
 use Rattle.dom_base.proofs.CostWords.{one_word}
 use Rattle.dom_base.specs.declared.addr.Addr.{Addr}
 use Rattle.dom_base.specs.declared.link.Link.{Link}
-use Rattle.dom_base.specs.declared.query.Label.{Label}
 use Rattle.te_links.specs.Rows.{Rows, IsInOrder}
 use Rattle.walk_laws.specs.Labels.{IsSegment}
 use Rattle.walk_laws.proofs.Segments.{one_segment}

@@ -1,4 +1,4 @@
-use Rattle.std.proofs.Common.{◌≡◌, ◌+◌, None, Some, length, refl, sym, ◌∙◌, subst}
+use Rattle.std.proofs.Common.{◌≡◌, None, Some, refl, sym, ◌∙◌, subst}
 use Rattle.diverse_pairs.specs.Arcs.{IsAmong}
 use Rattle.diverse_pairs.specs.Distances.{IsLow}
 use Rattle.diverse_pairs.proofs.Lowering.{pass_lowered, pass_kept, one_arc}

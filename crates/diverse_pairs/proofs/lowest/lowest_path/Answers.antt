@@ -1,5 +1,4 @@
-use Rattle.std.proofs.Common.{◌≡◌, inr, ℕ, sym, ◌∙◌, refl, arith, rules}
-use Rattle.diverse_pairs.specs.declared.arcs.Arc.{Arc}
+use Rattle.std.proofs.Common.{inr, rules}
 use Rattle.diverse_pairs.proofs.Walking.{one_further, arrived}
 use Rattle.diverse_pairs.proofs.lowest.lowest_path.Goals as goal
 

@@ -1,9 +1,9 @@
-use Rattle.std.proofs.Common.{◌≡◌, List, ◌∷◌, Ok, Err, sym, ap, ◌∙◌}
+use Rattle.std.proofs.Common.{List, Ok, sym, ap, ◌∙◌}
 use Rattle.std.proofs.lemmas.Result.{err_from_is_err_and}
 use Rattle.line_text.specs.Lines.{NumberedLine}
 use Rattle.diverse_pairs.specs.declared.pair_row.PairRow.{PairRow}
 use Rattle.diverse_pairs.specs.Text.{body_in}
-use Rattle.diverse_pairs.proofs.Gathering.{further, moved_on, out_of_order, first_said, first_stays, first_accepted, second_first, cut_gives, missing, fault_stays}
+use Rattle.diverse_pairs.proofs.Gathering.{further, moved_on, out_of_order, first_stays, first_accepted, second_first, cut_gives, missing, fault_stays}
 use Rattle.diverse_pairs.proofs.reading.read_body.Goals as goal
 
 pub returns-in_err-addr : goal.returns-in_err-addr

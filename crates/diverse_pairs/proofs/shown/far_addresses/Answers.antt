@@ -1,4 +1,4 @@
-use Rattle.std.proofs.Common.{arith, ◌∙◌}
+use Rattle.std.proofs.Common.{arith}
 use Rattle.path_search.proofs.OpenForm.{hop_more, hops_done}
 use Rattle.diverse_pairs.proofs.shown.far_addresses.Goals as goal
 

@@ -1,4 +1,4 @@
-use Rattle.std.proofs.Common.{◌≡◌, ◌∙◌, ap, subst, length}
+use Rattle.std.proofs.Common.{◌∙◌, ap, subst, length}
 use Rattle.diverse_pairs.specs.Paths.{Goes}
 use Rattle.diverse_pairs.proofs.Flow.{length_turned}
 use Rattle.diverse_pairs.proofs.Beginning.{path_within}

@@ -1,8 +1,6 @@
-use Rattle.std.proofs.Common.{◌≡◌, ◌<◌, ◌∙◌, List, ℕ, Bool, length, sym, ap, subst, arith}
+use Rattle.std.proofs.Common.{◌∙◌, length, sym, ap, arith}
 use Rattle.std.proofs.lemmas.Option.{slice_get_within}
 use Rattle.std.proofs.lemmas.Result.{IfOk-weaker}
-use Rattle.diverse_pairs.specs.declared.arcs.TheConstants.{UNREACHED}
-use Rattle.diverse_pairs.specs.Arcs.{at, AreAmong}
 use Rattle.diverse_pairs.specs.Paths.{TurnsTight}
 use Rattle.diverse_pairs.specs.Residual.{AreHeights}
 use Rattle.diverse_pairs.specs.Conditions.{asked_of}

@@ -1,10 +1,8 @@
-use Rattle.std.proofs.Common.{◌≡◌, List, ℕ, ◌++◌, sym, ap, ◌∙◌}
-use Rattle.std.specs.List.{flat_map}
-use Rattle.dom_base.specs.declared.addr.Addr.{Addr}
+use Rattle.std.proofs.Common.{List, ℕ, ◌++◌, sym, ap, ◌∙◌}
 use Rattle.line_text.specs.Spelling.{line_text, text_of}
 use Rattle.diverse_pairs.specs.declared.certificate.PairForm.{PairForm}
 use Rattle.diverse_pairs.specs.declared.pair_row.PairRow.TheVariants as rows
-use Rattle.diverse_pairs.specs.PairText.{form_lines, potential_words, row_words}
+use Rattle.diverse_pairs.specs.PairText.{form_lines, row_words}
 use Rattle.diverse_pairs.proofs.ReadAgain.{paths_joined}
 use Rattle.diverse_pairs.proofs.writing.write_form.Goals as goal
 

@@ -1,4 +1,4 @@
-use Rattle.std.proofs.Common.{◌≡◌, ℕ, ◌∷◌, ◌++◌, [], List, take, get_or, sym, ap, subst, ◌∙◌}
+use Rattle.std.proofs.Common.{ℕ, ◌++◌, List, take, get_or, sym, ap, ◌∙◌}
 use Rattle.std.proofs.lemmas.List.{flat_map_more, take_more}
 use Rattle.std.proofs.lemmas.List.Elements.{All-more}
 use Rattle.std.specs.List.{flat_map}
