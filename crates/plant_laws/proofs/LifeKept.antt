@@ -42,7 +42,7 @@ use Rattle.request_table.specs.Pending.{same_peer, number_of, is_full}
 use Rattle.plant_text.specs.declared.settings.ElementRow.{ElementRow}
 use Rattle.plant_model.specs.Names.{has_pair}
 use Rattle.plant_model.specs.Wire.{Checked, Admitted, Wrong}
-use Rattle.plant_model.specs.Element.{Way, Place, Taken, each, waiting, way_to, is_denied, is_client}
+use Rattle.plant_model.specs.Element.{Way, Place, Taken, each, waiting, way_to, is_client}
 use Rattle.plant_model.specs.Taking as taking
 use Rattle.plant_model.specs.Taking.{goes_up, sequence_or, error_answer}
 use Rattle.plant_model.specs.Solving.{closed_reply, issued_all, free}
