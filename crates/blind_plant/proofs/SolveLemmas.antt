@@ -1,5 +1,5 @@
 -- A member that answers a request by given rows is the model's solve.
-use Rattle.std.proofs.Common.{◌≡◌, ℕ, true, Ok, Err, List, [], ◌∷◌, inl, inr, refl, sym, ◌∙◌, ap, subst}
+use Rattle.std.proofs.Common.{◌≡◌, ℕ, true, Ok, Err, List, [], inl, inr, refl, sym, ◌∙◌, ap, subst}
 use Rattle.dom_base.specs.declared.names.As.{As}
 use Rattle.dom_base.specs.declared.border.BorderRow.{BorderRow}
 use Rattle.plant_text.specs.declared.settings.NetworkParts.{NetworkParts}
@@ -8,19 +8,15 @@ use Rattle.plant_model.specs.declared.event.BlindEvent.TheVariants.{Solve}
 use Rattle.plant_model.specs.declared.outcome.Outcome.TheVariants as outcome
 use Rattle.plant_model.specs.declared.outcome.Refused.{Refused}
 use Rattle.plant_model.specs.declared.outcome.Refused.TheVariants as refused
-use Rattle.plant_model.specs.declared.output.Lost.{Lost}
-use Rattle.plant_model.specs.Blind.{BlindHappened, BlindState, BlindSteps, Nothing, show_nothing}
-use Rattle.plant_model.specs.Deeds as deeds
-use Rattle.plant_model.specs.Element.{Taken}
+use Rattle.plant_model.specs.Blind.{BlindHappened, BlindSteps, Nothing, show_nothing}
 use Rattle.plant_model.specs.Events.{has_jobs}
 use Rattle.plant_model.specs.Parent as parent
 use Rattle.plant_model.specs.RealWire.{wire}
 use Rattle.plant_model.specs.Settings.{place}
 use Rattle.plant_model.specs.Solving.{commit}
-use Rattle.plant_model.specs.State.{Deed, Solves, said, sent_by}
 use Rattle.plant_traffic.specs.Carried.{Carried, flow_of}
 use Rattle.plant_traffic.specs.Flow.{Flow}
-use Rattle.plant_members.specs.Membership.{Membership, Replied, is_member, with_element, with_parent}
+use Rattle.plant_members.specs.Membership.{Membership, Replied, is_member}
 use Rattle.plant_deeds.specs.Answering.{IsAnswer, Sends}
 use Rattle.plant_deeds.specs.Giving.{OnlyGrows}
 use Rattle.plant_deeds.specs.Passing.{IsOf}
@@ -33,14 +29,20 @@ use Rattle.plant_hierarchy.specs.Tiers.{Become, Tiers, lost_in, members_of, next
 use Rattle.plant_hierarchy.specs.Tiers as tiers
 use Rattle.plant_hierarchy.specs.declared.plan.MemberPlan.{MemberPlan}
 use Rattle.plant_network.proofs.AnswerLemmas.{element_answer, parent_answer}
+use Rattle.plant_network.proofs.SolveLemmas as solve
 use Rattle.plant_network.specs.Moving.{IsKept}
-use Rattle.blind_plant.specs.Held.{IsSound, Moves, held, standing, whole}
+use Rattle.plant_network.specs.Whole.{Step}
+use Rattle.blind_plant.specs.Held.{IsSound, Moves, held, standing}
 
 abbrev Members : Type 0
 Members = Membership Nothing Nothing
 
 abbrev Reply : Type 0
 Reply = Replied Nothing Nothing
+
+-- the step of a solve
+abbrev solving : As → ℕ → List BorderRow → Step Nothing Nothing
+solving d k rows = λ n s h. BlindSteps wire n s (Solve d k rows) h
 
 -- ---- it is an answer
 
@@ -59,113 +61,54 @@ module _ (n : NetworkParts) (now : ℕ) (d : As) (k : ℕ) (rows : List BorderRo
 
 -- ---- it is the model's solve
 
--- what is put into queues, and the deed that it is
-record IsDeed (n : NetworkParts) (d : As) (k : ℕ) (rows : List BorderRow) (ms ms' : Members) (f f' : Flow) : Type 0 where
-  deeds_are : List (Deed Nothing)
-  steps : BlindSteps wire n (state_of ms f) (Solve d k rows) (record { answer = Ok outcome.Done; state = state_of ms' f'; deeds = deeds_are })
-  says : f'.said ≡ said wire deeds_are
-
 module _ (n : NetworkParts) (d : As) (k : ℕ) (rows : List BorderRow) (ms ms' : Members) (r : Reply) (f f' : Flow) (jobs : has_jobs n d ≡ true) (next : ms' ≡ r.members) where
-  element_deed : ElementAnswers n f.clock d k rows ms r → Sends n show_nothing d r.outputs ms' f f' → IsDeed n d k rows ms ms' f f'
-  element_deed a sends = record {
-    deeds_are = Solves d k t.outputs t.element.keys.issued ∷ [];
-    steps = inl (inr (inr (inl (
-      jobs,
-      record {
-        upper = a.upper;
-        held = a.held;
-        is_held = a.is_held;
-        down = a.down;
-        ready = a.ready;
-        best = a.best;
-        joined = a.joined;
-        is = ap (λ (s : BlindState). let h : BlindHappened = record { answer = Ok outcome.Done; state = s; deeds = Solves d k t.outputs t.element.keys.issued ∷ [] } in h) state_is;
-      },
-    ))));
-    says = sends.said ∙ ap (λ (y : Reply). sent_by wire d y.outputs) a.is;
-  }
-    where
-      t : Taken Nothing Nothing
-      t = commit wire (place n d) (k, a.held) a.down f.clock stands_for_nothing true true a.best (ms.elements d)
-
-      state_is : state_of ms' f' ≡ deeds.puts Nothing Nothing wire n show_nothing d t.outputs (state_of (with_element d t.element ms) f)
-      state_is =
-          sends.state
-          ∙ ap (λ (m : Members). deeds.puts Nothing Nothing wire n show_nothing d r.outputs (state_of m f)) next
-          ∙ ap (λ (y : Reply). deeds.puts Nothing Nothing wire n show_nothing d y.outputs (state_of y.members f)) a.is
-
-  parent_deed : ParentAnswers n k ms r → d ≡ parent_as → Sends n show_nothing d r.outputs ms' f f' → IsDeed n d k rows ms ms' f f'
-  parent_deed a upper sends = record {
-    deeds_are = Solves parent_as k g.outputs [] ∷ [];
-    steps = inl (inr (inr (inr (
-      jobs,
-      upper,
-      record {
-        held = a.held;
-        is_held = a.is_held;
-        ready = a.ready;
-        answer = a.answer;
-        solves = a.solves;
-        is = ap (λ (s : BlindState). let h : BlindHappened = record { answer = Ok outcome.Done; state = s; deeds = Solves parent_as k g.outputs [] ∷ [] } in h) state_is;
-      },
-    ))));
-    says = sends.said ∙ ap (λ (y : Reply). sent_by wire d y.outputs) a.is ∙ ap (λ (x : As). sent_by wire x g.outputs) upper;
-  }
-    where
-      g : parent.Given
-      g = parent.commit wire (k, a.held) a.answer ms.parent
-
-      state_is : state_of ms' f' ≡ deeds.puts Nothing Nothing wire n show_nothing parent_as g.outputs (state_of (with_parent g.parent ms) f)
-      state_is =
-          sends.state
-          ∙ ap (λ (m : Members). deeds.puts Nothing Nothing wire n show_nothing d r.outputs (state_of m f)) next
-          ∙ ap (λ (y : Reply). deeds.puts Nothing Nothing wire n show_nothing d y.outputs (state_of y.members f)) a.is
-          ∙ ap (λ (x : As). deeds.puts Nothing Nothing wire n show_nothing x g.outputs (state_of (with_parent g.parent ms) f)) upper
-
-  member_deed : MemberAnswers n f.clock d k rows ms r → Sends n show_nothing d r.outputs ms' f f' → IsDeed n d k rows ms ms' f f'
-  member_deed (inl a) sends = element_deed a sends
-  member_deed (inr a) sends = parent_deed a.1 a.0 sends
+  member_deed : MemberAnswers n f.clock d k rows ms r → Sends n show_nothing d r.outputs ms' f f' → solve.IsDeed (solving d k rows) n ms ms' f f'
+  member_deed (inl a) sends =
+      solve.element_deed show_nothing (solving d k rows) n d k ms ms' r f f' next sends
+      (commit wire (place n d) (k, a.held) a.down f.clock stands_for_nothing true true a.best (ms.elements d)) a.is
+      (λ h is. inl (inr (inr (inl (
+        jobs,
+        record {
+          upper = a.upper;
+          held = a.held;
+          is_held = a.is_held;
+          down = a.down;
+          ready = a.ready;
+          best = a.best;
+          joined = a.joined;
+          is = is;
+        },
+      )))))
+  member_deed (inr a) sends =
+      solve.parent_deed show_nothing (solving d k rows) n d k ms ms' r f f' next sends (parent.commit wire (k, a.1.held) a.1.answer ms.parent) a.1.is a.0
+      (λ h is. inl (inr (inr (inr (
+        jobs,
+        a.0,
+        record {
+          held = a.1.held;
+          is_held = a.1.is_held;
+          ready = a.1.ready;
+          answer = a.1.answer;
+          solves = a.1.solves;
+          is = is;
+        },
+      )))))
 
 -- ---- it is refused
 
-refused_steps : (n : NetworkParts) (d : As) (k : ℕ) (rows : List BorderRow) (ms : Members) (f : Flow) (s : BlindState) (why : Refused) → s ≡ state_of ms f → IsRefusedFor n d k ms why →
-    BlindSteps wire n (state_of ms f) (Solve d k rows) (record { answer = Err why; state = s; deeds = [] })
-refused_steps n d k rows ms f s why same is = go why is
-  where
-    told_so : (w : Refused) → (let h : BlindHappened = record { answer = Err w; state = s; deeds = [] } in h) ≡ (let h : BlindHappened = record { answer = Err w; state = state_of ms f; deeds = [] } in h)
-    told_so w = ap (λ (x : BlindState). let h : BlindHappened = record { answer = Err w; state = x; deeds = [] } in h) same
-
-    go : (w : Refused) → IsRefusedFor n d k ms w → BlindSteps wire n (state_of ms f) (Solve d k rows) (record { answer = Err w; state = s; deeds = [] })
-    go refused.NoSuchPeer none = inl (inl (none, told_so refused.NoSuchPeer))
-    go refused.NoSuchJob none = inl (inr (inl (none.0, none.1, told_so refused.NoSuchJob)))
-    go refused.NoMemory none = inr (refl, told_so refused.NoMemory)
-    go refused.GenerationsFull none = absurd none
-    go (refused.NotHolder holder) none = absurd none
-    go refused.NothingToCarry none = absurd none
+refused_steps : (n : NetworkParts) (d : As) (k : ℕ) (rows : List BorderRow) (ms : Members) (f : Flow) (why : Refused) → IsRefusedFor n d k ms why → (h : BlindHappened) →
+    h ≡ (let x : BlindHappened = record { answer = Err why; state = state_of ms f; deeds = [] } in x) → BlindSteps wire n (state_of ms f) (Solve d k rows) h
+refused_steps n d k rows ms f =
+    solve.by_reason (λ (why : Refused). (h : BlindHappened) → h ≡ (let x : BlindHappened = record { answer = Err why; state = state_of ms f; deeds = [] } in x) → BlindSteps wire n (state_of ms f) (Solve d k rows) h) n d k ms
+    (λ none h is. inl (inl (none, is))) (λ none h is. inl (inr (inl (none.0, none.1, is)))) (λ h is. inr (refl, is))
 
 -- ---- what is planned, and then done
 
 module _ (t t1 : Tiers Nothing Nothing) (c : Carried) (d : As) (k : ℕ) (rows : List BorderRow) (now : ℕ) (sound : IsSound (held t c)) (same : Become nothing_first t (members_of nothing_first t) (lost_in t) t1) where
-  kept_still : IsKept (standing (held t1 c))
-  kept_still = record {
-    of = subst (λ (n : NetworkParts). IsOf n (flow_of c)) (sym same.network) sound.kept.of;
-    none = λ a. ap (λ (l : As → List Lost). l a) same.lost_is ∙ sound.kept.none a;
-    roomy =
-        subst (λ (n : NetworkParts). IsRoomy n (members_of nothing_first t1) (flow_of c)) (sym same.network)
-        (subst (λ (ms : Members). IsRoomy t.network ms (flow_of c)) (sym same.seen) sound.kept.roomy);
-  }
-
   pub planned_err : (why : Refused) → IsRefusedFor t.network d k (members_of nothing_first t) why → Moves (held t c) (Solve d k rows) (Err why) (held t1 c)
-  planned_err why is = record {
-    stepped = record {
-      network = same.network;
-      deeds = [];
-      steps = refused_steps t.network d k rows (members_of nothing_first t) (flow_of c) (whole (held t1 c)).state why (ap (λ (ms : Members). state_of ms (flow_of c)) same.seen) is;
-      accepted = tt;
-      refused = refl;
-    };
-    kept = kept_still;
-  }
+  planned_err why is =
+      solve.refused_moves nothing_first (solving d k rows) t t1 (flow_of c) (flow_of c) same refl (solve.kept_still nothing_first t t1 (flow_of c) sound.kept same) why
+      (refused_steps t.network d k rows (members_of nothing_first t) (flow_of c) why is)
 
   module _ {W : Type 0} {D : Type 0} (p : MemberPlan W Nothing Nothing D) (there : has_jobs t.network d ≡ true)
       (answers : MemberAnswers t.network now d k rows (members_of nothing_first t) (record { members = next_by nothing_first t1 p; outputs = tiers.sent_by p })) where
@@ -174,40 +117,23 @@ module _ (t t1 : Tiers Nothing Nothing) (c : Carried) (d : As) (k : ℕ) (rows :
 
     pub plan_answers : IsAnswer t1.network d (tiers.sent_by p) (members_of nothing_first t1) (next_by nothing_first t1 p)
     plan_answers =
-        subst (λ (n : NetworkParts). IsAnswer n d (tiers.sent_by p) (members_of nothing_first t1) (next_by nothing_first t1 p)) (sym same.network)
-        (subst (λ (ms : Members). IsAnswer t.network d (tiers.sent_by p) ms (next_by nothing_first t1 p)) (sym same.seen)
-        (member_answer t.network now d k rows (members_of nothing_first t) (record { members = next_by nothing_first t1 p; outputs = tiers.sent_by p }) answers))
+        solve.answer_still nothing_first t t1 (flow_of c) sound.kept same d (tiers.sent_by p) (next_by nothing_first t1 p)
+        (member_answer t.network now d k rows (members_of nothing_first t) (record { members = next_by nothing_first t1 p; outputs = tiers.sent_by p }) answers)
 
     module _ (t' : Tiers Nothing Nothing) (c' : Carried) (network : t'.network ≡ t1.network) (lost : lost_in t' ≡ lost_in t1) (lines : IsOf t1.network (flow_of c')) (roomy : IsRoomy t1.network (members_of nothing_first t') (flow_of c')) where
-      kept_then : IsKept (standing (held t' c'))
-      kept_then = record {
-        of = subst (λ (n : NetworkParts). IsOf n (flow_of c')) (sym network) lines;
-        none = λ a. ap (λ (l : As → List Lost). l a) (lost ∙ same.lost_is) ∙ sound.kept.none a;
-        roomy = subst (λ (n : NetworkParts). IsRoomy n (members_of nothing_first t') (flow_of c')) (sym network) roomy;
-      }
+      kept : IsKept (standing (held t' c'))
+      kept = solve.kept_then nothing_first t t1 (flow_of c) sound.kept same t' (flow_of c') network lost lines roomy
 
       pub plan_done : now ≡ (flow_of c).clock → members_of nothing_first t' ≡ next_by nothing_first t1 p → Sends t1.network show_nothing d (tiers.sent_by p) (members_of nothing_first t') (flow_of c) (flow_of c') →
           Moves (held t c) (Solve d k rows) (Ok outcome.Done) (held t' c')
       plan_done clock next sends =
           let r : Reply = record { members = next_by nothing_first t1 p; outputs = tiers.sent_by p } in
-          let deed : IsDeed t.network d k rows (members_of nothing_first t) (members_of nothing_first t') (flow_of c) (flow_of c') =
-          member_deed t.network d k rows (members_of nothing_first t) (members_of nothing_first t') r (flow_of c) (flow_of c') there next
+          solve.solve_moves nothing_first (solving d k rows) t t' (flow_of c) (flow_of c') (network ∙ same.network) kept
+          (member_deed t.network d k rows (members_of nothing_first t) (members_of nothing_first t') r (flow_of c) (flow_of c') there next
           (subst (λ (i : ℕ). MemberAnswers t.network i d k rows (members_of nothing_first t) r) clock answers)
-          (subst (λ (n : NetworkParts). Sends n show_nothing d (tiers.sent_by p) (members_of nothing_first t') (flow_of c) (flow_of c')) same.network sends) in
-          record {
-            stepped = record { network = network ∙ same.network; deeds = deed.deeds_are; steps = deed.steps; accepted = deed.says; refused = tt };
-            kept = kept_then;
-          }
+          (subst (λ (n : NetworkParts). Sends n show_nothing d (tiers.sent_by p) (members_of nothing_first t') (flow_of c) (flow_of c')) same.network sends))
 
       pub plan_lacks : members_of nothing_first t' ≡ members_of nothing_first t1 → OnlyGrows (flow_of c) (flow_of c') → Moves (held t c) (Solve d k rows) (Err refused.NoMemory) (held t' c')
-      plan_lacks seen grows = record {
-        stepped = record {
-          network = network ∙ same.network;
-          deeds = [];
-          steps = refused_steps t.network d k rows (members_of nothing_first t) (flow_of c) (whole (held t' c')).state refused.NoMemory
-              (ap (λ (f : Flow). state_of (members_of nothing_first t') f) grows.same ∙ ap (λ (ms : Members). state_of ms (flow_of c)) (seen ∙ same.seen)) tt;
-          accepted = tt;
-          refused = ap (λ (f : Flow). f.said) grows.same;
-        };
-        kept = kept_then;
-      }
+      plan_lacks seen grows =
+          solve.refused_moves nothing_first (solving d k rows) t t' (flow_of c) (flow_of c') (solve.same_then nothing_first t t1 (flow_of c) sound.kept same t' (flow_of c') network lost seen) grows.same kept refused.NoMemory
+          (refused_steps t.network d k rows (members_of nothing_first t) (flow_of c) refused.NoMemory tt)

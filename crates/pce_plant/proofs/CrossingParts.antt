@@ -1,30 +1,19 @@
 -- The parts of a network, of its acts and of its answers may go to another thread.
-use denote.Param.Send.{IsSend, IsSync, sendable}
+use denote.Param.Send.{IsSend, sendable}
 use Rattle.std.proofs.Crossing.{crosses}
 use Rattle.te_links.specs.contracts.topology.Topology as Topology
-use Rattle.plant_model.specs.contracts.event.Event as Event
 use Rattle.plant_model.specs.contracts.outcome.Outcome as Outcome
-use Rattle.plant_model.specs.contracts.upper.BorderJob as BorderJob
 use Rattle.border_costs.specs.contracts.solved.Solved as Solved
-use Rattle.border_costs.specs.contracts.job.Job as Job
 use Rattle.pce_parent.specs.contracts.solved.BorderSolved as BorderSolved
-use Rattle.pce_parent.specs.contracts.work.Done as Done
 use Rattle.pce_parent.specs.contracts.work.Work as Work
 use Rattle.plant_text.specs.contracts.network.Network as Network
 use Rattle.pce_parent.specs.contracts.asking.Asking as Asking
 use Rattle.pce_parent.specs.contracts.parent.Parent as Parent
 use Rattle.plant_traffic.specs.contracts.traffic.Traffic as Traffic
 use Rattle.pce_plant.specs.contracts.answering.CommitRefused as CommitRefused
-use Rattle.pce_plant.specs.contracts.acts.Acted as Acted
 
 pub topology_send : IsSend Topology.the_row
 topology_send = search (sendable, crosses) depth 60 fits 30000
-
-pub topology_sync : IsSync Topology.the_row
-topology_sync = search (sendable, crosses) depth 60 fits 30000
-
-pub event_send : IsSend Event.the_row
-event_send = search (sendable, crosses, topology_send) depth 60 fits 30000
 
 pub outcome_send : IsSend Outcome.the_row
 outcome_send = search (sendable, crosses) depth 60 fits 30000
@@ -35,23 +24,11 @@ solved_send = search (sendable, crosses) depth 60 fits 30000
 pub border_solved_send : IsSend BorderSolved.the_row
 border_solved_send = search (sendable, crosses) depth 60 fits 30000
 
-pub done_send : IsSend Done.the_row
-done_send = search (sendable, crosses, solved_send, border_solved_send) depth 60 fits 30000
-
-pub job_send : IsSend Job.the_row
-job_send = search (sendable, crosses, topology_send, topology_sync) depth 60 fits 30000
-
-pub border_job_send : IsSend BorderJob.the_row
-border_job_send = search (sendable, crosses) depth 60 fits 30000
-
 pub work_send : IsSend Work.the_row
-work_send = search (sendable, crosses, job_send, border_job_send) depth 60 fits 30000
+work_send = search (sendable, crosses) depth 60 fits 30000
 
 pub refused_send : IsSend CommitRefused.the_row
-refused_send = search (sendable, crosses, done_send) depth 60 fits 30000
-
-pub acted_send : IsSend Acted.the_row
-acted_send = search (sendable, crosses, outcome_send, work_send, refused_send) depth 60 fits 30000
+refused_send = search (sendable, crosses) depth 60 fits 30000
 
 pub network_send : IsSend Network.the_row
 network_send = search (sendable, crosses) depth 60 fits 30000

@@ -1,5 +1,5 @@
 -- A member that answers a solved job is the model's solve.
-use Rattle.std.proofs.Common.{◌≡◌, ℕ, true, Ok, Err, List, [], ◌∷◌, inl, inr, refl, sym, ◌∙◌, ap, subst}
+use Rattle.std.proofs.Common.{◌≡◌, ℕ, true, Ok, Err, [], inl, inr, refl, sym, ◌∙◌, ap, subst}
 use Rattle.dom_base.specs.declared.names.As.{As}
 use Rattle.disclosure.specs.Shown.{open_of}
 use Rattle.plant_text.specs.declared.settings.NetworkParts.{NetworkParts}
@@ -8,24 +8,22 @@ use Rattle.plant_model.specs.declared.event.Event.TheVariants.{Solve}
 use Rattle.plant_model.specs.declared.outcome.Outcome.TheVariants as outcome
 use Rattle.plant_model.specs.declared.outcome.Refused.{Refused}
 use Rattle.plant_model.specs.declared.outcome.Refused.TheVariants as refused
-use Rattle.plant_model.specs.declared.output.Lost.{Lost}
-use Rattle.plant_model.specs.Deeds as deeds
-use Rattle.plant_model.specs.Element.{Taken}
 use Rattle.plant_model.specs.Events.{has_jobs}
 use Rattle.plant_model.specs.Parent as parent
-use Rattle.plant_model.specs.Plant.{Pin, Plant, PlantDeed, Happened, Segment, Steps}
+use Rattle.plant_model.specs.Plant.{Pin, Happened, Segment, Steps}
 use Rattle.plant_model.specs.RealWire.{wire}
 use Rattle.plant_model.specs.Settings.{place}
 use Rattle.plant_model.specs.Solving.{commit}
-use Rattle.plant_model.specs.State.{Solves, said, sent_by}
+use Rattle.plant_model.specs.Plant.{first_pin}
 use Rattle.plant_traffic.specs.Carried.{Carried, flow_of}
 use Rattle.plant_traffic.specs.Flow.{Flow, SameFlow}
-use Rattle.plant_members.specs.Membership.{Membership, Replied, is_member, with_element, with_parent}
+use Rattle.plant_members.specs.Membership.{Membership, Replied, is_member}
 use Rattle.plant_deeds.specs.Answering.{IsAnswer, Sends}
 use Rattle.plant_deeds.specs.Giving.{OnlyGrows}
 use Rattle.plant_deeds.specs.Passing.{IsOf}
 use Rattle.plant_deeds.specs.Rooms.{IsRoomy}
 use Rattle.plant_deeds.specs.Standing.{state_of}
+use Rattle.pce_element.specs.Committing.{own_part}
 use Rattle.plant_hierarchy.specs.Answering.{Commits, ElementAnswers, IsRefusedFor, MemberAnswers, ParentAnswers, number_of}
 use Rattle.plant_hierarchy.specs.Tiers.{lost_in}
 use Rattle.plant_hierarchy.specs.Tiers as tiers
@@ -33,8 +31,14 @@ use Rattle.plant_hierarchy.specs.declared.answering.Unanswered.{Unanswered}
 use Rattle.pce_parent.specs.declared.work.Done.{Done}
 use Rattle.plant_hierarchy.specs.Topologies.{Become, MemberPlan, Tiers, members_of, next_by}
 use Rattle.plant_network.proofs.AnswerLemmas.{element_answer, parent_answer}
-use Rattle.pce_plant.specs.Held.{IsKept, IsSound, Moves, held, whole}
+use Rattle.plant_network.proofs.SolveLemmas as solve
+use Rattle.plant_network.specs.Whole.{Step}
+use Rattle.pce_plant.specs.Held.{IsKept, IsSound, Moves, held}
 use Rattle.pce_plant.specs.Jobs.{solved_at, solved_number}
+
+-- the step of a solve
+abbrev solving : As → ℕ → Step Pin Segment
+solving d k = λ n s h. Steps wire n s (Solve d k) h
 
 -- ---- it is an answer
 
@@ -42,7 +46,7 @@ module _ (n : NetworkParts) (now : ℕ) (d : As) (k : ℕ) (ms : Membership Pin 
   by_element : ElementAnswers n now d k ms r → IsAnswer n d r.outputs ms r.members
   by_element a =
       subst (λ (y : Replied Pin Segment). IsAnswer n d y.outputs ms y.members) (sym a.is)
-      (element_answer n ms (place n d) now d k a.held a.down (λ b. b.segment) a.rows.source_known a.rows.target_known a.rows.best a.upper a.is_held)
+      (element_answer n ms (place n d) now d k a.held a.down own_part a.rows.source_known a.rows.target_known a.rows.best a.upper a.is_held)
 
   by_parent : ParentAnswers n k ms r → IsAnswer n parent_as r.outputs ms r.members
   by_parent a = subst (λ (y : Replied Pin Segment). IsAnswer n parent_as y.outputs ms y.members) (sym a.is) (parent_answer n ms k a.held a.answer a.is_held)
@@ -53,126 +57,56 @@ module _ (n : NetworkParts) (now : ℕ) (d : As) (k : ℕ) (ms : Membership Pin 
 
 -- ---- it is the model's solve
 
--- what is put into queues, and the deed that it is
-record IsDeed (n : NetworkParts) (d : As) (k : ℕ) (ms ms' : Membership Pin Segment) (f f' : Flow) : Type 0 where
-  deeds_are : List PlantDeed
-  steps : Steps wire n (state_of ms f) (Solve d k) (record { answer = Ok outcome.Done; state = state_of ms' f'; deeds = deeds_are })
-  says : f'.said ≡ said wire deeds_are
-
 module _ (n : NetworkParts) (d : As) (k : ℕ) (ms ms' : Membership Pin Segment) (r : Replied Pin Segment) (f f' : Flow) (jobs : has_jobs n d ≡ true) (next : ms' ≡ r.members) where
-  element_deed : ElementAnswers n f.clock d k ms r → Sends n open_of d r.outputs ms' f f' → IsDeed n d k ms ms' f f'
-  element_deed a sends = record {
-    deeds_are = Solves d k t.outputs t.element.keys.issued ∷ [];
-    steps = inl (inr (inr (inl (
-      jobs,
-      record {
-        upper = a.upper;
-        held = a.held;
-        is_held = a.is_held;
-        down = a.down;
-        ready = a.ready;
-        rows = a.rows;
-        right = a.right;
-        is = ap (λ (s : Plant). let h : Happened = record { answer = Ok outcome.Done; state = s; deeds = Solves d k t.outputs t.element.keys.issued ∷ [] } in h) state_is;
-      },
-    ))));
-    says = sends.said ∙ ap (λ (y : Replied Pin Segment). sent_by wire d y.outputs) a.is;
-  }
-    where
-      t : Taken Pin Segment
-      t = commit wire (place n d) (k, a.held) a.down f.clock (λ b. b.segment) a.rows.source_known a.rows.target_known a.rows.best (ms.elements d)
-
-      state_is : state_of ms' f' ≡ deeds.puts Pin Segment wire n open_of d t.outputs (state_of (with_element d t.element ms) f)
-      state_is =
-          sends.state
-          ∙ ap (λ (m : Membership Pin Segment). deeds.puts Pin Segment wire n open_of d r.outputs (state_of m f)) next
-          ∙ ap (λ (y : Replied Pin Segment). deeds.puts Pin Segment wire n open_of d y.outputs (state_of y.members f)) a.is
-
-  parent_deed : ParentAnswers n k ms r → d ≡ parent_as → Sends n open_of d r.outputs ms' f f' → IsDeed n d k ms ms' f f'
-  parent_deed a upper sends = record {
-    deeds_are = Solves parent_as k g.outputs [] ∷ [];
-    steps = inl (inr (inr (inr (
-      jobs,
-      upper,
-      record {
-        held = a.held;
-        is_held = a.is_held;
-        ready = a.ready;
-        answer = a.answer;
-        solves = a.solves;
-        is = ap (λ (s : Plant). let h : Happened = record { answer = Ok outcome.Done; state = s; deeds = Solves parent_as k g.outputs [] ∷ [] } in h) state_is;
-      },
-    ))));
-    says = sends.said ∙ ap (λ (y : Replied Pin Segment). sent_by wire d y.outputs) a.is ∙ ap (λ (x : As). sent_by wire x g.outputs) upper;
-  }
-    where
-      g : parent.Given
-      g = parent.commit wire (k, a.held) a.answer ms.parent
-
-      state_is : state_of ms' f' ≡ deeds.puts Pin Segment wire n open_of parent_as g.outputs (state_of (with_parent g.parent ms) f)
-      state_is =
-          sends.state
-          ∙ ap (λ (m : Membership Pin Segment). deeds.puts Pin Segment wire n open_of d r.outputs (state_of m f)) next
-          ∙ ap (λ (y : Replied Pin Segment). deeds.puts Pin Segment wire n open_of d y.outputs (state_of y.members f)) a.is
-          ∙ ap (λ (x : As). deeds.puts Pin Segment wire n open_of x g.outputs (state_of (with_parent g.parent ms) f)) upper
-
-  member_deed : MemberAnswers n f.clock d k ms r → Sends n open_of d r.outputs ms' f f' → IsDeed n d k ms ms' f f'
-  member_deed (inl a) sends = element_deed a sends
-  member_deed (inr a) sends = parent_deed a.1 a.0 sends
+  pub member_deed : MemberAnswers n f.clock d k ms r → Sends n open_of d r.outputs ms' f f' → solve.IsDeed (solving d k) n ms ms' f f'
+  member_deed (inl a) sends =
+      solve.element_deed open_of (solving d k) n d k ms ms' r f f' next sends
+      (commit wire (place n d) (k, a.held) a.down f.clock own_part a.rows.source_known a.rows.target_known a.rows.best (ms.elements d)) a.is
+      (λ h is. inl (inr (inr (inl (
+        jobs,
+        record {
+          upper = a.upper;
+          held = a.held;
+          is_held = a.is_held;
+          down = a.down;
+          ready = a.ready;
+          rows = a.rows;
+          right = a.right;
+          is = is;
+        },
+      )))))
+  member_deed (inr a) sends =
+      solve.parent_deed open_of (solving d k) n d k ms ms' r f f' next sends (parent.commit wire (k, a.1.held) a.1.answer ms.parent) a.1.is a.0
+      (λ h is. inl (inr (inr (inr (
+        jobs,
+        a.0,
+        record {
+          held = a.1.held;
+          is_held = a.1.is_held;
+          ready = a.1.ready;
+          answer = a.1.answer;
+          solves = a.1.solves;
+          is = is;
+        },
+      )))))
 
 -- ---- it is refused
 
-refused_steps : (n : NetworkParts) (d : As) (k : ℕ) (ms : Membership Pin Segment) (f : Flow) (s : Plant) (why : Refused) → s ≡ state_of ms f → IsRefusedFor n d k ms why →
-    Steps wire n (state_of ms f) (Solve d k) (record { answer = Err why; state = s; deeds = [] })
-refused_steps n d k ms f s why same is = go why is
-  where
-    told_so : (w : Refused) → (let h : Happened = record { answer = Err w; state = s; deeds = [] } in h) ≡ (let h : Happened = record { answer = Err w; state = state_of ms f; deeds = [] } in h)
-    told_so w = ap (λ (x : Plant). let h : Happened = record { answer = Err w; state = x; deeds = [] } in h) same
-
-    go : (w : Refused) → IsRefusedFor n d k ms w → Steps wire n (state_of ms f) (Solve d k) (record { answer = Err w; state = s; deeds = [] })
-    go refused.NoSuchPeer none = inl (inl (none, told_so refused.NoSuchPeer))
-    go refused.NoSuchJob none = inl (inr (inl (none.0, none.1, told_so refused.NoSuchJob)))
-    go refused.NoMemory none = inr (refl, told_so refused.NoMemory)
-    go refused.GenerationsFull none = absurd none
-    go (refused.NotHolder holder) none = absurd none
-    go refused.NothingToCarry none = absurd none
+refused_steps : (n : NetworkParts) (d : As) (k : ℕ) (ms : Membership Pin Segment) (f : Flow) (why : Refused) → IsRefusedFor n d k ms why → (h : Happened) →
+    h ≡ (let x : Happened = record { answer = Err why; state = state_of ms f; deeds = [] } in x) → Steps wire n (state_of ms f) (Solve d k) h
+refused_steps n d k ms f =
+    solve.by_reason (λ (why : Refused). (h : Happened) → h ≡ (let x : Happened = record { answer = Err why; state = state_of ms f; deeds = [] } in x) → Steps wire n (state_of ms f) (Solve d k) h) n d k ms
+    (λ none h is. inl (inl (none, is))) (λ none h is. inl (inr (inl (none.0, none.1, is)))) (λ h is. inr (refl, is))
 
 -- ---- the event
-
--- what is not changed but for room is kept
-pub kept_still : (t t' : Tiers) (c : Carried) → IsKept (held t c) → Become t (members_of t) (lost_in t) t' → IsKept (held t' c)
-kept_still t t' c kept still = record {
-  of = subst (λ (m : NetworkParts). IsOf m (flow_of c)) (sym still.network) kept.of;
-  none = λ d. ap (λ (l : As → List Lost). l d) still.lost_is ∙ kept.none d;
-  roomy = subst (λ (m : NetworkParts). IsRoomy m (members_of t') (flow_of c)) (sym still.network) (subst (λ (ms : Membership Pin Segment). IsRoomy t.network ms (flow_of c)) (sym still.seen) kept.roomy);
-}
 
 pub stays : (t : Tiers) → Become t (members_of t) (lost_in t) t
 stays t = record { network = refl; seen = refl; lost_is = refl }
 
-module _ (t t' : Tiers) (c c' : Carried) (d : As) (k : ℕ) where
-  pub moves_refused : Become t (members_of t) (lost_in t) t' → SameFlow (flow_of c) (flow_of c') → IsKept (held t' c') → (why : Refused) → IsRefusedFor t.network d k (members_of t) why →
-      Moves (held t c) (Solve d k) (Err why) (held t' c')
-  moves_refused still same kept why is = record {
-    stepped = record {
-      network = still.network;
-      deeds = [];
-      steps = refused_steps t.network d k (members_of t) (flow_of c) (whole (held t' c')).state why
-          (ap (λ (f : Flow). state_of (members_of t') f) same ∙ ap (λ (ms : Membership Pin Segment). state_of ms (flow_of c)) still.seen) is;
-      accepted = tt;
-      refused = ap (λ (f : Flow). f.said) same;
-    };
-    kept = kept;
-  }
-
-  pub moves_done : (r : Replied Pin Segment) → t'.network ≡ t.network → has_jobs t.network d ≡ true → MemberAnswers t.network (flow_of c).clock d k (members_of t) r → members_of t' ≡ r.members →
-      Sends t.network open_of d r.outputs (members_of t') (flow_of c) (flow_of c') → IsKept (held t' c') → Moves (held t c) (Solve d k) (Ok outcome.Done) (held t' c')
-  moves_done r network jobs answers next sends kept =
-      let deed = member_deed t.network d k (members_of t) (members_of t') r (flow_of c) (flow_of c') jobs next answers sends in
-      record {
-        stepped = record { network = network; deeds = deed.deeds_are; steps = deed.steps; accepted = deed.says; refused = tt };
-        kept = kept;
-      }
+pub moves_refused : (t t' : Tiers) (c c' : Carried) (d : As) (k : ℕ) → Become t (members_of t) (lost_in t) t' → SameFlow (flow_of c) (flow_of c') → IsKept (held t' c') → (why : Refused) → IsRefusedFor t.network d k (members_of t) why →
+    Moves (held t c) (Solve d k) (Err why) (held t' c')
+moves_refused t t' c c' d k still same kept why is =
+    solve.refused_moves first_pin (solving d k) t t' (flow_of c) (flow_of c') still same kept why (refused_steps t.network d k (members_of t) (flow_of c) why is)
 
 -- ---- what is planned, and then done
 
@@ -180,7 +114,7 @@ module _ (t t1 : Tiers) (c : Carried) (d : As) (now : ℕ) (x : Done) (at_is : d
   pub planned_err : {W : Type 0} → (u : Unanswered) → Commits {W = W} d now x t (Err u) t1 → Moves (held t c) (Solve (solved_at x) (solved_number x)) (Err u.why) (held t1 c)
   planned_err u m =
       subst (λ (a : As). Moves (held t c) (Solve a (solved_number x)) (Err u.why) (held t1 c)) at_is
-      (moves_refused t t1 c c d (number_of x) m.same refl (kept_still t t1 c sound.kept m.same) u.why m.why)
+      (moves_refused t t1 c c d (number_of x) m.same refl (solve.kept_still first_pin t t1 (flow_of c) sound.kept m.same) u.why m.why)
 
   module _ (p : MemberPlan) (m : Commits d now x t (Ok p) t1) where
     pub plan_member : is_member t1.network d ≡ true
@@ -188,31 +122,23 @@ module _ (t t1 : Tiers) (c : Carried) (d : As) (now : ℕ) (x : Done) (at_is : d
 
     pub plan_answers : IsAnswer t1.network d (tiers.sent_by p) (members_of t1) (next_by t1 p)
     plan_answers =
-        subst (λ (n : NetworkParts). IsAnswer n d (tiers.sent_by p) (members_of t1) (next_by t1 p)) (sym m.same.network)
-        (subst (λ (ms : Membership Pin Segment). IsAnswer t.network d (tiers.sent_by p) ms (next_by t1 p)) (sym m.same.seen)
-        (member_answer t.network now d (number_of x) (members_of t) (record { members = next_by t1 p; outputs = tiers.sent_by p }) m.answers))
-
-    pub plan_kept : IsKept (held t1 c)
-    plan_kept = kept_still t t1 c sound.kept m.same
+        solve.answer_still first_pin t t1 (flow_of c) sound.kept m.same d (tiers.sent_by p) (next_by t1 p)
+        (member_answer t.network now d (number_of x) (members_of t) (record { members = next_by t1 p; outputs = tiers.sent_by p }) m.answers)
 
     module _ (t' : Tiers) (c' : Carried) (network : t'.network ≡ t1.network) (lost : lost_in t' ≡ lost_in t1) (lines : IsOf t1.network (flow_of c')) (roomy : IsRoomy t1.network (members_of t') (flow_of c')) where
-      kept_then : IsKept (held t' c')
-      kept_then = record {
-        of = subst (λ (n : NetworkParts). IsOf n (flow_of c')) (sym network) lines;
-        none = λ a. ap (λ (l : As → List Lost). l a) (lost ∙ m.same.lost_is) ∙ sound.kept.none a;
-        roomy = subst (λ (n : NetworkParts). IsRoomy n (members_of t') (flow_of c')) (sym network) roomy;
-      }
+      kept : IsKept (held t' c')
+      kept = solve.kept_then first_pin t t1 (flow_of c) sound.kept m.same t' (flow_of c') network lost lines roomy
 
       pub plan_done : now ≡ (flow_of c).clock → members_of t' ≡ next_by t1 p → Sends t1.network open_of d (tiers.sent_by p) (members_of t') (flow_of c) (flow_of c') →
           Moves (held t c) (Solve (solved_at x) (solved_number x)) (Ok outcome.Done) (held t' c')
       plan_done clock next sends =
           let r : Replied Pin Segment = record { members = next_by t1 p; outputs = tiers.sent_by p } in
           subst (λ (a : As). Moves (held t c) (Solve a (solved_number x)) (Ok outcome.Done) (held t' c')) at_is
-          (moves_done t t' c c' d (number_of x) r (network ∙ m.same.network) m.there (subst (λ (i : ℕ). MemberAnswers t.network i d (number_of x) (members_of t) r) clock m.answers) next
-          (subst (λ (n : NetworkParts). Sends n open_of d (tiers.sent_by p) (members_of t') (flow_of c) (flow_of c')) m.same.network sends) kept_then)
+          (solve.solve_moves first_pin (solving d (number_of x)) t t' (flow_of c) (flow_of c') (network ∙ m.same.network) kept
+          (member_deed t.network d (number_of x) (members_of t) (members_of t') r (flow_of c) (flow_of c') m.there next (subst (λ (i : ℕ). MemberAnswers t.network i d (number_of x) (members_of t) r) clock m.answers)
+          (subst (λ (n : NetworkParts). Sends n open_of d (tiers.sent_by p) (members_of t') (flow_of c) (flow_of c')) m.same.network sends)))
 
       pub plan_lacks : members_of t' ≡ members_of t1 → OnlyGrows (flow_of c) (flow_of c') → Moves (held t c) (Solve (solved_at x) (solved_number x)) (Err refused.NoMemory) (held t' c')
       plan_lacks seen grows =
-          let still : Become t (members_of t) (lost_in t) t' = record { network = network ∙ m.same.network; seen = seen ∙ m.same.seen; lost_is = lost ∙ m.same.lost_is } in
           subst (λ (a : As). Moves (held t c) (Solve a (solved_number x)) (Err refused.NoMemory) (held t' c')) at_is
-          (moves_refused t t' c c' d (number_of x) still grows.same kept_then refused.NoMemory tt)
+          (moves_refused t t' c c' d (number_of x) (solve.same_then first_pin t t1 (flow_of c) sound.kept m.same t' (flow_of c') network lost seen) grows.same kept refused.NoMemory tt)
