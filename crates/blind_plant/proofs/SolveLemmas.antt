@@ -4,34 +4,34 @@ use Rattle.dom_base.specs.declared.names.As.{As}
 use Rattle.dom_base.specs.declared.border.BorderRow.{BorderRow}
 use Rattle.plant_text.specs.declared.settings.NetworkParts.{NetworkParts}
 use Rattle.plant_text.specs.Names.{parent_as}
-use Rattle.plant_model.specs.declared.event.BlindEvent.TheVariants.{Solve}
-use Rattle.plant_model.specs.declared.outcome.Outcome.TheVariants as outcome
-use Rattle.plant_model.specs.declared.outcome.Refused.{Refused}
-use Rattle.plant_model.specs.declared.outcome.Refused.TheVariants as refused
-use Rattle.plant_model.specs.declared.output.Lost.{Lost}
-use Rattle.plant_model.specs.Blind.{BlindHappened, BlindState, BlindSteps, Nothing, show_nothing}
-use Rattle.plant_model.specs.Deeds as deeds
-use Rattle.plant_model.specs.Element.{Taken}
-use Rattle.plant_model.specs.Events.{has_jobs}
-use Rattle.plant_model.specs.Parent as parent
-use Rattle.plant_model.specs.RealWire.{wire}
-use Rattle.plant_model.specs.Settings.{place}
-use Rattle.plant_model.specs.Solving.{commit}
-use Rattle.plant_model.specs.State.{Deed, Solves, said, sent_by}
-use Rattle.plant_traffic.specs.Carried.{Carried, flow_of}
-use Rattle.plant_traffic.specs.Flow.{Flow}
-use Rattle.plant_members.specs.Membership.{Membership, Replied, is_member, with_element, with_parent}
-use Rattle.plant_deeds.specs.Answering.{IsAnswer, Sends}
-use Rattle.plant_deeds.specs.Giving.{OnlyGrows}
-use Rattle.plant_deeds.specs.Passing.{IsOf}
-use Rattle.plant_deeds.specs.Rooms.{IsRoomy}
-use Rattle.plant_deeds.specs.Standing.{state_of}
-use Rattle.pce_element.specs.Blind.{stands_for_nothing}
-use Rattle.plant_hierarchy.specs.Answering.{IsRefusedFor, ParentAnswers}
-use Rattle.plant_hierarchy.specs.Blind.{ElementAnswers, MemberAnswers, nothing_first}
-use Rattle.plant_hierarchy.specs.Tiers.{Become, Tiers, lost_in, members_of, next_by}
-use Rattle.plant_hierarchy.specs.Tiers as tiers
-use Rattle.plant_hierarchy.specs.declared.plan.MemberPlan.{MemberPlan}
+use Rattle.plant_network.specs.plant_model.declared.event.BlindEvent.TheVariants.{Solve}
+use Rattle.plant_network.specs.plant_model.declared.outcome.Outcome.TheVariants as outcome
+use Rattle.plant_network.specs.plant_model.declared.outcome.Refused.{Refused}
+use Rattle.plant_network.specs.plant_model.declared.outcome.Refused.TheVariants as refused
+use Rattle.plant_network.specs.plant_model.declared.output.Lost.{Lost}
+use Rattle.plant_network.specs.plant_model.Blind.{BlindHappened, BlindState, BlindSteps, Nothing, show_nothing}
+use Rattle.plant_network.specs.plant_model.Deeds as deeds
+use Rattle.plant_network.specs.plant_model.Element.{Taken}
+use Rattle.plant_network.specs.plant_model.Events.{has_jobs}
+use Rattle.plant_network.specs.plant_model.Parent as parent
+use Rattle.plant_network.specs.plant_model.RealWire.{wire}
+use Rattle.plant_network.specs.plant_model.Settings.{place}
+use Rattle.plant_network.specs.plant_model.Solving.{commit}
+use Rattle.plant_network.specs.plant_model.State.{Deed, Solves, said, sent_by}
+use Rattle.plant_network.specs.plant_traffic.Carried.{Carried, flow_of}
+use Rattle.plant_network.specs.plant_traffic.Flow.{Flow}
+use Rattle.plant_network.specs.plant_members.Membership.{Membership, Replied, is_member, with_element, with_parent}
+use Rattle.plant_network.specs.plant_deeds.Answering.{IsAnswer, Sends}
+use Rattle.plant_network.specs.plant_deeds.Giving.{OnlyGrows}
+use Rattle.plant_network.specs.plant_deeds.Passing.{IsOf}
+use Rattle.plant_network.specs.plant_deeds.Rooms.{IsRoomy}
+use Rattle.plant_network.specs.plant_deeds.Standing.{state_of}
+use Rattle.plant_network.specs.pce_element.Blind.{stands_for_nothing}
+use Rattle.plant_network.specs.plant_hierarchy.Answering.{IsRefusedFor, ParentAnswers}
+use Rattle.plant_network.specs.plant_hierarchy.Blind.{ElementAnswers, MemberAnswers, nothing_first}
+use Rattle.plant_network.specs.plant_hierarchy.Tiers.{Become, Tiers, lost_in, members_of, next_by}
+use Rattle.plant_network.specs.plant_hierarchy.Tiers as tiers
+use Rattle.plant_network.specs.plant_hierarchy.declared.plan.MemberPlan.{MemberPlan}
 use Rattle.plant_network.proofs.AnswerLemmas.{element_answer, parent_answer}
 use Rattle.plant_network.specs.Moving.{IsKept}
 use Rattle.blind_plant.specs.Held.{IsSound, Moves, held, standing, whole}

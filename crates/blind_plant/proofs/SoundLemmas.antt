@@ -1,10 +1,10 @@
 -- What a network without topologies keeps from event to event.
-use Rattle.plant_model.specs.declared.event.BlindEvent.{BlindEvent}
-use Rattle.plant_model.specs.Blind.{BlindHappened, BlindSteps}
-use Rattle.plant_model.specs.Events.{Answered}
-use Rattle.plant_model.specs.RealWire.{wire}
-use Rattle.plant_lasting.specs.Lasting.{Goes}
-use Rattle.plant_lasting.proofs.BlindLast.{blind_steps_last}
+use Rattle.plant_network.specs.plant_model.declared.event.BlindEvent.{BlindEvent}
+use Rattle.plant_network.specs.plant_model.Blind.{BlindHappened, BlindSteps}
+use Rattle.plant_network.specs.plant_model.Events.{Answered}
+use Rattle.plant_network.specs.plant_model.RealWire.{wire}
+use Rattle.plant_network.specs.plant_lasting.Lasting.{Goes}
+use Rattle.plant_network.proofs.plant_lasting.BlindLast.{blind_steps_last}
 use Rattle.plant_network.proofs.SoundLemmas as network
 use Rattle.blind_plant.specs.Held.{Held, standing, whole, IsSound, Moves}
 

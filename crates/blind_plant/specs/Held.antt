@@ -1,12 +1,12 @@
 -- What a network without topologies holds: its members, and what is on its way between them.
-use Rattle.plant_model.specs.declared.event.BlindEvent.{BlindEvent}
-use Rattle.plant_model.specs.Blind.{BlindSteps, Nothing}
-use Rattle.plant_model.specs.Events.{Answered}
-use Rattle.plant_model.specs.RealWire.{wire}
-use Rattle.plant_traffic.specs.Carried.{Carried, flow_of}
-use Rattle.plant_deeds.specs.Standing.{Here, here}
-use Rattle.plant_hierarchy.specs.Blind.{nothing_first}
-use Rattle.plant_hierarchy.specs.Tiers.{Tiers, lost_in, members_of}
+use Rattle.plant_network.specs.plant_model.declared.event.BlindEvent.{BlindEvent}
+use Rattle.plant_network.specs.plant_model.Blind.{BlindSteps, Nothing}
+use Rattle.plant_network.specs.plant_model.Events.{Answered}
+use Rattle.plant_network.specs.plant_model.RealWire.{wire}
+use Rattle.plant_network.specs.plant_traffic.Carried.{Carried, flow_of}
+use Rattle.plant_network.specs.plant_deeds.Standing.{Here, here}
+use Rattle.plant_network.specs.plant_hierarchy.Blind.{nothing_first}
+use Rattle.plant_network.specs.plant_hierarchy.Tiers.{Tiers, lost_in, members_of}
 use Rattle.plant_network.specs.Moving as network
 use Rattle.blind_plant.specs.Whole.{Whole}
 

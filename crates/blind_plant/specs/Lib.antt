@@ -3,3 +3,5 @@ pub mod Whole
 pub mod Held
 -- inner
 pub mod PlantFields
+-- handed on from below
+pub use Rattle.plant_network.specs.plant_model

@@ -1,16 +1,16 @@
 //! The events of a network without topologies.
 ghost use Rattle.std.specs.Prelude.{◌≡◌};
-ghost use Rattle.plant_model.specs.declared.event.BlindEvent.TheVariants.{Solve};
-ghost use Rattle.plant_model.specs.Blind.{AreGivenRows, IsBlindGiven};
+ghost use Rattle.plant_network.specs.plant_model.declared.event.BlindEvent.TheVariants.{Solve};
+ghost use Rattle.plant_network.specs.plant_model.Blind.{AreGivenRows, IsBlindGiven};
 ghost use Rattle.blind_plant.specs.Held.{IsSound, Moves, held};
 
 use dom_base::{As, BorderRow, List};
-use pce_element::Blind;
-use plant_deeds::answer;
-use plant_hierarchy::Hierarchy;
-use plant_model::{BlindEvent, Outcome, Refused};
+use plant_network::deeds::answer;
+use plant_network::element::Blind;
+use plant_network::hierarchy::Hierarchy;
+use plant_network::model::{BlindEvent, Outcome, Refused};
+use plant_network::traffic::Traffic;
 use plant_network::{break_link, carry, drain, feed, open, shut, take, tick};
-use plant_traffic::Traffic;
 use std::alloc::Global;
 
 /// Answers a request by the rows of its border table.

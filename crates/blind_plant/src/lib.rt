@@ -6,3 +6,4 @@ mod events;
 mod plant;
 
 pub use plant::BlindPlant;
+pub use plant_network::model;

@@ -1,22 +1,22 @@
 //! A network without topologies as one value.
 ghost use Rattle.std.specs.Prelude.{◌≡◌, IfOk};
-ghost use Rattle.plant_lasting.specs.Lasting.{JobsLast};
-ghost use Rattle.plant_model.specs.Blind.{IsBlindGiven};
+ghost use Rattle.plant_network.specs.plant_lasting.Lasting.{JobsLast};
+ghost use Rattle.plant_network.specs.plant_model.Blind.{IsBlindGiven};
 ghost use Rattle.plant_text.specs.Settings.{lines};
-ghost use Rattle.plant_traffic.specs.Carried.{flow_of};
-ghost use Rattle.plant_traffic.specs.Waiting.{WaitsNext};
+ghost use Rattle.plant_network.specs.plant_traffic.Carried.{flow_of};
+ghost use Rattle.plant_network.specs.plant_traffic.Waiting.{WaitsNext};
 ghost use Rattle.blind_plant.specs.Held.{whole};
 ghost use Rattle.blind_plant.specs.Whole.{IsBegun, Stepped};
 
 use crate::events::act;
 use dom_base::{As, NoMemory};
-use pce_element::Blind;
-use plant_hierarchy::Hierarchy;
-use plant_model::{BlindEvent, Outcome, Refused};
+use plant_network::element::Blind;
+use plant_network::hierarchy::Hierarchy;
+use plant_network::model::{BlindEvent, Outcome, Refused};
+use plant_network::traffic::Traffic;
 use plant_network::{begin, traffic_of};
 use plant_queues::Said;
 use plant_text::{Network, NetworkParts};
-use plant_traffic::Traffic;
 use std::alloc::Global;
 use std::marker::Model;
 

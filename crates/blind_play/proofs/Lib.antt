@@ -3,3 +3,5 @@ pub mod HeardLemmas
 pub mod TurnLemmas
 pub mod LineLemmas
 pub mod SayingLemmas
+-- handed on from below
+pub use Rattle.text_ranges.proofs as text_ranges

@@ -4,13 +4,13 @@ use Rattle.std.specs.Prelude.{MatchOption}
 use Rattle.dom_base.specs.declared.names.As.{As}
 use Rattle.plant_text.specs.declared.line.LineEvent.{LineEvent}
 use Rattle.plant_text.specs.declared.settings.NetworkParts.{NetworkParts}
-use Rattle.plant_model.specs.declared.event.BlindEvent.{BlindEvent}
-use Rattle.plant_model.specs.declared.event.BlindEvent.TheVariants as blind
-use Rattle.plant_model.specs.Blind.{BlindState, is_accepted}
-use Rattle.plant_model.specs.Wire.{Bytes}
+use Rattle.blind_plant.specs.plant_model.declared.event.BlindEvent.{BlindEvent}
+use Rattle.blind_plant.specs.plant_model.declared.event.BlindEvent.TheVariants as blind
+use Rattle.blind_plant.specs.plant_model.Blind.{BlindState, is_accepted}
+use Rattle.blind_plant.specs.plant_model.Wire.{Bytes}
 use Rattle.plant_text.specs.Settings.{lines}
-use Rattle.plant_traffic.specs.Carried.{flow_of}
-use Rattle.plant_traffic.specs.Waiting.{WaitsNext}
+use Rattle.plant_due.specs.plant_traffic.Carried.{flow_of}
+use Rattle.plant_due.specs.plant_traffic.Waiting.{WaitsNext}
 use Rattle.plant_due.specs.Due.{IsLeast, IsSettled}
 use Rattle.plant_due.proofs.CarryLemmas.{least_here, settled_here}
 use Rattle.blind_plant.specs.Held.{Held, whole}

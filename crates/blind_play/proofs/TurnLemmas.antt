@@ -6,13 +6,13 @@ use Rattle.std.proofs.lemmas.List.{flat_map_more}
 use Rattle.dom_base.specs.declared.names.As.{As}
 use Rattle.plant_queues.specs.declared.sent.Sent.{Sent}
 use Rattle.plant_text.specs.declared.settings.NetworkParts.{NetworkParts}
-use Rattle.plant_model.specs.declared.event.BlindEvent.{BlindEvent}
-use Rattle.plant_model.specs.declared.event.BlindEvent.TheVariants as blind
-use Rattle.plant_model.specs.declared.outcome.Refused.TheVariants as refused
-use Rattle.plant_model.specs.Blind.{BlindHappened, BlindHappens, BlindState, Nothing, is_accepted, show_nothing}
-use Rattle.plant_model.specs.Events.{Answered}
-use Rattle.plant_model.specs.RealWire.{wire}
-use Rattle.plant_model.specs.State.{Deed, said}
+use Rattle.blind_plant.specs.plant_model.declared.event.BlindEvent.{BlindEvent}
+use Rattle.blind_plant.specs.plant_model.declared.event.BlindEvent.TheVariants as blind
+use Rattle.blind_plant.specs.plant_model.declared.outcome.Refused.TheVariants as refused
+use Rattle.blind_plant.specs.plant_model.Blind.{BlindHappened, BlindHappens, BlindState, Nothing, is_accepted, show_nothing}
+use Rattle.blind_plant.specs.plant_model.Events.{Answered}
+use Rattle.blind_plant.specs.plant_model.RealWire.{wire}
+use Rattle.blind_plant.specs.plant_model.State.{Deed, said}
 use Rattle.plant_due.specs.Due.{IsLeast, IsSettled, inbox_of}
 use Rattle.plant_due.specs.Laws.{FoundNothing}
 use Rattle.plant_due.proofs.CarryLemmas.{can_carry}

@@ -1,9 +1,9 @@
 -- What is due in a network without topologies, and events that are due one after the other.
 use Rattle.std.specs.Prelude.{◌≡◌, ℕ, true, List, [], ◌∷◌, Option, Some, None}
 use Rattle.plant_text.specs.declared.settings.NetworkParts.{NetworkParts}
-use Rattle.plant_model.specs.declared.event.BlindEvent.{BlindEvent}
-use Rattle.plant_model.specs.declared.event.BlindEvent.TheVariants as blind
-use Rattle.plant_model.specs.Blind.{BlindState, is_accepted}
+use Rattle.blind_plant.specs.plant_model.declared.event.BlindEvent.{BlindEvent}
+use Rattle.blind_plant.specs.plant_model.declared.event.BlindEvent.TheVariants as blind
+use Rattle.blind_plant.specs.plant_model.Blind.{BlindState, is_accepted}
 use Rattle.plant_due.specs.Due.{IsLeast, IsSettled, inbox_of}
 use Rattle.blind_play.specs.Turns.{IsTurn, Turn}
 

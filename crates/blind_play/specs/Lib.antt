@@ -6,3 +6,6 @@ pub mod Scripts
 pub mod Laws
 -- inner
 pub mod Making
+-- handed on from below
+pub use Rattle.blind_plant.specs.plant_model
+pub use Rattle.text_ranges.specs as text_ranges

@@ -1,13 +1,13 @@
 //! One event of a line, done and told.
 ghost use Rattle.std.specs.Prelude.{◌≡◌, ◌++◌, IfOk};
-ghost use Rattle.plant_model.specs.Blind.{IsBlindGiven};
+ghost use Rattle.blind_plant.specs.plant_model.Blind.{IsBlindGiven};
 ghost use Rattle.blind_plant.specs.Held.{whole};
 ghost use Rattle.blind_play.specs.Making.{Makes, MakesTurn, lacks_memory};
 
 use crate::telling::{drainer_of, write_heard};
 use blind_plant::BlindPlant;
+use blind_plant::model::{BlindEvent, Outcome, Refused};
 use dom_base::NoMemory;
-use plant_model::{BlindEvent, Outcome, Refused};
 use std::alloc::Global;
 
 /// What came of an event: an outcome, or why it was refused.

@@ -7,8 +7,8 @@ ghost use Rattle.blind_play.specs.Playing.{PlaysFeed};
 
 use crate::events::play_event;
 use blind_plant::BlindPlant;
+use blind_plant::model::BlindEvent;
 use dom_base::{Bytes, NoMemory};
-use plant_model::BlindEvent;
 use std::alloc::Global;
 
 // Takes what is in the inbox of a peer.

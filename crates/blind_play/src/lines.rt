@@ -1,7 +1,7 @@
 //! A line is played by its kind.
 ghost use Rattle.std.specs.Prelude.{◌≡◌, ◌++◌, OnOk};
 ghost use Rattle.std.specs.Option.{option_map};
-ghost use Rattle.plant_model.specs.Blind.{IsBlindGiven};
+ghost use Rattle.blind_plant.specs.plant_model.Blind.{IsBlindGiven};
 ghost use Rattle.text_ranges.specs.Given.{IsBlindLine};
 ghost use Rattle.blind_plant.specs.Held.{whole};
 ghost use Rattle.blind_play.specs.Making.{Does, IsGivenIfAny};
@@ -11,8 +11,8 @@ use crate::events::play_event;
 use crate::feeding::feed;
 use crate::settling::settle;
 use blind_plant::BlindPlant;
+use blind_plant::model::BlindEvent;
 use dom_base::{Bytes, NoMemory};
-use plant_model::BlindEvent;
 use plant_text::LineEvent;
 use std::alloc::Global;
 

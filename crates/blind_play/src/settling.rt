@@ -7,8 +7,8 @@ ghost use Rattle.blind_play.specs.Making.{Does};
 
 use crate::events::play_event;
 use blind_plant::BlindPlant;
+use blind_plant::model::BlindEvent;
 use dom_base::{As, NoMemory};
-use plant_model::BlindEvent;
 use std::alloc::Global;
 
 // The least pair between which a message is on its way.

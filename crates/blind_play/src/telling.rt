@@ -1,7 +1,7 @@
 //! What closed peers hear of an event, told: its messages to them, and what one of them drained.
 ghost use Rattle.std.specs.Prelude.{◌≡◌, ◌++◌, ◌+◌, ◌<◌, [], drop, length, IfOk, OnOk, cond};
-ghost use Rattle.plant_model.specs.Blind.{is_closed as is_closed_peer};
-ghost use Rattle.plant_model.specs.Element.{is_client};
+ghost use Rattle.blind_plant.specs.plant_model.Blind.{is_closed as is_closed_peer};
+ghost use Rattle.blind_plant.specs.plant_model.Element.{is_client};
 ghost use Rattle.plant_text.specs.Sents.{sent_line};
 ghost use Rattle.transcript.specs.Lines.{answer_line, name_of};
 ghost use Rattle.blind_plant.specs.Held.{whole};
@@ -9,13 +9,13 @@ ghost use Rattle.blind_play.specs.Making.{closed_text, drain_text, drainer_of, t
 
 use crate::events::Answer;
 use blind_plant::BlindPlant;
+use blind_plant::model::BlindEvent;
 use disclosure::Class;
 use dom_base::{As, NoMemory, Peer};
-use plant_layout::class_of;
-use plant_model::BlindEvent;
 use plant_queues::Said;
 use plant_text::NetworkParts;
 use std::alloc::Global;
+use transcript::layout::class_of;
 use transcript::{write_answer, write_sent};
 
 /// The outside peer that drains what waits for it.

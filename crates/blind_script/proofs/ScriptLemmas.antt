@@ -9,10 +9,10 @@ use Rattle.dom_edge.specs.Causes.{Rose}
 use Rattle.dom_edge.specs.Whole.{AppendsSome}
 use Rattle.line_text.specs.Lines.{NumberedLine, told_lines}
 use Rattle.plant_text.specs.declared.settings.NetworkParts.{NetworkParts}
-use Rattle.plant_model.specs.Blind.{blind_opened}
-use Rattle.plant_model.specs.RealWire.{wire}
-use Rattle.text_ranges.specs.Given.{IsBlindLine}
-use Rattle.text_ranges.proofs.GivenRows.{blind_line_given}
+use Rattle.blind_play.specs.plant_model.Blind.{blind_opened}
+use Rattle.blind_play.specs.plant_model.RealWire.{wire}
+use Rattle.blind_play.specs.text_ranges.Given.{IsBlindLine}
+use Rattle.blind_play.proofs.text_ranges.GivenRows.{blind_line_given}
 use Rattle.plant_script.specs.declared.stop.Stop.{Stop}
 use Rattle.plant_script.specs.declared.stop.Stop.TheVariants as stop
 use Rattle.plant_script.proofs.ScriptLemmas.{rose_before, some_more, some_of_all}

@@ -3,7 +3,7 @@ ghost use Rattle.std.specs.Prelude.{◌≡◌, ◌≤◌, false, length, IfErr, 
 ghost use Rattle.line_text.specs.Lines.{is_skipped};
 ghost use Rattle.plant_script.specs.Cues.{IsTooLarge};
 ghost use Rattle.plant_script.specs.Scripts.{input_name, numbered, script_most};
-ghost use Rattle.text_ranges.specs.Given.{IsBlindLine};
+ghost use Rattle.blind_play.specs.text_ranges.Given.{IsBlindLine};
 ghost use Rattle.blind_play.specs.Playing.{IsNewStage, stage_of};
 ghost use Rattle.blind_script.specs.Scripts.{HasEvent, IsNoEvent, IsWhole, LinePlays, LineStops, ScriptStops, WroteAll};
 

@@ -2,3 +2,5 @@ pub mod HeldRows
 pub mod HeldPlaces
 pub mod Scans
 pub mod WayLemmas
+-- handed on from below
+pub use Rattle.plant_model.proofs as plant_model

@@ -3,3 +3,5 @@ pub mod Messages
 pub mod Ways
 -- inner
 pub mod Branches
+-- handed on from below
+pub use Rattle.plant_model.specs as plant_model

@@ -17,5 +17,6 @@ pub use messages::{
 pub use numbers::{after_id, has_number};
 pub use objects::{ends, needed, sequence_object};
 pub use peers::is_same_peer;
+pub use plant_model as model;
 pub use reported::{error_answer, has_pair};
 pub use ways::{Way, Ways};

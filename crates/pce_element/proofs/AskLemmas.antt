@@ -11,9 +11,9 @@ use Rattle.disclosure.specs.declared.class.Class.TheVariants.{Client, Neighbour,
 use Rattle.disclosure.specs.declared.class.Deny.{Deny}
 use Rattle.disclosure.specs.Policy.{is_denied}
 use Rattle.request_table.specs.Pending.{opened_of}
-use Rattle.plant_model.specs.declared.output.Output.{Output}
-use Rattle.plant_model.specs.Element.{Element, Place, Ready, Taken, each, silent, way_to}
-use Rattle.plant_model.specs.Taking.{item_of, send_on, take_along}
+use Rattle.member_parts.specs.plant_model.declared.output.Output.{Output}
+use Rattle.member_parts.specs.plant_model.Element.{Element, Place, Ready, Taken, each, silent, way_to}
+use Rattle.member_parts.specs.plant_model.Taking.{item_of, send_on, take_along}
 use Rattle.pce_element.specs.Changes.{IsDraft}
 use Rattle.pce_element.specs.Seen.{Seen}
 use Rattle.pce_element.specs.declared.change.Draft.{Draft}

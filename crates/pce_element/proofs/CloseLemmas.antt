@@ -2,7 +2,7 @@
 use Rattle.std.proofs.Common.{◌≡◌, ◌∙◌, ◌+◌, ℕ, suc, List, [], ◌∷◌, ◌++◌, Some, take, arith, refl, sym, ap}
 use Rattle.std.specs.Prelude.{slice_get}
 use Rattle.request_table.specs.Pending.{Pending, closed_of}
-use Rattle.plant_model.specs.Element.{Item}
+use Rattle.member_parts.specs.plant_model.Element.{Item}
 use Rattle.pce_element.specs.Changes.{all_closed}
 use Rattle.pce_element.specs.Pinned.{Pinned}
 use Rattle.pce_element.specs.Leaving.{SameButSpare}

@@ -19,15 +19,15 @@ use Rattle.border_costs.specs.declared.job.Ask.{Ask}
 use Rattle.border_costs.specs.declared.job.Down.{Down}
 use Rattle.border_costs.specs.Solutions.{AreRows, Solution}
 use Rattle.border_costs.proofs.Heads.{heads_have_branches}
-use Rattle.plant_model.proofs.Meeting.{branch_meets}
-use Rattle.plant_model.specs.Branches.{downs, onward, closed_branch, path_of}
-use Rattle.plant_model.specs.Element.{Element, Item, Row, Stage, Taken, Waits, Ready, ended, is_client}
-use Rattle.plant_model.specs.declared.output.Output.{Output}
-use Rattle.plant_model.specs.Plant.{Pin, Segment}
-use Rattle.plant_model.specs.RealWire.{wire}
-use Rattle.plant_model.specs.Solving.{client_reply, closed_paths, closed_reply, free, issued_all}
-use Rattle.plant_model.specs.Taking.{answered}
-use Rattle.plant_model.specs.Writing.{busy, reply_message}
+use Rattle.member_parts.proofs.plant_model.Meeting.{branch_meets}
+use Rattle.member_parts.specs.plant_model.Branches.{downs, onward, closed_branch, path_of}
+use Rattle.member_parts.specs.plant_model.Element.{Element, Item, Row, Stage, Taken, Waits, Ready, ended, is_client}
+use Rattle.member_parts.specs.plant_model.declared.output.Output.{Output}
+use Rattle.member_parts.specs.plant_model.Plant.{Pin, Segment}
+use Rattle.member_parts.specs.plant_model.RealWire.{wire}
+use Rattle.member_parts.specs.plant_model.Solving.{client_reply, closed_paths, closed_reply, free, issued_all}
+use Rattle.member_parts.specs.plant_model.Taking.{answered}
+use Rattle.member_parts.specs.plant_model.Writing.{busy, reply_message}
 use Rattle.pce_element.specs.Changes.{all_issued}
 use Rattle.pce_element.specs.Answering.{Answers, AnswersClosed, client_answer, closed_parts, commit_row, paths_by}
 use Rattle.pce_element.specs.Committing.{AnswersFor, IsOwnJob, commit_held, commit_solved, commit_stage, own_part}

@@ -6,8 +6,8 @@ use Rattle.std.proofs.lemmas.List.Elements.{filter-append}
 use Rattle.std.proofs.Common.{append_assoc}
 use Rattle.dom_base.specs.declared.names.Peer.{Peer}
 use Rattle.request_table.specs.Pending.{ArePending, same_peer, closed_of}
-use Rattle.plant_model.specs.declared.output.Lost.{Lost}
-use Rattle.plant_model.specs.Element.{Element, Row, handed_lost, stays, is_lost, lost_of, waits_on}
+use Rattle.member_parts.specs.plant_model.declared.output.Lost.{Lost}
+use Rattle.member_parts.specs.plant_model.Element.{Element, Row, handed_lost, stays, is_lost, lost_of, waits_on}
 use Rattle.pce_element.specs.declared.pinned.Leaves.{Leaves}
 use Rattle.pce_element.specs.declared.pinned.Leaves.TheVariants.{Stays, Drops, Loses}
 use Rattle.pce_element.specs.Pinned.{Pinned}

@@ -14,9 +14,9 @@ use Rattle.request_table.specs.declared.held.Held.{Held}
 use Rattle.dom_base.specs.declared.names.Peer.{Peer}
 use Rattle.request_table.specs.Pending.{Pending, is_full, key_of, opened_of}
 use Rattle.request_table.specs.Lends.{with_item}
-use Rattle.plant_model.specs.Element.{Item, Row}
-use Rattle.plant_model.specs.Plant.{Pin}
-use Rattle.plant_model.specs.Meeting.{Shelves}
+use Rattle.member_parts.specs.plant_model.Element.{Item, Row}
+use Rattle.member_parts.specs.plant_model.Plant.{Pin}
+use Rattle.member_parts.specs.plant_model.Meeting.{Shelves}
 use Rattle.pce_element.specs.Pinned.{pins_in}
 use Rattle.pce_element.specs.Topologies.{KeepsPins, current_of}
 use Rattle.pce_element.specs.Worlds.{IsKept, KeepsOneLess, KeepsOneMore}

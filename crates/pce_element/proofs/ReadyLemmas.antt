@@ -6,8 +6,8 @@ use Rattle.request_table.specs.declared.held.Held.{Held}
 use Rattle.request_table.specs.Pending.{Pending, NumbersRise, item_of}
 use Rattle.request_table.specs.Lends.{written_of, with_item}
 use Rattle.vspt_tree.specs.declared.branch.Branch.{Branch}
-use Rattle.plant_model.specs.Element.{Element, Item, Row, Stage, Waits, Ready, at_stage, is_ready, waits_for}
-use Rattle.plant_model.specs.Taking.{staged}
+use Rattle.member_parts.specs.plant_model.Element.{Element, Item, Row, Stage, Waits, Ready, at_stage, is_ready, waits_for}
+use Rattle.member_parts.specs.plant_model.Taking.{staged}
 use Rattle.pce_element.specs.Pinned.{pins_in}
 use Rattle.pce_element.specs.Changes.{readied, readied_item}
 use Rattle.member_parts.proofs.HeldRows.{in_found, length-written}

@@ -17,3 +17,5 @@ pub mod Endings
 pub mod Answering
 pub mod Committing
 pub mod Joining
+-- handed on from below
+pub use Rattle.member_parts.specs as member_parts

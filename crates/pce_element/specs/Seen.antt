@@ -1,7 +1,7 @@
 -- An element as its callers see it.
 use Rattle.std.specs.Prelude.{◌≡◌, ℕ, List, [], map}
 use Rattle.dom_base.specs.declared.names.As.{As}
-use Rattle.plant_model.specs.Element.{Element, Place, Losing}
+use Rattle.member_parts.specs.plant_model.Element.{Element, Place, Losing}
 use Rattle.member_parts.specs.Ways.{way_of}
 
 -- how many more requests and keys there is memory for

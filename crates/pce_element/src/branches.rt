@@ -1,7 +1,7 @@
 //! The branches of a reply (RFC 5441, section 5).
 ghost use Rattle.std.specs.Prelude.{◌≡◌, IfOk};
-ghost use Rattle.plant_model.specs.Branches.{branches_in};
-ghost use Rattle.plant_model.specs.RealWire.{wire};
+ghost use Rattle.member_parts.specs.plant_model.Branches.{branches_in};
+ghost use Rattle.member_parts.specs.plant_model.RealWire.{wire};
 
 use dom_base::{List, Metric, NoMemory};
 use member_parts::branch_of;

@@ -1,7 +1,7 @@
 //! The parts of which drafts of changes are made.
 ghost use Rattle.std.specs.Prelude.{◌≡◌, false, Contains, IfOk};
-ghost use Rattle.plant_model.specs.Element.{Ready, is_ready, only, silent};
-ghost use Rattle.plant_model.specs.Taking.{answered, staged};
+ghost use Rattle.member_parts.specs.plant_model.Element.{Ready, is_ready, only, silent};
+ghost use Rattle.member_parts.specs.plant_model.Taking.{answered, staged};
 ghost use Rattle.pce_element.specs.Changes.{IsDraft};
 ghost use Rattle.pce_element.specs.Rows.{row_of};
 
@@ -10,9 +10,9 @@ use crate::element::Element;
 use crate::pinned::Row;
 use crate::world::World;
 use dom_base::{List, NoMemory, Peer};
+use member_parts::model::Output;
 use member_parts::one;
 use pcep_messages::Message;
-use plant_model::Output;
 use vspt_tree::Branch;
 
 impl<W: World> Element<W> {

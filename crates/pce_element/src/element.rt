@@ -1,6 +1,6 @@
 //! One path computation element.
 ghost use Rattle.std.specs.Prelude.{◌≡◌, ◌≤◌, slice_get, IfOk};
-ghost use Rattle.plant_model.specs.Element.{upped, down_of, next_lost_of, ticked, ready_numbers};
+ghost use Rattle.member_parts.specs.plant_model.Element.{upped, down_of, next_lost_of, ticked, ready_numbers};
 ghost use Rattle.pce_element.specs.Lasting.{ReadyLast};
 ghost use Rattle.pce_element.specs.Seen.{SameButRoom, IsNew, with_element, with_losing};
 
@@ -10,8 +10,8 @@ use crate::world::World;
 use disclosure::Deny;
 use dom_base::{Addr, As, List, NoMemory, Peer, Tick};
 use member_parts::Ways;
+use member_parts::model::Lost;
 use path_keys::PathKeys;
-use plant_model::Lost;
 use std::alloc::Global;
 use std::collections::VecDeque;
 use std::marker::Model;

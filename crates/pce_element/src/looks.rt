@@ -4,8 +4,8 @@ ghost use Rattle.std.specs.Option.{option_copied};
 ghost use Rattle.request_table.specs.Pending.{same_peer};
 ghost use Rattle.path_keys.specs.Keys.{live_at, live_most, segment_of};
 ghost use Rattle.disclosure.specs.Policy.{is_denied};
-ghost use Rattle.plant_model.specs.Element.{way_to};
-ghost use Rattle.plant_model.specs.Names.{same_addr};
+ghost use Rattle.member_parts.specs.plant_model.Element.{way_to};
+ghost use Rattle.member_parts.specs.plant_model.Names.{same_addr};
 
 use crate::element::Element;
 use crate::pinned::PinnedRequests;

@@ -2,7 +2,7 @@
 ghost use Rattle.std.specs.Prelude.{◌≡◌, ◌≤◌, ◌<◌, ◌+◌, [], false, None, Some, IfOk, OnOk, MatchOption, slice_get, filter, length};
 ghost use Rattle.std.specs.Option.{option_copied};
 ghost use Rattle.request_table.specs.Pending.{ArePending, number_of, item_of, key_at, is_full, opened_of, closed_of, same_peer};
-ghost use Rattle.plant_model.specs.Element.{ready_numbers};
+ghost use Rattle.member_parts.specs.plant_model.Element.{ready_numbers};
 ghost use Rattle.pce_element.specs.Items.{new_item};
 ghost use Rattle.pce_element.specs.Rows.{row_of};
 ghost use Rattle.pce_element.specs.Leaving.{LeavesAt, SameButSpare};
@@ -12,7 +12,7 @@ use crate::accepted::{Accepted, Opening};
 use crate::world::World;
 use dom_base::{As, List, NoMemory, Peer};
 use member_parts::is_same_peer;
-use plant_model::Lost;
+use member_parts::model::Lost;
 use request_table::{PENDING_MAX, RequestKey, Requests};
 use std::alloc::Global;
 use std::marker::Model;

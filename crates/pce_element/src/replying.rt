@@ -1,8 +1,8 @@
 //! What an element does with a reply.
 ghost use Rattle.std.specs.Prelude.{◌≡◌, false, Contains, IfOk};
-ghost use Rattle.plant_model.specs.Element.{is_ready};
-ghost use Rattle.plant_model.specs.RealWire.{wire};
-ghost use Rattle.plant_model.specs.Taking.{made_ready, take_answer, take_reply};
+ghost use Rattle.member_parts.specs.plant_model.Element.{is_ready};
+ghost use Rattle.member_parts.specs.plant_model.RealWire.{wire};
+ghost use Rattle.member_parts.specs.plant_model.Taking.{made_ready, take_answer, take_reply};
 ghost use Rattle.std.specs.Prelude.{Some};
 ghost use Rattle.pce_element.specs.Changes.{IsDraft};
 ghost use Rattle.pce_element.specs.Rows.{row_of};

@@ -2,7 +2,7 @@
 ghost use Rattle.std.specs.Prelude.{◌≡◌, false, Contains, None, Some, MatchOption, nat_eq};
 ghost use Rattle.std.specs.Map.{lookup};
 ghost use Rattle.request_table.specs.Pending.{number_of};
-ghost use Rattle.plant_model.specs.Element.{fresh_id, is_ready, is_waiting, waiting};
+ghost use Rattle.member_parts.specs.plant_model.Element.{fresh_id, is_ready, is_waiting, waiting};
 ghost use Rattle.pce_element.specs.Changes.{all_closed};
 ghost use Rattle.pce_element.specs.Rows.{row_of};
 

@@ -1,8 +1,8 @@
 //! What an element does with a message.
 ghost use Rattle.std.specs.Prelude.{◌≡◌, ◌≤◌, length, IfOk, None};
-ghost use Rattle.plant_model.specs.Element.{each};
-ghost use Rattle.plant_model.specs.RealWire.{wire};
-ghost use Rattle.plant_model.specs.Taking.{take, take_asked, take_reply};
+ghost use Rattle.member_parts.specs.plant_model.Element.{each};
+ghost use Rattle.member_parts.specs.plant_model.RealWire.{wire};
+ghost use Rattle.member_parts.specs.plant_model.Taking.{take, take_asked, take_reply};
 ghost use Rattle.pce_element.specs.Changes.{IsDraft};
 ghost use Rattle.member_parts.specs.Messages.{HasOnePart};
 ghost use Rattle.pce_element.specs.Seen.{SameButRoom};

@@ -7,8 +7,8 @@ use Rattle.vspt_tree.specs.declared.branch.Branch.{Branch}
 use Rattle.request_table.specs.declared.held.Held.{Held}
 use Rattle.request_table.specs.Pending.{Pending, ArePending, item_of}
 use Rattle.request_table.specs.Lends.{written_of}
-use Rattle.plant_model.specs.declared.upper.ChildRow.{ChildRow}
-use Rattle.plant_model.specs.Parent.{Parent, Given, Asking, AskingRow, Wait, among, gathered, gathers, rows_at, waiting}
+use Rattle.member_parts.specs.plant_model.declared.upper.ChildRow.{ChildRow}
+use Rattle.member_parts.specs.plant_model.Parent.{Parent, Given, Asking, AskingRow, Wait, among, gathered, gathers, rows_at, waiting}
 use Rattle.pce_parent.specs.declared.change.Change.{Change}
 use Rattle.pce_parent.specs.declared.change.Change.TheVariants.{Gathers, Ends}
 use Rattle.pce_parent.specs.declared.change.Draft.{Draft}

@@ -5,10 +5,10 @@ use Rattle.std.proofs.lemmas.Bool.{cases_Bool}
 use Rattle.dom_base.specs.declared.names.Peer.{Peer}
 use Rattle.dom_base.specs.declared.names.Peer.TheVariants.{Inner}
 use Rattle.pcep_messages.specs.declared.message.Wanted.{Wanted}
-use Rattle.plant_model.specs.declared.output.Output.{Output}
-use Rattle.plant_model.specs.Names.{same_id}
-use Rattle.plant_model.specs.Element.{Way, after_id, pass_over, way_to, with_last}
-use Rattle.plant_model.specs.Parent.{AskingRow, Wait, Errand, Asks, all_waits, among, ask_all, last_to, next_id}
+use Rattle.member_parts.specs.plant_model.declared.output.Output.{Output}
+use Rattle.member_parts.specs.plant_model.Names.{same_id}
+use Rattle.member_parts.specs.plant_model.Element.{Way, after_id, pass_over, way_to, with_last}
+use Rattle.member_parts.specs.plant_model.Parent.{AskingRow, Wait, Errand, Asks, all_waits, among, ask_all, last_to, next_id}
 use Rattle.pce_parent.specs.declared.sending.Sending.{Sending}
 use Rattle.pce_parent.specs.Sending.{wait_of, id_for, asked_by, IsSent}
 use Rattle.member_parts.proofs.Scans.{dropped_next}

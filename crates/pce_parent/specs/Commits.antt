@@ -4,12 +4,12 @@ use Rattle.std.specs.Map.{lookup}
 use Rattle.dom_base.specs.declared.query.Metric.{Metric}
 use Rattle.pcep_messages.specs.declared.message.Answer.{Answer}
 use Rattle.pcep_messages.specs.declared.message.Answer.TheVariants.{Paths}
-use Rattle.plant_model.specs.RealWire.{wire}
-use Rattle.plant_model.specs.declared.output.Output.{Output}
-use Rattle.plant_model.specs.Writing.{no_path, reply_message}
-use Rattle.plant_model.specs.Branches.{path_of}
-use Rattle.plant_model.specs.BorderGraph.{Found}
-use Rattle.plant_model.specs.Parent.{AskingRow, is_ready}
+use Rattle.member_parts.specs.plant_model.RealWire.{wire}
+use Rattle.member_parts.specs.plant_model.declared.output.Output.{Output}
+use Rattle.member_parts.specs.plant_model.Writing.{no_path, reply_message}
+use Rattle.member_parts.specs.plant_model.Branches.{path_of}
+use Rattle.member_parts.specs.plant_model.BorderGraph.{Found}
+use Rattle.member_parts.specs.plant_model.Parent.{AskingRow, is_ready}
 use Rattle.pce_parent.specs.declared.pending.Row.{Row}
 use Rattle.pce_parent.specs.Pendings.{row_of}
 use Rattle.pce_parent.specs.Seen.{Seen}

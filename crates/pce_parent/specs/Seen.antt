@@ -3,10 +3,10 @@ use Rattle.std.specs.Prelude.{◌≡◌, ℕ, cond, nat_eq, [], map, Option, Som
 use Rattle.std.specs.Map.{lookup}
 use Rattle.dom_base.specs.declared.addr.Addr.{Addr}
 use Rattle.request_table.specs.declared.held.Held.{Held}
-use Rattle.plant_model.specs.declared.TheConstants.{PARENT_PENDING_MAX}
-use Rattle.plant_model.specs.declared.upper.BorderJob.{BorderJob}
-use Rattle.plant_model.specs.RealWire.{wire}
-use Rattle.plant_model.specs.Parent.{Parent, Family, Given, Losing, Asking, is_ready, job_of, commit}
+use Rattle.member_parts.specs.plant_model.declared.TheConstants.{PARENT_PENDING_MAX}
+use Rattle.member_parts.specs.plant_model.declared.upper.BorderJob.{BorderJob}
+use Rattle.member_parts.specs.plant_model.RealWire.{wire}
+use Rattle.member_parts.specs.plant_model.Parent.{Parent, Family, Given, Losing, Asking, is_ready, job_of, commit}
 use Rattle.pce_parent.specs.Solution.{BorderSolution}
 use Rattle.member_parts.specs.Ways.{way_of}
 

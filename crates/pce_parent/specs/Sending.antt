@@ -4,10 +4,10 @@ use Rattle.dom_base.specs.declared.names.As.{As}
 use Rattle.dom_base.specs.declared.addr.Addr.{Addr}
 use Rattle.dom_base.specs.declared.names.Peer.TheVariants.{Inner}
 use Rattle.pcep_messages.specs.declared.message.Wanted.{Wanted}
-use Rattle.plant_model.specs.declared.output.Output.{Output}
-use Rattle.plant_model.specs.Writing.{request_message}
-use Rattle.plant_model.specs.Element.{Way, with_last}
-use Rattle.plant_model.specs.Parent.{Wait, Errand, next_id, ask_all}
+use Rattle.member_parts.specs.plant_model.declared.output.Output.{Output}
+use Rattle.member_parts.specs.plant_model.Writing.{request_message}
+use Rattle.member_parts.specs.plant_model.Element.{Way, with_last}
+use Rattle.member_parts.specs.plant_model.Parent.{Wait, Errand, next_id, ask_all}
 use Rattle.pce_parent.specs.declared.sending.Sending.{Sending}
 
 abbrev pub wait_of : As → ℕ → Addr → Wait

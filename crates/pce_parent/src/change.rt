@@ -5,7 +5,7 @@ use crate::asking::Asking;
 use crate::solved::BorderSolved;
 use dom_base::{List, Peer};
 use member_parts::Ways;
-use plant_model::{ChildRow, Outputs};
+use member_parts::model::{ChildRow, Outputs};
 use std::alloc::Global;
 
 /// What is to change.

@@ -11,10 +11,10 @@ use crate::pending::Row;
 use crate::plan::BorderPlan;
 use crate::solved::BorderSolved;
 use dom_base::{List, Metric, NoMemory, Tick, word_of_cost};
+use member_parts::model::{Output, Outputs};
 use member_parts::{no_path, one, reply_message};
 use pcep_messages::{Answer, Path, type_of_metric};
 use pcep_subobjects::append_hops;
-use plant_model::{Output, Outputs};
 use std::alloc::Global;
 
 /// Why a solved job is not answered. It hands the job back.

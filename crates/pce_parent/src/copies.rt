@@ -2,8 +2,8 @@
 ghost use Rattle.std.specs.Prelude.{◌≡◌, ◌++◌, IfOk, OnOk};
 
 use dom_base::{Link, List, NoMemory, ParentLink};
+use member_parts::model::ChildRow;
 use pcep_subobjects::append_hops;
-use plant_model::ChildRow;
 use std::alloc::Global;
 
 fn copy_row(alloc: Global, row: &ChildRow) -> Result<ChildRow, NoMemory>

@@ -1,8 +1,8 @@
 //! The parent takes a child's answer.
 ghost use Rattle.std.specs.Prelude.{◌≡◌, ◌≤◌, Some, length, IfOk};
-ghost use Rattle.plant_model.specs.RealWire.{wire};
-ghost use Rattle.plant_model.specs.Branches.{branches_in};
-ghost use Rattle.plant_model.specs.Parent.{each, answered, gathers, take_answer, take_reply, waiting};
+ghost use Rattle.member_parts.specs.plant_model.RealWire.{wire};
+ghost use Rattle.member_parts.specs.plant_model.Branches.{branches_in};
+ghost use Rattle.member_parts.specs.plant_model.Parent.{each, answered, gathers, take_answer, take_reply, waiting};
 ghost use Rattle.pce_parent.specs.Changes.{IsDraft};
 ghost use Rattle.pce_parent.specs.Pendings.{row_of};
 

@@ -4,7 +4,7 @@ ghost use Rattle.std.specs.Map.{lookup};
 ghost use Rattle.std.specs.Prelude.{nat_eq};
 ghost use Rattle.dom_base.specs.declared.names.As.{As as Domain};
 ghost use Rattle.request_table.specs.Pending.{same_peer};
-ghost use Rattle.plant_model.specs.Parent.{upped, down_of, next_lost_of, ready_numbers, start_of};
+ghost use Rattle.member_parts.specs.plant_model.Parent.{upped, down_of, next_lost_of, ready_numbers, start_of};
 ghost use Rattle.pce_parent.specs.Seen.{SameButRoom, IsNew, with_parent, with_losing, job_at};
 ghost use Rattle.pce_parent.specs.Solution.{IsWeighed};
 
@@ -13,7 +13,7 @@ use crate::copies::copy_links;
 use crate::pending::{leave_all, owed, ready_at};
 use dom_base::{Addr, As, List, NoMemory, ParentLink, Peer};
 use member_parts::Ways;
-use plant_model::{BorderJob, Lost, PARENT_PENDING_MAX};
+use member_parts::model::{BorderJob, Lost, PARENT_PENDING_MAX};
 use request_table::Requests;
 use std::alloc::Global;
 use std::collections::VecDeque;

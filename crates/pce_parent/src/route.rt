@@ -8,8 +8,8 @@ use crate::costs::cost_of;
 use crate::spot::Spot;
 use crate::tight::{next_arc, next_arcs};
 use dom_base::{Cost, List, NoMemory};
+use member_parts::model::BorderJob;
 use pcep_subobjects::{Hop, append_hops, strict_hop};
-use plant_model::BorderJob;
 use std::alloc::Global;
 
 /// The place of a vertex, and the least cost from there.

@@ -4,7 +4,7 @@ ghost use Rattle.pce_parent.specs.Costs.{start_cost, AreReached};
 
 use crate::spot::{Spot, leaving};
 use dom_base::{Addr, Cost, NoMemory};
-use plant_model::BorderJob;
+use member_parts::model::BorderJob;
 use std::alloc::Global;
 
 fn start_at(target: Addr, spot: &Spot) -> Option<Cost>

@@ -1,6 +1,6 @@
 //! What peers tell of requests: notices and errors.
 ghost use Rattle.std.specs.Prelude.{◌≡◌, IfOk, OnOk};
-ghost use Rattle.plant_model.specs.Parent.{each, waiting, notice_steps, take_busy, take_cancel, take_failure, take_notice, take_report};
+ghost use Rattle.member_parts.specs.plant_model.Parent.{each, waiting, notice_steps, take_busy, take_cancel, take_failure, take_notice, take_report};
 ghost use Rattle.pce_parent.specs.Changes.{IsDraft};
 ghost use Rattle.pce_parent.specs.Endings.{GoesOn};
 

@@ -1,8 +1,8 @@
 //! What a request waits for.
 ghost use Rattle.std.specs.Prelude.{◌≡◌};
 ghost use Rattle.request_table.specs.Pending.{same_peer};
-ghost use Rattle.plant_model.specs.Names.{same_id};
-ghost use Rattle.plant_model.specs.Parent.{among, any_on};
+ghost use Rattle.member_parts.specs.plant_model.Names.{same_id};
+ghost use Rattle.member_parts.specs.plant_model.Parent.{among, any_on};
 ghost use Rattle.pce_parent.specs.Sending.{wait_of};
 
 use dom_base::{Addr, As, Peer};
@@ -19,7 +19,7 @@ pub struct Wait {
 }
 
 impl Model for Wait {
-    ghost use Rattle.plant_model.specs.Parent.{Wait};
+    ghost use Rattle.member_parts.specs.plant_model.Parent.{Wait};
 
     ghost Value = { Wait };
 

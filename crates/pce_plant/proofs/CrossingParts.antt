@@ -2,18 +2,18 @@
 use denote.Param.Send.{IsSend, IsSync, sendable}
 use Rattle.std.proofs.Crossing.{crosses}
 use Rattle.te_links.specs.contracts.topology.Topology as Topology
-use Rattle.plant_model.specs.contracts.event.Event as Event
-use Rattle.plant_model.specs.contracts.outcome.Outcome as Outcome
-use Rattle.plant_model.specs.contracts.upper.BorderJob as BorderJob
+use Rattle.plant_network.specs.plant_model.contracts.event.Event as Event
+use Rattle.plant_network.specs.plant_model.contracts.outcome.Outcome as Outcome
+use Rattle.plant_network.specs.plant_model.contracts.upper.BorderJob as BorderJob
 use Rattle.border_costs.specs.contracts.solved.Solved as Solved
 use Rattle.border_costs.specs.contracts.job.Job as Job
-use Rattle.pce_parent.specs.contracts.solved.BorderSolved as BorderSolved
-use Rattle.pce_parent.specs.contracts.work.Done as Done
-use Rattle.pce_parent.specs.contracts.work.Work as Work
+use Rattle.plant_network.specs.pce_parent.contracts.solved.BorderSolved as BorderSolved
+use Rattle.plant_network.specs.pce_parent.contracts.work.Done as Done
+use Rattle.plant_network.specs.pce_parent.contracts.work.Work as Work
 use Rattle.plant_text.specs.contracts.network.Network as Network
-use Rattle.pce_parent.specs.contracts.asking.Asking as Asking
-use Rattle.pce_parent.specs.contracts.parent.Parent as Parent
-use Rattle.plant_traffic.specs.contracts.traffic.Traffic as Traffic
+use Rattle.plant_network.specs.pce_parent.contracts.asking.Asking as Asking
+use Rattle.plant_network.specs.pce_parent.contracts.parent.Parent as Parent
+use Rattle.plant_network.specs.plant_traffic.contracts.traffic.Traffic as Traffic
 use Rattle.pce_plant.specs.contracts.answering.CommitRefused as CommitRefused
 use Rattle.pce_plant.specs.contracts.acts.Acted as Acted
 

@@ -3,10 +3,10 @@ use Rattle.std.proofs.Common.{◌≡◌, ◌∙◌, List, [], ◌∷◌, ◌++�
 use Rattle.std.specs.Prelude.{map}
 use Rattle.std.proofs.lemmas.List.{map-append}
 use Rattle.plant_text.specs.declared.settings.NetworkParts.{NetworkParts}
-use Rattle.plant_model.specs.declared.event.Event.{Event}
-use Rattle.plant_model.specs.Events.{Answered}
-use Rattle.plant_model.specs.Plant.{Entry, IsGiven, Run}
-use Rattle.plant_model.specs.RealWire.{wire}
+use Rattle.plant_network.specs.plant_model.declared.event.Event.{Event}
+use Rattle.plant_network.specs.plant_model.Events.{Answered}
+use Rattle.plant_network.specs.plant_model.Plant.{Entry, IsGiven, Run}
+use Rattle.plant_network.specs.plant_model.RealWire.{wire}
 use Rattle.plant_lock.specs.History.{replay}
 use Rattle.pce_plant.specs.Histories.{HistoriesAreRuns, IsGivenIn, event_of, events_of, done_by}
 use Rattle.pce_plant.specs.Turns.{IsAnswer, IsDone, left_by}

@@ -12,32 +12,32 @@ use Rattle.border_costs.specs.declared.job.Ask.{Ask}
 use Rattle.border_costs.specs.declared.job.Job.{Job}
 use Rattle.plant_text.specs.declared.settings.NetworkParts.{NetworkParts}
 use Rattle.plant_text.specs.Names.{same_as, parent_as}
-use Rattle.plant_model.specs.declared.outcome.Refused.{Refused}
-use Rattle.plant_model.specs.declared.outcome.Refused.TheVariants as refused
-use Rattle.plant_model.specs.declared.upper.BorderJob.{BorderJob}
-use Rattle.plant_model.specs.Element.{Element, Item, Stage, Waits, Ready}
-use Rattle.plant_model.specs.Events.{Answered, has_jobs, is_ready_asking, is_ready_row}
-use Rattle.plant_model.specs.Jobs.{ask_of}
-use Rattle.plant_model.specs.Parent as parent
-use Rattle.plant_model.specs.Plant.{Pin, Segment, ask}
-use Rattle.plant_model.specs.RealWire.{wire}
-use Rattle.plant_model.specs.Settings.{family}
-use Rattle.plant_members.specs.Membership.{Membership}
-use Rattle.pce_element.specs.Committing.{IsOwnJob}
-use Rattle.pce_element.specs.Jobs as element
-use Rattle.pce_parent.specs.Seen.{job_when}
-use Rattle.pce_parent.specs.Solution.{BorderSolution}
-use Rattle.pce_parent.specs.declared.work.Done.{Done}
-use Rattle.pce_parent.specs.declared.work.Done.TheVariants as done
-use Rattle.pce_parent.specs.declared.work.Work.{Work}
-use Rattle.pce_parent.specs.declared.work.Work.TheVariants as work
-use Rattle.plant_hierarchy.specs.Answering.{IsElementWork, IsOwnDone, IsParentWork, IsRefusedFor, border_job}
-use Rattle.plant_hierarchy.specs.Elements.{at_domain, element_or, own_of}
-use Rattle.plant_hierarchy.specs.Ready.{work_in}
-use Rattle.plant_hierarchy.specs.declared.answering.Unanswered.{Unanswered}
-use Rattle.plant_hierarchy.proofs.AnswerLemmas.{no_border_job, no_job}
-use Rattle.plant_hierarchy.proofs.DomainLemmas.{as_self, found_own, same_as_is}
-use Rattle.plant_hierarchy.specs.Topologies.{Seen}
+use Rattle.plant_network.specs.plant_model.declared.outcome.Refused.{Refused}
+use Rattle.plant_network.specs.plant_model.declared.outcome.Refused.TheVariants as refused
+use Rattle.plant_network.specs.plant_model.declared.upper.BorderJob.{BorderJob}
+use Rattle.plant_network.specs.plant_model.Element.{Element, Item, Stage, Waits, Ready}
+use Rattle.plant_network.specs.plant_model.Events.{Answered, has_jobs, is_ready_asking, is_ready_row}
+use Rattle.plant_network.specs.plant_model.Jobs.{ask_of}
+use Rattle.plant_network.specs.plant_model.Parent as parent
+use Rattle.plant_network.specs.plant_model.Plant.{Pin, Segment, ask}
+use Rattle.plant_network.specs.plant_model.RealWire.{wire}
+use Rattle.plant_network.specs.plant_model.Settings.{family}
+use Rattle.plant_network.specs.plant_members.Membership.{Membership}
+use Rattle.plant_network.specs.pce_element.Committing.{IsOwnJob}
+use Rattle.plant_network.specs.pce_element.Jobs as element
+use Rattle.plant_network.specs.pce_parent.Seen.{job_when}
+use Rattle.plant_network.specs.pce_parent.Solution.{BorderSolution}
+use Rattle.plant_network.specs.pce_parent.declared.work.Done.{Done}
+use Rattle.plant_network.specs.pce_parent.declared.work.Done.TheVariants as done
+use Rattle.plant_network.specs.pce_parent.declared.work.Work.{Work}
+use Rattle.plant_network.specs.pce_parent.declared.work.Work.TheVariants as work
+use Rattle.plant_network.specs.plant_hierarchy.Answering.{IsElementWork, IsOwnDone, IsParentWork, IsRefusedFor, border_job}
+use Rattle.plant_network.specs.plant_hierarchy.Elements.{at_domain, element_or, own_of}
+use Rattle.plant_network.specs.plant_hierarchy.Ready.{work_in}
+use Rattle.plant_network.specs.plant_hierarchy.declared.answering.Unanswered.{Unanswered}
+use Rattle.plant_network.proofs.plant_hierarchy.AnswerLemmas.{no_border_job, no_job}
+use Rattle.plant_network.proofs.plant_hierarchy.DomainLemmas.{as_self, found_own, same_as_is}
+use Rattle.plant_network.specs.plant_hierarchy.Topologies.{Seen}
 use Rattle.pce_plant.specs.Held.{Held, whole}
 use Rattle.pce_plant.specs.Whole.{Whole}
 use Rattle.pce_plant.specs.Jobs.{IsAsked, IsAskedAbove, IsOwn, IsSolvedBy, IsWork, answer_of, handed_back, refusal_of, solved_at, solved_number}

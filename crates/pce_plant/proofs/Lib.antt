@@ -6,3 +6,5 @@ pub mod HistoryLemmas
 mod CrossingParts
 pub mod Crossing
 pub mod ReadyLemmas
+-- handed on from below
+pub use Rattle.plant_network.proofs.plant_model

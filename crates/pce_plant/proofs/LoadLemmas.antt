@@ -3,26 +3,26 @@ use Rattle.std.proofs.Common.{◌≡◌, ℕ, ◌+◌, ◌*◌, length, Result, 
 use Rattle.dom_base.specs.declared.names.As.{As}
 use Rattle.te_links.specs.Rows.{Rows}
 use Rattle.plant_text.specs.declared.settings.NetworkParts.{NetworkParts}
-use Rattle.plant_model.specs.declared.event.Event.TheVariants as event
-use Rattle.plant_model.specs.declared.outcome.Refused.{Refused}
-use Rattle.plant_model.specs.Element.{Element}
-use Rattle.plant_model.specs.Parent.{Parent}
-use Rattle.plant_model.specs.Plant.{Pin, Segment, Plant, Steps}
-use Rattle.plant_model.specs.RealWire.{wire}
-use Rattle.plant_traffic.specs.Carried.{Carried, flow_of}
-use Rattle.plant_traffic.specs.Flow.{Flow, ClearsSaid}
-use Rattle.plant_members.specs.Membership.{Membership}
-use Rattle.plant_members.specs.Owed.{pending_at}
+use Rattle.plant_network.specs.plant_model.declared.event.Event.TheVariants as event
+use Rattle.plant_network.specs.plant_model.declared.outcome.Refused.{Refused}
+use Rattle.plant_network.specs.plant_model.Element.{Element}
+use Rattle.plant_network.specs.plant_model.Parent.{Parent}
+use Rattle.plant_network.specs.plant_model.Plant.{Pin, Segment, Plant, Steps}
+use Rattle.plant_network.specs.plant_model.RealWire.{wire}
+use Rattle.plant_network.specs.plant_traffic.Carried.{Carried, flow_of}
+use Rattle.plant_network.specs.plant_traffic.Flow.{Flow, ClearsSaid}
+use Rattle.plant_network.specs.plant_members.Membership.{Membership}
+use Rattle.plant_network.specs.plant_members.Owed.{pending_at}
 use Rattle.plant_queues.specs.Messages.{Covers}
-use Rattle.plant_sessions.specs.declared.TheConstants.{ANSWER_LENGTH, OWN_LENGTH}
+use Rattle.plant_network.specs.plant_sessions.declared.TheConstants.{ANSWER_LENGTH, OWN_LENGTH}
 use Rattle.plant_text.specs.Settings.{elements_of}
-use Rattle.plant_deeds.specs.Passing.{IsOf}
-use Rattle.plant_deeds.specs.Rooms.{IsRoomy, own_most, said_in_all}
-use Rattle.plant_deeds.proofs.FeedLaws.{cleared_roomy}
-use Rattle.plant_deeds.proofs.RoomySteps.{emptied_keeps}
-use Rattle.plant_hierarchy.specs.Loading.{Loads, answer_of, deeds_of}
-use Rattle.plant_hierarchy.specs.Tiers.{lost_in}
-use Rattle.plant_hierarchy.specs.Topologies.{Tiers, members_of}
+use Rattle.plant_network.specs.plant_deeds.Passing.{IsOf}
+use Rattle.plant_network.specs.plant_deeds.Rooms.{IsRoomy, own_most, said_in_all}
+use Rattle.plant_network.proofs.plant_deeds.FeedLaws.{cleared_roomy}
+use Rattle.plant_network.proofs.plant_deeds.RoomySteps.{emptied_keeps}
+use Rattle.plant_network.specs.plant_hierarchy.Loading.{Loads, answer_of, deeds_of}
+use Rattle.plant_network.specs.plant_hierarchy.Tiers.{lost_in}
+use Rattle.plant_network.specs.plant_hierarchy.Topologies.{Tiers, members_of}
 use Rattle.plant_network.proofs.StepLemmas.{kept}
 use Rattle.pce_plant.specs.Held.{Held, held, standing, whole, IsSound, Moves}
 

@@ -13,18 +13,18 @@ use Rattle.plant_text.specs.declared.settings.ElementRow.{ElementRow}
 use Rattle.plant_text.specs.declared.settings.NetworkParts.{NetworkParts}
 use Rattle.plant_text.specs.Names.{insert_as, parent_as, same_as}
 use Rattle.plant_text.specs.Settings.{elements_of, has_line, is_element, lines, row_of}
-use Rattle.plant_model.specs.Deeds.{element_of}
-use Rattle.plant_model.specs.Element as element
-use Rattle.plant_model.specs.Element.{Item}
-use Rattle.plant_model.specs.Events.{has_jobs, is_ready, is_ready_asking, is_ready_row, jobs_at, jobs_of, ready_jobs}
-use Rattle.plant_model.specs.Parent as parent
-use Rattle.plant_model.specs.Plant.{Pin, Plant}
-use Rattle.plant_model.specs.State.{Connection}
-use Rattle.plant_members.specs.Membership.{is_member}
-use Rattle.plant_members.specs.Owed.{count_by_asker, is_peer}
-use Rattle.plant_traffic.specs.Carried.{flow_of}
-use Rattle.plant_deeds.specs.Rooms.{is_live, is_talking}
-use Rattle.plant_deeds.proofs.TakingLaws.{peer_member}
+use Rattle.plant_network.specs.plant_model.Deeds.{element_of}
+use Rattle.plant_network.specs.plant_model.Element as element
+use Rattle.plant_network.specs.plant_model.Element.{Item}
+use Rattle.plant_network.specs.plant_model.Events.{has_jobs, is_ready, is_ready_asking, is_ready_row, jobs_at, jobs_of, ready_jobs}
+use Rattle.plant_network.specs.plant_model.Parent as parent
+use Rattle.plant_network.specs.plant_model.Plant.{Pin, Plant}
+use Rattle.plant_network.specs.plant_model.State.{Connection}
+use Rattle.plant_network.specs.plant_members.Membership.{is_member}
+use Rattle.plant_network.specs.plant_members.Owed.{count_by_asker, is_peer}
+use Rattle.plant_network.specs.plant_traffic.Carried.{flow_of}
+use Rattle.plant_network.specs.plant_deeds.Rooms.{is_live, is_talking}
+use Rattle.plant_network.proofs.plant_deeds.TakingLaws.{peer_member}
 use Rattle.pce_plant.specs.Held.{Held, IsSound, whole}
 use Rattle.pce_plant.specs.Jobs.{CanSolve}
 

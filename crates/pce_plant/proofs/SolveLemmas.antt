@@ -4,34 +4,34 @@ use Rattle.dom_base.specs.declared.names.As.{As}
 use Rattle.disclosure.specs.Shown.{open_of}
 use Rattle.plant_text.specs.declared.settings.NetworkParts.{NetworkParts}
 use Rattle.plant_text.specs.Names.{parent_as}
-use Rattle.plant_model.specs.declared.event.Event.TheVariants.{Solve}
-use Rattle.plant_model.specs.declared.outcome.Outcome.TheVariants as outcome
-use Rattle.plant_model.specs.declared.outcome.Refused.{Refused}
-use Rattle.plant_model.specs.declared.outcome.Refused.TheVariants as refused
-use Rattle.plant_model.specs.declared.output.Lost.{Lost}
-use Rattle.plant_model.specs.Deeds as deeds
-use Rattle.plant_model.specs.Element.{Taken}
-use Rattle.plant_model.specs.Events.{has_jobs}
-use Rattle.plant_model.specs.Parent as parent
-use Rattle.plant_model.specs.Plant.{Pin, Plant, PlantDeed, Happened, Segment, Steps}
-use Rattle.plant_model.specs.RealWire.{wire}
-use Rattle.plant_model.specs.Settings.{place}
-use Rattle.plant_model.specs.Solving.{commit}
-use Rattle.plant_model.specs.State.{Solves, said, sent_by}
-use Rattle.plant_traffic.specs.Carried.{Carried, flow_of}
-use Rattle.plant_traffic.specs.Flow.{Flow, SameFlow}
-use Rattle.plant_members.specs.Membership.{Membership, Replied, is_member, with_element, with_parent}
-use Rattle.plant_deeds.specs.Answering.{IsAnswer, Sends}
-use Rattle.plant_deeds.specs.Giving.{OnlyGrows}
-use Rattle.plant_deeds.specs.Passing.{IsOf}
-use Rattle.plant_deeds.specs.Rooms.{IsRoomy}
-use Rattle.plant_deeds.specs.Standing.{state_of}
-use Rattle.plant_hierarchy.specs.Answering.{Commits, ElementAnswers, IsRefusedFor, MemberAnswers, ParentAnswers, number_of}
-use Rattle.plant_hierarchy.specs.Tiers.{lost_in}
-use Rattle.plant_hierarchy.specs.Tiers as tiers
-use Rattle.plant_hierarchy.specs.declared.answering.Unanswered.{Unanswered}
-use Rattle.pce_parent.specs.declared.work.Done.{Done}
-use Rattle.plant_hierarchy.specs.Topologies.{Become, MemberPlan, Tiers, members_of, next_by}
+use Rattle.plant_network.specs.plant_model.declared.event.Event.TheVariants.{Solve}
+use Rattle.plant_network.specs.plant_model.declared.outcome.Outcome.TheVariants as outcome
+use Rattle.plant_network.specs.plant_model.declared.outcome.Refused.{Refused}
+use Rattle.plant_network.specs.plant_model.declared.outcome.Refused.TheVariants as refused
+use Rattle.plant_network.specs.plant_model.declared.output.Lost.{Lost}
+use Rattle.plant_network.specs.plant_model.Deeds as deeds
+use Rattle.plant_network.specs.plant_model.Element.{Taken}
+use Rattle.plant_network.specs.plant_model.Events.{has_jobs}
+use Rattle.plant_network.specs.plant_model.Parent as parent
+use Rattle.plant_network.specs.plant_model.Plant.{Pin, Plant, PlantDeed, Happened, Segment, Steps}
+use Rattle.plant_network.specs.plant_model.RealWire.{wire}
+use Rattle.plant_network.specs.plant_model.Settings.{place}
+use Rattle.plant_network.specs.plant_model.Solving.{commit}
+use Rattle.plant_network.specs.plant_model.State.{Solves, said, sent_by}
+use Rattle.plant_network.specs.plant_traffic.Carried.{Carried, flow_of}
+use Rattle.plant_network.specs.plant_traffic.Flow.{Flow, SameFlow}
+use Rattle.plant_network.specs.plant_members.Membership.{Membership, Replied, is_member, with_element, with_parent}
+use Rattle.plant_network.specs.plant_deeds.Answering.{IsAnswer, Sends}
+use Rattle.plant_network.specs.plant_deeds.Giving.{OnlyGrows}
+use Rattle.plant_network.specs.plant_deeds.Passing.{IsOf}
+use Rattle.plant_network.specs.plant_deeds.Rooms.{IsRoomy}
+use Rattle.plant_network.specs.plant_deeds.Standing.{state_of}
+use Rattle.plant_network.specs.plant_hierarchy.Answering.{Commits, ElementAnswers, IsRefusedFor, MemberAnswers, ParentAnswers, number_of}
+use Rattle.plant_network.specs.plant_hierarchy.Tiers.{lost_in}
+use Rattle.plant_network.specs.plant_hierarchy.Tiers as tiers
+use Rattle.plant_network.specs.plant_hierarchy.declared.answering.Unanswered.{Unanswered}
+use Rattle.plant_network.specs.pce_parent.declared.work.Done.{Done}
+use Rattle.plant_network.specs.plant_hierarchy.Topologies.{Become, MemberPlan, Tiers, members_of, next_by}
 use Rattle.plant_network.proofs.AnswerLemmas.{element_answer, parent_answer}
 use Rattle.pce_plant.specs.Held.{IsKept, IsSound, Moves, held, whole}
 use Rattle.pce_plant.specs.Jobs.{solved_at, solved_number}

@@ -1,12 +1,12 @@
 -- What a network holds: its members, and what is on its way between them.
-use Rattle.plant_model.specs.declared.event.Event.{Event}
-use Rattle.plant_model.specs.Events.{Answered}
-use Rattle.plant_model.specs.Plant.{Pin, Segment, Steps}
-use Rattle.plant_model.specs.RealWire.{wire}
-use Rattle.plant_traffic.specs.Carried.{Carried, flow_of}
-use Rattle.plant_deeds.specs.Standing.{Here, here}
-use Rattle.plant_hierarchy.specs.Tiers.{lost_in}
-use Rattle.plant_hierarchy.specs.Topologies.{Tiers, members_of}
+use Rattle.plant_network.specs.plant_model.declared.event.Event.{Event}
+use Rattle.plant_network.specs.plant_model.Events.{Answered}
+use Rattle.plant_network.specs.plant_model.Plant.{Pin, Segment, Steps}
+use Rattle.plant_network.specs.plant_model.RealWire.{wire}
+use Rattle.plant_network.specs.plant_traffic.Carried.{Carried, flow_of}
+use Rattle.plant_network.specs.plant_deeds.Standing.{Here, here}
+use Rattle.plant_network.specs.plant_hierarchy.Tiers.{lost_in}
+use Rattle.plant_network.specs.plant_hierarchy.Topologies.{Tiers, members_of}
 use Rattle.plant_network.specs.Moving as network
 use Rattle.pce_plant.specs.Whole.{Whole}
 

@@ -1,10 +1,10 @@
 -- A history of turns as a run of the network: the events of its entries, with their answers.
 use Rattle.std.specs.Prelude.{◌≡◌, List, [], ◌∷◌, ◌++◌, map}
 use Rattle.plant_text.specs.declared.settings.NetworkParts.{NetworkParts}
-use Rattle.plant_model.specs.declared.event.Event.{Event}
-use Rattle.plant_model.specs.Events.{Answered, has_jobs}
-use Rattle.plant_model.specs.Plant.{Entry, IsGiven, Run}
-use Rattle.plant_model.specs.RealWire.{wire}
+use Rattle.plant_network.specs.plant_model.declared.event.Event.{Event}
+use Rattle.plant_network.specs.plant_model.Events.{Answered, has_jobs}
+use Rattle.plant_network.specs.plant_model.Plant.{Entry, IsGiven, Run}
+use Rattle.plant_network.specs.plant_model.RealWire.{wire}
 use Rattle.plant_lock.specs.History.{Legal, replay}
 use Rattle.pce_plant.specs.Jobs.{answer_of, solved_at}
 use Rattle.pce_plant.specs.Turns.{Admits, Allowed, left_by, solve_of}

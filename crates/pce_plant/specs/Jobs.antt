@@ -8,22 +8,22 @@ use Rattle.request_table.specs.declared.held.Held.{Held as Asked}
 use Rattle.vspt_tree.specs.declared.branch.Branch.{Branch}
 use Rattle.border_costs.specs.declared.job.Ask.{Ask}
 use Rattle.plant_text.specs.Names.{same_as, parent_as}
-use Rattle.plant_model.specs.declared.outcome.Outcome.{Outcome}
-use Rattle.plant_model.specs.declared.outcome.Refused.{Refused}
-use Rattle.plant_model.specs.declared.outcome.Refused.TheVariants as refused
-use Rattle.plant_model.specs.declared.upper.BorderJob.{BorderJob}
-use Rattle.plant_model.specs.Element.{Item, Ready}
-use Rattle.plant_model.specs.Events.{Answered, has_jobs, is_ready}
-use Rattle.plant_model.specs.Parent as parent
-use Rattle.plant_model.specs.Plant.{Pin, ask}
-use Rattle.plant_model.specs.RealWire.{wire}
-use Rattle.plant_model.specs.Settings.{family}
-use Rattle.pce_parent.specs.declared.work.Done.{Done}
-use Rattle.pce_parent.specs.declared.work.Done.TheVariants as done
-use Rattle.pce_parent.specs.declared.work.Work.{Work}
-use Rattle.pce_parent.specs.declared.work.Work.TheVariants as work
-use Rattle.plant_hierarchy.specs.Answering.{number_of}
-use Rattle.plant_hierarchy.specs.declared.answering.Unanswered.{Unanswered}
+use Rattle.plant_network.specs.plant_model.declared.outcome.Outcome.{Outcome}
+use Rattle.plant_network.specs.plant_model.declared.outcome.Refused.{Refused}
+use Rattle.plant_network.specs.plant_model.declared.outcome.Refused.TheVariants as refused
+use Rattle.plant_network.specs.plant_model.declared.upper.BorderJob.{BorderJob}
+use Rattle.plant_network.specs.plant_model.Element.{Item, Ready}
+use Rattle.plant_network.specs.plant_model.Events.{Answered, has_jobs, is_ready}
+use Rattle.plant_network.specs.plant_model.Parent as parent
+use Rattle.plant_network.specs.plant_model.Plant.{Pin, ask}
+use Rattle.plant_network.specs.plant_model.RealWire.{wire}
+use Rattle.plant_network.specs.plant_model.Settings.{family}
+use Rattle.plant_network.specs.pce_parent.declared.work.Done.{Done}
+use Rattle.plant_network.specs.pce_parent.declared.work.Done.TheVariants as done
+use Rattle.plant_network.specs.pce_parent.declared.work.Work.{Work}
+use Rattle.plant_network.specs.pce_parent.declared.work.Work.TheVariants as work
+use Rattle.plant_network.specs.plant_hierarchy.Answering.{number_of}
+use Rattle.plant_network.specs.plant_hierarchy.declared.answering.Unanswered.{Unanswered}
 use Rattle.pce_plant.specs.Whole.{Whole}
 use Rattle.pce_plant.specs.declared.answering.CommitRefused.{CommitRefused}
 use Rattle.pce_plant.specs.declared.answering.CommitRefused.TheVariants.{NoSuchJob, NoMemory}

@@ -8,3 +8,5 @@ pub mod Histories
 -- inner
 pub mod PlantFields
 pub mod TurnLaws
+-- handed on from below
+pub use Rattle.plant_network.specs.plant_model

@@ -11,21 +11,21 @@ use Rattle.border_costs.specs.declared.job.Job.{Job}
 use Rattle.border_costs.specs.Solutions.{Solution}
 use Rattle.plant_text.specs.declared.settings.NetworkParts.{NetworkParts}
 use Rattle.plant_text.specs.Names.{same_as, parent_as}
-use Rattle.plant_model.specs.declared.upper.BorderJob.{BorderJob}
-use Rattle.plant_model.specs.Element.{Item, Ready as CanSolve, Stage, Waits, is_ready}
-use Rattle.plant_model.specs.Parent as parent
-use Rattle.plant_model.specs.Plant.{Pin, ask}
-use Rattle.plant_model.specs.RealWire.{wire}
-use Rattle.plant_model.specs.Settings.{family}
-use Rattle.plant_lasting.specs.Lasting.{HaveGiven, held_at}
-use Rattle.plant_lasting.specs.Onward.{jobs_on, jobs_still}
-use Rattle.plant_lasting.proofs.JobsKept.{elements_keep_jobs, parents_keep_jobs}
+use Rattle.plant_network.specs.plant_model.declared.upper.BorderJob.{BorderJob}
+use Rattle.plant_network.specs.plant_model.Element.{Item, Ready as CanSolve, Stage, Waits, is_ready}
+use Rattle.plant_network.specs.plant_model.Parent as parent
+use Rattle.plant_network.specs.plant_model.Plant.{Pin, ask}
+use Rattle.plant_network.specs.plant_model.RealWire.{wire}
+use Rattle.plant_network.specs.plant_model.Settings.{family}
+use Rattle.plant_network.specs.plant_lasting.Lasting.{HaveGiven, held_at}
+use Rattle.plant_network.specs.plant_lasting.Onward.{jobs_on, jobs_still}
+use Rattle.plant_network.proofs.plant_lasting.JobsKept.{elements_keep_jobs, parents_keep_jobs}
 use Rattle.plant_lock.specs.History.{Legal, replay}
-use Rattle.pce_parent.specs.Solution.{BorderSolution}
-use Rattle.pce_parent.specs.declared.work.Done.{Done}
-use Rattle.pce_parent.specs.declared.work.Done.TheVariants as done
-use Rattle.pce_parent.specs.declared.work.Work.{Work}
-use Rattle.pce_parent.specs.declared.work.Work.TheVariants as work
+use Rattle.plant_network.specs.pce_parent.Solution.{BorderSolution}
+use Rattle.plant_network.specs.pce_parent.declared.work.Done.{Done}
+use Rattle.plant_network.specs.pce_parent.declared.work.Done.TheVariants as done
+use Rattle.plant_network.specs.pce_parent.declared.work.Work.{Work}
+use Rattle.plant_network.specs.pce_parent.declared.work.Work.TheVariants as work
 use Rattle.pce_plant.specs.Jobs.{IsAsked, IsAskedAbove, IsOwn, IsSolvedBy, IsWork}
 use Rattle.pce_plant.specs.Turns.{Admits, Allowed, IsAnswer, LastsTo, Warrants, left_by}
 use Rattle.pce_plant.specs.Whole.{Whole}

@@ -2,13 +2,13 @@
 use Rattle.std.specs.Prelude.{◌≡◌, ℕ, Option, Some, Result, Ok, IfOk, IfErr, IfSome, slice_get}
 use Rattle.dom_base.specs.declared.names.As.{As}
 use Rattle.dom_base.specs.declared.names.NoMemory.{NoMemory}
-use Rattle.plant_model.specs.declared.event.Event.{Event}
-use Rattle.plant_model.specs.declared.event.Event.TheVariants.{Solve}
-use Rattle.plant_model.specs.Events.{Answered, has_jobs, ready_jobs}
-use Rattle.plant_lasting.specs.Lasting.{HaveGiven, JobsLast}
-use Rattle.pce_parent.specs.declared.work.Done.{Done}
-use Rattle.pce_parent.specs.declared.work.Work.{Work}
-use Rattle.plant_hierarchy.specs.Answering.{IsWeighedWork}
+use Rattle.plant_network.specs.plant_model.declared.event.Event.{Event}
+use Rattle.plant_network.specs.plant_model.declared.event.Event.TheVariants.{Solve}
+use Rattle.plant_network.specs.plant_model.Events.{Answered, has_jobs, ready_jobs}
+use Rattle.plant_network.specs.plant_lasting.Lasting.{HaveGiven, JobsLast}
+use Rattle.plant_network.specs.pce_parent.declared.work.Done.{Done}
+use Rattle.plant_network.specs.pce_parent.declared.work.Work.{Work}
+use Rattle.plant_network.specs.plant_hierarchy.Answering.{IsWeighedWork}
 use Rattle.pce_plant.specs.Held.{whole}
 use Rattle.pce_plant.specs.Jobs.{IsOwn, IsSolvedBy, IsWork, answer_of, handed_back, solved_at, solved_number}
 use Rattle.pce_plant.specs.Whole.{GoesOn, IsOwnLoad, Stepped, Whole}

@@ -1,11 +1,11 @@
 -- A network with topologies as its callers see it, and what an event leaves.
 use Rattle.std.specs.Prelude.{◌≡◌, List, [], ◌∷◌}
 use Rattle.plant_text.specs.declared.settings.NetworkParts.{NetworkParts}
-use Rattle.plant_model.specs.declared.event.Event.{Event}
-use Rattle.plant_model.specs.declared.event.Event.TheVariants as event
-use Rattle.plant_model.specs.Events.{Answered}
-use Rattle.plant_model.specs.Plant.{Pin, Segment, PlantDeed, Steps, Entry, IsGiven, Run}
-use Rattle.plant_model.specs.RealWire.{wire}
+use Rattle.plant_network.specs.plant_model.declared.event.Event.{Event}
+use Rattle.plant_network.specs.plant_model.declared.event.Event.TheVariants as event
+use Rattle.plant_network.specs.plant_model.Events.{Answered}
+use Rattle.plant_network.specs.plant_model.Plant.{Pin, Segment, PlantDeed, Steps, Entry, IsGiven, Run}
+use Rattle.plant_network.specs.plant_model.RealWire.{wire}
 use Rattle.plant_network.specs.Whole as network
 
 -- its settings, its state, and the messages that the last accepted event put into queues

@@ -2,8 +2,8 @@
 use crate::answering::CommitRefused;
 use crate::plant::Plant;
 use dom_base::{As, NoMemory};
-use pce_parent::{Done, Work};
-use plant_model::{Event, Outcome, Refused};
+use plant_network::model::{Event, Outcome, Refused};
+use plant_network::parent::{Done, Work};
 use std::snapshot::Snapshot;
 
 /// What may be done to a network in a turn.

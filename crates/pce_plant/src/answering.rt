@@ -1,20 +1,20 @@
 //! Jobs are solved and answered.
 ghost use Rattle.std.specs.Prelude.{◌≡◌, true, is_some, Some, IfErr, IfOk};
-ghost use Rattle.plant_model.specs.declared.event.Event.TheVariants.{Solve};
-ghost use Rattle.plant_model.specs.Events.{has_jobs};
-ghost use Rattle.plant_hierarchy.specs.Answering.{IsOwnDone, IsRefusedFor, IsWeighedWork, back_of};
-ghost use Rattle.plant_hierarchy.specs.Topologies.{members_of};
+ghost use Rattle.plant_network.specs.plant_model.declared.event.Event.TheVariants.{Solve};
+ghost use Rattle.plant_network.specs.plant_model.Events.{has_jobs};
+ghost use Rattle.plant_network.specs.plant_hierarchy.Answering.{IsOwnDone, IsRefusedFor, IsWeighedWork, back_of};
+ghost use Rattle.plant_network.specs.plant_hierarchy.Topologies.{members_of};
 ghost use Rattle.pce_plant.specs.Held.{IsSound, Moves, held};
 ghost use Rattle.pce_plant.specs.Jobs.{IsSolvedBy, answer_of, handed_back, refusal_of, solved_at, solved_number, told};
 
 use border_costs::solve as solve_domain;
 use dom_base::{As, NoMemory};
-use pce_element::Topologies;
-use pce_parent::{Done, Work, solve_border};
-use plant_deeds::answer as send_answer;
-use plant_hierarchy::{Hierarchy, MemberPlan, Unanswered};
-use plant_model::{Outcome, Refused};
-use plant_traffic::Traffic;
+use plant_network::deeds::answer as send_answer;
+use plant_network::element::Topologies;
+use plant_network::hierarchy::{Hierarchy, MemberPlan, Unanswered};
+use plant_network::model::{Outcome, Refused};
+use plant_network::parent::{Done, Work, solve_border};
+use plant_network::traffic::Traffic;
 use std::alloc::Global;
 
 /// Why a solved job is not answered. It hands back what was solved.

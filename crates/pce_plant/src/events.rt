@@ -1,16 +1,16 @@
 //! The events of a network.
 ghost use Rattle.std.specs.Prelude.{◌≡◌};
-ghost use Rattle.plant_model.specs.declared.event.Event.TheVariants.{Load};
+ghost use Rattle.plant_network.specs.plant_model.declared.event.Event.TheVariants.{Load};
 ghost use Rattle.pce_plant.specs.Held.{IsSound, Moves, held};
 ghost use Rattle.pce_plant.specs.Whole.{IsOwnLoad};
 
 use crate::answering::solve;
 use dom_base::As;
-use pce_element::Topologies;
-use plant_hierarchy::Hierarchy;
-use plant_model::{Event, Outcome, Refused};
+use plant_network::element::Topologies;
+use plant_network::hierarchy::Hierarchy;
+use plant_network::model::{Event, Outcome, Refused};
+use plant_network::traffic::Traffic;
 use plant_network::{break_link, carry, drain, feed, open, shut, take, tick};
-use plant_traffic::Traffic;
 use std::alloc::Global;
 use te_links::Topology;
 

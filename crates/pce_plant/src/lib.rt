@@ -13,5 +13,6 @@ mod turned;
 pub use acts::{Act, Acted, Turn};
 pub use answering::CommitRefused;
 pub use histories::histories_are_runs;
-pub use pce_parent::{Done, Work};
 pub use plant::Plant;
+pub use plant_network::parent::{Done, Work};
+pub use plant_network::{model, parts};

@@ -2,14 +2,14 @@
 use Rattle.std.proofs.Common.{◌≡◌, ℕ, List, [], ◌++◌}
 use Rattle.std.specs.declared.option.Option.{Option}
 use Rattle.dom_edge.specs.Stores.{Files}
-use Rattle.text_ranges.proofs.ModelledNetworks.{settings_are_modelled}
-use Rattle.plant_model.specs.Blind.{blind_opened, heard}
-use Rattle.plant_model.specs.Plant.{deeds_of}
-use Rattle.plant_model.specs.RealWire.{wire}
-use Rattle.plant_laws.proofs.OneThing.{says_one_thing}
-use Rattle.plant_laws.proofs.SaysBlind.{says_as_blind}
-use Rattle.blind_play.specs.Turns.{all_heard, trace_of}
-use Rattle.blind_play.proofs.SayingLemmas.{says_so}
+use Rattle.script_laws.proofs.text_ranges.ModelledNetworks.{settings_are_modelled}
+use Rattle.script_laws.specs.plant_model.Blind.{blind_opened, heard}
+use Rattle.script_laws.specs.plant_model.Plant.{deeds_of}
+use Rattle.script_laws.specs.plant_model.RealWire.{wire}
+use Rattle.script_laws.proofs.plant_laws.OneThing.{says_one_thing}
+use Rattle.script_laws.proofs.plant_laws.SaysBlind.{says_as_blind}
+use Rattle.blind_script.specs.blind_play.Turns.{all_heard, trace_of}
+use Rattle.blind_script.proofs.blind_play.SayingLemmas.{says_so}
 use Rattle.blind_script.proofs.ScriptLemmas.{cues_given}
 use Rattle.pce_tool.specs.Headline.{BlindsAreHeard}
 

@@ -8,18 +8,18 @@ use Rattle.dom_edge.specs.Stores.{Files, file_named}
 use Rattle.plant_text.specs.declared.line.LineEvent.{LineEvent}
 use Rattle.plant_text.specs.declared.line.LineEvent.TheVariants as line
 use Rattle.plant_text.specs.declared.settings.NetworkParts.{NetworkParts}
-use Rattle.plant_model.specs.Events.{Answered}
-use Rattle.plant_play.specs.Playing.{Cue, Stage}
-use Rattle.plant_play.specs.Scripts.{AllPlayed}
-use Rattle.plant_play.specs.Turns.{Turn}
+use Rattle.script_laws.specs.plant_model.Events.{Answered}
+use Rattle.script_laws.specs.plant_play.Playing.{Cue, Stage}
+use Rattle.script_laws.specs.plant_play.Scripts.{AllPlayed}
+use Rattle.script_laws.specs.plant_play.Turns.{Turn}
 use Rattle.script_laws.specs.Headline.{all_octets}
 use Rattle.script_laws.specs.Laws.{FeedOctets, FeedsOctets}
 use Rattle.script_laws.proofs.Rightly.{scripts_are_right}
-use Rattle.plant_client.specs.declared.question.Question.{Question}
-use Rattle.plant_client.specs.Asking.{ArePlayed, Exchanges, IsPlayed, asking_lines, opening_lines, session_lines, topologies}
-use Rattle.plant_client.specs.Questions.{opening_text, question_text, sequence_most}
-use Rattle.plant_client.proofs.AskingLemmas.{all_append}
-use Rattle.plant_client.proofs.QuestionLemmas.{question_few}
+use Rattle.plant_bulk.specs.plant_client.declared.question.Question.{Question}
+use Rattle.plant_bulk.specs.plant_client.Asking.{ArePlayed, Exchanges, IsPlayed, asking_lines, opening_lines, session_lines, topologies}
+use Rattle.plant_bulk.specs.plant_client.Questions.{opening_text, question_text, sequence_most}
+use Rattle.plant_bulk.proofs.plant_client.AskingLemmas.{all_append}
+use Rattle.plant_bulk.proofs.plant_client.QuestionLemmas.{question_few}
 use Rattle.plant_bulk.specs.declared.requests.Demand.{Demand}
 use Rattle.plant_bulk.specs.Playing.{AsksAll, bulk_turns, client, network, turns_of}
 use Rattle.plant_bulk.specs.Requests.{question}

@@ -13,27 +13,27 @@ use Rattle.plant_text.specs.declared.line.LineEvent.TheVariants as line
 use Rattle.plant_text.specs.declared.settings.NetworkParts.{NetworkParts}
 use Rattle.plant_text.specs.Lines.{line_in}
 use Rattle.plant_text.specs.Networks.{with_path}
-use Rattle.text_ranges.specs.Sizes.{all_lengths}
-use Rattle.text_ranges.proofs.FedLengths.{feeds_short}
-use Rattle.text_ranges.proofs.FedOctets.{line_octets}
-use Rattle.text_ranges.proofs.ModelledNetworks.{client_is_modelled, settings_are_modelled}
-use Rattle.text_ranges.proofs.Lengths.{all_lengths_append, all_lengths_cons, told_lines_short}
-use Rattle.plant_model.specs.RealWire.{wire}
-use Rattle.plant_laws.specs.Worlds.{DisclosedRun}
-use Rattle.plant_play.specs.Playing.{Cue, IsNewStage, Stage}
-use Rattle.plant_play.specs.Scripts.{AllPlayed}
-use Rattle.plant_play.specs.Turns.{Turn, entries_of}
+use Rattle.script_laws.specs.text_ranges.Sizes.{all_lengths}
+use Rattle.script_laws.proofs.text_ranges.FedLengths.{feeds_short}
+use Rattle.script_laws.proofs.text_ranges.FedOctets.{line_octets}
+use Rattle.script_laws.proofs.text_ranges.ModelledNetworks.{client_is_modelled, settings_are_modelled}
+use Rattle.script_laws.proofs.text_ranges.Lengths.{all_lengths_append, all_lengths_cons, told_lines_short}
+use Rattle.script_laws.specs.plant_model.RealWire.{wire}
+use Rattle.script_laws.specs.plant_laws.Worlds.{DisclosedRun}
+use Rattle.script_laws.specs.plant_play.Playing.{Cue, IsNewStage, Stage}
+use Rattle.script_laws.specs.plant_play.Scripts.{AllPlayed}
+use Rattle.script_laws.specs.plant_play.Turns.{Turn, entries_of}
 use Rattle.script_laws.specs.Disclosing.{shown_trace}
 use Rattle.script_laws.specs.Headline.{all_octets, fed_octets}
 use Rattle.script_laws.specs.Laws.{FeedOctets, FeedsOctets}
 use Rattle.script_laws.proofs.Disclosing.{shown_from_the_first}
 use Rattle.script_laws.proofs.Rightly.{scripts_are_right}
-use Rattle.plant_script.specs.Scripts.{AreCues}
-use Rattle.plant_client.specs.declared.question.Question.{Question}
-use Rattle.plant_client.specs.Asking.{Asks, lines_of, load_line, question_lines, topologies}
-use Rattle.plant_client.specs.Asking as asking
-use Rattle.plant_client.specs.Questions.{opening_text, question_text, sequence_most}
-use Rattle.plant_client.proofs.QuestionLemmas.{question_short}
+use Rattle.plant_bulk.specs.plant_script.Scripts.{AreCues}
+use Rattle.plant_bulk.specs.plant_client.declared.question.Question.{Question}
+use Rattle.plant_bulk.specs.plant_client.Asking.{Asks, lines_of, load_line, question_lines, topologies}
+use Rattle.plant_bulk.specs.plant_client.Asking as asking
+use Rattle.plant_bulk.specs.plant_client.Questions.{opening_text, question_text, sequence_most}
+use Rattle.plant_bulk.proofs.plant_client.QuestionLemmas.{question_short}
 use Rattle.pce_tool.specs.declared.route.Route.{Route}
 use Rattle.pce_tool.specs.Headline.{PathsAreWorth, PlaysAreWorth, ShowsRows}
 use Rattle.pce_tool.specs.Networks.{question_of}

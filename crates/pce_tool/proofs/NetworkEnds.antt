@@ -10,14 +10,14 @@ use Rattle.plant_text.specs.declared.settings.NetworkParts.{NetworkParts}
 use Rattle.plant_text.specs.Networks.{with_path}
 use Rattle.plant_text.specs.Reads.{IsFaulty}
 use Rattle.plant_text.specs.Settings.{is_element}
-use Rattle.plant_play.specs.Playing.{Stage}
-use Rattle.plant_script.specs.declared.stop.Stop.{Stop}
-use Rattle.plant_script.specs.declared.stop.Stop.TheVariants as stop
-use Rattle.plant_script.specs.Scripts.{around}
-use Rattle.plant_script.proofs.ScriptLemmas.{file_before, script_before}
+use Rattle.script_laws.specs.plant_play.Playing.{Stage}
+use Rattle.plant_bulk.specs.plant_script.declared.stop.Stop.{Stop}
+use Rattle.plant_bulk.specs.plant_script.declared.stop.Stop.TheVariants as stop
+use Rattle.plant_bulk.specs.plant_script.Scripts.{around}
+use Rattle.plant_bulk.proofs.plant_script.ScriptLemmas.{file_before, script_before}
 use Rattle.blind_script.specs.Scripts.{ScriptStops}
-use Rattle.plant_client.specs.Asking.{AskStops, Asks, StopsAtFile, load_line, topologies}
-use Rattle.plant_client.specs.Telling.{told_text}
+use Rattle.plant_bulk.specs.plant_client.Asking.{AskStops, Asks, StopsAtFile, load_line, topologies}
+use Rattle.plant_bulk.specs.plant_client.Telling.{told_text}
 use Rattle.plant_bulk.specs.declared.tally.Tally.{Tally}
 use Rattle.plant_bulk.specs.Telling.{tally_text}
 use Rattle.pce_tool.specs.declared.route.Route.{Route}

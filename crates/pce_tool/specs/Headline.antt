@@ -6,25 +6,25 @@ use Rattle.plant_text.specs.declared.line.LineEvent.TheVariants.{DiscloseOn}
 use Rattle.plant_text.specs.declared.settings.NetworkParts.{NetworkParts}
 use Rattle.plant_text.specs.Networks.{with_path}
 use Rattle.plant_text.specs.Settings.{is_element}
-use Rattle.plant_model.specs.Blind.{blind_opened, heard}
-use Rattle.plant_model.specs.Plant.{Entry, Plant, deeds_of}
-use Rattle.plant_model.specs.RealWire.{wire}
-use Rattle.plant_laws.specs.Worlds.{DisclosedRun}
-use Rattle.plant_counting.specs.Counting.{HasNoParent}
-use Rattle.plant_play.specs.Playing.{Cue, Stage}
-use Rattle.plant_play.specs.Turns.{Turn, entries_of}
+use Rattle.script_laws.specs.plant_model.Blind.{blind_opened, heard}
+use Rattle.script_laws.specs.plant_model.Plant.{Entry, Plant, deeds_of}
+use Rattle.script_laws.specs.plant_model.RealWire.{wire}
+use Rattle.script_laws.specs.plant_laws.Worlds.{DisclosedRun}
+use Rattle.script_laws.specs.plant_counting.Counting.{HasNoParent}
+use Rattle.script_laws.specs.plant_play.Playing.{Cue, Stage}
+use Rattle.script_laws.specs.plant_play.Turns.{Turn, entries_of}
 use Rattle.script_laws.specs.Disclosing.{shown_trace}
 use Rattle.script_laws.specs.Headline.{HasIdsLeft, IsRight}
-use Rattle.plant_script.specs.Scripts.{Playing, script_most}
-use Rattle.plant_client.specs.Asking.{Asks}
-use Rattle.plant_client.specs.Questions.{sequence_most}
+use Rattle.plant_bulk.specs.plant_script.Scripts.{Playing, script_most}
+use Rattle.plant_bulk.specs.plant_client.Asking.{Asks}
+use Rattle.plant_bulk.specs.plant_client.Questions.{sequence_most}
 use Rattle.plant_bulk.specs.declared.requests.Demand.{Demand}
 use Rattle.plant_bulk.specs.Playing.{IsBulk, bulk_turns, network}
 use Rattle.plant_bulk.specs.Requests.{requests_most}
-use Rattle.blind_play.specs.Laws.{SaysSo}
-use Rattle.blind_play.specs.Playing.{Stage as BlindStage}
-use Rattle.blind_play.specs.Turns.{Turn as BlindTurn}
-use Rattle.blind_play.specs.Turns.{all_heard, trace_of}
+use Rattle.blind_script.specs.blind_play.Laws.{SaysSo}
+use Rattle.blind_script.specs.blind_play.Playing.{Stage as BlindStage}
+use Rattle.blind_script.specs.blind_play.Turns.{Turn as BlindTurn}
+use Rattle.blind_script.specs.blind_play.Turns.{all_heard, trace_of}
 use Rattle.blind_script.specs.Scripts.{Playing as BlindlyPlaying}
 use Rattle.pce_tool.specs.declared.route.Route.{Route}
 use Rattle.pce_tool.specs.Networks.{HasNetwork, question_of}

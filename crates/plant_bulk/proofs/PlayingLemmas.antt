@@ -6,8 +6,8 @@ use Rattle.std.specs.Result.{IfOk}
 use Rattle.dom_base.specs.declared.names.NoMemory.{NoMemory}
 use Rattle.dom_edge.specs.Stores.{Files, file_named}
 use Rattle.drawn_network.specs.Files.{AreFiles}
-use Rattle.plant_play.specs.Playing.{Stage}
-use Rattle.plant_play.specs.Turns.{Turn}
+use Rattle.plant_client.specs.plant_play.Playing.{Stage}
+use Rattle.plant_client.specs.plant_play.Turns.{Turn}
 use Rattle.plant_client.specs.declared.hearing.Heard.{Heard}
 use Rattle.plant_client.specs.declared.question.Question.{Question}
 use Rattle.plant_client.specs.Asking.{Begins, Exchanges}

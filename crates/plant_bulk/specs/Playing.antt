@@ -4,8 +4,8 @@ use Rattle.dom_base.specs.declared.names.As.{As}
 use Rattle.dom_edge.specs.Stores.{Files, file_named}
 use Rattle.plant_text.specs.declared.settings.NetworkParts.{NetworkParts}
 use Rattle.plant_text.specs.Networks.{with_path}
-use Rattle.plant_play.specs.Playing.{Stage}
-use Rattle.plant_play.specs.Turns.{Turn}
+use Rattle.plant_client.specs.plant_play.Playing.{Stage}
+use Rattle.plant_client.specs.plant_play.Turns.{Turn}
 use Rattle.plant_client.specs.declared.question.Question.{Question}
 use Rattle.plant_client.specs.Asking.{Begins, Exchanges}
 use Rattle.drawn_network.specs.Files.{AreFiles}

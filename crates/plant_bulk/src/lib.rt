@@ -8,6 +8,8 @@ mod telling;
 #[cfg(test)]
 mod tests;
 
+pub use plant_client as client;
+pub use plant_client::script;
 pub use playing::{REQUESTS_MAX, play};
 pub use requests::Demand;
 pub use tally::Tally;

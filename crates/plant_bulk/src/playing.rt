@@ -4,7 +4,7 @@ ghost use Rattle.dom_edge.specs.Stores.{file_named};
 ghost use Rattle.drawn_network.specs.Files.{AreFiles, links_draws};
 ghost use Rattle.drawn_network.specs.Settings.{settings};
 ghost use Rattle.plant_client.specs.Asking.{Begins, Exchanges};
-ghost use Rattle.plant_play.specs.Playing.{stage_of};
+ghost use Rattle.plant_client.specs.plant_play.Playing.{stage_of};
 ghost use Rattle.plant_bulk.specs.Playing.{AreTallied, IsTallied, client, network};
 ghost use Rattle.plant_bulk.specs.Requests.{question, questions, requests_most};
 
@@ -13,9 +13,9 @@ use crate::tally::Tally;
 use dom_base::{As, Bytes, List, NoMemory, Text};
 use dom_edge::{MemoryStore, Store};
 use drawn_network::{Draws, draw_files, settings};
+use plant_client::play::Player;
+use plant_client::script::Stop;
 use plant_client::{begin, exchange, hear};
-use plant_play::Player;
-use plant_script::Stop;
 use plant_text::{NetError, Network};
 use std::alloc::Global;
 

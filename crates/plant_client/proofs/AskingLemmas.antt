@@ -8,10 +8,10 @@ use Rattle.pcep_subobjects.specs.Subobjects.{AreOctets}
 use Rattle.plant_text.specs.declared.line.LineEvent.{LineEvent}
 use Rattle.plant_text.specs.declared.line.LineEvent.TheVariants as line
 use Rattle.plant_text.specs.declared.settings.NetworkParts.{NetworkParts}
-use Rattle.plant_model.specs.Events.{Answered}
-use Rattle.plant_play.specs.Playing.{Cue, IsNewStage, Stage}
-use Rattle.plant_play.specs.Scripts.{AllPlayed}
-use Rattle.plant_play.specs.Turns.{Turn}
+use Rattle.plant_script.specs.plant_model.Events.{Answered}
+use Rattle.plant_script.specs.plant_play.Playing.{Cue, IsNewStage, Stage}
+use Rattle.plant_script.specs.plant_play.Scripts.{AllPlayed}
+use Rattle.plant_script.specs.plant_play.Turns.{Turn}
 use Rattle.plant_script.specs.declared.stop.Stop.{Stop}
 use Rattle.plant_script.specs.declared.stop.Stop.TheVariants as stop
 use Rattle.plant_script.specs.Cues.{IsFileStop, PlaysCue}

@@ -9,11 +9,11 @@ use Rattle.plant_text.specs.declared.line.LineEvent.TheVariants as line
 use Rattle.plant_text.specs.declared.settings.ElementRow.{ElementRow}
 use Rattle.plant_text.specs.declared.settings.NetworkParts.{NetworkParts}
 use Rattle.plant_text.specs.Settings.{elements_of, row_of}
-use Rattle.plant_model.specs.declared.outcome.Outcome.TheVariants as outcome
-use Rattle.plant_model.specs.Events.{Answered}
-use Rattle.plant_play.specs.Playing.{Cue, IsNewStage, PlaysLine, Stage}
-use Rattle.plant_play.specs.Scripts.{AllPlayed}
-use Rattle.plant_play.specs.Turns.{Turn}
+use Rattle.plant_script.specs.plant_model.declared.outcome.Outcome.TheVariants as outcome
+use Rattle.plant_script.specs.plant_model.Events.{Answered}
+use Rattle.plant_script.specs.plant_play.Playing.{Cue, IsNewStage, PlaysLine, Stage}
+use Rattle.plant_script.specs.plant_play.Scripts.{AllPlayed}
+use Rattle.plant_script.specs.plant_play.Turns.{Turn}
 use Rattle.plant_script.specs.declared.stop.Stop.{Stop}
 use Rattle.plant_script.specs.declared.stop.Stop.TheVariants as stop
 use Rattle.plant_script.specs.Cues.{HasText, IsFileStop, file_name}

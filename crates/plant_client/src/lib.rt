@@ -8,5 +8,7 @@ mod telling;
 
 pub use asking::{ask, begin, exchange};
 pub use hearing::{Heard, hear};
+pub use plant_script as script;
+pub use plant_script::play;
 pub use question::Question;
 pub use telling::tell;

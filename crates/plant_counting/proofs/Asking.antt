@@ -15,21 +15,21 @@ use Rattle.pcep_session.specs.declared.actions.Own.TheVariants as own
 use Rattle.plant_text.specs.declared.settings.NetworkParts.{NetworkParts}
 use Rattle.plant_text.specs.Names.{same_as, parent_as}
 use Rattle.plant_text.specs.Settings.{class_of, Line, lines}
-use Rattle.plant_model.specs.declared.event.Event.TheVariants as event
-use Rattle.plant_model.specs.declared.output.Output.{Output}
-use Rattle.plant_model.specs.Names.{set_pair}
-use Rattle.plant_model.specs.Wire.{Bytes, Codec}
-use Rattle.plant_model.specs.Laws.{IsCodec, IsNetwork}
-use Rattle.plant_model.specs.Writing.{reply_message, error_message, busy}
-use Rattle.plant_model.specs.Element.{Element, upped, downed, lost}
-use Rattle.plant_model.specs.Taking.{take}
-use Rattle.plant_model.specs.Solving.{commit}
-use Rattle.plant_model.specs.Parent as parent
-use Rattle.plant_model.specs.Settings.{place, family, way, ways_along}
-use Rattle.plant_model.specs.State.{Loads, Pops, Takes, Says, Ups, Downs, Clears, Solves, Expires, Hands}
-use Rattle.plant_model.specs.Deeds.{Going, element_of, own_message, with_parent, with_element, puts, give, rise, fall, clear}
-use Rattle.plant_model.specs.Events as events
-use Rattle.plant_model.specs.Plant.{Pin, Segment, first_pin, Plant, PlantDeed, Happened, Entry, Run, deeds_of, IsGiven, load_new, ElementSolves, ParentSolves}
+use Rattle.plant_laws.specs.plant_model.declared.event.Event.TheVariants as event
+use Rattle.plant_laws.specs.plant_model.declared.output.Output.{Output}
+use Rattle.plant_laws.specs.plant_model.Names.{set_pair}
+use Rattle.plant_laws.specs.plant_model.Wire.{Bytes, Codec}
+use Rattle.plant_laws.specs.plant_model.Laws.{IsCodec, IsNetwork}
+use Rattle.plant_laws.specs.plant_model.Writing.{reply_message, error_message, busy}
+use Rattle.plant_laws.specs.plant_model.Element.{Element, upped, downed, lost}
+use Rattle.plant_laws.specs.plant_model.Taking.{take}
+use Rattle.plant_laws.specs.plant_model.Solving.{commit}
+use Rattle.plant_laws.specs.plant_model.Parent as parent
+use Rattle.plant_laws.specs.plant_model.Settings.{place, family, way, ways_along}
+use Rattle.plant_laws.specs.plant_model.State.{Loads, Pops, Takes, Says, Ups, Downs, Clears, Solves, Expires, Hands}
+use Rattle.plant_laws.specs.plant_model.Deeds.{Going, element_of, own_message, with_parent, with_element, puts, give, rise, fall, clear}
+use Rattle.plant_laws.specs.plant_model.Events as events
+use Rattle.plant_laws.specs.plant_model.Plant.{Pin, Segment, first_pin, Plant, PlantDeed, Happened, Entry, Run, deeds_of, IsGiven, load_new, ElementSolves, ParentSolves}
 use Rattle.plant_laws.specs.Transcript.{Transcript, asks}
 use Rattle.plant_laws.specs.Sending.{AllSent}
 use Rattle.plant_laws.specs.Reading.{AreRead}

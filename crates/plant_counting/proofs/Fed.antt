@@ -11,21 +11,21 @@ use Rattle.pcep_session.specs.declared.session.Input.TheVariants as input
 use Rattle.plant_text.specs.declared.settings.NetworkParts.{NetworkParts}
 use Rattle.plant_text.specs.Names.{parent_as}
 use Rattle.plant_text.specs.Settings.{line, lines, is_linked, is_element, peer_row}
-use Rattle.plant_model.specs.declared.event.Event.{Event}
-use Rattle.plant_model.specs.declared.event.Event.TheVariants as event
-use Rattle.plant_model.specs.declared.outcome.Outcome.TheVariants.{Done}
-use Rattle.plant_model.specs.declared.outcome.Refused.TheVariants.{NoSuchPeer}
-use Rattle.plant_model.specs.Names.{set_number, set_pair}
-use Rattle.plant_model.specs.Wire.{Bytes, Codec}
-use Rattle.plant_model.specs.Laws.{IsCodec}
-use Rattle.plant_model.specs.Solving.{commit}
-use Rattle.plant_model.specs.Parent as parent
-use Rattle.plant_model.specs.Settings.{place}
-use Rattle.plant_model.specs.State.{Connection, Access, Pops}
-use Rattle.plant_model.specs.Deeds.{Going, element_of, on_connection, with_inbox, input_of, with_parent, with_element, fall, break_line, tick_outside, tick_lines, with_access}
-use Rattle.plant_model.specs.Events as events
-use Rattle.plant_model.specs.Events.{split_all, bad_item, fed, drained, is_down}
-use Rattle.plant_model.specs.Plant.{Pin, Segment, first_pin, Plant, Happened, Entry, Run, deeds_of, is_full, Happens}
+use Rattle.plant_laws.specs.plant_model.declared.event.Event.{Event}
+use Rattle.plant_laws.specs.plant_model.declared.event.Event.TheVariants as event
+use Rattle.plant_laws.specs.plant_model.declared.outcome.Outcome.TheVariants.{Done}
+use Rattle.plant_laws.specs.plant_model.declared.outcome.Refused.TheVariants.{NoSuchPeer}
+use Rattle.plant_laws.specs.plant_model.Names.{set_number, set_pair}
+use Rattle.plant_laws.specs.plant_model.Wire.{Bytes, Codec}
+use Rattle.plant_laws.specs.plant_model.Laws.{IsCodec}
+use Rattle.plant_laws.specs.plant_model.Solving.{commit}
+use Rattle.plant_laws.specs.plant_model.Parent as parent
+use Rattle.plant_laws.specs.plant_model.Settings.{place}
+use Rattle.plant_laws.specs.plant_model.State.{Connection, Access, Pops}
+use Rattle.plant_laws.specs.plant_model.Deeds.{Going, element_of, on_connection, with_inbox, input_of, with_parent, with_element, fall, break_line, tick_outside, tick_lines, with_access}
+use Rattle.plant_laws.specs.plant_model.Events as events
+use Rattle.plant_laws.specs.plant_model.Events.{split_all, bad_item, fed, drained, is_down}
+use Rattle.plant_laws.specs.plant_model.Plant.{Pin, Segment, first_pin, Plant, Happened, Entry, Run, deeds_of, is_full, Happens}
 use Rattle.plant_counting.specs.Counting.{fed_by, fed_bytes, heard}
 use Rattle.plant_counting.proofs.Below.{below, below_le, below_none, below_more, below_less, below_grows}
 use Rattle.plant_counting.proofs.Putting.{Core}

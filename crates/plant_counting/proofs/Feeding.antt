@@ -17,18 +17,18 @@ use Rattle.plant_text.specs.declared.settings.NetworkParts.{NetworkParts}
 use Rattle.plant_text.specs.declared.settings.PeerRow.{PeerRow}
 use Rattle.plant_text.specs.Names.{same_as, parent_as}
 use Rattle.plant_text.specs.Settings.{Line, class_of}
-use Rattle.plant_model.specs.declared.output.Output.{Output}
-use Rattle.plant_model.specs.Names.{is_empty, set_number}
-use Rattle.plant_model.specs.Wire.{Bytes, Codec}
-use Rattle.plant_model.specs.Element.{upped, downed}
-use Rattle.plant_model.specs.Taking.{take}
-use Rattle.plant_model.specs.Parent as parent
-use Rattle.plant_model.specs.Settings.{place, family}
-use Rattle.plant_model.specs.State.{Connection, Access, Takes, Ups, Downs}
-use Rattle.plant_model.specs.Deeds.{Going, element_of, is_due, is_tick, is_out_empty, any_fall, our_offer, on_connection, with_more, with_session, with_inbox, with_parent, with_element, put, put_to, puts, give, rise, fall, say, clear, outside_act, outside_acts, outside_step, outside_input, inner_act, inner_acts, inner_input, begin_end, begin_line, break_line, tick_outside, tick_lines, with_access, with_inner}
-use Rattle.plant_model.specs.Events as events
-use Rattle.plant_model.specs.Events.{split_all, bad_item, is_down}
-use Rattle.plant_model.specs.Plant.{Pin, Segment, PlantDeed}
+use Rattle.plant_laws.specs.plant_model.declared.output.Output.{Output}
+use Rattle.plant_laws.specs.plant_model.Names.{is_empty, set_number}
+use Rattle.plant_laws.specs.plant_model.Wire.{Bytes, Codec}
+use Rattle.plant_laws.specs.plant_model.Element.{upped, downed}
+use Rattle.plant_laws.specs.plant_model.Taking.{take}
+use Rattle.plant_laws.specs.plant_model.Parent as parent
+use Rattle.plant_laws.specs.plant_model.Settings.{place, family}
+use Rattle.plant_laws.specs.plant_model.State.{Connection, Access, Takes, Ups, Downs}
+use Rattle.plant_laws.specs.plant_model.Deeds.{Going, element_of, is_due, is_tick, is_out_empty, any_fall, our_offer, on_connection, with_more, with_session, with_inbox, with_parent, with_element, put, put_to, puts, give, rise, fall, say, clear, outside_act, outside_acts, outside_step, outside_input, inner_act, inner_acts, inner_input, begin_end, begin_line, break_line, tick_outside, tick_lines, with_access, with_inner}
+use Rattle.plant_laws.specs.plant_model.Events as events
+use Rattle.plant_laws.specs.plant_model.Events.{split_all, bad_item, is_down}
+use Rattle.plant_laws.specs.plant_model.Plant.{Pin, Segment, PlantDeed}
 use Rattle.plant_laws.proofs.Shape.{has_pass, shape}
 use Rattle.plant_counting.specs.Counting.{heard}
 use Rattle.plant_counting.proofs.Putting.{Core}

@@ -1,10 +1,10 @@
 -- Few requests for each octet that is fed, over the wire of PCEP.
 use Rattle.std.proofs.Common.{◌≤◌, ℕ, List, arith}
 use Rattle.plant_text.specs.declared.settings.NetworkParts.{NetworkParts}
-use Rattle.plant_model.specs.Wire.{Codec}
-use Rattle.plant_model.specs.RealWire.{wire}
-use Rattle.plant_model.specs.Plant.{Plant, Entry, deeds_of}
-use Rattle.plant_model.proofs.WireLaws.{wire_is_codec}
+use Rattle.plant_laws.specs.plant_model.Wire.{Codec}
+use Rattle.plant_laws.specs.plant_model.RealWire.{wire}
+use Rattle.plant_laws.specs.plant_model.Plant.{Plant, Entry, deeds_of}
+use Rattle.plant_laws.proofs.plant_model.WireLaws.{wire_is_codec}
 use Rattle.plant_laws.specs.Runs.{OverPcep}
 use Rattle.plant_laws.specs.Transcript.{asks}
 use Rattle.plant_counting.specs.Counting.{TakenAreFed, AskedAreFew, FewAreShort, OverFewOctets, fed_bytes, heard}

@@ -9,9 +9,9 @@ use Rattle.pcep_messages.specs.declared.message.Message.TheVariants as messages
 use Rattle.pcep_messages.specs.declared.message.Wish.{Wish}
 use Rattle.pcep_messages.specs.declared.message.Wish.TheVariants.{Path, Expand}
 use Rattle.plant_text.specs.Names.{same_as, parent_as}
-use Rattle.plant_model.specs.Names.{set_pair}
-use Rattle.plant_model.specs.Wire.{Bytes, Codec, Checked, Admitted, Wrong}
-use Rattle.plant_model.specs.Taking.{sequence_or}
+use Rattle.plant_laws.specs.plant_model.Names.{set_pair}
+use Rattle.plant_laws.specs.plant_model.Wire.{Bytes, Codec, Checked, Admitted, Wrong}
+use Rattle.plant_laws.specs.plant_model.Taking.{sequence_or}
 use Rattle.plant_laws.proofs.Queues.{same_as_is}
 use Rattle.plant_counting.proofs.Steps.{route_heavy}
 use Rattle.plant_counting.proofs.Below.{below, below_le, below_more, below_less, below_grows}

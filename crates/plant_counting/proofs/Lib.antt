@@ -9,3 +9,5 @@ mod Pieces
 mod Feeding
 mod Fed
 pub mod FewOctets
+-- handed on from below
+pub use Rattle.plant_laws.proofs as plant_laws

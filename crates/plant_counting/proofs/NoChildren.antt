@@ -22,13 +22,13 @@ use Rattle.plant_text.specs.declared.settings.NetworkParts.{NetworkParts}
 use Rattle.plant_text.specs.declared.settings.ElementRow.{ElementRow}
 use Rattle.plant_text.specs.Names.{parent_as, insert_as}
 use Rattle.plant_text.specs.Settings.{children, children_of}
-use Rattle.plant_model.specs.Laws.{IsNetwork}
-use Rattle.plant_model.specs.Names.{has_pair}
-use Rattle.plant_model.specs.Wire.{Codec, Checked, Admitted, Wrong}
-use Rattle.plant_model.specs.Writing.{reply_message, error_message, unavailable}
-use Rattle.plant_model.specs.Taking.{error_answer}
-use Rattle.plant_model.specs.BorderGraph.{Found}
-use Rattle.plant_model.specs.Parent.{Parent, Family, Given, AskingRow, each, errands, ask_all, all_waits, all_up, take, take_asked, take_checked, take_new, take_wish, take_path, take_reply, take_found, take_answer, take_notice, notice_steps, take_busy, take_cancel, told_busy, cancelled, take_report, take_errors, take_failure, told_error, only, waiting, commit}
+use Rattle.plant_laws.specs.plant_model.Laws.{IsNetwork}
+use Rattle.plant_laws.specs.plant_model.Names.{has_pair}
+use Rattle.plant_laws.specs.plant_model.Wire.{Codec, Checked, Admitted, Wrong}
+use Rattle.plant_laws.specs.plant_model.Writing.{reply_message, error_message, unavailable}
+use Rattle.plant_laws.specs.plant_model.Taking.{error_answer}
+use Rattle.plant_laws.specs.plant_model.BorderGraph.{Found}
+use Rattle.plant_laws.specs.plant_model.Parent.{Parent, Family, Given, AskingRow, each, errands, ask_all, all_waits, all_up, take, take_asked, take_checked, take_new, take_wish, take_path, take_reply, take_found, take_answer, take_notice, notice_steps, take_busy, take_cancel, told_busy, cancelled, take_report, take_errors, take_failure, told_error, only, waiting, commit}
 use Rattle.plant_laws.proofs.Sends.{NoneAsks}
 use Rattle.plant_laws.proofs.Onward.{none_append}
 use Rattle.plant_counting.specs.Counting.{HasNoParent}

@@ -20,14 +20,14 @@ use Rattle.pcep_messages.specs.declared.message.Wish.{Wish}
 use Rattle.pcep_messages.specs.declared.message.Wish.TheVariants.{Path, Expand}
 use Rattle.plant_text.specs.declared.settings.NetworkParts.{NetworkParts}
 use Rattle.plant_text.specs.Names.{same_as, parent_as}
-use Rattle.plant_model.specs.declared.output.Output.{Output}
-use Rattle.plant_model.specs.Names.{the_parent}
-use Rattle.plant_model.specs.Wire.{Bytes, Codec, Checked, Admitted, Wrong}
-use Rattle.plant_model.specs.Laws.{IsCodec, IsSequence, Admits, IsRequestInRange, CanBeSent}
-use Rattle.plant_model.specs.Writing.{asked_of, request_message}
-use Rattle.plant_model.specs.Element.{Element, Place, Taken, fresh_id, is_waiting}
-use Rattle.plant_model.specs.Taking.{take, sequence_or}
-use Rattle.plant_model.specs.Plant.{Pin, Segment}
+use Rattle.plant_laws.specs.plant_model.declared.output.Output.{Output}
+use Rattle.plant_laws.specs.plant_model.Names.{the_parent}
+use Rattle.plant_laws.specs.plant_model.Wire.{Bytes, Codec, Checked, Admitted, Wrong}
+use Rattle.plant_laws.specs.plant_model.Laws.{IsCodec, IsSequence, Admits, IsRequestInRange, CanBeSent}
+use Rattle.plant_laws.specs.plant_model.Writing.{asked_of, request_message}
+use Rattle.plant_laws.specs.plant_model.Element.{Element, Place, Taken, fresh_id, is_waiting}
+use Rattle.plant_laws.specs.plant_model.Taking.{take, sequence_or}
+use Rattle.plant_laws.specs.plant_model.Plant.{Pin, Segment}
 use Rattle.plant_laws.specs.Sending.{AreAll}
 use Rattle.plant_laws.proofs.Takes.{IsSingle}
 use Rattle.plant_laws.specs.Transcript.{one_if}

@@ -12,12 +12,12 @@ use Rattle.pcep_messages.specs.declared.message.Message.TheVariants as messages
 use Rattle.request_table.specs.Pending.{same_peer}
 use Rattle.plant_text.specs.declared.settings.NetworkParts.{NetworkParts}
 use Rattle.plant_text.specs.Names.{same_as}
-use Rattle.plant_model.specs.declared.output.Output.{Output}
-use Rattle.plant_model.specs.Names.{set_pair}
-use Rattle.plant_model.specs.Wire.{Bytes, Codec}
-use Rattle.plant_model.specs.State.{State}
-use Rattle.plant_model.specs.Deeds.{put_to, put, puts}
-use Rattle.plant_model.specs.Plant.{Pin, Segment}
+use Rattle.plant_laws.specs.plant_model.declared.output.Output.{Output}
+use Rattle.plant_laws.specs.plant_model.Names.{set_pair}
+use Rattle.plant_laws.specs.plant_model.Wire.{Bytes, Codec}
+use Rattle.plant_laws.specs.plant_model.State.{State}
+use Rattle.plant_laws.specs.plant_model.Deeds.{put_to, put, puts}
+use Rattle.plant_laws.specs.plant_model.Plant.{Pin, Segment}
 use Rattle.plant_laws.specs.Sending.{AreAll}
 use Rattle.plant_laws.specs.Transcript.{put_into, count_asks, one_if}
 use Rattle.plant_laws.proofs.Handing.{IsAsk}

@@ -3,13 +3,13 @@ use Rattle.std.specs.Prelude.{◌≡◌, ◌≤◌, ◌+◌, ℕ, List, [], ◌�
 use Rattle.dom_base.specs.declared.names.As.{As}
 use Rattle.dom_base.specs.declared.names.Peer.TheVariants.{Outside, Inner}
 use Rattle.plant_text.specs.declared.settings.NetworkParts.{NetworkParts}
-use Rattle.plant_model.specs.declared.event.Event.{Event}
-use Rattle.plant_model.specs.declared.event.Event.TheVariants as event
-use Rattle.plant_model.specs.Wire.{Codec}
-use Rattle.plant_model.specs.RealWire.{wire}
-use Rattle.plant_model.specs.Laws.{IsNetwork}
-use Rattle.plant_model.specs.State.{Loads, Pops, Takes, Says, Ups, Downs, Clears, Solves, Expires, Hands}
-use Rattle.plant_model.specs.Plant.{Plant, PlantDeed, Entry, Run, deeds_of}
+use Rattle.plant_laws.specs.plant_model.declared.event.Event.{Event}
+use Rattle.plant_laws.specs.plant_model.declared.event.Event.TheVariants as event
+use Rattle.plant_laws.specs.plant_model.Wire.{Codec}
+use Rattle.plant_laws.specs.plant_model.RealWire.{wire}
+use Rattle.plant_laws.specs.plant_model.Laws.{IsNetwork}
+use Rattle.plant_laws.specs.plant_model.State.{Loads, Pops, Takes, Says, Ups, Downs, Clears, Solves, Expires, Hands}
+use Rattle.plant_laws.specs.plant_model.Plant.{Plant, PlantDeed, Entry, Run, deeds_of}
 use Rattle.plant_laws.specs.Transcript.{Transcript, asks}
 use Rattle.plant_laws.specs.About.{IsShort}
 

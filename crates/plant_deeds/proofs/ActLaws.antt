@@ -13,14 +13,14 @@ use Rattle.pcep_session.specs.declared.actions.Own.{Own}
 use Rattle.request_table.specs.Pending.{same_peer}
 use Rattle.plant_queues.specs.Messages.{Spare, Covers}
 use Rattle.plant_text.specs.declared.settings.NetworkParts.{NetworkParts}
-use Rattle.plant_model.specs.declared.output.Lost.{Lost}
-use Rattle.plant_model.specs.Names.{is_empty}
-use Rattle.plant_model.specs.Wire.{Bytes}
-use Rattle.plant_model.specs.RealWire.{wire}
-use Rattle.plant_model.specs.State.{State, Connection}
-use Rattle.plant_model.specs.Deeds as deeds
-use Rattle.plant_model.specs.Deeds.{Going, element_of, on_connection, is_out_empty, is_due, any_fall, with_inbox}
-use Rattle.plant_sessions.specs.Ends.{own_bytes, is_left_out, said_in}
+use Rattle.plant_members.specs.plant_model.declared.output.Lost.{Lost}
+use Rattle.plant_members.specs.plant_model.Names.{is_empty}
+use Rattle.plant_members.specs.plant_model.Wire.{Bytes}
+use Rattle.plant_members.specs.plant_model.RealWire.{wire}
+use Rattle.plant_members.specs.plant_model.State.{State, Connection}
+use Rattle.plant_members.specs.plant_model.Deeds as deeds
+use Rattle.plant_members.specs.plant_model.Deeds.{Going, element_of, on_connection, is_out_empty, is_due, any_fall, with_inbox}
+use Rattle.plant_traffic.specs.plant_sessions.Ends.{own_bytes, is_left_out, said_in}
 use Rattle.plant_traffic.specs.Flow.{Flow, Puts, change_access, out_of, room_at, queue_at}
 use Rattle.plant_deeds.specs.Accounts.{Accounts, has_queue}
 use Rattle.plant_members.specs.Membership.{Membership, lost_at}

@@ -13,12 +13,12 @@ use Rattle.plant_text.specs.declared.settings.NetworkParts.{NetworkParts}
 use Rattle.plant_text.specs.declared.settings.ElementRow.{ElementRow}
 use Rattle.plant_text.specs.Names.{same_as, parent_as}
 use Rattle.plant_text.specs.Settings.{elements_of}
-use Rattle.plant_model.specs.declared.output.Output.{Output}
-use Rattle.plant_model.specs.Element.{Element}
-use Rattle.plant_model.specs.Parent.{Parent}
-use Rattle.plant_model.specs.RealWire.{wire}
-use Rattle.plant_model.specs.State.{sent_by}
-use Rattle.plant_model.specs.Deeds as deeds
+use Rattle.plant_members.specs.plant_model.declared.output.Output.{Output}
+use Rattle.plant_members.specs.plant_model.Element.{Element}
+use Rattle.plant_members.specs.plant_model.Parent.{Parent}
+use Rattle.plant_members.specs.plant_model.RealWire.{wire}
+use Rattle.plant_members.specs.plant_model.State.{sent_by}
+use Rattle.plant_members.specs.plant_model.Deeds as deeds
 use Rattle.plant_traffic.specs.Flow.{Flow, ClearsSaid}
 use Rattle.plant_members.specs.Membership.{Membership, with_element, with_parent}
 use Rattle.plant_members.specs.Owed.{count_by_asker, is_peer, owed, pending_in}

@@ -12,14 +12,14 @@ use Rattle.plant_queues.specs.Sents.{sent_of, size_of}
 use Rattle.plant_text.specs.Settings.{Line}
 use Rattle.plant_text.specs.declared.settings.NetworkParts.{NetworkParts}
 use Rattle.plant_text.specs.Names.{same_as}
-use Rattle.plant_model.specs.declared.output.Lost.{Lost}
-use Rattle.plant_model.specs.Element.{lost_output}
-use Rattle.plant_model.specs.RealWire.{wire}
-use Rattle.plant_model.specs.State.{State, sent_by}
-use Rattle.plant_model.specs.Deeds as deeds
-use Rattle.plant_model.specs.Deeds.{Going, our_offer}
-use Rattle.plant_sessions.specs.Ends.{own_bytes}
-use Rattle.plant_sessions.specs.Links.{next_sid}
+use Rattle.plant_members.specs.plant_model.declared.output.Lost.{Lost}
+use Rattle.plant_members.specs.plant_model.Element.{lost_output}
+use Rattle.plant_members.specs.plant_model.RealWire.{wire}
+use Rattle.plant_members.specs.plant_model.State.{State, sent_by}
+use Rattle.plant_members.specs.plant_model.Deeds as deeds
+use Rattle.plant_members.specs.plant_model.Deeds.{Going, our_offer}
+use Rattle.plant_traffic.specs.plant_sessions.Ends.{own_bytes}
+use Rattle.plant_traffic.specs.plant_sessions.Links.{next_sid}
 use Rattle.plant_traffic.specs.Flow.{Flow, Room, Begins, Clears, room_at}
 use Rattle.plant_deeds.specs.Accounts.{count_into, bytes_into, goes_into}
 use Rattle.plant_members.specs.Membership.{Membership, fallen, lost_at}

@@ -12,18 +12,18 @@ use Rattle.pcep_session.specs.Table.{Turn, turn_of}
 use Rattle.plant_text.specs.declared.settings.NetworkParts.{NetworkParts}
 use Rattle.plant_text.specs.Names.{same_as}
 use Rattle.plant_text.specs.Settings.{Line, line, lines, has_line, is_linked}
-use Rattle.plant_model.specs.declared.outcome.Outcome.TheVariants.{Done}
-use Rattle.plant_model.specs.declared.outcome.Refused.TheVariants.{NoSuchPeer}
-use Rattle.plant_model.specs.declared.output.Lost.{Lost}
-use Rattle.plant_model.specs.Names.{set_pair}
-use Rattle.plant_model.specs.RealWire.{wire}
-use Rattle.plant_model.specs.State.{State, Pops}
-use Rattle.plant_model.specs.Wire.{Bytes}
-use Rattle.plant_model.specs.Deeds as deeds
-use Rattle.plant_model.specs.Deeds.{Going, input_of, is_tick}
-use Rattle.plant_model.specs.Events as events
-use Rattle.plant_model.specs.Events.{Happened}
-use Rattle.plant_sessions.proofs.StepLemmas.{steps_keep_number}
+use Rattle.plant_members.specs.plant_model.declared.outcome.Outcome.TheVariants.{Done}
+use Rattle.plant_members.specs.plant_model.declared.outcome.Refused.TheVariants.{NoSuchPeer}
+use Rattle.plant_members.specs.plant_model.declared.output.Lost.{Lost}
+use Rattle.plant_members.specs.plant_model.Names.{set_pair}
+use Rattle.plant_members.specs.plant_model.RealWire.{wire}
+use Rattle.plant_members.specs.plant_model.State.{State, Pops}
+use Rattle.plant_members.specs.plant_model.Wire.{Bytes}
+use Rattle.plant_members.specs.plant_model.Deeds as deeds
+use Rattle.plant_members.specs.plant_model.Deeds.{Going, input_of, is_tick}
+use Rattle.plant_members.specs.plant_model.Events as events
+use Rattle.plant_members.specs.plant_model.Events.{Happened}
+use Rattle.plant_traffic.proofs.plant_sessions.StepLemmas.{steps_keep_number}
 use Rattle.plant_traffic.specs.Flow.{Flow, ClearsSaid, DropsFirst, set_queue}
 use Rattle.plant_deeds.specs.Acting.{IsOwnTurn, FitsLink}
 use Rattle.plant_deeds.specs.Giving.{OnlyGrows}

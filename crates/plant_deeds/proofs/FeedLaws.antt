@@ -4,18 +4,18 @@ use Rattle.dom_base.specs.declared.names.As.{As}
 use Rattle.dom_base.specs.declared.names.Peer.{Peer}
 use Rattle.dom_base.specs.declared.names.Peer.TheVariants.{Outside, Inner}
 use Rattle.pcep_subobjects.specs.declared.hop.Hop.{Hop}
-use Rattle.plant_sessions.specs.Ends.{fed_while_up}
-use Rattle.plant_sessions.specs.Rooms.{Frees, Grows, queue}
+use Rattle.plant_traffic.specs.plant_sessions.Ends.{fed_while_up}
+use Rattle.plant_traffic.specs.plant_sessions.Rooms.{Frees, Grows, queue}
 use Rattle.plant_text.specs.declared.settings.NetworkParts.{NetworkParts}
-use Rattle.plant_model.specs.declared.outcome.Outcome.TheVariants.{Done, Drained}
-use Rattle.plant_model.specs.declared.outcome.Refused.{Refused}
-use Rattle.plant_model.specs.declared.outcome.Refused.TheVariants.{NoSuchPeer, NotHolder, NoMemory}
-use Rattle.plant_model.specs.Names.{set_number}
-use Rattle.plant_model.specs.Wire.{Bytes}
-use Rattle.plant_model.specs.State.{Connection}
-use Rattle.plant_model.specs.Events as events
-use Rattle.plant_model.specs.Events.{Answered, Happened, drained}
-use Rattle.plant_model.specs.RealWire.{wire}
+use Rattle.plant_members.specs.plant_model.declared.outcome.Outcome.TheVariants.{Done, Drained}
+use Rattle.plant_members.specs.plant_model.declared.outcome.Refused.{Refused}
+use Rattle.plant_members.specs.plant_model.declared.outcome.Refused.TheVariants.{NoSuchPeer, NotHolder, NoMemory}
+use Rattle.plant_members.specs.plant_model.Names.{set_number}
+use Rattle.plant_members.specs.plant_model.Wire.{Bytes}
+use Rattle.plant_members.specs.plant_model.State.{Connection}
+use Rattle.plant_members.specs.plant_model.Events as events
+use Rattle.plant_members.specs.plant_model.Events.{Answered, Happened, drained}
+use Rattle.plant_members.specs.plant_model.RealWire.{wire}
 use Rattle.plant_traffic.specs.declared.peers.Drained.{Drained as Handed}
 use Rattle.plant_traffic.specs.Flow.{Flow, Room, ClearsSaid, change_access, room_at}
 use Rattle.plant_traffic.specs.Happenings.{FeedsIn, FeedsConnectionIn, DrainsIn, DrainsConnectionIn, DrainsHeldIn, done_of, drained_of, hands_of}

@@ -11,15 +11,15 @@ use Rattle.plant_queues.specs.Sents.{sent_of}
 use Rattle.plant_text.specs.declared.settings.NetworkParts.{NetworkParts}
 use Rattle.plant_text.specs.Names.{same_as, parent_as}
 use Rattle.plant_text.specs.Settings.{class_of}
-use Rattle.plant_model.specs.declared.output.Output.{Output}
-use Rattle.plant_model.specs.declared.output.Lost.{Lost}
-use Rattle.plant_model.specs.Settings.{place, family}
-use Rattle.plant_model.specs.RealWire.{wire}
-use Rattle.plant_model.specs.State.{State, said, sent_by}
-use Rattle.plant_model.specs.Deeds as deeds
-use Rattle.plant_model.specs.Deeds.{Going}
-use Rattle.plant_model.specs.Taking.{take}
-use Rattle.plant_model.specs.Parent as parent
+use Rattle.plant_members.specs.plant_model.declared.output.Output.{Output}
+use Rattle.plant_members.specs.plant_model.declared.output.Lost.{Lost}
+use Rattle.plant_members.specs.plant_model.Settings.{place, family}
+use Rattle.plant_members.specs.plant_model.RealWire.{wire}
+use Rattle.plant_members.specs.plant_model.State.{State, said, sent_by}
+use Rattle.plant_members.specs.plant_model.Deeds as deeds
+use Rattle.plant_members.specs.plant_model.Deeds.{Going}
+use Rattle.plant_members.specs.plant_model.Taking.{take}
+use Rattle.plant_members.specs.plant_model.Parent as parent
 use Rattle.plant_traffic.specs.Flow.{Flow, put_flow}
 use Rattle.plant_members.specs.Membership.{Membership, given, with_element, with_parent}
 use Rattle.plant_deeds.specs.Standing.{IsAt, here, Goes, state_of}

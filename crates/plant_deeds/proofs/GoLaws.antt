@@ -12,15 +12,15 @@ use Rattle.plant_queues.specs.Messages.{Spare, total}
 use Rattle.plant_queues.specs.Sents.{size_of, sent_of}
 use Rattle.plant_text.specs.declared.settings.NetworkParts.{NetworkParts}
 use Rattle.plant_text.specs.Names.{same_as, parent_as}
-use Rattle.plant_model.specs.declared.output.Lost.{Lost}
-use Rattle.plant_model.specs.Wire.{Bytes}
-use Rattle.plant_model.specs.RealWire.{wire}
-use Rattle.plant_model.specs.State.{State, Connection, said}
-use Rattle.plant_model.specs.Deeds as deeds
-use Rattle.plant_model.specs.Deeds.{Going, on_connection, with_more}
-use Rattle.plant_model.specs.Element.{upped}
-use Rattle.plant_model.specs.Parent as parent
-use Rattle.plant_sessions.specs.Ends.{own_bytes}
+use Rattle.plant_members.specs.plant_model.declared.output.Lost.{Lost}
+use Rattle.plant_members.specs.plant_model.Wire.{Bytes}
+use Rattle.plant_members.specs.plant_model.RealWire.{wire}
+use Rattle.plant_members.specs.plant_model.State.{State, Connection, said}
+use Rattle.plant_members.specs.plant_model.Deeds as deeds
+use Rattle.plant_members.specs.plant_model.Deeds.{Going, on_connection, with_more}
+use Rattle.plant_members.specs.plant_model.Element.{upped}
+use Rattle.plant_members.specs.plant_model.Parent as parent
+use Rattle.plant_traffic.specs.plant_sessions.Ends.{own_bytes}
 use Rattle.plant_traffic.specs.Flow.{Flow, Room, Puts, SameFlow, put_flow, put_at, room_at, queue_at, set_room, out_of}
 use Rattle.plant_deeds.specs.Accounts.{Accounts, count_into, bytes_into, goes_into, has_queue}
 use Rattle.plant_members.specs.Membership.{Membership, raised}

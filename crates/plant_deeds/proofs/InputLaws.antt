@@ -12,12 +12,12 @@ use Rattle.pcep_session.specs.Table.{turn_of}
 use Rattle.plant_queues.specs.Messages.{Spare, Covers}
 use Rattle.plant_text.specs.declared.settings.NetworkParts.{NetworkParts}
 use Rattle.plant_text.specs.Settings.{Line}
-use Rattle.plant_model.specs.declared.output.Lost.{Lost}
-use Rattle.plant_model.specs.RealWire.{wire}
-use Rattle.plant_model.specs.State.{State, Connection}
-use Rattle.plant_model.specs.Deeds as deeds
-use Rattle.plant_model.specs.Deeds.{Going, is_tick, any_fall, with_session}
-use Rattle.plant_sessions.specs.Ends.{said_in}
+use Rattle.plant_members.specs.plant_model.declared.output.Lost.{Lost}
+use Rattle.plant_members.specs.plant_model.RealWire.{wire}
+use Rattle.plant_members.specs.plant_model.State.{State, Connection}
+use Rattle.plant_members.specs.plant_model.Deeds as deeds
+use Rattle.plant_members.specs.plant_model.Deeds.{Going, is_tick, any_fall, with_session}
+use Rattle.plant_traffic.specs.plant_sessions.Ends.{said_in}
 use Rattle.plant_traffic.specs.Flow.{Flow, change_access, set_session, room_at}
 use Rattle.plant_members.specs.Membership.{Membership, lost_at}
 use Rattle.plant_deeds.specs.Standing.{IsAt, Here, here, Goes}

@@ -12,11 +12,11 @@ use Rattle.plant_queues.specs.Messages.{Spare, Covers, total}
 use Rattle.plant_queues.specs.Sents.{size_of, sent_of}
 use Rattle.plant_text.specs.declared.settings.NetworkParts.{NetworkParts}
 use Rattle.plant_text.specs.Names.{same_as}
-use Rattle.plant_model.specs.Wire.{Bytes}
-use Rattle.plant_model.specs.declared.output.Output.{Output}
-use Rattle.plant_model.specs.RealWire.{wire}
-use Rattle.plant_model.specs.State.{sent_by}
-use Rattle.plant_sessions.specs.Rooms.{Grows}
+use Rattle.plant_members.specs.plant_model.Wire.{Bytes}
+use Rattle.plant_members.specs.plant_model.declared.output.Output.{Output}
+use Rattle.plant_members.specs.plant_model.RealWire.{wire}
+use Rattle.plant_members.specs.plant_model.State.{sent_by}
+use Rattle.plant_traffic.specs.plant_sessions.Rooms.{Grows}
 use Rattle.plant_traffic.specs.Flow.{Flow, Room, Puts, GrowsAt, GrowsSaid, KeepsRoomAt, put_flow, room_at, queue_at, set_room}
 use Rattle.plant_deeds.specs.Accounts.{Accounts, goes_into}
 use Rattle.plant_members.specs.Membership.{Membership}

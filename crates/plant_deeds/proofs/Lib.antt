@@ -39,3 +39,5 @@ pub mod TickEvents
 pub mod LossEvents
 pub mod OpenLaws
 pub mod AnswerLaws
+-- handed on from below
+pub use Rattle.plant_members.proofs.plant_model

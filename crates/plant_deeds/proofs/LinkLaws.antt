@@ -12,15 +12,15 @@ use Rattle.plant_queues.specs.Messages.{Spare, total}
 use Rattle.plant_queues.specs.Sents.{size_of}
 use Rattle.plant_text.specs.declared.settings.NetworkParts.{NetworkParts}
 use Rattle.plant_text.specs.Names.{same_as}
-use Rattle.plant_model.specs.declared.output.Lost.{Lost}
-use Rattle.plant_model.specs.Names.{set_pair}
-use Rattle.plant_model.specs.Wire.{Bytes}
-use Rattle.plant_model.specs.RealWire.{wire}
-use Rattle.plant_model.specs.State.{State, said}
-use Rattle.plant_model.specs.Deeds as deeds
-use Rattle.plant_model.specs.Deeds.{Going, our_offer}
-use Rattle.plant_sessions.specs.Ends.{own_bytes}
-use Rattle.plant_sessions.specs.Rooms.{room_in_all}
+use Rattle.plant_members.specs.plant_model.declared.output.Lost.{Lost}
+use Rattle.plant_members.specs.plant_model.Names.{set_pair}
+use Rattle.plant_members.specs.plant_model.Wire.{Bytes}
+use Rattle.plant_members.specs.plant_model.RealWire.{wire}
+use Rattle.plant_members.specs.plant_model.State.{State, said}
+use Rattle.plant_members.specs.plant_model.Deeds as deeds
+use Rattle.plant_members.specs.plant_model.Deeds.{Going, our_offer}
+use Rattle.plant_traffic.specs.plant_sessions.Ends.{own_bytes}
+use Rattle.plant_traffic.specs.plant_sessions.Rooms.{room_in_all}
 use Rattle.plant_traffic.specs.Flow.{Flow, Begins, Clears, Puts, set_session, room_at, queue_at}
 use Rattle.plant_deeds.specs.Accounts.{Accounts, count_into, bytes_into, queue_in, has_queue}
 use Rattle.plant_members.specs.Membership.{Membership}

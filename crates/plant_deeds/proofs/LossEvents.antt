@@ -8,12 +8,12 @@ use Rattle.pcep_subobjects.specs.declared.hop.Hop.{Hop}
 use Rattle.plant_text.specs.declared.settings.NetworkParts.{NetworkParts}
 use Rattle.plant_text.specs.Names.{same_as}
 use Rattle.plant_text.specs.Settings.{Line, has_line, line, lines}
-use Rattle.plant_model.specs.declared.output.Lost.{Lost}
-use Rattle.plant_model.specs.RealWire.{wire}
-use Rattle.plant_model.specs.Deeds as deeds
-use Rattle.plant_model.specs.Deeds.{element_of}
-use Rattle.plant_model.specs.Events as events
-use Rattle.plant_sessions.specs.declared.access.Access.{Access}
+use Rattle.plant_members.specs.plant_model.declared.output.Lost.{Lost}
+use Rattle.plant_members.specs.plant_model.RealWire.{wire}
+use Rattle.plant_members.specs.plant_model.Deeds as deeds
+use Rattle.plant_members.specs.plant_model.Deeds.{element_of}
+use Rattle.plant_members.specs.plant_model.Events as events
+use Rattle.plant_traffic.specs.plant_sessions.declared.access.Access.{Access}
 use Rattle.plant_traffic.specs.Carried.{Carried, flow_of}
 use Rattle.plant_traffic.specs.Flow.{Flow, ClearsSaid, shut}
 use Rattle.plant_traffic.specs.Peers.{access_or}

@@ -14,16 +14,16 @@ use Rattle.plant_queues.specs.Messages.{Spare}
 use Rattle.plant_text.specs.declared.settings.NetworkParts.{NetworkParts}
 use Rattle.plant_text.specs.declared.settings.PeerRow.{PeerRow}
 use Rattle.plant_text.specs.Settings.{peer_row}
-use Rattle.plant_model.specs.declared.outcome.Outcome.TheVariants.{Done}
-use Rattle.plant_model.specs.declared.outcome.Refused.TheVariants.{NoSuchPeer}
-use Rattle.plant_model.specs.declared.output.Lost.{Lost}
-use Rattle.plant_model.specs.Names.{set_number}
-use Rattle.plant_model.specs.RealWire.{wire}
-use Rattle.plant_model.specs.State.{Access, Connection}
-use Rattle.plant_model.specs.Deeds as deeds
-use Rattle.plant_model.specs.Deeds.{Going, element_of, our_offer}
-use Rattle.plant_model.specs.Events as events
-use Rattle.plant_sessions.specs.Ends.{just_open}
+use Rattle.plant_members.specs.plant_model.declared.outcome.Outcome.TheVariants.{Done}
+use Rattle.plant_members.specs.plant_model.declared.outcome.Refused.TheVariants.{NoSuchPeer}
+use Rattle.plant_members.specs.plant_model.declared.output.Lost.{Lost}
+use Rattle.plant_members.specs.plant_model.Names.{set_number}
+use Rattle.plant_members.specs.plant_model.RealWire.{wire}
+use Rattle.plant_members.specs.plant_model.State.{Access, Connection}
+use Rattle.plant_members.specs.plant_model.Deeds as deeds
+use Rattle.plant_members.specs.plant_model.Deeds.{Going, element_of, our_offer}
+use Rattle.plant_members.specs.plant_model.Events as events
+use Rattle.plant_traffic.specs.plant_sessions.Ends.{just_open}
 use Rattle.plant_traffic.specs.Flow.{ClearsSaid, Flow, GrowsAt, KeepsRoomAt, just_opened, set_access, set_room}
 use Rattle.plant_text.specs.Names.{parent_as}
 use Rattle.plant_deeds.specs.Acting.{FitsInput}

@@ -11,12 +11,12 @@ use Rattle.plant_queues.specs.Sents.{size_of}
 use Rattle.plant_text.specs.declared.settings.NetworkParts.{NetworkParts}
 use Rattle.plant_text.specs.Names.{same_as, same_link}
 use Rattle.plant_text.specs.Settings.{Line, has_line, lines}
-use Rattle.plant_model.specs.declared.output.Lost.{Lost}
-use Rattle.plant_model.specs.Wire.{Bytes}
-use Rattle.plant_model.specs.RealWire.{wire}
-use Rattle.plant_model.specs.Deeds as deeds
-use Rattle.plant_model.specs.Deeds.{Going}
-use Rattle.plant_model.specs.Events as events
+use Rattle.plant_members.specs.plant_model.declared.output.Lost.{Lost}
+use Rattle.plant_members.specs.plant_model.Wire.{Bytes}
+use Rattle.plant_members.specs.plant_model.RealWire.{wire}
+use Rattle.plant_members.specs.plant_model.Deeds as deeds
+use Rattle.plant_members.specs.plant_model.Deeds.{Going}
+use Rattle.plant_members.specs.plant_model.Events as events
 use Rattle.plant_traffic.specs.Flow.{Begins, Flow, GrowsAt, GrowsSaid, IsBare, KeepsRoomAt, queue_at}
 use Rattle.plant_deeds.specs.Accounts.{Accounts, count_into, bytes_into, has_queue}
 use Rattle.plant_members.specs.Membership.{Membership}

@@ -10,13 +10,13 @@ use Rattle.request_table.specs.Pending.{same_peer}
 use Rattle.plant_text.specs.declared.settings.NetworkParts.{NetworkParts}
 use Rattle.plant_text.specs.Names.{same_as, parent_as}
 use Rattle.plant_text.specs.Settings.{class_of}
-use Rattle.plant_model.specs.declared.output.Lost.{Lost}
-use Rattle.plant_model.specs.Settings.{place, family}
-use Rattle.plant_model.specs.Wire.{Codec}
-use Rattle.plant_model.specs.Element.{Row, Element, stays, is_lost, lost_of, lost, upped, downed, waits_on}
-use Rattle.plant_model.specs.Element as element
-use Rattle.plant_model.specs.Taking as taking
-use Rattle.plant_model.specs.Parent as parent
+use Rattle.plant_members.specs.plant_model.declared.output.Lost.{Lost}
+use Rattle.plant_members.specs.plant_model.Settings.{place, family}
+use Rattle.plant_members.specs.plant_model.Wire.{Codec}
+use Rattle.plant_members.specs.plant_model.Element.{Row, Element, stays, is_lost, lost_of, lost, upped, downed, waits_on}
+use Rattle.plant_members.specs.plant_model.Element as element
+use Rattle.plant_members.specs.plant_model.Taking as taking
+use Rattle.plant_members.specs.plant_model.Parent as parent
 use Rattle.plant_members.specs.Membership.{Membership, given, raised, fallen, lost_at, expired, with_element, with_parent}
 use Rattle.plant_members.specs.Owed.{count_by_asker, count_at, asked_in}
 use Rattle.plant_deeds.specs.Telling.{count_lost}

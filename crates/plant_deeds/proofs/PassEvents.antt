@@ -12,17 +12,17 @@ use Rattle.plant_queues.specs.declared.sent.Sent.{Sent}
 use Rattle.plant_text.specs.declared.settings.NetworkParts.{NetworkParts}
 use Rattle.plant_text.specs.Names.{same_as}
 use Rattle.plant_text.specs.Settings.{elements_of, is_linked, lines}
-use Rattle.plant_sessions.specs.Rooms.{Grows}
-use Rattle.plant_model.specs.declared.output.Output.{Output}
-use Rattle.plant_model.specs.declared.output.Lost.{Lost}
-use Rattle.plant_model.specs.declared.outcome.Outcome.TheVariants.{Done}
-use Rattle.plant_model.specs.RealWire.{wire}
-use Rattle.plant_model.specs.State.{Access, sent_by}
-use Rattle.plant_model.specs.Deeds as deeds
-use Rattle.plant_model.specs.Deeds.{Going, element_of, with_session, input_of}
-use Rattle.plant_model.specs.Events as events
-use Rattle.plant_model.specs.Events.{Happened}
-use Rattle.plant_sessions.proofs.StepLemmas.{steps_keep_number}
+use Rattle.plant_traffic.specs.plant_sessions.Rooms.{Grows}
+use Rattle.plant_members.specs.plant_model.declared.output.Output.{Output}
+use Rattle.plant_members.specs.plant_model.declared.output.Lost.{Lost}
+use Rattle.plant_members.specs.plant_model.declared.outcome.Outcome.TheVariants.{Done}
+use Rattle.plant_members.specs.plant_model.RealWire.{wire}
+use Rattle.plant_members.specs.plant_model.State.{Access, sent_by}
+use Rattle.plant_members.specs.plant_model.Deeds as deeds
+use Rattle.plant_members.specs.plant_model.Deeds.{Going, element_of, with_session, input_of}
+use Rattle.plant_members.specs.plant_model.Events as events
+use Rattle.plant_members.specs.plant_model.Events.{Happened}
+use Rattle.plant_traffic.proofs.plant_sessions.StepLemmas.{steps_keep_number}
 use Rattle.plant_traffic.specs.Flow.{Flow, ClearsSaid, DropsFirst, set_session, change_access}
 use Rattle.plant_traffic.specs.Peers.{drop_first}
 use Rattle.plant_deeds.specs.Giving.{IsGiven, OnlyGrows, RoomToGive, own_words}

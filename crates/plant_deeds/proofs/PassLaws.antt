@@ -12,17 +12,17 @@ use Rattle.plant_queues.specs.Messages.{Spare, total}
 use Rattle.plant_text.specs.declared.settings.NetworkParts.{NetworkParts}
 use Rattle.plant_text.specs.Names.{same_as}
 use Rattle.plant_text.specs.Settings.{line, is_linked}
-use Rattle.plant_model.specs.declared.outcome.Outcome.TheVariants.{Done}
-use Rattle.plant_model.specs.declared.outcome.Refused.TheVariants.{NoSuchPeer}
-use Rattle.plant_model.specs.Names.{set_number, set_pair}
-use Rattle.plant_model.specs.Wire.{Bytes}
-use Rattle.plant_model.specs.RealWire.{wire}
-use Rattle.plant_model.specs.State.{State, Connection, Access, Pops}
-use Rattle.plant_model.specs.Deeds as deeds
-use Rattle.plant_model.specs.Deeds.{Going, element_of, on_connection, with_inbox, with_session, input_of, is_tick}
-use Rattle.plant_model.specs.Events as events
-use Rattle.plant_model.specs.Events.{is_down}
-use Rattle.plant_sessions.specs.Rooms.{Grows, Frees, queue, room_in_all}
+use Rattle.plant_members.specs.plant_model.declared.outcome.Outcome.TheVariants.{Done}
+use Rattle.plant_members.specs.plant_model.declared.outcome.Refused.TheVariants.{NoSuchPeer}
+use Rattle.plant_members.specs.plant_model.Names.{set_number, set_pair}
+use Rattle.plant_members.specs.plant_model.Wire.{Bytes}
+use Rattle.plant_members.specs.plant_model.RealWire.{wire}
+use Rattle.plant_members.specs.plant_model.State.{State, Connection, Access, Pops}
+use Rattle.plant_members.specs.plant_model.Deeds as deeds
+use Rattle.plant_members.specs.plant_model.Deeds.{Going, element_of, on_connection, with_inbox, with_session, input_of, is_tick}
+use Rattle.plant_members.specs.plant_model.Events as events
+use Rattle.plant_members.specs.plant_model.Events.{is_down}
+use Rattle.plant_traffic.specs.plant_sessions.Rooms.{Grows, Frees, queue, room_in_all}
 use Rattle.plant_traffic.specs.Flow.{Flow, ClearsSaid, DropsFirst, room_at, queue_at, out_of, set_session, change_access}
 use Rattle.plant_traffic.specs.Peers.{drop_first}
 use Rattle.plant_deeds.specs.Accounts.{queue_in}

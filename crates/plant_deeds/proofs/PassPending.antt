@@ -10,11 +10,11 @@ use Rattle.plant_text.specs.declared.settings.NetworkParts.{NetworkParts}
 use Rattle.plant_text.specs.declared.settings.ElementRow.{ElementRow}
 use Rattle.plant_text.specs.Names.{same_as, parent_as, insert_as}
 use Rattle.plant_text.specs.Settings.{class_of, elements_of}
-use Rattle.plant_model.specs.Settings.{place, family}
-use Rattle.plant_model.specs.Wire.{Codec}
-use Rattle.plant_model.specs.Element.{Element}
-use Rattle.plant_model.specs.Taking as taking
-use Rattle.plant_model.specs.Parent as parent
+use Rattle.plant_members.specs.plant_model.Settings.{place, family}
+use Rattle.plant_members.specs.plant_model.Wire.{Codec}
+use Rattle.plant_members.specs.plant_model.Element.{Element}
+use Rattle.plant_members.specs.plant_model.Taking as taking
+use Rattle.plant_members.specs.plant_model.Parent as parent
 use Rattle.plant_members.specs.Membership.{Membership, given, with_element, with_parent}
 use Rattle.plant_members.specs.Owed.{asked_in, pending_at, pending_in}
 use Rattle.plant_deeds.proofs.CountLaws.{count_all}

@@ -12,10 +12,10 @@ use Rattle.plant_queues.specs.Sents.{size_of}
 use Rattle.plant_text.specs.declared.settings.NetworkParts.{NetworkParts}
 use Rattle.plant_text.specs.Names.{same_as}
 use Rattle.plant_text.specs.Settings.{elements_of}
-use Rattle.plant_model.specs.Wire.{Bytes}
-use Rattle.plant_model.specs.State.{Connection, Access}
-use Rattle.plant_model.specs.Deeds.{element_of, on_connection, with_more}
-use Rattle.plant_sessions.specs.Rooms.{Grows, room_in_all}
+use Rattle.plant_members.specs.plant_model.Wire.{Bytes}
+use Rattle.plant_members.specs.plant_model.State.{Connection, Access}
+use Rattle.plant_members.specs.plant_model.Deeds.{element_of, on_connection, with_more}
+use Rattle.plant_traffic.specs.plant_sessions.Rooms.{Grows, room_in_all}
 use Rattle.plant_traffic.specs.Flow.{Flow, KeepsRoomAt, put_flow, room_at}
 use Rattle.plant_deeds.specs.Accounts.{Accounts, count_into, bytes_into, goes_into, queue_in, has_queue}
 use Rattle.plant_members.specs.Membership.{Membership}

@@ -6,11 +6,11 @@ use Rattle.dom_base.specs.declared.names.Peer.{Peer}
 use Rattle.plant_text.specs.declared.settings.ElementRow.{ElementRow}
 use Rattle.plant_text.specs.Names.{same_as, parent_as, insert_as}
 use Rattle.plant_text.specs.Settings.{row_of, elements_of}
-use Rattle.plant_model.specs.Element.{Element, downed, lost}
-use Rattle.plant_model.specs.Element as element
-use Rattle.plant_model.specs.Parent as parent
+use Rattle.plant_members.specs.plant_model.Element.{Element, downed, lost}
+use Rattle.plant_members.specs.plant_model.Element as element
+use Rattle.plant_members.specs.plant_model.Parent as parent
 use Rattle.plant_members.specs.Membership.{Membership, fallen, lost_at, with_element, with_parent}
-use Rattle.plant_model.specs.declared.output.Lost.{Lost}
+use Rattle.plant_members.specs.plant_model.declared.output.Lost.{Lost}
 use Rattle.plant_members.specs.Owed.{pending_at, pending_in}
 use Rattle.plant_deeds.specs.Telling.{count_lost}
 use Rattle.plant_deeds.proofs.CountLaws.{count_all}

@@ -10,22 +10,22 @@ use Rattle.plant_queues.specs.Sents.{sent_of}
 use Rattle.plant_text.specs.declared.settings.NetworkParts.{NetworkParts}
 use Rattle.plant_text.specs.Names.{same_as, parent_as}
 use Rattle.plant_text.specs.Settings.{Line}
-use Rattle.plant_model.specs.declared.output.Output.{Output}
-use Rattle.plant_model.specs.Names.{set_pair, set_number}
-use Rattle.plant_model.specs.Wire.{Bytes}
-use Rattle.plant_model.specs.RealWire.{wire}
-use Rattle.plant_model.specs.Element as element
-use Rattle.plant_model.specs.Parent as parent
-use Rattle.plant_model.specs.State.{State, Access, Connection, said}
-use Rattle.plant_model.specs.Events.{is_down}
-use Rattle.plant_model.specs.Deeds as deeds
-use Rattle.plant_model.specs.Deeds.{Going, element_of, on_connection, with_more, with_session, with_inbox, our_offer, is_due, is_out_empty}
+use Rattle.plant_members.specs.plant_model.declared.output.Output.{Output}
+use Rattle.plant_members.specs.plant_model.Names.{set_pair, set_number}
+use Rattle.plant_members.specs.plant_model.Wire.{Bytes}
+use Rattle.plant_members.specs.plant_model.RealWire.{wire}
+use Rattle.plant_members.specs.plant_model.Element as element
+use Rattle.plant_members.specs.plant_model.Parent as parent
+use Rattle.plant_members.specs.plant_model.State.{State, Access, Connection, said}
+use Rattle.plant_members.specs.plant_model.Events.{is_down}
+use Rattle.plant_members.specs.plant_model.Deeds as deeds
+use Rattle.plant_members.specs.plant_model.Deeds.{Going, element_of, on_connection, with_more, with_session, with_inbox, our_offer, is_due, is_out_empty}
 use Rattle.pcep_session.specs.declared.actions.Action.TheVariants as action
 use Rattle.pcep_session.specs.declared.actions.Own.{Own}
 use Rattle.pcep_session.specs.declared.actions.Own.TheVariants as own
 use Rattle.pcep_session.specs.declared.actions.Reason.{Reason}
 use Rattle.pcep_session.specs.declared.state.State.{State as Session}
-use Rattle.plant_sessions.specs.Ends.{own_bytes}
+use Rattle.plant_traffic.specs.plant_sessions.Ends.{own_bytes}
 use Rattle.plant_traffic.specs.Flow.{out_of}
 use Rattle.plant_deeds.specs.Acting.{size_in}
 use Rattle.plant_members.specs.Membership.{Membership, expired, fallen, lost_at, raised}

@@ -16,15 +16,15 @@ use Rattle.plant_queues.specs.Sents.{sent_of}
 use Rattle.plant_text.specs.declared.settings.NetworkParts.{NetworkParts}
 use Rattle.plant_text.specs.Names.{same_as}
 use Rattle.plant_text.specs.Settings.{elements_of}
-use Rattle.plant_model.specs.declared.output.Lost.{Lost}
-use Rattle.plant_model.specs.Names.{is_empty}
-use Rattle.plant_model.specs.RealWire.{wire}
-use Rattle.plant_model.specs.State.{State, Access, Connection}
-use Rattle.plant_model.specs.Deeds as deeds
-use Rattle.plant_model.specs.Deeds.{Going, element_of, any_fall, is_out_empty, on_connection, with_session}
-use Rattle.plant_model.specs.Events.{is_down}
-use Rattle.plant_model.specs.Wire.{Bytes}
-use Rattle.plant_sessions.specs.Ends.{own_bytes}
+use Rattle.plant_members.specs.plant_model.declared.output.Lost.{Lost}
+use Rattle.plant_members.specs.plant_model.Names.{is_empty}
+use Rattle.plant_members.specs.plant_model.RealWire.{wire}
+use Rattle.plant_members.specs.plant_model.State.{State, Access, Connection}
+use Rattle.plant_members.specs.plant_model.Deeds as deeds
+use Rattle.plant_members.specs.plant_model.Deeds.{Going, element_of, any_fall, is_out_empty, on_connection, with_session}
+use Rattle.plant_members.specs.plant_model.Events.{is_down}
+use Rattle.plant_members.specs.plant_model.Wire.{Bytes}
+use Rattle.plant_traffic.specs.plant_sessions.Ends.{own_bytes}
 use Rattle.plant_traffic.specs.Flow.{Flow, out_of}
 use Rattle.plant_deeds.specs.Accounts.{Accounts}
 use Rattle.plant_members.specs.Membership.{Membership, is_member, expired, fallen, lost_at}

@@ -17,9 +17,9 @@ use Rattle.plant_queues.specs.Messages.{Covers}
 use Rattle.plant_text.specs.declared.settings.NetworkParts.{NetworkParts}
 use Rattle.plant_text.specs.Names.{same_as, same_link, parent_as}
 use Rattle.plant_text.specs.Settings.{Line, lines, has_line, is_element, elements_of}
-use Rattle.plant_model.specs.State.{Connection}
-use Rattle.plant_model.specs.Deeds.{element_of}
-use Rattle.plant_model.specs.Events.{is_down}
+use Rattle.plant_members.specs.plant_model.State.{Connection}
+use Rattle.plant_members.specs.plant_model.Deeds.{element_of}
+use Rattle.plant_members.specs.plant_model.Events.{is_down}
 use Rattle.plant_traffic.specs.Flow.{Flow, room_at}
 use Rattle.plant_members.specs.Membership.{Membership, is_member, fallen, lost_at}
 use Rattle.plant_members.specs.Owed.{is_peer, owed, pending_in}

@@ -14,16 +14,16 @@ use Rattle.plant_queues.specs.Messages.{Spare, total}
 use Rattle.plant_queues.specs.Sents.{sent_of, size_of}
 use Rattle.plant_text.specs.declared.settings.NetworkParts.{NetworkParts}
 use Rattle.plant_text.specs.Names.{same_as, parent_as}
-use Rattle.plant_model.specs.declared.output.Lost.{Lost}
-use Rattle.plant_model.specs.Names.{set_number}
-use Rattle.plant_model.specs.RealWire.{wire}
-use Rattle.plant_model.specs.State.{State, Access, Connection}
-use Rattle.plant_model.specs.Deeds as deeds
-use Rattle.plant_model.specs.Deeds.{Going, element_of, on_connection, our_offer, with_session}
-use Rattle.plant_model.specs.Events.{is_down, fed, drained}
-use Rattle.plant_model.specs.Wire.{Bytes}
-use Rattle.plant_sessions.specs.Ends.{own_bytes, just_open, fed_while_up}
-use Rattle.plant_sessions.specs.Rooms.{KeepsRoom, Frees, queue, room_in_all}
+use Rattle.plant_members.specs.plant_model.declared.output.Lost.{Lost}
+use Rattle.plant_members.specs.plant_model.Names.{set_number}
+use Rattle.plant_members.specs.plant_model.RealWire.{wire}
+use Rattle.plant_members.specs.plant_model.State.{State, Access, Connection}
+use Rattle.plant_members.specs.plant_model.Deeds as deeds
+use Rattle.plant_members.specs.plant_model.Deeds.{Going, element_of, on_connection, our_offer, with_session}
+use Rattle.plant_members.specs.plant_model.Events.{is_down, fed, drained}
+use Rattle.plant_members.specs.plant_model.Wire.{Bytes}
+use Rattle.plant_traffic.specs.plant_sessions.Ends.{own_bytes, just_open, fed_while_up}
+use Rattle.plant_traffic.specs.plant_sessions.Rooms.{KeepsRoom, Frees, queue, room_in_all}
 use Rattle.plant_traffic.specs.Flow.{Flow, GrowsAt, KeepsRoomAt, change_access, just_opened, no_room, out_of, queue_at, room_at, set_access, set_room, shut}
 use Rattle.plant_deeds.specs.Accounts.{Accounts, count_into, bytes_into, queue_in, has_queue}
 use Rattle.plant_members.specs.Membership.{Membership, is_member, fallen}

@@ -12,11 +12,11 @@ use Rattle.plant_queues.specs.Sents.{size_of, sent_of}
 use Rattle.plant_text.specs.declared.settings.NetworkParts.{NetworkParts}
 use Rattle.plant_text.specs.Names.{same_as, parent_as}
 use Rattle.plant_text.specs.Settings.{elements_of}
-use Rattle.plant_model.specs.Element.{upped}
-use Rattle.plant_model.specs.Parent as parent
-use Rattle.plant_model.specs.Deeds.{element_of, our_offer}
-use Rattle.plant_model.specs.Wire.{Bytes}
-use Rattle.plant_sessions.specs.Ends.{own_bytes}
+use Rattle.plant_members.specs.plant_model.Element.{upped}
+use Rattle.plant_members.specs.plant_model.Parent as parent
+use Rattle.plant_members.specs.plant_model.Deeds.{element_of, our_offer}
+use Rattle.plant_members.specs.plant_model.Wire.{Bytes}
+use Rattle.plant_traffic.specs.plant_sessions.Ends.{own_bytes}
 use Rattle.plant_traffic.specs.Flow.{Flow, KeepsRoomAt, queue_at}
 use Rattle.plant_deeds.specs.Accounts.{Accounts, goes_into, count_into, bytes_into}
 use Rattle.plant_deeds.specs.Acting.{size_in}

@@ -11,10 +11,10 @@ use Rattle.plant_queues.specs.Sents.{size_of, sent_of}
 use Rattle.plant_text.specs.declared.settings.NetworkParts.{NetworkParts}
 use Rattle.plant_text.specs.Names.{same_as}
 use Rattle.plant_text.specs.Settings.{elements_of}
-use Rattle.plant_model.specs.declared.output.Lost.{Lost}
-use Rattle.plant_model.specs.State.{Connection}
-use Rattle.plant_model.specs.Deeds.{element_of}
-use Rattle.plant_model.specs.Wire.{Bytes}
+use Rattle.plant_members.specs.plant_model.declared.output.Lost.{Lost}
+use Rattle.plant_members.specs.plant_model.State.{Connection}
+use Rattle.plant_members.specs.plant_model.Deeds.{element_of}
+use Rattle.plant_members.specs.plant_model.Wire.{Bytes}
 use Rattle.plant_traffic.specs.Flow.{Flow, ClearsSaid, queue_at, KeepsRoomAt}
 use Rattle.plant_deeds.specs.Accounts.{Accounts, goes_into, count_into, bytes_into, has_queue}
 use Rattle.plant_members.specs.Membership.{Membership, fallen, lost_at}

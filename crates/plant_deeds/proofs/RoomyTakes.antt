@@ -18,13 +18,13 @@ use Rattle.plant_queues.specs.Sents.{sent_of}
 use Rattle.plant_text.specs.declared.settings.NetworkParts.{NetworkParts}
 use Rattle.plant_text.specs.Names.{same_as}
 use Rattle.plant_text.specs.Settings.{lines, has_line, elements_of}
-use Rattle.plant_model.specs.declared.output.Lost.{Lost}
-use Rattle.plant_model.specs.RealWire.{wire}
-use Rattle.plant_model.specs.State.{State, Connection}
-use Rattle.plant_model.specs.Deeds as deeds
-use Rattle.plant_model.specs.Deeds.{Going, element_of, any_fall, is_tick, with_session, with_inbox}
-use Rattle.plant_model.specs.Events.{is_down}
-use Rattle.plant_sessions.specs.Ends.{own_bytes}
+use Rattle.plant_members.specs.plant_model.declared.output.Lost.{Lost}
+use Rattle.plant_members.specs.plant_model.RealWire.{wire}
+use Rattle.plant_members.specs.plant_model.State.{State, Connection}
+use Rattle.plant_members.specs.plant_model.Deeds as deeds
+use Rattle.plant_members.specs.plant_model.Deeds.{Going, element_of, any_fall, is_tick, with_session, with_inbox}
+use Rattle.plant_members.specs.plant_model.Events.{is_down}
+use Rattle.plant_traffic.specs.plant_sessions.Ends.{own_bytes}
 use Rattle.plant_traffic.specs.Flow.{Flow, KeepsRoomAt, room_at}
 use Rattle.plant_deeds.specs.Accounts.{Accounts}
 use Rattle.plant_deeds.specs.Acting.{IsOwnTurn, Fits, FitsInput, FitsLink}

@@ -15,8 +15,8 @@ use Rattle.pcep_session.specs.declared.state.Phase.TheVariants.{Idle, OpenWait, 
 use Rattle.pcep_session.specs.declared.state.State.{State}
 use Rattle.pcep_session.specs.Reports.{first_error_of, first_opening_of}
 use Rattle.pcep_session.specs.Table.{Turn, turn_in, turn_of, open_wait, refused_terms, refused, keep_wait, in_up, up_tick, waits, heard, at_tick, has_passed, is_recent}
-use Rattle.plant_model.specs.Events.{is_down}
-use Rattle.plant_sessions.specs.Ends.{own_bytes}
+use Rattle.plant_members.specs.plant_model.Events.{is_down}
+use Rattle.plant_traffic.specs.plant_sessions.Ends.{own_bytes}
 use Rattle.plant_deeds.specs.Turns.{IsPass}
 
 -- a message of a session's own, and one that is an error or a Close

@@ -11,17 +11,17 @@ use Rattle.pcep_session.specs.declared.session.Input.{Input}
 use Rattle.pcep_session.specs.declared.state.State.{State as Session}
 use Rattle.pcep_session.specs.Table.{Turn, turn_of}
 use Rattle.plant_text.specs.declared.settings.NetworkParts.{NetworkParts}
-use Rattle.plant_sessions.specs.declared.access.Access.{Access as Stored}
-use Rattle.plant_model.specs.declared.outcome.Outcome.TheVariants.{Done}
-use Rattle.plant_model.specs.declared.output.Lost.{Lost}
-use Rattle.plant_model.specs.Names.{set_number}
-use Rattle.plant_model.specs.RealWire.{wire}
-use Rattle.plant_model.specs.State.{State, Access, Connection}
-use Rattle.plant_model.specs.Wire.{Bytes}
-use Rattle.plant_model.specs.Deeds as deeds
-use Rattle.plant_model.specs.Deeds.{Going, element_of, on_connection, with_inbox, with_session, input_of, read_as, is_tick}
-use Rattle.plant_model.specs.Events as events
-use Rattle.plant_model.specs.Events.{Happened}
+use Rattle.plant_traffic.specs.plant_sessions.declared.access.Access.{Access as Stored}
+use Rattle.plant_members.specs.plant_model.declared.outcome.Outcome.TheVariants.{Done}
+use Rattle.plant_members.specs.plant_model.declared.output.Lost.{Lost}
+use Rattle.plant_members.specs.plant_model.Names.{set_number}
+use Rattle.plant_members.specs.plant_model.RealWire.{wire}
+use Rattle.plant_members.specs.plant_model.State.{State, Access, Connection}
+use Rattle.plant_members.specs.plant_model.Wire.{Bytes}
+use Rattle.plant_members.specs.plant_model.Deeds as deeds
+use Rattle.plant_members.specs.plant_model.Deeds.{Going, element_of, on_connection, with_inbox, with_session, input_of, read_as, is_tick}
+use Rattle.plant_members.specs.plant_model.Events as events
+use Rattle.plant_members.specs.plant_model.Events.{Happened}
 use Rattle.plant_traffic.specs.Carried.{Carried, flow_of}
 use Rattle.plant_traffic.specs.Flow.{Flow, ClearsSaid, change_access, inbox_of}
 use Rattle.plant_traffic.specs.Peers.{access_or, drop_first}

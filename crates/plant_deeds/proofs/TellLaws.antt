@@ -11,16 +11,16 @@ use Rattle.plant_queues.specs.Messages.{Covers}
 use Rattle.plant_queues.specs.Sents.{sent_of}
 use Rattle.plant_text.specs.declared.settings.NetworkParts.{NetworkParts}
 use Rattle.plant_text.specs.Names.{same_as, parent_as}
-use Rattle.plant_model.specs.declared.output.Lost.{Lost}
-use Rattle.plant_model.specs.Names.{set_as}
-use Rattle.plant_model.specs.Wire.{Bytes}
-use Rattle.plant_model.specs.RealWire.{wire}
-use Rattle.plant_model.specs.State.{State, said, sent_by}
-use Rattle.plant_model.specs.Deeds as deeds
-use Rattle.plant_model.specs.Deeds.{Going}
-use Rattle.plant_model.specs.Element.{lost_output, downed}
-use Rattle.plant_model.specs.Element as element
-use Rattle.plant_model.specs.Parent as parent
+use Rattle.plant_members.specs.plant_model.declared.output.Lost.{Lost}
+use Rattle.plant_members.specs.plant_model.Names.{set_as}
+use Rattle.plant_members.specs.plant_model.Wire.{Bytes}
+use Rattle.plant_members.specs.plant_model.RealWire.{wire}
+use Rattle.plant_members.specs.plant_model.State.{State, said, sent_by}
+use Rattle.plant_members.specs.plant_model.Deeds as deeds
+use Rattle.plant_members.specs.plant_model.Deeds.{Going}
+use Rattle.plant_members.specs.plant_model.Element.{lost_output, downed}
+use Rattle.plant_members.specs.plant_model.Element as element
+use Rattle.plant_members.specs.plant_model.Parent as parent
 use Rattle.plant_traffic.specs.Flow.{Flow, Room, Puts, put_flow, room_at}
 use Rattle.plant_deeds.specs.Accounts.{Accounts, goes_into}
 use Rattle.plant_members.specs.Membership.{Membership, HandsOut, fallen, lost_at}

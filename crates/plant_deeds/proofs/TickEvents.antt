@@ -4,11 +4,11 @@ use Rattle.dom_base.specs.declared.names.Tick.{Tick}
 use Rattle.pcep_subobjects.specs.declared.hop.Hop.{Hop}
 use Rattle.plant_text.specs.declared.settings.NetworkParts.{NetworkParts}
 use Rattle.plant_text.specs.Settings.{lines}
-use Rattle.plant_model.specs.declared.outcome.Outcome.TheVariants.{Done}
-use Rattle.plant_model.specs.RealWire.{wire}
-use Rattle.plant_model.specs.Deeds as deeds
-use Rattle.plant_model.specs.Deeds.{Going}
-use Rattle.plant_model.specs.Events as events
+use Rattle.plant_members.specs.plant_model.declared.outcome.Outcome.TheVariants.{Done}
+use Rattle.plant_members.specs.plant_model.RealWire.{wire}
+use Rattle.plant_members.specs.plant_model.Deeds as deeds
+use Rattle.plant_members.specs.plant_model.Deeds.{Going}
+use Rattle.plant_members.specs.plant_model.Events as events
 use Rattle.plant_traffic.specs.Flow.{Flow, ClearsSaid}
 use Rattle.plant_deeds.specs.Happening.{IsDone}
 use Rattle.plant_members.specs.Membership.{KeysBefore, Membership}

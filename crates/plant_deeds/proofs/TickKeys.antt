@@ -14,13 +14,13 @@ use Rattle.plant_text.specs.declared.settings.NetworkParts.{NetworkParts}
 use Rattle.plant_text.specs.declared.settings.PeerRow.{PeerRow}
 use Rattle.plant_text.specs.Names.{same_as, parent_as}
 use Rattle.plant_text.specs.Settings.{Line, is_element}
-use Rattle.plant_model.specs.Names.{is_empty}
-use Rattle.plant_model.specs.RealWire.{wire}
-use Rattle.plant_model.specs.State.{State, Connection}
-use Rattle.plant_model.specs.Element.{downed}
-use Rattle.plant_model.specs.Parent as parent
-use Rattle.plant_model.specs.Deeds as deeds
-use Rattle.plant_model.specs.Deeds.{Going, element_of, any_fall, is_due, is_out_empty, with_session, with_inbox}
+use Rattle.plant_members.specs.plant_model.Names.{is_empty}
+use Rattle.plant_members.specs.plant_model.RealWire.{wire}
+use Rattle.plant_members.specs.plant_model.State.{State, Connection}
+use Rattle.plant_members.specs.plant_model.Element.{downed}
+use Rattle.plant_members.specs.plant_model.Parent as parent
+use Rattle.plant_members.specs.plant_model.Deeds as deeds
+use Rattle.plant_members.specs.plant_model.Deeds.{Going, element_of, any_fall, is_due, is_out_empty, with_session, with_inbox}
 use Rattle.plant_traffic.specs.Flow.{Flow}
 use Rattle.plant_members.specs.Membership.{KeysBefore, Membership, fallen, with_element, with_parent}
 use Rattle.plant_deeds.specs.Standing.{IsAt}

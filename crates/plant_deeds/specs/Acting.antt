@@ -10,11 +10,11 @@ use Rattle.pcep_session.specs.declared.state.State.{State as Session}
 use Rattle.pcep_session.specs.Table.{turn_of}
 use Rattle.request_table.specs.Pending.{same_peer}
 use Rattle.plant_queues.specs.Messages.{Covers, total}
-use Rattle.plant_model.specs.declared.output.Lost.{Lost}
-use Rattle.plant_model.specs.Deeds.{any_fall}
-use Rattle.plant_model.specs.Wire.{Bytes}
-use Rattle.plant_sessions.specs.declared.TheConstants.{ANSWER_LENGTH}
-use Rattle.plant_sessions.specs.Ends.{said_in, own_bytes}
+use Rattle.plant_members.specs.plant_model.declared.output.Lost.{Lost}
+use Rattle.plant_members.specs.plant_model.Deeds.{any_fall}
+use Rattle.plant_members.specs.plant_model.Wire.{Bytes}
+use Rattle.plant_traffic.specs.plant_sessions.declared.TheConstants.{ANSWER_LENGTH}
+use Rattle.plant_traffic.specs.plant_sessions.Ends.{said_in, own_bytes}
 use Rattle.plant_traffic.specs.Flow.{Flow, room_at}
 use Rattle.plant_members.specs.Membership.{Membership, fallen, lost_at}
 use Rattle.plant_members.specs.Owed.{is_peer}

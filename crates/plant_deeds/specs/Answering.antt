@@ -6,10 +6,10 @@ use Rattle.pcep_subobjects.specs.declared.hop.Hop.{Hop}
 use Rattle.pcep_messages.specs.declared.message.Message.{Message}
 use Rattle.plant_text.specs.declared.settings.NetworkParts.{NetworkParts}
 use Rattle.plant_text.specs.Settings.{elements_of}
-use Rattle.plant_model.specs.declared.output.Output.{Output}
-use Rattle.plant_model.specs.Deeds as deeds
-use Rattle.plant_model.specs.RealWire.{wire}
-use Rattle.plant_model.specs.State.{sent_by}
+use Rattle.plant_members.specs.plant_model.declared.output.Output.{Output}
+use Rattle.plant_members.specs.plant_model.Deeds as deeds
+use Rattle.plant_members.specs.plant_model.RealWire.{wire}
+use Rattle.plant_members.specs.plant_model.State.{sent_by}
 use Rattle.plant_traffic.specs.Flow.{Flow}
 use Rattle.plant_members.specs.Membership.{Membership}
 use Rattle.plant_members.specs.Owed.{owed, pending_in}

@@ -3,9 +3,9 @@ use Rattle.std.specs.Prelude.{ℕ, ◌+◌, ◌*◌, List, length}
 use Rattle.dom_base.specs.declared.names.As.{As}
 use Rattle.dom_base.specs.declared.names.Peer.TheVariants.{Outside, Inner}
 use Rattle.plant_queues.specs.Messages.{Covers}
-use Rattle.plant_model.specs.declared.output.Lost.{Lost}
-use Rattle.plant_sessions.specs.declared.TheConstants.{ANSWER_LENGTH, OWN_LENGTH}
-use Rattle.plant_sessions.specs.Rooms.{room_in_all}
+use Rattle.plant_members.specs.plant_model.declared.output.Lost.{Lost}
+use Rattle.plant_traffic.specs.plant_sessions.declared.TheConstants.{ANSWER_LENGTH, OWN_LENGTH}
+use Rattle.plant_traffic.specs.plant_sessions.Rooms.{room_in_all}
 use Rattle.plant_traffic.specs.Flow.{Flow}
 use Rattle.plant_deeds.specs.Accounts.{queue_in}
 use Rattle.plant_members.specs.Owed.{is_peer}

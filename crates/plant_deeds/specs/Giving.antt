@@ -11,11 +11,11 @@ use Rattle.plant_queues.specs.Sents.{size_of}
 use Rattle.plant_text.specs.declared.settings.NetworkParts.{NetworkParts}
 use Rattle.plant_text.specs.Names.{same_as}
 use Rattle.plant_text.specs.Settings.{elements_of}
-use Rattle.plant_model.specs.Deeds.{element_of}
-use Rattle.plant_model.specs.RealWire.{wire}
-use Rattle.plant_model.specs.State.{sent_by}
-use Rattle.plant_sessions.specs.declared.TheConstants.{ANSWER_LENGTH, OWN_LENGTH}
-use Rattle.plant_sessions.specs.Rooms.{Grows}
+use Rattle.plant_members.specs.plant_model.Deeds.{element_of}
+use Rattle.plant_members.specs.plant_model.RealWire.{wire}
+use Rattle.plant_members.specs.plant_model.State.{sent_by}
+use Rattle.plant_traffic.specs.plant_sessions.declared.TheConstants.{ANSWER_LENGTH, OWN_LENGTH}
+use Rattle.plant_traffic.specs.plant_sessions.Rooms.{Grows}
 use Rattle.plant_traffic.specs.Flow.{Flow, SameFlow, KeepsRoomAt, put_flow, room_at}
 use Rattle.plant_deeds.specs.Accounts.{Accounts, count_into, bytes_into}
 use Rattle.plant_members.specs.Membership.{Membership, given}

@@ -1,9 +1,9 @@
 -- An event is what the model has of it.
 use Rattle.std.specs.Prelude.{◌≡◌, ◌⊎◌, OnOk, Err}
-use Rattle.plant_model.specs.declared.outcome.Refused.TheVariants.{NoMemory}
-use Rattle.plant_model.specs.Events.{Answered, Happened}
-use Rattle.plant_model.specs.RealWire.{wire}
-use Rattle.plant_model.specs.State.{said}
+use Rattle.plant_members.specs.plant_model.declared.outcome.Refused.TheVariants.{NoMemory}
+use Rattle.plant_members.specs.plant_model.Events.{Answered, Happened}
+use Rattle.plant_members.specs.plant_model.RealWire.{wire}
+use Rattle.plant_members.specs.plant_model.State.{said}
 use Rattle.plant_traffic.specs.Flow.{Flow}
 use Rattle.plant_members.specs.Membership.{Membership}
 use Rattle.plant_deeds.specs.Standing.{state_of}

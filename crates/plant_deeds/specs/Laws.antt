@@ -6,8 +6,8 @@ use Rattle.pcep_subobjects.specs.declared.hop.Hop.{Hop}
 use Rattle.pcep_messages.specs.declared.message.Message.{Message}
 use Rattle.plant_text.specs.declared.settings.NetworkParts.{NetworkParts}
 use Rattle.plant_text.specs.Names.{same_as}
-use Rattle.plant_model.specs.Wire.{Codec}
-use Rattle.plant_model.specs.Plant.{Pin, Segment}
+use Rattle.plant_members.specs.plant_model.Wire.{Codec}
+use Rattle.plant_members.specs.plant_model.Plant.{Pin, Segment}
 use Rattle.plant_members.specs.Membership.{Membership, given}
 use Rattle.plant_members.specs.Owed.{count_at, asked_in}
 

@@ -14,3 +14,8 @@ pub mod Roomy
 pub mod Happening
 pub mod Using
 pub mod Answering
+-- handed on from below
+pub use Rattle.plant_members.specs as plant_members
+pub use Rattle.plant_members.specs.plant_model
+pub use Rattle.plant_traffic.specs.plant_sessions
+pub use Rattle.plant_traffic.specs as plant_traffic

@@ -7,10 +7,10 @@ use Rattle.pcep_session.specs.declared.state.State.{State as Session}
 use Rattle.pcep_session.specs.Table.{turn_of}
 use Rattle.plant_text.specs.declared.settings.NetworkParts.{NetworkParts}
 use Rattle.plant_text.specs.Settings.{lines}
-use Rattle.plant_model.specs.Deeds.{input_of}
-use Rattle.plant_model.specs.RealWire.{wire}
-use Rattle.plant_model.specs.State.{Connection}
-use Rattle.plant_model.specs.Wire.{Bytes}
+use Rattle.plant_members.specs.plant_model.Deeds.{input_of}
+use Rattle.plant_members.specs.plant_model.RealWire.{wire}
+use Rattle.plant_members.specs.plant_model.State.{Connection}
+use Rattle.plant_members.specs.plant_model.Wire.{Bytes}
 use Rattle.plant_traffic.specs.Flow.{Flow}
 
 -- the session of an outside peer, at the first item of its inbox

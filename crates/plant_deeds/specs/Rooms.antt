@@ -8,10 +8,10 @@ use Rattle.plant_queues.specs.Sents.{size_of}
 use Rattle.plant_text.specs.declared.settings.NetworkParts.{NetworkParts}
 use Rattle.plant_text.specs.Names.{same_as}
 use Rattle.plant_text.specs.Settings.{has_line, lines, elements_of}
-use Rattle.plant_model.specs.State.{Connection}
-use Rattle.plant_model.specs.Deeds.{element_of}
-use Rattle.plant_model.specs.Events.{is_down}
-use Rattle.plant_sessions.specs.declared.TheConstants.{ANSWER_LENGTH, OWN_LENGTH}
+use Rattle.plant_members.specs.plant_model.State.{Connection}
+use Rattle.plant_members.specs.plant_model.Deeds.{element_of}
+use Rattle.plant_members.specs.plant_model.Events.{is_down}
+use Rattle.plant_traffic.specs.plant_sessions.declared.TheConstants.{ANSWER_LENGTH, OWN_LENGTH}
 use Rattle.plant_traffic.specs.Flow.{Flow, KeepsRoomAt}
 use Rattle.plant_members.specs.Membership.{Membership}
 use Rattle.plant_members.specs.Owed.{owed, pending_in}

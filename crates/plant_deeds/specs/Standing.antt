@@ -2,10 +2,10 @@
 use Rattle.std.specs.Prelude.{◌≡◌, List, []}
 use Rattle.dom_base.specs.declared.names.As.{As}
 use Rattle.plant_text.specs.declared.settings.NetworkParts.{NetworkParts}
-use Rattle.plant_model.specs.declared.output.Lost.{Lost}
-use Rattle.plant_model.specs.RealWire.{wire}
-use Rattle.plant_model.specs.State.{State, said}
-use Rattle.plant_model.specs.Deeds.{Going}
+use Rattle.plant_members.specs.plant_model.declared.output.Lost.{Lost}
+use Rattle.plant_members.specs.plant_model.RealWire.{wire}
+use Rattle.plant_members.specs.plant_model.State.{State, said}
+use Rattle.plant_members.specs.plant_model.Deeds.{Going}
 use Rattle.plant_traffic.specs.Flow.{Flow}
 use Rattle.plant_deeds.specs.Accounts.{Accounts}
 use Rattle.plant_members.specs.Membership.{Membership}

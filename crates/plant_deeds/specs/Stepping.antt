@@ -4,10 +4,10 @@ use Rattle.dom_base.specs.declared.names.As.{As}
 use Rattle.pcep_session.specs.declared.actions.Action.{Action}
 use Rattle.pcep_session.specs.declared.state.State.{State as Session}
 use Rattle.pcep_session.specs.Table.{turn_of}
-use Rattle.plant_model.specs.Deeds.{input_of}
-use Rattle.plant_model.specs.RealWire.{wire}
-use Rattle.plant_model.specs.State.{Connection}
-use Rattle.plant_model.specs.Wire.{Bytes}
+use Rattle.plant_members.specs.plant_model.Deeds.{input_of}
+use Rattle.plant_members.specs.plant_model.RealWire.{wire}
+use Rattle.plant_members.specs.plant_model.State.{Connection}
+use Rattle.plant_members.specs.plant_model.Wire.{Bytes}
 use Rattle.plant_traffic.specs.Flow.{Flow}
 
 -- the session of an outside peer, at the first item of its inbox

@@ -4,10 +4,10 @@ use Rattle.dom_base.specs.declared.names.As.{As}
 use Rattle.dom_base.specs.declared.names.Peer.{Peer}
 use Rattle.pcep_messages.specs.Spelling.{message_text}
 use Rattle.plant_queues.specs.Messages.{Covers}
-use Rattle.plant_model.specs.declared.output.Lost.{Lost}
-use Rattle.plant_model.specs.Element.{lost_output}
-use Rattle.plant_model.specs.Wire.{Bytes}
-use Rattle.plant_sessions.specs.declared.TheConstants.{ANSWER_LENGTH}
+use Rattle.plant_members.specs.plant_model.declared.output.Lost.{Lost}
+use Rattle.plant_members.specs.plant_model.Element.{lost_output}
+use Rattle.plant_members.specs.plant_model.Wire.{Bytes}
+use Rattle.plant_traffic.specs.plant_sessions.declared.TheConstants.{ANSWER_LENGTH}
 use Rattle.plant_traffic.specs.Flow.{Flow, SameFlow, put_flow, room_at}
 use Rattle.plant_deeds.specs.Accounts.{Accounts}
 use Rattle.plant_members.specs.Owed.{is_peer}

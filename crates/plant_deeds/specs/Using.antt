@@ -1,7 +1,7 @@
 -- Deeds that use up words of sessions' own, of the room that is kept in an event.
 use Rattle.std.specs.Prelude.{ℕ, ◌+◌}
 use Rattle.plant_text.specs.declared.settings.NetworkParts.{NetworkParts}
-use Rattle.plant_model.specs.Deeds.{Going}
+use Rattle.plant_members.specs.plant_model.Deeds.{Going}
 use Rattle.plant_traffic.specs.Flow.{Flow}
 use Rattle.plant_members.specs.Membership.{Membership}
 use Rattle.plant_deeds.specs.Roomy.{KeepsOn}

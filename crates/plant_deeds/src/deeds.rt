@@ -2,10 +2,10 @@
 ghost use Rattle.std.specs.Prelude.{◌≡◌, ◌≤◌, true, [], length};
 ghost use Rattle.plant_queues.specs.Messages.{Covers};
 ghost use Rattle.dom_base.specs.declared.names.As.{As};
-ghost use Rattle.plant_model.specs.Names.{set_as};
-ghost use Rattle.plant_model.specs.RealWire.{wire};
-ghost use Rattle.plant_model.specs.Deeds as deeds;
-ghost use Rattle.plant_sessions.specs.Ends.{own_bytes};
+ghost use Rattle.plant_members.specs.plant_model.Names.{set_as};
+ghost use Rattle.plant_members.specs.plant_model.RealWire.{wire};
+ghost use Rattle.plant_members.specs.plant_model.Deeds as deeds;
+ghost use Rattle.plant_traffic.specs.plant_sessions.Ends.{own_bytes};
 ghost use Rattle.plant_traffic.specs.Flow.{Puts, room_at};
 ghost use Rattle.plant_traffic.specs.Carried.{flow_of};
 ghost use Rattle.plant_members.specs.Membership.{is_member, fallen, lost_at};
@@ -15,8 +15,8 @@ ghost use Rattle.plant_deeds.specs.Telling.{RoomToTell, Tells};
 use dom_base::{As, Peer};
 use pcep_session::Own;
 use plant_members::Members;
-use plant_sessions::{lost_text, own_text};
 use plant_traffic::Traffic;
+use plant_traffic::sessions::{lost_text, own_text};
 
 /// A session says a message of its own, for which there is room.
 pub(crate) fn say(traffic: &mut Traffic, at: As, to: Peer, own: Own)

@@ -3,9 +3,9 @@ ghost use Rattle.std.specs.Prelude.{◌≡◌, true, false, [], OnErr};
 ghost use Rattle.dom_base.specs.declared.names.As.{As};
 ghost use Rattle.plant_text.specs.Names.{same_as};
 ghost use Rattle.plant_text.specs.Settings.{has_line, line, lines};
-ghost use Rattle.plant_model.specs.RealWire.{wire};
-ghost use Rattle.plant_model.specs.Deeds as deeds;
-ghost use Rattle.plant_model.specs.Events as events;
+ghost use Rattle.plant_members.specs.plant_model.RealWire.{wire};
+ghost use Rattle.plant_members.specs.plant_model.Deeds as deeds;
+ghost use Rattle.plant_members.specs.plant_model.Events as events;
 ghost use Rattle.plant_traffic.specs.Carried.{flow_of};
 ghost use Rattle.plant_deeds.specs.Giving.{OnlyGrows};
 ghost use Rattle.plant_deeds.specs.Happening.{IsDone};
@@ -18,7 +18,7 @@ use crate::deeds::fall;
 use crate::links::break_line;
 use dom_base::{As, Peer, Tick};
 use plant_members::Members;
-use plant_model::{Outcome, Refused};
+use plant_members::model::{Outcome, Refused};
 use plant_traffic::Traffic;
 
 /// The lower end of a link, and the upper.

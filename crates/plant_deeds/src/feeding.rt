@@ -1,7 +1,7 @@
 //! Bytes that an outside peer feeds, and bytes that are handed out to it.
 ghost use Rattle.std.specs.Prelude.{OnErr};
-ghost use Rattle.plant_model.specs.RealWire.{wire};
-ghost use Rattle.plant_model.specs.Events as events;
+ghost use Rattle.plant_members.specs.plant_model.RealWire.{wire};
+ghost use Rattle.plant_members.specs.plant_model.Events as events;
 ghost use Rattle.plant_traffic.specs.Carried.{flow_of};
 ghost use Rattle.plant_deeds.specs.Giving.{OnlyGrows};
 ghost use Rattle.plant_deeds.specs.Happening.{IsDoneOrLacks};
@@ -10,7 +10,7 @@ ghost use Rattle.plant_deeds.specs.Rooms.{IsRoomy};
 ghost use Rattle.plant_deeds.specs.Standing.{state_of};
 
 use plant_members::Members;
-use plant_model::{Outcome, Refused};
+use plant_members::model::{Outcome, Refused};
 use plant_traffic::Traffic;
 
 /// An outside peer feeds bytes. A refusal changes nothing but room.

@@ -7,9 +7,9 @@ ghost use Rattle.pcep_messages.specs.declared.message.Message.{Message};
 ghost use Rattle.dom_base.specs.declared.names.As.{As};
 ghost use Rattle.dom_base.specs.declared.names.Peer.{Peer};
 ghost use Rattle.plant_text.specs.Settings.{elements_of};
-ghost use Rattle.plant_model.specs.RealWire.{wire};
-ghost use Rattle.plant_model.specs.State.{sent_by};
-ghost use Rattle.plant_model.specs.Deeds as deeds;
+ghost use Rattle.plant_members.specs.plant_model.RealWire.{wire};
+ghost use Rattle.plant_members.specs.plant_model.State.{sent_by};
+ghost use Rattle.plant_members.specs.plant_model.Deeds as deeds;
 ghost use Rattle.plant_traffic.specs.Carried.{flow_of};
 ghost use Rattle.plant_traffic.specs.Flow.{GrowsSaid, KeepsRoomAt};
 ghost use Rattle.plant_members.specs.Membership.{is_member};
@@ -20,10 +20,10 @@ ghost use Rattle.plant_deeds.specs.Giving.{CoversWords, IsGiven, KeepsForLetters
 use dom_base::{As, NoMemory, Peer};
 use pcep_messages::{Message, write_message};
 use plant_members::Members;
-use plant_model::{Output, Outputs};
+use plant_members::model::{Output, Outputs};
 use plant_queues::Said;
-use plant_sessions::{ANSWER_LENGTH, OWN_LENGTH};
 use plant_traffic::Traffic;
+use plant_traffic::sessions::{ANSWER_LENGTH, OWN_LENGTH};
 use std::alloc::Global;
 
 /// What a message makes of a member, and what it sends, in its bytes.

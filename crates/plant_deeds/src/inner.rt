@@ -8,10 +8,10 @@ ghost use Rattle.pcep_session.specs.Table.{turn_of};
 ghost use Rattle.plant_queues.specs.Messages.{Covers};
 ghost use Rattle.plant_text.specs.Names.{same_as};
 ghost use Rattle.plant_text.specs.Settings.{has_line};
-ghost use Rattle.plant_layout.specs.Lines.{line_of};
-ghost use Rattle.plant_model.specs.RealWire.{wire};
-ghost use Rattle.plant_model.specs.Deeds as deeds;
-ghost use Rattle.plant_sessions.specs.Ends.{own_bytes};
+ghost use Rattle.plant_traffic.specs.plant_layout.Lines.{line_of};
+ghost use Rattle.plant_members.specs.plant_model.RealWire.{wire};
+ghost use Rattle.plant_members.specs.plant_model.Deeds as deeds;
+ghost use Rattle.plant_traffic.specs.plant_sessions.Ends.{own_bytes};
 ghost use Rattle.plant_traffic.specs.Flow.{room_at};
 ghost use Rattle.plant_traffic.specs.Carried.{flow_of};
 ghost use Rattle.plant_members.specs.Membership.{is_member, lost_at};
@@ -23,8 +23,8 @@ use crate::links::break_line;
 use dom_base::{As, Peer};
 use pcep_session::{Action, Actions, Input, Own};
 use plant_members::Members;
-use plant_sessions::{any_fall, steps_keep_number};
 use plant_traffic::Traffic;
+use plant_traffic::sessions::{any_fall, steps_keep_number};
 
 /// A message of the session's own is said, for which there is room, or left out at a tick.
 pub(crate) fn inner_say<M: Members>(

@@ -1,8 +1,8 @@
 //! The connection of an outside peer is opened.
 ghost use Rattle.std.specs.Prelude.{◌≡◌, [], OnErr};
 ghost use Rattle.dom_base.specs.declared.names.As.{As};
-ghost use Rattle.plant_model.specs.RealWire.{wire};
-ghost use Rattle.plant_model.specs.Events as events;
+ghost use Rattle.plant_members.specs.plant_model.RealWire.{wire};
+ghost use Rattle.plant_members.specs.plant_model.Events as events;
 ghost use Rattle.plant_traffic.specs.Carried.{flow_of};
 ghost use Rattle.plant_deeds.specs.Giving.{OnlyGrows};
 ghost use Rattle.plant_deeds.specs.Happening.{IsDoneOrLacks};
@@ -14,7 +14,7 @@ ghost use Rattle.plant_deeds.specs.Standing.{state_of};
 use crate::outside::outside_input;
 use pcep_session::Input;
 use plant_members::Members;
-use plant_model::{Outcome, Refused};
+use plant_members::model::{Outcome, Refused};
 use plant_traffic::Traffic;
 
 /// The connection of an outside peer is opened for this holder, and its session begins. An `Err` changes

@@ -4,9 +4,9 @@ ghost use Rattle.dom_base.specs.declared.names.As.{As};
 ghost use Rattle.dom_base.specs.declared.names.Peer.{Peer};
 ghost use Rattle.dom_base.specs.declared.names.Peer.TheVariants.{Inner};
 ghost use Rattle.plant_text.specs.Settings.{elements_of, has_line, lines};
-ghost use Rattle.plant_model.specs.RealWire.{wire};
-ghost use Rattle.plant_model.specs.Deeds as deeds;
-ghost use Rattle.plant_model.specs.Events as events;
+ghost use Rattle.plant_members.specs.plant_model.RealWire.{wire};
+ghost use Rattle.plant_members.specs.plant_model.Deeds as deeds;
+ghost use Rattle.plant_members.specs.plant_model.Events as events;
 ghost use Rattle.plant_traffic.specs.Carried.{flow_of};
 ghost use Rattle.plant_traffic.specs.Flow.{IsBare, KeepsRoomAt};
 ghost use Rattle.plant_members.specs.Owed.{owed, pending_in};
@@ -18,8 +18,8 @@ ghost use Rattle.plant_deeds.specs.Standing.{Goes, here, state_of};
 use crate::giving::{NOTHING, reserve_words};
 use dom_base::{As, NoMemory, Peer};
 use plant_members::Members;
-use plant_sessions::OWN_LENGTH;
 use plant_traffic::Traffic;
+use plant_traffic::sessions::OWN_LENGTH;
 
 // An end of a link says its Open.
 fn begin_one<M: Members>(

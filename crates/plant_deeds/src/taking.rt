@@ -9,11 +9,11 @@ ghost use Rattle.pcep_session.specs.Listed.{listed};
 ghost use Rattle.pcep_session.specs.Table.{turn_of};
 ghost use Rattle.plant_text.specs.Names.{same_as};
 ghost use Rattle.plant_text.specs.Settings.{has_line, lines};
-ghost use Rattle.plant_layout.specs.Lines.{line_of};
-ghost use Rattle.plant_model.specs.declared.outcome.Outcome.TheVariants.{Done};
-ghost use Rattle.plant_model.specs.RealWire.{wire};
-ghost use Rattle.plant_model.specs.Deeds as deeds;
-ghost use Rattle.plant_model.specs.Events as events;
+ghost use Rattle.plant_traffic.specs.plant_layout.Lines.{line_of};
+ghost use Rattle.plant_members.specs.plant_model.declared.outcome.Outcome.TheVariants.{Done};
+ghost use Rattle.plant_members.specs.plant_model.RealWire.{wire};
+ghost use Rattle.plant_members.specs.plant_model.Deeds as deeds;
+ghost use Rattle.plant_members.specs.plant_model.Events as events;
 ghost use Rattle.plant_traffic.specs.Carried.{flow_of};
 ghost use Rattle.plant_traffic.specs.Flow.{KeepsRoomAt};
 ghost use Rattle.plant_deeds.specs.Acting.{FitsLink, IsOwnTurn};
@@ -36,9 +36,9 @@ use dom_base::{As, NoMemory, Peer};
 use pcep_messages::Message;
 use pcep_session::{Action, Actions, Session};
 use plant_members::Members;
-use plant_model::{Outcome, Refused};
-use plant_sessions::{ANSWER_LENGTH, any_fall};
+use plant_members::model::{Outcome, Refused};
 use plant_traffic::Traffic;
+use plant_traffic::sessions::{ANSWER_LENGTH, any_fall};
 use std::alloc::Global;
 
 // How long a message of a session's own is at most: an Open that speaks of stateful sessions.

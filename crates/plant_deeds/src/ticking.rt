@@ -3,10 +3,10 @@ ghost use Rattle.std.specs.Prelude.{◌≡◌, ◌<◌, ◌+◌, ◌*◌, true, 
 ghost use Rattle.dom_base.specs.declared.names.As.{As};
 ghost use Rattle.plant_text.specs.Names.{same_as};
 ghost use Rattle.plant_text.specs.Settings.{has_line, lines};
-ghost use Rattle.plant_layout.specs.Lines.{line_of};
-ghost use Rattle.plant_model.specs.RealWire.{wire};
-ghost use Rattle.plant_model.specs.Deeds as deeds;
-ghost use Rattle.plant_model.specs.Events as events;
+ghost use Rattle.plant_traffic.specs.plant_layout.Lines.{line_of};
+ghost use Rattle.plant_members.specs.plant_model.RealWire.{wire};
+ghost use Rattle.plant_members.specs.plant_model.Deeds as deeds;
+ghost use Rattle.plant_members.specs.plant_model.Events as events;
 ghost use Rattle.pcep_session.specs.declared.session.Input.TheVariants as inputs;
 ghost use Rattle.plant_traffic.specs.Carried.{flow_of};
 ghost use Rattle.plant_deeds.specs.Happening.{IsDone};
@@ -23,7 +23,7 @@ use crate::outside::outside_input;
 use dom_base::{As, Tick};
 use pcep_session::Input;
 use plant_members::Members;
-use plant_model::{Outcome, Refused};
+use plant_members::model::{Outcome, Refused};
 use plant_traffic::Traffic;
 
 // The sessions of the outside peers are told, by number.

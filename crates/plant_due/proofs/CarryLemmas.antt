@@ -7,13 +7,13 @@ use Rattle.pcep_subobjects.specs.declared.hop.Hop.{Hop}
 use Rattle.plant_text.specs.declared.settings.NetworkParts.{NetworkParts}
 use Rattle.plant_text.specs.Names.{same_as, same_link}
 use Rattle.plant_text.specs.Settings.{Line, has_line, is_linked, lines}
-use Rattle.plant_model.specs.declared.outcome.Refused.TheVariants as refused
-use Rattle.plant_model.specs.Blind.{is_accepted}
-use Rattle.plant_model.specs.Events as events
-use Rattle.plant_model.specs.Events.{Happened}
-use Rattle.plant_model.specs.Names.{is_empty}
-use Rattle.plant_model.specs.State.{State}
-use Rattle.plant_model.specs.Wire.{Bytes, Codec}
+use Rattle.plant_traffic.specs.plant_model.declared.outcome.Refused.TheVariants as refused
+use Rattle.plant_traffic.specs.plant_model.Blind.{is_accepted}
+use Rattle.plant_traffic.specs.plant_model.Events as events
+use Rattle.plant_traffic.specs.plant_model.Events.{Happened}
+use Rattle.plant_traffic.specs.plant_model.Names.{is_empty}
+use Rattle.plant_traffic.specs.plant_model.State.{State}
+use Rattle.plant_traffic.specs.plant_model.Wire.{Bytes, Codec}
 use Rattle.plant_traffic.specs.Flow.{Flow}
 use Rattle.plant_traffic.specs.Waiting.{IsAtMost, WaitsNext, ways}
 use Rattle.plant_due.specs.Due.{IsLeast, IsSettled, has_mail}

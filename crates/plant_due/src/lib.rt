@@ -3,8 +3,8 @@
 #![tactic(auto)]
 
 ghost use Rattle.disclosure.specs.Shown.{open_of};
-ghost use Rattle.plant_model.specs.Blind.{Nothing, show_nothing};
-ghost use Rattle.plant_model.specs.Plant.{Pin, Segment};
+ghost use Rattle.plant_traffic.specs.plant_model.Blind.{Nothing, show_nothing};
+ghost use Rattle.plant_traffic.specs.plant_model.Plant.{Pin, Segment};
 ghost use Rattle.plant_due.specs.Laws.{LeastIsCarried, RefusedTakesFindNothing, TakesLeaveLess};
 
 /// A take that is accepted leaves less in the inbox.

@@ -11,16 +11,16 @@ use Rattle.border_costs.specs.declared.job.Ask.{Ask}
 use Rattle.border_costs.specs.Solutions.{AreRows, Solution}
 use Rattle.plant_text.specs.Names.{same_as, parent_as}
 use Rattle.plant_text.specs.Settings.{is_element}
-use Rattle.plant_model.specs.declared.upper.BorderJob.{BorderJob}
-use Rattle.plant_model.specs.BorderGraph.{Found, SolvesBorder}
-use Rattle.plant_model.specs.Element.{Element, Item, Place, Stage, Taken, Waits, Ready, is_ready}
-use Rattle.plant_model.specs.Events.{has_jobs, is_ready_asking, is_ready_row}
-use Rattle.plant_model.specs.Jobs.{ask_of}
-use Rattle.plant_model.specs.Parent as parent
-use Rattle.plant_model.specs.Plant.{Pin, Segment, ask, first_pin}
-use Rattle.plant_model.specs.RealWire.{wire}
-use Rattle.plant_model.specs.Settings.{family, place}
-use Rattle.plant_model.specs.Solving.{commit}
+use Rattle.plant_members.specs.plant_model.declared.upper.BorderJob.{BorderJob}
+use Rattle.plant_members.specs.plant_model.BorderGraph.{Found, SolvesBorder}
+use Rattle.plant_members.specs.plant_model.Element.{Element, Item, Place, Stage, Taken, Waits, Ready, is_ready}
+use Rattle.plant_members.specs.plant_model.Events.{has_jobs, is_ready_asking, is_ready_row}
+use Rattle.plant_members.specs.plant_model.Jobs.{ask_of}
+use Rattle.plant_members.specs.plant_model.Parent as parent
+use Rattle.plant_members.specs.plant_model.Plant.{Pin, Segment, ask, first_pin}
+use Rattle.plant_members.specs.plant_model.RealWire.{wire}
+use Rattle.plant_members.specs.plant_model.Settings.{family, place}
+use Rattle.plant_members.specs.plant_model.Solving.{commit}
 use Rattle.plant_members.specs.Membership.{Membership, Replied, with_element, with_parent}
 use Rattle.pce_element.specs.Committing.{IsOwnJob, commit_held, commit_solved, commit_stage, committed}
 use Rattle.pce_element.specs.Jobs.{Work, job_at, work_for, work_at}

@@ -5,8 +5,8 @@ use Rattle.std.proofs.lemmas.Bool.{false≢true}
 use Rattle.std.proofs.lemmas.List.{get_or_read}
 use Rattle.dom_base.specs.declared.names.As.{As}
 use Rattle.plant_text.specs.declared.settings.NetworkParts.{NetworkParts}
-use Rattle.plant_model.specs.Names.{set_as}
-use Rattle.plant_model.specs.Element.{Element}
+use Rattle.plant_members.specs.plant_model.Names.{set_as}
+use Rattle.plant_members.specs.plant_model.Element.{Element}
 use Rattle.pce_element.specs.Seen.{Seen, SameButRoom, with_losing}
 use Rattle.plant_hierarchy.specs.Elements.{own_of, at_domain, no_one, elements_in, current_or, current_in, IsFirstAt, IsNowhere}
 use Rattle.plant_hierarchy.specs.Becoming.{Course, Becomes, BecomesAt, HasElement}

@@ -6,9 +6,9 @@ use Rattle.plant_text.specs.declared.settings.NetworkParts.{NetworkParts}
 use Rattle.plant_text.specs.Names.{same_as, parent_as}
 use Rattle.plant_text.specs.Networks.{IsNetwork}
 use Rattle.plant_text.specs.Settings.{elements_of}
-use Rattle.plant_model.specs.Element.{Element, Way}
-use Rattle.plant_model.specs.Parent as parent
-use Rattle.plant_model.specs.Settings.{family, place}
+use Rattle.plant_members.specs.plant_model.Element.{Element, Way}
+use Rattle.plant_members.specs.plant_model.Parent as parent
+use Rattle.plant_members.specs.plant_model.Settings.{family, place}
 use Rattle.pcep_subobjects.specs.declared.hop.Hop.{Hop}
 use Rattle.plant_members.specs.Membership.{Membership}
 use Rattle.pce_element.specs.Seen.{Seen}

@@ -8,17 +8,17 @@ use Rattle.dom_base.specs.declared.border.BorderRow.{BorderRow}
 use Rattle.request_table.specs.declared.held.Held.{Held}
 use Rattle.plant_text.specs.Names.{same_as, parent_as}
 use Rattle.plant_text.specs.Settings.{is_element}
-use Rattle.plant_model.specs.declared.outcome.Refused.{Refused}
-use Rattle.plant_model.specs.declared.outcome.Refused.TheVariants as refused
-use Rattle.plant_model.specs.declared.upper.BorderJob.{BorderJob}
-use Rattle.plant_model.specs.Blind.{Nothing, show_nothing}
-use Rattle.plant_model.specs.BorderGraph.{SolvesBorder}
-use Rattle.plant_model.specs.Element.{Element, Item, Place, Taken, is_ready}
-use Rattle.plant_model.specs.Events.{has_jobs, is_ready_asking, is_ready_row}
-use Rattle.plant_model.specs.Parent as parent
-use Rattle.plant_model.specs.RealWire.{wire}
-use Rattle.plant_model.specs.Settings.{family, place}
-use Rattle.plant_model.specs.Solving.{commit}
+use Rattle.plant_members.specs.plant_model.declared.outcome.Refused.{Refused}
+use Rattle.plant_members.specs.plant_model.declared.outcome.Refused.TheVariants as refused
+use Rattle.plant_members.specs.plant_model.declared.upper.BorderJob.{BorderJob}
+use Rattle.plant_members.specs.plant_model.Blind.{Nothing, show_nothing}
+use Rattle.plant_members.specs.plant_model.BorderGraph.{SolvesBorder}
+use Rattle.plant_members.specs.plant_model.Element.{Element, Item, Place, Taken, is_ready}
+use Rattle.plant_members.specs.plant_model.Events.{has_jobs, is_ready_asking, is_ready_row}
+use Rattle.plant_members.specs.plant_model.Parent as parent
+use Rattle.plant_members.specs.plant_model.RealWire.{wire}
+use Rattle.plant_members.specs.plant_model.Settings.{family, place}
+use Rattle.plant_members.specs.plant_model.Solving.{commit}
 use Rattle.plant_members.specs.Membership.{KeysBefore, Membership, Replied, with_element, with_parent}
 use Rattle.pce_element.specs.Blind.{HasNoJob, IsSolvedBy, stands_for_nothing}
 use Rattle.pce_element.specs.Plans.{Planned}

@@ -3,7 +3,7 @@ use Rattle.std.proofs.Common.{◌≡◌, ◌∙◌, Option, Some, None, is_some,
 use Rattle.std.specs.Option.{option_map}
 use Rattle.dom_base.specs.declared.names.As.{As}
 use Rattle.plant_text.specs.Settings.{elements_of}
-use Rattle.plant_model.specs.Plant.{Pin, Segment, first_pin}
+use Rattle.plant_members.specs.plant_model.Plant.{Pin, Segment, first_pin}
 use Rattle.pce_element.specs.Seen.{Seen}
 use Rattle.plant_hierarchy.specs.Current.{IsCurrent}
 use Rattle.plant_hierarchy.specs.Elements.{at_domain, current_or, own_of}

@@ -5,7 +5,7 @@ use mathlib.Core.Path.{fun_ext}
 use Rattle.dom_base.specs.declared.names.As.{As}
 use Rattle.plant_text.specs.Names.{same_as}
 use Rattle.plant_text.specs.declared.settings.NetworkParts.{NetworkParts}
-use Rattle.plant_model.specs.Names.{set_as}
+use Rattle.plant_members.specs.plant_model.Names.{set_as}
 use Rattle.pce_element.specs.Seen.{Seen}
 use Rattle.plant_hierarchy.specs.Elements.{own_of, at_domain, with_seen, element_or, elements_in, current_or, current_in, IsFirstAt, IsNowhere}
 

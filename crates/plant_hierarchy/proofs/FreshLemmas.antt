@@ -9,8 +9,8 @@ use Rattle.plant_text.specs.Names.{same_as}
 use Rattle.plant_text.specs.declared.settings.NetworkParts.{NetworkParts}
 use Rattle.plant_text.specs.declared.settings.ElementRow.{ElementRow}
 use Rattle.plant_text.specs.Settings.{row_of, life, life_from, deny_at, lines}
-use Rattle.plant_model.specs.Element.{Element, Way, Place}
-use Rattle.plant_model.specs.Settings.{place, place_from}
+use Rattle.plant_members.specs.plant_model.Element.{Element, Way, Place}
+use Rattle.plant_members.specs.plant_model.Settings.{place, place_from}
 use Rattle.plant_layout.specs.Lines.{others}
 use Rattle.plant_layout.proofs.LineLemmas.{ways_to_others}
 use Rattle.pce_element.specs.Seen.{Seen, IsNew}

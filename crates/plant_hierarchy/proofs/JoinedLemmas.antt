@@ -11,11 +11,11 @@ use Rattle.plant_text.specs.declared.settings.PeerRow.{PeerRow}
 use Rattle.plant_text.specs.Names.{same_as, same_link, parent_as, insert_as}
 use Rattle.plant_text.specs.Networks.{IsAdded, IsNetwork}
 use Rattle.plant_text.specs.Settings.{Line, lines, before_line, insert_line, sorted, upward, has_line, children, children_of, is_element, row_of, peer_row}
-use Rattle.plant_model.specs.Element.{Way}
-use Rattle.plant_model.specs.Deeds.{at_row}
-use Rattle.plant_model.specs.Settings.{way, ways, ways_along}
+use Rattle.plant_members.specs.plant_model.Element.{Way}
+use Rattle.plant_members.specs.plant_model.Deeds.{at_row}
+use Rattle.plant_members.specs.plant_model.Settings.{way, ways, ways_along}
 use Rattle.plant_members.specs.Membership.{AreJoined, is_member}
-use Rattle.member_parts.specs.Ways.{way_of}
+use Rattle.pce_element.specs.member_parts.Ways.{way_of}
 use Rattle.plant_hierarchy.proofs.DomainLemmas.{same_as_is, as_self}
 use Rattle.plant_hierarchy.proofs.NetworkLemmas.{settings_of}
 

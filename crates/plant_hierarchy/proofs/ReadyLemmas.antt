@@ -2,8 +2,8 @@
 use Rattle.std.proofs.Common.{◌≡◌, ◌<◌, ◌≤◌, ◌-◌, ℕ, zero, suc, Some, None, List, [], ◌∷◌, ◌++◌, length, map, drop, get_or, arith, refl, sym, ◌∙◌, ap}
 use Rattle.std.specs.Prelude.{slice_get}
 use Rattle.dom_base.specs.declared.names.As.{As}
-use Rattle.plant_model.specs.Element.{ready_numbers}
-use Rattle.plant_model.specs.Events.{jobs_at}
+use Rattle.plant_members.specs.plant_model.Element.{ready_numbers}
+use Rattle.plant_members.specs.plant_model.Events.{jobs_at}
 use Rattle.pce_element.specs.Seen.{Seen}
 use Rattle.plant_hierarchy.specs.Elements.{own_of}
 use Rattle.plant_hierarchy.specs.Ready.{jobs_in}

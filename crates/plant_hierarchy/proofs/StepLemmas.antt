@@ -8,14 +8,14 @@ use Rattle.pcep_subobjects.specs.declared.hop.Hop.{Hop}
 use Rattle.pcep_messages.specs.declared.message.Message.{Message}
 use Rattle.plant_text.specs.Names.{same_as, parent_as}
 use Rattle.plant_text.specs.Settings.{class_of, is_element}
-use Rattle.plant_model.specs.declared.output.Lost.{Lost}
-use Rattle.plant_model.specs.Names.{set_as}
-use Rattle.plant_model.specs.RealWire.{wire}
-use Rattle.plant_model.specs.Element as element
-use Rattle.plant_model.specs.Element.{Element, Losing, Place, Taken, down_of, handed_lost, next_lost_of}
-use Rattle.plant_model.specs.Parent as parent
-use Rattle.plant_model.specs.Settings.{place, family}
-use Rattle.plant_model.specs.Taking.{take}
+use Rattle.plant_members.specs.plant_model.declared.output.Lost.{Lost}
+use Rattle.plant_members.specs.plant_model.Names.{set_as}
+use Rattle.plant_members.specs.plant_model.RealWire.{wire}
+use Rattle.plant_members.specs.plant_model.Element as element
+use Rattle.plant_members.specs.plant_model.Element.{Element, Losing, Place, Taken, down_of, handed_lost, next_lost_of}
+use Rattle.plant_members.specs.plant_model.Parent as parent
+use Rattle.plant_members.specs.plant_model.Settings.{place, family}
+use Rattle.plant_members.specs.plant_model.Taking.{take}
 use Rattle.plant_members.specs.Membership.{Membership, Replied, given, is_member, raised, fallen, lost_at, with_element, with_parent, HandsOut}
 use Rattle.plant_members.specs.Owed.{count_by_asker, is_peer, owed}
 use Rattle.pce_element.specs.Plans.{Planned}

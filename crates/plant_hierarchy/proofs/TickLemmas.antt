@@ -6,8 +6,8 @@ use Rattle.dom_base.specs.declared.names.As.{As}
 use Rattle.plant_text.specs.declared.settings.NetworkParts.{NetworkParts}
 use Rattle.plant_text.specs.Names.{same_as, parent_as}
 use Rattle.plant_text.specs.Settings.{elements_of, is_element}
-use Rattle.plant_model.specs.Element.{Element, ticked}
-use Rattle.plant_model.specs.Settings.{place}
+use Rattle.plant_members.specs.plant_model.Element.{Element, ticked}
+use Rattle.plant_members.specs.plant_model.Settings.{place}
 use Rattle.plant_members.specs.Membership.{Membership, KeysBefore, expired}
 use Rattle.plant_members.specs.Owed.{pending_at}
 use Rattle.pce_element.specs.Seen.{Seen, SameButRoom, with_losing}

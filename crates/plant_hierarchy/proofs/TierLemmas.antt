@@ -5,11 +5,11 @@ use mathlib.Core.Path.{fun_ext}
 use Rattle.dom_base.specs.declared.names.As.{As}
 use Rattle.plant_text.specs.declared.settings.NetworkParts.{NetworkParts}
 use Rattle.plant_text.specs.Names.{same_as, parent_as}
-use Rattle.plant_model.specs.declared.output.Lost.{Lost}
-use Rattle.plant_model.specs.Names.{set_as}
-use Rattle.plant_model.specs.Element.{Element, Losing}
-use Rattle.plant_model.specs.Parent as parent
-use Rattle.plant_model.specs.Settings.{place}
+use Rattle.plant_members.specs.plant_model.declared.output.Lost.{Lost}
+use Rattle.plant_members.specs.plant_model.Names.{set_as}
+use Rattle.plant_members.specs.plant_model.Element.{Element, Losing}
+use Rattle.plant_members.specs.plant_model.Parent as parent
+use Rattle.plant_members.specs.plant_model.Settings.{place}
 use Rattle.plant_members.specs.Membership.{Membership, with_element, with_parent}
 use Rattle.pce_element.specs.Seen.{Seen}
 use Rattle.pce_parent.specs.Seen as above

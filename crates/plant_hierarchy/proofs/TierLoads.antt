@@ -5,16 +5,16 @@ use Rattle.dom_base.specs.declared.names.As.{As}
 use Rattle.te_links.specs.Rows.{Rows}
 use Rattle.plant_text.specs.declared.settings.NetworkParts.{NetworkParts}
 use Rattle.plant_text.specs.Names.{same_as, parent_as}
-use Rattle.plant_model.specs.declared.outcome.Refused.{Refused}
-use Rattle.plant_model.specs.declared.output.Lost.{Lost}
-use Rattle.plant_model.specs.Element.{Element}
-use Rattle.plant_model.specs.Events.{jobs_at, jobs_of, ready_jobs}
-use Rattle.plant_model.specs.Parent as parent
-use Rattle.plant_model.specs.Plant.{Pin, Segment}
-use Rattle.plant_model.specs.State.{State}
-use Rattle.plant_model.specs.RealWire.{wire}
-use Rattle.plant_model.specs.Settings.{place}
-use Rattle.plant_model.specs.Element as element
+use Rattle.plant_members.specs.plant_model.declared.outcome.Refused.{Refused}
+use Rattle.plant_members.specs.plant_model.declared.output.Lost.{Lost}
+use Rattle.plant_members.specs.plant_model.Element.{Element}
+use Rattle.plant_members.specs.plant_model.Events.{jobs_at, jobs_of, ready_jobs}
+use Rattle.plant_members.specs.plant_model.Parent as parent
+use Rattle.plant_members.specs.plant_model.Plant.{Pin, Segment}
+use Rattle.plant_members.specs.plant_model.State.{State}
+use Rattle.plant_members.specs.plant_model.RealWire.{wire}
+use Rattle.plant_members.specs.plant_model.Settings.{place}
+use Rattle.plant_members.specs.plant_model.Element as element
 use Rattle.pce_element.specs.Seen.{Seen, SameButRoom}
 use Rattle.plant_hierarchy.specs.Elements.{own_of, at_domain, with_seen, element_or, elements_in, loaded, LoadsAt, LoadsElement}
 use Rattle.plant_hierarchy.specs.Loading.{Loads}

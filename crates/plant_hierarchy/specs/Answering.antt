@@ -10,17 +10,17 @@ use Rattle.border_costs.specs.declared.answer.Answer.{Answer}
 use Rattle.border_costs.specs.Solutions.{AreRows, Solution}
 use Rattle.plant_text.specs.declared.settings.NetworkParts.{NetworkParts}
 use Rattle.plant_text.specs.Names.{same_as, parent_as}
-use Rattle.plant_model.specs.declared.outcome.Refused.{Refused}
-use Rattle.plant_model.specs.declared.outcome.Refused.TheVariants as refused
-use Rattle.plant_model.specs.declared.upper.BorderJob.{BorderJob}
-use Rattle.plant_model.specs.BorderGraph.{Found, SolvesBorder}
-use Rattle.plant_model.specs.Element.{Item, Ready, Row}
-use Rattle.plant_model.specs.Events.{has_jobs, is_ready_asking, is_ready_row}
-use Rattle.plant_model.specs.Parent as parent
-use Rattle.plant_model.specs.Plant.{Pin, Segment, ask, first_pin}
-use Rattle.plant_model.specs.RealWire.{wire}
-use Rattle.plant_model.specs.Settings.{family, place}
-use Rattle.plant_model.specs.Solving.{commit}
+use Rattle.plant_members.specs.plant_model.declared.outcome.Refused.{Refused}
+use Rattle.plant_members.specs.plant_model.declared.outcome.Refused.TheVariants as refused
+use Rattle.plant_members.specs.plant_model.declared.upper.BorderJob.{BorderJob}
+use Rattle.plant_members.specs.plant_model.BorderGraph.{Found, SolvesBorder}
+use Rattle.plant_members.specs.plant_model.Element.{Item, Ready, Row}
+use Rattle.plant_members.specs.plant_model.Events.{has_jobs, is_ready_asking, is_ready_row}
+use Rattle.plant_members.specs.plant_model.Parent as parent
+use Rattle.plant_members.specs.plant_model.Plant.{Pin, Segment, ask, first_pin}
+use Rattle.plant_members.specs.plant_model.RealWire.{wire}
+use Rattle.plant_members.specs.plant_model.Settings.{family, place}
+use Rattle.plant_members.specs.plant_model.Solving.{commit}
 use Rattle.plant_members.specs.Membership.{Membership, Replied, with_element, with_parent}
 use Rattle.pce_element.specs.Committing.{IsOwnJob, own_part}
 use Rattle.pce_element.specs.Plans.{Planned}

@@ -9,13 +9,13 @@ use Rattle.vspt_tree.specs.declared.branch.Best.{Best}
 use Rattle.vspt_tree.specs.declared.branch.Branch.{Branch}
 use Rattle.plant_text.specs.declared.settings.NetworkParts.{NetworkParts}
 use Rattle.plant_text.specs.Names.{same_as, parent_as}
-use Rattle.plant_model.specs.declared.outcome.Refused.{Refused}
-use Rattle.plant_model.specs.declared.outcome.Refused.TheVariants as refused
-use Rattle.plant_model.specs.declared.upper.BorderJob.{BorderJob}
-use Rattle.plant_model.specs.Blind.{Joined, Nothing}
-use Rattle.plant_model.specs.Element.{Item, Ready}
-use Rattle.plant_model.specs.Events.{has_jobs}
-use Rattle.plant_model.specs.RealWire.{wire}
+use Rattle.plant_members.specs.plant_model.declared.outcome.Refused.{Refused}
+use Rattle.plant_members.specs.plant_model.declared.outcome.Refused.TheVariants as refused
+use Rattle.plant_members.specs.plant_model.declared.upper.BorderJob.{BorderJob}
+use Rattle.plant_members.specs.plant_model.Blind.{Joined, Nothing}
+use Rattle.plant_members.specs.plant_model.Element.{Item, Ready}
+use Rattle.plant_members.specs.plant_model.Events.{has_jobs}
+use Rattle.plant_members.specs.plant_model.RealWire.{wire}
 use Rattle.plant_members.specs.Membership.{Membership, Replied}
 use Rattle.pce_element.specs.Blind.{stands_for_nothing}
 use Rattle.pce_element.specs.Plans.{Planned}

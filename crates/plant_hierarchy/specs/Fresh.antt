@@ -7,9 +7,9 @@ use Rattle.pcep_subobjects.specs.declared.hop.Hop.{Hop}
 use Rattle.plant_text.specs.declared.settings.NetworkParts.{NetworkParts}
 use Rattle.plant_text.specs.declared.settings.ElementRow.{ElementRow}
 use Rattle.plant_text.specs.Settings.{lines, life}
-use Rattle.plant_model.specs.Events.{bare}
-use Rattle.plant_model.specs.RealWire.{wire}
-use Rattle.plant_model.specs.Settings.{place}
+use Rattle.plant_members.specs.plant_model.Events.{bare}
+use Rattle.plant_members.specs.plant_model.RealWire.{wire}
+use Rattle.plant_members.specs.plant_model.Settings.{place}
 use Rattle.plant_members.specs.Membership.{Membership}
 use Rattle.plant_layout.specs.Lines.{others}
 use Rattle.pce_element.specs.Seen.{Seen, IsNew}

@@ -12,3 +12,6 @@ pub mod TierFields
 pub mod ElementFields
 pub mod Ready
 pub mod Fresh
+-- handed on from below
+pub use Rattle.pce_element.specs as pce_element
+pub use Rattle.pce_parent.specs as pce_parent

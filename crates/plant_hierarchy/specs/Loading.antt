@@ -3,13 +3,13 @@ use Rattle.std.specs.Prelude.{◌≡◌, ℕ, List, [], ◌∷◌, Result, Ok, E
 use Rattle.dom_base.specs.declared.names.As.{As}
 use Rattle.te_links.specs.Rows.{Rows}
 use Rattle.plant_text.specs.declared.settings.NetworkParts.{NetworkParts}
-use Rattle.plant_model.specs.declared.event.Event.TheVariants as event
-use Rattle.plant_model.specs.declared.outcome.Outcome.TheVariants.{Loaded}
-use Rattle.plant_model.specs.declared.outcome.Refused.{Refused}
-use Rattle.plant_model.specs.Events.{Answered}
-use Rattle.plant_model.specs.RealWire.{wire}
-use Rattle.plant_model.specs.State as deeds
-use Rattle.plant_model.specs.Plant.{Pin, Segment, first_pin, Plant, PlantDeed, Steps}
+use Rattle.plant_members.specs.plant_model.declared.event.Event.TheVariants as event
+use Rattle.plant_members.specs.plant_model.declared.outcome.Outcome.TheVariants.{Loaded}
+use Rattle.plant_members.specs.plant_model.declared.outcome.Refused.{Refused}
+use Rattle.plant_members.specs.plant_model.Events.{Answered}
+use Rattle.plant_members.specs.plant_model.RealWire.{wire}
+use Rattle.plant_members.specs.plant_model.State as deeds
+use Rattle.plant_members.specs.plant_model.Plant.{Pin, Segment, first_pin, Plant, PlantDeed, Steps}
 use Rattle.plant_members.specs.Membership.{Membership}
 use Rattle.pce_element.specs.Seen.{Seen}
 use Rattle.plant_hierarchy.specs.Elements.{elements_in, current_in}

@@ -1,9 +1,9 @@
 -- Jobs of elements.
 use Rattle.std.specs.Prelude.{ℕ, List, [], ◌∷◌, ◌++◌, Option, Some, None}
 use Rattle.dom_base.specs.declared.names.As.{As}
-use Rattle.plant_model.specs.Element.{ready_numbers}
-use Rattle.plant_model.specs.Events.{jobs_at}
-use Rattle.plant_model.specs.Plant.{Pin, Segment}
+use Rattle.plant_members.specs.plant_model.Element.{ready_numbers}
+use Rattle.plant_members.specs.plant_model.Events.{jobs_at}
+use Rattle.plant_members.specs.plant_model.Plant.{Pin, Segment}
 use Rattle.pce_element.specs.Seen.{Seen}
 use Rattle.pce_element.specs.Jobs.{Work, job_at}
 use Rattle.plant_hierarchy.specs.Elements.{own_of}

@@ -8,10 +8,10 @@ use Rattle.pcep_subobjects.specs.declared.hop.Hop.{Hop}
 use Rattle.plant_text.specs.declared.settings.NetworkParts.{NetworkParts}
 use Rattle.plant_text.specs.Names.{same_as, parent_as}
 use Rattle.plant_text.specs.Settings.{elements_of}
-use Rattle.plant_model.specs.declared.output.Lost.{Lost}
-use Rattle.plant_model.specs.declared.output.Output.{Output}
-use Rattle.plant_model.specs.Settings.{place, family}
-use Rattle.plant_model.specs.RealWire.{wire}
+use Rattle.plant_members.specs.plant_model.declared.output.Lost.{Lost}
+use Rattle.plant_members.specs.plant_model.declared.output.Output.{Output}
+use Rattle.plant_members.specs.plant_model.Settings.{place, family}
+use Rattle.plant_members.specs.plant_model.RealWire.{wire}
 use Rattle.plant_members.specs.Membership.{Membership, given, with_element, with_parent}
 use Rattle.pce_element.specs.Plans.{Planned}
 use Rattle.pce_element.specs.Seen.{Seen}

@@ -4,8 +4,8 @@ use Rattle.dom_base.specs.declared.names.As.{As}
 use Rattle.disclosure.specs.Shown.{open_of}
 use Rattle.border_costs.specs.Solutions.{Solution}
 use Rattle.plant_text.specs.declared.settings.NetworkParts.{NetworkParts}
-use Rattle.plant_model.specs.declared.output.Lost.{Lost}
-use Rattle.plant_model.specs.Plant.{Pin, Segment, first_pin}
+use Rattle.plant_members.specs.plant_model.declared.output.Lost.{Lost}
+use Rattle.plant_members.specs.plant_model.Plant.{Pin, Segment, first_pin}
 use Rattle.plant_members.specs.Membership.{Membership}
 use Rattle.pce_element.specs.declared.topologies.Topologies.{Topologies}
 use Rattle.pce_element.specs.Seen as element

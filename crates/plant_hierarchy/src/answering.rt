@@ -3,8 +3,8 @@ ghost use Rattle.std.specs.Prelude.{◌≡◌, ◌<◌, ◌≤◌, length, Some,
 ghost use Rattle.std.specs.List.{slice_index_or};
 ghost use Rattle.plant_text.specs.Names.{same_as, parent_as};
 ghost use Rattle.plant_text.specs.Settings.{is_element};
-ghost use Rattle.plant_model.specs.Events.{has_jobs};
-ghost use Rattle.plant_model.specs.Plant.{first_pin};
+ghost use Rattle.plant_members.specs.plant_model.Events.{has_jobs};
+ghost use Rattle.plant_members.specs.plant_model.Plant.{first_pin};
 ghost use Rattle.plant_members.specs.Membership.{KeysBefore};
 ghost use Rattle.pce_element.specs.Committing.{IsOwnJob, committed};
 ghost use Rattle.plant_hierarchy.specs.Answering.{Commits, IsBack, IsOwnDone, border_job, told_above, told_below};
@@ -19,7 +19,7 @@ use border_costs::Solved;
 use dom_base::{As, Tick};
 use pce_element::{CommitError, Element, Plan, Topologies};
 use pce_parent::{BorderPlan, BorderSolved, Done, ParentCommitError};
-use plant_model::Refused;
+use plant_members::model::Refused;
 
 /// Why a solved job is not answered, and the job.
 #[derive(Drop)]

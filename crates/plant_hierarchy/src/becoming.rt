@@ -1,8 +1,8 @@
 //! One element of a network goes on.
 ghost use Rattle.std.specs.Prelude.{◌≡◌, ◌≤◌, ◌<◌, length, map, Some, IfOk, IfSome};
 ghost use Rattle.std.specs.List.{slice_index_or};
-ghost use Rattle.plant_model.specs.Element.{upped, down_of, next_lost_of};
-ghost use Rattle.member_parts.specs.Messages.{HasOnePart};
+ghost use Rattle.plant_members.specs.plant_model.Element.{upped, down_of, next_lost_of};
+ghost use Rattle.pce_element.specs.member_parts.Messages.{HasOnePart};
 ghost use Rattle.plant_hierarchy.specs.Elements.{at_domain, no_one, own_of, IsFirstAt};
 ghost use Rattle.plant_hierarchy.specs.Becoming.{Becomes, BecomesAt, HasElement, taken_by, unchanged};
 
@@ -11,7 +11,7 @@ use disclosure::Class;
 use dom_base::{As, NoMemory, Peer, Tick};
 use pce_element::{Element, Plan, World};
 use pcep_messages::Message;
-use plant_model::Lost;
+use plant_members::model::Lost;
 
 fn take_at<W: World>(
     items: &mut Vec<Element<W>>,

@@ -3,9 +3,9 @@ ghost use Rattle.std.specs.Prelude.{◌≡◌, ◌<◌, ◌≤◌, length, Some,
 ghost use Rattle.std.specs.List.{slice_index_or};
 ghost use Rattle.plant_text.specs.Names.{same_as, parent_as};
 ghost use Rattle.plant_text.specs.Settings.{is_element};
-ghost use Rattle.plant_model.specs.Blind.{AreGivenRows};
-ghost use Rattle.plant_model.specs.BorderGraph.{SolvesBorder};
-ghost use Rattle.plant_model.specs.Events.{has_jobs};
+ghost use Rattle.plant_members.specs.plant_model.Blind.{AreGivenRows};
+ghost use Rattle.plant_members.specs.plant_model.BorderGraph.{SolvesBorder};
+ghost use Rattle.plant_members.specs.plant_model.Events.{has_jobs};
 ghost use Rattle.plant_members.specs.Membership.{KeysBefore};
 ghost use Rattle.pce_element.specs.Blind.{HasNoJob, IsSolvedBy};
 ghost use Rattle.pce_parent.specs.Seen.{job_at};
@@ -20,7 +20,7 @@ use crate::plan::MemberPlan;
 use dom_base::{As, BorderRow, NoMemory, Tick};
 use pce_element::{Blind, Element, Plan};
 use pce_parent::{BorderPlan, BorderSolved, Parent, ParentCommitError, solve_border};
-use plant_model::Refused;
+use plant_members::model::Refused;
 use std::alloc::Global;
 
 fn solve_at(

@@ -2,7 +2,7 @@
 ghost use Rattle.std.specs.Prelude.{◌≡◌, IfOk};
 ghost use Rattle.plant_text.specs.Names.{same_as};
 ghost use Rattle.plant_text.specs.Settings.{elements_of, life, lines, row_of};
-ghost use Rattle.plant_model.specs.Settings.{place};
+ghost use Rattle.plant_members.specs.plant_model.Settings.{place};
 ghost use Rattle.plant_layout.specs.Lines.{are_lines, others};
 ghost use Rattle.pce_element.specs.Seen.{IsNew};
 ghost use Rattle.plant_hierarchy.specs.Fresh.{AreNew, LivesFit, figures_from};

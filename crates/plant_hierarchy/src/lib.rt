@@ -16,4 +16,7 @@ mod steps;
 
 pub use answering::Unanswered;
 pub use hierarchy::{Hierarchy, is_parent};
+pub use pce_element as element;
+pub use pce_element::parts;
+pub use pce_parent as parent;
 pub use plan::MemberPlan;

@@ -1,7 +1,7 @@
 //! The elements of a network and the parent above them, as the deeds of a network see them.
 ghost use Rattle.std.specs.Prelude.{◌≡◌};
 ghost use Rattle.plant_text.specs.Settings.{peer_row};
-ghost use Rattle.plant_model.specs.Deeds.{at_row};
+ghost use Rattle.plant_members.specs.plant_model.Deeds.{at_row};
 ghost use Rattle.plant_hierarchy.specs.Tiers.{FitsIn, lost_in, members_of, next_by, sent_by};
 
 use crate::hierarchy::{Hierarchy, is_parent};
@@ -11,7 +11,7 @@ use dom_base::{As, NoMemory, Peer, Tick};
 use pce_element::World;
 use pcep_messages::Message;
 use plant_members::Members;
-use plant_model::{Lost, Outputs};
+use plant_members::model::{Lost, Outputs};
 use plant_text::PeerRow;
 
 // The element of a peer.

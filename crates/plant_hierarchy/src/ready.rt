@@ -1,6 +1,6 @@
 //! Which jobs of the elements can be solved.
 ghost use Rattle.std.specs.Prelude.{◌≡◌, ◌≤◌, length, slice_get};
-ghost use Rattle.plant_model.specs.Element.{ready_numbers};
+ghost use Rattle.plant_members.specs.plant_model.Element.{ready_numbers};
 ghost use Rattle.plant_hierarchy.specs.Ready.{jobs_in};
 
 use crate::elements::Elements;

@@ -3,9 +3,9 @@ ghost use Rattle.std.specs.Prelude.{◌≡◌, [], Some, false, true};
 ghost use Rattle.std.specs.Bool.{OnTrue};
 ghost use Rattle.plant_text.specs.Names.{same_as, parent_as};
 ghost use Rattle.plant_text.specs.Settings.{is_element};
-ghost use Rattle.plant_model.specs.Names.{set_as};
+ghost use Rattle.plant_members.specs.plant_model.Names.{set_as};
 ghost use Rattle.plant_members.specs.Membership.{fallen, lost_at, raised, with_element, with_parent, HandsOut};
-ghost use Rattle.member_parts.specs.Messages.{HasOnePart};
+ghost use Rattle.pce_element.specs.member_parts.Messages.{HasOnePart};
 ghost use Rattle.plant_hierarchy.specs.Elements.{at_domain};
 ghost use Rattle.plant_hierarchy.specs.Tiers.{Become, Takes, lost_in, members_of, planned_below};
 
@@ -16,7 +16,7 @@ use pce_element::{Plan, World};
 use pce_parent::BorderPlan;
 use pcep_messages::Message;
 use plant_layout::class_of;
-use plant_model::Lost;
+use plant_members::model::Lost;
 
 /// Whether a message has at most one request or reply.
 pub(crate) fn has_one_part(message: &Message) -> bool

@@ -139,3 +139,5 @@ pub mod SolvesWritten
 pub mod ParentWritten
 pub mod EveryWritten
 pub mod WhereWritten
+-- handed on from below
+pub use Rattle.plant_model.proofs as plant_model

@@ -25,3 +25,5 @@ pub mod UnderWay
 pub mod Counted
 pub mod Matched
 pub mod Certified
+-- handed on from below
+pub use Rattle.plant_model.specs as plant_model

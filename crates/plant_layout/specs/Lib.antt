@@ -2,3 +2,5 @@
 pub mod Lines
 -- inner
 pub mod Places
+-- handed on from below
+pub use Rattle.plant_model.specs as plant_model

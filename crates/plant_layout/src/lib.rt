@@ -10,4 +10,5 @@ mod tests;
 
 pub use domains::{children_of, elements_of};
 pub use lines::{find_line, lines_of, others_along};
+pub use plant_model as model;
 pub use rows::{class_of, deny_at};

@@ -4,3 +4,4 @@
 mod members;
 
 pub use members::Members;
+pub use plant_model as model;

@@ -11,16 +11,16 @@ use Rattle.vspt_tree.specs.declared.branch.Best.{Best}
 use Rattle.vspt_tree.specs.declared.branch.Branch.{Branch}
 use Rattle.plant_text.specs.declared.settings.NetworkParts.{NetworkParts}
 use Rattle.plant_text.specs.Names.{parent_as, same_as}
-use Rattle.plant_model.specs.declared.output.Output.{Output}
-use Rattle.plant_model.specs.BorderGraph.{Found}
-use Rattle.plant_model.specs.Element.{Element, Item, Place, Row, Taken, is_client}
-use Rattle.plant_model.specs.Parent as parent
-use Rattle.plant_model.specs.RealWire.{wire}
-use Rattle.plant_model.specs.Solving.{client_reply, closed_paths, closed_reply, commit, free, issued_all}
-use Rattle.plant_model.specs.Taking.{answered}
-use Rattle.plant_model.specs.Writing.{busy, reply_message}
-use Rattle.plant_members.specs.Membership.{Membership, with_element, with_parent}
-use Rattle.plant_members.specs.Owed.{count_by_asker, is_peer}
+use Rattle.plant_deeds.specs.plant_model.declared.output.Output.{Output}
+use Rattle.plant_deeds.specs.plant_model.BorderGraph.{Found}
+use Rattle.plant_deeds.specs.plant_model.Element.{Element, Item, Place, Row, Taken, is_client}
+use Rattle.plant_deeds.specs.plant_model.Parent as parent
+use Rattle.plant_deeds.specs.plant_model.RealWire.{wire}
+use Rattle.plant_deeds.specs.plant_model.Solving.{client_reply, closed_paths, closed_reply, commit, free, issued_all}
+use Rattle.plant_deeds.specs.plant_model.Taking.{answered}
+use Rattle.plant_deeds.specs.plant_model.Writing.{busy, reply_message}
+use Rattle.plant_deeds.specs.plant_members.Membership.{Membership, with_element, with_parent}
+use Rattle.plant_deeds.specs.plant_members.Owed.{count_by_asker, is_peer}
 use Rattle.plant_deeds.specs.Answering.{IsAnswer}
 use Rattle.plant_deeds.proofs.AnswerLaws.{count_found, owed_above, owed_below, pending_above, pending_below}
 

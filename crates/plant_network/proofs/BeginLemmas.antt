@@ -9,16 +9,16 @@ use Rattle.plant_text.specs.declared.settings.NetworkParts.{NetworkParts}
 use Rattle.plant_text.specs.Names.{same_as, parent_as}
 use Rattle.plant_text.specs.Networks.{IsNetwork}
 use Rattle.plant_text.specs.Settings.{lines}
-use Rattle.plant_model.specs.Element.{Element}
-use Rattle.plant_model.specs.Events as events
-use Rattle.plant_model.specs.Parent.{Parent}
-use Rattle.plant_model.specs.RealWire.{wire}
-use Rattle.plant_model.specs.State.{Access, State}
-use Rattle.plant_model.specs.Wire.{Bytes}
-use Rattle.plant_traffic.specs.Flow.{Flow, IsBare}
-use Rattle.plant_sessions.specs.Links.{new_sender}
-use Rattle.plant_members.specs.Membership.{Membership}
-use Rattle.plant_members.specs.Owed.{count_by_asker, is_peer, owed, pending_at, pending_in}
+use Rattle.plant_deeds.specs.plant_model.Element.{Element}
+use Rattle.plant_deeds.specs.plant_model.Events as events
+use Rattle.plant_deeds.specs.plant_model.Parent.{Parent}
+use Rattle.plant_deeds.specs.plant_model.RealWire.{wire}
+use Rattle.plant_deeds.specs.plant_model.State.{Access, State}
+use Rattle.plant_deeds.specs.plant_model.Wire.{Bytes}
+use Rattle.plant_deeds.specs.plant_traffic.Flow.{Flow, IsBare}
+use Rattle.plant_deeds.specs.plant_sessions.Links.{new_sender}
+use Rattle.plant_deeds.specs.plant_members.Membership.{Membership}
+use Rattle.plant_deeds.specs.plant_members.Owed.{count_by_asker, is_peer, owed, pending_at, pending_in}
 use Rattle.plant_deeds.specs.Passing.{IsOf}
 use Rattle.plant_deeds.specs.Rooms.{IsRoomy}
 use Rattle.plant_deeds.specs.Standing.{Here, state_of}

@@ -5,8 +5,8 @@ use Rattle.dom_base.specs.declared.names.As.{As}
 use Rattle.plant_text.specs.declared.settings.NetworkParts.{NetworkParts}
 use Rattle.plant_text.specs.Names.{parent_as, same_as}
 use Rattle.plant_text.specs.Settings.{has_line, is_element, lines}
-use Rattle.plant_model.specs.Events.{Answered, later}
-use Rattle.plant_members.specs.Membership.{AreJoined, KeysBefore}
+use Rattle.plant_deeds.specs.plant_model.Events.{Answered, later}
+use Rattle.plant_deeds.specs.plant_members.Membership.{AreJoined, KeysBefore}
 use Rattle.plant_deeds.specs.Standing.{Here}
 use Rattle.plant_lasting.specs.Lasting.{AreInOrder, KeysInTime}
 use Rattle.plant_network.specs.Whole.{Step}

@@ -4,13 +4,13 @@ use Rattle.std.specs.Prelude.{OnOk, OnErr}
 use Rattle.dom_base.specs.declared.names.As.{As}
 use Rattle.pcep_subobjects.specs.declared.hop.Hop.{Hop}
 use Rattle.plant_text.specs.declared.settings.NetworkParts.{NetworkParts}
-use Rattle.plant_model.specs.declared.outcome.Outcome.{Outcome}
-use Rattle.plant_model.specs.declared.outcome.Refused.TheVariants.{NoMemory}
-use Rattle.plant_model.specs.Events.{Answered, Happened}
-use Rattle.plant_model.specs.RealWire.{wire}
-use Rattle.plant_model.specs.State.{Deed, State, said}
-use Rattle.plant_traffic.specs.Flow.{Flow}
-use Rattle.plant_members.specs.Membership.{Membership}
+use Rattle.plant_deeds.specs.plant_model.declared.outcome.Outcome.{Outcome}
+use Rattle.plant_deeds.specs.plant_model.declared.outcome.Refused.TheVariants.{NoMemory}
+use Rattle.plant_deeds.specs.plant_model.Events.{Answered, Happened}
+use Rattle.plant_deeds.specs.plant_model.RealWire.{wire}
+use Rattle.plant_deeds.specs.plant_model.State.{Deed, State, said}
+use Rattle.plant_deeds.specs.plant_traffic.Flow.{Flow}
+use Rattle.plant_deeds.specs.plant_members.Membership.{Membership}
 use Rattle.plant_deeds.specs.Giving.{OnlyGrows}
 use Rattle.plant_deeds.specs.Happening.{IsDone, IsDoneOrLacks}
 use Rattle.plant_deeds.specs.Passing.{IsOf}

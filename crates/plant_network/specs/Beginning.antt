@@ -2,9 +2,9 @@
 use Rattle.std.specs.Prelude.{◌≡◌, List, []}
 use Rattle.pcep_subobjects.specs.declared.hop.Hop.{Hop}
 use Rattle.plant_text.specs.declared.settings.NetworkParts.{NetworkParts}
-use Rattle.plant_model.specs.Events.{bare, opening}
-use Rattle.plant_model.specs.RealWire.{wire}
-use Rattle.plant_members.specs.Membership.{Membership}
+use Rattle.plant_deeds.specs.plant_model.Events.{bare, opening}
+use Rattle.plant_deeds.specs.plant_model.RealWire.{wire}
+use Rattle.plant_deeds.specs.plant_members.Membership.{Membership}
 use Rattle.plant_deeds.specs.Standing.{Here}
 use Rattle.plant_network.specs.Moving.{IsSound, whole}
 

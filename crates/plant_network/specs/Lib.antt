@@ -2,3 +2,13 @@
 pub mod Whole
 pub mod Moving
 pub mod Beginning
+-- handed on from below
+pub use Rattle.plant_hierarchy.specs.pce_element
+pub use Rattle.plant_hierarchy.specs.pce_parent
+pub use Rattle.plant_deeds.specs as plant_deeds
+pub use Rattle.plant_hierarchy.specs as plant_hierarchy
+pub use Rattle.plant_lasting.specs as plant_lasting
+pub use Rattle.plant_deeds.specs.plant_members
+pub use Rattle.plant_deeds.specs.plant_model
+pub use Rattle.plant_deeds.specs.plant_sessions
+pub use Rattle.plant_deeds.specs.plant_traffic

@@ -5,11 +5,11 @@ use Rattle.pcep_subobjects.specs.declared.hop.Hop.{Hop}
 use Rattle.plant_text.specs.declared.settings.NetworkParts.{NetworkParts}
 use Rattle.plant_text.specs.Names.{parent_as, same_as}
 use Rattle.plant_text.specs.Settings.{has_line, is_element, lines}
-use Rattle.plant_model.specs.declared.outcome.Refused.TheVariants.{NoMemory}
-use Rattle.plant_model.specs.Events.{Answered, Happened, refused}
-use Rattle.plant_model.specs.RealWire.{wire}
-use Rattle.plant_model.specs.State.{State}
-use Rattle.plant_members.specs.Membership.{AreJoined}
+use Rattle.plant_deeds.specs.plant_model.declared.outcome.Refused.TheVariants.{NoMemory}
+use Rattle.plant_deeds.specs.plant_model.Events.{Answered, Happened, refused}
+use Rattle.plant_deeds.specs.plant_model.RealWire.{wire}
+use Rattle.plant_deeds.specs.plant_model.State.{State}
+use Rattle.plant_deeds.specs.plant_members.Membership.{AreJoined}
 use Rattle.plant_deeds.specs.Passing.{IsOf}
 use Rattle.plant_deeds.specs.Rooms.{IsRoomy}
 use Rattle.plant_deeds.specs.Standing.{Here, state_of}

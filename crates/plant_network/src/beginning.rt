@@ -3,17 +3,17 @@ ghost use Rattle.std.specs.Prelude.{◌≡◌, [], length, IfOk, OnOk};
 ghost use Rattle.dom_base.specs.declared.names.As.{As as Domain};
 ghost use Rattle.plant_text.specs.Networks.{IsNetwork};
 ghost use Rattle.plant_text.specs.Settings.{lines};
-ghost use Rattle.plant_traffic.specs.Carried.{flow_of};
-ghost use Rattle.plant_traffic.specs.Flow.{IsBare};
+ghost use Rattle.plant_deeds.specs.plant_traffic.Carried.{flow_of};
+ghost use Rattle.plant_deeds.specs.plant_traffic.Flow.{IsBare};
 ghost use Rattle.plant_deeds.specs.Standing.{here};
 ghost use Rattle.plant_network.specs.Beginning.{AreBare, Begins};
 
 use dom_base::NoMemory;
 use plant_deeds::begin_links;
-use plant_layout::lines_of;
-use plant_members::Members;
+use plant_deeds::layout::lines_of;
+use plant_deeds::members::Members;
+use plant_deeds::traffic::Traffic;
 use plant_text::NetworkParts;
-use plant_traffic::Traffic;
 use std::alloc::Global;
 
 /// The outside peers and the links of these settings, on which nothing has begun.

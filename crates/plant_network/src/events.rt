@@ -1,19 +1,19 @@
 //! The events that every network has.
 ghost use Rattle.std.specs.Prelude.{false, true};
-ghost use Rattle.plant_model.specs.RealWire.{wire};
-ghost use Rattle.plant_model.specs.Events as events;
-ghost use Rattle.plant_traffic.specs.Carried.{flow_of};
+ghost use Rattle.plant_deeds.specs.plant_model.RealWire.{wire};
+ghost use Rattle.plant_deeds.specs.plant_model.Events as events;
+ghost use Rattle.plant_deeds.specs.plant_traffic.Carried.{flow_of};
 ghost use Rattle.plant_deeds.specs.Standing.{here};
 ghost use Rattle.plant_network.specs.Moving.{IsSound, Moves, OrLacks};
 
 use dom_base::{As, Bytes, Tick};
+use plant_deeds::members::Members;
+use plant_deeds::model::{Outcome, Refused};
+use plant_deeds::traffic::Traffic;
 use plant_deeds::{
     break_link as broken, carry as carried, drain as drained, feed as fed, open as opened,
     shut as closed, take as taken, tick as ticked,
 };
-use plant_members::Members;
-use plant_model::{Outcome, Refused};
-use plant_traffic::Traffic;
 use std::alloc::Global;
 
 /// The connection of an outside peer is opened, and its session begins.

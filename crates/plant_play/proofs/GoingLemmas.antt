@@ -3,13 +3,13 @@ use Rattle.std.proofs.Common.{◌≡◌, ◌<◌, ◌+◌, ℕ, suc, arith, Bool
 use Rattle.dom_base.specs.declared.names.As.{As}
 use Rattle.disclosure.specs.Shown.{open_of}
 use Rattle.plant_text.specs.declared.settings.NetworkParts.{NetworkParts}
-use Rattle.plant_model.specs.declared.event.Event.{Event}
-use Rattle.plant_model.specs.declared.event.Event.TheVariants as event
-use Rattle.plant_model.specs.declared.outcome.Refused.TheVariants as refused
-use Rattle.plant_model.specs.Blind.{is_accepted}
-use Rattle.plant_model.specs.Events.{Answered}
-use Rattle.plant_model.specs.Plant.{Pin, Plant, Segment, Happened, Happens, IsGiven, Run}
-use Rattle.plant_model.specs.RealWire.{wire}
+use Rattle.pce_plant.specs.plant_model.declared.event.Event.{Event}
+use Rattle.pce_plant.specs.plant_model.declared.event.Event.TheVariants as event
+use Rattle.pce_plant.specs.plant_model.declared.outcome.Refused.TheVariants as refused
+use Rattle.pce_plant.specs.plant_model.Blind.{is_accepted}
+use Rattle.pce_plant.specs.plant_model.Events.{Answered}
+use Rattle.pce_plant.specs.plant_model.Plant.{Pin, Plant, Segment, Happened, Happens, IsGiven, Run}
+use Rattle.pce_plant.specs.plant_model.RealWire.{wire}
 use Rattle.plant_due.specs.Due.{IsLeast, IsSettled, inbox_of}
 use Rattle.plant_due.proofs.CarryLemmas as carries
 use Rattle.plant_due.proofs.InboxLemmas.{take_empty, take_less}

@@ -4,3 +4,5 @@ pub mod GoingLemmas
 pub mod LineLemmas
 pub mod ShownLemmas
 pub mod TurnLemmas
+-- handed on from below
+pub use Rattle.pce_plant.proofs.plant_model

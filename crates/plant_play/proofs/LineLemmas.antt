@@ -7,10 +7,10 @@ use Rattle.te_deltas.specs.Answers.{IsBuiltOf}
 use Rattle.te_deltas.specs.ChangeText.{text_in}
 use Rattle.te_deltas.specs.declared.changes.Change.{Change}
 use Rattle.plant_text.specs.declared.line.LineEvent.{LineEvent}
-use Rattle.plant_model.specs.declared.event.Event.TheVariants as event
-use Rattle.plant_model.specs.declared.outcome.Refused.TheVariants.{NoSuchPeer}
-use Rattle.plant_model.specs.Events.{Answered}
-use Rattle.plant_model.specs.Plant.{Pin, Plant}
+use Rattle.pce_plant.specs.plant_model.declared.event.Event.TheVariants as event
+use Rattle.pce_plant.specs.plant_model.declared.outcome.Refused.TheVariants.{NoSuchPeer}
+use Rattle.pce_plant.specs.plant_model.Events.{Answered}
+use Rattle.pce_plant.specs.plant_model.Plant.{Pin, Plant}
 use Rattle.pce_plant.specs.Current.{IsCurrent}
 use Rattle.pce_plant.specs.Whole.{Whole}
 use Rattle.plant_play.specs.declared.error.PlayError.{PlayError}

@@ -6,9 +6,9 @@ use Rattle.path_certificate.specs.declared.certificate.Certificate.{Certificate}
 use Rattle.border_costs.specs.declared.job.Job.{Job}
 use Rattle.border_costs.specs.declared.answer.Answer.{Answer}
 use Rattle.border_costs.specs.Solutions.{AreRows}
-use Rattle.plant_model.specs.Blind.{is_accepted}
-use Rattle.plant_model.specs.Events.{Answered}
-use Rattle.plant_model.specs.declared.event.Event.{Event}
+use Rattle.pce_plant.specs.plant_model.Blind.{is_accepted}
+use Rattle.pce_plant.specs.plant_model.Events.{Answered}
+use Rattle.pce_plant.specs.plant_model.declared.event.Event.{Event}
 use Rattle.pce_plant.specs.Whole.{Whole}
 use Rattle.transcript.specs.Lines.{certified_text, rows_text, sents_text}
 use Rattle.plant_play.specs.declared.showing.Modes.{Modes}

@@ -2,10 +2,10 @@
 use Rattle.std.proofs.Common.{◌≡◌, ◌+◌, ℕ, true, List, [], ◌∷◌, ◌++◌, Option, Some, sym, ◌∙◌, subst, ap, refl, append-nil}
 use Rattle.std.proofs.lemmas.List.{flat_map_more, length_push}
 use Rattle.plant_text.specs.declared.settings.NetworkParts.{NetworkParts}
-use Rattle.plant_model.specs.declared.event.Event.{Event}
-use Rattle.plant_model.specs.Blind.{is_accepted}
-use Rattle.plant_model.specs.Plant.{Plant, Entry, IsGiven, Run}
-use Rattle.plant_model.specs.RealWire.{wire}
+use Rattle.pce_plant.specs.plant_model.declared.event.Event.{Event}
+use Rattle.pce_plant.specs.plant_model.Blind.{is_accepted}
+use Rattle.pce_plant.specs.plant_model.Plant.{Plant, Entry, IsGiven, Run}
+use Rattle.pce_plant.specs.plant_model.RealWire.{wire}
 use Rattle.pce_plant.specs.Whole.{Whole}
 use Rattle.plant_play.specs.declared.showing.Modes.{Modes}
 use Rattle.plant_play.specs.Due.{AreDue}

@@ -7,3 +7,6 @@ pub mod Scripts
 -- inner
 pub mod Making
 pub mod PlayerFields
+-- handed on from below
+pub use Rattle.pce_plant.specs.plant_model
+pub use Rattle.transcript.specs as transcript

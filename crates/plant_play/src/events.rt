@@ -13,7 +13,7 @@ use crate::error::PlayError;
 use crate::showing::{Modes, job_to_show, write_brought};
 use dom_base::{As, NoMemory};
 use pce_plant::Plant;
-use plant_model::{Event, Outcome, Refused};
+use pce_plant::model::{Event, Outcome, Refused};
 use plant_text::PeerRow;
 use std::alloc::Global;
 use transcript::{write_answer, write_carry, write_solve, write_take};

@@ -11,7 +11,7 @@ use crate::events::{Answer, Due, done, make_due};
 use crate::showing::Modes;
 use dom_base::Bytes;
 use pce_plant::Plant;
-use plant_model::Event;
+use pce_plant::model::Event;
 use std::alloc::Global;
 use transcript::write_answer;
 

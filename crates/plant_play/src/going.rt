@@ -1,7 +1,7 @@
 //! A network goes on until nothing is due.
 ghost use Rattle.std.specs.Prelude.{◌≡◌, ◌++◌, IfErr, IfOk, IfSome, OnOk, slice_get};
 ghost use Rattle.std.specs.Option.{option_map};
-ghost use Rattle.plant_model.specs.declared.event.Event.TheVariants.{Solve};
+ghost use Rattle.pce_plant.specs.plant_model.declared.event.Event.TheVariants.{Solve};
 ghost use Rattle.pce_plant.specs.Held.{whole};
 ghost use Rattle.plant_play.specs.Due.{IsDue, jobs_due};
 ghost use Rattle.plant_play.specs.Loading.{IsWant};
@@ -12,7 +12,7 @@ use crate::error::PlayError;
 use crate::events::{Answer, Due, make_due};
 use crate::showing::Modes;
 use pce_plant::Plant;
-use plant_model::Outcome;
+use pce_plant::model::Outcome;
 use std::alloc::Global;
 use transcript::write_answer;
 

@@ -12,5 +12,8 @@ mod showing;
 
 pub use error::PlayError;
 pub use events::Answer;
+pub use pce_plant::{model, parts};
 pub use player::Player;
 pub use showing::Modes;
+pub use transcript as transcripts;
+pub use transcript::layout;

@@ -2,7 +2,7 @@
 ghost use Rattle.std.specs.Prelude.{◌≡◌, ◌≤◌, ◌++◌, length, Err, IfErr, IfOk};
 ghost use Rattle.std.specs.Option.{option_map};
 ghost use Rattle.te_deltas.specs.ChangeText.{change_file_most};
-ghost use Rattle.plant_model.specs.declared.outcome.Refused.TheVariants.{NoSuchPeer};
+ghost use Rattle.pce_plant.specs.plant_model.declared.outcome.Refused.TheVariants.{NoSuchPeer};
 ghost use Rattle.pce_plant.specs.Held.{whole};
 ghost use Rattle.pce_plant.specs.Whole.{IsOwnLoad};
 ghost use Rattle.plant_play.specs.Loading.{IsWant};
@@ -17,7 +17,7 @@ use crate::going::{Until, go_on};
 use crate::showing::Modes;
 use dom_base::{As, Bytes};
 use pce_plant::Plant;
-use plant_model::{Event, Outcome, Refused};
+use pce_plant::model::{Event, Outcome, Refused};
 use plant_text::LineEvent;
 use std::alloc::Global;
 use transcript::write_answer;

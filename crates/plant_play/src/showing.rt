@@ -3,7 +3,7 @@ ghost use Rattle.std.specs.Prelude.{◌≡◌, ◌++◌, ◌&&◌, ◌||◌, Som
 ghost use Rattle.path_certificate.specs.declared.certificate.Certificate.{Certificate as Certified};
 ghost use Rattle.dom_base.specs.declared.border.BorderRow.{BorderRow};
 ghost use Rattle.plant_text.specs.Settings.{class_from, peer_row};
-ghost use Rattle.plant_model.specs.Element.{is_client};
+ghost use Rattle.pce_plant.specs.plant_model.Element.{is_client};
 ghost use Rattle.pce_plant.specs.Held.{whole};
 ghost use Rattle.transcript.specs.Lines.{certified_text, rows_text};
 ghost use Rattle.plant_play.specs.Making.{Brings, IsToShow, Labels, LabelsIf, Shown, Tables, TablesIf, closed_among, shows_any};
@@ -12,8 +12,8 @@ ghost use Rattle.plant_play.specs.Turns.{tells_closed};
 use border_costs::{Job, border_table, solve};
 use disclosure::Class;
 use dom_base::{NoMemory, Peer};
+use pce_plant::model::{Event, Outcome, Refused};
 use pce_plant::{Plant, Work};
-use plant_model::{Event, Outcome, Refused};
 use plant_text::PeerRow;
 use std::alloc::Global;
 use transcript::{write_certified, write_rows, write_said};

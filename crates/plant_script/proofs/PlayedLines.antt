@@ -5,7 +5,7 @@ use Rattle.std.specs.declared.option.Option.{Option}
 use Rattle.dom_edge.specs.Stores.{Files}
 use Rattle.line_text.specs.Lines.{NumberedLine}
 use Rattle.plant_text.specs.declared.settings.NetworkParts.{NetworkParts}
-use Rattle.plant_model.specs.Events.{Answered}
+use Rattle.plant_play.specs.plant_model.Events.{Answered}
 use Rattle.plant_play.specs.Playing.{Cue, PlaysLine, Stage}
 use Rattle.plant_play.specs.Scripts.{AllPlayed}
 use Rattle.plant_play.specs.Turns.{Turn}

@@ -14,8 +14,8 @@ use Rattle.dom_edge.specs.Whole.{AppendsSome}
 use Rattle.line_text.specs.Lines.{NumberedLine, is_skipped, told_after, told_lines}
 use Rattle.plant_text.specs.declared.settings.NetworkParts.{NetworkParts}
 use Rattle.plant_text.specs.declared.line.LineEvent.{LineEvent}
-use Rattle.plant_model.specs.Plant.{opened}
-use Rattle.plant_model.specs.RealWire.{wire}
+use Rattle.plant_play.specs.plant_model.Plant.{opened}
+use Rattle.plant_play.specs.plant_model.RealWire.{wire}
 use Rattle.plant_play.specs.Playing.{IsNewStage, Stage}
 use Rattle.plant_script.specs.declared.stop.Stop.{Stop}
 use Rattle.plant_script.specs.declared.stop.Stop.TheVariants as stop

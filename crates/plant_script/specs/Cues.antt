@@ -5,7 +5,7 @@ use Rattle.dom_edge.specs.Stores.{Files, HasFile, IfFile, IsLongFile}
 use Rattle.plant_text.specs.declared.fault.NetFault.{NetFault}
 use Rattle.plant_text.specs.declared.line.LineEvent.{LineEvent}
 use Rattle.plant_text.specs.declared.line.LineEvent.TheVariants as line
-use Rattle.plant_model.specs.Events.{Answered}
+use Rattle.plant_play.specs.plant_model.Events.{Answered}
 use Rattle.plant_play.specs.declared.error.PlayError.TheVariants as play
 use Rattle.plant_play.specs.Playing.{IsWhyNot, PlaysLine, Stage, cue}
 use Rattle.plant_play.specs.Turns.{Turn}

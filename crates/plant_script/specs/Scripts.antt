@@ -8,7 +8,7 @@ use Rattle.line_text.specs.Lines.{NumberedLine, told_lines}
 use Rattle.plant_text.specs.declared.line.LineEvent.{LineEvent}
 use Rattle.plant_text.specs.declared.settings.NetworkParts.{NetworkParts}
 use Rattle.plant_text.specs.Lines.{line_in}
-use Rattle.plant_model.specs.Events.{Answered}
+use Rattle.plant_play.specs.plant_model.Events.{Answered}
 use Rattle.plant_play.specs.Playing.{Cue, IsNewStage, PlaysLine, Stage}
 use Rattle.plant_play.specs.Scripts.{AllPlayed}
 use Rattle.plant_play.specs.Turns.{Turn}

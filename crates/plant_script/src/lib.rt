@@ -6,5 +6,7 @@ mod script;
 mod stop;
 
 pub use cue::{FILE_MAX, play_cue};
+pub use plant_play as play;
+pub use plant_play::{layout, model, parts, transcripts};
 pub use script::{LINE_MAX, SCRIPT_MAX, play_script};
 pub use stop::Stop;

@@ -15,14 +15,14 @@ use Rattle.plant_text.specs.declared.settings.NetworkParts.{NetworkParts}
 use Rattle.plant_text.specs.declared.settings.ElementRow.{ElementRow}
 use Rattle.dom_base.specs.AddrOrder.{rank}
 use Rattle.plant_text.specs.Names.{same_as, parent_as, insert_as}
-use Rattle.plant_model.specs.Names.{same_addr}
+use Rattle.plant_laws.specs.plant_model.Names.{same_addr}
 use Rattle.plant_text.specs.Settings.{children, children_of, elements_of}
-use Rattle.plant_model.specs.Rising.{insert_addr}
-use Rattle.plant_model.specs.Wire.{Bytes, Codec, Checked, Admitted, Wrong}
-use Rattle.plant_model.specs.Laws.{IsCodec, IsNetwork, IsSequence}
-use Rattle.plant_model.specs.Taking.{sequence_or}
-use Rattle.plant_model.specs.Parent.{tails}
-use Rattle.plant_model.specs.Plant.{Plant, Entry, Run, deeds_of}
+use Rattle.plant_laws.specs.plant_model.Rising.{insert_addr}
+use Rattle.plant_laws.specs.plant_model.Wire.{Bytes, Codec, Checked, Admitted, Wrong}
+use Rattle.plant_laws.specs.plant_model.Laws.{IsCodec, IsNetwork, IsSequence}
+use Rattle.plant_laws.specs.plant_model.Taking.{sequence_or}
+use Rattle.plant_laws.specs.plant_model.Parent.{tails}
+use Rattle.plant_laws.specs.plant_model.Plant.{Plant, Entry, Run, deeds_of}
 use Rattle.plant_laws.specs.Sending.{AllSent}
 use Rattle.plant_laws.specs.About.{IsShort}
 use Rattle.plant_laws.specs.Standing.{messages as messages_of, texts}

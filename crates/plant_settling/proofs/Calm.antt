@@ -20,16 +20,16 @@ use Rattle.plant_text.specs.declared.settings.NetworkParts.{NetworkParts}
 use Rattle.plant_text.specs.declared.settings.PeerRow.{PeerRow}
 use Rattle.plant_text.specs.Names.{same_as, parent_as}
 use Rattle.plant_text.specs.Settings.{class_of, is_linked}
-use Rattle.plant_model.specs.declared.output.Output.{Output}
-use Rattle.plant_model.specs.Settings.{place, family}
-use Rattle.plant_model.specs.Wire.{Bytes, Codec}
-use Rattle.plant_model.specs.Element as element
-use Rattle.plant_model.specs.Element.{Element}
-use Rattle.plant_model.specs.Taking as taking
-use Rattle.plant_model.specs.Parent as parent
-use Rattle.plant_model.specs.State.{State, Connection, Takes, Ups, Downs}
-use Rattle.plant_model.specs.Deeds.{Going, element_of, is_due, is_tick, is_out_empty, with_session, with_inbox, put, put_to, puts, with_element, with_parent, with_access, give, rise, fall, say, outside_act, outside_acts, outside_step, outside_input, tick_outside}
-use Rattle.plant_model.specs.Plant.{Pin, Segment, PlantDeed}
+use Rattle.plant_laws.specs.plant_model.declared.output.Output.{Output}
+use Rattle.plant_laws.specs.plant_model.Settings.{place, family}
+use Rattle.plant_laws.specs.plant_model.Wire.{Bytes, Codec}
+use Rattle.plant_laws.specs.plant_model.Element as element
+use Rattle.plant_laws.specs.plant_model.Element.{Element}
+use Rattle.plant_laws.specs.plant_model.Taking as taking
+use Rattle.plant_laws.specs.plant_model.Parent as parent
+use Rattle.plant_laws.specs.plant_model.State.{State, Connection, Takes, Ups, Downs}
+use Rattle.plant_laws.specs.plant_model.Deeds.{Going, element_of, is_due, is_tick, is_out_empty, with_session, with_inbox, put, put_to, puts, with_element, with_parent, with_access, give, rise, fall, say, outside_act, outside_acts, outside_step, outside_input, tick_outside}
+use Rattle.plant_laws.specs.plant_model.Plant.{Pin, Segment, PlantDeed}
 use Rattle.plant_laws.specs.Sending.{AllSent, AreAll}
 use Rattle.plant_laws.proofs.Queues.{same_as_is}
 use Rattle.plant_settling.specs.Settling.{is_ordinary, IsOrdinary, Holds, Reaches, KeepsTo, TablesReach, IsUp, LinksAreCalm}

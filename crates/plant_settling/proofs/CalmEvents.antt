@@ -16,24 +16,24 @@ use Rattle.request_table.specs.declared.held.Held.{Held}
 use Rattle.plant_text.specs.declared.settings.NetworkParts.{NetworkParts}
 use Rattle.plant_text.specs.Names.{same_as, same_link, parent_as}
 use Rattle.plant_text.specs.Settings.{Line, line, lines, has_line, is_linked, is_element, peer_row}
-use Rattle.plant_model.specs.declared.event.Event.{Event}
-use Rattle.plant_model.specs.declared.event.Event.TheVariants as event
-use Rattle.plant_model.specs.declared.outcome.Outcome.TheVariants.{Done}
-use Rattle.plant_model.specs.declared.outcome.Refused.TheVariants.{NoSuchPeer}
-use Rattle.plant_model.specs.declared.output.Output.{Output}
-use Rattle.plant_model.specs.Wire.{Bytes, Codec}
-use Rattle.plant_model.specs.Laws.{IsCodec, IsNetwork}
-use Rattle.plant_model.specs.Names.{set_pair}
-use Rattle.plant_model.specs.Element.{Way, way_to}
-use Rattle.plant_model.specs.Parent as parent
-use Rattle.plant_model.specs.Settings.{place, way, ways, ways_along}
-use Rattle.plant_model.specs.Solving as solving
-use Rattle.plant_model.specs.State.{Connection, Loads, Pops, Takes, Says, Ups, Downs, Clears, Solves, Expires, Hands}
-use Rattle.plant_model.specs.Deeds as deeds
-use Rattle.plant_model.specs.Deeds.{Going, element_of, any_fall, input_of, read_as, with_inbox, our_offer, own_message}
-use Rattle.plant_model.specs.Events as events
-use Rattle.plant_model.specs.Events.{is_down}
-use Rattle.plant_model.specs.Plant.{Pin, Segment, first_pin, Plant, PlantDeed, Happened, Entry, Run, deeds_of, is_full, ElementSolves, ParentSolves, Happens, Steps}
+use Rattle.plant_laws.specs.plant_model.declared.event.Event.{Event}
+use Rattle.plant_laws.specs.plant_model.declared.event.Event.TheVariants as event
+use Rattle.plant_laws.specs.plant_model.declared.outcome.Outcome.TheVariants.{Done}
+use Rattle.plant_laws.specs.plant_model.declared.outcome.Refused.TheVariants.{NoSuchPeer}
+use Rattle.plant_laws.specs.plant_model.declared.output.Output.{Output}
+use Rattle.plant_laws.specs.plant_model.Wire.{Bytes, Codec}
+use Rattle.plant_laws.specs.plant_model.Laws.{IsCodec, IsNetwork}
+use Rattle.plant_laws.specs.plant_model.Names.{set_pair}
+use Rattle.plant_laws.specs.plant_model.Element.{Way, way_to}
+use Rattle.plant_laws.specs.plant_model.Parent as parent
+use Rattle.plant_laws.specs.plant_model.Settings.{place, way, ways, ways_along}
+use Rattle.plant_laws.specs.plant_model.Solving as solving
+use Rattle.plant_laws.specs.plant_model.State.{Connection, Loads, Pops, Takes, Says, Ups, Downs, Clears, Solves, Expires, Hands}
+use Rattle.plant_laws.specs.plant_model.Deeds as deeds
+use Rattle.plant_laws.specs.plant_model.Deeds.{Going, element_of, any_fall, input_of, read_as, with_inbox, our_offer, own_message}
+use Rattle.plant_laws.specs.plant_model.Events as events
+use Rattle.plant_laws.specs.plant_model.Events.{is_down}
+use Rattle.plant_laws.specs.plant_model.Plant.{Pin, Segment, first_pin, Plant, PlantDeed, Happened, Entry, Run, deeds_of, is_full, ElementSolves, ParentSolves, Happens, Steps}
 use Rattle.plant_laws.specs.Sending.{AreAll, DeedSends, AllSent}
 use Rattle.request_table.specs.Pending.{same_peer}
 use Rattle.plant_laws.proofs.Queues.{same_as_is}

@@ -19,12 +19,12 @@ use Rattle.request_table.specs.Pending.{same_peer}
 use Rattle.plant_text.specs.declared.settings.NetworkParts.{NetworkParts}
 use Rattle.plant_text.specs.Names.{same_as}
 use Rattle.plant_text.specs.Settings.{Line, is_linked}
-use Rattle.plant_model.specs.Names.{is_empty, set_pair}
-use Rattle.plant_model.specs.Wire.{Bytes, Codec}
-use Rattle.plant_model.specs.Laws.{IsCodec}
-use Rattle.plant_model.specs.State.{Pops}
-use Rattle.plant_model.specs.Deeds.{own_message, our_offer, is_due, is_tick, any_fall, read_as, put_to, with_inner, fall, say, clear, inner_acts, inner_input, begin_line, break_line, tick_lines}
-use Rattle.plant_model.specs.Plant.{Pin, Segment}
+use Rattle.plant_laws.specs.plant_model.Names.{is_empty, set_pair}
+use Rattle.plant_laws.specs.plant_model.Wire.{Bytes, Codec}
+use Rattle.plant_laws.specs.plant_model.Laws.{IsCodec}
+use Rattle.plant_laws.specs.plant_model.State.{Pops}
+use Rattle.plant_laws.specs.plant_model.Deeds.{own_message, our_offer, is_due, is_tick, any_fall, read_as, put_to, with_inner, fall, say, clear, inner_acts, inner_input, begin_line, break_line, tick_lines}
+use Rattle.plant_laws.specs.plant_model.Plant.{Pin, Segment}
 use Rattle.plant_laws.proofs.InForm.{own_written}
 use Rattle.plant_settling.specs.Settling.{IsOpen, IsKeepalive, IsOrdinary, Holds, TablesReach, IsUp}
 use Rattle.plant_settling.proofs.Pairs.{AllApart, both, both_are, both_flips, first_apart, second_apart, same_back, set_here, set_other, set_all}

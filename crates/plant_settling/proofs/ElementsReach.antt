@@ -23,15 +23,15 @@ use Rattle.request_table.specs.Pending.{number_of, same_peer, is_full}
 use Rattle.vspt_tree.specs.declared.branch.Best.{Best}
 use Rattle.vspt_tree.specs.declared.branch.Branch.{Branch}
 use Rattle.plant_text.specs.Names.{parent_as}
-use Rattle.plant_model.specs.Names.{has_pair, the_parent}
-use Rattle.plant_model.specs.Wire.{Codec, Checked, Admitted, Wrong}
-use Rattle.plant_model.specs.Writing.{reply_message, error_message, unavailable, busy, no_path}
-use Rattle.plant_model.specs.Branches.{branches_in}
+use Rattle.plant_laws.specs.plant_model.Names.{has_pair, the_parent}
+use Rattle.plant_laws.specs.plant_model.Wire.{Codec, Checked, Admitted, Wrong}
+use Rattle.plant_laws.specs.plant_model.Writing.{reply_message, error_message, unavailable, busy, no_path}
+use Rattle.plant_laws.specs.plant_model.Branches.{branches_in}
 use Rattle.disclosure.specs.Policy.{is_denied}
-use Rattle.plant_model.specs.Element.{Stage, Ready, Row, Way, Element, Place, Taken, silent, only, each, ended, waiting, waits_for, waits_on, way_to, fresh_id, at_stage, stays, is_lost, lost_of, lost_output, lost, upped, downed, is_client}
-use Rattle.plant_model.specs.Taking.{sequence_or, goes_up, send_on, sent_on, take_along, take_path, take_wish, take_new, take_checked, take_asked, staged, answered, made_ready, take_answer, take_reply, told_busy, cancelled, take_busy, take_cancel, notice_steps, take_notice, error_answer, told_error, take_failure, take_errors, take_report, take, denied, expansion}
-use Rattle.plant_model.specs.Solving.{commit, client_reply, closed_reply, closed_paths, issued_all, free}
-use Rattle.plant_model.specs.Parent as parent
+use Rattle.plant_laws.specs.plant_model.Element.{Stage, Ready, Row, Way, Element, Place, Taken, silent, only, each, ended, waiting, waits_for, waits_on, way_to, fresh_id, at_stage, stays, is_lost, lost_of, lost_output, lost, upped, downed, is_client}
+use Rattle.plant_laws.specs.plant_model.Taking.{sequence_or, goes_up, send_on, sent_on, take_along, take_path, take_wish, take_new, take_checked, take_asked, staged, answered, made_ready, take_answer, take_reply, told_busy, cancelled, take_busy, take_cancel, notice_steps, take_notice, error_answer, told_error, take_failure, take_errors, take_report, take, denied, expansion}
+use Rattle.plant_laws.specs.plant_model.Solving.{commit, client_reply, closed_reply, closed_paths, issued_all, free}
+use Rattle.plant_laws.specs.plant_model.Parent as parent
 use Rattle.plant_laws.proofs.Onward.{way_peer}
 use Rattle.plant_settling.specs.Settling.{Reaches, AllReach, KeepsTo, is_ordinary}
 use Rattle.plant_settling.proofs.Reaching.{AreSound, sound_append, all_append, all_removed, all_written, last_up, upped_keeps, downed_keeps}

@@ -28,15 +28,15 @@ use Rattle.vspt_tree.specs.declared.branch.Best.{Best}
 use Rattle.vspt_tree.specs.declared.branch.Branch.{Branch}
 use Rattle.plant_text.specs.declared.settings.NetworkParts.{NetworkParts}
 use Rattle.plant_text.specs.Names.{same_as, parent_as}
-use Rattle.plant_model.specs.Names.{has_pair, the_parent}
-use Rattle.plant_model.specs.Wire.{Codec, Checked, Admitted, Wrong}
-use Rattle.plant_model.specs.Laws.{IsCodec, IsSequence, Admits}
-use Rattle.plant_model.specs.Writing.{asked_of, request_message, reply_message, error_message, unavailable, busy, no_path}
-use Rattle.plant_model.specs.Branches.{branches_in}
+use Rattle.plant_laws.specs.plant_model.Names.{has_pair, the_parent}
+use Rattle.plant_laws.specs.plant_model.Wire.{Codec, Checked, Admitted, Wrong}
+use Rattle.plant_laws.specs.plant_model.Laws.{IsCodec, IsSequence, Admits}
+use Rattle.plant_laws.specs.plant_model.Writing.{asked_of, request_message, reply_message, error_message, unavailable, busy, no_path}
+use Rattle.plant_laws.specs.plant_model.Branches.{branches_in}
 use Rattle.disclosure.specs.Policy.{is_denied}
-use Rattle.plant_model.specs.Element.{Stage, Waits, Ready, Row, Way, Element, Place, Taken, silent, only, each, waiting, waits_for, is_waiting, way_to, fresh_id, at_stage, is_client}
-use Rattle.plant_model.specs.Taking.{item_of, sequence_or, goes_up, send_on, sent_on, take_along, take_path, take_wish, take_new, take_checked, take_asked, staged, answered, made_ready, take_answer, take_reply, told_busy, cancelled, take_busy, take_cancel, notice_steps, take_notice, error_answer, told_error, take_failure, take_errors, take_report, take, denied, expansion}
-use Rattle.plant_model.specs.Solving.{commit, client_reply, closed_reply, closed_paths, issued_all, free}
+use Rattle.plant_laws.specs.plant_model.Element.{Stage, Waits, Ready, Row, Way, Element, Place, Taken, silent, only, each, waiting, waits_for, is_waiting, way_to, fresh_id, at_stage, is_client}
+use Rattle.plant_laws.specs.plant_model.Taking.{item_of, sequence_or, goes_up, send_on, sent_on, take_along, take_path, take_wish, take_new, take_checked, take_asked, staged, answered, made_ready, take_answer, take_reply, told_busy, cancelled, take_busy, take_cancel, notice_steps, take_notice, error_answer, told_error, take_failure, take_errors, take_report, take, denied, expansion}
+use Rattle.plant_laws.specs.plant_model.Solving.{commit, client_reply, closed_reply, closed_paths, issued_all, free}
 use Rattle.plant_laws.proofs.Onward.{way_peer}
 use Rattle.plant_laws.proofs.FromElement.{own_sequence, later_sequence, admits_path}
 use Rattle.plant_laws.proofs.ElementSays.{WaysOk, ways_last, WayOk, way_fits, next_fits, next_some}

@@ -22,14 +22,14 @@ use Rattle.pcep_messages.specs.declared.message.Wish.TheVariants.{Path, Expand}
 use Rattle.vspt_tree.specs.declared.branch.Branch.{Branch}
 use Rattle.request_table.specs.Pending.{number_of, same_peer, is_full}
 use Rattle.plant_text.specs.Names.{parent_as}
-use Rattle.plant_model.specs.Names.{has_pair}
-use Rattle.plant_model.specs.Wire.{Codec, Checked, Admitted, Wrong}
-use Rattle.plant_model.specs.Writing.{reply_message, error_message, unavailable, busy, no_key, no_path}
-use Rattle.plant_model.specs.Branches.{branches_in, path_of}
-use Rattle.plant_model.specs.Element.{Way, way_to, with_last, lost_output}
-use Rattle.plant_model.specs.Taking.{error_answer}
-use Rattle.plant_model.specs.BorderGraph.{Found}
-use Rattle.plant_model.specs.Parent.{Parent, Given, Family, AskingRow, Wait, Errand, silent, only, each, among, waiting, all_waits, next_id, ask_all, errands, errands_to, with_end, tails, is_up, all_up, take_path, take_wish, take_new, take_checked, take_asked, ended, answered, gathered, gathers, take_answer, take_found, take_reply, told_busy, cancelled, take_busy, take_cancel, notice_steps, take_notice, told_error, take_failure, take_errors, take_report, take, upped, any_on, stays, is_lost, lost_of, lost, downed, commit}
+use Rattle.plant_laws.specs.plant_model.Names.{has_pair}
+use Rattle.plant_laws.specs.plant_model.Wire.{Codec, Checked, Admitted, Wrong}
+use Rattle.plant_laws.specs.plant_model.Writing.{reply_message, error_message, unavailable, busy, no_key, no_path}
+use Rattle.plant_laws.specs.plant_model.Branches.{branches_in, path_of}
+use Rattle.plant_laws.specs.plant_model.Element.{Way, way_to, with_last, lost_output}
+use Rattle.plant_laws.specs.plant_model.Taking.{error_answer}
+use Rattle.plant_laws.specs.plant_model.BorderGraph.{Found}
+use Rattle.plant_laws.specs.plant_model.Parent.{Parent, Given, Family, AskingRow, Wait, Errand, silent, only, each, among, waiting, all_waits, next_id, ask_all, errands, errands_to, with_end, tails, is_up, all_up, take_path, take_wish, take_new, take_checked, take_asked, ended, answered, gathered, gathers, take_answer, take_found, take_reply, told_busy, cancelled, take_busy, take_cancel, notice_steps, take_notice, told_error, take_failure, take_errors, take_report, take, upped, any_on, stays, is_lost, lost_of, lost, downed, commit}
 use Rattle.plant_settling.specs.Settling.{Reaches, AllReach, KeepsTo, is_ordinary}
 use Rattle.plant_settling.proofs.Reaching.{AreSound, sound_append, all_append, all_removed, all_written, last_up, upped_keeps, downed_keeps}
 

@@ -28,17 +28,17 @@ use Rattle.request_table.specs.Pending.{number_of, is_full}
 use Rattle.plant_text.specs.declared.settings.NetworkParts.{NetworkParts}
 use Rattle.plant_text.specs.Names.{parent_as}
 use Rattle.plant_text.specs.Settings.{children}
-use Rattle.plant_model.specs.Names.{has_pair}
-use Rattle.plant_model.specs.Rising.{has_addr}
-use Rattle.plant_model.specs.Settings.{family}
-use Rattle.plant_model.specs.Wire.{Codec, Checked, Admitted, Wrong}
-use Rattle.plant_model.specs.Laws.{IsCodec, IsNetwork, IsSequence, Admits}
-use Rattle.plant_model.specs.Writing.{asked_of, request_message, reply_message, error_message, unavailable, busy, no_key, no_path}
-use Rattle.plant_model.specs.Branches.{branches_in, path_of}
-use Rattle.plant_model.specs.Element.{Way, way_to, with_last}
-use Rattle.plant_model.specs.Taking.{error_answer}
-use Rattle.plant_model.specs.BorderGraph.{Found}
-use Rattle.plant_model.specs.Parent.{Parent, Given, AskingRow, Wait, Errand, silent, only, each, among, waiting, all_waits, next_id, ask_all, errands, errands_to, with_end, tails, last_to, all_up, take_path, take_wish, take_new, take_checked, take_asked, answered, gathered, gathers, take_answer, take_found, take_reply, told_busy, cancelled, take_busy, take_cancel, notice_steps, take_notice, told_error, take_failure, take_errors, take_report, take, commit}
+use Rattle.plant_laws.specs.plant_model.Names.{has_pair}
+use Rattle.plant_laws.specs.plant_model.Rising.{has_addr}
+use Rattle.plant_laws.specs.plant_model.Settings.{family}
+use Rattle.plant_laws.specs.plant_model.Wire.{Codec, Checked, Admitted, Wrong}
+use Rattle.plant_laws.specs.plant_model.Laws.{IsCodec, IsNetwork, IsSequence, Admits}
+use Rattle.plant_laws.specs.plant_model.Writing.{asked_of, request_message, reply_message, error_message, unavailable, busy, no_key, no_path}
+use Rattle.plant_laws.specs.plant_model.Branches.{branches_in, path_of}
+use Rattle.plant_laws.specs.plant_model.Element.{Way, way_to, with_last}
+use Rattle.plant_laws.specs.plant_model.Taking.{error_answer}
+use Rattle.plant_laws.specs.plant_model.BorderGraph.{Found}
+use Rattle.plant_laws.specs.plant_model.Parent.{Parent, Given, AskingRow, Wait, Errand, silent, only, each, among, waiting, all_waits, next_id, ask_all, errands, errands_to, with_end, tails, last_to, all_up, take_path, take_wish, take_new, take_checked, take_asked, answered, gathered, gathers, take_answer, take_found, take_reply, told_busy, cancelled, take_busy, take_cancel, notice_steps, take_notice, told_error, take_failure, take_errors, take_report, take, commit}
 use Rattle.plant_laws.proofs.FromElement.{admits_path}
 use Rattle.plant_laws.proofs.ElementSays.{WaysOk, ways_last, WayOk, way_fits, next_fits, next_some}
 use Rattle.plant_settling.specs.Settling.{total, cost, errands_most, above_weight, asked_weight, checked_weight}

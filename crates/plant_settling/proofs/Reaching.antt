@@ -8,9 +8,9 @@ use Rattle.dom_base.specs.declared.names.Peer.TheVariants.{Outside, Inner}
 use Rattle.request_table.specs.declared.held.Held.{Held}
 use Rattle.request_table.specs.Pending.{same_peer}
 use Rattle.request_table.specs.Lends.{with_item}
-use Rattle.plant_model.specs.declared.output.Output.{Output}
-use Rattle.plant_model.specs.Element.{Way, way_to, with_last, with_up}
-use Rattle.plant_model.specs.Parent as parent
+use Rattle.plant_laws.specs.plant_model.declared.output.Output.{Output}
+use Rattle.plant_laws.specs.plant_model.Element.{Way, way_to, with_last, with_up}
+use Rattle.plant_laws.specs.plant_model.Parent as parent
 use Rattle.plant_laws.proofs.SentOn.{same_peer_is}
 use Rattle.plant_settling.specs.Settling.{Reaches, AllReach, KeepsTo, is_ordinary}
 

@@ -6,7 +6,7 @@ use Rattle.plant_text.specs.declared.settings.NetworkParts.{NetworkParts}
 use Rattle.plant_text.specs.declared.settings.ElementRow.{ElementRow}
 use Rattle.plant_text.specs.Names.{same_as, parent_as, insert_as}
 use Rattle.plant_text.specs.Settings.{Line, lines, before_line, insert_line, sorted, upward, has_line, is_linked, children, children_of, elements_of, is_element}
-use Rattle.plant_model.specs.Laws.{IsNetwork}
+use Rattle.plant_laws.specs.plant_model.Laws.{IsNetwork}
 use Rattle.plant_laws.proofs.Queues.{same_as_is}
 use Rattle.plant_settling.specs.Settling.{ends}
 use Rattle.plant_settling.proofs.Pairs.{same_self}

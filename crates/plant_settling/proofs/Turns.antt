@@ -10,8 +10,8 @@ use Rattle.pcep_session.specs.declared.state.Phase.{Phase}
 use Rattle.pcep_session.specs.declared.state.Phase.TheVariants as phase
 use Rattle.pcep_session.specs.declared.state.State.{State as Session}
 use Rattle.pcep_session.specs.Table.{Turn, turn_of, turn_in, up_tick, at_tick, has_passed, waits}
-use Rattle.plant_model.specs.Wire.{Bytes, Codec}
-use Rattle.plant_model.specs.Deeds.{any_fall, read_as}
+use Rattle.plant_laws.specs.plant_model.Wire.{Bytes, Codec}
+use Rattle.plant_laws.specs.plant_model.Deeds.{any_fall, read_as}
 use Rattle.plant_settling.specs.Settling.{is_ordinary, IsOpen, IsKeepalive, IsOrdinary, AreOrdinary, IsNothing, Holds}
 
 -- ---- ticks

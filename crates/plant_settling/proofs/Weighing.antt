@@ -7,9 +7,9 @@ use Rattle.pcep_messages.specs.declared.message.Answer.{Answer}
 use Rattle.pcep_messages.specs.declared.message.Message.{Message}
 use Rattle.pcep_messages.specs.declared.message.Message.TheVariants as messages
 use Rattle.plant_text.specs.declared.settings.NetworkParts.{NetworkParts}
-use Rattle.plant_model.specs.declared.output.Output.{Output}
-use Rattle.plant_model.specs.Wire.{Codec}
-use Rattle.plant_model.specs.Writing.{reply_message, error_message, busy}
+use Rattle.plant_laws.specs.plant_model.declared.output.Output.{Output}
+use Rattle.plant_laws.specs.plant_model.Wire.{Codec}
+use Rattle.plant_laws.specs.plant_model.Writing.{reply_message, error_message, busy}
 use Rattle.plant_settling.specs.Settling.{total, cost}
 use Rattle.plant_settling.proofs.Sums.{total_append}
 

@@ -9,14 +9,14 @@ use Rattle.pcep_messages.specs.declared.message.Message.{Message}
 use Rattle.plant_text.specs.declared.settings.NetworkParts.{NetworkParts}
 use Rattle.plant_text.specs.Names.{same_as}
 use Rattle.plant_text.specs.Settings.{elements_of}
-use Rattle.plant_model.specs.declared.output.Output.{Output}
-use Rattle.plant_model.specs.Names.{set_pair}
-use Rattle.plant_model.specs.Wire.{Bytes, Codec}
-use Rattle.plant_model.specs.Laws.{IsNetwork}
-use Rattle.plant_model.specs.Element.{Element}
-use Rattle.plant_model.specs.Parent.{Parent}
-use Rattle.plant_model.specs.Deeds.{put_to, put, puts, with_element, with_parent}
-use Rattle.plant_model.specs.Plant.{Pin, Segment}
+use Rattle.plant_laws.specs.plant_model.declared.output.Output.{Output}
+use Rattle.plant_laws.specs.plant_model.Names.{set_pair}
+use Rattle.plant_laws.specs.plant_model.Wire.{Bytes, Codec}
+use Rattle.plant_laws.specs.plant_model.Laws.{IsNetwork}
+use Rattle.plant_laws.specs.plant_model.Element.{Element}
+use Rattle.plant_laws.specs.plant_model.Parent.{Parent}
+use Rattle.plant_laws.specs.plant_model.Deeds.{put_to, put, puts, with_element, with_parent}
+use Rattle.plant_laws.specs.plant_model.Plant.{Pin, Segment}
 use Rattle.plant_laws.specs.Sending.{AreAll}
 use Rattle.plant_settling.specs.Settling.{total, ends, cost, read_weight, queue_weight, queues_weight, pending_count}
 use Rattle.plant_settling.proofs.Pairs.{both, first_apart, second_apart, same_self, set_here, set_other, set_all}

@@ -15,17 +15,17 @@ use Rattle.disclosure.specs.declared.class.Class.TheVariants.{Neighbour, Parent 
 use Rattle.plant_text.specs.declared.settings.NetworkParts.{NetworkParts}
 use Rattle.plant_text.specs.Names.{same_as, parent_as}
 use Rattle.plant_text.specs.Settings.{Line, class_of, elements_of}
-use Rattle.plant_model.specs.Names.{set_pair}
-use Rattle.plant_model.specs.Wire.{Bytes, Codec}
-use Rattle.plant_model.specs.Laws.{IsCodec, IsNetwork}
-use Rattle.plant_model.specs.Settings.{place, family}
-use Rattle.plant_model.specs.Element as element
-use Rattle.plant_model.specs.Element.{is_client}
-use Rattle.plant_model.specs.Taking as taking
-use Rattle.plant_model.specs.Parent as parent
-use Rattle.plant_model.specs.State.{Loads, Pops, Takes, Says, Ups, Downs, Clears, Solves, Expires, Hands}
-use Rattle.plant_model.specs.Deeds.{any_fall, is_tick, read_as, own_message, put_to, puts, with_element, with_parent, with_inner, give, rise, say, inner_acts, inner_input, break_line}
-use Rattle.plant_model.specs.Plant.{Pin, Segment, PlantDeed}
+use Rattle.plant_laws.specs.plant_model.Names.{set_pair}
+use Rattle.plant_laws.specs.plant_model.Wire.{Bytes, Codec}
+use Rattle.plant_laws.specs.plant_model.Laws.{IsCodec, IsNetwork}
+use Rattle.plant_laws.specs.plant_model.Settings.{place, family}
+use Rattle.plant_laws.specs.plant_model.Element as element
+use Rattle.plant_laws.specs.plant_model.Element.{is_client}
+use Rattle.plant_laws.specs.plant_model.Taking as taking
+use Rattle.plant_laws.specs.plant_model.Parent as parent
+use Rattle.plant_laws.specs.plant_model.State.{Loads, Pops, Takes, Says, Ups, Downs, Clears, Solves, Expires, Hands}
+use Rattle.plant_laws.specs.plant_model.Deeds.{any_fall, is_tick, read_as, own_message, put_to, puts, with_element, with_parent, with_inner, give, rise, say, inner_acts, inner_input, break_line}
+use Rattle.plant_laws.specs.plant_model.Plant.{Pin, Segment, PlantDeed}
 use Rattle.plant_laws.proofs.Queues.{same_as_is}
 use Rattle.plant_laws.proofs.Takes.{own_is}
 use Rattle.plant_laws.proofs.ElementSays.{WaysOk}

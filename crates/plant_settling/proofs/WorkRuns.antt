@@ -11,22 +11,22 @@ use Rattle.disclosure.specs.Shown.{open_of}
 use Rattle.plant_text.specs.declared.settings.NetworkParts.{NetworkParts}
 use Rattle.plant_text.specs.Names.{same_as, parent_as}
 use Rattle.plant_text.specs.Settings.{Line, line, lines, is_linked, is_element, elements_of}
-use Rattle.plant_model.specs.declared.event.Event.{Event}
-use Rattle.plant_model.specs.declared.event.Event.TheVariants as event
-use Rattle.plant_model.specs.declared.outcome.Refused.{Refused}
-use Rattle.plant_model.specs.declared.outcome.Refused.TheVariants.{NoSuchPeer}
-use Rattle.plant_model.specs.declared.output.Output.{Output}
-use Rattle.plant_model.specs.Names.{set_pair}
-use Rattle.plant_model.specs.Wire.{Bytes, Codec}
-use Rattle.plant_model.specs.Laws.{IsCodec, IsNetwork}
-use Rattle.plant_model.specs.Settings.{place}
-use Rattle.plant_model.specs.Solving as solving
-use Rattle.plant_model.specs.Parent as parent
-use Rattle.plant_model.specs.State.{Loads, Pops, Takes, Says, Ups, Downs, Clears, Solves, Expires, Hands}
-use Rattle.plant_model.specs.Deeds.{our_offer, own_message, puts, with_element, with_parent, begin_line}
-use Rattle.plant_model.specs.Events as events
-use Rattle.plant_model.specs.Events.{has_jobs}
-use Rattle.plant_model.specs.Plant.{Pin, Segment, first_pin, Plant, PlantDeed, Happened, Entry, Run, Steps, IsGiven, deeds_of, ElementSolves, ParentSolves, Happens}
+use Rattle.plant_laws.specs.plant_model.declared.event.Event.{Event}
+use Rattle.plant_laws.specs.plant_model.declared.event.Event.TheVariants as event
+use Rattle.plant_laws.specs.plant_model.declared.outcome.Refused.{Refused}
+use Rattle.plant_laws.specs.plant_model.declared.outcome.Refused.TheVariants.{NoSuchPeer}
+use Rattle.plant_laws.specs.plant_model.declared.output.Output.{Output}
+use Rattle.plant_laws.specs.plant_model.Names.{set_pair}
+use Rattle.plant_laws.specs.plant_model.Wire.{Bytes, Codec}
+use Rattle.plant_laws.specs.plant_model.Laws.{IsCodec, IsNetwork}
+use Rattle.plant_laws.specs.plant_model.Settings.{place}
+use Rattle.plant_laws.specs.plant_model.Solving as solving
+use Rattle.plant_laws.specs.plant_model.Parent as parent
+use Rattle.plant_laws.specs.plant_model.State.{Loads, Pops, Takes, Says, Ups, Downs, Clears, Solves, Expires, Hands}
+use Rattle.plant_laws.specs.plant_model.Deeds.{our_offer, own_message, puts, with_element, with_parent, begin_line}
+use Rattle.plant_laws.specs.plant_model.Events as events
+use Rattle.plant_laws.specs.plant_model.Events.{has_jobs}
+use Rattle.plant_laws.specs.plant_model.Plant.{Pin, Segment, first_pin, Plant, PlantDeed, Happened, Entry, Run, Steps, IsGiven, deeds_of, ElementSolves, ParentSolves, Happens}
 use Rattle.plant_laws.specs.Sending.{DeedSends, AllSent}
 use Rattle.plant_laws.specs.Transcript.{outputs_at, put_into, count_asks, asks}
 use Rattle.plant_laws.specs.About.{IsShort}

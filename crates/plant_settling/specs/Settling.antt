@@ -19,18 +19,18 @@ use Rattle.request_table.specs.declared.held.Held.{Held}
 use Rattle.plant_text.specs.declared.settings.NetworkParts.{NetworkParts}
 use Rattle.plant_text.specs.Names.{same_as, parent_as}
 use Rattle.plant_text.specs.Settings.{lines, is_linked, children, elements_of}
-use Rattle.plant_model.specs.declared.event.Event.{Event}
-use Rattle.plant_model.specs.declared.event.Event.TheVariants as event
-use Rattle.plant_model.specs.declared.outcome.Outcome.TheVariants.{Done}
-use Rattle.plant_model.specs.Wire.{Bytes, Codec, Checked, Admitted, Wrong}
-use Rattle.plant_model.specs.Laws.{IsCodec, IsNetwork}
-use Rattle.plant_model.specs.Element.{Way, way_to}
-use Rattle.plant_model.specs.Taking.{sequence_or}
-use Rattle.plant_model.specs.Parent as parent
-use Rattle.plant_model.specs.Parent.{tails}
-use Rattle.plant_model.specs.State.{State}
-use Rattle.plant_model.specs.Deeds.{any_fall, input_of}
-use Rattle.plant_model.specs.Plant.{Plant, Happened, Entry, Run, Steps, deeds_of}
+use Rattle.plant_laws.specs.plant_model.declared.event.Event.{Event}
+use Rattle.plant_laws.specs.plant_model.declared.event.Event.TheVariants as event
+use Rattle.plant_laws.specs.plant_model.declared.outcome.Outcome.TheVariants.{Done}
+use Rattle.plant_laws.specs.plant_model.Wire.{Bytes, Codec, Checked, Admitted, Wrong}
+use Rattle.plant_laws.specs.plant_model.Laws.{IsCodec, IsNetwork}
+use Rattle.plant_laws.specs.plant_model.Element.{Way, way_to}
+use Rattle.plant_laws.specs.plant_model.Taking.{sequence_or}
+use Rattle.plant_laws.specs.plant_model.Parent as parent
+use Rattle.plant_laws.specs.plant_model.Parent.{tails}
+use Rattle.plant_laws.specs.plant_model.State.{State}
+use Rattle.plant_laws.specs.plant_model.Deeds.{any_fall, input_of}
+use Rattle.plant_laws.specs.plant_model.Plant.{Plant, Happened, Entry, Run, Steps, deeds_of}
 use Rattle.plant_laws.specs.Transcript.{asks}
 use Rattle.plant_laws.specs.About.{IsShort}
 use Rattle.plant_laws.specs.Runs.{InShortRuns}

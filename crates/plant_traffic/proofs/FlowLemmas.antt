@@ -9,10 +9,10 @@ use Rattle.plant_queues.specs.declared.sent.Sent.{Sent}
 use Rattle.plant_queues.specs.Messages.{Queued, Spare}
 use Rattle.plant_queues.specs.Sents.{sent_of}
 use Rattle.plant_text.specs.Names.{same_as}
-use Rattle.plant_model.specs.Names.{set_pair, set_number}
-use Rattle.plant_model.specs.Wire.{Bytes}
-use Rattle.plant_model.specs.State as model
-use Rattle.plant_model.specs.Deeds.{our_offer}
+use Rattle.plant_layout.specs.plant_model.Names.{set_pair, set_number}
+use Rattle.plant_layout.specs.plant_model.Wire.{Bytes}
+use Rattle.plant_layout.specs.plant_model.State as model
+use Rattle.plant_layout.specs.plant_model.Deeds.{our_offer}
 use Rattle.plant_sessions.specs.Ends.{Sender, begun, own_bytes, with_kept}
 use Rattle.plant_sessions.specs.Rooms.{Spends, Frees, queue}
 use Rattle.plant_traffic.specs.Flow.{Flow, Room, SameFlow, set_queue, set_session, set_room, change_access, put_at, put_flow, SpendsAt, Puts, Begins, DropsFirst, Clears, GrowsAt, KeepsRoomAt, Connects}
@@ -22,7 +22,7 @@ use Rattle.plant_traffic.specs.Peers as peers
 use Rattle.plant_traffic.specs.Peers.{Guests, SendsGuest, GrowsGuest, FeedsPeer, DrainsPeer, change_guest}
 use Rattle.plant_traffic.specs.Happenings.{FeedsIn, FeedsConnectionIn, DrainsIn, DrainsConnectionIn, DrainsHeldIn}
 use Rattle.plant_traffic.specs.declared.peers.Drained.{Drained}
-use Rattle.plant_model.specs.declared.outcome.Refused.{Refused}
+use Rattle.plant_layout.specs.plant_model.declared.outcome.Refused.{Refused}
 use Rattle.plant_traffic.specs.Carried.{Seen, flow_in}
 use Rattle.plant_traffic.proofs.SideLemmas.{one_as}
 use Rattle.plant_traffic.proofs.RowLemmas.{pair_field, pair_same}

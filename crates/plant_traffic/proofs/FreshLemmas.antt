@@ -10,7 +10,7 @@ use Rattle.plant_text.specs.Names.{same_as, same_link}
 use Rattle.plant_text.specs.Settings.{Line, has_line}
 use Rattle.plant_layout.specs.Lines.{line_of, are_lines}
 use Rattle.plant_queues.specs.Messages.{Spare}
-use Rattle.plant_model.specs.State as model
+use Rattle.plant_layout.specs.plant_model.State as model
 use Rattle.plant_sessions.specs.declared.access.Access.{Access}
 use Rattle.plant_sessions.specs.declared.link.End.TheVariants.{Lower, Upper}
 use Rattle.plant_sessions.specs.Links.{Joined, at_end, new_sender}

@@ -7,3 +7,5 @@ pub mod FreshLemmas
 pub mod FlowLemmas
 pub mod HappenLemmas
 pub mod WaitLemmas
+-- handed on from below
+pub use Rattle.plant_sessions.proofs as plant_sessions

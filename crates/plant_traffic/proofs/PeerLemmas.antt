@@ -6,9 +6,9 @@ use Rattle.std.proofs.Math.ListN.{length-set}
 use Rattle.std.proofs.lemmas.Bool.{eqb-true, eqb-false}
 use Rattle.std.proofs.lemmas.Option.{slice_get_within, slice_get_past}
 use Rattle.plant_queues.specs.Messages.{Spare}
-use Rattle.plant_model.specs.Names.{set_number}
-use Rattle.plant_model.specs.State as model
-use Rattle.plant_model.specs.Deeds.{on_connection}
+use Rattle.plant_layout.specs.plant_model.Names.{set_number}
+use Rattle.plant_layout.specs.plant_model.State as model
+use Rattle.plant_layout.specs.plant_model.Deeds.{on_connection}
 use Rattle.plant_sessions.specs.declared.access.Access.{Access}
 use Rattle.plant_sessions.specs.Ends.{Connected}
 use Rattle.plant_traffic.specs.Peers.{Guests, guests_of, access_of, access_or, room_of, room_or, set_guest, change_guest}

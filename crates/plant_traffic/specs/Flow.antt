@@ -14,10 +14,10 @@ use Rattle.plant_queues.specs.Messages.{Spare, IsRoomAgain}
 use Rattle.plant_queues.specs.Sents.{sent_of, size_of}
 use Rattle.plant_text.specs.Names.{parent_as}
 use Rattle.plant_text.specs.Settings.{Line, has_line}
-use Rattle.plant_model.specs.Names.{set_pair, set_number}
-use Rattle.plant_model.specs.Wire.{Bytes}
-use Rattle.plant_model.specs.State.{Connection, Access, State}
-use Rattle.plant_model.specs.Deeds.{on_connection, our_offer, with_more}
+use Rattle.plant_layout.specs.plant_model.Names.{set_pair, set_number}
+use Rattle.plant_layout.specs.plant_model.Wire.{Bytes}
+use Rattle.plant_layout.specs.plant_model.State.{Connection, Access, State}
+use Rattle.plant_layout.specs.plant_model.Deeds.{on_connection, our_offer, with_more}
 use Rattle.plant_sessions.specs.Ends.{just_open, own_bytes}
 use Rattle.plant_sessions.specs.Links.{new_sender}
 use Rattle.plant_sessions.specs.Rooms.{KeepsRoom, Grows, Spends, Frees, queue}

@@ -8,3 +8,7 @@ pub mod Sides
 pub mod Peers
 pub mod Accesses
 pub mod TrafficFields
+-- handed on from below
+pub use Rattle.plant_layout.specs as plant_layout
+pub use Rattle.plant_layout.specs.plant_model
+pub use Rattle.plant_sessions.specs as plant_sessions

@@ -1,14 +1,14 @@
 //! One of some outside peers, and what calls do to it.
 ghost use Rattle.std.specs.Prelude.{◌≡◌, ◌<◌, [], length, slice_get, IfSome};
 ghost use Rattle.plant_queues.specs.Messages.{Covers};
-ghost use Rattle.plant_model.specs.Deeds as deeds;
+ghost use Rattle.plant_layout.specs.plant_model.Deeds as deeds;
 ghost use Rattle.plant_traffic.specs.Accesses.{ChangesAt, ConnectsAccess, DrainsAccess, FeedsAccess, ReservesAccess, SendsAccess, on_connected};
 ghost use Rattle.plant_traffic.specs.Peers.{drop_first, room_of};
 
 use crate::peers::Drained;
 use dom_base::{NoMemory, Tick};
 use pcep_session::Session;
-use plant_model::Refused;
+use plant_layout::model::Refused;
 use plant_sessions::Access;
 use std::alloc::Global;
 

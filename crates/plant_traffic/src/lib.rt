@@ -11,4 +11,6 @@ mod traffic;
 mod waiting;
 
 pub use peers::Drained;
+pub use plant_layout as layout;
+pub use plant_sessions as sessions;
 pub use traffic::Traffic;

@@ -2,8 +2,8 @@
 ghost use Rattle.std.specs.Prelude.{◌≡◌, ◌<◌, ◌%◌, ◌+◌, [], drop, length, slice_get, Some, None, IfOk, OnErr, is_some};
 ghost use Rattle.std.specs.Option.{option_map};
 ghost use Rattle.plant_queues.specs.Messages.{Covers};
-ghost use Rattle.plant_model.specs.RealWire.{wire};
-ghost use Rattle.plant_model.specs.Deeds as deeds;
+ghost use Rattle.plant_layout.specs.plant_model.RealWire.{wire};
+ghost use Rattle.plant_layout.specs.plant_model.Deeds as deeds;
 ghost use Rattle.plant_sessions.specs.Ends.{is_left_out};
 ghost use Rattle.plant_traffic.specs.Flow.{inbox_of, no_room, out_of};
 ghost use Rattle.plant_traffic.specs.Peers.{Connects, DrainsPeer, FeedsPeer, GrowsGuest, SendsGuest, change_guest, drop_first, guests_of, no_guests, set_guest};
@@ -14,7 +14,7 @@ use crate::accesses::{
 };
 use dom_base::{Bytes, NoMemory, Tick};
 use pcep_session::{Input, Own, Session};
-use plant_model::Refused;
+use plant_layout::model::Refused;
 use plant_sessions::{Access, Connection};
 use std::alloc::Global;
 use std::marker::Model;

@@ -3,7 +3,7 @@ use crate::Traffic;
 use dom_base::{As, NoMemory, Peer, Tick};
 use pcep_messages::Message;
 use pcep_session::Input;
-use plant_model::Refused;
+use plant_layout::model::Refused;
 use std::test::Fail;
 
 const OPEN: &[u8] = b"\x20\x01\x00\x0c\x01\x10\x00\x08\x20\x1e\x78\x01";

@@ -8,16 +8,16 @@ use Rattle.vspt_tree.specs.declared.branch.Branch.{Branch}
 use Rattle.border_costs.specs.Tables.{IsBorderTable}
 use Rattle.plant_text.specs.declared.settings.NetworkParts.{NetworkParts}
 use Rattle.plant_text.specs.Names.{same_as, parent_as}
-use Rattle.plant_model.specs.declared.event.BlindEvent.{BlindEvent}
-use Rattle.plant_model.specs.declared.event.Event.{Event}
-use Rattle.plant_model.specs.declared.event.Event.TheVariants as event
-use Rattle.plant_model.specs.Blind.{Discloses, blind_of, is_accepted, with_event}
-use Rattle.plant_model.specs.Element.{Item, Ready, is_client}
-use Rattle.plant_model.specs.Plant.{Entry, Happened, Pin, Plant, Run, SolveHappens, Steps, ask}
-use Rattle.plant_model.specs.RealWire.{wire}
-use Rattle.plant_laws.specs.Worlds.{DisclosedRun}
-use Rattle.plant_laws.proofs.EntriesRise.{entries_rise}
-use Rattle.plant_laws.proofs.Sound.{Sound, run_sound}
+use Rattle.plant_play.specs.plant_model.declared.event.BlindEvent.{BlindEvent}
+use Rattle.plant_play.specs.plant_model.declared.event.Event.{Event}
+use Rattle.plant_play.specs.plant_model.declared.event.Event.TheVariants as event
+use Rattle.plant_play.specs.plant_model.Blind.{Discloses, blind_of, is_accepted, with_event}
+use Rattle.plant_play.specs.plant_model.Element.{Item, Ready, is_client}
+use Rattle.plant_play.specs.plant_model.Plant.{Entry, Happened, Pin, Plant, Run, SolveHappens, Steps, ask}
+use Rattle.plant_play.specs.plant_model.RealWire.{wire}
+use Rattle.plant_counting.specs.plant_laws.Worlds.{DisclosedRun}
+use Rattle.plant_counting.proofs.plant_laws.EntriesRise.{entries_rise}
+use Rattle.plant_counting.proofs.plant_laws.Sound.{Sound, run_sound}
 use Rattle.script_laws.proofs.TableExists.{table_exists}
 
 module _ (n : NetworkParts) (s : Plant) (sound : Sound n s) where

@@ -15,21 +15,21 @@ use Rattle.plant_text.specs.declared.line.LineEvent.TheVariants as line
 use Rattle.plant_text.specs.declared.settings.NetworkParts.{NetworkParts}
 use Rattle.plant_text.specs.Names.{same_as, parent_as}
 use Rattle.plant_text.specs.Settings.{class_of}
-use Rattle.plant_model.specs.declared.event.BlindEvent.{BlindEvent}
-use Rattle.plant_model.specs.declared.event.Event.{Event}
-use Rattle.plant_model.specs.declared.event.Event.TheVariants as event
-use Rattle.plant_model.specs.declared.outcome.Outcome.{Outcome}
-use Rattle.plant_model.specs.Blind.{Discloses, blind_of, is_accepted, with_event}
-use Rattle.plant_model.specs.Element.{Item, Ready, is_client}
-use Rattle.plant_model.specs.Events.{Answered}
-use Rattle.plant_model.specs.Plant.{Entry, Happened, Happens, Pin, Plant, PlantDeed, Run, SolveHappens, ask}
-use Rattle.plant_model.specs.RealWire.{wire}
-use Rattle.plant_model.specs.State.{said}
-use Rattle.plant_laws.specs.Solves.{ElementTells}
-use Rattle.plant_laws.specs.Worlds.{DisclosedRun}
-use Rattle.plant_laws.proofs.SaysBlind.{as_run}
-use Rattle.plant_laws.proofs.Solved.{solves_tell}
-use Rattle.plant_laws.proofs.Sound.{run_sound}
+use Rattle.plant_play.specs.plant_model.declared.event.BlindEvent.{BlindEvent}
+use Rattle.plant_play.specs.plant_model.declared.event.Event.{Event}
+use Rattle.plant_play.specs.plant_model.declared.event.Event.TheVariants as event
+use Rattle.plant_play.specs.plant_model.declared.outcome.Outcome.{Outcome}
+use Rattle.plant_play.specs.plant_model.Blind.{Discloses, blind_of, is_accepted, with_event}
+use Rattle.plant_play.specs.plant_model.Element.{Item, Ready, is_client}
+use Rattle.plant_play.specs.plant_model.Events.{Answered}
+use Rattle.plant_play.specs.plant_model.Plant.{Entry, Happened, Happens, Pin, Plant, PlantDeed, Run, SolveHappens, ask}
+use Rattle.plant_play.specs.plant_model.RealWire.{wire}
+use Rattle.plant_play.specs.plant_model.State.{said}
+use Rattle.plant_counting.specs.plant_laws.Solves.{ElementTells}
+use Rattle.plant_counting.specs.plant_laws.Worlds.{DisclosedRun}
+use Rattle.plant_counting.proofs.plant_laws.SaysBlind.{as_run}
+use Rattle.plant_counting.proofs.plant_laws.Solved.{solves_tell}
+use Rattle.plant_counting.proofs.plant_laws.Sound.{run_sound}
 use Rattle.plant_play.specs.declared.showing.Modes.{Modes}
 use Rattle.plant_play.specs.Playing.{Cue, IsNewStage, Plays, PlaysLine, Stage, modes_after}
 use Rattle.plant_play.specs.Scripts.{AllPlayed}

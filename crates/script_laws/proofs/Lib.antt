@@ -7,3 +7,6 @@ pub mod Loadable
 mod TableExists
 pub mod DisclosedRuns
 pub mod Disclosing
+-- handed on from below
+pub use Rattle.plant_counting.proofs.plant_laws
+pub use Rattle.text_ranges.proofs as text_ranges

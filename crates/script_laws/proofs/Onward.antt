@@ -3,9 +3,9 @@ use Rattle.std.proofs.Common.{◌≡◌, ℕ, List, [], ◌∷◌, ◌++◌, ref
 use Rattle.std.proofs.lemmas.List.Elements.{All-head, All-tail}
 use Rattle.plant_text.specs.declared.line.LineEvent.{LineEvent}
 use Rattle.plant_text.specs.declared.settings.NetworkParts.{NetworkParts}
-use Rattle.plant_model.specs.Events.{Answered}
-use Rattle.plant_model.specs.Plant.{Entry, Plant, Run}
-use Rattle.plant_model.specs.RealWire.{wire}
+use Rattle.plant_play.specs.plant_model.Events.{Answered}
+use Rattle.plant_play.specs.plant_model.Plant.{Entry, Plant, Run}
+use Rattle.plant_play.specs.plant_model.RealWire.{wire}
 use Rattle.plant_play.specs.declared.showing.Modes.{Modes}
 use Rattle.plant_play.specs.Scripts.{AllPlayed}
 use Rattle.plant_play.specs.Playing.{Cue, IsNewStage, Plays, PlaysLine, Stage}

@@ -6,13 +6,13 @@ use Rattle.plant_text.specs.declared.line.LineEvent.{LineEvent}
 use Rattle.plant_text.specs.declared.line.LineEvent.TheVariants as line
 use Rattle.plant_text.specs.declared.settings.NetworkParts.{NetworkParts}
 use Rattle.plant_text.specs.Settings.{is_element}
-use Rattle.plant_model.specs.declared.event.Event.{Event}
-use Rattle.plant_model.specs.declared.event.Event.TheVariants as event
-use Rattle.plant_model.specs.declared.outcome.Refused.TheVariants.{NoSuchPeer}
-use Rattle.plant_model.specs.Blind.{is_accepted}
-use Rattle.plant_model.specs.Events.{Answered}
-use Rattle.plant_model.specs.Plant.{Plant}
-use Rattle.plant_model.specs.Wire.{Bytes}
+use Rattle.plant_play.specs.plant_model.declared.event.Event.{Event}
+use Rattle.plant_play.specs.plant_model.declared.event.Event.TheVariants as event
+use Rattle.plant_play.specs.plant_model.declared.outcome.Refused.TheVariants.{NoSuchPeer}
+use Rattle.plant_play.specs.plant_model.Blind.{is_accepted}
+use Rattle.plant_play.specs.plant_model.Events.{Answered}
+use Rattle.plant_play.specs.plant_model.Plant.{Plant}
+use Rattle.plant_play.specs.plant_model.Wire.{Bytes}
 use Rattle.plant_play.specs.declared.showing.Modes.{Modes}
 use Rattle.plant_play.specs.Due.{AreAllDue, AreDue, IsDueTake}
 use Rattle.plant_play.specs.Playing.{Changes, Plays, PlaysDue, PlaysFeedAt, PlaysNamed, PlaysNone, PlaysOne, Stage}

@@ -1,14 +1,14 @@
 -- Every script that is played is right.
 use Rattle.std.proofs.Common.{ℕ, List, [], ◌≤◌, arith}
 use Rattle.plant_text.specs.declared.settings.NetworkParts.{NetworkParts}
-use Rattle.plant_model.proofs.WireLaws.{wire_is_codec}
-use Rattle.plant_model.specs.Laws.{IsNetwork}
-use Rattle.plant_model.specs.Plant.{Entry, Plant, Run}
-use Rattle.plant_model.specs.RealWire.{wire}
-use Rattle.plant_laws.specs.Headline.{LeastAnswersIn, NoneAnswersIn}
-use Rattle.plant_laws.proofs.EveryWritten.{of_written_net_ids}
-use Rattle.plant_laws.proofs.OfRun as OfRun
-use Rattle.plant_laws.proofs.SaysBlind.{says_as_blind}
+use Rattle.plant_play.proofs.plant_model.WireLaws.{wire_is_codec}
+use Rattle.plant_play.specs.plant_model.Laws.{IsNetwork}
+use Rattle.plant_play.specs.plant_model.Plant.{Entry, Plant, Run}
+use Rattle.plant_play.specs.plant_model.RealWire.{wire}
+use Rattle.plant_counting.specs.plant_laws.Headline.{LeastAnswersIn, NoneAnswersIn}
+use Rattle.plant_counting.proofs.plant_laws.EveryWritten.{of_written_net_ids}
+use Rattle.plant_counting.proofs.plant_laws.OfRun as OfRun
+use Rattle.plant_counting.proofs.plant_laws.SaysBlind.{says_as_blind}
 use Rattle.plant_counting.specs.Counting.{HasNoParent}
 use Rattle.plant_counting.proofs.FewOctets.{few_are_short}
 use Rattle.plant_play.specs.Playing.{Cue, IsNewStage, Stage}

@@ -2,11 +2,11 @@
 use Rattle.std.specs.Prelude.{◌≡◌, ℕ, true, cond, List, [], ◌∷◌}
 use Rattle.plant_text.specs.declared.line.LineEvent.TheVariants.{DiscloseOn}
 use Rattle.plant_text.specs.declared.settings.NetworkParts.{NetworkParts}
-use Rattle.plant_model.specs.declared.event.BlindEvent.{BlindEvent}
-use Rattle.plant_model.specs.Blind.{blind_of, is_accepted, with_event}
-use Rattle.plant_model.specs.Plant.{Entry, Plant, Run}
-use Rattle.plant_model.specs.RealWire.{wire}
-use Rattle.plant_laws.specs.Worlds.{DisclosedRun}
+use Rattle.plant_play.specs.plant_model.declared.event.BlindEvent.{BlindEvent}
+use Rattle.plant_play.specs.plant_model.Blind.{blind_of, is_accepted, with_event}
+use Rattle.plant_play.specs.plant_model.Plant.{Entry, Plant, Run}
+use Rattle.plant_play.specs.plant_model.RealWire.{wire}
+use Rattle.plant_counting.specs.plant_laws.Worlds.{DisclosedRun}
 use Rattle.plant_play.specs.Playing.{Cue, IsNewStage, Stage}
 use Rattle.plant_play.specs.Scripts.{AllPlayed}
 use Rattle.plant_play.specs.Turns.{Turn, entries_of}

@@ -3,14 +3,14 @@ use Rattle.std.specs.Prelude.{◌≡◌, ◌≤◌, ◌+◌, ℕ, List, [], ◌�
 use Rattle.plant_text.specs.declared.line.LineEvent.{LineEvent}
 use Rattle.plant_text.specs.declared.line.LineEvent.TheVariants as line
 use Rattle.plant_text.specs.declared.settings.NetworkParts.{NetworkParts}
-use Rattle.plant_model.specs.declared.event.BlindEvent.{BlindEvent}
-use Rattle.plant_model.specs.Blind.{BlindSays, BlindState, heard}
-use Rattle.plant_model.specs.Laws.{IsNetwork}
-use Rattle.plant_model.specs.Plant.{Entry, Plant, Run, deeds_of}
-use Rattle.plant_model.specs.RealWire.{wire}
-use Rattle.plant_laws.specs.About.{IsShort}
-use Rattle.plant_laws.specs.Headline.{LeastAnswersIn, NoneAnswersIn}
-use Rattle.plant_laws.specs.Worlds.{DisclosedRun}
+use Rattle.plant_play.specs.plant_model.declared.event.BlindEvent.{BlindEvent}
+use Rattle.plant_play.specs.plant_model.Blind.{BlindSays, BlindState, heard}
+use Rattle.plant_play.specs.plant_model.Laws.{IsNetwork}
+use Rattle.plant_play.specs.plant_model.Plant.{Entry, Plant, Run, deeds_of}
+use Rattle.plant_play.specs.plant_model.RealWire.{wire}
+use Rattle.plant_counting.specs.plant_laws.About.{IsShort}
+use Rattle.plant_counting.specs.plant_laws.Headline.{LeastAnswersIn, NoneAnswersIn}
+use Rattle.plant_counting.specs.plant_laws.Worlds.{DisclosedRun}
 use Rattle.plant_counting.specs.Counting.{HasNoParent}
 use Rattle.plant_play.specs.Playing.{Cue, IsNewStage, Stage}
 use Rattle.plant_play.specs.Scripts.{AllPlayed}

@@ -4,10 +4,10 @@ use Rattle.dom_base.specs.declared.names.As.{As}
 use Rattle.plant_text.specs.declared.line.LineEvent.{LineEvent}
 use Rattle.plant_text.specs.declared.line.LineEvent.TheVariants as line
 use Rattle.plant_text.specs.declared.settings.NetworkParts.{NetworkParts}
-use Rattle.plant_model.specs.declared.event.Event.TheVariants.{Load}
-use Rattle.plant_model.specs.Events.{Answered}
-use Rattle.plant_model.specs.Plant.{Entry, IsGiven, Plant, Run}
-use Rattle.plant_model.specs.RealWire.{wire}
+use Rattle.plant_play.specs.plant_model.declared.event.Event.TheVariants.{Load}
+use Rattle.plant_play.specs.plant_model.Events.{Answered}
+use Rattle.plant_play.specs.plant_model.Plant.{Entry, IsGiven, Plant, Run}
+use Rattle.plant_play.specs.plant_model.RealWire.{wire}
 use Rattle.plant_play.specs.Playing.{Cue, IsNewStage, Plays, Stage}
 use Rattle.plant_play.specs.Scripts.{AllPlayed}
 use Rattle.plant_play.specs.Turns.{AreGiven, Turn, entries_of}

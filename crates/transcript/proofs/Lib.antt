@@ -1,1 +1,3 @@
 pub mod LineLemmas
+-- handed on from below
+pub use Rattle.plant_layout.proofs as plant_layout

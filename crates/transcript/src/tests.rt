@@ -8,7 +8,7 @@ use dom_base::{Addr, As, BorderRow, Cost, Label, List, NoMemory, Peer, Text};
 use path_certificate::Certificate;
 use pcep_messages::{Answer, ErrorReport, Message, Notice, Path, Reply};
 use pcep_subobjects::Hop;
-use plant_model::{Outcome, Refused};
+use plant_layout::model::{Outcome, Refused};
 use plant_queues::Said;
 use plant_text::PeerRow;
 use std::alloc::Global;

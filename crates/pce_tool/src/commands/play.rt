@@ -1,14 +1,14 @@
 //! `play`: the lines of a script, played on a network.
 ghost use Rattle.std.specs.Prelude.{◌≡◌, ◌≤◌, IfErr, IfOk, length};
 ghost use Rattle.pce_tool.specs.Networks.{HasScript, IsPlayStatus, IsScriptStatus, PlayEnds, status_of};
-ghost use Rattle.plant_script.specs.Scripts.{around, script_most};
+ghost use Rattle.plant_bulk.specs.plant_script.Scripts.{around, script_most};
 ghost use Rattle.pce_tool.specs.Worlds.{world};
 
 use crate::files::load_network;
 use crate::status::Status;
 use dom_base::Text;
 use dom_edge::{ReadError, Sink, Source, Store, read_all};
-use plant_script::{SCRIPT_MAX, Stop, play_script};
+use plant_bulk::script::{SCRIPT_MAX, Stop, play_script};
 use plant_text::Network;
 use std::alloc::Global;
 

@@ -1,5 +1,5 @@
-use Rattle.plant_model.proofs.WireLaws.{wire_is_codec}
-use Rattle.plant_model.specs.RealWire.{wire}
+use Rattle.plant_laws.proofs.plant_model.WireLaws.{wire_is_codec}
+use Rattle.plant_laws.specs.plant_model.RealWire.{wire}
 use Rattle.plant_laws.specs.Answered.{RequestsAreAnsweredOnceIn}
 use Rattle.plant_laws.specs.Certified.{SolvesCertifyIn}
 use Rattle.plant_laws.specs.Chains.{OneChainIn, QuietIsAnsweredIn}

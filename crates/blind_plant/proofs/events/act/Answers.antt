@@ -1,5 +1,5 @@
 use Rattle.std.proofs.Common.{sym, subst}
-use Rattle.plant_model.specs.declared.event.BlindEvent.{BlindEvent}
+use Rattle.plant_network.specs.plant_model.declared.event.BlindEvent.{BlindEvent}
 use Rattle.blind_plant.specs.Held.{Moves, held}
 use Rattle.blind_plant.proofs.events.act.Goals as goal
 

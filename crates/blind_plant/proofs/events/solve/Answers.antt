@@ -2,12 +2,12 @@ use Rattle.std.proofs.Common.{Ok, Err, Result, List, ap, subst}
 use Rattle.std.proofs.lemmas.Result.{err_from_is_err_and}
 use Rattle.dom_base.specs.declared.names.Tick.{Tick}
 use Rattle.dom_base.specs.declared.border.BorderRow.{BorderRow}
-use Rattle.plant_model.specs.declared.event.BlindEvent.TheVariants.{Solve}
-use Rattle.plant_model.specs.declared.outcome.Outcome.TheVariants.{Done}
-use Rattle.plant_model.specs.declared.outcome.Refused.{Refused}
-use Rattle.plant_model.specs.declared.outcome.Refused.TheVariants.{NoMemory}
-use Rattle.plant_hierarchy.specs.Blind.{Solves}
-use Rattle.plant_hierarchy.specs.declared.plan.MemberPlan.{MemberPlan}
+use Rattle.plant_network.specs.plant_model.declared.event.BlindEvent.TheVariants.{Solve}
+use Rattle.plant_network.specs.plant_model.declared.outcome.Outcome.TheVariants.{Done}
+use Rattle.plant_network.specs.plant_model.declared.outcome.Refused.{Refused}
+use Rattle.plant_network.specs.plant_model.declared.outcome.Refused.TheVariants.{NoMemory}
+use Rattle.plant_network.specs.plant_hierarchy.Blind.{Solves}
+use Rattle.plant_network.specs.plant_hierarchy.declared.plan.MemberPlan.{MemberPlan}
 use Rattle.blind_plant.specs.Held.{Moves, held}
 use Rattle.blind_plant.proofs.SolveLemmas.{plan_answers, plan_done, plan_lacks, plan_member, planned_err}
 use Rattle.blind_plant.proofs.events.solve.Goals as goal

@@ -1,5 +1,5 @@
 use Rattle.std.proofs.Common.{◌∙◌, Some, ap}
-use Rattle.text_ranges.proofs.GivenRows.{blind_line_given}
+use Rattle.blind_play.proofs.text_ranges.GivenRows.{blind_line_given}
 use Rattle.blind_script.proofs.script.event_of.Goals as goal
 
 pub returns-in-Ok-Some-clause-given : goal.returns-in-Ok-Some-clause-given

@@ -4,8 +4,8 @@ use Rattle.std.specs.VecDeque.{deque_capacity, deque_len}
 use Rattle.std.specs.declared.collections.VecDeque.{VecDeque}
 use Rattle.std.specs.Global.{Global}
 use Rattle.std.proofs.lemmas.List.{append-nil}
-use Rattle.plant_model.specs.declared.output.Lost.{Lost}
-use Rattle.plant_model.specs.Element.{Row, stays, is_lost, lost_of}
+use Rattle.member_parts.specs.plant_model.declared.output.Lost.{Lost}
+use Rattle.member_parts.specs.plant_model.Element.{Row, stays, is_lost, lost_of}
 use Rattle.pce_element.specs.Pinned.{Pinned}
 use Rattle.pce_element.specs.Leaving.{with_rows}
 use Rattle.member_parts.proofs.HeldPlaces.{all_taken, nothing_dropped}

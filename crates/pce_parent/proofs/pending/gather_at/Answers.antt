@@ -2,7 +2,7 @@ use Rattle.std.proofs.Common.{◌∙◌, length, ap}
 use Rattle.dom_base.specs.Room.{Room}
 use Rattle.request_table.specs.Pending.{Pending}
 use Rattle.request_table.specs.Lends.{written_of}
-use Rattle.plant_model.specs.Parent.{Asking}
+use Rattle.member_parts.specs.plant_model.Parent.{Asking}
 use Rattle.pce_parent.specs.Changes.{answered_item}
 use Rattle.member_parts.proofs.HeldRows.{length-written}
 use Rattle.member_parts.proofs.Scans.{on_some}

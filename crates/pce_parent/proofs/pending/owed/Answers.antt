@@ -1,6 +1,6 @@
 use Rattle.std.proofs.Common.{◌≡◌, ◌∙◌, ℕ, Bool, cond, arith, sym, ap}
 use Rattle.request_table.specs.Pending.{same_peer}
-use Rattle.plant_model.specs.Parent.{AskingRow}
+use Rattle.member_parts.specs.plant_model.Parent.{AskingRow}
 use Rattle.pce_parent.specs.Pendings.{row_of}
 use Rattle.member_parts.proofs.Scans.{tally_next}
 use Rattle.pce_parent.proofs.pending.owed.Goals as goal

@@ -1,6 +1,6 @@
 use Rattle.std.proofs.Common.{◌≡◌, drop}
-use Rattle.plant_model.specs.Element.{pass_over}
-use Rattle.plant_model.specs.Parent.{among, next_id}
+use Rattle.member_parts.specs.plant_model.Element.{pass_over}
+use Rattle.member_parts.specs.plant_model.Parent.{among, next_id}
 use Rattle.pce_parent.proofs.sending.next_id.Given as goal
 
 abbrev pub invariant-loop-wait : goal.invariant-loop-wait

@@ -1,7 +1,7 @@
 use Rattle.std.proofs.Common.{◌≡◌, List, length, Some, refl, sym, ◌∙◌, ap, arith}
 use Rattle.std.specs.Prelude.{slice_get}
 use Rattle.std.proofs.lemmas.Option.{slice_get_read}
-use Rattle.plant_model.specs.Parent.{Wait, among}
+use Rattle.member_parts.specs.plant_model.Parent.{Wait, among}
 use Rattle.pce_parent.proofs.ScanLaws.{for_here, for_more}
 use Rattle.member_parts.proofs.HeldPlaces.{nothing_dropped}
 use Rattle.pce_parent.proofs.wait.waits_for.Goals as goal

@@ -1,10 +1,10 @@
 use Rattle.std.proofs.Common.{◌≡◌, ◌∙◌, Result, Err, IfErr, sym, ap, subst}
-use Rattle.plant_model.specs.declared.event.Event.TheVariants.{Solve}
-use Rattle.plant_model.specs.declared.outcome.Outcome.{Outcome}
-use Rattle.plant_model.specs.Events.{Answered, has_jobs}
-use Rattle.plant_hierarchy.specs.Answering.{IsRefusedFor}
-use Rattle.plant_hierarchy.specs.declared.answering.Unanswered.{Unanswered}
-use Rattle.plant_hierarchy.specs.Topologies.{members_of}
+use Rattle.plant_network.specs.plant_model.declared.event.Event.TheVariants.{Solve}
+use Rattle.plant_network.specs.plant_model.declared.outcome.Outcome.{Outcome}
+use Rattle.plant_network.specs.plant_model.Events.{Answered, has_jobs}
+use Rattle.plant_network.specs.plant_hierarchy.Answering.{IsRefusedFor}
+use Rattle.plant_network.specs.plant_hierarchy.declared.answering.Unanswered.{Unanswered}
+use Rattle.plant_network.specs.plant_hierarchy.Topologies.{members_of}
 use Rattle.pce_plant.specs.Held.{Moves, held}
 use Rattle.pce_plant.specs.Jobs.{answer_of, handed_back, solved_at, solved_number, told}
 use Rattle.pce_plant.specs.declared.answering.CommitRefused.{CommitRefused}

@@ -1,9 +1,9 @@
 use Rattle.std.proofs.Common.{ℕ, Option, Some, refl, sym, subst}
 use Rattle.dom_base.specs.declared.names.As.{As}
-use Rattle.plant_model.specs.declared.event.Event.TheVariants.{Solve}
-use Rattle.plant_model.specs.declared.outcome.Refused.TheVariants.{NoMemory}
-use Rattle.plant_model.specs.Events.{Answered}
-use Rattle.pce_parent.specs.declared.work.Work.{Work}
+use Rattle.plant_network.specs.plant_model.declared.event.Event.TheVariants.{Solve}
+use Rattle.plant_network.specs.plant_model.declared.outcome.Refused.TheVariants.{NoMemory}
+use Rattle.plant_network.specs.plant_model.Events.{Answered}
+use Rattle.plant_network.specs.pce_parent.declared.work.Work.{Work}
 use Rattle.pce_plant.specs.Held.{Moves, held, whole}
 use Rattle.pce_plant.specs.Jobs.{IsWork, solved_at, told}
 use Rattle.pce_plant.proofs.JobLemmas.{IsSolvedHere, is_work, own_done, solved_here}

@@ -1,5 +1,5 @@
 use Rattle.std.proofs.Common.{◌∙◌, ap, arith, refl}
-use Rattle.plant_play.specs.Playing.{stage_of}
+use Rattle.plant_client.specs.plant_play.Playing.{stage_of}
 use Rattle.plant_client.specs.Hearing.{heard_in}
 use Rattle.plant_bulk.proofs.PlayingLemmas.{none_tallied, one_tallied_more}
 use Rattle.plant_bulk.proofs.playing.ask_all.Goals as goal

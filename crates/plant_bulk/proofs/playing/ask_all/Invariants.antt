@@ -1,5 +1,5 @@
 use Rattle.std.proofs.Common.{◌≡◌, ◌+◌, ◌*◌}
-use Rattle.plant_play.specs.Playing.{stage_of}
+use Rattle.plant_client.specs.plant_play.Playing.{stage_of}
 use Rattle.drawn_network.specs.Files.{links_draws}
 use Rattle.plant_bulk.specs.Playing.{AreTallied}
 use Rattle.plant_bulk.specs.Requests.{questions}

@@ -1,7 +1,7 @@
 use Rattle.std.proofs.Common.{Some, ap}
 use Rattle.dom_edge.specs.Memory.{StoreState}
 use Rattle.dom_edge.specs.Stores.{file_named}
-use Rattle.plant_play.specs.Playing.{stage_of}
+use Rattle.plant_client.specs.plant_play.Playing.{stage_of}
 use Rattle.plant_bulk.proofs.PlayingLemmas.{tallied_of}
 use Rattle.plant_bulk.proofs.playing.play_over.Goals as goal
 

@@ -1,6 +1,6 @@
 use Rattle.std.proofs.Common.{◌≡◌, ◌++◌, drop}
-use Rattle.plant_model.specs.RealWire.{wire}
-use Rattle.plant_model.specs.State.{sent_by}
+use Rattle.plant_members.specs.plant_model.RealWire.{wire}
+use Rattle.plant_members.specs.plant_model.State.{sent_by}
 use Rattle.plant_deeds.proofs.giving.write_all.Given as goal
 
 abbrev pub invariant-loop-output : goal.invariant-loop-output

@@ -3,8 +3,8 @@ use Rattle.std.specs.Option.{option_to_list}
 use Rattle.dom_base.specs.declared.names.Peer.{Peer}
 use Rattle.dom_base.specs.declared.names.Peer.TheVariants.{Inner}
 use Rattle.pcep_session.specs.declared.actions.Action.{Action}
-use Rattle.plant_model.specs.RealWire.{wire}
-use Rattle.plant_model.specs.Deeds as deeds
+use Rattle.plant_members.specs.plant_model.RealWire.{wire}
+use Rattle.plant_members.specs.plant_model.Deeds as deeds
 use Rattle.plant_traffic.specs.Carried.{flow_of}
 use Rattle.plant_members.specs.Membership.{lost_at}
 use Rattle.plant_deeds.specs.Standing.{here}

@@ -2,8 +2,8 @@ use Rattle.std.proofs.Common.{sym, ap, ◌∙◌}
 use Rattle.pcep_session.specs.Listed.{listed}
 use Rattle.pcep_session.specs.Table.{turn_of}
 use Rattle.pcep_session.specs.declared.state.State.{State as Session}
-use Rattle.plant_layout.specs.Lines.{line_of}
-use Rattle.plant_model.specs.Deeds.{any_fall}
+use Rattle.plant_traffic.specs.plant_layout.Lines.{line_of}
+use Rattle.plant_members.specs.plant_model.Deeds.{any_fall}
 use Rattle.plant_traffic.specs.Carried.{flow_of}
 use Rattle.plant_deeds.specs.Standing.{here}
 use Rattle.plant_deeds.proofs.InputLaws.{link_breaks, link_stays}

@@ -2,7 +2,7 @@ use Rattle.std.proofs.Common.{sym, ◌∙◌}
 use Rattle.plant_traffic.specs.Carried.{flow_of}
 use Rattle.plant_deeds.proofs.ActLaws.{inner_said}
 use Rattle.dom_base.specs.declared.names.Peer.TheVariants.{Inner}
-use Rattle.plant_sessions.specs.Ends.{own_bytes}
+use Rattle.plant_traffic.specs.plant_sessions.Ends.{own_bytes}
 use Rattle.plant_deeds.proofs.ActLaws.{puts_spent}
 use Rattle.plant_deeds.proofs.inner.inner_say.Goals as goal
 

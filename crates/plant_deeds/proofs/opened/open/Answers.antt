@@ -1,6 +1,6 @@
 use Rattle.std.proofs.Common.{◌≡◌, ◌≤◌, ◌<◌, ◌%◌, is_some, false, sym, ◌∙◌, arith, inl, length}
-use Rattle.plant_model.specs.RealWire.{wire}
-use Rattle.plant_model.specs.Events as events
+use Rattle.plant_members.specs.plant_model.RealWire.{wire}
+use Rattle.plant_members.specs.plant_model.Events as events
 use Rattle.plant_traffic.specs.Carried.{flow_of}
 use Rattle.plant_deeds.specs.Standing.{state_of}
 use Rattle.plant_deeds.proofs.OpenLaws.{connected, connected_is, connected_of, connected_roomy, fits_open, on_ok_of, open_done, open_past, opened_roomy}

@@ -2,9 +2,9 @@ use Rattle.std.proofs.Common.{◌≡◌, ◌∙◌, ℕ, suc, Some, List, take, 
 use Rattle.std.specs.Prelude.{slice_get}
 use Rattle.std.proofs.lemmas.List.{take_all}
 use Rattle.plant_text.specs.Settings.{Line}
-use Rattle.plant_model.specs.RealWire.{wire}
-use Rattle.plant_model.specs.Deeds as deeds
-use Rattle.plant_model.specs.Events as events
+use Rattle.plant_members.specs.plant_model.RealWire.{wire}
+use Rattle.plant_members.specs.plant_model.Deeds as deeds
+use Rattle.plant_members.specs.plant_model.Events as events
 use Rattle.plant_traffic.specs.Carried.{flow_of}
 use Rattle.plant_deeds.specs.Standing.{Goes, here}
 use Rattle.plant_deeds.proofs.GoLaws.{goes_by, goes_then}

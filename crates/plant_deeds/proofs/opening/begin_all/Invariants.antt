@@ -1,6 +1,6 @@
 use Rattle.std.proofs.Common.{take}
-use Rattle.plant_model.specs.RealWire.{wire}
-use Rattle.plant_model.specs.Events as events
+use Rattle.plant_members.specs.plant_model.RealWire.{wire}
+use Rattle.plant_members.specs.plant_model.Events as events
 use Rattle.plant_traffic.specs.Carried.{flow_of}
 use Rattle.plant_deeds.specs.Standing.{Goes, here}
 use Rattle.plant_deeds.proofs.opening.begin_all.Given as goal

@@ -1,8 +1,8 @@
 use Rattle.std.proofs.Common.{◌≡◌, ◌∙◌, [], ap, refl}
 use Rattle.dom_base.specs.declared.names.Peer.TheVariants.{Inner}
 use Rattle.plant_text.specs.Settings.{has_line, lines}
-use Rattle.plant_model.specs.State.{State}
-use Rattle.plant_model.specs.Deeds.{Going}
+use Rattle.plant_members.specs.plant_model.State.{State}
+use Rattle.plant_members.specs.plant_model.Deeds.{Going}
 use Rattle.plant_traffic.specs.Carried.{flow_of}
 use Rattle.plant_traffic.specs.Flow.{Flow}
 use Rattle.plant_deeds.specs.Standing.{state_of}

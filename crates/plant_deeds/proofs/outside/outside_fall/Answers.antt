@@ -1,12 +1,12 @@
 use Rattle.std.proofs.Common.{subst}
 use Rattle.dom_base.specs.declared.names.Peer.TheVariants.{Outside}
-use Rattle.plant_model.specs.RealWire.{wire}
-use Rattle.plant_model.specs.Deeds as deeds
+use Rattle.plant_members.specs.plant_model.RealWire.{wire}
+use Rattle.plant_members.specs.plant_model.Deeds as deeds
 use Rattle.plant_traffic.specs.Flow.{Flow}
 use Rattle.plant_traffic.specs.Carried.{flow_of}
 use Rattle.plant_deeds.specs.Standing.{Goes, here}
 use Rattle.plant_deeds.proofs.ActLaws.{outside_falls}
-use Rattle.plant_model.specs.Deeds.{with_inbox}
+use Rattle.plant_members.specs.plant_model.Deeds.{with_inbox}
 use Rattle.plant_members.specs.Membership.{lost_at}
 use Rattle.plant_deeds.specs.Telling.{RoomToTell}
 use Rattle.std.proofs.Common.{[], sym}

@@ -7,8 +7,8 @@ use Rattle.std.proofs.Common.{subst}
 use Rattle.std.specs.Option.{option_map}
 use Rattle.dom_base.specs.declared.names.As.{As}
 use Rattle.dom_base.specs.declared.names.Peer.TheVariants.{Outside}
-use Rattle.plant_model.specs.State.{Connection}
-use Rattle.plant_model.specs.Deeds.{with_session}
+use Rattle.plant_members.specs.plant_model.State.{Connection}
+use Rattle.plant_members.specs.plant_model.Deeds.{with_session}
 use Rattle.plant_deeds.specs.Acting.{FitsInput}
 use Rattle.plant_deeds.proofs.InputLaws.{input_room}
 use Rattle.plant_deeds.proofs.outside.outside_input.Goals as goal

@@ -2,7 +2,7 @@ use Rattle.std.proofs.Common.{sym, ◌∙◌}
 use Rattle.plant_traffic.specs.Carried.{flow_of}
 use Rattle.plant_deeds.proofs.ActLaws.{outside_said}
 use Rattle.dom_base.specs.declared.names.Peer.TheVariants.{Outside}
-use Rattle.plant_sessions.specs.Ends.{own_bytes}
+use Rattle.plant_traffic.specs.plant_sessions.Ends.{own_bytes}
 use Rattle.plant_deeds.proofs.ActLaws.{puts_spent}
 use Rattle.plant_deeds.proofs.outside.outside_say.Goals as goal
 

@@ -1,7 +1,7 @@
 use Rattle.std.proofs.Common.{◌≡◌, ap, sym, subst, ◌∙◌}
 use Rattle.plant_traffic.specs.Carried.{flow_of}
 use Rattle.plant_traffic.specs.Flow.{Flow, change_access}
-use Rattle.plant_model.specs.Deeds.{with_session, element_of}
+use Rattle.plant_members.specs.plant_model.Deeds.{with_session, element_of}
 use Rattle.dom_base.specs.declared.names.Peer.TheVariants.{Outside}
 use Rattle.plant_members.specs.Owed.{asked_in}
 use Rattle.plant_deeds.specs.Giving.{RoomToPut, IsGiven, RoomToGive, PutsAll}

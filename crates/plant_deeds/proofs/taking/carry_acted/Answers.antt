@@ -3,7 +3,7 @@ use Rattle.dom_base.specs.declared.names.As.{As}
 use Rattle.pcep_session.specs.Listed.{listed}
 use Rattle.plant_text.specs.Names.{same_as}
 use Rattle.plant_text.specs.Settings.{line, lines}
-use Rattle.plant_layout.specs.Lines.{line_of}
+use Rattle.plant_traffic.specs.plant_layout.Lines.{line_of}
 use Rattle.plant_traffic.specs.Carried.{flow_of}
 use Rattle.plant_members.specs.Membership.{is_member}
 use Rattle.plant_deeds.proofs.PassRoom.{roomy_grown}

@@ -1,8 +1,8 @@
 use Rattle.std.proofs.Common.{false, sym, ap, subst, ◌∙◌}
 use Rattle.dom_base.specs.declared.names.Peer.TheVariants.{Inner}
 use Rattle.pcep_session.specs.Listed.{listed}
-use Rattle.plant_layout.specs.Lines.{line_of}
-use Rattle.plant_model.specs.Deeds.{any_fall}
+use Rattle.plant_traffic.specs.plant_layout.Lines.{line_of}
+use Rattle.plant_members.specs.plant_model.Deeds.{any_fall}
 use Rattle.plant_traffic.specs.Carried.{flow_of}
 use Rattle.plant_traffic.specs.Flow.{Flow}
 use Rattle.plant_deeds.specs.Acting.{RoomToAct, lost_by}

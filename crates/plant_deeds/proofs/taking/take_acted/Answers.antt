@@ -1,7 +1,7 @@
 use Rattle.std.proofs.Common.{◌≡◌, true, sym, ap, subst, ◌∙◌}
 use Rattle.dom_base.specs.declared.names.As.{As}
 use Rattle.pcep_session.specs.Listed.{listed}
-use Rattle.plant_model.specs.Deeds.{with_session}
+use Rattle.plant_members.specs.plant_model.Deeds.{with_session}
 use Rattle.plant_traffic.specs.Carried.{flow_of}
 use Rattle.plant_traffic.specs.Flow.{change_access}
 use Rattle.plant_members.specs.Membership.{is_member}

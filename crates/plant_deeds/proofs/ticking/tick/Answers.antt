@@ -2,7 +2,7 @@ use Rattle.std.proofs.Common.{◌≡◌, ◌*◌, ap, sym, subst, ◌∙◌, ari
 use Rattle.dom_base.specs.declared.names.Tick.{Tick}
 use Rattle.plant_text.specs.declared.settings.NetworkParts.{NetworkParts}
 use Rattle.plant_text.specs.Settings.{lines}
-use Rattle.plant_model.specs.Events as events
+use Rattle.plant_members.specs.plant_model.Events as events
 use Rattle.plant_traffic.specs.Carried.{flow_of}
 use Rattle.plant_members.specs.Membership.{KeysBefore}
 use Rattle.plant_deeds.specs.Rooms.{own_most}

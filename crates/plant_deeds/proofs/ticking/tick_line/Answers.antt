@@ -1,10 +1,10 @@
 use Rattle.std.proofs.Common.{◌≡◌, true, sym, subst, arith}
 use Rattle.plant_text.specs.declared.settings.NetworkParts.{NetworkParts}
 use Rattle.plant_text.specs.Settings.{lines}
-use Rattle.plant_layout.specs.Lines.{line_of}
+use Rattle.plant_traffic.specs.plant_layout.Lines.{line_of}
 use Rattle.pcep_session.specs.declared.session.Input.TheVariants as inputs
-use Rattle.plant_model.specs.RealWire.{wire}
-use Rattle.plant_model.specs.Deeds as deeds
+use Rattle.plant_members.specs.plant_model.RealWire.{wire}
+use Rattle.plant_members.specs.plant_model.Deeds as deeds
 use Rattle.plant_traffic.specs.Carried.{flow_of}
 use Rattle.plant_members.specs.Membership.{is_member}
 use Rattle.plant_deeds.specs.Standing.{here}

@@ -1,7 +1,7 @@
 use Rattle.std.proofs.Common.{◌*◌, length, take}
 use Rattle.plant_text.specs.Settings.{lines}
-use Rattle.plant_model.specs.RealWire.{wire}
-use Rattle.plant_model.specs.Deeds as deeds
+use Rattle.plant_members.specs.plant_model.RealWire.{wire}
+use Rattle.plant_members.specs.plant_model.Deeds as deeds
 use Rattle.plant_traffic.specs.Carried.{flow_of}
 use Rattle.plant_deeds.specs.Standing.{here}
 use Rattle.plant_deeds.proofs.TickingLaws.{Until}

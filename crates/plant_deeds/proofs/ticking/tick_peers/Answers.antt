@@ -1,7 +1,7 @@
 use Rattle.std.proofs.Common.{◌≡◌, ◌<◌, ◌%◌, ℕ, true, sym, subst, arith, add-one, length}
 use Rattle.std.proofs.Math.Nat.{mod-eq_of_lt}
 use Rattle.plant_text.specs.declared.settings.NetworkParts.{NetworkParts}
-use Rattle.plant_model.specs.Deeds.{element_of}
+use Rattle.plant_members.specs.plant_model.Deeds.{element_of}
 use Rattle.plant_traffic.specs.Carried.{flow_of}
 use Rattle.plant_members.specs.Membership.{is_member}
 use Rattle.plant_deeds.specs.Standing.{here}

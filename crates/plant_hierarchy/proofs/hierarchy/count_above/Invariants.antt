@@ -1,5 +1,5 @@
 use Rattle.std.proofs.Common.{◌≤◌, length}
-use Rattle.plant_model.specs.Parent.{ready_numbers}
+use Rattle.plant_members.specs.plant_model.Parent.{ready_numbers}
 use Rattle.plant_hierarchy.proofs.hierarchy.count_above.Given as goal
 
 abbrev pub invariant-loop-count : goal.invariant-loop-count

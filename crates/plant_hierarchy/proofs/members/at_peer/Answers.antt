@@ -1,7 +1,7 @@
 use Rattle.std.proofs.Common.{◌∙◌, Option, length, refl, sym, ap}
 use Rattle.std.proofs.lemmas.Option.{slice_get_read, slice_get_past}
 use Rattle.plant_text.specs.declared.settings.PeerRow.{PeerRow}
-use Rattle.plant_model.specs.Deeds.{at_row}
+use Rattle.plant_members.specs.plant_model.Deeds.{at_row}
 use Rattle.plant_layout.proofs.RowLemmas.{peer_row_is}
 use Rattle.plant_hierarchy.proofs.members.at_peer.Goals as goal
 

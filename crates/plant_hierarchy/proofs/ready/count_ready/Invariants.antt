@@ -1,5 +1,5 @@
 use Rattle.std.proofs.Common.{◌≤◌, length}
-use Rattle.plant_model.specs.Element.{ready_numbers}
+use Rattle.plant_members.specs.plant_model.Element.{ready_numbers}
 use Rattle.plant_hierarchy.proofs.ready.count_ready.Given as goal
 
 abbrev pub invariant-loop-count : goal.invariant-loop-count

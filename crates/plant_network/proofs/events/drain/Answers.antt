@@ -1,6 +1,6 @@
-use Rattle.plant_model.specs.Events as events
-use Rattle.plant_model.specs.RealWire.{wire}
-use Rattle.plant_traffic.specs.Carried.{flow_of}
+use Rattle.plant_deeds.specs.plant_model.Events as events
+use Rattle.plant_deeds.specs.plant_model.RealWire.{wire}
+use Rattle.plant_deeds.specs.plant_traffic.Carried.{flow_of}
 use Rattle.plant_deeds.specs.Standing.{here}
 use Rattle.plant_network.proofs.StepLemmas.{still_moves}
 use Rattle.plant_network.proofs.events.drain.Goals as goal

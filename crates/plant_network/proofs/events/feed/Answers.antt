@@ -1,8 +1,8 @@
 use Rattle.std.proofs.Common.{subst}
-use Rattle.plant_model.specs.Events as events
-use Rattle.plant_model.specs.RealWire.{wire}
-use Rattle.plant_traffic.specs.Carried.{flow_of}
-use Rattle.plant_model.specs.Wire.{Bytes}
+use Rattle.plant_deeds.specs.plant_model.Events as events
+use Rattle.plant_deeds.specs.plant_model.RealWire.{wire}
+use Rattle.plant_deeds.specs.plant_traffic.Carried.{flow_of}
+use Rattle.plant_deeds.specs.plant_model.Wire.{Bytes}
 use Rattle.plant_deeds.specs.Happening.{IsDoneOrLacks}
 use Rattle.plant_deeds.specs.Standing.{here, state_of}
 use Rattle.plant_network.proofs.StepLemmas.{still_moves}

@@ -1,7 +1,7 @@
 use Rattle.std.proofs.Common.{false}
-use Rattle.plant_model.specs.Events as events
-use Rattle.plant_model.specs.RealWire.{wire}
-use Rattle.plant_traffic.specs.Carried.{flow_of}
+use Rattle.plant_deeds.specs.plant_model.Events as events
+use Rattle.plant_deeds.specs.plant_model.RealWire.{wire}
+use Rattle.plant_deeds.specs.plant_traffic.Carried.{flow_of}
 use Rattle.plant_deeds.specs.Standing.{here}
 use Rattle.plant_network.proofs.StepLemmas.{done_moves}
 use Rattle.plant_network.proofs.events.shut.Goals as goal

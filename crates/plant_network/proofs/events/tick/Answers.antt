@@ -1,8 +1,8 @@
 use Rattle.std.proofs.Common.{false, refl}
-use Rattle.plant_model.specs.declared.outcome.Outcome.TheVariants.{Done}
-use Rattle.plant_model.specs.Events as events
-use Rattle.plant_model.specs.RealWire.{wire}
-use Rattle.plant_traffic.specs.Carried.{flow_of}
+use Rattle.plant_deeds.specs.plant_model.declared.outcome.Outcome.TheVariants.{Done}
+use Rattle.plant_deeds.specs.plant_model.Events as events
+use Rattle.plant_deeds.specs.plant_model.RealWire.{wire}
+use Rattle.plant_deeds.specs.plant_traffic.Carried.{flow_of}
 use Rattle.plant_deeds.specs.Standing.{here}
 use Rattle.plant_network.proofs.SoundLemmas.{keys_before}
 use Rattle.plant_network.proofs.StepLemmas.{ok_moves}

@@ -1,5 +1,5 @@
 use Rattle.std.proofs.Common.{◌∙◌, ◌++◌, List, sym, ap, subst}
-use Rattle.plant_model.specs.declared.event.Event.{Event}
+use Rattle.pce_plant.specs.plant_model.declared.event.Event.{Event}
 use Rattle.pce_plant.specs.Held.{whole}
 use Rattle.plant_text.specs.declared.settings.NetworkParts.{NetworkParts}
 use Rattle.plant_text.specs.declared.settings.PeerRow.{PeerRow}

@@ -1,5 +1,5 @@
 use Rattle.std.specs.Arc.{arc_value}
-use Rattle.plant_model.specs.declared.event.Event.TheVariants as event
+use Rattle.pce_plant.specs.plant_model.declared.event.Event.TheVariants as event
 use Rattle.pce_plant.specs.Held.{whole}
 use Rattle.plant_play.specs.Making.{DoesLine, stage}
 use Rattle.plant_play.specs.Playing.{PlaysChange, PlaysOne}

@@ -1,4 +1,4 @@
-use Rattle.plant_model.specs.declared.event.Event.TheVariants as event
+use Rattle.pce_plant.specs.plant_model.declared.event.Event.TheVariants as event
 use Rattle.pce_plant.specs.Held.{whole}
 use Rattle.plant_play.specs.Making.{DoesLine, stage}
 use Rattle.plant_play.specs.Playing.{PlaysLoad, PlaysOne}

@@ -1,5 +1,5 @@
 use Rattle.std.proofs.Common.{◌∙◌, sym, ap, arith, List}
-use Rattle.plant_model.specs.Element.{Row, is_waiting}
+use Rattle.member_parts.specs.plant_model.Element.{Row, is_waiting}
 use Rattle.pce_element.specs.Rows.{row_of}
 use Rattle.member_parts.proofs.HeldPlaces.{nothing_dropped}
 use Rattle.pce_element.proofs.SearchLemmas.{is_waiting_here, is_waiting_later}

@@ -1,6 +1,6 @@
 use Rattle.std.proofs.Common.{◌≡◌, ◌∙◌, ℕ, Bool, cond, arith, sym, ap}
 use Rattle.request_table.specs.Pending.{same_peer}
-use Rattle.plant_model.specs.Element.{Row}
+use Rattle.member_parts.specs.plant_model.Element.{Row}
 use Rattle.pce_element.specs.Rows.{row_of}
 use Rattle.member_parts.proofs.Scans.{tally_next}
 use Rattle.pce_element.proofs.pinned.PinnedRequests.owed.Goals as goal

@@ -1,5 +1,5 @@
 use Rattle.std.proofs.Common.{◌∙◌, ◌≤◌, List, length, arith, sym, ap}
-use Rattle.plant_model.specs.Element.{Row, waiting}
+use Rattle.member_parts.specs.plant_model.Element.{Row, waiting}
 use Rattle.pce_element.specs.Rows.{row_of}
 use Rattle.member_parts.proofs.HeldPlaces.{listed_at, nothing_dropped}
 use Rattle.pce_element.proofs.ReadyLemmas.{waits_yet}

@@ -5,8 +5,8 @@ use Rattle.request_table.specs.Pending.{Pending}
 use Rattle.vspt_tree.specs.Branches.{HasBranchAt}
 use Rattle.vspt_tree.specs.declared.branch.Best.{Best}
 use Rattle.vspt_tree.specs.declared.branch.Branch.{Branch}
-use Rattle.plant_model.specs.Blind.{Nothing}
-use Rattle.plant_model.specs.Element.{Item, Ready}
+use Rattle.member_parts.specs.plant_model.Blind.{Nothing}
+use Rattle.member_parts.specs.plant_model.Element.{Item, Ready}
 use Rattle.pce_element.specs.Answering.{Answers}
 use Rattle.pce_element.specs.Blind.{AreJoined, stands_for_nothing}
 use Rattle.pce_element.specs.Rows.{row_of}

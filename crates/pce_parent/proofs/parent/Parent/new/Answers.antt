@@ -2,7 +2,7 @@ use Rattle.std.proofs.Common.{◌<◌, length, sym, ap, subst, arith}
 use Rattle.std.specs.Prelude.{All, AllPairs}
 use Rattle.dom_base.specs.declared.names.As.{As}
 use Rattle.request_table.specs.Pending.{Pending}
-use Rattle.plant_model.specs.Parent.{Asking}
+use Rattle.member_parts.specs.plant_model.Parent.{Asking}
 use Rattle.pce_parent.specs.Solution.{IsWeighed}
 use Rattle.pce_parent.proofs.parent.Parent.new.Goals as goal
 

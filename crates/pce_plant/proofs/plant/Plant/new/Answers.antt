@@ -3,11 +3,11 @@ use Rattle.dom_base.specs.declared.names.As.{As}
 use Rattle.plant_text.specs.declared.settings.NetworkParts.{NetworkParts}
 use Rattle.plant_text.specs.Networks.{IsNetwork}
 use Rattle.disclosure.specs.Shown.{open_of}
-use Rattle.plant_model.specs.Events.{opening}
-use Rattle.plant_model.specs.Plant.{Pin, Run, Segment, first_pin}
-use Rattle.plant_model.specs.RealWire.{wire}
-use Rattle.plant_members.specs.Membership.{Membership}
-use Rattle.plant_hierarchy.specs.Topologies.{begun, members_of}
+use Rattle.plant_network.specs.plant_model.Events.{opening}
+use Rattle.plant_network.specs.plant_model.Plant.{Pin, Run, Segment, first_pin}
+use Rattle.plant_network.specs.plant_model.RealWire.{wire}
+use Rattle.plant_network.specs.plant_members.Membership.{Membership}
+use Rattle.plant_network.specs.plant_hierarchy.Topologies.{begun, members_of}
 use Rattle.plant_network.specs.Beginning.{AreBare}
 use Rattle.pce_plant.specs.Held.{held, whole}
 use Rattle.pce_plant.proofs.plant.Plant.new.Goals as goal

@@ -2,7 +2,7 @@ use Rattle.std.proofs.Common.{subst}
 use Rattle.std.specs.Prelude.{IfOk}
 use Rattle.std.specs.Arc.{arc_value}
 use Rattle.std.specs.Option.{option_map}
-use Rattle.pce_element.specs.Rows.{pin_with}
+use Rattle.plant_network.specs.pce_element.Rows.{pin_with}
 use Rattle.pce_plant.specs.Current.{IsCurrent}
 use Rattle.pce_plant.specs.Held.{Held, whole}
 use Rattle.pce_plant.proofs.plant.Plant.topology.Goals as goal

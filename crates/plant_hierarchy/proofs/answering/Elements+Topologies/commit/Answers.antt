@@ -7,7 +7,7 @@ use Rattle.plant_hierarchy.specs.Answering.{IsBack}
 use Rattle.plant_hierarchy.specs.Becoming.{Becomes, unchanged}
 use Rattle.plant_hierarchy.proofs.DomainLemmas.{first_within}
 use Rattle.plant_hierarchy.proofs.BecomingLemmas.{becomes, owns_become, at_then, there_of, of_there, ok_more, err_more}
-use Rattle.plant_model.specs.Plant.{Pin, Segment, first_pin}
+use Rattle.plant_members.specs.plant_model.Plant.{Pin, Segment, first_pin}
 use Rattle.plant_hierarchy.proofs.answering.Elements+Topologies.commit.Goals as goal
 
 pub commit_at-requires-clause-within : goal.commit_at-requires-clause-within

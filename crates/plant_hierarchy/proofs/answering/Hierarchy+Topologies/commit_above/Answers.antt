@@ -1,12 +1,12 @@
 use Rattle.std.proofs.Common.{◌≡◌, true, sym, subst}
 use Rattle.std.specs.Prelude.{IfSome}
-use Rattle.plant_model.specs.Events.{has_jobs}
+use Rattle.plant_members.specs.plant_model.Events.{has_jobs}
 use Rattle.pce_parent.specs.declared.work.Done.TheVariants as done
 use Rattle.plant_hierarchy.specs.Answering.{border_job, told_above}
 use Rattle.plant_hierarchy.specs.Tiers.{Tiers}
 use Rattle.plant_hierarchy.specs.TierFields.{tiers_of}
 use Rattle.plant_hierarchy.proofs.AnswerLemmas.{commits_as, commits_above}
-use Rattle.plant_model.specs.Plant.{Pin, Segment}
+use Rattle.plant_members.specs.plant_model.Plant.{Pin, Segment}
 use Rattle.plant_hierarchy.proofs.answering.Hierarchy+Topologies.commit_above.Goals as goal
 
 pub returns : goal.returns

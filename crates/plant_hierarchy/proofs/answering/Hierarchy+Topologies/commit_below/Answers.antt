@@ -12,7 +12,7 @@ use Rattle.plant_hierarchy.proofs.AnswerLemmas.{commits_as, commits_below}
 use Rattle.plant_hierarchy.proofs.TierLemmas.{set_below}
 use Rattle.plant_hierarchy.proofs.StepLemmas as step
 use Rattle.disclosure.specs.Shown.{open_of}
-use Rattle.plant_model.specs.Plant.{Pin, Segment, first_pin}
+use Rattle.plant_members.specs.plant_model.Plant.{Pin, Segment, first_pin}
 use Rattle.plant_hierarchy.proofs.answering.Hierarchy+Topologies.commit_below.Goals as goal
 
 pub commit-requires-clause-there : goal.commit-requires-clause-there

@@ -1,6 +1,6 @@
 use Rattle.std.proofs.Common.{◌≡◌, ◌∙◌, ◌≤◌, Option, Some, None, List, map, get_or, sym, ap, subst}
 use Rattle.std.specs.Prelude.{IfSome, MatchOption}
-use Rattle.plant_model.specs.Blind.{Nothing}
+use Rattle.plant_members.specs.plant_model.Blind.{Nothing}
 use Rattle.pce_element.specs.Blind.{HasNoJob, IsSolvedBy}
 use Rattle.pce_element.specs.Seen.{Seen}
 use Rattle.plant_hierarchy.specs.Becoming.{Becomes, unchanged}

@@ -1,6 +1,6 @@
 use Rattle.std.proofs.Common.{◌≡◌, true, sym, subst}
 use Rattle.plant_text.specs.Settings.{is_element}
-use Rattle.plant_model.specs.Blind.{Nothing, show_nothing}
+use Rattle.plant_members.specs.plant_model.Blind.{Nothing, show_nothing}
 use Rattle.plant_members.specs.Membership.{KeysBefore}
 use Rattle.plant_hierarchy.specs.Becoming.{unchanged}
 use Rattle.plant_hierarchy.specs.Blind.{nothing_first, told_below}

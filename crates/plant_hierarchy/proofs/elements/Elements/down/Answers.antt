@@ -1,5 +1,5 @@
 use Rattle.std.proofs.Common.{◌∙◌, List, map, sym, subst}
-use Rattle.plant_model.specs.Element.{down_of}
+use Rattle.plant_members.specs.plant_model.Element.{down_of}
 use Rattle.pce_element.specs.Seen.{Seen}
 use Rattle.plant_hierarchy.specs.Elements.{own_of, IsFirstAt}
 use Rattle.plant_hierarchy.specs.Becoming.{Becomes}

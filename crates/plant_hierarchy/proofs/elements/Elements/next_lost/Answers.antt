@@ -1,6 +1,6 @@
 use Rattle.std.proofs.Common.{◌≡◌, ◌∙◌, List, map, sym, subst}
 use Rattle.std.specs.Prelude.{IfSome}
-use Rattle.plant_model.specs.Element.{next_lost_of}
+use Rattle.plant_members.specs.plant_model.Element.{next_lost_of}
 use Rattle.pce_element.specs.Seen.{Seen}
 use Rattle.plant_hierarchy.specs.Elements.{at_domain, own_of, IsFirstAt}
 use Rattle.plant_hierarchy.specs.Becoming.{Becomes}

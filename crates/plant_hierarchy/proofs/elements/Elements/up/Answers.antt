@@ -1,5 +1,5 @@
 use Rattle.std.proofs.Common.{◌∙◌, List, map, sym, subst}
-use Rattle.plant_model.specs.Element.{upped}
+use Rattle.plant_members.specs.plant_model.Element.{upped}
 use Rattle.pce_element.specs.Seen.{Seen}
 use Rattle.plant_hierarchy.specs.Elements.{own_of, IsFirstAt}
 use Rattle.plant_hierarchy.specs.Becoming.{Becomes}

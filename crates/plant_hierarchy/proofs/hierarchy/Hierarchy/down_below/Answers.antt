@@ -1,6 +1,6 @@
 use Rattle.std.proofs.Common.{◌≡◌, ◌∙◌, true, sym, ap, subst}
 use Rattle.plant_text.specs.Settings.{is_element}
-use Rattle.plant_model.specs.Names.{set_as}
+use Rattle.plant_members.specs.plant_model.Names.{set_as}
 use Rattle.plant_members.specs.Membership.{fallen, lost_at}
 use Rattle.plant_hierarchy.specs.Tiers.{Tiers, Become, members_of, lost_in}
 use Rattle.plant_hierarchy.specs.TierFields.{tiers_of}

@@ -1,6 +1,6 @@
 use Rattle.std.proofs.Common.{◌∙◌, Bool, cond, is_some, sym, ap}
 use Rattle.plant_text.specs.Settings.{is_element}
-use Rattle.plant_model.specs.Events.{has_jobs}
+use Rattle.plant_members.specs.plant_model.Events.{has_jobs}
 use Rattle.plant_hierarchy.specs.Tiers.{Tiers}
 use Rattle.plant_hierarchy.specs.TierFields.{tiers_of}
 use Rattle.plant_hierarchy.proofs.RisingDomains.{element_is}

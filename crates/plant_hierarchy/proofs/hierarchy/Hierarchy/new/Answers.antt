@@ -1,7 +1,7 @@
 use Rattle.std.proofs.Common.{All, sym, subst}
 use Rattle.plant_text.specs.declared.settings.NetworkParts.{NetworkParts}
 use Rattle.plant_text.specs.Settings.{elements_of}
-use Rattle.plant_model.specs.Settings.{family}
+use Rattle.plant_members.specs.plant_model.Settings.{family}
 use Rattle.pce_parent.specs.Seen.{IsNew}
 use Rattle.pce_parent.specs.Solution.{IsWeighed}
 use Rattle.plant_hierarchy.specs.Fresh.{AreNew, LivesFit, parent_id}

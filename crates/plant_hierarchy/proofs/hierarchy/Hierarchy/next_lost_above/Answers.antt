@@ -1,5 +1,5 @@
 use Rattle.std.proofs.Common.{subst}
-use Rattle.plant_model.specs.Parent.{next_lost_of}
+use Rattle.plant_members.specs.plant_model.Parent.{next_lost_of}
 use Rattle.plant_members.specs.Membership.{HandsOut}
 use Rattle.plant_hierarchy.specs.Tiers.{Tiers, Become, members_of, lost_in}
 use Rattle.plant_hierarchy.specs.TierFields.{tiers_of}

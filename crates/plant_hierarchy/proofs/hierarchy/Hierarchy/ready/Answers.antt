@@ -2,9 +2,9 @@ use Rattle.std.proofs.Common.{◌≡◌, ◌∙◌, ◌-◌, ℕ, List, sym, ap,
 use Rattle.std.specs.Prelude.{slice_get}
 use Rattle.dom_base.specs.declared.names.As.{As}
 use Rattle.plant_text.specs.Names.{parent_as}
-use Rattle.plant_model.specs.Events.{ready_jobs}
-use Rattle.plant_model.specs.Parent.{ready_numbers}
-use Rattle.plant_model.specs.State.{State}
+use Rattle.plant_members.specs.plant_model.Events.{ready_jobs}
+use Rattle.plant_members.specs.plant_model.Parent.{ready_numbers}
+use Rattle.plant_members.specs.plant_model.State.{State}
 use Rattle.plant_hierarchy.specs.Ready.{jobs_in}
 use Rattle.plant_hierarchy.specs.Tiers.{Tiers, members_of}
 use Rattle.plant_hierarchy.specs.TierFields.{tiers_of}

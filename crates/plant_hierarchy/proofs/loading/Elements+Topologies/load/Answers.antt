@@ -1,12 +1,12 @@
 use Rattle.std.proofs.Common.{◌≡◌, ◌∙◌, ℕ, List, Option, None, Result, Err, map, refl, sym, ap, subst}
 use Rattle.dom_base.specs.declared.names.As.{As}
-use Rattle.plant_model.specs.declared.outcome.Refused.{Refused}
-use Rattle.plant_model.specs.declared.outcome.Refused.TheVariants.{NoSuchPeer}
+use Rattle.plant_members.specs.plant_model.declared.outcome.Refused.{Refused}
+use Rattle.plant_members.specs.plant_model.declared.outcome.Refused.TheVariants.{NoSuchPeer}
 use Rattle.pce_element.specs.Seen.{Seen}
 use Rattle.plant_hierarchy.specs.Elements.{at_domain, own_of, no_one, told, IsFirstAt, IsNowhere, LoadsAt}
 use Rattle.plant_hierarchy.proofs.DomainLemmas.{first_within, first_own, at_nowhere}
 use Rattle.plant_hierarchy.proofs.PlaceLoads.{loads_at, owns_kept}
-use Rattle.plant_model.specs.Plant.{Pin, Segment, first_pin}
+use Rattle.plant_members.specs.plant_model.Plant.{Pin, Segment, first_pin}
 use Rattle.plant_hierarchy.proofs.loading.Elements+Topologies.load.Goals as goal
 
 pub returns-in_default : goal.returns-in_default

@@ -7,7 +7,7 @@ use Rattle.plant_hierarchy.specs.Current.{IsCurrent}
 use Rattle.plant_hierarchy.specs.TierFields.{tiers_of}
 use Rattle.plant_hierarchy.specs.Tiers.{Tiers, members_of}
 use Rattle.plant_hierarchy.proofs.CurrentLemmas.{current_is}
-use Rattle.plant_model.specs.Plant.{Pin, Segment, first_pin}
+use Rattle.plant_members.specs.plant_model.Plant.{Pin, Segment, first_pin}
 use Rattle.plant_hierarchy.proofs.loading.Hierarchy+Topologies.topology.Goals as goal
 
 if_ok : {T E : Type 0} {P Q : T → Type 0} (r : Result T E) → ((x : T) → P x → Q x) → IfOk r P → IfOk r Q

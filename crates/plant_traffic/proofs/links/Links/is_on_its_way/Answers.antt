@@ -1,5 +1,5 @@
 use Rattle.std.proofs.Common.{◌≡◌, ◌∙◌, not, sym, ap}
-use Rattle.plant_model.specs.Names.{is_empty}
+use Rattle.plant_layout.specs.plant_model.Names.{is_empty}
 use Rattle.plant_traffic.specs.Sides.{Side}
 use Rattle.plant_traffic.proofs.RowLemmas.{read_side}
 use Rattle.plant_traffic.proofs.links.Links.is_on_its_way.Goals as goal

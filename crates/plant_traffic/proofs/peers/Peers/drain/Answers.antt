@@ -1,6 +1,6 @@
 use Rattle.std.proofs.Common.{subst, arith, List}
 use Rattle.plant_sessions.specs.declared.access.Access.{Access}
-use Rattle.plant_model.specs.declared.outcome.Refused.TheVariants.{NoSuchPeer}
+use Rattle.plant_layout.specs.plant_model.declared.outcome.Refused.TheVariants.{NoSuchPeer}
 use Rattle.std.proofs.Common.{Err}
 use Rattle.plant_traffic.specs.Peers.{DrainsPeer, guests_of}
 use Rattle.plant_traffic.proofs.AccessLemmas.{drains, nobody_drains}
