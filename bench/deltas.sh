@@ -16,7 +16,6 @@ mkdir -p "$copy/crates"
 cp "$top/HANDLES" "$copy/"
 for name in dom_base line_text te_links te_text te_deltas; do
     cp -r "$top/crates/$name" "$copy/crates/"
-    rm -rf "$copy/crates/$name/must-fail"
     grep "^$name[ :]" "$top/crates.txt" >>"$copy/crates.txt"
 done
 echo 'deltas_bench: dom_base te_links te_deltas' >>"$copy/crates.txt"

@@ -16,7 +16,6 @@ mkdir -p "$copy/crates"
 cp "$top/HANDLES" "$copy/"
 for name in dom_base request_table path_keys plant_queues; do
     cp -r "$top/crates/$name" "$copy/crates/"
-    rm -rf "$copy/crates/$name/must-fail"
     grep "^$name[ :]" "$top/crates.txt" >>"$copy/crates.txt"
 done
 echo 'leaves_bench: dom_base request_table path_keys plant_queues' >>"$copy/crates.txt"

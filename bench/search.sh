@@ -18,7 +18,6 @@ mkdir -p "$copy/crates"
 cp "$top/HANDLES" "$copy/"
 for name in dom_base te_links path_constraints path_exclusions walk_laws path_search; do
     cp -r "$top/crates/$name" "$copy/crates/"
-    rm -rf "$copy/crates/$name/must-fail"
     grep "^$name[ :]" "$top/crates.txt" >>"$copy/crates.txt"
 done
 echo 'search_bench: dom_base te_links path_search' >>"$copy/crates.txt"

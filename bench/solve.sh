@@ -17,7 +17,6 @@ mkdir -p "$copy/crates"
 cp "$top/HANDLES" "$copy/"
 for name in dom_base line_text te_links te_text path_constraints path_exclusions pcep_codes pcep_subobjects walk_laws path_search path_certificate vspt_tree border_costs; do
     cp -r "$top/crates/$name" "$copy/crates/"
-    rm -rf "$copy/crates/$name/must-fail"
     grep "^$name[ :]" "$top/crates.txt" >>"$copy/crates.txt"
 done
 sed -n 's/^border_costs: /solve_bench: border_costs /p' "$top/crates.txt" >>"$copy/crates.txt"

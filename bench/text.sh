@@ -19,7 +19,6 @@ mkdir -p "$copy/crates"
 cp "$top/HANDLES" "$copy/"
 for name in dom_base line_text te_links te_text; do
     cp -r "$top/crates/$name" "$copy/crates/"
-    rm -rf "$copy/crates/$name/must-fail"
     grep "^$name[ :]" "$top/crates.txt" >>"$copy/crates.txt"
 done
 echo 'text_bench: dom_base line_text te_links te_text' >>"$copy/crates.txt"

@@ -12,7 +12,6 @@ mkdir -p "$copy/crates"
 cp "$top/HANDLES" "$copy/"
 for name in dom_base pcep_codes pcep_subobjects pcep_capabilities path_exclusions pcep_objects pcep_messages; do
     cp -r "$top/crates/$name" "$copy/crates/"
-    rm -rf "$copy/crates/$name/must-fail"
     grep "^$name[ :]" "$top/crates.txt" >>"$copy/crates.txt"
 done
 echo 'wire_bench: dom_base pcep_subobjects pcep_objects pcep_messages' >>"$copy/crates.txt"
