@@ -56,6 +56,3 @@ pub fn allows(deny: &[Deny], class: Class, next: As) -> bool
 pub fn denial_is_tested()
     ensures { DenialIsTested }
 {}
-
-#[cfg(test)]
-mod tests;

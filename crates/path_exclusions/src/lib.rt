@@ -6,6 +6,3 @@ mod support;
 
 pub use bars::{bars_link, bars_node};
 pub use support::{ExclusionError, copies_of_demands, find_unsupported, supported};
-
-#[cfg(test)]
-mod tests;

@@ -16,31 +16,3 @@ pub fn negotiate(ours: Offer, theirs: Offer) -> Agreed
         stateful: ours.stateful && theirs.stateful,
     }
 }
-
-#[cfg(test)]
-mod tests {
-    use super::negotiate;
-    use crate::offer::{Agreed, Offer};
-
-    #[test]
-    fn own_keepalive_and_their_dead_timer(rt: HostRuntime) {
-        let ours = Offer {
-            keepalive: 30,
-            dead: 120,
-            sid: 1,
-            stateful: true,
-        };
-        let theirs = Offer {
-            keepalive: 10,
-            dead: 40,
-            sid: 2,
-            stateful: false,
-        };
-        let agreed = Agreed {
-            keepalive: 30,
-            dead: 40,
-            stateful: false,
-        };
-        assert_eq!(rt; negotiate(ours, theirs), agreed);
-    }
-}

@@ -29,6 +29,3 @@ pub use reading::{
 pub use requests::request_of;
 pub use splitting::split_message;
 pub use writing::write_message;
-
-#[cfg(test)]
-mod tests;

@@ -15,6 +15,3 @@ pub use room::{room_behind_object, room_behind_route};
 pub use writing::{
     no_object_begins_another, objects_are_octets, objects_are_read_again, write_object, write_route,
 };
-
-#[cfg(test)]
-mod tests;

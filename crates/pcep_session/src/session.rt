@@ -69,6 +69,3 @@ impl Session {
         self.state.step(input)
     }
 }
-
-#[cfg(test)]
-mod tests;

@@ -21,6 +21,3 @@ pub use hops::{
 };
 pub use octets::{addr_len, put_addr, wide};
 pub use part::{Part, Spelled, build_parts, check_parts};
-
-#[cfg(test)]
-mod tests;
