@@ -1,0 +1,358 @@
+//! An element that is told what the rows of a table say.
+ghost use Rattle.std.specs.Prelude.{◌≡◌, ◌≤◌, IfOk, IsTrue, OnOk};
+ghost use Rattle.member_parts.specs.Messages.{HasOnePart};
+
+use crate::sequences::SEQUENCES;
+use crate::words::{class_of, lines_of, number, octets, peer, the_peer, topology_text, word};
+use border_costs::solve;
+use disclosure::Deny;
+use dom_base::{Addr, As, List, Peer, Tick};
+use line_text::{Words, line_count};
+use pce_element::{Element, Plan, Topologies};
+use pcep_messages::{Message, read_message, write_message};
+use plant_model::{Lost, Outputs};
+use std::alloc::Global;
+use std::test::Fail;
+use te_generations::LoadError;
+use te_links::Topology;
+use te_text::read_topology;
+
+// The element of domain 2, whose sessions with domains 1 and 3 are up.
+fn new_element(alloc: Global) -> Result<Element<Topologies>, Fail>
+    ensures { IfOk result (λ element. element.losing.element.keys.clock ≡ 0) }
+{
+    let links = [As(1), As(3), As(5), As(0)];
+    let id = Addr::V4(0xc000_0202);
+    let mut deny = List::new(alloc);
+    deny.push(Deny {
+        from: As(7),
+        next: As(3),
+    })?;
+    let mut element = Element::new(alloc, As(2), id, 600, true, &links, deny)?;
+    element.up(Peer::Inner(As(1)));
+    element.up(Peer::Inner(As(3)));
+    Ok(element)
+}
+
+// ---- what is said
+
+/// A message, and whom it is sent to.
+#[derive(Drop)]
+struct Said {
+    to: Peer,
+    octets: Vec<u8>,
+}
+
+fn said_by(alloc: Global, outputs: &Outputs) -> Result<Vec<Said>, Fail> {
+    let mut said = Vec::new(alloc);
+    for output in outputs.as_slice() {
+        let mut octets = Vec::new(alloc);
+        write_message(alloc, &output.message, &mut octets)?;
+        said.push(Said {
+            to: output.to,
+            octets,
+        })?;
+    }
+    Ok(said)
+}
+
+// Whether the messages of the other words are sent, and no others.
+fn are_these(alloc: Global, said: &[Said], words: &mut Words<'_>) -> Result<bool, Fail> {
+    for one in said {
+        if one.to != peer(words)? || one.octets != octets(alloc, words)? {
+            return Ok(false);
+        }
+    }
+    Ok(words.next_word().is_none())
+}
+
+// ---- what is told
+
+fn message_of(alloc: Global, frame: &[u8]) -> Result<Message, Fail> {
+    Ok(read_message(alloc, frame)?)
+}
+
+fn has_one_part(message: &Message) -> bool
+    ensures { IsTrue result → HasOnePart message.now }
+{
+    match message {
+        Message::PcReq(asks) => asks.len() <= 1,
+        Message::PcRep(replies) => replies.len() <= 1,
+        _ => true,
+    }
+}
+
+fn take(
+    alloc: Global,
+    element: &mut Element<Topologies>,
+    from: Peer,
+    frame: &[u8],
+    now: Tick,
+) -> Result<Vec<Said>, Fail>
+    ensures { OnOk result (element.new.losing.element.keys ≡ element.old.losing.element.keys) }
+{
+    let message = message_of(alloc, frame)?;
+    if !has_one_part(&message) {
+        return Err(Fail::from("more than one part"));
+    }
+    let plan = element.take(from, class_of(from), message, now)?;
+    let said = said_by(alloc, plan.outputs())?;
+    element.make(plan);
+    Ok(said)
+}
+
+fn topology_of(alloc: Global, text: &[u8]) -> Result<Topology, Fail> {
+    if line_count(text) > 1_000 {
+        return Err(Fail::from("a long text"));
+    }
+    Ok(read_topology(alloc, text)?)
+}
+
+// Whether it is loaded; not where as many as may be are current or asked of.
+fn load(alloc: Global, element: &mut Element<Topologies>, text: &[u8]) -> Result<bool, Fail>
+    ensures { OnOk result (element.new.losing ≡ element.old.losing) }
+{
+    let topology = topology_of(alloc, text)?;
+    if topology.own() != element.own() {
+        return Err(Fail::from("another domain"));
+    }
+    match element.load(topology) {
+        Ok(_number) => Ok(true),
+        Err(LoadError::Full) => Ok(false),
+        Err(LoadError::NoMemory) => Err(Fail::from("no memory")),
+    }
+}
+
+// A row: who tells it what, and what is said to whom.
+fn take_row(
+    alloc: Global,
+    element: &mut Element<Topologies>,
+    now: Tick,
+    words: &mut Words<'_>,
+) -> Result<bool, Fail>
+    ensures { OnOk result (element.new.losing.element.keys ≡ element.old.losing.element.keys) }
+{
+    let from = peer(words)?;
+    let frame = octets(alloc, words)?;
+    let said = take(alloc, element, from, frame.as_slice(), now)?;
+    are_these(alloc, said.as_slice(), words)
+}
+
+// The octets with another low octet of the id of their request.
+fn with_id(alloc: Global, octets: &[u8], id: u8) -> Result<Vec<u8>, Fail> {
+    let mut other = Vec::new(alloc);
+    for (k, octet) in octets.iter().enumerate() {
+        other.push(if k == 15 { id } else { *octet })?;
+    }
+    Ok(other)
+}
+
+// The request of domain 1 under another id, and the same sent on.
+fn asked(alloc: Global, id: u8) -> Result<(Vec<u8>, Vec<u8>), Fail> {
+    let mut words = Words::new(b"ask sent-on");
+    let ask = octets(alloc, &mut words)?;
+    let sent_on = octets(alloc, &mut words)?;
+    Ok((
+        with_id(alloc, ask.as_slice(), id)?,
+        with_id(alloc, sent_on.as_slice(), id)?,
+    ))
+}
+
+fn is_one(said: &[Said], to: Peer, octets: &[u8]) -> bool {
+    match said {
+        [one] => one.to == to && one.octets.as_slice() == octets,
+        _ => false,
+    }
+}
+
+// Whether a request of domain 1 is sent on under its own id.
+fn sends_on(
+    alloc: Global,
+    element: &mut Element<Topologies>,
+    id: u8,
+    now: Tick,
+) -> Result<bool, Fail>
+    ensures { OnOk result (element.new.losing.element.keys ≡ element.old.losing.element.keys) }
+{
+    let (ask, sent_on) = asked(alloc, id)?;
+    let said = take(alloc, element, Peer::Inner(As(1)), ask.as_slice(), now)?;
+    Ok(is_one(said.as_slice(), Peer::Inner(As(3)), sent_on.as_slice()))
+}
+
+// The next lost request; none without a word.
+fn lost_in(words: &mut Words<'_>) -> Result<Option<Lost>, Fail> {
+    let Some(word) = words.next_word() else {
+        return Ok(None);
+    };
+    let to = the_peer(word)?;
+    let flags = number(words)?;
+    let id = number(words)?;
+    Ok(Some(Lost { to, flags, id }))
+}
+
+// Whether this is the next lost request.
+#[tactic(auto, using(pce_element::proofs::LeaveLemmas::lost_keeps))]
+fn is_lost(element: &mut Element<Topologies>, lost: Option<Lost>) -> bool
+    ensures { element.new.losing.element ≡ element.old.losing.element }
+{
+    element.next_lost() == lost
+}
+
+// Whether requests of domain 1 with the ids 2 to 15 are sent on, each before this topology is loaded.
+fn pins(
+    alloc: Global,
+    element: &mut Element<Topologies>,
+    text: &[u8],
+    now: Tick,
+) -> Result<bool, Fail>
+    ensures { OnOk result (element.new.losing.element.keys ≡ element.old.losing.element.keys) }
+{
+    for id in 2..16 {
+        if !sends_on(alloc, element, id, now)? || !load(alloc, element, text)? {
+            return Ok(false);
+        }
+    }
+    Ok(true)
+}
+
+// ---- jobs
+
+fn plan_of(
+    alloc: Global,
+    element: &mut Element<Topologies>,
+    number: u64,
+    now: Tick,
+) -> Result<Plan<Topologies>, Fail>
+    requires { element.old.losing.element.keys.clock ≤ now.0 }
+    ensures clock { OnOk result (element.new.losing.element.keys.clock ≤ now.0) }
+    ensures from { IfOk result (λ plan. plan.from ≡ element.new) }
+    ensures taken { IfOk result (λ plan. plan.taken.element.keys.clock ≤ now.0) }
+{
+    let found = element.job(number)?;
+    let Some(job) = found else {
+        return Err(Fail::from("no job"));
+    };
+    let solved = solve(alloc, &job)?;
+    match element.commit(solved, now) {
+        Ok(plan) => Ok(plan),
+        Err(_why) => Err(Fail::from("no plan")),
+    }
+}
+
+// Whether a job is answered by the message of the other words.
+fn solve_job(
+    alloc: Global,
+    element: &mut Element<Topologies>,
+    now: Tick,
+    words: &mut Words<'_>,
+) -> Result<bool, Fail>
+    requires { element.old.losing.element.keys.clock ≤ now.0 }
+    ensures { OnOk result (element.new.losing.element.keys.clock ≤ now.0) }
+{
+    let number = number(words)?;
+    let plan = plan_of(alloc, element, u64::from(number), now)?;
+    let said = said_by(alloc, plan.outputs())?;
+    element.make(plan);
+    are_these(alloc, said.as_slice(), words)
+}
+
+// Whether a plan that is given up hands its job back, and leaves it ready.
+fn give_up(
+    alloc: Global,
+    element: &mut Element<Topologies>,
+    now: Tick,
+    words: &mut Words<'_>,
+) -> Result<bool, Fail>
+    requires { element.old.losing.element.keys.clock ≤ now.0 }
+    ensures { OnOk result (element.new.losing.element.keys.clock ≤ now.0) }
+{
+    let number = u64::from(number(words)?);
+    let plan = plan_of(alloc, element, number, now)?;
+    let Some(solved) = plan.back() else {
+        return Ok(false);
+    };
+    Ok(solved.number() == number && element.ready(0) == Some(number))
+}
+
+fn is_idle(element: &Element<Topologies>) -> Result<bool, Fail> {
+    Ok(element.ready(0) == None && element.job(1)?.is_none())
+}
+
+// ---- rows
+
+// Whether a row holds.
+fn holds(
+    alloc: Global,
+    element: &mut Element<Topologies>,
+    verb: &[u8],
+    words: &mut Words<'_>,
+    now: Tick,
+) -> Result<bool, Fail>
+    requires { element.old.losing.element.keys.clock ≤ now.0 }
+    ensures { OnOk result (element.new.losing.element.keys.clock ≤ now.0) }
+{
+    match verb {
+        b"take" => take_row(alloc, element, now, words),
+        b"load" => load(alloc, element, topology_text(words)?),
+        b"full" => Ok(!load(alloc, element, topology_text(words)?)?),
+        b"pins" => pins(alloc, element, topology_text(words)?, now),
+        b"solve" => solve_job(alloc, element, now, words),
+        b"back" => give_up(alloc, element, now, words),
+        b"lost" => Ok(is_lost(element, lost_in(words)?)),
+        b"idle" => is_idle(element),
+        b"up" => {
+            element.up(peer(words)?);
+            Ok(true)
+        }
+        b"down" => {
+            element.down(peer(words)?);
+            Ok(true)
+        }
+        _ => Err(Fail::from("no row")),
+    }
+}
+
+fn ticked(element: &mut Element<Topologies>, words: &mut Words<'_>, now: Tick) -> Result<Tick, Fail>
+    requires { element.old.losing.element.keys.clock ≤ now.0 }
+    ensures { IfOk result (λ next. element.new.losing.element.keys.clock ≤ next.0) }
+{
+    let next = u64::from(number(words)?);
+    if next < now.0 {
+        return Err(Fail::from("back in time"));
+    }
+    element.tick(Tick(next));
+    Ok(Tick(next))
+}
+
+// The number of the first row that does not hold, or 0; and how many sequences there are.
+fn first_wrong(alloc: Global) -> Result<(u32, u32), Fail> {
+    let mut element = new_element(alloc)?;
+    let mut now = Tick(0);
+    let mut sequences = 0_u32;
+    let mut lines = lines_of(SEQUENCES)?;
+    for _row in 0..line_count(SEQUENCES) {
+        let Some(line) = lines.next_line() else {
+            break;
+        };
+        let mut words = Words::new(line.text);
+        let verb = word(&mut words)?;
+        if verb == b"new".as_slice() {
+            element = new_element(alloc)?;
+            now = Tick(0);
+            sequences = sequences.wrapping_add(1);
+        } else if verb == b"tick".as_slice() {
+            now = ticked(&mut element, &mut words, now)?;
+        } else if !holds(alloc, &mut element, verb, &mut words, now)? {
+            return Ok((line.number, sequences));
+        }
+    }
+    Ok((0, sequences))
+}
+
+#[test]
+fn each_sequence_holds(rt: HostRuntime) -> Result<(), Fail> {
+    let (wrong, sequences) = first_wrong(rt.alloc())?;
+    assert_eq!(rt; wrong, 0, "the row that does not hold");
+    assert_eq!(rt; sequences, 59, "the sequences");
+    Ok(())
+}
