@@ -1,12 +1,13 @@
 //! Each row of the table: what is read is written again, or its fault is told.
 mod rows;
 
-use dom_base::{As, Bytes, List, NoMemory};
+use dom_base::{As, Bytes, List, NoMemory, Query};
 use line_text::{read_hex, write_hex};
 use path_exclusions::{ExclusionError, supported};
 use pcep_framing::frame_all;
 use pcep_messages::{
-    Asked, Bad, Message, Refusal, read_message, request_of, split_message, write_message,
+    Asked, Bad, Message, Refusal, Request, Wanted, Wish, read_message, request_of, split_message,
+    write_message,
 };
 use pcep_objects::{ObjectFault, read_object, write_object};
 use pcep_subobjects::{HopFault, read_exclusions, read_hops, write_exclusions, write_hops};
@@ -104,6 +105,10 @@ fn refusal(alloc: Global, asked: &Asked, own: As) -> Option<Refusal> {
     request_of(alloc, asked, own).err()
 }
 
+fn accepted(alloc: Global, asked: &Asked) -> Option<Request> {
+    request_of(alloc, asked, As(1)).ok()
+}
+
 fn request(alloc: Global, octets: &[u8], own: As) -> Result<Vec<u8>, Fail> {
     let Ok(Message::PcReq(requests)) = read_message(alloc, octets) else {
         return Err("this is no request".into());
@@ -122,6 +127,55 @@ fn request(alloc: Global, octets: &[u8], own: As) -> Result<Vec<u8>, Fail> {
     Ok(text.into_bytes())
 }
 
+fn query_text(alloc: Global, query: &Query) -> Result<String, Fail> {
+    let cap = query.cap;
+    let all = query.include_all;
+    let count = query.exclusions.len();
+    Ok(format!(in alloc;
+        "{},{},{:?},{},{all},{count}",
+        query.own.0,
+        cap.get(),
+        query.metric,
+        query.bandwidth
+    )?)
+}
+
+fn path_text(alloc: Global, wanted: &Wanted) -> Result<String, Fail> {
+    let query = query_text(alloc, &wanted.query)?;
+    let (any, some, all) = wanted.masks.ok_or("there are no masks")?;
+    let domains = wanted.sequence.len();
+    Ok(format!(in alloc;
+        "{:?},{:?},{:?},{:?},{any}/{some}/{all},{domains},{}",
+        wanted.source,
+        wanted.target,
+        wanted.bandwidth_word,
+        wanted.bound_word,
+        query.as_str()
+    )?)
+}
+
+// What a request asks for at domain 1.
+fn asks(alloc: Global, octets: &[u8]) -> Result<Vec<u8>, Fail> {
+    let Ok(Message::PcReq(requests)) = read_message(alloc, octets) else {
+        return Err("this is no request".into());
+    };
+    let [asked] = requests.as_slice() else {
+        return Err("these are other requests".into());
+    };
+    let Some(
+        Request {
+            flags,
+            id,
+            wish: Wish::Path(wanted),
+        },
+    ) = accepted(alloc, asked)
+    else {
+        return Err("it asks for no path".into());
+    };
+    let path = path_text(alloc, &wanted)?;
+    Ok(format!(in alloc; "{flags},{id},{}", path.as_str())?.into_bytes())
+}
+
 fn answer(alloc: Global, verb: &[u8], octets: &[u8]) -> Result<Vec<u8>, Fail> {
     match verb {
         b"route" => told_or_fault(alloc, octets, route(alloc, octets)),
@@ -131,6 +185,7 @@ fn answer(alloc: Global, verb: &[u8], octets: &[u8]) -> Result<Vec<u8>, Fail> {
         b"message" => told_or_fault(alloc, octets, message(alloc, octets)),
         b"split" => told_or_fault(alloc, octets, split(alloc, octets)),
         b"frames" => Ok(frames(alloc, octets)?),
+        b"asks" => asks(alloc, octets),
         b"element" => request(alloc, octets, As(1)),
         b"parent" => request(alloc, octets, As(0)),
         _ => Err("there is no such row".into()),

@@ -5,7 +5,8 @@
 /// What comes of it are the octets that it is written as again, `same` where they are those that were read, or the fault.
 /// Of `kept` it is the exclusions that are kept, of `split` the messages one behind the other, of `frames` those that a
 /// stream has, with `bad` where it ends in none. Of a request at an `element`, whose domain is 1, or at the `parent` it is
-/// `served`, or the type and value of the error, with the flags and the number of its RP where it has one.
+/// `served`, or the type and value of the error, with the flags and the number of its RP where it has one; of one that `asks`
+/// it is what for.
 pub const ROWS: &[u8] = b"
 # a hop of each kind: a prefix and a path key of both kinds of address, a domain, two that are not read
 route same 01080a0200012000 021420010db80000000000000000000100048000 a0040007 40080001c0000202 4114000220010db8000000000000000000000002 84040102 7f08010203040506
@@ -168,4 +169,7 @@ element 10/1,0,1 20030034 0212000c0000000000000001 0420002420010db80000000000000
 # a refusal names the request where it has an RP, with its flags and number; the parent takes no IRO
 element 10/1,64,9 20030010 0210000c0000004000000009
 parent 4/4,64,1 20030034 0212000c0000004000000001 0412000c0a0100010a030009 0612000c0000020200000000 0a12000c2004000220040003
+# a request in which much is asked for: the flags and number of its RP, its ends, the words of its bandwidth and of its bound, its
+# masks, how many domains; then of its query the own domain, the cap, the metric, the bandwidth, the mask of all, how many exclusions
+asks 64,7,V4(167772161),V4(167772163),Some(1056964608),Some(1098383360),1/2/3,1,1,15,Hops,1,3,1 20030068 0212000c0000004000000007 0412000c0a0000010a000003 0910001400000001000000020000000300000000 051000083f000000 0610000c0000000300000000 0610000c0000010341780000 0a10000820040001 111000100000000020040009a0040008
 ";
