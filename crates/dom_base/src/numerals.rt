@@ -97,35 +97,3 @@ pub fn write_colour(colour: u32, into: &mut Vec<u8>) -> Result<(), NoMemory>
     ])?;
     Ok(())
 }
-
-#[cfg(test)]
-mod tests {
-    use super::*;
-    use std::test::Fail;
-
-    #[test]
-    fn reads_numbers(rt: HostRuntime) {
-        assert_eq!(rt; read_number(b"007", 7), Some(7));
-        assert_eq!(rt; read_number(b"8", 7), None);
-        assert_eq!(rt; read_number(b"", 7), None);
-        assert_eq!(rt; read_number(b"+1", 7), None);
-        assert_eq!(rt;
-            read_number(b"18446744073709551615", u64::MAX),
-            Some(u64::MAX)
-        );
-        assert_eq!(rt; read_number(b"18446744073709551616", u64::MAX), None);
-        assert_eq!(rt; read_colour(b"00Ff00a1"), Some(0x00FF_00A1));
-        assert_eq!(rt; read_colour(b"0ff00a1"), None);
-        assert_eq!(rt; read_colour(b"0000000g"), None);
-    }
-
-    #[test]
-    fn writes_numbers(rt: HostRuntime) -> Result<(), Fail> {
-        let mut text = Vec::new(rt.alloc());
-        write_number(0, &mut text)?;
-        write_number(16_777_215, &mut text)?;
-        write_colour(0x00FF_00A1, &mut text)?;
-        assert_eq!(rt; text.as_slice(), b"01677721500ff00a1".as_slice());
-        Ok(())
-    }
-}

@@ -27,6 +27,3 @@ pub use store::{FileStore, MemoryStore, Store, StoreError};
 pub use stream::{Got, MemoryStream, SteadyStream, Stream};
 pub use whole::{ReadError, WriteFailed, read_all, write_all};
 pub use wire::{MemoryLink, Wire};
-
-#[cfg(test)]
-mod tests;

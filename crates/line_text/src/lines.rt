@@ -136,31 +136,3 @@ impl<'a> Lines<'a> {
         Some(line)
     }
 }
-
-#[cfg(test)]
-mod tests {
-    use super::*;
-    use crate::{Words, is_trimmed};
-
-    #[test]
-    fn numbers_the_lines_that_tell(rt: HostRuntime) {
-        let mut lines = Lines::new(b"a\r\n\n# b\n \t\nc\r");
-        let first = lines.next_line();
-        assert_eq!(rt; first.map(|line| line.number), Some(1));
-        assert_eq!(rt; first.map(|line| line.text.len()), Some(1));
-        let second = lines.next_line();
-        assert_eq!(rt; second.map(|line| line.number), Some(5));
-        assert_eq!(rt; second.map(|line| line.text.len()), Some(2));
-        assert!(rt; lines.next_line().is_none());
-    }
-
-    #[test]
-    fn tells_the_words(rt: HostRuntime) {
-        let mut words = Words::new(b"add \t node ");
-        assert_eq!(rt; words.next_word().map(|word| word.len()), Some(3));
-        assert_eq!(rt; words.next_word().map(|word| word.len()), Some(4));
-        assert!(rt; words.next_word().is_none());
-        assert!(rt; is_trimmed(b"add \t node"));
-        assert!(rt; !is_trimmed(b"add \t node "));
-    }
-}

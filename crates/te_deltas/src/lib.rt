@@ -10,8 +10,6 @@ mod name;
 mod reading;
 mod rows;
 mod table;
-#[cfg(test)]
-mod tests;
 
 pub use blaming::line_of_fault;
 pub use changes::Change;

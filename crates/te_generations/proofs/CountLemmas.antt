@@ -1,9 +1,9 @@
 -- How many pins there are, after a pin and after a load.
-use Rattle.std.proofs.Common.{◌≡◌, ◌==◌, cond, Some, ℕ, ◌+◌, ◌-◌, ◌<◌, ◌≤◌, List, [], ◌∷◌, ◌++◌, inl, inr, arith, refl, ap, ◌∙◌, sym, subst, Result, Ok, Err, OnOk, OnErr}
+use Rattle.std.proofs.Common.{◌≡◌, ◌==◌, cond, Some, ℕ, ◌+◌, ◌-◌, ◌≤◌, List, [], ◌∷◌, ◌++◌, inl, inr, arith, refl, ◌∙◌, sym}
 use Rattle.std.proofs.lemmas.Bool.{cases_eq}
 use Rattle.te_generations.specs.Shelf.{topology_of, Generation, Shelf, IsShelf, pins_among, pins_of, all_pins, loaded_of, pinned_of, released_among, released_of, ArePinned}
 use Rattle.te_generations.proofs.ShelfLemmas.{test_false, test_true, pin_count-push}
-use Rattle.te_generations.proofs.RunLemmas.{bound_of, below_bound, none_below}
+use Rattle.te_generations.proofs.RunLemmas.{bound_of, none_below}
 
 pub all_pins-loaded : {T : Type 0} (s : Shelf T) (topology : T) → all_pins (loaded_of s topology) ≡ all_pins s
 all_pins-loaded s topology =
@@ -11,54 +11,6 @@ all_pins-loaded s topology =
       | inl none ↦ rw (test_true s.current.pins 0 none) (omega (arith, none))
       | inr some ↦ rw (test_false s.current.pins 0 some) (omega (arith, pin_count-push s.older s.current))
     ]
-
-pub pins_last : {T : Type 0} (low : ℕ) (gs : List (Generation T)) (g : Generation T) → ArePinned low gs g.number → pins_among g.number (gs ++ g ∷ []) ≡ g.pins
-pins_last low [] g pinned = rw (test_true g.number g.number refl) refl
-pins_last low (one ∷ gs) g pinned =
-    rw (test_false one.number g.number (λ same. omega (arith, same, bound_of (one.number + 1) g.number gs pinned.2)))
-    (pins_last (one.number + 1) gs g pinned.2)
-
-pub pins_push : {T : Type 0} (number : ℕ) (gs : List (Generation T)) (g : Generation T) → 1 ≤ pins_among number gs → pins_among number (gs ++ g ∷ []) ≡ pins_among number gs
-pins_push number [] g some = absurd (omega arith)
-pins_push number (one ∷ gs) g some =
-    elim (cases_eq one.number number) [
-      | inl same ↦ rw (test_true one.number number same) refl
-      | inr other ↦ rw (test_false one.number number other) (pins_push number gs g (rw (test_false one.number number other) at some))
-    ]
-
--- what is pinned stays so
-pub loaded_pins : {T : Type 0} (s : Shelf T) (number : ℕ) (topology : T) → IsShelf s → 1 ≤ pins_of s number → 1 ≤ pins_of (loaded_of s topology) number
-loaded_pins s number topology is some =
-    elim (cases_eq s.current.number number) [
-      | inl same ↦
-          let pins : 1 ≤ s.current.pins = rw (test_true s.current.number number same) at some in
-          rw (test_false (s.current.number + 1) number (omega arith), test_false s.current.pins 0 (omega arith))
-          (subst (λ n. 1 ≤ pins_among n (s.older ++ s.current ∷ [])) same (omega (arith, pins_last 0 s.older s.current is.older)))
-      | inr other ↦
-          let pins : 1 ≤ pins_among number s.older = rw (test_false s.current.number number other) at some in
-          let below : number < s.current.number = below_bound number 0 s.current.number s.older is.older pins in
-          rw (test_false (s.current.number + 1) number (omega arith))
-          (elim (cases_eq s.current.pins 0) [
-            | inl none ↦ rw (test_true s.current.pins 0 none) pins
-            | inr more ↦ rw (test_false s.current.pins 0 more) (omega (arith, pins_push number s.older s.current pins))
-          ])
-    ]
-
-pub pinned_pins : {T : Type 0} (s : Shelf T) (number : ℕ) → 1 ≤ pins_of s number → 1 ≤ pins_of (pinned_of s) number
-pinned_pins s number some =
-    elim (cases_eq s.current.number number) [
-      | inl same ↦ rw (test_true s.current.number number same) (omega arith)
-      | inr other ↦ rw (test_false s.current.number number other) (rw (test_false s.current.number number other) at some)
-    ]
-
--- the same, whether the load is refused or not
-pub count_after : {T E : Type 0} (r : Result ℕ E) (s new : Shelf T) (topology : T) → OnOk r (new ≡ loaded_of s topology) → OnErr r (new ≡ s) → all_pins new ≡ all_pins s
-count_after (Ok number) s new topology ok err = ap all_pins ok ∙ all_pins-loaded s topology
-count_after (Err why) s new topology ok err = ap all_pins err
-
-pub pins_after : {T E : Type 0} (r : Result ℕ E) (s new : Shelf T) (topology : T) (number : ℕ) → OnOk r (new ≡ loaded_of s topology) → OnErr r (new ≡ s) → IsShelf s → 1 ≤ pins_of s number → 1 ≤ pins_of new number
-pins_after (Ok given) s new topology number ok err is some = subst (λ (t : Shelf _). 1 ≤ pins_of t number) (sym ok) (loaded_pins s number topology is some)
-pins_after (Err why) s new topology number ok err is some = subst (λ (t : Shelf _). 1 ≤ pins_of t number) (sym err) some
 
 -- ---- each call, exactly
 

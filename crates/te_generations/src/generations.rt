@@ -182,6 +182,3 @@ impl Generations {
         shared_among(&self.older, pin.generation)
     }
 }
-
-#[cfg(test)]
-mod tests;

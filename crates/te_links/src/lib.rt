@@ -11,8 +11,6 @@ mod limits;
 mod links;
 mod rows;
 mod survey;
-#[cfg(test)]
-mod tests;
 mod topology;
 
 pub use counted::Counted;

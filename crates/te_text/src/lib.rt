@@ -6,8 +6,6 @@ mod fields;
 mod read;
 mod reading;
 mod row;
-#[cfg(test)]
-mod tests;
 mod words;
 mod write;
 

@@ -1,0 +1,10 @@
+//! Tables of tests: texts of topologies and changes, read, made and written again, and the outside in memory and in
+//! the machine. They stand above the crates that they test, so that none of these is proved once more for its tests.
+#![tactic(auto)]
+
+#[cfg(test)]
+mod machine;
+#[cfg(test)]
+mod memory;
+#[cfg(test)]
+mod texts;
