@@ -5,7 +5,7 @@ use Rattle.dom_base.specs.declared.names.NoMemory.{NoMemory}
 use Rattle.plant_network.specs.plant_model.declared.event.Event.{Event}
 use Rattle.plant_network.specs.plant_model.declared.event.Event.TheVariants.{Solve}
 use Rattle.plant_network.specs.plant_model.Events.{Answered, has_jobs, ready_jobs}
-use Rattle.plant_network.specs.plant_lasting.Lasting.{HaveGiven, JobsLast}
+use Rattle.plant_lasting.specs.Lasting.{HaveGiven, JobsLast}
 use Rattle.plant_network.specs.pce_parent.declared.work.Done.{Done}
 use Rattle.plant_network.specs.pce_parent.declared.work.Work.{Work}
 use Rattle.plant_network.specs.plant_hierarchy.Answering.{IsWeighedWork}

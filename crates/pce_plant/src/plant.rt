@@ -5,7 +5,7 @@ ghost use Rattle.std.specs.Option.{option_map};
 ghost use Rattle.plant_network.specs.pce_element.Rows.{pin_with};
 ghost use Rattle.plant_network.specs.plant_model.Events.{has_jobs, ready_jobs};
 ghost use Rattle.plant_network.specs.plant_model.declared.event.Event.TheVariants.{Solve};
-ghost use Rattle.plant_network.specs.plant_lasting.Lasting.{HaveGiven, JobsLast};
+ghost use Rattle.plant_lasting.specs.Lasting.{HaveGiven, JobsLast};
 ghost use Rattle.plant_network.specs.plant_hierarchy.Answering.{IsWeighedWork};
 ghost use Rattle.plant_network.specs.plant_traffic.Carried.{flow_of};
 ghost use Rattle.plant_network.specs.plant_traffic.Waiting.{WaitsNext};
