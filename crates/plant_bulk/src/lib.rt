@@ -5,8 +5,6 @@ mod playing;
 mod requests;
 mod tally;
 mod telling;
-#[cfg(test)]
-mod tests;
 
 pub use playing::{REQUESTS_MAX, play};
 pub use requests::Demand;
