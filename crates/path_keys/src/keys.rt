@@ -148,6 +148,3 @@ impl<S: Drop> PathKeys<S> {
         self.clock = now;
     }
 }
-
-#[cfg(test)]
-mod tests;

@@ -6,8 +6,6 @@ mod answering;
 mod events;
 mod histories;
 mod plant;
-#[cfg(test)]
-mod tests;
 mod turned;
 
 pub use acts::{Act, Acted, Turn};

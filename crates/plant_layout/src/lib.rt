@@ -5,8 +5,6 @@
 mod domains;
 mod lines;
 mod rows;
-#[cfg(test)]
-mod tests;
 
 pub use domains::{children_of, elements_of};
 pub use lines::{find_line, lines_of, others_along};

@@ -8,8 +8,6 @@
 pub mod counter;
 mod seat;
 mod steps;
-#[cfg(test)]
-mod tests;
 mod turned;
 mod turnstile;
 mod view;

@@ -229,7 +229,7 @@ impl<T: Turned> Turnstile<T> {
 }
 
 // No ticket is drawn at this ticket word.
-pub(crate) fn is_spent(met: u64) -> bool
+fn is_spent(met: u64) -> bool
     ensures { IsTrue result ↔ (2 ^ 63 ≤ met) }
 {
     met >= LAST

@@ -123,33 +123,3 @@ impl Queue {
         self.head = 0;
     }
 }
-
-#[cfg(test)]
-mod tests {
-    use super::Queue;
-    use std::test::Fail;
-
-    fn goes_to_a_thread<T: Send>(_value: &T) {}
-
-    #[test]
-    fn messages_come_in_order(rt: HostRuntime) -> Result<(), Fail> {
-        let mut queue = Queue::new(rt.alloc());
-        queue.reserve(2, 5)?;
-        queue.put(b"abc");
-        queue.put(b"de");
-        assert_eq!(rt; queue.first().unwrap_or(b"none"), b"abc".as_slice());
-        assert_eq!(rt; queue.joined(), b"abcde".as_slice());
-        queue.pop();
-        assert_eq!(rt; queue.first().unwrap_or(b"none"), b"de".as_slice());
-        queue.put(b"xyz");
-        assert_eq!(rt; queue.joined(), b"dexyz".as_slice());
-        queue.pop();
-        assert_eq!(rt; queue.first().unwrap_or(b"none"), b"xyz".as_slice());
-        queue.clear();
-        assert!(rt; queue.is_empty() && queue.joined().is_empty());
-        assert!(rt; queue.first().is_none());
-        queue.pop();
-        goes_to_a_thread(&queue);
-        Ok(())
-    }
-}

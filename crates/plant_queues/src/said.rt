@@ -132,28 +132,3 @@ impl Said {
         piece(&self.bytes, place.start, place.end)
     }
 }
-
-#[cfg(test)]
-mod tests {
-    use super::Said;
-    use dom_base::{As, Peer};
-    use std::test::Fail;
-
-    fn goes_to_a_thread<T: Send>(_value: &T) {}
-
-    #[test]
-    fn messages_of_a_step(rt: HostRuntime) -> Result<(), Fail> {
-        let mut said = Said::new(rt.alloc());
-        said.reserve(2, 6)?;
-        said.put(As(1), Peer::Outside(7), b"abcd");
-        said.put(As(2), Peer::Inner(As(1)), b"ef");
-        assert_eq!(rt; said.len(), 2);
-        assert_eq!(rt; said.bytes(1), b"ef".as_slice());
-        let (from, to) = said.way(0);
-        assert!(rt; from == As(1) && to == Peer::Outside(7));
-        said.clear();
-        assert!(rt; said.is_empty());
-        goes_to_a_thread(&said);
-        Ok(())
-    }
-}

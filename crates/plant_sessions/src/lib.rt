@@ -24,6 +24,3 @@ pub const OWN_LENGTH: usize = 12;
 
 /// The length, in octets, of what a lost request is answered.
 pub const ANSWER_LENGTH: usize = 32;
-
-#[cfg(test)]
-mod tests;

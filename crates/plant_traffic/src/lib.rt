@@ -5,8 +5,6 @@
 mod accesses;
 mod links;
 mod peers;
-#[cfg(test)]
-mod tests;
 mod traffic;
 mod waiting;
 

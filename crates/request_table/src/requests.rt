@@ -189,6 +189,3 @@ impl<T: Drop> Requests<T> {
         Some(held.item)
     }
 }
-
-#[cfg(test)]
-mod tests;

@@ -11,6 +11,3 @@ mod working;
 pub use benches::{Bench, Finished};
 pub use gates::Gate;
 pub use working::{Worked, work};
-
-#[cfg(test)]
-mod tests;

@@ -3,8 +3,6 @@
 
 mod lines;
 mod replies;
-#[cfg(test)]
-mod tests;
 
 pub use lines::{
     write_answer, write_carry, write_certified, write_rows, write_said, write_sent, write_solve,

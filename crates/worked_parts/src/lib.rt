@@ -1,0 +1,8 @@
+//! What no script over the built program shows of the parts of an element and of a network: numbers of path keys
+//! that go round, and calls that the program does not make.
+#![tactic(auto)]
+
+#[cfg(test)]
+mod keys;
+#[cfg(test)]
+mod unused;
