@@ -68,18 +68,29 @@ fn meet<L: Listener>(rt: HostRuntime, listener: &mut L) -> Result<(L::Link, TcpS
     }
 }
 
-// What three reads and a write of a link gave, and what came of the write: bytes both ways, and then the end.
-fn talk<W: Wire>(link: &mut W, mut client: TcpStream) -> Result<([Got; 3], Put, [u8; 4]), Fail> {
+// What a read gave, as a letter, or how many bytes came.
+fn letter_of(got: Got) -> u8 {
+    match got {
+        Got::Bytes(2) => b'2',
+        Got::Bytes(_) => b'b',
+        Got::Quiet => b'q',
+        Got::End => b'e',
+        Got::Failed => b'f',
+    }
+}
+
+// Bytes both ways, and then the end: what each read gave, how many bytes were written, and what came at either end.
+fn talk<W: Wire>(link: &mut W, mut client: TcpStream) -> ([u8; 3], Put, [u8; 4]) {
     let mut came = [0; 2];
     let mut went = [0; 2];
-    let quiet = get(link, &mut came);
-    client.write_all(b"ab")?;
-    let got = get(link, &mut came);
+    let quiet = letter_of(get(link, &mut came));
+    let _sent = client.write_all(b"ab");
+    let got = letter_of(get(link, &mut came));
     let put = put(link, b"cd");
-    client.read_exact(&mut went)?;
+    let _read = client.read_exact(&mut went);
     drop(client);
-    let end = get(link, &mut [0; 2]);
-    Ok(([quiet, got, end], put, [came[0], came[1], went[0], went[1]]))
+    let end = letter_of(get(link, &mut [0; 2]));
+    ([quiet, got, end], put, [came[0], came[1], went[0], went[1]])
 }
 
 #[test]
@@ -92,9 +103,9 @@ fn sockets_carry_bytes_both_ways(rt: HostRuntime) -> Result<(), Fail> {
     let mut listener = goes_to_a_thread(listener);
     let start = Instant::now(&rt)?;
     let (mut link, client) = meet(rt, &mut listener)?;
-    let (got, put, text) = talk(&mut link, client)?;
+    let (got, put, text) = talk(&mut link, client);
     assert!(rt; start.elapsed(&rt)? < Duration::from_secs(10));
-    assert_eq!(rt; got, [Got::Quiet, Got::Bytes(2), Got::End]);
+    assert_eq!(rt; &got, b"q2e");
     assert_eq!(rt; put, Put::Bytes(2));
     assert_eq!(rt; &text, b"abcd");
     Ok(())

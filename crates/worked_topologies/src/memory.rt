@@ -1,8 +1,8 @@
-//! Sources, sinks, stores and links in memory, each with one call that is to fail.
+//! A link and a store in memory, each with one call that is to fail.
 use dom_base::{Bytes, List, Text};
 use dom_edge::{
-    Accepted, Listener, MemoryLink, MemoryListener, MemorySink, MemorySource, MemoryStore,
-    MemoryStream, Put, ReadError, Sink, Store, StoreError, Wire, read_all, write_all,
+    Accepted, Listener, MemoryLink, MemoryListener, MemorySink, MemoryStore, MemoryStream, Put,
+    Store, StoreError, Wire,
 };
 use std::alloc::Global;
 use std::test::Fail;
@@ -16,41 +16,27 @@ fn bytes(alloc: Global, text: &[u8]) -> Result<Bytes, Fail> {
     Ok(List::from_vec(text.to_vec(alloc)?))
 }
 
-// What is told of a text that was written whole or not.
-fn written<K: Sink>(sink: &mut K, text: &[u8]) -> u8 {
-    match write_all(sink, text) {
-        Ok(()) => b'y',
-        Err(_) => b'n',
-    }
+fn link(alloc: Global) -> Result<MemoryLink, Fail> {
+    let stream = MemoryStream::new(List::new(alloc), List::new(alloc));
+    Ok(MemoryLink::new(stream, MemorySink::new(alloc, second(alloc)?)))
 }
 
+// What a write gave: all of it, a part, or nothing.
 fn put<W: Wire>(link: &mut W) -> u8 {
     match link.write(b"ab") {
-        Put::Bytes(2) => b'y',
-        Put::Bytes(_) => b'?',
+        Put::Bytes(2) => b'a',
+        Put::Bytes(_) => b'p',
         Put::Failed => b'n',
     }
 }
 
-fn whole(alloc: Global, fails: List<u64>, limit: usize) -> Result<u8, Fail> {
-    let mut source = MemorySource::new(bytes(alloc, b"abc")?, fails);
-    Ok(match read_all(alloc, &mut source, limit) {
-        Ok(bytes) if bytes.as_slice() == b"abc".as_slice() => b'y',
-        Ok(_) => b'?',
-        Err(ReadError::TooLarge) => b'l',
-        Err(ReadError::Failed) => b'n',
-        Err(ReadError::NoMemory) => b'm',
-    })
-}
-
-fn read(alloc: Global, store: &mut MemoryStore, name: &str, limit: usize) -> u8 {
-    match store.read(alloc, name, limit) {
-        Ok(bytes) if bytes.as_slice() == b"abc".as_slice() => b'y',
-        Ok(_) => b'?',
-        Err(StoreError::TooLong) => b'l',
-        Err(StoreError::Failed) => b'n',
-        Err(StoreError::NoMemory) => b'm',
-    }
+#[test]
+fn a_link_takes_all_but_where_it_is_to_fail(rt: HostRuntime) -> Result<(), Fail> {
+    let mut link = link(rt.alloc())?;
+    let told = [put(&mut link), put(&mut link), put(&mut link)];
+    assert_eq!(rt; &told, b"ana");
+    assert_eq!(rt; link.bytes(), b"abab".as_slice());
+    Ok(())
 }
 
 fn store(alloc: Global) -> Result<MemoryStore, Fail> {
@@ -59,38 +45,20 @@ fn store(alloc: Global) -> Result<MemoryStore, Fail> {
     Ok(MemoryStore::new(alloc, files, second(alloc)?))
 }
 
-fn link(alloc: Global) -> Result<MemoryLink, Fail> {
-    let stream = MemoryStream::new(List::new(alloc), List::new(alloc));
-    Ok(MemoryLink::new(stream, MemorySink::new(alloc, second(alloc)?)))
+// What a read gave: the file, something else, or why nothing.
+fn read(alloc: Global, store: &mut MemoryStore, name: &str, limit: usize) -> u8 {
+    match store.read(alloc, name, limit) {
+        Ok(bytes) if bytes.as_slice() == b"abc".as_slice() => b'a',
+        Ok(_) => b'o',
+        Err(StoreError::TooLong) => b'l',
+        Err(StoreError::Failed) => b'n',
+        Err(StoreError::NoMemory) => b'm',
+    }
 }
 
 #[test]
-fn sinks_and_links_fail_once(rt: HostRuntime) -> Result<(), Fail> {
+fn a_store_reads_but_where_it_is_to_fail(rt: HostRuntime) -> Result<(), Fail> {
     let alloc = rt.alloc();
-    let mut sink = MemorySink::new(alloc, second(alloc)?);
-    let told = [
-        written(&mut sink, b"kept"),
-        written(&mut sink, b"lost"),
-        written(&mut sink, b"more"),
-    ];
-    assert_eq!(rt; &told, b"yny");
-    assert_eq!(rt; sink.bytes(), b"keptmore".as_slice());
-    let mut link = link(alloc)?;
-    let told = [put(&mut link), put(&mut link), put(&mut link)];
-    assert_eq!(rt; &told, b"yny");
-    assert_eq!(rt; link.bytes(), b"abab".as_slice());
-    Ok(())
-}
-
-#[test]
-fn sources_and_stores_fail_once(rt: HostRuntime) -> Result<(), Fail> {
-    let alloc = rt.alloc();
-    let told = [
-        whole(alloc, List::new(alloc), 3)?,
-        whole(alloc, List::new(alloc), 2)?,
-        whole(alloc, second(alloc)?, 3)?,
-    ];
-    assert_eq!(rt; &told, b"yln");
     let mut store = store(alloc)?;
     let told = [
         read(alloc, &mut store, "a.txt", 3),
@@ -98,7 +66,7 @@ fn sources_and_stores_fail_once(rt: HostRuntime) -> Result<(), Fail> {
         read(alloc, &mut store, "a.txt", 2),
         read(alloc, &mut store, "b.txt", 3),
     ];
-    assert_eq!(rt; &told, b"ynln");
+    assert_eq!(rt; &told, b"anln");
     assert_eq!(rt; store.failed_at(), b"b.txt".as_slice());
     Ok(())
 }
