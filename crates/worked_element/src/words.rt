@@ -8,21 +8,21 @@ use std::alloc::Global;
 use std::test::Fail;
 
 /// The lines of a table.
-pub(crate) fn lines_of(text: &[u8]) -> Result<Lines<'_>, Fail> {
+pub fn lines_of(text: &[u8]) -> Result<Lines<'_>, Fail> {
     if line_count(text) > 10_000 {
         return Err(Fail::from("a long table"));
     }
     Ok(Lines::new(text))
 }
 
-pub(crate) fn word<'a>(words: &mut Words<'a>) -> Result<&'a [u8], Fail> {
+pub fn word<'a>(words: &mut Words<'a>) -> Result<&'a [u8], Fail> {
     match words.next_word() {
         Some(word) => Ok(word),
         None => Err(Fail::from("no word")),
     }
 }
 
-pub(crate) fn number(words: &mut Words<'_>) -> Result<u32, Fail> {
+pub fn number(words: &mut Words<'_>) -> Result<u32, Fail> {
     match read_number(word(words)?, u64::from(u32::MAX)) {
         Some(number) => Ok(number as u32),
         None => Err(Fail::from("no number")),
@@ -44,18 +44,18 @@ fn peer_named(word: &[u8]) -> Option<Peer> {
     }
 }
 
-pub(crate) fn the_peer(word: &[u8]) -> Result<Peer, Fail> {
+pub fn the_peer(word: &[u8]) -> Result<Peer, Fail> {
     match peer_named(word) {
         Some(peer) => Ok(peer),
         None => Err(Fail::from("no peer")),
     }
 }
 
-pub(crate) fn peer(words: &mut Words<'_>) -> Result<Peer, Fail> {
+pub fn peer(words: &mut Words<'_>) -> Result<Peer, Fail> {
     the_peer(word(words)?)
 }
 
-pub(crate) fn class_of(peer: Peer) -> Class {
+pub fn class_of(peer: Peer) -> Class {
     match peer {
         Peer::Inner(As(0)) => Class::Parent,
         Peer::Inner(number) => Class::Neighbour(number),
@@ -65,7 +65,7 @@ pub(crate) fn class_of(peer: Peer) -> Class {
     }
 }
 
-pub(crate) fn topology_text(words: &mut Words<'_>) -> Result<&'static [u8], Fail> {
+pub fn topology_text(words: &mut Words<'_>) -> Result<&'static [u8], Fail> {
     match word(words)? {
         b"d2" => Ok(D2),
         b"d2b" => Ok(D2B),
@@ -91,7 +91,7 @@ fn digits_named(name: &[u8]) -> Result<&'static [u8], Fail> {
 }
 
 /// The octets of the next word: a name of a message, or hexadecimal digits.
-pub(crate) fn octets(alloc: Global, words: &mut Words<'_>) -> Result<Vec<u8>, Fail> {
+pub fn octets(alloc: Global, words: &mut Words<'_>) -> Result<Vec<u8>, Fail> {
     let word = word(words)?;
     if word.starts_with(b"20") {
         return Ok(read_hex(alloc, word)?);

@@ -11,7 +11,7 @@ use std::alloc::Global;
 use std::test::Fail;
 use te_links::METRIC_MAX;
 
-pub(crate) fn cost(words: &mut Words<'_>) -> Result<Cost, Fail> {
+pub fn cost(words: &mut Words<'_>) -> Result<Cost, Fail> {
     match Cost::of(number(words)?) {
         Some(cost) => Ok(cost),
         None => Err(Fail::from("no cost")),
@@ -19,7 +19,7 @@ pub(crate) fn cost(words: &mut Words<'_>) -> Result<Cost, Fail> {
 }
 
 /// A row of a domain: its entry, its target, its cost, and the one address of its hops.
-pub(crate) fn row(alloc: Global, words: &mut Words<'_>) -> Result<ChildRow, Fail> {
+pub fn row(alloc: Global, words: &mut Words<'_>) -> Result<ChildRow, Fail> {
     let at = domain(words)?;
     let entry = addr(words)?;
     let target = addr(words)?;
@@ -37,7 +37,7 @@ pub(crate) fn row(alloc: Global, words: &mut Words<'_>) -> Result<ChildRow, Fail
 
 /// A link from a node of a domain to a node of another: its far address and its weight. The near address is
 /// greater by 1000, and the shared risk has the far address as its number.
-pub(crate) fn link(alloc: Global, words: &mut Words<'_>) -> Result<ParentLink, Fail> {
+pub fn link(alloc: Global, words: &mut Words<'_>) -> Result<ParentLink, Fail> {
     let from_as = domain(words)?;
     let from = addr(words)?;
     let to_as = domain(words)?;
@@ -71,7 +71,7 @@ fn is_weighed(link: &ParentLink) -> bool
 }
 
 /// Whether all metrics are within their limits.
-pub(crate) fn are_weighed(links: &[ParentLink]) -> bool
+pub fn are_weighed(links: &[ParentLink]) -> bool
     ensures { IsTrue result → All IsWeighed links.now }
 {
     match links {
@@ -80,7 +80,7 @@ pub(crate) fn are_weighed(links: &[ParentLink]) -> bool
     }
 }
 
-pub(crate) fn is_at(hop: &Hop, number: u32) -> bool {
+pub fn is_at(hop: &Hop, number: u32) -> bool {
     match *hop {
         Hop::Prefix {
             loose: false,

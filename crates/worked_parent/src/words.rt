@@ -6,44 +6,44 @@ use std::alloc::Global;
 use std::test::Fail;
 
 /// The lines of a table.
-pub(crate) fn lines_of(text: &[u8]) -> Result<Lines<'_>, Fail> {
+pub fn lines_of(text: &[u8]) -> Result<Lines<'_>, Fail> {
     if line_count(text) > 10_000 {
         return Err(Fail::from("a long table"));
     }
     Ok(Lines::new(text))
 }
 
-pub(crate) fn word<'a>(words: &mut Words<'a>) -> Result<&'a [u8], Fail> {
+pub fn word<'a>(words: &mut Words<'a>) -> Result<&'a [u8], Fail> {
     match words.next_word() {
         Some(word) => Ok(word),
         None => Err(Fail::from("no word")),
     }
 }
 
-pub(crate) fn number_in(word: &[u8]) -> Result<u32, Fail> {
+pub fn number_in(word: &[u8]) -> Result<u32, Fail> {
     match read_number(word, u64::from(u32::MAX)) {
         Some(number) => Ok(number as u32),
         None => Err(Fail::from("no number")),
     }
 }
 
-pub(crate) fn number(words: &mut Words<'_>) -> Result<u32, Fail> {
+pub fn number(words: &mut Words<'_>) -> Result<u32, Fail> {
     number_in(word(words)?)
 }
 
-pub(crate) fn domain_in(word: &[u8]) -> Result<As, Fail> {
+pub fn domain_in(word: &[u8]) -> Result<As, Fail> {
     match read_number(word, u64::from(u16::MAX)) {
         Some(number) => Ok(As(number as u16)),
         None => Err(Fail::from("no domain")),
     }
 }
 
-pub(crate) fn domain(words: &mut Words<'_>) -> Result<As, Fail> {
+pub fn domain(words: &mut Words<'_>) -> Result<As, Fail> {
     domain_in(word(words)?)
 }
 
 /// The number of an address: eight hexadecimal digits, or decimal ones.
-pub(crate) fn spot(words: &mut Words<'_>) -> Result<u32, Fail> {
+pub fn spot(words: &mut Words<'_>) -> Result<u32, Fail> {
     let word = word(words)?;
     match read_colour(word) {
         Some(number) => Ok(number),
@@ -51,7 +51,7 @@ pub(crate) fn spot(words: &mut Words<'_>) -> Result<u32, Fail> {
     }
 }
 
-pub(crate) fn addr(words: &mut Words<'_>) -> Result<Addr, Fail> {
+pub fn addr(words: &mut Words<'_>) -> Result<Addr, Fail> {
     Ok(Addr::V4(spot(words)?))
 }
 
@@ -71,7 +71,7 @@ fn digits_named(name: &[u8]) -> Result<&'static [u8], Fail> {
 }
 
 /// The octets of the next word: a name of a message, or hexadecimal digits.
-pub(crate) fn octets(alloc: Global, words: &mut Words<'_>) -> Result<Vec<u8>, Fail> {
+pub fn octets(alloc: Global, words: &mut Words<'_>) -> Result<Vec<u8>, Fail> {
     let word = word(words)?;
     if word.starts_with(b"20") {
         return Ok(read_hex(alloc, word)?);
