@@ -1,6 +1,9 @@
-//! Pairs of paths, worked out by hand. The tests stand above the crate that they test, so that it is not proved
-//! once more for them.
+//! Tables of tests: pairs of paths, and what one element says, message by message, with everything worked out
+//! by hand. They stand above the crates that they test, so that none of these is proved once more for its
+//! tests.
 #![tactic(auto)]
 
+#[cfg(test)]
+mod element;
 #[cfg(test)]
 mod pairs;
