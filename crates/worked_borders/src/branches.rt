@@ -20,18 +20,6 @@ fn branch(alloc: Global, entry: Addr, cost: u32, hops: &[u8]) -> Result<Branch, 
     })
 }
 
-fn best(alloc: Global, entry: u32, cost: u32, head: Option<Addr>) -> Result<Best, Fail>
-    ensures { IfOk result (λ best. best.head ≡ head) }
-{
-    Ok(Best {
-        entry: Addr::V4(entry),
-        cost: Cost::of(cost).ok_or("no cost")?,
-        exit: Addr::V4(0x0a0c_0002),
-        head,
-        segment: List::new(alloc),
-    })
-}
-
 // The entry, the cost and the hops.
 fn put_branch(alloc: Global, branch: &Branch, text: &mut Vec<u8>) -> Result<(), NoMemory> {
     let mut hops = Vec::new(alloc);
@@ -74,9 +62,22 @@ fn branches_go_on_by_the_first_of_the_least(rt: HostRuntime) -> Result<(), Fail>
         )?,
         branch(alloc, BEYOND, 5, b"\x01\x08\x0a\x09\x00\x03\x20\x00")?,
     ];
+    let exit = Addr::V4(0x0a0c_0002);
     let ways = [
-        best(alloc, 0x0a01_0001, 3, None)?,
-        best(alloc, 0x0a01_0002, 8, Some(BEYOND))?,
+        Best {
+            entry: Addr::V4(0x0a01_0001),
+            cost: Cost::of(3).ok_or("no cost")?,
+            exit,
+            head: None,
+            segment: List::new(alloc),
+        },
+        Best {
+            entry: Addr::V4(0x0a01_0002),
+            cost: Cost::of(8).ok_or("no cost")?,
+            exit,
+            head: Some(BEYOND),
+            segment: List::new(alloc),
+        },
     ];
     let own = [
         read_hops(

@@ -57,19 +57,25 @@ fn next_target(words: &mut Words<'_>) -> Option<Target> {
     }
 }
 
-// Addresses, up to another word.
+// Addresses, up to another word; a hundred at most.
 fn next_addrs(alloc: Global, words: &mut Words<'_>) -> Result<List<Addr>, Fail> {
     let mut addrs = List::new(alloc);
-    while let Some(addr) = next_addr(words) {
+    for _ in 0..100 {
+        let Some(addr) = next_addr(words) else {
+            break;
+        };
         addrs.push(addr)?;
     }
     Ok(addrs)
 }
 
-// Addresses with their costs, up to another word.
+// Addresses with their costs, up to another word; a hundred at most.
 fn next_downs(alloc: Global, words: &mut Words<'_>) -> Result<List<Down>, Fail> {
     let mut downs = List::new(alloc);
-    while let Some(node) = next_addr(words) {
+    for _ in 0..100 {
+        let Some(node) = next_addr(words) else {
+            break;
+        };
         let cost = next_cost(words).ok_or("no cost")?;
         downs.push(Down { node, cost })?;
     }
