@@ -8,8 +8,6 @@ mod element;
 #[cfg(test)]
 mod lines;
 #[cfg(test)]
-mod pairs;
-#[cfg(test)]
 mod parent;
 #[cfg(test)]
 mod settings;
