@@ -21,6 +21,3 @@ pub use seeds::{seed_of_target, seeds_of};
 pub use solution::{is_node, knows_target, solve_rows};
 pub use solved::{Solved, solve};
 pub use table::border_table;
-
-#[cfg(test)]
-mod tests;

@@ -14,6 +14,3 @@ mod shown;
 pub use cache::Cache;
 pub use kept::{Kept, Next};
 pub use key::Key;
-
-#[cfg(test)]
-mod tests;

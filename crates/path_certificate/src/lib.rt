@@ -27,6 +27,3 @@ pub use reading::{is_behind, read_certificate, read_own};
 pub use text_row::{addrs_of, is_dash};
 pub use verdict::{Place, Verdict};
 pub use writing::{write_addrs, write_certificate};
-
-#[cfg(test)]
-mod tests;

@@ -18,6 +18,3 @@ pub use chosen::{Step, segment, tight_step};
 pub use find::search;
 pub use labels::Labels;
 pub use shown::{label_rows, open_segment};
-
-#[cfg(test)]
-mod tests;

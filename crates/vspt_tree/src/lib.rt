@@ -9,6 +9,3 @@ mod tree;
 pub use branch::{Best, Branch};
 pub use law::first_least_is_found;
 pub use tree::join;
-
-#[cfg(test)]
-mod tests;
