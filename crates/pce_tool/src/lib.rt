@@ -21,3 +21,6 @@ pub use reading::{RequestError, Why, read_path_request};
 pub use route::Route;
 pub use status::Status;
 pub use top::run;
+
+#[cfg(test)]
+mod tests;
