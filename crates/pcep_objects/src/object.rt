@@ -105,7 +105,7 @@ impl From<NoMemory> for ObjectFault {
 }
 
 /// A TLV passes the end of its body.
-#[derive(Clone, Copy, Debug, PartialEq, Eq)]
+#[derive(Clone, Copy)]
 pub enum TlvFault {
     PastEnd,
 }
