@@ -26,6 +26,11 @@ pub record TellsRepeats {K : Type 0} (keys : List K) (counts : List ℕ) : Type 
   pub repeats : (k : ℕ) (x : K) → slice_get keys k ≡ Some x → 0 < slice_index_or counts k 0 → Contains (take k keys) x
   pub differs : (k : ℕ) (x : K) → slice_get keys k ≡ Some x → slice_index_or counts k 0 ≡ 0 → ¬ Contains (take k keys) x
 
+-- each count says how many entries before are from the same domain
+pub record CountsDomains (entries : List Entry) (counts : List ℕ) : Type 0 where
+  pub each : length counts ≡ length entries
+  pub at_entry : (k : ℕ) (e : Entry) → slice_get entries k ≡ Some e → slice_index_or counts k 0 ≡ count_by (λ f. f.from_as.0 == e.from_as.0) (take k entries)
+
 pub record IsSurvey (g : Rows) (s : Survey) : Type 0 where
   pub nodes : IsPermutation g.nodes s.nodes.items
   pub rising : AllPairs (λ a b. rank a ≤ rank b) s.nodes.items

@@ -1,5 +1,5 @@
 //! Topologies from rows: the rules are tested, and the rows are brought into order.
-ghost use Rattle.std.specs.Prelude.{◌<◌, ◌^◌, length, IfOk, IfErr};
+ghost use Rattle.std.specs.Prelude.{◌<◌, ◌^◌, length, IfOk, IfErr, MatchResult};
 ghost use Rattle.te_links.specs.Rows.{IsTopology};
 ghost use Rattle.te_links.specs.Built.{IsBuilt};
 ghost use Rattle.te_links.specs.Faults.{IsReason, rows_of_parts};
@@ -39,6 +39,14 @@ fn assemble(alloc: Global, parts: Parts) -> Result<Topology, AllocError>
     Ok(Topology::of(own, nodes, links, outs, entries, into, leaving, ends))
 }
 
+// Whether the rows obey the rules, and else the first breach.
+fn check_rows(alloc: Global, parts: &Parts) -> Result<(), BuildError>
+    ensures { MatchResult result (λ _. IsTopology (rows_of_parts parts.now) × (length parts.now.entries < 2 ^ 32)) (IsReason (rows_of_parts parts.now)) }
+{
+    let survey = Survey::of(alloc, parts)?;
+    check(parts, &survey)
+}
+
 impl Topology {
     /// The topology with exactly these rows, in its own order, where they obey the rules: else the
     /// first broken rule and its row. Nodes come first, then inner links, out links and entries,
@@ -48,8 +56,7 @@ impl Topology {
         ensures built { IfOk result (IsBuilt (rows_of_parts parts)) }
         ensures refused { IfErr result (IsReason (rows_of_parts parts)) }
     {
-        let survey = Survey::of(alloc, &parts)?;
-        check(&parts, &survey)?;
+        check_rows(alloc, &parts)?;
         Ok(assemble(alloc, parts)?)
     }
 }

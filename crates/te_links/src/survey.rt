@@ -1,10 +1,11 @@
 //! What the rules ask of rows together: repeats and limits on different nodes.
-ghost use Rattle.std.specs.Prelude.{◌≡◌, ◌≢◌, ◌<◌, ◌++◌, AllPairs, Contains, IfOk, map};
+ghost use Rattle.std.specs.Prelude.{◌≡◌, ◌≢◌, ◌<◌, ◌++◌, ◌≤◌, AllPairs, Contains, IfOk, IsPermutation, map};
 ghost use Rattle.std.specs.Bool.{Decides};
 ghost use Rattle.std.specs.BTreeMap.{is_at};
 ghost use Rattle.dom_base.specs.AddrOrder.{rank};
 ghost use Rattle.te_links.specs.Faults.{rows_of_parts};
-ghost use Rattle.te_links.specs.Survey.{CountsBefore, IsFewUpTo, IsSurvey, TellsRepeats};
+ghost use Rattle.te_links.specs.Rows.{all_links};
+ghost use Rattle.te_links.specs.Survey.{CountsBefore, CountsDomains, IsFewUpTo, IsSurvey, TellsRepeats};
 
 use crate::rows::Parts;
 use crate::{ENTRY_NODES_MAX, TAILS_MAX};
@@ -112,12 +113,36 @@ fn fars_of(alloc: Global, parts: &Parts) -> Result<Vec<Addr>, AllocError>
     inner.chain(outer).collect(alloc)
 }
 
+// For each link how often its near address stands among those before it.
+fn repeated_nears(alloc: Global, parts: &Parts) -> Result<Vec<usize>, AllocError>
+    ensures { IfOk result (λ counts. TellsRepeats (map (λ l. l.near) (all_links (rows_of_parts parts.now))) counts.items) }
+{
+    let nears = nears_of(alloc, parts)?;
+    repeats_of(alloc, &nears)
+}
+
+// For each link how often its far address stands among those before it.
+fn repeated_fars(alloc: Global, parts: &Parts) -> Result<Vec<usize>, AllocError>
+    ensures { IfOk result (λ counts. TellsRepeats (map (λ l. l.far) (all_links (rows_of_parts parts.now))) counts.items) }
+{
+    let fars = fars_of(alloc, parts)?;
+    repeats_of(alloc, &fars)
+}
+
 // The nodes that out links leave at.
 fn tails_of(alloc: Global, parts: &Parts) -> Result<Vec<Addr>, AllocError>
     ensures { IfOk result (λ v. v.items ≡ map (λ o. o.link.from) parts.now.outs) }
 {
     let outs = parts.outs.as_slice();
     outs.iter().map(|o| o.link.from).collect(alloc)
+}
+
+// How many out links leave at few nodes.
+fn few_tails(alloc: Global, parts: &Parts) -> Result<usize, AllocError>
+    ensures { IfOk result (IsFewUpTo TAILS_MAX (map (λ o. o.link.from) parts.now.outs)) }
+{
+    let tails = tails_of(alloc, parts)?;
+    few_up_to(alloc, &tails, TAILS_MAX)
 }
 
 // The nodes of the entries.
@@ -128,6 +153,14 @@ fn entry_nodes_of(alloc: Global, parts: &Parts) -> Result<Vec<Addr>, AllocError>
     entries.iter().map(|e| e.node).collect(alloc)
 }
 
+// How many entries are at few nodes.
+fn few_entry_nodes(alloc: Global, parts: &Parts) -> Result<usize, AllocError>
+    ensures { IfOk result (IsFewUpTo ENTRY_NODES_MAX (map (λ e. e.node) parts.now.entries)) }
+{
+    let entry_nodes = entry_nodes_of(alloc, parts)?;
+    few_up_to(alloc, &entry_nodes, ENTRY_NODES_MAX)
+}
+
 // The neighbouring domains of the entries.
 fn domains_of(alloc: Global, parts: &Parts) -> Result<Vec<As>, AllocError>
     ensures { IfOk result (λ v. v.items ≡ map (λ e. e.from_as) parts.now.entries) }
@@ -136,28 +169,49 @@ fn domains_of(alloc: Global, parts: &Parts) -> Result<Vec<As>, AllocError>
     entries.iter().map(|e| e.from_as).collect(alloc)
 }
 
+// For each entry how many before it are from its domain.
+fn counted_domains(alloc: Global, parts: &Parts) -> Result<Vec<usize>, AllocError>
+    ensures { IfOk result (λ counts. CountsDomains parts.now.entries counts.items) }
+{
+    let domains = domains_of(alloc, parts)?;
+    let counts = counts_before(alloc, &domains)?;
+    Ok(counts)
+}
+
+// For each entry how often it stands among those before it.
+fn repeated_entries(alloc: Global, parts: &Parts) -> Result<Vec<usize>, AllocError>
+    ensures { IfOk result (λ counts. TellsRepeats parts.now.entries counts.items) }
+{
+    let counts = counts_before(alloc, parts.entries.as_slice())?;
+    Ok(counts)
+}
+
+// The nodes in the order of their addresses.
+fn sorted_nodes(alloc: Global, parts: &Parts) -> Result<Vec<Addr>, AllocError>
+    ensures nodes { IfOk result (λ v. IsPermutation parts.now.nodes v.items) }
+    ensures rising { IfOk result (λ v. AllPairs (λ a b. rank a ≤ rank b) v.items) }
+{
+    let mut nodes = Vec::from_slice(alloc, parts.nodes.as_slice())?;
+    nodes.sort()?;
+    Ok(nodes)
+}
+
 impl Survey {
     /// The survey of these rows.
     pub(crate) fn of(alloc: Global, parts: &Parts) -> Result<Survey, AllocError>
         ensures { IfOk result (IsSurvey (rows_of_parts parts.now)) }
     {
-        let mut nodes = Vec::from_slice(alloc, parts.nodes.as_slice())?;
-        let same_node = repeats_of(alloc, &nodes)?;
-        nodes.sort()?;
-        let nears = nears_of(alloc, parts)?;
-        let fars = fars_of(alloc, parts)?;
-        let domains = domains_of(alloc, parts)?;
-        let tails = tails_of(alloc, parts)?;
-        let entry_nodes = entry_nodes_of(alloc, parts)?;
+        let tails_end = few_tails(alloc, parts)?;
+        let entry_nodes_end = few_entry_nodes(alloc, parts)?;
         Ok(Survey {
-            nodes,
-            same_node,
-            same_near: repeats_of(alloc, &nears)?,
-            same_far: repeats_of(alloc, &fars)?,
-            same_entry: counts_before(alloc, parts.entries.as_slice())?,
-            same_domain: counts_before(alloc, &domains)?,
-            tails_end: few_up_to(alloc, &tails, TAILS_MAX)?,
-            entry_nodes_end: few_up_to(alloc, &entry_nodes, ENTRY_NODES_MAX)?,
+            nodes: sorted_nodes(alloc, parts)?,
+            same_node: repeats_of(alloc, parts.nodes.as_slice())?,
+            same_near: repeated_nears(alloc, parts)?,
+            same_far: repeated_fars(alloc, parts)?,
+            same_entry: repeated_entries(alloc, parts)?,
+            same_domain: counted_domains(alloc, parts)?,
+            tails_end,
+            entry_nodes_end,
         })
     }
 }
