@@ -1,5 +1,5 @@
 -- Which objects of a message belong together (RFC 5440, 6.4 to 6.7).
-use Rattle.std.specs.Prelude.{ℕ, Bool, true, false, List, [], ◌∷◌, Option, Some, None, is_some, ◌&&◌, ◌||◌, if◌then◌else◌}
+use Rattle.std.specs.Prelude.{ℕ, Bool, true, false, List, [], ◌∷◌, ◌++◌, Option, Some, None, is_some, ◌&&◌, ◌||◌, if◌then◌else◌}
 use Rattle.std.specs.List.{filter_map}
 use Rattle.std.specs.Option.{option_or}
 use Rattle.pcep_objects.specs.declared.object.Body.{Body}
@@ -7,6 +7,7 @@ use Rattle.pcep_objects.specs.declared.object.Body.TheVariants as bodies
 use Rattle.pcep_objects.specs.declared.object.Object.{Object}
 use Rattle.pcep_objects.specs.declared.object.OpenBody.{OpenBody}
 use Rattle.pcep_messages.specs.declared.groups.Closer.{Closer}
+use Rattle.pcep_messages.specs.declared.groups.Cutting.{Cutting}
 use Rattle.pcep_messages.specs.declared.groups.Closer.TheVariants as closers
 use Rattle.pcep_messages.specs.declared.message.Asked.{Asked}
 use Rattle.pcep_messages.specs.declared.message.Reply.{Reply}
@@ -67,6 +68,18 @@ closes_by closers.Report o = is_report o
 
 abbrev pub all_groups : List Object × List (List Object) → List (List Object)
 all_groups groups = groups.0 ∷ groups.1
+
+-- One more object behind those that were cut, and the groups with all further ones.
+abbrev pub begun : Cutting → Object → Cutting
+begun g o = record g { done = g.done ++ g.current ∷ []; current = o ∷ [] }
+
+abbrev pub added : (Object → Bool) → Cutting → Object → Cutting
+added closes g o =
+    if is_rp o && g.closed then record { done = g.done ++ g.current ∷ []; current = o ∷ []; closed = closes o }
+    else record { done = g.done; current = g.current ++ o ∷ []; closed = g.closed || closes o }
+
+abbrev pub whole : (Object → Bool) → Cutting → List Object → List (List Object)
+whole closes g os = g.done ++ ((g.current ++ (cut closes g.closed os).0) ∷ (cut closes g.closed os).1)
 
 -- ---- requests (6.4): from the first object on, and from each RP behind another
 

@@ -90,27 +90,43 @@ fn groups_of_reports(alloc: Global, objects: List<Object>) -> Result<List<List<O
     cut_groups(alloc, Closer::Report, false, objects)
 }
 
+fn pcreq(alloc: Global, objects: List<Object>) -> Result<Message, NoMemory>
+    ensures { IfOk result (λ m. m ≡ made_of types.PCREQ objects) }
+{
+    let groups = cut_groups(alloc, Closer::Rp, false, objects)?;
+    Ok(Message::PcReq(requests(alloc, groups)?))
+}
+
+fn pcrep(alloc: Global, objects: List<Object>) -> Result<Message, NoMemory>
+    ensures { IfOk result (λ m. m ≡ made_of types.PCREP objects) }
+{
+    let groups = cut_groups(alloc, Closer::Rp, true, objects)?;
+    Ok(Message::PcRep(replies(alloc, groups)?))
+}
+
+fn pcntf(alloc: Global, objects: List<Object>) -> Result<Message, NoMemory>
+    ensures { IfOk result (λ m. m ≡ made_of types.PCNTF objects) }
+{
+    let groups = groups_of_reports(alloc, objects)?;
+    Ok(Message::PcNtf(notices(alloc, groups.as_slice())?))
+}
+
+fn pcerr(alloc: Global, objects: List<Object>) -> Result<Message, NoMemory>
+    ensures { IfOk result (λ m. m ≡ made_of types.PCERR objects) }
+{
+    let groups = groups_of_reports(alloc, objects)?;
+    Ok(Message::PcErr(reports(alloc, groups.as_slice())?))
+}
+
 /// What all the objects of a message make.
 fn made(alloc: Global, kind: u8, objects: List<Object>) -> Result<Message, NoMemory>
     ensures { IfOk result (λ m. m ≡ made_of kind objects) }
 {
     match kind {
-        messages::PCREQ => {
-            let groups = cut_groups(alloc, Closer::Rp, false, objects)?;
-            Ok(Message::PcReq(requests(alloc, groups)?))
-        }
-        messages::PCREP => {
-            let groups = cut_groups(alloc, Closer::Rp, true, objects)?;
-            Ok(Message::PcRep(replies(alloc, groups)?))
-        }
-        messages::PCNTF => {
-            let groups = groups_of_reports(alloc, objects)?;
-            Ok(Message::PcNtf(notices(alloc, groups.as_slice())?))
-        }
-        messages::PCERR => {
-            let groups = groups_of_reports(alloc, objects)?;
-            Ok(Message::PcErr(reports(alloc, groups.as_slice())?))
-        }
+        messages::PCREQ => pcreq(alloc, objects),
+        messages::PCREP => pcrep(alloc, objects),
+        messages::PCNTF => pcntf(alloc, objects),
+        messages::PCERR => pcerr(alloc, objects),
         _ => Ok(Message::Keepalive),
     }
 }

@@ -5,7 +5,7 @@ use dom_base::Text;
 
 /// For each table what is wrong with the row behind those that were read, where one there is out of form;
 /// and whether the parent or the number of workers is.
-#[derive(Clone, Copy, Debug, PartialEq, Eq)]
+#[derive(Clone, Copy)]
 pub struct Cuts {
     pub elements: Option<Breach>,
     pub links: Option<Breach>,

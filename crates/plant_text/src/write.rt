@@ -1,10 +1,39 @@
 //! Messages as lines.
-ghost use Rattle.std.specs.Prelude.{◌≡◌, ◌++◌, IfOk, OnErr, OnOk};
+ghost use Rattle.std.specs.Prelude.{◌≡◌, ◌++◌, ◌∷◌, [], IfOk, OnErr, OnOk, decimal};
 ghost use Rattle.plant_text.specs.Sents.{sent_line};
 
 use dom_base::{As, NoMemory, Text, write_number};
 use line_text::write_hex;
 use std::alloc::Global;
+
+// Who sends to whom: `FROM>TO`.
+fn put_ends(from: As, to: &Text, text: &mut Vec<u8>) -> Result<(), NoMemory>
+    ensures { OnOk result (text.new.items ≡ text.old.items ++ decimal from.0 ++ 62 ∷ to.now) }
+{
+    write_number(u64::from(from.0), text)?;
+    text.push(b'>')?;
+    text.extend_from_slice(to.as_str().as_bytes())?;
+    Ok(())
+}
+
+// The line `LINE FROM>TO DIGITS`.
+fn put_line(
+    line: u32,
+    from: As,
+    to: &Text,
+    digits: &[u8],
+    text: &mut Vec<u8>,
+) -> Result<(), NoMemory>
+    ensures { OnOk result (text.new.items ≡ text.old.items ++ decimal line ++ 32 ∷ decimal from.0 ++ 62 ∷ to.now ++ 32 ∷ digits.now ++ 10 ∷ []) }
+{
+    write_number(u64::from(line), text)?;
+    text.push(b' ')?;
+    put_ends(from, to, text)?;
+    text.push(b' ')?;
+    text.extend_from_slice(digits)?;
+    text.push(b'\n')?;
+    Ok(())
+}
 
 // The line `LINE FROM>TO HEX`.
 fn line_of(alloc: Global, line: u32, from: As, to: &Text, bytes: &[u8]) -> Result<Vec<u8>, NoMemory>
@@ -12,14 +41,7 @@ fn line_of(alloc: Global, line: u32, from: As, to: &Text, bytes: &[u8]) -> Resul
 {
     let digits = write_hex(alloc, bytes)?;
     let mut text = Vec::new(alloc);
-    write_number(u64::from(line), &mut text)?;
-    text.push(b' ')?;
-    write_number(u64::from(from.0), &mut text)?;
-    text.push(b'>')?;
-    text.extend_from_slice(to.as_str().as_bytes())?;
-    text.push(b' ')?;
-    text.extend_from_slice(&digits)?;
-    text.push(b'\n')?;
+    put_line(line, from, to, &digits, &mut text)?;
     Ok(text)
 }
 

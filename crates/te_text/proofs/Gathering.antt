@@ -9,29 +9,8 @@ use Rattle.te_text.specs.declared.error.TextError.{TextError}
 use Rattle.dom_base.specs.declared.names.As.{As}
 use Rattle.te_text.specs.declared.error.TextError.TheVariants.{At, NoMemory}
 use Rattle.te_text.specs.Given.{GivesText}
-use Rattle.te_text.specs.Reading.{and_then, with_first, reading_of, row_at, rows_in}
-use Rattle.te_text.specs.Gathered.{with_last}
-
-abbrev pub joined : Reading → Reading → Reading
-joined r s = record {
-  parts = record {
-    own = s.parts.own;
-    nodes = r.parts.nodes ++ s.parts.nodes;
-    links = r.parts.links ++ s.parts.links;
-    outs = r.parts.outs ++ s.parts.outs;
-    entries = r.parts.entries ++ s.parts.entries;
-  };
-  lines = record {
-    nodes = r.lines.nodes ++ s.lines.nodes;
-    links = r.lines.links ++ s.lines.links;
-    outs = r.lines.outs ++ s.lines.outs;
-    entries = r.lines.entries ++ s.lines.entries;
-  };
-}
-
--- what was gathered, with the rows of further lines
-abbrev pub further : Reading → Result (List (ℕ × TextRow)) TextError → Result Reading TextError
-further r placed = and_then placed (λ others. Ok (joined r (reading_of r.parts.own others)))
+use Rattle.te_text.specs.Reading.{and_then, no_rows, with_first, reading_of, row_at, rows_in}
+use Rattle.te_text.specs.Gathered.{GathersText, further, joined, with_last}
 
 pub row_moves : (r s : Reading) (line : ℕ) (row : TextRow) → joined r (with_first (line, row) s) ≡ joined (with_last r line row) s
 row_moves r s line (rows.Node n) = rw (append_assoc r.parts.nodes (n ∷ []) s.parts.nodes, append_assoc r.lines.nodes (line ∷ []) s.lines.nodes) refl
@@ -75,11 +54,14 @@ ends r =
       append-nil r.lines.entries,
     ) refl
 
-abbrev placed_all : As → List NumberedLine → Result Reading TextError
-placed_all own lines = and_then (rows_in lines) (λ placed. Ok (reading_of own placed))
-
 -- where a row was not read
-pub fault_stays : (r : Reading) (own : As) (all lines left : List NumberedLine) (line : NumberedLine) (e : TextError)
-    → further r (rows_in lines) ≡ placed_all own all → lines ≡ line ∷ left → GivesText {X = TextRow} (Err e) (row_at line) → GivesText {X = Reading} (Err e) (placed_all own all)
-fault_stays r own all lines left line (At number fault) so_far split said = sym so_far ∙ ap (λ (ls : List NumberedLine). further r (rows_in ls)) split ∙ stops r line left (At number fault) said
-fault_stays r own all lines left line NoMemory so_far split said = tt
+pub fault_told : (r before after : Reading) (all lines left : List NumberedLine) (line : NumberedLine) (e : TextError)
+    → further r (rows_in lines) ≡ further before (rows_in all) → lines ≡ line ∷ left → GivesText {X = TextRow} (Err e) (row_at line) → GathersText (Err e) after (further before (rows_in all))
+fault_told r before after all lines left line (At number fault) so_far split said = sym so_far ∙ ap (λ (ls : List NumberedLine). further r (rows_in ls)) split ∙ stops r line left (At number fault) said
+fault_told r before after all lines left line NoMemory so_far split said = tt
+
+-- a fault of all lines
+pub fault_of_all : (own : As) (lines : List NumberedLine) (before after : Reading) (e : TextError) → before ≡ no_rows own → GathersText (Err e) after (further before (rows_in lines))
+    → GivesText {X = Reading} (Err e) (and_then (rows_in lines) (λ placed. Ok (reading_of own placed)))
+fault_of_all own lines before after (At number fault) new said = ap (λ (r : Reading). further r (rows_in lines)) (sym new) ∙ said
+fault_of_all own lines before after NoMemory new said = tt

@@ -3,7 +3,7 @@ ghost use Rattle.std.specs.Prelude.{◌≡◌, ◌==◌, ◌<◌, ◌-◌, ◌^�
 ghost use Rattle.std.specs.Str.Lines.{lines as lines_of};
 ghost use Rattle.te_text.specs.Given.{GivesText};
 ghost use Rattle.te_text.specs.Reading.{and_then, header_at, no_rows, own_behind, reading_in, reading_of, row_at, rows_in, text_in};
-ghost use Rattle.te_text.specs.Gathered.{with_last};
+ghost use Rattle.te_text.specs.Gathered.{GathersText, further, with_last};
 
 use crate::error::TextError;
 use crate::fields::{is_end, next_as};
@@ -119,15 +119,25 @@ fn read_line(alloc: Global, line: &Line<'_>) -> Result<TextRow, TextError>
     }
 }
 
+impl Reading {
+    // The rows of the lines that are left, behind those that are there.
+    fn add_all(&mut self, alloc: Global, lines: &mut Lines<'_>) -> Result<(), TextError>
+        ensures { GathersText result self.new (further self.old (rows_in lines.old)) }
+    {
+        while let Some(line) = lines.next_line() {
+            let row = read_line(alloc, &line)?;
+            self.add(line.number, row)?;
+        }
+        Ok(())
+    }
+}
+
 // The rows of the lines that are left.
 fn read_rows(alloc: Global, own: As, lines: &mut Lines<'_>) -> Result<Reading, TextError>
     ensures { GivesText result (and_then (rows_in lines.old) (λ placed. Ok (reading_of own placed))) }
 {
     let mut reading = Reading::new(alloc, own);
-    while let Some(line) = lines.next_line() {
-        let row = read_line(alloc, &line)?;
-        reading.add(line.number, row)?;
-    }
+    reading.add_all(alloc, lines)?;
     Ok(reading)
 }
 
