@@ -1,18 +1,15 @@
 -- The files of all domains.
-use Rattle.std.proofs.Common.{◌≡◌, ◌+◌, ℕ, Result, Ok, Err, List, [], ◌∷◌, sym, subst, arith}
-use Rattle.std.specs.Result.{IfOk}
-use Rattle.dom_base.specs.declared.names.NoMemory.{NoMemory}
-use Rattle.drawn_network.specs.Files.{AreFiles, IsFile}
+use Rattle.std.proofs.Common.{◌≡◌, ◌+◌, ℕ, List, [], subst, arith}
+use Rattle.drawn_network.specs.Files.{AddsFile, AreFiles, IsFile}
 
 abbrev File : Type 0
 File = List ℕ × List ℕ
 
-pub all_files : (i j k l : ℕ) (a b c d : File) (r : Result (List File) NoMemory) → i ≡ 0 → j ≡ i + 212 → k ≡ j + 212 → l ≡ k + 212 → IsFile 1 i a → IsFile 2 j b → IsFile 3 k c → IsFile 4 l d →
-    IfOk r (λ files. files ≡ a ∷ b ∷ c ∷ d ∷ []) → IfOk r AreFiles
-all_files i j k l a b c d (Err why) i_is j_is k_is l_is p q r s are = are
-all_files i j k l a b c d (Ok files) i_is j_is k_is l_is p q r s are =
+pub all_files : (i j k l : ℕ) (none one two three all : List File) → i ≡ 0 → j ≡ i + 212 → k ≡ j + 212 → l ≡ k + 212 → none ≡ [] →
+    AddsFile 1 i none one → AddsFile 2 j one two → AddsFile 3 k two three → AddsFile 4 l three all → AreFiles all
+all_files i j k l none one two three all i_is j_is k_is l_is none_is p q r s =
     let second : j ≡ 212 = omega (arith, i_is, j_is) in
     let third : k ≡ 424 = omega (arith, second, k_is) in
     let fourth : l ≡ 636 = omega (arith, third, l_is) in
-    subst AreFiles (sym are)
-    (subst (λ (n : ℕ). IsFile 1 n a) i_is p, (subst (λ (n : ℕ). IsFile 2 n b) second q, (subst (λ (n : ℕ). IsFile 3 n c) third r, (subst (λ (n : ℕ). IsFile 4 n d) fourth s, tt))))
+    rw (s.added, r.added, q.added, p.added, none_is)
+    (subst (λ (n : ℕ). IsFile 1 n p.file) i_is p.is_file, (subst (λ (n : ℕ). IsFile 2 n q.file) second q.is_file, (subst (λ (n : ℕ). IsFile 3 n r.file) third r.is_file, (subst (λ (n : ℕ). IsFile 4 n s.file) fourth s.is_file, tt))))

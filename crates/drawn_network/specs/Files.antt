@@ -1,5 +1,5 @@
 -- The files of the topologies.
-use Rattle.std.specs.Prelude.{◌≡◌, ℕ, List, [], ◌∷◌}
+use Rattle.std.specs.Prelude.{◌≡◌, ℕ, List, [], ◌∷◌, ◌++◌}
 use Rattle.te_links.specs.declared.rows.Parts.{Parts}
 use Rattle.te_links.specs.Built.{IsBuilt}
 use Rattle.te_links.specs.Faults.{rows_of_parts}
@@ -19,6 +19,12 @@ pub record IsFile (d k : ℕ) (file : List ℕ × List ℕ) : Type 0 where
   pub topology : Rows
   pub drawn : IsDrawn (parts_of d k) topology
   pub text : file.1 ≡ topology_text topology
+
+-- one more file behind others
+pub record AddsFile (d k : ℕ) (before after : List (List ℕ × List ℕ)) : Type 0 where
+  pub file : List ℕ × List ℕ
+  pub is_file : IsFile d k file
+  pub added : after ≡ before ++ file ∷ []
 
 -- how many draws the links of a domain take, and those of all domains
 abbrev pub domain_draws : ℕ

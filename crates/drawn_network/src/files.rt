@@ -1,7 +1,7 @@
 //! The files of the topologies.
-ghost use Rattle.std.specs.Prelude.{◌≡◌, ◌≤◌, ◌+◌, ◌∷◌, [], IfOk, OnOk};
+ghost use Rattle.std.specs.Prelude.{◌≡◌, ◌≤◌, ◌+◌, IfOk, OnOk};
 ghost use Rattle.drawn_network.specs.Draws.{draws_most};
-ghost use Rattle.drawn_network.specs.Files.{AreFiles, IsDrawn, IsFile, links_draws};
+ghost use Rattle.drawn_network.specs.Files.{AddsFile, AreFiles, IsDrawn, IsFile, links_draws};
 ghost use Rattle.drawn_network.specs.Settings.{file_name};
 
 use crate::draws::Draws;
@@ -35,21 +35,19 @@ fn draw_file(alloc: Global, domain: u8, draws: &mut Draws) -> Result<(Text, Byte
     Ok((file_name(alloc, domain)?, text))
 }
 
-fn four(
+// The file of a domain, behind those that are there.
+fn add_file(
     alloc: Global,
-    first: (Text, Bytes),
-    second: (Text, Bytes),
-    third: (Text, Bytes),
-    fourth: (Text, Bytes),
-) -> Result<List<(Text, Bytes)>, NoMemory>
-    ensures { IfOk result (λ files. files ≡ first ∷ second ∷ third ∷ fourth ∷ []) }
+    domain: u8,
+    draws: &mut Draws,
+    files: &mut List<(Text, Bytes)>,
+) -> Result<(), NoMemory>
+    requires domain { domain ≤ 4 }
+    requires left { draws.old + 212 ≤ draws_most }
+    ensures file { OnOk result (AddsFile domain draws.old files.old files.new) }
+    ensures drawn { OnOk result (draws.new ≡ draws.old + 212) }
 {
-    let mut files = List::new(alloc);
-    files.push(first)?;
-    files.push(second)?;
-    files.push(third)?;
-    files.push(fourth)?;
-    Ok(files)
+    files.push(draw_file(alloc, domain, draws)?)
 }
 
 /// The files that the settings name, drawn in the order of domains.
@@ -58,9 +56,10 @@ pub fn draw_files(alloc: Global, draws: &mut Draws) -> Result<List<(Text, Bytes)
     ensures files { IfOk result AreFiles }
     ensures drawn { OnOk result (draws.new ≡ links_draws) }
 {
-    let first = draw_file(alloc, 1, draws)?;
-    let second = draw_file(alloc, 2, draws)?;
-    let third = draw_file(alloc, 3, draws)?;
-    let fourth = draw_file(alloc, 4, draws)?;
-    four(alloc, first, second, third, fourth)
+    let mut files = List::new(alloc);
+    add_file(alloc, 1, draws, &mut files)?;
+    add_file(alloc, 2, draws, &mut files)?;
+    add_file(alloc, 3, draws, &mut files)?;
+    add_file(alloc, 4, draws, &mut files)?;
+    Ok(files)
 }

@@ -1,5 +1,5 @@
 //! The settings.
-ghost use Rattle.std.specs.Prelude.{◌≡◌, ◌∷◌, [], IfOk};
+ghost use Rattle.std.specs.Prelude.{◌≡◌, ◌++◌, ◌∷◌, [], IfOk, OnOk};
 ghost use Rattle.drawn_network.specs.Settings.{file_name, element, link, settings};
 
 use dom_base::{Addr, As, List, NoMemory, Text};
@@ -40,14 +40,20 @@ fn element(alloc: Global, domain: u8) -> Result<ElementRow, NoMemory>
     })
 }
 
+fn add_element(alloc: Global, rows: &mut List<ElementRow>, domain: u8) -> Result<(), NoMemory>
+    ensures { OnOk result (rows.new ≡ rows.old ++ element domain ∷ []) }
+{
+    rows.push(element(alloc, domain)?)
+}
+
 fn elements(alloc: Global) -> Result<List<ElementRow>, NoMemory>
     ensures { IfOk result (λ rows. rows ≡ element 1 ∷ element 2 ∷ element 3 ∷ element 4 ∷ []) }
 {
     let mut rows = List::new(alloc);
-    rows.push(element(alloc, 1)?)?;
-    rows.push(element(alloc, 2)?)?;
-    rows.push(element(alloc, 3)?)?;
-    rows.push(element(alloc, 4)?)?;
+    add_element(alloc, &mut rows, 1)?;
+    add_element(alloc, &mut rows, 2)?;
+    add_element(alloc, &mut rows, 3)?;
+    add_element(alloc, &mut rows, 4)?;
     Ok(rows)
 }
 
