@@ -1,8 +1,5 @@
-//! What no script over the built program shows of its runs: drawn requests that ask for no bandwidth, and answers that
-//! none of its clients hears.
+//! What no run of the built program shows: answers that none of its clients hears.
 #![tactic(auto)]
 
 #[cfg(test)]
 mod answers;
-#[cfg(test)]
-mod bulk;
