@@ -125,6 +125,7 @@ impl<'a> Lines<'a> {
         }
     }
 
+    /// The next line with its number, which counts from 1, or none at the end.
     pub fn next_line(&mut self) -> Option<Line<'a>>
         ensures { MatchOption result
             ((self.old ≡ []) × (self.new ≡ []))

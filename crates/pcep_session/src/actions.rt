@@ -65,6 +65,7 @@ pub(crate) fn send_error(error: (u8, u8)) -> Action
 impl Actions {
     ghost use Rattle.pcep_session.specs.Listed.{listed};
 
+    /// Nothing is done.
     pub fn none() -> Actions
         ensures { listed result ≡ [] }
     {
@@ -75,6 +76,7 @@ impl Actions {
         }
     }
 
+    /// This alone is done.
     pub fn one(action: Action) -> Actions
         ensures { listed result ≡ action ∷ [] }
     {
@@ -85,6 +87,7 @@ impl Actions {
         }
     }
 
+    /// These are done, in this order.
     pub fn two(first: Action, second: Action) -> Actions
         ensures { listed result ≡ first ∷ second ∷ [] }
     {
@@ -95,6 +98,7 @@ impl Actions {
         }
     }
 
+    /// These are done, in this order: no input asks for more.
     pub fn three(first: Action, second: Action, third: Action) -> Actions
         ensures { listed result ≡ first ∷ second ∷ third ∷ [] }
     {

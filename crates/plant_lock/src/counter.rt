@@ -27,12 +27,14 @@ pub enum Change {
 }
 
 impl Counter {
+    /// A counter at 0.
     pub fn new() -> Counter
         ensures { result ≡ 0 }
     {
         Counter { sum: 0 }
     }
 
+    /// What was added in all.
     pub fn sum(&self) -> u64
         ensures { result ≡ self.now }
     {

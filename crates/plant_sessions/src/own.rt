@@ -38,6 +38,7 @@ impl Model for ShortText {
 }
 
 impl ShortText {
+    /// The octets of the message.
     pub fn as_slice(&self) -> &[u8]
         ensures { result.now ≡ self.now }
     {
