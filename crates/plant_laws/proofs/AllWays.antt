@@ -7,7 +7,7 @@ use Rattle.dom_base.specs.declared.names.As.{As}
 use Rattle.te_links.specs.Rows.{Rows, IsInOrder}
 use Rattle.pcep_messages.specs.declared.message.Path.{Path}
 use Rattle.pcep_messages.specs.declared.message.Wanted.{Wanted}
-use Rattle.walk_laws.specs.Crossing.{query_in, HasNoCrossing}
+use Rattle.walk_laws.specs.Crossing.{At, query_in, HasNoCrossing}
 use Rattle.walk_laws.specs.Composition.{IsEntryFrom, AreBeyond}
 use Rattle.vspt_tree.specs.declared.branch.Best.{Best}
 use Rattle.vspt_tree.specs.declared.branch.Branch.{Branch}
@@ -33,7 +33,7 @@ use Rattle.plant_laws.proofs.Ways.{IsWay, end_way, on_way}
 
 pub record AreWays (n : NetworkParts) (w : Wanted) (one : Leg) (chain : List Leg) (down : List Branch) (entries : List Addr) (best : List Best) : Type 0 where
   pub each : (b : Best) → Contains best b → Contains entries b.entry × IsWay n w.query w.target one chain down b
-  pub every : (e : Addr) → Contains entries e → HasNoCrossing w.query (pinned one.own one.at) (domains chain) e w.target ⊎ ((b : Best) × Contains best b × (b.entry ≡ e))
+  pub every : (e : Addr) → Contains entries e → HasNoCrossing w.query (pinned one.own one.at) (domains chain) e (At w.target) ⊎ ((b : Best) × Contains best b × (b.entry ≡ e))
 
 module _ (n : NetworkParts) (d : As) (k : ℕ) (item : Item Pin) (one : Leg) (number : ℕ) (rows : Answers)
     (own : item.wanted.query ≡ query_in item.wanted.query one.own) (home : item.wanted.query ≡ query_in item.wanted.query (pinned one.own one.at).own) where
@@ -69,8 +69,8 @@ module _ (n : NetworkParts) (d : As) (k : ℕ) (item : Item Pin) (one : Leg) (nu
       let to_next : a.target ≡ Next next.own = ap (λ (s : List As). target_along s w.target) sequence in
       let target : a.target ≡ Next h.own = to_next ∙ ap (λ (x : As). Next x) (sym at_next) in
       let right' = told_beyond c codec n one.own next chain w small paths told in
-      let right = subst (λ (x : As). AreBeyond w.query x h (domains chain) w.target (beyond (downs down))) (sym here) right' in
-      let tells = rows_compose w.query g h (domains chain) w.target a rows are home target right in
+      let right = subst (λ (x : As). AreBeyond w.query x h (domains chain) (At w.target) (beyond (downs down))) (sym here) right' in
+      let tells = rows_compose w.query g h (domains chain) (At w.target) a rows are home target right in
       let found = finds g a are.seeds a.entries rows.best are.best in
       record {
         each = λ b is.

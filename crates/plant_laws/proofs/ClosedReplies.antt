@@ -29,6 +29,7 @@ use Rattle.plant_model.specs.Settings.{place}
 use Rattle.plant_model.specs.Jobs.{entries_of}
 use Rattle.plant_model.specs.Plant.{Pin, Segment}
 use Rattle.plant_laws.specs.Transcript.{Leg, pinned, domains, keys_at}
+use Rattle.walk_laws.specs.Crossing.{At}
 use Rattle.plant_laws.specs.About.{HasNoneAlong, IsLeastPath}
 use Rattle.plant_laws.specs.Replies.{AreRightful}
 use Rattle.border_costs.proofs.Members.{contains_none, contains_head, contains_cases}
@@ -145,7 +146,7 @@ module _ (c : Codec) (n : NetworkParts) (d : As) (k : ℕ) (held : Held (Item Pi
   abbrev pub Opens : Reply → List Path → Type 0
   Opens r paths =
       ((path : Path) × (paths ≡ path ∷ []) × (has_paths r.answer ≡ true) × IsLeastPath c n true (domains (one ∷ chain)) (one ∷ chain) w w.source path)
-      ⊎ ((paths ≡ []) × (has_paths r.answer ≡ false) × HasNoneAlong w.query (domains (one ∷ chain)) w.source w.target)
+      ⊎ ((paths ≡ []) × (has_paths r.answer ≡ false) × HasNoneAlong w.query (domains (one ∷ chain)) w.source (At w.target))
 
   only_source : (class : Class) → is_client class ≡ true → (e : Addr) → Contains (entries_of class w.source (pinned one.own one.at)) e → w.source ≡ e
   only_source (Client may) is e h = elim (contains_cases w.source [] e h) [ inl same ↦ same | inr none ↦ absurd (contains_none e none) ]

@@ -20,7 +20,7 @@ use Rattle.disclosure.specs.declared.class.Class.{Class}
 use Rattle.disclosure.specs.declared.class.Class.TheVariants.{Neighbour, Parent}
 use Rattle.vspt_tree.specs.declared.branch.Branch.{Branch}
 use Rattle.border_costs.specs.Solutions.{AreRows}
-use Rattle.walk_laws.specs.Crossing.{query_in}
+use Rattle.walk_laws.specs.Crossing.{At, query_in}
 use Rattle.plant_text.specs.declared.settings.NetworkParts.{NetworkParts}
 use Rattle.plant_model.specs.declared.output.Output.{Output}
 use Rattle.plant_text.specs.Names.{same_as, parent_as}
@@ -56,7 +56,7 @@ same_path : (c : Codec) (n : NetworkParts) (chain : List Leg) (w : Wanted) (b : 
 same_path c n chain w b rest e path p = record {
   legs = p.legs;
   last = p.last;
-  least = along_free w.query b (domains chain) e w.target p.legs p.last p.least;
+  least = along_free w.query b (domains chain) e (At w.target) p.legs p.last p.least;
   metric = p.metric ∙ ap (λ (x : ℕ). let o : Option (ℕ × ℕ) = Some (type_of_metric w.query.metric, c.word x) in o) (crossing_free w.query b p.legs p.last);
   shown = shows_free w.query b n w.target false chain e path.hops p.legs p.last p.shown;
 }
@@ -68,7 +68,7 @@ told_of c n d w b rest next chain paths right = record {
       let r = right.each path h in
       (r.0, entry_of_node d (pinned next.own next.at).entries r.0 r.1, same_path c n (next ∷ chain) w b rest r.0 path r.2);
   every = λ e h. elim (right.every e (node_of_entry d (pinned next.own next.at).entries e h)) [
-    | inl nowhere ↦ inl (none_free w.query b (domains (next ∷ chain)) e w.target nowhere)
+    | inl nowhere ↦ inl (none_free w.query b (domains (next ∷ chain)) e (At w.target) nowhere)
     | inr known ↦ inr (known.0, known.1, same_path c n (next ∷ chain) w b rest e known.0 known.2)
   ];
 }

@@ -5,7 +5,6 @@ use Rattle.std.specs.declared.option.Option.{Option}
 use Rattle.dom_base.specs.declared.limits.TheConstants.{COST_MAX}
 use Rattle.dom_base.specs.declared.addr.Addr.{Addr}
 use Rattle.dom_base.specs.declared.names.As.{As}
-use Rattle.dom_base.specs.declared.link.Link.{Link}
 use Rattle.dom_base.specs.declared.query.Query.{Query}
 use Rattle.dom_base.specs.Admission.{Allows}
 use Rattle.te_links.specs.Rows.{Rows}
@@ -13,7 +12,7 @@ use Rattle.pcep_subobjects.specs.declared.hop.Hop.{Hop}
 use Rattle.pcep_messages.specs.declared.message.Path.{Path}
 use Rattle.pcep_messages.specs.declared.message.Wanted.{Wanted}
 use Rattle.walk_laws.specs.Walks.{Walk}
-use Rattle.walk_laws.specs.Crossing.{Leg as Part, Crosses, CrossingWalk, crossing_cost, query_in, IsLeastCrossing, IsLeastCost}
+use Rattle.walk_laws.specs.Crossing.{Leg as Part, Goal, At, Last, Links, Crosses, CrossingWalk, crossing_cost, query_in, IsLeastCrossing, IsLeastCost}
 use Rattle.walk_laws.specs.Composition.{IsEntryFrom, AreBeyond}
 use Rattle.vspt_tree.specs.declared.branch.Best.{Best}
 use Rattle.vspt_tree.specs.declared.branch.Branch.{Branch}
@@ -35,16 +34,16 @@ use Rattle.border_costs.specs.Asks.{beyond}
 
 pub record IsWay (n : NetworkParts) (q : Query) (t : Addr) (one : Leg) (chain : List Leg) (down : List Branch) (b : Best) : Type 0 where
   pub legs : List Part
-  pub last : List Link
-  pub least : IsLeastCrossing q (pinned one.own one.at) (domains chain) b.entry t legs last
+  pub last : Last
+  pub least : IsLeastCrossing q (pinned one.own one.at) (domains chain) b.entry (At t) legs last
   pub sum : b.cost ≡ crossing_cost q legs last
   pub opened : Shows n true q t (one ∷ chain) b.entry (open_branch b down) legs last
   pub closed : (key : Issued Segment) → Contains (keys_at one.solved) key → key.segment ≡ b.segment → Shows n false q t (one ∷ chain) b.entry (closed_branch key.number (place n one.own).id t b down) legs last
 
 -- a walk of the least cost is least
-walk_least : (q : Query) (g : Rows) (rest : List Rows) (s t : Addr) (c : ℕ) (legs : List Part) (last : List Link) → IsLeastCost q g rest s t c → CrossingWalk q g rest s t legs last →
-    c ≡ crossing_cost q legs last → IsLeastCrossing q g rest s t legs last
-walk_least q g rest s t c legs last known walk sum =
+walk_least : (q : Query) (g : Rows) (rest : List Rows) (s : Addr) (goal : Goal) (c : ℕ) (legs : List Part) (last : Last) → IsLeastCost q g rest s goal c → CrossingWalk q g rest s goal legs last →
+    c ≡ crossing_cost q legs last → IsLeastCrossing q g rest s goal legs last
+walk_least q g rest s goal c legs last known walk sum =
     let within = known.least.feasible.within in
     record {
       feasible = record { walk = walk; within = omega (arith, within, known.is, sum) };
@@ -62,14 +61,14 @@ module _ (n : NetworkParts) (w : Wanted) (one : Leg) (own : w.query ≡ query_in
   t = w.target
 
   -- in the last domain
-  pub end_way : (b : Best) → EndsIn g q t b → IsLeastCost q g [] b.entry t b.cost → IsWay n q t one [] [] b
+  pub end_way : (b : Best) → EndsIn g q t b → IsLeastCost q g [] b.entry (At t) b.cost → IsWay n q t one [] [] b
   end_way b part known =
-      let walk : CrossingWalk q g [] b.entry t [] part.links = subst (λ (x : Query). Walk g x b.entry t part.links) home part.walk in
+      let walk : CrossingWalk q g [] b.entry (At t) [] (Links part.links) = subst (λ (x : Query). Walk g x b.entry t part.links) home part.walk in
       let chosen : IsChosenTo g (query_in q one.own) (Node t) [] b.entry t part.links = subst (λ (x : Query). IsChosenTo g x (Node t) [] b.entry t part.links) own part.chosen in
       record {
         legs = [];
-        last = part.links;
-        least = walk_least q g [] b.entry t b.cost [] part.links known walk part.sum;
+        last = Links part.links;
+        least = walk_least q g [] b.entry (At t) b.cost [] (Links part.links) known walk part.sum;
         sum = part.sum;
         opened = record {
           part = open_of b.segment;
@@ -95,7 +94,7 @@ module _ (n : NetworkParts) (w : Wanted) (one : Leg) (own : w.query ≡ query_in
     down = branches_in c q.metric paths
 
     pub on_way : (b : Best) (part : GoesOn g q next.own down b) → FromPath c codec n (next ∷ chain) w small (IsEntryFrom h one.own) paths part.below.branch →
-        IsLeastCost q g (h ∷ domains chain) b.entry t b.cost → AreBeyond q one.own h (domains chain) t (beyond (downs down)) → IsWay n q t one (next ∷ chain) down b
+        IsLeastCost q g (h ∷ domains chain) b.entry (At t) b.cost → AreBeyond q one.own h (domains chain) (At t) (beyond (downs down)) → IsWay n q t one (next ∷ chain) down b
     on_way b part f known right =
         let head : f.entry ≡ part.out.link.to = sym (ap (λ (x : Branch). x.entry) f.is) ∙ part.below.at in
         let leg : Part = record { links = part.links; out = part.out } in
@@ -108,9 +107,9 @@ module _ (n : NetworkParts) (w : Wanted) (one : Leg) (own : w.query ≡ query_in
           allowed = subst (λ (x : Query). Allows x part.out.link) home part.leads.allowed;
           entry = entry;
         } in
-        let after : CrossingWalk q h (domains chain) part.out.link.to t f.least.legs f.least.last =
-        subst (λ (x : Addr). CrossingWalk q h (domains chain) x t f.least.legs f.least.last) head f.least.least.feasible.walk in
-        let walk : CrossingWalk q g (h ∷ domains chain) b.entry t (leg ∷ f.least.legs) f.least.last = (inside, crosses, after) in
+        let after : CrossingWalk q h (domains chain) part.out.link.to (At t) f.least.legs f.least.last =
+        subst (λ (x : Addr). CrossingWalk q h (domains chain) x (At t) f.least.legs f.least.last) head f.least.least.feasible.walk in
+        let walk : CrossingWalk q g (h ∷ domains chain) b.entry (At t) (leg ∷ f.least.legs) f.least.last = (inside, crosses, after) in
         let told = ap (λ (x : Branch). x.cost) f.is in
         let sum : b.cost ≡ crossing_cost q (leg ∷ f.least.legs) f.least.last = omega (arith, part.sum, part.below.cost, told) in
         let chosen : IsChosenTo g (query_in q one.own) (Next next.own) (downs down) b.entry part.out.link.far part.links =
@@ -125,7 +124,7 @@ module _ (n : NetworkParts) (w : Wanted) (one : Leg) (own : w.query ≡ query_in
         record {
           legs = leg ∷ f.least.legs;
           last = f.least.last;
-          least = walk_least q g (h ∷ domains chain) b.entry t b.cost (leg ∷ f.least.legs) f.least.last known walk sum;
+          least = walk_least q g (h ∷ domains chain) b.entry (At t) b.cost (leg ∷ f.least.legs) f.least.last known walk sum;
           sum = sum;
           opened = record {
             part = open_of b.segment;

@@ -2,6 +2,7 @@
 use Rattle.std.specs.Prelude.{◌≡◌, ◌≢◌, ◌⊎◌, ℕ, true, List, [], ◌∷◌, Some, None}
 use Rattle.dom_base.specs.declared.names.As.{As}
 use Rattle.dom_base.specs.declared.names.Peer.TheVariants.{Outside}
+use Rattle.walk_laws.specs.Crossing.{At}
 use Rattle.pcep_messages.specs.declared.message.Reply.{Reply}
 use Rattle.pcep_messages.specs.declared.message.Path.{Path}
 use Rattle.pcep_messages.specs.declared.message.Answer.TheVariants.{Paths, NoPath}
@@ -53,7 +54,7 @@ pub record HasNoneOfChain (c : Codec) (n : NetworkParts) (older now : Transcript
   pub chain : List Leg
   pub same : request.id ≡ r.id
   pub about : IsAbout c n older now d (Outside i) request wanted chain
-  pub none : HasNoneAlong wanted.query (domains chain) wanted.source wanted.target
+  pub none : HasNoneAlong wanted.query (domains chain) wanted.source (At wanted.target)
 
 -- NO-PATH of nature 0 to a client says that there is none.
 abbrev pub NoneAnswersIn : Codec → NetworkParts → List Entry → Plant → Type 0

@@ -21,6 +21,7 @@ use Rattle.path_keys.specs.declared.issued.Issued.{Issued}
 use Rattle.plant_model.specs.Plant.{Plant, Entry, Run, deeds_of, Segment}
 use Rattle.plant_model.specs.Blind.{is_closed}
 use Rattle.plant_laws.specs.Transcript.{Transcript, Within, Leg, domains, pinned}
+use Rattle.walk_laws.specs.Crossing.{At}
 use Rattle.plant_laws.specs.About.{Replies, IsAbout, HasNoneAlong, IsLeastPath}
 use Rattle.plant_laws.specs.Runs.{InShortRuns}
 
@@ -33,7 +34,7 @@ entries_along class w (leg ∷ legs) = entries_of class w.source (pinned leg.own
 pub record AreRightful (c : Codec) (n : NetworkParts) (class : Class) (chain : List Leg) (w : Wanted) (paths : List Path) : Type 0 where
   pub each : (path : Path) → Contains paths path → (e : Addr) × Contains (entries_along class w chain) e × IsLeastPath c n false (domains chain) chain w e path
   pub every : (e : Addr) → Contains (entries_along class w chain) e →
-      HasNoneAlong w.query (domains chain) e w.target ⊎ ((path : Path) × Contains paths path × IsLeastPath c n false (domains chain) chain w e path)
+      HasNoneAlong w.query (domains chain) e (At w.target) ⊎ ((path : Path) × Contains paths path × IsLeastPath c n false (domains chain) chain w e path)
 
 -- what an element told a closed peer about a request
 pub record IsRightful (c : Codec) (n : NetworkParts) (older now : Transcript) (d : As) (p : Peer) (r : Reply) (paths : List Path) : Type 0 where

@@ -6,7 +6,7 @@ use Rattle.dom_base.specs.declared.query.Query.{Query}
 use Rattle.dom_base.specs.declared.query.Seed.{Seed}
 use Rattle.te_links.specs.Rows.{Rows}
 use Rattle.walk_laws.specs.Labels.{IsLabel, IsSegment}
-use Rattle.walk_laws.specs.Crossing.{query_in}
+use Rattle.walk_laws.specs.Crossing.{At, Last, Links, Over, query_in}
 use Rattle.walk_laws.specs.Crossing as crossing
 use Rattle.pcep_subobjects.specs.declared.hop.Hop.{Hop}
 use Rattle.plant_text.specs.declared.settings.NetworkParts.{NetworkParts}
@@ -46,21 +46,22 @@ ending false t = strict_hop t ∷ []
 
 -- The hops show this walk along the chain, the first part open or closed, and the others closed. The part of each domain is the
 -- chosen segment over the least costs of the rest.
-abbrev pub Shows : NetworkParts → Bool → Query → Addr → List Leg → Addr → List Hop → List crossing.Leg → List Link → Type 0
+abbrev pub Shows : NetworkParts → Bool → Query → Addr → List Leg → Addr → List Hop → List crossing.Leg → Last → Type 0
 Shows n open' q t [] e hs legs last = ⊥
-Shows n open' q t (one ∷ []) e hs [] last = record {
+Shows n open' q t (one ∷ []) e hs [] (Links last) = record {
   part : List Hop;
   is_part : IsPart open' (keys_at one.solved) (place n one.own).id e last part;
   chosen : IsChosenTo (pinned one.own one.at) (query_in q one.own) (Node t) [] e t last;
   is_hops : hs ≡ part ++ ending open' t;
 }
+Shows n open' q t (one ∷ []) e hs [] (Over l c) = ⊥
 Shows n open' q t (one ∷ []) e hs (l ∷ ls) last = ⊥
 Shows n open' q t (one ∷ next ∷ rest) e hs [] last = ⊥
 Shows n open' q t (one ∷ next ∷ rest) e hs (l ∷ ls) last = record {
   part : List Hop;
   is_part : IsPart open' (keys_at one.solved) (place n one.own).id e l.links part;
   rows : List Down;
-  right : AreBeyond q one.own (pinned next.own next.at) (domains rest) t (beyond rows);
+  right : AreBeyond q one.own (pinned next.own next.at) (domains rest) (At t) (beyond rows);
   chosen : IsChosenTo (pinned one.own one.at) (query_in q one.own) (Next next.own) rows e l.out.link.far l.links;
   below : List Hop;
   shown : Shows n false q t (next ∷ rest) l.out.link.to below ls last;
