@@ -8,10 +8,11 @@ use Rattle.dom_base.specs.Admission.{weight}
 use Rattle.te_links.specs.Rows.{Rows}
 use Rattle.pcep_subobjects.specs.declared.hop.Hop.{Hop}
 use Rattle.walk_laws.specs.Walks.{cost}
-use Rattle.walk_laws.specs.Crossing.{Leg as Part, Goal, At, Last, Links, Over, CrossingWalk, crossing_cost, query_in, IsFeasibleCrossing, IsLeastCrossing}
+use Rattle.walk_laws.specs.Crossing.{Leg as Part, Goal, Last, Links, Over, CrossingWalk, crossing_cost, query_in, IsFeasibleCrossing, IsLeastCrossing}
 use Rattle.plant_text.specs.declared.settings.NetworkParts.{NetworkParts}
 use Rattle.plant_laws.specs.Transcript.{Leg, pinned, domains}
-use Rattle.plant_laws.specs.Shown.{Shows}
+use Rattle.plant_laws.specs.Ends.{End, Inside, Asked, goal_of}
+use Rattle.plant_laws.specs.Shown.{ShowsLast, Shows}
 use Rattle.plant_laws.specs.About.{IsLeastAlong, HasNoneAlong}
 use Rattle.walk_laws.specs.Composition.{AreBeyond}
 use Rattle.walk_laws.specs.Borders.{Beyond}
@@ -64,18 +65,23 @@ module _ (q : Query) (b : As) where
     absent = λ u entry none. (let x = are.absent u entry none in λ legs last f. x legs last (free_feasible h rest u goal legs last f));
   }
 
-  module _ (n : NetworkParts) (t : Addr) where
-    pub shows_free : (open' : Bool) (chain : List Leg) (e : Addr) (hs : List Hop) (legs : List Part) (last : Last) → Shows n open' (query_in q b) t chain e hs legs last → Shows n open' q t chain e hs legs last
+  module _ (n : NetworkParts) (end : End) where
+    pub shows_free : (open' : Bool) (chain : List Leg) (e : Addr) (hs : List Hop) (legs : List Part) (last : Last) → Shows n open' (query_in q b) end chain e hs legs last → Shows n open' q end chain e hs legs last
     shows_free open' [] e hs legs last s = s
-    shows_free open' (one ∷ []) e hs [] (Links last) s = s
-    shows_free open' (one ∷ []) e hs [] (Over l c) s = s
+    shows_free open' (one ∷ []) e hs [] last s = go end last s
+      where
+        go : (x : End) (k : Last) → ShowsLast n open' (query_in q b) x one e hs k → ShowsLast n open' q x one e hs k
+        go (Inside t) (Links ls) s' = s'
+        go (Asked next told) (Over l c) s' = s'
+        go (Inside t) (Over l c) s' = s'
+        go (Asked next told) (Links ls) s' = s'
     shows_free open' (one ∷ []) e hs (l ∷ ls) last s = s
     shows_free open' (one ∷ next ∷ rest) e hs [] last s = s
     shows_free open' (one ∷ next ∷ rest) e hs (l ∷ ls) last s = record {
       part = s.part;
       is_part = s.is_part;
       rows = s.rows;
-      right = beyond_free one.own (pinned next.own next.at) (domains rest) (At t) (beyond s.rows) s.right;
+      right = beyond_free one.own (pinned next.own next.at) (domains rest) (goal_of end) (beyond s.rows) s.right;
       chosen = s.chosen;
       below = s.below;
       shown = shows_free false (next ∷ rest) l.out.link.to s.below ls last s.shown;

@@ -6,7 +6,7 @@ use Rattle.dom_base.specs.declared.names.Peer.{Peer}
 use Rattle.dom_base.specs.declared.names.Peer.TheVariants.{Inner}
 use Rattle.dom_base.specs.declared.query.Query.{Query}
 use Rattle.te_links.specs.Rows.{Rows}
-use Rattle.walk_laws.specs.Crossing.{Goal, At, Last, IsLeastCrossing, HasNoCrossing, crossing_cost}
+use Rattle.walk_laws.specs.Crossing.{Goal, Last, IsLeastCrossing, HasNoCrossing, crossing_cost}
 use Rattle.walk_laws.specs.Crossing as crossing
 use Rattle.pcep_messages.specs.declared.message.Reply.{Reply}
 use Rattle.pcep_messages.specs.declared.message.Path.{Path}
@@ -32,6 +32,7 @@ use Rattle.plant_model.specs.Settings.{place, family}
 use Rattle.plant_model.specs.State.{Takes}
 use Rattle.plant_model.specs.Plant.{PlantDeed}
 use Rattle.plant_laws.specs.Transcript.{Transcript, Within, opened, Delivered, Handed, SentIn, Leg, Chain, numbers, outputs_at, asks}
+use Rattle.plant_laws.specs.Ends.{End, goal_of}
 use Rattle.plant_laws.specs.Shown.{Shows}
 use Rattle.dom_base.specs.declared.query.Metric.{Metric}
 use Rattle.pcep_messages.specs.declared.message.Answer.{Answer}
@@ -125,9 +126,9 @@ HasNoneAlong q (g ∷ rest) s goal = HasNoCrossing q g rest s goal
 
 -- The path shows a walk from a node that is least through these domains, the first part open or closed, and its metric is the
 -- walk's cost.
-pub record IsLeastPath (c : Codec) (n : NetworkParts) (open' : Bool) (domains : List Rows) (chain : List Leg) (w : Wanted) (from : Addr) (path : Path) : Type 0 where
+pub record IsLeastPath (c : Codec) (n : NetworkParts) (open' : Bool) (domains : List Rows) (chain : List Leg) (end : End) (w : Wanted) (from : Addr) (path : Path) : Type 0 where
   pub legs : List crossing.Leg
   pub last : Last
-  pub least : IsLeastAlong w.query domains from (At w.target) legs last
+  pub least : IsLeastAlong w.query domains from (goal_of end) legs last
   pub metric : path.metric ≡ Some (type_of_metric w.query.metric, c.word (crossing_cost w.query legs last))
-  pub shown : Shows n open' w.query w.target chain from path.hops legs last
+  pub shown : Shows n open' w.query end chain from path.hops legs last
