@@ -13,7 +13,7 @@ use std::marker::Model;
 
 /// What one read of a source gave: how many bytes now stand at the front of the slice, that no
 /// more will come, or that the read failed.
-#[derive(Clone, Copy, Debug, PartialEq, Eq)]
+#[derive(Clone, Copy)]
 pub enum Piece {
     Bytes(usize),
     End,

@@ -16,7 +16,7 @@ use std::{fs, io};
 
 /// Why a file was not read: it has more bytes than the limit, the read failed (a name that is not
 /// there is a fault), or memory ran out.
-#[derive(Clone, Copy, Debug, PartialEq, Eq)]
+#[derive(Clone, Copy)]
 pub enum StoreError {
     TooLong,
     Failed,

@@ -8,7 +8,7 @@ ghost use Rattle.line_text.specs.Lines.{is_skipped as tells_nothing, told_after,
 use std::marker::Model;
 
 /// A line and its number, from 1.
-#[derive(Clone, Copy, Debug)]
+#[derive(Clone, Copy)]
 pub struct Line<'a> {
     pub number: u32,
     pub text: &'a [u8],

@@ -6,7 +6,7 @@ use pcep_capabilities::Offer;
 use pcep_messages::Message;
 
 /// A message of the session itself.
-#[derive(Clone, Copy, Debug, PartialEq, Eq)]
+#[derive(Clone, Copy)]
 pub enum Own {
     Open(Offer),
     Keepalive,
@@ -17,7 +17,7 @@ pub enum Own {
 }
 
 /// Why a session went down.
-#[derive(Clone, Copy, Debug, PartialEq, Eq)]
+#[derive(Clone, Copy)]
 pub enum Reason {
     /// It did not open: the value of the error of type 1.
     Opening(u8),

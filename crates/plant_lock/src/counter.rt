@@ -19,7 +19,7 @@ impl Model for Counter {
 }
 
 /// What may be done to a counter. Every sum admits both acts, and the answer is the sum after it.
-#[derive(Clone, Copy, Debug, PartialEq, Eq)]
+#[derive(Clone, Copy)]
 pub enum Change {
     /// Adds the number. A sum that would not fit its type stays as it was.
     Add(u64),

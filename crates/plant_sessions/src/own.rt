@@ -13,7 +13,7 @@ use plant_model::Lost;
 use std::marker::Model;
 
 /// The octets of a message that is so short.
-#[derive(Clone, Copy, Debug, PartialEq, Eq)]
+#[derive(Clone, Copy)]
 enum Short {
     Word([u8; 4]),
     Object([u8; 12]),

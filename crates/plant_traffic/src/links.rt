@@ -36,7 +36,7 @@ impl Model for Links {
 }
 
 /// The place of a link, and an end of it.
-#[derive(Clone, Copy, Debug, PartialEq, Eq)]
+#[derive(Clone, Copy)]
 struct Place {
     link: usize,
     end: End,
