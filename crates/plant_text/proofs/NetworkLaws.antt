@@ -1,11 +1,10 @@
 -- Networks, and the client that is added.
-use Rattle.std.proofs.Common.{◌≡◌, ℕ, ◌+◌, ◌<◌, ◌≤◌, ◌^◌, true, codes, length, take, drop, All, List, [], ◌∷◌, ◌++◌, None, refl, ap, arith, length-append, subst}
+use Rattle.std.proofs.Common.{◌≡◌, ◌<◌, ◌≤◌, true, codes, length, take, drop, [], ◌∷◌, None, refl, arith, length-append}
 use Rattle.std.proofs.lemmas.List.{take-append-le, drop-append-le, take_all, drop_all}
 use Rattle.std.proofs.lemmas.List.Elements.{All-nil, All-cons, All-append}
 use Rattle.dom_base.specs.declared.names.As.{As}
 use Rattle.plant_text.specs.declared.network.Network.TheInside.{Inside}
 use Rattle.plant_text.specs.declared.settings.NetworkParts.{NetworkParts}
-use Rattle.plant_text.specs.declared.settings.PeerRow.{PeerRow}
 use Rattle.plant_text.specs.Settings.{is_element}
 use Rattle.plant_text.specs.Rules.{rules_of, sheet_of, peer_rules}
 use Rattle.plant_text.specs.Faults.{first_of}

@@ -1,5 +1,5 @@
 -- Rows that have a number.
-use Rattle.std.proofs.Common.{◌≡◌, Bool, true, false, is_some, List, [], ◌∷◌, refl, rules, inl, inr}
+use Rattle.std.proofs.Common.{◌≡◌, is_some, List, [], ◌∷◌, refl, inl, inr}
 use Rattle.std.proofs.lemmas.Bool.{cases_Bool}
 use Rattle.std.specs.List.{list_any}
 use Rattle.dom_base.specs.declared.names.As.{As}

@@ -1,5 +1,5 @@
 -- What settings are like that obey the rules.
-use Rattle.std.proofs.Common.{◌≡◌, ◌≢◌, ℕ, ◌+◌, ◌==◌, ◌&&◌, ◌||◌, ◌<◌, ◌≤◌, Bool, true, false, not, nat_le, nat_lt, is_some, codes, length, All, AllPairs, List, [], ◌∷◌, ◌++◌, Option, Some, None, IfSome, refl, sym, ◌∙◌, ap, subst, append_assoc, arith, inl, inr}
+use Rattle.std.proofs.Common.{◌≡◌, ◌≢◌, ℕ, ◌+◌, ◌==◌, ◌&&◌, ◌||◌, ◌<◌, ◌≤◌, Bool, true, false, not, nat_le, nat_lt, is_some, codes, length, All, AllPairs, List, [], ◌∷◌, ◌++◌, Option, Some, None, IfSome, refl, ap, append_assoc, arith, inl, inr}
 use Rattle.std.proofs.lemmas.Bool.{cases_Bool, and_parts, leb-true, ltb-true, eqb-false}
 use Rattle.std.proofs.lemmas.Bool.Decides.{not_from_Decides}
 use Rattle.std.proofs.lemmas.Slice.Eq.{bytes_eq-Decides}
@@ -18,12 +18,11 @@ use Rattle.plant_text.specs.declared.settings.NetworkParts.{NetworkParts}
 use Rattle.plant_text.specs.declared.settings.ElementRow.{ElementRow}
 use Rattle.plant_text.specs.declared.settings.PeerRow.{PeerRow}
 use Rattle.plant_text.specs.declared.settings.DenyRow.{DenyRow}
-use Rattle.plant_text.specs.declared.sheet.Sheet.{Sheet}
 use Rattle.plant_text.specs.Names.{same_as, same_link, parent_as}
 use Rattle.plant_text.specs.Settings.{is_element}
 use Rattle.plant_text.specs.Rules.{Rules, at_row, rows_from, table, rules_of, sheet_of, is_name, is_class, is_link, is_no_port, element_rules, link_rules, peer_rules, deny_rules, parent_link_rules, is_between, is_domain}
-use Rattle.plant_text.specs.Faults.{AreObeyed, first_of}
-use Rattle.plant_text.specs.Laws.{AreElements, AreLinks, ArePeers, AreDenials, AreParentLinks, AreSettings, RulesAreWorth}
+use Rattle.plant_text.specs.Faults.{first_of}
+use Rattle.plant_text.specs.Laws.{AreElements, AreLinks, ArePeers, AreDenials, AreParentLinks, RulesAreWorth}
 use Rattle.plant_text.proofs.RuleLaws.{none_of, none_front, none_back, few_rows}
 use Rattle.plant_text.proofs.SheetLaws.{AreClear, all_clear, left_false, right_false}
 

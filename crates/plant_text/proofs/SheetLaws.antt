@@ -1,6 +1,5 @@
 -- A sheet that breaks no rule is that of its settings, and what these are then.
-use Rattle.std.proofs.Common.{◌≡◌, ℕ, Bool, true, false, not, ◌||◌, codes, map, List, [], ◌∷◌, ◌++◌, Option, Some, None, refl, subst, inl, inr}
-use Rattle.std.proofs.lemmas.Bool.{cases_Bool}
+use Rattle.std.proofs.Common.{◌≡◌, ℕ, Bool, true, false, not, ◌||◌, codes, List, [], ◌∷◌, ◌++◌, Option, Some, None, refl, subst}
 use Rattle.std.specs.List.{list_any}
 use Rattle.plant_text.specs.declared.fault.Breach.{Breach}
 use Rattle.plant_text.specs.declared.fault.NetFault.{NetFault}

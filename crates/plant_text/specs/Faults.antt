@@ -1,5 +1,5 @@
 -- Which fault of settings is told.
-use Rattle.std.specs.Prelude.{◌≡◌, Bool, true, false, All, List, [], ◌∷◌, ◌++◌, Option, Some, None, Result, Ok, Err, if◌then◌else◌}
+use Rattle.std.specs.Prelude.{◌≡◌, true, false, All, [], ◌∷◌, ◌++◌, Option, Some, None, Result, Ok, Err, if◌then◌else◌}
 use Rattle.plant_text.specs.declared.fault.NetFault.{NetFault}
 use Rattle.plant_text.specs.declared.fault.NetError.{NetError}
 use Rattle.plant_text.specs.declared.fault.NetError.TheVariants.{Fault, NoMemory}

@@ -1,5 +1,5 @@
 -- What a TOML document says of a network: the rows of its tables, up to the first that is out of form.
-use Rattle.std.specs.Prelude.{ℕ, pos, ◌+◌, ◌-◌, ◌^◌, ◌&&◌, ◌||◌, Bool, true, false, not, nat_le, nat_lt, is_some, is_none, unwrap_or, codes, find, List, [], ◌∷◌, Option, Some, None, if◌then◌else◌}
+use Rattle.std.specs.Prelude.{ℕ, pos, ◌+◌, ◌-◌, ◌^◌, ◌&&◌, Bool, true, false, not, nat_le, nat_lt, is_some, is_none, unwrap_or, codes, find, List, [], ◌∷◌, Option, Some, None, if◌then◌else◌}
 use Rattle.std.specs.List.{list_all, list_any}
 use Rattle.std.specs.Str.{bytes_eq}
 use Rattle.dom_base.specs.declared.names.As.{As}
@@ -13,7 +13,6 @@ use Rattle.disclosure.specs.declared.class.Class.{Class}
 use Rattle.disclosure.specs.declared.class.Class.TheVariants.{Client, Neighbour, Parent}
 use Rattle.te_links.specs.declared.limits.TheConstants.{SRLGS_MAX}
 use Rattle.toml.specs.Data.{Data, Items, no_items, item, Members, no_members, member, integer, array, table, get_member, as_str, as_bool}
-use Rattle.plant_text.specs.declared.settings.NetworkParts.{NetworkParts}
 use Rattle.plant_text.specs.declared.settings.ElementRow.{ElementRow}
 use Rattle.plant_text.specs.declared.settings.PeerRow.{PeerRow}
 use Rattle.plant_text.specs.declared.settings.DenyRow.{DenyRow}

@@ -1,4 +1,4 @@
-use Rattle.std.proofs.Common.{codes, sym, ◌∙◌, ap, option_map, refl}
+use Rattle.std.proofs.Common.{codes, sym, ◌∙◌, ap, option_map}
 use Rattle.plant_text.specs.Rules.{at_row, table, told, parent_rules, parent_link_rules}
 use Rattle.plant_text.proofs.RuleLaws.{first_at_row, tells_behind}
 use Rattle.plant_text.proofs.check.check_parent.Goals as goal

@@ -1,4 +1,4 @@
-use Rattle.std.proofs.Common.{◌≡◌, ◌∙◌, sym, le-leb}
+use Rattle.std.proofs.Common.{◌∙◌, sym, le-leb}
 use Rattle.std.proofs.lemmas.Bool.{lt-leb}
 use Rattle.plant_text.proofs.RuleLaws.{row_past, row_breaks, row_passes}
 use Rattle.plant_text.proofs.check.check_rows.Goals as goal
