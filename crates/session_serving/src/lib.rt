@@ -1,0 +1,19 @@
+//! Sessions over connections: a session's loop over a desk and a link, a port that serves one connection
+//! after the other, what carries messages between elements, and what tells the time. No call here waits
+//! but by what it is handed.
+#![tactic(auto)]
+
+mod carrying;
+mod desks;
+mod port;
+mod sessions;
+mod ticking;
+mod turn;
+mod writing;
+
+pub use carrying::carry_links;
+pub use desks::{Desk, DeskRefused};
+pub use plant_model as model;
+pub use port::{Ran, serve_port};
+pub use sessions::{Ended, serve_session};
+pub use ticking::tick_on;
