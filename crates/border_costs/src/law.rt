@@ -1,11 +1,13 @@
 //! What the rows of an ask are worth, as laws: the contracts of calls that do nothing.
-ghost use Rattle.border_costs.specs.Composing.{RowsCompose, RowsEnd, TableTellsPairs};
+ghost use Rattle.border_costs.specs.Composing.{RowsCompose, RowsEnd, RowsReport, TableTellsPairs};
 
 /// A law: over right rows of the next domain, the rows of a domain tell the least costs of the whole
 /// list of domains, and an entry has no row exactly where there is no walk (RFC 5441, section 4.2).
+/// Where the last domain has rows that were told from beyond it, walks end over one of those.
 pub fn rows_compose()
     ensures border { RowsCompose }
     ensures last { RowsEnd }
+    ensures told { RowsReport }
 {}
 
 /// A law: the join of a border table with what lies beyond is the pair of each entry, so a border

@@ -3,7 +3,7 @@ use dom_base::{Addr, List};
 use path_search::Labels;
 
 /// The next link of a chosen segment: its far address, and the place of the node that it ends at.
-#[derive(Clone, Copy, Debug, PartialEq, Eq)]
+#[derive(Clone, Copy)]
 pub struct Next {
     pub far: Addr,
     pub end: u32,

@@ -6,7 +6,7 @@ use dom_base::As;
 
 /// What a peer is to an element. Neighbours and parents are the closed peers: they are shown keys in
 /// place of segments.
-#[derive(Clone, Copy, Debug, PartialEq, Eq)]
+#[derive(Clone, Copy)]
 pub enum Class {
     /// A client, and whether it may have keys expanded.
     Client { expand: bool },

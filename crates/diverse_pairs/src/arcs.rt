@@ -1,7 +1,7 @@
 //! Arcs between places of nodes, one for each link that may be taken.
 
 /// A link that may be taken, between the places of two nodes.
-#[derive(Clone, Copy, Debug, PartialEq, Eq)]
+#[derive(Clone, Copy)]
 pub struct Arc {
     pub tail: usize,
     pub head: usize,

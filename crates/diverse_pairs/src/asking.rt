@@ -21,7 +21,7 @@ pub struct Pair {
 }
 
 /// Why requests ask for no pair.
-#[derive(Clone, Copy, Debug, PartialEq, Eq)]
+#[derive(Clone, Copy)]
 pub enum PairError {
     /// One of the first two is answered with this type and value of PCEP-ERROR.
     Refused(u8, u8),

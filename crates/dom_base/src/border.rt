@@ -3,7 +3,7 @@ use crate::{Addr, As, Cost, Link};
 
 /// A row of a border table: the least cost from an entry over an out link. `far` is the link's
 /// far address and `head` the node beyond it; for a target in this domain both are the target.
-#[derive(Clone, Copy, Debug, PartialEq, Eq)]
+#[derive(Clone, Copy)]
 pub struct BorderRow {
     pub entry: Addr,
     pub far: Addr,

@@ -7,19 +7,19 @@ use std::alloc::{AllocError, AllocFailed};
 pub struct As(pub u16);
 
 /// A moment, in seconds.
-#[derive(Clone, Copy, Debug, PartialEq, Eq, PartialOrd, Ord, Hash)]
+#[derive(Clone, Copy, PartialEq, Eq, PartialOrd, Ord)]
 pub struct Tick(pub u64);
 
 /// Who is at the other end of a session: an outside peer by its number, or an element by its
 /// domain. `Inner(As(0))` is the parent.
-#[derive(Clone, Copy, Debug, PartialEq, Eq, PartialOrd, Ord, Hash)]
+#[derive(Clone, Copy, PartialEq, Eq, Hash)]
 pub enum Peer {
     Outside(u32),
     Inner(As),
 }
 
 /// A growth of memory was refused.
-#[derive(Clone, Copy, Debug, PartialEq, Eq)]
+#[derive(Clone, Copy, Debug)]
 pub struct NoMemory;
 
 impl From<AllocError> for NoMemory {

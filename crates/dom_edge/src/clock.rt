@@ -42,6 +42,7 @@ impl Model for MemoryClock {
 }
 
 impl MemoryClock {
+    /// A clock that tells these readings in order, none below the one before, and then the last one again.
     pub fn new(readings: Rows<Tick>) -> Self
         ensures { result ≡ record { later = readings; last = 0; readings = 0 } }
     {

@@ -61,6 +61,8 @@ impl Model for MemoryListener {
 }
 
 impl MemoryListener {
+    /// A listener in memory that hands out these links in order and is quiet behind the last. Calls whose numbers, from 0, stand in
+    /// `fails` fail.
     pub fn new(links: Rows<MemoryLink>, fails: Rows<u64>) -> Self
         ensures { result ≡ record { links = links; port = 0; quiets = 0; calls = no_calls fails } }
     {
@@ -139,6 +141,7 @@ impl Model for SteadyListener {
 }
 
 impl SteadyListener {
+    /// A listener that hands out these links in order and never fails: it is quiet behind the last.
     pub fn new(links: Rows<MemoryLink>) -> Self
         ensures { result ≡ record { links = links; quiets = 0 } }
     {

@@ -59,6 +59,8 @@ impl Model for MemoryPorts {
 }
 
 impl MemoryPorts {
+    /// Ports in memory, whichever is asked for: each call opens the first of these listeners that is left. It fails where none is,
+    /// and at the calls whose numbers, from 0, stand in `fails`.
     pub fn new(listeners: Rows<MemoryListener>, fails: Rows<u64>) -> Self
         ensures { result ≡ record { listeners = listeners; failed_at = 0; calls = no_calls fails } }
     {

@@ -51,6 +51,7 @@ impl Model for MemorySink {
 }
 
 impl MemorySink {
+    /// A sink in memory. Calls whose numbers, from 0, stand in `fails` fail.
     pub fn new(alloc: Global, fails: Rows<u64>) -> Self
         ensures { result ≡ record { written = []; calls = no_calls fails } }
     {
@@ -106,6 +107,7 @@ impl<W: Write + Drop> Model for OutputSink<W> {
 }
 
 impl<W: Write + Drop> OutputSink<W> {
+    /// A sink that writes to this writer.
     pub fn new(writer: W) -> Self
         ensures { result ≡ record { inner = writer; faults = 0 } }
     {

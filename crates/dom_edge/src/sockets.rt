@@ -222,6 +222,7 @@ impl<R: Net + Clock + Copy + Drop> Model for SocketPorts<R> {
 }
 
 impl<R: Net + Clock + Copy + Drop> SocketPorts<R> {
+    /// Ports at this address of the machine, none of which is open yet.
     pub fn new(rt: R, address: IpAddr) -> Self
         ensures { result ≡ record { calls = 0; faults = 0; failed_at = 0 } }
     {

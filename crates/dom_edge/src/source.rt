@@ -13,7 +13,7 @@ use std::marker::Model;
 
 /// What one read of a source gave: how many bytes now stand at the front of the slice, that no
 /// more will come, or that the read failed.
-#[derive(Clone, Copy, Debug, PartialEq, Eq)]
+#[derive(Clone, Copy)]
 pub enum Piece {
     Bytes(usize),
     End,
@@ -63,6 +63,7 @@ impl Model for MemorySource {
 }
 
 impl MemorySource {
+    /// A source in memory of these bytes. Calls whose numbers, from 0, stand in `fails` fail.
     pub fn new(bytes: Bytes, fails: Rows<u64>) -> Self
         ensures { result ≡ record { left = bytes; calls = no_calls fails } }
     {
@@ -110,6 +111,7 @@ impl Model for SteadySource {
 }
 
 impl SteadySource {
+    /// A source in memory of these bytes that never fails.
     pub fn new(bytes: Bytes) -> Self
         ensures { result ≡ bytes }
     {
@@ -145,6 +147,7 @@ impl<R: Read + Drop> Model for InputSource<R> {
 }
 
 impl<R: Read + Drop> InputSource<R> {
+    /// A source that reads from this reader.
     pub fn new(reader: R) -> Self
         ensures { result ≡ record { inner = reader; faults = 0 } }
     {

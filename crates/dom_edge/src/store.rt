@@ -16,7 +16,7 @@ use std::{fs, io};
 
 /// Why a file was not read: it has more bytes than the limit, the read failed (a name that is not
 /// there is a fault), or memory ran out.
-#[derive(Clone, Copy, Debug, PartialEq, Eq)]
+#[derive(Clone, Copy)]
 pub enum StoreError {
     TooLong,
     Failed,
@@ -62,6 +62,8 @@ impl Model for MemoryStore {
 }
 
 impl MemoryStore {
+    /// A store in memory of these files, by their names. Calls whose numbers, from 0, stand in `fails` fail, and so does each for a
+    /// name that it has not.
     pub fn new(alloc: Global, files: Rows<(Text, Bytes)>, fails: Rows<u64>) -> Self
         ensures { result ≡ record { files = files; failed_at = []; calls = no_calls fails } }
     {
@@ -179,6 +181,7 @@ impl<R: Files + Drop> Model for FileStore<R> {
 }
 
 impl<R: Files + Drop> FileStore<R> {
+    /// The files of the working folder.
     pub fn new(alloc: Global, rt: R) -> Self
         ensures { result ≡ record { faults = 0; failed_at = [] } }
     {

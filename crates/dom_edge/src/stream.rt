@@ -48,6 +48,7 @@ impl Model for MemoryStream {
 }
 
 impl MemoryStream {
+    /// A stream in memory that brings these pieces in order. Calls whose numbers, from 0, stand in `fails` fail.
     pub fn new(pieces: Rows<Bytes>, fails: Rows<u64>) -> Self
         ensures { result ≡ record { pieces = new_pieces pieces; calls = no_calls fails } }
     {
@@ -94,6 +95,7 @@ impl Model for SteadyStream {
 }
 
 impl SteadyStream {
+    /// A stream in memory that brings these pieces in order and never fails.
     pub fn new(pieces: Rows<Bytes>) -> Self
         ensures { result ≡ new_pieces pieces }
     {

@@ -47,6 +47,7 @@ impl Model for MemoryLink {
 }
 
 impl MemoryLink {
+    /// A wire whose reading side is this stream and whose writing side is this sink.
     pub fn new(stream: MemoryStream, sink: MemorySink) -> Self
         ensures { result ≡ record { stream = stream; sink = sink } }
     {

@@ -26,4 +26,5 @@ settings = record {
   parent = None;
   parent_links = [];
   workers = 2;
+  watch = None;
 }

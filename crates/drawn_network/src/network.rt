@@ -72,6 +72,7 @@ fn parts(alloc: Global) -> Result<NetworkParts, NoMemory>
         parent: None,
         parent_links: List::new(alloc),
         workers: 2,
+        watch: None,
     })
 }
 

@@ -9,7 +9,7 @@ use dom_base::{Addr, As, List, NoMemory};
 use std::alloc::Global;
 
 /// From where, and to where.
-#[derive(Clone, Copy, Debug)]
+#[derive(Clone, Copy)]
 pub struct Ends {
     pub source: Addr,
     pub target: Addr,

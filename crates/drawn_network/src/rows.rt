@@ -15,7 +15,7 @@ pub(crate) const DOMAINS: u8 = 4;
 pub(crate) const NODES: u8 = 50;
 
 /// The numbers of the nodes between which a link goes.
-#[derive(Clone, Copy, Debug, PartialEq, Eq)]
+#[derive(Clone, Copy)]
 pub struct Span {
     pub from: u8,
     pub to: u8,

@@ -6,7 +6,7 @@ use dom_base::NoMemory;
 use std::alloc::{AllocFailed, Global};
 
 /// Why a text gave no bytes.
-#[derive(Clone, Copy, Debug, PartialEq, Eq)]
+#[derive(Clone, Copy, Debug)]
 pub enum HexError {
     NotHex,
     NoMemory,

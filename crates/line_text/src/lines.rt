@@ -8,7 +8,7 @@ ghost use Rattle.line_text.specs.Lines.{is_skipped as tells_nothing, told_after,
 use std::marker::Model;
 
 /// A line and its number, from 1.
-#[derive(Clone, Copy, Debug)]
+#[derive(Clone, Copy)]
 pub struct Line<'a> {
     pub number: u32,
     pub text: &'a [u8],
@@ -125,6 +125,7 @@ impl<'a> Lines<'a> {
         }
     }
 
+    /// The next line with its number, which counts from 1, or none at the end.
     pub fn next_line(&mut self) -> Option<Line<'a>>
         ensures { MatchOption result
             ((self.old ≡ []) × (self.new ≡ []))

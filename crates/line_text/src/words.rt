@@ -72,6 +72,7 @@ impl<'a> Words<'a> {
         Words { rest: line }
     }
 
+    /// The next word, or none at the end.
     pub fn next_word(&mut self) -> Option<&'a [u8]>
         ensures { MatchOption result ((self.old ≡ []) × (self.new ≡ [])) (λ word. self.old ≡ word.now ∷ self.new) }
     {

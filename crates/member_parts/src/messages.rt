@@ -1,7 +1,8 @@
 //! The messages that elements and the parent write (RFC 5440, section 6).
 ghost use Rattle.std.specs.Prelude.{◌≡◌, ◌++◌, ◌∷◌, [], IfOk, OnOk};
 ghost use Rattle.std.specs.Option.{option_to_list};
-ghost use Rattle.plant_model.specs.Writing.{asked_of, busy, error_message, no_key, no_path, reply_message, request_message, unavailable};
+ghost use Rattle.plant_model.specs.Writing.{asked_of, busy, error_message, iro, no_key, no_path, reply_message, request_message, unavailable, xro};
+ghost use Rattle.member_parts.specs.Messages.{first_objects};
 
 use crate::objects::{
     bandwidth_object, bound_object, ends, exclusions_object, masks_object, needed, sequence_object,
@@ -36,6 +37,48 @@ fn add(objects: &mut List<Object>, object: Option<Object>) -> Result<(), NoMemor
     }
 }
 
+// What a request that is sent on says before the domains and the exclusions.
+fn put_first(
+    objects: &mut List<Object>,
+    id: u32,
+    wanted: &Wanted,
+    target: Addr,
+) -> Result<(), NoMemory>
+    ensures { OnOk result (objects.new ≡ objects.old ++ first_objects id wanted.now target) }
+{
+    let rp = Body::Rp {
+        flags: flags::VSPT,
+        id,
+    };
+    objects.push(needed(classes::RP, rp))?;
+    objects.push(ends(wanted.source, target))?;
+    add(objects, masks_object(wanted.masks))?;
+    add(objects, bandwidth_object(wanted.bandwidth_word))?;
+    let metric = wanted.query.metric;
+    let computed = Body::Metric {
+        bound: false,
+        computed: true,
+        kind: type_of_metric(metric),
+        word: 0,
+    };
+    objects.push(needed(classes::METRIC, computed))?;
+    add(objects, bound_object(metric, wanted.bound_word))
+}
+
+// What it says behind them.
+fn put_last(
+    alloc: Global,
+    objects: &mut List<Object>,
+    query: &Query,
+    sequence: &[As],
+) -> Result<(), NoMemory>
+    ensures { OnOk result (objects.new ≡ objects.old ++ iro sequence.now ++ xro query.now.exclusions) }
+{
+    add(objects, sequence_object(alloc, sequence)?)?;
+    let query = query.copy(alloc)?;
+    add(objects, exclusions_object(exclusions_of(query)))
+}
+
 // A request as it is sent on, under an id, to an end and along a sequence.
 fn asked_of(
     alloc: Global,
@@ -46,27 +89,9 @@ fn asked_of(
 ) -> Result<Asked, NoMemory>
     ensures { IfOk result (λ asked. asked ≡ asked_of id wanted.now target sequence.now) }
 {
-    let query = wanted.query.copy(alloc)?;
-    let metric = query.metric;
-    let rp = Body::Rp {
-        flags: flags::VSPT,
-        id,
-    };
-    let computed = Body::Metric {
-        bound: false,
-        computed: true,
-        kind: type_of_metric(metric),
-        word: 0,
-    };
     let mut objects = List::new(alloc);
-    objects.push(needed(classes::RP, rp))?;
-    objects.push(ends(wanted.source, target))?;
-    add(&mut objects, masks_object(wanted.masks))?;
-    add(&mut objects, bandwidth_object(wanted.bandwidth_word))?;
-    objects.push(needed(classes::METRIC, computed))?;
-    add(&mut objects, bound_object(metric, wanted.bound_word))?;
-    add(&mut objects, sequence_object(alloc, sequence)?)?;
-    add(&mut objects, exclusions_object(exclusions_of(query)))?;
+    put_first(&mut objects, id, wanted, target)?;
+    put_last(alloc, &mut objects, &wanted.query, sequence)?;
     Ok(Asked { objects })
 }
 

@@ -40,18 +40,21 @@ impl Way {
         }
     }
 
+    /// The member at the other end.
     pub fn peer(&self) -> Peer
         ensures { result ≡ self.now.peer }
     {
         self.peer
     }
 
+    /// Whether the session with it is up.
     pub fn is_up(&self) -> bool
         ensures { result ≡ self.now.up }
     {
         self.up
     }
 
+    /// The id that was last given to a request sent to it, 0 before the first.
     pub fn last_id(&self) -> u32
         ensures { result ≡ self.now.last_id }
     {

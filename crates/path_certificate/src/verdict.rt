@@ -4,7 +4,7 @@ use std::fmt::{self, Display, Formatter, Write};
 
 /// Where a condition of a certificate stands: at a seed, at a link or a node in the topology's
 /// order, or at an address of the path, each counted from 0.
-#[derive(Clone, Copy, Debug, PartialEq, Eq)]
+#[derive(Clone, Copy)]
 pub enum Place {
     Seed(u32),
     Link(u32),
@@ -27,7 +27,7 @@ impl Display for Place {
 /// at the seed's node, of the link's beginning or of the node; `bound` is the seed's label, or the
 /// sum of the link's weight and the label of its end, with that label's exit. Both are absent for
 /// the path.
-#[derive(Clone, Copy, Debug, PartialEq, Eq)]
+#[derive(Clone, Copy)]
 pub enum Verdict {
     Holds,
     Fails {

@@ -7,7 +7,7 @@ use dom_base::{Addr, Excluded, Exclusion, List, NoMemory};
 use std::alloc::Global;
 
 /// Why exclusions can't be kept.
-#[derive(Clone, Copy, Debug, PartialEq, Eq)]
+#[derive(Clone, Copy, Debug)]
 pub enum ExclusionError {
     /// The place, from 0, of the first one that is demanded and not supported.
     Unsupported(usize),

@@ -69,24 +69,28 @@ impl<P: Drop> Accepted<P> {
         self.pin
     }
 
+    /// Whether a client, a neighbour or the parent asked.
     pub fn class(&self) -> Class
         ensures { result ≡ self.now.class }
     {
         self.opening.class
     }
 
+    /// The flags of the request's RP, as they came.
     pub fn flags(&self) -> u32
         ensures { result ≡ self.now.flags }
     {
         self.opening.flags
     }
 
+    /// What is asked for: the two ends, metric, bound and constraints.
     pub fn wanted(&self) -> &Wanted
         ensures { result.now ≡ self.now.wanted }
     {
         &self.opening.wanted
     }
 
+    /// The domains that the path is to go through, the own one first.
     pub fn sequence(&self) -> &[As]
         ensures { result.now ≡ self.now.sequence }
     {

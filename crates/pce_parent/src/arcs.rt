@@ -14,7 +14,7 @@ use std::alloc::Global;
 
 /// An edge between the places of two vertices: its cost, the address that ties are broken by, and its
 /// place among the rows or the links.
-#[derive(Clone, Copy, Debug, PartialEq, Eq)]
+#[derive(Clone, Copy)]
 pub struct Arc {
     pub from: usize,
     pub to: usize,

@@ -54,18 +54,21 @@ impl Asking {
         })
     }
 
+    /// The flags of the request's RP, as they came.
     pub fn flags(&self) -> u32
         ensures { result ≡ self.now.flags }
     {
         self.flags
     }
 
+    /// What is asked for: the two ends, metric, bound and constraints.
     pub fn wanted(&self) -> &Wanted
         ensures { result.now ≡ self.now.wanted }
     {
         &self.wanted
     }
 
+    /// The requests to children that are not answered yet.
     pub fn waits(&self) -> &[Wait]
         ensures { result.now ≡ self.now.waits }
     {

@@ -21,6 +21,7 @@ pub struct Ending {
 }
 
 impl Ending {
+    /// Nothing ends, and nothing is said.
     pub fn new(alloc: Global) -> Ending
         ensures numbers { result.numbers.items ≡ [] }
         ensures outputs { result.outputs ≡ [] }
@@ -31,6 +32,7 @@ impl Ending {
         }
     }
 
+    /// The numbers of the requests that end, in the order in which they were found.
     pub fn numbers(&self) -> &[u64]
         ensures { result.now ≡ self.now.numbers.items }
     {

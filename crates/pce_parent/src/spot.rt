@@ -7,7 +7,7 @@ use dom_base::{Addr, As};
 
 /// A vertex as plain numbers: whether a domain is left there, the domain, and the kind and the number of
 /// the address.
-#[derive(Clone, Copy, Debug, PartialEq, Eq, Hash)]
+#[derive(Clone, Copy, PartialEq, Eq, Hash)]
 pub struct Spot {
     pub leaves: bool,
     pub own: As,

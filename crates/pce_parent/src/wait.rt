@@ -41,12 +41,14 @@ impl Wait {
         }
     }
 
+    /// The domain whose element was asked.
     pub fn child(&self) -> As
         ensures { result ≡ self.now.child }
     {
         self.child
     }
 
+    /// The end about which it was asked.
     pub fn target(&self) -> Addr
         ensures { result ≡ self.now.target }
     {

@@ -13,7 +13,7 @@ use std::alloc::Global;
 use std::fmt;
 
 /// Why an input is no request that a command answers.
-#[derive(Clone, Copy, Debug, PartialEq, Eq)]
+#[derive(Clone, Copy)]
 pub enum Why {
     /// It is no hexadecimal text.
     Hex,
@@ -41,7 +41,7 @@ impl fmt::Display for Why {
 }
 
 /// Why there is no request.
-#[derive(Clone, Copy, Debug, PartialEq, Eq)]
+#[derive(Clone, Copy)]
 pub enum RequestError {
     Not(Why),
     NoMemory,

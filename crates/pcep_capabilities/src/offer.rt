@@ -1,7 +1,7 @@
 //! What an OPEN offers.
 /// What one end of a session offers in its OPEN object (RFC 5440, section 7.3; RFC 8231, section
 /// 7.1.1).
-#[derive(Clone, Copy, Debug, PartialEq, Eq)]
+#[derive(Clone, Copy)]
 pub struct Offer {
     /// The longest time between two messages of this end, in seconds; 0 is no limit.
     pub keepalive: u8,
@@ -15,7 +15,7 @@ pub struct Offer {
 }
 
 /// What holds for one end of an open session.
-#[derive(Clone, Copy, Debug, PartialEq, Eq)]
+#[derive(Clone, Copy)]
 pub struct Agreed {
     /// The longest time between two messages that this end sends, in seconds; 0 is no limit.
     pub keepalive: u8,

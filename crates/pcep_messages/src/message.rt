@@ -71,7 +71,7 @@ pub struct ErrorReport {
 }
 
 /// Why a frame is no message.
-#[derive(Clone, Copy, Debug, PartialEq, Eq)]
+#[derive(Clone, Copy, Debug)]
 pub enum Bad {
     /// The number, from 0, of the first octet of the object at fault; 0 where the header is, and 4
     /// where an Open or Close message does not begin with its object.
@@ -118,7 +118,7 @@ pub struct Wanted {
 }
 
 /// Why a request is refused.
-#[derive(Clone, Copy, Debug, PartialEq, Eq)]
+#[derive(Clone, Copy)]
 pub enum Refusal {
     /// The flags and the number of its RP, where it has one, and the type and value of the error
     /// (RFC 5440, section 7.15).
@@ -139,7 +139,7 @@ impl From<NoMemory> for Refusal {
 }
 
 /// Why a message is not written.
-#[derive(Clone, Copy, Debug, PartialEq, Eq)]
+#[derive(Clone, Copy, Debug)]
 pub enum WriteError {
     /// Its text has more octets than a message may have.
     TooLong,

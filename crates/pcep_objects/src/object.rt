@@ -18,7 +18,7 @@ pub struct Object {
 }
 
 /// What an OPEN object says (RFC 5440, section 7.3).
-#[derive(Clone, Copy, Debug, PartialEq, Eq)]
+#[derive(Clone, Copy)]
 pub struct OpenBody {
     /// The version of the protocol, below 8; 1 is the one that is spoken.
     pub version: u8,
@@ -85,7 +85,7 @@ pub enum Body {
 }
 
 /// Why no object stands at the front of some octets.
-#[derive(Clone, Copy, Debug, PartialEq, Eq)]
+#[derive(Clone, Copy, Debug)]
 pub enum ObjectFault {
     /// The octets end inside the object.
     Short,
@@ -105,7 +105,7 @@ impl From<NoMemory> for ObjectFault {
 }
 
 /// A TLV passes the end of its body.
-#[derive(Clone, Copy, Debug, PartialEq, Eq)]
+#[derive(Clone, Copy, Debug)]
 pub enum TlvFault {
     PastEnd,
 }

@@ -12,14 +12,20 @@ use pcep_codes::{classes, flags, kinds, tlvs};
 use pcep_subobjects::{Hop, Spelled, put_addr, write_exclusions, write_hops};
 use std::alloc::Global;
 
+fn put_octets(text: &mut Vec<u8>, octets: &[u8]) -> Result<(), NoMemory>
+    ensures { OnOk result (text.new.items ≡ text.old.items ++ octets.now) }
+{
+    text.extend_from_slice(octets)?;
+    Ok(())
+}
+
 /// A TLV of one word.
 fn put_tlv(text: &mut Vec<u8>, kind: u16, word: u32) -> Result<(), NoMemory>
     ensures { OnOk result (text.new.items ≡ text.old.items ++ tlv_text kind word) }
 {
     let [high, low] = kind.to_be_bytes();
     let [a, b, c, d] = word.to_be_bytes();
-    text.extend_from_slice(&[high, low, 0, 4, a, b, c, d])?;
-    Ok(())
+    put_octets(text, &[high, low, 0, 4, a, b, c, d])
 }
 
 fn put_open(text: &mut Vec<u8>, opening: OpenBody) -> Result<(), NoMemory>
@@ -49,8 +55,7 @@ fn put_two(text: &mut Vec<u8>, first: u32, second: u32) -> Result<(), NoMemory>
 {
     let [a, b, c, d] = first.to_be_bytes();
     let [e, f, g, h] = second.to_be_bytes();
-    text.extend_from_slice(&[a, b, c, d, e, f, g, h])?;
-    Ok(())
+    put_octets(text, &[a, b, c, d, e, f, g, h])
 }
 
 fn put_masks(
@@ -64,8 +69,7 @@ fn put_masks(
     let [a, b, c, d] = exclude_any.to_be_bytes();
     let [e, f, g, h] = include_any.to_be_bytes();
     let [i, j, k, l] = include_all.to_be_bytes();
-    text.extend_from_slice(&[a, b, c, d, e, f, g, h, i, j, k, l])?;
-    Ok(())
+    put_octets(text, &[a, b, c, d, e, f, g, h, i, j, k, l])
 }
 
 fn put_metric(
@@ -79,8 +83,7 @@ fn put_metric(
 {
     let [a, b, c, d] = word.to_be_bytes();
     let flags = flag(computed, flags::COMPUTED) + flag(bound, flags::BOUND);
-    text.extend_from_slice(&[0, 0, flags, kind, a, b, c, d])?;
-    Ok(())
+    put_octets(text, &[0, 0, flags, kind, a, b, c, d])
 }
 
 fn put_ends(text: &mut Vec<u8>, source: Addr, target: Addr) -> Result<(), NoMemory>
@@ -101,19 +104,19 @@ fn put_body(alloc: Global, text: &mut Vec<u8>, body: &Body) -> Result<(), NoMemo
     ensures { OnOk result (text.new.items ≡ text.old.items ++ body_text body.now) }
 {
     match body {
-        Body::Open(opening) => put_open(text, *opening)?,
-        Body::Rp { flags, id } => put_two(text, *flags, *id)?,
-        Body::NoPath { nature, vector } => put_no_path(text, *nature, *vector)?,
-        Body::EndPoints { source, target } => put_ends(text, *source, *target)?,
-        Body::Bandwidth(word) => text.extend_from_slice(&word.to_be_bytes())?,
+        Body::Open(opening) => put_open(text, *opening),
+        Body::Rp { flags, id } => put_two(text, *flags, *id),
+        Body::NoPath { nature, vector } => put_no_path(text, *nature, *vector),
+        Body::EndPoints { source, target } => put_ends(text, *source, *target),
+        Body::Bandwidth(word) => put_octets(text, &word.to_be_bytes()),
         Body::Metric {
             bound,
             computed,
             kind,
             word,
-        } => put_metric(text, *bound, *computed, *kind, *word)?,
+        } => put_metric(text, *bound, *computed, *kind, *word),
         Body::Ero(route) | Body::Iro(route) | Body::PathKey(route) => {
-            write_hops(alloc, route.as_slice(), text)?
+            write_hops(alloc, route.as_slice(), text)
         }
         Body::Lspa {
             exclude_any,
@@ -124,16 +127,15 @@ fn put_body(alloc: Global, text: &mut Vec<u8>, body: &Body) -> Result<(), NoMemo
             flags,
         } => {
             put_masks(text, *exclude_any, *include_any, *include_all)?;
-            text.extend_from_slice(&[*setup, *holding, *flags, 0])?;
+            put_octets(text, &[*setup, *holding, *flags, 0])
         }
         Body::Notification(kind, value) | Body::Error(kind, value) => {
-            text.extend_from_slice(&[0, 0, *kind, *value])?
+            put_octets(text, &[0, 0, *kind, *value])
         }
-        Body::Close(reason) => text.extend_from_slice(&[0, 0, 0, *reason])?,
-        Body::Xro(list) => put_xro(alloc, text, list)?,
-        Body::Unread(bytes) => text.extend_from_slice(bytes.as_slice())?,
+        Body::Close(reason) => put_octets(text, &[0, 0, 0, *reason]),
+        Body::Xro(list) => put_xro(alloc, text, list),
+        Body::Unread(bytes) => put_octets(text, bytes.as_slice()),
     }
-    Ok(())
 }
 
 /// Appends a header and a body, whose length the header has modulo 65536.

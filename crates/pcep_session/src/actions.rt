@@ -6,7 +6,7 @@ use pcep_capabilities::Offer;
 use pcep_messages::Message;
 
 /// A message of the session itself.
-#[derive(Clone, Copy, Debug, PartialEq, Eq)]
+#[derive(Clone, Copy)]
 pub enum Own {
     Open(Offer),
     Keepalive,
@@ -17,7 +17,7 @@ pub enum Own {
 }
 
 /// Why a session went down.
-#[derive(Clone, Copy, Debug, PartialEq, Eq)]
+#[derive(Clone, Copy)]
 pub enum Reason {
     /// It did not open: the value of the error of type 1.
     Opening(u8),
@@ -65,6 +65,7 @@ pub(crate) fn send_error(error: (u8, u8)) -> Action
 impl Actions {
     ghost use Rattle.pcep_session.specs.Listed.{listed};
 
+    /// Nothing is done.
     pub fn none() -> Actions
         ensures { listed result ≡ [] }
     {
@@ -75,6 +76,7 @@ impl Actions {
         }
     }
 
+    /// This alone is done.
     pub fn one(action: Action) -> Actions
         ensures { listed result ≡ action ∷ [] }
     {
@@ -85,6 +87,7 @@ impl Actions {
         }
     }
 
+    /// These are done, in this order.
     pub fn two(first: Action, second: Action) -> Actions
         ensures { listed result ≡ first ∷ second ∷ [] }
     {
@@ -95,6 +98,7 @@ impl Actions {
         }
     }
 
+    /// These are done, in this order: no input asks for more.
     pub fn three(first: Action, second: Action, third: Action) -> Actions
         ensures { listed result ≡ first ∷ second ∷ third ∷ [] }
     {

@@ -25,7 +25,7 @@ pub enum Input {
 
 /// One side of a session, which contracts see as its state. It is small and `Copy`, so a copy can be
 /// stepped and kept or not.
-#[derive(Clone, Copy, Debug, PartialEq, Eq)]
+#[derive(Clone, Copy)]
 pub struct Session {
     state: State,
 }

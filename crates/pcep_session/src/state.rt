@@ -13,7 +13,7 @@ use pcep_messages::{ErrorReport, Message};
 use pcep_objects::OpenBody;
 
 /// The states of RFC 5440, appendix A, after the connection is there.
-#[derive(Clone, Copy, Debug, PartialEq, Eq)]
+#[derive(Clone, Copy)]
 pub enum Phase {
     Idle,
     OpenWait,
@@ -23,7 +23,7 @@ pub enum Phase {
 }
 
 /// When the last four messages of unknown types came.
-#[derive(Clone, Copy, Debug, PartialEq, Eq)]
+#[derive(Clone, Copy)]
 pub struct Unknown {
     pub oldest: Option<Tick>,
     pub older: Option<Tick>,
@@ -32,7 +32,7 @@ pub struct Unknown {
 }
 
 /// What one side knows of a session.
-#[derive(Clone, Copy, Debug, PartialEq, Eq)]
+#[derive(Clone, Copy)]
 pub struct State {
     /// What this side offers.
     pub offer: Offer,

@@ -21,7 +21,7 @@ pub enum Hop {
 
 /// Why octets are no list of subobjects, with the place of the first that is at fault: the number,
 /// from 0, of its first octet.
-#[derive(Clone, Copy, Debug, PartialEq, Eq)]
+#[derive(Clone, Copy, Debug)]
 pub enum HopFault {
     /// The octets end inside the subobject.
     Short(usize),

@@ -9,7 +9,7 @@ use plant_client::Question;
 use std::alloc::Global;
 
 /// The bandwidth that each request asks for, in octets a second.
-#[derive(Clone, Copy, Debug, PartialEq, Eq)]
+#[derive(Clone, Copy)]
 pub enum Demand {
     /// So that a link without any bandwidth is no way.
     One,

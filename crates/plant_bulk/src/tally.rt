@@ -6,7 +6,7 @@ use dom_base::NoMemory;
 use plant_client::Heard;
 
 /// How many paths were answered, how often there was none, and the sum and the greatest of the costs.
-#[derive(Clone, Copy, Debug, PartialEq, Eq)]
+#[derive(Clone, Copy)]
 pub struct Tally {
     pub paths: u64,
     pub none: u64,

@@ -9,7 +9,7 @@ use pcep_messages::{Answer, Bad, Message, Path, Reply, read_message};
 use std::alloc::Global;
 
 /// What a client is told of a path that it asked for.
-#[derive(Clone, Copy, Debug, PartialEq, Eq)]
+#[derive(Clone, Copy)]
 pub enum Heard {
     /// There is one of this cost.
     Path(u64),

@@ -34,7 +34,7 @@ pub(crate) struct Prepared<P> {
 }
 
 // How many messages, and how many bytes together.
-#[derive(Clone, Copy, Debug, PartialEq, Eq)]
+#[derive(Clone, Copy)]
 pub(crate) struct Need {
     messages: usize,
     bytes: usize,

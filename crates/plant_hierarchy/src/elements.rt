@@ -48,6 +48,7 @@ pub(crate) fn place_of(domains: &[As], at: As) -> Option<usize>
 }
 
 impl<W: World> Elements<W> {
+    /// No elements.
     pub fn new(alloc: Global) -> Elements<W>
         ensures { result ≡ [] }
     {

@@ -15,7 +15,7 @@ use plant_text::{ElementRow, NetworkParts};
 use std::alloc::Global;
 
 /// What the settings say of one element.
-#[derive(Clone, Copy, Debug, PartialEq, Eq)]
+#[derive(Clone, Copy)]
 pub(crate) struct Figures {
     pub id: Addr,
     pub key_life: u16,

@@ -24,16 +24,17 @@ use Rattle.plant_model.specs.Element.{Item}
 use Rattle.plant_model.specs.Jobs.{ask_of, target_along}
 use Rattle.plant_model.specs.Plant.{Pin}
 use Rattle.plant_laws.specs.Transcript.{Leg, pinned, domains}
-use Rattle.border_costs.proofs.Composing.{rows_compose, rows_end}
+use Rattle.plant_laws.specs.Ends.{End, Inside, Asked, goal_of}
+use Rattle.border_costs.proofs.Composing.{rows_compose, rows_end, rows_report}
 use Rattle.plant_laws.proofs.BorderJoins.{finds}
 use Rattle.plant_laws.proofs.Segments.{has_label}
 use Rattle.plant_laws.proofs.BestParts.{best_ends, best_goes_on}
 use Rattle.plant_laws.proofs.Told.{from_path, IsTold, told_beyond}
-use Rattle.plant_laws.proofs.Ways.{IsWay, end_way, on_way}
+use Rattle.plant_laws.proofs.Ways.{IsWay, end_way, over_way, on_way}
 
-pub record AreWays (n : NetworkParts) (w : Wanted) (one : Leg) (chain : List Leg) (down : List Branch) (entries : List Addr) (best : List Best) : Type 0 where
-  pub each : (b : Best) → Contains best b → Contains entries b.entry × IsWay n w.query w.target one chain down b
-  pub every : (e : Addr) → Contains entries e → HasNoCrossing w.query (pinned one.own one.at) (domains chain) e w.target ⊎ ((b : Best) × Contains best b × (b.entry ≡ e))
+pub record AreWays (n : NetworkParts) (w : Wanted) (end : End) (one : Leg) (chain : List Leg) (down : List Branch) (entries : List Addr) (best : List Best) : Type 0 where
+  pub each : (b : Best) → Contains best b → Contains entries b.entry × IsWay n w.query end w.target one chain down b
+  pub every : (e : Addr) → Contains entries e → HasNoCrossing w.query (pinned one.own one.at) (domains chain) e (goal_of end) ⊎ ((b : Best) × Contains best b × (b.entry ≡ e))
 
 module _ (n : NetworkParts) (d : As) (k : ℕ) (item : Item Pin) (one : Leg) (number : ℕ) (rows : Answers)
     (own : item.wanted.query ≡ query_in item.wanted.query one.own) (home : item.wanted.query ≡ query_in item.wanted.query (pinned one.own one.at).own) where
@@ -46,7 +47,7 @@ module _ (n : NetworkParts) (d : As) (k : ℕ) (item : Item Pin) (one : Leg) (nu
   abbrev asked : List Branch → Ask
   asked down = ask_of d k item down number g
 
-  pub end_ways : (own_as : As) → item.sequence ≡ own_as ∷ [] → AreRows g (asked []) rows → AreWays n w one [] [] (asked []).entries rows.best
+  pub end_ways : (own_as : As) → item.sequence ≡ own_as ∷ [] → AreRows g (asked []) rows → AreWays n w (Inside w.target) one [] [] (asked []).entries rows.best
   end_ways own_as sequence are =
       let a = asked [] in
       let target : a.target ≡ Node w.target = ap (λ (s : List As). target_along s w.target) sequence in
@@ -59,26 +60,42 @@ module _ (n : NetworkParts) (d : As) (k : ℕ) (item : Item Pin) (one : Leg) (nu
         every = tells.every;
       }
 
-  pub on_ways : (c : Codec) (codec : IsCodec c) (next : Leg) (chain : List Leg) (rest : List As) → item.sequence ≡ one.own ∷ next.own ∷ rest → w.query.cap ≤ COST_MAX → IsInOrder g → g.own ≡ one.own →
-      (pinned next.own next.at).own ≡ next.own → (paths : List Path) → IsTold c n one.own next chain w paths →
-      AreRows g (asked (branches_in c w.query.metric paths)) rows → AreWays n w one (next ∷ chain) (branches_in c w.query.metric paths) (asked (branches_in c w.query.metric paths)).entries rows.best
-  on_ways c codec next chain rest sequence small order here at_next paths told are =
+  -- over what an outside element told
+  pub over_ways : (next : As) (rest : List As) (told : List Branch) → item.sequence ≡ one.own ∷ next ∷ rest → IsInOrder g → AreRows g (asked told) rows →
+      AreWays n w (Asked next told) one [] told (asked told).entries rows.best
+  over_ways next rest told sequence order are =
+      let a = asked told in
+      let target : a.target ≡ Next next = ap (λ (s : List As). target_along s w.target) sequence in
+      let tells = rows_report w.query g next a rows are home target in
+      let found = finds g a are.seeds a.entries rows.best are.best in
+      record {
+        each = λ b is.
+            let row = found.each b is in
+            let part = best_goes_on g a are.seeds next told b order (has_label g w.query are.seeds are.certificate.labels are.certificate.are_labels) are.are_seeds.are target refl row.1 in
+            (row.0, over_way n w one own home next told b part (tells.each b is).1);
+        every = tells.every;
+      }
+
+  pub on_ways : (c : Codec) (codec : IsCodec c) (next : Leg) (chain : List Leg) (end : End) (rest : List As) → item.sequence ≡ one.own ∷ next.own ∷ rest → w.query.cap ≤ COST_MAX → IsInOrder g → g.own ≡ one.own →
+      (pinned next.own next.at).own ≡ next.own → (paths : List Path) → IsTold c n one.own next chain end w paths →
+      AreRows g (asked (branches_in c w.query.metric paths)) rows → AreWays n w end one (next ∷ chain) (branches_in c w.query.metric paths) (asked (branches_in c w.query.metric paths)).entries rows.best
+  on_ways c codec next chain end rest sequence small order here at_next paths told are =
       let down = branches_in c w.query.metric paths in
       let a = asked down in
       let h = pinned next.own next.at in
       let to_next : a.target ≡ Next next.own = ap (λ (s : List As). target_along s w.target) sequence in
       let target : a.target ≡ Next h.own = to_next ∙ ap (λ (x : As). Next x) (sym at_next) in
-      let right' = told_beyond c codec n one.own next chain w small paths told in
-      let right = subst (λ (x : As). AreBeyond w.query x h (domains chain) w.target (beyond (downs down))) (sym here) right' in
-      let tells = rows_compose w.query g h (domains chain) w.target a rows are home target right in
+      let right' = told_beyond c codec n one.own next chain end w small paths told in
+      let right = subst (λ (x : As). AreBeyond w.query x h (domains chain) (goal_of end) (beyond (downs down))) (sym here) right' in
+      let tells = rows_compose w.query g h (domains chain) (goal_of end) a rows are home target right in
       let found = finds g a are.seeds a.entries rows.best are.best in
       record {
         each = λ b is.
             let row = found.each b is in
             let part = best_goes_on g a are.seeds next.own down b order (has_label g w.query are.seeds are.certificate.labels are.certificate.are_labels) are.are_seeds.are to_next refl row.1 in (
               row.0,
-              on_way n w one own home c codec next chain small here at_next paths b part
-                  (from_path c codec n (next ∷ chain) w small (IsEntryFrom h one.own) paths told.each part.below.branch part.below.is_branch) (tells.each b is).1 right',
+              on_way n w one own home c codec next chain end small here at_next paths b part
+                  (from_path c codec n (next ∷ chain) end w small (IsEntryFrom h one.own) paths told.each part.below.branch part.below.is_branch) (tells.each b is).1 right',
             );
         every = tells.every;
       }

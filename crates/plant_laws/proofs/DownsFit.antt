@@ -8,10 +8,9 @@ use Rattle.dom_base.specs.declared.addr.Addr.{Addr}
 use Rattle.dom_base.specs.declared.addr.Addr.TheVariants.{V4, V6}
 use Rattle.dom_base.specs.declared.names.As.{As}
 use Rattle.dom_base.specs.declared.names.Peer.TheVariants.{Inner}
-use Rattle.dom_base.specs.declared.link.Link.{Link}
 use Rattle.dom_base.specs.declared.query.Query.{Query}
 use Rattle.dom_base.specs.declared.query.Metric.{Metric}
-use Rattle.walk_laws.specs.Crossing.{Leg as Part}
+use Rattle.walk_laws.specs.Crossing.{Leg as Part, Last, Links, Over}
 use Rattle.pcep_subobjects.specs.declared.hop.Hop.{Hop}
 use Rattle.pcep_subobjects.specs.declared.hop.Hop.TheVariants.{Prefix, AsNumber, Key, Other}
 use Rattle.pcep_subobjects.specs.Hops as hops
@@ -38,6 +37,7 @@ use Rattle.plant_model.specs.State.{Takes}
 use Rattle.plant_model.specs.Settings.{place}
 use Rattle.plant_model.specs.Plant.{Segment, PlantDeed}
 use Rattle.plant_laws.specs.Transcript.{Transcript, Within, Standing, Leg, numbers}
+use Rattle.plant_laws.specs.Ends.{Inside}
 use Rattle.plant_laws.specs.Shown.{Shows}
 use Rattle.plant_laws.specs.Certified.{Tells, IsServed, IsAnswered}
 use Rattle.plant_laws.specs.Sending.{AllSent}
@@ -73,14 +73,15 @@ ended_short entry key pce end =
     omega (arith, text_cons (strict_hop entry) (Key false key pce ∷ strict_hop end ∷ []), text_cons (Key false key pce) (strict_hop end ∷ []), text_cons (strict_hop end) [], hop_short entry, key_short key pce, hop_short end)
 
 -- what is shown behind keys takes at most three hops for each domain
-pub shows_short : (n : NetworkParts) (q : Query) (t : Addr) (chain : List Leg) (e : Addr) (hs : List Hop) (legs : List Part) (last : List Link) → Shows n false q t chain e hs legs last →
+pub shows_short : (n : NetworkParts) (q : Query) (t : Addr) (chain : List Leg) (e : Addr) (hs : List Hop) (legs : List Part) (last : Last) → Shows n false q (Inside t) chain e hs legs last →
     length (hops_text hs) ≤ 60 * length chain
 shows_short n q t [] e hs legs last s = absurd s
-shows_short n q t (one ∷ []) e hs [] last s =
+shows_short n q t (one ∷ []) e hs [] (Links last) s =
     let part = ap (λ (p : List Hop). length (hops_text (p ++ strict_hop t ∷ []))) s.is_part.3 in
     let is = ap (λ (p : List Hop). length (hops_text p)) s.is_hops in
     let pce = closed_short e s.is_part.0.number (place n one.own).id in
     omega (arith, is, part, pce, text_append (closed_of e s.is_part.0.number (place n one.own).id None) (strict_hop t ∷ []), text_cons (strict_hop t) [], hop_short t)
+shows_short n q t (one ∷ []) e hs [] (Over l c) s = absurd s
 shows_short n q t (one ∷ []) e hs (l ∷ ls) last s = absurd s
 shows_short n q t (one ∷ next ∷ rest) e hs [] last s = absurd s
 shows_short n q t (one ∷ next ∷ rest) e hs (l ∷ ls) last s =

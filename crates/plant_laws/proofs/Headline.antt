@@ -29,6 +29,7 @@ use Rattle.plant_laws.specs.Transcript.{Transcript, Within, outputs_at, opened, 
 use Rattle.plant_model.specs.BorderGraph.{Found}
 use Rattle.plant_laws.specs.About.{Replies, IsAbout, IsViaParent}
 use Rattle.plant_laws.proofs.ViaParent.{FoundTells, passed_on}
+use Rattle.plant_laws.specs.Ends.{Inside}
 use Rattle.plant_laws.specs.Replies.{IsRightful, AreRightful}
 use Rattle.plant_laws.specs.Headline.{IsOfParent, IsOfChain, HasNoneOfChain}
 use Rattle.plant_laws.proofs.Moments.{no_more}
@@ -61,7 +62,7 @@ module _ (c : Codec) (codec : IsCodec c) (n : NetworkParts) (now : Transcript) (
       said_of = subst (λ (l : List Output). Contains l (record { to = p; message = messages.PcRep (r ∷ []) })) x.sends said
 
       to : x.held.key.peer ≡ p
-      to = goes_to c n d k x.held x.down x.now x.element x.rows.source_known x.rows.target_known one ch.chain p (messages.PcRep (r ∷ [])) x.rows.best said_of
+      to = goes_to c n d k x.held x.down x.now x.element x.rows.source_known x.rows.target_known one ch.chain (Inside x.held.item.wanted.target) p (messages.PcRep (r ∷ [])) x.rows.best said_of
 
       class : x.held.item.class ≡ class_of n p
       class = x.taken.class ∙ ap (class_of n) to
@@ -84,18 +85,18 @@ module _ (c : Codec) (codec : IsCodec c) (n : NetworkParts) (now : Transcript) (
       solve_rightful : is_closed n p ≡ true → IsRightful c n older (Solves d k os keys ∷ older) d p r paths
       solve_rightful closed =
           let upper : is_client x.held.item.class ≡ false = ap is_client class ∙ closed_class n p closed in
-          let done = closes c n d k x.held x.down x.now x.element x.rows.source_known x.rows.target_known one ch.chain refl x.life p r paths x.rows.best upper ch.ways said_of tells x.has in
+          let done = closes c n d k x.held x.down x.now x.element x.rows.source_known x.rows.target_known one ch.chain (Inside x.held.item.wanted.target) refl x.life p r paths x.rows.best upper ch.ways said_of tells x.has in
           record {
             request = x.taken.request;
             wanted = x.held.item.wanted;
             chain = one ∷ ch.chain;
             same = x.taken.id ∙ sym done.0.id;
             about = about;
-            right = subst (λ (z : Class). AreRightful c n z (one ∷ ch.chain) x.held.item.wanted paths) class done.2;
+            right = subst (λ (z : Class). AreRightful c n z (one ∷ ch.chain) (Inside x.held.item.wanted.target) x.held.item.wanted paths) class done.2;
           }
 
-      solve_opens : is_client (class_of n p) ≡ true → IsReplyOf x.held r × (x.held.key.peer ≡ p) × Opens c n d k x.held x.down x.now x.element x.rows.source_known x.rows.target_known one ch.chain r paths
-      solve_opens client = opens c n d k x.held x.down x.now x.element x.rows.source_known x.rows.target_known one ch.chain p r paths x.rows.best (ap is_client class ∙ client) ch.ways said_of tells
+      solve_opens : is_client (class_of n p) ≡ true → IsReplyOf x.held r × (x.held.key.peer ≡ p) × Opens c n d k x.held x.down x.now x.element x.rows.source_known x.rows.target_known one ch.chain (Inside x.held.item.wanted.target) r paths
+      solve_opens client = opens c n d k x.held x.down x.now x.element x.rows.source_known x.rows.target_known one ch.chain (Inside x.held.item.wanted.target) p r paths x.rows.best (ap is_client class ∙ client) ch.ways said_of tells
 
     -- what an element tells a closed peer
     pub closed_rightful : (m older : Transcript) → is_closed n p ≡ true → Replies now m older d p r → IsRightful c n older m d p r paths
@@ -126,7 +127,7 @@ module _ (c : Codec) (codec : IsCodec c) (n : NetworkParts) (now : Transcript) (
       pub chain : Chained c codec n now given d number outputs keys older solved
       pub about : IsAbout c n older m d p solved.taken.request solved.held.item.wanted (leg c codec n now given d number outputs keys older solved.taken.at ∷ chain.chain)
       pub same : solved.taken.request.id ≡ r.id
-      pub opens : Opens c n d number solved.held solved.down solved.now solved.element solved.rows.source_known solved.rows.target_known (leg c codec n now given d number outputs keys older solved.taken.at) chain.chain r paths
+      pub opens : Opens c n d number solved.held solved.down solved.now solved.element solved.rows.source_known solved.rows.target_known (leg c codec n now given d number outputs keys older solved.taken.at) chain.chain (Inside solved.held.item.wanted.target) r paths
 
     pub record FromParent (m older : Transcript) : Type 0 where
       pub found : Option Found
@@ -195,7 +196,7 @@ module _ (c : Codec) (codec : IsCodec c) (n : NetworkParts) (now : Transcript) (
       by_found (Some a) via shows = record { found = a; via = via; one = ap (paths_in []) (sym is ∙ shows) }
 
       by_opens : (x : IsOfSolve c codec n now given d (element_answers i r paths (subst (λ (a : Answer). Tells a paths) (sym is) refl) replies) (Outside i) r paths (subst (λ (a : Answer). Tells a paths) (sym is) refl) m older) →
-          Opens c n d x.number x.solved.held x.solved.down x.solved.now x.solved.element x.solved.rows.source_known x.solved.rows.target_known (leg c codec n now given d x.number x.outputs x.keys older x.solved.taken.at) x.chain.chain r paths →
+          Opens c n d x.number x.solved.held x.solved.down x.solved.now x.solved.element x.solved.rows.source_known x.solved.rows.target_known (leg c codec n now given d x.number x.outputs x.keys older x.solved.taken.at) x.chain.chain (Inside x.solved.held.item.wanted.target) r paths →
           IsOfChain c n older m d i r paths
       by_opens x (inl path) = record {
         request = x.solved.taken.request;
@@ -224,7 +225,7 @@ module _ (c : Codec) (codec : IsCodec c) (n : NetworkParts) (now : Transcript) (
       by_found (Some a) via shows = absurd (apart (sym (ap has_paths (sym is ∙ shows))))
 
       by_opens : (x : IsOfSolve c codec n now given d (element_answers i r [] (subst (λ (a : Answer). Tells a []) (sym is) (refl, refl)) replies) (Outside i) r [] (subst (λ (a : Answer). Tells a []) (sym is) (refl, refl)) m older) →
-          Opens c n d x.number x.solved.held x.solved.down x.solved.now x.solved.element x.solved.rows.source_known x.solved.rows.target_known (leg c codec n now given d x.number x.outputs x.keys older x.solved.taken.at) x.chain.chain r [] →
+          Opens c n d x.number x.solved.held x.solved.down x.solved.now x.solved.element x.solved.rows.source_known x.solved.rows.target_known (leg c codec n now given d x.number x.outputs x.keys older x.solved.taken.at) x.chain.chain (Inside x.solved.held.item.wanted.target) r [] →
           HasNoneOfChain c n older m d i r
       by_opens x (inl path) = absurd (apart (sym path.2 ∙ ap has_paths is))
       by_opens x (inr none) = record {

@@ -37,6 +37,7 @@ use Rattle.plant_model.specs.State.{Pops, Takes, Solves}
 use Rattle.plant_model.specs.Plant.{Segment, PlantDeed}
 use Rattle.plant_model.specs.Laws.{IsCodec, Admits}
 use Rattle.plant_laws.specs.Transcript.{Transcript, Within, Standing, outputs_at, SentIn, Handed, Delivered, Leg, Chain, numbers, pinned, domains}
+use Rattle.plant_laws.specs.Ends.{End, Inside, goal_of}
 use Rattle.plant_laws.specs.About.{IsLeastPath}
 use Rattle.plant_laws.specs.Replies.{AreRightful}
 use Rattle.border_costs.proofs.Members.{contains_head}
@@ -51,25 +52,25 @@ use Rattle.plant_laws.proofs.FromElement.{within_tail, same_request, same_wanted
 use Rattle.plant_laws.specs.Certified.{IsAnswered, IsServed}
 
 -- a path of the next element's request is one of the request before it
-same_path : (c : Codec) (n : NetworkParts) (chain : List Leg) (w : Wanted) (b : As) (rest : List As) (e : Addr) (path : Path) →
-    IsLeastPath c n false (domains chain) chain (on_wanted w b rest) e path → IsLeastPath c n false (domains chain) chain w e path
-same_path c n chain w b rest e path p = record {
+same_path : (c : Codec) (n : NetworkParts) (chain : List Leg) (end : End) (w : Wanted) (b : As) (rest : List As) (e : Addr) (path : Path) →
+    IsLeastPath c n false (domains chain) chain end (on_wanted w b rest) e path → IsLeastPath c n false (domains chain) chain end w e path
+same_path c n chain end w b rest e path p = record {
   legs = p.legs;
   last = p.last;
-  least = along_free w.query b (domains chain) e w.target p.legs p.last p.least;
+  least = along_free w.query b (domains chain) e (goal_of end) p.legs p.last p.least;
   metric = p.metric ∙ ap (λ (x : ℕ). let o : Option (ℕ × ℕ) = Some (type_of_metric w.query.metric, c.word x) in o) (crossing_free w.query b p.legs p.last);
-  shown = shows_free w.query b n w.target false chain e path.hops p.legs p.last p.shown;
+  shown = shows_free w.query b n end false chain e path.hops p.legs p.last p.shown;
 }
 
-told_of : (c : Codec) (n : NetworkParts) (d : As) (w : Wanted) (b : As) (rest : List As) (next : Leg) (chain : List Leg) (paths : List Path) →
-    AreRightful c n (Neighbour d) (next ∷ chain) (on_wanted w b rest) paths → IsTold c n d next chain w paths
-told_of c n d w b rest next chain paths right = record {
+told_of : (c : Codec) (n : NetworkParts) (d : As) (w : Wanted) (b : As) (rest : List As) (next : Leg) (chain : List Leg) (end : End) (paths : List Path) →
+    AreRightful c n (Neighbour d) (next ∷ chain) end (on_wanted w b rest) paths → IsTold c n d next chain end w paths
+told_of c n d w b rest next chain end paths right = record {
   each = λ path h.
       let r = right.each path h in
-      (r.0, entry_of_node d (pinned next.own next.at).entries r.0 r.1, same_path c n (next ∷ chain) w b rest r.0 path r.2);
+      (r.0, entry_of_node d (pinned next.own next.at).entries r.0 r.1, same_path c n (next ∷ chain) end w b rest r.0 path r.2);
   every = λ e h. elim (right.every e (node_of_entry d (pinned next.own next.at).entries e h)) [
-    | inl nowhere ↦ inl (none_free w.query b (domains (next ∷ chain)) e w.target nowhere)
-    | inr known ↦ inr (known.0, known.1, same_path c n (next ∷ chain) w b rest e known.0 known.2)
+    | inl nowhere ↦ inl (none_free w.query b (domains (next ∷ chain)) e (goal_of end) nowhere)
+    | inr known ↦ inr (known.0, known.1, same_path c n (next ∷ chain) end w b rest e known.0 known.2)
   ];
 }
 
@@ -100,7 +101,7 @@ module _ (c : Codec) (codec : IsCodec c) (n : NetworkParts) (now : Transcript) (
     pub chain : List Leg
     pub chained : Chain (Solves d k os keys ∷ older) (leg d k os keys older x.taken.at ∷ chain)
     pub along : numbers (leg d k os keys older x.taken.at ∷ chain) ≡ sequence_or d x.held.item.wanted.sequence
-    pub ways : AreWays n x.held.item.wanted (leg d k os keys older x.taken.at) chain x.down (entries_of x.held.item.class x.held.item.wanted.source (pinned d x.taken.at)) x.rows.best
+    pub ways : AreWays n x.held.item.wanted (Inside x.held.item.wanted.target) (leg d k os keys older x.taken.at) chain x.down (entries_of x.held.item.class x.held.item.wanted.source (pinned d x.taken.at)) x.rows.best
 
   -- what lies beyond, told by the next element
   pub record IsBeyond (d : As) (at : Transcript) (w : Wanted) (b : As) (rest : List As) (older : Transcript) (paths : List Path) : Type 0 where
@@ -110,7 +111,7 @@ module _ (c : Codec) (codec : IsCodec c) (n : NetworkParts) (now : Transcript) (
     pub handed : Handed d b at at_next
     pub chained : Chain older (record { own = b; at = at_next; solved = solved } ∷ chain)
     pub along : numbers (record { own = b; at = at_next; solved = solved } ∷ chain) ≡ b ∷ rest
-    pub told : IsTold c n d (record { own = b; at = at_next; solved = solved }) chain w paths
+    pub told : IsTold c n d (record { own = b; at = at_next; solved = solved }) chain (Inside w.target) w paths
 
   -- a solve and the request of it
   module _ (d : As) (real : d ≢ parent_as) (k : ℕ) (os : List Output) (keys : List (Issued Segment)) (older : Transcript) (before : Within older now) (x : Solved d k os keys older) where
@@ -163,7 +164,7 @@ module _ (c : Codec) (codec : IsCodec c) (n : NetworkParts) (now : Transcript) (
           chain = [];
           chained = (inr at_within, inl refl);
           along = sym is;
-          ways = subst (λ (l : List Branch). AreWays n w one [] l entries x.rows.best) (sym none) ways;
+          ways = subst (λ (l : List Branch). AreWays n w (Inside w.target) one [] l entries x.rows.best) (sym none) ways;
         }
 
     chained_on : (b : As) (rest : List As) → sequence_or d w.sequence ≡ d ∷ b ∷ rest → (answered : IsAnswered c older d at w b rest x.down) → IsBeyond d at w b rest older answered.paths → Chained d k os keys older x
@@ -173,13 +174,13 @@ module _ (c : Codec) (codec : IsCodec c) (n : NetworkParts) (now : Transcript) (
         let rows = subst (λ (l : List Branch). AreRows (pinned d at) (ask_of d k x.held.item l x.held.item.pin.number (pinned d at)) x.rows) answered.is rows_over in
         let order = subst (λ (g : Rows). IsInOrder g) x.taken.pin x.domain.order in
         let next_within = chain_first next beyond.chain older beyond.chained in
-        let ways = on_ways n d k x.held.item one x.held.item.pin.number x.rows own home c codec next beyond.chain rest sequence small order here
+        let ways = on_ways n d k x.held.item one x.held.item.pin.number x.rows own home c codec next beyond.chain (Inside w.target) rest sequence small order here
         (given.owns b beyond.at_next (within_trans beyond.at_next older now next_within before)) answered.paths beyond.told rows in
         record {
           chain = next ∷ beyond.chain;
           chained = (inr at_within, inl refl, beyond.handed, chain_later (next ∷ beyond.chain) older (Solves d k os keys ∷ older) (inr (within_here older)) beyond.chained);
           along = ap (λ (l : List As). d ∷ l) beyond.along ∙ sym is;
-          ways = subst (λ (l : List Branch). AreWays n w one (next ∷ beyond.chain) l entries x.rows.best) (sym answered.is) ways;
+          ways = subst (λ (l : List Branch). AreWays n w (Inside w.target) one (next ∷ beyond.chain) l entries x.rows.best) (sym answered.is) ways;
         }
       where
         chain_first : (first : Leg) (chain : List Leg) (m : Transcript) → Chain m (first ∷ chain) → Within first.at m
@@ -226,15 +227,15 @@ module _ (c : Codec) (codec : IsCodec c) (n : NetworkParts) (now : Transcript) (
         said_here = subst (λ (l : List Output). Contains l (record { to = Inner d; message = messages.PcRep (answered.reply ∷ []) })) y.sends said
 
         to_here : y.held.key.peer ≡ Inner d
-        to_here = goes_to c n b k' y.held y.down y.now y.element y.rows.source_known y.rows.target_known (leg b k' os' keys' older' y.taken.at) ch.chain (Inner d) (messages.PcRep (answered.reply ∷ [])) y.rows.best said_here
+        to_here = goes_to c n b k' y.held y.down y.now y.element y.rows.source_known y.rows.target_known (leg b k' os' keys' older' y.taken.at) ch.chain (Inside y.held.item.wanted.target) (Inner d) (messages.PcRep (answered.reply ∷ [])) y.rows.best said_here
 
         class_here : y.held.item.class ≡ Neighbour d
         class_here = y.taken.class ∙ ap (class_of n) to_here ∙ class_inner n d real
 
         closes_here : IsReplyOf y.held answered.reply × (y.held.key.peer ≡ Inner d)
-            × AreRightful c n y.held.item.class (leg b k' os' keys' older' y.taken.at ∷ ch.chain) y.held.item.wanted answered.paths
+            × AreRightful c n y.held.item.class (leg b k' os' keys' older' y.taken.at ∷ ch.chain) (Inside y.held.item.wanted.target) y.held.item.wanted answered.paths
         closes_here =
-            closes c n b k' y.held y.down y.now y.element y.rows.source_known y.rows.target_known (leg b k' os' keys' older' y.taken.at) ch.chain refl y.life (Inner d) answered.reply answered.paths y.rows.best
+            closes c n b k' y.held y.down y.now y.element y.rows.source_known y.rows.target_known (leg b k' os' keys' older' y.taken.at) ch.chain (Inside y.held.item.wanted.target) refl y.life (Inner d) answered.reply answered.paths y.rows.best
             (ap is_client class_here) ch.ways said_here answered.tells y.has
 
         told_by_solve : Told
@@ -253,8 +254,8 @@ module _ (c : Codec) (codec : IsCodec c) (n : NetworkParts) (now : Transcript) (
             let request = same_request y.taken.request (record { flags = vspt_flag; id = answered.id; wish = wishes.Path (on_wanted w b rest) }) (sym from.1 ∙ same.admits) in
             let wanted : y.held.item.wanted ≡ on_wanted w b rest = same_wanted y.held.item.wanted (on_wanted w b rest) (sym y.taken.wanted ∙ ap (λ (r : Request). r.wish) request) in
             let chain : List Leg = leg b k' os' keys' older' at' ∷ ch.chain in
-            let right : AreRightful c n (Neighbour d) chain (on_wanted w b rest) answered.paths =
-            subst (λ (v : Wanted). AreRightful c n (Neighbour d) chain v answered.paths) wanted (subst (λ (z : Class). AreRightful c n z chain y.held.item.wanted answered.paths) class_here closes_here.2) in
+            let right : AreRightful c n (Neighbour d) chain (Inside w.target) (on_wanted w b rest) answered.paths =
+            subst (λ (v : Wanted). AreRightful c n (Neighbour d) chain (Inside v.target) v answered.paths) wanted (subst (λ (z : Class). AreRightful c n z chain (Inside y.held.item.wanted.target) y.held.item.wanted answered.paths) class_here closes_here.2) in
             record {
               at_next = at';
               solved = Solves b k' os' keys' ∷ older';
@@ -262,7 +263,7 @@ module _ (c : Codec) (codec : IsCodec c) (n : NetworkParts) (now : Transcript) (
               handed = same.handed;
               chained = chain_later chain (Solves b k' os' keys' ∷ older') older inside ch.chained;
               along = ch.along ∙ ap (λ (v : Wanted). sequence_or b v.sequence) wanted;
-              told = told_of c n d w b rest (leg b k' os' keys' older' at') ch.chain answered.paths right;
+              told = told_of c n d w b rest (leg b k' os' keys' older' at') ch.chain (Inside w.target) answered.paths right;
             }
 
       -- it was no expansion of a key, and not passed on from the parent

@@ -55,6 +55,7 @@ use Rattle.plant_laws.proofs.Rows.{In, in_of}
 use Rattle.plant_laws.proofs.Moments.{within_trans, opened_within, standing_put, no_more}
 use Rattle.plant_laws.proofs.Given.{Given}
 use Rattle.plant_laws.proofs.FromElement.{within_tail, same_request, same_wanted, no_expansion}
+use Rattle.plant_laws.specs.Ends.{Inside}
 use Rattle.plant_laws.proofs.ClosedReplies.{closes, goes_to}
 use Rattle.plant_laws.proofs.LeastChains.{leg, neighbour_stays, solve_chained}
 use Rattle.plant_laws.proofs.Asks.{closed_class}
@@ -271,9 +272,9 @@ module _ (c : Codec) (codec : IsCodec c) (n : NetworkParts) (now : Transcript) (
         let ch = solve_chained c codec n now given (suc (length older)) b real k os keys older within (omega arith) in
         let one = leg c codec n now given b k os keys older y.taken.at in
         let says = subst (λ (l : List Output). Contains l (record { to = Inner parent_as; message = messages.PcRep (r ∷ []) })) y.sends said in
-        let to : y.held.key.peer ≡ Inner parent_as = goes_to c n b k y.held y.down y.now y.element y.rows.source_known y.rows.target_known one ch.chain (Inner parent_as) (messages.PcRep (r ∷ [])) y.rows.best says in
+        let to : y.held.key.peer ≡ Inner parent_as = goes_to c n b k y.held y.down y.now y.element y.rows.source_known y.rows.target_known one ch.chain (Inside y.held.item.wanted.target) (Inner parent_as) (messages.PcRep (r ∷ [])) y.rows.best says in
         let class : is_client y.held.item.class ≡ false = ap is_client (y.taken.class ∙ ap (class_of n) to) ∙ closed_class n parent_as in
-        let right = closes c n b k y.held y.down y.now y.element y.rows.source_known y.rows.target_known one ch.chain refl y.life (Inner parent_as) r paths y.rows.best class ch.ways says tells y.has in
+        let right = closes c n b k y.held y.down y.now y.element y.rows.source_known y.rows.target_known one ch.chain (Inside y.held.item.wanted.target) refl y.life (Inner parent_as) r paths y.rows.best class ch.ways says tells y.has in
         let at_now = within_trans y.taken.at older now (opened_within c b y.held.key.peer y.held.key.id older y.taken.at y.taken.is_open) (within_tail (Solves b k os keys) older now within) in
         let alone = asked_alone b y.taken.request y.taken.at at_now (subst (λ (q : Peer). Delivered c y.taken.at b q y.taken.request) to y.taken.delivered) in
         let same = same_request y.taken.request (record { flags = vspt_flag; id = alone.0; wish = wishes.Path alone.1 }) alone.3 in

@@ -7,7 +7,6 @@ use Rattle.std.specs.declared.option.Option.{Option}
 use Rattle.dom_base.specs.declared.limits.TheConstants.{COST_MAX}
 use Rattle.dom_base.specs.declared.addr.Addr.{Addr}
 use Rattle.dom_base.specs.declared.names.As.{As}
-use Rattle.dom_base.specs.declared.link.Link.{Link}
 use Rattle.dom_base.specs.declared.query.Query.{Query}
 use Rattle.dom_base.specs.declared.query.Metric.{Metric}
 use Rattle.te_links.specs.declared.rows.Entry.{Entry}
@@ -15,7 +14,7 @@ use Rattle.te_links.specs.Rows.{Rows}
 use Rattle.pcep_subobjects.specs.declared.hop.Hop.{Hop}
 use Rattle.pcep_messages.specs.declared.message.Path.{Path}
 use Rattle.pcep_messages.specs.declared.message.Wanted.{Wanted}
-use Rattle.walk_laws.specs.Crossing.{Leg as Part, crossing_cost, IsLeastCost}
+use Rattle.walk_laws.specs.Crossing.{Leg as Part, Goal, Last, Links, Over, crossing_cost, IsLeastCost}
 use Rattle.walk_laws.specs.Composition.{IsEntryFrom, AreBeyond}
 use Rattle.vspt_tree.specs.declared.branch.Branch.{Branch}
 use Rattle.border_costs.specs.Asks.{beyond}
@@ -26,6 +25,7 @@ use Rattle.pcep_messages.specs.Requests.{type_of_metric}
 use Rattle.plant_model.specs.Branches.{downs, branch_at, branch_by, branch_of, branches_in}
 use Rattle.plant_model.specs.Laws.{IsCodec}
 use Rattle.plant_laws.specs.Transcript.{Leg, pinned, domains}
+use Rattle.plant_laws.specs.Ends.{End, Inside, Asked, goal_of}
 use Rattle.plant_laws.specs.Shown.{Shows}
 use Rattle.plant_laws.specs.About.{IsLeastAlong, HasNoneAlong, IsLeastPath}
 use Rattle.border_costs.proofs.Members.{contains_none, contains_head, contains_tail, contains_cases}
@@ -82,30 +82,33 @@ branch_made c m cost units le e hs rest is =
     ∙ ap (λ (b : Bool). cond b (record { entry = e; cost = cost; hops = hs } ∷ []) []) (le-leb cost COST_MAX le)
 
 -- what is shown begins with the entry
-pub shown_head : (n : NetworkParts) (q : Query) (t : Addr) (chain : List Leg) (e : Addr) (hs : List Hop) (legs : List Part) (last : List Link) → Shows n false q t chain e hs legs last →
+pub shown_head : (n : NetworkParts) (q : Query) (end : End) (chain : List Leg) (e : Addr) (hs : List Hop) (legs : List Part) (last : Last) → Shows n false q end chain e hs legs last →
     (rest : List Hop) × (hs ≡ strict_hop e ∷ rest)
-shown_head n q t [] e hs legs last s = absurd s
-shown_head n q t (one ∷ []) e hs [] last s = (_, s.is_hops ∙ ap (λ (p : List Hop). p ++ strict_hop t ∷ []) s.is_part.3)
-shown_head n q t (one ∷ []) e hs (l ∷ ls) last s = absurd s
-shown_head n q t (one ∷ next ∷ rest) e hs [] last s = absurd s
-shown_head n q t (one ∷ next ∷ rest) e hs (l ∷ ls) last s = (_, s.is_hops ∙ ap (λ (p : List Hop). p ++ strict_hop l.out.link.far ∷ s.below) s.is_part.3)
+shown_head n q end [] e hs legs last s = absurd s
+shown_head n q (Inside t) (one ∷ []) e hs [] (Links last) s = (_, s.is_hops ∙ ap (λ (p : List Hop). p ++ strict_hop t ∷ []) s.is_part.3)
+shown_head n q (Asked b told) (one ∷ []) e hs [] (Over l c) s = (_, s.is_hops ∙ ap (λ (p : List Hop). p ++ strict_hop l.out.link.far ∷ s.row.hops) s.is_part.3)
+shown_head n q (Inside t) (one ∷ []) e hs [] (Over l c) s = absurd s
+shown_head n q (Asked b told) (one ∷ []) e hs [] (Links last) s = absurd s
+shown_head n q end (one ∷ []) e hs (l ∷ ls) last s = absurd s
+shown_head n q end (one ∷ next ∷ rest) e hs [] last s = absurd s
+shown_head n q end (one ∷ next ∷ rest) e hs (l ∷ ls) last s = (_, s.is_hops ∙ ap (λ (p : List Hop). p ++ strict_hop l.out.link.far ∷ s.below) s.is_part.3)
 
-pub along_within : (q : Query) (gs : List Rows) (s t : Addr) (legs : List Part) (last : List Link) → IsLeastAlong q gs s t legs last → crossing_cost q legs last ≤ q.cap
-along_within q [] s t legs last l = absurd l
-along_within q (g ∷ rest) s t legs last l = l.feasible.within
+pub along_within : (q : Query) (gs : List Rows) (s : Addr) (goal : Goal) (legs : List Part) (last : Last) → IsLeastAlong q gs s goal legs last → crossing_cost q legs last ≤ q.cap
+along_within q [] s goal legs last l = absurd l
+along_within q (g ∷ rest) s goal legs last l = l.feasible.within
 
-module _ (c : Codec) (codec : IsCodec c) (n : NetworkParts) (chain : List Leg) (w : Wanted) (cap : w.query.cap ≤ COST_MAX) (P : Addr → Type 0) where
+module _ (c : Codec) (codec : IsCodec c) (n : NetworkParts) (chain : List Leg) (end : End) (w : Wanted) (cap : w.query.cap ≤ COST_MAX) (P : Addr → Type 0) where
   abbrev pub Least : Addr → Path → Type 0
-  Least e path = IsLeastPath c n false (domains chain) chain w e path
+  Least e path = IsLeastPath c n false (domains chain) chain end w e path
 
   abbrev cost_of : (e : Addr) (path : Path) → Least e path → ℕ
   cost_of e path p = crossing_cost w.query p.legs p.last
 
   pub read_path : (e : Addr) (path : Path) (p : Least e path) → branch_of c w.query.metric path.hops path.metric ≡ record { entry = e; cost = cost_of e path p; hops = path.hops } ∷ []
   read_path e path p =
-      let within = along_within w.query (domains chain) e w.target p.legs p.last p.least in
+      let within = along_within w.query (domains chain) e (goal_of end) p.legs p.last p.least in
       let small : cost_of e path p ≤ COST_MAX = omega (arith, within, cap) in
-      let head = shown_head n w.query w.target chain e path.hops p.legs p.last p.shown in
+      let head = shown_head n w.query end chain e path.hops p.legs p.last p.shown in
       subst (λ (m : Option (ℕ × ℕ)). branch_of c w.query.metric path.hops m ≡ record { entry = e; cost = cost_of e path p; hops = path.hops } ∷ []) (sym p.metric)
       (branch_made c w.query.metric (cost_of e path p) (codec.costs (cost_of e path p) small) small e path.hops head.0 head.1)
 
@@ -149,24 +152,24 @@ module _ (c : Codec) (codec : IsCodec c) (n : NetworkParts) (chain : List Leg) (
   ]
 
 -- what the next domain told: from which of its nodes there are paths
-pub record IsTold (c : Codec) (n : NetworkParts) (d : As) (next : Leg) (chain : List Leg) (w : Wanted) (paths : List Path) : Type 0 where
-  pub each : (path : Path) → Contains paths path → (e : Addr) × IsEntryFrom (pinned next.own next.at) d e × IsLeastPath c n false (domains (next ∷ chain)) (next ∷ chain) w e path
+pub record IsTold (c : Codec) (n : NetworkParts) (d : As) (next : Leg) (chain : List Leg) (end : End) (w : Wanted) (paths : List Path) : Type 0 where
+  pub each : (path : Path) → Contains paths path → (e : Addr) × IsEntryFrom (pinned next.own next.at) d e × IsLeastPath c n false (domains (next ∷ chain)) (next ∷ chain) end w e path
   pub every : (e : Addr) → IsEntryFrom (pinned next.own next.at) d e →
-      HasNoneAlong w.query (domains (next ∷ chain)) e w.target ⊎ ((path : Path) × Contains paths path × IsLeastPath c n false (domains (next ∷ chain)) (next ∷ chain) w e path)
+      HasNoneAlong w.query (domains (next ∷ chain)) e (goal_of end) ⊎ ((path : Path) × Contains paths path × IsLeastPath c n false (domains (next ∷ chain)) (next ∷ chain) end w e path)
 
-pub told_beyond : (c : Codec) → IsCodec c → (n : NetworkParts) (d : As) (next : Leg) (chain : List Leg) (w : Wanted) → w.query.cap ≤ COST_MAX → (paths : List Path) → IsTold c n d next chain w paths →
-    AreBeyond w.query d (pinned next.own next.at) (domains chain) w.target (beyond (downs (branches_in c w.query.metric paths)))
-told_beyond c codec n d next chain w small paths told = record {
+pub told_beyond : (c : Codec) → IsCodec c → (n : NetworkParts) (d : As) (next : Leg) (chain : List Leg) (end : End) (w : Wanted) → w.query.cap ≤ COST_MAX → (paths : List Path) → IsTold c n d next chain end w paths →
+    AreBeyond w.query d (pinned next.own next.at) (domains chain) (goal_of end) (beyond (downs (branches_in c w.query.metric paths)))
+told_beyond c codec n d next chain end w small paths told = record {
   each = λ e cost row.
       let b = branch_of_row (branches_in c w.query.metric paths) e cost row in
-      let f = from_path c codec n (next ∷ chain) w small (IsEntryFrom (pinned next.own next.at) d) paths told.each b.0 b.1 in
+      let f = from_path c codec n (next ∷ chain) end w small (IsEntryFrom (pinned next.own next.at) d) paths told.each b.0 b.1 in
       let at : f.entry ≡ e = sym (ap (λ (x : Branch). x.entry) f.is) ∙ b.2 in
       let sum : cost ≡ crossing_cost w.query f.least.legs f.least.last = sym b.3 ∙ ap (λ (x : Branch). x.cost) f.is in
-      subst (λ (x : Addr). IsEntryFrom (pinned next.own next.at) d x × IsLeastCost w.query (pinned next.own next.at) (domains chain) x w.target cost) at
+      subst (λ (x : Addr). IsEntryFrom (pinned next.own next.at) d x × IsLeastCost w.query (pinned next.own next.at) (domains chain) x (goal_of end) cost) at
       (f.holds, record { legs = f.least.legs; last = f.least.last; least = f.least.least; is = sum });
   absent = λ e entry none. elim (told.every e entry) [
     | inl nowhere ↦ nowhere
     | inr known ↦ absurd (none (crossing_cost w.query known.2.legs known.2.last)
-        (row_of_branch (branches_in c w.query.metric paths) _ (path_read c codec n (next ∷ chain) w small (IsEntryFrom (pinned next.own next.at) d) paths known.0 known.1 e known.2)))
+        (row_of_branch (branches_in c w.query.metric paths) _ (path_read c codec n (next ∷ chain) end w small (IsEntryFrom (pinned next.own next.at) d) paths known.0 known.1 e known.2)))
   ];
 }

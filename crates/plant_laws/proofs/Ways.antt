@@ -1,11 +1,10 @@
--- A best row stands for a least walk through all the domains, which both forms of its branch show.
+-- A best row stands for a least walk along a chain to where it ends, which both forms of its branch show.
 use Rattle.std.proofs.Common.{◌≡◌, ◌≤◌, ℕ, List, [], ◌∷◌, ◌++◌, sym, ◌∙◌, ap, subst, refl, arith}
 use Rattle.std.specs.Prelude.{Contains, None, true, false}
 use Rattle.std.specs.declared.option.Option.{Option}
 use Rattle.dom_base.specs.declared.limits.TheConstants.{COST_MAX}
 use Rattle.dom_base.specs.declared.addr.Addr.{Addr}
 use Rattle.dom_base.specs.declared.names.As.{As}
-use Rattle.dom_base.specs.declared.link.Link.{Link}
 use Rattle.dom_base.specs.declared.query.Query.{Query}
 use Rattle.dom_base.specs.Admission.{Allows}
 use Rattle.te_links.specs.Rows.{Rows}
@@ -13,7 +12,8 @@ use Rattle.pcep_subobjects.specs.declared.hop.Hop.{Hop}
 use Rattle.pcep_messages.specs.declared.message.Path.{Path}
 use Rattle.pcep_messages.specs.declared.message.Wanted.{Wanted}
 use Rattle.walk_laws.specs.Walks.{Walk}
-use Rattle.walk_laws.specs.Crossing.{Leg as Part, Crosses, CrossingWalk, crossing_cost, query_in, IsLeastCrossing, IsLeastCost}
+use Rattle.walk_laws.specs.Borders.{Beyond, LeadsTo}
+use Rattle.walk_laws.specs.Crossing.{Leg as Part, Goal, At, Last, Links, Over, Crosses, CrossingWalk, crossing_cost, query_in, IsLeastCrossing, IsLeastCost}
 use Rattle.walk_laws.specs.Composition.{IsEntryFrom, AreBeyond}
 use Rattle.vspt_tree.specs.declared.branch.Best.{Best}
 use Rattle.vspt_tree.specs.declared.branch.Branch.{Branch}
@@ -27,24 +27,25 @@ use Rattle.plant_model.specs.Laws.{IsCodec}
 use Rattle.plant_model.specs.Settings.{place}
 use Rattle.plant_model.specs.Plant.{Segment}
 use Rattle.plant_laws.specs.Transcript.{Leg, pinned, domains, keys_at}
+use Rattle.plant_laws.specs.Ends.{End, Inside, Asked, goal_of}
 use Rattle.plant_laws.specs.Shown.{IsChosenTo, Shows}
-use Rattle.plant_laws.proofs.BestParts.{EndsIn, GoesOn}
+use Rattle.plant_laws.proofs.BestParts.{EndsIn, GoesOn, row_of_branch}
 use Rattle.plant_laws.proofs.Told.{FromPath}
 use Rattle.pcep_subobjects.specs.Hops.{strict_hop}
 use Rattle.border_costs.specs.Asks.{beyond}
 
-pub record IsWay (n : NetworkParts) (q : Query) (t : Addr) (one : Leg) (chain : List Leg) (down : List Branch) (b : Best) : Type 0 where
+pub record IsWay (n : NetworkParts) (q : Query) (end : End) (t : Addr) (one : Leg) (chain : List Leg) (down : List Branch) (b : Best) : Type 0 where
   pub legs : List Part
-  pub last : List Link
-  pub least : IsLeastCrossing q (pinned one.own one.at) (domains chain) b.entry t legs last
+  pub last : Last
+  pub least : IsLeastCrossing q (pinned one.own one.at) (domains chain) b.entry (goal_of end) legs last
   pub sum : b.cost ≡ crossing_cost q legs last
-  pub opened : Shows n true q t (one ∷ chain) b.entry (open_branch b down) legs last
-  pub closed : (key : Issued Segment) → Contains (keys_at one.solved) key → key.segment ≡ b.segment → Shows n false q t (one ∷ chain) b.entry (closed_branch key.number (place n one.own).id t b down) legs last
+  pub opened : Shows n true q end (one ∷ chain) b.entry (open_branch b down) legs last
+  pub closed : (key : Issued Segment) → Contains (keys_at one.solved) key → key.segment ≡ b.segment → Shows n false q end (one ∷ chain) b.entry (closed_branch key.number (place n one.own).id t b down) legs last
 
 -- a walk of the least cost is least
-walk_least : (q : Query) (g : Rows) (rest : List Rows) (s t : Addr) (c : ℕ) (legs : List Part) (last : List Link) → IsLeastCost q g rest s t c → CrossingWalk q g rest s t legs last →
-    c ≡ crossing_cost q legs last → IsLeastCrossing q g rest s t legs last
-walk_least q g rest s t c legs last known walk sum =
+walk_least : (q : Query) (g : Rows) (rest : List Rows) (s : Addr) (goal : Goal) (c : ℕ) (legs : List Part) (last : Last) → IsLeastCost q g rest s goal c → CrossingWalk q g rest s goal legs last →
+    c ≡ crossing_cost q legs last → IsLeastCrossing q g rest s goal legs last
+walk_least q g rest s goal c legs last known walk sum =
     let within = known.least.feasible.within in
     record {
       feasible = record { walk = walk; within = omega (arith, within, known.is, sum) };
@@ -62,14 +63,14 @@ module _ (n : NetworkParts) (w : Wanted) (one : Leg) (own : w.query ≡ query_in
   t = w.target
 
   -- in the last domain
-  pub end_way : (b : Best) → EndsIn g q t b → IsLeastCost q g [] b.entry t b.cost → IsWay n q t one [] [] b
+  pub end_way : (b : Best) → EndsIn g q t b → IsLeastCost q g [] b.entry (At t) b.cost → IsWay n q (Inside t) t one [] [] b
   end_way b part known =
-      let walk : CrossingWalk q g [] b.entry t [] part.links = subst (λ (x : Query). Walk g x b.entry t part.links) home part.walk in
+      let walk : CrossingWalk q g [] b.entry (At t) [] (Links part.links) = subst (λ (x : Query). Walk g x b.entry t part.links) home part.walk in
       let chosen : IsChosenTo g (query_in q one.own) (Node t) [] b.entry t part.links = subst (λ (x : Query). IsChosenTo g x (Node t) [] b.entry t part.links) own part.chosen in
       record {
         legs = [];
-        last = part.links;
-        least = walk_least q g [] b.entry t b.cost [] part.links known walk part.sum;
+        last = Links part.links;
+        least = walk_least q g [] b.entry (At t) b.cost [] (Links part.links) known walk part.sum;
         sum = part.sum;
         opened = record {
           part = open_of b.segment;
@@ -85,8 +86,53 @@ module _ (n : NetworkParts) (w : Wanted) (one : Leg) (own : w.query ≡ query_in
         };
       }
 
+  -- in the last domain, over what an outside element told
+  pub over_way : (next : As) (told : List Branch) (b : Best) → GoesOn g q next told b → IsLeastCost q g [] b.entry (goal_of (Asked next told)) b.cost → IsWay n q (Asked next told) t one [] told b
+  over_way next told b part known =
+      let leg : Part = record { links = part.links; out = part.out } in
+      let branch = part.below.branch in
+      let make : Addr → ℕ → Beyond = λ x k. record { node = x; cost = k } in
+      let row : Contains (beyond (downs told)) (make part.out.link.to part.below_cost) =
+      subst (λ (k : ℕ). Contains (beyond (downs told)) (make part.out.link.to k)) part.below.cost
+      (subst (λ (x : Addr). Contains (beyond (downs told)) (make x branch.cost)) part.below.at (row_of_branch told branch part.below.is_branch)) in
+      let inside : Walk g (query_in q g.own) b.entry part.out.link.from part.links = subst (λ (x : Query). Walk g x b.entry part.out.link.from part.links) home part.walk in
+      let leads : LeadsTo g (query_in q g.own) next part.out = subst (λ (x : Query). LeadsTo g x next part.out) home part.leads in
+      let walk : CrossingWalk q g [] b.entry (goal_of (Asked next told)) [] (Over leg part.below_cost) = (inside, leads, row) in
+      let chosen : IsChosenTo g (query_in q one.own) (Next next) (downs told) b.entry part.out.link.far part.links =
+      subst (λ (x : Query). IsChosenTo g x (Next next) (downs told) b.entry part.out.link.far part.links) own part.chosen in
+      let hops : onward b.exit b.head told ≡ strict_hop part.out.link.far ∷ branch.hops =
+      ap (λ (o : Option Addr). onward b.exit o told) part.head
+      ∙ ap (λ (o : Option Branch). strict_hop b.exit ∷ hops_of o) part.below.first
+      ∙ ap (λ (x : Addr). strict_hop x ∷ branch.hops) part.exit in
+      record {
+        legs = [];
+        last = Over leg part.below_cost;
+        least = walk_least q g [] b.entry (goal_of (Asked next told)) b.cost [] (Over leg part.below_cost) known walk part.sum;
+        sum = part.sum;
+        opened = record {
+          part = open_of b.segment;
+          is_part = ap (λ (x : Segment). open_of x) part.shown;
+          chosen = chosen;
+          row = branch;
+          is_row = part.below.first;
+          is_cost = part.below.cost;
+          is_hops = ap (λ (x : List Hop). open_of b.segment ++ x) hops;
+        };
+        closed = λ key known_key stands. record {
+          part = closed_of b.entry key.number (place n one.own).id None;
+          is_part = (key, known_key, stands ∙ part.shown, refl);
+          chosen = chosen;
+          row = branch;
+          is_row = part.below.first;
+          is_cost = part.below.cost;
+          is_hops =
+              ap (λ (o : Option Addr). closed_of b.entry key.number (place n one.own).id (end_of o t) ++ onward b.exit b.head told) part.head
+              ∙ ap (λ (x : List Hop). closed_of b.entry key.number (place n one.own).id None ++ x) hops;
+        };
+      }
+
   -- before another domain
-  module _ (c : Codec) (codec : IsCodec c) (next : Leg) (chain : List Leg) (small : w.query.cap ≤ COST_MAX) (here : g.own ≡ one.own)
+  module _ (c : Codec) (codec : IsCodec c) (next : Leg) (chain : List Leg) (end : End) (small : w.query.cap ≤ COST_MAX) (here : g.own ≡ one.own)
       (at_next : (pinned next.own next.at).own ≡ next.own) (paths : List Path) where
     abbrev h : Rows
     h = pinned next.own next.at
@@ -94,8 +140,8 @@ module _ (n : NetworkParts) (w : Wanted) (one : Leg) (own : w.query ≡ query_in
     abbrev down : List Branch
     down = branches_in c q.metric paths
 
-    pub on_way : (b : Best) (part : GoesOn g q next.own down b) → FromPath c codec n (next ∷ chain) w small (IsEntryFrom h one.own) paths part.below.branch →
-        IsLeastCost q g (h ∷ domains chain) b.entry t b.cost → AreBeyond q one.own h (domains chain) t (beyond (downs down)) → IsWay n q t one (next ∷ chain) down b
+    pub on_way : (b : Best) (part : GoesOn g q next.own down b) → FromPath c codec n (next ∷ chain) end w small (IsEntryFrom h one.own) paths part.below.branch →
+        IsLeastCost q g (h ∷ domains chain) b.entry (goal_of end) b.cost → AreBeyond q one.own h (domains chain) (goal_of end) (beyond (downs down)) → IsWay n q end t one (next ∷ chain) down b
     on_way b part f known right =
         let head : f.entry ≡ part.out.link.to = sym (ap (λ (x : Branch). x.entry) f.is) ∙ part.below.at in
         let leg : Part = record { links = part.links; out = part.out } in
@@ -108,15 +154,15 @@ module _ (n : NetworkParts) (w : Wanted) (one : Leg) (own : w.query ≡ query_in
           allowed = subst (λ (x : Query). Allows x part.out.link) home part.leads.allowed;
           entry = entry;
         } in
-        let after : CrossingWalk q h (domains chain) part.out.link.to t f.least.legs f.least.last =
-        subst (λ (x : Addr). CrossingWalk q h (domains chain) x t f.least.legs f.least.last) head f.least.least.feasible.walk in
-        let walk : CrossingWalk q g (h ∷ domains chain) b.entry t (leg ∷ f.least.legs) f.least.last = (inside, crosses, after) in
+        let after : CrossingWalk q h (domains chain) part.out.link.to (goal_of end) f.least.legs f.least.last =
+        subst (λ (x : Addr). CrossingWalk q h (domains chain) x (goal_of end) f.least.legs f.least.last) head f.least.least.feasible.walk in
+        let walk : CrossingWalk q g (h ∷ domains chain) b.entry (goal_of end) (leg ∷ f.least.legs) f.least.last = (inside, crosses, after) in
         let told = ap (λ (x : Branch). x.cost) f.is in
         let sum : b.cost ≡ crossing_cost q (leg ∷ f.least.legs) f.least.last = omega (arith, part.sum, part.below.cost, told) in
         let chosen : IsChosenTo g (query_in q one.own) (Next next.own) (downs down) b.entry part.out.link.far part.links =
         subst (λ (x : Query). IsChosenTo g x (Next next.own) (downs down) b.entry part.out.link.far part.links) own part.chosen in
-        let shown : Shows n false q t (next ∷ chain) part.out.link.to f.path.hops f.least.legs f.least.last =
-        subst (λ (x : Addr). Shows n false q t (next ∷ chain) x f.path.hops f.least.legs f.least.last) head f.least.shown in
+        let shown : Shows n false q end (next ∷ chain) part.out.link.to f.path.hops f.least.legs f.least.last =
+        subst (λ (x : Addr). Shows n false q end (next ∷ chain) x f.path.hops f.least.legs f.least.last) head f.least.shown in
         let hops : onward b.exit b.head down ≡ strict_hop part.out.link.far ∷ f.path.hops =
         ap (λ (o : Option Addr). onward b.exit o down) part.head
         ∙ ap (λ (o : Option Branch). strict_hop b.exit ∷ hops_of o) part.below.first
@@ -125,7 +171,7 @@ module _ (n : NetworkParts) (w : Wanted) (one : Leg) (own : w.query ≡ query_in
         record {
           legs = leg ∷ f.least.legs;
           last = f.least.last;
-          least = walk_least q g (h ∷ domains chain) b.entry t b.cost (leg ∷ f.least.legs) f.least.last known walk sum;
+          least = walk_least q g (h ∷ domains chain) b.entry (goal_of end) b.cost (leg ∷ f.least.legs) f.least.last known walk sum;
           sum = sum;
           opened = record {
             part = open_of b.segment;

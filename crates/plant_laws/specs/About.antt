@@ -2,12 +2,11 @@
 use Rattle.std.specs.Prelude.{◌≡◌, ◌≤◌, ℕ, Bool, true, false, List, [], ◌∷◌, Contains, Option, Some, bit_and}
 use Rattle.dom_base.specs.declared.names.As.{As}
 use Rattle.dom_base.specs.declared.addr.Addr.{Addr}
-use Rattle.dom_base.specs.declared.link.Link.{Link}
 use Rattle.dom_base.specs.declared.names.Peer.{Peer}
 use Rattle.dom_base.specs.declared.names.Peer.TheVariants.{Inner}
 use Rattle.dom_base.specs.declared.query.Query.{Query}
 use Rattle.te_links.specs.Rows.{Rows}
-use Rattle.walk_laws.specs.Crossing.{IsLeastCrossing, HasNoCrossing, crossing_cost}
+use Rattle.walk_laws.specs.Crossing.{Goal, Last, IsLeastCrossing, HasNoCrossing, crossing_cost}
 use Rattle.walk_laws.specs.Crossing as crossing
 use Rattle.pcep_messages.specs.declared.message.Reply.{Reply}
 use Rattle.pcep_messages.specs.declared.message.Path.{Path}
@@ -33,6 +32,7 @@ use Rattle.plant_model.specs.Settings.{place, family}
 use Rattle.plant_model.specs.State.{Takes}
 use Rattle.plant_model.specs.Plant.{PlantDeed}
 use Rattle.plant_laws.specs.Transcript.{Transcript, Within, opened, Delivered, Handed, SentIn, Leg, Chain, numbers, outputs_at, asks}
+use Rattle.plant_laws.specs.Ends.{End, goal_of}
 use Rattle.plant_laws.specs.Shown.{Shows}
 use Rattle.dom_base.specs.declared.query.Metric.{Metric}
 use Rattle.pcep_messages.specs.declared.message.Answer.{Answer}
@@ -116,19 +116,19 @@ pub record IsViaParent (c : Codec) (n : NetworkParts) (older now : Transcript) (
   pub solved : SolvesBorder job found
 
 -- The first domain and the further ones of a chain, with a walk through them.
-abbrev pub IsLeastAlong : Query → List Rows → Addr → Addr → List crossing.Leg → List Link → Type 0
-IsLeastAlong q [] s t legs last = ⊥
-IsLeastAlong q (g ∷ rest) s t legs last = IsLeastCrossing q g rest s t legs last
+abbrev pub IsLeastAlong : Query → List Rows → Addr → Goal → List crossing.Leg → Last → Type 0
+IsLeastAlong q [] s goal legs last = ⊥
+IsLeastAlong q (g ∷ rest) s goal legs last = IsLeastCrossing q g rest s goal legs last
 
-abbrev pub HasNoneAlong : Query → List Rows → Addr → Addr → Type 0
-HasNoneAlong q [] s t = ⊥
-HasNoneAlong q (g ∷ rest) s t = HasNoCrossing q g rest s t
+abbrev pub HasNoneAlong : Query → List Rows → Addr → Goal → Type 0
+HasNoneAlong q [] s goal = ⊥
+HasNoneAlong q (g ∷ rest) s goal = HasNoCrossing q g rest s goal
 
 -- The path shows a walk from a node that is least through these domains, the first part open or closed, and its metric is the
 -- walk's cost.
-pub record IsLeastPath (c : Codec) (n : NetworkParts) (open' : Bool) (domains : List Rows) (chain : List Leg) (w : Wanted) (from : Addr) (path : Path) : Type 0 where
+pub record IsLeastPath (c : Codec) (n : NetworkParts) (open' : Bool) (domains : List Rows) (chain : List Leg) (end : End) (w : Wanted) (from : Addr) (path : Path) : Type 0 where
   pub legs : List crossing.Leg
-  pub last : List Link
-  pub least : IsLeastAlong w.query domains from w.target legs last
+  pub last : Last
+  pub least : IsLeastAlong w.query domains from (goal_of end) legs last
   pub metric : path.metric ≡ Some (type_of_metric w.query.metric, c.word (crossing_cost w.query legs last))
-  pub shown : Shows n open' w.query w.target chain from path.hops legs last
+  pub shown : Shows n open' w.query end chain from path.hops legs last

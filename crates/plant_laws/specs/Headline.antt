@@ -2,6 +2,7 @@
 use Rattle.std.specs.Prelude.{◌≡◌, ◌≢◌, ◌⊎◌, ℕ, true, List, [], ◌∷◌, Some, None}
 use Rattle.dom_base.specs.declared.names.As.{As}
 use Rattle.dom_base.specs.declared.names.Peer.TheVariants.{Outside}
+use Rattle.plant_laws.specs.Ends.{Inside, goal_of}
 use Rattle.pcep_messages.specs.declared.message.Reply.{Reply}
 use Rattle.pcep_messages.specs.declared.message.Path.{Path}
 use Rattle.pcep_messages.specs.declared.message.Answer.TheVariants.{Paths, NoPath}
@@ -34,7 +35,7 @@ pub record IsOfChain (c : Codec) (n : NetworkParts) (older now : Transcript) (d 
   pub about : IsAbout c n older now d (Outside i) request wanted chain
   pub path : Path
   pub one : paths ≡ path ∷ []
-  pub least : IsLeastPath c n true (domains chain) chain wanted wanted.source path
+  pub least : IsLeastPath c n true (domains chain) chain (Inside wanted.target) wanted wanted.source path
 
 -- A client is answered by an element. Each path answered to a client is of least cost among all walks through the asked domains in order, each domain as it stood
 -- when its element took the request.
@@ -53,7 +54,7 @@ pub record HasNoneOfChain (c : Codec) (n : NetworkParts) (older now : Transcript
   pub chain : List Leg
   pub same : request.id ≡ r.id
   pub about : IsAbout c n older now d (Outside i) request wanted chain
-  pub none : HasNoneAlong wanted.query (domains chain) wanted.source wanted.target
+  pub none : HasNoneAlong wanted.query (domains chain) wanted.source (goal_of (Inside wanted.target))
 
 -- NO-PATH of nature 0 to a client says that there is none.
 abbrev pub NoneAnswersIn : Codec → NetworkParts → List Entry → Plant → Type 0

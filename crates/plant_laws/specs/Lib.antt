@@ -1,5 +1,6 @@
 -- the headline
 pub mod Transcript
+pub mod Ends
 pub mod Shown
 pub mod About
 pub mod Headline

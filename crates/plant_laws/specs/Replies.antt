@@ -21,6 +21,7 @@ use Rattle.path_keys.specs.declared.issued.Issued.{Issued}
 use Rattle.plant_model.specs.Plant.{Plant, Entry, Run, deeds_of, Segment}
 use Rattle.plant_model.specs.Blind.{is_closed}
 use Rattle.plant_laws.specs.Transcript.{Transcript, Within, Leg, domains, pinned}
+use Rattle.plant_laws.specs.Ends.{End, Inside, goal_of}
 use Rattle.plant_laws.specs.About.{Replies, IsAbout, HasNoneAlong, IsLeastPath}
 use Rattle.plant_laws.specs.Runs.{InShortRuns}
 
@@ -30,10 +31,10 @@ entries_along class w [] = []
 entries_along class w (leg ∷ legs) = entries_of class w.source (pinned leg.own leg.at)
 
 -- each path is least from one of the entries, and an entry without a path has no walk
-pub record AreRightful (c : Codec) (n : NetworkParts) (class : Class) (chain : List Leg) (w : Wanted) (paths : List Path) : Type 0 where
-  pub each : (path : Path) → Contains paths path → (e : Addr) × Contains (entries_along class w chain) e × IsLeastPath c n false (domains chain) chain w e path
+pub record AreRightful (c : Codec) (n : NetworkParts) (class : Class) (chain : List Leg) (end : End) (w : Wanted) (paths : List Path) : Type 0 where
+  pub each : (path : Path) → Contains paths path → (e : Addr) × Contains (entries_along class w chain) e × IsLeastPath c n false (domains chain) chain end w e path
   pub every : (e : Addr) → Contains (entries_along class w chain) e →
-      HasNoneAlong w.query (domains chain) e w.target ⊎ ((path : Path) × Contains paths path × IsLeastPath c n false (domains chain) chain w e path)
+      HasNoneAlong w.query (domains chain) e (goal_of end) ⊎ ((path : Path) × Contains paths path × IsLeastPath c n false (domains chain) chain end w e path)
 
 -- what an element told a closed peer about a request
 pub record IsRightful (c : Codec) (n : NetworkParts) (older now : Transcript) (d : As) (p : Peer) (r : Reply) (paths : List Path) : Type 0 where
@@ -42,7 +43,7 @@ pub record IsRightful (c : Codec) (n : NetworkParts) (older now : Transcript) (d
   pub chain : List Leg
   pub same : request.id ≡ r.id
   pub about : IsAbout c n older now d p request wanted chain
-  pub right : AreRightful c n (class_of n p) chain wanted paths
+  pub right : AreRightful c n (class_of n p) chain (Inside wanted.target) wanted paths
 
 -- Each reply of paths that an element sends a closed peer is rightful.
 abbrev pub LeastRepliesIn : Codec → NetworkParts → List Entry → Plant → Type 0

@@ -6,7 +6,7 @@ use Rattle.dom_base.specs.declared.query.Query.{Query}
 use Rattle.dom_base.specs.declared.query.Seed.{Seed}
 use Rattle.te_links.specs.Rows.{Rows}
 use Rattle.walk_laws.specs.Labels.{IsLabel, IsSegment}
-use Rattle.walk_laws.specs.Crossing.{query_in}
+use Rattle.walk_laws.specs.Crossing.{Last, Links, Over, query_in}
 use Rattle.walk_laws.specs.Crossing as crossing
 use Rattle.pcep_subobjects.specs.declared.hop.Hop.{Hop}
 use Rattle.plant_text.specs.declared.settings.NetworkParts.{NetworkParts}
@@ -16,9 +16,13 @@ use Rattle.border_costs.specs.declared.job.Down.{Down}
 use Rattle.path_keys.specs.declared.issued.Issued.{Issued}
 use Rattle.disclosure.specs.Shown.{open_of, closed_of}
 use Rattle.border_costs.specs.Asks.{AreSeedsTo, beyond}
+use Rattle.vspt_tree.specs.declared.branch.Branch.{Branch}
+use Rattle.vspt_tree.specs.Branches.{first_least}
+use Rattle.plant_model.specs.Branches.{downs}
 use Rattle.plant_model.specs.Settings.{place}
 use Rattle.plant_model.specs.Plant.{Segment}
 use Rattle.plant_laws.specs.Transcript.{Leg, pinned, keys_at, domains}
+use Rattle.plant_laws.specs.Ends.{End, Inside, Asked, goal_of}
 use Rattle.pcep_subobjects.specs.Hops.{strict_hop}
 use Rattle.walk_laws.specs.Composition.{AreBeyond}
 
@@ -44,25 +48,41 @@ abbrev pub ending : Bool → Addr → List Hop
 ending true t = []
 ending false t = strict_hop t ∷ []
 
--- The hops show this walk along the chain, the first part open or closed, and the others closed. The part of each domain is the
--- chosen segment over the least costs of the rest.
-abbrev pub Shows : NetworkParts → Bool → Query → Addr → List Leg → Addr → List Hop → List crossing.Leg → List Link → Type 0
-Shows n open' q t [] e hs legs last = ⊥
-Shows n open' q t (one ∷ []) e hs [] last = record {
+-- What the hops show of the last domain of a chain: its chosen segment, and then the target, or the far address of an out link and
+-- the hops of the first least branch that was told of its head.
+abbrev pub ShowsLast : NetworkParts → Bool → Query → End → Leg → Addr → List Hop → Last → Type 0
+ShowsLast n open' q (Inside t) one e hs (Links last) = record {
   part : List Hop;
   is_part : IsPart open' (keys_at one.solved) (place n one.own).id e last part;
   chosen : IsChosenTo (pinned one.own one.at) (query_in q one.own) (Node t) [] e t last;
   is_hops : hs ≡ part ++ ending open' t;
 }
-Shows n open' q t (one ∷ []) e hs (l ∷ ls) last = ⊥
-Shows n open' q t (one ∷ next ∷ rest) e hs [] last = ⊥
-Shows n open' q t (one ∷ next ∷ rest) e hs (l ∷ ls) last = record {
+ShowsLast n open' q (Asked next told) one e hs (Over l c) = record {
+  part : List Hop;
+  is_part : IsPart open' (keys_at one.solved) (place n one.own).id e l.links part;
+  chosen : IsChosenTo (pinned one.own one.at) (query_in q one.own) (Next next) (downs told) e l.out.link.far l.links;
+  row : Branch;
+  is_row : first_least l.out.link.to told ≡ Some row;
+  is_cost : row.cost ≡ c;
+  is_hops : hs ≡ part ++ strict_hop l.out.link.far ∷ row.hops;
+}
+ShowsLast n open' q (Inside t) one e hs (Over l c) = ⊥
+ShowsLast n open' q (Asked next told) one e hs (Links last) = ⊥
+
+-- The hops show this walk along the chain, the first part open or closed, and the others closed. The part of each domain is the
+-- chosen segment over the least costs of the rest.
+abbrev pub Shows : NetworkParts → Bool → Query → End → List Leg → Addr → List Hop → List crossing.Leg → Last → Type 0
+Shows n open' q end [] e hs legs last = ⊥
+Shows n open' q end (one ∷ []) e hs [] last = ShowsLast n open' q end one e hs last
+Shows n open' q end (one ∷ []) e hs (l ∷ ls) last = ⊥
+Shows n open' q end (one ∷ next ∷ rest) e hs [] last = ⊥
+Shows n open' q end (one ∷ next ∷ rest) e hs (l ∷ ls) last = record {
   part : List Hop;
   is_part : IsPart open' (keys_at one.solved) (place n one.own).id e l.links part;
   rows : List Down;
-  right : AreBeyond q one.own (pinned next.own next.at) (domains rest) t (beyond rows);
+  right : AreBeyond q one.own (pinned next.own next.at) (domains rest) (goal_of end) (beyond rows);
   chosen : IsChosenTo (pinned one.own one.at) (query_in q one.own) (Next next.own) rows e l.out.link.far l.links;
   below : List Hop;
-  shown : Shows n false q t (next ∷ rest) l.out.link.to below ls last;
+  shown : Shows n false q end (next ∷ rest) l.out.link.to below ls last;
   is_hops : hs ≡ part ++ strict_hop l.out.link.far ∷ below;
 }

@@ -19,7 +19,7 @@ impl Model for Counter {
 }
 
 /// What may be done to a counter. Every sum admits both acts, and the answer is the sum after it.
-#[derive(Clone, Copy, Debug, PartialEq, Eq)]
+#[derive(Clone, Copy)]
 pub enum Change {
     /// Adds the number. A sum that would not fit its type stays as it was.
     Add(u64),
@@ -27,12 +27,14 @@ pub enum Change {
 }
 
 impl Counter {
+    /// A counter at 0.
     pub fn new() -> Counter
         ensures { result ≡ 0 }
     {
         Counter { sum: 0 }
     }
 
+    /// What was added in all.
     pub fn sum(&self) -> u64
         ensures { result ≡ self.now }
     {

@@ -23,11 +23,11 @@ use std::time::Clock;
 const LAST: u64 = 1 << 63;
 
 /// The tickets are used up. The number is the ticket word that was met, 2^63 or more.
-#[derive(Clone, Copy, Debug, PartialEq, Eq)]
+#[derive(Clone, Copy, Debug)]
 pub struct Spent(pub u64);
 
 /// Why no seat was split off. Since a split takes no memory, it never answers `NoMemory`.
-#[derive(Clone, Copy, Debug, PartialEq, Eq)]
+#[derive(Clone, Copy, Debug)]
 pub enum SplitError {
     /// The seat has one share alone.
     NoSeat,

@@ -33,12 +33,13 @@ abbrev pub three : NetworkParts
 three = record {
   elements = element 1 false ∷ element 2 false ∷ element 3 false ∷ [];
   links = (As_ 1, As_ 2) ∷ (As_ 1, As_ 3) ∷ (As_ 2, As_ 3) ∷ [];
-  peers = record { name = []; at = As_ 1; class = Client true; port = 1 } ∷ record { name = []; at = As_ 1; class = Client true; port = 2 }
-      ∷ record { name = []; at = As_ 2; class = Client true; port = 3 } ∷ record { name = []; at = As_ 2; class = Neighbour (As_ 7); port = 4 } ∷ [];
+  peers = record { name = []; at = As_ 1; class = Client true; port = 1; down = false } ∷ record { name = []; at = As_ 1; class = Client true; port = 2; down = false }
+      ∷ record { name = []; at = As_ 2; class = Client true; port = 3; down = false } ∷ record { name = []; at = As_ 2; class = Neighbour (As_ 7); port = 4; down = false } ∷ [];
   deny = [];
   parent = None;
   parent_links = [];
   workers = 1;
+  watch = None;
 }
 
 abbrev pub third : Rows
@@ -139,11 +140,12 @@ abbrev pub family : NetworkParts
 family = record {
   elements = element 1 true ∷ element 2 true ∷ [];
   links = [];
-  peers = record { name = []; at = As_ 1; class = Client true; port = 1 } ∷ [];
+  peers = record { name = []; at = As_ 1; class = Client true; port = 1; down = false } ∷ [];
   deny = [];
   parent = Some (V4 200);
   parent_links = record { from_as = As_ 1; to_as = As_ 2; link = link } ∷ [];
   workers = 1;
+  watch = None;
 }
 
 abbrev pub up : As

@@ -12,7 +12,7 @@ pub enum Outcome {
 }
 
 /// Why an event was refused. A refused event changes nothing.
-#[derive(Clone, Copy, Debug, PartialEq, Eq)]
+#[derive(Clone, Copy)]
 pub enum Refused {
     /// The element can hold no further generation.
     GenerationsFull,

@@ -22,7 +22,7 @@ use transcript::{write_answer, write_carry, write_solve, write_take};
 pub type Answer = Result<Outcome, Refused>;
 
 /// An event that is due in a network that goes on by itself.
-#[derive(Clone, Copy, Debug, PartialEq, Eq)]
+#[derive(Clone, Copy)]
 pub enum Due {
     Take(u32),
     Carry(As, As),

@@ -17,7 +17,7 @@ use std::alloc::Global;
 use transcript::write_answer;
 
 /// How far a network goes on.
-#[derive(Clone, Copy, Debug, PartialEq, Eq)]
+#[derive(Clone, Copy)]
 pub enum Until {
     /// Until no message is on its way.
     Settled,

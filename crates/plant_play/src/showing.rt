@@ -19,7 +19,7 @@ use std::alloc::Global;
 use transcript::{write_certified, write_rows, write_said};
 
 /// What is shown of a domain's job that was solved.
-#[derive(Clone, Copy, Debug, PartialEq, Eq)]
+#[derive(Clone, Copy)]
 pub struct Modes {
     /// The certificate.
     pub certify: bool,

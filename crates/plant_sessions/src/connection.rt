@@ -54,6 +54,7 @@ impl Connection {
         }
     }
 
+    /// The number of whoever holds the connection.
     pub fn holder(&self) -> u32
         ensures { result ≡ self.now.kept.holder }
     {
@@ -67,6 +68,7 @@ impl Connection {
         self.side.session()
     }
 
+    /// Puts the session in place of the one that stands there; queues and inbox stay.
     pub fn set_session(&mut self, session: Session)
         ensures { self.new ≡ with_kept (deeds.with_session session self.old.kept) self.old }
     {

@@ -19,7 +19,7 @@ use std::alloc::Global;
 use std::marker::Model;
 
 /// An end of a link, and the session and the queue of what this end sends.
-#[derive(Clone, Copy, Debug, PartialEq, Eq)]
+#[derive(Clone, Copy)]
 pub enum End {
     /// That of the lower number.
     Lower,

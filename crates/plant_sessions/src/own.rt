@@ -13,7 +13,7 @@ use plant_model::Lost;
 use std::marker::Model;
 
 /// The octets of a message that is so short.
-#[derive(Clone, Copy, Debug, PartialEq, Eq)]
+#[derive(Clone, Copy)]
 enum Short {
     Word([u8; 4]),
     Object([u8; 12]),
@@ -38,6 +38,7 @@ impl Model for ShortText {
 }
 
 impl ShortText {
+    /// The octets of the message.
     pub fn as_slice(&self) -> &[u8]
         ensures { result.now ≡ self.now }
     {

@@ -46,12 +46,14 @@ impl Side {
         }
     }
 
+    /// The session at this end of the link.
     pub fn session(&self) -> Session
         ensures { result ≡ self.now.kept.session }
     {
         self.session
     }
 
+    /// Puts the session in place of the one that stands there; the queue stays.
     pub fn set_session(&mut self, session: Session)
         ensures { self.new ≡ with_kept (record self.old.kept { session = session }) self.old }
     {

@@ -1,5 +1,5 @@
 -- What settings are like that obey the rules.
-use Rattle.std.proofs.Common.{◌≡◌, ◌≢◌, ℕ, ◌+◌, ◌==◌, ◌&&◌, ◌||◌, ◌<◌, ◌≤◌, Bool, true, false, not, nat_le, nat_lt, is_some, codes, length, All, AllPairs, List, [], ◌∷◌, ◌++◌, Option, Some, None, refl, sym, ◌∙◌, ap, subst, append_assoc, arith, inl, inr}
+use Rattle.std.proofs.Common.{◌≡◌, ◌≢◌, ℕ, ◌+◌, ◌==◌, ◌&&◌, ◌||◌, ◌<◌, ◌≤◌, Bool, true, false, not, nat_le, nat_lt, is_some, codes, length, All, AllPairs, List, [], ◌∷◌, ◌++◌, Option, Some, None, IfSome, refl, sym, ◌∙◌, ap, subst, append_assoc, arith, inl, inr}
 use Rattle.std.proofs.lemmas.Bool.{cases_Bool, and_parts, leb-true, ltb-true, eqb-false}
 use Rattle.std.proofs.lemmas.Bool.Decides.{not_from_Decides}
 use Rattle.std.proofs.lemmas.Slice.Eq.{bytes_eq-Decides}
@@ -21,7 +21,7 @@ use Rattle.plant_text.specs.declared.settings.DenyRow.{DenyRow}
 use Rattle.plant_text.specs.declared.sheet.Sheet.{Sheet}
 use Rattle.plant_text.specs.Names.{same_as, same_link, parent_as}
 use Rattle.plant_text.specs.Settings.{is_element}
-use Rattle.plant_text.specs.Rules.{Rules, at_row, rows_from, table, rules_of, sheet_of, is_name, is_class, is_link, element_rules, link_rules, peer_rules, deny_rules, parent_link_rules, is_between, is_domain}
+use Rattle.plant_text.specs.Rules.{Rules, at_row, rows_from, table, rules_of, sheet_of, is_name, is_class, is_link, is_no_port, element_rules, link_rules, peer_rules, deny_rules, parent_link_rules, is_between, is_domain}
 use Rattle.plant_text.specs.Faults.{AreObeyed, first_of}
 use Rattle.plant_text.specs.Laws.{AreElements, AreLinks, ArePeers, AreDenials, AreParentLinks, AreSettings, RulesAreWorth}
 use Rattle.plant_text.proofs.RuleLaws.{none_of, none_front, none_back, few_rows}
@@ -213,14 +213,19 @@ are_links n c =
 -- ---- peers
 
 abbrev peer_formed : PeerRow → Bool
-peer_formed p = (is_name p.name && is_class p.class) && nat_lt 0 p.port
+peer_formed p = ((is_name p.name && is_class p.class) && nat_lt 0 p.port) && not p.down
+
+peer_parts : (n : NetworkParts) (before : List PeerRow) (p : PeerRow) → first_of (peer_rules (sheet_of n) before p) ≡ None → (((is_name p.name && is_class p.class) && nat_lt 0 p.port) ≡ true) × (not p.down ≡ true)
+peer_parts n before p none =
+    and_parts ((is_name p.name && is_class p.class) && nat_lt 0 p.port) (not p.down)
+    (not_false (peer_formed p)
+    (head_false (not (peer_formed p)) Shape ((list_any (λ (q : PeerRow). bytes_eq q.name p.name) before, Duplicate) ∷ (not (is_element n p.at), Unknown) ∷ []) none))
 
 peer_port : (n : NetworkParts) (before : List PeerRow) (p : PeerRow) → first_of (peer_rules (sheet_of n) before p) ≡ None → 0 < p.port
-peer_port n before p none =
-    let formed =
-    not_false (peer_formed p)
-    (head_false (not (peer_formed p)) Shape ((list_any (λ (q : PeerRow). bytes_eq q.name p.name) before, Duplicate) ∷ (not (is_element n p.at), Unknown) ∷ []) none) in
-    ltb-true 0 p.port (and_parts (is_name p.name && is_class p.class) (nat_lt 0 p.port) formed).1
+peer_port n before p none = ltb-true 0 p.port (and_parts (is_name p.name && is_class p.class) (nat_lt 0 p.port) (peer_parts n before p none).0).1
+
+peer_down : (n : NetworkParts) (before : List PeerRow) (p : PeerRow) → first_of (peer_rules (sheet_of n) before p) ≡ None → p.down ≡ false
+peer_down n before p none = not_true p.down (peer_parts n before p none).1
 
 peer_again : (n : NetworkParts) (front : List PeerRow) (o : PeerRow) (back : List PeerRow) (p : PeerRow) → first_of (peer_rules (sheet_of n) (front ++ o ∷ back) p) ≡ None → o.name ≢ p.name
 peer_again n front o back p none =
@@ -247,6 +252,7 @@ are_peers n c =
       names_differ = pairs_in (λ (p q : PeerRow). p.name ≢ q.name) name 256 asked (peer_again n) n.peers none;
       known = all_in (λ (p : PeerRow). is_element n p.at ≡ true) name 256 asked (peer_known n) n.peers none;
       ports = all_in (λ (p : PeerRow). 0 < p.port) name 256 asked (peer_port n) n.peers none;
+      downs = all_in (λ (p : PeerRow). p.down ≡ false) name 256 asked (peer_down n) n.peers none;
     }
 
 -- ---- rows of policy
@@ -305,7 +311,14 @@ are_workers n c =
     (not_false (is_between 1 8 n.workers)
     (head_false (not (is_between 1 8 n.workers)) (fault.Shape (codes "workers") 0) [] c.workers_clear))
 
+real_port : (port : Option ℕ) → is_no_port port ≡ false → IfSome port (λ p. 0 < p)
+real_port None is = tt
+real_port (Some p) is = let other = eqb-false p 0 is in omega arith
+
+is_watch : (n : NetworkParts) → AreClear (sheet_of n) → IfSome n.watch (λ p. 0 < p)
+is_watch n c = real_port n.watch (head_false (is_no_port n.watch) (fault.Shape (codes "watch") 0) [] c.watch_clear)
+
 pub rules_are_worth : RulesAreWorth
 rules_are_worth n obeyed =
     let c = all_clear (sheet_of n) (none_of (rules_of n) obeyed) in
-    record { elements = are_elements n c; links = are_links n c; peers = are_peers n c; deny = are_denials n c; parent_links = are_parent_links n c; workers = are_workers n c }
+    record { elements = are_elements n c; links = are_links n c; peers = are_peers n c; deny = are_denials n c; parent_links = are_parent_links n c; workers = are_workers n c; watch = is_watch n c }

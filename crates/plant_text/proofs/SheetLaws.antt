@@ -7,7 +7,7 @@ use Rattle.plant_text.specs.declared.fault.NetFault.{NetFault}
 use Rattle.plant_text.specs.declared.fault.NetFault.TheVariants.{Shape, Duplicate}
 use Rattle.plant_text.specs.declared.settings.NetworkParts.{NetworkParts}
 use Rattle.plant_text.specs.declared.sheet.Sheet.{Sheet}
-use Rattle.plant_text.specs.Rules.{Rules, has_id, is_between, at_row, table, element_rules, link_rules, peer_rules, deny_rules, parent_rules, parent_link_rules, worker_rules, other_rules, table_rules, family_rules, top_rules, rules, rules_of, sheet_of}
+use Rattle.plant_text.specs.Rules.{Rules, has_id, is_between, at_row, table, element_rules, link_rules, peer_rules, deny_rules, parent_rules, parent_link_rules, worker_rules, watch_rules, is_no_port, other_rules, table_rules, family_rules, top_rules, rules, rules_of, sheet_of}
 use Rattle.plant_text.specs.Faults.{first_of}
 use Rattle.plant_text.proofs.RuleLaws.{none_front, none_back, no_cut}
 
@@ -32,6 +32,9 @@ parent_links s = table (codes "parent.link") 256 (parent_link_rules s) s.parts.p
 abbrev pub workers : Sheet → Rules NetFault
 workers s = at_row (codes "workers") 0 (worker_rules s)
 
+abbrev pub watch : Sheet → Rules NetFault
+watch s = at_row (codes "watch") 0 (watch_rules s)
+
 abbrev pub others : Sheet → Rules NetFault
 others s = other_rules s.other
 
@@ -44,6 +47,7 @@ pub record AreClear (s : Sheet) : Type 0 where
   pub parent_clear : first_of (parent s) ≡ None
   pub parent_links_clear : first_of (parent_links s) ≡ None
   pub workers_clear : first_of (workers s) ≡ None
+  pub watch_clear : first_of (watch s) ≡ None
   pub others_clear : first_of (others s) ≡ None
 
 pub all_clear : (s : Sheet) → first_of (rules s) ≡ None → AreClear s
@@ -52,6 +56,7 @@ all_clear s none =
     let tables = none_front (table_rules s) (family_rules s) upper in
     let family = none_back (table_rules s) (family_rules s) upper in
     let top = none_back (table_rules s ++ family_rules s) (top_rules s) none in
+    let known = none_front (workers s ++ watch s) (others s) top in
     let three = none_front (elements s ++ links s ++ peers s) (deny s) tables in
     let two = none_front (elements s ++ links s) (peers s) three in
     record {
@@ -61,8 +66,9 @@ all_clear s none =
       deny_clear = none_back (elements s ++ links s ++ peers s) (deny s) tables;
       parent_clear = none_front (parent s) (parent_links s) family;
       parent_links_clear = none_back (parent s) (parent_links s) family;
-      workers_clear = none_front (workers s) (others s) top;
-      others_clear = none_back (workers s) (others s) top;
+      workers_clear = none_front (workers s) (watch s) known;
+      watch_clear = none_back (workers s) (watch s) known;
+      others_clear = none_back (workers s ++ watch s) (others s) top;
     }
 
 -- a first test that holds tells something
@@ -74,13 +80,13 @@ no_other : (name : Option (List ℕ)) → first_of (other_rules name) ≡ None �
 no_other None none = refl
 no_other (Some name) none = absurd (let no : Some (Shape name 0) ≡ None = none in cc)
 
-abbrev sheet_with : NetworkParts → Option Breach → Option Breach → Option Breach → Option Breach → Bool → Bool → Option Breach → Bool → Option (List ℕ) → Sheet
-sheet_with n e l p d up none ul w o =
-    record { parts = n; cuts = record { elements = e; links = l; peers = p; deny = d; parent = up; no_parent = none; parent_links = ul; workers = w }; other = o }
+abbrev sheet_with : NetworkParts → Option Breach → Option Breach → Option Breach → Option Breach → Bool → Bool → Option Breach → Bool → Bool → Option (List ℕ) → Sheet
+sheet_with n e l p d up none ul w wa o =
+    record { parts = n; cuts = record { elements = e; links = l; peers = p; deny = d; parent = up; no_parent = none; parent_links = ul; workers = w; watch = wa }; other = o }
 
-same_sheet : (n : NetworkParts) (e l p d : Option Breach) (up none : Bool) (ul : Option Breach) (w : Bool) (o : Option (List ℕ)) → e ≡ None → l ≡ None → p ≡ None → d ≡ None → up ≡ false → none ≡ false → ul ≡ None → w ≡ false → o ≡ None
-    → sheet_with n e l p d up none ul w o ≡ sheet_of n
-same_sheet n e l p d up none ul w o ie il ip id iup inone iul iw io = rw (ie, il, ip, id, iup, inone, iul, iw, io) refl
+same_sheet : (n : NetworkParts) (e l p d : Option Breach) (up none : Bool) (ul : Option Breach) (w wa : Bool) (o : Option (List ℕ)) → e ≡ None → l ≡ None → p ≡ None → d ≡ None → up ≡ false → none ≡ false → ul ≡ None → w ≡ false → wa ≡ false → o ≡ None
+    → sheet_with n e l p d up none ul w wa o ≡ sheet_of n
+same_sheet n e l p d up none ul w wa o ie il ip id iup inone iul iw iwa io = rw (ie, il, ip, id, iup, inone, iul, iw, iwa, io) refl
 
 pub left_false : (a b : Bool) → (a || b) ≡ false → a ≡ false
 left_false true b e = e
@@ -94,7 +100,7 @@ pub sheet_is : (s : Sheet) → first_of (rules s) ≡ None → s ≡ sheet_of s.
 sheet_is s none =
     let c = all_clear s none in
     let whole = not_first (s.cuts.parent || s.cuts.no_parent) (Shape (codes "parent") 0) ((list_any (has_id s.parts.parent) s.parts.elements, Duplicate (codes "parent") 0) ∷ []) c.parent_clear in
-    same_sheet s.parts s.cuts.elements s.cuts.links s.cuts.peers s.cuts.deny s.cuts.parent s.cuts.no_parent s.cuts.parent_links s.cuts.workers s.other
+    same_sheet s.parts s.cuts.elements s.cuts.links s.cuts.peers s.cuts.deny s.cuts.parent s.cuts.no_parent s.cuts.parent_links s.cuts.workers s.cuts.watch s.other
     (no_cut (codes "element") 16 (element_rules s) s.parts.elements s.cuts.elements c.elements_clear)
     (no_cut (codes "link") 120 (link_rules s) s.parts.links s.cuts.links c.links_clear)
     (no_cut (codes "peer") 256 (peer_rules s) s.parts.peers s.cuts.peers c.peers_clear)
@@ -103,6 +109,7 @@ sheet_is s none =
     (right_false s.cuts.parent s.cuts.no_parent whole)
     (no_cut (codes "parent.link") 256 (parent_link_rules s) s.parts.parent_links s.cuts.parent_links c.parent_links_clear)
     (not_first s.cuts.workers (Shape (codes "workers") 0) ((not (is_between 1 8 s.parts.workers), Shape (codes "workers") 0) ∷ []) c.workers_clear)
+    (not_first s.cuts.watch (Shape (codes "watch") 0) ((is_no_port s.parts.watch, Shape (codes "watch") 0) ∷ []) c.watch_clear)
     (no_other s.other c.others_clear)
 
 -- the settings alone break no rule then

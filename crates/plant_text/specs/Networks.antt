@@ -1,5 +1,5 @@
 -- Settings that obey the rules, and the client that may be added to them.
-use Rattle.std.specs.Prelude.{◌≡◌, ℕ, ◌<◌, ◌≤◌, ◌^◌, true, length, codes, take, drop, All, List, [], ◌∷◌, ◌++◌}
+use Rattle.std.specs.Prelude.{◌≡◌, ℕ, ◌<◌, ◌≤◌, ◌^◌, false, true, length, codes, take, drop, All, List, [], ◌∷◌, ◌++◌}
 use Rattle.dom_base.specs.declared.names.As.{As}
 use Rattle.disclosure.specs.declared.class.Class.TheVariants.{Client}
 use Rattle.plant_text.specs.declared.settings.NetworkParts.{NetworkParts}
@@ -13,7 +13,7 @@ with_peers n peers = record n { peers = peers }
 
 -- the client `path`, which may expand; 4189 is the port of PCEP (RFC 5440, 9.1)
 abbrev pub path_client : As → PeerRow
-path_client at = record { name = codes "path"; at = at; class = Client true; port = 4189 }
+path_client at = record { name = codes "path"; at = at; class = Client true; port = 4189; down = false }
 
 -- the settings with the client, behind all peers
 abbrev pub with_path : NetworkParts → As → NetworkParts

@@ -109,9 +109,10 @@ link_rules s before row =
     ∷ (not (is_element s.parts row.0 && is_element s.parts row.1), breach.Unknown)
     ∷ []
 
+-- elements of other networks are not asked for paths yet: no peer is `down`
 abbrev pub peer_rules : Sheet → List PeerRow → PeerRow → Rules Breach
 peer_rules s before row =
-    (not ((is_name row.name && is_class row.class) && nat_lt 0 row.port), breach.Shape)
+    (not (((is_name row.name && is_class row.class) && nat_lt 0 row.port) && not row.down), breach.Shape)
     ∷ (list_any (λ (p : PeerRow). bytes_eq p.name row.name) before, breach.Duplicate)
     ∷ (not (is_element s.parts row.at), breach.Unknown)
     ∷ []
@@ -146,6 +147,17 @@ worker_rules s =
     ∷ (not (is_between 1 WORKERS_MAX s.parts.workers), breach.Shape)
     ∷ []
 
+-- 0 is no port
+abbrev pub is_no_port : Option ℕ → Bool
+is_no_port None = false
+is_no_port (Some port) = port == 0
+
+abbrev pub watch_rules : Sheet → Rules Breach
+watch_rules s =
+    (s.cuts.watch, breach.Shape)
+    ∷ (is_no_port s.parts.watch, breach.Shape)
+    ∷ []
+
 -- ---- all rules, in their order
 
 -- a name that is not known
@@ -168,6 +180,7 @@ family_rules s =
 abbrev pub top_rules : Sheet → Rules NetFault
 top_rules s =
     at_row (codes "workers") 0 (worker_rules s)
+    ++ at_row (codes "watch") 0 (watch_rules s)
     ++ other_rules s.other
 
 abbrev pub rules : Sheet → Rules NetFault
@@ -177,7 +190,7 @@ rules s = table_rules s ++ family_rules s ++ top_rules s
 
 -- nothing is out of form
 abbrev pub no_cuts : Cuts
-no_cuts = record { elements = None; links = None; peers = None; deny = None; parent = false; no_parent = false; parent_links = None; workers = false }
+no_cuts = record { elements = None; links = None; peers = None; deny = None; parent = false; no_parent = false; parent_links = None; workers = false; watch = false }
 
 abbrev pub sheet_of : NetworkParts → Sheet
 sheet_of n = record { parts = n; cuts = no_cuts; other = None }

@@ -1,6 +1,6 @@
 -- What a TOML document says of a network: the rows of its tables, up to the first that is out of form.
 use Rattle.std.specs.Prelude.{ℕ, pos, ◌+◌, ◌-◌, ◌^◌, ◌&&◌, ◌||◌, Bool, true, false, not, nat_le, nat_lt, is_some, is_none, unwrap_or, codes, find, List, [], ◌∷◌, Option, Some, None, if◌then◌else◌}
-use Rattle.std.specs.List.{list_all}
+use Rattle.std.specs.List.{list_all, list_any}
 use Rattle.std.specs.Str.{bytes_eq}
 use Rattle.dom_base.specs.declared.names.As.{As}
 use Rattle.dom_base.specs.declared.addr.Addr.{Addr}
@@ -21,6 +21,7 @@ use Rattle.plant_text.specs.declared.fault.Breach.{Breach}
 use Rattle.plant_text.specs.declared.fault.Breach.TheVariants.{TooMany, Shape}
 use Rattle.plant_text.specs.declared.sheet.Sheet.{Sheet}
 use Rattle.plant_text.specs.declared.rows.Found.{Found}
+use Rattle.plant_text.specs.declared.forms.Ends.{Ends}
 
 -- ---- values
 
@@ -65,6 +66,10 @@ abbrev pub names : Members → List (List ℕ)
 names no_members = []
 names (member name d ms) = name ∷ names ms
 
+-- a key that is one of these names
+abbrev pub is_one_of : List (List ℕ) → List ℕ → Bool
+is_one_of known key = list_any (bytes_eq key) known
+
 -- a table of a form has no other key than those of the form
 abbrev pub has_only : (List ℕ → Bool) → Members → Bool
 has_only is_key ms = list_all is_key (names ms)
@@ -72,7 +77,7 @@ has_only is_key ms = list_all is_key (names ms)
 -- ---- the forms of rows
 
 abbrev pub element_key : List ℕ → Bool
-element_key k = bytes_eq k (codes "as") || (bytes_eq k (codes "id") || (bytes_eq k (codes "topology") || (bytes_eq k (codes "key_life") || bytes_eq k (codes "parent"))))
+element_key = is_one_of (codes "as" ∷ codes "id" ∷ codes "topology" ∷ codes "key_life" ∷ codes "parent" ∷ [])
 
 abbrev pub file_of : Data → Option (Option (List ℕ))
 file_of d = as_str d >>= λ name. Some (Some name)
@@ -81,13 +86,13 @@ unfoldable pub element_of : Members → Option ElementRow
 element_of ms = do
   own ← needed as_of (codes "as") ms
   id ← needed addr_of (codes "id") ms
-  topology ← optional file_of None (codes "topology") ms
   key_life ← optional (number (2 ^ 16 - 1)) 600 (codes "key_life") ms
   parent ← optional as_bool false (codes "parent") ms
+  topology ← optional file_of None (codes "topology") ms
   Some (record { own = own; id = id; topology = topology; key_life = key_life; parent = parent })
 
 abbrev pub link_key : List ℕ → Bool
-link_key k = bytes_eq k (codes "a") || bytes_eq k (codes "b")
+link_key = is_one_of (codes "a" ∷ codes "b" ∷ [])
 
 unfoldable pub link_of : Members → Option (As × As)
 link_of ms = do
@@ -96,7 +101,7 @@ link_of ms = do
   Some (a, b)
 
 abbrev pub peer_key : List ℕ → Bool
-peer_key k = bytes_eq k (codes "name") || (bytes_eq k (codes "as") || (bytes_eq k (codes "class") || (bytes_eq k (codes "neighbour") || (bytes_eq k (codes "port") || bytes_eq k (codes "expand")))))
+peer_key = is_one_of (codes "name" ∷ codes "as" ∷ codes "class" ∷ codes "neighbour" ∷ codes "port" ∷ codes "expand" ∷ codes "down" ∷ [])
 
 -- a class of this name; only that of a neighbour has a number
 abbrev pub class_of : List ℕ → Bool → Option Data → Option Class
@@ -115,10 +120,11 @@ peer_of ms = do
   at ← needed as_of (codes "as") ms
   class ← class_in ms
   port ← optional (number (2 ^ 16 - 1)) 4189 (codes "port") ms
-  Some (record { name = name; at = at; class = class; port = port })
+  down ← optional as_bool false (codes "down") ms
+  Some (record { name = name; at = at; class = class; port = port; down = down })
 
 abbrev pub deny_key : List ℕ → Bool
-deny_key k = bytes_eq k (codes "at") || (bytes_eq k (codes "from") || bytes_eq k (codes "next"))
+deny_key = is_one_of (codes "at" ∷ codes "from" ∷ codes "next" ∷ [])
 
 unfoldable pub deny_of : Members → Option DenyRow
 deny_of ms = do
@@ -128,29 +134,28 @@ deny_of ms = do
   Some (record { at = at; deny = record { from = from; next = next } })
 
 abbrev pub parent_key : List ℕ → Bool
-parent_key k = bytes_eq k (codes "id") || bytes_eq k (codes "link")
-
-abbrev pub end_key : List ℕ → Bool
-end_key k = bytes_eq k (codes "from_as") || (bytes_eq k (codes "from") || (bytes_eq k (codes "to_as") || (bytes_eq k (codes "to") || (bytes_eq k (codes "near") || bytes_eq k (codes "far")))))
-
-abbrev pub trait_key : List ℕ → Bool
-trait_key k = bytes_eq k (codes "igp") || (bytes_eq k (codes "te") || (bytes_eq k (codes "bw") || (bytes_eq k (codes "colour") || bytes_eq k (codes "srlg"))))
+parent_key = is_one_of (codes "id" ∷ codes "link" ∷ [])
 
 abbrev pub parent_link_key : List ℕ → Bool
-parent_link_key k = end_key k || trait_key k
+parent_link_key = is_one_of (codes "from_as" ∷ codes "from" ∷ codes "to_as" ∷ codes "to" ∷ codes "near" ∷ codes "far" ∷ codes "igp" ∷ codes "te" ∷ codes "bw" ∷ codes "colour" ∷ codes "srlg" ∷ [])
 
-unfoldable pub link_in : Members → Option Link
-link_in ms = do
+unfoldable pub ends_in : Members → Option Ends
+ends_in ms = do
   from ← needed addr_of (codes "from") ms
   to ← needed addr_of (codes "to") ms
   near ← needed addr_of (codes "near") ms
   far ← needed addr_of (codes "far") ms
+  Some (record { from = from; to = to; near = near; far = far })
+
+unfoldable pub link_in : Members → Option Link
+link_in ms = do
+  ends ← ends_in ms
   igp ← needed (number (2 ^ 32 - 1)) (codes "igp") ms
   te ← needed (number (2 ^ 32 - 1)) (codes "te") ms
   bw ← needed (number (2 ^ 64 - 1)) (codes "bw") ms
   colour ← needed colour_of (codes "colour") ms
   srlgs ← optional numbers_of [] (codes "srlg") ms
-  Some (record { from = from; to = to; near = near; far = far; igp = igp; te = te; bytes_per_second = bw; colour = colour; srlgs = srlgs })
+  Some (record { from = ends.from; to = ends.to; near = ends.near; far = ends.far; igp = igp; te = te; bytes_per_second = bw; colour = colour; srlgs = srlgs })
 
 unfoldable pub parent_link_of : Members → Option ParentLink
 parent_link_of ms = do
@@ -233,13 +238,17 @@ parent_links_of _ = nothing
 -- ---- the whole
 
 abbrev pub top_key : List ℕ → Bool
-top_key k = bytes_eq k (codes "element") || (bytes_eq k (codes "link") || (bytes_eq k (codes "peer") || (bytes_eq k (codes "deny") || (bytes_eq k (codes "parent") || bytes_eq k (codes "workers")))))
+top_key = is_one_of (codes "element" ∷ codes "link" ∷ codes "peer" ∷ codes "deny" ∷ codes "parent" ∷ codes "workers" ∷ codes "watch" ∷ [])
 
 abbrev pub workers_of : Members → Option ℕ
 workers_of root = optional (number (2 ^ 32 - 1)) 2 (codes "workers") root
 
-abbrev pub sheet_of_rows : Found ElementRow → Found (As × As) → Found PeerRow → Found DenyRow → Option Data → Found ParentLink → Option ℕ → Option (List ℕ) → Sheet
-sheet_of_rows elements links peers deny parent parent_links workers other = record {
+-- the port of watchers, where it is in form
+abbrev pub watch_of : Option Data → Option ℕ
+watch_of port = port >>= number (2 ^ 16 - 1)
+
+abbrev pub sheet_of_rows : Found ElementRow → Found (As × As) → Found PeerRow → Found DenyRow → Option Data → Found ParentLink → Option ℕ → Option Data → Option (List ℕ) → Sheet
+sheet_of_rows elements links peers deny parent parent_links workers watch other = record {
   parts = record {
     elements = elements.rows;
     links = links.rows;
@@ -248,6 +257,7 @@ sheet_of_rows elements links peers deny parent parent_links workers other = reco
     parent = parent_id parent;
     parent_links = parent_links.rows;
     workers = unwrap_or workers 2;
+    watch = watch_of watch;
   };
   cuts = record {
     elements = elements.cut;
@@ -258,6 +268,7 @@ sheet_of_rows elements links peers deny parent parent_links workers other = reco
     no_parent = is_some parent && not (is_table parent);
     parent_links = parent_links.cut;
     workers = is_none workers;
+    watch = is_some watch && is_none (watch_of watch);
   };
   other = other;
 }
@@ -267,4 +278,4 @@ abbrev pub sheet_in : Members → Sheet
 sheet_in root =
     let parent = get_member (codes "parent") root in
     sheet_of_rows (rows_of element_form (get_member (codes "element") root)) (rows_of link_form (get_member (codes "link") root)) (rows_of peer_form (get_member (codes "peer") root))
-    (rows_of deny_form (get_member (codes "deny") root)) parent (parent_links_of parent) (workers_of root) (find (λ k. not (top_key k)) (names root))
+    (rows_of deny_form (get_member (codes "deny") root)) parent (parent_links_of parent) (workers_of root) (get_member (codes "watch") root) (find (λ k. not (top_key k)) (names root))

@@ -5,7 +5,7 @@ ghost use Rattle.plant_text.specs.Rules.{cut_rules, family_rules as family_rules
 
 use crate::fault::{Breach, NetError, NetFault};
 use crate::limits::{DENY_MAX, ELEMENTS_MAX, LINKS_MAX, PARENT_LINKS_MAX, PEERS_MAX};
-use crate::row::{Row, parent_breach, worker_breach};
+use crate::row::{Row, parent_breach, watch_breach, worker_breach};
 use crate::sheet::Sheet;
 use dom_base::{List, Text};
 use std::alloc::Global;
@@ -116,6 +116,9 @@ fn check_top(alloc: Global, sheet: &Sheet) -> Result<(), NetError>
 {
     if let Some(breach) = worker_breach(sheet) {
         return Err(refusal(alloc, "workers", 0, breach));
+    }
+    if let Some(breach) = watch_breach(sheet) {
+        return Err(refusal(alloc, "watch", 0, breach));
     }
     match &sheet.other {
         Some(name) => Err(refusal(alloc, name.as_str(), 0, Breach::Shape)),

@@ -1,20 +1,21 @@
 //! Settings from their text.
-ghost use Rattle.std.specs.Prelude.{◌≡◌, Err, IfOk, MatchResult, Some, find, not, option_map, string_bytes};
+ghost use Rattle.std.specs.Prelude.{◌≡◌, ◌&&◌, Err, IfOk, MatchResult, Some, codes, find, is_none, is_some, not, option_map, string_bytes};
 ghost use Rattle.std.specs.BTreeMap.{keys};
 ghost use Rattle.std.specs.List.{list_all};
 ghost use Rattle.std.specs.Option.{option_copied};
+ghost use Rattle.toml.specs.Data.{get_member};
 ghost use Rattle.toml.specs.View.{table_view, view};
 ghost use Rattle.plant_text.specs.declared.fault.NetFault.{NetFault};
-ghost use Rattle.plant_text.specs.SettingsText.{has_only, is_table, names, parent_id, parent_key, parent_links_of, sheet_in, top_key, workers_of};
+ghost use Rattle.plant_text.specs.SettingsText.{deny_form, element_form, has_only, is_table, link_form, names, parent_id, parent_key, parent_links_of, peer_form, rows_of, sheet_in, top_key, watch_of};
 ghost use Rattle.plant_text.specs.Reads.{IsFaulty, IsNoDocument, Reads, document};
 
 use crate::fault::{NetError, NetFault};
 use crate::network::Network;
 use crate::rows::{Found, rows_at};
-use crate::settings::NetworkParts;
+use crate::settings::{DenyRow, ElementRow, NetworkParts, PeerRow};
 use crate::sheet::{Cuts, Sheet};
-use crate::value::{addr_at, value_at, whole_or};
-use dom_base::{Addr, List, NoMemory, ParentLink, Text};
+use crate::value::{addr_at, has_key, is_one_of, port_at, value_at, whole_or};
+use dom_base::{Addr, As, List, NoMemory, ParentLink, Text};
 use std::alloc::Global;
 use std::str::from_utf8;
 use toml::{Table, Value, table_from_str};
@@ -27,7 +28,7 @@ const WORKERS: u64 = 2;
 fn is_parent_key(key: &str) -> bool
     ensures { result ≡ parent_key key.now }
 {
-    key == "id" || key == "link"
+    is_one_of(key, &["id", "link"])
 }
 
 fn knows_parent_keys(table: &Table) -> bool
@@ -62,6 +63,20 @@ fn id_of(value: Option<&Value>) -> Option<Addr>
     }
 }
 
+// Whether the table of the parent is out of form.
+fn is_wrong_parent(value: Option<&Value>) -> bool
+    ensures { result ≡ (is_table (option_map (λ v. view v.now) value.entry) && is_none (parent_id (option_map (λ v. view v.now) value.entry))) }
+{
+    is_a_table(value) && id_of(value).is_none()
+}
+
+// Whether something else than a table is there.
+fn is_no_table(value: Option<&Value>) -> bool
+    ensures { result ≡ (is_some (option_map (λ v. view v.now) value.entry) && not (is_table (option_map (λ v. view v.now) value.entry))) }
+{
+    value.is_some() && !is_a_table(value)
+}
+
 fn parent_links(alloc: Global, value: Option<&Value>) -> Result<Found<ParentLink>, NoMemory>
     ensures { IfOk result (λ found. found ≡ parent_links_of (option_map (λ v. view v.now) value.entry)) }
 {
@@ -83,12 +98,12 @@ fn parent_links(alloc: Global, value: Option<&Value>) -> Result<Found<ParentLink
 fn is_top_key(key: &str) -> bool
     ensures { result ≡ top_key key.now }
 {
-    key == "element"
-        || key == "link"
-        || key == "peer"
-        || key == "deny"
-        || key == "parent"
-        || key == "workers"
+    is_one_of(
+        key,
+        &[
+            "element", "link", "peer", "deny", "parent", "workers", "watch",
+        ],
+    )
 }
 
 fn unknown_key(root: &Table) -> Option<&String>
@@ -107,43 +122,76 @@ fn other_name(alloc: Global, root: &Table) -> Result<Option<Text>, NoMemory>
     }
 }
 
+// Whether the port of watchers is out of form.
+fn is_wrong_watch(root: &Table) -> bool
+    ensures { result ≡ (is_some (get_member (codes "watch") (table_view root.now)) && is_none (watch_of (get_member (codes "watch") (table_view root.now)))) }
+{
+    has_key(root, "watch") && port_at(root, "watch").is_none()
+}
+
 // ---- the whole
+
+// The tables of rows.
+struct Tables {
+    elements: Found<ElementRow>,
+    links: Found<(As, As)>,
+    peers: Found<PeerRow>,
+    deny: Found<DenyRow>,
+}
+
+fn tables_of(alloc: Global, root: &Table) -> Result<Tables, NoMemory>
+    ensures elements { IfOk result (λ t. t.elements ≡ rows_of element_form (get_member (codes "element") (table_view root.now))) }
+    ensures links { IfOk result (λ t. t.links ≡ rows_of link_form (get_member (codes "link") (table_view root.now))) }
+    ensures peers { IfOk result (λ t. t.peers ≡ rows_of peer_form (get_member (codes "peer") (table_view root.now))) }
+    ensures deny { IfOk result (λ t. t.deny ≡ rows_of deny_form (get_member (codes "deny") (table_view root.now))) }
+{
+    Ok(Tables {
+        elements: rows_at(alloc, root, "element")?,
+        links: rows_at(alloc, root, "link")?,
+        peers: rows_at(alloc, root, "peer")?,
+        deny: rows_at(alloc, root, "deny")?,
+    })
+}
 
 // What a document says.
 fn sheet_of(alloc: Global, root: &Table) -> Result<Sheet, NoMemory>
     ensures { IfOk result (λ sheet. sheet ≡ sheet_in (table_view root.now)) }
 {
-    let elements = rows_at(alloc, root, "element")?;
-    let links = rows_at(alloc, root, "link")?;
-    let peers = rows_at(alloc, root, "peer")?;
-    let deny = rows_at(alloc, root, "deny")?;
-    let parent = value_at(root, "parent");
-    let parent_links = parent_links(alloc, parent)?;
-    let id = id_of(parent);
     let workers = whole_or(root, "workers", u64::from(u32::MAX), WORKERS);
-    let cuts = Cuts {
-        elements: elements.cut,
-        links: links.cut,
-        peers: peers.cut,
-        deny: deny.cut,
-        parent: is_a_table(parent) && id.is_none(),
-        no_parent: parent.is_some() && !is_a_table(parent),
-        parent_links: parent_links.cut,
-        workers: workers.is_none(),
-    };
-    let parts = NetworkParts {
-        elements: elements.rows,
-        links: links.rows,
-        peers: peers.rows,
-        deny: deny.rows,
-        parent: id,
-        parent_links: parent_links.rows,
-        workers: workers.unwrap_or(WORKERS) as u32,
-    };
+    let watch = port_at(root, "watch");
+    let parent = value_at(root, "parent");
+    let id = id_of(parent);
+    let other = other_name(alloc, root)?;
+    let parent_links = parent_links(alloc, parent)?;
+    let Tables {
+        elements,
+        links,
+        peers,
+        deny,
+    } = tables_of(alloc, root)?;
     Ok(Sheet {
-        parts,
-        cuts,
-        other: other_name(alloc, root)?,
+        parts: NetworkParts {
+            elements: elements.rows,
+            links: links.rows,
+            peers: peers.rows,
+            deny: deny.rows,
+            parent: id,
+            parent_links: parent_links.rows,
+            workers: workers.unwrap_or(WORKERS) as u32,
+            watch,
+        },
+        cuts: Cuts {
+            elements: elements.cut,
+            links: links.cut,
+            peers: peers.cut,
+            deny: deny.cut,
+            parent: is_wrong_parent(parent),
+            no_parent: is_no_table(parent),
+            parent_links: parent_links.cut,
+            workers: workers.is_none(),
+            watch: is_wrong_watch(root),
+        },
+        other,
     })
 }
 

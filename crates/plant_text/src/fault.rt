@@ -34,20 +34,30 @@ pub enum NetFault {
     Topo(TopoFault),
 }
 
+// What is wrong with a row of a table.
+fn fmt_row<W: fmt::Write>(
+    f: &mut fmt::Formatter<W>,
+    wrong: &str,
+    table: &Text,
+    index: u32,
+) -> fmt::Result {
+    write!(f, "{wrong} {} {index}", table.as_str())
+}
+
 impl fmt::Display for NetFault {
     fn fmt<W: fmt::Write>(&self, f: &mut fmt::Formatter<W>) -> fmt::Result {
         match self {
-            NetFault::NotToml => write!(f, "not toml"),
+            NetFault::NotToml => f.write_str("not toml"),
             NetFault::TooMany(table) => write!(f, "too many {}", table.as_str()),
-            NetFault::Shape(table, index) => write!(f, "shape {} {index}", table.as_str()),
-            NetFault::Duplicate(table, index) => write!(f, "duplicate {} {index}", table.as_str()),
-            NetFault::Unknown(table, index) => write!(f, "unknown {} {index}", table.as_str()),
+            NetFault::Shape(table, index) => fmt_row(f, "shape", table, *index),
+            NetFault::Duplicate(table, index) => fmt_row(f, "duplicate", table, *index),
+            NetFault::Unknown(table, index) => fmt_row(f, "unknown", table, *index),
             NetFault::NoParent(index) => write!(f, "no parent {index}"),
-            NetFault::NoElement => write!(f, "no element"),
-            NetFault::OtherAs => write!(f, "other as"),
-            NetFault::Absent => write!(f, "absent"),
-            NetFault::Present => write!(f, "present"),
-            NetFault::Topo(fault) => write!(f, "{fault}"),
+            NetFault::NoElement => f.write_str("no element"),
+            NetFault::OtherAs => f.write_str("other as"),
+            NetFault::Absent => f.write_str("absent"),
+            NetFault::Present => f.write_str("present"),
+            NetFault::Topo(fault) => fault.fmt(f),
         }
     }
 }
@@ -84,7 +94,7 @@ impl<T: Drop> From<AllocFailed<T>> for NetError {
 }
 
 /// What a row of settings can break; at a row these go in this order.
-#[derive(Clone, Copy, Debug, PartialEq, Eq)]
+#[derive(Clone, Copy)]
 pub enum Breach {
     TooMany,
     Shape,

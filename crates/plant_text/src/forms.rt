@@ -3,18 +3,18 @@ ghost use Rattle.std.specs.Prelude.{◌≡◌, None, Some, codes, nat_lt, option
 ghost use Rattle.toml.specs.Data.{get_member};
 ghost use Rattle.toml.specs.View.{items_view, table_view, view};
 ghost use Rattle.plant_text.specs.Given.{Gives};
-ghost use Rattle.plant_text.specs.SettingsText.{class_in, class_of, end_key, file_of, has_many, item_count, link_in, optional, trait_key};
+ghost use Rattle.plant_text.specs.SettingsText.{class_in, class_of, ends_in, file_of, has_many, item_count, link_in, optional};
 
 use crate::fault::Breach;
 use crate::line::LineError;
 use crate::network::PORT;
 use crate::settings::{DenyRow, ElementRow, PeerRow};
 use crate::value::{
-    addr_at, as_at, as_of_value, bool_or, colour_at, numbers_or_none, text_at, value_at, whole_at,
-    whole_or,
+    addr_at, as_at, as_of_value, bool_or, colour_at, is_one_of, numbers_or_none, text_at, value_at,
+    whole_at, whole_or,
 };
 use disclosure::{Class, Deny};
-use dom_base::{As, Link, ParentLink, Text};
+use dom_base::{Addr, As, Link, ParentLink, Text};
 use std::alloc::Global;
 use te_links::SRLGS_MAX;
 use toml::{Table, Value};
@@ -62,17 +62,24 @@ impl Formed for ElementRow {
     ghost form = { element_form };
 
     fn is_key(key: &str) -> bool {
-        key == "as" || key == "id" || key == "topology" || key == "key_life" || key == "parent"
+        is_one_of(key, &["as", "id", "topology", "key_life", "parent"])
     }
 
     #[tactic(auto, unfolding(crate::specs::SettingsText::element_of))]
     fn read(alloc: Global, table: &Table) -> Result<ElementRow, LineError> {
-        let own = as_at(table, "as").ok_or(LineError::Outside)?;
-        let id = addr_at(table, "id").ok_or(LineError::Outside)?;
+        let Some(own) = as_at(table, "as") else {
+            return Err(LineError::Outside);
+        };
+        let Some(id) = addr_at(table, "id") else {
+            return Err(LineError::Outside);
+        };
+        let Some(key_life) = whole_or(table, "key_life", u64::from(u16::MAX), KEY_LIFE) else {
+            return Err(LineError::Outside);
+        };
+        let Some(parent) = bool_or(table, "parent", false) else {
+            return Err(LineError::Outside);
+        };
         let topology = file_or_none(alloc, table)?;
-        let life = whole_or(table, "key_life", u64::from(u16::MAX), KEY_LIFE);
-        let key_life = life.ok_or(LineError::Outside)?;
-        let parent = bool_or(table, "parent", false).ok_or(LineError::Outside)?;
         Ok(ElementRow {
             own,
             id,
@@ -95,13 +102,17 @@ impl Formed for (As, As) {
     ghost form = { link_form };
 
     fn is_key(key: &str) -> bool {
-        key == "a" || key == "b"
+        is_one_of(key, &["a", "b"])
     }
 
     #[tactic(auto, unfolding(crate::specs::SettingsText::link_of))]
     fn read(_alloc: Global, table: &Table) -> Result<(As, As), LineError> {
-        let a = as_at(table, "a").ok_or(LineError::Outside)?;
-        let b = as_at(table, "b").ok_or(LineError::Outside)?;
+        let Some(a) = as_at(table, "a") else {
+            return Err(LineError::Outside);
+        };
+        let Some(b) = as_at(table, "b") else {
+            return Err(LineError::Outside);
+        };
         Ok((a, b))
     }
 
@@ -150,26 +161,35 @@ impl Formed for PeerRow {
     ghost form = { peer_form };
 
     fn is_key(key: &str) -> bool {
-        key == "name"
-            || key == "as"
-            || key == "class"
-            || key == "neighbour"
-            || key == "port"
-            || key == "expand"
+        is_one_of(
+            key,
+            &["name", "as", "class", "neighbour", "port", "expand", "down"],
+        )
     }
 
     #[tactic(auto, unfolding(crate::specs::SettingsText::peer_of))]
     fn read(alloc: Global, table: &Table) -> Result<PeerRow, LineError> {
-        let name = text_at(table, "name").ok_or(LineError::Outside)?;
-        let at = as_at(table, "as").ok_or(LineError::Outside)?;
-        let class = class_at(table).ok_or(LineError::Outside)?;
-        let port = whole_or(table, "port", u64::from(u16::MAX), u64::from(PORT));
-        let port = port.ok_or(LineError::Outside)?;
+        let Some(name) = text_at(table, "name") else {
+            return Err(LineError::Outside);
+        };
+        let Some(at) = as_at(table, "as") else {
+            return Err(LineError::Outside);
+        };
+        let Some(class) = class_at(table) else {
+            return Err(LineError::Outside);
+        };
+        let Some(port) = whole_or(table, "port", u64::from(u16::MAX), u64::from(PORT)) else {
+            return Err(LineError::Outside);
+        };
+        let Some(down) = bool_or(table, "down", false) else {
+            return Err(LineError::Outside);
+        };
         Ok(PeerRow {
             name: Text::copy_of(alloc, name)?,
             at,
             class,
             port: port as u16,
+            down,
         })
     }
 
@@ -186,14 +206,20 @@ impl Formed for DenyRow {
     ghost form = { deny_form };
 
     fn is_key(key: &str) -> bool {
-        key == "at" || key == "from" || key == "next"
+        is_one_of(key, &["at", "from", "next"])
     }
 
     #[tactic(auto, unfolding(crate::specs::SettingsText::deny_of))]
     fn read(_alloc: Global, table: &Table) -> Result<DenyRow, LineError> {
-        let at = as_at(table, "at").ok_or(LineError::Outside)?;
-        let from = as_at(table, "from").ok_or(LineError::Outside)?;
-        let next = as_at(table, "next").ok_or(LineError::Outside)?;
+        let Some(at) = as_at(table, "at") else {
+            return Err(LineError::Outside);
+        };
+        let Some(from) = as_at(table, "from") else {
+            return Err(LineError::Outside);
+        };
+        let Some(next) = as_at(table, "next") else {
+            return Err(LineError::Outside);
+        };
         Ok(DenyRow {
             at,
             deny: Deny { from, next },
@@ -207,41 +233,56 @@ impl Formed for DenyRow {
 
 // ---- links of the parent
 
-fn is_end_key(key: &str) -> bool
-    ensures { result ≡ end_key key.now }
-{
-    key == "from_as"
-        || key == "from"
-        || key == "to_as"
-        || key == "to"
-        || key == "near"
-        || key == "far"
+/// The nodes and the addresses of a link.
+#[derive(Clone, Copy)]
+pub struct Ends {
+    pub from: Addr,
+    pub to: Addr,
+    pub near: Addr,
+    pub far: Addr,
 }
 
-fn is_trait_key(key: &str) -> bool
-    ensures { result ≡ trait_key key.now }
+#[tactic(auto, unfolding(crate::specs::SettingsText::ends_in))]
+fn ends_of(table: &Table) -> Option<Ends>
+    ensures { result ≡ ends_in (table_view table.now) }
 {
-    key == "igp" || key == "te" || key == "bw" || key == "colour" || key == "srlg"
+    let from = addr_at(table, "from")?;
+    let to = addr_at(table, "to")?;
+    let near = addr_at(table, "near")?;
+    let far = addr_at(table, "far")?;
+    Some(Ends {
+        from,
+        to,
+        near,
+        far,
+    })
 }
 
 #[tactic(auto, unfolding(crate::specs::SettingsText::link_in))]
 fn link_of(alloc: Global, table: &Table) -> Result<Link, LineError>
     ensures { Gives result (link_in (table_view table.now)) }
 {
-    let from = addr_at(table, "from").ok_or(LineError::Outside)?;
-    let to = addr_at(table, "to").ok_or(LineError::Outside)?;
-    let near = addr_at(table, "near").ok_or(LineError::Outside)?;
-    let far = addr_at(table, "far").ok_or(LineError::Outside)?;
-    let igp = whole_at(table, "igp", u64::from(u32::MAX)).ok_or(LineError::Outside)?;
-    let te = whole_at(table, "te", u64::from(u32::MAX)).ok_or(LineError::Outside)?;
-    let bytes_per_second = whole_at(table, "bw", u64::MAX).ok_or(LineError::Outside)?;
-    let colour = colour_at(table, "colour").ok_or(LineError::Outside)?;
+    let Some(ends) = ends_of(table) else {
+        return Err(LineError::Outside);
+    };
+    let Some(igp) = whole_at(table, "igp", u64::from(u32::MAX)) else {
+        return Err(LineError::Outside);
+    };
+    let Some(te) = whole_at(table, "te", u64::from(u32::MAX)) else {
+        return Err(LineError::Outside);
+    };
+    let Some(bytes_per_second) = whole_at(table, "bw", u64::MAX) else {
+        return Err(LineError::Outside);
+    };
+    let Some(colour) = colour_at(table, "colour") else {
+        return Err(LineError::Outside);
+    };
     let srlgs = numbers_or_none(alloc, table, "srlg")?;
     Ok(Link {
-        from,
-        to,
-        near,
-        far,
+        from: ends.from,
+        to: ends.to,
+        near: ends.near,
+        far: ends.far,
         igp: igp as u32,
         te: te as u32,
         bytes_per_second,
@@ -256,13 +297,23 @@ impl Formed for ParentLink {
     ghost form = { parent_link_form };
 
     fn is_key(key: &str) -> bool {
-        is_end_key(key) || is_trait_key(key)
+        is_one_of(
+            key,
+            &[
+                "from_as", "from", "to_as", "to", "near", "far", "igp", "te", "bw", "colour",
+                "srlg",
+            ],
+        )
     }
 
     #[tactic(auto, unfolding(crate::specs::SettingsText::parent_link_of))]
     fn read(alloc: Global, table: &Table) -> Result<ParentLink, LineError> {
-        let from_as = as_at(table, "from_as").ok_or(LineError::Outside)?;
-        let to_as = as_at(table, "to_as").ok_or(LineError::Outside)?;
+        let Some(from_as) = as_at(table, "from_as") else {
+            return Err(LineError::Outside);
+        };
+        let Some(to_as) = as_at(table, "to_as") else {
+            return Err(LineError::Outside);
+        };
         let link = link_of(alloc, table)?;
         Ok(ParentLink {
             from_as,

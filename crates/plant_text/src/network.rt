@@ -1,5 +1,5 @@
 //! Networks: settings that obey the rules.
-ghost use Rattle.std.specs.Prelude.{◌≡◌, true, false, Err, IfOk, OnOk};
+ghost use Rattle.std.specs.Prelude.{◌≡◌, ◌<◌, ◌-◌, ◌^◌, true, false, Err, IfOk, OnOk, length};
 ghost use Rattle.plant_text.specs.declared.fault.NetFault.{NetFault};
 ghost use Rattle.plant_text.specs.declared.fault.NetFault.TheVariants.{NoElement};
 ghost use Rattle.plant_text.specs.Faults.{AreObeyed, IsFirst, Tells};
@@ -56,6 +56,7 @@ impl Sheet {
                 no_parent: false,
                 parent_links: None,
                 workers: false,
+                watch: false,
             },
             other: None,
         }
@@ -70,7 +71,27 @@ fn path_client_at(alloc: Global, at: As) -> Result<PeerRow, NoMemory>
         at,
         class: Class::Client { expand: true },
         port: PORT,
+        down: false,
     })
+}
+
+// The client `path` of an element, behind all peers.
+fn add_client(alloc: Global, parts: &mut NetworkParts, at: As) -> Result<(), NetError>
+    ensures added { OnOk result (parts.new ≡ with_path parts.old at) }
+    ensures room { OnOk result (length parts.old.peers < 2 ^ 32 - 1) }
+    ensures element { OnOk result (has_element parts.old at ≡ true) }
+    ensures no_element { has_element parts.old at ≡ false → result ≡ Err (NetError.Fault NoElement) }
+    ensures refused { (fault : NetFault) → result ≡ Err (NetError.Fault fault) → (fault ≡ NoElement) × (has_element parts.old at ≡ false) }
+{
+    if !is_element(parts.elements.as_slice(), at) {
+        return Err(NetError::Fault(NetFault::NoElement));
+    }
+    if parts.peers.len() >= u32::MAX as usize {
+        return Err(NetError::NoMemory);
+    }
+    let client = path_client_at(alloc, at)?;
+    parts.peers.push(client)?;
+    Ok(())
 }
 
 impl Network {
@@ -117,14 +138,7 @@ impl Network {
         ensures refused { (fault : NetFault) → result ≡ Err (NetError.Fault fault) → (fault ≡ NoElement) × (has_element self at ≡ false) }
     {
         let Network { mut parts, given } = self;
-        if !is_element(parts.elements.as_slice(), at) {
-            return Err(NetError::Fault(NetFault::NoElement));
-        }
-        if parts.peers.len() >= u32::MAX as usize {
-            return Err(NetError::NoMemory);
-        }
-        let client = path_client_at(alloc, at)?;
-        parts.peers.push(client)?;
+        add_client(alloc, &mut parts, at)?;
         Ok(Network { parts, given })
     }
 }

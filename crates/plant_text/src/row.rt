@@ -5,7 +5,7 @@ ghost use Rattle.std.specs.Str.{bytes_eq};
 ghost use Rattle.dom_base.specs.AddrOrder.{rank};
 ghost use Rattle.plant_text.specs.Faults.{first_of};
 ghost use Rattle.plant_text.specs.Names.{same_as, same_link};
-ghost use Rattle.plant_text.specs.Rules.{is_between, is_domain as is_domain_number, is_letter as is_letter_code, is_digit as is_digit_code, is_name as is_peer_name, is_class as is_class_of_peer, is_v4 as is_fourth, is_metric as is_link_metric, is_link as is_parent_link, has_parent as tells_parent, has_id as is_id_of, parent_rules, worker_rules};
+ghost use Rattle.plant_text.specs.Rules.{is_between, is_domain as is_domain_number, is_letter as is_letter_code, is_digit as is_digit_code, is_name as is_peer_name, is_class as is_class_of_peer, is_v4 as is_fourth, is_metric as is_link_metric, is_link as is_parent_link, has_parent as tells_parent, has_id as is_id_of, is_no_port as is_port_of_none, parent_rules, watch_rules, worker_rules};
 ghost use Rattle.plant_text.specs.Settings.{row_of};
 
 use crate::fault::Breach;
@@ -184,7 +184,7 @@ impl Row for PeerRow {
 
     fn breach(&self, sheet: &Sheet, before: &[PeerRow]) -> Option<Breach> {
         let name = self.name.as_str().as_bytes();
-        let is_formed = is_name(name) && is_class(self.class) && self.port > 0;
+        let is_formed = is_name(name) && is_class(self.class) && self.port > 0 && !self.down;
         let is_known = is_element(sheet.parts.elements.as_slice(), self.at);
         first(&[
             (!is_formed, Breach::Shape),
@@ -302,5 +302,26 @@ pub(crate) fn worker_breach(sheet: &Sheet) -> Option<Breach>
     first(&[
         (sheet.cuts.workers, Breach::Shape),
         (!are_workers(sheet.parts.workers), Breach::Shape),
+    ])
+}
+
+// ---- the port of watchers
+
+fn is_no_port(watch: Option<u16>) -> bool
+    ensures { result ≡ is_port_of_none watch }
+{
+    match watch {
+        Some(port) => port == 0,
+        None => false,
+    }
+}
+
+/// The first rule that the port of watchers breaks.
+pub(crate) fn watch_breach(sheet: &Sheet) -> Option<Breach>
+    ensures { result ≡ first_of (watch_rules sheet.now) }
+{
+    first(&[
+        (sheet.cuts.watch, Breach::Shape),
+        (is_no_port(sheet.parts.watch), Breach::Shape),
     ])
 }

@@ -4,8 +4,8 @@ use crate::settings::NetworkParts;
 use dom_base::Text;
 
 /// For each table what is wrong with the row behind those that were read, where one there is out of form;
-/// and whether the parent or the number of workers is.
-#[derive(Clone, Copy, Debug, PartialEq, Eq)]
+/// and whether the parent, the number of workers or the port of watchers is.
+#[derive(Clone, Copy)]
 pub struct Cuts {
     pub elements: Option<Breach>,
     pub links: Option<Breach>,
@@ -17,6 +17,7 @@ pub struct Cuts {
     pub no_parent: bool,
     pub parent_links: Option<Breach>,
     pub workers: bool,
+    pub watch: bool,
 }
 
 /// Settings as a text gives them: of each table the rows up to the first that is out of form, and of the names

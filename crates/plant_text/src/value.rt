@@ -1,5 +1,7 @@
 //! The values of a settings text.
-ghost use Rattle.std.specs.Prelude.{◌≡◌, ◌≤◌, [], IfSome, option_map};
+ghost use Rattle.std.specs.Prelude.{◌≡◌, ◌≤◌, ◌-◌, ◌^◌, [], IfSome, is_some, option_map};
+ghost use Rattle.std.specs.List.{list_any};
+ghost use Rattle.std.specs.Str.{bytes_eq};
 ghost use Rattle.toml.specs.Data.{as_bool, as_str as string_of, get_member};
 ghost use Rattle.toml.specs.View.{items_view, table_view, view};
 ghost use Rattle.plant_text.specs.Given.{Gives};
@@ -15,6 +17,20 @@ pub(crate) fn value_at<'a>(table: &'a Table, key: &str) -> Option<&'a Value>
     ensures { option_map (λ v. view v.now) result ≡ get_member key.now (table_view table.now) }
 {
     table.get(key)
+}
+
+/// Whether a key is one of these names.
+pub(crate) fn is_one_of(key: &str, names: &[&str]) -> bool
+    ensures { result ≡ list_any (λ name. bytes_eq key.now name.now) names.now }
+{
+    names.iter().any(|name| key == *name)
+}
+
+/// Whether a table has a key.
+pub(crate) fn has_key(table: &Table, key: &str) -> bool
+    ensures { result ≡ is_some (get_member key.now (table_view table.now)) }
+{
+    value_at(table, key).is_some()
 }
 
 // ---- what a value means
@@ -93,6 +109,13 @@ pub(crate) fn whole_at(table: &Table, key: &str, most: u64) -> Option<u64>
         Some(value) => whole_of(value, most),
         None => None,
     }
+}
+
+pub(crate) fn port_at(table: &Table, key: &str) -> Option<u16>
+    ensures { result ≡ needed (number (2 ^ 16 - 1)) key.now (table_view table.now) }
+{
+    let port = whole_at(table, key, u64::from(u16::MAX))?;
+    Some(port as u16)
 }
 
 pub(crate) fn text_at<'a>(table: &'a Table, key: &str) -> Option<&'a str>

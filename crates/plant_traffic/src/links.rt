@@ -36,7 +36,7 @@ impl Model for Links {
 }
 
 /// The place of a link, and an end of it.
-#[derive(Clone, Copy, Debug, PartialEq, Eq)]
+#[derive(Clone, Copy)]
 struct Place {
     link: usize,
     end: End,
@@ -156,12 +156,14 @@ impl Links {
         Ok(Links { links })
     }
 
+    /// How many inner links there are.
     pub fn count(&self) -> usize
         ensures { result ≡ length (row_of self.now).lines }
     {
         self.links.len()
     }
 
+    /// Whether a link joins these two, in either order.
     pub fn is_linked(&self, a: As, b: As) -> bool
         ensures { result ≡ has_line a b (row_of self.now).lines }
     {
@@ -181,6 +183,7 @@ impl Links {
         }
     }
 
+    /// The session of this end of the link.
     pub fn session(&self, at: As, to: As) -> Session
         ensures { result ≡ ((row_of self.now).sides at to).kept.session }
     {
@@ -190,6 +193,7 @@ impl Links {
         }
     }
 
+    /// Puts the session at this end of the link in place of the one that stands there.
     pub fn set_session(&mut self, at: As, to: As, session: Session)
         requires linked { has_line at to (row_of self.old).lines ≡ true }
         requires sid { session.offer.sid ≡ ((row_of self.old).sides at to).kept.session.offer.sid }
@@ -221,6 +225,7 @@ impl Links {
         }
     }
 
+    /// Takes the first message on its way between these two off the link, where there is one.
     pub fn drop_first(&mut self, from: As, to: As)
         ensures { SideChanges from to DropsFirst (row_of self.old) (row_of self.new) }
     {

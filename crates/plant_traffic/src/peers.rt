@@ -53,6 +53,7 @@ impl Peers {
         Ok(Peers { rows })
     }
 
+    /// How many outside peers the settings have.
     pub fn count(&self) -> usize
         ensures { result ≡ (guests_of self.now).count }
     {
@@ -68,6 +69,7 @@ impl Peers {
         access.connection.as_ref()
     }
 
+    /// Whether the peer's connection is open.
     pub fn is_open(&self, peer: u32) -> bool
         ensures { result ≡ is_some ((guests_of self.now).accesses peer).connection }
     {
@@ -77,6 +79,7 @@ impl Peers {
         }
     }
 
+    /// Who holds the peer's connection, where it is open.
     pub fn holder(&self, peer: u32) -> Option<u32>
         ensures { result ≡ option_map (λ x. x.holder) ((guests_of self.now).accesses peer).connection }
     {
@@ -86,6 +89,7 @@ impl Peers {
         }
     }
 
+    /// The peer's session, where its connection is open.
     pub fn session(&self, peer: u32) -> Option<Session>
         ensures { result ≡ option_map (λ x. x.session) ((guests_of self.now).accesses peer).connection }
     {
@@ -115,6 +119,7 @@ impl Peers {
         }
     }
 
+    /// Puts the peer's session in place of the one that stands there.
     pub fn set_session(&mut self, peer: u32, session: Session)
         ensures { (guests_of self.new) ≡ change_guest peer (deeds.with_session session) (guests_of self.old) }
     {
@@ -123,6 +128,7 @@ impl Peers {
         }
     }
 
+    /// Takes the first message out of the peer's inbox.
     pub fn drop_first(&mut self, peer: u32)
         ensures { (guests_of self.new) ≡ change_guest peer drop_first (guests_of self.old) }
     {
@@ -131,6 +137,7 @@ impl Peers {
         }
     }
 
+    /// Drops all that waits in the peer's inbox.
     pub fn empty_inbox(&mut self, peer: u32)
         ensures { (guests_of self.new) ≡ change_guest peer (deeds.with_inbox []) (guests_of self.old) }
     {
@@ -139,6 +146,7 @@ impl Peers {
         }
     }
 
+    /// Opens the peer's connection in the name of this holder.
     pub fn connect(
         &mut self,
         alloc: Global,
@@ -152,6 +160,7 @@ impl Peers {
         connect_at(&mut self.rows, peer as usize, alloc, holder, now)
     }
 
+    /// Shuts the peer's connection; what waits in it is dropped.
     pub fn shut(&mut self, peer: u32)
         ensures { (guests_of self.new) ≡ set_guest peer (record { opened = ((guests_of self.old).accesses peer).opened; connection = None }) no_room (guests_of self.old) }
     {

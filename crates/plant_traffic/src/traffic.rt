@@ -61,12 +61,14 @@ impl Traffic {
         })
     }
 
+    /// The moment, in ticks.
     pub fn clock(&self) -> Tick
         ensures { result ≡ record { 0 = (flow_of self.now).clock } }
     {
         self.clock
     }
 
+    /// Sets the moment; the caller sees to it that it does not fall.
     pub fn set_clock(&mut self, now: Tick)
         ensures { (flow_of self.new) ≡ record (flow_of self.old) { clock = now.0 } }
     {
@@ -82,6 +84,7 @@ impl Traffic {
         self.peers.count()
     }
 
+    /// Whether the peer's connection is open.
     pub fn is_open(&self, peer: u32) -> bool
         ensures { result ≡ is_some ((flow_of self.now).accesses peer).connection }
     {
@@ -123,6 +126,7 @@ impl Traffic {
         self.peers.drop_first(peer);
     }
 
+    /// Drops all that waits in the peer's inbox.
     pub fn empty_inbox(&mut self, peer: u32)
         ensures { (flow_of self.new) ≡ change_access peer (deeds.with_inbox []) (flow_of self.old) }
     {
@@ -176,6 +180,7 @@ impl Traffic {
         self.links.count()
     }
 
+    /// Whether a link joins these two, in either order.
     pub fn is_linked(&self, a: As, b: As) -> bool
         ensures { result ≡ has_line a b (flow_of self.now).lines }
     {

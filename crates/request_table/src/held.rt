@@ -2,7 +2,7 @@
 use dom_base::Peer;
 
 /// Who asked, and the id that it gave its request. No two pending requests have the same.
-#[derive(Clone, Copy, Debug, PartialEq, Eq, Hash)]
+#[derive(Clone, Copy, PartialEq, Eq, Hash)]
 pub struct RequestKey {
     pub peer: Peer,
     pub id: u32,

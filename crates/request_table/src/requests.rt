@@ -12,7 +12,7 @@ use std::alloc::Global;
 use std::marker::Model;
 
 /// Why a request was not opened. It hands the item back.
-#[derive(Debug, Drop)]
+#[derive(Drop)]
 pub enum OpenError<T> {
     Repeat(T),
     Full(T),

@@ -6,7 +6,7 @@ use dom_base::{As, NoMemory};
 use pce_parent::{Done, Work};
 
 /// What became of a solution: it was taken, its job was no longer ready, or there was no memory.
-#[derive(Clone, Copy, Debug, PartialEq, Eq)]
+#[derive(Clone, Copy)]
 pub enum Finished {
     Kept,
     Stranger,

@@ -11,7 +11,7 @@ use dom_base::NoMemory;
 use std::alloc::Global;
 
 /// How a worker ended: after all its turns, where the bench was spent, or for want of memory.
-#[derive(Clone, Copy, Debug, PartialEq, Eq)]
+#[derive(Clone, Copy)]
 pub enum Worked {
     Turns,
     Spent(u64),

@@ -13,7 +13,7 @@ use std::alloc::Global;
 use te_links::{BuildError, Parts, Row, TopoFault, Topology};
 
 /// Why no topology was made. The numbers are places among the changes, from 0.
-#[derive(Clone, Copy, Debug, PartialEq, Eq)]
+#[derive(Clone, Copy, Debug)]
 pub enum ChangeError {
     /// A row is to be dropped that is not there.
     Absent(usize),

@@ -16,14 +16,14 @@ use std::sync::Arc;
 use te_links::Topology;
 
 /// Why a topology was not loaded.
-#[derive(Clone, Copy, Debug, PartialEq, Eq)]
+#[derive(Clone, Copy)]
 pub enum LoadError {
     Full,
     NoMemory,
 }
 
 /// Keeps a generation live until it is released. Contracts see it as the number of its generation.
-#[derive(Debug, Drop)]
+#[derive(Drop)]
 pub struct Pin {
     generation: u64,
 }

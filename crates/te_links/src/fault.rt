@@ -7,7 +7,7 @@ use std::fmt;
 
 /// What is wrong with the rows of a topology, or with its text. At a row the rules go in the order
 /// of the variants. `Syntax` and `NoHeader` are of texts alone.
-#[derive(Clone, Copy, Debug, PartialEq, Eq)]
+#[derive(Clone, Copy, Debug)]
 pub enum TopoFault {
     /// The row is past a limit, or has too many shared risk groups.
     TooMany,
@@ -44,7 +44,7 @@ impl fmt::Display for TopoFault {
 }
 
 /// The lists of a topology's rows.
-#[derive(Clone, Copy, Debug, PartialEq, Eq)]
+#[derive(Clone, Copy, Debug)]
 pub enum RowKind {
     Node,
     Link,
@@ -53,7 +53,7 @@ pub enum RowKind {
 }
 
 /// A row, by its place in its list as it was given, from 0.
-#[derive(Clone, Copy, Debug, PartialEq, Eq)]
+#[derive(Clone, Copy, Debug)]
 pub struct Row {
     pub kind: RowKind,
     pub index: u32,
@@ -61,7 +61,7 @@ pub struct Row {
 
 /// Why rows are no topology: the first rule that is broken and the row that breaks it, or want of
 /// memory.
-#[derive(Clone, Copy, Debug, PartialEq, Eq)]
+#[derive(Clone, Copy)]
 pub enum BuildError {
     Rule(TopoFault, Row),
     NoMemory,

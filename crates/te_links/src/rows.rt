@@ -10,7 +10,7 @@ pub struct OutLink {
 
 /// A node at which paths from another domain may enter. Entries are ordered by the domain, then
 /// by the node.
-#[derive(Clone, Copy, Debug, PartialEq, Eq, PartialOrd, Ord)]
+#[derive(Clone, Copy, PartialEq, Eq, PartialOrd, Ord)]
 pub struct Entry {
     pub from_as: As,
     pub node: Addr,

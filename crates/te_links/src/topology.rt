@@ -97,6 +97,7 @@ impl Topology {
         self.own
     }
 
+    /// How many nodes there are, at most 1,024.
     pub fn node_count(&self) -> u32
         ensures count { result ≡ length self.now.nodes }
         ensures rules { IsTopology self.now }
@@ -105,6 +106,7 @@ impl Topology {
         self.nodes.len() as u32
     }
 
+    /// How many inner links there are, at most 8,192.
     pub fn link_count(&self) -> u32
         ensures count { result ≡ length self.now.links }
         ensures rules { IsTopology self.now }
@@ -113,6 +115,7 @@ impl Topology {
         self.links.len() as u32
     }
 
+    /// How many links leave the domain.
     pub fn out_count(&self) -> u32
         ensures count { result ≡ length self.now.outs }
         ensures rules { IsTopology self.now }
@@ -121,6 +124,7 @@ impl Topology {
         self.outs.len() as u32
     }
 
+    /// How many entries there are, each for one neighbouring domain.
     pub fn entry_count(&self) -> u32
         ensures count { result ≡ length self.now.entries }
         ensures rules { IsTopology self.now }
@@ -129,6 +133,7 @@ impl Topology {
         self.entries.len() as u32
     }
 
+    /// The node of that place; nodes stand in rising order.
     pub fn node_at(&self, i: u32) -> Addr
         requires { i < length self.now.nodes }
         ensures { slice_get self.now.nodes i ≡ Some result }
@@ -136,6 +141,7 @@ impl Topology {
         self.nodes[i as usize]
     }
 
+    /// The inner link of that place; links stand in rising order of far addresses.
     pub fn link_at(&self, i: u32) -> &Link
         requires { i < length self.now.links }
         ensures { slice_get self.now.links i ≡ Some result.now }
@@ -159,6 +165,7 @@ impl Topology {
         self.ends.heads[i as usize]
     }
 
+    /// The link of that place that leaves the domain.
     pub fn out_at(&self, i: u32) -> &OutLink
         requires { i < length self.now.outs }
         ensures { slice_get self.now.outs i ≡ Some result.now }
@@ -166,6 +173,7 @@ impl Topology {
         &self.outs[i as usize]
     }
 
+    /// The entry of that place.
     pub fn entry_at(&self, i: u32) -> Entry
         requires { i < length self.now.entries }
         ensures { slice_get self.now.entries i ≡ Some result }

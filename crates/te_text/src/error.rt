@@ -4,7 +4,7 @@ use te_links::TopoFault;
 
 /// Why a text is no topology, or says nothing of one: what is wrong at which line, from 1, or want of
 /// memory.
-#[derive(Clone, Copy, Debug, PartialEq, Eq)]
+#[derive(Clone, Copy, Debug)]
 pub enum TextError {
     At(u32, TopoFault),
     NoMemory,

@@ -8,7 +8,7 @@ use dom_base::{Addr, As, read_addr, read_colour, read_number};
 use line_text::Words;
 
 /// The nodes of a link and the addresses of its two ends.
-#[derive(Clone, Copy, Debug)]
+#[derive(Clone, Copy)]
 pub struct Ends {
     pub from: Addr,
     pub to: Addr,
@@ -17,7 +17,7 @@ pub struct Ends {
 }
 
 /// What a link costs and can carry, and its colour.
-#[derive(Clone, Copy, Debug)]
+#[derive(Clone, Copy)]
 pub struct Traits {
     pub igp: u32,
     pub te: u32,

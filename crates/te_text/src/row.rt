@@ -19,7 +19,7 @@ pub enum TextRow {
 }
 
 /// Why words give no row of a text.
-#[derive(Clone, Copy, Debug, PartialEq, Eq)]
+#[derive(Clone, Copy)]
 pub enum RowError {
     Syntax,
     NoMemory,

@@ -12,8 +12,9 @@ use Rattle.pcep_subobjects.specs.Addresses.{IsAddr}
 use Rattle.toml.specs.Data.{Data, Items, no_items, item, Members, string, integer, float, boolean, datetime, array, table, as_bool, as_str, get_member}
 use Rattle.plant_text.specs.declared.fault.Breach.{Breach}
 use Rattle.plant_text.specs.declared.rows.Found.{Found}
+use Rattle.plant_text.specs.declared.forms.Ends.{Ends}
 use Rattle.plant_text.specs.declared.settings.ElementRow.{ElementRow}
-use Rattle.plant_text.specs.SettingsText.{Form, addr_of, as_of, colour_of, element_form, element_of, file_of, has_only, link_in, needed, number, numbers_of, optional, parent_link_form, parent_link_of, parent_links_of, row_in, rows_in, rows_of, sheet_in, with_row, wrong_in}
+use Rattle.plant_text.specs.SettingsText.{Form, addr_of, as_of, colour_of, element_form, element_of, ends_in, file_of, has_only, link_in, needed, number, numbers_of, optional, parent_link_form, parent_link_of, parent_links_of, row_in, rows_in, rows_of, sheet_in, with_row, wrong_in}
 use Rattle.plant_model.specs.Plant.{IsLinkInRange}
 use Rattle.text_ranges.proofs.AddrRanges.{addr_in_range, by_parts, under_test}
 
@@ -70,33 +71,49 @@ unfolding element_of
 element_in_range ms e is =
     let own = by_parts (needed as_of (codes "as") ms) _ e is in
     let id = by_parts (needed addr_of (codes "id") ms) _ e own.2 in
-    let topology = by_parts (optional file_of None (codes "topology") ms) _ e id.2 in
-    let life = by_parts (optional (number (2 ^ 16 - 1)) 600 (codes "key_life") ms) _ e topology.2 in
+    let life = by_parts (optional (number (2 ^ 16 - 1)) 600 (codes "key_life") ms) _ e id.2 in
     let parent = by_parts (optional as_bool false (codes "parent") ms) _ e life.2 in
+    let topology = by_parts (optional file_of None (codes "topology") ms) _ e parent.2 in
     let made : ElementRow = record { own = own.0; id = id.0; topology = topology.0; key_life = life.0; parent = parent.0 } in
-    let same : made ≡ e = held made e parent.2 in
+    let same : made ≡ e = held made e topology.2 in
     subst IsElementInRange same (record { own = as_at (codes "as") ms own.0 own.1; id = addr_at (codes "id") ms id.0 id.1 })
 
-link_in_range : (ms : Members) (l : Link) → link_in ms ≡ Some l → IsLinkInRange l
-unfolding link_in
-link_in_range ms l is =
-    let from = by_parts (needed addr_of (codes "from") ms) _ l is in
-    let to = by_parts (needed addr_of (codes "to") ms) _ l from.2 in
-    let near = by_parts (needed addr_of (codes "near") ms) _ l to.2 in
-    let far = by_parts (needed addr_of (codes "far") ms) _ l near.2 in
-    let igp = by_parts (needed (number (2 ^ 32 - 1)) (codes "igp") ms) _ l far.2 in
-    let te = by_parts (needed (number (2 ^ 32 - 1)) (codes "te") ms) _ l igp.2 in
-    let bw = by_parts (needed (number (2 ^ 64 - 1)) (codes "bw") ms) _ l te.2 in
-    let colour = by_parts (needed colour_of (codes "colour") ms) _ l bw.2 in
-    let srlgs = by_parts (optional numbers_of [] (codes "srlg") ms) _ l colour.2 in
-    let made : Link = record { from = from.0; to = to.0; near = near.0; far = far.0; igp = igp.0; te = te.0; bytes_per_second = bw.0; colour = colour.0; srlgs = srlgs.0 } in
-    let same : made ≡ l = held made l srlgs.2 in
-    subst IsLinkInRange same (record {
+record AreEndsInRange (e : Ends) : Type 0 where
+  from : IsAddr e.from
+  to : IsAddr e.to
+  near : IsAddr e.near
+  far : IsAddr e.far
+
+ends_in_range : (ms : Members) (e : Ends) → ends_in ms ≡ Some e → AreEndsInRange e
+unfolding ends_in
+ends_in_range ms e is =
+    let from = by_parts (needed addr_of (codes "from") ms) _ e is in
+    let to = by_parts (needed addr_of (codes "to") ms) _ e from.2 in
+    let near = by_parts (needed addr_of (codes "near") ms) _ e to.2 in
+    let far = by_parts (needed addr_of (codes "far") ms) _ e near.2 in
+    let made : Ends = record { from = from.0; to = to.0; near = near.0; far = far.0 } in
+    let same : made ≡ e = held made e far.2 in
+    subst AreEndsInRange same (record {
       from = addr_at (codes "from") ms from.0 from.1;
       to = addr_at (codes "to") ms to.0 to.1;
       near = addr_at (codes "near") ms near.0 near.1;
       far = addr_at (codes "far") ms far.0 far.1;
     })
+
+link_in_range : (ms : Members) (l : Link) → link_in ms ≡ Some l → IsLinkInRange l
+unfolding link_in
+link_in_range ms l is =
+    let ends = by_parts (ends_in ms) _ l is in
+    let igp = by_parts (needed (number (2 ^ 32 - 1)) (codes "igp") ms) _ l ends.2 in
+    let te = by_parts (needed (number (2 ^ 32 - 1)) (codes "te") ms) _ l igp.2 in
+    let bw = by_parts (needed (number (2 ^ 64 - 1)) (codes "bw") ms) _ l te.2 in
+    let colour = by_parts (needed colour_of (codes "colour") ms) _ l bw.2 in
+    let srlgs = by_parts (optional numbers_of [] (codes "srlg") ms) _ l colour.2 in
+    let e = ends.0 in
+    let made : Link = record { from = e.from; to = e.to; near = e.near; far = e.far; igp = igp.0; te = te.0; bytes_per_second = bw.0; colour = colour.0; srlgs = srlgs.0 } in
+    let same : made ≡ l = held made l srlgs.2 in
+    let within = ends_in_range ms e ends.1 in
+    subst IsLinkInRange same (record { from = within.from; to = within.to; near = within.near; far = within.far })
 
 parent_link_in_range : (ms : Members) (l : ParentLink) → parent_link_of ms ≡ Some l → IsParentLinkInRange l
 unfolding parent_link_of

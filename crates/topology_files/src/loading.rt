@@ -11,7 +11,7 @@ use te_text::{TextError, read_topology};
 pub const TOPOLOGY_MAX: usize = 4_194_304;
 
 /// Why a file gives no topology.
-#[derive(Clone, Copy, Debug, PartialEq, Eq)]
+#[derive(Clone, Copy)]
 pub enum LoadError {
     /// The read failed; a name that is not there is a fault.
     Failed,

@@ -1,5 +1,5 @@
 -- A chosen segment is a walk of its label, and the only one; with a least walk beyond its exit it is a least walk.
-use Rattle.std.proofs.Common.{◌≡◌, inl, inr, ℕ, ◌+◌, ◌<◌, List, [], ◌∷◌, arith, refl, sym, ◌∙◌, ap, subst, Some, get_or}
+use Rattle.std.proofs.Common.{◌≡◌, inl, inr, ℕ, ◌+◌, ◌<◌, ◌≤◌, List, [], ◌∷◌, arith, refl, sym, ◌∙◌, ap, subst, Some, get_or}
 use Rattle.std.specs.Prelude.{Contains, AllPairs}
 use Rattle.std.proofs.lemmas.Bool.{cases_lt, cases_eq}
 use Rattle.std.proofs.lemmas.List.{get_or_default}
@@ -15,13 +15,13 @@ use Rattle.te_links.specs.declared.rows.OutLink.{OutLink}
 use Rattle.te_links.specs.Rows.{Rows}
 use Rattle.walk_laws.specs.Walks.{AdmitsNode, Walk, cost}
 use Rattle.walk_laws.specs.Labels.{IsLabel, IsChosen, IsSegment}
-use Rattle.walk_laws.specs.Crossing.{CrossingWalk, crossing_cost, query_in, IsLeastCrossing}
+use Rattle.walk_laws.specs.Crossing.{Leg, Told, Over, Arrives, CrossingWalk, crossing_cost, query_in, IsLeastCrossing}
 use Rattle.walk_laws.specs.Borders.{IsBorderSeed}
-use Rattle.walk_laws.specs.Segments.{SegmentIsWalk, OneSegment, ShownComposes, ShownEnds}
+use Rattle.walk_laws.specs.Segments.{SegmentIsWalk, OneSegment, ShownComposes, ShownEnds, ShownReports}
 use Rattle.walk_laws.proofs.Admitted.{walk_admits}
 use Rattle.walk_laws.proofs.Tight.{label_unique}
 use Rattle.walk_laws.proofs.Joining.{label_joins, label_joins_at}
-use Rattle.walk_laws.proofs.Composing.{composes, ends}
+use Rattle.walk_laws.proofs.Composing.{composes, reports, ends}
 
 -- a walk to a seed, whose cost and the seed's are the label's
 pub record Leads (g : Rows) (q : Query) (seeds : List Seed) (u : Addr) (a : Label) (links : List Link) : Type 0 where
@@ -103,7 +103,7 @@ one_segment g q seeds u a (l ∷ ls) (m ∷ ms) order one other =
         ap (λ (x : Link). x ∷ ls) same ∙ ap (λ (xs : List Link). k ∷ xs) (tails there)
 
 pub shown_composes : ShownComposes
-shown_composes q g h rest t down seeds order are are_seeds entry a links is segment o is_out far legs last onward =
+shown_composes q g h rest goal down seeds order are are_seeds entry a links is segment o is_out far legs last onward =
     let own = query_in q g.own in
     let on = leads g own seeds entry a links (walk_admits g own entry is.0.seed.node is.0.links is.0.walk) segment in
     let found = are_seeds.each on.seed on.is_seed in
@@ -116,7 +116,7 @@ shown_composes q g h rest t down seeds order are are_seeds entry a links is segm
     own = query_in q g.own
 
     go : (on : Leads g own seeds entry a links) → IsBorderSeed g own h.own down o on.seed →
-        IsLeastCrossing q g (h ∷ rest) entry t (record { links = links; out = o } ∷ legs) last × (a.cost ≡ crossing_cost q (record { links = links; out = o } ∷ legs) last)
+        IsLeastCrossing q g (h ∷ rest) entry goal (record { links = links; out = o } ∷ legs) last × (a.cost ≡ crossing_cost q (record { links = links; out = o } ∷ legs) last)
     go on s =
         let out = s.out in
         let told = are.each o.link.to s.beyond s.is_down.is_row in
@@ -124,8 +124,8 @@ shown_composes q g h rest t down seeds order are are_seeds entry a links is segm
         let one = onward.least right.legs right.last right.least.feasible in
         let other = right.least.least legs last onward.feasible in
         let sum : a.cost ≡ cost own links + weight q.metric o.link + crossing_cost q legs last = omega (arith, on.sum, s.sum, right.is, one, other) in
-        let joined = composes q g h rest t down are entry (Some a) (label_joins g own h.own down seeds are_seeds entry (Some a) is) in
-        let walk : CrossingWalk q g (h ∷ rest) entry t (record { links = links; out = o } ∷ legs) last = (
+        let joined = composes q g h rest goal down are entry (Some a) (label_joins g own h.own down seeds are_seeds entry (Some a) is) in
+        let walk : CrossingWalk q g (h ∷ rest) entry goal (record { links = links; out = o } ∷ legs) last = (
           subst (λ (n : Addr). Walk g own entry n links) s.node on.walk,
           record { is_out = out.is_out; towards = out.towards; allowed = out.allowed; entry = told.0 },
           onward.feasible.walk,
@@ -152,3 +152,33 @@ shown_ends q g t entry a links is segment =
       },
       sum,
     )
+
+pub shown_reports : ShownReports
+shown_reports q g next down seeds order are_seeds entry a links is segment o is_out far c is_down =
+    let on = leads g own seeds entry a links (walk_admits g own entry is.0.seed.node is.0.links is.0.walk) segment in
+    let found = are_seeds.each on.seed on.is_seed in
+    let p = found.0 in
+    let s = found.1 in
+    let same : p ≡ o = one_of (λ (x : OutLink). rank x.link.far) g.outs order.outs p o s.out.is_out is_out (ap rank (sym s.exit ∙ sym on.exit ∙ sym far)) in
+    go on (subst (λ (x : OutLink). IsBorderSeed g own next down x on.seed) same s)
+  where
+    own : Query
+    own = query_in q g.own
+
+    leg : Leg
+    leg = record { links = links; out = o }
+
+    go : (on : Leads g own seeds entry a links) → IsBorderSeed g own next down o on.seed →
+        IsLeastCrossing q g [] entry (Told next down) [] (Over leg c) × (a.cost ≡ crossing_cost q [] (Over leg c))
+    go on s =
+        let one : c ≤ s.beyond = is_down.least s.beyond s.is_down.is_row in
+        let other : s.beyond ≤ c = s.is_down.least c is_down.is_row in
+        let sum : a.cost ≡ cost own links + weight q.metric o.link + c = omega (arith, on.sum, s.sum, one, other) in
+        let joined = reports q g next down entry (Some a) (label_joins g own next down seeds are_seeds entry (Some a) is) in
+        let walk : Arrives g own entry (Told next down) (Over leg c) = (subst (λ (n : Addr). Walk g own entry n links) s.node on.walk, s.out, is_down.is_row) in (
+          record {
+            feasible = record { walk = walk; within = omega (arith, sum, is.0.within) };
+            least = λ others end f. let low = joined.least.least others end f in omega (arith, low, joined.is, sum);
+          },
+          sum,
+        )

@@ -11,7 +11,7 @@ use Rattle.dom_base.specs.declared.query.Label.{Label}
 use Rattle.te_links.specs.Rows.{Rows}
 use Rattle.walk_laws.specs.Walks.{Walk, cost}
 use Rattle.walk_laws.specs.Labels.{IsLabel}
-use Rattle.walk_laws.specs.Crossing.{query_in, IsLeastCost, HasNoCrossing}
+use Rattle.walk_laws.specs.Crossing.{Goal, At, Told, query_in, IsLeastCost, HasNoCrossing}
 use Rattle.walk_laws.specs.Borders.{Beyond, IsJoin, IsJoinAt, AreBorderSeeds}
 
 -- walks that meet make one, and their costs add up
@@ -44,22 +44,28 @@ IsEntryFrom h from_as n = Contains h.entries (record { node = n; from_as = from_
 
 -- The rows are right for the domains beyond: each is the least cost of a feasible crossing walk from an entry, and an entry without
 -- a row has no such walk.
-pub record AreBeyond (q : Query) (from_as : As) (h : Rows) (rest : List Rows) (t : Addr) (down : List Beyond) : Type 0 where
-  pub each : (n : Addr) (c : ℕ) → Contains down (record { node = n; cost = c }) → IsEntryFrom h from_as n × IsLeastCost q h rest n t c
-  pub absent : (n : Addr) → IsEntryFrom h from_as n → ((c : ℕ) → ¬ Contains down (record { node = n; cost = c })) → HasNoCrossing q h rest n t
+pub record AreBeyond (q : Query) (from_as : As) (h : Rows) (rest : List Rows) (goal : Goal) (down : List Beyond) : Type 0 where
+  pub each : (n : Addr) (c : ℕ) → Contains down (record { node = n; cost = c }) → IsEntryFrom h from_as n × IsLeastCost q h rest n goal c
+  pub absent : (n : Addr) → IsEntryFrom h from_as n → ((c : ℕ) → ¬ Contains down (record { node = n; cost = c })) → HasNoCrossing q h rest n goal
 
 -- the cost in the pair is the least of a feasible crossing walk, and the pair is absent where there is none
-abbrev pub IsLeastOf : Query → Rows → List Rows → Addr → Addr → Option Label → Type 0
-IsLeastOf q g rest s t None = HasNoCrossing q g rest s t
-IsLeastOf q g rest s t (Some a) = IsLeastCost q g rest s t a.cost
+abbrev pub IsLeastOf : Query → Rows → List Rows → Addr → Goal → Option Label → Type 0
+IsLeastOf q g rest s goal None = HasNoCrossing q g rest s goal
+IsLeastOf q g rest s goal (Some a) = IsLeastCost q g rest s goal a.cost
 
 -- over right rows beyond, the join is the least of the whole list of domains
 abbrev pub JoinComposes : Type 0
 JoinComposes =
-    (q : Query) (g h : Rows) (rest : List Rows) (t : Addr) (down : List Beyond) → AreBeyond q g.own h rest t down →
-    (entry : Addr) (o : Option Label) → IsJoin g (query_in q g.own) h.own down entry o → IsLeastOf q g (h ∷ rest) entry t o
+    (q : Query) (g h : Rows) (rest : List Rows) (goal : Goal) (down : List Beyond) → AreBeyond q g.own h rest goal down →
+    (entry : Addr) (o : Option Label) → IsJoin g (query_in q g.own) h.own down entry o → IsLeastOf q g (h ∷ rest) entry goal o
 
 -- and so it is in the last domain
 abbrev pub JoinEnds : Type 0
 JoinEnds =
-    (q : Query) (g : Rows) (entry t : Addr) (o : Option Label) → IsJoinAt g (query_in q g.own) t entry o → IsLeastOf q g [] entry t o
+    (q : Query) (g : Rows) (entry t : Addr) (o : Option Label) → IsJoinAt g (query_in q g.own) t entry o → IsLeastOf q g [] entry (At t) o
+
+-- also over rows that were told of the domain beyond it, whatever they are
+abbrev pub JoinReports : Type 0
+JoinReports =
+    (q : Query) (g : Rows) (next : As) (down : List Beyond) (entry : Addr) (o : Option Label) →
+    IsJoin g (query_in q g.own) next down entry o → IsLeastOf q g [] entry (Told next down) o

@@ -1,7 +1,8 @@
 -- What a chosen segment is worth: it is a walk of its label, there is one, and with what is shown beyond its exit it is a least walk
 -- through several domains (RFC 5441, section 4.2).
-use Rattle.std.specs.Prelude.{◌≡◌, List, [], ◌∷◌, Contains, Some}
+use Rattle.std.specs.Prelude.{◌≡◌, ℕ, List, [], ◌∷◌, Contains, Some}
 use Rattle.dom_base.specs.declared.addr.Addr.{Addr}
+use Rattle.dom_base.specs.declared.names.As.{As}
 use Rattle.dom_base.specs.declared.link.Link.{Link}
 use Rattle.dom_base.specs.declared.query.Query.{Query}
 use Rattle.dom_base.specs.declared.query.Seed.{Seed}
@@ -9,8 +10,8 @@ use Rattle.dom_base.specs.declared.query.Label.{Label}
 use Rattle.te_links.specs.declared.rows.OutLink.{OutLink}
 use Rattle.te_links.specs.Rows.{Rows, IsInOrder}
 use Rattle.walk_laws.specs.Labels.{Reaches, IsLabel, IsSegment}
-use Rattle.walk_laws.specs.Crossing.{Leg, crossing_cost, query_in, IsLeastCrossing}
-use Rattle.walk_laws.specs.Borders.{Beyond, AreBorderSeeds}
+use Rattle.walk_laws.specs.Crossing.{Leg, Goal, At, Told, Last, Links, Over, crossing_cost, query_in, IsLeastCrossing}
+use Rattle.walk_laws.specs.Borders.{Beyond, IsDown, AreBorderSeeds}
 use Rattle.walk_laws.specs.Composition.{AreBeyond}
 
 -- it reaches a seed, as its label says
@@ -28,13 +29,13 @@ OneSegment =
 -- with the out link of its exit, and a least walk from there, it is a least walk of the label's cost
 abbrev pub ShownComposes : Type 0
 ShownComposes =
-    (q : Query) (g h : Rows) (rest : List Rows) (t : Addr) (down : List Beyond) (seeds : List Seed) → IsInOrder g →
-    AreBeyond q g.own h rest t down → AreBorderSeeds g (query_in q g.own) h.own down seeds →
+    (q : Query) (g h : Rows) (rest : List Rows) (goal : Goal) (down : List Beyond) (seeds : List Seed) → IsInOrder g →
+    AreBeyond q g.own h rest goal down → AreBorderSeeds g (query_in q g.own) h.own down seeds →
     (entry : Addr) (a : Label) (links : List Link) → IsLabel g (query_in q g.own) seeds entry (Some a) →
     IsSegment g (query_in q g.own) seeds entry a links →
     (o : OutLink) → Contains g.outs o → o.link.far ≡ a.exit →
-    (legs : List Leg) (last : List Link) → IsLeastCrossing q h rest o.link.to t legs last →
-    IsLeastCrossing q g (h ∷ rest) entry t (record { links = links; out = o } ∷ legs) last
+    (legs : List Leg) (last : Last) → IsLeastCrossing q h rest o.link.to goal legs last →
+    IsLeastCrossing q g (h ∷ rest) entry goal (record { links = links; out = o } ∷ legs) last
     × (a.cost ≡ crossing_cost q (record { links = links; out = o } ∷ legs) last)
 
 -- and so it is alone in the last domain
@@ -43,4 +44,16 @@ ShownEnds =
     (q : Query) (g : Rows) (t : Addr) (entry : Addr) (a : Label) (links : List Link) →
     IsLabel g (query_in q g.own) (record { node = t; cost = 0; exit = t } ∷ []) entry (Some a) →
     IsSegment g (query_in q g.own) (record { node = t; cost = 0; exit = t } ∷ []) entry a links →
-    IsLeastCrossing q g [] entry t [] links × (a.cost ≡ crossing_cost q [] links)
+    IsLeastCrossing q g [] entry (At t) [] (Links links) × (a.cost ≡ crossing_cost q [] (Links links))
+
+-- and there with the out link of its exit and the least row that was told of the node beyond
+abbrev pub ShownReports : Type 0
+ShownReports =
+    (q : Query) (g : Rows) (next : As) (down : List Beyond) (seeds : List Seed) → IsInOrder g →
+    AreBorderSeeds g (query_in q g.own) next down seeds →
+    (entry : Addr) (a : Label) (links : List Link) → IsLabel g (query_in q g.own) seeds entry (Some a) →
+    IsSegment g (query_in q g.own) seeds entry a links →
+    (o : OutLink) → Contains g.outs o → o.link.far ≡ a.exit →
+    (c : ℕ) → IsDown down o.link.to c →
+    IsLeastCrossing q g [] entry (Told next down) [] (Over (record { links = links; out = o }) c)
+    × (a.cost ≡ crossing_cost q [] (Over (record { links = links; out = o }) c))

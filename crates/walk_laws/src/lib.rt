@@ -3,8 +3,8 @@
 #![tactic(auto)]
 
 ghost use Rattle.walk_laws.specs.Least.{CertificateIsLeast, LeastIsCertified, PathIsWalk, SegmentLeads};
-ghost use Rattle.walk_laws.specs.Composition.{WalksJoin, WalksSplit, LabelIsJoin, LabelIsJoinAt, JoinComposes, JoinEnds};
-ghost use Rattle.walk_laws.specs.Segments.{SegmentIsWalk, OneSegment, ShownComposes, ShownEnds};
+ghost use Rattle.walk_laws.specs.Composition.{WalksJoin, WalksSplit, LabelIsJoin, LabelIsJoinAt, JoinComposes, JoinEnds, JoinReports};
+ghost use Rattle.walk_laws.specs.Segments.{SegmentIsWalk, OneSegment, ShownComposes, ShownEnds, ShownReports};
 ghost use Rattle.walk_laws.specs.TableJoins.{OneTableJoin, OneTableEnd};
 
 /// A law: where the conditions of a certificate hold, each label is the least over all walks.
@@ -59,6 +59,12 @@ pub fn join_ends()
     ensures { JoinEnds }
 {}
 
+/// The law of composition in the last domain of which rows were asked elsewhere: over any rows that
+/// were told of the domain beyond, the join is the least cost of a walk that ends over one of them.
+pub fn join_reports()
+    ensures { JoinReports }
+{}
+
 /// A law: the chosen segment is a walk of its label.
 pub fn segment_is_walk()
     ensures { SegmentIsWalk }
@@ -79,6 +85,12 @@ pub fn shown_composes()
 /// A law: in the last domain the chosen segment alone is a least walk.
 pub fn shown_ends()
     ensures { ShownEnds }
+{}
+
+/// A law: where rows were told of the domain beyond the last, the chosen segment, the out link of its
+/// exit and the least row of that link's head are a least walk.
+pub fn shown_reports()
+    ensures { ShownReports }
 {}
 
 /// A law: a border table has one join, at its border and in the last domain.

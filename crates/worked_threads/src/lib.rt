@@ -1,4 +1,5 @@
-//! What threads do with a value under its lock and with jobs that they share, and which values may go to them.
+//! What threads do with a value under its lock, with jobs that they share and with what is shown to them, and which
+//! values may go to them.
 #![tactic(auto)]
 
 #[cfg(test)]
@@ -7,5 +8,7 @@ mod counters;
 mod crossing;
 #[cfg(test)]
 mod desk;
+#[cfg(test)]
+mod watching;
 #[cfg(test)]
 mod workers;
