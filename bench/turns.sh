@@ -1,5 +1,5 @@
 #!/bin/sh
-# Turns per second of a turnstile round the counter, with 1, 2 and 4 threads that take turns as fast as they can.
+# Turns per second of a turnstile round the counter, with 1, 2, 4, 64 and 256 threads that take turns as fast as they can.
 # It makes a program in a copy of the repository, proves and builds it there, and runs it. The figures hold for the
 # machine and the moment alone: no clause speaks of time.
 # usage: bench/turns.sh [TURNS]   (turns of all threads together, 1000000 where left out)
@@ -33,16 +33,17 @@ use plant_lock::counter::{Change, Counter};
 use plant_lock::{TurnSeat, Turnstile};
 use std::alloc::Global;
 use std::sync::{Arc, Wait};
+use std::time::Clock;
 
 #[derive(Drop)]
-pub struct Worker<R: Wait> {
+pub struct Worker<R: Wait + Clock> {
     rt: R,
     stile: Arc<Turnstile<Counter>, Global>,
     seat: TurnSeat<Counter>,
     ghost here: { IsAt (arc_value stile) seat },
 }
 
-impl<R: Wait> Worker<R> {
+impl<R: Wait + Clock> Worker<R> {
     pub fn new(rt: R, stile: Arc<Turnstile<Counter>, Global>, seat: TurnSeat<Counter>) -> Self
         requires { IsAt (arc_value stile) seat }
     {
@@ -56,7 +57,7 @@ impl<R: Wait> Worker<R> {
     }
 }
 
-pub fn work<R: Wait + Drop>(mut worker: Worker<R>, turns: u64) {
+pub fn work<R: Wait + Clock + Drop>(mut worker: Worker<R>, turns: u64) {
     for _ in 0..turns {
         if !worker.add() {
             return;
@@ -81,8 +82,8 @@ use std::time::Instant;
 const TURNS: u64 = $turns;
 
 fn main(rt: HostRuntime) -> io::Result<()> {
-    for threads in [1u32, 2, 4] {
-        let Ok((stile, mut seat)) = Turnstile::open(rt.alloc(), Counter::new(), 5) else {
+    for threads in [1u32, 2, 4, 64, 256] {
+        let Ok((stile, mut seat)) = Turnstile::open(rt.alloc(), Counter::new(), 257) else {
             return println!(rt; "no memory");
         };
         let Ok(stile) = Arc::new(rt.alloc(), stile) else {

@@ -11,6 +11,7 @@ mod steps;
 mod turned;
 mod turnstile;
 mod view;
+mod waiting;
 
 pub use seat::{TurnSeat, Turnstile};
 pub use turned::Turned;

@@ -11,12 +11,13 @@ use crate::seat::{TurnSeat, Turnstile};
 use crate::steps::{Advance, Cut, Draw, Learn, Look, Merge, Take};
 use crate::turned::Turned;
 use crate::view::{Key, Slot, View};
+use crate::waiting::{PATIENCE, stand_back, stand_by};
 use atomic_table::{Seat, Table};
 use dom_base::NoMemory;
 use std::alloc::Global;
 use std::snapshot::Snapshot;
 use std::sync::Wait;
-use std::thread::yield_now;
+use std::time::Clock;
 
 /// The first number that is no ticket.
 const LAST: u64 = 1 << 63;
@@ -75,7 +76,7 @@ impl<T: Turned> Turnstile<T> {
     /// history, from 0, with the value's answer. It takes no memory of its own.
     ///
     /// Where the tickets are used up the act is dropped, and the seat keeps the word that it met.
-    pub fn turn<R: Wait>(
+    pub fn turn<R: Wait + Clock>(
         &self,
         rt: &R,
         seat: &mut TurnSeat<T>,
@@ -154,8 +155,26 @@ impl<T: Turned> Turnstile<T> {
         }
     }
 
+    // The ticket word, met where no ticket was out, or after so many waits.
+    fn approach<R: Clock>(&self, rt: &R, seat: &mut Place<T>) -> u64
+        requires here { seat.old.table_id ≡ self.now.table.shared.table_id }
+        requires live { 0 < seat.old.me.0.shares }
+        ensures here { (seat.new.table_id ≡ seat.old.table_id) × (seat.new.id ≡ seat.old.id) }
+        ensures met { seat.new.me ≡ (record seat.old.me.0 { met = result }, seat.old.me.1) }
+    {
+        let mut met = self.table.shared.load::<Look>(seat, 0);
+        for wait in 0..PATIENCE {
+            if met == self.table.shared.peek(1) {
+                return met;
+            }
+            stand_back(rt, wait);
+            met = self.table.shared.load::<Look>(seat, 0);
+        }
+        met
+    }
+
     // Draws a ticket, or else answers the word that it met.
-    fn draw<R: Wait>(&self, rt: &R, seat: &mut Place<T>) -> Result<u64, u64>
+    fn draw<R: Wait + Clock>(&self, rt: &R, seat: &mut Place<T>) -> Result<u64, u64>
         requires here { seat.old.table_id ≡ self.now.table.shared.table_id }
         requires live { (0 < seat.old.me.0.shares) × (seat.old.me.0.stage ≡ Idle) }
         ensures here { (seat.new.table_id ≡ seat.old.table_id) × (seat.new.id ≡ seat.old.id) }
@@ -163,8 +182,8 @@ impl<T: Turned> Turnstile<T> {
             (λ t. (t < 2 ^ 63) × (seat.new.me ≡ (record seat.old.me.0 { met = t; stage = Waits t }, seat.old.me.1)))
             (λ t. (2 ^ 63 ≤ t) × (seat.new.me ≡ (record seat.old.me.0 { met = t }, seat.old.me.1))) }
     {
-        let mut met = self.table.shared.load::<Look>(seat, 0);
         for _ in rt.forever() {
+            let met = self.approach(rt, seat);
             if is_spent(met) {
                 return Err(met);
             }
@@ -175,23 +194,25 @@ impl<T: Turned> Turnstile<T> {
             if found == met {
                 return Ok(found);
             }
-            met = found;
         }
         unreachable!()
     }
 
     // Waits until the ticket is served, and takes the slot.
-    fn enter<R: Wait>(&self, rt: &R, seat: &mut Place<T>, ticket: u64)
+    fn enter<R: Wait + Clock>(&self, rt: &R, seat: &mut Place<T>, ticket: u64)
         requires here { seat.old.table_id ≡ self.now.table.shared.table_id }
         requires live { (0 < seat.old.me.0.shares) × (seat.old.me.0.stage ≡ Waits ticket) }
         ensures here { (seat.new.table_id ≡ seat.old.table_id) × (seat.new.id ≡ seat.old.id) }
         ensures taken { Taken T.plain T.admits T.allows T.after seat.old.me ticket seat.new.me }
     {
+        let mut wait = 0u32;
         for _ in rt.forever() {
-            if self.table.shared.load::<Take>(seat, 1) == ticket {
+            let served = self.table.shared.load::<Take>(seat, 1);
+            if served == ticket {
                 return;
             }
-            yield_now();
+            stand_by(rt, wait, ticket.saturating_sub(served));
+            wait = wait.saturating_add(1);
         }
         unreachable!()
     }

@@ -9,11 +9,12 @@ use std::alloc::Global;
 use std::sync::Wait;
 use std::test::Fail;
 use std::thread::{Threads, join};
+use std::time::Clock;
 
 type Added = (TurnSeat<Counter>, u64, u64);
 
 // Adds once, with a new seat, and answers the place and the sum.
-fn add<R: Wait>(
+fn add<R: Wait + Clock>(
     rt: &R,
     stile: &Turnstile<Counter>,
     mut seat: TurnSeat<Counter>,
@@ -32,7 +33,7 @@ fn add<R: Wait>(
 
 // The place and the answer of each of two threads that add 2 and 3 to a counter at 0, and the sum
 // that is left.
-fn two_adds<R: Threads + Wait + Sync>(
+fn two_adds<R: Threads + Wait + Clock + Sync>(
     rt: &R,
     alloc: Global,
 ) -> Option<((u64, u64), (u64, u64), u64)>
