@@ -18,7 +18,7 @@ use Rattle.pce_plant.specs.contracts.acts.Act as Act
 use Rattle.pce_plant.specs.contracts.acts.Acted as Acted
 use Rattle.pce_plant.specs.contracts.acts.Turn as Turn
 use Rattle.pce_plant.specs.contracts.plant.Plant as Plant
-use Rattle.pce_plant.proofs.CrossingParts.{border_solved_send, network_send, outcome_send, parent_send, refused_send, solved_send, topology_send, traffic_send, work_send}
+use Rattle.pce_plant.proofs.CrossingParts.{border_solved_send, network_send, outcome_send, parent_send, refused_send, solved_send, topology_send, topology_sync, traffic_send, work_send}
 
 -- the same where one is a field of another type
 event_field_send : IsSend (Event.the_field).row
@@ -28,7 +28,7 @@ done_field_send : IsSend (Done.the_field).row
 done_field_send = search (sendable, crosses, solved_send, border_solved_send) depth 60 fits 30000
 
 acted_field_send : IsSend (Acted.the_field).row
-acted_field_send = search (sendable, crosses, outcome_send, work_send, refused_send) depth 60 fits 30000
+acted_field_send = search (sendable, crosses, outcome_send, work_send, refused_send, topology_send, topology_sync) depth 60 fits 30000
 
 pub act_send : IsSend Act.the_row
 act_send = search (event_field_send, done_field_send, sendable, crosses) depth 60 fits 10000

@@ -51,7 +51,7 @@ pub refused_send : IsSend CommitRefused.the_row
 refused_send = search (sendable, crosses, done_send) depth 60 fits 30000
 
 pub acted_send : IsSend Acted.the_row
-acted_send = search (sendable, crosses, outcome_send, work_send, refused_send) depth 60 fits 30000
+acted_send = search (sendable, crosses, outcome_send, work_send, refused_send, topology_send, topology_sync) depth 60 fits 30000
 
 pub network_send : IsSend Network.the_row
 network_send = search (sendable, crosses) depth 60 fits 30000

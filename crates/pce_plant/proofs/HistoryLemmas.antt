@@ -12,9 +12,9 @@ use Rattle.pce_plant.specs.Histories.{HistoriesAreRuns, IsGivenIn, event_of, eve
 use Rattle.pce_plant.specs.Turns.{IsAnswer, IsDone, left_by}
 use Rattle.pce_plant.specs.Whole.{Whole}
 use Rattle.pce_plant.specs.declared.acts.Act.{Act}
-use Rattle.pce_plant.specs.declared.acts.Act.TheVariants.{Do, Look, Ready, Finish}
+use Rattle.pce_plant.specs.declared.acts.Act.TheVariants.{Do, Look, Ready, Finish, Map}
 use Rattle.pce_plant.specs.declared.acts.Acted.{Acted}
-use Rattle.pce_plant.specs.declared.acts.Acted.TheVariants.{Did, Looked, Found, Committed}
+use Rattle.pce_plant.specs.declared.acts.Acted.TheVariants.{Did, Looked, Found, Committed, Mapped}
 
 -- a run goes on to the next state, by these events
 abbrev pub Onward : Whole → List Entry → Whole → List (Event × Answered) → Type 0
@@ -32,6 +32,7 @@ module _ (w next : Whole) (older : List Entry) (run : Run wire w.network older w
   act_onward (Look d k) (Looked r) given answer = same_onward answer.0
   act_onward (Ready k) (Found r) given answer = same_onward answer.0
   act_onward (Finish x) (Committed r) given answer = done_onward _ _ tt answer.0
+  act_onward (Map d) (Mapped r) given answer = same_onward answer.0
   act_onward a r given answer = absurd answer
 
 pub histories_are_runs : HistoriesAreRuns

@@ -10,12 +10,12 @@ use Rattle.pce_plant.specs.Jobs.{answer_of, solved_at}
 use Rattle.pce_plant.specs.Turns.{Admits, Allowed, left_by, solve_of}
 use Rattle.pce_plant.specs.Whole.{Whole}
 use Rattle.pce_plant.specs.declared.acts.Act.{Act}
-use Rattle.pce_plant.specs.declared.acts.Act.TheVariants.{Do, Look, Ready, Finish}
+use Rattle.pce_plant.specs.declared.acts.Act.TheVariants.{Do, Look, Ready, Finish, Map}
 use Rattle.pce_plant.specs.declared.acts.Acted.{Acted}
 use Rattle.pce_plant.specs.declared.acts.Acted.TheVariants.{Did, Committed}
 use Rattle.pce_plant.specs.declared.acts.Turn.{Turn}
 
--- the event of an act, with its answer; to look at a job and to ask which can be solved are none
+-- the event of an act, with its answer; to look at a job, to ask which can be solved and to ask for a topology are none
 abbrev pub event_of : NetworkParts → Act → Acted → List (Event × Answered)
 event_of n (Do e) (Did r) = (e, r) ∷ []
 event_of n (Finish x) (Committed r) = (solve_of x, answer_of (has_jobs n (solved_at x)) r) ∷ []
@@ -35,6 +35,7 @@ IsGivenIn (Do e) = IsGiven e
 IsGivenIn (Look d k) = Unit {0}
 IsGivenIn (Ready k) = Unit {0}
 IsGivenIn (Finish x) = Unit {0}
+IsGivenIn (Map d) = Unit {0}
 
 abbrev pub AreGiven : List (Act × Turn) → Type 0
 AreGiven [] = Unit {0}

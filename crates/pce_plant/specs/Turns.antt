@@ -1,21 +1,25 @@
 -- What may be done to a network in a turn, which answers are allowed, and which look warrants a finish.
 use Rattle.std.specs.Prelude.{◌≡◌, ℕ, Option, Some, Result, Ok, IfOk, IfErr, IfSome, slice_get}
+use Rattle.std.specs.Arc.{arc_value}
+use Rattle.std.specs.Option.{option_map}
 use Rattle.dom_base.specs.declared.names.As.{As}
 use Rattle.dom_base.specs.declared.names.NoMemory.{NoMemory}
 use Rattle.plant_network.specs.plant_model.declared.event.Event.{Event}
 use Rattle.plant_network.specs.plant_model.declared.event.Event.TheVariants.{Solve}
 use Rattle.plant_network.specs.plant_model.Events.{Answered, has_jobs, ready_jobs}
 use Rattle.plant_lasting.specs.Lasting.{HaveGiven, JobsLast}
+use Rattle.plant_network.specs.pce_element.Rows.{pin_with}
 use Rattle.plant_network.specs.pce_parent.declared.work.Done.{Done}
 use Rattle.plant_network.specs.pce_parent.declared.work.Work.{Work}
 use Rattle.plant_network.specs.plant_hierarchy.Answering.{IsWeighedWork}
+use Rattle.pce_plant.specs.Current.{IsCurrent}
 use Rattle.pce_plant.specs.Held.{whole}
 use Rattle.pce_plant.specs.Jobs.{IsOwn, IsSolvedBy, IsWork, answer_of, handed_back, solved_at, solved_number}
 use Rattle.pce_plant.specs.Whole.{GoesOn, IsOwnLoad, Stepped, Whole}
 use Rattle.pce_plant.specs.declared.acts.Act.{Act}
-use Rattle.pce_plant.specs.declared.acts.Act.TheVariants.{Do, Look, Ready, Finish}
+use Rattle.pce_plant.specs.declared.acts.Act.TheVariants.{Do, Look, Ready, Finish, Map}
 use Rattle.pce_plant.specs.declared.acts.Acted.{Acted}
-use Rattle.pce_plant.specs.declared.acts.Acted.TheVariants.{Did, Looked, Found, Committed}
+use Rattle.pce_plant.specs.declared.acts.Acted.TheVariants.{Did, Looked, Found, Committed, Mapped}
 use Rattle.pce_plant.specs.declared.acts.Turn.{Turn}
 
 -- ---- what is admitted
@@ -25,6 +29,7 @@ Admits w (Do e) = IsOwnLoad e
 Admits w (Look d k) = Unit {0}
 Admits w (Ready k) = Unit {0}
 Admits w (Finish x) = IsOwn w x
+Admits w (Map d) = Unit {0}
 
 -- ---- what is answered
 
@@ -48,6 +53,7 @@ IsAnswer w (Do e) (Did r) next = IsDone w e r next
 IsAnswer w (Look d k) (Looked r) next = (next ≡ w) × IsShown w d k r
 IsAnswer w (Ready k) (Found r) next = (next ≡ w) × (r ≡ slice_get (ready_jobs w.network w.state) k)
 IsAnswer w (Finish x) (Committed r) next = IsDone w (solve_of x) (answer_of (has_jobs w.network (solved_at x)) r) next × IfErr r (λ why. handed_back why ≡ x)
+IsAnswer w (Map d) (Mapped r) next = (next ≡ w) × IfOk r (λ found. IsCurrent w d (option_map (λ p. pin_with p.0 (arc_value p.1)) found))
 IsAnswer w a r next = ⊥
 
 -- the settings stay, and jobs last

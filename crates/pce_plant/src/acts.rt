@@ -5,6 +5,8 @@ use dom_base::{As, NoMemory};
 use plant_network::model::{Event, Outcome, Refused};
 use plant_network::parent::{Done, Work};
 use std::snapshot::Snapshot;
+use std::sync::Arc;
+use te_links::Topology;
 
 /// What may be done to a network in a turn.
 #[derive(Drop)]
@@ -17,6 +19,8 @@ pub enum Act {
     Ready(usize),
     /// A job that was solved is answered, which is the event of that solve.
     Finish(Done),
+    /// The current topology of an element is asked for.
+    Map(As),
 }
 
 /// What an act answers, each what the network's call of the same meaning does.
@@ -26,6 +30,7 @@ pub enum Acted {
     Looked(Result<Option<Work>, NoMemory>),
     Found(Option<(As, u64)>),
     Committed(Result<Outcome, CommitRefused>),
+    Mapped(Result<Option<(u64, Arc<Topology>)>, NoMemory>),
 }
 
 /// The answer to an act, and the network that the act left. Contracts alone speak of that: a solve leaves a choice,

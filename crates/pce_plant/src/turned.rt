@@ -17,6 +17,7 @@ fn perform(plant: &mut Plant, act: Act) -> Acted
         Act::Look(at, number) => Acted::Looked(plant.job(at, number)),
         Act::Ready(k) => Acted::Found(plant.ready(k)),
         Act::Finish(done) => Acted::Committed(plant.commit(done)),
+        Act::Map(at) => Acted::Mapped(plant.topology(at)),
     }
 }
 

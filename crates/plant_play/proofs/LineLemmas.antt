@@ -13,7 +13,7 @@ use Rattle.pce_plant.specs.plant_model.Events.{Answered}
 use Rattle.pce_plant.specs.plant_model.Plant.{Pin, Plant}
 use Rattle.pce_plant.specs.Current.{IsCurrent}
 use Rattle.pce_plant.specs.Whole.{Whole}
-use Rattle.plant_play.specs.declared.error.PlayError.{PlayError}
+use Rattle.line_files.specs.declared.error.FileError.{FileError}
 use Rattle.plant_play.specs.declared.showing.Modes.{Modes}
 use Rattle.plant_play.specs.Making.{Does, DoesLine, stage}
 use Rattle.plant_play.specs.Playing.{Changes, Played, Plays, PlaysChange, PlaysLoad, PlaysNone, PlaysOne, cue, modes_after}
@@ -44,7 +44,7 @@ changed line m old new at file changes listed pin t g answer b0 b1 reads current
     })
 
 -- a line of a kind
-pub of_kind : (line : ℕ) (m : Modes) (e kind : LineEvent) (file : List ℕ) (old new : Whole) (b0 b1 : List ℕ) (r : Result Answered PlayError) → e ≡ kind → IfOk r (DoesLine old (Plays line (stage m old) kind file) new b0 b1) →
+pub of_kind : (line : ℕ) (m : Modes) (e kind : LineEvent) (file : List ℕ) (old new : Whole) (b0 b1 : List ℕ) (r : Result Answered FileError) → e ≡ kind → IfOk r (DoesLine old (Plays line (stage m old) kind file) new b0 b1) →
     IfOk r (DoesLine old (Plays line (stage m old) e file) new b0 b1)
 of_kind line m e kind file old new b0 b1 r is does = subst (λ (x : LineEvent). IfOk r (DoesLine old (Plays line (stage m old) x file) new b0 b1)) (sym is) does
 

@@ -1,12 +1,12 @@
 -- for readers
 pub mod Turns
 pub mod Due
-pub mod Loading
 pub mod Playing
 pub mod Scripts
 -- inner
 pub mod Making
 pub mod PlayerFields
 -- handed on from below
+pub use Rattle.line_files.specs as line_files
 pub use Rattle.pce_plant.specs.plant_model
 pub use Rattle.transcript.specs as transcript

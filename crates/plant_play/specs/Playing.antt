@@ -21,12 +21,12 @@ use Rattle.pce_plant.specs.plant_model.RealWire.{wire}
 use Rattle.pce_plant.specs.plant_model.Wire.{Bytes}
 use Rattle.pce_plant.specs.Held.{Held, whole}
 use Rattle.transcript.specs.Lines.{answer_line}
-use Rattle.plant_play.specs.declared.error.PlayError.{PlayError}
-use Rattle.plant_play.specs.declared.error.PlayError.TheVariants.{NoMemory}
+use Rattle.line_files.specs.declared.error.FileError.{FileError}
+use Rattle.line_files.specs.declared.error.FileError.TheVariants.{NoMemory}
+use Rattle.line_files.specs.Loading.{IsWant, IsWhyNoTopology, IsWhyNotChanged}
 use Rattle.plant_play.specs.declared.going.Until.TheVariants.{Settled, Finished}
 use Rattle.plant_play.specs.declared.showing.Modes.{Modes}
 use Rattle.plant_play.specs.Due.{AreAllDue, IsDue, IsDueTake}
-use Rattle.plant_play.specs.Loading.{IsWant, IsWhyNoTopology, IsWhyNotChanged}
 use Rattle.plant_play.specs.Turns.{AreGiven, IsTurn, Turn, brought_text, entries_of, turns_text}
 
 -- a network and what is shown of it, as the value of who plays it
@@ -164,16 +164,16 @@ cue number e file = record { number = number; event = e; file = file }
 -- ---- why a line is not played; want of memory says nothing
 
 -- The topology file is refused, and the network is as before.
-abbrev pub WhyNotLoaded : As → List ℕ → Stage → Stage → PlayError → Type 0
+abbrev pub WhyNotLoaded : As → List ℕ → Stage → Stage → FileError → Type 0
 WhyNotLoaded at file old new NoMemory = Unit {0}
 WhyNotLoaded at file old new why = IsWhyNoTopology at file why × (new ≡ old)
 
 -- The change file is refused, or the changes can't be made, and the network is as before.
-abbrev pub WhyNotChanged : As → List ℕ → Stage → Stage → PlayError → Type 0
+abbrev pub WhyNotChanged : As → List ℕ → Stage → Stage → FileError → Type 0
 WhyNotChanged at file old new NoMemory = Unit {0}
 WhyNotChanged at file old new why = IsWhyNotChanged at (old.state.current at).topology file why × (new ≡ old)
 
-abbrev pub IsWhyNot : LineEvent → List ℕ → Stage → Stage → PlayError → Type 0
+abbrev pub IsWhyNot : LineEvent → List ℕ → Stage → Stage → FileError → Type 0
 IsWhyNot (line.Load at name) file old new why = WhyNotLoaded at file old new why
 IsWhyNot (line.Change at name) file old new why = WhyNotChanged at file old new why
 IsWhyNot e file old new why = IsWant why

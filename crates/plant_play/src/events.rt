@@ -1,6 +1,6 @@
 //! One event of a line, done and told.
 ghost use Rattle.std.specs.Prelude.{◌≡◌, ◌++◌, IfErr, Err, IfOk, MatchBool, OnOk};
-ghost use Rattle.plant_play.specs.Loading.{IsWant};
+ghost use Rattle.line_files.specs.Loading.{IsWant};
 ghost use Rattle.plant_text.specs.Settings.{peer_row};
 ghost use Rattle.pce_plant.specs.Held.{whole};
 ghost use Rattle.pce_plant.specs.Whole.{IsOwnLoad};
@@ -9,7 +9,7 @@ ghost use Rattle.plant_play.specs.Making.{DoesLine, Makes, MakesTurn, Refuses, e
 ghost use Rattle.plant_play.specs.Playing.{PlaysNone, PlaysOne};
 ghost use Rattle.plant_play.specs.Turns.{event_line};
 
-use crate::error::PlayError;
+use crate::PlayError;
 use crate::showing::{Modes, job_to_show, write_brought};
 use dom_base::{As, NoMemory};
 use pce_plant::Plant;

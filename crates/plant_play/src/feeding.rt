@@ -1,12 +1,12 @@
 //! Bytes that a peer feeds, and the messages that are taken of them.
 ghost use Rattle.std.specs.Prelude.{◌≡◌, ◌++◌, IfErr, IfOk, OnOk};
-ghost use Rattle.plant_play.specs.Loading.{IsWant};
+ghost use Rattle.line_files.specs.Loading.{IsWant};
 ghost use Rattle.pce_plant.specs.Held.{whole};
 ghost use Rattle.plant_play.specs.Due.{IsDueTake};
 ghost use Rattle.plant_play.specs.Making.{DoesAll, DoesLine, stage};
 ghost use Rattle.plant_play.specs.Playing.{PlaysFeed};
 
-use crate::error::PlayError;
+use crate::PlayError;
 use crate::events::{Answer, Due, done, make_due};
 use crate::showing::Modes;
 use dom_base::Bytes;

@@ -1,8 +1,6 @@
 //! The lines of a script, played on a network one at a time, and told as a transcript.
 #![tactic(auto)]
 
-mod changing;
-mod error;
 mod events;
 mod feeding;
 mod going;
@@ -10,8 +8,8 @@ mod lines;
 mod player;
 mod showing;
 
-pub use error::PlayError;
 pub use events::Answer;
+pub use line_files::FileError as PlayError;
 pub use pce_plant::{model, parts};
 pub use player::Player;
 pub use showing::Modes;

@@ -3,7 +3,7 @@ ghost use Rattle.std.specs.Prelude.{◌≡◌, ◌≤◌, ◌++◌, ℕ, List, l
 ghost use Rattle.te_deltas.specs.ChangeText.{change_file_most};
 ghost use Rattle.plant_play.specs.Playing.{IsNewStage, IsWhyNot, Played, cue, stage_of};
 
-use crate::error::PlayError;
+use crate::PlayError;
 use crate::events::Answer;
 use crate::lines::{modes_after, play_line};
 use crate::showing::Modes;
@@ -71,7 +71,9 @@ impl Player {
 
     /// Plays a line of this number, and puts what is told of it at the end of `into`; gives the answer of the line. `file`
     /// is the text of the file that the line names. After an error nothing is put there; where it is no fault of the
-    /// file, what the line did up to there stays done.
+    /// file, what the line did up to there stays done. A file that is refused leaves the network as it was. NoMemory is
+    /// also told where there is no room to count more than 2^64 - 1 events of one line; where 2^47 messages stand in the
+    /// queues between elements at most, and no id comes round, fewer follow one another.
     pub fn play(
         &mut self,
         line: u32,
