@@ -7,7 +7,7 @@ mod sequences;
 mod topologies;
 
 use crate::telling::{Said, are_these, lost_in, message_of, said_by};
-use crate::words::{Verb, lines_of, number, octets, peer, verb};
+use crate::words::{Verb, lines_of, next_verb, number, octets, peer};
 use border_costs::solve;
 use disclosure::{Class, Deny};
 use dom_base::{Addr, As, List, Peer, Tick};
@@ -295,7 +295,7 @@ fn after(
     requires { element.old.losing.element.keys.clock ≤ now.0 }
     ensures { IfOk result (λ next. IfSome next (λ next. element.new.losing.element.keys.clock ≤ next.0)) }
 {
-    match verb(words) {
+    match next_verb(words) {
         Verb::New => {
             *element = new_element(alloc)?;
             Ok(Some(Tick(0)))

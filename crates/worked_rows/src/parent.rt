@@ -8,7 +8,7 @@ mod sequences;
 
 use crate::parts::{are_weighed, is_at, link, solved};
 use crate::telling::{Said, are_these, lost_in, message_of, said_by};
-use crate::words::{Verb, addr, domain, lines_of, number, octets, peer, spot, verb};
+use crate::words::{Verb, addr, domain, lines_of, next_verb, number, octets, peer, spot};
 use dom_base::{Addr, As, List, NoMemory, ParentLink, Tick};
 use line_text::{Words, line_count};
 use messages::MESSAGES;
@@ -193,7 +193,7 @@ fn holds(
 
 // Whether a row holds; the first of a sequence makes another parent.
 fn row_holds(alloc: Global, parent: &mut Parent, words: &mut Words<'_>) -> Result<bool, Fail> {
-    match verb(words) {
+    match next_verb(words) {
         Verb::New => {
             *parent = new_parent(alloc, words)?;
             Ok(true)

@@ -60,7 +60,7 @@ pub(crate) enum Verb {
     Other,
 }
 
-pub(crate) fn verb(words: &mut Words<'_>) -> Verb {
+pub(crate) fn next_verb(words: &mut Words<'_>) -> Verb {
     match words.next_word() {
         Some(b"new") => Verb::New,
         Some(b"up") => Verb::Up,
