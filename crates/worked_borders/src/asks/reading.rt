@@ -48,6 +48,7 @@ fn next_target(words: &mut Words<'_>) -> Option<Target> {
 }
 
 // The first words of an ask.
+#[derive(Clone, Copy)]
 struct Head {
     generation: u32,
     metric: Metric,
