@@ -1,5 +1,5 @@
 -- Peers and links of which nothing has begun.
-use Rattle.std.proofs.Common.{◌≡◌, ◌≤◌, ℕ, zero, suc, Bool, true, false, cond, Some, None, List, [], ◌∷◌, ◌++◌, length, get_or, drop, ◌+◌, ◌<◌, add-one, drop-cons, append_assoc, arith, refl, sym, ◌∙◌, ap}
+use Rattle.std.proofs.Common.{◌≡◌, ◌≤◌, ℕ, zero, suc, Bool, true, false, cond, Some, None, List, [], ◌∷◌, ◌++◌, length, get_or, drop, ◌+◌, ◌<◌, add-one, drop-cons, append_assoc, length-append, arith, refl, sym, ◌∙◌, ap}
 use mathlib.Core.Path.{fun_ext}
 use Rattle.std.specs.Prelude.{All, slice_get}
 use Rattle.std.proofs.lemmas.Bool.{false≢true}
@@ -34,6 +34,10 @@ new_guests count as' new =
     ap (λ (k : ℕ). let g : Guests = record { count = k; accesses = λ (i : ℕ). access_or (slice_get as' i); room = λ (i : ℕ). room_or (slice_get as' i) } in g) new.0
     ∙ ap (λ (f : ℕ → model.Access). let g : Guests = record { count = count; accesses = f; room = λ (i : ℕ). room_or (slice_get as' i) } in g) (fun_ext (λ i. (never as' new.1 i).0))
     ∙ ap (λ (f : ℕ → Spare). let g : Guests = record { count = count; accesses = λ (i : ℕ). record { opened = 0; connection = None }; room = f } in g) (fun_ext (λ i. (never as' new.1 i).1))
+
+-- one peer more
+pub one_more_new : (count : ℕ) (as' : List Access) (a : Access) → AreNew count as' → a ≡ never_open → AreNew (count + 1) (as' ++ a ∷ [])
+one_more_new count as' a new is = (omega (arith, length-append as' (a ∷ []), new.0), All-push (λ (x : Access). x ≡ never_open) as' a new.1 is)
 
 -- ---- links
 
