@@ -31,13 +31,6 @@ fn solve_by(cache: &mut Cache, job: &Job) -> Result<(Solved, u64), NoMemory>
     Ok((Solved::of(job, rows)?, reads))
 }
 
-// What is said of a job without a cache.
-fn anew(alloc: Global, job: &Job) -> Result<Vec<u8>, NoMemory> {
-    let mut text = Vec::new(alloc);
-    put_answer(&solve(alloc, job)?, &mut text)?;
-    Ok(text)
-}
-
 // How many links a search reads for a job.
 fn reads_of(alloc: Global, job: &Job) -> Result<u64, NoMemory> {
     let mut links = Counted::new(&job.topology);
@@ -46,28 +39,49 @@ fn reads_of(alloc: Global, job: &Job) -> Result<u64, NoMemory> {
     Ok(links.reads())
 }
 
-// What is said of a job: its solution, which the cache and a search of its own give alike; whether the
-// cache read no link for it; how many a search reads; and its border table.
-fn said(alloc: Global, cache: &mut Cache, job: &Job) -> Result<Vec<u8>, NoMemory>
+// Puts what a cache says of a job; how many links were read for it.
+fn put_solution(cache: &mut Cache, job: &Job, text: &mut Vec<u8>) -> Result<u64, NoMemory>
     requires { IsGoodForAll (arc_value job.now.topology) cache.old }
     ensures { IsGoodForAll (arc_value job.now.topology) cache.new }
 {
     let (solved, reads) = solve_by(cache, job)?;
-    let mut text = Vec::new(alloc);
-    put_answer(&solved, &mut text)?;
-    if anew(alloc, job)?.as_slice() != text.as_slice() {
-        text.extend_from_slice(b"\nsomething else without the cache")?;
-    }
+    put_answer(&solved, text)?;
+    Ok(reads)
+}
+
+// Whether a search of its own says the same of a job.
+fn is_said_anew(alloc: Global, job: &Job, text: &[u8]) -> Result<bool, NoMemory> {
+    let mut anew = Vec::new(alloc);
+    put_answer(&solve(alloc, job)?, &mut anew)?;
+    Ok(anew.as_slice() == text)
+}
+
+// Puts how many links a search reads for a job, whether the cache read none, and the job's border table.
+fn put_reads(alloc: Global, job: &Job, reads: u64, text: &mut Vec<u8>) -> Result<(), NoMemory> {
     text.extend_from_slice(b"\nsearch")?;
-    put_number(reads_of(alloc, job)?, &mut text)?;
+    put_number(reads_of(alloc, job)?, text)?;
     if reads == 0 {
         text.extend_from_slice(b" unread")?;
     }
-    put_table(alloc, job, &mut text)?;
+    put_table(alloc, job, text)
+}
+
+// What is said of a job: its solution, which the cache and a search of its own give alike, and what
+// `put_reads` puts.
+fn said(alloc: Global, cache: &mut Cache, job: &Job) -> Result<Vec<u8>, Fail>
+    requires { IsGoodForAll (arc_value job.now.topology) cache.old }
+    ensures { IsGoodForAll (arc_value job.now.topology) cache.new }
+{
+    let mut text = Vec::new(alloc);
+    let reads = put_solution(cache, job, &mut text)?;
+    if !is_said_anew(alloc, job, text.as_slice())? {
+        return Err("something else without the cache")?;
+    }
+    put_reads(alloc, job, reads, &mut text)?;
     Ok(text)
 }
 
-// What is said of the ask in a line, behind the line.
+// What is said of the ask in a line.
 fn line_said(
     alloc: Global,
     cache: &mut Cache,
@@ -77,25 +91,28 @@ fn line_said(
     requires { IsGoodForAll (arc_value topology.now) cache.old }
     ensures { IsGoodForAll (arc_value topology.now) cache.new }
 {
-    let job = Job {
-        ask: ask_in(alloc, topology.own(), line)?,
-        topology: topology.clone()?,
-    };
-    let mut text = Vec::new(alloc);
-    text.push(b'\n')?;
-    text.extend_from_slice(line)?;
-    text.extend_from_slice(said(alloc, cache, &job)?.as_slice())?;
-    Ok(text)
+    let topology = topology.clone()?;
+    let ask = ask_in(alloc, topology.own(), line)?;
+    said(alloc, cache, &Job { ask, topology })
 }
 
-// The line of the first ask of a table of which something else is said, one behind the other on one
-// cache; 0 where more is in the table.
-fn first_odd(alloc: Global, capacity: usize, table: &[u8]) -> Result<Option<u32>, Fail>
-    requires { 1 ≤ capacity }
+// What is left of a table behind a line and what is said of it; none where something else stands there.
+fn behind<'a>(rest: &'a [u8], line: &[u8], said: &[u8]) -> Option<&'a [u8]> {
+    rest.strip_prefix(b"\n".as_slice())?
+        .strip_prefix(line)?
+        .strip_prefix(said)
+}
+
+// The line of the first ask of which something else is said, one behind the other on one cache; 0 where
+// more is in the table.
+fn first_odd(
+    alloc: Global,
+    cache: &mut Cache,
+    topology: &Arc<Topology>,
+    asks: &[u8],
+) -> Result<Option<u32>, Fail>
+    requires { IsGoodForAll (arc_value topology.now) cache.old }
 {
-    let (rows, asks) = cut(table)?;
-    let topology = Arc::new(alloc, topology_in(alloc, rows)?)?;
-    let mut cache = Cache::new(alloc, capacity)?;
     if line_count(asks) > 1000 {
         return Err("too long")?;
     }
@@ -103,27 +120,37 @@ fn first_odd(alloc: Global, capacity: usize, table: &[u8]) -> Result<Option<u32>
     let mut rest = asks;
     while let Some(line) = lines.next_line() {
         if line.text.starts_with(b"ask ") {
-            let text = line_said(alloc, &mut cache, &topology, line.text)?;
-            if !rest.starts_with(&text) {
-                return Ok(Some(line.number));
+            let said = line_said(alloc, cache, topology, line.text)?;
+            match behind(rest, line.text, said.as_slice()) {
+                Some(next) => rest = next,
+                None => return Ok(Some(line.number)),
             }
-            rest = &rest[text.len()..];
         }
     }
     Ok(if rest.is_empty() { None } else { Some(0) })
 }
 
+// The same of a whole table, on a cache that has kept nothing.
+fn odd_in(alloc: Global, capacity: usize, table: &[u8]) -> Result<Option<u32>, Fail>
+    requires { 1 ≤ capacity }
+{
+    let (rows, asks) = cut(table)?;
+    let topology = Arc::new(alloc, topology_in(alloc, rows)?)?;
+    let mut cache = Cache::new(alloc, capacity)?;
+    first_odd(alloc, &mut cache, &topology, asks)
+}
+
 #[test]
 fn asks_are_answered(rt: HostRuntime) -> Result<(), Fail> {
     for table in [SOURCE, TRANSIT, NEAR_EXIT, FAR_EXIT, TARGET, ROW, LINE] {
-        assert_eq!(rt; first_odd(rt.alloc(), 64, table)?, None);
+        assert_eq!(rt; odd_in(rt.alloc(), 64, table)?, None);
     }
     Ok(())
 }
 
 #[test]
 fn a_full_cache_drops_what_was_used_longest_ago(rt: HostRuntime) -> Result<(), Fail> {
-    assert_eq!(rt; first_odd(rt.alloc(), 2, FULL)?, None);
+    assert_eq!(rt; odd_in(rt.alloc(), 2, FULL)?, None);
     Ok(())
 }
 

@@ -1,9 +1,6 @@
-//! Tables of tests: what a domain says of asks, anew and by a cache, and the branches of two domains, worked
-//! out by hand. They stand above the crates that they test, so that none of these is proved once more for its
-//! tests.
+//! Tables of tests: what a domain says of asks, anew and by a cache, worked out by hand. They stand above the
+//! crates that they test, so that none of these is proved once more for its tests.
 #![tactic(auto)]
 
 #[cfg(test)]
 mod asks;
-#[cfg(test)]
-mod branches;

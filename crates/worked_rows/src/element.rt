@@ -1,50 +1,47 @@
-//! What an element says, message by message.
+//! An element that is told what the rows of a table say.
 ghost use Rattle.std.specs.Prelude.{◌≡◌, ◌≤◌, IfOk, IfSome, OnOk};
-ghost use Rattle.member_parts.specs.Messages.{HasOnePart};
 
 mod endings;
-mod limits;
+mod messages;
 mod sequences;
+mod topologies;
 
+use crate::telling::{Said, are_these, lost_in, message_of, said_by};
+use crate::words::{Verb, lines_of, next_verb, number, octets, peer};
 use border_costs::solve;
 use disclosure::{Class, Deny};
 use dom_base::{Addr, As, List, Peer, Tick};
-use endings::{ENDINGS, KEPT};
-use line_text::{line_count, read_hex};
-use pce_element::{Element, Topologies};
-use pcep_messages::{Message, read_message, write_message};
-use plant_model::{Lost, Outputs};
-use sequences::{GROUPS, sequences};
+use endings::ENDINGS;
+use line_text::{Words, line_count};
+use messages::MESSAGES;
+use pce_element::{Element, Plan, Topologies};
+use plant_model::Lost;
+use sequences::SEQUENCES;
 use std::alloc::Global;
 use std::test::Fail;
 use te_generations::LoadError;
+use te_links::Topology;
 use te_text::read_topology;
+use topologies::topology_text;
 
-/// A message to a peer, in hexadecimal digits.
-pub type Says = (Peer, &'static [u8]);
-
-/// What happens to an element, and what it says.
-pub enum Step {
-    Load(&'static [u8]),
-    /// A topology is refused, since as many as may be are current or pinned.
-    LoadFull(&'static [u8]),
-    /// Requests of domain 1 with the ids 2 to 15, each before this topology is loaded.
-    PinEach(&'static [u8]),
-    Up(Peer),
-    /// With the lost requests: whom they are of, their flags and their ids.
-    Down(Peer, &'static [(Peer, u32, u32)]),
-    Tick(u64),
-    Take(Peer, &'static [u8], &'static [Says]),
-    Solve(u64, Says),
-    /// A solved job is handed back, and its request can still be solved.
-    GiveUp(u64),
+// The element of domain 2, whose sessions with domains 1 and 3 are up.
+fn new_element(alloc: Global) -> Result<Element<Topologies>, Fail>
+    ensures { IfOk result (λ element. element.losing.element.keys.clock ≡ 0) }
+{
+    let links = [As(1), As(3), As(5), As(0)];
+    let id = Addr::V4(0xc000_0202);
+    let mut deny = List::new(alloc);
+    deny.push(Deny {
+        from: As(7),
+        next: As(3),
+    })?;
+    let mut element = Element::new(alloc, As(2), id, 600, true, &links, deny)?;
+    element.up(Peer::Inner(As(1)));
+    element.up(Peer::Inner(As(3)));
+    Ok(element)
 }
 
-/// What happens one after the other.
-pub struct Sequence {
-    pub about: &'static str,
-    pub steps: &'static [Step],
-}
+// ---- what is told
 
 fn class_of(peer: Peer) -> Class {
     match peer {
@@ -56,176 +53,110 @@ fn class_of(peer: Peer) -> Class {
     }
 }
 
-fn new_element(alloc: Global) -> Result<Element<Topologies>, Fail>
-    ensures { IfOk result (λ element. element.losing.element.keys.clock ≡ 0) }
-{
-    let links = [As(1), As(3), As(5), As(0)];
-    let id = Addr::V4(0xc000_0202);
-    let mut deny = List::new(alloc);
-    deny.push(Deny {
-        from: As(7),
-        next: As(3),
-    })?;
-    Ok(Element::new(alloc, As(2), id, 600, true, &links, deny)?)
-}
-
-// Whether these messages are sent.
-fn says(alloc: Global, outputs: &Outputs, expected: &[Says]) -> Result<bool, Fail> {
-    if outputs.len() != expected.len() {
-        return Ok(false);
-    }
-    for (output, (to, text)) in outputs.as_slice().iter().zip(expected) {
-        let mut said = Vec::new(alloc);
-        write_message(alloc, &output.message, &mut said)?;
-        if output.to != *to || said != read_hex(alloc, text)? {
-            return Ok(false);
-        }
-    }
-    Ok(true)
-}
-
-fn one_part(message: Message) -> Option<Message>
-    ensures { IfSome result HasOnePart }
-{
-    match message {
-        Message::PcReq(asks) => {
-            if asks.len() > 1 {
-                return None;
-            }
-            Some(Message::PcReq(asks))
-        }
-        Message::PcRep(replies) => {
-            if replies.len() > 1 {
-                return None;
-            }
-            Some(Message::PcRep(replies))
-        }
-        Message::PcNtf(notices) => Some(Message::PcNtf(notices)),
-        Message::PcErr(reports) => Some(Message::PcErr(reports)),
-        Message::Open(body) => Some(Message::Open(body)),
-        Message::Keepalive => Some(Message::Keepalive),
-        Message::Close(reason) => Some(Message::Close(reason)),
-        Message::Other(kind) => Some(Message::Other(kind)),
-    }
-}
-
-// The number of a topology; none where as many as may be are live.
-fn load(alloc: Global, element: &mut Element<Topologies>, text: &[u8]) -> Result<Option<u64>, Fail>
-    ensures { OnOk result (element.new.losing ≡ element.old.losing) }
-{
-    if line_count(text) > 1_000 {
-        return Err(Fail::from("a long text"));
-    }
-    let topology = read_topology(alloc, text)?;
-    if topology.own() != element.own() {
-        return Err(Fail::from("another domain"));
-    }
-    match element.load(topology) {
-        Ok(number) => Ok(Some(number)),
-        Err(LoadError::Full) => Ok(None),
-        Err(LoadError::NoMemory) => Err(Fail::from("no memory")),
-    }
-}
-
-// Whether exactly these requests are lost.
-#[tactic(auto, using(pce_element::proofs::LeaveLemmas::lost_keeps))]
-fn lost_are(element: &mut Element<Topologies>, lost: &[(Peer, u32, u32)]) -> bool
-    ensures { element.new.losing.element ≡ element.old.losing.element }
-{
-    for (to, flags, id) in lost {
-        let expected = Lost {
-            to: *to,
-            flags: *flags,
-            id: *id,
-        };
-        if element.next_lost() != Some(expected) {
-            return false;
-        }
-    }
-    element.next_lost().is_none()
-}
-
 fn take(
-    alloc: Global,
-    element: &mut Element<Topologies>,
-    from: Peer,
-    text: &[u8],
-    now: Tick,
-    expected: &[Says],
-) -> Result<bool, Fail>
-    ensures { OnOk result (element.new.losing.element.keys ≡ element.old.losing.element.keys) }
-{
-    let frame = read_hex(alloc, text)?;
-    take_frame(alloc, element, from, frame.as_slice(), now, expected)
-}
-
-fn take_frame(
     alloc: Global,
     element: &mut Element<Topologies>,
     from: Peer,
     frame: &[u8],
     now: Tick,
-    expected: &[Says],
+) -> Result<Vec<Said>, Fail>
+    ensures { OnOk result (element.new.losing.element.keys ≡ element.old.losing.element.keys) }
+{
+    let message = message_of(alloc, frame)?;
+    let plan = element.take(from, class_of(from), message, now)?;
+    let said = said_by(alloc, plan.outputs());
+    element.make(plan);
+    Ok(said?)
+}
+
+fn topology_of(alloc: Global, text: &[u8]) -> Result<Topology, Fail> {
+    if line_count(text) > 1_000 {
+        return Err(Fail::from("a long text"));
+    }
+    Ok(read_topology(alloc, text)?)
+}
+
+// Whether it is loaded; not where as many as may be are current or asked of.
+fn load(alloc: Global, element: &mut Element<Topologies>, text: &[u8]) -> Result<bool, Fail>
+    ensures { OnOk result (element.new.losing ≡ element.old.losing) }
+{
+    let topology = topology_of(alloc, text)?;
+    if topology.own() != element.own() {
+        return Err(Fail::from("another domain"));
+    }
+    match element.load(topology) {
+        Ok(_number) => Ok(true),
+        Err(LoadError::Full) => Ok(false),
+        Err(LoadError::NoMemory) => Err(Fail::from("no memory")),
+    }
+}
+
+// A row: who tells it what, and what is said to whom.
+fn take_row(
+    alloc: Global,
+    element: &mut Element<Topologies>,
+    now: Tick,
+    words: &mut Words<'_>,
 ) -> Result<bool, Fail>
     ensures { OnOk result (element.new.losing.element.keys ≡ element.old.losing.element.keys) }
 {
-    let message = read_message(alloc, frame)?;
-    let Some(message) = one_part(message) else {
-        return Err(Fail::from("more than one part"));
-    };
-    let plan = element.take(from, class_of(from), message, now)?;
-    let held = says(alloc, plan.outputs(), expected)?;
-    element.make(plan);
-    Ok(held)
+    let from = peer(words)?;
+    let frame = octets(alloc, MESSAGES, words)?;
+    let said = take(alloc, element, from, frame.as_slice(), now)?;
+    Ok(are_these(alloc, MESSAGES, said.as_slice(), words)?)
 }
 
-// A request of domain 1 under this id, from 10.1.0.1 to 10.3.0.9 through domains 2 and 3.
-fn asked(alloc: Global, id: u16) -> Result<Vec<u8>, Fail> {
-    let mut frame = read_hex(alloc, b"20030034 0212000c 00000040 0000")?;
-    frame.push((id >> 8) as u8)?;
-    frame.push((id & 255) as u8)?;
-    let rest = b"0412000c 0a010001 0a030009 0612000c 00000202 00000000 0a12000c 20040002 20040003";
-    frame.extend_from_slice(read_hex(alloc, rest)?.as_slice())?;
-    Ok(frame)
+// The octets with another low octet of the id of their request.
+fn with_id(alloc: Global, octets: &[u8], id: u8) -> Result<Vec<u8>, Fail> {
+    let mut other = Vec::new(alloc);
+    for (k, octet) in octets.iter().enumerate() {
+        other.push(if k == 15 { id } else { *octet })?;
+    }
+    Ok(other)
 }
 
-// The same request sent on.
-fn sent_on(alloc: Global, id: u16) -> Result<Vec<u8>, Fail> {
-    let mut frame = read_hex(alloc, b"20030030 0212000c 00000040 0000")?;
-    frame.push((id >> 8) as u8)?;
-    frame.push((id & 255) as u8)?;
-    let rest = b"0412000c 0a010001 0a030009 0612000c 00000202 00000000 0a120008 20040003";
-    frame.extend_from_slice(read_hex(alloc, rest)?.as_slice())?;
-    Ok(frame)
+// The request of domain 1 under another id, and the same sent on.
+fn asked(alloc: Global, id: u8) -> Result<(Vec<u8>, Vec<u8>), Fail> {
+    let mut words = Words::new(b"ask sent-on");
+    let ask = octets(alloc, MESSAGES, &mut words)?;
+    let sent_on = octets(alloc, MESSAGES, &mut words)?;
+    Ok((
+        with_id(alloc, ask.as_slice(), id)?,
+        with_id(alloc, sent_on.as_slice(), id)?,
+    ))
 }
 
-// Whether one message is sent, and is this.
-fn says_one(alloc: Global, outputs: &Outputs, to: Peer, frame: &[u8]) -> Result<bool, Fail> {
-    let [output] = outputs.as_slice() else {
-        return Ok(false);
-    };
-    let mut said = Vec::new(alloc);
-    write_message(alloc, &output.message, &mut said)?;
-    Ok(output.to == to && said.as_slice() == frame)
+fn is_one(said: &[Said], to: Peer, octets: &[u8]) -> bool {
+    match said {
+        [one] => one.to == to && one.octets.as_slice() == octets,
+        _ => false,
+    }
 }
 
 // Whether a request of domain 1 is sent on under its own id.
-fn ask(alloc: Global, element: &mut Element<Topologies>, id: u16, now: Tick) -> Result<bool, Fail>
+fn sends_on(
+    alloc: Global,
+    element: &mut Element<Topologies>,
+    id: u8,
+    now: Tick,
+) -> Result<bool, Fail>
     ensures { OnOk result (element.new.losing.element.keys ≡ element.old.losing.element.keys) }
 {
-    let message = read_message(alloc, asked(alloc, id)?.as_slice())?;
-    let Some(message) = one_part(message) else {
-        return Err(Fail::from("more than one part"));
-    };
-    let from = Peer::Inner(As(1));
-    let plan = element.take(from, class_of(from), message, now)?;
-    let frame = sent_on(alloc, id)?;
-    let held = says_one(alloc, plan.outputs(), Peer::Inner(As(3)), frame.as_slice())?;
-    element.make(plan);
-    Ok(held)
+    let (ask, sent_on) = asked(alloc, id)?;
+    let said = take(alloc, element, Peer::Inner(As(1)), ask.as_slice(), now)?;
+    Ok(is_one(said.as_slice(), Peer::Inner(As(3)), sent_on.as_slice()))
 }
 
-fn pin_each(
+// Whether this is the next lost request.
+#[tactic(auto, using(pce_element::proofs::LeaveLemmas::lost_keeps))]
+fn is_lost(element: &mut Element<Topologies>, lost: Option<Lost>) -> bool
+    ensures { element.new.losing.element ≡ element.old.losing.element }
+{
+    element.next_lost() == lost
+}
+
+// Whether requests of domain 1 with the ids 2 to 15 are sent on, each before this topology is loaded.
+fn pins(
     alloc: Global,
     element: &mut Element<Topologies>,
     text: &[u8],
@@ -234,146 +165,193 @@ fn pin_each(
     ensures { OnOk result (element.new.losing.element.keys ≡ element.old.losing.element.keys) }
 {
     for id in 2..16 {
-        if !ask(alloc, element, id, now)? {
+        if !sends_on(alloc, element, id, now)? {
             return Ok(false);
         }
-        if load(alloc, element, text)?.is_none() {
+        if !load(alloc, element, text)? {
             return Ok(false);
         }
     }
     Ok(true)
 }
 
+// ---- jobs
+
+fn plan_of(
+    alloc: Global,
+    element: &mut Element<Topologies>,
+    number: u64,
+    now: Tick,
+) -> Result<Plan<Topologies>, Fail>
+    requires { element.old.losing.element.keys.clock ≤ now.0 }
+    ensures clock { OnOk result (element.new.losing.element.keys.clock ≤ now.0) }
+    ensures from { IfOk result (λ plan. plan.from ≡ element.new) }
+    ensures taken { IfOk result (λ plan. plan.taken.element.keys.clock ≤ now.0) }
+{
+    let found = element.job(number)?;
+    let Some(job) = found else {
+        return Err(Fail::from("no job"));
+    };
+    let solved = solve(alloc, &job)?;
+    match element.commit(solved, now) {
+        Ok(plan) => Ok(plan),
+        Err(_why) => Err(Fail::from("no plan")),
+    }
+}
+
+// Whether a job is answered by the message of the other words.
 fn solve_job(
     alloc: Global,
     element: &mut Element<Topologies>,
-    number: u64,
     now: Tick,
-    expected: Option<Says>,
+    words: &mut Words<'_>,
 ) -> Result<bool, Fail>
     requires { element.old.losing.element.keys.clock ≤ now.0 }
     ensures { OnOk result (element.new.losing.element.keys.clock ≤ now.0) }
 {
-    let found = element.job(number)?;
-    let Some(job) = found else {
-        return Err(Fail::from("no job"));
-    };
-    let solved = solve(alloc, &job)?;
-    let Ok(plan) = element.commit(solved, now) else {
-        return Err(Fail::from("no plan"));
-    };
-    let held = match expected {
-        Some(expected) => says(alloc, plan.outputs(), &[expected])?,
-        None => true,
-    };
+    let number = number(words)?;
+    let plan = plan_of(alloc, element, u64::from(number), now)?;
+    let said = said_by(alloc, plan.outputs());
     element.make(plan);
-    Ok(held)
+    Ok(are_these(alloc, MESSAGES, said?.as_slice(), words)?)
 }
 
+// Whether a plan that is given up hands its job back, and leaves it ready.
 fn give_up(
     alloc: Global,
     element: &mut Element<Topologies>,
-    number: u64,
     now: Tick,
+    words: &mut Words<'_>,
 ) -> Result<bool, Fail>
     requires { element.old.losing.element.keys.clock ≤ now.0 }
     ensures { OnOk result (element.new.losing.element.keys.clock ≤ now.0) }
 {
-    let found = element.job(number)?;
-    let Some(job) = found else {
-        return Err(Fail::from("no job"));
-    };
-    let solved = solve(alloc, &job)?;
-    let Ok(plan) = element.commit(solved, now) else {
-        return Err(Fail::from("no plan"));
-    };
+    let number = u64::from(number(words)?);
+    let plan = plan_of(alloc, element, number, now)?;
     let Some(solved) = plan.back() else {
         return Ok(false);
     };
     Ok(solved.number() == number && element.ready(0) == Some(number))
 }
 
-// The moment after a step; none where something else is said.
+fn is_idle(element: &Element<Topologies>) -> Result<bool, Fail> {
+    Ok(element.ready(0) == None && element.job(1)?.is_none())
+}
+
+// ---- rows
+
+// Whether a row holds.
+fn holds(
+    alloc: Global,
+    element: &mut Element<Topologies>,
+    verb: Verb,
+    words: &mut Words<'_>,
+    now: Tick,
+) -> Result<bool, Fail>
+    requires { element.old.losing.element.keys.clock ≤ now.0 }
+    ensures { OnOk result (element.new.losing.element.keys.clock ≤ now.0) }
+{
+    let held = match verb {
+        Verb::Take => take_row(alloc, element, now, words)?,
+        Verb::Load => load(alloc, element, topology_text(words)?)?,
+        Verb::Full => !load(alloc, element, topology_text(words)?)?,
+        Verb::Pins => pins(alloc, element, topology_text(words)?, now)?,
+        Verb::Solve => solve_job(alloc, element, now, words)?,
+        Verb::Back => give_up(alloc, element, now, words)?,
+        Verb::Lost => is_lost(element, lost_in(words)?),
+        Verb::Idle => is_idle(element)?,
+        Verb::Up => {
+            element.up(peer(words)?);
+            true
+        }
+        Verb::Down => {
+            element.down(peer(words)?);
+            true
+        }
+        _ => return Err(Fail::from("no row")),
+    };
+    Ok(held)
+}
+
+fn ticked(element: &mut Element<Topologies>, words: &mut Words<'_>, now: Tick) -> Result<Tick, Fail>
+    requires { element.old.losing.element.keys.clock ≤ now.0 }
+    ensures { IfOk result (λ next. element.new.losing.element.keys.clock ≤ next.0) }
+{
+    let next = u64::from(number(words)?);
+    if next < now.0 {
+        return Err(Fail::from("back in time"));
+    }
+    element.tick(Tick(next));
+    Ok(Tick(next))
+}
+
+// The moment after a row; none where it does not hold.
 fn after(
     alloc: Global,
     element: &mut Element<Topologies>,
-    step: &Step,
+    words: &mut Words<'_>,
     now: Tick,
 ) -> Result<Option<Tick>, Fail>
     requires { element.old.losing.element.keys.clock ≤ now.0 }
     ensures { IfOk result (λ next. IfSome next (λ next. element.new.losing.element.keys.clock ≤ next.0)) }
 {
-    let held = match step {
-        Step::Load(text) => load(alloc, element, text)?.is_some(),
-        Step::LoadFull(text) => load(alloc, element, text)?.is_none(),
-        Step::PinEach(text) => pin_each(alloc, element, text, now)?,
-        Step::Up(peer) => {
-            element.up(*peer);
-            true
+    match next_verb(words) {
+        Verb::New => {
+            *element = new_element(alloc)?;
+            Ok(Some(Tick(0)))
         }
-        Step::Down(peer, lost) => {
-            element.down(*peer);
-            lost_are(element, lost)
-        }
-        Step::Tick(tick) => {
-            if *tick < now.0 {
-                return Err(Fail::from("back in time"));
-            }
-            element.tick(Tick(*tick));
-            return Ok(Some(Tick(*tick)));
-        }
-        Step::Take(from, text, expected) => take(alloc, element, *from, text, now, expected)?,
-        Step::Solve(number, expected) => solve_job(alloc, element, *number, now, Some(*expected))?,
-        Step::GiveUp(number) => give_up(alloc, element, *number, now)?,
-    };
-    Ok(if held { Some(now) } else { None })
-}
-
-fn holds(alloc: Global, steps: &[Step]) -> Result<bool, Fail> {
-    let mut element = new_element(alloc)?;
-    element.up(Peer::Inner(As(1)));
-    element.up(Peer::Inner(As(3)));
-    let mut now = Tick(0);
-    for step in steps {
-        match after(alloc, &mut element, step, now)? {
-            Some(next) => now = next,
-            None => return Ok(false),
+        Verb::Tick => Ok(Some(ticked(element, words, now)?)),
+        verb => {
+            let held = holds(alloc, element, verb, words, now)?;
+            Ok(if held { Some(now) } else { None })
         }
     }
-    Ok(true)
+}
+
+// The number of the first row that does not hold.
+fn first_wrong(
+    alloc: Global,
+    element: &mut Element<Topologies>,
+    table: &[u8],
+) -> Result<Option<u32>, Fail>
+    requires { element.old.losing.element.keys.clock ≤ 0 }
+{
+    let mut now = Tick(0);
+    let mut lines = lines_of(table)?;
+    for _row in 0..line_count(table) {
+        let Some(line) = lines.next_line() else {
+            break;
+        };
+        match after(alloc, element, &mut Words::new(line.text), now)? {
+            Some(next) => now = next,
+            None => return Ok(Some(line.number)),
+        }
+    }
+    Ok(None)
+}
+
+// The same of a new element.
+fn wrong_of(alloc: Global, table: &[u8]) -> Result<Option<u32>, Fail> {
+    let mut element = new_element(alloc)?;
+    first_wrong(alloc, &mut element, table)
 }
 
 #[test]
 fn each_sequence_holds(rt: HostRuntime) -> Result<(), Fail> {
-    for group in 0..GROUPS {
-        for sequence in sequences(group) {
-            assert!(rt; holds(rt.alloc(), sequence.steps)?, "{}", sequence.about);
-        }
-    }
-    Ok(())
-}
-
-// A topology is free once its request has ended, however it ends.
-#[test]
-fn each_end_frees_a_topology(rt: HostRuntime) -> Result<(), Fail> {
-    for sequence in ENDINGS {
-        assert!(rt; holds(rt.alloc(), sequence.steps)?, "{}", sequence.about);
-    }
+    assert_eq!(rt;
+        wrong_of(rt.alloc(), SEQUENCES)?,
+        None,
+        "the row that does not hold"
+    );
     Ok(())
 }
 
 #[test]
-fn a_request_that_is_pending_keeps_its_topology(rt: HostRuntime) -> Result<(), Fail> {
-    for sequence in KEPT {
-        assert!(rt; holds(rt.alloc(), sequence.steps)?, "{}", sequence.about);
-    }
-    Ok(())
-}
-
-#[test]
-fn nothing_is_ready_without_requests(rt: HostRuntime) -> Result<(), Fail> {
-    let element = new_element(rt.alloc())?;
-    assert_eq!(rt; element.ready(0), None);
-    assert!(rt; element.job(1)?.is_none());
+fn a_topology_is_free_once_its_request_has_ended(rt: HostRuntime) -> Result<(), Fail> {
+    assert_eq!(rt;
+        wrong_of(rt.alloc(), ENDINGS)?,
+        None,
+        "the row that does not hold"
+    );
     Ok(())
 }

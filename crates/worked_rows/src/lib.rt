@@ -1,9 +1,17 @@
-//! Tables of tests: what one element and the parent say, message by message, with everything worked
-//! out by hand. They stand above the crates that they test, so that none of these is proved once
-//! more for its tests.
+//! Tables of tests: what an element and the parent are told and say, and border graphs with their answers, all
+//! worked out by hand. They stand above the crates that they test, so that none of these is proved once more
+//! for its tests.
 #![tactic(auto)]
 
+#[cfg(test)]
+mod borders;
 #[cfg(test)]
 mod element;
 #[cfg(test)]
 mod parent;
+#[cfg(test)]
+mod parts;
+#[cfg(test)]
+mod telling;
+#[cfg(test)]
+mod words;

@@ -1,204 +1,225 @@
-//! Border graphs, and what is found in them.
-ghost use Rattle.std.specs.Prelude.{◌≤◌, All, IfOk};
+//! A parent that is told what the rows of a table say.
+ghost use Rattle.std.specs.Prelude.{◌≡◌, ◌<◌, All, AllPairs, IfOk};
+ghost use Rattle.dom_base.specs.declared.names.As.{As as Domain};
 ghost use Rattle.pce_parent.specs.Solution.{IsWeighed};
 
-mod calls;
-mod cases;
-mod drawn;
+mod messages;
+mod sequences;
 
-use cases::CASES;
-use dom_base::{
-    Addr, As, Cost, Excluded, Exclusion, Link, List, Metric, NoMemory, ParentLink, Query,
-};
-use drawn::DRAWN;
-use pce_parent::solve_border;
-use pcep_subobjects::{Hop, strict_hop};
+use crate::parts::{are_weighed, is_at, link, solved};
+use crate::telling::{Said, are_these, lost_in, message_of, said_by};
+use crate::words::{Verb, addr, domain, lines_of, next_verb, number, octets, peer, spot};
+use dom_base::{Addr, As, List, NoMemory, ParentLink, Tick};
+use line_text::{Words, line_count};
+use messages::MESSAGES;
+use pce_parent::{BorderPlan, BorderSolved, Parent, ParentCommitError};
 use plant_model::{BorderJob, ChildRow};
+use sequences::SEQUENCES;
 use std::alloc::Global;
 use std::test::Fail;
-use te_links::METRIC_MAX;
 
-// A row of a domain: its entry, its target, its cost, and the one address of its hops.
-type RowOf = (u16, u32, u32, u32, u32);
+// ---- a new parent
 
-// A link from a node of a domain to a node of another: its far address and its weight. The near address
-// is greater by 1000, and the shared risk has the far address as its number.
-type LinkOf = (u16, u32, u16, u32, u32, u32);
-
-/// What a request excludes.
-#[derive(Clone, Copy)]
-enum Bar {
-    Domain(u16),
-    Address(u32),
-    Risk(u32),
-}
-
-/// A border graph, and the least cost with the addresses of the chosen walk.
-struct Case {
-    metric: Metric,
-    start: u16,
-    source: u32,
-    target: u32,
-    cap: u32,
-    rows: &'static [RowOf],
-    links: &'static [LinkOf],
-    bars: &'static [Bar],
-    cost: Option<u32>,
-    hops: &'static [u32],
-}
-
-fn row(alloc: Global, of: RowOf) -> Result<ChildRow, Fail> {
-    let mut hops = List::new(alloc);
-    hops.push(strict_hop(Addr::V4(of.4)))?;
-    Ok(ChildRow {
-        at: As(of.0),
-        entry: Addr::V4(of.1),
-        target: Addr::V4(of.2),
-        cost: Cost::of(of.3).ok_or("no cost")?,
-        hops,
-    })
-}
-
-fn metric(te: u32) -> u32
-    ensures least { 1 ≤ result }
-    ensures most { result ≤ METRIC_MAX }
+fn children(alloc: Global, count: u32) -> Result<List<As>, NoMemory>
+    ensures { IfOk result (AllPairs (λ (a b : Domain). a.0 < b.0)) }
 {
-    if te == 0 {
-        1
-    } else if te > METRIC_MAX {
-        METRIC_MAX
-    } else {
-        te
-    }
-}
-
-fn link(alloc: Global, of: LinkOf) -> Result<ParentLink, NoMemory>
-    ensures { IfOk result IsWeighed }
-{
-    let mut srlgs = List::new(alloc);
-    srlgs.push(of.4)?;
-    Ok(ParentLink {
-        from_as: As(of.0),
-        to_as: As(of.2),
-        link: Link {
-            from: Addr::V4(of.1),
-            to: Addr::V4(of.3),
-            near: Addr::V4(of.4.wrapping_add(1000)),
-            far: Addr::V4(of.4),
-            igp: 1,
-            te: metric(of.5),
-            bytes_per_second: 1000,
-            colour: 0,
-            srlgs,
-        },
-    })
-}
-
-fn links(alloc: Global, rows: &[LinkOf]) -> Result<List<ParentLink>, NoMemory>
-    ensures { IfOk result (λ links. All IsWeighed links) }
-{
-    let mut links = List::new(alloc);
-    for of in rows {
-        links.push(link(alloc, *of)?)?;
-    }
-    Ok(links)
-}
-
-fn excluded(bar: Bar) -> Excluded {
-    match bar {
-        Bar::Domain(number) => Excluded::AsNumber(As(number)),
-        Bar::Address(addr) => Excluded::Prefix {
-            addr: Addr::V4(addr),
-            length: 32,
-            attribute: 0,
-        },
-        Bar::Risk(number) => Excluded::Srlg(number),
-    }
-}
-
-fn query(alloc: Global, case: &Case) -> Result<Query, Fail> {
-    let mut exclusions = List::new(alloc);
-    for bar in case.bars {
-        exclusions.push(Exclusion {
-            avoid: false,
-            what: excluded(*bar),
-        })?;
-    }
-    Ok(Query {
-        own: As(0),
-        metric: case.metric,
-        cap: Cost::of(case.cap).ok_or("no cap")?,
-        bandwidth: 0,
-        exclude_any: 0,
-        include_any: 0,
-        include_all: 0,
-        exclusions,
-    })
-}
-
-fn job(alloc: Global, case: &Case) -> Result<BorderJob, Fail>
-    ensures { IfOk result (λ job. All IsWeighed job.links) }
-{
-    let mut rows = List::new(alloc);
-    for of in case.rows {
-        rows.push(row(alloc, *of)?)?;
-    }
-    Ok(BorderJob {
-        number: 7,
-        start: As(case.start),
-        source: Addr::V4(case.source),
-        target: Addr::V4(case.target),
-        query: query(alloc, case)?,
-        rows,
-        links: links(alloc, case.links)?,
-    })
-}
-
-fn is_at(hop: &Hop, addr: u32) -> bool {
-    match *hop {
-        Hop::Prefix {
-            loose: false,
-            addr: Addr::V4(number),
-            length: 32,
-        } => number == addr,
-        _ => false,
-    }
-}
-
-fn are_at(hops: &[Hop], addrs: &[u32]) -> bool {
-    if hops.len() != addrs.len() {
-        return false;
-    }
-    for (hop, addr) in hops.iter().zip(addrs) {
-        if !is_at(hop, *addr) {
-            return false;
-        }
-    }
-    true
-}
-
-fn holds(alloc: Global, case: &Case) -> Result<bool, Fail> {
-    let job = job(alloc, case)?;
-    let solved = solve_border(alloc, &job)?;
-    let found = match solved.answer() {
-        None => case.cost == None,
-        Some((cost, hops)) => case.cost == Some(cost.get()) && are_at(hops, case.hops),
+    let numbers = match count {
+        1 => Vec::from_slice(alloc, &[As(1)])?,
+        2 => Vec::from_slice(alloc, &[As(1), As(2)])?,
+        _ => Vec::from_slice(alloc, &[As(1), As(2), As(3)])?,
     };
-    Ok(found && solved.number() == 7)
+    Ok(List::from_vec(numbers))
 }
 
-#[test]
-fn border_graphs_have_these_answers(rt: HostRuntime) -> Result<(), Fail> {
-    for case in &CASES {
-        assert!(&rt; holds(rt.alloc(), case)?);
+fn add_links(
+    alloc: Global,
+    links: &mut List<ParentLink>,
+    words: &mut Words<'_>,
+) -> Result<(), Fail> {
+    for _k in 0..16 {
+        match words.next_word() {
+            Some(_link) => links.push(link(alloc, words)?)?,
+            None => break,
+        }
     }
     Ok(())
 }
 
-#[test]
-fn graphs_drawn_at_random_have_the_answers_of_a_list_of_walks(rt: HostRuntime) -> Result<(), Fail> {
-    for case in &DRAWN {
-        assert!(&rt; holds(rt.alloc(), case)?);
+fn weighed_links(alloc: Global, words: &mut Words<'_>) -> Result<List<ParentLink>, Fail>
+    ensures { IfOk result (λ links. All IsWeighed links) }
+{
+    let mut links = List::new(alloc);
+    add_links(alloc, &mut links, words)?;
+    if !are_weighed(links.as_slice()) {
+        return Err(Fail::from("a metric out of its limits"));
     }
+    Ok(links)
+}
+
+fn new_parent(alloc: Global, words: &mut Words<'_>) -> Result<Parent, Fail> {
+    let children = children(alloc, number(words)?)?;
+    let links = weighed_links(alloc, words)?;
+    let id = Addr::V4(0xC000_0264);
+    Ok(Parent::new(alloc, id, children, links)?)
+}
+
+// ---- what is told
+
+fn take(alloc: Global, parent: &mut Parent, words: &mut Words<'_>) -> Result<bool, Fail> {
+    let from = peer(words)?;
+    let frame = octets(alloc, MESSAGES, words)?;
+    let message = message_of(alloc, frame.as_slice())?;
+    let plan = parent.take(from, message, Tick(0))?;
+    let said = said_by(alloc, plan.outputs());
+    parent.make(plan);
+    are_these(alloc, MESSAGES, said?.as_slice(), words)
+}
+
+// Whether this is the next lost request, or there is none.
+fn is_lost(parent: &mut Parent, words: &mut Words<'_>) -> Result<bool, Fail> {
+    let lost = lost_in(words)?;
+    Ok(parent.next_lost() == lost)
+}
+
+// ---- jobs
+
+fn job_of(parent: &Parent) -> Result<BorderJob, Fail> {
+    let Some(number) = parent.ready(0) else {
+        return Err(Fail::from("none is ready"));
+    };
+    match parent.job(number)? {
+        Some(job) => Ok(job),
+        None => Err(Fail::from("no job")),
+    }
+}
+
+fn is_row(row: &ChildRow, words: &mut Words<'_>) -> Result<bool, Fail> {
+    let hop = match row.hops.as_slice().first() {
+        Some(hop) => hop,
+        None => return Ok(false),
+    };
+    Ok(
+        row.at == domain(words)?
+            && row.entry == addr(words)?
+            && row.target == addr(words)?
+            && row.cost.get() == number(words)?
+            && is_at(hop, spot(words)?),
+    )
+}
+
+// Whether a request can be solved over the rows of the words.
+fn has_rows(parent: &Parent, words: &mut Words<'_>) -> Result<bool, Fail> {
+    let job = job_of(parent)?;
+    for row in job.rows.as_slice() {
+        if !is_row(row, words)? {
+            return Ok(false);
+        }
+    }
+    Ok(words.next_word().is_none())
+}
+
+fn plan_of(parent: &mut Parent, solved: BorderSolved) -> Result<BorderPlan, Fail>
+    ensures same { parent.new ≡ parent.old }
+    ensures from { IfOk result (λ plan. plan.from ≡ parent.old) }
+{
+    match parent.commit(solved, Tick(0)) {
+        Ok(plan) => Ok(plan),
+        Err(_why) => Err(Fail::from("no plan")),
+    }
+}
+
+fn is_strange(parent: &mut Parent, solved: BorderSolved) -> bool {
+    let again = parent.commit(solved, Tick(0));
+    matches!(&again, Err(ParentCommitError::Stranger(_)))
+}
+
+// The solution of the job that is ready.
+fn ready_solved(alloc: Global, parent: &Parent) -> Result<BorderSolved, Fail> {
+    let job = job_of(parent)?;
+    solved(alloc, &job)
+}
+
+// The same, handed back by a plan that is given up.
+fn given_up(alloc: Global, parent: &mut Parent) -> Result<BorderSolved, Fail> {
+    let plan = plan_of(parent, ready_solved(alloc, parent)?)?;
+    match plan.back() {
+        Some(solved) => Ok(solved),
+        None => Err(Fail::from("nothing back")),
+    }
+}
+
+// What is said once a job is answered.
+fn answered(alloc: Global, parent: &mut Parent, solved: BorderSolved) -> Result<Vec<Said>, Fail> {
+    let plan = plan_of(parent, solved)?;
+    let said = said_by(alloc, plan.outputs());
+    parent.make(plan);
+    said
+}
+
+// A plan that is given up leaves the request as it was; one that is made ends it.
+fn solve(alloc: Global, parent: &mut Parent, words: &mut Words<'_>) -> Result<bool, Fail> {
+    let back = given_up(alloc, parent)?;
+    let late = ready_solved(alloc, parent)?;
+    let said = answered(alloc, parent, back)?;
+    Ok(is_strange(parent, late) && are_these(alloc, MESSAGES, said.as_slice(), words)?)
+}
+
+// ---- rows
+
+// Whether a row holds.
+fn holds(
+    alloc: Global,
+    parent: &mut Parent,
+    verb: Verb,
+    words: &mut Words<'_>,
+) -> Result<bool, Fail> {
+    match verb {
+        Verb::Take => take(alloc, parent, words),
+        Verb::Idle => Ok(parent.ready(0) == None),
+        Verb::Job => has_rows(parent, words),
+        Verb::Solve => solve(alloc, parent, words),
+        Verb::Lost => is_lost(parent, words),
+        Verb::Up => {
+            parent.up(peer(words)?);
+            Ok(true)
+        }
+        Verb::Down => {
+            parent.down(peer(words)?);
+            Ok(true)
+        }
+        _ => Err(Fail::from("no row")),
+    }
+}
+
+// Whether a row holds; the first of a sequence makes another parent.
+fn row_holds(alloc: Global, parent: &mut Parent, words: &mut Words<'_>) -> Result<bool, Fail> {
+    match next_verb(words) {
+        Verb::New => {
+            *parent = new_parent(alloc, words)?;
+            Ok(true)
+        }
+        verb => holds(alloc, parent, verb, words),
+    }
+}
+
+// The number of the first row that does not hold.
+fn first_wrong(alloc: Global, parent: &mut Parent) -> Result<Option<u32>, Fail> {
+    let mut lines = lines_of(SEQUENCES)?;
+    for _k in 0..line_count(SEQUENCES) {
+        let Some(line) = lines.next_line() else {
+            break;
+        };
+        if !row_holds(alloc, parent, &mut Words::new(line.text))? {
+            return Ok(Some(line.number));
+        }
+    }
+    Ok(None)
+}
+
+#[test]
+fn messages_have_these_answers(rt: HostRuntime) -> Result<(), Fail> {
+    let mut parent = new_parent(rt.alloc(), &mut Words::new(b"1"))?;
+    let wrong = first_wrong(rt.alloc(), &mut parent)?;
+    assert_eq!(rt; wrong, None, "the row that does not hold");
     Ok(())
 }

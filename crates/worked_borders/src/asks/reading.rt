@@ -1,6 +1,6 @@
 //! Topologies and asks from the lines of a table.
 use border_costs::{Ask, Down, Target};
-use dom_base::{Addr, As, Cost, List, Metric, Query, read_addr, read_number};
+use dom_base::{Addr, As, Cost, List, Metric, NoMemory, Query, read_number};
 use line_text::{Words, line_count};
 use std::alloc::Global;
 use std::test::Fail;
@@ -29,23 +29,13 @@ fn next_cost(words: &mut Words<'_>) -> Option<Cost> {
     Cost::of(next_number(words)?)
 }
 
-// `te` or `hops`, and the cap.
-fn next_query(alloc: Global, own: As, words: &mut Words<'_>) -> Option<Query> {
-    let metric = match words.next_word()? {
-        b"te" => Metric::Te,
-        b"hops" => Metric::Hops,
-        _ => return None,
-    };
-    Some(Query {
-        own,
-        metric,
-        cap: next_cost(words)?,
-        bandwidth: 0,
-        exclude_any: 0,
-        include_any: 0,
-        include_all: 0,
-        exclusions: List::new(alloc),
-    })
+// `te` or `hops`.
+fn next_metric(words: &mut Words<'_>) -> Option<Metric> {
+    match words.next_word()? {
+        b"te" => Some(Metric::Te),
+        b"hops" => Some(Metric::Hops),
+        _ => None,
+    }
 }
 
 // `to` and a node, or `into` and a domain.
@@ -57,44 +47,86 @@ fn next_target(words: &mut Words<'_>) -> Option<Target> {
     }
 }
 
-// Addresses, up to another word; a hundred at most.
-fn next_addrs(alloc: Global, words: &mut Words<'_>) -> Result<List<Addr>, Fail> {
-    let mut addrs = List::new(alloc);
-    for _ in 0..100 {
-        let Some(addr) = next_addr(words) else {
-            break;
-        };
-        addrs.push(addr)?;
-    }
-    Ok(addrs)
+// The first words of an ask.
+#[derive(Clone, Copy)]
+struct Head {
+    generation: u32,
+    metric: Metric,
+    cap: Cost,
+    source: Addr,
+    target: Target,
 }
 
-// Addresses with their costs, up to another word; a hundred at most.
-fn next_downs(alloc: Global, words: &mut Words<'_>) -> Result<List<Down>, Fail> {
-    let mut downs = List::new(alloc);
-    for _ in 0..100 {
-        let Some(node) = next_addr(words) else {
-            break;
-        };
-        let cost = next_cost(words).ok_or("no cost")?;
-        downs.push(Down { node, cost })?;
+fn next_head(words: &mut Words<'_>) -> Option<Head> {
+    let _name = words.next_word()?;
+    Some(Head {
+        generation: next_number(words)?,
+        metric: next_metric(words)?,
+        cap: next_cost(words)?,
+        source: next_addr(words)?,
+        target: next_target(words)?,
+    })
+}
+
+fn query(alloc: Global, own: As, head: &Head) -> Query {
+    Query {
+        own,
+        metric: head.metric,
+        cap: head.cap,
+        bandwidth: 0,
+        exclude_any: 0,
+        include_any: 0,
+        include_all: 0,
+        exclusions: List::new(alloc),
     }
-    Ok(downs)
+}
+
+// Adds addresses, up to another word; a hundred at most.
+fn add_entries(entries: &mut List<Addr>, words: &mut Words<'_>) -> Result<(), NoMemory> {
+    for _ in 0..100 {
+        match next_addr(words) {
+            Some(entry) => entries.push(entry)?,
+            None => break,
+        }
+    }
+    Ok(())
+}
+
+// An address with its cost.
+fn next_down(words: &mut Words<'_>) -> Option<Down> {
+    Some(Down {
+        node: next_addr(words)?,
+        cost: next_cost(words)?,
+    })
+}
+
+// Adds addresses with their costs, up to another word; a hundred at most.
+fn add_downs(downs: &mut List<Down>, words: &mut Words<'_>) -> Result<(), NoMemory> {
+    for _ in 0..100 {
+        match next_down(words) {
+            Some(down) => downs.push(down)?,
+            None => break,
+        }
+    }
+    Ok(())
 }
 
 /// The ask of a line: `ask GENERATION METRIC CAP SOURCE TARGET ENTRIES .. over HEAD COST ..`, and behind
 /// these, after a sign, what it is there for.
 pub fn ask_in(alloc: Global, own: As, line: &[u8]) -> Result<Ask, Fail> {
     let mut words = Words::new(line);
-    let _name = words.next_word();
-    Ok(Ask {
+    let head = next_head(&mut words).ok_or("no ask")?;
+    let mut ask = Ask {
         at: own,
         number: 1,
-        generation: u64::from(next_number(&mut words).ok_or("no generation")?),
-        query: next_query(alloc, own, &mut words).ok_or("no query")?,
-        source: next_addr(&mut words).ok_or("no source")?,
-        target: next_target(&mut words).ok_or("no target")?,
-        entries: next_addrs(alloc, &mut words)?,
-        down: next_downs(alloc, &mut words)?,
-    })
+        generation: u64::from(head.generation),
+        query: query(alloc, own, &head),
+        source: head.source,
+        target: head.target,
+        entries: List::new(alloc),
+        down: List::new(alloc),
+    };
+    add_entries(&mut ask.entries, &mut words)?;
+    add_downs(&mut ask.down, &mut words)?;
+    Ok(ask)
 }

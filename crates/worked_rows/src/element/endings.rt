@@ -1,214 +1,164 @@
-//! The ways in which a request of an element ends, and what keeps one pending. In each, fifteen requests pin
-//! a topology each, so that no further one can be loaded before one of them has ended.
-use super::sequences::{
-    ASK, BRANCHES, BUSY, CANCEL, CLIENT, CLIENT_UNAVAILABLE, D2, NONE, NOT_ASKED, NOT_SUPPORTED,
-    ONE, OTHER_ERROR, OUT_OF_PROFILE, PARENT, SENT_ON, THREE, TOLD, UNAVAILABLE,
-};
-use super::{Sequence, Step};
-use Step::{Down, GiveUp, Load, LoadFull, PinEach, Solve, Take, Up};
+//! The ways in which a request of an element ends, and what keeps one pending, in rows as those of
+//! `sequences`. In each, fifteen requests pin a topology each, so that no further one can be loaded before one
+//! of them has ended.
 
-// A topology without nodes.
-const BARE: &[u8] = b"topology 2\n";
+pub const ENDINGS: &[u8] = b"
+# an answer with branches
+new
+load d2
+take one ask three sent-on
+load bare
+pins bare
+take three told
+full bare
+solve 1 one branches
+load bare
 
-/// A request ends, and its topology is free.
-pub const ENDINGS: &[Sequence] = &[
-    Sequence {
-        about: "an answer with branches",
-        steps: &[
-            Load(D2),
-            Take(ONE, ASK, &[(THREE, SENT_ON)]),
-            Load(BARE),
-            PinEach(BARE),
-            Take(THREE, TOLD, &[]),
-            LoadFull(BARE),
-            Solve(1, (ONE, BRANCHES)),
-            Load(BARE),
-        ],
-    },
-    Sequence {
-        about: "an answer without a path",
-        steps: &[
-            Load(BARE),
-            Take(ONE, ASK, &[(THREE, SENT_ON)]),
-            Load(BARE),
-            PinEach(BARE),
-            Take(THREE, NONE, &[]),
-            LoadFull(BARE),
-            Solve(1, (ONE, NONE)),
-            Load(BARE),
-        ],
-    },
-    Sequence {
-        about: "a chain that is not available beyond",
-        steps: &[
-            Load(BARE),
-            Take(ONE, ASK, &[(THREE, SENT_ON)]),
-            Load(BARE),
-            PinEach(BARE),
-            LoadFull(BARE),
-            Take(THREE, UNAVAILABLE, &[(ONE, UNAVAILABLE)]),
-            Load(BARE),
-        ],
-    },
-    Sequence {
-        about: "an answer of the parent that is passed on",
-        steps: &[
-            Up(PARENT),
-            Load(BARE),
-            Take(
-                CLIENT,
-                b"2003001c 0212000c 00000000 00000001 0412000c 0a020001 0a030009",
-                &[(
-                    PARENT,
-                    b"20030028 0212000c 00000040 00000001 0412000c 0a020001 0a030009
-                        0612000c 00000202 00000000",
-                )],
-            ),
-            Load(BARE),
-            Take(ONE, ASK, &[(THREE, SENT_ON)]),
-            PinEach(BARE),
-            LoadFull(BARE),
-            Take(PARENT, UNAVAILABLE, &[(CLIENT, CLIENT_UNAVAILABLE)]),
-            Load(BARE),
-        ],
-    },
-    Sequence {
-        about: "a request that is given up",
-        steps: &[
-            Load(BARE),
-            Take(ONE, ASK, &[(THREE, SENT_ON)]),
-            Load(BARE),
-            PinEach(BARE),
-            LoadFull(BARE),
-            Take(ONE, CANCEL, &[]),
-            Load(BARE),
-        ],
-    },
-    Sequence {
-        about: "a request that is given up when it can be solved",
-        steps: &[
-            Load(BARE),
-            Take(ONE, ASK, &[(THREE, SENT_ON)]),
-            Load(BARE),
-            PinEach(BARE),
-            Take(THREE, TOLD, &[]),
-            LoadFull(BARE),
-            Take(ONE, CANCEL, &[]),
-            Load(BARE),
-        ],
-    },
-    Sequence {
-        about: "no room beyond",
-        steps: &[
-            Load(BARE),
-            Take(ONE, ASK, &[(THREE, SENT_ON)]),
-            Load(BARE),
-            PinEach(BARE),
-            LoadFull(BARE),
-            Take(THREE, BUSY, &[(ONE, BUSY)]),
-            Load(BARE),
-        ],
-    },
-    Sequence {
-        about: "a parameter that is not supported beyond",
-        steps: &[
-            Load(BARE),
-            Take(ONE, ASK, &[(THREE, SENT_ON)]),
-            Load(BARE),
-            PinEach(BARE),
-            LoadFull(BARE),
-            Take(THREE, NOT_SUPPORTED, &[(ONE, OUT_OF_PROFILE)]),
-            Load(BARE),
-        ],
-    },
-    Sequence {
-        about: "another error beyond",
-        steps: &[
-            Load(BARE),
-            Take(ONE, ASK, &[(THREE, SENT_ON)]),
-            Load(BARE),
-            PinEach(BARE),
-            LoadFull(BARE),
-            Take(THREE, OTHER_ERROR, &[(ONE, UNAVAILABLE)]),
-            Load(BARE),
-        ],
-    },
-    Sequence {
-        about: "a session that is lost, on which all of them wait",
-        steps: &[
-            Load(BARE),
-            Take(ONE, ASK, &[(THREE, SENT_ON)]),
-            Load(BARE),
-            PinEach(BARE),
-            LoadFull(BARE),
-            Down(
-                THREE,
-                &[
-                    (ONE, 0x40, 1),
-                    (ONE, 0x40, 2),
-                    (ONE, 0x40, 3),
-                    (ONE, 0x40, 4),
-                    (ONE, 0x40, 5),
-                    (ONE, 0x40, 6),
-                    (ONE, 0x40, 7),
-                    (ONE, 0x40, 8),
-                    (ONE, 0x40, 9),
-                    (ONE, 0x40, 10),
-                    (ONE, 0x40, 11),
-                    (ONE, 0x40, 12),
-                    (ONE, 0x40, 13),
-                    (ONE, 0x40, 14),
-                    (ONE, 0x40, 15),
-                ],
-            ),
-            Load(BARE),
-            Load(BARE),
-        ],
-    },
-    Sequence {
-        about: "a peer that is gone, whose they all are",
-        steps: &[
-            Load(BARE),
-            Take(ONE, ASK, &[(THREE, SENT_ON)]),
-            Load(BARE),
-            PinEach(BARE),
-            LoadFull(BARE),
-            Down(ONE, &[]),
-            Load(BARE),
-            Load(BARE),
-        ],
-    },
-];
+# an answer without a path
+new
+load bare
+take one ask three sent-on
+load bare
+pins bare
+take three none
+full bare
+solve 1 one none
+load bare
 
-/// A request stays pending, and its topology with it.
-pub const KEPT: &[Sequence] = &[
-    Sequence {
-        about: "the error of a reply, a repeat, and what others give up",
-        steps: &[
-            Load(BARE),
-            Take(ONE, ASK, &[(THREE, SENT_ON)]),
-            Load(BARE),
-            PinEach(BARE),
-            Take(THREE, NOT_ASKED, &[]),
-            Take(ONE, ASK, &[]),
-            Take(CLIENT, CANCEL, &[]),
-            Take(ONE, BUSY, &[]),
-            LoadFull(BARE),
-        ],
-    },
-    Sequence {
-        about: "an answer that is planned and not made, and keys that are not used up by it",
-        steps: &[
-            Load(D2),
-            Take(ONE, ASK, &[(THREE, SENT_ON)]),
-            Load(BARE),
-            PinEach(BARE),
-            Take(THREE, TOLD, &[]),
-            GiveUp(1),
-            LoadFull(BARE),
-            GiveUp(1),
-            Solve(1, (ONE, BRANCHES)),
-            Load(BARE),
-        ],
-    },
-];
+# a chain that is not available beyond
+new
+load bare
+take one ask three sent-on
+load bare
+pins bare
+full bare
+take three unavailable one unavailable
+load bare
+
+# an answer of the parent that is passed on
+new
+up parent
+load bare
+take client 2003001c0212000c00000000000000010412000c0a0200010a030009 parent 200300280212000c00000040000000010412000c0a0200010a0300090612000c0000020200000000
+load bare
+take one ask three sent-on
+pins bare
+full bare
+take parent unavailable client client-unavailable
+load bare
+
+# a request that is given up
+new
+load bare
+take one ask three sent-on
+load bare
+pins bare
+full bare
+take one cancel
+load bare
+
+# a request that is given up when it can be solved
+new
+load bare
+take one ask three sent-on
+load bare
+pins bare
+take three told
+full bare
+take one cancel
+load bare
+
+# no room beyond
+new
+load bare
+take one ask three sent-on
+load bare
+pins bare
+full bare
+take three busy one busy
+load bare
+
+# a parameter that is not supported beyond
+new
+load bare
+take one ask three sent-on
+load bare
+pins bare
+full bare
+take three not-supported one out-of-profile
+load bare
+
+# another error beyond
+new
+load bare
+take one ask three sent-on
+load bare
+pins bare
+full bare
+take three other-error one unavailable
+load bare
+
+# a session that is lost, on which all of them wait
+new
+load bare
+take one ask three sent-on
+load bare
+pins bare
+full bare
+down three
+lost one 64 1
+lost one 64 2
+lost one 64 3
+lost one 64 4
+lost one 64 5
+lost one 64 6
+lost one 64 7
+lost one 64 8
+lost one 64 9
+lost one 64 10
+lost one 64 11
+lost one 64 12
+lost one 64 13
+lost one 64 14
+lost one 64 15
+lost
+load bare
+load bare
+
+# a peer that is gone, whose they all are
+new
+load bare
+take one ask three sent-on
+load bare
+pins bare
+full bare
+down one
+lost
+load bare
+load bare
+
+# the error of a reply, a repeat, and what others give up
+new
+load bare
+take one ask three sent-on
+load bare
+pins bare
+take three not-asked
+take one ask
+take client cancel
+take one busy
+full bare
+
+# an answer that is planned and not made, and keys that are not used up by it
+new
+load d2
+take one ask three sent-on
+load bare
+pins bare
+take three told
+back 1
+full bare
+back 1
+solve 1 one branches
+load bare
+";

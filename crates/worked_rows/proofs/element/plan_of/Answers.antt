@@ -3,7 +3,7 @@ use Rattle.std.specs.Prelude.{IfSome}
 use Rattle.border_costs.specs.declared.job.Job.{Job}
 use Rattle.pce_element.specs.Jobs.{work_of}
 use Rattle.pce_element.proofs.CommitLemmas.{own_of}
-use Rattle.worked_rows.proofs.element.solve_job.Goals as goal
+use Rattle.worked_rows.proofs.element.plan_of.Goals as goal
 
 pub commit-requires-clause-own : goal.commit-requires-clause-own
 commit-requires-clause-own c =
