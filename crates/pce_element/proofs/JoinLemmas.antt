@@ -2,15 +2,16 @@
 use Rattle.std.proofs.Common.{◌≡◌, ◌≢◌, ◌⊎◌, ◌∙◌, ◌+◌, ◌<◌, ◌≤◌, ℕ, zero, suc, Bool, true, false, cond, nat_lt, Option, Some, None, List, [], ◌∷◌, ◌++◌, length, get_or, map, take, drop, arith, inl, inr, refl, sym, ap, subst, length-append, append_assoc}
 use Rattle.std.specs.Prelude.{All, AllPairs, Contains, IfSome, MatchOption, SomeIff, slice_get}
 use Rattle.std.proofs.lemmas.List.{length_push, map-append, take_more}
-use Rattle.std.proofs.lemmas.Bool.{cases_lt, eq-eqb, eqb-true, lt-ltb, le-ltb}
+use Rattle.std.proofs.lemmas.Bool.{cases_lt, lt-ltb, le-ltb}
 use Rattle.std.proofs.lemmas.List.Elements.{All-nil, All-cons, Contains-append_left, Contains-push, Contains-push_cases}
 use Rattle.std.proofs.lemmas.List.Quantifiers.{all_pairs_push}
 use Rattle.dom_base.specs.AddrOrder.{rank}
 use Rattle.dom_base.specs.declared.addr.Addr.{Addr}
 use Rattle.dom_base.specs.declared.names.As.{As}
 use Rattle.dom_base.specs.declared.border.BorderRow.{BorderRow}
-use Rattle.dom_base.proofs.Ranks.{same_addr as one_place}
+use Rattle.dom_base.specs.declared.query.Label.{Label}
 use Rattle.walk_laws.specs.Borders.{Beyond, IsDown}
+use Rattle.walk_laws.specs.TableJoins.{RowJoins, RowEnds}
 use Rattle.vspt_tree.specs.Branches.{HasBranchAt}
 use Rattle.vspt_tree.specs.declared.branch.Best.{Best}
 use Rattle.vspt_tree.specs.declared.branch.Branch.{Branch}
@@ -22,7 +23,6 @@ use Rattle.border_costs.specs.declared.job.Target.TheVariants.{Node, Next}
 use Rattle.border_costs.proofs.Downs.{down_unique}
 use Rattle.member_parts.specs.plant_model.Branches.{downs}
 use Rattle.member_parts.specs.plant_model.Jobs.{IsJoinOf, JoinsBy}
-use Rattle.member_parts.specs.plant_model.Names.{same_addr}
 use Rattle.pce_element.specs.Joining.{EndsElsewhere, IsJoinOfRow, JoinsNothing, JoinsOver, JoinsRow, TakesIn, head_over}
 use Rattle.member_parts.proofs.HeldPlaces.{split_at, taken_at}
 use Rattle.member_parts.proofs.HeldRows.{first_in, in_cases, later_in, none_in}
@@ -72,27 +72,43 @@ has_last (y ∷ xs) x has = last_of y xs
 
 -- ---- what rows join to
 
-abbrev make : Addr → Addr → Addr → ℕ → BorderRow
-make e far head c = record { entry = e; far = far; head = head; cost = c }
+abbrev pair : ℕ → Addr → Label
+pair c exit = record { cost = c; exit = exit }
+
+-- the same row among others
+abbrev over_more : (bound : ℕ) (rows more : List BorderRow) (down : List Beyond) (e : Addr) (a : Label) (over : RowJoins bound rows down e a) → (Contains rows over.row → Contains more over.row) → RowJoins bound more down e a
+over_more bound rows more down e a over there = record {
+  row = over.row;
+  is_row = there over.is_row;
+  at_entry = over.at_entry;
+  beyond = over.beyond;
+  is_down = over.is_down;
+  sum = over.sum;
+  exit = over.exit;
+  within = over.within;
+}
+
+abbrev ends_more : (bound : ℕ) (rows more : List BorderRow) (e : Addr) (a : Label) (over : RowEnds bound rows e a) → (Contains rows over.row → Contains more over.row) → RowEnds bound more e a
+ends_more bound rows more e a over there = record { row = over.row; is_row = there over.is_row; at_entry = over.at_entry; sum = over.sum; exit = over.exit; within = over.within }
 
 joins_more : (bound : ℕ) (target : Target) (rows more : List BorderRow) (down : List Down) (e : Addr) (c : ℕ) (exit : Addr) (head : Option Addr) → ((r : BorderRow) → Contains rows r → Contains more r) →
     JoinsBy bound target rows down e c exit head → JoinsBy bound target more down e c exit head
-joins_more bound (Node t) rows more down e c exit None there joins = (there (make e exit exit c) joins.0, joins.1)
+joins_more bound (Node t) rows more down e c exit None there joins = ends_more bound rows more e (pair c exit) joins (there joins.row)
 joins_more bound (Node t) rows more down e c exit (Some head) there joins = absurd joins
 joins_more bound (Next b) rows more down e c exit None there joins = absurd joins
-joins_more bound (Next b) rows more down e c exit (Some head) there joins = (joins.0, joins.1, there (make e exit head joins.0) joins.2, joins.3, joins.4, joins.5)
+joins_more bound (Next b) rows more down e c exit (Some head) there joins = (over_more bound rows more (beyond down) e (pair c exit) joins.0 (there joins.0.row), joins.1)
 
 joins_split : (bound : ℕ) (target : Target) (rows : List BorderRow) (r : BorderRow) (down : List Down) (e : Addr) (c : ℕ) (exit : Addr) (head : Option Addr) → JoinsBy bound target (rows ++ r ∷ []) down e c exit head →
     JoinsBy bound target rows down e c exit head ⊎ JoinsBy bound target (r ∷ []) down e c exit head
-joins_split bound (Node t) rows r down e c exit None joins = elim (Contains-push_cases rows r (make e exit exit c) joins.0) [
-  | inl before ↦ inl (before, joins.1)
-  | inr same ↦ inr (subst (λ (x : BorderRow). Contains (r ∷ []) x) same (first_in r []), joins.1)
+joins_split bound (Node t) rows r down e c exit None joins = elim (Contains-push_cases rows r joins.row joins.is_row) [
+  | inl before ↦ inl (ends_more bound (rows ++ r ∷ []) rows e (pair c exit) joins (λ has. before))
+  | inr same ↦ inr (ends_more bound (rows ++ r ∷ []) (r ∷ []) e (pair c exit) joins (λ has. subst (λ (x : BorderRow). Contains (r ∷ []) x) same (first_in r [])))
 ]
 joins_split bound (Node t) rows r down e c exit (Some head) joins = absurd joins
 joins_split bound (Next b) rows r down e c exit None joins = absurd joins
-joins_split bound (Next b) rows r down e c exit (Some head) joins = elim (Contains-push_cases rows r (make e exit head joins.0) joins.2) [
-  | inl before ↦ inl (joins.0, joins.1, before, joins.3, joins.4, joins.5)
-  | inr same ↦ inr (joins.0, joins.1, subst (λ (x : BorderRow). Contains (r ∷ []) x) same (first_in r []), joins.3, joins.4, joins.5)
+joins_split bound (Next b) rows r down e c exit (Some head) joins = elim (Contains-push_cases rows r joins.0.row joins.0.is_row) [
+  | inl before ↦ inl (over_more bound (rows ++ r ∷ []) rows (beyond down) e (pair c exit) joins.0 (λ has. before), joins.1)
+  | inr same ↦ inr (over_more bound (rows ++ r ∷ []) (r ∷ []) (beyond down) e (pair c exit) joins.0 (λ has. subst (λ (x : BorderRow). Contains (r ∷ []) x) same (first_in r [])), joins.1)
 ]
 
 -- the row over which a way goes
@@ -103,10 +119,10 @@ record GoesBy (rows : List BorderRow) (e exit : Addr) : Type 0 where
   far : row.far ≡ exit
 
 goes_by : (bound : ℕ) (target : Target) (rows : List BorderRow) (down : List Down) (e : Addr) (c : ℕ) (exit : Addr) (head : Option Addr) → JoinsBy bound target rows down e c exit head → GoesBy rows e exit
-goes_by bound (Node t) rows down e c exit None joins = record { row = make e exit exit c; has = joins.0; entry = refl; far = refl }
+goes_by bound (Node t) rows down e c exit None joins = record { row = joins.row; has = joins.is_row; entry = joins.at_entry; far = sym joins.exit }
 goes_by bound (Node t) rows down e c exit (Some head) joins = absurd joins
 goes_by bound (Next b) rows down e c exit None joins = absurd joins
-goes_by bound (Next b) rows down e c exit (Some head) joins = record { row = make e exit head joins.0; has = joins.2; entry = refl; far = refl }
+goes_by bound (Next b) rows down e c exit (Some head) joins = record { row = joins.0.row; has = joins.0.is_row; entry = joins.0.at_entry; far = sym joins.0.exit }
 
 alone_is : (r x : BorderRow) → Contains (r ∷ []) x → r ≡ x
 alone_is r x has = elim (in_cases r [] x has) [ inl same ↦ same | inr none ↦ absurd (none_in x none) ]
@@ -312,69 +328,57 @@ row_joined bound target down rows i r best after pairs at is (inr some) =
 
 -- ---- one row by itself
 
-pub addrs_same : (a b : Addr) → same_addr a b ≡ true → a ≡ b
-addrs_same a b is = one_place a b (eqb-true (rank a) (rank b) is)
-
-pub addrs_differ : (a b : Addr) → same_addr a b ≡ false → a ≡ b → ⊥
-addrs_differ a b other is = let one : same_addr a b ≡ true = eq-eqb (rank a) (rank b) (ap rank is) in cc
-
-pub node_joins : (bound : ℕ) (t : Addr) (down : List Down) (r : BorderRow) → r.head ≡ r.far → r.cost ≤ bound → JoinsOver bound (Node t) down r r.cost
-node_joins bound t down r is within = record {
-  joins = (subst (λ (x : BorderRow). Contains (r ∷ []) x) (ap (λ (h : Addr). make r.entry r.far h r.cost) is) (first_in r []), within);
+pub node_joins : (bound : ℕ) (t : Addr) (down : List Down) (r : BorderRow) → r.cost ≤ bound → JoinsOver bound (Node t) down r r.cost
+node_joins bound t down r within = record {
+  joins = record { row = r; is_row = first_in r []; at_entry = refl; sum = refl; exit = refl; within = within };
   one = one;
 }
   where
     one : (e : Addr) (c : ℕ) (exit : Addr) (head : Option Addr) → JoinsBy bound (Node t) (r ∷ []) down e c exit head → c ≡ r.cost
-    one e c exit None joins = sym (ap (λ (x : BorderRow). x.cost) (alone_is r (make e exit exit c) joins.0))
+    one e c exit None joins = joins.sum ∙ sym (ap (λ (x : BorderRow). x.cost) (alone_is r joins.row joins.is_row))
     one e c exit (Some head) joins = absurd joins
-
-pub node_elsewhere : (bound : ℕ) (t : Addr) (down : List Down) (r : BorderRow) → (r.head ≡ r.far → ⊥) → JoinsNothing bound (Node t) down r
-node_elsewhere bound t down r differs e c exit None joins =
-    let same : r ≡ make e exit exit c = alone_is r (make e exit exit c) joins.0 in
-    differs (ap (λ (x : BorderRow). x.head) same ∙ sym (ap (λ (x : BorderRow). x.far) same))
-node_elsewhere bound t down r differs e c exit (Some head) joins = joins
 
 pub node_above : (bound : ℕ) (t : Addr) (down : List Down) (r : BorderRow) → bound < r.cost → JoinsNothing bound (Node t) down r
 node_above bound t down r above e c exit None joins =
-    let cost : r.cost ≡ c = ap (λ (x : BorderRow). x.cost) (alone_is r (make e exit exit c) joins.0) in
-    omega (arith, above, cost, joins.1)
+    let cost : r.cost ≡ joins.row.cost = ap (λ (x : BorderRow). x.cost) (alone_is r joins.row joins.is_row) in
+    omega (arith, above, cost, joins.sum, joins.within)
 node_above bound t down r above e c exit (Some head) joins = joins
+
+-- what lies beyond the head of the row by itself
+alone_beyond : (bound : ℕ) (down : List Down) (r : BorderRow) (e : Addr) (a : Label) (over : RowJoins bound (r ∷ []) (beyond down) e a) → (r.cost ≡ over.row.cost) × IsDown (beyond down) r.head over.beyond
+alone_beyond bound down r e a over =
+    let same : r ≡ over.row = alone_is r over.row over.is_row in
+    (ap (λ (x : BorderRow). x.cost) same, subst (λ (x : BorderRow). IsDown (beyond down) x.head over.beyond) (sym same) over.is_down)
 
 pub next_joins : (bound : ℕ) (b : As) (down : List Down) (r : BorderRow) (rest total : ℕ) → IsDown (beyond down) r.head rest → r.cost + rest ≤ bound → r.cost + rest ≡ total → JoinsOver bound (Next b) down r total
 next_joins bound b down r rest total is within sum = record {
-  joins = (r.cost, rest, first_in r [], is, sym sum, omega (arith, within, sum));
+  joins = (record { row = r; is_row = first_in r []; at_entry = refl; beyond = rest; is_down = is; sum = sym sum; exit = refl; within = omega (arith, within, sum) }, refl);
   one = one;
 }
   where
     one : (e : Addr) (c : ℕ) (exit : Addr) (head : Option Addr) → JoinsBy bound (Next b) (r ∷ []) down e c exit head → c ≡ total
     one e c exit None joins = absurd joins
     one e c exit (Some head) joins =
-        let same : r ≡ make e exit head joins.0 = alone_is r (make e exit head joins.0) joins.2 in
-        let own : r.cost ≡ joins.0 = ap (λ (x : BorderRow). x.cost) same in
-        let there : IsDown (beyond down) r.head joins.1 = subst (λ (a : Addr). IsDown (beyond down) a joins.1) (sym (ap (λ (x : BorderRow). x.head) same)) joins.3 in
-        let both : rest ≡ joins.1 = down_unique (beyond down) r.head rest joins.1 is there in
-        omega (arith, joins.4, own, both, sum)
+        let alone = alone_beyond bound down r e (pair c exit) joins.0 in
+        let both : rest ≡ joins.0.beyond = down_unique (beyond down) r.head rest joins.0.beyond is alone.1 in
+        omega (arith, joins.0.sum, alone.0, both, sum)
 
 pub next_nowhere : (bound : ℕ) (b : As) (down : List Down) (r : BorderRow) → HasNoDown (beyond down) r.head → JoinsNothing bound (Next b) down r
 next_nowhere bound b down r none e c exit None joins = joins
 next_nowhere bound b down r none e c exit (Some head) joins =
-    let same : r ≡ make e exit head joins.0 = alone_is r (make e exit head joins.0) joins.2 in
-    let there : IsDown (beyond down) r.head joins.1 = subst (λ (a : Addr). IsDown (beyond down) a joins.1) (sym (ap (λ (x : BorderRow). x.head) same)) joins.3 in
-    none joins.1 there.is_row
+    let alone = alone_beyond bound down r e (pair c exit) joins.0 in none joins.0.beyond alone.1.is_row
 
 pub next_above : (bound : ℕ) (b : As) (down : List Down) (r : BorderRow) (rest : ℕ) → IsDown (beyond down) r.head rest → ¬ (r.cost + rest ≤ bound) → JoinsNothing bound (Next b) down r
 next_above bound b down r rest is above e c exit None joins = joins
 next_above bound b down r rest is above e c exit (Some head) joins =
-    let same : r ≡ make e exit head joins.0 = alone_is r (make e exit head joins.0) joins.2 in
-    let own : r.cost ≡ joins.0 = ap (λ (x : BorderRow). x.cost) same in
-    let there : IsDown (beyond down) r.head joins.1 = subst (λ (a : Addr). IsDown (beyond down) a joins.1) (sym (ap (λ (x : BorderRow). x.head) same)) joins.3 in
-    let both : rest ≡ joins.1 = down_unique (beyond down) r.head rest joins.1 is there in
-    above (omega (arith, joins.4, joins.5, own, both))
+    let alone = alone_beyond bound down r e (pair c exit) joins.0 in
+    let both : rest ≡ joins.0.beyond = down_unique (beyond down) r.head rest joins.0.beyond is alone.1 in
+    above (omega (arith, joins.0.sum, joins.0.within, alone.0, both))
 
-pub node_within : (bound : ℕ) (t : Addr) (down : List Down) (r : BorderRow) (got : ℕ) (o : Option ℕ) → r.head ≡ r.far → got ≡ r.cost → SomeIff o (got ≤ bound) got → MatchOption o (JoinsNothing bound (Node t) down r) (JoinsOver bound (Node t) down r)
-node_within bound t down r got None is own above = node_above bound t down r (elim (cases_lt bound r.cost) [ inl less ↦ less | inr within ↦ absurd (above (omega (arith, within, own))) ])
-node_within bound t down r got (Some c) is own some =
-    subst (λ (n : ℕ). JoinsOver bound (Node t) down r n) (sym (some.1 ∙ own)) (node_joins bound t down r is (omega (arith, some.0, own)))
+pub node_within : (bound : ℕ) (t : Addr) (down : List Down) (r : BorderRow) (got : ℕ) (o : Option ℕ) → got ≡ r.cost → SomeIff o (got ≤ bound) got → MatchOption o (JoinsNothing bound (Node t) down r) (JoinsOver bound (Node t) down r)
+node_within bound t down r got None own above = node_above bound t down r (elim (cases_lt bound r.cost) [ inl less ↦ less | inr within ↦ absurd (above (omega (arith, within, own))) ])
+node_within bound t down r got (Some c) own some =
+    subst (λ (n : ℕ). JoinsOver bound (Node t) down r n) (sym (some.1 ∙ own)) (node_joins bound t down r (omega (arith, some.0, own)))
 
 pub next_within : (bound : ℕ) (b : As) (down : List Down) (r : BorderRow) (got rest more : ℕ) (o : Option ℕ) → got ≡ r.cost → more ≡ rest → IsDown (beyond down) r.head rest → SomeIff o (got + more ≤ bound) (got + more) →
     MatchOption o (JoinsNothing bound (Next b) down r) (JoinsOver bound (Next b) down r)
@@ -423,7 +427,7 @@ head_told : (bound : ℕ) (target : Target) (rows : List BorderRow) (down : List
 head_told bound (Node t) rows down e c exit None joins = tt
 head_told bound (Node t) rows down e c exit (Some head) joins = absurd joins
 head_told bound (Next b) rows down e c exit None joins = tt
-head_told bound (Next b) rows down e c exit (Some head) joins = told_at down head joins.1 joins.3.is_row
+head_told bound (Next b) rows down e c exit (Some head) joins = subst (λ (n : Addr). HasBranchAt down n) joins.1 (told_at down joins.0.row.head joins.0.beyond joins.0.is_down.is_row)
 
 pub heads_told : (bound : ℕ) (target : Target) (rows : List BorderRow) (down : List Branch) (best : List Best) → IsJoinOf bound target rows (downs down) best → All (λ row. IfSome row.head (HasBranchAt down)) best
 heads_told bound target rows down best is = each best (λ b has. head_told bound target rows down b.entry b.cost b.exit b.head (is.each b has))

@@ -7,7 +7,6 @@ ghost use Rattle.member_parts.specs.plant_model.Branches.{downs};
 ghost use Rattle.member_parts.specs.plant_model.Jobs.{IsJoinOf};
 ghost use Rattle.pce_element.specs.Joining.{IsJoinOfRow, JoinsNothing, JoinsOver, JoinsRow, TakesIn, head_over};
 
-use crate::looks::is_same_addr;
 use border_costs::Target;
 use dom_base::{Addr, BorderRow, Cost, List, NoMemory};
 use std::alloc::Global;
@@ -26,18 +25,13 @@ fn cost_from(down: &[Branch], node: Addr) -> Option<Cost>
     least
 }
 
-// The cost of the way that a row makes by itself: in the last domain its own, where it ends there, and else
+// The cost of the way that a row makes by itself: in the last domain its own, whatever its head, and else
 // with what lies beyond.
 fn joined_cost(cap: Cost, target: Target, row: &BorderRow, down: &[Branch]) -> Option<Cost>
     ensures { MatchOption result (JoinsNothing cap target (downs down.now) row.now) (JoinsOver cap target (downs down.now) row.now) }
 {
     match target {
-        Target::Node(_end) => {
-            if !is_same_addr(row.head, row.far) {
-                return None;
-            }
-            Cost::within(cap, row.cost.get())
-        }
+        Target::Node(_end) => Cost::within(cap, row.cost.get()),
         Target::Next(_next) => {
             let Some(rest) = cost_from(down, row.head) else {
                 return None;

@@ -264,3 +264,14 @@ pub takes_alone : (c : Codec) → IsCodec c → (n : NetworkParts) (es : List En
     (d : As) (p : Peer) (m : Message) (os : List Output) (older : Transcript) → Within (Takes d p m os ∷ older) (deeds_of c n es) → IsAlone m
 takes_alone c codec n es s run again d p m os older w =
     (Each-within IsAloneDeed (deeds_of c n es) (run_alone c codec n es s run again) (Takes d p m os) older w).0
+
+-- and so has each message that is sent
+in_alone : (os : List Output) → AllAlone os → (o : Output) → In o os → IsAlone o.message
+in_alone [] all o none = absurd none
+in_alone (x ∷ os) all o (inl is) = subst (λ (y : Output). IsAlone y.message) (sym is) all.0
+in_alone (x ∷ os) all o (inr there) = in_alone os all.1 o there
+
+pub sent_alone : (c : Codec) → IsCodec c → (n : NetworkParts) (es : List Entry) (s : Plant) → Run c n es s → AreReadAgain c (deeds_of c n es) →
+    (e : Deed Segment) (older : Transcript) → Within (e ∷ older) (deeds_of c n es) → (a : As) (o : Output) → In o (outputs_at a e) → IsAlone o.message
+sent_alone c codec n es s run again e older w a o there =
+    in_alone (outputs_at a e) (outputs_alone a e (Each-within IsAloneDeed (deeds_of c n es) (run_alone c codec n es s run again) e older w)) o there

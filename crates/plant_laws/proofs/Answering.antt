@@ -29,8 +29,11 @@ use Rattle.plant_model.specs.Plant.{Pin, Segment, Plant, Happened, Entry, Run, d
 use Rattle.plant_laws.specs.Transcript.{Transcript, Within, opened, after, effect, Effect, Keeps, Ends, Begins, ends_if, asks_effect, begins_if, begins, take_effect, cancels, count_answers, answers_to}
 use Rattle.plant_laws.proofs.Acts.{Acts, rests, hears, carries, nods, hands, rises, falls, says, clears, expires}
 use Rattle.plant_laws.specs.Chains.{is_pending}
-use Rattle.plant_laws.specs.Answered.{besides_asking, answers_in, DropsFor, cancelled, went_down, IsEnd, pending, answered, dropped, IsAnsweredOnce, RequestsAreAnsweredOnceIn}
+use Rattle.plant_laws.specs.Answered.{answers_of, AnswersFor, of_open, DropsFor, cancelled, went_down, IsEnd, pending, answered, dropped, IsAnsweredOnce, RequestsAreAnsweredOnceIn}
+use Rattle.plant_laws.proofs.Besides.{besides_asking, answers_in, own_none, no_more}
+use Rattle.plant_laws.proofs.Founded.{IsFounded, AreFounded, founded_within, run_founded}
 use Rattle.plant_laws.proofs.Induction.{run_holds}
+use Rattle.plant_laws.proofs.ReadBack.{run_single}
 use Rattle.plant_laws.proofs.Queues.{same_as_is}
 use Rattle.plant_laws.proofs.Handing.{Within-length}
 use Rattle.plant_laws.proofs.Sends.{Each, Each-within}
@@ -56,21 +59,6 @@ IsFairDeed (Ups at p) = Unit {0}
 IsFairDeed (Clears a b) = Unit {0}
 IsFairDeed (Expires now) = Unit {0}
 IsFairDeed (Hands i bytes) = Unit {0}
-
-pub own_none : (p : Peer) (o : Own) (q : Peer) (x : ℕ) → answers_to q x (record { to = p; message = own_message o } ∷ []) ≡ 0
-own_none p o q x = go (same_peer p q) o
-  where
-    go : (b : Bool) (o : Own) → cond b (count_answers x (own_message o)) 0 + 0 ≡ 0
-    go true (own.Open offer) = omega arith
-    go true own.Keepalive = omega arith
-    go true (own.Error kind value) = errs (nat_eq kind 8) (nat_eq value 0)
-      where
-        errs : (b b' : Bool) → (Rattle.plant_laws.specs.Transcript.one_if (cond (cond b (cond b' true false) false) false false) + 0) + 0 ≡ 0
-        errs true true = omega arith
-        errs true false = omega arith
-        errs false b' = omega arith
-    go true (own.Close why) = omega arith
-    go false o = omega arith
 
 -- ---- pending requests are in order in every state
 
@@ -279,20 +267,6 @@ module _ (c : Codec) (d : As) (p : Peer) (x : ℕ) where
   told from (messages.Close why) os fair = (λ ends. cc, λ keeps. ap (answers_to p x) fair)
   told from (messages.Other kind) os fair = (λ ends. cc, λ keeps. ap (answers_to p x) fair)
 
-  pub no_more : (from : Peer) (m : Message) → besides_asking p from m 0 ≡ 0
-  no_more from (messages.PcReq asks) = go (same_peer from p)
-    where
-      go : (b : Bool) → ◌≡◌ {A = ℕ} (cond b 0 0) 0
-      go true = refl
-      go false = refl
-  no_more from (messages.PcRep replies) = refl
-  no_more from (messages.PcErr reports) = refl
-  no_more from (messages.PcNtf notices) = refl
-  no_more from (messages.Open body) = refl
-  no_more from messages.Keepalive = refl
-  no_more from (messages.Close why) = refl
-  no_more from (messages.Other kind) = refl
-
   pub record Behaves (e : Deed Segment) : Type 0 where
     pub ends : effect c d p x e ≡ Ends → (answers_in d p x e ≡ 1) ⊎ ((answers_in d p x e ≡ 0) × DropsFor d p x e)
     pub silent : effect c d p x e ≢ Ends → answers_in d p x e ≡ 0
@@ -310,7 +284,7 @@ module _ (c : Codec) (d : As) (p : Peer) (x : ℕ) where
       go true is =
           let t = told from m os fair in
           (λ ends. elim (t.0 ends) [ inl one ↦ inl one | inr none ↦ inr (none.0, drops (same_as_is at d is) none.1 none.2 none.3 none.4) ], t.1)
-      go false is = (λ ends. cc, λ keeps. no_more from m)
+      go false is = (λ ends. cc, λ keeps. no_more p from m)
 
   behaves_downs : (at : As) (q : Peer) (os : List Output) → AtMostOne os → Behaves (Downs at q os)
   behaves_downs at q os most = let g = go (same_as at d) (same_peer q p) refl refl in record { ends = g.0; silent = g.1 }
@@ -350,6 +324,15 @@ module _ (c : Codec) (d : As) (p : Peer) (x : ℕ) where
   behaves (Clears a b) fair = record { ends = λ ends. cc; silent = λ keeps. refl }
   behaves (Expires now) fair = record { ends = λ ends. cc; silent = λ keeps. refl }
   behaves (Hands i bytes) fair = record { ends = λ ends. cc; silent = λ keeps. refl }
+
+  -- an answer to an open request ends it
+  pub must_end : (e : Deed Segment) → Behaves e → 1 ≤ answers_in d p x e → effect c d p x e ≡ Ends
+  must_end e behaves some = go (effect c d p x e) refl
+    where
+      go : (f : Effect) → effect c d p x e ≡ f → f ≡ Ends
+      go Ends is = refl
+      go Keeps is = absurd (let none = behaves.silent (λ ends. let out : Keeps ≡ Ends = sym is ∙ ends in cc) in omega (arith, none, some))
+      go Begins is = absurd (let none = behaves.silent (λ ends. let out : Begins ≡ Ends = sym is ∙ ends in cc) in omega (arith, none, some))
 
   -- ---- from the acceptance to the end
 
@@ -414,21 +397,59 @@ module _ (c : Codec) (d : As) (p : Peer) (x : ℕ) where
     | inr (inr w) ↦ absurd (not_twice at e'.deed e'.older e.older w e'.ends e'.is_open e.is_open)
   ]
 
-  pub answered_once : (now : Transcript) (s : Plant) → Each IsFairDeed now → ((at : Transcript) → opened c d p x now ≡ Some at → is_pending s d p x ≡ true) →
+  -- the end of a request is no message that asks
+  all_of : (e : Deed Segment) → effect c d p x e ≡ Ends → answers_of d p x e ≡ answers_in d p x e
+  all_of (Takes at from (messages.PcReq asks) os) ends = go (same_as at d) (same_peer from p) ends
+    where
+      go : (t u : Bool) → cond t (cond u (asks_effect c d x (answers_to p x os) asks) Keeps) Keeps ≡ Ends → answers_to p x (cond t os []) ≡ cond u 0 (answers_to p x (cond t os []))
+      go true true ends = absurd (asks_go_on (answers_to p x os) asks ends)
+      go false true ends = cc
+      go t false ends = refl
+  all_of (Takes at from (messages.PcRep replies) os) ends = refl
+  all_of (Takes at from (messages.PcNtf notices) os) ends = refl
+  all_of (Takes at from (messages.PcErr reports) os) ends = refl
+  all_of (Takes at from (messages.Open body) os) ends = refl
+  all_of (Takes at from messages.Keepalive os) ends = refl
+  all_of (Takes at from (messages.Close why) os) ends = refl
+  all_of (Takes at from (messages.Other kind) os) ends = refl
+  all_of (Says at o) ends = refl
+  all_of (Downs at q os) ends = refl
+  all_of (Solves at k os keys) ends = refl
+  all_of (Loads at g) ends = refl
+  all_of (Pops a b) ends = refl
+  all_of (Ups at q) ends = refl
+  all_of (Clears a b) ends = refl
+  all_of (Expires now) ends = refl
+  all_of (Hands i bytes) ends = refl
+
+  -- each answer has one request
+  each_for : (e : Deed Segment) (older : Transcript) → IsFairDeed e → IsFounded c e older → 1 ≤ answers_of d p x e → (answers_of d p x e ≡ 1) × AnswersFor c d p x older e
+  each_for e older fair founded some = elim (founded.asked d p x some) [
+    | inr told ↦ (omega (arith, told.0, some), told.1)
+    | inl counted ↦
+        let at = founded.found d p x counted in
+        let ends = must_end e (behaves e fair) counted in
+        elim ((behaves e fair).ends ends) [
+          | inl one ↦ (all_of e ends ∙ one, of_open at.0 at.1 ends)
+          | inr none ↦ absurd (let zero = none.0 in omega (arith, zero, counted))
+        ]
+  ]
+
+  pub answered_once : (now : Transcript) (s : Plant) → Each IsFairDeed now → AreFounded c now → ((at : Transcript) → opened c d p x now ≡ Some at → is_pending s d p x ≡ true) →
       (at : Transcript) → Within at now → opened c d p x at ≡ Some at → IsAnsweredOnce c now s d p x at
-  answered_once now s fair held at w is = record {
+  answered_once now s fair founded held at w is = record {
     fate = elim (lives now at w is) [
       | inl open' ↦ pending open' (held at open')
       | inr end ↦
           elim ((behaves end.deed (Each-within IsFairDeed now fair end.deed end.older end.within)).ends end.ends) [
-            | inl one ↦ answered end one
-            | inr none ↦ dropped end none.0 none.1
+            | inl one ↦ answered end (all_of end.deed end.ends ∙ one)
+            | inr none ↦ dropped end (all_of end.deed end.ends ∙ none.0) none.1
           ]
     ];
     one_end = one_end now at;
-    silent = λ e older w' open' keeps. (behaves e (Each-within IsFairDeed now fair e older w')).silent keeps;
+    each = λ e older w' some. each_for e older (Each-within IsFairDeed now fair e older w') (founded_within c now founded e older w') some;
   }
 
 pub requests_are_answered_once : WrittenNet RequestsAreAnsweredOnceIn
 requests_are_answered_once c codec n network es s run written d p x at w is =
-    answered_once c d p x (deeds_of c n es) s (run_kept c n es s run).1 (λ at' open'. (open_is_pending c codec n es s run written).pending d p x at' open') at w is
+    answered_once c d p x (deeds_of c n es) s (run_kept c n es s run).1 (run_founded c n es s run (run_single c n codec es s run written)) (λ at' open'. (open_is_pending c codec n es s run written).pending d p x at' open') at w is

@@ -41,7 +41,7 @@ use Rattle.plant_laws.proofs.Onward.{GoesTo}
 use Rattle.plant_laws.proofs.Given.{IsAsked}
 use Rattle.plant_laws.proofs.Causes.{IsOf, AsksFor, HasCause, run_has, none_in}
 
-flip_in : {A : Type 0} (x : A) (xs : List A) → In x xs → handing.In x xs
+pub flip_in : {A : Type 0} (x : A) (xs : List A) → In x xs → handing.In x xs
 flip_in x [] h = absurd h
 flip_in x (y ∷ ys) (inl e) = inl (sym e)
 flip_in x (y ∷ ys) (inr h) = inr (flip_in x ys h)

@@ -13,7 +13,8 @@ use Rattle.dom_base.specs.declared.query.Label.{Label}
 use Rattle.dom_base.specs.declared.query.Seed.{Seed}
 use Rattle.te_links.specs.declared.rows.OutLink.{OutLink}
 use Rattle.te_links.specs.Rows.{Rows, IsInOrder}
-use Rattle.walk_laws.specs.Borders.{IsDown, Joins}
+use Rattle.walk_laws.specs.Walks.{IsFeasible, IsLeast}
+use Rattle.walk_laws.specs.Borders.{IsBorderRow, IsDown, Joins}
 use Rattle.vspt_tree.specs.declared.branch.Best.{Best}
 use Rattle.border_costs.specs.declared.job.Target.{Target}
 use Rattle.border_costs.specs.declared.job.Target.TheVariants.{Node, Next}
@@ -59,28 +60,28 @@ module _ (g : Rows) (q : Query) (down : List Down) (border : List BorderRow) (en
   By target e c exit head = JoinsBy q.cap target border down e c exit head
 
   entry_of : (target : Target) → Each target → (e : Addr) (c : ℕ) (exit : Addr) (head : Option Addr) → By target e c exit head → Contains entries e
-  entry_of (Node t) each e c exit None j = (each (record { entry = e; far = exit; head = exit; cost = c }) j.0).0
+  entry_of (Node t) each e c exit None j = subst (λ (x : Addr). Contains entries x) j.at_entry (each j.row j.is_row).0
   entry_of (Node t) each e c exit (Some head) j = absurd j
   entry_of (Next b) each e c exit None j = absurd j
-  entry_of (Next b) each e c exit (Some head) j = (each (record { entry = e; far = exit; head = head; cost = j.0 }) j.2).0
+  entry_of (Next b) each e c exit (Some head) j = subst (λ (x : Addr). Contains entries x) j.0.at_entry (each j.0.row j.0.is_row).0
 
   to_joins : (b : As) → Each (Next b) → (e : Addr) (c : ℕ) (exit head : Addr) → By (Next b) e c exit (Some head) → Joins g q b (beyond down) e (record { cost = c; exit = exit })
   to_joins b each e c exit head j =
-      let row = (each (record { entry = e; far = exit; head = head; cost = j.0 }) j.2).1 in
+      let over = j.0 in
+      let row = (each over.row over.is_row).1 in
       record {
         out = row.out;
-        total = j.0;
-        row = row.row;
-        beyond = j.1;
-        is_down = subst (λ (n : Addr). IsDown (beyond down) n j.1) row.head j.3;
-        sum = j.4;
-        exit = row.far;
-        within = j.5;
+        total = over.row.cost;
+        row = subst (λ (x : Addr). IsBorderRow g q b x row.out over.row.cost) over.at_entry row.row;
+        beyond = over.beyond;
+        is_down = subst (λ (n : Addr). IsDown (beyond down) n over.beyond) row.head over.is_down;
+        sum = over.sum;
+        exit = over.exit ∙ row.far;
+        within = over.within;
       }
 
   none_is : (target : Target) → Each target → (e : Addr) → IsPairTo g q down e target None → (c : ℕ) (exit : Addr) (head : Option Addr) → By target e c exit head → ⊥
-  none_is (Node t) each e none c exit None j =
-      let row = (each (record { entry = e; far = exit; head = exit; cost = c }) j.0).1 in none row.links row.least.feasible
+  none_is (Node t) each e none c exit None j = let row = (each j.row j.is_row).1 in none row.links (subst (λ (x : Addr). IsFeasible g q x t row.links) j.at_entry row.least.feasible)
   none_is (Node t) each e none c exit (Some head) j = j
   none_is (Next b) each e none c exit None j = j
   none_is (Next b) each e none c exit (Some head) j = none (record { cost = c; exit = exit }) (to_joins b each e c exit head j)
@@ -88,11 +89,12 @@ module _ (g : Rows) (q : Query) (down : List Down) (border : List BorderRow) (en
   least_is : (target : Target) → Each target → (e : Addr) (l : Label) → IsPairTo g q down e target (Some l) → (c : ℕ) (exit : Addr) (head : Option Addr) → By target e c exit head →
       (l.cost < c) ⊎ ((l.cost ≡ c) × ((rank l.exit) ≤ (rank exit)))
   least_is (Node t) each e l pair c exit None j =
-      let row = (each (record { entry = e; far = exit; head = exit; cost = c }) j.0).1 in
-      let le = pair.least.least row.links row.least.feasible in
-      let ge = row.least.least pair.links pair.least.feasible in
-      let same : l.cost ≡ c = omega (arith, le, ge, pair.sum, row.sum) in
-      let at : (rank l.exit) ≡ (rank exit) = ap rank (pair.exit ∙ sym row.far) in
+      let row = (each j.row j.is_row).1 in
+      let least = subst (λ (x : Addr). IsLeast g q x t row.links) j.at_entry row.least in
+      let le = pair.least.least row.links least.feasible in
+      let ge = least.least pair.links pair.least.feasible in
+      let same : l.cost ≡ c = omega (arith, le, ge, pair.sum, row.sum, j.sum) in
+      let at : (rank l.exit) ≡ (rank exit) = ap rank (pair.exit ∙ sym row.far ∙ sym j.exit) in
       inr (same, omega (arith, at))
   least_is (Node t) each e l pair c exit (Some head) j = absurd j
   least_is (Next b) each e l pair c exit None j = absurd j
@@ -103,14 +105,32 @@ module _ (g : Rows) (q : Query) (down : List Down) (border : List BorderRow) (en
   pair_joins (Node t) every e l head is pair at =
       let row : BorderRow = record { entry = e; far = l.exit; head = l.exit; cost = l.cost } in
       subst (λ (o : Option Addr). By (Node t) e l.cost l.exit o) (sym at)
-      (every row is (record { links = pair.links; least = pair.least; sum = pair.sum; far = pair.exit; head = pair.exit }), omega (arith, pair.sum, pair.least.feasible.within))
+      (record {
+        row = row;
+        is_row = every row is (record { links = pair.links; least = pair.least; sum = pair.sum; far = pair.exit; head = pair.exit });
+        at_entry = refl;
+        sum = refl;
+        exit = refl;
+        within = omega (arith, pair.sum, pair.least.feasible.within);
+      })
   pair_joins (Next b) every e l head is pair at =
       let j = pair.0 in
       let row : BorderRow = record { entry = e; far = l.exit; head = j.out.link.to; cost = j.total } in
       let same : at.out ≡ j.out = one_out g.outs order.outs at.out j.out at.least.out.is_out j.row.out.is_out (at.is_exit ∙ j.exit) in
       let head_is : head ≡ Some j.out.link.to = at.is_head ∙ ap (λ (o : OutLink). let x : Option Addr = Some o.link.to in x) same in
-      subst (λ (o : Option Addr). By (Next b) e l.cost l.exit o) (sym head_is)
-      (j.total, j.beyond, every row is (record { out = j.out; row = j.row; far = j.exit; head = refl }), j.is_down, j.sum, j.within)
+      subst (λ (o : Option Addr). By (Next b) e l.cost l.exit o) (sym head_is) (
+        record {
+          row = row;
+          is_row = every row is (record { out = j.out; row = j.row; far = j.exit; head = refl });
+          at_entry = refl;
+          beyond = j.beyond;
+          is_down = j.is_down;
+          sum = j.sum;
+          exit = refl;
+          within = j.within;
+        },
+        refl,
+      )
 
 -- the rows that were found, by their entries
 module _ (g : Rows) (a : Ask) (seeds : List Seed) where

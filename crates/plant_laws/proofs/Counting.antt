@@ -16,6 +16,7 @@ use Rattle.pcep_messages.specs.declared.message.Wanted.{Wanted}
 use Rattle.pcep_messages.specs.declared.message.Wish.{Wish}
 use Rattle.pcep_messages.specs.declared.message.Wish.TheVariants.{Path, Expand}
 use Rattle.disclosure.specs.declared.class.Class.{Class}
+use Rattle.request_table.proofs.KeyLemmas.{same_peer_self}
 use Rattle.request_table.specs.declared.held.Held.{Held}
 use Rattle.request_table.specs.Pending.{Pending, ArePending, same_peer, same_key, key_of, number_of, is_full}
 use Rattle.plant_model.specs.declared.output.Output.{Output}
@@ -29,7 +30,7 @@ use Rattle.plant_model.specs.Taking.{take, take_asked, take_checked, take_new, t
 use Rattle.vspt_tree.specs.declared.branch.Best.{Best}
 use Rattle.vspt_tree.specs.declared.branch.Branch.{Branch}
 use Rattle.plant_model.specs.Solving.{commit, closed_reply, client_reply, closed_paths, issued_all, free}
-use Rattle.plant_laws.specs.Answered.{besides_asking}
+use Rattle.plant_laws.proofs.Besides.{besides_asking}
 use Rattle.plant_laws.specs.Transcript.{one_if, count_answers, answers_to}
 use Rattle.plant_laws.proofs.Handing.{In}
 use Rattle.plant_laws.proofs.RowCounts.{named, count, count_once, one_if_le, removed, removed_less, rewritten, ended_pending, item_pending, begun_pending, filter_pending}
@@ -352,6 +353,38 @@ module _ (P : Type 0) (S : Type 0) where
           once_pick (nat_lt (free now k.keys) (length (b ∷ bs))) _ _
           (once_answered h (busy h.1.item.flags h.1.key.id) k are (busy_at h.1.item.flags h.1.key.id))
           (once_answered h (reply_message h.1.item.flags h.1.key.id paths) (record k { keys = issued_all now stands (b ∷ bs) k.keys }) are (reply_at h.1.item.flags h.1.key.id paths))
+
+  -- which answers the request of its row
+  abbrev pub Answers : Row P → Taken P S → Type 0
+  Answers h t = answers_to h.1.key.peer h.1.key.id t.outputs ≡ 1
+
+  answers_pick : (h : Row P) (b : Bool) (t u : Taken P S) → Answers h t → Answers h u → Answers h (cond b t u)
+  answers_pick h true t u g g' = g
+  answers_pick h false t u g g' = g'
+
+  answers_by : (h : Row P) (m : Message) (k : Element P S) → count_answers h.1.key.id m ≡ 1 → Answers h (answered h m k)
+  answers_by h m k one = ap (λ (b : Bool). cond b (count_answers h.1.key.id m) 0 + 0) (same_peer_self h.1.key.peer) ∙ omega (arith, one)
+
+  reply_answers : (h : Row P) (answer : Answer) (k : Element P S) → Answers h (answered h (reply_message h.1.item.flags h.1.key.id answer) k)
+  reply_answers h answer k = answers_by h (reply_message h.1.item.flags h.1.key.id answer) k (ap (λ (b : Bool). one_if b + 0) (eq-eqb h.1.key.id h.1.key.id refl))
+
+  busy_answers : (h : Row P) (k : Element P S) → Answers h (answered h (busy h.1.item.flags h.1.key.id) k)
+  busy_answers h k = answers_by h (busy h.1.item.flags h.1.key.id) k (ap (λ (b : Bool). one_if (cond b true false) + 0) (eq-eqb h.1.key.id h.1.key.id refl))
+
+  pub commit_answers : (c : Codec) (e : Place) (h : Row P) (down : List Branch) (now : ℕ) (stands : Best → S) (source_known target_known : Bool) (best : List Best) (k : Element P S) →
+      Answers h (commit c e h down now stands source_known target_known best k)
+  commit_answers c e h down now stands source_known target_known best k =
+      answers_pick h (is_client h.1.item.class) _ (closed_reply c e h down now stands k best) (client best) (closed best)
+    where
+      client : (best : List Best) → Answers h (answered h (client_reply c h down source_known target_known best) k)
+      client [] = reply_answers h (no_path source_known target_known) k
+      client (b ∷ bs) = reply_answers h (Paths (path_of c h.1.item.wanted.query.metric b.cost (open_branch b down) ∷ [])) k
+
+      closed : (best : List Best) → Answers h (closed_reply c e h down now stands k best)
+      closed [] = reply_answers h (no_path true true) k
+      closed (b ∷ bs) =
+          answers_pick h (nat_lt (free now k.keys) (length (b ∷ bs))) _ _ (busy_answers h k)
+          (reply_answers h (Paths (closed_paths c e.id h.1.item.wanted.query.metric h.1.item.wanted.target down k.keys.next (b ∷ bs))) (record k { keys = issued_all now stands (b ∷ bs) k.keys }))
 
   -- a session that goes down
   pub lost_answers : (p : Peer) (rows : List (Row P)) (q : Peer) (x : ℕ) → answers_to q x (map lost_output (lost p rows)) ≤ count q x rows

@@ -23,7 +23,7 @@ use Rattle.plant_model.specs.Element.{Way, lost_output, with_last}
 use Rattle.plant_model.specs.Taking.{error_answer}
 use Rattle.plant_model.specs.BorderGraph.{Found}
 use Rattle.plant_model.specs.Parent.{Wait, AskingRow, Parent, Family, Given, Errand, silent, only, each, errands, ask_all, all_waits, next_id, among, waiting, all_up, take, take_asked, take_checked, take_new, take_wish, take_path, answered, gathered, gathers, take_answer, take_found, take_reply, take_busy, take_cancel, told_busy, cancelled, take_notice, notice_steps, take_report, take_errors, take_failure, told_error, commit, downed, lost, is_lost, stays}
-use Rattle.plant_laws.specs.Answered.{besides_asking}
+use Rattle.plant_laws.proofs.Besides.{besides_asking}
 use Rattle.plant_laws.specs.Transcript.{one_if, count_answers, answers_to}
 use Rattle.plant_laws.proofs.Handing.{In}
 use Rattle.plant_laws.proofs.RowCounts.{count, count_once, one_if_le, removed, removed_less, rewritten, ended_pending, item_pending, begun_pending, filter_pending}

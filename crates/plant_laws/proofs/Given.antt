@@ -36,11 +36,19 @@ use Rattle.plant_model.specs.BorderGraph.{SolvesBorder, Found}
 use Rattle.plant_model.specs.Parent.{Asking, AskingRow, Parent, Errand, errands, job_of}
 use Rattle.plant_model.specs.Parent as parent
 use Rattle.plant_laws.specs.Tables.{IsTakenAbove}
-use Rattle.plant_laws.specs.About.{IsGathered, HasReplied}
+use Rattle.plant_laws.specs.About.{IsPathAnswer, IsGathered, HasReplied}
 use Rattle.plant_laws.specs.Transcript.{opened, Transcript, Within, Standing, standing, outputs_at, pinned, SentIn}
 use Rattle.plant_laws.specs.Pending.{IsTaken}
 use Rattle.plant_laws.specs.Topologies.{IsDomain}
 use Rattle.plant_laws.specs.Certified.{Tells, IsServed}
+
+-- In this moment d sends a peer a message with this reply alone.
+pub record RepliesAlone (now m older : Transcript) (d : As) (p : Peer) (r : Reply) : Type 0 where
+  pub deed : PlantDeed
+  pub is : m ≡ deed ∷ older
+  pub within : Within m now
+  pub sent : Contains (outputs_at d deed) (record { to = p; message = messages.PcRep (r ∷ []) })
+  pub answer : IsPathAnswer r
 
 -- a pending request of an element that is ready: how it came to its branches
 pub record IsReadied (c : Codec) (n : NetworkParts) (now : Transcript) (d : As) (h : Row Pin) (down : List Branch) : Type 0 where

@@ -27,14 +27,14 @@ use Rattle.plant_model.specs.Plant.{Segment, PlantDeed}
 use Rattle.plant_model.specs.Laws.{IsCodec}
 use Rattle.plant_laws.specs.Transcript.{Transcript, Within, outputs_at, opened, Delivered, Leg}
 use Rattle.plant_model.specs.BorderGraph.{Found}
-use Rattle.plant_laws.specs.About.{Replies, IsAbout, IsViaParent}
+use Rattle.plant_laws.specs.About.{AreSolved, IsAbout, IsViaParent}
 use Rattle.plant_laws.proofs.ViaParent.{FoundTells, passed_on}
 use Rattle.plant_laws.specs.Ends.{Inside}
 use Rattle.plant_laws.specs.Replies.{IsRightful, AreRightful}
 use Rattle.plant_laws.specs.Headline.{IsOfParent, IsOfChain, HasNoneOfChain}
 use Rattle.plant_laws.proofs.Moments.{no_more}
 use Rattle.plant_laws.proofs.Told.{apart}
-use Rattle.plant_laws.proofs.Given.{Given, IsSolved}
+use Rattle.plant_laws.proofs.Given.{Given, IsSolved, RepliesAlone}
 use Rattle.plant_laws.proofs.ClosedReplies.{has_paths, IsReplyOf, Opens, closes, opens, goes_to}
 use Rattle.plant_laws.proofs.LeastChains.{neighbour_stays, leg, Chained, solve_chained}
 use Rattle.plant_laws.specs.Certified.{Tells}
@@ -79,6 +79,7 @@ module _ (c : Codec) (codec : IsCodec c) (n : NetworkParts) (now : Transcript) (
         rest = ch.chain;
         begins = refl;
         chained = ch.chained;
+        solved = subst (λ (q : Peer). AreSolved c q (one ∷ ch.chain)) to ch.ends;
         along = ch.along;
       }
 
@@ -99,7 +100,7 @@ module _ (c : Codec) (codec : IsCodec c) (n : NetworkParts) (now : Transcript) (
       solve_opens client = opens c n d k x.held x.down x.now x.element x.rows.source_known x.rows.target_known one ch.chain (Inside x.held.item.wanted.target) p r paths x.rows.best (ap is_client class ∙ client) ch.ways said_of tells
 
     -- what an element tells a closed peer
-    pub closed_rightful : (m older : Transcript) → is_closed n p ≡ true → Replies now m older d p r → IsRightful c n older m d p r paths
+    pub closed_rightful : (m older : Transcript) → is_closed n p ≡ true → RepliesAlone now m older d p r → IsRightful c n older m d p r paths
     closed_rightful m older closed replies =
         let e_now = subst (λ (t : Transcript). Within t now) replies.is replies.within in
         elim (given.replied replies.deed older d p r paths real e_now replies.sent tells) [
@@ -134,7 +135,7 @@ module _ (c : Codec) (codec : IsCodec c) (n : NetworkParts) (now : Transcript) (
       pub via : IsViaParent c n older m d p r.id found
       pub shows : FoundTells c via.asked found r.answer
 
-    pub client_answered : (m older : Transcript) → is_client (class_of n p) ≡ true → Replies now m older d p r → IsOfSolve m older ⊎ FromParent m older
+    pub client_answered : (m older : Transcript) → is_client (class_of n p) ≡ true → RepliesAlone now m older d p r → IsOfSolve m older ⊎ FromParent m older
     client_answered m older client replies =
         let e_now = subst (λ (t : Transcript). Within t now) replies.is replies.within in
         elim (given.replied replies.deed older d p r paths real e_now replies.sent tells) [
@@ -167,21 +168,21 @@ module _ (c : Codec) (codec : IsCodec c) (n : NetworkParts) (now : Transcript) (
 
 -- The four statements, over what is given of a run.
 module _ (c : Codec) (codec : IsCodec c) (n : NetworkParts) (now : Transcript) (given : Given c n now) (m older : Transcript) (d : As) where
-  pub least_replies : (p : Peer) (r : Reply) → d ≢ parent_as → is_closed n p ≡ true → Replies now m older d p r → (paths : List Path) → r.answer ≡ Paths paths → IsRightful c n older m d p r paths
+  pub least_replies : (p : Peer) (r : Reply) → d ≢ parent_as → is_closed n p ≡ true → RepliesAlone now m older d p r → (paths : List Path) → r.answer ≡ Paths paths → IsRightful c n older m d p r paths
   least_replies p r real closed replies paths is =
       closed_rightful c codec n now given d real p r paths (subst (λ (a : Answer). Tells a paths) (sym is) refl) m older closed replies
 
-  pub none_replies : (p : Peer) (r : Reply) → d ≢ parent_as → is_closed n p ≡ true → Replies now m older d p r → (vector : ℕ) → r.answer ≡ NoPath 0 vector → IsRightful c n older m d p r []
+  pub none_replies : (p : Peer) (r : Reply) → d ≢ parent_as → is_closed n p ≡ true → RepliesAlone now m older d p r → (vector : ℕ) → r.answer ≡ NoPath 0 vector → IsRightful c n older m d p r []
   none_replies p r real closed replies vector is =
       closed_rightful c codec n now given d real p r [] (subst (λ (a : Answer). Tells a []) (sym is) (refl, refl)) m older closed replies
 
   -- the parent has no outside peers
-  pub element_answers : (i : ℕ) (r : Reply) (paths : List Path) → Tells r.answer paths → Replies now m older d (Outside i) r → d ≢ parent_as
+  pub element_answers : (i : ℕ) (r : Reply) (paths : List Path) → Tells r.answer paths → RepliesAlone now m older d (Outside i) r → d ≢ parent_as
   element_answers i r paths tells replies same =
       given.inside replies.deed older i r paths (subst (λ (t : Transcript). Within t now) replies.is replies.within)
       (subst (λ (a : As). Contains (outputs_at a replies.deed) (record { to = Outside i; message = messages.PcRep (r ∷ []) })) same replies.sent) tells
 
-  pub least_answers : (i : ℕ) (r : Reply) → is_client (class_of n (Outside i)) ≡ true → Replies now m older d (Outside i) r → (paths : List Path) → r.answer ≡ Paths paths →
+  pub least_answers : (i : ℕ) (r : Reply) → is_client (class_of n (Outside i)) ≡ true → RepliesAlone now m older d (Outside i) r → (paths : List Path) → r.answer ≡ Paths paths →
       IsOfParent c n older m d i r paths ⊎ IsOfChain c n older m d i r paths
   least_answers i r client replies paths is =
       let tells : Tells r.answer paths = subst (λ (a : Answer). Tells a paths) (sym is) refl in
@@ -210,7 +211,7 @@ module _ (c : Codec) (codec : IsCodec c) (n : NetworkParts) (now : Transcript) (
       }
       by_opens x (inr none) = absurd (apart (ap has_paths (sym is) ∙ none.1))
 
-  pub none_answers : (i : ℕ) (r : Reply) → is_client (class_of n (Outside i)) ≡ true → Replies now m older d (Outside i) r → (vector : ℕ) → r.answer ≡ NoPath 0 vector →
+  pub none_answers : (i : ℕ) (r : Reply) → is_client (class_of n (Outside i)) ≡ true → RepliesAlone now m older d (Outside i) r → (vector : ℕ) → r.answer ≡ NoPath 0 vector →
       IsViaParent c n older m d (Outside i) r.id None ⊎ HasNoneOfChain c n older m d i r
   none_answers i r client replies vector is =
       let tells : Tells r.answer [] = subst (λ (a : Answer). Tells a []) (sym is) (refl, refl) in

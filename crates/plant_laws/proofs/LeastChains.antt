@@ -2,6 +2,7 @@
 use Rattle.std.proofs.Common.{◌≡◌, ◌≢◌, ◌≤◌, ◌<◌, ◌^◌, ℕ, zero, suc, Bool, true, false, cond, List, [], ◌∷◌, length, sym, ◌∙◌, ap, subst, inl, inr, refl, arith}
 use Rattle.std.specs.Prelude.{Contains, Some}
 use Rattle.std.specs.declared.option.Option.{Option}
+use Rattle.std.proofs.lemmas.Bool.{eq-eqb}
 use Rattle.dom_base.specs.declared.limits.TheConstants.{COST_MAX}
 use Rattle.dom_base.specs.declared.addr.Addr.{Addr}
 use Rattle.dom_base.specs.declared.names.As.{As}
@@ -34,13 +35,14 @@ use Rattle.plant_text.specs.Settings.{class_of}
 use Rattle.plant_model.specs.Settings.{place}
 use Rattle.plant_model.specs.Jobs.{ask_of, entries_of}
 use Rattle.plant_model.specs.State.{Pops, Takes, Solves}
-use Rattle.plant_model.specs.Plant.{Segment, PlantDeed}
+use Rattle.plant_model.specs.Plant.{Pin, Segment, PlantDeed}
 use Rattle.plant_model.specs.Laws.{IsCodec, Admits}
-use Rattle.plant_laws.specs.Transcript.{Transcript, Within, Standing, outputs_at, SentIn, Handed, Delivered, Leg, Chain, numbers, pinned, domains}
+use Rattle.plant_laws.specs.Transcript.{Transcript, Within, Standing, outputs_at, SentIn, Handed, Delivered, Leg, Chain, numbers, pinned, domains, Keeps, ends_if, answers_to}
 use Rattle.plant_laws.specs.Ends.{End, Inside, goal_of}
-use Rattle.plant_laws.specs.About.{IsLeastPath}
+use Rattle.plant_laws.specs.About.{IsSolvedFor, AreSolved, IsLeastPath}
 use Rattle.plant_laws.specs.Replies.{AreRightful}
 use Rattle.border_costs.proofs.Members.{contains_head}
+use Rattle.plant_laws.proofs.Counting.{commit_answers}
 use Rattle.plant_laws.proofs.Queues.{same_as_is}
 use Rattle.plant_laws.proofs.Moments.{within_here, within_trans, within_length, standing_put, opened_within, chain_later, no_more}
 use Rattle.plant_laws.proofs.OwnFree.{crossing_free, along_free, none_free, shows_free}
@@ -97,9 +99,26 @@ module _ (c : Codec) (codec : IsCodec c) (n : NetworkParts) (now : Transcript) (
   abbrev pub leg : As → ℕ → List Output → List (Issued Segment) → Transcript → Transcript → Leg
   leg d k os keys older at = record { own = d; at = at; solved = Solves d k os keys ∷ older }
 
+  -- the solve ended its own request
+  pub solved_for : (d : As) (k : ℕ) (os : List Output) (keys : List (Issued Segment)) (older : Transcript) (x : Solved d k os keys older) → IsSolvedFor c x.held.key.peer (leg d k os keys older x.taken.at)
+  solved_for d k os keys older x = record {
+    number = k;
+    outputs = os;
+    keys = keys;
+    before = older;
+    is = refl;
+    id = x.held.key.id;
+    is_open = x.taken.is_open;
+    ends =
+        ap (λ (b : Bool). cond b (ends_if (answers_to x.held.key.peer x.held.key.id os)) Keeps) (eq-eqb d.0 d.0 refl)
+        ∙ ap (λ (l : List Output). ends_if (answers_to x.held.key.peer x.held.key.id l)) x.sends
+        ∙ ap ends_if (commit_answers Pin Segment c (place n d) (k, x.held) x.down x.now (λ z. z.segment) x.rows.source_known x.rows.target_known x.rows.best x.element);
+  }
+
   pub record Chained (d : As) (k : ℕ) (os : List Output) (keys : List (Issued Segment)) (older : Transcript) (x : Solved d k os keys older) : Type 0 where
     pub chain : List Leg
     pub chained : Chain (Solves d k os keys ∷ older) (leg d k os keys older x.taken.at ∷ chain)
+    pub ends : AreSolved c x.held.key.peer (leg d k os keys older x.taken.at ∷ chain)
     pub along : numbers (leg d k os keys older x.taken.at ∷ chain) ≡ sequence_or d x.held.item.wanted.sequence
     pub ways : AreWays n x.held.item.wanted (Inside x.held.item.wanted.target) (leg d k os keys older x.taken.at) chain x.down (entries_of x.held.item.class x.held.item.wanted.source (pinned d x.taken.at)) x.rows.best
 
@@ -110,6 +129,7 @@ module _ (c : Codec) (codec : IsCodec c) (n : NetworkParts) (now : Transcript) (
     pub chain : List Leg
     pub handed : Handed d b at at_next
     pub chained : Chain older (record { own = b; at = at_next; solved = solved } ∷ chain)
+    pub ends : AreSolved c (Inner d) (record { own = b; at = at_next; solved = solved } ∷ chain)
     pub along : numbers (record { own = b; at = at_next; solved = solved } ∷ chain) ≡ b ∷ rest
     pub told : IsTold c n d (record { own = b; at = at_next; solved = solved }) chain (Inside w.target) w paths
 
@@ -163,6 +183,7 @@ module _ (c : Codec) (codec : IsCodec c) (n : NetworkParts) (now : Transcript) (
         record {
           chain = [];
           chained = (inr at_within, inl refl);
+          ends = (solved_for d k os keys older x, tt);
           along = sym is;
           ways = subst (λ (l : List Branch). AreWays n w (Inside w.target) one [] l entries x.rows.best) (sym none) ways;
         }
@@ -179,6 +200,7 @@ module _ (c : Codec) (codec : IsCodec c) (n : NetworkParts) (now : Transcript) (
         record {
           chain = next ∷ beyond.chain;
           chained = (inr at_within, inl refl, beyond.handed, chain_later (next ∷ beyond.chain) older (Solves d k os keys ∷ older) (inr (within_here older)) beyond.chained);
+          ends = (solved_for d k os keys older x, beyond.ends);
           along = ap (λ (l : List As). d ∷ l) beyond.along ∙ sym is;
           ways = subst (λ (l : List Branch). AreWays n w (Inside w.target) one (next ∷ beyond.chain) l entries x.rows.best) (sym answered.is) ways;
         }
@@ -262,6 +284,7 @@ module _ (c : Codec) (codec : IsCodec c) (n : NetworkParts) (now : Transcript) (
               chain = ch.chain;
               handed = same.handed;
               chained = chain_later chain (Solves b k' os' keys' ∷ older') older inside ch.chained;
+              ends = subst (λ (p : Peer). AreSolved c p chain) to_here ch.ends;
               along = ch.along ∙ ap (λ (v : Wanted). sequence_or b v.sequence) wanted;
               told = told_of c n d w b rest (leg b k' os' keys' older' at') ch.chain (Inside w.target) answered.paths right;
             }

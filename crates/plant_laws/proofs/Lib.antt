@@ -20,6 +20,7 @@ pub mod Viewed
 pub mod SaysBlind
 pub mod OneThing
 pub mod OneBest
+pub mod OneStep
 pub mod TwinsAlike
 pub mod KeysKept
 pub mod Calm
@@ -96,6 +97,7 @@ pub mod SolveMoments
 pub mod Gathers
 pub mod ParentRows
 pub mod Causes
+pub mod AskedAnew
 pub mod AskedRuns
 pub mod GatheredRuns
 pub mod OfRun
@@ -128,6 +130,7 @@ pub mod Counted
 pub mod NumberRuns
 pub mod Numbers
 pub mod InForm
+pub mod Besides
 pub mod BestFits
 pub mod ElementSays
 pub mod ParentSays

@@ -22,7 +22,7 @@ use Rattle.plant_model.specs.State.{Loads, Pops, Takes, Says, Ups, Downs, Clears
 use Rattle.plant_model.specs.Plant.{PlantDeed, deeds_of}
 use Rattle.plant_laws.specs.Transcript.{Transcript, Within, opened, Effect, Keeps, Ends, Begins, effect, after, Delivered, outputs_at, put_into, left_of, standing_of, Standing, standing, Handed, SentIn, asks, count_asks, answers_to, count_answers, one_if}
 use Rattle.plant_laws.specs.About.{IsShort}
-use Rattle.plant_laws.specs.Answered.{besides_asking, answers_in}
+use Rattle.plant_laws.proofs.Besides.{besides_asking, answers_in}
 use Rattle.plant_laws.specs.Matched.{ends, at_once, RepliesMatchIn, IsReplyTo, RepliesAnswerIn}
 use Rattle.plant_laws.proofs.Queues.{same_as_is}
 use Rattle.plant_laws.proofs.Rows.{In, in_of, in_append}
@@ -31,12 +31,12 @@ use Rattle.plant_laws.proofs.ReadBack.{StoodFirst, AreRead, read_deed, run_read,
 use Rattle.plant_laws.proofs.SentOn.{same_peer_is}
 use Rattle.plant_laws.proofs.Waits.{waits_are_sent}
 use Rattle.plant_laws.proofs.Sends.{Each-within}
-use Rattle.plant_laws.proofs.Answering.{IsFairDeed, Behaves, behaves, run_kept}
+use Rattle.plant_laws.proofs.Answering.{IsFairDeed, Behaves, behaves, run_kept, must_end}
 use Rattle.plant_laws.proofs.NumberRuns.{AreNumbered, IsNumbered, IsKnown, peer_self, run_last}
 use Rattle.plant_laws.proofs.AtOnce.{EachReply, Tells, DeedTells, run_tells}
 use Rattle.plant_laws.proofs.Readings.{messages_are_read}
 use Rattle.plant_laws.proofs.Counted.{low_of, numbered_within, asks_within, ids_differ}
-use Rattle.plant_laws.proofs.Founded.{IsFounded, AreFounded, run_founded}
+use Rattle.plant_laws.proofs.Founded.{founded_within, run_founded}
 use Rattle.plant_laws.proofs.SentOnAsks.{ends_are}
 use Rattle.plant_laws.proofs.WhereWritten.{WrittenIds}
 
@@ -119,15 +119,6 @@ counts a b y (Ups at q) some = inl some
 counts a b y (Clears f t) some = inl some
 counts a b y (Expires now) some = inl some
 counts a b y (Hands i bytes) some = inl some
-
--- an answer to an open request ends it
-must_end : (c : Codec) (d : As) (p : Peer) (x : ℕ) (e : PlantDeed) → Behaves c d p x e → 1 ≤ answers_in d p x e → effect c d p x e ≡ Ends
-must_end c d p x e behaves some = go (effect c d p x e) refl
-  where
-    go : (f : Effect) → effect c d p x e ≡ f → f ≡ Ends
-    go Ends is = refl
-    go Keeps is = absurd (let none = behaves.silent (λ ends. let out : Keeps ≡ Ends = sym is ∙ ends in cc) in omega (arith, none, some))
-    go Begins is = absurd (let none = behaves.silent (λ ends. let out : Begins ≡ Ends = sym is ∙ ends in cc) in omega (arith, none, some))
 
 -- ---- the moment that delivered it
 
@@ -265,14 +256,6 @@ module _ (c : Codec) (codec : IsCodec c) (a b : As) (now : Transcript) (numbers 
       once_by r asks os older w' (single older w') (subst (λ (e : PlantDeed). DeedTells c e) is tells)
       (subst (λ (l : List Output). In {A = Output} (record { to = Inner a; message = messages.PcRep (r ∷ []) }) l) (rw (as_self b) refl) (subst (λ (e : PlantDeed). In {A = Output} (record { to = Inner a; message = messages.PcRep (r ∷ []) }) (outputs_at b e)) is i)))
 
-founded_within : (c : Codec) (now : Transcript) → AreFounded c now → (e : PlantDeed) (older : Transcript) → Within (e ∷ older) now → IsFounded c e older
-founded_within c [] all e older w = absurd (let out : e ∷ older ≡ [] = w in cc)
-founded_within c (d ∷ ds) all e older (inl is) =
-    let heads : e ≡ d = cc in
-    let tails : older ≡ ds = cc in
-    subst (λ (x : PlantDeed). IsFounded c x older) (sym heads) (subst (λ (l : Transcript). IsFounded c d l) (sym tails) all.0)
-founded_within c (d ∷ ds) all e older (inr w) = founded_within c ds all.1 e older w
-
 pub replies_match : WrittenIds RepliesMatchIn
 replies_match c codec n es s run written short a b real r put there h i waits =
     let now = deeds_of c n es in
@@ -298,7 +281,7 @@ replies_match c codec n es s run written short a b real r put there h i waits =
             let same = (ids_differ c a b now numbers of.0 sent.at of.1 sending_in r.id of.3 h.1.item.wanted of.4 h.1.item.wanted.target of.5 sent.rest of.6 sent.sent).0 in
             at_once once.0 once.1 once.2 (subst (λ (l : Transcript). Handed a b l (was.deed ∷ was.older)) same of.2)
         | inl counted ↦
-            let found = founded_within c now (run_founded c n es s run single) was.deed was.older was.within b (Inner a) r.id counted in
+            let found = (founded_within c now (run_founded c n es s run single) was.deed was.older was.within).found b (Inner a) r.id counted in
             let fair = Each-within IsFairDeed now (run_kept c n es s run).1 was.deed was.older was.within in
             let at_in = within_tail was.deed was.older now was.within found.0 (opened_within c b (Inner a) r.id was.older found.0 found.1) in
             let of = delivered_by c codec a b now numbers short read r.id found.0 found.2 at_in found.3 found.4 in
@@ -337,7 +320,7 @@ replies_answer c codec n es s run written short a b real r os older w = first ol
                 let of = once_deed c codec a b now numbers short read r once.0 once.1 was.deed was.older once.2 inside (λ l v. (messages_are_read c codec n es s run written).single b (Inner a) once.0 once.1 l v) tells was.sent in
                 record { sending = of.0; wanted = of.3; target = of.4; rest = of.5; sent = of.6; answering = at_once once.0 once.1 once.2 of.2 }
             | inl counted ↦
-                let found = founded_within c now (run_founded c n es s run single) was.deed was.older inside b (Inner a) r.id counted in
+                let found = (founded_within c now (run_founded c n es s run single) was.deed was.older inside).found b (Inner a) r.id counted in
                 let fair = Each-within IsFairDeed now (run_kept c n es s run).1 was.deed was.older inside in
                 let at_in = within_tail was.deed was.older now inside found.0 (opened_within c b (Inner a) r.id was.older found.0 found.1) in
                 let of = delivered_by c codec a b now numbers short read r.id found.0 found.2 at_in found.3 found.4 in

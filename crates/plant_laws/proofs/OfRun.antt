@@ -1,5 +1,5 @@
 -- What is given of a run, from the laws on its pending requests, its readings and its ids; and the theorems on least costs for runs.
-use Rattle.std.proofs.Common.{◌≡◌, ◌≢◌, ◌⊎◌, ℕ, cond, List, [], ◌∷◌, sym, ◌∙◌, ap, subst, inl, inr, refl}
+use Rattle.std.proofs.Common.{◌≡◌, ◌≢◌, ◌⊎◌, ◌≤◌, ℕ, cond, List, [], ◌∷◌, length, sym, ◌∙◌, ap, subst, inl, inr, refl, arith}
 use Rattle.std.specs.Prelude.{Contains, Option, Some}
 use Rattle.std.proofs.lemmas.Bool.{eq-eqb}
 use Rattle.dom_base.specs.declared.names.As.{As}
@@ -25,25 +25,27 @@ use Rattle.plant_model.specs.Plant.{Pin, Segment, Plant, PlantDeed, Happened, En
 use Rattle.plant_model.specs.Laws.{IsCodec, IsNetwork}
 use Rattle.plant_laws.specs.Transcript.{Transcript, Within, opened, outputs_at, Delivered}
 use Rattle.plant_laws.specs.Sending.{AllSent}
-use Rattle.plant_laws.specs.About.{IsGathered, HasReplied, IsShort}
+use Rattle.plant_laws.specs.About.{Replies, IsGathered, HasReplied, IsShort}
 use Rattle.plant_laws.specs.Replies.{LeastRepliesIn, NoneRepliesIn}
 use Rattle.plant_laws.specs.Headline.{LeastAnswersIn, NoneAnswersIn}
 use Rattle.plant_laws.proofs.Headline.{least_replies, none_replies, least_answers, none_answers, element_answers}
-use Rattle.plant_laws.proofs.Rows.{In}
+use Rattle.plant_laws.proofs.Rows.{In, in_of}
 use Rattle.plant_laws.proofs.OpenedRuns.{lookup_in}
 use Rattle.plant_laws.proofs.OpenTables.{open_is_pending}
 use Rattle.plant_laws.proofs.Readings.{messages_are_read}
 use Rattle.plant_laws.proofs.Topologies.{pins_are_domains}
-use Rattle.border_costs.proofs.Members.{contains_head, contains_tail}
+use Rattle.border_costs.proofs.Members.{contains_head, contains_tail, contains_none, contains_cases}
 use Rattle.plant_laws.proofs.Told.{apart}
 use Rattle.plant_laws.proofs.ReadyRows.{is_readied}
 use Rattle.plant_laws.proofs.Own.{run_owns}
 use Rattle.plant_laws.proofs.LifeKept.{run_lives}
 use Rattle.plant_laws.proofs.RepliedRuns.{replied_of}
 use Rattle.plant_laws.proofs.SolveMoments.{element_deed, upper_deed, run_moments}
-use Rattle.plant_laws.proofs.Given.{Given, IsSolved, IsSolvedAbove, OfSolve, OfKey}
+use Rattle.plant_laws.proofs.Given.{Given, IsSolved, IsSolvedAbove, OfSolve, OfKey, RepliesAlone}
+use Rattle.plant_laws.proofs.Again.{all_read}
+use Rattle.plant_laws.proofs.Alone.{sent_alone}
 use Rattle.plant_laws.proofs.GatheredRuns.{has_gathered}
-use Rattle.plant_laws.proofs.AskedRuns.{asked_of_run, none_outside}
+use Rattle.plant_laws.proofs.AskedRuns.{flip_in, asked_of_run, none_outside}
 use Rattle.plant_laws.proofs.Causes.{HasCause, run_has}
 use Rattle.plant_laws.proofs.Counted.{element_ids_differ}
 use Rattle.plant_laws.proofs.Sends.{Each-within}
@@ -144,6 +146,14 @@ none_delivered c codec n net es s run i p q (e ∷ older) from within x =
     none_outside n net c codec es s run i (messages.PcReq (x.0 ∷ [])) x.1 older
     (subst (λ (z : Peer). Within (Takes parent_as z (messages.PcReq (x.0 ∷ [])) x.1 ∷ older) (deeds_of c n es)) from (subst (λ (z : PlantDeed). Within (z ∷ older) (deeds_of c n es)) x.2 within))
 
+one_reply : (replies : List Reply) (r : Reply) → length replies ≤ 1 → Contains replies r → replies ≡ r ∷ []
+one_reply [] r few h = absurd (contains_none r h)
+one_reply (x ∷ []) r few h = elim (contains_cases x [] r h) [
+  | inl same ↦ ap (λ (y : Reply). y ∷ []) same
+  | inr none ↦ absurd (contains_none r none)
+]
+one_reply (x ∷ y ∷ rest) r few h = absurd (omega (arith, few))
+
 module _ (c : Codec) (codec : IsCodec c) (n : NetworkParts) (net : IsNetwork n) (es : List Entry) (s : Plant) (run : Run c n es s) (written : AllSent IsWritten (deeds_of c n es)) (short : IsShort (deeds_of c n es)) where
   abbrev now : Transcript
   now = deeds_of c n es
@@ -188,51 +198,67 @@ module _ (c : Codec) (codec : IsCodec c) (n : NetworkParts) (net : IsNetwork n) 
         solved_above = λ k os keys older w. (moments parent_as k os keys older w).1 refl;
       }
 
+  -- each message of replies has one
+  pub replies_alone : (m older : Transcript) (d : As) (p : Peer) (r : Reply) → Replies now m older d p r → RepliesAlone now m older d p r
+  replies_alone m older d p r x =
+      let o : Output = record { to = p; message = messages.PcRep x.replies } in
+      let alone : length x.replies ≤ 1 = sent_alone c codec n es s run (all_read c codec now written) x.deed older (subst (λ (t : Transcript). Within t now) x.is x.within) d o (flip_in o (outputs_at d x.deed) (in_of o (outputs_at d x.deed) x.sent)) in
+      record {
+        deed = x.deed;
+        is = x.is;
+        within = x.within;
+        sent = subst (λ (l : List Reply). Contains (outputs_at d x.deed) (record { to = p; message = messages.PcRep l })) (one_reply x.replies r alone x.among) x.sent;
+        answer = x.answer;
+      }
+
 -- ---- the statements
 
 pub least_replies_are : WrittenNetIds LeastRepliesIn
-least_replies_are c codec n net es s run written short m older d =
-    least_replies c codec n (deeds_of c n es) (given_of c codec n net es s run written short) m older d
+least_replies_are c codec n net es s run written short m older d p r real closed replies =
+    least_replies c codec n (deeds_of c n es) (given_of c codec n net es s run written short) m older d p r real closed (replies_alone c codec n net es s run written short m older d p r replies)
 
 pub none_replies_are : WrittenNetIds NoneRepliesIn
-none_replies_are c codec n net es s run written short m older d =
-    none_replies c codec n (deeds_of c n es) (given_of c codec n net es s run written short) m older d
+none_replies_are c codec n net es s run written short m older d p r real closed replies =
+    none_replies c codec n (deeds_of c n es) (given_of c codec n net es s run written short) m older d p r real closed (replies_alone c codec n net es s run written short m older d p r replies)
 
 pub least_answers_are : WrittenNetIds LeastAnswersIn
 least_answers_are c codec n net es s run written short m older d i r client replies paths is =
-    let given = given_of c codec n net es s run written short in (
-      element_answers c codec n (deeds_of c n es) given m older d i r paths (subst (λ (a : Answer). Tells a paths) (sym is) refl) replies,
-      least_answers c codec n (deeds_of c n es) given m older d i r client replies paths is,
+    let given = given_of c codec n net es s run written short in
+    let alone = replies_alone c codec n net es s run written short m older d (Outside i) r replies in (
+      element_answers c codec n (deeds_of c n es) given m older d i r paths (subst (λ (a : Answer). Tells a paths) (sym is) refl) alone,
+      least_answers c codec n (deeds_of c n es) given m older d i r client alone paths is,
     )
 
 pub none_answers_are : WrittenNetIds NoneAnswersIn
 none_answers_are c codec n net es s run written short m older d i r client replies vector is =
-    let given = given_of c codec n net es s run written short in (
-      element_answers c codec n (deeds_of c n es) given m older d i r [] (subst (λ (a : Answer). Tells a []) (sym is) (refl, refl)) replies,
-      none_answers c codec n (deeds_of c n es) given m older d i r client replies vector is,
+    let given = given_of c codec n net es s run written short in
+    let alone = replies_alone c codec n net es s run written short m older d (Outside i) r replies in (
+      element_answers c codec n (deeds_of c n es) given m older d i r [] (subst (λ (a : Answer). Tells a []) (sym is) (refl, refl)) alone,
+      none_answers c codec n (deeds_of c n es) given m older d i r client alone vector is,
     )
 
 -- the certificate of a solve
 pub solves_certify : WrittenNet SolvesCertifyIn
-solves_certify c codec n net es s run written d k os keys older real w =
-    let y = (run_moments c n (IsMoment c codec n net) (element_made c codec n net) (upper_made c codec n net) d k os keys older es s run written w).0 real in
-    let i = y.held.item in
+solves_certify c codec n net es s run written d k h x =
+    let y = solved_of c codec n net es s run written d k h x in
+    let i = x.held.item in
     record {
-      peer = y.held.key.peer;
-      request = y.taken.request;
-      wanted = i.wanted;
       at = y.taken.at;
-      is_open = subst (λ (x : ℕ). opened c d y.held.key.peer x older ≡ Some y.taken.at) (sym y.taken.id) y.taken.is_open;
+      is_open = y.taken.is_open;
+      request = y.taken.request;
       delivered = y.taken.delivered;
+      id = y.taken.id;
+      wanted = i.wanted;
       is_path = y.taken.wanted;
-      down = y.down;
-      told = subst (λ (l : List As). IsServed c older d y.taken.at i.wanted l y.down) y.along y.served;
-      job = ask c n d (k, y.held) y.down;
+      down = x.down;
+      told = subst (λ (l : List As). IsServed c (deeds_of c n es) d y.taken.at i.wanted l x.down) y.along y.served;
+      job = ask c n d (k, x.held) x.down;
       query = refl;
       source = refl;
-      entries = ap (λ (z : Class). entries_of z i.wanted.source i.pin.topology) y.taken.class ∙ ap (λ (g : Rows). entries_of (class_of n y.held.key.peer) i.wanted.source g) y.taken.pin;
+      entries =
+          ap (λ (z : Class). entries_of z i.wanted.source i.pin.topology) y.taken.class
+          ∙ ap (λ (g : Rows). entries_of (class_of n x.held.key.peer) i.wanted.source g) y.taken.pin;
       target = ap (λ (l : List As). target_along l i.wanted.target) y.along;
       below = refl;
-      rows = y.rows;
-      right = subst (λ (g : Rows). AreRows g (ask c n d (k, y.held) y.down) y.rows) y.taken.pin y.right;
+      right = subst (λ (g : Rows). AreRows g (ask c n d (k, x.held) x.down) x.rows) y.taken.pin x.right;
     }

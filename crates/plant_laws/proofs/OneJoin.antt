@@ -87,9 +87,11 @@ one_head cap (Node t) border down order e exit c d (Some h) other j k = absurd j
 one_head cap (Next b) border down order e exit c d None other j k = absurd j
 one_head cap (Next b) border down order e exit c d (Some h) None j k = absurd k
 one_head cap (Next b) border down order e exit c d (Some h) (Some h') j k =
-    let r : BorderRow = record { entry = e; far = exit; head = h; cost = j.0 } in
-    let s : BorderRow = record { entry = e; far = exit; head = h'; cost = k.0 } in
-    ap (λ (x : BorderRow). Some x.head) (one_row border (rising_of IsRowBefore border order) r s (stands_of border r j.2) (stands_of border s k.2) refl refl)
+    let r = j.0.row in
+    let s = k.0.row in
+    let rows : r ≡ s = one_row border (rising_of IsRowBefore border order) r s (stands_of border r j.0.is_row) (stands_of border s k.0.is_row) (j.0.at_entry ∙ sym k.0.at_entry) (sym j.0.exit ∙ k.0.exit) in
+    let heads : h ≡ h' = sym j.1 ∙ ap (λ (x : BorderRow). x.head) rows ∙ k.1 in
+    ap (λ (x : Addr). let o : Option Addr = Some x in o) heads
 
 pub one_join : (cap : ℕ) (target : Target) (border : List BorderRow) (down : List Down) (best other : List Best) → AllPairs IsRowBefore border →
     IsJoinOf cap target border down best → IsJoinOf cap target border down other → AllOne best other

@@ -23,7 +23,7 @@ use Rattle.plant_text.specs.Settings.{is_element}
 use Rattle.plant_model.specs.Events as events
 use Rattle.plant_model.specs.Plant.{Pin, Segment, Plant, Happened, Entry, Run, Steps, Happens, opened, deeds_of, ask, load, load_new, refused, is_full, ElementSolves, ParentSolves, SolveHappens}
 use Rattle.plant_model.specs.Blind.{BlindHappened, BlindSolves, BlindUpperSolves, BlindHappens, BlindSays, Heard, heard, blind_opened, Discloses, blind_of, with_event, is_accepted}
-use Rattle.plant_laws.specs.Worlds.{DisclosedRun, SaysAsBlind}
+use Rattle.plant_laws.specs.Worlds.{DisclosedRun, BlindAccepts, SaysAsBlind, AcceptsAsBlind}
 use Rattle.plant_laws.proofs.Decompose.{nil_right}
 use Rattle.plant_laws.proofs.Sound.{IsFit, Sound, run_sound}
 use Rattle.plant_laws.proofs.BorderJoins.{border_joins}
@@ -113,13 +113,14 @@ module _ (c : Codec) (n : NetworkParts) where
     pub state : Blank P
     pub sim : Sim P blindly n s state
     pub says : BlindSays c n trace hs state
+    pub accepts : BlindAccepts c n trace hs state
 
   module _ (older : List Entry) (earlier : List BlindEvent) (before : Plant) (said : Says earlier (heard c n (deeds_of c n older)) before) (sound : Sound n before) where
     abbrev After : List BlindEvent → Happened → Type 0
     After trace h = Says trace (heard c n (h.deeds ++ deeds_of c n older)) h.state
 
-    seen : (x : BlindEvent) (trace : List BlindEvent) (h : Happened) (h' : BlindHappened) → trace ≡ x ∷ earlier → BlindHappens c n said.state x h' → Happen P blindly c n h h' → After trace h
-    seen x trace h h' is happens happen = record {
+    seen : (x : BlindEvent) (trace : List BlindEvent) (h : Happened) (h' : BlindHappened) → is_accepted h.answer ≡ true → trace ≡ x ∷ earlier → BlindHappens c n said.state x h' → Happen P blindly c n h h' → After trace h
+    seen x trace h h' ok is happens happen = record {
       state = h'.state;
       sim = happen.sim;
       says = subst (λ (l : List BlindEvent). BlindSays c n l (heard c n (h.deeds ++ deeds_of c n older)) h'.state) (sym is) (
@@ -131,11 +132,21 @@ module _ (c : Codec) (n : NetworkParts) where
         refl,
         heard_append P blindly c n h.deeds (deeds_of c n older) ∙ ap (λ (l : List Heard). heard c n (deeds_of c n older) ++ l) happen.heard',
       );
+      accepts = subst (λ (l : List BlindEvent). BlindAccepts c n l (heard c n (h.deeds ++ deeds_of c n older)) h'.state) (sym is) (
+        said.state,
+        heard c n (deeds_of c n older),
+        h',
+        said.accepts,
+        happens,
+        sym happen.accepted ∙ ok,
+        refl,
+        heard_append P blindly c n h.deeds (deeds_of c n older) ∙ ap (λ (l : List Heard). heard c n (deeds_of c n older) ++ l) happen.heard',
+      );
     }
 
     -- an event that is determined
-    same_seen : (x : BlindEvent) (trace : List BlindEvent) (h k : Happened) (h' : BlindHappened) → h ≡ k → trace ≡ x ∷ earlier → BlindHappens c n said.state x h' → Happen P blindly c n k h' → After trace h
-    same_seen x trace h k h' same is happens happen = seen x trace h h' is happens (subst (λ (g : Happened). Happen P blindly c n g h') (sym same) happen)
+    same_seen : (x : BlindEvent) (trace : List BlindEvent) (h k : Happened) (h' : BlindHappened) → is_accepted h.answer ≡ true → h ≡ k → trace ≡ x ∷ earlier → BlindHappens c n said.state x h' → Happen P blindly c n k h' → After trace h
+    same_seen x trace h k h' ok same is happens happen = seen x trace h h' ok is happens (subst (λ (g : Happened). Happen P blindly c n g h') (sym same) happen)
 
     refused_not : {X : Type 0} (o : Bool) → o ≡ false → o ≡ true → X
     refused_not true e f = cc
@@ -153,6 +164,7 @@ module _ (c : Codec) (n : NetworkParts) where
           state = said.state;
           sim = record { clock = said.sim.clock; elements = said.sim.elements; parent = said.sim.parent; current = λ d'. refl; sessions = said.sim.sessions; queues = said.sim.queues; accesses = said.sim.accesses };
           says = subst (λ (l : List Heard). BlindSays c n earlier l said.state) (sym (nil_right (heard c n (deeds_of c n older)))) said.says;
+          accepts = subst (λ (l : List Heard). BlindAccepts c n earlier l said.state) (sym (nil_right (heard c n (deeds_of c n older)))) said.accepts;
         }
 
     solve_seen : (d : As) (k : ℕ) (h : Happened) (trace : List BlindEvent) (rows : List BorderRow) → SolveHappens c n d k before h → is_accepted h.answer ≡ true →
@@ -163,22 +175,22 @@ module _ (c : Codec) (n : NetworkParts) where
         let x = solves.1 in
         let r = solved d k before said.state said.sim sound rows h x (is_client x.held.item.class) refl
         (elim disclosed [ inl upper ↦ refused_not (same_as d parent_as) x.upper upper.0 | inr rest ↦ rest.1 x.held x.down x.is_held x.ready ]) in
-        seen (blind.Solve d k rows) trace h r.0 is (inr (inr (inl (solves.0, r.1)))) r.2
+        seen (blind.Solve d k rows) trace h r.0 ok is (inr (inr (inl (solves.0, r.1)))) r.2
     solve_seen d k h trace rows (inr (inr (inr solves))) ok disclosed is =
         let r = upper_solved k before said.state said.sim h solves.2 in
-        seen (blind.Solve d k rows) trace h r.0 is (inr (inr (inr (solves.0, solves.1, r.1)))) r.2
+        seen (blind.Solve d k rows) trace h r.0 ok is (inr (inr (inr (solves.0, solves.1, r.1)))) r.2
 
     happens_seen : (e : Event) (h : Happened) (trace : List BlindEvent) (rows : List BorderRow) → Happens c n before e h → is_accepted h.answer ≡ true → Discloses c n before e rows →
         trace ≡ with_event (blind_of e rows) earlier → After trace h
     happens_seen (event.Load d g) h trace rows is ok disclosed trace' = subst (λ (l : List BlindEvent). After l h) (sym trace') (load_seen d g h is ok)
-    happens_seen (event.Open i holder) h trace rows is ok disclosed trace' = same_seen (blind.Open i holder) trace h (events.open_peer Pin Segment c n open_of i holder before) (events.open_peer P P c n (λ u. []) i holder said.state) is trace' refl (open_happens P blindly c n i holder before said.state said.sim)
-    happens_seen (event.Shut i) h trace rows is ok disclosed trace' = same_seen (blind.Shut i) trace h (events.shut Pin Segment c n open_of i before) (events.shut P P c n (λ u. []) i said.state) is trace' refl (shut_happens P blindly c n i before said.state said.sim)
-    happens_seen (event.Feed i bytes) h trace rows is ok disclosed trace' = same_seen (blind.Feed i bytes) trace h (events.feed Pin Segment c n open_of i bytes before) (events.feed P P c n (λ u. []) i bytes said.state) is trace' refl (feed_happens P blindly c n i bytes before said.state said.sim)
-    happens_seen (event.Take i) h trace rows is ok disclosed trace' = same_seen (blind.Take i) trace h (events.take Pin Segment c n open_of i before) (events.take P P c n (λ u. []) i said.state) is trace' refl (take_happens P blindly c n i before said.state said.sim)
-    happens_seen (event.Carry a b) h trace rows is ok disclosed trace' = same_seen (blind.Carry a b) trace h (events.carry Pin Segment c n open_of a b before) (events.carry P P c n (λ u. []) a b said.state) is trace' refl (carry_happens P blindly c n a b before said.state said.sim)
-    happens_seen (event.Break a b) h trace rows is ok disclosed trace' = same_seen (blind.Break a b) trace h (events.break Pin Segment c n open_of a b before) (events.break P P c n (λ u. []) a b said.state) is trace' refl (break_happens P blindly c n a b before said.state said.sim)
-    happens_seen (event.Tick t) h trace rows is ok disclosed trace' = same_seen (blind.Tick t) trace h (events.tick Pin Segment c n open_of t.0 before) (events.tick P P c n (λ u. []) t.0 said.state) is trace' refl (tick_happens P blindly c n t.0 before said.state said.sim)
-    happens_seen (event.Drain i holder) h trace rows is ok disclosed trace' = same_seen (blind.Drain i holder) trace h (events.drain Pin Segment c n open_of i holder before) (events.drain P P c n (λ u. []) i holder said.state) is trace' refl (drain_happens P blindly c n i holder before said.state said.sim)
+    happens_seen (event.Open i holder) h trace rows is ok disclosed trace' = same_seen (blind.Open i holder) trace h (events.open_peer Pin Segment c n open_of i holder before) (events.open_peer P P c n (λ u. []) i holder said.state) ok is trace' refl (open_happens P blindly c n i holder before said.state said.sim)
+    happens_seen (event.Shut i) h trace rows is ok disclosed trace' = same_seen (blind.Shut i) trace h (events.shut Pin Segment c n open_of i before) (events.shut P P c n (λ u. []) i said.state) ok is trace' refl (shut_happens P blindly c n i before said.state said.sim)
+    happens_seen (event.Feed i bytes) h trace rows is ok disclosed trace' = same_seen (blind.Feed i bytes) trace h (events.feed Pin Segment c n open_of i bytes before) (events.feed P P c n (λ u. []) i bytes said.state) ok is trace' refl (feed_happens P blindly c n i bytes before said.state said.sim)
+    happens_seen (event.Take i) h trace rows is ok disclosed trace' = same_seen (blind.Take i) trace h (events.take Pin Segment c n open_of i before) (events.take P P c n (λ u. []) i said.state) ok is trace' refl (take_happens P blindly c n i before said.state said.sim)
+    happens_seen (event.Carry a b) h trace rows is ok disclosed trace' = same_seen (blind.Carry a b) trace h (events.carry Pin Segment c n open_of a b before) (events.carry P P c n (λ u. []) a b said.state) ok is trace' refl (carry_happens P blindly c n a b before said.state said.sim)
+    happens_seen (event.Break a b) h trace rows is ok disclosed trace' = same_seen (blind.Break a b) trace h (events.break Pin Segment c n open_of a b before) (events.break P P c n (λ u. []) a b said.state) ok is trace' refl (break_happens P blindly c n a b before said.state said.sim)
+    happens_seen (event.Tick t) h trace rows is ok disclosed trace' = same_seen (blind.Tick t) trace h (events.tick Pin Segment c n open_of t.0 before) (events.tick P P c n (λ u. []) t.0 said.state) ok is trace' refl (tick_happens P blindly c n t.0 before said.state said.sim)
+    happens_seen (event.Drain i holder) h trace rows is ok disclosed trace' = same_seen (blind.Drain i holder) trace h (events.drain Pin Segment c n open_of i holder before) (events.drain P P c n (λ u. []) i holder said.state) ok is trace' refl (drain_happens P blindly c n i holder before said.state said.sim)
     happens_seen (event.Solve d k) h trace rows is ok disclosed trace' = solve_seen d k h trace rows is ok disclosed trace'
 
     step_seen : (e : Event) (h : Happened) (trace : List BlindEvent) (t : Bool) → is_accepted h.answer ≡ t → Steps c n before e h →
@@ -190,6 +202,8 @@ module _ (c : Codec) (n : NetworkParts) where
           sim = subst (λ (z : Full). Sim P blindly n z said.state) (sym same.state) said.sim;
           says = subst (λ (l : List BlindEvent). BlindSays c n l (heard c n (h.deeds ++ deeds_of c n older)) said.state) (sym is)
               (subst (λ (ds : _). BlindSays c n earlier (heard c n (ds ++ deeds_of c n older)) said.state) (sym same.deeds) said.says);
+          accepts = subst (λ (l : List BlindEvent). BlindAccepts c n l (heard c n (h.deeds ++ deeds_of c n older)) said.state) (sym is)
+              (subst (λ (ds : _). BlindAccepts c n earlier (heard c n (ds ++ deeds_of c n older)) said.state) (sym same.deeds) said.accepts);
         }
     step_seen e h trace true ok (inl happens) shown = happens_seen e h trace shown.0 happens ok shown.1 shown.2
     step_seen e h trace true ok (inr none) shown = refused_not (is_accepted h.answer) (ap (λ (g : Happened). is_accepted g.answer) none.1) ok
@@ -199,6 +213,7 @@ module _ (c : Codec) (n : NetworkParts) where
     state = (blind_opened c n).state;
     sim = subst (λ (z : Full). Sim P blindly n z (blind_opened c n).state) (sym run.1) (opened_both P blindly c n).sim;
     says = subst (λ (l : List BlindEvent). BlindSays c n l (heard c n (opened c n).deeds) (blind_opened c n).state) (sym run.0) ((opened_both P blindly c n).heard', refl);
+    accepts = subst (λ (l : List BlindEvent). BlindAccepts c n l (heard c n (opened c n).deeds) (blind_opened c n).state) (sym run.0) ((opened_both P blindly c n).heard', refl);
   }
   says (e ∷ older) trace s run =
       step_seen older run.1 run.0 (says older run.1 run.0 run.2) (run_sound c n older run.0 (as_run older run.1 run.0 run.2)) e.event
@@ -206,3 +221,6 @@ module _ (c : Codec) (n : NetworkParts) where
 
 pub says_as_blind : SaysAsBlind
 says_as_blind c n es trace s run = let r = says c n es trace s run in (r.state, r.says)
+
+pub accepts_as_blind : AcceptsAsBlind
+accepts_as_blind c n es trace s run = let r = says c n es trace s run in (r.state, r.accepts)

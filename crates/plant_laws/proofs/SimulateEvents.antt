@@ -25,7 +25,7 @@ use Rattle.plant_model.specs.State.{Connection, Access, Pops, Hands}
 use Rattle.plant_model.specs.Deeds.{Going, element_of, on_connection, with_session, with_inbox, with_access, is_out_empty, is_due, is_tick, input_of, fall, say, expire, outside_act, outside_acts, outside_step, outside_input, break_line, tick_outside, tick_lines, our_offer}
 use Rattle.plant_model.specs.Events as events
 use Rattle.plant_model.specs.Events.{is_down}
-use Rattle.plant_model.specs.Blind.{Drained, is_closed, heard}
+use Rattle.plant_model.specs.Blind.{Drained, is_closed, heard, is_accepted}
 use Rattle.plant_laws.proofs.Simulate.{IsConnectionAlike, AreConnectionsAlike, IsAccessAlike, Blank, Full, Sim, access_cond, Both, both_cond, set_pair_same, give_both, rise_both, fall_both, say_both, expire_both, inner_input_both, break_line_both, tick_lines_both}
 
 module _ (Q : Type 0) (view : As → Pin → Q) (c : Codec) (n : NetworkParts) where
@@ -112,10 +112,11 @@ module _ (Q : Type 0) (view : As → Pin → Q) (c : Codec) (n : NetworkParts) w
   tick_outside_both i (r ∷ rs) now g h both =
       tick_outside_both (i + 1) rs now (outside_input Pin Segment c n open_of i (input.Tick now) g) (outside_input Q U c n (λ u. []) i (input.Tick now) h) (input_both i (input.Tick now) g h both)
 
-  -- events: the states are alike, and closed peers hear the same
+  -- events: they are accepted alike, the states are alike, and closed peers hear the same
   pub record Happen (h : events.Happened Pin Segment) (k : events.Happened Q U) : Type 0 where
     pub sim : Sim Q view n h.state k.state
     pub heard' : heard c n h.deeds ≡ heard c n k.deeds
+    pub accepted : is_accepted h.answer ≡ is_accepted k.answer
 
   happen_cond : (b : Bool) (h h' : events.Happened Pin Segment) (k k' : events.Happened Q U) → Happen h k → Happen h' k' → Happen (cond b h h') (cond b k k')
   happen_cond true h h' k k' x y = x
@@ -128,7 +129,7 @@ module _ (Q : Type 0) (view : As → Pin → Q) (c : Codec) (n : NetworkParts) w
   open_happens i holder s b sim =
       happen_cond (is_some (peer_row i n.peers)) (events.open_new Pin Segment c n open_of i holder s (s.accesses i).connection) (events.refused Pin Segment c n open_of NoSuchPeer s)
       (events.open_new Q U c n (λ u. []) i holder b (b.accesses i).connection) (events.refused Q U c n (λ u. []) NoSuchPeer b)
-      (go (s.accesses i).connection (b.accesses i).connection (sim.accesses i).connection) (record { sim = sim; heard' = refl })
+      (go (s.accesses i).connection (b.accesses i).connection (sim.accesses i).connection) (record { sim = sim; heard' = refl; accepted = refl })
     where
       connected : Sim Q view n (events.connect Pin Segment c n open_of i holder s) (events.connect Q U c n (λ u. []) i holder b)
       connected =
@@ -149,16 +150,16 @@ module _ (Q : Type 0) (view : As → Pin → Q) (c : Codec) (n : NetworkParts) w
       go : (p q : Option Connection) → AreConnectionsAlike (is_closed n (Outside i)) p q → Happen (events.open_new Pin Segment c n open_of i holder s p) (events.open_new Q U c n (λ u. []) i holder b q)
       go None None k =
           let both = input_both i input.Begin (record { state = events.connect Pin Segment c n open_of i holder s; deeds = [] }) (record { state = events.connect Q U c n (λ u. []) i holder b; deeds = [] }) (idle_both (events.connect Pin Segment c n open_of i holder s) (events.connect Q U c n (λ u. []) i holder b) connected) in
-          record { sim = both.sim; heard' = both.heard' }
+          record { sim = both.sim; heard' = both.heard'; accepted = refl }
       go None (Some z) k = absurd k
       go (Some w) None k = absurd k
-      go (Some w) (Some z) k = record { sim = sim; heard' = refl }
+      go (Some w) (Some z) k = record { sim = sim; heard' = refl; accepted = refl }
 
   pub shut_happens : (i : ℕ) (s : Full) (b : Blank Q) → Sim Q view n s b → Happen (events.shut Pin Segment c n open_of i s) (events.shut Q U c n (λ u. []) i b)
   shut_happens i s b sim = go (s.accesses i).connection (b.accesses i).connection (sim.accesses i).connection
     where
       go : (p q : Option Connection) → AreConnectionsAlike (is_closed n (Outside i)) p q → Happen (events.shut_open Pin Segment c n open_of i s p) (events.shut_open Q U c n (λ u. []) i b q)
-      go None None k = record { sim = sim; heard' = refl }
+      go None None k = record { sim = sim; heard' = refl; accepted = refl }
       go None (Some z) k = absurd k
       go (Some w) None k = absurd k
       go (Some w) (Some z) k =
@@ -168,6 +169,7 @@ module _ (Q : Type 0) (view : As → Pin → Q) (c : Codec) (n : NetworkParts) w
           record {
             sim = set_sim i (record { opened = (s.accesses i).opened; connection = None }) (record { opened = (b.accesses i).opened; connection = None }) g.state h.state (record { opened = (sim.accesses i).opened; connection = tt }) both.sim;
             heard' = both.heard';
+            accepted = refl;
           }
 
   pub feed_happens : (i : ℕ) (bytes : Bytes) (s : Full) (b : Blank Q) → Sim Q view n s b → Happen (events.feed Pin Segment c n open_of i bytes s) (events.feed Q U c n (λ u. []) i bytes b)
@@ -188,26 +190,26 @@ module _ (Q : Type 0) (view : As → Pin → Q) (c : Codec) (n : NetworkParts) w
       pick false = access_sim i (events.fed c bytes) (events.fed c bytes) s b fed_alike sim
 
       go : (p q : Option Connection) → AreConnectionsAlike (is_closed n (Outside i)) p q → Happen (events.feed_open Pin Segment c n open_of i bytes s p) (events.feed_open Q U c n (λ u. []) i bytes b q)
-      go None None k = record { sim = sim; heard' = refl }
+      go None None k = record { sim = sim; heard' = refl; accepted = refl }
       go None (Some z) k = absurd k
       go (Some w) None k = absurd k
       go (Some w) (Some z) k =
           subst (λ (x : Session). Happen (events.feed_open Pin Segment c n open_of i bytes s (Some w))
           (events.answered Q U c n (λ u. []) Done (events.idle Q U c n (λ u. []) (cond (is_down x.phase) b (with_access Q U c n (λ u. []) i (events.fed c bytes) b))))) k.session
-          (record { sim = pick (is_down w.session.phase); heard' = refl })
+          (record { sim = pick (is_down w.session.phase); heard' = refl; accepted = refl })
 
   pub take_happens : (i : ℕ) (s : Full) (b : Blank Q) → Sim Q view n s b → Happen (events.take Pin Segment c n open_of i s) (events.take Q U c n (λ u. []) i b)
   take_happens i s b sim = go (s.accesses i).connection (b.accesses i).connection (sim.accesses i).connection
     where
       item : (inbox : List (Option Bytes)) → Happen (events.take_item Pin Segment c n open_of i s inbox) (events.take_item Q U c n (λ u. []) i b inbox)
-      item [] = record { sim = sim; heard' = refl }
+      item [] = record { sim = sim; heard' = refl; accepted = refl }
       item (x ∷ rest) =
           let both = input_both i (input_of c x) (record { state = with_access Pin Segment c n open_of i (with_inbox rest) s; deeds = [] }) (record { state = with_access Q U c n (λ u. []) i (with_inbox rest) b; deeds = [] })
           (idle_both (with_access Pin Segment c n open_of i (with_inbox rest) s) (with_access Q U c n (λ u. []) i (with_inbox rest) b) (access_sim i (with_inbox rest) (with_inbox rest) s b (λ k k' y. record { holder = y.holder; session = y.session; framing = y.framing; inbox = refl; out = y.out }) sim)) in
-          record { sim = both.sim; heard' = both.heard' }
+          record { sim = both.sim; heard' = both.heard'; accepted = refl }
 
       go : (p q : Option Connection) → AreConnectionsAlike (is_closed n (Outside i)) p q → Happen (events.take_open Pin Segment c n open_of i s p) (events.take_open Q U c n (λ u. []) i b q)
-      go None None k = record { sim = sim; heard' = refl }
+      go None None k = record { sim = sim; heard' = refl; accepted = refl }
       go None (Some z) k = absurd k
       go (Some w) None k = absurd k
       go (Some w) (Some z) k = subst (λ (l : List (Option Bytes)). Happen (events.take_item Pin Segment c n open_of i s w.inbox) (events.take_item Q U c n (λ u. []) i b l)) k.inbox (item w.inbox)
@@ -217,10 +219,10 @@ module _ (Q : Type 0) (view : As → Pin → Q) (c : Codec) (n : NetworkParts) w
       happen_cond (is_linked n a d) (events.carry_first Pin Segment c n open_of a d s (s.queues a d)) (events.refused Pin Segment c n open_of NoSuchPeer s)
       (events.carry_first Q U c n (λ u. []) a d b (b.queues a d)) (events.refused Q U c n (λ u. []) NoSuchPeer b)
       (subst (λ (q : List Bytes). Happen (events.carry_first Pin Segment c n open_of a d s (s.queues a d)) (events.carry_first Q U c n (λ u. []) a d b q)) (sym (sim.queues a d)) (go (s.queues a d)))
-      (record { sim = sim; heard' = refl })
+      (record { sim = sim; heard' = refl; accepted = refl })
     where
       go : (q : List Bytes) → Happen (events.carry_first Pin Segment c n open_of a d s q) (events.carry_first Q U c n (λ u. []) a d b q)
-      go [] = record { sim = sim; heard' = refl }
+      go [] = record { sim = sim; heard' = refl; accepted = refl }
       go (x ∷ rest) =
           let u : Full = record s { queues = set_pair a d rest s.queues } in
           let v : Blank Q = record b { queues = set_pair a d rest b.queues } in
@@ -229,13 +231,13 @@ module _ (Q : Type 0) (view : As → Pin → Q) (c : Codec) (n : NetworkParts) w
             sim = record { clock = sim.clock; elements = sim.elements; parent = sim.parent; current = sim.current; sessions = sim.sessions; queues = set_pair_same Q view c n a d rest rest b.queues s.queues refl sim.queues; accesses = sim.accesses };
             heard' = refl;
           }) in
-          record { sim = both.sim; heard' = both.heard' }
+          record { sim = both.sim; heard' = both.heard'; accepted = refl }
 
   pub break_happens : (a d : As) (s : Full) (b : Blank Q) → Sim Q view n s b → Happen (events.break Pin Segment c n open_of a d s) (events.break Q U c n (λ u. []) a d b)
   break_happens a d s b sim =
       let both = break_line_both Q view c n (line a d) (record { state = s; deeds = [] }) (record { state = b; deeds = [] }) (idle_both s b sim) in
       happen_cond (is_linked n a d) (events.answered Pin Segment c n open_of Done (break_line Pin Segment c n open_of (line a d) (record { state = s; deeds = [] }))) (events.refused Pin Segment c n open_of NoSuchPeer s)
-      (events.answered Q U c n (λ u. []) Done (break_line Q U c n (λ u. []) (line a d) (record { state = b; deeds = [] }))) (events.refused Q U c n (λ u. []) NoSuchPeer b) (record { sim = both.sim; heard' = both.heard' }) (record { sim = sim; heard' = refl })
+      (events.answered Q U c n (λ u. []) Done (break_line Q U c n (λ u. []) (line a d) (record { state = b; deeds = [] }))) (events.refused Q U c n (λ u. []) NoSuchPeer b) (record { sim = both.sim; heard' = both.heard'; accepted = refl }) (record { sim = sim; heard' = refl; accepted = refl })
 
   ticked_both : (now : ℕ) (s : Full) (b : Blank Q) → Sim Q view n s b →
       Both Q view c n
@@ -260,7 +262,7 @@ module _ (Q : Type 0) (view : As → Pin → Q) (c : Codec) (n : NetworkParts) w
       (events.answered Q U c n (λ u. []) Done
       (expire Q U c n (λ u. []) now (tick_lines Q U c n (λ u. []) (lines n) (record { 0 = now }) (tick_outside Q U c n (λ u. []) 0 n.peers (record { 0 = now }) (record { state = record b { clock = now }; deeds = [] }))))))
       (ap (λ (clock : ℕ). events.later clock t) (sym sim.clock))
-      (record { sim = both.sim; heard' = both.heard' })
+      (record { sim = both.sim; heard' = both.heard'; accepted = refl })
 
   pub drain_happens : (i holder : ℕ) (s : Full) (b : Blank Q) → Sim Q view n s b → Happen (events.drain Pin Segment c n open_of i holder s) (events.drain Q U c n (λ u. []) i holder b)
   drain_happens i holder s b sim = go (s.accesses i).connection (b.accesses i).connection (sim.accesses i).connection
@@ -274,7 +276,7 @@ module _ (Q : Type 0) (view : As → Pin → Q) (c : Codec) (n : NetworkParts) w
       handed false xs ys same = refl
 
       go : (p q : Option Connection) → AreConnectionsAlike (is_closed n (Outside i)) p q → Happen (events.drain_open Pin Segment c n open_of i holder s p) (events.drain_open Q U c n (λ u. []) i holder b q)
-      go None None k = record { sim = sim; heard' = refl }
+      go None None k = record { sim = sim; heard' = refl; accepted = refl }
       go None (Some z) k = absurd k
       go (Some w) None k = absurd k
       go (Some w) (Some z) k =
@@ -287,5 +289,5 @@ module _ (Q : Type 0) (view : As → Pin → Q) (c : Codec) (n : NetworkParts) w
           (events.refused Pin Segment c n open_of (NotHolder w.holder) s)
           (record { answer = Ok (Outcome.Drained (joined z.out) (is_down z.session.phase)); state = with_access Q U c n (λ u. []) i events.drained b; deeds = Hands i (joined z.out) ∷ [] })
           (events.refused Q U c n (λ u. []) (NotHolder w.holder) b)
-          (record { sim = access_sim i events.drained events.drained s b drained_alike sim; heard' = handed (is_closed n (Outside i)) w.out z.out k.out.same })
-          (record { sim = sim; heard' = refl }))
+          (record { sim = access_sim i events.drained events.drained s b drained_alike sim; heard' = handed (is_closed n (Outside i)) w.out z.out k.out.same; accepted = refl })
+          (record { sim = sim; heard' = refl; accepted = refl }))

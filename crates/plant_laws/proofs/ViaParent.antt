@@ -1,5 +1,5 @@
 -- An answer that an element passes on from the parent is what the parent found over the rows of its children's replies.
-use Rattle.std.proofs.Common.{◌≡◌, ◌≢◌, ℕ, true, cond, List, [], ◌∷◌, sym, ◌∙◌, ap, subst, inl, inr, refl}
+use Rattle.std.proofs.Common.{◌≡◌, ◌≢◌, ◌≤◌, ◌<◌, ◌^◌, ℕ, true, cond, List, [], ◌∷◌, sym, ◌∙◌, ap, subst, inl, inr, refl}
 use Rattle.std.specs.Prelude.{Contains, Some, None}
 use Rattle.std.specs.declared.option.Option.{Option}
 use Rattle.dom_base.specs.declared.names.As.{As}
@@ -18,7 +18,6 @@ use Rattle.pcep_messages.specs.declared.message.Wish.TheVariants as wishes
 use Rattle.path_keys.specs.declared.issued.Issued.{Issued}
 use Rattle.request_table.specs.declared.held.Held.{Held}
 use Rattle.disclosure.specs.declared.class.Class.{Class}
-use Rattle.walk_laws.specs.Crossing.{query_in}
 use Rattle.plant_text.specs.declared.settings.NetworkParts.{NetworkParts}
 use Rattle.plant_model.specs.declared.output.Output.{Output}
 use Rattle.plant_model.specs.declared.upper.ChildRow.{ChildRow}
@@ -37,13 +36,14 @@ use Rattle.plant_model.specs.State.{Pops, Takes, Solves}
 use Rattle.plant_model.specs.Plant.{Segment, PlantDeed}
 use Rattle.plant_model.specs.Laws.{IsCodec, Admits}
 use Rattle.plant_laws.specs.Transcript.{Transcript, Within, Standing, outputs_at, opened, Delivered, Handed, SentIn}
-use Rattle.plant_laws.specs.About.{IsGathered, IsViaParent, HasReplied}
+use Rattle.plant_laws.specs.About.{IsGathered, IsViaParent, HasReplied, upward}
 use Rattle.border_costs.proofs.Members.{contains_head}
 use Rattle.plant_laws.proofs.SentOnAsks.{ends_are}
 use Rattle.plant_laws.proofs.Moments.{within_here, within_trans, standing_put, opened_within, no_more}
 use Rattle.plant_laws.proofs.Given.{Given, IsSolvedAbove, OfKey, OfParent}
 use Rattle.plant_laws.proofs.Spoken.{one_said, reply_is}
-use Rattle.plant_laws.proofs.FromElement.{within_tail, same_request, no_expansion, same_first, along_sequence, real_next, IsFrom, from_inner, delivered_from}
+use Rattle.plant_laws.proofs.LeastChains.{admitted_at}
+use Rattle.plant_laws.proofs.FromElement.{within_tail, same_request, same_wanted, same_asked, admits_path, no_expansion, same_first, along_sequence, real_next, IsFrom, from_inner, delivered_from}
 use Rattle.plant_laws.specs.Certified.{Tells}
 
 -- what the parent answers by what it found
@@ -83,25 +83,30 @@ replied_later c m now asking w rows end later g = record {
   all = g.all;
 }
 
+-- what an element sent to the parent, and is admitted there, asks the parent the same
+upward_admits : (c : Codec) → IsCodec c → (first : Asked) (d : As) (flags x : ℕ) (w : Wanted) → Admits c first d flags x w → (id : ℕ) → 1 ≤ id → id < 2 ^ 32 →
+    (a : Asked) → a ≡ asked_of id w w.target [] → (r : Request) → c.check a parent_as ≡ Admitted r → Admits c a parent_as vspt_flag id (upward w)
+upward_admits c codec first d flags x w admits id some fits a is r admitted =
+    let four : ends_kind w.source w.target ≡ 1 = elim (ends_are w.source w.target) [
+      | inl four ↦ four
+      | inr six ↦ absurd (let clash : Admitted r ≡ Wrong (Some (vspt_flag, id)) 4 2 = sym admitted ∙ ap (λ (z : Asked). c.check z parent_as) is ∙ codec.refuses_upward w id six in cc)
+    ] in
+    subst (λ (z : Asked). Admits c z parent_as vspt_flag id (upward w)) (sym is) (codec.admits_upward first d flags x w admits four id some fits)
+
 module _ (c : Codec) (codec : IsCodec c) (n : NetworkParts) (now : Transcript) (given : Given c n now) where
   -- what an element sent to the parent
   pub record IsUpward (d : As) (a : Asked) (id : ℕ) (w : Wanted) : Type 0 where
     pub is : a ≡ asked_of id w w.target []
-    pub admits : Admits c a parent_as vspt_flag id (record w { query = query_in w.query parent_as; sequence = [] })
+    pub admits : Admits c a parent_as vspt_flag id (upward w)
 
   pub sent_up : (d : As) → d ≢ parent_as → (a : Asked) (r : Request) → c.check a parent_as ≡ Admitted r → (at : Transcript) (f : IsFrom c codec n now given d parent_as a at) → IsUpward d a f.asked.id f.asked.wanted
   sent_up d real a r admitted at f = elim f.asked.sends [
     | inl on ↦ absurd (real_next d parent_as on.0 (along_sequence d parent_as on.0 f.asked.wanted.sequence (codec.own f.asked.taken d f.asked.flags f.asked.x f.asked.wanted f.asked.admits).2 on.1) refl)
     | inr up ↦
         let is = same_first a (asked_of f.asked.id f.asked.wanted f.asked.wanted.target []) [] [] up.1 in
-        let four : ends_kind f.asked.wanted.source f.asked.wanted.target ≡ 1 = elim (ends_are f.asked.wanted.source f.asked.wanted.target) [
-          | inl four ↦ four
-          | inr six ↦ absurd (let clash : Admitted r ≡ Wrong (Some (vspt_flag, f.asked.id)) 4 2 = sym admitted ∙ ap (λ (z : Asked). c.check z parent_as) is ∙ codec.refuses_upward f.asked.wanted f.asked.id six in cc)
-        ] in
         record {
           is = is;
-          admits = subst (λ (z : Asked). Admits c z parent_as vspt_flag f.asked.id (record f.asked.wanted { query = query_in f.asked.wanted.query parent_as; sequence = [] })) (sym is)
-              (codec.admits_upward f.asked.taken d f.asked.flags f.asked.x f.asked.wanted f.asked.admits four f.asked.id f.asked.some f.asked.fits);
+          admits = upward_admits c codec f.asked.taken d f.asked.flags f.asked.x f.asked.wanted f.asked.admits f.asked.id f.asked.some f.asked.fits a is r admitted;
         }
   ]
 
@@ -134,19 +139,28 @@ module _ (c : Codec) (codec : IsCodec c) (n : NetworkParts) (now : Transcript) (
       from : (a : Asked) × (c.check a parent_as ≡ Admitted y.taken.request) × IsFrom c codec n now given d parent_as a y.taken.at
       from = delivered_from c codec n now given d parent_as real y.taken.request y.taken.at at'_now delivered
 
-      handed : Handed d parent_as at y.taken.at
+      -- the very request that the element sent on, so the parent was asked what the client asked
+      handed : Handed d parent_as at y.taken.at × (y.held.item.wanted ≡ upward q.held.item.wanted)
       handed =
           let a = from.0 in
           let f = from.2 in
           let g = sent_up d real a y.taken.request from.1 y.taken.at f in
           let w = f.asked.wanted in
-          let asked = same_request y.taken.request (record { flags = vspt_flag; id = f.asked.id; wish = wishes.Path (record w { query = query_in w.query parent_as; sequence = [] }) }) (sym from.1 ∙ g.admits) in
+          let asked = same_request y.taken.request (record { flags = vspt_flag; id = f.asked.id; wish = wishes.Path (upward w) }) (sym from.1 ∙ g.admits) in
           let id : f.asked.id ≡ q.reply.id = sym (ap (λ (x : Request). x.id) asked) ∙ y.taken.id ∙ sym says.1 in
           let asks : messages.PcReq (a ∷ []) ≡ request_message q.reply.id w w.target [] = ap (λ (z : Asked). messages.PcReq (z ∷ [])) (g.is ∙ ap (λ (i : ℕ). asked_of i w w.target []) id) in
           let sent : SentIn f.put d (Inner parent_as) (request_message q.reply.id w w.target []) = subst (λ (m : Message). SentIn f.put d (Inner parent_as) m) asks f.sent in
           let at_now = within_trans at older now (opened_within c d q.held.key.peer q.held.key.id older at q.taken.is_open) older_now in
           let once = given.ids at f.put at_now f.within d parent_as real q.reply.id q.held.item.wanted w q.held.item.wanted.target w.target [] [] q.sent sent in
-          subst (λ (m : Transcript). Handed d parent_as m y.taken.at) (sym once.0) f.handed
+          let v = q.held.item.wanted in
+          let same_ask : asked_of q.reply.id v v.target [] ≡ a = same_asked (asked_of q.reply.id v v.target []) a (once.1 ∙ sym asks) in
+          let first = admitted_at c at d q.held.key.peer q.taken.request q.taken.delivered in
+          let admits = upward_admits c codec first.0 d q.taken.request.flags q.taken.request.id v (admits_path c first.0 d q.taken.request v first.1 q.taken.wanted) q.reply.id
+          (subst (λ (i : ℕ). 1 ≤ i) id f.asked.some) (subst (λ (i : ℕ). i < 2 ^ 32) id f.asked.fits) a (sym same_ask) y.taken.request from.1 in
+          let request = same_request y.taken.request (record { flags = vspt_flag; id = q.reply.id; wish = wishes.Path (upward v) }) (sym from.1 ∙ admits) in (
+            subst (λ (m : Transcript). Handed d parent_as m y.taken.at) (sym once.0) f.handed,
+            same_wanted y.held.item.wanted (upward v) (sym y.taken.wanted ∙ ap (λ (r' : Request). r'.wish) request),
+          )
 
       passed : IsPassedOn
       passed = record {
@@ -162,11 +176,12 @@ module _ (c : Codec) (codec : IsCodec c) (n : NetworkParts) (now : Transcript) (
           is_path = q.taken.wanted;
           goes = subst (λ (z : Class). goes_up (place n d).parent z q.held.item.wanted.sequence ≡ true) (q.taken.class ∙ ap (class_of n) (sym q.to)) q.goes;
           asking = y.taken.at;
-          handed = handed;
+          handed = handed.0;
           upper = y.taken.request;
           asked = y.held.item.wanted;
           taken = delivered;
           is_asked = y.taken.wanted;
+          question = handed.1;
           job = job_of (family n) (k, y.held);
           start = ap start_of says.0;
           source = refl;
@@ -185,8 +200,8 @@ module _ (c : Codec) (codec : IsCodec c) (n : NetworkParts) (now : Transcript) (
         let f = from_inner c codec n now given d parent_as real key.taken key.outputs older' (subst (λ (z : PlantDeed). Within (z ∷ older') now) key.is inside) in
         let g = sent_up d real key.taken key.request key.admits (Takes parent_as (Inner d) (messages.PcReq (key.taken ∷ [])) key.outputs ∷ older') f in
         let w = f.asked.wanted in
-        let same = same_request key.request (record { flags = vspt_flag; id = f.asked.id; wish = wishes.Path (record w { query = query_in w.query parent_as; sequence = [] }) }) (sym key.admits ∙ g.admits) in
-        no_expansion (record w { query = query_in w.query parent_as; sequence = [] }) key.key key.pce (sym (ap (λ (x : Request). x.wish) same) ∙ key.wish)
+        let same = same_request key.request (record { flags = vspt_flag; id = f.asked.id; wish = wishes.Path (upward w) }) (sym key.admits ∙ g.admits) in
+        no_expansion (upward w) key.key key.pce (sym (ap (λ (x : Request). x.wish) same) ∙ key.wish)
 
     by_put : (put : Transcript) → Within put older → SentIn put parent_as (Inner d) (messages.PcRep (q.reply ∷ [])) → IsPassedOn
     by_put [] inside sent = absurd sent

@@ -88,6 +88,7 @@ module _ (Q : Type 0) (view : As → Pin → Q) (c : Codec) (n : NetworkParts) w
         (record {
           sim = puts_sim Q view c n d r.outputs r'.outputs v v' alike.outputs (with_element_sim Q view c n d r.element r'.element s b alike.element sim);
           heard' = heard_same Q view c n d r.outputs r'.outputs alike.outputs;
+          accepted = refl;
         })
 
     closed_not : (e : Bool) → e ≡ true → cond e false true ≡ false
@@ -120,6 +121,7 @@ module _ (Q : Type 0) (view : As → Pin → Q) (c : Codec) (n : NetworkParts) w
       (record {
         sim = puts_sim Q view c n parent_as r.outputs r'.outputs v v' alike (with_parent_sim Q view c n r.parent r'.parent s b (ap (λ (g : parent.Given). g.parent) same) sim);
         heard' = heard_same Q view c n parent_as r.outputs r'.outputs alike;
+        accepted = refl;
       })
 
   -- what was heard before, and in the event

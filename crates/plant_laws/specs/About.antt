@@ -6,8 +6,9 @@ use Rattle.dom_base.specs.declared.names.Peer.{Peer}
 use Rattle.dom_base.specs.declared.names.Peer.TheVariants.{Inner}
 use Rattle.dom_base.specs.declared.query.Query.{Query}
 use Rattle.te_links.specs.Rows.{Rows}
-use Rattle.walk_laws.specs.Crossing.{Goal, Last, IsLeastCrossing, HasNoCrossing, crossing_cost}
+use Rattle.walk_laws.specs.Crossing.{Goal, Last, query_in, IsLeastCrossing, HasNoCrossing, crossing_cost}
 use Rattle.walk_laws.specs.Crossing as crossing
+use Rattle.pcep_codes.specs.declared.flags.TheConstants as flags
 use Rattle.pcep_messages.specs.declared.message.Reply.{Reply}
 use Rattle.pcep_messages.specs.declared.message.Path.{Path}
 use Rattle.pcep_messages.specs.declared.message.Answer.TheVariants.{Paths, NoPath}
@@ -24,14 +25,16 @@ use Rattle.plant_model.specs.Wire.{Codec}
 use Rattle.pcep_messages.specs.Requests.{type_of_metric}
 use Rattle.plant_model.specs.Writing.{request_message}
 use Rattle.plant_model.specs.Branches.{branches_in}
+use Rattle.plant_model.specs.Element.{id_most}
 use Rattle.plant_model.specs.Taking.{sequence_or, goes_up}
 use Rattle.plant_model.specs.BorderGraph.{SolvesBorder, Found}
 use Rattle.plant_model.specs.Parent.{rows_at, Errand, errands}
 use Rattle.plant_text.specs.Settings.{class_of}
 use Rattle.plant_model.specs.Settings.{place, family}
-use Rattle.plant_model.specs.State.{Takes}
-use Rattle.plant_model.specs.Plant.{PlantDeed}
-use Rattle.plant_laws.specs.Transcript.{Transcript, Within, opened, Delivered, Handed, SentIn, Leg, Chain, numbers, outputs_at, asks}
+use Rattle.path_keys.specs.declared.issued.Issued.{Issued}
+use Rattle.plant_model.specs.State.{Takes, Solves}
+use Rattle.plant_model.specs.Plant.{PlantDeed, Segment}
+use Rattle.plant_laws.specs.Transcript.{Transcript, Within, opened, Delivered, Handed, SentIn, Leg, Chain, numbers, outputs_at, asks, Effect, effect, Ends}
 use Rattle.plant_laws.specs.Ends.{End, goal_of}
 use Rattle.plant_laws.specs.Shown.{Shows}
 use Rattle.dom_base.specs.declared.query.Metric.{Metric}
@@ -40,19 +43,37 @@ use Rattle.vspt_tree.specs.declared.branch.Branch.{Branch}
 
 -- no id comes round
 abbrev pub IsShort : Transcript → Type 0
-IsShort now = (a b : As) → asks a b now ≤ 4294967295
+IsShort now = (a b : As) → asks a b now ≤ id_most
 
 -- without the flag of a key's expansion
 abbrev pub IsPathAnswer : Reply → Type 0
-IsPathAnswer r = bit_and r.flags 256 ≡ 0
+IsPathAnswer r = bit_and r.flags flags.PATH_KEY ≡ 0
 
--- In this moment of a run d sends a peer this reply.
+-- In this moment of a run d sends a peer a message with this reply.
 pub record Replies (now m older : Transcript) (d : As) (p : Peer) (r : Reply) : Type 0 where
   pub deed : PlantDeed
   pub is : m ≡ deed ∷ older
   pub within : Within m now
-  pub sent : Contains (outputs_at d deed) (record { to = p; message = messages.PcRep (r ∷ []) })
+  pub replies : List Reply
+  pub sent : Contains (outputs_at d deed) (record { to = p; message = messages.PcRep replies })
+  pub among : Contains replies r
   pub answer : IsPathAnswer r
+
+-- The moment that answered a leg is the very solve that ended the request which the leg's moment delivered from this peer.
+pub record IsSolvedFor (c : Codec) (p : Peer) (leg : Leg) : Type 0 where
+  pub number : ℕ
+  pub outputs : List Output
+  pub keys : List (Issued Segment)
+  pub before : Transcript
+  pub is : leg.solved ≡ Solves leg.own number outputs keys ∷ before
+  pub id : ℕ
+  pub is_open : opened c leg.own p id before ≡ Some leg.at
+  pub ends : effect c leg.own p id (Solves leg.own number outputs keys) ≡ Ends
+
+-- of each leg: the peer asked the first, and each asked the next
+abbrev pub AreSolved : Codec → Peer → List Leg → Type 0
+AreSolved c p [] = Unit {0}
+AreSolved c p (leg ∷ legs) = IsSolvedFor c p leg × AreSolved c (Inner leg.own) legs
 
 -- The reply of d to the peer p, sent in the moment now, is about this request, which took this chain.
 pub record IsAbout (c : Codec) (n : NetworkParts) (older now : Transcript) (d : As) (p : Peer) (r : Request) (w : Wanted) (chain : List Leg) : Type 0 where
@@ -64,6 +85,7 @@ pub record IsAbout (c : Codec) (n : NetworkParts) (older now : Transcript) (d : 
   pub rest : List Leg
   pub begins : chain ≡ record { own = d; at = at; solved = now } ∷ rest
   pub chained : Chain now chain
+  pub solved : AreSolved c p chain
   pub along : numbers chain ≡ sequence_or d w.sequence
 
 -- the branches that a reply tells
@@ -89,6 +111,10 @@ pub record HasReplied (c : Codec) (now asking : Transcript) (w : Wanted) (rows :
   pub within : Within (Takes parent_as (Inner end.child) (messages.PcRep (reply ∷ [])) os ∷ older) now
   pub all : (row : ChildRow) → Contains (rows_at end.child end.target (told_in c w.query.metric reply.answer)) row → Contains rows row
 
+-- what the parent is asked of a request: the same, with its own number as the query's domain, and without a sequence
+abbrev pub upward : Wanted → Wanted
+upward w = record w { query = query_in w.query parent_as; sequence = [] }
+
 -- The reply of d to its client is the parent's: this is what it found over its border graph, whose rows are those of its children's
 -- replies, one reply for each end of interest of each child.
 pub record IsViaParent (c : Codec) (n : NetworkParts) (older now : Transcript) (d : As) (p : Peer) (x : ℕ) (found : Option Found) : Type 0 where
@@ -105,6 +131,7 @@ pub record IsViaParent (c : Codec) (n : NetworkParts) (older now : Transcript) (
   pub asked : Wanted
   pub taken : Delivered c asking parent_as (Inner d) upper
   pub is_asked : upper.wish ≡ wishes.Path asked
+  pub question : asked ≡ upward wanted
   pub job : BorderJob
   pub start : job.start ≡ d
   pub source : job.source ≡ asked.source

@@ -1,9 +1,9 @@
--- The certificate of a solve, by the transcript: it is over the topology that the element had when it took the request, from the seeds
--- that the taken reply gives.
-use Rattle.std.specs.Prelude.{◌≡◌, ◌≢◌, ℕ, List, [], ◌∷◌, Some}
+-- The certificate of a solve, by the transcript: its rows are over the topology that the element had when it took the request, from
+-- the seeds that the taken reply gives.
+use Rattle.std.specs.Prelude.{◌≡◌, ℕ, List, [], ◌∷◌, Some}
 use Rattle.dom_base.specs.declared.names.As.{As}
-use Rattle.dom_base.specs.declared.names.Peer.{Peer}
 use Rattle.dom_base.specs.declared.names.Peer.TheVariants.{Inner}
+use Rattle.pcep_codes.specs.declared.no_paths.TheConstants as no_paths
 use Rattle.pcep_messages.specs.declared.message.Answer.{Answer}
 use Rattle.pcep_messages.specs.declared.message.Answer.TheVariants.{Paths, NoPath}
 use Rattle.pcep_messages.specs.declared.message.Path.{Path}
@@ -12,13 +12,12 @@ use Rattle.pcep_messages.specs.declared.message.Message.TheVariants as messages
 use Rattle.pcep_messages.specs.declared.message.Request.{Request}
 use Rattle.pcep_messages.specs.declared.message.Wanted.{Wanted}
 use Rattle.pcep_messages.specs.declared.message.Wish.TheVariants as wishes
-use Rattle.path_keys.specs.declared.issued.Issued.{Issued}
+use Rattle.request_table.specs.declared.held.RequestKey.{RequestKey}
 use Rattle.vspt_tree.specs.declared.branch.Branch.{Branch}
 use Rattle.border_costs.specs.declared.job.Ask.{Ask}
 use Rattle.border_costs.specs.declared.answer.Answer.{Answer as Answers}
 use Rattle.border_costs.specs.Solutions.{AreRows}
 use Rattle.plant_text.specs.declared.settings.NetworkParts.{NetworkParts}
-use Rattle.plant_text.specs.Names.{parent_as}
 use Rattle.plant_text.specs.Settings.{class_of}
 use Rattle.plant_model.specs.declared.output.Output.{Output}
 use Rattle.plant_model.specs.Wire.{Codec}
@@ -26,15 +25,15 @@ use Rattle.plant_model.specs.Writing.{request_message}
 use Rattle.plant_model.specs.Branches.{branches_in, downs}
 use Rattle.plant_model.specs.Jobs.{entries_of, target_along}
 use Rattle.plant_model.specs.Taking.{sequence_or}
-use Rattle.plant_model.specs.State.{Takes, Solves}
-use Rattle.plant_model.specs.Plant.{Segment, Plant, Entry, deeds_of}
+use Rattle.plant_model.specs.State.{Takes}
+use Rattle.plant_model.specs.Plant.{Plant, Happened, Entry, deeds_of, ElementSolves}
 use Rattle.plant_laws.specs.Transcript.{Transcript, Within, SentIn, Delivered, opened, pinned}
 use Rattle.plant_laws.specs.Runs.{InShortRuns}
 
 -- what an answer tells of paths: these, or that there are none
 abbrev pub Tells : Answer → List Path → Type 0
 Tells (Paths told) paths = told ≡ paths
-Tells (NoPath nature vector) paths = (nature ≡ 0) × (paths ≡ [])
+Tells (NoPath nature vector) paths = (nature ≡ no_paths.NONE_FOUND) × (paths ≡ [])
 
 -- The branches are those of a reply of b to the request that was sent to it in that moment.
 pub record IsAnswered (c : Codec) (older : Transcript) (d : As) (at : Transcript) (w : Wanted) (b : As) (rest : List As) (down : List Branch) : Type 0 where
@@ -55,30 +54,29 @@ IsServed c older d at w [] down = ⊥
 IsServed c older d at w (a ∷ []) down = down ≡ []
 IsServed c older d at w (a ∷ b ∷ rest) down = IsAnswered c older d at w b rest down
 
--- A solve at an element: its request, what was asked of the topology as it stood when the request was taken, and the rows, whose
--- certificate meets the conditions over that topology from the seeds of what was told.
-pub record IsCertified (c : Codec) (n : NetworkParts) (older : Transcript) (d : As) : Type 0 where
-  pub peer : Peer
-  pub request : Request
-  pub wanted : Wanted
+-- The rows that solve the request of a peer at an element: what was asked of the topology as it stood when the request was taken,
+-- and that these rows answer it, whose certificate meets the conditions over that topology from the seeds of what was told.
+pub record IsCertified (c : Codec) (n : NetworkParts) (older : Transcript) (d : As) (asker : RequestKey) (rows : Answers) : Type 0 where
   pub at : Transcript
-  pub is_open : opened c d peer request.id older ≡ Some at
-  pub delivered : Delivered c at d peer request
+  pub is_open : opened c d asker.peer asker.id older ≡ Some at
+  pub request : Request
+  pub delivered : Delivered c at d asker.peer request
+  pub id : request.id ≡ asker.id
+  pub wanted : Wanted
   pub is_path : request.wish ≡ wishes.Path wanted
   pub down : List Branch
   pub told : IsServed c older d at wanted (sequence_or d wanted.sequence) down
   pub job : Ask
   pub query : job.query ≡ wanted.query
   pub source : job.source ≡ wanted.source
-  pub entries : job.entries ≡ entries_of (class_of n peer) wanted.source (pinned d at)
+  pub entries : job.entries ≡ entries_of (class_of n asker.peer) wanted.source (pinned d at)
   pub target : job.target ≡ target_along (sequence_or d wanted.sequence) wanted.target
   pub below : job.down ≡ downs down
-  pub rows : Answers
   pub right : AreRows (pinned d at) job rows
 
--- In every run, of every solve at an element.
+-- In every run, of every solve at an element that may come next: its request and its own rows, by which it changes the network.
 abbrev pub SolvesCertifyIn : Codec → NetworkParts → List Entry → Plant → Type 0
-SolvesCertifyIn c n es s = (d : As) (k : ℕ) (os : List Output) (keys : List (Issued Segment)) (older : Transcript) → d ≢ parent_as → Within (Solves d k os keys ∷ older) (deeds_of c n es) → IsCertified c n older d
+SolvesCertifyIn c n es s = (d : As) (k : ℕ) (h : Happened) (x : ElementSolves c n d k s h) → IsCertified c n (deeds_of c n es) d x.held.key x.rows
 
 abbrev pub SolvesCertify : Type 0
 SolvesCertify = InShortRuns SolvesCertifyIn

@@ -9,7 +9,7 @@ use Rattle.plant_text.specs.declared.settings.NetworkParts.{NetworkParts}
 use Rattle.plant_text.specs.Names.{parent_as}
 use Rattle.plant_model.specs.Wire.{Codec}
 use Rattle.plant_model.specs.Writing.{request_message}
-use Rattle.plant_model.specs.Element.{Waits, Row, Way, way_to, fresh_id}
+use Rattle.plant_model.specs.Element.{Waits, Row, Way, way_to, fresh_id, id_most}
 use Rattle.plant_model.specs.Plant.{Pin, Plant, Entry, deeds_of}
 use Rattle.plant_laws.specs.Transcript.{Transcript, Within, SentIn, asks}
 use Rattle.plant_laws.specs.Runs.{InShortRuns}
@@ -18,7 +18,7 @@ use Rattle.plant_laws.specs.Runs.{InShortRuns}
 pub record AreCounted (now : Transcript) (s : Plant) (a b : As) : Type 0 where
   pub last : (w : Way) → way_to (Inner b) (s.elements a).ways ≡ Some w → w.last_id ≡ asks a b now
   pub waits : (h : Row Pin) → Contains (s.elements a).pending.rows h → (y : ℕ) → h.1.item.stage ≡ Waits (Inner b) y → y ≤ asks a b now
-  pub next : asks a b now < 4294967295 → fresh_id (Inner b) (asks a b now) (s.elements a).pending.rows ≡ suc (asks a b now)
+  pub next : asks a b now < id_most → fresh_id (Inner b) (asks a b now) (s.elements a).pending.rows ≡ suc (asks a b now)
 
 -- In every state of a run.
 abbrev pub IdsCountIn : Codec → NetworkParts → List Entry → Plant → Type 0

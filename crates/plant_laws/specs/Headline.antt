@@ -3,6 +3,7 @@ use Rattle.std.specs.Prelude.{◌≡◌, ◌≢◌, ◌⊎◌, ℕ, true, List, 
 use Rattle.dom_base.specs.declared.names.As.{As}
 use Rattle.dom_base.specs.declared.names.Peer.TheVariants.{Outside}
 use Rattle.plant_laws.specs.Ends.{Inside, goal_of}
+use Rattle.pcep_codes.specs.declared.no_paths.TheConstants as no_paths
 use Rattle.pcep_messages.specs.declared.message.Reply.{Reply}
 use Rattle.pcep_messages.specs.declared.message.Path.{Path}
 use Rattle.pcep_messages.specs.declared.message.Answer.TheVariants.{Paths, NoPath}
@@ -60,7 +61,7 @@ pub record HasNoneOfChain (c : Codec) (n : NetworkParts) (older now : Transcript
 abbrev pub NoneAnswersIn : Codec → NetworkParts → List Entry → Plant → Type 0
 NoneAnswersIn c n es s =
     (m older : Transcript) (d : As) (i : ℕ) (r : Reply) → is_client (class_of n (Outside i)) ≡ true → Replies (deeds_of c n es) m older d (Outside i) r →
-    (vector : ℕ) → r.answer ≡ NoPath 0 vector → (d ≢ parent_as) × (IsViaParent c n older m d (Outside i) r.id None ⊎ HasNoneOfChain c n older m d i r)
+    (vector : ℕ) → r.answer ≡ NoPath no_paths.NONE_FOUND vector → (d ≢ parent_as) × (IsViaParent c n older m d (Outside i) r.id None ⊎ HasNoneOfChain c n older m d i r)
 
 abbrev pub NoneAnswers : Type 0
 NoneAnswers = InShortRuns NoneAnswersIn

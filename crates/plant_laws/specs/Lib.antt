@@ -26,5 +26,6 @@ pub mod UnderWay
 pub mod Counted
 pub mod Matched
 pub mod Certified
+pub mod Steps
 -- handed on from below
 pub use Rattle.plant_model.specs as plant_model

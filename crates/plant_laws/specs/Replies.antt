@@ -4,6 +4,7 @@ use Rattle.std.specs.Prelude.{◌≡◌, ◌≢◌, ◌⊎◌, ℕ, true, false,
 use Rattle.dom_base.specs.declared.names.As.{As}
 use Rattle.dom_base.specs.declared.addr.Addr.{Addr}
 use Rattle.dom_base.specs.declared.names.Peer.{Peer}
+use Rattle.pcep_codes.specs.declared.no_paths.TheConstants as no_paths
 use Rattle.pcep_messages.specs.declared.message.Reply.{Reply}
 use Rattle.pcep_messages.specs.declared.message.Path.{Path}
 use Rattle.pcep_messages.specs.declared.message.Answer.TheVariants.{Paths, NoPath}
@@ -58,7 +59,7 @@ LeastReplies = InShortRuns LeastRepliesIn
 abbrev pub NoneRepliesIn : Codec → NetworkParts → List Entry → Plant → Type 0
 NoneRepliesIn c n es s =
     (m older : Transcript) (d : As) (p : Peer) (r : Reply) → d ≢ parent_as → is_closed n p ≡ true → Replies (deeds_of c n es) m older d p r →
-    (vector : ℕ) → r.answer ≡ NoPath 0 vector → IsRightful c n older m d p r []
+    (vector : ℕ) → r.answer ≡ NoPath no_paths.NONE_FOUND vector → IsRightful c n older m d p r []
 
 abbrev pub NoneReplies : Type 0
 NoneReplies = InShortRuns NoneRepliesIn

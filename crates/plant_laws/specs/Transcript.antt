@@ -4,6 +4,8 @@ use Rattle.dom_base.specs.declared.names.As.{As}
 use Rattle.dom_base.specs.declared.names.Peer.{Peer}
 use Rattle.dom_base.specs.declared.names.Peer.TheVariants.{Inner}
 use Rattle.te_links.specs.Rows.{Rows}
+use Rattle.pcep_codes.specs.declared.errors.TheConstants as errors
+use Rattle.pcep_codes.specs.declared.notices.TheConstants as notices
 use Rattle.pcep_messages.specs.declared.message.Asked.{Asked}
 use Rattle.pcep_messages.specs.declared.message.Reply.{Reply}
 use Rattle.pcep_messages.specs.declared.message.Notice.{Notice}
@@ -76,7 +78,7 @@ outputs_at d (Clears a b) = []
 outputs_at d (Expires now) = []
 outputs_at d (Hands i bytes) = []
 
--- How often a message answers the request x of its receiver. An error 8/0 answers a reply.
+-- How often a message answers the request x of its receiver. An error that a request is unknown answers a reply.
 abbrev pub one_if : Bool → ℕ
 one_if true = 1
 one_if false = 0
@@ -95,7 +97,7 @@ count_notices x (r ∷ rs) = one_if (has_id x r.ids) + count_notices x rs
 
 abbrev pub count_reports : ℕ → List ErrorReport → ℕ
 count_reports x [] = 0
-count_reports x (r ∷ rs) = one_if (cond (has_pair 8 0 r.errors) false (has_id x r.ids)) + count_reports x rs
+count_reports x (r ∷ rs) = one_if (cond (has_pair errors.UNKNOWN_REQUEST.0 errors.UNKNOWN_REQUEST.1 r.errors) false (has_id x r.ids)) + count_reports x rs
 
 abbrev pub count_answers : ℕ → Message → ℕ
 count_answers x (messages.PcRep replies) = count_replies x replies
@@ -138,7 +140,7 @@ asks_effect c d x answers (a ∷ b ∷ rest) = Keeps
 -- the peer cancels its request
 abbrev pub cancels : ℕ → List Notice → Bool
 cancels x [] = false
-cancels x (r ∷ rs) = cond (has_pair 1 1 r.kinds) (cond (has_id x r.ids) true (cancels x rs)) (cancels x rs)
+cancels x (r ∷ rs) = cond (has_pair notices.CANCELLED.0 notices.CANCELLED.1 r.kinds) (cond (has_id x r.ids) true (cancels x rs)) (cancels x rs)
 
 abbrev pub take_effect : Codec → As → Peer → ℕ → Peer → Message → List Output → Effect
 take_effect c d p x from (messages.PcReq asks) os = cond (same_peer from p) (asks_effect c d x (answers_to p x os) asks) Keeps

@@ -1,5 +1,5 @@
 -- What a network without topologies says on the disclosed trace of a run, and that it is all that closed peers hear.
-use Rattle.std.specs.Prelude.{◌≡◌, ◌<◌, List, [], ◌∷◌, AllPairs}
+use Rattle.std.specs.Prelude.{◌≡◌, ◌<◌, true, List, [], ◌∷◌, ◌++◌, AllPairs}
 use Rattle.dom_base.specs.declared.addr.Addr.{Addr}
 use Rattle.dom_base.specs.declared.border.BorderRow.{BorderRow}
 use Rattle.te_links.specs.Rows.{Rows, IsInOrder}
@@ -13,7 +13,7 @@ use Rattle.plant_model.specs.Wire.{Codec}
 use Rattle.plant_model.specs.Jobs.{IsJoinOf}
 use Rattle.plant_model.specs.Plant.{Plant, Entry, Steps, IsGiven, opened, deeds_of}
 use Rattle.plant_model.specs.Laws.{IsNetwork}
-use Rattle.plant_model.specs.Blind.{BlindState, Heard, heard, BlindSays, AreBlindGiven, Traces}
+use Rattle.plant_model.specs.Blind.{BlindState, BlindHappened, BlindHappens, Heard, heard, BlindSays, AreBlindGiven, Traces, is_accepted}
 use Rattle.dom_base.specs.AddrOrder.{rank}
 
 -- The best rows of an ask are the join of its border table with the rows that the next domain told.
@@ -32,6 +32,18 @@ DisclosedRun c n (e ∷ older) trace s =
 abbrev pub SaysAsBlind : Type 0
 SaysAsBlind = (c : Codec) (n : NetworkParts) (es : List Entry) (trace : List BlindEvent) (s : Plant) → DisclosedRun c n es trace s →
     (b : BlindState) × BlindSays c n trace (heard c n (deeds_of c n es)) b
+
+-- The blind plant accepts each event of a trace, and says this.
+abbrev pub BlindAccepts : Codec → NetworkParts → List BlindEvent → List Heard → BlindState → Type 0
+BlindAccepts c n [] hs b = BlindSays c n [] hs b
+BlindAccepts c n (x ∷ older) hs b =
+    (before : BlindState) × (earlier : List Heard) × (h : BlindHappened) × BlindAccepts c n older earlier before × BlindHappens c n before x h
+    × (is_accepted h.answer ≡ true) × (b ≡ h.state) × (hs ≡ earlier ++ heard c n h.deeds)
+
+-- So it does on the disclosed trace of a run, of which each event was accepted.
+abbrev pub AcceptsAsBlind : Type 0
+AcceptsAsBlind = (c : Codec) (n : NetworkParts) (es : List Entry) (trace : List BlindEvent) (s : Plant) → DisclosedRun c n es trace s →
+    (b : BlindState) × BlindAccepts c n trace (heard c n (deeds_of c n es)) b
 
 -- The blind plant says one thing on a trace.
 abbrev pub SaysOneThing : Type 0

@@ -17,18 +17,27 @@ ghost use Rattle.plant_laws.specs.Replies.{LeastReplies, LeastRepliesIn, NoneRep
 ghost use Rattle.plant_laws.specs.Runs.{AllIsWritten, InShortRuns, OverPcep};
 ghost use Rattle.plant_laws.specs.Solves.{SolvesTell};
 ghost use Rattle.plant_laws.specs.Standing.{PinsAreCurrent, QueuesStand};
+ghost use Rattle.plant_laws.specs.Steps.{StepsAreOne};
 ghost use Rattle.plant_laws.specs.Tables.{OpenIsPending};
 ghost use Rattle.plant_laws.specs.Topologies.{PinsAreDomains};
 ghost use Rattle.plant_laws.specs.Twins.{TwinWorlds};
 ghost use Rattle.plant_laws.specs.UnderWay.{WaitsAreUnderWay, WaitsAreUnderWayIn};
 ghost use Rattle.plant_laws.specs.Waiting.{WaitsApart, WaitsAreSent};
-ghost use Rattle.plant_laws.specs.Worlds.{BorderJoins, SaysAsBlind, SaysOneThing, TwoWorlds};
+ghost use Rattle.plant_laws.specs.Worlds.{AcceptsAsBlind, BorderJoins, SaysAsBlind, SaysOneThing, TwoWorlds};
+
+// ---- steps
+
+/// An event has one answer, one state after it and one list of deeds, but for want of memory.
+pub fn steps_are_one()
+    ensures { StepsAreOne }
+{}
 
 // ---- least costs
 
 /// Each path that a client is answered is of least cost among all walks through the asked domains in order,
-/// each domain as it stood when its element took the request; and NO-PATH of nature 0 says that there is
-/// none. For a request that went to the parent, the same over its border graph.
+/// each domain as it stood when its element took the request, with the keys of the solves that answered this
+/// request; and NO-PATH of nature 0 says that there is none. For a request that went to the parent, which was
+/// asked the same, the same over its border graph.
 pub fn answers_are_least()
     ensures paths { LeastAnswers }
     ensures none { NoneAnswers }
@@ -54,8 +63,8 @@ pub fn solves_tell()
     ensures { SolvesTell }
 {}
 
-/// The certificate of a solve meets the conditions over the topology that the element had when it took the
-/// request, from the seeds that the taken reply gives.
+/// The certificate of a solve's own rows meets the conditions over the topology that the element had when it
+/// took the request, from the seeds that the taken reply gives.
 pub fn solves_certify()
     ensures { SolvesCertify }
 {}
@@ -74,7 +83,7 @@ pub fn waits_are_under_way()
 {}
 
 /// Each path request that is accepted is pending, or is answered exactly once, or was dropped as its peer
-/// cancelled it or went down.
+/// cancelled it or went down. Whatever else answers under its id answers a message that asks under it anew.
 pub fn requests_are_answered_once()
     ensures { RequestsAreAnsweredOnce }
 {}
@@ -93,9 +102,10 @@ pub fn border_joins()
 {}
 
 /// What closed peers hear in a run is what the blind plant says on its disclosed trace, byte for byte and in
-/// order.
+/// order; and it accepts each event of that trace.
 pub fn says_as_blind()
-    ensures { SaysAsBlind }
+    ensures says { SaysAsBlind }
+    ensures accepts { AcceptsAsBlind }
 {}
 
 /// The network without topologies says one thing on a trace whose rows stand in order.

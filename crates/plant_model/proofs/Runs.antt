@@ -21,7 +21,7 @@ load_keeps_pin = record { pinned = refl; newest = refl; unheard = refl }
 
 pub keys_are_guarded : KeysAreGuarded
 unfolding answers rank parts_from body_of is_bound is_minimised
-keys_are_guarded = record { client = refl; neighbour = refl; other = refl }
+keys_are_guarded = record { client = refl; last_moment = refl; expired = refl; neighbour = refl; other = refl }
 
 pub ids_tell_who_sent : IdsTellWhoSent
 unfolding answers rank parts_from body_of is_bound is_minimised

@@ -98,9 +98,13 @@ abbrev pub waiting : {P : Type 0} → Peer → ℕ → List (Row P) → Option (
 waiting p y [] = None
 waiting p y (h ∷ hs) = cond (waits_for p y h.1.item.stage) (Some h) (waiting p y hs)
 
+-- the greatest id of a request (RFC 5440, section 7.4)
+abbrev pub id_most : ℕ
+id_most = 4294967295
+
 -- Ids towards a peer rise from 1, and 1 follows the last. One that waits is passed over.
 abbrev pub after_id : ℕ → ℕ
-after_id n = cond (n == 4294967295) 1 (suc n)
+after_id n = cond (n == id_most) 1 (suc n)
 
 abbrev pub pass_over : {A : Type 0} → List A → (ℕ → Bool) → ℕ → ℕ
 pass_over [] waits y = y

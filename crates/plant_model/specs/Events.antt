@@ -12,7 +12,6 @@ use Rattle.plant_model.specs.declared.outcome.Refused.TheVariants.{NoSuchPeer, N
 use Rattle.std.specs.Map.{lookup}
 use Rattle.request_table.specs.declared.held.Held.{Held}
 use Rattle.request_table.specs.Pending.{pending_most}
-use Rattle.plant_model.specs.declared.TheConstants.{PARENT_PENDING_MAX}
 use Rattle.pcep_session.specs.declared.state.Phase.{Phase}
 use Rattle.pcep_session.specs.declared.state.Phase.TheVariants as phase
 use Rattle.pcep_session.specs.Table.{new_state}
@@ -196,7 +195,7 @@ module _ (P : Type 0) (S : Type 0) (c : Codec) (n : NetworkParts) (show : S → 
       keys = record { life = life n d; next = 1; clock = 0; issued = [] };
       ways = ways n d;
     };
-    parent = record { pending = record { limit = PARENT_PENDING_MAX; given = 0; rows = [] }; ways = ways n parent_as };
+    parent = record { pending = record { limit = parent.pending_most; given = 0; rows = [] }; ways = ways n parent_as };
     current = pins;
     accesses = λ i. record { opened = 0; connection = None };
     sessions = λ a b. new_state (our_offer 0) (record { 0 = 0 });

@@ -1,12 +1,12 @@
 -- The job of a pending request (RFC 5441, section 5): what is asked of the own domain, and the join of its border table.
-use Rattle.std.specs.Prelude.{◌≡◌, ◌⊎◌, ◌+◌, ◌≤◌, ◌<◌, ℕ, cond, List, [], ◌∷◌, map, filter, Contains, AllPairs, Option, Some, None}
+use Rattle.std.specs.Prelude.{◌≡◌, ◌⊎◌, ◌≤◌, ◌<◌, ℕ, cond, List, [], ◌∷◌, map, filter, Contains, AllPairs, Option, Some, None}
 use Rattle.dom_base.specs.declared.addr.Addr.{Addr}
 use Rattle.dom_base.specs.AddrOrder.{rank}
 use Rattle.dom_base.specs.declared.names.As.{As}
 use Rattle.dom_base.specs.declared.border.BorderRow.{BorderRow}
 use Rattle.te_links.specs.declared.rows.Entry.{Entry}
 use Rattle.te_links.specs.Rows.{Rows}
-use Rattle.walk_laws.specs.Borders.{IsDown}
+use Rattle.walk_laws.specs.TableJoins.{RowJoins, RowEnds}
 use Rattle.disclosure.specs.declared.class.Class.{Class}
 use Rattle.disclosure.specs.declared.class.Class.TheVariants.{Client, Neighbour, Parent}
 use Rattle.vspt_tree.specs.declared.branch.Best.{Best}
@@ -52,13 +52,12 @@ ask_of own number i down generation g = record {
   down = downs down;
 }
 
--- a row of the border table with what lies beyond it: a sum within the cap
+-- a row of the border table, in the last domain by itself and else with what lies beyond its head: a sum within the cap
 abbrev pub JoinsBy : ℕ → Target → List BorderRow → List Down → Addr → ℕ → Addr → Option Addr → Type 0
-JoinsBy cap (Node t) border down e c exit None = Contains border (record { entry = e; far = exit; head = exit; cost = c }) × (c ≤ cap)
+JoinsBy cap (Node t) border down e c exit None = RowEnds cap border e (record { cost = c; exit = exit })
 JoinsBy cap (Node t) border down e c exit (Some head) = ⊥
 JoinsBy cap (Next b) border down e c exit None = ⊥
-JoinsBy cap (Next b) border down e c exit (Some head) =
-    (own : ℕ) × (rest : ℕ) × Contains border (record { entry = e; far = exit; head = head; cost = own }) × IsDown (beyond down) head rest × (c ≡ own + rest) × (c ≤ cap)
+JoinsBy cap (Next b) border down e c exit (Some head) = (over : RowJoins cap border (beyond down) e (record { cost = c; exit = exit })) × (over.row.head ≡ head)
 
 -- The join of a border table with downstream rows: for each entry the least pair of a sum and an exit. The segments stand
 -- for nothing.

@@ -1,4 +1,4 @@
--- That the functions of the model are what the contracts of its parts say: branches, requests and generations.
+-- That the functions of the model are what the contracts of its parts say: branches, requests and generations, and the parent's limit.
 use Rattle.std.specs.Prelude.{◌≡◌, ◌↔◌, ℕ, ◌++◌, ◌==◌, List, Contains, count_by, Some, Result, Ok, Err, IsTrue}
 use Rattle.dom_base.specs.declared.names.As.{As}
 use Rattle.te_links.specs.Rows.{Rows}
@@ -13,12 +13,18 @@ use Rattle.pcep_messages.specs.Requests.{Answers}
 use Rattle.vspt_tree.specs.declared.branch.Best.{Best}
 use Rattle.vspt_tree.specs.declared.branch.Branch.{Branch}
 use Rattle.vspt_tree.specs.Branches.{IsBranchOf}
+use Rattle.plant_model.specs.declared.TheConstants.{PARENT_PENDING_MAX}
+use Rattle.plant_model.specs.Parent.{pending_most}
 use Rattle.plant_model.specs.Wire.{Checked, Admitted, Wrong}
 use Rattle.plant_model.specs.Branches.{onward}
 use Rattle.plant_model.specs.Element.{Row}
 use Rattle.plant_model.specs.Plant.{Pin}
 use Rattle.plant_model.specs.Plant as plant
 use Rattle.plant_model.specs.RealWire.{check_of}
+
+-- the constant of the parent's limit is the model's
+abbrev pub LimitMeets : Type 0
+LimitMeets = PARENT_PENDING_MAX ≡ pending_most
 
 abbrev pub BranchMeets : Type 0
 BranchMeets = (down : List Branch) (row : Best) (own : List Hop) (branch : Branch) → IsBranchOf down row own branch → branch.hops ≡ own ++ onward row.exit row.head down

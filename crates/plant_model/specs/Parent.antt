@@ -59,6 +59,10 @@ pub record Parent : Type 0 where
   pub pending : Pending Asking
   pub ways : List Way
 
+-- how many requests may be pending at the parent
+abbrev pub pending_most : ℕ
+pending_most = 64
+
 -- the settings of the parent; the children in rising order
 pub record Family : Type 0 where
   pub children : List As

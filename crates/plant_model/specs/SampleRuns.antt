@@ -19,10 +19,9 @@ use Rattle.plant_text.specs.declared.settings.ElementRow.{ElementRow}
 use Rattle.plant_model.specs.declared.event.Event.TheVariants as event
 use Rattle.plant_model.specs.Writing.{needed, reply_message, unavailable, no_key}
 use Rattle.plant_model.specs.RealWire.{wire}
-use Rattle.plant_model.specs.State.{Loads}
-use Rattle.plant_model.specs.Plant.{Pin, Segment, Plant}
+use Rattle.plant_model.specs.Plant.{Pin, Plant}
 use Rattle.plant_model.specs.Blind.{heard}
-use Rattle.plant_model.specs.Samples.{Act, Do, Solve, Join, answers, after, link_up, comes, asks, As_}
+use Rattle.plant_model.specs.Samples.{Act, Do, Solve, Join, act, answers, after, link_up, comes, asks, As_, moment}
 
 abbrev pub element : ℕ → Bool → ElementRow
 element d parent = record { own = As_ d; id = V4 (200 + d); topology = None; key_life = 600; parent = parent }
@@ -94,20 +93,32 @@ BreakIsTold = answers three (asked ++ Do (event.Break (As_ 3) (As_ 2)) ∷ Do (e
 abbrev pub pin_at : Plant → As → ℕ → Option Pin
 pin_at s d k = option_map (λ h. h.item.pin) (lookup (nat_eq k) (s.elements d).pending.rows)
 
+abbrev pub load_other : Act
+load_other = Do (event.Load (As_ 3) other_third)
+
+abbrev pub loaded : List Act
+loaded = asked ++ load_other ∷ []
+
 -- A load between the take of a request and its solve leaves the topology that the request pinned. No closed receiver hears of it.
 pub record LoadKeepsPin : Type 0 where
-  pub pinned : pin_at (after three (asked ++ Do (event.Load (As_ 3) other_third) ∷ [])) (As_ 3) 1 ≡ Some (record { number = 1; topology = third })
-  pub newest : (after three (asked ++ Do (event.Load (As_ 3) other_third) ∷ [])).current (As_ 3) ≡ record { number = 2; topology = other_third }
-  pub unheard : heard {S = Segment} wire three (Loads (As_ 3) other_third ∷ []) ≡ []
+  pub pinned : pin_at (after three loaded) (As_ 3) 1 ≡ Some (record { number = 1; topology = third })
+  pub newest : (after three loaded).current (As_ 3) ≡ record { number = 2; topology = other_third }
+  pub unheard : heard wire three (act three load_other (after three asked)).deeds ≡ []
 
 -- ---- keys
 
 abbrev pub expansion : ℕ → ℕ → ℕ → Message
 expansion id key d = messages.PcReq (record { objects = needed 2 (bodies.Rp 256 id) ∷ needed 16 (bodies.PathKey (hidden key d ∷ [])) ∷ [] } ∷ [])
 
+-- at this moment a client asks what the first key of the second domain stands for
+abbrev pub expanded_at : ℕ → List Act
+expanded_at t = asked ++ solved_second ++ Do (event.Tick (moment t)) ∷ comes 2 (expansion 9 1 2)
+
 -- A client is told what the key stands for; a neighbour is not, nor anybody at the end of its life, or of another key.
 pub record KeysAreGuarded : Type 0 where
   pub client : answers three (asked ++ solved_second ++ comes 2 (expansion 9 1 2)) ≡ (2, reply_message 256 9 (Paths (record { hops = strict_hop (V4 2) ∷ []; metric = None } ∷ []))) ∷ []
+  pub last_moment : answers three (expanded_at 599) ≡ (2, reply_message 256 9 (Paths (record { hops = strict_hop (V4 2) ∷ []; metric = None } ∷ []))) ∷ []
+  pub expired : answers three (expanded_at 600) ≡ (2, reply_message 256 9 no_key) ∷ []
   pub neighbour : answers three (asked ++ solved_second ++ comes 3 (expansion 9 1 2)) ≡ (3, reply_message 256 9 no_key) ∷ []
   pub other : answers three (asked ++ solved_second ++ comes 2 (expansion 9 2 2)) ≡ (2, reply_message 256 9 no_key) ∷ []
 

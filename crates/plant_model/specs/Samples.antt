@@ -2,6 +2,7 @@
 use Rattle.std.specs.Prelude.{ℕ, nat_eq, List, [], ◌∷◌, ◌++◌, Bool, false, Option, Some, None}
 use Rattle.std.specs.Map.{lookup}
 use Rattle.dom_base.specs.declared.names.As.{As}
+use Rattle.dom_base.specs.declared.names.Tick.{Tick}
 use Rattle.dom_base.specs.declared.addr.Addr.{Addr}
 use Rattle.dom_base.specs.declared.names.Peer.{Peer}
 use Rattle.dom_base.specs.declared.names.Peer.TheVariants.{Outside, Inner}
@@ -104,6 +105,9 @@ comes i m =
 
 abbrev pub As_ : ℕ → As
 As_ n = record { 0 = n }
+
+abbrev pub moment : ℕ → Tick
+moment t = record { 0 = t }
 
 -- a request by TE metric, without constraints
 abbrev pub wanted : Addr → Addr → Wanted

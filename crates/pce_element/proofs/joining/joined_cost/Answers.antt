@@ -1,24 +1,17 @@
-use Rattle.std.proofs.Common.{◌≡◌, ◌∙◌, refl, sym, subst}
+use Rattle.std.proofs.Common.{refl, sym, subst}
 use Rattle.std.specs.Prelude.{MatchOption}
 use Rattle.border_costs.specs.declared.job.Target.{Target}
 use Rattle.member_parts.specs.plant_model.Branches.{downs}
 use Rattle.pce_element.specs.Joining.{JoinsNothing, JoinsOver}
-use Rattle.pce_element.proofs.JoinLemmas.{addrs_differ, addrs_same, next_nowhere, next_within, node_elsewhere, node_within}
+use Rattle.pce_element.proofs.JoinLemmas.{next_nowhere, next_within, node_within}
 use Rattle.pce_element.proofs.joining.joined_cost.Goals as goal
 
-pub returns-then-not-is_same_addr : goal.returns-then-not-is_same_addr
-returns-then-not-is_same_addr c =
-    let r = c.args.row.now in
-    let down = downs c.args.down.now in
-    subst (λ (t : Target). JoinsNothing c.args.cap t down r) (sym c.in-Node.is)
-    (node_elsewhere c.args.cap c.in-Node._end down r (addrs_differ r.head r.far (sym c.is_same_addr.ensures ∙ c.if-not-is_same_addr.true)))
-
-pub returns-else-not-is_same_addr : goal.returns-else-not-is_same_addr
-returns-else-not-is_same_addr c =
+pub returns-in-Node : goal.returns-in-Node
+returns-in-Node c =
     let r = c.args.row.now in
     let down = downs c.args.down.now in
     subst (λ (t : Target). MatchOption c.within.result (JoinsNothing c.args.cap t down r) (JoinsOver c.args.cap t down r)) (sym c.in-Node.is)
-    (node_within c.args.cap c.in-Node._end down r c.get.result c.within.result (addrs_same r.head r.far (sym c.is_same_addr.ensures ∙ c.if-not-is_same_addr.false)) c.get.ensures.number c.within.ensures)
+    (node_within c.args.cap c.in-Node._end down r c.get.result c.within.result c.get.ensures.number c.within.ensures)
 
 pub returns-in_default : goal.returns-in_default
 returns-in_default c =

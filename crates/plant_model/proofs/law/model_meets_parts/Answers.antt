@@ -1,3 +1,4 @@
+use Rattle.std.proofs.Common.{refl}
 use Rattle.plant_model.proofs.Meeting as Meeting
 use Rattle.plant_model.proofs.Live as Live
 use Rattle.plant_model.proofs.law.model_meets_parts.Goals as goal
@@ -10,3 +11,6 @@ returns-clause-requests c = Meeting.check_meets
 
 pub returns-clause-generations : goal.returns-clause-generations
 returns-clause-generations c = Live.live_meets
+
+pub returns-clause-limit : goal.returns-clause-limit
+returns-clause-limit c = refl

@@ -1,0 +1,5 @@
+use Rattle.plant_laws.proofs.OneStep as OneStep
+use Rattle.plant_laws.proofs.steps_are_one.Goals as goal
+
+pub returns : goal.returns
+returns c = OneStep.steps_are_one
