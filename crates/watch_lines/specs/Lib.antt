@@ -1,0 +1,3 @@
+-- for readers, in this order
+pub mod Answers
+pub mod Serving
