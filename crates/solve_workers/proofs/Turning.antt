@@ -14,9 +14,9 @@ use Rattle.pce_parent.specs.declared.work.Done.{Done}
 use Rattle.cost_cache.specs.Entries.{Entries}
 use Rattle.cost_cache.specs.Keys.{key_of}
 use Rattle.cost_cache.specs.declared.key.Key.{Key}
-use Rattle.solve_workers.specs.Benches.{Call, Ready, Look, Finish, Benched, Goes, IsOf}
-use Rattle.solve_workers.specs.Turns.{Asks, Follows, Breaks, GoesOn, given_job, given_key, jobs_given, keys_given, key_of_work}
-use Rattle.solve_workers.specs.Steps.{AreRight, Holds, IsLive, Stays, IsFound, IsFinished, IsWhole, IsTurned}
+use Rattle.solve_workers.specs.Benches.{Call, Ready, Look, Finish, Benched, Goes, IsOf, made_by}
+use Rattle.solve_workers.specs.Turns.{Asks, Follows, Breaks, GoesOn, IsTurn, IsCut, given_job, given_key, jobs_given, keys_given, key_of_work}
+use Rattle.solve_workers.specs.Steps.{AreRight, Holds, IsLive, Stays, AsksBy, FollowsBy, TurnBy, IsFound, IsFinished, IsWhole, IsTurned}
 use Rattle.solve_workers.specs.declared.benches.Finished.{Finished}
 use Rattle.solve_workers.specs.declared.benches.Finished.TheVariants.{Kept as Taken, Stranger, NoMemory as NoRoom}
 use Rattle.solve_workers.proofs.Righting.{right_grows}
@@ -37,27 +37,67 @@ stays_here a = record { topologies = λ at generation g is. is; spent = λ t is.
 pub joined : (a b c : Benched) (xs ys : List Call) → b.calls ≡ a.calls ++ xs → c.calls ≡ b.calls ++ ys → c.calls ≡ a.calls ++ (xs ++ ys)
 joined a b c xs ys first second = second ∙ ap (λ (cs : List Call). cs ++ ys) first ∙ append_assoc a.calls xs ys
 
+-- a bench that is not spent
+pub none_of : (s : Option ℕ) → ((t : ℕ) → s ≡ Some t → ⊥) → s ≡ None
+none_of None live = refl
+none_of (Some t) live = absurd (live t refl)
+
+-- one call more, of a bench that is not spent
+pub one_call : (old new : Benched) (call : Call) → Goes old new call → new.spent ≡ None → new.calls ≡ old.calls ++ call ∷ []
+one_call old new call goes live = goes.calls ∙ ap (λ (s : Option ℕ). old.calls ++ made_by s call) live
+
+-- and none of one that is
+pub no_call : (old new : Benched) (call : Call) (t : ℕ) → Goes old new call → new.spent ≡ Some t → new.calls ≡ old.calls
+no_call old new call t goes spent = goes.calls ∙ ap (λ (s : Option ℕ). old.calls ++ made_by s call) spent ∙ append-nil old.calls
+
 -- one call
 pub found_one : (index : ℕ) (old new : Benched) (job : As × ℕ) → Goes old new (Ready index (Some job)) → IsFound index old new (Some job)
-found_one index old new job goes = record {
-  made = Ready index (Some job) ∷ [];
-  calls = goes.calls;
-  asks = inl (job, refl, refl);
-  stays = stays_of old new (Ready index (Some job)) goes;
-  no_jobs = refl;
-  no_keys = refl;
-}
+found_one index old new job goes =
+    let made : List Call = Ready index (Some job) ∷ [] in
+    let live = none_of new.spent (λ t is. let idle : Some job ≡ None = goes.idle t is in cc) in
+    record {
+      made = made;
+      calls = one_call old new (Ready index (Some job)) goes live;
+      asks = subst (λ (s : Option ℕ). AsksBy s index made (Some job)) (sym live) (inl (job, refl, refl));
+      stays = stays_of old new (Ready index (Some job)) goes;
+      no_jobs = refl;
+      no_keys = refl;
+    }
 
--- or two
-pub found_two : (index : ℕ) (old mid new : Benched) (found : Option (As × ℕ)) → Goes old mid (Ready index None) → Goes mid new (Ready 0 found) → IsFound index old new found
-found_two index old mid new found first second = record {
-  made = Ready index None ∷ Ready 0 found ∷ [];
-  calls = joined old mid new (Ready index None ∷ []) (Ready 0 found ∷ []) first.calls second.calls;
-  asks = inr refl;
-  stays = stays_on old mid new (stays_of old mid (Ready index None) first) (stays_of mid new (Ready 0 found) second);
-  no_jobs = refl;
-  no_keys = refl;
-}
+module _ (index : ℕ) (old mid new : Benched) (found : Option (As × ℕ)) (first : Goes old mid (Ready index None)) (second : Goes mid new (Ready 0 found)) where
+  abbrev both_stay : Stays old new
+  both_stay = stays_on old mid new (stays_of old mid (Ready index None) first) (stays_of mid new (Ready 0 found) second)
+
+  found_by : (m s : Option ℕ) → mid.spent ≡ m → new.spent ≡ s → IsFound index old new found
+  found_by None None at is = record {
+    made = Ready index None ∷ Ready 0 found ∷ [];
+    calls = joined old mid new (Ready index None ∷ []) (Ready 0 found ∷ []) (one_call old mid (Ready index None) first at) (one_call mid new (Ready 0 found) second is);
+    asks = subst (λ (s : Option ℕ). AsksBy s index (Ready index None ∷ Ready 0 found ∷ []) found) (sym is) (inr refl);
+    stays = both_stay;
+    no_jobs = refl;
+    no_keys = refl;
+  }
+  found_by None (Some t) at is = record {
+    made = Ready index None ∷ [];
+    calls = no_call mid new (Ready 0 found) t second is ∙ one_call old mid (Ready index None) first at;
+    asks = subst (λ (s : Option ℕ). AsksBy s index (Ready index None ∷ []) found) (sym is) (second.idle t is, inr refl);
+    stays = both_stay;
+    no_jobs = refl;
+    no_keys = refl;
+  }
+  found_by (Some t) None at is = let both : None ≡ Some t = sym is ∙ second.stays t at in absurd (let no : ⊥ = cc in no)
+  found_by (Some u) (Some t) at is = record {
+    made = [];
+    calls = no_call mid new (Ready 0 found) t second is ∙ no_call old mid (Ready index None) u first at ∙ sym (append-nil old.calls);
+    asks = subst (λ (s : Option ℕ). AsksBy s index [] found) (sym is) (second.idle t is, inl refl);
+    stays = both_stay;
+    no_jobs = refl;
+    no_keys = refl;
+  }
+
+  -- or two
+  pub found_two : IsFound index old new found
+  found_two = found_by mid.spent new.spent refl refl
 
 -- a job that was not solved for want of memory
 pub unsolved : (work : Work) (b : Benched) (before after : Entries) (e : NoMemory) → IsLive b → IsFinished work (Err e) b b before after
@@ -74,26 +114,36 @@ unsolved work b before after e live = record {
 pub no_room : (work : Work) (old new : Benched) (before after : Entries) (done : Done) (e : NoMemory) → IsOf done work → Goes old new (Finish done NoRoom) → IsFinished work (Err e) old new before after
 no_room work old new before after done e is_of goes = record {
   made = Finish done NoRoom ∷ [];
-  calls = goes.calls;
+  calls = one_call old new (Finish done NoRoom) goes (none_of new.spent (λ t is. let idle : NoRoom ≡ Stranger = goes.idle t is in cc));
   stays = stays_of old new (Finish done NoRoom) goes;
   ends = (inr (done, is_of, refl), λ t is. let idle : NoRoom ≡ Stranger = goes.idle t is in cc);
   no_jobs = refl;
   no_keys = refl;
 }
 
--- one that was taken, or came too late
-pub handed_back : (work : Work) (old new : Benched) (before after : Entries) (done : Done) (answer : Finished) → IsOf done work → answer ≢ NoRoom → Goes old new (Finish done answer) →
-    Holds (key_of_work work) before after → AreRight old.topologies after → IsFinished work (Ok tt) old new before after
-handed_back work old new before after done answer is_of room goes holds right =
-    let stays = stays_of old new (Finish done answer) goes in
-    record {
-      made = Finish done answer ∷ [];
-      calls = goes.calls;
-      stays = stays;
-      ends = ((done, answer, is_of, room, refl), holds, right_grows old new after stays right);
-      no_jobs = refl;
-      no_keys = refl;
-    }
+-- one that was taken, came too late, or was not handed back since the bench is spent
+module _ (work : Work) (old new : Benched) (before after : Entries) (done : Done) (answer : Finished) (is_of : IsOf done work) (room : answer ≢ NoRoom) (goes : Goes old new (Finish done answer))
+    (holds : Holds (key_of_work work) before after) (right : AreRight old.topologies after) where
+  back_by : (s : Option ℕ) → new.spent ≡ s → IsFinished work (Ok tt) old new before after
+  back_by None is = let stays = stays_of old new (Finish done answer) goes in record {
+    made = Finish done answer ∷ [];
+    calls = one_call old new (Finish done answer) goes is;
+    stays = stays;
+    ends = (subst (λ (s : Option ℕ). FollowsBy s work (Finish done answer ∷ [])) (sym is) (done, answer, is_of, room, refl), holds, right_grows old new after stays right);
+    no_jobs = refl;
+    no_keys = refl;
+  }
+  back_by (Some t) is = let stays = stays_of old new (Finish done answer) goes in record {
+    made = [];
+    calls = no_call old new (Finish done answer) t goes is ∙ sym (append-nil old.calls);
+    stays = stays;
+    ends = (subst (λ (s : Option ℕ). FollowsBy s work []) (sym is) ((done, is_of), refl), holds, right_grows old new after stays right);
+    no_jobs = refl;
+    no_keys = refl;
+  }
+
+  pub handed_back : IsFinished work (Ok tt) old new before after
+  handed_back = back_by new.spent refl
 
 jobs_on : (xs ys : List Call) → jobs_given xs ≡ [] → jobs_given (xs ++ ys) ≡ jobs_given ys
 jobs_on xs ys none = filter_map-append given_job xs ys ∙ ap (λ (js : List (As × ℕ)). js ++ jobs_given ys) none
@@ -102,6 +152,15 @@ keys_on : (xs ys : List Call) → keys_given xs ≡ [] → keys_given (xs ++ ys)
 keys_on xs ys none = filter_map-append given_key xs ys ∙ ap (λ (ks : List Key). ks ++ keys_given ys) none
 
 -- no job is ready
+no_job : (index : ℕ) (s : Option ℕ) (made : List Call) → AsksBy s index made None → TurnBy s index made
+no_job index None made asks = record { asked = made; found = None; asks = asks; rest = []; goes_on = refl; is = sym (append-nil made) }
+no_job index (Some t) made asks =
+    let twice : IsTurn index (Ready index None ∷ Ready 0 None ∷ []) = record { asked = Ready index None ∷ Ready 0 None ∷ []; found = None; asks = inr refl; rest = []; goes_on = refl; is = refl } in
+    elim asks.1 [
+      | inl none ↦ subst (λ (cs : List Call). IsCut index cs) (sym none) (Ready index None, Ready 0 None ∷ [], twice)
+      | inr once ↦ subst (λ (cs : List Call). IsCut index cs) (sym once) (Ready 0 None, [], twice)
+    ]
+
 pub idle_turn : (index : ℕ) (old new : Benched) (passed : List (As × ℕ)) (cache : Entries) → IsFound index old new None → AreRight old.topologies cache →
     IsTurned index (Ok tt) old new passed passed cache cache
 idle_turn index old new passed cache f right = record {
@@ -110,7 +169,7 @@ idle_turn index old new passed cache f right = record {
   stays = f.stays;
   gate = sym (ap (λ (js : List (As × ℕ)). passed ++ js) f.no_jobs ∙ append-nil passed);
   ends = record {
-    turn = record { asked = f.made; found = None; asks = f.asks; rest = []; goes_on = refl; is = sym (append-nil f.made) };
+    turn = no_job index new.spent f.made f.asks;
     key = None;
     keys = f.no_keys;
     holds = refl;
@@ -118,54 +177,88 @@ idle_turn index old new passed cache f right = record {
   };
 }
 
+-- a bench that has a ready job is not spent
+asks_of : (index : ℕ) (s : Option ℕ) (made : List Call) (job : As × ℕ) → AsksBy s index made (Some job) → Asks index made (Some job)
+asks_of index None made job asks = asks
+asks_of index (Some t) made job asks = let both : Some job ≡ None = asks.0 in absurd (let no : ⊥ = cc in no)
+
+-- a turn up to a look
+looked_turn : (index : ℕ) (made more : List Call) (job : As × ℕ) (answer : Result (Option Work) NoMemory) → Asks index made (Some job) → Follows answer more →
+    IsTurn index (made ++ Look job.0 job.1 answer ∷ more)
+looked_turn index made more job answer asks follows = record {
+  asked = made;
+  found = Some job;
+  asks = asks;
+  rest = Look job.0 job.1 answer ∷ more;
+  goes_on = (record { answer = answer; rest = more; is = refl }, follows);
+  is = refl;
+}
+
 -- the job is no longer ready
-pub late_turn : (index : ℕ) (old mid new : Benched) (passed : List (As × ℕ)) (cache : Entries) (job : As × ℕ) → IsFound index old mid (Some job) → Goes mid new (Look job.0 job.1 (Ok None)) →
-    AreRight old.topologies cache → IsTurned index (Ok tt) old new passed passed cache cache
-late_turn index old mid new passed cache job f looked right =
-    let look = Look job.0 job.1 (Ok None) in
-    let stays = stays_on old mid new f.stays (stays_of mid new look looked) in
-    record {
-      made = f.made ++ look ∷ [];
-      calls = joined old mid new f.made (look ∷ []) f.calls looked.calls;
-      stays = stays;
-      gate = sym (ap (λ (js : List (As × ℕ)). passed ++ js) (jobs_on f.made (look ∷ []) f.no_jobs) ∙ append-nil passed);
-      ends = record {
-        turn = record {
-          asked = f.made;
-          found = Some job;
-          asks = f.asks;
-          rest = look ∷ [];
-          goes_on = (record { answer = Ok None; rest = []; is = refl }, refl);
-          is = refl;
-        };
-        key = None;
-        keys = keys_on f.made (look ∷ []) f.no_keys;
-        holds = refl;
-        right = right_grows old new cache stays right;
-      };
-    }
+module _ (index : ℕ) (old mid new : Benched) (passed : List (As × ℕ)) (cache : Entries) (job : As × ℕ) (f : IsFound index old mid (Some job)) (looked : Goes mid new (Look job.0 job.1 (Ok None)))
+    (right : AreRight old.topologies cache) where
+  abbrev none_there : Call
+  none_there = Look job.0 job.1 (Ok None)
+
+  abbrev stays_late : Stays old new
+  stays_late = stays_on old mid new f.stays (stays_of mid new none_there looked)
+
+  abbrev late : IsTurn index (f.made ++ none_there ∷ [])
+  late = looked_turn index f.made [] job (Ok None) (asks_of index mid.spent f.made job f.asks) refl
+
+  late_by : (s : Option ℕ) → new.spent ≡ s → IsTurned index (Ok tt) old new passed passed cache cache
+  late_by None is = record {
+    made = f.made ++ none_there ∷ [];
+    calls = joined old mid new f.made (none_there ∷ []) f.calls (one_call mid new none_there looked is);
+    stays = stays_late;
+    gate = sym (ap (λ (js : List (As × ℕ)). passed ++ js) (jobs_on f.made (none_there ∷ []) f.no_jobs) ∙ append-nil passed);
+    ends = record {
+      turn = subst (λ (s : Option ℕ). TurnBy s index (f.made ++ none_there ∷ [])) (sym is) late;
+      key = None;
+      keys = keys_on f.made (none_there ∷ []) f.no_keys;
+      holds = refl;
+      right = right_grows old new cache stays_late right;
+    };
+  }
+  late_by (Some t) is = record {
+    made = f.made;
+    calls = no_call mid new none_there t looked is ∙ f.calls;
+    stays = stays_late;
+    gate = sym (ap (λ (js : List (As × ℕ)). passed ++ js) f.no_jobs ∙ append-nil passed);
+    ends = record {
+      turn = subst (λ (s : Option ℕ). TurnBy s index f.made) (sym is) (none_there, [], late);
+      key = None;
+      keys = f.no_keys;
+      holds = refl;
+      right = right_grows old new cache stays_late right;
+    };
+  }
+
+  pub late_turn : IsTurned index (Ok tt) old new passed passed cache cache
+  late_turn = late_by new.spent refl
 
 -- there was no memory for the job
 pub broken_look : (index : ℕ) (old mid new : Benched) (passed : List (As × ℕ)) (cache : Entries) (job : As × ℕ) (e : NoMemory) → IsFound index old mid (Some job) → Goes mid new (Look job.0 job.1 (Err e)) →
     IsTurned index (Err e) old new passed passed cache cache
 broken_look index old mid new passed cache job e f looked =
     let look = Look job.0 job.1 (Err e) in
+    let live : IsLive new = λ t is. let idle : Err e ≡ Ok None = looked.idle t is in cc in
     record {
       made = f.made ++ look ∷ [];
-      calls = joined old mid new f.made (look ∷ []) f.calls looked.calls;
+      calls = joined old mid new f.made (look ∷ []) f.calls (one_call mid new look looked (none_of new.spent live));
       stays = stays_on old mid new f.stays (stays_of mid new look looked);
       gate = sym (ap (λ (js : List (As × ℕ)). passed ++ js) (jobs_on f.made (look ∷ []) f.no_jobs) ∙ append-nil passed);
       ends = (
         record {
           asked = f.made;
           job = job;
-          asks = f.asks;
+          asks = asks_of index mid.spent f.made job f.asks;
           rest = look ∷ [];
           looks = record { answer = Err e; rest = []; is = refl };
           breaks = refl;
           is = refl;
         },
-        λ t is. let idle : Err e ≡ Ok None = looked.idle t is in cc,
+        live,
       );
     }
 
@@ -183,22 +276,32 @@ module _ (index : ℕ) (old mid looked_at new : Benched) (passed : List (As × �
   abbrev look : Call
   look = Look job.0 job.1 (Ok (Some work))
 
+  abbrev looked_calls : looked_at.calls ≡ old.calls ++ (f.made ++ look ∷ [])
+  looked_calls = joined old mid looked_at f.made (look ∷ []) f.calls (one_call mid looked_at look looked (none_of looked_at.spent (live mid looked_at job work looked)))
+
+  abbrev asked_first : Asks index f.made (Some job)
+  asked_first = asks_of index mid.spent f.made job f.asks
+
+  finished_by : (s : Option ℕ) (made : List Call) → FollowsBy s work made → TurnBy s index (f.made ++ (look ∷ made))
+  finished_by None made follows = looked_turn index f.made made job (Ok (Some work)) asked_first follows
+  finished_by (Some t) made follows =
+      let done = follows.0.0 in
+      let full : IsTurn index (f.made ++ (look ∷ Finish done Taken ∷ [])) = looked_turn index f.made (Finish done Taken ∷ []) job (Ok (Some work)) asked_first (done, Taken, follows.0.1, (λ is. let no : Taken ≡ NoRoom = is in cc), refl) in
+      subst (λ (cs : List Call). IsCut index (f.made ++ (look ∷ cs))) (sym follows.1)
+      (Finish done Taken, [], subst (λ (cs : List Call). IsTurn index cs) (sym (append_assoc f.made (look ∷ []) (Finish done Taken ∷ []))) full)
+
+  abbrev on_calls : (made : List Call) → new.calls ≡ looked_at.calls ++ made → new.calls ≡ old.calls ++ (f.made ++ (look ∷ made))
+  on_calls made is = joined old looked_at new (f.made ++ look ∷ []) made looked_calls is ∙ ap (λ (cs : List Call). old.calls ++ cs) (append_assoc f.made (look ∷ []) made)
+
   -- a job that was given is finished, or there was no memory
   pub full_turn : (end : Result (Unit {0}) NoMemory) → IsFinished work end looked_at new before after → IsTurned index end old new passed (passed ++ job ∷ []) before after
   full_turn (Ok u) d = record {
     made = f.made ++ (look ∷ d.made);
-    calls = joined old looked_at new (f.made ++ look ∷ []) d.made (joined old mid looked_at f.made (look ∷ []) f.calls looked.calls) d.calls ∙ ap (λ (cs : List Call). old.calls ++ cs) (append_assoc f.made (look ∷ []) d.made);
+    calls = on_calls d.made d.calls;
     stays = stays_on old looked_at new (stays_on old mid looked_at f.stays (stays_of mid looked_at look looked)) d.stays;
     gate = sym (ap (λ (js : List (As × ℕ)). passed ++ js) (jobs_on f.made (look ∷ d.made) f.no_jobs ∙ ap (λ (js : List (As × ℕ)). job ∷ js) d.no_jobs));
     ends = record {
-      turn = record {
-        asked = f.made;
-        found = Some job;
-        asks = f.asks;
-        rest = look ∷ d.made;
-        goes_on = (record { answer = Ok (Some work); rest = d.made; is = refl }, d.ends.0);
-        is = refl;
-      };
+      turn = finished_by new.spent d.made d.ends.0;
       key = key_of_work work;
       keys = keys_on f.made (look ∷ d.made) f.no_keys ∙ key_list work d.made job d.no_keys;
       holds = d.ends.1;
@@ -207,14 +310,14 @@ module _ (index : ℕ) (old mid looked_at new : Benched) (passed : List (As × �
   }
   full_turn (Err e) d = record {
     made = f.made ++ (look ∷ d.made);
-    calls = joined old looked_at new (f.made ++ look ∷ []) d.made (joined old mid looked_at f.made (look ∷ []) f.calls looked.calls) d.calls ∙ ap (λ (cs : List Call). old.calls ++ cs) (append_assoc f.made (look ∷ []) d.made);
+    calls = on_calls d.made d.calls;
     stays = stays_on old looked_at new (stays_on old mid looked_at f.stays (stays_of mid looked_at look looked)) d.stays;
     gate = sym (ap (λ (js : List (As × ℕ)). passed ++ js) (jobs_on f.made (look ∷ d.made) f.no_jobs ∙ ap (λ (js : List (As × ℕ)). job ∷ js) d.no_jobs));
     ends = (
       record {
         asked = f.made;
         job = job;
-        asks = f.asks;
+        asks = asked_first;
         rest = look ∷ d.made;
         looks = record { answer = Ok (Some work); rest = d.made; is = refl };
         breaks = d.ends.0;

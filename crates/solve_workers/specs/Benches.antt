@@ -20,7 +20,7 @@ pub data Call : Type 0 where
   Look : (at : As) → (number : ℕ) → Result (Option Work) NoMemory → Call
   Finish : Done → Finished → Call
 
--- the calls, the oldest first; the topology of each element and generation, where it is known; and at which number the bench was spent
+-- the calls that were made, the oldest first; the topology of each element and generation, where it is known; and at which number the bench was spent
 pub record Benched : Type 0 where
   pub calls : List Call
   pub topologies : As → ℕ → Option Rows
@@ -32,9 +32,14 @@ IsIdle (Ready k answer) = answer ≡ None
 IsIdle (Look at number answer) = answer ≡ Ok None
 IsIdle (Finish done answer) = answer ≡ Stranger
 
--- One more call: no topology changes, and a bench that is spent stays so and is idle.
+-- a call of a bench that is spent is not made
+abbrev pub made_by : Option ℕ → Call → List Call
+made_by None call = call ∷ []
+made_by (Some t) call = []
+
+-- One more call, unless the bench is spent by then: no topology changes, and a bench that is spent stays so and is idle.
 pub record Goes (old new : Benched) (call : Call) : Type 0 where
-  pub calls : new.calls ≡ old.calls ++ call ∷ []
+  pub calls : new.calls ≡ old.calls ++ made_by new.spent call
   pub topologies : (at : As) (generation : ℕ) (g : Rows) → old.topologies at generation ≡ Some g → new.topologies at generation ≡ Some g
   pub stays : (t : ℕ) → old.spent ≡ Some t → new.spent ≡ Some t
   pub idle : (t : ℕ) → new.spent ≡ Some t → IsIdle call

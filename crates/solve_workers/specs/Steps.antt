@@ -1,5 +1,5 @@
 -- The parts of a turn.
-use Rattle.std.specs.Prelude.{◌≡◌, ℕ, List, [], ◌∷◌, ◌++◌, All, Contains, None, Some, Ok, Err, MatchResult, option_to_list}
+use Rattle.std.specs.Prelude.{◌≡◌, ◌⊎◌, ℕ, List, [], ◌∷◌, ◌++◌, All, Contains, None, Some, Ok, Err, MatchResult, option_to_list}
 use Rattle.std.specs.Arc.{arc_value}
 use Rattle.std.specs.declared.option.Option.{Option}
 use Rattle.std.specs.declared.result.Result.{Result}
@@ -12,8 +12,9 @@ use Rattle.pce_parent.specs.declared.work.Work.TheVariants.{Domain, Border}
 use Rattle.cost_cache.specs.Entries.{Entries, Has, IsGood, IsKept}
 use Rattle.cost_cache.specs.declared.key.Key.{Key}
 use Rattle.cost_cache.specs.declared.kept.Kept.{Kept}
-use Rattle.solve_workers.specs.Benches.{Call, Look, Benched, IsGiven}
-use Rattle.solve_workers.specs.Turns.{Asks, Follows, Breaks, IsTurn, IsBroken, jobs_given, keys_given, key_of_work}
+use Rattle.pce_parent.specs.declared.work.Done.{Done}
+use Rattle.solve_workers.specs.Benches.{Call, Ready, Look, Benched, IsGiven, IsOf}
+use Rattle.solve_workers.specs.Turns.{Asks, Follows, Breaks, IsTurn, IsCut, IsBroken, AreTurns, Stops, jobs_given, keys_given, key_of_work}
 
 -- the topologies that a bench knows
 abbrev pub Known : Type 0
@@ -47,11 +48,31 @@ pub record Stays (old new : Benched) : Type 0 where
   pub topologies : (at : As) (generation : ℕ) (g : Rows) → old.topologies at generation ≡ Some g → new.topologies at generation ≡ Some g
   pub spent : (t : ℕ) → old.spent ≡ Some t → new.spent ≡ Some t
 
+-- the calls that asked for the ready job, by whether the bench is spent then
+abbrev pub AsksBy : Option ℕ → ℕ → List Call → Option (As × ℕ) → Type 0
+AsksBy None index made found = Asks index made found
+AsksBy (Some t) index made found = (found ≡ None) × ((made ≡ []) ⊎ (made ≡ Ready index None ∷ []))
+
+-- what follows a look that gave a job
+abbrev pub FollowsBy : Option ℕ → Work → List Call → Type 0
+FollowsBy None work made = Follows (Ok (Some work)) made
+FollowsBy (Some t) work made = ((done : Done) × IsOf done work) × (made ≡ [])
+
+-- a turn
+abbrev pub TurnBy : Option ℕ → ℕ → List Call → Type 0
+TurnBy None index made = IsTurn index made
+TurnBy (Some t) index made = IsCut index made
+
+-- so many turns
+abbrev pub TurnsBy : Option ℕ → ℕ → ℕ → List Call → Type 0
+TurnsBy None index n made = AreTurns index n made
+TurnsBy (Some t) index n made = Stops index n made
+
 -- the ready job, and the calls that asked for it; a bench that is spent has none
 pub record IsFound (index : ℕ) (old new : Benched) (found : Option (As × ℕ)) : Type 0 where
   pub made : List Call
   pub calls : new.calls ≡ old.calls ++ made
-  pub asks : Asks index made found
+  pub asks : AsksBy new.spent index made found
   pub stays : Stays old new
   pub no_jobs : jobs_given made ≡ []
   pub no_keys : keys_given made ≡ []
@@ -61,13 +82,13 @@ pub record IsFinished (work : Work) (end : Result (Unit {0}) NoMemory) (old new 
   pub made : List Call
   pub calls : new.calls ≡ old.calls ++ made
   pub stays : Stays old new
-  pub ends : MatchResult end (λ _. Follows (Ok (Some work)) made × Holds (key_of_work work) before after × AreRight new.topologies after) (λ _. Breaks (Ok (Some work)) made × IsLive new)
+  pub ends : MatchResult end (λ _. FollowsBy new.spent work made × Holds (key_of_work work) before after × AreRight new.topologies after) (λ _. Breaks (Ok (Some work)) made × IsLive new)
   pub no_jobs : jobs_given made ≡ []
   pub no_keys : keys_given made ≡ []
 
--- what a whole turn leaves
+-- what a turn leaves that want of memory does not end
 pub record IsWhole (index : ℕ) (made : List Call) (new : Benched) (before after : Entries) : Type 0 where
-  pub turn : IsTurn index made
+  pub turn : TurnBy new.spent index made
   pub key : Option Key
   pub keys : keys_given made ≡ option_to_list key
   pub holds : Holds key before after

@@ -70,11 +70,26 @@ abbrev pub AreTurns : ℕ → ℕ → List Call → Type 0
 AreTurns index zero calls = calls ≡ []
 AreTurns index (suc n) calls = (first : List Call) × (rest : List Call) × IsTurn index first × AreTurns index n rest × (calls ≡ first ++ rest)
 
--- The calls of a run by its end: all turns, those up to the one in which the bench was spent, or those before a turn that want of
+-- the beginning of a turn in which the bench was spent: at least the last call of the turn is missing
+abbrev pub IsCut : ℕ → List Call → Type 0
+IsCut index calls = (next : Call) × (rest : List Call) × IsTurn index (calls ++ next ∷ rest)
+
+-- no more than so many turns, of which the last may be such a beginning
+pub record Stops (index turns : ℕ) (calls : List Call) : Type 0 where
+  pub count : ℕ
+  pub whole : List Call
+  pub part : List Call
+  pub within : count ≤ turns
+  pub below : part ≢ [] → count < turns
+  pub are_turns : AreTurns index count whole
+  pub cut : IsCut index part
+  pub is : calls ≡ whole ++ part
+
+-- The calls of a run by its end: all turns; those before the call at which the bench was spent; or those before a turn that want of
 -- memory ended, and that turn.
 abbrev pub Ends : ℕ → ℕ → Worked → List Call → Type 0
 Ends index turns Turns calls = AreTurns index turns calls
-Ends index turns (Spent t) calls = (n : ℕ) × (n ≤ turns) × AreTurns index n calls
+Ends index turns (Spent t) calls = Stops index turns calls
 Ends index turns WantOfMemory calls =
     (n : ℕ) × (whole : List Call) × (broken : List Call) × (n < turns) × AreTurns index n whole × IsBroken index broken × (calls ≡ whole ++ broken)
 

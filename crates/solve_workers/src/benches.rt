@@ -14,7 +14,7 @@ pub enum Finished {
 }
 
 /// A bench stands for the list of its calls with their answers, and for the topologies of its jobs
-/// by element and generation, to which calls only add.
+/// by element and generation, to which calls only add. A bench that is spent makes no call.
 pub trait Bench {
     ghost benched: { Self → Benched };
 

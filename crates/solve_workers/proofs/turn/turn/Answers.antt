@@ -6,7 +6,7 @@ use Rattle.dom_base.specs.declared.names.As.{As}
 use Rattle.solve_workers.specs.Benches.{Call, Benched, Look, Goes}
 use Rattle.solve_workers.specs.Steps.{IsFound}
 use Rattle.solve_workers.proofs.Righting.{right_grows}
-use Rattle.solve_workers.proofs.Turning.{idle_turn, late_turn, broken_look, full_turn, stays_of, stays_on, live}
+use Rattle.solve_workers.proofs.Turning.{idle_turn, late_turn, broken_look, full_turn, stays_of, stays_on, live, none_of, one_call}
 use Rattle.solve_workers.proofs.turn.turn.Goals as goal
 
 pub returns-in_default : goal.returns-in_default
@@ -44,7 +44,8 @@ finish-requires-clause-looked g c =
     let new = g.B.Bench.benched c.look.new.self in
     let call = Look c.in-Some.at c.in-Some.number (Ok (Some c.in-Some-2.work)) in
     let looked : Goes mid new call = rw (c.in_ok-work.was, c.in-Some-2.is) at c.look.ensures.goes in
-    subst (λ (cs : List Call). Contains cs call) (sym looked.calls) (Contains-push mid.calls call)
+    let unspent = none_of new.spent (live mid new (c.in-Some.at, c.in-Some.number) c.in-Some-2.work looked) in
+    subst (λ (cs : List Call). Contains cs call) (sym (one_call mid new call looked unspent)) (Contains-push mid.calls call)
 
 pub finish-requires-clause-right : goal.finish-requires-clause-right
 finish-requires-clause-right g c =

@@ -1,6 +1,6 @@
-use Rattle.std.proofs.Common.{Ok, Err}
+use Rattle.std.proofs.Common.{◌≡◌, ◌∙◌, Ok, Err, None, sym}
 use Rattle.solve_workers.specs.Steps.{IsTurned}
-use Rattle.solve_workers.proofs.Running.{one_more, broken}
+use Rattle.solve_workers.proofs.Running.{set_out, one_more, broken}
 use Rattle.solve_workers.proofs.working.work.Goals as goal
 
 pub returns-in-Err-clause-runs : goal.returns-in-Err-clause-runs
@@ -11,8 +11,10 @@ returns-in-Err-clause-runs g c =
     let passed = g.G.Gate.passed c.args.gate.now in
     let passed_mid = g.G.Gate.passed c.loop-turn.gate in
     let passed_after = g.G.Gate.passed c.turn.new.gate in
+    let live : mid.spent ≡ None = sym c.spent.ensures ∙ c.in_default.is in
     let t : IsTurned c.args.index (Err c.in-Err.field-0) mid new passed_mid passed_after c.loop-turn.cache c.turn.new.cache = rw c.in-Err.is at c.turn.ensures in
-    broken c.args.index c.loop-turn._turn old mid new passed passed_mid passed_after c.loop-turn.cache c.turn.new.cache c.loop-turn.invariant c.args.turns c.in-Err.field-0 c.loop-turn-test.true t
+    broken c.args.index c.loop-turn._turn old mid new passed passed_mid passed_after c.loop-turn.cache c.turn.new.cache c.loop-turn.invariant c.args.turns c.in-Err.field-0 live
+    c.loop-turn-test.true t
 
 pub loop-turn-preserved : goal.loop-turn-preserved
 loop-turn-preserved g c =
@@ -22,5 +24,9 @@ loop-turn-preserved g c =
     let passed = g.G.Gate.passed c.args.gate.now in
     let passed_mid = g.G.Gate.passed c.loop-turn.gate in
     let passed_after = g.G.Gate.passed c.turn.new.gate in
+    let live : mid.spent ≡ None = sym c.spent.ensures ∙ c.in_default.is in
     let t : IsTurned c.args.index (Ok tt) mid new passed_mid passed_after c.loop-turn.cache c.turn.new.cache = rw c.in_default-turn.is at c.turn.ensures in
-    one_more c.args.index c.loop-turn._turn old mid new passed passed_mid passed_after c.loop-turn.cache c.turn.new.cache c.loop-turn.invariant t
+    one_more c.args.index c.loop-turn._turn old mid new passed passed_mid passed_after c.loop-turn.cache c.turn.new.cache c.loop-turn.invariant live t
+
+pub loop-turn-init : goal.loop-turn-init
+loop-turn-init g c = set_out c.args.index (g.B.Bench.benched c.args.bench.now) (g.G.Gate.passed c.args.gate.now) c.args.cache.now c.requires
