@@ -1,0 +1,3 @@
+-- for readers
+pub mod Steps
+pub mod Histories
