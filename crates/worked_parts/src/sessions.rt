@@ -1,0 +1,193 @@
+//! Sessions over links in memory and a small desk: streams in any pieces and with faults, and each other call once.
+use crate::clerk::{Clerk, GREETING};
+use dom_base::{As, Bytes, List, Tick, write_number};
+use dom_edge::{MemoryClock, MemoryLink, MemoryListener, MemorySink, MemoryStream};
+use session_serving::{Ended, Ran, carry_links, serve_port, serve_session, tick_on};
+use std::alloc::Global;
+use std::test::Fail;
+
+const PEER: u32 = 1;
+
+// An Open, a Keepalive, a request and a Close (RFC 5440, sections 6.2 to 6.4 and 6.8).
+const STREAM: [u8; 56] = [
+    0x20, 0x01, 0x00, 0x0C, 0x01, 0x10, 0x00, 0x08, 0x20, 0x1E, 0x78, 0x01, 0x20, 0x02, 0x00, 0x04,
+    0x20, 0x03, 0x00, 0x1C, 0x02, 0x12, 0x00, 0x0C, 0x00, 0x00, 0x00, 0x00, 0x00, 0x00, 0x00, 0x01,
+    0x04, 0x12, 0x00, 0x0C, 0x0A, 0x00, 0x00, 0x01, 0x0A, 0x00, 0x00, 0x03, 0x20, 0x07, 0x00, 0x0C,
+    0x0F, 0x10, 0x00, 0x08, 0x00, 0x00, 0x00, 0x02,
+];
+
+// Sizes of pieces of the stream, of which the last may be left out and an empty one is a read to which nothing came;
+// the read and the write that fail; how many turns there are; and then the events in short, how many bytes were
+// written, and the end.
+type Row = (
+    &'static [usize],
+    &'static [u64],
+    &'static [u64],
+    u64,
+    &'static [u8],
+);
+
+const ROWS: [Row; 13] = [
+    (&[56], &[], &[], 9, b"odftttttds 56 closed"),
+    (&[0, 56], &[], &[], 9, b"odtdftttttds 56 closed"),
+    (&[12, 4, 20], &[], &[], 9, b"odfttdfttdftds 28 peer end"),
+    (&[12, 4, 28], &[], &[], 0, b"os 0 turns"),
+    (&[12, 4, 28], &[], &[], 2, b"odfttdftts 24 turns"),
+    (&[12, 4, 28], &[0], &[], 9, b"ods 12 read fault"),
+    (&[12, 4, 28], &[1], &[], 9, b"odfttds 24 read fault"),
+    (&[12, 4, 28], &[2], &[], 9, b"odfttdfttds 28 read fault"),
+    (&[12, 4, 28], &[3], &[], 9, b"odfttdfttdfttds 56 read fault"),
+    (&[12, 4, 28], &[], &[0], 9, b"ods 0 write fault"),
+    (&[12, 4, 28], &[], &[1], 9, b"odfttds 12 write fault"),
+    (&[12, 4, 28], &[], &[2], 9, b"odfttdfttds 24 write fault"),
+    (
+        &[12, 4, 28],
+        &[],
+        &[3],
+        9,
+        b"odfttdfttdfttds 28 write fault",
+    ),
+];
+
+fn numbers(alloc: Global, which: &[u64]) -> Option<List<u64>> {
+    Some(List::from_vec(which.to_vec(alloc).ok()?))
+}
+
+// The stream in pieces of these sizes.
+fn pieces(alloc: Global, sizes: &[usize]) -> Option<List<Bytes>> {
+    let mut list = Vec::new(alloc);
+    let mut rest = STREAM.as_slice();
+    for size in sizes {
+        let piece = rest.get(..*size)?;
+        rest = rest.get(*size..)?;
+        list.push(Bytes::from_vec(piece.to_vec(alloc).ok()?)).ok()?;
+    }
+    Some(List::from_vec(list))
+}
+
+fn link(alloc: Global, sizes: &[usize], reads: &[u64], writes: &[u64]) -> Option<MemoryLink> {
+    let stream = MemoryStream::new(pieces(alloc, sizes)?, numbers(alloc, reads)?);
+    Some(MemoryLink::new(stream, MemorySink::new(alloc, numbers(alloc, writes)?)))
+}
+
+fn name(end: Ended) -> &'static [u8] {
+    match end {
+        Ended::Closed => b" closed",
+        Ended::PeerEnd => b" peer end",
+        Ended::ReadFault => b" read fault",
+        Ended::WriteFault => b" write fault",
+        Ended::Turns => b" turns",
+        _ => b" other",
+    }
+}
+
+// Whether these bytes begin what the desk sends: its Open, and each message but the Close back.
+fn is_due(written: &[u8]) -> bool {
+    for (place, byte) in written.iter().enumerate() {
+        let due = match place.checked_sub(GREETING.len()) {
+            None => GREETING.get(place),
+            Some(place) => STREAM.get(place),
+        };
+        if due != Some(byte) {
+            return false;
+        }
+    }
+    true
+}
+
+// The call has no clause, so that what follows does not carry the session's.
+fn serve(alloc: Global, desk: &mut Clerk, link: &mut MemoryLink, turns: u64) -> Ended {
+    serve_session(alloc, desk, PEER, 7, link, turns)
+}
+
+// What a row tells: the events, how many bytes were written, and the end.
+fn tell(alloc: Global, desk: &Clerk, written: &[u8], end: Ended) -> Option<Vec<u8>> {
+    if !is_due(written) {
+        return None;
+    }
+    let mut text = Vec::new(alloc);
+    desk.tell(&mut text)?;
+    text.push(b' ').ok()?;
+    write_number(written.len() as u64, &mut text).ok()?;
+    text.extend_from_slice(name(end)).ok()?;
+    Some(text)
+}
+
+// A session, as a row tells it.
+fn run(
+    alloc: Global,
+    sizes: &[usize],
+    reads: &[u64],
+    writes: &[u64],
+    turns: u64,
+) -> Option<Vec<u8>> {
+    let mut link = link(alloc, sizes, reads, writes)?;
+    let mut desk = Clerk::new(alloc);
+    let end = serve(alloc, &mut desk, &mut link, turns);
+    tell(alloc, &desk, link.bytes(), end)
+}
+
+#[test]
+fn each_session_goes_as_its_row_says(rt: HostRuntime) -> Result<(), Fail> {
+    for (sizes, reads, writes, turns, want) in ROWS {
+        let told = run(rt.alloc(), sizes, reads, writes, turns).ok_or("other bytes")?;
+        assert_eq!(rt; told.as_slice(), want);
+    }
+    Ok(())
+}
+
+#[test]
+fn any_pieces_write_the_same(rt: HostRuntime) -> Result<(), Fail> {
+    let mut told = run(rt.alloc(), &[1; 56], &[], &[], 99).ok_or("other bytes")?;
+    assert!(rt; told.ends_with(b" 56 closed"));
+    for cut in 0..=STREAM.len() {
+        told = run(rt.alloc(), &[cut, STREAM.len() - cut], &[], &[], 9).ok_or("other bytes")?;
+        assert!(rt; told.ends_with(b" 56 closed"));
+    }
+    Ok(())
+}
+
+fn listener(alloc: Global) -> Option<MemoryListener> {
+    let quiets = numbers(alloc, &[1])?;
+    let links = vec![in alloc; link(alloc, &[], &[], &[])?].ok()?;
+    Some(MemoryListener::new(List::from_vec(links), quiets))
+}
+
+fn clock(alloc: Global) -> Option<MemoryClock> {
+    let readings = vec![in alloc; Tick(0), Tick(3), Tick(3), Tick(5)].ok()?;
+    Some(MemoryClock::new(List::from_vec(readings)))
+}
+
+fn host(alloc: Global, desk: &mut Clerk, listener: &mut MemoryListener) -> Ran {
+    serve_port(alloc, desk, PEER, listener, 3)
+}
+
+fn carry(desk: &mut Clerk) -> Ran {
+    carry_links(desk, &[(As(1), As(2)), (As(2), As(1))], 2)
+}
+
+fn tick(desk: &mut Clerk, clock: &mut MemoryClock) {
+    tick_on(desk, clock, 6);
+}
+
+// What a port, a carrier and a clock make, one after the other.
+fn other_calls(alloc: Global) -> Option<Vec<u8>> {
+    let mut listener = listener(alloc)?;
+    let mut clock = clock(alloc)?;
+    let mut desk = Clerk::new(alloc);
+    let ends = (host(alloc, &mut desk, &mut listener), carry(&mut desk));
+    tick(&mut desk, &mut clock);
+    let mut text = Vec::new(alloc);
+    desk.tell(&mut text)?;
+    match ends {
+        (Ran::Turns, Ran::Turns) => Some(text),
+        _ => None,
+    }
+}
+
+#[test]
+fn each_other_call_is_made(rt: HostRuntime) -> Result<(), Fail> {
+    let told = other_calls(rt.alloc()).ok_or("an end")?;
+    assert_eq!(rt; told.as_slice(), b"odscccckk".as_slice());
+    Ok(())
+}
