@@ -33,3 +33,11 @@ returns-in-Settle-clause-plays c =
 pub returns-in-Finish-clause-plays : goal.returns-in-Finish-clause-plays
 returns-in-Finish-clause-plays c =
     of_kind c.args.line c.args.modes c.args.event _ c.args.file.now (whole c.args.plant.now) (whole c.go_on-in-Finish.new.plant) c.args.into.now.items c.go_on-in-Finish.new.into.items c.go_on-in-Finish.result c.in-Finish.is c.go_on-in-Finish.ensures.plays
+
+pub returns-in-CertifyOn-clause-plays : goal.returns-in-CertifyOn-clause-plays
+returns-in-CertifyOn-clause-plays c =
+    of_kind c.args.line c.args.modes c.args.event _ c.args.file.now (whole c.args.plant.now) (whole c.args.plant.now) c.args.into.now.items c.play_none.new.into.items c.play_none.result c.in-CertifyOn.is c.play_none.ensures.plays
+
+pub returns-in-DiscloseOn-clause-plays : goal.returns-in-DiscloseOn-clause-plays
+returns-in-DiscloseOn-clause-plays c =
+    of_kind c.args.line c.args.modes c.args.event _ c.args.file.now (whole c.args.plant.now) (whole c.args.plant.now) c.args.into.now.items c.play_none-in-DiscloseOn.new.into.items c.play_none-in-DiscloseOn.result c.in-DiscloseOn.is c.play_none-in-DiscloseOn.ensures.plays
