@@ -7,6 +7,7 @@ use Rattle.dom_base.specs.declared.names.NoMemory.{NoMemory}
 use Rattle.plant_network.specs.plant_model.declared.event.Event.{Event}
 use Rattle.plant_network.specs.plant_model.declared.event.Event.TheVariants.{Solve}
 use Rattle.plant_network.specs.plant_model.Events.{Answered, has_jobs, ready_jobs}
+use Rattle.plant_network.specs.plant_model.Plant.{IsOwnLoad}
 use Rattle.plant_lasting.specs.Lasting.{HaveGiven, JobsLast}
 use Rattle.plant_network.specs.pce_element.Rows.{pin_with}
 use Rattle.plant_network.specs.pce_parent.declared.work.Done.{Done}
@@ -15,7 +16,7 @@ use Rattle.plant_network.specs.plant_hierarchy.Answering.{IsWeighedWork}
 use Rattle.pce_plant.specs.Current.{IsCurrent}
 use Rattle.pce_plant.specs.Held.{whole}
 use Rattle.pce_plant.specs.Jobs.{IsOwn, IsSolvedBy, IsWork, answer_of, handed_back, solved_at, solved_number}
-use Rattle.pce_plant.specs.Whole.{GoesOn, IsOwnLoad, Stepped, Whole}
+use Rattle.pce_plant.specs.Whole.{GoesOn, Stepped, Whole}
 use Rattle.pce_plant.specs.declared.acts.Act.{Act}
 use Rattle.pce_plant.specs.declared.acts.Act.TheVariants.{Do, Look, Ready, Finish, Map}
 use Rattle.pce_plant.specs.declared.acts.Acted.{Acted}

@@ -2,7 +2,6 @@
 use Rattle.std.specs.Prelude.{◌≡◌, List, [], ◌∷◌}
 use Rattle.plant_text.specs.declared.settings.NetworkParts.{NetworkParts}
 use Rattle.plant_network.specs.plant_model.declared.event.Event.{Event}
-use Rattle.plant_network.specs.plant_model.declared.event.Event.TheVariants as event
 use Rattle.plant_network.specs.plant_model.Events.{Answered}
 use Rattle.plant_network.specs.plant_model.Plant.{Pin, Segment, PlantDeed, Steps, Entry, IsGiven, Run}
 use Rattle.plant_network.specs.plant_model.RealWire.{wire}
@@ -16,11 +15,6 @@ Whole = network.Whole Pin Segment
 -- said is what its deeds put into queues; after a refusal it is as before.
 abbrev pub Stepped : Whole → Event → Answered → Whole → Type 0
 Stepped old e answer new = network.Stepped (λ n s h. Steps wire n s e h) old answer new
-
--- a topology is loaded by the element of its own domain
-abbrev pub IsOwnLoad : Event → Type 0
-IsOwnLoad (event.Load d g) = g.own ≡ d
-IsOwnLoad e = Unit {0}
 
 -- a network has just been made: a run of no event ends in its state
 abbrev pub IsBegun : NetworkParts → Whole → Type 0

@@ -2,7 +2,7 @@
 ghost use Rattle.std.specs.Prelude.{◌≡◌};
 ghost use Rattle.plant_network.specs.plant_model.declared.event.Event.TheVariants.{Load};
 ghost use Rattle.pce_plant.specs.Held.{IsSound, Moves, held};
-ghost use Rattle.pce_plant.specs.Whole.{IsOwnLoad};
+ghost use Rattle.plant_network.specs.plant_model.Plant.{IsOwnLoad};
 
 use crate::answering::solve;
 use dom_base::As;

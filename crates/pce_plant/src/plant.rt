@@ -4,6 +4,7 @@ ghost use Rattle.std.specs.Arc.{arc_value};
 ghost use Rattle.std.specs.Option.{option_map};
 ghost use Rattle.plant_network.specs.pce_element.Rows.{pin_with};
 ghost use Rattle.plant_network.specs.plant_model.Events.{has_jobs, ready_jobs};
+ghost use Rattle.plant_network.specs.plant_model.Plant.{IsOwnLoad};
 ghost use Rattle.plant_network.specs.plant_model.declared.event.Event.TheVariants.{Solve};
 ghost use Rattle.plant_lasting.specs.Lasting.{HaveGiven, JobsLast};
 ghost use Rattle.plant_network.specs.plant_hierarchy.Answering.{IsWeighedWork};
@@ -13,7 +14,7 @@ ghost use Rattle.plant_text.specs.Settings.{lines};
 ghost use Rattle.pce_plant.specs.Held.{whole};
 ghost use Rattle.pce_plant.specs.Current.{IsCurrent};
 ghost use Rattle.pce_plant.specs.Jobs.{CanSolve, IsOwn, IsWork, answer_of, handed_back, solved_at, solved_number};
-ghost use Rattle.pce_plant.specs.Whole.{GoesOn, IsBegun, IsOwnLoad, Stepped};
+ghost use Rattle.pce_plant.specs.Whole.{GoesOn, IsBegun, Stepped};
 
 use crate::answering::{CommitRefused, commit};
 use crate::events::act;

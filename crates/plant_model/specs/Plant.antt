@@ -179,6 +179,11 @@ pub record AreInRange (g : Rows) : Type 0 where
   pub links : All IsLinkInRange (all_links g)
   pub entries : All (λ (e : EntryRow). IsAddr e.node) g.entries
 
+-- a topology is loaded by the element of its own domain
+abbrev pub IsOwnLoad : Event → Type 0
+IsOwnLoad (event.Load d g) = g.own ≡ d
+IsOwnLoad e = Unit {0}
+
 -- what the caller of an event gives: a topology of the element's own domain, and bytes
 abbrev pub IsGiven : Event → Type 0
 IsGiven (event.Load d g) = (g.own ≡ d) × IsTopology g × IsInOrder g × AreInRange g

@@ -23,9 +23,9 @@ use Rattle.pce_plant.specs.plant_model.declared.outcome.Refused.TheVariants as r
 use Rattle.pce_plant.specs.plant_model.Blind.{is_accepted}
 use Rattle.pce_plant.specs.plant_model.Events.{Answered, is_ready}
 use Rattle.pce_plant.specs.plant_model.State.{said}
-use Rattle.pce_plant.specs.plant_model.Plant.{Plant, PlantDeed, Entry, Happened, Happens, IsGiven, Run}
+use Rattle.pce_plant.specs.plant_model.Plant.{Plant, PlantDeed, Entry, Happened, Happens, IsGiven, IsOwnLoad, Run}
 use Rattle.pce_plant.specs.plant_model.RealWire.{wire}
-use Rattle.pce_plant.specs.Whole.{IsOwnLoad, Whole}
+use Rattle.pce_plant.specs.Whole.{Whole}
 use Rattle.pce_plant.specs.Jobs.{IsAsked}
 use Rattle.transcript.specs.Lines.{certified_text, rows_text, sents_text}
 use Rattle.plant_play.specs.declared.events.Due.{Due as DueEvent}

@@ -3,7 +3,7 @@ ghost use Rattle.std.specs.Prelude.{◌≡◌, ◌++◌, IfErr, Err, IfOk, Match
 ghost use Rattle.line_files.specs.Loading.{IsWant};
 ghost use Rattle.plant_text.specs.Settings.{peer_row};
 ghost use Rattle.pce_plant.specs.Held.{whole};
-ghost use Rattle.pce_plant.specs.Whole.{IsOwnLoad};
+ghost use Rattle.pce_plant.specs.plant_model.Plant.{IsOwnLoad};
 ghost use Rattle.transcript.specs.Lines.{name_from};
 ghost use Rattle.plant_play.specs.Making.{DoesLine, Makes, MakesTurn, Refuses, event_of, lacks_memory, stage};
 ghost use Rattle.plant_play.specs.Playing.{PlaysNone, PlaysOne};

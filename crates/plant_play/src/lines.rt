@@ -4,8 +4,8 @@ ghost use Rattle.std.specs.Option.{option_map};
 ghost use Rattle.te_deltas.specs.ChangeText.{change_file_most};
 ghost use Rattle.pce_plant.specs.plant_model.declared.outcome.Refused.TheVariants.{NoSuchPeer};
 ghost use Rattle.pce_plant.specs.Held.{whole};
-ghost use Rattle.pce_plant.specs.Whole.{IsOwnLoad};
-ghost use Rattle.line_files.specs.Loading.{IsWant};
+ghost use Rattle.pce_plant.specs.plant_model.Plant.{IsOwnLoad};
+ghost use Rattle.plant_play.specs.Loading.{IsWant};
 ghost use Rattle.plant_play.specs.Making.{AreNoLoads, DoesLine, stage};
 ghost use Rattle.plant_play.specs.Playing.{IsWhyNot, Plays, PlaysChange, PlaysFeedAt, PlaysLoad, PlaysNamed, PlaysNone, WhyNotChanged, WhyNotLoaded, modes_after};
 
