@@ -45,9 +45,11 @@ impl<W: World> Element<W> {
         ensures { IfOk result (IsDraft self.now (answered (row_of row.now) message self.now.losing.element)) }
     {
         let to = row.key.peer;
+        let outputs = one(self.alloc, Output { to, message })?;
+        let numbers = one(self.alloc, row.number)?;
         Ok(Draft {
-            change: Change::Ends(one(self.alloc, row.number)?),
-            outputs: one(self.alloc, Output { to, message })?,
+            change: Change::Ends(numbers),
+            outputs,
         })
     }
 

@@ -1,10 +1,12 @@
 //! The parent takes a request.
-ghost use Rattle.std.specs.Prelude.{◌≡◌, ◌≤◌, false, None, length, IfOk};
+ghost use Rattle.std.specs.Prelude.{◌≡◌, ◌≤◌, cond, false, None, length, IfOk};
+ghost use Rattle.member_parts.specs.plant_model.Writing.{busy, reply_message, unavailable};
 ghost use Rattle.request_table.specs.Pending.{is_full, number_of};
 ghost use Rattle.member_parts.specs.plant_model.RealWire.{wire};
-ghost use Rattle.member_parts.specs.plant_model.Parent.{each, only, all_up, is_up, take_path, take_wish, take_new, take_asked};
+ghost use Rattle.member_parts.specs.plant_model.Parent.{all_waits, each, errands, only, all_up, is_up, take_path, take_wish, take_new, take_asked};
 ghost use Rattle.member_parts.specs.plant_model.Element.{way_to};
 ghost use Rattle.pce_parent.specs.Changes.{IsDraft};
+ghost use Rattle.pce_parent.specs.Sending.{AreSent};
 
 use crate::asking::Asking;
 use crate::change::{Change, Draft};
@@ -45,20 +47,27 @@ impl Parent {
         true
     }
 
-    // The children are asked, one request for each end of interest.
+    // One request for each end of interest.
+    fn sent(&self, wanted: &Wanted) -> Result<Sending, NoMemory>
+        ensures { IfOk result (AreSent wanted.now (all_waits self.now.losing.parent.pending.rows) (errands self.now.family.links wanted.now.target self.now.family.children) self.now.losing.parent.ways) }
+    {
+        let children = self.children.as_slice();
+        let errands = errands(self.alloc, self.links.as_slice(), wanted.target, children)?;
+        send_all(self.alloc, wanted, &errands, &self.requests, &self.ways)
+    }
+
+    // The children are asked.
     fn ask_all(&self, peer: Peer, flags: u32, id: u32, wanted: Wanted) -> Result<Draft, NoMemory>
         requires new { number_of self.now.losing.parent.pending peer id ≡ None }
         requires fits { is_full self.now.losing.parent.pending ≡ false }
         ensures { IfOk result (IsDraft self.now (take_path self.now.family peer flags id wanted self.now.losing.parent)) }
     {
-        let children = self.children.as_slice();
-        let errands = errands(self.alloc, self.links.as_slice(), wanted.target, children)?;
         let Sending {
             taken: _taken,
             waits,
             ways,
             outputs,
-        } = send_all(self.alloc, &wanted, &errands, &self.requests, &self.ways)?;
+        } = self.sent(&wanted)?;
         let asking = Asking::new(self.alloc, flags, wanted, waits)?;
         let change = Change::Opens {
             peer,
@@ -69,21 +78,25 @@ impl Parent {
         Ok(Draft { change, outputs })
     }
 
+    // A full table, or a child whose session is not up.
+    fn refused(&self, peer: Peer, flags: u32, id: u32) -> Result<Draft, NoMemory>
+        ensures { IfOk result (IsDraft self.now (cond (is_full self.now.losing.parent.pending) (only peer (busy flags id) self.now.losing.parent) (only peer (reply_message flags id unavailable) self.now.losing.parent))) }
+    {
+        if self.is_full() {
+            return self.says(peer, busy(self.alloc, flags, id)?);
+        }
+        self.says(peer, reply_message(self.alloc, flags, id, unavailable())?)
+    }
+
     fn take_wish(&self, peer: Peer, flags: u32, id: u32, wish: Wish) -> Result<Draft, NoMemory>
         requires { number_of self.now.losing.parent.pending peer id ≡ None }
         ensures { IfOk result (IsDraft self.now (take_wish self.now.family peer flags id self.now.losing.parent wish)) }
     {
-        let wanted = match wish {
-            Wish::Expand { key: _, pce: _ } => {
-                return self.says(peer, reply_message(self.alloc, flags, id, no_key())?);
-            }
-            Wish::Path(wanted) => wanted,
+        let Wish::Path(wanted) = wish else {
+            return self.says(peer, reply_message(self.alloc, flags, id, no_key())?);
         };
-        if self.is_full() {
-            return self.says(peer, busy(self.alloc, flags, id)?);
-        }
-        if !self.all_up() {
-            return self.says(peer, reply_message(self.alloc, flags, id, unavailable())?);
+        if self.is_full() || !self.all_up() {
+            return self.refused(peer, flags, id);
         }
         self.ask_all(peer, flags, id, wanted)
     }
