@@ -30,9 +30,10 @@ impl<W: World> Element<W> {
     pub(crate) fn only(&self, to: Peer, message: Message) -> Result<DraftIn<W>, NoMemory>
         ensures { IfOk result (IsDraft self.now (only to message self.now.losing.element)) }
     {
+        let outputs = one(self.alloc, Output { to, message })?;
         Ok(Draft {
             change: Change::Nothing,
-            outputs: one(self.alloc, Output { to, message })?,
+            outputs,
         })
     }
 

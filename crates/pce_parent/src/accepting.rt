@@ -23,9 +23,10 @@ impl Parent {
     pub(crate) fn says(&self, to: Peer, message: Message) -> Result<Draft, NoMemory>
         ensures { IfOk result (IsDraft self.now (only to message self.now.losing.parent)) }
     {
+        let outputs = one(self.alloc, Output { to, message })?;
         Ok(Draft {
             change: Change::Nothing,
-            outputs: one(self.alloc, Output { to, message })?,
+            outputs,
         })
     }
 
