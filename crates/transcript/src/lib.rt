@@ -3,6 +3,7 @@
 
 mod lines;
 mod replies;
+mod words;
 
 pub use lines::{
     write_answer, write_carry, write_certified, write_rows, write_said, write_sent, write_solve,

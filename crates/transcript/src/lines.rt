@@ -5,7 +5,8 @@ ghost use Rattle.plant_text.specs.Settings.{peer_row};
 ghost use Rattle.plant_text.specs.Sents.{sent_line};
 ghost use Rattle.transcript.specs.Lines.{answer_line, answer_text, bytes_text, carry_line, certified_text, ended_text, label_end, label_text, labels_text, name_from, name_of, numbered, outcome_text, refused_text, row_text, rows_text, sents_text, solve_line, take_line};
 
-use dom_base::{Addr, As, BorderRow, Label, NoMemory, Peer, write_addr, write_number};
+use crate::words::{write_named, write_named_addr, write_words};
+use dom_base::{Addr, As, BorderRow, Label, NoMemory, Peer, write_number};
 use line_text::write_hex;
 use path_certificate::Certificate;
 use plant_layout::model::{Outcome, Refused};
@@ -13,28 +14,13 @@ use plant_queues::Said;
 use plant_text::PeerRow;
 use std::alloc::Global;
 
-fn write_words(words: &[u8], into: &mut Vec<u8>) -> Result<(), NoMemory>
-    ensures { OnOk result (into.new.items ≡ into.old.items ++ words.now) }
-{
-    into.extend_from_slice(words)?;
-    Ok(())
-}
-
-fn write_not_holder(holder: u32, into: &mut Vec<u8>) -> Result<(), NoMemory>
-    ensures { OnOk result (into.new.items ≡ into.old.items ++ refused_text (Refused.NotHolder holder)) }
-{
-    into.extend_from_slice(b"refused not holder ")?;
-    write_number(u64::from(holder), into)?;
-    Ok(())
-}
-
 fn write_refused(why: &Refused, into: &mut Vec<u8>) -> Result<(), NoMemory>
     ensures { OnOk result (into.new.items ≡ into.old.items ++ refused_text why.now) }
 {
     match why {
         Refused::GenerationsFull => write_words(b"refused generations full", into),
         Refused::NoSuchPeer => write_words(b"refused no such peer", into),
-        Refused::NotHolder(holder) => write_not_holder(*holder, into),
+        Refused::NotHolder(holder) => write_named(b"refused not holder ", u64::from(*holder), into),
         Refused::NothingToCarry => write_words(b"refused nothing to carry", into),
         Refused::NoSuchJob => write_words(b"refused no such job", into),
         Refused::NoMemory => write_words(b"refused no memory", into),
@@ -45,27 +31,17 @@ fn write_digits(alloc: Global, bytes: &[u8], into: &mut Vec<u8>) -> Result<(), N
     ensures { OnOk result (into.new.items ≡ into.old.items ++ hex_text bytes.now) }
 {
     let digits = write_hex(alloc, bytes)?;
-    into.extend_from_slice(&digits)?;
-    Ok(())
+    write_words(&digits, into)
 }
 
 fn write_bytes(alloc: Global, bytes: &[u8], into: &mut Vec<u8>) -> Result<(), NoMemory>
     ensures { OnOk result (into.new.items ≡ into.old.items ++ bytes_text bytes.now) }
 {
     if bytes.is_empty() {
-        into.push(b'-')?;
+        write_words(b"-", into)
     } else {
-        write_digits(alloc, bytes, into)?;
+        write_digits(alloc, bytes, into)
     }
-    Ok(())
-}
-
-fn write_loaded(generation: u64, into: &mut Vec<u8>) -> Result<(), NoMemory>
-    ensures { OnOk result (into.new.items ≡ into.old.items ++ outcome_text (Outcome.Loaded generation)) }
-{
-    into.extend_from_slice(b"ok generation ")?;
-    write_number(generation, into)?;
-    Ok(())
 }
 
 fn write_ended(ended: bool, into: &mut Vec<u8>) -> Result<(), NoMemory>
@@ -96,7 +72,7 @@ fn write_outcome(alloc: Global, outcome: &Outcome, into: &mut Vec<u8>) -> Result
 {
     match outcome {
         Outcome::Done => write_words(b"ok", into),
-        Outcome::Loaded(generation) => write_loaded(*generation, into),
+        Outcome::Loaded(generation) => write_named(b"ok generation ", *generation, into),
         Outcome::Drained { bytes, ended } => {
             write_drained(alloc, bytes.as_slice(), *ended, into)
         }
@@ -120,8 +96,7 @@ fn write_head(line: u32, into: &mut Vec<u8>) -> Result<(), NoMemory>
     ensures { OnOk result (into.new.items ≡ into.old.items ++ decimal line ++ 32 ∷ []) }
 {
     write_number(u64::from(line), into)?;
-    into.push(b' ')?;
-    Ok(())
+    write_words(b" ", into)
 }
 
 /// Writes what came of an event: `LINE ok`, `LINE ok generation G`, `LINE ok HEX` with ` ended` behind it where a
@@ -136,8 +111,7 @@ pub fn write_answer(
 {
     write_head(line, into)?;
     write_what_came(alloc, answer, into)?;
-    into.push(b'\n')?;
-    Ok(())
+    write_words(b"\n", into)
 }
 
 /// Writes that the first item of a peer's inbox was taken: `LINE take NAME`.
@@ -145,10 +119,9 @@ pub fn write_take(line: u32, name: &str, into: &mut Vec<u8>) -> Result<(), NoMem
     ensures { OnOk result (into.new.items ≡ into.old.items ++ take_line line name.now) }
 {
     write_head(line, into)?;
-    into.extend_from_slice(b"take ")?;
-    into.extend_from_slice(name.as_bytes())?;
-    into.push(b'\n')?;
-    Ok(())
+    write_words(b"take ", into)?;
+    write_words(name.as_bytes(), into)?;
+    write_words(b"\n", into)
 }
 
 /// Writes that a message was carried: `LINE carry FROM TO`.
@@ -156,12 +129,9 @@ pub fn write_carry(line: u32, from: As, to: As, into: &mut Vec<u8>) -> Result<()
     ensures { OnOk result (into.new.items ≡ into.old.items ++ carry_line line from to) }
 {
     write_head(line, into)?;
-    into.extend_from_slice(b"carry ")?;
-    write_number(u64::from(from.0), into)?;
-    into.push(b' ')?;
-    write_number(u64::from(to.0), into)?;
-    into.push(b'\n')?;
-    Ok(())
+    write_named(b"carry ", u64::from(from.0), into)?;
+    write_named(b" ", u64::from(to.0), into)?;
+    write_words(b"\n", into)
 }
 
 /// Writes that a job was solved: `LINE solve AS NUMBER`.
@@ -169,12 +139,9 @@ pub fn write_solve(line: u32, at: As, number: u64, into: &mut Vec<u8>) -> Result
     ensures { OnOk result (into.new.items ≡ into.old.items ++ solve_line line at number) }
 {
     write_head(line, into)?;
-    into.extend_from_slice(b"solve ")?;
-    write_number(u64::from(at.0), into)?;
-    into.push(b' ')?;
-    write_number(number, into)?;
-    into.push(b'\n')?;
-    Ok(())
+    write_named(b"solve ", u64::from(at.0), into)?;
+    write_named(b" ", number, into)?;
+    write_words(b"\n", into)
 }
 
 // The name of an outside peer; nothing where there is none of that number.
@@ -187,18 +154,11 @@ fn name_at(peers: &[PeerRow], number: u32) -> &str
     }
 }
 
-fn write_domain(at: As, into: &mut Vec<u8>) -> Result<(), NoMemory>
-    ensures { OnOk result (into.new.items ≡ into.old.items ++ decimal at.0) }
-{
-    write_number(u64::from(at.0), into)?;
-    Ok(())
-}
-
 fn write_name(peers: &[PeerRow], to: Peer, into: &mut Vec<u8>) -> Result<(), NoMemory>
     ensures { OnOk result (into.new.items ≡ into.old.items ++ name_of peers.now to) }
 {
     match to {
-        Peer::Inner(at) => write_domain(at, into),
+        Peer::Inner(at) => write_number(u64::from(at.0), into),
         Peer::Outside(number) => write_words(name_at(peers, number).as_bytes(), into),
     }
 }
@@ -207,10 +167,9 @@ fn write_way(peers: &[PeerRow], from: As, to: Peer, into: &mut Vec<u8>) -> Resul
     ensures { OnOk result (into.new.items ≡ into.old.items ++ decimal from.0 ++ 62 ∷ [] ++ name_of peers.now to ++ 32 ∷ []) }
 {
     write_number(u64::from(from.0), into)?;
-    into.push(b'>')?;
+    write_words(b">", into)?;
     write_name(peers, to, into)?;
-    into.push(b' ')?;
-    Ok(())
+    write_words(b" ", into)
 }
 
 /// Writes a message of an event as `LINE FROM>TO HEX`: an element by its domain, the parent as 0, an outside peer by its
@@ -270,16 +229,11 @@ fn write_row(line: u32, row: &BorderRow, into: &mut Vec<u8>) -> Result<(), NoMem
     ensures { OnOk result (into.new.items ≡ into.old.items ++ numbered line (row_text row.now)) }
 {
     write_head(line, into)?;
-    into.extend_from_slice(b"row ")?;
-    write_addr(row.entry, into)?;
-    into.push(b' ')?;
-    write_addr(row.far, into)?;
-    into.push(b' ')?;
-    write_addr(row.head, into)?;
-    into.push(b' ')?;
-    write_number(u64::from(row.cost.get()), into)?;
-    into.push(b'\n')?;
-    Ok(())
+    write_named_addr(b"row ", row.entry, into)?;
+    write_named_addr(b" ", row.far, into)?;
+    write_named_addr(b" ", row.head, into)?;
+    write_named(b" ", u64::from(row.cost.get()), into)?;
+    write_words(b"\n", into)
 }
 
 /// Writes the rows of a border table, each as `LINE row ENTRY FAR HEAD COST`.
@@ -296,10 +250,8 @@ fn write_certificate_head(line: u32, own: As, into: &mut Vec<u8>) -> Result<(), 
     ensures { OnOk result (into.new.items ≡ into.old.items ++ numbered line (codes "certificate " ++ decimal own.0)) }
 {
     write_head(line, into)?;
-    into.extend_from_slice(b"certificate ")?;
-    write_number(u64::from(own.0), into)?;
-    into.push(b'\n')?;
-    Ok(())
+    write_named(b"certificate ", u64::from(own.0), into)?;
+    write_words(b"\n", into)
 }
 
 fn write_label_end(label: &Option<Label>, into: &mut Vec<u8>) -> Result<(), NoMemory>
@@ -308,9 +260,7 @@ fn write_label_end(label: &Option<Label>, into: &mut Vec<u8>) -> Result<(), NoMe
     match label {
         Some(label) => {
             write_number(u64::from(label.cost.get()), into)?;
-            into.push(b' ')?;
-            write_addr(label.exit, into)?;
-            Ok(())
+            write_named_addr(b" ", label.exit, into)
         }
         None => write_words(b"-", into),
     }
@@ -320,12 +270,10 @@ fn write_label(line: u32, row: &(Addr, Option<Label>), into: &mut Vec<u8>) -> Re
     ensures { OnOk result (into.new.items ≡ into.old.items ++ numbered line (label_text row.now)) }
 {
     write_head(line, into)?;
-    into.extend_from_slice(b"label ")?;
-    write_addr(row.0, into)?;
-    into.push(b' ')?;
+    write_named_addr(b"label ", row.0, into)?;
+    write_words(b" ", into)?;
     write_label_end(&row.1, into)?;
-    into.push(b'\n')?;
-    Ok(())
+    write_words(b"\n", into)
 }
 
 fn write_labels(

@@ -1,33 +1,30 @@
 //! What a client was answered, as lines for a person to read. Each call writes at the end; after a refusal a part may
 //! stand there.
-ghost use Rattle.std.specs.Prelude.{◌≡◌, ◌++◌, OnOk};
+ghost use Rattle.std.specs.Prelude.{◌≡◌, ◌++◌, codes, decimal, OnOk};
+ghost use Rattle.dom_base.specs.AddrText.{addr_text};
 ghost use Rattle.transcript.specs.Replies.{answer_lines, cost_line, cost_lines, hop_lines, hop_text, message_lines, notices_lines, pair_line, path_lines, replies_lines, reports_lines};
 
-use dom_base::{NoMemory, units_of_word, write_addr, write_colour, write_number};
+use crate::words::{write_named, write_named_addr, write_words};
+use dom_base::{Addr, NoMemory, units_of_word, write_addr, write_colour};
 use pcep_messages::{Answer, ErrorReport, Message, Notice, Path, Reply};
 use pcep_subobjects::Hop;
+
+fn write_key(key: u64, pce: Addr, into: &mut Vec<u8>) -> Result<(), NoMemory>
+    ensures { OnOk result (into.new.items ≡ into.old.items ++ codes "key " ++ decimal key ++ codes " at " ++ addr_text pce) }
+{
+    write_named(b"key ", key, into)?;
+    write_named_addr(b" at ", pce, into)
+}
 
 fn write_hop(hop: &Hop, into: &mut Vec<u8>) -> Result<(), NoMemory>
     ensures { OnOk result (into.new.items ≡ into.old.items ++ hop_text hop.now) }
 {
     match hop {
-        Hop::Prefix { addr, .. } => write_addr(*addr, into)?,
-        Hop::Key { key, pce, .. } => {
-            into.extend_from_slice(b"key ")?;
-            write_number(u64::from(*key), into)?;
-            into.extend_from_slice(b" at ")?;
-            write_addr(*pce, into)?;
-        }
-        Hop::AsNumber { number, .. } => {
-            into.extend_from_slice(b"as ")?;
-            write_number(u64::from(number.0), into)?;
-        }
-        Hop::Other { kind, .. } => {
-            into.extend_from_slice(b"other ")?;
-            write_number(u64::from(*kind), into)?;
-        }
+        Hop::Prefix { addr, .. } => write_addr(*addr, into),
+        Hop::Key { key, pce, .. } => write_key(u64::from(*key), *pce, into),
+        Hop::AsNumber { number, .. } => write_named(b"as ", u64::from(number.0), into),
+        Hop::Other { kind, .. } => write_named(b"other ", u64::from(*kind), into),
     }
-    Ok(())
 }
 
 fn write_hops(hops: &[Hop], into: &mut Vec<u8>) -> Result<(), NoMemory>
@@ -43,12 +40,11 @@ fn write_hops(hops: &[Hop], into: &mut Vec<u8>) -> Result<(), NoMemory>
 fn write_cost(cost: Option<u64>, into: &mut Vec<u8>) -> Result<(), NoMemory>
     ensures { OnOk result (into.new.items ≡ into.old.items ++ cost_line cost) }
 {
-    if let Some(cost) = cost {
-        into.extend_from_slice(b"cost ")?;
-        write_number(cost, into)?;
-        into.push(b'\n')?;
-    }
-    Ok(())
+    let Some(cost) = cost else {
+        return Ok(());
+    };
+    write_named(b"cost ", cost, into)?;
+    write_words(b"\n", into)
 }
 
 fn write_metric(metric: &Option<(u8, u32)>, into: &mut Vec<u8>) -> Result<(), NoMemory>
@@ -75,12 +71,10 @@ fn write_paths(paths: &[Path], into: &mut Vec<u8>) -> Result<(), NoMemory>
 fn write_no_path(nature: u8, vector: u32, into: &mut Vec<u8>) -> Result<(), NoMemory>
     ensures { OnOk result (into.new.items ≡ into.old.items ++ answer_lines (Answer.NoPath nature vector)) }
 {
-    into.extend_from_slice(b"no-path ")?;
-    write_number(u64::from(nature), into)?;
-    into.push(b' ')?;
+    write_named(b"no-path ", u64::from(nature), into)?;
+    write_words(b" ", into)?;
     write_colour(vector, into)?;
-    into.push(b'\n')?;
-    Ok(())
+    write_words(b"\n", into)
 }
 
 fn write_replies(replies: &[Reply], into: &mut Vec<u8>) -> Result<(), NoMemory>
@@ -99,14 +93,12 @@ fn write_replies(replies: &[Reply], into: &mut Vec<u8>) -> Result<(), NoMemory>
 fn write_pair(word: &[u8], pairs: &[(u8, u8)], into: &mut Vec<u8>) -> Result<(), NoMemory>
     ensures { OnOk result (into.new.items ≡ into.old.items ++ pair_line word.now pairs.now) }
 {
-    if let [pair, ..] = pairs {
-        into.extend_from_slice(word)?;
-        write_number(u64::from(pair.0), into)?;
-        into.push(b' ')?;
-        write_number(u64::from(pair.1), into)?;
-        into.push(b'\n')?;
-    }
-    Ok(())
+    let [pair, ..] = pairs else {
+        return Ok(());
+    };
+    write_named(word, u64::from(pair.0), into)?;
+    write_named(b" ", u64::from(pair.1), into)?;
+    write_words(b"\n", into)
 }
 
 fn write_notices(notices: &[Notice], into: &mut Vec<u8>) -> Result<(), NoMemory>
