@@ -45,6 +45,11 @@ impl BlindPlayer {
         })
     }
 
+    /// Lets go of the network.
+    pub fn end(self) {
+        self.plant.end();
+    }
+
     /// The settings.
     pub fn parts(&self) -> &NetworkParts
         ensures { result.now ≡ (stage_of self.now).network }

@@ -98,5 +98,7 @@ pub fn play_blind_script<K: Sink>(
     ensures stops { IfErr result (ScriptStops (K.written out.old, K.written out.new) (K.faults out.old, K.faults out.new) network script.now) }
 {
     let mut player = BlindPlayer::new(alloc, network)?;
-    play_lines(alloc, &mut player, script, out)
+    let played = play_lines(alloc, &mut player, script, out);
+    player.end();
+    played
 }

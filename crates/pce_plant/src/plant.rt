@@ -68,6 +68,10 @@ impl Plant {
         })
     }
 
+    /// Lets go of the network. Each crate that drops one proves anew that all that it holds is let go of; this call
+    /// proves it once.
+    pub fn end(self) {}
+
     /// The settings.
     pub fn parts(&self) -> &NetworkParts
         ensures { result.now ≡ (whole self.now).network }

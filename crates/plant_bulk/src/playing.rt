@@ -107,7 +107,9 @@ fn play_over(
 {
     let mut store = MemoryStore::new(alloc, files, List::new(alloc));
     let mut player = begun(alloc, &mut store)?;
-    ask_all(alloc, &mut store, &mut player, demand, count, draws)
+    let tally = ask_all(alloc, &mut store, &mut player, demand, count, draws);
+    player.end();
+    tally
 }
 
 /// Draws the network and as many requests, and puts them one behind the other, each when the network has come to its

@@ -253,8 +253,13 @@ pub fn begin<S: Store>(
 {
     let topologies = topologies(alloc, network.parts().elements.as_slice())?;
     let mut player = Player::new(alloc, network)?;
-    begin_new(alloc, store, &mut player, &topologies, client)?;
-    Ok(player)
+    match begin_new(alloc, store, &mut player, &topologies, client) {
+        Ok(()) => Ok(player),
+        Err(why) => {
+            player.end();
+            Err(why)
+        }
+    }
 }
 
 /// A client asks for a path: the network goes on until no message is on its way and no job can be solved; and what then
@@ -292,5 +297,7 @@ pub fn ask<S: Store>(
     ensures later { S.faults store.old ≤ S.faults store.new }
 {
     let mut player = begin(alloc, store, network, client)?;
-    exchange(alloc, store, &mut player, client, question)
+    let received = exchange(alloc, store, &mut player, client, question);
+    player.end();
+    received
 }

@@ -100,5 +100,7 @@ pub fn play_script<S: Store, K: Sink>(
     ensures later { S.faults store.old ≤ S.faults store.new }
 {
     let mut player = Player::new(alloc, network)?;
-    play_lines(alloc, store, &mut player, script, out)
+    let played = play_lines(alloc, store, &mut player, script, out);
+    player.end();
+    played
 }

@@ -8,7 +8,7 @@ returns-in_err-player-clause-stops g c =
     rw (p.1, p.2) (stops_unbegun c.args.network c.args.script.now (g.K.Sink.written c.args.out.now) (g.K.Sink.faults c.args.out.now))
 
 pub returns-clause-whole : goal.returns-clause-whole
-returns-clause-whole g c = rw c.in_ok-player.ensures.network at c.play_lines.ensures.whole
+returns-clause-whole g c = rw c.in_ok-player.ensures.network at c.play_lines-played.ensures.whole
 
 pub returns-clause-stops : goal.returns-clause-stops
-returns-clause-stops g c = rw c.in_ok-player.ensures.network at c.play_lines.ensures.stops
+returns-clause-stops g c = rw c.in_ok-player.ensures.network at c.play_lines-played.ensures.stops

@@ -9,7 +9,7 @@ returns-in_err-player-clause-stops g c =
     (g.K.Sink.faults c.args.out.now) (g.S.Store.failed_at c.args.store.now))
 
 pub returns-clause-whole : goal.returns-clause-whole
-returns-clause-whole g c = rw c.in_ok-player.ensures.network at c.play_lines.ensures.whole
+returns-clause-whole g c = rw c.in_ok-player.ensures.network at c.play_lines-played.ensures.whole
 
 pub returns-clause-stops : goal.returns-clause-stops
-returns-clause-stops g c = rw c.in_ok-player.ensures.network at c.play_lines.ensures.stops
+returns-clause-stops g c = rw c.in_ok-player.ensures.network at c.play_lines-played.ensures.stops
