@@ -24,7 +24,7 @@ pub trait Chart {
     fn map(&mut self, at: As) -> Result<Option<(u64, Arc<Topology>)>, NoMemory>
         ensures { Asks (charted self.old) (charted self.new) at (current_of arc_value result) };
 
-    /// The number that the first event that was refused as spent gave.
+    /// The number that the first event or question that was refused as spent gave.
     fn spent(&self) -> Option<u64>
         ensures { result ≡ (charted self.now).spent };
 }
