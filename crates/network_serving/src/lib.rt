@@ -1,0 +1,15 @@
+//! A network that is served: its settings and topologies are loaded, its ports are listened at, its tasks are started, and the time
+//! is told.
+#![tactic(auto)]
+
+mod loading;
+mod lock;
+mod naming;
+mod planning;
+mod served;
+mod serving;
+mod settings;
+mod starting;
+
+pub use served::Served;
+pub use serving::serve;

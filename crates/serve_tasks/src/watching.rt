@@ -1,0 +1,38 @@
+//! A port at which watchers are answered, one connection after the other.
+use dom_edge::{Accepted, Listener};
+use std::alloc::Global;
+use std::sync::Wait;
+use ted_watch::Watcher;
+use watch_lines::serve_watch;
+
+// How many turns a watcher's connection may have.
+const WATCH_TURNS: u64 = u64::MAX;
+
+// Accepts once, and answers the lines of a connection that came.
+fn accept_once<K: Listener, R: Wait>(
+    rt: &R,
+    alloc: Global,
+    watcher: &mut Watcher,
+    listener: &mut K,
+) {
+    match listener.accept() {
+        Accepted::Link(link) => {
+            let mut link = link;
+            serve_watch(rt, alloc, watcher, &mut link, WATCH_TURNS);
+        }
+        Accepted::Quiet | Accepted::Failed => {}
+    }
+}
+
+/// Accepts once in each turn, and answers the lines of each connection to its end.
+pub(crate) fn watch_port<K: Listener, R: Wait>(
+    rt: &R,
+    alloc: Global,
+    watcher: &mut Watcher,
+    listener: &mut K,
+    turns: u64,
+) {
+    for _turn in 0..turns {
+        accept_once(rt, alloc, watcher, listener);
+    }
+}
