@@ -1,0 +1,4 @@
+pub mod Found
+pub mod Runs
+pub mod Turning
+pub mod Crossing

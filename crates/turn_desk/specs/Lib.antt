@@ -1,0 +1,3 @@
+-- for readers
+pub mod Histories
+pub mod Desks
