@@ -7,6 +7,7 @@ use Rattle.pce_plant.specs.Held.{Held, whole}
 use Rattle.pce_plant.specs.Histories.{event_of}
 use Rattle.pce_plant.specs.declared.acts.Act.{Act}
 use Rattle.pce_plant.specs.declared.acts.Turn.{Turn}
+use Rattle.pce_plant.specs.plant_model.Plant.{Plant}
 use Rattle.plant_pins.specs.Histories.{PinsAreNow, Told, known_in}
 
 -- the events of a history, the oldest first, with their answers
@@ -23,3 +24,7 @@ known_by None seen d n = None
 abbrev pub Begins : Option Held → Type 0
 Begins (Some h) = PinsAreNow (whole h).state
 Begins None = ⊥
+
+-- no request is pending
+abbrev pub NoneIsPending : Plant → Type 0
+NoneIsPending s = (d : As) → (s.elements d).pending.rows ≡ []
