@@ -88,7 +88,7 @@ module _ (w next : Whole) where
   is_committed x a is = absurd is
 
 module _ (old new : Stand) (acted : Acted) where
-  answers : (act : Act) → IsTurn act (Ok acted) old new → (w : Whole) × (next : Whole) × IsAnswer w act acted next
+  pub answers : (act : Act) → IsTurn act (Ok acted) old new → (w : Whole) × (next : Whole) × IsAnswer w act acted next
   answers act t =
       let a = answered old new act t.0 t.2 in
       let w : Whole = replay left_by (whole a.0) t.2.before in
@@ -139,7 +139,7 @@ still_known old new act turn m d n g is =
     let later : known_by old.start new.seen d n ≡ Some g = subst (λ (h : List (Act × Turn)). known_by old.start h d n ≡ Some g) (sym m.seen) (known_grows old.start m.before ((act, turn) ∷ []) d n g first) in
     subst (λ (s : Option Held). known_by s new.seen d n ≡ Some g) (sym m.start) later
 
-none_spent : (n : ℕ) (s : Option ℕ) → s ≡ None → s ≡ Some n → ⊥
+pub none_spent : (n : ℕ) (s : Option ℕ) → s ≡ None → s ≡ Some n → ⊥
 none_spent n s none some = let both : None ≡ Some n = sym none ∙ some in cc
 
 -- ---- as a desk

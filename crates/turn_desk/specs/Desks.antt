@@ -1,6 +1,5 @@
 -- A desk at the lock of a network: the calls that its seat's own entries are, and what one call leaves.
 use Rattle.std.specs.Prelude.{◌≡◌, ◌^◌, ◌≤◌, ℕ, List, [], ◌∷◌, ◌++◌, Option, Some, None, Result, Ok, Err}
-use Rattle.std.specs.Arc.{arc_value}
 use Rattle.std.specs.List.{filter_map}
 use Rattle.plant_lock.specs.declared.seat.TurnSeat.{TurnSeat}
 use Rattle.plant_lock.specs.declared.turned.Turned.{Ghosts}
@@ -12,14 +11,12 @@ use Rattle.pce_plant.specs.Turns.{Admits, Allowed, left_by}
 use Rattle.pce_plant.specs.plant_model.declared.outcome.Outcome.{Outcome}
 use Rattle.pce_plant.specs.plant_model.Events.{Answered}
 use Rattle.pce_plant.specs.declared.acts.Act.{Act}
-use Rattle.pce_plant.specs.declared.acts.Act.TheVariants.{Do, Look, Ready, Finish, Map}
+use Rattle.pce_plant.specs.declared.acts.Act.TheVariants.{Do, Look, Ready, Finish}
 use Rattle.pce_plant.specs.declared.acts.Acted.{Acted}
-use Rattle.pce_plant.specs.declared.acts.Acted.TheVariants.{Did, Looked, Found, Committed, Mapped}
+use Rattle.pce_plant.specs.declared.acts.Acted.TheVariants.{Did, Looked, Found, Committed}
 use Rattle.pce_plant.specs.declared.acts.Turn.{Turn}
 use Rattle.pce_plant.specs.declared.answering.CommitRefused.{CommitRefused}
 use Rattle.pce_plant.specs.declared.answering.CommitRefused.TheVariants.{NoSuchJob, NoMemory}
-use Rattle.operator_lines.specs.Charts as chart
-use Rattle.operator_lines.specs.Charts.{Charted, current_of}
 use Rattle.session_serving.specs.Desks.{Answer, Call, Desked, call}
 use Rattle.session_serving.specs.declared.desks.DeskRefused.TheVariants.{Plant, Spent}
 use Rattle.solve_workers.specs.Benches as bench
@@ -90,16 +87,6 @@ bench_call a r = None
 -- the calls as a bench are the own entries of workers, and the topologies those of the history as far as it was seen
 abbrev pub benched_of : Stand → Benched
 benched_of s = record { calls = filter_map (λ (e : Act × Turn). bench_call e.0 e.1.acted) s.own; topologies = known_by s.start s.seen; spent = s.spent }
-
--- a call of an operator, with its answer
-abbrev pub chart_call : Act → Acted → Option chart.Call
-chart_call (Do e) (Did r) = Some (chart.Did e r)
-chart_call (Map d) (Mapped r) = Some (chart.Mapped d (current_of arc_value r))
-chart_call a r = None
-
--- the calls as a chart are the own entries that are events or questions for a topology
-abbrev pub charted_of : Stand → Charted
-charted_of s = record { calls = filter_map (λ (e : Act × Turn). chart_call e.0 e.1.acted) s.own; spent = s.spent }
 
 -- ---- a turn
 

@@ -1,24 +1,20 @@
-//! What sessions, workers and operators call.
+//! What sessions and workers call.
 ghost use Rattle.std.specs.Prelude.{◌≡◌, IfOk, IfSome};
-ghost use Rattle.pce_plant.specs.declared.acts.Act.TheVariants.{Do, Look as LookAt, Ready as AskReady, Finish as FinishOf, Map as MapOf};
-ghost use Rattle.pce_plant.specs.declared.acts.Acted.TheVariants.{Looked, Found, Mapped as MappedTo};
-ghost use Rattle.std.specs.Arc.{arc_value};
+ghost use Rattle.pce_plant.specs.declared.acts.Act.TheVariants.{Do, Look as LookAt, Ready as AskReady, Finish as FinishOf};
+ghost use Rattle.pce_plant.specs.declared.acts.Acted.TheVariants.{Looked, Found};
 ghost use Rattle.session_serving.specs.Desks as desk;
-ghost use Rattle.operator_lines.specs.Charts as chart;
 ghost use Rattle.solve_workers.specs.Benches as bench;
-ghost use Rattle.turn_desk.specs.Desks.{IsDone, IsFinish, IsOneTurn, IsTurn, benched_of, charted_of, desked_of, did_by, stand_of};
+ghost use Rattle.turn_desk.specs.Desks.{IsDone, IsFinish, IsOneTurn, IsTurn, benched_of, desked_of, did_by, stand_of};
 
 use crate::desk::TurnDesk;
 use crate::naps::Asked;
 use dom_base::{As, NoMemory};
-use operator_lines::Chart;
 use pce_plant::model::{Event, Outcome, Refused};
 use pce_plant::{Act, Acted, CommitRefused, Done, Work};
 use session_serving::{Desk, DeskRefused};
 use solve_workers::{Bench, Finished};
-use std::sync::{Arc, Wait};
+use std::sync::Wait;
 use std::time::Clock;
-use te_links::Topology;
 
 impl<R: Wait + Clock> TurnDesk<R> {
     // Counts an answer of the network.
@@ -32,7 +28,7 @@ impl<R: Wait + Clock> TurnDesk<R> {
     }
 
     // Makes an event.
-    fn make(&mut self, event: Event) -> Result<Outcome, DeskRefused>
+    pub(crate) fn make(&mut self, event: Event) -> Result<Outcome, DeskRefused>
         requires { desk.IsOwnLoad event }
         ensures { IsTurn (Do event) (did_by result) (stand_of self.old) (stand_of self.new) }
     {
@@ -111,35 +107,6 @@ impl<R: Wait + Clock> Bench for TurnDesk<R> {
             Ok(Acted::Committed(Err(CommitRefused::NoMemory(_)))) => Finished::NoMemory,
             Ok(_) => unreachable!(),
             Err(_number) => Finished::Stranger,
-        }
-    }
-
-    fn spent(&self) -> Option<u64> {
-        self.spent_at
-    }
-}
-
-impl<R: Wait + Clock> Chart for TurnDesk<R> {
-    ghost use Rattle.turn_desk.specs.Desks.{charted_of, stand_of};
-
-    ghost charted = { λ d. charted_of (stand_of d) };
-
-    fn act(&mut self, event: Event) -> Result<Outcome, DeskRefused>
-        requires { desk.IsOwnLoad event }
-        ensures goes { chart.Goes (charted_of (stand_of self.old)) (charted_of (stand_of self.new)) event result }
-        ensures turn { IsOneTurn (Do event) (IsDone result) (stand_of self.old) (stand_of self.new) }
-    {
-        self.make(event)
-    }
-
-    fn map(&mut self, at: As) -> Result<Option<(u64, Arc<Topology>)>, NoMemory>
-        ensures asks { chart.Asks (charted_of (stand_of self.old)) (charted_of (stand_of self.new)) at (chart.current_of arc_value result) }
-        ensures turn { IsOneTurn (MapOf at) (λ acted. acted ≡ MappedTo result) (stand_of self.old) (stand_of self.new) }
-    {
-        match self.turn(Act::Map(at)) {
-            Ok(Acted::Mapped(found)) => found,
-            Ok(_) => unreachable!(),
-            Err(_number) => Ok(None),
         }
     }
 

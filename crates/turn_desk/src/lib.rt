@@ -5,6 +5,7 @@
 #![tactic(auto)]
 
 mod calls;
+mod chart;
 mod desk;
 mod naps;
 
