@@ -52,7 +52,10 @@ impl Idle {
         match self.first {
             None => self.first = Some(asked),
             Some(first) if first == asked => {
-                sleep(clock, Duration::from_micros(NAPS[self.rounds.min(NAPS.len() - 1)]));
+                sleep(
+                    clock,
+                    Duration::from_micros(NAPS[self.rounds.min(NAPS.len() - 1)]),
+                );
                 self.rounds = self.rounds.saturating_add(1);
             }
             Some(_) => {}

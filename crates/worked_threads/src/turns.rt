@@ -168,7 +168,10 @@ fn a_job_that_was_solved_is_no_longer_ready(rt: HostRuntime) -> Result<(), Fail>
     assert!(rt; matches!(desk.split(rt), Err(SplitError::NoSeat)));
     assert_eq!(rt; desk.ready(0), None);
     ask(alloc, &mut desk).ok_or("two requests")?;
-    assert_eq!(rt; (desk.ready(0), desk.ready(1), desk.ready(2)), (Some((AT, 1)), Some((AT, 2)), None));
+    assert_eq!(rt;
+        (desk.ready(0), desk.ready(1), desk.ready(2)),
+        (Some((AT, 1)), Some((AT, 2)), None)
+    );
     let mut desk = run(alloc, desk, door(rt, alloc, third, true), 1).ok_or("a turn")?;
     assert_eq!(rt; (other.ready(0), other.ready(1)), (Some((AT, 1)), None));
     assert!(rt; matches!(other.look(AT, 2), Ok(None)));
@@ -186,7 +189,10 @@ fn two_workers_at_one_lock_solve_beside_each_other(rt: HostRuntime) -> Result<()
     let third = first.split(rt).ok().ok_or("a third")?;
     let fourth = first.split(rt).ok().ok_or("a fourth")?;
     ask(alloc, &mut first).ok_or("two requests")?;
-    let (one, two) = (door(rt, alloc, third, false), door(rt, alloc, fourth, false));
+    let (one, two) = (
+        door(rt, alloc, third, false),
+        door(rt, alloc, fourth, false),
+    );
     let (first, second) = join(
         &rt,
         || run(alloc, first, one, 0),
