@@ -11,6 +11,8 @@ mod crossing;
 #[cfg(test)]
 mod desk;
 #[cfg(test)]
+mod turns;
+#[cfg(test)]
 mod watching;
 #[cfg(test)]
 mod workers;

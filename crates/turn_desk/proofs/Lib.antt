@@ -1,0 +1,5 @@
+pub mod Found
+pub mod Runs
+pub mod Beginning
+pub mod Turning
+pub mod Crossing
