@@ -1,1 +1,5 @@
--- for readers
+-- for readers, in this order
+pub mod Duties
+pub mod Ports
+pub mod Files
+pub mod Ends

@@ -3,13 +3,14 @@
 #![tactic(auto)]
 
 mod loading;
-mod lock;
-mod naming;
 mod planning;
+mod ports;
+mod preparing;
 mod served;
 mod serving;
 mod settings;
 mod starting;
+mod telling;
 
 pub use served::Served;
 pub use serving::serve;

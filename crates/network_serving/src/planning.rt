@@ -1,68 +1,85 @@
-//! The tasks of a network: one for each peer's port, the carrier, and the workers.
-use crate::lock::Lock;
+//! The tasks of the ports, of the carrier and of the workers.
+ghost use Rattle.std.specs.Prelude.{◌≡◌, ◌≤◌, ◌<◌, ◌^◌, ◌++◌, ◌∷◌, [], All, IfErr, IfOk, OnOk, length, map};
+ghost use Rattle.plant_text.specs.Networks.{IsNetwork};
+ghost use Rattle.serve_tasks.specs.Tasks.{IsNew, duty_of};
+ghost use Rattle.network_serving.specs.Duties.{child_ways, first_duties, port_duties, ways_of, work_duties};
+ghost use Rattle.network_serving.specs.Planning.{IsPlanned, IsUnlistened, calls};
+
 use crate::served::Served;
 use cost_cache::Cache;
 use dom_base::{As, List, NoMemory};
-use dom_edge::{Opened, Ports, Sink, Source, Store};
+use dom_edge::{Listener, Opened, Ports};
 use plant_layout::children_of;
-use plant_text::{NetworkParts, PeerRow};
+use plant_text::{Network, NetworkParts, PeerRow};
 use serve_tasks::Task;
 use std::alloc::Global;
 use std::sync::Wait;
 use std::time::Clock;
+use turn_desk::TurnDesk;
 
 // How many solved jobs each worker keeps.
 const CACHE_CAPACITY: usize = 64;
 
-/// The pairs along which messages are carried: both ways of each link in the order of the settings, then of the parent's with each
-/// child, by the domain.
-pub(crate) fn ways_of(alloc: Global, parts: &NetworkParts) -> Result<List<(As, As)>, NoMemory> {
+// Both ways of a link behind others.
+fn push_both(ways: &mut List<(As, As)>, a: As, b: As) -> Result<(), NoMemory>
+    ensures { OnOk result (ways.new ≡ ways.old ++ (a, b) ∷ (b, a) ∷ []) }
+{
+    ways.push((a, b))?;
+    ways.push((b, a))
+}
+
+/// The ways along which messages are carried.
+pub(crate) fn ways_of(alloc: Global, parts: &NetworkParts) -> Result<List<(As, As)>, NoMemory>
+    ensures { IfOk result (λ ways. ways ≡ ways_of parts.now) }
+{
     let mut ways = List::new(alloc);
     for (a, b) in parts.links.as_slice() {
-        ways.push((*a, *b))?;
-        ways.push((*b, *a))?;
+        push_both(&mut ways, *a, *b)?;
     }
     let children = children_of(alloc, parts.elements.as_slice())?;
     for child in children.as_slice() {
-        ways.push((As(0), *child))?;
-        ways.push((*child, As(0)))?;
+        push_both(&mut ways, As(0), *child)?;
     }
     Ok(ways)
 }
 
-/// How many seats the lock of a network needs: one a peer, one a worker, and those of the carrier, the operator and the clock, beside
-/// that from which they are split.
-pub(crate) fn seats_of(parts: &NetworkParts) -> u32 {
-    (parts.peers.len() as u32).saturating_add(parts.workers).saturating_add(4)
+/// A further desk at the lock of a desk.
+pub(crate) fn desk_beside<R: Wait + Clock + Copy + Drop>(rt: R, desk: &mut TurnDesk<R>) -> Result<TurnDesk<R>, NoMemory> {
+    match desk.split(rt) {
+        Ok(desk) => Ok(desk),
+        Err(_) => Err(NoMemory),
+    }
 }
 
-/// A listener at a port.
-pub(crate) fn listen<Q: Ports>(ports: &mut Q, port: u16) -> Result<Q::Port, Served> {
+/// Listens at a port.
+pub(crate) fn listen<Q: Ports>(ports: &mut Q, port: u16) -> Result<Q::Port, Served>
+    ensures ok { IfOk result (λ listener. Q.Port.opened_at listener ≡ port) }
+    ensures err { IfErr result (IsUnlistened port (Q.faults ports.old, Q.faults ports.new) (Q.failed_at ports.new)) }
+    ensures called { Q.calls ports.new ≡ next_count (Q.calls ports.old) }
+    ensures later { Q.faults ports.old ≤ Q.faults ports.new }
+{
     match ports.listen(port) {
         Opened::Port(listener) => Ok(listener),
         Opened::Failed => Err(Served::NoPort(port)),
     }
 }
 
-/// Tasks that are to be started.
-pub(crate) type Tasks<K, F, I, O, R> = Vec<Task<K, F, I, O, R>>;
-
 // A task for the port of each peer, in order.
-fn add_ports<Q: Ports, F: Store, I: Source, O: Sink, R: Wait + Clock + Copy + Drop>(
-    lock: &mut Lock<R>,
+fn add_ports<Q: Ports, F: Drop, I: Drop, O: Drop, R: Wait + Clock + Copy + Drop>(
+    rt: R,
+    desk: &mut TurnDesk<R>,
     ports: &mut Q,
     peers: &[PeerRow],
-    tasks: &mut Tasks<Q::Port, F, I, O, R>,
-) -> Result<(), Served>
-where
-    F: Drop,
-    I: Drop,
-    O: Drop,
-{
+    tasks: &mut Vec<Task<Q::Port, F, I, O, R>>,
+) -> Result<(), Served> {
     for (peer, row) in peers.iter().enumerate() {
         let listener = listen(ports, row.port)?;
-        let desk = lock.desk()?;
-        let task = Task::Port { peer: peer as u32, listener, desk };
+        let desk = desk_beside(rt, desk)?;
+        let task = Task::Port {
+            peer: peer as u32,
+            listener,
+            desk,
+        };
         if tasks.push(task).is_err() {
             return Err(Served::NoMemory);
         }
@@ -70,37 +87,52 @@ where
     Ok(())
 }
 
-// A task for each worker.
-fn add_workers<K: dom_edge::Listener + Drop, F: Store + Drop, I: Source + Drop, O: Sink + Drop, R: Wait + Clock + Copy + Drop>(
+// A task for each worker, with a cache of its own.
+fn add_workers<K: Drop, F: Drop, I: Drop, O: Drop, R: Wait + Clock + Copy + Drop>(
+    rt: R,
     alloc: Global,
-    lock: &mut Lock<R>,
+    desk: &mut TurnDesk<R>,
     workers: u32,
-    tasks: &mut Tasks<K, F, I, O, R>,
-) -> Result<(), Served> {
+    tasks: &mut Vec<Task<K, F, I, O, R>>,
+) -> Result<(), NoMemory> {
     for index in 0..workers {
         let cache = Cache::new(alloc, CACHE_CAPACITY)?;
-        let bench = lock.desk()?;
+        let bench = desk_beside(rt, desk)?;
         if tasks.push(Task::Work { index, cache, bench }).is_err() {
-            return Err(Served::NoMemory);
+            return Err(NoMemory);
         }
     }
     Ok(())
 }
 
-/// The tasks of the ports, of the carrier and of the workers. It listens at each peer's port.
-pub(crate) fn tasks_of<Q: Ports, F: Store + Drop, I: Source + Drop, O: Sink + Drop, R: Wait + Clock + Copy + Drop>(
+// A task for the carrier.
+fn add_carrier<K: Drop, F: Drop, I: Drop, O: Drop, R: Wait + Clock + Copy + Drop>(
+    rt: R,
     alloc: Global,
-    lock: &mut Lock<R>,
-    ports: &mut Q,
+    desk: &mut TurnDesk<R>,
     parts: &NetworkParts,
-) -> Result<Tasks<Q::Port, F, I, O, R>, Served> {
-    let mut tasks = Vec::new(alloc);
-    add_ports(lock, ports, parts.peers.as_slice(), &mut tasks)?;
+    tasks: &mut Vec<Task<K, F, I, O, R>>,
+) -> Result<(), NoMemory> {
     let links = ways_of(alloc, parts)?;
-    let desk = lock.desk()?;
-    if tasks.push(Task::Carry { links, desk }).is_err() {
-        return Err(Served::NoMemory);
+    let desk = desk_beside(rt, desk)?;
+    match tasks.push(Task::Carry { links, desk }) {
+        Ok(()) => Ok(()),
+        Err(_) => Err(NoMemory),
     }
-    add_workers(alloc, lock, parts.workers, &mut tasks)?;
+}
+
+/// The tasks of the ports, of the carrier and of the workers. It listens at each peer's port, in order.
+pub(crate) fn plan_tasks<Q: Ports, F: Drop, I: Drop, O: Drop, R: Wait + Clock + Copy + Drop>(
+    rt: R,
+    alloc: Global,
+    desk: &mut TurnDesk<R>,
+    ports: &mut Q,
+    network: &Network,
+) -> Result<Vec<Task<Q::Port, F, I, O, R>>, Served> {
+    let parts = network.parts();
+    let mut tasks = Vec::new(alloc);
+    add_ports(rt, desk, ports, parts.peers.as_slice(), &mut tasks)?;
+    add_carrier(rt, alloc, desk, parts, &mut tasks)?;
+    add_workers(rt, alloc, desk, parts.workers, &mut tasks)?;
     Ok(tasks)
 }

@@ -1,7 +1,8 @@
 //! How serving a network ended.
+ghost use Rattle.std.specs.Prelude.{◌≡◌};
+
 use dom_base::{NoMemory, Text};
 use plant_text::NetFault;
-use std::alloc::Global;
 
 /// How serving a network ended.
 #[derive(Drop)]
@@ -26,28 +27,11 @@ pub enum Served {
 }
 
 impl From<NoMemory> for Served {
-    ghost use Rattle.std.specs.Prelude.{◌≡◌};
     ghost use Rattle.network_serving.specs.declared.served.Served.TheVariants.{NoMemory};
 
     ghost from_gives = { λ _ e. e ≡ NoMemory };
 
     fn from(_: NoMemory) -> Self {
         Served::NoMemory
-    }
-}
-
-/// A file above its limit.
-pub(crate) fn too_large(alloc: Global, name: &str) -> Served {
-    match Text::copy_of(alloc, name) {
-        Ok(file) => Served::TooLarge(file),
-        Err(_) => Served::NoMemory,
-    }
-}
-
-/// A file that is refused at a line of it.
-pub(crate) fn bad_network(alloc: Global, name: &str, line: u32, fault: NetFault) -> Served {
-    match Text::copy_of(alloc, name) {
-        Ok(file) => Served::BadNetwork { file, line, fault },
-        Err(_) => Served::NoMemory,
     }
 }

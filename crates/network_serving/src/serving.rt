@@ -1,21 +1,17 @@
 //! A network is served.
-use crate::loading::load_all;
-use crate::lock::Lock;
-use crate::naming::tell_ready;
-use crate::planning::{listen, seats_of, tasks_of};
+use crate::planning::{desk_beside, listen, plan_tasks};
+use crate::preparing::{Prepared, prepare};
 use crate::served::Served;
-use crate::settings::{check_ports, load_settings};
 use crate::starting::{start, start_all};
-use dom_base::List;
+use crate::telling::tell_ready;
 use dom_edge::{Clock as TickClock, Listener, Ports, Sink, Source, Store};
-use plant_text::Network;
 use serve_tasks::{Spawner, Task};
 use session_serving::tick_on;
 use std::alloc::Global;
 use std::sync::Wait;
 use std::thread::Threads;
 use std::time::Clock;
-use ted_watch::{Publisher, Watcher, open_watch};
+use ted_watch::Watcher;
 use turn_desk::TurnDesk;
 
 // Listens for watchers, where the settings have a port of theirs, and starts to answer them.
@@ -43,25 +39,19 @@ where
         return Ok(());
     };
     let listener = listen(ports, port)?;
-    let task: Task<Q::Port, F, I, O, R> = Task::Watch { rt, watcher, listener };
+    let task: Task<Q::Port, F, I, O, R> = Task::Watch {
+        rt,
+        watcher,
+        listener,
+    };
     start(alloc, spawner, log, &[], task)
 }
 
-// The publisher of the network's topologies, and a watcher of it.
-fn open_board<R: Wait + Drop>(rt: R, alloc: Global) -> Result<(Publisher<R>, Watcher), Served> {
-    let (publisher, watchers) = open_watch(rt, alloc, 1)?;
-    match watchers.into_vec().pop() {
-        Some(watcher) => Ok((publisher, watcher)),
-        None => Err(Served::NoMemory),
-    }
-}
-
-// All that comes before the time is told.
-fn begin<T, Q, S, F, I, O, R, L>(
+// Listens at the ports of a network, and starts its tasks. The desk is left for what tells the time.
+fn start_network<Q, S, F, I, O, R, L>(
     rt: R,
     alloc: Global,
-    name: &str,
-    store: &mut T,
+    prepared: Prepared<R>,
     ports: &mut Q,
     spawner: &mut Spawner<S>,
     files: F,
@@ -70,7 +60,6 @@ fn begin<T, Q, S, F, I, O, R, L>(
     log: &mut L,
 ) -> Result<TurnDesk<R>, Served>
 where
-    T: Store,
     Q: Ports,
     Q::Port: Send + Drop + 'static,
     <Q::Port as Listener>::Link: Send + 'static,
@@ -81,20 +70,20 @@ where
     R: Wait + Clock + Copy + Send + Drop + 'static,
     L: Sink,
 {
-    let (network, own) = load_settings(alloc, store, name)?;
-    check_ports(alloc, name, own.parts())?;
-    let (mut publisher, mut watcher) = open_board(rt, alloc)?;
-    let mut lock = Lock::open(rt, alloc, network, seats_of(own.parts()))?;
-    let mut desk = lock.desk()?;
-    load_all(alloc, store, own.parts(), &mut desk, &mut publisher)?;
-    let tasks = tasks_of::<Q, F, I, O, R>(alloc, &mut lock, ports, own.parts())?;
-    start_all(alloc, spawner, log, own.parts().peers.as_slice(), tasks)?;
-    let watch = own.parts().watch;
-    watcher.learn(&publisher.tell());
+    let Prepared {
+        network,
+        mut desk,
+        publisher,
+        watcher,
+    } = prepared;
+    let tasks = plan_tasks::<Q, F, I, O, R>(rt, alloc, &mut desk, ports, &network)?;
+    start_all(alloc, spawner, log, network.parts().peers.as_slice(), tasks)?;
+    let watch = network.parts().watch;
+    let beside = desk_beside(rt, &mut desk)?;
     let operator: Task<Q::Port, F, I, O, R> = Task::Operate {
-        desk: lock.desk()?,
+        desk: beside,
         files,
-        network: own,
+        network,
         publisher,
         input,
         out,
@@ -104,7 +93,12 @@ where
     Ok(desk)
 }
 
-/// Serves a network.
+/// Serves the network whose settings stand in the file of that name: it loads the topologies that they name and shows them, listens
+/// at the port of each peer (RFC 5440, section 9.1), starts a task for each port, one that carries messages, one for each worker, and
+/// one that does what an operator's lines say; and where the settings have a port of watchers it listens there last, and starts a task
+/// that answers them. Then it tells the time, in so many turns.
+///
+/// `files`, `input` and `out` are the operator's. What is said on `log` is a line for each task that was started, and `pce: ready`.
 pub fn serve<T, Q, S, C, F, I, O, R, L>(
     rt: R,
     alloc: Global,
@@ -132,7 +126,11 @@ where
     R: Wait + Clock + Copy + Send + Drop + 'static,
     L: Sink,
 {
-    match begin(rt, alloc, name, store, ports, spawner, files, input, out, log) {
+    let prepared = match prepare(rt, alloc, name, store) {
+        Ok(prepared) => prepared,
+        Err(why) => return why,
+    };
+    match start_network(rt, alloc, prepared, ports, spawner, files, input, out, log) {
         Ok(mut desk) => {
             tell_ready(log);
             tick_on(&mut desk, clock, turns);

@@ -1,12 +1,36 @@
 //! The settings of the network.
-use crate::served::{Served, bad_network, too_large};
+ghost use Rattle.std.specs.Prelude.{◌≡◌, ◌≤◌, IfErr, IfOk, length};
+ghost use Rattle.dom_edge.specs.Stores.{HasFile};
+ghost use Rattle.plant_text.specs.Reads.{Reads};
+ghost use Rattle.network_files.specs.Loading.{HasNetwork, settings_max};
+ghost use Rattle.network_serving.specs.Files.{IsBadAt, IsBadText, IsFileEnd, IsNoFault, IsSettingsFault, IsTooLarge};
+
+use crate::served::Served;
 use dom_base::{Bytes, Text};
 use dom_edge::{Store, StoreError};
-use plant_text::{NetError, NetFault, Network, NetworkParts, PeerRow, read_network};
+use network_files::SETTINGS_MAX;
+use plant_text::{NetError, NetFault, Network, read_network};
 use std::alloc::Global;
 
-// How many bytes a file of settings may have.
-const SETTINGS_MAX: usize = 1_048_576;
+// A file above its limit.
+fn too_large(alloc: Global, name: &str) -> Served
+    ensures { IsTooLarge name.now result }
+{
+    match Text::copy_of(alloc, name) {
+        Ok(file) => Served::TooLarge(file),
+        Err(_) => Served::NoMemory,
+    }
+}
+
+/// A file that is refused at a line of it.
+pub(crate) fn bad_network(alloc: Global, name: &str, line: u32, fault: NetFault) -> Served
+    ensures { IsBadAt name.now line fault result }
+{
+    match Text::copy_of(alloc, name) {
+        Ok(file) => Served::BadNetwork { file, line, fault },
+        Err(_) => Served::NoMemory,
+    }
+}
 
 /// The bytes of a file.
 pub(crate) fn read_file<T: Store>(
@@ -14,7 +38,13 @@ pub(crate) fn read_file<T: Store>(
     store: &mut T,
     name: &str,
     limit: usize,
-) -> Result<Bytes, Served> {
+) -> Result<Bytes, Served>
+    ensures ok { IfOk result (HasFile (T.files store.old) name.now) }
+    ensures within { IfOk result (λ bytes. length bytes ≤ limit) }
+    ensures err { IfErr result (IsFileEnd (T.files store.old) name.now limit IsNoFault (T.faults store.old, T.faults store.new) (T.failed_at store.new)) }
+    ensures files { T.files store.new ≡ T.files store.old }
+    ensures later { T.faults store.old ≤ T.faults store.new }
+{
     match store.read(alloc, name, limit) {
         Ok(bytes) => Ok(bytes),
         Err(StoreError::TooLong) => Err(too_large(alloc, name)),
@@ -24,7 +54,10 @@ pub(crate) fn read_file<T: Store>(
 }
 
 // The settings in the bytes of the file of that name.
-fn network_in(alloc: Global, name: &str, bytes: &[u8]) -> Result<Network, Served> {
+fn network_in(alloc: Global, name: &str, bytes: &[u8]) -> Result<Network, Served>
+    ensures ok { IfOk result (Reads bytes.now) }
+    ensures err { IfErr result (IsBadText name.now (IsSettingsFault bytes.now)) }
+{
     match read_network(alloc, bytes) {
         Ok(network) => Ok(network),
         Err(NetError::Fault(fault)) => Err(bad_network(alloc, name, 0, fault)),
@@ -32,50 +65,19 @@ fn network_in(alloc: Global, name: &str, bytes: &[u8]) -> Result<Network, Served
     }
 }
 
-/// The settings in a file, as two equal values.
+/// The settings in a file, twice: a network takes one for itself.
 pub(crate) fn load_settings<T: Store>(
     alloc: Global,
     store: &mut T,
     name: &str,
-) -> Result<(Network, Network), Served> {
+) -> Result<(Network, Network), Served>
+    ensures ok { IfOk result (λ r. HasNetwork (T.files store.old) name.now r.0 × HasNetwork (T.files store.old) name.now r.1) }
+    ensures err { IfErr result (IsFileEnd (T.files store.old) name.now settings_max IsSettingsFault (T.faults store.old, T.faults store.new) (T.failed_at store.new)) }
+    ensures files { T.files store.new ≡ T.files store.old }
+    ensures later { T.faults store.old ≤ T.faults store.new }
+{
     let bytes = read_file(alloc, store, name, SETTINGS_MAX)?;
-    let first = network_in(alloc, name, bytes.as_slice())?;
-    let second = network_in(alloc, name, bytes.as_slice())?;
-    Ok((first, second))
-}
-
-// The first peer whose port an earlier one has.
-fn repeated_port(peers: &[PeerRow]) -> Option<u32> {
-    for i in 0..peers.len() {
-        for j in 0..i {
-            if peers[j].port == peers[i].port {
-                return Some(i as u32);
-            }
-        }
-    }
-    None
-}
-
-fn is_port_of(peers: &[PeerRow], port: u16) -> bool {
-    peers.iter().any(|row| row.port == port)
-}
-
-// The settings are refused, since a row of this table repeats a port.
-fn refuse(alloc: Global, name: &str, table: &str, row: u32) -> Served {
-    match Text::copy_of(alloc, table) {
-        Ok(table) => bad_network(alloc, name, 0, NetFault::Duplicate(table, row)),
-        Err(_) => Served::NoMemory,
-    }
-}
-
-/// Settings in which two peers have one port, or a peer has that of watchers, are refused: a peer is known by its port.
-pub(crate) fn check_ports(alloc: Global, name: &str, parts: &NetworkParts) -> Result<(), Served> {
-    let peers = parts.peers.as_slice();
-    if let Some(row) = repeated_port(peers) {
-        return Err(refuse(alloc, name, "peer", row));
-    }
-    match parts.watch {
-        Some(port) if is_port_of(peers, port) => Err(refuse(alloc, name, "watch", 0)),
-        _ => Ok(()),
-    }
+    let network = network_in(alloc, name, bytes.as_slice())?;
+    let own = network_in(alloc, name, bytes.as_slice())?;
+    Ok((network, own))
 }

@@ -1,7 +1,11 @@
-//! The tasks are started.
-use crate::naming::tell_started;
-use crate::planning::Tasks;
+//! Tasks are started, and told as they start.
+ghost use Rattle.std.specs.Prelude.{◌≡◌, ◌≤◌, ◌++◌, ◌∷◌, [], All, IfErr, OnOk, map};
+ghost use Rattle.serve_tasks.specs.Spawners.{faults_of, started};
+ghost use Rattle.serve_tasks.specs.Tasks.{IsNew, duty_of};
+ghost use Rattle.network_serving.specs.Starting.{IsUnstarted};
+
 use crate::served::Served;
+use crate::telling::tell_started;
 use dom_edge::{Listener, Sink, Source, Store};
 use plant_text::PeerRow;
 use serve_tasks::{Begun, Spawner, Task};
@@ -27,6 +31,10 @@ where
     O: Sink + Send + Drop + 'static,
     R: Wait + Clock + Copy + Send + Drop + 'static,
     L: Sink,
+    requires new { IsNew task }
+    ensures ok { OnOk result (started spawner.new ≡ started spawner.old ++ duty_of K.opened_at task ∷ []) }
+    ensures err { IfErr result (IsUnstarted (faults_of spawner.old, faults_of spawner.new)) }
+    ensures later { faults_of spawner.old ≤ faults_of spawner.new }
 {
     let duty = task.duty(alloc)?;
     match spawner.start(task) {
@@ -45,7 +53,7 @@ pub(crate) fn start_all<S, K, F, I, O, R, L>(
     spawner: &mut Spawner<S>,
     log: &mut L,
     peers: &[PeerRow],
-    tasks: Tasks<K, F, I, O, R>,
+    tasks: Vec<Task<K, F, I, O, R>>,
 ) -> Result<(), Served>
 where
     S: Threads,
@@ -56,6 +64,10 @@ where
     O: Sink + Send + Drop + 'static,
     R: Wait + Clock + Copy + Send + Drop + 'static,
     L: Sink,
+    requires new { All IsNew tasks.items }
+    ensures ok { OnOk result (started spawner.new ≡ started spawner.old ++ map (duty_of K.opened_at) tasks.items) }
+    ensures err { IfErr result (IsUnstarted (faults_of spawner.old, faults_of spawner.new)) }
+    ensures later { faults_of spawner.old ≤ faults_of spawner.new }
 {
     for task in tasks {
         start(alloc, spawner, log, peers, task)?;

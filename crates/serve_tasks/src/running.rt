@@ -1,4 +1,6 @@
 //! What a task does.
+ghost use Rattle.serve_tasks.specs.Tasks.{IsNew};
+
 use crate::gates::OpenGate;
 use crate::tasks::Task;
 use crate::watching::watch_port;
@@ -22,8 +24,13 @@ pub enum TaskEnd {
 }
 
 impl<K: Listener, F: Store, I: Source, O: Sink, R: Wait + Clock + Drop> Task<K, F, I, O, R> {
-    /// Does it, for so many turns at most.
-    pub fn run(&mut self, alloc: Global, turns: u64) -> TaskEnd {
+    ghost use Rattle.serve_tasks.specs.Running.{RunsTask};
+
+    /// Does it, for so many turns at most. It ends as the call of its kind does.
+    pub fn run(&mut self, alloc: Global, turns: u64) -> TaskEnd
+        requires new { IsNew self.old }
+        ensures runs { RunsTask (record { opened_at = K.opened_at; accept_faults = K.faults; quiets = K.quiets; files = F.files; store_faults = F.faults; failed_at = F.failed_at; left = I.left; input_faults = I.faults; written = O.written; output_faults = O.faults }) turns result self.old self.new }
+    {
         match self {
             Task::Port { peer, listener, desk } => {
                 TaskEnd::Ran(serve_port(alloc, desk, *peer, listener, turns))

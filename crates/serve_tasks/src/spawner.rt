@@ -1,4 +1,8 @@
 //! What starts tasks.
+ghost use Rattle.serve_tasks.specs.SpawnerStates.{Starts};
+ghost use Rattle.serve_tasks.specs.Tasks.{IsNew, duty_of};
+
+use crate::begun::Begun;
 use crate::memory::MemorySpawner;
 use crate::tasks::Task;
 use crate::threads::ThreadSpawner;
@@ -6,14 +10,6 @@ use dom_edge::{Listener, Sink, Source, Store};
 use std::sync::Wait;
 use std::thread::Threads;
 use std::time::Clock;
-
-/// What came of a start: it was started, it failed, or there was no memory. A task that is not started is dropped.
-#[derive(Clone, Copy)]
-pub enum Begun {
-    Started,
-    Failed,
-    NoMemory,
-}
 
 /// Starts tasks: on threads, or in memory. It stands for the list of what it started.
 #[derive(Drop)]
@@ -23,7 +19,9 @@ pub enum Spawner<T: Threads> {
 }
 
 impl<T: Threads> Spawner<T> {
-    /// Starts a task.
+    ghost use Rattle.serve_tasks.specs.Spawners.{faults_of, started};
+
+    /// Starts a task: on a thread of its own, which ends with the process at the latest; or in memory, where it is not run.
     pub fn start<K, F, I, O, R>(&mut self, task: Task<K, F, I, O, R>) -> Begun
     where
         K: Listener + Send + Drop + 'static,
@@ -32,6 +30,8 @@ impl<T: Threads> Spawner<T> {
         I: Source + Send + Drop + 'static,
         O: Sink + Send + Drop + 'static,
         R: Wait + Clock + Send + Drop + 'static,
+        requires new { IsNew task }
+        ensures starts { Starts (duty_of K.opened_at task) result (started self.old) (started self.new) (faults_of self.old) (faults_of self.new) }
     {
         match self {
             Spawner::Memory(spawner) => spawner.start(task),

@@ -1,9 +1,14 @@
 //! A spawner that starts threads.
+ghost use Rattle.std.specs.Prelude.{◌≡◌, []};
+ghost use Rattle.serve_tasks.specs.SpawnerStates.{Starts};
+ghost use Rattle.serve_tasks.specs.Tasks.{IsNew, duty_of};
+
+use crate::begun::Begun;
 use crate::duties::Duty;
-use crate::spawner::Begun;
 use crate::tasks::Task;
 use dom_edge::{Listener, Sink, Source, Store};
 use std::alloc::Global;
+use std::marker::Model;
 use std::sync::Wait;
 use std::thread::{self, Threads};
 use std::time::Clock;
@@ -20,9 +25,19 @@ pub struct ThreadSpawner<T: Threads> {
     faults: u64,
 }
 
+impl<T: Threads> Model for ThreadSpawner<T> {
+    ghost use Rattle.serve_tasks.specs.SpawnerStates.{ThreadState};
+
+    ghost Value = { ThreadState };
+
+    ghost view = { λ s. record { duties = s.duties.items; faults = s.faults } };
+}
+
 impl<T: Threads> ThreadSpawner<T> {
     /// Nothing is started yet.
-    pub fn new(rt: T, alloc: Global) -> Self {
+    pub fn new(rt: T, alloc: Global) -> Self
+        ensures { result ≡ record { duties = []; faults = 0 } }
+    {
         ThreadSpawner {
             rt,
             alloc,
@@ -40,6 +55,8 @@ impl<T: Threads> ThreadSpawner<T> {
         I: Source + Send + Drop + 'static,
         O: Sink + Send + Drop + 'static,
         R: Wait + Clock + Send + Drop + 'static,
+        requires new { IsNew task }
+        ensures starts { Starts (duty_of K.opened_at task) result self.old.duties self.new.duties self.old.faults self.new.faults }
     {
         let Ok(duty) = task.duty(self.alloc) else {
             return Begun::NoMemory;
@@ -67,11 +84,14 @@ where
     I: Source + Send + Drop + 'static,
     O: Sink + Send + Drop + 'static,
     R: Wait + Clock + Send + Drop + 'static,
+    requires new { IsNew task }
 {
     let mut task = task;
     thread::spawn(
         rt,
-        move || -> Task<K, F, I, O, R> {
+        move || -> Task<K, F, I, O, R>
+            requires { IsNew task }
+        {
             task.run(alloc, TASK_TURNS);
             task
         },

@@ -1,4 +1,9 @@
 //! A port at which watchers are answered, one connection after the other.
+ghost use Rattle.std.specs.Prelude.{◌≡◌};
+ghost use Rattle.session_serving.specs.Serving.{waits};
+ghost use Rattle.ted_watch.specs.Watch.{known, list_at};
+ghost use Rattle.serve_tasks.specs.Watching.{IsWatchTurn, WatchesPort};
+
 use dom_edge::{Accepted, Listener};
 use std::alloc::Global;
 use std::sync::Wait;
@@ -14,7 +19,11 @@ fn accept_once<K: Listener, R: Wait>(
     alloc: Global,
     watcher: &mut Watcher,
     listener: &mut K,
-) {
+)
+    ensures turn { IsWatchTurn (known watcher.old) (known watcher.new) (waits (K.faults listener.old) (K.quiets listener.old)) (waits (K.faults listener.new) (K.quiets listener.new)) }
+    ensures list { list_at watcher.new ≡ list_at watcher.old }
+    ensures port { K.opened_at listener.new ≡ K.opened_at listener.old }
+{
     match listener.accept() {
         Accepted::Link(link) => {
             let mut link = link;
@@ -31,7 +40,11 @@ pub(crate) fn watch_port<K: Listener, R: Wait>(
     watcher: &mut Watcher,
     listener: &mut K,
     turns: u64,
-) {
+)
+    ensures watches { WatchesPort turns (known watcher.old) (known watcher.new) (waits (K.faults listener.old) (K.quiets listener.old)) (waits (K.faults listener.new) (K.quiets listener.new)) }
+    ensures list { list_at watcher.new ≡ list_at watcher.old }
+    ensures port { K.opened_at listener.new ≡ K.opened_at listener.old }
+{
     for _turn in 0..turns {
         accept_once(rt, alloc, watcher, listener);
     }
