@@ -1,8 +1,10 @@
 //! The program: makes the real files, input and output, and runs the words that it is given.
 #![tactic(auto)]
 
+mod progress;
 mod server;
 
+use crate::progress::Progress;
 use crate::server::{Ended, serve_network};
 use dom_edge::{FileStore, InputSource, OutputSink, write_all};
 use pce_tool::{Status, run};
@@ -106,7 +108,7 @@ fn run_command(rt: &HostRuntime, mut words: Vec<String>) -> Status {
     let alloc = rt.alloc();
     let mut store = FileStore::new(alloc, *rt);
     let mut input = InputSource::new(rt.reader());
-    let mut out = OutputSink::new(io::writer(rt));
+    let mut out = OutputSink::new(Progress::new(*rt, io::writer(rt)));
     run(alloc, &words, &mut store, &mut input, &mut out)
 }
 
