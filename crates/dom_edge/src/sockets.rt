@@ -9,19 +9,25 @@ use crate::listener::{Accepted, Listener};
 use crate::ports::{Opened, Ports};
 use crate::sink::Put;
 use crate::stream::Got;
+use crate::waits::ReadWait;
 use crate::wire::Wire;
 use std::io::{self, ErrorKind, Read, Write};
 use std::marker::Model;
-use std::net::{IpAddr, Net, OpenListener, OpenStream, SocketAddr};
+use std::net::{IpAddr, Ipv4Addr, Ipv6Addr, Net, OpenListener, OpenStream, SocketAddr};
 use std::thread;
 use std::time::{Clock, Duration};
 
-// How long a read waits for a byte, and an `accept` for a connection, before it is quiet, in
-// milliseconds.
+// How long an `accept` waits for a connection before it is quiet, in milliseconds.
 const QUIET_MILLIS: u64 = 20;
 
 // How long a write waits until the other end makes room, before it fails, in seconds.
 const WRITE_SECONDS: u64 = 60;
+
+// All addresses of the machine: those of IPv6, and those of IPv4 with them.
+const ALL_ADDRESSES: IpAddr = IpAddr::V6(Ipv6Addr::UNSPECIFIED);
+
+// The system's number of the error that it knows no addresses of that family.
+const NO_SUCH_FAMILY: i32 = 97;
 
 // Whether a call would have waited longer, or a signal cut it short.
 fn is_quiet(error: &io::Error) -> bool {
@@ -31,17 +37,21 @@ fn is_quiet(error: &io::Error) -> bool {
 /// A connection of the system. It tells nothing of content.
 ///
 /// A read is quiet where its stream says that it would wait, or a signal cut it short. A write that
-/// takes nothing fails.
+/// takes nothing fails. Behind bytes that came, a read waits for a millisecond alone, so that an answer
+/// which another thread is about to give does not wait long for a read of its peer; behind each quiet
+/// read it waits twice as long, up to twenty milliseconds.
 #[derive(Drop)]
-pub struct SocketLink<S: Read + Write + Drop> {
+pub struct SocketLink<S: Read + Write + OpenStream + Drop> {
     stream: S,
+    // what the stream's reads wait, as far as it took what it was told
+    wait: ReadWait,
     faults: u64,
     quiets: u64,
     ends: u64,
     write_faults: u64,
 }
 
-impl<S: Read + Write + Drop> Model for SocketLink<S> {
+impl<S: Read + Write + OpenStream + Drop> Model for SocketLink<S> {
     ghost use Rattle.dom_edge.specs.Links.{SocketCounts};
 
     ghost Value = { SocketCounts };
@@ -49,22 +59,32 @@ impl<S: Read + Write + Drop> Model for SocketLink<S> {
     ghost view = { λ l. record { faults = l.faults; quiets = l.quiets; ends = l.ends; write_faults = l.write_faults } };
 }
 
-impl<S: Read + Write + Drop> SocketLink<S> {
-    /// Over a stream whose reads wait a bounded time, as those that a `PortListener` hands out do.
+impl<S: Read + Write + OpenStream + Drop> SocketLink<S> {
+    /// Over a stream whose reads wait for twenty milliseconds, as those of a `PortListener` do at first.
     pub fn new(stream: S) -> Self
         ensures { result ≡ record { faults = 0; quiets = 0; ends = 0; write_faults = 0 } }
     {
         SocketLink {
             stream,
+            wait: ReadWait::longest(),
             faults: 0,
             quiets: 0,
             ends: 0,
             write_faults: 0,
         }
     }
+
+    // The next reads wait so long. Where the stream refuses that, they wait as before.
+    fn wait_for(&mut self, wait: ReadWait)
+        ensures { self.new ≡ self.old }
+    {
+        if wait != self.wait && self.stream.set_read_timeout(Some(wait.duration())).is_ok() {
+            self.wait = wait;
+        }
+    }
 }
 
-impl<S: Read + Write + Drop> Wire for SocketLink<S> {
+impl<S: Read + Write + OpenStream + Drop> Wire for SocketLink<S> {
     ghost reading = { socket_reading };
 
     ghost writing = { socket_writing };
@@ -82,8 +102,12 @@ impl<S: Read + Write + Drop> Wire for SocketLink<S> {
                 self.ends = self.ends.saturating_add(1);
                 Got::End
             }
-            Ok(count) => Got::Bytes(count),
+            Ok(count) => {
+                self.wait_for(ReadWait::shortest());
+                Got::Bytes(count)
+            }
             Err(error) if is_quiet(&error) => {
+                self.wait_for(self.wait.doubled());
                 self.quiets = self.quiets.saturating_add(1);
                 Got::Quiet
             }
@@ -112,8 +136,8 @@ impl<S: Read + Write + Drop> Wire for SocketLink<S> {
 
 /// A port of the system that is listened at. Its `accept` does not wait in the system: where nobody
 /// came, and where it fails, it sleeps for twenty milliseconds, so that its thread can look at other
-/// work and no loop over it keeps a processor busy. A read of a connection that it hands out waits as
-/// long for a byte, in the system, and then is quiet.
+/// work and no loop over it keeps a processor busy. A read of a connection that it hands out waits that
+/// long at most for a byte, in the system, and then is quiet.
 #[derive(Drop)]
 pub struct PortListener<L: OpenListener + Drop, R: Clock + Drop> {
     listener: L,
@@ -133,7 +157,7 @@ impl<L: OpenListener + Drop, R: Clock + Drop> Model for PortListener<L, R> {
 
 // Bounds the time that a read and a write wait.
 fn bound_waits<S: OpenStream>(stream: &S) -> io::Result<()> {
-    stream.set_read_timeout(Some(Duration::from_millis(QUIET_MILLIS)))?;
+    stream.set_read_timeout(Some(ReadWait::longest().duration()))?;
     stream.set_write_timeout(Some(Duration::from_secs(WRITE_SECONDS)))
 }
 
@@ -202,8 +226,10 @@ where
     }
 }
 
-/// The ports of the system, at one address of the machine; the unspecified address stands for each
-/// of them. A port that is in use, or that may not be listened at, is a failure.
+/// The ports of the system, at one address of the machine. The unspecified address of IPv4 (`0.0.0.0`)
+/// stands for each of its addresses of IPv4; that of IPv6 (`::`) for each address of either kind, where
+/// the system is not told to keep them apart, and on a machine without IPv6 for each of IPv4. A port
+/// that is in use, or that may not be listened at, is a failure.
 #[derive(Drop)]
 pub struct SocketPorts<R: Net + Clock + Copy + Drop> {
     rt: R,
@@ -246,8 +272,20 @@ impl<R: Net + Clock + Copy + Drop> SocketPorts<R> {
     fn open(&self, port: u16) -> io::Result<PortListener<R::Listener, R>>
         ensures { IfOk result (λ l. l.port ≡ port) }
     {
-        let listener = self.rt.bind(SocketAddr::new(self.address, port))?;
-        PortListener::new(self.rt, listener, port)
+        PortListener::new(self.rt, self.bind(port)?, port)
+    }
+
+    // The system's listener at that port. On a machine without IPv6 all its addresses are those of IPv4.
+    fn bind(&self, port: u16) -> io::Result<R::Listener> {
+        match self.rt.bind(SocketAddr::new(self.address, port)) {
+            Err(error)
+                if error.raw_os_error() == Some(NO_SUCH_FAMILY) && self.address == ALL_ADDRESSES =>
+                {
+                    self.rt
+                        .bind(SocketAddr::new(IpAddr::V4(Ipv4Addr::UNSPECIFIED), port))
+                }
+            bound => bound,
+        }
     }
 }
 

@@ -4,7 +4,7 @@ use dom_edge::{
     Accepted, Clock, Got, Listener, Opened, Ports, Put, SocketLink, SocketPorts, WallClock, Wire,
 };
 use std::io::{self, ErrorKind, Read, Write};
-use std::net::{IpAddr, Ipv4Addr, TcpListener, TcpStream};
+use std::net::{IpAddr, Ipv4Addr, OpenStream, TcpListener, TcpStream};
 use std::test::Fail;
 use std::time::{Duration, Instant};
 
@@ -139,6 +139,8 @@ impl Write for Broken {
         Ok(())
     }
 }
+
+impl OpenStream for Broken {}
 
 // What a read and a write give over a stream that is broken in that way.
 fn answers(kind: Option<ErrorKind>) -> (Got, Put) {
