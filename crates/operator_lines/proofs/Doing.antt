@@ -1,6 +1,9 @@
 -- What a line does, part by part.
-use Rattle.std.proofs.Common.{◌≡◌, ◌≢◌, ◌⊎◌, inl, inr, ⊎_elim, ◌≤◌, ◌<◌, ◌+◌, ◌&&◌, ◌||◌, ℕ, Bool, true, false, nat_lt, List, [], ◌∷◌, ◌++◌, length, take, Option, Some, None, Result, Ok, Err, append_assoc, append-nil, refl, sym, ap, subst, ◌∙◌, arith, MatchBool}
+use Rattle.std.proofs.Common.{◌≡◌, ◌≢◌, ◌⊎◌, inl, inr, ⊎_elim, ◌≤◌, ◌<◌, ◌+◌, ◌&&◌, ◌||◌, ℕ, Bool, true, false, nat_lt, List, [], ◌∷◌, ◌++◌, length, take, Option, Some, None, Result, Ok, Err, append_assoc, append-nil, length-append, length-take, refl, sym, ap, subst, ◌∙◌, arith, MatchBool}
 use Rattle.std.specs.Str.Lines.{strip_carriage_return}
+use Rattle.std.proofs.lemmas.List.{take_all, take-append-le}
+use Rattle.std.proofs.lemmas.List.Elements.{All-push}
+use Rattle.dom_base.specs.declared.names.NoMemory.{NoMemory as Lack}
 use Rattle.dom_base.specs.declared.names.As.{As}
 use Rattle.dom_edge.specs.Stores.{Files, HasFile, IsLongFile}
 use Rattle.te_links.specs.Rows.{Rows}
@@ -16,9 +19,9 @@ use Rattle.plant_model.specs.declared.outcome.Refused.{Refused}
 use Rattle.plant_model.specs.declared.outcome.Refused.TheVariants.{NoSuchPeer}
 use Rattle.transcript.specs.Lines.{answer_line}
 use Rattle.ted_watch.specs.declared.shown.Shown.{Shown}
-use Rattle.operator_lines.specs.Charts.{Asks, Call, Charted, Current, Did, Mapped}
-use Rattle.operator_lines.specs.Operating.{Context, Does, DoesEvent, IsFirstPart, IsPartOf, Loads, Past, Says, Shows, Stage, WithFile, Work, is_done, line_most, past, shown_by}
-use Rattle.operator_lines.specs.Steps.{Acted, Asked, Goes, GoesFrom, IsAllDone, IsBegun, IsEndOf, IsFile, IsPartDone, Publishes, Refuses, text_of}
+use Rattle.operator_lines.specs.Charts.{Asks, Call, Charted, Current, Did, Mapped, current_of}
+use Rattle.operator_lines.specs.Operating.{Context, Does, DoesEvent, IsEndOf, IsFirstPart, IsPartOf, Loads, Past, Publishes, Says, Shows, Stage, WithFile, Work, is_done, line_most, past, shown_by}
+use Rattle.operator_lines.specs.Steps.{Acted, Asked, answered, Goes, GoesFrom, IsAllDone, IsBegun, IsFile, IsPartDone, Refuses, text_of}
 use Rattle.operator_lines.specs.Texts.{bad_network_text, read_fault_text, too_large_text}
 use Rattle.operator_lines.specs.declared.operating.Operated.{Operated}
 use Rattle.operator_lines.specs.declared.operating.Operated.TheVariants.{End, ReadFault, WriteFault, Turns, Spent, NoMemory}
@@ -176,3 +179,115 @@ module _ (n : NetworkParts) (number : ℕ) (at : As) (g : Rows) (earlier : List 
         };
       })
       goes.1))
+
+-- ---- files
+
+-- a file is refused, or memory lacks
+pub refused_goes : (P : Work → Type 0) (number : ℕ) (name : List ℕ) (why : FileError) (r : Result (Unit {0}) Operated) (a : Past) (spent : Option ℕ) (before after : List ℕ)
+    → ((place : ℕ) (fault : NetFault) → why ≡ BadFile place fault → P (record { calls = []; shown = []; text = bad_network_text number name place fault })) → spent ≡ None → Refuses number name why r before after → Goes P r a a spent before after
+refused_goes P number name why (Err end) a spent before after f fresh refuses = goes_lack P end a spent before after refuses fresh
+refused_goes P number name (BadFile place fault) (Ok u) a spent before after f fresh refuses = goes_said P (bad_network_text number name place fault) a spent before after (f place fault refl) fresh refuses
+refused_goes P number name LacksFile (Ok u) a spent before after f fresh refuses = absurd refuses
+
+-- a file is refused after a question
+pub refused_later : (P : Work → Type 0) (number : ℕ) (name : List ℕ) (why : FileError) (r : Result (Unit {0}) Operated) (call : Call) (some : Work) (o a : Past) (spent : Option ℕ) (before after : List ℕ)
+    → ((place : ℕ) (fault : NetFault) → why ≡ BadFile place fault → P (record { calls = call ∷ []; shown = []; text = bad_network_text number name place fault }))
+    → P some → (rest : List Call) → some.calls ≡ call ∷ rest → spent ≡ None → a.calls ≡ o.calls ++ call ∷ [] → a.shown ≡ o.shown → Refuses number name why r before after → Goes P r o a spent before after
+refused_later P number name why (Err end) call some o a spent before after f does rest is fresh calls shown refuses =
+    subst (λ (e : Operated). Goes P (Err e) o a spent before after) (sym refuses)
+    (fresh, inr (record { work = some; does = does; part = record { made = call ∷ []; part = inl (rest, is); calls = calls; shown = inl shown } }))
+refused_later P number name (BadFile place fault) (Ok u) call some o a spent before after f does rest is fresh calls shown refuses =
+    (record { work = record { calls = call ∷ []; shown = []; text = bad_network_text number name place fault }; does = f place fault refl; calls = calls; shown = shown ∙ sym (append-nil o.shown); told = refuses }, fresh)
+refused_later P number name LacksFile (Ok u) call some o a spent before after f does rest is fresh calls shown refuses = absurd refuses
+
+module _ (x : Context) (number : ℕ) (name : List ℕ) (a b : Stage) (Then : List ℕ → Work → Type 0) where
+  -- it is told why the file was not read
+  pub unread_goes : (p : Past) (spent : Option ℕ) (before after : List ℕ) → spent ≡ None → IsFile x.files number name (Ok None) a.faults b.faults b.failed_at before after → Goes (WithFile x number name a b Then) (Ok tt) p p spent before after
+  unread_goes p spent before after fresh (inl f) = goes_said (WithFile x number name a b Then) (read_fault_text number) p spent before after (inl (f.0, f.1, refl)) fresh f.2
+  unread_goes p spent before after fresh (inr f) = goes_said (WithFile x number name a b Then) (too_large_text number name) p spent before after (inr (inl (f.0, refl))) fresh f.1
+
+  -- the file is read
+  pub read_goes : (file : List ℕ) → HasFile x.files name file → length file ≤ change_file_most → (r : Result (Unit {0}) Operated) (p q : Past) (spent : Option ℕ) (before after : List ℕ) → Goes (Then file) r p q spent before after → Goes (WithFile x number name a b Then) r p q spent before after
+  read_goes file has short r p q spent before after goes = goes_as (Then file) (WithFile x number name a b Then) (λ w d. inr (inr (file, has, short, d))) r p q spent before after goes
+
+-- ---- questions
+
+unspent : (s : Option ℕ) → ((t : ℕ) → s ≡ Some t → ⊥) → s ≡ None
+unspent None f = refl
+unspent (Some t) f = absurd (f t refl)
+
+pub asked_ok : {A : Type 0} (worth : A → Rows) (at : As) (found : Option (ℕ × A)) (old new : Charted) → Asks old new at (current_of worth (Ok found)) → new.spent ≡ None → Asked at (answered worth (Ok found)) old new
+asked_ok worth at None old new asks fresh = (asks.asked fresh, fresh)
+asked_ok worth at (Some found) old new asks fresh = (asks.asked fresh, fresh)
+
+pub asked_spent : {A : Type 0} (worth : A → Rows) (at : As) (m : Current) (old new : Charted) (t : ℕ) → Asks old new at m → new.spent ≡ Some t → Asked at (answered worth (Err (Spent t))) old new
+asked_spent worth at m old new t asks spent = ((asks.untold t spent).0, spent)
+
+pub asked_lack : {A : Type 0} (worth : A → Rows) (at : As) (why : Lack) (end : Operated) (old new : Charted) → Asks old new at (current_of worth (Err why)) → end ≡ NoMemory → Asked at (answered worth (Err end)) old new
+asked_lack worth at why end old new asks is =
+    let fresh : new.spent ≡ None = unspent new.spent (λ t e. absurd (cc (asks.untold t e).1)) in
+    subst (λ (e : Operated). Asked at (answered worth (Err e)) old new) (sym is) (asks.asked fresh, fresh)
+
+same_past : (old new : Charted) (list : List Shown) → new.calls ≡ old.calls → past new list ≡ past old list
+same_past old new list e = ap (λ (c : List Call). record { calls = c; shown = list }) e
+
+-- an end that a question brings
+pub asked_out : (at : As) (end : Operated) (old new : Charted) (list : List Shown) → Asked at (Err end) old new → Publishes (Err end) at true (past old list) (past new list) new.spent
+asked_out at NoMemory old new list asked = (refl, asked.1, inr (Err (record {}), asked.0, refl))
+asked_out at (Spent t) old new list asked = (refl, asked.1, inl (same_past old new list asked.0))
+asked_out at End old new list asked = absurd asked
+asked_out at ReadFault old new list asked = absurd asked
+asked_out at WriteFault old new list asked = absurd asked
+asked_out at Turns old new list asked = absurd asked
+
+pub shown_none : (at : As) (old new : Charted) (list : List Shown) → Asked at (Ok None) old new → Publishes (Ok tt) at true (past old list) (past new list) new.spent
+shown_none at old new list asked = (Mapped at (Ok None) ∷ [], [], (Ok None, refl, refl), asked.0, sym (append-nil list), asked.1)
+
+pub shown_some : (at : As) (found : ℕ × Rows) (old new : Charted) (list more : List Shown) → Asked at (Ok (Some found)) old new → more ≡ list ++ shown_by at (Ok (Some found)) list → Publishes (Ok tt) at true (past old list) (past new more) new.spent
+shown_some at found old new list more asked is = (Mapped at (Ok (Some found)) ∷ [], shown_by at (Ok (Some found)) list, (Ok (Some found), refl, refl), asked.0, is, asked.1)
+
+-- an entry for which memory lacks
+pub shown_lack : (at : As) (found : ℕ × Rows) (end : Operated) (old new : Charted) (list more : List Shown) → Asked at (Ok (Some found)) old new → end ≡ NoMemory → more ≡ list → Publishes (Err end) at true (past old list) (past new more) new.spent
+shown_lack at found end old new list more asked is same =
+    subst (λ (e : Operated). Publishes (Err e) at true (past old list) (past new more) new.spent) (sym is) (refl, asked.1, inr (Ok (Some found), asked.0, same))
+
+-- ---- bytes of a line that was begun
+
+-- a byte more of a line that is not long
+pub pushed_short : (bytes : List ℕ) (is_long : Bool) (line : List ℕ) (byte : ℕ) → IsBegun bytes is_long line → byte ≢ 10 → length bytes ≤ line_most → IsBegun (bytes ++ byte ∷ []) is_long (line ++ byte ∷ [])
+pushed_short bytes is_long line byte is never few =
+    let short : length line ≤ line_most = omega (arith, few, ap (λ (l : List ℕ). length l) is.kept, length-take (line_most + 1) line) in
+    record {
+      no_end = All-push (λ (c : ℕ). c ≢ 10) line byte is.no_end never;
+      kept = ap (λ (l : List ℕ). l ++ byte ∷ []) (is.kept ∙ take_all (line_most + 1) line (omega (arith, short)))
+          ∙ sym (take_all (line_most + 1) (line ++ byte ∷ []) (omega (arith, short, length-append line (byte ∷ []))));
+      long = is.long ∙ (not_below line (omega (arith, short)) ∙ sym (not_below (line ++ byte ∷ []) (omega (arith, short, length-append line (byte ∷ [])))));
+    }
+  where
+    not_below : (l : List ℕ) → length l ≤ line_most + 1 → nat_lt (line_most + 1) (length l) ≡ false
+    not_below l le = omega (arith, le)
+
+-- of a line that is too long no more bytes are kept
+pub pushed_long : (bytes : List ℕ) (is_long : Bool) (line : List ℕ) (byte : ℕ) → IsBegun bytes is_long line → byte ≢ 10 → line_most < length bytes → IsBegun bytes true (line ++ byte ∷ [])
+pushed_long bytes is_long line byte is never many =
+    let long : line_most + 1 ≤ length line = omega (arith, many, ap (λ (l : List ℕ). length l) is.kept, length-take (line_most + 1) line) in
+    record {
+      no_end = All-push (λ (c : ℕ). c ≢ 10) line byte is.no_end never;
+      kept = is.kept ∙ sym (take-append-le (line_most + 1) line (byte ∷ []) long);
+      long = omega (arith, long, length-append line (byte ∷ []));
+    }
+
+-- the text is too long exactly where the bytes that are kept say so, and else it is the whole text
+length_strip : (l : List ℕ) → length l ≤ length (strip_carriage_return l) + 1
+length_strip l = grind arith
+
+length_text : (has_end : Bool) (l : List ℕ) → length l ≤ length (text_of has_end l) + 1
+length_text true l = length_strip l
+length_text false l = omega arith
+
+pub is_long_text : (has_end : Bool) (bytes : List ℕ) (is_long : Bool) (line : List ℕ) → IsBegun bytes is_long line → (is_long || nat_lt line_most (length (text_of has_end bytes))) ≡ nat_lt line_most (length (text_of has_end line))
+is_long_text has_end bytes true line is = sym (omega (arith, length_text has_end line, is.long))
+is_long_text has_end bytes false line is = ap (λ (l : List ℕ). nat_lt line_most (length (text_of has_end l))) (is.kept ∙ take_all (line_most + 1) line (omega (arith, is.long)))
+
+pub short_text : (has_end : Bool) (bytes line : List ℕ) → IsBegun bytes false line → text_of has_end bytes ≡ text_of has_end line
+short_text has_end bytes line is = ap (text_of has_end) (is.kept ∙ take_all (line_most + 1) line (omega (arith, is.long)))

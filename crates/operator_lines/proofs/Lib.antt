@@ -1,4 +1,2 @@
 mod Elements
 mod Doing
-mod Taking
-mod Turning

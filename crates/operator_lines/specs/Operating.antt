@@ -3,7 +3,7 @@ use Rattle.std.specs.Prelude.{◌≡◌, ◌≢◌, ◌⊎◌, ◌≤◌, ◌+�
 use Rattle.std.specs.List.{flat_map}
 use Rattle.std.specs.declared.option.Option.{Option}
 use Rattle.std.specs.Str.Lines.{strip_carriage_return}
-use Rattle.std.specs.Io.KnownBytes.{Appends, Consumes, IsAtEnd}
+use Rattle.std.specs.Io.KnownBytes.{Appends, Consumes}
 use Rattle.dom_base.specs.declared.names.As.{As}
 use Rattle.dom_edge.specs.Causes.{Rose}
 use Rattle.dom_edge.specs.Stores.{Files, HasFile, IsLongFile}
@@ -96,6 +96,17 @@ shown_by at (Err why) list = []
 abbrev pub Shows : As → Bool → List Shown → List Call → List Shown → Type 0
 Shows at true list asked shown = (m : Current) × (asked ≡ Mapped at m ∷ []) × (shown ≡ shown_by at m list)
 Shows at false list asked shown = (asked ≡ []) × (shown ≡ [])
+
+-- at which number the chart is spent by an end that its calls bring
+abbrev pub IsEndOf : Operated → Option ℕ → Type 0
+IsEndOf (Spent t) spent = spent ≡ Some t
+IsEndOf NoMemory spent = spent ≡ None
+IsEndOf end spent = ⊥
+
+-- The current topology is asked for and shown, where that is due; or it is not shown, since the chart is spent or memory lacks.
+abbrev pub Publishes : Result (Unit {0}) Operated → As → Bool → Past → Past → Option ℕ → Type 0
+Publishes (Ok u) at is_due a b spent = (asked : List Call) × (shown : List Shown) × Shows at is_due a.shown asked shown × (b.calls ≡ a.calls ++ asked) × (b.shown ≡ a.shown ++ shown) × (spent ≡ None)
+Publishes (Err end) at is_due a b spent = (is_due ≡ true) × IsEndOf end spent × ((b ≡ a) ⊎ ((m : Current) × (b.calls ≡ a.calls ++ Mapped at m ∷ []) × (b.shown ≡ a.shown)))
 
 -- a topology is loaded, after these calls of its line
 pub record Loads (n : NetworkParts) (number : ℕ) (at : As) (g : Rows) (list : List Shown) (earlier : List Call) (w : Work) : Type 0 where
@@ -196,11 +207,12 @@ HasNoEnd bytes = All (λ c. c ≢ 10) bytes
 abbrev pub ended : List ℕ → List ℕ
 ended line = line ++ 10 ∷ []
 
--- The bytes are lines and a rest. The lines are done one after the other, less the CR before their LF; so many lines came before.
-pub record AreTaken (x : Context) (before : ℕ) (bytes rest : List ℕ) (a b : Stage) (told : List ℕ) : Type 0 where
+-- The bytes are lines and a rest. The lines are done one after the other, less the CR before their LF; so many lines were done before and after.
+pub record AreTaken (x : Context) (before after : ℕ) (bytes rest : List ℕ) (a b : Stage) (told : List ℕ) : Type 0 where
   pub whole : List (List ℕ)
   pub each : All HasNoEnd whole
   pub is : bytes ≡ flat_map ended whole ++ rest
+  pub count : after ≡ before + length whole
   pub are_done : AreDone x (before + 1) (map strip_carriage_return whole) a b told
 
 -- the next line of a rest: it ends in the rest, or the input ends behind it
@@ -244,9 +256,14 @@ pub record Sides : Type 0 where
 abbrev pub sides : Side → Side → Sides
 sides i o = record { input = i; output = o }
 
+-- where the bytes of an input are told, none is left
+abbrev pub IsReadOut : Option (List ℕ) → Option (List ℕ) → Type 0
+IsReadOut None new = Unit {0}
+IsReadOut (Some bytes) new = new ≡ Some []
+
 -- why it may end so, where so many bytes were taken: in each turn at least one
 abbrev pub HasCause : ℕ → ℕ → Operated → Sides → Sides → Type 0
-HasCause turns taken End before after = IsAtEnd after.input.bytes
+HasCause turns taken End before after = IsReadOut before.input.bytes after.input.bytes
 HasCause turns taken ReadFault before after = Rose before.input.faults after.input.faults
 HasCause turns taken WriteFault before after = Rose before.output.faults after.output.faults
 HasCause turns taken Turns before after = turns ≤ taken
@@ -258,8 +275,9 @@ pub record Operates (x : Context) (turns : ℕ) (end : Operated) (old new : Stag
   pub taken : List ℕ
   pub took : Consumes before.input.bytes after.input.bytes taken
   pub rest : List ℕ
+  pub done : ℕ
   pub mid : Stage
   pub told : List ℕ
-  pub lines : AreTaken x 0 taken rest old mid told
-  pub stops : Stops x (length lines.whole + 1) end (IsAtEnd after.input.bytes) rest mid new before.output.bytes after.output.bytes told
+  pub lines : AreTaken x 0 done taken rest old mid told
+  pub stops : Stops x (done + 1) end (IsReadOut before.input.bytes after.input.bytes) rest mid new before.output.bytes after.output.bytes told
   pub cause : HasCause turns (length taken) end before after

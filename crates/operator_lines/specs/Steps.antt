@@ -2,10 +2,11 @@
 use Rattle.std.specs.Prelude.{◌≡◌, ◌≢◌, ◌⊎◌, ◌≤◌, ◌+◌, ℕ, Bool, true, false, nat_lt, List, [], ◌∷◌, ◌++◌, length, take, Result, Ok, Err, Some, None, if◌then◌else◌}
 use Rattle.std.specs.declared.option.Option.{Option}
 use Rattle.std.specs.Str.Lines.{strip_carriage_return}
-use Rattle.std.specs.Io.KnownBytes.{Appends, Consumes, IsAtEnd}
+use Rattle.std.specs.Io.KnownBytes.{Appends, Consumes}
 use Rattle.dom_base.specs.declared.names.As.{As}
 use Rattle.dom_edge.specs.Causes.{Rose}
 use Rattle.dom_edge.specs.Stores.{Files, HasFile, IsLongFile}
+use Rattle.dom_edge.specs.Whole.{AppendsSome}
 use Rattle.te_deltas.specs.ChangeText.{change_file_most}
 use Rattle.line_files.specs.declared.error.FileError.{FileError}
 use Rattle.line_files.specs.declared.error.FileError.TheVariants.{BadFile}
@@ -15,18 +16,12 @@ use Rattle.plant_model.specs.declared.outcome.Outcome.{Outcome}
 use Rattle.plant_model.specs.declared.outcome.Refused.{Refused}
 use Rattle.ted_watch.specs.declared.shown.Shown.{Shown}
 use Rattle.operator_lines.specs.Charts.{Call, Charted, Current, Did, Mapped}
-use Rattle.operator_lines.specs.Operating.{AreTaken, Context, HasCause, HasNoEnd, IsPartOf, Past, Shows, Sides, Stage, Stops, Work, line_most, shown_by}
+use Rattle.operator_lines.specs.Operating.{AreTaken, Context, HasCause, HasNoEnd, IsCut, IsDone, IsEndOf, IsPartOf, IsReadOut, Past, Sides, Stage, Stops, Work, line_most, shown_by}
 use Rattle.operator_lines.specs.Texts.{bad_network_text, read_fault_text, too_large_text}
 use Rattle.operator_lines.specs.declared.operating.Operated.{Operated}
 use Rattle.operator_lines.specs.declared.operating.Operated.TheVariants.{End, ReadFault, WriteFault, Turns, Spent, NoMemory}
 
 -- ---- calls of the chart
-
--- at which number the chart is spent by an end that its calls bring
-abbrev pub IsEndOf : Operated → Option ℕ → Type 0
-IsEndOf (Spent t) spent = spent ≡ Some t
-IsEndOf NoMemory spent = spent ≡ None
-IsEndOf end spent = ⊥
 
 -- an answer by what its topology is worth
 module _ {A : Type 0} where
@@ -47,11 +42,6 @@ abbrev pub Acted : As → Rows → Result (Result Outcome Refused) Operated → 
 Acted at g (Ok answer) old new = (new.calls ≡ old.calls ++ Did (event.Load at g) answer ∷ []) × (new.spent ≡ None)
 Acted at g (Err (Spent t)) old new = (new.calls ≡ old.calls) × (new.spent ≡ Some t)
 Acted at g (Err end) old new = ⊥
-
--- what was loaded is shown, where there is something to show
-abbrev pub Publishes : Result (Unit {0}) Operated → As → Bool → Past → Past → Option ℕ → Type 0
-Publishes (Ok u) at is_due a b spent = (asked : List Call) × (shown : List Shown) × Shows at is_due a.shown asked shown × (b.calls ≡ a.calls ++ asked) × (b.shown ≡ a.shown ++ shown) × (spent ≡ None)
-Publishes (Err end) at is_due a b spent = (is_due ≡ true) × IsEndOf end spent × ((b ≡ a) ⊎ ((m : Current) × (b.calls ≡ a.calls ++ Mapped at m ∷ []) × (b.shown ≡ a.shown)))
 
 -- ---- a line
 
@@ -126,21 +116,29 @@ pub record TakesOn (x : Context) (piece line : List ℕ) (p q : Begun) (a b : St
   pub left : List ℕ
   pub is_begun : IsBegun q.bytes q.is_long left
   pub told : List ℕ
-  pub taken : AreTaken x p.before (line ++ piece) left a b told
-  pub count : q.before ≡ p.before + length taken.whole
+  pub taken : AreTaken x p.before q.before (line ++ piece) left a b told
   pub written : Appends old new told
 
 -- they end it
 pub record CutsOff (x : Context) (end : Operated) (IsLast : Type 0) (piece line : List ℕ) (before : ℕ) (a b : Stage) (old new : Option (List ℕ)) : Type 0 where
   pub rest : List ℕ
+  pub done : ℕ
   pub mid : Stage
   pub told : List ℕ
-  pub taken : AreTaken x before (line ++ piece) rest a mid told
-  pub stops : Stops x (before + length taken.whole + 1) end IsLast rest mid b old new told
+  pub taken : AreTaken x before done (line ++ piece) rest a mid told
+  pub stops : Stops x (done + 1) end IsLast rest mid b old new told
 
 abbrev pub Feeds : Context → List ℕ → Result (Unit {0}) Operated → List ℕ → Begun → Begun → Stage → Stage → Option (List ℕ) → Option (List ℕ) → Type 0
 Feeds x piece (Ok u) line p q a b old new = TakesOn x piece line p q a b old new
 Feeds x piece (Err end) line p q a b old new = CutsOff x end ⊥ piece line p.before a b old new
+
+-- the line that was begun ends, and a new one begins
+abbrev pub EndsLine : Context → Bool → List ℕ → Result (Unit {0}) Operated → Begun → Begun → Stage → Stage → Option (List ℕ) → Option (List ℕ) → Type 0
+EndsLine x has_end line (Ok u) p q a b old new =
+    (told : List ℕ) × IsDone x (p.before + 1) (text_of has_end line) a b told × Appends old new told × (q.before ≡ p.before + 1) × IsBegun q.bytes q.is_long []
+EndsLine x has_end line (Err WriteFault) p q a b old new =
+    (told : List ℕ) × IsDone x (p.before + 1) (text_of has_end line) a b told × AppendsSome old new told
+EndsLine x has_end line (Err end) p q a b old new = ((b.past ≡ a.past) ⊎ IsCut x (p.before + 1) (text_of has_end line) a b) × (new ≡ old)
 
 -- the count of faults, and the chart
 abbrev pub Lasts : Result (Unit {0}) Operated → ℕ → ℕ → Option ℕ → Type 0
@@ -162,13 +160,18 @@ pub record IsTurn (x : Context) (line : List ℕ) (p q : Begun) (a b : Stage) (b
 pub record IsLastTurn (x : Context) (end : Operated) (line : List ℕ) (number : ℕ) (a b : Stage) (before after : Sides) : Type 0 where
   pub piece : List ℕ
   pub took : Consumes before.input.bytes after.input.bytes piece
-  pub cuts : CutsOff x end (IsAtEnd after.input.bytes) piece line number a b before.output.bytes after.output.bytes
+  pub cuts : CutsOff x end (IsReadOut before.input.bytes after.input.bytes) piece line number a b before.output.bytes after.output.bytes
   pub ends : end ≢ Turns
   pub cause : HasCause 0 0 end before after
 
 abbrev pub IsTurned : Context → Result (Unit {0}) Operated → List ℕ → Begun → Begun → Stage → Stage → Sides → Sides → Type 0
 IsTurned x (Ok u) line p q a b before after = IsTurn x line p q a b before after
 IsTurned x (Err end) line p q a b before after = IsLastTurn x end line p.before a b before after
+
+-- the input ended behind a line that was begun
+abbrev pub Finishes : Context → Operated → List ℕ → ℕ → Stage → Stage → Option (List ℕ) → Option (List ℕ) → ℕ → ℕ → Type 0
+Finishes x end line before a b old new faults now =
+    Stops x (before + 1) end (Unit {0}) line a b old new [] × (end ≡ WriteFault → Rose faults now) × (end ≢ ReadFault) × (end ≢ Turns)
 
 -- the chart after an end
 abbrev pub Leaves : Operated → Option ℕ → Type 0

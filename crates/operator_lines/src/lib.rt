@@ -15,6 +15,5 @@ mod texts;
 
 pub use charts::Chart;
 pub use operating::{Operated, operate};
+pub use publishing::publish;
 
-#[cfg(test)]
-mod tests;

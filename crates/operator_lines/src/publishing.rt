@@ -3,8 +3,7 @@ ghost use Rattle.std.specs.Prelude.{◌≡◌, ◌≤◌, ◌++◌, ◌∷◌, �
 ghost use Rattle.plant_text.specs.Settings.{is_element};
 ghost use Rattle.ted_watch.specs.Watch.{published, list_of};
 ghost use Rattle.ted_watch.specs.Published.{as_count, generation_of, last_of};
-ghost use Rattle.operator_lines.specs.Operating.{AreOfElements, entry_of, is_newer, past};
-ghost use Rattle.operator_lines.specs.Steps.{Publishes};
+ghost use Rattle.operator_lines.specs.Operating.{AreOfElements, Publishes, entry_of, is_newer, past};
 
 use crate::asking::ask;
 use crate::charts::Chart;
@@ -51,8 +50,20 @@ fn show_newer<R: Wait + Drop>(publisher: &mut Publisher<R>, shown: Shown) -> Res
     }
 }
 
+// Whether the settings have an element of this AS.
+fn is_element(network: &Network, at: As) -> bool
+    ensures { result ≡ is_element network.now at }
+{
+    network
+        .parts()
+        .elements
+        .as_slice()
+        .iter()
+        .any(|row| row.own.0 == at.0)
+}
+
 // Asks for the current topology of an element, and shows it where it is newer than what was shown.
-fn publish<D: Chart, R: Wait + Drop>(
+fn publish_element<D: Chart, R: Wait + Drop>(
     desk: &mut D,
     network: &Network,
     publisher: &mut Publisher<R>,
@@ -71,19 +82,28 @@ fn publish<D: Chart, R: Wait + Drop>(
     Ok(())
 }
 
-// Whether the settings have an element of this AS.
-fn is_element(network: &Network, at: As) -> bool
-    ensures { result ≡ is_element network.now at }
+/// Asks for the current topology of an element, and shows it where it is newer than what was shown. An AS that is no
+/// element of the settings is not asked for.
+pub fn publish<D: Chart, R: Wait + Drop>(
+    desk: &mut D,
+    network: &Network,
+    publisher: &mut Publisher<R>,
+    at: As,
+) -> Result<(), Operated>
+    requires elements { AreOfElements network.now (published publisher.old) }
+    requires fresh { (D.charted desk.old).spent ≡ None }
+    ensures publishes { Publishes result at (is_element network.now at) (past (D.charted desk.old) (published publisher.old)) (past (D.charted desk.new) (published publisher.new)) (D.charted desk.new).spent }
+    ensures elements { AreOfElements network.now (published publisher.new) }
+    ensures list { list_of publisher.new ≡ list_of publisher.old }
 {
-    network
-        .parts()
-        .elements
-        .as_slice()
-        .iter()
-        .any(|row| row.own.0 == at.0)
+    if is_element(network, at) {
+        publish_element(desk, network, publisher, at)
+    } else {
+        Ok(())
+    }
 }
 
-/// After a load that was accepted, of an element, its current topology is shown where it is newer than what was shown.
+/// After a load of an element that was accepted its current topology is shown where it is newer than what was shown.
 pub(crate) fn publish_loaded<D: Chart, R: Wait + Drop>(
     desk: &mut D,
     network: &Network,
@@ -97,7 +117,7 @@ pub(crate) fn publish_loaded<D: Chart, R: Wait + Drop>(
     ensures elements { AreOfElements network.now (published publisher.new) }
     ensures list { list_of publisher.new ≡ list_of publisher.old }
 {
-    if is_accepted && is_element(network, at) {
+    if is_accepted {
         publish(desk, network, publisher, at)
     } else {
         Ok(())
