@@ -3,3 +3,5 @@ pub mod Duties
 pub mod Ports
 pub mod Files
 pub mod Ends
+-- inner
+pub mod Starting

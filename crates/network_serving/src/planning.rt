@@ -1,9 +1,11 @@
 //! The tasks of the ports, of the carrier and of the workers.
 ghost use Rattle.std.specs.Prelude.{◌≡◌, ◌≤◌, ◌<◌, ◌^◌, ◌++◌, ◌∷◌, [], All, IfErr, IfOk, OnOk, length, map};
-ghost use Rattle.plant_text.specs.Networks.{IsNetwork};
+ghost use Rattle.dom_edge.specs.Causes.{next_count};
 ghost use Rattle.serve_tasks.specs.Tasks.{IsNew, duty_of};
-ghost use Rattle.network_serving.specs.Duties.{child_ways, first_duties, port_duties, ways_of, work_duties};
-ghost use Rattle.network_serving.specs.Planning.{IsPlanned, IsUnlistened, calls};
+ghost use Rattle.serve_tasks.specs.declared.duties.Duty.TheVariants.{Carry};
+ghost use Rattle.network_serving.specs.Duties.{first_duties, port_duties, ways_of, work_duties};
+ghost use Rattle.network_serving.specs.Ends.{RoseBy};
+ghost use Rattle.network_serving.specs.Starting.{Adds, IsPlanEnd, called, peer_ports};
 
 use crate::served::Served;
 use cost_cache::Cache;
@@ -54,7 +56,7 @@ pub(crate) fn desk_beside<R: Wait + Clock + Copy + Drop>(rt: R, desk: &mut TurnD
 /// Listens at a port.
 pub(crate) fn listen<Q: Ports>(ports: &mut Q, port: u16) -> Result<Q::Port, Served>
     ensures ok { IfOk result (λ listener. Q.Port.opened_at listener ≡ port) }
-    ensures err { IfErr result (IsUnlistened port (Q.faults ports.old, Q.faults ports.new) (Q.failed_at ports.new)) }
+    ensures err { IfErr result (IsPlanEnd (port ∷ []) (called (Q.calls ports.old, Q.calls ports.new) (Q.faults ports.old, Q.faults ports.new) (Q.failed_at ports.new))) }
     ensures called { Q.calls ports.new ≡ next_count (Q.calls ports.old) }
     ensures later { Q.faults ports.old ≤ Q.faults ports.new }
 {
@@ -71,9 +73,15 @@ fn add_ports<Q: Ports, F: Drop, I: Drop, O: Drop, R: Wait + Clock + Copy + Drop>
     ports: &mut Q,
     peers: &[PeerRow],
     tasks: &mut Vec<Task<Q::Port, F, I, O, R>>,
-) -> Result<(), Served> {
-    for (peer, row) in peers.iter().enumerate() {
-        let listener = listen(ports, row.port)?;
+) -> Result<(), Served>
+    requires few { length peers.now < 2 ^ 32 }
+    ensures ok { OnOk result (Adds Q.Port.opened_at tasks.old.items tasks.new.items (port_duties 0 peers.now)) }
+    ensures calls { OnOk result (RoseBy (length peers.now) (Q.calls ports.old, Q.calls ports.new)) }
+    ensures err { IfErr result (IsPlanEnd (peer_ports peers.now) (called (Q.calls ports.old, Q.calls ports.new) (Q.faults ports.old, Q.faults ports.new) (Q.failed_at ports.new))) }
+    ensures later { Q.faults ports.old ≤ Q.faults ports.new }
+{
+    for peer in 0..peers.len() {
+        let listener = listen(ports, peers[peer].port)?;
         let desk = desk_beside(rt, desk)?;
         let task = Task::Port {
             peer: peer as u32,
@@ -88,13 +96,15 @@ fn add_ports<Q: Ports, F: Drop, I: Drop, O: Drop, R: Wait + Clock + Copy + Drop>
 }
 
 // A task for each worker, with a cache of its own.
-fn add_workers<K: Drop, F: Drop, I: Drop, O: Drop, R: Wait + Clock + Copy + Drop>(
+fn add_workers<K: Listener + Drop, F: Drop, I: Drop, O: Drop, R: Wait + Clock + Copy + Drop>(
     rt: R,
     alloc: Global,
     desk: &mut TurnDesk<R>,
     workers: u32,
     tasks: &mut Vec<Task<K, F, I, O, R>>,
-) -> Result<(), NoMemory> {
+) -> Result<(), NoMemory>
+    ensures ok { OnOk result (Adds K.opened_at tasks.old.items tasks.new.items (work_duties 0 workers)) }
+{
     for index in 0..workers {
         let cache = Cache::new(alloc, CACHE_CAPACITY)?;
         let bench = desk_beside(rt, desk)?;
@@ -106,13 +116,15 @@ fn add_workers<K: Drop, F: Drop, I: Drop, O: Drop, R: Wait + Clock + Copy + Drop
 }
 
 // A task for the carrier.
-fn add_carrier<K: Drop, F: Drop, I: Drop, O: Drop, R: Wait + Clock + Copy + Drop>(
+fn add_carrier<K: Listener + Drop, F: Drop, I: Drop, O: Drop, R: Wait + Clock + Copy + Drop>(
     rt: R,
     alloc: Global,
     desk: &mut TurnDesk<R>,
     parts: &NetworkParts,
     tasks: &mut Vec<Task<K, F, I, O, R>>,
-) -> Result<(), NoMemory> {
+) -> Result<(), NoMemory>
+    ensures ok { OnOk result (Adds K.opened_at tasks.old.items tasks.new.items (Carry (ways_of parts.now) ∷ [])) }
+{
     let links = ways_of(alloc, parts)?;
     let desk = desk_beside(rt, desk)?;
     match tasks.push(Task::Carry { links, desk }) {
@@ -128,7 +140,12 @@ pub(crate) fn plan_tasks<Q: Ports, F: Drop, I: Drop, O: Drop, R: Wait + Clock + 
     desk: &mut TurnDesk<R>,
     ports: &mut Q,
     network: &Network,
-) -> Result<Vec<Task<Q::Port, F, I, O, R>>, Served> {
+) -> Result<Vec<Task<Q::Port, F, I, O, R>>, Served>
+    ensures ok { IfOk result (λ tasks. (map (duty_of Q.Port.opened_at) tasks.items ≡ first_duties network.now) × All IsNew tasks.items) }
+    ensures calls { OnOk result (RoseBy (length network.now.peers) (Q.calls ports.old, Q.calls ports.new)) }
+    ensures err { IfErr result (IsPlanEnd (peer_ports network.now.peers) (called (Q.calls ports.old, Q.calls ports.new) (Q.faults ports.old, Q.faults ports.new) (Q.failed_at ports.new))) }
+    ensures later { Q.faults ports.old ≤ Q.faults ports.new }
+{
     let parts = network.parts();
     let mut tasks = Vec::new(alloc);
     add_ports(rt, desk, ports, parts.peers.as_slice(), &mut tasks)?;

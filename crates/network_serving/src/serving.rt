@@ -1,4 +1,13 @@
 //! A network is served.
+ghost use Rattle.std.specs.Prelude.{◌≡◌, ◌++◌, IfErr, OnOk, option_to_list};
+ghost use Rattle.operator_lines.specs.Operating.{AreOfElements};
+ghost use Rattle.ted_watch.specs.Watch.{published};
+ghost use Rattle.serve_tasks.specs.Spawners.{faults_of, started};
+ghost use Rattle.network_serving.specs.Duties.{duties_of, watch_duties};
+ghost use Rattle.network_serving.specs.Ends.{Ends};
+ghost use Rattle.network_serving.specs.Ports.{ports_of};
+ghost use Rattle.network_serving.specs.Starting.{IsStartEnd, called};
+
 use crate::planning::{desk_beside, listen, plan_tasks};
 use crate::preparing::{Prepared, prepare};
 use crate::served::Served;
@@ -34,6 +43,8 @@ where
     O: Sink + Send + Drop + 'static,
     R: Wait + Clock + Copy + Send + Drop + 'static,
     L: Sink,
+    ensures ok { OnOk result (started spawner.new ≡ started spawner.old ++ watch_duties watch) }
+    ensures err { IfErr result (IsStartEnd (option_to_list watch) (called (Q.calls ports.old, Q.calls ports.new) (Q.faults ports.old, Q.faults ports.new) (Q.failed_at ports.new)) (faults_of spawner.old, faults_of spawner.new)) }
 {
     let Some(port) = watch else {
         return Ok(());
@@ -69,6 +80,9 @@ where
     O: Sink + Send + Drop + 'static,
     R: Wait + Clock + Copy + Send + Drop + 'static,
     L: Sink,
+    requires elements { AreOfElements prepared.network (published prepared.publisher) }
+    ensures ok { OnOk result (started spawner.new ≡ started spawner.old ++ duties_of prepared.network) }
+    ensures err { IfErr result (IsStartEnd (ports_of prepared.network) (called (Q.calls ports.old, Q.calls ports.new) (Q.faults ports.old, Q.faults ports.new) (Q.failed_at ports.new)) (faults_of spawner.old, faults_of spawner.new)) }
 {
     let Prepared {
         network,
@@ -125,6 +139,7 @@ where
     O: Sink + Send + Drop + 'static,
     R: Wait + Clock + Copy + Send + Drop + 'static,
     L: Sink,
+    ensures ends { Ends (record { files = T.files store.old; store_faults = (T.faults store.old, T.faults store.new); failed_at = T.failed_at store.new; port_calls = (Q.calls ports.old, Q.calls ports.new); port_faults = (Q.faults ports.old, Q.faults ports.new); failed_port = Q.failed_at ports.new; started = (started spawner.old, started spawner.new); spawner_faults = (faults_of spawner.old, faults_of spawner.new); readings = (C.readings clock.old, C.readings clock.new) }) name.now turns result }
 {
     let prepared = match prepare(rt, alloc, name, store) {
         Ok(prepared) => prepared,

@@ -43,15 +43,15 @@ WorkedAsShown e s = (t : ℕ) → (e ≡ worked.Spent t) ↔ (s.spent ≡ Some t
 abbrev pub OperatedAsShown : Operated → Stand → Type 0
 OperatedAsShown e s = (t : ℕ) → (e ≡ operated.Spent t) ↔ (s.spent ≡ Some t)
 
-module _ {K F I O R : Type 0} (x : Outside K F I O) (turns : ℕ) where
-  abbrev pub waits_of : K → Waits
-  waits_of l = waits (x.accept_faults l) (x.quiets l)
+abbrev pub waits_of : {K F I O : Type 0} → Outside K F I O → K → Waits
+waits_of x l = waits (x.accept_faults l) (x.quiets l)
 
+module _ {K F I O R : Type 0} (x : Outside K F I O) (turns : ℕ) where
   -- The first of these tasks became the second, and ended so.
   abbrev pub RunsTask : TaskEnd → Task K F I O R → Task K F I O R → Type 0
   RunsTask (end.Ran e) (task.Port peer listener desk) (task.Port peer' listener' desk') =
       (peer' ≡ peer) × (x.opened_at listener' ≡ x.opened_at listener)
-      × ServesPort peer turns e (desked_of (stand_of desk)) (desked_of (stand_of desk')) (waits_of listener) (waits_of listener')
+      × ServesPort peer turns e (desked_of (stand_of desk)) (desked_of (stand_of desk')) (waits_of x listener) (waits_of x listener')
       × RanAsShown e (stand_of desk')
   RunsTask (end.Ran e) (task.Carry links desk) (task.Carry links' desk') =
       (links' ≡ links) × CarriesLinks links turns e (desked_of (stand_of desk)) (desked_of (stand_of desk')) × RanAsShown e (stand_of desk')
@@ -67,5 +67,5 @@ module _ {K F I O R : Type 0} (x : Outside K F I O) (turns : ℕ) where
           (sides (side (x.left input') (x.input_faults input')) (side (x.written out') (x.output_faults out')))
       × OperatedAsShown e (stand_of desk')
   RunsTask end.Watching (task.Watch rt watcher listener) (task.Watch rt' watcher' listener') =
-      (x.opened_at listener' ≡ x.opened_at listener) × WatchesPort turns (known watcher) (known watcher') (waits_of listener) (waits_of listener')
+      (x.opened_at listener' ≡ x.opened_at listener) × WatchesPort turns (known watcher) (known watcher') (waits_of x listener) (waits_of x listener')
   RunsTask e old new = ⊥

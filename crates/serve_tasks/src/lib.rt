@@ -6,6 +6,7 @@ mod duties;
 mod gates;
 mod memory;
 mod naming;
+mod noted;
 mod running;
 mod spawner;
 mod tasks;
