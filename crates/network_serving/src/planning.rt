@@ -35,8 +35,8 @@ pub(crate) fn ways_of(alloc: Global, parts: &NetworkParts) -> Result<List<(As, A
     ensures { IfOk result (λ ways. ways ≡ ways_of parts.now) }
 {
     let mut ways = List::new(alloc);
-    for (a, b) in parts.links.as_slice() {
-        push_both(&mut ways, *a, *b)?;
+    for link in parts.links.as_slice() {
+        push_both(&mut ways, link.0, link.1)?;
     }
     let children = children_of(alloc, parts.elements.as_slice())?;
     for child in children.as_slice() {
