@@ -46,7 +46,10 @@ pub(crate) fn ways_of(alloc: Global, parts: &NetworkParts) -> Result<List<(As, A
 }
 
 /// A further desk at the lock of a desk.
-pub(crate) fn desk_beside<R: Wait + Clock + Copy + Drop>(rt: R, desk: &mut TurnDesk<R>) -> Result<TurnDesk<R>, NoMemory> {
+pub(crate) fn desk_beside<R: Wait + Clock + Copy + Drop>(
+    rt: R,
+    desk: &mut TurnDesk<R>,
+) -> Result<TurnDesk<R>, NoMemory> {
     match desk.split(rt) {
         Ok(desk) => Ok(desk),
         Err(_) => Err(NoMemory),
@@ -108,7 +111,14 @@ fn add_workers<K: Listener + Drop, F: Drop, I: Drop, O: Drop, R: Wait + Clock + 
     for index in 0..workers {
         let cache = Cache::new(alloc, CACHE_CAPACITY)?;
         let bench = desk_beside(rt, desk)?;
-        if tasks.push(Task::Work { index, cache, bench }).is_err() {
+        if tasks
+            .push(Task::Work {
+                index,
+                cache,
+                bench,
+            })
+            .is_err()
+        {
             return Err(NoMemory);
         }
     }

@@ -6,7 +6,12 @@ use serve_tasks::Duty;
 use std::alloc::Global;
 
 // A number between two texts.
-fn write_around(front: &[u8], number: u64, back: &[u8], into: &mut Vec<u8>) -> Result<(), NoMemory> {
+fn write_around(
+    front: &[u8],
+    number: u64,
+    back: &[u8],
+    into: &mut Vec<u8>,
+) -> Result<(), NoMemory> {
     into.extend_from_slice(front)?;
     write_number(number, into)?;
     into.extend_from_slice(back)?;
@@ -30,7 +35,12 @@ fn name_of(peers: &[PeerRow], peer: u32) -> &[u8] {
 fn write_duty(peers: &[PeerRow], duty: &Duty, into: &mut Vec<u8>) -> Result<(), NoMemory> {
     match duty {
         Duty::Port(peer, port) => write_port(*port, name_of(peers, *peer), into),
-        Duty::Carry(ways) => write_around(b"pce: carries messages over ", ways.len() as u64 / 2, b" inner links", into),
+        Duty::Carry(ways) => write_around(
+            b"pce: carries messages over ",
+            ways.len() as u64 / 2,
+            b" inner links",
+            into,
+        ),
         Duty::Work(index) => write_around(b"pce: solves as worker ", u64::from(*index), b"", into),
         Duty::Operate => {
             into.extend_from_slice(b"pce: reads an operator's lines")?;

@@ -145,7 +145,8 @@ where
 
 fn main(rt: HostRuntime) -> ExitCode {
     match words_of(&rt) {
-        Ok(mut words) if matches!(words.as_slice(), [verb, _] if verb.as_str() == "serve") => end_of_server(&rt, rt, &mut words),
+        Ok(mut words) if matches!(words.as_slice(), [verb, _] if verb.as_str() == "serve") =>
+            end_of_server(&rt, rt, &mut words),
         Ok(words) => {
             let status = status_of(&rt, words);
             end(&rt, status.number(), &status)

@@ -35,7 +35,12 @@ impl Ended {
     }
 }
 
-fn fmt_bad<W: fmt::Write>(f: &mut fmt::Formatter<W>, file: &Text, line: u32, fault: &NetFault) -> fmt::Result {
+fn fmt_bad<W: fmt::Write>(
+    f: &mut fmt::Formatter<W>,
+    file: &Text,
+    line: u32,
+    fault: &NetFault,
+) -> fmt::Result {
     write!(f, "bad network {} {line} {fault}", file.as_str())
 }
 
@@ -45,7 +50,9 @@ impl fmt::Display for Ended {
             Ended::Usage => write!(f, "usage"),
             Ended::Served(Served::Turns) => write!(f, "ok"),
             Ended::Served(Served::ReadFault) => write!(f, "read fault"),
-            Ended::Served(Served::BadNetwork { file, line, fault }) => fmt_bad(f, file, *line, fault),
+            Ended::Served(Served::BadNetwork { file, line, fault }) => fmt_bad(
+                f, file, *line, fault,
+            ),
             Ended::Served(Served::NoMemory) => write!(f, "no memory"),
             Ended::Served(Served::TooLarge(name)) => write!(f, "too large {}", name.as_str()),
             Ended::Served(Served::NoThread) => write!(f, "no thread"),

@@ -1,2 +1,3 @@
 mod Walks
+pub mod Watching
 pub mod Crossing

@@ -61,10 +61,10 @@ module _ {K F I O R : Type 0} (x : Outside K F I O) (turns : ℕ) where
   RunsTask (end.Operated e) (task.Operate desk files network publisher input out) (task.Operate desk' files' network' publisher' input' out') =
       (network' ≡ network) × (x.files files' ≡ x.files files)
       × Operates (context network (x.files files)) turns e
-          (stage (charted_of (stand_of desk)) (published publisher) (x.store_faults files) (x.failed_at files))
-          (stage (charted_of (stand_of desk')) (published publisher') (x.store_faults files') (x.failed_at files'))
-          (sides (side (x.left input) (x.input_faults input)) (side (x.written out) (x.output_faults out)))
-          (sides (side (x.left input') (x.input_faults input')) (side (x.written out') (x.output_faults out')))
+      (stage (charted_of (stand_of desk)) (published publisher) (x.store_faults files) (x.failed_at files))
+      (stage (charted_of (stand_of desk')) (published publisher') (x.store_faults files') (x.failed_at files'))
+      (sides (side (x.left input) (x.input_faults input)) (side (x.written out) (x.output_faults out)))
+      (sides (side (x.left input') (x.input_faults input')) (side (x.written out') (x.output_faults out')))
       × OperatedAsShown e (stand_of desk')
   RunsTask end.Watching (task.Watch rt watcher listener) (task.Watch rt' watcher' listener') =
       (x.opened_at listener' ≡ x.opened_at listener) × WatchesPort turns (known watcher) (known watcher') (waits_of x listener) (waits_of x listener')

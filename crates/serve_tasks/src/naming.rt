@@ -16,11 +16,23 @@ impl<K: Listener, F, I, O, R: Wait + Clock + Drop> Task<K, F, I, O, R> {
         ensures { IfOk result (λ duty. duty ≡ duty_of K.opened_at self.now) }
     {
         match self {
-            Task::Port { peer, listener, desk: _ } => Ok(Duty::Port(*peer, listener.port())),
+            Task::Port {
+                peer,
+                listener,
+                desk: _,
+            } => Ok(Duty::Port(*peer, listener.port())),
             Task::Carry { links, desk: _ } => Ok(Duty::Carry(links.copy(alloc)?)),
-            Task::Work { index, cache: _, bench: _ } => Ok(Duty::Work(*index)),
+            Task::Work {
+                index,
+                cache: _,
+                bench: _,
+            } => Ok(Duty::Work(*index)),
             Task::Operate { .. } => Ok(Duty::Operate),
-            Task::Watch { rt: _, watcher: _, listener } => Ok(Duty::Watch(listener.port())),
+            Task::Watch {
+                rt: _,
+                watcher: _,
+                listener,
+            } => Ok(Duty::Watch(listener.port())),
         }
     }
 }

@@ -32,21 +32,36 @@ impl<K: Listener, F: Store, I: Source, O: Sink, R: Wait + Clock + Drop> Task<K, 
         ensures runs { RunsTask (record { opened_at = K.opened_at; accept_faults = K.faults; quiets = K.quiets; files = F.files; store_faults = F.faults; failed_at = F.failed_at; left = I.left; input_faults = I.faults; written = O.written; output_faults = O.faults }) turns result self.old self.new }
     {
         match self {
-            Task::Port { peer, listener, desk } => {
-                TaskEnd::Ran(serve_port(alloc, desk, *peer, listener, turns))
-            }
+            Task::Port {
+                peer,
+                listener,
+                desk,
+            } => { TaskEnd::Ran(serve_port(alloc, desk, *peer, listener, turns)) }
             Task::Carry { links, desk } => {
                 TaskEnd::Ran(carry_links(desk, links.as_slice(), turns))
             }
-            Task::Work { index, cache, bench } => {
-                TaskEnd::Worked(work(alloc, bench, &mut OpenGate::new(), cache, *index, turns))
-            }
-            Task::Operate { desk, files, network, publisher, input, out } => {
+            Task::Work {
+                index,
+                cache,
+                bench,
+            } => { TaskEnd::Worked(work(alloc, bench, &mut OpenGate::new(), cache, *index, turns)) }
+            Task::Operate {
+                desk,
+                files,
+                network,
+                publisher,
+                input,
+                out,
+            } => {
                 TaskEnd::Operated(operate(
                     alloc, desk, files, network, publisher, input, out, turns,
                 ))
             }
-            Task::Watch { rt, watcher, listener } => {
+            Task::Watch {
+                rt,
+                watcher,
+                listener,
+            } => {
                 watch_port(rt, alloc, watcher, listener, turns);
                 TaskEnd::Watching
             }

@@ -95,5 +95,6 @@ where
             task.run(alloc, TASK_TURNS);
             task
         },
-    ).is_ok()
+    )
+    .is_ok()
 }

@@ -14,12 +14,7 @@ use watch_lines::serve_watch;
 const WATCH_TURNS: u64 = u64::MAX;
 
 // Accepts once, and answers the lines of a connection that came.
-fn accept_once<K: Listener, R: Wait>(
-    rt: &R,
-    alloc: Global,
-    watcher: &mut Watcher,
-    listener: &mut K,
-)
+fn accept_once<K: Listener, R: Wait>(rt: &R, alloc: Global, watcher: &mut Watcher, listener: &mut K)
     ensures turn { IsWatchTurn (known watcher.old) (known watcher.new) (waits (K.faults listener.old) (K.quiets listener.old)) (waits (K.faults listener.new) (K.quiets listener.new)) }
     ensures list { list_at watcher.new ≡ list_at watcher.old }
     ensures port { K.opened_at listener.new ≡ K.opened_at listener.old }
@@ -34,6 +29,7 @@ fn accept_once<K: Listener, R: Wait>(
 }
 
 /// Accepts once in each turn, and answers the lines of each connection to its end.
+#[tactic(auto, using(crate::proofs::Watching::none_watched, crate::proofs::Watching::one_watched))]
 pub(crate) fn watch_port<K: Listener, R: Wait>(
     rt: &R,
     alloc: Global,
