@@ -1,2 +1,5 @@
 mod Planning
 mod Causes
+mod Opening
+mod Ports
+mod Starts

@@ -28,6 +28,12 @@ pub record IsUnlistened (ports : List ℕ) (x : Called) (port : ℕ) : Type 0 wh
   pub failed : Rose x.faults.0 x.faults.1
   pub at_port : x.failed_at ≡ port
 
+-- this port can't be listened at; the counts are the faults of the ports before and after
+pub record IsClosed (port : ℕ) (faults : ℕ × ℕ) (failed_at : ℕ) (s : Served) : Type 0 where
+  pub is : s ≡ served.NoPort port
+  pub failed : Rose faults.0 faults.1
+  pub at_port : failed_at ≡ port
+
 -- one of these ports can't be listened at, or memory lacks
 abbrev pub IsPlanEnd : List ℕ → Called → Served → Type 0
 IsPlanEnd ports x (served.NoPort port) = IsUnlistened ports x port

@@ -25,6 +25,7 @@ use turn_desk::TurnDesk;
 const TOPOLOGY_MAX: usize = 4_194_304;
 
 // The topology of an element, in the file of that name.
+#[tactic(auto, using(crate::proofs::Causes::bad_line, crate::proofs::Causes::not_read))]
 fn topology_in<T: Store>(
     alloc: Global,
     store: &mut T,
@@ -68,6 +69,7 @@ fn load<R: Wait + Clock + Drop>(
 }
 
 // Loads the topology that an element's row names, if it names one.
+#[tactic(auto, using(crate::proofs::Causes::named_end, crate::proofs::Causes::named_want))]
 fn load_row<T: Store, R: Wait + Clock + Drop>(
     alloc: Global,
     store: &mut T,
@@ -91,6 +93,7 @@ fn load_row<T: Store, R: Wait + Clock + Drop>(
 }
 
 /// Loads the topologies that the elements' rows name, in their order, and shows each.
+#[tactic(auto, using(crate::proofs::Causes::row_end))]
 pub(crate) fn load_all<T: Store, R: Wait + Clock + Drop>(
     alloc: Global,
     store: &mut T,

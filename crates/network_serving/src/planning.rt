@@ -5,7 +5,7 @@ ghost use Rattle.serve_tasks.specs.Tasks.{IsNew, duty_of};
 ghost use Rattle.serve_tasks.specs.declared.duties.Duty.TheVariants.{Carry};
 ghost use Rattle.network_serving.specs.Duties.{first_duties, port_duties, ways_of, work_duties};
 ghost use Rattle.network_serving.specs.Ends.{RoseBy};
-ghost use Rattle.network_serving.specs.Starting.{Adds, IsPlanEnd, called, peer_ports};
+ghost use Rattle.network_serving.specs.Starting.{Adds, IsClosed, IsPlanEnd, called, peer_ports};
 
 use crate::served::Served;
 use cost_cache::Cache;
@@ -59,7 +59,7 @@ pub(crate) fn desk_beside<R: Wait + Clock + Copy + Drop>(
 /// Listens at a port.
 pub(crate) fn listen<Q: Ports>(ports: &mut Q, port: u16) -> Result<Q::Port, Served>
     ensures ok { IfOk result (λ listener. Q.Port.opened_at listener ≡ port) }
-    ensures err { IfErr result (IsPlanEnd (port ∷ []) (called (Q.calls ports.old, Q.calls ports.new) (Q.faults ports.old, Q.faults ports.new) (Q.failed_at ports.new))) }
+    ensures err { IfErr result (IsClosed port (Q.faults ports.old, Q.faults ports.new) (Q.failed_at ports.new)) }
     ensures called { Q.calls ports.new ≡ next_count (Q.calls ports.old) }
     ensures later { Q.faults ports.old ≤ Q.faults ports.new }
 {
@@ -70,6 +70,7 @@ pub(crate) fn listen<Q: Ports>(ports: &mut Q, port: u16) -> Result<Q::Port, Serv
 }
 
 // A task for the port of each peer, in order.
+#[tactic(auto, using(crate::proofs::Starts::plan_end, crate::proofs::Starts::want_plan))]
 fn add_ports<Q: Ports, F: Drop, I: Drop, O: Drop, R: Wait + Clock + Copy + Drop>(
     rt: R,
     desk: &mut TurnDesk<R>,

@@ -13,7 +13,7 @@ use crate::settings::load_settings;
 use dom_base::NoMemory;
 use dom_edge::Store;
 use pce_plant::Plant;
-use plant_text::{Network, NetworkParts};
+use plant_text::Network;
 use std::alloc::Global;
 use std::sync::Wait;
 use std::time::Clock;
@@ -31,15 +31,17 @@ pub(crate) struct Prepared<R: Wait + Clock + Drop> {
 
 // How many desks a network has: those of the peers' ports, of the workers, of the carrier and of the operator, and that from which
 // they are split.
-fn desks_of(parts: &NetworkParts) -> u32
+fn desks_of(network: &Network) -> u32
     ensures { 1 ≤ result }
 {
+    let parts = network.parts();
     (parts.peers.len() as u32)
         .saturating_add(parts.workers)
         .saturating_add(3)
 }
 
 // A new network of these settings, under a lock with so many seats.
+#[tactic(auto, using(crate::proofs::Opening::begins))]
 fn open_network<R: Wait + Clock + Drop>(
     rt: R,
     alloc: Global,
@@ -65,6 +67,7 @@ fn open_board<R: Wait + Drop>(rt: R, alloc: Global) -> Result<(Publisher<R>, Wat
 }
 
 /// Loads the settings and the topologies that they name, and shows these. The watcher has learnt what was shown.
+#[tactic(auto, using(crate::proofs::Causes::settings_end, crate::proofs::Causes::port_end, crate::proofs::Causes::topologies_end, crate::proofs::Causes::want_end))]
 pub(crate) fn prepare<T: Store, R: Wait + Clock + Copy + Drop>(
     rt: R,
     alloc: Global,
@@ -76,7 +79,7 @@ pub(crate) fn prepare<T: Store, R: Wait + Clock + Copy + Drop>(
 {
     let (network, own) = load_settings(alloc, store, name)?;
     check_ports(alloc, name, &own)?;
-    let desks = desks_of(own.parts());
+    let desks = desks_of(&own);
     let mut desk = open_network(rt, alloc, network, desks)?;
     let (mut publisher, mut watcher) = open_board(rt, alloc)?;
     load_all(alloc, store, &mut desk, &own, &mut publisher)?;

@@ -24,6 +24,7 @@ use ted_watch::Watcher;
 use turn_desk::TurnDesk;
 
 // Listens for watchers, where the settings have a port of theirs, and starts to answer them.
+#[tactic(auto, using(crate::proofs::Starts::watch_closed, crate::proofs::Starts::unstarted_end))]
 fn start_watch<S, Q, F, I, O, R, L>(
     rt: R,
     alloc: Global,
@@ -59,6 +60,7 @@ where
 }
 
 // Listens at the ports of a network, and starts its tasks. The desk is left for what tells the time.
+#[tactic(auto, using(crate::proofs::Starts::planned_end, crate::proofs::Starts::watch_end, crate::proofs::Starts::unstarted_from, crate::proofs::Starts::unstarted_end, crate::proofs::Starts::want_start, crate::proofs::Starts::duties_on))]
 fn start_network<Q, S, F, I, O, R, L>(
     rt: R,
     alloc: Global,

@@ -66,6 +66,7 @@ fn network_in(alloc: Global, name: &str, bytes: &[u8]) -> Result<Network, Served
 }
 
 /// The settings in a file, twice: a network takes one for itself.
+#[tactic(auto, using(crate::proofs::Causes::bad_text, crate::proofs::Causes::not_read))]
 pub(crate) fn load_settings<T: Store>(
     alloc: Global,
     store: &mut T,

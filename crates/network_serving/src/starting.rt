@@ -15,6 +15,7 @@ use std::thread::Threads;
 use std::time::Clock;
 
 /// Starts a task, and says so.
+#[tactic(auto, using(crate::proofs::Starts::want_unstarted))]
 pub(crate) fn start<S, K, F, I, O, R, L>(
     alloc: Global,
     spawner: &mut Spawner<S>,
@@ -48,6 +49,7 @@ where
 }
 
 /// Starts tasks, one after the other.
+#[tactic(auto, using(crate::proofs::Starts::unstarted_from))]
 pub(crate) fn start_all<S, K, F, I, O, R, L>(
     alloc: Global,
     spawner: &mut Spawner<S>,

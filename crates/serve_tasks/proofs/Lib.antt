@@ -1,3 +1,4 @@
 mod Walks
 pub mod Watching
+pub mod CrossingParts
 pub mod Crossing
