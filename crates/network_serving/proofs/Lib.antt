@@ -1,5 +1,5 @@
-mod Planning
+mod Plans
 mod Causes
 mod Opening
-mod Ports
+mod Repeats
 mod Starts

@@ -18,7 +18,7 @@ fn has_port(peers: &[PeerRow], port: u16) -> bool
 }
 
 // The first peer whose port an earlier one has.
-#[tactic(auto, using(crate::proofs::Ports::repeat_at, crate::proofs::Ports::none_more, crate::proofs::Ports::none_at_all))]
+#[tactic(auto, using(crate::proofs::Repeats::repeat_at, crate::proofs::Repeats::none_more, crate::proofs::Repeats::none_at_all))]
 fn first_repeat(peers: &[PeerRow]) -> Option<u32>
     requires few { length peers.now < 2 ^ 32 }
     ensures repeat { IfSome result (IsFirstRepeat peers.now) }
@@ -43,7 +43,7 @@ fn repeated(alloc: Global, name: &str, table: &str, row: u32) -> Served
 }
 
 /// Refuses settings in which two peers have one port, or one has that of watchers: who comes in is known by the port alone.
-#[tactic(auto, using(crate::proofs::Ports::peer_told, crate::proofs::Ports::watch_told))]
+#[tactic(auto, using(crate::proofs::Repeats::peer_told, crate::proofs::Repeats::watch_told))]
 pub(crate) fn check_ports(alloc: Global, name: &str, network: &Network) -> Result<(), Served>
     ensures ok { OnOk result (AreApart network.now) }
     ensures err { IfErr result (IsRefusedPort name.now network.now) }

@@ -1,4 +1,4 @@
 mod Walks
-pub mod Watching
+pub mod WatchTurns
 pub mod CrossingParts
 pub mod Crossing

@@ -29,7 +29,7 @@ fn accept_once<K: Listener, R: Wait>(rt: &R, alloc: Global, watcher: &mut Watche
 }
 
 /// Accepts once in each turn, and answers the lines of each connection to its end.
-#[tactic(auto, using(crate::proofs::Watching::none_watched, crate::proofs::Watching::one_watched))]
+#[tactic(auto, using(crate::proofs::WatchTurns::none_watched, crate::proofs::WatchTurns::one_watched))]
 pub(crate) fn watch_port<K: Listener, R: Wait>(
     rt: &R,
     alloc: Global,
