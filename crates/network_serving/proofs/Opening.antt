@@ -1,10 +1,9 @@
 -- A lock is opened round a network that has just been made.
-use Rattle.std.proofs.Common.{Some}
 use Rattle.plant_text.specs.declared.settings.NetworkParts.{NetworkParts}
 use Rattle.pce_plant.specs.Held.{Held, whole}
 use Rattle.pce_plant.specs.Whole.{IsBegun}
-use Rattle.turn_desk.specs.Histories.{Begins}
-use Rattle.turn_desk.proofs.Beginning.{begun_has_none, none_begins}
+use Rattle.turn_desk.specs.Histories.{NoneIsPending}
+use Rattle.turn_desk.proofs.Beginning.{begun_has_none}
 
-pub begins : (n : NetworkParts) (h : Held) → IsBegun n (whole h) → Begins (Some h)
-begins n h is = none_begins h (begun_has_none n (whole h) is)
+pub begins : (n : NetworkParts) (h : Held) → IsBegun n (whole h) → NoneIsPending (whole h).state
+begins n h is = begun_has_none n (whole h) is

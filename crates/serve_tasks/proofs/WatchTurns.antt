@@ -6,7 +6,7 @@ use Rattle.serve_tasks.specs.Watching.{IsWatchTurn, WatchesPort}
 
 one_turn : (n : ℕ) (old mid new : List Shown) (before between after : Waits) → WatchesPort n old mid before between → IsWatchTurn mid new between after → WatchesPort (suc n) old new before after
 one_turn zero old mid new before between after none turn =
-    (new, after, subst (λ (w : Waits). IsWatchTurn old new w after) none.1 (subst (λ (k : List Shown). IsWatchTurn k new between after) none.0 turn), refl, refl)
+    (new, after, subst (λ (w : Waits). IsWatchTurn old new w after) none.1 (subst (λ (k : List Shown). IsWatchTurn k new between after) none.0 turn), (refl, refl))
 one_turn (suc n) old mid new before between after are turn = (are.0, are.1, are.2, one_turn n are.0 mid new are.1 between after are.3 turn)
 
 pub none_watched : (known : List Shown) (w : Waits) → WatchesPort 0 known known w w
