@@ -1,5 +1,5 @@
 -- What a turn of a desk means for its calls as a chart.
-use Rattle.std.proofs.Common.{◌≡◌, ◌×◌, ℕ, List, [], ◌∷◌, ◌++◌, ap, sym, refl, ◌∙◌, append-nil, Option, Some, None, Ok, Err}
+use Rattle.std.proofs.Common.{◌≡◌, ℕ, List, [], ◌∷◌, ◌++◌, ap, sym, refl, ◌∙◌, append-nil, Option, Some, None, Ok, Err}
 use Rattle.std.specs.Prelude.{Result}
 use Rattle.std.specs.Arc.{Arc, arc_value}
 use Rattle.dom_base.specs.declared.names.As.{As}
