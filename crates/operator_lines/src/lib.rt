@@ -4,12 +4,16 @@
 //! line is read. After a load that was accepted the topology is shown to watchers.
 #![tactic(auto)]
 
+mod asking;
 mod charts;
 mod lines;
 mod loading;
 mod operating;
 mod publishing;
+mod taking;
 mod texts;
 
 pub use charts::Chart;
 pub use operating::{Operated, operate};
+pub use publishing::publish;
+

@@ -1,34 +1,51 @@
-//! A line of an operator.
+//! A line of an operator, as it comes in.
+ghost use Rattle.std.specs.Prelude.{◌≡◌, ◌≢◌, ◌≤◌, ◌∷◌, ◌++◌, [], ℕ, List, None, OnOk, IfErr};
+ghost use Rattle.ted_watch.specs.Watch.{list_of, published};
+ghost use Rattle.operator_lines.specs.Operating.{AreOfElements, Does, DoesEvent, context, past, stage};
+ghost use Rattle.plant_text.specs.Lines.{line_in};
+ghost use Rattle.operator_lines.specs.Steps.{Goes, IsBegun, text_of};
+ghost use Rattle.operator_lines.specs.declared.operating.Operated.TheVariants.{NoMemory};
+
 use crate::charts::Chart;
-use crate::loading::{FileLine, do_file};
+use crate::loading::{FileLine, change_file, load_file};
 use crate::operating::Operated;
 use crate::texts::{write_bad_line, write_too_large};
-use dom_base::As;
 use dom_edge::Store;
 use plant_text::{LineError, LineEvent, Network, read_line};
 use std::alloc::Global;
 use std::sync::Wait;
 use ted_watch::Publisher;
 
-/// How many bytes a line may have, without its line end.
-pub(crate) const LINE_MAX: usize = 262_144;
+// How many bytes a line may have, without its line end.
+const LINE_MAX: usize = 262_144;
 
-/// The bytes of a line that was begun. Of one that is too long only the first bytes are kept.
+/// A line that was begun: how many lines ended before it, and its bytes. Of one that is too long only the first bytes are kept.
+#[derive(Drop)]
 pub(crate) struct Begun {
+    pub before: u32,
     pub bytes: Vec<u8>,
     pub is_long: bool,
 }
 
 impl Begun {
-    pub(crate) fn new(alloc: Global) -> Self {
+    pub(crate) fn new(alloc: Global) -> Self
+        ensures before { result.before ≡ 0 }
+        ensures begun { IsBegun result.bytes.items result.is_long [] }
+    {
         Begun {
+            before: 0,
             bytes: Vec::new(alloc),
             is_long: false,
         }
     }
 
     /// One byte more. There is room for a CR behind a line of the greatest length.
-    pub(crate) fn push(&mut self, byte: u8) -> Result<(), Operated> {
+    pub(crate) fn push(&mut self, byte: u8) -> Result<(), Operated>
+        requires inside { byte ≢ 10 }
+        ensures before { self.new.before ≡ self.old.before }
+        ensures begun { OnOk result ((line : List ℕ) → IsBegun self.old.bytes.items self.old.is_long line → IsBegun self.new.bytes.items self.new.is_long (line ++ byte ∷ [])) }
+        ensures lack { IfErr result (λ end. end ≡ NoMemory) }
+    {
         if self.bytes.len() > LINE_MAX {
             self.is_long = true;
             return Ok(());
@@ -39,59 +56,87 @@ impl Begun {
         Ok(())
     }
 
-    pub(crate) fn clear(&mut self) {
+    /// The next line begins.
+    pub(crate) fn clear(&mut self, before: u32)
+        ensures before { self.new.before ≡ before }
+        ensures begun { IsBegun self.new.bytes.items self.new.is_long [] }
+    {
+        self.before = before;
         self.bytes.clear();
         self.is_long = false;
     }
 
-    /// Whether no byte of it came yet.
-    pub(crate) fn is_empty(&self) -> bool {
-        self.bytes.is_empty()
-    }
-
-    /// The line, where it is not too long. A CR before its LF is no part of it.
-    pub(crate) fn text(&self, has_end: bool) -> Option<&[u8]> {
-        let line = match self.bytes.as_slice() {
+    // What is kept of the text of the line: a CR before its LF is no part of it.
+    fn text(&self, has_end: bool) -> &[u8]
+        ensures { result.now ≡ text_of has_end self.now.bytes.items }
+    {
+        match self.bytes.as_slice() {
             [front @ .., b'\r'] if has_end => front,
             whole => whole,
-        };
-        if self.is_long || line.len() > LINE_MAX {
-            None
-        } else {
-            Some(line)
         }
     }
 }
 
-/// Does what a line asks for, and writes what is said of it.
-pub(crate) fn do_line<T: Store, D: Chart, R: Wait + Drop>(
+// Does what the text of a line asks for, and writes what is said of it.
+fn do_text<T: Store, D: Chart, R: Wait + Drop>(
     alloc: Global,
     desk: &mut D,
     store: &mut T,
     network: &Network,
     publisher: &mut Publisher<R>,
     number: u32,
-    line: Option<&[u8]>,
+    text: &[u8],
     into: &mut Vec<u8>,
-) -> Result<(), Operated> {
-    let Some(line) = line else {
+) -> Result<(), Operated>
+    requires elements { AreOfElements network.now (published publisher.old) }
+    requires fresh { (D.charted desk.old).spent ≡ None }
+    ensures goes { Goes (DoesEvent (context network.now (T.files store.old)) number (line_in network.now text.now) (stage (D.charted desk.old) (published publisher.old) (T.faults store.old) (T.failed_at store.old)) (stage (D.charted desk.new) (published publisher.new) (T.faults store.new) (T.failed_at store.new))) result (past (D.charted desk.old) (published publisher.old)) (past (D.charted desk.new) (published publisher.new)) (D.charted desk.new).spent into.old.items into.new.items }
+    ensures elements { AreOfElements network.now (published publisher.new) }
+    ensures list { list_of publisher.new ≡ list_of publisher.old }
+    ensures later { T.faults store.old ≤ T.faults store.new }
+    ensures files { T.files store.new ≡ T.files store.old }
+{
+    match read_line(alloc, text, network) {
+        Ok(Some(LineEvent::Load(at, name))) => {
+            let name = name.as_str();
+            let line = FileLine { number, at, name };
+            load_file(alloc, desk, store, network, publisher, line, into)
+        }
+        Ok(Some(LineEvent::Change(at, name))) => {
+            let name = name.as_str();
+            let line = FileLine { number, at, name };
+            change_file(alloc, desk, store, network, publisher, line, into)
+        }
+        Ok(None) => Ok(()),
+        Ok(Some(_)) | Err(LineError::Outside) => Ok(write_bad_line(number, into)?),
+        Err(LineError::NoMemory) => Err(Operated::NoMemory),
+    }
+}
+
+/// Does what the line that was begun asks for, which ends now, and writes what is said of it.
+pub(crate) fn do_line<T: Store, D: Chart, R: Wait + Drop>(
+    alloc: Global,
+    desk: &mut D,
+    store: &mut T,
+    network: &Network,
+    publisher: &mut Publisher<R>,
+    begun: &Begun,
+    number: u32,
+    has_end: bool,
+    into: &mut Vec<u8>,
+) -> Result<(), Operated>
+    requires elements { AreOfElements network.now (published publisher.old) }
+    requires fresh { (D.charted desk.old).spent ≡ None }
+    ensures goes { (line : List ℕ) → IsBegun begun.now.bytes.items begun.now.is_long line → Goes (Does (context network.now (T.files store.old)) number (text_of has_end line) (stage (D.charted desk.old) (published publisher.old) (T.faults store.old) (T.failed_at store.old)) (stage (D.charted desk.new) (published publisher.new) (T.faults store.new) (T.failed_at store.new))) result (past (D.charted desk.old) (published publisher.old)) (past (D.charted desk.new) (published publisher.new)) (D.charted desk.new).spent into.old.items into.new.items }
+    ensures elements { AreOfElements network.now (published publisher.new) }
+    ensures list { list_of publisher.new ≡ list_of publisher.old }
+    ensures later { T.faults store.old ≤ T.faults store.new }
+    ensures files { T.files store.new ≡ T.files store.old }
+{
+    let text = begun.text(has_end);
+    if begun.is_long || text.len() > LINE_MAX {
         write_too_large(number, b"input", into)?;
         return Ok(());
-    };
-    let (at, name, is_change) = match read_line(alloc, line, network) {
-        Ok(None) => return Ok(()),
-        Ok(Some(LineEvent::Load(at, name))) => (at, name, false),
-        Ok(Some(LineEvent::Change(at, name))) => (at, name, true),
-        Ok(Some(_other)) | Err(LineError::Outside) => {
-            write_bad_line(number, into)?;
-            return Ok(());
-        }
-        Err(LineError::NoMemory) => return Err(Operated::NoMemory),
-    };
-    let line = FileLine {
-        number,
-        at,
-        name: name.as_str(),
-    };
-    do_file(alloc, desk, store, network, publisher, line, is_change, into)
+    }
+    do_text(alloc, desk, store, network, publisher, number, text, into)
 }
