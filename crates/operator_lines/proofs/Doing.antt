@@ -1,5 +1,5 @@
 -- What a line does, part by part.
-use Rattle.std.proofs.Common.{◌≡◌, ◌≢◌, ◌⊎◌, inl, inr, ⊎_elim, ◌≤◌, ◌<◌, ◌+◌, ◌&&◌, ◌||◌, ℕ, Bool, true, false, nat_lt, List, [], ◌∷◌, ◌++◌, length, take, Option, Some, None, Result, Ok, Err, append_assoc, append-nil, length-append, length-take, refl, sym, ap, subst, ◌∙◌, arith, MatchBool}
+use Rattle.std.proofs.Common.{◌≡◌, ◌≢◌, ◌⊎◌, inl, inr, ⊎_elim, ◌≤◌, ◌<◌, ◌+◌, ◌&&◌, ◌||◌, ℕ, Bool, true, false, nat_lt, List, [], ◌∷◌, ◌++◌, length, take, Option, Some, None, Result, Ok, Err, append_assoc, append-nil, length-append, length-take, refl, sym, ap, subst, ◌∙◌, arith, MatchBool, codes}
 use Rattle.std.specs.Str.Lines.{strip_carriage_return}
 use Rattle.std.proofs.lemmas.List.{take_all, take-append-le}
 use Rattle.std.proofs.lemmas.List.Elements.{All-push}
@@ -11,7 +11,9 @@ use Rattle.te_deltas.specs.ChangeText.{change_file_most}
 use Rattle.line_files.specs.declared.error.FileError.{FileError}
 use Rattle.line_files.specs.declared.error.FileError.TheVariants.{BadFile, NoMemory as LacksFile}
 use Rattle.plant_text.specs.declared.fault.NetFault.{NetFault}
+use Rattle.plant_text.specs.declared.line.LineEvent.{LineEvent}
 use Rattle.plant_text.specs.declared.settings.NetworkParts.{NetworkParts}
+use Rattle.plant_text.specs.Lines.{line_in}
 use Rattle.plant_text.specs.Settings.{is_element}
 use Rattle.plant_model.specs.declared.event.Event.TheVariants as event
 use Rattle.plant_model.specs.declared.outcome.Outcome.{Outcome}
@@ -117,11 +119,11 @@ module _ (n : NetworkParts) (number : ℕ) (at : As) (g : Rows) (answer : Result
 
 -- ---- loads behind a question
 
-module _ (n : NetworkParts) (number : ℕ) (at : As) (g : Rows) (earlier : List Call) (o a b : Past) (calls : a.calls ≡ o.calls ++ earlier) (shown : a.shown ≡ o.shown) where
+module _ (n : NetworkParts) (number : ℕ) (at : As) (g : Rows) (list : List Shown) (earlier : List Call) (o a b : Past) (calls : a.calls ≡ o.calls ++ earlier) (shown : a.shown ≡ o.shown) where
   with_earlier : Work → Work
   with_earlier w = record { calls = earlier ++ w.calls; shown = w.shown; text = w.text }
 
-  loads_later : (w : Work) → Loads n number at g o.shown [] w → Loads n number at g o.shown earlier (with_earlier w)
+  loads_later : (w : Work) → Loads n number at g list [] w → Loads n number at g list earlier (with_earlier w)
   loads_later w l = record { answer = l.answer; asked = l.asked; calls = ap (λ (c : List Call). earlier ++ c) l.calls; shows = l.shows; text = l.text }
 
   joined : (c : List Call) → b.calls ≡ a.calls ++ c → b.calls ≡ o.calls ++ (earlier ++ c)
@@ -134,8 +136,9 @@ module _ (n : NetworkParts) (number : ℕ) (at : As) (g : Rows) (earlier : List 
     p.1,
     p.2,
     p.3,
-    ap (λ (l : List Call). earlier ++ l) p.4 ∙ sym (append_assoc earlier p.0 (Mapped p.1 (Err (record {})) ∷ [])),
-    ap (λ (l : List Call). earlier ++ l) p.5 ∙ sym (append_assoc earlier p.0 (Mapped p.1 p.2 ∷ p.3)),
+    p.4,
+    ap (λ (l : List Call). earlier ++ l) p.5 ∙ sym (append_assoc earlier p.0 (Mapped p.1 p.2 ∷ [])),
+    ap (λ (l : List Call). earlier ++ l) p.6 ∙ sym (append_assoc earlier p.0 (Mapped p.1 p.3 ∷ p.4)),
   )
 
   shown_part : (s : List Shown) → (b.shown ≡ a.shown) ⊎ (b.shown ≡ a.shown ++ s) → (b.shown ≡ o.shown) ⊎ (b.shown ≡ o.shown ++ s)
@@ -143,10 +146,10 @@ module _ (n : NetworkParts) (number : ℕ) (at : As) (g : Rows) (earlier : List 
   shown_part s (inr e) = inr (e ∙ ap (λ (l : List Shown). l ++ s) shown)
 
   -- a load that nothing is known of
-  some_load : Loads n number at g o.shown earlier (with_earlier (work_of n number at g (Err NoSuchPeer) [] []))
-  some_load = loads_later (work_of n number at g (Err NoSuchPeer) [] []) (loads_of n number at g (Err NoSuchPeer) o.shown [] [] (refl, refl))
+  some_load : Loads n number at g list earlier (with_earlier (work_of n number at g (Err NoSuchPeer) [] []))
+  some_load = loads_later (work_of n number at g (Err NoSuchPeer) [] []) (loads_of n number at g (Err NoSuchPeer) list [] [] (refl, refl))
 
-  pub goes_later : (r : Result (Unit {0}) Operated) (spent : Option ℕ) (before after : List ℕ) → Goes (Loads n number at g o.shown []) r a b spent before after → Goes (Loads n number at g o.shown earlier) r o b spent before after
+  pub goes_later : (r : Result (Unit {0}) Operated) (spent : Option ℕ) (before after : List ℕ) → Goes (Loads n number at g list []) r a b spent before after → Goes (Loads n number at g list earlier) r o b spent before after
   goes_later (Ok u) spent before after goes = (
     record {
       work = with_earlier goes.0.work;
@@ -168,7 +171,7 @@ module _ (n : NetworkParts) (number : ℕ) (at : As) (g : Rows) (earlier : List 
           shown = inl (ap (λ (p : Past). p.shown) e ∙ shown);
         };
       })
-      (λ (p : IsPartDone (Loads n number at g o.shown []) a b). record {
+      (λ (p : IsPartDone (Loads n number at g list []) a b). record {
         work = with_earlier p.work;
         does = loads_later p.work p.does;
         part = record {
@@ -189,16 +192,25 @@ refused_goes P number name why (Err end) a spent before after f fresh refuses = 
 refused_goes P number name (BadFile place fault) (Ok u) a spent before after f fresh refuses = goes_said P (bad_network_text number name place fault) a spent before after (f place fault refl) fresh refuses
 refused_goes P number name LacksFile (Ok u) a spent before after f fresh refuses = absurd refuses
 
+-- one question is made, and this is said
+pub one_done : (P : Work → Type 0) (call : Call) (text : List ℕ) (o a : Past) (spent : Option ℕ) (before after : List ℕ) → P (record { calls = call ∷ []; shown = []; text = text }) → spent ≡ None → a.calls ≡ o.calls ++ call ∷ [] → a.shown ≡ o.shown → after ≡ before ++ text → Goes P (Ok tt) o a spent before after
+one_done P call text o a spent before after does fresh calls shown told =
+    (record { work = record { calls = call ∷ []; shown = []; text = text }; does = does; calls = calls; shown = shown ∙ sym (append-nil o.shown); told = told }, fresh)
+
+-- memory lacks after one question, whatever it was answered
+pub one_untold : (P : Work → Type 0) (end : Operated) (at : As) (m other : Current) (some : Work) (rest : List Call) (o a : Past) (spent : Option ℕ) (before after : List ℕ) → P some → some.calls ≡ Mapped at other ∷ rest → end ≡ NoMemory → spent ≡ None → a.calls ≡ o.calls ++ Mapped at m ∷ [] → a.shown ≡ o.shown → Goes P (Err end) o a spent before after
+one_untold P end at m other some rest o a spent before after does is lack fresh calls shown =
+    subst (λ (e : Operated). Goes P (Err e) o a spent before after) (sym lack)
+    (fresh, inr (record { work = some; does = does; part = record { made = Mapped at m ∷ []; part = inr ([], at, m, other, rest, refl, is); calls = calls; shown = inl shown } }))
+
 -- a file is refused after a question
-pub refused_later : (P : Work → Type 0) (number : ℕ) (name : List ℕ) (why : FileError) (r : Result (Unit {0}) Operated) (call : Call) (some : Work) (o a : Past) (spent : Option ℕ) (before after : List ℕ)
-    → ((place : ℕ) (fault : NetFault) → why ≡ BadFile place fault → P (record { calls = call ∷ []; shown = []; text = bad_network_text number name place fault }))
-    → P some → (rest : List Call) → some.calls ≡ call ∷ rest → spent ≡ None → a.calls ≡ o.calls ++ call ∷ [] → a.shown ≡ o.shown → Refuses number name why r before after → Goes P r o a spent before after
-refused_later P number name why (Err end) call some o a spent before after f does rest is fresh calls shown refuses =
-    subst (λ (e : Operated). Goes P (Err e) o a spent before after) (sym refuses)
-    (fresh, inr (record { work = some; does = does; part = record { made = call ∷ []; part = inl (rest, is); calls = calls; shown = inl shown } }))
-refused_later P number name (BadFile place fault) (Ok u) call some o a spent before after f does rest is fresh calls shown refuses =
-    (record { work = record { calls = call ∷ []; shown = []; text = bad_network_text number name place fault }; does = f place fault refl; calls = calls; shown = shown ∙ sym (append-nil o.shown); told = refuses }, fresh)
-refused_later P number name LacksFile (Ok u) call some o a spent before after f does rest is fresh calls shown refuses = absurd refuses
+pub refused_later : (P : Work → Type 0) (number : ℕ) (name : List ℕ) (why : FileError) (r : Result (Unit {0}) Operated) (at : As) (m other : Current) (some : Work) (rest : List Call) (o a : Past) (spent : Option ℕ) (before after : List ℕ)
+    → ((place : ℕ) (fault : NetFault) → why ≡ BadFile place fault → P (record { calls = Mapped at m ∷ []; shown = []; text = bad_network_text number name place fault }))
+    → P some → some.calls ≡ Mapped at other ∷ rest → spent ≡ None → a.calls ≡ o.calls ++ Mapped at m ∷ [] → a.shown ≡ o.shown → Refuses number name why r before after → Goes P r o a spent before after
+refused_later P number name why (Err end) at m other some rest o a spent before after f does is fresh calls shown refuses = one_untold P end at m other some rest o a spent before after does is refuses fresh calls shown
+refused_later P number name (BadFile place fault) (Ok u) at m other some rest o a spent before after f does is fresh calls shown refuses =
+    one_done P (Mapped at m) (bad_network_text number name place fault) o a spent before after (f place fault refl) fresh calls shown refuses
+refused_later P number name LacksFile (Ok u) at m other some rest o a spent before after f does is fresh calls shown refuses = absurd refuses
 
 module _ (x : Context) (number : ℕ) (name : List ℕ) (a b : Stage) (Then : List ℕ → Work → Type 0) where
   -- it is told why the file was not read
@@ -250,6 +262,39 @@ shown_some at found old new list more asked is = (Mapped at (Ok (Some found)) �
 pub shown_lack : (at : As) (found : ℕ × Rows) (end : Operated) (old new : Charted) (list more : List Shown) → Asked at (Ok (Some found)) old new → end ≡ NoMemory → more ≡ list → Publishes (Err end) at true (past old list) (past new more) new.spent
 shown_lack at found end old new list more asked is same =
     subst (λ (e : Operated). Publishes (Err e) at true (past old list) (past new more) new.spent) (sym is) (refl, asked.1, inr (Ok (Some found), asked.0, same))
+
+-- a load that is not made, since the chart is spent
+pub acted_out : (P : Work → Type 0) (at : As) (g : Rows) (end : Operated) (old new : Charted) (list : List Shown) (before after : List ℕ) → Acted at g (Err end) old new → Goes P (Err end) (past old list) (past new list) new.spent before after
+acted_out P at g (Spent t) old new list before after acted = (acted.1, inl (same_past old new list acted.0))
+acted_out P at g End old new list before after acted = absurd acted
+acted_out P at g ReadFault old new list before after acted = absurd acted
+acted_out P at g WriteFault old new list before after acted = absurd acted
+acted_out P at g Turns old new list before after acted = absurd acted
+acted_out P at g NoMemory old new list before after acted = absurd acted
+
+-- a question that ends a line
+pub asked_goes_out : (P : Work → Type 0) (at : As) (end : Operated) (old new : Charted) (list : List Shown) (other : Current) (some : Work) (rest : List Call) (before after : List ℕ) → P some → some.calls ≡ Mapped at other ∷ rest → Asked at (Err end) old new → Goes P (Err end) (past old list) (past new list) new.spent before after
+asked_goes_out P at (Spent t) old new list other some rest before after does is asked = (asked.1, inl (same_past old new list asked.0))
+asked_goes_out P at NoMemory old new list other some rest before after does is asked =
+    one_untold P NoMemory at (Err (record {})) other some rest (past old list) (past new list) new.spent before after does is refl asked.1 asked.0 refl
+asked_goes_out P at End old new list other some rest before after does is asked = absurd asked
+asked_goes_out P at ReadFault old new list other some rest before after does is asked = absurd asked
+asked_goes_out P at WriteFault old new list other some rest before after does is asked = absurd asked
+asked_goes_out P at Turns old new list other some rest before after does is asked = absurd asked
+
+-- ---- lines
+
+module _ (x : Context) (number : ℕ) (a b : Stage) (r : Result (Unit {0}) Operated) (p q : Past) (spent : Option ℕ) (before after : List ℕ) where
+  -- what a line says
+  pub event_goes : (said known : Option (Option LineEvent)) → said ≡ known → Goes (DoesEvent x number known a b) r p q spent before after → Goes (DoesEvent x number said a b) r p q spent before after
+  event_goes said known e goes = subst (λ (s : Option (Option LineEvent)). Goes (DoesEvent x number s a b) r p q spent before after) (sym e) goes
+
+  pub short_goes : (text : List ℕ) → nat_lt line_most (length text) ≡ false → Goes (DoesEvent x number (line_in x.network text) a b) r p q spent before after → Goes (Does x number text a b) r p q spent before after
+  short_goes text short goes = goes_as (DoesEvent x number (line_in x.network text) a b) (Does x number text a b) (λ w d. rw short d) r p q spent before after goes
+
+-- a line that is too long
+pub long_said : (x : Context) (number : ℕ) (a b : Stage) (text : List ℕ) → nat_lt line_most (length text) ≡ true → Does x number text a b (record { calls = []; shown = []; text = too_large_text number (codes "input") })
+long_said x number a b text long = rw long refl
 
 -- ---- bytes of a line that was begun
 

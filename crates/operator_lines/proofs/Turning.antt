@@ -11,7 +11,7 @@ use Rattle.operator_lines.specs.Operating.{AreTaken, Context, HasCause, HasNoEnd
 use Rattle.operator_lines.specs.Steps.{Begun, Cuts, CutsOff, Feeds, Finishes, IsBegun, IsLastTurn, IsTurn, IsTurned, Lasts, TakesOn, begun}
 use Rattle.operator_lines.specs.declared.operating.Operated.{Operated}
 use Rattle.operator_lines.specs.declared.operating.Operated.TheVariants.{End, ReadFault, WriteFault, Turns, Spent, NoMemory}
-use Rattle.operator_lines.proofs.Taking.{cut_on, fed_on, stops_as, stops_on, taken_none, taken_on}
+use Rattle.operator_lines.proofs.Pieces.{cut_on, fed_on, stops_as, stops_on, taken_none, taken_on}
 
 -- so many turns were made, and the input goes on
 pub record IsRunning (x : Context) (turns : ℕ) (q : Begun) (a b : Stage) (before after : Sides) : Type 0 where

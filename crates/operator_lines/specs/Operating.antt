@@ -171,13 +171,13 @@ pub record IsDone (x : Context) (number : ℕ) (text : List ℕ) (a b : Stage) (
   pub calls : b.past.calls ≡ a.past.calls ++ work.calls
   pub shown : b.past.shown ≡ a.past.shown ++ work.shown
   pub later : a.faults ≤ b.faults
-  pub told : told ≡ work.text
+  pub said : told ≡ work.text
 
--- calls are a first part of others; the last of them may have lacked memory
+-- calls are a first part of others, but for what a question at their end was answered
 abbrev pub IsFirstPart : List Call → List Call → Type 0
 IsFirstPart made whole =
     ((rest : List Call) × (whole ≡ made ++ rest))
-    ⊎ ((front : List Call) × (at : As) × (m : Current) × (rest : List Call) × (made ≡ front ++ Mapped at (Err (record {})) ∷ []) × (whole ≡ front ++ Mapped at m ∷ rest))
+    ⊎ ((front : List Call) × (at : As) × (m : Current) × (other : Current) × (rest : List Call) × (made ≡ front ++ Mapped at m ∷ []) × (whole ≡ front ++ Mapped at other ∷ rest))
 
 -- of a work a first part of the calls was made, and nothing of it shown yet, or all
 pub record IsPartOf (w : Work) (a b : Past) : Type 0 where

@@ -46,7 +46,7 @@ fn load<D: Chart, R: Wait + Drop>(
 ) -> Result<(), Operated>
     requires elements { AreOfElements network.now (published publisher.old) }
     requires own { topology.own ≡ line.at }
-    ensures goes { Goes (Loads network.now line.number line.at topology (published publisher.old) []) result (past (D.charted desk.old) (published publisher.old)) (past (D.charted desk.new) (published publisher.new)) (D.charted desk.new).spent into.old.items into.new.items }
+    ensures goes { Goes (Loads network.now line.entry.number line.entry.at topology (published publisher.old) []) result (past (D.charted desk.old) (published publisher.old)) (past (D.charted desk.new) (published publisher.new)) (D.charted desk.new).spent into.old.items into.new.items }
     ensures elements { AreOfElements network.now (published publisher.new) }
     ensures list { list_of publisher.new ≡ list_of publisher.old }
 {
@@ -58,7 +58,7 @@ fn load<D: Chart, R: Wait + Drop>(
 
 // What is said of a file that gives no topology.
 fn tell_refused(line: FileLine<'_>, why: FileError, into: &mut Vec<u8>) -> Result<(), Operated>
-    ensures { Refuses line.number line.name.now why result into.old.items into.new.items }
+    ensures { Refuses line.entry.number line.entry.name.now why result into.old.items into.new.items }
 {
     match why {
         FileError::BadFile(place, fault) => {
@@ -76,7 +76,7 @@ fn read_file<T: Store>(
     line: FileLine<'_>,
     into: &mut Vec<u8>,
 ) -> Result<Option<Bytes>, Operated>
-    ensures read { IsFile (T.files store.old) line.number line.name.now result (T.faults store.old) (T.faults store.new) (T.failed_at store.new) into.old.items into.new.items }
+    ensures read { IsFile (T.files store.old) line.entry.number line.entry.name.now result (T.faults store.old) (T.faults store.new) (T.failed_at store.new) into.old.items into.new.items }
     ensures later { T.faults store.old ≤ T.faults store.new }
     ensures files { T.files store.new ≡ T.files store.old }
 {
@@ -104,7 +104,7 @@ fn load_text<D: Chart, R: Wait + Drop>(
     requires elements { AreOfElements network.now (published publisher.old) }
     requires fresh { (D.charted desk.old).spent ≡ None }
     requires short { length file.now ≤ change_file_most }
-    ensures goes { Goes (LoadsFile network.now line.number line.at line.name.now file.now (published publisher.old)) result (past (D.charted desk.old) (published publisher.old)) (past (D.charted desk.new) (published publisher.new)) (D.charted desk.new).spent into.old.items into.new.items }
+    ensures goes { Goes (LoadsFile network.now line.entry.number line.entry.at line.entry.name.now file.now (published publisher.old)) result (past (D.charted desk.old) (published publisher.old)) (past (D.charted desk.new) (published publisher.new)) (D.charted desk.new).spent into.old.items into.new.items }
     ensures elements { AreOfElements network.now (published publisher.new) }
     ensures list { list_of publisher.new ≡ list_of publisher.old }
 {
@@ -126,7 +126,7 @@ pub(crate) fn load_file<T: Store, D: Chart, R: Wait + Drop>(
 ) -> Result<(), Operated>
     requires elements { AreOfElements network.now (published publisher.old) }
     requires fresh { (D.charted desk.old).spent ≡ None }
-    ensures goes { Goes (WithFile (context network.now (T.files store.old)) line.number line.name.now (stage (D.charted desk.old) (published publisher.old) (T.faults store.old) (T.failed_at store.old)) (stage (D.charted desk.new) (published publisher.new) (T.faults store.new) (T.failed_at store.new)) (λ file. LoadsFile network.now line.number line.at line.name.now file (published publisher.old))) result (past (D.charted desk.old) (published publisher.old)) (past (D.charted desk.new) (published publisher.new)) (D.charted desk.new).spent into.old.items into.new.items }
+    ensures goes { Goes (WithFile (context network.now (T.files store.old)) line.entry.number line.entry.name.now (stage (D.charted desk.old) (published publisher.old) (T.faults store.old) (T.failed_at store.old)) (stage (D.charted desk.new) (published publisher.new) (T.faults store.new) (T.failed_at store.new)) (λ file. LoadsFile network.now line.entry.number line.entry.at line.entry.name.now file (published publisher.old))) result (past (D.charted desk.old) (published publisher.old)) (past (D.charted desk.new) (published publisher.new)) (D.charted desk.new).spent into.old.items into.new.items }
     ensures elements { AreOfElements network.now (published publisher.new) }
     ensures list { list_of publisher.new ≡ list_of publisher.old }
     ensures later { T.faults store.old ≤ T.faults store.new }
@@ -154,7 +154,7 @@ fn load_changed<D: Chart, R: Wait + Drop>(
     requires fresh { (D.charted desk.old).spent ≡ None }
     requires short { length file.now ≤ change_file_most }
     requires says { text_in file.now ≡ Ok changes.now }
-    ensures goes { (k : ℕ) → GoesFrom (Mapped line.at (Ok (Some (k, topology.now))) ∷ []) (ChangesTo network.now line.number line.at line.name.now file.now changes.now (published publisher.old) (Ok (Some (k, topology.now)))) result (past (D.charted desk.old) (published publisher.old)) (past (D.charted desk.new) (published publisher.new)) (D.charted desk.new).spent into.old.items into.new.items }
+    ensures goes { (k : ℕ) → GoesFrom (Mapped line.entry.at (Ok (Some (k, topology.now))) ∷ []) (ChangesTo network.now line.entry.number line.entry.at line.entry.name.now file.now changes.now (published publisher.old) (Ok (Some (k, topology.now)))) result (past (D.charted desk.old) (published publisher.old)) (past (D.charted desk.new) (published publisher.new)) (D.charted desk.new).spent into.old.items into.new.items }
     ensures elements { AreOfElements network.now (published publisher.new) }
     ensures list { list_of publisher.new ≡ list_of publisher.old }
 {
@@ -178,7 +178,7 @@ fn change_current<D: Chart, R: Wait + Drop>(
     requires elements { AreOfElements network.now (published publisher.old) }
     requires short { length file.now ≤ change_file_most }
     requires says { text_in file.now ≡ Ok changes.now }
-    ensures goes { Goes (ChangesFile network.now line.number line.at line.name.now file.now (published publisher.old)) result (past (D.charted desk.old) (published publisher.old)) (past (D.charted desk.new) (published publisher.new)) (D.charted desk.new).spent into.old.items into.new.items }
+    ensures goes { Goes (ChangesFile network.now line.entry.number line.entry.at line.entry.name.now file.now (published publisher.old)) result (past (D.charted desk.old) (published publisher.old)) (past (D.charted desk.new) (published publisher.new)) (D.charted desk.new).spent into.old.items into.new.items }
     ensures elements { AreOfElements network.now (published publisher.new) }
     ensures list { list_of publisher.new ≡ list_of publisher.old }
 {
@@ -202,7 +202,7 @@ fn change_text<D: Chart, R: Wait + Drop>(
     requires elements { AreOfElements network.now (published publisher.old) }
     requires fresh { (D.charted desk.old).spent ≡ None }
     requires short { length file.now ≤ change_file_most }
-    ensures goes { Goes (ChangesFile network.now line.number line.at line.name.now file.now (published publisher.old)) result (past (D.charted desk.old) (published publisher.old)) (past (D.charted desk.new) (published publisher.new)) (D.charted desk.new).spent into.old.items into.new.items }
+    ensures goes { Goes (ChangesFile network.now line.entry.number line.entry.at line.entry.name.now file.now (published publisher.old)) result (past (D.charted desk.old) (published publisher.old)) (past (D.charted desk.new) (published publisher.new)) (D.charted desk.new).spent into.old.items into.new.items }
     ensures elements { AreOfElements network.now (published publisher.new) }
     ensures list { list_of publisher.new ≡ list_of publisher.old }
 {
@@ -233,7 +233,7 @@ pub(crate) fn change_file<T: Store, D: Chart, R: Wait + Drop>(
 ) -> Result<(), Operated>
     requires elements { AreOfElements network.now (published publisher.old) }
     requires fresh { (D.charted desk.old).spent ≡ None }
-    ensures goes { Goes (WithFile (context network.now (T.files store.old)) line.number line.name.now (stage (D.charted desk.old) (published publisher.old) (T.faults store.old) (T.failed_at store.old)) (stage (D.charted desk.new) (published publisher.new) (T.faults store.new) (T.failed_at store.new)) (λ file. ChangesFile network.now line.number line.at line.name.now file (published publisher.old))) result (past (D.charted desk.old) (published publisher.old)) (past (D.charted desk.new) (published publisher.new)) (D.charted desk.new).spent into.old.items into.new.items }
+    ensures goes { Goes (WithFile (context network.now (T.files store.old)) line.entry.number line.entry.name.now (stage (D.charted desk.old) (published publisher.old) (T.faults store.old) (T.failed_at store.old)) (stage (D.charted desk.new) (published publisher.new) (T.faults store.new) (T.failed_at store.new)) (λ file. ChangesFile network.now line.entry.number line.entry.at line.entry.name.now file (published publisher.old))) result (past (D.charted desk.old) (published publisher.old)) (past (D.charted desk.new) (published publisher.new)) (D.charted desk.new).spent into.old.items into.new.items }
     ensures elements { AreOfElements network.now (published publisher.new) }
     ensures list { list_of publisher.new ≡ list_of publisher.old }
     ensures later { T.faults store.old ≤ T.faults store.new }

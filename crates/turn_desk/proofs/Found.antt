@@ -27,13 +27,18 @@ module _ {E : Type 0} where
   ]
 
 -- what a function gives of the items of a list
-pub picked_from : {X Y : Type 0} (f : X → Option Y) (xs : List X) (y : Y) → Contains (filter_map f xs) y → (x : X) × Contains xs x × (f x ≡ Some y)
-picked_from {X} {Y} f [] y is = absurd (contains_none y is)
-picked_from {X} {Y} f (x ∷ xs) y is = go (f x) refl is
-  where
-    later : Contains (filter_map f xs) y → (z : X) × Contains (x ∷ xs) z × (f z ≡ Some y)
-    later rest = let found = picked_from f xs y rest in (found.0, contains_tail x xs found.0 found.1, found.2)
+module _ {X Y : Type 0} (f : X → Option Y) where
+  abbrev Source : List X → Y → Type 0
+  Source xs y = (x : X) × Contains xs x × (f x ≡ Some y)
 
-    go : (o : Option Y) → f x ≡ o → Contains (cons_option o (filter_map f xs)) y → (z : X) × Contains (x ∷ xs) z × (f z ≡ Some y)
-    go None at here = later here
-    go (Some z) at here = elim (contains_cases z (filter_map f xs) y here) [ inl same ↦ (x, contains_head x xs, subst (λ (v : Y). f x ≡ Some v) same at) | inr rest ↦ later rest ]
+  later : (x : X) (xs : List X) (y : Y) → Source xs y → Source (x ∷ xs) y
+  later x xs y found = (found.0, contains_tail x xs found.0 found.1, found.2)
+
+  first_or : (x : X) (xs : List X) (y : Y) → (Contains (filter_map f xs) y → Source xs y) → (o : Option Y) → f x ≡ o → Contains (cons_option o (filter_map f xs)) y → Source (x ∷ xs) y
+  first_or x xs y rest None at is = later x xs y (rest is)
+  first_or x xs y rest (Some z) at is =
+      elim (contains_cases z (filter_map f xs) y is) [ inl same ↦ (x, contains_head x xs, subst (λ (v : Y). f x ≡ Some v) same at) | inr in_rest ↦ later x xs y (rest in_rest) ]
+
+  pub picked_from : (xs : List X) (y : Y) → Contains (filter_map f xs) y → Source xs y
+  picked_from [] y is = absurd (contains_none y is)
+  picked_from (x ∷ xs) y is = first_or x xs y (picked_from xs y) (f x) refl is

@@ -5,13 +5,14 @@ use Rattle.te_links.specs.Rows.{Rows}
 use Rattle.plant_text.specs.declared.settings.NetworkParts.{NetworkParts}
 use Rattle.plant_lock.specs.History.{Legal, replay}
 use Rattle.pce_plant.specs.plant_model.declared.event.Event.{Event}
-use Rattle.pce_plant.specs.plant_model.Events.{Answered}
+use Rattle.pce_plant.specs.plant_model.Events.{Answered, has_jobs}
 use Rattle.pce_plant.specs.plant_model.Plant.{Plant}
 use Rattle.pce_plant.specs.plant_model.RealWire.{wire}
 use Rattle.pce_plant.specs.plant_model.Wire.{Codec}
 use Rattle.pce_plant.specs.Held.{Held, whole}
 use Rattle.pce_plant.specs.Histories.{event_of}
-use Rattle.pce_plant.specs.Turns.{Admits, Allowed, IsAnswer, left_by}
+use Rattle.pce_plant.specs.Jobs.{answer_of, solved_at}
+use Rattle.pce_plant.specs.Turns.{Admits, Allowed, IsAnswer, left_by, solve_of}
 use Rattle.pce_plant.specs.Whole.{Stepped, Whole}
 use Rattle.pce_plant.specs.declared.acts.Act.{Act}
 use Rattle.pce_plant.specs.declared.acts.Act.TheVariants.{Do, Look, Ready, Finish, Map}
@@ -42,7 +43,7 @@ module _ (w next : Whole) where
   act_leads (Do e) (Did r) answer = event_leads e r answer.stepped
   act_leads (Look d k) (Looked r) answer = same_leads answer.0
   act_leads (Ready k) (Found r) answer = same_leads answer.0
-  act_leads (Finish x) (Committed r) answer = event_leads _ _ answer.0.stepped
+  act_leads (Finish x) (Committed r) answer = event_leads (solve_of x) (answer_of (has_jobs w.network (solved_at x)) r) answer.0.stepped
   act_leads (Map d) (Mapped r) answer = same_leads answer.0
   act_leads a r answer = absurd answer
 

@@ -1,6 +1,6 @@
 -- What a turn of a desk means for its calls.
 use Rattle.std.proofs.Common.{◌≡◌, ◌⊎◌, ◌≤◌, ◌^◌, ℕ, List, [], ◌∷◌, ◌++◌, ap, subst, sym, refl, ◌∙◌, inl, inr, append-nil, Option, Some, None, Ok, Err}
-use Rattle.std.specs.Prelude.{Contains, Result}
+use Rattle.std.specs.Prelude.{Contains, IfOk, IfSome, Result}
 use Rattle.std.specs.Arc.{arc_value}
 use Rattle.std.specs.List.{filter_map}
 use Rattle.std.proofs.lemmas.List.Elements.{filter_map-append}
@@ -29,6 +29,7 @@ use Rattle.pce_plant.specs.declared.acts.Acted.{Acted}
 use Rattle.pce_plant.specs.declared.acts.Acted.TheVariants.{Did, Looked, Found, Committed, Mapped}
 use Rattle.pce_plant.specs.declared.acts.Turn.{Turn}
 use Rattle.pce_plant.specs.declared.answering.CommitRefused.{CommitRefused}
+use Rattle.plant_pins.specs.Histories.{PinsAreNow}
 use Rattle.plant_pins.specs.Steps.{KnowsPins}
 use Rattle.plant_pins.proofs.StepLemmas.{found_pin}
 use Rattle.plant_network.specs.pce_parent.declared.work.Done.{Done}
@@ -41,6 +42,7 @@ use Rattle.session_serving.specs.declared.desks.DeskRefused.TheVariants.{Plant, 
 use Rattle.solve_workers.specs.Benches as bench
 use Rattle.turn_desk.specs.Desks.{IsDone, IsFinish, IsOneTurn, IsTurn, IsTurnBy, Makes, Rests, Stand, bench_call, benched_of, desk_call, desked_of, did_as, did_by, finished_as}
 use Rattle.turn_desk.specs.Histories.{Begins, known_by}
+use Rattle.turn_desk.proofs.Beginning.{none_is_now}
 use Rattle.turn_desk.proofs.Found.{own_is_seen, picked_from, split_at}
 use Rattle.turn_desk.proofs.Runs.{known_grows, knows_more, pins_are_known}
 
@@ -52,16 +54,16 @@ own_load e is = tt
 -- ---- a turn of the seat
 
 -- what a turn makes of what a seat knows
-pub seat_makes : (v w : View Held Act Turn) (own owned : List (Act × Turn)) (act : Act) (n : ℕ) (turn : Turn) → Adds whole Admits Allowed left_by v act n turn w → owned ≡ own ++ (act, turn) ∷ [] →
-    Makes (record { start = v.start; seen = v.seen; own = own; met = v.met; spent = None }) (record { start = w.start; seen = w.seen; own = owned; met = w.met; spent = None }) act turn
-seat_makes v w own owned act n turn adds is = record {
+pub seat_makes : (v w : View Held Act Turn) (own owned : List (Act × Turn)) (spent : Option ℕ) (act : Act) (n : ℕ) (turn : Turn) → spent ≡ None → Adds whole Admits Allowed left_by v act n turn w → owned ≡ own ++ (act, turn) ∷ [] →
+    Makes (record { start = v.start; seen = v.seen; own = own; met = v.met; spent = spent }) (record { start = w.start; seen = w.seen; own = owned; met = w.met; spent = spent }) act turn
+seat_makes v w own owned spent act n turn none adds is = record {
   before = v.seen ++ adds.between;
   begins = (adds.between, refl);
   seen = adds.grown;
   own = is;
   start = adds.same_start;
   legal = adds.legal;
-  spent = (refl, refl);
+  spent = (none, none);
 }
 
 -- the answer to the act of a turn was allowed
@@ -220,8 +222,14 @@ look_given old new d k job t begun =
     let legal : Legal Admits Allowed left_by (whole x) (m.before ++ (Look d k, t.0) ∷ []) =
     subst (λ (h : List (Act × Turn)). Legal Admits Allowed left_by (whole x) h) m.seen (subst (λ (s : Option Held). LegalFrom whole Admits Allowed left_by s new.seen) a.1 m.legal) in
     let begins : Begins (Some x) = subst Begins (sym m.start ∙ a.1) begun in
-    let knows : KnowsPins (known_by (Some x) m.before) w.state = pins_are_known x m.before begins (legal_front Admits Allowed left_by (whole x) m.before ((Look d k, t.0) ∷ []) legal) in
+    let now : PinsAreNow (whole x).state = none_is_now (whole x).state (begins x refl) in
+    let knows : KnowsPins (known_by (Some x) m.before) w.state = pins_are_known x m.before now (legal_front Admits Allowed left_by (whole x) m.before ((Look d k, t.0) ∷ []) legal) in
     shown_given new w d k job (knows_more (known_by (Some x) m.before) (known_by new.start new.seen) w.state (grown old new (Look d k) t.0 m x a.1) knows) answer.1
+
+pub looks_given : (old new : Stand) (d : As) (k : ℕ) (answer : Result (Option Work) NoMemory) → IsTurn (Look d k) (Ok (Looked answer)) old new → Begins old.start → IfOk answer (λ found. IfSome found (bench.IsGiven (benched_of new)))
+looks_given old new d k (Ok (Some job)) t begun = look_given old new d k job t begun
+looks_given old new d k (Ok None) t begun = tt
+looks_given old new d k (Err why) t begun = tt
 
 -- ---- what a finish is warranted by
 

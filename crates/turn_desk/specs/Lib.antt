@@ -1,4 +1,3 @@
 -- for readers
 pub mod Histories
 pub mod Desks
-pub mod Charts

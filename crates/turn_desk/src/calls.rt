@@ -4,17 +4,29 @@ ghost use Rattle.pce_plant.specs.declared.acts.Act.TheVariants.{Do, Look as Look
 ghost use Rattle.pce_plant.specs.declared.acts.Acted.TheVariants.{Looked, Found};
 ghost use Rattle.session_serving.specs.Desks as desk;
 ghost use Rattle.solve_workers.specs.Benches as bench;
-ghost use Rattle.turn_desk.specs.Desks.{IsDone, IsFinish, IsOneTurn, IsTurn, benched_of, desked_of, did_by, stand_of};
+ghost use Rattle.turn_desk.specs.Desks.{IsDone, IsFinish, IsOneTurn, IsTurn, benched_of, desked_of, did_by, finished_as, stand_of};
 
+use crate::answers::{committed_in, did_in, found_in, looked_in};
 use crate::desk::TurnDesk;
 use crate::naps::Asked;
 use dom_base::{As, NoMemory};
 use pce_plant::model::{Event, Outcome, Refused};
-use pce_plant::{Act, Acted, CommitRefused, Done, Work};
+use pce_plant::{Act, CommitRefused, Done, Work};
 use session_serving::{Desk, DeskRefused};
 use solve_workers::{Bench, Finished};
 use std::sync::Wait;
 use std::time::Clock;
+
+// What a worker is told of a solution.
+fn told(answer: Result<Outcome, CommitRefused>) -> Finished
+    ensures { result ≡ finished_as answer }
+{
+    match answer {
+        Ok(_outcome) => Finished::Kept,
+        Err(CommitRefused::NoSuchJob(_done)) => Finished::Stranger,
+        Err(CommitRefused::NoMemory(_done)) => Finished::NoMemory,
+    }
+}
 
 impl<R: Wait + Clock> TurnDesk<R> {
     // Counts an answer of the network.
@@ -34,14 +46,14 @@ impl<R: Wait + Clock> TurnDesk<R> {
     {
         let asked = Asked::by(&event);
         match self.turn(Act::Do(event)) {
-            Ok(Acted::Did(answer)) => {
+            Ok(acted) => {
+                let answer = did_in(acted);
                 self.hear(asked, matches!(answer, Err(Refused::NothingToCarry)));
                 match answer {
                     Ok(outcome) => Ok(outcome),
                     Err(why) => Err(DeskRefused::Plant(why)),
                 }
             }
-            Ok(_) => unreachable!(),
             Err(number) => Err(DeskRefused::Spent(number)),
         }
     }
@@ -74,14 +86,12 @@ impl<R: Wait + Clock> Bench for TurnDesk<R> {
         ensures goes { bench.Goes (benched_of (stand_of self.old)) (benched_of (stand_of self.new)) (bench.Ready k result) }
         ensures turn { IsOneTurn (AskReady k) (λ acted. acted ≡ Found result) (stand_of self.old) (stand_of self.new) }
     {
-        match self.turn(Act::Ready(k)) {
-            Ok(Acted::Found(found)) => {
-                self.hear(Some(Asked::Ready(k)), found.is_none());
-                found
-            }
-            Ok(_) => unreachable!(),
-            Err(_number) => None,
-        }
+        let found = match self.turn(Act::Ready(k)) {
+            Ok(acted) => found_in(acted),
+            Err(_number) => return None,
+        };
+        self.hear(Some(Asked::Ready(k)), found.is_none());
+        found
     }
 
     fn look(&mut self, at: As, number: u64) -> Result<Option<Work>, NoMemory>
@@ -90,8 +100,7 @@ impl<R: Wait + Clock> Bench for TurnDesk<R> {
         ensures turn { IsOneTurn (LookAt at number) (λ acted. acted ≡ Looked result) (stand_of self.old) (stand_of self.new) }
     {
         match self.turn(Act::Look(at, number)) {
-            Ok(Acted::Looked(found)) => found,
-            Ok(_) => unreachable!(),
+            Ok(acted) => looked_in(acted),
             Err(_number) => Ok(None),
         }
     }
@@ -102,10 +111,7 @@ impl<R: Wait + Clock> Bench for TurnDesk<R> {
         ensures turn { IsOneTurn (FinishOf done) (IsFinish result) (stand_of self.old) (stand_of self.new) }
     {
         match self.turn(Act::Finish(done)) {
-            Ok(Acted::Committed(Ok(_outcome))) => Finished::Kept,
-            Ok(Acted::Committed(Err(CommitRefused::NoSuchJob(_)))) => Finished::Stranger,
-            Ok(Acted::Committed(Err(CommitRefused::NoMemory(_)))) => Finished::NoMemory,
-            Ok(_) => unreachable!(),
+            Ok(acted) => told(committed_in(acted)),
             Err(_number) => Finished::Stranger,
         }
     }

@@ -4,9 +4,10 @@
 //! the turns were done.
 #![tactic(auto)]
 
+mod answers;
 mod calls;
-mod chart;
 mod desk;
 mod naps;
+mod turns;
 
 pub use desk::TurnDesk;

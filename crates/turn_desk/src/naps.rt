@@ -49,16 +49,14 @@ impl Idle {
     /// Nothing was found. Where this question was the first of those that were asked in vain, a whole round of them found
     /// nothing, and the caller naps, longer after each round.
     pub(crate) fn go_on<C: Clock>(&mut self, clock: &C, asked: Asked) {
-        match self.first {
-            None => self.first = Some(asked),
-            Some(first) if first == asked => {
-                sleep(
-                    clock,
-                    Duration::from_micros(NAPS[self.rounds.min(NAPS.len() - 1)]),
-                );
-                self.rounds = self.rounds.saturating_add(1);
-            }
-            Some(_) => {}
+        let Some(first) = self.first else {
+            self.first = Some(asked);
+            return;
+        };
+        if first == asked {
+            let micros = NAPS[self.rounds.min(NAPS.len() - 1)];
+            sleep(clock, Duration::from_micros(micros));
+            self.rounds = self.rounds.saturating_add(1);
         }
     }
 }
