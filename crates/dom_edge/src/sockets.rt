@@ -69,7 +69,7 @@ impl<S: Read + Write + OpenStream + Drop, R: Clock + Drop> SocketLink<S, R> {
         SocketLink {
             stream,
             rt,
-            wait: ReadWait::System,
+            wait: ReadWait::longest(),
             returns: false,
             faults: 0,
             quiets: 0,
