@@ -8,3 +8,7 @@ use Rattle.turn_desk.specs.contracts.desk.TurnDesk as TurnDesk
 
 pub turn_desk_send : (R : RattleType) → IsSend R → IsSend (TurnDesk.the_row R)
 turn_desk_send R r = search (turn_seat_field_send, turnstile_send, turnstile_sync, plant_send, Arc-send, crosses, sendable) depth 60 fits 30000
+
+-- the same where one is a field of another type
+pub turn_desk_field_send : (R : RattleType) → IsSend R → IsSend (TurnDesk.the_field R).row
+turn_desk_field_send R r = search (turn_seat_field_send, turnstile_send, turnstile_sync, plant_send, Arc-send, crosses, sendable) depth 60 fits 30000

@@ -2,4 +2,5 @@ pub mod Found
 pub mod Runs
 pub mod Beginning
 pub mod Turning
+pub mod Charting
 pub mod Crossing

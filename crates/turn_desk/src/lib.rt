@@ -6,6 +6,7 @@
 
 mod answers;
 mod calls;
+mod chart;
 mod desk;
 mod naps;
 mod turns;
