@@ -1,7 +1,7 @@
--- What a task holds may go to another thread, as a field of it.
+-- What a task holds beside its desk may go to another thread, as a field of it.
 use denote.RattleType.{RattleType}
 use denote.Param.Send.{IsSend, IsSync, sendable}
-use Rattle.std.proofs.Crossing.{Arc-send, crosses}
+use Rattle.std.proofs.Crossing.{crosses}
 use Rattle.std.proofs.MapsCrossing.{HashMap-send}
 use Rattle.atomic_table.proofs.shared.Seat.TheSendSync as seat
 use Rattle.atomic_table.proofs.shared.Shared.TheSendSync as shared
@@ -16,14 +16,11 @@ use Rattle.lru.proofs.entry.Deed.TheSendSync as entry
 use Rattle.cost_cache.specs.contracts.key.Key as Key
 use Rattle.cost_cache.specs.contracts.kept.Kept as Kept
 use Rattle.cost_cache.specs.contracts.cache.Cache as Cache
-use Rattle.pce_plant.proofs.Crossing.{plant_send}
-use Rattle.plant_lock.proofs.Crossing.{turn_seat_field_send, turnstile_send, turnstile_sync}
 use Rattle.plant_text.specs.contracts.network.Network as Network
 use Rattle.ted_watch.specs.contracts.board.Board as Board
 use Rattle.ted_watch.specs.contracts.board.Entry as Entry
 use Rattle.ted_watch.specs.contracts.watch.Publisher as Publisher
 use Rattle.ted_watch.specs.contracts.watch.Watcher as Watcher
-use Rattle.turn_desk.specs.contracts.desk.TurnDesk as TurnDesk
 
 key_send : IsSend Key.the_row
 key_send = search (sendable, crosses) depth 60 fits 30000
@@ -54,6 +51,3 @@ watcher_send = search (board_send, board_sync, seen.the_send, part.the_send, par
 
 pub publisher_send : (R : RattleType) → IsSend R → IsSend (Publisher.the_field R).row
 publisher_send R r = search (board_send, board_sync, entry_send, word.the_send, seen.the_send, part.the_send, part.the_sync, deed.the_send, seat.the_send, shared.the_send, shared.the_sync, lease.the_send, lease.the_sync, sendable, crosses) depth 60 fits 30000
-
-pub desk_send : (R : RattleType) → IsSend R → IsSend (TurnDesk.the_field R).row
-desk_send R r = search (turn_seat_field_send, turnstile_send, turnstile_sync, plant_send, Arc-send, crosses, sendable) depth 60 fits 30000
