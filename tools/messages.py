@@ -2,7 +2,7 @@
 
 A message is read by the rules of docs/PROFILE.md ("Objects", "How objects make messages"), and what is malformed is named as the program's own
 reading names it: by the place of the first object at fault, where the header stands at 0. The program tells only that a message is malformed,
-not where; `.ci/looks` compares the two readings over many messages. Nothing here judges whether a request is answered or refused."""
+not where; `.ci/views` compares the two readings over many messages. Nothing here judges whether a request is answered or refused."""
 import ipaddress
 import struct
 from collections import namedtuple
