@@ -1,8 +1,8 @@
 -- What an event does to a connection is what the transcript shows.
-use Rattle.std.proofs.Common.{◌≡◌, ℕ, suc, ◌+◌, ◌%◌, Bool, true, false, cond, ◌==◌, List, [], ◌∷◌, ◌++◌, map, Option, Some, None, is_some, option_map, Ok, Err, sym, ◌∙◌, ap, subst, inl, inr, refl}
+use Rattle.std.proofs.Common.{◌≡◌, ℕ, suc, ◌+◌, ◌%◌, Bool, true, false, cond, ◌==◌, List, [], ◌∷◌, ◌++◌, Option, Some, None, is_some, option_map, Ok, sym, ◌∙◌, ap, subst, inl, inr, refl}
 use Rattle.std.proofs.lemmas.Bool.{eqb-true, eq-eqb}
 use Rattle.dom_base.specs.declared.names.As.{As}
-use Rattle.dom_base.specs.declared.names.Peer.TheVariants.{Outside, Inner}
+use Rattle.dom_base.specs.declared.names.Peer.TheVariants.{Outside}
 use Rattle.disclosure.specs.Shown.{open_of}
 use Rattle.te_links.specs.Rows.{Rows}
 use Rattle.pcep_messages.specs.declared.message.Message.{Message}
@@ -10,7 +10,7 @@ use Rattle.pcep_framing.specs.Frames.{joined}
 use Rattle.pcep_session.specs.declared.session.Input.TheVariants as input
 use Rattle.pcep_session.specs.Table.{new_state}
 use Rattle.plant_text.specs.declared.settings.NetworkParts.{NetworkParts}
-use Rattle.plant_text.specs.Settings.{Line, is_element, is_linked, line, lines, peer_row}
+use Rattle.plant_text.specs.Settings.{is_element, is_linked, line, lines, peer_row}
 use Rattle.plant_text.specs.Names.{parent_as}
 use Rattle.plant_model.specs.declared.event.Event.{Event}
 use Rattle.plant_model.specs.declared.event.Event.TheVariants as event
@@ -25,7 +25,7 @@ use Rattle.plant_model.specs.Wire.{Bytes, Codec}
 use Rattle.plant_model.specs.Blind.{is_accepted}
 use Rattle.plant_model.specs.Solving.{commit}
 use Rattle.plant_model.specs.Parent as parent
-use Rattle.plant_model.specs.State.{Access, Connection, Hands, Loads, Pops, Solves, State}
+use Rattle.plant_model.specs.State.{Access, Connection, Hands, Loads, Pops, Solves}
 use Rattle.plant_model.specs.Deeds.{Going, break_line, element_of, fall, input_of, on_connection, outside_input, inner_input, our_offer, expire, tick_lines, tick_outside, with_access, with_element, with_inbox, with_parent, puts}
 use Rattle.plant_model.specs.Events as events
 use Rattle.plant_model.specs.Events.{is_down}

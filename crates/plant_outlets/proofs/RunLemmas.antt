@@ -1,21 +1,19 @@
 -- In every run the connections of outside peers are as the transcript shows them.
-use Rattle.std.proofs.Common.{◌≡◌, ℕ, Bool, true, false, List, [], ◌∷◌, Option, Some, None, sym, ◌∙◌, ap, subst, refl}
+use Rattle.std.proofs.Common.{◌≡◌, ℕ, List, [], ◌∷◌, Option, Some, None, sym, ◌∙◌, ap, subst}
 use Rattle.disclosure.specs.Shown.{open_of}
-use Rattle.pcep_framing.specs.Frames.{joined}
 use Rattle.plant_text.specs.declared.settings.NetworkParts.{NetworkParts}
 use Rattle.plant_text.specs.Settings.{Line, lines}
 use Rattle.plant_model.specs.declared.event.Event.{Event}
 use Rattle.plant_model.specs.declared.event.Event.TheVariants as event
-use Rattle.plant_model.specs.Wire.{Bytes, Codec}
-use Rattle.plant_model.specs.Blind.{is_accepted}
+use Rattle.plant_model.specs.Wire.{Codec}
 use Rattle.plant_model.specs.State.{Connection}
 use Rattle.plant_model.specs.Deeds.{Going, begin_line}
 use Rattle.plant_model.specs.Events as events
-use Rattle.plant_model.specs.Plant.{Entry, Happened, Pin, Plant, Run, Segment, Steps, first_pin}
-use Rattle.plant_outlets.specs.Outlets.{AreOne, DrainsHandOutAll, IsHandedOut, Outlet, OutletsStand, bytes_of, messages_for, outlet}
+use Rattle.plant_model.specs.Plant.{Entry, Pin, Plant, Run, Segment, Steps, first_pin}
+use Rattle.plant_outlets.specs.Outlets.{AreOne, DrainsHandOutAll, IsHandedOut, Outlet, OutletsStand, outlet}
 use Rattle.plant_outlets.proofs.Growing as growing
 use Rattle.plant_outlets.proofs.Growing.{View, more, nil_right, texts, view_of}
-use Rattle.plant_outlets.proofs.EventLemmas.{Fits, drained_view, next, steps_went}
+use Rattle.plant_outlets.proofs.EventLemmas.{Fits, drained_view, steps_went}
 
 module _ (c : Codec) (n : NetworkParts) where
   abbrev view : ℕ → Plant → View

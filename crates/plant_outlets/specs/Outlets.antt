@@ -1,5 +1,5 @@
 -- What drains hand out to an outside peer: what was put there for its connection, in order, from its Open on.
-use Rattle.std.specs.Prelude.{◌≡◌, ◌==◌, ℕ, Bool, true, cond, List, [], ◌∷◌, ◌++◌, map, Option, Some, None, option_map, Ok, Err}
+use Rattle.std.specs.Prelude.{◌≡◌, ◌==◌, ℕ, true, cond, List, [], ◌∷◌, ◌++◌, map, Option, Some, None, option_map, Ok, Err}
 use Rattle.dom_base.specs.declared.names.Peer.TheVariants.{Outside}
 use Rattle.pcep_messages.specs.declared.message.Message.{Message}
 use Rattle.pcep_framing.specs.Frames.{joined}
