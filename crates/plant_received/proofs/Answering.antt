@@ -1,5 +1,5 @@
 -- Answers that were put for a client are those of which the laws speak.
-use Rattle.std.proofs.Common.{◌≡◌, ◌⊎◌, ℕ, Bool, true, false, cond, List, [], ◌∷◌, ◌++◌, Some, sym, ◌∙◌, ap, subst, inl, inr, refl}
+use Rattle.std.proofs.Common.{◌≡◌, ℕ, Bool, true, false, cond, List, [], ◌∷◌, sym, ◌∙◌, ap, subst, inl, inr, refl}
 use Rattle.std.specs.Prelude.{Contains}
 use Rattle.std.proofs.lemmas.Bool.{eq-eqb}
 use Rattle.dom_base.specs.declared.names.As.{As}
@@ -8,24 +8,21 @@ use Rattle.dom_base.specs.declared.names.Peer.TheVariants.{Outside}
 use Rattle.border_costs.proofs.Members.{contains_cases, contains_head, contains_none, contains_tail}
 use Rattle.pcep_messages.specs.declared.message.Message.{Message}
 use Rattle.pcep_messages.specs.declared.message.Message.TheVariants as messages
-use Rattle.pcep_messages.specs.declared.message.Reply.{Reply}
 use Rattle.request_table.specs.Pending.{same_peer}
-use Rattle.plant_text.specs.declared.settings.NetworkParts.{NetworkParts}
 use Rattle.plant_text.specs.Names.{same_as}
 use Rattle.plant_laws.specs.plant_model.declared.output.Output.{Output}
-use Rattle.plant_laws.specs.plant_model.Laws.{IsNetwork}
-use Rattle.plant_laws.specs.plant_model.Plant.{Entry, Plant, PlantDeed, Run, deeds_of}
+use Rattle.plant_laws.specs.plant_model.Plant.{PlantDeed, deeds_of}
 use Rattle.plant_laws.specs.plant_model.RealWire.{wire}
-use Rattle.plant_laws.specs.plant_model.State.{Clears, Deed, Downs, Expires, Hands, Loads, Pops, Says, Solves, Takes, Ups}
+use Rattle.plant_laws.specs.plant_model.State.{Clears, Downs, Expires, Hands, Loads, Pops, Says, Solves, Takes, Ups}
 use Rattle.plant_laws.proofs.plant_model.WireLaws.{wire_is_codec}
-use Rattle.plant_laws.specs.About.{IsPathAnswer, IsShort, Replies}
+use Rattle.plant_laws.specs.About.{Replies}
 use Rattle.plant_laws.specs.Headline.{LeastAnswersIn, NoneAnswersIn}
-use Rattle.plant_laws.specs.Transcript.{SentIn, Transcript, Within, outputs_at}
+use Rattle.plant_laws.specs.Transcript.{Transcript, Within, outputs_at}
 use Rattle.plant_laws.proofs.EveryWritten.{of_written_net_ids}
 use Rattle.plant_laws.proofs.Moments.{peer_is, within_here}
 use Rattle.plant_laws.proofs.OfRun as OfRun
-use Rattle.plant_outlets.specs.Outlets.{Outlet, outlet, outputs_of, put_for}
-use Rattle.plant_received.specs.Received.{AnswersAreRight, IsRight}
+use Rattle.plant_outlets.specs.Outlets.{outputs_of, put_for}
+use Rattle.plant_received.specs.Received.{AnswersAreRight}
 use Rattle.plant_received.proofs.Putting.{AllPut, put_is}
 
 -- the message was sent to the peer in a deed of the run

@@ -1,20 +1,20 @@
 -- What was put for a peer was sent in the deeds of the run.
-use Rattle.std.proofs.Common.{◌≡◌, ◌⊎◌, ℕ, Bool, true, false, cond, List, [], ◌∷◌, ◌++◌, Option, Some, None, option_map, sym, ◌∙◌, ap, subst, inl, inr, refl}
+use Rattle.std.proofs.Common.{◌≡◌, ℕ, Bool, true, false, cond, List, [], ◌∷◌, ◌++◌, Option, Some, None, subst, inl, inr}
 use Rattle.std.specs.Prelude.{Contains}
 use Rattle.std.proofs.lemmas.List.Elements.{Contains-append_cases}
 use Rattle.dom_base.specs.declared.names.Peer.TheVariants.{Outside}
-use Rattle.border_costs.proofs.Members.{contains_cases, contains_head, contains_none, contains_tail}
+use Rattle.border_costs.proofs.Members.{contains_cases, contains_none}
 use Rattle.pcep_messages.specs.declared.message.Message.{Message}
 use Rattle.request_table.specs.Pending.{same_peer}
 use Rattle.plant_text.specs.declared.settings.NetworkParts.{NetworkParts}
 use Rattle.plant_laws.specs.plant_model.declared.output.Output.{Output}
 use Rattle.plant_laws.specs.plant_model.Wire.{Bytes, Codec}
 use Rattle.plant_laws.specs.plant_model.Blind.{is_accepted}
-use Rattle.plant_laws.specs.plant_model.State.{Clears, Deed, Downs, Expires, Hands, Loads, Pops, Says, Solves, Takes, Ups}
-use Rattle.plant_laws.specs.plant_model.Plant.{Entry, PlantDeed, deeds_of}
+use Rattle.plant_laws.specs.plant_model.State.{Clears, Downs, Expires, Hands, Loads, Pops, Says, Solves, Takes, Ups}
+use Rattle.plant_laws.specs.plant_model.Plant.{Entry, deeds_of}
 use Rattle.plant_laws.specs.Sending.{AllSent, AreAll}
 use Rattle.plant_laws.specs.Transcript.{Transcript}
-use Rattle.plant_outlets.specs.Outlets.{Drains, Opens, Outlet, Shuts, Stays, Turn, handed_in, messages_for, outlet, outputs_of, put_for, turn_for, turned, with_handed, with_put}
+use Rattle.plant_outlets.specs.Outlets.{Drains, Opens, Outlet, Shuts, Stays, Turn, handed_in, messages_for, outlet, outputs_of, put_for, turn_for, turned}
 
 module _ (i : ℕ) (Q : Message → Type 0) where
   -- each message that a deed of these puts for the peer

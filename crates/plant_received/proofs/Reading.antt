@@ -1,18 +1,14 @@
 -- What drains hand out over a connection is read as what was meant.
-use Rattle.std.proofs.Common.{◌≡◌, ℕ, List, [], ◌∷◌, Some}
+use Rattle.std.proofs.Common.{List, [], ◌∷◌}
 use Rattle.std.specs.List.{AllByRecursion}
 use Rattle.std.specs.Prelude.{Contains}
 use Rattle.border_costs.proofs.Members.{contains_head, contains_tail}
 use Rattle.pcep_messages.specs.declared.message.Message.{Message}
 use Rattle.pcep_messages.specs.Spelling.{IsWritten}
-use Rattle.plant_text.specs.declared.settings.NetworkParts.{NetworkParts}
-use Rattle.plant_laws.specs.plant_model.Laws.{IsNetwork}
-use Rattle.plant_laws.specs.plant_model.Plant.{Entry, Plant, Run, deeds_of}
+use Rattle.plant_laws.specs.plant_model.Plant.{deeds_of}
 use Rattle.plant_laws.specs.plant_model.RealWire.{wire}
 use Rattle.plant_laws.proofs.plant_model.WireLaws.{wire_is_codec}
-use Rattle.plant_laws.specs.About.{IsShort}
 use Rattle.plant_laws.proofs.EveryWritten.{every_written}
-use Rattle.plant_outlets.specs.Outlets.{Outlet, outlet}
 use Rattle.plant_received.specs.Received.{HandedIsRead}
 use Rattle.plant_received.proofs.Putting.{of_sent, put_is}
 use Rattle.plant_received.proofs.Streams.{stream_of}

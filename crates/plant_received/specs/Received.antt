@@ -1,5 +1,5 @@
 -- What an outside peer reads of the bytes that drains hand out over its connection.
-use Rattle.std.specs.Prelude.{◌≡◌, ◌≢◌, ◌⊎◌, ℕ, true, false, List, [], map, Contains, Some, None}
+use Rattle.std.specs.Prelude.{◌≡◌, ◌⊎◌, ℕ, true, false, List, [], map, Contains, Some, None}
 use Rattle.std.specs.List.{AllByRecursion}
 use Rattle.dom_base.specs.declared.names.As.{As}
 use Rattle.dom_base.specs.declared.names.Peer.TheVariants.{Outside}
