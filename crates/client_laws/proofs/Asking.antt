@@ -52,7 +52,7 @@ below : (bytes : List ℕ) → list_all (λ (b : ℕ). ltb b 256) bytes ≡ true
 below bytes is =
     All-weaker (λ (b : ℕ). ltb b 256 ≡ true) (λ (b : ℕ). b < 256) (λ b yes. ltb-true b 256 yes) bytes (AllPass-from_list_all (λ (b : ℕ). ltb b 256) bytes is)
 
-abbrev FeedAll : List LineEvent → Type 0
+abbrev pub FeedAll : List LineEvent → Type 0
 FeedAll es = (files : Option Files) (cs : List Cue) → AreCues files es cs → FeedOctets cs
 
 no_lines : FeedAll []
@@ -67,7 +67,7 @@ loads_feed : (ts : List (As × List ℕ)) (es : List LineEvent) → FeedAll es �
 loads_feed [] es all = all
 loads_feed (t ∷ ts) es all = one_line (load_line t) (map load_line ts ++ es) tt (loads_feed ts es all)
 
-lines_feed : (ts : List (As × List ℕ)) (client : ℕ) (q : Question) → FeedsOctets (line.Feed (Some client) (question_text q)) → FeedAll (map load_line ts ++ question_lines client q)
+pub lines_feed : (ts : List (As × List ℕ)) (client : ℕ) (q : Question) → FeedsOctets (line.Feed (Some client) (question_text q)) → FeedAll (map load_line ts ++ question_lines client q)
 lines_feed ts client q octets =
     let last = line.Finish ∷ [] in
     let asks = line.Feed (Some client) (question_text q) ∷ last in
@@ -83,16 +83,16 @@ lines_feed ts client q octets =
 
 module _ (i : ℕ) where
   -- the transcript's connection is the state's
-  abbrev Fit : List Entry → Plant → Type 0
+  abbrev pub Fit : List Entry → Plant → Type 0
   Fit es s = Fits wire (outlet i es) (view i s)
 
-  abbrev IsShut : List Entry → Plant → Type 0
+  abbrev pub IsShut : List Entry → Plant → Type 0
   IsShut es s = (outlet i es ≡ None) × Fit es s
 
-  abbrev IsOpen : List Entry → Plant → Type 0
+  abbrev pub IsOpen : List Entry → Plant → Type 0
   IsOpen es s = IsUndrained 0 (outlet i es) × Fit es s
 
-  line_fits : (old : Stage) (c : Cue) (answer : Answered) (turns : List Turn) (told : List ℕ) (new : Stage) (older : List Entry) → PlaysLine old c answer turns told new → Fit older old.state → Fit (entries_of turns older) new.state
+  pub line_fits : (old : Stage) (c : Cue) (answer : Answered) (turns : List Turn) (told : List ℕ) (new : Stage) (older : List Entry) → PlaysLine old c answer turns told new → Fit older old.state → Fit (entries_of turns older) new.state
   line_fits old c answer turns told new older p fits = turns_fit i old.modes old.network old.state turns new.state older (line_turns c.number old answer turns told new.state c.event c.file p.plays) fits
 
   -- a line of another kind than that which opens
@@ -100,14 +100,14 @@ module _ (i : ℕ) where
   plain_line e plain old c answer turns told new is p =
       plain_stays i c.number old answer turns told new.state e c.file plain (subst (λ (x : LineEvent). Plays c.number old x c.file answer turns told new.state) is p.plays)
 
-  plain_shut : (e : LineEvent) → IsPlain e → (old : Stage) (c : Cue) (answer : Answered) (turns : List Turn) (told : List ℕ) (new : Stage) (older : List Entry) → c.event ≡ e → PlaysLine old c answer turns told new →
+  pub plain_shut : (e : LineEvent) → IsPlain e → (old : Stage) (c : Cue) (answer : Answered) (turns : List Turn) (told : List ℕ) (new : Stage) (older : List Entry) → c.event ≡ e → PlaysLine old c answer turns told new →
       IsShut older old.state → IsShut (entries_of turns older) new.state
   plain_shut e plain old c answer turns told new older is p h = (
     still_shut i turns older (plain_line e plain old c answer turns told new is p) h.0,
     line_fits old c answer turns told new older p h.1,
   )
 
-  plain_open : (e : LineEvent) → IsPlain e → (old : Stage) (c : Cue) (answer : Answered) (turns : List Turn) (told : List ℕ) (new : Stage) (older : List Entry) → c.event ≡ e → PlaysLine old c answer turns told new →
+  pub plain_open : (e : LineEvent) → IsPlain e → (old : Stage) (c : Cue) (answer : Answered) (turns : List Turn) (told : List ℕ) (new : Stage) (older : List Entry) → c.event ≡ e → PlaysLine old c answer turns told new →
       IsOpen older old.state → IsOpen (entries_of turns older) new.state
   plain_open e plain old c answer turns told new older is p h = (
     still_open i 0 turns older (plain_line e plain old c answer turns told new is p) h.0,
@@ -115,12 +115,12 @@ module _ (i : ℕ) where
   )
 
   -- the open is accepted
-  no_connection : (o : Option Outlet) (k : Option Connection) → o ≡ None → Fits wire o (view_of k) → k ≡ None
+  pub no_connection : (o : Option Outlet) (k : Option Connection) → o ≡ None → Fits wire o (view_of k) → k ≡ None
   no_connection None None is fits = refl
   no_connection None (Some k) is fits = absurd fits
   no_connection (Some x) k is fits = cc
 
-  accepted : (n : NetworkParts) (s : Plant) → is_some (peer_row i n.peers) ≡ true → (s.accesses i).connection ≡ None → is_accepted (events.open_peer Pin Segment wire n open_of i 0 s).answer ≡ true
+  pub accepted : (n : NetworkParts) (s : Plant) → is_some (peer_row i n.peers) ≡ true → (s.accesses i).connection ≡ None → is_accepted (events.open_peer Pin Segment wire n open_of i 0 s).answer ≡ true
   accepted n s known none = go (is_some (peer_row i n.peers)) known (s.accesses i).connection none
     where
       go : (b : Bool) → b ≡ true → (o : Option Connection) → o ≡ None →
@@ -136,7 +136,7 @@ module _ (i : ℕ) where
       (subst (λ (x : Event). IsUndrained 0 (turned (turn_for i x) ms bytes o)) (sym is)
       (subst (λ (b : Bool). IsUndrained 0 (turned (cond b (Opens 0) Stays) ms bytes o)) (sym (eq-eqb i i refl)) (refl, refl)))
 
-  opening_line : (n : NetworkParts) → is_some (peer_row i n.peers) ≡ true → (old : Stage) (c : Cue) (answer : Answered) (turns : List Turn) (told : List ℕ) (new : Stage) (older : List Entry) → old.network ≡ n →
+  pub opening_line : (n : NetworkParts) → is_some (peer_row i n.peers) ≡ true → (old : Stage) (c : Cue) (answer : Answered) (turns : List Turn) (told : List ℕ) (new : Stage) (older : List Entry) → old.network ≡ n →
       c.event ≡ line.Open (Some i) 0 → PlaysLine old c answer turns told new → IsShut older old.state → IsOpen (entries_of turns older) new.state
   opening_line n known old c answer turns told new older same is p h =
       let one : PlaysOne c.number old (event.Open i 0) answer turns told new.state = subst (λ (x : LineEvent). Plays c.number old x c.file answer turns told new.state) is p.plays in
@@ -157,7 +157,7 @@ module _ (i : ℕ) where
   AllPlain [] = Unit {0}
   AllPlain (e ∷ es) = IsPlain e × AllPlain es
 
-  on : (P : List Entry → Plant → Type 0) (turns first later : List Turn) (older : List Entry) (s : Plant) → turns ≡ first ++ later → P (entries_of later (entries_of first older)) s → P (entries_of turns older) s
+  pub on : (P : List Entry → Plant → Type 0) (turns first later : List Turn) (older : List Entry) (s : Plant) → turns ≡ first ++ later → P (entries_of later (entries_of first older)) s → P (entries_of turns older) s
   on P turns first later older s are h =
       subst (λ (ts : List Turn). P (entries_of ts older) s) (sym are) (subst (λ (es : List Entry). P es s) (sym (entries_join first later older)) h)
 
@@ -189,7 +189,7 @@ module _ (i : ℕ) where
         (after_open es plain cs are.1 p.mid new p.later p.more (entries_of p.first older) p.others (p.plays.network ∙ same)
         (plain_shut line.Settle tt old c p.answer p.first p.said p.mid older are.0.event p.plays h))
 
-    after_loads : (ts : List (As × List ℕ)) (es : List LineEvent) → AllPlain es → (cs : List Cue) → AreCues files (map load_line ts ++ line.Settle ∷ line.Open (Some i) 0 ∷ es) cs →
+    pub after_loads : (ts : List (As × List ℕ)) (es : List LineEvent) → AllPlain es → (cs : List Cue) → AreCues files (map load_line ts ++ line.Settle ∷ line.Open (Some i) 0 ∷ es) cs →
         (old new : Stage) (turns : List Turn) (told : List ℕ) (older : List Entry) → AllPlayed old cs turns told new → old.network ≡ n → IsShut older old.state → IsOpen (entries_of turns older) new.state
     after_loads [] es plain cs are old new turns told older p same h = after_settling es plain cs are old new turns told older p same h
     after_loads (t ∷ ts) es plain [] are old new turns told older p same h = absurd are
@@ -200,7 +200,7 @@ module _ (i : ℕ) where
 
   -- ---- the drain
 
-  drained : (n : NetworkParts) (s : Plant) (k : Connection) → (s.accesses i).connection ≡ Some k → k.holder ≡ 0 → received_in (events.drain Pin Segment wire n open_of i 0 s).answer ≡ joined k.out
+  pub drained : (n : NetworkParts) (s : Plant) (k : Connection) → (s.accesses i).connection ≡ Some k → k.holder ≡ 0 → received_in (events.drain Pin Segment wire n open_of i 0 s).answer ≡ joined k.out
   drained n s k is holder =
       subst (λ (o : Option Connection). received_in (events.drain_open Pin Segment wire n open_of i 0 s o).answer ≡ joined k.out) (sym is) (go (k.holder == 0) (eq-eqb k.holder 0 holder))
     where
@@ -212,7 +212,7 @@ module _ (i : ℕ) where
       go false yes = cc
 
   -- all that waits, of a connection from which nothing was drained
-  all_waits : (o : Option Outlet) (k : Option Connection) → IsUndrained 0 o → Fits wire o (view_of k) → (x : Outlet) × (o ≡ Some x) × (c : Connection) × (k ≡ Some c) × (c.holder ≡ 0) × (joined c.out ≡ bytes_of wire x.put)
+  pub all_waits : (o : Option Outlet) (k : Option Connection) → IsUndrained 0 o → Fits wire o (view_of k) → (x : Outlet) × (o ≡ Some x) × (c : Connection) × (k ≡ Some c) × (c.holder ≡ 0) × (joined c.out ≡ bytes_of wire x.put)
   all_waits None k h fits = absurd h
   all_waits (Some x) None h fits = absurd fits
   all_waits (Some x) (Some c) h fits = (x, refl, c, refl, fits.0 ∙ h.0, ap (λ (l : List ℕ). l ++ joined c.out) (sym h.1) ∙ fits.1)

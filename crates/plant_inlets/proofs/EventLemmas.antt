@@ -2,7 +2,7 @@
 use Rattle.std.proofs.Common.{◌≡◌, ◌⊎◌, ℕ, suc, ◌+◌, ◌%◌, Bool, true, false, cond, ◌==◌, List, [], ◌∷◌, ◌++◌, Option, Some, None, is_some, Ok, Err, sym, ◌∙◌, ap, subst, inl, inr, refl}
 use Rattle.std.specs.Prelude.{Contains}
 use Rattle.std.proofs.lemmas.Bool.{cases_Bool, eqb-true}
-use Rattle.std.proofs.lemmas.List.Elements.{Contains-append_cases}
+use Rattle.std.proofs.lemmas.List.Elements.{Contains-append_cases, Contains-append_left, Contains-append_right}
 use Rattle.dom_base.specs.declared.names.As.{As}
 use Rattle.dom_base.specs.declared.names.Tick.{Tick}
 use Rattle.dom_base.specs.declared.names.Peer.TheVariants.{Outside, Inner}
@@ -253,15 +253,25 @@ module _ (n : NetworkParts) where
       go (Some x) = record { held = λ i. held' i (j == i); taken = r.taken }
 
   -- one connection is fed
+  arrives : (stream bytes : Bytes) (k : Connection) → (ms : List Bytes) × HasFed k.framing stream ms → Holds stream k → (part : Bytes) →
+      Contains (k.inbox ++ split_all wire (feed_of k.framing bytes).frames) (Some part) ⊎ Contains (bad_item (feed_of k.framing bytes).framing.bad) (Some part) → IsPart (stream ++ bytes) part
+  arrives stream bytes k before h part (inr b) =
+      arrived_is k.framing stream bytes before.0 part before.1
+      (Contains-append_right (split_all wire (feed_of k.framing bytes).frames) (bad_item (feed_of k.framing bytes).framing.bad) (Some part) b)
+  arrives stream bytes k before h part (inl c) = elim (Contains-append_cases k.inbox (split_all wire (feed_of k.framing bytes).frames) (Some part) c) [
+    | inl old ↦ part_more stream bytes part (h.inbox part old)
+    | inr new ↦
+        arrived_is k.framing stream bytes before.0 part before.1
+        (Contains-append_left (split_all wire (feed_of k.framing bytes).frames) (bad_item (feed_of k.framing bytes).framing.bad) (Some part) new)
+  ]
+
   fed_holds : (stream bytes : Bytes) (k : Connection) → is_down k.session.phase ≡ false → Holds stream k → Holds (stream ++ bytes) (events.fed wire bytes k)
   fed_holds stream bytes k up h =
       let before = h.fed up in
       record {
         fed = λ up'. (before.0 ++ (feed_of k.framing bytes).frames, piece_fed k.framing stream bytes before.0 before.1);
-        inbox = λ part c. elim (Contains-append_cases k.inbox (split_all wire (feed_of k.framing bytes).frames ++ bad_item (feed_of k.framing bytes).framing.bad) (Some part) c) [
-          | inl old ↦ part_more stream bytes part (h.inbox part old)
-          | inr new ↦ arrived_is k.framing stream bytes before.0 part before.1 new
-        ];
+        inbox = λ part c. arrives stream bytes k (h.fed up) h part
+            (Contains-append_cases (k.inbox ++ split_all wire (feed_of k.framing bytes).frames) (bad_item (feed_of k.framing bytes).framing.bad) (Some part) c);
       }
 
   over_holds : (stream bytes : Bytes) (k : Connection) → is_down k.session.phase ≡ true → Holds stream k → Holds (stream ++ bytes) k

@@ -100,10 +100,10 @@ module _ (n : NetworkParts) where
   begun [] start g r = r
   begun (x ∷ xs) start g r = begun xs start (begin_line Pin Segment wire n open_of 0 x g) (fading.begin_line_on Pin Segment wire n open_of (IsOf none) start 0 x g r)
 
-  bare : Plant
+  abbrev bare : Plant
   bare = events.bare Pin Segment wire n open_of first_pin
 
-  opened : Going Pin Segment
+  abbrev opened : Going Pin Segment
   opened = events.opening Pin Segment wire n open_of first_pin
 
   opening : fading.Grown Pin Segment wire n open_of (IsOf none) bare opened

@@ -39,7 +39,7 @@ aligned_if class second len bytes x is = go (nat_lt (length bytes + 4) len) (nat
     go false false true e h = eqb-true (len % 4) 0 e
     go false false false e h = cc
 
-object_aligned : (o : Object) → objects.IsWritten o → length (object_text o) % 4 ≡ 0
+pub object_aligned : (o : Object) → objects.IsWritten o → length (object_text o) % 4 ≡ 0
 object_aligned o fits =
     let n = length (body_text o.body) + 4 in
     let second = o.kind % 16 * 16 + flag o.must 2 in
