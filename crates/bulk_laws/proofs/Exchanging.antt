@@ -32,8 +32,7 @@ use Rattle.script_laws.specs.plant_play.Playing.{Cue, Plays, PlaysLine, PlaysOne
 use Rattle.script_laws.specs.plant_play.Scripts.{AllPlayed}
 use Rattle.script_laws.specs.plant_play.Turns.{Turn, entries_of}
 use Rattle.script_laws.specs.Headline.{HasIdsLeft}
-use Rattle.script_laws.proofs.Onward.{entries_join}
-use Rattle.script_laws.proofs.plant_model.WireLaws.{wire_is_codec}
+use Rattle.script_laws.proofs.plant_laws.plant_model.WireLaws.{wire_is_codec}
 use Rattle.script_laws.proofs.plant_laws.EveryWritten.{every_written}
 use Rattle.plant_bulk.specs.plant_client.declared.question.Question.{Question}
 use Rattle.plant_bulk.specs.plant_client.Asking.{AreCues, Begins, Exchanges, IsPlayed, asking_lines, load_line, opening_lines, received_in, topologies}
@@ -47,8 +46,8 @@ use Rattle.plant_outlets.proofs.RunLemmas.{run_fits}
 use Rattle.plant_received.proofs.Answering.{answers_are_right}
 use Rattle.plant_received.proofs.Putting.{of_sent, put_is}
 use Rattle.client_laws.proofs.Asking as asking
-use Rattle.client_laws.proofs.Asking.{Fit, drained, line_fits, on}
-use Rattle.client_laws.proofs.Lines.{IsPlain, IsUndrained, plain_stays, view}
+use Rattle.client_laws.proofs.Asking.{Fit, on, one_fits, plain_fits}
+use Rattle.client_laws.proofs.Lines.{IsPlain, IsUndrained, entries_join, plain_stays}
 use Rattle.bulk_laws.specs.Received.{AreReceived, ManyAreReceived, all_of, last_heard}
 use Rattle.bulk_laws.proofs.Growing.{AreHeld, IsHeld, all_heard, bytes_append, first_written, front_off, still_held}
 
@@ -62,7 +61,7 @@ module _ (i : ℕ) where
   plain_open e plain done old c answer turns told new older is p h = (
     still_held i 0 done turns older
         (plain_stays i c.number old answer turns told new.state e c.file plain (subst (λ (x : LineEvent). Plays c.number old x c.file answer turns told new.state) is p.plays)) h.0,
-    line_fits i old c answer turns told new older p h.1,
+    plain_fits i e plain old c answer turns told new older is p h.1,
   )
 
   abbrev AllPlain : List LineEvent → Type 0
@@ -118,8 +117,8 @@ module _ (i : ℕ) where
       handed = record { answer = Ok (Drained (joined k.out) (is_down k.session.phase)); state = with_access Pin Segment wire n open_of i events.drained s; deeds = Hands i (joined k.out) ∷ [] }
 
       go : (b : Bool) → b ≡ true → (cond b handed (events.refused Pin Segment wire n open_of (NotHolder k.holder) s)).answer ≡ Ok (Drained (joined k.out) (is_down k.session.phase))
-      go true yes = refl
-      go false yes = cc
+      go true agreed = refl
+      go false agreed = cc
 
   -- the outlet behind it
   after_drain : (done : List Message) (o : Option Outlet) (k : Option Connection) (w : Waits done o k) (answer : Answered) (e : Event) (ms : List Message) (over : Bool) → answer ≡ Ok (Drained (joined w.connection.out) over) → e ≡ event.Drain i 0 →
@@ -160,7 +159,7 @@ module _ (i : ℕ) where
         bytes = x.receives.bytes ∙ ap received_in (sym one.answered ∙ answer) ∙ w.bytes;
         open' = (
           subst (λ (fs : List Entry). AreHeld 0 (done ++ w.rest) (outlet i fs)) (sym (entries_join x.lines.turns d.turns older)) (subst (λ (ts : List Turn). AreHeld 0 (done ++ w.rest) (outlet i (entries_of ts es))) (sym one.one) behind),
-          subst (λ (fs : List Entry). Fit i fs new.state) (sym (entries_join x.lines.turns d.turns older)) (line_fits i x.asked d.cue x.receives.answer d.turns d.told new es d.plays asked.1),
+          subst (λ (fs : List Entry). Fit i fs new.state) (sym (entries_join x.lines.turns d.turns older)) (one_fits i (event.Drain i 0) d.cue.number x.asked x.receives.answer d.turns d.told new.state es one asked.1),
         );
       }
 

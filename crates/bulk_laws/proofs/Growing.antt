@@ -1,5 +1,6 @@
 -- Where nothing is drained, more is put.
-use Rattle.std.proofs.Common.{◌≡◌, ℕ, Bool, true, false, cond, List, [], ◌∷◌, ◌++◌, map, Option, Some, None, option_map, append_assoc, sym, ap, subst, ◌∙◌, refl}
+use Rattle.std.proofs.Common.{◌≡◌, ℕ, suc, ◌-◌, Bool, true, false, cond, List, [], ◌∷◌, ◌++◌, length, map, Option, Some, None, option_map, append_assoc, sym, ap, subst, ◌∙◌, refl, arith}
+use Rattle.std.specs.Prelude.{slice_get}
 use Rattle.std.specs.List.{AllByRecursion}
 use Rattle.pcep_framing.specs.Frames.{joined}
 use Rattle.pcep_messages.specs.declared.message.Message.{Message}
@@ -35,16 +36,16 @@ put_held : (holder : ℕ) (done ms : List Message) (o : Option Outlet) → AreHe
 put_held holder done ms None h = h
 put_held holder done ms (Some x) h = record { holder = h.holder; handed = h.handed; rest = h.rest ++ ms; put = ap (λ (l : List Message). l ++ ms) h.put ∙ append_assoc done h.rest ms }
 
-pick : {P : Option Outlet → Type 0} (b : Bool) (o o' : Option Outlet) → P o → P o' → P (cond b o o')
-pick true o o' p p' = p
-pick false o o' p p' = p'
+pick : (P : Option Outlet → Type 0) (b : Bool) (o o' : Option Outlet) → P o → P o' → P (cond b o o')
+pick P true o o' p p' = p
+pick P false o o' p p' = p'
 
 pub still_held : (i holder : ℕ) (done : List Message) (ts : List Turn) (older : List Entry) → AllStay i ts → AreHeld holder done (outlet i older) → AreHeld holder done (outlet i (entries_of ts older))
 still_held i holder done [] older stay h = h
 still_held i holder done (t ∷ ts) older stay h =
     let more : AreHeld holder done (turned (turn_for i t.entry.event) (messages_for i t.entry.deeds) (handed_in t.entry.answer) (outlet i older)) =
     subst (λ (k : Kind). AreHeld holder done (turned k (messages_for i t.entry.deeds) (handed_in t.entry.answer) (outlet i older))) (sym stay.0) (put_held holder done (messages_for i t.entry.deeds) (outlet i older) h) in
-    still_held i holder done ts (t.entry ∷ older) stay.1 (pick {P = AreHeld holder done} (is_accepted t.entry.answer) _ (outlet i older) more h)
+    still_held i holder done ts (t.entry ∷ older) stay.1 (pick (AreHeld holder done) (is_accepted t.entry.answer) _ (outlet i older) more h)
 
 pub bytes_append : (xs ys : List Message) → bytes_of wire (xs ++ ys) ≡ bytes_of wire xs ++ bytes_of wire ys
 bytes_append xs ys = ap joined (texts_append wire xs ys) ∙ joined_append (texts wire xs) (texts wire ys)
@@ -55,8 +56,15 @@ front_off (x ∷ xs) ys zs e = front_off xs ys zs cc
 
 -- ---- what is heard
 
+less_one : (n : ℕ) → suc n - 1 ≡ n
+less_one n = omega arith
+
+one_on : (x : List ℕ) (xs : List (List ℕ)) (k : ℕ) → slice_get (x ∷ xs) (suc k) ≡ slice_get xs k
+one_on x xs k = refl
+
 last_more : (x y : List ℕ) (ys : List (List ℕ)) → last_of (x ∷ y ∷ ys) ≡ last_of (y ∷ ys)
-last_more x y ys = refl
+last_more x y ys =
+    ap (λ (k : ℕ). slice_get (x ∷ y ∷ ys) k) (less_one (suc (length ys))) ∙ one_on x (y ∷ ys) (length ys) ∙ ap (λ (k : ℕ). slice_get (y ∷ ys) k) (sym (less_one (length ys)))
 
 last_is : (ms : List Message) → AllByRecursion (λ (m : Message). Reads (message_text m) m) ms → in_frame (last_of (map message_text ms)) ≡ last_heard ms
 last_is [] each = refl

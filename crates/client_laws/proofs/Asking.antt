@@ -29,9 +29,7 @@ use Rattle.script_laws.specs.plant_play.Playing.{Cue, Plays, PlaysLine, PlaysOne
 use Rattle.script_laws.specs.plant_play.Scripts.{AllPlayed}
 use Rattle.script_laws.specs.plant_play.Turns.{Turn, entries_of}
 use Rattle.script_laws.specs.Laws.{FeedOctets, FeedsOctets}
-use Rattle.script_laws.proofs.Loadable.{runs_are_loadable}
-use Rattle.script_laws.proofs.Onward.{entries_join, scripts_are_runs}
-use Rattle.script_laws.proofs.PlayedTurns.{line_turns}
+use Rattle.script_laws.proofs.Rightly.{scripts_are_right}
 use Rattle.plant_client.specs.declared.question.Question.{Question}
 use Rattle.plant_client.specs.Asking.{AreCues, Asks, load_line, question_lines, received_in, topologies}
 use Rattle.plant_client.specs.Questions.{opening_text, question_text}
@@ -43,14 +41,14 @@ use Rattle.plant_outlets.proofs.RunLemmas.{run_fits}
 use Rattle.plant_received.proofs.Reading.{handed_is_read}
 use Rattle.plant_received.proofs.Answering.{answers_are_right}
 use Rattle.client_laws.specs.Told.{ClientsAreTold}
-use Rattle.client_laws.proofs.Lines.{AllStay, IsPlain, IsUndrained, plain_stays, still_open, still_shut, turns_fit, view}
+use Rattle.client_laws.proofs.Lines.{AllStay, IsPlain, IsUndrained, entries_join, one_turn, plain_stays, plain_turns, still_open, still_shut, turns_fit, view}
 use Rattle.client_laws.proofs.Telling.{stream_told}
 
 -- ---- what the lines feed is octets
 
 below : (bytes : List ℕ) → list_all (λ (b : ℕ). ltb b 256) bytes ≡ true → All (λ (b : ℕ). b < 256) bytes
 below bytes is =
-    All-weaker (λ (b : ℕ). ltb b 256 ≡ true) (λ (b : ℕ). b < 256) (λ b yes. ltb-true b 256 yes) bytes (AllPass-from_list_all (λ (b : ℕ). ltb b 256) bytes is)
+    All-weaker (λ (b : ℕ). ltb b 256 ≡ true) (λ (b : ℕ). b < 256) (λ b agreed. ltb-true b 256 agreed) bytes (AllPass-from_list_all (λ (b : ℕ). ltb b 256) bytes is)
 
 abbrev pub FeedAll : List LineEvent → Type 0
 FeedAll es = (files : Option Files) (cs : List Cue) → AreCues files es cs → FeedOctets cs
@@ -92,8 +90,13 @@ module _ (i : ℕ) where
   abbrev pub IsOpen : List Entry → Plant → Type 0
   IsOpen es s = IsUndrained 0 (outlet i es) × Fit es s
 
-  pub line_fits : (old : Stage) (c : Cue) (answer : Answered) (turns : List Turn) (told : List ℕ) (new : Stage) (older : List Entry) → PlaysLine old c answer turns told new → Fit older old.state → Fit (entries_of turns older) new.state
-  line_fits old c answer turns told new older p fits = turns_fit i old.modes old.network old.state turns new.state older (line_turns c.number old answer turns told new.state c.event c.file p.plays) fits
+  pub plain_fits : (e : LineEvent) → IsPlain e → (old : Stage) (c : Cue) (answer : Answered) (turns : List Turn) (told : List ℕ) (new : Stage) (older : List Entry) → c.event ≡ e → PlaysLine old c answer turns told new → Fit older old.state → Fit (entries_of turns older) new.state
+  plain_fits e plain old c answer turns told new older is p fits =
+      turns_fit i old.modes old.network old.state turns new.state older
+      (plain_turns c.number old answer turns told new.state e c.file plain (subst (λ (x : LineEvent). Plays c.number old x c.file answer turns told new.state) is p.plays)) fits
+
+  pub one_fits : (e : Event) (number : ℕ) (old : Stage) (answer : Answered) (turns : List Turn) (told : List ℕ) (end : Plant) (older : List Entry) → PlaysOne number old e answer turns told end → Fit older old.state → Fit (entries_of turns older) end
+  one_fits e number old answer turns told end older p fits = turns_fit i old.modes old.network old.state turns end older (one_turn number old answer turns told end e p) fits
 
   -- a line of another kind than that which opens
   plain_line : (e : LineEvent) → IsPlain e → (old : Stage) (c : Cue) (answer : Answered) (turns : List Turn) (told : List ℕ) (new : Stage) → c.event ≡ e → PlaysLine old c answer turns told new → AllStay i turns
@@ -104,14 +107,14 @@ module _ (i : ℕ) where
       IsShut older old.state → IsShut (entries_of turns older) new.state
   plain_shut e plain old c answer turns told new older is p h = (
     still_shut i turns older (plain_line e plain old c answer turns told new is p) h.0,
-    line_fits old c answer turns told new older p h.1,
+    plain_fits e plain old c answer turns told new older is p h.1,
   )
 
   pub plain_open : (e : LineEvent) → IsPlain e → (old : Stage) (c : Cue) (answer : Answered) (turns : List Turn) (told : List ℕ) (new : Stage) (older : List Entry) → c.event ≡ e → PlaysLine old c answer turns told new →
       IsOpen older old.state → IsOpen (entries_of turns older) new.state
   plain_open e plain old c answer turns told new older is p h = (
     still_open i 0 turns older (plain_line e plain old c answer turns told new is p) h.0,
-    line_fits old c answer turns told new older p h.1,
+    plain_fits e plain old c answer turns told new older is p h.1,
   )
 
   -- the open is accepted
@@ -125,14 +128,14 @@ module _ (i : ℕ) where
     where
       go : (b : Bool) → b ≡ true → (o : Option Connection) → o ≡ None →
           is_accepted (cond b (events.open_new Pin Segment wire n open_of i 0 s o) (events.refused Pin Segment wire n open_of NoSuchPeer s)).answer ≡ true
-      go true yes None is = refl
-      go true yes (Some k) is = cc
-      go false yes o is = cc
+      go true agreed None is = refl
+      go true agreed (Some k) is = cc
+      go false agreed o is = cc
 
   made : (answer : Answered) (e : Event) (ms : List Message) (bytes : List ℕ) (o : Option Outlet) → is_accepted answer ≡ true → e ≡ event.Open i 0 →
       IsUndrained 0 (cond (is_accepted answer) (turned (turn_for i e) ms bytes o) o)
-  made answer e ms bytes o yes is =
-      subst (λ (b : Bool). IsUndrained 0 (cond b (turned (turn_for i e) ms bytes o) o)) (sym yes)
+  made answer e ms bytes o agreed is =
+      subst (λ (b : Bool). IsUndrained 0 (cond b (turned (turn_for i e) ms bytes o) o)) (sym agreed)
       (subst (λ (x : Event). IsUndrained 0 (turned (turn_for i x) ms bytes o)) (sym is)
       (subst (λ (b : Bool). IsUndrained 0 (turned (cond b (Opens 0) Stays) ms bytes o)) (sym (eq-eqb i i refl)) (refl, refl)))
 
@@ -144,11 +147,11 @@ module _ (i : ℕ) where
       let h' : Happened = record { answer = t.entry.answer; state = t.after; deeds = t.entry.deeds } in
       let happens : Happens wire old.network old.state (event.Open i 0) h' = subst (λ (e : Event). Happens wire old.network old.state e h') one.event one.is_turn.happens in
       let known' : is_some (peer_row i old.network.peers) ≡ true = ap (λ (m : NetworkParts). is_some (peer_row i m.peers)) same ∙ known in
-      let yes : is_accepted t.entry.answer ≡ true =
+      let agreed : is_accepted t.entry.answer ≡ true =
       ap (λ (x : Happened). is_accepted x.answer) happens ∙ accepted old.network old.state known' (no_connection (outlet i older) (old.state.accesses i).connection h.0 h.1) in (
         subst (λ (ts : List Turn). IsUndrained 0 (outlet i (entries_of ts older))) (sym one.one)
-            (made t.entry.answer t.entry.event (messages_for i t.entry.deeds) (handed_in t.entry.answer) (outlet i older) yes one.event),
-        line_fits old c answer turns told new older p h.1,
+            (made t.entry.answer t.entry.event (messages_for i t.entry.deeds) (handed_in t.entry.answer) (outlet i older) agreed one.event),
+        one_fits (event.Open i 0) c.number old answer turns told new.state older one h.1,
       )
 
   -- ---- lines one after the other
@@ -208,8 +211,8 @@ module _ (i : ℕ) where
       handed = record { answer = Ok (Drained (joined k.out) (is_down k.session.phase)); state = with_access Pin Segment wire n open_of i events.drained s; deeds = Hands i (joined k.out) ∷ [] }
 
       go : (b : Bool) → b ≡ true → received_in (cond b handed (events.refused Pin Segment wire n open_of (NotHolder k.holder) s)).answer ≡ joined k.out
-      go true yes = refl
-      go false yes = cc
+      go true agreed = refl
+      go false agreed = cc
 
   -- all that waits, of a connection from which nothing was drained
   pub all_waits : (o : Option Outlet) (k : Option Connection) → IsUndrained 0 o → Fits wire o (view_of k) → (x : Outlet) × (o ≡ Some x) × (c : Connection) × (k ≡ Some c) × (c.holder ≡ 0) × (joined c.out ≡ bytes_of wire x.put)
@@ -221,7 +224,7 @@ pub clients_are_told : ClientsAreTold
 clients_are_told files n client question received net is a short =
     let es = entries_of a.lines.turns [] in
     let octets = lines_feed (topologies n.elements) client question a.octets files a.lines.cues a.lines.are_cues in
-    let run : Run wire n es a.asked.state = scripts_are_runs runs_are_loadable n a.start a.asked a.lines.cues a.lines.turns a.lines.told a.new octets a.lines.played in
+    let run : Run wire n es a.asked.state = (scripts_are_right n net a.start a.asked a.lines.cues a.lines.turns a.lines.told a.new octets a.lines.played).0.run in
     let open_now =
     after_loads client n is.known files (topologies n.elements) (line.Feed (Some client) opening_text ∷ line.Feed (Some client) (question_text question) ∷ line.Finish ∷ []) (tt, tt, tt, tt)
     a.lines.cues a.lines.are_cues a.start a.asked a.lines.turns a.lines.told [] a.lines.played a.new.network (refl, run_fits wire n [] a.start.state a.new.run client) in

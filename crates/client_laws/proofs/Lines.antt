@@ -20,7 +20,6 @@ use Rattle.script_laws.specs.plant_play.declared.showing.Modes.{Modes}
 use Rattle.script_laws.specs.plant_play.Due.{AreAllDue, AreDue, IsDue, IsDueTake}
 use Rattle.script_laws.specs.plant_play.Playing.{Plays, PlaysDue, PlaysFeedAt, PlaysOne, Stage}
 use Rattle.script_laws.specs.plant_play.Turns.{IsTurn, Turn, entries_of}
-use Rattle.script_laws.proofs.PlayedTurns.{AreTurns}
 use Rattle.plant_outlets.specs.Outlets.{Outlet, Stays, Turn as Kind, handed_in, messages_for, outlet, turn_for, turned, with_put}
 use Rattle.plant_outlets.proofs.EventLemmas.{Fits, steps_went}
 use Rattle.plant_outlets.proofs.Growing.{View, view_of}
@@ -86,6 +85,55 @@ module _ (i number : ℕ) (old : Stage) (answer : Answered) (turns : List Turn) 
   plain_stays line.CertifyOn file plain p = absurd plain
   plain_stays line.DiscloseOn file plain p = absurd plain
 
+-- ---- events one after the other
+
+-- each event happens in the state that the one before it leaves
+abbrev pub AreTurns : Modes → NetworkParts → Plant → List Turn → Plant → Type 0
+AreTurns m n s [] end = end ≡ s
+AreTurns m n s (t ∷ ts) end = IsTurn m n s t × AreTurns m n t.after ts end
+
+due_turns : (Due : Plant → Option Event → Type 0) (m : Modes) (n : NetworkParts) (s : Plant) (ts : List Turn) (end : Plant) → AreDue Due m n s ts end → AreTurns m n s ts end
+due_turns Due m n s [] end all = all
+due_turns Due m n s (t ∷ ts) end all = (all.1, due_turns Due m n t.after ts end all.3)
+
+module _ (number : ℕ) (old : Stage) (answer : Answered) (turns : List Turn) (told : List ℕ) (end : Plant) where
+  abbrev Are : List Turn → Type 0
+  Are ts = AreTurns old.modes old.network old.state ts end
+
+  pub one_turn : (e : Event) → PlaysOne number old e answer turns told end → Are turns
+  one_turn e p = subst Are (sym p.one) (p.is_turn, p.ends)
+
+  due_line : (Due : Plant → Option Event → Type 0) → PlaysDue number old Due answer turns told end → Are turns
+  due_line Due p = due_turns Due old.modes old.network old.state turns end p.all.due
+
+  feed_turns : (peer : Option ℕ) (bytes : Bytes) → PlaysFeedAt number old peer bytes answer turns told end → Are turns
+  feed_turns None bytes p = subst Are (sym p.no_turn) p.ends
+  feed_turns (Some j) bytes p = subst Are (sym p.are) (p.is_turn, taken (is_accepted answer) p.takes)
+    where
+      taken : (b : Bool) → cond b (AreAllDue (IsDueTake j) old.modes old.network p.fed.after p.taken end) ((p.taken ≡ []) × (end ≡ p.fed.after)) → AreTurns old.modes old.network p.fed.after p.taken end
+      taken true all = due_turns (IsDueTake j) old.modes old.network p.fed.after p.taken end all.due
+      taken false none = subst (λ (ts : List Turn). AreTurns old.modes old.network p.fed.after ts end) (sym none.0) none.1
+
+  pub plain_turns : (e : LineEvent) (file : List ℕ) → IsPlain e → Plays number old e file answer turns told end → Are turns
+  plain_turns (line.Load at name) file plain p = one_turn (event.Load at p.topology) p.loads
+  plain_turns (line.Feed peer bytes) file plain p = feed_turns peer bytes p
+  plain_turns line.Settle file plain p = due_line (IsDue Settled old.network) p
+  plain_turns line.Finish file plain p = due_line (IsDue Finished old.network) p
+  plain_turns (line.Change at name) file plain p = absurd plain
+  plain_turns (line.Open peer holder) file plain p = absurd plain
+  plain_turns (line.Shut peer) file plain p = absurd plain
+  plain_turns (line.Carry a b) file plain p = absurd plain
+  plain_turns (line.Break a b) file plain p = absurd plain
+  plain_turns (line.Solve at k rows) file plain p = absurd plain
+  plain_turns (line.Tick now) file plain p = absurd plain
+  plain_turns (line.Drain peer holder) file plain p = absurd plain
+  plain_turns line.CertifyOn file plain p = absurd plain
+  plain_turns line.DiscloseOn file plain p = absurd plain
+
+pub entries_join : (first others : List Turn) (older : List Entry) → entries_of (first ++ others) older ≡ entries_of others (entries_of first older)
+entries_join [] others older = refl
+entries_join (t ∷ first) others older = entries_join first others (t.entry ∷ older)
+
 -- ---- the connection by the transcript
 
 -- it is open, this holder has it, and nothing was drained
@@ -100,16 +148,16 @@ kept_open ms (Some x) holder h = h
 kept_shut : (ms : List Message) (o : Option Outlet) → o ≡ None → option_map (with_put ms) o ≡ None
 kept_shut ms o is = ap (option_map (with_put ms)) is
 
-pick : {P : Option Outlet → Type 0} (b : Bool) (o o' : Option Outlet) → P o → P o' → P (cond b o o')
-pick true o o' p p' = p
-pick false o o' p p' = p'
+pick : (P : Option Outlet → Type 0) (b : Bool) (o o' : Option Outlet) → P o → P o' → P (cond b o o')
+pick P true o o' p p' = p
+pick P false o o' p p' = p'
 
 pub still_open : (i holder : ℕ) (ts : List Turn) (older : List Entry) → AllStay i ts → IsUndrained holder (outlet i older) → IsUndrained holder (outlet i (entries_of ts older))
 still_open i holder [] older stay h = h
 still_open i holder (t ∷ ts) older stay h =
     let more : IsUndrained holder (turned (turn_for i t.entry.event) (messages_for i t.entry.deeds) (handed_in t.entry.answer) (outlet i older)) =
     subst (λ (k : Kind). IsUndrained holder (turned k (messages_for i t.entry.deeds) (handed_in t.entry.answer) (outlet i older))) (sym stay.0) (kept_open (messages_for i t.entry.deeds) (outlet i older) holder h) in
-    still_open i holder ts (t.entry ∷ older) stay.1 (pick {P = IsUndrained holder} (is_accepted t.entry.answer) _ (outlet i older) more h)
+    still_open i holder ts (t.entry ∷ older) stay.1 (pick (IsUndrained holder) (is_accepted t.entry.answer) _ (outlet i older) more h)
 
 abbrev IsShut : Option Outlet → Type 0
 IsShut o = o ≡ None
@@ -119,7 +167,7 @@ still_shut i [] older stay h = h
 still_shut i (t ∷ ts) older stay h =
     let more : turned (turn_for i t.entry.event) (messages_for i t.entry.deeds) (handed_in t.entry.answer) (outlet i older) ≡ None =
     subst (λ (k : Kind). turned k (messages_for i t.entry.deeds) (handed_in t.entry.answer) (outlet i older) ≡ None) (sym stay.0) (kept_shut (messages_for i t.entry.deeds) (outlet i older) h) in
-    still_shut i ts (t.entry ∷ older) stay.1 (pick {P = IsShut} (is_accepted t.entry.answer) _ (outlet i older) more h)
+    still_shut i ts (t.entry ∷ older) stay.1 (pick (IsShut) (is_accepted t.entry.answer) _ (outlet i older) more h)
 
 -- ---- the connection in the state
 

@@ -23,8 +23,7 @@ use Rattle.script_laws.specs.plant_model.State.{Takes}
 use Rattle.script_laws.specs.plant_model.Wire.{Admitted, Bytes}
 use Rattle.script_laws.specs.plant_laws.Transcript.{Delivered, Transcript, Within}
 use Rattle.script_laws.specs.plant_play.Turns.{entries_of}
-use Rattle.script_laws.proofs.Loadable.{runs_are_loadable}
-use Rattle.script_laws.proofs.Onward.{scripts_are_runs}
+use Rattle.script_laws.proofs.Rightly.{scripts_are_right}
 use Rattle.plant_client.specs.declared.question.Question.{Question}
 use Rattle.plant_client.specs.Asking.{topologies}
 use Rattle.plant_client.specs.Questions.{asked_of, open_message, opening_text, question_message, question_text}
@@ -122,7 +121,7 @@ pub one_is_asked : OneIsAsked
 one_is_asked files n client question received net is fits a =
     let es = entries_of a.lines.turns [] in
     let octets = lines_feed (topologies n.elements) client question a.octets files a.lines.cues a.lines.are_cues in
-    let run : Run wire n es a.asked.state = scripts_are_runs runs_are_loadable n a.start a.asked a.lines.cues a.lines.turns a.lines.told a.new octets a.lines.played in
+    let run : Run wire n es a.asked.state = (scripts_are_right n net a.start a.asked a.lines.cues a.lines.turns a.lines.told a.new octets a.lines.played).0.run in
     let stream =
     loading client n is.known files (topologies n.elements) question a.lines.cues a.lines.are_cues a.start a.asked a.lines.turns a.lines.told [] a.lines.played a.new.network
     ((refl, run_fits wire n [] a.start.state a.new.run client), refl) in

@@ -96,8 +96,8 @@ module _ (i : ℕ) where
   feed_accepted n s bytes k is = subst (λ (o : Option Connection). is_accepted (events.feed_open Pin Segment wire n open_of i bytes s o).answer ≡ true) (sym is) refl
 
   fed_now : (answer : Answered) (e : Event) (bytes : Bytes) (xs : List Bytes) → is_accepted answer ≡ true → e ≡ event.Feed i bytes → cond (is_accepted answer) (streams_with i e xs) xs ≡ fed_to bytes xs
-  fed_now answer e bytes xs yes is =
-      ap (λ (b : Bool). cond b (streams_with i e xs) xs) yes
+  fed_now answer e bytes xs agreed is =
+      ap (λ (b : Bool). cond b (streams_with i e xs) xs) agreed
       ∙ ap (λ (x : Event). streams_with i x xs) is
       ∙ ap (λ (b : Bool). cond b (fed_to bytes xs) xs) (eq-eqb i i refl)
 
@@ -113,14 +113,14 @@ module _ (i : ℕ) where
       let h' : Happened = record { answer = t.entry.answer; state = t.after; deeds = t.entry.deeds } in
       let happens : Happens wire old.network old.state (event.Feed i bytes) h' = subst (λ (e : Event). Happens wire old.network old.state e h') q.event q.is_turn.happens in
       let k = all_waits i (outlet i older) (old.state.accesses i).connection h.0 h.1 in
-      let yes : is_accepted t.entry.answer ≡ true = ap (λ (x : Happened). is_accepted x.answer) happens ∙ feed_accepted old.network old.state bytes k.2 k.3 in
+      let agreed : is_accepted t.entry.answer ≡ true = ap (λ (x : Happened). is_accepted x.answer) happens ∙ feed_accepted old.network old.state bytes k.2 k.3 in
       ap (λ (ts : List Turn). streams i (entries_of ts older)) q.are
       ∙ still q.taken (t.entry ∷ older) (taken_idle (is_accepted answer) old.modes old.network t.after q.taken new.state q.takes)
-      ∙ fed_now t.entry.answer t.entry.event bytes (streams i older) yes q.event
+      ∙ fed_now t.entry.answer t.entry.event bytes (streams i older) agreed q.event
 
   opened_now : (answer : Answered) (e : Event) (xs : List Bytes) → is_accepted answer ≡ true → e ≡ event.Open i 0 → cond (is_accepted answer) (streams_with i e xs) xs ≡ [] ∷ xs
-  opened_now answer e xs yes is =
-      ap (λ (b : Bool). cond b (streams_with i e xs) xs) yes
+  opened_now answer e xs agreed is =
+      ap (λ (b : Bool). cond b (streams_with i e xs) xs) agreed
       ∙ ap (λ (x : Event). streams_with i x xs) is
       ∙ ap (λ (b : Bool). cond b ([] ∷ xs) xs) (eq-eqb i i refl)
 
@@ -132,9 +132,9 @@ module _ (i : ℕ) where
       let h' : Happened = record { answer = t.entry.answer; state = t.after; deeds = t.entry.deeds } in
       let happens : Happens wire old.network old.state (event.Open i 0) h' = subst (λ (e : Event). Happens wire old.network old.state e h') one.event one.is_turn.happens in
       let known' : is_some (peer_row i old.network.peers) ≡ true = ap (λ (m : NetworkParts). is_some (peer_row i m.peers)) same ∙ known in
-      let yes : is_accepted t.entry.answer ≡ true =
+      let agreed : is_accepted t.entry.answer ≡ true =
       ap (λ (x : Happened). is_accepted x.answer) happens ∙ accepted i old.network old.state known' (no_connection i (outlet i older) (old.state.accesses i).connection h.0 h.1) in
-      ap (λ (ts : List Turn). streams i (entries_of ts older)) one.one ∙ opened_now t.entry.answer t.entry.event (streams i older) yes one.event
+      ap (λ (ts : List Turn). streams i (entries_of ts older)) one.one ∙ opened_now t.entry.answer t.entry.event (streams i older) agreed one.event
 
   -- ---- lines one after the other
 
