@@ -142,7 +142,7 @@ module _ (i : ℕ) where
 
   exchanged : (files : Option Files) (q : Question) (done : List Message) (old new : Stage) (came : List ℕ) (x : Exchanges files i q old came new) (older : List Entry) → IsOpen done older old.state → IsExchanged done came (turns_of x) older new.state
   exchanged files q done old new came x older h =
-      let asked = plain_lines files (asking_lines i q) (tt, tt, tt) done x.lines.cues x.lines.are_cues old x.asked x.lines.turns x.lines.told older x.lines.played h in
+      let asked = plain_lines files (asking_lines i q) (tt, (tt, tt)) done x.lines.cues x.lines.are_cues old x.asked x.lines.turns x.lines.told older x.lines.played h in
       let es = entries_of x.lines.turns older in
       let w = waits done (outlet i es) (x.asked.state.accesses i).connection asked.0 asked.1 in
       let d = x.receives.drains in

@@ -226,7 +226,7 @@ clients_are_told files n client question received net is a short =
     let octets = lines_feed (topologies n.elements) client question a.octets files a.lines.cues a.lines.are_cues in
     let run : Run wire n es a.asked.state = (scripts_are_right n net a.start a.asked a.lines.cues a.lines.turns a.lines.told a.new octets a.lines.played).0.run in
     let open_now =
-    after_loads client n is.known files (topologies n.elements) (line.Feed (Some client) opening_text ∷ line.Feed (Some client) (question_text question) ∷ line.Finish ∷ []) (tt, tt, tt, tt)
+    after_loads client n is.known files (topologies n.elements) (line.Feed (Some client) opening_text ∷ line.Feed (Some client) (question_text question) ∷ line.Finish ∷ []) (tt, (tt, (tt, tt)))
     a.lines.cues a.lines.are_cues a.start a.asked a.lines.turns a.lines.told [] a.lines.played a.new.network (refl, run_fits wire n [] a.start.state a.new.run client) in
     let all = all_waits client (outlet client es) (a.asked.state.accesses client).connection open_now.0 open_now.1 in
     let d = a.receives.drains in
