@@ -84,10 +84,10 @@ module _ (i : ℕ) where
   -- the messages that wait, and the connection
   pub record Waits (done : List Message) (o : Option Outlet) (k : Option Connection) : Type 0 where
     pub rest : List Message
-    pub outlet : Outlet
-    pub is : o ≡ Some outlet
-    pub held : IsHeld 0 done outlet
-    pub all : outlet.put ≡ done ++ rest
+    pub standing : Outlet
+    pub is : o ≡ Some standing
+    pub held : IsHeld 0 done standing
+    pub all : standing.put ≡ done ++ rest
     pub connection : Connection
     pub there : k ≡ Some connection
     pub holder : connection.holder ≡ 0
@@ -98,7 +98,7 @@ module _ (i : ℕ) where
   waits done (Some x) None h fits = absurd fits
   waits done (Some x) (Some c) h fits = record {
     rest = h.rest;
-    outlet = x;
+    standing = x;
     is = refl;
     held = h;
     all = h.put;
@@ -199,14 +199,14 @@ each_of Q [] h = tt
 each_of Q (m ∷ ms) h = (h m (contains_head m ms), each_of Q ms (λ m' h'. h m' (contains_tail m ms m' h')))
 
 pub record IsEnd (i : ℕ) (news : List Message) (o : Option Outlet) : Type 0 where
-  pub outlet : Outlet
-  pub is : o ≡ Some outlet
+  pub standing : Outlet
+  pub is : o ≡ Some standing
   pub waiting : List Message
-  pub put : outlet.put ≡ news ++ waiting
+  pub put : standing.put ≡ news ++ waiting
 
 the_end : (i : ℕ) (news : List Message) (o : Option Outlet) → AreHeld 0 news o → IsEnd i news o
 the_end i news None h = absurd h
-the_end i news (Some x) h = record { outlet = x; is = refl; waiting = h.rest; put = h.put }
+the_end i news (Some x) h = record { standing = x; is = refl; waiting = h.rest; put = h.put }
 
 pub many_are_received : ManyAreReceived
 many_are_received files n client questions received net is begun end b turns p run short =
@@ -217,16 +217,16 @@ many_are_received files n client questions received net is begun end b turns p r
     let all = all_exchanged client files questions [] begun end received turns (entries_of b.lines.turns []) p (first_held client (outlet client (entries_of b.lines.turns [])) opened.0, opened.1) in
     let held : AreHeld 0 (all_of all.news) (outlet client es) = subst (λ (fs : List Entry). AreHeld 0 (all_of all.news) (outlet client fs)) (sym (entries_join b.lines.turns turns [])) all.open'.0 in
     let x = the_end client (all_of all.news) (outlet client es) held in
-    let written : AllByRecursion IsWritten x.outlet.put =
-    each_of IsWritten x.outlet.put (put_is client IsWritten wire n es (of_sent client IsWritten (deeds_of wire n es) (every_written wire wire_is_codec n net es end.state run short)) x.outlet x.is) in
+    let written : AllByRecursion IsWritten x.standing.put =
+    each_of IsWritten x.standing.put (put_is client IsWritten wire n es (of_sent client IsWritten (deeds_of wire n es) (every_written wire wire_is_codec n net es end.state run short)) x.standing x.is) in
     let of_news : AllByRecursion IsWritten (all_of all.news) = first_written (all_of all.news) x.waiting (subst (AllByRecursion IsWritten) x.put written) in
     record {
-      connection = x.outlet;
+      connection = x.standing;
       is_open = x.is;
       news = all.news;
       waiting = x.waiting;
       put = sym x.put;
       each = all.each;
       heard = ap (map heard_in) all.each ∙ all_heard all.news of_news;
-      right = answers_are_right n net es end.state run short client is.class x.outlet x.is;
+      right = answers_are_right n net es end.state run short client is.class x.standing x.is;
     }

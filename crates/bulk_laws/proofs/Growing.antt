@@ -22,8 +22,8 @@ use Rattle.client_laws.proofs.Lines.{AllStay}
 use Rattle.bulk_laws.specs.Received.{all_of, last_heard}
 
 -- the connection has this holder, and of what was put there these messages were handed out
-pub record IsHeld (holder : ℕ) (done : List Message) (x : Outlet) : Type 0 where
-  pub holder : x.holder ≡ holder
+pub record IsHeld (own : ℕ) (done : List Message) (x : Outlet) : Type 0 where
+  pub holder : x.holder ≡ own
   pub handed : x.handed ≡ bytes_of wire done
   pub rest : List Message
   pub put : x.put ≡ done ++ rest

@@ -1,5 +1,5 @@
 -- A client that asks once receives all that was put for it.
-use Rattle.std.proofs.Common.{◌≡◌, ◌<◌, ℕ, Bool, true, false, cond, ◌==◌, List, [], ◌∷◌, ◌++◌, All, map, Option, Some, None, is_some, option_map, Ok, Err, sym, ap, subst, ◌∙◌, inl, inr, refl}
+use Rattle.std.proofs.Common.{◌≡◌, ◌<◌, ℕ, Bool, true, false, cond, ◌==◌, List, [], ◌∷◌, ◌++◌, All, map, Option, Some, None, is_some, Ok, sym, ap, subst, ◌∙◌, refl}
 use Rattle.std.proofs.Math.Dec.{ltb}
 use Rattle.std.proofs.lemmas.Bool.{eq-eqb, ltb-true}
 use Rattle.std.proofs.lemmas.List.Elements.{All-cons, All-nil, All-weaker}
@@ -16,7 +16,7 @@ use Rattle.plant_text.specs.declared.settings.NetworkParts.{NetworkParts}
 use Rattle.plant_text.specs.Settings.{peer_row}
 use Rattle.script_laws.specs.plant_model.declared.event.Event.{Event}
 use Rattle.script_laws.specs.plant_model.declared.event.Event.TheVariants as event
-use Rattle.script_laws.specs.plant_model.declared.outcome.Outcome.TheVariants.{Done, Drained}
+use Rattle.script_laws.specs.plant_model.declared.outcome.Outcome.TheVariants.{Drained}
 use Rattle.script_laws.specs.plant_model.declared.outcome.Refused.TheVariants.{NoSuchPeer, NotHolder}
 use Rattle.script_laws.specs.plant_model.Blind.{is_accepted}
 use Rattle.script_laws.specs.plant_model.Deeds.{with_access}
@@ -31,12 +31,12 @@ use Rattle.script_laws.specs.plant_play.Turns.{Turn, entries_of}
 use Rattle.script_laws.specs.Laws.{FeedOctets, FeedsOctets}
 use Rattle.script_laws.proofs.Rightly.{scripts_are_right}
 use Rattle.plant_client.specs.declared.question.Question.{Question}
-use Rattle.plant_client.specs.Asking.{AreCues, Asks, load_line, question_lines, received_in, topologies}
+use Rattle.plant_client.specs.Asking.{AreCues, load_line, question_lines, received_in, topologies}
 use Rattle.plant_client.specs.Questions.{opening_text, question_text}
 use Rattle.plant_client.specs.Telling.{told_text}
-use Rattle.plant_outlets.specs.Outlets.{Opens, Outlet, Stays, Turn as Kind, bytes_of, handed_in, messages_for, outlet, turn_for, turned}
+use Rattle.plant_outlets.specs.Outlets.{Opens, Outlet, Stays, bytes_of, handed_in, messages_for, outlet, turn_for, turned}
 use Rattle.plant_outlets.proofs.EventLemmas.{Fits}
-use Rattle.plant_outlets.proofs.Growing.{View, view_of}
+use Rattle.plant_outlets.proofs.Growing.{view_of}
 use Rattle.plant_outlets.proofs.RunLemmas.{run_fits}
 use Rattle.plant_received.proofs.Reading.{handed_is_read}
 use Rattle.plant_received.proofs.Answering.{answers_are_right}

@@ -1,17 +1,14 @@
 -- What the lines of a client do to its connection.
-use Rattle.std.proofs.Common.{◌≡◌, ℕ, Bool, true, false, cond, ◌==◌, List, [], ◌∷◌, ◌++◌, Option, Some, None, is_some, option_map, Ok, Err, sym, ap, subst, ◌∙◌, inl, inr, refl}
-use Rattle.std.proofs.lemmas.Bool.{eq-eqb}
-use Rattle.dom_base.specs.declared.names.As.{As}
+use Rattle.std.proofs.Common.{◌≡◌, ℕ, Bool, true, false, cond, List, [], ◌∷◌, ◌++◌, Option, Some, None, option_map, sym, ap, subst, inl, refl}
 use Rattle.pcep_messages.specs.declared.message.Message.{Message}
 use Rattle.plant_text.specs.declared.line.LineEvent.{LineEvent}
 use Rattle.plant_text.specs.declared.line.LineEvent.TheVariants as line
 use Rattle.plant_text.specs.declared.settings.NetworkParts.{NetworkParts}
 use Rattle.script_laws.specs.plant_model.declared.event.Event.{Event}
 use Rattle.script_laws.specs.plant_model.declared.event.Event.TheVariants as event
-use Rattle.script_laws.specs.plant_model.declared.outcome.Outcome.TheVariants.{Done}
 use Rattle.script_laws.specs.plant_model.Blind.{is_accepted}
 use Rattle.script_laws.specs.plant_model.Events.{Answered}
-use Rattle.script_laws.specs.plant_model.Plant.{Entry, Happened, Plant}
+use Rattle.script_laws.specs.plant_model.Plant.{Entry, Plant}
 use Rattle.script_laws.specs.plant_model.RealWire.{wire}
 use Rattle.script_laws.specs.plant_model.Wire.{Bytes}
 use Rattle.script_laws.specs.plant_play.declared.going.Until.{Until}

@@ -1,5 +1,5 @@
 -- What is told of messages one behind the other is what the last answers.
-use Rattle.std.proofs.Common.{◌≡◌, ℕ, suc, ◌-◌, List, [], ◌∷◌, length, map, Option, Some, None, Result, Ok, sym, ap, subst, ◌∙◌, refl, arith}
+use Rattle.std.proofs.Common.{◌≡◌, ℕ, suc, ◌-◌, List, [], ◌∷◌, length, map, sym, ap, ◌∙◌, refl, arith}
 use Rattle.std.specs.Prelude.{slice_get}
 use Rattle.std.specs.List.{AllByRecursion}
 use Rattle.pcep_messages.specs.declared.message.Message.{Message}

@@ -1,14 +1,14 @@
 -- What an event does to framers and inboxes, and what it takes.
-use Rattle.std.proofs.Common.{◌≡◌, ◌⊎◌, ℕ, suc, ◌+◌, ◌%◌, Bool, true, false, cond, ◌==◌, List, [], ◌∷◌, ◌++◌, Option, Some, None, is_some, Ok, Err, sym, ◌∙◌, ap, subst, inl, inr, refl}
+use Rattle.std.proofs.Common.{◌≡◌, ◌⊎◌, ℕ, ◌+◌, ◌%◌, Bool, true, false, cond, ◌==◌, List, [], ◌∷◌, ◌++◌, Option, Some, None, is_some, Ok, sym, ◌∙◌, subst, inl, inr, refl}
 use Rattle.std.specs.Prelude.{Contains}
 use Rattle.std.proofs.lemmas.Bool.{cases_Bool, eqb-true}
 use Rattle.std.proofs.lemmas.List.Elements.{Contains-append_cases, Contains-append_left, Contains-append_right}
 use Rattle.dom_base.specs.declared.names.As.{As}
 use Rattle.dom_base.specs.declared.names.Tick.{Tick}
-use Rattle.dom_base.specs.declared.names.Peer.TheVariants.{Outside, Inner}
+use Rattle.dom_base.specs.declared.names.Peer.TheVariants.{Outside}
 use Rattle.disclosure.specs.Shown.{open_of}
 use Rattle.te_links.specs.Rows.{Rows}
-use Rattle.border_costs.proofs.Members.{contains_cases, contains_head, contains_none, contains_tail}
+use Rattle.border_costs.proofs.Members.{contains_head, contains_none, contains_tail}
 use Rattle.pcep_framing.specs.Feeding.{feed_of}
 use Rattle.pcep_framing.specs.Frames.{HasFed, joined}
 use Rattle.pcep_framing.proofs.FrameLemmas.{fed_nothing}
@@ -16,12 +16,11 @@ use Rattle.pcep_messages.specs.declared.message.Message.{Message}
 use Rattle.pcep_session.specs.declared.session.Input.TheVariants as input
 use Rattle.pcep_session.specs.Table.{new_state}
 use Rattle.plant_text.specs.declared.settings.NetworkParts.{NetworkParts}
-use Rattle.plant_text.specs.Settings.{Line, is_element, is_linked, line, lines, peer_row}
+use Rattle.plant_text.specs.Settings.{is_element, is_linked, line, lines, peer_row}
 use Rattle.plant_text.specs.Names.{parent_as}
 use Rattle.plant_laws.specs.plant_model.declared.event.Event.{Event}
 use Rattle.plant_laws.specs.plant_model.declared.event.Event.TheVariants as event
-use Rattle.plant_laws.specs.plant_model.declared.outcome.Outcome.{Outcome}
-use Rattle.plant_laws.specs.plant_model.declared.outcome.Outcome.TheVariants.{Done, Drained, Loaded}
+use Rattle.plant_laws.specs.plant_model.declared.outcome.Outcome.TheVariants.{Done, Drained}
 use Rattle.plant_laws.specs.plant_model.declared.outcome.Refused.{Refused}
 use Rattle.plant_laws.specs.plant_model.declared.outcome.Refused.TheVariants.{GenerationsFull, NoMemory, NoSuchJob, NoSuchPeer, NotHolder, NothingToCarry}
 use Rattle.plant_laws.specs.plant_model.Blind.{is_accepted}
@@ -34,7 +33,7 @@ use Rattle.plant_laws.specs.plant_model.Plant.{ElementSolves, Happened, Happens,
 use Rattle.plant_laws.specs.plant_model.RealWire.{wire}
 use Rattle.plant_laws.specs.plant_model.Settings.{place}
 use Rattle.plant_laws.specs.plant_model.Solving.{commit}
-use Rattle.plant_laws.specs.plant_model.State.{Access, Connection, Hands, Loads, Pops, Solves, State}
+use Rattle.plant_laws.specs.plant_model.State.{Access, Connection, Hands, Pops, Solves}
 use Rattle.plant_laws.specs.plant_model.Wire.{Bytes}
 use Rattle.plant_inlets.specs.Inlets.{IsPart, fed_to, streams_with}
 use Rattle.plant_inlets.proofs.Fading as fading

@@ -1,10 +1,10 @@
 -- A stream that grows keeps its frames, and a framer that was fed it holds the rest.
-use Rattle.std.proofs.Common.{◌≡◌, ℕ, Bool, true, false, List, [], ◌∷◌, ◌++◌, Option, Some, None, map, sym, ◌∙◌, ap, subst, inl, inr, refl}
+use Rattle.std.proofs.Common.{◌≡◌, Bool, true, false, List, [], ◌∷◌, ◌++◌, Option, Some, None, map, subst, inl, inr}
 use Rattle.std.specs.Prelude.{Contains}
 use Rattle.std.proofs.lemmas.List.Elements.{Contains-append_cases, Contains-append_left, Contains-append_right}
 use Rattle.border_costs.proofs.Members.{contains_cases, contains_head, contains_none, contains_tail}
 use Rattle.pcep_framing.specs.Feeding.{feed_of}
-use Rattle.pcep_framing.specs.Frames.{AreFrames, Framing, HasFed}
+use Rattle.pcep_framing.specs.Frames.{Framing, HasFed}
 use Rattle.pcep_framing.proofs.FeedLemmas.{feed_feeds}
 use Rattle.pcep_framing.proofs.FrameLemmas.{fed_more, fed_nothing, frames_once}
 use Rattle.pcep_messages.specs.Splitting.{split_of}

@@ -1,14 +1,13 @@
 -- In every run, what is taken from an outside peer was fed by it.
-use Rattle.std.proofs.Common.{◌≡◌, ℕ, Bool, true, false, cond, ◌==◌, List, [], ◌∷◌, ◌++◌, Option, Some, None, Result, Ok, Err, inl, inr, sym, ◌∙◌, ap, subst, refl}
+use Rattle.std.proofs.Common.{◌≡◌, ℕ, Bool, true, false, cond, ◌==◌, List, [], ◌∷◌, ◌++◌, Option, Some, None, Result, Ok, Err, inl, inr, sym, ap, subst, refl}
 use Rattle.std.specs.Prelude.{Contains}
 use Rattle.dom_base.specs.declared.names.As.{As}
-use Rattle.dom_base.specs.declared.names.Peer.{Peer}
 use Rattle.dom_base.specs.declared.names.Peer.TheVariants.{Outside, Inner}
 use Rattle.disclosure.specs.Shown.{open_of}
 use Rattle.border_costs.proofs.Members.{contains_cases, contains_head, contains_none, contains_tail}
 use Rattle.pcep_messages.specs.declared.message.Bad.{Bad}
 use Rattle.pcep_messages.specs.declared.message.Message.{Message}
-use Rattle.pcep_messages.specs.Messages.{Reads, message_of}
+use Rattle.pcep_messages.specs.Messages.{message_of}
 use Rattle.plant_text.specs.declared.settings.NetworkParts.{NetworkParts}
 use Rattle.plant_text.specs.Settings.{Line, lines}
 use Rattle.plant_laws.specs.plant_model.declared.event.Event.{Event}
@@ -19,9 +18,9 @@ use Rattle.plant_laws.specs.plant_model.Deeds.{Going, begin_line}
 use Rattle.plant_laws.specs.plant_model.Events as events
 use Rattle.plant_laws.specs.plant_model.Plant.{Entry, Happened, Pin, Plant, PlantDeed, Run, Segment, deeds_of, first_pin}
 use Rattle.plant_laws.specs.plant_model.RealWire.{message_or_none, wire}
-use Rattle.plant_laws.specs.plant_model.State.{Clears, Connection, Deed, Downs, Expires, Hands, Loads, Pops, Says, Solves, Takes, Ups}
+use Rattle.plant_laws.specs.plant_model.State.{Clears, Connection, Downs, Expires, Hands, Loads, Pops, Says, Solves, Takes, Ups}
 use Rattle.plant_laws.specs.plant_model.Wire.{Bytes}
-use Rattle.plant_inlets.specs.Inlets.{IsPart, TakenWasFed, WasFed, fed_to, streams, streams_with}
+use Rattle.plant_inlets.specs.Inlets.{IsPart, TakenWasFed, fed_to, streams, streams_with}
 use Rattle.plant_inlets.proofs.Fading as fading
 use Rattle.plant_inlets.proofs.Fading.{AllFade, AllTaken, deed_taken, fades_here}
 use Rattle.plant_inlets.proofs.EventLemmas.{AllHeld, AreHeld, IsOf, Streams, steps_went}

@@ -1,5 +1,5 @@
 -- What an element takes from an outside peer was fed there by that peer.
-use Rattle.std.specs.Prelude.{◌≡◌, ◌==◌, ℕ, false, cond, List, [], ◌∷◌, ◌++◌, Contains}
+use Rattle.std.specs.Prelude.{◌==◌, ℕ, false, cond, List, [], ◌∷◌, ◌++◌, Contains}
 use Rattle.dom_base.specs.declared.names.As.{As}
 use Rattle.dom_base.specs.declared.names.Peer.TheVariants.{Outside}
 use Rattle.pcep_messages.specs.declared.message.Message.{Message}

@@ -55,7 +55,7 @@ stream_is q =
 frames_are : (q : Question) → IsWritten (question_message q) → (framed (opening_text ++ question_text q)).frames ≡ message_text open_message ∷ message_text messages.Keepalive ∷ question_text q ∷ []
 frames_are q fits =
     ap (λ (l : List ℕ). (framed l).frames) (stream_is q)
-    ∙ (stream_of (open_message ∷ messages.Keepalive ∷ question_message q ∷ []) (open_written, keepalive_written, fits, tt)).frames
+    ∙ (stream_of (open_message ∷ messages.Keepalive ∷ question_message q ∷ []) (open_written, (keepalive_written, (fits, tt)))).frames
 
 only : {X : Type 0} (x y : X) → Contains (x ∷ []) y → x ≡ y
 only x y h = elim (contains_cases x [] y h) [ inl same ↦ same | inr none ↦ absurd (contains_none y none) ]

@@ -78,8 +78,11 @@ chunks_are os fits =
 count_more : (c : List ℕ) (cs : List (List ℕ)) → count_by begins_rp (c ∷ cs) ≡ cond (begins_rp c) 1 0 + count_by begins_rp cs
 count_more c cs = sum_by-cons (λ y. cond (begins_rp y) 1 0) c cs
 
+zero_left : (n : ℕ) → 0 + n ≡ n
+zero_left n = omega arith
+
 other : (o : Object) (os : List Object) → begins_rp (object_text o) ≡ false → count_by begins_rp (map object_text (o ∷ os)) ≡ count_by begins_rp (map object_text os)
-other o os no = count_more (object_text o) (map object_text os) ∙ ap (λ (b : Bool). cond b 1 0 + count_by begins_rp (map object_text os)) no
+other o os none = count_more (object_text o) (map object_text os) ∙ ap (λ (b : Bool). cond b 1 0 + count_by begins_rp (map object_text os)) none ∙ zero_left (count_by begins_rp (map object_text os))
 
 iro_none : (domains : List As) → count_by begins_rp (map object_text (iro domains ++ [])) ≡ 0
 iro_none [] = refl
