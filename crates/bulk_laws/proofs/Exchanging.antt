@@ -1,10 +1,9 @@
 -- A client that asks one question behind the other receives what was put for it.
-use Rattle.std.proofs.Common.{◌≡◌, ℕ, Bool, true, false, cond, ◌==◌, List, [], ◌∷◌, ◌++◌, map, Option, Some, None, is_some, option_map, Ok, Err, append_assoc, sym, ap, subst, ◌∙◌, refl}
+use Rattle.std.proofs.Common.{◌≡◌, ℕ, Bool, true, false, cond, ◌==◌, List, [], ◌∷◌, ◌++◌, map, Option, Some, None, option_map, Ok, append_assoc, sym, ap, subst, ◌∙◌, refl}
 use Rattle.std.specs.Prelude.{Contains}
 use Rattle.std.specs.List.{AllByRecursion}
 use Rattle.std.proofs.lemmas.Bool.{eq-eqb}
 use Rattle.std.proofs.lemmas.List.{append-nil}
-use Rattle.dom_base.specs.declared.names.As.{As}
 use Rattle.dom_edge.specs.Stores.{Files}
 use Rattle.border_costs.proofs.Members.{contains_head, contains_tail}
 use Rattle.disclosure.specs.Shown.{open_of}
@@ -14,7 +13,6 @@ use Rattle.pcep_messages.specs.Spelling.{IsWritten}
 use Rattle.plant_text.specs.declared.line.LineEvent.{LineEvent}
 use Rattle.plant_text.specs.declared.line.LineEvent.TheVariants as line
 use Rattle.plant_text.specs.declared.settings.NetworkParts.{NetworkParts}
-use Rattle.plant_text.specs.Settings.{peer_row}
 use Rattle.script_laws.specs.plant_model.declared.event.Event.{Event}
 use Rattle.script_laws.specs.plant_model.declared.event.Event.TheVariants as event
 use Rattle.script_laws.specs.plant_model.declared.outcome.Outcome.TheVariants.{Drained}
@@ -23,32 +21,30 @@ use Rattle.script_laws.specs.plant_model.Blind.{is_accepted}
 use Rattle.script_laws.specs.plant_model.Deeds.{with_access}
 use Rattle.script_laws.specs.plant_model.Events as events
 use Rattle.script_laws.specs.plant_model.Events.{Answered, is_down}
-use Rattle.script_laws.specs.plant_model.Laws.{IsNetwork}
-use Rattle.script_laws.specs.plant_model.Plant.{Entry, Happened, Happens, Pin, Plant, Run, Segment, deeds_of}
+use Rattle.script_laws.specs.plant_model.Plant.{Entry, Happened, Happens, Pin, Plant, Segment, deeds_of}
 use Rattle.script_laws.specs.plant_model.RealWire.{wire}
 use Rattle.script_laws.specs.plant_model.State.{Connection, Hands}
 use Rattle.script_laws.specs.plant_model.Wire.{Bytes}
 use Rattle.script_laws.specs.plant_play.Playing.{Cue, Plays, PlaysLine, PlaysOne, Stage}
 use Rattle.script_laws.specs.plant_play.Scripts.{AllPlayed}
 use Rattle.script_laws.specs.plant_play.Turns.{Turn, entries_of}
-use Rattle.script_laws.specs.Headline.{HasIdsLeft}
 use Rattle.script_laws.proofs.plant_laws.plant_model.WireLaws.{wire_is_codec}
 use Rattle.script_laws.proofs.plant_laws.EveryWritten.{every_written}
 use Rattle.plant_bulk.specs.plant_client.declared.question.Question.{Question}
-use Rattle.plant_bulk.specs.plant_client.Asking.{AreCues, Begins, Exchanges, IsPlayed, asking_lines, load_line, opening_lines, received_in, topologies}
+use Rattle.plant_bulk.specs.plant_client.Asking.{AreCues, Exchanges, asking_lines, received_in, topologies}
 use Rattle.plant_bulk.specs.plant_client.Hearing.{heard_in}
-use Rattle.plant_bulk.specs.plant_client.Questions.{opening_text, question_text}
+use Rattle.plant_bulk.specs.plant_client.Questions.{opening_text}
 use Rattle.plant_bulk.specs.Playing.{AsksAll, turns_of}
 use Rattle.plant_outlets.specs.Outlets.{Drains, Outlet, Stays, bytes_of, handed_in, messages_for, outlet, turn_for, turned, with_handed}
 use Rattle.plant_outlets.proofs.EventLemmas.{Fits}
-use Rattle.plant_outlets.proofs.Growing.{View, view_of}
+use Rattle.plant_outlets.proofs.Growing.{view_of}
 use Rattle.plant_outlets.proofs.RunLemmas.{run_fits}
 use Rattle.plant_received.proofs.Answering.{answers_are_right}
 use Rattle.plant_received.proofs.Putting.{of_sent, put_is}
 use Rattle.client_laws.proofs.Asking as asking
 use Rattle.client_laws.proofs.Asking.{Fit, on, one_fits, plain_fits}
 use Rattle.client_laws.proofs.Lines.{IsPlain, IsUndrained, entries_join, plain_stays}
-use Rattle.bulk_laws.specs.Received.{AreReceived, ManyAreReceived, all_of, last_heard}
+use Rattle.bulk_laws.specs.Received.{ManyAreReceived, all_of}
 use Rattle.bulk_laws.proofs.Growing.{AreHeld, IsHeld, all_heard, bytes_append, first_written, front_off, still_held}
 
 module _ (i : ℕ) where
