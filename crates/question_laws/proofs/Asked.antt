@@ -1,5 +1,5 @@
 -- What an element takes from a client that asks once is its question.
-use Rattle.std.proofs.Common.{◌≡◌, ◌<◌, ◌≤◌, ℕ, List, [], ◌∷◌, ◌++◌, map, Option, Some, None, Result, Ok, Err, append_assoc, sym, ap, subst, ◌∙◌, inl, inr, refl, arith}
+use Rattle.std.proofs.Common.{◌≡◌, ℕ, List, [], ◌∷◌, ◌++◌, map, Result, Ok, append_assoc, sym, ap, subst, ◌∙◌, inl, inr, refl, arith}
 use Rattle.std.specs.Prelude.{Contains}
 use Rattle.std.proofs.lemmas.List.{append-nil}
 use Rattle.dom_base.specs.declared.names.As.{As}
@@ -29,7 +29,7 @@ use Rattle.plant_client.specs.Asking.{topologies}
 use Rattle.plant_client.specs.Questions.{asked_of, open_message, opening_text, question_message, question_text}
 use Rattle.plant_outlets.proofs.RunLemmas.{run_fits}
 use Rattle.plant_received.proofs.Streams.{stream_of}
-use Rattle.plant_inlets.specs.Inlets.{IsPart, WasFed, framed, streams}
+use Rattle.plant_inlets.specs.Inlets.{WasFed, framed, streams}
 use Rattle.plant_inlets.proofs.RunLemmas.{taken_was_fed}
 use Rattle.client_laws.proofs.Asking.{lines_feed}
 use Rattle.question_laws.specs.Asked.{OneIsAsked}

@@ -1,5 +1,5 @@
 -- What the lines of a client feed: its opening, and then its question.
-use Rattle.std.proofs.Common.{◌≡◌, ℕ, Bool, true, false, cond, ◌==◌, List, [], ◌∷◌, ◌++◌, map, Option, Some, None, is_some, Ok, Err, sym, ap, subst, ◌∙◌, refl}
+use Rattle.std.proofs.Common.{◌≡◌, ℕ, Bool, true, false, cond, List, [], ◌∷◌, ◌++◌, map, Option, Some, is_some, sym, ap, subst, ◌∙◌, refl}
 use Rattle.std.proofs.lemmas.Bool.{eq-eqb}
 use Rattle.dom_base.specs.declared.names.As.{As}
 use Rattle.dom_edge.specs.Stores.{Files}
@@ -23,13 +23,12 @@ use Rattle.script_laws.specs.plant_play.declared.showing.Modes.{Modes}
 use Rattle.script_laws.specs.plant_play.Due.{AreAllDue, AreDue, IsDue, IsDueTake}
 use Rattle.script_laws.specs.plant_play.Playing.{Cue, Plays, PlaysFeed, PlaysLine, PlaysOne, Stage}
 use Rattle.script_laws.specs.plant_play.Scripts.{AllPlayed}
-use Rattle.script_laws.specs.plant_play.Turns.{IsTurn, Turn, entries_of}
+use Rattle.script_laws.specs.plant_play.Turns.{Turn, entries_of}
 use Rattle.plant_client.specs.declared.question.Question.{Question}
 use Rattle.plant_client.specs.Asking.{AreCues, load_line, question_lines}
 use Rattle.plant_client.specs.Questions.{opening_text, question_text}
-use Rattle.plant_outlets.specs.Outlets.{Outlet, outlet}
+use Rattle.plant_outlets.specs.Outlets.{outlet}
 use Rattle.plant_inlets.specs.Inlets.{fed_to, streams, streams_with}
-use Rattle.client_laws.proofs.Asking as asking
 use Rattle.client_laws.proofs.Asking.{IsOpen, IsShut, accepted, all_waits, no_connection, on, opening_line, plain_open, plain_shut}
 
 -- ---- events that feed nothing

@@ -1,9 +1,9 @@
 -- A question is one request, so it is not split.
-use Rattle.std.proofs.Common.{◌≡◌, ℕ, suc, zero, ◌+◌, ◌*◌, ◌/◌, ◌%◌, ◌<◌, ◌≤◌, ◌&&◌, ◌||◌, ◌==◌, Bool, true, false, cond, List, [], ◌∷◌, ◌++◌, length, map, take, Option, Some, None, Result, Ok, Err, refl, sym, ap, subst, ◌∙◌, arith}
-use Rattle.std.specs.Prelude.{count_by, nat_le, slice_index}
+use Rattle.std.proofs.Common.{◌≡◌, ℕ, ◌+◌, ◌*◌, ◌/◌, ◌%◌, ◌&&◌, ◌||◌, ◌==◌, Bool, true, false, cond, List, [], ◌∷◌, ◌++◌, length, map, take, Option, Some, None, Result, Ok, Err, refl, sym, ap, subst, ◌∙◌, arith}
+use Rattle.std.specs.Prelude.{count_by, nat_le}
 use Rattle.std.specs.List.{AllByRecursion, flat_map}
 use Rattle.std.proofs.lemmas.Bool.{eq-eqb, le-leb}
-use Rattle.std.proofs.lemmas.List.{append-nil, length-append, take_at}
+use Rattle.std.proofs.lemmas.List.{length-append, take_at}
 use Rattle.std.proofs.lemmas.List.Concat.{flat_map-cons}
 use Rattle.std.proofs.lemmas.List.Sums.{sum_by-cons}
 use Rattle.dom_base.proofs.NumberLaws.{half_back}
@@ -18,12 +18,12 @@ use Rattle.pcep_objects.specs.declared.object.Body.TheVariants as bodies
 use Rattle.pcep_objects.specs.Spelling as objects
 use Rattle.pcep_messages.specs.declared.message.Bad.{Bad}
 use Rattle.pcep_messages.specs.declared.message.Bad.TheVariants.{Malformed}
-use Rattle.pcep_messages.specs.Spelling.{IsWritten, content_text, message_text, objects_in, objects_text}
+use Rattle.pcep_messages.specs.Spelling.{IsWritten, objects_in, objects_text}
 use Rattle.pcep_messages.specs.Splitting.{begins_rp, chunks_of, frame_with, groups_of, octets_at, split_objects, split_of, up_to_rp}
 use Rattle.plant_received.proofs.Streams.{object_aligned}
 use Rattle.plant_client.specs.plant_script.plant_model.Writing.{bandwidth, ends, iro, needed}
 use Rattle.plant_client.specs.declared.question.Question.{Question}
-use Rattle.plant_client.specs.Questions.{asked_of, question_message, question_text}
+use Rattle.plant_client.specs.Questions.{question_message, question_text}
 
 -- ---- the octets of an object
 
