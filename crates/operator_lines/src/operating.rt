@@ -65,7 +65,7 @@ fn finish<T: Store, K: Sink, D: Chart, R: Wait + Drop>(
     ensures list { list_of publisher.new ≡ list_of publisher.old }
     ensures files { T.files store.new ≡ T.files store.old }
 {
-    if begun.bytes.is_empty() {
+    if begun.is_empty() {
         return Operated::End;
     }
     match end_line(alloc, desk, store, network, publisher, out, begun, false) {
