@@ -1,8 +1,11 @@
 //! The program: makes the real files, input and output, and runs the words that it is given.
 #![tactic(auto)]
 
+mod progress;
+
 use dom_edge::{FileStore, InputSource, OutputSink, write_all};
 use pce_tool::{Status, run};
+use progress::Progress;
 use std::alloc::Global;
 use std::process::ExitCode;
 use std::{env, io};
@@ -97,7 +100,7 @@ fn run_command(rt: &HostRuntime, mut words: Vec<String>) -> Status {
     let alloc = rt.alloc();
     let mut store = FileStore::new(alloc, *rt);
     let mut input = InputSource::new(rt.reader());
-    let mut out = OutputSink::new(io::writer(rt));
+    let mut out = OutputSink::new(Progress::new(*rt, io::writer(rt)));
     run(alloc, &words, &mut store, &mut input, &mut out)
 }
 

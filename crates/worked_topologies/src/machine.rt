@@ -143,8 +143,8 @@ impl Write for Broken {
 impl OpenStream for Broken {}
 
 // What a read and a write give over a stream that is broken in that way.
-fn answers(kind: Option<ErrorKind>) -> (Got, Put) {
-    let mut link = SocketLink::new(Broken { kind });
+fn answers(rt: HostRuntime, kind: Option<ErrorKind>) -> (Got, Put) {
+    let mut link = SocketLink::new(rt, Broken { kind });
     (get(&mut link, &mut [0; 2]), put(&mut link, b"ab"))
 }
 
@@ -156,6 +156,6 @@ fn broken_streams_are_told_apart(rt: HostRuntime) {
         (Some(ErrorKind::ConnectionReset), Got::Failed),
         (None, Got::End),
     ] {
-        assert_eq!(rt; answers(kind), (wanted, Put::Failed));
+        assert_eq!(rt; answers(rt, kind), (wanted, Put::Failed));
     }
 }
