@@ -1,5 +1,5 @@
 -- What a line does, part by part.
-use Rattle.std.proofs.Common.{◌≡◌, ◌≢◌, ◌⊎◌, inl, inr, ⊎_elim, ◌≤◌, ◌<◌, ◌+◌, ◌&&◌, ◌||◌, ℕ, Bool, true, false, nat_lt, List, [], ◌∷◌, ◌++◌, length, take, Option, Some, None, Result, Ok, Err, append_assoc, append-nil, length-append, length-take, refl, sym, ap, subst, ◌∙◌, arith, MatchBool, OnOk, IfErr, codes, true≢false, ◌-◌, ◌==◌, if◌then◌else◌}
+use Rattle.std.proofs.Common.{◌≡◌, ◌≢◌, ◌⊎◌, inl, inr, ⊎_elim, ◌≤◌, ◌<◌, ◌+◌, ◌&&◌, ◌||◌, ℕ, Bool, true, false, nat_lt, List, [], ◌∷◌, ◌++◌, length, take, Option, Some, None, Result, Ok, Err, append_assoc, append-nil, length-append, length-take, refl, sym, ap, subst, ◌∙◌, arith, MatchBool, OnOk, IfErr, codes, decimal, true≢false, ◌-◌, ◌==◌, if◌then◌else◌}
 use Rattle.std.specs.Str.Lines.{strip_carriage_return}
 use Rattle.std.specs.Prelude.{slice_index}
 use Rattle.std.proofs.lemmas.Bool.{le-ltb, lt-ltb, ltb-false, ltb-true}
@@ -13,6 +13,9 @@ use Rattle.te_deltas.specs.ChangeText.{change_file_most}
 use Rattle.line_files.specs.declared.error.FileError.{FileError}
 use Rattle.line_files.specs.declared.error.FileError.TheVariants.{BadFile, NoMemory as LacksFile}
 use Rattle.plant_text.specs.declared.fault.NetFault.{NetFault}
+use Rattle.plant_text.specs.Given.{Gives}
+use Rattle.plant_text.specs.declared.line.LineError.{LineError}
+use Rattle.plant_text.specs.declared.line.LineError.TheVariants.{Outside}
 use Rattle.plant_text.specs.declared.line.LineEvent.{LineEvent}
 use Rattle.plant_text.specs.declared.line.LineEvent.TheVariants as line
 use Rattle.plant_text.specs.declared.settings.NetworkParts.{NetworkParts}
@@ -27,7 +30,7 @@ use Rattle.ted_watch.specs.declared.shown.Shown.{Shown}
 use Rattle.operator_lines.specs.Charts.{Asks, Call, Charted, Current, Did, Mapped, current_of}
 use Rattle.operator_lines.specs.Operating.{Context, Does, DoesEvent, IsEndOf, IsFirstPart, IsPartOf, Loads, Past, Publishes, Says, Shows, Stage, WithFile, Work, is_done, line_most, past, shown_by}
 use Rattle.operator_lines.specs.Steps.{Acted, Asked, DoesFile, EndsAs, answered, file_of, Goes, GoesFrom, IsAllDone, IsBegun, IsFile, IsPartDone, Refuses, text_of}
-use Rattle.operator_lines.specs.Texts.{bad_network_text, read_fault_text, too_large_text}
+use Rattle.operator_lines.specs.Texts.{bad_line_text, bad_network_text, fault_text, read_fault_text, too_large_text}
 use Rattle.operator_lines.specs.declared.operating.Operated.{Operated}
 use Rattle.operator_lines.specs.declared.operating.Operated.TheVariants.{End, ReadFault, WriteFault, Turns, Spent, NoMemory}
 
@@ -366,7 +369,7 @@ event_file x number (line.Load at name) a b w does = does
 event_file x number (line.Change at name) a b w does = does
 event_file x number (line.Open p h) a b w does = does
 event_file x number (line.Shut p) a b w does = does
-event_file x number (line.Feed p b) a b w does = does
+event_file x number (line.Feed p xs) a b w does = does
 event_file x number (line.Carry u v) a b w does = does
 event_file x number (line.Break u v) a b w does = does
 event_file x number (line.Solve u k rows) a b w does = does
@@ -402,5 +405,9 @@ pub load_told : (n : NetworkParts) (number : ℕ) (at : As) (g : Rows) (answer :
 load_told n number at g answer (Ok u) a m b spent before after did same published told lack = load_done n number at g answer a m b spent before after did same published told
 load_told n number at g answer (Err end) a m b spent before after did same published told lack = load_untold n number at g answer a m b end spent before after did same published lack
 
-pub bad_network_parts : (v n s l w : List ℕ) → ((v ++ n ++ 32 ∷ [] ++ codes "bad network " ++ s ++ 32 ∷ []) ++ l ++ 32 ∷ [] ++ w) ++ 10 ∷ [] ≡ v ++ n ++ 32 ∷ [] ++ (codes "bad network " ++ s ++ 32 ∷ [] ++ l ++ 32 ∷ [] ++ w) ++ 10 ∷ []
-bad_network_parts v n s l w = simp append_assoc
+pub bad_network_parts : (v : List ℕ) (number : ℕ) (name : List ℕ) (place : ℕ) (why : NetFault) → ((v ++ decimal number ++ 32 ∷ [] ++ codes "bad network " ++ name ++ 32 ∷ []) ++ decimal place ++ 32 ∷ [] ++ fault_text why) ++ 10 ∷ [] ≡ v ++ bad_network_text number name place why
+bad_network_parts v number name place why = simp append_assoc
+
+-- a line outside the form
+pub outside : (r : Result (Option LineEvent) LineError) (said : Option (Option LineEvent)) → r ≡ Err Outside → Gives r said → said ≡ None
+outside r said is gives = subst (λ (q : Result (Option LineEvent) LineError). Gives q said) is gives

@@ -41,6 +41,12 @@ impl Begun {
         }
     }
 
+    fn len(&self) -> usize
+        ensures { result ≡ length self.now.bytes.items }
+    {
+        self.bytes.len()
+    }
+
     /// One byte more. There is room for a CR behind a line of the greatest length.
     pub(crate) fn push(&mut self, byte: u8) -> Result<(), Operated>
         requires inside { byte ≢ 10 }
@@ -48,7 +54,7 @@ impl Begun {
         ensures begun { OnOk result ((line : List ℕ) → IsBegun self.old.bytes.items self.old.is_long line → IsBegun self.new.bytes.items self.new.is_long (line ++ byte ∷ [])) }
         ensures lack { IfErr result (λ end. end ≡ NoMemory) }
     {
-        if self.bytes.len() > LINE_MAX {
+        if self.len() > LINE_MAX {
             self.is_long = true;
             return Ok(());
         }

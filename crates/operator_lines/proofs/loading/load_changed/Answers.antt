@@ -1,4 +1,5 @@
-use Rattle.std.proofs.Common.{◌∷◌, [], Ok, Err, Some, None, inl, inr, refl, subst}
+use Rattle.std.proofs.Common.{◌∷◌, [], ℕ, Ok, Err, Some, None, inl, inr, refl, subst}
+use Rattle.te_links.specs.Rows.{Rows}
 use Rattle.line_files.specs.declared.error.FileError.{FileError}
 use Rattle.line_files.specs.Loading.{IsWhyNoChange}
 use Rattle.plant_model.specs.declared.outcome.Refused.TheVariants.{NoSuchPeer}
@@ -18,7 +19,7 @@ returns-in-Ok-clause-goes g c = λ j o calls shown.
     let a = past (g.D.Chart.charted c.args.desk.now) list in
     let b = past (g.D.Chart.charted c.load.new.desk) (published c.load.new.publisher) in
     let spent = (g.D.Chart.charted c.load.new.desk).spent in
-    let found = (j, c.args.topology.now) in
+    let found : ℕ × Rows = (j, c.args.topology.now) in
     let earlier = Mapped at (Ok (Some found)) ∷ [] in
     let before = c.args.into.now.items in
     let after = c.load.new.into.items in
@@ -35,7 +36,7 @@ returns-in-Err-clause-goes g c = λ j o calls shown.
     let file = c.args.file.now in
     let list = (published c.args.publisher.now) in
     let a = past (g.D.Chart.charted c.args.desk.now) list in
-    let found = (j, c.args.topology.now) in
+    let found : ℕ × Rows = (j, c.args.topology.now) in
     refused_later (ChangesFile n k at name file list) k name c.in-Err.why c.tell_refused.result at (Ok (Some found)) (Ok None) (record { calls = Mapped at (Ok None) ∷ []; shown = []; text = answer_line k (Err NoSuchPeer) }) [] o a
     (g.D.Chart.charted c.args.desk.now).spent c.args.into.now.items c.tell_refused.new.into.items
     (λ place fault e. inr (c.args.changes.now, c.requires.says, (Ok (Some found), inl (place, fault, subst (λ (why : FileError). IsWhyNoChange at c.args.topology.now c.args.changes.now file why) e c.in-Err.ensures.refused, refl))))

@@ -1,4 +1,4 @@
-use Rattle.std.proofs.Common.{◌≡◌, ◌∙◌, ◌++◌, ◌∷◌, [], List, ap, subst, if◌then◌else◌}
+use Rattle.std.proofs.Common.{◌≡◌, ◌∙◌, ◌++◌, ◌∷◌, [], ℕ, List, ap, subst, if◌then◌else◌}
 use Rattle.std.specs.Prelude.{OnOk}
 use Rattle.std.specs.Arc.{arc_value}
 use Rattle.std.proofs.lemmas.Result.{err_from_is_err_and}
@@ -13,7 +13,7 @@ use Rattle.operator_lines.proofs.publishing.publish_element.Goals as goal
 pub returns-in-Some-clause-publishes : goal.returns-in-Some-clause-publishes
 returns-in-Some-clause-publishes g c =
     let at = c.args.at in
-    let found = (c.in-Some.generation, arc_value c.in-Some.topology) in
+    let found : ℕ × Rows = (c.in-Some.generation, arc_value c.in-Some.topology) in
     let list = (published c.args.publisher.now) in
     let more = (published c.show_newer.new.publisher) in
     let r = c.show_newer.result in

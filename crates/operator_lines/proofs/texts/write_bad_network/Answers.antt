@@ -9,4 +9,4 @@ returns c =
     ∙ ap (λ (v : List ℕ). v ++ 10 ∷ []) (c.in_ok-write_head.ensures
     ∙ ap (λ (w : List ℕ). c.write_refused.new.into.items ++ decimal c.args.line ++ 32 ∷ [] ++ w) c.fault_words.ensures
     ∙ ap (λ (v : List ℕ). v ++ decimal c.args.line ++ 32 ∷ [] ++ fault_text c.args.fault.now) c.in_ok-write_refused.ensures)
-    ∙ bad_network_parts c.args.into.now.items (decimal c.args.number) c.args.name.now (decimal c.args.line) (fault_text c.args.fault.now)
+    ∙ bad_network_parts c.args.into.now.items c.args.number c.args.name.now c.args.line c.args.fault.now
