@@ -1,5 +1,5 @@
 -- What a line does, part by part.
-use Rattle.std.proofs.Common.{◌≡◌, ◌≢◌, ◌⊎◌, inl, inr, ⊎_elim, ◌≤◌, ◌<◌, ◌+◌, ◌&&◌, ◌||◌, ℕ, Bool, true, false, nat_lt, List, [], ◌∷◌, ◌++◌, length, take, Option, Some, None, Result, Ok, Err, append_assoc, append-nil, length-append, length-take, refl, sym, ap, subst, ◌∙◌, arith, MatchBool, OnOk, IfErr, codes, decimal, true≢false, ◌-◌, ◌==◌, if◌then◌else◌}
+use Rattle.std.proofs.Common.{◌≡◌, ◌≢◌, ◌⊎◌, inl, inr, ⊎_elim, ◌≤◌, ◌<◌, ◌+◌, ◌&&◌, ◌||◌, ℕ, Bool, true, false, nat_lt, List, [], ◌∷◌, ◌++◌, length, take, Option, Some, None, Result, Ok, Err, append_assoc, append-nil, length-append, length-take, refl, sym, ap, subst, ◌∙◌, arith, OnOk, IfErr, codes, decimal, true≢false, ◌-◌, ◌==◌, if◌then◌else◌}
 use Rattle.std.specs.Str.Lines.{strip_carriage_return}
 use Rattle.std.specs.Prelude.{slice_index}
 use Rattle.std.proofs.lemmas.Bool.{le-ltb, lt-ltb, ltb-false, ltb-true}
@@ -7,7 +7,7 @@ use Rattle.std.proofs.lemmas.List.{take_all, take-append-le}
 use Rattle.std.proofs.lemmas.List.Elements.{All-push}
 use Rattle.dom_base.specs.declared.names.NoMemory.{NoMemory as Lack}
 use Rattle.dom_base.specs.declared.names.As.{As}
-use Rattle.dom_edge.specs.Stores.{Files, HasFile, IsLongFile}
+use Rattle.dom_edge.specs.Stores.{HasFile}
 use Rattle.te_links.specs.Rows.{Rows}
 use Rattle.te_deltas.specs.ChangeText.{change_file_most}
 use Rattle.line_files.specs.declared.error.FileError.{FileError}
@@ -28,9 +28,9 @@ use Rattle.plant_model.specs.declared.outcome.Refused.TheVariants.{NoSuchPeer}
 use Rattle.transcript.specs.Lines.{answer_line}
 use Rattle.ted_watch.specs.declared.shown.Shown.{Shown}
 use Rattle.operator_lines.specs.Charts.{Asks, Call, Charted, Current, Did, Mapped, current_of}
-use Rattle.operator_lines.specs.Operating.{Context, Does, DoesEvent, IsEndOf, IsFirstPart, IsPartOf, Loads, Past, Publishes, Says, Shows, Stage, WithFile, Work, is_done, line_most, past, shown_by}
-use Rattle.operator_lines.specs.Steps.{Acted, Asked, DoesFile, EndsAs, answered, file_of, Goes, GoesFrom, IsAllDone, IsBegun, IsFile, IsPartDone, Refuses, text_of}
-use Rattle.operator_lines.specs.Texts.{bad_line_text, bad_network_text, fault_text, read_fault_text, too_large_text}
+use Rattle.operator_lines.specs.Operating.{Context, Does, DoesEvent, IsEndOf, IsFirstPart, Loads, Past, Publishes, Shows, Stage, WithFile, Work, is_done, line_most, past, shown_by}
+use Rattle.operator_lines.specs.Steps.{Acted, Asked, DoesFile, EndsAs, answered, file_of, Goes, IsBegun, IsFile, IsPartDone, Refuses, text_of}
+use Rattle.operator_lines.specs.Texts.{bad_network_text, fault_text, read_fault_text, too_large_text}
 use Rattle.operator_lines.specs.declared.operating.Operated.{Operated}
 use Rattle.operator_lines.specs.declared.operating.Operated.TheVariants.{End, ReadFault, WriteFault, Turns, Spent, NoMemory}
 
@@ -103,11 +103,14 @@ module _ (n : NetworkParts) (number : ℕ) (at : As) (g : Rows) (answer : Result
   -- what was loaded is not shown
   pub load_unshown : (a m b : Past) (end : Operated) (spent : Option ℕ) (before after : List ℕ) → m.calls ≡ a.calls ++ Did (event.Load at g) answer ∷ [] → m.shown ≡ a.shown
       → Publishes (Err end) at (is_done answer && is_element n at) m b spent → Goes (Loads n number at g a.shown []) (Err end) a b spent before after
-  load_unshown a m b end spent before after did same published = (published.1, inr (⊎_elim
-      (λ (e : b ≡ m). part_of (Ok None) (Did (event.Load at g) answer ∷ []) (inl (Mapped at (Ok None) ∷ [], refl)) (ap (λ (p : Past). p.calls) e ∙ did) (ap (λ (p : Past). p.shown) e ∙ same))
-      (λ (p : (c : Current) × (b.calls ≡ m.calls ++ Mapped at c ∷ []) × (b.shown ≡ m.shown)).
+  load_unshown a m b end spent before after did same published = (
+    published.1,
+    inr (⊎_elim
+        (λ (e : b ≡ m). part_of (Ok None) (Did (event.Load at g) answer ∷ []) (inl (Mapped at (Ok None) ∷ [], refl)) (ap (λ (p : Past). p.calls) e ∙ did) (ap (λ (p : Past). p.shown) e ∙ same))
+        (λ (p : (c : Current) × (b.calls ≡ m.calls ++ Mapped at c ∷ []) × (b.shown ≡ m.shown)).
         part_of p.0 (Did (event.Load at g) answer ∷ Mapped at p.0 ∷ []) (inl ([], refl)) (behind a m b (Mapped at p.0 ∷ []) did p.1) (p.2 ∙ same))
-      published.2))
+        published.2),
+  )
     where
       due : Shows at (is_done answer && is_element n at) a.shown [] [] → Unit {0}
       due s = tt
@@ -166,28 +169,31 @@ module _ (n : NetworkParts) (number : ℕ) (at : As) (g : Rows) (list : List Sho
     },
     goes.1,
   )
-  goes_later (Err end) spent before after goes = (goes.0, inr (⊎_elim
-      (λ (e : b ≡ a). record {
-        work = with_earlier (work_of n number at g (Err NoSuchPeer) [] []);
-        does = some_load;
-        part = record {
-          made = earlier;
-          part = inl (Did (event.Load at g) (Err NoSuchPeer) ∷ [], refl);
-          calls = ap (λ (p : Past). p.calls) e ∙ calls;
-          shown = inl (ap (λ (p : Past). p.shown) e ∙ shown);
-        };
-      })
-      (λ (p : IsPartDone (Loads n number at g list []) a b). record {
-        work = with_earlier p.work;
-        does = loads_later p.work p.does;
-        part = record {
-          made = earlier ++ p.part.made;
-          part = first_part p.part.made p.work.calls p.part.part;
-          calls = joined p.part.made p.part.calls;
-          shown = shown_part p.work.shown p.part.shown;
-        };
-      })
-      goes.1))
+  goes_later (Err end) spent before after goes = (
+    goes.0,
+    inr (⊎_elim
+        (λ (e : b ≡ a). record {
+          work = with_earlier (work_of n number at g (Err NoSuchPeer) [] []);
+          does = some_load;
+          part = record {
+            made = earlier;
+            part = inl (Did (event.Load at g) (Err NoSuchPeer) ∷ [], refl);
+            calls = ap (λ (p : Past). p.calls) e ∙ calls;
+            shown = inl (ap (λ (p : Past). p.shown) e ∙ shown);
+          };
+        })
+        (λ (p : IsPartDone (Loads n number at g list []) a b). record {
+          work = with_earlier p.work;
+          does = loads_later p.work p.does;
+          part = record {
+            made = earlier ++ p.part.made;
+            part = first_part p.part.made p.work.calls p.part.part;
+            calls = joined p.part.made p.part.calls;
+            shown = shown_part p.work.shown p.part.shown;
+          };
+        })
+        goes.1),
+  )
 
 -- ---- files
 

@@ -1,15 +1,14 @@
 -- Bytes that are taken one piece behind the other.
-use Rattle.std.proofs.Common.{◌≡◌, ◌≢◌, ◌⊎◌, inl, inr, ⊎_elim, ◌≤◌, ◌<◌, ◌+◌, ◌&&◌, ◌||◌, ℕ, Bool, true, false, nat_lt, List, [], ◌∷◌, ◌++◌, length, length-append, length-take, map, take, All, Option, Some, None, Result, Ok, Err, append_assoc, append-nil, refl, sym, ap, subst, ◌∙◌, arith, OnOk, IfErr}
+use Rattle.std.proofs.Common.{◌≡◌, ◌≢◌, ◌⊎◌, inl, inr, ◌+◌, ℕ, Bool, true, false, List, [], ◌∷◌, ◌++◌, length, length-append, length-take, map, take, Option, Result, Ok, Err, append_assoc, append-nil, refl, sym, ap, subst, ◌∙◌, arith, OnOk, IfErr}
 use Rattle.std.specs.List.{flat_map}
 use Rattle.std.specs.declared.option.Option.{Option}
 use Rattle.std.specs.Str.Lines.{strip_carriage_return}
-use Rattle.std.specs.Io.KnownBytes.{Appends, Consumes}
+use Rattle.std.specs.Io.KnownBytes.{Appends}
 use Rattle.std.proofs.KnownBytes.{Appends-nil, Appends-trans}
 use Rattle.std.proofs.Math.Seq.{take-append-add}
 use Rattle.std.proofs.lemmas.List.{length-map, map-append}
 use Rattle.std.proofs.lemmas.List.Elements.{All-append, All-nil, All-push}
 use Rattle.std.proofs.lemmas.List.Concat.{flat_map-append}
-use Rattle.dom_edge.specs.Causes.{Rose}
 use Rattle.dom_edge.specs.Whole.{AppendsSome}
 use Rattle.operator_lines.specs.Operating.{AreDone, AreTaken, Context, EndsBy, HasNoEnd, IsCut, IsDone, IsEndOf, IsLeft, IsNext, Stage, Stops, ended, line_most}
 use Rattle.operator_lines.specs.Steps.{Begun, Cuts, CutsOff, EndsLine, Feeds, Finishes, IsBegun, Lasts, TakesOn, text_of}

@@ -16,12 +16,11 @@ use Rattle.plant_text.specs.declared.line.LineEvent.TheVariants as line
 use Rattle.plant_model.specs.declared.event.Event.TheVariants as event
 use Rattle.plant_model.specs.declared.outcome.Outcome.{Outcome}
 use Rattle.plant_model.specs.declared.outcome.Refused.{Refused}
-use Rattle.ted_watch.specs.declared.shown.Shown.{Shown}
-use Rattle.operator_lines.specs.Charts.{Call, Charted, Current, Did, Mapped}
-use Rattle.operator_lines.specs.Operating.{AreTaken, ChangesFile, Context, HasCause, HasNoEnd, IsCut, IsDone, IsEndOf, IsPartOf, IsReadOut, LoadsFile, Past, Says, Sides, Stage, Stops, WithFile, Work, line_most, shown_by}
+use Rattle.operator_lines.specs.Charts.{Call, Charted, Did, Mapped}
+use Rattle.operator_lines.specs.Operating.{AreTaken, ChangesFile, Context, HasCause, HasNoEnd, IsCut, IsDone, IsEndOf, IsPartOf, IsReadOut, LoadsFile, Past, Says, Sides, Stage, Stops, WithFile, Work, line_most}
 use Rattle.operator_lines.specs.Texts.{bad_line_text, bad_network_text, read_fault_text, too_large_text}
 use Rattle.operator_lines.specs.declared.operating.Operated.{Operated}
-use Rattle.operator_lines.specs.declared.operating.Operated.TheVariants.{End, ReadFault, WriteFault, Turns, Spent, NoMemory}
+use Rattle.operator_lines.specs.declared.operating.Operated.TheVariants.{ReadFault, WriteFault, Turns, Spent, NoMemory}
 
 -- ---- calls of the chart
 

@@ -180,7 +180,9 @@ fn do_event<T: Store, D: Chart, R: Wait + Drop>(
         Some((is_change, at, name)) => {
             let name = name.as_str();
             let line = FileLine { number, at, name };
-            do_file(alloc, desk, store, network, publisher, line, is_change, into)
+            do_file(
+                alloc, desk, store, network, publisher, line, is_change, into,
+            )
         }
         None => tell_bad_line(number, into),
     }
@@ -246,5 +248,14 @@ pub(crate) fn do_line<T: Store, D: Chart, R: Wait + Drop>(
     if begun.is_too_long(has_end) {
         return tell_too_long(number, into);
     }
-    do_text(alloc, desk, store, network, publisher, number, begun.text(has_end), into)
+    do_text(
+        alloc,
+        desk,
+        store,
+        network,
+        publisher,
+        number,
+        begun.text(has_end),
+        into,
+    )
 }

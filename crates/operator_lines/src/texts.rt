@@ -64,11 +64,7 @@ pub(crate) fn write_read_fault(number: u32, into: &mut Vec<u8>) -> Result<(), No
 }
 
 /// The line, which is `input`, or the file that it names is above its limit.
-pub(crate) fn write_too_large(
-    number: u32,
-    name: &[u8],
-    into: &mut Vec<u8>,
-) -> Result<(), NoMemory>
+pub(crate) fn write_too_large(number: u32, name: &[u8], into: &mut Vec<u8>) -> Result<(), NoMemory>
     ensures { OnOk result (into.new.items ≡ into.old.items ++ too_large_text number name.now) }
 {
     write_head(number, b"too large ", into)?;

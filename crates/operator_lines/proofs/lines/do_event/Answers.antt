@@ -1,6 +1,6 @@
-use Rattle.std.proofs.Common.{◌∙◌, ℕ, List, None, Some, Bool, sym, subst, refl}
+use Rattle.std.proofs.Common.{◌∙◌, ℕ, List, None, Some, sym, subst, refl}
 use Rattle.ted_watch.specs.Watch.{published}
-use Rattle.operator_lines.specs.Operating.{context, past, stage}
+use Rattle.operator_lines.specs.Operating.{context, stage}
 use Rattle.operator_lines.specs.Steps.{DoesFile, Goes}
 use Rattle.operator_lines.specs.Texts.{bad_line_text}
 use Rattle.operator_lines.proofs.Doing.{event_goes_file, said_or}

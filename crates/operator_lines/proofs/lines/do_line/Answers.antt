@@ -1,4 +1,4 @@
-use Rattle.std.proofs.Common.{◌≡◌, ◌||◌, ℕ, List, false, length, nat_lt, sym, ap, subst, ◌∙◌}
+use Rattle.std.proofs.Common.{◌≡◌, ◌||◌, ℕ, List, false, length, nat_lt, sym, subst, ◌∙◌}
 use Rattle.ted_watch.specs.Watch.{published}
 use Rattle.operator_lines.specs.Operating.{DoesEvent, context, line_most, stage}
 use Rattle.operator_lines.specs.Steps.{Goes, text_of}

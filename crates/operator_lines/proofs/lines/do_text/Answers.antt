@@ -1,7 +1,7 @@
-use Rattle.std.proofs.Common.{◌≡◌, ◌∙◌, None, Some, Ok, Err, [], ap, append-nil, refl, sym}
+use Rattle.std.proofs.Common.{◌∙◌, None, Some, Ok, Err, [], ap, append-nil, refl, sym}
 use Rattle.plant_text.specs.Lines.{line_in}
 use Rattle.ted_watch.specs.Watch.{published}
-use Rattle.operator_lines.specs.Operating.{DoesEvent, context, past, stage}
+use Rattle.operator_lines.specs.Operating.{DoesEvent, context, stage}
 use Rattle.operator_lines.specs.Texts.{bad_line_text}
 use Rattle.operator_lines.proofs.Doing.{event_goes, goes_said, outside, said_or}
 use Rattle.operator_lines.proofs.lines.do_text.Goals as goal

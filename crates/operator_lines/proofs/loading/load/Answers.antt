@@ -1,4 +1,4 @@
-use Rattle.std.proofs.Common.{◌≡◌, ◌&&◌, Bool, Ok, Err, refl, subst}
+use Rattle.std.proofs.Common.{◌&&◌, Bool, Ok, Err, refl, subst}
 use Rattle.std.proofs.lemmas.Result.{err_from_is_err_and}
 use Rattle.plant_text.specs.Settings.{is_element}
 use Rattle.ted_watch.specs.Watch.{published}

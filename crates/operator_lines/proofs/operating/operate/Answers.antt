@@ -1,4 +1,3 @@
-use Rattle.std.proofs.Common.{◌≡◌}
 use Rattle.ted_watch.specs.Watch.{published}
 use Rattle.operator_lines.specs.Operating.{context, side, sides, stage}
 use Rattle.operator_lines.proofs.Turning.{spent_before}

@@ -1,4 +1,3 @@
-use Rattle.std.proofs.Common.{◌≡◌, ℕ, List, Ok, Err}
 use Rattle.ted_watch.specs.Watch.{published}
 use Rattle.operator_lines.specs.Operating.{context, side, stage}
 use Rattle.operator_lines.specs.Steps.{begun}

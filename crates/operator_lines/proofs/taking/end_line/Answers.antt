@@ -1,4 +1,3 @@
-use Rattle.std.proofs.Common.{◌≡◌}
 use Rattle.std.proofs.lemmas.Result.{err_from_is_err_and}
 use Rattle.operator_lines.proofs.Pieces.{cuts_of}
 use Rattle.operator_lines.proofs.taking.end_line.Goals as goal

@@ -1,4 +1,4 @@
-use Rattle.std.proofs.Common.{◌≡◌, sym, subst, ℕ, ◌∷◌, []}
+use Rattle.std.proofs.Common.{sym, subst, ℕ, ◌∷◌, []}
 use Rattle.ted_watch.specs.Watch.{published}
 use Rattle.operator_lines.specs.Operating.{context, stage}
 use Rattle.operator_lines.specs.Steps.{Feeds, begun}

@@ -44,7 +44,7 @@ returns-in_err-take_byte-clause-feeds g c = λ line is.
     let lt : i < length xs = omega (arith, c.loop-byte-test.true) in
     let before : TakesOn x (take i xs) line f m a b o v = c.loop-byte.invariant.takes line is in
     let one : Feeds x (byte ∷ []) (Err end) before.left m h b d v w =
-        subst (λ (fs : Option Files). Feeds (context c.args.network.now fs) (byte ∷ []) (Err end) before.left m h b d v w) c.loop-byte.invariant.files (rw c.in_err-take_byte.was at c.take_byte.ensures.feeds before.left before.is_begun) in
+    subst (λ (fs : Option Files). Feeds (context c.args.network.now fs) (byte ∷ []) (Err end) before.left m h b d v w) c.loop-byte.invariant.files (rw c.in_err-take_byte.was at c.take_byte.ensures.feeds before.left before.is_begun) in
     let more : CutsOff x end ⊥ (take i xs ++ byte ∷ []) line f.before a d o w = fed_on x a b d o v w (take i xs) (byte ∷ []) line f m h (Err end) before one in
     let whole : (take i xs ++ byte ∷ []) ++ drop (i + 1) xs ≡ xs = ap (λ (l : List ℕ). l ++ drop (i + 1) xs) (sym (take_more xs i 0 lt)) ∙ take-append-drop (i + 1) xs in
     rw (p.1, p.2) (subst (λ (l : List ℕ). CutsOff x end ⊥ l line f.before a d o w) whole
@@ -71,7 +71,7 @@ loop-byte-preserved g c =
       takes = λ line is.
           let before : TakesOn x (take i xs) line f m a b o v = c.loop-byte.invariant.takes line is in
           let one : Feeds x (byte ∷ []) (Ok tt) before.left m h b d v w =
-              subst (λ (fs : Option Files). Feeds (context c.args.network.now fs) (byte ∷ []) (Ok tt) before.left m h b d v w) c.loop-byte.invariant.files (rw c.in_ok-take_byte.was at c.take_byte.ensures.feeds before.left before.is_begun) in
+          subst (λ (fs : Option Files). Feeds (context c.args.network.now fs) (byte ∷ []) (Ok tt) before.left m h b d v w) c.loop-byte.invariant.files (rw c.in_ok-take_byte.was at c.take_byte.ensures.feeds before.left before.is_begun) in
           subst (λ (l : List ℕ). TakesOn x l line f h a d o w) (sym (take_more xs i 0 lt)) (fed_on x a b d o v w (take i xs) (byte ∷ []) line f m h (Ok tt) before one);
       wrote = omega (arith, c.loop-byte.invariant.wrote, lasts.0);
       fresh = lasts.1;

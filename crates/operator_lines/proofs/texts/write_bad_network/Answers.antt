@@ -1,4 +1,4 @@
-use Rattle.std.proofs.Common.{◌∙◌, ◌++◌, ◌∷◌, [], ℕ, List, ap, codes, decimal}
+use Rattle.std.proofs.Common.{◌∙◌, ◌++◌, ◌∷◌, [], ℕ, List, ap, decimal}
 use Rattle.operator_lines.specs.Texts.{fault_text}
 use Rattle.operator_lines.proofs.Doing.{bad_network_parts}
 use Rattle.operator_lines.proofs.texts.write_bad_network.Goals as goal

@@ -1,4 +1,4 @@
-use Rattle.std.proofs.Common.{◌≡◌, ◌<◌, ◌≤◌, ◌∷◌, [], ◌++◌, ℕ, List, subst, sym}
+use Rattle.std.proofs.Common.{◌<◌, ◌≤◌, ◌∷◌, [], ◌++◌, ℕ, List, subst, sym}
 use Rattle.operator_lines.specs.Steps.{IsBegun}
 use Rattle.operator_lines.proofs.Doing.{pushed_long, pushed_short}
 use Rattle.operator_lines.proofs.lines.Begun.push.Goals as goal
