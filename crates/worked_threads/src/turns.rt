@@ -62,12 +62,16 @@ fn open<R: Wait + Clock + Drop>(rt: R, alloc: Global, seats: u32) -> Option<Turn
     requires { 0 < seats }
 {
     let network = read_network(alloc, SETTINGS).ok()?;
-    let plant = Plant::new(alloc, network).ok()?;
+    let Ok(plant) = Plant::new(alloc, network) else {
+        return None;
+    };
     TurnDesk::open(rt, alloc, plant, seats).ok()
 }
 
 fn load<D: Desk>(alloc: Global, desk: &mut D) -> Option<Outcome> {
-    let topology = topology(alloc, AT)?;
+    let Some(topology) = topology(alloc, AT) else {
+        return None;
+    };
     desk.act(Event::Load(AT, topology)).ok()
 }
 
