@@ -75,7 +75,7 @@ def networks():
     large = [at_the_limits(domain, 3) for domain in (1, 2, 3)]
     alone = [at_the_limits(1, 1)]
     small = [stored("three", name) for name in ("d1.txt", "d2.txt", "d3.txt")]
-    return [Network("one domain, 3 nodes", 1, [stored("one", "one.txt")], "10.0.0.1 3 10.0.0.1 3", ""),
+    return [Network("one domain, 3 nodes", 1, [stored("one", "one.txt")], "10.0.0.1 1 10.0.0.1 3", ""),
             Network("one domain at the limits", 1, alone, "11.0.0.0 1024 11.0.0.0 1024", ""),
             Network("the same, to 16 nodes", 1, alone, "11.0.0.0 1024 11.0.0.0 16", ""),
             Network("three domains, 1 to 3 nodes", 3, small, "10.1.0.1 1 10.3.0.9 1", "1 2 3"),
