@@ -142,14 +142,12 @@ class Server:
     def busy(self):
         """The processor seconds of each thread so far."""
         found = {}
-        tick = os.sysconf("SC_CLK_TCK")
         for thread in os.listdir("/proc/%d/task" % self.process.pid):
             try:
-                with open("/proc/%d/task/%s/stat" % (self.process.pid, thread)) as file:
-                    words = file.read().rsplit(")", 1)[1].split()
-                found[thread] = (int(words[11]) + int(words[12])) / tick
+                with open("/proc/%d/task/%s/schedstat" % (self.process.pid, thread)) as file:
+                    found[thread] = int(file.read().split()[0]) / 1e9
             except OSError:
-                pass
+                pass  # it has ended
         return found
 
     def spinning(self, seconds=1.0, share=0.3):
