@@ -183,9 +183,9 @@ if "idle" in parts:
         with Proved(known[3], 256, 2, spread=16) as proved:
             held = subprocess.Popen([os.path.join(work, "load"), str(proved.first), str(sessions), "0", "25", "0", *known[3].ends.split()], stdout=subprocess.DEVNULL) if sessions else None
             time.sleep(3)
-            before, began = sum(proved.busy().values()), time.monotonic()
+            before, began = proved.busy(), time.monotonic()
             time.sleep(20)
-            share = (sum(proved.busy().values()) - before) / (time.monotonic() - began)
+            share = (proved.busy() - before) / (time.monotonic() - began)
             print("idle, 16 elements, 2 workers, %d silent sessions: %.1f in 100 of one processor" % (sessions, 100 * share), flush=True)
             if held:
                 held.kill()

@@ -139,23 +139,30 @@ class Server:
         with open("/proc/%d/status" % self.process.pid) as file:
             return next(int(line.split()[1]) for line in file if line.startswith("VmHWM")) / 1024
 
-    def busy(self):
-        """The processor seconds of each thread so far."""
+    def threads(self):
+        """Of each thread the processor seconds so far, and how often it went to sleep."""
         found = {}
         for thread in os.listdir("/proc/%d/task" % self.process.pid):
+            folder = "/proc/%d/task/%s/" % (self.process.pid, thread)
             try:
-                with open("/proc/%d/task/%s/schedstat" % (self.process.pid, thread)) as file:
-                    found[thread] = int(file.read().split()[0]) / 1e9
+                with open(folder + "schedstat") as times, open(folder + "status") as status:
+                    sleeps = next(int(line.split()[1]) for line in status if line.startswith("voluntary_ctxt_switches"))
+                    found[thread] = int(times.read().split()[0]) / 1e9, sleeps
             except OSError:
                 pass  # it has ended
         return found
 
-    def spinning(self, seconds=1.0, share=0.3):
-        """How many threads take more than this share of a processor in so many seconds."""
-        before, began = self.busy(), time.monotonic()
+    def busy(self):
+        """The processor seconds of all threads so far."""
+        return sum(busy for busy, _ in self.threads().values())
+
+    def spinning(self, seconds=1.0):
+        """How many threads, in so many seconds, take half a processor, or run and never go to sleep."""
+        before, began = self.threads(), time.monotonic()
         time.sleep(seconds)
-        after, took = self.busy(), time.monotonic() - began
-        return sum(1 for thread, busy in after.items() if busy - before.get(thread, 0) > share * took)
+        after, took = self.threads(), time.monotonic() - began
+        more = [(busy - before[thread][0], sleeps - before[thread][1]) for thread, (busy, sleeps) in after.items() if thread in before]
+        return sum(1 for busy, sleeps in more if busy > took / 2 or (busy > took / 50 and sleeps == 0))
 
 
 def rows(table, *given):
