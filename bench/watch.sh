@@ -38,6 +38,7 @@ pub struct Table {
     rows: [Option<Shown>; 16],
 }
 
+#[derive(Clone, Copy, Drop)]
 pub enum Ask {
     Show(Shown),
     Read(As),
@@ -119,7 +120,7 @@ use plant_lock::{TurnSeat, Turnstile};
 use std::alloc::Global;
 use std::io;
 use std::sync::{Arc, Wait};
-use std::thread;
+use std::thread::{self, Threads};
 use std::time::{Clock, Duration, Instant};
 
 #[derive(Drop)]
@@ -140,8 +141,8 @@ impl<R: Wait + Clock> Reader<R> {
     // Whether the last entry was read.
     fn look(&mut self) -> bool {
         match self.stile.turn(&self.rt, &mut self.seat, Ask::Read(As(1))) {
-            Ok(Some(shown)) => shown.generation == LAST,
-            Ok(None) => false,
+            Ok((_, Some(shown))) => shown.generation == LAST,
+            Ok((_, None)) => false,
             Err(_) => true,
         }
     }
@@ -165,16 +166,19 @@ fn read_all<R: Wait + Clock + Drop>(mut reader: Reader<R>) -> u64 {
 }
 
 /// How many reads so many threads do in a second, in all.
-pub fn measure(rt: &HostRuntime, readers: u32) -> io::Result<u128> {
-    let Ok((stile, mut seat)) = Turnstile::open(rt.alloc(), Table::new(), 16) else {
+pub fn measure<R: Threads + Wait + Clock + Copy + Send + Drop + 'static>(
+    rt: R,
+    alloc: Global,
+    readers: u32,
+) -> io::Result<u128> {
+    let Ok((stile, mut seat)) = Turnstile::open(alloc, Table::new(), 16) else {
         return Ok(0);
     };
-    let Ok(stile) = Arc::new(rt.alloc(), stile) else {
+    let Ok(stile) = Arc::new(alloc, stile) else {
         return Ok(0);
     };
-    let mut children = Vec::new(rt.alloc());
-    let own = *rt;
-    let start = Instant::now(rt)?;
+    let mut children = Vec::new(alloc);
+    let start = Instant::now(&rt)?;
     'seats: for _ in 0..readers {
         let Ok(given) = stile.split(&mut seat) else {
             return Ok(0);
@@ -182,26 +186,26 @@ pub fn measure(rt: &HostRuntime, readers: u32) -> io::Result<u128> {
         let Ok(theirs) = Arc::try_clone(&stile) else {
             return Ok(0);
         };
-        let reader = Reader::new(own, theirs, given);
-        let Ok(child) = thread::spawn(rt, move || read_all(reader)) else {
+        let reader = Reader::new(rt, theirs, given);
+        let Ok(child) = thread::spawn(&rt, move || read_all(reader)) else {
             return Ok(0);
         };
         if children.push(child).is_err() {
             return Ok(0);
         }
     }
-    let mut publisher = Reader::new(own, stile, seat);
+    let mut publisher = Reader::new(rt, stile, seat);
     for generation in 1..=LAST {
         if !publisher.show(generation) {
             return Ok(0);
         }
-        thread::sleep(rt, Duration::from_millis(1));
+        thread::sleep(&rt, Duration::from_millis(1));
     }
     let mut reads = 0u128;
     for child in children {
-        reads = reads.saturating_add(u128::from(child.join(rt)));
+        reads = reads.saturating_add(u128::from(child.join(&rt)));
     }
-    Ok(reads.saturating_mul(1_000_000) / start.elapsed(rt)?.as_micros().max(1))
+    Ok(reads.saturating_mul(1_000_000) / start.elapsed(&rt)?.as_micros().max(1))
 }
 RT
 
@@ -213,9 +217,10 @@ ghost use Rattle.ted_watch.specs.Watch.{published};
 use crate::LAST;
 use crate::entry;
 use dom_base::{As, NoMemory};
+use std::alloc::Global;
 use std::io;
 use std::sync::Wait;
-use std::thread;
+use std::thread::{self, Threads};
 use std::time::{Clock, Duration, Instant};
 use ted_watch::{Publisher, Watcher, open_watch};
 
@@ -243,31 +248,34 @@ fn read_all<R: Wait>(rt: &R, mut watcher: Watcher) -> u64 {
 }
 
 /// How many reads so many watchers do in a second, in all.
-pub fn measure(rt: &HostRuntime, watchers: u32) -> io::Result<u128>
+pub fn measure<R: Threads + Wait + Clock + Copy + Send + Drop + 'static>(
+    rt: R,
+    alloc: Global,
+    watchers: u32,
+) -> io::Result<u128>
     requires { (0 < watchers) × (watchers ≤ 16) }
 {
-    let own = *rt;
-    let Ok((mut publisher, made)) = open_watch(own, rt.alloc(), watchers) else {
+    let Ok((mut publisher, made)) = open_watch(rt, alloc, watchers) else {
         return Ok(0);
     };
-    let mut children = Vec::new(rt.alloc());
-    let start = Instant::now(rt)?;
+    let mut children = Vec::new(alloc);
+    let start = Instant::now(&rt)?;
     'watchers: for watcher in made.into_vec() {
-        let Ok(child) = thread::spawn(rt, move || read_all(&own, watcher)) else {
+        let Ok(child) = thread::spawn(&rt, move || read_all(&rt, watcher)) else {
             return Ok(0);
         };
         if children.push(child).is_err() {
             return Ok(0);
         }
     }
-    if show_all(rt, &mut publisher).is_err() {
+    if show_all(&rt, &mut publisher).is_err() {
         return Ok(0);
     }
     let mut reads = 0u128;
     for child in children {
-        reads = reads.saturating_add(u128::from(child.join(rt)));
+        reads = reads.saturating_add(u128::from(child.join(&rt)));
     }
-    Ok(reads.saturating_mul(1_000_000) / start.elapsed(rt)?.as_micros().max(1))
+    Ok(reads.saturating_mul(1_000_000) / start.elapsed(&rt)?.as_micros().max(1))
 }
 RT
 
@@ -282,7 +290,11 @@ mod published;
 mod table;
 
 use dom_base::As;
+use std::alloc::Global;
 use std::io;
+use std::sync::Wait;
+use std::thread::Threads;
+use std::time::Clock;
 use ted_watch::Shown;
 
 const LAST: u64 = 1_000;
@@ -300,19 +312,29 @@ fn entry(at: u16, generation: u64) -> Shown
     }
 }
 
-fn tell(rt: &HostRuntime, watchers: u32) -> io::Result<()>
+// Reads a second by watchers, and behind the lock.
+fn both<R: Threads + Wait + Clock + Copy + Send + Drop + 'static>(
+    rt: R,
+    alloc: Global,
+    watchers: u32,
+) -> io::Result<(u128, u128)>
     requires { (0 < watchers) × (watchers ≤ 16) }
 {
-    let published = published::measure(rt, watchers)?;
-    let locked = locked::measure(rt, watchers)?;
+    let published = published::measure(rt, alloc, watchers)?;
+    let locked = locked::measure(rt, alloc, watchers)?;
+    Ok((published, locked))
+}
+
+fn tell(rt: &HostRuntime, watchers: u32, figures: (u128, u128)) -> io::Result<()> {
+    let (published, locked) = figures;
     println!(rt; "{watchers} watchers: {published} reads a second, behind the lock {locked}")
 }
 
 fn main(rt: HostRuntime) -> io::Result<()> {
-    tell(&rt, 1)?;
-    tell(&rt, 2)?;
-    tell(&rt, 4)?;
-    tell(&rt, 8)
+    tell(&rt, 1, both(rt, rt.alloc(), 1)?)?;
+    tell(&rt, 2, both(rt, rt.alloc(), 2)?)?;
+    tell(&rt, 4, both(rt, rt.alloc(), 4)?)?;
+    tell(&rt, 8, both(rt, rt.alloc(), 8)?)
 }
 RT
 
