@@ -60,14 +60,19 @@ impl Table {
         None
     }
 
+    fn is_for(&self, place: usize, at: As) -> bool {
+        match self.rows.get(place) {
+            Some(Some(shown)) => shown.at == at,
+            _ => true,
+        }
+    }
+
+    // The row of its AS, or else the first that is free.
     fn put(&mut self, shown: Shown) {
-        for row in &mut self.rows {
-            match *row {
-                Some(other) if other.at != shown.at => {}
-                _ => {
-                    *row = Some(shown);
-                    return;
-                }
+        for place in 0..16usize {
+            if self.is_for(place, shown.at) {
+                self.rows[place] = Some(shown);
+                return;
             }
         }
     }
@@ -234,11 +239,18 @@ fn show_all<R: Wait + Drop, C: Clock>(rt: &C, publisher: &mut Publisher<R>) -> R
     Ok(())
 }
 
-fn read_all<R: Wait>(rt: &R, mut watcher: Watcher) -> u64 {
+#[derive(Drop)]
+struct Looker<R: Wait> {
+    rt: R,
+    watcher: Watcher,
+}
+
+fn read_all<R: Wait + Drop>(looker: Looker<R>) -> u64 {
+    let Looker { rt, mut watcher } = looker;
     let mut reads = 0u64;
     for _ in rt.forever() {
         reads = reads.wrapping_add(1);
-        if let Some(shown) = watcher.read(rt, As(1))
+        if let Some(shown) = watcher.read(&rt, As(1))
             && shown.generation == LAST
         {
             return reads;
@@ -261,7 +273,8 @@ pub fn measure<R: Threads + Wait + Clock + Copy + Send + Drop + 'static>(
     let mut children = Vec::new(alloc);
     let start = Instant::now(&rt)?;
     'watchers: for watcher in made.into_vec() {
-        let Ok(child) = thread::spawn(&rt, move || read_all(&rt, watcher)) else {
+        let looker = Looker { rt, watcher };
+        let Ok(child) = thread::spawn(&rt, move || read_all(looker)) else {
             return Ok(0);
         };
         if children.push(child).is_err() {
@@ -343,17 +356,37 @@ pub mod Crossing
 ANTT
 cat >"$crate/proofs/Crossing.antt" <<'ANTT'
 use denote.RattleType.{RattleType}
-use denote.Param.Send.{IsSend, sendable}
+use denote.Param.Send.{IsSend, IsSync, sendable}
 use Rattle.std.proofs.Crossing.{Arc-send, crosses}
+use Rattle.atomic_table.proofs.shared.Seat.TheSendSync as seat
+use Rattle.atomic_table.proofs.shared.Shared.TheSendSync as shared
+use Rattle.atomic_table.proofs.send_lease.SendLease.TheSendSync as lease
+use Rattle.left_right.proofs.part.Part.TheSendSync as part
+use Rattle.logbook.proofs.tokens.Seen.TheSendSync as seen
 use Rattle.plant_lock.proofs.Crossing.{turn_seat_field_send, turnstile_send, turnstile_sync}
+use Rattle.ted_watch.specs.contracts.board.Board as Board
+use Rattle.ted_watch.specs.contracts.watch.Watcher as Watcher
 use Rattle.watch_bench.specs.contracts.table.Table as Table
 use Rattle.watch_bench.specs.contracts.locked.Reader as Reader
+use Rattle.watch_bench.specs.contracts.published.Looker as Looker
 
 table_send : IsSend Table.the_row
 table_send = search (sendable, crosses) depth 20
 
 pub reader_send : (R : RattleType) → IsSend R → IsSend (Reader.the_row R)
 reader_send R r = search (turn_seat_field_send, turnstile_send, turnstile_sync, table_send, Arc-send, sendable) depth 30
+
+board_send : IsSend Board.the_row
+board_send = search (seen.the_send, sendable, crosses) depth 60 fits 30000
+
+board_sync : IsSync Board.the_row
+board_sync = search (seen.the_sync, sendable, crosses) depth 60 fits 30000
+
+watcher_send : IsSend (Watcher.the_field).row
+watcher_send = search (board_send, board_sync, seen.the_send, part.the_send, part.the_sync, seat.the_send, shared.the_send, shared.the_sync, lease.the_send, lease.the_sync, sendable, crosses) depth 60 fits 30000
+
+pub looker_send : (R : RattleType) → IsSend R → IsSend (Looker.the_row R)
+looker_send R r = search (watcher_send, sendable) depth 30
 ANTT
 for name in look show; do
     cat >"$crate/proofs/locked/Reader/$name/Answers.antt" <<ANTT
@@ -384,10 +417,11 @@ ANTT
 cat >"$crate/proofs/published/measure/Answers.antt" <<'ANTT'
 use Rattle.std.proofs.Crossing.{crosses}
 use denote.Param.Send.{sendable}
+use Rattle.watch_bench.proofs.Crossing.{looker_send}
 use Rattle.watch_bench.proofs.published.measure.Goals as goal
 
 pub spawn-requires-send-F : goal.spawn-requires-send-F
-spawn-requires-send-F g c κs = search (sendable, crosses) depth 40
+spawn-requires-send-F g c κs = search (sendable, crosses, looker_send) depth 40
 ANTT
 # what is shown has rising generations: as in crates/worked_threads, whose test shows the same
 for file in Invariants Answers; do
