@@ -68,7 +68,7 @@ class Lines:
             self.coming.put(line)
         self.coming.put(None)
 
-    def next(self, within=10):
+    def next(self, within=30):
         """The next line; None where the stream has ended, or nothing comes in time."""
         try:
             return self.coming.get(timeout=within)

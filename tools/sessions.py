@@ -16,7 +16,7 @@ class Ended(Exception):
 class Session:
     """A connection to a port of an element. All that is heard is kept in `heard`, message by message."""
 
-    def __init__(self, host, port, within=10):
+    def __init__(self, host, port, within=30):
         self.within = within
         self.stream = messages.Stream()
         self.waiting = []  # messages that came and were not asked for yet
