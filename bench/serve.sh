@@ -1,7 +1,8 @@
 #!/bin/sh
 # What a running server does, as its clients see it, beside a plain threaded server in C (bench/plain/serve.c) that searches the same topologies:
-# requests a second by sessions and by workers, four requests of each session under way at a time; the time from a request to its reply for one
-# client that asks one at a time; memory with 256 sessions; and the time that the processor is busy while 256 sessions of 16 elements are silent.
+# the time from a request to its reply for one client that asks one at a time; requests a second by sessions and by workers, four requests of each
+# session under way at a time, with the processor time of an answer; memory with 256 sessions; and how long the processor is busy while 256
+# sessions of 16 elements are silent.
 # The networks: one domain of 3 nodes; one at the limits, 1,024 nodes and 8,192 links, between drawn nodes (so most searches are new to the caches),
 # and to one of 16 nodes (so most are not); and three domains in a row, of 1 to 3 nodes each, and each at the limits with 16 links to the next. A key
 # lives for one second there, since an element has 8,192 of them. Clients (bench/plain/load.c) and server share the machine. It needs Python
@@ -126,11 +127,20 @@ def load(first, sessions, window, network, count=0, during=seconds):
     return {word: float(value) for word, value in zip(words[::2], words[1::2])}
 
 
+def loaded(server, sessions, network):
+    """What a load comes to, and how long the server's threads were busy."""
+    before = servers.Server.threads(server)
+    told = load(server.first, sessions, WINDOW, network)
+    if told:
+        told["busy"] = sum(busy - before.get(thread, (0, 0))[0] for thread, (busy, _) in servers.Server.threads(server).items())
+    return told
+
+
 def rate(told):
-    if told is None:
+    if not told or not told["answers"]:
         return "failed"
     lost = told["answers"] - told["paths"]
-    return "%.0f" % told["rate"] + (" (%.0f without a path)" % lost if lost else "")
+    return "%.0f, %.3f ms" % (told["rate"], 1000 * told["busy"] / told["answers"]) + (" (%.0f without a path)" % lost if lost else "")
 
 
 def times(network):
@@ -149,11 +159,11 @@ def rates(network):
     rows = [("plain", [])] + [("%d" % workers, []) for workers in WORKERS]
     for sessions in SESSIONS:
         with Plain(network, sessions) as plain:
-            rows[0][1].append(load(plain.first, sessions, WINDOW, network))
+            rows[0][1].append(loaded(plain, sessions, network))
     for place, workers in enumerate(WORKERS, 1):
         for sessions in SESSIONS:
             with Proved(network, sessions, workers) as proved:
-                rows[place][1].append(load(proved.first, sessions, WINDOW, network))
+                rows[place][1].append(loaded(proved, sessions, network))
     for name, told in rows:
         print("| %s | %s | %s |" % (network.name, name, " | ".join(map(rate, told))), flush=True)
 
@@ -168,7 +178,7 @@ if "times" in parts:
     for network in known:
         times(network)
 if "rates" in parts:
-    heading("Requests a second", "workers", *("%d sessions" % sessions for sessions in SESSIONS))
+    heading("Requests a second, processor time of an answer", "workers", *("%d sessions" % sessions for sessions in SESSIONS))
     for network in known:
         rates(network)
 if "memory" in parts:
