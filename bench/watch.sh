@@ -430,7 +430,7 @@ for file in Invariants Answers; do
 done
 
 cd "$crate"
-${RT:-rt} run 2>"$copy/log" || {
+rt run 2>"$copy/log" || {
     tail -40 "$copy/log" >&2
     exit 1
 }
