@@ -6,6 +6,7 @@ mod answer;
 mod best;
 mod cache;
 mod compare;
+mod ends;
 mod kept;
 mod key;
 mod nexts;

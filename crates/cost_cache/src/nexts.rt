@@ -1,70 +1,112 @@
 //! The next link of the chosen segment of each node.
-ghost use Rattle.std.specs.Prelude.{◌≡◌, ◌<◌, length, IfOk, MatchOption};
-ghost use Rattle.te_links.specs.Rows.{IsTopology};
+ghost use Rattle.std.specs.Prelude.{◌≡◌, ◌<◌, length, IfOk, MatchOption, Some, slice_get};
+ghost use Rattle.te_links.specs.Rows.{IsTopology, IsInOrder};
+ghost use Rattle.te_links.specs.Index.{LinkBeginsAt};
+ghost use Rattle.walk_laws.specs.Walks.{AdmitsNode};
 ghost use Rattle.path_search.specs.Search.{AreLabels};
+ghost use Rattle.path_search.specs.Segments.{AreOpen, IsLoose};
 ghost use Rattle.cost_cache.specs.Entries.{AreNexts};
-ghost use Rattle.cost_cache.specs.Hops.{IsHopAt, IsNoHop, first_kept};
+ghost use Rattle.cost_cache.specs.Hops.{AreEnds, IsTightNext, IsFirstNext, IsNextAt};
 
+use crate::ends::ends_of;
 use crate::kept::Next;
-use dom_base::{NoMemory, Query, Seed, ends_at};
-use path_search::{Labels, tight_step};
+use dom_base::{Addr, Label, NoMemory, Query, Seed};
+use path_constraints::{allows, weight};
+use path_search::Labels;
 use std::alloc::Global;
 use te_links::Links;
 
-// The next link from the node at a place.
-#[derive(Clone, Copy)]
-struct Hop {
-    tail: u32,
-    next: Next,
-}
-
-// The link at a place as a next link, if it is tight from a node where no segment ends.
-fn next_at<'a, G: Links<'a>>(
+// Where a link from a node leads, if it is tight: its weight and the label of its end make up the
+// node's label. Most links are told apart by the label of their end alone.
+fn tight_next<'a, G: Links<'a>>(
     links: &mut G,
     query: &Query,
-    seeds: &[Seed],
     labels: &Labels,
+    place: u32,
+    _node: Addr,
+    label: &Label,
     index: u32,
-) -> Option<Hop>
+) -> Option<Next>
     requires rules { IsTopology (G.rows links.old) }
-    requires labels { AreLabels (G.rows links.old) query.now seeds.now labels.now }
-    requires index { index < length (G.rows links.old).links }
-    ensures hop { MatchOption result (IsNoHop (G.rows links.old) query.now seeds.now labels.now index) (IsHopAt (G.rows links.old) query.now seeds.now labels.now index) }
+    requires labels { AreOpen (G.rows links.old) query.now labels.now }
+    requires node { AdmitsNode (G.rows links.old) query.now _node }
+    requires place { slice_get (G.rows links.old).nodes place ≡ Some _node }
+    requires begins { LinkBeginsAt (G.rows links.old).nodes (G.rows links.old).links place index }
+    ensures next { MatchOption result (IsLoose (G.rows links.old) query.now labels.now _node label.now index) (IsTightNext (G.rows links.old) query.now labels.now _node label.now index) }
     ensures same { G.rows links.new ≡ G.rows links.old }
 {
-    let link = links.link_at(index);
-    let Some(tail) = links.find_node(link.from) else {
+    let (link, head) = links.link_with_head(index);
+    let Some(rest) = labels.at(head) else {
         return None;
     };
-    let Some(label) = labels.at(tail) else {
-        return None;
-    };
-    let Some(step) = tight_step(links, query, labels, link.from, &label, index) else {
-        return None;
-    };
-    if ends_at(seeds, link.from, &label) {
-        return None;
-    }
-    Some(Hop {
-        tail,
-        next: Next {
+    let whole = label.cost.get();
+    let part = rest.cost.get();
+    if part < whole
+        && rest.exit == label.exit
+        && whole - part == weight(link, query.metric)
+        && allows(query, link)
+    {
+        Some(Next {
             far: link.far,
-            end: step.head,
-        },
-    })
-}
-
-// Keeps the first next link of a node.
-fn keep_first(nexts: &mut Vec<Option<Next>>, hop: Hop)
-    requires { hop.tail < length nexts.old.items }
-    ensures { nexts.new.items ≡ first_kept nexts.old.items hop }
-{
-    if nexts[hop.tail as usize].is_none() {
-        nexts[hop.tail as usize] = Some(hop.next);
+            end: head,
+        })
+    } else {
+        None
     }
 }
 
-/// The next link of the chosen segment of each node with a label, each link read twice at most.
+// The first tight link from the node at a place.
+fn first_next<'a, G: Links<'a>>(
+    links: &mut G,
+    query: &Query,
+    labels: &Labels,
+    place: u32,
+    node: Addr,
+    label: &Label,
+) -> Option<Next>
+    requires labels { AreOpen (G.rows links.old) query.now labels.now }
+    requires node { AdmitsNode (G.rows links.old) query.now node }
+    requires place { slice_get (G.rows links.old).nodes place ≡ Some node }
+    ensures next { IsFirstNext (G.rows links.old) query.now labels.now node label.now result }
+    ensures same { G.rows links.new ≡ G.rows links.old }
+    ensures order { IsInOrder (G.rows links.old) }
+{
+    let leaving = links.links_from(place);
+    for index in leaving {
+        if let Some(next) = tight_next(links, query, labels, place, node, label, *index) {
+            return Some(next);
+        }
+    }
+    None
+}
+
+// The next link of the node at a place, if it has a label and its segment goes on.
+fn next_of<'a, G: Links<'a>>(
+    links: &mut G,
+    query: &Query,
+    _seeds: &[Seed],
+    labels: &Labels,
+    ends: &[bool],
+    place: u32,
+) -> Option<Next>
+    requires labels { AreLabels (G.rows links.old) query.now _seeds.now labels.now }
+    requires ends { AreEnds (G.rows links.old) _seeds.now labels.now ends.now }
+    requires place { place < length (G.rows links.old).nodes }
+    ensures next { IsNextAt (G.rows links.old) query.now _seeds.now labels.now place result }
+    ensures same { G.rows links.new ≡ G.rows links.old }
+{
+    if ends[place as usize] {
+        return None;
+    }
+    let Some(label) = labels.at(place) else {
+        return None;
+    };
+    let node = links.node_at(place);
+    first_next(links, query, labels, place, node, &label)
+}
+
+/// The next link of the chosen segment of each node with a label: of the links from the node, each
+/// is read at most once.
 pub(crate) fn nexts_of<'a, G: Links<'a>>(
     alloc: Global,
     links: &mut G,
@@ -76,11 +118,10 @@ pub(crate) fn nexts_of<'a, G: Links<'a>>(
     ensures nexts { IfOk result (λ nexts. AreNexts (G.rows links.old) query.now seeds.now labels.now nexts.items) }
     ensures same { G.rows links.new ≡ G.rows links.old }
 {
-    let mut nexts = Vec::from_elem(alloc, None, links.node_count() as usize)?;
-    for index in 0..links.link_count() {
-        if let Some(hop) = next_at(links, query, seeds, labels, index) {
-            keep_first(&mut nexts, hop);
-        }
+    let ends = ends_of(alloc, links, seeds, labels)?;
+    let mut nexts = Vec::new(alloc);
+    for place in 0..links.node_count() {
+        nexts.push(next_of(links, query, seeds, labels, &ends, place))?;
     }
     Ok(nexts)
 }

@@ -13,6 +13,7 @@ mod source;
 mod store;
 mod stream;
 mod supply;
+mod waits;
 mod whole;
 mod wire;
 
@@ -25,5 +26,5 @@ pub use sockets::{PortListener, SocketLink, SocketPorts};
 pub use source::{InputSource, MemorySource, Piece, Source, SteadySource};
 pub use store::{FileStore, MemoryStore, Store, StoreError};
 pub use stream::{Got, MemoryStream, SteadyStream, Stream};
-pub use whole::{ReadError, WriteFailed, read_all, write_all};
+pub use whole::{ReadError, WriteFailed, read_all, write_all, write_whole};
 pub use wire::{MemoryLink, Wire};

@@ -3,7 +3,7 @@ use Rattle.std.proofs.Common.{◌≡◌, ◌≤◌, ℕ, true, List, length, Som
 use Rattle.std.specs.declared.option.Option.{Option}
 use Rattle.std.specs.Io.KnownBytes.{Appends}
 use Rattle.dom_base.specs.declared.names.As.{As}
-use Rattle.dom_edge.specs.Stores.{Files, HasFile, IfFile}
+use Rattle.dom_edge.specs.Stores.{Files, IfFile}
 use Rattle.dom_edge.specs.Whole.{AppendsSome}
 use Rattle.plant_text.specs.declared.fault.NetFault.{NetFault}
 use Rattle.plant_text.specs.declared.settings.NetworkParts.{NetworkParts}
@@ -23,31 +23,30 @@ use Rattle.plant_bulk.specs.Telling.{tally_text}
 use Rattle.pce_tool.specs.declared.route.Route.{Route}
 use Rattle.pce_tool.specs.declared.status.Status.{Status}
 use Rattle.pce_tool.specs.declared.status.Status.TheVariants as status
-use Rattle.pce_tool.specs.Limits.{settings_max}
+use Rattle.network_files.specs.Loading.{HasNetwork, settings_max}
 use Rattle.pce_tool.specs.Worlds.{World, WroteNothing}
 use Rattle.pce_tool.specs.Parts.{IsBadSettings, IsFileStatus, IsFinished}
-use Rattle.pce_tool.specs.Networks.{BlindEnds, BulkEnds, HasNetwork, HasScript, IsBlindStatus, IsCounted, IsPathStatus, IsPlayStatus, IsSettingsFault, IsStopStatus, PathEnds, PlayEnds, around_of, question_of, status_of}
+use Rattle.pce_tool.specs.Networks.{BlindEnds, BulkEnds, HasScript, IsBlindStatus, IsCounted, IsPathStatus, IsPlayStatus, IsSettingsFault, IsStopStatus, PathEnds, PlayEnds, around_of, question_of, status_of}
 
 -- ---- settings
 
-in_file : (files : Option Files) (name bytes : List ℕ) (line : ℕ) (fault : NetFault) → HasFile files name bytes → IsSettingsFault bytes line fault →
-    IfFile files name (λ b. IsSettingsFault b line fault)
-in_file None name bytes line fault has is = tt
-in_file (Some fs) name bytes line fault has is = (bytes, has, is)
+in_file : (files : Option Files) (name : List ℕ) (line : ℕ) (fault : NetFault) → line ≡ 0 → IfFile files name (λ b. IsFaulty b fault) → IfFile files name (λ b. IsSettingsFault b line fault)
+in_file None name line fault zero is = tt
+in_file (Some fs) name line fault zero is = (is.0, is.1, (zero, is.2))
 
-pub settings_status : (files : Option Files) (name bytes : List ℕ) (fault : NetFault) (counts : ℕ × ℕ) (failed : List ℕ) → HasFile files name bytes → IsFaulty bytes fault →
+pub settings_status : (files : Option Files) (name : List ℕ) (fault : NetFault) (counts : ℕ × ℕ) (failed : List ℕ) → IfFile files name (λ b. IsFaulty b fault) →
     (s : Status) → IsBadSettings name fault s → IsFileStatus files name settings_max IsSettingsFault counts failed s
-settings_status files name bytes fault counts failed has is status.Ok bad = absurd bad
-settings_status files name bytes fault counts failed has is status.Usage bad = absurd bad
-settings_status files name bytes fault counts failed has is status.ReadFault bad = absurd bad
-settings_status files name bytes fault counts failed has is status.WriteFault bad = absurd bad
-settings_status files name bytes fault counts failed has is (status.BadNetwork file line other) bad =
-    (bad.0, in_file files name bytes line other has (bad.1, subst (IsFaulty bytes) (sym bad.2) is))
-settings_status files name bytes fault counts failed has is (status.BadLine line) bad = absurd bad
-settings_status files name bytes fault counts failed has is status.NoMemory bad = tt
-settings_status files name bytes fault counts failed has is (status.BadRequest why) bad = absurd bad
-settings_status files name bytes fault counts failed has is (status.Refuted place) bad = absurd bad
-settings_status files name bytes fault counts failed has is (status.TooLarge file) bad = absurd bad
+settings_status files name fault counts failed is status.Ok bad = absurd bad
+settings_status files name fault counts failed is status.Usage bad = absurd bad
+settings_status files name fault counts failed is status.ReadFault bad = absurd bad
+settings_status files name fault counts failed is status.WriteFault bad = absurd bad
+settings_status files name fault counts failed is (status.BadNetwork file line other) bad =
+    (bad.0, in_file files name line other bad.1 (subst (λ (f : NetFault). IfFile files name (λ b. IsFaulty b f)) (sym bad.2) is))
+settings_status files name fault counts failed is (status.BadLine line) bad = absurd bad
+settings_status files name fault counts failed is status.NoMemory bad = tt
+settings_status files name fault counts failed is (status.BadRequest why) bad = absurd bad
+settings_status files name fault counts failed is (status.Refuted place) bad = absurd bad
+settings_status files name fault counts failed is (status.TooLarge file) bad = absurd bad
 
 -- ---- a script
 

@@ -27,7 +27,8 @@ use Rattle.blind_script.specs.blind_play.Turns.{Turn as BlindTurn}
 use Rattle.blind_script.specs.blind_play.Turns.{all_heard, trace_of}
 use Rattle.blind_script.specs.Scripts.{Playing as BlindlyPlaying}
 use Rattle.pce_tool.specs.declared.route.Route.{Route}
-use Rattle.pce_tool.specs.Networks.{HasNetwork, question_of}
+use Rattle.network_files.specs.Loading.{HasNetwork}
+use Rattle.pce_tool.specs.Networks.{question_of}
 use Rattle.pce_tool.specs.Tasks.{Task, Blind, Bulk, Path, Play}
 
 -- A run is right; and without a parent no id comes round in it, so what is said of it then has no premise.

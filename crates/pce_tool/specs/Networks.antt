@@ -2,13 +2,13 @@
 use Rattle.std.specs.Prelude.{◌≡◌, ◌⊎◌, ◌<◌, ◌≤◌, ℕ, true, false, List, length, Option, Some, None, IfSome}
 use Rattle.std.specs.Io.KnownBytes.{Appends}
 use Rattle.dom_base.specs.declared.names.As.{As}
-use Rattle.dom_edge.specs.Stores.{Files, HasFile}
+use Rattle.dom_edge.specs.Stores.{Files}
 use Rattle.dom_edge.specs.Whole.{AppendsSome}
 use Rattle.plant_text.specs.declared.fault.NetFault.{NetFault}
 use Rattle.plant_text.specs.declared.fault.NetFault.TheVariants.{NoElement}
 use Rattle.plant_text.specs.declared.settings.NetworkParts.{NetworkParts}
 use Rattle.plant_text.specs.Networks.{with_path}
-use Rattle.plant_text.specs.Reads.{IsFaulty, Reads}
+use Rattle.plant_text.specs.Reads.{IsFaulty}
 use Rattle.plant_text.specs.Settings.{is_element}
 use Rattle.plant_bulk.specs.plant_script.declared.stop.Stop.{Stop}
 use Rattle.plant_bulk.specs.plant_script.declared.stop.Stop.TheVariants as stop
@@ -20,7 +20,7 @@ use Rattle.plant_bulk.specs.Telling.{tally_text}
 use Rattle.blind_script.specs.Scripts as blind
 use Rattle.pce_tool.specs.declared.status.Status.{Status}
 use Rattle.pce_tool.specs.declared.status.Status.TheVariants as status
-use Rattle.pce_tool.specs.Limits.{settings_max}
+use Rattle.network_files.specs.Loading.{HasNetwork, settings_max}
 use Rattle.pce_tool.specs.Worlds.{World, HasInput, HasRisen, WroteNothing, input_name}
 use Rattle.plant_bulk.specs.plant_client.declared.question.Question.{Question}
 use Rattle.plant_bulk.specs.plant_client.Asking.{AskStops, Asks}
@@ -29,13 +29,6 @@ use Rattle.pce_tool.specs.declared.route.Route.{Route}
 use Rattle.pce_tool.specs.Parts.{IsFileStatus}
 use Rattle.pce_tool.specs.Run.{Ends}
 use Rattle.pce_tool.specs.Tasks.{Task, Blind, Bulk, Domain, Path, Play}
-
--- the settings in the file of that name
-pub record HasNetwork (files : Option Files) (name : List ℕ) (n : NetworkParts) : Type 0 where
-  pub bytes : List ℕ
-  pub is_file : HasFile files name bytes
-  pub within : length bytes ≤ settings_max
-  pub is_text : Reads bytes n
 
 -- the bytes are no settings, for that reason; a fault of settings has no line
 abbrev pub IsSettingsFault : List ℕ → ℕ → NetFault → Type 0

@@ -5,8 +5,9 @@ ghost use Rattle.te_text.specs.Reads.{IsFaulty};
 ghost use Rattle.te_links.specs.declared.fault.TopoFault.{TopoFault};
 ghost use Rattle.path_certificate.specs.Rows.{AreLabelRows};
 ghost use Rattle.path_certificate.specs.Text.{certificate_in};
-ghost use Rattle.pce_tool.specs.Limits.{certificate_max, settings_max};
-ghost use Rattle.pce_tool.specs.Networks.{HasNetwork, IsSettingsFault};
+ghost use Rattle.network_files.specs.Loading.{HasNetwork, settings_max};
+ghost use Rattle.pce_tool.specs.Limits.{certificate_max};
+ghost use Rattle.pce_tool.specs.Networks.{IsSettingsFault};
 ghost use Rattle.dom_edge.specs.Stores.{HasFile};
 ghost use Rattle.topology_files.specs.Loading.{HasTopology, topology_max};
 ghost use Rattle.diverse_pairs.specs.Potentials.{HasRising};
@@ -14,13 +15,13 @@ ghost use Rattle.diverse_pairs.specs.Text.{pair_in};
 ghost use Rattle.pce_tool.specs.Files.{HasCertificate, HasPairCertificate, IsTopo};
 ghost use Rattle.pce_tool.specs.Parts.{IsFileStatus, IsBadAt, IsBadSettings, IsNoFault, IsTooLarge};
 
-use crate::limits::{CERTIFICATE_MAX, SETTINGS_MAX};
+use crate::limits::CERTIFICATE_MAX;
 use crate::status::Status;
 use diverse_pairs::{PairCertificate, read_pair};
 use dom_base::{Bytes, Text};
 use dom_edge::{Store, StoreError};
 use path_certificate::{Certificate, read_certificate};
-use plant_text::{NetError, NetFault, Network, read_network};
+use plant_text::{NetFault, Network};
 use std::alloc::Global;
 use te_links::{TopoFault, Topology};
 use te_text::TextError;
@@ -154,10 +155,11 @@ pub(crate) fn load_network<S: Store>(
     ensures files { S.files store.new ≡ S.files store.old }
     ensures later { S.faults store.old ≤ S.faults store.new }
 {
-    let bytes = read_file(alloc, store, name, SETTINGS_MAX)?;
-    match read_network(alloc, bytes.as_slice()) {
+    match network_files::load_network(alloc, store, name) {
         Ok(network) => Ok(network),
-        Err(NetError::Fault(fault)) => Err(bad_settings(alloc, name, fault)),
-        Err(NetError::NoMemory) => Err(Status::NoMemory),
+        Err(network_files::LoadError::Failed) => Err(Status::ReadFault),
+        Err(network_files::LoadError::TooLong) => Err(too_large(alloc, name)),
+        Err(network_files::LoadError::Fault(fault)) => Err(bad_settings(alloc, name, fault)),
+        Err(network_files::LoadError::NoMemory) => Err(Status::NoMemory),
     }
 }

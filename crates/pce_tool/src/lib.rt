@@ -15,7 +15,8 @@ mod top;
 
 pub use commands::answer::reply_text;
 pub use files::{load_certificate, load_pair_certificate, load_topology};
-pub use limits::{CERTIFICATE_MAX, INPUT_MAX, SETTINGS_MAX};
+pub use limits::{CERTIFICATE_MAX, INPUT_MAX};
+pub use network_files::SETTINGS_MAX;
 pub use pair_reading::{PairRequest, read_pair_request};
 pub use reading::{RequestError, Why, read_path_request};
 pub use route::Route;

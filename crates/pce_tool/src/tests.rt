@@ -1,13 +1,11 @@
-//! Runs of the commands over memory, and each fault of the outside once.
-mod network_faults;
-mod pair_rows;
-mod rows;
+//! Runs of the commands over memory, in which each call of the outside fails in turn. What a run without a
+//! fault writes, `.ci/runs` tries on the built program.
+mod runs;
 
 use crate::{Status, run};
 use dom_base::{Bytes, List, Text};
 use dom_edge::{MemorySink, MemorySource, MemoryStore};
-use pair_rows::PAIR_ROWS;
-use rows::{FILES, ROWS, Row};
+use runs::{FILES, PATH, PLAY, Run, VERIFY};
 use std::alloc::Global;
 use std::process::Abort;
 use std::test::Fail;
@@ -16,9 +14,9 @@ fn bytes_of(alloc: Global, bytes: &[u8]) -> Result<Bytes, Fail> {
     Ok(List::from_vec(bytes.to_vec(alloc)?))
 }
 
-fn store_of(alloc: Global, named: &[(&str, &[u8])], fails: List<u64>) -> Result<MemoryStore, Fail> {
+fn store_of(alloc: Global, fails: List<u64>) -> Result<MemoryStore, Fail> {
     let mut files = Vec::new(alloc);
-    for (name, text) in named {
+    for (name, text) in &FILES {
         files.push((Text::copy_of(alloc, name)?, bytes_of(alloc, text)?))?;
     }
     Ok(MemoryStore::new(alloc, List::from_vec(files), fails))
@@ -54,7 +52,6 @@ fn ended(
 // The one call of the outside that is to fail, by its number from 0.
 #[derive(Clone, Copy)]
 enum Fault {
-    Nowhere,
     Store(u64),
     Input(u64),
     Output(u64),
@@ -81,71 +78,83 @@ fn in_output(fault: Fault) -> Option<u64> {
     }
 }
 
-// Runs a command over the files; answers what it wrote, and the text of its status.
-fn told(
-    alloc: Global,
-    files: &[(&str, &[u8])],
-    words: &str,
-    input: &[u8],
-    fault: Fault,
-) -> Result<(MemorySink, String), Fail> {
-    let words = words_of(alloc, words)?;
-    let mut store = store_of(alloc, files, failing(alloc, in_store(fault))?)?;
-    let mut source = MemorySource::new(bytes_of(alloc, input)?, failing(alloc, in_input(fault))?);
+// Runs a command; answers what it wrote, and the text of its status.
+fn told(alloc: Global, run: &Run, fault: Fault) -> Result<(MemorySink, String), Fail> {
+    let words = words_of(alloc, run.words)?;
+    let mut store = store_of(alloc, failing(alloc, in_store(fault))?)?;
+    let fails = failing(alloc, in_input(fault))?;
+    let mut source = MemorySource::new(bytes_of(alloc, run.input)?, fails);
     let mut sink = MemorySink::new(alloc, failing(alloc, in_output(fault))?);
     let status = ended(alloc, words.as_slice(), &mut store, &mut source, &mut sink);
     let text = format!(in alloc; "{status}")?;
     Ok((sink, text))
 }
 
-fn is_as_told(alloc: Global, rt: &impl Abort, row: &Row) -> Result<(), Fail> {
-    let (sink, status) = told(alloc, &FILES, row.words, row.input, Fault::Nowhere)?;
-    assert_eq!(rt; status.as_str(), row.status, "{}", row.words);
-    assert_eq!(rt; sink.bytes(), row.output, "{}", row.words);
+// What the first so many writes of a run have.
+fn text_of(alloc: Global, run: &Run, count: usize) -> Result<Vec<u8>, Fail> {
+    let mut text = Vec::new(alloc);
+    for piece in run.pieces.iter().take(count) {
+        text.extend_from_slice(piece)?;
+    }
+    Ok(text)
+}
+
+// Where that call fails, the run ends with that status, after so many writes.
+fn ends_there(
+    alloc: Global,
+    rt: &impl Abort,
+    run: &Run,
+    fault: Fault,
+    status: &str,
+    count: usize,
+) -> Result<(), Fail> {
+    let (sink, told) = told(alloc, run, fault)?;
+    assert_eq!(rt; told.as_str(), status, "{}", run.words);
+    let text = text_of(alloc, run, count)?;
+    assert_eq!(rt; sink.bytes(), text.as_slice(), "{}", run.words);
     Ok(())
 }
 
-#[test]
-fn commands_write_what_they_should(rt: HostRuntime) -> Result<(), Fail> {
-    for row in ROWS {
-        is_as_told(rt.alloc(), &rt, &row)?;
+fn reads_fail(alloc: Global, rt: &impl Abort, run: &Run) -> Result<(), Fail> {
+    for (call, count) in run.files.iter().enumerate() {
+        let fault = Fault::Store(call as u64);
+        ends_there(alloc, rt, run, fault, "read fault", *count)?;
+    }
+    for (call, count) in run.reads.iter().enumerate() {
+        let fault = Fault::Input(call as u64);
+        ends_there(alloc, rt, run, fault, "read fault", *count)?;
+    }
+    Ok(())
+}
+
+fn writes_fail(alloc: Global, rt: &impl Abort, run: &Run) -> Result<(), Fail> {
+    for call in 0..run.pieces.len() {
+        let fault = Fault::Output(call as u64);
+        ends_there(alloc, rt, run, fault, "write fault", call)?;
+    }
+    Ok(())
+}
+
+// No call comes behind the last of each kind.
+fn no_more_calls(alloc: Global, rt: &impl Abort, run: &Run) -> Result<(), Fail> {
+    let whole = run.pieces.len();
+    let calls = [
+        Fault::Store(run.files.len() as u64),
+        Fault::Input(run.reads.len() as u64),
+        Fault::Output(whole as u64),
+    ];
+    for fault in calls {
+        ends_there(alloc, rt, run, fault, "ok", whole)?;
     }
     Ok(())
 }
 
 #[test]
-fn pairs_are_checked(rt: HostRuntime) -> Result<(), Fail> {
-    for row in PAIR_ROWS {
-        is_as_told(rt.alloc(), &rt, &row)?;
-    }
-    Ok(())
-}
-
-// Each call of the outside fails once; the last of each kind is past the last call.
-const FAULTS: [(Fault, &str); 8] = [
-    (Fault::Store(0), "read fault"),
-    (Fault::Store(1), "read fault"),
-    (Fault::Store(2), "ok"),
-    (Fault::Input(0), "read fault"),
-    (Fault::Input(1), "read fault"),
-    (Fault::Input(2), "ok"),
-    (Fault::Output(0), "write fault"),
-    (Fault::Output(1), "ok"),
-];
-
-#[test]
-fn faults_are_told_and_write_a_prefix(rt: HostRuntime) -> Result<(), Fail> {
-    let request = b"2003001C0212000C00000000000000010412000C0A0000010A000003";
-    for (fault, expected) in FAULTS {
-        let (sink, status) = told(
-            rt.alloc(),
-            &FILES,
-            "verify one.txt holds.cert",
-            request,
-            fault,
-        )?;
-        assert_eq!(rt; status.as_str(), expected);
-        assert!(rt; b"holds\n".starts_with(sink.bytes()));
+fn runs_tell_each_fault_and_write_what_comes_before(rt: HostRuntime) -> Result<(), Fail> {
+    for run in [VERIFY, PLAY, PATH] {
+        reads_fail(rt.alloc(), &rt, &run)?;
+        writes_fail(rt.alloc(), &rt, &run)?;
+        no_more_calls(rt.alloc(), &rt, &run)?;
     }
     Ok(())
 }

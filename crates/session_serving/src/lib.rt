@@ -9,7 +9,6 @@ mod port;
 mod sessions;
 mod ticking;
 mod turn;
-mod writing;
 
 pub use carrying::carry_links;
 pub use desks::{Desk, DeskRefused};

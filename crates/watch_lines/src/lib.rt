@@ -4,6 +4,5 @@
 mod answers;
 mod serving;
 mod taking;
-mod writing;
 
 pub use serving::{Watched, serve_watch};

@@ -5,8 +5,7 @@ ghost use Rattle.watch_lines.specs.Serving.{Feeds, GoesOn, IsOpen};
 
 use crate::answers::write_answer;
 use crate::serving::Watched;
-use crate::writing::write_whole;
-use dom_edge::Wire;
+use dom_edge::{Wire, write_whole};
 use std::alloc::Global;
 use std::sync::Wait;
 use ted_watch::Watcher;

@@ -4,7 +4,7 @@ use dom_edge::{
     Accepted, Clock, Got, Listener, Opened, Ports, Put, SocketLink, SocketPorts, WallClock, Wire,
 };
 use std::io::{self, ErrorKind, Read, Write};
-use std::net::{IpAddr, Ipv4Addr, TcpListener, TcpStream};
+use std::net::{IpAddr, Ipv4Addr, OpenStream, TcpListener, TcpStream};
 use std::test::Fail;
 use std::time::{Duration, Instant};
 
@@ -140,9 +140,11 @@ impl Write for Broken {
     }
 }
 
+impl OpenStream for Broken {}
+
 // What a read and a write give over a stream that is broken in that way.
-fn answers(kind: Option<ErrorKind>) -> (Got, Put) {
-    let mut link = SocketLink::new(Broken { kind });
+fn answers(rt: HostRuntime, kind: Option<ErrorKind>) -> (Got, Put) {
+    let mut link = SocketLink::new(rt, Broken { kind });
     (get(&mut link, &mut [0; 2]), put(&mut link, b"ab"))
 }
 
@@ -154,6 +156,6 @@ fn broken_streams_are_told_apart(rt: HostRuntime) {
         (Some(ErrorKind::ConnectionReset), Got::Failed),
         (None, Got::End),
     ] {
-        assert_eq!(rt; answers(kind), (wanted, Put::Failed));
+        assert_eq!(rt; answers(rt, kind), (wanted, Put::Failed));
     }
 }

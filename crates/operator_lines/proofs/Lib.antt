@@ -1,0 +1,4 @@
+mod Elements
+mod Doing
+mod Pieces
+mod Turning
