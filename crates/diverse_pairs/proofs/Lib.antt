@@ -14,6 +14,10 @@ pub mod Whole
 pub mod RowSpelling
 pub mod ReadAgain
 pub mod Lowering
+pub mod Along
+pub mod Nearest
+pub mod Settling
+pub mod FirstAmong
 pub mod Walking
 pub mod Flow
 pub mod Hops

@@ -1,6 +1,6 @@
--- Distances that are lowered over arcs until none falls.
-use Rattle.std.proofs.Common.{◌≡◌, ◌≢◌, inl, inr, ℕ, ◌+◌, ◌<◌, ◌≤◌, Bool, true, false, List, length, arith, sym, ◌∙◌, ap, subst, None, Some, replicate}
-use Rattle.std.specs.Prelude.{MatchBool, slice_set, sum}
+-- A distance that is lowered over an arc, and distances at first.
+use Rattle.std.proofs.Common.{◌≡◌, ◌≢◌, inl, inr, ℕ, ◌+◌, ◌<◌, ◌≤◌, List, length, arith, sym, ◌∙◌, ap, None, Some, replicate}
+use Rattle.std.specs.Prelude.{slice_set, sum}
 use Rattle.std.specs.declared.option.Option.{Option}
 use Rattle.std.proofs.lemmas.Bool.{cases_lt}
 use Rattle.std.proofs.lemmas.Bool.Decides.{eqb_tells}
@@ -10,16 +10,16 @@ use Rattle.std.proofs.lemmas.List.Sums.{sum_by-set}
 use Rattle.diverse_pairs.specs.declared.arcs.Arc.{Arc}
 use Rattle.diverse_pairs.specs.declared.arcs.TheConstants.{UNREACHED}
 use Rattle.diverse_pairs.specs.Arcs.{IsArc, at, IsAmong}
-use Rattle.diverse_pairs.specs.Distances.{IsLow, AreLow, Lowers, Falls, AreMade}
+use Rattle.diverse_pairs.specs.Distances.{Lowers, Falls, AreMade}
 
 module _ (arcs : List (Option Arc)) (t i : ℕ) (a : Arc) (old new : List ℕ) (is_arc : IsArc arcs i a) (among : IsAmong (length old) a) (low : Lowers a old new) where
-  here : at new a.tail ≡ a.weight + at old a.head
+  pub here : at new a.tail ≡ a.weight + at old a.head
   here = ap (λ ds. at ds a.tail) low.is ∙ get_or-set_same old a.tail (a.weight + at old a.head) 0 among.tail
 
-  others : (n : ℕ) → n ≢ a.tail → at new n ≡ at old n
+  pub others : (n : ℕ) → n ≢ a.tail → at new n ≡ at old n
   others n other = ap (λ ds. at ds n) low.is ∙ get_or-set_other old a.tail n (a.weight + at old a.head) 0 other
 
-  lower : (n : ℕ) → at new n ≤ at old n
+  pub lower : (n : ℕ) → at new n ≤ at old n
   lower n = elim (eqb_tells n a.tail) [
     | inl same ↦ omega (arith, here, low.better, ap (at new) same.1, ap (at old) same.1)
     | inr other ↦ omega (arith, others n other.1)
@@ -50,26 +50,6 @@ module _ (arcs : List (Option Arc)) (t i : ℕ) (a : Arc) (old new : List ℕ) (
       let one : sum new ≡ sum (slice_set old a.tail (a.weight + at old a.head)) = ap sum low.is in
       omega (arith, sums, one, low.better)
 
--- ---- one pass over the arcs
-
--- the first i arcs were gone over
-abbrev pub Passed : List (Option Arc) → ℕ → List ℕ → List ℕ → Bool → Type 0
-Passed arcs i start now fell = MatchBool fell (Falls start now) ((now ≡ start) × ((j : ℕ) (a : Arc) → j < i → IsArc arcs j a → IsLow now a))
-
-pub lowered_once : (arcs : List (Option Arc)) (i : ℕ) (start now new : List ℕ) (fell : Bool) → Passed arcs i start now fell → Falls now new → Passed arcs (i + 1) start new true
-lowered_once arcs i start now new true passed falls = omega (arith, passed, falls)
-lowered_once arcs i start now new false passed falls = subst (λ ds. Falls ds new) passed.0 falls
-
-pub kept : (arcs : List (Option Arc)) (i : ℕ) (start now new : List ℕ) (fell : Bool) → Passed arcs i start now fell → new ≡ now → ((a : Arc) → IsArc arcs i a → IsLow new a) → Passed arcs (i + 1) start new fell
-kept arcs i start now new true passed same low = subst (Falls start) (sym same) passed
-kept arcs i start now new false passed same low = (
-  same ∙ passed.0,
-  λ j a before is_arc. elim (cases_lt j i) [
-    | inl lt ↦ subst (λ ds. IsLow ds a) (sym same) (passed.1 j a lt is_arc)
-    | inr ge ↦ let one : j ≡ i = omega arith in low a (subst (λ k. IsArc arcs k a) one is_arc)
-  ],
-)
-
 pub one_arc : (arcs : List (Option Arc)) (i : ℕ) (a b : Arc) → IsArc arcs i a → IsArc arcs i b → a ≡ b
 one_arc arcs i a b is other = let both : Some a ≡ Some b = sym is ∙ other in cc
 
@@ -78,33 +58,6 @@ arc_within arcs j a is = elim (cases_lt j (length arcs)) [
   | inl lt ↦ lt
   | inr ge ↦ let none : None ≡ Some a = sym (get_or_past arcs j None ge) ∙ is in cc
 ]
-
-pub finished : (arcs : List (Option Arc)) (i : ℕ) (start now : List ℕ) (fell : Bool) → length arcs ≤ i → Passed arcs i start now fell →
-    MatchBool fell (Falls start now) ((now ≡ start) × AreLow arcs now)
-finished arcs i start now true long passed = passed
-finished arcs i start now false long passed = (passed.0, λ j a is_arc. passed.1 j a (omega (arith, arc_within arcs j a is_arc, long)) is_arc)
-
--- what a pass over the arcs has come to
-pub record Pass (arcs : List (Option Arc)) (t i : ℕ) (start now : List ℕ) (fell : Bool) : Type 0 where
-  pub made : AreMade arcs t now
-  pub long : length now ≡ length start
-  pub passes : Passed arcs i start now fell
-
-pub pass_lowered : (arcs : List (Option Arc)) (t i : ℕ) (start now new : List ℕ) (fell : Bool) (a : Arc) → Pass arcs t i start now fell → IsArc arcs i a → IsAmong (length now) a → Lowers a now new →
-    Pass arcs t (i + 1) start new true
-pass_lowered arcs t i start now new fell a pass is_arc among low = record {
-  made = lowered arcs t i a now new is_arc among low pass.made;
-  long = same_length arcs t i a now new is_arc among low ∙ pass.long;
-  passes = lowered_once arcs i start now new fell pass.passes (falls arcs t i a now new is_arc among low);
-}
-
-pub pass_kept : (arcs : List (Option Arc)) (t i : ℕ) (start now new : List ℕ) (fell : Bool) → Pass arcs t i start now fell → new ≡ now → ((a : Arc) → IsArc arcs i a → IsLow now a) →
-    Pass arcs t (i + 1) start new fell
-pass_kept arcs t i start now new fell pass same low = record {
-  made = subst (AreMade arcs t) (sym same) pass.made;
-  long = ap length same ∙ pass.long;
-  passes = kept arcs i start now new fell pass.passes same (λ a is_arc. subst (λ ds. IsLow ds a) (sym same) (low a is_arc));
-}
 
 -- ---- at first
 

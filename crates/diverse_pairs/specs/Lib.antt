@@ -12,7 +12,10 @@ pub mod PairText
 pub mod Steps
 pub mod Network
 pub mod Arcs
+pub mod Along
 pub mod Distances
+pub mod Blocks
+pub mod Settling
 pub mod Paths
 pub mod Residual
 pub mod Shown

@@ -1,5 +1,5 @@
 -- Paths over arcs in use.
-use Rattle.std.specs.Prelude.{◌≡◌, ◌≢◌, ◌⊎◌, ◌<◌, ◌≤◌, ℕ, Bool, true, not, List, [], ◌∷◌, slice_set}
+use Rattle.std.specs.Prelude.{◌≡◌, ◌≢◌, ◌⊎◌, ◌<◌, ◌≤◌, ℕ, Bool, true, not, List, [], ◌∷◌, slice_set, Contains}
 use Rattle.std.specs.declared.option.Option.{Option}
 use Rattle.diverse_pairs.specs.declared.arcs.Arc.{Arc}
 use Rattle.diverse_pairs.specs.Arcs.{IsArc, at, is_used, HasArcFrom}
@@ -13,6 +13,19 @@ pub record IsFirstFrom (arcs : List (Option Arc)) (in_use : List Bool) (from pla
   pub tail : arc.tail ≡ from
   pub same_head : arc.head ≡ head
   pub first : (j : ℕ) (b : Arc) → IsArc arcs j b → is_used in_use j ≡ true → b.tail ≡ from → place ≤ j
+
+-- the first of those whose places stand in a list
+pub record IsFirstAmong (arcs : List (Option Arc)) (in_use : List Bool) (from : ℕ) (places : List ℕ) (place head : ℕ) : Type 0 where
+  pub arc : Arc
+  pub is_arc : IsArc arcs place arc
+  pub used : is_used in_use place ≡ true
+  pub tail : arc.tail ≡ from
+  pub same_head : arc.head ≡ head
+  pub first : (j : ℕ) (b : Arc) → Contains places j → IsArc arcs j b → is_used in_use j ≡ true → b.tail ≡ from → place ≤ j
+
+-- no arc in use from the node has its place in the list
+abbrev pub HasNoneAmong : List (Option Arc) → List Bool → ℕ → List ℕ → Type 0
+HasNoneAmong arcs in_use from places = (j : ℕ) (b : Arc) → Contains places j → IsArc arcs j b → is_used in_use j ≡ true → b.tail ≡ from → ⊥
 
 -- the path takes at each node the first arc in use, up to the target
 abbrev pub Goes : List (Option Arc) → List Bool → ℕ → List ℕ → ℕ → Type 0

@@ -25,6 +25,7 @@ mod solve;
 mod tight;
 mod turning;
 mod verdict;
+mod waiting;
 mod writing;
 
 pub use asking::{Pair, PairError, pair_of};

@@ -1,11 +1,13 @@
 //! The path that takes the first arc at each node, of those in use.
-ghost use Rattle.std.specs.Prelude.{◌≡◌, ◌<◌, length, IfOk};
-ghost use Rattle.diverse_pairs.specs.Arcs.{AreAmong, HasArcFrom};
-ghost use Rattle.diverse_pairs.specs.Paths.{IsFirstFrom, Goes, LeadsOn, Falling};
+ghost use Rattle.std.specs.Prelude.{◌≡◌, ◌<◌, length, All, AllPairs, IfOk, MatchOption};
+ghost use Rattle.diverse_pairs.specs.Along.{AreAlong};
+ghost use Rattle.diverse_pairs.specs.Arcs.{HasArcFrom};
+ghost use Rattle.diverse_pairs.specs.Paths.{IsFirstFrom, IsFirstAmong, HasNoneAmong, Goes, LeadsOn, Falling};
 
 use crate::arcs::Arc;
 use dom_base::NoMemory;
 use std::alloc::Global;
+use te_links::Topology;
 
 // An arc and where it leads.
 #[derive(Clone, Copy)]
@@ -14,35 +16,58 @@ struct Step {
     head: usize,
 }
 
-// The first arc in use from a node.
-fn first_from(arcs: &[Option<Arc>], in_use: &[bool], from: usize) -> Step
+// The first arc in use from a node, of those at some places.
+fn first_among(arcs: &[Option<Arc>], in_use: &[bool], places: &[u32], from: usize) -> Option<Step>
     requires long { length in_use.now ≡ length arcs.now }
-    requires some { HasArcFrom arcs.now in_use.now from }
-    ensures { IsFirstFrom arcs.now in_use.now from result.arc result.head }
+    requires places { All (λ i. i < length arcs.now) places.now }
+    requires rising { AllPairs (λ i j. i < j) places.now }
+    ensures { MatchOption result (HasNoneAmong arcs.now in_use.now from places.now) (λ step. IsFirstAmong arcs.now in_use.now from places.now step.arc step.head) }
 {
-    for index in 0..arcs.len() {
+    for place in places {
+        let index = *place as usize;
         if let Some(arc) = &arcs[index]
             && in_use[index]
             && arc.tail == from
         {
-            return Step {
+            return Some(Step {
                 arc: index,
                 head: arc.head,
-            };
+            });
         }
     }
-    unreachable!()
+    None
+}
+
+// The first arc in use from a node. It runs along a link that begins or ends there.
+fn first_from(topology: &Topology, arcs: &[Option<Arc>], in_use: &[bool], from: usize) -> Step
+    requires along { AreAlong topology.now arcs.now }
+    requires long { length in_use.now ≡ length arcs.now }
+    requires some { HasArcFrom arcs.now in_use.now from }
+    ensures { IsFirstFrom arcs.now in_use.now from result.arc result.head }
+{
+    // A topology obeys the rules, so a place fits.
+    let _own = topology.own();
+    let onward = first_among(arcs, in_use, topology.links_from(from as u32), from);
+    let back = first_among(arcs, in_use, topology.links_into(from as u32), from);
+    match (onward, back) {
+        (Some(one), Some(other)) => { if other.arc < one.arc { other } else { one } }
+        (Some(one), None) => one,
+        (None, Some(other)) => other,
+        (None, None) => unreachable!(),
+    }
 }
 
 /// The path between two nodes that takes at each node the first arc in use.
 pub(crate) fn lowest_path(
     alloc: Global,
+    topology: &Topology,
     arcs: &[Option<Arc>],
     in_use: &[bool],
     _heights: &[u64],
     source: usize,
     target: usize,
 ) -> Result<Vec<usize>, NoMemory>
+    requires along { AreAlong topology.now arcs.now }
     requires long { length in_use.now ≡ length arcs.now }
     requires leads { LeadsOn arcs.now in_use.now source target }
     requires falling { Falling arcs.now in_use.now _heights.now }
@@ -51,7 +76,7 @@ pub(crate) fn lowest_path(
     let mut path = Vec::new(alloc);
     let mut here = source;
     while here != target {
-        let step = first_from(arcs, in_use, here);
+        let step = first_from(topology, arcs, in_use, here);
         path.push(step.arc)?;
         here = step.head;
     }

@@ -21,15 +21,9 @@ fn arc_of(topology: &Topology, query: &Query, index: u32) -> Option<Arc>
     let Some(link) = admitted_link(topology, query, index) else {
         return None;
     };
-    let Some(tail) = topology.find_node(link.from) else {
-        unreachable!()
-    };
-    let Some(head) = topology.find_node(link.to) else {
-        unreachable!()
-    };
     Some(Arc {
-        tail: tail as usize,
-        head: head as usize,
+        tail: topology.tail_of(index) as usize,
+        head: topology.head_of(index) as usize,
         weight: u64::from(weight(link, query.metric)),
     })
 }

@@ -4,6 +4,7 @@ ghost use Rattle.std.specs.Prelude.{◌≡◌, ◌<◌, length, IfOk, MatchOptio
 ghost use Rattle.te_links.specs.Rows.{IsTopology};
 ghost use Rattle.walk_laws.specs.Walks.{AdmitsNode};
 ghost use Rattle.diverse_pairs.specs.declared.arcs.TheConstants.{UNREACHED as unreached};
+ghost use Rattle.diverse_pairs.specs.Along.{AreAlong};
 ghost use Rattle.diverse_pairs.specs.Arcs.{at};
 ghost use Rattle.diverse_pairs.specs.declared.verdict.PairVerdict.TheVariants.{Holds};
 ghost use Rattle.diverse_pairs.specs.Conditions.{asked_of, IsVerdict};
@@ -59,15 +60,15 @@ fn paths_form(
     from: usize,
     to: usize,
 ) -> Result<PairForm, NoMemory>
-    requires arcs { length arcs.now ≡ length topology.now.links }
+    requires along { AreAlong topology.now arcs.now }
     requires in_use { length in_use.items ≡ length arcs.now }
     requires heights { length heights.now ≡ length topology.now.nodes }
     requires paths { MakePaths arcs.now from to in_use.items heights.now }
     ensures { IfOk result (ArePathsIn topology.now source arcs.now from to in_use.items heights.now) }
 {
     let potentials = potentials(alloc, topology, heights)?;
-    let one = take_path(alloc, arcs, in_use, heights, from, to)?;
-    let other = take_path(alloc, arcs, one.in_use, heights, from, to)?;
+    let one = take_path(alloc, topology, arcs, in_use, heights, from, to)?;
+    let other = take_path(alloc, topology, arcs, one.in_use, heights, from, to)?;
     let first = far_addresses(alloc, topology, source, one.path.as_slice())?;
     let second = far_addresses(alloc, topology, source, other.path.as_slice())?;
     Ok(PairForm::Paths {
@@ -101,32 +102,33 @@ fn search(
     requires { to < length topology.now.nodes }
     ensures { IfOk result (λ s. IsSearched topology.now query.now to s.arcs.items s.distances.items) }
 {
-    let nodes = topology.node_count() as usize;
+    // A topology obeys the rules.
+    let _own = topology.own();
     let arcs = arcs_of(alloc, topology, query)?;
-    let distances = distances(alloc, arcs.as_slice(), nodes, to)?;
+    let distances = distances(alloc, topology, arcs.as_slice(), to)?;
     Ok(Searched { arcs, distances })
 }
 
 fn walk(
     alloc: Global,
-    _topology: &Topology,
+    topology: &Topology,
     _query: &Query,
     arcs: &[Option<Arc>],
     first: &[u64],
     from: usize,
     to: usize,
 ) -> Result<Walked, NoMemory>
-    requires rules { IsTopology _topology.now }
-    requires searched { IsSearched _topology.now _query.now to arcs.now first.now }
+    requires rules { IsTopology topology.now }
+    requires searched { IsSearched topology.now _query.now to arcs.now first.now }
     requires from { from < length first.now }
     requires to { to < length first.now }
     requires reached { at first.now from < unreached }
     ensures { IfOk result (λ w. IsWalked from to arcs.now first.now w.in_use.items w.left.items w.distances.items) }
 {
     let none = vec![in alloc; false; arcs.len()]?;
-    let in_use = turn_tight(alloc, arcs, first, none, from, to)?;
+    let in_use = turn_tight(alloc, topology, arcs, first, none, from, to)?;
     let left = residual_arcs(alloc, arcs, first, in_use.as_slice())?;
-    let distances = distances(alloc, left.as_slice(), first.len(), to)?;
+    let distances = distances(alloc, topology, left.as_slice(), to)?;
     Ok(Walked {
         in_use,
         left,
@@ -158,7 +160,7 @@ fn second(
         left,
         distances,
     } = walked;
-    let both = turn_tight(alloc, &left, &distances, in_use, from, to)?;
+    let both = turn_tight(alloc, topology, &left, &distances, in_use, from, to)?;
     let heights = heights(alloc, first, &distances)?;
     paths_form(alloc, topology, source, arcs, both, &heights, from, to)
 }

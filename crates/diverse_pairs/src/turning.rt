@@ -1,6 +1,7 @@
 //! Arcs that are put into use and taken out of use along a path.
 ghost use Rattle.std.specs.Prelude.{◌≡◌, ◌<◌, length, All, IfOk};
 ghost use Rattle.diverse_pairs.specs.declared.arcs.TheConstants.{UNREACHED as unreached};
+ghost use Rattle.diverse_pairs.specs.Along.{AreAlong};
 ghost use Rattle.diverse_pairs.specs.Arcs.{at, AreAmong};
 ghost use Rattle.diverse_pairs.specs.Distances.{AreDistances};
 ghost use Rattle.diverse_pairs.specs.Paths.{turned, LeadsOn, Falling, TurnsTight, TakesPath};
@@ -10,6 +11,7 @@ use crate::lowest::lowest_path;
 use crate::tight::tight_arcs;
 use dom_base::NoMemory;
 use std::alloc::Global;
+use te_links::Topology;
 
 /// A path, and what is left in use without it.
 #[derive(Drop)]
@@ -32,12 +34,14 @@ fn turn(mut in_use: Vec<bool>, path: &[usize]) -> Vec<bool>
 /// Turns the arcs of the path by the first tight arcs.
 pub(crate) fn turn_tight(
     alloc: Global,
+    topology: &Topology,
     arcs: &[Option<Arc>],
     distances: &[u64],
     in_use: Vec<bool>,
     source: usize,
     target: usize,
 ) -> Result<Vec<bool>, NoMemory>
+    requires along { AreAlong topology.now arcs.now }
     requires long { length in_use.items ≡ length arcs.now }
     requires among { AreAmong (length distances.now) arcs.now }
     requires distances { AreDistances arcs.now target distances.now }
@@ -46,25 +50,43 @@ pub(crate) fn turn_tight(
     ensures turned { IfOk result (λ new. TurnsTight arcs.now distances.now source target in_use.items new.items) }
 {
     let tight = tight_arcs(alloc, arcs, distances)?;
-    let path = lowest_path(alloc, arcs, tight.as_slice(), distances, source, target)?;
+    let path = lowest_path(
+        alloc,
+        topology,
+        arcs,
+        tight.as_slice(),
+        distances,
+        source,
+        target,
+    )?;
     Ok(turn(in_use, path.as_slice()))
 }
 
 /// Takes the arcs of the path by the first arcs in use out of use.
 pub(crate) fn take_path(
     alloc: Global,
+    topology: &Topology,
     arcs: &[Option<Arc>],
     in_use: Vec<bool>,
     heights: &[u64],
     source: usize,
     target: usize,
 ) -> Result<Taken, NoMemory>
+    requires along { AreAlong topology.now arcs.now }
     requires long { length in_use.items ≡ length arcs.now }
     requires leads { LeadsOn arcs.now in_use.items source target }
     requires falling { Falling arcs.now in_use.items heights.now }
     ensures taken { IfOk result (λ taken. TakesPath arcs.now source target in_use.items taken.in_use.items taken.path.items) }
 {
-    let path = lowest_path(alloc, arcs, in_use.as_slice(), heights, source, target)?;
+    let path = lowest_path(
+        alloc,
+        topology,
+        arcs,
+        in_use.as_slice(),
+        heights,
+        source,
+        target,
+    )?;
     let in_use = turn(in_use, path.as_slice());
     Ok(Taken { path, in_use })
 }

@@ -1,17 +1,23 @@
 -- What a line does, part by part.
-use Rattle.std.proofs.Common.{◌≡◌, ◌≢◌, ◌⊎◌, inl, inr, ⊎_elim, ◌≤◌, ◌<◌, ◌+◌, ◌&&◌, ◌||◌, ℕ, Bool, true, false, nat_lt, List, [], ◌∷◌, ◌++◌, length, take, Option, Some, None, Result, Ok, Err, append_assoc, append-nil, length-append, length-take, refl, sym, ap, subst, ◌∙◌, arith, MatchBool, codes}
+use Rattle.std.proofs.Common.{◌≡◌, ◌≢◌, ◌⊎◌, inl, inr, ⊎_elim, ◌≤◌, ◌<◌, ◌+◌, ◌&&◌, ◌||◌, ℕ, Bool, true, false, nat_lt, List, [], ◌∷◌, ◌++◌, length, take, Option, Some, None, Result, Ok, Err, append_assoc, append-nil, length-append, length-take, refl, sym, ap, subst, ◌∙◌, arith, OnOk, IfErr, codes, decimal, true≢false, ◌-◌, ◌==◌, if◌then◌else◌}
 use Rattle.std.specs.Str.Lines.{strip_carriage_return}
+use Rattle.std.specs.Prelude.{slice_index}
+use Rattle.std.proofs.lemmas.Bool.{le-ltb, lt-ltb, ltb-false, ltb-true}
 use Rattle.std.proofs.lemmas.List.{take_all, take-append-le}
 use Rattle.std.proofs.lemmas.List.Elements.{All-push}
 use Rattle.dom_base.specs.declared.names.NoMemory.{NoMemory as Lack}
 use Rattle.dom_base.specs.declared.names.As.{As}
-use Rattle.dom_edge.specs.Stores.{Files, HasFile, IsLongFile}
+use Rattle.dom_edge.specs.Stores.{HasFile}
 use Rattle.te_links.specs.Rows.{Rows}
 use Rattle.te_deltas.specs.ChangeText.{change_file_most}
 use Rattle.line_files.specs.declared.error.FileError.{FileError}
 use Rattle.line_files.specs.declared.error.FileError.TheVariants.{BadFile, NoMemory as LacksFile}
 use Rattle.plant_text.specs.declared.fault.NetFault.{NetFault}
+use Rattle.plant_text.specs.Given.{Gives}
+use Rattle.plant_text.specs.declared.line.LineError.{LineError}
+use Rattle.plant_text.specs.declared.line.LineError.TheVariants.{Outside}
 use Rattle.plant_text.specs.declared.line.LineEvent.{LineEvent}
+use Rattle.plant_text.specs.declared.line.LineEvent.TheVariants as line
 use Rattle.plant_text.specs.declared.settings.NetworkParts.{NetworkParts}
 use Rattle.plant_text.specs.Lines.{line_in}
 use Rattle.plant_text.specs.Settings.{is_element}
@@ -22,9 +28,9 @@ use Rattle.plant_model.specs.declared.outcome.Refused.TheVariants.{NoSuchPeer}
 use Rattle.transcript.specs.Lines.{answer_line}
 use Rattle.ted_watch.specs.declared.shown.Shown.{Shown}
 use Rattle.operator_lines.specs.Charts.{Asks, Call, Charted, Current, Did, Mapped, current_of}
-use Rattle.operator_lines.specs.Operating.{Context, Does, DoesEvent, IsEndOf, IsFirstPart, IsPartOf, Loads, Past, Publishes, Says, Shows, Stage, WithFile, Work, is_done, line_most, past, shown_by}
-use Rattle.operator_lines.specs.Steps.{Acted, Asked, answered, Goes, GoesFrom, IsAllDone, IsBegun, IsFile, IsPartDone, Refuses, text_of}
-use Rattle.operator_lines.specs.Texts.{bad_network_text, read_fault_text, too_large_text}
+use Rattle.operator_lines.specs.Operating.{Context, Does, DoesEvent, IsEndOf, IsFirstPart, Loads, Past, Publishes, Shows, Stage, WithFile, Work, is_done, line_most, past, shown_by}
+use Rattle.operator_lines.specs.Steps.{Acted, Asked, DoesFile, EndsAs, answered, file_of, Goes, IsBegun, IsFile, IsPartDone, Refuses, text_of}
+use Rattle.operator_lines.specs.Texts.{bad_network_text, fault_text, read_fault_text, too_large_text}
 use Rattle.operator_lines.specs.declared.operating.Operated.{Operated}
 use Rattle.operator_lines.specs.declared.operating.Operated.TheVariants.{End, ReadFault, WriteFault, Turns, Spent, NoMemory}
 
@@ -49,14 +55,14 @@ goes_none P end a b spent before after same is = (is, inl same)
 -- ---- loads
 
 module _ (n : NetworkParts) (number : ℕ) (at : As) (g : Rows) (answer : Result Outcome Refused) where
-  work_of : List Call → List Shown → Work
+  abbrev pub work_of : List Call → List Shown → Work
   work_of asked shown = record { calls = Did (event.Load at g) answer ∷ asked; shown = shown; text = answer_line number answer }
 
   loads_of : (list : List Shown) (asked : List Call) (shown : List Shown) → Shows at (is_done answer && is_element n at) list asked shown → Loads n number at g list [] (work_of asked shown)
   loads_of list asked shown shows = record { answer = answer; asked = asked; calls = refl; shows = shows; text = refl }
 
   behind : (a m b : Past) (asked : List Call) → m.calls ≡ a.calls ++ Did (event.Load at g) answer ∷ [] → b.calls ≡ m.calls ++ asked → b.calls ≡ a.calls ++ Did (event.Load at g) answer ∷ asked
-  behind a m b asked did then = then ∙ ap (λ (l : List Call). l ++ asked) did ∙ append_assoc a.calls (Did (event.Load at g) answer ∷ []) asked
+  behind a m b asked did next = next ∙ ap (λ (l : List Call). l ++ asked) did ∙ append_assoc a.calls (Did (event.Load at g) answer ∷ []) asked
 
   pub load_done : (a m b : Past) (spent : Option ℕ) (before after : List ℕ) → m.calls ≡ a.calls ++ Did (event.Load at g) answer ∷ [] → m.shown ≡ a.shown
       → Publishes (Ok tt) at (is_done answer && is_element n at) m b spent → after ≡ before ++ answer_line number answer → Goes (Loads n number at g a.shown []) (Ok tt) a b spent before after
@@ -97,11 +103,14 @@ module _ (n : NetworkParts) (number : ℕ) (at : As) (g : Rows) (answer : Result
   -- what was loaded is not shown
   pub load_unshown : (a m b : Past) (end : Operated) (spent : Option ℕ) (before after : List ℕ) → m.calls ≡ a.calls ++ Did (event.Load at g) answer ∷ [] → m.shown ≡ a.shown
       → Publishes (Err end) at (is_done answer && is_element n at) m b spent → Goes (Loads n number at g a.shown []) (Err end) a b spent before after
-  load_unshown a m b end spent before after did same published = (published.1, inr (⊎_elim
-      (λ (e : b ≡ m). part_of (Ok None) (Did (event.Load at g) answer ∷ []) (inl (Mapped at (Ok None) ∷ [], refl)) (ap (λ (p : Past). p.calls) e ∙ did) (ap (λ (p : Past). p.shown) e ∙ same))
-      (λ (p : (c : Current) × (b.calls ≡ m.calls ++ Mapped at c ∷ []) × (b.shown ≡ m.shown)).
+  load_unshown a m b end spent before after did same published = (
+    published.1,
+    inr (⊎_elim
+        (λ (e : b ≡ m). part_of (Ok None) (Did (event.Load at g) answer ∷ []) (inl (Mapped at (Ok None) ∷ [], refl)) (ap (λ (p : Past). p.calls) e ∙ did) (ap (λ (p : Past). p.shown) e ∙ same))
+        (λ (p : (c : Current) × (b.calls ≡ m.calls ++ Mapped at c ∷ []) × (b.shown ≡ m.shown)).
         part_of p.0 (Did (event.Load at g) answer ∷ Mapped at p.0 ∷ []) (inl ([], refl)) (behind a m b (Mapped at p.0 ∷ []) did p.1) (p.2 ∙ same))
-      published.2))
+        published.2),
+  )
     where
       due : Shows at (is_done answer && is_element n at) a.shown [] [] → Unit {0}
       due s = tt
@@ -120,7 +129,7 @@ module _ (n : NetworkParts) (number : ℕ) (at : As) (g : Rows) (answer : Result
 -- ---- loads behind a question
 
 module _ (n : NetworkParts) (number : ℕ) (at : As) (g : Rows) (list : List Shown) (earlier : List Call) (o a b : Past) (calls : a.calls ≡ o.calls ++ earlier) (shown : a.shown ≡ o.shown) where
-  with_earlier : Work → Work
+  abbrev with_earlier : Work → Work
   with_earlier w = record { calls = earlier ++ w.calls; shown = w.shown; text = w.text }
 
   loads_later : (w : Work) → Loads n number at g list [] w → Loads n number at g list earlier (with_earlier w)
@@ -160,28 +169,31 @@ module _ (n : NetworkParts) (number : ℕ) (at : As) (g : Rows) (list : List Sho
     },
     goes.1,
   )
-  goes_later (Err end) spent before after goes = (goes.0, inr (⊎_elim
-      (λ (e : b ≡ a). record {
-        work = with_earlier (work_of n number at g (Err NoSuchPeer) [] []);
-        does = some_load;
-        part = record {
-          made = earlier;
-          part = inl (Did (event.Load at g) (Err NoSuchPeer) ∷ [], refl);
-          calls = ap (λ (p : Past). p.calls) e ∙ calls;
-          shown = inl (ap (λ (p : Past). p.shown) e ∙ shown);
-        };
-      })
-      (λ (p : IsPartDone (Loads n number at g list []) a b). record {
-        work = with_earlier p.work;
-        does = loads_later p.work p.does;
-        part = record {
-          made = earlier ++ p.part.made;
-          part = first_part p.part.made p.work.calls p.part.part;
-          calls = joined p.part.made p.part.calls;
-          shown = shown_part p.work.shown p.part.shown;
-        };
-      })
-      goes.1))
+  goes_later (Err end) spent before after goes = (
+    goes.0,
+    inr (⊎_elim
+        (λ (e : b ≡ a). record {
+          work = with_earlier (work_of n number at g (Err NoSuchPeer) [] []);
+          does = some_load;
+          part = record {
+            made = earlier;
+            part = inl (Did (event.Load at g) (Err NoSuchPeer) ∷ [], refl);
+            calls = ap (λ (p : Past). p.calls) e ∙ calls;
+            shown = inl (ap (λ (p : Past). p.shown) e ∙ shown);
+          };
+        })
+        (λ (p : IsPartDone (Loads n number at g list []) a b). record {
+          work = with_earlier p.work;
+          does = loads_later p.work p.does;
+          part = record {
+            made = earlier ++ p.part.made;
+            part = first_part p.part.made p.work.calls p.part.part;
+            calls = joined p.part.made p.part.calls;
+            shown = shown_part p.work.shown p.part.shown;
+          };
+        })
+        goes.1),
+  )
 
 -- ---- files
 
@@ -310,7 +322,7 @@ pushed_short bytes is_long line byte is never few =
     }
   where
     not_below : (l : List ℕ) → length l ≤ line_most + 1 → nat_lt (line_most + 1) (length l) ≡ false
-    not_below l le = omega (arith, le)
+    not_below l le = le-ltb (line_most + 1) (length l) le
 
 -- of a line that is too long no more bytes are kept
 pub pushed_long : (bytes : List ℕ) (is_long : Bool) (line : List ℕ) (byte : ℕ) → IsBegun bytes is_long line → byte ≢ 10 → line_most < length bytes → IsBegun bytes true (line ++ byte ∷ [])
@@ -319,20 +331,89 @@ pushed_long bytes is_long line byte is never many =
     record {
       no_end = All-push (λ (c : ℕ). c ≢ 10) line byte is.no_end never;
       kept = is.kept ∙ sym (take-append-le (line_most + 1) line (byte ∷ []) long);
-      long = omega (arith, long, length-append line (byte ∷ []));
+      long = sym (lt-ltb (line_most + 1) (length (line ++ byte ∷ [])) (omega (arith, long, length-append line (byte ∷ []))));
     }
 
 -- the text is too long exactly where the bytes that are kept say so, and else it is the whole text
+length_cut : (b : Bool) (l : List ℕ) → length l ≤ length (if b then take (length l - 1) l else l) + 1
+length_cut true l = omega (arith, length-take (length l - 1) l)
+length_cut false l = omega arith
+
 length_strip : (l : List ℕ) → length l ≤ length (strip_carriage_return l) + 1
-length_strip l = grind arith
+length_strip l = length_cut (slice_index l (length l - 1) == 13) l
 
 length_text : (has_end : Bool) (l : List ℕ) → length l ≤ length (text_of has_end l) + 1
 length_text true l = length_strip l
 length_text false l = omega arith
 
 pub is_long_text : (has_end : Bool) (bytes : List ℕ) (is_long : Bool) (line : List ℕ) → IsBegun bytes is_long line → (is_long || nat_lt line_most (length (text_of has_end bytes))) ≡ nat_lt line_most (length (text_of has_end line))
-is_long_text has_end bytes true line is = sym (omega (arith, length_text has_end line, is.long))
-is_long_text has_end bytes false line is = ap (λ (l : List ℕ). nat_lt line_most (length (text_of has_end l))) (is.kept ∙ take_all (line_most + 1) line (omega (arith, is.long)))
+is_long_text has_end bytes true line is = sym (lt-ltb line_most (length (text_of has_end line)) (omega (arith, length_text has_end line, ltb-true (line_most + 1) (length line) (sym is.long))))
+is_long_text has_end bytes false line is = ap (λ (l : List ℕ). nat_lt line_most (length (text_of has_end l))) (is.kept ∙ take_all (line_most + 1) line (ltb-false (line_most + 1) (length line) (sym is.long)))
 
-pub short_text : (has_end : Bool) (bytes line : List ℕ) → IsBegun bytes false line → text_of has_end bytes ≡ text_of has_end line
-short_text has_end bytes line is = ap (text_of has_end) (is.kept ∙ take_all (line_most + 1) line (omega (arith, is.long)))
+pub short_text : (has_end : Bool) (bytes : List ℕ) (is_long : Bool) (line : List ℕ) → IsBegun bytes is_long line → (is_long || nat_lt line_most (length (text_of has_end bytes))) ≡ false → text_of has_end bytes ≡ text_of has_end line
+short_text has_end bytes true line is short = absurd (true≢false short)
+short_text has_end bytes false line is short = ap (text_of has_end) (is.kept ∙ take_all (line_most + 1) line (ltb-false (line_most + 1) (length line) (sym is.long)))
+
+-- nothing is due
+pub none_due : (at : As) (due : Bool) (p : Past) (spent : Option ℕ) → due ≡ false → spent ≡ None → Publishes (Ok tt) at due p p spent
+none_due at true p spent e fresh = absurd (true≢false e)
+none_due at false p spent e fresh = ([], [], (refl, refl), sym (append-nil p.calls), sym (append-nil p.shown), fresh)
+
+pub ends_as : (P : Work → Type 0) (r : Result (Unit {0}) Operated) (a b : Past) (spent : Option ℕ) (before after : List ℕ) → Goes P r a b spent before after → EndsAs r spent
+ends_as P (Ok u) a b spent before after goes = goes.1
+ends_as P (Err end) a b spent before after goes = goes.0
+
+-- a line that is too long is told as such
+pub long_goes : (x : Context) (number : ℕ) (a b : Stage) (text : List ℕ) (r : Result (Unit {0}) Operated) (p : Past) (spent : Option ℕ) (before after : List ℕ) → nat_lt line_most (length text) ≡ true → spent ≡ None
+    → OnOk r (after ≡ before ++ too_large_text number (codes "input")) → IfErr r (λ (e : Operated). e ≡ NoMemory) → Goes (Does x number text a b) r p p spent before after
+long_goes x number a b text (Ok u) p spent before after long fresh told lack = goes_said (Does x number text a b) (too_large_text number (codes "input")) p spent before after (long_said x number a b text long) fresh told
+long_goes x number a b text (Err end) p spent before after long fresh told lack = goes_lack (Does x number text a b) end p spent before after lack fresh
+
+-- a line does what the file asks that it names
+event_file : (x : Context) (number : ℕ) (e : LineEvent) (a b : Stage) (w : Work) → DoesFile x number (file_of e) a b w → DoesEvent x number (Some (Some e)) a b w
+event_file x number (line.Load at name) a b w does = does
+event_file x number (line.Change at name) a b w does = does
+event_file x number (line.Open p h) a b w does = does
+event_file x number (line.Shut p) a b w does = does
+event_file x number (line.Feed p xs) a b w does = does
+event_file x number (line.Carry u v) a b w does = does
+event_file x number (line.Break u v) a b w does = does
+event_file x number (line.Solve u k rows) a b w does = does
+event_file x number (line.Tick t) a b w does = does
+event_file x number (line.Drain p h) a b w does = does
+event_file x number line.Settle a b w does = does
+event_file x number line.Finish a b w does = does
+event_file x number line.CertifyOn a b w does = does
+event_file x number line.DiscloseOn a b w does = does
+
+pub event_goes_file : (x : Context) (number : ℕ) (e : LineEvent) (f : Option (Bool × As × List ℕ)) (a b : Stage) (r : Result (Unit {0}) Operated) (p q : Past) (spent : Option ℕ) (before after : List ℕ) → file_of e ≡ f → Goes (DoesFile x number f a b) r p q spent before after → Goes (DoesEvent x number (Some (Some e)) a b) r p q spent before after
+event_goes_file x number e f a b r p q spent before after is goes =
+    goes_as (DoesFile x number (file_of e) a b) (DoesEvent x number (Some (Some e)) a b) (event_file x number e a b) r p q spent before after
+    (subst (λ (k : Option (Bool × As × List ℕ)). Goes (DoesFile x number k a b) r p q spent before after) (sym is) goes)
+
+-- one thing is said, or memory lacks
+pub said_or : (P : Work → Type 0) (text : List ℕ) (r : Result (Unit {0}) Operated) (p : Past) (spent : Option ℕ) (before after : List ℕ) → P (record { calls = []; shown = []; text = text }) → spent ≡ None → OnOk r (after ≡ before ++ text) → IfErr r (λ (e : Operated). e ≡ NoMemory) → Goes P r p p spent before after
+said_or P text (Ok u) p spent before after does fresh told lack = goes_said P text p spent before after does fresh told
+said_or P text (Err end) p spent before after does fresh told lack = goes_lack P end p spent before after lack fresh
+
+pub asked_told : (P : Work → Type 0) (at : As) (m : Current) (text : List ℕ) (r : Result (Unit {0}) Operated) (old new : Charted) (list : List Shown) (before after : List ℕ) → P (record { calls = Mapped at m ∷ []; shown = []; text = text }) → new.spent ≡ None → new.calls ≡ old.calls ++ Mapped at m ∷ [] → OnOk r (after ≡ before ++ text) → IfErr r (λ (e : Operated). e ≡ NoMemory) → Goes P r (past old list) (past new list) new.spent before after
+asked_told P at m text (Ok u) old new list before after does fresh calls told lack = one_done P (Mapped at m) text (past old list) (past new list) new.spent before after does fresh calls refl told
+asked_told P at m text (Err end) old new list before after does fresh calls told lack = one_untold P end at m m (record { calls = Mapped at m ∷ []; shown = []; text = text }) [] (past old list) (past new list) new.spent before after does refl lack fresh calls refl
+
+-- an entry is shown where it is newer, or memory lacks
+pub shown_goes : (at : As) (found : ℕ × Rows) (r : Result (Unit {0}) Operated) (old new : Charted) (list more : List Shown) → Asked at (Ok (Some found)) old new → OnOk r (more ≡ list ++ shown_by at (Ok (Some found)) list) → IfErr r (λ (e : Operated). (e ≡ NoMemory) × (more ≡ list)) → Publishes r at true (past old list) (past new more) new.spent
+shown_goes at found (Ok u) old new list more asked shown lack = shown_some at found old new list more asked shown
+shown_goes at found (Err end) old new list more asked shown lack = shown_lack at found end old new list more asked lack.0 lack.1
+
+-- a load is told, or memory lacks
+pub load_told : (n : NetworkParts) (number : ℕ) (at : As) (g : Rows) (answer : Result Outcome Refused) (r : Result (Unit {0}) Operated) (a m b : Past) (spent : Option ℕ) (before after : List ℕ) → m.calls ≡ a.calls ++ Did (event.Load at g) answer ∷ [] → m.shown ≡ a.shown
+    → Publishes (Ok tt) at (is_done answer && is_element n at) m b spent → OnOk r (after ≡ before ++ answer_line number answer) → IfErr r (λ (e : Operated). e ≡ NoMemory) → Goes (Loads n number at g a.shown []) r a b spent before after
+load_told n number at g answer (Ok u) a m b spent before after did same published told lack = load_done n number at g answer a m b spent before after did same published told
+load_told n number at g answer (Err end) a m b spent before after did same published told lack = load_untold n number at g answer a m b end spent before after did same published lack
+
+pub bad_network_parts : (v : List ℕ) (number : ℕ) (name : List ℕ) (place : ℕ) (why : NetFault) → ((v ++ decimal number ++ 32 ∷ [] ++ codes "bad network " ++ name ++ 32 ∷ []) ++ decimal place ++ 32 ∷ [] ++ fault_text why) ++ 10 ∷ [] ≡ v ++ bad_network_text number name place why
+bad_network_parts v number name place why = simp append_assoc
+
+-- a line outside the form
+pub outside : (r : Result (Option LineEvent) LineError) (said : Option (Option LineEvent)) → r ≡ Err Outside → Gives r said → said ≡ None
+outside r said is gives = subst (λ (q : Result (Option LineEvent) LineError). Gives q said) is gives

@@ -1,12 +1,13 @@
 -- Entries of elements of the settings are few, and may be shown.
-use Rattle.std.proofs.Common.{◌≡◌, ◌==◌, ◌≤◌, ◌<◌, ℕ, Bool, true, false, cond, ◌||◌, eqb, eqb-true, eq-eqb, List, [], ◌∷◌, ◌++◌, map, length, length-map, All, Option, Some, None, refl, sym, ap, subst, ◌∙◌, arith, true≢false, IfOk}
+use Rattle.std.proofs.Common.{◌≡◌, ◌==◌, ◌≤◌, ℕ, Bool, true, false, cond, ◌||◌, eqb, eqb-true, eq-eqb, List, [], ◌∷◌, ◌++◌, map, length, All, append-nil, if◌then◌else◌, Option, Some, None, refl, sym, ap, subst, arith, true≢false}
 use Rattle.std.specs.Option.{is_some}
+use Rattle.std.proofs.lemmas.Bool.{ltb-true}
+use Rattle.std.proofs.lemmas.List.{length-map}
 use Rattle.std.specs.Set.{is_member}
-use Rattle.std.proofs.lemmas.List.Elements.{All-push, All-map}
+use Rattle.std.proofs.lemmas.List.Elements.{All-push}
 use Rattle.dom_base.specs.declared.names.As.{As}
 use Rattle.plant_text.specs.declared.settings.ElementRow.{ElementRow}
 use Rattle.plant_text.specs.declared.settings.NetworkParts.{NetworkParts}
-use Rattle.plant_text.specs.Names.{same_as}
 use Rattle.plant_text.specs.Networks.{IsNetwork, with_peers}
 use Rattle.plant_text.specs.Settings.{is_element, row_of}
 use Rattle.plant_text.proofs.SettingLaws.{rules_are_worth}
@@ -39,12 +40,21 @@ pub few_more : (n : NetworkParts) (list : List Shown) (s : Shown) → IsNetwork 
 few_more n list s is all element =
     let every : All (λ (t : Shown). is_element n t.at ≡ true) (list ++ s ∷ []) = All-push (λ (t : Shown). is_element n t.at ≡ true) list s all element in
     let few = few_among (numbers n.elements) (list ++ s ∷ []) (λ k d lt. member_of n.elements _ (every k d lt)) in
-    omega (arith, few, elements_few n is, length-map (λ (r : ElementRow). r.own.0) n.elements)
+    omega (arith, few, elements_few n is, length-map n.elements (λ (r : ElementRow). r.own.0))
+
+abbrev generation_or : Option Shown → ℕ
+generation_or None = 0
+generation_or (Some s) = s.generation
 
 above_of : (k : ℕ) (s : Shown) (o : Option Shown) → s.generation ≡ k → is_newer k (generation_of o) ≡ true → IsAbove s o
 above_of k s None e newer = λ t is. absurd (cc is)
-above_of k s (Some x) e newer = λ t is. omega (arith, newer, e, ap (λ (o : Option Shown). generation_of o) is)
+above_of k s (Some x) e newer = λ t is. omega (arith, ltb-true x.generation k newer, e, ap generation_or is)
 
 -- an entry that is newer may be shown
 pub may_follow : (list : List Shown) (s : Shown) → is_newer s.generation (generation_of (last_of s.at.0 list)) ≡ true → as_count (list ++ s ∷ []) ≤ 16 → MayFollow list s
 may_follow list s newer few = record { above = above_of s.generation s (last_of s.at.0 list) refl newer; few = few }
+
+-- entries of elements, and one more where it is newer
+pub elements_more : (n : NetworkParts) (list : List Shown) (s : Shown) (newer : Bool) → AreOfElements n list → is_element n s.at ≡ true → AreOfElements n (list ++ (if newer then s ∷ [] else []))
+elements_more n list s true all element = All-push (λ (t : Shown). is_element n t.at ≡ true) list s all element
+elements_more n list s false all element = subst (λ (l : List Shown). AreOfElements n l) (sym (append-nil list)) all

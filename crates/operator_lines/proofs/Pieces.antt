@@ -1,17 +1,17 @@
 -- Bytes that are taken one piece behind the other.
-use Rattle.std.proofs.Common.{◌≡◌, ◌≢◌, ◌⊎◌, inl, inr, ⊎_elim, ◌≤◌, ◌<◌, ◌+◌, ◌&&◌, ◌||◌, ℕ, Bool, true, false, nat_lt, List, [], ◌∷◌, ◌++◌, length, length-append, length-map, map, map-append, take, All, Option, Some, None, Result, Ok, Err, append_assoc, append-nil, refl, sym, ap, subst, ◌∙◌, arith}
+use Rattle.std.proofs.Common.{◌≡◌, ◌≢◌, ◌⊎◌, inl, inr, ◌+◌, ℕ, Bool, true, false, List, [], ◌∷◌, ◌++◌, length, length-append, length-take, map, take, Option, Result, Ok, Err, append_assoc, append-nil, refl, sym, ap, subst, ◌∙◌, arith, OnOk, IfErr}
 use Rattle.std.specs.List.{flat_map}
 use Rattle.std.specs.declared.option.Option.{Option}
 use Rattle.std.specs.Str.Lines.{strip_carriage_return}
-use Rattle.std.specs.Io.KnownBytes.{Appends, Consumes}
+use Rattle.std.specs.Io.KnownBytes.{Appends}
 use Rattle.std.proofs.KnownBytes.{Appends-nil, Appends-trans}
 use Rattle.std.proofs.Math.Seq.{take-append-add}
+use Rattle.std.proofs.lemmas.List.{length-map, map-append}
 use Rattle.std.proofs.lemmas.List.Elements.{All-append, All-nil, All-push}
 use Rattle.std.proofs.lemmas.List.Concat.{flat_map-append}
-use Rattle.dom_edge.specs.Causes.{Rose}
 use Rattle.dom_edge.specs.Whole.{AppendsSome}
-use Rattle.operator_lines.specs.Operating.{AreDone, AreTaken, Context, EndsBy, HasNoEnd, IsCut, IsDone, IsLeft, IsNext, Stage, Stops, ended}
-use Rattle.operator_lines.specs.Steps.{Begun, Cuts, CutsOff, EndsLine, Feeds, IsBegun, Lasts, TakesOn, text_of}
+use Rattle.operator_lines.specs.Operating.{AreDone, AreTaken, Context, EndsBy, HasNoEnd, IsCut, IsDone, IsEndOf, IsLeft, IsNext, Stage, Stops, ended, line_most}
+use Rattle.operator_lines.specs.Steps.{Begun, Cuts, CutsOff, EndsLine, Feeds, Finishes, IsBegun, Lasts, TakesOn, text_of}
 use Rattle.operator_lines.specs.declared.operating.Operated.{Operated}
 use Rattle.operator_lines.specs.declared.operating.Operated.TheVariants.{End, ReadFault, WriteFault, Turns, Spent, NoMemory}
 
@@ -55,7 +55,7 @@ module _ (x : Context) where
         count = omega (arith, first.count, second.count, length-append first.whole second.whole);
         are_done = subst (λ (ls : List (List ℕ)). AreDone x (k + 1) ls a c (s ++ t)) (sym (map-append strip_carriage_return first.whole second.whole))
             (done_on (k + 1) (map strip_carriage_return first.whole) (map strip_carriage_return second.whole) a b c s t first.are_done
-            (subst (λ (j : ℕ). AreDone x j (map strip_carriage_return second.whole) b c t) (omega (arith, first.count, length-map strip_carriage_return first.whole)) second.are_done));
+            (subst (λ (j : ℕ). AreDone x j (map strip_carriage_return second.whole) b c t) (omega (arith, first.count, length-map first.whole strip_carriage_return)) second.are_done));
       }
 
   -- no line yet
@@ -238,3 +238,77 @@ module _ (x : Context) where
   line_fed line f g (Err End) a b old new before after spent never lasts ends = absurd lasts
   line_fed line f g (Err ReadFault) a b old new before after spent never lasts ends = absurd lasts
   line_fed line f g (Err Turns) a b old new before after spent never lasts ends = absurd lasts
+
+  -- a byte that is kept, or for which memory lacks
+  pub pushed : (byte : ℕ) (line : List ℕ) (f g : Begun) (r : Result (Unit {0}) Operated) (a : Stage) (old : Option (List ℕ)) → g.before ≡ f.before
+      → OnOk r ((l : List ℕ) → IsBegun f.bytes f.is_long l → IsBegun g.bytes g.is_long (l ++ byte ∷ [])) → IfErr r (λ (e : Operated). e ≡ NoMemory) → IsBegun f.bytes f.is_long line → Feeds x (byte ∷ []) r line f g a a old old
+  pushed byte line f g (Ok t) a old same keeps lack is = byte_fed byte line f g a old same (keeps line is)
+  pushed byte line f g (Err end) a old same keeps lack is = byte_lacks byte line f.before end a old lack
+
+  -- ---- the end of the input
+
+  no_empty : (n : ℕ) (bytes : List ℕ) (c : ℕ) (cs : List ℕ) → bytes ≡ take (n + 1) (c ∷ cs) → bytes ≡ [] → ⊥
+  no_empty n bytes c cs kept none = omega (arith, ap (λ (l : List ℕ). length l) none, ap (λ (l : List ℕ). length l) kept, length-take (n + 1) (c ∷ cs))
+
+  empty_line : (bytes line : List ℕ) (is_long : Bool) → IsBegun bytes is_long line → bytes ≡ [] → line ≡ []
+  empty_line bytes [] is_long is none = refl
+  empty_line bytes (c ∷ cs) is_long is none = absurd (no_empty line_most bytes c cs is.kept none)
+
+  some_line : (bytes line : List ℕ) (is_long : Bool) → IsBegun bytes is_long line → bytes ≢ [] → line ≢ []
+  some_line bytes line is_long is some = λ (e : line ≡ []). some (is.kept ∙ ap (take (line_most + 1)) e)
+
+  pub finish_none : (f : Begun) (line : List ℕ) (a : Stage) (old : Option (List ℕ)) (m n : ℕ) → IsBegun f.bytes f.is_long line → f.bytes ≡ [] → Finishes x End line f.before a a old old m n
+  finish_none f line a old m n is none = (
+    (is.no_end, subst (λ (l : List ℕ). EndsBy x (f.before + 1) l a a old old []) (sym (empty_line f.bytes line f.is_long is none)) (refl, Appends-nil old)),
+    λ e. absurd (cc e),
+    λ e. absurd (cc e),
+    λ e. absurd (cc e),
+  )
+
+  finish_by : (f g : Begun) (line : List ℕ) (a b : Stage) (old new : Option (List ℕ)) → line ≢ [] → EndsLine x false line (Ok tt) f g a b old new → EndsBy x (f.before + 1) line a b old new []
+  finish_by f g [] a b old new some ends = absurd (some refl)
+  finish_by f g (c ∷ cs) a b old new some ends = (ends.0, ends.1, ends.2)
+
+  pub finish_some : (f g : Begun) (line : List ℕ) (a b : Stage) (old new : Option (List ℕ)) (m n : ℕ) → IsBegun f.bytes f.is_long line → f.bytes ≢ [] → EndsLine x false line (Ok tt) f g a b old new → Finishes x End line f.before a b old new m n
+  finish_some f g line a b old new m n is some ends = (
+    (is.no_end, finish_by f g line a b old new (some_line f.bytes line f.is_long is some) ends),
+    λ e. absurd (cc e),
+    λ e. absurd (cc e),
+    λ e. absurd (cc e),
+  )
+
+  last_left : (k : ℕ) (line : List ℕ) (a b : Stage) → HasNoEnd line → line ≢ [] → (b.past ≡ a.past) ⊎ IsCut x k line a b → IsLeft x k (Unit {0}) line a b
+  last_left k line a b never some (inl e) = inl e
+  last_left k line a b never some (inr cut) = inr (line, inr (tt, never, some, refl), cut)
+
+  pub finish_cut : (f g : Begun) (end : Operated) (line : List ℕ) (a b : Stage) (old new : Option (List ℕ)) (m n : ℕ) (spent : Option ℕ) → IsBegun f.bytes f.is_long line → f.bytes ≢ [] → Lasts (Err end) m n spent → EndsLine x false line (Err end) f g a b old new → Finishes x end line f.before a b old new m n
+  finish_cut f g WriteFault line a b old new m n spent is some lasts ends = (
+    (line, ends.0, inr (tt, is.no_end, some_line f.bytes line f.is_long is some, refl), ends.1, ends.2),
+    λ e. lasts.0,
+    λ e. absurd (cc e),
+    λ e. absurd (cc e),
+  )
+  finish_cut f g (Spent t) line a b old new m n spent is some lasts ends = (
+    (last_left (f.before + 1) line a b is.no_end (some_line f.bytes line f.is_long is some) ends.0, subst (λ (o : Option (List ℕ)). Appends old o []) (sym ends.1) (Appends-nil old)),
+    λ e. absurd (cc e),
+    λ e. absurd (cc e),
+    λ e. absurd (cc e),
+  )
+  finish_cut f g NoMemory line a b old new m n spent is some lasts ends = (
+    (last_left (f.before + 1) line a b is.no_end (some_line f.bytes line f.is_long is some) ends.0, subst (λ (o : Option (List ℕ)). Appends old o []) (sym ends.1) (Appends-nil old)),
+    λ e. absurd (cc e),
+    λ e. absurd (cc e),
+    λ e. absurd (cc e),
+  )
+  finish_cut f g End line a b old new m n spent is some lasts ends = absurd lasts
+  finish_cut f g ReadFault line a b old new m n spent is some lasts ends = absurd lasts
+  finish_cut f g Turns line a b old new m n spent is some lasts ends = absurd lasts
+
+-- an end that a line brings
+pub cuts_of : (end : Operated) (m n : ℕ) (spent : Option ℕ) → IsEndOf end spent → Cuts end m n spent
+cuts_of (Spent t) m n spent is = is
+cuts_of NoMemory m n spent is = is
+cuts_of End m n spent is = absurd is
+cuts_of ReadFault m n spent is = absurd is
+cuts_of WriteFault m n spent is = absurd is
+cuts_of Turns m n spent is = absurd is

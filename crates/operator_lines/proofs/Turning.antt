@@ -1,5 +1,5 @@
 -- The input from turn to turn.
-use Rattle.std.proofs.Common.{◌≡◌, ◌≢◌, ◌⊎◌, inl, inr, ◌≤◌, ◌+◌, ℕ, List, [], ◌∷◌, ◌++◌, Ok, Err, Some, None, length, length-append, length-take, take, append-nil, arith, refl, sym, ◌∙◌, ap, subst, Result, Option}
+use Rattle.std.proofs.Common.{◌≡◌, ◌≢◌, inl, ◌≤◌, ◌+◌, ℕ, List, [], ◌++◌, Ok, Err, Some, None, length, length-append, length-take, take, append-nil, arith, refl, sym, ◌∙◌, ap, subst, Result, Option}
 use Rattle.std.specs.declared.option.Option.{Option}
 use Rattle.std.specs.Io.KnownBytes.{Appends, Consumes, Keeps, IsAtEnd}
 use Rattle.std.proofs.KnownBytes.{Appends-nil, Appends-trans, Consumes-nil, Consumes-trans, Consumes-kept}
@@ -7,11 +7,11 @@ use Rattle.dom_edge.specs.Causes.{Rose}
 use Rattle.dom_edge.specs.Causes.{HasCause as IsBlamed}
 use Rattle.dom_edge.specs.Streams.{Takes}
 use Rattle.dom_edge.specs.declared.source.Piece.TheVariants as piece
-use Rattle.operator_lines.specs.Operating.{AreTaken, Context, HasCause, HasNoEnd, IsReadOut, Operates, Side, Sides, Stage, Stops, side, sides}
-use Rattle.operator_lines.specs.Steps.{Begun, Cuts, CutsOff, Feeds, Finishes, IsBegun, IsLastTurn, IsTurn, IsTurned, Lasts, TakesOn, begun}
+use Rattle.operator_lines.specs.Operating.{AreTaken, Context, HasCause, IsReadOut, Operates, Side, Sides, Stage, Stops, side, sides}
+use Rattle.operator_lines.specs.Steps.{Begun, Cuts, CutsOff, Feeds, Finishes, IsBegun, IsLastTurn, IsTurn, IsTurned, Lasts}
 use Rattle.operator_lines.specs.declared.operating.Operated.{Operated}
 use Rattle.operator_lines.specs.declared.operating.Operated.TheVariants.{End, ReadFault, WriteFault, Turns, Spent, NoMemory}
-use Rattle.operator_lines.proofs.Pieces.{cut_on, fed_on, stops_as, stops_on, taken_none, taken_on}
+use Rattle.operator_lines.proofs.Pieces.{stops_as, stops_on, taken_none, taken_on}
 
 -- so many turns were made, and the input goes on
 pub record IsRunning (x : Context) (turns : ℕ) (q : Begun) (a b : Stage) (before after : Sides) : Type 0 where

@@ -133,7 +133,7 @@ abbrev pub ChangesTo : NetworkParts → ℕ → As → List ℕ → List ℕ →
 ChangesTo n number at name file changes list (Ok None) w = w ≡ record { calls = Mapped at (Ok None) ∷ []; shown = []; text = answer_line number (Err NoSuchPeer) }
 ChangesTo n number at name file changes list (Ok (Some found)) w =
     ((place : ℕ) × (why : NetFault) × IsChangeFault at found.1 changes file place why
-        × (w ≡ record { calls = Mapped at (Ok (Some found)) ∷ []; shown = []; text = bad_network_text number name place why }))
+    × (w ≡ record { calls = Mapped at (Ok (Some found)) ∷ []; shown = []; text = bad_network_text number name place why }))
     ⊎ ((g : Rows) × IsBuiltOf found.1 changes g × Loads n number at g list (Mapped at (Ok (Some found)) ∷ []) w)
 ChangesTo n number at name file changes list (Err why) w = ⊥
 

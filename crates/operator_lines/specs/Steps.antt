@@ -1,5 +1,5 @@
 -- The parts of a line, and of what comes in.
-use Rattle.std.specs.Prelude.{◌≡◌, ◌≢◌, ◌⊎◌, ◌≤◌, ◌+◌, ℕ, Bool, true, false, nat_lt, List, [], ◌∷◌, ◌++◌, length, take, Result, Ok, Err, Some, None, if◌then◌else◌}
+use Rattle.std.specs.Prelude.{◌≡◌, ◌≢◌, ◌⊎◌, ◌≤◌, ◌+◌, ℕ, Bool, true, false, nat_lt, List, [], ◌∷◌, ◌++◌, length, take, Result, Ok, Err, Some, None, MatchBool, if◌then◌else◌}
 use Rattle.std.specs.declared.option.Option.{Option}
 use Rattle.std.specs.Str.Lines.{strip_carriage_return}
 use Rattle.std.specs.Io.KnownBytes.{Appends, Consumes}
@@ -11,15 +11,16 @@ use Rattle.te_deltas.specs.ChangeText.{change_file_most}
 use Rattle.line_files.specs.declared.error.FileError.{FileError}
 use Rattle.line_files.specs.declared.error.FileError.TheVariants.{BadFile}
 use Rattle.te_links.specs.Rows.{Rows}
+use Rattle.plant_text.specs.declared.line.LineEvent.{LineEvent}
+use Rattle.plant_text.specs.declared.line.LineEvent.TheVariants as line
 use Rattle.plant_model.specs.declared.event.Event.TheVariants as event
 use Rattle.plant_model.specs.declared.outcome.Outcome.{Outcome}
 use Rattle.plant_model.specs.declared.outcome.Refused.{Refused}
-use Rattle.ted_watch.specs.declared.shown.Shown.{Shown}
-use Rattle.operator_lines.specs.Charts.{Call, Charted, Current, Did, Mapped}
-use Rattle.operator_lines.specs.Operating.{AreTaken, Context, HasCause, HasNoEnd, IsCut, IsDone, IsEndOf, IsPartOf, IsReadOut, Past, Sides, Stage, Stops, Work, line_most, shown_by}
-use Rattle.operator_lines.specs.Texts.{bad_network_text, read_fault_text, too_large_text}
+use Rattle.operator_lines.specs.Charts.{Call, Charted, Did, Mapped}
+use Rattle.operator_lines.specs.Operating.{AreTaken, ChangesFile, Context, HasCause, HasNoEnd, IsCut, IsDone, IsEndOf, IsPartOf, IsReadOut, LoadsFile, Past, Says, Sides, Stage, Stops, WithFile, Work, line_most}
+use Rattle.operator_lines.specs.Texts.{bad_line_text, bad_network_text, read_fault_text, too_large_text}
 use Rattle.operator_lines.specs.declared.operating.Operated.{Operated}
-use Rattle.operator_lines.specs.declared.operating.Operated.TheVariants.{End, ReadFault, WriteFault, Turns, Spent, NoMemory}
+use Rattle.operator_lines.specs.declared.operating.Operated.TheVariants.{ReadFault, WriteFault, Turns, Spent, NoMemory}
 
 -- ---- calls of the chart
 
@@ -80,6 +81,24 @@ IsFile files number name (Ok None) faults now failed_at before after =
     (Rose faults now × (failed_at ≡ name) × (after ≡ before ++ read_fault_text number))
     ⊎ (IsLongFile files name change_file_most × (after ≡ before ++ too_large_text number name))
 IsFile files number name (Err end) faults now failed_at before after = end ≡ NoMemory
+
+-- the file that a line of an operator names, behind whether it has changes
+abbrev pub file_of : LineEvent → Option (Bool × As × List ℕ)
+file_of (line.Load at name) = Some (false, at, name)
+file_of (line.Change at name) = Some (true, at, name)
+file_of e = None
+
+-- what a line does that names this file, or none
+abbrev pub DoesFile : Context → ℕ → Option (Bool × As × List ℕ) → Stage → Stage → Work → Type 0
+DoesFile x number None a b w = Says (bad_line_text number) w
+DoesFile x number (Some f) a b w = MatchBool f.0
+    (WithFile x number f.2 a b (λ file. ChangesFile x.network number f.1 f.2 file a.past.shown) w)
+    (WithFile x number f.2 a b (λ file. LoadsFile x.network number f.1 f.2 file a.past.shown) w)
+
+-- the chart after a line
+abbrev pub EndsAs : Result (Unit {0}) Operated → Option ℕ → Type 0
+EndsAs (Ok u) spent = spent ≡ None
+EndsAs (Err end) spent = IsEndOf end spent
 
 -- ---- bytes of a line that was begun
 

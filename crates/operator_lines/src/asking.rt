@@ -12,10 +12,7 @@ use std::sync::Arc;
 use te_links::Topology;
 
 /// The current topology of an element, with its number.
-pub(crate) fn ask<D: Chart>(
-    desk: &mut D,
-    at: As,
-) -> Result<Option<(u64, Arc<Topology>)>, Operated>
+pub(crate) fn ask<D: Chart>(desk: &mut D, at: As) -> Result<Option<(u64, Arc<Topology>)>, Operated>
     ensures { Asked at (answered arc_value result) (D.charted desk.old) (D.charted desk.new) }
 {
     let found = desk.map(at)?;

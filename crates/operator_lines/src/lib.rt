@@ -16,4 +16,3 @@ mod texts;
 pub use charts::Chart;
 pub use operating::{Operated, operate};
 pub use publishing::publish;
-

@@ -1,15 +1,17 @@
 //! A line of an operator, as it comes in.
-ghost use Rattle.std.specs.Prelude.{◌≡◌, ◌≢◌, ◌≤◌, ◌∷◌, ◌++◌, [], ℕ, List, None, OnOk, IfErr};
+ghost use Rattle.std.specs.Prelude.{◌≡◌, ◌≢◌, ◌≤◌, ◌∷◌, ◌++◌, ◌||◌, [], ℕ, List, None, Some, OnOk, IfErr, codes, false, length, nat_lt, true};
 ghost use Rattle.ted_watch.specs.Watch.{list_of, published};
-ghost use Rattle.operator_lines.specs.Operating.{AreOfElements, Does, DoesEvent, context, past, stage};
+ghost use Rattle.operator_lines.specs.Operating.{AreOfElements, Does, DoesEvent, context, line_most, past, stage};
 ghost use Rattle.plant_text.specs.Lines.{line_in};
-ghost use Rattle.operator_lines.specs.Steps.{Goes, IsBegun, text_of};
+ghost use Rattle.operator_lines.specs.Steps.{DoesFile, EndsAs, Goes, IsBegun, file_of, text_of};
+ghost use Rattle.operator_lines.specs.Texts.{bad_line_text, too_large_text};
 ghost use Rattle.operator_lines.specs.declared.operating.Operated.TheVariants.{NoMemory};
 
 use crate::charts::Chart;
 use crate::loading::{FileLine, change_file, load_file};
 use crate::operating::Operated;
 use crate::texts::{write_bad_line, write_too_large};
+use dom_base::{As, Text};
 use dom_edge::Store;
 use plant_text::{LineError, LineEvent, Network, read_line};
 use std::alloc::Global;
@@ -39,6 +41,12 @@ impl Begun {
         }
     }
 
+    fn len(&self) -> usize
+        ensures { result ≡ length self.now.bytes.items }
+    {
+        self.bytes.len()
+    }
+
     /// One byte more. There is room for a CR behind a line of the greatest length.
     pub(crate) fn push(&mut self, byte: u8) -> Result<(), Operated>
         requires inside { byte ≢ 10 }
@@ -46,14 +54,14 @@ impl Begun {
         ensures begun { OnOk result ((line : List ℕ) → IsBegun self.old.bytes.items self.old.is_long line → IsBegun self.new.bytes.items self.new.is_long (line ++ byte ∷ [])) }
         ensures lack { IfErr result (λ end. end ≡ NoMemory) }
     {
-        if self.bytes.len() > LINE_MAX {
+        if self.len() > LINE_MAX {
             self.is_long = true;
             return Ok(());
         }
-        if self.bytes.push(byte).is_err() {
-            return Err(Operated::NoMemory);
+        match self.bytes.push(byte) {
+            Ok(()) => Ok(()),
+            Err(_) => Err(Operated::NoMemory),
         }
-        Ok(())
     }
 
     /// The next line begins.
@@ -74,6 +82,109 @@ impl Begun {
             [front @ .., b'\r'] if has_end => front,
             whole => whole,
         }
+    }
+
+    /// Whether it has no byte.
+    pub(crate) fn is_empty(&self) -> bool
+        ensures empty { result ≡ true → self.now.bytes.items ≡ [] }
+        ensures not_empty { result ≡ false → self.now.bytes.items ≢ [] }
+    {
+        self.bytes.is_empty()
+    }
+
+    // Whether it has too many bytes.
+    fn is_too_long(&self, has_end: bool) -> bool
+        ensures { result ≡ (self.now.is_long || nat_lt line_most (length (text_of has_end self.now.bytes.items))) }
+    {
+        self.is_long || self.text(has_end).len() > LINE_MAX
+    }
+}
+
+// The file that a line names, behind whether it has changes.
+fn file_of(event: LineEvent) -> Option<(bool, As, Text)>
+    ensures { result ≡ file_of event }
+{
+    match event {
+        LineEvent::Load(at, name) => Some((false, at, name)),
+        LineEvent::Change(at, name) => Some((true, at, name)),
+        LineEvent::Open(..) => None,
+        LineEvent::Shut(_) => None,
+        LineEvent::Feed(..) => None,
+        LineEvent::Carry(..) => None,
+        LineEvent::Break(..) => None,
+        LineEvent::Solve(..) => None,
+        LineEvent::Tick(_) => None,
+        LineEvent::Drain(..) => None,
+        LineEvent::Settle => None,
+        LineEvent::Finish => None,
+        LineEvent::CertifyOn => None,
+        LineEvent::DiscloseOn => None,
+    }
+}
+
+// What is said of a line that no operator may write.
+fn tell_bad_line(number: u32, into: &mut Vec<u8>) -> Result<(), Operated>
+    ensures told { OnOk result (into.new.items ≡ into.old.items ++ bad_line_text number) }
+    ensures lack { IfErr result (λ end. end ≡ NoMemory) }
+{
+    write_bad_line(number, into)?;
+    Ok(())
+}
+
+// Loads what the file gives that a line names.
+fn do_file<T: Store, D: Chart, R: Wait + Drop>(
+    alloc: Global,
+    desk: &mut D,
+    store: &mut T,
+    network: &Network,
+    publisher: &mut Publisher<R>,
+    line: FileLine<'_>,
+    is_change: bool,
+    into: &mut Vec<u8>,
+) -> Result<(), Operated>
+    requires elements { AreOfElements network.now (published publisher.old) }
+    requires fresh { (D.charted desk.old).spent ≡ None }
+    ensures goes { Goes (DoesFile (context network.now (T.files store.old)) line.entry.number (Some (is_change, line.entry.at, line.entry.name.now)) (stage (D.charted desk.old) (published publisher.old) (T.faults store.old) (T.failed_at store.old)) (stage (D.charted desk.new) (published publisher.new) (T.faults store.new) (T.failed_at store.new))) result (past (D.charted desk.old) (published publisher.old)) (past (D.charted desk.new) (published publisher.new)) (D.charted desk.new).spent into.old.items into.new.items }
+    ensures elements { AreOfElements network.now (published publisher.new) }
+    ensures list { list_of publisher.new ≡ list_of publisher.old }
+    ensures later { T.faults store.old ≤ T.faults store.new }
+    ensures files { T.files store.new ≡ T.files store.old }
+{
+    if is_change {
+        change_file(alloc, desk, store, network, publisher, line, into)
+    } else {
+        load_file(alloc, desk, store, network, publisher, line, into)
+    }
+}
+
+// Does what a line says.
+fn do_event<T: Store, D: Chart, R: Wait + Drop>(
+    alloc: Global,
+    desk: &mut D,
+    store: &mut T,
+    network: &Network,
+    publisher: &mut Publisher<R>,
+    number: u32,
+    event: LineEvent,
+    into: &mut Vec<u8>,
+) -> Result<(), Operated>
+    requires elements { AreOfElements network.now (published publisher.old) }
+    requires fresh { (D.charted desk.old).spent ≡ None }
+    ensures goes { Goes (DoesEvent (context network.now (T.files store.old)) number (Some (Some event)) (stage (D.charted desk.old) (published publisher.old) (T.faults store.old) (T.failed_at store.old)) (stage (D.charted desk.new) (published publisher.new) (T.faults store.new) (T.failed_at store.new))) result (past (D.charted desk.old) (published publisher.old)) (past (D.charted desk.new) (published publisher.new)) (D.charted desk.new).spent into.old.items into.new.items }
+    ensures elements { AreOfElements network.now (published publisher.new) }
+    ensures list { list_of publisher.new ≡ list_of publisher.old }
+    ensures later { T.faults store.old ≤ T.faults store.new }
+    ensures files { T.files store.new ≡ T.files store.old }
+{
+    match file_of(event) {
+        Some((is_change, at, name)) => {
+            let name = name.as_str();
+            let line = FileLine { number, at, name };
+            do_file(
+                alloc, desk, store, network, publisher, line, is_change, into,
+            )
+        }
+        None => tell_bad_line(number, into),
     }
 }
 
@@ -97,20 +208,20 @@ fn do_text<T: Store, D: Chart, R: Wait + Drop>(
     ensures files { T.files store.new ≡ T.files store.old }
 {
     match read_line(alloc, text, network) {
-        Ok(Some(LineEvent::Load(at, name))) => {
-            let name = name.as_str();
-            let line = FileLine { number, at, name };
-            load_file(alloc, desk, store, network, publisher, line, into)
-        }
-        Ok(Some(LineEvent::Change(at, name))) => {
-            let name = name.as_str();
-            let line = FileLine { number, at, name };
-            change_file(alloc, desk, store, network, publisher, line, into)
-        }
+        Ok(Some(event)) => do_event(alloc, desk, store, network, publisher, number, event, into),
         Ok(None) => Ok(()),
-        Ok(Some(_)) | Err(LineError::Outside) => Ok(write_bad_line(number, into)?),
+        Err(LineError::Outside) => tell_bad_line(number, into),
         Err(LineError::NoMemory) => Err(Operated::NoMemory),
     }
+}
+
+// What is said of a line that is too long.
+fn tell_too_long(number: u32, into: &mut Vec<u8>) -> Result<(), Operated>
+    ensures told { OnOk result (into.new.items ≡ into.old.items ++ too_large_text number (codes "input")) }
+    ensures lack { IfErr result (λ end. end ≡ NoMemory) }
+{
+    write_too_large(number, b"input", into)?;
+    Ok(())
 }
 
 /// Does what the line that was begun asks for, which ends now, and writes what is said of it.
@@ -128,15 +239,23 @@ pub(crate) fn do_line<T: Store, D: Chart, R: Wait + Drop>(
     requires elements { AreOfElements network.now (published publisher.old) }
     requires fresh { (D.charted desk.old).spent ≡ None }
     ensures goes { (line : List ℕ) → IsBegun begun.now.bytes.items begun.now.is_long line → Goes (Does (context network.now (T.files store.old)) number (text_of has_end line) (stage (D.charted desk.old) (published publisher.old) (T.faults store.old) (T.failed_at store.old)) (stage (D.charted desk.new) (published publisher.new) (T.faults store.new) (T.failed_at store.new))) result (past (D.charted desk.old) (published publisher.old)) (past (D.charted desk.new) (published publisher.new)) (D.charted desk.new).spent into.old.items into.new.items }
+    ensures ends { EndsAs result (D.charted desk.new).spent }
     ensures elements { AreOfElements network.now (published publisher.new) }
     ensures list { list_of publisher.new ≡ list_of publisher.old }
     ensures later { T.faults store.old ≤ T.faults store.new }
     ensures files { T.files store.new ≡ T.files store.old }
 {
-    let text = begun.text(has_end);
-    if begun.is_long || text.len() > LINE_MAX {
-        write_too_large(number, b"input", into)?;
-        return Ok(());
+    if begun.is_too_long(has_end) {
+        return tell_too_long(number, into);
     }
-    do_text(alloc, desk, store, network, publisher, number, text, into)
+    do_text(
+        alloc,
+        desk,
+        store,
+        network,
+        publisher,
+        number,
+        begun.text(has_end),
+        into,
+    )
 }

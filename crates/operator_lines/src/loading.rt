@@ -1,9 +1,11 @@
 //! Lines that load a topology.
-ghost use Rattle.std.specs.Prelude.{◌≡◌, ◌≤◌, ◌∷◌, [], ℕ, length, Ok, None, Some};
+ghost use Rattle.std.specs.Prelude.{◌≡◌, ◌≤◌, ◌∷◌, ◌++◌, [], ℕ, length, IfErr, Ok, OnOk, None, Some};
 ghost use Rattle.te_deltas.specs.ChangeText.{change_file_most, text_in};
 ghost use Rattle.ted_watch.specs.Watch.{list_of, published};
 ghost use Rattle.operator_lines.specs.Charts.{Mapped};
-ghost use Rattle.operator_lines.specs.Operating.{AreOfElements, ChangesFile, ChangesTo, Loads, LoadsFile, WithFile, context, past, stage};
+ghost use Rattle.operator_lines.specs.Operating.{AreOfElements, ChangesFile, Loads, LoadsFile, WithFile, context, is_done, past, stage};
+ghost use Rattle.operator_lines.specs.declared.operating.Operated.TheVariants.{NoMemory};
+ghost use Rattle.transcript.specs.Lines.{answer_line};
 ghost use Rattle.operator_lines.specs.Steps.{Goes, GoesFrom, IsFile, Refuses};
 
 use crate::asking::{act, ask};
@@ -14,7 +16,7 @@ use crate::texts::{write_bad_network, write_read_fault, write_too_large};
 use dom_base::{As, Bytes};
 use dom_edge::{Store, StoreError};
 use line_files::{FileError, changed_of, changes_of, topology_of};
-use plant_model::Refused;
+use plant_model::{Outcome, Refused};
 use plant_text::Network;
 use std::alloc::Global;
 use std::sync::Wait;
@@ -34,6 +36,29 @@ pub(crate) struct FileLine<'a> {
     pub name: &'a str,
 }
 
+fn is_done(answer: &Result<Outcome, Refused>) -> bool
+    ensures { result ≡ is_done answer.now }
+{
+    match answer {
+        Ok(_) => true,
+        Err(_) => false,
+    }
+}
+
+// What came of an event.
+fn tell_answer(
+    alloc: Global,
+    number: u32,
+    answer: &Result<Outcome, Refused>,
+    into: &mut Vec<u8>,
+) -> Result<(), Operated>
+    ensures told { OnOk result (into.new.items ≡ into.old.items ++ answer_line number answer.now) }
+    ensures lack { IfErr result (λ end. end ≡ NoMemory) }
+{
+    write_answer(alloc, number, answer, into)?;
+    Ok(())
+}
+
 // Loads the topology, and shows it where the load was accepted.
 fn load<D: Chart, R: Wait + Drop>(
     alloc: Global,
@@ -51,9 +76,8 @@ fn load<D: Chart, R: Wait + Drop>(
     ensures list { list_of publisher.new ≡ list_of publisher.old }
 {
     let answer = act(desk, line.at, topology)?;
-    publish_loaded(desk, network, publisher, line.at, answer.is_ok())?;
-    write_answer(alloc, line.number, &answer, into)?;
-    Ok(())
+    publish_loaded(desk, network, publisher, line.at, is_done(&answer))?;
+    tell_answer(alloc, line.number, &answer, into)
 }
 
 // What is said of a file that gives no topology.
@@ -154,7 +178,7 @@ fn load_changed<D: Chart, R: Wait + Drop>(
     requires fresh { (D.charted desk.old).spent ≡ None }
     requires short { length file.now ≤ change_file_most }
     requires says { text_in file.now ≡ Ok changes.now }
-    ensures goes { (k : ℕ) → GoesFrom (Mapped line.entry.at (Ok (Some (k, topology.now))) ∷ []) (ChangesTo network.now line.entry.number line.entry.at line.entry.name.now file.now changes.now (published publisher.old) (Ok (Some (k, topology.now)))) result (past (D.charted desk.old) (published publisher.old)) (past (D.charted desk.new) (published publisher.new)) (D.charted desk.new).spent into.old.items into.new.items }
+    ensures goes { (k : ℕ) → GoesFrom (Mapped line.entry.at (Ok (Some (k, topology.now))) ∷ []) (ChangesFile network.now line.entry.number line.entry.at line.entry.name.now file.now (published publisher.old)) result (past (D.charted desk.old) (published publisher.old)) (past (D.charted desk.new) (published publisher.new)) (D.charted desk.new).spent into.old.items into.new.items }
     ensures elements { AreOfElements network.now (published publisher.new) }
     ensures list { list_of publisher.new ≡ list_of publisher.old }
 {
@@ -182,11 +206,13 @@ fn change_current<D: Chart, R: Wait + Drop>(
     ensures elements { AreOfElements network.now (published publisher.new) }
     ensures list { list_of publisher.new ≡ list_of publisher.old }
 {
-    let Some((_number, topology)) = ask(desk, line.at)? else {
-        write_answer(alloc, line.number, &Err(Refused::NoSuchPeer), into)?;
-        return Ok(());
-    };
-    load_changed(alloc, desk, network, publisher, line, &topology, changes, file, into)
+    let found = ask(desk, line.at)?;
+    match found {
+        Some((_number, topology)) => load_changed(
+            alloc, desk, network, publisher, line, &topology, changes, file, into,
+        ),
+        None => tell_answer(alloc, line.number, &Err(Refused::NoSuchPeer), into),
+    }
 }
 
 // The changes of the text of a file are made.

@@ -65,7 +65,7 @@ fn finish<T: Store, K: Sink, D: Chart, R: Wait + Drop>(
     ensures list { list_of publisher.new ≡ list_of publisher.old }
     ensures files { T.files store.new ≡ T.files store.old }
 {
-    if begun.bytes.is_empty() {
+    if begun.is_empty() {
         return Operated::End;
     }
     match end_line(alloc, desk, store, network, publisher, out, begun, false) {
@@ -100,7 +100,16 @@ fn turn<T: Store, I: Source, K: Sink, D: Chart, R: Wait + Drop>(
     let mut buffer = [0u8; 4096];
     match input.read(&mut buffer) {
         Piece::Bytes(count) => {
-            take_piece(alloc, desk, store, network, publisher, out, begun, &buffer[..count])
+            take_piece(
+                alloc,
+                desk,
+                store,
+                network,
+                publisher,
+                out,
+                begun,
+                &buffer[..count],
+            )
         }
         Piece::End => Err(finish(alloc, desk, store, network, publisher, out, begun)),
         Piece::Failed => Err(Operated::ReadFault),
@@ -132,7 +141,9 @@ fn run<T: Store, I: Source, K: Sink, D: Chart, R: Wait + Drop>(
 {
     let mut begun = Begun::new(alloc);
     for _turn in 0..turns {
-        match turn(alloc, desk, store, network, publisher, input, out, &mut begun) {
+        match turn(
+            alloc, desk, store, network, publisher, input, out, &mut begun,
+        ) {
             Ok(()) => {}
             Err(end) => return end,
         }

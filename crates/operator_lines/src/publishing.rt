@@ -1,15 +1,19 @@
 //! A topology that was loaded is shown.
-ghost use Rattle.std.specs.Prelude.{◌≡◌, ◌≤◌, ◌++◌, ◌∷◌, ◌&&◌, [], None, OnOk, OnErr, true, if◌then◌else◌};
+ghost use Rattle.std.specs.Prelude.{◌≡◌, ◌++◌, ◌∷◌, ◌&&◌, [], None, IfErr, OnOk, true, if◌then◌else◌};
+ghost use Rattle.std.specs.List.{list_any};
+ghost use Rattle.plant_text.specs.declared.settings.ElementRow.{ElementRow};
+ghost use Rattle.plant_text.specs.Names.{same_as};
 ghost use Rattle.plant_text.specs.Settings.{is_element};
 ghost use Rattle.ted_watch.specs.Watch.{published, list_of};
-ghost use Rattle.ted_watch.specs.Published.{as_count, generation_of, last_of};
+ghost use Rattle.ted_watch.specs.Published.{generation_of, last_of};
 ghost use Rattle.operator_lines.specs.Operating.{AreOfElements, Publishes, entry_of, is_newer, past};
+ghost use Rattle.operator_lines.specs.declared.operating.Operated.TheVariants.{NoMemory};
 
 use crate::asking::ask;
 use crate::charts::Chart;
 use crate::operating::Operated;
-use dom_base::{As, NoMemory};
-use plant_text::Network;
+use dom_base::As;
+use plant_text::{ElementRow, Network};
 use std::sync::Wait;
 use te_links::Topology;
 use ted_watch::{Publisher, Shown};
@@ -36,30 +40,37 @@ fn is_newer(generation: u64, last: Option<u64>) -> bool
     }
 }
 
-// Shows an entry where its generation is above the last one of its AS.
-fn show_newer<R: Wait + Drop>(publisher: &mut Publisher<R>, shown: Shown) -> Result<(), NoMemory>
-    requires few { as_count (published publisher.old ++ shown ∷ []) ≤ 16 }
+// Shows an entry of an element where its generation is above the last one of its AS.
+fn show_newer<R: Wait + Drop>(
+    publisher: &mut Publisher<R>,
+    network: &Network,
+    shown: Shown,
+) -> Result<(), Operated>
+    requires elements { AreOfElements network.now (published publisher.old) }
+    requires element { is_element network.now shown.at ≡ true }
     ensures shown { OnOk result (published publisher.new ≡ published publisher.old ++ (if is_newer shown.generation (generation_of (last_of shown.at.0 (published publisher.old))) then shown ∷ [] else [])) }
-    ensures same { OnErr result (published publisher.new ≡ published publisher.old) }
+    ensures same { IfErr result (λ end. (end ≡ NoMemory) × (published publisher.new ≡ published publisher.old)) }
+    ensures elements { AreOfElements network.now (published publisher.new) }
     ensures list { list_of publisher.new ≡ list_of publisher.old }
 {
+    let _settings = network.parts();
     if is_newer(shown.generation, publisher.last(shown.at)) {
-        publisher.show(shown)
-    } else {
-        Ok(())
+        publisher.show(shown)?;
     }
+    Ok(())
+}
+
+fn has_row(rows: &[ElementRow], at: As) -> bool
+    ensures { result ≡ list_any (λ (e : ElementRow). same_as e.own at) rows.now }
+{
+    rows.iter().any(|row| row.own.0 == at.0)
 }
 
 // Whether the settings have an element of this AS.
 fn is_element(network: &Network, at: As) -> bool
     ensures { result ≡ is_element network.now at }
 {
-    network
-        .parts()
-        .elements
-        .as_slice()
-        .iter()
-        .any(|row| row.own.0 == at.0)
+    has_row(network.parts().elements.as_slice(), at)
 }
 
 // Asks for the current topology of an element, and shows it where it is newer than what was shown.
@@ -75,11 +86,13 @@ fn publish_element<D: Chart, R: Wait + Drop>(
     ensures elements { AreOfElements network.now (published publisher.new) }
     ensures list { list_of publisher.new ≡ list_of publisher.old }
 {
-    let Some((generation, topology)) = ask(desk, at)? else {
-        return Ok(());
-    };
-    show_newer(publisher, entry_of(at, generation, &topology))?;
-    Ok(())
+    let found = ask(desk, at)?;
+    match found {
+        Some((generation, topology)) => {
+            show_newer(publisher, network, entry_of(at, generation, &topology))
+        }
+        None => Ok(()),
+    }
 }
 
 /// Asks for the current topology of an element, and shows it where it is newer than what was shown. An AS that is no

@@ -36,7 +36,9 @@ pub(crate) fn end_line<T: Store, K: Sink, D: Chart, R: Wait + Drop>(
         return Err(Operated::NoMemory);
     };
     let mut text = Vec::new(alloc);
-    do_line(alloc, desk, store, network, publisher, begun, number, has_end, &mut text)?;
+    do_line(
+        alloc, desk, store, network, publisher, begun, number, has_end, &mut text,
+    )?;
     write_all(out, &text)?;
     begun.clear(number);
     Ok(())

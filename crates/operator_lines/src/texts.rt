@@ -1,5 +1,5 @@
 //! What is said of a line. Each call writes at the end; after a refusal a part may stand there.
-ghost use Rattle.std.specs.Prelude.{◌≡◌, ◌++◌, ◌∷◌, [], decimal, OnOk};
+ghost use Rattle.std.specs.Prelude.{◌≡◌, ◌++◌, ◌∷◌, [], codes, decimal, OnOk};
 ghost use Rattle.operator_lines.specs.Texts.{bad_line_text, bad_network_text, fault_text, read_fault_text, too_large_text, topo_text};
 
 use dom_base::{NoMemory, write_number};
@@ -64,16 +64,22 @@ pub(crate) fn write_read_fault(number: u32, into: &mut Vec<u8>) -> Result<(), No
 }
 
 /// The line, which is `input`, or the file that it names is above its limit.
-pub(crate) fn write_too_large(
-    number: u32,
-    name: &[u8],
-    into: &mut Vec<u8>,
-) -> Result<(), NoMemory>
+pub(crate) fn write_too_large(number: u32, name: &[u8], into: &mut Vec<u8>) -> Result<(), NoMemory>
     ensures { OnOk result (into.new.items ≡ into.old.items ++ too_large_text number name.now) }
 {
     write_head(number, b"too large ", into)?;
     into.extend_from_slice(name)?;
     into.push(b'\n')?;
+    Ok(())
+}
+
+// `LINE bad network NAME `
+fn write_refused(number: u32, name: &[u8], into: &mut Vec<u8>) -> Result<(), NoMemory>
+    ensures { OnOk result (into.new.items ≡ into.old.items ++ decimal number ++ 32 ∷ [] ++ codes "bad network " ++ name.now ++ 32 ∷ []) }
+{
+    write_head(number, b"bad network ", into)?;
+    into.extend_from_slice(name)?;
+    into.push(b' ')?;
     Ok(())
 }
 
@@ -87,12 +93,8 @@ pub(crate) fn write_bad_network(
 ) -> Result<(), NoMemory>
     ensures { OnOk result (into.new.items ≡ into.old.items ++ bad_network_text number name.now line fault.now) }
 {
-    write_head(number, b"bad network ", into)?;
-    into.extend_from_slice(name)?;
-    into.push(b' ')?;
-    write_number(u64::from(line), into)?;
-    into.push(b' ')?;
-    into.extend_from_slice(fault_words(fault))?;
+    write_refused(number, name, into)?;
+    write_head(line, fault_words(fault), into)?;
     into.push(b'\n')?;
     Ok(())
 }

@@ -3,9 +3,11 @@
 
 mod progress;
 mod server;
+mod steady;
 
 use crate::progress::Progress;
 use crate::server::{Ended, serve_network};
+use crate::steady::Told;
 use dom_edge::{FileStore, InputSource, OutputSink, write_all};
 use pce_tool::{Status, run};
 use std::alloc::Global;
@@ -108,7 +110,7 @@ fn run_command(rt: &HostRuntime, mut words: Vec<String>) -> Status {
     let alloc = rt.alloc();
     let mut store = FileStore::new(alloc, *rt);
     let mut input = InputSource::new(rt.reader());
-    let mut out = OutputSink::new(Progress::new(*rt, io::writer(rt)));
+    let mut out = Progress::new(*rt, OutputSink::new(io::writer(rt)));
     run(alloc, &words, &mut store, &mut input, &mut out)
 }
 
@@ -123,7 +125,7 @@ fn status_of(rt: &HostRuntime, words: Vec<String>) -> Status {
 // Ends with a number, and where that is not 0, with a text on standard error.
 fn end<E: fmt::Display>(rt: &HostRuntime, number: u8, text: &E) -> ExitCode {
     if number != 0 {
-        let _ = eprintln!(rt; "pce: {text}");
+        let _ = eprintln!(rt; "pce: {}", Told(text));
     }
     ExitCode::from(number)
 }

@@ -1,5 +1,5 @@
 -- A lock may be opened round a network that has just been made, and round what loads have made of it: no request is pending.
-use Rattle.std.proofs.Common.{◌≡◌, ◌<◌, ◌∙◌, ◌⊎◌, Bool, true, false, cond, List, [], ◌∷◌, length, ap, arith, refl, subst, sym, inl, inr, Option, Some}
+use Rattle.std.proofs.Common.{◌≡◌, ◌<◌, ◌∙◌, Bool, true, false, cond, List, [], ◌∷◌, length, ap, arith, refl, subst, inl, inr, Some}
 use Rattle.std.specs.Prelude.{Contains}
 use Rattle.dom_base.specs.declared.names.As.{As}
 use Rattle.te_links.specs.Rows.{Rows}
@@ -10,7 +10,7 @@ use Rattle.pce_plant.specs.plant_model.declared.event.Event.TheVariants.{Load}
 use Rattle.pce_plant.specs.plant_model.declared.outcome.Refused.TheVariants.{GenerationsFull, NoSuchPeer}
 use Rattle.pce_plant.specs.plant_model.Deeds as deeds
 use Rattle.pce_plant.specs.plant_model.Deeds.{Going}
-use Rattle.pce_plant.specs.plant_model.Element.{Element, Row}
+use Rattle.pce_plant.specs.plant_model.Element.{Element}
 use Rattle.pce_plant.specs.plant_model.Events as events
 use Rattle.pce_plant.specs.plant_model.Events.{Answered}
 use Rattle.pce_plant.specs.plant_model.Plant.{Happened, Pin, Plant, Segment, Steps, first_pin, is_full, load, load_new, refused}

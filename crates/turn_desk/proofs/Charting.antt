@@ -1,16 +1,11 @@
 -- What a turn of a desk means for its calls as a chart.
-use Rattle.std.proofs.Common.{◌≡◌, ℕ, List, [], ◌∷◌, ◌++◌, ap, sym, refl, ◌∙◌, append-nil, Option, Some, None, Ok, Err}
-use Rattle.std.specs.Prelude.{Result}
-use Rattle.std.specs.Arc.{arc_value}
+use Rattle.std.proofs.Common.{◌≡◌, ℕ, List, [], ◌∷◌, ◌++◌, ap, sym, refl, ◌∙◌, append-nil, Some, None, Ok, Err}
 use Rattle.dom_base.specs.declared.names.As.{As}
-use Rattle.dom_base.specs.declared.names.NoMemory.{NoMemory}
-use Rattle.te_links.specs.Rows.{Rows}
 use Rattle.operator_lines.specs.Charts as chart
 use Rattle.pce_plant.specs.plant_model.declared.event.Event.{Event}
 use Rattle.pce_plant.specs.plant_model.Events.{Answered}
 use Rattle.pce_plant.specs.Turns.{IsAnswer}
 use Rattle.pce_plant.specs.Whole.{Whole}
-use Rattle.pce_plant.specs.declared.acts.Act.{Act}
 use Rattle.pce_plant.specs.declared.acts.Act.TheVariants.{Do, Map}
 use Rattle.pce_plant.specs.declared.acts.Acted.{Acted}
 use Rattle.pce_plant.specs.declared.acts.Acted.TheVariants.{Did, Mapped}

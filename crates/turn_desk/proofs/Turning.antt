@@ -1,5 +1,5 @@
 -- What a turn of a desk means for its calls.
-use Rattle.std.proofs.Common.{◌≡◌, ◌⊎◌, ◌≤◌, ◌^◌, ℕ, List, [], ◌∷◌, ◌++◌, ap, subst, sym, refl, ◌∙◌, inl, inr, append-nil, Option, Some, None, Ok, Err}
+use Rattle.std.proofs.Common.{◌≡◌, ℕ, List, [], ◌∷◌, ◌++◌, ap, subst, sym, refl, ◌∙◌, inr, append-nil, Option, Some, None, Ok, Err}
 use Rattle.std.specs.Prelude.{Contains, IfOk, IfSome, Result}
 use Rattle.std.specs.Arc.{arc_value}
 use Rattle.std.specs.List.{filter_map}
@@ -9,14 +9,13 @@ use Rattle.dom_base.specs.declared.names.NoMemory.{NoMemory}
 use Rattle.te_links.specs.Rows.{Rows}
 use Rattle.border_costs.specs.declared.job.Ask.{Ask}
 use Rattle.plant_lock.specs.declared.view.View.{View}
-use Rattle.plant_lock.specs.History.{Admitted, Legal, StartsWith, entries_at, replay}
+use Rattle.plant_lock.specs.History.{Admitted, Legal, entries_at, replay}
 use Rattle.plant_lock.specs.Views.{Adds, LegalFrom}
 use Rattle.plant_lock.proofs.Lists.{legal_front}
 use Rattle.plant_lock.proofs.Turns.{last_allowed}
 use Rattle.pce_plant.specs.plant_model.declared.event.Event.{Event}
 use Rattle.pce_plant.specs.plant_model.declared.event.Event.TheVariants as event
 use Rattle.pce_plant.specs.plant_model.declared.outcome.Outcome.{Outcome}
-use Rattle.pce_plant.specs.plant_model.declared.outcome.Refused.{Refused}
 use Rattle.pce_plant.specs.plant_model.Events.{Answered}
 use Rattle.pce_plant.specs.Held.{Held, whole}
 use Rattle.pce_plant.specs.Jobs.{IsAsked, IsSolvedBy}
@@ -24,9 +23,9 @@ use Rattle.pce_plant.specs.Turns.{Admits, Allowed, IsAnswer, IsShown, Warrants, 
 use Rattle.pce_plant.specs.Whole as plant
 use Rattle.pce_plant.specs.Whole.{Whole}
 use Rattle.pce_plant.specs.declared.acts.Act.{Act}
-use Rattle.pce_plant.specs.declared.acts.Act.TheVariants.{Do, Look, Ready, Finish, Map}
+use Rattle.pce_plant.specs.declared.acts.Act.TheVariants.{Do, Look, Ready, Finish}
 use Rattle.pce_plant.specs.declared.acts.Acted.{Acted}
-use Rattle.pce_plant.specs.declared.acts.Acted.TheVariants.{Did, Looked, Found, Committed, Mapped}
+use Rattle.pce_plant.specs.declared.acts.Acted.TheVariants.{Did, Looked, Found, Committed}
 use Rattle.pce_plant.specs.declared.acts.Turn.{Turn}
 use Rattle.pce_plant.specs.declared.answering.CommitRefused.{CommitRefused}
 use Rattle.plant_pins.specs.Histories.{PinsAreNow}
@@ -40,7 +39,7 @@ use Rattle.session_serving.specs.Desks as desk
 use Rattle.session_serving.specs.Desks.{Answer, Goes, call}
 use Rattle.session_serving.specs.declared.desks.DeskRefused.TheVariants.{Plant, Spent}
 use Rattle.solve_workers.specs.Benches as bench
-use Rattle.turn_desk.specs.Desks.{IsDone, IsFinish, IsOneTurn, IsTurn, IsTurnBy, Makes, Rests, Stand, bench_call, benched_of, desk_call, desked_of, did_as, did_by, finished_as}
+use Rattle.turn_desk.specs.Desks.{IsDone, IsOneTurn, IsTurn, IsTurnBy, Makes, Rests, Stand, bench_call, benched_of, desk_call, desked_of, did_as, did_by}
 use Rattle.turn_desk.specs.Histories.{Begins, known_by}
 use Rattle.turn_desk.proofs.Beginning.{none_is_now}
 use Rattle.turn_desk.proofs.Found.{own_is_seen, picked_from, split_at}

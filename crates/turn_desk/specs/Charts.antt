@@ -1,5 +1,5 @@
 -- The calls of an operator at a desk.
-use Rattle.std.specs.Prelude.{List, Option, Some, None}
+use Rattle.std.specs.Prelude.{Option, Some, None}
 use Rattle.std.specs.Arc.{arc_value}
 use Rattle.std.specs.List.{filter_map}
 use Rattle.operator_lines.specs.Charts.{Call, Did as DidSo, Mapped as MappedSo, Charted, current_of}

@@ -171,13 +171,13 @@ fn count_lines(text: &[u8]) -> u64 {
 
 // So many lines, with their ends.
 fn first_lines(text: &[u8], count: u64) -> &[u8] {
-    let mut ends = 0;
+    let mut ends = 0u64;
     for (place, byte) in text.iter().enumerate() {
         if ends == count {
             return text.get(..place).unwrap_or(text);
         }
         if *byte == b'\n' {
-            ends += 1;
+            ends = ends.saturating_add(1);
         }
     }
     text

@@ -62,12 +62,16 @@ fn open<R: Wait + Clock + Drop>(rt: R, alloc: Global, seats: u32) -> Option<Turn
     requires { 0 < seats }
 {
     let network = read_network(alloc, SETTINGS).ok()?;
-    let plant = Plant::new(alloc, network).ok()?;
+    let Ok(plant) = Plant::new(alloc, network) else {
+        return None;
+    };
     TurnDesk::open(rt, alloc, plant, seats).ok()
 }
 
 fn load<D: Desk>(alloc: Global, desk: &mut D) -> Option<Outcome> {
-    let topology = topology(alloc, AT)?;
+    let Some(topology) = topology(alloc, AT) else {
+        return None;
+    };
     desk.act(Event::Load(AT, topology)).ok()
 }
 
@@ -105,22 +109,21 @@ struct Door<R: Abort + Wait + Clock> {
     passed: Vec<(As, u64)>,
 }
 
-impl<R: Abort + Wait + Clock> Door<R> {
-    fn opens(&mut self) -> bool {
-        for _look in 0..LOOKS {
-            if self.desk.ready(1).is_none() {
-                return true;
-            }
+// Whether there is one ready job in time, and no more.
+fn opens<R: Wait + Clock>(desk: &mut TurnDesk<R>) -> bool {
+    for _look in 0..LOOKS {
+        if desk.ready(1).is_none() {
+            return true;
         }
-        false
     }
+    false
 }
 
 impl<R: Abort + Wait + Clock> Gate for Door<R> {
     ghost passed = { λ d. d.passed.items };
 
     fn before(&mut self, at: As, number: u64) {
-        if number == 1 && !self.is_open && !self.opens() {
+        if number == 1 && !self.is_open && !opens(&mut self.desk) {
             self.gave_up = true;
         }
         let Ok(()) = self.passed.push((at, number)) else {
@@ -129,7 +132,7 @@ impl<R: Abort + Wait + Clock> Gate for Door<R> {
     }
 }
 
-fn door<R: Abort + Wait + Clock>(
+fn make_door<R: Abort + Wait + Clock>(
     rt: R,
     alloc: Global,
     desk: TurnDesk<R>,
@@ -172,7 +175,7 @@ fn a_job_that_was_solved_is_no_longer_ready(rt: HostRuntime) -> Result<(), Fail>
         (desk.ready(0), desk.ready(1), desk.ready(2)),
         (Some((AT, 1)), Some((AT, 2)), None)
     );
-    let mut desk = run(alloc, desk, door(rt, alloc, third, true), 1).ok_or("a turn")?;
+    let mut desk = run(alloc, desk, make_door(rt, alloc, third, true), 1).ok_or("a turn")?;
     assert_eq!(rt; (other.ready(0), other.ready(1)), (Some((AT, 1)), None));
     assert!(rt; matches!(other.look(AT, 2), Ok(None)));
     assert_eq!(rt; drain(&mut desk), Some((64, false)));
@@ -190,8 +193,8 @@ fn two_workers_at_one_lock_solve_beside_each_other(rt: HostRuntime) -> Result<()
     let fourth = first.split(rt).ok().ok_or("a fourth")?;
     ask(alloc, &mut first).ok_or("two requests")?;
     let (one, two) = (
-        door(rt, alloc, third, false),
-        door(rt, alloc, fourth, false),
+        make_door(rt, alloc, third, false),
+        make_door(rt, alloc, fourth, false),
     );
     let (first, second) = join(
         &rt,

@@ -7,12 +7,12 @@ use Rattle.diverse_pairs.proofs.solve.paths_form.Goals as goal
 pub far_addresses-requires : goal.far_addresses-requires
 far_addresses-requires c =
     rw c.as_slice.ensures.value
-    (path_within c.args.arcs.now c.args.in_use.items c.args.to c.in_ok-one.one.path.items c.args.from (length c.args.topology.now.links) c.requires.arcs c.in_ok-one.ensures.taken.goes)
+    (path_within c.args.arcs.now c.args.in_use.items c.args.to c.in_ok-one.one.path.items c.args.from (length c.args.topology.now.links) c.requires.along.long c.in_ok-one.ensures.taken.goes)
 
 pub far_addresses-requires-2 : goal.far_addresses-requires-2
 far_addresses-requires-2 c =
     rw c.as_slice-2.ensures.value
-    (path_within c.args.arcs.now c.in_ok-one.one.in_use.items c.args.to c.in_ok-other.other.path.items c.args.from (length c.args.topology.now.links) c.requires.arcs c.in_ok-other.ensures.taken.goes)
+    (path_within c.args.arcs.now c.in_ok-one.one.in_use.items c.args.to c.in_ok-other.other.path.items c.args.from (length c.args.topology.now.links) c.requires.along.long c.in_ok-other.ensures.taken.goes)
 
 pub returns : goal.returns
 returns c = record {

@@ -1,7 +1,6 @@
-use Rattle.diverse_pairs.proofs.Linked.{arcs_among}
+use Rattle.diverse_pairs.proofs.Along.{arcs_along}
 use Rattle.diverse_pairs.proofs.solve.search.Goals as goal
 
-pub distances-requires-clause-among : goal.distances-requires-clause-among
-distances-requires-clause-among c = λ i a is_arc.
-    rw c.node_count-nodes.ensures.count
-    (arcs_among c.args.topology.now c.args.query.now c.in_ok-arcs.arcs.items c.node_count-nodes.ensures.rules c.in_ok-arcs.ensures i a (rw c.as_slice.ensures.value at is_arc))
+pub distances-requires-clause-along : goal.distances-requires-clause-along
+distances-requires-clause-along c =
+    rw c.as_slice.ensures.value (arcs_along c.args.topology.now c.args.query.now c.in_ok-arcs.arcs.items c.own-own.ensures.rules c.in_ok-arcs.ensures)

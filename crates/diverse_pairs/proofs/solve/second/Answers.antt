@@ -6,6 +6,7 @@ use Rattle.diverse_pairs.specs.Residual.{AreHeights}
 use Rattle.diverse_pairs.specs.Conditions.{asked_of}
 use Rattle.diverse_pairs.specs.Solution.{IsSolved}
 use Rattle.diverse_pairs.specs.Solving.{ArePathsIn}
+use Rattle.diverse_pairs.proofs.Along.{arcs_along, residual_along}
 use Rattle.diverse_pairs.proofs.Beginning.{searched_near}
 use Rattle.diverse_pairs.proofs.Beside.{left_among, first_reached}
 use Rattle.diverse_pairs.proofs.Flow.{length_turned}
@@ -25,6 +26,15 @@ turn_tight-requires-clause-among c = λ i a is_arc.
     (left_among c.args.arcs.now c.args.walked.left.items c.args.to c.args.first.now c.args.walked.distances.items c.args.walked.in_use.items
     (is_left c.args.topology.now c.args._query.now c.args.source c.args._target c.args.from c.args.to c.args.arcs.now c.args.first.now c.args.walked.in_use.items c.args.walked.left.items c.args.walked.distances.items
     c.requires.placed c.requires.searched c.requires.walked) i a (rw c.deref.ensures.value at is_arc))
+
+pub turn_tight-requires-clause-along : goal.turn_tight-requires-clause-along
+turn_tight-requires-clause-along c =
+    rw c.deref.ensures.value
+    (residual_along c.args.topology.now c.args.arcs.now c.args.walked.left.items c.args.first.now c.args.walked.in_use.items
+    (arcs_along c.args.topology.now c.args._query.now c.args.arcs.now c.requires.placed.valid c.requires.searched.are) c.requires.walked.residual)
+
+pub paths_form-requires-clause-along : goal.paths_form-requires-clause-along
+paths_form-requires-clause-along c = arcs_along c.args.topology.now c.args._query.now c.args.arcs.now c.requires.placed.valid c.requires.searched.are
 
 pub turn_tight-requires-clause-source : goal.turn_tight-requires-clause-source
 turn_tight-requires-clause-source c =

@@ -1,22 +1,29 @@
-use Rattle.std.proofs.Common.{◌≡◌, ◌∙◌, ap, length, rules}
+use Rattle.std.proofs.Common.{◌≡◌, ◌∙◌, ap, length, rules, arith}
 use Rattle.diverse_pairs.proofs.Flow.{length_turned}
-use Rattle.diverse_pairs.proofs.Beginning.{searched_among, searched_near, residual_among}
+use Rattle.diverse_pairs.proofs.Along.{arcs_along, residual_along}
+use Rattle.diverse_pairs.proofs.Beginning.{searched_among, searched_near}
 use Rattle.diverse_pairs.proofs.solve.walk.Goals as goal
 
 pub turn_tight-requires-clause-among : goal.turn_tight-requires-clause-among
-turn_tight-requires-clause-among c = searched_among c.args._topology.now c.args._query.now c.args.to c.args.arcs.now c.args.first.now c.requires.rules c.requires.searched
+turn_tight-requires-clause-among c = searched_among c.args.topology.now c.args._query.now c.args.to c.args.arcs.now c.args.first.now c.requires.rules c.requires.searched
 
 pub residual_arcs-requires-clause-among : goal.residual_arcs-requires-clause-among
-residual_arcs-requires-clause-among c = searched_among c.args._topology.now c.args._query.now c.args.to c.args.arcs.now c.args.first.now c.requires.rules c.requires.searched
+residual_arcs-requires-clause-among c = searched_among c.args.topology.now c.args._query.now c.args.to c.args.arcs.now c.args.first.now c.requires.rules c.requires.searched
 
 pub residual_arcs-requires-clause-near : goal.residual_arcs-requires-clause-near
-residual_arcs-requires-clause-near c = searched_near c.args._topology.now c.args._query.now c.args.to c.args.arcs.now c.args.first.now c.requires.rules c.requires.searched
+residual_arcs-requires-clause-near c = searched_near c.args.topology.now c.args._query.now c.args.to c.args.arcs.now c.args.first.now c.requires.rules c.requires.searched
 
-pub distances-requires-clause-among : goal.distances-requires-clause-among
-distances-requires-clause-among c = λ i a is_arc.
-    residual_among c.args.arcs.now c.in_ok-left.left.items c.args.first.now c.as_slice.result.now
-    (searched_among c.args._topology.now c.args._query.now c.args.to c.args.arcs.now c.args.first.now c.requires.rules c.requires.searched)
-    c.in_ok-left.ensures i a (rw c.as_slice-2.ensures.value at is_arc)
+pub turn_tight-requires-clause-along : goal.turn_tight-requires-clause-along
+turn_tight-requires-clause-along c = arcs_along c.args.topology.now c.args._query.now c.args.arcs.now c.requires.rules c.requires.searched.are
+
+pub distances-requires-clause-along : goal.distances-requires-clause-along
+distances-requires-clause-along c =
+    rw c.as_slice-2.ensures.value
+    (residual_along c.args.topology.now c.args.arcs.now c.in_ok-left.left.items c.args.first.now c.as_slice.result.now
+    (arcs_along c.args.topology.now c.args._query.now c.args.arcs.now c.requires.rules c.requires.searched.are) c.in_ok-left.ensures)
+
+pub distances-requires-clause-target : goal.distances-requires-clause-target
+distances-requires-clause-target c = omega (arith, c.requires.to, c.requires.searched.long)
 
 pub residual_arcs-requires-clause-long : goal.residual_arcs-requires-clause-long
 residual_arcs-requires-clause-long c =

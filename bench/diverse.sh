@@ -1,0 +1,256 @@
+#!/bin/sh
+# Times a pair of disjoint paths at the limits, 1,024 nodes and 8,192 inner links, beside one search with the path that it shows,
+# on four topologies: many ties, metrics to 1,000, a grid, a line. Of 60 rounds the least counts, in microseconds, with the ratio.
+# It makes a program in a copy of the repository, proves and builds it there, and runs it. With another checkout it makes a second
+# one over that, and runs the two in turn, three times. The figures hold for the machine and the moment alone: no clause speaks
+# of time.
+# usage: bench/diverse.sh [CHECKOUT]
+set -eu
+if [ $# -gt 1 ]; then
+    echo 'usage: bench/diverse.sh [CHECKOUT]' >&2
+    exit 2
+fi
+top=$(cd "$(dirname "$0")/.." && pwd)
+copy=$(mktemp -d)
+trap 'rm -rf "$copy"' EXIT
+
+# The program over a checkout, in a folder.
+build() {
+    folder=$2
+    mkdir -p "$folder/crates"
+    cp "$1/HANDLES" "$folder/"
+    for name in dom_base line_text path_constraints path_exclusions pcep_codes pcep_capabilities pcep_subobjects pcep_objects pcep_messages te_links te_text walk_laws path_search path_certificate diverse_pairs; do
+        cp -r "$1/crates/$name" "$folder/crates/"
+        grep "^$name[ :]" "$1/crates.txt" >>"$folder/crates.txt"
+    done
+    echo 'pair_bench: dom_base te_links path_search diverse_pairs' >>"$folder/crates.txt"
+    crate=$folder/crates/pair_bench
+    mkdir -p "$crate/src"
+    sources
+    (cd "$crate" && rt run >"$folder/figures" 2>"$folder/log") || {
+        tail -40 "$folder/log" >&2
+        exit 1
+    }
+}
+
+sources() {
+    cat >"$crate/src/network.rt" <<'RT'
+//! Four topologies at the limits.
+use dom_base::{Addr, As, Link, List, NoMemory};
+use std::alloc::Global;
+use te_links::{Parts, Topology};
+
+const NODES: u32 = 1_024;
+
+const LINKS: u32 = 8_192;
+
+/// What a topology is like.
+#[derive(Clone, Copy)]
+pub enum Shape {
+    /// Links to nodes by a fixed rule, all metrics 1.
+    Ties,
+    /// The same, with metrics to 1,000.
+    Metrics,
+    /// A torus of 32 by 32 nodes, two links to each neighbour.
+    Grid,
+    /// A line, four links each way between neighbours.
+    Line,
+}
+
+// A number drawn from another.
+fn drawn(n: u32) -> u32 {
+    let a = (n ^ 61) ^ (n >> 16);
+    let b = a.wrapping_mul(9);
+    let c = (b ^ (b >> 4)).wrapping_mul(0x27D4_EB2D);
+    c ^ (c >> 15)
+}
+
+fn at(row: u32, column: u32) -> u32 {
+    (row % 32) * 32 + column % 32
+}
+
+// The end of the link with this number from this node.
+fn random_end(from: u32, n: u32) -> u32 {
+    let next = from.wrapping_add(1) % NODES;
+    let other = drawn(n) % NODES;
+    if n % 8 == 0 || other == from {
+        next
+    } else {
+        other
+    }
+}
+
+fn grid_end(from: u32, k: u32) -> u32 {
+    let row = from / 32;
+    let column = from % 32;
+    match k % 4 {
+        0 => at(row.wrapping_add(1), column),
+        1 => at(row.wrapping_add(31), column),
+        2 => at(row, column.wrapping_add(1)),
+        _ => at(row, column.wrapping_add(31)),
+    }
+}
+
+// The ends and the metric of a link.
+fn ends(shape: Shape, n: u32) -> (u32, u32, u32) {
+    let from = n / 8;
+    let some = 1 + drawn(n.wrapping_add(77)) % 1_000;
+    match shape {
+        Shape::Ties => (from, random_end(from, n), 1),
+        Shape::Metrics => (from, random_end(from, n), some),
+        Shape::Grid => (from, grid_end(from, n % 8), 1 + some % 10),
+        Shape::Line => {
+            let low = from % (NODES - 1);
+            if n % 8 < 4 {
+                (low, low + 1, some)
+            } else {
+                (low + 1, low, some)
+            }
+        }
+    }
+}
+
+fn addr(first: u32, n: u32) -> Addr {
+    Addr::V4(first.wrapping_add(n))
+}
+
+fn link(alloc: Global, shape: Shape, n: u32) -> Link {
+    let (from, to, te) = ends(shape, n);
+    Link {
+        from: addr(1, from),
+        to: addr(1, to),
+        near: addr(0x4000_0000, n),
+        far: addr(0x8000_0000, n),
+        igp: 1,
+        te,
+        bytes_per_second: 1_000,
+        colour: 0,
+        srlgs: List::new(alloc),
+    }
+}
+
+pub fn topology(alloc: Global, shape: Shape) -> Result<Option<Topology>, NoMemory> {
+    let mut nodes = List::new(alloc);
+    for n in 0..NODES {
+        nodes.push(addr(1, n))?;
+    }
+    let mut links = List::new(alloc);
+    for n in 0..LINKS {
+        links.push(link(alloc, shape, n))?;
+    }
+    let parts = Parts {
+        own: As(1),
+        nodes,
+        links,
+        outs: List::new(alloc),
+        entries: List::new(alloc),
+    };
+    match Topology::build(alloc, parts) {
+        Ok(topology) => Ok(Some(topology)),
+        Err(_refused) => Ok(None),
+    }
+}
+RT
+
+    cat >"$crate/src/main.rt" <<'RT'
+//! Times pairs and searches.
+#![tactic(auto)]
+
+mod network;
+
+use crate::network::{Shape, topology};
+use diverse_pairs::{PairCertificate, PairForm, solve_pair};
+use dom_base::{Addr, As, Cost, List, Metric, NoMemory, Query, Seed};
+use path_search::{search, segment};
+use std::alloc::Global;
+use std::io;
+use std::time::Instant;
+use te_links::{Counted, Topology};
+
+fn query(alloc: Global, cap: Cost) -> Query {
+    Query {
+        own: As(1),
+        metric: Metric::Te,
+        cap,
+        bandwidth: 0,
+        exclude_any: 0,
+        include_any: 0,
+        include_all: 0,
+        exclusions: List::new(alloc),
+    }
+}
+
+// How many links a least path from the first node to the one in the middle has.
+fn find(alloc: Global, topology: &Topology, query: &Query, zero: Cost) -> Result<usize, NoMemory> {
+    let node = Addr::V4(513);
+    let seed = Seed {
+        node,
+        cost: zero,
+        exit: node,
+    };
+    let mut links = Counted::new(topology);
+    let labels = search(alloc, &mut links, query, &[seed])?;
+    let Some(from) = topology.find_node(Addr::V4(1)) else {
+        return Ok(0);
+    };
+    match segment(alloc, &mut links, query, &[seed], &labels, from)? {
+        Some(places) => Ok(places.len()),
+        None => Ok(0),
+    }
+}
+
+fn links_of(certificate: &PairCertificate) -> usize {
+    match &certificate.form {
+        PairForm::Paths { first, second, .. } => first.len().saturating_add(second.len()),
+        PairForm::Cut(nodes) => nodes.len(),
+    }
+}
+
+fn pair(alloc: Global, topology: &Topology, query: &Query) -> Result<usize, NoMemory> {
+    let certificate = solve_pair(alloc, topology, query, Addr::V4(1), Addr::V4(513))?;
+    Ok(links_of(&certificate))
+}
+
+fn measure(rt: &HostRuntime, name: &str, shape: Shape) -> io::Result<()> {
+    let (Some(cap), Some(zero)) = (Cost::of(16_777_215), Cost::of(0)) else {
+        return println!(rt; "no cost");
+    };
+    let Ok(Some(topology)) = topology(rt.alloc(), shape) else {
+        return println!(rt; "no topology");
+    };
+    let query = query(rt.alloc(), cap);
+    let mut search = u128::MAX;
+    let mut both = u128::MAX;
+    let mut links = 0;
+    for _round in 0..60 {
+        let start = Instant::now(rt)?;
+        if let Ok(_links) = find(rt.alloc(), &topology, &query, zero) {
+            search = search.min(start.elapsed(rt)?.as_nanos());
+        }
+        let start = Instant::now(rt)?;
+        if let Ok(found) = pair(rt.alloc(), &topology, &query) {
+            both = both.min(start.elapsed(rt)?.as_nanos());
+            links = found;
+        }
+    }
+    println!(rt; "{name}: a search {} us, a pair {} us ({links} rows)", search / 1000, both / 1000)
+}
+
+fn main(rt: HostRuntime) -> io::Result<()> {
+    measure(&rt, "ties", Shape::Ties)?;
+    measure(&rt, "metrics", Shape::Metrics)?;
+    measure(&rt, "grid", Shape::Grid)?;
+    measure(&rt, "line", Shape::Line)
+}
+RT
+}
+
+build "$top" "$copy/here"
+sed 's/^/here: /' "$copy/here/figures"
+if [ $# -eq 1 ]; then
+    build "$(cd "$1" && pwd)" "$copy/there"
+    for _round in 1 2 3; do
+        (cd "$copy/there/crates/pair_bench" && rt run 2>"$copy/log") | sed 's/^/there: /'
+        (cd "$copy/here/crates/pair_bench" && rt run 2>"$copy/log") | sed 's/^/here: /'
+    done
+fi
