@@ -49,21 +49,21 @@ port_at rows k row below is = slice_get-map (λ (r : PeerRow). r.port) rows k �
 
 -- ---- ways
 
-pub links_more : (start : List (As × As)) (links : List (As × As)) (i : ℕ) (link : As × As) (old new : List (As × As)) → i < length links → link ≡ get_or links i link → old ≡ start ++ flat_map both_ways (take i links) →
-    new ≡ old ++ (link.0, link.1) ∷ (link.1, link.0) ∷ [] → new ≡ start ++ flat_map both_ways (take (i + 1) links)
-links_more start links i link old new below at first second =
+pub links_more : (start : List (As × As)) (links : List (As × As)) (i : ℕ) (d : As × As) (old new : List (As × As)) → i < length links → old ≡ start ++ flat_map both_ways (take i links) →
+    new ≡ old ++ both_ways (get_or links i d) → new ≡ start ++ flat_map both_ways (take (i + 1) links)
+links_more start links i d old new below first second =
     second
-    ∙ ap (λ (ways : List (As × As)). ways ++ both_ways link) first
-    ∙ flat_map_more both_ways start (take i links) link
-    ∙ ap (λ (ls : List (As × As)). start ++ flat_map both_ways ls) (ap (λ (l : As × As). take i links ++ l ∷ []) at ∙ sym (take_more links i link below))
+    ∙ ap (λ (ways : List (As × As)). ways ++ both_ways (get_or links i d)) first
+    ∙ flat_map_more both_ways start (take i links) (get_or links i d)
+    ∙ ap (λ (ls : List (As × As)). start ++ flat_map both_ways ls) (sym (take_more links i d below))
 
-pub children_more : (start : List (As × As)) (children : List As) (i : ℕ) (child : As) (old new : List (As × As)) → i < length children → child ≡ get_or children i child → old ≡ start ++ flat_map child_ways (take i children) →
-    new ≡ old ++ (parent_as, child) ∷ (child, parent_as) ∷ [] → new ≡ start ++ flat_map child_ways (take (i + 1) children)
-children_more start children i child old new below at first second =
+pub children_more : (start : List (As × As)) (children : List As) (i : ℕ) (d : As) (old new : List (As × As)) → i < length children → old ≡ start ++ flat_map child_ways (take i children) →
+    new ≡ old ++ child_ways (get_or children i d) → new ≡ start ++ flat_map child_ways (take (i + 1) children)
+children_more start children i d old new below first second =
     second
-    ∙ ap (λ (ways : List (As × As)). ways ++ child_ways child) first
-    ∙ flat_map_more child_ways start (take i children) child
-    ∙ ap (λ (cs : List As). start ++ flat_map child_ways cs) (ap (λ (c : As). take i children ++ c ∷ []) at ∙ sym (take_more children i child below))
+    ∙ ap (λ (ways : List (As × As)). ways ++ child_ways (get_or children i d)) first
+    ∙ flat_map_more child_ways start (take i children) (get_or children i d)
+    ∙ ap (λ (cs : List As). start ++ flat_map child_ways cs) (sym (take_more children i d below))
 
 -- ---- tasks
 
@@ -120,6 +120,9 @@ module _ {A : Type 0} where
   taken_such P yielded rest later whole x such all next =
       let same : whole ≡ yielded ++ x ∷ later = sym all ∙ ap (λ (xs : List A). yielded ++ xs) next in
       All-head P x later (all_behind P yielded (x ∷ later) (subst (All P) same such))
+
+pub new_taken : {K F I O R : Type 0} (yielded rest later whole : List (Task K F I O R)) (x : Task K F I O R) → All IsNew whole → yielded ++ rest ≡ whole → rest ≡ x ∷ later → IsNew x
+new_taken yielded rest later whole x such all next = taken_such IsNew yielded rest later whole x such all next
 
 -- ---- counts
 

@@ -1,16 +1,22 @@
-use Rattle.std.proofs.Common.{◌≡◌, ◌∙◌, ◌++◌, ◌∷◌, [], List, length, map, ap, sym, arith, append_assoc}
+use Rattle.std.proofs.Common.{rules, ◌≡◌, ◌∙◌, ◌++◌, ◌∷◌, [], List, length, map, ap, sym, arith, append_assoc}
 use Rattle.std.proofs.lemmas.List.{map-append}
 use Rattle.std.specs.Vec.Iter.{into_iter_items}
-use Rattle.serve_tasks.specs.Spawners.{started}
-use Rattle.serve_tasks.specs.Tasks.{IsNew, duty_of}
+use Rattle.serve_tasks.specs.Spawners.{faults_of, started}
+use Rattle.serve_tasks.specs.Tasks.{duty_of}
 use Rattle.serve_tasks.specs.declared.duties.Duty.{Duty}
-use Rattle.network_serving.proofs.Plans.{taken, taken_such}
+use Rattle.network_serving.specs.Starting.{IsUnstarted}
+use Rattle.network_serving.proofs.Plans.{taken}
+use Rattle.network_serving.proofs.Starts.{unstarted_from}
 use Rattle.network_serving.proofs.starting.start_all.Goals as goal
 
-pub start-requires-new : goal.start-requires-new
-start-requires-new g c =
-    taken_such IsNew c.loop-task.yielded (into_iter_items c.loop-task.task-iterator) (into_iter_items c.next.new.self) c.args.tasks.items c.in-Some.task c.loop-task.invariant.new c.loop-task.invariant.whole
-    c.in-Some.ensures.steps.0
+pub returns-in_err-start-clause-err : goal.returns-in_err-start-clause-err
+returns-in_err-start-clause-err g c =
+    let a = faults_of c.args.spawner.now in
+    let b = faults_of c.loop-task.spawner in
+    let d = faults_of c.start.new.spawner in
+    let end : IsUnstarted (a, d) c.in_err-start.field-0.0 = unstarted_from a b d c.in_err-start.field-0.0 c.loop-task.invariant.later c.in_err-start.ensures.err in
+    let from = c.from_residual.ensures in
+    search (rules, end, from)
 
 pub loop-task-preserved : goal.loop-task-preserved
 loop-task-preserved g c =
