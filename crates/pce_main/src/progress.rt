@@ -62,7 +62,7 @@ pub struct Progress<K: Sink + Drop> {
 }
 
 impl<K: Sink + Drop> Progress<K> {
-    pub fn new(rt: HostRuntime, sink: K) -> Self {
+    pub(crate) fn new(rt: HostRuntime, sink: K) -> Self {
         Progress {
             sink,
             pace: Pace::new(rt),

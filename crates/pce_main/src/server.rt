@@ -21,7 +21,7 @@ pub enum Ended {
 
 impl Ended {
     /// The exit status.
-    pub fn number(&self) -> u8 {
+    pub(crate) fn number(&self) -> u8 {
         match self {
             Ended::Usage => 1,
             Ended::Served(Served::Turns) => 0,
@@ -74,7 +74,7 @@ fn address_of(rt: &HostRuntime) -> Option<IpAddr> {
 }
 
 /// Serves the network of these settings until a signal ends the process. `threads` is the handle of what waits and starts threads.
-pub fn serve_network<R>(rt: &HostRuntime, threads: R, settings: &str) -> Ended
+pub(crate) fn serve_network<R>(rt: &HostRuntime, threads: R, settings: &str) -> Ended
 where
     R: Threads + Wait + Clock + Copy + Send + Drop + 'static,
 {
