@@ -121,6 +121,10 @@ module _ {A : Type 0} where
       let same : whole ≡ yielded ++ x ∷ later = sym all ∙ ap (λ (xs : List A). yielded ++ xs) next in
       All-head P x later (all_behind P yielded (x ∷ later) (subst (All P) same such))
 
+pub all_taken : {A : Type 0} (yielded rest whole : List A) → yielded ++ rest ≡ whole → length rest ≡ 0 → yielded ≡ whole
+all_taken yielded [] whole all none = sym (append-nil yielded) ∙ all
+all_taken yielded (x ∷ rest) whole all none = absurd (let no : ⊥ = omega (arith, none) in no)
+
 pub new_taken : {K F I O R : Type 0} (yielded rest later whole : List (Task K F I O R)) (x : Task K F I O R) → All IsNew whole → yielded ++ rest ≡ whole → rest ≡ x ∷ later → IsNew x
 new_taken yielded rest later whole x such all next = taken_such IsNew yielded rest later whole x such all next
 

@@ -218,33 +218,44 @@ fn a_fault_ends_it(rt: HostRuntime) -> Result<(), Fail> {
     Ok(())
 }
 
-// The settings with another port in the place of one.
-fn with_port(alloc: Global, from: &[u8; 4], to: &[u8; 4]) -> Result<Vec<u8>, Fail> {
-    let mut text = Vec::new(alloc);
-    let mut rest = SETTINGS;
-    while let [first, behind @ ..] = rest {
-        if let Some(after) = rest.strip_prefix(from) {
-            text.extend_from_slice(to)?;
-            rest = after;
-        } else {
-            text.push(*first)?;
-            rest = behind;
-        }
-    }
-    Ok(text)
-}
+// Two peers with one port, and a peer with that of watchers.
+const TWO_PEERS: &[u8] = b"\
+[[element]]
+as = 1
+id = \"192.0.2.1\"
+
+[[peer]]
+name = \"c1\"
+as = 1
+class = \"client\"
+port = 4189
+
+[[peer]]
+name = \"c2\"
+as = 1
+class = \"client\"
+port = 4189
+";
+
+const PEER_AND_WATCHERS: &[u8] = b"\
+watch = 4189
+
+[[element]]
+as = 1
+id = \"192.0.2.1\"
+
+[[peer]]
+name = \"c1\"
+as = 1
+class = \"client\"
+port = 4189
+";
 
 #[test]
 fn a_port_stands_once(rt: HostRuntime) -> Result<(), Fail> {
-    let peers = with_port(rt.alloc(), b"4190", b"4189")?;
-    assert_eq!(rt;
-        serve_once(rt, rt.alloc(), &peers, 9, 9)?.end.as_slice(),
-        b"bad network 0\n".as_slice()
-    );
-    let watchers = with_port(rt.alloc(), b"4200", b"4190")?;
-    assert_eq!(rt;
-        serve_once(rt, rt.alloc(), &watchers, 9, 9)?.end.as_slice(),
-        b"bad network 0\n".as_slice()
-    );
+    for settings in [TWO_PEERS, PEER_AND_WATCHERS] {
+        let run = serve_once(rt, rt.alloc(), settings, 9, 9)?;
+        assert_eq!(rt; run.end.as_slice(), b"bad network 0\n".as_slice());
+    }
     Ok(())
 }

@@ -1,8 +1,55 @@
-use Rattle.std.proofs.Common.{rules, ◌≡◌, ap, arith}
+use Rattle.std.proofs.Common.{rules, ◌≡◌, ◌∙◌, ◌++◌, ℕ, List, Option, ap, arith}
 use Rattle.plant_text.specs.declared.settings.NetworkParts.{NetworkParts}
-use Rattle.serve_tasks.specs.Spawners.{faults_of}
-use Rattle.network_serving.proofs.Starts.{watch_end}
+use Rattle.serve_tasks.specs.Spawners.{faults_of, started}
+use Rattle.serve_tasks.specs.declared.duties.Duty.{Duty}
+use Rattle.network_serving.specs.Duties.{watch_duties}
+use Rattle.network_serving.specs.Ports.{ports_of}
+use Rattle.network_serving.specs.Starting.{Called, IsStartEnd, called}
+use Rattle.network_serving.specs.declared.served.Served.{Served}
+use Rattle.network_serving.specs.declared.served.Served.TheVariants as served
+use Rattle.network_serving.proofs.Starts.{duties_on, unstarted_end, unstarted_from, want_start, watch_end}
 use Rattle.network_serving.proofs.serving.start_network.Goals as goal
+
+pub returns-in_err-start_all-clause-err : goal.returns-in_err-start_all-clause-err
+returns-in_err-start_all-clause-err g c =
+    let ports : List ℕ = ports_of c.args.prepared.network in
+    let x : Called = called (g.Q.Ports.calls c.args.ports.now, g.Q.Ports.calls c.plan_tasks.new.ports) (g.Q.Ports.faults c.args.ports.now, g.Q.Ports.faults c.plan_tasks.new.ports) (g.Q.Ports.failed_at c.plan_tasks.new.ports) in
+    let faults : ℕ × ℕ = (faults_of c.args.spawner.now, faults_of c.start_all.new.spawner) in
+    let end : IsStartEnd ports x faults c.in_err-start_all.field-0.0 = unstarted_end ports x faults c.in_err-start_all.field-0.0 c.in_err-start_all.ensures.err in
+    let from = c.from_residual-in_err-start_all.ensures in
+    search (rules, end, from)
+
+pub returns-in_err-beside-clause-err : goal.returns-in_err-beside-clause-err
+returns-in_err-beside-clause-err g c =
+    let ports : List ℕ = ports_of c.args.prepared.network in
+    let x : Called = called (g.Q.Ports.calls c.args.ports.now, g.Q.Ports.calls c.plan_tasks.new.ports) (g.Q.Ports.faults c.args.ports.now, g.Q.Ports.faults c.plan_tasks.new.ports) (g.Q.Ports.failed_at c.plan_tasks.new.ports) in
+    let faults : ℕ × ℕ = (faults_of c.args.spawner.now, faults_of c.start_all.new.spawner) in
+    let end : (s : Served) → s ≡ served.NoMemory → IsStartEnd ports x faults s = want_start ports x faults in
+    let from = c.from_residual-in_err-beside.ensures in
+    search (rules, end, from)
+
+pub returns-in_err-start-clause-err : goal.returns-in_err-start-clause-err
+returns-in_err-start-clause-err g c =
+    let ports : List ℕ = ports_of c.args.prepared.network in
+    let x : Called = called (g.Q.Ports.calls c.args.ports.now, g.Q.Ports.calls c.plan_tasks.new.ports) (g.Q.Ports.faults c.args.ports.now, g.Q.Ports.faults c.plan_tasks.new.ports) (g.Q.Ports.failed_at c.plan_tasks.new.ports) in
+    let a = faults_of c.args.spawner.now in
+    let b = faults_of c.start_all.new.spawner in
+    let d = faults_of c.start.new.spawner in
+    let s = c.in_err-start.field-0.0 in
+    let end : IsStartEnd ports x (a, d) c.in_err-start.field-0.0 = unstarted_end ports x (a, d) s (unstarted_from a b d s c.in_ok-start_all.ensures.later c.in_err-start.ensures.err) in
+    let from = c.from_residual-in_err-start.ensures in
+    search (rules, end, from)
+
+pub returns-clause-ok : goal.returns-clause-ok
+returns-clause-ok g c =
+    let n : NetworkParts = c.args.prepared.network in
+    let old : List Duty = started c.args.spawner.now in
+    let all : List Duty = started c.start_all.new.spawner in
+    let later : List Duty = started c.start.new.spawner in
+    let last : List Duty = started c.start_watch.new.spawner in
+    let is : c.parts-2.result.now.watch ≡ n.watch = ap (λ (m : NetworkParts). m.watch) c.parts-2.ensures.parts in
+    duties_on n old all later last (c.in_ok-start_all.ensures.ok ∙ ap (λ (ds : List Duty). old ++ ds) c.in_ok-tasks.ensures.ok.0) c.in_ok-start.ensures.ok
+    (c.in_ok-start_watch.ensures.ok ∙ ap (λ (w : Option ℕ). later ++ watch_duties w) is)
 
 pub returns-in_err-start_watch-clause-err : goal.returns-in_err-start_watch-clause-err
 returns-in_err-start_watch-clause-err g c =

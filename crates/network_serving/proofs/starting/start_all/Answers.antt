@@ -5,9 +5,22 @@ use Rattle.serve_tasks.specs.Spawners.{faults_of, started}
 use Rattle.serve_tasks.specs.Tasks.{duty_of}
 use Rattle.serve_tasks.specs.declared.duties.Duty.{Duty}
 use Rattle.network_serving.specs.Starting.{IsUnstarted}
-use Rattle.network_serving.proofs.Plans.{taken}
+use Rattle.network_serving.proofs.Plans.{all_taken, new_taken, taken}
 use Rattle.network_serving.proofs.Starts.{unstarted_from}
 use Rattle.network_serving.proofs.starting.start_all.Goals as goal
+
+pub start-requires-clause-new : goal.start-requires-clause-new
+start-requires-clause-new g c =
+    new_taken c.loop-task.yielded (into_iter_items c.loop-task.task-iterator) (into_iter_items c.next.new.self) c.args.tasks.items c.in-Some.task c.loop-task.invariant.new c.loop-task.invariant.whole
+    c.in-Some.ensures.steps.0
+
+pub returns-clause-ok : goal.returns-clause-ok
+returns-clause-ok g c =
+    let so_far = c.loop-task.invariant in
+    let step = c.in-None.ensures.steps in
+    let rest = into_iter_items c.loop-task.task-iterator in
+    let none : length rest ≡ 0 = omega (arith, so_far.left, step.0) in
+    so_far.started ∙ ap (λ ts. started c.args.spawner.now ++ map (duty_of g.K.Listener.opened_at) ts) (all_taken c.loop-task.yielded rest c.args.tasks.items so_far.whole none)
 
 pub returns-in_err-start-clause-err : goal.returns-in_err-start-clause-err
 returns-in_err-start-clause-err g c =
