@@ -97,9 +97,10 @@ fn push_task<K: Listener + Drop, F: Drop, I: Drop, O: Drop, R: Wait + Clock + Dr
     requires new { IsNew task }
     ensures ok { OnOk result (Adds K.opened_at tasks.old.items tasks.new.items (duty_of K.opened_at task ∷ [])) }
 {
-    tasks.reserve(1)?;
-    tasks.push_reserved(task);
-    Ok(())
+    match tasks.push(task) {
+        Ok(()) => Ok(()),
+        Err(_) => Err(NoMemory),
+    }
 }
 
 // A task for the port of each peer, in order.
