@@ -5,3 +5,6 @@ use Rattle.serve_tasks.proofs.threads.start_thread.Goals as goal
 
 pub spawn-requires-send-F : goal.spawn-requires-send-F
 spawn-requires-send-F g c κs = search (sendable, crosses, task_send) depth 40
+
+pub spawn-requires-send-T : goal.spawn-requires-send-T
+spawn-requires-send-T g c = search (sendable, crosses, task_send) depth 40
