@@ -1,18 +1,23 @@
 -- Tasks that are planned one after the other.
 use Rattle.std.proofs.Common.{◌≡◌, ◌∙◌, ◌+◌, ◌-◌, ◌^◌, ◌<◌, ◌≤◌, ℕ, zero, suc, min, List, [], ◌∷◌, ◌++◌, length, map, take, get_or, All, ap, refl, sym, subst, arith, append_assoc, append-nil, Some}
 use Rattle.std.specs.Prelude.{slice_get}
-use Rattle.std.proofs.lemmas.List.{length-take-le, map-append, take_more}
-use Rattle.std.proofs.lemmas.List.Elements.{All-push}
-use Rattle.std.proofs.lemmas.Option.{slice_get-get_or, slice_get-map}
+use Rattle.std.proofs.lemmas.List.{flat_map_more, length-take-le, map-append, take_more}
+use Rattle.std.specs.List.{flat_map}
+use Rattle.dom_base.specs.declared.names.As.{As}
+use Rattle.plant_text.specs.Names.{parent_as}
+use Rattle.std.proofs.lemmas.List.Elements.{All-head, All-nil, All-push, All-tail}
+use Rattle.std.proofs.lemmas.Option.{slice_get-map, slice_get_read}
+use Rattle.std.specs.Option.{option_map}
 use Rattle.dom_edge.specs.Causes.{Rose, next_count}
+use Rattle.plant_text.specs.declared.settings.NetworkParts.{NetworkParts}
 use Rattle.plant_text.specs.declared.settings.PeerRow.{PeerRow}
 use Rattle.serve_tasks.specs.Tasks.{IsNew, duty_of}
 use Rattle.serve_tasks.specs.declared.duties.Duty.{Duty}
-use Rattle.serve_tasks.specs.declared.duties.Duty.TheVariants.{Port, Work}
+use Rattle.serve_tasks.specs.declared.duties.Duty.TheVariants.{Carry, Port, Work}
 use Rattle.serve_tasks.specs.declared.tasks.Task.{Task}
-use Rattle.network_serving.specs.Duties.{port_duties, work_duties}
+use Rattle.network_serving.specs.Duties.{both_ways, child_ways, first_duties, port_duties, ways_of, work_duties}
 use Rattle.network_serving.specs.Ends.{RoseBy}
-use Rattle.network_serving.specs.Starting.{Adds}
+use Rattle.network_serving.specs.Starting.{Adds, peer_ports}
 
 -- ---- duties
 
@@ -24,17 +29,41 @@ port_on j (row ∷ rows) b =
 
 pub port_more : (rows : List PeerRow) (k : ℕ) (row : PeerRow) → k < length rows → row ≡ get_or rows k row → port_duties 0 (take (k + 1) rows) ≡ port_duties 0 (take k rows) ++ Port k row.port ∷ []
 port_more rows k row below is =
-    let long : length (take k rows) ≡ k = length-take-le k rows (omega (arith, below)) in
+    let long : 0 + length (take k rows) ≡ k = omega (arith, length-take-le k rows (omega (arith, below))) in
     ap (port_duties 0) (take_more rows k row below ∙ ap (λ (r : PeerRow). take k rows ++ r ∷ []) (sym is))
     ∙ port_on 0 (take k rows) (row ∷ [])
-    ∙ ap (λ (i : ℕ). port_duties 0 (take k rows) ++ Port i row.port ∷ []) long
+    ∙ ap (λ (i : ℕ). port_duties 0 (take k rows) ++ port_duties i (row ∷ [])) long
 
 work_on : (j n : ℕ) → work_duties j (suc n) ≡ work_duties j n ++ Work (j + n) ∷ []
 work_on j zero = let same : j ≡ j + 0 = omega arith in ap (λ (i : ℕ). Work i ∷ []) same
 work_on j (suc n) = let same : suc j + n ≡ j + suc n = omega arith in ap (λ (ds : List Duty). Work j ∷ ds) (work_on (suc j) n ∙ ap (λ (i : ℕ). work_duties (suc j) n ++ Work i ∷ []) same)
 
 pub work_more : (n : ℕ) → work_duties 0 (n + 1) ≡ work_duties 0 n ++ Work n ∷ []
-work_more n = let same : n + 1 ≡ suc n = omega arith in ap (work_duties 0) same ∙ work_on 0 n
+work_more n =
+    let same : n + 1 ≡ suc n = omega arith in
+    let none : 0 + n ≡ n = omega arith in
+    ap (work_duties 0) same ∙ work_on 0 n ∙ ap (λ (i : ℕ). work_duties 0 n ++ Work i ∷ []) none
+
+pub port_at : (rows : List PeerRow) (k : ℕ) (row : PeerRow) → k < length rows → row ≡ get_or rows k row → slice_get (peer_ports rows) k ≡ Some row.port
+port_at rows k row below is = slice_get-map (λ (r : PeerRow). r.port) rows k ∙ ap (option_map (λ (r : PeerRow). r.port)) (slice_get_read rows (length rows) k row refl below is)
+
+-- ---- ways
+
+pub links_more : (start : List (As × As)) (links : List (As × As)) (i : ℕ) (d : As × As) (old new : List (As × As)) → i < length links → old ≡ start ++ flat_map both_ways (take i links) →
+    new ≡ old ++ both_ways (get_or links i d) → new ≡ start ++ flat_map both_ways (take (i + 1) links)
+links_more start links i d old new below first second =
+    second
+    ∙ ap (λ (ways : List (As × As)). ways ++ both_ways (get_or links i d)) first
+    ∙ flat_map_more both_ways start (take i links) (get_or links i d)
+    ∙ ap (λ (ls : List (As × As)). start ++ flat_map both_ways ls) (sym (take_more links i d below))
+
+pub children_more : (start : List (As × As)) (children : List As) (i : ℕ) (d : As) (old new : List (As × As)) → i < length children → old ≡ start ++ flat_map child_ways (take i children) →
+    new ≡ old ++ child_ways (get_or children i d) → new ≡ start ++ flat_map child_ways (take (i + 1) children)
+children_more start children i d old new below first second =
+    second
+    ∙ ap (λ (ways : List (As × As)). ways ++ child_ways (get_or children i d)) first
+    ∙ flat_map_more child_ways start (take i children) (get_or children i d)
+    ∙ ap (λ (cs : List As). start ++ flat_map child_ways cs) (sym (take_more children i d below))
 
 -- ---- tasks
 
@@ -53,6 +82,47 @@ module _ {K F I O R : Type 0} (opened_at : K → ℕ) where
     duties_are = second.duties_are ∙ ap (λ (ds : List Duty). ds ++ b) first.duties_are ∙ append_assoc (map (duty_of opened_at) old) a b;
     are_new = λ all. second.are_new (first.are_new all);
   }
+
+  -- a task of the port of one more peer, or of one more worker
+  pub port_added : (rows : List PeerRow) (k : ℕ) (row : PeerRow) (port : ℕ) (old mid new : List (Task K F I O R)) → k < length rows → row ≡ get_or rows k row → port ≡ row.port →
+      Adds opened_at old mid (port_duties 0 (take k rows)) → Adds opened_at mid new (Port k port ∷ []) → Adds opened_at old new (port_duties 0 (take (k + 1) rows))
+  port_added rows k row port old mid new below is same first second =
+      subst (Adds opened_at old new) (sym (port_more rows k row below is))
+      (added_on old mid new (port_duties 0 (take k rows)) (Port k row.port ∷ []) first (subst (λ (p : ℕ). Adds opened_at mid new (Port k p ∷ [])) same second))
+
+  pub work_added : (n : ℕ) (old mid new : List (Task K F I O R)) → Adds opened_at old mid (work_duties 0 n) → Adds opened_at mid new (Work n ∷ []) → Adds opened_at old new (work_duties 0 (n + 1))
+  work_added n old mid new first second = subst (Adds opened_at old new) (sym (work_more n)) (added_on old mid new (work_duties 0 n) (Work n ∷ []) first second)
+
+  -- all of them
+  pub all_planned : (n parts : NetworkParts) (peers : List PeerRow) (start ports carrier all : List (Task K F I O R)) → parts ≡ n → peers ≡ parts.peers → start ≡ [] → Adds opened_at start ports (port_duties 0 peers) →
+      Adds opened_at ports carrier (Carry (ways_of parts) ∷ []) → Adds opened_at carrier all (work_duties 0 parts.workers) → (map (duty_of opened_at) all ≡ first_duties n) × All IsNew all
+  all_planned n parts peers start ports carrier all same rows none first second third =
+      let adds : Adds opened_at start all (port_duties 0 peers ++ (Carry (ways_of parts) ∷ work_duties 0 parts.workers)) =
+      added_on start ports all (port_duties 0 peers) (Carry (ways_of parts) ∷ work_duties 0 parts.workers) first (added_on ports carrier all (Carry (ways_of parts) ∷ []) (work_duties 0 parts.workers) second third) in (
+        adds.duties_are
+            ∙ ap (λ (ts : List (Task K F I O R)). map (duty_of opened_at) ts ++ (port_duties 0 peers ++ (Carry (ways_of parts) ∷ work_duties 0 parts.workers))) none
+            ∙ ap (λ (rs : List PeerRow). port_duties 0 rs ++ (Carry (ways_of parts) ∷ work_duties 0 parts.workers)) rows
+            ∙ ap first_duties same,
+        adds.are_new (subst (All IsNew) (sym none) (All-nil IsNew)),
+      )
+
+-- ---- tasks that are taken one after the other
+
+module _ {A : Type 0} where
+  all_behind : (P : A → Type 0) (xs ys : List A) → All P (xs ++ ys) → All P ys
+  all_behind P [] ys all = all
+  all_behind P (x ∷ xs) ys all = all_behind P xs ys (All-tail P x (xs ++ ys) all)
+
+  pub taken : (yielded rest later whole : List A) (x : A) → yielded ++ rest ≡ whole → rest ≡ x ∷ later → (yielded ++ x ∷ []) ++ later ≡ whole
+  taken yielded rest later whole x all next = append_assoc yielded (x ∷ []) later ∙ ap (λ (xs : List A). yielded ++ xs) (sym next) ∙ all
+
+  pub taken_such : (P : A → Type 0) (yielded rest later whole : List A) (x : A) → All P whole → yielded ++ rest ≡ whole → rest ≡ x ∷ later → P x
+  taken_such P yielded rest later whole x such all next =
+      let same : whole ≡ yielded ++ x ∷ later = sym all ∙ ap (λ (xs : List A). yielded ++ xs) next in
+      All-head P x later (all_behind P yielded (x ∷ later) (subst (All P) same such))
+
+pub new_taken : {K F I O R : Type 0} (yielded rest later whole : List (Task K F I O R)) (x : Task K F I O R) → All IsNew whole → yielded ++ rest ≡ whole → rest ≡ x ∷ later → IsNew x
+new_taken yielded rest later whole x such all next = taken_such IsNew yielded rest later whole x such all next
 
 -- ---- counts
 

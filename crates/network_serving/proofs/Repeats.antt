@@ -1,7 +1,8 @@
 -- Ports that stand twice.
-use Rattle.std.proofs.Common.{◌≡◌, ◌∙◌, ◌⊎◌, inl, inr, ◌+◌, ◌≤◌, ◌<◌, ℕ, List, length, take, ap, refl, sym, subst, arith, Bool, true, false, Option, Some, None}
+use Rattle.std.proofs.Common.{◌≡◌, ◌∙◌, ◌⊎◌, inl, inr, ◌+◌, ◌≤◌, ◌<◌, ℕ, List, length, take, get_or, ap, refl, sym, subst, arith, Bool, true, false, Option, Some, None}
 use Rattle.std.specs.Prelude.{slice_get, codes, IfSome}
-use Rattle.std.proofs.lemmas.Option.{slice_get_cases}
+use Rattle.std.proofs.lemmas.Bool.{cases_lt}
+use Rattle.std.proofs.lemmas.Option.{slice_get_cases, slice_get_read}
 use Rattle.plant_text.specs.declared.fault.NetFault.{NetFault}
 use Rattle.plant_text.specs.declared.fault.NetFault.TheVariants.{Duplicate}
 use Rattle.plant_text.specs.declared.settings.NetworkParts.{NetworkParts}
@@ -12,18 +13,15 @@ use Rattle.network_serving.specs.declared.served.Served.{Served}
 use Rattle.network_serving.specs.declared.served.Served.TheVariants as served
 
 module _ (peers : List PeerRow) where
-  pub repeat_at : (i : ℕ) (row : PeerRow) (b : Bool) → slice_get peers i ≡ Some row → has_port row.port (take i peers) ≡ b → repeats peers i ≡ b
-  repeat_at i row b at is = ap (repeats_in (take i peers)) at ∙ is
+  pub repeat_at : (i : ℕ) (row : PeerRow) (b : Bool) → i < length peers → row ≡ get_or peers i row → has_port row.port (take i peers) ≡ b → repeats peers i ≡ b
+  repeat_at i row b below at is = ap (repeats_in (take i peers)) (slice_get_read peers (length peers) i row refl below at) ∙ is
 
   -- one more peer has no port of an earlier one
-  pub none_more : (i : ℕ) (row : PeerRow) → slice_get peers i ≡ Some row → has_port row.port (take i peers) ≡ false → ((k : ℕ) → k < i → repeats peers k ≡ false) → (k : ℕ) → k < i + 1 → repeats peers k ≡ false
-  none_more i row at is before k less = elim (below k less) [
+  pub none_more : (i : ℕ) (row : PeerRow) → i < length peers → row ≡ get_or peers i row → has_port row.port (take i peers) ≡ false → ((k : ℕ) → k < i → repeats peers k ≡ false) → (k : ℕ) → k < i + 1 → repeats peers k ≡ false
+  none_more i row below at is before k less = elim (cases_lt k i) [
     | inl earlier ↦ before k earlier
-    | inr same ↦ subst (λ (j : ℕ). repeats peers j ≡ false) (sym same) (repeat_at i row false at is)
+    | inr later ↦ let same : k ≡ i = omega (arith, less, later) in subst (λ (j : ℕ). repeats peers j ≡ false) (sym same) (repeat_at i row false below at is)
   ]
-    where
-      below : (j : ℕ) → j < i + 1 → (j < i) ⊎ (j ≡ i)
-      below j l = omega (arith, l)
 
   -- past the last there is none
   pub none_at_all : ((k : ℕ) → k < length peers → repeats peers k ≡ false) → (k : ℕ) → repeats peers k ≡ false
@@ -36,7 +34,7 @@ module _ (peers : List PeerRow) where
 
 module _ (name : List ℕ) (n : NetworkParts) where
   told : (fault : NetFault) (s : Served) → IsPortFault n fault → IsBadText name (λ line other. (line ≡ 0) × (other ≡ fault)) s → IsRefusedPort name n s
-  told fault (served.BadNetwork file line other) is bad = (bad.0, bad.1, subst (IsPortFault n) (sym bad.2) is)
+  told fault (served.BadNetwork file line other) is bad = (bad.0, bad.1.0, subst (IsPortFault n) (sym bad.1.1) is)
   told fault served.NoMemory is bad = tt
   told fault served.Turns is bad = absurd bad
   told fault served.ReadFault is bad = absurd bad

@@ -52,7 +52,7 @@ module _ (n : NetworkParts) where
 
   behind : (a b c d e f at port : ℕ) → RoseBy (length n.peers) (a, b) → d ≤ e → IsUnlistened (option_to_list n.watch) (called (b, c) (e, f) at) port → IsUnlistened (ports_of n) (called (a, c) (d, f) at) port
   behind a b c d e f at port calls less is =
-      let long : length (peer_ports n.peers) ≡ length n.peers = length-map (λ (row : PeerRow). row.port) n.peers in
+      let long : length (peer_ports n.peers) ≡ length n.peers = length-map n.peers (λ (row : PeerRow). row.port) in
       record {
         place = length (peer_ports n.peers) + is.place;
         at_place = get_behind (peer_ports n.peers) (option_to_list n.watch) is.place ∙ is.at_place;
@@ -72,15 +72,20 @@ module _ (n : NetworkParts) where
   planned_end x faults served.NoThread is = absurd is
 
   -- watchers can't be answered
-  pub watch_end : (a b c d e f at g h i : ℕ) (s : Served) → RoseBy (length n.peers) (a, b) → d ≤ e → g ≤ h → IsStartEnd (option_to_list n.watch) (called (b, c) (e, f) at) (h, i) s →
+  watched_end : (a b c d e f at g h i : ℕ) (s : Served) → RoseBy (length n.peers) (a, b) → d ≤ e → g ≤ h → IsStartEnd (option_to_list n.watch) (called (b, c) (e, f) at) (h, i) s →
       IsStartEnd (ports_of n) (called (a, c) (d, f) at) (g, i) s
-  watch_end a b c d e f at g h i (served.NoPort port) calls less fewer is = behind a b c d e f at port calls less is
-  watch_end a b c d e f at g h i served.NoThread calls less fewer is = rose_from g h i fewer is
-  watch_end a b c d e f at g h i served.NoMemory calls less fewer is = tt
-  watch_end a b c d e f at g h i served.Turns calls less fewer is = absurd is
-  watch_end a b c d e f at g h i served.ReadFault calls less fewer is = absurd is
-  watch_end a b c d e f at g h i (served.TooLarge file) calls less fewer is = absurd is
-  watch_end a b c d e f at g h i (served.BadNetwork file line fault) calls less fewer is = absurd is
+  watched_end a b c d e f at g h i (served.NoPort port) calls less fewer is = behind a b c d e f at port calls less is
+  watched_end a b c d e f at g h i served.NoThread calls less fewer is = rose_from g h i fewer is
+  watched_end a b c d e f at g h i served.NoMemory calls less fewer is = tt
+  watched_end a b c d e f at g h i served.Turns calls less fewer is = absurd is
+  watched_end a b c d e f at g h i served.ReadFault calls less fewer is = absurd is
+  watched_end a b c d e f at g h i (served.TooLarge file) calls less fewer is = absurd is
+  watched_end a b c d e f at g h i (served.BadNetwork file line fault) calls less fewer is = absurd is
+
+  pub watch_end : (watch : Option ℕ) (a b c d e f at g h i : ℕ) (s : Served) → watch ≡ n.watch → RoseBy (length n.peers) (a, b) → d ≤ e → g ≤ h → IsStartEnd (option_to_list watch) (called (b, c) (e, f) at) (h, i) s →
+      IsStartEnd (ports_of n) (called (a, c) (d, f) at) (g, i) s
+  watch_end watch a b c d e f at g h i s is calls less fewer ends =
+      watched_end a b c d e f at g h i s calls less fewer (subst (λ (w : Option ℕ). IsStartEnd (option_to_list w) (called (b, c) (e, f) at) (h, i) s) is ends)
 
 -- ---- threads
 
@@ -144,11 +149,11 @@ module _ (w : World) (name : List ℕ) (turns : ℕ) where
   ]
   load_ends (served.NoPort port) is = elim is [
     | inl file ↦ absurd file
-    | inr network ↦ elim network.ends [ inl no ↦ absurd no | inr topology ↦ absurd (no_other_end w.files topology.row.own topology.row.topology w.store_faults w.failed_at (served.NoPort port) (λ e. let no : ⊥ = cc in no) (λ n e. e) topology.ends) ]
+    | inr network ↦ elim network.ends [ inl port' ↦ absurd port' | inr topology ↦ absurd (no_other_end w.files topology.row.own topology.row.topology w.store_faults w.failed_at (served.NoPort port) (λ e. let no : ⊥ = cc in no) (λ n e. e) topology.ends) ]
   ]
   load_ends served.NoThread is = elim is [
     | inl file ↦ absurd file
-    | inr network ↦ elim network.ends [ inl no ↦ absurd no | inr topology ↦ absurd (no_other_end w.files topology.row.own topology.row.topology w.store_faults w.failed_at served.NoThread (λ e. let no : ⊥ = cc in no) (λ n e. e) topology.ends) ]
+    | inr network ↦ elim network.ends [ inl port' ↦ absurd port' | inr topology ↦ absurd (no_other_end w.files topology.row.own topology.row.topology w.store_faults w.failed_at served.NoThread (λ e. let no : ⊥ = cc in no) (λ n e. e) topology.ends) ]
   ]
 
   pub start_ends : (n : NetworkParts) (s : Served) → HasNetwork w.files name n → IsStartEnd (ports_of n) (called w.port_calls w.port_faults w.failed_port) w.spawner_faults s → Ends w name turns s

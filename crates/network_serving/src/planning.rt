@@ -1,9 +1,10 @@
 //! The tasks of the ports, of the carrier and of the workers.
 ghost use Rattle.std.specs.Prelude.{◌≡◌, ◌≤◌, ◌<◌, ◌^◌, ◌++◌, ◌∷◌, [], All, IfErr, IfOk, OnOk, length, map};
+ghost use Rattle.std.specs.List.{flat_map};
 ghost use Rattle.dom_edge.specs.Causes.{next_count};
 ghost use Rattle.serve_tasks.specs.Tasks.{IsNew, duty_of};
 ghost use Rattle.serve_tasks.specs.declared.duties.Duty.TheVariants.{Carry};
-ghost use Rattle.network_serving.specs.Duties.{first_duties, port_duties, ways_of, work_duties};
+ghost use Rattle.network_serving.specs.Duties.{both_ways, child_ways, first_duties, port_duties, ways_of, work_duties};
 ghost use Rattle.network_serving.specs.Ends.{RoseBy};
 ghost use Rattle.network_serving.specs.Starting.{Adds, IsClosed, IsPlanEnd, called, peer_ports};
 
@@ -30,18 +31,36 @@ fn push_both(ways: &mut List<(As, As)>, a: As, b: As) -> Result<(), NoMemory>
     ways.push((b, a))
 }
 
+// Both ways of each of these links, behind others.
+fn add_links(ways: &mut List<(As, As)>, links: &[(As, As)]) -> Result<(), NoMemory>
+    ensures { OnOk result (ways.new ≡ ways.old ++ flat_map both_ways links.now) }
+{
+    for i in 0..links.len() {
+        let link = links[i];
+        push_both(ways, link.0, link.1)?;
+    }
+    Ok(())
+}
+
+// Both ways between the parent and each of these domains, behind others.
+fn add_children(ways: &mut List<(As, As)>, children: &[As]) -> Result<(), NoMemory>
+    ensures { OnOk result (ways.new ≡ ways.old ++ flat_map child_ways children.now) }
+{
+    for i in 0..children.len() {
+        let child = children[i];
+        push_both(ways, As(0), child)?;
+    }
+    Ok(())
+}
+
 /// The ways along which messages are carried.
 pub(crate) fn ways_of(alloc: Global, parts: &NetworkParts) -> Result<List<(As, As)>, NoMemory>
     ensures { IfOk result (λ ways. ways ≡ ways_of parts.now) }
 {
     let mut ways = List::new(alloc);
-    for link in parts.links.as_slice() {
-        push_both(&mut ways, link.0, link.1)?;
-    }
+    add_links(&mut ways, parts.links.as_slice())?;
     let children = children_of(alloc, parts.elements.as_slice())?;
-    for child in children.as_slice() {
-        push_both(&mut ways, As(0), *child)?;
-    }
+    add_children(&mut ways, children.as_slice())?;
     Ok(ways)
 }
 
@@ -69,6 +88,21 @@ pub(crate) fn listen<Q: Ports>(ports: &mut Q, port: u16) -> Result<Q::Port, Serv
     }
 }
 
+// One task more.
+#[tactic(auto, using(crate::proofs::Plans::one_added))]
+fn push_task<K: Listener + Drop, F: Drop, I: Drop, O: Drop, R: Wait + Clock + Drop>(
+    tasks: &mut Vec<Task<K, F, I, O, R>>,
+    task: Task<K, F, I, O, R>,
+) -> Result<(), NoMemory>
+    requires new { IsNew task }
+    ensures ok { OnOk result (Adds K.opened_at tasks.old.items tasks.new.items (duty_of K.opened_at task ∷ [])) }
+{
+    match tasks.push(task) {
+        Ok(()) => Ok(()),
+        Err(_) => Err(NoMemory),
+    }
+}
+
 // A task for the port of each peer, in order.
 #[tactic(auto, using(crate::proofs::Starts::plan_end, crate::proofs::Starts::want_plan))]
 fn add_ports<Q: Ports, F: Drop, I: Drop, O: Drop, R: Wait + Clock + Copy + Drop>(
@@ -92,9 +126,7 @@ fn add_ports<Q: Ports, F: Drop, I: Drop, O: Drop, R: Wait + Clock + Copy + Drop>
             listener,
             desk,
         };
-        if tasks.push(task).is_err() {
-            return Err(Served::NoMemory);
-        }
+        push_task(tasks, task)?;
     }
     Ok(())
 }
@@ -112,16 +144,14 @@ fn add_workers<K: Listener + Drop, F: Drop, I: Drop, O: Drop, R: Wait + Clock + 
     for index in 0..workers {
         let cache = Cache::new(alloc, CACHE_CAPACITY)?;
         let bench = desk_beside(rt, desk)?;
-        if tasks
-            .push(Task::Work {
+        push_task(
+            tasks,
+            Task::Work {
                 index,
                 cache,
                 bench,
-            })
-            .is_err()
-        {
-            return Err(NoMemory);
-        }
+            },
+        )?;
     }
     Ok(())
 }
@@ -138,10 +168,7 @@ fn add_carrier<K: Listener + Drop, F: Drop, I: Drop, O: Drop, R: Wait + Clock + 
 {
     let links = ways_of(alloc, parts)?;
     let desk = desk_beside(rt, desk)?;
-    match tasks.push(Task::Carry { links, desk }) {
-        Ok(()) => Ok(()),
-        Err(_) => Err(NoMemory),
-    }
+    push_task(tasks, Task::Carry { links, desk })
 }
 
 /// The tasks of the ports, of the carrier and of the workers. It listens at each peer's port, in order.

@@ -1,5 +1,5 @@
 //! Settings that name a port twice.
-ghost use Rattle.std.specs.Prelude.{◌≡◌, ◌<◌, ◌≤◌, OnErr, OnOk, IfErr, IfNone, IfSome, length, true, false, ℕ};
+ghost use Rattle.std.specs.Prelude.{◌≡◌, ◌<◌, ◌≤◌, ◌^◌, OnErr, OnOk, IfErr, IfNone, IfSome, length, true, false, ℕ};
 ghost use Rattle.network_serving.specs.Ports.{AreApart, IsFirstRepeat, IsRefusedPort, has_port, repeats};
 ghost use Rattle.plant_text.specs.declared.fault.NetFault.TheVariants.{Duplicate};
 ghost use Rattle.network_serving.specs.Files.{IsBadText};

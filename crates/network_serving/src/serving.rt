@@ -115,6 +115,7 @@ where
 /// that answers them. Then it tells the time, in so many turns.
 ///
 /// `files`, `input` and `out` are the operator's. What is said on `log` is a line for each task that was started, and `pce: ready`.
+#[tactic(auto, using(crate::proofs::Starts::load_ends, crate::proofs::Starts::start_ends))]
 pub fn serve<T, Q, S, C, F, I, O, R, L>(
     rt: R,
     alloc: Global,

@@ -49,7 +49,7 @@ where
 }
 
 /// Starts tasks, one after the other.
-#[tactic(auto, using(crate::proofs::Starts::unstarted_from))]
+#[tactic(auto, using(crate::proofs::Starts::unstarted_from, crate::proofs::Plans::new_taken))]
 pub(crate) fn start_all<S, K, F, I, O, R, L>(
     alloc: Global,
     spawner: &mut Spawner<S>,

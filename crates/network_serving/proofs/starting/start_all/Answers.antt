@@ -1,0 +1,36 @@
+use Rattle.std.proofs.Common.{rules, ◌≡◌, ◌∙◌, ◌++◌, ◌∷◌, [], List, length, map, ap, sym, arith, append_assoc}
+use Rattle.std.proofs.lemmas.List.{map-append}
+use Rattle.std.specs.Vec.Iter.{into_iter_items}
+use Rattle.serve_tasks.specs.Spawners.{faults_of, started}
+use Rattle.serve_tasks.specs.Tasks.{duty_of}
+use Rattle.serve_tasks.specs.declared.duties.Duty.{Duty}
+use Rattle.network_serving.specs.Starting.{IsUnstarted}
+use Rattle.network_serving.proofs.Plans.{taken}
+use Rattle.network_serving.proofs.Starts.{unstarted_from}
+use Rattle.network_serving.proofs.starting.start_all.Goals as goal
+
+pub returns-in_err-start-clause-err : goal.returns-in_err-start-clause-err
+returns-in_err-start-clause-err g c =
+    let a = faults_of c.args.spawner.now in
+    let b = faults_of c.loop-task.spawner in
+    let d = faults_of c.start.new.spawner in
+    let end : IsUnstarted (a, d) c.in_err-start.field-0.0 = unstarted_from a b d c.in_err-start.field-0.0 c.loop-task.invariant.later c.in_err-start.ensures.err in
+    let from = c.from_residual.ensures in
+    search (rules, end, from)
+
+pub loop-task-preserved : goal.loop-task-preserved
+loop-task-preserved g c =
+    let so_far = c.loop-task.invariant in
+    let step = c.in-Some.ensures.steps in
+    let duty = duty_of g.K.Listener.opened_at in
+    let old = started c.args.spawner.now in
+    record {
+      whole = taken c.loop-task.yielded (into_iter_items c.loop-task.task-iterator) (into_iter_items c.next.new.self) c.args.tasks.items c.in-Some.task so_far.whole step.0;
+      left = omega (arith, so_far.left, step.1, ap length step.0);
+      new = so_far.new;
+      started = c.in_ok-start.ensures.ok
+          ∙ ap (λ (ds : List Duty). ds ++ duty c.in-Some.task ∷ []) so_far.started
+          ∙ append_assoc old (map duty c.loop-task.yielded) (duty c.in-Some.task ∷ [])
+          ∙ ap (λ (ds : List Duty). old ++ ds) (sym (map-append duty c.loop-task.yielded (c.in-Some.task ∷ [])));
+      later = omega (arith, so_far.later, c.in_ok-start.ensures.later);
+    }
