@@ -1,11 +1,20 @@
-//! What goes to other threads: a network with all that it holds, and what a turn at its lock hands in and out.
+//! What goes to other threads: a network with all that it holds, what a turn at its lock hands in and out, and a desk there.
 use pce_plant::{Act, Plant, Turn};
+use std::sync::Wait;
+use std::time::Clock;
+use turn_desk::TurnDesk;
 
 fn goes_to_a_thread<T: Send>() {}
 
+// A desk goes where its handle does.
+fn desk_goes<R: Wait + Clock + Send>(_rt: &R) {
+    goes_to_a_thread::<TurnDesk<R>>();
+}
+
 #[test]
-fn a_network_goes_to_threads() {
+fn a_network_goes_to_threads(rt: HostRuntime) {
     goes_to_a_thread::<Plant>();
     goes_to_a_thread::<Act>();
     goes_to_a_thread::<Turn>();
+    desk_goes(&rt);
 }

@@ -9,6 +9,8 @@ mod crossing;
 #[cfg(test)]
 mod desk;
 #[cfg(test)]
+mod turns;
+#[cfg(test)]
 mod watching;
 #[cfg(test)]
 mod workers;

@@ -1,0 +1,64 @@
+-- What a turn of a desk means for its calls as a chart.
+use Rattle.std.proofs.Common.{◌≡◌, ℕ, List, [], ◌∷◌, ◌++◌, ap, sym, refl, ◌∙◌, append-nil, Some, None, Ok, Err}
+use Rattle.dom_base.specs.declared.names.As.{As}
+use Rattle.operator_lines.specs.Charts as chart
+use Rattle.pce_plant.specs.plant_model.declared.event.Event.{Event}
+use Rattle.pce_plant.specs.plant_model.Events.{Answered}
+use Rattle.pce_plant.specs.Turns.{IsAnswer}
+use Rattle.pce_plant.specs.Whole.{Whole}
+use Rattle.pce_plant.specs.declared.acts.Act.TheVariants.{Do, Map}
+use Rattle.pce_plant.specs.declared.acts.Acted.{Acted}
+use Rattle.pce_plant.specs.declared.acts.Acted.TheVariants.{Did, Mapped}
+use Rattle.session_serving.specs.Desks.{Answer}
+use Rattle.session_serving.specs.declared.desks.DeskRefused.TheVariants.{Plant, Spent}
+use Rattle.turn_desk.specs.Charts.{IsMapped, chart_call, charted_of}
+use Rattle.turn_desk.specs.Desks.{IsTurn, Rests, Stand, did_as, did_by}
+use Rattle.turn_desk.proofs.Turning.{answers, no_call, none_spent, one_call}
+
+made_is : (e : Event) (r : Answered) → chart.made_by e (did_as r) ≡ chart.Did e r ∷ []
+made_is e (Ok o) = refl
+made_is e (Err why) = refl
+
+none_is_spent : (r : Answered) → chart.spent_by (did_as r) ≡ None
+none_is_spent (Ok o) = refl
+none_is_spent (Err why) = refl
+
+chart_done : (old new : Stand) (e : Event) (r : Answered) → IsTurn (Do e) (Ok (Did r)) old new → chart.Goes (charted_of old) (charted_of new) e (did_as r)
+chart_done old new e r t = record {
+  calls = one_call chart_call old new (Do e) (Did r) (chart.Did e r) t refl ∙ ap (λ (l : List chart.Call). (charted_of old).calls ++ l) (sym (made_is e r));
+  spent = t.2.spent.1 ∙ sym (none_is_spent r);
+  stays = λ n was. absurd (none_spent n old.spent t.2.spent.0 was);
+}
+
+chart_rests : (old new : Stand) (e : Event) (number : ℕ) → Rests old new number → chart.Goes (charted_of old) (charted_of new) e (Err (Spent number))
+chart_rests old new e number r = record {
+  calls = no_call chart_call old new number r;
+  spent = r.spent;
+  stays = λ n was. ap (λ (m : ℕ). Err (Spent m)) (sym (r.stays n was));
+}
+
+pub chart_goes : (old new : Stand) (e : Event) (answer : Answer) → IsTurn (Do e) (did_by answer) old new → chart.Goes (charted_of old) (charted_of new) e answer
+chart_goes old new e (Ok o) t = chart_done old new e (Ok o) t
+chart_goes old new e (Err (Plant why)) t = chart_done old new e (Err why) t
+chart_goes old new e (Err (Spent number)) r = chart_rests old new e number r
+
+pub chart_told : (old new : Stand) (d : As) (acted : Acted) (answer : chart.Current) → IsTurn (Map d) (Ok acted) old new → chart_call (Map d) acted ≡ Some (chart.Mapped d answer) → chart.Asks (charted_of old) (charted_of new) d answer
+chart_told old new d acted answer t call = record {
+  asked = λ now. one_call chart_call old new (Map d) acted (chart.Mapped d answer) t call;
+  untold = λ n now. absurd (none_spent n new.spent t.2.spent.1 now);
+  stays = λ n was. absurd (none_spent n old.spent t.2.spent.0 was);
+}
+
+pub chart_untold : (old new : Stand) (d : As) (number : ℕ) → Rests old new number → chart.Asks (charted_of old) (charted_of new) d (Ok None)
+chart_untold old new d number r = record {
+  asked = λ none. absurd (none_spent number new.spent none r.spent);
+  untold = λ n now. (no_call chart_call old new number r ∙ append-nil (charted_of old).calls, refl);
+  stays = λ n was. r.spent ∙ ap (λ (m : ℕ). Some m) (sym (r.stays n was));
+}
+
+is_mapped : (w next : Whole) (d : As) (a : Acted) → IsAnswer w (Map d) a next → IsMapped a
+is_mapped w next d (Mapped r) is = tt
+is_mapped w next d a is = absurd is
+
+pub mapped_turn : (old new : Stand) (d : As) (acted : Acted) → IsTurn (Map d) (Ok acted) old new → IsMapped acted
+mapped_turn old new d acted t = let a = answers old new acted (Map d) t in is_mapped a.0 a.1 d acted a.2

@@ -1,0 +1,6 @@
+pub mod Found
+pub mod Runs
+pub mod Beginning
+pub mod Turning
+pub mod Charting
+pub mod Crossing

@@ -1,0 +1,258 @@
+-- What a turn of a desk means for its calls.
+use Rattle.std.proofs.Common.{◌≡◌, ℕ, List, [], ◌∷◌, ◌++◌, ap, subst, sym, refl, ◌∙◌, inr, append-nil, Option, Some, None, Ok, Err}
+use Rattle.std.specs.Prelude.{Contains, IfOk, IfSome, Result}
+use Rattle.std.specs.Arc.{arc_value}
+use Rattle.std.specs.List.{filter_map}
+use Rattle.std.proofs.lemmas.List.Elements.{filter_map-append}
+use Rattle.dom_base.specs.declared.names.As.{As}
+use Rattle.dom_base.specs.declared.names.NoMemory.{NoMemory}
+use Rattle.te_links.specs.Rows.{Rows}
+use Rattle.border_costs.specs.declared.job.Ask.{Ask}
+use Rattle.plant_lock.specs.declared.view.View.{View}
+use Rattle.plant_lock.specs.History.{Admitted, Legal, entries_at, replay}
+use Rattle.plant_lock.specs.Views.{Adds, LegalFrom}
+use Rattle.plant_lock.proofs.Lists.{legal_front}
+use Rattle.plant_lock.proofs.Turns.{last_allowed}
+use Rattle.pce_plant.specs.plant_model.declared.event.Event.{Event}
+use Rattle.pce_plant.specs.plant_model.declared.event.Event.TheVariants as event
+use Rattle.pce_plant.specs.plant_model.declared.outcome.Outcome.{Outcome}
+use Rattle.pce_plant.specs.plant_model.Events.{Answered}
+use Rattle.pce_plant.specs.Held.{Held, whole}
+use Rattle.pce_plant.specs.Jobs.{IsAsked, IsSolvedBy}
+use Rattle.pce_plant.specs.Turns.{Admits, Allowed, IsAnswer, IsShown, Warrants, left_by}
+use Rattle.pce_plant.specs.Whole as plant
+use Rattle.pce_plant.specs.Whole.{Whole}
+use Rattle.pce_plant.specs.declared.acts.Act.{Act}
+use Rattle.pce_plant.specs.declared.acts.Act.TheVariants.{Do, Look, Ready, Finish}
+use Rattle.pce_plant.specs.declared.acts.Acted.{Acted}
+use Rattle.pce_plant.specs.declared.acts.Acted.TheVariants.{Did, Looked, Found, Committed}
+use Rattle.pce_plant.specs.declared.acts.Turn.{Turn}
+use Rattle.pce_plant.specs.declared.answering.CommitRefused.{CommitRefused}
+use Rattle.plant_pins.specs.Histories.{PinsAreNow}
+use Rattle.plant_pins.specs.Steps.{KnowsPins}
+use Rattle.plant_pins.proofs.StepLemmas.{found_pin}
+use Rattle.plant_network.specs.pce_parent.declared.work.Done.{Done}
+use Rattle.plant_network.specs.pce_parent.declared.work.Done.TheVariants as done
+use Rattle.plant_network.specs.pce_parent.declared.work.Work.{Work}
+use Rattle.plant_network.specs.pce_parent.declared.work.Work.TheVariants as work
+use Rattle.session_serving.specs.Desks as desk
+use Rattle.session_serving.specs.Desks.{Answer, Goes, call}
+use Rattle.session_serving.specs.declared.desks.DeskRefused.TheVariants.{Plant, Spent}
+use Rattle.solve_workers.specs.Benches as bench
+use Rattle.turn_desk.specs.Desks.{IsDone, IsOneTurn, IsTurn, IsTurnBy, Makes, Rests, Stand, bench_call, benched_of, desk_call, desked_of, did_as, did_by}
+use Rattle.turn_desk.specs.Histories.{Begins, known_by}
+use Rattle.turn_desk.proofs.Beginning.{none_is_now}
+use Rattle.turn_desk.proofs.Found.{own_is_seen, picked_from, split_at}
+use Rattle.turn_desk.proofs.Runs.{known_grows, knows_more, pins_are_known}
+
+-- a topology that is loaded at its own domain
+pub own_load : (e : Event) → desk.IsOwnLoad e → plant.IsOwnLoad e
+own_load (event.Load d g) is = is
+own_load e is = tt
+
+-- ---- a turn of the seat
+
+-- what a turn makes of what a seat knows
+pub seat_makes : (v w : View Held Act Turn) (own owned : List (Act × Turn)) (spent : Option ℕ) (act : Act) (n : ℕ) (turn : Turn) → spent ≡ None → Adds whole Admits Allowed left_by v act n turn w → owned ≡ own ++ (act, turn) ∷ [] →
+    Makes (record { start = v.start; seen = v.seen; own = own; met = v.met; spent = spent }) (record { start = w.start; seen = w.seen; own = owned; met = w.met; spent = spent }) act turn
+seat_makes v w own owned spent act n turn none adds is = record {
+  before = v.seen ++ adds.between;
+  begins = (adds.between, refl);
+  seen = adds.grown;
+  own = is;
+  start = adds.same_start;
+  legal = adds.legal;
+  spent = (none, none);
+}
+
+-- the answer to the act of a turn was allowed
+pub answered : (old new : Stand) (act : Act) (turn : Turn) (m : Makes old new act turn) → (x : Held) × (new.start ≡ Some x) × Admits (replay left_by (whole x) m.before) act × Allowed (replay left_by (whole x) m.before) act turn
+answered old new act turn m = last_allowed whole Admits Allowed left_by new.start m.before act turn (subst (λ (h : List (Act × Turn)). LegalFrom whole Admits Allowed left_by new.start h) m.seen m.legal)
+
+-- ---- how an act is answered
+
+module _ (w next : Whole) where
+  is_did : (e : Event) (a : Acted) → IsAnswer w (Do e) a next → (r : Answered) × (a ≡ Did r)
+  is_did e (Did r) is = (r, refl)
+  is_did e a is = absurd is
+
+  is_found : (k : ℕ) (a : Acted) → IsAnswer w (Ready k) a next → (r : Option (As × ℕ)) × (a ≡ Found r)
+  is_found k (Found r) is = (r, refl)
+  is_found k a is = absurd is
+
+  is_looked : (d : As) (k : ℕ) (a : Acted) → IsAnswer w (Look d k) a next → (r : Result (Option Work) NoMemory) × (a ≡ Looked r)
+  is_looked d k (Looked r) is = (r, refl)
+  is_looked d k a is = absurd is
+
+  is_committed : (x : Done) (a : Acted) → IsAnswer w (Finish x) a next → (r : Result Outcome CommitRefused) × (a ≡ Committed r)
+  is_committed x (Committed r) is = (r, refl)
+  is_committed x a is = absurd is
+
+module _ (old new : Stand) (acted : Acted) where
+  pub answers : (act : Act) → IsTurn act (Ok acted) old new → (w : Whole) × (next : Whole) × IsAnswer w act acted next
+  answers act t =
+      let a = answered old new act t.0 t.2 in
+      let w : Whole = replay left_by (whole a.0) t.2.before in
+      let next : Whole = left_by w act t.0 in
+      (w, next, subst (λ (r : Acted). IsAnswer w act r next) t.1 a.3.answer)
+
+  pub did_turn : (e : Event) → IsTurn (Do e) (Ok acted) old new → (r : Answered) × (acted ≡ Did r)
+  did_turn e t = let a = answers (Do e) t in is_did a.0 a.1 e acted a.2
+
+  pub found_turn : (k : ℕ) → IsTurn (Ready k) (Ok acted) old new → (r : Option (As × ℕ)) × (acted ≡ Found r)
+  found_turn k t = let a = answers (Ready k) t in is_found a.0 a.1 k acted a.2
+
+  pub looked_turn : (d : As) (k : ℕ) → IsTurn (Look d k) (Ok acted) old new → (r : Result (Option Work) NoMemory) × (acted ≡ Looked r)
+  looked_turn d k t = let a = answers (Look d k) t in is_looked a.0 a.1 d k acted a.2
+
+  pub committed_turn : (x : Done) → IsTurn (Finish x) (Ok acted) old new → (r : Result Outcome CommitRefused) × (acted ≡ Committed r)
+  committed_turn x t = let a = answers (Finish x) t in is_committed a.0 a.1 x acted a.2
+
+-- ---- exactly one turn
+
+pub one_turn : (old new : Stand) (act : Act) (Is : Acted → Type 0) (acted : Acted) → Is acted → IsTurn act (Ok acted) old new → IsOneTurn act Is old new
+one_turn old new act Is acted is t = subst (λ (s : Option ℕ). IsTurnBy s act Is old new) (sym t.2.spent.1) (t.0, subst Is (sym t.1) is, t.2)
+
+pub no_turn : (old new : Stand) (act : Act) (Is : Acted → Type 0) (number : ℕ) → Rests old new number → IsOneTurn act Is old new
+no_turn old new act Is number r = subst (λ (s : Option ℕ). IsTurnBy s act Is old new) (sym r.spent) r
+
+-- ---- the list of calls
+
+module _ {C : Type 0} (f : Act → Acted → Option C) where
+  abbrev picked : List (Act × Turn) → List C
+  picked es = filter_map (λ (e : Act × Turn). f e.0 e.1.acted) es
+
+  -- the call of a turn
+  pub one_call : (old new : Stand) (act : Act) (acted : Acted) (c : C) → IsTurn act (Ok acted) old new → f act acted ≡ Some c → picked new.own ≡ picked old.own ++ c ∷ []
+  one_call old new act acted c t call =
+      ap picked t.2.own ∙ filter_map-append (λ (e : Act × Turn). f e.0 e.1.acted) old.own ((act, t.0) ∷ [])
+      ∙ ap (λ (o : Option C). picked old.own ++ filter_map (λ (x : Option C). x) (o ∷ [])) (ap (f act) t.1 ∙ call)
+
+  pub no_call : (old new : Stand) (number : ℕ) → Rests old new number → picked new.own ≡ picked old.own ++ []
+  no_call old new number r = ap picked r.own ∙ sym (append-nil (picked old.own))
+
+-- ---- topologies
+
+-- what was known before a turn is known after it
+still_known : (old new : Stand) (act : Act) (turn : Turn) → Makes old new act turn → (d : As) (n : ℕ) (g : Rows) → known_by old.start old.seen d n ≡ Some g → known_by new.start new.seen d n ≡ Some g
+still_known old new act turn m d n g is =
+    let first : known_by old.start m.before d n ≡ Some g = subst (λ (h : List (Act × Turn)). known_by old.start h d n ≡ Some g) (sym m.begins.1) (known_grows old.start old.seen m.begins.0 d n g is) in
+    let later : known_by old.start new.seen d n ≡ Some g = subst (λ (h : List (Act × Turn)). known_by old.start h d n ≡ Some g) (sym m.seen) (known_grows old.start m.before ((act, turn) ∷ []) d n g first) in
+    subst (λ (s : Option Held). known_by s new.seen d n ≡ Some g) (sym m.start) later
+
+pub none_spent : (n : ℕ) (s : Option ℕ) → s ≡ None → s ≡ Some n → ⊥
+none_spent n s none some = let both : None ≡ Some n = sym none ∙ some in cc
+
+-- ---- as a desk
+
+made_is : (e : Event) (r : Answered) → desk.made_by e (did_as r) ≡ call e (did_as r) ∷ []
+made_is e (Ok o) = refl
+made_is e (Err why) = refl
+
+none_is_spent : (r : Answered) → desk.spent_by (did_as r) ≡ None
+none_is_spent (Ok o) = refl
+none_is_spent (Err why) = refl
+
+desk_done : (old new : Stand) (e : Event) (r : Answered) → IsTurn (Do e) (Ok (Did r)) old new → Goes (desked_of old) (desked_of new) e (did_as r)
+desk_done old new e r t = record {
+  calls = one_call desk_call old new (Do e) (Did r) (call e (did_as r)) t refl ∙ ap (λ (l : List desk.Call). (desked_of old).calls ++ l) (sym (made_is e r));
+  spent = t.2.spent.1 ∙ sym (none_is_spent r);
+  stays = λ n was. absurd (none_spent n old.spent t.2.spent.0 was);
+}
+
+desk_rests : (old new : Stand) (e : Event) (number : ℕ) → Rests old new number → Goes (desked_of old) (desked_of new) e (Err (Spent number))
+desk_rests old new e number r = record {
+  calls = no_call desk_call old new number r;
+  spent = r.spent;
+  stays = λ n was. ap (λ (m : ℕ). Err (Spent m)) (sym (r.stays n was));
+}
+
+pub desk_goes : (old new : Stand) (e : Event) (answer : Answer) → IsTurn (Do e) (did_by answer) old new → Goes (desked_of old) (desked_of new) e answer
+desk_goes old new e (Ok o) t = desk_done old new e (Ok o) t
+desk_goes old new e (Err (Plant why)) t = desk_done old new e (Err why) t
+desk_goes old new e (Err (Spent number)) r = desk_rests old new e number r
+
+pub desk_turns : (old new : Stand) (e : Event) (answer : Answer) → IsTurn (Do e) (did_by answer) old new → IsOneTurn (Do e) (IsDone answer) old new
+desk_turns old new e (Ok o) t = one_turn old new (Do e) (IsDone (Ok o)) (Did (Ok o)) (Ok o, refl, refl) t
+desk_turns old new e (Err (Plant why)) t = one_turn old new (Do e) (IsDone (Err (Plant why))) (Did (Err why)) (Err why, refl, refl) t
+desk_turns old new e (Err (Spent number)) r = no_turn old new (Do e) (IsDone (Err (Spent number))) number r
+
+-- ---- as a bench
+
+pub bench_done : (old new : Stand) (act : Act) (acted : Acted) (c : bench.Call) → IsTurn act (Ok acted) old new → bench_call act acted ≡ Some c → bench.Goes (benched_of old) (benched_of new) c
+bench_done old new act acted c t call = record {
+  calls = one_call bench_call old new act acted c t call ∙ ap (λ (s : Option ℕ). (benched_of old).calls ++ bench.made_by s c) (sym t.2.spent.1);
+  topologies = λ at generation g known. still_known old new act t.0 t.2 at generation g known;
+  stays = λ n was. absurd (none_spent n old.spent t.2.spent.0 was);
+  idle = λ n now. absurd (none_spent n new.spent t.2.spent.1 now);
+}
+
+pub bench_rests : (old new : Stand) (number : ℕ) (c : bench.Call) → Rests old new number → bench.IsIdle c → bench.Goes (benched_of old) (benched_of new) c
+bench_rests old new number c r idle = record {
+  calls = no_call bench_call old new number r ∙ ap (λ (s : Option ℕ). (benched_of old).calls ++ bench.made_by s c) (sym r.spent);
+  topologies = λ at generation g known.
+      subst (λ (h : List (Act × Turn)). known_by new.start h at generation ≡ Some g) (sym r.seen) (subst (λ (s : Option Held). known_by s old.seen at generation ≡ Some g) (sym r.start) known);
+  stays = λ n was. r.spent ∙ ap (λ (m : ℕ). Some m) (sym (r.stays n was));
+  idle = λ n now. idle;
+}
+
+-- the job that a look shows
+shown_given : (new : Stand) (w : Whole) (d : As) (k : ℕ) (job : Work) → KnowsPins (known_by new.start new.seen) w.state → IsShown w d k (Ok (Some job)) → bench.IsGiven (benched_of new) job
+shown_given new w d k (work.Domain j) knows shown =
+    let asked : IsAsked w d k j.ask (arc_value j.topology) = shown.work.1 in
+    let known : known_by new.start new.seen d asked.held.item.pin.number ≡ Some asked.held.item.pin.topology = found_pin (known_by new.start new.seen) w.state d k asked.held knows asked.is_held in
+    ap (λ (a : Ask). known_by new.start new.seen a.at a.generation) asked.asks ∙ known ∙ ap (λ (g : Rows). Some g) (sym asked.pinned)
+shown_given new w d k (work.Border j) knows shown = shown.weighed
+
+-- what was known before the look is known by then
+grown : (old new : Stand) (act : Act) (turn : Turn) (m : Makes old new act turn) (x : Held) → new.start ≡ Some x → (e : As) (n : ℕ) (g : Rows) → known_by (Some x) m.before e n ≡ Some g → known_by new.start new.seen e n ≡ Some g
+grown old new act turn m x start e n g known =
+    subst (λ (s : Option Held). known_by s new.seen e n ≡ Some g) (sym start)
+    (subst (λ (h : List (Act × Turn)). known_by (Some x) h e n ≡ Some g) (sym m.seen) (known_grows (Some x) m.before ((act, turn) ∷ []) e n g known))
+
+pub look_given : (old new : Stand) (d : As) (k : ℕ) (job : Work) → IsTurn (Look d k) (Ok (Looked (Ok (Some job)))) old new → Begins old.start → bench.IsGiven (benched_of new) job
+look_given old new d k job t begun =
+    let m : Makes old new (Look d k) t.0 = t.2 in
+    let a = answered old new (Look d k) t.0 m in
+    let x : Held = a.0 in
+    let w : Whole = replay left_by (whole x) m.before in
+    let next : Whole = left_by w (Look d k) t.0 in
+    let answer : IsAnswer w (Look d k) (Looked (Ok (Some job))) next = subst (λ (r : Acted). IsAnswer w (Look d k) r next) t.1 a.3.answer in
+    let legal : Legal Admits Allowed left_by (whole x) (m.before ++ (Look d k, t.0) ∷ []) =
+    subst (λ (h : List (Act × Turn)). Legal Admits Allowed left_by (whole x) h) m.seen (subst (λ (s : Option Held). LegalFrom whole Admits Allowed left_by s new.seen) a.1 m.legal) in
+    let begins : Begins (Some x) = subst Begins (sym m.start ∙ a.1) begun in
+    let now : PinsAreNow (whole x).state = none_is_now (whole x).state (begins x refl) in
+    let knows : KnowsPins (known_by (Some x) m.before) w.state = pins_are_known x m.before now (legal_front Admits Allowed left_by (whole x) m.before ((Look d k, t.0) ∷ []) legal) in
+    shown_given new w d k job (knows_more (known_by (Some x) m.before) (known_by new.start new.seen) w.state (grown old new (Look d k) t.0 m x a.1) knows) answer.1
+
+pub looks_given : (old new : Stand) (d : As) (k : ℕ) (answer : Result (Option Work) NoMemory) → IsTurn (Look d k) (Ok (Looked answer)) old new → Begins old.start → IfOk answer (λ found. IfSome found (bench.IsGiven (benched_of new)))
+looks_given old new d k (Ok (Some job)) t begun = look_given old new d k job t begun
+looks_given old new d k (Ok None) t begun = tt
+looks_given old new d k (Err why) t begun = tt
+
+-- ---- what a finish is warranted by
+
+abbrev Warranted : Act → Turn → Act → Type 0
+Warranted act turn next = Warrants act turn.acted next
+
+solved_by : (job : Work) (x : Done) → bench.IsOf x job → IsSolvedBy job x
+solved_by (work.Domain j) (done.Domain x) is = is
+solved_by (work.Border j) (done.Border x) is = is
+solved_by (work.Domain j) (done.Border x) is = absurd is
+solved_by (work.Border j) (done.Domain x) is = absurd is
+
+look_warrants : (act : Act) (acted : Acted) (d : As) (k : ℕ) (job : Work) (x : Done) → bench_call act acted ≡ Some (bench.Look d k (Ok (Some job))) → IsSolvedBy job x → Warrants act acted (Finish x)
+look_warrants (Look e l) (Looked (Ok (Some other))) d k job x is by = let same : other ≡ job = cc in subst (λ (z : Work). IsSolvedBy z x) (sym same) by
+look_warrants (Look e l) (Looked (Ok None)) d k job x is by = absurd (let no : ⊥ = cc in no)
+look_warrants (Look e l) (Looked (Err why)) d k job x is by = absurd (let no : ⊥ = cc in no)
+look_warrants (Ready l) (Found r) d k job x is by = absurd (let no : ⊥ = cc in no)
+look_warrants (Finish y) (Committed r) d k job x is by = absurd (let no : ⊥ = cc in no)
+look_warrants act acted d k job x is by = absurd (let no : ⊥ = cc in no)
+
+pub may_finish : (s : Stand) (places : List ℕ) (x : Done) → s.own ≡ entries_at s.seen places → bench.WasGiven (benched_of s) x → Admitted Admits Warranted s.seen (Finish x)
+may_finish s places x own given =
+    let found = picked_from (λ (e : Act × Turn). bench_call e.0 e.1.acted) s.own (bench.Look given.at given.number (Ok (Some given.work))) given.looked in
+    let e : Act × Turn = found.0 in
+    let seen = own_is_seen s.seen places e (subst (λ (es : List (Act × Turn)). Contains es e) own found.1) in
+    let parts = split_at s.seen e seen in
+    inr (parts.0, e, parts.1, parts.2, look_warrants e.0 e.1.acted given.at given.number given.work x found.2 (solved_by given.work x given.is_of))

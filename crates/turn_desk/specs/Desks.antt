@@ -1,0 +1,137 @@
+-- A desk at the lock of a network: the calls that its seat's own entries are, and what one call leaves.
+use Rattle.std.specs.Prelude.{◌≡◌, ◌^◌, ◌≤◌, ℕ, List, [], ◌∷◌, ◌++◌, Option, Some, None, Result, Ok, Err}
+use Rattle.std.specs.List.{filter_map}
+use Rattle.plant_lock.specs.declared.seat.TurnSeat.{TurnSeat}
+use Rattle.plant_lock.specs.declared.turned.Turned.{Ghosts}
+use Rattle.plant_lock.specs.History.{StartsWith}
+use Rattle.plant_lock.specs.Seats.{met_by, own_entries, seen_by, shares_of, view_of}
+use Rattle.plant_lock.specs.Views.{LegalFrom}
+use Rattle.pce_plant.specs.Held.{Held, whole}
+use Rattle.pce_plant.specs.Turns.{Admits, Allowed, left_by}
+use Rattle.pce_plant.specs.plant_model.declared.outcome.Outcome.{Outcome}
+use Rattle.pce_plant.specs.plant_model.Events.{Answered}
+use Rattle.pce_plant.specs.declared.acts.Act.{Act}
+use Rattle.pce_plant.specs.declared.acts.Act.TheVariants.{Do, Look, Ready, Finish}
+use Rattle.pce_plant.specs.declared.acts.Acted.{Acted}
+use Rattle.pce_plant.specs.declared.acts.Acted.TheVariants.{Did, Looked, Found, Committed}
+use Rattle.pce_plant.specs.declared.acts.Turn.{Turn}
+use Rattle.pce_plant.specs.declared.answering.CommitRefused.{CommitRefused}
+use Rattle.pce_plant.specs.declared.answering.CommitRefused.TheVariants.{NoSuchJob, NoMemory}
+use Rattle.session_serving.specs.Desks.{Answer, Call, Desked, call}
+use Rattle.session_serving.specs.declared.desks.DeskRefused.TheVariants.{Plant, Spent}
+use Rattle.solve_workers.specs.Benches as bench
+use Rattle.solve_workers.specs.Benches.{Benched}
+use Rattle.solve_workers.specs.declared.benches.Finished.{Finished}
+use Rattle.solve_workers.specs.declared.benches.Finished.TheVariants as finished
+use Rattle.turn_desk.specs.Histories.{known_by}
+use Rattle.turn_desk.specs.declared.desk.TurnDesk.{TurnDesk}
+
+-- ---- what a desk stands for
+
+-- what the network was at the opening of its lock, what the desk has seen of the history, its own entries, the ticket word that it
+-- last met, and at which number it was spent
+pub record Stand : Type 0 where
+  pub start : Option Held
+  pub seen : List (Act × Turn)
+  pub own : List (Act × Turn)
+  pub met : ℕ
+  pub spent : Option ℕ
+
+-- of a seat, and of a desk that was spent at this number
+abbrev pub stand_at : {g : Ghosts Held Act Turn} → TurnSeat Held Act Turn g → Option ℕ → Stand
+stand_at {g} seat spent = record { start = (view_of seat).start; seen = seen_by seat; own = own_entries seat; met = met_by seat; spent = spent }
+
+abbrev pub stand_of : {R : Type 0} → TurnDesk R → Stand
+stand_of {R} d = stand_at d.seat d.spent_at
+
+abbrev pub shares_at : {R : Type 0} → TurnDesk R → ℕ
+shares_at {R} d = shares_of d.seat
+
+-- the first desk at a new lock
+abbrev pub opened_by : Held → Stand
+opened_by h = record { start = Some h; seen = []; own = []; met = 0; spent = None }
+
+-- a further desk: it has made no turn
+abbrev pub split_from : Stand → Stand
+split_from s = record s { own = []; spent = None }
+
+-- ---- what its entries are as calls
+
+-- what a desk answers where the network answered so
+abbrev pub did_as : Answered → Answer
+did_as (Ok o) = Ok o
+did_as (Err why) = Err (Plant why)
+
+-- an event, with its answer
+abbrev pub desk_call : Act → Acted → Option Call
+desk_call (Do e) (Did r) = Some (call e (did_as r))
+desk_call a r = None
+
+-- the calls as a desk are the own entries that are events
+abbrev pub desked_of : Stand → Desked
+desked_of s = record { calls = filter_map (λ (e : Act × Turn). desk_call e.0 e.1.acted) s.own; spent = s.spent }
+
+-- what a worker is told of a solution
+abbrev pub finished_as : Result Outcome CommitRefused → Finished
+finished_as (Ok o) = finished.Kept
+finished_as (Err (NoSuchJob x)) = finished.Stranger
+finished_as (Err (NoMemory x)) = finished.NoMemory
+
+-- a call of a worker, with its answer
+abbrev pub bench_call : Act → Acted → Option bench.Call
+bench_call (Ready k) (Found r) = Some (bench.Ready k r)
+bench_call (Look d k) (Looked r) = Some (bench.Look d k r)
+bench_call (Finish x) (Committed r) = Some (bench.Finish x (finished_as r))
+bench_call a r = None
+
+-- the calls as a bench are the own entries of workers, and the topologies those of the history as far as it was seen
+abbrev pub benched_of : Stand → Benched
+benched_of s = record { calls = filter_map (λ (e : Act × Turn). bench_call e.0 e.1.acted) s.own; topologies = known_by s.start s.seen; spent = s.spent }
+
+-- ---- a turn
+
+-- Just this act was done, and answered so.
+pub record Makes (old new : Stand) (act : Act) (turn : Turn) : Type 0 where
+  pub before : List (Act × Turn)
+  pub begins : StartsWith before old.seen
+  pub seen : new.seen ≡ before ++ (act, turn) ∷ []
+  pub own : new.own ≡ old.own ++ (act, turn) ∷ []
+  pub start : new.start ≡ old.start
+  pub legal : LegalFrom whole Admits Allowed left_by new.start new.seen
+  pub spent : (old.spent ≡ None) × (new.spent ≡ None)
+
+-- No turn was made, and none is from now on. The number is the ticket word that was met at the first refusal.
+pub record Rests (old new : Stand) (number : ℕ) : Type 0 where
+  pub seen : new.seen ≡ old.seen
+  pub own : new.own ≡ old.own
+  pub start : new.start ≡ old.start
+  pub spent : new.spent ≡ Some number
+  pub stays : (t : ℕ) → old.spent ≡ Some t → t ≡ number
+  pub first : old.spent ≡ None → (2 ^ 63 ≤ number) × (new.met ≡ number)
+
+-- a turn, or none of a desk that is spent
+abbrev pub IsTurn : Act → Result Acted ℕ → Stand → Stand → Type 0
+IsTurn act (Ok acted) old new = (turn : Turn) × (turn.acted ≡ acted) × Makes old new act turn
+IsTurn act (Err number) old new = Rests old new number
+
+abbrev pub IsTurnBy : Option ℕ → Act → (Acted → Type 0) → Stand → Stand → Type 0
+IsTurnBy None act Is old new = (turn : Turn) × Is turn.acted × Makes old new act turn
+IsTurnBy (Some number) act Is old new = Rests old new number
+
+-- Unless the desk is spent by then, exactly this act was done, and its answer is such; else no turn was made.
+abbrev pub IsOneTurn : Act → (Acted → Type 0) → Stand → Stand → Type 0
+IsOneTurn act Is old new = IsTurnBy new.spent act Is old new
+
+-- the answer of a desk is that of the turn
+abbrev pub IsDone : Answer → Acted → Type 0
+IsDone answer acted = (r : Answered) × (acted ≡ Did r) × (answer ≡ did_as r)
+
+-- what a worker is told is what the turn answered
+abbrev pub IsFinish : Finished → Acted → Type 0
+IsFinish told acted = (r : Result Outcome CommitRefused) × (acted ≡ Committed r) × (told ≡ finished_as r)
+
+-- the turn of an event, by what the desk answers
+abbrev pub did_by : Answer → Result Acted ℕ
+did_by (Ok o) = Ok (Did (Ok o))
+did_by (Err (Plant why)) = Ok (Did (Err why))
+did_by (Err (Spent t)) = Err t

@@ -1,0 +1,29 @@
+-- What a history of turns tells of topologies.
+use Rattle.std.specs.Prelude.{◌≡◌, ℕ, List, [], ◌∷◌, ◌++◌, Option, Some, None, length}
+use Rattle.dom_base.specs.declared.names.As.{As}
+use Rattle.te_links.specs.Rows.{Rows}
+use Rattle.plant_text.specs.declared.settings.NetworkParts.{NetworkParts}
+use Rattle.pce_plant.specs.Held.{Held, whole}
+use Rattle.pce_plant.specs.Histories.{event_of}
+use Rattle.pce_plant.specs.declared.acts.Act.{Act}
+use Rattle.pce_plant.specs.declared.acts.Turn.{Turn}
+use Rattle.pce_plant.specs.plant_model.Plant.{Plant}
+use Rattle.plant_pins.specs.Histories.{Told, known_in}
+
+-- the events of a history, the oldest first, with their answers
+abbrev pub told_by : NetworkParts → List (Act × Turn) → List Told
+told_by n [] = []
+told_by n (e ∷ es) = event_of n e.0 e.1.acted ++ told_by n es
+
+-- the topology of each element and number, as far as the history tells it from the opening on
+abbrev pub known_by : Option Held → List (Act × Turn) → As → ℕ → Option Rows
+known_by (Some h) seen d n = known_in (whole h).state (told_by (whole h).network seen) d n
+known_by None seen d n = None
+
+-- no request is pending
+abbrev pub NoneIsPending : Plant → Type 0
+NoneIsPending s = (d : As) → length (s.elements d).pending.rows ≡ 0
+
+-- at the opening of the lock no request was pending
+abbrev pub Begins : Option Held → Type 0
+Begins start = (h : Held) → start ≡ Some h → NoneIsPending (whole h).state

@@ -1,0 +1,4 @@
+-- for readers
+pub mod Histories
+pub mod Desks
+pub mod Charts

@@ -1,0 +1,57 @@
+//! The answer of a turn, by what was asked.
+ghost use Rattle.std.specs.Prelude.{◌≡◌, ℕ, Option, Result};
+ghost use Rattle.dom_base.specs.declared.names.As.{As};
+ghost use Rattle.dom_base.specs.declared.names.NoMemory.{NoMemory};
+ghost use Rattle.pce_plant.specs.plant_model.declared.outcome.Outcome.{Outcome};
+ghost use Rattle.pce_plant.specs.plant_model.Events.{Answered};
+ghost use Rattle.pce_plant.specs.declared.acts.Acted.TheVariants.{Did, Looked, Found, Committed};
+ghost use Rattle.pce_plant.specs.declared.answering.CommitRefused.{CommitRefused};
+ghost use Rattle.plant_network.specs.pce_parent.declared.work.Work.{Work};
+
+use dom_base::{As, NoMemory};
+use pce_plant::model::{Outcome, Refused};
+use pce_plant::{Acted, CommitRefused, Work};
+
+/// What became of an event.
+pub(crate) fn did_in(acted: Acted) -> Result<Outcome, Refused>
+    requires { (r : Answered) × (acted ≡ Did r) }
+    ensures { acted ≡ Did result }
+{
+    match acted {
+        Acted::Did(answer) => answer,
+        _ => unreachable!(),
+    }
+}
+
+/// Which job can be solved.
+pub(crate) fn found_in(acted: Acted) -> Option<(As, u64)>
+    requires { (r : Option (As × ℕ)) × (acted ≡ Found r) }
+    ensures { acted ≡ Found result }
+{
+    match acted {
+        Acted::Found(found) => found,
+        _ => unreachable!(),
+    }
+}
+
+/// The job that was looked at.
+pub(crate) fn looked_in(acted: Acted) -> Result<Option<Work>, NoMemory>
+    requires { (r : Result (Option Work) NoMemory) × (acted ≡ Looked r) }
+    ensures { acted ≡ Looked result }
+{
+    match acted {
+        Acted::Looked(answer) => answer,
+        _ => unreachable!(),
+    }
+}
+
+/// What became of a solution.
+pub(crate) fn committed_in(acted: Acted) -> Result<Outcome, CommitRefused>
+    requires { (r : Result Outcome CommitRefused) × (acted ≡ Committed r) }
+    ensures { acted ≡ Committed result }
+{
+    match acted {
+        Acted::Committed(answer) => answer,
+        _ => unreachable!(),
+    }
+}

@@ -1,0 +1,122 @@
+//! What sessions and workers call.
+ghost use Rattle.std.specs.Prelude.{◌≡◌, IfOk, IfSome};
+ghost use Rattle.pce_plant.specs.declared.acts.Act.TheVariants.{Do, Look as LookAt, Ready as AskReady, Finish as FinishOf};
+ghost use Rattle.pce_plant.specs.declared.acts.Acted.TheVariants.{Looked, Found};
+ghost use Rattle.session_serving.specs.Desks as desk;
+ghost use Rattle.solve_workers.specs.Benches as bench;
+ghost use Rattle.turn_desk.specs.Desks.{IsDone, IsFinish, IsOneTurn, IsTurn, benched_of, desked_of, did_by, finished_as, stand_of};
+
+use crate::answers::{committed_in, did_in, found_in, looked_in};
+use crate::desk::TurnDesk;
+use crate::naps::Asked;
+use dom_base::{As, NoMemory};
+use pce_plant::model::{Event, Outcome, Refused};
+use pce_plant::{Act, CommitRefused, Done, Work};
+use session_serving::{Desk, DeskRefused};
+use solve_workers::{Bench, Finished};
+use std::sync::Wait;
+use std::time::Clock;
+
+// What a worker is told of a solution.
+fn told(answer: Result<Outcome, CommitRefused>) -> Finished
+    ensures { result ≡ finished_as answer }
+{
+    match answer {
+        Ok(_outcome) => Finished::Kept,
+        Err(CommitRefused::NoSuchJob(_done)) => Finished::Stranger,
+        Err(CommitRefused::NoMemory(_done)) => Finished::NoMemory,
+    }
+}
+
+impl<R: Wait + Clock> TurnDesk<R> {
+    // Counts an answer of the network.
+    fn hear(&mut self, asked: Option<Asked>, is_idle: bool)
+        ensures { stand_of self.new ≡ stand_of self.old }
+    {
+        match asked {
+            Some(asked) if is_idle => self.idle.go_on(&self.rt, asked),
+            _ => self.idle.end(),
+        }
+    }
+
+    // Makes an event.
+    pub(crate) fn make(&mut self, event: Event) -> Result<Outcome, DeskRefused>
+        requires { desk.IsOwnLoad event }
+        ensures { IsTurn (Do event) (did_by result) (stand_of self.old) (stand_of self.new) }
+    {
+        let asked = Asked::by(&event);
+        match self.turn(Act::Do(event)) {
+            Ok(acted) => {
+                let answer = did_in(acted);
+                self.hear(asked, matches!(answer, Err(Refused::NothingToCarry)));
+                match answer {
+                    Ok(outcome) => Ok(outcome),
+                    Err(why) => Err(DeskRefused::Plant(why)),
+                }
+            }
+            Err(number) => Err(DeskRefused::Spent(number)),
+        }
+    }
+}
+
+impl<R: Wait + Clock> Desk for TurnDesk<R> {
+    ghost use Rattle.turn_desk.specs.Desks.{desked_of, stand_of};
+
+    ghost desked = { λ d. desked_of (stand_of d) };
+
+    fn act(&mut self, event: Event) -> Result<Outcome, DeskRefused>
+        requires { desk.IsOwnLoad event }
+        ensures goes { desk.Goes (desked_of (stand_of self.old)) (desked_of (stand_of self.new)) event result }
+        ensures turn { IsOneTurn (Do event) (IsDone result) (stand_of self.old) (stand_of self.new) }
+    {
+        self.make(event)
+    }
+
+    fn spent(&self) -> Option<u64> {
+        self.spent_at
+    }
+}
+
+impl<R: Wait + Clock> Bench for TurnDesk<R> {
+    ghost use Rattle.turn_desk.specs.Desks.{benched_of, stand_of};
+
+    ghost benched = { λ d. benched_of (stand_of d) };
+
+    fn ready(&mut self, k: usize) -> Option<(As, u64)>
+        ensures goes { bench.Goes (benched_of (stand_of self.old)) (benched_of (stand_of self.new)) (bench.Ready k result) }
+        ensures turn { IsOneTurn (AskReady k) (λ acted. acted ≡ Found result) (stand_of self.old) (stand_of self.new) }
+    {
+        let found = match self.turn(Act::Ready(k)) {
+            Ok(acted) => found_in(acted),
+            Err(_number) => return None,
+        };
+        self.hear(Some(Asked::Ready(k)), found.is_none());
+        found
+    }
+
+    fn look(&mut self, at: As, number: u64) -> Result<Option<Work>, NoMemory>
+        ensures goes { bench.Goes (benched_of (stand_of self.old)) (benched_of (stand_of self.new)) (bench.Look at number result) }
+        ensures given { IfOk result (λ work. IfSome work (bench.IsGiven (benched_of (stand_of self.new)))) }
+        ensures turn { IsOneTurn (LookAt at number) (λ acted. acted ≡ Looked result) (stand_of self.old) (stand_of self.new) }
+    {
+        match self.turn(Act::Look(at, number)) {
+            Ok(acted) => looked_in(acted),
+            Err(_number) => Ok(None),
+        }
+    }
+
+    fn finish(&mut self, done: Done) -> Finished
+        requires { bench.WasGiven (benched_of (stand_of self.old)) done }
+        ensures goes { bench.Goes (benched_of (stand_of self.old)) (benched_of (stand_of self.new)) (bench.Finish done result) }
+        ensures turn { IsOneTurn (FinishOf done) (IsFinish result) (stand_of self.old) (stand_of self.new) }
+    {
+        match self.turn(Act::Finish(done)) {
+            Ok(acted) => told(committed_in(acted)),
+            Err(_number) => Finished::Stranger,
+        }
+    }
+
+    fn spent(&self) -> Option<u64> {
+        self.spent_at
+    }
+}

@@ -1,0 +1,27 @@
+//! A desk: a seat at the lock of a network.
+ghost use Rattle.std.specs.Arc.{arc_value};
+ghost use Rattle.plant_lock.specs.Seats.{IsAt, view_of};
+ghost use Rattle.turn_desk.specs.Histories.{Begins};
+
+use crate::naps::Idle;
+use pce_plant::Plant;
+use plant_lock::{TurnSeat, Turnstile};
+use std::alloc::Global;
+use std::sync::{Arc, Wait};
+use std::time::Clock;
+
+/// A seat at the lock of a network. Each call makes one turn with just its act, until a turn is refused since the tickets are
+/// used up: from then on none is made.
+///
+/// A desk that finds nothing to do naps before it answers, for four milliseconds at most: where a whole round of the same
+/// questions, which message is to be carried or which job can be solved, found nothing.
+#[derive(Drop)]
+pub struct TurnDesk<R: Wait + Clock> {
+    pub(crate) rt: R,
+    pub(crate) lock: Arc<Turnstile<Plant>, Global>,
+    pub(crate) seat: TurnSeat<Plant>,
+    pub(crate) spent_at: Option<u64>,
+    pub(crate) idle: Idle,
+    ghost here: { IsAt (arc_value lock) seat },
+    ghost begun: { Begins (view_of seat).start },
+}

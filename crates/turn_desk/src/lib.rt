@@ -1,0 +1,14 @@
+//! A network under its lock, as a desk for sessions, as a bench for workers and as a chart for operators: each call is one turn.
+//!
+//! What sessions, workers and operators do through their desks stands in one history, each turn once, in the order in which
+//! the turns were done.
+#![tactic(auto)]
+
+mod answers;
+mod calls;
+mod chart;
+mod desk;
+mod naps;
+mod turns;
+
+pub use desk::TurnDesk;

@@ -1,0 +1,83 @@
+//! Desks at one lock, and their turns.
+ghost use Rattle.std.specs.Prelude.{◌≡◌, ◌-◌, ◌<◌, IfErr, IfOk, OnErr, OnOk, None, Some};
+ghost use Rattle.std.specs.Arc.{arc_value};
+ghost use Rattle.plant_lock.specs.Seats.{IsAt, MayDo, shares_of, view_of};
+ghost use Rattle.plant_lock.specs.declared.turnstile.SplitError.TheVariants.{NoSeat};
+ghost use Rattle.turn_desk.specs.Desks.{IsTurn, opened_by, shares_at, split_from, stand_at, stand_of};
+ghost use Rattle.turn_desk.specs.Histories.{Begins, NoneIsPending};
+ghost use Rattle.pce_plant.specs.Held.{whole};
+
+use crate::desk::TurnDesk;
+use crate::naps::Idle;
+use dom_base::NoMemory;
+use pce_plant::{Act, Acted, Plant};
+use plant_lock::{Spent, SplitError, TurnSeat, Turnstile};
+use std::alloc::Global;
+use std::sync::{Arc, Wait};
+use std::time::Clock;
+
+impl<R: Wait + Clock> TurnDesk<R> {
+    /// A desk over a lock and a seat of it. It takes no memory.
+    pub fn new(rt: R, lock: Arc<Turnstile<Plant>, Global>, seat: TurnSeat<Plant>) -> Self
+        requires here { IsAt (arc_value lock) seat }
+        requires begun { Begins (view_of seat).start }
+        ensures stand { stand_of result ≡ stand_at seat None }
+        ensures shares { shares_at result ≡ shares_of seat }
+    {
+        TurnDesk {
+            rt,
+            lock,
+            seat,
+            spent_at: None,
+            idle: Idle::new(),
+        }
+    }
+
+    // One turn with this act, or the number at which the desk was spent.
+    pub(crate) fn turn(&mut self, act: Act) -> Result<Acted, u64>
+        requires { MayDo self.old.seat act }
+        ensures { IsTurn act result (stand_of self.old) (stand_of self.new) }
+    {
+        if let Some(number) = self.spent_at {
+            return Err(number);
+        }
+        match self.lock.turn(&self.rt, &mut self.seat, act) {
+            Ok((_place, turn)) => Ok(turn.acted),
+            Err(Spent(number)) => {
+                self.spent_at = Some(number);
+                Err(number)
+            }
+        }
+    }
+}
+
+impl<R: Wait + Clock + Drop> TurnDesk<R> {
+    /// A desk over a new lock round the network, with as many shares as there may be desks. Without memory the network is
+    /// dropped.
+    pub fn open(rt: R, alloc: Global, plant: Plant, seats: u32) -> Result<Self, NoMemory>
+        requires seats { 0 < seats }
+        requires begun { NoneIsPending (whole plant).state }
+        ensures stand { IfOk result (λ desk. stand_of desk ≡ opened_by plant) }
+        ensures shares { IfOk result (λ desk. shares_at desk ≡ seats) }
+    {
+        let (lock, seat) = Turnstile::open(alloc, plant, seats)?;
+        let lock = Arc::new(alloc, lock)?;
+        Ok(TurnDesk::new(rt, lock, seat))
+    }
+
+    /// A further desk over the same lock, which has seen as much and has made no turn. It has one share, which this desk gives
+    /// away. `NoSeat` comes only where this desk has one share alone, and then no desk is made.
+    pub fn split(&mut self, rt: R) -> Result<Self, SplitError>
+        ensures stand { stand_of self.new ≡ stand_of self.old }
+        ensures shares { OnOk result ((1 < shares_at self.old) × (shares_at self.new ≡ shares_at self.old - 1)) }
+        ensures given { IfOk result (λ desk. (stand_of desk ≡ split_from (stand_of self.old)) × (shares_at desk ≡ 1)) }
+        ensures none { IfErr result (λ e. e ≡ NoSeat → shares_at self.old ≡ 1) }
+        ensures same { OnErr result (shares_at self.new ≡ shares_at self.old) }
+    {
+        let Ok(lock) = Arc::try_clone(&self.lock) else {
+            return Err(SplitError::NoMemory);
+        };
+        let seat = self.lock.split(&mut self.seat)?;
+        Ok(TurnDesk::new(rt, lock, seat))
+    }
+}
