@@ -1,8 +1,8 @@
-"""Reads PCEP messages, for the programs of this folder.
+"""Reads PCEP messages, and writes those of a router, for the programs of this folder and of .ci.
 
 A message is read by the rules of docs/PROFILE.md ("Objects", "How objects make messages"), and what is malformed is named as the program's own
 reading names it: by the place of the first object at fault, where the header stands at 0. The program tells only that a message is malformed,
-not where; `.ci/looks` compares the two readings over many messages. Nothing here judges whether a request is answered or refused."""
+not where; `.ci/views` compares the two readings over many messages. Nothing here judges whether a request is answered or refused."""
 import ipaddress
 import struct
 from collections import namedtuple
@@ -273,3 +273,56 @@ class Stream:
             found.append(self.held)
             self.held = b""
         return [octets for octets in found if octets]
+
+
+# ---- writing
+
+
+def object_of(class_number, kind, body, must=True):
+    """An object; `must` is its flag P."""
+    return struct.pack(">BBH", class_number, kind << 4 | (2 if must else 0), len(body) + 4) + body
+
+
+def message_of(kind, *objects):
+    """A message of these objects."""
+    content = b"".join(objects)
+    return struct.pack(">BBH", VERSION << 5, kind, len(content) + 4) + content
+
+
+def open_of(keepalive=0, dead=0):
+    """An Open with these timers, in seconds; 0 is none."""
+    return message_of(OPEN, object_of(1, 1, bytes([VERSION << 5, keepalive, dead, 0]), must=False))
+
+
+def keepalive_of():
+    return message_of(KEEPALIVE)
+
+
+def parameters_of(ident, flags=0):
+    """An RP."""
+    return object_of(2, 1, struct.pack(">II", flags, ident))
+
+
+def ends_between(source, target):
+    """END-POINTS; the addresses are both of IPv4 or both of IPv6."""
+    ends = [ipaddress.ip_address(end) for end in (source, target)]
+    if ends[0].version != ends[1].version:
+        raise ValueError("the ends are of two kinds")
+    return object_of(4, 1 if ends[0].version == 4 else 2, ends[0].packed + ends[1].packed)
+
+
+def through(domains):
+    """An IRO of domains."""
+    return object_of(10, 1, b"".join(struct.pack(">BBH", 32, 4, domain) for domain in domains))
+
+
+def request_of(ident, source, target, domains=()):
+    """A PCReq for a path from here to there, through these domains in their order, or through those that the element finds."""
+    return message_of(REQUEST, parameters_of(ident), ends_between(source, target), *([through(domains)] if domains else []))
+
+
+def expansion_of(ident, key, where):
+    """A PCReq for what stands behind a path key of the element at this address."""
+    at = ipaddress.ip_address(where)
+    part = struct.pack(">BBH", 64 if at.version == 4 else 65, 4 + len(at.packed), key) + at.packed
+    return message_of(REQUEST, parameters_of(ident, 0x100), object_of(16, 1, part))

@@ -5,10 +5,9 @@ use Rattle.std.specs.declared.option.Option.{Option}
 use Rattle.std.proofs.lemmas.Bool.Decides.{eqb_tells}
 use Rattle.std.proofs.lemmas.List.Elements.{All-contains, Contains-append_left, Contains-append_right}
 use Rattle.std.proofs.lemmas.Option.{slice_get_within}
-use Rattle.dom_base.specs.declared.addr.Addr.{Addr}
 use Rattle.dom_base.specs.declared.query.Query.{Query}
 use Rattle.te_links.specs.Rows.{Rows, IsTopology, IsInnerLink}
-use Rattle.te_links.specs.Index.{IsLinksInto, IsLinksFrom, LinkEndsAt, LinkBeginsAt}
+use Rattle.te_links.specs.Index.{IsLinksInto, IsLinksFrom}
 use Rattle.path_search.proofs.Certified.{weight_bounds}
 use Rattle.diverse_pairs.specs.declared.arcs.Arc.{Arc}
 use Rattle.diverse_pairs.specs.declared.arcs.TheConstants.{UNREACHED}

@@ -1,6 +1,6 @@
 -- A distance that is lowered over an arc, and distances at first.
-use Rattle.std.proofs.Common.{◌≡◌, ◌≢◌, inl, inr, ℕ, ◌+◌, ◌<◌, ◌≤◌, Bool, true, false, List, length, arith, sym, ◌∙◌, ap, subst, None, Some, replicate}
-use Rattle.std.specs.Prelude.{MatchBool, slice_set, sum}
+use Rattle.std.proofs.Common.{◌≡◌, ◌≢◌, inl, inr, ℕ, ◌+◌, ◌<◌, ◌≤◌, List, length, arith, sym, ◌∙◌, ap, None, Some, replicate}
+use Rattle.std.specs.Prelude.{slice_set, sum}
 use Rattle.std.specs.declared.option.Option.{Option}
 use Rattle.std.proofs.lemmas.Bool.{cases_lt}
 use Rattle.std.proofs.lemmas.Bool.Decides.{eqb_tells}
@@ -10,7 +10,7 @@ use Rattle.std.proofs.lemmas.List.Sums.{sum_by-set}
 use Rattle.diverse_pairs.specs.declared.arcs.Arc.{Arc}
 use Rattle.diverse_pairs.specs.declared.arcs.TheConstants.{UNREACHED}
 use Rattle.diverse_pairs.specs.Arcs.{IsArc, at, IsAmong}
-use Rattle.diverse_pairs.specs.Distances.{IsLow, AreLow, Lowers, Falls, AreMade}
+use Rattle.diverse_pairs.specs.Distances.{Lowers, Falls, AreMade}
 
 module _ (arcs : List (Option Arc)) (t i : ℕ) (a : Arc) (old new : List ℕ) (is_arc : IsArc arcs i a) (among : IsAmong (length old) a) (low : Lowers a old new) where
   pub here : at new a.tail ≡ a.weight + at old a.head

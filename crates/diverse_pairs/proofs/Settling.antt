@@ -1,8 +1,8 @@
 -- The arcs that may still lower a distance, as nodes are settled.
-use Rattle.std.proofs.Common.{◌≡◌, ◌≢◌, inl, inr, ℕ, ◌+◌, ◌<◌, ◌≤◌, ◌*◌, Bool, true, false, List, [], ◌∷◌, ◌++◌, length, arith, refl, sym, ◌∙◌, ap, subst, None, Some, replicate}
-use Rattle.std.specs.Prelude.{◌⊎◌, Contains, slice_set, sum, nat_lt}
+use Rattle.std.proofs.Common.{◌≡◌, ◌≢◌, inl, inr, ℕ, ◌+◌, ◌<◌, ◌≤◌, Bool, true, false, List, [], ◌∷◌, ◌++◌, length, arith, refl, sym, ◌∙◌, ap, subst, replicate}
+use Rattle.std.specs.Prelude.{Contains, slice_set, nat_lt}
 use Rattle.std.specs.declared.option.Option.{Option}
-use Rattle.std.proofs.lemmas.Bool.{cases_lt, lt-ltb}
+use Rattle.std.proofs.lemmas.Bool.{lt-ltb}
 use Rattle.std.proofs.lemmas.Bool.Decides.{eqb_tells}
 use Rattle.std.proofs.lemmas.List.{get_or-set_same, get_or-set_other, get_or-replicate, length-replicate, append-nil, append_assoc}
 use Rattle.std.proofs.lemmas.List.Elements.{Contains-append_cases, Contains-push_cases}
@@ -14,8 +14,8 @@ use Rattle.diverse_pairs.specs.declared.arcs.Arc.{Arc}
 use Rattle.diverse_pairs.specs.declared.arcs.TheConstants.{UNREACHED}
 use Rattle.diverse_pairs.specs.Arcs.{IsArc, at, IsAmong, AreAmong}
 use Rattle.diverse_pairs.specs.Along.{AreAlong}
-use Rattle.diverse_pairs.specs.Distances.{IsLow, AreLow, Lowers, Falls, AreMade}
-use Rattle.diverse_pairs.specs.Settling.{one_if, waiting_count, work, IsLeft, IsOpened, IsResting, Keeps, Spreads, Settles}
+use Rattle.diverse_pairs.specs.Distances.{IsLow, AreLow, Lowers}
+use Rattle.diverse_pairs.specs.Settling.{one_if, waiting_count, work, IsLeft, IsOpened, IsResting, Spreads, Settles}
 use Rattle.diverse_pairs.proofs.Along.{leads_there}
 use Rattle.diverse_pairs.proofs.Lowering.{one_arc, here, others, lower, same_length, lowered, falls}
 

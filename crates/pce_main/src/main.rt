@@ -2,13 +2,20 @@
 #![tactic(auto)]
 
 mod progress;
+mod server;
+mod steady;
 
+use crate::progress::Progress;
+use crate::server::{Ended, serve_network};
+use crate::steady::Told;
 use dom_edge::{FileStore, InputSource, OutputSink, write_all};
 use pce_tool::{Status, run};
-use progress::Progress;
 use std::alloc::Global;
 use std::process::ExitCode;
-use std::{env, io};
+use std::sync::Wait;
+use std::thread::Threads;
+use std::time::Clock;
+use std::{env, fmt, io};
 
 const HELP: &str = "\
 usage: pce COMMAND
@@ -27,13 +34,16 @@ path NET SRC DST AS ..
 path NET SRC DST parent AS
                     asks for a path from that domain, whose domains the parent finds
 play NET            reads a script of events, plays it on a network, writes its transcript
+serve NET           serves a network at the ports of its peers until it is ended by a signal: reads lines
+                    `load AS FILE` and `change AS FILE`, writes what came of each
 blind NET           reads a script whose solves have border tables, plays it on a network without
                     topologies, writes what closed peers hear
 bulk N              draws a large network and N requests (1 to 8000), writes what they are answered in all
 --help              writes this table
 --version           writes the versions of the program and of the toolchain
 
-Files that settings and scripts name are looked for in the folder of the settings.
+Files that settings and scripts name are looked for in the folder of the settings. `serve` listens at
+the address in the variable PCE_LISTEN, or without it at all addresses of the machine.
 ";
 
 const VERSION: &str = "pce 0.1.0, proved with rattle-kit-13f logic dac8208d650f15bf\n";
@@ -60,7 +70,7 @@ fn words_of(rt: &HostRuntime) -> Result<Vec<String>, Status> {
 
 // Whether the word behind this command is the file of a network's settings.
 fn takes_settings(verb: &str) -> bool {
-    matches!(verb, "path" | "play" | "blind")
+    matches!(verb, "path" | "play" | "blind" | "serve")
 }
 
 // A file's folder and its name there; none where the name begins in the working folder.
@@ -100,7 +110,7 @@ fn run_command(rt: &HostRuntime, mut words: Vec<String>) -> Status {
     let alloc = rt.alloc();
     let mut store = FileStore::new(alloc, *rt);
     let mut input = InputSource::new(rt.reader());
-    let mut out = OutputSink::new(Progress::new(*rt, io::writer(rt)));
+    let mut out = Progress::new(*rt, OutputSink::new(io::writer(rt)));
     run(alloc, &words, &mut store, &mut input, &mut out)
 }
 
@@ -112,14 +122,37 @@ fn status_of(rt: &HostRuntime, words: Vec<String>) -> Status {
     }
 }
 
-fn main(rt: HostRuntime) -> ExitCode {
-    let status = match words_of(&rt) {
-        Ok(words) => status_of(&rt, words),
-        Err(status) => status,
-    };
-    let number = status.number();
+// Ends with a number, and where that is not 0, with a text on standard error.
+fn end<E: fmt::Display>(rt: &HostRuntime, number: u8, text: &E) -> ExitCode {
     if number != 0 {
-        let _ = eprintln!(rt; "pce: {status}");
+        let _ = eprintln!(rt; "pce: {}", Told(text));
     }
     ExitCode::from(number)
+}
+
+// Serves a network, beside whose settings the files are that these and an operator name.
+fn end_of_server<R>(rt: &HostRuntime, threads: R, words: &mut [String]) -> ExitCode
+where
+    R: Threads + Wait + Clock + Copy + Send + Drop + 'static,
+{
+    if let Err(status) = enter_folder(rt, words) {
+        return end(rt, status.number(), &status);
+    }
+    let ended = match words {
+        [_verb, settings] => serve_network(rt, threads, settings.as_str()),
+        _ => Ended::Usage,
+    };
+    end(rt, ended.number(), &ended)
+}
+
+fn main(rt: HostRuntime) -> ExitCode {
+    match words_of(&rt) {
+        Ok(mut words) if matches!(words.as_slice(), [verb, _] if verb.as_str() == "serve") =>
+            end_of_server(&rt, rt, &mut words),
+        Ok(words) => {
+            let status = status_of(&rt, words);
+            end(&rt, status.number(), &status)
+        }
+        Err(status) => end(&rt, status.number(), &status),
+    }
 }

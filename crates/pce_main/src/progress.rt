@@ -1,35 +1,35 @@
-//! A writer that tells on the standard error, once a second, how many lines have gone through it.
-use std::io::{self, IsTerminal, Write};
+//! A sink that tells on the standard error, once a second, how many lines have gone through it.
+ghost use Rattle.std.specs.Prelude.{◌≡◌, ◌<◌, length};
+ghost use Rattle.dom_edge.specs.Causes.{HasCause};
+ghost use Rattle.dom_edge.specs.Streams.{Puts};
+
+use dom_edge::{Put, Sink};
+use std::io::IsTerminal;
 use std::time::{Duration, Instant};
 
-/// A writer with a word about how far it is. It is told on a terminal alone, and only where what is written goes somewhere else.
+// How many lines there were, and when it was told last, or began; none where nothing is told.
 #[derive(Drop)]
-pub struct Progress<W: Write + Drop> {
-    writer: W,
+struct Pace {
     rt: HostRuntime,
-    // when it was told last, or began; none where nothing is told
     last: Option<Instant>,
     lines: u64,
 }
 
-impl<W: Write + Drop> Progress<W> {
-    pub fn new(rt: HostRuntime, writer: W) -> Self {
+impl Pace {
+    // It is told on a terminal alone, and only where what is written goes somewhere else.
+    fn new(rt: HostRuntime) -> Self {
         let is_told = rt.stderr().is_terminal() && !rt.stdout().is_terminal();
         let last = if is_told {
             Instant::now(&rt).ok()
         } else {
             None
         };
-        Progress {
-            writer,
-            rt,
-            last,
-            lines: 0,
-        }
+        Pace { rt, last, lines: 0 }
     }
 
-    // Tells how many lines there are, where a second has gone by.
-    fn tell(&mut self) {
+    // Counts the lines that end among these octets, and tells how many there are where a second has gone by.
+    fn count(&mut self, bytes: &[u8]) {
+        self.lines = self.lines.saturating_add(line_ends(bytes));
         let Some(last) = self.last else {
             return;
         };
@@ -54,15 +54,36 @@ fn line_ends(bytes: &[u8]) -> u64 {
     lines
 }
 
-impl<W: Write + Drop> Write for Progress<W> {
-    fn write(&mut self, buf: &[u8]) -> io::Result<usize> {
-        let count = self.writer.write(buf)?;
-        self.lines = self.lines.saturating_add(line_ends(&buf[..count]));
-        self.tell();
-        Ok(count)
-    }
+/// A sink with a word about how far it is.
+#[derive(Drop)]
+pub struct Progress<K: Sink + Drop> {
+    sink: K,
+    pace: Pace,
+}
 
-    fn flush(&mut self) -> io::Result<()> {
-        self.writer.flush()
+impl<K: Sink + Drop> Progress<K> {
+    pub(crate) fn new(rt: HostRuntime, sink: K) -> Self {
+        Progress {
+            sink,
+            pace: Pace::new(rt),
+        }
+    }
+}
+
+impl<K: Sink + Drop> Sink for Progress<K> {
+    ghost written = { λ p. K.written p.sink };
+
+    ghost faults = { λ p. K.faults p.sink };
+
+    fn write(&mut self, piece: &[u8]) -> Put
+        requires { 0 < length piece.now }
+        ensures puts { Puts (K.written self.old.sink) (K.written self.new.sink) result piece.now }
+        ensures cause { HasCause (K.faults self.old.sink) (K.faults self.new.sink) (result ≡ Put.Failed) }
+    {
+        let put = self.sink.write(piece);
+        if let Put::Bytes(count) = put {
+            self.pace.count(&piece[..count]);
+        }
+        put
     }
 }

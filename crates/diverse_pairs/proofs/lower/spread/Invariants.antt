@@ -1,4 +1,4 @@
-use Rattle.std.proofs.Common.{◌≡◌, length, take}
+use Rattle.std.proofs.Common.{take}
 use Rattle.diverse_pairs.specs.Settling.{Spreads}
 use Rattle.diverse_pairs.proofs.lower.spread.Given as goal
 

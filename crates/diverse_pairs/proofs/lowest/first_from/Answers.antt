@@ -1,4 +1,4 @@
-use Rattle.std.proofs.Common.{◌<◌, length, arith}
+use Rattle.std.proofs.Common.{arith}
 use Rattle.diverse_pairs.specs.Paths.{IsFirstAmong, HasNoneAmong}
 use Rattle.diverse_pairs.proofs.Along.{arc_inside, into_within, from_within}
 use Rattle.diverse_pairs.proofs.FirstAmong.{first_on, first_back, only_on, only_back, one_of_both}

@@ -1,4 +1,4 @@
-use Rattle.std.proofs.Common.{◌≡◌, ◌≤◌, ◌*◌, ◌+◌, ℕ, ◌<◌, length}
+use Rattle.std.proofs.Common.{◌≤◌, ◌*◌, ◌+◌, ℕ, ◌<◌, length}
 use Rattle.diverse_pairs.specs.Arcs.{at}
 use Rattle.diverse_pairs.proofs.waiting.nearest_in.Given as goal
 

@@ -1,0 +1,5 @@
+mod Plans
+mod Causes
+mod Opening
+mod Repeats
+mod Starts

@@ -1,0 +1,51 @@
+-- Ports that stand twice.
+use Rattle.std.proofs.Common.{◌≡◌, ◌∙◌, ◌⊎◌, inl, inr, ◌+◌, ◌≤◌, ◌<◌, ℕ, List, length, take, ap, refl, sym, subst, arith, Bool, true, false, Option, Some, None}
+use Rattle.std.specs.Prelude.{slice_get, codes, IfSome}
+use Rattle.std.proofs.lemmas.Option.{slice_get_cases}
+use Rattle.plant_text.specs.declared.fault.NetFault.{NetFault}
+use Rattle.plant_text.specs.declared.fault.NetFault.TheVariants.{Duplicate}
+use Rattle.plant_text.specs.declared.settings.NetworkParts.{NetworkParts}
+use Rattle.plant_text.specs.declared.settings.PeerRow.{PeerRow}
+use Rattle.network_serving.specs.Files.{IsBadText}
+use Rattle.network_serving.specs.Ports.{AreApart, IsFirstRepeat, IsPortFault, IsRefusedPort, has_port, repeats, repeats_in}
+use Rattle.network_serving.specs.declared.served.Served.{Served}
+use Rattle.network_serving.specs.declared.served.Served.TheVariants as served
+
+module _ (peers : List PeerRow) where
+  pub repeat_at : (i : ℕ) (row : PeerRow) (b : Bool) → slice_get peers i ≡ Some row → has_port row.port (take i peers) ≡ b → repeats peers i ≡ b
+  repeat_at i row b at is = ap (repeats_in (take i peers)) at ∙ is
+
+  -- one more peer has no port of an earlier one
+  pub none_more : (i : ℕ) (row : PeerRow) → slice_get peers i ≡ Some row → has_port row.port (take i peers) ≡ false → ((k : ℕ) → k < i → repeats peers k ≡ false) → (k : ℕ) → k < i + 1 → repeats peers k ≡ false
+  none_more i row at is before k less = elim (below k less) [
+    | inl earlier ↦ before k earlier
+    | inr same ↦ subst (λ (j : ℕ). repeats peers j ≡ false) (sym same) (repeat_at i row false at is)
+  ]
+    where
+      below : (j : ℕ) → j < i + 1 → (j < i) ⊎ (j ≡ i)
+      below j l = omega (arith, l)
+
+  -- past the last there is none
+  pub none_at_all : ((k : ℕ) → k < length peers → repeats peers k ≡ false) → (k : ℕ) → repeats peers k ≡ false
+  none_at_all before k = elim (slice_get_cases peers k).1 [
+    | inl inside ↦ before k inside.1
+    | inr past ↦ ap (repeats_in (take k peers)) past.1
+  ]
+
+-- ---- what is told
+
+module _ (name : List ℕ) (n : NetworkParts) where
+  told : (fault : NetFault) (s : Served) → IsPortFault n fault → IsBadText name (λ line other. (line ≡ 0) × (other ≡ fault)) s → IsRefusedPort name n s
+  told fault (served.BadNetwork file line other) is bad = (bad.0, bad.1, subst (IsPortFault n) (sym bad.2) is)
+  told fault served.NoMemory is bad = tt
+  told fault served.Turns is bad = absurd bad
+  told fault served.ReadFault is bad = absurd bad
+  told fault (served.TooLarge file) is bad = absurd bad
+  told fault (served.NoPort port) is bad = absurd bad
+  told fault served.NoThread is bad = absurd bad
+
+  pub peer_told : (row : ℕ) (s : Served) → IsFirstRepeat n.peers row → IsBadText name (λ line fault. (line ≡ 0) × (fault ≡ Duplicate (codes "peer") row)) s → IsRefusedPort name n s
+  peer_told row s is bad = told (Duplicate (codes "peer") row) s (inl (refl, is)) bad
+
+  pub watch_told : (port : ℕ) (s : Served) → ((k : ℕ) → repeats n.peers k ≡ false) → n.watch ≡ Some port → has_port port n.peers ≡ true → IsBadText name (λ line fault. (line ≡ 0) × (fault ≡ Duplicate (codes "watch") 0)) s → IsRefusedPort name n s
+  watch_told port s none is has bad = told (Duplicate (codes "watch") 0) s (inr (refl, refl, none, (port, is, has))) bad

@@ -1,0 +1,161 @@
+-- Causes of a start, from its parts.
+use Rattle.std.proofs.Common.{◌≡◌, ◌∙◌, ◌⊎◌, inl, inr, ◌+◌, ◌-◌, ◌^◌, ◌≤◌, ◌<◌, ℕ, zero, suc, min, List, [], ◌∷◌, ◌++◌, length, map, ap, refl, sym, subst, arith, append_assoc, Option, Some, None}
+use Rattle.std.specs.Prelude.{slice_get, option_to_list}
+use Rattle.std.proofs.lemmas.List.{length-map}
+use Rattle.dom_base.specs.declared.names.As.{As}
+use Rattle.dom_edge.specs.Causes.{Rose, next_count}
+use Rattle.dom_edge.specs.Stores.{Files}
+use Rattle.network_files.specs.Loading.{HasNetwork}
+use Rattle.plant_text.specs.declared.settings.NetworkParts.{NetworkParts}
+use Rattle.plant_text.specs.declared.settings.PeerRow.{PeerRow}
+use Rattle.serve_tasks.specs.declared.duties.Duty.{Duty}
+use Rattle.serve_tasks.specs.declared.duties.Duty.TheVariants.{Operate}
+use Rattle.network_serving.specs.Duties.{duties_of, first_duties, watch_duties}
+use Rattle.network_serving.specs.Ends.{Ends, RoseBy, World}
+use Rattle.network_serving.specs.Files.{IsLoadEnd, IsNamedEnd}
+use Rattle.network_serving.specs.Ports.{ports_of}
+use Rattle.network_serving.specs.Starting.{Called, IsClosed, IsPlanEnd, IsStartEnd, IsUnlistened, IsUnstarted, called, peer_ports}
+use Rattle.network_serving.specs.declared.served.Served.{Served}
+use Rattle.network_serving.specs.declared.served.Served.TheVariants as served
+use Rattle.network_serving.proofs.Causes.{rose_from}
+
+-- ---- places
+
+get_front : {X : Type 0} (xs ys : List X) (k : ℕ) (x : X) → slice_get xs k ≡ Some x → slice_get (xs ++ ys) k ≡ Some x
+get_front [] ys k x is = absurd (let no : ⊥ = cc in no)
+get_front (y ∷ xs) ys zero x is = is
+get_front (y ∷ xs) ys (suc k) x is = get_front xs ys k x is
+
+get_behind : {X : Type 0} (xs ys : List X) (k : ℕ) → slice_get (xs ++ ys) (length xs + k) ≡ slice_get ys k
+get_behind [] ys k = let e : 0 + k ≡ k = omega arith in ap (slice_get ys) e
+get_behind (x ∷ xs) ys k = let e : suc (length xs) + k ≡ suc (length xs + k) = omega arith in ap (slice_get (x ∷ (xs ++ ys))) e ∙ get_behind xs ys k
+
+-- ---- ports
+
+pub plan_end : (ports : List ℕ) (k port a b c d e f at : ℕ) (s : Served) → slice_get ports k ≡ Some port → RoseBy k (a, b) → c ≡ next_count b → d ≤ e → IsClosed port (e, f) at s → IsPlanEnd ports (called (a, c) (d, f) at) s
+plan_end ports k port a b c d e f at s is calls next less closed =
+    subst (IsPlanEnd ports (called (a, c) (d, f) at)) (sym closed.is)
+    (record { place = k; at_place = is; calls = omega (arith, calls, next); failed = rose_from d e f less closed.failed; at_port = closed.at_port })
+
+pub want_plan : (ports : List ℕ) (x : Called) (s : Served) → s ≡ served.NoMemory → IsPlanEnd ports x s
+want_plan ports x s is = subst (IsPlanEnd ports x) (sym is) tt
+
+module _ (n : NetworkParts) where
+  front : (x : Called) (port : ℕ) → IsUnlistened (peer_ports n.peers) x port → IsUnlistened (ports_of n) x port
+  front x port is = record {
+    place = is.place;
+    at_place = get_front (peer_ports n.peers) (option_to_list n.watch) is.place port is.at_place;
+    calls = is.calls;
+    failed = is.failed;
+    at_port = is.at_port;
+  }
+
+  behind : (a b c d e f at port : ℕ) → RoseBy (length n.peers) (a, b) → d ≤ e → IsUnlistened (option_to_list n.watch) (called (b, c) (e, f) at) port → IsUnlistened (ports_of n) (called (a, c) (d, f) at) port
+  behind a b c d e f at port calls less is =
+      let long : length (peer_ports n.peers) ≡ length n.peers = length-map (λ (row : PeerRow). row.port) n.peers in
+      record {
+        place = length (peer_ports n.peers) + is.place;
+        at_place = get_behind (peer_ports n.peers) (option_to_list n.watch) is.place ∙ is.at_place;
+        calls = omega (arith, calls, long, is.calls);
+        failed = rose_from d e f less is.failed;
+        at_port = is.at_port;
+      }
+
+  -- what was planned can't be
+  pub planned_end : (x : Called) (faults : ℕ × ℕ) (s : Served) → IsPlanEnd (peer_ports n.peers) x s → IsStartEnd (ports_of n) x faults s
+  planned_end x faults (served.NoPort port) is = front x port is
+  planned_end x faults served.NoMemory is = tt
+  planned_end x faults served.Turns is = absurd is
+  planned_end x faults served.ReadFault is = absurd is
+  planned_end x faults (served.TooLarge file) is = absurd is
+  planned_end x faults (served.BadNetwork file line fault) is = absurd is
+  planned_end x faults served.NoThread is = absurd is
+
+  -- watchers can't be answered
+  pub watch_end : (a b c d e f at g h i : ℕ) (s : Served) → RoseBy (length n.peers) (a, b) → d ≤ e → g ≤ h → IsStartEnd (option_to_list n.watch) (called (b, c) (e, f) at) (h, i) s →
+      IsStartEnd (ports_of n) (called (a, c) (d, f) at) (g, i) s
+  watch_end a b c d e f at g h i (served.NoPort port) calls less fewer is = behind a b c d e f at port calls less is
+  watch_end a b c d e f at g h i served.NoThread calls less fewer is = rose_from g h i fewer is
+  watch_end a b c d e f at g h i served.NoMemory calls less fewer is = tt
+  watch_end a b c d e f at g h i served.Turns calls less fewer is = absurd is
+  watch_end a b c d e f at g h i served.ReadFault calls less fewer is = absurd is
+  watch_end a b c d e f at g h i (served.TooLarge file) calls less fewer is = absurd is
+  watch_end a b c d e f at g h i (served.BadNetwork file line fault) calls less fewer is = absurd is
+
+-- ---- threads
+
+pub unstarted_from : (a b c : ℕ) (s : Served) → a ≤ b → IsUnstarted (b, c) s → IsUnstarted (a, c) s
+unstarted_from a b c served.NoThread less is = rose_from a b c less is
+unstarted_from a b c served.NoMemory less is = tt
+unstarted_from a b c served.Turns less is = absurd is
+unstarted_from a b c served.ReadFault less is = absurd is
+unstarted_from a b c (served.TooLarge file) less is = absurd is
+unstarted_from a b c (served.BadNetwork file line fault) less is = absurd is
+unstarted_from a b c (served.NoPort port) less is = absurd is
+
+pub unstarted_end : (ports : List ℕ) (x : Called) (faults : ℕ × ℕ) (s : Served) → IsUnstarted faults s → IsStartEnd ports x faults s
+unstarted_end ports x faults served.NoThread is = is
+unstarted_end ports x faults served.NoMemory is = tt
+unstarted_end ports x faults served.Turns is = absurd is
+unstarted_end ports x faults served.ReadFault is = absurd is
+unstarted_end ports x faults (served.TooLarge file) is = absurd is
+unstarted_end ports x faults (served.BadNetwork file line fault) is = absurd is
+unstarted_end ports x faults (served.NoPort port) is = absurd is
+
+pub want_unstarted : (faults : ℕ × ℕ) (s : Served) → s ≡ served.NoMemory → IsUnstarted faults s
+want_unstarted faults s is = subst (IsUnstarted faults) (sym is) tt
+
+pub want_start : (ports : List ℕ) (x : Called) (faults : ℕ × ℕ) (s : Served) → s ≡ served.NoMemory → IsStartEnd ports x faults s
+want_start ports x faults s is = subst (IsStartEnd ports x faults) (sym is) tt
+
+-- the port of watchers can't be listened at
+pub watch_closed : (port a b c d at : ℕ) (faults : ℕ × ℕ) (s : Served) → b ≡ next_count a → IsClosed port (c, d) at s → IsStartEnd (port ∷ []) (called (a, b) (c, d) at) faults s
+watch_closed port a b c d at faults s next closed =
+    subst (IsStartEnd (port ∷ []) (called (a, b) (c, d) at) faults) (sym closed.is)
+    (record { place = 0; at_place = refl; calls = omega (arith, next); failed = closed.failed; at_port = closed.at_port })
+
+-- ---- duties
+
+pub duties_on : (n : NetworkParts) (old all with last : List Duty) → all ≡ old ++ first_duties n → with ≡ all ++ Operate ∷ [] → last ≡ with ++ watch_duties n.watch → last ≡ old ++ duties_of n
+duties_on n old all with last first second third =
+    third
+    ∙ ap (λ (ds : List Duty). ds ++ watch_duties n.watch) (second ∙ ap (λ (ds : List Duty). ds ++ Operate ∷ []) first)
+    ∙ append_assoc (old ++ first_duties n) (Operate ∷ []) (watch_duties n.watch)
+    ∙ append_assoc old (first_duties n) (Operate ∷ watch_duties n.watch)
+
+-- ---- all of it
+
+no_other_end : (files : Option Files) (at : As) (topology : Option (List ℕ)) (counts : ℕ × ℕ) (failed_at : List ℕ) (s : Served) → (s ≡ served.NoMemory → ⊥) → ((name : List ℕ) → IsNamedEnd files at (Some name) counts failed_at s → ⊥) → IsNamedEnd files at topology counts failed_at s → ⊥
+no_other_end files at None counts failed_at s want none is = want is
+no_other_end files at (Some name) counts failed_at s want none is = none name is
+
+module _ (w : World) (name : List ℕ) (turns : ℕ) where
+  abbrev Load : Served → Type 0
+  Load s = IsLoadEnd w.files name w.store_faults w.failed_at s
+
+  pub load_ends : (s : Served) → Load s → Ends w name turns s
+  load_ends served.ReadFault is = is
+  load_ends (served.TooLarge file) is = is
+  load_ends (served.BadNetwork file line fault) is = is
+  load_ends served.NoMemory is = tt
+  load_ends served.Turns is = elim is [
+    | inl file ↦ absurd file
+    | inr network ↦ elim network.ends [ inl port ↦ absurd port | inr topology ↦ absurd (no_other_end w.files topology.row.own topology.row.topology w.store_faults w.failed_at served.Turns (λ e. let no : ⊥ = cc in no) (λ n e. e) topology.ends) ]
+  ]
+  load_ends (served.NoPort port) is = elim is [
+    | inl file ↦ absurd file
+    | inr network ↦ elim network.ends [ inl no ↦ absurd no | inr topology ↦ absurd (no_other_end w.files topology.row.own topology.row.topology w.store_faults w.failed_at (served.NoPort port) (λ e. let no : ⊥ = cc in no) (λ n e. e) topology.ends) ]
+  ]
+  load_ends served.NoThread is = elim is [
+    | inl file ↦ absurd file
+    | inr network ↦ elim network.ends [ inl no ↦ absurd no | inr topology ↦ absurd (no_other_end w.files topology.row.own topology.row.topology w.store_faults w.failed_at served.NoThread (λ e. let no : ⊥ = cc in no) (λ n e. e) topology.ends) ]
+  ]
+
+  pub start_ends : (n : NetworkParts) (s : Served) → HasNetwork w.files name n → IsStartEnd (ports_of n) (called w.port_calls w.port_faults w.failed_port) w.spawner_faults s → Ends w name turns s
+  start_ends n (served.NoPort port) has is = record { network = n; has = has; place = is.place; at_place = is.at_place; called = is.calls; failed = is.failed; at_port = is.at_port }
+  start_ends n served.NoThread has is = is
+  start_ends n served.NoMemory has is = tt
+  start_ends n served.Turns has is = absurd is
+  start_ends n served.ReadFault has is = absurd is
+  start_ends n (served.TooLarge file) has is = absurd is
+  start_ends n (served.BadNetwork file line fault) has is = absurd is

@@ -1,0 +1,12 @@
+use Rattle.std.proofs.Common.{◌≤◌, take}
+use Rattle.network_serving.specs.Duties.{port_duties}
+use Rattle.network_serving.specs.Ends.{RoseBy}
+use Rattle.network_serving.specs.Starting.{Adds}
+use Rattle.network_serving.proofs.planning.add_ports.Given as goal
+
+abbrev pub invariant-loop-peer : goal.invariant-loop-peer
+invariant-loop-peer g l = record {
+  adds : Adds g.Q.Port.Listener.opened_at l.initial.tasks.items l.tasks.items (port_duties 0 (take l.peer l.peers));
+  calls : RoseBy l.peer (g.Q.Ports.calls l.initial.ports, g.Q.Ports.calls l.ports);
+  later : g.Q.Ports.faults l.initial.ports ≤ g.Q.Ports.faults l.ports;
+}

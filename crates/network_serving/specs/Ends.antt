@@ -1,0 +1,54 @@
+-- How serving a network ends, and why.
+use Rattle.std.specs.Prelude.{◌≡◌, ◌+◌, ◌-◌, ◌^◌, ◌≤◌, ℕ, List, ◌++◌, min, slice_get, Option, Some}
+use Rattle.dom_edge.specs.Causes.{Rose}
+use Rattle.dom_edge.specs.Stores.{Files}
+use Rattle.network_files.specs.Loading.{HasNetwork}
+use Rattle.plant_text.specs.declared.settings.NetworkParts.{NetworkParts}
+use Rattle.serve_tasks.specs.declared.duties.Duty.{Duty}
+use Rattle.network_serving.specs.Duties.{duties_of}
+use Rattle.network_serving.specs.Files.{IsLoadEnd}
+use Rattle.network_serving.specs.Ports.{AreApart, ports_of}
+use Rattle.network_serving.specs.declared.served.Served.{Served}
+use Rattle.network_serving.specs.declared.served.Served.TheVariants as served
+
+-- What is told of the outside, before and after: the files, the store's faults and the name at which it last failed; the calls of the
+-- ports, their faults and the port at which they last failed; the spawner's duties and faults; the clock's readings.
+pub record World : Type 0 where
+  pub files : Option Files
+  pub store_faults : ℕ × ℕ
+  pub failed_at : List ℕ
+  pub port_calls : ℕ × ℕ
+  pub port_faults : ℕ × ℕ
+  pub failed_port : ℕ
+  pub started : List Duty × List Duty
+  pub spawner_faults : ℕ × ℕ
+  pub readings : ℕ × ℕ
+
+-- a count rose by so many, or stands at its type's last value
+abbrev pub RoseBy : ℕ → ℕ × ℕ → Type 0
+RoseBy n counts = min (counts.0 + n) (2 ^ 64 - 1) ≤ counts.1
+
+-- the port at some place of their order can't be listened at, after one call for each before it
+pub record IsPortEnd (w : World) (name : List ℕ) (port : ℕ) : Type 0 where
+  pub network : NetworkParts
+  pub has : HasNetwork w.files name network
+  pub place : ℕ
+  pub at_place : slice_get (ports_of network) place ≡ Some port
+  pub called : RoseBy (place + 1) w.port_calls
+  pub failed : Rose w.port_faults.0 w.port_faults.1
+  pub at_port : w.failed_port ≡ port
+
+-- exactly the duties of the network were started, in their order, and the clock was read in each turn
+pub record IsServed (w : World) (name : List ℕ) (turns : ℕ) : Type 0 where
+  pub network : NetworkParts
+  pub has : HasNetwork w.files name network
+  pub apart : AreApart network
+  pub duties : w.started.1 ≡ w.started.0 ++ duties_of network
+  pub read : RoseBy turns w.readings
+
+abbrev pub Ends : World → List ℕ → ℕ → Served → Type 0
+Ends w name turns served.Turns = IsServed w name turns
+Ends w name turns (served.NoPort port) = IsPortEnd w name port
+Ends w name turns served.NoThread = Rose w.spawner_faults.0 w.spawner_faults.1
+Ends w name turns served.NoMemory = Unit {0}
+Ends w name turns s = IsLoadEnd w.files name w.store_faults w.failed_at s

@@ -1,0 +1,166 @@
+//! The tasks of the ports, of the carrier and of the workers.
+ghost use Rattle.std.specs.Prelude.{◌≡◌, ◌≤◌, ◌<◌, ◌^◌, ◌++◌, ◌∷◌, [], All, IfErr, IfOk, OnOk, length, map};
+ghost use Rattle.dom_edge.specs.Causes.{next_count};
+ghost use Rattle.serve_tasks.specs.Tasks.{IsNew, duty_of};
+ghost use Rattle.serve_tasks.specs.declared.duties.Duty.TheVariants.{Carry};
+ghost use Rattle.network_serving.specs.Duties.{first_duties, port_duties, ways_of, work_duties};
+ghost use Rattle.network_serving.specs.Ends.{RoseBy};
+ghost use Rattle.network_serving.specs.Starting.{Adds, IsClosed, IsPlanEnd, called, peer_ports};
+
+use crate::served::Served;
+use cost_cache::Cache;
+use dom_base::{As, List, NoMemory};
+use dom_edge::{Listener, Opened, Ports};
+use plant_layout::children_of;
+use plant_text::{Network, NetworkParts, PeerRow};
+use serve_tasks::Task;
+use std::alloc::Global;
+use std::sync::Wait;
+use std::time::Clock;
+use turn_desk::TurnDesk;
+
+// How many solved jobs each worker keeps.
+const CACHE_CAPACITY: usize = 64;
+
+// Both ways of a link behind others.
+fn push_both(ways: &mut List<(As, As)>, a: As, b: As) -> Result<(), NoMemory>
+    ensures { OnOk result (ways.new ≡ ways.old ++ (a, b) ∷ (b, a) ∷ []) }
+{
+    ways.push((a, b))?;
+    ways.push((b, a))
+}
+
+/// The ways along which messages are carried.
+pub(crate) fn ways_of(alloc: Global, parts: &NetworkParts) -> Result<List<(As, As)>, NoMemory>
+    ensures { IfOk result (λ ways. ways ≡ ways_of parts.now) }
+{
+    let mut ways = List::new(alloc);
+    for link in parts.links.as_slice() {
+        push_both(&mut ways, link.0, link.1)?;
+    }
+    let children = children_of(alloc, parts.elements.as_slice())?;
+    for child in children.as_slice() {
+        push_both(&mut ways, As(0), *child)?;
+    }
+    Ok(ways)
+}
+
+/// A further desk at the lock of a desk.
+pub(crate) fn desk_beside<R: Wait + Clock + Copy + Drop>(
+    rt: R,
+    desk: &mut TurnDesk<R>,
+) -> Result<TurnDesk<R>, NoMemory> {
+    match desk.split(rt) {
+        Ok(desk) => Ok(desk),
+        Err(_) => Err(NoMemory),
+    }
+}
+
+/// Listens at a port.
+pub(crate) fn listen<Q: Ports>(ports: &mut Q, port: u16) -> Result<Q::Port, Served>
+    ensures ok { IfOk result (λ listener. Q.Port.opened_at listener ≡ port) }
+    ensures err { IfErr result (IsClosed port (Q.faults ports.old, Q.faults ports.new) (Q.failed_at ports.new)) }
+    ensures called { Q.calls ports.new ≡ next_count (Q.calls ports.old) }
+    ensures later { Q.faults ports.old ≤ Q.faults ports.new }
+{
+    match ports.listen(port) {
+        Opened::Port(listener) => Ok(listener),
+        Opened::Failed => Err(Served::NoPort(port)),
+    }
+}
+
+// A task for the port of each peer, in order.
+#[tactic(auto, using(crate::proofs::Starts::plan_end, crate::proofs::Starts::want_plan))]
+fn add_ports<Q: Ports, F: Drop, I: Drop, O: Drop, R: Wait + Clock + Copy + Drop>(
+    rt: R,
+    desk: &mut TurnDesk<R>,
+    ports: &mut Q,
+    peers: &[PeerRow],
+    tasks: &mut Vec<Task<Q::Port, F, I, O, R>>,
+) -> Result<(), Served>
+    requires few { length peers.now < 2 ^ 32 }
+    ensures ok { OnOk result (Adds Q.Port.opened_at tasks.old.items tasks.new.items (port_duties 0 peers.now)) }
+    ensures calls { OnOk result (RoseBy (length peers.now) (Q.calls ports.old, Q.calls ports.new)) }
+    ensures err { IfErr result (IsPlanEnd (peer_ports peers.now) (called (Q.calls ports.old, Q.calls ports.new) (Q.faults ports.old, Q.faults ports.new) (Q.failed_at ports.new))) }
+    ensures later { Q.faults ports.old ≤ Q.faults ports.new }
+{
+    for peer in 0..peers.len() {
+        let listener = listen(ports, peers[peer].port)?;
+        let desk = desk_beside(rt, desk)?;
+        let task = Task::Port {
+            peer: peer as u32,
+            listener,
+            desk,
+        };
+        if tasks.push(task).is_err() {
+            return Err(Served::NoMemory);
+        }
+    }
+    Ok(())
+}
+
+// A task for each worker, with a cache of its own.
+fn add_workers<K: Listener + Drop, F: Drop, I: Drop, O: Drop, R: Wait + Clock + Copy + Drop>(
+    rt: R,
+    alloc: Global,
+    desk: &mut TurnDesk<R>,
+    workers: u32,
+    tasks: &mut Vec<Task<K, F, I, O, R>>,
+) -> Result<(), NoMemory>
+    ensures ok { OnOk result (Adds K.opened_at tasks.old.items tasks.new.items (work_duties 0 workers)) }
+{
+    for index in 0..workers {
+        let cache = Cache::new(alloc, CACHE_CAPACITY)?;
+        let bench = desk_beside(rt, desk)?;
+        if tasks
+            .push(Task::Work {
+                index,
+                cache,
+                bench,
+            })
+            .is_err()
+        {
+            return Err(NoMemory);
+        }
+    }
+    Ok(())
+}
+
+// A task for the carrier.
+fn add_carrier<K: Listener + Drop, F: Drop, I: Drop, O: Drop, R: Wait + Clock + Copy + Drop>(
+    rt: R,
+    alloc: Global,
+    desk: &mut TurnDesk<R>,
+    parts: &NetworkParts,
+    tasks: &mut Vec<Task<K, F, I, O, R>>,
+) -> Result<(), NoMemory>
+    ensures ok { OnOk result (Adds K.opened_at tasks.old.items tasks.new.items (Carry (ways_of parts.now) ∷ [])) }
+{
+    let links = ways_of(alloc, parts)?;
+    let desk = desk_beside(rt, desk)?;
+    match tasks.push(Task::Carry { links, desk }) {
+        Ok(()) => Ok(()),
+        Err(_) => Err(NoMemory),
+    }
+}
+
+/// The tasks of the ports, of the carrier and of the workers. It listens at each peer's port, in order.
+pub(crate) fn plan_tasks<Q: Ports, F: Drop, I: Drop, O: Drop, R: Wait + Clock + Copy + Drop>(
+    rt: R,
+    alloc: Global,
+    desk: &mut TurnDesk<R>,
+    ports: &mut Q,
+    network: &Network,
+) -> Result<Vec<Task<Q::Port, F, I, O, R>>, Served>
+    ensures ok { IfOk result (λ tasks. (map (duty_of Q.Port.opened_at) tasks.items ≡ first_duties network.now) × All IsNew tasks.items) }
+    ensures calls { OnOk result (RoseBy (length network.now.peers) (Q.calls ports.old, Q.calls ports.new)) }
+    ensures err { IfErr result (IsPlanEnd (peer_ports network.now.peers) (called (Q.calls ports.old, Q.calls ports.new) (Q.faults ports.old, Q.faults ports.new) (Q.failed_at ports.new))) }
+    ensures later { Q.faults ports.old ≤ Q.faults ports.new }
+{
+    let parts = network.parts();
+    let mut tasks = Vec::new(alloc);
+    add_ports(rt, desk, ports, parts.peers.as_slice(), &mut tasks)?;
+    add_carrier(rt, alloc, desk, parts, &mut tasks)?;
+    add_workers(rt, alloc, desk, parts.workers, &mut tasks)?;
+    Ok(tasks)
+}

@@ -1,0 +1,158 @@
+//! A network is served.
+ghost use Rattle.std.specs.Prelude.{◌≡◌, ◌++◌, IfErr, OnOk, option_to_list};
+ghost use Rattle.operator_lines.specs.Operating.{AreOfElements};
+ghost use Rattle.ted_watch.specs.Watch.{published};
+ghost use Rattle.serve_tasks.specs.Spawners.{faults_of, started};
+ghost use Rattle.network_serving.specs.Duties.{duties_of, watch_duties};
+ghost use Rattle.network_serving.specs.Ends.{Ends};
+ghost use Rattle.network_serving.specs.Ports.{ports_of};
+ghost use Rattle.network_serving.specs.Starting.{IsStartEnd, called};
+
+use crate::planning::{desk_beside, listen, plan_tasks};
+use crate::preparing::{Prepared, prepare};
+use crate::served::Served;
+use crate::starting::{start, start_all};
+use crate::telling::tell_ready;
+use dom_edge::{Clock as TickClock, Listener, Ports, Sink, Source, Store};
+use serve_tasks::{Spawner, Task};
+use session_serving::tick_on;
+use std::alloc::Global;
+use std::sync::Wait;
+use std::thread::Threads;
+use std::time::Clock;
+use ted_watch::Watcher;
+use turn_desk::TurnDesk;
+
+// Listens for watchers, where the settings have a port of theirs, and starts to answer them.
+#[tactic(auto, using(crate::proofs::Starts::watch_closed, crate::proofs::Starts::unstarted_end))]
+fn start_watch<S, Q, F, I, O, R, L>(
+    rt: R,
+    alloc: Global,
+    ports: &mut Q,
+    spawner: &mut Spawner<S>,
+    log: &mut L,
+    watch: Option<u16>,
+    watcher: Watcher,
+) -> Result<(), Served>
+where
+    S: Threads,
+    Q: Ports,
+    Q::Port: Send + Drop + 'static,
+    <Q::Port as Listener>::Link: Send + 'static,
+    F: Store + Send + Drop + 'static,
+    I: Source + Send + Drop + 'static,
+    O: Sink + Send + Drop + 'static,
+    R: Wait + Clock + Copy + Send + Drop + 'static,
+    L: Sink,
+    ensures ok { OnOk result (started spawner.new ≡ started spawner.old ++ watch_duties watch) }
+    ensures err { IfErr result (IsStartEnd (option_to_list watch) (called (Q.calls ports.old, Q.calls ports.new) (Q.faults ports.old, Q.faults ports.new) (Q.failed_at ports.new)) (faults_of spawner.old, faults_of spawner.new)) }
+{
+    let Some(port) = watch else {
+        return Ok(());
+    };
+    let listener = listen(ports, port)?;
+    let task: Task<Q::Port, F, I, O, R> = Task::Watch {
+        rt,
+        watcher,
+        listener,
+    };
+    start(alloc, spawner, log, &[], task)
+}
+
+// Listens at the ports of a network, and starts its tasks. The desk is left for what tells the time.
+#[tactic(auto, using(crate::proofs::Starts::planned_end, crate::proofs::Starts::watch_end, crate::proofs::Starts::unstarted_from, crate::proofs::Starts::unstarted_end, crate::proofs::Starts::want_start, crate::proofs::Starts::duties_on))]
+fn start_network<Q, S, F, I, O, R, L>(
+    rt: R,
+    alloc: Global,
+    prepared: Prepared<R>,
+    ports: &mut Q,
+    spawner: &mut Spawner<S>,
+    files: F,
+    input: I,
+    out: O,
+    log: &mut L,
+) -> Result<TurnDesk<R>, Served>
+where
+    Q: Ports,
+    Q::Port: Send + Drop + 'static,
+    <Q::Port as Listener>::Link: Send + 'static,
+    S: Threads,
+    F: Store + Send + Drop + 'static,
+    I: Source + Send + Drop + 'static,
+    O: Sink + Send + Drop + 'static,
+    R: Wait + Clock + Copy + Send + Drop + 'static,
+    L: Sink,
+    requires elements { AreOfElements prepared.network (published prepared.publisher) }
+    ensures ok { OnOk result (started spawner.new ≡ started spawner.old ++ duties_of prepared.network) }
+    ensures err { IfErr result (IsStartEnd (ports_of prepared.network) (called (Q.calls ports.old, Q.calls ports.new) (Q.faults ports.old, Q.faults ports.new) (Q.failed_at ports.new)) (faults_of spawner.old, faults_of spawner.new)) }
+{
+    let Prepared {
+        network,
+        mut desk,
+        publisher,
+        watcher,
+    } = prepared;
+    let tasks = plan_tasks::<Q, F, I, O, R>(rt, alloc, &mut desk, ports, &network)?;
+    start_all(alloc, spawner, log, network.parts().peers.as_slice(), tasks)?;
+    let watch = network.parts().watch;
+    let beside = desk_beside(rt, &mut desk)?;
+    let operator: Task<Q::Port, F, I, O, R> = Task::Operate {
+        desk: beside,
+        files,
+        network,
+        publisher,
+        input,
+        out,
+    };
+    start(alloc, spawner, log, &[], operator)?;
+    start_watch::<S, Q, F, I, O, R, L>(rt, alloc, ports, spawner, log, watch, watcher)?;
+    Ok(desk)
+}
+
+/// Serves the network whose settings stand in the file of that name: it loads the topologies that they name and shows them, listens
+/// at the port of each peer (RFC 5440, section 9.1), starts a task for each port, one that carries messages, one for each worker, and
+/// one that does what an operator's lines say; and where the settings have a port of watchers it listens there last, and starts a task
+/// that answers them. Then it tells the time, in so many turns.
+///
+/// `files`, `input` and `out` are the operator's. What is said on `log` is a line for each task that was started, and `pce: ready`.
+pub fn serve<T, Q, S, C, F, I, O, R, L>(
+    rt: R,
+    alloc: Global,
+    name: &str,
+    store: &mut T,
+    ports: &mut Q,
+    spawner: &mut Spawner<S>,
+    clock: &mut C,
+    files: F,
+    input: I,
+    out: O,
+    log: &mut L,
+    turns: u64,
+) -> Served
+where
+    T: Store,
+    Q: Ports,
+    Q::Port: Send + Drop + 'static,
+    <Q::Port as Listener>::Link: Send + 'static,
+    S: Threads,
+    C: TickClock,
+    F: Store + Send + Drop + 'static,
+    I: Source + Send + Drop + 'static,
+    O: Sink + Send + Drop + 'static,
+    R: Wait + Clock + Copy + Send + Drop + 'static,
+    L: Sink,
+    ensures ends { Ends (record { files = T.files store.old; store_faults = (T.faults store.old, T.faults store.new); failed_at = T.failed_at store.new; port_calls = (Q.calls ports.old, Q.calls ports.new); port_faults = (Q.faults ports.old, Q.faults ports.new); failed_port = Q.failed_at ports.new; started = (started spawner.old, started spawner.new); spawner_faults = (faults_of spawner.old, faults_of spawner.new); readings = (C.readings clock.old, C.readings clock.new) }) name.now turns result }
+{
+    let prepared = match prepare(rt, alloc, name, store) {
+        Ok(prepared) => prepared,
+        Err(why) => return why,
+    };
+    match start_network(rt, alloc, prepared, ports, spawner, files, input, out, log) {
+        Ok(mut desk) => {
+            tell_ready(log);
+            tick_on(&mut desk, clock, turns);
+            Served::Turns
+        }
+        Err(why) => why,
+    }
+}

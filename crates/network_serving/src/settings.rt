@@ -1,0 +1,84 @@
+//! The settings of the network.
+ghost use Rattle.std.specs.Prelude.{◌≡◌, ◌≤◌, IfErr, IfOk, length};
+ghost use Rattle.dom_edge.specs.Stores.{HasFile};
+ghost use Rattle.plant_text.specs.Reads.{Reads};
+ghost use Rattle.network_files.specs.Loading.{HasNetwork, settings_max};
+ghost use Rattle.network_serving.specs.Files.{IsBadAt, IsBadText, IsFileEnd, IsNoFault, IsSettingsFault, IsTooLarge};
+
+use crate::served::Served;
+use dom_base::{Bytes, Text};
+use dom_edge::{Store, StoreError};
+use network_files::SETTINGS_MAX;
+use plant_text::{NetError, NetFault, Network, read_network};
+use std::alloc::Global;
+
+// A file above its limit.
+fn too_large(alloc: Global, name: &str) -> Served
+    ensures { IsTooLarge name.now result }
+{
+    match Text::copy_of(alloc, name) {
+        Ok(file) => Served::TooLarge(file),
+        Err(_) => Served::NoMemory,
+    }
+}
+
+/// A file that is refused at a line of it.
+pub(crate) fn bad_network(alloc: Global, name: &str, line: u32, fault: NetFault) -> Served
+    ensures { IsBadAt name.now line fault result }
+{
+    match Text::copy_of(alloc, name) {
+        Ok(file) => Served::BadNetwork { file, line, fault },
+        Err(_) => Served::NoMemory,
+    }
+}
+
+/// The bytes of a file.
+pub(crate) fn read_file<T: Store>(
+    alloc: Global,
+    store: &mut T,
+    name: &str,
+    limit: usize,
+) -> Result<Bytes, Served>
+    ensures ok { IfOk result (HasFile (T.files store.old) name.now) }
+    ensures within { IfOk result (λ bytes. length bytes ≤ limit) }
+    ensures err { IfErr result (IsFileEnd (T.files store.old) name.now limit IsNoFault (T.faults store.old, T.faults store.new) (T.failed_at store.new)) }
+    ensures files { T.files store.new ≡ T.files store.old }
+    ensures later { T.faults store.old ≤ T.faults store.new }
+{
+    match store.read(alloc, name, limit) {
+        Ok(bytes) => Ok(bytes),
+        Err(StoreError::TooLong) => Err(too_large(alloc, name)),
+        Err(StoreError::Failed) => Err(Served::ReadFault),
+        Err(StoreError::NoMemory) => Err(Served::NoMemory),
+    }
+}
+
+// The settings in the bytes of the file of that name.
+fn network_in(alloc: Global, name: &str, bytes: &[u8]) -> Result<Network, Served>
+    ensures ok { IfOk result (Reads bytes.now) }
+    ensures err { IfErr result (IsBadText name.now (IsSettingsFault bytes.now)) }
+{
+    match read_network(alloc, bytes) {
+        Ok(network) => Ok(network),
+        Err(NetError::Fault(fault)) => Err(bad_network(alloc, name, 0, fault)),
+        Err(NetError::NoMemory) => Err(Served::NoMemory),
+    }
+}
+
+/// The settings in a file, twice: a network takes one for itself.
+#[tactic(auto, using(crate::proofs::Causes::bad_text, crate::proofs::Causes::not_read))]
+pub(crate) fn load_settings<T: Store>(
+    alloc: Global,
+    store: &mut T,
+    name: &str,
+) -> Result<(Network, Network), Served>
+    ensures ok { IfOk result (λ r. HasNetwork (T.files store.old) name.now r.0 × HasNetwork (T.files store.old) name.now r.1) }
+    ensures err { IfErr result (IsFileEnd (T.files store.old) name.now settings_max IsSettingsFault (T.faults store.old, T.faults store.new) (T.failed_at store.new)) }
+    ensures files { T.files store.new ≡ T.files store.old }
+    ensures later { T.faults store.old ≤ T.faults store.new }
+{
+    let bytes = read_file(alloc, store, name, SETTINGS_MAX)?;
+    let network = network_in(alloc, name, bytes.as_slice())?;
+    let own = network_in(alloc, name, bytes.as_slice())?;
+    Ok((network, own))
+}

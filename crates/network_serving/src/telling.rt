@@ -1,0 +1,64 @@
+//! What is said of tasks as they start. No clause speaks of these lines.
+use dom_base::{NoMemory, write_number};
+use dom_edge::{Sink, write_all};
+use plant_text::PeerRow;
+use serve_tasks::Duty;
+use std::alloc::Global;
+
+// A number between two texts.
+fn write_around(
+    front: &[u8],
+    number: u64,
+    back: &[u8],
+    into: &mut Vec<u8>,
+) -> Result<(), NoMemory> {
+    into.extend_from_slice(front)?;
+    write_number(number, into)?;
+    into.extend_from_slice(back)?;
+    Ok(())
+}
+
+// Who comes in at a port.
+fn write_port(port: u16, who: &[u8], into: &mut Vec<u8>) -> Result<(), NoMemory> {
+    write_around(b"pce: listens at port ", u64::from(port), b" for ", into)?;
+    into.extend_from_slice(who)?;
+    Ok(())
+}
+
+fn name_of(peers: &[PeerRow], peer: u32) -> &[u8] {
+    match peers.get(peer as usize) {
+        Some(row) => row.name.as_str().as_bytes(),
+        None => b"a peer",
+    }
+}
+
+fn write_duty(peers: &[PeerRow], duty: &Duty, into: &mut Vec<u8>) -> Result<(), NoMemory> {
+    match duty {
+        Duty::Port(peer, port) => write_port(*port, name_of(peers, *peer), into),
+        Duty::Carry(ways) => write_around(
+            b"pce: carries messages over ",
+            ways.len() as u64 / 2,
+            b" inner links",
+            into,
+        ),
+        Duty::Work(index) => write_around(b"pce: solves as worker ", u64::from(*index), b"", into),
+        Duty::Operate => {
+            into.extend_from_slice(b"pce: reads an operator's lines")?;
+            Ok(())
+        }
+        Duty::Watch(port) => write_port(*port, b"watchers", into),
+    }
+}
+
+/// Says that a task of this duty was started, unless that can't be written.
+pub(crate) fn tell_started<L: Sink>(alloc: Global, log: &mut L, peers: &[PeerRow], duty: &Duty) {
+    let mut text = Vec::new(alloc);
+    if write_duty(peers, duty, &mut text).is_ok() && text.push(b'\n').is_ok() {
+        let _ = write_all(log, &text);
+    }
+}
+
+/// Says that all tasks were started.
+pub(crate) fn tell_ready<L: Sink>(log: &mut L) {
+    let _ = write_all(log, b"pce: ready\n");
+}

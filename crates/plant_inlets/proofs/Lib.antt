@@ -1,0 +1,4 @@
+pub mod Fading
+pub mod Frames
+pub mod EventLemmas
+pub mod RunLemmas

@@ -1,0 +1,4 @@
+pub mod Putting
+pub mod Streams
+pub mod Reading
+pub mod Answering

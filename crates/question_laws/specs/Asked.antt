@@ -1,0 +1,27 @@
+-- The requests that elements have from a client that asks once.
+use Rattle.std.specs.Prelude.{◌≡◌, ℕ, List, [], Option}
+use Rattle.dom_base.specs.declared.names.As.{As}
+use Rattle.dom_base.specs.declared.names.Peer.TheVariants.{Outside}
+use Rattle.dom_edge.specs.Stores.{Files}
+use Rattle.pcep_messages.specs.declared.message.Request.{Request}
+use Rattle.pcep_messages.specs.Spelling.{IsWritten}
+use Rattle.plant_text.specs.declared.settings.NetworkParts.{NetworkParts}
+use Rattle.script_laws.specs.plant_model.Laws.{IsNetwork}
+use Rattle.script_laws.specs.plant_model.Plant.{deeds_of}
+use Rattle.script_laws.specs.plant_model.RealWire.{check_of, wire}
+use Rattle.script_laws.specs.plant_model.Wire.{Admitted}
+use Rattle.script_laws.specs.plant_laws.Transcript.{Delivered, Transcript, Within}
+use Rattle.script_laws.specs.plant_play.Turns.{entries_of}
+use Rattle.plant_client.specs.declared.question.Question.{Question}
+use Rattle.plant_client.specs.Asking.{Asks}
+use Rattle.plant_client.specs.Questions.{asked_of, question_message}
+use Rattle.client_laws.specs.Told.{IsClient}
+
+-- A moment that delivered a request of the client to an element delivered the question, which that element admits as this request. The
+-- premise on the question is that its numbers are those of its types.
+abbrev pub OneIsAsked : Type 0
+OneIsAsked =
+    (files : Option Files) (n : NetworkParts) (client : ℕ) (question : Question) (received : List ℕ) → IsNetwork n → IsClient n client → IsWritten (question_message question) →
+    (a : Asks files n client question received) →
+    (d : As) (at : Transcript) (r : Request) → Within at (deeds_of wire n (entries_of a.lines.turns [])) → Delivered wire at d (Outside client) r →
+    check_of (asked_of question) d ≡ Admitted r

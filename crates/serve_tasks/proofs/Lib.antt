@@ -1,0 +1,4 @@
+mod Walks
+pub mod WatchTurns
+pub mod CrossingParts
+pub mod Crossing

@@ -1,0 +1,71 @@
+-- What a task does in a run: just what the call does that its kind makes, over its own fields.
+use Rattle.std.specs.Prelude.{◌≡◌, ◌↔◌, ℕ, [], List, Option, Some}
+use Rattle.dom_base.specs.declared.names.As.{As}
+use Rattle.dom_edge.specs.Stores.{Files}
+use Rattle.ted_watch.specs.Watch.{known, published}
+use Rattle.session_serving.specs.Serving.{CarriesLinks, ServesPort, Waits, waits}
+use Rattle.session_serving.specs.declared.port.Ran.{Ran}
+use Rattle.session_serving.specs.declared.port.Ran.TheVariants as ran
+use Rattle.solve_workers.specs.Turns.{Runs}
+use Rattle.solve_workers.specs.declared.working.Worked.{Worked}
+use Rattle.solve_workers.specs.declared.working.Worked.TheVariants as worked
+use Rattle.operator_lines.specs.Operating.{Operates, context, side, sides, stage}
+use Rattle.operator_lines.specs.declared.operating.Operated.{Operated}
+use Rattle.operator_lines.specs.declared.operating.Operated.TheVariants as operated
+use Rattle.turn_desk.specs.Desks.{Stand, benched_of, desked_of, stand_of}
+use Rattle.turn_desk.specs.Charts.{charted_of}
+use Rattle.serve_tasks.specs.declared.running.TaskEnd.{TaskEnd}
+use Rattle.serve_tasks.specs.declared.running.TaskEnd.TheVariants as end
+use Rattle.serve_tasks.specs.declared.tasks.Task.{Task}
+use Rattle.serve_tasks.specs.declared.tasks.Task.TheVariants as task
+use Rattle.serve_tasks.specs.Watching.{WatchesPort}
+
+-- what is told of the outside: of a listener, of a store of files, of an input and of an output
+pub record Outside (K F I O : Type 0) : Type 0 where
+  pub opened_at : K → ℕ
+  pub accept_faults : K → ℕ
+  pub quiets : K → ℕ
+  pub files : F → Option Files
+  pub store_faults : F → ℕ
+  pub failed_at : F → List ℕ
+  pub left : I → Option (List ℕ)
+  pub input_faults : I → ℕ
+  pub written : O → Option (List ℕ)
+  pub output_faults : O → ℕ
+
+-- the end is that the desk is spent exactly where it shows that number
+abbrev pub RanAsShown : Ran → Stand → Type 0
+RanAsShown e s = (t : ℕ) → (e ≡ ran.Spent t) ↔ (s.spent ≡ Some t)
+
+abbrev pub WorkedAsShown : Worked → Stand → Type 0
+WorkedAsShown e s = (t : ℕ) → (e ≡ worked.Spent t) ↔ (s.spent ≡ Some t)
+
+abbrev pub OperatedAsShown : Operated → Stand → Type 0
+OperatedAsShown e s = (t : ℕ) → (e ≡ operated.Spent t) ↔ (s.spent ≡ Some t)
+
+abbrev pub waits_of : {K F I O : Type 0} → Outside K F I O → K → Waits
+waits_of x l = waits (x.accept_faults l) (x.quiets l)
+
+module _ {K F I O R : Type 0} (x : Outside K F I O) (turns : ℕ) where
+  -- The first of these tasks became the second, and ended so.
+  abbrev pub RunsTask : TaskEnd → Task K F I O R → Task K F I O R → Type 0
+  RunsTask (end.Ran e) (task.Port peer listener desk) (task.Port peer' listener' desk') =
+      (peer' ≡ peer) × (x.opened_at listener' ≡ x.opened_at listener)
+      × ServesPort peer turns e (desked_of (stand_of desk)) (desked_of (stand_of desk')) (waits_of x listener) (waits_of x listener')
+      × RanAsShown e (stand_of desk')
+  RunsTask (end.Ran e) (task.Carry links desk) (task.Carry links' desk') =
+      (links' ≡ links) × CarriesLinks links turns e (desked_of (stand_of desk)) (desked_of (stand_of desk')) × RanAsShown e (stand_of desk')
+  RunsTask (end.Worked e) (task.Work index cache bench) (task.Work index' cache' bench') =
+      (index' ≡ index) × ((passed : List (As × ℕ)) × Runs index turns e (benched_of (stand_of bench)) (benched_of (stand_of bench')) [] passed cache')
+      × WorkedAsShown e (stand_of bench')
+  RunsTask (end.Operated e) (task.Operate desk files network publisher input out) (task.Operate desk' files' network' publisher' input' out') =
+      (network' ≡ network) × (x.files files' ≡ x.files files)
+      × Operates (context network (x.files files)) turns e
+      (stage (charted_of (stand_of desk)) (published publisher) (x.store_faults files) (x.failed_at files))
+      (stage (charted_of (stand_of desk')) (published publisher') (x.store_faults files') (x.failed_at files'))
+      (sides (side (x.left input) (x.input_faults input)) (side (x.written out) (x.output_faults out)))
+      (sides (side (x.left input') (x.input_faults input')) (side (x.written out') (x.output_faults out')))
+      × OperatedAsShown e (stand_of desk')
+  RunsTask end.Watching (task.Watch rt watcher listener) (task.Watch rt' watcher' listener') =
+      (x.opened_at listener' ≡ x.opened_at listener) × WatchesPort turns (known watcher) (known watcher') (waits_of x listener) (waits_of x listener')
+  RunsTask e old new = ⊥

@@ -1,0 +1,20 @@
+-- What a spawner stands for: the duties that it started, and how often it failed.
+use Rattle.std.specs.Prelude.{◌≡◌, ◌≢◌, ◌∷◌, [], ◌++◌, ℕ, List}
+use Rattle.dom_edge.specs.Causes.{HasCause}
+use Rattle.dom_edge.specs.Memory.{Calls}
+use Rattle.serve_tasks.specs.declared.begun.Begun.{Begun}
+use Rattle.serve_tasks.specs.declared.begun.Begun.TheVariants as begun
+use Rattle.serve_tasks.specs.declared.duties.Duty.{Duty}
+use Rattle.serve_tasks.specs.declared.spawner.Spawner.{Spawner}
+use Rattle.serve_tasks.specs.declared.spawner.Spawner.TheVariants as spawner
+use Rattle.serve_tasks.specs.SpawnerStates.{MemoryState, ThreadState}
+
+-- the duties that were started, the oldest first
+abbrev pub started : {T : Type 0} → Spawner T → List Duty
+started (spawner.Memory m) = m.duties
+started (spawner.Threads t) = t.duties
+
+-- how often a start failed
+abbrev pub faults_of : {T : Type 0} → Spawner T → ℕ
+faults_of (spawner.Memory m) = m.calls.faults
+faults_of (spawner.Threads t) = t.faults

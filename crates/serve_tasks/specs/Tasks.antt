@@ -1,0 +1,23 @@
+-- What a task is to do, and when it may begin.
+use Rattle.std.specs.Prelude.{◌≡◌, ℕ, []}
+use Rattle.ted_watch.specs.Watch.{published}
+use Rattle.operator_lines.specs.Operating.{AreOfElements}
+use Rattle.serve_tasks.specs.declared.duties.Duty.{Duty}
+use Rattle.serve_tasks.specs.declared.duties.Duty.TheVariants as duty
+use Rattle.serve_tasks.specs.declared.tasks.Task.{Task}
+use Rattle.serve_tasks.specs.declared.tasks.Task.TheVariants as task
+
+module _ {K F I O R : Type 0} where
+  -- the port of a task is that at which its listener was opened
+  abbrev pub duty_of : (K → ℕ) → Task K F I O R → Duty
+  duty_of opened_at (task.Port peer listener desk) = duty.Port peer (opened_at listener)
+  duty_of opened_at (task.Carry links desk) = duty.Carry links
+  duty_of opened_at (task.Work index cache bench) = duty.Work index
+  duty_of opened_at (task.Operate desk files network publisher input out) = duty.Operate
+  duty_of opened_at (task.Watch rt watcher listener) = duty.Watch (opened_at listener)
+
+  -- a worker's cache has no entry, and an operator's publisher has shown elements of the settings alone
+  abbrev pub IsNew : Task K F I O R → Type 0
+  IsNew (task.Work index cache bench) = cache.entries ≡ []
+  IsNew (task.Operate desk files network publisher input out) = AreOfElements network (published publisher)
+  IsNew t = Unit {0}

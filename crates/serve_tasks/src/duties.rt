@@ -1,0 +1,17 @@
+//! What a task is to do.
+use dom_base::{As, List};
+
+/// What a task is to do, without what it does it with.
+#[derive(Drop)]
+pub enum Duty {
+    /// It serves the connections of this peer, which come in at this port.
+    Port(u32, u16),
+    /// It carries messages along these ways.
+    Carry(List<(As, As)>),
+    /// It solves jobs, as the worker of this index.
+    Work(u32),
+    /// It does what an operator's lines say.
+    Operate,
+    /// It answers watchers, who come in at this port.
+    Watch(u16),
+}

@@ -1,0 +1,77 @@
+//! A spawner in memory.
+ghost use Rattle.std.specs.Prelude.{◌≡◌, []};
+ghost use Rattle.dom_edge.specs.Memory.{IsPlanned, no_calls};
+ghost use Rattle.serve_tasks.specs.SpawnerStates.{Starts};
+ghost use Rattle.serve_tasks.specs.Tasks.{duty_of};
+ghost use Rattle.serve_tasks.specs.declared.begun.Begun.TheVariants.{Failed};
+
+use crate::begun::Begun;
+use crate::duties::Duty;
+use crate::tasks::Task;
+use dom_base::List;
+use dom_edge::{Listener, PlannedCalls, Sink, Source, Store};
+use std::alloc::Global;
+use std::marker::Model;
+use std::sync::Wait;
+use std::time::Clock;
+
+/// A spawner that runs nothing: it keeps what it was to start. The calls whose numbers, from 0, are in `fails` fail.
+#[derive(Drop)]
+pub struct MemorySpawner {
+    alloc: Global,
+    duties: List<Duty>,
+    calls: PlannedCalls,
+}
+
+impl Model for MemorySpawner {
+    ghost use Rattle.serve_tasks.specs.SpawnerStates.{MemoryState};
+
+    ghost Value = { MemoryState };
+
+    ghost view = { λ s. record { duties = s.duties; calls = s.calls } };
+}
+
+impl MemorySpawner {
+    /// Nothing is started yet. `fails` has the numbers, from 0, of the calls that are to fail.
+    pub fn new(alloc: Global, fails: List<u64>) -> Self
+        ensures { result ≡ record { duties = []; calls = no_calls fails } }
+    {
+        MemorySpawner {
+            alloc,
+            duties: List::new(alloc),
+            calls: PlannedCalls::new(fails),
+        }
+    }
+
+    /// What it started, in order.
+    pub fn duties(&self) -> &[Duty]
+        ensures { result.now ≡ self.now.duties }
+    {
+        self.duties.as_slice()
+    }
+
+    /// Keeps what a task is to do, and drops the task.
+    pub(crate) fn start<K, F, I, O, R>(&mut self, task: Task<K, F, I, O, R>) -> Begun
+    where
+        K: Listener + Drop,
+        F: Store + Drop,
+        I: Source + Drop,
+        O: Sink + Drop,
+        R: Wait + Clock + Drop,
+        ensures starts { Starts (duty_of K.opened_at task) result self.old.duties self.new.duties self.old.calls.faults self.new.calls.faults }
+        ensures planned { IsPlanned self.old.calls → result ≡ Failed }
+    {
+        if self.calls.is_planned() {
+            self.calls.fail();
+            return Begun::Failed;
+        }
+        self.calls.pass();
+        let Ok(duty) = task.duty(self.alloc) else {
+            return Begun::NoMemory;
+        };
+        match self.duties.push(duty) {
+            Ok(()) => Begun::Started,
+            Err(_) => Begun::NoMemory,
+        }
+    }
+}

@@ -1,0 +1,70 @@
+//! What a task does.
+ghost use Rattle.serve_tasks.specs.Tasks.{IsNew};
+
+use crate::gates::OpenGate;
+use crate::tasks::Task;
+use crate::watching::watch_port;
+use dom_edge::{Listener, Sink, Source, Store};
+use operator_lines::{Operated, operate};
+use session_serving::{Ran, carry_links, serve_port};
+use solve_workers::{Worked, work};
+use std::alloc::Global;
+use std::sync::Wait;
+use std::time::Clock;
+
+/// How a task ended: as the call that it made.
+#[derive(Clone, Copy)]
+pub enum TaskEnd {
+    /// A port, or the carrier.
+    Ran(Ran),
+    Worked(Worked),
+    Operated(Operated),
+    /// Watchers were answered in all turns.
+    Watching,
+}
+
+impl<K: Listener, F: Store, I: Source, O: Sink, R: Wait + Clock + Drop> Task<K, F, I, O, R> {
+    ghost use Rattle.serve_tasks.specs.Running.{RunsTask};
+
+    /// Does it, for so many turns at most. It ends as the call of its kind does.
+    pub fn run(&mut self, alloc: Global, turns: u64) -> TaskEnd
+        requires new { IsNew self.old }
+        ensures runs { RunsTask (record { opened_at = K.opened_at; accept_faults = K.faults; quiets = K.quiets; files = F.files; store_faults = F.faults; failed_at = F.failed_at; left = I.left; input_faults = I.faults; written = O.written; output_faults = O.faults }) turns result self.old self.new }
+    {
+        match self {
+            Task::Port {
+                peer,
+                listener,
+                desk,
+            } => { TaskEnd::Ran(serve_port(alloc, desk, *peer, listener, turns)) }
+            Task::Carry { links, desk } => {
+                TaskEnd::Ran(carry_links(desk, links.as_slice(), turns))
+            }
+            Task::Work {
+                index,
+                cache,
+                bench,
+            } => { TaskEnd::Worked(work(alloc, bench, &mut OpenGate::new(), cache, *index, turns)) }
+            Task::Operate {
+                desk,
+                files,
+                network,
+                publisher,
+                input,
+                out,
+            } => {
+                TaskEnd::Operated(operate(
+                    alloc, desk, files, network, publisher, input, out, turns,
+                ))
+            }
+            Task::Watch {
+                rt,
+                watcher,
+                listener,
+            } => {
+                watch_port(rt, alloc, watcher, listener, turns);
+                TaskEnd::Watching
+            }
+        }
+    }
+}

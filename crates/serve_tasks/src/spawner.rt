@@ -1,0 +1,41 @@
+//! What starts tasks.
+ghost use Rattle.serve_tasks.specs.SpawnerStates.{Starts};
+ghost use Rattle.serve_tasks.specs.Tasks.{IsNew, duty_of};
+
+use crate::begun::Begun;
+use crate::memory::MemorySpawner;
+use crate::tasks::Task;
+use crate::threads::ThreadSpawner;
+use dom_edge::{Listener, Sink, Source, Store};
+use std::sync::Wait;
+use std::thread::Threads;
+use std::time::Clock;
+
+/// Starts tasks: on threads, or in memory. It stands for the list of what it started.
+#[derive(Drop)]
+pub enum Spawner<T: Threads> {
+    Memory(MemorySpawner),
+    Threads(ThreadSpawner<T>),
+}
+
+impl<T: Threads> Spawner<T> {
+    ghost use Rattle.serve_tasks.specs.Spawners.{faults_of, started};
+
+    /// Starts a task: on a thread of its own, which ends with the process at the latest; or in memory, where it is not run.
+    pub fn start<K, F, I, O, R>(&mut self, task: Task<K, F, I, O, R>) -> Begun
+    where
+        K: Listener + Send + Drop + 'static,
+        K::Link: Send + 'static,
+        F: Store + Send + Drop + 'static,
+        I: Source + Send + Drop + 'static,
+        O: Sink + Send + Drop + 'static,
+        R: Wait + Clock + Send + Drop + 'static,
+        requires new { IsNew task }
+        ensures starts { Starts (duty_of K.opened_at task) result (started self.old) (started self.new) (faults_of self.old) (faults_of self.new) }
+    {
+        match self {
+            Spawner::Memory(spawner) => spawner.start(task),
+            Spawner::Threads(spawner) => spawner.start(task),
+        }
+    }
+}

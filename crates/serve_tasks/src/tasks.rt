@@ -1,0 +1,45 @@
+//! The tasks of a program that serves a network.
+use cost_cache::Cache;
+use dom_base::{As, List};
+use plant_text::Network;
+use std::sync::Wait;
+use std::time::Clock;
+use ted_watch::{Publisher, Watcher};
+use turn_desk::TurnDesk;
+
+/// What a thread does, with all that it does it with: nothing but the lock of the network is shared.
+#[derive(Drop)]
+pub enum Task<K, F, I, O, R: Wait + Clock + Drop> {
+    /// Serves the connections of a peer, one after the other.
+    Port {
+        peer: u32,
+        listener: K,
+        desk: TurnDesk<R>,
+    },
+    /// Carries messages along these ways.
+    Carry {
+        links: List<(As, As)>,
+        desk: TurnDesk<R>,
+    },
+    /// Solves jobs. The cache is new.
+    Work {
+        index: u32,
+        cache: Cache,
+        bench: TurnDesk<R>,
+    },
+    /// Does what an operator's lines say. What its publisher has shown is of elements of the settings.
+    Operate {
+        desk: TurnDesk<R>,
+        files: F,
+        network: Network,
+        publisher: Publisher<R>,
+        input: I,
+        out: O,
+    },
+    /// Answers watchers. It has no way to the network.
+    Watch {
+        rt: R,
+        watcher: Watcher,
+        listener: K,
+    },
+}

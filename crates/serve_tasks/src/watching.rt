@@ -1,0 +1,47 @@
+//! A port at which watchers are answered, one connection after the other.
+ghost use Rattle.std.specs.Prelude.{◌≡◌};
+ghost use Rattle.session_serving.specs.Serving.{waits};
+ghost use Rattle.ted_watch.specs.Watch.{known, list_at};
+ghost use Rattle.serve_tasks.specs.Watching.{IsWatchTurn, WatchesPort};
+
+use dom_edge::{Accepted, Listener};
+use std::alloc::Global;
+use std::sync::Wait;
+use ted_watch::Watcher;
+use watch_lines::serve_watch;
+
+// How many turns a watcher's connection may have.
+const WATCH_TURNS: u64 = u64::MAX;
+
+// Accepts once, and answers the lines of a connection that came.
+fn accept_once<K: Listener, R: Wait>(rt: &R, alloc: Global, watcher: &mut Watcher, listener: &mut K)
+    ensures turn { IsWatchTurn (known watcher.old) (known watcher.new) (waits (K.faults listener.old) (K.quiets listener.old)) (waits (K.faults listener.new) (K.quiets listener.new)) }
+    ensures list { list_at watcher.new ≡ list_at watcher.old }
+    ensures port { K.opened_at listener.new ≡ K.opened_at listener.old }
+{
+    match listener.accept() {
+        Accepted::Link(link) => {
+            let mut link = link;
+            serve_watch(rt, alloc, watcher, &mut link, WATCH_TURNS);
+        }
+        Accepted::Quiet | Accepted::Failed => {}
+    }
+}
+
+/// Accepts once in each turn, and answers the lines of each connection to its end.
+#[tactic(auto, using(crate::proofs::WatchTurns::none_watched, crate::proofs::WatchTurns::one_watched))]
+pub(crate) fn watch_port<K: Listener, R: Wait>(
+    rt: &R,
+    alloc: Global,
+    watcher: &mut Watcher,
+    listener: &mut K,
+    turns: u64,
+)
+    ensures watches { WatchesPort turns (known watcher.old) (known watcher.new) (waits (K.faults listener.old) (K.quiets listener.old)) (waits (K.faults listener.new) (K.quiets listener.new)) }
+    ensures list { list_at watcher.new ≡ list_at watcher.old }
+    ensures port { K.opened_at listener.new ≡ K.opened_at listener.old }
+{
+    for _turn in 0..turns {
+        accept_once(rt, alloc, watcher, listener);
+    }
+}

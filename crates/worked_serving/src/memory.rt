@@ -1,0 +1,250 @@
+//! Networks that are served in memory: which tasks are started, in which order, and why it ends before.
+use dom_base::{As, Bytes, List, Text, Tick, write_number};
+use dom_edge::{MemoryClock, MemoryListener, MemoryPorts, MemorySink, MemorySource, MemoryStore};
+use network_serving::{Served, serve};
+use serve_tasks::{Duty, MemorySpawner, Spawner};
+use std::alloc::Global;
+use std::sync::Wait;
+use std::test::Fail;
+use std::thread::Threads;
+use std::time::Clock;
+
+// Two domains and their parent, two peers and watchers.
+const SETTINGS: &[u8] = b"\
+watch = 4200
+workers = 2
+
+[[element]]
+as = 2
+id = \"192.0.2.2\"
+parent = true
+
+[[element]]
+as = 1
+id = \"192.0.2.1\"
+topology = \"d1.txt\"
+parent = true
+
+[[link]]
+a = 2
+b = 1
+
+[parent]
+id = \"192.0.2.9\"
+
+[[peer]]
+name = \"c1\"
+as = 1
+class = \"client\"
+port = 4189
+
+[[peer]]
+name = \"c2\"
+as = 2
+class = \"client\"
+port = 4190
+";
+
+// What is started, and what is said meanwhile.
+const STARTED: &[u8] = b"\
+port 0 4189
+port 1 4190
+carry 2 1 1 2 0 1 1 0 0 2 2 0
+work 0
+work 1
+operate
+watch 4200
+";
+
+const TOLD: &[u8] = b"\
+pce: listens at port 4189 for c1
+pce: listens at port 4190 for c2
+pce: carries messages over 3 inner links
+pce: solves as worker 0
+pce: solves as worker 1
+pce: reads an operator's lines
+pce: listens at port 4200 for watchers
+pce: ready
+";
+
+fn bytes(alloc: Global, text: &[u8]) -> Result<Bytes, Fail> {
+    Ok(List::from_vec(text.to_vec(alloc)?))
+}
+
+fn put_words(words: &[u8], numbers: &[u64], into: &mut Vec<u8>) -> Result<(), Fail> {
+    into.extend_from_slice(words)?;
+    for number in numbers {
+        into.push(b' ')?;
+        write_number(*number, into)?;
+    }
+    into.push(b'\n')?;
+    Ok(())
+}
+
+fn put_ways(ways: &[(As, As)], into: &mut Vec<u8>) -> Result<(), Fail> {
+    into.extend_from_slice(b"carry")?;
+    for (from, to) in ways {
+        into.push(b' ')?;
+        write_number(u64::from(from.0), into)?;
+        into.push(b' ')?;
+        write_number(u64::from(to.0), into)?;
+    }
+    into.push(b'\n')?;
+    Ok(())
+}
+
+fn put_duty(duty: &Duty, into: &mut Vec<u8>) -> Result<(), Fail> {
+    match duty {
+        Duty::Port(peer, port) => put_words(b"port", &[u64::from(*peer), u64::from(*port)], into),
+        Duty::Carry(ways) => put_ways(ways.as_slice(), into),
+        Duty::Work(index) => put_words(b"work", &[u64::from(*index)], into),
+        Duty::Operate => put_words(b"operate", &[], into),
+        Duty::Watch(port) => put_words(b"watch", &[u64::from(*port)], into),
+    }
+}
+
+fn put_end(served: &Served, into: &mut Vec<u8>) -> Result<(), Fail> {
+    match served {
+        Served::Turns => put_words(b"turns", &[], into),
+        Served::ReadFault => put_words(b"read fault", &[], into),
+        Served::TooLarge(_) => put_words(b"too large", &[], into),
+        Served::BadNetwork { line, .. } => put_words(b"bad network", &[u64::from(*line)], into),
+        Served::NoPort(port) => put_words(b"no port", &[u64::from(*port)], into),
+        Served::NoThread => put_words(b"no thread", &[], into),
+        Served::NoMemory => put_words(b"no memory", &[], into),
+    }
+}
+
+// The outside in memory: the settings and a topology, listeners of which no one comes in, and a spawner that runs nothing.
+fn store(alloc: Global, settings: &[u8]) -> Result<MemoryStore, Fail> {
+    let topology = b"topology 1\nnode 10.1.0.1\n".as_slice();
+    let files = vec![in alloc;
+        (Text::copy_of(alloc, "net.toml")?, bytes(alloc, settings)?),
+        (Text::copy_of(alloc, "d1.txt")?, bytes(alloc, topology)?),
+    ]?;
+    Ok(MemoryStore::new(alloc, List::from_vec(files), List::new(alloc)))
+}
+
+fn ports(alloc: Global, fails: List<u64>) -> Result<MemoryPorts, Fail> {
+    let mut listeners = List::new(alloc);
+    for _port in 0..3u32 {
+        listeners.push(MemoryListener::new(List::new(alloc), List::new(alloc)))?;
+    }
+    Ok(MemoryPorts::new(listeners, fails))
+}
+
+// One call that is to fail, by its number from 0; none where it is past the last.
+fn only(alloc: Global, number: u64) -> Result<List<u64>, Fail> {
+    Ok(List::from_vec(vec![in alloc; number]?))
+}
+
+// What is told of a run.
+#[derive(Drop)]
+struct Run {
+    end: Vec<u8>,
+    log: MemorySink,
+}
+
+fn run<R>(rt: R, alloc: Global, settings: &[u8], port: u64, thread: u64) -> Result<Run, Fail>
+where
+    R: Threads + Wait + Clock + Copy + Send + Drop + 'static,
+{
+    let mut spawner: Spawner<R> = Spawner::Memory(MemorySpawner::new(alloc, only(alloc, thread)?));
+    let mut log = MemorySink::new(alloc, List::new(alloc));
+    let served = serve(
+        rt,
+        alloc,
+        "net.toml",
+        &mut store(alloc, settings)?,
+        &mut ports(alloc, only(alloc, port)?)?,
+        &mut spawner,
+        &mut MemoryClock::new(List::from_vec(vec![in alloc; Tick(1), Tick(3)]?)),
+        store(alloc, settings)?,
+        MemorySource::new(List::new(alloc), List::new(alloc)),
+        MemorySink::new(alloc, List::new(alloc)),
+        &mut log,
+        3,
+    );
+    let mut end = Vec::new(alloc);
+    put_end(&served, &mut end)?;
+    if let Spawner::Memory(spawner) = &spawner {
+        for duty in spawner.duties() {
+            put_duty(duty, &mut end)?;
+        }
+    }
+    Ok(Run { end, log })
+}
+
+// The end, and the first lines of what was started.
+fn ended(end: &[u8], lines: usize, alloc: Global) -> Result<Vec<u8>, Fail> {
+    let mut text = end.to_vec(alloc)?;
+    let mut left = lines;
+    for byte in STARTED {
+        if left == 0 {
+            break;
+        }
+        text.push(*byte)?;
+        if *byte == b'\n' {
+            left -= 1;
+        }
+    }
+    Ok(text)
+}
+
+#[test]
+fn all_tasks_are_started_in_order(rt: HostRuntime) -> Result<(), Fail> {
+    let run = run(rt, rt.alloc(), SETTINGS, 9, 9)?;
+    assert_eq!(rt; run.end, ended(b"turns\n", 7, rt.alloc())?);
+    assert_eq!(rt; run.log.bytes(), TOLD);
+    Ok(())
+}
+
+// A row: the call of `listen` that fails, that of `start`, the end, and how many tasks were started by then.
+const FAULTS: [(u64, u64, &[u8], usize); 6] = [
+    (0, 9, b"no port 4189\n", 0),
+    (1, 9, b"no port 4190\n", 0),
+    (2, 9, b"no port 4200\n", 6),
+    (9, 0, b"no thread\n", 0),
+    (9, 4, b"no thread\n", 4),
+    (9, 6, b"no thread\n", 6),
+];
+
+#[test]
+fn a_fault_ends_it(rt: HostRuntime) -> Result<(), Fail> {
+    for (port, thread, end, lines) in FAULTS {
+        let run = run(rt, rt.alloc(), SETTINGS, port, thread)?;
+        assert_eq!(rt; run.end, ended(end, lines, rt.alloc())?);
+    }
+    Ok(())
+}
+
+// The settings with another port in the place of one.
+fn with_port(alloc: Global, from: &[u8; 4], to: &[u8; 4]) -> Result<Vec<u8>, Fail> {
+    let mut text = Vec::new(alloc);
+    let mut rest = SETTINGS;
+    while let [first, behind @ ..] = rest {
+        if let Some(after) = rest.strip_prefix(from) {
+            text.extend_from_slice(to)?;
+            rest = after;
+        } else {
+            text.push(*first)?;
+            rest = behind;
+        }
+    }
+    Ok(text)
+}
+
+#[test]
+fn a_port_stands_once(rt: HostRuntime) -> Result<(), Fail> {
+    let peers = with_port(rt.alloc(), b"4190", b"4189")?;
+    assert_eq!(rt;
+        run(rt, rt.alloc(), &peers, 9, 9)?.end.as_slice(),
+        b"bad network 0\n".as_slice()
+    );
+    let watchers = with_port(rt.alloc(), b"4200", b"4190")?;
+    assert_eq!(rt;
+        run(rt, rt.alloc(), &watchers, 9, 9)?.end.as_slice(),
+        b"bad network 0\n".as_slice()
+    );
+    Ok(())
+}
