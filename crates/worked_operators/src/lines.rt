@@ -320,7 +320,11 @@ fn a_network_under_its_lock_is_loaded(rt: HostRuntime) -> Result<(), Fail> {
         write: None,
     };
     let told = told_of_three(&rt, rt.alloc(), case).ok_or("memory")?;
-    let want = b"1 ok generation 1\n2 bad network d2.txt 1 other as\n3 bad line\n4 read fault\n5 ok generation 2\n";
-    assert_eq!(rt; (told.text.as_slice(), told.end, told.last), (want.as_slice(), Operated::End, Some(2)));
+    let want =
+        b"1 ok generation 1\n2 bad network d2.txt 1 other as\n3 bad line\n4 read fault\n5 ok generation 2\n";
+    assert_eq!(rt;
+        (told.text.as_slice(), told.end, told.last),
+        (want.as_slice(), Operated::End, Some(2))
+    );
     Ok(())
 }
