@@ -145,7 +145,7 @@ struct Run {
     log: MemorySink,
 }
 
-fn run<R>(rt: R, alloc: Global, settings: &[u8], port: u64, thread: u64) -> Result<Run, Fail>
+fn serve_once<R>(rt: R, alloc: Global, settings: &[u8], port: u64, thread: u64) -> Result<Run, Fail>
 where
     R: Threads + Wait + Clock + Copy + Send + Drop + 'static,
 {
@@ -193,7 +193,7 @@ fn ended(end: &[u8], lines: usize, alloc: Global) -> Result<Vec<u8>, Fail> {
 
 #[test]
 fn all_tasks_are_started_in_order(rt: HostRuntime) -> Result<(), Fail> {
-    let run = run(rt, rt.alloc(), SETTINGS, 9, 9)?;
+    let run = serve_once(rt, rt.alloc(), SETTINGS, 9, 9)?;
     assert_eq!(rt; run.end, ended(b"turns\n", 7, rt.alloc())?);
     assert_eq!(rt; run.log.bytes(), TOLD);
     Ok(())
@@ -212,7 +212,7 @@ const FAULTS: [(u64, u64, &[u8], usize); 6] = [
 #[test]
 fn a_fault_ends_it(rt: HostRuntime) -> Result<(), Fail> {
     for (port, thread, end, lines) in FAULTS {
-        let run = run(rt, rt.alloc(), SETTINGS, port, thread)?;
+        let run = serve_once(rt, rt.alloc(), SETTINGS, port, thread)?;
         assert_eq!(rt; run.end, ended(end, lines, rt.alloc())?);
     }
     Ok(())
@@ -238,12 +238,12 @@ fn with_port(alloc: Global, from: &[u8; 4], to: &[u8; 4]) -> Result<Vec<u8>, Fai
 fn a_port_stands_once(rt: HostRuntime) -> Result<(), Fail> {
     let peers = with_port(rt.alloc(), b"4190", b"4189")?;
     assert_eq!(rt;
-        run(rt, rt.alloc(), &peers, 9, 9)?.end.as_slice(),
+        serve_once(rt, rt.alloc(), &peers, 9, 9)?.end.as_slice(),
         b"bad network 0\n".as_slice()
     );
     let watchers = with_port(rt.alloc(), b"4200", b"4190")?;
     assert_eq!(rt;
-        run(rt, rt.alloc(), &watchers, 9, 9)?.end.as_slice(),
+        serve_once(rt, rt.alloc(), &watchers, 9, 9)?.end.as_slice(),
         b"bad network 0\n".as_slice()
     );
     Ok(())
