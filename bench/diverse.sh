@@ -188,12 +188,13 @@ fn find(alloc: Global, topology: &Topology, query: &Query, zero: Cost) -> Result
         cost: zero,
         exit: node,
     };
+    let seeds = vec![in alloc; seed]?;
     let mut links = Counted::new(topology);
-    let labels = search(alloc, &mut links, query, &[seed])?;
+    let labels = search(alloc, &mut links, query, &seeds)?;
     let Some(from) = topology.find_node(Addr::V4(1)) else {
         return Ok(0);
     };
-    match segment(alloc, &mut links, query, &[seed], &labels, from)? {
+    match segment(alloc, &mut links, query, &seeds, &labels, from)? {
         Some(places) => Ok(places.len()),
         None => Ok(0),
     }

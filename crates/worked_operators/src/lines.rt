@@ -7,11 +7,14 @@ use crate::script::Script;
 use dom_base::{As, Bytes, List, Text, read_number};
 use dom_edge::{MemorySink, MemorySource, MemoryStore};
 use operator_lines::{Chart, Operated, operate};
+use pce_plant::Plant;
 use plant_text::{Network, read_network};
 use std::alloc::Global;
 use std::sync::Wait;
 use std::test::Fail;
+use std::time::Clock;
 use ted_watch::{Publisher, open_watch};
+use turn_desk::TurnDesk;
 
 // The settings of two elements.
 const SETTINGS: &[u8] = b"[[element]]
@@ -265,5 +268,63 @@ fn a_long_line_is_read_over(rt: HostRuntime) -> Result<(), Fail> {
             assert_eq!(rt; (begins, told.end == Operated::ReadFault), (true, k < 66));
         }
     }
+    Ok(())
+}
+
+// The settings of three domains in a row.
+const THREE: &[u8] = b"[[element]]
+as = 1
+id = \"192.0.2.1\"
+[[element]]
+as = 2
+id = \"192.0.2.2\"
+[[element]]
+as = 3
+id = \"192.0.2.3\"
+[[link]]
+a = 1
+b = 2
+[[link]]
+a = 2
+b = 3
+";
+
+// A desk at the lock round a network of three domains.
+fn open<R: Wait + Clock + Drop>(rt: R, alloc: Global) -> Option<TurnDesk<R>> {
+    let network = read_network(alloc, THREE).ok()?;
+    let Ok(plant) = Plant::new(alloc, network) else {
+        return None;
+    };
+    TurnDesk::open(rt, alloc, plant, 1).ok()
+}
+
+// What is told of a case over that network.
+fn told_of_three<R: Wait + Clock + Copy + Drop>(
+    rt: R,
+    alloc: Global,
+    case: Case<'_>,
+) -> Option<Told> {
+    let network = read_network(alloc, THREE).ok()?;
+    let mut desk = open(rt, alloc)?;
+    let (mut publisher, _watchers) = open_watch(rt, alloc, 1).ok()?;
+    run(alloc, &mut desk, &network, &mut publisher, case)
+}
+
+#[test]
+fn a_network_under_its_lock_is_loaded(rt: HostRuntime) -> Result<(), Fail> {
+    let case = Case {
+        input: b"load 2 d2.txt\nload 9 d2.txt\njump\nload 2 absent.txt\nchange 2 more.txt\n",
+        calls: 0,
+        turns: 9,
+        read: None,
+        write: None,
+    };
+    let told = told_of_three(&rt, rt.alloc(), case).ok_or("memory")?;
+    let want =
+        b"1 ok generation 1\n2 bad network d2.txt 1 other as\n3 bad line\n4 read fault\n5 ok generation 2\n";
+    assert_eq!(rt;
+        (told.text.as_slice(), told.end, told.last),
+        (want.as_slice(), Operated::End, Some(2))
+    );
     Ok(())
 }

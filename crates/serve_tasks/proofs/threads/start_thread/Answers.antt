@@ -7,4 +7,4 @@ pub spawn-requires-send-F : goal.spawn-requires-send-F
 spawn-requires-send-F g c κs = search (sendable, crosses, task_send) depth 40
 
 pub spawn-requires-send-T : goal.spawn-requires-send-T
-spawn-requires-send-T g c κs = search (sendable, crosses, task_send) depth 40
+spawn-requires-send-T g c = search (sendable, crosses, task_send) depth 40
