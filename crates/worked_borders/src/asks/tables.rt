@@ -108,7 +108,7 @@ row 10.2.0.1 10.23.0.6 10.3.0.2 5
 ask 7 te 16777215 10.1.0.1 into 3 10.2.0.1 # no row beyond
 solved 2 2 1 target
 labels - - - -
-search 0
+search 0 unread
 row 10.2.0.1 10.23.0.2 10.3.0.1 5
 row 10.2.0.1 10.23.0.6 10.3.0.2 5
 ask 7 te 16777215 10.1.0.1 into 4 10.2.0.1 over 10.3.0.1 10 10.3.0.2 10 # another domain beyond
@@ -196,12 +196,12 @@ ask 1 te 16777215 10.1.0.1 to 10.3.0.2 10.3.0.1 10.3.0.2 # another target
 solved 3 3 1 target
 best 10.3.0.2 0 10.3.0.2 - via 10.3.0.2
 labels - 0 10.3.0.2 -
-search 0
+search 0 unread
 row 10.3.0.2 10.3.0.2 10.3.0.2 0
 ask 1 te 16777215 10.1.0.1 to 10.2.0.1 10.3.0.1 10.1.0.1 # a target that is no node, and an entry that is none
 solved 3 3 1
 labels - - -
-search 0
+search 0 unread
 ask 1 te 16777215 10.1.0.1 to 10.3.0.9 10.3.0.1 10.3.0.2 10.3.0.9 # the first once more, and the target as an entry
 solved 3 3 1 target
 best 10.3.0.1 100 10.3.0.9 - via 10.3.0.1 10.33.0.2
@@ -234,7 +234,7 @@ out 10.0.0.1 10.9.0.6 10.1.0.6 10.2.0.6 2 1 21 1000 00000000
 ask 1 te 20 10.1.0.1 into 2 10.0.0.2 10.1.0.1 10.0.0.1 10.0.0.2 # entries out of order, twice, and one that is no node; a way that the cap forbids
 solved 1 1 1 target
 labels - - -
-search 0
+search 0 unread
 row 10.0.0.1 10.2.0.4 10.9.0.8 11
 row 10.0.0.1 10.2.0.9 10.9.0.9 16
 row 10.0.0.2 10.2.0.4 10.9.0.8 6
