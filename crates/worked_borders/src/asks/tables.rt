@@ -114,7 +114,7 @@ row 10.2.0.1 10.23.0.6 10.3.0.2 5
 ask 7 te 16777215 10.1.0.1 into 4 10.2.0.1 over 10.3.0.1 10 10.3.0.2 10 # another domain beyond
 solved 2 2 1 target
 labels - - - -
-search 0";
+search 0 unread";
 
 /// The same costs to both exits over other nodes: now that with the least far address is the nearer one.
 pub const FAR_EXIT: &[u8] = b"topology 2
@@ -255,7 +255,7 @@ search 1
 ask 1 te 20 10.1.0.1 to 10.0.0.1 # the first node alone has one
 solved 1 1 1 target
 labels 0 10.0.0.1 - -
-search 0";
+search 0 unread";
 
 /// Five nodes in a line with links in both directions, and a way from the second to the last past the others.
 pub const LINE: &[u8] = b"topology 1
