@@ -106,6 +106,41 @@ fn rows() -> [Row; 9] {
     ]
 }
 
+// Lines in six pieces, of which one is empty, and bytes behind the last line end; the read of the end is the seventh.
+const CUT: &[u8] = b"1|\n2\r|\n||x|\n1";
+
+const TWO: &[u8] = b"1 generation 1 nodes 3 links 4\n2 none\n";
+
+fn failed_read(reads: &'static [u64], told: &'static [u8]) -> Row {
+    Row {
+        reads,
+        ..plain(CUT, told, Watched::ReadFault)
+    }
+}
+
+fn failed_write(writes: &'static [u64], told: &'static [u8]) -> Row {
+    Row {
+        writes,
+        ..plain(CUT, told, Watched::WriteFault)
+    }
+}
+
+// Each read fails in turn, and then each write.
+fn faults() -> [Row; 10] {
+    [
+        failed_read(&[0], b""),
+        failed_read(&[1], b""),
+        failed_read(&[2], ONE),
+        failed_read(&[3], TWO),
+        failed_read(&[4], TWO),
+        failed_read(&[5], TWO),
+        failed_read(&[6], b"1 generation 1 nodes 3 links 4\n2 none\nbad line\n"),
+        failed_write(&[0], b""),
+        failed_write(&[1], ONE),
+        failed_write(&[2], TWO),
+    ]
+}
+
 #[test]
 fn lines_are_answered(rt: HostRuntime) -> Result<(), Fail> {
     let alloc = rt.alloc();
@@ -118,7 +153,7 @@ fn lines_are_answered(rt: HostRuntime) -> Result<(), Fail> {
         nodes: 3,
         links: 4,
     })?;
-    for row in &rows() {
+    for row in rows().iter().chain(&faults()) {
         let mut link = link(alloc, row).ok_or("memory")?;
         let end = serve(&rt, alloc, &mut watcher, &mut link, row.turns);
         assert_eq!(rt; (link.bytes(), end), (row.told, row.end));

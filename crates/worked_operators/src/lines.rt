@@ -247,7 +247,7 @@ fn each_input_is_answered_as_its_row_says(rt: HostRuntime) -> Result<(), Fail> {
     Ok(())
 }
 
-// Two lines behind one of so many bytes; and some reads fail.
+// Two lines behind one of so many bytes; each of its 66 reads fails in turn, and then none.
 #[test]
 fn a_long_line_is_read_over(rt: HostRuntime) -> Result<(), Fail> {
     let alloc = rt.alloc();
@@ -261,7 +261,7 @@ fn a_long_line_is_read_over(rt: HostRuntime) -> Result<(), Fail> {
             read: None,
             write: None,
         };
-        for k in [0, 64, 65, 66] {
+        for k in 0..67u64 {
             case.read = Some(k);
             let told = told_of(&rt, alloc, case).ok_or("memory")?;
             let begins = whole.starts_with(&told.text);
