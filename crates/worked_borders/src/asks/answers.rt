@@ -9,7 +9,7 @@ fn put_addr(addr: Addr, text: &mut Vec<u8>) -> Result<(), NoMemory> {
     write_addr(addr, text)
 }
 
-pub fn put_number(number: u64, text: &mut Vec<u8>) -> Result<(), NoMemory> {
+pub(crate) fn put_number(number: u64, text: &mut Vec<u8>) -> Result<(), NoMemory> {
     text.push(b' ')?;
     write_number(number, text)
 }
@@ -57,7 +57,7 @@ fn put_label(label: &Option<Label>, text: &mut Vec<u8>) -> Result<(), NoMemory> 
 }
 
 /// The ends, the best way from each entry, and the label of each node.
-pub fn put_answer(solved: &Solved, text: &mut Vec<u8>) -> Result<(), NoMemory> {
+pub(crate) fn put_answer(solved: &Solved, text: &mut Vec<u8>) -> Result<(), NoMemory> {
     put_ends(solved, text)?;
     for best in solved.best() {
         put_best(best, text)?;
@@ -78,7 +78,7 @@ fn put_row(row: &BorderRow, text: &mut Vec<u8>) -> Result<(), NoMemory> {
 }
 
 /// The rows of a job's border table.
-pub fn put_table(alloc: Global, job: &Job, text: &mut Vec<u8>) -> Result<(), NoMemory> {
+pub(crate) fn put_table(alloc: Global, job: &Job, text: &mut Vec<u8>) -> Result<(), NoMemory> {
     let table = border_table(alloc, job)?;
     for row in table.as_slice() {
         put_row(row, text)?;

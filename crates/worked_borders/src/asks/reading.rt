@@ -8,12 +8,12 @@ use te_links::Topology;
 use te_text::{next_addr, next_as, read_topology};
 
 /// What stands before the sign that ends a topology, and what behind it.
-pub fn cut(table: &[u8]) -> Result<(&[u8], &[u8]), Fail> {
+pub(crate) fn cut(table: &[u8]) -> Result<(&[u8], &[u8]), Fail> {
     let place = table.iter().position(|c| *c == b'%').ok_or("no sign")?;
     Ok((&table[..place], &table[place + 1..]))
 }
 
-pub fn topology_in(alloc: Global, text: &[u8]) -> Result<Topology, Fail> {
+pub(crate) fn topology_in(alloc: Global, text: &[u8]) -> Result<Topology, Fail> {
     if line_count(text) > 100 {
         return Err("too long")?;
     }
@@ -113,7 +113,7 @@ fn add_downs(downs: &mut List<Down>, words: &mut Words<'_>) -> Result<(), NoMemo
 
 /// The ask of a line: `ask GENERATION METRIC CAP SOURCE TARGET ENTRIES .. over HEAD COST ..`, and behind
 /// these, after a sign, what it is there for.
-pub fn ask_in(alloc: Global, own: As, line: &[u8]) -> Result<Ask, Fail> {
+pub(crate) fn ask_in(alloc: Global, own: As, line: &[u8]) -> Result<Ask, Fail> {
     let mut words = Words::new(line);
     let head = next_head(&mut words).ok_or("no ask")?;
     let mut ask = Ask {
