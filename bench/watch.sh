@@ -22,7 +22,7 @@ for name in dom_base plant_lock ted_watch; do
     done
     grep "^$name[ :]" "$top/crates.txt" >>"$copy/crates.txt"
 done
-echo 'watch_bench: dom_base plant_lock ted_watch' >>"$copy/crates.txt"
+echo 'watch_bench: dom_base plant_lock ted_watch atomic_table left_right logbook' >>"$copy/crates.txt"
 crate=$copy/crates/watch_bench
 mkdir -p "$crate/src" "$crate/proofs/locked/Reader/look" "$crate/proofs/locked/Reader/show" "$crate/proofs/locked/measure" "$crate/proofs/published/show_all" "$crate/proofs/published/measure"
 
