@@ -5,9 +5,11 @@
 # stay as it was after the first tenth of the time. It tells what was answered and how much memory there was, once a minute and at the end, with
 # what the server and these clients took of a processor and how busy the machine was; the status is 0 where nothing was wrong. It needs Python.
 # It stands outside the gate.
-# usage: bench/soak.sh [PROGRAM [MINUTES]] [--life TICKS] [--pause SECONDS] [--without asks|loads|resets ..]
+# usage: bench/soak.sh [PROGRAM [MINUTES]] [--life TICKS] [--pause SECONDS] [--held] [--without asks|loads|resets ..]
 #   (the program that the gate proved and built, 30 minutes, keys that live for 5 ticks, a pause of up to 0.3 seconds before each request, and
-#    nothing left out; without a part it shows what memory does by the others alone)
+#    nothing left out; without a part it shows what memory does by the others alone. With --held, which needs a C compiler, it tells too what the
+#    program holds of the memory that it has: blocks that were taken and not given back. MALLOC_ARENA_MAX=1 before it has all threads share
+#    one pool of memory)
 set -eu
 top=$(cd "$(dirname "$0")/.." && pwd)
 exec python3 - "$top" "$@" <<'PY'
@@ -17,7 +19,9 @@ import random
 import resource
 import socket
 import struct
+import subprocess
 import sys
+import tempfile
 import threading
 import time
 
@@ -27,6 +31,7 @@ says.add_argument("program", nargs="?", default=os.path.join(top, "crates/pce_ma
 says.add_argument("minutes", nargs="?", type=float, default=30)
 says.add_argument("--life", type=int, default=5)
 says.add_argument("--pause", type=float, default=0.3)
+says.add_argument("--held", action="store_true")
 says.add_argument("--without", nargs="*", default=[], choices=("asks", "loads", "resets"))
 given = says.parse_args()
 program, minutes, LIFE = os.path.abspath(given.program), given.minutes, given.life
@@ -129,6 +134,20 @@ def memory_now(server):
         return next(int(line.split()[1]) for line in file if line.startswith("VmRSS")) / 1024
 
 
+def count_held(folder):
+    """From here on programs that are started count what they hold, in a file of this folder."""
+    library, shown = os.path.join(folder, "held.so"), os.path.join(folder, "held")
+    subprocess.run(["cc", "-O2", "-shared", "-fPIC", "-o", library, os.path.join(top, "bench/plain/held.c")], check=True)
+    open(shown, "w").close()
+    os.environ.update(LD_PRELOAD=library, HELD=shown)
+    return shown
+
+
+def held_now(shown):
+    with open(shown, "rb") as file:
+        return struct.unpack("qq", file.read())
+
+
 def own_seconds():
     """What these clients took of a processor so far."""
     used = resource.getrusage(resource.RUSAGE_SELF)
@@ -149,6 +168,8 @@ files = [(name, topology(domain, COSTS[0])) for domain, name in enumerate(names,
 files += [("u%d.txt" % domain, topology(domain, COSTS[1])) for domain in range(1, ELEMENTS + 1)]
 peers = [("c%d" % place, place % (ELEMENTS - 2) + 1, "client", first + place) for place in range(CLIENTS)]
 settings = servers.in_a_row(ELEMENTS, peers, names, "workers = 4\n", key_life=LIFE)
+folder = tempfile.TemporaryDirectory()
+shown = count_held(folder.name) if given.held else None
 with servers.Server(program, settings, files, within=60) as server:
     time.sleep(2)  # the elements open their sessions
     began = time.monotonic()
@@ -157,10 +178,15 @@ with servers.Server(program, settings, files, within=60) as server:
     for client in clients:
         client.keys = clients[0].keys
         client.start()
-    turn, loads, memory, busy = 0, 0, [], []
+    turn, loads, memory, held, busy = 0, 0, [], [], []
 
     def answers():
         return sum(client.answered for client in clients)
+
+    def counted(rows):
+        """What was held in the mean."""
+        blocks, octets = (sum(row[place] for row in rows) / max(len(rows), 1) for place in (0, 1))
+        return ", of which it held %.3f in %.0f blocks in the mean" % (octets / 2**20, blocks) if rows else ""
 
     def shares():
         """What the server and the clients took of a processor, and how many processes wanted one."""
@@ -178,9 +204,10 @@ with servers.Server(program, settings, files, within=60) as server:
         if turn % 10 == 0 and clients and "resets" not in given.without:
             random.choice(clients).reset.set()
         memory.append((time.monotonic() - began, memory_now(server)))
+        held += [held_now(shown)] if shown else []
         busy.append(os.getloadavg()[0])
         if turn % 60 == 0:
-            print("soak: after %d s: %d answers, %.2f megabytes; %s" % (memory[-1][0], answers(), memory[-1][1], shares()), flush=True)
+            print("soak: after %d s: %d answers, %.2f megabytes%s; %s" % (memory[-1][0], answers(), memory[-1][1], counted(held[-60:]), shares()), flush=True)
         if not server.is_running():
             differs("the server ended with status %s" % server.process.returncode)
             break
