@@ -1,6 +1,6 @@
 -- Each message of a run has its cause, and where the cause stands it is put out.
-use Rattle.std.proofs.Common.{◌≡◌, ℕ, ◌+◌, ◌%◌, nat_lt, Bool, true, false, cond, List, [], ◌∷◌, ◌++◌, Option, Some, None, Ok, Err, is_some, sym, ◌∙◌, ap, subst, inl, inr, refl}
-use Rattle.std.specs.Prelude.{◌⊎◌, Contains}
+use Rattle.std.proofs.Common.{◌≡◌, ℕ, ◌+◌, ◌%◌, nat_lt, Bool, true, false, cond, List, [], ◌∷◌, Option, Some, None, Ok, Err, sym, ◌∙◌, ap, subst, inl, inr, refl}
+use Rattle.std.specs.Prelude.{Contains}
 use Rattle.dom_base.specs.declared.names.As.{As}
 use Rattle.dom_base.specs.declared.names.Peer.{Peer}
 use Rattle.dom_base.specs.declared.names.Peer.TheVariants.{Outside, Inner}
@@ -22,14 +22,14 @@ use Rattle.plant_model.specs.declared.outcome.Refused.{Refused}
 use Rattle.plant_model.specs.declared.outcome.Refused.TheVariants.{NoMemory, NoSuchPeer}
 use Rattle.plant_model.specs.declared.outcome.Outcome.TheVariants.{Done}
 use Rattle.plant_model.specs.declared.output.Output.{Output}
-use Rattle.plant_model.specs.Names.{set_pair, is_empty}
+use Rattle.plant_model.specs.Names.{set_pair}
 use Rattle.plant_model.specs.Wire.{Bytes, Codec}
 use Rattle.plant_model.specs.State.{Connection, Pops, Takes, Says, Downs, Clears}
-use Rattle.plant_model.specs.Deeds.{Going, element_of, is_due, is_tick, is_out_empty, any_fall, with_session, with_inbox, read_as, input_of, with_access, with_inner, give, rise, fall, say, clear, outside_act, outside_acts, outside_step, outside_input, inner_acts, inner_input, our_offer, own_message, begin_end, begin_line, break_line}
+use Rattle.plant_model.specs.Deeds.{Going, element_of, is_due, is_tick, is_out_empty, any_fall, with_session, with_inbox, read_as, input_of, with_access, with_inner, give, rise, fall, say, clear, outside_act, outside_acts, outside_step, inner_acts, inner_input, our_offer, own_message, begin_end, begin_line, break_line}
 use Rattle.plant_model.specs.Events as events
-use Rattle.plant_model.specs.Plant.{Pin, Segment, first_pin, Plant, PlantDeed, Happened, Entry, Run, Steps, Happens, load_new, is_full}
+use Rattle.plant_model.specs.Plant.{Pin, Segment, first_pin, Plant, PlantDeed, Happened, Entry, Run, Steps, Happens, is_full}
 use Rattle.plant_laws.specs.Transcript.{Transcript}
-use Rattle.plant_laws.specs.Causes.{Passes, from_outside, from_inside, of_element, of_parent, HaveCauses, Falls, shut, broken, ended, ended_along, SaysAll, MessagesHaveCauses, AreOpens, NetworksBegin}
+use Rattle.plant_laws.specs.Causes.{Passes, from_outside, from_inside, of_element, of_parent, HaveCauses, Falls, shut, broken, ended, ended_along, MessagesHaveCauses, AreOpens, NetworksBegin}
 use Rattle.plant_laws.specs.Solves.{ElementTells, ParentTells}
 use Rattle.plant_laws.proofs.EventCauses.{open_have, shut_have, feed_have, drain_have, take_have, carry_have, break_have, tick_have, left_is}
 use Rattle.plant_laws.proofs.Lists.{first_in, later_in}

@@ -1,8 +1,7 @@
 -- What an element says to a message has its cause.
-use Rattle.std.proofs.Common.{◌≡◌, ℕ, Bool, true, false, cond, List, [], ◌∷◌, ◌++◌, map, Option, Some, None, sym, ◌∙◌, ap, subst, inl, inr, refl}
-use Rattle.std.specs.Prelude.{◌⊎◌, ◌==◌, Contains}
+use Rattle.std.proofs.Common.{◌≡◌, ℕ, Bool, true, false, cond, List, [], ◌∷◌, ◌++◌, map, Option, Some, None, sym, ◌∙◌, ap, subst, refl}
+use Rattle.std.specs.Prelude.{◌==◌}
 use Rattle.std.proofs.Common.{eqb-true, eq-eqb}
-use Rattle.std.proofs.lemmas.Bool.{cases_Bool}
 use Rattle.dom_base.specs.declared.names.As.{As}
 use Rattle.dom_base.specs.declared.addr.Addr.{Addr}
 use Rattle.dom_base.specs.declared.names.Peer.{Peer}
@@ -31,19 +30,16 @@ use Rattle.plant_text.specs.Settings.{class_of}
 use Rattle.plant_model.specs.declared.output.Output.{Output}
 use Rattle.plant_model.specs.Names.{the_parent, same_addr, has_pair}
 use Rattle.plant_model.specs.Wire.{Codec, Checked, Admitted, Wrong}
-use Rattle.plant_model.specs.Writing.{request_message, reply_message, error_message, busy, unavailable, no_key}
-use Rattle.plant_model.specs.Element.{Waits, Element, Row, Way, Place, Taken, silent, only, each, waiting, fresh_id, way_to}
-use Rattle.plant_model.specs.Taking.{sequence_or, goes_up, denied, send_on, sent_on, take_along, take_path, expansion_of, expansion, take_wish, take_new, take_checked, take_asked, answered, made_ready, take_answer, take_reply, told_busy, cancelled, take_busy, take_cancel, notice_steps, take_notice, error_answer, told_error, take_failure, take_errors, take_report, take}
+use Rattle.plant_model.specs.Writing.{request_message, reply_message, busy, unavailable, no_key}
+use Rattle.plant_model.specs.Element.{Element, Row, Way, Taken, only, each, waiting, fresh_id, way_to}
+use Rattle.plant_model.specs.Taking.{sequence_or, goes_up, denied, send_on, sent_on, take_along, take_path, expansion_of, expansion, take_wish, take_new, take_checked, take_asked, answered, made_ready, take_answer, take_reply, told_busy, cancelled, take_busy, take_cancel, notice_steps, take_notice, told_error, take_failure, take_errors, take_report, take}
 use Rattle.plant_model.specs.Parent.{is_up}
 use Rattle.plant_model.specs.Settings.{place}
 use Rattle.plant_model.specs.Plant.{Pin, Segment}
-use Rattle.plant_laws.specs.Keys.{shown_answer}
 use Rattle.plant_laws.specs.MessageCauses.{Asker, WaitsAt, TellsOfPaths, OnReply, unknown, goes_on, is_kept, is_broken, OnNotice, next_is_full, noted_for_nobody, of_other_kind, IsError, IsOutOfProfile, OnError, failed_for_nobody, of_reply, out_of_profile, other_error, GoesTo, upward, along, OnPath, ends_here, no_session, is_refused, IsBehind, OnRequest, wrong, again, key_shown, key_refused, no_room, for_path, Part, Asks, Replies, Notes, Fails, alone, noted, failed_by, failed, parts, OnMessage}
 use Rattle.plant_laws.specs.MessageCauses as causes
 use Rattle.plant_laws.proofs.PartCauses as part
 use Rattle.plant_laws.proofs.PartCauses.{full_is, has_room, pair_at, no_pair}
-use Rattle.plant_laws.proofs.Rows.{In, in_of}
-use Rattle.plant_laws.proofs.Lists.{Stands, contains_of}
 use Rattle.plant_laws.proofs.Counting.{waiting_in}
 use Rattle.plant_laws.proofs.Taken.{waiting_none, waiting_at}
 use Rattle.plant_laws.proofs.Takes.{own_is}

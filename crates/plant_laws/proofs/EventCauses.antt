@@ -1,12 +1,11 @@
 -- Each deed of an event has its cause.
-use Rattle.std.proofs.Common.{◌≡◌, ℕ, ◌+◌, ◌%◌, Bool, true, false, cond, ◌==◌, List, [], ◌∷◌, ◌++◌, Option, Some, None, is_some, sym, ◌∙◌, ap, subst, inl, inr, refl, eq-eqb}
-use Rattle.std.specs.Prelude.{◌⊎◌, Contains}
+use Rattle.std.proofs.Common.{◌≡◌, ℕ, ◌+◌, ◌%◌, Bool, true, false, cond, ◌==◌, List, [], ◌∷◌, Option, Some, None, is_some, sym, ◌∙◌, ap, subst, inl, inr, refl, eq-eqb}
+use Rattle.std.specs.Prelude.{Contains}
 use Rattle.dom_base.specs.declared.names.As.{As}
 use Rattle.dom_base.specs.declared.names.Tick.{Tick}
 use Rattle.dom_base.specs.declared.names.Peer.{Peer}
 use Rattle.dom_base.specs.declared.names.Peer.TheVariants.{Outside, Inner}
 use Rattle.disclosure.specs.Shown.{open_of}
-use Rattle.request_table.specs.Pending.{same_peer}
 use Rattle.pcep_messages.specs.declared.message.Message.{Message}
 use Rattle.pcep_session.specs.declared.session.Input.{Input}
 use Rattle.pcep_session.specs.declared.session.Input.TheVariants as input
@@ -25,26 +24,24 @@ use Rattle.plant_model.specs.declared.event.Event.TheVariants as event
 use Rattle.plant_model.specs.declared.output.Output.{Output}
 use Rattle.plant_model.specs.Names.{is_empty, set_pair, set_number}
 use Rattle.plant_model.specs.Wire.{Bytes, Codec}
-use Rattle.plant_model.specs.Element.{Waits, Element, Row, upped, downed, lost_of, lost_output, is_lost, lost, kept}
+use Rattle.plant_model.specs.Element.{Element, Row, upped, downed, kept}
 use Rattle.plant_model.specs.Taking.{take}
 use Rattle.plant_model.specs.Parent.{Wait, AskingRow, any_on}
 use Rattle.plant_model.specs.Parent as parent
 use Rattle.plant_model.specs.Settings.{place, family}
-use Rattle.plant_model.specs.State.{Connection, Access, Pops, Takes, Says, Ups, Downs, Clears, Expires, Hands}
-use Rattle.plant_model.specs.Deeds.{Going, our_offer, own_message, element_of, is_due, is_tick, is_out_empty, any_fall, on_connection, with_session, with_inbox, read_as, input_of, with_access, with_element, with_parent, with_inner, put, puts, give, rise, fall, say, clear, expire, outside_act, outside_acts, outside_step, outside_input, inner_act, inner_acts, inner_input, begin_end, begin_line, break_line, tick_outside, tick_lines}
+use Rattle.plant_model.specs.State.{Connection, Access, Pops, Takes, Ups, Downs, Clears}
+use Rattle.plant_model.specs.Deeds.{Going, our_offer, own_message, element_of, is_due, is_tick, is_out_empty, any_fall, on_connection, with_session, with_inbox, read_as, input_of, with_access, with_element, with_parent, with_inner, put, puts, give, rise, fall, say, clear, expire, outside_act, outside_acts, outside_step, outside_input, inner_act, inner_acts, inner_input, begin_end, break_line, tick_outside, tick_lines}
 use Rattle.plant_model.specs.Events as events
 use Rattle.plant_model.specs.Events.{is_down, later}
-use Rattle.plant_model.specs.Plant.{Pin, Segment, Plant, PlantDeed}
+use Rattle.plant_model.specs.Plant.{Pin, Segment, Plant}
 use Rattle.plant_laws.specs.Transcript.{Transcript}
-use Rattle.plant_laws.specs.MessageCauses.{Asker, OnMessage, OnMessageAbove}
-use Rattle.plant_laws.specs.Causes.{left_rows, left_above, IsLost, IsLostAbove, AnswersLost, asker_of, asker_above, Passes, from_outside, from_inside, OnPassed, by_element, by_parent, Comes, begins, came_first, came_along, ticks, OfSession, by_table, anew, HasCause, HaveCauses}
+use Rattle.plant_laws.specs.Causes.{left_rows, left_above, IsLost, IsLostAbove, AnswersLost, asker_of, asker_above, Passes, from_outside, from_inside, by_element, by_parent, begins, came_first, came_along, ticks, OfSession, by_table, anew, HasCause, HaveCauses}
 use Rattle.plant_laws.proofs.Handing.{In}
 use Rattle.plant_laws.proofs.PartCauses.{contains_at, not_both}
 use Rattle.plant_laws.proofs.ElementCauses as element_causes
 use Rattle.plant_laws.proofs.ParentCauses as parent_causes
 use Rattle.plant_laws.proofs.Lists.{first_in, later_in}
 use Rattle.plant_laws.proofs.Queues.{same_as_is}
-use Rattle.plant_laws.proofs.SentOn.{same_peer_is}
 use Rattle.plant_laws.proofs.Shape.{has_pass, shape}
 use Rattle.plant_laws.proofs.Calm.{puts_elements}
 use Rattle.plant_laws.proofs.LostCauses.{lost_on, lost_above}

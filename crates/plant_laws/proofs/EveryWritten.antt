@@ -50,7 +50,7 @@ solves_append : (es ds : Transcript) → SolvesSend IsWritten es → SolvesSend 
 solves_append [] ds h k = k
 solves_append (e ∷ es) ds h k = (h.0, solves_append es ds h.1 k)
 
-short_before : (es ds : Transcript) → IsShort (es ++ ds) → IsShort ds
+pub short_before : (es ds : Transcript) → IsShort (es ++ ds) → IsShort ds
 short_before [] ds h = h
 short_before (e ∷ es) ds h = short_before es ds (λ a b. (let le = h a b in omega (arith, le)))
 

@@ -148,5 +148,7 @@ mod ParentCauses
 mod LostCauses
 mod EventCauses
 mod AllCauses
+mod Broken
+mod Served
 -- handed on from below
 pub use Rattle.plant_model.proofs as plant_model

@@ -1,11 +1,10 @@
 -- What is answered where a session goes down has its cause.
-use Rattle.std.proofs.Common.{◌≡◌, ℕ, Bool, true, false, not, cond, List, [], ◌∷◌, ◌++◌, map, filter, Option, Some, None, sym, ◌∙◌, ap, subst, inl, inr, refl, eqb-true, eq-eqb}
+use Rattle.std.proofs.Common.{◌≡◌, ℕ, Bool, true, false, cond, List, [], ◌∷◌, map, filter, sym, ◌∙◌, ap, inl, inr, refl}
 use Rattle.std.proofs.lemmas.Bool.{cases_Bool}
-use Rattle.std.specs.Prelude.{◌⊎◌, Contains}
+use Rattle.std.specs.Prelude.{Contains}
 use Rattle.dom_base.specs.declared.names.Peer.{Peer}
 use Rattle.request_table.specs.Pending.{same_peer}
 use Rattle.request_table.proofs.KeyLemmas.{same_peer_self}
-use Rattle.plant_model.specs.declared.output.Output.{Output}
 use Rattle.plant_model.specs.Element.{Stage, Waits, Ready, Row, waits_on, lost_of, lost_output, is_lost, lost}
 use Rattle.plant_model.specs.Parent.{Wait, AskingRow, any_on}
 use Rattle.plant_model.specs.Parent as parent

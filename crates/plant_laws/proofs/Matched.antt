@@ -31,7 +31,7 @@ use Rattle.plant_laws.proofs.ReadBack.{StoodFirst, AreRead, read_deed, run_read,
 use Rattle.plant_laws.proofs.SentOn.{same_peer_is}
 use Rattle.plant_laws.proofs.Waits.{waits_are_sent}
 use Rattle.plant_laws.proofs.Sends.{Each-within}
-use Rattle.plant_laws.proofs.Answering.{IsFairDeed, Behaves, behaves, run_kept, must_end}
+use Rattle.plant_laws.proofs.Answering.{IsFairDeed, behaves, run_kept, must_end}
 use Rattle.plant_laws.proofs.NumberRuns.{AreNumbered, IsNumbered, IsKnown, peer_self, run_last}
 use Rattle.plant_laws.proofs.AtOnce.{EachReply, Tells, DeedTells, run_tells}
 use Rattle.plant_laws.proofs.Readings.{messages_are_read}
@@ -298,7 +298,7 @@ whole (g ∷ l) = inl refl
 pub replies_answer : WrittenIds RepliesAnswerIn
 replies_answer c codec n es s run written short a b real r os older w = first older (read_within (deeds_of c n es) (run_read c n codec es s run written) (Takes a (Inner b) (messages.PcRep (r ∷ [])) os) older w) w
   where
-    first : (older : Transcript) → StoodFirst b a (messages.PcRep (r ∷ [])) older → Within (Takes a (Inner b) (messages.PcRep (r ∷ [])) os ∷ older) (deeds_of c n es) → IsReplyTo c (deeds_of c n es) a b r
+    first : (older : Transcript) → StoodFirst b a (messages.PcRep (r ∷ [])) older → Within (Takes a (Inner b) (messages.PcRep (r ∷ [])) os ∷ older) (deeds_of c n es) → IsReplyTo c older a b r
     first [] stood w = absurd stood
     first (f ∷ before) stood w =
         let now = deeds_of c n es in
@@ -312,7 +312,7 @@ replies_answer c codec n es s run written short a b real r os older w = first ol
         record {
           deed = was.deed;
           older = was.older;
-          within = inside;
+          within = inr was.within;
           said = contains (record { to = Inner a; message = messages.PcRep (r ∷ []) }) (outputs_at b was.deed) was.sent;
           concerns = elim (counts a b r.id was.deed some) [
             | inr once ↦

@@ -1,9 +1,8 @@
 -- What the parent says to a message has its cause.
 use Rattle.std.proofs.Common.{◌≡◌, ℕ, Bool, true, false, cond, List, [], ◌∷◌, ◌++◌, map, Option, Some, None, sym, ◌∙◌, ap, subst, inl, inr, refl, eqb-true, eq-eqb}
 use Rattle.std.proofs.lemmas.Bool.{cases_Bool}
-use Rattle.std.specs.Prelude.{◌⊎◌, ◌==◌, Contains}
+use Rattle.std.specs.Prelude.{◌==◌}
 use Rattle.dom_base.specs.declared.names.As.{As}
-use Rattle.dom_base.specs.declared.addr.Addr.{Addr}
 use Rattle.dom_base.specs.declared.names.Peer.{Peer}
 use Rattle.dom_base.specs.declared.names.Peer.TheVariants.{Inner}
 use Rattle.pcep_codes.specs.declared.errors.TheConstants as errors
@@ -28,13 +27,11 @@ use Rattle.plant_text.specs.Settings.{children}
 use Rattle.plant_model.specs.declared.output.Output.{Output}
 use Rattle.plant_model.specs.Names.{same_id, has_pair}
 use Rattle.plant_model.specs.Wire.{Codec, Checked, Admitted, Wrong}
-use Rattle.plant_model.specs.Writing.{request_message, reply_message, busy, unavailable}
-use Rattle.plant_model.specs.Branches.{branches_in}
+use Rattle.plant_model.specs.Writing.{reply_message, busy, unavailable}
 use Rattle.plant_model.specs.Element.{Way, way_to, with_last}
-use Rattle.plant_model.specs.Taking.{error_answer}
-use Rattle.plant_model.specs.Parent.{Wait, AskingRow, Parent, Family, Given, Errand, Asks as Asking, silent, only, each, errands, among, waiting, all_waits, next_id, ask_all, is_up, all_up, take_path, take_wish, take_new, take_checked, take_asked, answered, gathers, take_answer, take_found, take_reply, told_busy, cancelled, take_busy, take_cancel, notice_steps, take_notice, told_error, take_failure, take_errors, take_report, take}
+use Rattle.plant_model.specs.Parent.{Wait, AskingRow, Parent, Given, Errand, only, each, errands, among, waiting, all_waits, next_id, ask_all, is_up, all_up, take_path, take_wish, take_new, take_checked, take_asked, answered, gathers, take_answer, take_found, take_reply, told_busy, cancelled, take_busy, take_cancel, notice_steps, take_notice, told_error, take_failure, take_errors, take_report, take}
 use Rattle.plant_model.specs.Settings.{family}
-use Rattle.plant_laws.specs.MessageCauses.{Asker, WaitsAbove, TellsOfPaths, OnReply, unknown, is_kept, is_broken, OnNotice, next_is_full, noted_for_nobody, of_other_kind, IsError, IsOutOfProfile, OnError, failed_for_nobody, of_reply, out_of_profile, other_error, AreAsked, OnRequestAbove, wrong_above, again_above, key_above, no_room_above, child_down, all_asked, Part, Asks, Replies, Notes, Fails, alone, noted, failed_by, failed, parts, OnMessageAbove}
+use Rattle.plant_laws.specs.MessageCauses.{Asker, WaitsAbove, TellsOfPaths, OnReply, unknown, is_kept, is_broken, OnNotice, next_is_full, noted_for_nobody, of_other_kind, OnError, failed_for_nobody, of_reply, out_of_profile, other_error, AreAsked, OnRequestAbove, wrong_above, again_above, key_above, no_room_above, child_down, all_asked, Part, Asks, Replies, Notes, Fails, alone, noted, failed_by, failed, OnMessageAbove}
 use Rattle.plant_laws.proofs.PartCauses as part
 use Rattle.plant_laws.proofs.PartCauses.{full_is, has_room, pair_at, no_pair, contains_at, in_at, not_both}
 use Rattle.plant_laws.proofs.Handing.{In}

@@ -29,5 +29,7 @@ pub mod Certified
 pub mod Steps
 pub mod MessageCauses
 pub mod Causes
+pub mod Broken
+pub mod Served
 -- handed on from below
 pub use Rattle.plant_model.specs as plant_model

@@ -45,7 +45,7 @@ RepliesMatchIn c n es s =
 abbrev pub RepliesMatch : Type 0
 RepliesMatch = InShortRuns RepliesMatchIn
 
--- The same of a reply that a takes, with the moment in which a sent the request under its id.
+-- The same of a reply that a takes, which b said before, with the moment in which a sent the request under its id.
 pub record Concerns (c : Codec) (a b : As) (y : ℕ) (deed : PlantDeed) (older : Transcript) : Type 0 where
   pub sending : Transcript
   pub wanted : Wanted
@@ -62,7 +62,7 @@ pub record IsReplyTo (c : Codec) (now : Transcript) (a b : As) (r : Reply) : Typ
   pub concerns : Concerns c a b r.id deed older
 
 abbrev pub RepliesAnswerIn : Codec → NetworkParts → List Entry → Plant → Type 0
-RepliesAnswerIn c n es s = (a b : As) → a ≢ parent_as → (r : Reply) (os : List Output) (older : Transcript) → Within (Takes a (Inner b) (messages.PcRep (r ∷ [])) os ∷ older) (deeds_of c n es) → IsReplyTo c (deeds_of c n es) a b r
+RepliesAnswerIn c n es s = (a b : As) → a ≢ parent_as → (r : Reply) (os : List Output) (older : Transcript) → Within (Takes a (Inner b) (messages.PcRep (r ∷ [])) os ∷ older) (deeds_of c n es) → IsReplyTo c older a b r
 
 abbrev pub RepliesAnswer : Type 0
 RepliesAnswer = InShortRuns RepliesAnswerIn

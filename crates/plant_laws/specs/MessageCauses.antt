@@ -1,7 +1,7 @@
 -- Why elements and the parent put out what they put out for their peers, by cases of what came (RFC 5440, sections 6 and 7; RFC 5441,
 -- section 5; RFC 6805, section 4.6). Each case tells the whole list of what is said, so where its cause stands this is said, and
 -- nothing else is. That an answer of paths, or that there are none, is right is said in Solves and Headline.
-use Rattle.std.specs.Prelude.{◌≡◌, ◌≢◌, ◌⊎◌, ℕ, Bool, true, false, List, [], ◌∷◌, ◌++◌, map, Contains, Option, Some, None}
+use Rattle.std.specs.Prelude.{◌≡◌, ◌⊎◌, ℕ, Bool, true, false, List, [], ◌∷◌, ◌++◌, map, Contains, Option, Some, None}
 use Rattle.dom_base.specs.declared.names.As.{As}
 use Rattle.dom_base.specs.declared.addr.Addr.{Addr}
 use Rattle.dom_base.specs.declared.names.Peer.{Peer}

@@ -5,6 +5,7 @@
 
 ghost use Rattle.plant_laws.specs.Answered.{RequestsAreAnsweredOnce, RequestsAreAnsweredOnceIn};
 ghost use Rattle.plant_laws.specs.Certified.{SolvesCertify, SolvesCertifyIn};
+ghost use Rattle.plant_laws.specs.Broken.{BrokenForReasons};
 ghost use Rattle.plant_laws.specs.Causes.{MessagesHaveCauses, NetworksBegin};
 ghost use Rattle.plant_laws.specs.Chains.{OneChain, OneChainIn, QuietIsAnswered, QuietIsAnsweredIn};
 ghost use Rattle.plant_laws.specs.Counted.{ElementIdsDiffer, IdsCount};
@@ -16,6 +17,7 @@ ghost use Rattle.plant_laws.specs.Reading.{OutsideIsRead};
 ghost use Rattle.plant_laws.specs.Readings.{MessagesAreRead};
 ghost use Rattle.plant_laws.specs.Replies.{LeastReplies, LeastRepliesIn, NoneReplies, NoneRepliesIn, SolvesSendOne};
 ghost use Rattle.plant_laws.specs.Runs.{AllIsWritten, InShortRuns, OverPcep};
+ghost use Rattle.plant_laws.specs.Served.{RequestsAreServed};
 ghost use Rattle.plant_laws.specs.Solves.{SolvesTell};
 ghost use Rattle.plant_laws.specs.Standing.{PinsAreCurrent, QueuesStand};
 ghost use Rattle.plant_laws.specs.Steps.{StepsAreOne};
@@ -231,6 +233,18 @@ pub fn replies_match()
 pub fn messages_have_causes()
     ensures causes { MessagesHaveCauses }
     ensures begin { NetworksBegin }
+{}
+
+/// Each reply of an element that the chain is not available has a reason on the way of its request.
+pub fn broken_for_reasons()
+    ensures { BrokenForReasons }
+{}
+
+/// In a quiet state each path request that an element accepted had one answer: paths, or that there are none,
+/// that a table is full, that it is not served, or that the chain is not available for a reason on its way; or
+/// it was dropped, as its peer cancelled it or went down.
+pub fn requests_are_served()
+    ensures { RequestsAreServed }
 {}
 
 // ---- over PCEP

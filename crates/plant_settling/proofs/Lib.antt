@@ -16,3 +16,6 @@ mod Weights
 mod WorkLess
 mod WorkRuns
 mod Bounds
+mod WaysKept
+mod Turnings
+mod Following

@@ -1,2 +1,3 @@
 -- for readers
 pub mod Settling
+pub mod Following

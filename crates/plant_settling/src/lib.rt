@@ -1,12 +1,19 @@
 //! Links stay calm, and carrying messages and solving jobs ends. Laws, as the contracts of calls that do nothing.
 #![tactic(auto)]
 
+ghost use Rattle.plant_settling.specs.Following.{WaysFollowSessions};
 ghost use Rattle.plant_settling.specs.Settling.{CarriesBreakNothing, FewFollow, MessagesAreLight, NewNetworksWeigh, RunsAreCalm, WeighsAtMost, WorkEnds, WorkKeepsIds, WorkWeighsLess};
 
 /// In every run in which no id comes round, what stands in the two queues of a link follows the start of both of its sessions, and
 /// an element or the parent has requests of those neighbours alone whose sessions are open, and asks those alone.
 pub fn links_are_calm()
     ensures { RunsAreCalm }
+{}
+
+/// In every state of every run an element, or the parent, may send a neighbour requests exactly where a link leads
+/// there and its session with it is open.
+pub fn ways_follow_sessions()
+    ensures { WaysFollowSessions }
 {}
 
 /// So no message that is carried takes an inner session down.
