@@ -1,11 +1,11 @@
 -- The two paths with the potentials meet the conditions of a certificate.
-use Rattle.std.proofs.Common.{◌≡◌, ◌≢◌, inl, inr, ℕ, ◌-◌, ◌<◌, ◌≤◌, Bool, true, false, List, [], ◌∷◌, ◌++◌, length, take, map, arith, refl, sym, ◌∙◌, ap, subst, Some}
+use Rattle.std.proofs.Common.{◌≡◌, ◌≢◌, inl, inr, ℕ, ◌-◌, ◌<◌, ◌≤◌, Bool, true, false, List, [], ◌∷◌, ◌++◌, length, get_or, take, map, arith, refl, sym, ◌∙◌, ap, subst, Some}
 use Rattle.std.specs.Prelude.{AllPairs, Contains, slice_get, slice_index_or}
 use Rattle.std.specs.declared.option.Option.{Option}
 use Rattle.std.proofs.lemmas.Bool.{cases_lt}
 use Rattle.std.proofs.lemmas.List.{take_all, get_or_default, length-map}
 use Rattle.std.proofs.lemmas.List.Elements.{Contains-append_cases, Contains-append_left, Contains-append_right}
-use Rattle.std.proofs.lemmas.Option.{slice_get_within}
+use Rattle.std.proofs.lemmas.Option.{slice_get_within, slice_get-get_or}
 use Rattle.dom_base.specs.AddrOrder.{rank}
 use Rattle.dom_base.proofs.Ranks.{same_addr}
 use Rattle.dom_base.specs.declared.addr.Addr.{Addr}
@@ -183,7 +183,7 @@ module _ (g : Rows) (q : Query) (s t : Addr) (from to : ℕ) (arcs : List (Optio
             let d = drops g q s t from to arcs ds us rs ls p f w both hs u i b is_b (used_far i l at_l used) in
             let high_head = high b.head head_in d.head in
             let high_tail = high b.tail tail_in d.tail in
-            omega (arith, d.by, pf.high high_tail, pt.high high_head, h.weight, a.potentials.is_top b.tail high_tail),
+            omega (arith, d.by, pf.high high_tail, pt.high high_head, h.weight, a.potentials.is_top.above b.tail high_tail),
       )
     where
       not_in_use : (i : ℕ) (l : TeLink) (b : Arc) → slice_get g.links i ≡ Some l → IsArc arcs i b → ¬ Contains (fars_of first ++ fars_of second) l.far → is_used both i ≡ false
@@ -221,6 +221,19 @@ module _ (g : Rows) (q : Query) (s t : Addr) (from to : ℕ) (arcs : List (Optio
   few_shown shown is ms shows at_links few =
       omega (arith, few, long_hs, ap length shows, length-map {A = TeLink} {B = Addr} ms (λ l. l.far), same_length g.links is ms at_links)
 
+  -- the source, where the top is 0, or the node of the greatest height
+  from_zero : (n : Addr) × Contains rows (n, 0)
+  from_zero = elim a.potentials.is_top.met [
+    | inl none ↦ here from s p.source.at_place (high from (omega (arith, from_in, u.heights.long)) u.reached) (omega (arith, none))
+    | inr met ↦
+        here met.place (get_or g.nodes met.place s) (slice_get-get_or g.nodes met.place s (omega (arith, met.there, long_hs))) (omega (arith, met.reached, met.is)) (omega (arith, met.is))
+  ]
+    where
+      here : (i : ℕ) (n : Addr) → slice_get g.nodes i ≡ Some n → at hs i < UNREACHED → a.top - at hs i ≡ 0 → (m : Addr) × Contains rows (m, 0)
+      here i n at_i reached none =
+          let row : ℕ → Addr × ℕ = λ x. (n, x) in
+          (n, subst (Contains rows) (ap row none) (a.potentials.whole i n (record { at_place = at_i; reached = reached })))
+
   pub solved : IsSolved (asked_of g q s t) (Paths rows first second)
   solved = record {
     holds = paths_hold (asked_of g q s t) rows first second paths links_hold;
@@ -233,6 +246,7 @@ module _ (g : Rows) (q : Query) (s t : Addr) (from to : ℕ) (arcs : List (Optio
       chosen = chosen_pair g q s t from to arcs ds us rs ls p f w both hs u a.one a.other one_links.0 other_links.0 a.goes_one a.goes_other one_links.1 other_links.1;
     };
     rising = a.potentials.rising;
+    least = from_zero;
     told = (
       a.potentials.rising,
       λ none. let bad : [] ≡ s ∷ map (λ (l : TeLink). l.far) one_links.0 = sym none ∙ first_is in cc,

@@ -30,7 +30,7 @@ use Rattle.diverse_pairs.proofs.Walked.{is_left, used_walk, walk_used, later_rea
 
 pub cut_solved : (a : Asked) (nodes : List Addr) → AllPairs (λ x y. rank x < rank y) nodes → EndsHold a nodes →
     (HasEnds a → (i : ℕ) → IsOnlyToLeave a.topology a.query nodes i) → IsSolved a (Cut nodes)
-cut_solved a nodes rising ends only = record { holds = cut_holds a nodes ends only; answer = no_pair a nodes ends only; rising = tt; told = rising; short = tt }
+cut_solved a nodes rising ends only = record { holds = cut_holds a nodes ends only; answer = no_pair a nodes ends only; rising = tt; least = tt; told = rising; short = tt }
 
 -- an end that isn't admitted
 pub no_source : (g : Rows) (q : Query) (s t : Addr) → (AdmitsNode g q s → ⊥) → IsSolved (asked_of g q s t) (Cut [])

@@ -1,5 +1,5 @@
 -- Potentials: a number for each address.
-use Rattle.std.specs.Prelude.{ℕ, ◌<◌, List, AllPairs}
+use Rattle.std.specs.Prelude.{ℕ, ◌<◌, List, AllPairs, Contains}
 use Rattle.dom_base.specs.AddrOrder.{rank}
 use Rattle.dom_base.specs.AddrRows.{said_of}
 use Rattle.dom_base.specs.declared.addr.Addr.{Addr}
@@ -17,3 +17,8 @@ AreRising = AllPairs (λ a b. rank a.0 < rank b.0)
 abbrev pub HasRising : PairForm → Type 0
 HasRising (Paths potentials first second) = AreRising potentials
 HasRising (Cut nodes) = Unit {0}
+
+-- Potentials are counted from 0: some node has no more.
+abbrev pub StartsAtZero : PairForm → Type 0
+StartsAtZero (Paths potentials first second) = (n : Addr) × Contains potentials (n, 0)
+StartsAtZero (Cut nodes) = Unit {0}

@@ -1,5 +1,5 @@
 -- What a certificate says of distances: potentials that rise as the heights fall, and the nodes that have no distance.
-use Rattle.std.specs.Prelude.{◌≡◌, ◌<◌, ◌≤◌, ◌-◌, ℕ, List, Contains, AllPairs, Some, slice_get}
+use Rattle.std.specs.Prelude.{◌≡◌, ◌<◌, ◌≤◌, ◌-◌, ◌⊎◌, ℕ, List, length, Contains, AllPairs, Some, slice_get}
 use Rattle.dom_base.specs.AddrOrder.{rank}
 use Rattle.dom_base.specs.declared.addr.Addr.{Addr}
 use Rattle.te_links.specs.Rows.{Rows}
@@ -7,9 +7,17 @@ use Rattle.diverse_pairs.specs.declared.arcs.TheConstants.{UNREACHED}
 use Rattle.diverse_pairs.specs.Arcs.{at}
 use Rattle.diverse_pairs.specs.Potentials.{AreRising}
 
--- no height is above the top
-abbrev pub IsTop : List ℕ → ℕ → Type 0
-IsTop heights top = (n : ℕ) → at heights n < UNREACHED → at heights n ≤ top
+-- some node has this height
+pub record HasHeight (heights : List ℕ) (height : ℕ) : Type 0 where
+  pub place : ℕ
+  pub there : place < length heights
+  pub is : at heights place ≡ height
+  pub reached : height < UNREACHED
+
+-- the greatest height, or 0 where no node has one
+pub record IsTop (heights : List ℕ) (top : ℕ) : Type 0 where
+  pub above : (n : ℕ) → at heights n < UNREACHED → at heights n ≤ top
+  pub met : (top ≡ 0) ⊎ HasHeight heights top
 
 -- the node at place i has a height
 pub record IsHigh (g : Rows) (heights : List ℕ) (i : ℕ) (n : Addr) : Type 0 where

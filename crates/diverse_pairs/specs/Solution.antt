@@ -6,7 +6,7 @@ use Rattle.diverse_pairs.specs.declared.certificate.PairForm.{PairForm}
 use Rattle.diverse_pairs.specs.declared.certificate.PairForm.TheVariants.{Paths, Cut}
 use Rattle.diverse_pairs.specs.declared.verdict.PairVerdict.TheVariants.{Holds}
 use Rattle.diverse_pairs.specs.Conditions.{Asked, IsShownBy, IsVerdict}
-use Rattle.diverse_pairs.specs.Potentials.{HasRising}
+use Rattle.diverse_pairs.specs.Potentials.{HasRising, StartsAtZero}
 use Rattle.diverse_pairs.specs.PairText.{CanBeTold}
 use Rattle.diverse_pairs.specs.Pairs.{HasNoPair, IsLeastPair}
 use Rattle.diverse_pairs.specs.Chosen.{IsChosenPair}
@@ -35,5 +35,6 @@ pub record IsSolved (a : Asked) (form : PairForm) : Type 0 where
   pub holds : IsVerdict a form Holds
   pub answer : IsAnswer a form
   pub rising : HasRising form
+  pub least : StartsAtZero form
   pub told : CanBeTold form
   pub short : IsShort (length a.topology.nodes) form

@@ -8,7 +8,7 @@ ghost use Rattle.diverse_pairs.specs.Along.{AreAlong};
 ghost use Rattle.diverse_pairs.specs.Arcs.{at};
 ghost use Rattle.diverse_pairs.specs.declared.verdict.PairVerdict.TheVariants.{Holds};
 ghost use Rattle.diverse_pairs.specs.Conditions.{asked_of, IsVerdict};
-ghost use Rattle.diverse_pairs.specs.Potentials.{HasRising};
+ghost use Rattle.diverse_pairs.specs.Potentials.{HasRising, StartsAtZero};
 ghost use Rattle.diverse_pairs.specs.PairText.{CanBeTold};
 ghost use Rattle.diverse_pairs.specs.Solution.{IsAnswer, IsShort, IsSolved};
 ghost use Rattle.path_search.specs.Search.{IsOpenAt};
@@ -207,6 +207,7 @@ pub fn solve_pair(
     ensures holds { IfOk result (λ c. IsVerdict (asked_of topology.now query.now source target) c.form Holds) }
     ensures answer { IfOk result (λ c. IsAnswer (asked_of topology.now query.now source target) c.form) }
     ensures rising { IfOk result (λ c. HasRising c.form) }
+    ensures least { IfOk result (λ c. StartsAtZero c.form) }
     ensures told { IfOk result (λ c. CanBeTold c.form) }
 
     // So two paths fit one message.

@@ -11,7 +11,7 @@ use pcep_codes::{VERSION, classes, kinds, messages};
 use pcep_objects::{Body, Object, write_object, write_route};
 use std::alloc::Global;
 
-fn put(alloc: Global, text: &mut Vec<u8>, class: u8, must: bool, body: Body) -> Result<(), NoMemory>
+fn put(text: &mut Vec<u8>, class: u8, must: bool, body: Body) -> Result<(), NoMemory>
     ensures { OnOk result (text.new.items ≡ text.old.items ++ object_text (first_kind class must body)) }
 {
     let object = Object {
@@ -20,31 +20,31 @@ fn put(alloc: Global, text: &mut Vec<u8>, class: u8, must: bool, body: Body) -> 
         must,
         body,
     };
-    write_object(alloc, &object, text)
+    write_object(&object, text)
 }
 
-fn put_objects(alloc: Global, text: &mut Vec<u8>, objects: &[Object]) -> Result<(), NoMemory>
+fn put_objects(text: &mut Vec<u8>, objects: &[Object]) -> Result<(), NoMemory>
     ensures { OnOk result (text.new.items ≡ text.old.items ++ flat_map object_text objects.now) }
 {
     for object in objects {
-        write_object(alloc, object, text)?;
+        write_object(object, text)?;
     }
     Ok(())
 }
 
-fn put_asked(alloc: Global, text: &mut Vec<u8>, asked: &[Asked]) -> Result<(), NoMemory>
+fn put_asked(text: &mut Vec<u8>, asked: &[Asked]) -> Result<(), NoMemory>
     ensures { OnOk result (text.new.items ≡ text.old.items ++ flat_map object_text (flat_map (λ a. a.objects) asked.now)) }
 {
     for request in asked {
-        put_objects(alloc, text, request.objects.as_slice())?;
+        put_objects(text, request.objects.as_slice())?;
     }
     Ok(())
 }
 
-fn put_path(alloc: Global, text: &mut Vec<u8>, path: &Path) -> Result<(), NoMemory>
+fn put_path(text: &mut Vec<u8>, path: &Path) -> Result<(), NoMemory>
     ensures { OnOk result (text.new.items ≡ text.old.items ++ flat_map object_text (path_objects path.now)) }
 {
-    write_route(alloc, &path.hops, text)?;
+    write_route(&path.hops, text)?;
     if let Some((kind, word)) = path.metric {
         let metric = Body::Metric {
             bound: false,
@@ -52,56 +52,56 @@ fn put_path(alloc: Global, text: &mut Vec<u8>, path: &Path) -> Result<(), NoMemo
             kind,
             word,
         };
-        put(alloc, text, classes::METRIC, false, metric)?;
+        put(text, classes::METRIC, false, metric)?;
     }
     Ok(())
 }
 
-fn put_paths(alloc: Global, text: &mut Vec<u8>, paths: &[Path]) -> Result<(), NoMemory>
+fn put_paths(text: &mut Vec<u8>, paths: &[Path]) -> Result<(), NoMemory>
     ensures { OnOk result (text.new.items ≡ text.old.items ++ flat_map object_text (flat_map path_objects paths.now)) }
 {
     for path in paths {
-        put_path(alloc, text, path)?;
+        put_path(text, path)?;
     }
     Ok(())
 }
 
-fn put_answer(alloc: Global, text: &mut Vec<u8>, answer: &Answer) -> Result<(), NoMemory>
+fn put_answer(text: &mut Vec<u8>, answer: &Answer) -> Result<(), NoMemory>
     ensures { OnOk result (text.new.items ≡ text.old.items ++ flat_map object_text (answer_objects answer.now)) }
 {
     match answer {
-        Answer::Paths(paths) => put_paths(alloc, text, paths.as_slice()),
+        Answer::Paths(paths) => put_paths(text, paths.as_slice()),
         Answer::NoPath { nature, vector } => {
             let body = Body::NoPath {
                 nature: *nature,
                 vector: *vector,
             };
-            put(alloc, text, classes::NO_PATH, false, body)
+            put(text, classes::NO_PATH, false, body)
         }
     }
 }
 
-fn put_reply(alloc: Global, text: &mut Vec<u8>, reply: &Reply) -> Result<(), NoMemory>
+fn put_reply(text: &mut Vec<u8>, reply: &Reply) -> Result<(), NoMemory>
     ensures { OnOk result (text.new.items ≡ text.old.items ++ flat_map object_text (reply_objects reply.now)) }
 {
     let rp = Body::Rp {
         flags: reply.flags,
         id: reply.id,
     };
-    put(alloc, text, classes::RP, true, rp)?;
-    put_answer(alloc, text, &reply.answer)
+    put(text, classes::RP, true, rp)?;
+    put_answer(text, &reply.answer)
 }
 
-fn put_replies(alloc: Global, text: &mut Vec<u8>, replies: &[Reply]) -> Result<(), NoMemory>
+fn put_replies(text: &mut Vec<u8>, replies: &[Reply]) -> Result<(), NoMemory>
     ensures { OnOk result (text.new.items ≡ text.old.items ++ flat_map object_text (flat_map reply_objects replies.now)) }
 {
     for reply in replies {
-        put_reply(alloc, text, reply)?;
+        put_reply(text, reply)?;
     }
     Ok(())
 }
 
-fn put_ids(alloc: Global, text: &mut Vec<u8>, ids: &[(u32, u32)]) -> Result<(), NoMemory>
+fn put_ids(text: &mut Vec<u8>, ids: &[(u32, u32)]) -> Result<(), NoMemory>
     ensures { OnOk result (text.new.items ≡ text.old.items ++ flat_map object_text (map id_object ids.now)) }
 {
     for (flags, id) in ids {
@@ -109,17 +109,16 @@ fn put_ids(alloc: Global, text: &mut Vec<u8>, ids: &[(u32, u32)]) -> Result<(), 
             flags: *flags,
             id: *id,
         };
-        put(alloc, text, classes::RP, false, rp)?;
+        put(text, classes::RP, false, rp)?;
     }
     Ok(())
 }
 
-fn put_kinds(alloc: Global, text: &mut Vec<u8>, kinds: &[(u8, u8)]) -> Result<(), NoMemory>
+fn put_kinds(text: &mut Vec<u8>, kinds: &[(u8, u8)]) -> Result<(), NoMemory>
     ensures { OnOk result (text.new.items ≡ text.old.items ++ flat_map object_text (map kind_object kinds.now)) }
 {
     for (kind, value) in kinds {
         put(
-            alloc,
             text,
             classes::NOTIFICATION,
             false,
@@ -129,67 +128,61 @@ fn put_kinds(alloc: Global, text: &mut Vec<u8>, kinds: &[(u8, u8)]) -> Result<()
     Ok(())
 }
 
-fn put_notice(alloc: Global, text: &mut Vec<u8>, notice: &Notice) -> Result<(), NoMemory>
+fn put_notice(text: &mut Vec<u8>, notice: &Notice) -> Result<(), NoMemory>
     ensures { OnOk result (text.new.items ≡ text.old.items ++ flat_map object_text (notice_objects notice.now)) }
 {
-    put_ids(alloc, text, notice.ids.as_slice())?;
-    put_kinds(alloc, text, notice.kinds.as_slice())
+    put_ids(text, notice.ids.as_slice())?;
+    put_kinds(text, notice.kinds.as_slice())
 }
 
-fn put_notices(alloc: Global, text: &mut Vec<u8>, notices: &[Notice]) -> Result<(), NoMemory>
+fn put_notices(text: &mut Vec<u8>, notices: &[Notice]) -> Result<(), NoMemory>
     ensures { OnOk result (text.new.items ≡ text.old.items ++ flat_map object_text (flat_map notice_objects notices.now)) }
 {
     for notice in notices {
-        put_notice(alloc, text, notice)?;
+        put_notice(text, notice)?;
     }
     Ok(())
 }
 
-fn put_errors(alloc: Global, text: &mut Vec<u8>, errors: &[(u8, u8)]) -> Result<(), NoMemory>
+fn put_errors(text: &mut Vec<u8>, errors: &[(u8, u8)]) -> Result<(), NoMemory>
     ensures { OnOk result (text.new.items ≡ text.old.items ++ flat_map object_text (map error_object errors.now)) }
 {
     for (kind, value) in errors {
-        put(
-            alloc,
-            text,
-            classes::PCEP_ERROR,
-            false,
-            Body::Error(*kind, *value),
-        )?;
+        put(text, classes::PCEP_ERROR, false, Body::Error(*kind, *value))?;
     }
     Ok(())
 }
 
-fn put_report(alloc: Global, text: &mut Vec<u8>, report: &ErrorReport) -> Result<(), NoMemory>
+fn put_report(text: &mut Vec<u8>, report: &ErrorReport) -> Result<(), NoMemory>
     ensures { OnOk result (text.new.items ≡ text.old.items ++ flat_map object_text (report_objects report.now)) }
 {
-    put_ids(alloc, text, report.ids.as_slice())?;
-    put_errors(alloc, text, report.errors.as_slice())?;
+    put_ids(text, report.ids.as_slice())?;
+    put_errors(text, report.errors.as_slice())?;
     if let Some(opening) = report.opening {
-        put(alloc, text, classes::OPEN, false, Body::Open(opening))?;
+        put(text, classes::OPEN, false, Body::Open(opening))?;
     }
     Ok(())
 }
 
-fn put_reports(alloc: Global, text: &mut Vec<u8>, reports: &[ErrorReport]) -> Result<(), NoMemory>
+fn put_reports(text: &mut Vec<u8>, reports: &[ErrorReport]) -> Result<(), NoMemory>
     ensures { OnOk result (text.new.items ≡ text.old.items ++ flat_map object_text (flat_map report_objects reports.now)) }
 {
     for report in reports {
-        put_report(alloc, text, report)?;
+        put_report(text, report)?;
     }
     Ok(())
 }
 
-fn put_content(alloc: Global, text: &mut Vec<u8>, message: &Message) -> Result<(), NoMemory>
+fn put_content(text: &mut Vec<u8>, message: &Message) -> Result<(), NoMemory>
     ensures { OnOk result (text.new.items ≡ text.old.items ++ content_text message.now) }
 {
     match message {
-        Message::Open(opening) => put(alloc, text, classes::OPEN, false, Body::Open(*opening)),
-        Message::PcReq(asked) => put_asked(alloc, text, asked.as_slice()),
-        Message::PcRep(replies) => put_replies(alloc, text, replies.as_slice()),
-        Message::PcNtf(notices) => put_notices(alloc, text, notices.as_slice()),
-        Message::PcErr(reports) => put_reports(alloc, text, reports.as_slice()),
-        Message::Close(reason) => put(alloc, text, classes::CLOSE, false, Body::Close(*reason)),
+        Message::Open(opening) => put(text, classes::OPEN, false, Body::Open(*opening)),
+        Message::PcReq(asked) => put_asked(text, asked.as_slice()),
+        Message::PcRep(replies) => put_replies(text, replies.as_slice()),
+        Message::PcNtf(notices) => put_notices(text, notices.as_slice()),
+        Message::PcErr(reports) => put_reports(text, reports.as_slice()),
+        Message::Close(reason) => put(text, classes::CLOSE, false, Body::Close(*reason)),
         Message::Keepalive | Message::Other(_) => Ok(()),
     }
 }
@@ -220,15 +213,14 @@ pub fn write_message(alloc: Global, message: &Message, into: &mut Vec<u8>) -> Re
     ensures too_long { (result ≡ Err WriteError.TooLong) ↔ (65532 < length (message_text message.now)) }
     ensures err { OnErr result (into.new.items ≡ into.old.items) }
 {
-    let Some(_) = behind_content(message, MESSAGE_MAX - 4) else {
+    let Some(left) = behind_content(message, MESSAGE_MAX - 4) else {
         return Err(WriteError::TooLong);
     };
-    let mut content = Vec::new(alloc);
-    put_content(alloc, &mut content, message)?;
-    let [high, low] = ((content.len() + 4) as u16).to_be_bytes();
-    let mut text = Vec::new(alloc);
+    let len = MESSAGE_MAX - left;
+    let [high, low] = (len as u16).to_be_bytes();
+    let mut text = Vec::with_capacity(alloc, len)?;
     text.extend_from_slice(&[VERSION * 32, kind(message), high, low])?;
-    text.extend_from_slice(&content)?;
+    put_content(&mut text, message)?;
     into.extend_from_slice(&text)?;
     Ok(())
 }

@@ -1,7 +1,8 @@
 -- What may stand behind the fixed part of a body: a type and a length of two octets each, and a value of that length
 -- that is padded to whole words (RFC 5440, 7.1).
-use Rattle.std.specs.Prelude.{◌≡◌, ℕ, ◌+◌, ◌*◌, ◌/◌, List, [], ◌∷◌, length, take, drop, Option, Some, None, Result, Ok, Err, ◌&&◌, nat_lt, ◌==◌, if◌then◌else◌}
+use Rattle.std.specs.Prelude.{◌≡◌, ℕ, ◌+◌, ◌*◌, ◌/◌, List, [], ◌∷◌, ◌++◌, length, take, drop, Option, Some, None, Result, Ok, Err, ◌&&◌, nat_lt, ◌==◌, if◌then◌else◌}
 use Rattle.std.specs.Borrow.{Bor}
+use Rattle.std.specs.Int.{w16, w32, to_be_bytes}
 use Rattle.std.specs.Option.{option_or}
 use Rattle.dom_base.specs.Parts.{Reader, half_at, word_at, parts}
 use Rattle.pcep_objects.specs.declared.object.TlvFault.{TlvFault}
@@ -36,6 +37,10 @@ first_word kind (t ∷ ts) = option_or (word_here kind t) (first_word kind ts)
 abbrev pub word_among : ℕ → Result (List Tlv) TlvFault → Result (Option ℕ) TlvFault
 word_among kind (Ok ts) = Ok (first_word kind ts)
 word_among kind (Err e) = Err e
+
+-- a TLV of one word, as it is written
+abbrev pub tlv_text : ℕ → ℕ → List ℕ
+tlv_text kind word = to_be_bytes w16 kind ++ 0 ∷ 4 ∷ to_be_bytes w32 word
 
 -- What a call answered is the TLV that is read.
 abbrev pub GivesTlv : Result (ℕ × Bor (List ℕ) × ℕ) TlvFault → Result (Tlv × ℕ) (ℕ → TlvFault) → Type 0

@@ -3,7 +3,9 @@
 
 mod bits;
 mod bodies;
+mod lists;
 mod object;
+mod octets;
 mod reading;
 mod room;
 mod tlvs;

@@ -2,34 +2,37 @@
 ghost use Rattle.pcep_subobjects.specs.Subobjects.{IsLeftBehind};
 ghost use Rattle.pcep_objects.specs.Spelling.{body_text, object_text, route_text};
 
+use crate::bodies::{
+    bandwidth, close, end_points, error, exclude_route, lspa, metric, no_path, notification, open,
+    rp,
+};
 use crate::object::{Body, Object};
 use dom_base::List;
-use pcep_subobjects::{Hop, addr_len, room_behind_exclusions, room_behind_hops};
+use pcep_subobjects::{Hop, room_behind_hops};
 
-fn room_behind_body(body: &Body, room: usize) -> Option<usize>
+pub(crate) fn room_behind_body(body: &Body, room: usize) -> Option<usize>
     ensures { IsLeftBehind (body_text body.now) room result }
 {
     match body {
-        Body::Open(opening) => room.checked_sub(if opening.offer.stateful { 12 } else { 4 }),
+        Body::Open(opening) => room.checked_sub(open::len(*opening)),
+        Body::Rp { .. } => room.checked_sub(rp::LEN),
         Body::NoPath {
             nature: _nature,
             vector,
-        } => room.checked_sub(if *vector == 0 { 4 } else { 12 }),
-        Body::Bandwidth(_) | Body::Notification(_, _) | Body::Error(_, _) | Body::Close(_) => {
-            room.checked_sub(4)
-        }
-        Body::Rp { .. } | Body::Metric { .. } => room.checked_sub(8),
+        } => room.checked_sub(no_path::len(*vector)),
         Body::EndPoints { source, target } => {
-            room.checked_sub(addr_len(*source) + addr_len(*target))
+            room.checked_sub(end_points::len(*source, *target))
         }
-        Body::Lspa { .. } => room.checked_sub(16),
+        Body::Bandwidth(_) => room.checked_sub(bandwidth::LEN),
+        Body::Metric { .. } => room.checked_sub(metric::LEN),
         Body::Ero(route) | Body::Iro(route) | Body::PathKey(route) => {
             room_behind_hops(route.as_slice(), room)
         }
-        Body::Xro(list) => match room.checked_sub(4) {
-            Some(left) => room_behind_exclusions(list.as_slice(), left),
-            None => None,
-        },
+        Body::Lspa { .. } => room.checked_sub(lspa::LEN),
+        Body::Notification(_, _) => room.checked_sub(notification::LEN),
+        Body::Error(_, _) => room.checked_sub(error::LEN),
+        Body::Close(_) => room.checked_sub(close::LEN),
+        Body::Xro(list) => exclude_route::room_behind(list, room),
         Body::Unread(octets) => room.checked_sub(octets.len()),
     }
 }

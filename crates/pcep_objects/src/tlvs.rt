@@ -1,10 +1,12 @@
 //! What stands in TLVs behind the fixed part of a body.
-ghost use Rattle.std.specs.Prelude.{◌≡◌, ◌+◌, ◌≤◌, length, take, drop, IfOk};
+ghost use Rattle.std.specs.Prelude.{◌≡◌, ◌+◌, ◌≤◌, ◌++◌, length, take, drop, IfOk, OnOk};
 ghost use Rattle.std.specs.Option.{option_or};
-ghost use Rattle.pcep_objects.specs.Tlvs.{tlv_at, tlvs_of, word_among, word_here, GivesTlv};
+ghost use Rattle.pcep_objects.specs.Layouts.{word_behind};
+ghost use Rattle.pcep_objects.specs.Tlvs.{tlv_at, tlvs_of, tlv_text, word_among, word_here, GivesTlv};
 
 use crate::object::TlvFault;
-use dom_base::{half, word};
+use crate::octets::put_octets;
+use dom_base::{NoMemory, half, word};
 
 /// A type and a value at the front, and how many octets they take.
 fn read_tlv(bytes: &[u8]) -> Result<(u16, &[u8], usize), TlvFault>
@@ -42,7 +44,7 @@ fn first_of(found: Option<u32>, kind: u16, type_here: u16, value: &[u8]) -> Opti
 }
 
 /// The number in the first TLV of a type that has four octets, if all the bytes are TLVs.
-pub(crate) fn word_of_tlv(kind: u16, bytes: &[u8]) -> Result<Option<u32>, TlvFault>
+fn word_of_tlv(kind: u16, bytes: &[u8]) -> Result<Option<u32>, TlvFault>
     ensures { result ≡ word_among kind (tlvs_of bytes.now) }
 {
     let mut found: Option<u32> = None;
@@ -54,4 +56,25 @@ pub(crate) fn word_of_tlv(kind: u16, bytes: &[u8]) -> Result<Option<u32>, TlvFau
         rest = after;
     }
     Ok(found)
+}
+
+/// The number in a TLV behind the fixed part of a body, of this length.
+pub(crate) fn tlv_behind(len: usize, content: &[u8], kind: u16) -> Result<Option<u32>, TlvFault>
+    ensures found { result ≡ word_behind len content.now kind }
+    ensures long { IfOk result (λ _. len ≤ length content.now) }
+{
+    if content.len() < len {
+        return Err(TlvFault::PastEnd);
+    }
+    let (_, rest) = content.split_at(len);
+    word_of_tlv(kind, rest)
+}
+
+/// Appends a TLV of one word.
+pub(crate) fn put_tlv(text: &mut Vec<u8>, kind: u16, word: u32) -> Result<(), NoMemory>
+    ensures { OnOk result (text.new.items ≡ text.old.items ++ tlv_text kind word) }
+{
+    let [high, low] = kind.to_be_bytes();
+    let [a, b, c, d] = word.to_be_bytes();
+    put_octets(text, &[high, low, 0, 4, a, b, c, d])
 }

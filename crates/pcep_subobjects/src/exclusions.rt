@@ -1,5 +1,5 @@
 //! The exclusions of an XRO as octets, both ways.
-ghost use Rattle.std.specs.Prelude.{◌≡◌, ◌+◌, ◌≤◌, ◌++◌, length, IsTrue, IfOk, OnOk, OnErr};
+ghost use Rattle.std.specs.Prelude.{◌≡◌, ◌+◌, ◌≤◌, ◌++◌, length, IsTrue, IfOk, OnOk};
 ghost use Rattle.pcep_subobjects.specs.Parts.{Checks};
 ghost use Rattle.pcep_subobjects.specs.Subobjects.{Gives, IsLeftBehind};
 ghost use Rattle.pcep_subobjects.specs.Exclusions.{exclusion_has_length, exclusion_of, exclusion_at, exclusions_of, exclusion_text, exclusions_text, WrittenIsRead, NoneBeginsAnother};
@@ -69,7 +69,7 @@ pub fn read_exclusions(alloc: Global, bytes: &[u8]) -> Result<List<Exclusion>, H
 impl Spelled for Exclusion {
     ghost spelling = { exclusion_text };
 
-    fn put(&self, _alloc: Global, text: &mut Vec<u8>) -> Result<(), NoMemory> {
+    fn put(&self, text: &mut Vec<u8>) -> Result<(), NoMemory> {
         let avoid = self.avoid;
         match &self.what {
             Excluded::Prefix {
@@ -113,16 +113,11 @@ impl Spelled for Exclusion {
 }
 
 /// Appends the text of the exclusions. The type of another subobject is written modulo 128 and its
-/// length modulo 256.
-pub fn write_exclusions(
-    alloc: Global,
-    list: &[Exclusion],
-    into: &mut Vec<u8>,
-) -> Result<(), NoMemory>
-    ensures ok { OnOk result (into.new.items ≡ into.old.items ++ exclusions_text list.now) }
-    ensures err { OnErr result (into.new.items ≡ into.old.items) }
+/// length modulo 256. After a refusal a part of the text may stand there.
+pub fn write_exclusions(list: &[Exclusion], text: &mut Vec<u8>) -> Result<(), NoMemory>
+    ensures { OnOk result (text.new.items ≡ text.old.items ++ exclusions_text list.now) }
 {
-    write_parts(alloc, list, into)
+    write_parts(list, text)
 }
 
 /// How many octets of a room are left behind the text of the exclusions; None exactly where the

@@ -1,5 +1,5 @@
 //! The hops of a route as octets, both ways.
-ghost use Rattle.std.specs.Prelude.{◌≡◌, ◌+◌, ◌≤◌, ◌++◌, length, IsTrue, IfOk, OnOk, OnErr};
+ghost use Rattle.std.specs.Prelude.{◌≡◌, ◌+◌, ◌≤◌, ◌++◌, length, IsTrue, IfOk, OnOk};
 ghost use Rattle.pcep_subobjects.specs.Parts.{Checks};
 ghost use Rattle.pcep_subobjects.specs.Subobjects.{Gives, IsLeftBehind};
 ghost use Rattle.pcep_subobjects.specs.Hops.{hop_has_length, hop_of, hop_at, hops_of, hop_text, hops_text, strict_hop, WrittenIsRead, NoneBeginsAnother};
@@ -125,7 +125,7 @@ fn put_key(text: &mut Vec<u8>, loose: bool, key: u16, pce: Addr) -> Result<(), N
 impl Spelled for Hop {
     ghost spelling = { hop_text };
 
-    fn put(&self, _alloc: Global, text: &mut Vec<u8>) -> Result<(), NoMemory> {
+    fn put(&self, text: &mut Vec<u8>) -> Result<(), NoMemory> {
         match self {
             Hop::Prefix { addr, .. } => put_prefix(text, *addr)?,
             Hop::AsNumber { loose, number } => {
@@ -153,12 +153,12 @@ impl Spelled for Hop {
 }
 
 /// Appends the text of the hops. Each prefix is written as a strict hop to one address. The type of
-/// another subobject is written modulo 128 and its length modulo 256.
-pub fn write_hops(alloc: Global, hops: &[Hop], into: &mut Vec<u8>) -> Result<(), NoMemory>
-    ensures ok { OnOk result (into.new.items ≡ into.old.items ++ hops_text hops.now) }
-    ensures err { OnErr result (into.new.items ≡ into.old.items) }
+/// another subobject is written modulo 128 and its length modulo 256. After a refusal a part of the
+/// text may stand there.
+pub fn write_hops(hops: &[Hop], text: &mut Vec<u8>) -> Result<(), NoMemory>
+    ensures { OnOk result (text.new.items ≡ text.old.items ++ hops_text hops.now) }
 {
-    write_parts(alloc, hops, into)
+    write_parts(hops, text)
 }
 
 /// How many octets of a room are left behind the text of the hops; None exactly where the text has

@@ -1,5 +1,5 @@
 //! Parts that stand one behind the other: found, read, written and measured in one way.
-ghost use Rattle.std.specs.Prelude.{◌≡◌, ◌<◌, ◌≤◌, ◌+◌, ◌^◌, ◌++◌, ℕ, List, IfOk, IsOk, OnOk, OnErr, length};
+ghost use Rattle.std.specs.Prelude.{◌≡◌, ◌<◌, ◌≤◌, ◌+◌, ◌^◌, ◌++◌, ℕ, List, IfOk, IsOk, OnOk, length};
 ghost use Rattle.std.specs.List.{flat_map};
 ghost use Rattle.dom_base.specs.Parts.{Reader, parts_from};
 ghost use Rattle.pcep_subobjects.specs.Parts.{Checks, Measures};
@@ -33,7 +33,7 @@ pub trait Spelled {
     ghost spelling: { Self → List ℕ };
 
     /// Appends the octets. After a refusal a part of them may stand there.
-    fn put(&self, alloc: Global, text: &mut Vec<u8>) -> Result<(), NoMemory>
+    fn put(&self, text: &mut Vec<u8>) -> Result<(), NoMemory>
         ensures { OnOk result (text.new.items ≡ text.old.items ++ spelling self.now) };
 
     /// How many octets of a room are left behind the part; None exactly where it has no room.
@@ -84,20 +84,13 @@ pub fn build_parts<F, P: Part<F>>(
     Ok(built)
 }
 
-/// Appends the octets of parts, one behind the other. After a refusal `into` is as before.
-pub(crate) fn write_parts<P: Spelled>(
-    alloc: Global,
-    list: &[P],
-    into: &mut Vec<u8>,
-) -> Result<(), NoMemory>
-    ensures ok { OnOk result (into.new.items ≡ into.old.items ++ flat_map P.spelling list.now) }
-    ensures err { OnErr result (into.new.items ≡ into.old.items) }
+/// Appends the octets of parts, one behind the other. After a refusal some of them may stand there.
+pub(crate) fn write_parts<P: Spelled>(list: &[P], text: &mut Vec<u8>) -> Result<(), NoMemory>
+    ensures { OnOk result (text.new.items ≡ text.old.items ++ flat_map P.spelling list.now) }
 {
-    let mut text = Vec::new(alloc);
     for part in list {
-        part.put(alloc, &mut text)?;
+        part.put(text)?;
     }
-    into.extend_from_slice(&text)?;
     Ok(())
 }
 

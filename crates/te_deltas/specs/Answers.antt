@@ -3,6 +3,8 @@ use Rattle.std.specs.Prelude.{◌≡◌, ℕ, List}
 use Rattle.te_links.specs.Rows.{Rows, IsInOrder}
 use Rattle.te_links.specs.Built.{IsBuilt}
 use Rattle.te_links.specs.Faults.{IsFirstBreach}
+use Rattle.te_links.specs.declared.fault.BuildError.{BuildError}
+use Rattle.te_links.specs.declared.fault.BuildError.TheVariants as build
 use Rattle.te_text.specs.declared.row.TextRow.{TextRow}
 use Rattle.te_text.specs.TopologyText.{rows_in_order}
 use Rattle.te_deltas.specs.declared.changes.Change.{Change}
@@ -52,3 +54,8 @@ IsWhy g changes (Absent i) = NamesFirst (rows_in_order g) changes i (Absent i)
 IsWhy g changes (Present i) = NamesFirst (rows_in_order g) changes i (Present i)
 IsWhy g changes (Rule fault row) = CanBeMade (rows_in_order g) changes × IsFirstBreach (changed_rows g changes) fault row
 IsWhy g changes NoMemory = Unit {0}
+
+-- what is answered to changes whose rows are no topology
+abbrev pub why_not : BuildError → ChangeError
+why_not (build.Rule fault row) = Rule fault row
+why_not build.NoMemory = NoMemory

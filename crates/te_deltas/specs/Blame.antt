@@ -64,3 +64,10 @@ IsBlamedAt g changes file (Absent i) line = StandsIn file i line
 IsBlamedAt g changes file (Present i) line = StandsIn file i line
 IsBlamedAt g changes file (Rule fault at) line = IsLineOfPlace g changes file at line
 IsBlamedAt g changes file NoMemory line = line ≡ 0
+
+-- a broken rule, whose line is looked for among the changed rows; of all else the answer has the place
+abbrev pub IsOfRule : ChangeError → Type 0
+IsOfRule (Absent i) = ⊥
+IsOfRule (Present i) = ⊥
+IsOfRule (Rule fault at) = Unit {0}
+IsOfRule NoMemory = ⊥

@@ -1,5 +1,5 @@
 //! The line of a change file that is to blame for what its changes met.
-ghost use Rattle.std.specs.Prelude.{◌≡◌, ◌≤◌, ◌<◌, length, Ok, Some, IsSome, IfOk, MatchOption};
+ghost use Rattle.std.specs.Prelude.{◌≡◌, ◌≤◌, ◌<◌, length, Ok, Some, IsSome, IfOk, OnErr, MatchOption};
 ghost use Rattle.std.specs.Option.{option_map};
 ghost use Rattle.line_text.specs.Lines.{told_lines};
 ghost use Rattle.te_links.specs.Faults.{rows_of_parts};
@@ -7,7 +7,7 @@ ghost use Rattle.te_text.specs.TopologyText.{rows_in_order};
 ghost use Rattle.te_deltas.specs.ChangeText.{change_file_most, text_in};
 ghost use Rattle.te_deltas.specs.Changes.{CanBeMade, name_of};
 ghost use Rattle.te_deltas.specs.Answers.{IsWhy, changed_rows};
-ghost use Rattle.te_deltas.specs.Blame.{IsBlamedAt, IsLastOf, IsLineOfPlace, NoneFrom, StandsIn, row_at};
+ghost use Rattle.te_deltas.specs.Blame.{IsBlamedAt, IsLastOf, IsLineOfPlace, IsOfRule, NoneFrom, StandsIn, row_at};
 
 use crate::changes::Change;
 use crate::making::{ChangeError, changed_parts};
@@ -100,7 +100,8 @@ pub fn line_of_fault(
     requires short { length file.now ≤ change_file_most }
     requires says { text_in file.now ≡ Ok changes.now }
     requires met { IsWhy topology.now changes.now why }
-    ensures { IfOk result (IsBlamedAt topology.now changes.now file.now why) }
+    ensures line { IfOk result (IsBlamedAt topology.now changes.now file.now why) }
+    ensures memory { OnErr result (IsOfRule why) }
 {
     match why {
         ChangeError::Absent(place) | ChangeError::Present(place) => Ok(line_of_change(file, place)),

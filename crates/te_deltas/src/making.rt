@@ -3,7 +3,7 @@ ghost use Rattle.std.specs.Prelude.{◌≡◌, not, true, IfOk, IfErr, OnOk};
 ghost use Rattle.te_links.specs.Faults.{rows_of_parts};
 ghost use Rattle.te_text.specs.TopologyText.{rows_in_order};
 ghost use Rattle.te_deltas.specs.Changes.{CanBeMade, changed, is_mistake, rows_after};
-ghost use Rattle.te_deltas.specs.Answers.{IsBuiltOf, IsMistake, IsWhy, changed_rows, mistake};
+ghost use Rattle.te_deltas.specs.Answers.{IsBuiltOf, IsMistake, IsWhy, changed_rows, mistake, why_not};
 
 use crate::changes::Change;
 use crate::rows::rows_of_topology;
@@ -102,6 +102,16 @@ pub(crate) fn changed_parts(
     Ok(parts)
 }
 
+// Why the changed rows are no topology.
+fn why_not(why: BuildError) -> ChangeError
+    ensures { result ≡ why_not why }
+{
+    match why {
+        BuildError::Rule(fault, row) => ChangeError::Rule(fault, row),
+        BuildError::NoMemory => ChangeError::NoMemory,
+    }
+}
+
 /// The topology that `build` gives of the changed rows: the changes are made one at a time, in
 /// their order, where a drop takes its row out and an add appends its row to those of its kind.
 /// `Absent` and `Present` name the first change that is a mistake; only where there is none the
@@ -118,7 +128,6 @@ pub fn apply(
     let parts = changed_parts(alloc, topology, changes)?;
     match Topology::build(alloc, parts) {
         Ok(changed) => Ok(changed),
-        Err(BuildError::Rule(fault, row)) => Err(ChangeError::Rule(fault, row)),
-        Err(BuildError::NoMemory) => Err(ChangeError::NoMemory),
+        Err(why) => Err(why_not(why)),
     }
 }

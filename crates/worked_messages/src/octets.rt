@@ -19,14 +19,14 @@ use std::test::Fail;
 fn route(alloc: Global, octets: &[u8]) -> Result<Vec<u8>, HopFault> {
     let hops = read_hops(alloc, octets)?;
     let mut again = Vec::new(alloc);
-    write_hops(alloc, hops.as_slice(), &mut again)?;
+    write_hops(hops.as_slice(), &mut again)?;
     Ok(again)
 }
 
 fn exclusions(alloc: Global, octets: &[u8]) -> Result<Vec<u8>, HopFault> {
     let list = read_exclusions(alloc, octets)?;
     let mut again = Vec::new(alloc);
-    write_exclusions(alloc, list.as_slice(), &mut again)?;
+    write_exclusions(list.as_slice(), &mut again)?;
     Ok(again)
 }
 
@@ -34,14 +34,14 @@ fn kept(alloc: Global, octets: &[u8]) -> Result<Vec<u8>, ExclusionError> {
     let list = read_exclusions(alloc, octets).ok().ok_or(NoMemory)?;
     let kept = supported(alloc, list.as_slice())?;
     let mut again = Vec::new(alloc);
-    write_exclusions(alloc, kept.as_slice(), &mut again)?;
+    write_exclusions(kept.as_slice(), &mut again)?;
     Ok(again)
 }
 
 fn object(alloc: Global, octets: &[u8]) -> Result<Vec<u8>, ObjectFault> {
     let (object, _len) = read_object(alloc, octets)?;
     let mut again = Vec::new(alloc);
-    write_object(alloc, &object, &mut again)?;
+    write_object(&object, &mut again)?;
     Ok(again)
 }
 

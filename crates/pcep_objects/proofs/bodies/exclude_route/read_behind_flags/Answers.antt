@@ -3,7 +3,7 @@ use Rattle.std.proofs.lemmas.Result.{err_from_is_err_and}
 use Rattle.pcep_subobjects.specs.Exclusions.{exclusions_of}
 use Rattle.pcep_objects.specs.declared.object.Body.TheVariants as bodies
 use Rattle.pcep_objects.proofs.BodyFaults.{parts_fault}
-use Rattle.pcep_objects.proofs.bodies.xro_behind_flags.Goals as goal
+use Rattle.pcep_objects.proofs.bodies.exclude_route.read_behind_flags.Goals as goal
 
 pub returns-in_err-exclusions : goal.returns-in_err-exclusions
 returns-in_err-exclusions c =

@@ -3,7 +3,7 @@ use Rattle.std.proofs.lemmas.Result.{err_from_is_err_and}
 use Rattle.pcep_subobjects.specs.Hops.{hops_of}
 use Rattle.pcep_objects.specs.declared.object.Body.TheVariants as bodies
 use Rattle.pcep_objects.proofs.BodyFaults.{parts_fault}
-use Rattle.pcep_objects.proofs.bodies.ero.Goals as goal
+use Rattle.pcep_objects.proofs.bodies.explicit_route.read.Goals as goal
 
 pub returns-in_err-hops : goal.returns-in_err-hops
 returns-in_err-hops c =
