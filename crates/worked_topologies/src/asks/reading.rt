@@ -1,23 +1,15 @@
 //! Topologies and asks from the lines of a table.
 use border_costs::{Ask, Down, Target};
 use dom_base::{Addr, As, Cost, List, Metric, NoMemory, Query, read_number};
-use line_text::{Words, line_count};
+use line_text::Words;
 use std::alloc::Global;
 use std::test::Fail;
-use te_links::Topology;
-use te_text::{next_addr, next_as, read_topology};
+use te_text::{next_addr, next_as};
 
 /// What stands before the sign that ends a topology, and what behind it.
 pub(crate) fn cut(table: &[u8]) -> Result<(&[u8], &[u8]), Fail> {
     let place = table.iter().position(|c| *c == b'%').ok_or("no sign")?;
     Ok((&table[..place], &table[place + 1..]))
-}
-
-pub(crate) fn topology_in(alloc: Global, text: &[u8]) -> Result<Topology, Fail> {
-    if line_count(text) > 100 {
-        return Err("too long")?;
-    }
-    Ok(read_topology(alloc, text)?)
 }
 
 fn next_number(words: &mut Words<'_>) -> Option<u32> {

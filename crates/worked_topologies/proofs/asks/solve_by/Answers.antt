@@ -4,7 +4,7 @@ use Rattle.te_links.specs.Rows.{Rows}
 use Rattle.cost_cache.specs.Keys.{key_of}
 use Rattle.cost_cache.specs.Entries.{IsGood}
 use Rattle.cost_cache.proofs.Keeping.{still_good}
-use Rattle.worked_borders.proofs.asks.solve_by.Goals as goal
+use Rattle.worked_topologies.proofs.asks.solve_by.Goals as goal
 
 pub returns : goal.returns
 returns c =

@@ -7,13 +7,14 @@ ghost use Rattle.std.specs.Prelude.{◌≤◌};
 ghost use Rattle.std.specs.Arc.{arc_value};
 ghost use Rattle.cost_cache.specs.Entries.{IsGoodForAll};
 
+use crate::texts::{goes_to_a_thread, topology_of};
 use answers::{put_answer, put_number, put_table};
 use border_costs::{Job, Solved, seeds_of, solve};
 use cost_cache::Cache;
 use dom_base::NoMemory;
 use line_text::{Lines, line_count};
 use path_search::search;
-use reading::{ask_in, cut, topology_in};
+use reading::{ask_in, cut};
 use std::alloc::Global;
 use std::sync::Arc;
 use std::test::Fail;
@@ -135,7 +136,7 @@ fn odd_in(alloc: Global, capacity: usize, table: &[u8]) -> Result<Option<u32>, F
     requires { 1 ≤ capacity }
 {
     let (rows, asks) = cut(table)?;
-    let topology = Arc::new(alloc, topology_in(alloc, rows)?)?;
+    let topology = Arc::new(alloc, topology_of(alloc, rows)?)?;
     let mut cache = Cache::new(alloc, capacity)?;
     first_odd(alloc, &mut cache, &topology, asks)
 }
@@ -155,8 +156,6 @@ fn a_full_cache_drops_what_was_used_longest_ago(rt: HostRuntime) -> Result<(), F
 }
 
 // Jobs are solved by threads, each with a cache, which hand out what they solved.
-fn goes_to_a_thread<T: Send>(_value: &T) {}
-
 fn crosses(job: &Job, solved: &Solved, cache: &Cache) {
     goes_to_a_thread(job);
     goes_to_a_thread(solved);

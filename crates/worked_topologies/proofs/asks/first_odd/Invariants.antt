@@ -1,7 +1,7 @@
 use Rattle.std.proofs.Common.{length}
 use Rattle.std.specs.Arc.{arc_value}
 use Rattle.cost_cache.specs.Entries.{IsGoodForAll}
-use Rattle.worked_borders.proofs.asks.first_odd.Given as goal
+use Rattle.worked_topologies.proofs.asks.first_odd.Given as goal
 
 abbrev pub invariant-loop-line : goal.invariant-loop-line
 invariant-loop-line l = IsGoodForAll (arc_value l.topology) l.cache
