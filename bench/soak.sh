@@ -2,31 +2,48 @@
 # A server under load for long: 16 elements in a row, 64 clients that ask one request behind the other through three domains, topologies that
 # change every second, and every ten seconds a client whose connection is reset with a request under way, and which comes again. Each request
 # has to be answered once, by a path whose cost one of the topologies gives, and no key may stand in two answers within its life; memory has to
-# stay as it was after the first tenth of the time. It tells what was answered and how much memory there was, once a minute and at the end; the
-# status is 0 where nothing was wrong. It needs Python. It stands outside the gate.
-# usage: bench/soak.sh [PROGRAM [MINUTES]]   (the program that the gate proved and built, and 30, where left out)
+# stay as it was after the first tenth of the time. It tells what was answered and how much memory there was, once a minute and at the end, with
+# what the server and these clients took of a processor and how busy the machine was; the status is 0 where nothing was wrong. It needs Python.
+# It stands outside the gate.
+# usage: bench/soak.sh [PROGRAM [MINUTES]] [--life TICKS] [--pause SECONDS] [--held] [--without asks|loads|resets ..]
+#   (the program that the gate proved and built, 30 minutes, keys that live for 5 ticks, a pause of up to 0.3 seconds before each request, and
+#    nothing left out; without a part it shows what memory does by the others alone. With --held, which needs a C compiler, it tells too what the
+#    program holds of the memory that it has: blocks that were taken and not given back. MALLOC_ARENA_MAX=1 before it has all threads share
+#    one pool of memory)
 set -eu
 top=$(cd "$(dirname "$0")/.." && pwd)
-program=${1:-$top/crates/pce_main/out/pce_main}
-minutes=${2:-30}
-[ -x "$program" ] || { echo "soak: no program $program; \`rt ci\` builds it" >&2; exit 2; }
-exec python3 - "$(realpath "$program")" "$top" "$minutes" <<'PY'
+exec python3 - "$top" "$@" <<'PY'
+import argparse
 import os
 import random
+import resource
 import socket
 import struct
+import subprocess
 import sys
+import tempfile
 import threading
 import time
 
-program, top, minutes = sys.argv[1], sys.argv[2], float(sys.argv[3])
+top = sys.argv.pop(1)
+says = argparse.ArgumentParser()
+says.add_argument("program", nargs="?", default=os.path.join(top, "crates/pce_main/out/pce_main"))
+says.add_argument("minutes", nargs="?", type=float, default=30)
+says.add_argument("--life", type=int, default=5)
+says.add_argument("--pause", type=float, default=0.3)
+says.add_argument("--held", action="store_true")
+says.add_argument("--without", nargs="*", default=[], choices=("asks", "loads", "resets"))
+given = says.parse_args()
+program, minutes, LIFE = os.path.abspath(given.program), given.minutes, given.life
+if not os.access(program, os.X_OK):
+    sys.exit("soak: no program %s; `rt ci` builds it" % program)
 sys.dont_write_bytecode = True
 sys.path.insert(0, os.path.join(top, "tools"))
 import messages  # noqa: E402
 import servers  # noqa: E402
 from sessions import Ended, Session, Silent  # noqa: E402
 
-ELEMENTS, CLIENTS, LIFE = 16, 64, 5
+ELEMENTS, CLIENTS = 16, 64
 COSTS = (5, 40)  # of the one link inside a domain, in its two topologies
 wrong, lock = [], threading.Lock()
 
@@ -80,7 +97,7 @@ class Client(threading.Thread):
                 session.socket.setsockopt(socket.SOL_SOCKET, socket.SO_LINGER, struct.pack("ii", 1, 0))
                 return number
             self.look_at(session.answer(), number)
-            time.sleep(random.random() / 10)
+            time.sleep(given.pause * random.random())
         session.socket.settimeout(0.2)
         try:
             session.receive(time.monotonic() + 0.2)
@@ -117,43 +134,96 @@ def memory_now(server):
         return next(int(line.split()[1]) for line in file if line.startswith("VmRSS")) / 1024
 
 
+def count_held(folder):
+    """From here on programs that are started count what they hold, in a file of this folder."""
+    library, shown = os.path.join(folder, "held.so"), os.path.join(folder, "held")
+    subprocess.run(["cc", "-O2", "-shared", "-fPIC", "-o", library, os.path.join(top, "bench/plain/held.c")], check=True)
+    open(shown, "w").close()
+    os.environ.update(LD_PRELOAD=library, HELD=shown)
+    return shown
+
+
+def held_now(shown):
+    with open(shown, "rb") as file:
+        return struct.unpack("qq", file.read())
+
+
+def own_seconds():
+    """What these clients took of a processor so far."""
+    used = resource.getrusage(resource.RUSAGE_SELF)
+    return used.ru_utime + used.ru_stime
+
+
+def rise(points):
+    """By how much a line through points rises, for each step of the first coordinate."""
+    if len(points) < 2:
+        return 0.0
+    x, y = (sum(point[axis] for point in points) / len(points) for axis in (0, 1))
+    return sum((a - x) * (b - y) for a, b in points) / sum((a - x) ** 2 for a, _ in points)
+
+
 first = servers.free_ports(CLIENTS)
 names = ["t%d.txt" % domain for domain in range(1, ELEMENTS + 1)]
 files = [(name, topology(domain, COSTS[0])) for domain, name in enumerate(names, 1)]
 files += [("u%d.txt" % domain, topology(domain, COSTS[1])) for domain in range(1, ELEMENTS + 1)]
 peers = [("c%d" % place, place % (ELEMENTS - 2) + 1, "client", first + place) for place in range(CLIENTS)]
 settings = servers.in_a_row(ELEMENTS, peers, names, "workers = 4\n", key_life=LIFE)
+folder = tempfile.TemporaryDirectory()
+shown = count_held(folder.name) if given.held else None
 with servers.Server(program, settings, files, within=60) as server:
     time.sleep(2)  # the elements open their sessions
-    end = time.monotonic() + 60 * minutes
-    clients = [Client(place, first + place, {} if place == 0 else None) for place in range(CLIENTS)]
+    began = time.monotonic()
+    end = began + 60 * minutes
+    clients = [Client(place, first + place, {} if place == 0 else None) for place in range(CLIENTS if "asks" not in given.without else 0)]
     for client in clients:
         client.keys = clients[0].keys
         client.start()
-    began, turn, memory, loads = time.monotonic(), 0, [], 0
+    turn, loads, memory, held, busy = 0, 0, [], [], []
+
+    def answers():
+        return sum(client.answered for client in clients)
+
+    def counted(rows):
+        """What was held in the mean."""
+        blocks, octets = (sum(row[place] for row in rows) / max(len(rows), 1) for place in (0, 1))
+        return ", of which it held %.3f in %.0f blocks in the mean" % (octets / 2**20, blocks) if rows else ""
+
+    def shares():
+        """What the server and the clients took of a processor, and how many processes wanted one."""
+        gone = time.monotonic() - began
+        return "server %.2f and clients %.2f of a processor, load %.1f" % (server.busy() / gone, own_seconds() / gone, sum(busy) / len(busy))
+
     while time.monotonic() < end:
         turn += 1
-        domain = random.randrange(1, ELEMENTS + 1)
-        told = server.say("load %d %s%d.txt" % (domain, random.choice("tu"), domain))
-        if told is None or " ok generation " not in told and " refused generations full" not in told:
-            differs("the answer to a load is %s" % told)
-        if turn % 10 == 0:
+        if "loads" not in given.without:
+            loads += 1
+            domain = random.randrange(1, ELEMENTS + 1)
+            told = server.say("load %d %s%d.txt" % (domain, random.choice("tu"), domain))
+            if told is None or " ok generation " not in told and " refused generations full" not in told:
+                differs("the answer to a load is %s" % told)
+        if turn % 10 == 0 and clients and "resets" not in given.without:
             random.choice(clients).reset.set()
         memory.append((time.monotonic() - began, memory_now(server)))
+        held += [held_now(shown)] if shown else []
+        busy.append(os.getloadavg()[0])
         if turn % 60 == 0:
-            print("soak: after %d s: %d answers, %.1f megabytes" % (memory[-1][0], sum(client.answered for client in clients), memory[-1][1]), flush=True)
+            print("soak: after %d s: %d answers, %.2f megabytes%s; %s" % (memory[-1][0], answers(), memory[-1][1], counted(held[-60:]), shares()), flush=True)
         if not server.is_running():
             differs("the server ended with status %s" % server.process.returncode)
             break
         time.sleep(1)
+    told = shares()
     for client in clients:
         client.join(90)
     settled = max(megabytes for at, megabytes in memory if at < 6 * minutes + 1)
     most = max(megabytes for _, megabytes in memory)
     if most > 1.1 * settled + 1:
         differs("memory rose from %.1f to %.1f megabytes" % (settled, most))
-    print("soak: %d answers, %d without a free key, %d resets, %d loads, %.1f megabytes after a tenth of the time and %.1f at the most, %d wrong" % (
-        sum(client.answered for client in clients), sum(client.refused for client in clients), sum(client.resets for client in clients), turn, settled, most,
-        len(wrong)))
+    second = [point for point in memory if point[0] > 30 * minutes]
+    print("soak: %d answers, %d without a free key, %d resets, %d loads" % (
+        answers(), sum(client.refused for client in clients), sum(client.resets for client in clients), loads))
+    print("soak: %.2f megabytes after a tenth of the time, %.2f at the most, %+.3f a minute in the second half; %s" % (
+        settled, most, 60 * rise(second), told))
+    print("soak: %d wrong" % len(wrong))
 sys.exit(1 if wrong else 0)
 PY

@@ -1,12 +1,10 @@
 -- Requests gone through by their places.
-use Rattle.std.proofs.Common.{◌≡◌, ◌+◌, ◌≤◌, ℕ, zero, suc, Bool, cond, Option, Some, None, List, [], ◌∷◌, ◌++◌, length, nat_eq, take, drop, arith, inl, inr, refl, sym, ◌∙◌, ap, subst, option_map}
+use Rattle.std.proofs.Common.{◌≡◌, ◌+◌, ◌≤◌, ℕ, zero, suc, Bool, cond, Some, None, List, [], ◌∷◌, ◌++◌, length, nat_eq, take, drop, arith, inl, inr, refl, sym, ◌∙◌, ap, subst}
 use Rattle.std.specs.Prelude.{slice_get, filter, Contains}
-use Rattle.std.specs.Map.{lookup, remove_entry}
+use Rattle.std.specs.Map.{remove_entry}
 use Rattle.std.proofs.lemmas.Bool.{cases_Bool, eq-eqb, ne_eqb}
-use Rattle.request_table.specs.declared.held.Held.{Held}
-use Rattle.request_table.specs.declared.held.RequestKey.{RequestKey}
-use Rattle.request_table.specs.Pending.{Pending, ArePending, NumbersRise, nth_of, key_at, item_of}
-use Rattle.member_parts.proofs.HeldRows.{Numbered, first_in, later_in, above_low, at_in, at_found}
+use Rattle.request_table.specs.Pending.{NumbersRise}
+use Rattle.member_parts.proofs.HeldRows.{Numbered, first_in, later_in, above_low, at_in}
 
 -- a list round one of its places
 pub split_at : {X : Type 0} (xs : List X) (k : ℕ) (x : X) → slice_get xs k ≡ Some x → xs ≡ take k xs ++ x ∷ drop (suc k) xs
@@ -113,44 +111,6 @@ kept_length p (y ∷ xs) zero x at =
 kept_length p (y ∷ xs) (suc i) x at =
     let more = kept_length p xs i x at in
     elim (cases_Bool (p y)) [ inl yes' ↦ rw yes' (omega (arith, more)) | inr no' ↦ rw no' more ]
-
--- ---- what is found by the number of a place
-
-number_at : {T : Type 0} (rows : List (Numbered T)) (k n : ℕ) → option_map (λ (row : Numbered T). row.0) (slice_get rows k) ≡ Some n → (row : Numbered T) × (slice_get rows k ≡ Some row) × (row.0 ≡ n)
-number_at {T} rows k n is = go (slice_get rows k) refl is
-  where
-    go : (o : Option (Numbered T)) → slice_get rows k ≡ o → option_map (λ (row : Numbered T). row.0) o ≡ Some n → (row : Numbered T) × (slice_get rows k ≡ Some row) × (row.0 ≡ n)
-    go None at is' = absurd (let no : None ≡ Some n = is' in cc)
-    go (Some row) at is' = (row, at, (let same : Some row.0 ≡ Some n = is' in cc))
-
-found_at : {T : Type 0} (pending : Pending T) (k n : ℕ) → ArePending pending → nth_of pending k ≡ Some n → (row : Numbered T) × (slice_get pending.rows k ≡ Some row) × (row.0 ≡ n) × (lookup (nat_eq n) pending.rows ≡ Some row.1)
-found_at {T} pending k n are is =
-    let there = number_at pending.rows k n is in
-    (there.0, there.1, there.2, subst (λ (j : ℕ). lookup (nat_eq j) pending.rows ≡ Some there.0.1) there.2 (at_found 0 pending.given pending.rows k there.0 are.numbers there.1))
-
-pub no_key_none : {T : Type 0} (pending : Pending T) (k n : ℕ) → ArePending pending → nth_of pending k ≡ Some n → key_at pending n ≡ None → ⊥
-no_key_none {T} pending k n are is none =
-    let there = found_at pending k n are is in
-    let key : key_at pending n ≡ Some there.0.1.key = ap (λ (o : Option (Held T)). option_map (λ (h : Held T). h.key) o) there.3 in
-    let no : Some there.0.1.key ≡ None = sym key ∙ none in cc
-
-pub no_item_none : {T : Type 0} (pending : Pending T) (k n : ℕ) → ArePending pending → nth_of pending k ≡ Some n → item_of pending n ≡ None → ⊥
-no_item_none {T} pending k n are is none =
-    let there = found_at pending k n are is in
-    let item : item_of pending n ≡ Some there.0.1.item = ap (λ (o : Option (Held T)). option_map (λ (h : Held T). h.item) o) there.3 in
-    let no : Some there.0.1.item ≡ None = sym item ∙ none in cc
-
-pub row_at : {T : Type 0} (pending : Pending T) (k n : ℕ) (key : RequestKey) (item : T) → ArePending pending → nth_of pending k ≡ Some n → key_at pending n ≡ Some key → item_of pending n ≡ Some item →
-    slice_get pending.rows k ≡ Some (n, record { key = key; item = item })
-row_at {T} pending k n key item are is of_key of_item =
-    let there = found_at pending k n are is in
-    let same_key : Some there.0.1.key ≡ Some key = sym (ap (λ (o : Option (Held T)). option_map (λ (h : Held T). h.key) o) there.3) ∙ of_key in
-    let same_item : Some there.0.1.item ≡ Some item = sym (ap (λ (o : Option (Held T)). option_map (λ (h : Held T). h.item) o) there.3) ∙ of_item in
-    let k' : there.0.1.key ≡ key = cc in
-    let i' : there.0.1.item ≡ item = cc in
-    there.1 ∙ ap (λ (j : ℕ). let r : Numbered T = (j, there.0.1) in Some r) there.2
-    ∙ ap (λ (x : RequestKey). let r : Numbered T = (n, record { key = x; item = there.0.1.item }) in Some r) k'
-    ∙ ap (λ (x : T). let r : Numbered T = (n, record { key = key; item = x }) in Some r) i'
 
 -- what stands at a place is in the list
 pub listed_at : {X : Type 0} (xs : List X) (k : ℕ) (x : X) → slice_get xs k ≡ Some x → Contains xs x

@@ -63,21 +63,6 @@ is_chosen g w rows rest b are is = go are.best
         let same : b ≡ some.0 = one_row rest b some.0 one in
         subst (λ (row : Best). ShowsLeast g w.query w.source w.target row.segment row.cost) (sym same) (shows g w are.seeds some.0 are.are_seeds.are some.3)
 
--- a bit stands where an end is not known
-bit_where : (known : Bool) (P : Type 0) (bit : ℕ) → (IsTrue known ↔ P) → IsBitWhere (P → ⊥) bit (cond known 0 bit)
-bit_where true P bit iff = inr (λ not. not (iff.0 refl), refl)
-bit_where false P bit iff = inl (λ p. absurd (let bad : false ≡ true = iff.1 p in cc), refl)
-
-pub unknown : (g : Rows) (w : Wanted) (rows : Answer) (vector : ℕ) → AreRows g (ask_of g.own w) rows → vector ≡ cond rows.source_known 0 4 + cond rows.target_known 0 2 →
-    IsUnknownVector g w.source w.target vector
-unknown g w rows vector are is = record {
-  source = cond rows.source_known 0 4;
-  unknown_source = bit_where rows.source_known (Contains g.nodes w.source) 4 are.source_known;
-  target = cond rows.target_known 0 2;
-  unknown_target = bit_where rows.target_known (Contains g.nodes w.target) 2 are.target_known;
-  sum = is;
-}
-
 pub labelled : (g : Rows) (w : Wanted) (rows : Answer) → AreRows g (ask_of g.own w) rows → HasLabels g w rows.certificate
 labelled g w rows are = record {
   own = are.certificate.own;

@@ -1,8 +1,8 @@
 //! The way of least cost through one domain.
-ghost use Rattle.std.specs.Prelude.{◌≡◌, ◌∷◌, ◌++◌, ◌+◌, [], List, IfOk, MatchOption, if◌then◌else◌};
+ghost use Rattle.std.specs.Prelude.{◌≡◌, ◌∷◌, ◌++◌, [], Contains, List, IfOk, MatchOption};
 ghost use Rattle.border_costs.specs.Solutions.{AreRows};
 ghost use Rattle.vspt_tree.specs.declared.branch.Best.{Best};
-ghost use Rattle.one_domain.specs.Domain.{ask_of, target_seeds, HasLabels, IsChosen, IsUnknownVector};
+ghost use Rattle.one_domain.specs.Domain.{ask_of, target_seeds, HasLabels, IsBitWhere, IsChosen, IsUnknownVector};
 
 use border_costs::{Answer, Ask, Target, seed_of_target, solve_rows};
 use dom_base::{Addr, As, Cost, List, NoMemory, Seed};
@@ -74,39 +74,41 @@ fn path_of(best: List<Best>) -> Option<Chosen>
     })
 }
 
-// The bits for ends that are not known.
-fn vector_of(source_known: bool, target_known: bool) -> u32
-    ensures { result ≡ (if source_known then 0 else 4) + (if target_known then 0 else 2) }
+// The bit where the address is no node of the domain, and else 0.
+fn bit_of_unknown(topology: &Topology, addr: Addr, bit: u32) -> u32
+    ensures { IsBitWhere (¬ Contains topology.now.nodes addr) bit result }
 {
-    let source = if source_known {
-        0
-    } else {
-        no_paths::UNKNOWN_SOURCE
-    };
-    let target = if target_known {
-        0
-    } else {
-        no_paths::UNKNOWN_TARGET
-    };
+    match topology.find_node(addr) {
+        Some(_place) => 0,
+        None => bit,
+    }
+}
+
+/// The bits of a NO-PATH-VECTOR for ends of a request that the domain does not know (RFC 5440,
+/// section 7.5), which takes no search.
+pub fn unknown_ends(topology: &Topology, wanted: &Wanted) -> u32
+    ensures { IsUnknownVector topology.now wanted.now.source wanted.now.target result }
+{
+    let source = bit_of_unknown(topology, wanted.source, no_paths::UNKNOWN_SOURCE);
+    let target = bit_of_unknown(topology, wanted.target, no_paths::UNKNOWN_TARGET);
     source + target
 }
 
 // What the rows of the ask show.
-fn shown(_topology: &Topology, _wanted: &Wanted, rows: Answer) -> DomainPath
-    requires { AreRows _topology.now (ask_of _topology.now.own _wanted.now) rows }
-    ensures chosen { IsChosen _topology.now _wanted.now result.chosen }
-    ensures vector { IsUnknownVector _topology.now _wanted.now.source _wanted.now.target result.vector }
-    ensures labels { HasLabels _topology.now _wanted.now result.certificate }
+fn shown(topology: &Topology, wanted: &Wanted, rows: Answer) -> DomainPath
+    requires { AreRows topology.now (ask_of topology.now.own wanted.now) rows }
+    ensures chosen { IsChosen topology.now wanted.now result.chosen }
+    ensures vector { IsUnknownVector topology.now wanted.now.source wanted.now.target result.vector }
+    ensures labels { HasLabels topology.now wanted.now result.certificate }
 {
     let Answer {
         best,
-        source_known,
-        target_known,
         certificate,
+        ..
     } = rows;
     DomainPath {
         chosen: path_of(best),
-        vector: vector_of(source_known, target_known),
+        vector: unknown_ends(topology, wanted),
         certificate,
     }
 }

@@ -8,6 +8,6 @@ mod law;
 mod replying;
 
 pub use certifying::certificate_of;
-pub use domain::{Chosen, DomainPath, search_domain, seeds_of};
+pub use domain::{Chosen, DomainPath, search_domain, seeds_of, unknown_ends};
 pub use law::reply_is_one;
 pub use replying::{PathRequest, answer_of, reply_of};

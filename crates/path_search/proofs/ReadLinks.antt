@@ -1,5 +1,5 @@
 -- Links are read one after another, each at most once.
-use Rattle.std.proofs.Common.{◌≡◌, ◌≢◌, inl, inr, ℕ, zero, suc, ◌+◌, ◌<◌, ◌≤◌, Bool, true, false, nat_eq, List, [], ◌∷◌, ◌++◌, length, map, take, replicate, arith, refl, sym, ◌∙◌, ap, subst, None, Some, length-append}
+use Rattle.std.proofs.Common.{◌≡◌, ◌≢◌, ◌⊎◌, inl, inr, ℕ, zero, suc, ◌+◌, ◌<◌, ◌≤◌, Bool, true, false, nat_eq, List, [], ◌∷◌, ◌++◌, length, map, take, replicate, arith, refl, sym, ◌∙◌, ap, subst, None, Some, length-append}
 use Rattle.std.specs.Prelude.{Contains, All, AllPairs, slice_get, slice_index_or, slice_set, sum_by}
 use Rattle.std.specs.declared.option.Option.{Option}
 use Rattle.std.specs.Bool.{Decides}
@@ -23,6 +23,7 @@ use Rattle.path_search.specs.declared.arc.Arc.{Arc}
 use Rattle.path_search.specs.Arcs.{label_at, IsArcAmong, IsWithin, joined, IsBelow}
 use Rattle.path_search.specs.Search.{IsArcOf, IsNoArc}
 use Rattle.path_search.specs.Front.{cost_of, cost_at, is_done, IsFront, IsLeastAt, Spreads}
+use Rattle.path_search.specs.Barred.{AreBarred}
 use Rattle.path_search.specs.Reached.{EndsAtLabel}
 use Rattle.path_search.specs.Reading.{IsReading, IsHeadDone, IsOpened, IsResting, IsSpreading, SpreadsLink}
 use Rattle.walk_laws.specs.Certificate.{AtMost}
@@ -32,6 +33,7 @@ use Rattle.path_search.specs.Search.{AreLabels}
 use Rattle.path_search.proofs.Relaxing.{IsWritten, written, same_le}
 use Rattle.path_search.proofs.Places.{same_place, place_of, contains_at}
 use Rattle.path_search.proofs.Certified.{searched, arc_among}
+use Rattle.path_search.proofs.Deciding.{link_or_none}
 use Rattle.path_search.proofs.Fronts.{front_spread, front_taken, front_over, label_that_waits, undone, unsettled, set_done}
 
 up_to : ℕ → List ℕ
@@ -142,10 +144,10 @@ read_on places read k p below is part =
     (subst (Contains (read ++ p ∷ [])) (sym is) (Contains-push read p))
 
 -- one more link into the node was read
-pub spread_step : (g : Rows) (q : Query) (start old new : List (Option Label)) (waiting next : List (Option ℕ)) (done : List Bool) (v : ℕ) (places : List ℕ) (k n p : ℕ) →
-    IsTopology g → length old ≡ length g.nodes → IsLinksInto g.nodes g.links v places → k < length places → slice_index_or places k p ≡ p →
+pub spread_step : (g : Rows) (q : Query) (barred : List Bool) (start old new : List (Option Label)) (waiting next : List (Option ℕ)) (done : List Bool) (v : ℕ) (places : List ℕ) (k n p : ℕ) →
+    IsTopology g → AreBarred g q barred → length old ≡ length g.nodes → IsLinksInto g.nodes g.links v places → k < length places → slice_index_or places k p ≡ p →
     IsSpreading g q start old waiting done v places k n → SpreadsLink g q p old new waiting next → IsSpreading g q start new next done v places (k + 1) (n + 1)
-spread_step g q start old new waiting next done v places k n p valid long into below is s step =
+spread_step g q barred start old new waiting next done v places k n p valid are long into below is s step =
     let ends : LinkEndsAt g.nodes g.links v p = subst (LinkEndsAt g.nodes g.links v) is (into.ends k p below) in
     let within : p < length g.links = slice_get_within g.links p ends.link ends.at_link in
     let fresh : ¬ Contains s.read p = subst (λ r. ¬ Contains s.read r) is (s.unread k p (omega arith) below) in
@@ -158,13 +160,24 @@ spread_step g q start old new waiting next done v places k n p valid long into b
     let part = read_on places s.read k p below is s.part in
     let unread = later_unread s.read places k p into.order is s.unread in
     let count : length (s.read ++ p ∷ []) ≡ n + 1 = (let e = length-append s.read (p ∷ []) in let c = s.count in omega (arith, e, c)) in
-    go heads whole part unread count ends within fresh step
+    go heads whole part unread count ends within fresh (told step ends)
   where
+    -- where nothing changed, the link is not admitted, or its arc is relaxed
+    told : SpreadsLink g q p old new waiting next → LinkEndsAt g.nodes g.links v p →
+        (IsNoArc g q p × ((new ≡ old) × (next ≡ waiting))) ⊎ ((a : Arc) × (IsArcOf g q p a × Spreads q.cap a old new waiting next))
+    told (inl idle) ends =
+        elim (link_or_none g q barred p ends.link valid are ends.at_link) [
+          | inl none ↦ inl (none, idle.1)
+          | inr by ↦ inr (by.0, (by.1, inr (idle.1.0, (idle.1.1, idle.0 by.0 by.1))))
+        ]
+    told (inr by) ends = inr by
+
     go : All (IsHeadDone g done) (s.read ++ p ∷ []) → ((i r : ℕ) → i ≢ v → is_done done i ≡ true → LinkEndsAt g.nodes g.links i r → Contains (s.read ++ p ∷ []) r) →
         All (Contains (s.read ++ p ∷ [])) (take (k + 1) places) →
         ((j : ℕ) (d : ℕ) → k + 1 ≤ j → j < length places → ¬ Contains (s.read ++ p ∷ []) (slice_index_or places j d)) →
         length (s.read ++ p ∷ []) ≡ n + 1 → LinkEndsAt g.nodes g.links v p → p < length g.links → ¬ Contains s.read p →
-        SpreadsLink g q p old new waiting next → IsSpreading g q start new next done v places (k + 1) (n + 1)
+        (IsNoArc g q p × ((new ≡ old) × (next ≡ waiting))) ⊎ ((a : Arc) × (IsArcOf g q p a × Spreads q.cap a old new waiting next)) →
+        IsSpreading g q start new next done v places (k + 1) (n + 1)
     go heads whole part unread count ends within fresh (inl none) = record {
       last = s.last;
       arcs = s.arcs;

@@ -9,7 +9,7 @@ use Rattle.te_links.specs.Index.{LinkEndsAt}
 use Rattle.walk_laws.specs.Walks.{AdmitsLink}
 use Rattle.path_search.specs.declared.arc.Arc.{Arc}
 use Rattle.path_search.specs.Arcs.{label_at}
-use Rattle.path_search.specs.Search.{IsArcOf, IsNoArc, AreLabels}
+use Rattle.path_search.specs.Search.{IsArcOf, IsIdle, AreLabels}
 use Rattle.path_search.specs.Starts.{AreStarts}
 use Rattle.dom_base.specs.declared.query.Seed.{Seed}
 use Rattle.path_search.specs.Front.{is_done, IsFront, Spreads}
@@ -65,10 +65,10 @@ pub record IsSpreading (g : Rows) (q : Query) (start labels : List (Option Label
   pub unread : (j : ℕ) (d : ℕ) → k ≤ j → j < length places → ¬ Contains read (slice_index_or places j d)
   pub count : length read ≡ reads
 
--- the arc of a link is relaxed, if it has one
+-- the arc of a link is relaxed, if it has one: nothing changes where it is so already
 abbrev pub SpreadsLink : Rows → Query → ℕ → List (Option Label) → List (Option Label) → List (Option ℕ) → List (Option ℕ) → Type 0
 SpreadsLink g q p old new waiting next =
-    (IsNoArc g q p × ((new ≡ old) × (next ≡ waiting))) ⊎ ((a : Arc) × (IsArcOf g q p a × Spreads q.cap a old new waiting next))
+    (IsIdle g q old p × ((new ≡ old) × (next ≡ waiting))) ⊎ ((a : Arc) × (IsArcOf g q p a × Spreads q.cap a old new waiting next))
 
 -- all links into a node that was just settled are read, and their arcs relaxed
 abbrev pub SpreadsNode : Rows → Query → ℕ → List (Option Label) → List (Option Label) → List (Option ℕ) → List (Option ℕ) → ℕ → ℕ → Type 0

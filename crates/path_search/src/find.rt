@@ -4,24 +4,28 @@ ghost use Rattle.te_links.specs.Rows.{IsTopology};
 ghost use Rattle.te_links.specs.Index.{LinkEndsAt};
 ghost use Rattle.path_search.specs.Barred.{AreBarred};
 ghost use Rattle.path_search.specs.Reached.{ReadsReached};
-ghost use Rattle.path_search.specs.Search.{IsArcOf, IsNoArc, AreLabels};
+ghost use Rattle.path_search.specs.Search.{IsArcOf, IsIdle, AreLabels};
 
 use crate::arc::Arc;
 use crate::barred::{barred_nodes, bars_ends};
 use crate::labels::Labels;
+use crate::settle::can_lower;
 use crate::spread::settle_all;
 use crate::starts::starts_of;
 use crate::waiting::Waiting;
-use dom_base::{NoMemory, Query, Seed};
+use dom_base::{Label, NoMemory, Query, Seed};
 use path_constraints::{allows, weight};
 use std::alloc::Global;
 use te_links::Links;
 
-// The arc of a link into the node at a place, if the link is admitted.
+// The arc of a link into the node at a place, if the link is admitted and its arc may lower a
+// label. Most links can lower none: for those the row of the link, which takes a cache line of its
+// own, is not looked at.
 pub(crate) fn arc_of<'a, G: Links<'a>>(
     links: &mut G,
     query: &Query,
     barred: &[bool],
+    labels: &[Option<Label>],
     head: u32,
     index: u32,
 ) -> Option<Arc>
@@ -29,11 +33,15 @@ pub(crate) fn arc_of<'a, G: Links<'a>>(
     requires index { index < length (G.rows links.old).links }
     requires barred { AreBarred (G.rows links.old) query.now barred.now }
     requires ends { LinkEndsAt (G.rows links.old).nodes (G.rows links.old).links head index }
-    ensures arc { MatchOption result (IsNoArc (G.rows links.old) query.now index) (IsArcOf (G.rows links.old) query.now index) }
+    requires labels { length labels.now ≡ length (G.rows links.old).nodes }
+    ensures arc { MatchOption result (IsIdle (G.rows links.old) query.now labels.now index) (IsArcOf (G.rows links.old) query.now index) }
     ensures same { G.rows links.new ≡ G.rows links.old }
     ensures reads { G.reads links.new ≤ G.reads links.old + 1 }
 {
     let (link, tail) = links.link_with_tail(index);
+    if !can_lower(labels, tail, head) {
+        return None;
+    }
     if !allows(query, link) || bars_ends(barred, tail, head) {
         return None;
     }

@@ -50,7 +50,7 @@ fn spread_link<'a, G: Links<'a>>(
     ensures same { G.rows links.new ≡ G.rows links.old }
     ensures reads { G.reads links.new ≤ G.reads links.old + 1 }
 {
-    if let Some(arc) = arc_of(links, query, barred, head, index) {
+    if let Some(arc) = arc_of(links, query, barred, labels, head, index) {
         spread_arc(query.cap, arc, labels, waiting);
     }
 }

@@ -1,8 +1,9 @@
 //! What an element does with a request.
-ghost use Rattle.std.specs.Prelude.{◌≡◌, ◌≤◌, drop, false, length, IfOk, None};
+ghost use Rattle.std.specs.Prelude.{◌≡◌, ◌≤◌, cond, drop, false, length, true, IfOk, IsOk, None};
 ghost use Rattle.request_table.specs.Pending.{is_full, number_of};
-ghost use Rattle.member_parts.specs.plant_model.Element.{way_to};
+ghost use Rattle.member_parts.specs.plant_model.Element.{only, way_to};
 ghost use Rattle.member_parts.specs.plant_model.RealWire.{wire};
+ghost use Rattle.member_parts.specs.plant_model.Writing.{busy};
 ghost use Rattle.member_parts.specs.plant_model.Taking.{denied, expansion, goes_up, send_on, sent_on, sequence_or, take_along, take_asked, take_new, take_path, take_wish};
 ghost use Rattle.pce_element.specs.Changes.{IsDraft};
 
@@ -193,17 +194,35 @@ impl<W: World> Element<W> {
         Ok(Answer::Paths(one(self.alloc, path)?))
     }
 
+    // The path is looked for where there is room for the request; a full table is answered with the notice, which takes no
+    // more memory.
+    fn path_or_notice(
+        &self,
+        asker: Asker,
+        wanted: Wanted,
+        notice: DraftIn<W>,
+    ) -> Result<DraftIn<W>, NoMemory>
+        requires new { number_of self.now.losing.element.pending asker.peer asker.id ≡ None }
+        requires notice { IsDraft self.now (only asker.peer (busy asker.flags asker.id) self.now.losing.element) notice }
+        ensures draft { IfOk result (IsDraft self.now (cond (is_full self.now.losing.element.pending) (only asker.peer (busy asker.flags asker.id) self.now.losing.element) (take_path self.now.place self.now.current asker.peer asker.class asker.flags asker.id wanted self.now.losing.element))) }
+        ensures full { is_full self.now.losing.element.pending ≡ true → IsOk result }
+    {
+        if self.requests().is_full() {
+            return Ok(notice);
+        }
+        self.take_path(asker, wanted)
+    }
+
+    // The notice is made before the table is looked at, so that want of memory leaves no full table unanswered.
     fn take_wish(&self, asker: Asker, wish: Wish, now: Tick) -> Result<DraftIn<W>, NoMemory>
         requires { number_of self.now.losing.element.pending asker.peer asker.id ≡ None }
         ensures { IfOk result (IsDraft self.now (take_wish W.show self.now.place self.now.current asker.peer asker.class now.0 asker.flags asker.id self.now.losing.element wish)) }
     {
         match wish {
             Wish::Path(wanted) => {
-                if self.requests().is_full() {
-                    let message = busy(self.alloc, asker.flags, asker.id)?;
-                    return self.only(asker.peer, message);
-                }
-                self.take_path(asker, wanted)
+                let message = busy(self.alloc, asker.flags, asker.id)?;
+                let notice = self.only(asker.peer, message)?;
+                self.path_or_notice(asker, wanted, notice)
             }
             Wish::Expand { key, pce } => {
                 let answer = self.expansion(asker.class, key, pce, now)?;

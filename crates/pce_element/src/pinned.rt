@@ -81,16 +81,14 @@ impl<W: World> PinnedRequests<W> {
         ensures rules { ArePending self.now.pending }
     {
         let _count = self.requests.len();
-        let Some(number) = self.requests.nth(k) else {
+        let Some((number, held)) = self.requests.row(k) else {
             return None;
         };
-        let Some(key) = self.requests.key(number) else {
-            unreachable!()
-        };
-        let Some(item) = self.requests.get(number) else {
-            unreachable!()
-        };
-        Some(Row { number, key, item })
+        Some(Row {
+            number,
+            key: held.key,
+            item: &held.item,
+        })
     }
 
     /// How many requests are pending. They obey the rules of a table.

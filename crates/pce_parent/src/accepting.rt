@@ -1,9 +1,10 @@
 //! The parent takes a request.
-ghost use Rattle.std.specs.Prelude.{◌≡◌, ◌≤◌, false, None, length, IfOk};
+ghost use Rattle.std.specs.Prelude.{◌≡◌, ◌≤◌, false, true, None, length, IfOk, IsOk};
 ghost use Rattle.request_table.specs.Pending.{is_full, number_of};
 ghost use Rattle.member_parts.specs.plant_model.RealWire.{wire};
 ghost use Rattle.member_parts.specs.plant_model.Parent.{each, only, all_up, is_up, take_path, take_wish, take_new, take_asked};
 ghost use Rattle.member_parts.specs.plant_model.Element.{way_to};
+ghost use Rattle.member_parts.specs.plant_model.Writing.{busy};
 ghost use Rattle.pce_parent.specs.Changes.{IsDraft};
 
 use crate::asking::Asking;
@@ -69,6 +70,31 @@ impl Parent {
         Ok(Draft { change, outputs })
     }
 
+    // The children are asked where there is room for the request; a full table is answered with the notice, which takes no
+    // more memory.
+    fn ask_or_notice(
+        &self,
+        peer: Peer,
+        flags: u32,
+        id: u32,
+        wanted: Wanted,
+        notice: Draft,
+    ) -> Result<Draft, NoMemory>
+        requires new { number_of self.now.losing.parent.pending peer id ≡ None }
+        requires notice { IsDraft self.now (only peer (busy flags id) self.now.losing.parent) notice }
+        ensures draft { IfOk result (IsDraft self.now (take_wish self.now.family peer flags id self.now.losing.parent (Wish.Path wanted))) }
+        ensures full { is_full self.now.losing.parent.pending ≡ true → IsOk result }
+    {
+        if self.is_full() {
+            return Ok(notice);
+        }
+        if !self.all_up() {
+            return self.says(peer, reply_message(self.alloc, flags, id, unavailable())?);
+        }
+        self.ask_all(peer, flags, id, wanted)
+    }
+
+    // The notice is made before the table is looked at, so that want of memory leaves no full table unanswered.
     fn take_wish(&self, peer: Peer, flags: u32, id: u32, wish: Wish) -> Result<Draft, NoMemory>
         requires { number_of self.now.losing.parent.pending peer id ≡ None }
         ensures { IfOk result (IsDraft self.now (take_wish self.now.family peer flags id self.now.losing.parent wish)) }
@@ -79,13 +105,8 @@ impl Parent {
             }
             Wish::Path(wanted) => wanted,
         };
-        if self.is_full() {
-            return self.says(peer, busy(self.alloc, flags, id)?);
-        }
-        if !self.all_up() {
-            return self.says(peer, reply_message(self.alloc, flags, id, unavailable())?);
-        }
-        self.ask_all(peer, flags, id, wanted)
+        let notice = self.says(peer, busy(self.alloc, flags, id)?)?;
+        self.ask_or_notice(peer, flags, id, wanted, notice)
     }
 
     // A request that is pending already is answered once only.

@@ -28,16 +28,14 @@ pub fn row_at(requests: &Requests<Asking>, k: usize) -> Option<Row<'_>>
     ensures rules { ArePending requests.now.kept }
 {
     let _count = requests.len();
-    let Some(number) = requests.nth(k) else {
+    let Some((number, held)) = requests.row(k) else {
         return None;
     };
-    let Some(key) = requests.key(number) else {
-        unreachable!()
-    };
-    let Some(item) = requests.get(number) else {
-        unreachable!()
-    };
-    Some(Row { number, key, item })
+    Some(Row {
+        number,
+        key: held.key,
+        item: &held.item,
+    })
 }
 
 /// How many requests of a peer are pending.

@@ -1,5 +1,5 @@
 -- A feed and a drain: what they are in the model, and the room that is kept.
-use Rattle.std.proofs.Common.{◌≡◌, ◌∙◌, ℕ, Option, Some, None, Result, Ok, Err, List, [], inl, inr, refl, sym, ap, subst, arith, ◌==◌, Bool, true, false}
+use Rattle.std.proofs.Common.{◌≡◌, ◌∙◌, ℕ, Option, Some, None, Result, Ok, Err, List, [], inl, inr, refl, sym, ap, subst, arith, ◌==◌, Bool, true, false, not}
 use Rattle.dom_base.specs.declared.names.As.{As}
 use Rattle.dom_base.specs.declared.names.Peer.{Peer}
 use Rattle.dom_base.specs.declared.names.Peer.TheVariants.{Outside, Inner}
@@ -14,7 +14,7 @@ use Rattle.plant_members.specs.plant_model.Names.{set_number}
 use Rattle.plant_members.specs.plant_model.Wire.{Bytes}
 use Rattle.plant_members.specs.plant_model.State.{Connection}
 use Rattle.plant_members.specs.plant_model.Events as events
-use Rattle.plant_members.specs.plant_model.Events.{Answered, Happened, drained}
+use Rattle.plant_members.specs.plant_model.Events.{Answered, Happened, drained, takes_feed}
 use Rattle.plant_members.specs.plant_model.RealWire.{wire}
 use Rattle.plant_traffic.specs.declared.peers.Drained.{Drained as Handed}
 use Rattle.plant_traffic.specs.Flow.{Flow, Room, ClearsSaid, change_access, room_at}
@@ -61,6 +61,14 @@ feeds_err i piece old new why feeds = go (old.accesses i).connection feeds
     go : (o : Option Connection) → FeedsConnectionIn i piece o old (Err why) new → new ≡ old
     go None h = h.1
     go (Some x) h = h.err.1
+
+-- memory lacks only where something is taken
+pub feeds_lack : (i : ℕ) (piece : Bytes) (old new : Flow) (why : Refused) → FeedsIn i piece old (Err why) new → why ≡ NoMemory → takes_feed (old.accesses i).connection ≡ true
+feeds_lack i piece old new why feeds lacks = go (old.accesses i).connection feeds
+  where
+    go : (o : Option Connection) → FeedsConnectionIn i piece o old (Err why) new → takes_feed o ≡ true
+    go None h = absurd (let both : Err NoSuchPeer ≡ Err NoMemory = sym h.0 ∙ ap (λ (w : Refused). let r : Result (Unit {0}) Refused = Err w in r) lacks in cc)
+    go (Some x) h = ap not h.over
 
 -- an accepted drain
 pub record Drains (i : ℕ) (old new : Flow) : Type 0 where
@@ -109,13 +117,13 @@ module _ {P : Type 0} {S : Type 0} (show : S → List Hop) (n : NetworkParts) (m
   pub feed_done : (i : ℕ) (piece : Bytes) (f f1 f2 : Flow) → FeedsIn i piece f (Ok tt) f1 → ClearsSaid f1 f2 → IsDoneOrLacks (events.feed P S wire n show i piece (state_of ms f)) (Ok Done) ms f2
   feed_done i piece f f1 f2 feeds clears = elim (feed_happens P S n show i piece f f1 (state_of ms f) (Ok tt) feeds) [
     | inl is ↦ inl (done_by (events.feed P S wire n show i piece (state_of ms f)) (record { answer = Ok Done; state = state_of ms f1; deeds = [] }) (Ok Done) f2 is (record { answer = refl; state = ap (state_of ms) clears.kept; said = ap (λ (g : Flow). g.said) clears.kept }))
-    | inr lacks ↦ absurd (let both : Ok tt ≡ Err NoMemory = lacks.0 in cc)
+    | inr lacks ↦ absurd (let both : Ok tt ≡ Err NoMemory = lacks.1 in cc)
   ]
 
   pub feed_refused : (i : ℕ) (piece : Bytes) (f f1 : Flow) (why : Refused) → FeedsIn i piece f (Err why) f1 → IsDoneOrLacks (events.feed P S wire n show i piece (state_of ms f)) (Err why) ms f1
   feed_refused i piece f f1 why feeds = elim (feed_happens P S n show i piece f f1 (state_of ms f) (Err why) feeds) [
     | inl is ↦ inl (done_by (events.feed P S wire n show i piece (state_of ms f)) (record { answer = Err why; state = state_of ms f1; deeds = [] }) (Err why) f1 is (record { answer = refl; state = refl; said = tt }))
-    | inr lacks ↦ inr (ap (λ (r : Result (Unit {0}) Refused). done_of r) lacks.0)
+    | inr lacks ↦ inr (ap (λ (r : Result (Unit {0}) Refused). done_of r) lacks.1)
   ]
 
   pub drain_done : (i holder : ℕ) (f f1 f2 : Flow) (d : Handed) → DrainsIn i holder f (Ok d) f1 → ClearsSaid f1 f2 → IsDoneOrLacks (events.drain P S wire n show i holder (state_of ms f)) (Ok (Drained d.bytes d.ended)) ms f2

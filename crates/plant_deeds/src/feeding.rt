@@ -1,5 +1,6 @@
 //! Bytes that an outside peer feeds, and bytes that are handed out to it.
-ghost use Rattle.std.specs.Prelude.{OnErr};
+ghost use Rattle.std.specs.Prelude.{◌≡◌, true, Err, OnErr};
+ghost use Rattle.plant_members.specs.plant_model.declared.outcome.Refused.TheVariants.{NoMemory};
 ghost use Rattle.plant_members.specs.plant_model.RealWire.{wire};
 ghost use Rattle.plant_members.specs.plant_model.Events as events;
 ghost use Rattle.plant_traffic.specs.Carried.{flow_of};
@@ -13,7 +14,7 @@ use plant_members::Members;
 use plant_members::model::{Outcome, Refused};
 use plant_traffic::Traffic;
 
-/// An outside peer feeds bytes. A refusal changes nothing but room.
+/// An outside peer feeds bytes. A refusal changes nothing but room; no memory lacks where nothing is taken.
 pub fn feed<M: Members>(
     _members: &M,
     traffic: &mut Traffic,
@@ -25,6 +26,7 @@ pub fn feed<M: Members>(
     ensures of { IsOf (M.network _members.now) (flow_of traffic.new) }
     ensures roomy { IsRoomy (M.network _members.now) (M.seen _members.now) (flow_of traffic.new) }
     ensures refused { OnErr result (OnlyGrows (flow_of traffic.old) (flow_of traffic.new)) }
+    ensures memory { result ≡ Err NoMemory → events.takes_feed ((flow_of traffic.old).accesses peer).connection ≡ true }
     ensures done { IsDoneOrLacks (events.feed M.Pin M.Key wire (M.network _members.now) M.show peer piece.now (state_of (M.seen _members.now) (flow_of traffic.old))) result (M.seen _members.now) (flow_of traffic.new) }
 {
     traffic.feed(peer, piece)?;

@@ -142,5 +142,11 @@ pub mod SolvesWritten
 pub mod ParentWritten
 pub mod EveryWritten
 pub mod WhereWritten
+pub mod PartCauses
+mod ElementCauses
+mod ParentCauses
+mod LostCauses
+mod EventCauses
+mod AllCauses
 -- handed on from below
 pub use Rattle.plant_model.proofs as plant_model

@@ -117,6 +117,8 @@ open_is_pending c codec n es s run sent =
     record {
       tables = held.elements;
       above = held.parent;
+      limits = held.limits;
+      limit_above = held.limit;
       taken = taken c n _ s held;
       pinned = pinned c n _ s held;
       taken_above = taken_above c n _ s held;

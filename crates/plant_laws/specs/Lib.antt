@@ -27,5 +27,7 @@ pub mod Counted
 pub mod Matched
 pub mod Certified
 pub mod Steps
+pub mod MessageCauses
+pub mod Causes
 -- handed on from below
 pub use Rattle.plant_model.specs as plant_model

@@ -5,12 +5,13 @@ use Rattle.dom_base.specs.declared.names.As.{As}
 use Rattle.dom_base.specs.declared.names.Peer.{Peer}
 use Rattle.pcep_messages.specs.declared.message.Request.{Request}
 use Rattle.pcep_messages.specs.declared.message.Wish.TheVariants as wishes
-use Rattle.request_table.specs.Pending.{ArePending}
+use Rattle.request_table.specs.Pending.{ArePending, pending_most}
 use Rattle.plant_text.specs.declared.settings.NetworkParts.{NetworkParts}
 use Rattle.plant_text.specs.Names.{parent_as}
 use Rattle.plant_model.specs.Wire.{Codec}
 use Rattle.plant_model.specs.Element.{Row}
 use Rattle.plant_model.specs.Parent.{AskingRow}
+use Rattle.plant_model.specs.Parent as parent
 use Rattle.plant_model.specs.Plant.{Pin, Plant, Entry, deeds_of}
 use Rattle.plant_laws.specs.Transcript.{Transcript, loads, opened, Delivered}
 use Rattle.plant_laws.specs.Pending.{IsTaken}
@@ -31,6 +32,9 @@ pub record AreTables (c : Codec) (n : NetworkParts) (es : List Entry) (s : Plant
   -- each pair of peer and id once, and numbers rise
   pub tables : (d : As) → ArePending (s.elements d).pending
   pub above : ArePending s.parent.pending
+  -- how many each may hold
+  pub limits : (d : As) → (s.elements d).pending.limit ≡ pending_most
+  pub limit_above : s.parent.pending.limit ≡ parent.pending_most
   -- a pending request is the one that was delivered, and its pin has the number of the topology loaded last before
   pub taken : (d : As) (h : Row Pin) → Contains (s.elements d).pending.rows h → IsTaken c n (deeds_of c n es) d h
   pub pinned : (d : As) (h : Row Pin) (i : Contains (s.elements d).pending.rows h) → h.1.item.pin.number ≡ loads d (taken d h i).at

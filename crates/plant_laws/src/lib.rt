@@ -5,6 +5,7 @@
 
 ghost use Rattle.plant_laws.specs.Answered.{RequestsAreAnsweredOnce, RequestsAreAnsweredOnceIn};
 ghost use Rattle.plant_laws.specs.Certified.{SolvesCertify, SolvesCertifyIn};
+ghost use Rattle.plant_laws.specs.Causes.{MessagesHaveCauses, NetworksBegin};
 ghost use Rattle.plant_laws.specs.Chains.{OneChain, OneChainIn, QuietIsAnswered, QuietIsAnsweredIn};
 ghost use Rattle.plant_laws.specs.Counted.{ElementIdsDiffer, IdsCount};
 ghost use Rattle.plant_laws.specs.Headline.{LeastAnswers, LeastAnswersIn, NoneAnswers, NoneAnswersIn};
@@ -221,6 +222,15 @@ pub fn ids_count()
 pub fn replies_match()
     ensures standing { RepliesMatch }
     ensures taken { RepliesAnswer }
+{}
+
+// ---- causes
+
+/// Each message that an element or the parent puts out in a run has its cause, and where the cause stands it
+/// is put out.
+pub fn messages_have_causes()
+    ensures causes { MessagesHaveCauses }
+    ensures begin { NetworksBegin }
 {}
 
 // ---- over PCEP

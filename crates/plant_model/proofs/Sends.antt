@@ -222,7 +222,7 @@ sixteen_octets m n = refl
 kinds_differ : (a b : ℕ) → a ≡ 32 → b ≡ 128 → a ≡ b → ⊥
 kinds_differ a b e f g = omega (arith, e, f, g)
 
-ends_part : (s t : Addr) → IsAddr s → IsAddr t → bits_of s ≡ bits_of t → IsPart 36 (ends s t ∷ [])
+pub ends_part : (s t : Addr) → IsAddr s → IsAddr t → bits_of s ≡ bits_of t → IsPart 36 (ends s t ∷ [])
 ends_part (V4 m) (V4 n) p q e =
     joined 12 24 (ends (V4 m) (V4 n) ∷ []) [] (alone_part (ends (V4 m) (V4 n)) 12 (lit< tt) (lit< tt) (lit< tt) (refl, refl) (p, q) tt (four_octets m n) refl) (nothing 24)
 ends_part (V6 m) (V6 n) p q e = alone_part (ends (V6 m) (V6 n)) 36 (lit< tt) (lit< tt) (lit< tt) (refl, refl) (p, q) tt (sixteen_octets m n) refl
@@ -237,7 +237,7 @@ lspa_part (Some m) h = record {
   no_rp = refl;
 }
 
-bandwidth_part : (o : Option ℕ) → Maybe IsWord o → IsPart 8 (bandwidth o)
+pub bandwidth_part : (o : Option ℕ) → Maybe IsWord o → IsPart 8 (bandwidth o)
 bandwidth_part None h = nothing 8
 bandwidth_part (Some word) h = record { written = (record { class = omega arith; octets = tt; kind = omega arith; placed = (refl, refl); fits = h; small = omega arith }, tt); short = omega arith; no_rp = refl }
 
@@ -260,7 +260,7 @@ hops_written (a ∷ s) all = (All-head (λ (a : As). a.0 < 2 ^ 16) a s all, hops
 pub alone_short : (o : Object) (n : ℕ) → length (object_text o) ≤ n → length (flat_map object_text (o ∷ [])) ≤ n
 alone_short o n le = omega (arith, ap length (append-nil (object_text o)), le)
 
-iro_part : (s : List As) → length s ≤ 16 → All (λ (a : As). a.0 < 2 ^ 16) s → IsPart 68 (iro s)
+pub iro_part : (s : List As) → length s ≤ 16 → All (λ (a : As). a.0 < 2 ^ 16) s → IsPart 68 (iro s)
 iro_part [] few all = nothing 68
 iro_part (a ∷ s) few all =
     let o = needed 10 (bodies.Iro (map as_hop (a ∷ s))) in

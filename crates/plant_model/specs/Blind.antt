@@ -104,21 +104,21 @@ module _ (c : Codec) (n : NetworkParts) where
   BlindHappens s (blind.Solve d k rows) h = SolveHappens d k rows s h
   BlindHappens s e h = h ≡ happened s e
 
-  -- events that may be refused for want of memory
-  abbrev pub needs_memory : BlindEvent → Bool
-  needs_memory (blind.Open i holder) = true
-  needs_memory (blind.Shut i) = false
-  needs_memory (blind.Feed i bytes) = true
-  needs_memory (blind.Take i) = true
-  needs_memory (blind.Carry a b) = true
-  needs_memory (blind.Break a b) = false
-  needs_memory (blind.Solve d k rows) = true
-  needs_memory (blind.Tick t) = false
-  needs_memory (blind.Drain i holder) = true
+  -- whether an event may be refused for want of memory: not where it takes none
+  abbrev pub needs_memory : BlindState → BlindEvent → Bool
+  needs_memory s (blind.Open i holder) = true
+  needs_memory s (blind.Shut i) = false
+  needs_memory s (blind.Feed i bytes) = events.takes_feed (s.accesses i).connection
+  needs_memory s (blind.Take i) = true
+  needs_memory s (blind.Carry a b) = true
+  needs_memory s (blind.Break a b) = false
+  needs_memory s (blind.Solve d k rows) = true
+  needs_memory s (blind.Tick t) = false
+  needs_memory s (blind.Drain i holder) = true
 
   -- A step: what happens, or want of memory, which changes nothing.
   abbrev pub BlindSteps : BlindState → BlindEvent → BlindHappened → Type 0
-  BlindSteps s e h = BlindHappens s e h ⊎ ((needs_memory e ≡ true) × (h ≡ events.refused Nothing Nothing c n show_nothing NoMemory s))
+  BlindSteps s e h = BlindHappens s e h ⊎ ((needs_memory s e ≡ true) × (h ≡ events.refused Nothing Nothing c n show_nothing NoMemory s))
 
   abbrev pub blind_opened : Going Nothing Nothing
   blind_opened = events.opening Nothing Nothing c n show_nothing (λ d. tt)

@@ -1,5 +1,5 @@
 -- The events of a network that take no topology: each with its answer, or its refusal, which changes nothing.
-use Rattle.std.specs.Prelude.{ℕ, ◌+◌, ◌%◌, nat_eq, is_some, Bool, true, false, cond, ◌==◌, nat_lt, List, [], ◌∷◌, ◌++◌, map, Option, Some, None, Result, Ok, Err}
+use Rattle.std.specs.Prelude.{ℕ, ◌+◌, ◌%◌, nat_eq, is_some, Bool, true, false, not, cond, ◌==◌, nat_lt, List, [], ◌∷◌, ◌++◌, map, Option, Some, None, Result, Ok, Err}
 use Rattle.dom_base.specs.declared.names.As.{As}
 use Rattle.dom_base.specs.declared.names.Peer.TheVariants.{Outside}
 use Rattle.pcep_subobjects.specs.declared.hop.Hop.{Hop}
@@ -61,6 +61,11 @@ is_down phase.Idle = false
 is_down phase.OpenWait = false
 is_down phase.KeepWait = false
 is_down phase.Up = false
+
+-- whether what a peer feeds is taken: it is open, and its session is not over
+abbrev pub takes_feed : Option Connection → Bool
+takes_feed None = false
+takes_feed (Some x) = not (is_down x.session.phase)
 
 -- the number is that of a ready job
 abbrev pub is_ready_row : {P : Type 0} → Option (Held (Item P)) → Bool

@@ -147,22 +147,22 @@ module _ (c : Codec) (n : NetworkParts) where
   Happens s (event.Solve d k) h = SolveHappens d k s h
   Happens s e h = h ≡ happened s e
 
-  -- events that may be refused for want of memory
-  abbrev pub needs_memory : Event → Bool
-  needs_memory (event.Load d g) = true
-  needs_memory (event.Open i holder) = true
-  needs_memory (event.Shut i) = false
-  needs_memory (event.Feed i bytes) = true
-  needs_memory (event.Take i) = true
-  needs_memory (event.Carry a b) = true
-  needs_memory (event.Break a b) = false
-  needs_memory (event.Solve d k) = true
-  needs_memory (event.Tick t) = false
-  needs_memory (event.Drain i holder) = true
+  -- whether an event may be refused for want of memory: not where it takes none
+  abbrev pub needs_memory : Plant → Event → Bool
+  needs_memory s (event.Load d g) = true
+  needs_memory s (event.Open i holder) = true
+  needs_memory s (event.Shut i) = false
+  needs_memory s (event.Feed i bytes) = events.takes_feed (s.accesses i).connection
+  needs_memory s (event.Take i) = true
+  needs_memory s (event.Carry a b) = true
+  needs_memory s (event.Break a b) = false
+  needs_memory s (event.Solve d k) = true
+  needs_memory s (event.Tick t) = false
+  needs_memory s (event.Drain i holder) = true
 
   -- A step: what happens, or want of memory, which changes nothing.
   abbrev pub Steps : Plant → Event → Happened → Type 0
-  Steps s e h = Happens s e h ⊎ ((needs_memory e ≡ true) × (h ≡ refused NoMemory s))
+  Steps s e h = Happens s e h ⊎ ((needs_memory s e ≡ true) × (h ≡ refused NoMemory s))
 
   abbrev pub opened : Going Pin Segment
   opened = events.opening Pin Segment c n open_of first_pin

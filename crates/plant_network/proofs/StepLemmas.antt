@@ -81,32 +81,33 @@ module _ {P : Type 0} {S : Type 0} (show : S → List Hop) (event : NetworkParts
   happening = event old.network (whole old).state
 
   -- one that may lack memory
-  pub either_moves : IsDoneOrLacks happening told new.seen new.flow → OnErr told ((new.seen ≡ old.seen) × OnlyGrows old.flow new.flow) → Moves (OrLacks show true event) old told new
-  either_moves done refused = record { stepped = go done; kept = kept old new network of none roomy }
+  pub either_moves : (needs : State P S → Bool) → (told ≡ Err NoMemory → needs (whole old).state ≡ true) → IsDoneOrLacks happening told new.seen new.flow →
+      OnErr told ((new.seen ≡ old.seen) × OnlyGrows old.flow new.flow) → Moves (OrLacks show needs event) old told new
+  either_moves needs may done refused = record { stepped = go done; kept = kept old new network of none roomy }
     where
       left : OnErr told (Stays old new)
       left = stays old new told refused
 
-      go : IsDoneOrLacks happening told new.seen new.flow → Stepped (OrLacks show true event) (whole old) told (whole new)
-      go (inl is) = done_steps (OrLacks show true event) old new told network happening (λ x same. inl same) is (grows old new told left)
-      go (inr lacks) = lacks_steps (OrLacks show true event) old new told network (λ x same. inr (refl, same)) lacks (subst (λ (a : Answered). OnErr a (Stays old new)) lacks left)
+      go : IsDoneOrLacks happening told new.seen new.flow → Stepped (OrLacks show needs event) (whole old) told (whole new)
+      go (inl is) = done_steps (OrLacks show needs event) old new told network happening (λ x same. inl same) is (grows old new told left)
+      go (inr lacks) = lacks_steps (OrLacks show needs event) old new told network (λ x same. inr (may lacks, same)) lacks (subst (λ (a : Answered). OnErr a (Stays old new)) lacks left)
 
   -- one that takes none
-  pub done_moves : (needs : Bool) → IsDone happening told new.seen new.flow → OnErr told ((new.seen ≡ old.seen) × OnlyGrows old.flow new.flow) → Moves (OrLacks show needs event) old told new
+  pub done_moves : (needs : State P S → Bool) → IsDone happening told new.seen new.flow → OnErr told ((new.seen ≡ old.seen) × OnlyGrows old.flow new.flow) → Moves (OrLacks show needs event) old told new
   done_moves needs done refused = record {
     stepped = done_steps (OrLacks show needs event) old new told network happening (λ x same. inl same) done (grows old new told (stays old new told refused));
     kept = kept old new network of none roomy;
   }
 
   -- one that is always accepted
-  pub ok_moves : (needs : Bool) (o : Outcome) → happening.answer ≡ Ok o → IsDone happening told new.seen new.flow → Moves (OrLacks show needs event) old told new
+  pub ok_moves : (needs : State P S → Bool) (o : Outcome) → happening.answer ≡ Ok o → IsDone happening told new.seen new.flow → Moves (OrLacks show needs event) old told new
   ok_moves needs o is done = done_moves needs done (subst (λ (a : Answered). OnErr a ((new.seen ≡ old.seen) × OnlyGrows old.flow new.flow)) (sym (done.answer ∙ is)) tt)
 
 -- one that leaves members as they are
 pub still_moves : {P : Type 0} {S : Type 0} (show : S → List Hop) (event : NetworkParts → State P S → Happened P S) (old new : Here P S) (told : Answered) →
-    IsOf old.network new.flow → ((d : As) → old.lost d ≡ []) → IsRoomy old.network old.seen new.flow → IsDoneOrLacks (event old.network (whole old).state) told old.seen new.flow →
-    OnErr told (OnlyGrows old.flow new.flow) → Moves (OrLacks show true event) old told (record old { flow = new.flow })
-still_moves show event old new told of none roomy done refused = either_moves show event old (record old { flow = new.flow }) told refl of none roomy done (both told refused)
+    IsOf old.network new.flow → ((d : As) → old.lost d ≡ []) → IsRoomy old.network old.seen new.flow → (needs : State P S → Bool) → (told ≡ Err NoMemory → needs (whole old).state ≡ true) → IsDoneOrLacks (event old.network (whole old).state) told old.seen new.flow →
+    OnErr told (OnlyGrows old.flow new.flow) → Moves (OrLacks show needs event) old told (record old { flow = new.flow })
+still_moves show event old new told of none roomy needs may done refused = either_moves show event old (record old { flow = new.flow }) told refl of none roomy needs may done (both told refused)
   where
     both : (a : Answered) → OnErr a (OnlyGrows old.flow new.flow) → OnErr a ((old.seen ≡ old.seen) × OnlyGrows old.flow new.flow)
     both (Ok o) r = tt

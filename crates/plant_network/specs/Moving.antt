@@ -43,5 +43,5 @@ module _ {P : Type 0} {S : Type 0} where
     pub kept : IsKept new
 
   -- this happens, or it is refused for want of memory where that may be, and nothing changes
-  abbrev pub OrLacks : (S → List Hop) → Bool → (NetworkParts → State P S → Happened P S) → Step P S
-  OrLacks show needs happens n s h = (h ≡ happens n s) ⊎ ((needs ≡ true) × (h ≡ refused P S wire n show NoMemory s))
+  abbrev pub OrLacks : (S → List Hop) → (State P S → Bool) → (NetworkParts → State P S → Happened P S) → Step P S
+  OrLacks show needs happens n s h = (h ≡ happens n s) ⊎ ((needs s ≡ true) × (h ≡ refused P S wire n show NoMemory s))

@@ -24,7 +24,7 @@ pub fn open<M: Members>(
     holder: u32,
 ) -> Result<Outcome, Refused>
     requires sound { IsSound (here (M.network members.old) (M.seen members.old) (M.lost members.old) (flow_of traffic.old)) }
-    ensures { Moves (OrLacks M.show true (λ n s. events.open_peer M.Pin M.Key wire n M.show peer holder s)) (here (M.network members.old) (M.seen members.old) (M.lost members.old) (flow_of traffic.old)) result (here (M.network members.new) (M.seen members.new) (M.lost members.new) (flow_of traffic.new)) }
+    ensures { Moves (OrLacks M.show (λ s. true) (λ n s. events.open_peer M.Pin M.Key wire n M.show peer holder s)) (here (M.network members.old) (M.seen members.old) (M.lost members.old) (flow_of traffic.old)) result (here (M.network members.new) (M.seen members.new) (M.lost members.new) (flow_of traffic.new)) }
 {
     opened(members, traffic, peer, holder)
 }
@@ -36,7 +36,7 @@ pub fn shut<M: Members>(
     peer: u32,
 ) -> Result<Outcome, Refused>
     requires sound { IsSound (here (M.network members.old) (M.seen members.old) (M.lost members.old) (flow_of traffic.old)) }
-    ensures { Moves (OrLacks M.show false (λ n s. events.shut M.Pin M.Key wire n M.show peer s)) (here (M.network members.old) (M.seen members.old) (M.lost members.old) (flow_of traffic.old)) result (here (M.network members.new) (M.seen members.new) (M.lost members.new) (flow_of traffic.new)) }
+    ensures { Moves (OrLacks M.show (λ s. false) (λ n s. events.shut M.Pin M.Key wire n M.show peer s)) (here (M.network members.old) (M.seen members.old) (M.lost members.old) (flow_of traffic.old)) result (here (M.network members.new) (M.seen members.new) (M.lost members.new) (flow_of traffic.new)) }
 {
     closed(members, traffic, peer)
 }
@@ -49,7 +49,7 @@ pub fn feed<M: Members>(
     piece: Bytes,
 ) -> Result<Outcome, Refused>
     requires sound { IsSound (here (M.network members.old) (M.seen members.old) (M.lost members.old) (flow_of traffic.old)) }
-    ensures { Moves (OrLacks M.show true (λ n s. events.feed M.Pin M.Key wire n M.show peer piece s)) (here (M.network members.old) (M.seen members.old) (M.lost members.old) (flow_of traffic.old)) result (here (M.network members.new) (M.seen members.new) (M.lost members.new) (flow_of traffic.new)) }
+    ensures { Moves (OrLacks M.show (λ s. events.takes_feed (s.accesses peer).connection) (λ n s. events.feed M.Pin M.Key wire n M.show peer piece s)) (here (M.network members.old) (M.seen members.old) (M.lost members.old) (flow_of traffic.old)) result (here (M.network members.new) (M.seen members.new) (M.lost members.new) (flow_of traffic.new)) }
 {
     fed(members, traffic, peer, piece.as_slice())
 }
@@ -62,7 +62,7 @@ pub fn take<M: Members>(
     peer: u32,
 ) -> Result<Outcome, Refused>
     requires sound { IsSound (here (M.network members.old) (M.seen members.old) (M.lost members.old) (flow_of traffic.old)) }
-    ensures { Moves (OrLacks M.show true (λ n s. events.take M.Pin M.Key wire n M.show peer s)) (here (M.network members.old) (M.seen members.old) (M.lost members.old) (flow_of traffic.old)) result (here (M.network members.new) (M.seen members.new) (M.lost members.new) (flow_of traffic.new)) }
+    ensures { Moves (OrLacks M.show (λ s. true) (λ n s. events.take M.Pin M.Key wire n M.show peer s)) (here (M.network members.old) (M.seen members.old) (M.lost members.old) (flow_of traffic.old)) result (here (M.network members.new) (M.seen members.new) (M.lost members.new) (flow_of traffic.new)) }
 {
     taken(alloc, members, traffic, peer)
 }
@@ -76,7 +76,7 @@ pub fn carry<M: Members>(
     to: As,
 ) -> Result<Outcome, Refused>
     requires sound { IsSound (here (M.network members.old) (M.seen members.old) (M.lost members.old) (flow_of traffic.old)) }
-    ensures { Moves (OrLacks M.show true (λ n s. events.carry M.Pin M.Key wire n M.show from to s)) (here (M.network members.old) (M.seen members.old) (M.lost members.old) (flow_of traffic.old)) result (here (M.network members.new) (M.seen members.new) (M.lost members.new) (flow_of traffic.new)) }
+    ensures { Moves (OrLacks M.show (λ s. true) (λ n s. events.carry M.Pin M.Key wire n M.show from to s)) (here (M.network members.old) (M.seen members.old) (M.lost members.old) (flow_of traffic.old)) result (here (M.network members.new) (M.seen members.new) (M.lost members.new) (flow_of traffic.new)) }
 {
     carried(alloc, members, traffic, from, to)
 }
@@ -89,7 +89,7 @@ pub fn break_link<M: Members>(
     b: As,
 ) -> Result<Outcome, Refused>
     requires sound { IsSound (here (M.network members.old) (M.seen members.old) (M.lost members.old) (flow_of traffic.old)) }
-    ensures { Moves (OrLacks M.show false (λ n s. events.break M.Pin M.Key wire n M.show a b s)) (here (M.network members.old) (M.seen members.old) (M.lost members.old) (flow_of traffic.old)) result (here (M.network members.new) (M.seen members.new) (M.lost members.new) (flow_of traffic.new)) }
+    ensures { Moves (OrLacks M.show (λ s. false) (λ n s. events.break M.Pin M.Key wire n M.show a b s)) (here (M.network members.old) (M.seen members.old) (M.lost members.old) (flow_of traffic.old)) result (here (M.network members.new) (M.seen members.new) (M.lost members.new) (flow_of traffic.new)) }
 {
     broken(members, traffic, a, b)
 }
@@ -101,7 +101,7 @@ pub fn tick<M: Members>(
     now: Tick,
 ) -> Result<Outcome, Refused>
     requires sound { IsSound (here (M.network members.old) (M.seen members.old) (M.lost members.old) (flow_of traffic.old)) }
-    ensures { Moves (OrLacks M.show false (λ n s. events.tick M.Pin M.Key wire n M.show now.0 s)) (here (M.network members.old) (M.seen members.old) (M.lost members.old) (flow_of traffic.old)) result (here (M.network members.new) (M.seen members.new) (M.lost members.new) (flow_of traffic.new)) }
+    ensures { Moves (OrLacks M.show (λ s. false) (λ n s. events.tick M.Pin M.Key wire n M.show now.0 s)) (here (M.network members.old) (M.seen members.old) (M.lost members.old) (flow_of traffic.old)) result (here (M.network members.new) (M.seen members.new) (M.lost members.new) (flow_of traffic.new)) }
 {
     ticked(members, traffic, now)
 }
@@ -114,7 +114,7 @@ pub fn drain<M: Members>(
     holder: u32,
 ) -> Result<Outcome, Refused>
     requires sound { IsSound (here (M.network members.old) (M.seen members.old) (M.lost members.old) (flow_of traffic.old)) }
-    ensures { Moves (OrLacks M.show true (λ n s. events.drain M.Pin M.Key wire n M.show peer holder s)) (here (M.network members.old) (M.seen members.old) (M.lost members.old) (flow_of traffic.old)) result (here (M.network members.new) (M.seen members.new) (M.lost members.new) (flow_of traffic.new)) }
+    ensures { Moves (OrLacks M.show (λ s. true) (λ n s. events.drain M.Pin M.Key wire n M.show peer holder s)) (here (M.network members.old) (M.seen members.old) (M.lost members.old) (flow_of traffic.old)) result (here (M.network members.new) (M.seen members.new) (M.lost members.new) (flow_of traffic.new)) }
 {
     drained(members, traffic, peer, holder)
 }

@@ -1,5 +1,5 @@
 //! An open connection of an outside peer.
-ghost use Rattle.std.specs.Prelude.{◌≡◌, [], drop, length, slice_get, IfOk, OnOk, OnErr, IsTrue};
+ghost use Rattle.std.specs.Prelude.{◌≡◌, [], drop, length, slice_get, IfOk, OnOk, OnErr, IsTrue, false};
 ghost use Rattle.std.specs.Option.{option_map};
 ghost use Rattle.pcep_framing.specs.Frames.{joined};
 ghost use Rattle.plant_queues.specs.Messages.{Covers};
@@ -83,10 +83,11 @@ impl Connection {
     }
 
     /// Takes a piece of the peer's stream: its whole messages go into the inbox, one for each request
-    /// or reply, and nothing once the session is over. An `Err` changes nothing.
+    /// or reply, and nothing once the session is over, which takes no memory. An `Err` changes nothing.
     pub fn feed(&mut self, piece: &[u8]) -> Result<(), NoMemory>
         ensures ok { OnOk result (self.new ≡ with_kept (fed_while_up piece.now self.old.kept) self.old) }
         ensures err { OnErr result (self.new ≡ self.old) }
+        ensures over { OnErr result (events.is_down self.old.kept.session.phase ≡ false) }
     {
         if self.is_down() {
             return Ok(());

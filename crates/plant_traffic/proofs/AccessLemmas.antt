@@ -140,7 +140,7 @@ module _ (i : ℕ) (old new : List Access) where
       there : (o : Option Connected) → h.before.connection ≡ o → (before.accesses i).connection ≡ (access_of (record { opened = h.before.opened; connection = o })).connection
       there o is = ap (λ (a : model.Access). a.connection) (connection_is (FeedsAccess piece r) h o is)
 
-      by_result : (x : Connected) → h.before.connection ≡ Some x → (z : Result (Unit {0}) Refused) → accesses.FeedsOpen piece x z h.before h.after → peers.FeedsOpen i piece before z now
+      by_result : (x : Connected) → h.before.connection ≡ Some x → (z : Result (Unit {0}) Refused) → accesses.FeedsOpen piece x z h.before h.after → peers.FeedsOpen i piece x.kept before z now
       by_result x is (Ok u) does = record {
         ok = connection_changes (fed_while_up piece) i old new (record {
           before = h.before;
@@ -150,8 +150,9 @@ module _ (i : ℕ) (old new : List Access) where
           changes = does.ok ∙ sym (ap (λ (o : Option Connected). on_connected (fed_while_up piece) (record { opened = h.before.opened; connection = o })) is);
         });
         err = tt;
+        over = tt;
       }
-      by_result x is (Err why) does = record { ok = tt; err = (does.err.0, unchanged (FeedsAccess piece r) h does.err.1) }
+      by_result x is (Err why) does = record { ok = tt; err = (does.err.0, unchanged (FeedsAccess piece r) h does.err.1); over = does.over }
 
       go : (o : Option Connected) → h.before.connection ≡ o → accesses.FeedsConnection piece o r h.before h.after → FeedsPeer i piece before r now
       go None is does = subst (λ (k : Option model.Connection). peers.FeedsConnection i piece k before r now) (sym (there None is)) (does.0, unchanged (FeedsAccess piece r) h does.1)

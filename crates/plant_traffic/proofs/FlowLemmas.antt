@@ -201,7 +201,7 @@ module _ (a : Seen) (i : ℕ) (g : Guests) where
     where
       go : (o : Option model.Connection) → peers.FeedsConnection i piece o a.peers result g → FeedsConnectionIn i piece o before result (with_peers g)
       go None does = (does.0, ap with_peers does.1)
-      go (Some x) does = record { ok = on_ok result (λ is. ap with_peers is) does.ok; err = on_err result (λ is. (is.0, ap with_peers is.1)) does.err }
+      go (Some x) does = record { ok = on_ok result (λ is. ap with_peers is) does.ok; err = on_err result (λ is. (is.0, ap with_peers is.1)) does.err; over = does.over }
 
   pub outside_drains : (holder : ℕ) (result : Result Drained Refused) → DrainsPeer i holder a.peers result g → DrainsIn i holder before result (with_peers g)
   outside_drains holder result h = go (a.peers.accesses i).connection h

@@ -1,5 +1,5 @@
 -- What an outside peer feeds, and what it is handed out, are events of the model.
-use Rattle.std.proofs.Common.{◌≡◌, ◌==◌, ℕ, Bool, true, false, cond, Option, Some, None, Result, Ok, Err, List, [], refl, sym, ◌∙◌, ap, inl, inr}
+use Rattle.std.proofs.Common.{◌≡◌, ◌==◌, ℕ, Bool, true, false, not, cond, Option, Some, None, Result, Ok, Err, List, [], refl, sym, ◌∙◌, ap, inl, inr}
 use Rattle.std.specs.Prelude.{◌⊎◌}
 use Rattle.pcep_subobjects.specs.declared.hop.Hop.{Hop}
 use Rattle.pcep_framing.specs.Frames.{joined}
@@ -12,7 +12,7 @@ use Rattle.plant_layout.specs.plant_model.Wire.{Bytes, Codec}
 use Rattle.plant_layout.specs.plant_model.RealWire.{wire}
 use Rattle.plant_layout.specs.plant_model.State.{Connection, Access, State}
 use Rattle.plant_layout.specs.plant_model.Deeds.{with_access, on_connection}
-use Rattle.plant_layout.specs.plant_model.Events.{Answered, Happened, fed, is_down, drained, feed, feed_open, drain, drain_open, answered, idle}
+use Rattle.plant_layout.specs.plant_model.Events.{Answered, Happened, fed, is_down, takes_feed, drained, feed, feed_open, drain, drain_open, answered, idle}
 use Rattle.plant_sessions.specs.Ends.{fed_while_up}
 use Rattle.plant_traffic.specs.declared.peers.Drained.{Drained as Handed}
 use Rattle.plant_traffic.specs.Flow.{Flow, with_flow, change_access}
@@ -51,18 +51,18 @@ module _ (P : Type 0) (S : Type 0) (n : NetworkParts) (show : S → List Hop) (i
           ap (λ (a : Access). states (set_number i a old.accesses)) fed_is
 
   abbrev FedClaim : Result (Unit {0}) Refused → Type 0
-  FedClaim z = (feed P S wire n show i piece (with_flow old s) ≡ happens (done_of z) new) ⊎ ((z ≡ Err NoMemory) × (new ≡ old))
+  FedClaim z = (feed P S wire n show i piece (with_flow old s) ≡ happens (done_of z) new) ⊎ ((takes_feed (old.accesses i).connection ≡ true) × (z ≡ Err NoMemory) × (new ≡ old))
 
   pub feed_happens : (r : Result (Unit {0}) Refused) → FeedsIn i piece old r new →
-      (feed P S wire n show i piece (with_flow old s) ≡ record { answer = done_of r; state = with_flow new s; deeds = [] }) ⊎ ((r ≡ Err NoMemory) × (new ≡ old))
+      (feed P S wire n show i piece (with_flow old s) ≡ record { answer = done_of r; state = with_flow new s; deeds = [] }) ⊎ ((takes_feed (old.accesses i).connection ≡ true) × (r ≡ Err NoMemory) × (new ≡ old))
   feed_happens r feeds = go (old.accesses i).connection refl feeds
     where
-      some : (x : Connection) → (old.accesses i).connection ≡ Some x → (z : Result (Unit {0}) Refused) → FeedsOpenIn i piece old z new → FedClaim z
+      some : (x : Connection) → (old.accesses i).connection ≡ Some x → (z : Result (Unit {0}) Refused) → FeedsOpenIn i piece x old z new → FedClaim z
       some x is (Ok u) h =
           inl (ap by_connection is
           ∙ ap (λ (t : State P S). answered P S wire n show Done (idle P S wire n show t)) (fed_state x is (is_down x.session.phase) refl)
           ∙ ap (happens (Ok Done)) (sym h.ok))
-      some x is (Err why) h = inr h.err
+      some x is (Err why) h = inr (ap takes_feed is ∙ ap not h.over, h.err.0, h.err.1)
 
       go : (o : Option Connection) → (old.accesses i).connection ≡ o → FeedsConnectionIn i piece o old r new → FedClaim r
       go None is h = inl (ap by_connection is ∙ ap (happens (Err NoSuchPeer)) (sym h.1) ∙ ap (λ (z : Result (Unit {0}) Refused). happens (done_of z) new) (sym h.0))

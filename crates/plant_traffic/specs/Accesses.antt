@@ -8,7 +8,7 @@ use Rattle.plant_layout.specs.plant_model.declared.outcome.Refused.TheVariants.{
 use Rattle.plant_layout.specs.plant_model.Wire.{Bytes}
 use Rattle.plant_layout.specs.plant_model.State as model
 use Rattle.plant_layout.specs.plant_model.Deeds.{with_more}
-use Rattle.plant_layout.specs.plant_model.Events.{drained}
+use Rattle.plant_layout.specs.plant_model.Events.{is_down, drained}
 use Rattle.plant_sessions.specs.declared.access.Access.{Access}
 use Rattle.plant_sessions.specs.Ends.{Connected, fed_while_up, just_open, with_kept}
 use Rattle.plant_sessions.specs.Rooms.{Queue, KeepsRoom, Grows, Spends, Frees, queue}
@@ -70,6 +70,7 @@ SendsAccess message old new = SendsConnection message old.connection old new
 pub record FeedsOpen (piece : Bytes) (x : Connected) (r : Result (Unit {0}) Refused) (old new : Access) : Type 0 where
   pub ok : OnOk r (new ≡ record old { connection = Some (with_kept (fed_while_up piece x.kept) x) })
   pub err : OnErr r ((r ≡ Err NoMemory) × (new ≡ old))
+  pub over : OnErr r (is_down x.kept.session.phase ≡ false)
 
 abbrev pub FeedsConnection : Bytes → Option Connected → Result (Unit {0}) Refused → Access → Access → Type 0
 FeedsConnection piece None r old new = (r ≡ Err NoSuchPeer) × (new ≡ old)

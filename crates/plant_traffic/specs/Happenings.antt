@@ -6,7 +6,7 @@ use Rattle.plant_layout.specs.plant_model.declared.outcome.Refused.TheVariants.{
 use Rattle.plant_layout.specs.plant_model.Names.{set_number}
 use Rattle.plant_layout.specs.plant_model.Wire.{Bytes}
 use Rattle.plant_layout.specs.plant_model.State.{Connection, Deed, Hands}
-use Rattle.plant_layout.specs.plant_model.Events.{Answered, drained}
+use Rattle.plant_layout.specs.plant_model.Events.{Answered, is_down, drained}
 use Rattle.plant_sessions.specs.Ends.{fed_while_up}
 use Rattle.plant_sessions.specs.Rooms.{Frees, queue}
 use Rattle.plant_traffic.specs.declared.peers.Drained.{Drained as Handed}
@@ -15,13 +15,14 @@ use Rattle.plant_traffic.specs.Flow.{Flow, change_access}
 
 -- ---- a feed
 
-pub record FeedsOpenIn (i : ℕ) (piece : Bytes) (old : Flow) (r : Result (Unit {0}) Refused) (new : Flow) : Type 0 where
+pub record FeedsOpenIn (i : ℕ) (piece : Bytes) (x : Connection) (old : Flow) (r : Result (Unit {0}) Refused) (new : Flow) : Type 0 where
   pub ok : OnOk r (new ≡ change_access i (fed_while_up piece) old)
   pub err : OnErr r ((r ≡ Err NoMemory) × (new ≡ old))
+  pub over : OnErr r (is_down x.session.phase ≡ false)
 
 abbrev pub FeedsConnectionIn : ℕ → Bytes → Option Connection → Flow → Result (Unit {0}) Refused → Flow → Type 0
 FeedsConnectionIn i piece None old r new = (r ≡ Err NoSuchPeer) × (new ≡ old)
-FeedsConnectionIn i piece (Some x) old r new = FeedsOpenIn i piece old r new
+FeedsConnectionIn i piece (Some x) old r new = FeedsOpenIn i piece x old r new
 
 abbrev pub FeedsIn : ℕ → Bytes → Flow → Result (Unit {0}) Refused → Flow → Type 0
 FeedsIn i piece old r new = FeedsConnectionIn i piece (old.accesses i).connection old r new

@@ -83,13 +83,15 @@ pub record SendsGuest (i : ℕ) (message : Bytes) (old new : Guests) : Type 0 wh
 
 -- ---- a feed
 
-pub record FeedsOpen (i : ℕ) (piece : Bytes) (old : Guests) (r : Result (Unit {0}) Refused) (new : Guests) : Type 0 where
+-- nothing is taken where its session is over, so no memory lacks then
+pub record FeedsOpen (i : ℕ) (piece : Bytes) (x : model.Connection) (old : Guests) (r : Result (Unit {0}) Refused) (new : Guests) : Type 0 where
   pub ok : OnOk r (new ≡ change_guest i (fed_while_up piece) old)
   pub err : OnErr r ((r ≡ Err NoMemory) × (new ≡ old))
+  pub over : OnErr r (is_down x.session.phase ≡ false)
 
 abbrev pub FeedsConnection : ℕ → Bytes → Option model.Connection → Guests → Result (Unit {0}) Refused → Guests → Type 0
 FeedsConnection i piece None old r new = (r ≡ Err NoSuchPeer) × (new ≡ old)
-FeedsConnection i piece (Some x) old r new = FeedsOpen i piece old r new
+FeedsConnection i piece (Some x) old r new = FeedsOpen i piece x old r new
 
 abbrev pub FeedsPeer : ℕ → Bytes → Guests → Result (Unit {0}) Refused → Guests → Type 0
 FeedsPeer i piece old r new = FeedsConnection i piece (old.accesses i).connection old r new

@@ -2,7 +2,7 @@
 ghost use Rattle.std.specs.Prelude.{◌≡◌, ◌≢◌, ◌≤◌, ◌<◌, ◌+◌, ◌↔◌, ◌==◌, [], length, slice_get, Err, None, IfOk, OnOk, OnErr, IfErr, IsSome};
 ghost use Rattle.std.specs.Borrow.{sem};
 ghost use Rattle.std.specs.Option.{option_copied, option_copied_mut, option_map};
-ghost use Rattle.request_table.specs.Pending.{number_of, item_of, key_at, nth_of, pending_most, opened_of, closed_of, handed_back, IsFull, ArePending};
+ghost use Rattle.request_table.specs.Pending.{number_of, item_of, key_at, pending_most, opened_of, closed_of, handed_back, IsFull, ArePending};
 
 use crate::PENDING_MAX;
 use crate::held::{Held, RequestKey};
@@ -166,12 +166,12 @@ impl<T: Drop> Requests<T> {
         }
     }
 
-    /// The number of the k-th request.
-    pub fn nth(&self, k: usize) -> Option<u64>
-        ensures { result ≡ nth_of self.now.kept k }
+    /// The k-th request: its number, whose it is, and what belongs to it.
+    pub fn row(&self, k: usize) -> Option<(u64, &Held<T>)>
+        ensures { option_map (λ row. (row.0, row.1.now)) result ≡ slice_get self.now.kept.rows k }
     {
         match self.rows.get_index(k) {
-            Some((number, _)) => Some(*number),
+            Some((number, held)) => Some((*number, held)),
             None => None,
         }
     }

@@ -66,8 +66,8 @@ loop-index-preserved g c =
           let r = inv.way start done n o in (
             r.0 + 1,
             (
-              spread_step rows q start old c.spread_link.new.labels c.loop-index.waiting c.spread_link.new.waiting done c.args.place places k r.0 p
-                  c.requires.rules (inv.long ∙ c.requires.labels) c.links_into-places.ensures c.loop-index-test.true (get_or_default places k p 0 c.loop-index-test.true) r.1.0 step,
+              spread_step rows q c.args.barred.now start old c.spread_link.new.labels c.loop-index.waiting c.spread_link.new.waiting done c.args.place places k r.0 p
+                  c.requires.rules c.requires.barred (inv.long ∙ c.requires.labels) c.links_into-places.ensures c.loop-index-test.true (get_or_default places k p 0 c.loop-index-test.true) r.1.0 step,
               omega (arith, r.1.1, c.spread_link.ensures.reads),
             ),
           );

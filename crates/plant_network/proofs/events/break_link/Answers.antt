@@ -12,4 +12,4 @@ returns g c =
     let old = here (m.network c.args.members.now) (m.seen c.args.members.now) (m.lost c.args.members.now) (flow_of c.args.traffic.now) in
     let new = here (m.network c.break_link.new.members) (m.seen c.break_link.new.members) (m.lost c.break_link.new.members) (flow_of c.break_link.new.traffic) in
     let after = c.break_link.ensures in
-    done_moves m.show (λ n s. events.break m.Pin m.Key wire n m.show c.args.a c.args.b s) old new c.break_link.result after.network after.of after.none after.roomy false after.done after.refused
+    done_moves m.show (λ n s. events.break m.Pin m.Key wire n m.show c.args.a c.args.b s) old new c.break_link.result after.network after.of after.none after.roomy (λ s. false) after.done after.refused

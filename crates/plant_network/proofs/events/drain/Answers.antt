@@ -1,3 +1,4 @@
+use Rattle.std.proofs.Common.{refl, true}
 use Rattle.plant_deeds.specs.plant_model.Events as events
 use Rattle.plant_deeds.specs.plant_model.RealWire.{wire}
 use Rattle.plant_deeds.specs.plant_traffic.Carried.{flow_of}
@@ -11,4 +12,4 @@ returns g c =
     let old = here (m.network c.args.members.now) (m.seen c.args.members.now) (m.lost c.args.members.now) (flow_of c.args.traffic.now) in
     let new = here (m.network c.args.members.now) (m.seen c.args.members.now) (m.lost c.args.members.now) (flow_of c.drain.new.traffic) in
     let after = c.drain.ensures in
-    still_moves m.show (λ n s. events.drain m.Pin m.Key wire n m.show c.args.peer c.args.holder s) old new c.drain.result after.of c.requires.sound.kept.none after.roomy after.done after.refused
+    still_moves m.show (λ n s. events.drain m.Pin m.Key wire n m.show c.args.peer c.args.holder s) old new c.drain.result after.of c.requires.sound.kept.none after.roomy (λ s. true) (λ lacks. refl) after.done after.refused

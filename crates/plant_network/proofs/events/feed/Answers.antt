@@ -16,4 +16,4 @@ returns g c =
     let after = c.feed.ensures in
     let done =
     subst (λ (bytes : Bytes). IsDoneOrLacks (events.feed m.Pin m.Key wire old.network m.show c.args.peer bytes (state_of old.seen old.flow)) c.feed.result old.seen new.flow) c.as_slice.ensures after.done in
-    still_moves m.show (λ n s. events.feed m.Pin m.Key wire n m.show c.args.peer c.args.piece s) old new c.feed.result after.of c.requires.sound.kept.none after.roomy done after.refused
+    still_moves m.show (λ n s. events.feed m.Pin m.Key wire n m.show c.args.peer c.args.piece s) old new c.feed.result after.of c.requires.sound.kept.none after.roomy (λ s. events.takes_feed (s.accesses c.args.peer).connection) after.memory done after.refused

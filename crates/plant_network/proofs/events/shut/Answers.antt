@@ -12,4 +12,4 @@ returns g c =
     let old = here (m.network c.args.members.now) (m.seen c.args.members.now) (m.lost c.args.members.now) (flow_of c.args.traffic.now) in
     let new = here (m.network c.shut.new.members) (m.seen c.shut.new.members) (m.lost c.shut.new.members) (flow_of c.shut.new.traffic) in
     let after = c.shut.ensures in
-    done_moves m.show (λ n s. events.shut m.Pin m.Key wire n m.show c.args.peer s) old new c.shut.result after.network after.of after.none after.roomy false after.done after.refused
+    done_moves m.show (λ n s. events.shut m.Pin m.Key wire n m.show c.args.peer s) old new c.shut.result after.network after.of after.none after.roomy (λ s. false) after.done after.refused

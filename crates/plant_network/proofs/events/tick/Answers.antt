@@ -19,4 +19,4 @@ returns g c =
     let old = here (m.network c.args.members.now) (m.seen c.args.members.now) (m.lost c.args.members.now) (flow_of c.args.traffic.now) in
     let new = here (m.network c.tick.new.members) (m.seen c.tick.new.members) (m.lost c.tick.new.members) (flow_of c.tick.new.traffic) in
     let after = c.tick.ensures in
-    ok_moves m.show (λ n s. events.tick m.Pin m.Key wire n m.show c.args.now.0 s) old new c.tick.result after.network after.of after.none after.roomy false Done refl after.done
+    ok_moves m.show (λ n s. events.tick m.Pin m.Key wire n m.show c.args.now.0 s) old new c.tick.result after.network after.of after.none after.roomy (λ s. false) Done refl after.done

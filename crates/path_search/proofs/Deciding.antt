@@ -1,0 +1,184 @@
+-- Whether a link is admitted is decided by its row, the exclusions and the nodes that are barred.
+use Rattle.std.proofs.Common.{◌≡◌, ◌≢◌, ◌⊎◌, ◌≤◌, ◌-◌, ◌/◌, ◌^◌, inl, inr, ℕ, zero, suc, Bool, true, false, List, [], ◌∷◌, length, ap, Some, arith, refl, subst, sym, ◌∙◌}
+use Rattle.std.specs.Prelude.{Contains, bit_and, slice_get}
+use Rattle.std.proofs.lemmas.Bool.{cases_lt}
+use Rattle.std.proofs.lemmas.Bool.Decides.{eqb_tells}
+use Rattle.std.proofs.lemmas.List.Elements.{All-contains}
+use Rattle.std.proofs.lemmas.Option.{slice_get_within}
+use Rattle.dom_base.specs.Admission.{Fits, LiesIn, NamesLink, BarsLink, BarsNode, Allows, weight}
+use Rattle.dom_base.specs.declared.addr.Addr.{Addr}
+use Rattle.dom_base.specs.declared.addr.Addr.TheVariants.{V4, V6}
+use Rattle.dom_base.specs.declared.link.Link.{Link}
+use Rattle.dom_base.specs.declared.query.Query.{Query}
+use Rattle.dom_base.specs.declared.query.Exclusion.{Exclusion}
+use Rattle.dom_base.specs.declared.query.Excluded.{Excluded}
+use Rattle.dom_base.specs.declared.query.Excluded.TheVariants.{Prefix, AsNumber, Srlg, Other}
+use Rattle.te_links.specs.Rows.{Rows, IsTopology, IsInnerLink}
+use Rattle.te_links.specs.Index.{LinkEndsAt}
+use Rattle.walk_laws.specs.Walks.{AdmitsNode, AdmitsLink}
+use Rattle.path_search.specs.declared.arc.Arc.{Arc}
+use Rattle.path_search.specs.Barred.{is_barred, AreBarred}
+use Rattle.path_search.specs.Arcs.{CanLower}
+use Rattle.path_search.specs.Search.{IsArcOf, IsNoArc, IsIdle}
+use Rattle.std.specs.declared.option.Option.{Option}
+use Rattle.dom_base.specs.declared.query.Label.{Label}
+use Rattle.path_search.proofs.Places.{contains_at, place_of, same_place}
+use Rattle.path_search.proofs.Certified.{arc_among}
+use Rattle.path_search.proofs.Relaxing.{idle_arc}
+use Rattle.path_search.proofs.Choosing.{link_admitted}
+use Rattle.path_search.proofs.Barring.{barred_no_arc}
+
+-- it holds, or it does not
+abbrev Decided : Type 0 → Type 0
+Decided P = P ⊎ (P → ⊥)
+
+both : (P Q : Type 0) → Decided P → Decided Q → Decided (P × Q)
+both P Q (inl p) (inl q) = inl (p, q)
+both P Q (inl p) (inr never) = inr (λ pq. never pq.1)
+both P Q (inr never) d = inr (λ pq. never pq.0)
+
+either : (P Q : Type 0) → Decided P → Decided Q → Decided (P ⊎ Q)
+either P Q (inl p) d = inl (inl p)
+either P Q (inr never) (inl q) = inl (inr q)
+either P Q (inr never) (inr none) = inr (λ pq. elim pq [ inl p ↦ never p | inr q ↦ none q ])
+
+same : (a b : ℕ) → Decided (a ≡ b)
+same a b = elim (eqb_tells a b) [ inl is ↦ inl is.1 | inr differs ↦ inr differs.1 ]
+
+at_least : (a b : ℕ) → Decided (a ≤ b)
+at_least a b = elim (cases_lt b a) [ inl lt ↦ inr (λ le. omega (arith, lt, le)) | inr ge ↦ inl ge ]
+
+-- some element of a list has a property, or none has
+some_of : {X : Type 0} (P : X → Type 0) → ((x : X) → Decided (P x)) → (xs : List X) → Decided ((x : X) × (Contains xs x × P x))
+some_of {X = X} P decide [] = inr (λ some. absurd (let at = some.1.0 in omega (arith, at.1)))
+some_of {X = X} P decide (y ∷ ys) = go (decide y) (some_of P decide ys)
+  where
+    later : (x : X) → Contains ys x → Contains (y ∷ ys) x
+    later x (k, lt, is) = (suc k, omega (arith, lt), is)
+
+    go : Decided (P y) → Decided ((x : X) × (Contains ys x × P x)) → Decided ((x : X) × (Contains (y ∷ ys) x × P x))
+    go (inl here) d = inl (y, ((zero, omega arith, refl), here))
+    go (inr never) (inl some) = inl (some.0, (later some.0 some.1.0, some.1.1))
+    go (inr never) (inr none) = inr (λ some. first some.0 some.1.1 some.1.0)
+      where
+        first : (x : X) → P x → Contains (y ∷ ys) x → ⊥
+        first x p (zero, lt, is) = never (subst P (sym is) p)
+        first x p (suc k, lt, is) = none (x, ((k, omega (arith, lt), is), p))
+
+member : (xs : List ℕ) (n : ℕ) → Decided (Contains xs n)
+member xs n =
+    elim (some_of (λ x. x ≡ n) (λ x. same x n) xs) [
+      | inl some ↦ inl (subst (Contains xs) some.1.1 some.1.0)
+      | inr none ↦ inr (λ has. none (n, (has, refl)))
+    ]
+
+lies : (a prefix : Addr) (n : ℕ) → Decided (LiesIn a prefix n)
+lies (V4 a) (V4 b) n = same (a / 2 ^ (32 - n)) (b / 2 ^ (32 - n))
+lies (V6 a) (V6 b) n = same (a / 2 ^ (128 - n)) (b / 2 ^ (128 - n))
+lies (V4 a) (V6 b) n = inr (λ x. x)
+lies (V6 a) (V4 b) n = inr (λ x. x)
+
+names : (what : Excluded) (l : Link) → Decided (NamesLink what l)
+names (Prefix addr length attribute) l =
+    both (attribute ≡ 0) (LiesIn l.near addr length ⊎ LiesIn l.far addr length) (same attribute 0)
+    (either (LiesIn l.near addr length) (LiesIn l.far addr length) (lies l.near addr length) (lies l.far addr length))
+names (Srlg number) l = member l.srlgs number
+names (AsNumber number) l = inr (λ x. x)
+names (Other kind body) l = inr (λ x. x)
+
+is_false : (b : Bool) → Decided (b ≡ false)
+is_false false = inl refl
+is_false true = inr (λ is. let bad : true ≡ false = is in cc)
+
+bars : (q : Query) (l : Link) → Decided (BarsLink q l)
+bars q l = go (some_of P decide q.exclusions)
+  where
+    P : Exclusion → Type 0
+    P row = (row.avoid ≡ false) × NamesLink row.what l
+
+    decide : (row : Exclusion) → Decided (P row)
+    decide row = both (row.avoid ≡ false) (NamesLink row.what l) (is_false row.avoid) (names row.what l)
+
+    go : Decided ((row : Exclusion) × (Contains q.exclusions row × P row)) → Decided (BarsLink q l)
+    go (inl some) = inl (record { row = some.0; is_row = some.1.0; strict = some.1.1.0; names = some.1.1.1 })
+    go (inr none) = inr (λ b. none (b.row, (b.is_row, (b.strict, b.names))))
+
+fits : (q : Query) (l : Link) → Decided (Fits q l)
+fits q l =
+    go (at_least q.bandwidth l.bytes_per_second) (same (bit_and l.colour q.exclude_any) 0)
+    (either (q.include_any ≡ 0) (1 ≤ bit_and l.colour q.include_any) (same q.include_any 0) (at_least 1 (bit_and l.colour q.include_any)))
+    (same (bit_and l.colour q.include_all) q.include_all)
+  where
+    go : Decided (q.bandwidth ≤ l.bytes_per_second) → Decided (bit_and l.colour q.exclude_any ≡ 0) →
+        Decided ((q.include_any ≡ 0) ⊎ (1 ≤ bit_and l.colour q.include_any)) → Decided (bit_and l.colour q.include_all ≡ q.include_all) → Decided (Fits q l)
+    go (inl a) (inl b) (inl c) (inl d) = inl (record { bandwidth = a; exclude_any = b; include_any = c; include_all = d })
+    go (inr never) b c d = inr (λ f. never f.bandwidth)
+    go (inl a) (inr never) c d = inr (λ f. never f.exclude_any)
+    go (inl a) (inl b) (inr never) d = inr (λ f. never f.include_any)
+    go (inl a) (inl b) (inl c) (inr never) = inr (λ f. never f.include_all)
+
+allowed : (q : Query) (l : Link) → Decided (Allows q l)
+allowed q l = go (fits q l) (bars q l)
+  where
+    go : Decided (Fits q l) → Decided (BarsLink q l) → Decided (Allows q l)
+    go (inl is) (inr free) = inl (record { fits = is; free = free })
+    go (inr never) b = inr (λ a. never a.fits)
+    go (inl is) (inl barred) = inr (λ a. a.free barred)
+
+-- the link at a place has an arc, or is not admitted
+pub link_or_none : (g : Rows) (q : Query) (barred : List Bool) (p : ℕ) (l : Link) → IsTopology g → AreBarred g q barred → slice_get g.links p ≡ Some l →
+    IsNoArc g q p ⊎ ((a : Arc) × IsArcOf g q p a)
+link_or_none g q barred p l valid are at =
+    go (allowed q l) (is_barred barred tail.0) refl (is_barred barred head.0) refl
+  where
+    inner : IsInnerLink g.nodes l
+    inner = All-contains (IsInnerLink g.nodes) g.links l valid.links (contains_at g.links p l at)
+
+    tail : (i : ℕ) × (slice_get g.nodes i ≡ Some l.from)
+    tail = place_of g.nodes l.from inner.link.from
+
+    head : (i : ℕ) × (slice_get g.nodes i ≡ Some l.to)
+    head = place_of g.nodes l.to inner.to
+
+    none_at : (is_barred barred tail.0 ≡ true) ⊎ (is_barred barred head.0 ≡ true) → IsNoArc g q p
+    none_at barred_end = barred_no_arc g q barred l tail.0 head.0 p are at tail.1 (record { link = l; at_link = at; at_node = head.1 }) barred_end
+
+    open_at : (i : ℕ) (n : Addr) → slice_get g.nodes i ≡ Some n → is_barred barred i ≡ false → AdmitsNode g q n
+    open_at i n at_i free = record {
+      is_node = contains_at g.nodes i n at_i;
+      free = λ bars_it. let bad : false ≡ true = sym free ∙ (are.each i n (slice_get_within g.nodes i n at_i) at_i).1 bars_it in cc;
+    }
+
+    go : Decided (Allows q l) → (b : Bool) → is_barred barred tail.0 ≡ b → (c : Bool) → is_barred barred head.0 ≡ c → IsNoArc g q p ⊎ ((a : Arc) × IsArcOf g q p a)
+    go (inr never) b is_b c is_c = inl (λ m at_m admitted. let both_are : Some l ≡ Some m = sym at ∙ at_m in let same_link : m ≡ l = cc in never (subst (Allows q) same_link admitted.allowed))
+    go (inl is) true is_b c is_c = inl (none_at (inl is_b))
+    go (inl is) false is_b true is_c = inl (none_at (inr is_c))
+    go (inl is) false is_b false is_c = inr (
+      record { tail = tail.0; head = head.0; weight = weight q.metric l; link = p },
+      record {
+        same_index = refl;
+        link = l;
+        at_link = at;
+        admitted = link_admitted g q l p at is (open_at tail.0 l.from tail.1 is_b) (open_at head.0 l.to head.1 is_c);
+        tail = tail.1;
+        head = head.1;
+        weight = refl;
+      },
+    )
+
+-- a link that is not admitted has no arc to relax
+pub idle_none : (g : Rows) (q : Query) (labels : List (Option Label)) (p : ℕ) → IsNoArc g q p → IsIdle g q labels p
+idle_none g q labels p none a of = absurd (none of.link of.at_link of.admitted)
+
+-- neither has one between places at which no arc can lower a label
+pub idle_link : (g : Rows) (q : Query) (labels : List (Option Label)) (p : ℕ) (l : Link) (tail head : ℕ) → IsTopology g → slice_get g.links p ≡ Some l →
+    slice_get g.nodes tail ≡ Some l.from → LinkEndsAt g.nodes g.links head p → (CanLower labels tail head → ⊥) → IsIdle g q labels p
+idle_link g q labels p l tail head valid at at_tail ends never a of =
+    let one : Some of.link ≡ Some l = sym of.at_link ∙ at in
+    let link_is : of.link ≡ l = cc in
+    let other : Some of.link ≡ Some ends.link = sym of.at_link ∙ ends.at_link in
+    let end_is : of.link ≡ ends.link = cc in
+    let tail_is : a.tail ≡ tail = same_place g.nodes valid.nodes_differ a.tail tail l.from (of.tail ∙ ap (λ (m : Link). Some m.from) link_is) at_tail in
+    let head_is : a.head ≡ head = same_place g.nodes valid.nodes_differ a.head head ends.link.to (of.head ∙ ap (λ (m : Link). Some m.to) end_is) ends.at_node in
+    let among = arc_among g q (length g.nodes) a valid refl (subst (λ k. IsArcOf g q k a) (sym of.same_index) of) in
+    idle_arc q.cap labels a among.heavy (λ can. never (subst (λ i. CanLower labels i head) tail_is (subst (CanLower labels a.tail) head_is can)))
