@@ -29,7 +29,7 @@ use Rattle.transcript.specs.Lines.{answer_line}
 use Rattle.ted_watch.specs.declared.shown.Shown.{Shown}
 use Rattle.operator_lines.specs.Charts.{Asks, Call, Charted, Current, Did, Mapped, current_of}
 use Rattle.operator_lines.specs.Operating.{Context, Does, DoesEvent, IsEndOf, IsFirstPart, Loads, Past, Publishes, Shows, Stage, WithFile, Work, is_done, line_most, past, shown_by}
-use Rattle.operator_lines.specs.Steps.{Acted, Asked, DoesFile, EndsAs, answered, file_of, Goes, IsBegun, IsFile, IsPartDone, Refuses, text_of}
+use Rattle.operator_lines.specs.Steps.{Acted, Asked, DoesFile, DoesText, EndsAs, answered, file_of, Goes, IsBegun, IsFile, IsPartDone, Refuses, text_of}
 use Rattle.operator_lines.specs.Texts.{bad_network_text, fault_text, read_fault_text, too_large_text}
 use Rattle.operator_lines.specs.declared.operating.Operated.{Operated}
 use Rattle.operator_lines.specs.declared.operating.Operated.TheVariants.{End, ReadFault, WriteFault, Turns, Spent, NoMemory}
@@ -233,6 +233,15 @@ module _ (x : Context) (number : ℕ) (name : List ℕ) (a b : Stage) (Then : Li
   -- the file is read
   pub read_goes : (file : List ℕ) → HasFile x.files name file → length file ≤ change_file_most → (r : Result (Unit {0}) Operated) (p q : Past) (spent : Option ℕ) (before after : List ℕ) → Goes (Then file) r p q spent before after → Goes (WithFile x number name a b Then) r p q spent before after
   read_goes file has short r p q spent before after goes = goes_as (Then file) (WithFile x number name a b Then) (λ w d. inr (inr (file, has, short, d))) r p q spent before after goes
+
+-- a line does what the text of its file asks for
+pub text_goes : (x : Context) (number : ℕ) (name : List ℕ) (a b : Stage) (f g : Bool) (at : As) (file bytes : List ℕ) (r : Result (Unit {0}) Operated) (p q : Past) (spent : Option ℕ) (before mid after : List ℕ)
+    → f ≡ g → bytes ≡ file → HasFile x.files name file × (length file ≤ change_file_most) × (mid ≡ before) → Goes (DoesText g x.network number at name a.past.shown bytes) r p q spent mid after → Goes (DoesFile x number (Some (f, at, name)) a b) r p q spent before after
+text_goes x number name a b f g at file bytes r p q spent before mid after same is read goes =
+    read_goes x number name a b (DoesText f x.network number at name a.past.shown) file read.0 read.1 r p q spent before after
+    (subst (λ (t : Bool). Goes (DoesText t x.network number at name a.past.shown file) r p q spent before after) (sym same)
+    (subst (λ (t : List ℕ). Goes (DoesText g x.network number at name a.past.shown t) r p q spent before after) is
+    (subst (λ (t : List ℕ). Goes (DoesText g x.network number at name a.past.shown bytes) r p q spent t after) read.2 goes)))
 
 -- ---- questions
 

@@ -6,7 +6,7 @@ ghost use Rattle.plant_model.specs.Events as events;
 ghost use Rattle.plant_model.specs.Deeds as deeds;
 ghost use Rattle.plant_sessions.specs.Inboxes.{brings};
 
-use dom_base::{Bytes, NoMemory};
+use dom_base::{Bytes, List, NoMemory};
 use pcep_framing::{Fed, Framer};
 use pcep_messages::{Bad, read_message, split_message};
 use pcep_session::Input;
@@ -37,11 +37,12 @@ fn push(items: &mut VecDeque<Item>, item: Item) -> Result<(), NoMemory>
     Ok(())
 }
 
-fn push_parts(alloc: Global, items: &mut VecDeque<Item>, parts: &[Bytes]) -> Result<(), NoMemory>
-    ensures { OnOk result (items.new.items ≡ items.old.items ++ map Some parts.now) }
+fn push_parts(items: &mut VecDeque<Item>, parts: List<Bytes>) -> Result<(), NoMemory>
+    ensures { OnOk result (items.new.items ≡ items.old.items ++ map Some parts) }
 {
-    for part in parts {
-        push(items, Some(part.copy(alloc)?))?;
+    let mut left = VecDeque::from_vec(parts.into_vec());
+    while let Some(part) = left.pop_front() {
+        push(items, Some(part))?;
     }
     Ok(())
 }
@@ -54,7 +55,7 @@ fn split_all(alloc: Global, frames: &[Bytes]) -> Result<VecDeque<Item>, NoMemory
     let mut items = VecDeque::new(alloc);
     for frame in frames {
         let parts = split_message(alloc, frame.as_slice())?;
-        push_parts(alloc, &mut items, parts.as_slice())?;
+        push_parts(&mut items, parts)?;
     }
     Ok(items)
 }
