@@ -423,10 +423,10 @@ use Rattle.watch_bench.proofs.published.measure.Goals as goal
 pub spawn-requires-send-F : goal.spawn-requires-send-F
 spawn-requires-send-F g c κs = search (sendable, crosses, looker_send) depth 40
 ANTT
-# what is shown has rising generations: as in crates/worked_threads, whose test shows the same
+# what is shown has rising generations: as in crates/worked_parts, whose test shows the same
 for file in Invariants Answers; do
-    sed 's/worked_threads\.proofs\.watching/watch_bench.proofs.published/; s/c\.topology\./c.entry./g' \
-        "$top/crates/worked_threads/proofs/watching/show_all/$file.antt" >"$crate/proofs/published/show_all/$file.antt"
+    sed 's/worked_parts\.proofs\.watching/watch_bench.proofs.published/; s/c\.topology\./c.entry./g' \
+        "$top/crates/worked_parts/proofs/watching/show_all/$file.antt" >"$crate/proofs/published/show_all/$file.antt"
 done
 
 cd "$crate"

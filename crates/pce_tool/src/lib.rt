@@ -22,6 +22,3 @@ pub use reading::{RequestError, Why, read_path_request};
 pub use route::Route;
 pub use status::Status;
 pub use top::run;
-
-#[cfg(test)]
-mod tests;

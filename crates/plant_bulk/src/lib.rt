@@ -5,8 +5,6 @@ mod playing;
 mod requests;
 mod tally;
 mod telling;
-#[cfg(test)]
-mod tests;
 
 pub use plant_client as client;
 pub use plant_client::script;

@@ -1,6 +1,7 @@
 //! Sessions over links in memory and a small desk: streams in any pieces and with faults, and each other call once.
 use crate::clerk::{Clerk, GREETING};
-use dom_base::{As, Bytes, List, Tick, write_number};
+use crate::lines::numbers;
+use dom_base::{As, Bytes, List, Tick, read_number, write_number};
 use dom_edge::{MemoryClock, MemoryLink, MemoryListener, MemorySink, MemoryStream};
 use session_serving::{Ended, Ran, carry_links, serve_port, serve_session, tick_on};
 use std::alloc::Global;
@@ -19,39 +20,19 @@ const STREAM: [u8; 56] = [
 // Sizes of pieces of the stream, of which the last may be left out and an empty one is a read to which nothing came;
 // the read and the write that fail; how many turns there are; and then the events in short, how many bytes were
 // written, and the end.
-type Row = (
-    &'static [usize],
-    &'static [u64],
-    &'static [u64],
-    u64,
-    &'static [u8],
-);
-
-const ROWS: [Row; 13] = [
-    (&[56], &[], &[], 9, b"odftttttds 56 closed"),
-    (&[0, 56], &[], &[], 9, b"odtdftttttds 56 closed"),
-    (&[12, 4, 20], &[], &[], 9, b"odfttdfttdftds 28 peer end"),
-    (&[12, 4, 28], &[], &[], 0, b"os 0 turns"),
-    (&[12, 4, 28], &[], &[], 2, b"odfttdftts 24 turns"),
-    (&[12, 4, 28], &[0], &[], 9, b"ods 12 read fault"),
-    (&[12, 4, 28], &[1], &[], 9, b"odfttds 24 read fault"),
-    (&[12, 4, 28], &[2], &[], 9, b"odfttdfttds 28 read fault"),
-    (&[12, 4, 28], &[3], &[], 9, b"odfttdfttdfttds 56 read fault"),
-    (&[12, 4, 28], &[], &[0], 9, b"ods 0 write fault"),
-    (&[12, 4, 28], &[], &[1], 9, b"odfttds 12 write fault"),
-    (&[12, 4, 28], &[], &[2], 9, b"odfttdfttds 24 write fault"),
-    (
-        &[12, 4, 28],
-        &[],
-        &[3],
-        9,
-        b"odfttdfttdfttds 28 write fault",
-    ),
-];
-
-fn numbers(alloc: Global, which: &[u64]) -> Option<List<u64>> {
-    Some(List::from_vec(which.to_vec(alloc).ok()?))
-}
+const ROWS: &[u8] = b"56|-|-|9|odftttttds 56 closed
+0 56|-|-|9|odtdftttttds 56 closed
+12 4 20|-|-|9|odfttdfttdftds 28 peer end
+12 4 28|-|-|0|os 0 turns
+12 4 28|-|-|2|odfttdftts 24 turns
+12 4 28|0|-|9|ods 12 read fault
+12 4 28|1|-|9|odfttds 24 read fault
+12 4 28|2|-|9|odfttdfttds 28 read fault
+12 4 28|3|-|9|odfttdfttdfttds 56 read fault
+12 4 28|-|0|9|ods 0 write fault
+12 4 28|-|1|9|odfttds 12 write fault
+12 4 28|-|2|9|odfttdfttds 24 write fault
+12 4 28|-|3|9|odfttdfttdfttds 28 write fault";
 
 // The stream in pieces of these sizes.
 fn pieces(alloc: Global, sizes: &[usize]) -> Option<List<Bytes>> {
@@ -65,9 +46,16 @@ fn pieces(alloc: Global, sizes: &[usize]) -> Option<List<Bytes>> {
     Some(List::from_vec(list))
 }
 
-fn link(alloc: Global, sizes: &[usize], reads: &[u64], writes: &[u64]) -> Option<MemoryLink> {
-    let stream = MemoryStream::new(pieces(alloc, sizes)?, numbers(alloc, reads)?);
-    Some(MemoryLink::new(stream, MemorySink::new(alloc, numbers(alloc, writes)?)))
+fn link(
+    alloc: Global,
+    sizes: &[usize],
+    read: Option<u64>,
+    write: Option<u64>,
+) -> Option<MemoryLink> {
+    let writes = numbers(alloc, write)?;
+    let reads = numbers(alloc, read)?;
+    let stream = MemoryStream::new(pieces(alloc, sizes)?, reads);
+    Some(MemoryLink::new(stream, MemorySink::new(alloc, writes)))
 }
 
 fn name(end: Ended) -> &'static [u8] {
@@ -117,39 +105,59 @@ fn tell(alloc: Global, desk: &Clerk, written: &[u8], end: Ended) -> Option<Vec<u
 fn run(
     alloc: Global,
     sizes: &[usize],
-    reads: &[u64],
-    writes: &[u64],
+    read: Option<u64>,
+    write: Option<u64>,
     turns: u64,
 ) -> Option<Vec<u8>> {
-    let mut link = link(alloc, sizes, reads, writes)?;
+    let mut link = link(alloc, sizes, read, write)?;
     let mut desk = Clerk::new(alloc);
     let end = serve(alloc, &mut desk, &mut link, turns);
     tell(alloc, &desk, link.bytes(), end)
 }
 
+fn sizes_in(alloc: Global, text: &[u8]) -> Option<Vec<usize>> {
+    let mut sizes = Vec::new(alloc);
+    for word in text.split(|c| *c == b' ') {
+        sizes.push(read_number(word, 56)? as usize).ok()?;
+    }
+    Some(sizes)
+}
+
+// Whether a session goes as its row says; none where it is no row, or other bytes were written.
+fn holds(alloc: Global, row: &[u8]) -> Option<bool> {
+    let mut parts = row.split(|c| *c == b'|');
+    let sizes = parts.next()?;
+    let read = read_number(parts.next()?, 9);
+    let write = read_number(parts.next()?, 9);
+    let turns = read_number(parts.next()?, 9)?;
+    let want = parts.next()?;
+    let sizes = sizes_in(alloc, sizes)?;
+    let told = run(alloc, &sizes, read, write, turns)?;
+    Some(told.as_slice() == want)
+}
+
 #[test]
 fn each_session_goes_as_its_row_says(rt: HostRuntime) -> Result<(), Fail> {
-    for (sizes, reads, writes, turns, want) in ROWS {
-        let told = run(rt.alloc(), sizes, reads, writes, turns).ok_or("other bytes")?;
-        assert_eq!(rt; told.as_slice(), want);
+    for (place, row) in ROWS.split(|c| *c == b'\n').enumerate() {
+        assert_eq!(rt; holds(rt.alloc(), row), Some(true), "row {place}");
     }
     Ok(())
 }
 
 #[test]
 fn any_pieces_write_the_same(rt: HostRuntime) -> Result<(), Fail> {
-    let mut told = run(rt.alloc(), &[1; 56], &[], &[], 99).ok_or("other bytes")?;
+    let mut told = run(rt.alloc(), &[1; 56], None, None, 99).ok_or("other bytes")?;
     assert!(rt; told.ends_with(b" 56 closed"));
     for cut in 0..=STREAM.len() {
-        told = run(rt.alloc(), &[cut, STREAM.len() - cut], &[], &[], 9).ok_or("other bytes")?;
+        told = run(rt.alloc(), &[cut, STREAM.len() - cut], None, None, 9).ok_or("other bytes")?;
         assert!(rt; told.ends_with(b" 56 closed"));
     }
     Ok(())
 }
 
 fn listener(alloc: Global) -> Option<MemoryListener> {
-    let quiets = numbers(alloc, &[1])?;
-    let links = vec![in alloc; link(alloc, &[], &[], &[])?].ok()?;
+    let quiets = numbers(alloc, Some(1))?;
+    let links = vec![in alloc; link(alloc, &[], None, None)?].ok()?;
     Some(MemoryListener::new(List::from_vec(links), quiets))
 }
 

@@ -1,5 +1,5 @@
 //! What a client is told of messages that no command of the program is answered with.
-use plant_client::tell;
+use plant_bulk::client::tell;
 use std::test::Fail;
 
 #[test]

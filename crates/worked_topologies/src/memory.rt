@@ -1,4 +1,5 @@
 //! A link and a store in memory, each with one call that is to fail.
+use crate::texts::goes_to_a_thread;
 use dom_base::{Bytes, List, Text};
 use dom_edge::{
     Accepted, Listener, MemoryLink, MemoryListener, MemorySink, MemoryStore, MemoryStream, Put,
@@ -71,11 +72,6 @@ fn a_store_reads_but_where_it_is_to_fail(rt: HostRuntime) -> Result<(), Fail> {
     Ok(())
 }
 
-// Any thread may take it.
-fn goes_to_a_thread<T: Send>(value: T) -> T {
-    value
-}
-
 fn is_quiet<L: Listener>(listener: &mut L) -> bool {
     matches!(listener.accept(), Accepted::Quiet)
 }
@@ -83,7 +79,7 @@ fn is_quiet<L: Listener>(listener: &mut L) -> bool {
 #[test]
 fn listeners_go_to_threads(rt: HostRuntime) {
     let alloc = rt.alloc();
-    let listener = MemoryListener::new(List::new(alloc), List::new(alloc));
-    let mut listener = goes_to_a_thread(listener);
+    let mut listener = MemoryListener::new(List::new(alloc), List::new(alloc));
+    goes_to_a_thread(&listener);
     assert!(rt; is_quiet(&mut listener));
 }

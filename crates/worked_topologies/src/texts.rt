@@ -98,7 +98,7 @@ fn cut(text: &[u8]) -> Result<(&[u8], &[u8]), Fail> {
 }
 
 #[tactic(auto, using(line_text::proofs::Counts::lines_at_most))]
-fn topology_of(alloc: Global, text: &[u8]) -> Result<Topology, Fail> {
+pub(crate) fn topology_of(alloc: Global, text: &[u8]) -> Result<Topology, Fail> {
     if text.len() > 65_536 {
         return Err(Fail::from("a long text"));
     }
@@ -140,7 +140,8 @@ fn topologies_are_changed_and_written(rt: HostRuntime) -> Result<(), Fail> {
     Ok(())
 }
 
-fn goes_to_a_thread<T: Send>(_value: &T) {}
+// Any thread may take it.
+pub(crate) fn goes_to_a_thread<T: Send>(_value: &T) {}
 
 #[test]
 fn generations_go_to_threads(rt: HostRuntime) -> Result<(), Fail> {

@@ -1,0 +1,6 @@
+use denote.Param.Send.{sendable}
+use Rattle.turn_desk.proofs.Crossing.{turn_desk_send}
+use Rattle.worked_parts.proofs.crossing.desk_goes.Goals as goal
+
+pub goes_to_a_thread-requires-send-T : goal.goes_to_a_thread-requires-send-T
+goes_to_a_thread-requires-send-T g c κs = search (turn_desk_send, sendable)
