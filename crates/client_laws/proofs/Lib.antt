@@ -1,3 +1,12 @@
 pub mod Lines
 pub mod Telling
 pub mod Asking
+mod Splitting
+mod Feeding
+pub mod Asked
+pub mod Written
+pub mod Clients
+mod Growing
+pub mod Exchanging
+-- handed on from below
+pub use Rattle.script_laws.proofs as script_laws

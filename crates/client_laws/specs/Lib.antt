@@ -1,2 +1,6 @@
 -- for readers
 pub mod Told
+pub mod Asked
+pub mod Received
+-- handed on from below
+pub use Rattle.script_laws.specs as script_laws

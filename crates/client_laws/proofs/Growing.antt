@@ -19,7 +19,7 @@ use Rattle.plant_outlets.proofs.Growing.{texts, texts_append}
 use Rattle.plant_received.specs.Received.{IsStreamOf}
 use Rattle.plant_received.proofs.Streams.{stream_of}
 use Rattle.client_laws.proofs.Lines.{AllStay}
-use Rattle.bulk_laws.specs.Received.{all_of, last_heard}
+use Rattle.client_laws.specs.Received.{all_of, last_heard}
 
 -- the connection has this holder, and of what was put there these messages were handed out
 pub record IsHeld (own : ℕ) (done : List Message) (x : Outlet) : Type 0 where

@@ -44,8 +44,8 @@ use Rattle.plant_received.proofs.Putting.{of_sent, put_is}
 use Rattle.client_laws.proofs.Asking as asking
 use Rattle.client_laws.proofs.Asking.{Fit, on, one_fits, plain_fits}
 use Rattle.client_laws.proofs.Lines.{IsPlain, IsUndrained, entries_join, plain_stays}
-use Rattle.bulk_laws.specs.Received.{ManyAreReceived, all_of}
-use Rattle.bulk_laws.proofs.Growing.{AreHeld, IsHeld, all_heard, bytes_append, first_written, front_off, still_held}
+use Rattle.client_laws.specs.Received.{ManyAreReceived, all_of}
+use Rattle.client_laws.proofs.Growing.{AreHeld, IsHeld, all_heard, bytes_append, first_written, front_off, still_held}
 
 module _ (i : ℕ) where
   -- the client's connection is open, and these messages were handed out over it

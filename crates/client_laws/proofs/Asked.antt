@@ -24,17 +24,17 @@ use Rattle.script_laws.specs.plant_model.Wire.{Admitted, Bytes}
 use Rattle.script_laws.specs.plant_laws.Transcript.{Delivered, Transcript, Within}
 use Rattle.script_laws.specs.plant_play.Turns.{entries_of}
 use Rattle.script_laws.proofs.Rightly.{scripts_are_right}
-use Rattle.plant_client.specs.declared.question.Question.{Question}
-use Rattle.plant_client.specs.Asking.{topologies}
-use Rattle.plant_client.specs.Questions.{asked_of, open_message, opening_text, question_message, question_text}
+use Rattle.plant_bulk.specs.plant_client.declared.question.Question.{Question}
+use Rattle.plant_bulk.specs.plant_client.Asking.{topologies}
+use Rattle.plant_bulk.specs.plant_client.Questions.{asked_of, open_message, opening_text, question_message, question_text}
 use Rattle.plant_outlets.proofs.RunLemmas.{run_fits}
 use Rattle.plant_received.proofs.Streams.{stream_of}
 use Rattle.plant_inlets.specs.Inlets.{WasFed, framed, streams}
 use Rattle.plant_inlets.proofs.RunLemmas.{taken_was_fed}
 use Rattle.client_laws.proofs.Asking.{lines_feed}
-use Rattle.question_laws.specs.Asked.{OneIsAsked}
-use Rattle.question_laws.proofs.Feeding.{loading}
-use Rattle.question_laws.proofs.Splitting.{question_alone}
+use Rattle.client_laws.specs.Asked.{OneIsAsked}
+use Rattle.client_laws.proofs.Feeding.{loading}
+use Rattle.client_laws.proofs.Splitting.{question_alone}
 
 open_written : IsWritten open_message
 open_written = record {

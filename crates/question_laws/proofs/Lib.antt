@@ -1,3 +1,0 @@
-pub mod Splitting
-pub mod Feeding
-pub mod Asked

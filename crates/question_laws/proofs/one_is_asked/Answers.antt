@@ -1,5 +1,0 @@
-use Rattle.question_laws.proofs.Asked as asked
-use Rattle.question_laws.proofs.one_is_asked.Goals as goal
-
-pub returns : goal.returns
-returns c = asked.one_is_asked
