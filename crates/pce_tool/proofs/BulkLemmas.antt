@@ -8,21 +8,25 @@ use Rattle.dom_edge.specs.Stores.{Files, file_named}
 use Rattle.plant_text.specs.declared.line.LineEvent.{LineEvent}
 use Rattle.plant_text.specs.declared.line.LineEvent.TheVariants as line
 use Rattle.plant_text.specs.declared.settings.NetworkParts.{NetworkParts}
-use Rattle.script_laws.specs.plant_model.Events.{Answered}
-use Rattle.script_laws.specs.plant_play.Playing.{Cue, Stage}
-use Rattle.script_laws.specs.plant_play.Scripts.{AllPlayed}
-use Rattle.script_laws.specs.plant_play.Turns.{Turn}
-use Rattle.script_laws.specs.Headline.{all_octets}
-use Rattle.script_laws.specs.Laws.{FeedOctets, FeedsOctets}
-use Rattle.script_laws.proofs.Rightly.{scripts_are_right}
+use Rattle.client_laws.specs.script_laws.plant_model.Events.{Answered}
+use Rattle.client_laws.specs.script_laws.plant_play.Playing.{Cue, Stage}
+use Rattle.client_laws.specs.script_laws.plant_play.Scripts.{AllPlayed}
+use Rattle.client_laws.specs.script_laws.plant_play.Turns.{Turn, entries_of}
+use Rattle.client_laws.specs.script_laws.Headline.{HasIdsLeft, all_octets}
+use Rattle.client_laws.specs.script_laws.Laws.{FeedOctets, FeedsOctets}
+use Rattle.client_laws.specs.script_laws.plant_counting.Counting.{HasNoParent}
+use Rattle.client_laws.proofs.script_laws.Rightly.{scripts_are_right}
+use Rattle.client_laws.proofs.Clients.{path_is_client}
+use Rattle.client_laws.proofs.Exchanging.{many_are_received}
 use Rattle.plant_bulk.specs.plant_client.declared.question.Question.{Question}
 use Rattle.plant_bulk.specs.plant_client.Asking.{ArePlayed, Exchanges, IsPlayed, asking_lines, opening_lines, session_lines, topologies}
 use Rattle.plant_bulk.specs.plant_client.Questions.{opening_text, question_text, sequence_most}
 use Rattle.plant_bulk.proofs.plant_client.AskingLemmas.{all_append}
 use Rattle.plant_bulk.proofs.plant_client.QuestionLemmas.{question_few}
 use Rattle.plant_bulk.specs.declared.requests.Demand.{Demand}
-use Rattle.plant_bulk.specs.Playing.{AsksAll, bulk_turns, client, network, turns_of}
-use Rattle.plant_bulk.specs.Requests.{question}
+use Rattle.plant_bulk.specs.Playing.{AsksAll, bulk_turns, client, first_domain, network, turns_of}
+use Rattle.drawn_network.specs.Settings.{settings}
+use Rattle.plant_bulk.specs.Requests.{question, questions}
 use Rattle.pce_tool.specs.Headline.{BulksAreWorth}
 use Rattle.pce_tool.proofs.DrawnNetwork.{network_modelled}
 use Rattle.pce_tool.proofs.HeadlineLemmas.{FeedAll, loads_feed, no_lines, one_line, opening_feeds}
@@ -129,4 +133,8 @@ bulks_are_worth n d received few b =
     let asks = asks_script files d (range_with_len 0 n) b.begun b.end received b.turns b.asks in
     let all = both b.begins.start b.begun b.end b.begins.lines.turns b.turns 16 (132 * length (range_with_len 0 n)) opens asks in
     let right = scripts_are_right network network_modelled b.begins.start b.end all.cues (bulk_turns b) all.told b.begins.new all.feeds all.played in
-    record { right = right.0; short = λ alone. right.1 alone (omega (arith, all.few, length-range_with_len 0 n, few)) }
+    let short : HasNoParent network → HasIdsLeft network (entries_of (bulk_turns b) []) = λ alone. right.1 alone (omega (arith, all.few, length-range_with_len 0 n, few)) in
+    record {
+      worth = record { right = right.0; short = short };
+      are_received = many_are_received files network client (questions d n) received network_modelled (path_is_client settings first_domain) b.begun b.end b.begins b.turns b.asks right.0.run (short refl);
+    }

@@ -13,27 +13,32 @@ use Rattle.plant_text.specs.declared.line.LineEvent.TheVariants as line
 use Rattle.plant_text.specs.declared.settings.NetworkParts.{NetworkParts}
 use Rattle.plant_text.specs.Lines.{line_in}
 use Rattle.plant_text.specs.Networks.{with_path}
-use Rattle.script_laws.specs.text_ranges.Sizes.{all_lengths}
-use Rattle.script_laws.proofs.text_ranges.FedLengths.{feeds_short}
-use Rattle.script_laws.proofs.text_ranges.FedOctets.{line_octets}
-use Rattle.script_laws.proofs.text_ranges.ModelledNetworks.{client_is_modelled, settings_are_modelled}
-use Rattle.script_laws.proofs.text_ranges.Lengths.{all_lengths_append, all_lengths_cons, told_lines_short}
-use Rattle.script_laws.specs.plant_model.RealWire.{wire}
-use Rattle.script_laws.specs.plant_laws.Worlds.{DisclosedRun}
-use Rattle.script_laws.specs.plant_play.Playing.{Cue, IsNewStage, Stage}
-use Rattle.script_laws.specs.plant_play.Scripts.{AllPlayed}
-use Rattle.script_laws.specs.plant_play.Turns.{Turn, entries_of}
-use Rattle.script_laws.specs.Disclosing.{shown_trace}
-use Rattle.script_laws.specs.Headline.{all_octets, fed_octets}
-use Rattle.script_laws.specs.Laws.{FeedOctets, FeedsOctets}
-use Rattle.script_laws.proofs.Disclosing.{shown_from_the_first}
-use Rattle.script_laws.proofs.Rightly.{scripts_are_right}
+use Rattle.client_laws.specs.script_laws.text_ranges.Sizes.{all_lengths}
+use Rattle.client_laws.proofs.script_laws.text_ranges.FedLengths.{feeds_short}
+use Rattle.client_laws.proofs.script_laws.text_ranges.FedOctets.{line_octets}
+use Rattle.client_laws.proofs.script_laws.text_ranges.ModelledNetworks.{client_is_modelled, settings_are_modelled}
+use Rattle.client_laws.proofs.script_laws.text_ranges.Lengths.{all_lengths_append, all_lengths_cons, told_lines_short}
+use Rattle.client_laws.specs.script_laws.plant_model.Laws.{IsNetwork}
+use Rattle.client_laws.specs.script_laws.plant_model.RealWire.{wire}
+use Rattle.client_laws.specs.script_laws.plant_laws.Worlds.{DisclosedRun}
+use Rattle.client_laws.specs.script_laws.plant_play.Playing.{Cue, IsNewStage, Stage}
+use Rattle.client_laws.specs.script_laws.plant_play.Scripts.{AllPlayed}
+use Rattle.client_laws.specs.script_laws.plant_play.Turns.{Turn, entries_of}
+use Rattle.client_laws.specs.script_laws.Disclosing.{shown_trace}
+use Rattle.client_laws.specs.script_laws.Headline.{all_octets, fed_octets}
+use Rattle.client_laws.specs.script_laws.Laws.{FeedOctets, FeedsOctets}
+use Rattle.client_laws.proofs.script_laws.Disclosing.{shown_from_the_first}
+use Rattle.client_laws.proofs.script_laws.Rightly.{scripts_are_right}
 use Rattle.plant_bulk.specs.plant_script.Scripts.{AreCues}
 use Rattle.plant_bulk.specs.plant_client.declared.question.Question.{Question}
 use Rattle.plant_bulk.specs.plant_client.Asking.{Asks, lines_of, load_line, question_lines, topologies}
 use Rattle.plant_bulk.specs.plant_client.Asking as asking
 use Rattle.plant_bulk.specs.plant_client.Questions.{opening_text, question_text, sequence_most}
 use Rattle.plant_bulk.proofs.plant_client.QuestionLemmas.{question_short}
+use Rattle.client_laws.proofs.Asked.{one_is_asked}
+use Rattle.client_laws.proofs.Asking.{clients_are_told}
+use Rattle.client_laws.proofs.Clients.{path_is_client}
+use Rattle.client_laws.proofs.Written.{IsInRange, question_written}
 use Rattle.pce_tool.specs.declared.route.Route.{Route}
 use Rattle.pce_tool.specs.Headline.{PathsAreWorth, PlaysAreWorth, ShowsRows}
 use Rattle.pce_tool.specs.Networks.{question_of}
@@ -129,10 +134,17 @@ question_feeds n client q octets few =
     (one_line (line.Feed (Some client) (question_text q)) last 65532 0 (octets, question_short q few)
     (one_line line.Finish [] 0 0 (tt, omega arith) no_lines)))))
 
-pub paths_are_worth : (files : Option Files) (net : List ℕ) (r : Route) → PathsAreWorth files net r
-paths_are_worth files net r n received has element few a =
+pub paths_are_worth : (files : Option Files) (net : List ℕ) (r : Route) → IsInRange (question_of r) → PathsAreWorth files net r
+paths_are_worth files net r fits n received has element a =
     let m = with_path n r.at in
+    let i = length n.peers in
+    let q = question_of r in
     let played = a.lines in
-    let feeds = question_feeds m (length n.peers) (question_of r) a.octets few files played.cues played.are_cues in
-    let right = scripts_are_right m (client_is_modelled has.bytes n r.at has.is_text element) a.start a.asked played.cues played.turns played.told a.new feeds.0 played.played in
-    record { right = right.0; short = λ alone. right.1 alone (omega (arith, feeds.1)) }
+    let modelled : IsNetwork m = client_is_modelled has.bytes n r.at has.is_text element in
+    let feeds = question_feeds m i q a.octets fits.few files played.cues played.are_cues in
+    let right = scripts_are_right m modelled a.start a.asked played.cues played.turns played.told a.new feeds.0 played.played in
+    record {
+      worth = record { right = right.0; short = λ alone. right.1 alone (omega (arith, feeds.1)) };
+      told = clients_are_told files m i q received modelled (path_is_client n r.at) a;
+      asked = one_is_asked files m i q received modelled (path_is_client n r.at) (question_written q fits) a;
+    }

@@ -6,6 +6,7 @@ pub mod InputEnds
 pub mod PairReplies
 pub mod NetworkEnds
 pub mod RouteLemmas
+mod RouteRanges
 pub mod HeadlineLemmas
 pub mod ShortWords
 pub mod DrawnNetwork

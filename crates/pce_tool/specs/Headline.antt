@@ -6,20 +6,23 @@ use Rattle.plant_text.specs.declared.line.LineEvent.TheVariants.{DiscloseOn}
 use Rattle.plant_text.specs.declared.settings.NetworkParts.{NetworkParts}
 use Rattle.plant_text.specs.Networks.{with_path}
 use Rattle.plant_text.specs.Settings.{is_element}
-use Rattle.script_laws.specs.plant_model.Blind.{blind_opened, heard}
-use Rattle.script_laws.specs.plant_model.Plant.{Entry, Plant, deeds_of}
-use Rattle.script_laws.specs.plant_model.RealWire.{wire}
-use Rattle.script_laws.specs.plant_laws.Worlds.{DisclosedRun}
-use Rattle.script_laws.specs.plant_counting.Counting.{HasNoParent}
-use Rattle.script_laws.specs.plant_play.Playing.{Cue, Stage}
-use Rattle.script_laws.specs.plant_play.Turns.{Turn, entries_of}
-use Rattle.script_laws.specs.Disclosing.{shown_trace}
-use Rattle.script_laws.specs.Headline.{HasIdsLeft, IsRight}
+use Rattle.client_laws.specs.script_laws.plant_model.Blind.{blind_opened, heard}
+use Rattle.client_laws.specs.script_laws.plant_model.Plant.{Entry, Plant, deeds_of}
+use Rattle.client_laws.specs.script_laws.plant_model.RealWire.{wire}
+use Rattle.client_laws.specs.script_laws.plant_laws.Worlds.{DisclosedRun}
+use Rattle.client_laws.specs.script_laws.plant_counting.Counting.{HasNoParent}
+use Rattle.client_laws.specs.script_laws.plant_play.Playing.{Cue, Stage}
+use Rattle.client_laws.specs.script_laws.plant_play.Turns.{Turn, entries_of}
+use Rattle.client_laws.specs.script_laws.Disclosing.{shown_trace}
+use Rattle.client_laws.specs.script_laws.Headline.{HasIdsLeft, IsRight}
+use Rattle.client_laws.specs.Asked.{AsksOnly}
+use Rattle.client_laws.specs.Received.{AreReceived}
+use Rattle.client_laws.specs.Told.{IsTold}
 use Rattle.plant_bulk.specs.plant_script.Scripts.{Playing, script_most}
 use Rattle.plant_bulk.specs.plant_client.Asking.{Asks}
-use Rattle.plant_bulk.specs.plant_client.Questions.{sequence_most}
+use Rattle.plant_bulk.specs.plant_client.declared.question.Question.{Question}
 use Rattle.plant_bulk.specs.declared.requests.Demand.{Demand}
-use Rattle.plant_bulk.specs.Playing.{IsBulk, bulk_turns, network}
+use Rattle.plant_bulk.specs.Playing.{IsBulk, bulk_turns, client, network}
 use Rattle.plant_bulk.specs.Requests.{requests_most}
 use Rattle.blind_script.specs.blind_play.Laws.{SaysSo}
 use Rattle.blind_script.specs.blind_play.Playing.{Stage as BlindStage}
@@ -49,15 +52,28 @@ PlaysAreWorth files net =
     → HasNetwork files net n → length script ≤ script_most → told_lines script ≡ done ++ others → (p : Playing files n done turns told end)
     → IsWorth n turns end × (ShowsRows p.cues → DisclosedRun wire n (entries_of turns []) (shown_trace turns []) end.state)
 
--- What is played until a client is answered.
+-- A client asks once in a run, and receives this. What it is told is what the last message answers that was sent to it; each reply to a
+-- request for a path among these messages is right; and each request that an element had from it is its question.
+pub record AnswerIsWorth (n : NetworkParts) (client : ℕ) (question : Question) (received : List ℕ) (turns : List Turn) (end : Stage) : Type 0 where
+  pub worth : IsWorth n turns end
+  pub told : HasIdsLeft n (entries_of turns []) → IsTold n (entries_of turns []) client received
+  pub asked : AsksOnly n (entries_of turns []) client question
+
+-- What is played until the client of a route is answered, and what is told of that.
 abbrev pub PathsAreWorth : Option Files → List ℕ → Route → Type 0
 PathsAreWorth files net r =
-    (n : NetworkParts) (received : List ℕ) → HasNetwork files net n → is_element n r.at ≡ true → length r.sequence ≤ sequence_most
-    → (a : Asks files (with_path n r.at) (length n.peers) (question_of r) received) → IsWorth (with_path n r.at) a.lines.turns a.asked
+    (n : NetworkParts) (received : List ℕ) → HasNetwork files net n → is_element n r.at ≡ true
+    → (a : Asks files (with_path n r.at) (length n.peers) (question_of r) received) → AnswerIsWorth (with_path n r.at) (length n.peers) (question_of r) received a.lines.turns a.asked
 
--- What is played of a drawn network and so many requests, whatever bandwidth they ask for.
+-- The client of the drawn network asks one question behind the other in a run, and receives this for them. What is heard for each is what
+-- the last message says that was sent to it since the one before; and each reply to a request for a path among all these is right.
+pub record BulkIsWorth (received : List (List ℕ)) (turns : List Turn) (end : Stage) : Type 0 where
+  pub worth : IsWorth network turns end
+  pub are_received : AreReceived network (entries_of turns []) client received
+
+-- What is played of a drawn network and so many requests, whatever bandwidth they ask for, and what is counted of that.
 abbrev pub BulksAreWorth : ℕ → Type 0
-BulksAreWorth n = (d : Demand) (received : List (List ℕ)) → n ≤ requests_most → (b : IsBulk d n received) → IsWorth network (bulk_turns b) b.end
+BulksAreWorth n = (d : Demand) (received : List (List ℕ)) → n ≤ requests_most → (b : IsBulk d n received) → BulkIsWorth received (bulk_turns b) b.end
 
 -- What is told of lines that are played on a network without topologies is what such a network says on the trace of their events. Where
 -- that is what a run of a network with topologies discloses, it is what closed peers hear of that run once its links have begun.
