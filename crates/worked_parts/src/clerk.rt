@@ -103,7 +103,7 @@ pub struct Clerk {
 }
 
 impl Clerk {
-    pub fn new(alloc: Global) -> Self {
+    pub(crate) fn new(alloc: Global) -> Self {
         Clerk {
             mail: Mail {
                 alloc,
@@ -127,7 +127,7 @@ impl Clerk {
     }
 
     /// Appends the letters of the events that were made.
-    pub fn tell(&self, text: &mut Vec<u8>) -> Option<()> {
+    pub(crate) fn tell(&self, text: &mut Vec<u8>) -> Option<()> {
         for note in &self.notes {
             text.push(letter(&note.event)).ok()?;
         }

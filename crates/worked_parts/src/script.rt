@@ -72,7 +72,7 @@ pub struct Script {
 
 impl Script {
     /// A chart that so many calls may be made of.
-    pub fn new(alloc: Global, left: u64) -> Self
+    pub(crate) fn new(alloc: Global, left: u64) -> Self
         ensures { result.spent_at ≡ None }
     {
         Script {

@@ -118,7 +118,10 @@ fn run(
 fn sizes_in(alloc: Global, text: &[u8]) -> Option<Vec<usize>> {
     let mut sizes = Vec::new(alloc);
     for word in text.split(|c| *c == b' ') {
-        sizes.push(read_number(word, 56)? as usize).ok()?;
+        let Some(size) = read_number(word, 56) else {
+            return None;
+        };
+        sizes.push(size as usize).ok()?;
     }
     Some(sizes)
 }
