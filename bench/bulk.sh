@@ -13,8 +13,18 @@ trap 'rm -rf "$copy"' EXIT
 cc -O2 -o "$copy/plain" "$top/bench/plain/bulk.c"
 mkdir -p "$copy/crates"
 cp "$top/HANDLES" "$copy/"
-libraries=$(sed -n 's/^plant_bulk: //p' "$top/crates.txt")
-for name in $libraries plant_bulk; do
+# The libraries below, each once.
+libraries=$(awk -F: '
+    function visit(name, below, count, i) {
+        if (name in seen || !(name in uses)) return
+        seen[name] = 1
+        count = split(uses[name], below, " ")
+        for (i = 1; i <= count; i++) visit(below[i])
+        print name
+    }
+    /^[a-z]/ { split($1, words, " "); uses[words[1]] = $2 }
+    END { visit("plant_bulk") }' "$top/crates.txt")
+for name in $libraries; do
     [ -d "$top/crates/$name" ] || continue
     mkdir -p "$copy/crates/$name/out"
     cp -r "$top/crates/$name/src" "$copy/crates/$name/"
@@ -23,7 +33,7 @@ for name in $libraries plant_bulk; do
     done
     grep "^$name[ :]" "$top/crates.txt" >>"$copy/crates.txt"
 done
-echo "bulk_bench: $libraries plant_bulk" >>"$copy/crates.txt"
+echo "bulk_bench: plant_bulk" >>"$copy/crates.txt"
 crate=$copy/crates/bulk_bench
 mkdir -p "$crate/src"
 cat >"$crate/src/main.rt" <<RT
