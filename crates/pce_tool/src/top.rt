@@ -115,7 +115,6 @@ fn run_path<S: Store, I: Source, K: Sink>(
 
 /// Runs the command that the words are: reads the files in the order of the words, then the input,
 /// and writes to `out`. It returns on every input. What a run of a network is worth is a clause of its own.
-#[tactic(auto, using(crate::proofs::RunsAreWorth::runs_are_worth))]
 pub fn run<S: Store, I: Source, K: Sink>(
     alloc: Global,
     words: &[String],
