@@ -1,5 +1,5 @@
 -- The parts of a line, and of what comes in.
-use Rattle.std.specs.Prelude.{◌≡◌, ◌≢◌, ◌⊎◌, ◌≤◌, ◌+◌, ℕ, Bool, true, false, nat_lt, List, [], ◌∷◌, ◌++◌, length, take, Result, Ok, Err, Some, None, MatchBool, if◌then◌else◌}
+use Rattle.std.specs.Prelude.{◌≡◌, ◌≢◌, ◌⊎◌, ◌≤◌, ◌+◌, ℕ, Bool, true, false, nat_lt, List, [], ◌∷◌, ◌++◌, length, take, Result, Ok, Err, Some, None, if◌then◌else◌}
 use Rattle.std.specs.declared.option.Option.{Option}
 use Rattle.std.specs.Str.Lines.{strip_carriage_return}
 use Rattle.std.specs.Io.KnownBytes.{Appends, Consumes}
@@ -88,12 +88,15 @@ file_of (line.Load at name) = Some (false, at, name)
 file_of (line.Change at name) = Some (true, at, name)
 file_of e = None
 
+-- what a file asks for, by whether it has changes
+abbrev pub DoesText : Bool → NetworkParts → ℕ → As → List ℕ → List Shown → List ℕ → Work → Type 0
+DoesText true n number at name list file w = ChangesFile n number at name file list w
+DoesText false n number at name list file w = LoadsFile n number at name file list w
+
 -- what a line does that names this file, or none
 abbrev pub DoesFile : Context → ℕ → Option (Bool × As × List ℕ) → Stage → Stage → Work → Type 0
 DoesFile x number None a b w = Says (bad_line_text number) w
-DoesFile x number (Some f) a b w = MatchBool f.0
-    (WithFile x number f.2 a b (λ file. ChangesFile x.network number f.1 f.2 file a.past.shown) w)
-    (WithFile x number f.2 a b (λ file. LoadsFile x.network number f.1 f.2 file a.past.shown) w)
+DoesFile x number (Some f) a b w = WithFile x number f.2 a b (DoesText f.0 x.network number f.1 f.2 a.past.shown) w
 
 -- the chart after a line
 abbrev pub EndsAs : Result (Unit {0}) Operated → Option ℕ → Type 0

@@ -3,14 +3,14 @@ ghost use Rattle.std.specs.Prelude.{◌≡◌, ◌≢◌, ◌≤◌, ◌∷◌, 
 ghost use Rattle.ted_watch.specs.Watch.{list_of, published};
 ghost use Rattle.operator_lines.specs.Operating.{AreOfElements, Does, DoesEvent, context, line_most, past, stage};
 ghost use Rattle.plant_text.specs.Lines.{line_in};
-ghost use Rattle.operator_lines.specs.Steps.{DoesFile, EndsAs, Goes, IsBegun, file_of, text_of};
+ghost use Rattle.operator_lines.specs.Steps.{EndsAs, Goes, IsBegun, file_of, text_of};
 ghost use Rattle.operator_lines.specs.Texts.{bad_line_text, too_large_text};
 ghost use Rattle.operator_lines.specs.declared.operating.Operated.TheVariants.{NoMemory};
 
 use crate::charts::Chart;
-use crate::loading::{FileLine, change_file, load_file};
+use crate::loading::{FileLine, do_file};
 use crate::operating::Operated;
-use crate::texts::{write_bad_line, write_too_large};
+use crate::texts::{write_too_large, write_words};
 use dom_base::{As, Text};
 use dom_edge::Store;
 use plant_text::{LineError, LineEvent, Network, read_line};
@@ -127,34 +127,8 @@ fn tell_bad_line(number: u32, into: &mut Vec<u8>) -> Result<(), Operated>
     ensures told { OnOk result (into.new.items ≡ into.old.items ++ bad_line_text number) }
     ensures lack { IfErr result (λ end. end ≡ NoMemory) }
 {
-    write_bad_line(number, into)?;
+    write_words(number, b"bad line", into)?;
     Ok(())
-}
-
-// Loads what the file gives that a line names.
-fn do_file<T: Store, D: Chart, R: Wait + Drop>(
-    alloc: Global,
-    desk: &mut D,
-    store: &mut T,
-    network: &Network,
-    publisher: &mut Publisher<R>,
-    line: FileLine<'_>,
-    is_change: bool,
-    into: &mut Vec<u8>,
-) -> Result<(), Operated>
-    requires elements { AreOfElements network.now (published publisher.old) }
-    requires fresh { (D.charted desk.old).spent ≡ None }
-    ensures goes { Goes (DoesFile (context network.now (T.files store.old)) line.entry.number (Some (is_change, line.entry.at, line.entry.name.now)) (stage (D.charted desk.old) (published publisher.old) (T.faults store.old) (T.failed_at store.old)) (stage (D.charted desk.new) (published publisher.new) (T.faults store.new) (T.failed_at store.new))) result (past (D.charted desk.old) (published publisher.old)) (past (D.charted desk.new) (published publisher.new)) (D.charted desk.new).spent into.old.items into.new.items }
-    ensures elements { AreOfElements network.now (published publisher.new) }
-    ensures list { list_of publisher.new ≡ list_of publisher.old }
-    ensures later { T.faults store.old ≤ T.faults store.new }
-    ensures files { T.files store.new ≡ T.files store.old }
-{
-    if is_change {
-        change_file(alloc, desk, store, network, publisher, line, into)
-    } else {
-        load_file(alloc, desk, store, network, publisher, line, into)
-    }
 }
 
 // Does what a line says.
@@ -179,10 +153,13 @@ fn do_event<T: Store, D: Chart, R: Wait + Drop>(
     match file_of(event) {
         Some((is_change, at, name)) => {
             let name = name.as_str();
-            let line = FileLine { number, at, name };
-            do_file(
-                alloc, desk, store, network, publisher, line, is_change, into,
-            )
+            let line = FileLine {
+                number,
+                at,
+                name,
+                is_change,
+            };
+            do_file(alloc, desk, store, network, publisher, line, into)
         }
         None => tell_bad_line(number, into),
     }

@@ -3,16 +3,16 @@ ghost use Rattle.std.specs.Prelude.{◌≡◌, ◌≤◌, ◌∷◌, ◌++◌, [
 ghost use Rattle.te_deltas.specs.ChangeText.{change_file_most, text_in};
 ghost use Rattle.ted_watch.specs.Watch.{list_of, published};
 ghost use Rattle.operator_lines.specs.Charts.{Mapped};
-ghost use Rattle.operator_lines.specs.Operating.{AreOfElements, ChangesFile, Loads, LoadsFile, WithFile, context, is_done, past, stage};
+ghost use Rattle.operator_lines.specs.Operating.{AreOfElements, ChangesFile, Loads, LoadsFile, context, is_done, past, stage};
 ghost use Rattle.operator_lines.specs.declared.operating.Operated.TheVariants.{NoMemory};
 ghost use Rattle.transcript.specs.Lines.{answer_line};
-ghost use Rattle.operator_lines.specs.Steps.{Goes, GoesFrom, IsFile, Refuses};
+ghost use Rattle.operator_lines.specs.Steps.{DoesFile, Goes, GoesFrom, IsFile, Refuses};
 
 use crate::asking::{act, ask};
 use crate::charts::Chart;
 use crate::operating::Operated;
 use crate::publishing::publish_loaded;
-use crate::texts::{write_bad_network, write_read_fault, write_too_large};
+use crate::texts::{write_bad_network, write_too_large, write_words};
 use dom_base::{As, Bytes};
 use dom_edge::{Store, StoreError};
 use line_files::{FileError, changed_of, changes_of, topology_of};
@@ -28,12 +28,13 @@ use transcript::write_answer;
 // How many bytes a file may have.
 const FILE_MAX: usize = 4_194_304;
 
-/// A line that names a file: its number, the AS, and the file.
+/// A line that names a file: its number, the AS, the file, and whether that has changes.
 #[derive(Clone, Copy)]
 pub(crate) struct FileLine<'a> {
     pub number: u32,
     pub at: As,
     pub name: &'a str,
+    pub is_change: bool,
 }
 
 fn is_done(answer: &Result<Outcome, Refused>) -> bool
@@ -109,7 +110,7 @@ fn read_file<T: Store>(
         Err(StoreError::TooLong) => {
             write_too_large(line.number, line.name.as_bytes(), into)?;
         }
-        Err(StoreError::Failed) => write_read_fault(line.number, into)?,
+        Err(StoreError::Failed) => write_words(line.number, b"read fault", into)?,
         Err(StoreError::NoMemory) => return Err(Operated::NoMemory),
     }
     Ok(None)
@@ -135,30 +136,6 @@ fn load_text<D: Chart, R: Wait + Drop>(
     match topology_of(alloc, line.at, file) {
         Ok(topology) => load(alloc, desk, network, publisher, line, topology, into),
         Err(why) => tell_refused(line, why, into),
-    }
-}
-
-/// Loads the topology of the file that the line names.
-pub(crate) fn load_file<T: Store, D: Chart, R: Wait + Drop>(
-    alloc: Global,
-    desk: &mut D,
-    store: &mut T,
-    network: &Network,
-    publisher: &mut Publisher<R>,
-    line: FileLine<'_>,
-    into: &mut Vec<u8>,
-) -> Result<(), Operated>
-    requires elements { AreOfElements network.now (published publisher.old) }
-    requires fresh { (D.charted desk.old).spent ≡ None }
-    ensures goes { Goes (WithFile (context network.now (T.files store.old)) line.entry.number line.entry.name.now (stage (D.charted desk.old) (published publisher.old) (T.faults store.old) (T.failed_at store.old)) (stage (D.charted desk.new) (published publisher.new) (T.faults store.new) (T.failed_at store.new)) (λ file. LoadsFile network.now line.entry.number line.entry.at line.entry.name.now file (published publisher.old))) result (past (D.charted desk.old) (published publisher.old)) (past (D.charted desk.new) (published publisher.new)) (D.charted desk.new).spent into.old.items into.new.items }
-    ensures elements { AreOfElements network.now (published publisher.new) }
-    ensures list { list_of publisher.new ≡ list_of publisher.old }
-    ensures later { T.faults store.old ≤ T.faults store.new }
-    ensures files { T.files store.new ≡ T.files store.old }
-{
-    match read_file(alloc, store, line, into)? {
-        Some(file) => load_text(alloc, desk, network, publisher, line, file.as_slice(), into),
-        None => Ok(()),
     }
 }
 
@@ -247,8 +224,8 @@ fn change_text<D: Chart, R: Wait + Drop>(
     }
 }
 
-/// Loads the current topology once more, with the changes of the file that the line names.
-pub(crate) fn change_file<T: Store, D: Chart, R: Wait + Drop>(
+/// Loads what the file gives that the line names: a topology, or the current one with changes.
+pub(crate) fn do_file<T: Store, D: Chart, R: Wait + Drop>(
     alloc: Global,
     desk: &mut D,
     store: &mut T,
@@ -259,14 +236,19 @@ pub(crate) fn change_file<T: Store, D: Chart, R: Wait + Drop>(
 ) -> Result<(), Operated>
     requires elements { AreOfElements network.now (published publisher.old) }
     requires fresh { (D.charted desk.old).spent ≡ None }
-    ensures goes { Goes (WithFile (context network.now (T.files store.old)) line.entry.number line.entry.name.now (stage (D.charted desk.old) (published publisher.old) (T.faults store.old) (T.failed_at store.old)) (stage (D.charted desk.new) (published publisher.new) (T.faults store.new) (T.failed_at store.new)) (λ file. ChangesFile network.now line.entry.number line.entry.at line.entry.name.now file (published publisher.old))) result (past (D.charted desk.old) (published publisher.old)) (past (D.charted desk.new) (published publisher.new)) (D.charted desk.new).spent into.old.items into.new.items }
+    ensures goes { Goes (DoesFile (context network.now (T.files store.old)) line.entry.number (Some (line.entry.is_change, line.entry.at, line.entry.name.now)) (stage (D.charted desk.old) (published publisher.old) (T.faults store.old) (T.failed_at store.old)) (stage (D.charted desk.new) (published publisher.new) (T.faults store.new) (T.failed_at store.new))) result (past (D.charted desk.old) (published publisher.old)) (past (D.charted desk.new) (published publisher.new)) (D.charted desk.new).spent into.old.items into.new.items }
     ensures elements { AreOfElements network.now (published publisher.new) }
     ensures list { list_of publisher.new ≡ list_of publisher.old }
     ensures later { T.faults store.old ≤ T.faults store.new }
     ensures files { T.files store.new ≡ T.files store.old }
 {
-    match read_file(alloc, store, line, into)? {
-        Some(file) => change_text(alloc, desk, network, publisher, line, file.as_slice(), into),
-        None => Ok(()),
+    let Some(file) = read_file(alloc, store, line, into)? else {
+        return Ok(());
+    };
+    let file = file.as_slice();
+    if line.is_change {
+        change_text(alloc, desk, network, publisher, line, file, into)
+    } else {
+        load_text(alloc, desk, network, publisher, line, file, into)
     }
 }

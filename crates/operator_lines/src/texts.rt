@@ -1,6 +1,7 @@
 //! What is said of a line. Each call writes at the end; after a refusal a part may stand there.
 ghost use Rattle.std.specs.Prelude.{◌≡◌, ◌++◌, ◌∷◌, [], codes, decimal, OnOk};
-ghost use Rattle.operator_lines.specs.Texts.{bad_line_text, bad_network_text, fault_text, read_fault_text, too_large_text, topo_text};
+ghost use Rattle.transcript.specs.Lines.{numbered};
+ghost use Rattle.operator_lines.specs.Texts.{bad_network_text, fault_text, too_large_text, topo_text};
 
 use dom_base::{NoMemory, write_number};
 use plant_text::NetFault;
@@ -45,20 +46,11 @@ fn write_head(number: u32, words: &[u8], into: &mut Vec<u8>) -> Result<(), NoMem
     Ok(())
 }
 
-/// The line is none that an operator may write.
-pub(crate) fn write_bad_line(number: u32, into: &mut Vec<u8>) -> Result<(), NoMemory>
-    ensures { OnOk result (into.new.items ≡ into.old.items ++ bad_line_text number) }
+/// These words are all that is said.
+pub(crate) fn write_words(number: u32, words: &[u8], into: &mut Vec<u8>) -> Result<(), NoMemory>
+    ensures { OnOk result (into.new.items ≡ into.old.items ++ numbered number words.now) }
 {
-    write_head(number, b"bad line", into)?;
-    into.push(b'\n')?;
-    Ok(())
-}
-
-/// The file that the line names can't be read.
-pub(crate) fn write_read_fault(number: u32, into: &mut Vec<u8>) -> Result<(), NoMemory>
-    ensures { OnOk result (into.new.items ≡ into.old.items ++ read_fault_text number) }
-{
-    write_head(number, b"read fault", into)?;
+    write_head(number, words, into)?;
     into.push(b'\n')?;
     Ok(())
 }

@@ -18,7 +18,6 @@ use std::marker::Model;
 
 /// One path computation element: its settings, what it knows of its domain, the requests that it has
 /// accepted, its keys and the peers to which it sends requests.
-#[derive(Drop)]
 pub struct Element<W: World> {
     pub(crate) alloc: Global,
     pub(crate) own: As,
@@ -29,6 +28,23 @@ pub struct Element<W: World> {
     pub(crate) keys: PathKeys<W::Segment>,
     pub(crate) ways: Ways,
     pub(crate) lost: VecDeque<Lost>,
+}
+
+// Written, so that it is proved once: a derived one is proved anew in each crate that drops a value.
+impl<W: World> Drop for Element<W> {
+    fn drop(self) {
+        let Element {
+            alloc: _,
+            own: _,
+            id: _,
+            parent: _,
+            deny: _,
+            requests: _,
+            keys: _,
+            ways: _,
+            lost: _,
+        } = self;
+    }
 }
 
 impl<W: World> Model for Element<W> {

@@ -33,11 +33,21 @@ use te_links::Topology;
 
 /// All elements of a network, their parent, their sessions with one another and with outside peers, the
 /// queues between them, and the clock.
-#[derive(Drop)]
 pub struct Plant {
     alloc: Global,
     members: Hierarchy<Topologies>,
     traffic: Traffic,
+}
+
+// Written, so that it is proved once: a derived one is proved anew in each crate that drops a value.
+impl Drop for Plant {
+    fn drop(self) {
+        let Plant {
+            alloc: _,
+            members: _,
+            traffic: _,
+        } = self;
+    }
 }
 
 impl Model for Plant {

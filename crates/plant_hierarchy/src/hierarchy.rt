@@ -22,7 +22,6 @@ use std::alloc::Global;
 use std::marker::Model;
 
 /// The elements of a network, each by its domain, and the parent above them.
-#[derive(Drop)]
 pub struct Hierarchy<W: World> {
     pub(crate) network: Network,
     /// The last moment.
@@ -30,6 +29,18 @@ pub struct Hierarchy<W: World> {
     pub(crate) elements: Elements<W>,
     /// Without children where the settings have no parent.
     pub(crate) parent: Parent,
+}
+
+// Written, so that it is proved once: a derived one is proved anew in each crate that drops a value.
+impl<W: World> Drop for Hierarchy<W> {
+    fn drop(self) {
+        let Hierarchy {
+            network: _,
+            clock: _,
+            elements: _,
+            parent: _,
+        } = self;
+    }
 }
 
 impl<W: World> Model for Hierarchy<W> {
