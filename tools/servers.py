@@ -50,6 +50,8 @@ def listen_address(host=HOST):
 
 def bound_to_parent():
     ctypes.CDLL(None).prctl(END_WITH_PARENT, signal.SIGKILL)
+    # a shell that starts a check in the background has it ignore interrupts, and what it starts too
+    signal.signal(signal.SIGINT, signal.SIG_DFL)
 
 
 class Lines:
