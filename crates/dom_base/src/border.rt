@@ -12,9 +12,19 @@ pub struct BorderRow {
 }
 
 /// A link from one domain to another, as the parent knows it (RFC 6805, section 4.4).
-#[derive(Drop)]
 pub struct ParentLink {
     pub from_as: As,
     pub to_as: As,
     pub link: Link,
+}
+
+// Written, so that it is proved once: a derived one is proved anew in each crate that drops a value.
+impl Drop for ParentLink {
+    fn drop(self) {
+        let ParentLink {
+            from_as: _,
+            to_as: _,
+            link: _,
+        } = self;
+    }
 }

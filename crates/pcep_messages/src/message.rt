@@ -25,9 +25,15 @@ pub enum Message {
 }
 
 /// The objects of one request (RFC 5440, section 6.4).
-#[derive(Drop)]
 pub struct Asked {
     pub objects: List<Object>,
+}
+
+// Written, so that it is proved once: a derived one is proved anew in each crate that drops a value.
+impl Drop for Asked {
+    fn drop(self) {
+        let Asked { objects: _ } = self;
+    }
 }
 
 /// The answer to one request, with the flags and the number of its RP (RFC 5440, section 6.5).
@@ -55,19 +61,35 @@ pub struct Path {
 
 /// What is notified, by type and value, and of which requests, by flags and number (RFC 5440,
 /// section 6.6).
-#[derive(Drop)]
 pub struct Notice {
     pub ids: List<(u32, u32)>,
     pub kinds: List<(u8, u8)>,
 }
 
+// Written, so that it is proved once: a derived one is proved anew in each crate that drops a value.
+impl Drop for Notice {
+    fn drop(self) {
+        let Notice { ids: _, kinds: _ } = self;
+    }
+}
+
 /// Which errors are reported, by type and value, of which requests, by flags and number, and the
 /// OPEN that goes with them (RFC 5440, section 6.7).
-#[derive(Drop)]
 pub struct ErrorReport {
     pub ids: List<(u32, u32)>,
     pub errors: List<(u8, u8)>,
     pub opening: Option<OpenBody>,
+}
+
+// Written, so that it is proved once: a derived one is proved anew in each crate that drops a value.
+impl Drop for ErrorReport {
+    fn drop(self) {
+        let ErrorReport {
+            ids: _,
+            errors: _,
+            opening: _,
+        } = self;
+    }
 }
 
 /// Why a frame is no message.

@@ -8,13 +8,39 @@ use pcep_subobjects::Hop;
 
 /// An object of a message (RFC 5440, section 7.2). `must` is the P bit: a request can't be served
 /// without taking the object into account.
-#[derive(Drop)]
 pub struct Object {
     pub class: u8,
     /// The type of the object within its class, below 16.
     pub kind: u8,
     pub must: bool,
     pub body: Body,
+}
+
+// Written, so that it is proved once: a derived one is proved anew in each crate that drops a value.
+impl Drop for Object {
+    fn drop(self) {
+        let Object {
+            class: _,
+            kind: _,
+            must: _,
+            body: _,
+        } = self;
+    }
+}
+
+impl Object {
+    /// What stands behind its header.
+    pub fn into_body(self) -> Body
+        ensures { result ≡ self.body }
+    {
+        let Object {
+            class: _,
+            kind: _,
+            must: _,
+            body,
+        } = self;
+        body
+    }
 }
 
 /// What an OPEN object says (RFC 5440, section 7.3).

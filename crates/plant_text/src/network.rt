@@ -21,11 +21,17 @@ use std::marker::Model;
 pub(crate) const PORT: u16 = 4189;
 
 /// The settings of a network, which obey the rules.
-#[derive(Drop)]
 pub struct Network {
     parts: NetworkParts,
     // how many peers were given; clients that were added stand behind them
     given: usize,
+}
+
+// Written, so that it is proved once: a derived one is proved anew in each crate that drops a value.
+impl Drop for Network {
+    fn drop(self) {
+        let Network { parts: _, given: _ } = self;
+    }
 }
 
 impl Model for Network {

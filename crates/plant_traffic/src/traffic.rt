@@ -26,13 +26,25 @@ use std::marker::Model;
 
 /// The clock, the connections of the outside peers, the inner links, and the messages that the last
 /// step put into queues. What takes no memory says no `Err`.
-#[derive(Drop)]
 pub struct Traffic {
     alloc: Global,
     clock: Tick,
     peers: Peers,
     links: Links,
     said: Said,
+}
+
+// Written, so that it is proved once: a derived one is proved anew in each crate that drops a value.
+impl Drop for Traffic {
+    fn drop(self) {
+        let Traffic {
+            alloc: _,
+            clock: _,
+            peers: _,
+            links: _,
+            said: _,
+        } = self;
+    }
 }
 
 impl Model for Traffic {

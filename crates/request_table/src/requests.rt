@@ -20,12 +20,23 @@ pub enum OpenError<T> {
 }
 
 /// The pending requests, in the order of their numbers.
-#[derive(Drop)]
 pub struct Requests<T> {
     limit: usize,
     given: u64,
     rows: IndexMap<u64, Held<T>>,
     numbers: IndexMap<RequestKey, u64>,
+}
+
+// Written, so that it is proved once: a derived one is proved anew in each crate that drops a value.
+impl<T: Drop> Drop for Requests<T> {
+    fn drop(self) {
+        let Requests {
+            limit: _,
+            given: _,
+            rows: _,
+            numbers: _,
+        } = self;
+    }
 }
 
 impl<T> Model for Requests<T> {

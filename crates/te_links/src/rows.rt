@@ -2,10 +2,16 @@
 use dom_base::{Addr, As, Link, List};
 
 /// A link to another domain; its `to` is a node there, its head.
-#[derive(Drop)]
 pub struct OutLink {
     pub link: Link,
     pub to_as: As,
+}
+
+// Written, so that it is proved once: a derived one is proved anew in each crate that drops a value.
+impl Drop for OutLink {
+    fn drop(self) {
+        let OutLink { link: _, to_as: _ } = self;
+    }
 }
 
 /// A node at which paths from another domain may enter. Entries are ordered by the domain, then
