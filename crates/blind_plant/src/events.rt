@@ -5,12 +5,10 @@ ghost use Rattle.plant_network.specs.plant_model.Blind.{AreGivenRows, IsBlindGiv
 ghost use Rattle.blind_plant.specs.Held.{IsSound, Moves, held};
 
 use dom_base::{As, BorderRow, List};
-use plant_network::deeds::answer;
-use plant_network::element::Blind;
-use plant_network::hierarchy::Hierarchy;
 use plant_network::model::{BlindEvent, Outcome, Refused};
-use plant_network::traffic::Traffic;
-use plant_network::{break_link, carry, drain, feed, open, shut, take, tick};
+use plant_network::{
+    Blind, Hierarchy, Traffic, answer, break_link, carry, drain, feed, open, shut, take, tick,
+};
 use std::alloc::Global;
 
 /// Answers a request by the rows of its border table.

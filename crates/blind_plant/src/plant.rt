@@ -10,11 +10,8 @@ ghost use Rattle.blind_plant.specs.Whole.{IsBegun, Stepped};
 
 use crate::events::act;
 use dom_base::{As, NoMemory};
-use plant_network::element::Blind;
-use plant_network::hierarchy::Hierarchy;
 use plant_network::model::{BlindEvent, Outcome, Refused};
-use plant_network::traffic::Traffic;
-use plant_network::{begin, traffic_of};
+use plant_network::{Blind, Hierarchy, Traffic, begin, traffic_of};
 use plant_queues::Said;
 use plant_text::{Network, NetworkParts};
 use std::alloc::Global;

@@ -9,4 +9,5 @@ pub mod Histories
 pub mod PlantFields
 pub mod TurnLaws
 -- handed on from below
+pub use Rattle.plant_network.specs.pce_parent
 pub use Rattle.plant_network.specs.plant_model

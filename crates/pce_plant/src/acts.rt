@@ -3,7 +3,7 @@ use crate::answering::CommitRefused;
 use crate::plant::Plant;
 use dom_base::{As, NoMemory};
 use plant_network::model::{Event, Outcome, Refused};
-use plant_network::parent::{Done, Work};
+use plant_network::{Done, Work};
 use std::snapshot::Snapshot;
 use std::sync::Arc;
 use te_links::Topology;

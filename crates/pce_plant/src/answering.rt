@@ -9,12 +9,11 @@ ghost use Rattle.pce_plant.specs.Jobs.{IsSolvedBy, answer_of, handed_back, refus
 
 use border_costs::solve as solve_domain;
 use dom_base::{As, NoMemory};
-use plant_network::deeds::answer as send_answer;
-use plant_network::element::Topologies;
-use plant_network::hierarchy::{Hierarchy, MemberPlan, Unanswered};
 use plant_network::model::{Outcome, Refused};
-use plant_network::parent::{Done, Work, solve_border};
-use plant_network::traffic::Traffic;
+use plant_network::{
+    Done, Hierarchy, MemberPlan, Topologies, Traffic, Unanswered, Work, answer as send_answer,
+    solve_border,
+};
 use std::alloc::Global;
 
 /// Why a solved job is not answered. It hands back what was solved.

@@ -6,11 +6,10 @@ ghost use Rattle.pce_plant.specs.Whole.{IsOwnLoad};
 
 use crate::answering::solve;
 use dom_base::As;
-use plant_network::element::Topologies;
-use plant_network::hierarchy::Hierarchy;
 use plant_network::model::{Event, Outcome, Refused};
-use plant_network::traffic::Traffic;
-use plant_network::{break_link, carry, drain, feed, open, shut, take, tick};
+use plant_network::{
+    Hierarchy, Topologies, Traffic, break_link, carry, drain, feed, open, shut, take, tick,
+};
 use std::alloc::Global;
 use te_links::Topology;
 

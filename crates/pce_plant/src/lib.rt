@@ -12,5 +12,4 @@ pub use acts::{Act, Acted, Turn};
 pub use answering::CommitRefused;
 pub use histories::histories_are_runs;
 pub use plant::Plant;
-pub use plant_network::parent::{Done, Work};
-pub use plant_network::{model, parts};
+pub use plant_network::{Done, Work, model};

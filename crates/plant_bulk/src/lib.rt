@@ -6,8 +6,7 @@ mod requests;
 mod tally;
 mod telling;
 
-pub use plant_client as client;
-pub use plant_client::script;
+pub use plant_client::{Question, SCRIPT_MAX, Stop, ask, play_script, tell as tell_path};
 pub use playing::{REQUESTS_MAX, play};
 pub use requests::Demand;
 pub use tally::Tally;

@@ -13,9 +13,7 @@ use crate::tally::Tally;
 use dom_base::{As, Bytes, List, NoMemory, Text};
 use dom_edge::{MemoryStore, Store};
 use drawn_network::{Draws, draw_files, settings};
-use plant_client::play::Player;
-use plant_client::script::Stop;
-use plant_client::{begin, exchange, hear};
+use plant_client::{Player, Stop, begin, exchange, hear};
 use plant_text::{NetError, Network};
 use std::alloc::Global;
 

@@ -10,10 +10,8 @@ ghost use Rattle.plant_client.specs.Questions.{question_text, sequence_most};
 use crate::question::{Question, opening_bytes, question_bytes};
 use dom_base::{As, Bytes, List, NoMemory, Text};
 use dom_edge::Store;
-use plant_script::layout::elements_of;
-use plant_script::model::Outcome;
-use plant_script::play::{Answer, Player};
-use plant_script::{Stop, play_cue};
+use plant_layout::elements_of;
+use plant_script::{Answer, Outcome, Player, Stop, play_cue};
 use plant_text::{ElementRow, LineEvent, Network};
 use std::alloc::Global;
 

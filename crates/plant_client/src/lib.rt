@@ -8,7 +8,6 @@ mod telling;
 
 pub use asking::{ask, begin, exchange};
 pub use hearing::{Heard, hear};
-pub use plant_script as script;
-pub use plant_script::play;
+pub use plant_script::{Player, SCRIPT_MAX, Stop, play_script};
 pub use question::Question;
 pub use telling::tell;

@@ -5,8 +5,8 @@ ghost use Rattle.plant_client.specs.Telling.{frame_lines, last_of, told_text};
 use dom_base::{Bytes, NoMemory};
 use pcep_framing::Framer;
 use pcep_messages::{Bad, read_message};
-use plant_script::transcripts::write_message_lines;
 use std::alloc::Global;
+use transcript::write_message_lines;
 
 fn write_frame(alloc: Global, frame: &[u8], into: &mut Vec<u8>) -> Result<(), NoMemory>
     ensures { OnOk result (into.new.items ≡ into.old.items ++ frame_lines (Some frame.now)) }

@@ -6,7 +6,8 @@ mod events;
 
 pub use beginning::{begin, traffic_of};
 pub use events::{break_link, carry, drain, feed, open, shut, take, tick};
-pub use plant_deeds as deeds;
-pub use plant_deeds::{model, traffic};
-pub use plant_hierarchy as hierarchy;
-pub use plant_hierarchy::{element, parent, parts};
+pub use plant_deeds::traffic::Traffic;
+pub use plant_deeds::{answer, model};
+pub use plant_hierarchy::element::{Blind, Topologies};
+pub use plant_hierarchy::parent::{Done, Work, solve_border};
+pub use plant_hierarchy::{Hierarchy, MemberPlan, Unanswered};

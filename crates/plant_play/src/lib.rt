@@ -10,8 +10,6 @@ mod showing;
 
 pub use events::Answer;
 pub use line_files::FileError as PlayError;
-pub use pce_plant::{model, parts};
+pub use pce_plant::model::Outcome;
 pub use player::Player;
 pub use showing::Modes;
-pub use transcript as transcripts;
-pub use transcript::layout;

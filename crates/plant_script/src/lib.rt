@@ -6,7 +6,6 @@ mod script;
 mod stop;
 
 pub use cue::{FILE_MAX, play_cue};
-pub use plant_play as play;
-pub use plant_play::{layout, model, parts, transcripts};
+pub use plant_play::{Answer, Outcome, Player};
 pub use script::{LINE_MAX, SCRIPT_MAX, play_script};
 pub use stop::Stop;

@@ -31,10 +31,10 @@ use Rattle.pce_plant.specs.declared.answering.CommitRefused.{CommitRefused}
 use Rattle.plant_pins.specs.Histories.{PinsAreNow}
 use Rattle.plant_pins.specs.Steps.{KnowsPins}
 use Rattle.plant_pins.proofs.StepLemmas.{found_pin}
-use Rattle.plant_network.specs.pce_parent.declared.work.Done.{Done}
-use Rattle.plant_network.specs.pce_parent.declared.work.Done.TheVariants as done
-use Rattle.plant_network.specs.pce_parent.declared.work.Work.{Work}
-use Rattle.plant_network.specs.pce_parent.declared.work.Work.TheVariants as work
+use Rattle.pce_plant.specs.pce_parent.declared.work.Done.{Done}
+use Rattle.pce_plant.specs.pce_parent.declared.work.Done.TheVariants as done
+use Rattle.pce_plant.specs.pce_parent.declared.work.Work.{Work}
+use Rattle.pce_plant.specs.pce_parent.declared.work.Work.TheVariants as work
 use Rattle.session_serving.specs.Desks as desk
 use Rattle.session_serving.specs.Desks.{Answer, Goes, call}
 use Rattle.session_serving.specs.declared.desks.DeskRefused.TheVariants.{Plant, Spent}

@@ -6,7 +6,7 @@ ghost use Rattle.pce_plant.specs.plant_model.declared.outcome.Outcome.{Outcome};
 ghost use Rattle.pce_plant.specs.plant_model.Events.{Answered};
 ghost use Rattle.pce_plant.specs.declared.acts.Acted.TheVariants.{Did, Looked, Found, Committed};
 ghost use Rattle.pce_plant.specs.declared.answering.CommitRefused.{CommitRefused};
-ghost use Rattle.plant_network.specs.pce_parent.declared.work.Work.{Work};
+ghost use Rattle.pce_plant.specs.pce_parent.declared.work.Work.{Work};
 
 use dom_base::{As, NoMemory};
 use pce_plant::model::{Outcome, Refused};

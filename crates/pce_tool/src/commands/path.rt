@@ -15,7 +15,7 @@ use crate::route::Route;
 use crate::status::Status;
 use dom_base::As;
 use dom_edge::{Sink, Source, Store};
-use plant_bulk::client::{Question, ask, tell};
+use plant_bulk::{Question, ask, tell_path as tell};
 use plant_text::{NetError, Network};
 use std::alloc::Global;
 

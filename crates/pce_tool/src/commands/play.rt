@@ -8,7 +8,7 @@ use crate::files::load_network;
 use crate::status::Status;
 use dom_base::Text;
 use dom_edge::{ReadError, Sink, Source, Store, read_all};
-use plant_bulk::script::{SCRIPT_MAX, Stop, play_script};
+use plant_bulk::{SCRIPT_MAX, Stop, play_script};
 use plant_text::Network;
 use std::alloc::Global;
 
