@@ -23,7 +23,7 @@ use diverse_pairs::{PairForm, path_cost, solve_pair};
 use dom_base::{Addr, COST_MAX, Cost, List, Metric, NoMemory, word_of_cost};
 use dom_edge::{Sink, Source, Store};
 use line_text::write_hex;
-use one_domain::search_domain;
+use one_domain::unknown_ends;
 use pcep_messages::{Answer, Message, Path, Reply, Wanted, type_of_metric};
 use std::alloc::Global;
 use te_links::Topology;
@@ -81,17 +81,16 @@ fn path_answer(
 }
 
 // The answers without a path.
-fn no_pair(alloc: Global, topology: &Topology, wanted: &Wanted) -> Result<Answers, NoMemory>
+fn no_pair(topology: &Topology, wanted: &Wanted) -> Answers
     requires { (first second : List Link) → ¬ IsFeasiblePair topology.now wanted.now.query wanted.now.source wanted.now.target first second }
-    ensures answers { IfOk result (λ a. ArePairAnswers topology.now wanted.now a.one a.other) }
-    ensures small { IfOk result AreSmall }
+    ensures answers { ArePairAnswers topology.now wanted.now result.one result.other }
+    ensures small { AreSmall result }
 {
-    let searched = search_domain(alloc, topology, wanted)?;
-    let vector = searched.vector;
-    Ok(Answers {
+    let vector = unknown_ends(topology, wanted);
+    Answers {
         one: Answer::NoPath { nature: 0, vector },
         other: Answer::NoPath { nature: 0, vector },
-    })
+    }
 }
 
 // The answers with the chosen pair, if it is within the greatest cost.
@@ -112,7 +111,7 @@ fn paths_answers(
     let first_cost = path_cost(topology, query, first);
     let second_cost = path_cost(topology, query, second);
     let Some(costs) = costs_within(first_cost, second_cost) else {
-        return no_pair(alloc, topology, wanted);
+        return Ok(no_pair(topology, wanted));
     };
     let one = path_answer(alloc, query.metric, first, costs.one)?;
     let other = path_answer(alloc, query.metric, second, costs.other)?;
@@ -130,7 +129,7 @@ fn pair_answers(alloc: Global, topology: &Topology, wanted: &Wanted) -> Result<A
         PairForm::Paths { first, second, .. } => {
             paths_answers(alloc, topology, wanted, first.as_slice(), second.as_slice())
         }
-        PairForm::Cut(_) => no_pair(alloc, topology, wanted),
+        PairForm::Cut(_) => Ok(no_pair(topology, wanted)),
     }
 }
 
