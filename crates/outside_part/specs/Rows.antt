@@ -72,7 +72,7 @@ pub record IsSifted (units : ℕ → Option ℕ) (most : ℕ) (told : List Path)
   -- there is one for each path that is kept
   pub every : (j : ℕ) (q : Path) (s : Reported) → slice_get told j ≡ Some q → IsKept units most q s → (k : ℕ) × (r : Reported) × (slice_get rows k ≡ Some r) × AreAlike r s
 
--- the paths of the rows that are kept, with the words of their costs; or a NO-PATH with its vector, of nature 0 or 1 (RFC 5440, 7.5)
+-- the paths of the rows that are kept, with the words of their costs; or a NO-PATH (RFC 5440, 7.5) with its vector, and its nature where that is below 1, else 1
 abbrev pub IsSiftedAnswer : (units : ℕ → Option ℕ) → (word : ℕ → ℕ) → (most : ℕ) → Answer → Answer → Type 0
 IsSiftedAnswer units word most (Paths told) (Paths kept) = (rows : List Reported) × IsSifted units most told rows × (kept ≡ map (path_by word) rows)
 IsSiftedAnswer units word most (NoPath nature vector) (NoPath nature' vector') = (nature' ≡ min nature 1) × (vector' ≡ vector)

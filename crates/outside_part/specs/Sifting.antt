@@ -95,6 +95,6 @@ abbrev pub sifted_answer : (units : ℕ → Option ℕ) → (word : ℕ → ℕ)
 sifted_answer units word most (Paths told) = Paths (map (path_by word) (rows_of units most told))
 sifted_answer units word most (NoPath nature vector) = NoPath (min nature 1) vector
 
--- with the flags and the number of the reply
+-- what is kept of a reply, with its flags and its number
 abbrev pub sifted : (units : ℕ → Option ℕ) → (word : ℕ → ℕ) → (most : ℕ) → Reply → Reply
 sifted units word most r = record { flags = r.flags; id = r.id; answer = sifted_answer units word most r.answer }

@@ -53,12 +53,15 @@ fn row_by(
     ensures { IfOk result (λ row. row ≡ row_by hops.now kind (entry_of hops.now) cost) }
 {
     match (entry_of(hops), cost) {
-        (Some(entry), Some(cost)) => Ok(Some(Reported {
-            entry,
-            kind,
-            cost,
-            hops: copy_hops(alloc, hops)?,
-        })),
+        (Some(entry), Some(cost)) => {
+            let hops = copy_hops(alloc, hops)?;
+            Ok(Some(Reported {
+                entry,
+                kind,
+                cost,
+                hops,
+            }))
+        }
         _ => Ok(None),
     }
 }

@@ -56,9 +56,10 @@ fn sifted_answer(alloc: Global, answer: &Answer, most: usize) -> Result<Answer, 
 pub fn sift(alloc: Global, reply: &Reply, most: usize) -> Result<Reply, NoMemory>
     ensures { IfOk result (λ kept. kept ≡ sifted units word_of most reply.now) }
 {
+    let answer = sifted_answer(alloc, &reply.answer, most)?;
     Ok(Reply {
         flags: reply.flags,
         id: reply.id,
-        answer: sifted_answer(alloc, &reply.answer, most)?,
+        answer,
     })
 }
