@@ -8,5 +8,5 @@ pub use lines::{
     write_answer, write_carry, write_certified, write_rows, write_said, write_sent, write_solve,
     write_take,
 };
-pub use plant_layout as layout;
+pub use plant_layout::class_of;
 pub use replies::write_message_lines;
