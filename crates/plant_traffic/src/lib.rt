@@ -10,7 +10,4 @@ mod waiting;
 
 pub use peers::Drained;
 pub use plant_layout::lines_of;
-pub use plant_sessions::{
-    ANSWER_LENGTH, OWN_LENGTH, any_fall, lost_text, own_text, steps_keep_number,
-};
 pub use traffic::Traffic;
