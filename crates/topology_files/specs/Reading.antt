@@ -1,4 +1,4 @@
--- Why a file gives no topology to load.
+-- Why the file of a line gives no topology to load.
 use Rattle.std.specs.Prelude.{◌≡◌, ◌≢◌, ◌⊎◌, ℕ, List, Option, Some, None, Ok, Err}
 use Rattle.dom_base.specs.declared.names.As.{As}
 use Rattle.te_links.specs.declared.fault.TopoFault.{TopoFault}
@@ -13,8 +13,8 @@ use Rattle.te_deltas.specs.Blame.{IsBlamedAt}
 use Rattle.te_deltas.specs.ChangeText.{text_in}
 use Rattle.plant_text.specs.declared.fault.NetFault.{NetFault}
 use Rattle.plant_text.specs.declared.fault.NetFault.TheVariants as fault
-use Rattle.line_files.specs.declared.error.FileError.{FileError}
-use Rattle.line_files.specs.declared.error.FileError.TheVariants.{BadFile, NoMemory}
+use Rattle.topology_files.specs.declared.error.FileError.{FileError}
+use Rattle.topology_files.specs.declared.error.FileError.TheVariants.{BadFile, NoMemory}
 
 -- want of memory, and nothing else
 abbrev pub IsWant : FileError → Type 0

@@ -1,10 +1,10 @@
-//! The topology of a file, the changes of a file, and a topology with these changes.
+//! What the file of a line gives: its topology, its changes, and a topology with these changes.
 ghost use Rattle.std.specs.Prelude.{◌≡◌, ◌≤◌, Ok, IfErr, IfOk, length};
 ghost use Rattle.te_links.specs.Rows.{IsInOrder, IsTopology};
 ghost use Rattle.te_deltas.specs.Answers.{IsBuiltOf, IsWhy};
 ghost use Rattle.te_deltas.specs.ChangeText.{change_file_most, text_in};
 ghost use Rattle.te_text.specs.Reads.{Reads};
-ghost use Rattle.line_files.specs.Loading.{IsRefusal, IsWhyNoChange, IsWhyNoChanges, IsWhyNoTopology, fault_of};
+ghost use Rattle.topology_files.specs.Reading.{IsRefusal, IsWhyNoChange, IsWhyNoChanges, IsWhyNoTopology, fault_of};
 
 use crate::error::FileError;
 use dom_base::{As, List, NoMemory};
