@@ -3,11 +3,11 @@ use Rattle.std.specs.Prelude.{◌≡◌, ◌<◌, ℕ, true, false, List, [], le
 use Rattle.dom_base.specs.declared.names.As.{As}
 use Rattle.pcep_subobjects.specs.declared.hop.Hop.{Hop}
 use Rattle.plant_text.specs.declared.settings.NetworkParts.{NetworkParts}
-use Rattle.plant_traffic.specs.plant_model.Blind.{is_accepted}
-use Rattle.plant_traffic.specs.plant_model.Events.{Happened, carry, take}
-use Rattle.plant_traffic.specs.plant_model.State.{State}
-use Rattle.plant_traffic.specs.plant_model.Wire.{Codec}
-use Rattle.plant_due.specs.Due.{IsLeast, inbox_of}
+use Rattle.plant_deeds.specs.plant_model.Blind.{is_accepted}
+use Rattle.plant_deeds.specs.plant_model.Events.{Happened, carry, take}
+use Rattle.plant_deeds.specs.plant_model.State.{State}
+use Rattle.plant_deeds.specs.plant_model.Wire.{Codec}
+use Rattle.plant_network.specs.Due.{IsLeast, inbox_of}
 
 -- A take that is refused found nothing, and changes and says nothing.
 pub record FoundNothing {P : Type 0} {S : Type 0} (i : ℕ) (s : State P S) (h : Happened P S) : Type 0 where

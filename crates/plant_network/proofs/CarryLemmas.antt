@@ -7,16 +7,16 @@ use Rattle.pcep_subobjects.specs.declared.hop.Hop.{Hop}
 use Rattle.plant_text.specs.declared.settings.NetworkParts.{NetworkParts}
 use Rattle.plant_text.specs.Names.{same_as, same_link}
 use Rattle.plant_text.specs.Settings.{Line, has_line, is_linked, lines}
-use Rattle.plant_traffic.specs.plant_model.declared.outcome.Refused.TheVariants as refused
-use Rattle.plant_traffic.specs.plant_model.Blind.{is_accepted}
-use Rattle.plant_traffic.specs.plant_model.Events as events
-use Rattle.plant_traffic.specs.plant_model.Events.{Happened}
-use Rattle.plant_traffic.specs.plant_model.Names.{is_empty}
-use Rattle.plant_traffic.specs.plant_model.State.{State}
-use Rattle.plant_traffic.specs.plant_model.Wire.{Bytes, Codec}
-use Rattle.plant_traffic.specs.Flow.{Flow}
-use Rattle.plant_traffic.specs.Waiting.{IsAtMost, WaitsNext, ways}
-use Rattle.plant_due.specs.Due.{IsLeast, IsSettled, has_mail}
+use Rattle.plant_deeds.specs.plant_model.declared.outcome.Refused.TheVariants as refused
+use Rattle.plant_deeds.specs.plant_model.Blind.{is_accepted}
+use Rattle.plant_deeds.specs.plant_model.Events as events
+use Rattle.plant_deeds.specs.plant_model.Events.{Happened}
+use Rattle.plant_deeds.specs.plant_model.Names.{is_empty}
+use Rattle.plant_deeds.specs.plant_model.State.{State}
+use Rattle.plant_deeds.specs.plant_model.Wire.{Bytes, Codec}
+use Rattle.plant_deeds.specs.plant_traffic.Flow.{Flow}
+use Rattle.plant_deeds.specs.plant_traffic.Waiting.{IsAtMost, WaitsNext, ways}
+use Rattle.plant_network.specs.Due.{IsLeast, IsSettled, has_mail}
 
 -- ---- along the links of the settings
 
