@@ -1,19 +1,18 @@
 //! All lines of a script, one after the other.
 ghost use Rattle.std.specs.Prelude.{◌≡◌, ◌≤◌, false, length, IfErr, IfOk, OnOk};
 ghost use Rattle.line_text.specs.Lines.{is_skipped};
-ghost use Rattle.plant_script.specs.Cues.{IsTooLarge};
-ghost use Rattle.plant_script.specs.Scripts.{input_name, numbered, script_most};
-ghost use Rattle.blind_play.specs.text_ranges.Given.{IsBlindLine};
+ghost use Rattle.transcript.specs.Stops.{IsTooLarge, input_name, numbered, script_most};
+ghost use Rattle.text_ranges.specs.Given.{IsBlindLine};
 ghost use Rattle.blind_play.specs.Playing.{IsNewStage, stage_of};
-ghost use Rattle.blind_script.specs.Scripts.{HasEvent, IsNoEvent, IsWhole, LinePlays, LineStops, ScriptStops, WroteAll};
+ghost use Rattle.blind_play.specs.WholeScripts.{HasEvent, IsNoEvent, IsWhole, LinePlays, LineStops, ScriptStops, WroteAll};
 
-use blind_play::BlindPlayer;
+use crate::player::BlindPlayer;
 use dom_base::{NoMemory, Text};
 use dom_edge::{Sink, write_all};
 use line_text::Lines;
-use plant_script::{LINE_MAX, Stop};
 use plant_text::{LineError, LineEvent, Network, read_blind_line};
 use std::alloc::Global;
+use transcript::{LINE_MAX, Stop};
 
 // A line above its limit.
 fn too_large(alloc: Global) -> Stop

@@ -7,9 +7,9 @@ use Rattle.line_text.specs.Lines.{NumberedLine, told_lines}
 use Rattle.plant_text.specs.declared.line.LineEvent.{LineEvent}
 use Rattle.plant_text.specs.declared.settings.NetworkParts.{NetworkParts}
 use Rattle.plant_text.specs.Lines.{blind_line_in}
-use Rattle.plant_script.specs.declared.stop.Stop.{Stop}
-use Rattle.plant_script.specs.declared.stop.Stop.TheVariants as stop
-use Rattle.plant_script.specs.Scripts.{input_name, line_most}
+use Rattle.transcript.specs.declared.stop.Stop.{Stop}
+use Rattle.transcript.specs.declared.stop.Stop.TheVariants as stop
+use Rattle.transcript.specs.Stops.{input_name, line_most}
 use Rattle.blind_play.specs.Playing.{Cue, IsNewStage, PlaysLine, Stage}
 use Rattle.blind_play.specs.Scripts.{AllPlayed}
 use Rattle.blind_play.specs.Turns.{Turn}

@@ -1,6 +1,6 @@
 use Rattle.std.proofs.lemmas.Result.{err_from_is_err_and}
-use Rattle.blind_script.proofs.ScriptLemmas.{stops_unbegun}
-use Rattle.blind_script.proofs.script.play_blind_script.Goals as goal
+use Rattle.blind_play.proofs.ScriptLemmas.{stops_unbegun}
+use Rattle.blind_play.proofs.script.play_blind_script.Goals as goal
 
 pub returns-in_err-player-clause-stops : goal.returns-in_err-player-clause-stops
 returns-in_err-player-clause-stops g c =

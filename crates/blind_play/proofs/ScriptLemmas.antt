@@ -9,17 +9,17 @@ use Rattle.dom_edge.specs.Causes.{Rose}
 use Rattle.dom_edge.specs.Whole.{AppendsSome}
 use Rattle.line_text.specs.Lines.{NumberedLine, told_lines}
 use Rattle.plant_text.specs.declared.settings.NetworkParts.{NetworkParts}
-use Rattle.blind_play.specs.plant_model.Blind.{blind_opened}
-use Rattle.blind_play.specs.plant_model.RealWire.{wire}
-use Rattle.blind_play.specs.text_ranges.Given.{IsBlindLine}
-use Rattle.blind_play.proofs.text_ranges.GivenRows.{blind_line_given}
-use Rattle.plant_script.specs.declared.stop.Stop.{Stop}
-use Rattle.plant_script.specs.declared.stop.Stop.TheVariants as stop
-use Rattle.plant_script.proofs.ScriptLemmas.{rose_before, some_more, some_of_all}
+use Rattle.blind_plant.specs.plant_model.Blind.{blind_opened}
+use Rattle.blind_plant.specs.plant_model.RealWire.{wire}
+use Rattle.text_ranges.specs.Given.{IsBlindLine}
+use Rattle.text_ranges.proofs.GivenRows.{blind_line_given}
+use Rattle.transcript.specs.declared.stop.Stop.{Stop}
+use Rattle.transcript.specs.declared.stop.Stop.TheVariants as stop
+use Rattle.transcript.proofs.ScriptParts.{rose_before, some_more, some_of_all}
 use Rattle.blind_play.specs.Playing.{Cue, IsNewStage, PlaysLine, Stage}
 use Rattle.blind_play.specs.Scripts.{AllPlayed}
 use Rattle.blind_play.specs.Turns.{Turn}
-use Rattle.blind_script.specs.Scripts.{AreCues, IsCue, IsNoEvent, LinePlays, LineStops, Reached, ScriptStops, StopsAt}
+use Rattle.blind_play.specs.WholeScripts.{AreCues, IsCue, IsNoEvent, LinePlays, LineStops, Reached, ScriptStops, StopsAt}
 
 -- ---- lines that are played one after the other, and one more at the end
 

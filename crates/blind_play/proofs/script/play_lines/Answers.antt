@@ -7,11 +7,11 @@ use Rattle.line_text.specs.Lines.{NumberedLine}
 use Rattle.line_text.proofs.Counts.{lines_at_most}
 use Rattle.plant_text.specs.declared.settings.NetworkParts.{NetworkParts}
 use Rattle.blind_play.specs.Playing.{stage_of}
-use Rattle.plant_script.specs.Scripts.{numbered}
-use Rattle.blind_script.specs.Scripts.{LinePlays, LineStops}
-use Rattle.blind_script.proofs.ScriptLemmas.{IsAt, at_start, line_more, stops_here}
-use Rattle.plant_script.proofs.ScriptLemmas.{Tells, script_tells}
-use Rattle.blind_script.proofs.script.play_lines.Goals as goal
+use Rattle.transcript.specs.Stops.{numbered}
+use Rattle.transcript.proofs.ScriptParts.{Tells, script_tells}
+use Rattle.blind_play.specs.WholeScripts.{LinePlays, LineStops}
+use Rattle.blind_play.proofs.ScriptLemmas.{IsAt, at_start, line_more, stops_here}
+use Rattle.blind_play.proofs.script.play_lines.Goals as goal
 
 pub new-lines-requires : goal.new-lines-requires
 new-lines-requires g c = omega (arith, c.requires.within, lines_at_most c.args.script.now)

@@ -1,8 +1,8 @@
 use Rattle.std.proofs.Common.{◌≡◌, ◌≤◌, All, length}
 use Rattle.blind_play.specs.Playing.{stage_of}
-use Rattle.plant_script.proofs.ScriptLemmas.{Tells}
-use Rattle.blind_script.proofs.ScriptLemmas.{IsAt}
-use Rattle.blind_script.proofs.script.play_lines.Given as goal
+use Rattle.transcript.proofs.ScriptParts.{Tells}
+use Rattle.blind_play.proofs.ScriptLemmas.{IsAt}
+use Rattle.blind_play.proofs.script.play_lines.Given as goal
 
 abbrev pub invariant-loop-line : goal.invariant-loop-line
 invariant-loop-line g l = record {

@@ -1,9 +1,12 @@
 //! Why a script stops before its end.
 ghost use Rattle.std.specs.Prelude.{◌≡◌};
-ghost use Rattle.plant_script.specs.declared.stop.Stop.TheVariants.{NoMemory};
+ghost use Rattle.transcript.specs.declared.stop.Stop.TheVariants.{NoMemory};
 
 use dom_base::{NoMemory, Text};
 use plant_text::NetFault;
+
+/// How many bytes a line of a script may have.
+pub const LINE_MAX: usize = 262_144;
 
 /// Why a script stops before its end.
 #[derive(Drop)]
