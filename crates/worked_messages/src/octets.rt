@@ -3,6 +3,7 @@ mod rows;
 
 use dom_base::{As, Bytes, List, NoMemory, Query};
 use line_text::{read_hex, write_hex};
+use outside_part::sift;
 use path_exclusions::{ExclusionError, supported};
 use pcep_framing::frame_all;
 use pcep_messages::{
@@ -101,6 +102,24 @@ fn frames(alloc: Global, octets: &[u8]) -> Result<Vec<u8>, NoMemory> {
     Ok(text)
 }
 
+// What is kept of a reply, behind the octet that says how many hops a path may have.
+fn sifted(alloc: Global, octets: &[u8]) -> Result<Vec<u8>, Fail> {
+    let [most, text @ ..] = octets else {
+        return Err("there are no octets".into());
+    };
+    let Message::PcRep(replies) = read_message(alloc, text)? else {
+        return Err("this is no reply".into());
+    };
+    let [reply] = replies.as_slice() else {
+        return Err("these are other replies".into());
+    };
+    let mut kept = List::new(alloc);
+    kept.push(sift(alloc, reply, usize::from(*most))?)?;
+    let mut again = Vec::new(alloc);
+    write_message(alloc, &Message::PcRep(kept), &mut again)?;
+    Ok(told(alloc, text, &again)?)
+}
+
 fn refusal(alloc: Global, asked: &Asked, own: As) -> Option<Refusal> {
     request_of(alloc, asked, own).err()
 }
@@ -185,6 +204,7 @@ fn answer(alloc: Global, verb: &[u8], octets: &[u8]) -> Result<Vec<u8>, Fail> {
         b"message" => told_or_fault(alloc, octets, message(alloc, octets)),
         b"split" => told_or_fault(alloc, octets, split(alloc, octets)),
         b"frames" => Ok(frames(alloc, octets)?),
+        b"sifted" => sifted(alloc, octets),
         b"asks" => asks(alloc, octets),
         b"element" => request(alloc, octets, As(1)),
         b"parent" => request(alloc, octets, As(0)),
