@@ -5,3 +5,4 @@ pub mod Held
 pub mod PlantFields
 -- handed on from below
 pub use Rattle.plant_network.specs.plant_model
+pub use Rattle.plant_network.specs as plant_network

@@ -3,5 +3,6 @@ pub mod HeardLemmas
 pub mod TurnLemmas
 pub mod LineLemmas
 pub mod SayingLemmas
+pub mod ScriptLemmas
 -- handed on from below
 pub use Rattle.text_ranges.proofs as text_ranges

@@ -9,10 +9,10 @@ use Rattle.blind_plant.specs.plant_model.declared.event.BlindEvent.TheVariants a
 use Rattle.blind_plant.specs.plant_model.Blind.{BlindState, is_accepted}
 use Rattle.blind_plant.specs.plant_model.Wire.{Bytes}
 use Rattle.plant_text.specs.Settings.{lines}
-use Rattle.plant_due.specs.plant_traffic.Carried.{flow_of}
-use Rattle.plant_due.specs.plant_traffic.Waiting.{WaitsNext}
-use Rattle.plant_due.specs.Due.{IsLeast, IsSettled}
-use Rattle.plant_due.proofs.CarryLemmas.{least_here, settled_here}
+use Rattle.blind_plant.specs.plant_network.plant_traffic.Carried.{flow_of}
+use Rattle.blind_plant.specs.plant_network.plant_traffic.Waiting.{WaitsNext}
+use Rattle.blind_plant.specs.plant_network.Due.{IsLeast, IsSettled}
+use Rattle.blind_plant.proofs.plant_network.CarryLemmas.{least_here, settled_here}
 use Rattle.blind_plant.specs.Held.{Held, whole}
 use Rattle.blind_plant.specs.Whole.{Whole}
 use Rattle.blind_play.specs.Due.{AreAllDue, AreDue, IsDueTake}

@@ -13,10 +13,10 @@ use Rattle.blind_plant.specs.plant_model.Blind.{BlindHappened, BlindHappens, Bli
 use Rattle.blind_plant.specs.plant_model.Events.{Answered}
 use Rattle.blind_plant.specs.plant_model.RealWire.{wire}
 use Rattle.blind_plant.specs.plant_model.State.{Deed, said}
-use Rattle.plant_due.specs.Due.{IsLeast, IsSettled, inbox_of}
-use Rattle.plant_due.specs.Laws.{FoundNothing}
-use Rattle.plant_due.proofs.CarryLemmas.{can_carry}
-use Rattle.plant_due.proofs.InboxLemmas.{take_empty, take_less}
+use Rattle.blind_plant.specs.plant_network.Due.{IsLeast, IsSettled, inbox_of}
+use Rattle.blind_plant.specs.plant_network.DueLaws.{FoundNothing}
+use Rattle.blind_plant.proofs.plant_network.CarryLemmas.{can_carry}
+use Rattle.blind_plant.proofs.plant_network.InboxLemmas.{take_empty, take_less}
 use Rattle.blind_plant.specs.Whole.{Stepped, Whole}
 use Rattle.blind_play.specs.Due.{AreAllDue, AreDue, IsDueCarry, IsDueTake}
 use Rattle.blind_play.specs.Making.{Does, DoesAll, DoesSome, Makes, MakesTurn, closed_text, drain_text, drainer_of, lacks_memory, told_of}

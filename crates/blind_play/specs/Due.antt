@@ -4,7 +4,7 @@ use Rattle.plant_text.specs.declared.settings.NetworkParts.{NetworkParts}
 use Rattle.blind_plant.specs.plant_model.declared.event.BlindEvent.{BlindEvent}
 use Rattle.blind_plant.specs.plant_model.declared.event.BlindEvent.TheVariants as blind
 use Rattle.blind_plant.specs.plant_model.Blind.{BlindState, is_accepted}
-use Rattle.plant_due.specs.Due.{IsLeast, IsSettled, inbox_of}
+use Rattle.blind_plant.specs.plant_network.Due.{IsLeast, IsSettled, inbox_of}
 use Rattle.blind_play.specs.Turns.{IsTurn, Turn}
 
 -- the message of the least pair is carried, until none is on its way

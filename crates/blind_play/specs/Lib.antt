@@ -3,6 +3,7 @@ pub mod Turns
 pub mod Due
 pub mod Playing
 pub mod Scripts
+pub mod WholeScripts
 pub mod Laws
 -- inner
 pub mod Making

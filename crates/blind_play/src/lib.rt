@@ -1,4 +1,4 @@
-//! The lines of a script, played one at a time on a network without topologies; what closed peers hear is told.
+//! The lines of a script, played on a network without topologies, one at a time or all; what closed peers hear is told.
 #![tactic(auto)]
 
 ghost use Rattle.blind_play.specs.Laws.{LinesSaySo};
@@ -7,10 +7,12 @@ mod events;
 mod feeding;
 mod lines;
 mod player;
+mod script;
 mod settling;
 mod telling;
 
 pub use player::BlindPlayer;
+pub use script::play_blind_script;
 
 /// What is told of lines that are played on a new network is what a network without topologies says on their trace, each
 /// thing once and in order.

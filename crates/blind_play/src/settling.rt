@@ -1,6 +1,6 @@
 //! Messages are carried until none is on its way.
 ghost use Rattle.std.specs.Prelude.{◌≡◌, ◌++◌, MatchOption, OnOk};
-ghost use Rattle.plant_due.specs.Due.{IsLeast, IsSettled};
+ghost use Rattle.blind_plant.specs.plant_network.Due.{IsLeast, IsSettled};
 ghost use Rattle.blind_plant.specs.Held.{whole};
 ghost use Rattle.blind_play.specs.Due.{AreAllDue, IsDueCarry};
 ghost use Rattle.blind_play.specs.Making.{Does};

@@ -15,8 +15,7 @@ use dom_base::{As, NoMemory, Peer};
 use plant_queues::Said;
 use plant_text::NetworkParts;
 use std::alloc::Global;
-use transcript::layout::class_of;
-use transcript::{write_answer, write_sent};
+use transcript::{class_of, write_answer, write_sent};
 
 /// The outside peer that drains what waits for it.
 pub(crate) fn drainer_of(event: &BlindEvent) -> Option<u32>

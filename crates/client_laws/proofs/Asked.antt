@@ -27,10 +27,11 @@ use Rattle.script_laws.proofs.Rightly.{scripts_are_right}
 use Rattle.plant_bulk.specs.plant_client.declared.question.Question.{Question}
 use Rattle.plant_bulk.specs.plant_client.Asking.{topologies}
 use Rattle.plant_bulk.specs.plant_client.Questions.{asked_of, open_message, opening_text, question_message, question_text}
-use Rattle.plant_outlets.proofs.RunLemmas.{run_fits}
-use Rattle.plant_received.proofs.Streams.{stream_of}
-use Rattle.plant_inlets.specs.Inlets.{WasFed, framed, streams}
-use Rattle.plant_inlets.proofs.RunLemmas.{taken_was_fed}
+use Rattle.peer_laws.proofs.OutletRuns.{run_fits}
+use Rattle.peer_laws.proofs.Streams.{stream_of}
+use Rattle.peer_laws.specs.Inlets.{WasFed, streams}
+use Rattle.peer_laws.specs.Received.{framed}
+use Rattle.peer_laws.proofs.InletRuns.{taken_was_fed}
 use Rattle.client_laws.proofs.Asking.{lines_feed}
 use Rattle.client_laws.specs.Asked.{OneIsAsked}
 use Rattle.client_laws.proofs.Feeding.{loading}

@@ -34,12 +34,12 @@ use Rattle.plant_bulk.specs.plant_client.declared.question.Question.{Question}
 use Rattle.plant_bulk.specs.plant_client.Asking.{AreCues, load_line, question_lines, received_in, topologies}
 use Rattle.plant_bulk.specs.plant_client.Questions.{opening_text, question_text}
 use Rattle.plant_bulk.specs.plant_client.Telling.{told_text}
-use Rattle.plant_outlets.specs.Outlets.{Opens, Outlet, Stays, bytes_of, handed_in, messages_for, outlet, turn_for, turned}
-use Rattle.plant_outlets.proofs.EventLemmas.{Fits}
-use Rattle.plant_outlets.proofs.Growing.{view_of}
-use Rattle.plant_outlets.proofs.RunLemmas.{run_fits}
-use Rattle.plant_received.proofs.Reading.{handed_is_read}
-use Rattle.plant_received.proofs.Answering.{answers_are_right}
+use Rattle.peer_laws.specs.Outlets.{Opens, Outlet, Stays, bytes_of, handed_in, messages_for, outlet, turn_for, turned}
+use Rattle.peer_laws.proofs.OutletEvents.{Fits}
+use Rattle.peer_laws.proofs.Growing.{view_of}
+use Rattle.peer_laws.proofs.OutletRuns.{run_fits}
+use Rattle.peer_laws.proofs.Reading.{handed_is_read}
+use Rattle.peer_laws.proofs.Answering.{answers_are_right}
 use Rattle.client_laws.specs.Told.{ClientsAreTold}
 use Rattle.client_laws.proofs.Lines.{AllStay, IsPlain, IsUndrained, entries_join, one_turn, plain_stays, plain_turns, still_open, still_shut, turns_fit, view}
 use Rattle.client_laws.proofs.Telling.{stream_told}

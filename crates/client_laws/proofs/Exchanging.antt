@@ -35,12 +35,12 @@ use Rattle.plant_bulk.specs.plant_client.Asking.{AreCues, Exchanges, asking_line
 use Rattle.plant_bulk.specs.plant_client.Hearing.{heard_in}
 use Rattle.plant_bulk.specs.plant_client.Questions.{opening_text}
 use Rattle.plant_bulk.specs.Playing.{AsksAll, turns_of}
-use Rattle.plant_outlets.specs.Outlets.{Drains, Outlet, Stays, bytes_of, handed_in, messages_for, outlet, turn_for, turned, with_handed}
-use Rattle.plant_outlets.proofs.EventLemmas.{Fits}
-use Rattle.plant_outlets.proofs.Growing.{view_of}
-use Rattle.plant_outlets.proofs.RunLemmas.{run_fits}
-use Rattle.plant_received.proofs.Answering.{answers_are_right}
-use Rattle.plant_received.proofs.Putting.{of_sent, put_is}
+use Rattle.peer_laws.specs.Outlets.{Drains, Outlet, Stays, bytes_of, handed_in, messages_for, outlet, turn_for, turned, with_handed}
+use Rattle.peer_laws.proofs.OutletEvents.{Fits}
+use Rattle.peer_laws.proofs.Growing.{view_of}
+use Rattle.peer_laws.proofs.OutletRuns.{run_fits}
+use Rattle.peer_laws.proofs.Answering.{answers_are_right}
+use Rattle.peer_laws.proofs.Putting.{of_sent, put_is}
 use Rattle.client_laws.proofs.Asking as asking
 use Rattle.client_laws.proofs.Asking.{Fit, on, one_fits, plain_fits}
 use Rattle.client_laws.proofs.Lines.{IsPlain, IsUndrained, entries_join, plain_stays}

@@ -13,11 +13,11 @@ use Rattle.script_laws.specs.plant_model.Wire.{Bytes}
 use Rattle.script_laws.specs.plant_play.Turns.{Turn, entries_of}
 use Rattle.plant_bulk.specs.plant_client.Hearing.{heard_in, in_frame, in_reading}
 use Rattle.plant_bulk.specs.plant_client.Telling.{last_of}
-use Rattle.plant_outlets.specs.Outlets.{Outlet, Turn as Kind, bytes_of, handed_in, messages_for, outlet, turn_for, turned, with_put}
-use Rattle.plant_outlets.proofs.EventLemmas.{joined_append}
-use Rattle.plant_outlets.proofs.Growing.{texts, texts_append}
-use Rattle.plant_received.specs.Received.{IsStreamOf}
-use Rattle.plant_received.proofs.Streams.{stream_of}
+use Rattle.peer_laws.specs.Outlets.{Outlet, Turn as Kind, bytes_of, handed_in, messages_for, outlet, turn_for, turned, with_put}
+use Rattle.peer_laws.proofs.OutletEvents.{joined_append}
+use Rattle.peer_laws.proofs.Growing.{texts, texts_append}
+use Rattle.peer_laws.specs.Received.{IsStreamOf}
+use Rattle.peer_laws.proofs.Streams.{stream_of}
 use Rattle.client_laws.proofs.Lines.{AllStay}
 use Rattle.client_laws.specs.Received.{all_of, last_heard}
 

@@ -17,9 +17,9 @@ use Rattle.script_laws.specs.plant_play.declared.showing.Modes.{Modes}
 use Rattle.script_laws.specs.plant_play.Due.{AreAllDue, AreDue, IsDue, IsDueTake}
 use Rattle.script_laws.specs.plant_play.Playing.{Plays, PlaysDue, PlaysFeedAt, PlaysOne, Stage}
 use Rattle.script_laws.specs.plant_play.Turns.{IsTurn, Turn, entries_of}
-use Rattle.plant_outlets.specs.Outlets.{Outlet, Stays, Turn as Kind, handed_in, messages_for, outlet, turn_for, turned, with_put}
-use Rattle.plant_outlets.proofs.EventLemmas.{Fits, steps_went}
-use Rattle.plant_outlets.proofs.Growing.{View, view_of}
+use Rattle.peer_laws.specs.Outlets.{Outlet, Stays, Turn as Kind, handed_in, messages_for, outlet, turn_for, turned, with_put}
+use Rattle.peer_laws.proofs.OutletEvents.{Fits, steps_went}
+use Rattle.peer_laws.proofs.Growing.{View, view_of}
 
 -- events that open, shut and drain no connection
 abbrev pub AllStay : ℕ → List Turn → Type 0

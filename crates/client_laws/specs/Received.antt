@@ -18,8 +18,8 @@ use Rattle.plant_bulk.specs.plant_client.declared.question.Question.{Question}
 use Rattle.plant_bulk.specs.plant_client.Asking.{Begins}
 use Rattle.plant_bulk.specs.plant_client.Hearing.{heard_in, in_message}
 use Rattle.plant_bulk.specs.Playing.{AsksAll}
-use Rattle.plant_outlets.specs.Outlets.{Outlet, bytes_of, outlet}
-use Rattle.plant_received.specs.Received.{IsRight}
+use Rattle.peer_laws.specs.Outlets.{Outlet, bytes_of, outlet}
+use Rattle.peer_laws.specs.Received.{IsRight}
 use Rattle.client_laws.specs.Told.{IsClient}
 
 -- what the last of these messages says of a path

@@ -18,8 +18,8 @@ use Rattle.plant_bulk.specs.plant_client.plant_script.transcript.Replies.{messag
 use Rattle.plant_bulk.specs.plant_client.declared.question.Question.{Question}
 use Rattle.plant_bulk.specs.plant_client.Asking.{Asks}
 use Rattle.plant_bulk.specs.plant_client.Telling.{told_text}
-use Rattle.plant_outlets.specs.Outlets.{Outlet, bytes_of, outlet}
-use Rattle.plant_received.specs.Received.{IsRight}
+use Rattle.peer_laws.specs.Outlets.{Outlet, bytes_of, outlet}
+use Rattle.peer_laws.specs.Received.{IsRight}
 
 -- what the last of these messages answers, as lines for a person
 abbrev pub last_lines : List Message → List ℕ

@@ -4,7 +4,7 @@ use Rattle.std.specs.Prelude.{Contains, codes}
 use Rattle.dom_base.specs.declared.names.As.{As}
 use Rattle.dom_edge.specs.Causes.{Rose}
 use Rattle.dom_edge.specs.Stores.{Files, HasFile, IfFile}
-use Rattle.line_files.specs.Loading.{IsTopologyFault}
+use Rattle.topology_files.specs.Reading.{IsTopologyFault}
 use Rattle.network_files.specs.Loading.{HasNetwork, settings_max}
 use Rattle.plant_text.specs.declared.fault.NetFault.{NetFault}
 use Rattle.plant_text.specs.declared.fault.NetFault.TheVariants.{Duplicate}

@@ -3,7 +3,7 @@ use Rattle.std.specs.Prelude.{◌≡◌, ◌⊎◌, ◌≤◌, ℕ, List, Contai
 use Rattle.dom_base.specs.declared.names.As.{As}
 use Rattle.dom_edge.specs.Causes.{Rose}
 use Rattle.dom_edge.specs.Stores.{Files, IfFile, IsLongFile}
-use Rattle.line_files.specs.Loading.{IsTopologyFault}
+use Rattle.topology_files.specs.Reading.{IsTopologyFault}
 use Rattle.network_files.specs.Loading.{HasNetwork, settings_max}
 use Rattle.plant_text.specs.Reads.{IsFaulty}
 use Rattle.plant_text.specs.declared.fault.NetFault.{NetFault}

@@ -31,7 +31,6 @@ pub use blind::Blind;
 pub use committing::CommitError;
 pub use element::Element;
 pub use law::jobs_last;
-pub use member_parts as parts;
 pub use plan::Plan;
 pub use topologies::{PinnedTopology, Topologies};
 pub use world::World;

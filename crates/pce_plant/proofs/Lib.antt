@@ -8,3 +8,4 @@ pub mod Crossing
 pub mod ReadyLemmas
 -- handed on from below
 pub use Rattle.plant_network.proofs.plant_model
+pub use Rattle.plant_network.proofs as plant_network

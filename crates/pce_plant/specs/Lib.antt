@@ -11,3 +11,4 @@ pub mod TurnLaws
 -- handed on from below
 pub use Rattle.plant_network.specs.pce_parent
 pub use Rattle.plant_network.specs.plant_model
+pub use Rattle.plant_network.specs as plant_network

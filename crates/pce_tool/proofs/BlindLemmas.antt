@@ -8,9 +8,9 @@ use Rattle.client_laws.specs.script_laws.plant_model.Plant.{deeds_of}
 use Rattle.client_laws.specs.script_laws.plant_model.RealWire.{wire}
 use Rattle.client_laws.proofs.script_laws.plant_laws.OneThing.{says_one_thing}
 use Rattle.client_laws.proofs.script_laws.plant_laws.SaysBlind.{says_as_blind}
-use Rattle.blind_script.specs.blind_play.Turns.{all_heard, trace_of}
-use Rattle.blind_script.proofs.blind_play.SayingLemmas.{says_so}
-use Rattle.blind_script.proofs.ScriptLemmas.{cues_given}
+use Rattle.blind_play.specs.Turns.{all_heard, trace_of}
+use Rattle.blind_play.proofs.SayingLemmas.{says_so}
+use Rattle.blind_play.proofs.ScriptLemmas.{cues_given}
 use Rattle.pce_tool.specs.Headline.{BlindsAreHeard}
 
 pub blinds_are_heard : (files : Option Files) (net : List ℕ) → BlindsAreHeard files net

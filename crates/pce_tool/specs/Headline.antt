@@ -18,17 +18,18 @@ use Rattle.client_laws.specs.script_laws.Headline.{HasIdsLeft, IsRight}
 use Rattle.client_laws.specs.Asked.{AsksOnly}
 use Rattle.client_laws.specs.Received.{AreReceived}
 use Rattle.client_laws.specs.Told.{IsTold}
-use Rattle.plant_bulk.specs.plant_script.Scripts.{Playing, script_most}
+use Rattle.plant_bulk.specs.plant_script.transcript.Stops.{script_most}
+use Rattle.plant_bulk.specs.plant_script.Scripts.{Playing}
 use Rattle.plant_bulk.specs.plant_client.Asking.{Asks}
 use Rattle.plant_bulk.specs.plant_client.declared.question.Question.{Question}
 use Rattle.plant_bulk.specs.declared.requests.Demand.{Demand}
 use Rattle.plant_bulk.specs.Playing.{IsBulk, bulk_turns, client, network}
 use Rattle.plant_bulk.specs.Requests.{requests_most}
-use Rattle.blind_script.specs.blind_play.Laws.{SaysSo}
-use Rattle.blind_script.specs.blind_play.Playing.{Stage as BlindStage}
-use Rattle.blind_script.specs.blind_play.Turns.{Turn as BlindTurn}
-use Rattle.blind_script.specs.blind_play.Turns.{all_heard, trace_of}
-use Rattle.blind_script.specs.Scripts.{Playing as BlindlyPlaying}
+use Rattle.blind_play.specs.Laws.{SaysSo}
+use Rattle.blind_play.specs.Playing.{Stage as BlindStage}
+use Rattle.blind_play.specs.Turns.{Turn as BlindTurn}
+use Rattle.blind_play.specs.Turns.{all_heard, trace_of}
+use Rattle.blind_play.specs.WholeScripts.{Playing as BlindlyPlaying}
 use Rattle.pce_tool.specs.declared.route.Route.{Route}
 use Rattle.network_files.specs.Loading.{HasNetwork}
 use Rattle.pce_tool.specs.Networks.{question_of}

@@ -10,14 +10,15 @@ use Rattle.plant_text.specs.declared.settings.NetworkParts.{NetworkParts}
 use Rattle.plant_text.specs.Networks.{with_path}
 use Rattle.plant_text.specs.Reads.{IsFaulty}
 use Rattle.plant_text.specs.Settings.{is_element}
-use Rattle.plant_bulk.specs.plant_script.declared.stop.Stop.{Stop}
-use Rattle.plant_bulk.specs.plant_script.declared.stop.Stop.TheVariants as stop
-use Rattle.plant_bulk.specs.plant_script.Scripts.{Around, IsWhole, ScriptStops, around, script_most}
+use Rattle.plant_bulk.specs.plant_script.transcript.declared.stop.Stop.{Stop}
+use Rattle.plant_bulk.specs.plant_script.transcript.declared.stop.Stop.TheVariants as stop
+use Rattle.plant_bulk.specs.plant_script.transcript.Stops.{script_most}
+use Rattle.plant_bulk.specs.plant_script.Scripts.{Around, IsWhole, ScriptStops, around}
 use Rattle.plant_bulk.specs.declared.requests.Demand.TheVariants.{One}
 use Rattle.plant_bulk.specs.declared.tally.Tally.{Tally}
 use Rattle.plant_bulk.specs.Playing.{IsTallied}
 use Rattle.plant_bulk.specs.Telling.{tally_text}
-use Rattle.blind_script.specs.Scripts as blind
+use Rattle.blind_play.specs.WholeScripts as blind
 use Rattle.pce_tool.specs.declared.status.Status.{Status}
 use Rattle.pce_tool.specs.declared.status.Status.TheVariants as status
 use Rattle.network_files.specs.Loading.{HasNetwork, settings_max}

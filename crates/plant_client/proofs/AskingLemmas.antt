@@ -12,8 +12,8 @@ use Rattle.plant_script.specs.plant_model.Events.{Answered}
 use Rattle.plant_script.specs.plant_play.Playing.{Cue, IsNewStage, Stage}
 use Rattle.plant_script.specs.plant_play.Scripts.{AllPlayed}
 use Rattle.plant_script.specs.plant_play.Turns.{Turn}
-use Rattle.plant_script.specs.declared.stop.Stop.{Stop}
-use Rattle.plant_script.specs.declared.stop.Stop.TheVariants as stop
+use Rattle.transcript.specs.declared.stop.Stop.{Stop}
+use Rattle.transcript.specs.declared.stop.Stop.TheVariants as stop
 use Rattle.plant_script.specs.Cues.{IsFileStop, PlaysCue}
 use Rattle.plant_client.specs.Asking.{AreCues, ArePlayed, Asks, Begins, Exchanges, IsPlayed, LoadsStop, Receives, asking_lines, load_line, opening_lines, session_lines, topologies}
 use Rattle.plant_client.specs.declared.question.Question.{Question}

@@ -14,8 +14,8 @@ use Rattle.plant_script.specs.plant_model.Events.{Answered}
 use Rattle.plant_script.specs.plant_play.Playing.{Cue, IsNewStage, PlaysLine, Stage}
 use Rattle.plant_script.specs.plant_play.Scripts.{AllPlayed}
 use Rattle.plant_script.specs.plant_play.Turns.{Turn}
-use Rattle.plant_script.specs.declared.stop.Stop.{Stop}
-use Rattle.plant_script.specs.declared.stop.Stop.TheVariants as stop
+use Rattle.transcript.specs.declared.stop.Stop.{Stop}
+use Rattle.transcript.specs.declared.stop.Stop.TheVariants as stop
 use Rattle.plant_script.specs.Cues.{HasText, IsFileStop, file_name}
 use Rattle.plant_client.specs.declared.question.Question.{Question}
 use Rattle.plant_client.specs.Questions.{opening_text, question_text}

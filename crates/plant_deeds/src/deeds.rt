@@ -15,8 +15,8 @@ ghost use Rattle.plant_deeds.specs.Telling.{RoomToTell, Tells};
 use dom_base::{As, Peer};
 use pcep_session::Own;
 use plant_members::Members;
+use plant_sessions::{lost_text, own_text};
 use plant_traffic::Traffic;
-use plant_traffic::sessions::{lost_text, own_text};
 
 /// A session says a message of its own, for which there is room.
 pub(crate) fn say(traffic: &mut Traffic, at: As, to: Peer, own: Own)

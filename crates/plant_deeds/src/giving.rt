@@ -22,8 +22,8 @@ use pcep_messages::{Message, write_message};
 use plant_members::Members;
 use plant_members::model::{Output, Outputs};
 use plant_queues::Said;
+use plant_sessions::{ANSWER_LENGTH, OWN_LENGTH};
 use plant_traffic::Traffic;
-use plant_traffic::sessions::{ANSWER_LENGTH, OWN_LENGTH};
 use std::alloc::Global;
 
 /// What a message makes of a member, and what it sends, in its bytes.

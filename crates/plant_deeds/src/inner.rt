@@ -23,8 +23,8 @@ use crate::links::break_line;
 use dom_base::{As, Peer};
 use pcep_session::{Action, Actions, Input, Own};
 use plant_members::Members;
+use plant_sessions::{any_fall, steps_keep_number};
 use plant_traffic::Traffic;
-use plant_traffic::sessions::{any_fall, steps_keep_number};
 
 /// A message of the session's own is said, for which there is room, or left out at a tick.
 pub(crate) fn inner_say<M: Members>(

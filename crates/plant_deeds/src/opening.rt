@@ -18,8 +18,8 @@ ghost use Rattle.plant_deeds.specs.Standing.{Goes, here, state_of};
 use crate::giving::{NOTHING, reserve_words};
 use dom_base::{As, NoMemory, Peer};
 use plant_members::Members;
+use plant_sessions::OWN_LENGTH;
 use plant_traffic::Traffic;
-use plant_traffic::sessions::OWN_LENGTH;
 
 // An end of a link says its Open.
 fn begin_one<M: Members>(

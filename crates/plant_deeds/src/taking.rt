@@ -37,8 +37,8 @@ use pcep_messages::Message;
 use pcep_session::{Action, Actions, Session};
 use plant_members::Members;
 use plant_members::model::{Outcome, Refused};
+use plant_sessions::{ANSWER_LENGTH, any_fall};
 use plant_traffic::Traffic;
-use plant_traffic::sessions::{ANSWER_LENGTH, any_fall};
 use std::alloc::Global;
 
 // How long a message of a session's own is at most: an Open that speaks of stateful sessions.

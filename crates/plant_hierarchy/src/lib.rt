@@ -16,7 +16,6 @@ mod steps;
 
 pub use answering::Unanswered;
 pub use hierarchy::{Hierarchy, is_parent};
-pub use pce_element as element;
-pub use pce_element::parts;
-pub use pce_parent as parent;
+pub use pce_element::{Blind, Topologies};
+pub use pce_parent::{Done, Work, solve_border};
 pub use plan::MemberPlan;

@@ -2,6 +2,8 @@
 pub mod Whole
 pub mod Moving
 pub mod Beginning
+pub mod Due
+pub mod DueLaws
 -- handed on from below
 pub use Rattle.plant_hierarchy.specs.pce_element
 pub use Rattle.plant_hierarchy.specs.pce_parent

@@ -9,10 +9,7 @@ ghost use Rattle.plant_deeds.specs.Standing.{here};
 ghost use Rattle.plant_network.specs.Beginning.{AreBare, Begins};
 
 use dom_base::NoMemory;
-use plant_deeds::begin_links;
-use plant_deeds::layout::lines_of;
-use plant_deeds::members::Members;
-use plant_deeds::traffic::Traffic;
+use plant_deeds::{Members, Traffic, begin_links, lines_of};
 use plant_text::NetworkParts;
 use std::alloc::Global;
 

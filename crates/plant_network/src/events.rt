@@ -7,12 +7,10 @@ ghost use Rattle.plant_deeds.specs.Standing.{here};
 ghost use Rattle.plant_network.specs.Moving.{IsSound, Moves, OrLacks};
 
 use dom_base::{As, Bytes, Tick};
-use plant_deeds::members::Members;
 use plant_deeds::model::{Outcome, Refused};
-use plant_deeds::traffic::Traffic;
 use plant_deeds::{
-    break_link as broken, carry as carried, drain as drained, feed as fed, open as opened,
-    shut as closed, take as taken, tick as ticked,
+    Members, Traffic, break_link as broken, carry as carried, drain as drained, feed as fed,
+    open as opened, shut as closed, take as taken, tick as ticked,
 };
 use std::alloc::Global;
 

@@ -10,9 +10,9 @@ use Rattle.pce_plant.specs.plant_model.Blind.{is_accepted}
 use Rattle.pce_plant.specs.plant_model.Events.{Answered}
 use Rattle.pce_plant.specs.plant_model.Plant.{Pin, Plant, Segment, Happened, Happens, IsGiven, Run}
 use Rattle.pce_plant.specs.plant_model.RealWire.{wire}
-use Rattle.plant_due.specs.Due.{IsLeast, IsSettled, inbox_of}
-use Rattle.plant_due.proofs.CarryLemmas as carries
-use Rattle.plant_due.proofs.InboxLemmas.{take_empty, take_less}
+use Rattle.pce_plant.specs.plant_network.Due.{IsLeast, IsSettled, inbox_of}
+use Rattle.pce_plant.proofs.plant_network.CarryLemmas as carries
+use Rattle.pce_plant.proofs.plant_network.InboxLemmas.{take_empty, take_less}
 use Rattle.pce_plant.specs.Jobs.{CanSolve}
 use Rattle.pce_plant.specs.Whole.{Stepped, Whole}
 use Rattle.std.specs.Prelude.{MatchBool, slice_get}

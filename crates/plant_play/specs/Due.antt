@@ -7,7 +7,7 @@ use Rattle.pce_plant.specs.plant_model.declared.event.Event.TheVariants as event
 use Rattle.pce_plant.specs.plant_model.Blind.{is_accepted}
 use Rattle.pce_plant.specs.plant_model.Events.{ready_jobs}
 use Rattle.pce_plant.specs.plant_model.Plant.{Plant}
-use Rattle.plant_due.specs.Due.{IsLeast, IsSettled, inbox_of}
+use Rattle.pce_plant.specs.plant_network.Due.{IsLeast, IsSettled, inbox_of}
 use Rattle.plant_play.specs.declared.going.Until.{Until}
 use Rattle.plant_play.specs.declared.going.Until.TheVariants.{Settled, Finished}
 use Rattle.plant_play.specs.declared.showing.Modes.{Modes}

@@ -6,11 +6,11 @@ use Rattle.plant_text.specs.declared.fault.NetFault.{NetFault}
 use Rattle.plant_text.specs.declared.line.LineEvent.{LineEvent}
 use Rattle.plant_text.specs.declared.line.LineEvent.TheVariants as line
 use Rattle.plant_play.specs.plant_model.Events.{Answered}
-use Rattle.plant_play.specs.line_files.declared.error.FileError.TheVariants as play
+use Rattle.plant_play.specs.topology_files.declared.error.FileError.TheVariants as play
 use Rattle.plant_play.specs.Playing.{IsWhyNot, PlaysLine, Stage, cue}
 use Rattle.plant_play.specs.Turns.{Turn}
-use Rattle.plant_script.specs.declared.stop.Stop.{Stop}
-use Rattle.plant_script.specs.declared.stop.Stop.TheVariants as stop
+use Rattle.transcript.specs.declared.stop.Stop.{Stop}
+use Rattle.transcript.specs.declared.stop.Stop.TheVariants as stop
 
 -- how many bytes a file that a line names may have
 abbrev pub file_most : ℕ
@@ -42,12 +42,6 @@ IsNoFile files name counts failed_at stop.ReadFault = Rose counts.0 counts.1 × 
 IsNoFile files name counts failed_at (stop.TooLarge file) = (file ≡ name) × IsLongFile files name file_most
 IsNoFile files name counts failed_at stop.NoMemory = Unit {0}
 IsNoFile files name counts failed_at why = ⊥
-
--- the file, unless memory lacks
-abbrev pub IsTooLarge : List ℕ → Stop → Type 0
-IsTooLarge name (stop.TooLarge file) = file ≡ name
-IsTooLarge name stop.NoMemory = Unit {0}
-IsTooLarge name why = ⊥
 
 -- the file, its line and the fault, unless memory lacks
 abbrev pub IsBadAt : List ℕ → ℕ → NetFault → Stop → Type 0

@@ -1,5 +1,5 @@
 -- The lines of a script, played on a network one after the other, and why a script stops before its end.
-use Rattle.std.specs.Prelude.{◌≡◌, ◌⊎◌, ◌<◌, ◌≤◌, ℕ, List, [], ◌∷◌, ◌++◌, codes, length, Option, Some, None}
+use Rattle.std.specs.Prelude.{◌≡◌, ◌⊎◌, ◌<◌, ◌≤◌, ℕ, List, [], ◌∷◌, ◌++◌, length, Option, Some, None}
 use Rattle.std.specs.Io.KnownBytes.{Appends, Keeps}
 use Rattle.dom_edge.specs.Causes.{Rose}
 use Rattle.dom_edge.specs.Stores.{Files}
@@ -12,16 +12,10 @@ use Rattle.plant_play.specs.plant_model.Events.{Answered}
 use Rattle.plant_play.specs.Playing.{Cue, IsNewStage, PlaysLine, Stage}
 use Rattle.plant_play.specs.Scripts.{AllPlayed}
 use Rattle.plant_play.specs.Turns.{Turn}
-use Rattle.plant_script.specs.declared.stop.Stop.{Stop}
-use Rattle.plant_script.specs.declared.stop.Stop.TheVariants as stop
+use Rattle.transcript.specs.declared.stop.Stop.{Stop}
+use Rattle.transcript.specs.declared.stop.Stop.TheVariants as stop
+use Rattle.transcript.specs.Stops.{input_name, line_most}
 use Rattle.plant_script.specs.Cues.{HasText, IsFileStop, file_name}
-
--- how many bytes a line may have, and a script
-abbrev pub line_most : ℕ
-line_most = 262144
-
-abbrev pub script_most : ℕ
-script_most = 67108864
 
 -- ---- lines that are played
 
@@ -56,10 +50,6 @@ pub record StopsAtFile (files : Option Files) (n : NetworkParts) (l : NumberedLi
   pub name : List ℕ
   pub named : file_name event ≡ Some name
   pub stops : IsFileStop files name event old new counts failed_at why
-
--- the name that a script has, where one of its lines is too long
-abbrev pub input_name : List ℕ
-input_name = codes "input"
 
 -- Why a line stops the script: it is too long or outside the form, or the file that it names stops it.
 abbrev pub IsLineStop : Option Files → NetworkParts → NumberedLine → Stage → Stage → ℕ × ℕ → List ℕ → Stop → Type 0
@@ -124,10 +114,6 @@ ScriptStops a n script stop.NoMemory = IsCut a n script
 ScriptStops a n script why = StopsAt a n script why
 
 -- ---- one line
-
--- a line as it is counted
-abbrev pub numbered : ℕ → List ℕ → NumberedLine
-numbered number text = record { number = number; text = text }
 
 -- the event of a line that is not too long
 pub record HasEvent (n : NetworkParts) (l : NumberedLine) (e : LineEvent) : Type 0 where

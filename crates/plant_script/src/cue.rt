@@ -1,14 +1,15 @@
 //! One line of a script: the file that it names is read, and then it is played.
 ghost use Rattle.std.specs.Prelude.{◌≡◌, ◌≤◌, ◌++◌, length, IfErr, IfOk, MatchOption, None, OnErr, Some};
 ghost use Rattle.plant_play.specs.Playing.{stage_of};
-ghost use Rattle.plant_script.specs.Cues.{HasText, IsBadAt, IsCueStop, IsFileStop, IsNoFile, IsTooLarge, PlaysCue, file_name};
+ghost use Rattle.transcript.specs.Stops.{IsTooLarge};
+ghost use Rattle.plant_script.specs.Cues.{HasText, IsBadAt, IsCueStop, IsFileStop, IsNoFile, PlaysCue, file_name};
 
-use crate::stop::Stop;
 use dom_base::{Bytes, NoMemory, Text};
 use dom_edge::{Store, StoreError};
 use plant_play::{Answer, PlayError, Player};
 use plant_text::{LineEvent, NetFault};
 use std::alloc::Global;
+use transcript::Stop;
 
 /// How many bytes a file that a line names may have.
 pub const FILE_MAX: usize = 4_194_304;

@@ -3,9 +3,8 @@
 
 mod cue;
 mod script;
-mod stop;
 
 pub use cue::{FILE_MAX, play_cue};
 pub use plant_play::{Answer, Outcome, Player};
-pub use script::{LINE_MAX, SCRIPT_MAX, play_script};
-pub use stop::Stop;
+pub use script::{SCRIPT_MAX, play_script};
+pub use transcript::Stop;

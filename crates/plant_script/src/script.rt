@@ -2,18 +2,16 @@
 ghost use Rattle.std.specs.Prelude.{◌≡◌, ◌≤◌, false, length, IfErr, IfOk, OnOk};
 ghost use Rattle.line_text.specs.Lines.{is_skipped};
 ghost use Rattle.plant_play.specs.Playing.{IsNewStage, stage_of};
-ghost use Rattle.plant_script.specs.Scripts.{HasEvent, IsNoEvent, IsWhole, LinePlays, LineStops, ScriptStops, WroteAll, around, numbered, script_most};
+ghost use Rattle.transcript.specs.Stops.{numbered, script_most};
+ghost use Rattle.plant_script.specs.Scripts.{HasEvent, IsNoEvent, IsWhole, LinePlays, LineStops, ScriptStops, WroteAll, around};
 
 use crate::cue::{play_cue, too_large};
-use crate::stop::Stop;
 use dom_edge::{Sink, Store, write_all};
 use line_text::{Line, Lines};
 use plant_play::Player;
 use plant_text::{LineError, LineEvent, Network, read_line};
 use std::alloc::Global;
-
-/// How many bytes a line of a script may have.
-pub const LINE_MAX: usize = 262_144;
+use transcript::{LINE_MAX, Stop};
 
 /// How many bytes a script may have.
 pub const SCRIPT_MAX: usize = 67_108_864;

@@ -9,6 +9,5 @@ mod traffic;
 mod waiting;
 
 pub use peers::Drained;
-pub use plant_layout as layout;
-pub use plant_sessions as sessions;
+pub use plant_layout::lines_of;
 pub use traffic::Traffic;

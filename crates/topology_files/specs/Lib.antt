@@ -1,2 +1,3 @@
 -- for readers
 pub mod Loading
+pub mod Reading

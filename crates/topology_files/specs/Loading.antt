@@ -1,4 +1,4 @@
--- Which topology a file has, and why it has none.
+-- Which topology a file of a store has, and why it has none.
 use Rattle.std.specs.Prelude.{◌≡◌, ◌≤◌, ℕ, List, length, Option}
 use Rattle.dom_edge.specs.Causes.{Rose}
 use Rattle.dom_edge.specs.Stores.{Files, HasFile, IfFile, IsLongFile}

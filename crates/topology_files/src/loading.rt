@@ -1,4 +1,4 @@
-//! The topology in a file.
+//! The topology in a file of a store.
 ghost use Rattle.std.specs.Prelude.{◌≡◌, ◌≤◌, IfOk, IfErr};
 ghost use Rattle.topology_files.specs.Loading.{HasTopology, IsWhyNot};
 

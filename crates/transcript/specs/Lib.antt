@@ -1,3 +1,4 @@
 -- for readers
 pub mod Lines
 pub mod Replies
+pub mod Stops

@@ -1,12 +1,14 @@
-//! How the events of a run and the answers to a client are told: the lines of a transcript.
+//! How the events of a run and the answers to a client are told: the lines of a transcript; and why a script stops.
 #![tactic(auto)]
 
 mod lines;
 mod replies;
+mod stop;
 
 pub use lines::{
     write_answer, write_carry, write_certified, write_rows, write_said, write_sent, write_solve,
     write_take,
 };
-pub use plant_layout as layout;
+pub use plant_layout::class_of;
 pub use replies::write_message_lines;
+pub use stop::{LINE_MAX, Stop};

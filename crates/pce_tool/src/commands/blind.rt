@@ -1,13 +1,13 @@
 //! `blind`: the lines of a script, played on a network without topologies.
 ghost use Rattle.std.specs.Prelude.{◌≡◌, ◌≤◌, length};
-ghost use Rattle.plant_bulk.specs.plant_script.Scripts.{script_most};
+ghost use Rattle.plant_bulk.specs.plant_script.transcript.Stops.{script_most};
 ghost use Rattle.pce_tool.specs.Networks.{BlindEnds, IsBlindStatus};
 ghost use Rattle.pce_tool.specs.Worlds.{world};
 
 use crate::commands::play::{read_script, status_of};
 use crate::files::load_network;
 use crate::status::Status;
-use blind_script::play_blind_script;
+use blind_play::play_blind_script;
 use dom_edge::{Sink, Source, Store};
 use plant_text::Network;
 use std::alloc::Global;

@@ -8,8 +8,10 @@ use Rattle.line_text.specs.Lines.{NumberedLine}
 use Rattle.line_text.proofs.Counts.{lines_at_most}
 use Rattle.plant_text.specs.declared.settings.NetworkParts.{NetworkParts}
 use Rattle.plant_play.specs.Playing.{stage_of}
-use Rattle.plant_script.specs.Scripts.{LinePlays, LineStops, around, numbered}
-use Rattle.plant_script.proofs.ScriptLemmas.{IsAt, Tells, at_start, line_more, script_tells, stops_here}
+use Rattle.transcript.specs.Stops.{numbered}
+use Rattle.transcript.proofs.ScriptParts.{Tells, script_tells}
+use Rattle.plant_script.specs.Scripts.{LinePlays, LineStops, around}
+use Rattle.plant_script.proofs.ScriptLemmas.{IsAt, at_start, line_more, stops_here}
 use Rattle.plant_script.proofs.script.play_lines.Goals as goal
 
 pub new-lines-requires : goal.new-lines-requires

@@ -1,6 +1,7 @@
 use Rattle.std.proofs.Common.{◌≡◌, ◌≤◌, All, length}
 use Rattle.plant_play.specs.Playing.{stage_of}
-use Rattle.plant_script.proofs.ScriptLemmas.{IsAt, Tells}
+use Rattle.transcript.proofs.ScriptParts.{Tells}
+use Rattle.plant_script.proofs.ScriptLemmas.{IsAt}
 use Rattle.plant_script.proofs.script.play_lines.Given as goal
 
 abbrev pub invariant-loop-line : goal.invariant-loop-line

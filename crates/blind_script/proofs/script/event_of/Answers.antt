@@ -1,6 +1,0 @@
-use Rattle.std.proofs.Common.{◌∙◌, Some, ap}
-use Rattle.blind_play.proofs.text_ranges.GivenRows.{blind_line_given}
-use Rattle.blind_script.proofs.script.event_of.Goals as goal
-
-pub returns-in-Ok-Some-clause-given : goal.returns-in-Ok-Some-clause-given
-returns-in-Ok-Some-clause-given c = blind_line_given c.args.network.now c.args.text.now c.in-Ok-Some.event (c.in-Ok-Some.ensures ∙ ap Some c.in-Ok-Some.field-0-is)

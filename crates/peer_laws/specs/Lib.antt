@@ -1,0 +1,4 @@
+-- for readers
+pub mod Outlets
+pub mod Received
+pub mod Inlets

@@ -1,2 +1,0 @@
-pub mod InboxLemmas
-pub mod CarryLemmas

@@ -1,4 +1,0 @@
-pub mod Fading
-pub mod Frames
-pub mod EventLemmas
-pub mod RunLemmas

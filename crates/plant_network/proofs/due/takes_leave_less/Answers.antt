@@ -1,0 +1,13 @@
+use Rattle.std.proofs.Common.{refl}
+use Rattle.disclosure.specs.Shown.{open_of}
+use Rattle.plant_deeds.specs.plant_model.Blind.{Nothing, show_nothing}
+use Rattle.plant_deeds.specs.plant_model.Events.{take}
+use Rattle.plant_deeds.specs.plant_model.Plant.{Pin, Segment}
+use Rattle.plant_network.proofs.InboxLemmas.{take_less}
+use Rattle.plant_network.proofs.due.takes_leave_less.Goals as goal
+
+pub returns : goal.returns
+returns c = record {
+  with_topologies = λ c n i s. take_less Pin Segment c n open_of i s (take Pin Segment c n open_of i s) refl;
+  blind = λ c n i s. take_less Nothing Nothing c n show_nothing i s (take Nothing Nothing c n show_nothing i s) refl;
+}

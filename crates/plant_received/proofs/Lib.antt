@@ -1,4 +1,0 @@
-pub mod Putting
-pub mod Streams
-pub mod Reading
-pub mod Answering

@@ -1,2 +1,0 @@
--- for readers
-pub mod Received

@@ -1,0 +1,11 @@
+use Rattle.std.proofs.Common.{◌==◌, ◌≤◌, ◌+◌, length, arith}
+use Rattle.std.specs.Str.Lines.{lines}
+use Rattle.std.proofs.lemmas.List.Sums.{count_by-le-length}
+use Rattle.topology_files.proofs.LineCount.{few_lines}
+use Rattle.topology_files.proofs.reading.topology_of.Goals as goal
+
+pub read_topology-requires : goal.read_topology-requires
+read_topology-requires c =
+    let bytes = c.args.file.now in
+    let few : length (lines bytes) ≤ length bytes + 1 = few_lines bytes (count_by-le-length (λ b. b == 10) bytes) in
+    omega (arith, few, c.requires.short)

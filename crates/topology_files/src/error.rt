@@ -1,0 +1,23 @@
+//! Why the file of a line gives no topology to load.
+ghost use Rattle.std.specs.Prelude.{◌≡◌};
+ghost use Rattle.topology_files.specs.declared.error.FileError.TheVariants.{NoMemory};
+
+use dom_base::NoMemory;
+use plant_text::NetFault;
+
+/// Why the file of a line gives no topology to load.
+#[derive(Drop)]
+pub enum FileError {
+    /// The file is refused at this line of it, from 1: its text is, its topology is of another domain than the line names,
+    /// or its changes can't be made; 0 where a change leaves a row that was there before against the rules.
+    BadFile(u32, NetFault),
+    NoMemory,
+}
+
+impl From<NoMemory> for FileError {
+    ghost from_gives = { λ _ e. e ≡ NoMemory };
+
+    fn from(_: NoMemory) -> Self {
+        FileError::NoMemory
+    }
+}
