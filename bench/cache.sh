@@ -14,7 +14,7 @@ copy=$(mktemp -d)
 trap 'rm -rf "$copy"' EXIT
 mkdir -p "$copy/crates"
 cp "$top/HANDLES" "$copy/"
-for name in dom_base line_text te_links te_text path_constraints path_exclusions pcep_codes pcep_subobjects walk_laws path_search path_certificate vspt_tree border_costs cost_cache; do
+for name in dom_base line_text te_links te_text path_constraints pcep_codes pcep_subobjects walk_laws path_search path_certificate vspt_tree border_costs cost_cache; do
     cp -r "$top/crates/$name" "$copy/crates/"
     grep "^$name[ :]" "$top/crates.txt" >>"$copy/crates.txt"
 done

@@ -19,7 +19,7 @@ build() {
     folder=$2
     mkdir -p "$folder/crates"
     cp "$1/HANDLES" "$folder/"
-    for name in dom_base line_text path_constraints path_exclusions pcep_codes pcep_capabilities pcep_subobjects pcep_objects pcep_messages te_links te_text walk_laws path_search path_certificate diverse_pairs; do
+    for name in dom_base line_text path_constraints pcep_codes pcep_subobjects pcep_objects pcep_messages te_links te_text walk_laws path_search path_certificate diverse_pairs; do
         cp -r "$1/crates/$name" "$folder/crates/"
         grep "^$name[ :]" "$1/crates.txt" >>"$folder/crates.txt"
     done

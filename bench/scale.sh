@@ -244,7 +244,7 @@ RT
 build() {
     mkdir -p "$copy/crates"
     cp "$top/HANDLES" "$copy/"
-    for name in dom_base line_text path_constraints path_exclusions pcep_codes pcep_capabilities pcep_subobjects pcep_objects pcep_messages te_links te_text walk_laws path_search path_certificate diverse_pairs vspt_tree border_costs; do
+    for name in dom_base line_text path_constraints pcep_codes pcep_subobjects pcep_objects pcep_messages te_links te_text walk_laws path_search path_certificate diverse_pairs vspt_tree border_costs; do
         mkdir -p "$copy/crates/$name/out"
         for part in src specs proofs out/rlib; do
             [ ! -d "$top/crates/$name/$part" ] || cp -r "$top/crates/$name/$part" "$copy/crates/$name/$part"

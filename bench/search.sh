@@ -16,7 +16,7 @@ beside=${1:-$copy/plain}
 [ $# -eq 1 ] || cc -O2 -o "$copy/plain" "$top/bench/plain/search.c"
 mkdir -p "$copy/crates"
 cp "$top/HANDLES" "$copy/"
-for name in dom_base te_links path_constraints path_exclusions walk_laws path_search; do
+for name in dom_base te_links path_constraints walk_laws path_search; do
     cp -r "$top/crates/$name" "$copy/crates/"
     grep "^$name[ :]" "$top/crates.txt" >>"$copy/crates.txt"
 done

@@ -10,7 +10,7 @@ copy=$(mktemp -d)
 trap 'rm -rf "$copy"' EXIT
 mkdir -p "$copy/crates"
 cp "$top/HANDLES" "$copy/"
-for name in dom_base pcep_codes pcep_subobjects pcep_capabilities path_exclusions pcep_objects pcep_messages; do
+for name in dom_base pcep_codes pcep_subobjects path_constraints pcep_objects pcep_messages; do
     cp -r "$top/crates/$name" "$copy/crates/"
     grep "^$name[ :]" "$top/crates.txt" >>"$copy/crates.txt"
 done

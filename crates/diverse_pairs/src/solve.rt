@@ -22,7 +22,7 @@ use crate::residual::{heights, residual_arcs};
 use crate::shown::{cut_off, far_addresses, potentials};
 use crate::turning::{take_path, turn_tight};
 use dom_base::{Addr, List, NoMemory, Query};
-use path_exclusions::bars_node;
+use path_constraints::bars_node;
 use std::alloc::Global;
 use te_links::Topology;
 

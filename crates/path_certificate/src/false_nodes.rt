@@ -10,7 +10,7 @@ use crate::broken::Broken;
 use crate::look_up::label_of;
 use crate::marks::mark_made;
 use dom_base::{Addr, Label, Query, Seed, ends_at};
-use path_exclusions::bars_node;
+use path_constraints::bars_node;
 use te_links::{NODES_MAX, Topology};
 
 // Whether a node may have its label. `made` tells whether a link makes it.

@@ -7,8 +7,7 @@ ghost use Rattle.path_certificate.specs.Offers.{IsAdmittedAt, IsOffer, IsNoOffer
 
 use crate::look_up::label_of;
 use dom_base::{Addr, Label, Link, Query};
-use path_constraints::{allows, weight};
-use path_exclusions::bars_node;
+use path_constraints::{allows, bars_node, weight};
 use te_links::Topology;
 
 /// What an admitted link offers its beginning: `rest`, the label of its end, at `cost`, the sum of

@@ -3,7 +3,7 @@ ghost use Rattle.std.specs.Prelude.{◌≡◌, ◌⊎◌, ◌<◌, ◌↔◌, tr
 ghost use Rattle.path_search.specs.Barred.{is_barred, AreBarred};
 
 use dom_base::{NoMemory, Query};
-use path_exclusions::bars_node;
+use path_constraints::bars_node;
 use std::alloc::Global;
 use te_links::Links;
 

@@ -4,7 +4,7 @@ use Rattle.std.specs.Prelude.{ℕ, Bool, true, false, not, List, [], ◌∷◌, 
 use Rattle.std.specs.List.{filter_map, list_any, list_all}
 use Rattle.std.specs.Option.{option_or}
 use Rattle.dom_base.specs.declared.query.Exclusion.{Exclusion}
-use Rattle.path_exclusions.specs.Support as exclusions
+use Rattle.path_constraints.specs.Support as exclusions
 use Rattle.pcep_codes.specs.declared.classes.TheConstants as classes
 use Rattle.pcep_codes.specs.declared.kinds.TheConstants as kinds
 use Rattle.pcep_codes.specs.declared.flags.TheConstants as flags

@@ -9,7 +9,7 @@ use Rattle.dom_base.specs.declared.query.Query.{Query}
 use Rattle.dom_base.specs.declared.query.Exclusion.{Exclusion}
 use Rattle.dom_base.specs.declared.limits.TheConstants.{COST_MAX}
 use Rattle.dom_base.specs.Words.{units, whole}
-use Rattle.path_exclusions.specs.Support.{demands}
+use Rattle.path_constraints.specs.Support.{demands}
 use Rattle.pcep_codes.specs.declared.metrics.TheConstants as types
 use Rattle.pcep_subobjects.specs.declared.hop.Hop.{Hop}
 use Rattle.pcep_objects.specs.declared.object.Object.{Object}

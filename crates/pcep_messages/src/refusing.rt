@@ -12,7 +12,7 @@ use crate::said::{
     are_of_type, count_bounds, count_minimised, find_end_points, find_key, find_rp, metric_type,
 };
 use dom_base::{Addr, As, Metric};
-use path_exclusions::find_unsupported;
+use path_constraints::find_unsupported;
 use pcep_codes::{classes, errors, flags, kinds};
 use pcep_objects::{Body, Object};
 use pcep_subobjects::Hop;

@@ -12,7 +12,7 @@ use dom_base::{
     Addr, As, COST_MAX, Cost, Exclusion, List, Metric, NoMemory, Query, units_of_word,
     whole_of_word,
 };
-use path_exclusions::copies_of_demands;
+use path_constraints::copies_of_demands;
 use pcep_objects::{Body, Object};
 use pcep_subobjects::Hop;
 use std::alloc::Global;

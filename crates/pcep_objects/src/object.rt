@@ -2,8 +2,8 @@
 ghost use Rattle.std.specs.Prelude.{◌≡◌};
 ghost use Rattle.pcep_objects.specs.declared.object.ObjectFault.TheVariants as faults;
 
+use crate::offer::Offer;
 use dom_base::{Addr, Bytes, Exclusion, List, NoMemory};
-use pcep_capabilities::Offer;
 use pcep_subobjects::Hop;
 
 /// An object of a message (RFC 5440, section 7.2). `must` is the P bit: a request can't be served

@@ -1,7 +1,7 @@
 -- In which order a session says what it says, over all lists of inputs.
 use Rattle.std.specs.Prelude.{◌≡◌, ◌≤◌, ℕ, ◌+◌, List, [], ◌∷◌, ◌++◌}
 use Rattle.dom_base.specs.declared.names.Tick.{Tick}
-use Rattle.pcep_capabilities.specs.declared.offer.Offer.{Offer}
+use Rattle.pcep_objects.specs.declared.offer.Offer.{Offer}
 use Rattle.pcep_messages.specs.declared.message.Message.TheVariants.{Open as OpenMessage, Keepalive as KeepaliveMessage}
 use Rattle.pcep_session.specs.declared.actions.Action.{Action}
 use Rattle.pcep_session.specs.declared.actions.Action.TheVariants.{Up, Down, Pass}

@@ -2,7 +2,7 @@
 -- stateful sessions, 10 and 11: RFC 8231, sections 5.4 and 6).
 use Rattle.std.specs.Prelude.{◌==◌, ◌&&◌, not, nat_le, ℕ, ◌+◌, Bool, true, false, max, List, [], ◌∷◌, Option, Some, None, if◌then◌else◌}
 use Rattle.dom_base.specs.declared.names.Tick.{Tick}
-use Rattle.pcep_capabilities.specs.declared.offer.Offer.{Offer}
+use Rattle.pcep_objects.specs.declared.offer.Offer.{Offer}
 use Rattle.pcep_codes.specs.declared.TheConstants.{VERSION}
 use Rattle.pcep_codes.specs.declared.messages.TheConstants as messages
 use Rattle.pcep_codes.specs.declared.errors.TheConstants as errors
@@ -11,7 +11,7 @@ use Rattle.pcep_codes.specs.declared.timers.TheConstants as timers
 use Rattle.pcep_objects.specs.declared.object.OpenBody.{OpenBody}
 use Rattle.pcep_messages.specs.declared.message.Message.{Message}
 use Rattle.pcep_messages.specs.declared.message.Message.TheVariants.{Open as OpenMessage, Keepalive as KeepaliveMessage, PcErr, Close as CloseMessage, Other}
-use Rattle.pcep_capabilities.specs.Terms.{agreed_of}
+use Rattle.pcep_objects.specs.Terms.{agreed_of}
 use Rattle.pcep_session.specs.Reports.{first_error_of, first_opening_of}
 use Rattle.pcep_session.specs.declared.actions.Own.{Own}
 use Rattle.pcep_session.specs.declared.actions.Own.TheVariants.{Open, Keepalive, Error, Close}

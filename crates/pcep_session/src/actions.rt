@@ -2,8 +2,8 @@
 ghost use Rattle.std.specs.Prelude.{◌≡◌, [], ◌∷◌, IsSome};
 ghost use Rattle.pcep_session.specs.Table.{error_of};
 
-use pcep_capabilities::Offer;
 use pcep_messages::Message;
+use pcep_objects::Offer;
 
 /// A message of the session itself.
 #[derive(Clone, Copy)]

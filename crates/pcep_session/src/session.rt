@@ -6,8 +6,8 @@ ghost use Rattle.pcep_session.specs.Table.{new_state, turn_of};
 use crate::actions::Actions;
 use crate::state::{Phase, State};
 use dom_base::Tick;
-use pcep_capabilities::Offer;
 use pcep_messages::Message;
+use pcep_objects::Offer;
 use std::marker::Model;
 
 /// What comes to a session.

@@ -6,11 +6,10 @@ use crate::actions::{Action, Actions, Own, Reason, send_error};
 use crate::reports::{first_error, first_opening};
 use crate::session::Input;
 use dom_base::Tick;
-use pcep_capabilities::{Agreed, Offer, negotiate};
 use pcep_codes::timers::{UNKNOWN_SPAN, WAIT};
 use pcep_codes::{VERSION, errors, messages, reasons};
 use pcep_messages::{ErrorReport, Message};
-use pcep_objects::OpenBody;
+use pcep_objects::{Agreed, Offer, OpenBody, negotiate};
 
 /// The states of RFC 5440, appendix A, after the connection is there.
 #[derive(Clone, Copy)]

@@ -18,7 +18,7 @@ use Rattle.pcep_session.specs.declared.actions.Own.TheVariants as own
 use Rattle.plant_model.specs.Writing.{reply_message, error_message, busy}
 use Rattle.plant_model.specs.Deeds.{own_message}
 use Rattle.plant_model.specs.Laws.{AreWords, HasWords}
-use Rattle.pcep_capabilities.specs.declared.offer.Offer.{Offer}
+use Rattle.pcep_objects.specs.declared.offer.Offer.{Offer}
 
 -- ---- sessions
 

@@ -14,7 +14,7 @@ use Rattle.dom_base.specs.declared.query.Metric.TheVariants.{Igp, Te, Hops}
 use Rattle.dom_base.specs.declared.query.Exclusion.{Exclusion}
 use Rattle.dom_base.specs.declared.query.Excluded.{Excluded}
 use Rattle.dom_base.specs.declared.query.Excluded.TheVariants as excluded
-use Rattle.path_exclusions.specs.Support.{is_demand}
+use Rattle.path_constraints.specs.Support.{is_demand}
 use Rattle.pcep_subobjects.specs.declared.hop.Hop.{Hop}
 use Rattle.pcep_subobjects.specs.declared.hop.Hop.TheVariants as hop_kinds
 use Rattle.pcep_subobjects.specs.Addresses.{IsAddr, bits_of}

@@ -14,7 +14,7 @@ use Rattle.dom_base.specs.declared.query.Metric.{Metric}
 use Rattle.dom_base.specs.declared.query.Metric.TheVariants.{Igp, Te, Hops}
 use Rattle.dom_base.specs.declared.query.Query.{Query}
 use Rattle.dom_base.specs.declared.query.Exclusion.{Exclusion}
-use Rattle.path_exclusions.specs.Support.{is_supported, is_demand, first_unsupported}
+use Rattle.path_constraints.specs.Support.{is_supported, is_demand, first_unsupported}
 use Rattle.pcep_subobjects.specs.declared.hop.Hop.{Hop}
 use Rattle.pcep_objects.specs.declared.object.Body.{Body}
 use Rattle.pcep_objects.specs.declared.object.Body.TheVariants as bodies

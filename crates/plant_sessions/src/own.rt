@@ -7,7 +7,7 @@ ghost use Rattle.plant_sessions.specs.Ends.{own_bytes};
 ghost use Rattle.plant_sessions.specs.OwnFields.{octets_of};
 
 use crate::ANSWER_LENGTH;
-use pcep_capabilities::Offer;
+use pcep_objects::Offer;
 use pcep_session::Own;
 use plant_model::Lost;
 use std::marker::Model;

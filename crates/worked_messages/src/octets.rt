@@ -4,7 +4,7 @@ mod rows;
 use dom_base::{As, Bytes, List, NoMemory, Query};
 use line_text::{read_hex, write_hex};
 use outside_part::sift;
-use path_exclusions::{ExclusionError, supported};
+use path_constraints::{ExclusionError, supported};
 use pcep_framing::frame_all;
 use pcep_messages::{
     Asked, Bad, Message, Refusal, Request, Wanted, Wish, read_message, request_of, split_message,

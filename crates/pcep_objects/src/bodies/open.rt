@@ -4,9 +4,9 @@ ghost use Rattle.std.specs.Prelude.{◌≡◌, ◌++◌, length, OnOk};
 ghost use Rattle.pcep_objects.specs.Bodies.Open.{open_of, open_text};
 
 use crate::object::{Body, OpenBody};
+use crate::offer::Offer;
 use crate::tlvs::{put_tlv, tlv_behind};
 use dom_base::NoMemory;
-use pcep_capabilities::Offer;
 use pcep_codes::tlvs;
 
 pub(crate) fn read(content: &[u8]) -> Option<Body>

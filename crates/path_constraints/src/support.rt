@@ -1,7 +1,7 @@
 //! Which exclusions can be kept.
 ghost use Rattle.std.specs.Prelude.{◌≡◌, ◌&&◌, IfOk, not, position};
-ghost use Rattle.path_exclusions.specs.Support.{bits_of, is_supported, is_demand, demands, first_unsupported, Supports};
-ghost use Rattle.path_exclusions.specs.declared.support.ExclusionError.TheVariants as faults;
+ghost use Rattle.path_constraints.specs.Support.{bits_of, is_supported, is_demand, demands, first_unsupported, Supports};
+ghost use Rattle.path_constraints.specs.declared.support.ExclusionError.TheVariants as faults;
 
 use dom_base::{Addr, Excluded, Exclusion, List, NoMemory};
 use std::alloc::Global;

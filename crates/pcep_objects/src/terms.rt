@@ -1,6 +1,6 @@
 //! What a session goes by.
 ghost use Rattle.std.specs.Prelude.{◌≡◌};
-ghost use Rattle.pcep_capabilities.specs.Terms.{agreed_of};
+ghost use Rattle.pcep_objects.specs.Terms.{agreed_of};
 
 use crate::offer::{Agreed, Offer};
 

@@ -6,8 +6,8 @@ use Rattle.dom_base.specs.declared.addr.Addr.TheVariants.{V4, V6}
 use Rattle.dom_base.specs.declared.query.Exclusion.{Exclusion}
 use Rattle.dom_base.specs.declared.query.Excluded.{Excluded}
 use Rattle.dom_base.specs.declared.query.Excluded.TheVariants.{Prefix, AsNumber, Srlg, Other}
-use Rattle.path_exclusions.specs.declared.support.ExclusionError.{ExclusionError}
-use Rattle.path_exclusions.specs.declared.support.ExclusionError.TheVariants.{Unsupported, NoMemory}
+use Rattle.path_constraints.specs.declared.support.ExclusionError.{ExclusionError}
+use Rattle.path_constraints.specs.declared.support.ExclusionError.TheVariants.{Unsupported, NoMemory}
 
 -- how many bits an address of the kind has
 abbrev pub bits_of : Addr → ℕ
