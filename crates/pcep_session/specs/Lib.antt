@@ -1,5 +1,6 @@
 -- for readers
 pub mod Table
+pub mod Quiet
 pub mod Reports
 pub mod Order
 -- inner

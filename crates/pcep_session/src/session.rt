@@ -1,6 +1,7 @@
 //! A session as a value, and its steps.
 ghost use Rattle.std.specs.Prelude.{◌≡◌, ◌↔◌, IsTrue};
 ghost use Rattle.pcep_session.specs.Listed.{listed};
+ghost use Rattle.pcep_session.specs.Quiet.{after_quiet, is_quiet};
 ghost use Rattle.pcep_session.specs.Table.{new_state, turn_of};
 
 use crate::actions::Actions;
@@ -67,5 +68,14 @@ impl Session {
         ensures next { self.new ≡ (turn_of self.old input).next }
     {
         self.state.step(input)
+    }
+
+    /// The step of a tick, where the session has nothing to say or to do at it, and whether that is so;
+    /// where it is not, the session stays as it was. It takes no memory, and makes no actions.
+    pub fn tick_quietly(&mut self, now: Tick) -> bool
+        ensures quiet { result ≡ is_quiet now self.old }
+        ensures next { self.new ≡ after_quiet now self.old }
+    {
+        self.state.tick_quietly(now)
     }
 }

@@ -1,5 +1,5 @@
 //! The state of a session, and the rows of its table.
-ghost use Rattle.std.specs.Prelude.{◌≡◌, ◌<◌};
+ghost use Rattle.std.specs.Prelude.{◌≡◌, ◌<◌, true};
 ghost use Rattle.pcep_session.specs.Listed.{listed};
 
 use crate::actions::{Action, Actions, Own, Reason, send_error};
@@ -53,6 +53,7 @@ pub struct State {
 
 impl State {
     ghost use Rattle.pcep_session.specs.Reports.{first_error_of, first_opening_of};
+    ghost use Rattle.pcep_session.specs.Quiet.{after_quiet, is_nothing, is_quiet};
     ghost use Rattle.pcep_session.specs.Table.{new_state, turn_of, turn_in, entered, fails, ends, closes, has_passed, open_wait, refused_terms, refused, keep_wait, unknown_type, stateful, in_up, up_tick, at_tick, waits};
 
     pub(crate) fn new(offer: Offer, now: Tick) -> State
@@ -360,5 +361,64 @@ impl State {
             return Actions::one(Action::Send(Own::Keepalive));
         }
         Actions::none()
+    }
+
+    // Whether so many seconds have gone by since a moment, once a tick has come.
+    fn will_pass(&self, now: Tick, from: Tick, seconds: u64) -> bool
+        requires { seconds < 256 }
+        ensures { result ≡ has_passed (at_tick self.now now) from seconds }
+    {
+        let clock = self.clock.0.max(now.0);
+        clock >= from.0 && clock - from.0 >= seconds
+    }
+
+    // Whether a session that is open has nothing to say or to do at a tick.
+    #[tactic(auto, using(crate::proofs::QuietLemmas::quiet_up))]
+    fn is_quiet_in_up(&self, now: Tick) -> bool
+        ensures { result ≡ is_nothing (up_tick (at_tick self.now now)).actions }
+    {
+        let Agreed {
+            keepalive,
+            dead,
+            ..
+        } = self.agreed;
+        let is_dead = dead != 0 && self.will_pass(now, self.heard, u64::from(dead));
+        let is_due = keepalive != 0 && self.will_pass(now, self.sent, u64::from(keepalive));
+        !is_dead && !is_due
+    }
+
+    // Whether it has nothing to say or to do at a tick.
+    #[tactic(auto, using(crate::proofs::QuietLemmas::quiet_idle, crate::proofs::QuietLemmas::quiet_down, crate::proofs::QuietLemmas::quiet_open_wait, crate::proofs::QuietLemmas::quiet_keep_wait, crate::proofs::QuietLemmas::quiet_in_up))]
+    fn is_quiet(&self, now: Tick) -> bool
+        ensures { result ≡ is_quiet now self.now }
+    {
+        match self.phase {
+            Phase::Idle | Phase::Down => true,
+            Phase::OpenWait | Phase::KeepWait => !self.will_pass(now, self.since, WAIT),
+            Phase::Up => self.is_quiet_in_up(now),
+        }
+    }
+
+    // A tick comes at which there is nothing to say or to do. A session that is over takes no moment.
+    #[tactic(auto, using(crate::proofs::QuietLemmas::quiet_next))]
+    fn take_tick(&mut self, now: Tick)
+        requires { is_quiet now self.old ≡ true }
+        ensures { self.new ≡ (turn_of self.old (Input.Tick now)).next }
+    {
+        match self.phase {
+            Phase::Idle | Phase::OpenWait | Phase::KeepWait | Phase::Up => self.advance(now),
+            Phase::Down => {}
+        }
+    }
+
+    pub(crate) fn tick_quietly(&mut self, now: Tick) -> bool
+        ensures quiet { result ≡ is_quiet now self.old }
+        ensures next { self.new ≡ after_quiet now self.old }
+    {
+        let quiet = self.is_quiet(now);
+        if quiet {
+            self.take_tick(now);
+        }
+        quiet
     }
 }

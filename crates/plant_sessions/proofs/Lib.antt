@@ -1,3 +1,4 @@
 pub mod RoomLemmas
 pub mod StepLemmas
 pub mod InboxLemmas
+mod QuietLemmas

@@ -4,6 +4,7 @@ pub mod Ends
 pub mod Rooms
 pub mod Links
 pub mod Inboxes
+pub mod Quiet
 -- inner
 pub mod OwnFields
 pub mod SideFields

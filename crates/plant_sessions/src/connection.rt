@@ -2,11 +2,13 @@
 ghost use Rattle.std.specs.Prelude.{◌≡◌, [], drop, length, slice_get, IfOk, OnOk, OnErr, IsTrue, false};
 ghost use Rattle.std.specs.Option.{option_map};
 ghost use Rattle.pcep_framing.specs.Frames.{joined};
+ghost use Rattle.pcep_session.specs.Quiet.{is_quiet};
 ghost use Rattle.plant_queues.specs.Messages.{Covers};
 ghost use Rattle.plant_model.specs.RealWire.{wire};
 ghost use Rattle.plant_model.specs.Deeds as deeds;
 ghost use Rattle.plant_model.specs.Events as events;
 ghost use Rattle.plant_sessions.specs.Ends.{just_open, fed_while_up, is_left_out, with_kept};
+ghost use Rattle.plant_sessions.specs.Quiet.{ticked_quietly};
 ghost use Rattle.plant_sessions.specs.Rooms.{KeepsRoom, Grows, Spends, Frees, queue};
 
 use crate::inbox::{Item, append_all, arrive, input_of};
@@ -159,5 +161,14 @@ impl Connection {
         let bytes = Vec::from_slice(self.alloc, self.side.joined())?;
         self.side.clear();
         Ok(List::from_vec(bytes))
+    }
+
+    /// The step of a tick, where its session has nothing to say or to do at it, and whether that is so;
+    /// where it is not, nothing changes. It takes no memory.
+    pub fn tick_quietly(&mut self, now: Tick) -> bool
+        ensures quiet { result ≡ is_quiet now self.old.kept.session }
+        ensures next { self.new ≡ with_kept (ticked_quietly now self.old.kept) self.old }
+    {
+        self.side.tick_quietly(now)
     }
 }

@@ -1,6 +1,7 @@
 //! An inner link, between two elements or an element and the parent.
 ghost use Rattle.std.specs.Prelude.{◌≡◌, [], drop, length, not, slice_get, Some, IfOk, OnOk};
 ghost use Rattle.std.specs.Option.{option_map};
+ghost use Rattle.pcep_session.specs.Quiet.{is_quiet};
 ghost use Rattle.plant_queues.specs.Messages.{Covers};
 ghost use Rattle.plant_model.specs.Names.{is_empty};
 ghost use Rattle.plant_model.specs.RealWire.{wire};
@@ -8,6 +9,7 @@ ghost use Rattle.plant_model.specs.Deeds as deeds;
 ghost use Rattle.plant_sessions.specs.Ends as ends;
 ghost use Rattle.plant_sessions.specs.Ends.{sends, begun, own_bytes, is_left_out, with_kept};
 ghost use Rattle.plant_sessions.specs.Links.{at_end, set_end, new_sender, next_sid};
+ghost use Rattle.plant_sessions.specs.Quiet.{sender_ticked};
 ghost use Rattle.plant_sessions.specs.Rooms.{KeepsRoom, Grows, Spends, Frees, queue};
 
 use crate::OWN_LENGTH;
@@ -205,6 +207,19 @@ impl Link {
                 self.upper.begin(sid, now);
                 self.upper_sid = sid;
             }
+        }
+    }
+
+    /// The step of a tick, where the session at an end has nothing to say or to do at it, and whether
+    /// that is so; where it is not, nothing changes. It takes no memory.
+    #[tactic(auto, using(crate::proofs::QuietLemmas::quiet_keeps_number))]
+    pub fn tick_quietly(&mut self, at: End, now: Tick) -> bool
+        ensures quiet { result ≡ is_quiet now (at_end at self.old).kept.session }
+        ensures next { self.new ≡ set_end at (with_kept (sender_ticked now (at_end at self.old).kept) (at_end at self.old)) self.old }
+    {
+        match at {
+            End::Lower => self.lower.tick_quietly(now),
+            End::Upper => self.upper.tick_quietly(now),
         }
     }
 }

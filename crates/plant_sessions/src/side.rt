@@ -4,7 +4,9 @@ ghost use Rattle.std.specs.Option.{option_copied};
 ghost use Rattle.pcep_framing.specs.Frames.{joined};
 ghost use Rattle.plant_queues.specs.Messages.{Covers};
 ghost use Rattle.plant_sessions.specs.Ends.{sends, begun, own_bytes, is_left_out, with_kept};
+ghost use Rattle.plant_sessions.specs.Quiet.{sender_ticked};
 ghost use Rattle.plant_sessions.specs.Rooms.{KeepsRoom, Grows, Spends, Frees, queue};
+ghost use Rattle.pcep_session.specs.Quiet.{is_quiet};
 ghost use Rattle.pcep_session.specs.Table.{new_state};
 ghost use Rattle.plant_model.specs.Deeds as deeds;
 ghost use Rattle.plant_model.specs.Events as events;
@@ -141,5 +143,14 @@ impl Side {
         ensures { result.now ≡ joined self.now.kept.out }
     {
         self.out.joined()
+    }
+
+    /// The step of a tick, where the session has nothing to say or to do at it, and whether that is so;
+    /// where it is not, nothing changes. It takes no memory.
+    pub fn tick_quietly(&mut self, now: Tick) -> bool
+        ensures quiet { result ≡ is_quiet now self.old.kept.session }
+        ensures next { self.new ≡ with_kept (sender_ticked now self.old.kept) self.old }
+    {
+        self.session.tick_quietly(now)
     }
 }

@@ -3,6 +3,7 @@ pub mod Flow
 pub mod Carried
 pub mod Happenings
 pub mod Waiting
+pub mod Quiet
 -- inner
 pub mod Sides
 pub mod Peers

@@ -4,6 +4,7 @@ ghost use Rattle.plant_queues.specs.Messages.{Covers};
 ghost use Rattle.plant_layout.specs.plant_model.Deeds as deeds;
 ghost use Rattle.plant_traffic.specs.Accesses.{ChangesAt, ConnectsAccess, DrainsAccess, FeedsAccess, ReservesAccess, SendsAccess, on_connected};
 ghost use Rattle.plant_traffic.specs.Peers.{drop_first, room_of};
+ghost use Rattle.plant_traffic.specs.Quiet.{TicksAccess};
 
 use crate::peers::Drained;
 use dom_base::{NoMemory, Tick};
@@ -162,4 +163,20 @@ pub(crate) fn drain_at(rows: &mut Vec<Access>, i: usize, holder: u32) -> Result<
     ensures { ChangesAt i (DrainsAccess holder result) rows.old.items rows.new.items }
 {
     drain(&mut rows[i], holder)
+}
+
+fn tick_quietly(access: &mut Access, now: Tick) -> bool
+    ensures { TicksAccess now result access.old access.new }
+{
+    match &mut access.connection {
+        Some(connection) => connection.tick_quietly(now),
+        None => true,
+    }
+}
+
+pub(crate) fn tick_quietly_at(rows: &mut Vec<Access>, i: usize, now: Tick) -> bool
+    requires { i < length rows.old.items }
+    ensures { ChangesAt i (TicksAccess now result) rows.old.items rows.new.items }
+{
+    tick_quietly(&mut rows[i], now)
 }

@@ -4,6 +4,7 @@ ghost use Rattle.std.specs.Option.{option_map};
 ghost use Rattle.plant_text.specs.Names.{same_link};
 ghost use Rattle.plant_text.specs.Settings.{has_line};
 ghost use Rattle.plant_layout.specs.Lines.{line_of, are_lines};
+ghost use Rattle.pcep_session.specs.Quiet.{is_quiet};
 ghost use Rattle.plant_queues.specs.Messages.{Covers};
 ghost use Rattle.plant_layout.specs.plant_model.Names.{is_empty};
 ghost use Rattle.plant_layout.specs.plant_model.RealWire.{wire};
@@ -11,6 +12,7 @@ ghost use Rattle.plant_layout.specs.plant_model.Deeds as deeds;
 ghost use Rattle.plant_sessions.specs.Ends.{is_left_out};
 ghost use Rattle.plant_sessions.specs.Links.{at_end, set_end, new_sender, next_sid};
 ghost use Rattle.plant_sessions.specs.Rooms.{KeepsRoom, queue};
+ghost use Rattle.plant_traffic.specs.Quiet.{TicksEnd, side_ticked};
 ghost use Rattle.plant_traffic.specs.Sides as sides;
 ghost use Rattle.plant_traffic.specs.Sides.{AreNewLinks, Begins, BothChange, BothSidesChange, ChangesAt, DropsFirst, Empties, EndChanges, HasSid, IsPlace, Reserves, Sends, SideChanges, link_at, row_of, set_side, with_session};
 
@@ -142,6 +144,13 @@ fn begin_at(links: &mut Vec<Link>, i: usize, end: End, sid: u8, now: Tick)
     ensures { ChangesAt i (EndChanges end (Begins sid now)) links.old.items links.new.items }
 {
     links[i].begin(end, sid, now);
+}
+
+fn tick_quietly_at(links: &mut Vec<Link>, i: usize, end: End, now: Tick) -> bool
+    requires { i < length links.old.items }
+    ensures { ChangesAt i (TicksEnd now end result) links.old.items links.new.items }
+{
+    links[i].tick_quietly(end, now)
 }
 
 impl Links {
@@ -293,6 +302,19 @@ impl Links {
     {
         match place_of(&self.links, at, to) {
             Some(place) => begin_at(&mut self.links, place.link, place.end, sid, now),
+            None => unreachable!(),
+        }
+    }
+
+    /// The step of a tick, where the session of this end has nothing to say or to do at it, and whether
+    /// that is so; where it is not, nothing changes.
+    pub fn tick_quietly(&mut self, at: As, to: As, now: Tick) -> bool
+        requires { has_line at to (row_of self.old).lines ≡ true }
+        ensures quiet { result ≡ is_quiet now ((row_of self.old).sides at to).kept.session }
+        ensures next { (row_of self.new) ≡ set_side at to (side_ticked now ((row_of self.old).sides at to)) (row_of self.old) }
+    {
+        match place_of(&self.links, at, to) {
+            Some(place) => tick_quietly_at(&mut self.links, place.link, place.end, now),
             None => unreachable!(),
         }
     }

@@ -5,12 +5,13 @@ ghost use Rattle.plant_queues.specs.Messages.{Covers};
 ghost use Rattle.plant_layout.specs.plant_model.RealWire.{wire};
 ghost use Rattle.plant_layout.specs.plant_model.Deeds as deeds;
 ghost use Rattle.plant_sessions.specs.Ends.{is_left_out};
+ghost use Rattle.plant_sessions.specs.Quiet.{is_quiet_peer, ticked_quietly};
 ghost use Rattle.plant_traffic.specs.Flow.{inbox_of, no_room, out_of};
 ghost use Rattle.plant_traffic.specs.Peers.{Connects, DrainsPeer, FeedsPeer, GrowsGuest, SendsGuest, change_guest, drop_first, guests_of, no_guests, set_guest};
 
 use crate::accesses::{
     connect_at, drain_at, drop_first_at, empty_inbox_at, feed_at, put_at, reserve_at,
-    set_session_at, shut_at,
+    set_session_at, shut_at, tick_quietly_at,
 };
 use dom_base::{Bytes, NoMemory, Tick};
 use pcep_session::{Input, Own, Session};
@@ -211,6 +212,19 @@ impl Peers {
             drain_at(&mut self.rows, peer as usize, holder)
         } else {
             Err(Refused::NoSuchPeer)
+        }
+    }
+
+    /// The step of a tick, where the peer's session has nothing to say or to do at it or the peer is
+    /// closed, and whether that is so; where it is not, nothing changes.
+    pub fn tick_quietly(&mut self, peer: u32, now: Tick) -> bool
+        ensures quiet { result ≡ is_quiet_peer now ((guests_of self.old).accesses peer).connection }
+        ensures next { (guests_of self.new) ≡ change_guest peer (ticked_quietly now) (guests_of self.old) }
+    {
+        if (peer as usize) < self.rows.len() {
+            tick_quietly_at(&mut self.rows, peer as usize, now)
+        } else {
+            true
         }
     }
 }

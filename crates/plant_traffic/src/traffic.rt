@@ -3,12 +3,14 @@ ghost use Rattle.std.specs.Prelude.{◌≡◌, ◌<◌, true, false, [], drop, l
 ghost use Rattle.std.specs.Option.{option_map};
 ghost use Rattle.plant_text.specs.Settings.{has_line};
 ghost use Rattle.plant_layout.specs.Lines.{line_of, are_lines};
+ghost use Rattle.pcep_session.specs.Quiet.{after_quiet, is_quiet};
 ghost use Rattle.plant_queues.specs.Messages.{Covers};
 ghost use Rattle.plant_layout.specs.plant_model.Names.{is_empty};
 ghost use Rattle.plant_layout.specs.plant_model.RealWire.{wire};
 ghost use Rattle.plant_layout.specs.plant_model.Deeds as deeds;
 ghost use Rattle.plant_sessions.specs.Ends.{is_left_out, own_bytes};
 ghost use Rattle.plant_sessions.specs.Links.{next_sid};
+ghost use Rattle.plant_sessions.specs.Quiet.{is_quiet_peer, ticked_quietly};
 ghost use Rattle.plant_traffic.specs.Carried.{flow_of};
 ghost use Rattle.plant_traffic.specs.Flow.{ClearsSaid, Clears, Connects, DropsFirst, GrowsAt, GrowsSaid, IsBare, KeepsRoomAt, Puts, Begins, change_access, inbox_of, out_of, room_at, set_session, shut};
 ghost use Rattle.plant_traffic.specs.Happenings.{DrainsIn, FeedsIn};
@@ -347,5 +349,25 @@ impl Traffic {
         ensures { result.now ≡ record { kept = (flow_of self.now).said; spare = (flow_of self.now).room.said } }
     {
         &self.said
+    }
+
+    // ---- ticks
+
+    /// The step of a tick, where the session of an outside peer has nothing to say or to do at it or the
+    /// peer is closed, and whether that is so; where it is not, nothing changes.
+    pub fn tick_quietly(&mut self, peer: u32, now: Tick) -> bool
+        ensures quiet { result ≡ is_quiet_peer now ((flow_of self.old).accesses peer).connection }
+        ensures next { (flow_of self.new) ≡ change_access peer (ticked_quietly now) (flow_of self.old) }
+    {
+        self.peers.tick_quietly(peer, now)
+    }
+
+    /// The same of the session at an end of a link.
+    pub fn tick_quietly_inner(&mut self, at: As, to: As, now: Tick) -> bool
+        requires { has_line at to (flow_of self.old).lines ≡ true }
+        ensures quiet { result ≡ is_quiet now ((flow_of self.old).sessions at to) }
+        ensures next { (flow_of self.new) ≡ set_session at to (after_quiet now ((flow_of self.old).sessions at to)) (flow_of self.old) }
+    {
+        self.links.tick_quietly(at, to, now)
     }
 }

@@ -1,0 +1,25 @@
+-- What a tick does to an outside peer, or to an end of a link, whose session has nothing to say or to do at it.
+use Rattle.std.specs.Prelude.{◌≡◌, Bool}
+use Rattle.dom_base.specs.declared.names.Tick.{Tick}
+use Rattle.pcep_session.specs.Quiet.{is_quiet}
+use Rattle.plant_sessions.specs.declared.access.Access.{Access}
+use Rattle.plant_sessions.specs.declared.link.End.{End}
+use Rattle.plant_sessions.specs.Ends.{with_kept}
+use Rattle.plant_sessions.specs.Links.{Joined, at_end, set_end}
+use Rattle.plant_sessions.specs.Quiet.{is_quiet_peer, sender_ticked, ticked_quietly}
+use Rattle.plant_traffic.specs.Accesses.{on_connected}
+use Rattle.plant_traffic.specs.Peers.{access_of}
+use Rattle.plant_traffic.specs.Sides.{Side}
+
+-- whether there was nothing to say or to do, and what the peer is then
+pub record TicksAccess (now : Tick) (quiet : Bool) (old new : Access) : Type 0 where
+  pub answer : quiet ≡ is_quiet_peer now (access_of old).connection
+  pub is : new ≡ on_connected (ticked_quietly now) old
+
+-- the same of what one end of a link sends
+abbrev pub side_ticked : Tick → Side → Side
+side_ticked now s = with_kept (sender_ticked now s.kept) s
+
+pub record TicksEnd (now : Tick) (e : End) (quiet : Bool) (old new : Joined) : Type 0 where
+  pub answer : quiet ≡ is_quiet now (at_end e old).kept.session
+  pub is : new ≡ set_end e (side_ticked now (at_end e old)) old
