@@ -1,5 +1,5 @@
 -- At which ticks a session has nothing to say or to do, phase by phase, and what it is then.
-use Rattle.std.proofs.Common.{◌≡◌, ◌≢◌, ◌==◌, ◌&&◌, not, ℕ, Bool, true, false, cond, refl, sym, ap, ◌∙◌}
+use Rattle.std.proofs.Common.{◌≡◌, ◌==◌, ◌&&◌, not, ℕ, Bool, true, false, cond, refl, sym, ap, ◌∙◌}
 use Rattle.dom_base.specs.declared.names.Tick.{Tick}
 use Rattle.pcep_session.specs.declared.session.Input.TheVariants.{Tick as Ticked}
 use Rattle.pcep_session.specs.declared.state.Phase.{Phase}

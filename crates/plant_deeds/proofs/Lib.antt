@@ -35,6 +35,7 @@ pub mod TakingLaws
 pub mod CarryingLaws
 pub mod TickingLaws
 pub mod TickKeys
+pub mod QuietLaws
 pub mod TickEvents
 pub mod LossEvents
 pub mod OpenLaws

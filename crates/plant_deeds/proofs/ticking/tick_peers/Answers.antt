@@ -10,8 +10,8 @@ use Rattle.plant_deeds.proofs.TickLaws.{peers_to}
 use Rattle.plant_deeds.proofs.TickingLaws.{Until, peer_more, peer_uses, peers_end, room_left}
 use Rattle.plant_deeds.proofs.ticking.tick_peers.Goals as goal
 
-pub outside_input-requires-clause-room : goal.outside_input-requires-clause-room
-outside_input-requires-clause-room g c =
+pub tick_peer-requires-clause-room : goal.tick_peer-requires-clause-room
+tick_peer-requires-clause-room g c =
     let n = g.M.Members.network c.args.members.now in
     let k = c.loop-peer.peer in
     let few : c.peers-count.result < 4294967296 = omega (arith, c.requires.few, c.requires.of.peers_are, c.peers-count.ensures) in
@@ -27,13 +27,13 @@ loop-peer-preserved g c =
     let k = c.loop-peer.peer in
     let start = here n (g.M.Members.seen c.args.members.now) (g.M.Members.lost c.args.members.now) (flow_of c.args.traffic.now) in
     let now = here (g.M.Members.network c.loop-peer.members) (g.M.Members.seen c.loop-peer.members) (g.M.Members.lost c.loop-peer.members) (flow_of c.loop-peer.traffic) in
-    let then = here (g.M.Members.network c.outside_input.new.members) (g.M.Members.seen c.outside_input.new.members) (g.M.Members.lost c.outside_input.new.members) (flow_of c.outside_input.new.traffic) in
+    let then = here (g.M.Members.network c.tick_peer.new.members) (g.M.Members.seen c.tick_peer.new.members) (g.M.Members.lost c.tick_peer.new.members) (flow_of c.tick_peer.new.traffic) in
     let few : c.peers-count.result < 4294967296 = omega (arith, c.requires.few, c.requires.of.peers_are, c.peers-count.ensures) in
     let all : c.peers-count.result % 4294967296 ≡ c.peers-count.result = mod-eq_of_lt few in
     let below : k < length n.peers = omega (arith, c.loop-peer-test.true, all, c.requires.of.peers_are, c.peers-count.ensures) in
     let member = subst (λ (m : NetworkParts). is_member m (element_of m k) ≡ true) (sym c.loop-peer.invariant.uses.goes.network) (c.requires.joined.peers k below) in
     subst (λ (j : ℕ). Until (λ m. peers_to g.M.Members.show m c.args.now j) j j (length n.peers) start then) (sym (add-one k))
-    (record { within = omega (arith, below); uses = peer_more g.M.Members.show c.args.now k start now then c.loop-peer.invariant.uses (peer_uses g.M.Members.show c.args.now k now then member c.outside_input.ensures) })
+    (record { within = omega (arith, below); uses = peer_more g.M.Members.show c.args.now k start now then c.loop-peer.invariant.uses (peer_uses g.M.Members.show c.args.now k now then member c.tick_peer.ensures) })
 
 pub returns : goal.returns
 returns g c =

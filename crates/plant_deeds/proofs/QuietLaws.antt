@@ -1,0 +1,99 @@
+-- A tick at which a session has nothing to say or to do changes that session alone, and one at which it has some is left for later.
+use Rattle.std.proofs.Common.{◌≡◌, ℕ, Bool, true, false, cond, Option, Some, None, List, [], ◌∷◌, refl, ap, sym, subst, ◌∙◌}
+use Rattle.std.specs.Option.{option_map}
+use Rattle.dom_base.specs.declared.names.As.{As}
+use Rattle.dom_base.specs.declared.names.Tick.{Tick}
+use Rattle.pcep_subobjects.specs.declared.hop.Hop.{Hop}
+use Rattle.pcep_session.specs.declared.actions.Action.{Action}
+use Rattle.pcep_session.specs.declared.session.Input.TheVariants as input
+use Rattle.pcep_session.specs.declared.state.State.{State as Session}
+use Rattle.pcep_session.specs.Quiet.{is_nothing, is_quiet, after_quiet}
+use Rattle.pcep_session.specs.Table.{turn_of}
+use Rattle.plant_text.specs.declared.settings.NetworkParts.{NetworkParts}
+use Rattle.plant_text.specs.Settings.{Line}
+use Rattle.plant_members.specs.plant_model.declared.output.Lost.{Lost}
+use Rattle.plant_members.specs.plant_model.RealWire.{wire}
+use Rattle.plant_members.specs.plant_model.State.{Connection, Access}
+use Rattle.plant_members.specs.plant_model.Deeds as deeds
+use Rattle.plant_members.specs.plant_model.Deeds.{on_connection, with_session}
+use Rattle.plant_traffic.specs.plant_sessions.Quiet.{is_quiet_peer, ticked_quietly}
+use Rattle.plant_traffic.specs.Flow.{Flow, change_access, set_access, set_session}
+use Rattle.plant_traffic.proofs.PeerLemmas.{number_same}
+use Rattle.plant_traffic.proofs.RowLemmas.{pair_same}
+use Rattle.plant_members.specs.Membership.{Membership}
+use Rattle.plant_deeds.specs.Standing.{here, Goes}
+use Rattle.plant_deeds.proofs.GoLaws.{goes_same}
+use Rattle.plant_deeds.proofs.InputLaws.{input_closed, input_goes, link_stays}
+
+nothing_is : (as' : List Action) → is_nothing as' ≡ true → [] ≡ as'
+nothing_is [] e = refl
+nothing_is (a ∷ as') e = absurd (let clash : false ≡ true = e in cc)
+
+-- a connection that is this one changes alike
+change_like : (g h : Connection → Connection) (i : ℕ) (f : Flow) (o : Option Connection) → (f.accesses i).connection ≡ o →
+    on_connection g (record { opened = (f.accesses i).opened; connection = o }) ≡ on_connection h (record { opened = (f.accesses i).opened; connection = o }) → change_access i g f ≡ change_access i h f
+change_like g h i f o is same =
+    ap (λ (p : Option Connection). set_access i (on_connection g (record { opened = (f.accesses i).opened; connection = p })) f) is
+    ∙ ap (λ (a : Access). set_access i a f) same
+    ∙ sym (ap (λ (p : Option Connection). set_access i (on_connection h (record { opened = (f.accesses i).opened; connection = p })) f) is)
+
+module _ (now : Tick) where
+  quiet_session : (s : Session) → is_quiet now s ≡ true → after_quiet now s ≡ (turn_of s (input.Tick now)).next
+  quiet_session s quiet = ap (λ (b : Bool). cond b (turn_of s (input.Tick now)).next s) quiet
+
+  loud_session : (s : Session) → is_quiet now s ≡ false → after_quiet now s ≡ s
+  loud_session s loud = ap (λ (b : Bool). cond b (turn_of s (input.Tick now)).next s) loud
+
+  loud_access : (opened : ℕ) (o : Option Connection) → is_quiet_peer now o ≡ false → on_connection (ticked_quietly now) (record { opened = opened; connection = o }) ≡ record { opened = opened; connection = o }
+  loud_access opened None loud = refl
+  loud_access opened (Some x) loud = ap (λ (s : Session). let a : Access = record { opened = opened; connection = Some (with_session s x) } in a) (loud_session x.session loud)
+
+  -- nothing changes where the session of a peer has something to say or to do
+  pub loud_peer : (i : ℕ) (f f1 : Flow) → is_quiet_peer now (f.accesses i).connection ≡ false → f1 ≡ change_access i (ticked_quietly now) f → f1 ≡ f
+  loud_peer i f f1 loud is =
+      is ∙ ap (λ (accesses : ℕ → Access). let g : Flow = record f { accesses = accesses } in g)
+      (number_same i (on_connection (ticked_quietly now) (f.accesses i)) f.accesses (loud_access (f.accesses i).opened (f.accesses i).connection loud))
+
+  -- the same at an end of a link
+  pub loud_end : (at b : As) (f f1 : Flow) → is_quiet now (f.sessions at b) ≡ false → f1 ≡ set_session at b (after_quiet now (f.sessions at b)) f → f1 ≡ f
+  loud_end at b f f1 loud is =
+      is ∙ ap (λ (sessions : As → As → Session). let g : Flow = record f { sessions = sessions } in g)
+      (pair_same at b (after_quiet now (f.sessions at b)) f.sessions (loud_session (f.sessions at b) loud))
+
+  module _ {P : Type 0} {S : Type 0} (show : S → List Hop) (n : NetworkParts) (ms : Membership P S) (lost : As → List Lost) where
+    closed_peer : (i : ℕ) (f f1 : Flow) → (f.accesses i).connection ≡ None → f1 ≡ change_access i (ticked_quietly now) f → Goes (λ k. deeds.outside_input P S wire k show i (input.Tick now)) (here n ms lost f) (here n ms lost f1)
+    closed_peer i f f1 none is =
+        let same : f1 ≡ f = loud_none is in
+        subst (λ (g : Flow). Goes (λ k. deeds.outside_input P S wire k show i (input.Tick now)) (here n ms lost f) (here n ms lost g)) (sym same)
+        (input_closed show n ms lost i (input.Tick now) f (ap (option_map (λ (k : Connection). k.session)) none))
+      where
+        loud_none : f1 ≡ change_access i (ticked_quietly now) f → f1 ≡ f
+        loud_none is' =
+            is' ∙ ap (λ (accesses : ℕ → Access). let g : Flow = record f { accesses = accesses } in g)
+            (number_same i (on_connection (ticked_quietly now) (f.accesses i)) f.accesses
+            (ap (λ (o : Option Connection). on_connection (ticked_quietly now) (record { opened = (f.accesses i).opened; connection = o })) none
+            ∙ ap (λ (o : Option Connection). let a : Access = record { opened = (f.accesses i).opened; connection = o } in a) (sym none)))
+
+    open_peer : (i : ℕ) (f f1 : Flow) (x : Connection) → (f.accesses i).connection ≡ Some x → is_quiet now x.session ≡ true → f1 ≡ change_access i (ticked_quietly now) f →
+        Goes (λ k. deeds.outside_input P S wire k show i (input.Tick now)) (here n ms lost f) (here n ms lost f1)
+    open_peer i f f1 x some quiet is =
+        input_goes show n ms lost i (input.Tick now) x.session (after_quiet now x.session) true [] f f1 (here n ms lost f1)
+        (ap (option_map (λ (k : Connection). k.session)) some) refl (nothing_is (turn_of x.session (input.Tick now)).actions quiet) (quiet_session x.session quiet)
+        (is ∙ change_like (ticked_quietly now) (with_session (after_quiet now x.session)) i f (Some x) some refl)
+        (goes_same (here n ms lost f1))
+
+    -- a tick at which the session of a peer has nothing to say or to do
+    pub quiet_peer : (i : ℕ) (f f1 : Flow) → is_quiet_peer now (f.accesses i).connection ≡ true → f1 ≡ change_access i (ticked_quietly now) f →
+        Goes (λ k. deeds.outside_input P S wire k show i (input.Tick now)) (here n ms lost f) (here n ms lost f1)
+    quiet_peer i f f1 quiet is = go (f.accesses i).connection refl
+      where
+        go : (o : Option Connection) → (f.accesses i).connection ≡ o → Goes (λ k. deeds.outside_input P S wire k show i (input.Tick now)) (here n ms lost f) (here n ms lost f1)
+        go None none = closed_peer i f f1 none is
+        go (Some x) some = open_peer i f f1 x some (sym (ap (is_quiet_peer now) some) ∙ quiet) is
+
+    -- and the session at an end of a link
+    pub quiet_end : (line : Line) (at b : As) (f f1 : Flow) → is_quiet now (f.sessions at b) ≡ true → f1 ≡ set_session at b (after_quiet now (f.sessions at b)) f →
+        Goes (λ k. deeds.inner_input P S wire k show line at b (input.Tick now)) (here n ms lost f) (here n ms lost f1)
+    quiet_end line at b f f1 quiet is =
+        link_stays show n ms lost line at b (input.Tick now) (after_quiet now (f.sessions at b)) true [] f f1 (here n ms lost f1) refl
+        refl (nothing_is (turn_of (f.sessions at b) (input.Tick now)).actions quiet) (quiet_session (f.sessions at b) quiet) is (goes_same (here n ms lost f1))
