@@ -148,6 +148,12 @@ mod ParentCauses
 mod LostCauses
 mod EventCauses
 mod AllCauses
+mod MomentCauses
+mod NoLoops
+mod ErrorParts
+mod Errors
+mod ErrorsTaken
+mod StillOpen
 mod Broken
 mod Served
 -- handed on from below

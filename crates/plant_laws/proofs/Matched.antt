@@ -74,7 +74,7 @@ was_put a b (e ∷ ds) x i =
 eqb_self : (n : ℕ) → (n == n) ≡ true
 eqb_self n = grind (arith, common_steps)
 
-reply_counts : (p : Peer) (r : Reply) (os : List Output) → In {A = Output} (record { to = p; message = messages.PcRep (r ∷ []) }) os → 1 ≤ answers_to p r.id os
+pub reply_counts : (p : Peer) (r : Reply) (os : List Output) → In {A = Output} (record { to = p; message = messages.PcRep (r ∷ []) }) os → 1 ≤ answers_to p r.id os
 reply_counts p r [] none = absurd none
 reply_counts p r (o ∷ os) (inl is) =
     subst (λ (x : Output). 1 ≤ cond (same_peer x.to p) (count_answers r.id x.message) 0 + answers_to p r.id os) (sym is) here

@@ -1,9 +1,10 @@
 -- Why a request was answered that the chain is not available (NO-PATH of another nature than 0): on its way an element denied the step
--- or had no open session with the next, lost that session while the request waited, or was told an error; or the parent said so.
-use Rattle.std.specs.Prelude.{◌≡◌, ◌≢◌, ◌⊎◌, ◌++◌, ℕ, Bool, true, false, List, [], ◌∷◌, Contains}
+-- or had no open session with the next, or lost a session with another; or the parent refused IPv6 addresses, or said so.
+use Rattle.std.specs.Prelude.{◌≡◌, ◌≢◌, ◌⊎◌, ◌++◌, ℕ, Bool, true, false, List, [], ◌∷◌, Contains, Some}
 use Rattle.dom_base.specs.declared.names.As.{As}
 use Rattle.dom_base.specs.declared.names.Peer.{Peer}
 use Rattle.dom_base.specs.declared.names.Peer.TheVariants.{Inner}
+use Rattle.pcep_codes.specs.declared.errors.TheConstants as errors
 use Rattle.pcep_messages.specs.declared.message.Asked.{Asked}
 use Rattle.pcep_messages.specs.declared.message.ErrorReport.{ErrorReport}
 use Rattle.pcep_messages.specs.declared.message.Reply.{Reply}
@@ -16,11 +17,13 @@ use Rattle.plant_text.specs.Names.{parent_as}
 use Rattle.plant_model.specs.declared.output.Output.{Output}
 use Rattle.plant_model.specs.Names.{the_parent}
 use Rattle.plant_model.specs.Wire.{Codec, Admitted}
+use Rattle.plant_model.specs.Writing.{request_message, error_message, vspt_flag}
 use Rattle.plant_model.specs.Element.{way_to}
 use Rattle.plant_model.specs.Parent.{is_up}
 use Rattle.plant_model.specs.State.{Takes, Downs}
 use Rattle.plant_model.specs.Plant.{Plant, PlantDeed, Entry, Run, deeds_of}
-use Rattle.plant_laws.specs.Transcript.{Transcript, Within, outputs_at}
+use Rattle.plant_laws.specs.Transcript.{Transcript, Within, opened, SentIn, outputs_at}
+use Rattle.plant_laws.specs.Errors.{AsksForIpv6}
 use Rattle.plant_laws.specs.Matched.{IsReplyTo}
 use Rattle.plant_laws.specs.MessageCauses.{TellsOfPaths, GoesTo}
 use Rattle.plant_laws.specs.Runs.{InShortRuns}
@@ -47,17 +50,35 @@ pub record IsStopped (c : Codec) (n : NetworkParts) (d : As) (p : Peer) (x : ℕ
   pub goes : GoesTo n d p wanted next rest denied
   pub stops : (denied ≡ true) ⊎ (is_up (way_to next (before.elements d).ways) ≡ false)
 
+-- The request x of p is open, and in the moment that delivered it d sent it on to this peer under the id y.
+pub record WentOn (c : Codec) (older : Transcript) (d : As) (p : Peer) (x : ℕ) (on : Peer) (y : ℕ) : Type 0 where
+  pub at : Transcript
+  pub is_open : opened c d p x older ≡ Some at
+  pub wanted : Wanted
+  pub rest : List As
+  pub sent : SentIn at d on (request_message y wanted wanted.target rest)
+
+-- The parent, which serves IPv4 alone, refused the request id of d.
+pub record IsRefusedAbove (older : Transcript) (d : As) (id : ℕ) (reports : List ErrorReport) : Type 0 where
+  pub deed : PlantDeed
+  pub before : Transcript
+  pub within : Within (deed ∷ before) older
+  pub asks : AsksForIpv6 d id deed
+  pub said : Contains (outputs_at parent_as deed) (record { to = Inner d; message = messages.PcErr reports })
+  pub names : messages.PcErr reports ≡ error_message (Some (vspt_flag, id)) errors.KIND_NOT_SERVED.0 errors.KIND_NOT_SERVED.1
+
 -- why d told p in a moment that no chain is available for its request x
 pub data Breaks (c : Codec) (n : NetworkParts) : As → Peer → ℕ → PlantDeed → Transcript → Type 0 where
   stopped : (d : As) (p : Peer) (x : ℕ) (deed : PlantDeed) (older : Transcript) → IsStopped c n d p x deed older → Breaks c n d p x deed older
-  -- the session with another peer, on which it waited, went down
-  lost : (d : As) (p : Peer) (x : ℕ) (older : Transcript) (q : Peer) (os : List Output) → p ≢ q → Breaks c n d p x (Downs d q os) older
-  -- where it was sent on there is an error
-  failed : (d : As) (p : Peer) (x : ℕ) (older : Transcript) (q : Peer) (reports : List ErrorReport) (os : List Output) → Breaks c n d p x (Takes d q (messages.PcErr reports) os) older
-  -- the parent said so
-  of_parent : (d : As) (p : Peer) (x : ℕ) (older : Transcript) (r : Reply) (os : List Output) → ¬ TellsOfPaths r.answer → Breaks c n d p x (Takes d the_parent (messages.PcRep (r ∷ [])) os) older
-  -- the next domain said so of the request that it was sent, for a reason of its own
-  further : (d b : As) (p : Peer) (x : ℕ) (older : Transcript) (r : Reply) (os : List Output) → ¬ TellsOfPaths r.answer → (said : IsReplyTo c older d b r) →
+  -- the session with another element, or the parent, went down while the request was open
+  lost : (d : As) (p : Peer) (x : ℕ) (older at : Transcript) (b : As) (os : List Output) → p ≢ Inner b → opened c d p x older ≡ Some at → Breaks c n d p x (Downs d (Inner b) os) older
+  -- the parent, to which it went on, refused it
+  refused : (d : As) (p : Peer) (x : ℕ) (older : Transcript) (id : ℕ) (reports : List ErrorReport) (os : List Output) → WentOn c older d p x the_parent id → IsRefusedAbove older d id reports →
+      Breaks c n d p x (Takes d the_parent (messages.PcErr reports) os) older
+  -- the parent, to which it went on, said so
+  of_parent : (d : As) (p : Peer) (x : ℕ) (older : Transcript) (r : Reply) (os : List Output) → ¬ TellsOfPaths r.answer → WentOn c older d p x the_parent r.id → Breaks c n d p x (Takes d the_parent (messages.PcRep (r ∷ [])) os) older
+  -- the next domain, to which it went on, said so of that request, for a reason of its own
+  further : (d b : As) (p : Peer) (x : ℕ) (older : Transcript) (r : Reply) (os : List Output) → ¬ TellsOfPaths r.answer → (went : WentOn c older d p x (Inner b) r.id) (said : IsReplyTo c older d b r) → said.concerns.sending ≡ went.at →
       Breaks c n b (Inner d) r.id said.deed said.older → Breaks c n d p x (Takes d (Inner b) (messages.PcRep (r ∷ [])) os) older
 
 -- In every run each such reply of an element has a reason.

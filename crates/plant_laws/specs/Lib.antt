@@ -29,6 +29,7 @@ pub mod Certified
 pub mod Steps
 pub mod MessageCauses
 pub mod Causes
+pub mod Errors
 pub mod Broken
 pub mod Served
 -- handed on from below

@@ -9,6 +9,7 @@ ghost use Rattle.plant_laws.specs.Broken.{BrokenForReasons};
 ghost use Rattle.plant_laws.specs.Causes.{MessagesHaveCauses, NetworksBegin};
 ghost use Rattle.plant_laws.specs.Chains.{OneChain, OneChainIn, QuietIsAnswered, QuietIsAnsweredIn};
 ghost use Rattle.plant_laws.specs.Counted.{ElementIdsDiffer, IdsCount};
+ghost use Rattle.plant_laws.specs.Errors.{InnerErrors};
 ghost use Rattle.plant_laws.specs.Headline.{LeastAnswers, LeastAnswersIn, NoneAnswers, NoneAnswersIn};
 ghost use Rattle.plant_laws.specs.Issuing.{ExpandedAreIssued, KeysAreIssued, ToldKeysLast};
 ghost use Rattle.plant_laws.specs.Keys.{ExpandsRightly, ExpandsRightlyIn, KeysDiffer};
@@ -233,6 +234,12 @@ pub fn replies_match()
 pub fn messages_have_causes()
     ensures causes { MessagesHaveCauses }
     ensures begin { NetworksBegin }
+{}
+
+/// An error between elements and the parent names no request, or answers a reply, or says that the parent
+/// serves IPv4 alone: none is out of the profile, and no chain fails for one.
+pub fn inner_errors()
+    ensures { InnerErrors }
 {}
 
 /// Each reply of an element that the chain is not available has a reason on the way of its request.
