@@ -4,6 +4,8 @@ use Rattle.std.specs.Prelude.{◌⊎◌, Option, Some, None}
 use Rattle.dom_base.specs.declared.names.As.{As}
 use Rattle.dom_base.specs.declared.names.Peer.{Peer}
 use Rattle.dom_base.specs.declared.names.Peer.TheVariants.{Inner}
+use Rattle.pcep_codes.specs.declared.kinds.TheConstants as object_types
+use Rattle.pcep_objects.specs.declared.object.Object.{Object}
 use Rattle.pcep_messages.specs.declared.message.Asked.{Asked}
 use Rattle.pcep_messages.specs.declared.message.ErrorReport.{ErrorReport}
 use Rattle.pcep_messages.specs.declared.message.Answer.{Answer}
@@ -25,7 +27,7 @@ use Rattle.plant_model.specs.declared.output.Output.{Output}
 use Rattle.plant_model.specs.Names.{the_parent}
 use Rattle.plant_model.specs.Wire.{Codec}
 use Rattle.plant_model.specs.Laws.{IsCodec, IsNetwork}
-use Rattle.plant_model.specs.Writing.{no_path, unavailable}
+use Rattle.plant_model.specs.Writing.{request_message, no_path, unavailable, ends_kind}
 use Rattle.plant_model.specs.Element.{Element, Row, way_to, is_client, kept, stays}
 use Rattle.plant_model.specs.Taking.{take}
 use Rattle.plant_model.specs.Parent.{is_up}
@@ -34,7 +36,7 @@ use Rattle.plant_model.specs.State.{Loads, Pops, Takes, Says, Ups, Downs, Clears
 use Rattle.plant_model.specs.Deeds.{own_message}
 use Rattle.plant_model.specs.Plant.{Pin, Segment, Plant, PlantDeed, Entry, Run, deeds_of}
 use Rattle.plant_laws.specs.About.{IsShort}
-use Rattle.plant_laws.specs.Broken.{WentOn, Breaks, stopped, lost, refused, of_parent, further, BrokenForReasonsIn}
+use Rattle.plant_laws.specs.Broken.{WentOn, IsRefusedAbove, Breaks, stopped, lost, refused, of_parent, further, BrokenForReasonsIn}
 use Rattle.plant_laws.specs.Causes.{IsLost, IsLostAbove, AnswersLost, asker_of, asker_above, left_rows, left_above, Passes, OnPassed, by_element, by_parent, OfSession, by_table, anew, OfSolve, of_element, of_parent as of_upper, HaveCauses}
 use Rattle.plant_laws.specs.Matched.{Answering, ends, at_once, IsReplyTo}
 use Rattle.plant_laws.specs.MessageCauses.{Asker, replied, WaitsAt, TellsOfPaths, OnReply, unknown, goes_on, is_kept, is_broken, OnNotice, next_is_full, noted_for_nobody, of_other_kind, GoesTo, OnPath, ends_here, no_session, is_refused, sent_on, OnRequest, wrong, again, key_shown, key_refused, no_room, for_path, Part, Notes, alone, noted, OnParts, OnMessage}
@@ -47,6 +49,7 @@ use Rattle.plant_laws.proofs.Alone.{takes_alone}
 use Rattle.plant_laws.proofs.Besides.{besides_asking, answers_in}
 use Rattle.plant_laws.proofs.Counted.{element_ids_differ}
 use Rattle.plant_laws.proofs.Decompose.{nil_right}
+use Rattle.plant_laws.proofs.Errors.{put_before}
 use Rattle.plant_laws.proofs.ErrorsTaken.{hears_errors}
 use Rattle.plant_laws.proofs.EveryWritten.{every_written}
 use Rattle.plant_laws.proofs.FromElement.{within_tail}
@@ -101,6 +104,23 @@ none_tells true true = refl
 none_tells true false = refl
 none_tells false true = refl
 none_tells false false = refl
+
+-- the type of END-POINTS of a request
+abbrev second_kind : List Object → ℕ
+second_kind (x ∷ y ∷ rest) = y.kind
+second_kind (x ∷ []) = 0
+second_kind [] = 0
+
+abbrev ends_kind_in : Message → ℕ
+ends_kind_in (messages.PcReq (a ∷ rest)) = second_kind a.objects
+ends_kind_in (messages.PcReq []) = 0
+ends_kind_in (messages.PcRep replies) = 0
+ends_kind_in (messages.Open body) = 0
+ends_kind_in messages.Keepalive = 0
+ends_kind_in (messages.PcNtf notices) = 0
+ends_kind_in (messages.PcErr reports) = 0
+ends_kind_in (messages.Close why) = 0
+ends_kind_in (messages.Other kind) = 0
 
 -- what falls leave of rows is among them
 left_in : (d : As) (rows : List (Row Pin)) (earlier : Transcript) (h : Row Pin) → table.In h (left_rows d rows earlier) → table.In h rows
@@ -187,6 +207,18 @@ module _ (p : Peer) (r : Reply) (broken : ¬ TellsOfPaths r.answer) where
       In {A = Output} (record { to = Inner d; message = messages.PcRep (r' ∷ []) }) (outputs_at b deed') → ¬ TellsOfPaths r'.answer → Breaks c n b (Inner d) r'.id deed' older') where
     abbrev Broke : Peer → ℕ → PlantDeed → Type 0
     Broke q x deed = Breaks c n d q x deed older
+
+    -- the request that the parent refused is the one that went on
+    ipv6_ends : (id : ℕ) (reports : List ErrorReport) → Within older (deeds_of c n es) → (went : WentOn c older d p r.id the_parent id) → IsRefusedAbove older d id reports → ends_kind went.wanted.source went.wanted.target ≡ object_types.END_POINTS_IPV6
+    ipv6_ends id reports older_now went why =
+        let asks = why.asks in
+        let m = request_message id asks.wanted asks.wanted.target [] in
+        let inside : Within (Takes parent_as (Inner d) m asks.os ∷ why.before) (deeds_of c n es) = subst (λ (e : PlantDeed). Within (e ∷ why.before) (deeds_of c n es)) asks.takes (within_trans (why.deed ∷ why.before) older (deeds_of c n es) why.within older_now) in
+        let put = put_before c codec n net es s run written short d parent_as m asks.os why.before inside in
+        let put_now = within_trans put.0 why.before (deeds_of c n es) put.1 (within_tail (Takes parent_as (Inner d) m asks.os) why.before (deeds_of c n es) inside) in
+        let at_now = within_trans went.at older (deeds_of c n es) (opened_within c d p r.id older went.at went.is_open) older_now in
+        let same = (element_ids_differ c codec n es s run written short put.0 went.at put_now at_now d parent_as real id asks.wanted went.wanted asks.wanted.target went.wanted.target [] went.rest put.2 went.sent).1 in
+        sym (ap ends_kind_in same) ∙ asks.ipv6
 
     -- ---- a message is taken
 
@@ -298,8 +330,9 @@ module _ (p : Peer) (r : Reply) (broken : ¬ TellsOfPaths r.answer) where
         | inr h ↦
             let this = this_one h.asker unavailable (subst (In out) h.says i) in
             let went = went_on (messages.PcErr reports) passes (λ no. no) at is_open h.id h.asker h.waits this.peer this.id in
+            let went' = subst (λ (z : Peer). WentOn c older d p r.id z h.id) h.above went in
             subst (λ (z : Peer). Broke p r.id (Takes d z (messages.PcErr reports) all)) (sym h.above)
-            (refused d p r.id older h.id reports all (subst (λ (z : Peer). WentOn c older d p r.id z h.id) h.above went) h.refused)
+            (refused d p r.id older h.id reports all went' (ipv6_ends h.id reports (within_tail (Takes d q (messages.PcErr reports) all) older (deeds_of c n es) within) went' h.refused) h.refused)
       ]
 
       message_broken : (m : Message) (pin : Pin) (all : List Output) → Within (Takes d q m all ∷ older) (deeds_of c n es) → Passes c n before event d q m → ((IsAsk m → ⊥) → (at : Transcript) × (opened c d p r.id older ≡ Some at)) → IsAlone m → OnMessage c n d pin q before.clock m k all → In out all →

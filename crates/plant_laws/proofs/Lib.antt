@@ -156,5 +156,6 @@ mod ErrorsTaken
 mod StillOpen
 mod Broken
 mod Served
+mod Good
 -- handed on from below
 pub use Rattle.plant_model.proofs as plant_model

@@ -5,6 +5,7 @@ use Rattle.dom_base.specs.declared.names.As.{As}
 use Rattle.dom_base.specs.declared.names.Peer.{Peer}
 use Rattle.dom_base.specs.declared.names.Peer.TheVariants.{Inner}
 use Rattle.pcep_codes.specs.declared.errors.TheConstants as errors
+use Rattle.pcep_codes.specs.declared.kinds.TheConstants as object_types
 use Rattle.pcep_messages.specs.declared.message.Asked.{Asked}
 use Rattle.pcep_messages.specs.declared.message.ErrorReport.{ErrorReport}
 use Rattle.pcep_messages.specs.declared.message.Reply.{Reply}
@@ -17,7 +18,7 @@ use Rattle.plant_text.specs.Names.{parent_as}
 use Rattle.plant_model.specs.declared.output.Output.{Output}
 use Rattle.plant_model.specs.Names.{the_parent}
 use Rattle.plant_model.specs.Wire.{Codec, Admitted}
-use Rattle.plant_model.specs.Writing.{request_message, error_message, vspt_flag}
+use Rattle.plant_model.specs.Writing.{request_message, error_message, ends_kind, vspt_flag}
 use Rattle.plant_model.specs.Element.{way_to}
 use Rattle.plant_model.specs.Parent.{is_up}
 use Rattle.plant_model.specs.State.{Takes, Downs}
@@ -72,8 +73,9 @@ pub data Breaks (c : Codec) (n : NetworkParts) : As → Peer → ℕ → PlantDe
   stopped : (d : As) (p : Peer) (x : ℕ) (deed : PlantDeed) (older : Transcript) → IsStopped c n d p x deed older → Breaks c n d p x deed older
   -- the session with another element, or the parent, went down while the request was open
   lost : (d : As) (p : Peer) (x : ℕ) (older at : Transcript) (b : As) (os : List Output) → p ≢ Inner b → opened c d p x older ≡ Some at → Breaks c n d p x (Downs d (Inner b) os) older
-  -- the parent, to which it went on, refused it
-  refused : (d : As) (p : Peer) (x : ℕ) (older : Transcript) (id : ℕ) (reports : List ErrorReport) (os : List Output) → WentOn c older d p x the_parent id → IsRefusedAbove older d id reports →
+  -- the parent, to which it went on, refused it: its ends are IPv6 addresses
+  refused : (d : As) (p : Peer) (x : ℕ) (older : Transcript) (id : ℕ) (reports : List ErrorReport) (os : List Output) → (went : WentOn c older d p x the_parent id) →
+      ends_kind went.wanted.source went.wanted.target ≡ object_types.END_POINTS_IPV6 → IsRefusedAbove older d id reports →
       Breaks c n d p x (Takes d the_parent (messages.PcErr reports) os) older
   -- the parent, to which it went on, said so
   of_parent : (d : As) (p : Peer) (x : ℕ) (older : Transcript) (r : Reply) (os : List Output) → ¬ TellsOfPaths r.answer → WentOn c older d p x the_parent r.id → Breaks c n d p x (Takes d the_parent (messages.PcRep (r ∷ [])) os) older

@@ -32,5 +32,6 @@ pub mod Causes
 pub mod Errors
 pub mod Broken
 pub mod Served
+pub mod Good
 -- handed on from below
 pub use Rattle.plant_model.specs as plant_model

@@ -10,6 +10,7 @@ ghost use Rattle.plant_laws.specs.Causes.{MessagesHaveCauses, NetworksBegin};
 ghost use Rattle.plant_laws.specs.Chains.{OneChain, OneChainIn, QuietIsAnswered, QuietIsAnsweredIn};
 ghost use Rattle.plant_laws.specs.Counted.{ElementIdsDiffer, IdsCount};
 ghost use Rattle.plant_laws.specs.Errors.{InnerErrors};
+ghost use Rattle.plant_laws.specs.Good.{GoodRequestsAreServed};
 ghost use Rattle.plant_laws.specs.Headline.{LeastAnswers, LeastAnswersIn, NoneAnswers, NoneAnswersIn};
 ghost use Rattle.plant_laws.specs.Issuing.{ExpandedAreIssued, KeysAreIssued, ToldKeysLast};
 ghost use Rattle.plant_laws.specs.Keys.{ExpandsRightly, ExpandsRightlyIn, KeysDiffer};
@@ -248,10 +249,17 @@ pub fn broken_for_reasons()
 {}
 
 /// In a quiet state each path request that an element accepted had one answer: paths, or that there are none,
-/// that a table is full, that it is not served, or that the chain is not available for a reason on its way; or
-/// it was dropped, as its peer cancelled it or went down.
+/// that a table is full, or that the chain is not available for a reason on its way; or it was dropped, as its
+/// peer cancelled it or went down. No error answers it.
 pub fn requests_are_served()
     ensures { RequestsAreServed }
+{}
+
+/// Where policy allows each step on the way of an accepted request, over sessions that are up and stay up, and
+/// the parent, where it is asked, serves it, then in the next quiet state it had its one answer: paths, or that
+/// there are none, or that a table is full.
+pub fn good_requests_are_served()
+    ensures { GoodRequestsAreServed }
 {}
 
 // ---- over PCEP

@@ -1,0 +1,101 @@
+-- Nothing breaks the chain of a good request, so it is served.
+use Rattle.std.proofs.Common.{◌≡◌, ◌≢◌, ℕ, Bool, true, false, cond, List, [], ◌∷◌, Option, Some, sym, ◌∙◌, ap, subst, inl, inr, refl, arith}
+use Rattle.std.specs.Prelude.{◌⊎◌}
+use Rattle.dom_base.specs.declared.names.As.{As}
+use Rattle.dom_base.specs.declared.names.Peer.{Peer}
+use Rattle.dom_base.specs.declared.names.Peer.TheVariants.{Inner}
+use Rattle.pcep_messages.specs.declared.message.Asked.{Asked}
+use Rattle.pcep_messages.specs.declared.message.Message.{Message}
+use Rattle.pcep_messages.specs.declared.message.Message.TheVariants as messages
+use Rattle.pcep_messages.specs.Spelling.{IsWritten}
+use Rattle.request_table.specs.Pending.{same_peer}
+use Rattle.plant_text.specs.declared.settings.NetworkParts.{NetworkParts}
+use Rattle.plant_text.specs.Names.{same_as}
+use Rattle.plant_model.specs.declared.output.Output.{Output}
+use Rattle.plant_model.specs.Names.{the_parent}
+use Rattle.plant_model.specs.Wire.{Codec}
+use Rattle.plant_model.specs.Laws.{IsCodec, IsNetwork}
+use Rattle.plant_model.specs.Writing.{request_message}
+use Rattle.plant_model.specs.State.{Takes, Downs}
+use Rattle.plant_model.specs.Plant.{Segment, PlantDeed, deeds_of}
+use Rattle.plant_laws.specs.Broken.{WentOn, Breaks, stopped, lost, refused, of_parent, further}
+use Rattle.plant_laws.specs.Good.{IsOnWay, first, next, IsGood, IsWellServed, GoodRequestsAreServedIn}
+use Rattle.plant_laws.specs.Matched.{Answering, ends, at_once}
+use Rattle.plant_laws.specs.Served.{EndsWith, tells, is_full, breaks, CameTo, answered, dropped}
+use Rattle.plant_laws.specs.Transcript.{Transcript, Within, Keeps, Ends, asks_effect, answers_to, effect, opened, Handed, SentIn}
+use Rattle.plant_laws.proofs.FromElement.{within_tail}
+use Rattle.plant_laws.proofs.Moments.{within_trans, opened_within}
+use Rattle.plant_laws.proofs.Served.{asked_never, requests_are_served}
+use Rattle.plant_laws.proofs.WhereWritten.{WrittenNetIds}
+
+-- how a deed of b is about the request y of q that was taken in a moment: it ends it, or takes it
+abbrev IsAboutIt : Codec → As → Peer → ℕ → Transcript → PlantDeed → Transcript → Type 0
+IsAboutIt c b q y taken deed older =
+    ((opened c b q y older ≡ Some taken) × (effect c b q y deed ≡ Ends))
+    ⊎ ((taken ≡ deed ∷ older) × (asks : List Asked) × (os : List Output) × (deed ≡ Takes b q (messages.PcReq asks) os))
+
+taking_never : {X : Type 0} (c : Codec) (b : As) (q : Peer) (y : ℕ) (at : As) (from : Peer) (asks : List Asked) (os : List Output) → effect {S = Segment} c b q y (Takes at from (messages.PcReq asks) os) ≡ Ends → X
+taking_never {X} c b q y at from asks os e = go (same_as at b) e
+  where
+    go : (t : Bool) → cond t (cond (same_peer from q) (asks_effect c b y (answers_to q y os) asks) Keeps) Keeps ≡ Ends → X
+    go true e' = asked_never c b q from y (answers_to q y os) asks (same_peer from q) e'
+    go false e' = absurd (let clash : Keeps ≡ Ends = e' in cc)
+
+one_moment : (o : Option Transcript) (a b : Transcript) → o ≡ Some a → o ≡ Some b → a ≡ b
+one_moment o a b is is' = let both : Some a ≡ Some b = sym is ∙ is' in cc
+
+module _ (c : Codec) (n : NetworkParts) (now : Transcript) (d : As) (p : Peer) (x : ℕ) (at : Transcript) (good : IsGood c n now d p x at) where
+  -- the next step of the way
+  step_of : (b b' : As) (q : Peer) (y : ℕ) (taken older : Transcript) (deed' : PlantDeed) (older' : Transcript) (z : ℕ) → IsOnWay d p x at b q y taken → opened c b q y older ≡ Some taken → (went : WentOn c older b q y (Inner b') z) →
+      (sending : Transcript) → sending ≡ went.at → Answering c b b' z sending deed' older' → (taken' : Transcript) × IsOnWay d p x at b' (Inner b) z taken' × IsAboutIt c b' (Inner b) z taken' deed' older'
+  step_of b b' q y taken older deed' older' z way is_open went sending same answering = go answering
+    where
+      sending_is : sending ≡ taken
+      sending_is = same ∙ one_moment (opened c b q y older) went.at taken went.is_open is_open
+
+      sent : SentIn taken b (Inner b') (request_message z went.wanted went.wanted.target went.rest)
+      sent = subst (λ (m : Transcript). SentIn m b (Inner b') (request_message z went.wanted went.wanted.target went.rest)) (one_moment (opened c b q y older) went.at taken went.is_open is_open) went.sent
+
+      go : Answering c b b' z sending deed' older' → (taken' : Transcript) × IsOnWay d p x at b' (Inner b) z taken' × IsAboutIt c b' (Inner b) z taken' deed' older'
+      go (ends at' is_open' over handed) = (at', next b b' q y z taken at' went.wanted went.rest way sent (subst (λ (m : Transcript). Handed b b' m at') sending_is handed), inl (is_open', over))
+      go (at_once asks os is handed) = (
+        deed' ∷ older',
+        next b b' q y z taken (deed' ∷ older') went.wanted went.rest way sent (subst (λ (m : Transcript). Handed b b' m (deed' ∷ older')) sending_is handed),
+        inr (refl, asks, os, is),
+      )
+
+  never : (b : As) (q : Peer) (y : ℕ) (deed : PlantDeed) (older : Transcript) → Breaks c n b q y deed older → (taken : Transcript) → IsOnWay d p x at b q y taken → Within (deed ∷ older) now → IsAboutIt c b q y taken deed older → ⊥
+  never b q y deed older (stopped b' q' y' deed' older' is) taken way within (inr taking) = (good.way b q y taken way).allowed deed older taking.0 is
+  never b q y deed older (stopped b' q' y' deed' older' is) taken way within (inl open') =
+      taking_never c b q y b q (is.asked ∷ []) is.os (subst (λ (e : PlantDeed). effect c b q y e ≡ Ends) is.takes open'.1)
+  never b q y deed older (lost b' q' y' older' at' a os other is) taken way within (inl open') = (good.way b q y taken way).stays a os older other within (opened_within c b q y older taken open'.0)
+  never b q y deed older (lost b' q' y' older' at' a os other is) taken way within (inr taking) = absurd (let clash : Downs b (Inner a) os ≡ Takes b q (messages.PcReq taking.1) taking.2 = taking.3 in cc)
+  never b q y deed older (refused b' q' y' older' id reports os went ipv6 why) taken way within (inl open') =
+      let sent = subst (λ (m : Transcript). SentIn m b the_parent (request_message id went.wanted went.wanted.target went.rest)) (one_moment (opened c b q y older) went.at taken went.is_open open'.0) went.sent in
+      let four = ((good.way b q y taken way).above id went.wanted went.rest sent).0 in
+      (let clash : 1 ≡ 2 = sym four ∙ ipv6 in omega (arith, clash))
+  never b q y deed older (refused b' q' y' older' id reports os went ipv6 why) taken way within (inr taking) =
+      absurd (let clash : Takes b the_parent (messages.PcErr reports) os ≡ Takes b q (messages.PcReq taking.1) taking.2 = taking.3 in cc)
+  never b q y deed older (of_parent b' q' y' older' r os broken went) taken way within (inl open') =
+      let sent = subst (λ (m : Transcript). SentIn m b the_parent (request_message r.id went.wanted went.wanted.target went.rest)) (one_moment (opened c b q y older) went.at taken went.is_open open'.0) went.sent in
+      broken (((good.way b q y taken way).above r.id went.wanted went.rest sent).1 r os older within refl)
+  never b q y deed older (of_parent b' q' y' older' r os broken went) taken way within (inr taking) =
+      absurd (let clash : Takes b the_parent (messages.PcRep (r ∷ [])) os ≡ Takes b q (messages.PcReq taking.1) taking.2 = taking.3 in cc)
+  never b q y deed older (further b' a q' y' older' r os broken went said same deeper) taken way within (inl open') =
+      let then = step_of b a q y taken older said.deed said.older r.id way open'.0 went said.concerns.sending same said.concerns.answering in
+      never a (Inner b) r.id said.deed said.older deeper then.0 then.1 (within_trans (said.deed ∷ said.older) older now said.within (within_tail deed older now within)) then.2
+  never b q y deed older (further b' a q' y' older' r os broken went said same deeper) taken way within (inr taking) =
+      absurd (let clash : Takes b (Inner a) (messages.PcRep (r ∷ [])) os ≡ Takes b q (messages.PcReq taking.1) taking.2 = taking.3 in cc)
+
+  served : CameTo c n now d p x at → IsWellServed c now d p x at
+  served (dropped e none why) = absurd (good.kept e.deed e.older e.within (opened_within c d p x e.older at e.is_open) why)
+  served (answered e one by) = go by
+    where
+      go : EndsWith c n d p x now at e → IsWellServed c now d p x at
+      go (tells r has id told) = record { end = e; once = one; answer = inl (r, has, id, told) }
+      go (is_full flags has) = record { end = e; once = one; answer = inr (flags, has) }
+      go (breaks r has id broken why) = absurd (never d p x e.deed e.older why at first e.within (inl (e.is_open, e.ends)))
+
+pub good_requests_are_served : WrittenNetIds GoodRequestsAreServedIn
+good_requests_are_served c codec n net es s run written short quiet d p x at real within begins good =
+    served c n (deeds_of c n es) d p x at good (requests_are_served c codec n net es s run written short quiet d p x at real within begins)

@@ -1,0 +1,63 @@
+-- A good request: an element accepted it, its peer does not give it up, and on its way policy allows each step, the session with the next
+-- is up, no session falls, and the parent, where it is asked, is asked of IPv4 and finds paths or none. In the next quiet state it had its
+-- one answer: paths, or that there are none, or that a table is full.
+use Rattle.std.specs.Prelude.{◌≡◌, ◌≢◌, ◌⊎◌, ℕ, List, ◌∷◌, [], Contains, Some}
+use Rattle.dom_base.specs.declared.names.As.{As}
+use Rattle.dom_base.specs.declared.names.Peer.{Peer}
+use Rattle.dom_base.specs.declared.names.Peer.TheVariants.{Inner}
+use Rattle.pcep_codes.specs.declared.kinds.TheConstants as object_types
+use Rattle.pcep_messages.specs.declared.message.Message.TheVariants as messages
+use Rattle.pcep_messages.specs.declared.message.Reply.{Reply}
+use Rattle.pcep_messages.specs.declared.message.Wanted.{Wanted}
+use Rattle.plant_text.specs.declared.settings.NetworkParts.{NetworkParts}
+use Rattle.plant_text.specs.Names.{parent_as}
+use Rattle.plant_model.specs.declared.output.Output.{Output}
+use Rattle.plant_model.specs.Names.{the_parent}
+use Rattle.plant_model.specs.Wire.{Codec}
+use Rattle.plant_model.specs.Writing.{request_message, busy, ends_kind}
+use Rattle.plant_model.specs.State.{Takes, Downs}
+use Rattle.plant_model.specs.Plant.{Plant, PlantDeed, Entry, deeds_of}
+use Rattle.plant_laws.specs.Transcript.{Transcript, Within, opened, Handed, SentIn, outputs_at}
+use Rattle.plant_laws.specs.Chains.{IsQuiet}
+use Rattle.plant_laws.specs.Answered.{IsEnd, DropsFor, answers_of}
+use Rattle.plant_laws.specs.MessageCauses.{TellsOfPaths}
+use Rattle.plant_laws.specs.Broken.{IsStopped}
+use Rattle.plant_laws.specs.Runs.{InShortRuns}
+
+-- The way of the request x of p, which d accepted in a moment: who took it, from whom and under which id, and the moment that delivered
+-- it there.
+pub data IsOnWay (d : As) (p : Peer) (x : ℕ) (at : Transcript) : As → Peer → ℕ → Transcript → Type 0 where
+  first : IsOnWay d p x at d p x at
+  next : (a b : As) (q : Peer) (y z : ℕ) (sending taken : Transcript) (w : Wanted) (rest : List As) → IsOnWay d p x at a q y sending →
+      SentIn sending a (Inner b) (request_message z w w.target rest) → Handed a b sending taken → IsOnWay d p x at b (Inner a) z taken
+
+-- b, which took the request y of q in a moment, may send it on, and can
+pub record GoesWell (c : Codec) (n : NetworkParts) (now : Transcript) (b : As) (q : Peer) (y : ℕ) (taken : Transcript) : Type 0 where
+  -- policy allows the step, and the session with the next is up
+  pub allowed : (deed : PlantDeed) (older : Transcript) → taken ≡ deed ∷ older → ¬ IsStopped c n b q y deed older
+  -- where the parent is asked, it is asked of IPv4 addresses, and finds paths or that there are none
+  pub above : (z : ℕ) (w : Wanted) (rest : List As) → SentIn taken b the_parent (request_message z w w.target rest) →
+      (ends_kind w.source w.target ≡ object_types.FIRST)
+      × ((r : Reply) (os : List Output) (older : Transcript) → Within (Takes b the_parent (messages.PcRep (r ∷ [])) os ∷ older) now → r.id ≡ z → TellsOfPaths r.answer)
+  -- no session with another element, or the parent, goes down from then on
+  pub stays : (a : As) (os : List Output) (older : Transcript) → q ≢ Inner a → Within (Downs b (Inner a) os ∷ older) now → ¬ Within taken older
+
+pub record IsGood (c : Codec) (n : NetworkParts) (now : Transcript) (d : As) (p : Peer) (x : ℕ) (at : Transcript) : Type 0 where
+  -- its peer does not cancel it, and keeps its session
+  pub kept : (deed : PlantDeed) (older : Transcript) → Within (deed ∷ older) now → Within at older → ¬ DropsFor d p x deed
+  pub way : (b : As) (q : Peer) (y : ℕ) (taken : Transcript) → IsOnWay d p x at b q y taken → GoesWell c n now b q y taken
+
+-- its one answer
+pub record IsWellServed (c : Codec) (now : Transcript) (d : As) (p : Peer) (x : ℕ) (at : Transcript) : Type 0 where
+  pub end : IsEnd c now d p x at
+  pub once : answers_of d p x end.deed ≡ 1
+  pub answer :
+      ((r : Reply) × Contains (outputs_at d end.deed) (record { to = p; message = messages.PcRep (r ∷ []) }) × (r.id ≡ x) × TellsOfPaths r.answer)
+      ⊎ ((flags : ℕ) × Contains (outputs_at d end.deed) (record { to = p; message = busy flags x }))
+
+abbrev pub GoodRequestsAreServedIn : Codec → NetworkParts → List Entry → Plant → Type 0
+GoodRequestsAreServedIn c n es s =
+    IsQuiet s → (d : As) (p : Peer) (x : ℕ) (at : Transcript) → d ≢ parent_as → Within at (deeds_of c n es) → opened c d p x at ≡ Some at → IsGood c n (deeds_of c n es) d p x at → IsWellServed c (deeds_of c n es) d p x at
+
+abbrev pub GoodRequestsAreServed : Type 0
+GoodRequestsAreServed = InShortRuns GoodRequestsAreServedIn
