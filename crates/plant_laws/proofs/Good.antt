@@ -10,7 +10,7 @@ use Rattle.pcep_messages.specs.declared.message.Message.TheVariants as messages
 use Rattle.pcep_messages.specs.Spelling.{IsWritten}
 use Rattle.request_table.specs.Pending.{same_peer}
 use Rattle.plant_text.specs.declared.settings.NetworkParts.{NetworkParts}
-use Rattle.plant_text.specs.Names.{same_as}
+use Rattle.plant_text.specs.Names.{same_as, parent_as}
 use Rattle.plant_model.specs.declared.output.Output.{Output}
 use Rattle.plant_model.specs.Names.{the_parent}
 use Rattle.plant_model.specs.Wire.{Codec}
@@ -18,7 +18,7 @@ use Rattle.plant_model.specs.Laws.{IsCodec, IsNetwork}
 use Rattle.plant_model.specs.Writing.{request_message}
 use Rattle.plant_model.specs.State.{Takes, Downs}
 use Rattle.plant_model.specs.Plant.{Segment, PlantDeed, deeds_of}
-use Rattle.plant_laws.specs.Broken.{WentOn, Breaks, stopped, lost, refused, of_parent, further}
+use Rattle.plant_laws.specs.Broken.{WentOn, Breaks, stopped, lost, refused, further, stopped_above, of_child}
 use Rattle.plant_laws.specs.Good.{IsOnWay, first, next, IsGood, IsWellServed, GoodRequestsAreServedIn}
 use Rattle.plant_laws.specs.Matched.{Answering, ends, at_once}
 use Rattle.plant_laws.specs.Served.{EndsWith, tells, is_full, breaks, CameTo, answered, dropped}
@@ -72,20 +72,23 @@ module _ (c : Codec) (n : NetworkParts) (now : Transcript) (d : As) (p : Peer) (
   never b q y deed older (lost b' q' y' older' at' a os other is) taken way within (inr taking) = absurd (let clash : Downs b (Inner a) os ≡ Takes b q (messages.PcReq taking.1) taking.2 = taking.3 in cc)
   never b q y deed older (refused b' q' y' older' id reports os went ipv6 why) taken way within (inl open') =
       let sent = subst (λ (m : Transcript). SentIn m b the_parent (request_message id went.wanted went.wanted.target went.rest)) (one_moment (opened c b q y older) went.at taken went.is_open open'.0) went.sent in
-      let four = ((good.way b q y taken way).above id went.wanted went.rest sent).0 in
+      let four = (good.way b q y taken way).ipv4 id went.wanted went.rest sent in
       (let clash : 1 ≡ 2 = sym four ∙ ipv6 in omega (arith, clash))
   never b q y deed older (refused b' q' y' older' id reports os went ipv6 why) taken way within (inr taking) =
       absurd (let clash : Takes b the_parent (messages.PcErr reports) os ≡ Takes b q (messages.PcReq taking.1) taking.2 = taking.3 in cc)
-  never b q y deed older (of_parent b' q' y' older' r os broken went) taken way within (inl open') =
-      let sent = subst (λ (m : Transcript). SentIn m b the_parent (request_message r.id went.wanted went.wanted.target went.rest)) (one_moment (opened c b q y older) went.at taken went.is_open open'.0) went.sent in
-      broken (((good.way b q y taken way).above r.id went.wanted went.rest sent).1 r os older within refl)
-  never b q y deed older (of_parent b' q' y' older' r os broken went) taken way within (inr taking) =
-      absurd (let clash : Takes b the_parent (messages.PcRep (r ∷ [])) os ≡ Takes b q (messages.PcReq taking.1) taking.2 = taking.3 in cc)
   never b q y deed older (further b' a q' y' older' r os broken went said same deeper) taken way within (inl open') =
       let then = step_of b a q y taken older said.deed said.older r.id way open'.0 went said.concerns.sending same said.concerns.answering in
       never a (Inner b) r.id said.deed said.older deeper then.0 then.1 (within_trans (said.deed ∷ said.older) older now said.within (within_tail deed older now within)) then.2
   never b q y deed older (further b' a q' y' older' r os broken went said same deeper) taken way within (inr taking) =
       absurd (let clash : Takes b (Inner a) (messages.PcRep (r ∷ [])) os ≡ Takes b q (messages.PcReq taking.1) taking.2 = taking.3 in cc)
+  never b q y deed older (stopped_above q' y' deed' older' is) taken way within (inr taking) = (good.way b q y taken way).allowed_above deed older taking.0 refl is
+  never b q y deed older (stopped_above q' y' deed' older' is) taken way within (inl open') =
+      taking_never c b q y b q (is.asked ∷ []) is.os (subst (λ (e : PlantDeed). effect c b q y e ≡ Ends) is.takes open'.1)
+  never b q y deed older (of_child a q' y' older' r os broken went deeper) taken way within (inl open') =
+      let sent = subst (λ (m : Transcript). SentIn m parent_as (Inner a) (request_message r.id went.wanted went.target (a ∷ []))) (one_moment (opened c b q y older) went.at taken went.is_open open'.0) went.sent in
+      broken ((good.way b q y taken way).children a went.wanted went.target r os older refl sent within)
+  never b q y deed older (of_child a q' y' older' r os broken went deeper) taken way within (inr taking) =
+      absurd (let clash : Takes parent_as (Inner a) (messages.PcRep (r ∷ [])) os ≡ Takes b q (messages.PcReq taking.1) taking.2 = taking.3 in cc)
 
   served : CameTo c n now d p x at → IsWellServed c now d p x at
   served (dropped e none why) = absurd (good.kept e.deed e.older e.within (opened_within c d p x e.older at e.is_open) why)

@@ -308,7 +308,7 @@ module _ (c : Codec) (codec : IsCodec c) (n : NetworkParts) (net : IsNetwork n) 
               let has = at_p a.one (messages.PcRep (r ∷ [])) a.there a.to is in
               elim (told_or_not r.answer) [
                 | inl told' ↦ tells r has id told'
-                | inr broken ↦ breaks r has id broken (subst (λ (y : ℕ). Breaks c n d p y e.deed e.older) id (broken_for_reasons c codec n net es s run written short d p r e.deed e.older real e.within has broken))
+                | inr broken ↦ breaks r has id broken (subst (λ (y : ℕ). Breaks c n d p y e.deed e.older) id (broken_for_reasons c codec n net es s run written short d p r e.deed e.older e.within has broken))
               ]
           go (full flags id is) counts =
               let same : id ≡ x = has_one x (flags, id) (one_is (has_id x ((flags, id) ∷ [])) (subst (λ (m : Message). 1 ≤ count_answers x m) is counts)) in

@@ -1,8 +1,9 @@
 -- A good request: an element accepted it, its peer does not give it up, and on its way policy allows each step, the session with the next
--- is up, no session falls, and the parent, where it is asked, is asked of IPv4 and finds paths or none. In the next quiet state it had its
--- one answer: paths, or that there are none, or that a table is full.
+-- is up, no session falls, and the parent, where it is asked, is asked of IPv4 and hears of paths or none from its children. In the next
+-- quiet state it had its one answer: paths, or that there are none, or that a table is full.
 use Rattle.std.specs.Prelude.{◌≡◌, ◌≢◌, ◌⊎◌, ℕ, List, ◌∷◌, [], Contains, Some}
 use Rattle.dom_base.specs.declared.names.As.{As}
+use Rattle.dom_base.specs.declared.addr.Addr.{Addr}
 use Rattle.dom_base.specs.declared.names.Peer.{Peer}
 use Rattle.dom_base.specs.declared.names.Peer.TheVariants.{Inner}
 use Rattle.pcep_codes.specs.declared.kinds.TheConstants as object_types
@@ -21,7 +22,7 @@ use Rattle.plant_laws.specs.Transcript.{Transcript, Within, opened, Handed, Sent
 use Rattle.plant_laws.specs.Chains.{IsQuiet}
 use Rattle.plant_laws.specs.Answered.{IsEnd, DropsFor, answers_of}
 use Rattle.plant_laws.specs.MessageCauses.{TellsOfPaths}
-use Rattle.plant_laws.specs.Broken.{IsStopped}
+use Rattle.plant_laws.specs.Broken.{IsStopped, IsStoppedAbove}
 use Rattle.plant_laws.specs.Runs.{InShortRuns}
 
 -- The way of the request x of p, which d accepted in a moment: who took it, from whom and under which id, and the moment that delivered
@@ -35,10 +36,13 @@ pub data IsOnWay (d : As) (p : Peer) (x : ℕ) (at : Transcript) : As → Peer �
 pub record GoesWell (c : Codec) (n : NetworkParts) (now : Transcript) (b : As) (q : Peer) (y : ℕ) (taken : Transcript) : Type 0 where
   -- policy allows the step, and the session with the next is up
   pub allowed : (deed : PlantDeed) (older : Transcript) → taken ≡ deed ∷ older → ¬ IsStopped c n b q y deed older
-  -- where the parent is asked, it is asked of IPv4 addresses, and finds paths or that there are none
-  pub above : (z : ℕ) (w : Wanted) (rest : List As) → SentIn taken b the_parent (request_message z w w.target rest) →
-      (ends_kind w.source w.target ≡ object_types.FIRST)
-      × ((r : Reply) (os : List Output) (older : Transcript) → Within (Takes b the_parent (messages.PcRep (r ∷ [])) os ∷ older) now → r.id ≡ z → TellsOfPaths r.answer)
+  -- at the parent the session with each child is up
+  pub allowed_above : (deed : PlantDeed) (older : Transcript) → taken ≡ deed ∷ older → b ≡ parent_as → ¬ IsStoppedAbove c n q y deed older
+  -- where the parent is asked, it is asked of IPv4 addresses
+  pub ipv4 : (z : ℕ) (w : Wanted) (rest : List As) → SentIn taken b the_parent (request_message z w w.target rest) → ends_kind w.source w.target ≡ object_types.FIRST
+  -- and each child that it asks replies paths, or that there are none
+  pub children : (a : As) (w : Wanted) (t : Addr) (r : Reply) (os : List Output) (older : Transcript) → b ≡ parent_as → SentIn taken parent_as (Inner a) (request_message r.id w t (a ∷ [])) →
+      Within (Takes parent_as (Inner a) (messages.PcRep (r ∷ [])) os ∷ older) now → TellsOfPaths r.answer
   -- no session with another element, or the parent, goes down from then on
   pub stays : (a : As) (os : List Output) (older : Transcript) → q ≢ Inner a → Within (Downs b (Inner a) os ∷ older) now → ¬ Within taken older
 

@@ -243,7 +243,8 @@ pub fn inner_errors()
     ensures { InnerErrors }
 {}
 
-/// Each reply of an element that the chain is not available has a reason on the way of its request.
+/// Each reply of an element, or the parent, that the chain is not available has a reason on the way of its
+/// request.
 pub fn broken_for_reasons()
     ensures { BrokenForReasons }
 {}
@@ -256,7 +257,7 @@ pub fn requests_are_served()
 {}
 
 /// Where policy allows each step on the way of an accepted request, over sessions that are up and stay up, and
-/// the parent, where it is asked, serves it, then in the next quiet state it had its one answer: paths, or that
+/// what the parent asks for it is answered, then in the next quiet state it had its one answer: paths, or that
 /// there are none, or that a table is full.
 pub fn good_requests_are_served()
     ensures { GoodRequestsAreServed }
