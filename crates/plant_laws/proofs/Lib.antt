@@ -155,6 +155,7 @@ mod Errors
 mod ErrorsTaken
 mod StillOpen
 mod Broken
+mod Full
 mod Served
 mod Good
 -- handed on from below

@@ -31,6 +31,7 @@ pub mod MessageCauses
 pub mod Causes
 pub mod Errors
 pub mod Broken
+pub mod Full
 pub mod Served
 pub mod Good
 -- handed on from below

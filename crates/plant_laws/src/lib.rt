@@ -10,6 +10,7 @@ ghost use Rattle.plant_laws.specs.Causes.{MessagesHaveCauses, NetworksBegin};
 ghost use Rattle.plant_laws.specs.Chains.{OneChain, OneChainIn, QuietIsAnswered, QuietIsAnsweredIn};
 ghost use Rattle.plant_laws.specs.Counted.{ElementIdsDiffer, IdsCount};
 ghost use Rattle.plant_laws.specs.Errors.{InnerErrors};
+ghost use Rattle.plant_laws.specs.Full.{FullForReasons};
 ghost use Rattle.plant_laws.specs.Good.{GoodRequestsAreServed};
 ghost use Rattle.plant_laws.specs.Headline.{LeastAnswers, LeastAnswersIn, NoneAnswers, NoneAnswersIn};
 ghost use Rattle.plant_laws.specs.Issuing.{ExpandedAreIssued, KeysAreIssued, ToldKeysLast};
@@ -247,6 +248,12 @@ pub fn inner_errors()
 /// request.
 pub fn broken_for_reasons()
     ensures { BrokenForReasons }
+{}
+
+/// Each notice of an element, or the parent, that there is no room has a reason on the way of its request: a full
+/// table, or a solve that needs more keys than are free.
+pub fn full_for_reasons()
+    ensures { FullForReasons }
 {}
 
 /// In a quiet state each path request that an element accepted had one answer: paths, or that there are none,
