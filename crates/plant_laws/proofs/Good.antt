@@ -90,13 +90,13 @@ module _ (c : Codec) (n : NetworkParts) (now : Transcript) (d : As) (p : Peer) (
   never b q y deed older (of_child a q' y' older' r os broken went deeper) taken way within (inr taking) =
       absurd (let clash : Takes parent_as (Inner a) (messages.PcRep (r ∷ [])) os ≡ Takes b q (messages.PcReq taking.1) taking.2 = taking.3 in cc)
 
-  served : CameTo c n now d p x at → IsWellServed c now d p x at
+  served : CameTo c n now d p x at → IsWellServed c n now d p x at
   served (dropped e none why) = absurd (good.kept e.deed e.older e.within (opened_within c d p x e.older at e.is_open) why)
   served (answered e one by) = go by
     where
-      go : EndsWith c n d p x now at e → IsWellServed c now d p x at
+      go : EndsWith c n d p x now at e → IsWellServed c n now d p x at
       go (tells r has id told) = record { end = e; once = one; answer = inl (r, has, id, told) }
-      go (is_full flags has) = record { end = e; once = one; answer = inr (flags, has) }
+      go (is_full flags has why) = record { end = e; once = one; answer = inr (flags, has, why) }
       go (breaks r has id broken why) = absurd (never d p x e.deed e.older why at first e.within (inl (e.is_open, e.ends)))
 
 pub good_requests_are_served : WrittenNetIds GoodRequestsAreServedIn

@@ -43,6 +43,7 @@ use Rattle.plant_laws.specs.Transcript.{Transcript, Within, Keeps, Ends, Begins,
 use Rattle.plant_laws.proofs.Answering.{requests_are_answered_once}
 use Rattle.plant_laws.proofs.Broken.{broken_for_reasons}
 use Rattle.plant_laws.proofs.ErrorsTaken.{hears_errors}
+use Rattle.plant_laws.proofs.Full.{full_for_reasons}
 use Rattle.plant_laws.proofs.Handing.{In}
 use Rattle.plant_laws.proofs.MomentCauses.{HasOne, IsOpening, moment_cause, outs, solver, head_of}
 use Rattle.plant_laws.proofs.PartCauses.{contains_at, not_both}
@@ -312,7 +313,8 @@ module _ (c : Codec) (codec : IsCodec c) (n : NetworkParts) (net : IsNetwork n) 
               ]
           go (full flags id is) counts =
               let same : id ≡ x = has_one x (flags, id) (one_is (has_id x ((flags, id) ∷ [])) (subst (λ (m : Message). 1 ≤ count_answers x m) is counts)) in
-              is_full flags (subst (λ (y : ℕ). Contains (outputs_at d e.deed) (record { to = p; message = busy flags y })) same (at_p a.one (busy flags id) a.there a.to is))
+              let has = subst (λ (y : ℕ). Contains (outputs_at d e.deed) (record { to = p; message = busy flags y })) same (at_p a.one (busy flags id) a.there a.to is) in
+              is_full flags has (full_for_reasons c codec n net es s run written short d p x flags e.deed e.older e.within has)
           go (other none) counts = absurd (let nothing = none x in omega (arith, nothing, counts))
 
   none_pending : s.parent.pending.rows ≡ [] → ((d' : As) → (s.elements d').pending.rows ≡ []) → is_pending s d p x ≡ false

@@ -1,6 +1,6 @@
 -- A good request: an element accepted it, its peer does not give it up, and on its way policy allows each step, the session with the next
 -- is up, no session falls, and the parent, where it is asked, is asked of IPv4 and hears of paths or none from its children. In the next
--- quiet state it had its one answer: paths, or that there are none, or that a table is full.
+-- quiet state it had its one answer: paths, or that there are none, or that there is no room, for a reason on its way.
 use Rattle.std.specs.Prelude.{◌≡◌, ◌≢◌, ◌⊎◌, ℕ, List, ◌∷◌, [], Contains, Some}
 use Rattle.dom_base.specs.declared.names.As.{As}
 use Rattle.dom_base.specs.declared.addr.Addr.{Addr}
@@ -23,6 +23,7 @@ use Rattle.plant_laws.specs.Chains.{IsQuiet}
 use Rattle.plant_laws.specs.Answered.{IsEnd, DropsFor, answers_of}
 use Rattle.plant_laws.specs.MessageCauses.{TellsOfPaths}
 use Rattle.plant_laws.specs.Broken.{IsStopped, IsStoppedAbove}
+use Rattle.plant_laws.specs.Full.{Fills}
 use Rattle.plant_laws.specs.Runs.{InShortRuns}
 
 -- The way of the request x of p, which d accepted in a moment: who took it, from whom and under which id, and the moment that delivered
@@ -52,16 +53,16 @@ pub record IsGood (c : Codec) (n : NetworkParts) (now : Transcript) (d : As) (p 
   pub way : (b : As) (q : Peer) (y : ℕ) (taken : Transcript) → IsOnWay d p x at b q y taken → GoesWell c n now b q y taken
 
 -- its one answer
-pub record IsWellServed (c : Codec) (now : Transcript) (d : As) (p : Peer) (x : ℕ) (at : Transcript) : Type 0 where
+pub record IsWellServed (c : Codec) (n : NetworkParts) (now : Transcript) (d : As) (p : Peer) (x : ℕ) (at : Transcript) : Type 0 where
   pub end : IsEnd c now d p x at
   pub once : answers_of d p x end.deed ≡ 1
   pub answer :
       ((r : Reply) × Contains (outputs_at d end.deed) (record { to = p; message = messages.PcRep (r ∷ []) }) × (r.id ≡ x) × TellsOfPaths r.answer)
-      ⊎ ((flags : ℕ) × Contains (outputs_at d end.deed) (record { to = p; message = busy flags x }))
+      ⊎ ((flags : ℕ) × Contains (outputs_at d end.deed) (record { to = p; message = busy flags x }) × Fills c n d p x end.deed end.older)
 
 abbrev pub GoodRequestsAreServedIn : Codec → NetworkParts → List Entry → Plant → Type 0
 GoodRequestsAreServedIn c n es s =
-    IsQuiet s → (d : As) (p : Peer) (x : ℕ) (at : Transcript) → d ≢ parent_as → Within at (deeds_of c n es) → opened c d p x at ≡ Some at → IsGood c n (deeds_of c n es) d p x at → IsWellServed c (deeds_of c n es) d p x at
+    IsQuiet s → (d : As) (p : Peer) (x : ℕ) (at : Transcript) → d ≢ parent_as → Within at (deeds_of c n es) → opened c d p x at ≡ Some at → IsGood c n (deeds_of c n es) d p x at → IsWellServed c n (deeds_of c n es) d p x at
 
 abbrev pub GoodRequestsAreServed : Type 0
 GoodRequestsAreServed = InShortRuns GoodRequestsAreServedIn

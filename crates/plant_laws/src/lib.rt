@@ -257,7 +257,7 @@ pub fn full_for_reasons()
 {}
 
 /// In a quiet state each path request that an element accepted had one answer: paths, or that there are none,
-/// that a table is full, or that the chain is not available for a reason on its way; or it was dropped, as its
+/// or that there is no room or the chain is not available, for a reason on its way; or it was dropped, as its
 /// peer cancelled it or went down. No error answers it.
 pub fn requests_are_served()
     ensures { RequestsAreServed }
@@ -265,7 +265,7 @@ pub fn requests_are_served()
 
 /// Where policy allows each step on the way of an accepted request, over sessions that are up and stay up, and
 /// what the parent asks for it is answered, then in the next quiet state it had its one answer: paths, or that
-/// there are none, or that a table is full.
+/// there are none, or that there is no room, for a reason on its way.
 pub fn good_requests_are_served()
     ensures { GoodRequestsAreServed }
 {}
