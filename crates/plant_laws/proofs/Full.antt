@@ -40,10 +40,11 @@ use Rattle.plant_model.specs.Plant.{Pin, Segment, Plant, PlantDeed, Entry, Run, 
 use Rattle.plant_laws.specs.About.{IsShort}
 use Rattle.plant_laws.specs.Causes.{IsLost, IsLostAbove, AnswersLost, asker_of, asker_above, left_rows, left_above, Passes, from_outside, from_inside, OnPassed, by_element, by_parent, OfSession, by_table, anew, OfSolve, of_element, of_parent, HaveCauses}
 use Rattle.plant_laws.specs.Full.{IsCrowded, LacksKeys, HearsFull, Fills, crowded, lacks, further_full, FullForReasonsIn}
+use Rattle.plant_laws.specs.Matched.{Answering, ends, at_once}
 use Rattle.plant_laws.specs.MessageCauses.{Asker, told, replied, WaitsAt, WaitsAbove, OnReply, unknown, goes_on, is_kept, is_broken, OnNotice, next_is_full, noted_for_nobody, of_other_kind, OnError, failed_for_nobody, of_reply, out_of_profile, other_error, OnPath, ends_here, no_session, is_refused, sent_on, OnRequest, wrong, again, key_shown, key_refused, no_room, for_path, AreAsked, OnRequestAbove, wrong_above, again_above, key_above, no_room_above, child_down, all_asked, Part, Notes, Fails, alone, noted, failed_by, failed, parts, OnParts, OnMessage}
 use Rattle.plant_laws.specs.Sending.{AllSent}
 use Rattle.plant_laws.specs.Solves.{ElementTells, TellsClient, its_path, no_pair, TellsClosed, branches, no_branch, lacks_keys, TellsUpper, found as found_walk, no_walk}
-use Rattle.plant_laws.specs.Transcript.{Transcript, Within, Standing, standing, SentIn, opened, has_id, one_if, count_answers, answers_to, outputs_at}
+use Rattle.plant_laws.specs.Transcript.{Transcript, Within, Standing, standing, SentIn, Handed, opened, has_id, one_if, count_answers, answers_to, outputs_at}
 use Rattle.plant_laws.specs.Waiting.{GoesOn, WasSentOn}
 use Rattle.plant_laws.proofs.Again.{all_read}
 use Rattle.plant_laws.proofs.Alone.{takes_alone}
@@ -52,6 +53,10 @@ use Rattle.plant_laws.proofs.Besides.{besides_asking, answers_in}
 use Rattle.plant_laws.proofs.Decompose.{nil_right}
 use Rattle.plant_laws.proofs.Errors.{put_before}
 use Rattle.plant_laws.proofs.EveryWritten.{every_written}
+use Rattle.plant_laws.proofs.Answering.{IsFairDeed, behaves, run_kept, must_end}
+use Rattle.plant_laws.proofs.Counted.{low_of, ids_differ}
+use Rattle.plant_laws.proofs.Matched.{counts, delivered_by}
+use Rattle.plant_laws.proofs.NumberRuns.{AreNumbered, run_last}
 use Rattle.plant_laws.proofs.Founded.{founded_within, run_founded}
 use Rattle.plant_laws.proofs.FromElement.{within_tail}
 use Rattle.plant_laws.proofs.GatheredRuns.{run_gathers}
@@ -59,14 +64,14 @@ use Rattle.plant_laws.proofs.Gathers.{IsFilled}
 use Rattle.plant_laws.proofs.Handing.{In, IsAsk}
 use Rattle.plant_laws.proofs.Inboxes.{contains}
 use Rattle.plant_laws.proofs.MomentCauses.{HasOne, IsOpening, moment_cause, outs, solver, head_of, in_two, at_here}
-use Rattle.plant_laws.proofs.Moments.{within_trans, within_length, standing_put}
+use Rattle.plant_laws.proofs.Moments.{within_trans, within_length, opened_within}
 use Rattle.plant_laws.proofs.PartCauses.{in_at, not_both}
 use Rattle.plant_laws.proofs.Queues.{same_as_is}
-use Rattle.plant_laws.proofs.ReadBack.{run_single, standing_sent}
+use Rattle.plant_laws.proofs.ReadBack.{AreRead, run_read, run_single, standing_sent}
 use Rattle.plant_laws.proofs.Readings.{messages_are_read}
 use Rattle.plant_laws.proofs.ReadyRows.{sent_within}
 use Rattle.plant_laws.proofs.Rows as table
-use Rattle.plant_laws.proofs.Sends.{IsAlone}
+use Rattle.plant_laws.proofs.Sends.{IsAlone, Each-within}
 use Rattle.plant_laws.proofs.Sent.{run_sent}
 use Rattle.plant_laws.proofs.StillOpen.{still_open}
 use Rattle.plant_laws.proofs.Subsides.{notices_subs}
@@ -129,6 +134,52 @@ busy_counts p x flags (o ∷ os) (inr i) = let rec = busy_counts p x flags os i 
 -- nobody waits on an outside peer
 abbrev Nobody : Peer → Element Pin Segment → Type 0
 Nobody q k = (row : Row Pin) → table.In row k.pending.rows → (y : ℕ) → row.1.item.stage ≡ Waits q y → ⊥
+
+-- the deed that said so is about the request that was sent
+module _ (c : Codec) (codec : IsCodec c) (n : NetworkParts) (es : List Entry) (s : Plant) (run : Run c n es s) (written : AllSent IsWritten (deeds_of c n es)) (short : IsShort (deeds_of c n es)) (d : As) (real : d ≢ parent_as) (b : As) where
+  abbrev now' : Transcript
+  now' = deeds_of c n es
+
+  no_lack : {X : Type 0} (before : Plant) (k : ℕ) (asks : List Asked) (os : List Output) (deed : PlantDeed) → deed ≡ Takes b (Inner d) (messages.PcReq asks) os → (t : ElementTells c n before b k (deed ∷ [])) → X
+  no_lack before k asks os deed is t =
+      let solves : deed ≡ Solves b k (record { to = t.held.key.peer; message = t.message } ∷ []) t.keys = ap (head_of deed) t.sends_one in
+      absurd (let clash : ◌≡◌ {A = PlantDeed} (Takes b (Inner d) (messages.PcReq asks) os) (Solves b k (record { to = t.held.key.peer; message = t.message } ∷ []) t.keys) = sym is ∙ solves in cc)
+
+  -- a message that asks gets this of a full table alone
+  crowded_by : (id : ℕ) (deed : PlantDeed) (before : Transcript) → Fills c n b (Inner d) id deed before → (asks : List Asked) (os : List Output) → deed ≡ Takes b (Inner d) (messages.PcReq asks) os → IsCrowded c n b (Inner d) id deed before
+  crowded_by id deed before (crowded b' q' x' deed' older' k) asks os is = k
+  crowded_by id deed before (lacks b' q' x' deed' older' k) asks os is = no_lack k.before k.number asks os deed is k.tells
+  crowded_by id deed before (further_full b' a q' x' older' os' k deeper) asks os is =
+      absurd (let clash : ◌≡◌ {A = PlantDeed} (Takes b (Inner a) (busy k.flags k.id) os') (Takes b (Inner d) (messages.PcReq asks) os) = is in cc)
+
+  answered_so : (id flags : ℕ) (deed : PlantDeed) (before : Transcript) → Within (deed ∷ before) now' → table.In {A = Output} (record { to = Inner d; message = busy flags id }) (outputs_at b deed) → Fills c n b (Inner d) id deed before → (at : Transcript) → Within at now' →
+      (w : Wanted) (t : Addr) (rest : List As) → SentIn at d (Inner b) (request_message id w t rest) → Answering c d b id at deed before
+  answered_so id flags deed before inside said why at at_now w t rest sent = elim (counts d b id deed (busy_counts (Inner d) id flags (outputs_at b deed) said)) [
+    | inl counted ↦ ended counted
+    | inr once ↦ asked_once (crowded_by id deed before why once.0 once.1 once.2)
+  ]
+    where
+      numbers : AreNumbered c d now'
+      numbers = (run_last c codec n es s run (run_single c n codec es s run written) short d (low_of d real)).1
+
+      read : AreRead now'
+      read = run_read c n codec es s run written
+
+      same : (sending : Transcript) → Within sending now' → (w' : Wanted) (t' : Addr) (rest' : List As) → SentIn sending d (Inner b) (request_message id w' t' rest') → sending ≡ at
+      same sending within w' t' rest' sent' = (ids_differ c d b now' numbers sending at within at_now id w' w t' t rest' rest sent' sent).0
+
+      ended : 1 ≤ answers_in b (Inner d) id deed → Answering c d b id at deed before
+      ended counted =
+          let found = (founded_within c now' (run_founded c n es s run (run_single c n codec es s run written)) deed before inside).found b (Inner d) id counted in
+          let fair = Each-within IsFairDeed now' (run_kept c n es s run).1 deed before inside in
+          let at_in = within_trans found.0 before now' (opened_within c b (Inner d) id before found.0 found.1) (within_tail deed before now' inside) in
+          let of = delivered_by c codec d b now' numbers short read id found.0 found.2 at_in found.3 found.4 in
+          ends found.0 found.1 (must_end c b (Inner d) id deed (behaves c b (Inner d) id deed fair) counted) (subst (λ (l : Transcript). Handed d b l found.0) (same of.0 of.1 of.3 of.4 of.5 of.6) of.2)
+
+      asked_once : IsCrowded c n b (Inner d) id deed before → Answering c d b id at deed before
+      asked_once k =
+          let of = delivered_by c codec d b now' numbers short read id (deed ∷ before) k.request inside (k.asked, k.os, k.takes, k.admitted) k.id in
+          at_once (k.asked ∷ []) k.os k.takes (subst (λ (l : Transcript). Handed d b l (deed ∷ before)) (same of.0 of.1 of.3 of.4 of.5 of.6) of.2)
 
 module _ (p : Peer) (x flags : ℕ) where
   abbrev out : Output
@@ -255,8 +306,24 @@ module _ (p : Peer) (x flags : ℕ) where
         go : (put : Transcript) → Within put older → SentIn put b (Inner d) (busy flags' id) → Full (Takes d (Inner b) (busy flags' id) os)
         go [] inside said = absurd said
         go (deed ∷ before) inside said =
-            let h : HearsFull c older d p x b = record { at = at; is_open = is_open; id = id; wanted = w; target = t; rest = rest; sent = sent; flags = flags'; deed = deed; before = before; within = inside; said = said } in
-            further_full d b p x older os h (rec b id flags' deed before inside (in_at _ (outputs_at b deed) said))
+            let older_now = within_tail (Takes d (Inner b) (busy flags' id) os) older now within in
+            let why = rec b id flags' deed before inside (in_at _ (outputs_at b deed) said) in
+            let h : HearsFull c older d p x b = record {
+              at = at;
+              is_open = is_open;
+              id = id;
+              wanted = w;
+              target = t;
+              rest = rest;
+              sent = sent;
+              flags = flags';
+              deed = deed;
+              before = before;
+              within = inside;
+              said = said;
+              answering = λ real. answered_so c codec n es s run written short d real b id flags' deed before (within_trans (deed ∷ before) older now inside older_now) (table.in_of _ (outputs_at b deed) said) why at (within_trans at older now (opened_within c d p x older at is_open) older_now) w t rest sent;
+            } in
+            further_full d b p x older os h why
 
     -- ---- a message is taken
 

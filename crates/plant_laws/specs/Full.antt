@@ -1,5 +1,5 @@
 -- Why a request was answered that there is no room (PCNtf 1/2): on its way a table was full, or a solve needs more keys than are free.
-use Rattle.std.specs.Prelude.{◌≡◌, ◌<◌, ◌++◌, ℕ, cond, List, [], ◌∷◌, length, Contains, Some}
+use Rattle.std.specs.Prelude.{◌≡◌, ◌≢◌, ◌<◌, ◌++◌, ℕ, cond, List, [], ◌∷◌, length, Contains, Some}
 use Rattle.dom_base.specs.declared.names.As.{As}
 use Rattle.dom_base.specs.declared.addr.Addr.{Addr}
 use Rattle.dom_base.specs.declared.names.Peer.{Peer}
@@ -19,6 +19,7 @@ use Rattle.plant_model.specs.Solving.{free}
 use Rattle.plant_model.specs.State.{Takes}
 use Rattle.plant_model.specs.Plant.{Plant, PlantDeed, Entry, Run, deeds_of}
 use Rattle.plant_laws.specs.Transcript.{Transcript, Within, opened, SentIn, outputs_at}
+use Rattle.plant_laws.specs.Matched.{Answering}
 use Rattle.plant_laws.specs.Solves.{ElementTells}
 use Rattle.plant_laws.specs.Runs.{InShortRuns}
 
@@ -53,7 +54,8 @@ pub record LacksKeys (c : Codec) (n : NetworkParts) (d : As) (p : Peer) (x : ℕ
   pub id : tells.held.key.id ≡ x
   pub few : free before.clock (before.elements d).keys < length tells.rows.best
 
--- The request x of p is open, in the moment that delivered it d asked b under an id, and b said that for this id there is no room.
+-- The request x of p is open, in the moment that delivered it d asked b under an id, and b said that for this id there is no room: of an
+-- element's request, of this very one.
 pub record HearsFull (c : Codec) (older : Transcript) (d : As) (p : Peer) (x : ℕ) (b : As) : Type 0 where
   pub at : Transcript
   pub is_open : opened c d p x older ≡ Some at
@@ -67,6 +69,7 @@ pub record HearsFull (c : Codec) (older : Transcript) (d : As) (p : Peer) (x : �
   pub before : Transcript
   pub within : Within (deed ∷ before) older
   pub said : SentIn (deed ∷ before) b (Inner d) (busy flags id)
+  pub answering : d ≢ parent_as → Answering c d b id at deed before
 
 -- why d told p in a moment that there is no room for its request x
 pub data Fills (c : Codec) (n : NetworkParts) : As → Peer → ℕ → PlantDeed → Transcript → Type 0 where

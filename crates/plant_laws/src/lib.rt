@@ -263,9 +263,9 @@ pub fn requests_are_served()
     ensures { RequestsAreServed }
 {}
 
-/// Where policy allows each step on the way of an accepted request, over sessions that are up and stay up, and
-/// what the parent asks for it is answered, then in the next quiet state it had its one answer: paths, or that
-/// there are none, or that there is no room, for a reason on its way.
+/// Where policy allows each step on the way of an accepted request, over sessions that are up and stay up, with
+/// room in each table and keys enough, and what the parent asks for it is answered, then in the next quiet state
+/// it had its one answer: paths, or that there are none.
 pub fn good_requests_are_served()
     ensures { GoodRequestsAreServed }
 {}
