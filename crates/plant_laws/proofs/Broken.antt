@@ -20,7 +20,6 @@ use Rattle.pcep_messages.specs.Spelling.{IsWritten}
 use Rattle.pcep_session.specs.declared.actions.Own.{Own}
 use Rattle.pcep_session.specs.declared.actions.Own.TheVariants as own
 use Rattle.request_table.specs.Pending.{same_peer}
-use Rattle.request_table.proofs.KeyLemmas.{same_peer_self}
 use Rattle.plant_text.specs.declared.settings.NetworkParts.{NetworkParts}
 use Rattle.plant_text.specs.Names.{same_as, parent_as}
 use Rattle.plant_text.specs.Settings.{class_of, is_linked}

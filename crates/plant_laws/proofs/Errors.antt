@@ -1,7 +1,6 @@
 -- Which errors elements and the parent send one another, by induction over the moments of a run.
 use Rattle.std.proofs.Common.{◌≡◌, ◌≢◌, ◌≤◌, ℕ, zero, suc, Bool, true, false, cond, List, [], ◌∷◌, ◌++◌, length, map, Option, Some, None, sym, ◌∙◌, ap, subst, inl, inr, refl, arith}
-use Rattle.std.specs.Prelude.{◌⊎◌, Contains}
-use Rattle.std.proofs.lemmas.Bool.{cases_Bool}
+use Rattle.std.specs.Prelude.{Contains}
 use Rattle.dom_base.specs.declared.names.As.{As}
 use Rattle.dom_base.specs.declared.addr.Addr.{Addr}
 use Rattle.dom_base.specs.declared.names.Peer.{Peer}
@@ -28,11 +27,10 @@ use Rattle.plant_model.specs.declared.event.Event.{Event}
 use Rattle.plant_model.specs.declared.output.Output.{Output}
 use Rattle.plant_model.specs.Names.{the_parent}
 use Rattle.plant_model.specs.Wire.{Codec, Checked, Admitted, Wrong}
-use Rattle.plant_model.specs.Laws.{IsCodec, IsNetwork, Admits}
+use Rattle.plant_model.specs.Laws.{IsCodec, IsNetwork}
 use Rattle.plant_model.specs.Writing.{asked_of, request_message, error_message, unavailable, ends_kind, vspt_flag}
-use Rattle.plant_model.specs.Element.{Element, Row, Waits, Stage, Ready, is_client, is_ready}
-use Rattle.plant_model.specs.Taking.{take, sequence_or, take_report}
-use Rattle.plant_model.specs.Element as element
+use Rattle.plant_model.specs.Element.{Element, is_client}
+use Rattle.plant_model.specs.Taking.{take}
 use Rattle.plant_model.specs.Parent as parent
 use Rattle.plant_model.specs.Settings.{place, family}
 use Rattle.plant_model.specs.State.{Loads, Pops, Takes, Says, Ups, Downs, Clears, Solves, Expires, Hands}
@@ -40,12 +38,11 @@ use Rattle.plant_model.specs.Deeds.{our_offer, own_message}
 use Rattle.plant_model.specs.Plant.{Pin, Segment, Plant, PlantDeed, Entry, Run, deeds_of}
 use Rattle.plant_laws.specs.About.{IsShort}
 use Rattle.plant_laws.specs.Causes.{IsLost, IsLostAbove, AnswersLost, asker_of, asker_above, left_rows, left_above, Passes, from_outside, from_inside, OnPassed, by_element, by_parent, OfSession, by_table, anew, OfSolve, of_element, of_parent}
-use Rattle.plant_laws.specs.Errors.{AsksForIpv6, IsInnerError, names_none, answers_reply, refuses_ipv6, InnerErrorsIn}
-use Rattle.plant_laws.specs.MessageCauses.{Asker, replied, WaitsAt, WaitsAbove, OnReply, unknown, goes_on, is_kept, is_broken, OnNotice, next_is_full, noted_for_nobody, of_other_kind, IsOutOfProfile, OnError, failed_for_nobody, of_reply, out_of_profile, other_error, OnPath, ends_here, no_session, is_refused, sent_on, OnRequest, wrong, again, key_shown, key_refused, no_room, for_path, AreAsked, OnRequestAbove, wrong_above, again_above, key_above, no_room_above, child_down, all_asked, Part, Notes, Fails, alone, noted, failed_by, failed, parts, OnParts, OnMessage, OnMessageAbove}
+use Rattle.plant_laws.specs.Errors.{IsInnerError, names_none, answers_reply, refuses_ipv6, InnerErrorsIn}
+use Rattle.plant_laws.specs.MessageCauses.{Asker, replied, WaitsAt, WaitsAbove, OnReply, unknown, goes_on, is_kept, is_broken, OnNotice, next_is_full, noted_for_nobody, of_other_kind, IsOutOfProfile, OnError, failed_for_nobody, of_reply, out_of_profile, other_error, OnPath, ends_here, no_session, is_refused, sent_on, OnRequest, wrong, again, key_shown, key_refused, no_room, for_path, AreAsked, OnRequestAbove, wrong_above, again_above, key_above, no_room_above, child_down, all_asked, Part, Notes, alone, noted, parts, OnParts, OnMessage}
 use Rattle.plant_laws.specs.Sending.{AllSent}
 use Rattle.plant_laws.specs.Solves.{ElementTells, TellsClient, its_path, no_pair, TellsClosed, branches, no_branch, lacks_keys, TellsUpper, found, no_walk}
-use Rattle.plant_laws.specs.Readings.{IsFromQueue}
-use Rattle.plant_laws.specs.Transcript.{Transcript, Within, Standing, standing, SentIn, outputs_at}
+use Rattle.plant_laws.specs.Transcript.{Transcript, Within, Standing, SentIn, outputs_at}
 use Rattle.plant_laws.proofs.Again.{all_read}
 use Rattle.plant_laws.proofs.Alive.{IsSound}
 use Rattle.plant_laws.proofs.Alone.{takes_alone}
@@ -58,8 +55,8 @@ use Rattle.plant_laws.proofs.FromElement.{within_tail, later_sequence, along_seq
 use Rattle.plant_laws.proofs.Given.{IsAsked}
 use Rattle.plant_laws.proofs.Handing.{In}
 use Rattle.plant_laws.proofs.Known.{IsForm, own_none, Prem}
-use Rattle.plant_laws.proofs.Moments.{WasPut, standing_put, within_trans, within_length}
-use Rattle.plant_laws.proofs.PartCauses.{contains_at, in_at, not_both}
+use Rattle.plant_laws.proofs.Moments.{standing_put, within_trans, within_length}
+use Rattle.plant_laws.proofs.PartCauses.{in_at, not_both}
 use Rattle.plant_laws.proofs.Queues.{same_as_is}
 use Rattle.plant_laws.proofs.ReadBack.{run_single, standing_sent}
 use Rattle.plant_laws.proofs.ReadyRows.{sent_within}

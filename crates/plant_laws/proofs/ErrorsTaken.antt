@@ -1,5 +1,5 @@
 -- What an element hears of errors: nothing, but that the parent refused a request between IPv6 addresses.
-use Rattle.std.proofs.Common.{◌≡◌, ◌≢◌, ℕ, List, [], ◌∷◌, ◌++◌, Option, Some, None, sym, ◌∙◌, ap, subst, inl, inr, refl, arith}
+use Rattle.std.proofs.Common.{◌≡◌, ℕ, List, [], ◌∷◌, Option, Some, None, sym, ap, subst, inl, inr, refl}
 use Rattle.std.specs.Prelude.{◌⊎◌, Contains}
 use Rattle.dom_base.specs.declared.names.As.{As}
 use Rattle.dom_base.specs.declared.names.Peer.{Peer}
@@ -11,13 +11,12 @@ use Rattle.pcep_messages.specs.declared.message.Message.TheVariants as messages
 use Rattle.pcep_messages.specs.Spelling.{IsWritten}
 use Rattle.request_table.specs.Pending.{same_peer}
 use Rattle.plant_text.specs.declared.settings.NetworkParts.{NetworkParts}
-use Rattle.plant_text.specs.Names.{parent_as}
 use Rattle.plant_text.specs.Settings.{class_of}
 use Rattle.plant_model.specs.declared.output.Output.{Output}
 use Rattle.plant_model.specs.Names.{the_parent}
 use Rattle.plant_model.specs.Wire.{Codec}
 use Rattle.plant_model.specs.Laws.{IsCodec, IsNetwork}
-use Rattle.plant_model.specs.Writing.{vspt_flag, error_message}
+use Rattle.plant_model.specs.Writing.{vspt_flag}
 use Rattle.plant_model.specs.Element.{Element}
 use Rattle.plant_model.specs.Taking.{take}
 use Rattle.plant_model.specs.Settings.{place}
@@ -58,15 +57,15 @@ module _ (c : Codec) (codec : IsCodec c) (n : NetworkParts) (net : IsNetwork n) 
 
       one : (deed : PlantDeed) (before' : Transcript) → Within (deed ∷ before') older → SentIn (deed ∷ before') b (Inner d) (messages.PcErr reports) → IsInnerError d b deed (messages.PcErr reports) → Hears (Inner b) reports older os
       one deed before' w sent (names_none kind value is) = elim (one_error (Element Pin Segment) (λ k'. WaitsAt k' (Inner b)) (OnRequest c n d (Inner b) before.clock) (λ m' k'. (take c open_of (place n d) pin (Inner b) (class_of n (Inner b)) before.clock m' k').element) (same_peer (Inner b) the_parent) (Inner b)
-        None kind value (messages.PcErr reports) (before.elements d) os is on) [
-        | inl none ↦ inl none
-        | inr some ↦ absurd (let clash : ◌≡◌ {A = Option (ℕ × ℕ)} None (Some some.0) = some.1 in cc)
-      ]
+          None kind value (messages.PcErr reports) (before.elements d) os is on) [
+            | inl none ↦ inl none
+            | inr some ↦ absurd (let clash : ◌≡◌ {A = Option (ℕ × ℕ)} None (Some some.0) = some.1 in cc)
+          ]
       one deed before' w sent (answers_reply rp is) = elim (one_error (Element Pin Segment) (λ k'. WaitsAt k' (Inner b)) (OnRequest c n d (Inner b) before.clock) (λ m' k'. (take c open_of (place n d) pin (Inner b) (class_of n (Inner b)) before.clock m' k').element) (same_peer (Inner b) the_parent) (Inner b)
-        (Some rp) errors.UNKNOWN_REQUEST.0 errors.UNKNOWN_REQUEST.1 (messages.PcErr reports) (before.elements d) os is on) [
-        | inl none ↦ inl none
-        | inr some ↦ reply some.0 some.2
-      ]
+          (Some rp) errors.UNKNOWN_REQUEST.0 errors.UNKNOWN_REQUEST.1 (messages.PcErr reports) (before.elements d) os is on) [
+            | inl none ↦ inl none
+            | inr some ↦ reply some.0 some.2
+          ]
         where
           reply : (rp' : ℕ × ℕ) → OnError (WaitsAt (before.elements d) (Inner b) rp'.1) errors.UNKNOWN_REQUEST os → Hears (Inner b) reports older os
           reply rp' (failed_for_nobody none is') = inl is'
@@ -74,10 +73,10 @@ module _ (c : Codec) (codec : IsCodec c) (n : NetworkParts) (net : IsNetwork n) 
           reply rp' (out_of_profile w' waits out is') = absurd (unknown_fine out)
           reply rp' (other_error w' waits no' no'' is') = absurd (no' (refl, refl))
       one deed before' w sent (refuses_ipv6 id up asks is) = elim (one_error (Element Pin Segment) (λ k'. WaitsAt k' (Inner b)) (OnRequest c n d (Inner b) before.clock) (λ m' k'. (take c open_of (place n d) pin (Inner b) (class_of n (Inner b)) before.clock m' k').element) (same_peer (Inner b) the_parent) (Inner b)
-        (Some (vspt_flag, id)) errors.KIND_NOT_SERVED.0 errors.KIND_NOT_SERVED.1 (messages.PcErr reports) (before.elements d) os is on) [
-        | inl none ↦ inl none
-        | inr some ↦ refusal some.0 some.1 some.2
-      ]
+          (Some (vspt_flag, id)) errors.KIND_NOT_SERVED.0 errors.KIND_NOT_SERVED.1 (messages.PcErr reports) (before.elements d) os is on) [
+            | inl none ↦ inl none
+            | inr some ↦ refusal some.0 some.1 some.2
+          ]
         where
           refusal : (rp' : ℕ × ℕ) → Some (vspt_flag, id) ≡ Some rp' → OnError (WaitsAt (before.elements d) (Inner b) rp'.1) errors.KIND_NOT_SERVED os → Hears (Inner b) reports older os
           refusal rp' same (failed_for_nobody none is') = inl is'

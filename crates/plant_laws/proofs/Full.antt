@@ -1,14 +1,12 @@
 -- A notice that there is no room has a reason on the way of its request.
 use Rattle.std.proofs.Common.{◌≡◌, ◌≢◌, ◌≤◌, ◌+◌, ◌==◌, ℕ, zero, suc, Bool, true, false, cond, List, [], ◌∷◌, ◌++◌, length, map, Option, Some, None, eq-eqb, sym, ◌∙◌, ap, subst, inl, inr, refl, arith}
-use Rattle.std.specs.Prelude.{◌⊎◌, Contains}
+use Rattle.std.specs.Prelude.{◌⊎◌}
 use Rattle.dom_base.specs.declared.names.As.{As}
 use Rattle.dom_base.specs.declared.addr.Addr.{Addr}
 use Rattle.dom_base.specs.declared.names.Peer.{Peer}
 use Rattle.dom_base.specs.declared.names.Peer.TheVariants.{Outside, Inner}
 use Rattle.disclosure.specs.Shown.{open_of}
-use Rattle.pcep_codes.specs.declared.notices.TheConstants as notices
 use Rattle.pcep_messages.specs.declared.message.Asked.{Asked}
-use Rattle.pcep_messages.specs.declared.message.Answer.{Answer}
 use Rattle.pcep_messages.specs.declared.message.ErrorReport.{ErrorReport}
 use Rattle.pcep_messages.specs.declared.message.Message.{Message}
 use Rattle.pcep_messages.specs.declared.message.Message.TheVariants as messages
@@ -24,10 +22,10 @@ use Rattle.plant_text.specs.Names.{same_as, parent_as}
 use Rattle.plant_text.specs.Settings.{class_of}
 use Rattle.plant_model.specs.declared.event.Event.{Event}
 use Rattle.plant_model.specs.declared.output.Output.{Output}
-use Rattle.plant_model.specs.Names.{the_parent, has_pair}
+use Rattle.plant_model.specs.Names.{the_parent}
 use Rattle.plant_model.specs.Wire.{Codec}
 use Rattle.plant_model.specs.Laws.{IsCodec, IsNetwork}
-use Rattle.plant_model.specs.Writing.{request_message, reply_message, error_message, busy, unavailable}
+use Rattle.plant_model.specs.Writing.{request_message, busy, unavailable}
 use Rattle.plant_model.specs.Element.{Item, Element, Row, Waits, is_client, is_ready}
 use Rattle.plant_model.specs.Taking.{take}
 use Rattle.plant_model.specs.Parent as parent
@@ -35,21 +33,21 @@ use Rattle.plant_model.specs.Parent.{AskingRow, Parent}
 use Rattle.plant_model.specs.BorderGraph.{Found}
 use Rattle.plant_model.specs.Settings.{place, family}
 use Rattle.plant_model.specs.State.{Loads, Pops, Takes, Says, Ups, Downs, Clears, Solves, Expires, Hands}
-use Rattle.plant_model.specs.Deeds.{our_offer, own_message}
+use Rattle.plant_model.specs.Deeds.{own_message}
 use Rattle.plant_model.specs.Plant.{Pin, Segment, Plant, PlantDeed, Entry, Run, deeds_of}
 use Rattle.plant_laws.specs.About.{IsShort}
-use Rattle.plant_laws.specs.Causes.{IsLost, IsLostAbove, AnswersLost, asker_of, asker_above, left_rows, left_above, Passes, from_outside, from_inside, OnPassed, by_element, by_parent, OfSession, by_table, anew, OfSolve, of_element, of_parent, HaveCauses}
-use Rattle.plant_laws.specs.Full.{IsCrowded, LacksKeys, HearsFull, Fills, crowded, lacks, further_full, FullForReasonsIn}
+use Rattle.plant_laws.specs.Causes.{IsLost, IsLostAbove, AnswersLost, asker_of, asker_above, left_rows, left_above, Passes, OnPassed, by_element, by_parent, OfSession, by_table, anew, OfSolve, of_element, of_parent, HaveCauses}
+use Rattle.plant_laws.specs.Full.{IsCrowded, HearsFull, Fills, crowded, lacks, further_full, FullForReasonsIn}
 use Rattle.plant_laws.specs.Matched.{Answering, ends, at_once}
-use Rattle.plant_laws.specs.MessageCauses.{Asker, told, replied, WaitsAt, WaitsAbove, OnReply, unknown, goes_on, is_kept, is_broken, OnNotice, next_is_full, noted_for_nobody, of_other_kind, OnError, failed_for_nobody, of_reply, out_of_profile, other_error, OnPath, ends_here, no_session, is_refused, sent_on, OnRequest, wrong, again, key_shown, key_refused, no_room, for_path, AreAsked, OnRequestAbove, wrong_above, again_above, key_above, no_room_above, child_down, all_asked, Part, Notes, Fails, alone, noted, failed_by, failed, parts, OnParts, OnMessage}
+use Rattle.plant_laws.specs.MessageCauses.{Asker, replied, WaitsAt, WaitsAbove, OnReply, unknown, goes_on, is_kept, is_broken, OnNotice, next_is_full, noted_for_nobody, of_other_kind, OnError, failed_for_nobody, of_reply, out_of_profile, other_error, OnPath, ends_here, no_session, is_refused, sent_on, OnRequest, wrong, again, key_shown, key_refused, no_room, for_path, AreAsked, OnRequestAbove, wrong_above, again_above, key_above, no_room_above, child_down, all_asked, Part, Notes, Fails, alone, noted, failed_by, failed, parts, OnParts, OnMessage}
 use Rattle.plant_laws.specs.Sending.{AllSent}
 use Rattle.plant_laws.specs.Solves.{ElementTells, TellsClient, its_path, no_pair, TellsClosed, branches, no_branch, lacks_keys, TellsUpper, found as found_walk, no_walk}
-use Rattle.plant_laws.specs.Transcript.{Transcript, Within, Standing, standing, SentIn, Handed, opened, has_id, one_if, count_answers, answers_to, outputs_at}
+use Rattle.plant_laws.specs.Transcript.{Transcript, Within, Standing, SentIn, Handed, opened, one_if, count_answers, answers_to, outputs_at}
 use Rattle.plant_laws.specs.Waiting.{GoesOn, WasSentOn}
 use Rattle.plant_laws.proofs.Again.{all_read}
 use Rattle.plant_laws.proofs.Alone.{takes_alone}
 use Rattle.plant_laws.proofs.AskedRuns.{none_outside}
-use Rattle.plant_laws.proofs.Besides.{besides_asking, answers_in}
+use Rattle.plant_laws.proofs.Besides.{answers_in}
 use Rattle.plant_laws.proofs.Decompose.{nil_right}
 use Rattle.plant_laws.proofs.Errors.{put_before}
 use Rattle.plant_laws.proofs.EveryWritten.{every_written}
@@ -61,7 +59,7 @@ use Rattle.plant_laws.proofs.Founded.{founded_within, run_founded}
 use Rattle.plant_laws.proofs.FromElement.{within_tail}
 use Rattle.plant_laws.proofs.GatheredRuns.{run_gathers}
 use Rattle.plant_laws.proofs.Gathers.{IsFilled}
-use Rattle.plant_laws.proofs.Handing.{In, IsAsk}
+use Rattle.plant_laws.proofs.Handing.{In}
 use Rattle.plant_laws.proofs.Inboxes.{contains}
 use Rattle.plant_laws.proofs.MomentCauses.{HasOne, IsOpening, moment_cause, outs, solver, head_of, in_two, at_here}
 use Rattle.plant_laws.proofs.Moments.{within_trans, within_length, opened_within}
@@ -365,7 +363,19 @@ module _ (p : Peer) (x flags : ℕ) where
           let this = this_one q r.flags r.id (subst (In out) eq i) in
           subst (λ (z : Peer). Fills c n d z x (Takes d q (messages.PcReq (a ∷ [])) all) older) (sym this.0)
           (crowded d q x (Takes d q (messages.PcReq (a ∷ [])) all) older (record {
-            entries = entries; before = before; run = run'; earlier = earlier; is_then = is_then; asked = a; os = all; takes = refl; request = r; admitted = is; id = sym this.1; wanted = w; for_path = wish;
+            entries = entries;
+            before = before;
+            run = run';
+            earlier = earlier;
+            is_then = is_then;
+            asked = a;
+            os = all;
+            takes = refl;
+            request = r;
+            admitted = is;
+            id = sym this.1;
+            wanted = w;
+            for_path = wish;
             full = subst (λ (b : Bool). cond b (IsFull before.parent.pending) (IsFull (before.elements d).pending)) (sym low) full;
           }))
 
@@ -448,7 +458,19 @@ module _ (p : Peer) (x flags : ℕ) where
           let this = this_one q r.flags r.id (subst (In out) eq i) in
           subst (λ (z : Peer). Fills c n d z x (Takes d q (messages.PcReq (a ∷ [])) all) older) (sym this.0)
           (crowded d q x (Takes d q (messages.PcReq (a ∷ [])) all) older (record {
-            entries = entries; before = before; run = run'; earlier = earlier; is_then = is_then; asked = a; os = all; takes = refl; request = r; admitted = ap (c.check a) up ∙ is; id = sym this.1; wanted = w; for_path = wish;
+            entries = entries;
+            before = before;
+            run = run';
+            earlier = earlier;
+            is_then = is_then;
+            asked = a;
+            os = all;
+            takes = refl;
+            request = r;
+            admitted = ap (c.check a) up ∙ is;
+            id = sym this.1;
+            wanted = w;
+            for_path = wish;
             full = subst (λ (b : Bool). cond b (IsFull before.parent.pending) (IsFull (before.elements d).pending)) (sym (ap (λ (z : As). same_as z parent_as) up)) full;
           }))
 

@@ -1,5 +1,5 @@
 -- Nothing breaks the chain of a good request, so it is served.
-use Rattle.std.proofs.Common.{◌≡◌, ◌≢◌, ℕ, Bool, true, false, cond, List, [], ◌∷◌, Option, Some, sym, ◌∙◌, ap, subst, inl, inr, refl, arith}
+use Rattle.std.proofs.Common.{◌≡◌, ℕ, Bool, true, false, cond, List, [], ◌∷◌, Option, Some, sym, ◌∙◌, ap, subst, inl, inr, refl, arith}
 use Rattle.std.specs.Prelude.{◌⊎◌}
 use Rattle.std.proofs.lemmas.Bool.{cases_Bool}
 use Rattle.dom_base.specs.declared.names.As.{As}
@@ -7,26 +7,23 @@ use Rattle.dom_base.specs.declared.addr.Addr.{Addr}
 use Rattle.dom_base.specs.declared.names.Peer.{Peer}
 use Rattle.dom_base.specs.declared.names.Peer.TheVariants.{Inner}
 use Rattle.pcep_messages.specs.declared.message.Asked.{Asked}
-use Rattle.pcep_messages.specs.declared.message.Message.{Message}
 use Rattle.pcep_messages.specs.declared.message.Message.TheVariants as messages
 use Rattle.pcep_messages.specs.declared.message.Wanted.{Wanted}
-use Rattle.pcep_messages.specs.Spelling.{IsWritten}
 use Rattle.request_table.specs.Pending.{same_peer}
 use Rattle.plant_text.specs.declared.settings.NetworkParts.{NetworkParts}
 use Rattle.plant_text.specs.Names.{same_as, parent_as}
 use Rattle.plant_model.specs.declared.output.Output.{Output}
 use Rattle.plant_model.specs.Names.{the_parent}
 use Rattle.plant_model.specs.Wire.{Codec}
-use Rattle.plant_model.specs.Laws.{IsCodec, IsNetwork}
 use Rattle.plant_model.specs.Writing.{request_message, busy}
 use Rattle.plant_model.specs.State.{Takes, Downs, Solves}
 use Rattle.plant_model.specs.Plant.{Segment, PlantDeed, deeds_of}
-use Rattle.plant_laws.specs.Broken.{WentOn, Breaks, stopped, lost, refused, further, stopped_above, of_child}
+use Rattle.plant_laws.specs.Broken.{Breaks, stopped, lost, refused, further, stopped_above, of_child}
 use Rattle.plant_laws.specs.Full.{Fills, crowded, lacks, further_full}
 use Rattle.plant_laws.specs.Good.{IsOnWay, first, next, IsGood, IsWellServed, GoodRequestsAreServedIn}
 use Rattle.plant_laws.specs.Matched.{Answering, ends, at_once}
 use Rattle.plant_laws.specs.Served.{EndsWith, tells, is_full, breaks, CameTo, answered, dropped}
-use Rattle.plant_laws.specs.Transcript.{Transcript, Within, Keeps, Ends, asks_effect, answers_to, effect, opened, Handed, SentIn}
+use Rattle.plant_laws.specs.Transcript.{Transcript, Within, Keeps, Ends, asks_effect, answers_to, effect, opened, SentIn}
 use Rattle.plant_laws.proofs.FromElement.{within_tail}
 use Rattle.plant_laws.proofs.MomentCauses.{head_of}
 use Rattle.plant_laws.proofs.Moments.{within_trans, opened_within}

@@ -1,5 +1,5 @@
 -- What became of a request when a network is quiet, from what was said in the deed that ended it.
-use Rattle.std.proofs.Common.{◌≡◌, ◌≢◌, ◌≤◌, ◌+◌, ◌==◌, ℕ, zero, suc, Bool, true, false, cond, List, [], ◌∷◌, ◌++◌, map, Some, is_some, sym, ◌∙◌, ap, subst, inl, inr, refl, eqb-true, eq-eqb, arith}
+use Rattle.std.proofs.Common.{◌≡◌, ◌≢◌, ◌≤◌, ◌+◌, ◌==◌, ℕ, zero, suc, Bool, true, false, cond, List, [], ◌∷◌, ◌++◌, map, is_some, sym, ◌∙◌, ap, subst, inl, inr, refl, eqb-true, eq-eqb, arith}
 use Rattle.std.specs.Prelude.{◌⊎◌, Contains}
 use Rattle.dom_base.specs.declared.names.As.{As}
 use Rattle.dom_base.specs.declared.names.Peer.{Peer}
@@ -230,10 +230,10 @@ module _ (c : Codec) (codec : IsCodec c) (n : NetworkParts) (net : IsNetwork n) 
         where
           heard : OnMessage c n at (one.before.current at) q one.before.clock m (one.before.elements at) os → (reports : List ErrorReport) → m ≡ messages.PcErr reports → Each os
           heard on' reports same = elim (hears_errors c codec n net es s run written short at one.entries one.before one.run one.short q (one.before.current at) reports os older
-            (subst (λ (z : Message). Within (Takes at q z os ∷ older) (deeds_of c n es)) same within) (subst (λ (z : Message). OnMessage c n at (one.before.current at) q one.before.clock z (one.before.elements at) os) same on')) [
-            | inl none ↦ none_each os none
-            | inr h ↦ replied_each h.asker unavailable os h.says
-          ]
+              (subst (λ (z : Message). Within (Takes at q z os ∷ older) (deeds_of c n es)) same within) (subst (λ (z : Message). OnMessage c n at (one.before.current at) q one.before.clock z (one.before.elements at) os) same on')) [
+                | inl none ↦ none_each os none
+                | inr h ↦ replied_each h.asker unavailable os h.says
+              ]
   ends_each (Downs at q os) older within one ends = go (same_as at d) refl (same_as at parent_as) refl one.cause
     where
       go : (b : Bool) → same_as at d ≡ b → (u : Bool) → same_as at parent_as ≡ u → cond u (AnswersLost (IsLostAbove q) asker_above (left_above one.before.parent.pending.rows one.earlier) os)

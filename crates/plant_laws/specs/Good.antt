@@ -41,7 +41,7 @@ pub record GoesWell (c : Codec) (n : NetworkParts) (now : Transcript) (b : As) (
   pub allowed_above : (deed : PlantDeed) (older : Transcript) → taken ≡ deed ∷ older → b ≡ parent_as → ¬ IsStoppedAbove c n q y deed older
   -- where the parent is asked, it is asked of IPv4 addresses
   pub ipv4 : (z : ℕ) (w : Wanted) (rest : List As) → SentIn taken b the_parent (request_message z w w.target rest) → ends_kind w.source w.target ≡ object_types.FIRST
-  -- and each child that it asks replies paths, or that there are none
+  -- and each child that it asks replies paths, or that there are none, and none says that there is no room
   pub children : (a : As) (w : Wanted) (t : Addr) (r : Reply) (os : List Output) (older : Transcript) → b ≡ parent_as → SentIn taken parent_as (Inner a) (request_message r.id w t (a ∷ [])) →
       Within (Takes parent_as (Inner a) (messages.PcRep (r ∷ [])) os ∷ older) now → TellsOfPaths r.answer
   pub children_room : (a : As) (w : Wanted) (t : Addr) (rest : List As) (flags id : ℕ) (os : List Output) (older : Transcript) → b ≡ parent_as → SentIn taken parent_as (Inner a) (request_message id w t rest) →
