@@ -150,7 +150,7 @@ handed_put a b m [] e handed = absurd handed
 handed_put a b m (f ∷ older) e handed =
     inr (standing_within a b older (record { message = messages.PcReq handed.0; put = m }) (subst (λ (l : List Standing). In {A = Standing} (record { message = messages.PcReq handed.0; put = m }) l) (sym handed.5) (inl refl)))
 
-handed_within : (a b : As) (m n now : Transcript) → Handed a b m n → Within n now → Within m now
+pub handed_within : (a b : As) (m n now : Transcript) → Handed a b m n → Within n now → Within m now
 handed_within a b m n [] handed w = absurd (subst (λ (t : Transcript). Handed a b m t) w handed)
 handed_within a b m n (e ∷ now) handed (inl same) = inr (handed_put a b m now e (subst (λ (t : Transcript). Handed a b m t) same handed))
 handed_within a b m n (e ∷ now) handed (inr w) = inr (handed_within a b m n now handed w)

@@ -148,7 +148,15 @@ mod ParentCauses
 mod LostCauses
 mod EventCauses
 mod AllCauses
+mod MomentCauses
+mod NoLoops
+mod ErrorParts
+mod Errors
+mod ErrorsTaken
+mod StillOpen
 mod Broken
+mod Full
 mod Served
+mod Good
 -- handed on from below
 pub use Rattle.plant_model.proofs as plant_model

@@ -74,7 +74,7 @@ was_put a b (e ∷ ds) x i =
 eqb_self : (n : ℕ) → (n == n) ≡ true
 eqb_self n = grind (arith, common_steps)
 
-reply_counts : (p : Peer) (r : Reply) (os : List Output) → In {A = Output} (record { to = p; message = messages.PcRep (r ∷ []) }) os → 1 ≤ answers_to p r.id os
+pub reply_counts : (p : Peer) (r : Reply) (os : List Output) → In {A = Output} (record { to = p; message = messages.PcRep (r ∷ []) }) os → 1 ≤ answers_to p r.id os
 reply_counts p r [] none = absurd none
 reply_counts p r (o ∷ os) (inl is) =
     subst (λ (x : Output). 1 ≤ cond (same_peer x.to p) (count_answers r.id x.message) 0 + answers_to p r.id os) (sym is) here
@@ -87,7 +87,7 @@ reply_counts p r (o ∷ os) (inr i) = let rec = reply_counts p r os i in omega (
 abbrev SaysAtOnce : As → As → PlantDeed → Type 0
 SaysAtOnce a b e = (asks : List Asked) × (os : List Output) × (e ≡ Takes b (Inner a) (messages.PcReq asks) os)
 
-counts : (a b : As) (y : ℕ) (e : PlantDeed) → 1 ≤ answers_to (Inner a) y (outputs_at b e) → (1 ≤ answers_in b (Inner a) y e) ⊎ SaysAtOnce a b e
+pub counts : (a b : As) (y : ℕ) (e : PlantDeed) → 1 ≤ answers_to (Inner a) y (outputs_at b e) → (1 ≤ answers_in b (Inner a) y e) ⊎ SaysAtOnce a b e
 counts a b y (Takes at from m os) some = go m some
   where
     asking : (asks : List Asked) (t u : Bool) → same_as at b ≡ t → same_peer from (Inner a) ≡ u → 1 ≤ answers_to (Inner a) y (cond t os []) → (1 ≤ cond u 0 (answers_to (Inner a) y (cond t os []))) ⊎ SaysAtOnce a b (Takes at from (messages.PcReq asks) os)
@@ -213,7 +213,7 @@ module _ (c : Codec) (codec : IsCodec c) (a b : As) (now : Transcript) (numbers 
           )
       go w t rest outs known (inr never) = absurd never
 
-  delivered_by : (y : ℕ) (at : Transcript) (r : Request) → Within at now → Delivered c at b (Inner a) r → r.id ≡ y → IsOf y at
+  pub delivered_by : (y : ℕ) (at : Transcript) (r : Request) → Within at now → Delivered c at b (Inner a) r → r.id ≡ y → IsOf y at
   delivered_by y [] r w none id = absurd none
   delivered_by y (e ∷ older) r w d id = first older (subst (λ (x : PlantDeed). read_deed x older) d.2 (read_within now read e older w)) w
     where

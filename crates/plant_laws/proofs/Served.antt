@@ -1,11 +1,11 @@
 -- What became of a request when a network is quiet, from what was said in the deed that ended it.
-use Rattle.std.proofs.Common.{◌≡◌, ◌≢◌, ◌≤◌, ◌+◌, ◌==◌, ℕ, zero, suc, Bool, true, false, cond, List, [], ◌∷◌, ◌++◌, map, Some, is_some, sym, ◌∙◌, ap, subst, inl, inr, refl, eqb-true, eq-eqb, arith}
+use Rattle.std.proofs.Common.{◌≡◌, ◌≢◌, ◌≤◌, ◌+◌, ◌==◌, ℕ, zero, suc, Bool, true, false, cond, List, [], ◌∷◌, ◌++◌, map, is_some, sym, ◌∙◌, ap, subst, inl, inr, refl, eqb-true, eq-eqb, arith}
 use Rattle.std.specs.Prelude.{◌⊎◌, Contains}
 use Rattle.dom_base.specs.declared.names.As.{As}
 use Rattle.dom_base.specs.declared.names.Peer.{Peer}
-use Rattle.pcep_codes.specs.declared.errors.TheConstants as errors
 use Rattle.pcep_codes.specs.declared.no_paths.TheConstants as no_paths
 use Rattle.pcep_messages.specs.declared.message.Asked.{Asked}
+use Rattle.pcep_messages.specs.declared.message.ErrorReport.{ErrorReport}
 use Rattle.pcep_messages.specs.declared.message.Message.{Message}
 use Rattle.pcep_messages.specs.declared.message.Message.TheVariants as messages
 use Rattle.pcep_messages.specs.declared.message.Answer.{Answer}
@@ -22,7 +22,7 @@ use Rattle.plant_text.specs.Settings.{class_of}
 use Rattle.plant_model.specs.declared.output.Output.{Output}
 use Rattle.plant_model.specs.Wire.{Codec, Checked, Admitted, Wrong}
 use Rattle.plant_model.specs.Laws.{IsCodec, IsNetwork}
-use Rattle.plant_model.specs.Writing.{error_message, busy}
+use Rattle.plant_model.specs.Writing.{busy, unavailable}
 use Rattle.plant_model.specs.Names.{the_parent}
 use Rattle.plant_model.specs.Element.{Element, Row, Place, is_client}
 use Rattle.plant_model.specs.Taking.{take}
@@ -35,14 +35,17 @@ use Rattle.plant_laws.specs.Answered as once
 use Rattle.plant_laws.specs.Broken.{Breaks}
 use Rattle.plant_laws.specs.Causes.{IsLost, IsLostAbove, AnswersLost, asker_of, asker_above, left_above, OnPassed, by_element, by_parent, OfSolve, of_element, of_parent, left_rows}
 use Rattle.plant_laws.specs.Chains.{IsQuiet, is_pending}
-use Rattle.plant_laws.specs.MessageCauses.{Asker, told, replied, WaitsAt, OnRequest, OnMessage, TellsOfPaths, OnReply, unknown, goes_on, is_kept, is_broken, OnNotice, next_is_full, noted_for_nobody, of_other_kind, OnError, failed_for_nobody, of_reply, out_of_profile, other_error, Part, Asks, Replies, Notes, Fails, alone, noted, failed_by, failed, OnParts}
+use Rattle.plant_laws.specs.MessageCauses.{Asker, told, replied, WaitsAt, OnRequest, OnMessage, TellsOfPaths, OnReply, unknown, goes_on, is_kept, is_broken, OnNotice, next_is_full, noted_for_nobody, of_other_kind, Part, Asks, Replies, Notes, Fails, alone, noted, OnParts}
 use Rattle.plant_laws.specs.Sending.{AllSent}
-use Rattle.plant_laws.specs.Served.{EndsWith, tells, is_full, not_served, breaks, CameTo, answered, dropped, RequestsAreServedIn}
+use Rattle.plant_laws.specs.Served.{EndsWith, tells, is_full, breaks, CameTo, answered, dropped, RequestsAreServedIn}
 use Rattle.plant_laws.specs.Solves.{ElementTells, TellsClient, its_path, no_pair, TellsClosed, branches, no_branch, lacks_keys}
-use Rattle.plant_laws.specs.Transcript.{Transcript, Keeps, Ends, Begins, effect, asks_effect, begins_if, begins, take_effect, count_answers, has_id, answers_to, outputs_at, one_if}
+use Rattle.plant_laws.specs.Transcript.{Transcript, Within, Keeps, Ends, Begins, effect, asks_effect, begins_if, begins, take_effect, count_answers, has_id, answers_to, outputs_at, one_if}
 use Rattle.plant_laws.proofs.Answering.{requests_are_answered_once}
-use Rattle.plant_laws.proofs.Broken.{broken_for_reasons, HasOne, IsOpening, moment_cause, outs, solver, head_of}
+use Rattle.plant_laws.proofs.Broken.{broken_for_reasons}
+use Rattle.plant_laws.proofs.ErrorsTaken.{hears_errors}
+use Rattle.plant_laws.proofs.Full.{full_for_reasons}
 use Rattle.plant_laws.proofs.Handing.{In}
+use Rattle.plant_laws.proofs.MomentCauses.{HasOne, IsOpening, moment_cause, outs, solver, head_of}
 use Rattle.plant_laws.proofs.PartCauses.{contains_at, not_both}
 use Rattle.plant_laws.proofs.Queues.{same_as_is}
 use Rattle.plant_laws.proofs.SentOn.{same_peer_is}
@@ -54,7 +57,6 @@ use Rattle.plant_laws.proofs.WhereWritten.{WrittenNetIds}
 data IsOf (m : Message) : Type 0 where
   reply : (r : Reply) → m ≡ messages.PcRep (r ∷ []) → IsOf m
   full : (flags id : ℕ) → m ≡ busy flags id → IsOf m
-  not_served' : (flags id : ℕ) → m ≡ error_message (Some (flags, id)) errors.CHAIN_FAILED.0 errors.CHAIN_FAILED.1 → IsOf m
   other : ((x : ℕ) → count_answers x m ≡ 0) → IsOf m
 
 abbrev Each : List Output → Type 0
@@ -91,26 +93,20 @@ module _ (K : Type 0) (Waiting : K → ℕ → Asker → Type 0) (OnAsked : Aske
   notice_each k kinds rp os (noted_for_nobody none is) = none_each os is
   notice_each k kinds rp os (of_other_kind miss is) = none_each os is
 
-  error_each : (k : K) (e rp : ℕ × ℕ) (os : List Output) → OnError (Waiting k rp.1) e os → Each os
-  error_each k e rp os (failed_for_nobody none is) = none_each os is
-  error_each k e rp os (of_reply of is) = none_each os is
-  error_each k e rp os (out_of_profile a w out is) = subst Each (sym is) (not_served' a.flags a.id refl, tt)
-  error_each k e rp os (other_error a w no' no'' is) = replied_each a _ os is
-
-  -- parts that ask nothing
+  -- parts that ask nothing, and are no errors
   abbrev NoneAsks : List Part → Type 0
   NoneAsks [] = Unit {0}
   NoneAsks (Asks a ∷ xs) = ⊥
   NoneAsks (Replies r ∷ xs) = NoneAsks xs
   NoneAsks (Notes kinds rp ∷ xs) = NoneAsks xs
-  NoneAsks (Fails e rp ∷ xs) = NoneAsks xs
+  NoneAsks (Fails e rp ∷ xs) = ⊥
 
   parts_each : (xs : List Part) (k : K) (os : List Output) → NoneAsks xs → OnParts K Waiting OnAsked left of_parent' q xs k os → Each os
   parts_each [] k os none on = none_each os on
   parts_each (Asks a ∷ xs) k os none on = absurd none
   parts_each (Replies r ∷ xs) k os none on = subst Each (sym on.2) (each_append on.0 on.1 (reply_each k r on.0 on.3) (parts_each xs (left (alone (Replies r)) k) on.1 none on.4))
   parts_each (Notes kinds rp ∷ xs) k os none on = subst Each (sym on.2) (each_append on.0 on.1 (notice_each k kinds rp on.0 on.3) (parts_each xs (left (alone (Notes kinds rp)) k) on.1 none on.4))
-  parts_each (Fails e rp ∷ xs) k os none on = subst Each (sym on.2) (each_append on.0 on.1 (error_each k e rp on.0 on.3) (parts_each xs (left (alone (Fails e rp)) k) on.1 none on.4))
+  parts_each (Fails e rp ∷ xs) k os none on = absurd none
 
   replies_ask_none : (rs : List Reply) → NoneAsks (map Replies rs)
   replies_ask_none [] = tt
@@ -123,18 +119,6 @@ module _ (K : Type 0) (Waiting : K → ℕ → Asker → Type 0) (OnAsked : Aske
   noted_ask_none : (ns : List _) → NoneAsks (noted ns)
   noted_ask_none [] = tt
   noted_ask_none (m ∷ ms) = notes_ask_none m.kinds m.ids (noted ms) (noted_ask_none ms)
-
-  fails_ask_none : (e : ℕ × ℕ) (ids : List (ℕ × ℕ)) (more : List Part) → NoneAsks more → NoneAsks (map (Fails e) ids ++ more)
-  fails_ask_none e [] more none = none
-  fails_ask_none e (rp ∷ ids) more none = fails_ask_none e ids more none
-
-  failed_ask_none : (rs : List _) → NoneAsks (failed rs)
-  failed_ask_none [] = tt
-  failed_ask_none (r ∷ rs) = by r.errors (failed_ask_none rs)
-    where
-      by : (es : List (ℕ × ℕ)) → NoneAsks (failed rs) → NoneAsks (failed_by r.ids es ++ failed rs)
-      by [] more = more
-      by (e ∷ es) more = fails_ask_none e r.ids (failed rs) more
 
 -- ---- which output answers
 
@@ -193,29 +177,28 @@ never_ends c d x answers [] is = (let clash : Keeps ≡ Ends = is in cc)
 never_ends c d x answers (a ∷ []) is = checked_none c d x answers (c.check a d) is
 never_ends c d x answers (a ∷ b ∷ rest) is = (let clash : Keeps ≡ Ends = is in cc)
 
-asked_never : {X : Type 0} (c : Codec) (d : As) (p q : Peer) (x answers : ℕ) (asks : List Asked) (b : Bool) → cond b (asks_effect c d x answers asks) Keeps ≡ Ends → X
+pub asked_never : {X : Type 0} (c : Codec) (d : As) (p q : Peer) (x answers : ℕ) (asks : List Asked) (b : Bool) → cond b (asks_effect c d x answers asks) Keeps ≡ Ends → X
 asked_never c d p q x answers asks true e = never_ends c d x answers asks e
 asked_never c d p q x answers asks false e = (let clash : Keeps ≡ Ends = e in cc)
 
-module _ (c : Codec) (n : NetworkParts) (d : As) (real : d ≢ parent_as) (p : Peer) (x : ℕ) where
+module _ (c : Codec) (codec : IsCodec c) (n : NetworkParts) (net : IsNetwork n) (es : List Entry) (s : Plant) (run : Run c n es s) (written : AllSent IsWritten (deeds_of c n es)) (short : IsShort (deeds_of c n es))
+    (d : As) (real : d ≢ parent_as) (p : Peer) (x : ℕ) where
   keeps_never : {X : Type 0} → Keeps ≡ Ends → X
   keeps_never e = (let clash : Keeps ≡ Ends = e in cc)
 
-  element_each : (entry : Plant) (at : As) (pin : Pin) (q : Peer) (now : ℕ) (m : Message) (k : Element Pin Segment) (os : List Output) → take_effect c d p x q m os ≡ Ends → OnMessage c n at pin q now m k os → Each os
-  element_each entry at pin q now (messages.PcReq asks) k os ends on = asked_never c d p q x (answers_to p x os) asks (same_peer q p) ends
-  element_each entry at pin q now (messages.PcRep replies) k os ends on =
+  element_each : (entry : Plant) (at : As) (pin : Pin) (q : Peer) (now : ℕ) (m : Message) (k : Element Pin Segment) (os : List Output) → take_effect c d p x q m os ≡ Ends → ((reports : List ErrorReport) → m ≡ messages.PcErr reports → Each os) → OnMessage c n at pin q now m k os → Each os
+  element_each entry at pin q now (messages.PcReq asks) k os ends heard on = asked_never c d p q x (answers_to p x os) asks (same_peer q p) ends
+  element_each entry at pin q now (messages.PcRep replies) k os ends heard on =
       parts_each (Element Pin Segment) (λ k'. WaitsAt k' q) (OnRequest c n at q now) (λ m' k'. (take c open_of (place n at) pin q (class_of n q) now m' k').element) (same_peer q the_parent) q (map Replies replies) k os
       (replies_ask_none (Element Pin Segment) (λ k'. WaitsAt k' q) (OnRequest c n at q now) (λ m' k'. (take c open_of (place n at) pin q (class_of n q) now m' k').element) (same_peer q the_parent) q replies) on
-  element_each entry at pin q now (messages.PcNtf notices) k os ends on =
+  element_each entry at pin q now (messages.PcNtf notices) k os ends heard on =
       parts_each (Element Pin Segment) (λ k'. WaitsAt k' q) (OnRequest c n at q now) (λ m' k'. (take c open_of (place n at) pin q (class_of n q) now m' k').element) (same_peer q the_parent) q (noted notices) k os
       (noted_ask_none (Element Pin Segment) (λ k'. WaitsAt k' q) (OnRequest c n at q now) (λ m' k'. (take c open_of (place n at) pin q (class_of n q) now m' k').element) (same_peer q the_parent) q notices) on
-  element_each entry at pin q now (messages.PcErr reports) k os ends on =
-      parts_each (Element Pin Segment) (λ k'. WaitsAt k' q) (OnRequest c n at q now) (λ m' k'. (take c open_of (place n at) pin q (class_of n q) now m' k').element) (same_peer q the_parent) q (failed reports) k os
-      (failed_ask_none (Element Pin Segment) (λ k'. WaitsAt k' q) (OnRequest c n at q now) (λ m' k'. (take c open_of (place n at) pin q (class_of n q) now m' k').element) (same_peer q the_parent) q reports) on
-  element_each entry at pin q now (messages.Open body) k os ends on = none_each os on
-  element_each entry at pin q now messages.Keepalive k os ends on = none_each os on
-  element_each entry at pin q now (messages.Close why) k os ends on = none_each os on
-  element_each entry at pin q now (messages.Other kind) k os ends on = none_each os on
+  element_each entry at pin q now (messages.PcErr reports) k os ends heard on = heard reports refl
+  element_each entry at pin q now (messages.Open body) k os ends heard on = none_each os on
+  element_each entry at pin q now messages.Keepalive k os ends heard on = none_each os on
+  element_each entry at pin q now (messages.Close why) k os ends heard on = none_each os on
+  element_each entry at pin q now (messages.Other kind) k os ends heard on = none_each os on
 
   below : {X : Type 0} (at : As) → same_as at d ≡ true → same_as at parent_as ≡ true → X
   below at is up = absurd (real (sym (same_as_is at d is) ∙ same_as_is at parent_as up))
@@ -237,21 +220,28 @@ module _ (c : Codec) (n : NetworkParts) (d : As) (real : d ≢ parent_as) (p : P
       go false is = closed_each (place n d') (k', t.held) t.down before.clock (before.elements d').keys t.rows.best t.message (t.to_closed is)
 
   -- what the deed that ends the request says
-  ends_each : (deed : PlantDeed) (older : Transcript) → HasOne c n deed older → effect c d p x deed ≡ Ends → Each (outputs_at d deed)
-  ends_each (Takes at q m os) older one ends = go (same_as at d) refl ends one.cause.1
+  ends_each : (deed : PlantDeed) (older : Transcript) → Within (deed ∷ older) (deeds_of c n es) → HasOne c n deed older → effect c d p x deed ≡ Ends → Each (outputs_at d deed)
+  ends_each (Takes at q m os) older within one ends = go (same_as at d) refl ends one.cause.1
     where
       go : (b : Bool) → same_as at d ≡ b → cond b (take_effect c d p x q m os) Keeps ≡ Ends → OnPassed c n one.before one.event at q m os → Each (cond b os [])
       go false is e on = tt
       go true is e (by_parent up on) = below at is up
-      go true is e (by_element down on) = element_each one.before at (one.before.current at) q one.before.clock m (one.before.elements at) os e on
-  ends_each (Downs at q os) older one ends = go (same_as at d) refl (same_as at parent_as) refl one.cause
+      go true is e (by_element down on) = element_each one.before at (one.before.current at) q one.before.clock m (one.before.elements at) os e (heard on) on
+        where
+          heard : OnMessage c n at (one.before.current at) q one.before.clock m (one.before.elements at) os → (reports : List ErrorReport) → m ≡ messages.PcErr reports → Each os
+          heard on' reports same = elim (hears_errors c codec n net es s run written short at one.entries one.before one.run one.short q (one.before.current at) reports os older
+              (subst (λ (z : Message). Within (Takes at q z os ∷ older) (deeds_of c n es)) same within) (subst (λ (z : Message). OnMessage c n at (one.before.current at) q one.before.clock z (one.before.elements at) os) same on')) [
+                | inl none ↦ none_each os none
+                | inr h ↦ replied_each h.asker unavailable os h.says
+              ]
+  ends_each (Downs at q os) older within one ends = go (same_as at d) refl (same_as at parent_as) refl one.cause
     where
       go : (b : Bool) → same_as at d ≡ b → (u : Bool) → same_as at parent_as ≡ u → cond u (AnswersLost (IsLostAbove q) asker_above (left_above one.before.parent.pending.rows one.earlier) os)
           (AnswersLost (IsLost q) asker_of (left_rows at (one.before.elements at).pending.rows one.earlier) os) → Each (cond b os [])
       go false is u up lost = tt
       go true is true up lost = below at is up
       go true is false down lost = lost_each q (left_rows at (one.before.elements at).pending.rows one.earlier) os lost
-  ends_each (Solves at k os keys) older one ends = go (same_as at d) refl one.cause
+  ends_each (Solves at k os keys) older within one ends = go (same_as at d) refl one.cause
     where
       go : (b : Bool) → same_as at d ≡ b → OfSolve c n one.before one.event (Solves at k os keys) → Each (cond b os [])
       go false is cause = tt
@@ -261,13 +251,13 @@ module _ (c : Codec) (n : NetworkParts) (d : As) (real : d ≢ parent_as) (p : P
       go true is (of_parent k' ev t) =
           let one' : Solves at k os keys ≡ Solves parent_as k' (record { to = t.held.key.peer; message = t.message } ∷ []) [] = ap (head_of (Solves at k os keys)) t.sends_one in
           absurd (real (sym (same_as_is at d is) ∙ ap (solver d) one'))
-  ends_each (Says at o) older one ends = keeps_never ends
-  ends_each (Loads at g) older one ends = keeps_never ends
-  ends_each (Pops a b) older one ends = keeps_never ends
-  ends_each (Ups at q) older one ends = keeps_never ends
-  ends_each (Clears a b) older one ends = keeps_never ends
-  ends_each (Expires now) older one ends = keeps_never ends
-  ends_each (Hands j bytes) older one ends = keeps_never ends
+  ends_each (Says at o) older within one ends = keeps_never ends
+  ends_each (Loads at g) older within one ends = keeps_never ends
+  ends_each (Pops a b) older within one ends = keeps_never ends
+  ends_each (Ups at q) older within one ends = keeps_never ends
+  ends_each (Clears a b) older within one ends = keeps_never ends
+  ends_each (Expires now) older within one ends = keeps_never ends
+  ends_each (Hands j bytes) older within one ends = keeps_never ends
 
   opening_keeps : {X : Type 0} (deed : PlantDeed) → IsOpening deed → effect c d p x deed ≡ Ends → X
   opening_keeps (Says at o) is ends = keeps_never ends
@@ -300,8 +290,8 @@ module _ (c : Codec) (codec : IsCodec c) (n : NetworkParts) (net : IsNetwork n) 
     where
       each : Each (outputs_at d e.deed)
       each = elim (moment_cause c n es s run short e.deed e.older e.within) [
-        | inl one ↦ ends_each c n d real p x e.deed e.older one e.ends
-        | inr first ↦ opening_keeps c n d real p x e.deed first e.ends
+        | inl one ↦ ends_each c codec n net es s run written short d real p x e.deed e.older e.within one e.ends
+        | inr first ↦ opening_keeps c codec n net es s run written short d real p x e.deed first e.ends
       ]
 
       -- the output is to p, and says this
@@ -319,15 +309,12 @@ module _ (c : Codec) (codec : IsCodec c) (n : NetworkParts) (net : IsNetwork n) 
               let has = at_p a.one (messages.PcRep (r ∷ [])) a.there a.to is in
               elim (told_or_not r.answer) [
                 | inl told' ↦ tells r has id told'
-                | inr broken ↦ breaks r has id broken (subst (λ (y : ℕ). Breaks c n d p y e.deed e.older) id (broken_for_reasons c codec n net es s run written short d p r e.deed e.older real e.within has broken))
+                | inr broken ↦ breaks r has id broken (subst (λ (y : ℕ). Breaks c n d p y e.deed e.older) id (broken_for_reasons c codec n net es s run written short d p r e.deed e.older e.within has broken))
               ]
           go (full flags id is) counts =
               let same : id ≡ x = has_one x (flags, id) (one_is (has_id x ((flags, id) ∷ [])) (subst (λ (m : Message). 1 ≤ count_answers x m) is counts)) in
-              is_full flags (subst (λ (y : ℕ). Contains (outputs_at d e.deed) (record { to = p; message = busy flags y })) same (at_p a.one (busy flags id) a.there a.to is))
-          go (not_served' flags id is) counts =
-              let same : id ≡ x = has_one x (flags, id) (one_is (has_id x ((flags, id) ∷ [])) (subst (λ (m : Message). 1 ≤ count_answers x m) is counts)) in
-              not_served flags (subst (λ (y : ℕ). Contains (outputs_at d e.deed) (record { to = p; message = error_message (Some (flags, y)) errors.CHAIN_FAILED.0 errors.CHAIN_FAILED.1 })) same
-              (at_p a.one (error_message (Some (flags, id)) errors.CHAIN_FAILED.0 errors.CHAIN_FAILED.1) a.there a.to is))
+              let has = subst (λ (y : ℕ). Contains (outputs_at d e.deed) (record { to = p; message = busy flags y })) same (at_p a.one (busy flags id) a.there a.to is) in
+              is_full flags has (full_for_reasons c codec n net es s run written short d p x flags e.deed e.older e.within has)
           go (other none) counts = absurd (let nothing = none x in omega (arith, nothing, counts))
 
   none_pending : s.parent.pending.rows ≡ [] → ((d' : As) → (s.elements d').pending.rows ≡ []) → is_pending s d p x ≡ false

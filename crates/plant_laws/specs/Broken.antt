@@ -1,9 +1,13 @@
 -- Why a request was answered that the chain is not available (NO-PATH of another nature than 0): on its way an element denied the step
--- or had no open session with the next, lost that session while the request waited, or was told an error; or the parent said so.
-use Rattle.std.specs.Prelude.{◌≡◌, ◌≢◌, ◌⊎◌, ◌++◌, ℕ, Bool, true, false, List, [], ◌∷◌, Contains}
+-- or had no open session with the next, or lost a session with another; or the parent refused IPv6 addresses, or had no open session with
+-- a child, or lost one.
+use Rattle.std.specs.Prelude.{◌≡◌, ◌≢◌, ◌⊎◌, ◌++◌, ℕ, Bool, true, false, List, [], ◌∷◌, Contains, Some}
 use Rattle.dom_base.specs.declared.names.As.{As}
+use Rattle.dom_base.specs.declared.addr.Addr.{Addr}
 use Rattle.dom_base.specs.declared.names.Peer.{Peer}
 use Rattle.dom_base.specs.declared.names.Peer.TheVariants.{Inner}
+use Rattle.pcep_codes.specs.declared.errors.TheConstants as errors
+use Rattle.pcep_codes.specs.declared.kinds.TheConstants as object_types
 use Rattle.pcep_messages.specs.declared.message.Asked.{Asked}
 use Rattle.pcep_messages.specs.declared.message.ErrorReport.{ErrorReport}
 use Rattle.pcep_messages.specs.declared.message.Reply.{Reply}
@@ -13,14 +17,17 @@ use Rattle.pcep_messages.specs.declared.message.Wish.TheVariants as wishes
 use Rattle.pcep_messages.specs.declared.message.Message.TheVariants as messages
 use Rattle.plant_text.specs.declared.settings.NetworkParts.{NetworkParts}
 use Rattle.plant_text.specs.Names.{parent_as}
+use Rattle.plant_text.specs.Settings.{children}
 use Rattle.plant_model.specs.declared.output.Output.{Output}
 use Rattle.plant_model.specs.Names.{the_parent}
 use Rattle.plant_model.specs.Wire.{Codec, Admitted}
+use Rattle.plant_model.specs.Writing.{request_message, error_message, ends_kind, vspt_flag}
 use Rattle.plant_model.specs.Element.{way_to}
 use Rattle.plant_model.specs.Parent.{is_up}
 use Rattle.plant_model.specs.State.{Takes, Downs}
 use Rattle.plant_model.specs.Plant.{Plant, PlantDeed, Entry, Run, deeds_of}
-use Rattle.plant_laws.specs.Transcript.{Transcript, Within, outputs_at}
+use Rattle.plant_laws.specs.Transcript.{Transcript, Within, opened, SentIn, outputs_at}
+use Rattle.plant_laws.specs.Errors.{AsksForIpv6}
 use Rattle.plant_laws.specs.Matched.{IsReplyTo}
 use Rattle.plant_laws.specs.MessageCauses.{TellsOfPaths, GoesTo}
 use Rattle.plant_laws.specs.Runs.{InShortRuns}
@@ -47,23 +54,75 @@ pub record IsStopped (c : Codec) (n : NetworkParts) (d : As) (p : Peer) (x : ℕ
   pub goes : GoesTo n d p wanted next rest denied
   pub stops : (denied ≡ true) ⊎ (is_up (way_to next (before.elements d).ways) ≡ false)
 
+-- The request x of p is open, and in the moment that delivered it d sent it on to this peer under the id y.
+pub record WentOn (c : Codec) (older : Transcript) (d : As) (p : Peer) (x : ℕ) (on : Peer) (y : ℕ) : Type 0 where
+  pub at : Transcript
+  pub is_open : opened c d p x older ≡ Some at
+  pub wanted : Wanted
+  pub rest : List As
+  pub sent : SentIn at d on (request_message y wanted wanted.target rest)
+
+-- In this moment the parent took the path request x of p, and asked no child: the session of one is not up.
+pub record IsStoppedAbove (c : Codec) (n : NetworkParts) (p : Peer) (x : ℕ) (deed : PlantDeed) (older : Transcript) : Type 0 where
+  pub entries : List Entry
+  pub before : Plant
+  pub run : Run c n entries before
+  pub earlier : Transcript
+  pub is_then : older ≡ earlier ++ deeds_of c n entries
+  pub asked : Asked
+  pub os : List Output
+  pub takes : deed ≡ Takes parent_as p (messages.PcReq (asked ∷ [])) os
+  pub request : Request
+  pub admitted : c.check asked parent_as ≡ Admitted request
+  pub id : request.id ≡ x
+  pub child : As
+  pub is_child : Contains (children n) child
+  pub down : is_up (way_to (Inner child) before.parent.ways) ≡ false
+
+-- The request x of p is open at the parent, and in the moment that delivered it the parent asked a child under the id y. The child said
+-- this reply.
+pub record WentDown (c : Codec) (older : Transcript) (p : Peer) (x : ℕ) (child : As) (r : Reply) : Type 0 where
+  pub at : Transcript
+  pub is_open : opened c parent_as p x older ≡ Some at
+  pub wanted : Wanted
+  pub target : Addr
+  pub sent : SentIn at parent_as (Inner child) (request_message r.id wanted target (child ∷ []))
+  pub deed : PlantDeed
+  pub before : Transcript
+  pub within : Within (deed ∷ before) older
+  pub said : SentIn (deed ∷ before) child the_parent (messages.PcRep (r ∷ []))
+
+-- The parent, which serves IPv4 alone, refused the request id of d.
+pub record IsRefusedAbove (older : Transcript) (d : As) (id : ℕ) (reports : List ErrorReport) : Type 0 where
+  pub deed : PlantDeed
+  pub before : Transcript
+  pub within : Within (deed ∷ before) older
+  pub asks : AsksForIpv6 d id deed
+  pub said : Contains (outputs_at parent_as deed) (record { to = Inner d; message = messages.PcErr reports })
+  pub names : messages.PcErr reports ≡ error_message (Some (vspt_flag, id)) errors.KIND_NOT_SERVED.0 errors.KIND_NOT_SERVED.1
+
 -- why d told p in a moment that no chain is available for its request x
 pub data Breaks (c : Codec) (n : NetworkParts) : As → Peer → ℕ → PlantDeed → Transcript → Type 0 where
   stopped : (d : As) (p : Peer) (x : ℕ) (deed : PlantDeed) (older : Transcript) → IsStopped c n d p x deed older → Breaks c n d p x deed older
-  -- the session with another peer, on which it waited, went down
-  lost : (d : As) (p : Peer) (x : ℕ) (older : Transcript) (q : Peer) (os : List Output) → p ≢ q → Breaks c n d p x (Downs d q os) older
-  -- where it was sent on there is an error
-  failed : (d : As) (p : Peer) (x : ℕ) (older : Transcript) (q : Peer) (reports : List ErrorReport) (os : List Output) → Breaks c n d p x (Takes d q (messages.PcErr reports) os) older
-  -- the parent said so
-  of_parent : (d : As) (p : Peer) (x : ℕ) (older : Transcript) (r : Reply) (os : List Output) → ¬ TellsOfPaths r.answer → Breaks c n d p x (Takes d the_parent (messages.PcRep (r ∷ [])) os) older
-  -- the next domain said so of the request that it was sent, for a reason of its own
-  further : (d b : As) (p : Peer) (x : ℕ) (older : Transcript) (r : Reply) (os : List Output) → ¬ TellsOfPaths r.answer → (said : IsReplyTo c older d b r) →
+  -- the session with another element, or the parent, went down while the request was open
+  lost : (d : As) (p : Peer) (x : ℕ) (older at : Transcript) (b : As) (os : List Output) → p ≢ Inner b → opened c d p x older ≡ Some at → Breaks c n d p x (Downs d (Inner b) os) older
+  -- the parent, to which it went on, refused it: its ends are IPv6 addresses
+  refused : (d : As) (p : Peer) (x : ℕ) (older : Transcript) (id : ℕ) (reports : List ErrorReport) (os : List Output) → (went : WentOn c older d p x the_parent id) →
+      ends_kind went.wanted.source went.wanted.target ≡ object_types.END_POINTS_IPV6 → IsRefusedAbove older d id reports →
+      Breaks c n d p x (Takes d the_parent (messages.PcErr reports) os) older
+  -- the next domain, or the parent, to which it went on, said so of that request, for a reason of its own
+  further : (d b : As) (p : Peer) (x : ℕ) (older : Transcript) (r : Reply) (os : List Output) → ¬ TellsOfPaths r.answer → (went : WentOn c older d p x (Inner b) r.id) (said : IsReplyTo c older d b r) → said.concerns.sending ≡ went.at →
       Breaks c n b (Inner d) r.id said.deed said.older → Breaks c n d p x (Takes d (Inner b) (messages.PcRep (r ∷ [])) os) older
+  -- at the parent: the session of a child was not up
+  stopped_above : (p : Peer) (x : ℕ) (deed : PlantDeed) (older : Transcript) → IsStoppedAbove c n p x deed older → Breaks c n parent_as p x deed older
+  -- or a child said so, for a reason of its own
+  of_child : (b : As) (p : Peer) (x : ℕ) (older : Transcript) (r : Reply) (os : List Output) → ¬ TellsOfPaths r.answer → (went : WentDown c older p x b r) → Breaks c n b the_parent r.id went.deed went.before →
+      Breaks c n parent_as p x (Takes parent_as (Inner b) (messages.PcRep (r ∷ [])) os) older
 
--- In every run each such reply of an element has a reason.
+-- In every run each such reply of an element, or the parent, has a reason.
 abbrev pub BrokenForReasonsIn : Codec → NetworkParts → List Entry → Plant → Type 0
 BrokenForReasonsIn c n es s =
-    (d : As) (p : Peer) (r : Reply) (deed : PlantDeed) (older : Transcript) → d ≢ parent_as → Within (deed ∷ older) (deeds_of c n es) →
+    (d : As) (p : Peer) (r : Reply) (deed : PlantDeed) (older : Transcript) → Within (deed ∷ older) (deeds_of c n es) →
     Contains (outputs_at d deed) (record { to = p; message = messages.PcRep (r ∷ []) }) → ¬ TellsOfPaths r.answer → Breaks c n d p r.id deed older
 
 abbrev pub BrokenForReasons : Type 0

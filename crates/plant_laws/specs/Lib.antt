@@ -29,7 +29,10 @@ pub mod Certified
 pub mod Steps
 pub mod MessageCauses
 pub mod Causes
+pub mod Errors
 pub mod Broken
+pub mod Full
 pub mod Served
+pub mod Good
 -- handed on from below
 pub use Rattle.plant_model.specs as plant_model

@@ -1,29 +1,29 @@
--- What became of a request when a network is quiet: it had its one answer, which tells of paths, or that a table is full, or that the
--- next would not serve it, or that the chain is not available, for a reason on its own way; or its peer gave it up.
+-- What became of a request when a network is quiet: it had its one answer, which tells of paths, or that there is no room or the chain
+-- is not available, for a reason on its own way; or its peer gave it up. No error answers it.
 use Rattle.std.specs.Prelude.{◌≡◌, ◌≢◌, ℕ, List, [], ◌∷◌, Contains, Some}
 use Rattle.dom_base.specs.declared.names.As.{As}
 use Rattle.dom_base.specs.declared.names.Peer.{Peer}
-use Rattle.pcep_codes.specs.declared.errors.TheConstants as errors
 use Rattle.pcep_messages.specs.declared.message.Message.TheVariants as messages
 use Rattle.pcep_messages.specs.declared.message.Reply.{Reply}
 use Rattle.plant_text.specs.declared.settings.NetworkParts.{NetworkParts}
 use Rattle.plant_text.specs.Names.{parent_as}
 use Rattle.plant_model.specs.Wire.{Codec}
-use Rattle.plant_model.specs.Writing.{busy, error_message}
+use Rattle.plant_model.specs.Writing.{busy}
 use Rattle.plant_model.specs.Plant.{Plant, Entry, deeds_of}
 use Rattle.plant_laws.specs.Transcript.{Transcript, Within, opened, outputs_at}
 use Rattle.plant_laws.specs.Chains.{IsQuiet}
 use Rattle.plant_laws.specs.Answered.{IsEnd, DropsFor, answers_of}
 use Rattle.plant_laws.specs.MessageCauses.{TellsOfPaths}
 use Rattle.plant_laws.specs.Broken.{Breaks}
+use Rattle.plant_laws.specs.Full.{Fills}
 use Rattle.plant_laws.specs.Runs.{InShortRuns}
 
 -- what the deed that ended it says of it
 pub data EndsWith (c : Codec) (n : NetworkParts) (d : As) (p : Peer) (x : ℕ) (now : Transcript) (at : Transcript) (e : IsEnd c now d p x at) : Type 0 where
   -- a path, or that there is none
   tells : (r : Reply) → Contains (outputs_at d e.deed) (record { to = p; message = messages.PcRep (r ∷ []) }) → r.id ≡ x → TellsOfPaths r.answer → EndsWith c n d p x now at e
-  is_full : (flags : ℕ) → Contains (outputs_at d e.deed) (record { to = p; message = busy flags x }) → EndsWith c n d p x now at e
-  not_served : (flags : ℕ) → Contains (outputs_at d e.deed) (record { to = p; message = error_message (Some (flags, x)) errors.CHAIN_FAILED.0 errors.CHAIN_FAILED.1 }) → EndsWith c n d p x now at e
+  -- there is no room: a table on its way is full, or a solve lacks keys
+  is_full : (flags : ℕ) → Contains (outputs_at d e.deed) (record { to = p; message = busy flags x }) → Fills c n d p x e.deed e.older → EndsWith c n d p x now at e
   breaks : (r : Reply) → Contains (outputs_at d e.deed) (record { to = p; message = messages.PcRep (r ∷ []) }) → r.id ≡ x → ¬ TellsOfPaths r.answer → Breaks c n d p x e.deed e.older → EndsWith c n d p x now at e
 
 -- In a quiet state of a run each path request that an element accepted had one answer, or was dropped.

@@ -9,6 +9,9 @@ ghost use Rattle.plant_laws.specs.Broken.{BrokenForReasons};
 ghost use Rattle.plant_laws.specs.Causes.{MessagesHaveCauses, NetworksBegin};
 ghost use Rattle.plant_laws.specs.Chains.{OneChain, OneChainIn, QuietIsAnswered, QuietIsAnsweredIn};
 ghost use Rattle.plant_laws.specs.Counted.{ElementIdsDiffer, IdsCount};
+ghost use Rattle.plant_laws.specs.Errors.{InnerErrors};
+ghost use Rattle.plant_laws.specs.Full.{FullForReasons};
+ghost use Rattle.plant_laws.specs.Good.{GoodRequestsAreServed};
 ghost use Rattle.plant_laws.specs.Headline.{LeastAnswers, LeastAnswersIn, NoneAnswers, NoneAnswersIn};
 ghost use Rattle.plant_laws.specs.Issuing.{ExpandedAreIssued, KeysAreIssued, ToldKeysLast};
 ghost use Rattle.plant_laws.specs.Keys.{ExpandsRightly, ExpandsRightlyIn, KeysDiffer};
@@ -235,16 +238,36 @@ pub fn messages_have_causes()
     ensures begin { NetworksBegin }
 {}
 
-/// Each reply of an element that the chain is not available has a reason on the way of its request.
+/// An error between elements and the parent names no request, or answers a reply, or says that the parent
+/// serves IPv4 alone: none is out of the profile, and no chain fails for one.
+pub fn inner_errors()
+    ensures { InnerErrors }
+{}
+
+/// Each reply of an element, or the parent, that the chain is not available has a reason on the way of its
+/// request.
 pub fn broken_for_reasons()
     ensures { BrokenForReasons }
 {}
 
+/// Each notice of an element, or the parent, that there is no room has a reason on the way of its request: a full
+/// table, or a solve that needs more keys than are free.
+pub fn full_for_reasons()
+    ensures { FullForReasons }
+{}
+
 /// In a quiet state each path request that an element accepted had one answer: paths, or that there are none,
-/// that a table is full, that it is not served, or that the chain is not available for a reason on its way; or
-/// it was dropped, as its peer cancelled it or went down.
+/// or that there is no room or the chain is not available, for a reason on its way; or it was dropped, as its
+/// peer cancelled it or went down. No error answers it.
 pub fn requests_are_served()
     ensures { RequestsAreServed }
+{}
+
+/// Where policy allows each step on the way of an accepted request, over sessions that are up and stay up, with
+/// room in each table and keys enough, and what the parent asks for it is answered, then in the next quiet state
+/// it had its one answer: paths, or that there are none.
+pub fn good_requests_are_served()
+    ensures { GoodRequestsAreServed }
 {}
 
 // ---- over PCEP

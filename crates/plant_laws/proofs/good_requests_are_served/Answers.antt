@@ -1,0 +1,7 @@
+use Rattle.plant_laws.specs.Good.{GoodRequestsAreServedIn}
+use Rattle.plant_laws.proofs.EveryWritten.{of_written_net_ids}
+use Rattle.plant_laws.proofs.Good as Good
+use Rattle.plant_laws.proofs.good_requests_are_served.Goals as goal
+
+pub returns : goal.returns
+returns c = of_written_net_ids GoodRequestsAreServedIn Good.good_requests_are_served
