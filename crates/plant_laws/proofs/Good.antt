@@ -1,4 +1,4 @@
--- Nothing breaks the chain of a good request, so it is served.
+-- Nothing breaks the chain of a good request, and nothing on its way lacks room, so it is served.
 use Rattle.std.proofs.Common.{◌≡◌, ℕ, Bool, true, false, cond, List, [], ◌∷◌, Option, Some, sym, ◌∙◌, ap, subst, inl, inr, refl, arith}
 use Rattle.std.specs.Prelude.{◌⊎◌}
 use Rattle.std.proofs.lemmas.Bool.{cases_Bool}
