@@ -1,5 +1,5 @@
 -- How a run ends, from how its parts ended.
-use Rattle.std.proofs.Common.{◌≡◌, inl, inr, ℕ, List, [], ◌∷◌, Some, None, refl, sym, subst}
+use Rattle.std.proofs.Common.{◌≡◌, ◌≤◌, inl, inr, ℕ, List, [], ◌∷◌, Some, None, refl, sym, subst, arith}
 use Rattle.std.specs.Prelude.{Err}
 use Rattle.std.specs.declared.option.Option.{Option}
 use Rattle.std.specs.Io.KnownBytes.{Keeps}
@@ -65,6 +65,20 @@ second_ends w c topology g f IsFault is has in_file nothing status.NoMemory why 
 second_ends w c topology g f IsFault is has in_file nothing (status.BadRequest reason) why = absurd why
 second_ends w c topology g f IsFault is has in_file nothing (status.Refuted place) why = absurd why
 second_ends w c topology g f IsFault is has in_file nothing (status.TooLarge file) why = (nothing, inl (second w c topology g f _ is has why))
+
+-- a read failed since an earlier moment
+pub failed_since : (files : Option Files) (name : List ℕ) (limit : ℕ) (IsFault : List ℕ → ℕ → NetFault → Type 0) (a b c : ℕ) (failed_at : List ℕ) → a ≤ b → (s : Status) →
+    IsFileStatus files name limit IsFault (b, c) failed_at s → IsFileStatus files name limit IsFault (a, c) failed_at s
+failed_since files name limit IsFault a b c failed_at earlier status.Ok why = absurd why
+failed_since files name limit IsFault a b c failed_at earlier status.Usage why = absurd why
+failed_since files name limit IsFault a b c failed_at earlier status.ReadFault why = (omega (arith, earlier, why.0), why.1)
+failed_since files name limit IsFault a b c failed_at earlier status.WriteFault why = absurd why
+failed_since files name limit IsFault a b c failed_at earlier (status.BadNetwork file line fault) why = why
+failed_since files name limit IsFault a b c failed_at earlier (status.BadLine line) why = absurd why
+failed_since files name limit IsFault a b c failed_at earlier status.NoMemory why = why
+failed_since files name limit IsFault a b c failed_at earlier (status.BadRequest reason) why = absurd why
+failed_since files name limit IsFault a b c failed_at earlier (status.Refuted place) why = absurd why
+failed_since files name limit IsFault a b c failed_at earlier (status.TooLarge file) why = why
 
 -- the topology was read, and the certificate of a path was not
 pub certificate_ends : (w : World) (topology certificate : List ℕ) (g : Rows) → HasTopology w.files topology g → WroteNothing w → (s : Status) →

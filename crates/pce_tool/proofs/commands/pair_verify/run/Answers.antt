@@ -6,8 +6,16 @@ use Rattle.pce_tool.specs.Run.{PairVerify}
 use Rattle.pce_tool.specs.Files.{HasPairCertificate}
 use Rattle.pce_tool.specs.Commands.Verify.{holds_text}
 use Rattle.pce_tool.specs.Commands.PairVerify.{pair_asked}
-use Rattle.pce_tool.proofs.Ending.{keeps_refl, input_ends, finished}
+use Rattle.pce_tool.proofs.Ending.{keeps_refl, failed_since, pair_certificate_ends, input_ends, finished}
 use Rattle.pce_tool.proofs.commands.pair_verify.run.Goals as goal
+
+pub returns-in-Err-load_pair_certificate : goal.returns-in-Err-load_pair_certificate
+returns-in-Err-load_pair_certificate g c =
+    let w : World = world (g.S.Store.files c.args.store.now) (g.I.Source.left c.args.input.now) (g.K.Sink.written c.args.out.now, g.K.Sink.written c.args.out.now)
+    (g.S.Store.faults c.args.store.now, g.S.Store.faults c.load_pair_certificate.new.store) (g.I.Source.faults c.args.input.now, g.I.Source.faults c.args.input.now)
+    (g.K.Sink.faults c.args.out.now, g.K.Sink.faults c.args.out.now) (g.S.Store.failed_at c.load_pair_certificate.new.store) in
+    pair_certificate_ends w c.args.topology.now c.args.certificate.now c.in-Ok.topology c.in-Ok.ensures.ok (keeps_refl (g.K.Sink.written c.args.out.now)) c.in-Err-load_pair_certificate.status
+    (failed_since _ _ _ _ _ _ _ _ c.in-Ok.ensures.later c.in-Err-load_pair_certificate.status (rw c.in-Ok.ensures.files at c.in-Err-load_pair_certificate.ensures.err))
 
 pub returns-in-Err-load_pair_request : goal.returns-in-Err-load_pair_request
 returns-in-Err-load_pair_request g c =

@@ -5,8 +5,16 @@ use Rattle.pce_tool.specs.Worlds.{World, world}
 use Rattle.pce_tool.specs.Run.{Verify}
 use Rattle.pce_tool.specs.Files.{HasCertificate}
 use Rattle.pce_tool.specs.Commands.Verify.{claim, holds_text}
-use Rattle.pce_tool.proofs.Ending.{keeps_refl, input_ends, finished}
+use Rattle.pce_tool.proofs.Ending.{keeps_refl, failed_since, certificate_ends, input_ends, finished}
 use Rattle.pce_tool.proofs.commands.verify.run.Goals as goal
+
+pub returns-in-Err-load_certificate : goal.returns-in-Err-load_certificate
+returns-in-Err-load_certificate g c =
+    let w : World = world (g.S.Store.files c.args.store.now) (g.I.Source.left c.args.input.now) (g.K.Sink.written c.args.out.now, g.K.Sink.written c.args.out.now)
+    (g.S.Store.faults c.args.store.now, g.S.Store.faults c.load_certificate.new.store) (g.I.Source.faults c.args.input.now, g.I.Source.faults c.args.input.now)
+    (g.K.Sink.faults c.args.out.now, g.K.Sink.faults c.args.out.now) (g.S.Store.failed_at c.load_certificate.new.store) in
+    certificate_ends w c.args.topology.now c.args.certificate.now c.in-Ok.topology c.in-Ok.ensures.ok (keeps_refl (g.K.Sink.written c.args.out.now)) c.in-Err-load_certificate.status
+    (failed_since _ _ _ _ _ _ _ _ c.in-Ok.ensures.later c.in-Err-load_certificate.status (rw c.in-Ok.ensures.files at c.in-Err-load_certificate.ensures.err))
 
 pub returns-in-Err-load_request : goal.returns-in-Err-load_request
 returns-in-Err-load_request g c =
