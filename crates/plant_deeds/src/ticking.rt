@@ -17,10 +17,9 @@ ghost use Rattle.plant_deeds.specs.Roomy.{KeepsOn};
 ghost use Rattle.plant_deeds.specs.Standing.{here, state_of};
 ghost use Rattle.plant_deeds.specs.Using.{IsOn, Uses};
 
+use crate::acting::give_input;
 use crate::events::expire;
-use crate::inner::inner_input;
-use crate::outside::outside_input;
-use dom_base::{As, Tick};
+use dom_base::{As, Peer, Tick};
 use pcep_session::Input;
 use plant_members::Members;
 use plant_members::model::{Outcome, Refused};
@@ -38,7 +37,15 @@ fn tick_peers<M: Members>(members: &mut M, traffic: &mut Traffic, now: Tick)
 {
     let count = traffic.peers() as u32;
     for peer in 0..count {
-        outside_input(members, traffic, peer, Input::Tick(now), true);
+        let at = members.element_of(peer);
+        give_input(
+            members,
+            traffic,
+            at,
+            Peer::Outside(peer),
+            Input::Tick(now),
+            true,
+        );
     }
 }
 
@@ -47,6 +54,7 @@ fn tick_line<M: Members>(members: &mut M, traffic: &mut Traffic, line: (As, As),
     requires lower { is_member (M.network members.old) line.0 ≡ true }
     requires upper { is_member (M.network members.old) line.1 ≡ true }
     requires apart { same_as line.0 line.1 ≡ false }
+    requires rises { line.0.0 < line.1.0 }
     requires linked { has_line line.0 line.1 (lines (M.network members.old)) ≡ true }
     requires of { IsOf (M.network members.old) (flow_of traffic.old) }
     requires none { (d : As) → M.lost members.old d ≡ [] }
@@ -54,21 +62,19 @@ fn tick_line<M: Members>(members: &mut M, traffic: &mut Traffic, line: (As, As),
     requires keeps { KeepsOn 4 (M.network members.old) (M.seen members.old) (flow_of traffic.old) }
     ensures { Uses (λ n g. deeds.inner_input M.Pin M.Key wire n M.show (line_of line) line.1 line.0 (inputs.Tick now) (deeds.inner_input M.Pin M.Key wire n M.show (line_of line) line.0 line.1 (inputs.Tick now) g)) 4 (here (M.network members.old) (M.seen members.old) (M.lost members.old) (flow_of traffic.old)) (here (M.network members.new) (M.seen members.new) (M.lost members.new) (flow_of traffic.new)) }
 {
-    inner_input(
+    give_input(
         members,
         traffic,
-        line,
         line.0,
-        line.1,
+        Peer::Inner(line.1),
         Input::Tick(now),
         true,
     );
-    inner_input(
+    give_input(
         members,
         traffic,
-        line,
         line.1,
-        line.0,
+        Peer::Inner(line.0),
         Input::Tick(now),
         true,
     );

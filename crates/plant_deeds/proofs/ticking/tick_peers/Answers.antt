@@ -1,5 +1,6 @@
 use Rattle.std.proofs.Common.{◌≡◌, ◌<◌, ◌%◌, ℕ, true, sym, subst, arith, add-one, length}
 use Rattle.std.proofs.Math.Nat.{mod-eq_of_lt}
+use Rattle.dom_base.specs.declared.names.As.{As}
 use Rattle.plant_text.specs.declared.settings.NetworkParts.{NetworkParts}
 use Rattle.plant_members.specs.plant_model.Deeds.{element_of}
 use Rattle.plant_traffic.specs.Carried.{flow_of}
@@ -10,16 +11,27 @@ use Rattle.plant_deeds.proofs.TickLaws.{peers_to}
 use Rattle.plant_deeds.proofs.TickingLaws.{Until, peer_more, peer_uses, peers_end, room_left}
 use Rattle.plant_deeds.proofs.ticking.tick_peers.Goals as goal
 
-pub outside_input-requires-clause-room : goal.outside_input-requires-clause-room
-outside_input-requires-clause-room g c =
+pub give_input-requires-clause-fits : goal.give_input-requires-clause-fits
+give_input-requires-clause-fits g c =
     let n = g.M.Members.network c.args.members.now in
     let k = c.loop-peer.peer in
     let few : c.peers-count.result < 4294967296 = omega (arith, c.requires.few, c.requires.of.peers_are, c.peers-count.ensures) in
     let all : c.peers-count.result % 4294967296 ≡ c.peers-count.result = mod-eq_of_lt few in
     let below : k < length n.peers = omega (arith, c.loop-peer-test.true, all, c.requires.of.peers_are, c.peers-count.ensures) in
-    fits_tick (g.M.Members.network c.loop-peer.members) 1 k c.args.now (g.M.Members.seen c.loop-peer.members) (flow_of c.loop-peer.traffic)
-    (subst (λ (m : NetworkParts). is_member m (element_of m k) ≡ true) (sym c.loop-peer.invariant.uses.goes.network) (c.requires.joined.peers k below)) (omega arith)
+    let member = subst (λ (m : NetworkParts). is_member m (element_of m k) ≡ true) (sym c.loop-peer.invariant.uses.goes.network) (c.requires.joined.peers k below) in
+    fits_tick (g.M.Members.network c.loop-peer.members) 1 k c.element_of-at.result c.args.now (g.M.Members.seen c.loop-peer.members) (flow_of c.loop-peer.traffic) c.element_of-at.ensures
+    (subst (λ (a : As). is_member (g.M.Members.network c.loop-peer.members) a ≡ true) (sym c.element_of-at.ensures) member) (omega arith)
     (room_left k 1 (length n.peers) c.loop-peer.invariant.uses c.requires.on (omega (arith, below)) c.requires.keeps)
+
+pub give_input-requires-clause-member : goal.give_input-requires-clause-member
+give_input-requires-clause-member g c =
+    let n = g.M.Members.network c.args.members.now in
+    let k = c.loop-peer.peer in
+    let few : c.peers-count.result < 4294967296 = omega (arith, c.requires.few, c.requires.of.peers_are, c.peers-count.ensures) in
+    let all : c.peers-count.result % 4294967296 ≡ c.peers-count.result = mod-eq_of_lt few in
+    let below : k < length n.peers = omega (arith, c.loop-peer-test.true, all, c.requires.of.peers_are, c.peers-count.ensures) in
+    subst (λ (a : As). is_member (g.M.Members.network c.loop-peer.members) a ≡ true) (sym c.element_of-at.ensures)
+    (subst (λ (m : NetworkParts). is_member m (element_of m k) ≡ true) (sym c.loop-peer.invariant.uses.goes.network) (c.requires.joined.peers k below))
 
 pub loop-peer-preserved : goal.loop-peer-preserved
 loop-peer-preserved g c =
@@ -27,13 +39,13 @@ loop-peer-preserved g c =
     let k = c.loop-peer.peer in
     let start = here n (g.M.Members.seen c.args.members.now) (g.M.Members.lost c.args.members.now) (flow_of c.args.traffic.now) in
     let now = here (g.M.Members.network c.loop-peer.members) (g.M.Members.seen c.loop-peer.members) (g.M.Members.lost c.loop-peer.members) (flow_of c.loop-peer.traffic) in
-    let then = here (g.M.Members.network c.outside_input.new.members) (g.M.Members.seen c.outside_input.new.members) (g.M.Members.lost c.outside_input.new.members) (flow_of c.outside_input.new.traffic) in
+    let then = here (g.M.Members.network c.give_input.new.members) (g.M.Members.seen c.give_input.new.members) (g.M.Members.lost c.give_input.new.members) (flow_of c.give_input.new.traffic) in
     let few : c.peers-count.result < 4294967296 = omega (arith, c.requires.few, c.requires.of.peers_are, c.peers-count.ensures) in
     let all : c.peers-count.result % 4294967296 ≡ c.peers-count.result = mod-eq_of_lt few in
     let below : k < length n.peers = omega (arith, c.loop-peer-test.true, all, c.requires.of.peers_are, c.peers-count.ensures) in
     let member = subst (λ (m : NetworkParts). is_member m (element_of m k) ≡ true) (sym c.loop-peer.invariant.uses.goes.network) (c.requires.joined.peers k below) in
     subst (λ (j : ℕ). Until (λ m. peers_to g.M.Members.show m c.args.now j) j j (length n.peers) start then) (sym (add-one k))
-    (record { within = omega (arith, below); uses = peer_more g.M.Members.show c.args.now k start now then c.loop-peer.invariant.uses (peer_uses g.M.Members.show c.args.now k now then member c.outside_input.ensures) })
+    (record { within = omega (arith, below); uses = peer_more g.M.Members.show c.args.now k start now then c.loop-peer.invariant.uses (peer_uses g.M.Members.show c.args.now k now then member c.give_input.ensures) })
 
 pub returns : goal.returns
 returns g c =
