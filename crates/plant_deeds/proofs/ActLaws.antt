@@ -1,6 +1,6 @@
 -- What one action of a session is in the model, and the room that it leaves for the next.
 use Rattle.std.proofs.Common.{◌≡◌, ℕ, ◌+◌, ◌*◌, Bool, true, false, cond, is_some, Option, Some, None, List, [], ◌∷◌, ◌++◌, length, refl, ap, sym, subst, ◌∙◌, arith, inl, inr, append_assoc}
-use Rattle.std.proofs.lemmas.Bool.{cases_Bool, eqb-true}
+use Rattle.std.proofs.lemmas.Bool.{cases_Bool}
 use Rattle.std.specs.Option.{option_to_list}
 use Rattle.dom_base.specs.declared.names.As.{As}
 use Rattle.dom_base.specs.declared.names.Peer.{Peer}
@@ -31,7 +31,7 @@ use Rattle.plant_deeds.specs.Standing.{Here, here, Goes, state_of}
 use Rattle.plant_deeds.specs.Telling.{RoomToTell, count_lost}
 use Rattle.plant_deeds.specs.Acting.{IsOwnTurn, Spent, RoomToAct, Fits, LeavesOff, lost_by, size_in}
 use Rattle.plant_deeds.specs.Peers.{act_at, acts_at, down_at, is_out_empty_at}
-use Rattle.plant_deeds.proofs.GoLaws.{access_same, goes_as, goes_then, goes_same, goes_say, put_case, as_is}
+use Rattle.plant_deeds.proofs.GoLaws.{access_same, goes_as, goes_then, goes_same, goes_say, peer_is, put_case}
 use Rattle.plant_deeds.proofs.TellLaws.{into_peer}
 use Rattle.plant_deeds.proofs.LinkLaws.{accounts_like}
 
@@ -178,12 +178,6 @@ room_to_fall at to why ls f room = record {
   ];
   said = record { messages = omega (arith, room.said.messages); bytes = omega (arith, room.said.bytes) };
 }
-  where
-    peer_is : (p q : Peer) → same_peer p q ≡ true → p ≡ q
-    peer_is (Outside i) (Outside j) e = ap Outside (eqb-true i j e)
-    peer_is (Inner a) (Inner b) e = ap Inner (as_is a b e)
-    peer_is (Outside i) (Inner b) e = cc
-    peer_is (Inner a) (Outside j) e = cc
 
 module _ {P : Type 0} {S : Type 0} (show : S → List Hop) (n : NetworkParts) (ms : Membership P S) (lost : As → List Lost) where
   out_empty : (at : As) (to : Peer) (f : Flow) → is_out_empty_at P S n show at to (state_of ms f) ≡ is_empty (queue_at at to f)

@@ -89,6 +89,12 @@ both true b e = (refl, e)
 both false b e = cc
 
 -- a message that goes into a queue is one that was put there
+pub peer_is : (p q : Peer) → same_peer p q ≡ true → p ≡ q
+peer_is (Outside i) (Outside j) e = ap Outside (eqb-true i j e)
+peer_is (Outside i) (Inner b) e = cc
+peer_is (Inner a) (Outside j) e = cc
+peer_is (Inner a) (Inner b) e = ap Inner (as_is a b e)
+
 pub into_is : (a at : As) (q to : Peer) (m : Bytes) → goes_into a q (sent_of at to m) ≡ true → (f : Flow) → (room_at a q f ≡ room_at at to f) × (queue_at a q f ≡ queue_at at to f) × (has_queue q f ≡ has_queue to f)
 into_is a at (Outside j) (Outside i) m e f =
     let is : i ≡ j = eqb-true i j e in

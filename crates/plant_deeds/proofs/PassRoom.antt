@@ -22,7 +22,7 @@ use Rattle.plant_members.specs.Membership.{Membership}
 use Rattle.plant_members.specs.Owed.{owed, is_peer, pending_in}
 use Rattle.plant_deeds.specs.Rooms.{IsRoomy, is_live, is_talking, own_most}
 use Rattle.plant_deeds.specs.Giving.{PutsAll, RoomToPut, OnlyGrows, KeepsForLetters, RoomToGive, put_all, is_own, own_words}
-use Rattle.plant_deeds.proofs.GoLaws.{as_is}
+use Rattle.plant_deeds.proofs.GoLaws.{as_is, peer_is}
 use Rattle.plant_deeds.proofs.GiveLaws.{said_put}
 use Rattle.plant_deeds.proofs.LetterLaws.{keeps_grown}
 
@@ -89,12 +89,6 @@ owner n f a at (Inner c) s e from own live = sym from ∙ as_is s.from a (into_p
 nothing : (b : Bool) → cond {A = ℕ} b 0 0 ≡ 0
 nothing true = refl
 nothing false = refl
-
-peer_is : (r r' : Peer) → same_peer r r' ≡ true → r ≡ r'
-peer_is (Outside i) (Outside j) e = ap Outside (eqb-true i j e)
-peer_is (Outside i) (Inner b) e = cc
-peer_is (Inner b) (Outside i) e = cc
-peer_is (Inner b) (Inner c) e = ap Inner (as_is b c e)
 
 -- ---- room that is no less
 

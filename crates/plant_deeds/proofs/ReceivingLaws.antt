@@ -1,5 +1,5 @@
 -- A member is given the first that waits for it: what is left then, and that this is the event of the model.
-use Rattle.std.proofs.Common.{◌≡◌, ◌⊎◌, ◌≤◌, ℕ, ◌+◌, ◌*◌, Bool, true, false, not, cond, Option, Some, None, Ok, List, [], ◌∷◌, length, ◌==◌, drop, refl, ap, sym, subst, ◌∙◌, arith, inl, inr, is_some}
+use Rattle.std.proofs.Common.{◌≡◌, ◌⊎◌, ◌≤◌, ℕ, Bool, true, false, not, cond, Option, Some, None, Ok, List, [], ◌∷◌, ◌==◌, drop, refl, ap, sym, subst, ◌∙◌, arith, inl, inr, is_some}
 use Rattle.std.specs.Prelude.{slice_get}
 use Rattle.std.proofs.lemmas.Bool.{cases_Bool, eqb-true}
 use Rattle.std.specs.Option.{option_map}
@@ -15,10 +15,10 @@ use Rattle.pcep_session.specs.declared.state.State.{State as Session}
 use Rattle.pcep_session.specs.Table.{Turn, turn_of}
 use Rattle.plant_queues.specs.declared.sent.Sent.{Sent}
 use Rattle.plant_text.specs.declared.settings.NetworkParts.{NetworkParts}
-use Rattle.plant_text.specs.Settings.{line, lines, has_line, is_linked}
+use Rattle.plant_text.specs.Settings.{line, lines, has_line}
 use Rattle.plant_traffic.specs.plant_sessions.Rooms.{Grows}
 use Rattle.plant_members.specs.plant_model.declared.outcome.Outcome.TheVariants.{Done}
-use Rattle.plant_members.specs.plant_model.declared.outcome.Refused.TheVariants.{NoSuchPeer, NothingToCarry}
+use Rattle.plant_members.specs.plant_model.declared.outcome.Refused.TheVariants.{NoSuchPeer}
 use Rattle.plant_members.specs.plant_model.declared.output.Lost.{Lost}
 use Rattle.plant_members.specs.plant_model.Names.{set_number, set_pair}
 use Rattle.plant_members.specs.plant_model.RealWire.{wire}
@@ -37,7 +37,7 @@ use Rattle.plant_members.specs.Membership.{AreJoined, Membership, is_member}
 use Rattle.plant_members.specs.Owed.{asked_in}
 use Rattle.plant_deeds.specs.Passing.{IsOf}
 use Rattle.plant_deeds.specs.Peers.{IsEnd, IsPlaced, acts_at, breaks_by, input_at, receive_at}
-use Rattle.plant_deeds.specs.Rooms.{IsRoomy, is_live, is_talking, own_most}
+use Rattle.plant_deeds.specs.Rooms.{IsRoomy, is_talking, own_most}
 use Rattle.plant_deeds.specs.Roomy.{KeepsOn}
 use Rattle.plant_deeds.specs.Standing.{IsAt, here, Goes, state_of}
 use Rattle.plant_deeds.specs.Stepping.{Receives, Steps}
@@ -251,7 +251,7 @@ taking n x at to as' next ms made cleared f end member steps of roomy grows clea
   drops = drops;
 }
 
-module _ {P : Type 0} {S : Type 0} (show : S → List Hop) (n : NetworkParts) (at : As) (to : Peer) (as' : List Action) (next : Session) (ms : Membership P S) (start made f : Flow) (x : Taking n at to as' next ms start made f) where
+module _ {P : Type 0} {S : Type 0} (show : S → List Hop) {n : NetworkParts} {at : As} {to : Peer} {as' : List Action} {next : Session} {ms : Membership P S} {start made f : Flow} (x : Taking n at to as' next ms start made f) where
   taken : Gone at to x.cleared f
   taken = gone at to x.cleared f x.drops
 
@@ -310,7 +310,7 @@ module _ {P : Type 0} {S : Type 0} (show : S → List Hop) (n : NetworkParts) (a
 
 -- ---- a message is passed on, and nothing else is done
 
-module _ {P : Type 0} {S : Type 0} (show : S → List Hop) (n : NetworkParts) (at : As) (to : Peer) (m : Message) (next : Session) (ms mid : Membership P S) (letters : List Sent) (start made f : Flow) (x : Taking n at to (Pass m ∷ []) next ms start made f)
+module _ {P : Type 0} {S : Type 0} (show : S → List Hop) {n : NetworkParts} {at : As} {to : Peer} {m : Message} {next : Session} {ms mid : Membership P S} {letters : List Sent} {start made f : Flow} (x : Taking n at to (Pass m ∷ []) next ms start made f)
     (is_given : IsGiven n show at to start.clock m ms mid letters) where
   stays : (is_down x.steps.session.phase ≡ false) × (is_down next.phase ≡ false)
   stays =
@@ -321,19 +321,19 @@ module _ {P : Type 0} {S : Type 0} (show : S → List Hop) (n : NetworkParts) (a
 
   pub passing : RoomToGive n at to (asked_in m) letters ms made → Passing n at to (asked_in m) letters ms mid start made (set_session_at at to next f)
   passing room =
-      let left = taken show n at to (Pass m ∷ []) next ms start made f x in
+      let left = taken show x in
       let kept = session_keeps at to next f in
-      let before = same show n at to (Pass m ∷ []) next ms start made f x in
+      let before = same show x in
       record {
         roomy = x.roomy;
         own = own_is n start made x.of x.grows;
         grows = x.grows;
         room = room;
         from = from_is show n at to m ms mid letters start.clock is_given;
-        no_less = no_less_then made f (set_session_at at to next f) (less show n at to (Pass m ∷ []) next ms start made f x) (session_no_less at to next f);
+        no_less = no_less_then made f (set_session_at at to next f) (less show x) (session_no_less at to next f);
         said = subst (Grows made.room.said) (sym (kept.1 ∙ left.room)) (clear_said_grows made x.cleared x.clears);
         none = kept.0 ∙ left.said ∙ ap (λ (y : Flow). y.said) before;
-        talking = λ j. session_talks at to x.steps.session next f (session_there show n at to (Pass m ∷ []) next ms start made f x) (stays.1 ∙ sym stays.0) j ∙ left.talking j ∙ ap (λ (y : Flow). is_talking (y.accesses j).connection) before;
+        talking = λ j. session_talks at to x.steps.session next f (session_there show x) (stays.1 ∙ sym stays.0) j ∙ left.talking j ∙ ap (λ (y : Flow). is_talking (y.accesses j).connection) before;
         live = live_at n start at to x.steps.session x.end x.of x.steps.there stays.0;
         owed_more = owed_is show n at to m ms mid letters start.clock is_given;
         pending_more = pending_is show n at to m ms mid letters start.clock is_given;
@@ -349,11 +349,11 @@ module _ {P : Type 0} {S : Type 0} (show : S → List Hop) (n : NetworkParts) (a
   passed_goes n1 n2 ms1 ms2 lost lost1 lost2 f4 f5 same_n same_ms same_lost f4_is goes_if =
       let after = here n2 ms2 lost2 f5 in
       let gives = λ (k : NetworkParts). deeds.give P S wire k show at to m in
-      let clock : f4.clock ≡ start.clock = ap (λ (y : Flow). y.clock) f4_is ∙ (session_keeps at to next f).2 ∙ (taken show n at to (Pass m ∷ []) next ms start made f x).clock ∙ ap (λ (y : Flow). y.clock) (same show n at to (Pass m ∷ []) next ms start made f x) in
+      let clock : f4.clock ≡ start.clock = ap (λ (y : Flow). y.clock) f4_is ∙ (session_keeps at to next f).2 ∙ (taken show x).clock ∙ ap (λ (y : Flow). y.clock) (same show x) in
       let goes = goes_if
       (subst (λ (k : NetworkParts). IsGiven k show at to f4.clock m ms1 mid letters) (sym same_n)
       (subst (λ (y : Membership P S). IsGiven n show at to f4.clock m y mid letters) (sym same_ms) (subst (λ (t : ℕ). IsGiven n show at to t m ms mid letters) (sym clock) is_given))) in
       let here_goes : Goes gives (here n ms lost f4) after =
       subst (λ (l : As → List Lost). Goes gives (here n ms l f4) after) same_lost (subst (λ (y : Membership P S). Goes gives (here n y lost1 f4) after) same_ms (subst (λ (k : NetworkParts). Goes gives (here k ms1 lost1 f4) after) same_n goes)) in
-      input_stays show n ms lost (input_of wire x.steps.item) f at to x.steps.session next false (Pass m ∷ []) f4 after (end_there show n at to (Pass m ∷ []) next ms start made f x) (session_there show n at to (Pass m ∷ []) next ms start made f x)
+      input_stays show n ms lost (input_of wire x.steps.item) f at to x.steps.session next false (Pass m ∷ []) f4 after (end_there show x) (session_there show x)
       x.steps.asks x.steps.becomes (no_tick x.steps.item) (calm to) f4_is (goes_by gives (λ k. acts_at P S k show at to false (Pass m ∷ [])) (here n ms lost f4) after (λ k g. refl) here_goes)

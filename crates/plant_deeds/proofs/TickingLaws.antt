@@ -1,7 +1,8 @@
 -- The inputs of a tick one after the other, with the words that they use.
-use Rattle.std.proofs.Common.{◌≡◌, ◌≤◌, ◌<◌, ℕ, zero, suc, ◌+◌, ◌*◌, Bool, true, false, cond, Some, None, List, [], ◌∷◌, ◌++◌, length, take, refl, ap, sym, subst, ◌∙◌, arith}
+use Rattle.std.proofs.Common.{◌≡◌, ◌≤◌, ◌<◌, ◌%◌, ℕ, zero, suc, ◌+◌, ◌*◌, Bool, true, false, cond, Some, None, List, [], ◌∷◌, ◌++◌, length, take, refl, ap, sym, subst, ◌∙◌, arith}
 use Rattle.std.specs.Prelude.{slice_get, nat_lt}
 use Rattle.std.proofs.lemmas.Bool.{eqb-false}
+use Rattle.std.proofs.Math.Nat.{mod-eq_of_lt}
 use Rattle.std.proofs.lemmas.Bool.Decides.{nat_tests}
 use Rattle.dom_base.specs.declared.names.As.{As}
 use Rattle.dom_base.specs.declared.names.Tick.{Tick}
@@ -136,6 +137,10 @@ module _ {P : Type 0} {S : Type 0} where
 
   pub line_linked : {step : NetworkParts → Going P S → Going P S} {a b : Here P S} (k : ℕ) (p : As × As) → Goes step a b → IsOf a.network a.flow → Some (line_of p) ≡ slice_get b.flow.lines k → has_line p.0 p.1 (lines a.network) ≡ true
   line_linked {a = a} k p goes of is = line_found (lines a.network) k (line_of p) (line_here k (line_of p) goes of is)
+
+-- the count of peers is one of 32 bits
+pub peers_fit : (n : NetworkParts) (f : Flow) (count : ℕ) → IsOf n f → count ≡ f.peers → length n.peers < 4294967296 → count % 4294967296 ≡ count
+peers_fit n f count of count_is few = mod-eq_of_lt (omega (arith, few, of.peers_are, count_is))
 
 -- ---- both ends of a link
 

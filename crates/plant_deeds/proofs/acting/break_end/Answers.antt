@@ -1,6 +1,5 @@
-use Rattle.std.proofs.Common.{◌≡◌, true, false, subst, sym}
+use Rattle.std.proofs.Common.{subst, sym}
 use Rattle.dom_base.specs.declared.names.Peer.{Peer}
-use Rattle.dom_base.specs.declared.names.Peer.TheVariants.{Outside, Inner}
 use Rattle.plant_traffic.specs.Carried.{flow_of}
 use Rattle.plant_deeds.specs.Acting.{RoomToBreakAt}
 use Rattle.plant_deeds.specs.Peers.{IsEnd, break_at}

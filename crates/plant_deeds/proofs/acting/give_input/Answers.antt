@@ -3,7 +3,7 @@ use Rattle.pcep_session.specs.declared.actions.Action.{Action}
 use Rattle.pcep_session.specs.declared.state.State.{State as Session}
 use Rattle.plant_traffic.specs.Carried.{flow_of}
 use Rattle.plant_deeds.specs.Acting.{FitsInput, FitsTurn}
-use Rattle.plant_deeds.proofs.InputLaws.{input_closed, may_set}
+use Rattle.plant_deeds.proofs.InputLaws.{may_set}
 use Rattle.plant_deeds.proofs.acting.give_input.Goals as goal
 
 pub step-requires-clause-sets : goal.step-requires-clause-sets

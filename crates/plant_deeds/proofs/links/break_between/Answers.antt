@@ -1,9 +1,8 @@
-use Rattle.std.proofs.Common.{◌≡◌, true, false, ap, subst, sym, ◌∙◌}
+use Rattle.std.proofs.Common.{◌≡◌, true, false, subst, sym}
 use Rattle.dom_base.specs.declared.names.As.{As}
 use Rattle.dom_base.specs.declared.names.Peer.TheVariants.{Inner}
 use Rattle.plant_text.specs.Names.{same_as}
-use Rattle.plant_text.specs.Settings.{Line, line}
-use Rattle.plant_traffic.specs.plant_layout.Lines.{line_of}
+use Rattle.plant_text.specs.Settings.{Line}
 use Rattle.plant_members.specs.plant_model.RealWire.{wire}
 use Rattle.plant_members.specs.plant_model.Deeds as deeds
 use Rattle.plant_traffic.specs.Carried.{flow_of}

@@ -8,36 +8,21 @@ use Rattle.plant_deeds.proofs.receiving.receive_acted.Goals as goal
 
 pub step-requires-clause-end : goal.step-requires-clause-end
 step-requires-clause-end g c =
-    let n = g.M.Members.network c.args.members.now in
-    let acts = listed c.args.actions in
-    let ms = g.M.Members.seen c.args.members.now in
-    let start = flow_of c.args.traffic.now in
-    let made = flow_of c.reserve_word.new.traffic in
-    let f = flow_of c.drop_first.new.self in
-    let x = taking n c.args.traffic.now c.args.at c.args.to acts c.args.session ms made (flow_of c.clear_said.new.self) f c.requires.end c.requires.member c.requires.steps c.requires.of c.requires.roomy c.reserve_word.ensures.grows c.clear_said.ensures c.drop_first.ensures in
-    end_there g.M.Members.show n c.args.at c.args.to acts c.args.session ms start made f x
+    let x = taking (g.M.Members.network c.args.members.now) c.args.traffic.now c.args.at c.args.to (listed c.args.actions) c.args.session (g.M.Members.seen c.args.members.now) (flow_of c.reserve_word.new.traffic) (flow_of c.clear_said.new.self) (flow_of c.drop_first.new.self)
+    c.requires.end c.requires.member c.requires.steps c.requires.of c.requires.roomy c.reserve_word.ensures.grows c.clear_said.ensures c.drop_first.ensures in
+    end_there g.M.Members.show x
 
 pub step-requires-clause-sets : goal.step-requires-clause-sets
 step-requires-clause-sets g c =
-    let n = g.M.Members.network c.args.members.now in
-    let acts = listed c.args.actions in
-    let ms = g.M.Members.seen c.args.members.now in
-    let start = flow_of c.args.traffic.now in
-    let made = flow_of c.reserve_word.new.traffic in
-    let f = flow_of c.drop_first.new.self in
-    let x = taking n c.args.traffic.now c.args.at c.args.to acts c.args.session ms made (flow_of c.clear_said.new.self) f c.requires.end c.requires.member c.requires.steps c.requires.of c.requires.roomy c.reserve_word.ensures.grows c.clear_said.ensures c.drop_first.ensures in
-    sets_there g.M.Members.show n c.args.at c.args.to acts c.args.session ms start made f x
+    let x = taking (g.M.Members.network c.args.members.now) c.args.traffic.now c.args.at c.args.to (listed c.args.actions) c.args.session (g.M.Members.seen c.args.members.now) (flow_of c.reserve_word.new.traffic) (flow_of c.clear_said.new.self) (flow_of c.drop_first.new.self)
+    c.requires.end c.requires.member c.requires.steps c.requires.of c.requires.roomy c.reserve_word.ensures.grows c.clear_said.ensures c.drop_first.ensures in
+    sets_there g.M.Members.show x
 
 pub step-requires-clause-fits : goal.step-requires-clause-fits
 step-requires-clause-fits g c =
-    let n = g.M.Members.network c.args.members.now in
-    let acts = listed c.args.actions in
-    let ms = g.M.Members.seen c.args.members.now in
-    let start = flow_of c.args.traffic.now in
-    let made = flow_of c.reserve_word.new.traffic in
-    let f = flow_of c.drop_first.new.self in
-    let x = taking n c.args.traffic.now c.args.at c.args.to acts c.args.session ms made (flow_of c.clear_said.new.self) f c.requires.end c.requires.member c.requires.steps c.requires.of c.requires.roomy c.reserve_word.ensures.grows c.clear_said.ensures c.drop_first.ensures in
-    acted_fits g.M.Members.show n c.args.at c.args.to acts c.args.session ms start made f x c.requires.turn (on_ok_of c.reserve_word.result c.in-Ok.field-0 c.in-Ok.is c.reserve_word.ensures.keeps)
+    let x = taking (g.M.Members.network c.args.members.now) c.args.traffic.now c.args.at c.args.to (listed c.args.actions) c.args.session (g.M.Members.seen c.args.members.now) (flow_of c.reserve_word.new.traffic) (flow_of c.clear_said.new.self) (flow_of c.drop_first.new.self)
+    c.requires.end c.requires.member c.requires.steps c.requires.of c.requires.roomy c.reserve_word.ensures.grows c.clear_said.ensures c.drop_first.ensures in
+    acted_fits g.M.Members.show x c.requires.turn (on_ok_of c.reserve_word.result c.in-Ok.field-0 c.in-Ok.is c.reserve_word.ensures.keeps)
 
 pub returns-in-Err : goal.returns-in-Err
 returns-in-Err g c = record {
@@ -51,12 +36,7 @@ returns-in-Err g c = record {
 
 pub returns-in-Ok : goal.returns-in-Ok
 returns-in-Ok g c =
-    let n = g.M.Members.network c.args.members.now in
-    let acts = listed c.args.actions in
-    let ms = g.M.Members.seen c.args.members.now in
-    let start = flow_of c.args.traffic.now in
-    let made = flow_of c.reserve_word.new.traffic in
-    let f = flow_of c.drop_first.new.self in
-    let x = taking n c.args.traffic.now c.args.at c.args.to acts c.args.session ms made (flow_of c.clear_said.new.self) f c.requires.end c.requires.member c.requires.steps c.requires.of c.requires.roomy c.reserve_word.ensures.grows c.clear_said.ensures c.drop_first.ensures in
-    let goes = c.step.ensures x.steps.session (input g.M.Members.show n c.args.at c.args.to acts c.args.session ms start made f x) (session_there g.M.Members.show n c.args.at c.args.to acts c.args.session ms start made f x) x.steps.asks x.steps.becomes (no_tick x.steps.item) in
-    received g.M.Members.show n c.args.at c.args.to acts c.args.session ms start made f x tt goes c.requires.none (acted_roomy g.M.Members.show n c.args.at c.args.to acts c.args.session ms start made f x c.requires.turn (on_ok_of c.reserve_word.result c.in-Ok.field-0 c.in-Ok.is c.reserve_word.ensures.keeps) goes)
+    let x = taking (g.M.Members.network c.args.members.now) c.args.traffic.now c.args.at c.args.to (listed c.args.actions) c.args.session (g.M.Members.seen c.args.members.now) (flow_of c.reserve_word.new.traffic) (flow_of c.clear_said.new.self) (flow_of c.drop_first.new.self)
+    c.requires.end c.requires.member c.requires.steps c.requires.of c.requires.roomy c.reserve_word.ensures.grows c.clear_said.ensures c.drop_first.ensures in
+    let goes = c.step.ensures x.steps.session (input g.M.Members.show x) (session_there g.M.Members.show x) x.steps.asks x.steps.becomes (no_tick x.steps.item) in
+    received g.M.Members.show x tt goes c.requires.none (acted_roomy g.M.Members.show x c.requires.turn (on_ok_of c.reserve_word.result c.in-Ok.field-0 c.in-Ok.is c.reserve_word.ensures.keeps) goes)

@@ -24,49 +24,40 @@ returns-in-Err g c = record {
 
 pub set_session-requires : goal.set_session-requires
 set_session-requires g c =
-    let n = g.M.Members.network c.args.members.now in
-    let acts = Pass c.args.message ∷ [] in
     let ms = g.M.Members.seen c.args.members.now in
-    let start = flow_of c.args.traffic.now in
-    let made = flow_of c.prepare.new.traffic in
-    let f = flow_of c.drop_first.new.self in
-    let x = taking n c.args.traffic.now c.args.at c.args.to acts c.args.session ms made (flow_of c.clear_said.new.self) f c.requires.end c.requires.member c.requires.steps c.requires.of c.requires.roomy c.prepare.ensures.grows c.clear_said.ensures c.drop_first.ensures in
-    sets_there g.M.Members.show n c.args.at c.args.to acts c.args.session ms start made f x
+    let x = taking (g.M.Members.network c.args.members.now) c.args.traffic.now c.args.at c.args.to (Pass c.args.message ∷ []) c.args.session ms (flow_of c.prepare.new.traffic) (flow_of c.clear_said.new.self) (flow_of c.drop_first.new.self)
+    c.requires.end c.requires.member c.requires.steps c.requires.of c.requires.roomy c.prepare.ensures.grows c.clear_said.ensures c.drop_first.ensures in
+    sets_there g.M.Members.show x
 
 pub perform-requires-clause-room : goal.perform-requires-clause-room
 perform-requires-clause-room g c =
     let n = g.M.Members.network c.args.members.now in
-    let acts = Pass c.args.message ∷ [] in
     let ms = g.M.Members.seen c.args.members.now in
-    let start = flow_of c.args.traffic.now in
-    let made = flow_of c.prepare.new.traffic in
-    let f = flow_of c.drop_first.new.self in
-    let x = taking n c.args.traffic.now c.args.at c.args.to acts c.args.session ms made (flow_of c.clear_said.new.self) f c.requires.end c.requires.member c.requires.steps c.requires.of c.requires.roomy c.prepare.ensures.grows c.clear_said.ensures c.drop_first.ensures in
+    let x = taking (g.M.Members.network c.args.members.now) c.args.traffic.now c.args.at c.args.to (Pass c.args.message ∷ []) c.args.session ms (flow_of c.prepare.new.traffic) (flow_of c.clear_said.new.self) (flow_of c.drop_first.new.self)
+    c.requires.end c.requires.member c.requires.steps c.requires.of c.requires.roomy c.prepare.ensures.grows c.clear_said.ensures c.drop_first.ensures in
     let ok = c.in-Ok in
     let mid = g.M.Members.next c.prepare.new.members ok.prepared.plan in
     let letters = ok.prepared.letters.kept in
-    let last = set_session_at c.args.at c.args.to c.args.session f in
-    let passes = passing g.M.Members.show n c.args.at c.args.to c.args.message c.args.session ms mid letters start made f x ok.ensures.given ok.ensures.room in
-    subst (RoomToPut letters) (sym c.set_session.ensures) (pass_room n c.args.at c.args.to (asked_in c.args.message) letters ms mid start made last passes)
+    let last = set_session_at c.args.at c.args.to c.args.session (flow_of c.drop_first.new.self) in
+    let passes = passing g.M.Members.show x ok.ensures.given ok.ensures.room in
+    subst (RoomToPut letters) (sym c.set_session.ensures) (pass_room n c.args.at c.args.to (asked_in c.args.message) letters ms mid (flow_of c.args.traffic.now) (flow_of c.prepare.new.traffic) last passes)
 
 pub returns-in-Ok : goal.returns-in-Ok
 returns-in-Ok g c =
     let n = g.M.Members.network c.args.members.now in
-    let acts = Pass c.args.message ∷ [] in
     let ms = g.M.Members.seen c.args.members.now in
-    let start = flow_of c.args.traffic.now in
-    let made = flow_of c.prepare.new.traffic in
-    let f = flow_of c.drop_first.new.self in
-    let x = taking n c.args.traffic.now c.args.at c.args.to acts c.args.session ms made (flow_of c.clear_said.new.self) f c.requires.end c.requires.member c.requires.steps c.requires.of c.requires.roomy c.prepare.ensures.grows c.clear_said.ensures c.drop_first.ensures in
+    let x = taking (g.M.Members.network c.args.members.now) c.args.traffic.now c.args.at c.args.to (Pass c.args.message ∷ []) c.args.session ms (flow_of c.prepare.new.traffic) (flow_of c.clear_said.new.self) (flow_of c.drop_first.new.self)
+    c.requires.end c.requires.member c.requires.steps c.requires.of c.requires.roomy c.prepare.ensures.grows c.clear_said.ensures c.drop_first.ensures in
     let ok = c.in-Ok in
     let mid = g.M.Members.next c.prepare.new.members ok.prepared.plan in
     let letters = ok.prepared.letters.kept in
-    let last = set_session_at c.args.at c.args.to c.args.session f in
-    let passes = passing g.M.Members.show n c.args.at c.args.to c.args.message c.args.session ms mid letters start made f x ok.ensures.given ok.ensures.room in
+    let last = set_session_at c.args.at c.args.to c.args.session (flow_of c.drop_first.new.self) in
+    let passes = passing g.M.Members.show x ok.ensures.given ok.ensures.room in
     let puts = subst (λ (y : Flow). PutsAll letters y (flow_of c.perform.new.traffic)) c.set_session.ensures c.perform.ensures.puts in
-    received g.M.Members.show n c.args.at c.args.to acts c.args.session ms start made f x tt
-    (passed_goes g.M.Members.show n c.args.at c.args.to c.args.message c.args.session ms mid letters start made f x ok.ensures.given (g.M.Members.network c.prepare.new.members) (g.M.Members.network c.perform.new.members)
+    received g.M.Members.show x tt
+    (passed_goes g.M.Members.show x ok.ensures.given (g.M.Members.network c.prepare.new.members) (g.M.Members.network c.perform.new.members)
     (g.M.Members.seen c.prepare.new.members) (g.M.Members.seen c.perform.new.members) (g.M.Members.lost c.args.members.now) (g.M.Members.lost c.prepare.new.members) (g.M.Members.lost c.perform.new.members)
     (flow_of c.set_session.new.self) (flow_of c.perform.new.traffic) c.prepare.ensures.network c.prepare.ensures.seen c.prepare.ensures.lost c.set_session.ensures (c.perform.ensures.goes c.args.at c.args.to c.args.message))
     c.requires.none
-    (subst (λ y. IsRoomy n y (flow_of c.perform.new.traffic)) (sym c.perform.ensures.seen) (pass_roomy n c.args.at c.args.to (asked_in c.args.message) letters ms mid start made last passes (flow_of c.perform.new.traffic) puts))
+    (subst (λ y. IsRoomy n y (flow_of c.perform.new.traffic)) (sym c.perform.ensures.seen)
+    (pass_roomy n c.args.at c.args.to (asked_in c.args.message) letters ms mid (flow_of c.args.traffic.now) (flow_of c.prepare.new.traffic) last passes (flow_of c.perform.new.traffic) puts))

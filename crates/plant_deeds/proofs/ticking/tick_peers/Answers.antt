@@ -1,5 +1,4 @@
-use Rattle.std.proofs.Common.{◌≡◌, ◌<◌, ◌%◌, ℕ, true, sym, subst, arith, add-one, length}
-use Rattle.std.proofs.Math.Nat.{mod-eq_of_lt}
+use Rattle.std.proofs.Common.{◌≡◌, ◌<◌, ℕ, true, sym, subst, arith, add-one, length}
 use Rattle.dom_base.specs.declared.names.As.{As}
 use Rattle.plant_text.specs.declared.settings.NetworkParts.{NetworkParts}
 use Rattle.plant_members.specs.plant_model.Deeds.{element_of}
@@ -8,15 +7,14 @@ use Rattle.plant_members.specs.Membership.{is_member}
 use Rattle.plant_deeds.specs.Standing.{here}
 use Rattle.plant_deeds.proofs.RoomyNeeds.{fits_tick}
 use Rattle.plant_deeds.proofs.TickLaws.{peers_to}
-use Rattle.plant_deeds.proofs.TickingLaws.{Until, peer_more, peer_uses, peers_end, room_left}
+use Rattle.plant_deeds.proofs.TickingLaws.{Until, peer_more, peer_uses, peers_end, peers_fit, room_left}
 use Rattle.plant_deeds.proofs.ticking.tick_peers.Goals as goal
 
 pub give_input-requires-clause-fits : goal.give_input-requires-clause-fits
 give_input-requires-clause-fits g c =
     let n = g.M.Members.network c.args.members.now in
     let k = c.loop-peer.peer in
-    let few : c.peers-count.result < 4294967296 = omega (arith, c.requires.few, c.requires.of.peers_are, c.peers-count.ensures) in
-    let all : c.peers-count.result % 4294967296 ≡ c.peers-count.result = mod-eq_of_lt few in
+    let all = peers_fit n (flow_of c.args.traffic.now) c.peers-count.result c.requires.of c.peers-count.ensures c.requires.few in
     let below : k < length n.peers = omega (arith, c.loop-peer-test.true, all, c.requires.of.peers_are, c.peers-count.ensures) in
     let member = subst (λ (m : NetworkParts). is_member m (element_of m k) ≡ true) (sym c.loop-peer.invariant.uses.goes.network) (c.requires.joined.peers k below) in
     fits_tick (g.M.Members.network c.loop-peer.members) 1 k c.element_of-at.result c.args.now (g.M.Members.seen c.loop-peer.members) (flow_of c.loop-peer.traffic) c.element_of-at.ensures
@@ -27,8 +25,7 @@ pub give_input-requires-clause-member : goal.give_input-requires-clause-member
 give_input-requires-clause-member g c =
     let n = g.M.Members.network c.args.members.now in
     let k = c.loop-peer.peer in
-    let few : c.peers-count.result < 4294967296 = omega (arith, c.requires.few, c.requires.of.peers_are, c.peers-count.ensures) in
-    let all : c.peers-count.result % 4294967296 ≡ c.peers-count.result = mod-eq_of_lt few in
+    let all = peers_fit n (flow_of c.args.traffic.now) c.peers-count.result c.requires.of c.peers-count.ensures c.requires.few in
     let below : k < length n.peers = omega (arith, c.loop-peer-test.true, all, c.requires.of.peers_are, c.peers-count.ensures) in
     subst (λ (a : As). is_member (g.M.Members.network c.loop-peer.members) a ≡ true) (sym c.element_of-at.ensures)
     (subst (λ (m : NetworkParts). is_member m (element_of m k) ≡ true) (sym c.loop-peer.invariant.uses.goes.network) (c.requires.joined.peers k below))
@@ -40,8 +37,7 @@ loop-peer-preserved g c =
     let start = here n (g.M.Members.seen c.args.members.now) (g.M.Members.lost c.args.members.now) (flow_of c.args.traffic.now) in
     let now = here (g.M.Members.network c.loop-peer.members) (g.M.Members.seen c.loop-peer.members) (g.M.Members.lost c.loop-peer.members) (flow_of c.loop-peer.traffic) in
     let then = here (g.M.Members.network c.give_input.new.members) (g.M.Members.seen c.give_input.new.members) (g.M.Members.lost c.give_input.new.members) (flow_of c.give_input.new.traffic) in
-    let few : c.peers-count.result < 4294967296 = omega (arith, c.requires.few, c.requires.of.peers_are, c.peers-count.ensures) in
-    let all : c.peers-count.result % 4294967296 ≡ c.peers-count.result = mod-eq_of_lt few in
+    let all = peers_fit n (flow_of c.args.traffic.now) c.peers-count.result c.requires.of c.peers-count.ensures c.requires.few in
     let below : k < length n.peers = omega (arith, c.loop-peer-test.true, all, c.requires.of.peers_are, c.peers-count.ensures) in
     let member = subst (λ (m : NetworkParts). is_member m (element_of m k) ≡ true) (sym c.loop-peer.invariant.uses.goes.network) (c.requires.joined.peers k below) in
     subst (λ (j : ℕ). Until (λ m. peers_to g.M.Members.show m c.args.now j) j j (length n.peers) start then) (sym (add-one k))
@@ -50,8 +46,7 @@ loop-peer-preserved g c =
 pub returns : goal.returns
 returns g c =
     let n = g.M.Members.network c.args.members.now in
-    let few : c.peers-count.result < 4294967296 = omega (arith, c.requires.few, c.requires.of.peers_are, c.peers-count.ensures) in
-    let all : c.peers-count.result % 4294967296 ≡ c.peers-count.result = mod-eq_of_lt few in
+    let all = peers_fit n (flow_of c.args.traffic.now) c.peers-count.result c.requires.of c.peers-count.ensures c.requires.few in
     let end : c.loop-peer.peer ≡ length n.peers = omega (arith, c.loop-peer-test.false, c.loop-peer.invariant.within, all, c.requires.of.peers_are, c.peers-count.ensures) in
     peers_end g.M.Members.show c.args.now c.loop-peer.peer
     (here n (g.M.Members.seen c.args.members.now) (g.M.Members.lost c.args.members.now) (flow_of c.args.traffic.now))
