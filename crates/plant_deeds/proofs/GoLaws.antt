@@ -21,10 +21,21 @@ use Rattle.plant_members.specs.plant_model.Deeds.{Going, on_connection, with_mor
 use Rattle.plant_members.specs.plant_model.Element.{upped}
 use Rattle.plant_members.specs.plant_model.Parent as parent
 use Rattle.plant_traffic.specs.plant_sessions.Ends.{own_bytes}
-use Rattle.plant_traffic.specs.Flow.{Flow, Room, Puts, SameFlow, put_flow, put_at, room_at, queue_at, set_room, out_of}
+use Rattle.plant_traffic.specs.Flow.{Flow, Room, Puts, change_access, SameFlow, put_flow, put_at, room_at, queue_at, set_room, out_of}
 use Rattle.plant_deeds.specs.Accounts.{Accounts, count_into, bytes_into, goes_into, has_queue}
 use Rattle.plant_members.specs.Membership.{Membership, raised}
 use Rattle.plant_deeds.specs.Standing.{IsAt, Here, here, Goes, state_of}
+
+-- what is seen of each connection, where one changes in what is not seen
+pub access_same : {A : Type 0} (Q : Option Connection → A) (h : Connection → Connection) (i j : ℕ) (f : Flow) → ((x : Connection) → Q (Some (h x)) ≡ Q (Some x)) → Q ((change_access i h f).accesses j).connection ≡ Q (f.accesses j).connection
+access_same Q h i j f same = elim (cases_Bool (i == j)) [
+  | inl hit ↦ ap (λ (b : Bool). Q (cond b (on_connection h (f.accesses i)) (f.accesses j)).connection) hit ∙ one (f.accesses i).opened (f.accesses i).connection ∙ ap (λ (k : ℕ). Q (f.accesses k).connection) (eqb-true i j hit)
+  | inr miss ↦ ap (λ (b : Bool). Q (cond b (on_connection h (f.accesses i)) (f.accesses j)).connection) miss
+]
+  where
+    one : (o : ℕ) (c : Option Connection) → Q (on_connection h (record { opened = o; connection = c })).connection ≡ Q c
+    one o None = refl
+    one o (Some x) = same x
 
 pub accounts_same : (f : Flow) → Accounts f f
 accounts_same f = record {
@@ -78,6 +89,12 @@ both true b e = (refl, e)
 both false b e = cc
 
 -- a message that goes into a queue is one that was put there
+pub peer_is : (p q : Peer) → same_peer p q ≡ true → p ≡ q
+peer_is (Outside i) (Outside j) e = ap Outside (eqb-true i j e)
+peer_is (Outside i) (Inner b) e = cc
+peer_is (Inner a) (Outside j) e = cc
+peer_is (Inner a) (Inner b) e = ap Inner (as_is a b e)
+
 pub into_is : (a at : As) (q to : Peer) (m : Bytes) → goes_into a q (sent_of at to m) ≡ true → (f : Flow) → (room_at a q f ≡ room_at at to f) × (queue_at a q f ≡ queue_at at to f) × (has_queue q f ≡ has_queue to f)
 into_is a at (Outside j) (Outside i) m e f =
     let is : i ≡ j = eqb-true i j e in
@@ -271,15 +288,18 @@ module _ {P : Type 0} {S : Type 0} where
   }
 
   -- the same deed, said otherwise
-  pub goes_by : (f h : NetworkParts → Going P S → Going P S) (a b : Here P S) → ((k : NetworkParts) (g : Going P S) → f k g ≡ h k g) → Goes f a b → Goes h a b
-  goes_by f h a b same x = record {
+  pub goes_as : (f h : NetworkParts → Going P S → Going P S) (a b : Here P S) → ((g : Going P S) → IsAt g a.seen a.flow → f a.network g ≡ h a.network g) → Goes f a b → Goes h a b
+  goes_as f h a b same x = record {
     network = x.network;
     lost = x.lost;
     lines = x.lines;
     peers = x.peers;
     room = x.room;
-    goes = λ g is. subst (λ (y : Going P S). IsAt y b.seen b.flow) (same a.network g) (x.goes g is);
+    goes = λ g is. subst (λ (y : Going P S). IsAt y b.seen b.flow) (same g is) (x.goes g is);
   }
+
+  pub goes_by : (f h : NetworkParts → Going P S → Going P S) (a b : Here P S) → ((k : NetworkParts) (g : Going P S) → f k g ≡ h k g) → Goes f a b → Goes h a b
+  goes_by f h a b same = goes_as f h a b (λ g is. same a.network g)
 
   pub goes_three : (f h j all : NetworkParts → Going P S → Going P S) (a b c d : Here P S) → ((k : NetworkParts) (g : Going P S) → j k (h k (f k g)) ≡ all k g) → Goes f a b → Goes h b c → Goes j c d → Goes all a d
   goes_three f h j all a b c d same x y z =

@@ -31,8 +31,7 @@ pub mod PendingLaws
 pub mod TickLaws
 pub mod OpeningLaws
 pub mod FeedLaws
-pub mod TakingLaws
-pub mod CarryingLaws
+pub mod ReceivingLaws
 pub mod TickingLaws
 pub mod TickKeys
 pub mod QuietLaws

@@ -1,5 +1,5 @@
 -- Events by which requests are lost, a break and a shut: there is room for them, and the room that is kept stays so.
-use Rattle.std.proofs.Common.{◌≡◌, ◌≤◌, ◌<◌, ℕ, is_some, Bool, true, false, cond, nat_lt, Option, Some, None, List, [], ◌∷◌, length, refl, sym, subst, arith}
+use Rattle.std.proofs.Common.{◌≡◌, ◌≤◌, ◌<◌, ℕ, is_some, true, false, Option, Some, None, List, [], ◌∷◌, length, refl, sym, subst, arith}
 use Rattle.std.specs.Prelude.{slice_get}
 use Rattle.std.proofs.lemmas.Option.{slice_get_within}
 use Rattle.dom_base.specs.declared.names.As.{As}
@@ -23,7 +23,7 @@ use Rattle.plant_deeds.specs.Rooms.{IsRoomy, own_most}
 use Rattle.plant_deeds.specs.Standing.{Goes, here, state_of}
 use Rattle.plant_deeds.specs.Telling.{RoomToTell}
 use Rattle.plant_deeds.proofs.EventLaws.{begins_at}
-use Rattle.plant_deeds.proofs.RoomyNeeds.{breaks_room, line_back, tells_room}
+use Rattle.plant_deeds.proofs.RoomyNeeds.{breaks_room, line_back, line_either, tells_room}
 use Rattle.plant_deeds.proofs.RoomySteps.{begins_keeps, ends_roomy}
 use Rattle.plant_deeds.proofs.RoomyEvents.{break_keeps}
 use Rattle.plant_deeds.proofs.RoomyOpens.{shut_keeps}
@@ -36,13 +36,8 @@ some_lines a b (x ∷ xs) e = omega arith
 some_words : (n : NetworkParts) (a b : As) → has_line a b (lines n) ≡ true → 2 ≤ own_most n
 some_words n a b e = omega (arith, some_lines a b (lines n) e)
 
-pub ends_linked : (a b l u : As) (xs : List Line) → l ≡ (line a b).lower → u ≡ (line a b).upper → has_line a b xs ≡ true → has_line l u xs ≡ true
-ends_linked a b l u xs lower upper e =
-    subst (λ (x : As). has_line x u xs ≡ true) (sym lower) (subst (λ (x : As). has_line (line a b).lower x xs ≡ true) (sym upper) (go (nat_lt b.0 a.0)))
-  where
-    go : (c : Bool) → has_line (cond {A = Line} c (record { lower = b; upper = a }) (record { lower = a; upper = b })).lower (cond {A = Line} c (record { lower = b; upper = a }) (record { lower = a; upper = b })).upper xs ≡ true
-    go true = line_back a b xs e
-    go false = e
+pub ends_linked : (a b : As) (xs : List Line) → has_line a b xs ≡ true → has_line (line a b).lower (line a b).upper xs ≡ true
+ends_linked a b xs e = line_either a b (λ x. has_line x.lower x.upper xs ≡ true) (line_back a b xs e) e
 
 -- an outside peer that is open is one of the network
 pub open_below : (x : Carried) (i : ℕ) → is_some ((flow_of x).accesses i).connection ≡ true → i < (flow_of x).peers

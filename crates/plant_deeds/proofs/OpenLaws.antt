@@ -24,7 +24,7 @@ use Rattle.plant_members.specs.plant_model.Deeds as deeds
 use Rattle.plant_members.specs.plant_model.Deeds.{Going, element_of, our_offer}
 use Rattle.plant_members.specs.plant_model.Events as events
 use Rattle.plant_traffic.specs.plant_sessions.Ends.{just_open}
-use Rattle.plant_traffic.specs.Flow.{ClearsSaid, Flow, GrowsAt, KeepsRoomAt, just_opened, set_access, set_room}
+use Rattle.plant_traffic.specs.Flow.{ClearsSaid, Flow, GrowsAt, KeepsRoomAt, just_opened, session_at, set_access, set_room}
 use Rattle.plant_text.specs.Names.{parent_as}
 use Rattle.plant_deeds.specs.Acting.{FitsInput}
 use Rattle.plant_deeds.specs.Happening.{IsDone}
@@ -34,6 +34,7 @@ use Rattle.plant_deeds.specs.Rooms.{IsRoomy, emptied, is_live, is_talking, own_m
 use Rattle.plant_deeds.specs.Roomy.{KeepsOn}
 use Rattle.plant_deeds.specs.Standing.{Goes, IsAt, here, state_of}
 use Rattle.plant_deeds.proofs.GoLaws.{self}
+use Rattle.plant_deeds.proofs.RoomyNeeds.{live_outside}
 use Rattle.plant_deeds.proofs.RoomySteps.{emptied_keeps, ends_roomy}
 use Rattle.plant_deeds.proofs.RoomyOpens.{connect_keeps, open_keeps}
 
@@ -102,25 +103,22 @@ module _ {P : Type 0} {S : Type 0} (show : S → List Hop) (n : NetworkParts) wh
       (emptied_keeps n ms f roomy))
 
   -- the Open has room
-  pub fits_open : (i holder sid : ℕ) (t : Tick) (ms : Membership P S) (f : Flow) → (f.accesses i).connection ≡ Some (just_open holder sid t) → 1 ≤ own_most n → KeepsOn (own_most n) n ms f →
-      FitsInput (element_of n i) (Outside i) input.Begin (option_map (λ (x : Connection). x.session) (f.accesses i).connection) ms f
-  fits_open i holder sid t ms f open' some keeps =
-      let room = (keeps.answers.live e (Outside i) live).last_words in
-      subst (λ (c : Option Connection). FitsInput e (Outside i) input.Begin (option_map (λ (x : Connection). x.session) c) ms f) (sym open') (record {
-        turn = tt;
-        room = record {
-          there = record { messages = omega (arith, room.messages); bytes = omega (arith, room.bytes) };
-          none = refl;
-          elsewhere = λ q miss. record { messages = omega arith; bytes = omega arith };
-          said = record { messages = omega (arith, some, keeps.said.messages); bytes = omega (arith, some, keeps.said.bytes) };
+  pub fits_open : (i holder sid : ℕ) (t : Tick) (at : As) (ms : Membership P S) (f : Flow) → at ≡ element_of n i → (f.accesses i).connection ≡ Some (just_open holder sid t) → 1 ≤ own_most n → KeepsOn (own_most n) n ms f →
+      FitsInput at (Outside i) input.Begin (session_at at (Outside i) f) ms f
+  fits_open i holder sid t at ms f at_is open' some keeps =
+      let room = (keeps.answers.live at (Outside i) (live_outside n f i at at_is (ap is_talking open'))).last_words in
+      subst (λ (c : Option Connection). FitsInput at (Outside i) input.Begin (option_map (λ (x : Connection). x.session) c) ms f) (sym open') (record {
+        stays = λ e. record {
+          turn = tt;
+          room = record {
+            there = record { messages = omega (arith, room.messages); bytes = omega (arith, room.bytes) };
+            none = refl;
+            elsewhere = λ q miss. record { messages = omega arith; bytes = omega arith };
+            said = record { messages = omega (arith, some, keeps.said.messages); bytes = omega (arith, some, keeps.said.bytes) };
+          };
         };
+        breaks = λ e. tt;
       })
-    where
-      e : As
-      e = element_of n i
-
-      live : is_live n f e (Outside i) ≡ true
-      live = ap (λ (b : Bool). cond b (is_talking (f.accesses i).connection) false) (self e.0) ∙ ap is_talking open'
 
   pub opened_roomy : (i holder sid : ℕ) (t : Tick) (g : Going P S) (n' : NetworkParts) (ms ms' : Membership P S) (lost lost' : As → List Lost) (f f' : Flow) → 1 ≤ own_most n → (f.accesses i).connection ≡ Some (just_open holder sid t) →
       Goes (λ k. deeds.outside_input P S wire k show i input.Begin) (here n ms lost f) (here n' ms' lost' f') → IsAt g ms f → KeepsOn (own_most n) n ms f → IsRoomy n ms' f'

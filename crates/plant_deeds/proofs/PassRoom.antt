@@ -1,5 +1,5 @@
 -- The room between events, once a member was given a message for which room was made.
-use Rattle.std.proofs.Common.{◌≡◌, ◌≤◌, ℕ, suc, ◌+◌, ◌*◌, Bool, true, false, cond, ◌==◌, is_some, Option, Some, None, List, [], ◌∷◌, ◌++◌, length, refl, ap, sym, subst, ◌∙◌, arith, inl, inr, ◌⊎◌}
+use Rattle.std.proofs.Common.{◌≡◌, ◌≤◌, ℕ, suc, ◌+◌, ◌*◌, Bool, true, false, cond, is_some, Option, Some, None, List, [], ◌∷◌, ◌++◌, length, refl, ap, sym, subst, ◌∙◌, arith, inl, inr, ◌⊎◌}
 use Rattle.std.specs.Prelude.{slice_get}
 use Rattle.std.proofs.lemmas.Bool.{cases_Bool, eqb-true}
 use Rattle.dom_base.specs.declared.names.As.{As}
@@ -12,9 +12,8 @@ use Rattle.plant_queues.specs.Sents.{size_of}
 use Rattle.plant_text.specs.declared.settings.NetworkParts.{NetworkParts}
 use Rattle.plant_text.specs.Names.{same_as}
 use Rattle.plant_text.specs.Settings.{elements_of}
-use Rattle.plant_members.specs.plant_model.Wire.{Bytes}
-use Rattle.plant_members.specs.plant_model.State.{Connection, Access}
-use Rattle.plant_members.specs.plant_model.Deeds.{element_of, on_connection, with_more}
+use Rattle.plant_members.specs.plant_model.State.{Connection}
+use Rattle.plant_members.specs.plant_model.Deeds.{element_of, with_more}
 use Rattle.plant_traffic.specs.plant_sessions.Rooms.{Grows, room_in_all}
 use Rattle.plant_traffic.specs.Flow.{Flow, KeepsRoomAt, put_flow, room_at}
 use Rattle.plant_deeds.specs.Accounts.{Accounts, count_into, bytes_into, goes_into, queue_in, has_queue}
@@ -22,7 +21,7 @@ use Rattle.plant_members.specs.Membership.{Membership}
 use Rattle.plant_members.specs.Owed.{owed, is_peer, pending_in}
 use Rattle.plant_deeds.specs.Rooms.{IsRoomy, is_live, is_talking, own_most}
 use Rattle.plant_deeds.specs.Giving.{PutsAll, RoomToPut, OnlyGrows, KeepsForLetters, RoomToGive, put_all, is_own, own_words}
-use Rattle.plant_deeds.proofs.GoLaws.{as_is}
+use Rattle.plant_deeds.proofs.GoLaws.{access_same, as_is, peer_is}
 use Rattle.plant_deeds.proofs.GiveLaws.{said_put}
 use Rattle.plant_deeds.proofs.LetterLaws.{keeps_grown}
 
@@ -90,12 +89,6 @@ nothing : (b : Bool) → cond {A = ℕ} b 0 0 ≡ 0
 nothing true = refl
 nothing false = refl
 
-peer_is : (r r' : Peer) → same_peer r r' ≡ true → r ≡ r'
-peer_is (Outside i) (Outside j) e = ap Outside (eqb-true i j e)
-peer_is (Outside i) (Inner b) e = cc
-peer_is (Inner b) (Outside i) e = cc
-peer_is (Inner b) (Inner c) e = ap Inner (as_is b c e)
-
 -- ---- room that is no less
 
 pub record NoLess (f f' : Flow) : Type 0 where
@@ -135,23 +128,12 @@ after_letters a q c b o ss f f' room none all open_now count size keeps =
 
 -- ---- letters change no session
 
-talk_put : (c : Access) (m : Bytes) → is_talking (on_connection (with_more m) c).connection ≡ is_talking c.connection
-talk_put c m = go c.connection
-  where
-    go : (x : Option Connection) → is_talking (on_connection (with_more m) (record { opened = c.opened; connection = x })).connection ≡ is_talking x
-    go None = refl
-    go (Some k) = refl
-
 pub talk_puts : (ss : List Sent) (f : Flow) (i : ℕ) → is_talking ((put_all ss f).accesses i).connection ≡ is_talking (f.accesses i).connection
 talk_puts [] f i = refl
 talk_puts (s ∷ ss) f i = talk_puts ss (put_flow s.from s.to s.bytes f) i ∙ one s.to
   where
     one : (to : Peer) → is_talking ((put_flow s.from to s.bytes f).accesses i).connection ≡ is_talking (f.accesses i).connection
-    one (Outside j) = elim (cases_Bool (j == i)) [
-      | inl hit ↦ ap (λ (b : Bool). is_talking (cond b (on_connection (with_more s.bytes) (f.accesses j)) (f.accesses i)).connection) hit ∙ talk_put (f.accesses j) s.bytes
-          ∙ ap (λ (k : ℕ). is_talking (f.accesses k).connection) (eqb-true j i hit)
-      | inr miss ↦ ap (λ (b : Bool). is_talking (cond b (on_connection (with_more s.bytes) (f.accesses j)) (f.accesses i)).connection) miss
-    ]
+    one (Outside j) = access_same is_talking (with_more s.bytes) j i f (λ x. refl)
     one (Inner b) = refl
 
 live_same : (n : NetworkParts) (f f' : Flow) (a : As) (q : Peer) → ((i : ℕ) → is_talking (f'.accesses i).connection ≡ is_talking (f.accesses i).connection) → is_live n f' a q ≡ is_live n f a q

@@ -2,6 +2,8 @@
 use Rattle.std.proofs.Common.{◌≡◌, ℕ, Bool, true, false, cond, Option, Some, None, List, [], ◌∷◌, refl, ap, sym, subst, ◌∙◌}
 use Rattle.std.specs.Option.{option_map}
 use Rattle.dom_base.specs.declared.names.As.{As}
+use Rattle.dom_base.specs.declared.names.Peer.{Peer}
+use Rattle.dom_base.specs.declared.names.Peer.TheVariants.{Outside, Inner}
 use Rattle.dom_base.specs.declared.names.Tick.{Tick}
 use Rattle.pcep_subobjects.specs.declared.hop.Hop.{Hop}
 use Rattle.pcep_session.specs.declared.actions.Action.{Action}
@@ -10,20 +12,19 @@ use Rattle.pcep_session.specs.declared.state.State.{State as Session}
 use Rattle.pcep_session.specs.Quiet.{is_nothing, is_quiet, after_quiet}
 use Rattle.pcep_session.specs.Table.{turn_of}
 use Rattle.plant_text.specs.declared.settings.NetworkParts.{NetworkParts}
-use Rattle.plant_text.specs.Settings.{Line}
 use Rattle.plant_members.specs.plant_model.declared.output.Lost.{Lost}
-use Rattle.plant_members.specs.plant_model.RealWire.{wire}
 use Rattle.plant_members.specs.plant_model.State.{Connection, Access}
-use Rattle.plant_members.specs.plant_model.Deeds as deeds
 use Rattle.plant_members.specs.plant_model.Deeds.{on_connection, with_session}
 use Rattle.plant_traffic.specs.plant_sessions.Quiet.{is_quiet_peer, ticked_quietly}
+use Rattle.plant_traffic.specs.Quiet.{IsReached, is_quiet_at, ticked_at}
 use Rattle.plant_traffic.specs.Flow.{Flow, change_access, set_access, set_session}
 use Rattle.plant_traffic.proofs.PeerLemmas.{number_same}
 use Rattle.plant_traffic.proofs.RowLemmas.{pair_same}
 use Rattle.plant_members.specs.Membership.{Membership}
 use Rattle.plant_deeds.specs.Standing.{here, Goes}
 use Rattle.plant_deeds.proofs.GoLaws.{goes_same}
-use Rattle.plant_deeds.proofs.InputLaws.{input_closed, input_goes, link_stays}
+use Rattle.plant_deeds.specs.Peers.{IsEnd, input_at}
+use Rattle.plant_deeds.proofs.InputLaws.{input_closed, input_stays}
 
 nothing_is : (as' : List Action) → is_nothing as' ≡ true → [] ≡ as'
 nothing_is [] e = refl
@@ -49,23 +50,28 @@ module _ (now : Tick) where
   loud_access opened (Some x) loud = ap (λ (s : Session). let a : Access = record { opened = opened; connection = Some (with_session s x) } in a) (loud_session x.session loud)
 
   -- nothing changes where the session of a peer has something to say or to do
-  pub loud_peer : (i : ℕ) (f f1 : Flow) → is_quiet_peer now (f.accesses i).connection ≡ false → f1 ≡ change_access i (ticked_quietly now) f → f1 ≡ f
+  loud_peer : (i : ℕ) (f f1 : Flow) → is_quiet_peer now (f.accesses i).connection ≡ false → f1 ≡ change_access i (ticked_quietly now) f → f1 ≡ f
   loud_peer i f f1 loud is =
       is ∙ ap (λ (accesses : ℕ → Access). let g : Flow = record f { accesses = accesses } in g)
       (number_same i (on_connection (ticked_quietly now) (f.accesses i)) f.accesses (loud_access (f.accesses i).opened (f.accesses i).connection loud))
 
   -- the same at an end of a link
-  pub loud_end : (at b : As) (f f1 : Flow) → is_quiet now (f.sessions at b) ≡ false → f1 ≡ set_session at b (after_quiet now (f.sessions at b)) f → f1 ≡ f
+  loud_end : (at b : As) (f f1 : Flow) → is_quiet now (f.sessions at b) ≡ false → f1 ≡ set_session at b (after_quiet now (f.sessions at b)) f → f1 ≡ f
   loud_end at b f f1 loud is =
       is ∙ ap (λ (sessions : As → As → Session). let g : Flow = record f { sessions = sessions } in g)
       (pair_same at b (after_quiet now (f.sessions at b)) f.sessions (loud_session (f.sessions at b) loud))
 
+  -- of any peer
+  pub loud_at : (at : As) (to : Peer) (f f1 : Flow) → is_quiet_at now at to f ≡ false → f1 ≡ ticked_at now at to f → f1 ≡ f
+  loud_at at (Outside i) f f1 loud is = loud_peer i f f1 loud is
+  loud_at at (Inner b) f f1 loud is = loud_end at b f f1 loud is
+
   module _ {P : Type 0} {S : Type 0} (show : S → List Hop) (n : NetworkParts) (ms : Membership P S) (lost : As → List Lost) where
-    closed_peer : (i : ℕ) (f f1 : Flow) → (f.accesses i).connection ≡ None → f1 ≡ change_access i (ticked_quietly now) f → Goes (λ k. deeds.outside_input P S wire k show i (input.Tick now)) (here n ms lost f) (here n ms lost f1)
-    closed_peer i f f1 none is =
+    closed_peer : (at : As) (i : ℕ) (f f1 : Flow) → (f.accesses i).connection ≡ None → f1 ≡ change_access i (ticked_quietly now) f → Goes (λ k. input_at P S k show at (Outside i) (input.Tick now)) (here n ms lost f) (here n ms lost f1)
+    closed_peer at i f f1 none is =
         let same : f1 ≡ f = loud_none is in
-        subst (λ (g : Flow). Goes (λ k. deeds.outside_input P S wire k show i (input.Tick now)) (here n ms lost f) (here n ms lost g)) (sym same)
-        (input_closed show n ms lost i (input.Tick now) f (ap (option_map (λ (k : Connection). k.session)) none))
+        subst (λ (g : Flow). Goes (λ k. input_at P S k show at (Outside i) (input.Tick now)) (here n ms lost f) (here n ms lost g)) (sym same)
+        (input_closed show n ms lost (input.Tick now) f at (Outside i) (ap (option_map (λ (k : Connection). k.session)) none))
       where
         loud_none : f1 ≡ change_access i (ticked_quietly now) f → f1 ≡ f
         loud_none is' =
@@ -74,26 +80,30 @@ module _ (now : Tick) where
             (ap (λ (o : Option Connection). on_connection (ticked_quietly now) (record { opened = (f.accesses i).opened; connection = o })) none
             ∙ ap (λ (o : Option Connection). let a : Access = record { opened = (f.accesses i).opened; connection = o } in a) (sym none)))
 
-    open_peer : (i : ℕ) (f f1 : Flow) (x : Connection) → (f.accesses i).connection ≡ Some x → is_quiet now x.session ≡ true → f1 ≡ change_access i (ticked_quietly now) f →
-        Goes (λ k. deeds.outside_input P S wire k show i (input.Tick now)) (here n ms lost f) (here n ms lost f1)
-    open_peer i f f1 x some quiet is =
-        input_goes show n ms lost i (input.Tick now) x.session (after_quiet now x.session) true [] f f1 (here n ms lost f1)
-        (ap (option_map (λ (k : Connection). k.session)) some) refl (nothing_is (turn_of x.session (input.Tick now)).actions quiet) (quiet_session x.session quiet)
+    open_peer : (at : As) (i : ℕ) (f f1 : Flow) (x : Connection) → IsEnd n f at (Outside i) → (f.accesses i).connection ≡ Some x → is_quiet now x.session ≡ true → f1 ≡ change_access i (ticked_quietly now) f →
+        Goes (λ k. input_at P S k show at (Outside i) (input.Tick now)) (here n ms lost f) (here n ms lost f1)
+    open_peer at i f f1 x end some quiet is =
+        input_stays show n ms lost (input.Tick now) f at (Outside i) x.session (after_quiet now x.session) true [] f1 (here n ms lost f1) end
+        (ap (option_map (λ (k : Connection). k.session)) some) (nothing_is (turn_of x.session (input.Tick now)).actions quiet) (quiet_session x.session quiet) refl refl
         (is ∙ change_like (ticked_quietly now) (with_session (after_quiet now x.session)) i f (Some x) some refl)
         (goes_same (here n ms lost f1))
 
-    -- a tick at which the session of a peer has nothing to say or to do
-    pub quiet_peer : (i : ℕ) (f f1 : Flow) → is_quiet_peer now (f.accesses i).connection ≡ true → f1 ≡ change_access i (ticked_quietly now) f →
-        Goes (λ k. deeds.outside_input P S wire k show i (input.Tick now)) (here n ms lost f) (here n ms lost f1)
-    quiet_peer i f f1 quiet is = go (f.accesses i).connection refl
+    quiet_peer : (at : As) (i : ℕ) (f f1 : Flow) → IsEnd n f at (Outside i) → is_quiet_peer now (f.accesses i).connection ≡ true → f1 ≡ change_access i (ticked_quietly now) f →
+        Goes (λ k. input_at P S k show at (Outside i) (input.Tick now)) (here n ms lost f) (here n ms lost f1)
+    quiet_peer at i f f1 end quiet is = go (f.accesses i).connection refl
       where
-        go : (o : Option Connection) → (f.accesses i).connection ≡ o → Goes (λ k. deeds.outside_input P S wire k show i (input.Tick now)) (here n ms lost f) (here n ms lost f1)
-        go None none = closed_peer i f f1 none is
-        go (Some x) some = open_peer i f f1 x some (sym (ap (is_quiet_peer now) some) ∙ quiet) is
+        go : (o : Option Connection) → (f.accesses i).connection ≡ o → Goes (λ k. input_at P S k show at (Outside i) (input.Tick now)) (here n ms lost f) (here n ms lost f1)
+        go None none = closed_peer at i f f1 none is
+        go (Some x) some = open_peer at i f f1 x end some (sym (ap (is_quiet_peer now) some) ∙ quiet) is
 
-    -- and the session at an end of a link
-    pub quiet_end : (line : Line) (at b : As) (f f1 : Flow) → is_quiet now (f.sessions at b) ≡ true → f1 ≡ set_session at b (after_quiet now (f.sessions at b)) f →
-        Goes (λ k. deeds.inner_input P S wire k show line at b (input.Tick now)) (here n ms lost f) (here n ms lost f1)
-    quiet_end line at b f f1 quiet is =
-        link_stays show n ms lost line at b (input.Tick now) (after_quiet now (f.sessions at b)) true [] f f1 (here n ms lost f1) refl
-        refl (nothing_is (turn_of (f.sessions at b) (input.Tick now)).actions quiet) (quiet_session (f.sessions at b) quiet) is (goes_same (here n ms lost f1))
+    -- a tick at which a session has nothing to say or to do
+    pub quiet_at : (at : As) (to : Peer) (f f1 : Flow) → IsEnd n f at to → is_quiet_at now at to f ≡ true → f1 ≡ ticked_at now at to f → Goes (λ k. input_at P S k show at to (input.Tick now)) (here n ms lost f) (here n ms lost f1)
+    quiet_at at (Outside i) f f1 end quiet is = quiet_peer at i f f1 end quiet is
+    quiet_at at (Inner b) f f1 end quiet is =
+        input_stays show n ms lost (input.Tick now) f at (Inner b) (f.sessions at b) (after_quiet now (f.sessions at b)) true [] f1 (here n ms lost f1) end
+        refl (nothing_is (turn_of (f.sessions at b) (input.Tick now)).actions quiet) (quiet_session (f.sessions at b) quiet) refl refl is (goes_same (here n ms lost f1))
+
+-- an end is there
+pub reached : (n : NetworkParts) (f : Flow) (at : As) (to : Peer) → IsEnd n f at to → IsReached at to f
+reached n f at (Outside i) end = tt
+reached n f at (Inner b) end = end.linked

@@ -1,6 +1,7 @@
 -- The room that is kept is enough for all that is said where no memory is taken.
 use Rattle.std.proofs.Common.{◌≡◌, ◌≤◌, ℕ, ◌+◌, ◌*◌, Bool, true, false, not, cond, is_some, Option, Some, None, List, [], ◌∷◌, length, refl, ap, sym, subst, ◌∙◌, arith, inl, inr}
 use Rattle.std.specs.Option.{option_map}
+use Rattle.std.specs.Prelude.{nat_lt}
 use Rattle.std.proofs.lemmas.Bool.{cases_Bool, eq-eqb}
 use Rattle.dom_base.specs.declared.names.As.{As}
 use Rattle.dom_base.specs.declared.names.Tick.{Tick}
@@ -16,16 +17,18 @@ use Rattle.pcep_session.specs.Table.{Turn, turn_in, turn_of, quiet}
 use Rattle.plant_queues.specs.Messages.{Covers}
 use Rattle.plant_text.specs.declared.settings.NetworkParts.{NetworkParts}
 use Rattle.plant_text.specs.Names.{same_as, same_link, parent_as}
-use Rattle.plant_text.specs.Settings.{Line, lines, has_line, is_element, elements_of}
+use Rattle.plant_text.specs.Settings.{Line, line, lines, has_line, is_element, elements_of}
 use Rattle.plant_members.specs.plant_model.State.{Connection}
 use Rattle.plant_members.specs.plant_model.Deeds.{element_of}
 use Rattle.plant_members.specs.plant_model.Events.{is_down}
-use Rattle.plant_traffic.specs.Flow.{Flow, room_at}
+use Rattle.plant_traffic.specs.Flow.{Flow, room_at, session_at}
 use Rattle.plant_members.specs.Membership.{Membership, is_member, fallen, lost_at}
 use Rattle.plant_members.specs.Owed.{is_peer, owed, pending_in}
 use Rattle.plant_deeds.specs.Telling.{RoomToTell, count_lost}
 use Rattle.plant_deeds.specs.Breaking.{RoomToBreak}
-use Rattle.plant_deeds.specs.Acting.{Fits, FitsInput, FitsLink}
+use Rattle.plant_deeds.specs.Acting.{Fits, FitsInput, FitsTurn, RoomToBreakAt}
+use Rattle.plant_deeds.specs.Passing.{IsOf}
+use Rattle.plant_deeds.specs.Peers.{IsLinkEnd}
 use Rattle.plant_deeds.specs.Turns.{IsTickTurn}
 use Rattle.plant_deeds.specs.Rooms.{is_live, is_talking}
 use Rattle.plant_deeds.specs.Roomy.{KeepsOn}
@@ -97,6 +100,39 @@ one_element n l u i f apart live =
     go true true is e = absurd (let clash : true ≡ false = is refl refl in cc)
     go true false is e = refl
     go false c is e = cc
+
+-- ---- a link of the network
+
+pub line_either : (a b : As) (Q : Line → Type 0) → Q (record { lower = b; upper = a }) → Q (record { lower = a; upper = b }) → Q (line a b)
+line_either a b Q left right = go (nat_lt b.0 a.0)
+  where
+    go : (c : Bool) → Q (cond c (record { lower = b; upper = a }) (record { lower = a; upper = b }))
+    go true = left
+    go false = right
+
+pub line_is : (a b l u : As) → l ≡ (line a b).lower → u ≡ (line a b).upper → record { lower = l; upper = u } ≡ line a b
+line_is a b l u lower upper =
+    ap (λ (c : As). let x : Line = record { lower = c; upper = u } in x) lower ∙ ap (λ (c : As). let x : Line = record { lower = (line a b).lower; upper = c } in x) upper
+
+pub linked_in : (n : NetworkParts) (f : Flow) (a b : As) → IsOf n f → has_line a b f.lines ≡ true → has_line a b (lines n) ≡ true
+linked_in n f a b of linked = ap (λ (xs : List Line). has_line a b xs) (sym of.lines_are) ∙ linked
+
+pub record IsLink (n : NetworkParts) (x : Line) : Type 0 where
+  pub lower : is_member n x.lower ≡ true
+  pub upper : is_member n x.upper ≡ true
+  pub apart : same_as x.lower x.upper ≡ false
+  pub linked : has_line x.lower x.upper (lines n) ≡ true
+
+pub link_of : (n : NetworkParts) (f : Flow) (at b : As) → IsLinkEnd n f at b → is_member n at ≡ true → IsOf n f → IsLink n (line b at)
+link_of n f at b end member of =
+    let linked = linked_in n f at b of end.linked in
+    line_either b at (IsLink n)
+    (record { lower = member; upper = end.other; apart = apart_back b at end.apart; linked = linked })
+    (record { lower = end.other; upper = member; apart = end.apart; linked = line_back at b (lines n) linked })
+
+-- an outside peer whose session is not over has a queue that is used
+pub live_outside : (n : NetworkParts) (f : Flow) (i : ℕ) (at : As) → at ≡ element_of n i → is_talking (f.accesses i).connection ≡ true → is_live n f at (Outside i) ≡ true
+live_outside n f i at at_is talks = ap (λ (b : Bool). cond b (is_talking (f.accesses i).connection) false) (ap (same_as at) (sym at_is) ∙ self at.0) ∙ talks
 
 module _ {P : Type 0} {S : Type 0} (n : NetworkParts) where
   -- a member loses no more requests of a peer than it owes it answers
@@ -192,29 +228,32 @@ module _ {P : Type 0} {S : Type 0} (n : NetworkParts) where
         };
       })
 
-  -- a tick at an outside peer
-  pub fits_tick : (own i : ℕ) (now : Tick) (ms : Membership P S) (f : Flow) → is_member n (element_of n i) ≡ true → 1 ≤ own → KeepsOn own n ms f →
-      FitsInput (element_of n i) (Outside i) (input.Tick now) (option_map (λ (x : Connection). x.session) (f.accesses i).connection) ms f
-  fits_tick own i now ms f member some keeps = go (f.accesses i).connection refl
-    where
-      at : As
-      at = element_of n i
+  -- an end of a link that breaks
+  pub breaks_end : (own : ℕ) (at b : As) (ms : Membership P S) (f : Flow) → IsLinkEnd n f at b → is_member n at ≡ true → IsOf n f → 2 ≤ own → KeepsOn own n ms f → RoomToBreakAt at (Inner b) ms f
+  breaks_end own at b ms f end member of some keeps =
+      let link = link_of n f at b end member of in
+      breaks_room own (line b at).lower (line b at).upper ms f link.apart link.lower link.upper link.linked some keeps
 
+  -- a tick at an outside peer
+  pub fits_tick : (own i : ℕ) (at : As) (now : Tick) (ms : Membership P S) (f : Flow) → at ≡ element_of n i → is_member n at ≡ true → 1 ≤ own → KeepsOn own n ms f → FitsInput at (Outside i) (input.Tick now) (session_at at (Outside i) f) ms f
+  fits_tick own i at now ms f at_is member some keeps = go (f.accesses i).connection refl
+    where
       go : (c : Option Connection) → (f.accesses i).connection ≡ c → FitsInput at (Outside i) (input.Tick now) (option_map (λ (x : Connection). x.session) c) ms f
       go None is = tt
-      go (Some x) is = elim (cases_Bool (is_down x.session.phase)) [
-        | inl over ↦
-            subst (λ (as' : List Action). Fits at (Outside i) as' ms f) (sym (ap (λ (t : Turn). t.actions) (down_quiet x.session (input.Tick now) over))) (record { turn = tt; room = act_none at (Outside i) f })
-        | inr up ↦
-            let talks : is_talking (f.accesses i).connection ≡ true = ap is_talking is ∙ ap not up in
-            let live : is_live n f at (Outside i) ≡ true = ap (λ (b : Bool). cond b (is_talking (f.accesses i).connection) false) (self at.0) ∙ talks in
-            acts_room own at (Outside i) (turn_of x.session (input.Tick now)).actions ms f member live some keeps (ticks_are_turns x.session now)
-      ]
+      go (Some x) is = record {
+        stays = λ e. elim (cases_Bool (is_down x.session.phase)) [
+          | inl over ↦
+              subst (λ (as' : List Action). Fits at (Outside i) as' ms f) (sym (ap (λ (t : Turn). t.actions) (down_quiet x.session (input.Tick now) over))) (record { turn = tt; room = act_none at (Outside i) f })
+          | inr up ↦
+              let live : is_live n f at (Outside i) ≡ true = live_outside n f i at at_is (ap is_talking is ∙ ap not up) in
+              acts_room own at (Outside i) (turn_of x.session (input.Tick now)).actions ms f member live some keeps (ticks_are_turns x.session now)
+        ];
+        breaks = λ e. tt;
+      }
 
   -- a tick at an end of a link
-  pub fits_link : (own : ℕ) (l u at to : As) (s : Session) (now : Tick) (ms : Membership P S) (f : Flow) → same_as l u ≡ false → is_member n l ≡ true → is_member n u ≡ true → is_member n at ≡ true →
-      has_line l u (lines n) ≡ true → has_line at to (lines n) ≡ true → 2 ≤ own → KeepsOn own n ms f → FitsLink l u at to (turn_of s (input.Tick now)).actions ms f
-  fits_link own l u at to s now ms f apart lower upper member linked live some keeps = record {
-    stays = λ e. acts_room own at (Inner to) (turn_of s (input.Tick now)).actions ms f member live (omega (arith, some)) keeps (ticks_are_turns s now);
-    breaks = λ e. breaks_room own l u ms f apart lower upper linked some keeps;
+  pub fits_link : (own : ℕ) (at b : As) (s : Session) (now : Tick) (ms : Membership P S) (f : Flow) → IsLinkEnd n f at b → is_member n at ≡ true → IsOf n f → 2 ≤ own → KeepsOn own n ms f → FitsTurn at (Inner b) (turn_of s (input.Tick now)).actions ms f
+  fits_link own at b s now ms f end member of some keeps = record {
+    stays = λ e. acts_room own at (Inner b) (turn_of s (input.Tick now)).actions ms f member (linked_in n f at b of end.linked) (omega (arith, some)) keeps (ticks_are_turns s now);
+    breaks = λ e. breaks_end own at b ms f end member of some keeps;
   }

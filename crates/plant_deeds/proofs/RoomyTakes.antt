@@ -17,7 +17,7 @@ use Rattle.plant_queues.specs.Messages.{Covers}
 use Rattle.plant_queues.specs.Sents.{sent_of}
 use Rattle.plant_text.specs.declared.settings.NetworkParts.{NetworkParts}
 use Rattle.plant_text.specs.Names.{same_as}
-use Rattle.plant_text.specs.Settings.{lines, has_line, elements_of}
+use Rattle.plant_text.specs.Settings.{line, lines, has_line, elements_of}
 use Rattle.plant_members.specs.plant_model.declared.output.Lost.{Lost}
 use Rattle.plant_members.specs.plant_model.RealWire.{wire}
 use Rattle.plant_members.specs.plant_model.State.{State, Connection}
@@ -25,9 +25,11 @@ use Rattle.plant_members.specs.plant_model.Deeds as deeds
 use Rattle.plant_members.specs.plant_model.Deeds.{Going, element_of, any_fall, is_tick, with_session, with_inbox}
 use Rattle.plant_members.specs.plant_model.Events.{is_down}
 use Rattle.plant_traffic.specs.plant_sessions.Ends.{own_bytes}
-use Rattle.plant_traffic.specs.Flow.{Flow, KeepsRoomAt, room_at}
+use Rattle.plant_traffic.specs.Flow.{Flow, KeepsRoomAt, room_at, session_at}
 use Rattle.plant_deeds.specs.Accounts.{Accounts}
-use Rattle.plant_deeds.specs.Acting.{IsOwnTurn, Fits, FitsInput, FitsLink}
+use Rattle.plant_deeds.specs.Acting.{IsOwnTurn, Fits, FitsTurn, RoomToBreakAt}
+use Rattle.plant_deeds.specs.Passing.{IsOf}
+use Rattle.plant_deeds.specs.Peers.{IsEnd, breaks_by, input_at}
 use Rattle.plant_members.specs.Membership.{Membership, is_member, raised, fallen, lost_at}
 use Rattle.plant_members.specs.Owed.{is_peer, owed, pending_in}
 use Rattle.plant_deeds.specs.Rooms.{is_live, is_talking}
@@ -37,8 +39,9 @@ use Rattle.plant_deeds.specs.Telling.{RoomToTell, count_lost}
 use Rattle.plant_deeds.specs.Turns.{IsPass}
 use Rattle.plant_deeds.proofs.GoLaws.{self}
 use Rattle.plant_deeds.proofs.ActLaws.{act_none}
+use Rattle.plant_deeds.proofs.InputLaws.{some_is}
 use Rattle.plant_deeds.proofs.OwedLaws.{fallen_none}
-use Rattle.plant_deeds.proofs.RoomyNeeds.{breaks_room, down_quiet, lost_pending, tells_room}
+use Rattle.plant_deeds.proofs.RoomyNeeds.{breaks_end, down_quiet, link_of, linked_in, live_outside, lost_pending, tells_room}
 use Rattle.plant_deeds.proofs.RoomySteps.{pays_on}
 use Rattle.plant_deeds.proofs.RoomyDeeds.{Leaves, members_of, leaves_then, say_leaves, rise_leaves, same_leaves, session_leaves, inner_leaves, closes_after}
 use Rattle.plant_deeds.proofs.RoomyPays.{live_like, reserved_pays, raise_pays}
@@ -48,6 +51,15 @@ use Rattle.plant_deeds.proofs.RoomyWords.{Lives, Dies, IsShort, IsStep, steps_li
 -- what is passed on is no turn of its own
 no_pass : (as' : List Action) → IsOwnTurn as' → IsPass as' → ⊥
 no_pass as' turn (m, is) = subst IsOwnTurn is turn
+
+-- the queue of a session that is not over is used
+pub live_at : (n : NetworkParts) (f : Flow) (at : As) (to : Peer) (s : Session) → IsEnd n f at to → IsOf n f → session_at at to f ≡ Some s → is_down s.phase ≡ false → is_live n f at to ≡ true
+live_at n f at (Inner b) s end of there up = linked_in n f at b of end.linked
+live_at n f at (Outside i) s end of there up = live_outside n f i at end (talks (f.accesses i).connection there)
+  where
+    talks : (c : Option Connection) → option_map (λ (k : Connection). k.session) c ≡ Some s → is_talking c ≡ true
+    talks None e = cc
+    talks (Some k) e = ap (λ (q : Session). not (is_down q.phase)) (some_is k.session s e) ∙ ap not up
 
 -- the queue has room for one more message of a session's own
 abbrev pub KeepsWord : {P : Type 0} {S : Type 0} → As → Peer → Membership P S → Flow → Type 0
@@ -135,33 +147,20 @@ module _ {P : Type 0} {S : Type 0} (n : NetworkParts) where
       go room (inr (inl dies)) = dies_fit own at to t ms f member room some keeps dies
       go room (inr (inr pass)) = absurd (no_pass t.actions turn pass)
 
-  -- of an outside peer, where its session passes nothing on
-  pub fits_step : (own i : ℕ) (x : Input) (ms : Membership P S) (f : Flow) → is_member n (element_of n i) ≡ true → 2 ≤ own → KeepsOn own n ms f →
-      ((c : Connection) → (f.accesses i).connection ≡ Some c → IsOwnTurn (turn_of c.session x).actions) →
-      FitsInput (element_of n i) (Outside i) x (option_map (λ (c : Connection). c.session) (f.accesses i).connection) ms f
-  fits_step own i x ms f member some keeps turns = go (f.accesses i).connection refl
-    where
-      at : As
-      at = element_of n i
-
-      go : (c : Option Connection) → (f.accesses i).connection ≡ c → FitsInput at (Outside i) x (option_map (λ (y : Connection). y.session) c) ms f
-      go None is = tt
-      go (Some c) is = elim (cases_Bool (is_down c.session.phase)) [
-        | inl over ↦
-            subst (λ (as' : List Action). Fits at (Outside i) as' ms f) (sym (ap (λ (t : Turn). t.actions) (down_quiet c.session x over))) (record { turn = tt; room = act_none at (Outside i) f })
-        | inr up ↦
-            let talking : is_talking (f.accesses i).connection ≡ true = ap is_talking is ∙ ap not up in
-            let live : is_live n f at (Outside i) ≡ true = ap (λ (b : Bool). cond b (is_talking (f.accesses i).connection) false) (self at.0) ∙ talking in
-            turn_fits own at (Outside i) (is_down c.session.phase) (turn_of c.session x) ms f member live some keeps (turns c is) (steps_live_or_die c.session x)
-      ]
-
-  -- at an end of a link
-  pub fits_end : (own : ℕ) (l u at to : As) (s : Session) (x : Input) (ms : Membership P S) (f : Flow) → same_as l u ≡ false → is_member n l ≡ true → is_member n u ≡ true → is_member n at ≡ true →
-      has_line l u (lines n) ≡ true → has_line at to (lines n) ≡ true → 2 ≤ own → KeepsOn own n ms f → IsOwnTurn (turn_of s x).actions → FitsLink l u at to (turn_of s x).actions ms f
-  fits_end own l u at to s x ms f apart lower upper member linked live some keeps turn = record {
-    stays = λ e. turn_fits own at (Inner to) (is_down s.phase) (turn_of s x) ms f member live some keeps turn (steps_live_or_die s x);
-    breaks = λ e. breaks_room n own l u ms f apart lower upper linked some keeps;
+  -- of a session that passes nothing on
+  pub fits_at : (own : ℕ) (at : As) (to : Peer) (x : Input) (s : Session) (ms : Membership P S) (f : Flow) → IsEnd n f at to → is_member n at ≡ true → IsOf n f → session_at at to f ≡ Some s → 2 ≤ own → KeepsOn own n ms f → IsOwnTurn (turn_of s x).actions →
+      FitsTurn at to (turn_of s x).actions ms f
+  fits_at own at to x s ms f end member of there some keeps turn = record {
+    stays = λ e. elim (cases_Bool (is_down s.phase)) [
+      | inl over ↦ subst (λ (as' : List Action). Fits at to as' ms f) (sym (ap (λ (t : Turn). t.actions) (down_quiet s x over))) (record { turn = tt; room = act_none at to f })
+      | inr up ↦ turn_fits own at to (is_down s.phase) (turn_of s x) ms f member (live_at n f at to s end of there up) some keeps turn (steps_live_or_die s x)
+    ];
+    breaks = breaks to end;
   }
+    where
+      breaks : (p : Peer) → IsEnd n f at p → breaks_by p (turn_of s x).actions ≡ true → RoomToBreakAt at p ms f
+      breaks (Outside i) end' e = tt
+      breaks (Inner b) end' e = breaks_end n own at b ms f end' member of some keeps
 
 module _ {P : Type 0} {S : Type 0} (show : S → List Hop) (n : NetworkParts) where
   -- ---- what it leaves
@@ -183,7 +182,7 @@ module _ {P : Type 0} {S : Type 0} (show : S → List Hop) (n : NetworkParts) wh
       (pays_on n 0 own all ms (raised d p ms) f f' [] (raise_pays n d p ms f f' room c.1 (live_like n f f' c.2) keeps.answers.dead) (omega (arith, some)) keeps)
 
   -- an input to the session of an outside peer, no tick, that passes nothing on
-  pub take_keeps : (own all i : ℕ) (x : Input) (g : Going P S) (n' : NetworkParts) (ms ms' : Membership P S) (lost lost' : As → List Lost) (f f' : Flow) → 2 + own ≤ all → is_member n (element_of n i) ≡ true → is_tick x ≡ false →
+  take_keeps : (own all i : ℕ) (x : Input) (g : Going P S) (n' : NetworkParts) (ms ms' : Membership P S) (lost lost' : As → List Lost) (f f' : Flow) → 2 + own ≤ all → is_member n (element_of n i) ≡ true → is_tick x ≡ false →
       ((c : Connection) → (f.accesses i).connection ≡ Some c → IsOwnTurn (turn_of c.session x).actions) → (is_live n f (element_of n i) (Outside i) ≡ true → KeepsWord (element_of n i) (Outside i) ms f) →
       Goes (λ k. deeds.outside_input P S wire k show i x) (here n ms lost f) (here n' ms' lost' f') → IsAt g ms f → KeepsOn all n ms f → KeepsOn own n ms' f'
   take_keeps own all i x g n' ms ms' lost lost' f f' some member later turn word goes is keeps = go (g.state.accesses i).connection refl (goes.goes g is)
@@ -265,8 +264,8 @@ module _ {P : Type 0} {S : Type 0} (show : S → List Hop) (n : NetworkParts) wh
                 step c open' up t (turn c (ap (λ (s : State P S). (s.accesses i).connection) is.state ∙ open')) (steps_live_or_die c.session x) at'
           ]
 
-  -- the same at an end of a link
-  pub carry_keeps : (own all : ℕ) (l u at b : As) (x : Input) (g : Going P S) (n' : NetworkParts) (ms ms' : Membership P S) (lost lost' : As → List Lost) (f f' : Flow) → 2 + own ≤ all → same_as l u ≡ false → is_member n l ≡ true → is_member n u ≡ true →
+  -- at an end of a link
+  carry_keeps : (own all : ℕ) (l u at b : As) (x : Input) (g : Going P S) (n' : NetworkParts) (ms ms' : Membership P S) (lost lost' : As → List Lost) (f f' : Flow) → 2 + own ≤ all → same_as l u ≡ false → is_member n l ≡ true → is_member n u ≡ true →
       has_line at b (lines n) ≡ true → is_tick x ≡ false → IsOwnTurn (turn_of (f.sessions at b) x).actions → KeepsWord at (Inner b) ms f →
       Goes (λ k. deeds.inner_input P S wire k show (record { lower = l; upper = u }) at b x) (here n ms lost f) (here n' ms' lost' f') → IsAt g ms f → KeepsOn all n ms f → KeepsOn own n ms' f'
   carry_keeps own all l u at b x g n' ms ms' lost lost' f f' some apart lower upper live later turn word goes is keeps =
@@ -305,3 +304,17 @@ module _ {P : Type 0} {S : Type 0} (show : S → List Hop) (n : NetworkParts) wh
       step t own_turn (inl l') is' = lives t l'.says is'
       step t own_turn (inr (inl d)) is' = dies t d.why d.says is'
       step t own_turn (inr (inr pass)) is' = absurd (no_pass t.actions own_turn pass)
+
+  -- the same of any peer
+  pub input_keeps : (own all : ℕ) (at : As) (to : Peer) (x : Input) (s : Session) (g : Going P S) (n' : NetworkParts) (ms ms' : Membership P S) (lost lost' : As → List Lost) (f f' : Flow) → 2 + own ≤ all → IsEnd n f at to → is_member n at ≡ true → IsOf n f →
+      session_at at to f ≡ Some s → is_tick x ≡ false → IsOwnTurn (turn_of s x).actions → KeepsWord at to ms f →
+      Goes (λ k. input_at P S k show at to x) (here n ms lost f) (here n' ms' lost' f') → IsAt g ms f → KeepsOn all n ms f → KeepsOn own n ms' f'
+  input_keeps own all at (Outside i) x s g n' ms ms' lost lost' f f' some end member of there later turn word goes is keeps =
+      take_keeps own all i x g n' ms ms' lost lost' f f' some (subst (λ (a : As). is_member n a ≡ true) end member) later turns (λ live. subst (λ (a : As). KeepsWord a (Outside i) ms f) end word) goes is keeps
+    where
+      turns : (c : Connection) → (f.accesses i).connection ≡ Some c → IsOwnTurn (turn_of c.session x).actions
+      turns c e = subst (λ (q : Session). IsOwnTurn (turn_of q x).actions) (some_is s c.session (sym there ∙ ap (option_map (λ (k : Connection). k.session)) e)) turn
+  input_keeps own all at (Inner b) x s g n' ms ms' lost lost' f f' some end member of there later turn word goes is keeps =
+      let link = link_of n f at b end member of in
+      carry_keeps own all (line b at).lower (line b at).upper at b x g n' ms ms' lost lost' f f' some link.apart link.lower link.upper (linked_in n f at b of end.linked) later
+      (subst (λ (q : Session). IsOwnTurn (turn_of q x).actions) (some_is s (f.sessions at b) (sym there)) turn) word goes is keeps

@@ -1,23 +1,29 @@
 -- The inputs of a tick one after the other, with the words that they use.
-use Rattle.std.proofs.Common.{◌≡◌, ◌≤◌, ℕ, zero, suc, ◌+◌, ◌*◌, Bool, true, false, cond, Some, None, List, [], ◌∷◌, length, take, refl, ap, sym, subst, ◌∙◌, arith}
-use Rattle.std.specs.Prelude.{slice_get}
+use Rattle.std.proofs.Common.{◌≡◌, ◌≤◌, ◌<◌, ◌%◌, ℕ, zero, suc, ◌+◌, ◌*◌, Bool, true, false, cond, Some, None, List, [], ◌∷◌, ◌++◌, length, take, refl, ap, sym, subst, ◌∙◌, arith}
+use Rattle.std.specs.Prelude.{slice_get, nat_lt}
+use Rattle.std.proofs.lemmas.Bool.{eqb-false}
+use Rattle.std.proofs.Math.Nat.{mod-eq_of_lt}
+use Rattle.std.proofs.lemmas.Bool.Decides.{nat_tests}
 use Rattle.dom_base.specs.declared.names.As.{As}
 use Rattle.dom_base.specs.declared.names.Tick.{Tick}
 use Rattle.pcep_subobjects.specs.declared.hop.Hop.{Hop}
 use Rattle.pcep_session.specs.declared.session.Input.TheVariants as input
 use Rattle.plant_text.specs.declared.settings.NetworkParts.{NetworkParts}
 use Rattle.plant_text.specs.Names.{same_as, same_link}
-use Rattle.plant_text.specs.Settings.{Line, lines, has_line}
+use Rattle.plant_text.specs.Settings.{Line, before_line, children, has_line, insert_line, line, lines, sorted, upward}
 use Rattle.plant_traffic.specs.plant_layout.Lines.{line_of}
 use Rattle.plant_members.specs.plant_model.RealWire.{wire}
 use Rattle.plant_members.specs.plant_model.Deeds as deeds
 use Rattle.plant_members.specs.plant_model.Deeds.{Going, element_of}
 use Rattle.plant_members.specs.Membership.{is_member}
+use Rattle.plant_traffic.specs.Flow.{Flow}
 use Rattle.plant_deeds.specs.Passing.{IsOf}
+use Rattle.plant_deeds.specs.Peers.{IsLinkEnd}
 use Rattle.plant_deeds.specs.Roomy.{KeepsOn}
 use Rattle.plant_deeds.specs.Standing.{IsAt, Here, Goes}
 use Rattle.plant_deeds.specs.Using.{IsOn, Uses}
 use Rattle.plant_deeds.proofs.GoLaws.{goes_then, self}
+use Rattle.plant_deeds.proofs.RoomyNeeds.{apart_back, line_back}
 use Rattle.plant_deeds.proofs.RoomySteps.{keeps_fewer}
 use Rattle.plant_deeds.proofs.RoomyEvents.{outside_keeps, inner_keeps}
 use Rattle.plant_deeds.proofs.TickLaws.{peers_to, peers_all}
@@ -131,3 +137,64 @@ module _ {P : Type 0} {S : Type 0} where
 
   pub line_linked : {step : NetworkParts → Going P S → Going P S} {a b : Here P S} (k : ℕ) (p : As × As) → Goes step a b → IsOf a.network a.flow → Some (line_of p) ≡ slice_get b.flow.lines k → has_line p.0 p.1 (lines a.network) ≡ true
   line_linked {a = a} k p goes of is = line_found (lines a.network) k (line_of p) (line_here k (line_of p) goes of is)
+
+-- the count of peers is one of 32 bits
+pub peers_fit : (n : NetworkParts) (f : Flow) (count : ℕ) → IsOf n f → count ≡ f.peers → length n.peers < 4294967296 → count % 4294967296 ≡ count
+peers_fit n f count of count_is few = mod-eq_of_lt (omega (arith, few, of.peers_are, count_is))
+
+-- ---- both ends of a link
+
+-- each link of the settings has its lower end first
+abbrev AreRising : List Line → Type 0
+AreRising [] = Unit {0}
+AreRising (x ∷ xs) = (x.lower.0 ≤ x.upper.0) × AreRising xs
+
+rising_line : (a b : As) → (line a b).lower.0 ≤ (line a b).upper.0
+rising_line a b = go (nat_lt b.0 a.0) refl
+  where
+    go : (c : Bool) → nat_lt b.0 a.0 ≡ c → (cond {A = Line} c (record { lower = b; upper = a }) (record { lower = a; upper = b })).lower.0 ≤ (cond {A = Line} c (record { lower = b; upper = a }) (record { lower = a; upper = b })).upper.0
+    go true is = grind (arith, nat_tests)
+    go false is = grind (arith, nat_tests)
+
+rising_insert : (x : Line) (xs : List Line) → x.lower.0 ≤ x.upper.0 → AreRising xs → AreRising (insert_line x xs)
+rising_insert x [] one rest = (one, tt)
+rising_insert x (y ∷ ys) one rest = go (before_line x y) (rising_insert x ys one rest.1)
+  where
+    go : (c : Bool) → AreRising (insert_line x ys) → AreRising (cond c (x ∷ y ∷ ys) (y ∷ insert_line x ys))
+    go true more = (one, rest)
+    go false more = (rest.0, more)
+
+rising_sorted : (ps : List (As × As)) → AreRising (sorted ps)
+rising_sorted [] = tt
+rising_sorted (p ∷ ps) = rising_insert (line p.0 p.1) (sorted ps) (rising_line p.0 p.1) (rising_sorted ps)
+
+rising_upward : (ds : List As) (xs : List Line) → AreRising xs → AreRising (upward ds ++ xs)
+rising_upward [] xs rest = rest
+rising_upward (d ∷ ds) xs rest = (omega arith, rising_upward ds xs rest)
+
+rising_at : (xs : List Line) (k : ℕ) (x : Line) → AreRising xs → slice_get xs k ≡ Some x → x.lower.0 ≤ x.upper.0
+rising_at [] k x all is = cc
+rising_at (y ∷ xs) zero x all is = let same : y ≡ x = cc in subst (λ (z : Line). z.lower.0 ≤ z.upper.0) same all.0
+rising_at (y ∷ xs) (suc k) x all is = rising_at xs k x all.1 is
+
+pub line_rises : (n : NetworkParts) (k : ℕ) (x : Line) → slice_get (lines n) k ≡ Some x → same_as x.lower x.upper ≡ false → x.lower.0 < x.upper.0
+line_rises n k x is apart =
+    let most = rising_at (lines n) k x (rising_upward (children n) (sorted n.links) (rising_sorted n.links)) is in
+    let differ = eqb-false x.lower.0 x.upper.0 apart in
+    grind (arith, nat_tests)
+
+-- it is the same from either end
+pub line_ends : (a b : As) → a.0 < b.0 → (line a b ≡ record { lower = a; upper = b }) × (line b a ≡ record { lower = a; upper = b })
+line_ends a b rises =
+    let above : nat_lt b.0 a.0 ≡ false = grind (arith, nat_tests) in
+    let below : nat_lt a.0 b.0 ≡ true = grind (arith, nat_tests) in
+    (ap (λ (c : Bool). cond {A = Line} c (record { lower = b; upper = a }) (record { lower = a; upper = b })) above, ap (λ (c : Bool). cond {A = Line} c (record { lower = a; upper = b }) (record { lower = b; upper = a })) below)
+
+pub both_ends : (n : NetworkParts) (f : Flow) (a b : As) → is_member n a ≡ true → is_member n b ≡ true → same_as a b ≡ false → has_line a b (lines n) ≡ true → IsOf n f → IsLinkEnd n f a b × IsLinkEnd n f b a
+both_ends n f a b lower upper apart linked of = (
+  record { other = upper; apart = apart_back a b apart; linked = ap (has_line a b) of.lines_are ∙ linked },
+  record { other = lower; apart = apart; linked = ap (has_line b a) of.lines_are ∙ line_back a b (lines n) linked },
+)
+
+pub goes_of : {P : Type 0} {S : Type 0} {step : NetworkParts → Going P S → Going P S} {a b : Here P S} → Goes step a b → IsOf a.network a.flow → IsOf a.network b.flow
+goes_of goes of = record { lines_are = goes.lines ∙ of.lines_are; peers_are = goes.peers ∙ of.peers_are }

@@ -2,7 +2,7 @@
 use Rattle.std.specs.Prelude.{◌≡◌, ◌≤◌, ℕ, ◌+◌, ◌*◌, true, false, cond, List, [], ◌∷◌, length, Option, Some, None}
 use Rattle.dom_base.specs.declared.names.As.{As}
 use Rattle.dom_base.specs.declared.names.Peer.{Peer}
-use Rattle.dom_base.specs.declared.names.Peer.TheVariants.{Inner}
+use Rattle.dom_base.specs.declared.names.Peer.TheVariants.{Outside, Inner}
 use Rattle.pcep_session.specs.declared.actions.Action.{Action}
 use Rattle.pcep_session.specs.declared.actions.Action.TheVariants.{Send, Up, Down, Pass}
 use Rattle.pcep_session.specs.declared.session.Input.{Input}
@@ -10,6 +10,7 @@ use Rattle.pcep_session.specs.declared.state.State.{State as Session}
 use Rattle.pcep_session.specs.Table.{turn_of}
 use Rattle.request_table.specs.Pending.{same_peer}
 use Rattle.plant_queues.specs.Messages.{Covers, total}
+use Rattle.plant_text.specs.Settings.{line}
 use Rattle.plant_members.specs.plant_model.declared.output.Lost.{Lost}
 use Rattle.plant_members.specs.plant_model.Deeds.{any_fall}
 use Rattle.plant_members.specs.plant_model.Wire.{Bytes}
@@ -20,6 +21,7 @@ use Rattle.plant_members.specs.Membership.{Membership, fallen, lost_at}
 use Rattle.plant_members.specs.Owed.{is_peer}
 use Rattle.plant_deeds.specs.Telling.{count_lost}
 use Rattle.plant_deeds.specs.Breaking.{RoomToBreak}
+use Rattle.plant_deeds.specs.Peers.{breaks_by}
 
 -- Messages of its own come first, and whether it comes up or goes down stands last. Nothing is passed on.
 abbrev pub IsOwnTurn : List Action → Type 0
@@ -64,11 +66,18 @@ pub record Fits {P : Type 0} {S : Type 0} (at : As) (to : Peer) (as' : List Acti
   pub turn : IsOwnTurn as'
   pub room : RoomToAct at to as' (lost_by as' (lost_at at to ms)) f
 
+-- room to break the link
+abbrev pub RoomToBreakAt : {P : Type 0} {S : Type 0} → As → Peer → Membership P S → Flow → Type 0
+RoomToBreakAt at (Outside i) ms f = Unit {0}
+RoomToBreakAt at (Inner b) ms f =
+    let x = line b at in
+    RoomToBreak x.lower x.upper (lost_at x.lower (Inner x.upper) ms) (lost_at x.upper (Inner x.lower) (fallen x.lower (Inner x.upper) ms)) f
+
+-- the same at any peer, of which a link may break by it
+pub record FitsTurn {P : Type 0} {S : Type 0} (at : As) (to : Peer) (as' : List Action) (ms : Membership P S) (f : Flow) : Type 0 where
+  pub stays : breaks_by to as' ≡ false → Fits at to as' ms f
+  pub breaks : breaks_by to as' ≡ true → RoomToBreakAt at to ms f
+
 abbrev pub FitsInput : {P : Type 0} {S : Type 0} → As → Peer → Input → Option Session → Membership P S → Flow → Type 0
 FitsInput at to x None ms f = Unit {0}
-FitsInput at to x (Some s) ms f = Fits at to (turn_of s x).actions ms f
-
--- the same at an end of a link, which may break by it
-pub record FitsLink {P : Type 0} {S : Type 0} (lower upper at to : As) (as' : List Action) (ms : Membership P S) (f : Flow) : Type 0 where
-  pub stays : any_fall as' ≡ false → Fits at (Inner to) as' ms f
-  pub breaks : any_fall as' ≡ true → RoomToBreak lower upper (lost_at lower (Inner upper) ms) (lost_at upper (Inner lower) (fallen lower (Inner upper) ms)) f
+FitsInput at to x (Some s) ms f = FitsTurn at to (turn_of s x).actions ms f

@@ -8,6 +8,7 @@ pub mod Giving
 pub mod Passing
 pub mod Stepping
 pub mod Breaking
+pub mod Peers
 pub mod Acting
 pub mod Turns
 pub mod Roomy

@@ -2,7 +2,7 @@
 ghost use Rattle.std.specs.Prelude.{◌≡◌, true, false, [], OnErr};
 ghost use Rattle.dom_base.specs.declared.names.As.{As};
 ghost use Rattle.plant_text.specs.Names.{same_as};
-ghost use Rattle.plant_text.specs.Settings.{has_line, line, lines};
+ghost use Rattle.plant_text.specs.Settings.{has_line, lines};
 ghost use Rattle.plant_members.specs.plant_model.RealWire.{wire};
 ghost use Rattle.plant_members.specs.plant_model.Deeds as deeds;
 ghost use Rattle.plant_members.specs.plant_model.Events as events;
@@ -15,19 +15,11 @@ ghost use Rattle.plant_deeds.specs.Rooms.{IsRoomy};
 ghost use Rattle.plant_deeds.specs.Standing.{Goes, here, state_of};
 
 use crate::deeds::fall;
-use crate::links::break_line;
+use crate::links::break_between;
 use dom_base::{As, Peer, Tick};
 use plant_members::Members;
 use plant_members::model::{Outcome, Refused};
 use plant_traffic::Traffic;
-
-/// The lower end of a link, and the upper.
-pub(crate) fn line_between(a: As, b: As) -> (As, As)
-    ensures lower { result.0 ≡ (line a b).lower }
-    ensures upper { result.1 ≡ (line a b).upper }
-{
-    if b.0 < a.0 { (b, a) } else { (a, b) }
-}
 
 /// A link breaks; takes no memory.
 pub fn break_link<M: Members>(
@@ -51,9 +43,8 @@ pub fn break_link<M: Members>(
     if !traffic.is_linked(a, b) {
         return Err(Refused::NoSuchPeer);
     }
-    let (lower, upper) = line_between(a, b);
     traffic.clear_said();
-    break_line(members, traffic, lower, upper);
+    break_between(members, traffic, a, b);
     Ok(Outcome::Done)
 }
 

@@ -1,19 +1,17 @@
 //! How a network goes on, whatever its elements are: what its sessions, queues and links do at each event.
 #![tactic(auto)]
 
+mod acting;
 mod answering;
 mod deeds;
 mod events;
 mod feeding;
 mod giving;
-mod inner;
 mod law;
 mod links;
 mod opened;
 mod opening;
-mod outside;
-mod passing;
-mod taking;
+mod receiving;
 mod ticking;
 
 pub use answering::answer;
@@ -24,5 +22,5 @@ pub use opened::open;
 pub use opening::begin_links;
 pub use plant_members::{Members, model};
 pub use plant_traffic::{Traffic, lines_of};
-pub use taking::{carry, take};
+pub use receiving::{carry, take};
 pub use ticking::tick;

@@ -3,21 +3,31 @@ ghost use Rattle.std.specs.Prelude.{◌≡◌, ◌≤◌, true, false, []};
 ghost use Rattle.dom_base.specs.declared.names.Peer.TheVariants.{Inner};
 ghost use Rattle.dom_base.specs.declared.names.As.{As};
 ghost use Rattle.plant_text.specs.Names.{same_as};
+ghost use Rattle.plant_text.specs.Settings.{line};
 ghost use Rattle.plant_members.specs.plant_model.RealWire.{wire};
 ghost use Rattle.plant_members.specs.plant_model.Deeds as deeds;
 ghost use Rattle.plant_traffic.specs.Carried.{flow_of};
 ghost use Rattle.plant_members.specs.Membership.{is_member, fallen, lost_at};
 ghost use Rattle.plant_deeds.specs.Standing.{Goes, here};
 ghost use Rattle.plant_deeds.specs.Breaking.{RoomToBreak};
+ghost use Rattle.plant_deeds.specs.Acting.{RoomToBreakAt};
 
 use crate::deeds::fall;
 use dom_base::{As, Peer};
 use plant_members::Members;
 use plant_traffic::Traffic;
 
-/// A link breaks: both ends go down, the lower first, both queues are emptied, and both sessions are
-/// begun anew.
-pub(crate) fn break_line<M: Members>(members: &mut M, traffic: &mut Traffic, lower: As, upper: As)
+// The lower end of a link, and the upper.
+fn line_between(a: As, b: As) -> (As, As)
+    ensures lower { result.0 ≡ (line a b).lower }
+    ensures upper { result.1 ≡ (line a b).upper }
+{
+    if b.0 < a.0 { (b, a) } else { (a, b) }
+}
+
+// A link breaks: both ends go down, the lower first, both queues are emptied, and both sessions are
+// begun anew.
+fn break_line<M: Members>(members: &mut M, traffic: &mut Traffic, lower: As, upper: As)
     requires lower { is_member (M.network members.old) lower ≡ true }
     requires upper { is_member (M.network members.old) upper ≡ true }
     requires apart { same_as lower upper ≡ false }
@@ -31,4 +41,17 @@ pub(crate) fn break_line<M: Members>(members: &mut M, traffic: &mut Traffic, low
     traffic.clear(lower, upper);
     traffic.begin_end(lower, upper, sid);
     traffic.begin_end(upper, lower, sid);
+}
+
+/// The link between two members breaks.
+pub(crate) fn break_between<M: Members>(members: &mut M, traffic: &mut Traffic, a: As, b: As)
+    requires here { is_member (M.network members.old) a ≡ true }
+    requires there { is_member (M.network members.old) b ≡ true }
+    requires apart { same_as a b ≡ false }
+    requires none { (d : As) → M.lost members.old d ≡ [] }
+    requires room { RoomToBreakAt b (Inner a) (M.seen members.old) (flow_of traffic.old) }
+    ensures { Goes (λ n. deeds.break_line M.Pin M.Key wire n M.show (line a b)) (here (M.network members.old) (M.seen members.old) (M.lost members.old) (flow_of traffic.old)) (here (M.network members.new) (M.seen members.new) (M.lost members.new) (flow_of traffic.new)) }
+{
+    let (lower, upper) = line_between(a, b);
+    break_line(members, traffic, lower, upper);
 }

@@ -11,7 +11,8 @@ ghost use Rattle.plant_deeds.specs.Passing.{IsOf};
 ghost use Rattle.plant_deeds.specs.Rooms.{IsRoomy};
 ghost use Rattle.plant_deeds.specs.Standing.{state_of};
 
-use crate::outside::outside_input;
+use crate::acting::give_input;
+use dom_base::Peer;
 use pcep_session::Input;
 use plant_members::Members;
 use plant_members::model::{Outcome, Refused};
@@ -46,6 +47,14 @@ pub fn open<M: Members>(
         return Err(Refused::NoMemory);
     };
     traffic.clear_said();
-    outside_input(members, traffic, peer, Input::Begin, false);
+    let at = members.element_of(peer);
+    give_input(
+        members,
+        traffic,
+        at,
+        Peer::Outside(peer),
+        Input::Begin,
+        false,
+    );
     Ok(Outcome::Done)
 }

@@ -1,8 +1,6 @@
 //! A tick: the clock goes on, each session is told so, and keys expire. It takes no memory.
 ghost use Rattle.std.specs.Prelude.{◌≡◌, ◌<◌, ◌+◌, ◌*◌, true, false, [], length, Ok};
-ghost use Rattle.std.specs.Option.{option_map};
 ghost use Rattle.dom_base.specs.declared.names.As.{As};
-ghost use Rattle.dom_base.specs.declared.names.Peer.TheVariants.{Outside};
 ghost use Rattle.plant_text.specs.Names.{same_as};
 ghost use Rattle.plant_text.specs.Settings.{has_line, lines};
 ghost use Rattle.plant_traffic.specs.plant_layout.Lines.{line_of};
@@ -10,9 +8,10 @@ ghost use Rattle.plant_members.specs.plant_model.RealWire.{wire};
 ghost use Rattle.plant_members.specs.plant_model.Deeds as deeds;
 ghost use Rattle.plant_members.specs.plant_model.Events as events;
 ghost use Rattle.pcep_session.specs.declared.session.Input.TheVariants as inputs;
-ghost use Rattle.pcep_session.specs.Table.{turn_of};
 ghost use Rattle.plant_traffic.specs.Carried.{flow_of};
-ghost use Rattle.plant_deeds.specs.Acting.{FitsInput, FitsLink};
+ghost use Rattle.plant_traffic.specs.Flow.{session_at};
+ghost use Rattle.plant_deeds.specs.Acting.{FitsInput};
+ghost use Rattle.plant_deeds.specs.Peers.{IsEnd, input_at};
 ghost use Rattle.plant_deeds.specs.Happening.{IsDone};
 ghost use Rattle.plant_members.specs.Membership.{AreJoined, KeysBefore, is_member};
 ghost use Rattle.plant_deeds.specs.Passing.{IsOf};
@@ -21,26 +20,26 @@ ghost use Rattle.plant_deeds.specs.Roomy.{KeepsOn};
 ghost use Rattle.plant_deeds.specs.Standing.{Goes, here, state_of};
 ghost use Rattle.plant_deeds.specs.Using.{IsOn, Uses};
 
+use crate::acting::give_input;
 use crate::events::expire;
-use crate::inner::inner_input;
-use crate::outside::outside_input;
-use dom_base::{As, Tick};
+use dom_base::{As, Peer, Tick};
 use pcep_session::Input;
 use plant_members::Members;
 use plant_members::model::{Outcome, Refused};
 use plant_traffic::Traffic;
 
-// An outside peer is told. Where its session has nothing to say or to do, it is stepped where it stands.
-fn tick_peer<M: Members>(members: &mut M, traffic: &mut Traffic, peer: u32, now: Tick)
-    requires member { is_member (M.network members.old) (deeds.element_of (M.network members.old) peer) ≡ true }
+// The session of a member with a peer takes a tick: in place where it has nothing to say or to do at it.
+fn tick_session<M: Members>(members: &mut M, traffic: &mut Traffic, at: As, to: Peer, now: Tick)
+    requires end { IsEnd (M.network members.old) (flow_of traffic.old) at to }
+    requires member { is_member (M.network members.old) at ≡ true }
     requires none { (a : As) → M.lost members.old a ≡ [] }
-    requires room { FitsInput (deeds.element_of (M.network members.old) peer) (Outside peer) (inputs.Tick now) (option_map (λ x. x.session) ((flow_of traffic.old).accesses peer).connection) (M.seen members.old) (flow_of traffic.old) }
-    ensures { Goes (λ n. deeds.outside_input M.Pin M.Key wire n M.show peer (inputs.Tick now)) (here (M.network members.old) (M.seen members.old) (M.lost members.old) (flow_of traffic.old)) (here (M.network members.new) (M.seen members.new) (M.lost members.new) (flow_of traffic.new)) }
+    requires fits { FitsInput at to (inputs.Tick now) (session_at at to (flow_of traffic.old)) (M.seen members.old) (flow_of traffic.old) }
+    ensures { Goes (λ n. input_at M.Pin M.Key n M.show at to (inputs.Tick now)) (here (M.network members.old) (M.seen members.old) (M.lost members.old) (flow_of traffic.old)) (here (M.network members.new) (M.seen members.new) (M.lost members.new) (flow_of traffic.new)) }
 {
-    if traffic.tick_quietly(peer, now) {
+    if traffic.tick_quietly(at, to, now) {
         return;
     }
-    outside_input(members, traffic, peer, Input::Tick(now), true);
+    give_input(members, traffic, at, to, Input::Tick(now), true);
 }
 
 // The sessions of the outside peers are told, by number.
@@ -55,32 +54,9 @@ fn tick_peers<M: Members>(members: &mut M, traffic: &mut Traffic, now: Tick)
 {
     let count = traffic.peers() as u32;
     for peer in 0..count {
-        tick_peer(members, traffic, peer, now);
+        let at = members.element_of(peer);
+        tick_session(members, traffic, at, Peer::Outside(peer), now);
     }
-}
-
-// An end of a link is told, in the same way.
-fn tick_end<M: Members>(
-    members: &mut M,
-    traffic: &mut Traffic,
-    line: (As, As),
-    at: As,
-    to: As,
-    now: Tick,
-)
-    requires lower { is_member (M.network members.old) line.0 ≡ true }
-    requires upper { is_member (M.network members.old) line.1 ≡ true }
-    requires member { is_member (M.network members.old) at ≡ true }
-    requires apart { same_as line.0 line.1 ≡ false }
-    requires linked { has_line at to (flow_of traffic.old).lines ≡ true }
-    requires none { (a : As) → M.lost members.old a ≡ [] }
-    requires room { FitsLink line.0 line.1 at to (turn_of ((flow_of traffic.old).sessions at to) (inputs.Tick now)).actions (M.seen members.old) (flow_of traffic.old) }
-    ensures { Goes (λ n. deeds.inner_input M.Pin M.Key wire n M.show (line_of line) at to (inputs.Tick now)) (here (M.network members.old) (M.seen members.old) (M.lost members.old) (flow_of traffic.old)) (here (M.network members.new) (M.seen members.new) (M.lost members.new) (flow_of traffic.new)) }
-{
-    if traffic.tick_quietly_inner(at, to, now) {
-        return;
-    }
-    inner_input(members, traffic, line, at, to, Input::Tick(now), true);
 }
 
 // Both ends of a link are told, the lower first.
@@ -88,6 +64,7 @@ fn tick_line<M: Members>(members: &mut M, traffic: &mut Traffic, line: (As, As),
     requires lower { is_member (M.network members.old) line.0 ≡ true }
     requires upper { is_member (M.network members.old) line.1 ≡ true }
     requires apart { same_as line.0 line.1 ≡ false }
+    requires rises { line.0.0 < line.1.0 }
     requires linked { has_line line.0 line.1 (lines (M.network members.old)) ≡ true }
     requires of { IsOf (M.network members.old) (flow_of traffic.old) }
     requires none { (d : As) → M.lost members.old d ≡ [] }
@@ -95,8 +72,8 @@ fn tick_line<M: Members>(members: &mut M, traffic: &mut Traffic, line: (As, As),
     requires keeps { KeepsOn 4 (M.network members.old) (M.seen members.old) (flow_of traffic.old) }
     ensures { Uses (λ n g. deeds.inner_input M.Pin M.Key wire n M.show (line_of line) line.1 line.0 (inputs.Tick now) (deeds.inner_input M.Pin M.Key wire n M.show (line_of line) line.0 line.1 (inputs.Tick now) g)) 4 (here (M.network members.old) (M.seen members.old) (M.lost members.old) (flow_of traffic.old)) (here (M.network members.new) (M.seen members.new) (M.lost members.new) (flow_of traffic.new)) }
 {
-    tick_end(members, traffic, line, line.0, line.1, now);
-    tick_end(members, traffic, line, line.1, line.0, now);
+    tick_session(members, traffic, line.0, Peer::Inner(line.1), now);
+    tick_session(members, traffic, line.1, Peer::Inner(line.0), now);
 }
 
 // The sessions of the links are told, link by link.

@@ -1,5 +1,6 @@
 -- What is on its way in a network, whatever its elements are.
-use Rattle.std.specs.Prelude.{◌≡◌, ℕ, ◌+◌, ◌%◌, true, List, [], ◌∷◌, ◌++◌, Option, Some, None, Result, OnOk, OnErr, drop}
+use Rattle.std.specs.Prelude.{◌≡◌, ℕ, ◌+◌, ◌%◌, true, List, [], ◌∷◌, ◌++◌, Option, Some, None, Result, OnOk, OnErr, drop, slice_get}
+use Rattle.std.specs.Option.{option_map}
 use Rattle.dom_base.specs.declared.names.As.{As}
 use Rattle.dom_base.specs.declared.names.NoMemory.{NoMemory}
 use Rattle.dom_base.specs.declared.names.Peer.{Peer}
@@ -17,7 +18,7 @@ use Rattle.plant_text.specs.Settings.{Line, has_line}
 use Rattle.plant_layout.specs.plant_model.Names.{set_pair, set_number}
 use Rattle.plant_layout.specs.plant_model.Wire.{Bytes}
 use Rattle.plant_layout.specs.plant_model.State.{Connection, Access, State}
-use Rattle.plant_layout.specs.plant_model.Deeds.{on_connection, our_offer, with_more}
+use Rattle.plant_layout.specs.plant_model.Deeds.{on_connection, our_offer, with_inbox, with_more, with_session}
 use Rattle.plant_sessions.specs.Ends.{just_open, own_bytes}
 use Rattle.plant_sessions.specs.Links.{new_sender}
 use Rattle.plant_sessions.specs.Rooms.{KeepsRoom, Grows, Spends, Frees, queue}
@@ -96,6 +97,30 @@ set_session at b session f = record f { sessions = set_pair at b session f.sessi
 abbrev pub set_queue : As → As → List Bytes → Flow → Flow
 set_queue at b out f = record f { queues = set_pair at b out f.queues }
 
+abbrev pub drop_first : Connection → Connection
+drop_first x = with_inbox (drop 1 x.inbox) x
+
+-- ---- the session of a member with a peer
+
+-- there is none with an outside peer that is closed
+abbrev pub session_at : As → Peer → Flow → Option Session
+session_at at (Outside i) f = option_map (λ (x : Connection). x.session) (f.accesses i).connection
+session_at at (Inner b) f = Some (f.sessions at b)
+
+abbrev pub set_session_at : As → Peer → Session → Flow → Flow
+set_session_at at (Outside i) session f = change_access i (with_session session) f
+set_session_at at (Inner b) session f = set_session at b session f
+
+-- at an end of a link it has the number that it had
+abbrev pub MaySet : As → Peer → Session → Flow → Type 0
+MaySet at (Outside i) session f = Unit {0}
+MaySet at (Inner b) session f = (has_line at b f.lines ≡ true) × (session.offer.sid ≡ (f.sessions at b).offer.sid)
+
+-- the first of what waits for it; only from outside comes what cannot be a message
+abbrev pub first_at : As → Peer → Flow → Option (Option Bytes)
+first_at at (Outside i) f = slice_get (inbox_of (f.accesses i).connection) 0
+first_at at (Inner b) f = option_map Some (slice_get (f.queues b at) 0)
+
 -- ---- outside peers
 
 -- its queue keeps room for what its session says of itself
@@ -114,6 +139,11 @@ shut i f = record (set_access i (record { opened = (f.accesses i).opened; connec
 pub record DropsFirst (at to : As) (old new : Flow) : Type 0 where
   pub kept : new ≡ record (set_queue at to (drop 1 (old.queues at to)) old) { room = set_room at (Inner to) (new.room.inner at to) old.room }
   pub room : Frees (queue (old.queues at to) (old.room.inner at to)) (queue (new.queues at to) (new.room.inner at to))
+
+-- the first of what waits for a member leaves
+abbrev pub DropsFirstAt : As → Peer → Flow → Flow → Type 0
+DropsFirstAt at (Outside i) old new = new ≡ change_access i drop_first old
+DropsFirstAt at (Inner b) old new = DropsFirst b at old new
 
 -- both queues of a link are emptied
 pub record Clears (a b : As) (old new : Flow) : Type 0 where

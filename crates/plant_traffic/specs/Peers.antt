@@ -1,5 +1,5 @@
 -- Outside peers by their numbers.
-use Rattle.std.specs.Prelude.{◌≡◌, ◌==◌, ℕ, Bool, true, false, List, [], Option, Some, None, Result, Err, IfOk, OnOk, OnErr, slice_get, drop, length}
+use Rattle.std.specs.Prelude.{◌≡◌, ◌==◌, ℕ, Bool, true, false, List, [], Option, Some, None, Result, Err, IfOk, OnOk, OnErr, slice_get, length}
 use Rattle.std.specs.Option.{option_map}
 use Rattle.dom_base.specs.declared.names.NoMemory.{NoMemory as Want}
 use Rattle.dom_base.specs.declared.names.Tick.{Tick}
@@ -10,7 +10,7 @@ use Rattle.plant_layout.specs.plant_model.declared.outcome.Refused.TheVariants.{
 use Rattle.plant_layout.specs.plant_model.Names.{set_number}
 use Rattle.plant_layout.specs.plant_model.Wire.{Bytes}
 use Rattle.plant_layout.specs.plant_model.State as model
-use Rattle.plant_layout.specs.plant_model.Deeds.{on_connection, with_inbox, with_more}
+use Rattle.plant_layout.specs.plant_model.Deeds.{on_connection, with_more}
 use Rattle.plant_layout.specs.plant_model.Events.{is_down, drained}
 use Rattle.plant_sessions.specs.declared.access.Access.{Access}
 use Rattle.plant_sessions.specs.Ends.{Connected, fed_while_up}
@@ -56,9 +56,6 @@ set_guest i a spare g = record g { accesses = set_number i a g.accesses; room = 
 -- a connection changes, if it is open
 abbrev pub change_guest : ℕ → (model.Connection → model.Connection) → Guests → Guests
 change_guest i f g = record g { accesses = set_number i (on_connection f (g.accesses i)) g.accesses }
-
-abbrev pub drop_first : model.Connection → model.Connection
-drop_first x = with_inbox (drop 1 x.inbox) x
 
 -- ---- opened, and room
 

@@ -3,7 +3,8 @@ ghost use Rattle.std.specs.Prelude.{◌≡◌, ◌<◌, [], length, slice_get, I
 ghost use Rattle.plant_queues.specs.Messages.{Covers};
 ghost use Rattle.plant_layout.specs.plant_model.Deeds as deeds;
 ghost use Rattle.plant_traffic.specs.Accesses.{ChangesAt, ConnectsAccess, DrainsAccess, FeedsAccess, ReservesAccess, SendsAccess, on_connected};
-ghost use Rattle.plant_traffic.specs.Peers.{drop_first, room_of};
+ghost use Rattle.plant_traffic.specs.Flow.{drop_first};
+ghost use Rattle.plant_traffic.specs.Peers.{room_of};
 ghost use Rattle.plant_traffic.specs.Quiet.{TicksAccess};
 
 use crate::peers::Drained;

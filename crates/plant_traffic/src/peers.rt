@@ -6,8 +6,8 @@ ghost use Rattle.plant_layout.specs.plant_model.RealWire.{wire};
 ghost use Rattle.plant_layout.specs.plant_model.Deeds as deeds;
 ghost use Rattle.plant_sessions.specs.Ends.{is_left_out};
 ghost use Rattle.plant_sessions.specs.Quiet.{is_quiet_peer, ticked_quietly};
-ghost use Rattle.plant_traffic.specs.Flow.{inbox_of, no_room, out_of};
-ghost use Rattle.plant_traffic.specs.Peers.{Connects, DrainsPeer, FeedsPeer, GrowsGuest, SendsGuest, change_guest, drop_first, guests_of, no_guests, set_guest};
+ghost use Rattle.plant_traffic.specs.Flow.{drop_first, inbox_of, no_room, out_of};
+ghost use Rattle.plant_traffic.specs.Peers.{Connects, DrainsPeer, FeedsPeer, GrowsGuest, SendsGuest, change_guest, guests_of, no_guests, set_guest};
 
 use crate::accesses::{
     connect_at, drain_at, drop_first_at, empty_inbox_at, feed_at, put_at, reserve_at,

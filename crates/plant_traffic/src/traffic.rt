@@ -1,5 +1,5 @@
 //! What is on its way in a network.
-ghost use Rattle.std.specs.Prelude.{◌≡◌, ◌<◌, true, false, [], drop, length, not, slice_get, Some, None, IfOk, OnOk, OnErr, is_some};
+ghost use Rattle.std.specs.Prelude.{◌≡◌, ◌<◌, true, false, [], length, not, slice_get, Some, None, IfOk, OnOk, OnErr, is_some};
 ghost use Rattle.std.specs.Option.{option_map};
 ghost use Rattle.plant_text.specs.Settings.{has_line};
 ghost use Rattle.plant_layout.specs.Lines.{line_of, are_lines};
@@ -12,9 +12,9 @@ ghost use Rattle.plant_sessions.specs.Ends.{is_left_out, own_bytes};
 ghost use Rattle.plant_sessions.specs.Links.{next_sid};
 ghost use Rattle.plant_sessions.specs.Quiet.{is_quiet_peer, ticked_quietly};
 ghost use Rattle.plant_traffic.specs.Carried.{flow_of};
-ghost use Rattle.plant_traffic.specs.Flow.{ClearsSaid, Clears, Connects, DropsFirst, GrowsAt, GrowsSaid, IsBare, KeepsRoomAt, Puts, Begins, change_access, inbox_of, out_of, room_at, set_session, shut};
+ghost use Rattle.plant_traffic.specs.Flow.{ClearsSaid, Clears, Connects, DropsFirstAt, GrowsAt, GrowsSaid, IsBare, KeepsRoomAt, MaySet, Puts, Begins, change_access, first_at, queue_at, room_at, session_at, set_session, set_session_at, shut};
 ghost use Rattle.plant_traffic.specs.Happenings.{DrainsIn, FeedsIn};
-ghost use Rattle.plant_traffic.specs.Peers.{drop_first};
+ghost use Rattle.plant_traffic.specs.Quiet.{IsReached, is_quiet_at, ticked_at};
 
 use crate::links::Links;
 use crate::peers::{Drained, Peers};
@@ -112,47 +112,11 @@ impl Traffic {
         self.peers.holder(peer)
     }
 
-    /// The session of an outside peer that is open; a copy can be stepped and kept or not.
-    pub fn session(&self, peer: u32) -> Option<Session>
-        ensures { result ≡ option_map (λ x. x.session) ((flow_of self.now).accesses peer).connection }
-    {
-        self.peers.session(peer)
-    }
-
-    /// A later state of the session of an outside peer that is open.
-    pub fn set_session(&mut self, peer: u32, session: Session)
-        ensures { (flow_of self.new) ≡ change_access peer (deeds.with_session session) (flow_of self.old) }
-    {
-        self.peers.set_session(peer, session);
-    }
-
-    /// The first item of a peer's inbox, as its session takes it. It stays in the inbox.
-    pub fn first_input(&self, peer: u32) -> Result<Option<Input>, NoMemory>
-        ensures { IfOk result (λ input. input ≡ option_map (deeds.input_of wire) (slice_get (inbox_of ((flow_of self.now).accesses peer).connection) 0)) }
-    {
-        self.peers.first_input(peer)
-    }
-
-    /// Drops the first item of a peer's inbox.
-    pub fn drop_first(&mut self, peer: u32)
-        ensures { (flow_of self.new) ≡ change_access peer drop_first (flow_of self.old) }
-    {
-        self.peers.drop_first(peer);
-    }
-
     /// Drops all that waits in the peer's inbox.
     pub fn empty_inbox(&mut self, peer: u32)
         ensures { (flow_of self.new) ≡ change_access peer (deeds.with_inbox []) (flow_of self.old) }
     {
         self.peers.empty_inbox(peer);
-    }
-
-    /// Whether a message of the session itself is left out: a Keepalive at a tick, where the queue
-    /// holds bytes.
-    pub fn leaves_out(&self, peer: u32, ticks: bool, own: &Own) -> bool
-        ensures { result ≡ is_left_out ticks own.now (out_of ((flow_of self.now).accesses peer).connection) }
-    {
-        self.peers.leaves_out(peer, ticks, own)
     }
 
     /// An outside peer gets a connection with this holder, whose session has not begun and has room for
@@ -208,50 +172,11 @@ impl Traffic {
         self.links.line_at(k)
     }
 
-    /// The session of an end of a link with the other; a copy can be stepped and kept or not.
-    pub fn session_inner(&self, at: As, to: As) -> Session
-        ensures { result ≡ (flow_of self.now).sessions at to }
-    {
-        self.links.session(at, to)
-    }
-
-    /// A later state of the session at an end of a link, which has the number that it had.
-    pub fn set_session_inner(&mut self, at: As, to: As, session: Session)
-        requires linked { has_line at to (flow_of self.old).lines ≡ true }
-        requires sid { session.offer.sid ≡ ((flow_of self.old).sessions at to).offer.sid }
-        ensures { (flow_of self.new) ≡ set_session at to session (flow_of self.old) }
-    {
-        self.links.set_session(at, to, session);
-    }
-
-    /// The first message of the queue between two ends, as the session at the other end takes it. It
-    /// stays in the queue.
-    pub fn first_input_inner(&self, from: As, to: As) -> Result<Option<Input>, NoMemory>
-        ensures { IfOk result (λ input. input ≡ option_map (λ frame. deeds.input_of wire (Some frame)) (slice_get ((flow_of self.now).queues from to) 0)) }
-    {
-        self.links.first_input(from, to)
-    }
-
     /// Whether a message is on its way between two ends.
     pub fn is_on_its_way(&self, from: As, to: As) -> bool
         ensures { result ≡ not (is_empty ((flow_of self.now).queues from to)) }
     {
         self.links.is_on_its_way(from, to)
-    }
-
-    /// Drops the first message of the queue between two ends.
-    pub fn drop_first_inner(&mut self, from: As, to: As)
-        ensures { DropsFirst from to (flow_of self.old) (flow_of self.new) }
-    {
-        self.links.drop_first(from, to);
-    }
-
-    /// Whether a message of the session itself is left out: a Keepalive at a tick, where the queue
-    /// holds bytes.
-    pub fn leaves_out_inner(&self, at: As, to: As, ticks: bool, own: &Own) -> bool
-        ensures { result ≡ is_left_out ticks own.now ((flow_of self.now).queues at to) }
-    {
-        self.links.leaves_out(at, to, ticks, own)
     }
 
     /// Empties both queues of a link.
@@ -280,6 +205,60 @@ impl Traffic {
     }
 
     // ---- both
+
+    /// The session of a member with a peer; `None` where the peer is closed. A copy can be stepped and kept
+    /// or not.
+    pub fn session(&self, at: As, to: Peer) -> Option<Session>
+        ensures { result ≡ session_at at to (flow_of self.now) }
+    {
+        match to {
+            Peer::Outside(peer) => self.peers.session(peer),
+            Peer::Inner(other) => Some(self.links.session(at, other)),
+        }
+    }
+
+    /// A later state of the session of a member with a peer that is open; at an end of a link it has the
+    /// number that it had.
+    pub fn set_session(&mut self, at: As, to: Peer, session: Session)
+        requires { MaySet at to session (flow_of self.old) }
+        ensures { (flow_of self.new) ≡ set_session_at at to session (flow_of self.old) }
+    {
+        match to {
+            Peer::Outside(peer) => self.peers.set_session(peer, session),
+            Peer::Inner(other) => self.links.set_session(at, other, session),
+        }
+    }
+
+    /// The first of what waits for a member from a peer, as the session takes it. It stays there.
+    pub fn first_input(&self, at: As, from: Peer) -> Result<Option<Input>, NoMemory>
+        ensures { IfOk result (λ input. input ≡ option_map (deeds.input_of wire) (first_at at from (flow_of self.now))) }
+    {
+        match from {
+            Peer::Outside(peer) => self.peers.first_input(peer),
+            Peer::Inner(other) => self.links.first_input(other, at),
+        }
+    }
+
+    /// Drops the first of what waits for a member from a peer.
+    pub fn drop_first(&mut self, at: As, from: Peer)
+        ensures { DropsFirstAt at from (flow_of self.old) (flow_of self.new) }
+    {
+        match from {
+            Peer::Outside(peer) => self.peers.drop_first(peer),
+            Peer::Inner(other) => self.links.drop_first(other, at),
+        }
+    }
+
+    /// Whether a message of the session itself is left out: a Keepalive at a tick, where the queue
+    /// holds bytes.
+    pub fn leaves_out(&self, at: As, to: Peer, ticks: bool, own: &Own) -> bool
+        ensures { result ≡ is_left_out ticks own.now (queue_at at to (flow_of self.now)) }
+    {
+        match to {
+            Peer::Outside(peer) => self.peers.leaves_out(peer, ticks, own),
+            Peer::Inner(other) => self.links.leaves_out(at, other, ticks, own),
+        }
+    }
 
     /// Makes room in the queue from a member to a peer for so many more messages, of so many bytes
     /// together, besides those of the session itself. It refuses too where there is no such queue.
@@ -353,17 +332,27 @@ impl Traffic {
 
     // ---- ticks
 
-    /// The step of a tick, where the session of an outside peer has nothing to say or to do at it or the
-    /// peer is closed, and whether that is so; where it is not, nothing changes.
-    pub fn tick_quietly(&mut self, peer: u32, now: Tick) -> bool
+    /// The step of a tick, where the session of a member with a peer has nothing to say or to do at it, as
+    /// with one that is closed, and whether that is so; where it is not, nothing changes.
+    pub fn tick_quietly(&mut self, at: As, to: Peer, now: Tick) -> bool
+        requires { IsReached at to (flow_of self.old) }
+        ensures quiet { result ≡ is_quiet_at now at to (flow_of self.old) }
+        ensures next { (flow_of self.new) ≡ ticked_at now at to (flow_of self.old) }
+    {
+        match to {
+            Peer::Outside(peer) => self.tick_outside(peer, now),
+            Peer::Inner(other) => self.tick_inner(at, other, now),
+        }
+    }
+
+    fn tick_outside(&mut self, peer: u32, now: Tick) -> bool
         ensures quiet { result ≡ is_quiet_peer now ((flow_of self.old).accesses peer).connection }
         ensures next { (flow_of self.new) ≡ change_access peer (ticked_quietly now) (flow_of self.old) }
     {
         self.peers.tick_quietly(peer, now)
     }
 
-    /// The same of the session at an end of a link.
-    pub fn tick_quietly_inner(&mut self, at: As, to: As, now: Tick) -> bool
+    fn tick_inner(&mut self, at: As, to: As, now: Tick) -> bool
         requires { has_line at to (flow_of self.old).lines ≡ true }
         ensures quiet { result ≡ is_quiet now ((flow_of self.old).sessions at to) }
         ensures next { (flow_of self.new) ≡ set_session at to (after_quiet now ((flow_of self.old).sessions at to)) (flow_of self.old) }

@@ -1,44 +1,62 @@
 use Rattle.std.proofs.Common.{◌≡◌, true, sym, subst, arith}
 use Rattle.plant_text.specs.declared.settings.NetworkParts.{NetworkParts}
-use Rattle.plant_text.specs.Settings.{lines}
+use Rattle.plant_text.specs.Settings.{Line}
 use Rattle.plant_traffic.specs.plant_layout.Lines.{line_of}
 use Rattle.pcep_session.specs.declared.session.Input.TheVariants as inputs
 use Rattle.plant_members.specs.plant_model.RealWire.{wire}
 use Rattle.plant_members.specs.plant_model.Deeds as deeds
 use Rattle.plant_traffic.specs.Carried.{flow_of}
 use Rattle.plant_members.specs.Membership.{is_member}
-use Rattle.plant_deeds.specs.Standing.{here}
-use Rattle.plant_deeds.proofs.RoomyNeeds.{fits_link, line_back}
-use Rattle.plant_deeds.proofs.TickingLaws.{end_uses, uses_then}
+use Rattle.plant_deeds.specs.Peers.{IsLinkEnd}
+use Rattle.plant_deeds.specs.Standing.{Goes, here}
+use Rattle.plant_deeds.proofs.RoomyNeeds.{fits_link}
+use Rattle.plant_deeds.proofs.TickingLaws.{both_ends, end_uses, goes_of, line_ends, uses_then}
 use Rattle.plant_deeds.proofs.ticking.tick_line.Goals as goal
 
-pub tick_end-requires-clause-room : goal.tick_end-requires-clause-room
-tick_end-requires-clause-room g c =
-    let f = flow_of c.args.traffic.now in
-    fits_link (g.M.Members.network c.args.members.now) 4 c.args.line.0 c.args.line.1 c.args.line.0 c.args.line.1 (f.sessions c.args.line.0 c.args.line.1) c.args.now (g.M.Members.seen c.args.members.now) f
-    c.requires.apart c.requires.lower c.requires.upper c.requires.lower c.requires.linked c.requires.linked (omega arith) c.requires.keeps
+pub tick_session-requires-clause-end : goal.tick_session-requires-clause-end
+tick_session-requires-clause-end g c =
+    (both_ends (g.M.Members.network c.args.members.now) (flow_of c.args.traffic.now) c.args.line.0 c.args.line.1 c.requires.lower c.requires.upper c.requires.apart c.requires.linked c.requires.of).0
 
-pub tick_end-requires-2-clause-room : goal.tick_end-requires-2-clause-room
-tick_end-requires-2-clause-room g c =
+pub tick_session-requires-clause-fits : goal.tick_session-requires-clause-fits
+tick_session-requires-clause-fits g c =
     let n = g.M.Members.network c.args.members.now in
-    let f = flow_of c.tick_end.new.traffic in
-    let one = end_uses g.M.Members.show c.args.now (line_of c.args.line) c.args.line.0 c.args.line.1
-    (here n (g.M.Members.seen c.args.members.now) (g.M.Members.lost c.args.members.now) (flow_of c.args.traffic.now))
-    (here (g.M.Members.network c.tick_end.new.members) (g.M.Members.seen c.tick_end.new.members) (g.M.Members.lost c.tick_end.new.members) f)
-    c.requires.apart c.requires.lower c.requires.upper c.tick_end.ensures in
-    fits_link n 2 c.args.line.0 c.args.line.1 c.args.line.1 c.args.line.0 (f.sessions c.args.line.1 c.args.line.0) c.args.now (g.M.Members.seen c.tick_end.new.members) f
-    c.requires.apart c.requires.lower c.requires.upper c.requires.upper c.requires.linked (line_back c.args.line.0 c.args.line.1 (lines n) c.requires.linked) (omega arith)
+    let f = flow_of c.args.traffic.now in
+    let ends = both_ends n f c.args.line.0 c.args.line.1 c.requires.lower c.requires.upper c.requires.apart c.requires.linked c.requires.of in
+    fits_link n 4 c.args.line.0 c.args.line.1 (f.sessions c.args.line.0 c.args.line.1) c.args.now (g.M.Members.seen c.args.members.now) f ends.0 c.requires.lower c.requires.of (omega arith) c.requires.keeps
+
+pub tick_session-requires-2-clause-end : goal.tick_session-requires-2-clause-end
+tick_session-requires-2-clause-end g c =
+    let n = g.M.Members.network c.args.members.now in
+    let f = flow_of c.tick_session.new.traffic in
+    subst (λ (m : NetworkParts). IsLinkEnd m f c.args.line.1 c.args.line.0) (sym c.tick_session.ensures.network)
+    (both_ends n f c.args.line.0 c.args.line.1 c.requires.lower c.requires.upper c.requires.apart c.requires.linked (goes_of c.tick_session.ensures c.requires.of)).1
+
+pub tick_session-requires-2-clause-fits : goal.tick_session-requires-2-clause-fits
+tick_session-requires-2-clause-fits g c =
+    let n = g.M.Members.network c.args.members.now in
+    let l = c.args.line.0 in
+    let u = c.args.line.1 in
+    let f = flow_of c.tick_session.new.traffic in
+    let of = goes_of c.tick_session.ensures c.requires.of in
+    let start = here n (g.M.Members.seen c.args.members.now) (g.M.Members.lost c.args.members.now) (flow_of c.args.traffic.now) in
+    let then = here (g.M.Members.network c.tick_session.new.members) (g.M.Members.seen c.tick_session.new.members) (g.M.Members.lost c.tick_session.new.members) f in
+    let goes = subst (λ (x : Line). Goes (λ m. deeds.inner_input g.M.Members.Pin g.M.Members.Key wire m g.M.Members.show x l u (inputs.Tick c.args.now)) start then) (line_ends l u c.requires.rises).1 c.tick_session.ensures in
+    let one = end_uses g.M.Members.show c.args.now (line_of c.args.line) l u start then c.requires.apart c.requires.lower c.requires.upper goes in
+    fits_link n 2 u l (f.sessions u l) c.args.now (g.M.Members.seen c.tick_session.new.members) f (both_ends n f l u c.requires.lower c.requires.upper c.requires.apart c.requires.linked of).1 c.requires.upper of (omega arith)
     (one.keeps c.requires.on.going c.requires.on.at 2 c.requires.keeps)
 
 pub returns : goal.returns
 returns g c =
-    let start = here (g.M.Members.network c.args.members.now) (g.M.Members.seen c.args.members.now) (g.M.Members.lost c.args.members.now) (flow_of c.args.traffic.now) in
-    let then = here (g.M.Members.network c.tick_end.new.members) (g.M.Members.seen c.tick_end.new.members) (g.M.Members.lost c.tick_end.new.members) (flow_of c.tick_end.new.traffic) in
-    let end = here (g.M.Members.network c.tick_end-2.new.members) (g.M.Members.seen c.tick_end-2.new.members) (g.M.Members.lost c.tick_end-2.new.members) (flow_of c.tick_end-2.new.traffic) in
+    let l = c.args.line.0 in
+    let u = c.args.line.1 in
     let x = line_of c.args.line in
-    let one = end_uses g.M.Members.show c.args.now x c.args.line.0 c.args.line.1 start then c.requires.apart c.requires.lower c.requires.upper c.tick_end.ensures in
-    let two = end_uses g.M.Members.show c.args.now x c.args.line.1 c.args.line.0 then end c.requires.apart
-    (subst (λ (n : NetworkParts). is_member n c.args.line.0 ≡ true) (sym one.goes.network) c.requires.lower)
-    (subst (λ (n : NetworkParts). is_member n c.args.line.1 ≡ true) (sym one.goes.network) c.requires.upper) c.tick_end-2.ensures in
-    uses_then (λ n. deeds.inner_input g.M.Members.Pin g.M.Members.Key wire n g.M.Members.show x c.args.line.0 c.args.line.1 (inputs.Tick c.args.now))
-    (λ n. deeds.inner_input g.M.Members.Pin g.M.Members.Key wire n g.M.Members.show x c.args.line.1 c.args.line.0 (inputs.Tick c.args.now)) 2 2 start then end one two
+    let start = here (g.M.Members.network c.args.members.now) (g.M.Members.seen c.args.members.now) (g.M.Members.lost c.args.members.now) (flow_of c.args.traffic.now) in
+    let then = here (g.M.Members.network c.tick_session.new.members) (g.M.Members.seen c.tick_session.new.members) (g.M.Members.lost c.tick_session.new.members) (flow_of c.tick_session.new.traffic) in
+    let end = here (g.M.Members.network c.tick_session-2.new.members) (g.M.Members.seen c.tick_session-2.new.members) (g.M.Members.lost c.tick_session-2.new.members) (flow_of c.tick_session-2.new.traffic) in
+    let is = line_ends l u c.requires.rises in
+    let one = end_uses g.M.Members.show c.args.now x l u start then c.requires.apart c.requires.lower c.requires.upper (subst (λ (y : Line). Goes (λ m. deeds.inner_input g.M.Members.Pin g.M.Members.Key wire m g.M.Members.show y l u (inputs.Tick c.args.now)) start then) is.1 c.tick_session.ensures) in
+    let two = end_uses g.M.Members.show c.args.now x u l then end c.requires.apart
+    (subst (λ (n : NetworkParts). is_member n l ≡ true) (sym one.goes.network) c.requires.lower) (subst (λ (n : NetworkParts). is_member n u ≡ true) (sym one.goes.network) c.requires.upper)
+    (subst (λ (y : Line). Goes (λ m. deeds.inner_input g.M.Members.Pin g.M.Members.Key wire m g.M.Members.show y u l (inputs.Tick c.args.now)) then end) is.0 c.tick_session-2.ensures) in
+    uses_then (λ m. deeds.inner_input g.M.Members.Pin g.M.Members.Key wire m g.M.Members.show x l u (inputs.Tick c.args.now))
+    (λ m. deeds.inner_input g.M.Members.Pin g.M.Members.Key wire m g.M.Members.show x u l (inputs.Tick c.args.now)) 2 2 start then end one two

@@ -10,7 +10,7 @@ use Rattle.plant_traffic.specs.Carried.{flow_of}
 use Rattle.plant_members.specs.Membership.{is_member}
 use Rattle.plant_deeds.specs.Standing.{here}
 use Rattle.plant_deeds.proofs.RoomyNeeds.{line_back}
-use Rattle.plant_deeds.proofs.TickingLaws.{Until, goes_on, line_here, line_linked, lines_more, room_left, uses_by}
+use Rattle.plant_deeds.proofs.TickingLaws.{Until, goes_on, line_here, line_linked, line_rises, lines_more, room_left, uses_by}
 use Rattle.plant_deeds.proofs.ticking.tick_lines.Goals as goal
 
 pub tick_line-requires-clause-lower : goal.tick_line-requires-clause-lower
@@ -27,6 +27,11 @@ tick_line-requires-clause-upper g c =
 pub tick_line-requires-clause-apart : goal.tick_line-requires-clause-apart
 tick_line-requires-clause-apart g c =
     c.requires.apart c.in-Some.line.0 c.in-Some.line.1 (line_linked c.loop-k.k c.in-Some.line c.loop-k.invariant.uses.goes c.requires.of c.in-Some.ensures)
+
+pub tick_line-requires-clause-rises : goal.tick_line-requires-clause-rises
+tick_line-requires-clause-rises g c =
+    line_rises (g.M.Members.network c.args.members.now) c.loop-k.k (line_of c.in-Some.line) (line_here c.loop-k.k (line_of c.in-Some.line) c.loop-k.invariant.uses.goes c.requires.of c.in-Some.ensures)
+    (c.requires.apart c.in-Some.line.0 c.in-Some.line.1 (line_linked c.loop-k.k c.in-Some.line c.loop-k.invariant.uses.goes c.requires.of c.in-Some.ensures))
 
 pub tick_line-requires-clause-linked : goal.tick_line-requires-clause-linked
 tick_line-requires-clause-linked g c =

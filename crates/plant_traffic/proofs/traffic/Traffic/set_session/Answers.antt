@@ -1,0 +1,16 @@
+use Rattle.std.proofs.Common.{◌≡◌, ◌∙◌, ap, sym, subst}
+use Rattle.dom_base.specs.declared.names.Peer.{Peer}
+use Rattle.dom_base.specs.declared.names.Peer.TheVariants.{Inner}
+use Rattle.plant_traffic.specs.Carried.{Carried, seen, flow_of}
+use Rattle.plant_traffic.specs.Flow.{MaySet, set_session, set_session_at}
+use Rattle.plant_traffic.specs.Sides.{row_of}
+use Rattle.plant_traffic.specs.TrafficFields.{carried_of}
+use Rattle.plant_traffic.proofs.FlowLemmas.{session_changes}
+use Rattle.plant_traffic.proofs.traffic.Traffic.set_session.Goals as goal
+
+pub returns-in-Inner : goal.returns-in-Inner
+returns-in-Inner c =
+    let new : Carried = record (carried_of c.self.inside) { links = c.set_session-in-Inner.new.self } in
+    subst (λ (p : Peer). flow_of new ≡ set_session_at c.args.at p c.args.session (flow_of c.args.self.now)) (sym c.in-Inner.is)
+    (session_changes (seen (carried_of c.self.inside)) c.args.at c.in-Inner.other (row_of c.set_session-in-Inner.new.self) c.args.session c.set_session-in-Inner.ensures
+    ∙ ap (λ (x : Carried). set_session c.args.at c.in-Inner.other c.args.session (flow_of x)) c.self.view_is)
