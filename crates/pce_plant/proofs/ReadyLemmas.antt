@@ -24,7 +24,7 @@ use Rattle.plant_network.specs.plant_members.Membership.{is_member}
 use Rattle.plant_network.specs.plant_members.Owed.{count_by_asker, is_peer}
 use Rattle.plant_network.specs.plant_traffic.Carried.{flow_of}
 use Rattle.plant_network.specs.plant_deeds.Rooms.{is_live, is_talking}
-use Rattle.plant_network.proofs.plant_deeds.TakingLaws.{peer_member}
+use Rattle.plant_network.proofs.plant_deeds.LossEvents.{open_below}
 use Rattle.pce_plant.specs.Held.{Held, IsSound, whole}
 use Rattle.pce_plant.specs.Jobs.{CanSolve}
 
@@ -132,7 +132,7 @@ module _ (h : Held) (sound : IsSound h) where
       go false at c is = refl
       go true at None is = refl
       go true at (Some x) is =
-          let member : is_member n (element_of n i) ≡ true = (peer_member n h.carried i x sound.joined sound.kept.of is).1 in
+          let member : is_member n (element_of n i) ≡ true = sound.joined.peers i (omega (arith, open_below h.carried i (ap is_some is), sound.kept.of.peers_are)) in
           let same : parent_as.0 ≡ (element_of n i).0 = eqb-true parent_as.0 (element_of n i).0 at in
           let here : same_as (element_of n i) parent_as ≡ true = eq-eqb (element_of n i).0 parent_as.0 (sym same) in
           let has : is_some n.parent ≡ true = sym (ap (λ (b : Bool). cond b (is_some n.parent) (is_element n (element_of n i))) here) ∙ member in
