@@ -212,7 +212,7 @@ mod network;
 
 use crate::asking::{again, fill};
 use crate::network::{Size, job};
-use border_costs::{Job, Target, solve};
+use border_costs::{Target, solve};
 use cost_cache::Cache;
 use dom_base::{Addr, As};
 use std::io;
@@ -221,7 +221,7 @@ use std::time::Instant;
 const ROUNDS: u32 = 200;
 
 fn measure(rt: &HostRuntime, size: Size, target: Target) -> io::Result<()> {
-    let Ok(Some(job)) = job(rt.alloc(), size, target) else {
+    let Ok(Some(mut job)) = job(rt.alloc(), size, target) else {
         return println!(rt; "no job");
     };
     let Size { entries, outs } = size;
@@ -232,7 +232,6 @@ fn measure(rt: &HostRuntime, size: Size, target: Target) -> io::Result<()> {
             best = best.min(start.elapsed(rt)?.as_nanos());
         }
     }
-    let Job { mut ask, topology } = job;
     let mut first = u128::MAX;
     let mut hit = u128::MAX;
     for _round in 0..ROUNDS {
@@ -240,11 +239,11 @@ fn measure(rt: &HostRuntime, size: Size, target: Target) -> io::Result<()> {
             return println!(rt; "no memory");
         };
         let start = Instant::now(rt)?;
-        if fill(&mut cache, &mut ask, &topology, 1) {
+        if fill(&mut cache, &mut job.ask, &job.topology, 1) {
             first = first.min(start.elapsed(rt)?.as_nanos());
         }
         let start = Instant::now(rt)?;
-        if again(&mut cache, &ask, &topology, 1) {
+        if again(&mut cache, &job.ask, &job.topology, 1) {
             hit = hit.min(start.elapsed(rt)?.as_nanos());
         }
     }

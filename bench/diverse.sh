@@ -1,6 +1,6 @@
 #!/bin/sh
 # Times a pair of disjoint paths at the limits, 1,024 nodes and 8,192 inner links, beside one search with the path that it shows,
-# on four topologies: many ties, metrics to 1,000, a grid, a line. Of 60 rounds the least counts, in microseconds, with the ratio.
+# on four topologies: many ties, metrics to 1,000, a grid, a line. Of 500 rounds the least counts, in microseconds, with the ratio.
 # It makes a program in a copy of the repository, proves and builds it there, and runs it. With another checkout it makes a second
 # one over that, and runs the two in turn, three times. The figures hold for the machine and the moment alone: no clause speaks
 # of time.
@@ -223,7 +223,7 @@ fn measure(rt: &HostRuntime, name: &str, shape: Shape) -> io::Result<()> {
     let mut search = u128::MAX;
     let mut both = u128::MAX;
     let mut links = 0;
-    for _round in 0..60 {
+    for _round in 0..500 {
         let start = Instant::now(rt)?;
         if let Ok(_links) = find(rt.alloc(), &topology, &query, zero) {
             search = search.min(start.elapsed(rt)?.as_nanos());

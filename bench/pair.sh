@@ -1,50 +1,42 @@
 #!/bin/sh
-# Times `pair` and `pair-certify` beside `answer` over a topology at the limits: 1,024 nodes and 8,192 links, the same at each run.
-# Reading and building are told apart from searching by a request that is refused once the topology is there.
-# usage: bench/pair.sh [ROUNDS]
+# Whole runs of `pair` and `pair-certify` beside `answer`, over four topologies at the limits (many ties, metrics to 1,000, a grid, a line), by
+# the time that the processor was busy, the least of the rounds each, in turn; what a request that is refused once the topology is there
+# takes (reading and building) is taken off. Each certificate is checked by `pair-verify`. It needs Python. The figures hold for the
+# machine and the moment alone: no clause speaks of time.
+# usage: bench/pair.sh [PROGRAM [ROUNDS]]   (the program that the gate proved and built, and 20, where left out)
 set -eu
-rounds=${1:-5}
 top=$(cd "$(dirname "$0")/.." && pwd)
+program=${1:-$top/crates/pce_main/out/pce_main}
+rounds=${2:-20}
+[ -x "$program" ] || { echo "pair: no program $program; \`rt ci\` builds it" >&2; exit 2; }
 work=$(mktemp -d)
 trap 'rm -rf "$work"' EXIT
+PYTHONPATH=$top/bench python3 -B - "$(realpath "$program")" "$work" "$rounds" <<'PY'
+import os
+import sys
 
-# A ring of 1,024 nodes, and from each node seven links to others by a fixed rule. The metric grows with the distance, so that
-# many labels are lowered several times.
-awk 'BEGIN {
-    print "topology 1"
-    for (i = 0; i < 1024; i++) printf "node 10.0.%d.%d\n", int(i / 256), i % 256
-    x = 1
-    for (i = 0; i < 1024; i++) for (k = 0; k < 8; k++) {
-        x = (x * 69069 + 1) % 4294967296
-        j = k == 0 ? (i + 1) % 1024 : int(x / 65536) % 1024
-        if (j == i) j = (i + 1) % 1024
-        te = k == 0 ? 1 : 1 + int(x / 1024) % 5000
-        n = i * 8 + k
-        printf "link 10.0.%d.%d 10.0.%d.%d 10.%d.%d.%d 10.%d.%d.%d 1 %d 1000 00000000", int(i / 256), i % 256, int(j / 256), j % 256, 64 + int(n / 65536), int(n / 256) % 256, n % 256, 128 + int(n / 65536), int(n / 256) % 256, n % 256, te
-        print ""
-    }
-}' >"$work/limits.txt"
-echo "20 03 00 1C 02 12 00 0C 00 00 00 00 00 00 00 01 04 12 00 0C 0A 00 00 00 0A 00 03 FF" >"$work/request.hex"
-echo "20 03 00 44 0B 12 00 10 00 00 00 01 00 00 00 01 00 00 00 02 02 12 00 0C 00 00 00 00 00 00 00 01 04 12 00 0C 0A 00 00 00 0A 00 03 FF 02 12 00 0C 00 00 00 00 00 00 00 02 04 12 00 0C 0A 00 00 00 0A 00 03 FF" >"$work/pair.hex"
-echo "zz" >"$work/refused.hex"
-"$top/pce" --version
+from shapes import ENDS, SHAPES, run, write_topology
 
-measure() { # what, command, input
-    printf '%s:' "$1"
-    round=0
-    while [ "$round" -lt "$rounds" ]; do
-        begin=$(date +%s%N)
-        (cd "$work" && "$top/pce" "$2" limits.txt <"$3" >"$work/out" 2>/dev/null) || true
-        end=$(date +%s%N)
-        printf ' %d ms' $(((end - begin) / 1000000))
-        round=$((round + 1))
-    done
-    echo
-}
+program, folder, rounds = sys.argv[1], sys.argv[2], int(sys.argv[3])
+ASK = lambda number: "0212000c00000000%08x" % number + ENDS
+ONE = ("2003001c" + ASK(1) + "\n").encode()
+BOTH = ("20030044" + "0b120010000000010000000100000002" + ASK(1) + ASK(2) + "\n").encode()
+KINDS = (("reading and building", "answer", b"zz\n"), ("one search", "answer", ONE), ("a pair", "pair", BOTH), ("a pair and its certificate", "pair-certify", BOTH))
 
-measure "reading and building" answer "$work/refused.hex"
-measure "reading, building, one search, answering" answer "$work/request.hex"
-measure "reading, building, a pair, answering" pair "$work/pair.hex"
-measure "reading, building, a pair, its certificate" pair-certify "$work/pair.hex"
-cp "$work/out" "$work/limits.pair"
-(cd "$work" && "$top/pce" pair-verify limits.txt limits.pair <"$work/pair.hex")
+for shape in SHAPES:
+    write_topology(folder, shape)
+    least = [float("inf")] * len(KINDS)
+    for _ in range(rounds):
+        for at, (what, command, given) in enumerate(KINDS):
+            took, status, told = run(folder, [program, command, "limits.txt"], given)
+            if at > 0 and status != 0:
+                sys.exit("pair: %s, %s: status %d" % (shape, what, status))
+            least[at] = min(least[at], took)
+    with open(os.path.join(folder, "limits.pair"), "wb") as out:
+        out.write(told)
+    _, status, verdict = run(folder, [program, "pair-verify", "limits.txt", "limits.pair"], BOTH)
+    if status != 0:
+        sys.exit("pair: %s: the certificate: %s" % (shape, verdict.decode()))
+    read, one, pair, certified = (time * 1000 for time in least)
+    print("%s: reading and building %.2f ms; beyond that one search %.2f ms, a pair %.2f ms (%.1f times), with its certificate %.2f ms" % (shape, read, one - read, pair - read, (pair - read) / (one - read), certified - read), flush=True)
+PY

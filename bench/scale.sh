@@ -1,9 +1,9 @@
 #!/bin/sh
 # How cost grows with the nodes of a domain and with the elements of a network, as pictures: a search, `solve`, a pair, a request in one
 # domain and through four, a request through 1 to 16 elements, a tick, and memory. Topologies are drawn, with eight links from each node,
-# from 16 nodes to the limits. Searches are timed by a program that is made, proved and built in a copy of the repository; what the network
-# does by `play`, over scripts with the events and without them: the difference of the times that the processor was busy, the least of the
-# rounds each. Beside them stands bench/plain/scale.c; where both find costs, these have to agree. It writes docs/scale/figures.txt, a row for each
+# from 16 nodes to the limits. Searches are timed by a program that is made, proved and built in a copy of the repository, 300 times in each round; what the network
+# does by `play`, over scripts with the events and without them: the difference of the times that the processor was busy. Of the rounds the
+# least counts. Beside them stands bench/plain/scale.c; where both find costs, these have to agree. It writes docs/scale/figures.txt, a row for each
 # figure, and a picture for each kind. Needs Python, a C compiler and gnuplot. The figures hold for the machine and the moment alone.
 # usage: bench/scale.sh [PROGRAM [ROUNDS [SEARCHES]]]   (the program that the gate proved and built, and 5; SEARCHES is such a program of
 #        searches, in place of the one that is made)
@@ -133,7 +133,7 @@ mod network;
 use crate::network::{job, node};
 use border_costs::{Job, seeds_of, solve};
 use diverse_pairs::{PairForm, path_cost, solve_pair};
-use dom_base::NoMemory;
+use dom_base::{Addr, NoMemory};
 use path_search::search;
 use std::io;
 use std::time::Instant;
@@ -190,16 +190,20 @@ fn time_solve(rt: &HostRuntime, job: &Job, figure: &mut Figure) -> io::Result<()
     Ok(())
 }
 
+fn cost_of(job: &Job, shown: &[Addr]) -> u64 {
+    if shown.len() <= 1_024 {
+        path_cost(&job.topology, &job.ask.query, shown)
+    } else {
+        0
+    }
+}
+
 // The sum of the costs of a pair.
 fn pair(rt: &HostRuntime, job: &Job, nodes: u32) -> Result<u64, NoMemory> {
     let (topology, query) = (&job.topology, &job.ask.query);
     let found = solve_pair(rt.alloc(), topology, query, job.ask.source, node(nodes / 2))?;
     Ok(match &found.form {
-        PairForm::Paths { first, second, .. } => path_cost(
-            topology,
-            query,
-            first.as_slice(),
-        ).wrapping_add(path_cost(topology, query, second.as_slice())),
+        PairForm::Paths { first, second, .. } => cost_of(job, first.as_slice()).wrapping_add(cost_of(job, second.as_slice())),
         PairForm::Cut(_) => 0,
     })
 }
@@ -405,10 +409,13 @@ def note(picture, curve, x, y):
 
 
 def measure_searches():
-    ours, beside = (
-        {(what, int(nodes)): (int(took), int(total)) for what, nodes, took, total in map(str.split, subprocess.check_output(words, text=True).splitlines())}
-        for words in ([searches], [plain] + [str(nodes) for nodes in SIZES])
-    )
+    ours, beside = {}, {}
+    for _ in range(rounds):
+        for words, least in (([searches], ours), ([plain] + [str(nodes) for nodes in SIZES], beside)):
+            for row in subprocess.check_output(words, text=True).splitlines():
+                what, nodes, took, total = row.split()
+                before = least.get((what, int(nodes)), (float("inf"),))
+                least[what, int(nodes)] = min(before[0], int(took)), int(total)
     for what, nodes in ours:
         if what != "search" and ours[what, nodes][1] != beside[what, nodes][1]:
             sys.exit("scale: %s over %d nodes: the sums of the costs differ" % (what, nodes))

@@ -1,6 +1,6 @@
 #!/bin/sh
 # Times a search at the limits, 1,024 nodes and 8,192 inner links, beside a plain program in C over arrays, on the same four
-# topologies: many ties, metrics to 1,000, a grid, a line. Of 100 rounds the least counts, in microseconds, with the ratio.
+# topologies: many ties, metrics to 1,000, a grid, a line. Of 1,000 rounds the least counts, in microseconds, with the ratio.
 # It makes a program in a copy of the repository, proves and builds it there, and runs it. The figures hold for the
 # machine and the moment alone: no clause speaks of time.
 # usage: bench/search.sh [PROGRAM]   (another program that prints such lines, put beside in place of the one in C)
@@ -188,7 +188,7 @@ fn measure(rt: &HostRuntime, name: &str, shape: Shape) -> io::Result<()> {
         return println!(rt; "no topology");
     };
     let mut best = u128::MAX;
-    for _round in 0..100 {
+    for _round in 0..1_000 {
         let start = Instant::now(rt)?;
         if let Ok(_labels) = find(rt.alloc(), &topology, cap, zero) {
             best = best.min(start.elapsed(rt)?.as_nanos());
@@ -213,5 +213,5 @@ RT
 "$beside" >"$copy/beside"
 grep ' us' "$copy/figures" | while read -r name time unit; do
     other=$(awk -v name="$name" '$1 == name { print $2 }' "$copy/beside")
-    awk -v name="$name" -v time="$time" -v other="$other" 'BEGIN { printf "%s %s us, beside %s us: %.1f times\n", name, time, other, time / other }'
+    awk -v name="$name" -v time="$time" -v other="$other" 'BEGIN { printf "%s %s us, beside %s us: %.2f times\n", name, time, other, time / other }'
 done
