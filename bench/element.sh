@@ -18,7 +18,7 @@ for name in dom_base line_text te_links te_text te_generations path_constraints 
     cp -r "$top/crates/$name" "$copy/crates/"
     grep "^$name[ :]" "$top/crates.txt" >>"$copy/crates.txt"
 done
-sed -n 's/^pce_element: /element_bench: pce_element /p' "$top/crates.txt" >>"$copy/crates.txt"
+sed -n 's/^pce_element: /element_bench: pce_element plant_model /p' "$top/crates.txt" >>"$copy/crates.txt"
 crate=$copy/crates/element_bench
 mkdir -p "$crate/src" "$crate/proofs/serving/answer" "$crate/proofs/serving/take_all" "$crate/proofs/serving/answer_all"
 
