@@ -4,8 +4,8 @@ use Rattle.std.specs.Prelude.{Contains, codes}
 use Rattle.dom_base.specs.declared.names.As.{As}
 use Rattle.dom_edge.specs.Causes.{Rose}
 use Rattle.dom_edge.specs.Stores.{Files, HasFile, IfFile}
-use Rattle.topology_files.specs.Reading.{IsTopologyFault}
-use Rattle.network_files.specs.Loading.{HasNetwork, settings_max}
+use Rattle.network_files.specs.Reading.{IsTopologyFault}
+use Rattle.network_files.specs.Settings.{HasNetwork, settings_max}
 use Rattle.plant_text.specs.declared.fault.NetFault.{NetFault}
 use Rattle.plant_text.specs.declared.fault.NetFault.TheVariants.{Duplicate}
 use Rattle.plant_text.specs.declared.settings.ElementRow.{ElementRow}

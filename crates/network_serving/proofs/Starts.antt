@@ -5,7 +5,7 @@ use Rattle.std.proofs.lemmas.List.{length-map}
 use Rattle.dom_base.specs.declared.names.As.{As}
 use Rattle.dom_edge.specs.Causes.{Rose, next_count}
 use Rattle.dom_edge.specs.Stores.{Files}
-use Rattle.network_files.specs.Loading.{HasNetwork}
+use Rattle.network_files.specs.Settings.{HasNetwork}
 use Rattle.plant_text.specs.declared.settings.NetworkParts.{NetworkParts}
 use Rattle.plant_text.specs.declared.settings.PeerRow.{PeerRow}
 use Rattle.serve_tasks.specs.declared.duties.Duty.{Duty}

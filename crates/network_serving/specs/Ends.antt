@@ -2,7 +2,7 @@
 use Rattle.std.specs.Prelude.{◌≡◌, ◌+◌, ◌-◌, ◌^◌, ◌≤◌, ℕ, List, ◌++◌, min, slice_get, Option, Some}
 use Rattle.dom_edge.specs.Causes.{Rose}
 use Rattle.dom_edge.specs.Stores.{Files}
-use Rattle.network_files.specs.Loading.{HasNetwork}
+use Rattle.network_files.specs.Settings.{HasNetwork}
 use Rattle.plant_text.specs.declared.settings.NetworkParts.{NetworkParts}
 use Rattle.serve_tasks.specs.declared.duties.Duty.{Duty}
 use Rattle.network_serving.specs.Duties.{duties_of}

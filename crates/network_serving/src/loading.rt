@@ -1,6 +1,6 @@
 //! The topologies that the settings name are loaded and shown.
 ghost use Rattle.std.specs.Prelude.{◌≡◌, ◌≤◌, IfErr, IfOk};
-ghost use Rattle.topology_files.specs.Reading.{IsTopologyFault};
+ghost use Rattle.network_files.specs.Reading.{IsTopologyFault};
 ghost use Rattle.ted_watch.specs.Watch.{list_of, published};
 ghost use Rattle.operator_lines.specs.Operating.{AreOfElements};
 ghost use Rattle.network_serving.specs.Files.{IsFileEnd, IsNamedEnd, IsTopologyEnd, topology_max};
@@ -10,6 +10,7 @@ use crate::served::Served;
 use crate::settings::{bad_network, read_file};
 use dom_base::As;
 use dom_edge::Store;
+use network_files::{FileError, topology_of};
 use operator_lines::{Chart, publish};
 use plant_text::{ElementRow, Network};
 use session_serving::model::Event;
@@ -18,7 +19,6 @@ use std::sync::Wait;
 use std::time::Clock;
 use te_links::Topology;
 use ted_watch::Publisher;
-use topology_files::{FileError, topology_of};
 use turn_desk::TurnDesk;
 
 // How many bytes a topology may have.

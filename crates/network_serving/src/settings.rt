@@ -2,7 +2,7 @@
 ghost use Rattle.std.specs.Prelude.{◌≡◌, ◌≤◌, IfErr, IfOk, length};
 ghost use Rattle.dom_edge.specs.Stores.{HasFile};
 ghost use Rattle.plant_text.specs.Reads.{Reads};
-ghost use Rattle.network_files.specs.Loading.{HasNetwork, settings_max};
+ghost use Rattle.network_files.specs.Settings.{HasNetwork, settings_max};
 ghost use Rattle.network_serving.specs.Files.{IsBadAt, IsBadText, IsFileEnd, IsNoFault, IsSettingsFault, IsTooLarge};
 
 use crate::served::Served;

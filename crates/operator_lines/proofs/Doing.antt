@@ -10,8 +10,8 @@ use Rattle.dom_base.specs.declared.names.As.{As}
 use Rattle.dom_edge.specs.Stores.{HasFile}
 use Rattle.te_links.specs.Rows.{Rows}
 use Rattle.te_deltas.specs.ChangeText.{change_file_most}
-use Rattle.topology_files.specs.declared.error.FileError.{FileError}
-use Rattle.topology_files.specs.declared.error.FileError.TheVariants.{BadFile, NoMemory as LacksFile}
+use Rattle.network_files.specs.declared.error.FileError.{FileError}
+use Rattle.network_files.specs.declared.error.FileError.TheVariants.{BadFile, NoMemory as LacksFile}
 use Rattle.plant_text.specs.declared.fault.NetFault.{NetFault}
 use Rattle.plant_text.specs.Given.{Gives}
 use Rattle.plant_text.specs.declared.line.LineError.{LineError}

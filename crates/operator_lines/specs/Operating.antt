@@ -13,7 +13,7 @@ use Rattle.te_text.specs.Reads.{Reads}
 use Rattle.te_deltas.specs.Answers.{IsBuiltOf}
 use Rattle.te_deltas.specs.ChangeText.{change_file_most, text_in}
 use Rattle.te_deltas.specs.declared.changes.Change.{Change}
-use Rattle.topology_files.specs.Reading.{IsChangeFault, IsTextFault, IsTopologyFault}
+use Rattle.network_files.specs.Reading.{IsChangeFault, IsTextFault, IsTopologyFault}
 use Rattle.plant_text.specs.declared.fault.NetFault.{NetFault}
 use Rattle.plant_text.specs.declared.line.LineEvent.{LineEvent}
 use Rattle.plant_text.specs.declared.line.LineEvent.TheVariants as line

@@ -8,8 +8,8 @@ use Rattle.dom_edge.specs.Causes.{Rose}
 use Rattle.dom_edge.specs.Stores.{Files, HasFile, IsLongFile}
 use Rattle.dom_edge.specs.Whole.{AppendsSome}
 use Rattle.te_deltas.specs.ChangeText.{change_file_most}
-use Rattle.topology_files.specs.declared.error.FileError.{FileError}
-use Rattle.topology_files.specs.declared.error.FileError.TheVariants.{BadFile}
+use Rattle.network_files.specs.declared.error.FileError.{FileError}
+use Rattle.network_files.specs.declared.error.FileError.TheVariants.{BadFile}
 use Rattle.te_links.specs.Rows.{Rows}
 use Rattle.plant_text.specs.declared.settings.NetworkParts.{NetworkParts}
 use Rattle.plant_text.specs.declared.line.LineEvent.{LineEvent}

@@ -15,6 +15,7 @@ use crate::publishing::publish_loaded;
 use crate::texts::{write_bad_network, write_too_large, write_words};
 use dom_base::{As, Bytes};
 use dom_edge::{Store, StoreError};
+use network_files::{FileError, changed_of, changes_of, topology_of};
 use plant_model::{Outcome, Refused};
 use plant_text::Network;
 use std::alloc::Global;
@@ -22,7 +23,6 @@ use std::sync::Wait;
 use te_deltas::Change;
 use te_links::Topology;
 use ted_watch::Publisher;
-use topology_files::{FileError, changed_of, changes_of, topology_of};
 use transcript::write_answer;
 
 // How many bytes a file may have.

@@ -5,7 +5,7 @@ use Rattle.std.specs.declared.option.Option.{Option}
 use Rattle.std.specs.Io.KnownBytes.{Keeps}
 use Rattle.te_links.specs.Rows.{Rows}
 use Rattle.te_text.specs.Reads.{IsFaulty}
-use Rattle.topology_files.specs.Loading.{HasTopology, topology_max}
+use Rattle.network_files.specs.Topologies.{HasTopology, topology_max}
 use Rattle.plant_text.specs.declared.fault.NetFault.{NetFault}
 use Rattle.te_text.specs.declared.error.TextError.TheVariants.{At}
 use Rattle.path_certificate.specs.Text.{certificate_in}

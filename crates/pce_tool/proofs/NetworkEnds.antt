@@ -23,7 +23,7 @@ use Rattle.plant_bulk.specs.Telling.{tally_text}
 use Rattle.pce_tool.specs.declared.route.Route.{Route}
 use Rattle.pce_tool.specs.declared.status.Status.{Status}
 use Rattle.pce_tool.specs.declared.status.Status.TheVariants as status
-use Rattle.network_files.specs.Loading.{HasNetwork, settings_max}
+use Rattle.network_files.specs.Settings.{HasNetwork, settings_max}
 use Rattle.pce_tool.specs.Worlds.{World, WroteNothing}
 use Rattle.pce_tool.specs.Parts.{IsBadSettings, IsFileStatus, IsFinished}
 use Rattle.pce_tool.specs.Networks.{BlindEnds, BulkEnds, HasScript, IsBlindStatus, IsCounted, IsPathStatus, IsPlayStatus, IsSettingsFault, IsStopStatus, PathEnds, PlayEnds, around_of, question_of, status_of}

@@ -4,7 +4,7 @@ use Rattle.dom_edge.specs.Stores.{Files, HasFile}
 use Rattle.te_links.specs.Rows.{Rows}
 use Rattle.te_links.specs.declared.fault.TopoFault.{TopoFault}
 use Rattle.te_text.specs.Reads.{IsFaulty}
-use Rattle.topology_files.specs.Loading.{HasTopology, topology_max}
+use Rattle.network_files.specs.Topologies.{HasTopology, topology_max}
 use Rattle.te_text.specs.declared.error.TextError.TheVariants.{At}
 use Rattle.path_certificate.specs.declared.certificate.Certificate.{Certificate}
 use Rattle.path_certificate.specs.Text.{certificate_in}

@@ -31,7 +31,7 @@ use Rattle.blind_play.specs.Turns.{Turn as BlindTurn}
 use Rattle.blind_play.specs.Turns.{all_heard, trace_of}
 use Rattle.blind_play.specs.WholeScripts.{Playing as BlindlyPlaying}
 use Rattle.pce_tool.specs.declared.route.Route.{Route}
-use Rattle.network_files.specs.Loading.{HasNetwork}
+use Rattle.network_files.specs.Settings.{HasNetwork}
 use Rattle.pce_tool.specs.Networks.{question_of}
 use Rattle.pce_tool.specs.Tasks.{Task, Blind, Bulk, Path, Play}
 

@@ -21,7 +21,7 @@ use Rattle.plant_bulk.specs.Telling.{tally_text}
 use Rattle.blind_play.specs.WholeScripts as blind
 use Rattle.pce_tool.specs.declared.status.Status.{Status}
 use Rattle.pce_tool.specs.declared.status.Status.TheVariants as status
-use Rattle.network_files.specs.Loading.{HasNetwork, settings_max}
+use Rattle.network_files.specs.Settings.{HasNetwork, settings_max}
 use Rattle.pce_tool.specs.Worlds.{World, HasInput, HasRisen, WroteNothing, input_name}
 use Rattle.plant_bulk.specs.plant_client.declared.question.Question.{Question}
 use Rattle.plant_bulk.specs.plant_client.Asking.{AskStops, Asks}

@@ -4,7 +4,7 @@ use Rattle.std.specs.Str.{bytes_eq}
 use Rattle.std.specs.Io.KnownBytes.{Appends}
 use Rattle.te_links.specs.Rows.{Rows}
 use Rattle.dom_edge.specs.Stores.{IfFile, IsLongFile}
-use Rattle.topology_files.specs.Loading.{HasTopology}
+use Rattle.network_files.specs.Topologies.{HasTopology}
 use Rattle.path_certificate.specs.declared.certificate.Certificate.{Certificate}
 use Rattle.path_certificate.specs.declared.verdict.Place.{Place}
 use Rattle.path_certificate.specs.Claims.{HoldsAt, IsFirstFalse}

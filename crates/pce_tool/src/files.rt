@@ -5,11 +5,11 @@ ghost use Rattle.te_text.specs.Reads.{IsFaulty};
 ghost use Rattle.te_links.specs.declared.fault.TopoFault.{TopoFault};
 ghost use Rattle.path_certificate.specs.Rows.{AreLabelRows};
 ghost use Rattle.path_certificate.specs.Text.{certificate_in};
-ghost use Rattle.network_files.specs.Loading.{HasNetwork, settings_max};
+ghost use Rattle.network_files.specs.Settings.{HasNetwork, settings_max};
 ghost use Rattle.pce_tool.specs.Limits.{certificate_max};
 ghost use Rattle.pce_tool.specs.Networks.{IsSettingsFault};
 ghost use Rattle.dom_edge.specs.Stores.{HasFile};
-ghost use Rattle.topology_files.specs.Loading.{HasTopology, topology_max};
+ghost use Rattle.network_files.specs.Topologies.{HasTopology, topology_max};
 ghost use Rattle.diverse_pairs.specs.Potentials.{HasRising};
 ghost use Rattle.diverse_pairs.specs.Text.{pair_in};
 ghost use Rattle.pce_tool.specs.Files.{HasCertificate, HasPairCertificate, IsTopo};
@@ -20,12 +20,12 @@ use crate::status::Status;
 use diverse_pairs::{PairCertificate, read_pair};
 use dom_base::{Bytes, Text};
 use dom_edge::{Store, StoreError};
+use network_files::{SettingsError, TopologyError};
 use path_certificate::{Certificate, read_certificate};
 use plant_text::{NetFault, Network};
 use std::alloc::Global;
 use te_links::{TopoFault, Topology};
 use te_text::TextError;
-use topology_files::LoadError;
 
 // The status of a run that ends at a line of a file.
 fn bad_network(alloc: Global, name: &str, line: u32, fault: TopoFault) -> Status
@@ -93,12 +93,12 @@ pub fn load_topology<S: Store>(alloc: Global, store: &mut S, name: &str) -> Resu
     ensures files { S.files store.new ≡ S.files store.old }
     ensures later { S.faults store.old ≤ S.faults store.new }
 {
-    match topology_files::load_topology(alloc, store, name) {
+    match network_files::load_topology(alloc, store, name) {
         Ok(topology) => Ok(topology),
-        Err(LoadError::Failed) => Err(Status::ReadFault),
-        Err(LoadError::TooLong) => Err(too_large(alloc, name)),
-        Err(LoadError::At(line, fault)) => Err(bad_network(alloc, name, line, fault)),
-        Err(LoadError::NoMemory) => Err(Status::NoMemory),
+        Err(TopologyError::Failed) => Err(Status::ReadFault),
+        Err(TopologyError::TooLong) => Err(too_large(alloc, name)),
+        Err(TopologyError::At(line, fault)) => Err(bad_network(alloc, name, line, fault)),
+        Err(TopologyError::NoMemory) => Err(Status::NoMemory),
     }
 }
 
@@ -157,9 +157,9 @@ pub(crate) fn load_network<S: Store>(
 {
     match network_files::load_network(alloc, store, name) {
         Ok(network) => Ok(network),
-        Err(network_files::LoadError::Failed) => Err(Status::ReadFault),
-        Err(network_files::LoadError::TooLong) => Err(too_large(alloc, name)),
-        Err(network_files::LoadError::Fault(fault)) => Err(bad_settings(alloc, name, fault)),
-        Err(network_files::LoadError::NoMemory) => Err(Status::NoMemory),
+        Err(SettingsError::Failed) => Err(Status::ReadFault),
+        Err(SettingsError::TooLong) => Err(too_large(alloc, name)),
+        Err(SettingsError::Fault(fault)) => Err(bad_settings(alloc, name, fault)),
+        Err(SettingsError::NoMemory) => Err(Status::NoMemory),
     }
 }

@@ -13,7 +13,7 @@ use Rattle.pce_plant.specs.plant_model.Events.{Answered}
 use Rattle.pce_plant.specs.plant_model.Plant.{Pin, Plant}
 use Rattle.pce_plant.specs.Current.{IsCurrent}
 use Rattle.pce_plant.specs.Whole.{Whole}
-use Rattle.topology_files.specs.declared.error.FileError.{FileError}
+use Rattle.network_files.specs.declared.error.FileError.{FileError}
 use Rattle.plant_play.specs.declared.showing.Modes.{Modes}
 use Rattle.plant_play.specs.Making.{Does, DoesLine, stage}
 use Rattle.plant_play.specs.Playing.{Changes, Played, Plays, PlaysChange, PlaysLoad, PlaysNone, PlaysOne, cue, modes_after}

@@ -7,6 +7,6 @@ pub mod Scripts
 pub mod Making
 pub mod PlayerFields
 -- handed on from below
-pub use Rattle.topology_files.specs as topology_files
+pub use Rattle.network_files.specs as network_files
 pub use Rattle.pce_plant.specs.plant_model
 pub use Rattle.transcript.specs as transcript

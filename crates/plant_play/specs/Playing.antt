@@ -21,9 +21,9 @@ use Rattle.pce_plant.specs.plant_model.RealWire.{wire}
 use Rattle.pce_plant.specs.plant_model.Wire.{Bytes}
 use Rattle.pce_plant.specs.Held.{Held, whole}
 use Rattle.transcript.specs.Lines.{answer_line}
-use Rattle.topology_files.specs.declared.error.FileError.{FileError}
-use Rattle.topology_files.specs.declared.error.FileError.TheVariants.{NoMemory}
-use Rattle.topology_files.specs.Reading.{IsWant, IsWhyNoTopology, IsWhyNotChanged}
+use Rattle.network_files.specs.declared.error.FileError.{FileError}
+use Rattle.network_files.specs.declared.error.FileError.TheVariants.{NoMemory}
+use Rattle.network_files.specs.Reading.{IsWant, IsWhyNoTopology, IsWhyNotChanged}
 use Rattle.plant_play.specs.declared.going.Until.TheVariants.{Settled, Finished}
 use Rattle.plant_play.specs.declared.showing.Modes.{Modes}
 use Rattle.plant_play.specs.Due.{AreAllDue, IsDue, IsDueTake}

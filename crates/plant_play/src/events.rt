@@ -1,6 +1,6 @@
 //! One event of a line, done and told.
 ghost use Rattle.std.specs.Prelude.{◌≡◌, ◌++◌, IfErr, Err, IfOk, MatchBool, OnOk};
-ghost use Rattle.topology_files.specs.Reading.{IsWant};
+ghost use Rattle.network_files.specs.Reading.{IsWant};
 ghost use Rattle.plant_text.specs.Settings.{peer_row};
 ghost use Rattle.pce_plant.specs.Held.{whole};
 ghost use Rattle.pce_plant.specs.Whole.{IsOwnLoad};

@@ -1,6 +1,6 @@
 //! Bytes that a peer feeds, and the messages that are taken of them.
 ghost use Rattle.std.specs.Prelude.{◌≡◌, ◌++◌, IfErr, IfOk, OnOk};
-ghost use Rattle.topology_files.specs.Reading.{IsWant};
+ghost use Rattle.network_files.specs.Reading.{IsWant};
 ghost use Rattle.pce_plant.specs.Held.{whole};
 ghost use Rattle.plant_play.specs.Due.{IsDueTake};
 ghost use Rattle.plant_play.specs.Making.{DoesAll, DoesLine, stage};

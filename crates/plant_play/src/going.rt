@@ -4,7 +4,7 @@ ghost use Rattle.std.specs.Option.{option_map};
 ghost use Rattle.pce_plant.specs.plant_model.declared.event.Event.TheVariants.{Solve};
 ghost use Rattle.pce_plant.specs.Held.{whole};
 ghost use Rattle.plant_play.specs.Due.{IsDue, jobs_due};
-ghost use Rattle.topology_files.specs.Reading.{IsWant};
+ghost use Rattle.network_files.specs.Reading.{IsWant};
 ghost use Rattle.plant_play.specs.Making.{DoesAll, DoesLine, IsPossible, event_of, stage};
 ghost use Rattle.plant_play.specs.Playing.{PlaysDue};
 

@@ -9,7 +9,7 @@ mod player;
 mod showing;
 
 pub use events::Answer;
+pub use network_files::FileError as PlayError;
 pub use pce_plant::model::Outcome;
 pub use player::Player;
 pub use showing::Modes;
-pub use topology_files::FileError as PlayError;

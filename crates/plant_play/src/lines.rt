@@ -5,7 +5,7 @@ ghost use Rattle.te_deltas.specs.ChangeText.{change_file_most};
 ghost use Rattle.pce_plant.specs.plant_model.declared.outcome.Refused.TheVariants.{NoSuchPeer};
 ghost use Rattle.pce_plant.specs.Held.{whole};
 ghost use Rattle.pce_plant.specs.Whole.{IsOwnLoad};
-ghost use Rattle.topology_files.specs.Reading.{IsWant};
+ghost use Rattle.network_files.specs.Reading.{IsWant};
 ghost use Rattle.plant_play.specs.Making.{AreNoLoads, DoesLine, stage};
 ghost use Rattle.plant_play.specs.Playing.{IsWhyNot, Plays, PlaysChange, PlaysFeedAt, PlaysLoad, PlaysNamed, PlaysNone, WhyNotChanged, WhyNotLoaded, modes_after};
 
@@ -15,11 +15,11 @@ use crate::feeding::feed;
 use crate::going::{Until, go_on};
 use crate::showing::Modes;
 use dom_base::{As, Bytes};
+use network_files::{changed_of, changes_of, topology_of};
 use pce_plant::Plant;
 use pce_plant::model::{Event, Outcome, Refused};
 use plant_text::LineEvent;
 use std::alloc::Global;
-use topology_files::{changed_of, changes_of, topology_of};
 use transcript::write_answer;
 
 // A line without an event.

@@ -6,7 +6,7 @@ use Rattle.plant_text.specs.declared.fault.NetFault.{NetFault}
 use Rattle.plant_text.specs.declared.line.LineEvent.{LineEvent}
 use Rattle.plant_text.specs.declared.line.LineEvent.TheVariants as line
 use Rattle.plant_play.specs.plant_model.Events.{Answered}
-use Rattle.plant_play.specs.topology_files.declared.error.FileError.TheVariants as play
+use Rattle.plant_play.specs.network_files.declared.error.FileError.TheVariants as play
 use Rattle.plant_play.specs.Playing.{IsWhyNot, PlaysLine, Stage, cue}
 use Rattle.plant_play.specs.Turns.{Turn}
 use Rattle.transcript.specs.declared.stop.Stop.{Stop}

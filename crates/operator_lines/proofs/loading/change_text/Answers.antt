@@ -1,6 +1,6 @@
 use Rattle.std.proofs.Common.{inl, refl, subst}
-use Rattle.topology_files.specs.declared.error.FileError.{FileError}
-use Rattle.topology_files.specs.Reading.{IsWhyNoChanges}
+use Rattle.network_files.specs.declared.error.FileError.{FileError}
+use Rattle.network_files.specs.Reading.{IsWhyNoChanges}
 use Rattle.ted_watch.specs.Watch.{published}
 use Rattle.operator_lines.specs.Operating.{ChangesFile, past}
 use Rattle.operator_lines.proofs.Doing.{refused_goes}

@@ -1,7 +1,7 @@
 use Rattle.std.proofs.Common.{◌∷◌, [], ℕ, Ok, Err, Some, None, inl, inr, refl, subst}
 use Rattle.te_links.specs.Rows.{Rows}
-use Rattle.topology_files.specs.declared.error.FileError.{FileError}
-use Rattle.topology_files.specs.Reading.{IsWhyNoChange}
+use Rattle.network_files.specs.declared.error.FileError.{FileError}
+use Rattle.network_files.specs.Reading.{IsWhyNoChange}
 use Rattle.plant_model.specs.declared.outcome.Refused.TheVariants.{NoSuchPeer}
 use Rattle.transcript.specs.Lines.{answer_line}
 use Rattle.ted_watch.specs.Watch.{published}

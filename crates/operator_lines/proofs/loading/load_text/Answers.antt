@@ -1,6 +1,6 @@
 use Rattle.std.proofs.Common.{[], inl, inr, refl, subst}
-use Rattle.topology_files.specs.declared.error.FileError.{FileError}
-use Rattle.topology_files.specs.Reading.{IsWhyNoTopology}
+use Rattle.network_files.specs.declared.error.FileError.{FileError}
+use Rattle.network_files.specs.Reading.{IsWhyNoTopology}
 use Rattle.ted_watch.specs.Watch.{published}
 use Rattle.operator_lines.specs.Operating.{Loads, LoadsFile, past}
 use Rattle.operator_lines.proofs.Doing.{goes_as, refused_goes}

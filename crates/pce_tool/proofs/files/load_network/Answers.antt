@@ -1,5 +1,5 @@
 use Rattle.std.proofs.Common.{subst}
-use Rattle.network_files.specs.Loading.{IsWhyNot}
+use Rattle.network_files.specs.Settings.{IsWhyNot}
 use Rattle.pce_tool.proofs.NetworkEnds.{settings_status}
 use Rattle.pce_tool.proofs.files.load_network.Goals as goal
 

@@ -1,7 +1,7 @@
 use Rattle.std.proofs.Common.{◌==◌, ◌≤◌, ◌+◌, length, arith}
 use Rattle.std.specs.Str.Lines.{lines}
 use Rattle.std.proofs.lemmas.List.Sums.{count_by-le-length}
-use Rattle.topology_files.proofs.LineCount.{few_lines}
+use Rattle.network_files.proofs.LineCount.{few_lines}
 use Rattle.pce_tool.proofs.files.load_pair_certificate.Goals as goal
 
 pub read_pair-requires : goal.read_pair-requires

@@ -4,7 +4,7 @@ ghost use Rattle.te_links.specs.Rows.{IsInOrder, IsTopology};
 ghost use Rattle.te_deltas.specs.Answers.{IsBuiltOf, IsWhy};
 ghost use Rattle.te_deltas.specs.ChangeText.{change_file_most, text_in};
 ghost use Rattle.te_text.specs.Reads.{Reads};
-ghost use Rattle.topology_files.specs.Reading.{IsRefusal, IsWhyNoChange, IsWhyNoChanges, IsWhyNoTopology, fault_of};
+ghost use Rattle.network_files.specs.Reading.{IsRefusal, IsWhyNoChange, IsWhyNoChanges, IsWhyNoTopology, fault_of};
 
 use crate::error::FileError;
 use dom_base::{As, List, NoMemory};

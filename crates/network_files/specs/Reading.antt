@@ -13,8 +13,8 @@ use Rattle.te_deltas.specs.Blame.{IsBlamedAt}
 use Rattle.te_deltas.specs.ChangeText.{text_in}
 use Rattle.plant_text.specs.declared.fault.NetFault.{NetFault}
 use Rattle.plant_text.specs.declared.fault.NetFault.TheVariants as fault
-use Rattle.topology_files.specs.declared.error.FileError.{FileError}
-use Rattle.topology_files.specs.declared.error.FileError.TheVariants.{BadFile, NoMemory}
+use Rattle.network_files.specs.declared.error.FileError.{FileError}
+use Rattle.network_files.specs.declared.error.FileError.TheVariants.{BadFile, NoMemory}
 
 -- want of memory, and nothing else
 abbrev pub IsWant : FileError → Type 0

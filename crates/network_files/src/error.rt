@@ -1,6 +1,6 @@
 //! Why the file of a line gives no topology to load.
 ghost use Rattle.std.specs.Prelude.{◌≡◌};
-ghost use Rattle.topology_files.specs.declared.error.FileError.TheVariants.{NoMemory};
+ghost use Rattle.network_files.specs.declared.error.FileError.TheVariants.{NoMemory};
 
 use dom_base::NoMemory;
 use plant_text::NetFault;

@@ -4,8 +4,8 @@ use Rattle.dom_edge.specs.Causes.{Rose}
 use Rattle.dom_edge.specs.Stores.{Files, HasFile, IfFile, IsLongFile}
 use Rattle.plant_text.specs.declared.settings.NetworkParts.{NetworkParts}
 use Rattle.plant_text.specs.Reads.{IsFaulty, Reads}
-use Rattle.network_files.specs.declared.loading.LoadError.{LoadError}
-use Rattle.network_files.specs.declared.loading.LoadError.TheVariants as errors
+use Rattle.network_files.specs.declared.settings.SettingsError.{SettingsError}
+use Rattle.network_files.specs.declared.settings.SettingsError.TheVariants as errors
 
 -- how many bytes the file may have
 abbrev pub settings_max : ℕ
@@ -19,7 +19,7 @@ pub record HasNetwork (files : Option Files) (name : List ℕ) (n : NetworkParts
   pub is_text : Reads bytes n
 
 -- Why that file gave none. `counts` are the store's faults before and after, and `failed_at` the name at which it last failed.
-abbrev pub IsWhyNot : Option Files → List ℕ → ℕ × ℕ → List ℕ → LoadError → Type 0
+abbrev pub IsWhyNot : Option Files → List ℕ → ℕ × ℕ → List ℕ → SettingsError → Type 0
 IsWhyNot files name counts failed_at errors.Failed = Rose counts.0 counts.1 × (failed_at ≡ name)
 IsWhyNot files name counts failed_at errors.TooLong = IsLongFile files name settings_max
 IsWhyNot files name counts failed_at (errors.Fault fault) = IfFile files name (λ bytes. IsFaulty bytes fault)

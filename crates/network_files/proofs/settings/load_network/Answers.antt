@@ -1,8 +1,8 @@
 use Rattle.std.proofs.Common.{Err, ap}
 use Rattle.plant_text.specs.Reads.{IsFaulty}
-use Rattle.network_files.specs.Loading.{settings_max}
+use Rattle.network_files.specs.Settings.{settings_max}
 use Rattle.network_files.proofs.Found.{in_file}
-use Rattle.network_files.proofs.loading.load_network.Goals as goal
+use Rattle.network_files.proofs.settings.load_network.Goals as goal
 
 pub returns-in-Err-Fault-clause-err : goal.returns-in-Err-Fault-clause-err
 returns-in-Err-Fault-clause-err g c =

@@ -1,6 +1,6 @@
 //! The topology in a file of a store.
 ghost use Rattle.std.specs.Prelude.{◌≡◌, ◌≤◌, IfOk, IfErr};
-ghost use Rattle.topology_files.specs.Loading.{HasTopology, IsWhyNot};
+ghost use Rattle.network_files.specs.Topologies.{HasTopology, IsWhyNot};
 
 use dom_edge::{Store, StoreError};
 use std::alloc::Global;
@@ -12,7 +12,7 @@ pub const TOPOLOGY_MAX: usize = 4_194_304;
 
 /// Why a file gives no topology.
 #[derive(Clone, Copy)]
-pub enum LoadError {
+pub enum TopologyError {
     /// The read failed; a name that is not there is a fault.
     Failed,
     /// The file has more bytes than a topology file may have.
@@ -27,7 +27,7 @@ pub fn load_topology<S: Store>(
     alloc: Global,
     store: &mut S,
     name: &str,
-) -> Result<Topology, LoadError>
+) -> Result<Topology, TopologyError>
     ensures ok { IfOk result (HasTopology (S.files store.old) name.now) }
     ensures err { IfErr result (IsWhyNot (S.files store.old) name.now (S.faults store.old, S.faults store.new) (S.failed_at store.new)) }
     ensures files { S.files store.new ≡ S.files store.old }
@@ -35,13 +35,13 @@ pub fn load_topology<S: Store>(
 {
     let bytes = match store.read(alloc, name, TOPOLOGY_MAX) {
         Ok(bytes) => bytes,
-        Err(StoreError::TooLong) => return Err(LoadError::TooLong),
-        Err(StoreError::Failed) => return Err(LoadError::Failed),
-        Err(StoreError::NoMemory) => return Err(LoadError::NoMemory),
+        Err(StoreError::TooLong) => return Err(TopologyError::TooLong),
+        Err(StoreError::Failed) => return Err(TopologyError::Failed),
+        Err(StoreError::NoMemory) => return Err(TopologyError::NoMemory),
     };
     match read_topology(alloc, bytes.as_slice()) {
         Ok(topology) => Ok(topology),
-        Err(TextError::At(line, fault)) => Err(LoadError::At(line, fault)),
-        Err(TextError::NoMemory) => Err(LoadError::NoMemory),
+        Err(TextError::At(line, fault)) => Err(TopologyError::At(line, fault)),
+        Err(TextError::NoMemory) => Err(TopologyError::NoMemory),
     }
 }

@@ -1,8 +1,8 @@
 use Rattle.std.proofs.Common.{◌==◌, ◌≤◌, ◌+◌, length, arith}
 use Rattle.std.specs.Str.Lines.{lines}
 use Rattle.std.proofs.lemmas.List.Sums.{count_by-le-length}
-use Rattle.topology_files.proofs.LineCount.{few_lines}
-use Rattle.topology_files.proofs.reading.topology_of.Goals as goal
+use Rattle.network_files.proofs.LineCount.{few_lines}
+use Rattle.network_files.proofs.reading.topology_of.Goals as goal
 
 pub read_topology-requires : goal.read_topology-requires
 read_topology-requires c =

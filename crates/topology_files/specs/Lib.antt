@@ -1,3 +1,0 @@
--- for readers
-pub mod Loading
-pub mod Reading
