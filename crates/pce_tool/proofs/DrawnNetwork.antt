@@ -1,5 +1,5 @@
 -- The drawn settings are a network of the model.
-use Rattle.std.proofs.Common.{◌≡◌, ◌≢◌, ◌<◌, ◌≤◌, ℕ, ◌+◌, true, is_some, [], ◌∷◌, refl, ap, arith, subst}
+use Rattle.std.proofs.Common.{◌≡◌, ◌≢◌, ◌<◌, ◌≤◌, ℕ, ◌+◌, false, true, is_some, [], ◌∷◌, refl, ap, arith, subst}
 use Rattle.std.specs.List.{AllPairs}
 use Rattle.std.proofs.lemmas.List.Elements.{All-nil, All-cons}
 use Rattle.std.proofs.lemmas.List.Kept.{AllPairs-cons}
@@ -87,6 +87,7 @@ settings_modelled = record {
       (All-cons (LinksDiffer (link 2)) (link 3) [] (links_differ 2 3 (omega arith)) (All-nil (LinksDiffer (link 2))))
       (AllPairs-cons LinksDiffer (link 3) [] (All-nil (LinksDiffer (link 3))) (no_pairs LinksDiffer)));
   peers = All-nil (λ (r : PeerRow). is_element settings r.at ≡ true);
+  no_downs = All-nil (λ (r : PeerRow). r.down ≡ false);
   few_parent_links = omega arith;
   parent_links = All-nil IsParentLink;
   parent_links_differ = λ i j d before within. absurd (omega (arith, within));

@@ -1,5 +1,5 @@
 -- What is asked of the wire and of the settings.
-use Rattle.std.specs.Prelude.{◌≡◌, ◌≢◌, ◌≤◌, ◌<◌, ◌⊎◌, ◌^◌, ℕ, true, is_some, List, [], ◌∷◌, length, AllPairs, All, Contains, Option, Some, None, bit_and}
+use Rattle.std.specs.Prelude.{◌≡◌, ◌≢◌, ◌≤◌, ◌<◌, ◌⊎◌, ◌^◌, ℕ, false, true, is_some, List, [], ◌∷◌, length, AllPairs, All, Contains, Option, Some, None, bit_and}
 use Rattle.std.specs.List.{AllByRecursion}
 use Rattle.dom_base.specs.declared.names.As.{As}
 use Rattle.dom_base.specs.declared.addr.Addr.{Addr}
@@ -145,6 +145,8 @@ pub record IsNetwork (n : NetworkParts) : Type 0 where
   pub links : All (λ (p : As × As). (is_element n p.0 ≡ true) × (is_element n p.1 ≡ true) × (p.0 ≢ p.1)) n.links
   pub links_differ : AllPairs (λ (p q : As × As). ((p.0 ≡ q.0) × (p.1 ≡ q.1) → ⊥) × ((p.0 ≡ q.1) × (p.1 ≡ q.0) → ⊥)) n.links
   pub peers : All (λ r. is_element n r.at ≡ true) n.peers
+  -- no request goes on through an outside peer
+  pub no_downs : All (λ r. r.down ≡ false) n.peers
   pub few_parent_links : length n.parent_links ≤ PARENT_LINKS_MAX
   pub parent_links : All IsParentLink n.parent_links
   pub parent_links_differ : AllPairs (λ (l m : ParentLink). (l.link.far ≢ m.link.far) × (l.link.near ≢ m.link.near)) n.parent_links
