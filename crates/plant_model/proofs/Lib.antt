@@ -8,5 +8,6 @@ pub mod ReadSound
 pub mod ReadNumbers
 pub mod Sends
 pub mod WireLaws
+pub mod Heeded
 pub mod Live
 pub mod Runs

@@ -1,4 +1,6 @@
-//! The laws of the model: it says what the contracts of its parts say, and the wire is a codec.
+//! The laws of the model: it says what the contracts of its parts say, the wire is a codec, and heeding keeps
+//! messages.
+ghost use Rattle.plant_model.specs.Heeding.{HeedingKeeps, HeededJoins};
 ghost use Rattle.plant_model.specs.Jobs.{JoinsWhatWasTold};
 ghost use Rattle.plant_model.specs.Meeting.{BranchMeets, CheckMeets, LimitMeets, LiveMeets};
 ghost use Rattle.plant_model.specs.RealWire.{WireIsCodec};
@@ -15,6 +17,13 @@ pub fn model_meets_parts()
 /// A way that is joined leads to a node that the next domain told.
 pub fn joins_what_was_told()
     ensures { JoinsWhatWasTold }
+{}
+
+/// What is heeded of a message of an outside peer is the same but for the answers of its replies, whose paths
+/// can be joined to those of an element.
+pub fn heeding_keeps()
+    ensures replies { HeedingKeeps }
+    ensures joins { HeededJoins }
 {}
 
 /// The functions of messages, frames, refusals and words are a codec, on whose laws those of
