@@ -9,5 +9,6 @@ pub mod ReadNumbers
 pub mod Sends
 pub mod WireLaws
 pub mod Heeded
+pub mod Outward
 pub mod Live
 pub mod Runs
