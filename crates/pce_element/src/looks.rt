@@ -1,10 +1,10 @@
 //! What an element looks up in itself.
-ghost use Rattle.std.specs.Prelude.{◌≡◌, ◌≤◌, ◌+◌, filter, length, not};
+ghost use Rattle.std.specs.Prelude.{◌≡◌, ◌≤◌, ◌+◌, drop, filter, length, not};
 ghost use Rattle.std.specs.Option.{option_copied};
 ghost use Rattle.request_table.specs.Pending.{same_peer};
 ghost use Rattle.path_keys.specs.Keys.{live_at, live_most, segment_of};
 ghost use Rattle.disclosure.specs.Policy.{is_denied};
-ghost use Rattle.member_parts.specs.plant_model.Element.{way_to};
+ghost use Rattle.member_parts.specs.plant_model.Element.{sent_through, way_to};
 ghost use Rattle.member_parts.specs.plant_model.Names.{same_addr};
 
 use crate::element::Element;
@@ -19,6 +19,16 @@ pub(crate) fn is_same_addr(one: Addr, other: Addr) -> bool
     ensures { result ≡ same_addr one other }
 {
     one == other
+}
+
+// How many domains follow the first.
+fn behind_first(sequence: &[As]) -> usize
+    ensures { result ≡ length (drop 1 sequence.now) }
+{
+    match sequence {
+        [] => 0,
+        [_own, rest @ ..] => rest.len(),
+    }
 }
 
 impl<W: World> Element<W> {
@@ -42,6 +52,17 @@ impl<W: World> Element<W> {
         ensures { result ≡ length (filter (λ h. same_peer h.1.key.peer peer) self.now.losing.element.pending.rows) }
     {
         self.requests.owed(peer)
+    }
+
+    /// Through how many domains beyond its own the element sent the request on that waits for the answer to
+    /// an id of a peer; None where none waits. Takes no memory.
+    pub fn sent(&self, peer: Peer, id: u32) -> Option<usize>
+        ensures { result ≡ sent_through peer id self.now.losing.element.pending.rows }
+    {
+        let Some(row) = self.requests().waiting(&[], peer, id) else {
+            return None;
+        };
+        Some(behind_first(row.item.sequence()))
     }
 
     pub(crate) fn id(&self) -> Addr

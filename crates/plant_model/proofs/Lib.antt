@@ -8,5 +8,7 @@ pub mod ReadSound
 pub mod ReadNumbers
 pub mod Sends
 pub mod WireLaws
+pub mod Heeded
+pub mod Outward
 pub mod Live
 pub mod Runs

@@ -1,4 +1,4 @@
--- The numbers of requests and replies that came as octets can be said back, and the parent admits IPv4 alone.
+-- The numbers of requests and replies that came as octets can be said back, also those of hops, and the parent admits IPv4 alone.
 use Rattle.std.proofs.Common.{◌≡◌, ◌<◌, ◌==◌, ◌&&◌, ℕ, Bool, true, false, cond, not, List, [], ◌∷◌, map, Option, Some, None, subst, arith}
 use Rattle.std.specs.Prelude.{is_none}
 use Rattle.std.specs.Option.{option_or}
@@ -10,29 +10,33 @@ use Rattle.pcep_codes.specs.declared.errors.TheConstants as errors
 use Rattle.pcep_codes.specs.declared.kinds.TheConstants as kinds
 use Rattle.pcep_subobjects.specs.Addresses.{bits_of}
 use Rattle.pcep_subobjects.specs.Subobjects.{AreOctets}
+use Rattle.pcep_subobjects.specs.declared.hop.Hop.{Hop}
+use Rattle.pcep_subobjects.specs.declared.hop.Hop.TheVariants as hop_kinds
 use Rattle.pcep_objects.specs.declared.object.Body.{Body}
 use Rattle.pcep_objects.specs.declared.object.Body.TheVariants as bodies
 use Rattle.pcep_objects.specs.declared.object.Object.{Object}
 use Rattle.pcep_objects.specs.Spelling.{read_classes}
 use Rattle.pcep_messages.specs.declared.message.Asked.{Asked}
 use Rattle.pcep_messages.specs.declared.message.Message.TheVariants as messages
+use Rattle.pcep_messages.specs.declared.message.Path.{Path}
 use Rattle.pcep_messages.specs.declared.message.Reply.{Reply}
 use Rattle.pcep_messages.specs.declared.message.Wanted.{Wanted}
 use Rattle.pcep_messages.specs.declared.message.Wish.{Wish}
 use Rattle.pcep_objects.specs.declared.object.OpenBody.{OpenBody}
 use Rattle.pcep_messages.specs.declared.message.ErrorReport.{ErrorReport}
 use Rattle.pcep_session.specs.Reports.{or_else, first_opening_of}
-use Rattle.pcep_messages.specs.Groups.{rp_in, opening_in, first_said, reply_with, reply_of, report_of, answer_of}
+use Rattle.pcep_messages.specs.Groups.{rp_in, no_path_in, opening_in, first_said, first_metric, path_from, paths_of, answer_by, answer_of, reply_with, reply_of, report_of}
 use Rattle.pcep_messages.specs.Messages.{message_of}
 use Rattle.pcep_messages.specs.Refusals.{Reason, because, first_of, unsupported, unsupported_among, no_request_classes, among, is_optional, has_no_number, asks_other_path, are_measures, can_exclude, can_follow, request_rules, key_rules, path_rules, refusal_of}
 use Rattle.pcep_messages.specs.Requests.{without_bit, wish_of}
 use Rattle.pcep_messages.specs.Said.{rp_of, end_points_of, key_of, xro_of, iro_of, asks_key}
+use Rattle.outside_part.specs.Ranges.{IsInRange, AreInRange}
 use Rattle.plant_text.specs.Names.{parent_as}
 use Rattle.plant_model.specs.Wire.{Bytes}
 use Rattle.plant_model.specs.RealWire.{message_or_none, checked, check_of, wire}
 use Rattle.plant_model.specs.Laws.{Admits, AreWords, HasWords, HasNumbers, HasTimers}
 use Rattle.plant_model.proofs.Admitted.{admitted_is}
-use Rattle.plant_model.proofs.ReadSound.{IsSound, Maybe, ObjectIsSound, body_sound, request_sound, bit_sound, replies_have, reports_have, request_by, ends_above}
+use Rattle.plant_model.proofs.ReadSound.{HopIsSound, IsSound, Maybe, ObjectIsSound, body_sound, request_sound, bit_sound, replies_have, reports_have, request_by, ends_above}
 
 -- ---- reasons are octets
 
@@ -139,29 +143,76 @@ admits_ipv4 bytes a flags x w all e h = go (end_points_of 0 a.objects) (ends_abo
 
 -- ---- replies
 
-abbrev ReplyHas : Reply → Type 0
-ReplyHas r = AreWords (r.flags, r.id)
+-- What holds of the reply of each group of sound objects holds of the replies of a message.
+module _ (Q : Reply → Type 0) (group_has : (os : List Object) → AllByRecursion ObjectIsSound os → Maybe Q (reply_of os)) where
+  groups_have : (groups : List (List Object)) → AllByRecursion (AllByRecursion ObjectIsSound) groups → AllByRecursion Q (filter_map reply_of groups)
+  groups_have [] all = tt
+  groups_have (os ∷ groups) all = go (reply_of os) (group_has os all.0) (groups_have groups all.1)
+    where
+      go : (o : Option Reply) → Maybe Q o → AllByRecursion Q (filter_map reply_of groups) → AllByRecursion Q (cons_option o (filter_map reply_of groups))
+      go None has more = more
+      go (Some r) has more = (has, more)
 
-group_has : (os : List Object) → AllByRecursion ObjectIsSound os → Maybe ReplyHas (reply_of os)
-group_has [] all = tt
-group_has (o ∷ os) all = go (rp_in o.body) (said_words o.body all.0)
+  each_has : (bytes : Bytes) (rs : List Reply) → AreOctets bytes → message_or_none (message_of bytes) ≡ Some (messages.PcRep rs) → AllByRecursion Q rs
+  each_has bytes rs all e =
+      let g = replies_have (λ kind. IsSound) body_sound bytes rs all e in
+      subst (λ (l : List Reply). AllByRecursion Q l) g.2 (groups_have g.0 g.1)
+
+abbrev HasReplyWords : Reply → Type 0
+HasReplyWords r = AreWords (r.flags, r.id)
+
+words_in : (os : List Object) → AllByRecursion ObjectIsSound os → Maybe HasReplyWords (reply_of os)
+words_in [] all = tt
+words_in (o ∷ os) all = go (rp_in o.body) (said_words o.body all.0)
   where
-    go : (rp : Option (ℕ × ℕ)) → Maybe AreWords rp → Maybe ReplyHas (reply_with rp (answer_of os))
+    go : (rp : Option (ℕ × ℕ)) → Maybe AreWords rp → Maybe HasReplyWords (reply_with rp (answer_of os))
     go None words = tt
     go (Some rp) words = words
 
-groups_have : (groups : List (List Object)) → AllByRecursion (AllByRecursion ObjectIsSound) groups → AllByRecursion ReplyHas (filter_map reply_of groups)
-groups_have [] all = tt
-groups_have (os ∷ groups) all = go (reply_of os) (group_has os all.0) (groups_have groups all.1)
-  where
-    go : (o : Option Reply) → Maybe ReplyHas o → AllByRecursion ReplyHas (filter_map reply_of groups) → AllByRecursion ReplyHas (cons_option o (filter_map reply_of groups))
-    go None words more = more
-    go (Some r) words more = (words, more)
-
 pub replies : (bytes : Bytes) (rs : List Reply) → AreOctets bytes → message_or_none (message_of bytes) ≡ Some (messages.PcRep rs) → AllByRecursion (λ (r : Reply). AreWords (r.flags, r.id)) rs
-replies bytes rs all e =
-    let g = replies_have (λ kind. IsSound) body_sound bytes rs all e in
-    subst (AllByRecursion ReplyHas) g.2 (groups_have g.0 g.1)
+replies bytes rs all e = each_has HasReplyWords words_in bytes rs all e
+
+-- ---- the hops of replies
+
+hop_in_range : (h : Hop) → HopIsSound h → IsInRange h
+hop_in_range (hop_kinds.Prefix loose addr length) sound = sound
+hop_in_range (hop_kinds.AsNumber loose number) sound = tt
+hop_in_range (hop_kinds.Key loose key pce) sound = sound
+hop_in_range (hop_kinds.Other loose kind body) sound = tt
+
+route_in_range : (route : List Hop) → AllByRecursion HopIsSound route → AllByRecursion IsInRange route
+route_in_range [] all = tt
+route_in_range (h ∷ hs) all = (hop_in_range h all.0, route_in_range hs all.1)
+
+abbrev PathIsInRange : Path → Type 0
+PathIsInRange p = AllByRecursion IsInRange p.hops
+
+-- a path begins at each ERO
+path_in_range : (b : Body) (metric : Option (ℕ × ℕ)) (others : List Path) → IsSound b → AllByRecursion PathIsInRange others → AllByRecursion PathIsInRange (path_from b metric others)
+path_in_range (bodies.Ero route) metric others sound all = (route_in_range route sound, all)
+path_in_range _ metric others sound all = all
+
+paths_in_range : (os : List Object) → AllByRecursion ObjectIsSound os → AllByRecursion PathIsInRange (paths_of os)
+paths_in_range [] all = tt
+paths_in_range (o ∷ os) all = path_in_range o.body (first_metric os) (paths_of os) all.0 (paths_in_range os all.1)
+
+answer_in_range : (reason : Option (ℕ × ℕ)) (paths : List Path) → AllByRecursion PathIsInRange paths → AreInRange (answer_by reason paths)
+answer_in_range None paths all = all
+answer_in_range (Some n) paths all = tt
+
+abbrev TellsInRange : Reply → Type 0
+TellsInRange r = AreInRange r.answer
+
+hops_in : (os : List Object) → AllByRecursion ObjectIsSound os → Maybe TellsInRange (reply_of os)
+hops_in [] all = tt
+hops_in (o ∷ os) all = go (rp_in o.body)
+  where
+    go : (rp : Option (ℕ × ℕ)) → Maybe TellsInRange (reply_with rp (answer_of os))
+    go None = tt
+    go (Some rp) = answer_in_range (first_said no_path_in os) (paths_of os) (paths_in_range os all.1)
+
+pub hops : (bytes : Bytes) (rs : List Reply) → AreOctets bytes → message_or_none (message_of bytes) ≡ Some (messages.PcRep rs) → AllByRecursion (λ (r : Reply). AreInRange r.answer) rs
+hops bytes rs all e = each_has TellsInRange hops_in bytes rs all e
 
 -- ---- reports of errors
 

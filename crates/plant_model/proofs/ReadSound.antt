@@ -153,10 +153,12 @@ exclusions_kept bytes xs all e = all_from exclusion_at AreOctets exclusions.IsWr
 
 -- ---- hops
 
--- the number of a domain has two octets
+-- the numbers of a hop are those of their types
 abbrev pub HopIsSound : Hop → Type 0
+HopIsSound (hops.Prefix loose addr length) = IsAddr addr
 HopIsSound (hops.AsNumber loose number) = number.0 < 2 ^ 16
-HopIsSound _ = Unit {0}
+HopIsSound (hops.Key loose key pce) = (key < 2 ^ 16) × IsAddr pce
+HopIsSound (hops.Other loose kind body) = Unit {0}
 
 hop_is : (x y : Hop × ℕ) → ◌≡◌ {A = Result (Hop × ℕ) (ℕ → HopFault)} (Ok x) (Ok y) → x ≡ y
 hop_is x y e = cc
@@ -173,11 +175,11 @@ meant_sound loose kind content all = go (kind == 1) (kind == 2) (kind == 32) (ki
         (cond f (hops.Key loose (half_at content 0) (V6 (wide_at content 2))) (hops.Other loose kind content)))))
 
     go : (a d b c f : Bool) → HopIsSound (read a d b c f)
-    go true d b c f = tt
-    go false true b c f = tt
+    go true d b c f = word_fits content all 0
+    go false true b c f = wide_fits content all 0
     go false false true c f = half_fits content all 0
-    go false false false true f = tt
-    go false false false false true = tt
+    go false false false true f = (half_fits content all 0, word_fits content all 2)
+    go false false false false true = (half_fits content all 0, wide_fits content all 2)
     go false false false false false = tt
 
 hop_sound : (bytes : Bytes) (x : Hop) (len : ℕ) → AreOctets bytes → hop_at bytes ≡ Ok (x, len) → HopIsSound x
@@ -209,7 +211,7 @@ hops_sound bytes xs all e = all_from hop_at AreOctets HopIsSound tail_bytes (λ 
 
 -- ---- bodies
 
--- the parts of a body that a request sends on
+-- the parts of a body that a request sends on, and the routes that a reply tells
 abbrev pub IsSound : Body → Type 0
 IsSound (bodies.Open o) = (o.offer.keepalive < 256) × (o.offer.dead < 256)
 IsSound (bodies.Rp flags id) = (flags < 2 ^ 32) × (id < 2 ^ 32)
@@ -217,6 +219,7 @@ IsSound (bodies.EndPoints source target) = IsAddr source × IsAddr target × (bi
 IsSound (bodies.Bandwidth word) = IsWord word
 IsSound (bodies.Metric b c kind word) = IsWord word
 IsSound (bodies.Lspa x y z setup holding flags) = (x < 2 ^ 32) × (y < 2 ^ 32) × (z < 2 ^ 32)
+IsSound (bodies.Ero route) = AllByRecursion HopIsSound route
 IsSound (bodies.Iro route) = AllByRecursion HopIsSound route
 IsSound (bodies.Xro list) = AllByRecursion exclusions.IsWritten list
 IsSound _ = Unit {0}
@@ -251,7 +254,7 @@ module _ (content : Bytes) (all : AreOctets content) where
       (either (class == 4) (of.end_points_of content) _ (by_length 8 content false _ (λ e. (word 0, word 4, refl)))
       (either (class == 5) (of.bandwidth_of content) _ (by_length 4 content (is_malformed (word_at content 0)) _ (λ e. (e, word 0)))
       (either (class == 6) (of.metric_of content) _ (by_length 8 content (is_malformed (word_at content 4)) _ (λ e. (e, word 4)))
-      (either (class == 7) (of_parts bodies.Ero (hops_of content)) _ (by_parts bodies.Ero (hops_of content) (λ xs e. tt))
+      (either (class == 7) (of_parts bodies.Ero (hops_of content)) _ (by_parts bodies.Ero (hops_of content) (λ xs e. hops_sound content xs all e))
       (either (class == 9) (of.lspa_of content) _ (by_tlvs (of.word_behind 16 content 0) _ (λ w. (word 0, word 4, word 8)))
       (either (class == 10) (of_parts bodies.Iro (hops_of content)) _ (by_parts bodies.Iro (hops_of content) (λ xs e. hops_sound content xs all e))
       (either (class == 12) (of.notification_of content) _ (by_tlvs (of.word_behind 4 content 0) _ (λ w. tt))

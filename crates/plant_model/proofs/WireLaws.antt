@@ -46,6 +46,7 @@ wire_is_codec = record {
   admits_upward = sent.admits_upward;
   checks = numbers.checks;
   replies = numbers.replies;
+  hops = numbers.hops;
   openings = numbers.openings;
   admits_ipv4 = numbers.admits_ipv4;
   refuses_upward = sent.refuses_upward;

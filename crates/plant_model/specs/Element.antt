@@ -1,5 +1,6 @@
 -- One element: its pending requests, its keys and its neighbours.
-use Rattle.std.specs.Prelude.{ℕ, suc, Bool, true, false, not, cond, ◌==◌, List, [], ◌∷◌, ◌++◌, map, filter, Option, Some, None}
+use Rattle.std.specs.Prelude.{ℕ, suc, Bool, true, false, not, cond, ◌==◌, List, [], ◌∷◌, ◌++◌, length, drop, map, filter, Option, Some, None}
+use Rattle.std.specs.Option.{option_map}
 use Rattle.dom_base.specs.declared.names.As.{As}
 use Rattle.dom_base.specs.declared.addr.Addr.{Addr}
 use Rattle.dom_base.specs.declared.names.Peer.{Peer}
@@ -97,6 +98,10 @@ is_ready (Ready branches) = true
 abbrev pub waiting : {P : Type 0} → Peer → ℕ → List (Row P) → Option (Row P)
 waiting p y [] = None
 waiting p y (h ∷ hs) = cond (waits_for p y h.1.item.stage) (Some h) (waiting p y hs)
+
+-- through how many domains beyond the element's own that request was sent on
+abbrev pub sent_through : {P : Type 0} → Peer → ℕ → List (Row P) → Option ℕ
+sent_through p y rows = option_map (λ h. length (drop 1 h.1.item.sequence)) (waiting p y rows)
 
 -- the greatest id of a request (RFC 5440, section 7.4)
 abbrev pub id_most : ℕ

@@ -25,6 +25,7 @@ use Rattle.pcep_messages.specs.declared.message.Wanted.{Wanted}
 use Rattle.pcep_messages.specs.declared.message.Wish.TheVariants as wishes
 use Rattle.pcep_messages.specs.Spelling.{IsWritten, kind_of}
 use Rattle.pcep_framing.specs.Frames.{Framing, FeedsTo}
+use Rattle.outside_part.specs.Ranges.{AreInRange}
 use Rattle.plant_text.specs.declared.settings.NetworkParts.{NetworkParts}
 use Rattle.plant_text.specs.declared.limits.TheConstants.{ELEMENTS_MAX, PARENT_LINKS_MAX, KEY_LIFE_MAX}
 use Rattle.pcep_messages.specs.declared.limits.TheConstants.{SEQUENCE_MAX}
@@ -99,6 +100,7 @@ pub record IsCodec (c : Codec) : Type 0 where
   -- what came as octets has numbers that can be said back
   pub checks : (bytes : Bytes) (a : Asked) (own : As) → AreOctets bytes → c.read bytes ≡ Some (messages.PcReq (a ∷ [])) → HasNumbers (c.check a own)
   pub replies : (bytes : Bytes) (replies : List Reply) → AreOctets bytes → c.read bytes ≡ Some (messages.PcRep replies) → AllByRecursion (λ (r : Reply). AreWords (r.flags, r.id)) replies
+  pub hops : (bytes : Bytes) (replies : List Reply) → AreOctets bytes → c.read bytes ≡ Some (messages.PcRep replies) → AllByRecursion (λ (r : Reply). AreInRange r.answer) replies
   pub openings : (bytes : Bytes) (reports : List ErrorReport) → AreOctets bytes → c.read bytes ≡ Some (messages.PcErr reports) → HasTimers (first_opening_of reports)
   -- the parent serves IPv4 alone
   pub admits_ipv4 : (bytes : Bytes) (a : Asked) (flags x : ℕ) (w : Wanted) → AreOctets bytes → c.read bytes ≡ Some (messages.PcReq (a ∷ [])) → Admits c a parent_as flags x w →

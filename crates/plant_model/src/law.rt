@@ -1,7 +1,10 @@
-//! The laws of the model: it says what the contracts of its parts say, and the wire is a codec.
+//! The laws of the model: it says what the contracts of its parts say, the wire is a codec, heeding keeps
+//! messages, and routes lead out of the network.
+ghost use Rattle.plant_model.specs.Heeding.{HeedingKeeps, HeededJoins};
 ghost use Rattle.plant_model.specs.Jobs.{JoinsWhatWasTold};
 ghost use Rattle.plant_model.specs.Meeting.{BranchMeets, CheckMeets, LimitMeets, LiveMeets};
 ghost use Rattle.plant_model.specs.RealWire.{WireIsCodec};
+ghost use Rattle.plant_model.specs.Routes.{RoutesGoOut, NoRoutes};
 
 /// The model's branches, refusals and live generations are what the contracts of those parts say, and the
 /// constant of the parent's limit is the model's.
@@ -15,6 +18,20 @@ pub fn model_meets_parts()
 /// A way that is joined leads to a node that the next domain told.
 pub fn joins_what_was_told()
     ensures { JoinsWhatWasTold }
+{}
+
+/// What is heeded of a message of an outside peer is the same but for the answers of its replies, whose paths
+/// can be joined to those of an element.
+pub fn heeding_keeps()
+    ensures replies { HeedingKeeps }
+    ensures joins { HeededJoins }
+{}
+
+/// A route of an element leads to an outside peer of its own that paths may go on through, a neighbour in the
+/// domain that it is asked for; where there is no such peer, there is no route.
+pub fn routes_go_out()
+    ensures peers { RoutesGoOut }
+    ensures none { NoRoutes }
 {}
 
 /// The functions of messages, frames, refusals and words are a codec, on whose laws those of

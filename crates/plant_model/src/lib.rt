@@ -10,7 +10,9 @@ mod sample;
 mod upper;
 
 pub use event::{BlindEvent, Event};
-pub use law::{joins_what_was_told, model_meets_parts, wire_is_codec};
+pub use law::{
+    heeding_keeps, joins_what_was_told, model_meets_parts, routes_go_out, wire_is_codec,
+};
 pub use outcome::{Outcome, Refused};
 pub use output::{Lost, Output, Outputs};
 pub use sample::sample_runs;

@@ -1,0 +1,58 @@
+-- Routes lead to outside peers that paths may go on through, and where there are none there is no route.
+use Rattle.std.proofs.Common.{◌≡◌, ◌+◌, ℕ, zero, suc, Bool, true, false, cond, List, [], ◌∷◌, ◌++◌, Option, Some, sym, ◌∙◌, ap, subst, refl, arith}
+use Rattle.std.specs.Prelude.{All}
+use Rattle.std.specs.List.{AllByRecursion}
+use Rattle.std.proofs.lemmas.Bool.{eqb-true}
+use Rattle.std.proofs.lemmas.List.Elements.{All-head, All-tail}
+use Rattle.dom_base.specs.declared.names.As.{As}
+use Rattle.disclosure.specs.declared.class.Class.{Class}
+use Rattle.disclosure.specs.declared.class.Class.TheVariants.{Client, Neighbour, Parent}
+use Rattle.plant_text.specs.Names.{same_as}
+use Rattle.plant_text.specs.Settings.{peer_row}
+use Rattle.plant_text.specs.declared.settings.NetworkParts.{NetworkParts}
+use Rattle.plant_text.specs.declared.settings.PeerRow.{PeerRow}
+use Rattle.plant_model.specs.Routes.{Route, route_by, route_at, routes_from, IsRoute, RoutesGoOut, NoRoutes}
+
+same_as_is : (a b : As) → same_as a b ≡ true → a ≡ b
+same_as_is a b e = ap (λ (n : ℕ). let x : As = record { 0 = n } in x) (eqb-true a.0 b.0 e)
+
+all_append : {X : Type 0} (P : X → Type 0) (xs ys : List X) → AllByRecursion P xs → AllByRecursion P ys → AllByRecursion P (xs ++ ys)
+all_append P [] ys p q = q
+all_append P (x ∷ xs) ys p q = (p.0, all_append P xs ys p.1 q)
+
+module _ (n : NetworkParts) (d : As) where
+  -- the peers of the settings from a place on
+  abbrev AreFrom : ℕ → List PeerRow → Type 0
+  AreFrom i rs = (j : ℕ) (r : PeerRow) → peer_row j rs ≡ Some r → peer_row (j + i) n.peers ≡ Some r
+
+  here : (i : ℕ) (r : PeerRow) (rs : List PeerRow) → AreFrom i (r ∷ rs) → peer_row i n.peers ≡ Some r
+  here i r rs from = subst (λ (k : ℕ). peer_row k n.peers ≡ Some r) (omega arith) (from zero r refl)
+
+  further : (i : ℕ) (r : PeerRow) (rs : List PeerRow) → AreFrom i (r ∷ rs) → AreFrom (suc i) rs
+  further i r rs from j s at = subst (λ (k : ℕ). peer_row k n.peers ≡ Some s) (omega arith) (from (suc j) s at)
+
+  one_route : (i : ℕ) (r : PeerRow) → peer_row i n.peers ≡ Some r → AllByRecursion (IsRoute n d) (route_at d i r)
+  one_route i r at = go r.down refl (same_as r.at d) refl r.class refl
+    where
+      go : (down : Bool) → r.down ≡ down → (own : Bool) → same_as r.at d ≡ own → (class : Class) → r.class ≡ class → AllByRecursion (IsRoute n d) (cond down (cond own (route_by i class) []) [])
+      go true down true own (Neighbour a) class = (record { row = r; at = at; own = same_as_is r.at d own; down = down; class = class }, tt)
+      go true down true own (Client may) class = tt
+      go true down true own Parent class = tt
+      go true down false own c class = tt
+      go false down b own c class = tt
+
+  each_route : (i : ℕ) (rs : List PeerRow) → AreFrom i rs → AllByRecursion (IsRoute n d) (routes_from d i rs)
+  each_route i [] from = tt
+  each_route i (r ∷ rs) from = all_append (IsRoute n d) (route_at d i r) (routes_from d (suc i) rs) (one_route i r (here i r rs from)) (each_route (suc i) rs (further i r rs from))
+
+pub routes_go_out : RoutesGoOut
+routes_go_out n d = each_route n d zero n.peers (λ j r at. subst (λ (k : ℕ). peer_row k n.peers ≡ Some r) (omega arith) at)
+
+none_from : (d : As) (i : ℕ) (rs : List PeerRow) → All (λ (r : PeerRow). r.down ≡ false) rs → routes_from d i rs ≡ []
+none_from d i [] all = refl
+none_from d i (r ∷ rs) all =
+    ap (λ (down : Bool). cond down (cond (same_as r.at d) (route_by i r.class) []) [] ++ routes_from d (suc i) rs) (All-head (λ (r : PeerRow). r.down ≡ false) r rs all)
+    ∙ none_from d (suc i) rs (All-tail (λ (r : PeerRow). r.down ≡ false) r rs all)
+
+pub no_routes : NoRoutes
+no_routes n d all = none_from d zero n.peers all

@@ -1,0 +1,8 @@
+use Rattle.plant_model.proofs.Outward as outward
+use Rattle.plant_model.proofs.law.routes_go_out.Goals as goal
+
+pub returns-clause-peers : goal.returns-clause-peers
+returns-clause-peers c = outward.routes_go_out
+
+pub returns-clause-none : goal.returns-clause-none
+returns-clause-none c = outward.no_routes
