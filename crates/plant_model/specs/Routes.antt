@@ -1,5 +1,5 @@
 -- To which peer requests for a domain go: to its own element, or to an outside peer that paths may go on through.
-use Rattle.std.specs.Prelude.{◌≡◌, ℕ, suc, true, false, cond, All, List, [], ◌∷◌, ◌++◌, Some}
+use Rattle.std.specs.Prelude.{◌≡◌, ℕ, suc, true, false, cond, All, Contains, List, [], ◌∷◌, ◌++◌, Some}
 use Rattle.std.specs.List.{AllByRecursion}
 use Rattle.dom_base.specs.declared.names.As.{As}
 use Rattle.dom_base.specs.declared.names.Peer.{Peer}
@@ -52,6 +52,10 @@ pub record IsRoute (n : NetworkParts) (d : As) (route : Route) : Type 0 where
 -- Routes lead to such peers alone.
 abbrev pub RoutesGoOut : Type 0
 RoutesGoOut = (n : NetworkParts) (d : As) → AllByRecursion (IsRoute n d) (routes n d)
+
+-- Each such peer has a route.
+abbrev pub EachHasRoute : Type 0
+EachHasRoute = (n : NetworkParts) (d b : As) (i : ℕ) (r : PeerRow) → peer_row i n.peers ≡ Some r → r.at ≡ d → r.down ≡ true → r.class ≡ Neighbour b → Contains (routes n d) (record { next = b; peer = i })
 
 -- Where paths go on through no outside peer, there is no route.
 abbrev pub NoRoutes : Type 0

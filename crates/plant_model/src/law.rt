@@ -4,7 +4,7 @@ ghost use Rattle.plant_model.specs.Heeding.{HeedingKeeps, HeededJoins};
 ghost use Rattle.plant_model.specs.Jobs.{JoinsWhatWasTold};
 ghost use Rattle.plant_model.specs.Meeting.{BranchMeets, CheckMeets, LimitMeets, LiveMeets};
 ghost use Rattle.plant_model.specs.RealWire.{WireIsCodec};
-ghost use Rattle.plant_model.specs.Routes.{RoutesGoOut, NoRoutes};
+ghost use Rattle.plant_model.specs.Routes.{EachHasRoute, NoRoutes, RoutesGoOut};
 
 /// The model's branches, refusals and live generations are what the contracts of those parts say, and the
 /// constant of the parent's limit is the model's.
@@ -28,9 +28,10 @@ pub fn heeding_keeps()
 {}
 
 /// A route of an element leads to an outside peer of its own that paths may go on through, a neighbour in the
-/// domain that it is asked for; where there is no such peer, there is no route.
+/// domain that it is asked for, and each such peer has one; where there is none, there is no route.
 pub fn routes_go_out()
     ensures peers { RoutesGoOut }
+    ensures each { EachHasRoute }
     ensures none { NoRoutes }
 {}
 

@@ -6,3 +6,6 @@ returns-clause-peers c = outward.routes_go_out
 
 pub returns-clause-none : goal.returns-clause-none
 returns-clause-none c = outward.no_routes
+
+pub returns-clause-each : goal.returns-clause-each
+returns-clause-each c = outward.each_has_route
