@@ -158,5 +158,8 @@ mod Broken
 mod Full
 mod Served
 mod Good
+mod GoodRun
+mod GoodSample
+mod GoodExists
 -- handed on from below
 pub use Rattle.plant_model.proofs as plant_model

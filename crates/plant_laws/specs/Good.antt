@@ -5,7 +5,7 @@ use Rattle.std.specs.Prelude.{◌≡◌, ◌≢◌, ℕ, List, ◌∷◌, [], Co
 use Rattle.dom_base.specs.declared.names.As.{As}
 use Rattle.dom_base.specs.declared.addr.Addr.{Addr}
 use Rattle.dom_base.specs.declared.names.Peer.{Peer}
-use Rattle.dom_base.specs.declared.names.Peer.TheVariants.{Inner}
+use Rattle.dom_base.specs.declared.names.Peer.TheVariants.{Outside, Inner}
 use Rattle.pcep_codes.specs.declared.kinds.TheConstants as object_types
 use Rattle.pcep_messages.specs.declared.message.Message.TheVariants as messages
 use Rattle.pcep_messages.specs.declared.message.Reply.{Reply}
@@ -15,9 +15,12 @@ use Rattle.plant_text.specs.Names.{parent_as}
 use Rattle.plant_model.specs.declared.output.Output.{Output}
 use Rattle.plant_model.specs.Names.{the_parent}
 use Rattle.plant_model.specs.Wire.{Codec}
+use Rattle.plant_model.specs.RealWire.{wire}
+use Rattle.plant_model.specs.Laws.{IsNetwork}
 use Rattle.plant_model.specs.Writing.{request_message, busy, ends_kind}
 use Rattle.plant_model.specs.State.{Takes, Downs}
 use Rattle.plant_model.specs.Plant.{Plant, PlantDeed, Entry, Run, deeds_of}
+use Rattle.plant_laws.specs.About.{IsShort}
 use Rattle.plant_laws.specs.Transcript.{Transcript, Within, opened, Handed, SentIn, outputs_at}
 use Rattle.plant_laws.specs.Chains.{IsQuiet}
 use Rattle.plant_laws.specs.Answered.{IsEnd, DropsFor, answers_of}
@@ -74,3 +77,24 @@ GoodRequestsAreServedIn c n es s =
 
 abbrev pub GoodRequestsAreServed : Type 0
 GoodRequestsAreServed = InShortRuns GoodRequestsAreServedIn
+
+-- There are good requests: a run over PCEP that ended quiet, in which a request of an outside peer is good that went on to a further
+-- domain.
+pub record HasGoodRequest : Type 0 where
+  pub n : NetworkParts
+  pub obeys : IsNetwork n
+  pub this : RunOf wire n
+  pub short : IsShort (deeds_of wire n this.entries)
+  pub quiet : IsQuiet this.state
+  pub d : As
+  pub real : d ≢ parent_as
+  pub i : ℕ
+  pub x : ℕ
+  pub at : Transcript
+  pub within : Within at (deeds_of wire n this.entries)
+  pub is_open : opened wire d (Outside i) x at ≡ Some at
+  pub good : IsGood wire n this (deeds_of wire n this.entries) d (Outside i) x at
+  pub b : As
+  pub y : ℕ
+  pub taken : Transcript
+  pub further : IsOnWay (deeds_of wire n this.entries) d (Outside i) x at b (Inner d) y taken
