@@ -1,7 +1,7 @@
 -- A run in which a good request is served: two domains whose topologies are empty, and a client of the first that asks for a path
 -- through both. There is none.
 use Rattle.std.proofs.Common.{◌≡◌, ◌<◌, ◌≤◌, ℕ, Bool, true, false, cond, nat_lt, nat_eq, List, [], ◌∷◌, Option, Some, None, sym, ap, subst, inl, inr, refl, arith, ltb-true}
-use Rattle.std.specs.Prelude.{All, Contains, Unit}
+use Rattle.std.specs.Prelude.{All, Contains}
 use Rattle.std.specs.Map.{lookup}
 use Rattle.std.proofs.lemmas.List.Elements.{All-nil, All-cons}
 use Rattle.dom_base.specs.AddrOrder.{rank}
@@ -40,7 +40,7 @@ use Rattle.plant_laws.specs.Transcript.{Transcript}
 
 -- ---- the network
 
-abbrev first_peer : List PeerRow → List PeerRow
+abbrev pub first_peer : List PeerRow → List PeerRow
 first_peer [] = []
 first_peer (p ∷ ps) = p ∷ []
 
@@ -55,11 +55,11 @@ small (b ∷ bs) = cond (nat_lt b 256) (small bs) false
 
 all_small : (bs : List ℕ) → small bs ≡ true → All (λ (b : ℕ). b < 256) bs
 all_small [] e = All-nil (λ (b : ℕ). b < 256)
-all_small (b ∷ bs) e = go (nat_lt b 256) refl e
+all_small (b ∷ bs) e = go (nat_lt b 256) refl e (all_small bs)
   where
-    go : (t : Bool) → nat_lt b 256 ≡ t → cond t (small bs) false ≡ true → All (λ (x : ℕ). x < 256) (b ∷ bs)
-    go true is e' = All-cons (λ (x : ℕ). x < 256) b bs (ltb-true b 256 is) (all_small bs e')
-    go false is e' = absurd (let clash : false ≡ true = e' in cc)
+    go : (t : Bool) → nat_lt b 256 ≡ t → cond t (small bs) false ≡ true → (small bs ≡ true → All (λ (x : ℕ). x < 256) bs) → All (λ (x : ℕ). x < 256) (b ∷ bs)
+    go true is e' more = All-cons (λ (x : ℕ). x < 256) b bs (ltb-true b 256 is) (more e')
+    go false is e' more = absurd (let clash : false ≡ true = e' in cc)
 
 -- one more event, with its deeds
 abbrev pub on : (r : RunOf wire two) (e : Event) → IsGiven e → (h : Happened) → Happens wire two r.state e h → (ds : Transcript) → h.deeds ≡ ds → RunOf wire two
@@ -74,19 +74,19 @@ pub record IsPlain (e : Event) : Type 0 where
   pub given : IsGiven e
   pub happens : (s : Plant) → Happens wire two s e (happened wire two s e)
 
-abbrev ArePlain : List Event → Type 0
+abbrev pub ArePlain : List Event → Type 0
 ArePlain [] = Unit {0}
 ArePlain (e ∷ es) = IsPlain e × ArePlain es
 
-abbrev played : (es : List Event) → ArePlain es → RunOf wire two → RunOf wire two
+abbrev pub played : (es : List Event) → ArePlain es → RunOf wire two → RunOf wire two
 played [] plain r = r
 played (e ∷ es) plain r = played es plain.1 (on r e plain.0.given (happened wire two r.state e) (plain.0.happens r.state) (happened wire two r.state e).deeds refl)
 
-abbrev question : Wanted
+abbrev pub question : Wanted
 question = wanted (V4 1) (V4 3)
 
 -- the link and the client's session come up, and the client's request is fed
-abbrev beginning : List Event
+abbrev pub beginning : List Event
 beginning =
     event.Carry (As_ 1) (As_ 2) ∷ event.Carry (As_ 2) (As_ 1) ∷ event.Carry (As_ 1) (As_ 2) ∷ event.Carry (As_ 2) (As_ 1) ∷ event.Open 0 0 ∷ event.Feed 0 (wire.text the_open)
     ∷ event.Feed 0 (wire.text messages.Keepalive) ∷ event.Feed 0 (wire.text (asks 7 (V4 1) (V4 3) (As_ 1 ∷ As_ 2 ∷ []))) ∷ event.Take 0 ∷ event.Take 0 ∷ []
@@ -100,7 +100,7 @@ taken i = record { given = tt; happens = λ s. refl }
 fed : (bytes : List ℕ) → small bytes ≡ true → IsPlain (event.Feed 0 bytes)
 fed bytes is = record { given = all_small bytes is; happens = λ s. refl }
 
-plain : ArePlain beginning
+pub plain : ArePlain beginning
 plain = (
   carried (As_ 1) (As_ 2),
   (carried (As_ 2) (As_ 1), (carried (As_ 1) (As_ 2), (carried (As_ 2) (As_ 1), (record { given = tt; happens = λ s. refl }, (fed _ refl, (fed _ refl, (fed _ refl, (taken 0, (taken 0, tt))))))))),
@@ -122,7 +122,7 @@ sent_on = record { to = Inner (As_ 2); message = request_message 1 wanted_first 
 abbrev pub takes_first : Transcript
 takes_first = Takes (As_ 1) (Outside 0) (messages.PcReq (asked_first ∷ [])) (sent_on ∷ []) ∷ []
 
-does_first : (happened wire two begun.state (event.Take 0)).deeds ≡ takes_first
+pub does_first : (happened wire two begun.state (event.Take 0)).deeds ≡ takes_first
 unfolding begun rank parts_from body_of is_bound is_minimised
 does_first = refl
 
@@ -139,7 +139,7 @@ wanted_second = record wanted_first { query = query_in wanted_first.query (As_ 2
 abbrev pub takes_second : Transcript
 takes_second = Takes (As_ 2) (Inner (As_ 1)) (messages.PcReq (asked_second ∷ [])) [] ∷ Pops (As_ 1) (As_ 2) ∷ []
 
-does_second : (happened wire two first.state (event.Carry (As_ 1) (As_ 2))).deeds ≡ takes_second
+pub does_second : (happened wire two first.state (event.Carry (As_ 1) (As_ 2))).deeds ≡ takes_second
 unfolding first begun rank parts_from body_of is_bound is_minimised
 does_second = refl
 
@@ -161,7 +161,7 @@ held_second = record {
   item = record { class = Neighbour (As_ 1); flags = vspt_flag; wanted = wanted_second; sequence = As_ 2 ∷ []; pin = first_pin (As_ 2); stage = Ready [] };
 }
 
-right_second : AreRows (empty_rows (As_ 2)) (ask wire two (As_ 2) (1, held_second) []) rows_second
+pub right_second : AreRows (empty_rows (As_ 2)) (ask wire two (As_ 2) (1, held_second) []) rows_second
 right_second = record {
   seeds = target_seed (V4 3) ∷ [];
   are_seeds = record { are = refl; few = omega arith };
@@ -182,11 +182,11 @@ right_second = record {
   };
 }
 
-is_held_second : lookup (nat_eq 1) (second.state.elements (As_ 2)).pending.rows ≡ Some held_second
+pub is_held_second : lookup (nat_eq 1) (second.state.elements (As_ 2)).pending.rows ≡ Some held_second
 unfolding second first begun rank parts_from body_of is_bound is_minimised
 is_held_second = refl
 
-solves_second : ElementSolves wire two (As_ 2) 1 second.state (solved wire two (As_ 2) (1, held_second) [] rows_second second.state)
+pub solves_second : ElementSolves wire two (As_ 2) 1 second.state (solved wire two (As_ 2) (1, held_second) [] rows_second second.state)
 solves_second = record { upper = refl; held = held_second; is_held = is_held_second; down = []; ready = refl; rows = rows_second; right = right_second; is = refl }
 
 abbrev pub none_second : Reply
@@ -195,7 +195,7 @@ none_second = record { flags = vspt_flag; id = 1; answer = NoPath 0 0 }
 abbrev pub answers_second : Transcript
 answers_second = Solves (As_ 2) 1 (record { to = Inner (As_ 1); message = messages.PcRep (none_second ∷ []) } ∷ []) [] ∷ []
 
-does_third : (solved wire two (As_ 2) (1, held_second) [] rows_second second.state).deeds ≡ answers_second
+pub does_third : (solved wire two (As_ 2) (1, held_second) [] rows_second second.state).deeds ≡ answers_second
 unfolding second first begun rank parts_from body_of is_bound is_minimised
 does_third = refl
 
@@ -206,7 +206,7 @@ third = on second (event.Solve (As_ 2) 1) tt (solved wire two (As_ 2) (1, held_s
 abbrev pub hears_first : Transcript
 hears_first = Takes (As_ 1) (Inner (As_ 2)) (messages.PcRep (none_second ∷ [])) [] ∷ Pops (As_ 2) (As_ 1) ∷ []
 
-does_fourth : (happened wire two third.state (event.Carry (As_ 2) (As_ 1))).deeds ≡ hears_first
+pub does_fourth : (happened wire two third.state (event.Carry (As_ 2) (As_ 1))).deeds ≡ hears_first
 unfolding third second first begun rank parts_from body_of is_bound is_minimised
 does_fourth = refl
 
@@ -223,7 +223,7 @@ held_first = record {
   item = record { class = Client true; flags = vspt_flag; wanted = wanted_first; sequence = As_ 1 ∷ As_ 2 ∷ []; pin = first_pin (As_ 1); stage = Ready [] };
 }
 
-right_first : AreRows (empty_rows (As_ 1)) (ask wire two (As_ 1) (1, held_first) []) rows_first
+pub right_first : AreRows (empty_rows (As_ 1)) (ask wire two (As_ 1) (1, held_first) []) rows_first
 right_first = record {
   seeds = [];
   are_seeds = record { are = record { each = λ s has. nothing_in s has; every = λ o s is. nothing_in o is.out.is_out }; few = omega arith };
@@ -244,11 +244,11 @@ right_first = record {
   };
 }
 
-is_held_first : lookup (nat_eq 1) (fourth.state.elements (As_ 1)).pending.rows ≡ Some held_first
+pub is_held_first : lookup (nat_eq 1) (fourth.state.elements (As_ 1)).pending.rows ≡ Some held_first
 unfolding fourth third second first begun rank parts_from body_of is_bound is_minimised
 is_held_first = refl
 
-solves_first : ElementSolves wire two (As_ 1) 1 fourth.state (solved wire two (As_ 1) (1, held_first) [] rows_first fourth.state)
+pub solves_first : ElementSolves wire two (As_ 1) 1 fourth.state (solved wire two (As_ 1) (1, held_first) [] rows_first fourth.state)
 solves_first = record { upper = refl; held = held_first; is_held = is_held_first; down = []; ready = refl; rows = rows_first; right = right_first; is = refl }
 
 abbrev pub none_first : Reply
@@ -257,7 +257,7 @@ none_first = record { flags = vspt_flag; id = 7; answer = no_path false true }
 abbrev pub answers_first : Transcript
 answers_first = Solves (As_ 1) 1 (record { to = Outside 0; message = messages.PcRep (none_first ∷ []) } ∷ []) [] ∷ []
 
-does_last : (solved wire two (As_ 1) (1, held_first) [] rows_first fourth.state).deeds ≡ answers_first
+pub does_last : (solved wire two (As_ 1) (1, held_first) [] rows_first fourth.state).deeds ≡ answers_first
 unfolding fourth third second first begun rank parts_from body_of is_bound is_minimised
 does_last = refl
 

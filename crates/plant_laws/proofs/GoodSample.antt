@@ -29,6 +29,7 @@ use Rattle.plant_model.specs.Writing.{request_message, vspt_flag}
 use Rattle.plant_model.specs.Element.{Item, way_to}
 use Rattle.plant_model.specs.Parent.{is_up}
 use Rattle.plant_model.specs.Samples.{As_}
+use Rattle.plant_model.specs.Settings.{place}
 use Rattle.plant_model.specs.State.{Loads, Pops, Takes, Says, Ups, Downs, Clears, Solves, Expires, Hands}
 use Rattle.plant_model.specs.Plant.{Pin, Plant, PlantDeed, Entry, Run, deeds_of}
 use Rattle.plant_text.specs.declared.settings.NetworkParts.{NetworkParts}
@@ -74,7 +75,7 @@ now_is = refl
 
 -- ---- tests of deeds
 
-abbrev any : (PlantDeed → Bool) → Transcript → Bool
+abbrev pub any : (PlantDeed → Bool) → Transcript → Bool
 any test [] = false
 any test (e ∷ es) = cond (test e) true (any test es)
 
@@ -89,14 +90,14 @@ found test (x ∷ ds) e older (inr within) is = go (test x) (found test ds e old
     go true more = refl
     go false more = more
 
-never : {X : Type 0} (test : PlantDeed → Bool) (ds : Transcript) → any test ds ≡ false → (e : PlantDeed) (older : Transcript) → test e ≡ true → Within (e ∷ older) ds → X
+pub never : {X : Type 0} (test : PlantDeed → Bool) (ds : Transcript) → any test ds ≡ false → (e : PlantDeed) (older : Transcript) → test e ≡ true → Within (e ∷ older) ds → X
 never test ds none e older is within = absurd (let clash : false ≡ true = sym none ∙ found test ds e older within is in cc)
 
 abbrev is_outside : Peer → Bool
 is_outside (Outside i) = true
 is_outside (Inner a) = false
 
-abbrev is_ask : Message → Bool
+abbrev pub is_ask : Message → Bool
 is_ask (messages.PcReq asks) = true
 is_ask m = false
 
@@ -313,7 +314,7 @@ keys_suffice d p x deed older within k = go (k.tells.to_closed k.closed)
     solves : deed ≡ Solves d k.number (record { to = k.tells.held.key.peer; message = k.tells.message } ∷ []) k.tells.keys
     solves = ap (head_of deed) k.tells.sends_one
 
-    go : TellsClosed wire _ (k.number, k.tells.held) k.tells.down k.before.clock (k.before.elements d).keys k.tells.rows.best k.tells.message → ⊥
+    go : TellsClosed wire (place two d) (k.number, k.tells.held) k.tells.down k.before.clock (k.before.elements d).keys k.tells.rows.best k.tells.message → ⊥
     go (branches some few is) = omega (arith, few, k.few)
     go (no_branch none is) = (let empty' : length k.tells.rows.best ≡ 0 = ap (λ (l : List _). length l) none in omega (arith, empty', k.few))
     go (lacks_keys few is) = never solves_note whole none_busy deed older (ap solves_note solves ∙ ap is_note is) (subst (λ (l : Transcript). Within (deed ∷ older) l) now_is within)
@@ -343,7 +344,7 @@ on_way b q y taken (next a b' q' y' z sending taken' w t rest before sent handed
     go (e ∷ []) handed' within' = absurd handed'
     go (e ∷ f ∷ older) handed' within' =
         let one : Takes b' (Inner a) (messages.PcReq handed'.0) handed'.1 ∷ f ∷ older ≡ at_second =
-            only_second b' a handed'.0 handed'.1 (f ∷ older) (subst (λ (l : Transcript). Within (Takes b' (Inner a) (messages.PcReq handed'.0) handed'.1 ∷ f ∷ older) l) now_is (subst (λ (x : PlantDeed). Within (x ∷ f ∷ older) now) handed'.3 within')) in
+        only_second b' a handed'.0 handed'.1 (f ∷ older) (subst (λ (l : Transcript). Within (Takes b' (Inner a) (messages.PcReq handed'.0) handed'.1 ∷ f ∷ older) l) now_is (subst (λ (x : PlantDeed). Within (x ∷ f ∷ older) now) handed'.3 within')) in
         let heads : ◌≡◌ {A = PlantDeed} (Takes b' (Inner a) (messages.PcReq handed'.0) handed'.1) second_deed = ap (head_of second_deed) one in
         let is_b : b' ≡ As_ 2 = cc in
         let is_a : a ≡ As_ 1 = cc in

@@ -160,6 +160,7 @@ mod Served
 mod Good
 mod GoodRun
 mod GoodSample
+mod GoodInboxes
 mod GoodExists
 -- handed on from below
 pub use Rattle.plant_model.proofs as plant_model
