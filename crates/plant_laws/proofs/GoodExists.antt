@@ -1,6 +1,6 @@
 -- There are good requests: the run of the sample obeys all that the law asks for.
-use Rattle.std.proofs.Common.{◌≡◌, ◌≢◌, ◌<◌, ◌≤◌, ◌+◌, ℕ, zero, suc, Bool, true, false, cond, ◌==◌, nat_eq, nat_lt, List, [], ◌∷◌, length, Option, Some, None, is_some, sym, ◌∙◌, ap, subst, inl, inr, refl, arith, eqb-true, ltb-true}
-use Rattle.std.specs.Prelude.{All, AllPairs, Contains}
+use Rattle.std.proofs.Common.{◌≡◌, ◌≢◌, ◌≤◌, ◌+◌, ℕ, suc, Bool, true, false, cond, ◌==◌, nat_eq, nat_lt, List, [], ◌∷◌, length, Option, Some, None, is_some, sym, ◌∙◌, ap, subst, inl, inr, refl, arith, eqb-true, ltb-true}
+use Rattle.std.specs.Prelude.{AllPairs, Contains}
 use Rattle.std.specs.Map.{lookup}
 use Rattle.std.proofs.lemmas.Bool.{cases_Bool}
 use Rattle.std.proofs.lemmas.List.Elements.{All-nil, All-cons}
@@ -29,10 +29,10 @@ use Rattle.plant_model.specs.Samples.{As_}
 use Rattle.plant_model.specs.SampleRuns.{element}
 use Rattle.plant_model.specs.State.{Connection, Loads, Pops, Takes, Says, Ups, Downs, Clears, Solves, Expires, Hands}
 use Rattle.plant_model.specs.Wire.{Bytes}
-use Rattle.plant_model.specs.Element.{Row, id_most}
+use Rattle.plant_model.specs.Element.{Row}
 use Rattle.plant_model.specs.Parent.{AskingRow}
 use Rattle.plant_model.specs.Events.{is_ready, is_ready_row, is_ready_asking}
-use Rattle.plant_model.specs.Plant.{Pin, PlantDeed, deeds_of}
+use Rattle.plant_model.specs.Plant.{Pin, PlantDeed}
 use Rattle.plant_laws.specs.About.{IsShort}
 use Rattle.plant_laws.specs.Chains.{IsQuiet, HasEmptyInbox}
 use Rattle.plant_laws.specs.Good.{HasGoodRequest}

@@ -30,7 +30,7 @@ use Rattle.plant_model.specs.Parent as parent
 use Rattle.plant_model.specs.Settings.{place, family}
 use Rattle.plant_model.specs.Samples.{As_, asks, the_open}
 use Rattle.plant_model.specs.State.{Access, Connection, Pops, Takes, Ups, Downs}
-use Rattle.plant_model.specs.Deeds.{Going, our_offer, own_message, element_of, is_due, is_tick, is_out_empty, any_fall, on_connection, with_more, with_session, with_inbox, input_of, with_access, with_element, with_parent, with_inner, put, puts, give, rise, fall, say, clear, outside_act, outside_acts, outside_step, inner_act, inner_acts, inner_input, begin_end, break_line}
+use Rattle.plant_model.specs.Deeds.{Going, our_offer, own_message, element_of, is_due, is_tick, is_out_empty, any_fall, on_connection, with_more, with_session, with_inbox, input_of, with_access, with_element, with_parent, with_inner, put, puts, give, rise, fall, say, clear, outside_act, outside_acts, outside_step, inner_act, inner_acts, begin_end, break_line}
 use Rattle.plant_model.specs.Events as events
 use Rattle.plant_model.specs.Events.{is_down, fed}
 use Rattle.plant_model.specs.Plant.{Pin, Segment, Plant, happened, solved, opened}

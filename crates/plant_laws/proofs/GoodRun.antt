@@ -1,6 +1,6 @@
 -- A run in which a good request is served: two domains whose topologies are empty, and a client of the first that asks for a path
 -- through both. There is none.
-use Rattle.std.proofs.Common.{◌≡◌, ◌<◌, ◌≤◌, ℕ, Bool, true, false, cond, nat_lt, nat_eq, List, [], ◌∷◌, Option, Some, None, sym, ap, subst, inl, inr, refl, arith, ltb-true}
+use Rattle.std.proofs.Common.{◌≡◌, ◌<◌, ℕ, Bool, true, false, cond, nat_lt, nat_eq, List, [], ◌∷◌, Some, None, subst, inl, inr, refl, arith, ltb-true}
 use Rattle.std.specs.Prelude.{All, Contains}
 use Rattle.std.specs.Map.{lookup}
 use Rattle.std.proofs.lemmas.List.Elements.{All-nil, All-cons}
@@ -32,7 +32,7 @@ use Rattle.plant_model.specs.RealWire.{wire}
 use Rattle.plant_model.specs.Writing.{asked_of, request_message, no_path, vspt_flag}
 use Rattle.plant_model.specs.Element.{Item, Ready}
 use Rattle.plant_model.specs.State.{Pops, Takes, Solves}
-use Rattle.plant_model.specs.Plant.{Pin, Plant, Happened, Entry, Run, IsGiven, Happens, happened, solved, ask, ElementSolves, opened, first_pin}
+use Rattle.plant_model.specs.Plant.{Pin, Plant, Happened, IsGiven, Happens, happened, solved, ask, ElementSolves, opened, first_pin}
 use Rattle.plant_model.specs.Samples.{As_, wanted, asks, the_open}
 use Rattle.plant_model.specs.SampleRuns.{element, three}
 use Rattle.plant_laws.specs.Met.{RunOf}

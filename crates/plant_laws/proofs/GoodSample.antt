@@ -1,10 +1,9 @@
 -- A good request in a run: what the law of good requests asks for holds together.
-use Rattle.std.proofs.Common.{◌≡◌, ◌≢◌, ◌<◌, ◌≤◌, ◌+◌, ℕ, Bool, true, false, cond, List, [], ◌∷◌, ◌++◌, length, Option, Some, None, sym, ◌∙◌, ap, subst, inl, inr, refl, arith}
-use Rattle.std.specs.Prelude.{◌⊎◌, Contains}
+use Rattle.std.proofs.Common.{◌≡◌, ◌≤◌, ℕ, Bool, true, false, cond, List, [], ◌∷◌, ◌++◌, length, Some, sym, ◌∙◌, ap, subst, inl, inr, refl, arith}
+use Rattle.std.specs.Prelude.{◌⊎◌}
 use Rattle.dom_base.specs.AddrOrder.{rank}
 use Rattle.dom_base.specs.Parts.{parts_from}
 use Rattle.dom_base.specs.declared.names.As.{As}
-use Rattle.dom_base.specs.declared.addr.Addr.{Addr}
 use Rattle.dom_base.specs.declared.addr.Addr.TheVariants.{V4}
 use Rattle.dom_base.specs.declared.names.Peer.{Peer}
 use Rattle.dom_base.specs.declared.names.Peer.TheVariants.{Outside, Inner}
@@ -20,17 +19,15 @@ use Rattle.pcep_messages.specs.declared.message.Wish.{Wish}
 use Rattle.pcep_messages.specs.declared.message.Wish.TheVariants as wishes
 use Rattle.request_table.specs.Pending.{Pending, IsFull}
 use Rattle.plant_text.specs.Names.{parent_as}
-use Rattle.plant_text.specs.Settings.{class_of}
 use Rattle.plant_model.specs.declared.output.Output.{Output}
-use Rattle.plant_model.specs.Names.{the_parent}
 use Rattle.plant_model.specs.RealWire.{wire}
 use Rattle.plant_model.specs.Wire.{Codec, Checked, Admitted}
-use Rattle.plant_model.specs.Writing.{request_message, vspt_flag}
+use Rattle.plant_model.specs.Writing.{vspt_flag}
 use Rattle.plant_model.specs.Element.{Item, way_to}
 use Rattle.plant_model.specs.Parent.{is_up}
 use Rattle.plant_model.specs.Samples.{As_}
 use Rattle.plant_model.specs.Settings.{place}
-use Rattle.plant_model.specs.State.{Loads, Pops, Takes, Says, Ups, Downs, Clears, Solves, Expires, Hands}
+use Rattle.plant_model.specs.State.{Pops, Takes, Downs, Solves}
 use Rattle.plant_model.specs.Plant.{Pin, Plant, PlantDeed, Entry, Run, deeds_of}
 use Rattle.plant_text.specs.declared.settings.NetworkParts.{NetworkParts}
 use Rattle.plant_laws.specs.Answered.{DropsFor, cancelled, went_down}
@@ -40,7 +37,7 @@ use Rattle.plant_laws.specs.Good.{IsOnWay, first as begins_way, next, GoesWell, 
 use Rattle.plant_laws.specs.MessageCauses.{GoesTo, upward, along}
 use Rattle.plant_laws.specs.Met.{Meets, TakesPathRequest}
 use Rattle.plant_laws.specs.Solves.{TellsClosed, branches, no_branch, lacks_keys}
-use Rattle.plant_laws.specs.Transcript.{Transcript, Within, Standing, standing, opened, Handed, SentIn}
+use Rattle.plant_laws.specs.Transcript.{Transcript, Within, standing, opened, Handed}
 use Rattle.plant_laws.proofs.GoodRun.{two, begun, wanted_first, asked_first, sent_on, takes_first, first, asked_second, wanted_second, takes_second, second, answers_second, third, hears_first, fourth, answers_first, last}
 use Rattle.plant_laws.proofs.Lists.{one_of, first_in}
 use Rattle.plant_laws.proofs.MomentCauses.{head_of}

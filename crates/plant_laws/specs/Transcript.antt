@@ -142,7 +142,7 @@ abbrev pub opened : Codec → As → Peer → ℕ → Transcript → Option Tran
 opened c d p x [] = None
 opened c d p x (e ∷ older) = after (effect c d p x e) (opened c d p x older) (e ∷ older)
 
--- the moment delivered this request of p to d
+-- The moment delivered this request of p to d. A moment has a deed: the empty transcript delivers nothing.
 abbrev pub Delivered : Codec → Transcript → As → Peer → Request → Type 0
 Delivered c [] d p r = ⊥
 Delivered c (e ∷ older) d p r = (a : Asked) × (os : List Output) × (e ≡ Takes d p (messages.PcReq (a ∷ [])) os) × (c.check a d ≡ Admitted r)
@@ -178,7 +178,8 @@ abbrev pub standing : As → As → Transcript → List Standing
 standing a b [] = []
 standing a b (e ∷ older) = left_of e a b (standing a b older) ++ standing_of (e ∷ older) (put_into b (outputs_at a e))
 
--- the moment n delivered to b the very request that a put into its queue in the moment m
+-- The moment n delivered to b the very request that a put into its queue in the moment m: it was popped and then taken, so there are
+-- two deeds.
 abbrev pub Handed : As → As → Transcript → Transcript → Type 0
 Handed a b m [] = ⊥
 Handed a b m (e ∷ []) = ⊥
@@ -186,7 +187,7 @@ Handed a b m (e ∷ f ∷ older) =
     (asks : List Asked) × (os : List Output) × (rest : List Standing) × (e ≡ Takes b (Inner a) (messages.PcReq asks) os) × (f ≡ Pops a b)
     × (standing a b older ≡ record { message = messages.PcReq asks; put = m } ∷ rest)
 
--- the element sent this message in the moment
+-- the element sent this message in the moment, by its deed
 abbrev pub SentIn : Transcript → As → Peer → Message → Type 0
 SentIn [] d p m = ⊥
 SentIn (e ∷ older) d p m = Contains (outputs_at d e) (record { to = p; message = m })
@@ -197,7 +198,7 @@ pub record Leg : Type 0 where
   pub at : Transcript
   pub solved : Transcript
 
--- each leg's request is the one that the leg before it sent on
+-- Each leg's request is the one that the leg before it sent on. A chain has a leg.
 abbrev pub Chain : Transcript → List Leg → Type 0
 Chain now [] = ⊥
 Chain now (one ∷ []) = Within one.at now × Within one.solved now
