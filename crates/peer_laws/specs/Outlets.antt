@@ -12,7 +12,7 @@ use Rattle.plant_laws.specs.plant_model.declared.output.Output.{Output}
 use Rattle.plant_laws.specs.plant_model.Wire.{Bytes, Codec}
 use Rattle.plant_laws.specs.plant_model.Blind.{is_accepted}
 use Rattle.plant_laws.specs.plant_model.Events.{Answered}
-use Rattle.plant_laws.specs.plant_model.State.{Connection, Deed, Loads, Pops, Takes, Says, Ups, Downs, Clears, Solves, Expires, Hands}
+use Rattle.plant_laws.specs.plant_model.State.{Connection, Deed, Takes, Says, Downs, Solves}
 use Rattle.plant_laws.specs.plant_model.Plant.{Plant, Entry, Run}
 
 -- ---- what is put there for a peer
@@ -27,12 +27,7 @@ outputs_of (Takes at from m os) = os
 outputs_of (Says at o) = o ∷ []
 outputs_of (Downs at p os) = os
 outputs_of (Solves at k os keys) = os
-outputs_of (Loads at g) = []
-outputs_of (Pops a b) = []
-outputs_of (Ups at p) = []
-outputs_of (Clears a b) = []
-outputs_of (Expires now) = []
-outputs_of (Hands i bytes) = []
+outputs_of e = []
 
 -- the messages for the peer, in order; deeds have the newest first
 abbrev pub messages_for : {S : Type 0} → ℕ → List (Deed S) → List Message

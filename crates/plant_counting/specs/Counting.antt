@@ -1,14 +1,14 @@
 -- How many requests a network without a parent sends: to one neighbour no more than it is fed octets. So no id comes round where few are fed.
 use Rattle.std.specs.Prelude.{◌≡◌, ◌≤◌, ◌+◌, ℕ, List, [], ◌∷◌, length, None}
 use Rattle.dom_base.specs.declared.names.As.{As}
-use Rattle.dom_base.specs.declared.names.Peer.TheVariants.{Outside, Inner}
+use Rattle.dom_base.specs.declared.names.Peer.TheVariants.{Outside}
 use Rattle.plant_text.specs.declared.settings.NetworkParts.{NetworkParts}
 use Rattle.plant_laws.specs.plant_model.declared.event.Event.{Event}
 use Rattle.plant_laws.specs.plant_model.declared.event.Event.TheVariants as event
 use Rattle.plant_laws.specs.plant_model.Wire.{Codec}
 use Rattle.plant_laws.specs.plant_model.RealWire.{wire}
 use Rattle.plant_laws.specs.plant_model.Laws.{IsNetwork}
-use Rattle.plant_laws.specs.plant_model.State.{Loads, Pops, Takes, Says, Ups, Downs, Clears, Solves, Expires, Hands}
+use Rattle.plant_laws.specs.plant_model.State.{Takes}
 use Rattle.plant_laws.specs.plant_model.Plant.{Plant, PlantDeed, Entry, Run, deeds_of}
 use Rattle.plant_laws.specs.Transcript.{Transcript, asks}
 use Rattle.plant_laws.specs.About.{IsShort}
@@ -16,15 +16,7 @@ use Rattle.plant_laws.specs.About.{IsShort}
 -- the octets that outside peers feed, whether they are accepted or not
 abbrev pub fed_by : Event → ℕ
 fed_by (event.Feed i bytes) = length bytes
-fed_by (event.Load d g) = 0
-fed_by (event.Open i holder) = 0
-fed_by (event.Shut i) = 0
-fed_by (event.Take i) = 0
-fed_by (event.Carry a b) = 0
-fed_by (event.Break a b) = 0
-fed_by (event.Solve d k) = 0
-fed_by (event.Tick t) = 0
-fed_by (event.Drain i holder) = 0
+fed_by e = 0
 
 abbrev pub fed_bytes : List Entry → ℕ
 fed_bytes [] = 0
@@ -33,16 +25,7 @@ fed_bytes (e ∷ older) = fed_by e.event + fed_bytes older
 -- the messages that are taken from outside peers
 abbrev pub heard_in : PlantDeed → ℕ
 heard_in (Takes at (Outside i) m os) = 1
-heard_in (Takes at (Inner a) m os) = 0
-heard_in (Loads at g) = 0
-heard_in (Pops a b) = 0
-heard_in (Says at o) = 0
-heard_in (Ups at p) = 0
-heard_in (Downs at p os) = 0
-heard_in (Clears a b) = 0
-heard_in (Solves at k os keys) = 0
-heard_in (Expires now) = 0
-heard_in (Hands i bytes) = 0
+heard_in e = 0
 
 abbrev pub heard : Transcript → ℕ
 heard [] = 0

@@ -1,5 +1,5 @@
 -- Each request is answered once, if what is pending is what the transcript shows open.
-use Rattle.std.proofs.Common.{◌≡◌, ◌≢◌, ◌⊎◌, ◌+◌, ◌≤◌, ◌<◌, ◌==◌, nat_eq, ℕ, zero, suc, Bool, true, false, cond, List, [], ◌∷◌, ◌++◌, length, Option, Some, None, sym, ◌∙◌, ap, subst, inl, inr, refl, arith}
+use Rattle.std.proofs.Common.{◌≡◌, ◌≢◌, ◌⊎◌, ◌≤◌, ◌<◌, ◌==◌, ℕ, zero, suc, Bool, true, false, cond, List, [], ◌∷◌, ◌++◌, length, Option, Some, None, sym, ◌∙◌, ap, subst, inl, inr, refl, arith}
 use Rattle.std.proofs.lemmas.Bool.{cases_Bool, eqb-true}
 use Rattle.dom_base.specs.declared.names.As.{As}
 use Rattle.dom_base.specs.declared.names.Peer.{Peer}
@@ -9,8 +9,6 @@ use Rattle.pcep_messages.specs.declared.message.Message.{Message}
 use Rattle.pcep_messages.specs.declared.message.Message.TheVariants as messages
 use Rattle.pcep_messages.specs.declared.message.Wish.{Wish}
 use Rattle.pcep_messages.specs.declared.message.Wish.TheVariants.{Path, Expand}
-use Rattle.pcep_session.specs.declared.actions.Own.{Own}
-use Rattle.pcep_session.specs.declared.actions.Own.TheVariants as own
 use Rattle.disclosure.specs.Shown.{open_of}
 use Rattle.request_table.specs.Pending.{ArePending, same_peer}
 use Rattle.plant_text.specs.declared.settings.NetworkParts.{NetworkParts}
@@ -26,7 +24,7 @@ use Rattle.plant_model.specs.Settings.{place, family}
 use Rattle.plant_model.specs.State.{State, Deed, Loads, Pops, Takes, Says, Ups, Downs, Clears, Solves, Expires, Hands}
 use Rattle.plant_model.specs.Deeds.{Going, element_of, own_message, with_parent, with_element, put, put_to, puts, give, rise, fall}
 use Rattle.plant_model.specs.Plant.{Pin, Segment, Plant, Happened, Entry, Run, deeds_of, ElementSolves, ParentSolves}
-use Rattle.plant_laws.specs.Transcript.{Transcript, Within, opened, after, effect, Effect, Keeps, Ends, Begins, ends_if, asks_effect, begins_if, begins, take_effect, cancels, count_answers, answers_to}
+use Rattle.plant_laws.specs.Transcript.{Transcript, Within, opened, after, effect, Effect, Keeps, Ends, Begins, ends_if, asks_effect, begins_if, begins, take_effect, cancels, answers_to}
 use Rattle.plant_laws.proofs.Acts.{Acts, rests, hears, carries, nods, hands, rises, falls, says, clears, expires}
 use Rattle.plant_laws.specs.Chains.{is_pending}
 use Rattle.plant_laws.specs.Answered.{answers_of, AnswersFor, of_open, DropsFor, cancelled, went_down, IsEnd, pending, answered, dropped, IsAnsweredOnce, RequestsAreAnsweredOnceIn}

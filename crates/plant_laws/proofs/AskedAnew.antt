@@ -1,6 +1,6 @@
 -- What is said to the sender of a message that asks: one answer at most, under the id of the request, and none to a repeat of one
 -- that is pending.
-use Rattle.std.proofs.Common.{◌≡◌, ◌+◌, ◌≤◌, ◌==◌, ℕ, Bool, true, false, cond, List, [], ◌∷◌, ◌++◌, Option, Some, None, refl, arith}
+use Rattle.std.proofs.Common.{◌≡◌, ◌+◌, ◌≤◌, ◌==◌, ℕ, Bool, true, false, cond, List, [], ◌∷◌, Option, Some, None, refl, arith}
 use Rattle.dom_base.specs.declared.names.Peer.{Peer}
 use Rattle.dom_base.specs.declared.names.Peer.TheVariants.{Inner}
 use Rattle.dom_base.specs.declared.names.As.{As}
@@ -16,7 +16,6 @@ use Rattle.disclosure.specs.declared.class.Class.{Class}
 use Rattle.disclosure.specs.Policy.{is_denied}
 use Rattle.request_table.specs.Pending.{Pending, number_of, is_full, same_peer}
 use Rattle.plant_text.specs.Names.{parent_as}
-use Rattle.plant_model.specs.declared.output.Output.{Output}
 use Rattle.plant_model.specs.Names.{the_parent, has_pair}
 use Rattle.plant_model.specs.Wire.{Codec, Checked, Admitted, Wrong}
 use Rattle.plant_model.specs.Writing.{error_message, reply_message, request_message, busy, unavailable, no_key, ids_of}
@@ -25,7 +24,7 @@ use Rattle.plant_model.specs.Taking.{take, take_asked, take_checked, take_new, t
 use Rattle.plant_model.specs.Parent as parent
 use Rattle.plant_model.specs.Parent.{Family, Parent, Given, Wait, Errand}
 use Rattle.plant_laws.specs.Transcript.{one_if, has_id, count_answers, answers_to}
-use Rattle.plant_laws.proofs.Counting.{answers_append, AnswersAt, reply_at, busy_at}
+use Rattle.plant_laws.proofs.Counting.{answers_append, reply_at, busy_at}
 
 -- how often a message asks under an id: that of the request, or of the RP of what is refused
 abbrev pub asks_under : ℕ → Checked → ℕ

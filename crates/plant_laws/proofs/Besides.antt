@@ -1,5 +1,5 @@
 -- Answers to open requests: all but what is said to a message that asks.
-use Rattle.std.proofs.Common.{◌≡◌, ◌+◌, nat_eq, ℕ, Bool, true, false, cond, List, [], ◌∷◌, refl, arith}
+use Rattle.std.proofs.Common.{◌≡◌, ◌+◌, nat_eq, ℕ, Bool, true, false, cond, [], ◌∷◌, refl, arith}
 use Rattle.dom_base.specs.declared.names.As.{As}
 use Rattle.dom_base.specs.declared.names.Peer.{Peer}
 use Rattle.pcep_messages.specs.declared.message.Message.{Message}

@@ -43,6 +43,7 @@ use Rattle.plant_laws.specs.About.{IsShort}
 use Rattle.plant_laws.specs.Broken.{WentOn, WentDown, IsRefusedAbove, Breaks, stopped, lost, refused, further, stopped_above, of_child, BrokenForReasonsIn}
 use Rattle.plant_laws.specs.Causes.{IsLost, IsLostAbove, AnswersLost, asker_of, asker_above, left_rows, left_above, Passes, from_outside, from_inside, OnPassed, by_element, by_parent, OfSession, by_table, anew, OfSolve, of_element, of_parent as of_upper, HaveCauses}
 use Rattle.plant_laws.specs.Matched.{Answering, ends, at_once, IsReplyTo}
+use Rattle.plant_laws.specs.Met.{run_of, Meets}
 use Rattle.plant_laws.specs.MessageCauses.{Asker, replied, WaitsAt, WaitsAbove, TellsOfPaths, OnReply, unknown, goes_on, is_kept, is_broken, OnNotice, next_is_full, noted_for_nobody, of_other_kind, GoesTo, OnPath, ends_here, no_session, is_refused, sent_on, OnRequest, wrong, again, key_shown, key_refused, no_room, for_path, AreAsked, OnRequestAbove, wrong_above, again_above, key_above, no_room_above, child_down, all_asked, OnError, failed_for_nobody, of_reply, out_of_profile, other_error, Part, Notes, alone, noted, parts, OnParts, OnMessage}
 use Rattle.plant_laws.specs.Sending.{AllSent}
 use Rattle.plant_laws.specs.Solves.{ElementTells, TellsClient, its_path, no_pair, TellsClosed, branches, no_branch, lacks_keys, TellsUpper, found as found_walk, no_walk}
@@ -68,7 +69,7 @@ use Rattle.plant_laws.proofs.Founded.{founded_within, run_founded}
 use Rattle.plant_laws.proofs.Handing.{In, IsAsk, handed_within}
 use Rattle.plant_laws.proofs.Inboxes.{contains}
 use Rattle.plant_laws.proofs.Matched.{reply_counts, replies_answer}
-use Rattle.plant_laws.proofs.MomentCauses.{HasOne, IsOpening, moment_cause, outs, solver, head_of, in_two, at_here}
+use Rattle.plant_laws.proofs.MomentCauses.{HasOne, IsOpening, CausedIn, moment_met, outs, solver, head_of, in_two, at_here}
 use Rattle.plant_laws.proofs.Moments.{within_trans, within_length, opened_within}
 use Rattle.plant_laws.proofs.PartCauses.{in_at, not_both}
 use Rattle.plant_laws.proofs.Queues.{same_as_is}
@@ -281,9 +282,9 @@ module _ (p : Peer) (r : Reply) (broken : ¬ TellsOfPaths r.answer) where
   module _ (c : Codec) (codec : IsCodec c) (n : NetworkParts) (net : IsNetwork n) (es : List Entry) (s : Plant) (run : Run c n es s) (written : AllSent IsWritten (deeds_of c n es)) (short : IsShort (deeds_of c n es))
       (d : As) (real : d ≢ parent_as) (older : Transcript)
       (rec : (b : As) (r' : Reply) (deed' : PlantDeed) (older' : Transcript) → Within (deed' ∷ older') older →
-      In {A = Output} (record { to = Inner d; message = messages.PcRep (r' ∷ []) }) (outputs_at b deed') → ¬ TellsOfPaths r'.answer → Breaks c n b (Inner d) r'.id deed' older') where
+      In {A = Output} (record { to = Inner d; message = messages.PcRep (r' ∷ []) }) (outputs_at b deed') → ¬ TellsOfPaths r'.answer → Breaks c n (run_of c n es s run) b (Inner d) r'.id deed' older') where
     abbrev Broke : Peer → ℕ → PlantDeed → Type 0
-    Broke q x deed = Breaks c n d q x deed older
+    Broke q x deed = Breaks c n (run_of c n es s run) d q x deed older
 
     -- the request that the parent refused is the one that went on
     ipv6_ends : (id : ℕ) (reports : List ErrorReport) → Within older (deeds_of c n es) → (went : WentOn c older d p r.id the_parent id) → IsRefusedAbove older d id reports → ends_kind went.wanted.source went.wanted.target ≡ object_types.END_POINTS_IPV6
@@ -304,13 +305,13 @@ module _ (p : Peer) (r : Reply) (broken : ¬ TellsOfPaths r.answer) where
       abbrev k : Element Pin Segment
       k = before.elements d
 
-      request_broken : (a : Asked) (os all : List Output) → OnRequest c n d q before.clock a k os → In out os → Broke p r.id (Takes d q (messages.PcReq (a ∷ [])) all)
-      request_broken a os all (wrong rp kind value is eq) i = not_said q _ refl (subst (In out) eq i)
-      request_broken a os all (again r0 number is hit eq) i = nothing os eq i
-      request_broken a os all (key_shown r0 key pce segment is new wish behind eq) i = tells_not (record { peer = q; flags = r0.flags; id = r0.id }) _ tt (subst (In out) eq i)
-      request_broken a os all (key_refused r0 key pce is new wish none eq) i = tells_not (record { peer = q; flags = r0.flags; id = r0.id }) _ refl (subst (In out) eq i)
-      request_broken a os all (no_room r0 w is new wish full eq) i = not_said q _ refl (subst (In out) eq i)
-      request_broken a os all (for_path r0 w is new wish room on) i = path on
+      request_broken : (a : Asked) (os all : List Output) → Meets c n es s run (Takes d q (messages.PcReq (a ∷ [])) all) older before → OnRequest c n d q before.clock a k os → In out os → Broke p r.id (Takes d q (messages.PcReq (a ∷ [])) all)
+      request_broken a os all meets (wrong rp kind value is eq) i = not_said q _ refl (subst (In out) eq i)
+      request_broken a os all meets (again r0 number is hit eq) i = nothing os eq i
+      request_broken a os all meets (key_shown r0 key pce segment is new wish behind eq) i = tells_not (record { peer = q; flags = r0.flags; id = r0.id }) _ tt (subst (In out) eq i)
+      request_broken a os all meets (key_refused r0 key pce is new wish none eq) i = tells_not (record { peer = q; flags = r0.flags; id = r0.id }) _ refl (subst (In out) eq i)
+      request_broken a os all meets (no_room r0 w is new wish full eq) i = not_said q _ refl (subst (In out) eq i)
+      request_broken a os all meets (for_path r0 w is new wish room on) i = path on
         where
           asker : Asker
           asker = record { peer = q; flags = r0.flags; id = r0.id }
@@ -321,19 +322,7 @@ module _ (p : Peer) (r : Reply) (broken : ¬ TellsOfPaths r.answer) where
               let this = this_one asker unavailable i' in
               subst (λ (z : Peer). Broke z r.id (Takes d q (messages.PcReq (a ∷ [])) all)) (sym this.peer)
               (stopped d q r.id (Takes d q (messages.PcReq (a ∷ [])) all) older (record {
-                entries = entries;
-                before = before;
-                run = run';
-                earlier = earlier;
-                is_then = is_then;
-                asked = a;
-                os = all;
-                takes = refl;
-                request = r0;
-                admitted = is;
-                id = sym this.id;
-                wanted = w;
-                for_path = wish;
+                taking = record { before = before; meets = meets; asked = a; os = all; takes = refl; request = r0; admitted = is; id = sym this.id; wanted = w; for_path = wish };
                 next = next;
                 rest = rest;
                 denied = denied;
@@ -411,41 +400,41 @@ module _ (p : Peer) (r : Reply) (broken : ¬ TellsOfPaths r.answer) where
             (refused d p r.id older h.id reports all went' (ipv6_ends h.id reports (within_tail (Takes d q (messages.PcErr reports) all) older (deeds_of c n es) within) went' h.refused) h.refused)
       ]
 
-      message_broken : (m : Message) (pin : Pin) (all : List Output) → Within (Takes d q m all ∷ older) (deeds_of c n es) → Passes c n before event d q m → ((IsAsk m → ⊥) → (at : Transcript) × (opened c d p r.id older ≡ Some at)) → IsAlone m → OnMessage c n d pin q before.clock m k all → In out all →
+      message_broken : (m : Message) (pin : Pin) (all : List Output) → Meets c n es s run (Takes d q m all) older before → Within (Takes d q m all ∷ older) (deeds_of c n es) → Passes c n before event d q m → ((IsAsk m → ⊥) → (at : Transcript) × (opened c d p r.id older ≡ Some at)) → IsAlone m → OnMessage c n d pin q before.clock m k all → In out all →
           Broke p r.id (Takes d q m all)
-      message_broken (messages.PcReq []) pin all within passes found alone' on i = nothing all on i
-      message_broken (messages.PcReq (a ∷ [])) pin all within passes found alone' on i = request_broken a on.0 all on.3 (subst (In out) (on.2 ∙ ap (λ (l : List Output). on.0 ++ l) on.4 ∙ nil_right on.0) i)
-      message_broken (messages.PcReq (a ∷ b ∷ rest)) pin all within passes found alone' on i = absurd (omega (arith, alone'))
-      message_broken (messages.PcRep []) pin all within passes found alone' on i = nothing all on i
-      message_broken (messages.PcRep (x ∷ [])) pin all within passes found alone' on i = reply_broken x on.0 all within passes (found (λ no. no)).0 (found (λ no. no)).1 on.3 (subst (In out) (on.2 ∙ ap (λ (l : List Output). on.0 ++ l) on.4 ∙ nil_right on.0) i)
-      message_broken (messages.PcRep (x ∷ y ∷ rest)) pin all within passes found alone' on i = absurd (omega (arith, alone'))
-      message_broken (messages.PcNtf notices) pin all within passes found alone' on i = noted_none (Element Pin Segment) (λ k'. WaitsAt k' q) (OnRequest c n d q before.clock) (λ m' k'. (take c open_of (place n d) pin q (class_of n q) before.clock m' k').element) (same_peer q the_parent) q notices k all on i
-      message_broken (messages.PcErr reports) pin all within passes found alone' on i = errors_broken reports pin all within passes (found (λ no. no)).0 (found (λ no. no)).1 on i
-      message_broken (messages.Open body) pin all within passes found alone' on i = nothing all on i
-      message_broken messages.Keepalive pin all within passes found alone' on i = nothing all on i
-      message_broken (messages.Close why) pin all within passes found alone' on i = nothing all on i
-      message_broken (messages.Other kind) pin all within passes found alone' on i = nothing all on i
+      message_broken (messages.PcReq []) pin all meets within passes found alone' on i = nothing all on i
+      message_broken (messages.PcReq (a ∷ [])) pin all meets within passes found alone' on i = request_broken a on.0 all meets on.3 (subst (In out) (on.2 ∙ ap (λ (l : List Output). on.0 ++ l) on.4 ∙ nil_right on.0) i)
+      message_broken (messages.PcReq (a ∷ b ∷ rest)) pin all meets within passes found alone' on i = absurd (omega (arith, alone'))
+      message_broken (messages.PcRep []) pin all meets within passes found alone' on i = nothing all on i
+      message_broken (messages.PcRep (x ∷ [])) pin all meets within passes found alone' on i = reply_broken x on.0 all within passes (found (λ no. no)).0 (found (λ no. no)).1 on.3 (subst (In out) (on.2 ∙ ap (λ (l : List Output). on.0 ++ l) on.4 ∙ nil_right on.0) i)
+      message_broken (messages.PcRep (x ∷ y ∷ rest)) pin all meets within passes found alone' on i = absurd (omega (arith, alone'))
+      message_broken (messages.PcNtf notices) pin all meets within passes found alone' on i = noted_none (Element Pin Segment) (λ k'. WaitsAt k' q) (OnRequest c n d q before.clock) (λ m' k'. (take c open_of (place n d) pin q (class_of n q) before.clock m' k').element) (same_peer q the_parent) q notices k all on i
+      message_broken (messages.PcErr reports) pin all meets within passes found alone' on i = errors_broken reports pin all within passes (found (λ no. no)).0 (found (λ no. no)).1 on i
+      message_broken (messages.Open body) pin all meets within passes found alone' on i = nothing all on i
+      message_broken messages.Keepalive pin all meets within passes found alone' on i = nothing all on i
+      message_broken (messages.Close why) pin all meets within passes found alone' on i = nothing all on i
+      message_broken (messages.Other kind) pin all meets within passes found alone' on i = nothing all on i
 
     -- ---- each deed
 
     below : (at : As) → at ≡ d → same_as at parent_as ≡ true → ⊥
     below at is up = real (sym is ∙ same_as_is at parent_as up)
 
-    deed_broken : (deed : PlantDeed) → Within (deed ∷ older) (deeds_of c n es) → HasOne c n deed older → In out (outputs_at d deed) → Broke p r.id deed
-    deed_broken (Takes at q m os) within one i =
+    deed_broken : (deed : PlantDeed) → Within (deed ∷ older) (deeds_of c n es) → (one : HasOne c n deed older) → Meets c n es s run deed older one.before → In out (outputs_at d deed) → Broke p r.id deed
+    deed_broken (Takes at q m os) within one meets i =
         let here = at_here d out at os i in
         let alone' = takes_alone c codec n es s run (all_read c codec (deeds_of c n es) written) at q m os older within in
-        subst (λ (z : As). Breaks c n d p r.id (Takes z q m os) older) (sym here.0)
-        (go here.0 here.1 (subst (λ (z : As). Within (Takes z q m os ∷ older) (deeds_of c n es)) here.0 within) (subst (λ (z : As). Passes c n one.before one.event z q m) here.0 one.cause.0) alone' one.cause.1)
+        subst (λ (z : As). Breaks c n (run_of c n es s run) d p r.id (Takes z q m os) older) (sym here.0)
+        (go here.0 here.1 (subst (λ (z : As). Meets c n es s run (Takes z q m os) older one.before) here.0 meets) (subst (λ (z : As). Within (Takes z q m os ∷ older) (deeds_of c n es)) here.0 within) (subst (λ (z : As). Passes c n one.before one.event z q m) here.0 one.cause.0) alone' one.cause.1)
       where
-        go : at ≡ d → In out os → Within (Takes d q m os ∷ older) (deeds_of c n es) → Passes c n one.before one.event d q m → IsAlone m → OnPassed c n one.before one.event at q m os → Broke p r.id (Takes d q m os)
-        go is i' within' passes alone' (by_parent up on) = absurd (below at is up)
-        go is i' within' passes alone' (by_element down on) =
-            message_broken q one.entries one.before one.run one.short one.earlier one.is_then one.event one.causes m (one.before.current at) os within' passes
+        go : at ≡ d → In out os → Meets c n es s run (Takes d q m os) older one.before → Within (Takes d q m os ∷ older) (deeds_of c n es) → Passes c n one.before one.event d q m → IsAlone m → OnPassed c n one.before one.event at q m os → Broke p r.id (Takes d q m os)
+        go is i' meets' within' passes alone' (by_parent up on) = absurd (below at is up)
+        go is i' meets' within' passes alone' (by_element down on) =
+            message_broken q one.entries one.before one.run one.short one.earlier one.is_then one.event one.causes m (one.before.current at) os meets' within' passes
             (λ asks. open_then c codec n es s run written d older (Takes d q m os) within' (says_in c codec n es s run written d older q m os asks i')) alone' (subst (λ (z : As). OnMessage c n z (one.before.current at) q one.before.clock m (one.before.elements z) os) is on) i'
-    deed_broken (Downs at q os) within one i =
+    deed_broken (Downs at q os) within one meets i =
         let here = at_here d out at os i in
-        subst (λ (z : As). Breaks c n d p r.id (Downs z q os) older) (sym here.0)
+        subst (λ (z : As). Breaks c n (run_of c n es s run) d p r.id (Downs z q os) older) (sym here.0)
         (go (same_as at parent_as) refl one.cause here.0 here.1 (open_then c codec n es s run written d older (Downs d q os) (subst (λ (z : As). Within (Downs z q os ∷ older) (deeds_of c n es)) here.0 within) (reply_counts p r (cond (same_as d d) os []) (said_own c codec n es s run written d older os here.1))))
       where
         go : (b : Bool) → same_as at parent_as ≡ b → cond b (AnswersLost (IsLostAbove q) asker_above (left_above one.before.parent.pending.rows one.earlier) os)
@@ -460,7 +449,7 @@ module _ (p : Peer) (r : Reply) (broken : ¬ TellsOfPaths r.answer) where
             inner : {l l' : List As} → GoesOn l l' q → (p ≢ q) → (at' : Transcript) × (opened c d p r.id older ≡ Some at') → Broke p r.id (Downs d q os)
             inner (inl up) other f = subst (λ (z : Peer). Broke p r.id (Downs d z os)) (sym up.2) (lost d p r.id older f.0 parent_as os (λ same. other (same ∙ sym up.2)) f.1)
             inner (inr on) other f = subst (λ (z : Peer). Broke p r.id (Downs d z os)) (sym on.5) (lost d p r.id older f.0 on.1 os (λ same. other (same ∙ sym on.5)) f.1)
-    deed_broken (Solves at k os keys) within one i = go (at_here d out at os i) one.cause
+    deed_broken (Solves at k os keys) within one meets i = go (at_here d out at os i) one.cause
       where
         solved : (d' : As) → d' ≡ d → (k' : ℕ) (tells : ElementTells c n one.before d' k' (Solves at k os keys ∷ [])) → In out (record { to = tells.held.key.peer; message = tells.message } ∷ []) → ⊥
         solved d' there k' tells i' =
@@ -476,25 +465,25 @@ module _ (p : Peer) (r : Reply) (broken : ¬ TellsOfPaths r.answer) where
         go here (of_upper k' ev tells) =
             let one' : Solves at k os keys ≡ Solves parent_as k' (record { to = tells.held.key.peer; message = tells.message } ∷ []) [] = ap (head_of (Solves at k os keys)) tells.sends_one in
             absurd (real (sym here.0 ∙ ap (solver d) one'))
-    deed_broken (Says at o) within one i = go (at_here d out at (o ∷ []) i) one.cause
+    deed_broken (Says at o) within one meets i = go (at_here d out at (o ∷ []) i) one.cause
       where
         go : (at ≡ d) × In out (o ∷ []) → OfSession c n one.before one.event one.earlier at o → Broke p r.id (Says at o)
         go here (by_table x came o' comes acts eq) = not_said o.to o.message (ap is_rep eq ∙ own_none o') here.1
         go here (anew a b sid cleared eq) = not_said o.to o.message (ap is_rep eq) here.1
-    deed_broken (Loads at g) within one i = absurd i
-    deed_broken (Pops a b) within one i = absurd i
-    deed_broken (Ups at q) within one i = absurd i
-    deed_broken (Clears a b) within one i = absurd i
-    deed_broken (Expires now) within one i = absurd i
-    deed_broken (Hands j bytes) within one i = absurd i
+    deed_broken (Loads at g) within one meets i = absurd i
+    deed_broken (Pops a b) within one meets i = absurd i
+    deed_broken (Ups at q) within one meets i = absurd i
+    deed_broken (Clears a b) within one meets i = absurd i
+    deed_broken (Expires now) within one meets i = absurd i
+    deed_broken (Hands j bytes) within one meets i = absurd i
 
   -- ---- the parent
 
   module _ (c : Codec) (codec : IsCodec c) (n : NetworkParts) (net : IsNetwork n) (es : List Entry) (s : Plant) (run : Run c n es s) (written : AllSent IsWritten (deeds_of c n es)) (short : IsShort (deeds_of c n es)) (older : Transcript)
       (rec : (b : As) (r' : Reply) (deed' : PlantDeed) (older' : Transcript) → Within (deed' ∷ older') older →
-      In {A = Output} (record { to = the_parent; message = messages.PcRep (r' ∷ []) }) (outputs_at b deed') → ¬ TellsOfPaths r'.answer → Breaks c n b the_parent r'.id deed' older') where
+      In {A = Output} (record { to = the_parent; message = messages.PcRep (r' ∷ []) }) (outputs_at b deed') → ¬ TellsOfPaths r'.answer → Breaks c n (run_of c n es s run) b the_parent r'.id deed' older') where
     abbrev BrokeAbove : Peer → ℕ → PlantDeed → Type 0
-    BrokeAbove q x deed = Breaks c n parent_as q x deed older
+    BrokeAbove q x deed = Breaks c n (run_of c n es s run) parent_as q x deed older
 
     abbrev OnsAbove : Peer → List Part → Parent → List Output → Type 0
     OnsAbove q xs k os = OnParts Parent (λ k'. WaitsAbove k' q) (OnRequestAbove c n q) (λ m' k'. (parent.take c (family n) q m' k').parent) false q xs k os
@@ -509,31 +498,21 @@ module _ (p : Peer) (r : Reply) (broken : ¬ TellsOfPaths r.answer) where
 
     module _ (q : Peer) (entries : List Entry) (before : Plant) (run' : Run c n entries before) (short' : IsShort (deeds_of c n entries)) (earlier : Transcript) (is_then : older ≡ earlier ++ deeds_of c n entries)
         (event : Event) (causes : HaveCauses c n before event earlier) where
-      above_request : (a : Asked) (os all : List Output) → OnRequestAbove c n q a before.parent os → In out os → BrokeAbove p r.id (Takes parent_as q (messages.PcReq (a ∷ [])) all)
-      above_request a os all (wrong_above rp kind value is eq) i = not_said q _ refl (subst (In out) eq i)
-      above_request a os all (again_above r0 number is hit eq) i = nothing os eq i
-      above_request a os all (key_above r0 key pce is new wish eq) i = tells_not (record { peer = q; flags = r0.flags; id = r0.id }) _ refl (subst (In out) eq i)
-      above_request a os all (no_room_above r0 w is new wish full eq) i = not_said q _ refl (subst (In out) eq i)
-      above_request a os all (child_down r0 w child is new wish room among down eq) i =
+      above_request : (a : Asked) (os all : List Output) → Meets c n es s run (Takes parent_as q (messages.PcReq (a ∷ [])) all) older before → OnRequestAbove c n q a before.parent os → In out os → BrokeAbove p r.id (Takes parent_as q (messages.PcReq (a ∷ [])) all)
+      above_request a os all meets (wrong_above rp kind value is eq) i = not_said q _ refl (subst (In out) eq i)
+      above_request a os all meets (again_above r0 number is hit eq) i = nothing os eq i
+      above_request a os all meets (key_above r0 key pce is new wish eq) i = tells_not (record { peer = q; flags = r0.flags; id = r0.id }) _ refl (subst (In out) eq i)
+      above_request a os all meets (no_room_above r0 w is new wish full eq) i = not_said q _ refl (subst (In out) eq i)
+      above_request a os all meets (child_down r0 w child is new wish room among down eq) i =
           let this = this_one (record { peer = q; flags = r0.flags; id = r0.id }) unavailable (subst (In out) eq i) in
           subst (λ (z : Peer). BrokeAbove z r.id (Takes parent_as q (messages.PcReq (a ∷ [])) all)) (sym this.peer)
           (stopped_above q r.id (Takes parent_as q (messages.PcReq (a ∷ [])) all) older (record {
-            entries = entries;
-            before = before;
-            run = run';
-            earlier = earlier;
-            is_then = is_then;
-            asked = a;
-            os = all;
-            takes = refl;
-            request = r0;
-            admitted = is;
-            id = sym this.id;
+            taking = record { before = before; meets = meets; asked = a; os = all; takes = refl; request = r0; admitted = is; id = sym this.id; wanted = w; for_path = wish };
             child = child;
             is_child = among;
             down = down;
           }))
-      above_request a os all (all_asked r0 w is new wish room all_up on) i = asked_none w _ os on i
+      above_request a os all meets (all_asked r0 w is new wish room all_up on) i = asked_none w _ os on i
 
       single' : AreSingle (deeds_of c n entries)
       single' = run_single c n codec entries before run' (every_written c codec n net entries before run' short')
@@ -627,22 +606,22 @@ module _ (p : Peer) (r : Reply) (broken : ¬ TellsOfPaths r.answer) where
       peer_errors reports os within (from_inside a bytes rest ev linked first read acts peer) on =
           above_errors a peer linked reports os (subst (λ (z : Peer). Within (Takes parent_as z (messages.PcErr reports) os ∷ older) (deeds_of c n es)) peer within) on
 
-      above_message : (m : Message) (all : List Output) → Within (Takes parent_as q m all ∷ older) (deeds_of c n es) → Passes c n before event parent_as q m → ((IsAsk m → ⊥) → (at : Transcript) × (opened c parent_as p r.id older ≡ Some at)) → IsAlone m → OnsAbove q (parts m) before.parent all →
+      above_message : (m : Message) (all : List Output) → Meets c n es s run (Takes parent_as q m all) older before → Within (Takes parent_as q m all ∷ older) (deeds_of c n es) → Passes c n before event parent_as q m → ((IsAsk m → ⊥) → (at : Transcript) × (opened c parent_as p r.id older ≡ Some at)) → IsAlone m → OnsAbove q (parts m) before.parent all →
           In out all → BrokeAbove p r.id (Takes parent_as q m all)
-      above_message (messages.PcReq []) all within passes found alone' on i = nothing all on i
-      above_message (messages.PcReq (a ∷ [])) all within passes found alone' on i = above_request a on.0 all on.3 (subst (In out) (on.2 ∙ ap (λ (l : List Output). on.0 ++ l) on.4 ∙ nil_right on.0) i)
-      above_message (messages.PcReq (a ∷ b ∷ rest)) all within passes found alone' on i = absurd (omega (arith, alone'))
-      above_message (messages.PcRep []) all within passes found alone' on i = nothing all on i
-      above_message (messages.PcRep (x ∷ [])) all within passes found alone' on i =
+      above_message (messages.PcReq []) all meets within passes found alone' on i = nothing all on i
+      above_message (messages.PcReq (a ∷ [])) all meets within passes found alone' on i = above_request a on.0 all meets on.3 (subst (In out) (on.2 ∙ ap (λ (l : List Output). on.0 ++ l) on.4 ∙ nil_right on.0) i)
+      above_message (messages.PcReq (a ∷ b ∷ rest)) all meets within passes found alone' on i = absurd (omega (arith, alone'))
+      above_message (messages.PcRep []) all meets within passes found alone' on i = nothing all on i
+      above_message (messages.PcRep (x ∷ [])) all meets within passes found alone' on i =
           above_reply x on.0 all within passes (found (λ no. no)).0 (found (λ no. no)).1 on.3 (subst (In out) (on.2 ∙ ap (λ (l : List Output). on.0 ++ l) on.4 ∙ nil_right on.0) i)
-      above_message (messages.PcRep (x ∷ y ∷ rest)) all within passes found alone' on i = absurd (omega (arith, alone'))
-      above_message (messages.PcNtf notices) all within passes found alone' on i =
+      above_message (messages.PcRep (x ∷ y ∷ rest)) all meets within passes found alone' on i = absurd (omega (arith, alone'))
+      above_message (messages.PcNtf notices) all meets within passes found alone' on i =
           noted_none Parent (λ k'. WaitsAbove k' q) (OnRequestAbove c n q) (λ m' k'. (parent.take c (family n) q m' k').parent) false q notices before.parent all on i
-      above_message (messages.PcErr reports) all within passes found alone' on i = nothing all (peer_errors reports all within passes on) i
-      above_message (messages.Open body) all within passes found alone' on i = nothing all on i
-      above_message messages.Keepalive all within passes found alone' on i = nothing all on i
-      above_message (messages.Close why) all within passes found alone' on i = nothing all on i
-      above_message (messages.Other kind) all within passes found alone' on i = nothing all on i
+      above_message (messages.PcErr reports) all meets within passes found alone' on i = nothing all (peer_errors reports all within passes on) i
+      above_message (messages.Open body) all meets within passes found alone' on i = nothing all on i
+      above_message messages.Keepalive all meets within passes found alone' on i = nothing all on i
+      above_message (messages.Close why) all meets within passes found alone' on i = nothing all on i
+      above_message (messages.Other kind) all meets within passes found alone' on i = nothing all on i
 
     lost_above : (q : Peer) (rows : List AskingRow) (os : List Output) → AnswersLost (IsLostAbove q) asker_above rows os → In out os → (h : AskingRow) × table.In h rows × IsLostAbove q h × (p ≢ q)
     lost_above q [] os none i = nothing os none i
@@ -653,21 +632,21 @@ module _ (p : Peer) (r : Reply) (broken : ¬ TellsOfPaths r.answer) where
         go (inl same) more = (h, inl refl, is.0, λ at. is.0.0 (sym (this_one (asker_above h) unavailable (inl same)).peer ∙ at))
         go (inr later) more = (let next = more later in (next.0, inr next.1, next.2, next.3))
 
-    above_broken : (deed : PlantDeed) → Within (deed ∷ older) (deeds_of c n es) → HasOne c n deed older → In out (outputs_at parent_as deed) → BrokeAbove p r.id deed
-    above_broken (Takes at q m os) within one i =
+    above_broken : (deed : PlantDeed) → Within (deed ∷ older) (deeds_of c n es) → (one : HasOne c n deed older) → Meets c n es s run deed older one.before → In out (outputs_at parent_as deed) → BrokeAbove p r.id deed
+    above_broken (Takes at q m os) within one meets i =
         let here = at_here parent_as out at os i in
         let alone' = takes_alone c codec n es s run (all_read c codec (deeds_of c n es) written) at q m os older within in
-        subst (λ (z : As). Breaks c n parent_as p r.id (Takes z q m os) older) (sym here.0)
-        (go here.0 here.1 (subst (λ (z : As). Within (Takes z q m os ∷ older) (deeds_of c n es)) here.0 within) (subst (λ (z : As). Passes c n one.before one.event z q m) here.0 one.cause.0) alone' one.cause.1)
+        subst (λ (z : As). Breaks c n (run_of c n es s run) parent_as p r.id (Takes z q m os) older) (sym here.0)
+        (go here.0 here.1 (subst (λ (z : As). Meets c n es s run (Takes z q m os) older one.before) here.0 meets) (subst (λ (z : As). Within (Takes z q m os ∷ older) (deeds_of c n es)) here.0 within) (subst (λ (z : As). Passes c n one.before one.event z q m) here.0 one.cause.0) alone' one.cause.1)
       where
-        go : at ≡ parent_as → In out os → Within (Takes parent_as q m os ∷ older) (deeds_of c n es) → Passes c n one.before one.event parent_as q m → IsAlone m → OnPassed c n one.before one.event at q m os → BrokeAbove p r.id (Takes parent_as q m os)
-        go is i' within' passes alone' (by_element down on) = not_both (same_as at parent_as) (ap (λ (z : As). same_as z parent_as) is) down
-        go is i' within' passes alone' (by_parent up on) =
-            above_message q one.entries one.before one.run one.short one.earlier one.is_then one.event one.causes m os within' passes
+        go : at ≡ parent_as → In out os → Meets c n es s run (Takes parent_as q m os) older one.before → Within (Takes parent_as q m os ∷ older) (deeds_of c n es) → Passes c n one.before one.event parent_as q m → IsAlone m → OnPassed c n one.before one.event at q m os → BrokeAbove p r.id (Takes parent_as q m os)
+        go is i' meets' within' passes alone' (by_element down on) = not_both (same_as at parent_as) (ap (λ (z : As). same_as z parent_as) is) down
+        go is i' meets' within' passes alone' (by_parent up on) =
+            above_message q one.entries one.before one.run one.short one.earlier one.is_then one.event one.causes m os meets' within' passes
             (λ asks. open_then c codec n es s run written parent_as older (Takes parent_as q m os) within' (says_in c codec n es s run written parent_as older q m os asks i')) alone' on i'
-    above_broken (Downs at q os) within one i =
+    above_broken (Downs at q os) within one meets i =
         let here = at_here parent_as out at os i in
-        subst (λ (z : As). Breaks c n parent_as p r.id (Downs z q os) older) (sym here.0)
+        subst (λ (z : As). Breaks c n (run_of c n es s run) parent_as p r.id (Downs z q os) older) (sym here.0)
         (go (same_as at parent_as) refl one.cause here.0 here.1
         (open_then c codec n es s run written parent_as older (Downs parent_as q os) (subst (λ (z : As). Within (Downs z q os ∷ older) (deeds_of c n es)) here.0 within)
         (reply_counts p r (cond (same_as parent_as parent_as) os []) (said_own c codec n es s run written parent_as older os here.1))))
@@ -683,7 +662,7 @@ module _ (p : Peer) (r : Reply) (broken : ¬ TellsOfPaths r.answer) where
             let wait = l.2.1 in
             let child : q ≡ Inner wait.child = sym l.2.3 ∙ (g.2.waits wait (table.in_of wait l.0.1.item.waits l.2.2)).0 in
             subst (λ (z : Peer). BrokeAbove p r.id (Downs parent_as z os)) (sym child) (lost parent_as p r.id older found'.0 wait.child os (λ same. l.3 (same ∙ sym child)) found'.1)
-    above_broken (Solves at k os keys) within one i = go (at_here parent_as out at os i) one.cause
+    above_broken (Solves at k os keys) within one meets i = go (at_here parent_as out at os i) one.cause
       where
         upper : (h : AskingRow) (answer : Option Found) (m : Message) → TellsUpper c h answer m → In out (record { to = h.1.key.peer; message = m } ∷ []) → ⊥
         upper h answer m (found_walk a some eq) i' = tells_not (record { peer = h.1.key.peer; flags = h.1.item.flags; id = h.1.key.id }) _ tt (subst (λ (z : Message). In out (record { to = h.1.key.peer; message = z } ∷ [])) eq i')
@@ -696,17 +675,17 @@ module _ (p : Peer) (r : Reply) (broken : ¬ TellsOfPaths r.answer) where
         go here (of_upper k' ev tells) =
             let one' : Solves at k os keys ≡ Solves parent_as k' (record { to = tells.held.key.peer; message = tells.message } ∷ []) [] = ap (head_of (Solves at k os keys)) tells.sends_one in
             absurd (upper (k', tells.held) tells.answer tells.message tells.tells (subst (In out) (ap outs one') here.1))
-    above_broken (Says at o) within one i = go (at_here parent_as out at (o ∷ []) i) one.cause
+    above_broken (Says at o) within one meets i = go (at_here parent_as out at (o ∷ []) i) one.cause
       where
         go : (at ≡ parent_as) × In out (o ∷ []) → OfSession c n one.before one.event one.earlier at o → BrokeAbove p r.id (Says at o)
         go here (by_table x came o' comes acts eq) = not_said o.to o.message (ap is_rep eq ∙ own_none o') here.1
         go here (anew a b sid cleared eq) = not_said o.to o.message (ap is_rep eq) here.1
-    above_broken (Loads at g) within one i = absurd i
-    above_broken (Pops a b) within one i = absurd i
-    above_broken (Ups at q) within one i = absurd i
-    above_broken (Clears a b) within one i = absurd i
-    above_broken (Expires t) within one i = absurd i
-    above_broken (Hands j bytes) within one i = absurd i
+    above_broken (Loads at g) within one meets i = absurd i
+    above_broken (Pops a b) within one meets i = absurd i
+    above_broken (Ups at q) within one meets i = absurd i
+    above_broken (Clears a b) within one meets i = absurd i
+    above_broken (Expires t) within one meets i = absurd i
+    above_broken (Hands j bytes) within one meets i = absurd i
 
 -- the first messages are no replies
 opening_none : {X : Type 0} (d : As) (p : Peer) (r : Reply) (deed : PlantDeed) → IsOpening deed → In {A = Output} (record { to = p; message = messages.PcRep (r ∷ []) }) (outputs_at d deed) → X
@@ -729,28 +708,28 @@ opening_none d p r (Hands j bytes) is i = absurd is
 module _ (c : Codec) (codec : IsCodec c) (n : NetworkParts) (net : IsNetwork n) (es : List Entry) (s : Plant) (run : Run c n es s) (written : AllSent IsWritten (deeds_of c n es)) (short : IsShort (deeds_of c n es)) where
   abbrev Before : Transcript → Type 0
   Before older =
-      (d b : As) (r : Reply) (deed : PlantDeed) (older' : Transcript) → Within (deed ∷ older') older → In {A = Output} (record { to = Inner d; message = messages.PcRep (r ∷ []) }) (outputs_at b deed) → ¬ TellsOfPaths r.answer → Breaks c n b (Inner d) r.id deed older'
+      (d b : As) (r : Reply) (deed : PlantDeed) (older' : Transcript) → Within (deed ∷ older') older → In {A = Output} (record { to = Inner d; message = messages.PcRep (r ∷ []) }) (outputs_at b deed) → ¬ TellsOfPaths r.answer → Breaks c n (run_of c n es s run) b (Inner d) r.id deed older'
 
   step : (d : As) (p : Peer) (r : Reply) (deed : PlantDeed) (older : Transcript) → Within (deed ∷ older) (deeds_of c n es) → In {A = Output} (record { to = p; message = messages.PcRep (r ∷ []) }) (outputs_at d deed) → ¬ TellsOfPaths r.answer → Before older →
-      Breaks c n d p r.id deed older
-  step d p r deed older within i broken before = elim (moment_cause c n es s run short deed older within) [
-    | inl one ↦ go (same_as d parent_as) refl one
+      Breaks c n (run_of c n es s run) d p r.id deed older
+  step d p r deed older within i broken before = elim (moment_met c n es s run short deed older within) [
+    | inl got ↦ go (same_as d parent_as) refl got
     | inr first ↦ opening_none d p r deed first i
   ]
     where
-      upper : d ≡ parent_as → HasOne c n deed older → Breaks c n d p r.id deed older
-      upper is one =
-          subst (λ (z : As). Breaks c n z p r.id deed older) (sym is)
-          (above_broken p r broken c codec n net es s run written short older (λ b r' deed' older'. before parent_as b r' deed' older') deed within one
+      upper : d ≡ parent_as → CausedIn c n es s run deed older → Breaks c n (run_of c n es s run) d p r.id deed older
+      upper is got =
+          subst (λ (z : As). Breaks c n (run_of c n es s run) z p r.id deed older) (sym is)
+          (above_broken p r broken c codec n net es s run written short older (λ b r' deed' older'. before parent_as b r' deed' older') deed within got.0 got.1
           (subst (λ (z : As). In {A = Output} (record { to = p; message = messages.PcRep (r ∷ []) }) (outputs_at z deed)) is i))
 
-      go : (b : Bool) → same_as d parent_as ≡ b → HasOne c n deed older → Breaks c n d p r.id deed older
-      go true is one = upper (same_as_is d parent_as is) one
-      go false is one =
-          deed_broken p r broken c codec n net es s run written short d (λ same. not_both (same_as d parent_as) (ap (λ (z : As). same_as z parent_as) same) is) older (λ b r' deed' older'. before d b r' deed' older') deed within one i
+      go : (b : Bool) → same_as d parent_as ≡ b → CausedIn c n es s run deed older → Breaks c n (run_of c n es s run) d p r.id deed older
+      go true is got = upper (same_as_is d parent_as is) got
+      go false is got =
+          deed_broken p r broken c codec n net es s run written short d (λ same. not_both (same_as d parent_as) (ap (λ (z : As). same_as z parent_as) same) is) older (λ b r' deed' older'. before d b r' deed' older') deed within got.0 got.1 i
 
   by_length : (most : ℕ) (d : As) (p : Peer) (r : Reply) (deed : PlantDeed) (older : Transcript) → length older ≤ most → Within (deed ∷ older) (deeds_of c n es) →
-      In {A = Output} (record { to = p; message = messages.PcRep (r ∷ []) }) (outputs_at d deed) → ¬ TellsOfPaths r.answer → Breaks c n d p r.id deed older
+      In {A = Output} (record { to = p; message = messages.PcRep (r ∷ []) }) (outputs_at d deed) → ¬ TellsOfPaths r.answer → Breaks c n (run_of c n es s run) d p r.id deed older
   by_length zero d p r deed older few within i broken =
       step d p r deed older within i broken (λ d' b r' deed' older' within' i' broken'. absurd (let less = within_length (deed' ∷ older') older within' in omega (arith, less, few)))
   by_length (suc most) d p r deed older few within i broken =
@@ -760,5 +739,5 @@ module _ (c : Codec) (codec : IsCodec c) (n : NetworkParts) (net : IsNetwork n) 
       (within_trans (deed' ∷ older') older (deeds_of c n es) within' (within_tail deed older (deeds_of c n es) within)) i' broken')
 
 pub broken_for_reasons : WrittenNetIds BrokenForReasonsIn
-broken_for_reasons c codec n net es s run written short d p r deed older within has broken =
-    by_length c codec n net es s run written short (length older) d p r deed older (omega arith) within (in_at _ (outputs_at d deed) has) broken
+broken_for_reasons c codec n net es s run written short run' d p r deed older within has broken =
+    by_length c codec n net es s run' written short (length older) d p r deed older (omega arith) within (in_at _ (outputs_at d deed) has) broken

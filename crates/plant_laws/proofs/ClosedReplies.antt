@@ -33,7 +33,7 @@ use Rattle.plant_laws.specs.Ends.{End, goal_of}
 use Rattle.plant_laws.specs.About.{HasNoneAlong, IsLeastPath}
 use Rattle.plant_laws.specs.Replies.{AreRightful}
 use Rattle.border_costs.proofs.Members.{contains_none, contains_head, contains_cases}
-use Rattle.plant_laws.specs.Shown.{Shows}
+use Rattle.plant_laws.specs.Shown.{ShowsAlong}
 use Rattle.disclosure.specs.declared.class.Class.{Class}
 use Rattle.disclosure.specs.declared.class.Class.TheVariants.{Client, Neighbour, Parent}
 use Rattle.plant_laws.proofs.Told.{apart}
@@ -72,7 +72,7 @@ module _ (c : Codec) (n : NetworkParts) (d : As) (k : ℕ) (held : Held (Item Pi
     last = way.last;
     least = way.least;
     metric = ap (λ (x : ℕ). let o : Option (ℕ × ℕ) = Some (type_of_metric w.query.metric, c.word x) in o) way.sum;
-    shown = subst (λ (x : As). Shows n false w.query end (one ∷ chain) b.entry (closed_branch key.number (place n x).id w.target b down) way.legs way.last) own (way.closed key is_key stands);
+    shown = subst (λ (x : As). ShowsAlong n false w.query end (one ∷ chain) b.entry (closed_branch key.number (place n x).id w.target b down) way.legs way.last) own (way.closed key is_key stands);
   }
 
   abbrev Rightful : List Path → Type 0

@@ -38,7 +38,7 @@ use Rattle.plant_model.specs.Settings.{place}
 use Rattle.plant_model.specs.Plant.{Segment, PlantDeed}
 use Rattle.plant_laws.specs.Transcript.{Transcript, Within, Standing, Leg, numbers}
 use Rattle.plant_laws.specs.Ends.{Inside}
-use Rattle.plant_laws.specs.Shown.{Shows}
+use Rattle.plant_laws.specs.Shown.{ShowsAlong}
 use Rattle.plant_laws.specs.Certified.{Tells, IsServed, IsAnswered}
 use Rattle.plant_laws.specs.Sending.{AllSent}
 use Rattle.plant_laws.proofs.Rows.{In}
@@ -73,7 +73,7 @@ ended_short entry key pce end =
     omega (arith, text_cons (strict_hop entry) (Key false key pce ∷ strict_hop end ∷ []), text_cons (Key false key pce) (strict_hop end ∷ []), text_cons (strict_hop end) [], hop_short entry, key_short key pce, hop_short end)
 
 -- what is shown behind keys takes at most three hops for each domain
-pub shows_short : (n : NetworkParts) (q : Query) (t : Addr) (chain : List Leg) (e : Addr) (hs : List Hop) (legs : List Part) (last : Last) → Shows n false q (Inside t) chain e hs legs last →
+pub shows_short : (n : NetworkParts) (q : Query) (t : Addr) (chain : List Leg) (e : Addr) (hs : List Hop) (legs : List Part) (last : Last) → ShowsAlong n false q (Inside t) chain e hs legs last →
     length (hops_text hs) ≤ 60 * length chain
 shows_short n q t [] e hs legs last s = absurd s
 shows_short n q t (one ∷ []) e hs [] (Links last) s =

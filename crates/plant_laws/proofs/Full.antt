@@ -39,6 +39,7 @@ use Rattle.plant_laws.specs.About.{IsShort}
 use Rattle.plant_laws.specs.Causes.{IsLost, IsLostAbove, AnswersLost, asker_of, asker_above, left_rows, left_above, Passes, OnPassed, by_element, by_parent, OfSession, by_table, anew, OfSolve, of_element, of_parent, HaveCauses}
 use Rattle.plant_laws.specs.Full.{IsCrowded, HearsFull, Fills, crowded, lacks, further_full, FullForReasonsIn}
 use Rattle.plant_laws.specs.Matched.{Answering, ends, at_once}
+use Rattle.plant_laws.specs.Met.{run_of, Meets}
 use Rattle.plant_laws.specs.MessageCauses.{Asker, replied, WaitsAt, WaitsAbove, OnReply, unknown, goes_on, is_kept, is_broken, OnNotice, next_is_full, noted_for_nobody, of_other_kind, OnError, failed_for_nobody, of_reply, out_of_profile, other_error, OnPath, ends_here, no_session, is_refused, sent_on, OnRequest, wrong, again, key_shown, key_refused, no_room, for_path, AreAsked, OnRequestAbove, wrong_above, again_above, key_above, no_room_above, child_down, all_asked, Part, Notes, Fails, alone, noted, failed_by, failed, parts, OnParts, OnMessage}
 use Rattle.plant_laws.specs.Sending.{AllSent}
 use Rattle.plant_laws.specs.Solves.{ElementTells, TellsClient, its_path, no_pair, TellsClosed, branches, no_branch, lacks_keys, TellsUpper, found as found_walk, no_walk}
@@ -61,7 +62,7 @@ use Rattle.plant_laws.proofs.GatheredRuns.{run_gathers}
 use Rattle.plant_laws.proofs.Gathers.{IsFilled}
 use Rattle.plant_laws.proofs.Handing.{In}
 use Rattle.plant_laws.proofs.Inboxes.{contains}
-use Rattle.plant_laws.proofs.MomentCauses.{HasOne, IsOpening, moment_cause, outs, solver, head_of, in_two, at_here}
+use Rattle.plant_laws.proofs.MomentCauses.{HasOne, IsOpening, moment_met, outs, solver, head_of, in_two, at_here}
 use Rattle.plant_laws.proofs.Moments.{within_trans, within_length, opened_within}
 use Rattle.plant_laws.proofs.PartCauses.{in_at, not_both}
 use Rattle.plant_laws.proofs.Queues.{same_as_is}
@@ -144,13 +145,13 @@ module _ (c : Codec) (codec : IsCodec c) (n : NetworkParts) (es : List Entry) (s
       absurd (let clash : ◌≡◌ {A = PlantDeed} (Takes b (Inner d) (messages.PcReq asks) os) (Solves b k (record { to = t.held.key.peer; message = t.message } ∷ []) t.keys) = sym is ∙ solves in cc)
 
   -- a message that asks gets this of a full table alone
-  crowded_by : (id : ℕ) (deed : PlantDeed) (before : Transcript) → Fills c n b (Inner d) id deed before → (asks : List Asked) (os : List Output) → deed ≡ Takes b (Inner d) (messages.PcReq asks) os → IsCrowded c n b (Inner d) id deed before
+  crowded_by : (id : ℕ) (deed : PlantDeed) (before : Transcript) → Fills c n (run_of c n es s run) b (Inner d) id deed before → (asks : List Asked) (os : List Output) → deed ≡ Takes b (Inner d) (messages.PcReq asks) os → IsCrowded c n (run_of c n es s run) b (Inner d) id deed before
   crowded_by id deed before (crowded b' q' x' deed' older' k) asks os is = k
   crowded_by id deed before (lacks b' q' x' deed' older' k) asks os is = no_lack k.before k.number asks os deed is k.tells
   crowded_by id deed before (further_full b' a q' x' older' os' k deeper) asks os is =
       absurd (let clash : ◌≡◌ {A = PlantDeed} (Takes b (Inner a) (busy k.flags k.id) os') (Takes b (Inner d) (messages.PcReq asks) os) = is in cc)
 
-  answered_so : (id flags : ℕ) (deed : PlantDeed) (before : Transcript) → Within (deed ∷ before) now' → table.In {A = Output} (record { to = Inner d; message = busy flags id }) (outputs_at b deed) → Fills c n b (Inner d) id deed before → (at : Transcript) → Within at now' →
+  answered_so : (id flags : ℕ) (deed : PlantDeed) (before : Transcript) → Within (deed ∷ before) now' → table.In {A = Output} (record { to = Inner d; message = busy flags id }) (outputs_at b deed) → Fills c n (run_of c n es s run) b (Inner d) id deed before → (at : Transcript) → Within at now' →
       (w : Wanted) (t : Addr) (rest : List As) → SentIn at d (Inner b) (request_message id w t rest) → Answering c d b id at deed before
   answered_so id flags deed before inside said why at at_now w t rest sent = elim (counts d b id deed (busy_counts (Inner d) id flags (outputs_at b deed) said)) [
     | inl counted ↦ ended counted
@@ -174,10 +175,10 @@ module _ (c : Codec) (codec : IsCodec c) (n : NetworkParts) (es : List Entry) (s
           let of = delivered_by c codec d b now' numbers short read id found.0 found.2 at_in found.3 found.4 in
           ends found.0 found.1 (must_end c b (Inner d) id deed (behaves c b (Inner d) id deed fair) counted) (subst (λ (l : Transcript). Handed d b l found.0) (same of.0 of.1 of.3 of.4 of.5 of.6) of.2)
 
-      asked_once : IsCrowded c n b (Inner d) id deed before → Answering c d b id at deed before
+      asked_once : IsCrowded c n (run_of c n es s run) b (Inner d) id deed before → Answering c d b id at deed before
       asked_once k =
-          let of = delivered_by c codec d b now' numbers short read id (deed ∷ before) k.request inside (k.asked, k.os, k.takes, k.admitted) k.id in
-          at_once (k.asked ∷ []) k.os k.takes (subst (λ (l : Transcript). Handed d b l (deed ∷ before)) (same of.0 of.1 of.3 of.4 of.5 of.6) of.2)
+          let of = delivered_by c codec d b now' numbers short read id (deed ∷ before) k.taking.request inside (k.taking.asked, k.taking.os, k.taking.takes, k.taking.admitted) k.taking.id in
+          at_once (k.taking.asked ∷ []) k.taking.os k.taking.takes (subst (λ (l : Transcript). Handed d b l (deed ∷ before)) (same of.0 of.1 of.3 of.4 of.5 of.6) of.2)
 
 module _ (p : Peer) (x flags : ℕ) where
   abbrev out : Output
@@ -262,12 +263,12 @@ module _ (p : Peer) (x flags : ℕ) where
       noted_none (m ∷ ms) k os none on i = notes_none m.kinds m.ids (noted ms) k os none (λ k' os' none' on' i'. noted_none ms k' os' none' on' i') on i
 
   module _ (c : Codec) (codec : IsCodec c) (n : NetworkParts) (net : IsNetwork n) (es : List Entry) (s : Plant) (run : Run c n es s) (written : AllSent IsWritten (deeds_of c n es)) (short : IsShort (deeds_of c n es)) (d : As) (older : Transcript)
-      (rec : (b : As) (x' flags' : ℕ) (deed' : PlantDeed) (older' : Transcript) → Within (deed' ∷ older') older → In {A = Output} (record { to = Inner d; message = busy flags' x' }) (outputs_at b deed') → Fills c n b (Inner d) x' deed' older') where
+      (rec : (b : As) (x' flags' : ℕ) (deed' : PlantDeed) (older' : Transcript) → Within (deed' ∷ older') older → In {A = Output} (record { to = Inner d; message = busy flags' x' }) (outputs_at b deed') → Fills c n (run_of c n es s run) b (Inner d) x' deed' older') where
     abbrev now : Transcript
     now = deeds_of c n es
 
     abbrev Full : PlantDeed → Type 0
-    Full deed = Fills c n d p x deed older
+    Full deed = Fills c n (run_of c n es s run) d p x deed older
 
     -- ---- what d says is said by its deed
 
@@ -353,29 +354,17 @@ module _ (p : Peer) (x flags : ℕ) where
           ap (λ (z : Peer). opened c d z x (deeds_of c n entries)) (this.0 ∙ ap (λ (z : Asker). z.peer) asked) ∙ ap (λ (z : ℕ). opened c d peer z (deeds_of c n entries)) (this.1 ∙ ap (λ (z : Asker). z.id) asked) ∙ is
 
       -- an element
-      request_full : (a : Asked) (all os : List Output) → same_as d parent_as ≡ false → OnRequest c n d q before.clock a (before.elements d) os → In out os → Full (Takes d q (messages.PcReq (a ∷ [])) all)
-      request_full a all os low (wrong rp kind value is eq) i = not_said q _ refl (subst (In out) eq i)
-      request_full a all os low (again r number is hit eq) i = nothing os eq i
-      request_full a all os low (key_shown r key pce segment is new wish behind eq) i = not_said q _ refl (subst (In out) eq i)
-      request_full a all os low (key_refused r key pce is new wish none eq) i = not_said q _ refl (subst (In out) eq i)
-      request_full a all os low (for_path r w is new wish room on) i = path_none (before.elements d) _ w os on i
-      request_full a all os low (no_room r w is new wish full eq) i =
+      request_full : (a : Asked) (all os : List Output) → Meets c n es s run (Takes d q (messages.PcReq (a ∷ [])) all) older before → same_as d parent_as ≡ false → OnRequest c n d q before.clock a (before.elements d) os → In out os → Full (Takes d q (messages.PcReq (a ∷ [])) all)
+      request_full a all os meets low (wrong rp kind value is eq) i = not_said q _ refl (subst (In out) eq i)
+      request_full a all os meets low (again r number is hit eq) i = nothing os eq i
+      request_full a all os meets low (key_shown r key pce segment is new wish behind eq) i = not_said q _ refl (subst (In out) eq i)
+      request_full a all os meets low (key_refused r key pce is new wish none eq) i = not_said q _ refl (subst (In out) eq i)
+      request_full a all os meets low (for_path r w is new wish room on) i = path_none (before.elements d) _ w os on i
+      request_full a all os meets low (no_room r w is new wish full eq) i =
           let this = this_one q r.flags r.id (subst (In out) eq i) in
-          subst (λ (z : Peer). Fills c n d z x (Takes d q (messages.PcReq (a ∷ [])) all) older) (sym this.0)
+          subst (λ (z : Peer). Fills c n (run_of c n es s run) d z x (Takes d q (messages.PcReq (a ∷ [])) all) older) (sym this.0)
           (crowded d q x (Takes d q (messages.PcReq (a ∷ [])) all) older (record {
-            entries = entries;
-            before = before;
-            run = run';
-            earlier = earlier;
-            is_then = is_then;
-            asked = a;
-            os = all;
-            takes = refl;
-            request = r;
-            admitted = is;
-            id = sym this.1;
-            wanted = w;
-            for_path = wish;
+            taking = record { before = before; meets = meets; asked = a; os = all; takes = refl; request = r; admitted = is; id = sym this.1; wanted = w; for_path = wish };
             full = subst (λ (b : Bool). cond b (IsFull before.parent.pending) (IsFull (before.elements d).pending)) (sym low) full;
           }))
 
@@ -418,18 +407,18 @@ module _ (p : Peer) (x flags : ℕ) where
           sent : WasSentOn c (deeds_of c n entries) d w.row q y
           sent = waits_are_sent c codec n entries before run' (every_written c codec n net entries before run' short') d w.row w.is_row q y w.waits
 
-      element_full : (low : same_as d parent_as ≡ false) (pin : Pin) (m : Message) (all : List Output) → Within (Takes d q m all ∷ older) now → IsAlone m → Passes c n before event d q m → OnMessage c n d pin q before.clock m (before.elements d) all → In out all → Full (Takes d q m all)
-      element_full low pin (messages.PcReq []) all within alone' passes on i = nothing all on i
-      element_full low pin (messages.PcReq (a ∷ [])) all within alone' passes on i = request_full a all on.0 low on.3 (subst (In out) (on.2 ∙ ap (λ (l : List Output). on.0 ++ l) on.4 ∙ nil_right on.0) i)
-      element_full low pin (messages.PcReq (a ∷ b ∷ rest)) all within alone' passes on i = absurd (omega (arith, alone'))
-      element_full low pin (messages.PcRep []) all within alone' passes on i = nothing all on i
-      element_full low pin (messages.PcRep (r ∷ [])) all within alone' passes on i =
+      element_full : (low : same_as d parent_as ≡ false) (pin : Pin) (m : Message) (all : List Output) → Meets c n es s run (Takes d q m all) older before → Within (Takes d q m all ∷ older) now → IsAlone m → Passes c n before event d q m → OnMessage c n d pin q before.clock m (before.elements d) all → In out all → Full (Takes d q m all)
+      element_full low pin (messages.PcReq []) all meets within alone' passes on i = nothing all on i
+      element_full low pin (messages.PcReq (a ∷ [])) all meets within alone' passes on i = request_full a all on.0 meets low on.3 (subst (In out) (on.2 ∙ ap (λ (l : List Output). on.0 ++ l) on.4 ∙ nil_right on.0) i)
+      element_full low pin (messages.PcReq (a ∷ b ∷ rest)) all meets within alone' passes on i = absurd (omega (arith, alone'))
+      element_full low pin (messages.PcRep []) all meets within alone' passes on i = nothing all on i
+      element_full low pin (messages.PcRep (r ∷ [])) all meets within alone' passes on i =
           reply_none (Element Pin Segment) (λ k'. WaitsAt k' q) (OnRequest c n d q before.clock) (λ m' k'. (take c open_of (place n d) pin q (class_of n q) before.clock m' k').element) (same_peer q the_parent) q r (before.elements d) on.0 on.3
           (subst (In out) (on.2 ∙ ap (λ (l : List Output). on.0 ++ l) on.4 ∙ nil_right on.0) i)
-      element_full low pin (messages.PcRep (a ∷ b ∷ rest)) all within alone' passes on i = absurd (omega (arith, alone'))
-      element_full low pin (messages.PcErr reports) all within alone' passes on i =
+      element_full low pin (messages.PcRep (a ∷ b ∷ rest)) all meets within alone' passes on i = absurd (omega (arith, alone'))
+      element_full low pin (messages.PcErr reports) all meets within alone' passes on i =
           failed_none (Element Pin Segment) (λ k'. WaitsAt k' q) (OnRequest c n d q before.clock) (λ m' k'. (take c open_of (place n d) pin q (class_of n q) before.clock m' k').element) (same_peer q the_parent) q reports (before.elements d) all on i
-      element_full low pin (messages.PcNtf ns) all within alone' passes on i = by q refl
+      element_full low pin (messages.PcNtf ns) all meets within alone' passes on i = by q refl
         where
           by : (z : Peer) → q ≡ z → Full (Takes d q (messages.PcNtf ns) all)
           by (Outside j) is =
@@ -439,38 +428,26 @@ module _ (p : Peer) (x flags : ℕ) where
               let h = heard b ns all (subst (λ (z : Peer). Within (Takes d z (messages.PcNtf ns) all ∷ older) now) is within) in
               inner_full b is ns all within passes h.1 h.0 h.2
               (one_notice (Element Pin Segment) (λ k'. WaitsAt k' q) (OnRequest c n d q before.clock) (λ m' k'. (take c open_of (place n d) pin q (class_of n q) before.clock m' k').element) (same_peer q the_parent) q h.0 h.1 (messages.PcNtf ns) (before.elements d) all h.2 on) i
-      element_full low pin (messages.Open body) all within alone' passes on i = nothing all on i
-      element_full low pin messages.Keepalive all within alone' passes on i = nothing all on i
-      element_full low pin (messages.Close why) all within alone' passes on i = nothing all on i
-      element_full low pin (messages.Other kind) all within alone' passes on i = nothing all on i
+      element_full low pin (messages.Open body) all meets within alone' passes on i = nothing all on i
+      element_full low pin messages.Keepalive all meets within alone' passes on i = nothing all on i
+      element_full low pin (messages.Close why) all meets within alone' passes on i = nothing all on i
+      element_full low pin (messages.Other kind) all meets within alone' passes on i = nothing all on i
 
       -- the parent
       abbrev OnsAbove : List Part → List Output → Type 0
       OnsAbove xs os = OnParts Parent (λ k'. WaitsAbove k' q) (OnRequestAbove c n q) (λ m' k'. (parent.take c (family n) q m' k').parent) false q xs before.parent os
 
-      above_request : (a : Asked) (all os : List Output) → d ≡ parent_as → OnRequestAbove c n q a before.parent os → In out os → Full (Takes d q (messages.PcReq (a ∷ [])) all)
-      above_request a all os up (wrong_above rp kind value is eq) i = not_said q _ refl (subst (In out) eq i)
-      above_request a all os up (again_above r number is hit eq) i = nothing os eq i
-      above_request a all os up (key_above r key pce is new wish eq) i = not_said q _ refl (subst (In out) eq i)
-      above_request a all os up (child_down r w child is new wish room among down eq) i = not_said q _ refl (subst (In out) eq i)
-      above_request a all os up (all_asked r w is new wish room all_up on) i = asked_none w _ os on i
-      above_request a all os up (no_room_above r w is new wish full eq) i =
+      above_request : (a : Asked) (all os : List Output) → Meets c n es s run (Takes d q (messages.PcReq (a ∷ [])) all) older before → d ≡ parent_as → OnRequestAbove c n q a before.parent os → In out os → Full (Takes d q (messages.PcReq (a ∷ [])) all)
+      above_request a all os meets up (wrong_above rp kind value is eq) i = not_said q _ refl (subst (In out) eq i)
+      above_request a all os meets up (again_above r number is hit eq) i = nothing os eq i
+      above_request a all os meets up (key_above r key pce is new wish eq) i = not_said q _ refl (subst (In out) eq i)
+      above_request a all os meets up (child_down r w child is new wish room among down eq) i = not_said q _ refl (subst (In out) eq i)
+      above_request a all os meets up (all_asked r w is new wish room all_up on) i = asked_none w _ os on i
+      above_request a all os meets up (no_room_above r w is new wish full eq) i =
           let this = this_one q r.flags r.id (subst (In out) eq i) in
-          subst (λ (z : Peer). Fills c n d z x (Takes d q (messages.PcReq (a ∷ [])) all) older) (sym this.0)
+          subst (λ (z : Peer). Fills c n (run_of c n es s run) d z x (Takes d q (messages.PcReq (a ∷ [])) all) older) (sym this.0)
           (crowded d q x (Takes d q (messages.PcReq (a ∷ [])) all) older (record {
-            entries = entries;
-            before = before;
-            run = run';
-            earlier = earlier;
-            is_then = is_then;
-            asked = a;
-            os = all;
-            takes = refl;
-            request = r;
-            admitted = ap (c.check a) up ∙ is;
-            id = sym this.1;
-            wanted = w;
-            for_path = wish;
+            taking = record { before = before; meets = meets; asked = a; os = all; takes = refl; request = r; admitted = ap (c.check a) up ∙ is; id = sym this.1; wanted = w; for_path = wish };
             full = subst (λ (b : Bool). cond b (IsFull before.parent.pending) (IsFull (before.elements d).pending)) (sym (ap (λ (z : As). same_as z parent_as) up)) full;
           }))
 
@@ -500,16 +477,16 @@ module _ (p : Peer) (x flags : ℕ) where
           sent = subst (λ (z : As). SentIn g.0 z (Inner b) (request_message y w.row.1.item.wanted w.wait.target (w.wait.child ∷ []))) (sym up) (subst (λ (z : ℕ). SentIn g.0 parent_as (Inner b) (request_message z w.row.1.item.wanted w.wait.target (w.wait.child ∷ []))) w.id
               (subst (λ (z : Peer). SentIn g.0 parent_as z (request_message w.wait.id w.row.1.item.wanted w.wait.target (w.wait.child ∷ []))) to waits.1))
 
-      parent_full : (up : d ≡ parent_as) (m : Message) (all : List Output) → Within (Takes d q m all ∷ older) now → IsAlone m → Passes c n before event d q m → OnsAbove (parts m) all → In out all → Full (Takes d q m all)
-      parent_full up (messages.PcReq []) all within alone' passes on i = nothing all on i
-      parent_full up (messages.PcReq (a ∷ [])) all within alone' passes on i = above_request a all on.0 up on.3 (subst (In out) (on.2 ∙ ap (λ (l : List Output). on.0 ++ l) on.4 ∙ nil_right on.0) i)
-      parent_full up (messages.PcReq (a ∷ b ∷ rest)) all within alone' passes on i = absurd (omega (arith, alone'))
-      parent_full up (messages.PcRep []) all within alone' passes on i = nothing all on i
-      parent_full up (messages.PcRep (r ∷ [])) all within alone' passes on i =
+      parent_full : (up : d ≡ parent_as) (m : Message) (all : List Output) → Meets c n es s run (Takes d q m all) older before → Within (Takes d q m all ∷ older) now → IsAlone m → Passes c n before event d q m → OnsAbove (parts m) all → In out all → Full (Takes d q m all)
+      parent_full up (messages.PcReq []) all meets within alone' passes on i = nothing all on i
+      parent_full up (messages.PcReq (a ∷ [])) all meets within alone' passes on i = above_request a all on.0 meets up on.3 (subst (In out) (on.2 ∙ ap (λ (l : List Output). on.0 ++ l) on.4 ∙ nil_right on.0) i)
+      parent_full up (messages.PcReq (a ∷ b ∷ rest)) all meets within alone' passes on i = absurd (omega (arith, alone'))
+      parent_full up (messages.PcRep []) all meets within alone' passes on i = nothing all on i
+      parent_full up (messages.PcRep (r ∷ [])) all meets within alone' passes on i =
           reply_none Parent (λ k'. WaitsAbove k' q) (OnRequestAbove c n q) (λ m' k'. (parent.take c (family n) q m' k').parent) false q r before.parent on.0 on.3 (subst (In out) (on.2 ∙ ap (λ (l : List Output). on.0 ++ l) on.4 ∙ nil_right on.0) i)
-      parent_full up (messages.PcRep (a ∷ b ∷ rest)) all within alone' passes on i = absurd (omega (arith, alone'))
-      parent_full up (messages.PcErr reports) all within alone' passes on i = failed_none Parent (λ k'. WaitsAbove k' q) (OnRequestAbove c n q) (λ m' k'. (parent.take c (family n) q m' k').parent) false q reports before.parent all on i
-      parent_full up (messages.PcNtf ns) all within alone' passes on i = by q refl
+      parent_full up (messages.PcRep (a ∷ b ∷ rest)) all meets within alone' passes on i = absurd (omega (arith, alone'))
+      parent_full up (messages.PcErr reports) all meets within alone' passes on i = failed_none Parent (λ k'. WaitsAbove k' q) (OnRequestAbove c n q) (λ m' k'. (parent.take c (family n) q m' k').parent) false q reports before.parent all on i
+      parent_full up (messages.PcNtf ns) all meets within alone' passes on i = by q refl
         where
           by : (z : Peer) → q ≡ z → Full (Takes d q (messages.PcNtf ns) all)
           by (Outside j) is =
@@ -518,15 +495,15 @@ module _ (p : Peer) (x flags : ℕ) where
               let h = heard b ns all (subst (λ (z : Peer). Within (Takes d z (messages.PcNtf ns) all ∷ older) now) is within) in
               above_full up b is ns all within passes h.1 h.0 h.2
               (one_notice Parent (λ k'. WaitsAbove k' q) (OnRequestAbove c n q) (λ m' k'. (parent.take c (family n) q m' k').parent) false q h.0 h.1 (messages.PcNtf ns) before.parent all h.2 on) i
-      parent_full up (messages.Open body) all within alone' passes on i = nothing all on i
-      parent_full up messages.Keepalive all within alone' passes on i = nothing all on i
-      parent_full up (messages.Close why) all within alone' passes on i = nothing all on i
-      parent_full up (messages.Other kind) all within alone' passes on i = nothing all on i
+      parent_full up (messages.Open body) all meets within alone' passes on i = nothing all on i
+      parent_full up messages.Keepalive all meets within alone' passes on i = nothing all on i
+      parent_full up (messages.Close why) all meets within alone' passes on i = nothing all on i
+      parent_full up (messages.Other kind) all meets within alone' passes on i = nothing all on i
 
     -- ---- each deed
 
-    solved_full : (entries : List Entry) (before : Plant) (run' : Run c n entries before) (earlier : Transcript) → older ≡ earlier ++ deeds_of c n entries → (deed : PlantDeed) (k' : ℕ) (t : ElementTells c n before d k' (deed ∷ [])) → In out (record { to = t.held.key.peer; message = t.message } ∷ []) → Full deed
-    solved_full entries before run' earlier is_then deed k' t i = go (is_client t.held.item.class) refl
+    solved_full : (before : Plant) (deed : PlantDeed) → Meets c n es s run deed older before → (k' : ℕ) (t : ElementTells c n before d k' (deed ∷ [])) → In out (record { to = t.held.key.peer; message = t.message } ∷ []) → Full deed
+    solved_full before deed meets k' t i = go (is_client t.held.item.class) refl
       where
         said : (m : Message) → t.message ≡ m → In out (record { to = t.held.key.peer; message = m } ∷ [])
         said m eq = subst (λ (z : Message). In out (record { to = t.held.key.peer; message = z } ∷ [])) eq i
@@ -535,61 +512,61 @@ module _ (p : Peer) (x flags : ℕ) where
         client (its_path b one at eq) = not_said t.held.key.peer _ refl (said _ eq)
         client (no_pair none eq) = not_said t.held.key.peer _ refl (said _ eq)
 
-        closed : TellsClosed c (place n d) (k', t.held) t.down before.clock (before.elements d).keys t.rows.best t.message → Full deed
-        closed (branches some few eq) = not_said t.held.key.peer _ refl (said _ eq)
-        closed (no_branch none eq) = not_said t.held.key.peer _ refl (said _ eq)
-        closed (lacks_keys few eq) =
+        closed : is_client t.held.item.class ≡ false → TellsClosed c (place n d) (k', t.held) t.down before.clock (before.elements d).keys t.rows.best t.message → Full deed
+        closed is (branches some few eq) = not_said t.held.key.peer _ refl (said _ eq)
+        closed is (no_branch none eq) = not_said t.held.key.peer _ refl (said _ eq)
+        closed is (lacks_keys few eq) =
             let this = this_one t.held.key.peer t.held.item.flags t.held.key.id (said _ eq) in
-            lacks d p x deed older (record { entries = entries; before = before; run = run'; earlier = earlier; is_then = is_then; number = k'; tells = t; peer = sym this.0; id = sym this.1; few = few })
+            lacks d p x deed older (record { before = before; meets = meets; number = k'; tells = t; peer = sym this.0; id = sym this.1; closed = is; few = few })
 
         go : (b : Bool) → is_client t.held.item.class ≡ b → Full deed
         go true is = client (t.to_client is)
-        go false is = closed (t.to_closed is)
+        go false is = closed is (t.to_closed is)
 
     upper_none : {X : Type 0} (h : AskingRow) (answer : Option Found) (q : Peer) (m : Message) → TellsUpper c h answer m → In out (record { to = q; message = m } ∷ []) → X
     upper_none h answer q m (found_walk f some eq) i = not_said q m (ap is_ntf eq) i
     upper_none h answer q m (no_walk none eq) i = not_said q m (ap is_ntf eq) i
 
-    deed_full : (deed : PlantDeed) → Within (deed ∷ older) now → HasOne c n deed older → In out (outputs_at d deed) → Full deed
-    deed_full (Takes at q m os) within one i =
+    deed_full : (deed : PlantDeed) → Within (deed ∷ older) now → (one : HasOne c n deed older) → Meets c n es s run deed older one.before → In out (outputs_at d deed) → Full deed
+    deed_full (Takes at q m os) within one meets i =
         let here = at_here d out at os i in
         let alone' = takes_alone c codec n es s run (all_read c codec now written) at q m os older within in
-        subst (λ (z : As). Fills c n d p x (Takes z q m os) older) (sym here.0)
-        (go here.0 (subst (λ (z : As). Within (Takes z q m os ∷ older) now) here.0 within) alone' (subst (λ (z : As). Passes c n one.before one.event z q m) here.0 one.cause.0) here.1 one.cause.1)
+        subst (λ (z : As). Fills c n (run_of c n es s run) d p x (Takes z q m os) older) (sym here.0)
+        (go here.0 (subst (λ (z : As). Meets c n es s run (Takes z q m os) older one.before) here.0 meets) (subst (λ (z : As). Within (Takes z q m os ∷ older) now) here.0 within) alone' (subst (λ (z : As). Passes c n one.before one.event z q m) here.0 one.cause.0) here.1 one.cause.1)
       where
-        go : at ≡ d → Within (Takes d q m os ∷ older) now → IsAlone m → Passes c n one.before one.event d q m → In out os → OnPassed c n one.before one.event at q m os → Full (Takes d q m os)
-        go is within' alone' passes i' (by_parent up on) = parent_full q one.entries one.before one.run one.short one.earlier one.is_then one.event one.causes (sym is ∙ same_as_is at parent_as up) m os within' alone' passes on i'
-        go is within' alone' passes i' (by_element down on) =
-            element_full q one.entries one.before one.run one.short one.earlier one.is_then one.event one.causes (ap (λ (z : As). same_as z parent_as) (sym is) ∙ down) (one.before.current at) m os within' alone' passes
+        go : at ≡ d → Meets c n es s run (Takes d q m os) older one.before → Within (Takes d q m os ∷ older) now → IsAlone m → Passes c n one.before one.event d q m → In out os → OnPassed c n one.before one.event at q m os → Full (Takes d q m os)
+        go is meets' within' alone' passes i' (by_parent up on) = parent_full q one.entries one.before one.run one.short one.earlier one.is_then one.event one.causes (sym is ∙ same_as_is at parent_as up) m os meets' within' alone' passes on i'
+        go is meets' within' alone' passes i' (by_element down on) =
+            element_full q one.entries one.before one.run one.short one.earlier one.is_then one.event one.causes (ap (λ (z : As). same_as z parent_as) (sym is) ∙ down) (one.before.current at) m os meets' within' alone' passes
             (subst (λ (z : As). OnMessage c n z (one.before.current at) q one.before.clock m (one.before.elements z) os) is on) i'
-    deed_full (Downs at q os) within one i = go (same_as at parent_as) one.cause (at_here d out at os i).1
+    deed_full (Downs at q os) within one meets i = go (same_as at parent_as) one.cause (at_here d out at os i).1
       where
         go : (b : Bool) → cond b (AnswersLost (IsLostAbove q) asker_above (left_above one.before.parent.pending.rows one.earlier) os)
             (AnswersLost (IsLost q) asker_of (left_rows at (one.before.elements at).pending.rows one.earlier) os) → In out os → Full (Downs at q os)
         go true lost' i' = none_lost (IsLostAbove q) asker_above (left_above one.before.parent.pending.rows one.earlier) os lost' i'
         go false lost' i' = none_lost (IsLost q) asker_of (left_rows at (one.before.elements at).pending.rows one.earlier) os lost' i'
-    deed_full (Solves at k os keys) within one i = go (at_here d out at os i) one.cause
+    deed_full (Solves at k os keys) within one meets i = go (at_here d out at os i) one.cause
       where
         go : (at ≡ d) × In out os → OfSolve c n one.before one.event (Solves at k os keys) → Full (Solves at k os keys)
         go here (of_element d' k' ev tells) =
             let one' : Solves at k os keys ≡ Solves d' k' (record { to = tells.held.key.peer; message = tells.message } ∷ []) tells.keys = ap (head_of (Solves at k os keys)) tells.sends_one in
             let there : d' ≡ d = sym (ap (solver d) one') ∙ here.0 in
             (subst (λ (z : As). (t : ElementTells c n one.before z k' (Solves at k os keys ∷ [])) → In out (record { to = t.held.key.peer; message = t.message } ∷ []) → Full (Solves at k os keys)) (sym there)
-            (λ t i'. solved_full one.entries one.before one.run one.earlier one.is_then (Solves at k os keys) k' t i')) tells (subst (In out) (ap outs one') here.1)
+            (λ t i'. solved_full one.before (Solves at k os keys) meets k' t i')) tells (subst (In out) (ap outs one') here.1)
         go here (of_parent k' ev tells) =
             let one' : Solves at k os keys ≡ Solves parent_as k' (record { to = tells.held.key.peer; message = tells.message } ∷ []) [] = ap (head_of (Solves at k os keys)) tells.sends_one in
             upper_none (k', tells.held) tells.answer tells.held.key.peer tells.message tells.tells (subst (In out) (ap outs one') here.1)
-    deed_full (Says at o) within one i = go (at_here d out at (o ∷ []) i).1 one.cause
+    deed_full (Says at o) within one meets i = go (at_here d out at (o ∷ []) i).1 one.cause
       where
         go : In out (o ∷ []) → OfSession c n one.before one.event one.earlier at o → Full (Says at o)
         go i' (by_table x' came o' comes acts eq) = not_said o.to o.message (ap is_ntf eq ∙ own_none o') i'
         go i' (anew a b sid cleared eq) = not_said o.to o.message (ap is_ntf eq) i'
-    deed_full (Loads at g) within one i = absurd i
-    deed_full (Pops a b) within one i = absurd i
-    deed_full (Ups at q) within one i = absurd i
-    deed_full (Clears a b) within one i = absurd i
-    deed_full (Expires t) within one i = absurd i
-    deed_full (Hands j bytes) within one i = absurd i
+    deed_full (Loads at g) within one meets i = absurd i
+    deed_full (Pops a b) within one meets i = absurd i
+    deed_full (Ups at q) within one meets i = absurd i
+    deed_full (Clears a b) within one meets i = absurd i
+    deed_full (Expires t) within one meets i = absurd i
+    deed_full (Hands j bytes) within one meets i = absurd i
 
   -- the first messages are no notices
   opening_none : {X : Type 0} (d : As) (deed : PlantDeed) → IsOpening deed → In out (outputs_at d deed) → X
@@ -606,15 +583,15 @@ module _ (p : Peer) (x flags : ℕ) where
 
 module _ (c : Codec) (codec : IsCodec c) (n : NetworkParts) (net : IsNetwork n) (es : List Entry) (s : Plant) (run : Run c n es s) (written : AllSent IsWritten (deeds_of c n es)) (short : IsShort (deeds_of c n es)) where
   abbrev Before : Transcript → Type 0
-  Before older = (d b : As) (x flags : ℕ) (deed : PlantDeed) (older' : Transcript) → Within (deed ∷ older') older → In {A = Output} (record { to = Inner d; message = busy flags x }) (outputs_at b deed) → Fills c n b (Inner d) x deed older'
+  Before older = (d b : As) (x flags : ℕ) (deed : PlantDeed) (older' : Transcript) → Within (deed ∷ older') older → In {A = Output} (record { to = Inner d; message = busy flags x }) (outputs_at b deed) → Fills c n (run_of c n es s run) b (Inner d) x deed older'
 
-  step : (d : As) (p : Peer) (x flags : ℕ) (deed : PlantDeed) (older : Transcript) → Within (deed ∷ older) (deeds_of c n es) → In {A = Output} (record { to = p; message = busy flags x }) (outputs_at d deed) → Before older → Fills c n d p x deed older
-  step d p x flags deed older within i before = elim (moment_cause c n es s run short deed older within) [
-    | inl one ↦ deed_full p x flags c codec n net es s run written short d older (λ b x' flags' deed' older'. before d b x' flags' deed' older') deed within one i
+  step : (d : As) (p : Peer) (x flags : ℕ) (deed : PlantDeed) (older : Transcript) → Within (deed ∷ older) (deeds_of c n es) → In {A = Output} (record { to = p; message = busy flags x }) (outputs_at d deed) → Before older → Fills c n (run_of c n es s run) d p x deed older
+  step d p x flags deed older within i before = elim (moment_met c n es s run short deed older within) [
+    | inl got ↦ deed_full p x flags c codec n net es s run written short d older (λ b x' flags' deed' older'. before d b x' flags' deed' older') deed within got.0 got.1 i
     | inr first ↦ opening_none p x flags d deed first i
   ]
 
-  by_length : (most : ℕ) (d : As) (p : Peer) (x flags : ℕ) (deed : PlantDeed) (older : Transcript) → length older ≤ most → Within (deed ∷ older) (deeds_of c n es) → In {A = Output} (record { to = p; message = busy flags x }) (outputs_at d deed) → Fills c n d p x deed older
+  by_length : (most : ℕ) (d : As) (p : Peer) (x flags : ℕ) (deed : PlantDeed) (older : Transcript) → length older ≤ most → Within (deed ∷ older) (deeds_of c n es) → In {A = Output} (record { to = p; message = busy flags x }) (outputs_at d deed) → Fills c n (run_of c n es s run) d p x deed older
   by_length zero d p x flags deed older few within i = step d p x flags deed older within i (λ d' b x' flags' deed' older' within' i'. absurd (let less = within_length (deed' ∷ older') older within' in omega (arith, less, few)))
   by_length (suc most) d p x flags deed older few within i =
       step d p x flags deed older within i
@@ -623,4 +600,4 @@ module _ (c : Codec) (codec : IsCodec c) (n : NetworkParts) (net : IsNetwork n) 
       (within_trans (deed' ∷ older') older (deeds_of c n es) within' (within_tail deed older (deeds_of c n es) within)) i')
 
 pub full_for_reasons : WrittenNetIds FullForReasonsIn
-full_for_reasons c codec n net es s run written short d p x flags deed older within has = by_length c codec n net es s run written short (length older) d p x flags deed older (omega arith) within (in_at _ (outputs_at d deed) has)
+full_for_reasons c codec n net es s run written short run' d p x flags deed older within has = by_length c codec n net es s run' written short (length older) d p x flags deed older (omega arith) within (in_at _ (outputs_at d deed) has)

@@ -158,5 +158,9 @@ mod Broken
 mod Full
 mod Served
 mod Good
+mod GoodRun
+mod GoodSample
+mod GoodInboxes
+mod GoodExists
 -- handed on from below
 pub use Rattle.plant_model.proofs as plant_model

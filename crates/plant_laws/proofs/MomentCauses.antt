@@ -15,6 +15,7 @@ use Rattle.plant_model.specs.Blind.{is_accepted}
 use Rattle.plant_model.specs.Plant.{Plant, PlantDeed, Happened, Entry, Run, deeds_of, opened}
 use Rattle.plant_laws.specs.About.{IsShort}
 use Rattle.plant_laws.specs.Causes.{HasCause, HaveCauses, AreOpens}
+use Rattle.plant_laws.specs.Met.{Meets}
 use Rattle.plant_laws.specs.Transcript.{Transcript, Within}
 use Rattle.plant_laws.proofs.AllCauses.{messages_have_causes, networks_begin}
 use Rattle.plant_laws.proofs.EveryWritten.{short_before}
@@ -57,30 +58,51 @@ opens_within (Expires now ∷ ds) deed older opens within = absurd opens
 opens_within (Hands i bytes ∷ ds) deed older opens within = absurd opens
 
 cause_within : (c : Codec) (n : NetworkParts) (before : Plant) (e : Event) (ds rest : Transcript) (deed : PlantDeed) (older : Transcript) → HaveCauses c n before e ds → Within (deed ∷ older) (ds ++ rest) →
-    ((earlier : Transcript) × (older ≡ earlier ++ rest) × HasCause c n before e earlier deed × HaveCauses c n before e earlier) ⊎ Within (deed ∷ older) rest
+    ((earlier : Transcript) × (older ≡ earlier ++ rest) × HasCause c n before e earlier deed × HaveCauses c n before e earlier × Within (deed ∷ earlier) ds) ⊎ Within (deed ∷ older) rest
 cause_within c n before e [] rest deed older have within = inr within
 cause_within c n before e (x ∷ ds) rest deed older have (inl is) =
     let heads : deed ≡ x = cc in
     let tails : older ≡ ds ++ rest = cc in
-    inl (ds, tails, subst (HasCause c n before e ds) (sym heads) have.0, have.1)
-cause_within c n before e (x ∷ ds) rest deed older have (inr within) = cause_within c n before e ds rest deed older have.1 within
+    inl (ds, tails, subst (HasCause c n before e ds) (sym heads) have.0, have.1, inl (ap (λ (z : PlantDeed). z ∷ ds) heads))
+cause_within c n before e (x ∷ ds) rest deed older have (inr within) = elim (cause_within c n before e ds rest deed older have.1 within) [
+  | inl one ↦ inl (one.0, one.1, one.2, one.3, inr one.4)
+  | inr more ↦ inr more
+]
 
-pub moment_cause : (c : Codec) (n : NetworkParts) (es : List Entry) (s : Plant) → Run c n es s → IsShort (deeds_of c n es) → (deed : PlantDeed) (older : Transcript) → Within (deed ∷ older) (deeds_of c n es) →
-    HasOne c n deed older ⊎ IsOpening deed
-moment_cause c n [] s run short deed older within = inr (opens_within (opened c n).deeds deed older (networks_begin c n) within)
-moment_cause c n (e ∷ es) s run short deed older within = go e.answer refl (moment_cause c n es run.0 run.1 (short_before e.deeds (deeds_of c n es) short) deed older)
+-- with the state that the event met in the run
+abbrev pub CausedIn : (c : Codec) (n : NetworkParts) (es : List Entry) (s : Plant) → Run c n es s → PlantDeed → Transcript → Type 0
+CausedIn c n es s run deed older = (one : HasOne c n deed older) × Meets c n es s run deed older one.before
+
+pub moment_met : (c : Codec) (n : NetworkParts) (es : List Entry) (s : Plant) (run : Run c n es s) → IsShort (deeds_of c n es) → (deed : PlantDeed) (older : Transcript) → Within (deed ∷ older) (deeds_of c n es) →
+    CausedIn c n es s run deed older ⊎ IsOpening deed
+moment_met c n [] s run short deed older within = inr (opens_within (opened c n).deeds deed older (networks_begin c n) within)
+moment_met c n (e ∷ es) s run short deed older within = go e.answer refl (λ within'. further (moment_met c n es run.0 run.1 (short_before e.deeds (deeds_of c n es) short) deed older within'))
   where
     h : Happened
     h = record { answer = e.answer; state = s; deeds = e.deeds }
 
-    go : (a : events.Answered) → e.answer ≡ a → (Within (deed ∷ older) (deeds_of c n es) → HasOne c n deed older ⊎ IsOpening deed) → HasOne c n deed older ⊎ IsOpening deed
+    further : CausedIn c n es run.0 run.1 deed older ⊎ IsOpening deed → CausedIn c n (e ∷ es) s run deed older ⊎ IsOpening deed
+    further (inl got) = inl (got.0, inr got.1)
+    further (inr opening) = inr opening
+
+    go : (a : events.Answered) → e.answer ≡ a → (Within (deed ∷ older) (deeds_of c n es) → CausedIn c n (e ∷ es) s run deed older ⊎ IsOpening deed) → CausedIn c n (e ∷ es) s run deed older ⊎ IsOpening deed
     go (Ok o) ok before' = elim (cause_within c n run.0 e.event e.deeds (deeds_of c n es) deed older (messages_have_causes c n es run.0 run.1 e.event h run.3 o ok).0 within) [
-      | inl one ↦ inl (record { entries = es; before = run.0; run = run.1; short = short_before e.deeds (deeds_of c n es) short; event = e.event; earlier = one.0; is_then = one.1; cause = one.2; causes = one.3 })
+      | inl one ↦ inl (
+        record { entries = es; before = run.0; run = run.1; short = short_before e.deeds (deeds_of c n es) short; event = e.event; earlier = one.0; is_then = one.1; cause = one.2; causes = one.3 },
+        inl (one.0, one.4, one.1, refl),
+      )
       | inr more ↦ before' more
     ]
     go (Err why) refused before' =
         let none : e.deeds ≡ [] = (refused_same c n run.0 e.event h run.3 (ap is_accepted refused)).deeds in
         before' (subst (λ (ds : Transcript). Within (deed ∷ older) (ds ++ deeds_of c n es)) none within)
+
+pub moment_cause : (c : Codec) (n : NetworkParts) (es : List Entry) (s : Plant) → Run c n es s → IsShort (deeds_of c n es) → (deed : PlantDeed) (older : Transcript) → Within (deed ∷ older) (deeds_of c n es) →
+    HasOne c n deed older ⊎ IsOpening deed
+moment_cause c n es s run short deed older within = elim (moment_met c n es s run short deed older within) [
+  | inl got ↦ inl got.0
+  | inr opening ↦ inr opening
+]
 
 -- ---- parts of a deed
 

@@ -12,7 +12,7 @@ use Rattle.walk_laws.specs.Crossing.{Leg as Part, Goal, Last, Links, Over, Cross
 use Rattle.plant_text.specs.declared.settings.NetworkParts.{NetworkParts}
 use Rattle.plant_laws.specs.Transcript.{Leg, pinned, domains}
 use Rattle.plant_laws.specs.Ends.{End, Inside, Asked, goal_of}
-use Rattle.plant_laws.specs.Shown.{ShowsLast, Shows}
+use Rattle.plant_laws.specs.Shown.{ShowsLast, ShowsAlong}
 use Rattle.plant_laws.specs.About.{IsLeastAlong, HasNoneAlong}
 use Rattle.walk_laws.specs.Composition.{AreBeyond}
 use Rattle.walk_laws.specs.Borders.{Beyond}
@@ -66,7 +66,7 @@ module _ (q : Query) (b : As) where
   }
 
   module _ (n : NetworkParts) (end : End) where
-    pub shows_free : (open' : Bool) (chain : List Leg) (e : Addr) (hs : List Hop) (legs : List Part) (last : Last) → Shows n open' (query_in q b) end chain e hs legs last → Shows n open' q end chain e hs legs last
+    pub shows_free : (open' : Bool) (chain : List Leg) (e : Addr) (hs : List Hop) (legs : List Part) (last : Last) → ShowsAlong n open' (query_in q b) end chain e hs legs last → ShowsAlong n open' q end chain e hs legs last
     shows_free open' [] e hs legs last s = s
     shows_free open' (one ∷ []) e hs [] last s = go end last s
       where

@@ -36,6 +36,7 @@ use Rattle.plant_laws.specs.Broken.{Breaks}
 use Rattle.plant_laws.specs.Causes.{IsLost, IsLostAbove, AnswersLost, asker_of, asker_above, left_above, OnPassed, by_element, by_parent, OfSolve, of_element, of_parent, left_rows}
 use Rattle.plant_laws.specs.Chains.{IsQuiet, is_pending}
 use Rattle.plant_laws.specs.MessageCauses.{Asker, told, replied, WaitsAt, OnRequest, OnMessage, TellsOfPaths, OnReply, unknown, goes_on, is_kept, is_broken, OnNotice, next_is_full, noted_for_nobody, of_other_kind, Part, Asks, Replies, Notes, Fails, alone, noted, OnParts}
+use Rattle.plant_laws.specs.Met.{run_of}
 use Rattle.plant_laws.specs.Sending.{AllSent}
 use Rattle.plant_laws.specs.Served.{EndsWith, tells, is_full, breaks, CameTo, answered, dropped, RequestsAreServedIn}
 use Rattle.plant_laws.specs.Solves.{ElementTells, TellsClient, its_path, no_pair, TellsClosed, branches, no_branch, lacks_keys}
@@ -285,7 +286,7 @@ module _ (c : Codec) (codec : IsCodec c) (n : NetworkParts) (net : IsNetwork n) 
   abbrev now : Transcript
   now = deeds_of c n es
 
-  ends_with : (e : IsEnd c now d p x at) → answers_of d p x e.deed ≡ 1 → EndsWith c n d p x now at e
+  ends_with : (e : IsEnd c now d p x at) → answers_of d p x e.deed ≡ 1 → EndsWith c n (run_of c n es s run) d p x now at e
   ends_with e one' = by (some_answers p x (outputs_at d e.deed) each (omega (arith, one')))
     where
       each : Each (outputs_at d e.deed)
@@ -300,21 +301,21 @@ module _ (c : Codec) (codec : IsCodec c) (n : NetworkParts) (net : IsNetwork n) 
           subst (λ (z : Message). Contains (outputs_at d e.deed) (record { to = p; message = z })) is
           (subst (λ (q : Peer). Contains (outputs_at d e.deed) (record { to = q; message = o.message })) (same_peer_is o.to p to) (contains_at o (outputs_at d e.deed) there))
 
-      by : Answers p x (outputs_at d e.deed) → EndsWith c n d p x now at e
+      by : Answers p x (outputs_at d e.deed) → EndsWith c n (run_of c n es s run) d p x now at e
       by a = go a.of a.counts
         where
-          go : IsOf a.one.message → 1 ≤ count_answers x a.one.message → EndsWith c n d p x now at e
+          go : IsOf a.one.message → 1 ≤ count_answers x a.one.message → EndsWith c n (run_of c n es s run) d p x now at e
           go (reply r is) counts =
               let id : r.id ≡ x = eqb-true r.id x (one_is (r.id == x) (subst (λ (m : Message). 1 ≤ count_answers x m) is counts)) in
               let has = at_p a.one (messages.PcRep (r ∷ [])) a.there a.to is in
               elim (told_or_not r.answer) [
                 | inl told' ↦ tells r has id told'
-                | inr broken ↦ breaks r has id broken (subst (λ (y : ℕ). Breaks c n d p y e.deed e.older) id (broken_for_reasons c codec n net es s run written short d p r e.deed e.older e.within has broken))
+                | inr broken ↦ breaks r has id broken (subst (λ (y : ℕ). Breaks c n (run_of c n es s run) d p y e.deed e.older) id (broken_for_reasons c codec n net es s run written short run d p r e.deed e.older e.within has broken))
               ]
           go (full flags id is) counts =
               let same : id ≡ x = has_one x (flags, id) (one_is (has_id x ((flags, id) ∷ [])) (subst (λ (m : Message). 1 ≤ count_answers x m) is counts)) in
               let has = subst (λ (y : ℕ). Contains (outputs_at d e.deed) (record { to = p; message = busy flags y })) same (at_p a.one (busy flags id) a.there a.to is) in
-              is_full flags has (full_for_reasons c codec n net es s run written short d p x flags e.deed e.older e.within has)
+              is_full flags has (full_for_reasons c codec n net es s run written short run d p x flags e.deed e.older e.within has)
           go (other none) counts = absurd (let nothing = none x in omega (arith, nothing, counts))
 
   none_pending : s.parent.pending.rows ≡ [] → ((d' : As) → (s.elements d').pending.rows ≡ []) → is_pending s d p x ≡ false
@@ -324,11 +325,11 @@ module _ (c : Codec) (codec : IsCodec c) (n : NetworkParts) (net : IsNetwork n) 
       go true = ap (λ (rows : List _). is_some (number_among (key_of p x) rows)) above
       go false = ap (λ (rows : List _). is_some (number_among (key_of p x) rows)) (all d)
 
-  came_to : IsQuiet s → Fate c now s d p x at → CameTo c n now d p x at
+  came_to : IsQuiet s → Fate c now s d p x at → CameTo c n (run_of c n es s run) now d p x at
   came_to quiet (once.pending open' is) = (let rows = quiet_is_answered c codec n net es s run written short quiet in not_both (is_pending s d p x) is (none_pending rows.0 rows.1))
   came_to quiet (once.answered e one') = answered e one' (ends_with e one')
   came_to quiet (once.dropped e none why) = dropped e none why
 
 pub requests_are_served : WrittenNetIds RequestsAreServedIn
-requests_are_served c codec n net es s run written short quiet d p x at real within begins' =
-    came_to c codec n net es s run written short d real p x at quiet (requests_are_answered_once c codec n net es s run written d p x at within begins').fate
+requests_are_served c codec n net es s run written short run' quiet d p x at real within begins' =
+    came_to c codec n net es s run' written short d real p x at quiet (requests_are_answered_once c codec n net es s run written d p x at within begins').fate

@@ -26,7 +26,7 @@ use Rattle.plant_model.specs.Branches.{downs, branch_at, branch_by, branch_of, b
 use Rattle.plant_model.specs.Laws.{IsCodec}
 use Rattle.plant_laws.specs.Transcript.{Leg, pinned, domains}
 use Rattle.plant_laws.specs.Ends.{End, Inside, Asked, goal_of}
-use Rattle.plant_laws.specs.Shown.{Shows}
+use Rattle.plant_laws.specs.Shown.{ShowsAlong}
 use Rattle.plant_laws.specs.About.{IsLeastAlong, HasNoneAlong, IsLeastPath}
 use Rattle.border_costs.proofs.Members.{contains_none, contains_head, contains_tail, contains_cases}
 use Rattle.plant_laws.proofs.Queues.{same_as_is}
@@ -82,7 +82,7 @@ branch_made c m cost units le e hs rest is =
     ∙ ap (λ (b : Bool). cond b (record { entry = e; cost = cost; hops = hs } ∷ []) []) (le-leb cost COST_MAX le)
 
 -- what is shown begins with the entry
-pub shown_head : (n : NetworkParts) (q : Query) (end : End) (chain : List Leg) (e : Addr) (hs : List Hop) (legs : List Part) (last : Last) → Shows n false q end chain e hs legs last →
+pub shown_head : (n : NetworkParts) (q : Query) (end : End) (chain : List Leg) (e : Addr) (hs : List Hop) (legs : List Part) (last : Last) → ShowsAlong n false q end chain e hs legs last →
     (rest : List Hop) × (hs ≡ strict_hop e ∷ rest)
 shown_head n q end [] e hs legs last s = absurd s
 shown_head n q (Inside t) (one ∷ []) e hs [] (Links last) s = (_, s.is_hops ∙ ap (λ (p : List Hop). p ++ strict_hop t ∷ []) s.is_part.3)

@@ -28,7 +28,7 @@ use Rattle.plant_model.specs.Settings.{place}
 use Rattle.plant_model.specs.Plant.{Segment}
 use Rattle.plant_laws.specs.Transcript.{Leg, pinned, domains, keys_at}
 use Rattle.plant_laws.specs.Ends.{End, Inside, Asked, goal_of}
-use Rattle.plant_laws.specs.Shown.{IsChosenTo, Shows}
+use Rattle.plant_laws.specs.Shown.{IsChosenTo, ShowsAlong}
 use Rattle.plant_laws.proofs.BestParts.{EndsIn, GoesOn, row_of_branch}
 use Rattle.plant_laws.proofs.Told.{FromPath}
 use Rattle.pcep_subobjects.specs.Hops.{strict_hop}
@@ -39,8 +39,8 @@ pub record IsWay (n : NetworkParts) (q : Query) (end : End) (t : Addr) (one : Le
   pub last : Last
   pub least : IsLeastCrossing q (pinned one.own one.at) (domains chain) b.entry (goal_of end) legs last
   pub sum : b.cost ≡ crossing_cost q legs last
-  pub opened : Shows n true q end (one ∷ chain) b.entry (open_branch b down) legs last
-  pub closed : (key : Issued Segment) → Contains (keys_at one.solved) key → key.segment ≡ b.segment → Shows n false q end (one ∷ chain) b.entry (closed_branch key.number (place n one.own).id t b down) legs last
+  pub opened : ShowsAlong n true q end (one ∷ chain) b.entry (open_branch b down) legs last
+  pub closed : (key : Issued Segment) → Contains (keys_at one.solved) key → key.segment ≡ b.segment → ShowsAlong n false q end (one ∷ chain) b.entry (closed_branch key.number (place n one.own).id t b down) legs last
 
 -- a walk of the least cost is least
 walk_least : (q : Query) (g : Rows) (rest : List Rows) (s : Addr) (goal : Goal) (c : ℕ) (legs : List Part) (last : Last) → IsLeastCost q g rest s goal c → CrossingWalk q g rest s goal legs last →
@@ -161,8 +161,8 @@ module _ (n : NetworkParts) (w : Wanted) (one : Leg) (own : w.query ≡ query_in
         let sum : b.cost ≡ crossing_cost q (leg ∷ f.least.legs) f.least.last = omega (arith, part.sum, part.below.cost, told) in
         let chosen : IsChosenTo g (query_in q one.own) (Next next.own) (downs down) b.entry part.out.link.far part.links =
         subst (λ (x : Query). IsChosenTo g x (Next next.own) (downs down) b.entry part.out.link.far part.links) own part.chosen in
-        let shown : Shows n false q end (next ∷ chain) part.out.link.to f.path.hops f.least.legs f.least.last =
-        subst (λ (x : Addr). Shows n false q end (next ∷ chain) x f.path.hops f.least.legs f.least.last) head f.least.shown in
+        let shown : ShowsAlong n false q end (next ∷ chain) part.out.link.to f.path.hops f.least.legs f.least.last =
+        subst (λ (x : Addr). ShowsAlong n false q end (next ∷ chain) x f.path.hops f.least.legs f.least.last) head f.least.shown in
         let hops : onward b.exit b.head down ≡ strict_hop part.out.link.far ∷ f.path.hops =
         ap (λ (o : Option Addr). onward b.exit o down) part.head
         ∙ ap (λ (o : Option Branch). strict_hop b.exit ∷ hops_of o) part.below.first

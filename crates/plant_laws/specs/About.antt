@@ -34,9 +34,9 @@ use Rattle.plant_model.specs.Settings.{place, family}
 use Rattle.path_keys.specs.declared.issued.Issued.{Issued}
 use Rattle.plant_model.specs.State.{Takes, Solves}
 use Rattle.plant_model.specs.Plant.{PlantDeed, Segment}
-use Rattle.plant_laws.specs.Transcript.{Transcript, Within, opened, Delivered, Handed, SentIn, Leg, Chain, numbers, outputs_at, asks, Effect, effect, Ends}
+use Rattle.plant_laws.specs.Transcript.{Transcript, Within, opened, Delivered, Handed, SentIn, Leg, Chain, numbers, outputs_at, asks, effect, Ends}
 use Rattle.plant_laws.specs.Ends.{End, goal_of}
-use Rattle.plant_laws.specs.Shown.{Shows}
+use Rattle.plant_laws.specs.Shown.{ShowsAlong}
 use Rattle.dom_base.specs.declared.query.Metric.{Metric}
 use Rattle.pcep_messages.specs.declared.message.Answer.{Answer}
 use Rattle.vspt_tree.specs.declared.branch.Branch.{Branch}
@@ -142,7 +142,7 @@ pub record IsViaParent (c : Codec) (n : NetworkParts) (older now : Transcript) (
   pub every : (end : Errand) → Contains (errands n.parent_links asked.target (family n).children) end → HasReplied c now asking asked job.rows end
   pub solved : SolvesBorder job found
 
--- The first domain and the further ones of a chain, with a walk through them.
+-- The first domain and the further ones of a chain, with a walk through them. No chain is empty, and nothing is said of one that were.
 abbrev pub IsLeastAlong : Query → List Rows → Addr → Goal → List crossing.Leg → Last → Type 0
 IsLeastAlong q [] s goal legs last = ⊥
 IsLeastAlong q (g ∷ rest) s goal legs last = IsLeastCrossing q g rest s goal legs last
@@ -158,4 +158,4 @@ pub record IsLeastPath (c : Codec) (n : NetworkParts) (open' : Bool) (domains : 
   pub last : Last
   pub least : IsLeastAlong w.query domains from (goal_of end) legs last
   pub metric : path.metric ≡ Some (type_of_metric w.query.metric, c.word (crossing_cost w.query legs last))
-  pub shown : Shows n open' w.query end chain from path.hops legs last
+  pub shown : ShowsAlong n open' w.query end chain from path.hops legs last

@@ -1,6 +1,6 @@
 -- Each path request that is accepted is answered once: it is pending, or exactly one answer to it was put into the queue of its
 -- peer, or it was dropped without an answer, since its peer cancelled it or went down. Each answer has one request.
-use Rattle.std.specs.Prelude.{◌≡◌, ◌⊎◌, ◌≤◌, ℕ, true, List, [], ◌∷◌, Some, None}
+use Rattle.std.specs.Prelude.{◌≡◌, ◌≤◌, ℕ, true, List, [], ◌∷◌, Some, None}
 use Rattle.dom_base.specs.declared.names.As.{As}
 use Rattle.dom_base.specs.declared.names.Peer.{Peer}
 use Rattle.pcep_messages.specs.declared.message.Asked.{Asked}

@@ -1,26 +1,23 @@
 -- Why a request was answered that the chain is not available (NO-PATH of another nature than 0): on its way an element denied the step
 -- or had no open session with the next, or lost a session with another; or the parent refused IPv6 addresses, or had no open session with
 -- a child, or lost one.
-use Rattle.std.specs.Prelude.{◌≡◌, ◌≢◌, ◌⊎◌, ◌++◌, ℕ, Bool, true, false, List, [], ◌∷◌, Contains, Some}
+use Rattle.std.specs.Prelude.{◌≡◌, ◌≢◌, ◌⊎◌, ℕ, Bool, true, false, List, [], ◌∷◌, Contains, Some}
 use Rattle.dom_base.specs.declared.names.As.{As}
 use Rattle.dom_base.specs.declared.addr.Addr.{Addr}
 use Rattle.dom_base.specs.declared.names.Peer.{Peer}
 use Rattle.dom_base.specs.declared.names.Peer.TheVariants.{Inner}
 use Rattle.pcep_codes.specs.declared.errors.TheConstants as errors
 use Rattle.pcep_codes.specs.declared.kinds.TheConstants as object_types
-use Rattle.pcep_messages.specs.declared.message.Asked.{Asked}
 use Rattle.pcep_messages.specs.declared.message.ErrorReport.{ErrorReport}
 use Rattle.pcep_messages.specs.declared.message.Reply.{Reply}
-use Rattle.pcep_messages.specs.declared.message.Request.{Request}
 use Rattle.pcep_messages.specs.declared.message.Wanted.{Wanted}
-use Rattle.pcep_messages.specs.declared.message.Wish.TheVariants as wishes
 use Rattle.pcep_messages.specs.declared.message.Message.TheVariants as messages
 use Rattle.plant_text.specs.declared.settings.NetworkParts.{NetworkParts}
 use Rattle.plant_text.specs.Names.{parent_as}
 use Rattle.plant_text.specs.Settings.{children}
 use Rattle.plant_model.specs.declared.output.Output.{Output}
 use Rattle.plant_model.specs.Names.{the_parent}
-use Rattle.plant_model.specs.Wire.{Codec, Admitted}
+use Rattle.plant_model.specs.Wire.{Codec}
 use Rattle.plant_model.specs.Writing.{request_message, error_message, ends_kind, vspt_flag}
 use Rattle.plant_model.specs.Element.{way_to}
 use Rattle.plant_model.specs.Parent.{is_up}
@@ -28,31 +25,19 @@ use Rattle.plant_model.specs.State.{Takes, Downs}
 use Rattle.plant_model.specs.Plant.{Plant, PlantDeed, Entry, Run, deeds_of}
 use Rattle.plant_laws.specs.Transcript.{Transcript, Within, opened, SentIn, outputs_at}
 use Rattle.plant_laws.specs.Errors.{AsksForIpv6}
+use Rattle.plant_laws.specs.Met.{RunOf, run_of, TakesPathRequest}
 use Rattle.plant_laws.specs.Matched.{IsReplyTo}
 use Rattle.plant_laws.specs.MessageCauses.{TellsOfPaths, GoesTo}
 use Rattle.plant_laws.specs.Runs.{InShortRuns}
 
 -- In this moment d took the path request x of p, and could send it nowhere: policy denies the step, or no session with the next is up.
-pub record IsStopped (c : Codec) (n : NetworkParts) (d : As) (p : Peer) (x : ℕ) (deed : PlantDeed) (older : Transcript) : Type 0 where
-  -- the state that the event met, and what else it did by then
-  pub entries : List Entry
-  pub before : Plant
-  pub run : Run c n entries before
-  pub earlier : Transcript
-  pub is_then : older ≡ earlier ++ deeds_of c n entries
-  pub asked : Asked
-  pub os : List Output
-  pub takes : deed ≡ Takes d p (messages.PcReq (asked ∷ [])) os
-  pub request : Request
-  pub admitted : c.check asked d ≡ Admitted request
-  pub id : request.id ≡ x
-  pub wanted : Wanted
-  pub for_path : request.wish ≡ wishes.Path wanted
+pub record IsStopped (c : Codec) (n : NetworkParts) (this : RunOf c n) (d : As) (p : Peer) (x : ℕ) (deed : PlantDeed) (older : Transcript) : Type 0 where
+  pub taking : TakesPathRequest c n this d p x deed older
   pub next : Peer
   pub rest : List As
   pub denied : Bool
-  pub goes : GoesTo n d p wanted next rest denied
-  pub stops : (denied ≡ true) ⊎ (is_up (way_to next (before.elements d).ways) ≡ false)
+  pub goes : GoesTo n d p taking.wanted next rest denied
+  pub stops : (denied ≡ true) ⊎ (is_up (way_to next (taking.before.elements d).ways) ≡ false)
 
 -- The request x of p is open, and in the moment that delivered it d sent it on to this peer under the id y.
 pub record WentOn (c : Codec) (older : Transcript) (d : As) (p : Peer) (x : ℕ) (on : Peer) (y : ℕ) : Type 0 where
@@ -63,21 +48,11 @@ pub record WentOn (c : Codec) (older : Transcript) (d : As) (p : Peer) (x : ℕ)
   pub sent : SentIn at d on (request_message y wanted wanted.target rest)
 
 -- In this moment the parent took the path request x of p, and asked no child: the session of one is not up.
-pub record IsStoppedAbove (c : Codec) (n : NetworkParts) (p : Peer) (x : ℕ) (deed : PlantDeed) (older : Transcript) : Type 0 where
-  pub entries : List Entry
-  pub before : Plant
-  pub run : Run c n entries before
-  pub earlier : Transcript
-  pub is_then : older ≡ earlier ++ deeds_of c n entries
-  pub asked : Asked
-  pub os : List Output
-  pub takes : deed ≡ Takes parent_as p (messages.PcReq (asked ∷ [])) os
-  pub request : Request
-  pub admitted : c.check asked parent_as ≡ Admitted request
-  pub id : request.id ≡ x
+pub record IsStoppedAbove (c : Codec) (n : NetworkParts) (this : RunOf c n) (p : Peer) (x : ℕ) (deed : PlantDeed) (older : Transcript) : Type 0 where
+  pub taking : TakesPathRequest c n this parent_as p x deed older
   pub child : As
   pub is_child : Contains (children n) child
-  pub down : is_up (way_to (Inner child) before.parent.ways) ≡ false
+  pub down : is_up (way_to (Inner child) taking.before.parent.ways) ≡ false
 
 -- The request x of p is open at the parent, and in the moment that delivered it the parent asked a child under the id y. The child said
 -- this reply.
@@ -102,28 +77,28 @@ pub record IsRefusedAbove (older : Transcript) (d : As) (id : ℕ) (reports : Li
   pub names : messages.PcErr reports ≡ error_message (Some (vspt_flag, id)) errors.KIND_NOT_SERVED.0 errors.KIND_NOT_SERVED.1
 
 -- why d told p in a moment that no chain is available for its request x
-pub data Breaks (c : Codec) (n : NetworkParts) : As → Peer → ℕ → PlantDeed → Transcript → Type 0 where
-  stopped : (d : As) (p : Peer) (x : ℕ) (deed : PlantDeed) (older : Transcript) → IsStopped c n d p x deed older → Breaks c n d p x deed older
+pub data Breaks (c : Codec) (n : NetworkParts) (this : RunOf c n) : As → Peer → ℕ → PlantDeed → Transcript → Type 0 where
+  stopped : (d : As) (p : Peer) (x : ℕ) (deed : PlantDeed) (older : Transcript) → IsStopped c n this d p x deed older → Breaks c n this d p x deed older
   -- the session with another element, or the parent, went down while the request was open
-  lost : (d : As) (p : Peer) (x : ℕ) (older at : Transcript) (b : As) (os : List Output) → p ≢ Inner b → opened c d p x older ≡ Some at → Breaks c n d p x (Downs d (Inner b) os) older
+  lost : (d : As) (p : Peer) (x : ℕ) (older at : Transcript) (b : As) (os : List Output) → p ≢ Inner b → opened c d p x older ≡ Some at → Breaks c n this d p x (Downs d (Inner b) os) older
   -- the parent, to which it went on, refused it: its ends are IPv6 addresses
   refused : (d : As) (p : Peer) (x : ℕ) (older : Transcript) (id : ℕ) (reports : List ErrorReport) (os : List Output) → (went : WentOn c older d p x the_parent id) →
       ends_kind went.wanted.source went.wanted.target ≡ object_types.END_POINTS_IPV6 → IsRefusedAbove older d id reports →
-      Breaks c n d p x (Takes d the_parent (messages.PcErr reports) os) older
+      Breaks c n this d p x (Takes d the_parent (messages.PcErr reports) os) older
   -- the next domain, or the parent, to which it went on, said so of that request, for a reason of its own
   further : (d b : As) (p : Peer) (x : ℕ) (older : Transcript) (r : Reply) (os : List Output) → ¬ TellsOfPaths r.answer → (went : WentOn c older d p x (Inner b) r.id) (said : IsReplyTo c older d b r) → said.concerns.sending ≡ went.at →
-      Breaks c n b (Inner d) r.id said.deed said.older → Breaks c n d p x (Takes d (Inner b) (messages.PcRep (r ∷ [])) os) older
+      Breaks c n this b (Inner d) r.id said.deed said.older → Breaks c n this d p x (Takes d (Inner b) (messages.PcRep (r ∷ [])) os) older
   -- at the parent: the session of a child was not up
-  stopped_above : (p : Peer) (x : ℕ) (deed : PlantDeed) (older : Transcript) → IsStoppedAbove c n p x deed older → Breaks c n parent_as p x deed older
+  stopped_above : (p : Peer) (x : ℕ) (deed : PlantDeed) (older : Transcript) → IsStoppedAbove c n this p x deed older → Breaks c n this parent_as p x deed older
   -- or a child said so, for a reason of its own
-  of_child : (b : As) (p : Peer) (x : ℕ) (older : Transcript) (r : Reply) (os : List Output) → ¬ TellsOfPaths r.answer → (went : WentDown c older p x b r) → Breaks c n b the_parent r.id went.deed went.before →
-      Breaks c n parent_as p x (Takes parent_as (Inner b) (messages.PcRep (r ∷ [])) os) older
+  of_child : (b : As) (p : Peer) (x : ℕ) (older : Transcript) (r : Reply) (os : List Output) → ¬ TellsOfPaths r.answer → (went : WentDown c older p x b r) → Breaks c n this b the_parent r.id went.deed went.before →
+      Breaks c n this parent_as p x (Takes parent_as (Inner b) (messages.PcRep (r ∷ [])) os) older
 
 -- In every run each such reply of an element, or the parent, has a reason.
 abbrev pub BrokenForReasonsIn : Codec → NetworkParts → List Entry → Plant → Type 0
 BrokenForReasonsIn c n es s =
-    (d : As) (p : Peer) (r : Reply) (deed : PlantDeed) (older : Transcript) → Within (deed ∷ older) (deeds_of c n es) →
-    Contains (outputs_at d deed) (record { to = p; message = messages.PcRep (r ∷ []) }) → ¬ TellsOfPaths r.answer → Breaks c n d p r.id deed older
+    (run : Run c n es s) (d : As) (p : Peer) (r : Reply) (deed : PlantDeed) (older : Transcript) → Within (deed ∷ older) (deeds_of c n es) →
+    Contains (outputs_at d deed) (record { to = p; message = messages.PcRep (r ∷ []) }) → ¬ TellsOfPaths r.answer → Breaks c n (run_of c n es s run) d p r.id deed older
 
 abbrev pub BrokenForReasons : Type 0
 BrokenForReasons = InShortRuns BrokenForReasonsIn

@@ -25,7 +25,7 @@ use Rattle.plant_model.specs.Element.{Waits, Row}
 use Rattle.plant_model.specs.Element as element
 use Rattle.plant_model.specs.Parent.{Wait, AskingRow}
 use Rattle.plant_model.specs.Parent as parent
-use Rattle.plant_model.specs.State.{Connection, Loads, Pops, Takes, Says, Ups, Downs, Clears, Solves, Expires, Hands}
+use Rattle.plant_model.specs.State.{Connection, Takes, Says, Downs, Clears, Solves}
 use Rattle.plant_model.specs.Deeds.{our_offer, own_message, element_of, any_fall, input_of}
 use Rattle.plant_model.specs.Events.{later}
 use Rattle.plant_model.specs.Plant.{Pin, Plant, PlantDeed, Happened, Entry, Run, Steps, opened}
@@ -110,12 +110,7 @@ module _ (c : Codec) (n : NetworkParts) (before : Plant) (e : Event) where
       (AnswersLost (IsLost p) asker_of (left_rows at (before.elements at).pending.rows earlier) os)
   HasCause earlier (Says at o) = OfSession earlier at o
   HasCause earlier (Solves at k os keys) = OfSolve (Solves at k os keys)
-  HasCause earlier (Loads at g) = Unit {0}
-  HasCause earlier (Pops a b) = Unit {0}
-  HasCause earlier (Ups at p) = Unit {0}
-  HasCause earlier (Clears a b) = Unit {0}
-  HasCause earlier (Expires now) = Unit {0}
-  HasCause earlier (Hands i bytes) = Unit {0}
+  HasCause earlier deed = Unit {0}
 
   abbrev pub HaveCauses : Transcript → Type 0
   HaveCauses [] = Unit {0}

@@ -48,7 +48,7 @@ pub record IsAnswered (c : Codec) (older : Transcript) (d : As) (at : Transcript
   pub tells : Tells reply.answer paths
   pub is : down ≡ branches_in c w.query.metric paths
 
--- What the next domain told of a request, by its sequence: nothing is asked in the last domain.
+-- What the next domain told of a request, by its sequence: nothing is asked in the last domain. No sequence is empty.
 abbrev pub IsServed : Codec → Transcript → As → Transcript → Wanted → List As → List Branch → Type 0
 IsServed c older d at w [] down = ⊥
 IsServed c older d at w (a ∷ []) down = down ≡ []

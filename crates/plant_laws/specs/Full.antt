@@ -1,57 +1,40 @@
 -- Why a request was answered that there is no room (PCNtf 1/2): on its way a table was full, or a solve needs more keys than are free.
-use Rattle.std.specs.Prelude.{◌≡◌, ◌≢◌, ◌<◌, ◌++◌, ℕ, cond, List, [], ◌∷◌, length, Contains, Some}
+use Rattle.std.specs.Prelude.{◌≡◌, ◌≢◌, ◌<◌, false, ℕ, cond, List, [], ◌∷◌, length, Contains, Some}
 use Rattle.dom_base.specs.declared.names.As.{As}
 use Rattle.dom_base.specs.declared.addr.Addr.{Addr}
 use Rattle.dom_base.specs.declared.names.Peer.{Peer}
 use Rattle.dom_base.specs.declared.names.Peer.TheVariants.{Inner}
-use Rattle.pcep_messages.specs.declared.message.Asked.{Asked}
-use Rattle.pcep_messages.specs.declared.message.Request.{Request}
 use Rattle.pcep_messages.specs.declared.message.Wanted.{Wanted}
-use Rattle.pcep_messages.specs.declared.message.Wish.TheVariants as wishes
-use Rattle.pcep_messages.specs.declared.message.Message.TheVariants as messages
 use Rattle.request_table.specs.Pending.{IsFull}
 use Rattle.plant_text.specs.declared.settings.NetworkParts.{NetworkParts}
 use Rattle.plant_text.specs.Names.{same_as, parent_as}
 use Rattle.plant_model.specs.declared.output.Output.{Output}
-use Rattle.plant_model.specs.Wire.{Codec, Admitted}
+use Rattle.plant_model.specs.Wire.{Codec}
 use Rattle.plant_model.specs.Writing.{request_message, busy}
+use Rattle.plant_model.specs.Element.{is_client}
 use Rattle.plant_model.specs.Solving.{free}
 use Rattle.plant_model.specs.State.{Takes}
 use Rattle.plant_model.specs.Plant.{Plant, PlantDeed, Entry, Run, deeds_of}
 use Rattle.plant_laws.specs.Transcript.{Transcript, Within, opened, SentIn, outputs_at}
 use Rattle.plant_laws.specs.Matched.{Answering}
+use Rattle.plant_laws.specs.Met.{RunOf, run_of, Meets, TakesPathRequest}
 use Rattle.plant_laws.specs.Solves.{ElementTells}
 use Rattle.plant_laws.specs.Runs.{InShortRuns}
 
 -- In this moment d took the path request x of p, and its table was full.
-pub record IsCrowded (c : Codec) (n : NetworkParts) (d : As) (p : Peer) (x : ℕ) (deed : PlantDeed) (older : Transcript) : Type 0 where
-  -- the state that the event met, and what else it did by then
-  pub entries : List Entry
-  pub before : Plant
-  pub run : Run c n entries before
-  pub earlier : Transcript
-  pub is_then : older ≡ earlier ++ deeds_of c n entries
-  pub asked : Asked
-  pub os : List Output
-  pub takes : deed ≡ Takes d p (messages.PcReq (asked ∷ [])) os
-  pub request : Request
-  pub admitted : c.check asked d ≡ Admitted request
-  pub id : request.id ≡ x
-  pub wanted : Wanted
-  pub for_path : request.wish ≡ wishes.Path wanted
-  pub full : cond (same_as d parent_as) (IsFull before.parent.pending) (IsFull (before.elements d).pending)
+pub record IsCrowded (c : Codec) (n : NetworkParts) (this : RunOf c n) (d : As) (p : Peer) (x : ℕ) (deed : PlantDeed) (older : Transcript) : Type 0 where
+  pub taking : TakesPathRequest c n this d p x deed older
+  pub full : cond (same_as d parent_as) (IsFull taking.before.parent.pending) (IsFull (taking.before.elements d).pending)
 
--- In this moment d solved the request x of p, and has fewer keys free than best rows to tell.
-pub record LacksKeys (c : Codec) (n : NetworkParts) (d : As) (p : Peer) (x : ℕ) (deed : PlantDeed) (older : Transcript) : Type 0 where
-  pub entries : List Entry
+-- In this moment d solved the request x of p, who is no client, and has fewer keys free than best rows to tell.
+pub record LacksKeys (c : Codec) (n : NetworkParts) (this : RunOf c n) (d : As) (p : Peer) (x : ℕ) (deed : PlantDeed) (older : Transcript) : Type 0 where
   pub before : Plant
-  pub run : Run c n entries before
-  pub earlier : Transcript
-  pub is_then : older ≡ earlier ++ deeds_of c n entries
+  pub meets : Meets c n this.entries this.state this.run deed older before
   pub number : ℕ
   pub tells : ElementTells c n before d number (deed ∷ [])
   pub peer : tells.held.key.peer ≡ p
   pub id : tells.held.key.id ≡ x
+  pub closed : is_client tells.held.item.class ≡ false
   pub few : free before.clock (before.elements d).keys < length tells.rows.best
 
 -- The request x of p is open, in the moment that delivered it d asked b under an id, and b said that for this id there is no room: of an
@@ -72,16 +55,17 @@ pub record HearsFull (c : Codec) (older : Transcript) (d : As) (p : Peer) (x : �
   pub answering : d ≢ parent_as → Answering c d b id at deed before
 
 -- why d told p in a moment that there is no room for its request x
-pub data Fills (c : Codec) (n : NetworkParts) : As → Peer → ℕ → PlantDeed → Transcript → Type 0 where
-  crowded : (d : As) (p : Peer) (x : ℕ) (deed : PlantDeed) (older : Transcript) → IsCrowded c n d p x deed older → Fills c n d p x deed older
-  lacks : (d : As) (p : Peer) (x : ℕ) (deed : PlantDeed) (older : Transcript) → LacksKeys c n d p x deed older → Fills c n d p x deed older
+pub data Fills (c : Codec) (n : NetworkParts) (this : RunOf c n) : As → Peer → ℕ → PlantDeed → Transcript → Type 0 where
+  crowded : (d : As) (p : Peer) (x : ℕ) (deed : PlantDeed) (older : Transcript) → IsCrowded c n this d p x deed older → Fills c n this d p x deed older
+  lacks : (d : As) (p : Peer) (x : ℕ) (deed : PlantDeed) (older : Transcript) → LacksKeys c n this d p x deed older → Fills c n this d p x deed older
   -- the next said so of what it was asked, for a reason of its own
-  further_full : (d b : As) (p : Peer) (x : ℕ) (older : Transcript) (os : List Output) (hears : HearsFull c older d p x b) → Fills c n b (Inner d) hears.id hears.deed hears.before → Fills c n d p x (Takes d (Inner b) (busy hears.flags hears.id) os) older
+  further_full : (d b : As) (p : Peer) (x : ℕ) (older : Transcript) (os : List Output) (hears : HearsFull c older d p x b) → Fills c n this b (Inner d) hears.id hears.deed hears.before → Fills c n this d p x (Takes d (Inner b) (busy hears.flags hears.id) os) older
 
 -- In every run each such notice of an element, or the parent, has a reason.
 abbrev pub FullForReasonsIn : Codec → NetworkParts → List Entry → Plant → Type 0
 FullForReasonsIn c n es s =
-    (d : As) (p : Peer) (x flags : ℕ) (deed : PlantDeed) (older : Transcript) → Within (deed ∷ older) (deeds_of c n es) → Contains (outputs_at d deed) (record { to = p; message = busy flags x }) → Fills c n d p x deed older
+    (run : Run c n es s) (d : As) (p : Peer) (x flags : ℕ) (deed : PlantDeed) (older : Transcript) → Within (deed ∷ older) (deeds_of c n es) →
+    Contains (outputs_at d deed) (record { to = p; message = busy flags x }) → Fills c n (run_of c n es s run) d p x deed older
 
 abbrev pub FullForReasons : Type 0
 FullForReasons = InShortRuns FullForReasonsIn

@@ -5,7 +5,7 @@ use Rattle.std.specs.Prelude.{◌≡◌, ◌≢◌, ℕ, List, ◌∷◌, [], Co
 use Rattle.dom_base.specs.declared.names.As.{As}
 use Rattle.dom_base.specs.declared.addr.Addr.{Addr}
 use Rattle.dom_base.specs.declared.names.Peer.{Peer}
-use Rattle.dom_base.specs.declared.names.Peer.TheVariants.{Inner}
+use Rattle.dom_base.specs.declared.names.Peer.TheVariants.{Outside, Inner}
 use Rattle.pcep_codes.specs.declared.kinds.TheConstants as object_types
 use Rattle.pcep_messages.specs.declared.message.Message.TheVariants as messages
 use Rattle.pcep_messages.specs.declared.message.Reply.{Reply}
@@ -15,30 +15,34 @@ use Rattle.plant_text.specs.Names.{parent_as}
 use Rattle.plant_model.specs.declared.output.Output.{Output}
 use Rattle.plant_model.specs.Names.{the_parent}
 use Rattle.plant_model.specs.Wire.{Codec}
+use Rattle.plant_model.specs.RealWire.{wire}
+use Rattle.plant_model.specs.Laws.{IsNetwork}
 use Rattle.plant_model.specs.Writing.{request_message, busy, ends_kind}
 use Rattle.plant_model.specs.State.{Takes, Downs}
-use Rattle.plant_model.specs.Plant.{Plant, PlantDeed, Entry, deeds_of}
+use Rattle.plant_model.specs.Plant.{Plant, PlantDeed, Entry, Run, deeds_of}
+use Rattle.plant_laws.specs.About.{IsShort}
 use Rattle.plant_laws.specs.Transcript.{Transcript, Within, opened, Handed, SentIn, outputs_at}
 use Rattle.plant_laws.specs.Chains.{IsQuiet}
 use Rattle.plant_laws.specs.Answered.{IsEnd, DropsFor, answers_of}
 use Rattle.plant_laws.specs.MessageCauses.{TellsOfPaths}
+use Rattle.plant_laws.specs.Met.{RunOf, run_of}
 use Rattle.plant_laws.specs.Broken.{IsStopped, IsStoppedAbove}
 use Rattle.plant_laws.specs.Full.{IsCrowded, LacksKeys}
 use Rattle.plant_laws.specs.Runs.{InShortRuns}
 
--- The way of the request x of p, which d accepted in a moment: who took it, from whom and under which id, and the moment that delivered
--- it there.
-pub data IsOnWay (d : As) (p : Peer) (x : ℕ) (at : Transcript) : As → Peer → ℕ → Transcript → Type 0 where
-  first : IsOnWay d p x at d p x at
-  next : (a b : As) (q : Peer) (y z : ℕ) (sending taken : Transcript) (w : Wanted) (t : Addr) (rest : List As) → IsOnWay d p x at a q y sending →
-      SentIn sending a (Inner b) (request_message z w t rest) → Handed a b sending taken → IsOnWay d p x at b (Inner a) z taken
+-- The way of the request x of p, which d accepted in a moment: who took it, from whom and under which id, and the moment of the run that
+-- delivered it there.
+pub data IsOnWay (now : Transcript) (d : As) (p : Peer) (x : ℕ) (at : Transcript) : As → Peer → ℕ → Transcript → Type 0 where
+  first : IsOnWay now d p x at d p x at
+  next : (a b : As) (q : Peer) (y z : ℕ) (sending taken : Transcript) (w : Wanted) (t : Addr) (rest : List As) → IsOnWay now d p x at a q y sending →
+      SentIn sending a (Inner b) (request_message z w t rest) → Handed a b sending taken → Within taken now → IsOnWay now d p x at b (Inner a) z taken
 
 -- b, which took the request y of q in a moment, may send it on, and can
-pub record GoesWell (c : Codec) (n : NetworkParts) (now : Transcript) (b : As) (q : Peer) (y : ℕ) (taken : Transcript) : Type 0 where
+pub record GoesWell (c : Codec) (n : NetworkParts) (this : RunOf c n) (now : Transcript) (b : As) (q : Peer) (y : ℕ) (taken : Transcript) : Type 0 where
   -- policy allows the step, and the session with the next is up
-  pub allowed : (deed : PlantDeed) (older : Transcript) → taken ≡ deed ∷ older → ¬ IsStopped c n b q y deed older
+  pub allowed : (deed : PlantDeed) (older : Transcript) → taken ≡ deed ∷ older → ¬ IsStopped c n this b q y deed older
   -- at the parent the session with each child is up
-  pub allowed_above : (deed : PlantDeed) (older : Transcript) → taken ≡ deed ∷ older → b ≡ parent_as → ¬ IsStoppedAbove c n q y deed older
+  pub allowed_above : (deed : PlantDeed) (older : Transcript) → taken ≡ deed ∷ older → b ≡ parent_as → ¬ IsStoppedAbove c n this q y deed older
   -- where the parent is asked, it is asked of IPv4 addresses
   pub ipv4 : (z : ℕ) (w : Wanted) (rest : List As) → SentIn taken b the_parent (request_message z w w.target rest) → ends_kind w.source w.target ≡ object_types.FIRST
   -- and each child that it asks replies paths, or that there are none, and none says that there is no room
@@ -47,15 +51,15 @@ pub record GoesWell (c : Codec) (n : NetworkParts) (now : Transcript) (b : As) (
   pub children_room : (a : As) (w : Wanted) (t : Addr) (rest : List As) (flags id : ℕ) (os : List Output) (older : Transcript) → b ≡ parent_as → SentIn taken parent_as (Inner a) (request_message id w t rest) →
       ¬ Within (Takes parent_as (Inner a) (busy flags id) os ∷ older) now
   -- its table had room, and its solve finds keys enough
-  pub room : (deed : PlantDeed) (older : Transcript) → taken ≡ deed ∷ older → ¬ IsCrowded c n b q y deed older
-  pub keys : (deed : PlantDeed) (older : Transcript) → Within (deed ∷ older) now → opened c b q y older ≡ Some taken → ¬ LacksKeys c n b q y deed older
+  pub room : (deed : PlantDeed) (older : Transcript) → taken ≡ deed ∷ older → ¬ IsCrowded c n this b q y deed older
+  pub keys : (deed : PlantDeed) (older : Transcript) → Within (deed ∷ older) now → opened c b q y older ≡ Some taken → ¬ LacksKeys c n this b q y deed older
   -- no session with another element, or the parent, goes down from then on
   pub stays : (a : As) (os : List Output) (older : Transcript) → q ≢ Inner a → Within (Downs b (Inner a) os ∷ older) now → ¬ Within taken older
 
-pub record IsGood (c : Codec) (n : NetworkParts) (now : Transcript) (d : As) (p : Peer) (x : ℕ) (at : Transcript) : Type 0 where
+pub record IsGood (c : Codec) (n : NetworkParts) (this : RunOf c n) (now : Transcript) (d : As) (p : Peer) (x : ℕ) (at : Transcript) : Type 0 where
   -- its peer does not cancel it, and keeps its session
   pub kept : (deed : PlantDeed) (older : Transcript) → Within (deed ∷ older) now → Within at older → ¬ DropsFor d p x deed
-  pub way : (b : As) (q : Peer) (y : ℕ) (taken : Transcript) → IsOnWay d p x at b q y taken → GoesWell c n now b q y taken
+  pub way : (b : As) (q : Peer) (y : ℕ) (taken : Transcript) → IsOnWay now d p x at b q y taken → GoesWell c n this now b q y taken
 
 -- its one answer
 pub record IsWellServed (c : Codec) (now : Transcript) (d : As) (p : Peer) (x : ℕ) (at : Transcript) : Type 0 where
@@ -68,7 +72,29 @@ pub record IsWellServed (c : Codec) (now : Transcript) (d : As) (p : Peer) (x : 
 
 abbrev pub GoodRequestsAreServedIn : Codec → NetworkParts → List Entry → Plant → Type 0
 GoodRequestsAreServedIn c n es s =
-    IsQuiet s → (d : As) (p : Peer) (x : ℕ) (at : Transcript) → d ≢ parent_as → Within at (deeds_of c n es) → opened c d p x at ≡ Some at → IsGood c n (deeds_of c n es) d p x at → IsWellServed c (deeds_of c n es) d p x at
+    (run : Run c n es s) → IsQuiet s → (d : As) (p : Peer) (x : ℕ) (at : Transcript) → d ≢ parent_as → Within at (deeds_of c n es) → opened c d p x at ≡ Some at →
+    IsGood c n (run_of c n es s run) (deeds_of c n es) d p x at → IsWellServed c (deeds_of c n es) d p x at
 
 abbrev pub GoodRequestsAreServed : Type 0
 GoodRequestsAreServed = InShortRuns GoodRequestsAreServedIn
+
+-- There are good requests: a run over PCEP that ended quiet, in which a request of an outside peer is good that went on to a further
+-- domain.
+pub record HasGoodRequest : Type 0 where
+  pub n : NetworkParts
+  pub obeys : IsNetwork n
+  pub this : RunOf wire n
+  pub short : IsShort (deeds_of wire n this.entries)
+  pub quiet : IsQuiet this.state
+  pub d : As
+  pub real : d ≢ parent_as
+  pub i : ℕ
+  pub x : ℕ
+  pub at : Transcript
+  pub within : Within at (deeds_of wire n this.entries)
+  pub is_open : opened wire d (Outside i) x at ≡ Some at
+  pub good : IsGood wire n this (deeds_of wire n this.entries) d (Outside i) x at
+  pub b : As
+  pub y : ℕ
+  pub taken : Transcript
+  pub further : IsOnWay (deeds_of wire n this.entries) d (Outside i) x at b (Inner d) y taken

@@ -20,7 +20,7 @@ use Rattle.plant_model.specs.Wire.{Codec, Admitted}
 use Rattle.plant_model.specs.Writing.{reply_message, no_key}
 use Rattle.plant_text.specs.Settings.{class_of, life}
 use Rattle.plant_model.specs.Settings.{place}
-use Rattle.plant_model.specs.State.{Loads, Pops, Takes, Says, Ups, Downs, Clears, Solves, Expires, Hands}
+use Rattle.plant_model.specs.State.{Takes, Solves, Expires}
 use Rattle.plant_model.specs.Plant.{Plant, Entry, Run, deeds_of, Segment}
 use Rattle.plant_model.specs.Laws.{IsNetwork}
 use Rattle.plant_laws.specs.Transcript.{Transcript, Within, opened}
@@ -30,29 +30,13 @@ use Rattle.plant_laws.specs.Runs.{InShortRuns}
 abbrev pub clock_at : Transcript → ℕ
 clock_at [] = 0
 clock_at (Expires now ∷ older) = now
-clock_at (Loads at g ∷ older) = clock_at older
-clock_at (Pops a b ∷ older) = clock_at older
-clock_at (Takes at from m os ∷ older) = clock_at older
-clock_at (Says at o ∷ older) = clock_at older
-clock_at (Ups at p ∷ older) = clock_at older
-clock_at (Downs at p os ∷ older) = clock_at older
-clock_at (Clears a b ∷ older) = clock_at older
-clock_at (Solves at k os keys ∷ older) = clock_at older
-clock_at (Hands i bytes ∷ older) = clock_at older
+clock_at (e ∷ older) = clock_at older
 
 -- the keys of d after its last solve
 abbrev pub last_keys : As → Transcript → List (Issued Segment)
 last_keys d [] = []
 last_keys d (Solves at k os keys ∷ older) = cond (same_as at d) keys (last_keys d older)
-last_keys d (Loads at g ∷ older) = last_keys d older
-last_keys d (Pops a b ∷ older) = last_keys d older
-last_keys d (Takes at from m os ∷ older) = last_keys d older
-last_keys d (Says at o ∷ older) = last_keys d older
-last_keys d (Ups at p ∷ older) = last_keys d older
-last_keys d (Downs at p os ∷ older) = last_keys d older
-last_keys d (Clears a b ∷ older) = last_keys d older
-last_keys d (Expires now ∷ older) = last_keys d older
-last_keys d (Hands i bytes ∷ older) = last_keys d older
+last_keys d (e ∷ older) = last_keys d older
 
 -- The key is d's own, it is live, and the peer may have it expanded: it stands for this segment.
 pub record MaySee (n : NetworkParts) (older : Transcript) (d : As) (p : Peer) (key : ℕ) (pce : Addr) (segment : Segment) : Type 0 where

@@ -30,6 +30,7 @@ pub mod Steps
 pub mod MessageCauses
 pub mod Causes
 pub mod Errors
+pub mod Met
 pub mod Broken
 pub mod Full
 pub mod Served

@@ -217,10 +217,7 @@ parts (messages.PcReq asks) = map Asks asks
 parts (messages.PcRep replies) = map Replies replies
 parts (messages.PcNtf notices) = noted notices
 parts (messages.PcErr reports) = failed reports
-parts (messages.Open body) = []
-parts messages.Keepalive = []
-parts (messages.Close why) = []
-parts (messages.Other kind) = []
+parts m = []
 
 -- K is the state of an element, or of the parent, and left is what a message leaves of it.
 module _ (K : Type 0) (Waiting : K → ℕ → Asker → Type 0) (OnAsked : Asked → K → List Output → Type 0) (left : Message → K → K) (of_parent : Bool) (p : Peer) where

@@ -49,7 +49,7 @@ ending true t = []
 ending false t = strict_hop t ∷ []
 
 -- What the hops show of the last domain of a chain: its chosen segment, and then the target, or the far address of an out link and
--- the hops of the first least branch that was told of its head.
+-- the hops of the first least branch that was told of its head. A walk that ends otherwise than the goal says is not shown.
 abbrev pub ShowsLast : NetworkParts → Bool → Query → End → Leg → Addr → List Hop → Last → Type 0
 ShowsLast n open' q (Inside t) one e hs (Links last) = record {
   part : List Hop;
@@ -70,19 +70,20 @@ ShowsLast n open' q (Inside t) one e hs (Over l c) = ⊥
 ShowsLast n open' q (Asked next told) one e hs (Links last) = ⊥
 
 -- The hops show this walk along the chain, the first part open or closed, and the others closed. The part of each domain is the
--- chosen segment over the least costs of the rest.
-abbrev pub Shows : NetworkParts → Bool → Query → End → List Leg → Addr → List Hop → List crossing.Leg → Last → Type 0
-Shows n open' q end [] e hs legs last = ⊥
-Shows n open' q end (one ∷ []) e hs [] last = ShowsLast n open' q end one e hs last
-Shows n open' q end (one ∷ []) e hs (l ∷ ls) last = ⊥
-Shows n open' q end (one ∷ next ∷ rest) e hs [] last = ⊥
-Shows n open' q end (one ∷ next ∷ rest) e hs (l ∷ ls) last = record {
+-- chosen segment over the least costs of the rest. No chain is empty, and a walk crosses from each domain but the last to the next: of
+-- others nothing is shown.
+abbrev pub ShowsAlong : NetworkParts → Bool → Query → End → List Leg → Addr → List Hop → List crossing.Leg → Last → Type 0
+ShowsAlong n open' q end [] e hs legs last = ⊥
+ShowsAlong n open' q end (one ∷ []) e hs [] last = ShowsLast n open' q end one e hs last
+ShowsAlong n open' q end (one ∷ []) e hs (l ∷ ls) last = ⊥
+ShowsAlong n open' q end (one ∷ next ∷ rest) e hs [] last = ⊥
+ShowsAlong n open' q end (one ∷ next ∷ rest) e hs (l ∷ ls) last = record {
   part : List Hop;
   is_part : IsPart open' (keys_at one.solved) (place n one.own).id e l.links part;
   rows : List Down;
   right : AreBeyond q one.own (pinned next.own next.at) (domains rest) (goal_of end) (beyond rows);
   chosen : IsChosenTo (pinned one.own one.at) (query_in q one.own) (Next next.own) rows e l.out.link.far l.links;
   below : List Hop;
-  shown : Shows n false q end (next ∷ rest) l.out.link.to below ls last;
+  shown : ShowsAlong n false q end (next ∷ rest) l.out.link.to below ls last;
   is_hops : hs ≡ part ++ strict_hop l.out.link.far ∷ below;
 }

@@ -3,6 +3,7 @@
 use Rattle.std.specs.Prelude.{◌≡◌, ◌≢◌, ◌⊎◌, ◌≤◌, ◌<◌, ℕ, true, false, nat_eq, List, [], ◌∷◌, length, Option, Some, None, Ok}
 use Rattle.std.specs.Map.{lookup}
 use Rattle.dom_base.specs.declared.names.As.{As}
+use Rattle.pcep_codes.specs.declared.no_paths.TheConstants as no_paths
 use Rattle.pcep_messages.specs.declared.message.Message.{Message}
 use Rattle.pcep_messages.specs.declared.message.Answer.{Answer as Answered}
 use Rattle.pcep_messages.specs.declared.message.Answer.TheVariants.{Paths, NoPath}
@@ -46,7 +47,7 @@ pub data TellsClosed (c : Codec) (e : Place) (h : Row Pin) (down : List Branch) 
   branches : best ≢ [] → length best ≤ free now keys →
       m ≡ reply_to h (Paths (closed_paths c e.id h.1.item.wanted.query.metric h.1.item.wanted.target down keys.next best)) → TellsClosed c e h down now keys best m
   -- no entry has one
-  no_branch : best ≡ [] → m ≡ reply_to h (NoPath 0 0) → TellsClosed c e h down now keys best m
+  no_branch : best ≡ [] → m ≡ reply_to h (NoPath no_paths.NONE_FOUND 0) → TellsClosed c e h down now keys best m
   -- they need more keys than are free
   lacks_keys : free now keys < length best → m ≡ busy h.1.item.flags h.1.key.id → TellsClosed c e h down now keys best m
 
@@ -69,7 +70,7 @@ pub record ElementTells (c : Codec) (n : NetworkParts) (before : Plant) (d : As)
 -- the same at the parent, over its border graph
 pub data TellsUpper (c : Codec) (h : parent.AskingRow) (answer : Option Found) (m : Message) : Type 0 where
   found : (a : Found) → answer ≡ Some a → m ≡ reply_message h.1.item.flags h.1.key.id (Paths (path_of c h.1.item.wanted.query.metric a.cost a.hops ∷ [])) → TellsUpper c h answer m
-  no_walk : answer ≡ None → m ≡ reply_message h.1.item.flags h.1.key.id (NoPath 0 0) → TellsUpper c h answer m
+  no_walk : answer ≡ None → m ≡ reply_message h.1.item.flags h.1.key.id (NoPath no_paths.NONE_FOUND 0) → TellsUpper c h answer m
 
 pub record ParentTells (c : Codec) (n : NetworkParts) (before : Plant) (k : ℕ) (deeds : List PlantDeed) : Type 0 where
   pub held : Held parent.Asking

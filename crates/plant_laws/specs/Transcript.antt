@@ -22,7 +22,7 @@ use Rattle.plant_model.specs.Names.{has_pair}
 use Rattle.plant_model.specs.Wire.{Codec, Checked, Admitted, Wrong}
 use Rattle.path_keys.specs.declared.issued.Issued.{Issued}
 use Rattle.te_generations.specs.Live.{empty_rows}
-use Rattle.plant_model.specs.State.{Deed, Loads, Pops, Takes, Says, Ups, Downs, Clears, Solves, Expires, Hands}
+use Rattle.plant_model.specs.State.{Deed, Loads, Pops, Takes, Says, Downs, Clears, Solves}
 use Rattle.plant_model.specs.Plant.{Segment}
 
 -- A transcript has the newest deed first. A moment of it is one of its ends: a deed and all that was before.
@@ -37,29 +37,13 @@ Within m (e ∷ older) = (m ≡ e ∷ older) ⊎ Within m older
 abbrev pub loaded : As → Transcript → Rows
 loaded d [] = empty_rows d
 loaded d (Loads at g ∷ older) = cond (same_as at d) g (loaded d older)
-loaded d (Pops a b ∷ older) = loaded d older
-loaded d (Takes at from m os ∷ older) = loaded d older
-loaded d (Says at o ∷ older) = loaded d older
-loaded d (Ups at p ∷ older) = loaded d older
-loaded d (Downs at p os ∷ older) = loaded d older
-loaded d (Clears a b ∷ older) = loaded d older
-loaded d (Solves at k os keys ∷ older) = loaded d older
-loaded d (Expires now ∷ older) = loaded d older
-loaded d (Hands i bytes ∷ older) = loaded d older
+loaded d (e ∷ older) = loaded d older
 
 -- how often d loaded a topology
 abbrev pub loads : As → Transcript → ℕ
 loads d [] = 0
 loads d (Loads at g ∷ older) = cond (same_as at d) (suc (loads d older)) (loads d older)
-loads d (Pops a b ∷ older) = loads d older
-loads d (Takes at from m os ∷ older) = loads d older
-loads d (Says at o ∷ older) = loads d older
-loads d (Ups at p ∷ older) = loads d older
-loads d (Downs at p os ∷ older) = loads d older
-loads d (Clears a b ∷ older) = loads d older
-loads d (Solves at k os keys ∷ older) = loads d older
-loads d (Expires now ∷ older) = loads d older
-loads d (Hands i bytes ∷ older) = loads d older
+loads d (e ∷ older) = loads d older
 
 abbrev pub pinned : As → Transcript → Rows
 pinned d [] = empty_rows d
@@ -71,12 +55,7 @@ outputs_at d (Takes at from m os) = cond (same_as at d) os []
 outputs_at d (Says at o) = cond (same_as at d) (o ∷ []) []
 outputs_at d (Downs at p os) = cond (same_as at d) os []
 outputs_at d (Solves at k os keys) = cond (same_as at d) os []
-outputs_at d (Loads at g) = []
-outputs_at d (Pops a b) = []
-outputs_at d (Ups at p) = []
-outputs_at d (Clears a b) = []
-outputs_at d (Expires now) = []
-outputs_at d (Hands i bytes) = []
+outputs_at d e = []
 
 -- How often a message answers the request x of its receiver. An error that a request is unknown answers a reply.
 abbrev pub one_if : Bool → ℕ
@@ -103,11 +82,7 @@ abbrev pub count_answers : ℕ → Message → ℕ
 count_answers x (messages.PcRep replies) = count_replies x replies
 count_answers x (messages.PcNtf notices) = count_notices x notices
 count_answers x (messages.PcErr reports) = count_reports x reports
-count_answers x (messages.Open body) = 0
-count_answers x messages.Keepalive = 0
-count_answers x (messages.PcReq asks) = 0
-count_answers x (messages.Close why) = 0
-count_answers x (messages.Other kind) = 0
+count_answers x m = 0
 
 abbrev pub answers_to : Peer → ℕ → List Output → ℕ
 answers_to p x [] = 0
@@ -147,22 +122,13 @@ take_effect c d p x from (messages.PcReq asks) os = cond (same_peer from p) (ask
 take_effect c d p x from (messages.PcNtf notices) os = cond (cond (same_peer from p) (cancels x notices) false) Ends (ends_if (answers_to p x os))
 take_effect c d p x from (messages.PcRep replies) os = ends_if (answers_to p x os)
 take_effect c d p x from (messages.PcErr reports) os = ends_if (answers_to p x os)
-take_effect c d p x from (messages.Open body) os = Keeps
-take_effect c d p x from messages.Keepalive os = Keeps
-take_effect c d p x from (messages.Close why) os = Keeps
-take_effect c d p x from (messages.Other kind) os = Keeps
+take_effect c d p x from m os = Keeps
 
 abbrev pub effect : {S : Type 0} → Codec → As → Peer → ℕ → Deed S → Effect
 effect c d p x (Takes at from m os) = cond (same_as at d) (take_effect c d p x from m os) Keeps
 effect c d p x (Downs at q os) = cond (same_as at d) (cond (same_peer q p) Ends (ends_if (answers_to p x os))) Keeps
 effect c d p x (Solves at k os keys) = cond (same_as at d) (ends_if (answers_to p x os)) Keeps
-effect c d p x (Loads at g) = Keeps
-effect c d p x (Pops a b) = Keeps
-effect c d p x (Says at o) = Keeps
-effect c d p x (Ups at q) = Keeps
-effect c d p x (Clears a b) = Keeps
-effect c d p x (Expires now) = Keeps
-effect c d p x (Hands i bytes) = Keeps
+effect c d p x e = Keeps
 
 -- one that is open already does not begin again
 abbrev pub after : Effect → Option Transcript → Transcript → Option Transcript
@@ -176,7 +142,7 @@ abbrev pub opened : Codec → As → Peer → ℕ → Transcript → Option Tran
 opened c d p x [] = None
 opened c d p x (e ∷ older) = after (effect c d p x e) (opened c d p x older) (e ∷ older)
 
--- the moment delivered this request of p to d
+-- The moment delivered this request of p to d. A moment has a deed: the empty transcript delivers nothing.
 abbrev pub Delivered : Codec → Transcript → As → Peer → Request → Type 0
 Delivered c [] d p r = ⊥
 Delivered c (e ∷ older) d p r = (a : Asked) × (os : List Output) × (e ≡ Takes d p (messages.PcReq (a ∷ [])) os) × (c.check a d ≡ Admitted r)
@@ -205,21 +171,15 @@ tail_of (x ∷ xs) = xs
 abbrev pub left_of : {A : Type 0} {S : Type 0} → Deed S → As → As → List A → List A
 left_of (Pops from to) a b xs = cond (same_as from a) (cond (same_as to b) (tail_of xs) xs) xs
 left_of (Clears one other) a b xs = cond (same_link one other a b) [] xs
-left_of (Loads at g) a b xs = xs
-left_of (Takes at from m os) a b xs = xs
-left_of (Says at o) a b xs = xs
-left_of (Ups at p) a b xs = xs
-left_of (Downs at p os) a b xs = xs
-left_of (Solves at k os keys) a b xs = xs
-left_of (Expires now) a b xs = xs
-left_of (Hands i bytes) a b xs = xs
+left_of e a b xs = xs
 
 -- what stands in the queue from a to b: what was put there since the link last broke and was not taken, in order
 abbrev pub standing : As → As → Transcript → List Standing
 standing a b [] = []
 standing a b (e ∷ older) = left_of e a b (standing a b older) ++ standing_of (e ∷ older) (put_into b (outputs_at a e))
 
--- the moment n delivered to b the very request that a put into its queue in the moment m
+-- The moment n delivered to b the very request that a put into its queue in the moment m: it was popped and then taken, so there are
+-- two deeds.
 abbrev pub Handed : As → As → Transcript → Transcript → Type 0
 Handed a b m [] = ⊥
 Handed a b m (e ∷ []) = ⊥
@@ -227,7 +187,7 @@ Handed a b m (e ∷ f ∷ older) =
     (asks : List Asked) × (os : List Output) × (rest : List Standing) × (e ≡ Takes b (Inner a) (messages.PcReq asks) os) × (f ≡ Pops a b)
     × (standing a b older ≡ record { message = messages.PcReq asks; put = m } ∷ rest)
 
--- the element sent this message in the moment
+-- the element sent this message in the moment, by its deed
 abbrev pub SentIn : Transcript → As → Peer → Message → Type 0
 SentIn [] d p m = ⊥
 SentIn (e ∷ older) d p m = Contains (outputs_at d e) (record { to = p; message = m })
@@ -238,7 +198,7 @@ pub record Leg : Type 0 where
   pub at : Transcript
   pub solved : Transcript
 
--- each leg's request is the one that the leg before it sent on
+-- Each leg's request is the one that the leg before it sent on. A chain has a leg.
 abbrev pub Chain : Transcript → List Leg → Type 0
 Chain now [] = ⊥
 Chain now (one ∷ []) = Within one.at now × Within one.solved now

@@ -11,7 +11,7 @@ ghost use Rattle.plant_laws.specs.Chains.{OneChain, OneChainIn, QuietIsAnswered,
 ghost use Rattle.plant_laws.specs.Counted.{ElementIdsDiffer, IdsCount};
 ghost use Rattle.plant_laws.specs.Errors.{InnerErrors};
 ghost use Rattle.plant_laws.specs.Full.{FullForReasons};
-ghost use Rattle.plant_laws.specs.Good.{GoodRequestsAreServed};
+ghost use Rattle.plant_laws.specs.Good.{GoodRequestsAreServed, HasGoodRequest};
 ghost use Rattle.plant_laws.specs.Headline.{LeastAnswers, LeastAnswersIn, NoneAnswers, NoneAnswersIn};
 ghost use Rattle.plant_laws.specs.Issuing.{ExpandedAreIssued, KeysAreIssued, ToldKeysLast};
 ghost use Rattle.plant_laws.specs.Keys.{ExpandsRightly, ExpandsRightlyIn, KeysDiffer};
@@ -268,6 +268,12 @@ pub fn requests_are_served()
 /// it had its one answer: paths, or that there are none.
 pub fn good_requests_are_served()
     ensures { GoodRequestsAreServed }
+{}
+
+/// There are such requests: all that is asked of one holds together in a run over PCEP, in which a client's request goes
+/// through two domains.
+pub fn good_requests_exist()
+    ensures { HasGoodRequest }
 {}
 
 // ---- over PCEP
