@@ -33,7 +33,7 @@ use Rattle.plant_network.specs.plant_hierarchy.Tiers.{Become, Tiers, lost_in, me
 use Rattle.plant_network.specs.plant_hierarchy.Tiers as tiers
 use Rattle.plant_network.specs.plant_hierarchy.declared.plan.MemberPlan.{MemberPlan}
 use Rattle.plant_network.proofs.AnswerLemmas.{element_answer, parent_answer}
-use Rattle.plant_network.specs.Moving.{IsKept}
+use Rattle.plant_network.specs.plant_deeds.Moving.{IsKept}
 use Rattle.blind_plant.specs.Held.{IsSound, Moves, held, standing, whole}
 
 abbrev Members : Type 0

@@ -7,7 +7,7 @@ use Rattle.plant_network.specs.plant_traffic.Carried.{Carried, flow_of}
 use Rattle.plant_network.specs.plant_deeds.Standing.{Here, here}
 use Rattle.plant_network.specs.plant_hierarchy.Tiers.{lost_in}
 use Rattle.plant_network.specs.plant_hierarchy.Topologies.{Tiers, members_of}
-use Rattle.plant_network.specs.Moving as network
+use Rattle.plant_network.specs.plant_deeds.Moving as network
 use Rattle.pce_plant.specs.Whole.{Whole}
 
 pub record Held : Type 0 where
