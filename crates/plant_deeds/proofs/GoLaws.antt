@@ -157,7 +157,7 @@ open_still (Outside j) at (Inner c) m f is = is
 open_still (Outside j) at (Outside i) m f is = elim (cases_Bool (i == j)) [
   | inl hit ↦
       let same : i ≡ j = eqb-true i j hit in
-      let here_of : is_some (f.accesses i).connection ≡ true = subst (λ (k : ℕ). is_some (f.accesses k).connection ≡ true) (sym same) is in
+      let here : is_some (f.accesses i).connection ≡ true = subst (λ (k : ℕ). is_some (f.accesses k).connection ≡ true) (sym same) is in
       ap (λ (b : Bool). is_some (cond b (on_connection (with_more m) (f.accesses i)) (f.accesses j)).connection) hit ∙ go (f.accesses i).connection here
   | inr miss ↦ ap (λ (b : Bool). is_some (cond b (on_connection (with_more m) (f.accesses i)) (f.accesses j)).connection) miss ∙ is
 ]

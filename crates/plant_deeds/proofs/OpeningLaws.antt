@@ -118,7 +118,7 @@ kept_more k x start now one two kept at first first_keeps second second_keeps = 
 link_found : (a b : As) (xs : List Line) → has_line a b xs ≡ true → (j : ℕ) × (x : Line) × (j < length xs) × (slice_get xs j ≡ Some x) × (same_link x.lower x.upper a b ≡ true)
 link_found a b [] is = absurd (let both : false ≡ true = is in cc)
 link_found a b (y ∷ xs) is = elim (cases_Bool (same_link y.lower y.upper a b)) [
-  | inl here_of ↦ (0, y, omega arith, refl, here)
+  | inl here ↦ (0, y, omega arith, refl, here)
   | inr other ↦ let rest = link_found a b xs (rw other at is) in (suc rest.0, rest.1, omega (arith, rest.2), rest.3, rest.4)
 ]
 

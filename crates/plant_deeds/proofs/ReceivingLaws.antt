@@ -191,22 +191,22 @@ module _ {P : Type 0} {S : Type 0} (show : S → List Hop) (n : NetworkParts) wh
       go (Some k) e = cc
 
   -- nothing waits for it
-  pub receive_nothing : (at : As) (to : Peer) (s : Session) (ms : Membership P S) (f : Flow) → IsPlaced n at to → session_at at to f ≡ Some s → first_at at to f ≡ None →
+  pub receive_nothing : (at : As) (to : Peer) (s : Session) (ms : Membership P S) (f : Flow) → IsPlaced n at to → session_at at to f ≡ Some s → option_map (input_of wire) (first_at at to f) ≡ None →
       IsDone (receive_at P S n show at to (state_of ms f)) (Err NothingToCarry) ms f
   receive_nothing at (Outside i) s ms f placed there none = go (f.accesses i).connection there none
     where
-      items : (ys : List (Option Bytes)) → slice_get ys 0 ≡ None → IsDone (events.take_item P S wire n show i (state_of ms f) ys) (Err NothingToCarry) ms f
+      items : (ys : List (Option Bytes)) → option_map (input_of wire) (slice_get ys 0) ≡ None → IsDone (events.take_item P S wire n show i (state_of ms f) ys) (Err NothingToCarry) ms f
       items [] e = record { answer = refl; state = refl; said = tt }
       items (y ∷ ys) e = cc
 
-      go : (c : Option Connection) → option_map (λ (k : Connection). k.session) c ≡ Some s → slice_get (inbox_of c) 0 ≡ None → IsDone (events.take_open P S wire n show i (state_of ms f) c) (Err NothingToCarry) ms f
+      go : (c : Option Connection) → option_map (λ (k : Connection). k.session) c ≡ Some s → option_map (input_of wire) (slice_get (inbox_of c) 0) ≡ None → IsDone (events.take_open P S wire n show i (state_of ms f) c) (Err NothingToCarry) ms f
       go None e e' = cc
       go (Some k) e e' = items k.inbox e'
   receive_nothing at (Inner b) s ms f placed there none =
       subst (λ (c : Bool). IsDone (cond c (events.carry_first P S wire n show b at (state_of ms f) (f.queues b at)) (events.refused P S wire n show NoSuchPeer (state_of ms f))) (Err NothingToCarry) ms f) (sym placed.0)
       (items (f.queues b at) none)
     where
-      items : (ys : List Bytes) → option_map Some (slice_get ys 0) ≡ None → IsDone (events.carry_first P S wire n show b at (state_of ms f) ys) (Err NothingToCarry) ms f
+      items : (ys : List Bytes) → option_map (input_of wire) (option_map Some (slice_get ys 0)) ≡ None → IsDone (events.carry_first P S wire n show b at (state_of ms f) ys) (Err NothingToCarry) ms f
       items [] e = record { answer = refl; state = refl; said = tt }
       items (y ∷ ys) e = cc
 
@@ -305,7 +305,7 @@ module _ {P : Type 0} {S : Type 0} (show : S → List Hop) {n : NetworkParts} {a
 
   pub received : {n' : NetworkParts} {ms' : Membership P S} {lost lost' : As → List Lost} {f' : Flow} (u : Unit {0}) → Goes (λ k. input_at P S k show at to input) (here_of n ms lost f) (here_of n' ms' lost' f') → ((a : As) → lost a ≡ []) → IsRoomy n ms' f' →
       Receives show at to (Ok u) (here_of n ms lost start) (here_of n' ms' lost' f')
-  received {ms' = ms'} {f' = f'} u goes none roomy =
+  received {n' = n'} {ms' = ms'} {lost = lost} {lost' = lost'} {f' = f'} u goes none roomy =
       let going = first_gone show n at to (state_of ms start) in
       let ended : IsAt (input_at P S n show at to input going) ms' f' = goes.goes going (first_leaves show n at to ms start made x.cleared f x.grows x.clears x.drops) in
       done_moves show (λ k s. receive_at P S k show at to s) (here_of n ms lost start) (here_of n' ms' lost' f') goes.network

@@ -4,7 +4,7 @@ ghost use Rattle.plant_members.specs.plant_model.Events as events;
 ghost use Rattle.plant_traffic.specs.Carried.{flow_of};
 ghost use Rattle.plant_deeds.specs.Standing.{state_of, here};
 ghost use Rattle.plant_deeds.specs.Moving.{IsSound, Moves, OrLacks};
-ghost use Rattle.std.specs.Prelude.{◌≡◌, [], OnErr};
+ghost use Rattle.std.specs.Prelude.{◌≡◌, true, [], OnErr};
 ghost use Rattle.dom_base.specs.declared.names.As.{As};
 ghost use Rattle.plant_deeds.specs.Giving.{OnlyGrows};
 ghost use Rattle.plant_deeds.specs.Happening.{IsDoneOrLacks};

@@ -31,3 +31,11 @@ returns-in_default g c =
     let f = flow_of c.args.traffic.now in
     unmoved m.show (λ k st. receive_at m.Pin m.Key k m.show c.args.at c.args.to st) (here s f) (λ st. true) NoSuchPeer c.requires.sound.kept (λ e. cc)
     (receive_none m.show s.network c.args.at c.args.to s.seen f (sym c.in_default.ensures))
+
+pub returns-in_default-first : goal.returns-in_default-first
+returns-in_default-first g c =
+    let m = g.M.Members in
+    let s = m.stands c.args.members.now in
+    let f = flow_of c.args.traffic.now in
+    unmoved m.show (λ k st. receive_at m.Pin m.Key k m.show c.args.at c.args.to st) (here s f) (λ st. true) NothingToCarry c.requires.sound.kept (λ e. cc)
+    (receive_nothing m.show s.network c.args.at c.args.to c.in-Some.session s.seen f c.requires.placed (sym c.in-Some.ensures) (sym c.in-Ok.ensures ∙ c.in_default-first.is))
