@@ -1,4 +1,4 @@
-use Rattle.std.proofs.Common.{◌≡◌, ◌∙◌, false, ap, sym}
+use Rattle.std.proofs.Common.{◌∙◌, false, ap, sym}
 use Rattle.plant_text.specs.Settings.{has_line, line, lines}
 use Rattle.plant_members.specs.plant_model.declared.outcome.Outcome.TheVariants.{Done}
 use Rattle.plant_members.specs.plant_model.declared.outcome.Refused.TheVariants.{NoSuchPeer}

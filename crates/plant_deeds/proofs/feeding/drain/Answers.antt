@@ -1,4 +1,4 @@
-use Rattle.std.proofs.Common.{Err, Ok, ap, subst, true, refl}
+use Rattle.std.proofs.Common.{ap, subst, true, refl}
 use Rattle.std.specs.Prelude.{Result}
 use Rattle.std.proofs.lemmas.Result.{err_from_is_err_and}
 use Rattle.plant_members.specs.plant_model.declared.outcome.Outcome.TheVariants.{Drained}

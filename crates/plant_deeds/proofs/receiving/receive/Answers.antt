@@ -1,11 +1,9 @@
-use Rattle.std.proofs.Common.{◌∙◌, Ok, Err, Result, true, refl, sym, ap, subst}
-use Rattle.dom_base.specs.declared.names.NoMemory.{NoMemory}
+use Rattle.std.proofs.Common.{◌∙◌, true, sym}
 use Rattle.pcep_session.specs.Listed.{listed}
 use Rattle.plant_traffic.specs.Carried.{flow_of}
 use Rattle.plant_members.specs.plant_model.declared.outcome.Refused.TheVariants.{NoSuchPeer, NothingToCarry}
 use Rattle.plant_deeds.specs.Peers.{receive_at}
 use Rattle.plant_deeds.specs.Standing.{here}
-use Rattle.plant_deeds.specs.Stepping.{Receives}
 use Rattle.plant_deeds.proofs.ReceivingLaws.{placed_end, receive_none, receive_nothing, steps_at}
 use Rattle.plant_deeds.proofs.StepLemmas.{unmoved}
 use Rattle.plant_deeds.proofs.receiving.receive.Goals as goal

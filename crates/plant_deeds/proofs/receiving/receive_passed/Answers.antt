@@ -1,4 +1,4 @@
-use Rattle.std.proofs.Common.{List, Err, [], ◌∷◌, true, refl, ap, sym, subst}
+use Rattle.std.proofs.Common.{Err, [], ◌∷◌, true, refl, ap, sym, subst}
 use Rattle.std.proofs.lemmas.Result.{err_from_is_err_and}
 use Rattle.pcep_session.specs.declared.actions.Action.TheVariants.{Pass}
 use Rattle.plant_traffic.specs.Carried.{flow_of}
