@@ -6,8 +6,6 @@ ghost use Rattle.plant_deeds.specs.Answering.{IsAnswer, Sends};
 ghost use Rattle.plant_deeds.specs.Giving.{OnlyGrows};
 ghost use Rattle.plant_deeds.specs.Moving.{IsKept};
 ghost use Rattle.plant_deeds.specs.Standing.{here};
-ghost use Rattle.plant_deeds.specs.Passing.{IsOf};
-ghost use Rattle.plant_deeds.specs.Rooms.{IsRoomy};
 
 use crate::giving::{perform, prepare_plan};
 use dom_base::As;

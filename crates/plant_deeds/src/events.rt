@@ -1,19 +1,13 @@
 //! The events that take no memory.
-ghost use Rattle.std.specs.Prelude.{◌≡◌, true, false, [], OnErr};
+ghost use Rattle.std.specs.Prelude.{◌≡◌, true, false, []};
 ghost use Rattle.dom_base.specs.declared.names.As.{As};
 ghost use Rattle.plant_members.specs.plant_model.RealWire.{wire};
 ghost use Rattle.plant_members.specs.plant_model.Deeds as deeds;
 ghost use Rattle.plant_members.specs.plant_model.Events as events;
 ghost use Rattle.plant_traffic.specs.Carried.{flow_of};
-ghost use Rattle.plant_members.specs.Membership.{AreJoined, KeysBefore};
-ghost use Rattle.plant_deeds.specs.Standing.{Goes, here, state_of};
 ghost use Rattle.plant_deeds.specs.Moving.{IsSound, Moves, OrLacks};
-ghost use Rattle.plant_text.specs.Names.{same_as};
-ghost use Rattle.plant_text.specs.Settings.{has_line, lines};
-ghost use Rattle.plant_deeds.specs.Giving.{OnlyGrows};
-ghost use Rattle.plant_deeds.specs.Happening.{IsDone};
-ghost use Rattle.plant_deeds.specs.Passing.{IsOf};
-ghost use Rattle.plant_deeds.specs.Rooms.{IsRoomy};
+ghost use Rattle.plant_members.specs.Membership.{KeysBefore};
+ghost use Rattle.plant_deeds.specs.Standing.{Goes, here};
 
 use crate::deeds::fall;
 use crate::links::break_between;

@@ -1,15 +1,10 @@
 //! Bytes that an outside peer feeds, and bytes that are handed out to it.
-ghost use Rattle.std.specs.Prelude.{◌≡◌, true, Err, OnErr};
+ghost use Rattle.std.specs.Prelude.{◌≡◌, true};
 ghost use Rattle.plant_members.specs.plant_model.RealWire.{wire};
 ghost use Rattle.plant_members.specs.plant_model.Events as events;
 ghost use Rattle.plant_traffic.specs.Carried.{flow_of};
-ghost use Rattle.plant_deeds.specs.Standing.{state_of, here};
 ghost use Rattle.plant_deeds.specs.Moving.{IsSound, Moves, OrLacks};
-ghost use Rattle.plant_members.specs.plant_model.declared.outcome.Refused.TheVariants.{NoMemory};
-ghost use Rattle.plant_deeds.specs.Giving.{OnlyGrows};
-ghost use Rattle.plant_deeds.specs.Happening.{IsDoneOrLacks};
-ghost use Rattle.plant_deeds.specs.Passing.{IsOf};
-ghost use Rattle.plant_deeds.specs.Rooms.{IsRoomy};
+ghost use Rattle.plant_deeds.specs.Standing.{here};
 
 use dom_base::Bytes;
 use plant_members::Members;

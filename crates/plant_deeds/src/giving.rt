@@ -1,21 +1,21 @@
 //! A member is given a message: first whatever takes memory, and then the deed, which takes none.
 ghost use Rattle.std.specs.Prelude.{◌≡◌, ◌≤◌, ◌<◌, ◌+◌, ◌*◌, ◌++◌, true, [], ◌∷◌, length, IfErr, IfOk, IfSome, OnOk, OnErr, Some, slice_get};
+ghost use Rattle.plant_queues.specs.declared.sent.Sent.{Sent};
 ghost use Rattle.plant_queues.specs.Messages.{total, Covers};
 ghost use Rattle.plant_queues.specs.Sents.{size_of};
 ghost use Rattle.pcep_messages.specs.declared.message.Message.{Message};
 ghost use Rattle.dom_base.specs.declared.names.As.{As};
 ghost use Rattle.dom_base.specs.declared.names.Peer.{Peer};
+ghost use Rattle.plant_text.specs.Settings.{elements_of};
 ghost use Rattle.plant_members.specs.plant_model.RealWire.{wire};
 ghost use Rattle.plant_members.specs.plant_model.State.{sent_by};
 ghost use Rattle.plant_members.specs.plant_model.Deeds as deeds;
 ghost use Rattle.plant_traffic.specs.Carried.{flow_of};
+ghost use Rattle.plant_traffic.specs.Flow.{GrowsSaid, KeepsRoomAt};
 ghost use Rattle.plant_members.specs.Membership.{is_member};
 ghost use Rattle.plant_members.specs.Owed.{asked_in, owed, pending_in};
 ghost use Rattle.plant_deeds.specs.Standing.{Goes, here};
 ghost use Rattle.plant_deeds.specs.Giving.{CoversWords, IsGiven, KeepsForLetters, OnlyGrows, PutsAll, RoomToAnswer, RoomToGive, RoomToPut, is_own, own_words};
-ghost use Rattle.plant_queues.specs.declared.sent.Sent.{Sent};
-ghost use Rattle.plant_text.specs.Settings.{elements_of};
-ghost use Rattle.plant_traffic.specs.Flow.{GrowsSaid, KeepsRoomAt};
 
 use dom_base::{As, NoMemory, Peer};
 use pcep_messages::{Message, write_message};

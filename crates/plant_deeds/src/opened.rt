@@ -1,16 +1,10 @@
 //! The connection of an outside peer is opened.
+ghost use Rattle.std.specs.Prelude.{◌≡◌, true, []};
 ghost use Rattle.plant_members.specs.plant_model.RealWire.{wire};
 ghost use Rattle.plant_members.specs.plant_model.Events as events;
 ghost use Rattle.plant_traffic.specs.Carried.{flow_of};
-ghost use Rattle.plant_deeds.specs.Standing.{state_of, here};
 ghost use Rattle.plant_deeds.specs.Moving.{IsSound, Moves, OrLacks};
-ghost use Rattle.std.specs.Prelude.{◌≡◌, true, [], OnErr};
-ghost use Rattle.dom_base.specs.declared.names.As.{As};
-ghost use Rattle.plant_deeds.specs.Giving.{OnlyGrows};
-ghost use Rattle.plant_deeds.specs.Happening.{IsDoneOrLacks};
-ghost use Rattle.plant_members.specs.Membership.{AreJoined};
-ghost use Rattle.plant_deeds.specs.Passing.{IsOf};
-ghost use Rattle.plant_deeds.specs.Rooms.{IsRoomy};
+ghost use Rattle.plant_deeds.specs.Standing.{here};
 
 use crate::acting::give_input;
 use dom_base::Peer;

@@ -1,5 +1,5 @@
 //! A session is given the first that waits for it. All memory is taken before anything changes.
-ghost use Rattle.std.specs.Prelude.{◌≡◌, ◌⊎◌, ◌+◌, ◌*◌, true, false, [], ◌∷◌, Some, IfOk, IfErr, OnOk, OnErr};
+ghost use Rattle.std.specs.Prelude.{◌≡◌, ◌⊎◌, ◌+◌, ◌*◌, true, false, [], ◌∷◌, Some, IfOk, IfErr, OnOk};
 ghost use Rattle.std.specs.Option.{option_to_list};
 ghost use Rattle.dom_base.specs.declared.names.As.{As};
 ghost use Rattle.dom_base.specs.declared.names.Peer.TheVariants.{Inner, Outside};
@@ -11,18 +11,13 @@ ghost use Rattle.plant_traffic.specs.Carried.{flow_of};
 ghost use Rattle.plant_traffic.specs.Flow.{KeepsRoomAt};
 ghost use Rattle.plant_deeds.specs.Acting.{IsOwnTurn};
 ghost use Rattle.plant_deeds.specs.Giving.{OnlyGrows};
-ghost use Rattle.plant_members.specs.Membership.{AreJoined, is_member};
+ghost use Rattle.plant_deeds.specs.Moving.{IsKept, IsSound, Moves, OrLacks};
+ghost use Rattle.plant_members.specs.Membership.{is_member};
 ghost use Rattle.plant_members.specs.Owed.{owed};
 ghost use Rattle.plant_deeds.specs.Peers.{IsEnd, IsPlaced, receive_at};
-ghost use Rattle.plant_deeds.specs.Standing.{here, state_of};
+ghost use Rattle.plant_deeds.specs.Standing.{here};
 ghost use Rattle.plant_deeds.specs.Stepping.{Receives, Steps};
 ghost use Rattle.plant_deeds.specs.Turns.{IsPass};
-ghost use Rattle.plant_deeds.specs.Moving.{IsKept, IsSound, Moves, OrLacks};
-ghost use Rattle.plant_text.specs.Names.{same_as};
-ghost use Rattle.plant_text.specs.Settings.{has_line, lines};
-ghost use Rattle.plant_deeds.specs.Happening.{IsDoneOrLacks};
-ghost use Rattle.plant_deeds.specs.Passing.{IsOf};
-ghost use Rattle.plant_deeds.specs.Rooms.{IsRoomy};
 
 use crate::acting::step;
 use crate::giving::{perform, prepare};

@@ -12,14 +12,10 @@ ghost use Rattle.plant_traffic.specs.Carried.{flow_of};
 ghost use Rattle.plant_traffic.specs.Flow.{session_at};
 ghost use Rattle.plant_deeds.specs.Acting.{FitsInput};
 ghost use Rattle.plant_deeds.specs.Peers.{IsEnd, input_at};
-ghost use Rattle.plant_members.specs.Membership.{AreJoined, KeysBefore, is_member};
-ghost use Rattle.plant_deeds.specs.Passing.{IsOf};
-ghost use Rattle.plant_deeds.specs.Roomy.{KeepsOn};
-ghost use Rattle.plant_deeds.specs.Standing.{Goes, here, state_of};
-ghost use Rattle.plant_deeds.specs.Using.{IsOn, IsUnderWay, Uses};
 ghost use Rattle.plant_deeds.specs.Moving.{IsSound, Moves, OrLacks};
-ghost use Rattle.plant_deeds.specs.Happening.{IsDone};
-ghost use Rattle.plant_deeds.specs.Rooms.{IsRoomy};
+ghost use Rattle.plant_members.specs.Membership.{AreJoined, is_member};
+ghost use Rattle.plant_deeds.specs.Standing.{Goes, here};
+ghost use Rattle.plant_deeds.specs.Using.{IsUnderWay, Uses};
 
 use crate::acting::give_input;
 use crate::events::expire;

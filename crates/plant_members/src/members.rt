@@ -9,8 +9,6 @@ ghost use Rattle.plant_model.specs.RealWire.{wire};
 ghost use Rattle.plant_model.specs.Deeds as deeds;
 ghost use Rattle.plant_members.specs.Membership.{Membership, is_member, given, raised, fallen, lost_at, expired, KeysBefore, HandsOut, Standing};
 ghost use Rattle.plant_members.specs.Owed.{owed, pending_in};
-ghost use Rattle.plant_text.specs.declared.settings.NetworkParts.{NetworkParts};
-ghost use Rattle.plant_model.specs.declared.output.Lost.{Lost};
 
 use dom_base::{As, NoMemory, Peer, Tick};
 use pcep_messages::Message;
