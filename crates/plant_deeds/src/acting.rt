@@ -14,7 +14,7 @@ ghost use Rattle.plant_traffic.specs.Carried.{flow_of};
 ghost use Rattle.plant_members.specs.Membership.{is_member, lost_at};
 ghost use Rattle.plant_deeds.specs.Standing.{Goes, here};
 ghost use Rattle.plant_deeds.specs.Telling.{RoomToTell};
-ghost use Rattle.plant_deeds.specs.Peers.{IsEnd, act_at, acts_at, break_at, breaks_by, input_at};
+ghost use Rattle.plant_deeds.specs.Peers.{IsAtEnd, act_at, acts_at, break_at, breaks_by, input_at};
 ghost use Rattle.plant_deeds.specs.Acting.{Fits, FitsInput, FitsTurn, LeavesOff, RoomToBreakAt, Spent};
 
 use crate::deeds::{fall, rise, say};
@@ -127,9 +127,7 @@ fn breaks(to: Peer, actions: &Actions) -> bool
 
 // The link breaks, where the peer is inside.
 fn break_end<M: Members>(members: &mut M, traffic: &mut Traffic, at: As, to: Peer)
-    requires end { IsEnd (M.stands members.old).network (flow_of traffic.old) at to }
-    requires member { is_member (M.stands members.old).network at ≡ true }
-    requires none { (a : As) → (M.stands members.old).lost a ≡ [] }
+    requires there { IsAtEnd at to (here (M.stands members.old) (flow_of traffic.old)) }
     requires room { RoomToBreakAt at to (M.stands members.old).seen (flow_of traffic.old) }
     ensures { Goes (λ n. break_at M.Pin M.Key n M.show at to) (here (M.stands members.old) (flow_of traffic.old)) (here (M.stands members.new) (flow_of traffic.new)) }
 {
@@ -150,9 +148,7 @@ pub(crate) fn step<M: Members>(
     session: Session,
     actions: Actions,
 )
-    requires end { IsEnd (M.stands members.old).network (flow_of traffic.old) at to }
-    requires member { is_member (M.stands members.old).network at ≡ true }
-    requires none { (a : As) → (M.stands members.old).lost a ≡ [] }
+    requires there { IsAtEnd at to (here (M.stands members.old) (flow_of traffic.old)) }
     requires sets { MaySet at to session (flow_of traffic.old) }
     requires fits { FitsTurn at to (listed actions) (M.stands members.old).seen (flow_of traffic.old) }
     ensures { (s : State) (input : Input) → session_at at to (flow_of traffic.old) ≡ Some s → listed actions ≡ (turn_of s input).actions → session ≡ (turn_of s input).next → ticks ≡ deeds.is_tick input
@@ -176,9 +172,7 @@ pub(crate) fn give_input<M: Members>(
     ticks: bool,
 )
     requires ticks { ticks ≡ deeds.is_tick input }
-    requires end { IsEnd (M.stands members.old).network (flow_of traffic.old) at to }
-    requires member { is_member (M.stands members.old).network at ≡ true }
-    requires none { (a : As) → (M.stands members.old).lost a ≡ [] }
+    requires there { IsAtEnd at to (here (M.stands members.old) (flow_of traffic.old)) }
     requires fits { FitsInput at to input (session_at at to (flow_of traffic.old)) (M.stands members.old).seen (flow_of traffic.old) }
     ensures { Goes (λ n. input_at M.Pin M.Key n M.show at to input) (here (M.stands members.old) (flow_of traffic.old)) (here (M.stands members.new) (flow_of traffic.new)) }
 {

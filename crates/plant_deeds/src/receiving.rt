@@ -14,7 +14,7 @@ ghost use Rattle.plant_deeds.specs.Giving.{OnlyGrows};
 ghost use Rattle.plant_deeds.specs.Moving.{IsKept, IsSound, Moves, OrLacks};
 ghost use Rattle.plant_members.specs.Membership.{is_member};
 ghost use Rattle.plant_members.specs.Owed.{owed};
-ghost use Rattle.plant_deeds.specs.Peers.{IsEnd, IsPlaced, receive_at};
+ghost use Rattle.plant_deeds.specs.Peers.{IsAtEnd, IsPlaced, receive_at};
 ghost use Rattle.plant_deeds.specs.Standing.{here};
 ghost use Rattle.plant_deeds.specs.Stepping.{Receives, Steps};
 ghost use Rattle.plant_deeds.specs.Turns.{IsPass};
@@ -107,8 +107,7 @@ fn receive_passed<M: Members>(
     session: Session,
     message: Message,
 ) -> Result<(), NoMemory>
-    requires end { IsEnd (M.stands members.old).network (flow_of traffic.old) at to }
-    requires member { is_member (M.stands members.old).network at ≡ true }
+    requires there { IsAtEnd at to (here (M.stands members.old) (flow_of traffic.old)) }
     requires steps { Steps at to (Pass message ∷ []) session (flow_of traffic.old) }
     requires kept { IsKept (here (M.stands members.old) (flow_of traffic.old)) }
     ensures { Receives M.show at to result (here (M.stands members.old) (flow_of traffic.old)) (here (M.stands members.new) (flow_of traffic.new)) }
@@ -130,8 +129,7 @@ fn receive_acted<M: Members>(
     session: Session,
     actions: Actions,
 ) -> Result<(), NoMemory>
-    requires end { IsEnd (M.stands members.old).network (flow_of traffic.old) at to }
-    requires member { is_member (M.stands members.old).network at ≡ true }
+    requires there { IsAtEnd at to (here (M.stands members.old) (flow_of traffic.old)) }
     requires steps { Steps at to (listed actions) session (flow_of traffic.old) }
     requires turn { IsOwnTurn (listed actions) }
     requires kept { IsKept (here (M.stands members.old) (flow_of traffic.old)) }
@@ -154,8 +152,7 @@ fn receive_step<M: Members>(
     session: Session,
     actions: Actions,
 ) -> Result<(), NoMemory>
-    requires end { IsEnd (M.stands members.old).network (flow_of traffic.old) at to }
-    requires member { is_member (M.stands members.old).network at ≡ true }
+    requires there { IsAtEnd at to (here (M.stands members.old) (flow_of traffic.old)) }
     requires steps { Steps at to (listed actions) session (flow_of traffic.old) }
     requires kept { IsKept (here (M.stands members.old) (flow_of traffic.old)) }
     ensures { Receives M.show at to result (here (M.stands members.old) (flow_of traffic.old)) (here (M.stands members.new) (flow_of traffic.new)) }

@@ -11,7 +11,7 @@ ghost use Rattle.pcep_session.specs.declared.session.Input.TheVariants as inputs
 ghost use Rattle.plant_traffic.specs.Carried.{flow_of};
 ghost use Rattle.plant_traffic.specs.Flow.{session_at};
 ghost use Rattle.plant_deeds.specs.Acting.{FitsInput};
-ghost use Rattle.plant_deeds.specs.Peers.{IsEnd, input_at};
+ghost use Rattle.plant_deeds.specs.Peers.{IsAtEnd, input_at};
 ghost use Rattle.plant_deeds.specs.Moving.{IsSound, Moves, OrLacks};
 ghost use Rattle.plant_members.specs.Membership.{AreJoined, is_member};
 ghost use Rattle.plant_deeds.specs.Standing.{Goes, here};
@@ -27,9 +27,7 @@ use plant_traffic::Traffic;
 
 // The session of a member with a peer takes a tick: in place where it has nothing to say or to do at it.
 fn tick_session<M: Members>(members: &mut M, traffic: &mut Traffic, at: As, to: Peer, now: Tick)
-    requires end { IsEnd (M.stands members.old).network (flow_of traffic.old) at to }
-    requires member { is_member (M.stands members.old).network at ≡ true }
-    requires none { (a : As) → (M.stands members.old).lost a ≡ [] }
+    requires there { IsAtEnd at to (here (M.stands members.old) (flow_of traffic.old)) }
     requires fits { FitsInput at to (inputs.Tick now) (session_at at to (flow_of traffic.old)) (M.stands members.old).seen (flow_of traffic.old) }
     ensures { Goes (λ n. input_at M.Pin M.Key n M.show at to (inputs.Tick now)) (here (M.stands members.old) (flow_of traffic.old)) (here (M.stands members.new) (flow_of traffic.new)) }
 {

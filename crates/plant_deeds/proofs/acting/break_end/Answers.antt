@@ -8,10 +8,16 @@ use Rattle.plant_deeds.proofs.GoLaws.{goes_same}
 use Rattle.plant_deeds.proofs.acting.break_end.Goals as goal
 
 pub break_between-requires-clause-here : goal.break_between-requires-clause-here
-break_between-requires-clause-here g c = (subst (IsEnd (g.M.Members.stands c.args.members.now).network (flow_of c.args.traffic.now) c.args.at) c.in-Inner.is c.requires.end).other
+break_between-requires-clause-here g c = (subst (IsEnd (g.M.Members.stands c.args.members.now).network (flow_of c.args.traffic.now) c.args.at) c.in-Inner.is c.requires.there.end).other
+
+pub break_between-requires-clause-there : goal.break_between-requires-clause-there
+break_between-requires-clause-there g c = c.requires.there.member
+
+pub break_between-requires-clause-none : goal.break_between-requires-clause-none
+break_between-requires-clause-none g c = c.requires.there.none
 
 pub break_between-requires-clause-apart : goal.break_between-requires-clause-apart
-break_between-requires-clause-apart g c = (subst (IsEnd (g.M.Members.stands c.args.members.now).network (flow_of c.args.traffic.now) c.args.at) c.in-Inner.is c.requires.end).apart
+break_between-requires-clause-apart g c = (subst (IsEnd (g.M.Members.stands c.args.members.now).network (flow_of c.args.traffic.now) c.args.at) c.in-Inner.is c.requires.there.end).apart
 
 pub break_between-requires-clause-room : goal.break_between-requires-clause-room
 break_between-requires-clause-room g c =

@@ -8,7 +8,7 @@ use Rattle.plant_deeds.proofs.acting.give_input.Goals as goal
 
 pub step-requires-clause-sets : goal.step-requires-clause-sets
 step-requires-clause-sets g c =
-    may_set (g.M.Members.stands c.args.members.now).network (flow_of c.args.traffic.now) c.args.at c.args.to c.args.input c.in-Some.session c.step-actions.new.self c.requires.end (sym c.in-Some.ensures) c.step-actions.ensures.next
+    may_set (g.M.Members.stands c.args.members.now).network (flow_of c.args.traffic.now) c.args.at c.args.to c.args.input c.in-Some.session c.step-actions.new.self c.requires.there.end (sym c.in-Some.ensures) c.step-actions.ensures.next
 
 pub step-requires-clause-fits : goal.step-requires-clause-fits
 step-requires-clause-fits g c =

@@ -37,14 +37,15 @@ returns-in_default g c =
     lacks_moves m.show (λ n st. events.open_peer m.Pin m.Key wire n m.show c.args.peer c.args.holder st) (here s start) end (λ st. true) c.requires.sound.kept
     (same_grows start end c.in_default.ensures.err) refl
 
-pub give_input-requires-clause-member : goal.give_input-requires-clause-member
-give_input-requires-clause-member g c =
+pub give_input-requires-clause-there : goal.give_input-requires-clause-there
+give_input-requires-clause-there g c =
     let n = (g.M.Members.stands c.args.members.now).network in
     let below : c.args.peer < length n.peers = omega (arith, c.if-peer-peers.false, c.peers.ensures, c.requires.sound.kept.of.peers_are) in
-    subst (λ (a : As). is_member n a ≡ true) (sym c.element_of-at.ensures) (c.requires.sound.joined.peers c.args.peer below)
-
-pub give_input-requires-clause-none : goal.give_input-requires-clause-none
-give_input-requires-clause-none g c = c.requires.sound.kept.none
+    record {
+      end = c.element_of-at.ensures;
+      member = subst (λ (a : As). is_member n a ≡ true) (sym c.element_of-at.ensures) (c.requires.sound.joined.peers c.args.peer below);
+      none = c.requires.sound.kept.none;
+    }
 
 pub give_input-requires-clause-fits : goal.give_input-requires-clause-fits
 give_input-requires-clause-fits g c =

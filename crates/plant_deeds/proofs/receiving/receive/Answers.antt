@@ -8,11 +8,11 @@ use Rattle.plant_deeds.proofs.ReceivingLaws.{placed_end, receive_none, receive_n
 use Rattle.plant_deeds.proofs.StepLemmas.{unmoved}
 use Rattle.plant_deeds.proofs.receiving.receive.Goals as goal
 
-pub receive_step-requires-clause-end : goal.receive_step-requires-clause-end
-receive_step-requires-clause-end g c = (placed_end (g.M.Members.stands c.args.members.now).network c.args.traffic.now c.args.at c.args.to c.in-Some.session c.requires.sound.joined c.requires.sound.kept.of c.requires.placed (sym c.in-Some.ensures)).0
-
-pub receive_step-requires-clause-member : goal.receive_step-requires-clause-member
-receive_step-requires-clause-member g c = (placed_end (g.M.Members.stands c.args.members.now).network c.args.traffic.now c.args.at c.args.to c.in-Some.session c.requires.sound.joined c.requires.sound.kept.of c.requires.placed (sym c.in-Some.ensures)).1
+pub receive_step-requires-clause-there : goal.receive_step-requires-clause-there
+receive_step-requires-clause-there g c =
+    let sound = c.requires.sound in
+    let ends = placed_end (g.M.Members.stands c.args.members.now).network c.args.traffic.now c.args.at c.args.to c.in-Some.session sound.joined sound.kept.of c.requires.placed (sym c.in-Some.ensures) in
+    record { end = ends.0; member = ends.1; none = sound.kept.none }
 
 pub receive_step-requires-clause-steps : goal.receive_step-requires-clause-steps
 receive_step-requires-clause-steps g c =

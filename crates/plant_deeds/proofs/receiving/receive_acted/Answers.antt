@@ -8,25 +8,22 @@ use Rattle.plant_deeds.proofs.ReceivingLaws.{acted_fits, acted_roomy, end_there,
 use Rattle.plant_deeds.proofs.StepLemmas.{lacks_moves}
 use Rattle.plant_deeds.proofs.receiving.receive_acted.Goals as goal
 
-pub step-requires-clause-end : goal.step-requires-clause-end
-step-requires-clause-end g c =
+pub step-requires-clause-there : goal.step-requires-clause-there
+step-requires-clause-there g c =
     let x = taking (g.M.Members.stands c.args.members.now).network c.args.traffic.now c.args.at c.args.to (listed c.args.actions) c.args.session (g.M.Members.stands c.args.members.now).seen (flow_of c.reserve_word.new.traffic) (flow_of c.clear_said.new.self) (flow_of c.drop_first.new.self)
-    c.requires.end c.requires.member c.requires.steps c.requires.kept.of c.requires.kept.roomy c.reserve_word.ensures.grows c.clear_said.ensures c.drop_first.ensures in
-    end_there g.M.Members.show x
-
-pub step-requires-clause-none : goal.step-requires-clause-none
-step-requires-clause-none g c = c.requires.kept.none
+    c.requires.there.end c.requires.there.member c.requires.steps c.requires.kept.of c.requires.kept.roomy c.reserve_word.ensures.grows c.clear_said.ensures c.drop_first.ensures in
+    record { end = end_there g.M.Members.show x; member = c.requires.there.member; none = c.requires.kept.none }
 
 pub step-requires-clause-sets : goal.step-requires-clause-sets
 step-requires-clause-sets g c =
     let x = taking (g.M.Members.stands c.args.members.now).network c.args.traffic.now c.args.at c.args.to (listed c.args.actions) c.args.session (g.M.Members.stands c.args.members.now).seen (flow_of c.reserve_word.new.traffic) (flow_of c.clear_said.new.self) (flow_of c.drop_first.new.self)
-    c.requires.end c.requires.member c.requires.steps c.requires.kept.of c.requires.kept.roomy c.reserve_word.ensures.grows c.clear_said.ensures c.drop_first.ensures in
+    c.requires.there.end c.requires.there.member c.requires.steps c.requires.kept.of c.requires.kept.roomy c.reserve_word.ensures.grows c.clear_said.ensures c.drop_first.ensures in
     sets_there g.M.Members.show x
 
 pub step-requires-clause-fits : goal.step-requires-clause-fits
 step-requires-clause-fits g c =
     let x = taking (g.M.Members.stands c.args.members.now).network c.args.traffic.now c.args.at c.args.to (listed c.args.actions) c.args.session (g.M.Members.stands c.args.members.now).seen (flow_of c.reserve_word.new.traffic) (flow_of c.clear_said.new.self) (flow_of c.drop_first.new.self)
-    c.requires.end c.requires.member c.requires.steps c.requires.kept.of c.requires.kept.roomy c.reserve_word.ensures.grows c.clear_said.ensures c.drop_first.ensures in
+    c.requires.there.end c.requires.there.member c.requires.steps c.requires.kept.of c.requires.kept.roomy c.reserve_word.ensures.grows c.clear_said.ensures c.drop_first.ensures in
     acted_fits g.M.Members.show x c.requires.turn c.in_ok-reserve_word.ensures.keeps
 
 pub returns-in_err-reserve_word : goal.returns-in_err-reserve_word
@@ -38,6 +35,6 @@ returns-in_err-reserve_word g c =
 pub returns : goal.returns
 returns g c =
     let x = taking (g.M.Members.stands c.args.members.now).network c.args.traffic.now c.args.at c.args.to (listed c.args.actions) c.args.session (g.M.Members.stands c.args.members.now).seen (flow_of c.reserve_word.new.traffic) (flow_of c.clear_said.new.self) (flow_of c.drop_first.new.self)
-    c.requires.end c.requires.member c.requires.steps c.requires.kept.of c.requires.kept.roomy c.reserve_word.ensures.grows c.clear_said.ensures c.drop_first.ensures in
+    c.requires.there.end c.requires.there.member c.requires.steps c.requires.kept.of c.requires.kept.roomy c.reserve_word.ensures.grows c.clear_said.ensures c.drop_first.ensures in
     let goes = c.step.ensures x.steps.session (input g.M.Members.show x) (session_there g.M.Members.show x) x.steps.asks x.steps.becomes (no_tick x.steps.item) in
     received g.M.Members.show x tt goes c.requires.kept.none (acted_roomy g.M.Members.show x c.requires.turn c.in_ok-reserve_word.ensures.keeps goes)

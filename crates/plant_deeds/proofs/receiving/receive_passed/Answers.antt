@@ -29,7 +29,7 @@ pub set_session-requires : goal.set_session-requires
 set_session-requires g c =
     let ms = (g.M.Members.stands c.args.members.now).seen in
     let x = taking (g.M.Members.stands c.args.members.now).network c.args.traffic.now c.args.at c.args.to (Pass c.args.message ∷ []) c.args.session ms (flow_of c.prepare.new.traffic) (flow_of c.clear_said.new.self) (flow_of c.drop_first.new.self)
-    c.requires.end c.requires.member c.requires.steps c.requires.kept.of c.requires.kept.roomy c.prepare.ensures.grows c.clear_said.ensures c.drop_first.ensures in
+    c.requires.there.end c.requires.there.member c.requires.steps c.requires.kept.of c.requires.kept.roomy c.prepare.ensures.grows c.clear_said.ensures c.drop_first.ensures in
     sets_there g.M.Members.show x
 
 pub perform-requires-clause-room : goal.perform-requires-clause-room
@@ -37,7 +37,7 @@ perform-requires-clause-room g c =
     let n = (g.M.Members.stands c.args.members.now).network in
     let ms = (g.M.Members.stands c.args.members.now).seen in
     let x = taking (g.M.Members.stands c.args.members.now).network c.args.traffic.now c.args.at c.args.to (Pass c.args.message ∷ []) c.args.session ms (flow_of c.prepare.new.traffic) (flow_of c.clear_said.new.self) (flow_of c.drop_first.new.self)
-    c.requires.end c.requires.member c.requires.steps c.requires.kept.of c.requires.kept.roomy c.prepare.ensures.grows c.clear_said.ensures c.drop_first.ensures in
+    c.requires.there.end c.requires.there.member c.requires.steps c.requires.kept.of c.requires.kept.roomy c.prepare.ensures.grows c.clear_said.ensures c.drop_first.ensures in
     let ok = c.in_ok-prepared in
     let mid = g.M.Members.next c.prepare.new.members ok.prepared.plan in
     let letters = ok.prepared.letters.kept in
@@ -50,7 +50,7 @@ returns g c =
     let n = (g.M.Members.stands c.args.members.now).network in
     let ms = (g.M.Members.stands c.args.members.now).seen in
     let x = taking (g.M.Members.stands c.args.members.now).network c.args.traffic.now c.args.at c.args.to (Pass c.args.message ∷ []) c.args.session ms (flow_of c.prepare.new.traffic) (flow_of c.clear_said.new.self) (flow_of c.drop_first.new.self)
-    c.requires.end c.requires.member c.requires.steps c.requires.kept.of c.requires.kept.roomy c.prepare.ensures.grows c.clear_said.ensures c.drop_first.ensures in
+    c.requires.there.end c.requires.there.member c.requires.steps c.requires.kept.of c.requires.kept.roomy c.prepare.ensures.grows c.clear_said.ensures c.drop_first.ensures in
     let ok = c.in_ok-prepared in
     let mid = g.M.Members.next c.prepare.new.members ok.prepared.plan in
     let letters = ok.prepared.letters.kept in

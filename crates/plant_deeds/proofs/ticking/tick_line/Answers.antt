@@ -13,12 +13,12 @@ use Rattle.plant_deeds.proofs.RoomyNeeds.{fits_link}
 use Rattle.plant_deeds.proofs.TickingLaws.{both_ends, end_uses, goes_of, line_ends, uses_then}
 use Rattle.plant_deeds.proofs.ticking.tick_line.Goals as goal
 
-pub tick_session-requires-clause-end : goal.tick_session-requires-clause-end
-tick_session-requires-clause-end g c =
-    (both_ends (g.M.Members.stands c.args.members.now).network (flow_of c.args.traffic.now) c.args.line.0 c.args.line.1 c.requires.lower c.requires.upper c.requires.apart c.requires.linked c.requires.under.of).0
-
-pub tick_session-requires-clause-none : goal.tick_session-requires-clause-none
-tick_session-requires-clause-none g c = c.requires.under.none
+pub tick_session-requires-clause-there : goal.tick_session-requires-clause-there
+tick_session-requires-clause-there g c = record {
+  end = (both_ends (g.M.Members.stands c.args.members.now).network (flow_of c.args.traffic.now) c.args.line.0 c.args.line.1 c.requires.lower c.requires.upper c.requires.apart c.requires.linked c.requires.under.of).0;
+  member = c.requires.lower;
+  none = c.requires.under.none;
+}
 
 pub tick_session-requires-clause-fits : goal.tick_session-requires-clause-fits
 tick_session-requires-clause-fits g c =
@@ -27,18 +27,15 @@ tick_session-requires-clause-fits g c =
     let ends = both_ends n f c.args.line.0 c.args.line.1 c.requires.lower c.requires.upper c.requires.apart c.requires.linked c.requires.under.of in
     fits_link n 4 c.args.line.0 c.args.line.1 (f.sessions c.args.line.0 c.args.line.1) c.args.now (g.M.Members.stands c.args.members.now).seen f ends.0 c.requires.lower c.requires.under.of (omega arith) c.requires.under.keeps
 
-pub tick_session-requires-2-clause-end : goal.tick_session-requires-2-clause-end
-tick_session-requires-2-clause-end g c =
-    let n = (g.M.Members.stands c.args.members.now).network in
+pub tick_session-requires-2-clause-there : goal.tick_session-requires-2-clause-there
+tick_session-requires-2-clause-there g c =
     let f = flow_of c.tick_session.new.traffic in
-    subst (λ (m : NetworkParts). IsLinkEnd m f c.args.line.1 c.args.line.0) (sym c.tick_session.ensures.network)
-    (both_ends n f c.args.line.0 c.args.line.1 c.requires.lower c.requires.upper c.requires.apart c.requires.linked (goes_of c.tick_session.ensures c.requires.under.of)).1
-
-pub tick_session-requires-2-clause-member : goal.tick_session-requires-2-clause-member
-tick_session-requires-2-clause-member g c = subst (λ (n : NetworkParts). is_member n c.args.line.1 ≡ true) (sym c.tick_session.ensures.network) c.requires.upper
-
-pub tick_session-requires-2-clause-none : goal.tick_session-requires-2-clause-none
-tick_session-requires-2-clause-none g c = c.tick_session.ensures.lost c.requires.under.none
+    record {
+      end = subst (λ (m : NetworkParts). IsLinkEnd m f c.args.line.1 c.args.line.0) (sym c.tick_session.ensures.network)
+          (both_ends (g.M.Members.stands c.args.members.now).network f c.args.line.0 c.args.line.1 c.requires.lower c.requires.upper c.requires.apart c.requires.linked (goes_of c.tick_session.ensures c.requires.under.of)).1;
+      member = subst (λ (m : NetworkParts). is_member m c.args.line.1 ≡ true) (sym c.tick_session.ensures.network) c.requires.upper;
+      none = c.tick_session.ensures.lost c.requires.under.none;
+    }
 
 pub tick_session-requires-2-clause-fits : goal.tick_session-requires-2-clause-fits
 tick_session-requires-2-clause-fits g c =

@@ -21,17 +21,18 @@ tick_session-requires-clause-fits g c =
     (subst (λ (a : As). is_member (g.M.Members.stands c.loop-peer.members).network a ≡ true) (sym c.element_of-at.ensures) member) (omega arith)
     (room_left k 1 (length n.peers) c.loop-peer.invariant.uses c.requires.under.on (omega (arith, below)) c.requires.under.keeps)
 
-pub tick_session-requires-clause-member : goal.tick_session-requires-clause-member
-tick_session-requires-clause-member g c =
+pub tick_session-requires-clause-there : goal.tick_session-requires-clause-there
+tick_session-requires-clause-there g c =
     let n = (g.M.Members.stands c.args.members.now).network in
     let k = c.loop-peer.peer in
     let all = peers_fit n (flow_of c.args.traffic.now) c.peers-count.result c.requires.under.of c.peers-count.ensures c.requires.few in
     let below : k < length n.peers = omega (arith, c.loop-peer-test.true, all, c.requires.under.of.peers_are, c.peers-count.ensures) in
-    subst (λ (a : As). is_member (g.M.Members.stands c.loop-peer.members).network a ≡ true) (sym c.element_of-at.ensures)
-    (subst (λ (m : NetworkParts). is_member m (element_of m k) ≡ true) (sym c.loop-peer.invariant.uses.goes.network) (c.requires.joined.peers k below))
-
-pub tick_session-requires-clause-none : goal.tick_session-requires-clause-none
-tick_session-requires-clause-none g c = c.loop-peer.invariant.uses.goes.lost c.requires.under.none
+    record {
+      end = c.element_of-at.ensures;
+      member = subst (λ (a : As). is_member (g.M.Members.stands c.loop-peer.members).network a ≡ true) (sym c.element_of-at.ensures)
+          (subst (λ (m : NetworkParts). is_member m (element_of m k) ≡ true) (sym c.loop-peer.invariant.uses.goes.network) (c.requires.joined.peers k below));
+      none = c.loop-peer.invariant.uses.goes.lost c.requires.under.none;
+    }
 
 pub loop-peer-preserved : goal.loop-peer-preserved
 loop-peer-preserved g c =
