@@ -8,7 +8,6 @@ use Rattle.plant_network.specs.plant_model.declared.event.BlindEvent.TheVariants
 use Rattle.plant_network.specs.plant_model.declared.outcome.Outcome.TheVariants as outcome
 use Rattle.plant_network.specs.plant_model.declared.outcome.Refused.{Refused}
 use Rattle.plant_network.specs.plant_model.declared.outcome.Refused.TheVariants as refused
-use Rattle.plant_network.specs.plant_model.declared.output.Lost.{Lost}
 use Rattle.plant_network.specs.plant_model.Blind.{BlindHappened, BlindState, BlindSteps, Nothing, show_nothing}
 use Rattle.plant_network.specs.plant_model.Deeds as deeds
 use Rattle.plant_network.specs.plant_model.Element.{Taken}
@@ -23,9 +22,7 @@ use Rattle.plant_network.specs.plant_traffic.Flow.{Flow}
 use Rattle.plant_network.specs.plant_members.Membership.{Membership, Replied, Standing, is_member, with_element, with_parent}
 use Rattle.plant_network.specs.plant_deeds.Answering.{IsAnswer, Sends}
 use Rattle.plant_network.specs.plant_deeds.Giving.{OnlyGrows}
-use Rattle.plant_network.specs.plant_deeds.Passing.{IsOf}
-use Rattle.plant_network.specs.plant_deeds.Rooms.{IsRoomy}
-use Rattle.plant_network.specs.plant_deeds.Standing.{state_of}
+use Rattle.plant_network.specs.plant_deeds.Standing.{here, state_of}
 use Rattle.plant_network.specs.pce_element.Blind.{stands_for_nothing}
 use Rattle.plant_network.specs.plant_hierarchy.Answering.{IsRefusedFor, ParentAnswers}
 use Rattle.plant_network.specs.plant_hierarchy.Blind.{ElementAnswers, MemberAnswers, nothing_first}
@@ -33,6 +30,7 @@ use Rattle.plant_network.specs.plant_hierarchy.Tiers.{Become, Tiers, lost_in, me
 use Rattle.plant_network.specs.plant_hierarchy.Tiers as tiers
 use Rattle.plant_network.specs.plant_hierarchy.declared.plan.MemberPlan.{MemberPlan}
 use Rattle.plant_network.proofs.AnswerLemmas.{element_answer, parent_answer}
+use Rattle.plant_network.proofs.plant_hierarchy.StepLemmas.{stands_as}
 use Rattle.plant_network.specs.plant_deeds.Moving.{IsKept}
 use Rattle.blind_plant.specs.Held.{IsSound, Moves, held, standing, whole}
 
@@ -147,13 +145,7 @@ refused_steps n d k rows ms f s why same is = go why is
 
 module _ (t t1 : Tiers Nothing Nothing) (c : Carried) (d : As) (k : ℕ) (rows : List BorderRow) (now : ℕ) (sound : IsSound (held t c)) (same : Become nothing_first t (members_of nothing_first t) (lost_in t) t1) where
   pub kept_still : IsKept (standing (held t1 c))
-  kept_still = record {
-    of = subst (λ (n : NetworkParts). IsOf n (flow_of c)) (sym same.network) sound.kept.of;
-    none = λ a. ap (λ (l : As → List Lost). l a) same.lost_is ∙ sound.kept.none a;
-    roomy =
-        subst (λ (n : NetworkParts). IsRoomy n (members_of nothing_first t1) (flow_of c)) (sym same.network)
-        (subst (λ (ms : Members). IsRoomy t.network ms (flow_of c)) (sym same.seen) sound.kept.roomy);
-  }
+  kept_still = subst (λ (s : Standing Nothing Nothing). IsKept (here s (flow_of c))) (sym (stands_as nothing_first t t1 (members_of nothing_first t) (lost_in t) same)) sound.kept
 
   pub planned_err : (why : Refused) → IsRefusedFor t.network d k (members_of nothing_first t) why → Moves (held t c) (Solve d k rows) (Err why) (held t1 c)
   planned_err why is = record {

@@ -8,12 +8,11 @@ use Rattle.plant_network.specs.plant_model.declared.event.Event.TheVariants.{Sol
 use Rattle.plant_network.specs.plant_model.declared.outcome.Outcome.TheVariants as outcome
 use Rattle.plant_network.specs.plant_model.declared.outcome.Refused.{Refused}
 use Rattle.plant_network.specs.plant_model.declared.outcome.Refused.TheVariants as refused
-use Rattle.plant_network.specs.plant_model.declared.output.Lost.{Lost}
 use Rattle.plant_network.specs.plant_model.Deeds as deeds
 use Rattle.plant_network.specs.plant_model.Element.{Taken}
 use Rattle.plant_network.specs.plant_model.Events.{has_jobs}
 use Rattle.plant_network.specs.plant_model.Parent as parent
-use Rattle.plant_network.specs.plant_model.Plant.{Pin, Plant, PlantDeed, Happened, Segment, Steps}
+use Rattle.plant_network.specs.plant_model.Plant.{Pin, Plant, PlantDeed, Happened, Segment, Steps, first_pin}
 use Rattle.plant_network.specs.plant_model.RealWire.{wire}
 use Rattle.plant_network.specs.plant_model.Settings.{place}
 use Rattle.plant_network.specs.plant_model.Solving.{commit}
@@ -23,9 +22,8 @@ use Rattle.plant_network.specs.plant_traffic.Flow.{Flow, SameFlow}
 use Rattle.plant_network.specs.plant_members.Membership.{Membership, Replied, Standing, is_member, with_element, with_parent}
 use Rattle.plant_network.specs.plant_deeds.Answering.{IsAnswer, Sends}
 use Rattle.plant_network.specs.plant_deeds.Giving.{OnlyGrows}
-use Rattle.plant_network.specs.plant_deeds.Passing.{IsOf}
-use Rattle.plant_network.specs.plant_deeds.Rooms.{IsRoomy}
-use Rattle.plant_network.specs.plant_deeds.Standing.{state_of}
+use Rattle.plant_network.specs.plant_deeds.Moving as moving
+use Rattle.plant_network.specs.plant_deeds.Standing.{here, state_of}
 use Rattle.plant_network.specs.plant_hierarchy.Answering.{Commits, ElementAnswers, IsRefusedFor, MemberAnswers, ParentAnswers, number_of}
 use Rattle.plant_network.specs.plant_hierarchy.Tiers.{lost_in}
 use Rattle.plant_network.specs.plant_hierarchy.Tiers as tiers
@@ -33,6 +31,7 @@ use Rattle.plant_network.specs.plant_hierarchy.declared.answering.Unanswered.{Un
 use Rattle.plant_network.specs.pce_parent.declared.work.Done.{Done}
 use Rattle.plant_network.specs.plant_hierarchy.Topologies.{Become, MemberPlan, Tiers, members_of, next_by, standing_of}
 use Rattle.plant_network.proofs.AnswerLemmas.{element_answer, parent_answer}
+use Rattle.plant_network.proofs.plant_hierarchy.StepLemmas.{stands_as}
 use Rattle.pce_plant.specs.Held.{IsKept, IsSound, Moves, held, whole}
 use Rattle.pce_plant.specs.Jobs.{solved_at, solved_number}
 
@@ -141,11 +140,7 @@ refused_steps n d k ms f s why same is = go why is
 
 -- what is not changed but for room is kept
 pub kept_still : (t t' : Tiers) (c : Carried) → IsKept (held t c) → Become t (members_of t) (lost_in t) t' → IsKept (held t' c)
-kept_still t t' c kept still = record {
-  of = subst (λ (m : NetworkParts). IsOf m (flow_of c)) (sym still.network) kept.of;
-  none = λ d. ap (λ (l : As → List Lost). l d) still.lost_is ∙ kept.none d;
-  roomy = subst (λ (m : NetworkParts). IsRoomy m (members_of t') (flow_of c)) (sym still.network) (subst (λ (ms : Membership Pin Segment). IsRoomy t.network ms (flow_of c)) (sym still.seen) kept.roomy);
-}
+kept_still t t' c kept still = subst (λ (s : Standing Pin Segment). moving.IsKept (here s (flow_of c))) (sym (stands_as first_pin t t' (members_of t) (lost_in t) still)) kept
 
 pub stays : (t : Tiers) → Become t (members_of t) (lost_in t) t
 stays t = record { network = refl; seen = refl; lost_is = refl }
