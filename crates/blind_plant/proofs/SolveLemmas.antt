@@ -8,7 +8,6 @@ use Rattle.plant_network.specs.plant_model.declared.event.BlindEvent.TheVariants
 use Rattle.plant_network.specs.plant_model.declared.outcome.Outcome.TheVariants as outcome
 use Rattle.plant_network.specs.plant_model.declared.outcome.Refused.{Refused}
 use Rattle.plant_network.specs.plant_model.declared.outcome.Refused.TheVariants as refused
-use Rattle.plant_network.specs.plant_model.declared.output.Lost.{Lost}
 use Rattle.plant_network.specs.plant_model.Blind.{BlindHappened, BlindState, BlindSteps, Nothing, show_nothing}
 use Rattle.plant_network.specs.plant_model.Deeds as deeds
 use Rattle.plant_network.specs.plant_model.Element.{Taken}
@@ -20,20 +19,19 @@ use Rattle.plant_network.specs.plant_model.Solving.{commit}
 use Rattle.plant_network.specs.plant_model.State.{Deed, Solves, said, sent_by}
 use Rattle.plant_network.specs.plant_traffic.Carried.{Carried, flow_of}
 use Rattle.plant_network.specs.plant_traffic.Flow.{Flow}
-use Rattle.plant_network.specs.plant_members.Membership.{Membership, Replied, is_member, with_element, with_parent}
+use Rattle.plant_network.specs.plant_members.Membership.{Membership, Replied, Standing, is_member, with_element, with_parent}
 use Rattle.plant_network.specs.plant_deeds.Answering.{IsAnswer, Sends}
 use Rattle.plant_network.specs.plant_deeds.Giving.{OnlyGrows}
-use Rattle.plant_network.specs.plant_deeds.Passing.{IsOf}
-use Rattle.plant_network.specs.plant_deeds.Rooms.{IsRoomy}
-use Rattle.plant_network.specs.plant_deeds.Standing.{state_of}
+use Rattle.plant_network.specs.plant_deeds.Standing.{here, state_of}
 use Rattle.plant_network.specs.pce_element.Blind.{stands_for_nothing}
 use Rattle.plant_network.specs.plant_hierarchy.Answering.{IsRefusedFor, ParentAnswers}
 use Rattle.plant_network.specs.plant_hierarchy.Blind.{ElementAnswers, MemberAnswers, nothing_first}
-use Rattle.plant_network.specs.plant_hierarchy.Tiers.{Become, Tiers, lost_in, members_of, next_by}
+use Rattle.plant_network.specs.plant_hierarchy.Tiers.{Become, Tiers, lost_in, members_of, next_by, standing_of}
 use Rattle.plant_network.specs.plant_hierarchy.Tiers as tiers
 use Rattle.plant_network.specs.plant_hierarchy.declared.plan.MemberPlan.{MemberPlan}
 use Rattle.plant_network.proofs.AnswerLemmas.{element_answer, parent_answer}
-use Rattle.plant_network.specs.Moving.{IsKept}
+use Rattle.plant_network.proofs.plant_hierarchy.StepLemmas.{stands_as}
+use Rattle.plant_network.specs.plant_deeds.Moving.{IsKept}
 use Rattle.blind_plant.specs.Held.{IsSound, Moves, held, standing, whole}
 
 abbrev Members : Type 0
@@ -146,14 +144,8 @@ refused_steps n d k rows ms f s why same is = go why is
 -- ---- what is planned, and then done
 
 module _ (t t1 : Tiers Nothing Nothing) (c : Carried) (d : As) (k : ℕ) (rows : List BorderRow) (now : ℕ) (sound : IsSound (held t c)) (same : Become nothing_first t (members_of nothing_first t) (lost_in t) t1) where
-  kept_still : IsKept (standing (held t1 c))
-  kept_still = record {
-    of = subst (λ (n : NetworkParts). IsOf n (flow_of c)) (sym same.network) sound.kept.of;
-    none = λ a. ap (λ (l : As → List Lost). l a) same.lost_is ∙ sound.kept.none a;
-    roomy =
-        subst (λ (n : NetworkParts). IsRoomy n (members_of nothing_first t1) (flow_of c)) (sym same.network)
-        (subst (λ (ms : Members). IsRoomy t.network ms (flow_of c)) (sym same.seen) sound.kept.roomy);
-  }
+  pub kept_still : IsKept (standing (held t1 c))
+  kept_still = subst (λ (s : Standing Nothing Nothing). IsKept (here s (flow_of c))) (sym (stands_as nothing_first t t1 (members_of nothing_first t) (lost_in t) same)) sound.kept
 
   pub planned_err : (why : Refused) → IsRefusedFor t.network d k (members_of nothing_first t) why → Moves (held t c) (Solve d k rows) (Err why) (held t1 c)
   planned_err why is = record {
@@ -178,36 +170,29 @@ module _ (t t1 : Tiers Nothing Nothing) (c : Carried) (d : As) (k : ℕ) (rows :
         (subst (λ (ms : Members). IsAnswer t.network d (tiers.sent_by p) ms (next_by nothing_first t1 p)) (sym same.seen)
         (member_answer t.network now d k rows (members_of nothing_first t) (record { members = next_by nothing_first t1 p; outputs = tiers.sent_by p }) answers))
 
-    module _ (t' : Tiers Nothing Nothing) (c' : Carried) (network : t'.network ≡ t1.network) (lost : lost_in t' ≡ lost_in t1) (lines : IsOf t1.network (flow_of c')) (roomy : IsRoomy t1.network (members_of nothing_first t') (flow_of c')) where
-      kept_then : IsKept (standing (held t' c'))
-      kept_then = record {
-        of = subst (λ (n : NetworkParts). IsOf n (flow_of c')) (sym network) lines;
-        none = λ a. ap (λ (l : As → List Lost). l a) (lost ∙ same.lost_is) ∙ sound.kept.none a;
-        roomy = subst (λ (n : NetworkParts). IsRoomy n (members_of nothing_first t') (flow_of c')) (sym network) roomy;
-      }
-
-      pub plan_done : now ≡ (flow_of c).clock → members_of nothing_first t' ≡ next_by nothing_first t1 p → Sends t1.network show_nothing d (tiers.sent_by p) (members_of nothing_first t') (flow_of c) (flow_of c') →
+    module _ (t' : Tiers Nothing Nothing) (c' : Carried) (kept : IsKept (standing (held t' c'))) where
+      pub plan_done : now ≡ (flow_of c).clock → standing_of nothing_first t' ≡ record (standing_of nothing_first t1) { seen = next_by nothing_first t1 p } → Sends t1.network show_nothing d (tiers.sent_by p) (members_of nothing_first t') (flow_of c) (flow_of c') →
           Moves (held t c) (Solve d k rows) (Ok outcome.Done) (held t' c')
       plan_done clock next sends =
           let r : Reply = record { members = next_by nothing_first t1 p; outputs = tiers.sent_by p } in
           let deed : IsDeed t.network d k rows (members_of nothing_first t) (members_of nothing_first t') (flow_of c) (flow_of c') =
-          member_deed t.network d k rows (members_of nothing_first t) (members_of nothing_first t') r (flow_of c) (flow_of c') there next
+          member_deed t.network d k rows (members_of nothing_first t) (members_of nothing_first t') r (flow_of c) (flow_of c') there (ap (λ (s : Standing Nothing Nothing). s.seen) next)
           (subst (λ (i : ℕ). MemberAnswers t.network i d k rows (members_of nothing_first t) r) clock answers)
           (subst (λ (n : NetworkParts). Sends n show_nothing d (tiers.sent_by p) (members_of nothing_first t') (flow_of c) (flow_of c')) same.network sends) in
           record {
-            stepped = record { network = network ∙ same.network; deeds = deed.deeds_are; steps = deed.steps; accepted = deed.says; refused = tt };
-            kept = kept_then;
+            stepped = record { network = ap (λ (s : Standing Nothing Nothing). s.network) next ∙ same.network; deeds = deed.deeds_are; steps = deed.steps; accepted = deed.says; refused = tt };
+            kept = kept;
           }
 
-      pub plan_lacks : members_of nothing_first t' ≡ members_of nothing_first t1 → OnlyGrows (flow_of c) (flow_of c') → Moves (held t c) (Solve d k rows) (Err refused.NoMemory) (held t' c')
-      plan_lacks seen grows = record {
+      pub plan_lacks : standing_of nothing_first t' ≡ standing_of nothing_first t1 → OnlyGrows (flow_of c) (flow_of c') → Moves (held t c) (Solve d k rows) (Err refused.NoMemory) (held t' c')
+      plan_lacks left grows = record {
         stepped = record {
-          network = network ∙ same.network;
+          network = ap (λ (s : Standing Nothing Nothing). s.network) left ∙ same.network;
           deeds = [];
           steps = refused_steps t.network d k rows (members_of nothing_first t) (flow_of c) (whole (held t' c')).state refused.NoMemory
-              (ap (λ (f : Flow). state_of (members_of nothing_first t') f) grows.same ∙ ap (λ (ms : Members). state_of ms (flow_of c)) (seen ∙ same.seen)) tt;
+              (ap (λ (f : Flow). state_of (members_of nothing_first t') f) grows.same ∙ ap (λ (ms : Members). state_of ms (flow_of c)) (ap (λ (s : Standing Nothing Nothing). s.seen) left ∙ same.seen)) tt;
           accepted = tt;
           refused = ap (λ (f : Flow). f.said) grows.same;
         };
-        kept = kept_then;
+        kept = kept;
       }

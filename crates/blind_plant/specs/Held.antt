@@ -6,8 +6,8 @@ use Rattle.plant_network.specs.plant_model.RealWire.{wire}
 use Rattle.plant_network.specs.plant_traffic.Carried.{Carried, flow_of}
 use Rattle.plant_network.specs.plant_deeds.Standing.{Here, here}
 use Rattle.plant_network.specs.plant_hierarchy.Blind.{nothing_first}
-use Rattle.plant_network.specs.plant_hierarchy.Tiers.{Tiers, lost_in, members_of}
-use Rattle.plant_network.specs.Moving as network
+use Rattle.plant_network.specs.plant_hierarchy.Tiers.{Tiers, standing_of}
+use Rattle.plant_network.specs.plant_deeds.Moving as network
 use Rattle.blind_plant.specs.Whole.{Whole}
 
 pub record Held : Type 0 where
@@ -18,7 +18,7 @@ abbrev pub held : Tiers Nothing Nothing → Carried → Held
 held t c = record { members = t; carried = c }
 
 abbrev pub standing : Held → Here Nothing Nothing
-standing h = here h.members.network (members_of nothing_first h.members) (lost_in h.members) (flow_of h.carried)
+standing h = here (standing_of nothing_first h.members) (flow_of h.carried)
 
 abbrev pub whole : Held → Whole
 whole h = network.whole (standing h)

@@ -23,7 +23,7 @@ use Rattle.plant_network.proofs.plant_deeds.RoomySteps.{emptied_keeps}
 use Rattle.plant_network.specs.plant_hierarchy.Loading.{Loads, answer_of, deeds_of}
 use Rattle.plant_network.specs.plant_hierarchy.Tiers.{lost_in}
 use Rattle.plant_network.specs.plant_hierarchy.Topologies.{Tiers, members_of}
-use Rattle.plant_network.proofs.StepLemmas.{kept}
+use Rattle.plant_network.proofs.plant_deeds.StepLemmas.{kept}
 use Rattle.pce_plant.specs.Held.{Held, held, standing, whole, IsSound, Moves}
 
 module _ (d : As) (g : Rows) (old : Held) (r : Result ℕ Refused) (t : Tiers) (loads : Loads d g old.members r t) where

@@ -8,31 +8,30 @@ use Rattle.plant_network.specs.plant_model.declared.event.Event.TheVariants.{Sol
 use Rattle.plant_network.specs.plant_model.declared.outcome.Outcome.TheVariants as outcome
 use Rattle.plant_network.specs.plant_model.declared.outcome.Refused.{Refused}
 use Rattle.plant_network.specs.plant_model.declared.outcome.Refused.TheVariants as refused
-use Rattle.plant_network.specs.plant_model.declared.output.Lost.{Lost}
 use Rattle.plant_network.specs.plant_model.Deeds as deeds
 use Rattle.plant_network.specs.plant_model.Element.{Taken}
 use Rattle.plant_network.specs.plant_model.Events.{has_jobs}
 use Rattle.plant_network.specs.plant_model.Parent as parent
-use Rattle.plant_network.specs.plant_model.Plant.{Pin, Plant, PlantDeed, Happened, Segment, Steps}
+use Rattle.plant_network.specs.plant_model.Plant.{Pin, Plant, PlantDeed, Happened, Segment, Steps, first_pin}
 use Rattle.plant_network.specs.plant_model.RealWire.{wire}
 use Rattle.plant_network.specs.plant_model.Settings.{place}
 use Rattle.plant_network.specs.plant_model.Solving.{commit}
 use Rattle.plant_network.specs.plant_model.State.{Solves, said, sent_by}
 use Rattle.plant_network.specs.plant_traffic.Carried.{Carried, flow_of}
 use Rattle.plant_network.specs.plant_traffic.Flow.{Flow, SameFlow}
-use Rattle.plant_network.specs.plant_members.Membership.{Membership, Replied, is_member, with_element, with_parent}
+use Rattle.plant_network.specs.plant_members.Membership.{Membership, Replied, Standing, is_member, with_element, with_parent}
 use Rattle.plant_network.specs.plant_deeds.Answering.{IsAnswer, Sends}
 use Rattle.plant_network.specs.plant_deeds.Giving.{OnlyGrows}
-use Rattle.plant_network.specs.plant_deeds.Passing.{IsOf}
-use Rattle.plant_network.specs.plant_deeds.Rooms.{IsRoomy}
-use Rattle.plant_network.specs.plant_deeds.Standing.{state_of}
+use Rattle.plant_network.specs.plant_deeds.Moving as moving
+use Rattle.plant_network.specs.plant_deeds.Standing.{here, state_of}
 use Rattle.plant_network.specs.plant_hierarchy.Answering.{Commits, ElementAnswers, IsRefusedFor, MemberAnswers, ParentAnswers, number_of}
 use Rattle.plant_network.specs.plant_hierarchy.Tiers.{lost_in}
 use Rattle.plant_network.specs.plant_hierarchy.Tiers as tiers
 use Rattle.plant_network.specs.plant_hierarchy.declared.answering.Unanswered.{Unanswered}
 use Rattle.plant_network.specs.pce_parent.declared.work.Done.{Done}
-use Rattle.plant_network.specs.plant_hierarchy.Topologies.{Become, MemberPlan, Tiers, members_of, next_by}
+use Rattle.plant_network.specs.plant_hierarchy.Topologies.{Become, MemberPlan, Tiers, members_of, next_by, standing_of}
 use Rattle.plant_network.proofs.AnswerLemmas.{element_answer, parent_answer}
+use Rattle.plant_network.proofs.plant_hierarchy.StepLemmas.{stands_as}
 use Rattle.pce_plant.specs.Held.{IsKept, IsSound, Moves, held, whole}
 use Rattle.pce_plant.specs.Jobs.{solved_at, solved_number}
 
@@ -141,11 +140,7 @@ refused_steps n d k ms f s why same is = go why is
 
 -- what is not changed but for room is kept
 pub kept_still : (t t' : Tiers) (c : Carried) → IsKept (held t c) → Become t (members_of t) (lost_in t) t' → IsKept (held t' c)
-kept_still t t' c kept still = record {
-  of = subst (λ (m : NetworkParts). IsOf m (flow_of c)) (sym still.network) kept.of;
-  none = λ d. ap (λ (l : As → List Lost). l d) still.lost_is ∙ kept.none d;
-  roomy = subst (λ (m : NetworkParts). IsRoomy m (members_of t') (flow_of c)) (sym still.network) (subst (λ (ms : Membership Pin Segment). IsRoomy t.network ms (flow_of c)) (sym still.seen) kept.roomy);
-}
+kept_still t t' c kept still = subst (λ (s : Standing Pin Segment). moving.IsKept (here s (flow_of c))) (sym (stands_as first_pin t t' (members_of t) (lost_in t) still)) kept
 
 pub stays : (t : Tiers) → Become t (members_of t) (lost_in t) t
 stays t = record { network = refl; seen = refl; lost_is = refl }
@@ -195,24 +190,22 @@ module _ (t t1 : Tiers) (c : Carried) (d : As) (now : ℕ) (x : Done) (at_is : d
     pub plan_kept : IsKept (held t1 c)
     plan_kept = kept_still t t1 c sound.kept m.same
 
-    module _ (t' : Tiers) (c' : Carried) (network : t'.network ≡ t1.network) (lost : lost_in t' ≡ lost_in t1) (lines : IsOf t1.network (flow_of c')) (roomy : IsRoomy t1.network (members_of t') (flow_of c')) where
-      kept_then : IsKept (held t' c')
-      kept_then = record {
-        of = subst (λ (n : NetworkParts). IsOf n (flow_of c')) (sym network) lines;
-        none = λ a. ap (λ (l : As → List Lost). l a) (lost ∙ m.same.lost_is) ∙ sound.kept.none a;
-        roomy = subst (λ (n : NetworkParts). IsRoomy n (members_of t') (flow_of c')) (sym network) roomy;
-      }
-
-      pub plan_done : now ≡ (flow_of c).clock → members_of t' ≡ next_by t1 p → Sends t1.network open_of d (tiers.sent_by p) (members_of t') (flow_of c) (flow_of c') →
+    module _ (t' : Tiers) (c' : Carried) (kept : IsKept (held t' c')) where
+      pub plan_done : now ≡ (flow_of c).clock → standing_of t' ≡ record (standing_of t1) { seen = next_by t1 p } → Sends t1.network open_of d (tiers.sent_by p) (members_of t') (flow_of c) (flow_of c') →
           Moves (held t c) (Solve (solved_at x) (solved_number x)) (Ok outcome.Done) (held t' c')
       plan_done clock next sends =
           let r : Replied Pin Segment = record { members = next_by t1 p; outputs = tiers.sent_by p } in
           subst (λ (a : As). Moves (held t c) (Solve a (solved_number x)) (Ok outcome.Done) (held t' c')) at_is
-          (moves_done t t' c c' d (number_of x) r (network ∙ m.same.network) m.there (subst (λ (i : ℕ). MemberAnswers t.network i d (number_of x) (members_of t) r) clock m.answers) next
-          (subst (λ (n : NetworkParts). Sends n open_of d (tiers.sent_by p) (members_of t') (flow_of c) (flow_of c')) m.same.network sends) kept_then)
+          (moves_done t t' c c' d (number_of x) r (ap (λ (s : Standing Pin Segment). s.network) next ∙ m.same.network) m.there (subst (λ (i : ℕ). MemberAnswers t.network i d (number_of x) (members_of t) r) clock m.answers)
+          (ap (λ (s : Standing Pin Segment). s.seen) next)
+          (subst (λ (n : NetworkParts). Sends n open_of d (tiers.sent_by p) (members_of t') (flow_of c) (flow_of c')) m.same.network sends) kept)
 
-      pub plan_lacks : members_of t' ≡ members_of t1 → OnlyGrows (flow_of c) (flow_of c') → Moves (held t c) (Solve (solved_at x) (solved_number x)) (Err refused.NoMemory) (held t' c')
-      plan_lacks seen grows =
-          let still : Become t (members_of t) (lost_in t) t' = record { network = network ∙ m.same.network; seen = seen ∙ m.same.seen; lost_is = lost ∙ m.same.lost_is } in
+      pub plan_lacks : standing_of t' ≡ standing_of t1 → OnlyGrows (flow_of c) (flow_of c') → Moves (held t c) (Solve (solved_at x) (solved_number x)) (Err refused.NoMemory) (held t' c')
+      plan_lacks same grows =
+          let still : Become t (members_of t) (lost_in t) t' = record {
+            network = ap (λ (s : Standing Pin Segment). s.network) same ∙ m.same.network;
+            seen = ap (λ (s : Standing Pin Segment). s.seen) same ∙ m.same.seen;
+            lost_is = ap (λ (s : Standing Pin Segment). s.lost) same ∙ m.same.lost_is;
+          } in
           subst (λ (a : As). Moves (held t c) (Solve a (solved_number x)) (Err refused.NoMemory) (held t' c')) at_is
-          (moves_refused t t' c c' d (number_of x) still grows.same kept_then refused.NoMemory tt)
+          (moves_refused t t' c c' d (number_of x) still grows.same kept refused.NoMemory tt)

@@ -5,7 +5,7 @@ use Rattle.plant_network.specs.plant_model.Plant.{Happened, Steps}
 use Rattle.plant_network.specs.plant_model.RealWire.{wire}
 use Rattle.plant_lasting.specs.Lasting.{AreInOrder, JobsLast}
 use Rattle.plant_lasting.proofs.EventsLast.{steps_last, keys_are_before}
-use Rattle.plant_network.proofs.SoundLemmas as network
+use Rattle.plant_network.proofs.plant_deeds.SoundLemmas as network
 use Rattle.pce_plant.specs.Whole.{GoesOn, Stepped}
 use Rattle.pce_plant.specs.Held.{Held, standing, whole, IsSound, Moves}
 

@@ -5,9 +5,8 @@ use Rattle.plant_network.specs.plant_model.Plant.{Pin, Segment, Steps}
 use Rattle.plant_network.specs.plant_model.RealWire.{wire}
 use Rattle.plant_network.specs.plant_traffic.Carried.{Carried, flow_of}
 use Rattle.plant_network.specs.plant_deeds.Standing.{Here, here}
-use Rattle.plant_network.specs.plant_hierarchy.Tiers.{lost_in}
-use Rattle.plant_network.specs.plant_hierarchy.Topologies.{Tiers, members_of}
-use Rattle.plant_network.specs.Moving as network
+use Rattle.plant_network.specs.plant_hierarchy.Topologies.{Tiers, standing_of}
+use Rattle.plant_network.specs.plant_deeds.Moving as network
 use Rattle.pce_plant.specs.Whole.{Whole}
 
 pub record Held : Type 0 where
@@ -18,7 +17,7 @@ abbrev pub held : Tiers → Carried → Held
 held t c = record { members = t; carried = c }
 
 abbrev pub standing : Held → Here Pin Segment
-standing h = here h.members.network (members_of h.members) (lost_in h.members) (flow_of h.carried)
+standing h = here (standing_of h.members) (flow_of h.carried)
 
 abbrev pub whole : Held → Whole
 whole h = network.whole (standing h)

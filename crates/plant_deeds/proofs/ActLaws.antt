@@ -27,7 +27,7 @@ use Rattle.plant_traffic.specs.Flow.{Flow, Puts, change_access, out_of, room_at,
 use Rattle.plant_deeds.specs.Accounts.{Accounts, has_queue}
 use Rattle.plant_members.specs.Membership.{Membership, lost_at}
 use Rattle.plant_members.specs.Owed.{is_peer}
-use Rattle.plant_deeds.specs.Standing.{Here, here, Goes, state_of}
+use Rattle.plant_deeds.specs.Standing.{Here, here_of, Goes, state_of}
 use Rattle.plant_deeds.specs.Telling.{RoomToTell, count_lost}
 use Rattle.plant_deeds.specs.Acting.{IsOwnTurn, Spent, RoomToAct, Fits, LeavesOff, lost_by, size_in}
 use Rattle.plant_deeds.specs.Peers.{act_at, acts_at, down_at, is_out_empty_at}
@@ -190,7 +190,7 @@ module _ {P : Type 0} {S : Type 0} (show : S → List Hop) (n : NetworkParts) (m
 
   -- a connection that changes but for its queue
   pub goes_access : (i : ℕ) (h : Connection → Connection) (f : Flow) → ((x : Connection) → (h x).out ≡ x.out) →
-      Goes (λ k g. record { state = deeds.with_access P S wire k show i h g.state; deeds = g.deeds }) (here n ms lost f) (here n ms lost (change_access i h f))
+      Goes (λ k g. record { state = deeds.with_access P S wire k show i h g.state; deeds = g.deeds }) (here_of n ms lost f) (here_of n ms lost (change_access i h f))
   goes_access i h f out = record {
     network = refl;
     lost = λ none. none;
@@ -201,23 +201,23 @@ module _ {P : Type 0} {S : Type 0} (show : S → List Hop) (n : NetworkParts) (m
   }
 
   -- a message of a session's own is left out, or said
-  own_said : (at : As) (to : Peer) (ticks : Bool) (o : Own) (f f' : Flow) (b : Bool) → is_left_out ticks o (queue_at at to f) ≡ b → Goes (λ k g. cond b g (deeds.say P S wire k show at to o g)) (here n ms lost f) (here n ms lost f') →
-      Goes (λ k. act_at P S k show at to ticks (action.Send o)) (here n ms lost f) (here n ms lost f')
+  own_said : (at : As) (to : Peer) (ticks : Bool) (o : Own) (f f' : Flow) (b : Bool) → is_left_out ticks o (queue_at at to f) ≡ b → Goes (λ k g. cond b g (deeds.say P S wire k show at to o g)) (here_of n ms lost f) (here_of n ms lost f') →
+      Goes (λ k. act_at P S k show at to ticks (action.Send o)) (here_of n ms lost f) (here_of n ms lost f')
   own_said at to ticks o f f' b left =
-      goes_as (λ k g. cond b g (deeds.say P S wire k show at to o g)) (λ k. act_at P S k show at to ticks (action.Send o)) (here n ms lost f) (here n ms lost f')
+      goes_as (λ k g. cond b g (deeds.say P S wire k show at to o g)) (λ k. act_at P S k show at to ticks (action.Send o)) (here_of n ms lost f) (here_of n ms lost f')
       (λ g is. ap (λ (c : Bool). cond c g (deeds.say P S wire n show at to o g)) (sym left ∙ ap (λ (c : Bool). cond ticks (cond (is_due o) (cond c false true) false) false) (sym (out_empty at to f) ∙ ap (is_out_empty_at P S n show at to) is.state)))
 
-  pub own_left : (at : As) (to : Peer) (ticks : Bool) (o : Own) (f : Flow) → is_left_out ticks o (queue_at at to f) ≡ true → Goes (λ k. act_at P S k show at to ticks (action.Send o)) (here n ms lost f) (here n ms lost f)
-  own_left at to ticks o f left = own_said at to ticks o f f true left (goes_same (here n ms lost f))
+  pub own_left : (at : As) (to : Peer) (ticks : Bool) (o : Own) (f : Flow) → is_left_out ticks o (queue_at at to f) ≡ true → Goes (λ k. act_at P S k show at to ticks (action.Send o)) (here_of n ms lost f) (here_of n ms lost f)
+  own_left at to ticks o f left = own_said at to ticks o f f true left (goes_same (here_of n ms lost f))
 
-  pub own_put : (at : As) (to : Peer) (ticks : Bool) (o : Own) (f f' : Flow) → is_left_out ticks o (queue_at at to f) ≡ false → Puts at to (own_bytes o) f f' → Goes (λ k. act_at P S k show at to ticks (action.Send o)) (here n ms lost f) (here n ms lost f')
+  pub own_put : (at : As) (to : Peer) (ticks : Bool) (o : Own) (f f' : Flow) → is_left_out ticks o (queue_at at to f) ≡ false → Puts at to (own_bytes o) f f' → Goes (λ k. act_at P S k show at to ticks (action.Send o)) (here_of n ms lost f) (here_of n ms lost f')
   own_put at to ticks o f f' left puts = own_said at to ticks o f f' false left (goes_say show n ms lost at to o f f' puts)
 
   -- an outside session goes down
-  pub outside_falls : (i : ℕ) (at : As) (f : Flow) (after : Here P S) → Goes (λ k. deeds.fall P S wire k show at (Outside i)) (here n ms lost (change_access i (with_inbox []) f)) after → Goes (λ k. down_at P S k show at (Outside i)) (here n ms lost f) after
+  pub outside_falls : (i : ℕ) (at : As) (f : Flow) (after : Here P S) → Goes (λ k. deeds.fall P S wire k show at (Outside i)) (here_of n ms lost (change_access i (with_inbox []) f)) after → Goes (λ k. down_at P S k show at (Outside i)) (here_of n ms lost f) after
   outside_falls i at f after =
       goes_then (λ k g. record { state = deeds.with_access P S wire k show i (with_inbox []) g.state; deeds = g.deeds }) (λ k. deeds.fall P S wire k show at (Outside i))
-      (here n ms lost f) (here n ms lost (change_access i (with_inbox []) f)) after (goes_access i (with_inbox []) f (λ x. refl))
+      (here_of n ms lost f) (here_of n ms lost (change_access i (with_inbox []) f)) after (goes_access i (with_inbox []) f (λ x. refl))
 
 module _ {P : Type 0} {S : Type 0} (show : S → List Hop) (at : As) (to : Peer) (ticks : Bool) (k : NetworkParts) where
   -- actions one behind the other

@@ -24,7 +24,7 @@ use Rattle.plant_traffic.specs.Flow.{Flow, Room, Begins, Clears, room_at}
 use Rattle.plant_deeds.specs.Accounts.{count_into, bytes_into, goes_into}
 use Rattle.plant_members.specs.Membership.{Membership, fallen, lost_at}
 use Rattle.plant_members.specs.Owed.{is_peer}
-use Rattle.plant_deeds.specs.Standing.{IsAt, here, Goes}
+use Rattle.plant_deeds.specs.Standing.{IsAt, here_of, Goes}
 use Rattle.plant_deeds.specs.Telling.{Tells, RoomToTell, lost_bytes, count_lost}
 use Rattle.plant_deeds.specs.Breaking.{RoomToBreak}
 use Rattle.plant_deeds.proofs.GoLaws.{goes_then}
@@ -163,18 +163,18 @@ begin_second l u sid f f' apart can begins =
 module _ {P : Type 0} {S : Type 0} (show : S → List Hop) where
   -- the whole of a break
   pub break_goes : (l u : As) (sid : ℕ) (n0 n1 n2 : NetworkParts) (m0 m1 m2 : Membership P S) (l0 l1 l2 : As → List Lost) (f0 f1 f2 f3 f4 f5 : Flow) → sid ≡ next_sid (f0.sessions l u) →
-      Goes (λ n. deeds.fall P S wire n show l (Inner u)) (here n0 m0 l0 f0) (here n1 m1 l1 f1) →
-      Goes (λ n. deeds.fall P S wire n show u (Inner l)) (here n1 m1 l1 f1) (here n2 m2 l2 f2) →
+      Goes (λ n. deeds.fall P S wire n show l (Inner u)) (here_of n0 m0 l0 f0) (here_of n1 m1 l1 f1) →
+      Goes (λ n. deeds.fall P S wire n show u (Inner l)) (here_of n1 m1 l1 f1) (here_of n2 m2 l2 f2) →
       Clears l u f2 f3 → Begins l u sid f3 f4 → Begins u l sid f4 f5 →
-      Goes (λ n. deeds.break_line P S wire n show (record { lower = l; upper = u })) (here n0 m0 l0 f0) (here n2 m2 l2 f5)
+      Goes (λ n. deeds.break_line P S wire n show (record { lower = l; upper = u })) (here_of n0 m0 l0 f0) (here_of n2 m2 l2 f5)
   break_goes l u sid n0 n1 n2 m0 m1 m2 l0 l1 l2 f0 f1 f2 f3 f4 f5 sid_is below above clears lower upper =
       let line : Line = record { lower = l; upper = u } in
-      let two = goes_then (λ n. deeds.fall P S wire n show l (Inner u)) (λ n. deeds.fall P S wire n show u (Inner l)) (here n0 m0 l0 f0) (here n1 m1 l1 f1) (here n2 m2 l2 f2) below above in
-      let three = goes_then (λ n g. deeds.fall P S wire n show u (Inner l) (deeds.fall P S wire n show l (Inner u) g)) (λ n. deeds.clear P S wire n show line) (here n0 m0 l0 f0) (here n2 m2 l2 f2) (here n2 m2 l2 f3) two (goes_clear show n2 m2 l2 l u f2 f3 clears) in
+      let two = goes_then (λ n. deeds.fall P S wire n show l (Inner u)) (λ n. deeds.fall P S wire n show u (Inner l)) (here_of n0 m0 l0 f0) (here_of n1 m1 l1 f1) (here_of n2 m2 l2 f2) below above in
+      let three = goes_then (λ n g. deeds.fall P S wire n show u (Inner l) (deeds.fall P S wire n show l (Inner u) g)) (λ n. deeds.clear P S wire n show line) (here_of n0 m0 l0 f0) (here_of n2 m2 l2 f2) (here_of n2 m2 l2 f3) two (goes_clear show n2 m2 l2 l u f2 f3 clears) in
       let four = goes_then (λ n g. deeds.clear P S wire n show line (deeds.fall P S wire n show u (Inner l) (deeds.fall P S wire n show l (Inner u) g))) (λ n. deeds.begin_end P S wire n show sid l u)
-      (here n0 m0 l0 f0) (here n2 m2 l2 f3) (here n2 m2 l2 f4) three (goes_begin show n2 m2 l2 l u sid f3 f4 lower) in
+      (here_of n0 m0 l0 f0) (here_of n2 m2 l2 f3) (here_of n2 m2 l2 f4) three (goes_begin show n2 m2 l2 l u sid f3 f4 lower) in
       let five = goes_then (λ n g. deeds.begin_end P S wire n show sid l u (deeds.clear P S wire n show line (deeds.fall P S wire n show u (Inner l) (deeds.fall P S wire n show l (Inner u) g)))) (λ n. deeds.begin_end P S wire n show sid u l)
-      (here n0 m0 l0 f0) (here n2 m2 l2 f4) (here n2 m2 l2 f5) four (goes_begin show n2 m2 l2 u l sid f4 f5 upper) in
+      (here_of n0 m0 l0 f0) (here_of n2 m2 l2 f4) (here_of n2 m2 l2 f5) four (goes_begin show n2 m2 l2 u l sid f4 f5 upper) in
       record {
         network = five.network;
         lost = five.lost;

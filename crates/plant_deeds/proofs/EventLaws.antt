@@ -20,7 +20,7 @@ use Rattle.plant_members.specs.plant_model.Events as events
 use Rattle.plant_traffic.specs.Flow.{Flow, ClearsSaid, put_flow, shut}
 use Rattle.plant_deeds.specs.Happening.{IsDone}
 use Rattle.plant_members.specs.Membership.{Membership, expired}
-use Rattle.plant_deeds.specs.Standing.{IsAt, here, Goes, state_of}
+use Rattle.plant_deeds.specs.Standing.{IsAt, here_of, Goes, state_of}
 use Rattle.plant_deeds.specs.Telling.{Tells, tell_all, lost_bytes}
 use Rattle.plant_deeds.proofs.GoLaws.{accounts_same, said_none}
 
@@ -32,8 +32,11 @@ module _ {P : Type 0} {S : Type 0} (show : S → List Hop) (n : NetworkParts) wh
   pub break_none : (a b : As) (ms : Membership P S) (f : Flow) → is_linked n a b ≡ false → IsDone (events.break P S wire n show a b (state_of ms f)) (Err NoSuchPeer) ms f
   break_none a b ms f miss = rw miss (record { answer = refl; state = refl; said = tt })
 
+  pub carry_none : (a b : As) (ms : Membership P S) (f : Flow) → is_linked n a b ≡ false → IsDone (events.carry P S wire n show a b (state_of ms f)) (Err NoSuchPeer) ms f
+  carry_none a b ms f miss = rw miss (record { answer = refl; state = refl; said = tt })
+
   pub break_done : (a b : As) (m : NetworkParts) (ms ms' : Membership P S) (lost lost' : As → List Lost) (f f1 f' : Flow) → is_linked n a b ≡ true → ClearsSaid f f1 →
-      Goes (λ k. deeds.break_line P S wire k show (line a b)) (here n ms lost f1) (here m ms' lost' f') → IsDone (events.break P S wire n show a b (state_of ms f)) (Ok Done) ms' f'
+      Goes (λ k. deeds.break_line P S wire k show (line a b)) (here_of n ms lost f1) (here_of m ms' lost' f') → IsDone (events.break P S wire n show a b (state_of ms f)) (Ok Done) ms' f'
   break_done a b m ms ms' lost lost' f f1 f' hit clears goes =
       let at = goes.goes (events.idle P S wire n show (state_of ms f)) (begins_at ms f f1 clears) in
       rw hit (record { answer = refl; state = at.state; said = at.said })
@@ -62,7 +65,7 @@ module _ {P : Type 0} {S : Type 0} (show : S → List Hop) (n : NetworkParts) wh
       go (Some x) e = cc
 
   pub shut_done : (i : ℕ) (at : As) (m : NetworkParts) (ms ms' : Membership P S) (lost lost' : As → List Lost) (ls : List Lost) (f f1 f2 f3 : Flow) → is_some (f.accesses i).connection ≡ true → at ≡ element_of n i → ClearsSaid f f1 →
-      Tells at ls f1 f2 → Goes (λ k. deeds.fall P S wire k show at (Outside i)) (here n ms lost f1) (here m ms' lost' f2) → f3 ≡ shut i f2 → IsDone (events.shut P S wire n show i (state_of ms f)) (Ok Done) ms' f3
+      Tells at ls f1 f2 → Goes (λ k. deeds.fall P S wire k show at (Outside i)) (here_of n ms lost f1) (here_of m ms' lost' f2) → f3 ≡ shut i f2 → IsDone (events.shut P S wire n show i (state_of ms f)) (Ok Done) ms' f3
   shut_done i at m ms ms' lost lost' ls f f1 f2 f3 hit at_is clears tells goes is = go (f.accesses i).connection hit
     where
       opened_is : (f2.accesses i).opened ≡ (f.accesses i).opened
@@ -83,7 +86,7 @@ module _ {P : Type 0} {S : Type 0} (show : S → List Hop) (n : NetworkParts) wh
 
   -- keys expire
   pub goes_expire : (now : ℕ) (n' : NetworkParts) (ms ms' : Membership P S) (lost lost' : As → List Lost) (f : Flow) → n' ≡ n → ms' ≡ expired now ms → lost' ≡ lost →
-      Goes (λ k. deeds.expire P S wire k show now) (here n ms lost f) (here n' ms' lost' f)
+      Goes (λ k. deeds.expire P S wire k show now) (here_of n ms lost f) (here_of n' ms' lost' f)
   goes_expire now n' ms ms' lost lost' f same_n same_ms same_lost = record {
     network = same_n;
     lost = λ none a. ap (λ (l : As → List Lost). l a) same_lost ∙ none a;

@@ -22,7 +22,7 @@ use Rattle.plant_members.specs.plant_model.Taking.{take}
 use Rattle.plant_members.specs.plant_model.Parent as parent
 use Rattle.plant_traffic.specs.Flow.{Flow, put_flow}
 use Rattle.plant_members.specs.Membership.{Membership, given, with_element, with_parent}
-use Rattle.plant_deeds.specs.Standing.{IsAt, here, Goes, state_of}
+use Rattle.plant_deeds.specs.Standing.{IsAt, here_of, Goes, state_of}
 use Rattle.plant_deeds.specs.Giving.{PutsAll, IsGiven, put_all}
 use Rattle.plant_deeds.proofs.LetterLaws.{puts_keep}
 
@@ -79,7 +79,7 @@ module _ {P : Type 0} {S : Type 0} (show : S → List Hop) (n : NetworkParts) wh
 -- the deed is done by those who make what the message makes of the member, and then put the letters
 pub goes_give : {P : Type 0} {S : Type 0} (show : S → List Hop) (n n' : NetworkParts) (ms mid ms' : Membership P S) (lost lost' : As → List Lost) (at : As) (p : Peer) (m : Message) (letters : List Sent) (f f' : Flow) →
     n' ≡ n → lost' ≡ lost → ms' ≡ mid → IsGiven n show at p f.clock m ms mid letters → PutsAll letters f f' →
-    Goes (λ k. deeds.give P S wire k show at p m) (here n ms lost f) (here n' ms' lost' f')
+    Goes (λ k. deeds.give P S wire k show at p m) (here_of n ms lost f) (here_of n' ms' lost' f')
 goes_give show n n' ms mid ms' lost lost' at p m letters f f' same_n same_lost same_ms is_given puts =
     let keeps = puts_keep letters f in
     let reply = given wire n show at p f.clock m ms in

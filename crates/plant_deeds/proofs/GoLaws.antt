@@ -24,7 +24,7 @@ use Rattle.plant_traffic.specs.plant_sessions.Ends.{own_bytes}
 use Rattle.plant_traffic.specs.Flow.{Flow, Room, Puts, change_access, SameFlow, put_flow, put_at, room_at, queue_at, set_room, out_of}
 use Rattle.plant_deeds.specs.Accounts.{Accounts, count_into, bytes_into, goes_into, has_queue}
 use Rattle.plant_members.specs.Membership.{Membership, raised}
-use Rattle.plant_deeds.specs.Standing.{IsAt, Here, here, Goes, state_of}
+use Rattle.plant_deeds.specs.Standing.{IsAt, Here, here_of, Goes, state_of}
 
 -- what is seen of each connection, where one changes in what is not seen
 pub access_same : {A : Type 0} (Q : Option Connection → A) (h : Connection → Connection) (i j : ℕ) (f : Flow) → ((x : Connection) → Q (Some (h x)) ≡ Q (Some x)) → Q ((change_access i h f).accesses j).connection ≡ Q (f.accesses j).connection
@@ -257,7 +257,7 @@ module _ {P : Type 0} {S : Type 0} where
 
   -- a session says a message of its own
   pub goes_say : (show : S → List Hop) (n : NetworkParts) (ms : Membership P S) (lost : As → List Lost) (at : As) (to : Peer) (o : Own) (f f' : Flow) → Puts at to (own_bytes o) f f' →
-      Goes (λ k. deeds.say P S wire k show at to o) (here n ms lost f) (here n ms lost f')
+      Goes (λ k. deeds.say P S wire k show at to o) (here_of n ms lost f) (here_of n ms lost f')
   goes_say show n ms lost at to o f f' puts =
       let lines = lines_put at to (own_bytes o) f f' puts.kept in
       record {
@@ -274,7 +274,7 @@ module _ {P : Type 0} {S : Type 0} where
 
   -- a session of a member comes up
   pub goes_rise : (show : S → List Hop) (n : NetworkParts) (ms : Membership P S) (lost : As → List Lost) (at : As) (p : Peer) (f : Flow) →
-      Goes (λ k. deeds.rise P S wire k show at p) (here n ms lost f) (here n (raised at p ms) lost f)
+      Goes (λ k. deeds.rise P S wire k show at p) (here_of n ms lost f) (here_of n (raised at p ms) lost f)
   goes_rise show n ms lost at p f = record {
     network = refl;
     lost = λ none. none;

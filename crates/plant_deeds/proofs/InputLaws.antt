@@ -22,7 +22,7 @@ use Rattle.plant_traffic.specs.plant_sessions.Ends.{said_in}
 use Rattle.plant_traffic.specs.Flow.{Flow, MaySet, change_access, room_at, session_at, set_session, set_session_at}
 use Rattle.plant_members.specs.Membership.{Membership, lost_at}
 use Rattle.plant_members.specs.Owed.{is_peer}
-use Rattle.plant_deeds.specs.Standing.{Here, here, Goes}
+use Rattle.plant_deeds.specs.Standing.{Here, here_of, Goes}
 use Rattle.plant_deeds.specs.Acting.{RoomToAct, Fits, lost_by, size_in}
 use Rattle.plant_deeds.specs.Peers.{IsEnd, acts_at, break_at, breaks_by, input_at}
 use Rattle.plant_deeds.specs.Telling.{count_lost}
@@ -64,11 +64,11 @@ may_set n f at (Inner b) x s next end there becomes = (end.linked, ap (λ (q : S
 
 module _ {P : Type 0} {S : Type 0} (show : S → List Hop) (n : NetworkParts) (ms : Membership P S) (lost : As → List Lost) (x : Input) (f : Flow) where
   -- nothing comes to a peer that is closed
-  pub input_closed : (at : As) (to : Peer) → session_at at to f ≡ None → Goes (λ k. input_at P S k show at to x) (here n ms lost f) (here n ms lost f)
+  pub input_closed : (at : As) (to : Peer) → session_at at to f ≡ None → Goes (λ k. input_at P S k show at to x) (here_of n ms lost f) (here_of n ms lost f)
   input_closed at (Inner b) none = cc
   input_closed at (Outside i) none =
-      goes_as (λ k g. g) (λ k. deeds.outside_input P S wire k show i x) (here n ms lost f) (here n ms lost f)
-      (λ g is. go g (g.state.accesses i).connection (ap (λ (s : State P S). option_map (λ (k : Connection). k.session) (s.accesses i).connection) (sym is.state) ∙ none)) (goes_same (here n ms lost f))
+      goes_as (λ k g. g) (λ k. deeds.outside_input P S wire k show i x) (here_of n ms lost f) (here_of n ms lost f)
+      (λ g is. go g (g.state.accesses i).connection (ap (λ (s : State P S). option_map (λ (k : Connection). k.session) (s.accesses i).connection) (sym is.state) ∙ none)) (goes_same (here_of n ms lost f))
     where
       go : (g : Going P S) (c : Option Connection) → option_map (λ (k : Connection). k.session) c ≡ None → g ≡ deeds.outside_step P S wire n show i x g c
       go g None e = refl
@@ -76,10 +76,10 @@ module _ {P : Type 0} {S : Type 0} (show : S → List Hop) (n : NetworkParts) (m
 
   -- an input by which a link breaks
   pub input_breaks : (at : As) (to : Peer) (s : Session) (as' : List Action) (after : Here P S) → session_at at to f ≡ Some s → as' ≡ (turn_of s x).actions → breaks_by to as' ≡ true →
-      Goes (λ k. break_at P S k show at to) (here n ms lost f) after → Goes (λ k. input_at P S k show at to x) (here n ms lost f) after
+      Goes (λ k. break_at P S k show at to) (here_of n ms lost f) after → Goes (λ k. input_at P S k show at to x) (here_of n ms lost f) after
   input_breaks at (Outside i) s as' after there asks breaks = cc
   input_breaks at (Inner b) s as' after there asks breaks =
-      goes_as (λ k. deeds.break_line P S wire k show (line b at)) (λ k. deeds.inner_input P S wire k show (line b at) at b x) (here n ms lost f) after
+      goes_as (λ k. deeds.break_line P S wire k show (line b at)) (λ k. deeds.inner_input P S wire k show (line b at) at b x) (here_of n ms lost f) after
       (λ g is.
       let acts = λ (q : Session). deeds.inner_acts P S wire n show at b (is_tick x) (turn_of q x).actions (record { state = deeds.with_inner P S wire n show at b (turn_of q x).next g.state; deeds = g.deeds }) in
       let falls : any_fall (turn_of (g.state.sessions at b) x).actions ≡ true =
@@ -88,15 +88,15 @@ module _ {P : Type 0} {S : Type 0} (show : S → List Hop) (n : NetworkParts) (m
 
   -- an input after which it stays
   outside_stays : (i : ℕ) (s : Session) (after : Here P S) → session_at (element_of n i) (Outside i) f ≡ Some s →
-      Goes (λ k. acts_at P S k show (element_of n i) (Outside i) (is_tick x) (turn_of s x).actions) (here n ms lost (change_access i (with_session (turn_of s x).next) f)) after →
-      Goes (λ k. deeds.outside_input P S wire k show i x) (here n ms lost f) after
+      Goes (λ k. acts_at P S k show (element_of n i) (Outside i) (is_tick x) (turn_of s x).actions) (here_of n ms lost (change_access i (with_session (turn_of s x).next) f)) after →
+      Goes (λ k. deeds.outside_input P S wire k show i x) (here_of n ms lost f) after
   outside_stays i s after there acts =
       let t = turn_of s x in
       let set : NetworkParts → Going P S → Going P S = λ k g. record { state = deeds.with_access P S wire k show i (with_session t.next) g.state; deeds = g.deeds } in
       let acting : NetworkParts → Going P S → Going P S = λ k. acts_at P S k show (element_of n i) (Outside i) (is_tick x) t.actions in
-      goes_as (λ k g. acting k (set k g)) (λ k. deeds.outside_input P S wire k show i x) (here n ms lost f) after
+      goes_as (λ k g. acting k (set k g)) (λ k. deeds.outside_input P S wire k show i x) (here_of n ms lost f) after
       (λ g is. acts_outside show n (is_tick x) i t.actions (set n g) ∙ go g (g.state.accesses i).connection (ap (λ (q : State P S). option_map (λ (k : Connection). k.session) (q.accesses i).connection) (sym is.state) ∙ there))
-      (goes_then set acting (here n ms lost f) (here n ms lost (change_access i (with_session t.next) f)) after (goes_access show n ms lost i (with_session t.next) f (λ k. refl)) acts)
+      (goes_then set acting (here_of n ms lost f) (here_of n ms lost (change_access i (with_session t.next) f)) after (goes_access show n ms lost i (with_session t.next) f (λ k. refl)) acts)
     where
       go : (g : Going P S) (c : Option Connection) → option_map (λ (k : Connection). k.session) c ≡ Some s →
           deeds.outside_acts P S wire n show i (is_tick x) (turn_of s x).actions (record { state = deeds.with_access P S wire n show i (with_session (turn_of s x).next) g.state; deeds = g.deeds }) ≡ deeds.outside_step P S wire n show i x g c
@@ -104,32 +104,32 @@ module _ {P : Type 0} {S : Type 0} (show : S → List Hop) (n : NetworkParts) (m
       go g (Some k) e = ap (λ (q : Session). deeds.outside_step P S wire n show i x g (Some (with_session q k))) (sym (some_is k.session s e))
 
   inner_stays : (at b : As) (after : Here P S) → any_fall (turn_of (f.sessions at b) x).actions ≡ false →
-      Goes (λ k. acts_at P S k show at (Inner b) (is_tick x) (turn_of (f.sessions at b) x).actions) (here n ms lost (set_session at b (turn_of (f.sessions at b) x).next f)) after →
-      Goes (λ k. deeds.inner_input P S wire k show (line b at) at b x) (here n ms lost f) after
+      Goes (λ k. acts_at P S k show at (Inner b) (is_tick x) (turn_of (f.sessions at b) x).actions) (here_of n ms lost (set_session at b (turn_of (f.sessions at b) x).next f)) after →
+      Goes (λ k. deeds.inner_input P S wire k show (line b at) at b x) (here_of n ms lost f) after
   inner_stays at b after calm acts =
       let t = turn_of (f.sessions at b) x in
       let set : NetworkParts → Going P S → Going P S = λ k g. record { state = deeds.with_inner P S wire k show at b t.next g.state; deeds = g.deeds } in
       let acting : NetworkParts → Going P S → Going P S = λ k. acts_at P S k show at (Inner b) (is_tick x) t.actions in
-      goes_as (λ k g. acting k (set k g)) (λ k. deeds.inner_input P S wire k show (line b at) at b x) (here n ms lost f) after
+      goes_as (λ k g. acting k (set k g)) (λ k. deeds.inner_input P S wire k show (line b at) at b x) (here_of n ms lost f) after
       (λ g is. acts_inner show n (is_tick x) at b t.actions (set n g)
       ∙ sym (ap (λ (c : Bool). cond c (deeds.break_line P S wire n show (line b at) g) (deeds.inner_acts P S wire n show at b (is_tick x) t.actions (set n g))) calm)
       ∙ ap (λ (q : Session). cond (any_fall (turn_of q x).actions) (deeds.break_line P S wire n show (line b at) g)
       (deeds.inner_acts P S wire n show at b (is_tick x) (turn_of q x).actions (record { state = deeds.with_inner P S wire n show at b (turn_of q x).next g.state; deeds = g.deeds }))) (ap (λ (q : State P S). q.sessions at b) is.state))
-      (goes_then set acting (here n ms lost f) (here n ms lost (set_session at b t.next f)) after (goes_session show n ms lost at b t.next f) acts)
+      (goes_then set acting (here_of n ms lost f) (here_of n ms lost (set_session at b t.next f)) after (goes_session show n ms lost at b t.next f) acts)
 
   turn_stays : (at : As) (to : Peer) (s : Session) (after : Here P S) → IsEnd n f at to → session_at at to f ≡ Some s → breaks_by to (turn_of s x).actions ≡ false →
-      Goes (λ k. acts_at P S k show at to (is_tick x) (turn_of s x).actions) (here n ms lost (set_session_at at to (turn_of s x).next f)) after → Goes (λ k. input_at P S k show at to x) (here n ms lost f) after
+      Goes (λ k. acts_at P S k show at to (is_tick x) (turn_of s x).actions) (here_of n ms lost (set_session_at at to (turn_of s x).next f)) after → Goes (λ k. input_at P S k show at to x) (here_of n ms lost f) after
   turn_stays at (Outside i) s after end there calm acts =
-      outside_stays i s after there (subst (λ (a : As). Goes (λ k. acts_at P S k show a (Outside i) (is_tick x) (turn_of s x).actions) (here n ms lost (change_access i (with_session (turn_of s x).next) f)) after) end acts)
+      outside_stays i s after there (subst (λ (a : As). Goes (λ k. acts_at P S k show a (Outside i) (is_tick x) (turn_of s x).actions) (here_of n ms lost (change_access i (with_session (turn_of s x).next) f)) after) end acts)
   turn_stays at (Inner b) s after end there calm acts =
       let is : s ≡ f.sessions at b = sym (some_is (f.sessions at b) s there) in
       inner_stays at b after (ap (λ (q : Session). any_fall (turn_of q x).actions) (sym is) ∙ calm)
-      (subst (λ (q : Session). Goes (λ k. acts_at P S k show at (Inner b) (is_tick x) (turn_of q x).actions) (here n ms lost (set_session at b (turn_of q x).next f)) after) is acts)
+      (subst (λ (q : Session). Goes (λ k. acts_at P S k show at (Inner b) (is_tick x) (turn_of q x).actions) (here_of n ms lost (set_session at b (turn_of q x).next f)) after) is acts)
 
   pub input_stays : (at : As) (to : Peer) (s s' : Session) (ticks : Bool) (as' : List Action) (f1 : Flow) (after : Here P S) → IsEnd n f at to → session_at at to f ≡ Some s → as' ≡ (turn_of s x).actions → s' ≡ (turn_of s x).next → ticks ≡ is_tick x →
-      breaks_by to as' ≡ false → f1 ≡ set_session_at at to s' f → Goes (λ k. acts_at P S k show at to ticks as') (here n ms lost f1) after → Goes (λ k. input_at P S k show at to x) (here n ms lost f) after
+      breaks_by to as' ≡ false → f1 ≡ set_session_at at to s' f → Goes (λ k. acts_at P S k show at to ticks as') (here_of n ms lost f1) after → Goes (λ k. input_at P S k show at to x) (here_of n ms lost f) after
   input_stays at to s s' ticks as' f1 after end there asks becomes ticks_is calm f_is acts =
       turn_stays at to s after end there (ap (breaks_by to) (sym asks) ∙ calm)
-      (subst (λ (z : Flow). Goes (λ k. acts_at P S k show at to (is_tick x) (turn_of s x).actions) (here n ms lost z) after) (f_is ∙ ap (λ (q : Session). set_session_at at to q f) becomes)
-      (subst (λ (a : List Action). Goes (λ k. acts_at P S k show at to (is_tick x) a) (here n ms lost f1) after) asks
-      (subst (λ (t : Bool). Goes (λ k. acts_at P S k show at to t as') (here n ms lost f1) after) ticks_is acts)))
+      (subst (λ (z : Flow). Goes (λ k. acts_at P S k show at to (is_tick x) (turn_of s x).actions) (here_of n ms lost z) after) (f_is ∙ ap (λ (q : Session). set_session_at at to q f) becomes)
+      (subst (λ (a : List Action). Goes (λ k. acts_at P S k show at to (is_tick x) a) (here_of n ms lost f1) after) asks
+      (subst (λ (t : Bool). Goes (λ k. acts_at P S k show at to t as') (here_of n ms lost f1) after) ticks_is acts)))

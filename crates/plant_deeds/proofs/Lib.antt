@@ -20,6 +20,8 @@ pub mod PassUp
 pub mod PassPending
 pub mod PassRoom
 pub mod PassLaws
+pub mod StepLemmas
+pub mod SoundLemmas
 pub mod PassEvents
 pub mod LinkLaws
 pub mod BreakLaws

@@ -24,7 +24,7 @@ use Rattle.plant_traffic.specs.plant_sessions.Rooms.{room_in_all}
 use Rattle.plant_traffic.specs.Flow.{Flow, Begins, Clears, Puts, set_session, room_at, queue_at}
 use Rattle.plant_deeds.specs.Accounts.{Accounts, count_into, bytes_into, queue_in, has_queue}
 use Rattle.plant_members.specs.Membership.{Membership}
-use Rattle.plant_deeds.specs.Standing.{IsAt, here, Goes, state_of}
+use Rattle.plant_deeds.specs.Standing.{IsAt, here_of, Goes, state_of}
 use Rattle.plant_deeds.proofs.GoLaws.{goes_then, goes_say, as_is, said_none}
 
 -- the same queues, and the same room
@@ -151,7 +151,7 @@ begins_puts at b sid f f' begins = record { kept = begins.kept; room = record { 
 
 module _ {P : Type 0} {S : Type 0} (show : S → List Hop) (n : NetworkParts) (ms : Membership P S) (lost : As → List Lost) where
   pub goes_session : (at b : As) (s : Session) (f : Flow) →
-      Goes (λ k g. record { state = deeds.with_inner P S wire k show at b s g.state; deeds = g.deeds }) (here n ms lost f) (here n ms lost (set_session at b s f))
+      Goes (λ k g. record { state = deeds.with_inner P S wire k show at b s g.state; deeds = g.deeds }) (here_of n ms lost f) (here_of n ms lost (set_session at b s f))
   goes_session at b s f = record {
     network = refl;
     lost = λ none. none;
@@ -162,11 +162,11 @@ module _ {P : Type 0} {S : Type 0} (show : S → List Hop) (n : NetworkParts) (m
   }
 
   -- an end of a link is made anew and begun
-  pub goes_begin : (at b : As) (sid : ℕ) (f f' : Flow) → Begins at b sid f f' → Goes (λ k. deeds.begin_end P S wire k show sid at b) (here n ms lost f) (here n ms lost f')
+  pub goes_begin : (at b : As) (sid : ℕ) (f f' : Flow) → Begins at b sid f f' → Goes (λ k. deeds.begin_end P S wire k show sid at b) (here_of n ms lost f) (here_of n ms lost f')
   goes_begin at b sid f f' begins =
       let next = (turn_of (new_state (our_offer sid) (record { 0 = f.clock })) input.Begin).next in
       let says = goes_say show n ms lost at (Inner b) (own.Open (our_offer sid)) (set_session at b next f) f' (begins_puts at b sid f f' begins) in
-      let all = goes_then _ _ (here n ms lost f) (here n ms lost (set_session at b next f)) (here n ms lost f') (goes_session at b next f) says in
+      let all = goes_then _ _ (here_of n ms lost f) (here_of n ms lost (set_session at b next f)) (here_of n ms lost f') (goes_session at b next f) says in
       record {
         network = refl;
         lost = λ none. none;
@@ -178,7 +178,7 @@ module _ {P : Type 0} {S : Type 0} (show : S → List Hop) (n : NetworkParts) (m
       }
 
   -- both queues of a link are emptied
-  pub goes_clear : (a b : As) (f f' : Flow) → Clears a b f f' → Goes (λ k. deeds.clear P S wire k show (record { lower = a; upper = b })) (here n ms lost f) (here n ms lost f')
+  pub goes_clear : (a b : As) (f f' : Flow) → Clears a b f f' → Goes (λ k. deeds.clear P S wire k show (record { lower = a; upper = b })) (here_of n ms lost f) (here_of n ms lost f')
   goes_clear a b f f' clears = record {
     network = refl;
     lost = λ none. none;

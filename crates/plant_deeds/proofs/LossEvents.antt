@@ -20,7 +20,7 @@ use Rattle.plant_traffic.specs.Peers.{access_or}
 use Rattle.plant_deeds.specs.Breaking.{RoomToBreak}
 use Rattle.plant_members.specs.Membership.{AreJoined, Membership, fallen, is_member, lost_at}
 use Rattle.plant_deeds.specs.Rooms.{IsRoomy, own_most}
-use Rattle.plant_deeds.specs.Standing.{Goes, here, state_of}
+use Rattle.plant_deeds.specs.Standing.{Goes, here_of, state_of}
 use Rattle.plant_deeds.specs.Telling.{RoomToTell}
 use Rattle.plant_deeds.proofs.EventLaws.{begins_at}
 use Rattle.plant_deeds.proofs.RoomyNeeds.{breaks_room, line_back, line_either, tells_room}
@@ -58,16 +58,16 @@ module _ {P : Type 0} {S : Type 0} (n : NetworkParts) where
 
   module _ (show : S → List Hop) where
     pub break_roomy : (l u : As) (n' : NetworkParts) (ms ms' : Membership P S) (lost lost' : As → List Lost) (f f1 f' : Flow) → AreJoined n → ((a b : As) → has_line a b (lines n) ≡ true → same_as a b ≡ false) → has_line l u (lines n) ≡ true →
-        ClearsSaid f f1 → IsRoomy n ms f → Goes (λ k. deeds.break_line P S wire k show (record { lower = l; upper = u })) (here n ms lost f1) (here n' ms' lost' f') → IsRoomy n ms' f'
+        ClearsSaid f f1 → IsRoomy n ms f → Goes (λ k. deeds.break_line P S wire k show (record { lower = l; upper = u })) (here_of n ms lost f1) (here_of n' ms' lost' f') → IsRoomy n ms' f'
     break_roomy l u n' ms ms' lost lost' f f1 f' joined apart linked clears roomy goes =
         ends_roomy n 0 ms' f'
         (break_keeps show n 0 (own_most n) l u (events.idle P S wire n show (state_of ms f)) n' ms ms' lost lost' f1 f' (omega (arith, some_words n l u linked)) (apart l u linked) (joined.links l u linked)
         (joined.links u l (line_back l u (lines n) linked)) goes (begins_at show n ms f f1 clears) (begins_keeps n ms f f1 clears roomy))
 
     pub shut_roomy : (i : ℕ) (at : As) (n' : NetworkParts) (ms ms' : Membership P S) (lost lost' : As → List Lost) (f f1 f2 f3 : Flow) → at ≡ element_of n i → is_member n (element_of n i) ≡ true →
-        ClearsSaid f f1 → IsRoomy n ms f → Goes (λ k. deeds.fall P S wire k show at (Outside i)) (here n ms lost f1) (here n' ms' lost' f2) → f3 ≡ shut i f2 → IsRoomy n ms' f3
+        ClearsSaid f f1 → IsRoomy n ms f → Goes (λ k. deeds.fall P S wire k show at (Outside i)) (here_of n ms lost f1) (here_of n' ms' lost' f2) → f3 ≡ shut i f2 → IsRoomy n ms' f3
     shut_roomy i at n' ms ms' lost lost' f f1 f2 f3 at_is member clears roomy goes is =
-        let goes' = subst (λ (a : As). Goes (λ k. deeds.fall P S wire k show a (Outside i)) (here n ms lost f1) (here n' ms' lost' f2)) at_is goes in
+        let goes' = subst (λ (a : As). Goes (λ k. deeds.fall P S wire k show a (Outside i)) (here_of n ms lost f1) (here_of n' ms' lost' f2)) at_is goes in
         subst (λ (x : Flow). IsRoomy n ms' x) (sym is)
         (ends_roomy n (own_most n) ms' (shut i f2)
         (shut_keeps show n (own_most n) i (events.idle P S wire n show (state_of ms f)) n' ms ms' lost lost' f1 f2 member goes' (begins_at show n ms f f1 clears) (begins_keeps n ms f f1 clears roomy)))

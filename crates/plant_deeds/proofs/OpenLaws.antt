@@ -32,7 +32,7 @@ use Rattle.plant_members.specs.Membership.{Membership}
 use Rattle.plant_members.specs.Owed.{owed}
 use Rattle.plant_deeds.specs.Rooms.{IsRoomy, emptied, is_live, is_talking, own_most}
 use Rattle.plant_deeds.specs.Roomy.{KeepsOn}
-use Rattle.plant_deeds.specs.Standing.{Goes, IsAt, here, state_of}
+use Rattle.plant_deeds.specs.Standing.{Goes, IsAt, here_of, state_of}
 use Rattle.plant_deeds.proofs.GoLaws.{self}
 use Rattle.plant_deeds.proofs.RoomyNeeds.{live_outside}
 use Rattle.plant_deeds.proofs.RoomySteps.{emptied_keeps, ends_roomy}
@@ -121,7 +121,7 @@ module _ {P : Type 0} {S : Type 0} (show : S → List Hop) (n : NetworkParts) wh
       })
 
   pub opened_roomy : (i holder sid : ℕ) (t : Tick) (g : Going P S) (n' : NetworkParts) (ms ms' : Membership P S) (lost lost' : As → List Lost) (f f' : Flow) → 1 ≤ own_most n → (f.accesses i).connection ≡ Some (just_open holder sid t) →
-      Goes (λ k. deeds.outside_input P S wire k show i input.Begin) (here n ms lost f) (here n' ms' lost' f') → IsAt g ms f → KeepsOn (own_most n) n ms f → IsRoomy n ms' f'
+      Goes (λ k. deeds.outside_input P S wire k show i input.Begin) (here_of n ms lost f) (here_of n' ms' lost' f') → IsAt g ms f → KeepsOn (own_most n) n ms f → IsRoomy n ms' f'
   opened_roomy i holder sid t g n' ms ms' lost lost' f f' some open' goes is keeps =
       ends_roomy n 0 ms' f' (open_keeps show n 0 (own_most n) i holder sid t g n' ms ms' lost lost' f f' (omega (arith, some)) open' goes is keeps)
 
@@ -134,7 +134,7 @@ module _ {P : Type 0} {S : Type 0} (show : S → List Hop) (n : NetworkParts) wh
   }
 
   pub open_done : (i holder : ℕ) (n' : NetworkParts) (ms ms' : Membership P S) (lost lost' : As → List Lost) (f f1 f2 f' : Flow) → i < length n.peers → is_some (f.accesses i).connection ≡ false → connected i holder f f1 → ClearsSaid f1 f2 →
-      Goes (λ k. deeds.outside_input P S wire k show i input.Begin) (here n ms lost f2) (here n' ms' lost' f') → IsDone (events.open_peer P S wire n show i holder (state_of ms f)) (Ok Done) ms' f'
+      Goes (λ k. deeds.outside_input P S wire k show i input.Begin) (here_of n ms lost f2) (here_of n' ms' lost' f') → IsDone (events.open_peer P S wire n show i holder (state_of ms f)) (Ok Done) ms' f'
   open_done i holder n' ms ms' lost lost' f f1 f2 f' below shut' connects clears goes =
       let at = goes.goes (events.idle P S wire n show (events.connect P S wire n show i holder (state_of ms f))) (connected_is i holder ms f f1 f2 connects clears) in
       rw (row_some i n.peers below, none_is (f.accesses i).connection shut') (record { answer = refl; state = at.state; said = at.said })

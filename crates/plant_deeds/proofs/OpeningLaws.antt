@@ -23,7 +23,7 @@ use Rattle.plant_members.specs.Membership.{Membership}
 use Rattle.plant_deeds.specs.Giving.{CoversWords, OnlyGrows, own_words}
 use Rattle.plant_members.specs.Owed.{owed}
 use Rattle.plant_deeds.specs.Rooms.{IsRoomy, is_live, is_talking, own_most}
-use Rattle.plant_deeds.specs.Standing.{Goes, here, state_of}
+use Rattle.plant_deeds.specs.Standing.{Goes, here_of, state_of}
 use Rattle.plant_deeds.proofs.GoLaws.{as_is, goes_then}
 use Rattle.plant_deeds.proofs.LetterLaws.{grows_at, grows_said, grows_then, keeps_grown}
 use Rattle.plant_deeds.proofs.LinkLaws.{goes_begin}
@@ -49,7 +49,7 @@ grown_accounts f f' x = record {
 
 module _ {P : Type 0} {S : Type 0} (show : S → List Hop) (n : NetworkParts) (ms : Membership P S) (lost : As → List Lost) where
   -- room that grew is no deed
-  pub goes_grown : (f f' : Flow) → OnlyGrows f f' → Goes (λ k g. g) (here n ms lost f) (here n ms lost f')
+  pub goes_grown : (f f' : Flow) → OnlyGrows f f' → Goes (λ k g. g) (here_of n ms lost f) (here_of n ms lost f')
   goes_grown f f' x = record {
     network = refl;
     lost = λ none. none;
@@ -61,10 +61,10 @@ module _ {P : Type 0} {S : Type 0} (show : S → List Hop) (n : NetworkParts) (m
 
   -- an end begins once there is room for its Open
   pub goes_begin_one : (at to : As) (f f1 f2 f3 : Flow) → GrowsAt at (Inner to) f f1 → GrowsSaid f1 f2 → Begins at to 0 f2 f3 →
-      Goes (λ k. deeds.begin_end P S wire k show 0 at to) (here n ms lost f) (here n ms lost f3)
+      Goes (λ k. deeds.begin_end P S wire k show 0 at to) (here_of n ms lost f) (here_of n ms lost f3)
   goes_begin_one at to f f1 f2 f3 there said begins =
       let grown = goes_grown f f2 (grows_then f f1 f2 (grows_at at (Inner to) f f1 there) (grows_said f1 f2 said)) in
-      goes_then (λ k g. g) (λ k. deeds.begin_end P S wire k show 0 at to) (here n ms lost f) (here n ms lost f2) (here n ms lost f3) grown (goes_begin show n ms lost at to 0 f2 f3 begins)
+      goes_then (λ k g. g) (λ k. deeds.begin_end P S wire k show 0 at to) (here_of n ms lost f) (here_of n ms lost f2) (here_of n ms lost f3) grown (goes_begin show n ms lost at to 0 f2 f3 begins)
 
   pub begin_more : (xs : List Line) (k : ℕ) (x : Line) (g : Going P S) → slice_get xs k ≡ Some x →
       deeds.begin_line P S wire n show 0 x (events.begin_lines P S wire n show (take k xs) g) ≡ events.begin_lines P S wire n show (take (suc k) xs) g

@@ -21,7 +21,7 @@ use Rattle.plant_traffic.specs.Flow.{Flow, change_access, set_access, set_sessio
 use Rattle.plant_traffic.proofs.PeerLemmas.{number_same}
 use Rattle.plant_traffic.proofs.RowLemmas.{pair_same}
 use Rattle.plant_members.specs.Membership.{Membership}
-use Rattle.plant_deeds.specs.Standing.{here, Goes}
+use Rattle.plant_deeds.specs.Standing.{here_of, Goes}
 use Rattle.plant_deeds.proofs.GoLaws.{goes_same}
 use Rattle.plant_deeds.specs.Peers.{IsEnd, input_at}
 use Rattle.plant_deeds.proofs.InputLaws.{input_closed, input_stays}
@@ -67,10 +67,10 @@ module _ (now : Tick) where
   loud_at at (Inner b) f f1 loud is = loud_end at b f f1 loud is
 
   module _ {P : Type 0} {S : Type 0} (show : S → List Hop) (n : NetworkParts) (ms : Membership P S) (lost : As → List Lost) where
-    closed_peer : (at : As) (i : ℕ) (f f1 : Flow) → (f.accesses i).connection ≡ None → f1 ≡ change_access i (ticked_quietly now) f → Goes (λ k. input_at P S k show at (Outside i) (input.Tick now)) (here n ms lost f) (here n ms lost f1)
+    closed_peer : (at : As) (i : ℕ) (f f1 : Flow) → (f.accesses i).connection ≡ None → f1 ≡ change_access i (ticked_quietly now) f → Goes (λ k. input_at P S k show at (Outside i) (input.Tick now)) (here_of n ms lost f) (here_of n ms lost f1)
     closed_peer at i f f1 none is =
         let same : f1 ≡ f = loud_none is in
-        subst (λ (g : Flow). Goes (λ k. input_at P S k show at (Outside i) (input.Tick now)) (here n ms lost f) (here n ms lost g)) (sym same)
+        subst (λ (g : Flow). Goes (λ k. input_at P S k show at (Outside i) (input.Tick now)) (here_of n ms lost f) (here_of n ms lost g)) (sym same)
         (input_closed show n ms lost (input.Tick now) f at (Outside i) (ap (option_map (λ (k : Connection). k.session)) none))
       where
         loud_none : f1 ≡ change_access i (ticked_quietly now) f → f1 ≡ f
@@ -81,27 +81,27 @@ module _ (now : Tick) where
             ∙ ap (λ (o : Option Connection). let a : Access = record { opened = (f.accesses i).opened; connection = o } in a) (sym none)))
 
     open_peer : (at : As) (i : ℕ) (f f1 : Flow) (x : Connection) → IsEnd n f at (Outside i) → (f.accesses i).connection ≡ Some x → is_quiet now x.session ≡ true → f1 ≡ change_access i (ticked_quietly now) f →
-        Goes (λ k. input_at P S k show at (Outside i) (input.Tick now)) (here n ms lost f) (here n ms lost f1)
+        Goes (λ k. input_at P S k show at (Outside i) (input.Tick now)) (here_of n ms lost f) (here_of n ms lost f1)
     open_peer at i f f1 x end some quiet is =
-        input_stays show n ms lost (input.Tick now) f at (Outside i) x.session (after_quiet now x.session) true [] f1 (here n ms lost f1) end
+        input_stays show n ms lost (input.Tick now) f at (Outside i) x.session (after_quiet now x.session) true [] f1 (here_of n ms lost f1) end
         (ap (option_map (λ (k : Connection). k.session)) some) (nothing_is (turn_of x.session (input.Tick now)).actions quiet) (quiet_session x.session quiet) refl refl
         (is ∙ change_like (ticked_quietly now) (with_session (after_quiet now x.session)) i f (Some x) some refl)
-        (goes_same (here n ms lost f1))
+        (goes_same (here_of n ms lost f1))
 
     quiet_peer : (at : As) (i : ℕ) (f f1 : Flow) → IsEnd n f at (Outside i) → is_quiet_peer now (f.accesses i).connection ≡ true → f1 ≡ change_access i (ticked_quietly now) f →
-        Goes (λ k. input_at P S k show at (Outside i) (input.Tick now)) (here n ms lost f) (here n ms lost f1)
+        Goes (λ k. input_at P S k show at (Outside i) (input.Tick now)) (here_of n ms lost f) (here_of n ms lost f1)
     quiet_peer at i f f1 end quiet is = go (f.accesses i).connection refl
       where
-        go : (o : Option Connection) → (f.accesses i).connection ≡ o → Goes (λ k. input_at P S k show at (Outside i) (input.Tick now)) (here n ms lost f) (here n ms lost f1)
+        go : (o : Option Connection) → (f.accesses i).connection ≡ o → Goes (λ k. input_at P S k show at (Outside i) (input.Tick now)) (here_of n ms lost f) (here_of n ms lost f1)
         go None none = closed_peer at i f f1 none is
         go (Some x) some = open_peer at i f f1 x end some (sym (ap (is_quiet_peer now) some) ∙ quiet) is
 
     -- a tick at which a session has nothing to say or to do
-    pub quiet_at : (at : As) (to : Peer) (f f1 : Flow) → IsEnd n f at to → is_quiet_at now at to f ≡ true → f1 ≡ ticked_at now at to f → Goes (λ k. input_at P S k show at to (input.Tick now)) (here n ms lost f) (here n ms lost f1)
+    pub quiet_at : (at : As) (to : Peer) (f f1 : Flow) → IsEnd n f at to → is_quiet_at now at to f ≡ true → f1 ≡ ticked_at now at to f → Goes (λ k. input_at P S k show at to (input.Tick now)) (here_of n ms lost f) (here_of n ms lost f1)
     quiet_at at (Outside i) f f1 end quiet is = quiet_peer at i f f1 end quiet is
     quiet_at at (Inner b) f f1 end quiet is =
-        input_stays show n ms lost (input.Tick now) f at (Inner b) (f.sessions at b) (after_quiet now (f.sessions at b)) true [] f1 (here n ms lost f1) end
-        refl (nothing_is (turn_of (f.sessions at b) (input.Tick now)).actions quiet) (quiet_session (f.sessions at b) quiet) refl refl is (goes_same (here n ms lost f1))
+        input_stays show n ms lost (input.Tick now) f at (Inner b) (f.sessions at b) (after_quiet now (f.sessions at b)) true [] f1 (here_of n ms lost f1) end
+        refl (nothing_is (turn_of (f.sessions at b) (input.Tick now)).actions quiet) (quiet_session (f.sessions at b) quiet) refl refl is (goes_same (here_of n ms lost f1))
 
 -- an end is there
 pub reached : (n : NetworkParts) (f : Flow) (at : As) (to : Peer) → IsEnd n f at to → IsReached at to f

@@ -1,5 +1,5 @@
 -- A member is given the first that waits for it: what is left then, and that this is the event of the model.
-use Rattle.std.proofs.Common.{◌≡◌, ◌⊎◌, ◌≤◌, ℕ, Bool, true, false, not, cond, Option, Some, None, Ok, List, [], ◌∷◌, ◌==◌, drop, refl, ap, sym, subst, ◌∙◌, arith, inl, inr, is_some}
+use Rattle.std.proofs.Common.{◌≡◌, ◌⊎◌, ◌≤◌, ℕ, Bool, true, false, not, cond, Option, Some, None, Ok, Err, List, [], ◌∷◌, ◌==◌, drop, refl, ap, sym, subst, ◌∙◌, arith, inl, inr, is_some}
 use Rattle.std.specs.Prelude.{slice_get}
 use Rattle.std.proofs.lemmas.Bool.{cases_Bool, eqb-true}
 use Rattle.std.specs.Option.{option_map}
@@ -18,7 +18,7 @@ use Rattle.plant_text.specs.declared.settings.NetworkParts.{NetworkParts}
 use Rattle.plant_text.specs.Settings.{line, lines, has_line}
 use Rattle.plant_traffic.specs.plant_sessions.Rooms.{Grows}
 use Rattle.plant_members.specs.plant_model.declared.outcome.Outcome.TheVariants.{Done}
-use Rattle.plant_members.specs.plant_model.declared.outcome.Refused.TheVariants.{NoSuchPeer}
+use Rattle.plant_members.specs.plant_model.declared.outcome.Refused.TheVariants.{NoSuchPeer, NothingToCarry}
 use Rattle.plant_members.specs.plant_model.declared.output.Lost.{Lost}
 use Rattle.plant_members.specs.plant_model.Names.{set_number, set_pair}
 use Rattle.plant_members.specs.plant_model.RealWire.{wire}
@@ -39,7 +39,7 @@ use Rattle.plant_deeds.specs.Passing.{IsOf}
 use Rattle.plant_deeds.specs.Peers.{IsEnd, IsPlaced, acts_at, breaks_by, input_at, receive_at}
 use Rattle.plant_deeds.specs.Rooms.{IsRoomy, is_talking, own_most}
 use Rattle.plant_deeds.specs.Roomy.{KeepsOn}
-use Rattle.plant_deeds.specs.Standing.{IsAt, here, Goes, state_of}
+use Rattle.plant_deeds.specs.Standing.{IsAt, here_of, Goes, state_of}
 use Rattle.plant_deeds.specs.Stepping.{Receives, Steps}
 use Rattle.plant_deeds.specs.Turns.{IsPass}
 use Rattle.plant_deeds.proofs.GoLaws.{access_same, goes_by}
@@ -51,6 +51,7 @@ use Rattle.plant_deeds.proofs.PassRoom.{NoLess, Passing, no_less_then, roomy_gro
 use Rattle.plant_deeds.proofs.PassUp.{pass_stays}
 use Rattle.plant_deeds.proofs.RoomyNeeds.{line_back, linked_in}
 use Rattle.plant_deeds.proofs.RoomySteps.{begins_keeps, ends_roomy}
+use Rattle.plant_deeds.proofs.StepLemmas.{done_moves}
 use Rattle.plant_deeds.proofs.RoomyStarts.{less_keeps, word_less, words_at_link, words_at_peer}
 use Rattle.plant_deeds.proofs.RoomyTakes.{KeepsWord, fits_at, input_keeps, live_at}
 use Rattle.plant_deeds.proofs.TurnLaws.{steps_are_turns}
@@ -107,9 +108,6 @@ pub steps_turn : (at : As) (to : Peer) (as' : List Action) (next : Session) (f :
 steps_turn at to as' next f x = subst (λ (l : List Action). IsOwnTurn l ⊎ IsPass l) (sym x.asks) (steps_are_turns x.session (input_of wire x.item))
 
 -- ---- the first is taken away
-
-pub of_grown : (n : NetworkParts) (f f' : Flow) → OnlyGrows f f' → IsOf n f → IsOf n f'
-of_grown n f f' grows of = record { lines_are = ap (λ (y : Flow). y.lines) grows.same ∙ of.lines_are; peers_are = ap (λ (y : Flow). y.peers) grows.same ∙ of.peers_are }
 
 -- what stays so
 record Gone (at : As) (to : Peer) (cleared f : Flow) : Type 0 where
@@ -182,6 +180,35 @@ module _ {P : Type 0} {S : Type 0} (show : S → List Hop) (n : NetworkParts) wh
         state = ap (state_of ms) drops.kept ∙ ap (λ (y : Flow). state_of ms (set_queue b at (drop 1 (y.queues b at)) y)) same;
         said = ap (λ (y : Flow). y.said) drops.kept ∙ ap (λ (y : Flow). y.said) same;
       }
+
+  -- there is no session
+  pub receive_none : (at : As) (to : Peer) (ms : Membership P S) (f : Flow) → session_at at to f ≡ None → IsDone (receive_at P S n show at to (state_of ms f)) (Err NoSuchPeer) ms f
+  receive_none at (Inner b) ms f none = cc
+  receive_none at (Outside i) ms f none = go (f.accesses i).connection none
+    where
+      go : (c : Option Connection) → option_map (λ (k : Connection). k.session) c ≡ None → IsDone (events.take_open P S wire n show i (state_of ms f) c) (Err NoSuchPeer) ms f
+      go None e = record { answer = refl; state = refl; said = tt }
+      go (Some k) e = cc
+
+  -- nothing waits for it
+  pub receive_nothing : (at : As) (to : Peer) (s : Session) (ms : Membership P S) (f : Flow) → IsPlaced n at to → session_at at to f ≡ Some s → option_map (input_of wire) (first_at at to f) ≡ None →
+      IsDone (receive_at P S n show at to (state_of ms f)) (Err NothingToCarry) ms f
+  receive_nothing at (Outside i) s ms f placed there none = go (f.accesses i).connection there none
+    where
+      items : (ys : List (Option Bytes)) → option_map (input_of wire) (slice_get ys 0) ≡ None → IsDone (events.take_item P S wire n show i (state_of ms f) ys) (Err NothingToCarry) ms f
+      items [] e = record { answer = refl; state = refl; said = tt }
+      items (y ∷ ys) e = cc
+
+      go : (c : Option Connection) → option_map (λ (k : Connection). k.session) c ≡ Some s → option_map (input_of wire) (slice_get (inbox_of c) 0) ≡ None → IsDone (events.take_open P S wire n show i (state_of ms f) c) (Err NothingToCarry) ms f
+      go None e e' = cc
+      go (Some k) e e' = items k.inbox e'
+  receive_nothing at (Inner b) s ms f placed there none =
+      subst (λ (c : Bool). IsDone (cond c (events.carry_first P S wire n show b at (state_of ms f) (f.queues b at)) (events.refused P S wire n show NoSuchPeer (state_of ms f))) (Err NothingToCarry) ms f) (sym placed.0)
+      (items (f.queues b at) none)
+    where
+      items : (ys : List Bytes) → option_map (input_of wire) (option_map Some (slice_get ys 0)) ≡ None → IsDone (events.carry_first P S wire n show b at (state_of ms f) ys) (Err NothingToCarry) ms f
+      items [] e = record { answer = refl; state = refl; said = tt }
+      items (y ∷ ys) e = cc
 
   receive_is : (at : As) (to : Peer) (item : Option Bytes) (s : Session) (ms : Membership P S) (f : Flow) → IsEnd n f at to → IsOf n f → session_at at to f ≡ Some s → first_at at to f ≡ Some item →
       receive_at P S n show at to (state_of ms f) ≡ events.answered P S wire n show Done (input_at P S n show at to (input_of wire item) (first_gone at to (state_of ms f)))
@@ -276,19 +303,14 @@ module _ {P : Type 0} {S : Type 0} (show : S → List Hop) {n : NetworkParts} {a
   pub sets_there : MaySet at to next f
   sets_there = may_set n f at to input x.steps.session next end_there session_there x.steps.becomes
 
-  pub received : {n' : NetworkParts} {ms' : Membership P S} {lost lost' : As → List Lost} {f' : Flow} (u : Unit {0}) → Goes (λ k. input_at P S k show at to input) (here n ms lost f) (here n' ms' lost' f') → ((a : As) → lost a ≡ []) → IsRoomy n ms' f' →
-      Receives show at to (Ok u) (here n ms lost start) (here n' ms' lost' f')
-  received {ms' = ms'} {f' = f'} u goes none roomy =
+  pub received : {n' : NetworkParts} {ms' : Membership P S} {lost lost' : As → List Lost} {f' : Flow} (u : Unit {0}) → Goes (λ k. input_at P S k show at to input) (here_of n ms lost f) (here_of n' ms' lost' f') → ((a : As) → lost a ≡ []) → IsRoomy n ms' f' →
+      Receives show at to (Ok u) (here_of n ms lost start) (here_of n' ms' lost' f')
+  received {n' = n'} {ms' = ms'} {lost = lost} {lost' = lost'} {f' = f'} u goes none roomy =
       let going = first_gone show n at to (state_of ms start) in
       let ended : IsAt (input_at P S n show at to input going) ms' f' = goes.goes going (first_leaves show n at to ms start made x.cleared f x.grows x.clears x.drops) in
-      record {
-        network = goes.network;
-        none = goes.lost none;
-        of = record { lines_are = goes.lines ∙ of_there.lines_are; peers_are = goes.peers ∙ of_there.peers_are };
-        roomy = roomy;
-        done = subst (λ (h : Happened P S). IsDone h (Ok Done) ms' f') (sym (receive_is show n at to x.steps.item x.steps.session ms start x.end x.of x.steps.there x.steps.first)) (record { answer = refl; state = ended.state; said = ended.said });
-        same = tt;
-      }
+      done_moves show (λ k s. receive_at P S k show at to s) (here_of n ms lost start) (here_of n' ms' lost' f') goes.network
+      (record { lines_are = goes.lines ∙ of_there.lines_are; peers_are = goes.peers ∙ of_there.peers_are }) (goes.lost none) roomy (λ s. true) Done
+      (subst (λ (h : Happened P S). IsDone h (Ok Done) ms' f') (sym (receive_is show n at to x.steps.item x.steps.session ms start x.end x.of x.steps.there x.steps.first)) (record { answer = refl; state = ended.state; said = ended.said }))
 
   -- ---- nothing is passed on
 
@@ -302,7 +324,7 @@ module _ {P : Type 0} {S : Type 0} (show : S → List Hop) {n : NetworkParts} {a
     pub acted_fits : FitsTurn at to as' ms f
     acted_fits = subst (λ (l : List Action). FitsTurn at to l ms f) (sym x.steps.asks) (fits_at n (own_most n) at to input x.steps.session ms f end_there x.member of_there session_there x.some keeps_there turn_there)
 
-    pub acted_roomy : {n' : NetworkParts} {ms' : Membership P S} {lost lost' : As → List Lost} {f' : Flow} → Goes (λ k. input_at P S k show at to input) (here n ms lost f) (here n' ms' lost' f') → IsRoomy n ms' f'
+    pub acted_roomy : {n' : NetworkParts} {ms' : Membership P S} {lost lost' : As → List Lost} {f' : Flow} → Goes (λ k. input_at P S k show at to input) (here_of n ms lost f) (here_of n' ms' lost' f') → IsRoomy n ms' f'
     acted_roomy {n' = n'} {ms' = ms'} {lost = lost} {lost' = lost'} {f' = f'} goes =
         ends_roomy n 0 ms' f'
         (input_keeps show n 0 (own_most n) at to input x.steps.session (first_gone show n at to (state_of ms start)) n' ms ms' lost lost' f f' x.some end_there x.member of_there session_there (sym (no_tick x.steps.item)) turn_there
@@ -344,16 +366,16 @@ module _ {P : Type 0} {S : Type 0} (show : S → List Hop) {n : NetworkParts} {a
   calm (Inner b) = refl
 
   pub passed_goes : (n1 n2 : NetworkParts) (ms1 ms2 : Membership P S) (lost lost1 lost2 : As → List Lost) (f4 f5 : Flow) → n1 ≡ n → ms1 ≡ ms → lost1 ≡ lost → f4 ≡ set_session_at at to next f →
-      (IsGiven n1 show at to f4.clock m ms1 mid letters → Goes (λ k. deeds.give P S wire k show at to m) (here n1 ms1 lost1 f4) (here n2 ms2 lost2 f5)) →
-      Goes (λ k. input_at P S k show at to (input_of wire x.steps.item)) (here n ms lost f) (here n2 ms2 lost2 f5)
+      (IsGiven n1 show at to f4.clock m ms1 mid letters → Goes (λ k. deeds.give P S wire k show at to m) (here_of n1 ms1 lost1 f4) (here_of n2 ms2 lost2 f5)) →
+      Goes (λ k. input_at P S k show at to (input_of wire x.steps.item)) (here_of n ms lost f) (here_of n2 ms2 lost2 f5)
   passed_goes n1 n2 ms1 ms2 lost lost1 lost2 f4 f5 same_n same_ms same_lost f4_is goes_if =
-      let after = here n2 ms2 lost2 f5 in
+      let after = here_of n2 ms2 lost2 f5 in
       let gives = λ (k : NetworkParts). deeds.give P S wire k show at to m in
       let clock : f4.clock ≡ start.clock = ap (λ (y : Flow). y.clock) f4_is ∙ (session_keeps at to next f).2 ∙ (taken show x).clock ∙ ap (λ (y : Flow). y.clock) (same show x) in
       let goes = goes_if
       (subst (λ (k : NetworkParts). IsGiven k show at to f4.clock m ms1 mid letters) (sym same_n)
       (subst (λ (y : Membership P S). IsGiven n show at to f4.clock m y mid letters) (sym same_ms) (subst (λ (t : ℕ). IsGiven n show at to t m ms mid letters) (sym clock) is_given))) in
-      let here_goes : Goes gives (here n ms lost f4) after =
-      subst (λ (l : As → List Lost). Goes gives (here n ms l f4) after) same_lost (subst (λ (y : Membership P S). Goes gives (here n y lost1 f4) after) same_ms (subst (λ (k : NetworkParts). Goes gives (here k ms1 lost1 f4) after) same_n goes)) in
+      let here_goes : Goes gives (here_of n ms lost f4) after =
+      subst (λ (l : As → List Lost). Goes gives (here_of n ms l f4) after) same_lost (subst (λ (y : Membership P S). Goes gives (here_of n y lost1 f4) after) same_ms (subst (λ (k : NetworkParts). Goes gives (here_of k ms1 lost1 f4) after) same_n goes)) in
       input_stays show n ms lost (input_of wire x.steps.item) f at to x.steps.session next false (Pass m ∷ []) f4 after (end_there show x) (session_there show x)
-      x.steps.asks x.steps.becomes (no_tick x.steps.item) (calm to) f4_is (goes_by gives (λ k. acts_at P S k show at to false (Pass m ∷ [])) (here n ms lost f4) after (λ k g. refl) here_goes)
+      x.steps.asks x.steps.becomes (no_tick x.steps.item) (calm to) f4_is (goes_by gives (λ k. acts_at P S k show at to false (Pass m ∷ [])) (here_of n ms lost f4) after (λ k g. refl) here_goes)

@@ -31,7 +31,7 @@ use Rattle.plant_members.specs.Membership.{Membership, is_member, expired, falle
 use Rattle.plant_members.specs.Owed.{pending_at, pending_in}
 use Rattle.plant_deeds.specs.Rooms.{is_talking}
 use Rattle.plant_deeds.specs.Roomy.{KeepsOn}
-use Rattle.plant_deeds.specs.Standing.{IsAt, here, Goes}
+use Rattle.plant_deeds.specs.Standing.{IsAt, here_of, Goes}
 use Rattle.plant_deeds.specs.Turns.{IsLast}
 use Rattle.plant_deeds.proofs.BreakLaws.{told}
 use Rattle.plant_deeds.proofs.RoomySteps.{pays_on}
@@ -65,7 +65,7 @@ module _ {P : Type 0} {S : Type 0} (show : S → List Hop) (n : NetworkParts) wh
   -- ---- a session goes down
 
   pub fall_keeps : (own : ℕ) (d : As) (p : Peer) (g : Going P S) (n' : NetworkParts) (ms ms' : Membership P S) (lost lost' : As → List Lost) (f f' : Flow) → is_member n d ≡ true →
-      Goes (λ k. deeds.fall P S wire k show d p) (here n ms lost f) (here n' ms' lost' f') → IsAt g ms f → KeepsOn own n ms f → (ms' ≡ fallen d p ms) × KeepsOn own n ms' f'
+      Goes (λ k. deeds.fall P S wire k show d p) (here_of n ms lost f) (here_of n' ms' lost' f') → IsAt g ms f → KeepsOn own n ms f → (ms' ≡ fallen d p ms) × KeepsOn own n ms' f'
   fall_keeps own d p g n' ms ms' lost lost' f f' member goes is keeps =
       let c = carried (fallen d p) (λ x. told d (lost_at d p x)) g (deeds.fall P S wire n show d p g) ms ms' f f' (fall_leaves show n d p g) is (goes.goes g is) in (
         c.0,
@@ -87,7 +87,7 @@ module _ {P : Type 0} {S : Type 0} (show : S → List Hop) (n : NetworkParts) wh
       (ap (λ (s : State P S). s.queues l u) is'.state ∙ queues.0) (ap (λ (s : State P S). s.queues u l) is'.state ∙ queues.1)) some keeps)
 
   pub break_keeps : (own all : ℕ) (l u : As) (g : Going P S) (n' : NetworkParts) (ms ms' : Membership P S) (lost lost' : As → List Lost) (f f' : Flow) → 2 + own ≤ all → same_as l u ≡ false → is_member n l ≡ true → is_member n u ≡ true →
-      Goes (λ k. deeds.break_line P S wire k show (record { lower = l; upper = u })) (here n ms lost f) (here n' ms' lost' f') → IsAt g ms f → KeepsOn all n ms f → KeepsOn own n ms' f'
+      Goes (λ k. deeds.break_line P S wire k show (record { lower = l; upper = u })) (here_of n ms lost f) (here_of n' ms' lost' f') → IsAt g ms f → KeepsOn all n ms f → KeepsOn own n ms' f'
   break_keeps own all l u g n' ms ms' lost lost' f f' some apart lower upper goes is keeps =
       break_at own all l u g ms ms' f f' some apart lower upper goes.room is (goes.goes g is) keeps
 
@@ -110,7 +110,7 @@ module _ {P : Type 0} {S : Type 0} (show : S → List Hop) (n : NetworkParts) wh
   -- ---- a tick at an outside peer
 
   pub outside_keeps : (own all i : ℕ) (now : Tick) (g : Going P S) (n' : NetworkParts) (ms ms' : Membership P S) (lost lost' : As → List Lost) (f f' : Flow) → 1 + own ≤ all → is_member n (element_of n i) ≡ true →
-      Goes (λ k. deeds.outside_input P S wire k show i (input.Tick now)) (here n ms lost f) (here n' ms' lost' f') → IsAt g ms f → KeepsOn all n ms f → KeepsOn own n ms' f'
+      Goes (λ k. deeds.outside_input P S wire k show i (input.Tick now)) (here_of n ms lost f) (here_of n' ms' lost' f') → IsAt g ms f → KeepsOn all n ms f → KeepsOn own n ms' f'
   outside_keeps own all i now g n' ms ms' lost lost' f f' some member goes is keeps = go (g.state.accesses i).connection refl (goes.goes g is)
     where
       e : As
@@ -163,7 +163,7 @@ module _ {P : Type 0} {S : Type 0} (show : S → List Hop) (n : NetworkParts) wh
   -- ---- a tick at an end of a link
 
   pub inner_keeps : (own all : ℕ) (l u at b : As) (now : Tick) (g : Going P S) (n' : NetworkParts) (ms ms' : Membership P S) (lost lost' : As → List Lost) (f f' : Flow) → 2 + own ≤ all → same_as l u ≡ false → is_member n l ≡ true → is_member n u ≡ true →
-      Goes (λ k. deeds.inner_input P S wire k show (record { lower = l; upper = u }) at b (input.Tick now)) (here n ms lost f) (here n' ms' lost' f') → IsAt g ms f → KeepsOn all n ms f → KeepsOn own n ms' f'
+      Goes (λ k. deeds.inner_input P S wire k show (record { lower = l; upper = u }) at b (input.Tick now)) (here_of n ms lost f) (here_of n' ms' lost' f') → IsAt g ms f → KeepsOn all n ms f → KeepsOn own n ms' f'
   inner_keeps own all l u at b now g n' ms ms' lost lost' f f' some apart lower upper goes is keeps = turns (turn_of (g.state.sessions at b) (input.Tick now)) (ticks_stay_or_end (g.state.sessions at b) now) (goes.goes g is)
     where
       was : Bool
@@ -208,7 +208,7 @@ module _ {P : Type 0} {S : Type 0} (show : S → List Hop) (n : NetworkParts) wh
   expired_pending now ms (d ∷ ds) = ap (λ (k : ℕ). length (ms.elements d).pending.rows + k) (expired_pending now ms ds)
 
   pub expire_keeps : (own now : ℕ) (g : Going P S) (n' : NetworkParts) (ms ms' : Membership P S) (lost lost' : As → List Lost) (f f' : Flow) →
-      Goes (λ k. deeds.expire P S wire k show now) (here n ms lost f) (here n' ms' lost' f') → IsAt g ms f → KeepsOn own n ms f → KeepsOn own n ms' f'
+      Goes (λ k. deeds.expire P S wire k show now) (here_of n ms lost f) (here_of n' ms' lost' f') → IsAt g ms f → KeepsOn own n ms f → KeepsOn own n ms' f'
   expire_keeps own now g n' ms ms' lost lost' f f' goes is keeps =
       let c = carried (expired now) (λ x. []) g (deeds.expire P S wire n show now g) ms ms' f f' (expire_leaves show n now g) is (goes.goes g is) in
       let k = pays_on n 0 own own ms ms f f' [] (still_pays n ms f f' goes.room c.1 (live_like n f f' c.2) keeps.answers.dead) (omega arith) keeps in

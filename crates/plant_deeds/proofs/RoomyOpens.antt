@@ -30,7 +30,7 @@ use Rattle.plant_members.specs.Membership.{Membership, is_member, fallen}
 use Rattle.plant_members.specs.Owed.{is_peer, owed}
 use Rattle.plant_deeds.specs.Rooms.{is_live, is_talking}
 use Rattle.plant_deeds.specs.Roomy.{KeepsOn}
-use Rattle.plant_deeds.specs.Standing.{IsAt, here, Goes, state_of}
+use Rattle.plant_deeds.specs.Standing.{IsAt, here_of, Goes, state_of}
 use Rattle.plant_deeds.proofs.GoLaws.{self, as_is}
 use Rattle.plant_deeds.proofs.LinkLaws.{accounts_like}
 use Rattle.plant_deeds.proofs.ActLaws.{access_accounts}
@@ -163,7 +163,7 @@ module _ {P : Type 0} {S : Type 0} (show : S → List Hop) (n : NetworkParts) wh
 
   -- it goes down first
   pub shut_keeps : (own i : ℕ) (g : Going P S) (n' : NetworkParts) (ms ms' : Membership P S) (lost lost' : As → List Lost) (f f' : Flow) → is_member n (element_of n i) ≡ true →
-      Goes (λ k. deeds.fall P S wire k show (element_of n i) (Outside i)) (here n ms lost f) (here n' ms' lost' f') → IsAt g ms f → KeepsOn own n ms f → KeepsOn own n ms' (shut i f')
+      Goes (λ k. deeds.fall P S wire k show (element_of n i) (Outside i)) (here_of n ms lost f) (here_of n' ms' lost' f') → IsAt g ms f → KeepsOn own n ms f → KeepsOn own n ms' (shut i f')
   shut_keeps own i g n' ms ms' lost lost' f f' member goes is keeps =
       let falls = fall_keeps show n own e (Outside i) g n' ms ms' lost lost' f f' member goes is keeps in
       shut_dead own i ms' f' (λ at. ap (λ (x : Membership P S). owed at (Outside i) x) falls.0 ∙ none at) falls.1
@@ -266,7 +266,7 @@ module _ {P : Type 0} {S : Type 0} (show : S → List Hop) (n : NetworkParts) wh
 
   -- its session says its Open
   pub open_keeps : (own all i holder sid : ℕ) (t : Tick) (g : Going P S) (n' : NetworkParts) (ms ms' : Membership P S) (lost lost' : As → List Lost) (f f' : Flow) → 1 + own ≤ all → (f.accesses i).connection ≡ Some (just_open holder sid t) →
-      Goes (λ k. deeds.outside_input P S wire k show i input.Begin) (here n ms lost f) (here n' ms' lost' f') → IsAt g ms f → KeepsOn all n ms f → KeepsOn own n ms' f'
+      Goes (λ k. deeds.outside_input P S wire k show i input.Begin) (here_of n ms lost f) (here_of n' ms' lost' f') → IsAt g ms f → KeepsOn all n ms f → KeepsOn own n ms' f'
   open_keeps own all i holder sid t g n' ms ms' lost lost' f f' some open' goes is keeps =
       let m : Bytes = own_bytes (saying.Open (our_offer sid)) in
       let x : Connection = just_open holder sid t in

@@ -34,7 +34,7 @@ use Rattle.plant_members.specs.Membership.{Membership, is_member, raised, fallen
 use Rattle.plant_members.specs.Owed.{is_peer, owed, pending_in}
 use Rattle.plant_deeds.specs.Rooms.{is_live, is_talking}
 use Rattle.plant_deeds.specs.Roomy.{KeepsOn}
-use Rattle.plant_deeds.specs.Standing.{IsAt, here, Goes}
+use Rattle.plant_deeds.specs.Standing.{IsAt, here_of, Goes}
 use Rattle.plant_deeds.specs.Telling.{RoomToTell, count_lost}
 use Rattle.plant_deeds.specs.Turns.{IsPass}
 use Rattle.plant_deeds.proofs.GoLaws.{self}
@@ -184,7 +184,7 @@ module _ {P : Type 0} {S : Type 0} (show : S → List Hop) (n : NetworkParts) wh
   -- an input to the session of an outside peer, no tick, that passes nothing on
   take_keeps : (own all i : ℕ) (x : Input) (g : Going P S) (n' : NetworkParts) (ms ms' : Membership P S) (lost lost' : As → List Lost) (f f' : Flow) → 2 + own ≤ all → is_member n (element_of n i) ≡ true → is_tick x ≡ false →
       ((c : Connection) → (f.accesses i).connection ≡ Some c → IsOwnTurn (turn_of c.session x).actions) → (is_live n f (element_of n i) (Outside i) ≡ true → KeepsWord (element_of n i) (Outside i) ms f) →
-      Goes (λ k. deeds.outside_input P S wire k show i x) (here n ms lost f) (here n' ms' lost' f') → IsAt g ms f → KeepsOn all n ms f → KeepsOn own n ms' f'
+      Goes (λ k. deeds.outside_input P S wire k show i x) (here_of n ms lost f) (here_of n' ms' lost' f') → IsAt g ms f → KeepsOn all n ms f → KeepsOn own n ms' f'
   take_keeps own all i x g n' ms ms' lost lost' f f' some member later turn word goes is keeps = go (g.state.accesses i).connection refl (goes.goes g is)
     where
       e : As
@@ -267,7 +267,7 @@ module _ {P : Type 0} {S : Type 0} (show : S → List Hop) (n : NetworkParts) wh
   -- at an end of a link
   carry_keeps : (own all : ℕ) (l u at b : As) (x : Input) (g : Going P S) (n' : NetworkParts) (ms ms' : Membership P S) (lost lost' : As → List Lost) (f f' : Flow) → 2 + own ≤ all → same_as l u ≡ false → is_member n l ≡ true → is_member n u ≡ true →
       has_line at b (lines n) ≡ true → is_tick x ≡ false → IsOwnTurn (turn_of (f.sessions at b) x).actions → KeepsWord at (Inner b) ms f →
-      Goes (λ k. deeds.inner_input P S wire k show (record { lower = l; upper = u }) at b x) (here n ms lost f) (here n' ms' lost' f') → IsAt g ms f → KeepsOn all n ms f → KeepsOn own n ms' f'
+      Goes (λ k. deeds.inner_input P S wire k show (record { lower = l; upper = u }) at b x) (here_of n ms lost f) (here_of n' ms' lost' f') → IsAt g ms f → KeepsOn all n ms f → KeepsOn own n ms' f'
   carry_keeps own all l u at b x g n' ms ms' lost lost' f f' some apart lower upper live later turn word goes is keeps =
       step (turn_of (g.state.sessions at b) x) (subst (λ (s : Session). IsOwnTurn (turn_of s x).actions) (ap (λ (s : State P S). s.sessions at b) is.state) turn) (steps_live_or_die (g.state.sessions at b) x)
       (subst (λ (c : Bool). IsAt (acted c (turn_of (g.state.sessions at b) x).actions (turn_of (g.state.sessions at b) x).next) ms' f') later (goes.goes g is))
@@ -308,7 +308,7 @@ module _ {P : Type 0} {S : Type 0} (show : S → List Hop) (n : NetworkParts) wh
   -- the same of any peer
   pub input_keeps : (own all : ℕ) (at : As) (to : Peer) (x : Input) (s : Session) (g : Going P S) (n' : NetworkParts) (ms ms' : Membership P S) (lost lost' : As → List Lost) (f f' : Flow) → 2 + own ≤ all → IsEnd n f at to → is_member n at ≡ true → IsOf n f →
       session_at at to f ≡ Some s → is_tick x ≡ false → IsOwnTurn (turn_of s x).actions → KeepsWord at to ms f →
-      Goes (λ k. input_at P S k show at to x) (here n ms lost f) (here n' ms' lost' f') → IsAt g ms f → KeepsOn all n ms f → KeepsOn own n ms' f'
+      Goes (λ k. input_at P S k show at to x) (here_of n ms lost f) (here_of n' ms' lost' f') → IsAt g ms f → KeepsOn all n ms f → KeepsOn own n ms' f'
   input_keeps own all at (Outside i) x s g n' ms ms' lost lost' f f' some end member of there later turn word goes is keeps =
       take_keeps own all i x g n' ms ms' lost lost' f f' some (subst (λ (a : As). is_member n a ≡ true) end member) later turns (λ live. subst (λ (a : As). KeepsWord a (Outside i) ms f) end word) goes is keeps
     where

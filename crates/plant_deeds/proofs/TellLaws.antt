@@ -25,7 +25,7 @@ use Rattle.plant_traffic.specs.Flow.{Flow, Room, Puts, put_flow, room_at}
 use Rattle.plant_deeds.specs.Accounts.{Accounts, goes_into}
 use Rattle.plant_members.specs.Membership.{Membership, HandsOut, fallen, lost_at}
 use Rattle.plant_members.specs.Owed.{is_peer}
-use Rattle.plant_deeds.specs.Standing.{IsAt, Here, here, Goes, state_of}
+use Rattle.plant_deeds.specs.Standing.{IsAt, Here, here_of, Goes, state_of}
 use Rattle.plant_deeds.specs.Telling.{Tells, RoomToTell, tell_all, lost_bytes, count_lost}
 use Rattle.plant_deeds.proofs.GoLaws.{accounts_same, accounts_then, puts_accounts, put_case, self, as_is}
 
@@ -136,7 +136,7 @@ module _ {P : Type 0} {S : Type 0} (at : As) where
   }
 
   pub tells_more : (start now : Here P S) (l : Lost) (n : NetworkParts) (ms : Membership P S) (lost : As → List Lost) (f : Flow) → TellsOn at start now →
-      n ≡ now.network → ms ≡ now.seen → HandsOut at now.lost (Some l) lost → length (lost_bytes l) ≡ 32 → Puts at l.to (lost_bytes l) now.flow f → TellsOn at start (here n ms lost f)
+      n ≡ now.network → ms ≡ now.seen → HandsOut at now.lost (Some l) lost → length (lost_bytes l) ≡ 32 → Puts at l.to (lost_bytes l) now.flow f → TellsOn at start (here_of n ms lost f)
   tells_more start now l n ms lost f on same_n same_ms hands long puts =
       let first : now.lost at ≡ l ∷ lost at = hands.0 in
       let rest : tell_all at (l ∷ lost at) now.flow ≡ record (tell_all at (start.lost at) start.flow) { room = now.flow.room } = ap (λ (ls : List Lost). tell_all at ls now.flow) (sym first) ∙ on.rest in
@@ -178,7 +178,7 @@ module _ {P : Type 0} {S : Type 0} (show : S → List Hop) (n : NetworkParts) wh
       (ap (state_of ms) tells.kept ∙ state_told at ls ms f, ap (λ (x : Flow). x.said) tells.kept ∙ said_told at ls f)
 
   pub goes_fall : (ms : Membership P S) (lost lost' : As → List Lost) (at : As) (p : Peer) (f f' : Flow) → (((a : As) → lost a ≡ []) → (a : As) → lost' a ≡ []) →
-      Tells at (lost_at at p ms) f f' → Goes (λ k. deeds.fall P S wire k show at p) (here n ms lost f) (here n (fallen at p ms) lost' f')
+      Tells at (lost_at at p ms) f f' → Goes (λ k. deeds.fall P S wire k show at p) (here_of n ms lost f) (here_of n (fallen at p ms) lost' f')
   goes_fall ms lost lost' at p f f' none tells =
       let keeps = tell_keeps at (lost_at at p ms) f in
       record {
@@ -218,14 +218,14 @@ module _ {P : Type 0} {S : Type 0} (show : S → List Hop) (n : NetworkParts) wh
 -- a session goes down where its lost requests are told after it
 pub fall_goes : {P : Type 0} {S : Type 0} (show : S → List Hop) (n n' : NetworkParts) (ms ms' : Membership P S) (lost mid lost' : As → List Lost) (at : As) (p : Peer) (f f' : Flow) →
     n' ≡ n → ms' ≡ fallen at p ms → mid ≡ set_as at (lost_at at p ms) lost → ((a : As) → lost' a ≡ set_as at [] mid a) → Tells at (mid at) f f' →
-    Goes (λ k. deeds.fall P S wire k show at p) (here n ms lost f) (here n' ms' lost' f')
+    Goes (λ k. deeds.fall P S wire k show at p) (here_of n ms lost f) (here_of n' ms' lost' f')
 fall_goes {P} {S} show n n' ms ms' lost mid lost' at p f f' same_n same_ms mids told tells =
     let hit : same_as at at ≡ true = self at.0 in
     let there : mid at ≡ lost_at at p ms = ap (λ (ls : As → List Lost). ls at) mids ∙ ap (λ (b : Bool). cond b (lost_at at p ms) (lost at)) hit in
     let tells' : Tells at (lost_at at p ms) f f' = subst (λ (ls : List Lost). Tells at ls f f') there tells in
     let all = goes_fall show n ms lost lost' at p f f' none tells' in
-    subst (λ (k : NetworkParts). Goes (λ k'. deeds.fall P S wire k' show at p) (here n ms lost f) (here k ms' lost' f')) (sym same_n)
-    (subst (λ (x : Membership P S). Goes (λ k'. deeds.fall P S wire k' show at p) (here n ms lost f) (here n x lost' f')) (sym same_ms) all)
+    subst (λ (k : NetworkParts). Goes (λ k'. deeds.fall P S wire k' show at p) (here_of n ms lost f) (here_of k ms' lost' f')) (sym same_n)
+    (subst (λ (x : Membership P S). Goes (λ k'. deeds.fall P S wire k' show at p) (here_of n ms lost f) (here_of n x lost' f')) (sym same_ms) all)
   where
     none : ((a : As) → lost a ≡ []) → (a : As) → lost' a ≡ []
     none before a = told a ∙ go (same_as at a) (ap (λ (ls : As → List Lost). ls a) mids) (before a)

@@ -12,10 +12,11 @@ use Rattle.plant_members.specs.plant_model.Events as events
 use Rattle.plant_traffic.specs.Flow.{Flow, ClearsSaid}
 use Rattle.plant_deeds.specs.Happening.{IsDone}
 use Rattle.plant_members.specs.Membership.{KeysBefore, Membership}
+use Rattle.plant_deeds.specs.Moving.{IsKept}
 use Rattle.plant_deeds.specs.Rooms.{IsRoomy, own_most}
 use Rattle.plant_deeds.specs.Roomy.{KeepsOn}
 use Rattle.plant_deeds.specs.Standing.{IsAt, Here, Goes, state_of}
-use Rattle.plant_deeds.specs.Using.{IsOn, Uses}
+use Rattle.plant_deeds.specs.Using.{IsOn, IsUnderWay, Uses}
 use Rattle.plant_deeds.proofs.GoLaws.{goes_then}
 use Rattle.plant_deeds.proofs.RoomySteps.{begins_keeps, ends_roomy, keeps_fewer}
 use Rattle.plant_deeds.proofs.RoomyEvents.{expire_keeps}
@@ -34,13 +35,24 @@ module _ {P : Type 0} {S : Type 0} (show : S → List Hop) where
     said = ap (λ (x : Flow). x.said) is ∙ ap (λ (x : Flow). x.said) clears.kept;
   }
 
-  pub moment_on : (now : ℕ) (ms : Membership P S) (f f1 f2 : Flow) → ClearsSaid f f1 → f2 ≡ record f1 { clock = now } → IsOn ms f2
+  moment_on : (now : ℕ) (ms : Membership P S) (f f1 f2 : Flow) → ClearsSaid f f1 → f2 ≡ record f1 { clock = now } → IsOn ms f2
   moment_on now ms f f1 f2 clears is = record { going = at_moment now ms f; at = moment_is now ms f f1 f2 clears is }
 
-  pub moment_keeps : (now own : ℕ) (n : NetworkParts) (ms : Membership P S) (f f1 f2 : Flow) → ClearsSaid f f1 → f2 ≡ record f1 { clock = now } → own ≤ own_most n → IsRoomy n ms f → KeepsOn own n ms f2
+  moment_keeps : (now own : ℕ) (n : NetworkParts) (ms : Membership P S) (f f1 f2 : Flow) → ClearsSaid f f1 → f2 ≡ record f1 { clock = now } → own ≤ own_most n → IsRoomy n ms f → KeepsOn own n ms f2
   moment_keeps now own n ms f f1 f2 clears is some roomy =
       keeps_fewer n own (own_most n) ms f2 some
       (subst (λ (x : Flow). KeepsOn (own_most n) n ms x) (sym is) (clock_keeps show n (own_most n) now ms f1 (begins_keeps n ms f f1 clears roomy)))
+
+  pub moment_under : (now own : ℕ) (h : Here P S) (f1 f2 : Flow) → ClearsSaid h.flow f1 → f2 ≡ record f1 { clock = now } → own ≤ own_most h.network → IsKept h → IsUnderWay own (record h { flow = f2 })
+  moment_under now own h f1 f2 clears is some kept = record {
+    of = record {
+      lines_are = ap (λ (x : Flow). x.lines) is ∙ ap (λ (x : Flow). x.lines) clears.kept ∙ kept.of.lines_are;
+      peers_are = ap (λ (x : Flow). x.peers) is ∙ ap (λ (x : Flow). x.peers) clears.kept ∙ kept.of.peers_are;
+    };
+    none = kept.none;
+    on = moment_on now h.seen h.flow f1 f2 clears is;
+    keeps = moment_keeps now own h.network h.seen h.flow f1 f2 clears is some kept.roomy;
+  }
 
   module _ (now : Tick) where
     abbrev pub peers_told : NetworkParts → Going P S → Going P S

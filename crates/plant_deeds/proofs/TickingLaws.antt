@@ -21,12 +21,15 @@ use Rattle.plant_deeds.specs.Passing.{IsOf}
 use Rattle.plant_deeds.specs.Peers.{IsLinkEnd}
 use Rattle.plant_deeds.specs.Roomy.{KeepsOn}
 use Rattle.plant_deeds.specs.Standing.{IsAt, Here, Goes}
-use Rattle.plant_deeds.specs.Using.{IsOn, Uses}
+use Rattle.plant_deeds.specs.Using.{IsOn, IsUnderWay, Uses}
 use Rattle.plant_deeds.proofs.GoLaws.{goes_then, self}
 use Rattle.plant_deeds.proofs.RoomyNeeds.{apart_back, line_back}
 use Rattle.plant_deeds.proofs.RoomySteps.{keeps_fewer}
 use Rattle.plant_deeds.proofs.RoomyEvents.{outside_keeps, inner_keeps}
 use Rattle.plant_deeds.proofs.TickLaws.{peers_to, peers_all}
+
+pub goes_of : {P : Type 0} {S : Type 0} {step : NetworkParts → Going P S → Going P S} {a b : Here P S} → Goes step a b → IsOf a.network a.flow → IsOf a.network b.flow
+goes_of goes of = record { lines_are = goes.lines ∙ of.lines_are; peers_are = goes.peers ∙ of.peers_are }
 
 module _ {P : Type 0} {S : Type 0} where
   pub uses_then : (f h : NetworkParts → Going P S → Going P S) (v w : ℕ) (a b c : Here P S) → Uses f v a b → Uses h w b c → Uses (λ n g. h n (f n g)) (v + w) a c
@@ -59,6 +62,15 @@ module _ {P : Type 0} {S : Type 0} where
 
   pub goes_on : {f : NetworkParts → Going P S → Going P S} {a b : Here P S} → Goes f a b → IsOn a.seen a.flow → IsOn b.seen b.flow
   goes_on {f = f} {a = a} x on = record { going = f a.network on.going; at = x.goes on.going on.at }
+
+  -- and all else that the next deed needs
+  pub under_way : {f : NetworkParts → Going P S → Going P S} {a b : Here P S} (v w all : ℕ) → Uses f v a b → v + w ≤ all → IsUnderWay all a → IsUnderWay w b
+  under_way {b = b} v w all x some under = record {
+    of = subst (λ (n : NetworkParts). IsOf n b.flow) (sym x.goes.network) (goes_of x.goes under.of);
+    none = x.goes.lost under.none;
+    on = goes_on x.goes under.on;
+    keeps = room_left v w all x under.on some under.keeps;
+  }
 
   module _ (show : S → List Hop) (now : Tick) where
     -- ---- outside peers
@@ -195,6 +207,3 @@ both_ends n f a b lower upper apart linked of = (
   record { other = upper; apart = apart_back a b apart; linked = ap (has_line a b) of.lines_are ∙ linked },
   record { other = lower; apart = apart; linked = ap (has_line b a) of.lines_are ∙ line_back a b (lines n) linked },
 )
-
-pub goes_of : {P : Type 0} {S : Type 0} {step : NetworkParts → Going P S → Going P S} {a b : Here P S} → Goes step a b → IsOf a.network a.flow → IsOf a.network b.flow
-goes_of goes of = record { lines_are = goes.lines ∙ of.lines_are; peers_are = goes.peers ∙ of.peers_are }

@@ -15,6 +15,8 @@ pub mod Roomy
 pub mod Happening
 pub mod Using
 pub mod Answering
+pub mod Whole
+pub mod Moving
 -- handed on from below
 pub use Rattle.plant_members.specs as plant_members
 pub use Rattle.plant_members.specs.plant_model

@@ -19,6 +19,7 @@ use Rattle.plant_members.specs.plant_model.RealWire.{wire}
 use Rattle.plant_members.specs.plant_model.State.{State}
 use Rattle.plant_traffic.specs.Flow.{Flow}
 use Rattle.plant_members.specs.Membership.{is_member}
+use Rattle.plant_deeds.specs.Standing.{Here}
 
 -- both ends of a link are members, and two
 pub record IsLinkEnd (n : NetworkParts) (f : Flow) (at b : As) : Type 0 where
@@ -29,6 +30,12 @@ pub record IsLinkEnd (n : NetworkParts) (f : Flow) (at b : As) : Type 0 where
 abbrev pub IsEnd : NetworkParts → Flow → As → Peer → Type 0
 IsEnd n f at (Outside i) = at ≡ element_of n i
 IsEnd n f at (Inner b) = IsLinkEnd n f at b
+
+-- it is a member, and no lost request waits to be told
+pub record IsAtEnd {P : Type 0} {S : Type 0} (at : As) (to : Peer) (h : Here P S) : Type 0 where
+  pub end : IsEnd h.network h.flow at to
+  pub member : is_member h.network at ≡ true
+  pub none : (a : As) → h.lost a ≡ []
 
 -- such a link is one of the settings
 abbrev pub IsPlaced : NetworkParts → As → Peer → Type 0

@@ -8,7 +8,7 @@ use Rattle.plant_members.specs.plant_model.State.{State, said}
 use Rattle.plant_members.specs.plant_model.Deeds.{Going}
 use Rattle.plant_traffic.specs.Flow.{Flow}
 use Rattle.plant_deeds.specs.Accounts.{Accounts}
-use Rattle.plant_members.specs.Membership.{Membership}
+use Rattle.plant_members.specs.Membership.{Membership, Standing}
 
 -- the state of the model
 abbrev pub state_of : {P : Type 0} {S : Type 0} → Membership P S → Flow → State P S
@@ -33,8 +33,11 @@ pub record Here (P : Type 0) (S : Type 0) : Type 0 where
   pub lost : As → List Lost
   pub flow : Flow
 
-abbrev pub here : {P : Type 0} {S : Type 0} → NetworkParts → Membership P S → (As → List Lost) → Flow → Here P S
-here n ms lost f = record { network = n; seen = ms; lost = lost; flow = f }
+abbrev pub here_of : {P : Type 0} {S : Type 0} → NetworkParts → Membership P S → (As → List Lost) → Flow → Here P S
+here_of n ms lost f = record { network = n; seen = ms; lost = lost; flow = f }
+
+abbrev pub here : {P : Type 0} {S : Type 0} → Standing P S → Flow → Here P S
+here s f = here_of s.network s.seen s.lost f
 
 -- a deed of the model is done
 pub record Goes {P : Type 0} {S : Type 0} (step : NetworkParts → Going P S → Going P S) (old new : Here P S) : Type 0 where

@@ -1,5 +1,5 @@
 -- A session is given the first that waits for it: what it then asks for, and what it has become.
-use Rattle.std.specs.Prelude.{◌≡◌, List, Option, Some, [], Ok, OnOk, OnErr, Result}
+use Rattle.std.specs.Prelude.{◌≡◌, true, List, Option, Some, Result, Ok, Err}
 use Rattle.dom_base.specs.declared.names.As.{As}
 use Rattle.dom_base.specs.declared.names.NoMemory.{NoMemory}
 use Rattle.dom_base.specs.declared.names.Peer.{Peer}
@@ -8,16 +8,15 @@ use Rattle.pcep_session.specs.declared.actions.Action.{Action}
 use Rattle.pcep_session.specs.declared.state.State.{State as Session}
 use Rattle.pcep_session.specs.Table.{turn_of}
 use Rattle.plant_members.specs.plant_model.declared.outcome.Outcome.TheVariants.{Done}
+use Rattle.plant_members.specs.plant_model.declared.outcome.Refused.TheVariants as refused
 use Rattle.plant_members.specs.plant_model.Deeds.{input_of}
+use Rattle.plant_members.specs.plant_model.Events.{Answered}
 use Rattle.plant_members.specs.plant_model.RealWire.{wire}
 use Rattle.plant_members.specs.plant_model.Wire.{Bytes}
 use Rattle.plant_traffic.specs.Flow.{Flow, first_at, session_at}
-use Rattle.plant_deeds.specs.Giving.{OnlyGrows}
-use Rattle.plant_deeds.specs.Happening.{IsDone}
-use Rattle.plant_deeds.specs.Passing.{IsOf}
+use Rattle.plant_deeds.specs.Moving.{Moves, OrLacks}
 use Rattle.plant_deeds.specs.Peers.{receive_at}
-use Rattle.plant_deeds.specs.Rooms.{IsRoomy}
-use Rattle.plant_deeds.specs.Standing.{Here, state_of}
+use Rattle.plant_deeds.specs.Standing.{Here}
 
 pub record Steps (at : As) (to : Peer) (as' : List Action) (next : Session) (f : Flow) : Type 0 where
   pub session : Session
@@ -27,11 +26,12 @@ pub record Steps (at : As) (to : Peer) (as' : List Action) (next : Session) (f :
   pub asks : as' ≡ (turn_of session (input_of wire item)).actions
   pub becomes : next ≡ (turn_of session (input_of wire item)).next
 
--- A member is given the first that waits for it. Where memory lacked nothing has changed but room.
-pub record Receives {P : Type 0} {S : Type 0} (show : S → List Hop) (at : As) (to : Peer) (r : Result (Unit {0}) NoMemory) (old new : Here P S) : Type 0 where
-  pub network : new.network ≡ old.network
-  pub none : (a : As) → new.lost a ≡ []
-  pub of : IsOf old.network new.flow
-  pub roomy : IsRoomy old.network new.seen new.flow
-  pub done : OnOk r (IsDone (receive_at P S old.network show at to (state_of old.seen old.flow)) (Ok Done) new.seen new.flow)
-  pub same : OnErr r ((new.seen ≡ old.seen) × OnlyGrows old.flow new.flow)
+-- it is done, or memory lacked
+abbrev pub answer_of : Result (Unit {0}) NoMemory → Answered
+answer_of (Ok u) = Ok Done
+answer_of (Err lacks) = Err refused.NoMemory
+
+module _ {P : Type 0} {S : Type 0} where
+  -- a member is given the first that waits for it
+  abbrev pub Receives : (S → List Hop) → As → Peer → Result (Unit {0}) NoMemory → Here P S → Here P S → Type 0
+  Receives show at to r old new = Moves (OrLacks show (λ s. true) (λ n s. receive_at P S n show at to s)) old (answer_of r) new

@@ -14,7 +14,7 @@ ghost use Rattle.plant_traffic.specs.Carried.{flow_of};
 ghost use Rattle.plant_members.specs.Membership.{is_member, lost_at};
 ghost use Rattle.plant_deeds.specs.Standing.{Goes, here};
 ghost use Rattle.plant_deeds.specs.Telling.{RoomToTell};
-ghost use Rattle.plant_deeds.specs.Peers.{IsEnd, act_at, acts_at, break_at, breaks_by, input_at};
+ghost use Rattle.plant_deeds.specs.Peers.{IsAtEnd, act_at, acts_at, break_at, breaks_by, input_at};
 ghost use Rattle.plant_deeds.specs.Acting.{Fits, FitsInput, FitsTurn, LeavesOff, RoomToBreakAt, Spent};
 
 use crate::deeds::{fall, rise, say};
@@ -36,7 +36,7 @@ pub(crate) fn say_own<M: Members>(
 )
     requires there { Covers (room_at at to (flow_of traffic.old)) 1 (length (own_bytes own)) }
     requires said { Covers (flow_of traffic.old).room.said 1 (length (own_bytes own)) }
-    ensures goes { Goes (λ n. act_at M.Pin M.Key n M.show at to ticks (Action.Send own)) (here (M.network _members.now) (M.seen _members.now) (M.lost _members.now) (flow_of traffic.old)) (here (M.network _members.now) (M.seen _members.now) (M.lost _members.now) (flow_of traffic.new)) }
+    ensures goes { Goes (λ n. act_at M.Pin M.Key n M.show at to ticks (Action.Send own)) (here (M.stands _members.now) (flow_of traffic.old)) (here (M.stands _members.now) (flow_of traffic.new)) }
     ensures spent { Spent at to (own_bytes own ∷ []) (flow_of traffic.old) (flow_of traffic.new) }
 {
     if traffic.leaves_out(at, to, ticks, &own) {
@@ -54,10 +54,10 @@ pub(crate) fn go_down<M: Members>(
     _ticks: bool,
     _why: Reason,
 )
-    requires member { is_member (M.network members.old) at ≡ true }
-    requires none { (a : As) → M.lost members.old a ≡ [] }
-    requires room { RoomToTell at (lost_at at to (M.seen members.old)) (flow_of traffic.old) }
-    ensures { Goes (λ n. act_at M.Pin M.Key n M.show at to _ticks (Action.Down _why)) (here (M.network members.old) (M.seen members.old) (M.lost members.old) (flow_of traffic.old)) (here (M.network members.new) (M.seen members.new) (M.lost members.new) (flow_of traffic.new)) }
+    requires member { is_member (M.stands members.old).network at ≡ true }
+    requires none { (a : As) → (M.stands members.old).lost a ≡ [] }
+    requires room { RoomToTell at (lost_at at to (M.stands members.old).seen) (flow_of traffic.old) }
+    ensures { Goes (λ n. act_at M.Pin M.Key n M.show at to _ticks (Action.Down _why)) (here (M.stands members.old) (flow_of traffic.old)) (here (M.stands members.new) (flow_of traffic.new)) }
 {
     match to {
         Peer::Outside(peer) => {
@@ -77,11 +77,11 @@ fn act<M: Members>(
     ticks: bool,
     action: Option<Action>,
 )
-    requires member { is_member (M.network members.old) at ≡ true }
-    requires none { (a : As) → M.lost members.old a ≡ [] }
-    requires fits { Fits at to (option_to_list action) (M.seen members.old) (flow_of traffic.old) }
-    ensures leaves { LeavesOff at to (option_to_list action) (M.seen members.old) (flow_of traffic.old) (M.seen members.new) (flow_of traffic.new) }
-    ensures goes { Goes (λ n. acts_at M.Pin M.Key n M.show at to ticks (option_to_list action)) (here (M.network members.old) (M.seen members.old) (M.lost members.old) (flow_of traffic.old)) (here (M.network members.new) (M.seen members.new) (M.lost members.new) (flow_of traffic.new)) }
+    requires member { is_member (M.stands members.old).network at ≡ true }
+    requires none { (a : As) → (M.stands members.old).lost a ≡ [] }
+    requires fits { Fits at to (option_to_list action) (M.stands members.old).seen (flow_of traffic.old) }
+    ensures leaves { LeavesOff at to (option_to_list action) (M.stands members.old).seen (flow_of traffic.old) (M.stands members.new).seen (flow_of traffic.new) }
+    ensures goes { Goes (λ n. acts_at M.Pin M.Key n M.show at to ticks (option_to_list action)) (here (M.stands members.old) (flow_of traffic.old)) (here (M.stands members.new) (flow_of traffic.new)) }
 {
     match action {
         Some(Action::Send(own)) => say_own(members, traffic, at, to, ticks, own),
@@ -100,10 +100,10 @@ pub(crate) fn acts<M: Members>(
     ticks: bool,
     actions: Actions,
 )
-    requires member { is_member (M.network members.old) at ≡ true }
-    requires none { (a : As) → M.lost members.old a ≡ [] }
-    requires fits { Fits at to (listed actions) (M.seen members.old) (flow_of traffic.old) }
-    ensures { Goes (λ n. acts_at M.Pin M.Key n M.show at to ticks (listed actions)) (here (M.network members.old) (M.seen members.old) (M.lost members.old) (flow_of traffic.old)) (here (M.network members.new) (M.seen members.new) (M.lost members.new) (flow_of traffic.new)) }
+    requires member { is_member (M.stands members.old).network at ≡ true }
+    requires none { (a : As) → (M.stands members.old).lost a ≡ [] }
+    requires fits { Fits at to (listed actions) (M.stands members.old).seen (flow_of traffic.old) }
+    ensures { Goes (λ n. acts_at M.Pin M.Key n M.show at to ticks (listed actions)) (here (M.stands members.old) (flow_of traffic.old)) (here (M.stands members.new) (flow_of traffic.new)) }
 {
     let Actions {
         first,
@@ -127,11 +127,9 @@ fn breaks(to: Peer, actions: &Actions) -> bool
 
 // The link breaks, where the peer is inside.
 fn break_end<M: Members>(members: &mut M, traffic: &mut Traffic, at: As, to: Peer)
-    requires end { IsEnd (M.network members.old) (flow_of traffic.old) at to }
-    requires member { is_member (M.network members.old) at ≡ true }
-    requires none { (a : As) → M.lost members.old a ≡ [] }
-    requires room { RoomToBreakAt at to (M.seen members.old) (flow_of traffic.old) }
-    ensures { Goes (λ n. break_at M.Pin M.Key n M.show at to) (here (M.network members.old) (M.seen members.old) (M.lost members.old) (flow_of traffic.old)) (here (M.network members.new) (M.seen members.new) (M.lost members.new) (flow_of traffic.new)) }
+    requires there { IsAtEnd at to (here (M.stands members.old) (flow_of traffic.old)) }
+    requires room { RoomToBreakAt at to (M.stands members.old).seen (flow_of traffic.old) }
+    ensures { Goes (λ n. break_at M.Pin M.Key n M.show at to) (here (M.stands members.old) (flow_of traffic.old)) (here (M.stands members.new) (flow_of traffic.new)) }
 {
     match to {
         Peer::Outside(_) => {}
@@ -150,13 +148,11 @@ pub(crate) fn step<M: Members>(
     session: Session,
     actions: Actions,
 )
-    requires end { IsEnd (M.network members.old) (flow_of traffic.old) at to }
-    requires member { is_member (M.network members.old) at ≡ true }
-    requires none { (a : As) → M.lost members.old a ≡ [] }
+    requires there { IsAtEnd at to (here (M.stands members.old) (flow_of traffic.old)) }
     requires sets { MaySet at to session (flow_of traffic.old) }
-    requires fits { FitsTurn at to (listed actions) (M.seen members.old) (flow_of traffic.old) }
+    requires fits { FitsTurn at to (listed actions) (M.stands members.old).seen (flow_of traffic.old) }
     ensures { (s : State) (input : Input) → session_at at to (flow_of traffic.old) ≡ Some s → listed actions ≡ (turn_of s input).actions → session ≡ (turn_of s input).next → ticks ≡ deeds.is_tick input
-        → Goes (λ n. input_at M.Pin M.Key n M.show at to input) (here (M.network members.old) (M.seen members.old) (M.lost members.old) (flow_of traffic.old)) (here (M.network members.new) (M.seen members.new) (M.lost members.new) (flow_of traffic.new)) }
+        → Goes (λ n. input_at M.Pin M.Key n M.show at to input) (here (M.stands members.old) (flow_of traffic.old)) (here (M.stands members.new) (flow_of traffic.new)) }
 {
     if breaks(to, &actions) {
         break_end(members, traffic, at, to);
@@ -176,11 +172,9 @@ pub(crate) fn give_input<M: Members>(
     ticks: bool,
 )
     requires ticks { ticks ≡ deeds.is_tick input }
-    requires end { IsEnd (M.network members.old) (flow_of traffic.old) at to }
-    requires member { is_member (M.network members.old) at ≡ true }
-    requires none { (a : As) → M.lost members.old a ≡ [] }
-    requires fits { FitsInput at to input (session_at at to (flow_of traffic.old)) (M.seen members.old) (flow_of traffic.old) }
-    ensures { Goes (λ n. input_at M.Pin M.Key n M.show at to input) (here (M.network members.old) (M.seen members.old) (M.lost members.old) (flow_of traffic.old)) (here (M.network members.new) (M.seen members.new) (M.lost members.new) (flow_of traffic.new)) }
+    requires there { IsAtEnd at to (here (M.stands members.old) (flow_of traffic.old)) }
+    requires fits { FitsInput at to input (session_at at to (flow_of traffic.old)) (M.stands members.old).seen (flow_of traffic.old) }
+    ensures { Goes (λ n. input_at M.Pin M.Key n M.show at to input) (here (M.stands members.old) (flow_of traffic.old)) (here (M.stands members.new) (flow_of traffic.new)) }
 {
     let Some(mut session) = traffic.session(at, to) else {
         return;

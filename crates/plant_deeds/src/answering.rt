@@ -4,8 +4,8 @@ ghost use Rattle.plant_traffic.specs.Carried.{flow_of};
 ghost use Rattle.plant_members.specs.Membership.{is_member};
 ghost use Rattle.plant_deeds.specs.Answering.{IsAnswer, Sends};
 ghost use Rattle.plant_deeds.specs.Giving.{OnlyGrows};
-ghost use Rattle.plant_deeds.specs.Passing.{IsOf};
-ghost use Rattle.plant_deeds.specs.Rooms.{IsRoomy};
+ghost use Rattle.plant_deeds.specs.Moving.{IsKept};
+ghost use Rattle.plant_deeds.specs.Standing.{here};
 
 use crate::giving::{perform, prepare_plan};
 use dom_base::As;
@@ -22,19 +22,15 @@ pub fn answer<M: Members>(
     at: As,
     plan: M::Plan,
 ) -> Result<(), M::Plan>
-    requires member { is_member (M.network members.old) at ≡ true }
+    requires member { is_member (M.stands members.old).network at ≡ true }
     requires fits { M.fits members.old plan }
-    requires answers { IsAnswer (M.network members.old) at (M.sends plan) (M.seen members.old) (M.next members.old plan) }
-    requires lines { IsOf (M.network members.old) (flow_of traffic.old) }
-    requires roomy { IsRoomy (M.network members.old) (M.seen members.old) (flow_of traffic.old) }
-    ensures network { M.network members.new ≡ M.network members.old }
-    ensures lost { M.lost members.new ≡ M.lost members.old }
-    ensures lines { IsOf (M.network members.old) (flow_of traffic.new) }
-    ensures roomy { IsRoomy (M.network members.old) (M.seen members.new) (flow_of traffic.new) }
-    ensures next { OnOk result (M.seen members.new ≡ M.next members.old plan) }
-    ensures sends { OnOk result (Sends (M.network members.old) M.show at (M.sends plan) (M.seen members.new) (flow_of traffic.old) (flow_of traffic.new)) }
+    requires answers { IsAnswer (M.stands members.old).network at (M.sends plan) (M.stands members.old).seen (M.next members.old plan) }
+    requires kept { IsKept (here (M.stands members.old) (flow_of traffic.old)) }
+    ensures kept { IsKept (here (M.stands members.new) (flow_of traffic.new)) }
+    ensures next { OnOk result (M.stands members.new ≡ record (M.stands members.old) { seen = M.next members.old plan }) }
+    ensures sends { OnOk result (Sends (M.stands members.old).network M.show at (M.sends plan) (M.stands members.new).seen (flow_of traffic.old) (flow_of traffic.new)) }
     ensures back { IfErr result (λ back. back ≡ plan) }
-    ensures seen { OnErr result (M.seen members.new ≡ M.seen members.old) }
+    ensures same { OnErr result (M.stands members.new ≡ M.stands members.old) }
     ensures grows { OnErr result (OnlyGrows (flow_of traffic.old) (flow_of traffic.new)) }
 {
     match prepare_plan(alloc, members, traffic, at, plan) {

@@ -29,8 +29,8 @@ pub(crate) fn say(traffic: &mut Traffic, at: As, to: Peer, own: Own)
 
 /// A session of a member comes up.
 pub(crate) fn rise<M: Members>(members: &mut M, traffic: &Traffic, at: As, peer: Peer)
-    requires { is_member (M.network members.old) at ≡ true }
-    ensures { Goes (λ n. deeds.rise M.Pin M.Key wire n M.show at peer) (here (M.network members.old) (M.seen members.old) (M.lost members.old) (flow_of traffic.now)) (here (M.network members.new) (M.seen members.new) (M.lost members.new) (flow_of traffic.now)) }
+    requires { is_member (M.stands members.old).network at ≡ true }
+    ensures { Goes (λ n. deeds.rise M.Pin M.Key wire n M.show at peer) (here (M.stands members.old) (flow_of traffic.now)) (here (M.stands members.new) (flow_of traffic.now)) }
 {
     let _peers = traffic.peers();
     members.up(at, peer);
@@ -38,12 +38,11 @@ pub(crate) fn rise<M: Members>(members: &mut M, traffic: &Traffic, at: As, peer:
 
 // The lost requests of a member are answered, for which there is room.
 fn tell_lost<M: Members>(members: &mut M, traffic: &mut Traffic, at: As)
-    requires member { is_member (M.network members.old) at ≡ true }
-    requires room { RoomToTell at (M.lost members.old at) (flow_of traffic.old) }
-    ensures network { M.network members.new ≡ M.network members.old }
-    ensures seen { M.seen members.new ≡ M.seen members.old }
-    ensures lost { (a : As) → M.lost members.new a ≡ set_as at [] (M.lost members.old) a }
-    ensures tells { Tells at (M.lost members.old at) (flow_of traffic.old) (flow_of traffic.new) }
+    requires member { is_member (M.stands members.old).network at ≡ true }
+    requires room { RoomToTell at ((M.stands members.old).lost at) (flow_of traffic.old) }
+    ensures same { M.stands members.new ≡ record (M.stands members.old) { lost = (M.stands members.new).lost } }
+    ensures lost { (a : As) → (M.stands members.new).lost a ≡ set_as at [] (M.stands members.old).lost a }
+    ensures tells { Tells at ((M.stands members.old).lost at) (flow_of traffic.old) (flow_of traffic.new) }
 {
     while let Some(lost) = members.next_lost(at) {
         traffic.put(at, lost.to, lost_text(&lost).as_slice());
@@ -52,13 +51,12 @@ fn tell_lost<M: Members>(members: &mut M, traffic: &mut Traffic, at: As)
 
 /// A session of a member goes down; its lost requests are answered, for which there is room.
 pub(crate) fn fall<M: Members>(members: &mut M, traffic: &mut Traffic, at: As, peer: Peer)
-    requires member { is_member (M.network members.old) at ≡ true }
-    requires none { (a : As) → M.lost members.old a ≡ [] }
-    requires room { RoomToTell at (lost_at at peer (M.seen members.old)) (flow_of traffic.old) }
-    ensures network { M.network members.new ≡ M.network members.old }
-    ensures seen { M.seen members.new ≡ fallen at peer (M.seen members.old) }
-    ensures tells { Tells at (lost_at at peer (M.seen members.old)) (flow_of traffic.old) (flow_of traffic.new) }
-    ensures goes { Goes (λ n. deeds.fall M.Pin M.Key wire n M.show at peer) (here (M.network members.old) (M.seen members.old) (M.lost members.old) (flow_of traffic.old)) (here (M.network members.new) (M.seen members.new) (M.lost members.new) (flow_of traffic.new)) }
+    requires member { is_member (M.stands members.old).network at ≡ true }
+    requires none { (a : As) → (M.stands members.old).lost a ≡ [] }
+    requires room { RoomToTell at (lost_at at peer (M.stands members.old).seen) (flow_of traffic.old) }
+    ensures seen { (M.stands members.new).seen ≡ fallen at peer (M.stands members.old).seen }
+    ensures tells { Tells at (lost_at at peer (M.stands members.old).seen) (flow_of traffic.old) (flow_of traffic.new) }
+    ensures goes { Goes (λ n. deeds.fall M.Pin M.Key wire n M.show at peer) (here (M.stands members.old) (flow_of traffic.old)) (here (M.stands members.new) (flow_of traffic.new)) }
 {
     members.down(at, peer);
     tell_lost(members, traffic, at);

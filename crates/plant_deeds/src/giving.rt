@@ -116,7 +116,7 @@ fn with_more(need: Need, count: usize, length: usize) -> Option<Need>
 
 // An outside peer has one queue, which is its element's.
 fn has_queue<M: Members>(members: &M, at: As, to: Peer) -> bool
-    ensures { result ≡ is_own (M.network members.now) at to }
+    ensures { result ≡ is_own (M.stands members.now).network at to }
 {
     match to {
         Peer::Outside(peer) => members.element_of(peer).0 == at.0,
@@ -133,10 +133,10 @@ fn reserve_queue<M: Members>(
     letters: Need,
     asked: usize,
 ) -> Result<(), NoMemory>
-    requires { is_member (M.network members.now) at ≡ true }
+    requires { is_member (M.stands members.now).network at ≡ true }
     ensures grows { OnlyGrows (flow_of traffic.old) (flow_of traffic.new) }
-    ensures own { OnOk result (is_own (M.network members.now) at to ≡ true) }
-    ensures keeps { OnOk result (KeepsForLetters at to letters.messages letters.bytes asked (M.seen members.now) (flow_of traffic.new)) }
+    ensures own { OnOk result (is_own (M.stands members.now).network at to ≡ true) }
+    ensures keeps { OnOk result (KeepsForLetters at to letters.messages letters.bytes asked (M.stands members.now).seen (flow_of traffic.new)) }
 {
     if !has_queue(members, at, to) {
         return Err(NoMemory);
@@ -171,7 +171,7 @@ pub(crate) fn reserve_words<M: Members>(
     asked: usize,
 ) -> Result<(), NoMemory>
     ensures grows { OnlyGrows (flow_of traffic.old) (flow_of traffic.new) }
-    ensures covers { OnOk result (CoversWords (M.network members.now) letters.messages letters.bytes asked (M.seen members.now) (flow_of traffic.new)) }
+    ensures covers { OnOk result (CoversWords (M.stands members.now).network letters.messages letters.bytes asked (M.stands members.now).seen (flow_of traffic.new)) }
 {
     let Some(own) = count_own(traffic) else {
         return Err(NoMemory);
@@ -197,9 +197,9 @@ fn reserve_all<M: Members>(
     asked: usize,
     letters: &Said,
 ) -> Result<(), NoMemory>
-    requires { is_member (M.network members.now) at ≡ true }
+    requires { is_member (M.stands members.now).network at ≡ true }
     ensures grows { OnlyGrows (flow_of traffic.old) (flow_of traffic.new) }
-    ensures room { OnOk result (RoomToGive (M.network members.now) at peer asked letters.now.kept (M.seen members.now) (flow_of traffic.new)) }
+    ensures room { OnOk result (RoomToGive (M.stands members.now).network at peer asked letters.now.kept (M.stands members.now).seen (flow_of traffic.new)) }
 {
     let Some(need) = need_of(letters) else {
         return Err(NoMemory);
@@ -223,14 +223,12 @@ pub(crate) fn prepare<M: Members>(
     peer: Peer,
     message: Message,
 ) -> Result<Prepared<M::Plan>, NoMemory>
-    requires { is_member (M.network members.old) at ≡ true }
-    ensures network { M.network members.new ≡ M.network members.old }
-    ensures seen { M.seen members.new ≡ M.seen members.old }
-    ensures lost { M.lost members.new ≡ M.lost members.old }
+    requires { is_member (M.stands members.old).network at ≡ true }
+    ensures same { M.stands members.new ≡ M.stands members.old }
     ensures grows { OnlyGrows (flow_of traffic.old) (flow_of traffic.new) }
     ensures fits { IfOk result (λ x. M.fits members.new x.plan) }
-    ensures given { IfOk result (λ x. IsGiven (M.network members.old) M.show at peer (flow_of traffic.old).clock message (M.seen members.old) (M.next members.new x.plan) x.letters.kept) }
-    ensures room { IfOk result (λ x. RoomToGive (M.network members.old) at peer (asked_in message) x.letters.kept (M.seen members.old) (flow_of traffic.new)) }
+    ensures given { IfOk result (λ x. IsGiven (M.stands members.old).network M.show at peer (flow_of traffic.old).clock message (M.stands members.old).seen (M.next members.new x.plan) x.letters.kept) }
+    ensures room { IfOk result (λ x. RoomToGive (M.stands members.old).network at peer (asked_in message) x.letters.kept (M.stands members.old).seen (flow_of traffic.new)) }
 {
     let asked = count_asked(&message);
     let plan = members.take(at, peer, message, traffic.clock())?;
@@ -247,10 +245,10 @@ fn letters_of<M: Members>(
     at: As,
     outputs: &Outputs,
 ) -> Result<Said, NoMemory>
-    requires { is_member (M.network members.now) at ≡ true }
+    requires { is_member (M.stands members.now).network at ≡ true }
     ensures grows { OnlyGrows (flow_of traffic.old) (flow_of traffic.new) }
     ensures letters { IfOk result (λ letters. letters.kept ≡ sent_by wire at outputs.now) }
-    ensures room { IfOk result (λ letters. RoomToAnswer (M.network members.now) at letters.kept (M.seen members.now) (flow_of traffic.new)) }
+    ensures room { IfOk result (λ letters. RoomToAnswer (M.stands members.now).network at letters.kept (M.stands members.now).seen (flow_of traffic.new)) }
 {
     let letters = write_all(alloc, at, outputs)?;
     if letters.is_empty() {
@@ -270,11 +268,11 @@ pub(crate) fn prepare_plan<M: Members>(
     at: As,
     plan: M::Plan,
 ) -> Result<Prepared<M::Plan>, M::Plan>
-    requires { is_member (M.network members.now) at ≡ true }
+    requires { is_member (M.stands members.now).network at ≡ true }
     ensures grows { OnlyGrows (flow_of traffic.old) (flow_of traffic.new) }
     ensures plan { IfOk result (λ x. x.plan ≡ plan) }
     ensures letters { IfOk result (λ x. x.letters.kept ≡ sent_by wire at (M.sends plan)) }
-    ensures room { IfOk result (λ x. RoomToAnswer (M.network members.now) at x.letters.kept (M.seen members.now) (flow_of traffic.new)) }
+    ensures room { IfOk result (λ x. RoomToAnswer (M.stands members.now).network at x.letters.kept (M.stands members.now).seen (flow_of traffic.new)) }
     ensures back { IfErr result (λ back. back ≡ plan) }
 {
     match letters_of(alloc, members, traffic, at, M::outputs(&plan)) {
@@ -304,12 +302,10 @@ pub(crate) fn perform<M: Members>(
 )
     requires fits { M.fits members.old prepared.plan }
     requires room { RoomToPut prepared.letters.kept (flow_of traffic.old) }
-    ensures network { M.network members.new ≡ M.network members.old }
-    ensures seen { M.seen members.new ≡ M.next members.old prepared.plan }
-    ensures lost { M.lost members.new ≡ M.lost members.old }
+    ensures next { M.stands members.new ≡ record (M.stands members.old) { seen = M.next members.old prepared.plan } }
     ensures puts { PutsAll prepared.letters.kept (flow_of traffic.old) (flow_of traffic.new) }
-    ensures goes { (at : As) (peer : Peer) (message : Message) → IsGiven (M.network members.old) M.show at peer (flow_of traffic.old).clock message (M.seen members.old) (M.next members.old prepared.plan) prepared.letters.kept
-        → Goes (λ n. deeds.give M.Pin M.Key wire n M.show at peer message) (here (M.network members.old) (M.seen members.old) (M.lost members.old) (flow_of traffic.old)) (here (M.network members.new) (M.seen members.new) (M.lost members.new) (flow_of traffic.new)) }
+    ensures goes { (at : As) (peer : Peer) (message : Message) → IsGiven (M.stands members.old).network M.show at peer (flow_of traffic.old).clock message (M.stands members.old).seen (M.next members.old prepared.plan) prepared.letters.kept
+        → Goes (λ n. deeds.give M.Pin M.Key wire n M.show at peer message) (here (M.stands members.old) (flow_of traffic.old)) (here (M.stands members.new) (flow_of traffic.new)) }
 {
     let Prepared { plan, letters } = prepared;
     members.make(plan);

@@ -28,12 +28,12 @@ fn line_between(a: As, b: As) -> (As, As)
 // A link breaks: both ends go down, the lower first, both queues are emptied, and both sessions are
 // begun anew.
 fn break_line<M: Members>(members: &mut M, traffic: &mut Traffic, lower: As, upper: As)
-    requires lower { is_member (M.network members.old) lower ≡ true }
-    requires upper { is_member (M.network members.old) upper ≡ true }
+    requires lower { is_member (M.stands members.old).network lower ≡ true }
+    requires upper { is_member (M.stands members.old).network upper ≡ true }
     requires apart { same_as lower upper ≡ false }
-    requires none { (a : As) → M.lost members.old a ≡ [] }
-    requires room { RoomToBreak lower upper (lost_at lower (Inner upper) (M.seen members.old)) (lost_at upper (Inner lower) (fallen lower (Inner upper) (M.seen members.old))) (flow_of traffic.old) }
-    ensures { Goes (λ n. deeds.break_line M.Pin M.Key wire n M.show (record { lower = lower; upper = upper })) (here (M.network members.old) (M.seen members.old) (M.lost members.old) (flow_of traffic.old)) (here (M.network members.new) (M.seen members.new) (M.lost members.new) (flow_of traffic.new)) }
+    requires none { (a : As) → (M.stands members.old).lost a ≡ [] }
+    requires room { RoomToBreak lower upper (lost_at lower (Inner upper) (M.stands members.old).seen) (lost_at upper (Inner lower) (fallen lower (Inner upper) (M.stands members.old).seen)) (flow_of traffic.old) }
+    ensures { Goes (λ n. deeds.break_line M.Pin M.Key wire n M.show (record { lower = lower; upper = upper })) (here (M.stands members.old) (flow_of traffic.old)) (here (M.stands members.new) (flow_of traffic.new)) }
 {
     let sid = traffic.next_sid(lower, upper);
     fall(members, traffic, lower, Peer::Inner(upper));
@@ -45,12 +45,12 @@ fn break_line<M: Members>(members: &mut M, traffic: &mut Traffic, lower: As, upp
 
 /// The link between two members breaks.
 pub(crate) fn break_between<M: Members>(members: &mut M, traffic: &mut Traffic, a: As, b: As)
-    requires here { is_member (M.network members.old) a ≡ true }
-    requires there { is_member (M.network members.old) b ≡ true }
+    requires here { is_member (M.stands members.old).network a ≡ true }
+    requires there { is_member (M.stands members.old).network b ≡ true }
     requires apart { same_as a b ≡ false }
-    requires none { (d : As) → M.lost members.old d ≡ [] }
-    requires room { RoomToBreakAt b (Inner a) (M.seen members.old) (flow_of traffic.old) }
-    ensures { Goes (λ n. deeds.break_line M.Pin M.Key wire n M.show (line a b)) (here (M.network members.old) (M.seen members.old) (M.lost members.old) (flow_of traffic.old)) (here (M.network members.new) (M.seen members.new) (M.lost members.new) (flow_of traffic.new)) }
+    requires none { (d : As) → (M.stands members.old).lost d ≡ [] }
+    requires room { RoomToBreakAt b (Inner a) (M.stands members.old).seen (flow_of traffic.old) }
+    ensures { Goes (λ n. deeds.break_line M.Pin M.Key wire n M.show (line a b)) (here (M.stands members.old) (flow_of traffic.old)) (here (M.stands members.new) (flow_of traffic.new)) }
 {
     let (lower, upper) = line_between(a, b);
     break_line(members, traffic, lower, upper);

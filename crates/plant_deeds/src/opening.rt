@@ -28,7 +28,7 @@ fn begin_one<M: Members>(
     at: As,
     to: As,
 ) -> Result<(), NoMemory>
-    ensures { OnOk result (Goes (λ n. deeds.begin_end M.Pin M.Key wire n M.show 0 at to) (here (M.network _members.now) (M.seen _members.now) (M.lost _members.now) (flow_of traffic.old)) (here (M.network _members.now) (M.seen _members.now) (M.lost _members.now) (flow_of traffic.new))) }
+    ensures { OnOk result (Goes (λ n. deeds.begin_end M.Pin M.Key wire n M.show 0 at to) (here (M.stands _members.now) (flow_of traffic.old)) (here (M.stands _members.now) (flow_of traffic.new))) }
 {
     traffic.reserve(at, Peer::Inner(to), 0, 0)?;
     traffic.reserve_said(1, OWN_LENGTH)?;
@@ -43,7 +43,7 @@ fn begin_both<M: Members>(
     lower: As,
     upper: As,
 ) -> Result<(), NoMemory>
-    ensures { OnOk result (Goes (λ n. deeds.begin_line M.Pin M.Key wire n M.show 0 (record { lower = lower; upper = upper })) (here (M.network members.now) (M.seen members.now) (M.lost members.now) (flow_of traffic.old)) (here (M.network members.now) (M.seen members.now) (M.lost members.now) (flow_of traffic.new))) }
+    ensures { OnOk result (Goes (λ n. deeds.begin_line M.Pin M.Key wire n M.show 0 (record { lower = lower; upper = upper })) (here (M.stands members.now) (flow_of traffic.old)) (here (M.stands members.now) (flow_of traffic.new))) }
 {
     begin_one(members, traffic, lower, upper)?;
     begin_one(members, traffic, upper, lower)?;
@@ -52,7 +52,7 @@ fn begin_both<M: Members>(
 
 // All links, in their order.
 fn begin_all<M: Members>(members: &M, traffic: &mut Traffic) -> Result<(), NoMemory>
-    ensures { OnOk result (Goes (λ n. events.begin_lines M.Pin M.Key wire n M.show (flow_of traffic.old).lines) (here (M.network members.now) (M.seen members.now) (M.lost members.now) (flow_of traffic.old)) (here (M.network members.now) (M.seen members.now) (M.lost members.now) (flow_of traffic.new))) }
+    ensures { OnOk result (Goes (λ n. events.begin_lines M.Pin M.Key wire n M.show (flow_of traffic.old).lines) (here (M.stands members.now) (flow_of traffic.old)) (here (M.stands members.now) (flow_of traffic.new))) }
 {
     for k in 0..traffic.lines() {
         let Some((lower, upper)) = traffic.line_at(k) else {
@@ -81,14 +81,14 @@ fn keep_all(traffic: &mut Traffic) -> Result<(), NoMemory>
 /// All inner links begin, in their order: each end says its Open. It is for members without requests, right after
 /// their traffic was made; after it the room that a network keeps between events is there.
 pub fn begin_links<M: Members>(members: &M, traffic: &mut Traffic) -> Result<(), NoMemory>
-    requires bare { IsBare (lines (M.network members.now)) (length (M.network members.now).peers) (flow_of traffic.old) }
-    requires nothing { (at : As) (p : Peer) → owed at p (M.seen members.now) ≡ 0 }
-    requires empty { pending_in (elements_of (M.network members.now).elements) (M.seen members.now) ≡ 0 }
-    ensures of { OnOk result (IsOf (M.network members.now) (flow_of traffic.new)) }
+    requires bare { IsBare (lines (M.stands members.now).network) (length (M.stands members.now).network.peers) (flow_of traffic.old) }
+    requires nothing { (at : As) (p : Peer) → owed at p (M.stands members.now).seen ≡ 0 }
+    requires empty { pending_in (elements_of (M.stands members.now).network.elements) (M.stands members.now).seen ≡ 0 }
+    ensures of { OnOk result (IsOf (M.stands members.now).network (flow_of traffic.new)) }
     ensures clock { OnOk result ((flow_of traffic.new).clock ≡ 0) }
     ensures said { OnOk result ((flow_of traffic.new).said ≡ []) }
-    ensures state { OnOk result (state_of (M.seen members.now) (flow_of traffic.new) ≡ (events.begin_lines M.Pin M.Key wire (M.network members.now) M.show (lines (M.network members.now)) (events.idle M.Pin M.Key wire (M.network members.now) M.show (state_of (M.seen members.now) (flow_of traffic.old)))).state) }
-    ensures room { OnOk result (IsRoomy (M.network members.now) (M.seen members.now) (flow_of traffic.new)) }
+    ensures state { OnOk result (state_of (M.stands members.now).seen (flow_of traffic.new) ≡ (events.begin_lines M.Pin M.Key wire (M.stands members.now).network M.show (lines (M.stands members.now).network) (events.idle M.Pin M.Key wire (M.stands members.now).network M.show (state_of (M.stands members.now).seen (flow_of traffic.old)))).state) }
+    ensures room { OnOk result (IsRoomy (M.stands members.now).network (M.stands members.now).seen (flow_of traffic.new)) }
 {
     begin_all(members, traffic)?;
     traffic.clear_said();

@@ -1,25 +1,21 @@
 //! A session is given the first that waits for it. All memory is taken before anything changes.
-ghost use Rattle.std.specs.Prelude.{◌≡◌, ◌⊎◌, ◌+◌, ◌*◌, true, false, [], ◌∷◌, Some, IfOk, IfErr, OnOk, OnErr};
+ghost use Rattle.std.specs.Prelude.{◌≡◌, ◌⊎◌, ◌+◌, ◌*◌, true, false, [], ◌∷◌, Some, IfOk, IfErr, OnOk};
 ghost use Rattle.std.specs.Option.{option_to_list};
 ghost use Rattle.dom_base.specs.declared.names.As.{As};
 ghost use Rattle.dom_base.specs.declared.names.Peer.TheVariants.{Inner, Outside};
 ghost use Rattle.pcep_session.specs.declared.actions.Action.TheVariants.{Pass};
 ghost use Rattle.pcep_session.specs.Listed.{listed};
-ghost use Rattle.plant_text.specs.Names.{same_as};
-ghost use Rattle.plant_text.specs.Settings.{has_line, lines};
 ghost use Rattle.plant_members.specs.plant_model.RealWire.{wire};
 ghost use Rattle.plant_members.specs.plant_model.Events as events;
 ghost use Rattle.plant_traffic.specs.Carried.{flow_of};
 ghost use Rattle.plant_traffic.specs.Flow.{KeepsRoomAt};
 ghost use Rattle.plant_deeds.specs.Acting.{IsOwnTurn};
 ghost use Rattle.plant_deeds.specs.Giving.{OnlyGrows};
-ghost use Rattle.plant_deeds.specs.Happening.{IsDoneOrLacks};
-ghost use Rattle.plant_members.specs.Membership.{AreJoined, is_member};
+ghost use Rattle.plant_deeds.specs.Moving.{IsKept, IsSound, Moves, OrLacks};
+ghost use Rattle.plant_members.specs.Membership.{is_member};
 ghost use Rattle.plant_members.specs.Owed.{owed};
-ghost use Rattle.plant_deeds.specs.Passing.{IsOf};
-ghost use Rattle.plant_deeds.specs.Peers.{IsEnd, IsPlaced, receive_at};
-ghost use Rattle.plant_deeds.specs.Rooms.{IsRoomy};
-ghost use Rattle.plant_deeds.specs.Standing.{here, state_of};
+ghost use Rattle.plant_deeds.specs.Peers.{IsAtEnd, IsPlaced, receive_at};
+ghost use Rattle.plant_deeds.specs.Standing.{here};
 ghost use Rattle.plant_deeds.specs.Stepping.{Receives, Steps};
 ghost use Rattle.plant_deeds.specs.Turns.{IsPass};
 
@@ -84,9 +80,9 @@ fn reserve_word<M: Members>(
     at: As,
     to: Peer,
 ) -> Result<(), NoMemory>
-    requires { is_member (M.network members.now) at ≡ true }
+    requires { is_member (M.stands members.now).network at ≡ true }
     ensures grows { OnlyGrows (flow_of traffic.old) (flow_of traffic.new) }
-    ensures keeps { OnOk result (KeepsRoomAt at to (1 + owed at to (M.seen members.now)) (WORD_LENGTH + ANSWER_LENGTH * owed at to (M.seen members.now)) (flow_of traffic.new)) }
+    ensures keeps { OnOk result (KeepsRoomAt at to (1 + owed at to (M.stands members.now).seen) (WORD_LENGTH + ANSWER_LENGTH * owed at to (M.stands members.now).seen) (flow_of traffic.new)) }
 {
     let answers = members.owed(at, to);
     let Some(messages) = answers.checked_add(1) else {
@@ -111,24 +107,17 @@ fn receive_passed<M: Members>(
     session: Session,
     message: Message,
 ) -> Result<(), NoMemory>
-    requires end { IsEnd (M.network members.old) (flow_of traffic.old) at to }
-    requires member { is_member (M.network members.old) at ≡ true }
+    requires there { IsAtEnd at to (here (M.stands members.old) (flow_of traffic.old)) }
     requires steps { Steps at to (Pass message ∷ []) session (flow_of traffic.old) }
-    requires of { IsOf (M.network members.old) (flow_of traffic.old) }
-    requires none { (a : As) → M.lost members.old a ≡ [] }
-    requires roomy { IsRoomy (M.network members.old) (M.seen members.old) (flow_of traffic.old) }
-    ensures { Receives M.show at to result (here (M.network members.old) (M.seen members.old) (M.lost members.old) (flow_of traffic.old)) (here (M.network members.new) (M.seen members.new) (M.lost members.new) (flow_of traffic.new)) }
+    requires kept { IsKept (here (M.stands members.old) (flow_of traffic.old)) }
+    ensures { Receives M.show at to result (here (M.stands members.old) (flow_of traffic.old)) (here (M.stands members.new) (flow_of traffic.new)) }
 {
-    match prepare(alloc, members, traffic, at, to, message) {
-        Ok(prepared) => {
-            traffic.clear_said();
-            traffic.drop_first(at, to);
-            traffic.set_session(at, to, session);
-            perform(members, traffic, prepared);
-            Ok(())
-        }
-        Err(NoMemory) => Err(NoMemory),
-    }
+    let prepared = prepare(alloc, members, traffic, at, to, message)?;
+    traffic.clear_said();
+    traffic.drop_first(at, to);
+    traffic.set_session(at, to, session);
+    perform(members, traffic, prepared);
+    Ok(())
 }
 
 // The session passes nothing on.
@@ -140,24 +129,17 @@ fn receive_acted<M: Members>(
     session: Session,
     actions: Actions,
 ) -> Result<(), NoMemory>
-    requires end { IsEnd (M.network members.old) (flow_of traffic.old) at to }
-    requires member { is_member (M.network members.old) at ≡ true }
+    requires there { IsAtEnd at to (here (M.stands members.old) (flow_of traffic.old)) }
     requires steps { Steps at to (listed actions) session (flow_of traffic.old) }
     requires turn { IsOwnTurn (listed actions) }
-    requires of { IsOf (M.network members.old) (flow_of traffic.old) }
-    requires none { (a : As) → M.lost members.old a ≡ [] }
-    requires roomy { IsRoomy (M.network members.old) (M.seen members.old) (flow_of traffic.old) }
-    ensures { Receives M.show at to result (here (M.network members.old) (M.seen members.old) (M.lost members.old) (flow_of traffic.old)) (here (M.network members.new) (M.seen members.new) (M.lost members.new) (flow_of traffic.new)) }
+    requires kept { IsKept (here (M.stands members.old) (flow_of traffic.old)) }
+    ensures { Receives M.show at to result (here (M.stands members.old) (flow_of traffic.old)) (here (M.stands members.new) (flow_of traffic.new)) }
 {
-    match reserve_word(members, traffic, at, to) {
-        Ok(()) => {
-            traffic.clear_said();
-            traffic.drop_first(at, to);
-            step(members, traffic, at, to, false, session, actions);
-            Ok(())
-        }
-        Err(NoMemory) => Err(NoMemory),
-    }
+    reserve_word(members, traffic, at, to)?;
+    traffic.clear_said();
+    traffic.drop_first(at, to);
+    step(members, traffic, at, to, false, session, actions);
+    Ok(())
 }
 
 // What the session asks for is done.
@@ -170,13 +152,10 @@ fn receive_step<M: Members>(
     session: Session,
     actions: Actions,
 ) -> Result<(), NoMemory>
-    requires end { IsEnd (M.network members.old) (flow_of traffic.old) at to }
-    requires member { is_member (M.network members.old) at ≡ true }
+    requires there { IsAtEnd at to (here (M.stands members.old) (flow_of traffic.old)) }
     requires steps { Steps at to (listed actions) session (flow_of traffic.old) }
-    requires of { IsOf (M.network members.old) (flow_of traffic.old) }
-    requires none { (a : As) → M.lost members.old a ≡ [] }
-    requires roomy { IsRoomy (M.network members.old) (M.seen members.old) (flow_of traffic.old) }
-    ensures { Receives M.show at to result (here (M.network members.old) (M.seen members.old) (M.lost members.old) (flow_of traffic.old)) (here (M.network members.new) (M.seen members.new) (M.lost members.new) (flow_of traffic.new)) }
+    requires kept { IsKept (here (M.stands members.old) (flow_of traffic.old)) }
+    ensures { Receives M.show at to result (here (M.stands members.old) (flow_of traffic.old)) (here (M.stands members.new) (flow_of traffic.new)) }
 {
     match passed(actions) {
         Ok(message) => receive_passed(alloc, members, traffic, at, to, session, message),
@@ -192,17 +171,9 @@ fn receive<M: Members>(
     at: As,
     to: Peer,
 ) -> Result<Outcome, Refused>
-    requires joined { AreJoined (M.network members.old) }
-    requires placed { IsPlaced (M.network members.old) at to }
-    requires of { IsOf (M.network members.old) (flow_of traffic.old) }
-    requires none { (a : As) → M.lost members.old a ≡ [] }
-    requires roomy { IsRoomy (M.network members.old) (M.seen members.old) (flow_of traffic.old) }
-    ensures network { M.network members.new ≡ M.network members.old }
-    ensures none { (a : As) → M.lost members.new a ≡ [] }
-    ensures of { IsOf (M.network members.old) (flow_of traffic.new) }
-    ensures roomy { IsRoomy (M.network members.old) (M.seen members.new) (flow_of traffic.new) }
-    ensures done { IsDoneOrLacks (receive_at M.Pin M.Key (M.network members.old) M.show at to (state_of (M.seen members.old) (flow_of traffic.old))) result (M.seen members.new) (flow_of traffic.new) }
-    ensures refused { OnErr result ((M.seen members.new ≡ M.seen members.old) × OnlyGrows (flow_of traffic.old) (flow_of traffic.new)) }
+    requires sound { IsSound (here (M.stands members.old) (flow_of traffic.old)) }
+    requires placed { IsPlaced (M.stands members.old).network at to }
+    ensures { Moves (OrLacks M.show (λ s. true) (λ n s. receive_at M.Pin M.Key n M.show at to s)) (here (M.stands members.old) (flow_of traffic.old)) result (here (M.stands members.new) (flow_of traffic.new)) }
 {
     let Some(mut session) = traffic.session(at, to) else {
         return Err(Refused::NoSuchPeer);
@@ -227,16 +198,8 @@ pub fn take<M: Members>(
     traffic: &mut Traffic,
     peer: u32,
 ) -> Result<Outcome, Refused>
-    requires joined { AreJoined (M.network members.old) }
-    requires of { IsOf (M.network members.old) (flow_of traffic.old) }
-    requires none { (a : As) → M.lost members.old a ≡ [] }
-    requires roomy { IsRoomy (M.network members.old) (M.seen members.old) (flow_of traffic.old) }
-    ensures network { M.network members.new ≡ M.network members.old }
-    ensures none { (a : As) → M.lost members.new a ≡ [] }
-    ensures of { IsOf (M.network members.old) (flow_of traffic.new) }
-    ensures roomy { IsRoomy (M.network members.old) (M.seen members.new) (flow_of traffic.new) }
-    ensures done { IsDoneOrLacks (events.take M.Pin M.Key wire (M.network members.old) M.show peer (state_of (M.seen members.old) (flow_of traffic.old))) result (M.seen members.new) (flow_of traffic.new) }
-    ensures refused { OnErr result ((M.seen members.new ≡ M.seen members.old) × OnlyGrows (flow_of traffic.old) (flow_of traffic.new)) }
+    requires sound { IsSound (here (M.stands members.old) (flow_of traffic.old)) }
+    ensures { Moves (OrLacks M.show (λ s. true) (λ n s. events.take M.Pin M.Key wire n M.show peer s)) (here (M.stands members.old) (flow_of traffic.old)) result (here (M.stands members.new) (flow_of traffic.new)) }
 {
     let at = members.element_of(peer);
     receive(alloc, members, traffic, at, Peer::Outside(peer))
@@ -251,17 +214,8 @@ pub fn carry<M: Members>(
     from: As,
     to: As,
 ) -> Result<Outcome, Refused>
-    requires joined { AreJoined (M.network members.old) }
-    requires apart { (a b : As) → has_line a b (lines (M.network members.old)) ≡ true → same_as a b ≡ false }
-    requires of { IsOf (M.network members.old) (flow_of traffic.old) }
-    requires none { (a : As) → M.lost members.old a ≡ [] }
-    requires roomy { IsRoomy (M.network members.old) (M.seen members.old) (flow_of traffic.old) }
-    ensures network { M.network members.new ≡ M.network members.old }
-    ensures none { (a : As) → M.lost members.new a ≡ [] }
-    ensures of { IsOf (M.network members.old) (flow_of traffic.new) }
-    ensures roomy { IsRoomy (M.network members.old) (M.seen members.new) (flow_of traffic.new) }
-    ensures done { IsDoneOrLacks (events.carry M.Pin M.Key wire (M.network members.old) M.show from to (state_of (M.seen members.old) (flow_of traffic.old))) result (M.seen members.new) (flow_of traffic.new) }
-    ensures refused { OnErr result ((M.seen members.new ≡ M.seen members.old) × OnlyGrows (flow_of traffic.old) (flow_of traffic.new)) }
+    requires sound { IsSound (here (M.stands members.old) (flow_of traffic.old)) }
+    ensures { Moves (OrLacks M.show (λ s. true) (λ n s. events.carry M.Pin M.Key wire n M.show from to s)) (here (M.stands members.old) (flow_of traffic.old)) result (here (M.stands members.new) (flow_of traffic.new)) }
 {
     if !traffic.is_linked(from, to) {
         return Err(Refused::NoSuchPeer);

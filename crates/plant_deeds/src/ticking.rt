@@ -11,14 +11,11 @@ ghost use Rattle.pcep_session.specs.declared.session.Input.TheVariants as inputs
 ghost use Rattle.plant_traffic.specs.Carried.{flow_of};
 ghost use Rattle.plant_traffic.specs.Flow.{session_at};
 ghost use Rattle.plant_deeds.specs.Acting.{FitsInput};
-ghost use Rattle.plant_deeds.specs.Peers.{IsEnd, input_at};
-ghost use Rattle.plant_deeds.specs.Happening.{IsDone};
-ghost use Rattle.plant_members.specs.Membership.{AreJoined, KeysBefore, is_member};
-ghost use Rattle.plant_deeds.specs.Passing.{IsOf};
-ghost use Rattle.plant_deeds.specs.Rooms.{IsRoomy};
-ghost use Rattle.plant_deeds.specs.Roomy.{KeepsOn};
-ghost use Rattle.plant_deeds.specs.Standing.{Goes, here, state_of};
-ghost use Rattle.plant_deeds.specs.Using.{IsOn, Uses};
+ghost use Rattle.plant_deeds.specs.Peers.{IsAtEnd, input_at};
+ghost use Rattle.plant_deeds.specs.Moving.{IsSound, Moves, OrLacks};
+ghost use Rattle.plant_members.specs.Membership.{AreJoined, is_member};
+ghost use Rattle.plant_deeds.specs.Standing.{Goes, here};
+ghost use Rattle.plant_deeds.specs.Using.{IsUnderWay, Uses};
 
 use crate::acting::give_input;
 use crate::events::expire;
@@ -30,11 +27,9 @@ use plant_traffic::Traffic;
 
 // The session of a member with a peer takes a tick: in place where it has nothing to say or to do at it.
 fn tick_session<M: Members>(members: &mut M, traffic: &mut Traffic, at: As, to: Peer, now: Tick)
-    requires end { IsEnd (M.network members.old) (flow_of traffic.old) at to }
-    requires member { is_member (M.network members.old) at ≡ true }
-    requires none { (a : As) → M.lost members.old a ≡ [] }
-    requires fits { FitsInput at to (inputs.Tick now) (session_at at to (flow_of traffic.old)) (M.seen members.old) (flow_of traffic.old) }
-    ensures { Goes (λ n. input_at M.Pin M.Key n M.show at to (inputs.Tick now)) (here (M.network members.old) (M.seen members.old) (M.lost members.old) (flow_of traffic.old)) (here (M.network members.new) (M.seen members.new) (M.lost members.new) (flow_of traffic.new)) }
+    requires there { IsAtEnd at to (here (M.stands members.old) (flow_of traffic.old)) }
+    requires fits { FitsInput at to (inputs.Tick now) (session_at at to (flow_of traffic.old)) (M.stands members.old).seen (flow_of traffic.old) }
+    ensures { Goes (λ n. input_at M.Pin M.Key n M.show at to (inputs.Tick now)) (here (M.stands members.old) (flow_of traffic.old)) (here (M.stands members.new) (flow_of traffic.new)) }
 {
     if traffic.tick_quietly(at, to, now) {
         return;
@@ -44,13 +39,10 @@ fn tick_session<M: Members>(members: &mut M, traffic: &mut Traffic, at: As, to: 
 
 // The sessions of the outside peers are told, by number.
 fn tick_peers<M: Members>(members: &mut M, traffic: &mut Traffic, now: Tick)
-    requires joined { AreJoined (M.network members.old) }
-    requires few { length (M.network members.old).peers < 4294967296 }
-    requires of { IsOf (M.network members.old) (flow_of traffic.old) }
-    requires none { (d : As) → M.lost members.old d ≡ [] }
-    requires on { IsOn (M.seen members.old) (flow_of traffic.old) }
-    requires keeps { KeepsOn (length (M.network members.old).peers) (M.network members.old) (M.seen members.old) (flow_of traffic.old) }
-    ensures { Uses (λ n. deeds.tick_outside M.Pin M.Key wire n M.show 0 n.peers now) (length (M.network members.old).peers) (here (M.network members.old) (M.seen members.old) (M.lost members.old) (flow_of traffic.old)) (here (M.network members.new) (M.seen members.new) (M.lost members.new) (flow_of traffic.new)) }
+    requires joined { AreJoined (M.stands members.old).network }
+    requires few { length (M.stands members.old).network.peers < 4294967296 }
+    requires under { IsUnderWay (length (M.stands members.old).network.peers) (here (M.stands members.old) (flow_of traffic.old)) }
+    ensures { Uses (λ n. deeds.tick_outside M.Pin M.Key wire n M.show 0 n.peers now) (length (M.stands members.old).network.peers) (here (M.stands members.old) (flow_of traffic.old)) (here (M.stands members.new) (flow_of traffic.new)) }
 {
     let count = traffic.peers() as u32;
     for peer in 0..count {
@@ -61,16 +53,13 @@ fn tick_peers<M: Members>(members: &mut M, traffic: &mut Traffic, now: Tick)
 
 // Both ends of a link are told, the lower first.
 fn tick_line<M: Members>(members: &mut M, traffic: &mut Traffic, line: (As, As), now: Tick)
-    requires lower { is_member (M.network members.old) line.0 ≡ true }
-    requires upper { is_member (M.network members.old) line.1 ≡ true }
+    requires lower { is_member (M.stands members.old).network line.0 ≡ true }
+    requires upper { is_member (M.stands members.old).network line.1 ≡ true }
     requires apart { same_as line.0 line.1 ≡ false }
     requires rises { line.0.0 < line.1.0 }
-    requires linked { has_line line.0 line.1 (lines (M.network members.old)) ≡ true }
-    requires of { IsOf (M.network members.old) (flow_of traffic.old) }
-    requires none { (d : As) → M.lost members.old d ≡ [] }
-    requires on { IsOn (M.seen members.old) (flow_of traffic.old) }
-    requires keeps { KeepsOn 4 (M.network members.old) (M.seen members.old) (flow_of traffic.old) }
-    ensures { Uses (λ n g. deeds.inner_input M.Pin M.Key wire n M.show (line_of line) line.1 line.0 (inputs.Tick now) (deeds.inner_input M.Pin M.Key wire n M.show (line_of line) line.0 line.1 (inputs.Tick now) g)) 4 (here (M.network members.old) (M.seen members.old) (M.lost members.old) (flow_of traffic.old)) (here (M.network members.new) (M.seen members.new) (M.lost members.new) (flow_of traffic.new)) }
+    requires linked { has_line line.0 line.1 (lines (M.stands members.old).network) ≡ true }
+    requires under { IsUnderWay 4 (here (M.stands members.old) (flow_of traffic.old)) }
+    ensures { Uses (λ n g. deeds.inner_input M.Pin M.Key wire n M.show (line_of line) line.1 line.0 (inputs.Tick now) (deeds.inner_input M.Pin M.Key wire n M.show (line_of line) line.0 line.1 (inputs.Tick now) g)) 4 (here (M.stands members.old) (flow_of traffic.old)) (here (M.stands members.new) (flow_of traffic.new)) }
 {
     tick_session(members, traffic, line.0, Peer::Inner(line.1), now);
     tick_session(members, traffic, line.1, Peer::Inner(line.0), now);
@@ -78,13 +67,10 @@ fn tick_line<M: Members>(members: &mut M, traffic: &mut Traffic, line: (As, As),
 
 // The sessions of the links are told, link by link.
 fn tick_lines<M: Members>(members: &mut M, traffic: &mut Traffic, now: Tick)
-    requires joined { AreJoined (M.network members.old) }
-    requires apart { (a b : As) → has_line a b (lines (M.network members.old)) ≡ true → same_as a b ≡ false }
-    requires of { IsOf (M.network members.old) (flow_of traffic.old) }
-    requires none { (d : As) → M.lost members.old d ≡ [] }
-    requires on { IsOn (M.seen members.old) (flow_of traffic.old) }
-    requires keeps { KeepsOn (4 * length (lines (M.network members.old))) (M.network members.old) (M.seen members.old) (flow_of traffic.old) }
-    ensures { Uses (λ n. deeds.tick_lines M.Pin M.Key wire n M.show (lines n) now) (4 * length (lines (M.network members.old))) (here (M.network members.old) (M.seen members.old) (M.lost members.old) (flow_of traffic.old)) (here (M.network members.new) (M.seen members.new) (M.lost members.new) (flow_of traffic.new)) }
+    requires joined { AreJoined (M.stands members.old).network }
+    requires apart { (a b : As) → has_line a b (lines (M.stands members.old).network) ≡ true → same_as a b ≡ false }
+    requires under { IsUnderWay (4 * length (lines (M.stands members.old).network)) (here (M.stands members.old) (flow_of traffic.old)) }
+    ensures { Uses (λ n. deeds.tick_lines M.Pin M.Key wire n M.show (lines n) now) (4 * length (lines (M.stands members.old).network)) (here (M.stands members.old) (flow_of traffic.old)) (here (M.stands members.new) (flow_of traffic.new)) }
 {
     for k in 0..traffic.lines() {
         let Some(line) = traffic.line_at(k) else {
@@ -107,18 +93,8 @@ pub fn tick<M: Members>(
     traffic: &mut Traffic,
     at: Tick,
 ) -> Result<Outcome, Refused>
-    requires joined { AreJoined (M.network members.old) }
-    requires apart { (a b : As) → has_line a b (lines (M.network members.old)) ≡ true → same_as a b ≡ false }
-    requires few { length (M.network members.old).peers < 4294967296 }
-    requires of { IsOf (M.network members.old) (flow_of traffic.old) }
-    requires none { (d : As) → M.lost members.old d ≡ [] }
-    requires keys { KeysBefore (events.later (flow_of traffic.old).clock at.0) (M.network members.old) (M.seen members.old) }
-    requires roomy { IsRoomy (M.network members.old) (M.seen members.old) (flow_of traffic.old) }
-    ensures network { M.network members.new ≡ M.network members.old }
-    ensures none { (d : As) → M.lost members.new d ≡ [] }
-    ensures of { IsOf (M.network members.old) (flow_of traffic.new) }
-    ensures roomy { IsRoomy (M.network members.old) (M.seen members.new) (flow_of traffic.new) }
-    ensures done { IsDone (events.tick M.Pin M.Key wire (M.network members.old) M.show at.0 (state_of (M.seen members.old) (flow_of traffic.old))) result (M.seen members.new) (flow_of traffic.new) }
+    requires sound { IsSound (here (M.stands members.old) (flow_of traffic.old)) }
+    ensures { Moves (OrLacks M.show (λ s. false) (λ n s. events.tick M.Pin M.Key wire n M.show at.0 s)) (here (M.stands members.old) (flow_of traffic.old)) result (here (M.stands members.new) (flow_of traffic.new)) }
 {
     let now = later(traffic.clock(), at);
     traffic.clear_said();

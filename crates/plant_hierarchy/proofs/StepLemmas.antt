@@ -6,6 +6,7 @@ use Rattle.dom_base.specs.declared.names.Peer.{Peer}
 use Rattle.dom_base.specs.declared.names.NoMemory.{NoMemory}
 use Rattle.pcep_subobjects.specs.declared.hop.Hop.{Hop}
 use Rattle.pcep_messages.specs.declared.message.Message.{Message}
+use Rattle.plant_text.specs.declared.settings.NetworkParts.{NetworkParts}
 use Rattle.plant_text.specs.Names.{same_as, parent_as}
 use Rattle.plant_text.specs.Settings.{class_of, is_element}
 use Rattle.plant_members.specs.plant_model.declared.output.Lost.{Lost}
@@ -16,7 +17,7 @@ use Rattle.plant_members.specs.plant_model.Element.{Element, Losing, Place, Take
 use Rattle.plant_members.specs.plant_model.Parent as parent
 use Rattle.plant_members.specs.plant_model.Settings.{place, family}
 use Rattle.plant_members.specs.plant_model.Taking.{take}
-use Rattle.plant_members.specs.Membership.{Membership, Replied, given, is_member, raised, fallen, lost_at, with_element, with_parent, HandsOut}
+use Rattle.plant_members.specs.Membership.{Membership, Replied, Standing, given, is_member, raised, fallen, lost_at, with_element, with_parent, HandsOut}
 use Rattle.plant_members.specs.Owed.{count_by_asker, is_peer, owed}
 use Rattle.pce_element.specs.Plans.{Planned}
 use Rattle.pce_element.specs.Seen.{Seen}
@@ -24,7 +25,7 @@ use Rattle.pce_parent.specs.Plans as border
 use Rattle.pce_parent.specs.Seen as above
 use Rattle.plant_hierarchy.specs.Elements.{at_domain, element_or, current_or}
 use Rattle.plant_hierarchy.specs.Becoming.{Becomes, HasElement, owed_by, taken_by, unchanged}
-use Rattle.plant_hierarchy.specs.Tiers.{Tiers, AreSet, Become, Takes, planned_below, members_of, lost_in}
+use Rattle.plant_hierarchy.specs.Tiers.{Tiers, AreSet, Become, Takes, planned_below, members_of, lost_in, standing_of}
 use Rattle.plant_hierarchy.specs.declared.plan.MemberPlan.{MemberPlan}
 use Rattle.plant_hierarchy.specs.declared.plan.MemberPlan.TheVariants as plan
 use Rattle.plant_hierarchy.proofs.DomainLemmas.{found_own, same_as_is, as_self, set_again}
@@ -35,6 +36,13 @@ use Rattle.plant_hierarchy.proofs.TierLemmas.{placed_at, goes_below, goes_above,
 -- the number of the parent is one
 pub is_upper : (d : As) → same_as d parent_as ≡ true → d ≡ parent_as
 is_upper d is = same_as_is d parent_as is
+
+-- where they stand then
+pub stands_as : {P : Type 0} {S : Type 0} (first : As → P) (old new : Tiers P S) (ms : Membership P S) (lost : As → List Lost) → Become first old ms lost new →
+    standing_of first new ≡ record { network = old.network; seen = ms; lost = lost }
+stands_as {P} {S} first old new ms lost is =
+    ap₂ (λ (n : NetworkParts) (x : Membership P S). let s : Standing P S = record { network = n; seen = x; lost = lost_in new } in s) is.network is.seen
+    ∙ ap (λ (l : As → List Lost). let s : Standing P S = record { network = old.network; seen = ms; lost = l } in s) is.lost_is
 
 -- ---- lost requests
 

@@ -12,7 +12,7 @@ use Rattle.plant_members.specs.plant_model.declared.output.Lost.{Lost}
 use Rattle.plant_members.specs.plant_model.declared.output.Output.{Output}
 use Rattle.plant_members.specs.plant_model.Settings.{place, family}
 use Rattle.plant_members.specs.plant_model.RealWire.{wire}
-use Rattle.plant_members.specs.Membership.{Membership, given, with_element, with_parent}
+use Rattle.plant_members.specs.Membership.{Membership, Standing, given, with_element, with_parent}
 use Rattle.pce_element.specs.Plans.{Planned}
 use Rattle.pce_element.specs.Seen.{Seen}
 use Rattle.pce_parent.specs.Seen as above
@@ -51,6 +51,9 @@ module _ {P : Type 0} {S : Type 0} where
   -- the requests that were lost at a member and are not yet handed out
   abbrev pub lost_in : Tiers P S → As → List Lost
   lost_in t = λ d. cond (same_as d parent_as) t.parent.losing.lost (lost_or (at_domain d t.elements))
+
+  abbrev pub standing_of : (As → P) → Tiers P S → Standing P S
+  standing_of first t = record { network = t.network; seen = members_of first t; lost = lost_in t }
 
   -- they become these members, with these lost requests
   pub record Become (first : As → P) (old : Tiers P S) (members : Membership P S) (lost : As → List Lost) (new : Tiers P S) : Type 0 where

@@ -6,7 +6,7 @@ use Rattle.border_costs.specs.Solutions.{Solution}
 use Rattle.plant_text.specs.declared.settings.NetworkParts.{NetworkParts}
 use Rattle.plant_members.specs.plant_model.declared.output.Lost.{Lost}
 use Rattle.plant_members.specs.plant_model.Plant.{Pin, Segment, first_pin}
-use Rattle.plant_members.specs.Membership.{Membership}
+use Rattle.plant_members.specs.Membership.{Membership, Standing}
 use Rattle.pce_element.specs.declared.topologies.Topologies.{Topologies}
 use Rattle.pce_element.specs.Seen as element
 use Rattle.plant_hierarchy.specs.Fresh as fresh
@@ -24,6 +24,9 @@ MemberPlan = plan.MemberPlan Topologies Pin Segment Solution
 
 abbrev pub members_of : Tiers → Membership Pin Segment
 members_of t = tiers.members_of first_pin t
+
+abbrev pub standing_of : Tiers → Standing Pin Segment
+standing_of t = tiers.standing_of first_pin t
 
 abbrev pub next_by : Tiers → MemberPlan → Membership Pin Segment
 next_by t p = tiers.next_by first_pin t p

@@ -2,7 +2,7 @@
 ghost use Rattle.std.specs.Prelude.{◌≡◌};
 ghost use Rattle.plant_text.specs.Settings.{peer_row};
 ghost use Rattle.plant_members.specs.plant_model.Deeds.{at_row};
-ghost use Rattle.plant_hierarchy.specs.Tiers.{FitsIn, lost_in, members_of, next_by, sent_by};
+ghost use Rattle.plant_hierarchy.specs.Tiers.{FitsIn, lost_in, members_of, next_by, sent_by, standing_of};
 
 use crate::hierarchy::{Hierarchy, is_parent};
 use crate::plan::MemberPlan;
@@ -33,11 +33,7 @@ impl<W: World> Members for Hierarchy<W> {
 
     ghost show = { W.show };
 
-    ghost network = { λ t. t.network };
-
-    ghost seen = { members_of W.first };
-
-    ghost lost = { lost_in };
+    ghost stands = { standing_of W.first };
 
     ghost fits = { FitsIn };
 

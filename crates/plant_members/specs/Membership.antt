@@ -22,6 +22,13 @@ pub record Membership (P : Type 0) (S : Type 0) : Type 0 where
   pub parent : parent.Parent
   pub current : As → P
 
+-- where the members of a network stand: its settings, the members, and the requests that were lost at a member and are not yet
+-- handed out
+pub record Standing (P : Type 0) (S : Type 0) : Type 0 where
+  pub network : NetworkParts
+  pub seen : Membership P S
+  pub lost : As → List Lost
+
 -- what a member becomes by a message, and what it sends
 pub record Replied (P : Type 0) (S : Type 0) : Type 0 where
   pub members : Membership P S

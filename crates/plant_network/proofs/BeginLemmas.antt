@@ -27,7 +27,7 @@ use Rattle.plant_lasting.proofs.HappeningsLast.{opened_in_order, opened_in_time}
 use Rattle.plant_hierarchy.proofs.ApartLemmas.{ends_are_two}
 use Rattle.plant_hierarchy.proofs.JoinedLemmas.{are_joined, elements_below}
 use Rattle.plant_network.specs.Beginning.{AreBare, Begins}
-use Rattle.plant_network.specs.Moving.{IsKept, whole}
+use Rattle.plant_deeds.specs.Moving.{IsKept, whole}
 
 none_either : (b : Bool) (z : ℕ) → cond b z z ≡ z
 none_either true z = refl

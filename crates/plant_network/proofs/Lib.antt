@@ -1,5 +1,3 @@
-pub mod StepLemmas
-pub mod SoundLemmas
 pub mod BeginLemmas
 pub mod AnswerLemmas
 pub mod InboxLemmas

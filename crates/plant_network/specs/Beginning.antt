@@ -6,7 +6,7 @@ use Rattle.plant_deeds.specs.plant_model.Events.{bare, opening}
 use Rattle.plant_deeds.specs.plant_model.RealWire.{wire}
 use Rattle.plant_deeds.specs.plant_members.Membership.{Membership}
 use Rattle.plant_deeds.specs.Standing.{Here}
-use Rattle.plant_network.specs.Moving.{IsSound, whole}
+use Rattle.plant_deeds.specs.Moving.{IsSound, whole}
 
 module _ {P : Type 0} {S : Type 0} where
   -- the members are those of the model's beginning, whatever they pin

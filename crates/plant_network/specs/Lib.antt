@@ -1,6 +1,4 @@
 -- for readers
-pub mod Whole
-pub mod Moving
 pub mod Beginning
 pub mod Due
 pub mod DueLaws

@@ -25,11 +25,11 @@ pub fn traffic_of(alloc: Global, parts: &NetworkParts) -> Result<Traffic, NoMemo
 /// The inner links begin between members that have just been made: an Open is in each of their queues (RFC 5440,
 /// section 4.2.1).
 pub fn begin<M: Members>(members: &M, traffic: &mut Traffic) -> Result<(), NoMemory>
-    requires rules { IsNetwork (M.network members.now) }
-    requires bare { IsBare (lines (M.network members.now)) (length (M.network members.now).peers) (flow_of traffic.old) }
-    requires new { AreBare (M.network members.now) M.show (M.seen members.now) }
-    requires none { (d : Domain) → M.lost members.now d ≡ [] }
-    ensures { OnOk result (Begins M.show (here (M.network members.now) (M.seen members.now) (M.lost members.now) (flow_of traffic.new))) }
+    requires rules { IsNetwork (M.stands members.now).network }
+    requires bare { IsBare (lines (M.stands members.now).network) (length (M.stands members.now).network.peers) (flow_of traffic.old) }
+    requires new { AreBare (M.stands members.now).network M.show (M.stands members.now).seen }
+    requires none { (d : Domain) → (M.stands members.now).lost d ≡ [] }
+    ensures { OnOk result (Begins M.show (here (M.stands members.now) (flow_of traffic.new))) }
 {
     begin_links(members, traffic)
 }

@@ -9,7 +9,7 @@ use Rattle.plant_network.specs.plant_model.declared.outcome.Refused.TheVariants.
 use Rattle.plant_network.specs.plant_hierarchy.Blind.{Solves}
 use Rattle.plant_network.specs.plant_hierarchy.declared.plan.MemberPlan.{MemberPlan}
 use Rattle.blind_plant.specs.Held.{Moves, held}
-use Rattle.blind_plant.proofs.SolveLemmas.{plan_answers, plan_done, plan_lacks, plan_member, planned_err}
+use Rattle.blind_plant.proofs.SolveLemmas.{kept_still, plan_answers, plan_done, plan_lacks, plan_member, planned_err}
 use Rattle.blind_plant.proofs.events.solve.Goals as goal
 
 pub returns-in_err-plan : goal.returns-in_err-plan
@@ -34,6 +34,12 @@ answer-requires-clause-answers c =
     subst (λ (r : Result (MemberPlan _ _ _ _) Refused). Solves c.args.at c.args.number c.as_slice.result.now c.clock-now.result.0 c.args.members.now r c.solve.new.self) c.in_ok-plan.was c.solve.ensures in
     plan_answers c.args.members.now c.solve.new.self c.args.traffic.now c.args.at c.args.number c.as_slice.result.now c.clock-now.result.0 c.requires.sound m.same c.in_ok-plan.plan m.there m.answers
 
+pub answer-requires-clause-kept : goal.answer-requires-clause-kept
+answer-requires-clause-kept c =
+    let m : Solves c.args.at c.args.number c.as_slice.result.now c.clock-now.result.0 c.args.members.now (Ok c.in_ok-plan.plan) c.solve.new.self =
+    subst (λ (r : Result (MemberPlan _ _ _ _) Refused). Solves c.args.at c.args.number c.as_slice.result.now c.clock-now.result.0 c.args.members.now r c.solve.new.self) c.in_ok-plan.was c.solve.ensures in
+    kept_still c.args.members.now c.solve.new.self c.args.traffic.now c.args.at c.args.number c.as_slice.result.now c.clock-now.result.0 c.requires.sound m.same
+
 pub returns-in-Ok : goal.returns-in-Ok
 returns-in-Ok c =
     let old = held c.args.members.now c.args.traffic.now in
@@ -41,7 +47,7 @@ returns-in-Ok c =
     subst (λ (r : Result (MemberPlan _ _ _ _) Refused). Solves c.args.at c.args.number c.as_slice.result.now c.clock-now.result.0 c.args.members.now r c.solve.new.self) c.in_ok-plan.was c.solve.ensures in
     subst (λ (rows : List BorderRow). Moves old (Solve c.args.at c.args.number rows) (Ok Done) (held c.answer.new.members c.answer.new.traffic)) c.as_slice.ensures
     (plan_done c.args.members.now c.solve.new.self c.args.traffic.now c.args.at c.args.number c.as_slice.result.now c.clock-now.result.0 c.requires.sound m.same c.in_ok-plan.plan m.there m.answers
-    c.answer.new.members c.answer.new.traffic c.in-Ok.ensures.network c.in-Ok.ensures.lost c.in-Ok.ensures.lines c.in-Ok.ensures.roomy
+    c.answer.new.members c.answer.new.traffic c.in-Ok.ensures.kept
     (ap (λ (t : Tick). t.0) c.clock-now.ensures) c.in-Ok.ensures.next c.in-Ok.ensures.sends)
 
 pub returns : goal.returns
@@ -51,5 +57,4 @@ returns c =
     subst (λ (r : Result (MemberPlan _ _ _ _) Refused). Solves c.args.at c.args.number c.as_slice.result.now c.clock-now.result.0 c.args.members.now r c.solve.new.self) c.in_ok-plan.was c.solve.ensures in
     subst (λ (rows : List BorderRow). Moves old (Solve c.args.at c.args.number rows) (Err NoMemory) (held c.answer.new.members c.answer.new.traffic)) c.as_slice.ensures
     (plan_lacks c.args.members.now c.solve.new.self c.args.traffic.now c.args.at c.args.number c.as_slice.result.now c.clock-now.result.0 c.requires.sound m.same c.in_ok-plan.plan m.there m.answers
-    c.answer.new.members c.answer.new.traffic c.in-Err.ensures.network c.in-Err.ensures.lost c.in-Err.ensures.lines c.in-Err.ensures.roomy
-    c.in-Err.ensures.seen c.in-Err.ensures.grows)
+    c.answer.new.members c.answer.new.traffic c.in-Err.ensures.kept c.in-Err.ensures.same c.in-Err.ensures.grows)

@@ -4,7 +4,7 @@ use Rattle.dom_base.specs.declared.names.Tick.{Tick}
 use Rattle.plant_network.specs.plant_hierarchy.Answering.{Commits}
 use Rattle.plant_network.specs.plant_hierarchy.declared.answering.Unanswered.{Unanswered}
 use Rattle.plant_network.specs.plant_hierarchy.Topologies.{MemberPlan}
-use Rattle.pce_plant.proofs.SolveLemmas.{plan_answers, plan_done, plan_lacks, planned_err}
+use Rattle.pce_plant.proofs.SolveLemmas.{plan_answers, plan_done, plan_kept, plan_lacks, planned_err}
 use Rattle.pce_plant.proofs.answering.answer.Goals as goal
 
 pub returns-in_err-plan-clause-moves : goal.returns-in_err-plan-clause-moves
@@ -19,12 +19,17 @@ answer-requires-clause-answers c =
     plan_answers c.args.members.now c.commit.new.self c.args.traffic.now c.at_of-at.result c.clock.result.0 c.args.done c.at_of-at.ensures c.requires.sound c.in_ok-plan.plan
     (subst (λ (r : Result MemberPlan Unanswered). Commits c.at_of-at.result c.clock.result.0 c.args.done c.args.members.now r c.commit.new.self) c.in_ok-plan.was c.commit.ensures)
 
+pub answer-requires-clause-kept : goal.answer-requires-clause-kept
+answer-requires-clause-kept c =
+    plan_kept c.args.members.now c.commit.new.self c.args.traffic.now c.at_of-at.result c.clock.result.0 c.args.done c.at_of-at.ensures c.requires.sound c.in_ok-plan.plan
+    (subst (λ (r : Result MemberPlan Unanswered). Commits c.at_of-at.result c.clock.result.0 c.args.done c.args.members.now r c.commit.new.self) c.in_ok-plan.was c.commit.ensures)
+
 pub returns-in-Ok-clause-moves : goal.returns-in-Ok-clause-moves
 returns-in-Ok-clause-moves c =
     let m : Commits c.at_of-at.result c.clock.result.0 c.args.done c.args.members.now (Ok c.in_ok-plan.plan) c.commit.new.self =
     subst (λ (r : Result MemberPlan Unanswered). Commits c.at_of-at.result c.clock.result.0 c.args.done c.args.members.now r c.commit.new.self) c.in_ok-plan.was c.commit.ensures in
     plan_done c.args.members.now c.commit.new.self c.args.traffic.now c.at_of-at.result c.clock.result.0 c.args.done c.at_of-at.ensures c.requires.sound c.in_ok-plan.plan m
-    c.answer.new.members c.answer.new.traffic c.in-Ok.ensures.network c.in-Ok.ensures.lost c.in-Ok.ensures.lines c.in-Ok.ensures.roomy
+    c.answer.new.members c.answer.new.traffic c.in-Ok.ensures.kept
     (ap (λ (t : Tick). t.0) c.clock.ensures) c.in-Ok.ensures.next c.in-Ok.ensures.sends
 
 pub returns-in-Err-clause-moves : goal.returns-in-Err-clause-moves
@@ -32,5 +37,4 @@ returns-in-Err-clause-moves c =
     let m : Commits c.at_of-at.result c.clock.result.0 c.args.done c.args.members.now (Ok c.in_ok-plan.plan) c.commit.new.self =
     subst (λ (r : Result MemberPlan Unanswered). Commits c.at_of-at.result c.clock.result.0 c.args.done c.args.members.now r c.commit.new.self) c.in_ok-plan.was c.commit.ensures in
     plan_lacks c.args.members.now c.commit.new.self c.args.traffic.now c.at_of-at.result c.clock.result.0 c.args.done c.at_of-at.ensures c.requires.sound c.in_ok-plan.plan m
-    c.answer.new.members c.answer.new.traffic c.in-Err.ensures.network c.in-Err.ensures.lost c.in-Err.ensures.lines c.in-Err.ensures.roomy
-    c.in-Err.ensures.seen c.in-Err.ensures.grows
+    c.answer.new.members c.answer.new.traffic c.in-Err.ensures.kept c.in-Err.ensures.same c.in-Err.ensures.grows

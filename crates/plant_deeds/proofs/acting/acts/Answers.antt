@@ -10,23 +10,23 @@ use Rattle.plant_deeds.proofs.acting.acts.Goals as goal
 
 pub act-requires-clause-fits : goal.act-requires-clause-fits
 act-requires-clause-fits g c =
-    let ms = g.M.Members.seen c.args.members.now in
+    let ms = (g.M.Members.stands c.args.members.now).seen in
     let f = flow_of c.args.traffic.now in
     fits_first c.args.at c.args.to c.args.actions.first (option_to_list c.args.actions.second ++ option_to_list c.args.actions.third) ms f (fits_all c.args.at c.args.to c.args.actions ms f c.requires.fits)
 
 pub act-requires-2-clause-fits : goal.act-requires-2-clause-fits
 act-requires-2-clause-fits g c =
-    let ms1 = g.M.Members.seen c.act.new.members in
+    let ms1 = (g.M.Members.stands c.act.new.members).seen in
     let f1 = flow_of c.act.new.traffic in
     fits_first c.args.at c.args.to c.args.actions.second (option_to_list c.args.actions.third) ms1 f1
-    (fits_second c.args.at c.args.to c.args.actions (g.M.Members.seen c.args.members.now) ms1 (flow_of c.args.traffic.now) f1 c.requires.fits c.act.ensures.leaves)
+    (fits_second c.args.at c.args.to c.args.actions (g.M.Members.stands c.args.members.now).seen ms1 (flow_of c.args.traffic.now) f1 c.requires.fits c.act.ensures.leaves)
 
 pub act-requires-3-clause-fits : goal.act-requires-3-clause-fits
 act-requires-3-clause-fits g c =
-    let ms1 = g.M.Members.seen c.act.new.members in
+    let ms1 = (g.M.Members.stands c.act.new.members).seen in
     let f1 = flow_of c.act.new.traffic in
-    fits_rest c.args.at c.args.to c.args.actions.second (option_to_list c.args.actions.third) ms1 (g.M.Members.seen c.act-2.new.members) f1 (flow_of c.act-2.new.traffic)
-    (fits_second c.args.at c.args.to c.args.actions (g.M.Members.seen c.args.members.now) ms1 (flow_of c.args.traffic.now) f1 c.requires.fits c.act.ensures.leaves) c.act-2.ensures.leaves
+    fits_rest c.args.at c.args.to c.args.actions.second (option_to_list c.args.actions.third) ms1 (g.M.Members.stands c.act-2.new.members).seen f1 (flow_of c.act-2.new.traffic)
+    (fits_second c.args.at c.args.to c.args.actions (g.M.Members.stands c.args.members.now).seen ms1 (flow_of c.args.traffic.now) f1 c.requires.fits c.act.ensures.leaves) c.act-2.ensures.leaves
 
 pub act-requires-2-clause-none : goal.act-requires-2-clause-none
 act-requires-2-clause-none g c = c.act.ensures.goes.lost c.requires.none
@@ -41,9 +41,9 @@ returns g c =
     let l3 : List Action = option_to_list c.args.actions.third in
     goes_three (λ k. acts_at g.M.Members.Pin g.M.Members.Key k g.M.Members.show c.args.at c.args.to c.args.ticks l1) (λ k. acts_at g.M.Members.Pin g.M.Members.Key k g.M.Members.show c.args.at c.args.to c.args.ticks l2)
     (λ k. acts_at g.M.Members.Pin g.M.Members.Key k g.M.Members.show c.args.at c.args.to c.args.ticks l3) (λ k. acts_at g.M.Members.Pin g.M.Members.Key k g.M.Members.show c.args.at c.args.to c.args.ticks (l1 ++ l2 ++ l3))
-    (here (g.M.Members.network c.args.members.now) (g.M.Members.seen c.args.members.now) (g.M.Members.lost c.args.members.now) (flow_of c.args.traffic.now))
-    (here (g.M.Members.network c.act.new.members) (g.M.Members.seen c.act.new.members) (g.M.Members.lost c.act.new.members) (flow_of c.act.new.traffic))
-    (here (g.M.Members.network c.act-2.new.members) (g.M.Members.seen c.act-2.new.members) (g.M.Members.lost c.act-2.new.members) (flow_of c.act-2.new.traffic))
-    (here (g.M.Members.network c.act-3.new.members) (g.M.Members.seen c.act-3.new.members) (g.M.Members.lost c.act-3.new.members) (flow_of c.act-3.new.traffic))
+    (here (g.M.Members.stands c.args.members.now) (flow_of c.args.traffic.now))
+    (here (g.M.Members.stands c.act.new.members) (flow_of c.act.new.traffic))
+    (here (g.M.Members.stands c.act-2.new.members) (flow_of c.act-2.new.traffic))
+    (here (g.M.Members.stands c.act-3.new.members) (flow_of c.act-3.new.traffic))
     (λ k. acts_three g.M.Members.show c.args.at c.args.to c.args.ticks k l1 l2 l3)
     c.act.ensures.goes c.act-2.ensures.goes c.act-3.ensures.goes

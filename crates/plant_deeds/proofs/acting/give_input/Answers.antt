@@ -8,11 +8,11 @@ use Rattle.plant_deeds.proofs.acting.give_input.Goals as goal
 
 pub step-requires-clause-sets : goal.step-requires-clause-sets
 step-requires-clause-sets g c =
-    may_set (g.M.Members.network c.args.members.now) (flow_of c.args.traffic.now) c.args.at c.args.to c.args.input c.in-Some.session c.step-actions.new.self c.requires.end (sym c.in-Some.ensures) c.step-actions.ensures.next
+    may_set (g.M.Members.stands c.args.members.now).network (flow_of c.args.traffic.now) c.args.at c.args.to c.args.input c.in-Some.session c.step-actions.new.self c.requires.there.end (sym c.in-Some.ensures) c.step-actions.ensures.next
 
 pub step-requires-clause-fits : goal.step-requires-clause-fits
 step-requires-clause-fits g c =
-    let ms = g.M.Members.seen c.args.members.now in
+    let ms = (g.M.Members.stands c.args.members.now).seen in
     let f = flow_of c.args.traffic.now in
     subst (λ (as' : List Action). FitsTurn c.args.at c.args.to as' ms f) (sym c.step-actions.ensures.actions)
     (subst (λ (o : Option Session). FitsInput c.args.at c.args.to c.args.input o ms f) (sym c.in-Some.ensures) c.requires.fits)

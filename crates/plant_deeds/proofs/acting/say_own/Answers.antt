@@ -6,12 +6,12 @@ use Rattle.plant_deeds.proofs.acting.say_own.Goals as goal
 
 pub returns-then-leaves_out-clause-goes : goal.returns-then-leaves_out-clause-goes
 returns-then-leaves_out-clause-goes g c =
-    own_left g.M.Members.show (g.M.Members.network c.args._members.now) (g.M.Members.seen c.args._members.now) (g.M.Members.lost c.args._members.now) c.args.at c.args.to c.args.ticks c.args.own
+    own_left g.M.Members.show (g.M.Members.stands c.args._members.now).network (g.M.Members.stands c.args._members.now).seen (g.M.Members.stands c.args._members.now).lost c.args.at c.args.to c.args.ticks c.args.own
     (flow_of c.args.traffic.now) (sym c.leaves_out.ensures ∙ c.if-leaves_out.true)
 
 pub returns-clause-goes : goal.returns-clause-goes
 returns-clause-goes g c =
-    own_put g.M.Members.show (g.M.Members.network c.args._members.now) (g.M.Members.seen c.args._members.now) (g.M.Members.lost c.args._members.now) c.args.at c.args.to c.args.ticks c.args.own
+    own_put g.M.Members.show (g.M.Members.stands c.args._members.now).network (g.M.Members.stands c.args._members.now).seen (g.M.Members.stands c.args._members.now).lost c.args.at c.args.to c.args.ticks c.args.own
     (flow_of c.args.traffic.now) (flow_of c.say.new.traffic) (sym c.leaves_out.ensures ∙ c.if-leaves_out.false) c.say.ensures
 
 pub returns-clause-spent : goal.returns-clause-spent

@@ -1,14 +1,25 @@
-use Rattle.std.proofs.Common.{◌∙◌}
+use Rattle.std.proofs.Common.{◌∙◌, ap}
 use Rattle.plant_traffic.specs.Carried.{flow_of}
+use Rattle.plant_members.specs.Membership.{Standing}
 use Rattle.plant_deeds.proofs.TellLaws.{fall_goes, fall_tells}
 use Rattle.plant_deeds.proofs.deeds.fall.Goals as goal
 
+pub returns-clause-seen : goal.returns-clause-seen
+returns-clause-seen g c = ap (λ (x : Standing _ _). x.seen) c.tell_lost.ensures.same ∙ ap (λ (x : Standing _ _). x.seen) c.down.ensures
+
 pub returns-clause-goes : goal.returns-clause-goes
 returns-clause-goes g c =
-    fall_goes g.M.Members.show (g.M.Members.network c.args.members.now) (g.M.Members.network c.tell_lost.new.members) (g.M.Members.seen c.args.members.now) (g.M.Members.seen c.tell_lost.new.members)
-    (g.M.Members.lost c.args.members.now) (g.M.Members.lost c.down.new.self) (g.M.Members.lost c.tell_lost.new.members) c.args.at c.args.peer (flow_of c.args.traffic.now) (flow_of c.tell_lost.new.traffic)
-    (c.tell_lost.ensures.network ∙ c.down.ensures.network) (c.tell_lost.ensures.seen ∙ c.down.ensures.seen) c.down.ensures.lost c.tell_lost.ensures.lost c.tell_lost.ensures.tells
+    let m = g.M.Members in
+    let s = m.stands c.args.members.now in
+    let d = m.stands c.down.new.self in
+    let t = m.stands c.tell_lost.new.members in
+    fall_goes m.show s.network t.network s.seen t.seen s.lost d.lost t.lost c.args.at c.args.peer (flow_of c.args.traffic.now) (flow_of c.tell_lost.new.traffic)
+    (ap (λ (x : Standing _ _). x.network) c.tell_lost.ensures.same ∙ ap (λ (x : Standing _ _). x.network) c.down.ensures)
+    (ap (λ (x : Standing _ _). x.seen) c.tell_lost.ensures.same ∙ ap (λ (x : Standing _ _). x.seen) c.down.ensures)
+    (ap (λ (x : Standing _ _). x.lost) c.down.ensures) c.tell_lost.ensures.lost c.tell_lost.ensures.tells
 
 pub returns-clause-tells : goal.returns-clause-tells
 returns-clause-tells g c =
-    fall_tells c.args.at c.args.peer (g.M.Members.seen c.args.members.now) (g.M.Members.lost c.args.members.now) (g.M.Members.lost c.down.new.self) (flow_of c.args.traffic.now) (flow_of c.tell_lost.new.traffic) c.down.ensures.lost c.tell_lost.ensures.tells
+    let m = g.M.Members in
+    let s = m.stands c.args.members.now in
+    fall_tells c.args.at c.args.peer s.seen s.lost (m.stands c.down.new.self).lost (flow_of c.args.traffic.now) (flow_of c.tell_lost.new.traffic) (ap (λ (x : Standing _ _). x.lost) c.down.ensures) c.tell_lost.ensures.tells

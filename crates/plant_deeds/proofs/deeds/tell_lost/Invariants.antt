@@ -7,8 +7,8 @@ use Rattle.plant_deeds.proofs.deeds.tell_lost.Given as goal
 abbrev pub invariant-loop-lost : goal.invariant-loop-lost
 invariant-loop-lost g l =
     TellsOn l.at
-    (here (g.M.Members.network l.initial.members) (g.M.Members.seen l.initial.members) (g.M.Members.lost l.initial.members) (flow_of l.initial.traffic))
-    (here (g.M.Members.network l.members) (g.M.Members.seen l.members) (g.M.Members.lost l.members) (flow_of l.traffic))
+    (here (g.M.Members.stands l.initial.members) (flow_of l.initial.traffic))
+    (here (g.M.Members.stands l.members) (flow_of l.traffic))
 
 abbrev pub decreases-loop-lost : goal.decreases-loop-lost
-decreases-loop-lost g l = length (g.M.Members.lost l.members l.at)
+decreases-loop-lost g l = length ((g.M.Members.stands l.members).lost l.at)

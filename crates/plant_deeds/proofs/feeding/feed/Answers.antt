@@ -1,15 +1,45 @@
+use Rattle.std.proofs.Common.{ap, subst}
+use Rattle.std.specs.Prelude.{Result}
+use Rattle.std.proofs.lemmas.Result.{err_from_is_err_and}
+use Rattle.plant_members.specs.plant_model.declared.outcome.Outcome.TheVariants.{Done}
+use Rattle.plant_members.specs.plant_model.declared.outcome.Refused.{Refused}
+use Rattle.plant_members.specs.plant_model.Events as events
+use Rattle.plant_members.specs.plant_model.RealWire.{wire}
+use Rattle.plant_members.specs.plant_model.Wire.{Bytes}
 use Rattle.plant_traffic.specs.Carried.{flow_of}
-use Rattle.plant_deeds.proofs.FeedLaws.{feed_done, feed_roomy, feeds_ok}
+use Rattle.plant_traffic.specs.Flow.{Flow}
+use Rattle.plant_traffic.specs.Happenings.{FeedsIn}
+use Rattle.plant_deeds.specs.Standing.{here}
+use Rattle.plant_deeds.proofs.FeedLaws.{feed_done, feed_refused, feed_roomy, feeds_err, feeds_lack, feeds_ok}
+use Rattle.plant_deeds.proofs.StepLemmas.{cleared_of, refused_moves, same_grows, still_moves}
 use Rattle.plant_deeds.proofs.feeding.feed.Goals as goal
 
-pub returns-clause-roomy : goal.returns-clause-roomy
-returns-clause-roomy g c =
-    let f = flow_of c.args.traffic.now in
-    let f1 = flow_of c.feed.new.self in
-    feed_roomy g.M.Members.show (g.M.Members.network c.args._members.now) (g.M.Members.seen c.args._members.now) c.args.peer c.args.piece.now f f1 (flow_of c.clear_said.new.self)
-    (feeds_ok c.args.peer c.args.piece.now f f1 c.in_ok-feed.ensures) c.clear_said.ensures c.requires.roomy
+pub returns-in_err-feed : goal.returns-in_err-feed
+returns-in_err-feed g c =
+    let m = g.M.Members in
+    let s = m.stands c.args._members.now in
+    let start = flow_of c.args.traffic.now in
+    let end = flow_of c.feed.new.self in
+    let why = c.in_err-feed.field-0.0 in
+    let p = err_from_is_err_and c.from_residual.result c.from_residual.ensures.1 in
+    let feeds = subst (λ (r : Result (Unit {0}) Refused). FeedsIn c.args.peer c.args.piece start r end) c.in_err-feed.was (subst (λ (bytes : Bytes). FeedsIn c.args.peer bytes start c.feed.result end) c.as_slice.ensures c.feed.ensures) in
+    rw (p.1, p.2) (refused_moves m.show (λ n st. events.feed m.Pin m.Key wire n m.show c.args.peer c.args.piece st) (here s start) end (λ st. events.takes_feed (st.accesses c.args.peer).connection) why c.requires.sound.kept
+    (same_grows start end (feeds_err c.args.peer c.args.piece start end why feeds)) (feeds_lack c.args.peer c.args.piece start end why feeds)
+    (feed_refused m.show s.network s.seen c.args.peer c.args.piece start end why feeds))
 
-pub returns-clause-done : goal.returns-clause-done
-returns-clause-done g c =
-    feed_done g.M.Members.show (g.M.Members.network c.args._members.now) (g.M.Members.seen c.args._members.now) c.args.peer c.args.piece.now
-    (flow_of c.args.traffic.now) (flow_of c.feed.new.self) (flow_of c.clear_said.new.self) c.in_ok-feed.ensures c.clear_said.ensures
+pub returns : goal.returns
+returns g c =
+    let m = g.M.Members in
+    let s = m.stands c.args._members.now in
+    let start = flow_of c.args.traffic.now in
+    let fed = flow_of c.feed.new.self in
+    let end = flow_of c.clear_said.new.self in
+    let feeds = subst (λ (r : Result (Unit {0}) Refused). FeedsIn c.args.peer c.args.piece start r fed) c.in_ok-feed.was (subst (λ (bytes : Bytes). FeedsIn c.args.peer bytes start c.feed.result fed) c.as_slice.ensures c.feed.ensures) in
+    let is = feeds_ok c.args.peer c.args.piece start fed feeds in
+    still_moves m.show (λ n st. events.feed m.Pin m.Key wire n m.show c.args.peer c.args.piece st) (here s start) end (λ st. events.takes_feed (st.accesses c.args.peer).connection) Done
+    (record {
+      of = cleared_of s.network start fed end (ap (λ (f : Flow). f.lines) is) (ap (λ (f : Flow). f.peers) is) c.clear_said.ensures c.requires.sound.kept.of;
+      none = c.requires.sound.kept.none;
+      roomy = feed_roomy m.show s.network s.seen c.args.peer c.args.piece start fed end is c.clear_said.ensures c.requires.sound.kept.roomy;
+    })
+    (feed_done m.show s.network s.seen c.args.peer c.args.piece start fed end feeds c.clear_said.ensures)

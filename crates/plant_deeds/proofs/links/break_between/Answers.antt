@@ -14,12 +14,12 @@ use Rattle.plant_deeds.proofs.links.break_between.Goals as goal
 
 pub break_line-requires-clause-lower : goal.break_line-requires-clause-lower
 break_line-requires-clause-lower g c =
-    let n = g.M.Members.network c.args.members.now in
+    let n = (g.M.Members.stands c.args.members.now).network in
     subst (λ (d : As). is_member n d ≡ true) (sym c.line_between.ensures.lower) (line_either c.args.a c.args.b (λ x. is_member n x.lower ≡ true) c.requires.there c.requires.here)
 
 pub break_line-requires-clause-upper : goal.break_line-requires-clause-upper
 break_line-requires-clause-upper g c =
-    let n = g.M.Members.network c.args.members.now in
+    let n = (g.M.Members.stands c.args.members.now).network in
     subst (λ (d : As). is_member n d ≡ true) (sym c.line_between.ensures.upper) (line_either c.args.a c.args.b (λ x. is_member n x.upper ≡ true) c.requires.here c.requires.there)
 
 pub break_line-requires-clause-apart : goal.break_line-requires-clause-apart
@@ -29,13 +29,13 @@ break_line-requires-clause-apart g c =
 
 pub break_line-requires-clause-room : goal.break_line-requires-clause-room
 break_line-requires-clause-room g c =
-    let ms = g.M.Members.seen c.args.members.now in
+    let ms = (g.M.Members.stands c.args.members.now).seen in
     subst (λ (x : Line). RoomToBreak x.lower x.upper (lost_at x.lower (Inner x.upper) ms) (lost_at x.upper (Inner x.lower) (fallen x.lower (Inner x.upper) ms)) (flow_of c.args.traffic.now))
     (sym (line_is c.args.a c.args.b c.line_between.result.0 c.line_between.result.1 c.line_between.ensures.lower c.line_between.ensures.upper)) c.requires.room
 
 pub returns : goal.returns
 returns g c =
     subst (λ (x : Line). Goes (λ k. deeds.break_line g.M.Members.Pin g.M.Members.Key wire k g.M.Members.show x)
-    (here (g.M.Members.network c.args.members.now) (g.M.Members.seen c.args.members.now) (g.M.Members.lost c.args.members.now) (flow_of c.args.traffic.now))
-    (here (g.M.Members.network c.break_line.new.members) (g.M.Members.seen c.break_line.new.members) (g.M.Members.lost c.break_line.new.members) (flow_of c.break_line.new.traffic)))
+    (here (g.M.Members.stands c.args.members.now) (flow_of c.args.traffic.now))
+    (here (g.M.Members.stands c.break_line.new.members) (flow_of c.break_line.new.traffic)))
     (line_is c.args.a c.args.b c.line_between.result.0 c.line_between.result.1 c.line_between.ensures.lower c.line_between.ensures.upper) c.break_line.ensures

@@ -6,7 +6,7 @@ use Rattle.plant_members.specs.plant_model.RealWire.{wire}
 use Rattle.plant_members.specs.plant_model.Deeds as deeds
 use Rattle.plant_members.specs.plant_model.Events as events
 use Rattle.plant_traffic.specs.Carried.{flow_of}
-use Rattle.plant_deeds.specs.Standing.{Goes, here}
+use Rattle.plant_deeds.specs.Standing.{Goes, here, here_of}
 use Rattle.plant_deeds.proofs.GoLaws.{goes_by, goes_then}
 use Rattle.plant_deeds.proofs.OpeningLaws.{begin_more, line_stands}
 use Rattle.plant_deeds.proofs.opening.begin_all.Goals as goal
@@ -17,10 +17,10 @@ unreachable-requires g c =
 
 pub loop-k-preserved : goal.loop-k-preserved
 loop-k-preserved g c =
-    let n = g.M.Members.network c.args.members.now in
-    let ms = g.M.Members.seen c.args.members.now in
-    let lost = g.M.Members.lost c.args.members.now in
-    let at = here n ms lost in
+    let n = (g.M.Members.stands c.args.members.now).network in
+    let ms = (g.M.Members.stands c.args.members.now).seen in
+    let lost = (g.M.Members.stands c.args.members.now).lost in
+    let at = here_of n ms lost in
     let start = flow_of c.args.traffic.now in
     let now = flow_of c.loop-k.traffic in
     let then = flow_of c.begin_both.new.traffic in
@@ -38,5 +38,5 @@ pub returns : goal.returns
 returns g c =
     let start = flow_of c.args.traffic.now in
     let all : length start.lines ≤ c.loop-k.k = omega (arith, c.lines-k-end.ensures, c.loop-k-test.false) in
-    let at = here (g.M.Members.network c.args.members.now) (g.M.Members.seen c.args.members.now) (g.M.Members.lost c.args.members.now) in
+    let at = here (g.M.Members.stands c.args.members.now) in
     subst (λ (xs : List Line). Goes (λ m. events.begin_lines g.M.Members.Pin g.M.Members.Key wire m g.M.Members.show xs) (at start) (at (flow_of c.loop-k.traffic))) (take_all c.loop-k.k start.lines all) c.loop-k.invariant

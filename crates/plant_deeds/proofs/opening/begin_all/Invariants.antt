@@ -8,5 +8,5 @@ use Rattle.plant_deeds.proofs.opening.begin_all.Given as goal
 abbrev pub invariant-loop-k : goal.invariant-loop-k
 invariant-loop-k g l =
     Goes (λ n. events.begin_lines g.M.Members.Pin g.M.Members.Key wire n g.M.Members.show (take l.k (flow_of l.initial.traffic).lines))
-    (here (g.M.Members.network l.members) (g.M.Members.seen l.members) (g.M.Members.lost l.members) (flow_of l.initial.traffic))
-    (here (g.M.Members.network l.members) (g.M.Members.seen l.members) (g.M.Members.lost l.members) (flow_of l.traffic))
+    (here (g.M.Members.stands l.members) (flow_of l.initial.traffic))
+    (here (g.M.Members.stands l.members) (flow_of l.traffic))

@@ -7,7 +7,7 @@ use Rattle.plant_deeds.proofs.opening.begin_both.Goals as goal
 
 pub returns : goal.returns
 returns g c =
-    let at = here (g.M.Members.network c.args.members.now) (g.M.Members.seen c.args.members.now) (g.M.Members.lost c.args.members.now) in
+    let at = here (g.M.Members.stands c.args.members.now) in
     goes_then
     (λ n. deeds.begin_end g.M.Members.Pin g.M.Members.Key wire n g.M.Members.show 0 c.args.lower c.args.upper)
     (λ n. deeds.begin_end g.M.Members.Pin g.M.Members.Key wire n g.M.Members.show 0 c.args.upper c.args.lower)

@@ -12,8 +12,8 @@ use Rattle.plant_deeds.proofs.opening.begin_links.Goals as goal
 
 pub returns-clause-room : goal.returns-clause-room
 returns-clause-room g c =
-    let n = g.M.Members.network c.args.members.now in
-    let ms = g.M.Members.seen c.args.members.now in
+    let n = (g.M.Members.stands c.args.members.now).network in
+    let ms = (g.M.Members.stands c.args.members.now).seen in
     let f0 = flow_of c.args.traffic.now in
     let f1 = flow_of c.begin_all.new.traffic in
     let f2 = flow_of c.clear_said.new.self in
@@ -21,7 +21,7 @@ returns-clause-room g c =
     let f4 = flow_of c.reserve_words.new.traffic in
     let start : Going g.M.Members.Pin g.M.Members.Key = record { state = state_of ms f0; deeds = [] } in
     let begun = c.in_ok-begin_all.ensures.goes start (record { state = refl; said = c.requires.bare.said }) in
-    let accesses : f1.accesses ≡ f0.accesses = ap (λ (s : State g.M.Members.Pin g.M.Members.Key). s.accesses) begun.state ∙ begun_accesses g.M.Members.show n ms (g.M.Members.lost c.args.members.now) f0.lines start in
+    let accesses : f1.accesses ≡ f0.accesses = ap (λ (s : State g.M.Members.Pin g.M.Members.Key). s.accesses) begun.state ∙ begun_accesses g.M.Members.show n ms (g.M.Members.stands c.args.members.now).lost f0.lines start in
     let lines_are : f2.lines ≡ lines n = ap (λ (f : Flow). f.lines) c.clear_said.ensures.kept ∙ c.in_ok-begin_all.ensures.lines ∙ c.requires.bare.lines_are in
     opens_roomy n ms f0 f4 c.requires.bare c.requires.nothing
     (ap (λ (f : Flow). f.accesses) c.reserve_words.ensures.grows.same ∙ ap (λ (f : Flow). f.accesses) c.keep_all.ensures.grows.same ∙ ap (λ (f : Flow). f.accesses) c.clear_said.ensures.kept ∙ accesses)
@@ -33,11 +33,11 @@ returns-clause-room g c =
 
 pub returns-clause-clock : goal.returns-clause-clock
 returns-clause-clock g c =
-    let n = g.M.Members.network c.args.members.now in
-    let ms = g.M.Members.seen c.args.members.now in
+    let n = (g.M.Members.stands c.args.members.now).network in
+    let ms = (g.M.Members.stands c.args.members.now).seen in
     let f0 = flow_of c.args.traffic.now in
     let f1 = flow_of c.begin_all.new.traffic in
     let start : Going g.M.Members.Pin g.M.Members.Key = record { state = state_of ms f0; deeds = [] } in
     let begun = c.in_ok-begin_all.ensures.goes start (record { state = refl; said = c.requires.bare.said }) in
-    let clock : f1.clock ≡ f0.clock = ap (λ (s : State g.M.Members.Pin g.M.Members.Key). s.clock) begun.state ∙ begun_clock g.M.Members.show n ms (g.M.Members.lost c.args.members.now) f0.lines start in
+    let clock : f1.clock ≡ f0.clock = ap (λ (s : State g.M.Members.Pin g.M.Members.Key). s.clock) begun.state ∙ begun_clock g.M.Members.show n ms (g.M.Members.stands c.args.members.now).lost f0.lines start in
     ap (λ (f : Flow). f.clock) c.reserve_words.ensures.grows.same ∙ ap (λ (f : Flow). f.clock) c.keep_all.ensures.grows.same ∙ ap (λ (f : Flow). f.clock) c.clear_said.ensures.kept ∙ clock ∙ c.requires.bare.clock

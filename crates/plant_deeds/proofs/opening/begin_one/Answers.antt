@@ -13,6 +13,6 @@ begin_end-requires-clause-there g c =
 
 pub returns : goal.returns
 returns g c =
-    goes_begin_one g.M.Members.show (g.M.Members.network c.args._members.now) (g.M.Members.seen c.args._members.now) (g.M.Members.lost c.args._members.now)
+    goes_begin_one g.M.Members.show (g.M.Members.stands c.args._members.now).network (g.M.Members.stands c.args._members.now).seen (g.M.Members.stands c.args._members.now).lost
     c.args.at c.args.to (flow_of c.args.traffic.now) (flow_of c.reserve.new.self) (flow_of c.reserve_said.new.self) (flow_of c.begin_end.new.self)
     c.in_ok-reserve.ensures.grows c.in_ok-reserve_said.ensures.grows c.begin_end.ensures

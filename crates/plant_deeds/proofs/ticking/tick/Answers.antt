@@ -1,80 +1,78 @@
-use Rattle.std.proofs.Common.{◌≡◌, ◌*◌, ap, sym, subst, ◌∙◌, arith, length}
+use Rattle.std.proofs.Common.{◌≡◌, ◌*◌, true, false, ap, sym, subst, ◌∙◌, arith, length}
+use Rattle.dom_base.specs.declared.names.As.{As}
 use Rattle.dom_base.specs.declared.names.Tick.{Tick}
 use Rattle.plant_text.specs.declared.settings.NetworkParts.{NetworkParts}
-use Rattle.plant_text.specs.Settings.{lines}
+use Rattle.plant_text.specs.Names.{same_as}
+use Rattle.plant_text.specs.Settings.{has_line, lines}
+use Rattle.plant_members.specs.plant_model.declared.outcome.Outcome.TheVariants.{Done}
 use Rattle.plant_members.specs.plant_model.Events as events
+use Rattle.plant_members.specs.plant_model.RealWire.{wire}
 use Rattle.plant_traffic.specs.Carried.{flow_of}
-use Rattle.plant_members.specs.Membership.{KeysBefore}
+use Rattle.plant_members.specs.Membership.{AreJoined, KeysBefore}
 use Rattle.plant_deeds.specs.Rooms.{own_most}
 use Rattle.plant_deeds.specs.Standing.{here}
-use Rattle.plant_deeds.proofs.TickEvents.{moment_keeps, moment_on, tick_done, told_keys, told_roomy}
-use Rattle.plant_deeds.proofs.TickingLaws.{goes_on, room_left}
+use Rattle.plant_deeds.proofs.SoundLemmas.{keys_before}
+use Rattle.plant_deeds.proofs.StepLemmas.{done_moves}
+use Rattle.plant_deeds.proofs.TickEvents.{moment_under, tick_done, told_keys, told_roomy}
+use Rattle.plant_deeds.proofs.TickingLaws.{under_way}
 use Rattle.plant_deeds.proofs.ticking.tick.Goals as goal
 
-pub tick_peers-requires-clause-on : goal.tick_peers-requires-clause-on
-tick_peers-requires-clause-on g c =
-    moment_on g.M.Members.show c.later-now.result.0 (g.M.Members.seen c.args.members.now) (flow_of c.args.traffic.now) (flow_of c.clear_said.new.self) (flow_of c.set_clock.new.self) c.clear_said.ensures c.set_clock.ensures
+pub tick_peers-requires-clause-joined : goal.tick_peers-requires-clause-joined
+tick_peers-requires-clause-joined g c = c.requires.sound.joined
 
-pub tick_peers-requires-clause-keeps : goal.tick_peers-requires-clause-keeps
-tick_peers-requires-clause-keeps g c =
-    let n = g.M.Members.network c.args.members.now in
-    moment_keeps g.M.Members.show c.later-now.result.0 (length n.peers) n (g.M.Members.seen c.args.members.now) (flow_of c.args.traffic.now) (flow_of c.clear_said.new.self) (flow_of c.set_clock.new.self) c.clear_said.ensures c.set_clock.ensures
-    (omega arith) c.requires.roomy
+pub tick_peers-requires-clause-few : goal.tick_peers-requires-clause-few
+tick_peers-requires-clause-few g c = c.requires.sound.few
 
-pub tick_lines-requires-clause-on : goal.tick_lines-requires-clause-on
-tick_lines-requires-clause-on g c =
-    goes_on c.tick_peers.ensures.goes
-    (moment_on g.M.Members.show c.later-now.result.0 (g.M.Members.seen c.args.members.now) (flow_of c.args.traffic.now) (flow_of c.clear_said.new.self) (flow_of c.set_clock.new.self) c.clear_said.ensures c.set_clock.ensures)
+pub tick_peers-requires-clause-under : goal.tick_peers-requires-clause-under
+tick_peers-requires-clause-under g c =
+    let s = g.M.Members.stands c.args.members.now in
+    moment_under g.M.Members.show c.later-now.result.0 (length s.network.peers) (here s (flow_of c.args.traffic.now)) (flow_of c.clear_said.new.self) (flow_of c.set_clock.new.self) c.clear_said.ensures c.set_clock.ensures
+    (omega arith) c.requires.sound.kept
 
-pub tick_lines-requires-clause-keeps : goal.tick_lines-requires-clause-keeps
-tick_lines-requires-clause-keeps g c =
-    let n = g.M.Members.network c.args.members.now in
-    let ms = g.M.Members.seen c.args.members.now in
-    let f = flow_of c.args.traffic.now in
-    let on = moment_on g.M.Members.show c.later-now.result.0 ms f (flow_of c.clear_said.new.self) (flow_of c.set_clock.new.self) c.clear_said.ensures c.set_clock.ensures in
-    let keeps = moment_keeps g.M.Members.show c.later-now.result.0 (own_most n) n ms f (flow_of c.clear_said.new.self) (flow_of c.set_clock.new.self) c.clear_said.ensures c.set_clock.ensures (omega arith) c.requires.roomy in
-    room_left (length n.peers) (4 * length (lines (g.M.Members.network c.tick_peers.new.members))) (own_most n) c.tick_peers.ensures on
-    (omega (arith, ap (λ (m : NetworkParts). length (lines m)) c.tick_peers.ensures.goes.network)) keeps
+pub tick_lines-requires-clause-joined : goal.tick_lines-requires-clause-joined
+tick_lines-requires-clause-joined g c = subst AreJoined (sym c.tick_peers.ensures.goes.network) c.requires.sound.joined
+
+pub tick_lines-requires-clause-apart : goal.tick_lines-requires-clause-apart
+tick_lines-requires-clause-apart g c =
+    subst (λ (n : NetworkParts). (a b : As) → has_line a b (lines n) ≡ true → same_as a b ≡ false) (sym c.tick_peers.ensures.goes.network) c.requires.sound.apart
+
+pub tick_lines-requires-clause-under : goal.tick_lines-requires-clause-under
+tick_lines-requires-clause-under g c =
+    let s = g.M.Members.stands c.args.members.now in
+    let n = s.network in
+    under_way (length n.peers) (4 * length (lines (g.M.Members.stands c.tick_peers.new.members).network)) (own_most n) c.tick_peers.ensures
+    (omega (arith, ap (λ (m : NetworkParts). length (lines m)) c.tick_peers.ensures.goes.network))
+    (moment_under g.M.Members.show c.later-now.result.0 (own_most n) (here s (flow_of c.args.traffic.now)) (flow_of c.clear_said.new.self) (flow_of c.set_clock.new.self) c.clear_said.ensures c.set_clock.ensures (omega arith) c.requires.sound.kept)
 
 pub expire-requires : goal.expire-requires
 expire-requires g c =
-    let n = g.M.Members.network c.args.members.now in
-    let ms = g.M.Members.seen c.args.members.now in
+    let s = g.M.Members.stands c.args.members.now in
     let f = flow_of c.args.traffic.now in
+    let f2 = flow_of c.set_clock.new.self in
     let now_is : c.later-now.result ≡ record { 0 = events.later f.clock c.args.at.0 } = c.later-now.ensures ∙ ap (λ (x : Tick). let y : Tick = record { 0 = events.later x.0 c.args.at.0 } in y) c.clock.ensures in
-    let on = moment_on g.M.Members.show c.later-now.result.0 ms f (flow_of c.clear_said.new.self) (flow_of c.set_clock.new.self) c.clear_said.ensures c.set_clock.ensures in
+    let under = moment_under g.M.Members.show c.later-now.result.0 (own_most s.network) (here s f) (flow_of c.clear_said.new.self) f2 c.clear_said.ensures c.set_clock.ensures (omega arith) c.requires.sound.kept in
     told_keys g.M.Members.show c.later-now.result
-    (here n ms (g.M.Members.lost c.args.members.now) (flow_of c.set_clock.new.self))
-    (here (g.M.Members.network c.tick_peers.new.members) (g.M.Members.seen c.tick_peers.new.members) (g.M.Members.lost c.tick_peers.new.members) (flow_of c.tick_peers.new.traffic))
-    (here (g.M.Members.network c.tick_lines.new.members) (g.M.Members.seen c.tick_lines.new.members) (g.M.Members.lost c.tick_lines.new.members) (flow_of c.tick_lines.new.traffic))
-    c.tick_peers.ensures.goes c.tick_lines.ensures.goes on (subst (λ (x : Tick). KeysBefore x.0 n ms) (sym now_is) c.requires.keys)
+    (here s f2) (here (g.M.Members.stands c.tick_peers.new.members) (flow_of c.tick_peers.new.traffic)) (here (g.M.Members.stands c.tick_lines.new.members) (flow_of c.tick_lines.new.traffic))
+    c.tick_peers.ensures.goes c.tick_lines.ensures.goes under.on (subst (λ (x : Tick). KeysBefore x.0 s.network s.seen) (sym now_is) (keys_before (here s f) c.args.at.0 c.requires.sound))
 
-pub returns-clause-none : goal.returns-clause-none
-returns-clause-none g c = c.expire.ensures.lost (c.tick_lines.ensures.goes.lost (c.tick_peers.ensures.goes.lost c.requires.none))
-
-pub returns-clause-roomy : goal.returns-clause-roomy
-returns-clause-roomy g c =
-    let n = g.M.Members.network c.args.members.now in
-    let ms = g.M.Members.seen c.args.members.now in
+pub returns : goal.returns
+returns g c =
+    let m = g.M.Members in
+    let s = m.stands c.args.members.now in
     let f = flow_of c.args.traffic.now in
-    told_roomy g.M.Members.show c.later-now.result
-    (here n ms (g.M.Members.lost c.args.members.now) (flow_of c.set_clock.new.self))
-    (here (g.M.Members.network c.tick_peers.new.members) (g.M.Members.seen c.tick_peers.new.members) (g.M.Members.lost c.tick_peers.new.members) (flow_of c.tick_peers.new.traffic))
-    (here (g.M.Members.network c.tick_lines.new.members) (g.M.Members.seen c.tick_lines.new.members) (g.M.Members.lost c.tick_lines.new.members) (flow_of c.tick_lines.new.traffic))
-    (here (g.M.Members.network c.expire.new.members) (g.M.Members.seen c.expire.new.members) (g.M.Members.lost c.expire.new.members) (flow_of c.tick_lines.new.traffic))
-    c.tick_peers.ensures c.tick_lines.ensures c.expire.ensures
-    (moment_on g.M.Members.show c.later-now.result.0 ms f (flow_of c.clear_said.new.self) (flow_of c.set_clock.new.self) c.clear_said.ensures c.set_clock.ensures)
-    (moment_keeps g.M.Members.show c.later-now.result.0 (own_most n) n ms f (flow_of c.clear_said.new.self) (flow_of c.set_clock.new.self) c.clear_said.ensures c.set_clock.ensures (omega arith) c.requires.roomy)
-
-pub returns-clause-done : goal.returns-clause-done
-returns-clause-done g c =
-    let n = g.M.Members.network c.args.members.now in
-    let ms = g.M.Members.seen c.args.members.now in
-    let f = flow_of c.args.traffic.now in
+    let f1 = flow_of c.clear_said.new.self in
+    let f2 = flow_of c.set_clock.new.self in
+    let begun = here s f2 in
+    let peers = here (m.stands c.tick_peers.new.members) (flow_of c.tick_peers.new.traffic) in
+    let links = here (m.stands c.tick_lines.new.members) (flow_of c.tick_lines.new.traffic) in
+    let end = here (m.stands c.expire.new.members) (flow_of c.tick_lines.new.traffic) in
+    let one = c.tick_peers.ensures in
+    let two = c.tick_lines.ensures in
     let now_is : c.later-now.result ≡ record { 0 = events.later f.clock c.args.at.0 } = c.later-now.ensures ∙ ap (λ (x : Tick). let y : Tick = record { 0 = events.later x.0 c.args.at.0 } in y) c.clock.ensures in
-    tick_done g.M.Members.show c.args.at.0 c.later-now.result f (flow_of c.clear_said.new.self)
-    (here n ms (g.M.Members.lost c.args.members.now) (flow_of c.set_clock.new.self))
-    (here (g.M.Members.network c.tick_peers.new.members) (g.M.Members.seen c.tick_peers.new.members) (g.M.Members.lost c.tick_peers.new.members) (flow_of c.tick_peers.new.traffic))
-    (here (g.M.Members.network c.tick_lines.new.members) (g.M.Members.seen c.tick_lines.new.members) (g.M.Members.lost c.tick_lines.new.members) (flow_of c.tick_lines.new.traffic))
-    (here (g.M.Members.network c.expire.new.members) (g.M.Members.seen c.expire.new.members) (g.M.Members.lost c.expire.new.members) (flow_of c.tick_lines.new.traffic))
-    now_is c.clear_said.ensures c.set_clock.ensures c.tick_peers.ensures.goes c.tick_lines.ensures.goes c.expire.ensures
+    let under = moment_under m.show c.later-now.result.0 (own_most s.network) (here s f) f1 f2 c.clear_said.ensures c.set_clock.ensures (omega arith) c.requires.sound.kept in
+    done_moves m.show (λ n st. events.tick m.Pin m.Key wire n m.show c.args.at.0 st) (here s f) end (c.expire.ensures.network ∙ two.goes.network ∙ one.goes.network)
+    (record { lines_are = two.goes.lines ∙ one.goes.lines ∙ under.of.lines_are; peers_are = two.goes.peers ∙ one.goes.peers ∙ under.of.peers_are })
+    (c.expire.ensures.lost (two.goes.lost (one.goes.lost under.none)))
+    (told_roomy m.show c.later-now.result begun peers links end one two c.expire.ensures under.on under.keeps)
+    (λ st. false) Done
+    (tick_done m.show c.args.at.0 c.later-now.result f f1 begun peers links end now_is c.clear_said.ensures c.set_clock.ensures one.goes two.goes c.expire.ensures)

@@ -13,46 +13,52 @@ use Rattle.plant_deeds.proofs.RoomyNeeds.{fits_link}
 use Rattle.plant_deeds.proofs.TickingLaws.{both_ends, end_uses, goes_of, line_ends, uses_then}
 use Rattle.plant_deeds.proofs.ticking.tick_line.Goals as goal
 
-pub tick_session-requires-clause-end : goal.tick_session-requires-clause-end
-tick_session-requires-clause-end g c =
-    (both_ends (g.M.Members.network c.args.members.now) (flow_of c.args.traffic.now) c.args.line.0 c.args.line.1 c.requires.lower c.requires.upper c.requires.apart c.requires.linked c.requires.of).0
+pub tick_session-requires-clause-there : goal.tick_session-requires-clause-there
+tick_session-requires-clause-there g c = record {
+  end = (both_ends (g.M.Members.stands c.args.members.now).network (flow_of c.args.traffic.now) c.args.line.0 c.args.line.1 c.requires.lower c.requires.upper c.requires.apart c.requires.linked c.requires.under.of).0;
+  member = c.requires.lower;
+  none = c.requires.under.none;
+}
 
 pub tick_session-requires-clause-fits : goal.tick_session-requires-clause-fits
 tick_session-requires-clause-fits g c =
-    let n = g.M.Members.network c.args.members.now in
+    let n = (g.M.Members.stands c.args.members.now).network in
     let f = flow_of c.args.traffic.now in
-    let ends = both_ends n f c.args.line.0 c.args.line.1 c.requires.lower c.requires.upper c.requires.apart c.requires.linked c.requires.of in
-    fits_link n 4 c.args.line.0 c.args.line.1 (f.sessions c.args.line.0 c.args.line.1) c.args.now (g.M.Members.seen c.args.members.now) f ends.0 c.requires.lower c.requires.of (omega arith) c.requires.keeps
+    let ends = both_ends n f c.args.line.0 c.args.line.1 c.requires.lower c.requires.upper c.requires.apart c.requires.linked c.requires.under.of in
+    fits_link n 4 c.args.line.0 c.args.line.1 (f.sessions c.args.line.0 c.args.line.1) c.args.now (g.M.Members.stands c.args.members.now).seen f ends.0 c.requires.lower c.requires.under.of (omega arith) c.requires.under.keeps
 
-pub tick_session-requires-2-clause-end : goal.tick_session-requires-2-clause-end
-tick_session-requires-2-clause-end g c =
-    let n = g.M.Members.network c.args.members.now in
+pub tick_session-requires-2-clause-there : goal.tick_session-requires-2-clause-there
+tick_session-requires-2-clause-there g c =
     let f = flow_of c.tick_session.new.traffic in
-    subst (λ (m : NetworkParts). IsLinkEnd m f c.args.line.1 c.args.line.0) (sym c.tick_session.ensures.network)
-    (both_ends n f c.args.line.0 c.args.line.1 c.requires.lower c.requires.upper c.requires.apart c.requires.linked (goes_of c.tick_session.ensures c.requires.of)).1
+    record {
+      end = subst (λ (m : NetworkParts). IsLinkEnd m f c.args.line.1 c.args.line.0) (sym c.tick_session.ensures.network)
+          (both_ends (g.M.Members.stands c.args.members.now).network f c.args.line.0 c.args.line.1 c.requires.lower c.requires.upper c.requires.apart c.requires.linked (goes_of c.tick_session.ensures c.requires.under.of)).1;
+      member = subst (λ (m : NetworkParts). is_member m c.args.line.1 ≡ true) (sym c.tick_session.ensures.network) c.requires.upper;
+      none = c.tick_session.ensures.lost c.requires.under.none;
+    }
 
 pub tick_session-requires-2-clause-fits : goal.tick_session-requires-2-clause-fits
 tick_session-requires-2-clause-fits g c =
-    let n = g.M.Members.network c.args.members.now in
+    let n = (g.M.Members.stands c.args.members.now).network in
     let l = c.args.line.0 in
     let u = c.args.line.1 in
     let f = flow_of c.tick_session.new.traffic in
-    let of = goes_of c.tick_session.ensures c.requires.of in
-    let start = here n (g.M.Members.seen c.args.members.now) (g.M.Members.lost c.args.members.now) (flow_of c.args.traffic.now) in
-    let then = here (g.M.Members.network c.tick_session.new.members) (g.M.Members.seen c.tick_session.new.members) (g.M.Members.lost c.tick_session.new.members) f in
+    let of = goes_of c.tick_session.ensures c.requires.under.of in
+    let start = here (g.M.Members.stands c.args.members.now) (flow_of c.args.traffic.now) in
+    let then = here (g.M.Members.stands c.tick_session.new.members) f in
     let goes = subst (λ (x : Line). Goes (λ m. deeds.inner_input g.M.Members.Pin g.M.Members.Key wire m g.M.Members.show x l u (inputs.Tick c.args.now)) start then) (line_ends l u c.requires.rises).1 c.tick_session.ensures in
     let one = end_uses g.M.Members.show c.args.now (line_of c.args.line) l u start then c.requires.apart c.requires.lower c.requires.upper goes in
-    fits_link n 2 u l (f.sessions u l) c.args.now (g.M.Members.seen c.tick_session.new.members) f (both_ends n f l u c.requires.lower c.requires.upper c.requires.apart c.requires.linked of).1 c.requires.upper of (omega arith)
-    (one.keeps c.requires.on.going c.requires.on.at 2 c.requires.keeps)
+    fits_link n 2 u l (f.sessions u l) c.args.now (g.M.Members.stands c.tick_session.new.members).seen f (both_ends n f l u c.requires.lower c.requires.upper c.requires.apart c.requires.linked of).1 c.requires.upper of (omega arith)
+    (one.keeps c.requires.under.on.going c.requires.under.on.at 2 c.requires.under.keeps)
 
 pub returns : goal.returns
 returns g c =
     let l = c.args.line.0 in
     let u = c.args.line.1 in
     let x = line_of c.args.line in
-    let start = here (g.M.Members.network c.args.members.now) (g.M.Members.seen c.args.members.now) (g.M.Members.lost c.args.members.now) (flow_of c.args.traffic.now) in
-    let then = here (g.M.Members.network c.tick_session.new.members) (g.M.Members.seen c.tick_session.new.members) (g.M.Members.lost c.tick_session.new.members) (flow_of c.tick_session.new.traffic) in
-    let end = here (g.M.Members.network c.tick_session-2.new.members) (g.M.Members.seen c.tick_session-2.new.members) (g.M.Members.lost c.tick_session-2.new.members) (flow_of c.tick_session-2.new.traffic) in
+    let start = here (g.M.Members.stands c.args.members.now) (flow_of c.args.traffic.now) in
+    let then = here (g.M.Members.stands c.tick_session.new.members) (flow_of c.tick_session.new.traffic) in
+    let end = here (g.M.Members.stands c.tick_session-2.new.members) (flow_of c.tick_session-2.new.traffic) in
     let is = line_ends l u c.requires.rises in
     let one = end_uses g.M.Members.show c.args.now x l u start then c.requires.apart c.requires.lower c.requires.upper (subst (λ (y : Line). Goes (λ m. deeds.inner_input g.M.Members.Pin g.M.Members.Key wire m g.M.Members.show y l u (inputs.Tick c.args.now)) start then) is.1 c.tick_session.ensures) in
     let two = end_uses g.M.Members.show c.args.now x u l then end c.requires.apart

@@ -9,7 +9,7 @@ use Rattle.plant_deeds.proofs.ticking.tick_lines.Given as goal
 
 abbrev pub invariant-loop-k : goal.invariant-loop-k
 invariant-loop-k g l =
-    Until (λ n. deeds.tick_lines g.M.Members.Pin g.M.Members.Key wire n g.M.Members.show (take l.k (lines (g.M.Members.network l.initial.members))) l.now) (4 * l.k) l.k
-    (length (lines (g.M.Members.network l.initial.members)))
-    (here (g.M.Members.network l.initial.members) (g.M.Members.seen l.initial.members) (g.M.Members.lost l.initial.members) (flow_of l.initial.traffic))
-    (here (g.M.Members.network l.members) (g.M.Members.seen l.members) (g.M.Members.lost l.members) (flow_of l.traffic))
+    Until (λ n. deeds.tick_lines g.M.Members.Pin g.M.Members.Key wire n g.M.Members.show (take l.k (lines (g.M.Members.stands l.initial.members).network)) l.now) (4 * l.k) l.k
+    (length (lines (g.M.Members.stands l.initial.members).network))
+    (here (g.M.Members.stands l.initial.members) (flow_of l.initial.traffic))
+    (here (g.M.Members.stands l.members) (flow_of l.traffic))

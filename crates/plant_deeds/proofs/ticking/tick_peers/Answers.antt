@@ -12,43 +12,47 @@ use Rattle.plant_deeds.proofs.ticking.tick_peers.Goals as goal
 
 pub tick_session-requires-clause-fits : goal.tick_session-requires-clause-fits
 tick_session-requires-clause-fits g c =
-    let n = g.M.Members.network c.args.members.now in
+    let n = (g.M.Members.stands c.args.members.now).network in
     let k = c.loop-peer.peer in
-    let all = peers_fit n (flow_of c.args.traffic.now) c.peers-count.result c.requires.of c.peers-count.ensures c.requires.few in
-    let below : k < length n.peers = omega (arith, c.loop-peer-test.true, all, c.requires.of.peers_are, c.peers-count.ensures) in
+    let all = peers_fit n (flow_of c.args.traffic.now) c.peers-count.result c.requires.under.of c.peers-count.ensures c.requires.few in
+    let below : k < length n.peers = omega (arith, c.loop-peer-test.true, all, c.requires.under.of.peers_are, c.peers-count.ensures) in
     let member = subst (λ (m : NetworkParts). is_member m (element_of m k) ≡ true) (sym c.loop-peer.invariant.uses.goes.network) (c.requires.joined.peers k below) in
-    fits_tick (g.M.Members.network c.loop-peer.members) 1 k c.element_of-at.result c.args.now (g.M.Members.seen c.loop-peer.members) (flow_of c.loop-peer.traffic) c.element_of-at.ensures
-    (subst (λ (a : As). is_member (g.M.Members.network c.loop-peer.members) a ≡ true) (sym c.element_of-at.ensures) member) (omega arith)
-    (room_left k 1 (length n.peers) c.loop-peer.invariant.uses c.requires.on (omega (arith, below)) c.requires.keeps)
+    fits_tick (g.M.Members.stands c.loop-peer.members).network 1 k c.element_of-at.result c.args.now (g.M.Members.stands c.loop-peer.members).seen (flow_of c.loop-peer.traffic) c.element_of-at.ensures
+    (subst (λ (a : As). is_member (g.M.Members.stands c.loop-peer.members).network a ≡ true) (sym c.element_of-at.ensures) member) (omega arith)
+    (room_left k 1 (length n.peers) c.loop-peer.invariant.uses c.requires.under.on (omega (arith, below)) c.requires.under.keeps)
 
-pub tick_session-requires-clause-member : goal.tick_session-requires-clause-member
-tick_session-requires-clause-member g c =
-    let n = g.M.Members.network c.args.members.now in
+pub tick_session-requires-clause-there : goal.tick_session-requires-clause-there
+tick_session-requires-clause-there g c =
+    let n = (g.M.Members.stands c.args.members.now).network in
     let k = c.loop-peer.peer in
-    let all = peers_fit n (flow_of c.args.traffic.now) c.peers-count.result c.requires.of c.peers-count.ensures c.requires.few in
-    let below : k < length n.peers = omega (arith, c.loop-peer-test.true, all, c.requires.of.peers_are, c.peers-count.ensures) in
-    subst (λ (a : As). is_member (g.M.Members.network c.loop-peer.members) a ≡ true) (sym c.element_of-at.ensures)
-    (subst (λ (m : NetworkParts). is_member m (element_of m k) ≡ true) (sym c.loop-peer.invariant.uses.goes.network) (c.requires.joined.peers k below))
+    let all = peers_fit n (flow_of c.args.traffic.now) c.peers-count.result c.requires.under.of c.peers-count.ensures c.requires.few in
+    let below : k < length n.peers = omega (arith, c.loop-peer-test.true, all, c.requires.under.of.peers_are, c.peers-count.ensures) in
+    record {
+      end = c.element_of-at.ensures;
+      member = subst (λ (a : As). is_member (g.M.Members.stands c.loop-peer.members).network a ≡ true) (sym c.element_of-at.ensures)
+          (subst (λ (m : NetworkParts). is_member m (element_of m k) ≡ true) (sym c.loop-peer.invariant.uses.goes.network) (c.requires.joined.peers k below));
+      none = c.loop-peer.invariant.uses.goes.lost c.requires.under.none;
+    }
 
 pub loop-peer-preserved : goal.loop-peer-preserved
 loop-peer-preserved g c =
-    let n = g.M.Members.network c.args.members.now in
+    let n = (g.M.Members.stands c.args.members.now).network in
     let k = c.loop-peer.peer in
-    let start = here n (g.M.Members.seen c.args.members.now) (g.M.Members.lost c.args.members.now) (flow_of c.args.traffic.now) in
-    let now = here (g.M.Members.network c.loop-peer.members) (g.M.Members.seen c.loop-peer.members) (g.M.Members.lost c.loop-peer.members) (flow_of c.loop-peer.traffic) in
-    let then = here (g.M.Members.network c.tick_session.new.members) (g.M.Members.seen c.tick_session.new.members) (g.M.Members.lost c.tick_session.new.members) (flow_of c.tick_session.new.traffic) in
-    let all = peers_fit n (flow_of c.args.traffic.now) c.peers-count.result c.requires.of c.peers-count.ensures c.requires.few in
-    let below : k < length n.peers = omega (arith, c.loop-peer-test.true, all, c.requires.of.peers_are, c.peers-count.ensures) in
+    let start = here (g.M.Members.stands c.args.members.now) (flow_of c.args.traffic.now) in
+    let now = here (g.M.Members.stands c.loop-peer.members) (flow_of c.loop-peer.traffic) in
+    let then = here (g.M.Members.stands c.tick_session.new.members) (flow_of c.tick_session.new.traffic) in
+    let all = peers_fit n (flow_of c.args.traffic.now) c.peers-count.result c.requires.under.of c.peers-count.ensures c.requires.few in
+    let below : k < length n.peers = omega (arith, c.loop-peer-test.true, all, c.requires.under.of.peers_are, c.peers-count.ensures) in
     let member = subst (λ (m : NetworkParts). is_member m (element_of m k) ≡ true) (sym c.loop-peer.invariant.uses.goes.network) (c.requires.joined.peers k below) in
     subst (λ (j : ℕ). Until (λ m. peers_to g.M.Members.show m c.args.now j) j j (length n.peers) start then) (sym (add-one k))
     (record { within = omega (arith, below); uses = peer_more g.M.Members.show c.args.now k start now then c.loop-peer.invariant.uses (peer_uses g.M.Members.show c.args.now k now then member c.tick_session.ensures) })
 
 pub returns : goal.returns
 returns g c =
-    let n = g.M.Members.network c.args.members.now in
-    let all = peers_fit n (flow_of c.args.traffic.now) c.peers-count.result c.requires.of c.peers-count.ensures c.requires.few in
-    let end : c.loop-peer.peer ≡ length n.peers = omega (arith, c.loop-peer-test.false, c.loop-peer.invariant.within, all, c.requires.of.peers_are, c.peers-count.ensures) in
+    let n = (g.M.Members.stands c.args.members.now).network in
+    let all = peers_fit n (flow_of c.args.traffic.now) c.peers-count.result c.requires.under.of c.peers-count.ensures c.requires.few in
+    let end : c.loop-peer.peer ≡ length n.peers = omega (arith, c.loop-peer-test.false, c.loop-peer.invariant.within, all, c.requires.under.of.peers_are, c.peers-count.ensures) in
     peers_end g.M.Members.show c.args.now c.loop-peer.peer
-    (here n (g.M.Members.seen c.args.members.now) (g.M.Members.lost c.args.members.now) (flow_of c.args.traffic.now))
-    (here (g.M.Members.network c.loop-peer.members) (g.M.Members.seen c.loop-peer.members) (g.M.Members.lost c.loop-peer.members) (flow_of c.loop-peer.traffic))
+    (here (g.M.Members.stands c.args.members.now) (flow_of c.args.traffic.now))
+    (here (g.M.Members.stands c.loop-peer.members) (flow_of c.loop-peer.traffic))
     end c.loop-peer.invariant.uses

@@ -7,6 +7,6 @@ use Rattle.plant_deeds.proofs.ticking.tick_peers.Given as goal
 
 abbrev pub invariant-loop-peer : goal.invariant-loop-peer
 invariant-loop-peer g l =
-    Until (λ n. peers_to g.M.Members.show n l.now l.peer) l.peer l.peer (length (g.M.Members.network l.initial.members).peers)
-    (here (g.M.Members.network l.initial.members) (g.M.Members.seen l.initial.members) (g.M.Members.lost l.initial.members) (flow_of l.initial.traffic))
-    (here (g.M.Members.network l.members) (g.M.Members.seen l.members) (g.M.Members.lost l.members) (flow_of l.traffic))
+    Until (λ n. peers_to g.M.Members.show n l.now l.peer) l.peer l.peer (length (g.M.Members.stands l.initial.members).network.peers)
+    (here (g.M.Members.stands l.initial.members) (flow_of l.initial.traffic))
+    (here (g.M.Members.stands l.members) (flow_of l.traffic))

@@ -1,7 +1,8 @@
 use Rattle.std.proofs.Common.{◌∙◌, sym, ap, subst}
 use Rattle.plant_members.specs.Membership.{KeysBefore, expired}
-use Rattle.plant_hierarchy.specs.Tiers.{Tiers, members_of, lost_in}
+use Rattle.plant_hierarchy.specs.Tiers.{Tiers, members_of, lost_in, standing_of}
 use Rattle.plant_hierarchy.specs.TierFields.{tiers_of}
+use Rattle.plant_hierarchy.proofs.StepLemmas.{stands_as}
 use Rattle.plant_hierarchy.proofs.TickLemmas.{are_before, goes_ticked, set_ticked}
 use Rattle.plant_hierarchy.proofs.members.HierarchyMembers.tick.Goals as goal
 
@@ -11,8 +12,8 @@ tick-requires g c = are_before g.W.World.first c.args.now.0 (tiers_of c.self.ins
 pub invariant_of-self : goal.invariant_of-self
 invariant_of-self g c = set_ticked g.W.World.first c.args.now.0 (tiers_of c.self.inside.network c.self.inside.clock.0 c.self.inside.elements c.self.inside.parent) c.tick.new.self c.tick.ensures c.self.invariant
 
-pub returns-clause-seen : goal.returns-clause-seen
-returns-clause-seen g c = (goes_ticked g.W.World.first c.args.now.0 (tiers_of c.self.inside.network c.self.inside.clock.0 c.self.inside.elements c.self.inside.parent) c.tick.new.self c.tick.ensures).seen ∙ ap (λ (t : Tiers _ _). expired c.args.now.0 (members_of g.W.World.first t)) c.self.view_is
-
-pub returns-clause-lost : goal.returns-clause-lost
-returns-clause-lost g c = (goes_ticked g.W.World.first c.args.now.0 (tiers_of c.self.inside.network c.self.inside.clock.0 c.self.inside.elements c.self.inside.parent) c.tick.new.self c.tick.ensures).lost_is ∙ ap lost_in c.self.view_is
+pub returns : goal.returns
+returns g c =
+    let t = tiers_of c.self.inside.network c.self.inside.clock.0 c.self.inside.elements c.self.inside.parent in
+    stands_as g.W.World.first t _ (expired c.args.now.0 (members_of g.W.World.first t)) (lost_in t) (goes_ticked g.W.World.first c.args.now.0 t c.tick.new.self c.tick.ensures)
+    ∙ ap (λ (u : Tiers _ _). record (standing_of g.W.World.first u) { seen = expired c.args.now.0 (members_of g.W.World.first u) }) c.self.view_is

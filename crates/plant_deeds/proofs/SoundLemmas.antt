@@ -5,12 +5,12 @@ use Rattle.dom_base.specs.declared.names.As.{As}
 use Rattle.plant_text.specs.declared.settings.NetworkParts.{NetworkParts}
 use Rattle.plant_text.specs.Names.{parent_as, same_as}
 use Rattle.plant_text.specs.Settings.{has_line, is_element, lines}
-use Rattle.plant_deeds.specs.plant_model.Events.{Answered, later}
-use Rattle.plant_deeds.specs.plant_members.Membership.{AreJoined, KeysBefore}
+use Rattle.plant_members.specs.plant_model.Events.{Answered, later}
+use Rattle.plant_members.specs.Membership.{AreJoined, KeysBefore}
 use Rattle.plant_deeds.specs.Standing.{Here}
 use Rattle.plant_lasting.specs.Lasting.{AreInOrder, KeysInTime}
-use Rattle.plant_network.specs.Whole.{Step}
-use Rattle.plant_network.specs.Moving.{IsSound, Moves, whole}
+use Rattle.plant_deeds.specs.Whole.{Step}
+use Rattle.plant_deeds.specs.Moving.{IsSound, Moves, whole}
 
 later_least : (now t : ℕ) → now ≤ later now t
 later_least now t = elim (cases_lt now t) [ inl lt ↦ rw (lt-ltb now t lt) (le_of_lt lt) | inr ge ↦ rw (le-ltb now t ge) (le_refl now) ]

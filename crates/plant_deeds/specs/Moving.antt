@@ -5,16 +5,16 @@ use Rattle.pcep_subobjects.specs.declared.hop.Hop.{Hop}
 use Rattle.plant_text.specs.declared.settings.NetworkParts.{NetworkParts}
 use Rattle.plant_text.specs.Names.{parent_as, same_as}
 use Rattle.plant_text.specs.Settings.{has_line, is_element, lines}
-use Rattle.plant_deeds.specs.plant_model.declared.outcome.Refused.TheVariants.{NoMemory}
-use Rattle.plant_deeds.specs.plant_model.Events.{Answered, Happened, refused}
-use Rattle.plant_deeds.specs.plant_model.RealWire.{wire}
-use Rattle.plant_deeds.specs.plant_model.State.{State}
-use Rattle.plant_deeds.specs.plant_members.Membership.{AreJoined}
+use Rattle.plant_members.specs.plant_model.declared.outcome.Refused.TheVariants.{NoMemory}
+use Rattle.plant_members.specs.plant_model.Events.{Answered, Happened, refused}
+use Rattle.plant_members.specs.plant_model.RealWire.{wire}
+use Rattle.plant_members.specs.plant_model.State.{State}
+use Rattle.plant_members.specs.Membership.{AreJoined}
 use Rattle.plant_deeds.specs.Passing.{IsOf}
 use Rattle.plant_deeds.specs.Rooms.{IsRoomy}
 use Rattle.plant_deeds.specs.Standing.{Here, state_of}
 use Rattle.plant_lasting.specs.Lasting.{AreInOrder, KeysInTime}
-use Rattle.plant_network.specs.Whole.{Step, Stepped, Whole}
+use Rattle.plant_deeds.specs.Whole.{Step, Stepped, Whole}
 
 module _ {P : Type 0} {S : Type 0} where
   abbrev pub whole : Here P S → Whole P S
