@@ -18,6 +18,7 @@ pub mod Along
 pub mod Nearest
 pub mod Settling
 pub mod FirstAmong
+pub mod Uses
 pub mod Walking
 pub mod Flow
 pub mod Hops

@@ -17,6 +17,7 @@ pub mod Distances
 pub mod Blocks
 pub mod Settling
 pub mod Paths
+pub mod Uses
 pub mod Residual
 pub mod Shown
 pub mod Solving

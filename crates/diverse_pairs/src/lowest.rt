@@ -1,10 +1,12 @@
 //! The path that takes the first arc at each node, of those in use.
-ghost use Rattle.std.specs.Prelude.{◌≡◌, ◌<◌, length, All, AllPairs, IfOk, MatchOption};
+ghost use Rattle.std.specs.Prelude.{◌<◌, length, All, AllPairs, IfOk, MatchOption};
 ghost use Rattle.diverse_pairs.specs.Along.{AreAlong};
 ghost use Rattle.diverse_pairs.specs.Arcs.{HasArcFrom};
 ghost use Rattle.diverse_pairs.specs.Paths.{IsFirstFrom, IsFirstAmong, HasNoneAmong, Goes, LeadsOn, Falling};
+ghost use Rattle.diverse_pairs.specs.Uses.{Suits, marks_of};
 
 use crate::arcs::Arc;
+use crate::tight::{Use, used_arc};
 use dom_base::NoMemory;
 use std::alloc::Global;
 use te_links::Topology;
@@ -17,16 +19,15 @@ struct Step {
 }
 
 // The first arc in use from a node, of those at some places.
-fn first_among(arcs: &[Option<Arc>], in_use: &[bool], places: &[u32], from: usize) -> Option<Step>
-    requires long { length in_use.now ≡ length arcs.now }
+fn first_among(arcs: &[Option<Arc>], uses: &Use<'_>, places: &[u32], from: usize) -> Option<Step>
+    requires suits { Suits arcs.now uses.now }
     requires places { All (λ i. i < length arcs.now) places.now }
     requires rising { AllPairs (λ i j. i < j) places.now }
-    ensures { MatchOption result (HasNoneAmong arcs.now in_use.now from places.now) (λ step. IsFirstAmong arcs.now in_use.now from places.now step.arc step.head) }
+    ensures { MatchOption result (HasNoneAmong arcs.now (marks_of uses.now arcs.now) from places.now) (λ step. IsFirstAmong arcs.now (marks_of uses.now arcs.now) from places.now step.arc step.head) }
 {
     for place in places {
         let index = *place as usize;
-        if let Some(arc) = &arcs[index]
-            && in_use[index]
+        if let Some(arc) = used_arc(arcs, uses, index)
             && arc.tail == from
         {
             return Some(Step {
@@ -39,16 +40,16 @@ fn first_among(arcs: &[Option<Arc>], in_use: &[bool], places: &[u32], from: usiz
 }
 
 // The first arc in use from a node. It runs along a link that begins or ends there.
-fn first_from(topology: &Topology, arcs: &[Option<Arc>], in_use: &[bool], from: usize) -> Step
+fn first_from(topology: &Topology, arcs: &[Option<Arc>], uses: &Use<'_>, from: usize) -> Step
     requires along { AreAlong topology.now arcs.now }
-    requires long { length in_use.now ≡ length arcs.now }
-    requires some { HasArcFrom arcs.now in_use.now from }
-    ensures { IsFirstFrom arcs.now in_use.now from result.arc result.head }
+    requires suits { Suits arcs.now uses.now }
+    requires some { HasArcFrom arcs.now (marks_of uses.now arcs.now) from }
+    ensures { IsFirstFrom arcs.now (marks_of uses.now arcs.now) from result.arc result.head }
 {
     // A topology obeys the rules, so a place fits.
     let _own = topology.own();
-    let onward = first_among(arcs, in_use, topology.links_from(from as u32), from);
-    let back = first_among(arcs, in_use, topology.links_into(from as u32), from);
+    let onward = first_among(arcs, uses, topology.links_from(from as u32), from);
+    let back = first_among(arcs, uses, topology.links_into(from as u32), from);
     match (onward, back) {
         (Some(one), Some(other)) => { if other.arc < one.arc { other } else { one } }
         (Some(one), None) => one,
@@ -62,21 +63,21 @@ pub(crate) fn lowest_path(
     alloc: Global,
     topology: &Topology,
     arcs: &[Option<Arc>],
-    in_use: &[bool],
+    uses: &Use<'_>,
     _heights: &[u64],
     source: usize,
     target: usize,
 ) -> Result<Vec<usize>, NoMemory>
     requires along { AreAlong topology.now arcs.now }
-    requires long { length in_use.now ≡ length arcs.now }
-    requires leads { LeadsOn arcs.now in_use.now source target }
-    requires falling { Falling arcs.now in_use.now _heights.now }
-    ensures { IfOk result (λ path. Goes arcs.now in_use.now source path.items target) }
+    requires suits { Suits arcs.now uses.now }
+    requires leads { LeadsOn arcs.now (marks_of uses.now arcs.now) source target }
+    requires falling { Falling arcs.now (marks_of uses.now arcs.now) _heights.now }
+    ensures { IfOk result (λ path. Goes arcs.now (marks_of uses.now arcs.now) source path.items target) }
 {
     let mut path = Vec::new(alloc);
     let mut here = source;
     while here != target {
-        let step = first_from(topology, arcs, in_use, here);
+        let step = first_from(topology, arcs, uses, here);
         path.push(step.arc)?;
         here = step.head;
     }

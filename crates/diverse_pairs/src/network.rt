@@ -36,7 +36,7 @@ pub(crate) fn arcs_of(
 ) -> Result<Vec<Option<Arc>>, NoMemory>
     ensures { IfOk result (λ arcs. AreArcs topology.now query.now arcs.items) }
 {
-    let mut arcs = Vec::new(alloc);
+    let mut arcs = Vec::with_capacity(alloc, topology.link_count() as usize)?;
     for index in 0..topology.link_count() {
         arcs.push(arc_of(topology, query, index))?;
     }

@@ -54,7 +54,7 @@ pub(crate) fn residual_arcs(
     requires near { AreNear distances.now }
     ensures { IfOk result (λ rs. AreResidual arcs.now distances.now in_use.now rs.items) }
 {
-    let mut residual = Vec::new(alloc);
+    let mut residual = Vec::with_capacity(alloc, arcs.len())?;
     for index in 0..arcs.len() {
         let left = match &arcs[index] {
             Some(arc) => residual_arc(arc, distances, in_use[index]),
@@ -84,7 +84,7 @@ pub(crate) fn heights(alloc: Global, first: &[u64], second: &[u64]) -> Result<Ve
     requires reached { (n : ℕ) → at second.now n < unreached → at first.now n < unreached }
     ensures { IfOk result (λ heights. AreHeights first.now second.now heights.items) }
 {
-    let mut heights = Vec::new(alloc);
+    let mut heights = Vec::with_capacity(alloc, first.len())?;
     for node in 0..first.len() {
         heights.push(height(first[node], second[node]))?;
     }

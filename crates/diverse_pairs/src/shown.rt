@@ -52,7 +52,7 @@ pub(crate) fn potentials(
     ensures { IfOk result (λ rows. (top : ℕ) × ArePotentials topology.now heights.now top rows.items) }
 {
     let top = greatest(heights);
-    let mut rows = Vec::new(alloc);
+    let mut rows = Vec::with_capacity(alloc, heights.len())?;
     for place in 0..topology.node_count() {
         let height = heights[place as usize];
         if height != UNREACHED {

@@ -8,7 +8,7 @@ ghost use Rattle.diverse_pairs.specs.Paths.{turned, LeadsOn, Falling, TurnsTight
 
 use crate::arcs::Arc;
 use crate::lowest::lowest_path;
-use crate::tight::tight_arcs;
+use crate::tight::Use;
 use dom_base::NoMemory;
 use std::alloc::Global;
 use te_links::Topology;
@@ -49,16 +49,8 @@ pub(crate) fn turn_tight(
     requires reached { at distances.now source < unreached }
     ensures turned { IfOk result (λ new. TurnsTight arcs.now distances.now source target in_use.items new.items) }
 {
-    let tight = tight_arcs(alloc, arcs, distances)?;
-    let path = lowest_path(
-        alloc,
-        topology,
-        arcs,
-        tight.as_slice(),
-        distances,
-        source,
-        target,
-    )?;
+    let tight = Use::Tight(distances);
+    let path = lowest_path(alloc, topology, arcs, &tight, distances, source, target)?;
     Ok(turn(in_use, path.as_slice()))
 }
 
@@ -78,15 +70,8 @@ pub(crate) fn take_path(
     requires falling { Falling arcs.now in_use.items heights.now }
     ensures taken { IfOk result (λ taken. TakesPath arcs.now source target in_use.items taken.in_use.items taken.path.items) }
 {
-    let path = lowest_path(
-        alloc,
-        topology,
-        arcs,
-        in_use.as_slice(),
-        heights,
-        source,
-        target,
-    )?;
+    let marked = Use::Marked(in_use.as_slice());
+    let path = lowest_path(alloc, topology, arcs, &marked, heights, source, target)?;
     let in_use = turn(in_use, path.as_slice());
     Ok(Taken { path, in_use })
 }

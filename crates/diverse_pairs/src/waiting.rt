@@ -11,7 +11,13 @@ use std::alloc::Global;
 use std::marker::Model;
 
 // So many nodes are a block.
-const BLOCK: usize = 32;
+const BLOCK: usize = 8;
+
+// So many blocks are a group.
+const BLOCKS: usize = 8;
+
+// So many nodes are a group.
+const GROUP: usize = 64;
 
 fn no_distances(alloc: Global, nodes: usize) -> Result<Vec<u64>, NoMemory>
     ensures { IfOk result (λ distances. distances.items ≡ replicate nodes unreached) }
@@ -34,8 +40,8 @@ fn first_places(alloc: Global, nodes: usize) -> Result<Vec<usize>, NoMemory>
 // The place of a least distance among those of a block.
 fn nearest_in(distances: &[u64], block: usize) -> usize
     requires short { length distances.now ≤ NODES_MAX }
-    requires block { block * 32 < length distances.now }
-    ensures { IsNearestIn distances.now block result }
+    requires block { block * 8 < length distances.now }
+    ensures { IsNearestIn 8 distances.now block result }
 {
     let start = block * BLOCK;
     let end = (start + BLOCK).min(distances.len());
@@ -51,9 +57,9 @@ fn nearest_in(distances: &[u64], block: usize) -> usize
 // Puts a distance at a place.
 fn set_distance(distances: &mut [u64], nearest: &mut [usize], place: usize, distance: u64)
     requires short { length distances.old ≤ NODES_MAX }
-    requires nearest { AreNearest distances.old nearest.old }
+    requires nearest { AreNearest 8 distances.old nearest.old }
     requires place { place < length distances.old }
-    ensures nearest { AreNearest distances.new nearest.new }
+    ensures nearest { AreNearest 8 distances.new nearest.new }
     ensures set { distances.new ≡ slice_set distances.old place distance }
 {
     let block = place / BLOCK;
@@ -66,9 +72,62 @@ fn set_distance(distances: &mut [u64], nearest: &mut [usize], place: usize, dist
     }
 }
 
+// The place of a least distance among those of a group: the least of its blocks has it.
+fn nearest_among(distances: &[u64], nearest: &[usize], group: usize) -> usize
+    requires short { length distances.now ≤ NODES_MAX }
+    requires nearest { AreNearest 8 distances.now nearest.now }
+    requires group { group * 64 < length distances.now }
+    ensures { IsNearestIn 64 distances.now group result }
+{
+    let start = group * BLOCKS;
+    let end = (start + BLOCKS).min(nearest.len());
+    let mut found = nearest[start];
+    for block in start..end {
+        let place = nearest[block];
+        if distances[place] < distances[found] {
+            found = place;
+        }
+    }
+    found
+}
+
+// The place of a least distance in each group.
+fn groups_of(alloc: Global, distances: &[u64], nearest: &[usize]) -> Result<Vec<usize>, NoMemory>
+    requires short { length distances.now ≤ NODES_MAX }
+    requires nearest { AreNearest 8 distances.now nearest.now }
+    ensures { IfOk result (λ groups. AreNearest 64 distances.now groups.items) }
+{
+    let mut groups = Vec::new(alloc);
+    for group in 0..distances.len().div_ceil(GROUP) {
+        groups.push(nearest_among(distances, nearest, group))?;
+    }
+    Ok(groups)
+}
+
+// Puts a distance at a place, in its block and its group.
+fn put_distance(
+    distances: &mut [u64],
+    nearest: &mut [usize],
+    groups: &mut [usize],
+    place: usize,
+    distance: u64,
+)
+    requires short { length distances.old ≤ NODES_MAX }
+    requires nearest { AreNearest 8 distances.old nearest.old }
+    requires groups { AreNearest 64 distances.old groups.old }
+    requires place { place < length distances.old }
+    ensures nearest { AreNearest 8 distances.new nearest.new }
+    ensures groups { AreNearest 64 distances.new groups.new }
+    ensures set { distances.new ≡ slice_set distances.old place distance }
+{
+    set_distance(distances, nearest, place, distance);
+    let group = place / GROUP;
+    groups[group] = nearest_among(distances, nearest, group);
+}
+
 // The place of a least distance, if there is one.
 fn nearest_of(distances: &[u64], nearest: &[usize]) -> Option<usize>
-    requires { AreNearest distances.now nearest.now }
+    requires { AreNearest 64 distances.now nearest.now }
     ensures { MatchOption result
         ((i : ℕ) → i < length distances.now → unreached ≤ at distances.now i)
         (λ i. (i < length distances.now) × (at distances.now i < unreached)) }
@@ -85,12 +144,13 @@ fn nearest_of(distances: &[u64], nearest: &[usize]) -> Option<usize>
     found
 }
 
-/// The distances of the nodes that wait to be settled, by their places, in blocks that each know
-/// where their least stands. A node that does not wait has none.
+/// The distances of the nodes that wait to be settled, by their places, in blocks and groups that
+/// each know where their least stands. A node that does not wait has none.
 #[derive(Drop)]
 pub(crate) struct Waiting {
     distances: Vec<u64>,
     nearest: Vec<usize>,
+    groups: Vec<usize>,
 }
 
 impl Model for Waiting {
@@ -112,7 +172,12 @@ impl Waiting {
     {
         let distances = no_distances(alloc, nodes)?;
         let nearest = first_places(alloc, nodes)?;
-        Ok(Waiting { distances, nearest })
+        let groups = groups_of(alloc, &distances, &nearest)?;
+        Ok(Waiting {
+            distances,
+            nearest,
+            groups,
+        })
     }
 
     /// Puts a distance at a place.
@@ -120,7 +185,13 @@ impl Waiting {
         requires { place < length self.old }
         ensures { self.new ≡ slice_set self.old place distance }
     {
-        set_distance(&mut self.distances, &mut self.nearest, place, distance);
+        put_distance(
+            &mut self.distances,
+            &mut self.nearest,
+            &mut self.groups,
+            place,
+            distance,
+        );
     }
 
     /// The place of a node that waits, which has the least distance; none where no node waits.
@@ -129,6 +200,6 @@ impl Waiting {
             ((i : ℕ) → i < length self.now → unreached ≤ at self.now i)
             (λ i. (i < length self.now) × (at self.now i < unreached)) }
     {
-        nearest_of(&self.distances, &self.nearest)
+        nearest_of(&self.distances, &self.groups)
     }
 }

@@ -1,5 +1,6 @@
 use Rattle.std.proofs.Common.{arith}
 use Rattle.diverse_pairs.specs.Paths.{IsFirstAmong, HasNoneAmong}
+use Rattle.diverse_pairs.specs.Uses.{marks_of}
 use Rattle.diverse_pairs.proofs.Along.{arc_inside, into_within, from_within}
 use Rattle.diverse_pairs.proofs.FirstAmong.{first_on, first_back, only_on, only_back, one_of_both}
 use Rattle.diverse_pairs.proofs.lowest.first_from.Goals as goal
@@ -34,7 +35,7 @@ pub unreachable-requires : goal.unreachable-requires
 unreachable-requires c =
     let g = c.args.topology.now in
     let arcs = c.args.arcs.now in
-    let us = c.args.in_use.now in
+    let us = marks_of c.args.uses.now c.args.arcs.now in
     let u = c.args.from in
     let into = c.links_into.result.now in
     let out = c.links_from.result.now in
@@ -46,7 +47,7 @@ pub returns-then-other-one : goal.returns-then-other-one
 returns-then-other-one c =
     let g = c.args.topology.now in
     let arcs = c.args.arcs.now in
-    let us = c.args.in_use.now in
+    let us = marks_of c.args.uses.now c.args.arcs.now in
     let u = c.args.from in
     let into = c.links_into.result.now in
     let out = c.links_from.result.now in
@@ -60,7 +61,7 @@ pub returns-else-other-one : goal.returns-else-other-one
 returns-else-other-one c =
     let g = c.args.topology.now in
     let arcs = c.args.arcs.now in
-    let us = c.args.in_use.now in
+    let us = marks_of c.args.uses.now c.args.arcs.now in
     let u = c.args.from in
     let into = c.links_into.result.now in
     let out = c.links_from.result.now in
@@ -74,7 +75,7 @@ pub returns-in-Some-None : goal.returns-in-Some-None
 returns-in-Some-None c =
     let g = c.args.topology.now in
     let arcs = c.args.arcs.now in
-    let us = c.args.in_use.now in
+    let us = marks_of c.args.uses.now c.args.arcs.now in
     let u = c.args.from in
     let into = c.links_into.result.now in
     let out = c.links_from.result.now in
@@ -87,7 +88,7 @@ pub returns-in-None-Some : goal.returns-in-None-Some
 returns-in-None-Some c =
     let g = c.args.topology.now in
     let arcs = c.args.arcs.now in
-    let us = c.args.in_use.now in
+    let us = marks_of c.args.uses.now c.args.arcs.now in
     let u = c.args.from in
     let into = c.links_into.result.now in
     let out = c.links_from.result.now in

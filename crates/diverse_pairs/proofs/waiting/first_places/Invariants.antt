@@ -5,5 +5,5 @@ use Rattle.diverse_pairs.proofs.waiting.first_places.Given as goal
 abbrev pub invariant-loop-block : goal.invariant-loop-block
 invariant-loop-block l = record {
   long : length l.places.items ≡ l.block;
-  each : (b : ℕ) → b < l.block → at l.places.items b ≡ b * 32;
+  each : (b : ℕ) → b < l.block → at l.places.items b ≡ b * 8;
 }

@@ -4,8 +4,8 @@ use Rattle.diverse_pairs.proofs.waiting.nearest_in.Given as goal
 
 abbrev pub invariant-loop-place : goal.invariant-loop-place
 invariant-loop-place l = record {
-  from : l.block * 32 ≤ l.nearest;
-  to : l.nearest < l.block * 32 + 32;
+  from : l.block * 8 ≤ l.nearest;
+  to : l.nearest < l.block * 8 + 8;
   below : l.nearest < length l.distances;
-  least : (i : ℕ) → l.block * 32 ≤ i → i < l.place → at l.distances l.nearest ≤ at l.distances i;
+  least : (i : ℕ) → l.block * 8 ≤ i → i < l.place → at l.distances l.nearest ≤ at l.distances i;
 }
