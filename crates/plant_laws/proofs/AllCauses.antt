@@ -29,7 +29,7 @@ use Rattle.plant_model.specs.Deeds.{Going, element_of, is_due, is_tick, is_out_e
 use Rattle.plant_model.specs.Events as events
 use Rattle.plant_model.specs.Plant.{Pin, Segment, first_pin, Plant, PlantDeed, Happened, Entry, Run, Steps, Happens, is_full}
 use Rattle.plant_laws.specs.Transcript.{Transcript}
-use Rattle.plant_laws.specs.Causes.{Passes, from_outside, from_inside, of_element, of_parent, HaveCauses, Falls, shut, broken, ended, ended_along, MessagesHaveCauses, AreOpens, NetworksBegin}
+use Rattle.plant_laws.specs.Causes.{Passes, from_outside, from_inside, of_element, of_parent, HaveCauses, Falls, shut, broken, ended, ended_along, MessagesHaveCauses, opens_of, NetworksBegin}
 use Rattle.plant_laws.specs.Solves.{ElementTells, ParentTells}
 use Rattle.plant_laws.proofs.EventCauses.{open_have, shut_have, feed_have, drain_have, take_have, carry_have, break_have, tick_have, left_is}
 use Rattle.plant_laws.proofs.Lists.{first_in, later_in}
@@ -255,9 +255,9 @@ messages_have_causes c n es before run e h steps o ok =
 
 -- ---- the opening
 
-begun : (c : Codec) (n : NetworkParts) (xs : List Line) (g : Going Pin Segment) → AreOpens g.deeds → AreOpens (events.begin_lines Pin Segment c n open_of xs g).deeds
-begun c n [] g opens = opens
-begun c n (x ∷ xs) g opens = begun c n xs (begin_line Pin Segment c n open_of 0 x g) (refl, (refl, opens))
+begun : (c : Codec) (n : NetworkParts) (xs : List Line) (g : Going Pin Segment) → (events.begin_lines Pin Segment c n open_of xs g).deeds ≡ opens_of xs g.deeds
+begun c n [] g = refl
+begun c n (x ∷ xs) g = begun c n xs (begin_line Pin Segment c n open_of 0 x g)
 
 pub networks_begin : NetworksBegin
-networks_begin c n = begun c n (lines n) (record { state = events.bare Pin Segment c n open_of first_pin; deeds = [] }) tt
+networks_begin c n = begun c n (lines n) (record { state = events.bare Pin Segment c n open_of first_pin; deeds = [] })

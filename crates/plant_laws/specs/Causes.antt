@@ -15,7 +15,7 @@ use Rattle.pcep_session.specs.declared.state.State.{State as Session}
 use Rattle.pcep_session.specs.Table.{new_state, turn_of}
 use Rattle.plant_text.specs.declared.settings.NetworkParts.{NetworkParts}
 use Rattle.plant_text.specs.Names.{same_as, parent_as}
-use Rattle.plant_text.specs.Settings.{is_linked}
+use Rattle.plant_text.specs.Settings.{Line, lines, is_linked}
 use Rattle.plant_model.specs.declared.event.Event.{Event}
 use Rattle.plant_model.specs.declared.event.Event.TheVariants as event
 use Rattle.plant_model.specs.declared.outcome.Outcome.{Outcome}
@@ -94,7 +94,7 @@ module _ (c : Codec) (n : NetworkParts) (before : Plant) (e : Event) where
   -- why a session says something of its own: by its table, or as a link that broke is begun anew
   pub data OfSession (earlier : Transcript) (at : As) (o : Output) : Type 0 where
     by_table : (x : Session) (came : Input) (o' : Own) → Comes at o.to x came → Contains (turn_of x came).actions (action.Send o') → o.message ≡ own_message o' → OfSession earlier at o
-    anew : (a b : As) (sid : ℕ) → Contains earlier (Clears a b) → o.message ≡ own_message (own.Open (our_offer sid)) → OfSession earlier at o
+    anew : (a b : As) (sid : ℕ) → Contains earlier (Clears a b) → ((at ≡ a) × (o.to ≡ Inner b)) ⊎ ((at ≡ b) × (o.to ≡ Inner a)) → o.message ≡ own_message (own.Open (our_offer sid)) → OfSession earlier at o
 
   -- a job is solved
   pub data OfSolve (deed : PlantDeed) : Type 0 where
@@ -135,11 +135,13 @@ abbrev pub MessagesHaveCauses : Type 0
 MessagesHaveCauses = (c : Codec) (n : NetworkParts) (es : List Entry) (before : Plant) → Run c n es before → (e : Event) (h : Happened) → Steps c n before e h → (o : Outcome) → h.answer ≡ Ok o →
     HaveCauses c n before e h.deeds × SaysAll c n before e h.deeds
 
--- what stands before the first event: an Open at each end of each link
-abbrev pub AreOpens : Transcript → Type 0
-AreOpens [] = Unit {0}
-AreOpens (Says at o ∷ earlier) = (o.message ≡ own_message (own.Open (our_offer 0))) × AreOpens earlier
-AreOpens (e ∷ earlier) = ⊥
+-- what stands before the first event: an Open at each end of each link, one link after the other, the lower end first
+abbrev pub an_open : As → As → PlantDeed
+an_open at b = Says at (record { to = Inner b; message = own_message (own.Open (our_offer 0)) })
+
+abbrev pub opens_of : List Line → Transcript → Transcript
+opens_of [] earlier = earlier
+opens_of (x ∷ xs) earlier = opens_of xs (an_open x.upper x.lower ∷ an_open x.lower x.upper ∷ earlier)
 
 abbrev pub NetworksBegin : Type 0
-NetworksBegin = (c : Codec) (n : NetworkParts) → AreOpens (opened c n).deeds
+NetworksBegin = (c : Codec) (n : NetworkParts) → (opened c n).deeds ≡ opens_of (lines n) []
