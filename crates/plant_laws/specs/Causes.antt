@@ -8,6 +8,7 @@ use Rattle.dom_base.specs.declared.names.Peer.TheVariants.{Outside, Inner}
 use Rattle.pcep_messages.specs.declared.message.Message.{Message}
 use Rattle.pcep_session.specs.declared.session.Input.{Input}
 use Rattle.pcep_session.specs.declared.session.Input.TheVariants as input
+use Rattle.pcep_session.specs.declared.actions.Action.{Action}
 use Rattle.pcep_session.specs.declared.actions.Action.TheVariants as action
 use Rattle.pcep_session.specs.declared.actions.Own.{Own}
 use Rattle.pcep_session.specs.declared.actions.Own.TheVariants as own
@@ -26,7 +27,7 @@ use Rattle.plant_model.specs.Element as element
 use Rattle.plant_model.specs.Parent.{Wait, AskingRow}
 use Rattle.plant_model.specs.Parent as parent
 use Rattle.plant_model.specs.State.{Connection, Takes, Says, Downs, Clears, Solves}
-use Rattle.plant_model.specs.Deeds.{our_offer, own_message, element_of, any_fall, input_of}
+use Rattle.plant_model.specs.Deeds.{our_offer, own_message, element_of, is_tick, any_fall, input_of}
 use Rattle.plant_model.specs.Events.{later}
 use Rattle.plant_model.specs.Plant.{Pin, Plant, PlantDeed, Happened, Entry, Run, Steps, opened}
 use Rattle.plant_laws.specs.Transcript.{Transcript}
@@ -125,10 +126,18 @@ module _ (c : Codec) (n : NetworkParts) (before : Plant) (e : Event) where
     ended_along : (a b : As) (bytes : Bytes) (rest : List Bytes) → e ≡ event.Carry a b → ((at ≡ a) × (p ≡ Inner b)) ⊎ ((at ≡ b) × (p ≡ Inner a)) → is_linked n a b ≡ true →
         before.queues a b ≡ bytes ∷ rest → any_fall (turn_of (before.sessions b a) (input_of c (Some bytes))).actions ≡ true → Falls at p
 
-  -- What is passed on is taken, and where a session goes down what is lost is answered.
+  -- the last words of a session that breaks its link are not sent
+  abbrev pub LinkStays : Peer → List Action → Type 0
+  LinkStays (Outside i) actions = Unit {0}
+  LinkStays (Inner a) actions = any_fall actions ≡ false
+
+  -- What is passed on is taken, where a session goes down what is lost is answered, and but at a tick a session says what its table calls
+  -- for.
   pub record SaysAll (deeds : Transcript) : Type 0 where
     pub passed : (at : As) (p : Peer) (m : Message) → Passes at p m → (os : List Output) × Contains deeds (Takes at p m os)
     pub fell : (at : As) (p : Peer) → Falls at p → (os : List Output) × Contains deeds (Downs at p os)
+    pub spoke : (at : As) (p : Peer) (x : Session) (came : Input) (o : Own) → Comes at p x came → is_tick came ≡ false → LinkStays p (turn_of x came).actions → Contains (turn_of x came).actions (action.Send o) →
+        Contains deeds (Says at (record { to = p; message = own_message o }))
 
 -- In every run, of each event that is accepted.
 abbrev pub MessagesHaveCauses : Type 0
