@@ -1,5 +1,5 @@
 -- Each message of a run has its cause, and where the cause stands it is put out.
-use Rattle.std.proofs.Common.{◌≡◌, ℕ, ◌+◌, ◌%◌, nat_lt, Bool, true, false, cond, List, [], ◌∷◌, Option, Some, None, Ok, Err, sym, ◌∙◌, ap, subst, inl, inr, refl}
+use Rattle.std.proofs.Common.{◌≡◌, ℕ, ◌+◌, ◌%◌, nat_lt, Bool, true, false, cond, List, [], ◌∷◌, Option, Some, None, is_some, Ok, Err, sym, ◌∙◌, ap, subst, inl, inr, refl}
 use Rattle.std.specs.Prelude.{Contains}
 use Rattle.dom_base.specs.declared.names.As.{As}
 use Rattle.dom_base.specs.declared.names.Peer.{Peer}
@@ -10,11 +10,13 @@ use Rattle.pcep_session.specs.declared.session.Input.{Input}
 use Rattle.pcep_session.specs.declared.session.Input.TheVariants as input
 use Rattle.pcep_session.specs.declared.actions.Action.{Action}
 use Rattle.pcep_session.specs.declared.actions.Action.TheVariants as action
+use Rattle.pcep_session.specs.declared.actions.Own.{Own}
 use Rattle.pcep_session.specs.declared.actions.Own.TheVariants as own
-use Rattle.pcep_session.specs.Table.{turn_of}
+use Rattle.pcep_session.specs.declared.state.State.{State as Session}
+use Rattle.pcep_session.specs.Table.{Turn, new_state, turn_of}
 use Rattle.plant_text.specs.declared.settings.NetworkParts.{NetworkParts}
 use Rattle.plant_text.specs.Names.{same_as, parent_as}
-use Rattle.plant_text.specs.Settings.{Line, line, lines, is_linked, is_element}
+use Rattle.plant_text.specs.Settings.{Line, line, lines, is_linked, is_element, peer_row}
 use Rattle.plant_model.specs.declared.event.Event.{Event}
 use Rattle.plant_model.specs.declared.event.Event.TheVariants as event
 use Rattle.plant_model.specs.declared.outcome.Outcome.{Outcome}
@@ -24,15 +26,15 @@ use Rattle.plant_model.specs.declared.outcome.Outcome.TheVariants.{Done}
 use Rattle.plant_model.specs.declared.output.Output.{Output}
 use Rattle.plant_model.specs.Names.{set_pair}
 use Rattle.plant_model.specs.Wire.{Bytes, Codec}
-use Rattle.plant_model.specs.State.{Connection, Pops, Takes, Says, Downs, Clears}
-use Rattle.plant_model.specs.Deeds.{Going, element_of, is_due, is_tick, is_out_empty, any_fall, with_session, with_inbox, read_as, input_of, with_access, with_inner, give, rise, fall, say, clear, outside_act, outside_acts, outside_step, inner_acts, inner_input, our_offer, own_message, begin_end, begin_line, break_line}
+use Rattle.plant_model.specs.State.{Access, Connection, Pops, Takes, Says, Downs, Clears}
+use Rattle.plant_model.specs.Deeds.{Going, element_of, is_due, is_tick, is_out_empty, any_fall, with_session, with_inbox, read_as, input_of, with_access, with_inner, give, rise, fall, say, clear, outside_act, outside_acts, outside_step, inner_act, inner_acts, inner_input, our_offer, own_message, begin_end, begin_line, break_line}
 use Rattle.plant_model.specs.Events as events
 use Rattle.plant_model.specs.Plant.{Pin, Segment, first_pin, Plant, PlantDeed, Happened, Entry, Run, Steps, Happens, is_full}
 use Rattle.plant_laws.specs.Transcript.{Transcript}
-use Rattle.plant_laws.specs.Causes.{Passes, from_outside, from_inside, of_element, of_parent, HaveCauses, Falls, shut, broken, ended, ended_along, MessagesHaveCauses, AreOpens, NetworksBegin}
+use Rattle.plant_laws.specs.Causes.{Passes, from_outside, from_inside, Comes, begins, came_first, came_along, ticks as tick_comes, LinkStays, of_element, of_parent, HaveCauses, Falls, shut, broken, ended, ended_along, MessagesHaveCauses, opens_of, NetworksBegin}
 use Rattle.plant_laws.specs.Solves.{ElementTells, ParentTells}
-use Rattle.plant_laws.proofs.EventCauses.{open_have, shut_have, feed_have, drain_have, take_have, carry_have, break_have, tick_have, left_is}
-use Rattle.plant_laws.proofs.Lists.{first_in, later_in}
+use Rattle.plant_laws.proofs.EventCauses.{number_self, open_have, shut_have, feed_have, drain_have, take_have, carry_have, break_have, tick_have, left_is}
+use Rattle.plant_laws.proofs.Lists.{Stands, first_in, later_in, stands_of}
 use Rattle.plant_laws.proofs.Solved.{solves_tell}
 
 pick : {T : Type 0} (Q : T → Type 0) (b : Bool) (t u : T) → (b ≡ true → Q t) → (b ≡ false → Q u) → Q (cond b t u)
@@ -88,6 +90,28 @@ module _ (c : Codec) (n : NetworkParts) where
       let f = fall_falls (element_of n i) (Outside i) h in
       (f.0, acts_keep i ticks as' k (Downs (element_of n i) (Outside i) f.0) f.1)
   acts_fall i ticks (action.Pass m ∷ as') g more = acts_fall i ticks as' (give Pin Segment c n open_of (element_of n i) (Outside i) m g) more
+
+  -- what a session says of its own is said, but at a tick
+  acts_say : (i : ℕ) (as' : List Action) (g : Move) (o : Own) → Stands (action.Send o) as' → Contains (outside_acts Pin Segment c n open_of i false as' g).deeds (Says (element_of n i) (record { to = Outside i; message = own_message o }))
+  acts_say i [] g o none = absurd none
+  acts_say i (a ∷ as') g o (inl is) =
+      subst (λ (z : Action). Contains (outside_acts Pin Segment c n open_of i false (z ∷ as') g).deeds (Says (element_of n i) (record { to = Outside i; message = own_message o }))) is
+      (acts_keep i false as' (say Pin Segment c n open_of (element_of n i) (Outside i) o g) (Says (element_of n i) (record { to = Outside i; message = own_message o })) (first_in _ g.deeds))
+  acts_say i (a ∷ as') g o (inr more) = acts_say i as' (outside_act Pin Segment c n open_of i false a g) o more
+
+  inner_keep : (at b : As) (as' : List Action) (g : Move) (d : PlantDeed) → Contains g.deeds d → Contains (inner_acts Pin Segment c n open_of at b false as' g).deeds d
+  inner_keep at b [] g d has = has
+  inner_keep at b (action.Send o ∷ as') g d has = inner_keep at b as' (say Pin Segment c n open_of at (Inner b) o g) d (later_in _ g.deeds d has)
+  inner_keep at b (action.Up ∷ as') g d has = inner_keep at b as' (rise Pin Segment c n open_of at (Inner b) g) d (rise_keeps at (Inner b) g d has)
+  inner_keep at b (action.Down why ∷ as') g d has = inner_keep at b as' g d has
+  inner_keep at b (action.Pass m ∷ as') g d has = inner_keep at b as' (give Pin Segment c n open_of at (Inner b) m g) d (give_keeps at (Inner b) m g d has)
+
+  inner_say : (at b : As) (as' : List Action) (g : Move) (o : Own) → Stands (action.Send o) as' → Contains (inner_acts Pin Segment c n open_of at b false as' g).deeds (Says at (record { to = Inner b; message = own_message o }))
+  inner_say at b [] g o none = absurd none
+  inner_say at b (a ∷ as') g o (inl is) =
+      subst (λ (z : Action). Contains (inner_acts Pin Segment c n open_of at b false (z ∷ as') g).deeds (Says at (record { to = Inner b; message = own_message o }))) is
+      (inner_keep at b as' (say Pin Segment c n open_of at (Inner b) o g) (Says at (record { to = Inner b; message = own_message o })) (first_in _ g.deeds))
+  inner_say at b (a ∷ as') g o (inr more) = inner_say at b as' (inner_act Pin Segment c n open_of at b false a g) o more
 
   -- a link that breaks
   begin_keeps : (sid : ℕ) (at b : As) (g : Move) (d : PlantDeed) → Contains g.deeds d → Contains (begin_end Pin Segment c n open_of sid at b g).deeds d
@@ -249,15 +273,90 @@ module _ (c : Codec) (n : NetworkParts) where
           (by_first a b bytes rest is linked first (FallsAt b (Inner a)) (drops a b bytes rest falls (FallsAt b (Inner a)) (second_falls a b (popped a b bytes rest is linked first)))))
     ]
 
+    -- ---- what a session says
+
+    abbrev Said : As → Peer → Own → Transcript → Type 0
+    Said at p o' ds = Contains ds (Says at (record { to = p; message = own_message o' }))
+
+    open_says : (i holder : ℕ) → e ≡ event.Open i holder → (o' : Own) →
+        Stands (action.Send o') (turn_of (new_state (our_offer ((before.accesses i).opened % 256)) (record { 0 = before.clock })) input.Begin).actions → Said (element_of n i) (Outside i) o' h.deeds
+    open_says i holder ev o' has = known (is_some (peer_row i n.peers)) (happens (event.Open i holder) ev)
+      where
+        fresh : Connection
+        fresh = record { holder = holder; session = new_state (our_offer ((before.accesses i).opened % 256)) (record { 0 = before.clock }); framing = record { held = []; bad = false }; inbox = []; out = [] }
+
+        connected : Plant
+        connected = events.connect Pin Segment c n open_of i holder before
+
+        new : (w : Option Connection) → h ≡ events.open_new Pin Segment c n open_of i holder before w → Said (element_of n i) (Outside i) o' h.deeds
+        new (Some x) same = refused_not NoSuchPeer same
+        new None same =
+            subst (λ (k : Happened). Said (element_of n i) (Outside i) o' k.deeds) (sym same)
+            (subst (λ (w : Option Connection). Said (element_of n i) (Outside i) o' (outside_step Pin Segment c n open_of i input.Begin (record { state = connected; deeds = [] }) w).deeds)
+            (sym (ap (λ (a : Access). a.connection) (number_self i (record { opened = (before.accesses i).opened + 1; connection = Some fresh }) before.accesses)))
+            (acts_say i (turn_of fresh.session input.Begin).actions (record { state = with_access Pin Segment c n open_of i (with_session (turn_of fresh.session input.Begin).next) connected; deeds = [] }) o' has))
+
+        known : (t : Bool) → h ≡ cond t (events.open_new Pin Segment c n open_of i holder before (before.accesses i).connection) (events.refused Pin Segment c n open_of NoSuchPeer before) → Said (element_of n i) (Outside i) o' h.deeds
+        known true same = new (before.accesses i).connection same
+        known false same = refused_not NoSuchPeer same
+
+    first_says : (i : ℕ) (k : Connection) (item : Option Bytes) (rest : List (Option Bytes)) → e ≡ event.Take i → (before.accesses i).connection ≡ Some k → k.inbox ≡ item ∷ rest → is_tick (input_of c item) ≡ false → (o' : Own) →
+        Stands (action.Send o') (turn_of k.session (input_of c item)).actions → Said (element_of n i) (Outside i) o' h.deeds
+    first_says i k item rest ev open' first quiet o' has =
+        by_item i k item rest ev open' first (Said (element_of n i) (Outside i) o')
+        (subst (λ (t : Bool). Said (element_of n i) (Outside i) o' (outside_acts Pin Segment c n open_of i t (turn_of k.session (input_of c item)).actions
+        (record { state = with_access Pin Segment c n open_of i (with_session (turn_of k.session (input_of c item)).next) (with_access Pin Segment c n open_of i (with_inbox rest) before); deeds = [] })).deeds) (sym quiet)
+        (acts_say i (turn_of k.session (input_of c item)).actions _ o' has))
+
+    along_says : (at a : As) (bytes : Bytes) (rest : List Bytes) → e ≡ event.Carry a at → is_linked n a at ≡ true → before.queues a at ≡ bytes ∷ rest → is_tick (input_of c (Some bytes)) ≡ false →
+        any_fall (turn_of (before.sessions at a) (input_of c (Some bytes))).actions ≡ false → (o' : Own) → Stands (action.Send o') (turn_of (before.sessions at a) (input_of c (Some bytes))).actions → Said at (Inner a) o' h.deeds
+    along_says at a bytes rest ev linked first quiet stays o' has =
+        by_first a at bytes rest ev linked first (Said at (Inner a) o')
+        (subst (λ (fell' : Bool). Said at (Inner a) o' (cond fell' (break_line Pin Segment c n open_of (line a at) (record { state = s; deeds = Pops a at ∷ [] })) (inner_acts Pin Segment c n open_of at a (is_tick came) t.actions g)).deeds) (sym stays)
+        (subst (λ (ticks' : Bool). Said at (Inner a) o' (inner_acts Pin Segment c n open_of at a ticks' t.actions g).deeds) (sym quiet) (inner_say at a t.actions g o' has)))
+      where
+        came : Input
+        came = input_of c (Some bytes)
+
+        t : Turn
+        t = turn_of (before.sessions at a) came
+
+        s : Plant
+        s = record before { queues = set_pair a at rest before.queues }
+
+        g : Move
+        g = record { state = with_inner Pin Segment c n open_of at a t.next s; deeds = Pops a at ∷ [] }
+
+    spoke : (at : As) (p : Peer) (x : Session) (came : Input) (o' : Own) → Comes c n before e at p x came → is_tick came ≡ false → LinkStays c n before e p (turn_of x came).actions → Contains (turn_of x came).actions (action.Send o') → Said at p o' h.deeds
+    spoke at p x came o' (begins i holder ev at_is p_is x_is came_is) quiet stays has =
+        subst (λ (z : As). Said z p o' h.deeds) (sym at_is)
+        (subst (λ (q : Peer). Said (element_of n i) q o' h.deeds) (sym p_is)
+        (open_says i holder ev o'
+        (subst (λ (y : Session). Stands (action.Send o') (turn_of y input.Begin).actions) x_is (subst (λ (y : Input). Stands (action.Send o') (turn_of x y).actions) came_is (stands_of (turn_of x came).actions (action.Send o') has)))))
+    spoke at p x came o' (came_first i k item rest ev at_is p_is open' first x_is came_is) quiet stays has =
+        subst (λ (z : As). Said z p o' h.deeds) (sym at_is)
+        (subst (λ (q : Peer). Said (element_of n i) q o' h.deeds) (sym p_is)
+        (first_says i k item rest ev open' first (ap is_tick (sym came_is) ∙ quiet) o'
+        (subst (λ (y : Session). Stands (action.Send o') (turn_of y (input_of c item)).actions) x_is
+        (subst (λ (y : Input). Stands (action.Send o') (turn_of x y).actions) came_is (stands_of (turn_of x came).actions (action.Send o') has)))))
+    spoke at p x came o' (came_along a bytes rest ev p_is linked first x_is came_is) quiet stays has =
+        subst (λ (q : Peer). Said at q o' h.deeds) (sym p_is)
+        (along_says at a bytes rest ev linked first (ap is_tick (sym came_is) ∙ quiet)
+        (subst (λ (y : Session). any_fall (turn_of y (input_of c (Some bytes))).actions ≡ false) x_is
+        (subst (λ (y : Input). any_fall (turn_of x y).actions ≡ false) came_is (subst (λ (q : Peer). LinkStays c n before e q (turn_of x came).actions) p_is stays))) o'
+        (subst (λ (y : Session). Stands (action.Send o') (turn_of y (input_of c (Some bytes))).actions) x_is
+        (subst (λ (y : Input). Stands (action.Send o') (turn_of x y).actions) came_is (stands_of (turn_of x came).actions (action.Send o') has))))
+    spoke at p x came o' (tick_comes t ev came_is) quiet stays has = absurd (let clash : true ≡ false = sym (ap is_tick came_is) ∙ quiet in cc)
+
 pub messages_have_causes : MessagesHaveCauses
 messages_have_causes c n es before run e h steps o ok =
-    (have c n before e h steps o ok es run e refl, record { passed = passed c n before e h steps o ok; fell = fell c n before e h steps o ok })
+    (have c n before e h steps o ok es run e refl, record { passed = passed c n before e h steps o ok; fell = fell c n before e h steps o ok; spoke = spoke c n before e h steps o ok })
 
 -- ---- the opening
 
-begun : (c : Codec) (n : NetworkParts) (xs : List Line) (g : Going Pin Segment) → AreOpens g.deeds → AreOpens (events.begin_lines Pin Segment c n open_of xs g).deeds
-begun c n [] g opens = opens
-begun c n (x ∷ xs) g opens = begun c n xs (begin_line Pin Segment c n open_of 0 x g) (refl, (refl, opens))
+begun : (c : Codec) (n : NetworkParts) (xs : List Line) (g : Going Pin Segment) → (events.begin_lines Pin Segment c n open_of xs g).deeds ≡ opens_of xs g.deeds
+begun c n [] g = refl
+begun c n (x ∷ xs) g = begun c n xs (begin_line Pin Segment c n open_of 0 x g)
 
 pub networks_begin : NetworksBegin
-networks_begin c n = begun c n (lines n) (record { state = events.bare Pin Segment c n open_of first_pin; deeds = [] }) tt
+networks_begin c n = begun c n (lines n) (record { state = events.bare Pin Segment c n open_of first_pin; deeds = [] })

@@ -469,7 +469,7 @@ module _ (p : Peer) (r : Reply) (broken : ¬ TellsOfPaths r.answer) where
       where
         go : (at ≡ d) × In out (o ∷ []) → OfSession c n one.before one.event one.earlier at o → Broke p r.id (Says at o)
         go here (by_table x came o' comes acts eq) = not_said o.to o.message (ap is_rep eq ∙ own_none o') here.1
-        go here (anew a b sid cleared eq) = not_said o.to o.message (ap is_rep eq) here.1
+        go here (anew a b sid cleared sides eq) = not_said o.to o.message (ap is_rep eq) here.1
     deed_broken (Loads at g) within one meets i = absurd i
     deed_broken (Pops a b) within one meets i = absurd i
     deed_broken (Ups at q) within one meets i = absurd i
@@ -679,7 +679,7 @@ module _ (p : Peer) (r : Reply) (broken : ¬ TellsOfPaths r.answer) where
       where
         go : (at ≡ parent_as) × In out (o ∷ []) → OfSession c n one.before one.event one.earlier at o → BrokeAbove p r.id (Says at o)
         go here (by_table x came o' comes acts eq) = not_said o.to o.message (ap is_rep eq ∙ own_none o') here.1
-        go here (anew a b sid cleared eq) = not_said o.to o.message (ap is_rep eq) here.1
+        go here (anew a b sid cleared sides eq) = not_said o.to o.message (ap is_rep eq) here.1
     above_broken (Loads at g) within one meets i = absurd i
     above_broken (Pops a b) within one meets i = absurd i
     above_broken (Ups at q) within one meets i = absurd i

@@ -478,7 +478,7 @@ module _ (c : Codec) (codec : IsCodec c) (n : NetworkParts) (net : IsNetwork n) 
 
         go : In out (o ∷ []) → OfSession c n one.before one.event one.earlier at o → Told (Says at o)
         go i' (by_table x came o' comes acts eq) = own_told (Says at o) o' (said i' ∙ eq)
-        go i' (anew b b' sid cleared eq) = own_told (Says at o) (own.Open (our_offer sid)) (said i' ∙ eq)
+        go i' (anew b b' sid cleared sides eq) = own_told (Says at o) (own.Open (our_offer sid)) (said i' ∙ eq)
     deed_told (Loads at g) within one i = absurd i
     deed_told (Pops b b') within one i = absurd i
     deed_told (Ups at q) within one i = absurd i

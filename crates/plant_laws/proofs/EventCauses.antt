@@ -1,6 +1,6 @@
 -- Each deed of an event has its cause.
 use Rattle.std.proofs.Common.{◌≡◌, ℕ, ◌+◌, ◌%◌, Bool, true, false, cond, ◌==◌, List, [], ◌∷◌, Option, Some, None, is_some, sym, ◌∙◌, ap, subst, inl, inr, refl, eq-eqb}
-use Rattle.std.specs.Prelude.{Contains}
+use Rattle.std.specs.Prelude.{◌⊎◌, Contains}
 use Rattle.dom_base.specs.declared.names.As.{As}
 use Rattle.dom_base.specs.declared.names.Tick.{Tick}
 use Rattle.dom_base.specs.declared.names.Peer.{Peer}
@@ -207,12 +207,12 @@ module _ (c : Codec) (n : NetworkParts) (before : Plant) (e : Event) where
   quiet_outside i ticks' (action.Pass m ∷ as') g none sent r = let no : true ≡ false = none in cc
 
   -- a session that is begun anew
-  begin_end_on : (sid : ℕ) (at b lower upper : As) (g : Move) → Contains g.deeds (Clears lower upper) → Caused g → Caused (begin_end Pin Segment c n open_of sid at b g)
-  begin_end_on sid at b lower upper g cleared r =
+  begin_end_on : (sid : ℕ) (at b lower upper : As) (g : Move) → ((at ≡ lower) × (Inner b ≡ Inner upper)) ⊎ ((at ≡ upper) × (Inner b ≡ Inner lower)) → Contains g.deeds (Clears lower upper) → Caused g → Caused (begin_end Pin Segment c n open_of sid at b g)
+  begin_end_on sid at b lower upper g sides cleared r =
       let s = new_state (our_offer sid) (record { 0 = g.state.clock }) in
       let t = turn_of s input.Begin in
       let h : Move = record { state = with_inner Pin Segment c n open_of at b t.next g.state; deeds = g.deeds } in
-      say_on at (Inner b) (own.Open (our_offer sid)) h (anew lower upper sid cleared refl) (rest_on g h.state refl refl r)
+      say_on at (Inner b) (own.Open (our_offer sid)) h (anew lower upper sid cleared sides refl) (rest_on g h.state refl refl r)
 
   break_line_on : (x : Line) (g : Move) → Caused g → Caused (break_line Pin Segment c n open_of x g)
   break_line_on x g r =
@@ -222,8 +222,8 @@ module _ (c : Codec) (n : NetworkParts) (before : Plant) (e : Event) where
       let k = clear Pin Segment c n open_of x h in
       let k' = begin_end Pin Segment c n open_of sid x.lower x.upper k in
       let cleared = first_in (Clears x.lower x.upper) h.deeds in
-      begin_end_on sid x.upper x.lower x.lower x.upper k' (later_in _ k.deeds (Clears x.lower x.upper) cleared)
-      (begin_end_on sid x.lower x.upper x.lower x.upper k cleared (clear_on x h (fall_on x.upper (Inner x.lower) f (fall_on x.lower (Inner x.upper) g r))))
+      begin_end_on sid x.upper x.lower x.lower x.upper k' (inr (refl, refl)) (later_in _ k.deeds (Clears x.lower x.upper) cleared)
+      (begin_end_on sid x.lower x.upper x.lower x.upper k (inl (refl, refl)) cleared (clear_on x h (fall_on x.upper (Inner x.lower) f (fall_on x.lower (Inner x.upper) g r))))
 
   -- an input that passes nothing on
   pub quiet_input_on : (x : Line) (at b : As) (y : Input) (g : Move) → has_pass (turn_of (g.state.sessions at b) y).actions ≡ false → Sent at (Inner b) (turn_of (g.state.sessions at b) y).actions → Caused g →

@@ -560,7 +560,7 @@ module _ (p : Peer) (x flags : ℕ) where
       where
         go : In out (o ∷ []) → OfSession c n one.before one.event one.earlier at o → Full (Says at o)
         go i' (by_table x' came o' comes acts eq) = not_said o.to o.message (ap is_ntf eq ∙ own_none o') i'
-        go i' (anew a b sid cleared eq) = not_said o.to o.message (ap is_ntf eq) i'
+        go i' (anew a b sid cleared sides eq) = not_said o.to o.message (ap is_ntf eq) i'
     deed_full (Loads at g) within one meets i = absurd i
     deed_full (Pops a b) within one meets i = absurd i
     deed_full (Ups at q) within one meets i = absurd i

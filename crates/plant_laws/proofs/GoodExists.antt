@@ -96,6 +96,7 @@ obeys = record {
   links = All-cons Joins (As_ 1, As_ 2) [] (refl, refl, λ same. (let clash : 1 ≡ 2 = ap (λ (z : As). z.0) same in omega (arith, clash))) (All-nil Joins);
   links_differ = pairs_of Apart ((As_ 1, As_ 2) ∷ []) ((λ y none. absurd none), tt);
   peers = all_of (λ (r : PeerRow). is_element two r.at ≡ true) two.peers at_first_one;
+  no_downs = all_of (λ (r : PeerRow). r.down ≡ false) two.peers not_down;
   few_parent_links = omega arith;
   parent_links = All-nil IsParentLink;
   parent_links_differ = pairs_of (λ (l m : ParentLink). (l.link.far ≢ m.link.far) × (l.link.near ≢ m.link.near)) [] tt;
@@ -104,6 +105,10 @@ obeys = record {
     at_first_one : (r : PeerRow) → Stands r two.peers → is_element two r.at ≡ true
     at_first_one r (inl is) = ap (λ (z : PeerRow). is_element two z.at) is
     at_first_one r (inr none) = absurd none
+
+    not_down : (r : PeerRow) → Stands r two.peers → r.down ≡ false
+    not_down r (inl is) = ap (λ (z : PeerRow). z.down) is
+    not_down r (inr none) = absurd none
 
 -- ---- few requests were sent
 

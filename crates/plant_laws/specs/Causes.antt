@@ -8,6 +8,7 @@ use Rattle.dom_base.specs.declared.names.Peer.TheVariants.{Outside, Inner}
 use Rattle.pcep_messages.specs.declared.message.Message.{Message}
 use Rattle.pcep_session.specs.declared.session.Input.{Input}
 use Rattle.pcep_session.specs.declared.session.Input.TheVariants as input
+use Rattle.pcep_session.specs.declared.actions.Action.{Action}
 use Rattle.pcep_session.specs.declared.actions.Action.TheVariants as action
 use Rattle.pcep_session.specs.declared.actions.Own.{Own}
 use Rattle.pcep_session.specs.declared.actions.Own.TheVariants as own
@@ -15,7 +16,7 @@ use Rattle.pcep_session.specs.declared.state.State.{State as Session}
 use Rattle.pcep_session.specs.Table.{new_state, turn_of}
 use Rattle.plant_text.specs.declared.settings.NetworkParts.{NetworkParts}
 use Rattle.plant_text.specs.Names.{same_as, parent_as}
-use Rattle.plant_text.specs.Settings.{is_linked}
+use Rattle.plant_text.specs.Settings.{Line, lines, is_linked}
 use Rattle.plant_model.specs.declared.event.Event.{Event}
 use Rattle.plant_model.specs.declared.event.Event.TheVariants as event
 use Rattle.plant_model.specs.declared.outcome.Outcome.{Outcome}
@@ -26,7 +27,7 @@ use Rattle.plant_model.specs.Element as element
 use Rattle.plant_model.specs.Parent.{Wait, AskingRow}
 use Rattle.plant_model.specs.Parent as parent
 use Rattle.plant_model.specs.State.{Connection, Takes, Says, Downs, Clears, Solves}
-use Rattle.plant_model.specs.Deeds.{our_offer, own_message, element_of, any_fall, input_of}
+use Rattle.plant_model.specs.Deeds.{our_offer, own_message, element_of, is_tick, any_fall, input_of}
 use Rattle.plant_model.specs.Events.{later}
 use Rattle.plant_model.specs.Plant.{Pin, Plant, PlantDeed, Happened, Entry, Run, Steps, opened}
 use Rattle.plant_laws.specs.Transcript.{Transcript}
@@ -94,7 +95,7 @@ module _ (c : Codec) (n : NetworkParts) (before : Plant) (e : Event) where
   -- why a session says something of its own: by its table, or as a link that broke is begun anew
   pub data OfSession (earlier : Transcript) (at : As) (o : Output) : Type 0 where
     by_table : (x : Session) (came : Input) (o' : Own) → Comes at o.to x came → Contains (turn_of x came).actions (action.Send o') → o.message ≡ own_message o' → OfSession earlier at o
-    anew : (a b : As) (sid : ℕ) → Contains earlier (Clears a b) → o.message ≡ own_message (own.Open (our_offer sid)) → OfSession earlier at o
+    anew : (a b : As) (sid : ℕ) → Contains earlier (Clears a b) → ((at ≡ a) × (o.to ≡ Inner b)) ⊎ ((at ≡ b) × (o.to ≡ Inner a)) → o.message ≡ own_message (own.Open (our_offer sid)) → OfSession earlier at o
 
   -- a job is solved
   pub data OfSolve (deed : PlantDeed) : Type 0 where
@@ -125,21 +126,31 @@ module _ (c : Codec) (n : NetworkParts) (before : Plant) (e : Event) where
     ended_along : (a b : As) (bytes : Bytes) (rest : List Bytes) → e ≡ event.Carry a b → ((at ≡ a) × (p ≡ Inner b)) ⊎ ((at ≡ b) × (p ≡ Inner a)) → is_linked n a b ≡ true →
         before.queues a b ≡ bytes ∷ rest → any_fall (turn_of (before.sessions b a) (input_of c (Some bytes))).actions ≡ true → Falls at p
 
-  -- What is passed on is taken, and where a session goes down what is lost is answered.
+  -- the last words of a session that breaks its link are not sent
+  abbrev pub LinkStays : Peer → List Action → Type 0
+  LinkStays (Outside i) actions = Unit {0}
+  LinkStays (Inner a) actions = any_fall actions ≡ false
+
+  -- What is passed on is taken, where a session goes down what is lost is answered, and but at a tick a session says what its table calls
+  -- for.
   pub record SaysAll (deeds : Transcript) : Type 0 where
     pub passed : (at : As) (p : Peer) (m : Message) → Passes at p m → (os : List Output) × Contains deeds (Takes at p m os)
     pub fell : (at : As) (p : Peer) → Falls at p → (os : List Output) × Contains deeds (Downs at p os)
+    pub spoke : (at : As) (p : Peer) (x : Session) (came : Input) (o : Own) → Comes at p x came → is_tick came ≡ false → LinkStays p (turn_of x came).actions → Contains (turn_of x came).actions (action.Send o) →
+        Contains deeds (Says at (record { to = p; message = own_message o }))
 
 -- In every run, of each event that is accepted.
 abbrev pub MessagesHaveCauses : Type 0
 MessagesHaveCauses = (c : Codec) (n : NetworkParts) (es : List Entry) (before : Plant) → Run c n es before → (e : Event) (h : Happened) → Steps c n before e h → (o : Outcome) → h.answer ≡ Ok o →
     HaveCauses c n before e h.deeds × SaysAll c n before e h.deeds
 
--- what stands before the first event: an Open at each end of each link
-abbrev pub AreOpens : Transcript → Type 0
-AreOpens [] = Unit {0}
-AreOpens (Says at o ∷ earlier) = (o.message ≡ own_message (own.Open (our_offer 0))) × AreOpens earlier
-AreOpens (e ∷ earlier) = ⊥
+-- what stands before the first event: an Open at each end of each link, one link after the other, the lower end first
+abbrev pub an_open : As → As → PlantDeed
+an_open at b = Says at (record { to = Inner b; message = own_message (own.Open (our_offer 0)) })
+
+abbrev pub opens_of : List Line → Transcript → Transcript
+opens_of [] earlier = earlier
+opens_of (x ∷ xs) earlier = opens_of xs (an_open x.upper x.lower ∷ an_open x.lower x.upper ∷ earlier)
 
 abbrev pub NetworksBegin : Type 0
-NetworksBegin = (c : Codec) (n : NetworkParts) → AreOpens (opened c n).deeds
+NetworksBegin = (c : Codec) (n : NetworkParts) → (opened c n).deeds ≡ opens_of (lines n) []
