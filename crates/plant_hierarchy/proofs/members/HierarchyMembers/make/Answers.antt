@@ -13,5 +13,5 @@ returns-in-Element g c =
 pub returns-in-Parent : goal.returns-in-Parent
 returns-in-Parent g c =
     let t = c.args.self.now in
-    stands_as g.W.World.first t c.make_above.new.self (with_parent c.in-Parent.field-0.given.parent (members_of g.W.World.first t)) (lost_in t) c.make_above.ensures
+    stands_as g.W.World.first t c.make_above.new.self (with_parent c.in-Parent.plan.given.parent (members_of g.W.World.first t)) (lost_in t) c.make_above.ensures
     ∙ ap (λ p. record (standing_of g.W.World.first t) { seen = next_by g.W.World.first t p }) (sym c.in-Parent.is)
