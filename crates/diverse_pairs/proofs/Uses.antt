@@ -1,6 +1,6 @@
 -- Arcs in use, by their marks or by distances.
-use Rattle.std.proofs.Common.{◌≡◌, ◌≢◌, inl, inr, ℕ, ◌+◌, ◌<◌, ◌==◌, Bool, true, false, List, length, map, refl, sym, ◌∙◌, ap, arith, None, Some}
-use Rattle.std.specs.Prelude.{◌↔◌, nat_lt, slice_index_or, if◌then◌else◌}
+use Rattle.std.proofs.Common.{◌≡◌, inl, inr, ℕ, ◌+◌, ◌==◌, Bool, true, false, List, refl, sym, ◌∙◌, ap, arith, None, Some}
+use Rattle.std.specs.Prelude.{nat_lt, slice_index_or, if◌then◌else◌}
 use Rattle.std.specs.declared.option.Option.{Option}
 use Rattle.std.proofs.lemmas.Bool.{lt-ltb, ltb-true}
 use Rattle.std.proofs.lemmas.Bool.Decides.{eqb_tells}
@@ -10,7 +10,7 @@ use Rattle.diverse_pairs.specs.declared.arcs.TheConstants.{UNREACHED}
 use Rattle.diverse_pairs.specs.Arcs.{IsArc, at, is_used}
 use Rattle.diverse_pairs.specs.Distances.{IsTight, AreTight}
 use Rattle.diverse_pairs.specs.Uses.{used_at, tight_mark, tight_marks}
-use Rattle.diverse_pairs.proofs.Lowering.{arc_within, one_arc}
+use Rattle.diverse_pairs.proofs.Lowering.{arc_within}
 use Rattle.diverse_pairs.proofs.FirstAmong.{HasNoneBefore}
 
 tight_if : (ds : List ℕ) (a : Arc) → tight_mark ds (Some a) ≡ true → IsTight ds a

@@ -1,4 +1,4 @@
-use Rattle.std.proofs.Common.{◌≤◌, arith}
+use Rattle.std.proofs.Common.{arith}
 use Rattle.diverse_pairs.proofs.Nearest.{nearest_in_group}
 use Rattle.diverse_pairs.proofs.waiting.nearest_among.Goals as goal
 
