@@ -10,7 +10,7 @@ pub returns-in-Shut : goal.returns-in-Shut
 returns-in-Shut c = subst (λ (e : BlindEvent). Moves (held c.args.members.now c.args.traffic.now) e c.shut.result (held c.shut.new.members c.shut.new.traffic)) (sym c.in-Shut.is) c.shut.ensures
 
 pub returns-in-Feed : goal.returns-in-Feed
-returns-in-Feed c = subst (λ (e : BlindEvent). Moves (held c.args.members.now c.args.traffic.now) e c.feed.result (held c.feed.new.members c.feed.new.traffic)) (sym c.in-Feed.is) c.feed.ensures
+returns-in-Feed c = subst (λ (e : BlindEvent). Moves (held c.args.members.now c.args.traffic.now) e c.feed.result (held c.args.members.now c.feed.new.traffic)) (sym c.in-Feed.is) c.feed.ensures
 
 pub returns-in-Take : goal.returns-in-Take
 returns-in-Take c = subst (λ (e : BlindEvent). Moves (held c.args.members.now c.args.traffic.now) e c.take.result (held c.take.new.members c.take.new.traffic)) (sym c.in-Take.is) c.take.ensures
@@ -25,4 +25,4 @@ pub returns-in-Tick : goal.returns-in-Tick
 returns-in-Tick c = subst (λ (e : BlindEvent). Moves (held c.args.members.now c.args.traffic.now) e c.tick.result (held c.tick.new.members c.tick.new.traffic)) (sym c.in-Tick.is) c.tick.ensures
 
 pub returns-in-Drain : goal.returns-in-Drain
-returns-in-Drain c = subst (λ (e : BlindEvent). Moves (held c.args.members.now c.args.traffic.now) e c.drain.result (held c.drain.new.members c.drain.new.traffic)) (sym c.in-Drain.is) c.drain.ensures
+returns-in-Drain c = subst (λ (e : BlindEvent). Moves (held c.args.members.now c.args.traffic.now) e c.drain.result (held c.args.members.now c.drain.new.traffic)) (sym c.in-Drain.is) c.drain.ensures
