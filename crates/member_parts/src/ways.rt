@@ -1,13 +1,15 @@
 //! The peers to which requests are sent: whether the session with each is up, and the last id sent to it.
-ghost use Rattle.std.specs.Prelude.{◌≡◌, ◌<◌, map, length, slice_set, IfOk, MatchOption};
+ghost use Rattle.std.specs.Prelude.{◌≡◌, ◌<◌, ◌++◌, map, length, slice_set, IfOk, OnOk, MatchOption};
 ghost use Rattle.std.specs.List.{slice_index_or};
 ghost use Rattle.std.specs.Option.{option_copied};
 ghost use Rattle.plant_model.specs.Element.{way_to, with_last, with_up};
 ghost use Rattle.plant_model.specs.Parent.{is_up};
+ghost use Rattle.plant_model.specs.Settings.{outer_way};
 ghost use Rattle.member_parts.specs.Ways.{way_of, no_way, IsFirstTo, IsNowhere};
 
 use crate::peers::is_same_peer;
 use dom_base::{As, List, NoMemory, Peer};
+use plant_model::Route;
 use std::alloc::Global;
 use std::marker::Model;
 
@@ -30,11 +32,11 @@ impl Model for Way {
 }
 
 impl Way {
-    fn new(number: As) -> Way
-        ensures { result ≡ way_of number }
+    fn new(peer: Peer) -> Way
+        ensures { result ≡ record { peer = peer; up = false; last_id = 0 } }
     {
         Way {
-            peer: Peer::Inner(number),
+            peer,
             up: false,
             last_id: 0,
         }
@@ -96,9 +98,19 @@ impl Ways {
     {
         let mut rows = Vec::new(alloc);
         for number in links {
-            rows.push(Way::new(*number))?;
+            rows.push(Way::new(Peer::Inner(*number)))?;
         }
         Ok(Ways { rows })
+    }
+
+    /// A way by each of these routes, behind the others.
+    pub fn add(&mut self, routes: &[Route]) -> Result<(), NoMemory>
+        ensures { OnOk result (self.new ≡ self.old ++ map outer_way routes.now) }
+    {
+        for route in routes {
+            self.rows.push(Way::new(Peer::Outside(route.peer)))?;
+        }
+        Ok(())
     }
 
     /// Equal ways in memory of their own.

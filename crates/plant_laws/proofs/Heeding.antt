@@ -1,0 +1,57 @@
+-- What is heeded of a message: the same, but for what its replies answer.
+use Rattle.std.proofs.Common.{◌≡◌, ◌<◌, ℕ, Option, Some, None, List, [], ◌∷◌, length, map, arith}
+use Rattle.std.specs.List.{AllByRecursion}
+use Rattle.std.proofs.lemmas.List.{length-map}
+use Rattle.pcep_messages.specs.declared.message.Asked.{Asked}
+use Rattle.pcep_messages.specs.declared.message.Message.{Message}
+use Rattle.pcep_messages.specs.declared.message.Message.TheVariants as messages
+use Rattle.pcep_messages.specs.declared.message.Reply.{Reply}
+use Rattle.plant_model.specs.Wire.{Codec}
+use Rattle.plant_model.specs.Laws.{AreWords}
+use Rattle.plant_model.specs.Outside.{heeded_by, heeded_in}
+use Rattle.plant_laws.proofs.Sends.{IsAlone}
+use Rattle.plant_laws.proofs.Takes.{IsSingle}
+
+module _ (c : Codec) (sent : ℕ → Option ℕ) where
+  pub heeded_alone : (m : Message) → IsAlone m → IsAlone (heeded_in c sent m)
+  heeded_alone (messages.PcReq asks) one = one
+  heeded_alone (messages.PcRep replies) one = omega (arith, one, length-map replies (λ (r : Reply). heeded_by c (sent r.id) r))
+  heeded_alone (messages.PcNtf notices) one = tt
+  heeded_alone (messages.PcErr reports) one = tt
+  heeded_alone (messages.Open body) one = tt
+  heeded_alone messages.Keepalive one = tt
+  heeded_alone (messages.Close why) one = tt
+  heeded_alone (messages.Other kind) one = tt
+
+  pub heeded_single : (m : Message) → IsSingle m → IsSingle (heeded_in c sent m)
+  heeded_single (messages.PcReq asks) one = one
+  heeded_single (messages.PcRep replies) one = tt
+  heeded_single (messages.PcNtf notices) one = tt
+  heeded_single (messages.PcErr reports) one = tt
+  heeded_single (messages.Open body) one = tt
+  heeded_single messages.Keepalive one = tt
+  heeded_single (messages.Close why) one = tt
+  heeded_single (messages.Other kind) one = tt
+
+  -- a request is the one that was read
+  pub asks_read : (m : Message) (asks : List Asked) → heeded_in c sent m ≡ messages.PcReq asks → m ≡ messages.PcReq asks
+  asks_read (messages.PcReq asks') asks is = is
+  asks_read (messages.PcRep replies) asks is = absurd (let clash : messages.PcRep (map (λ (r : Reply). heeded_by c (sent r.id) r) replies) ≡ messages.PcReq asks = is in cc)
+  asks_read (messages.PcNtf notices) asks is = is
+  asks_read (messages.PcErr reports) asks is = is
+  asks_read (messages.Open body) asks is = is
+  asks_read messages.Keepalive asks is = is
+  asks_read (messages.Close why) asks is = is
+  asks_read (messages.Other kind) asks is = is
+
+  -- flags and ids stay
+  abbrev pub HaveWords : List Reply → Type 0
+  HaveWords rs = AllByRecursion (λ (r : Reply). AreWords (r.flags, r.id)) rs
+
+  pub heeded_words : (rs : List Reply) → HaveWords rs → HaveWords (map (λ (r : Reply). heeded_by c (sent r.id) r) rs)
+  heeded_words [] all = tt
+  heeded_words (r ∷ rs) all = (go (sent r.id), heeded_words rs all.1)
+    where
+      go : (o : Option ℕ) → AreWords ((heeded_by c o r).flags, (heeded_by c o r).id)
+      go None = all.0
+      go (Some domains) = all.0
