@@ -214,14 +214,16 @@ module _ (c : Codec) (n : NetworkParts) where
           (subst (λ (xs : List Bytes). Q (events.carry_first Pin Segment c n open_of a b before xs).deeds) (sym first) q))
 
     passed : (at : As) (p : Peer) (m : Message) → Passes c n before e at p m → TakesAt at p m h.deeds
-    passed at p m (from_outside i x bytes rest is open' first read acts at_is p_is) =
-        subst (λ (z : As). TakesAt z p m h.deeds) (sym at_is)
-        (subst (λ (q : Peer). TakesAt (element_of n i) q m h.deeds) (sym p_is)
-        (by_item i x (Some bytes) rest is open' first (TakesAt (element_of n i) (Outside i) m)
-        (subst (λ (y : Input). TakesAt (element_of n i) (Outside i) m (outside_step Pin Segment c n open_of i y (record { state = with_access Pin Segment c n open_of i (with_inbox rest) before; deeds = [] }) (Some (with_inbox rest x))).deeds) (sym (ap read_as read))
-        (subst (λ (as' : List Action). TakesAt (element_of n i) (Outside i) m (outside_acts Pin Segment c n open_of i false as'
-        (record { state = with_access Pin Segment c n open_of i (with_session (turn_of x.session (input.Got m)).next) (with_access Pin Segment c n open_of i (with_inbox rest) before); deeds = [] })).deeds) (sym acts)
-        (give_takes (element_of n i) (Outside i) m _)))))
+    passed at p m (from_outside i x bytes rest raw is open' first read acts heard at_is p_is) =
+        let given = heeded c (Outside i) (before.elements (element_of n i)).pending.rows raw in
+        subst (λ (z : Message). TakesAt at p z h.deeds) (sym heard)
+        (subst (λ (z : As). TakesAt z p given h.deeds) (sym at_is)
+        (subst (λ (q : Peer). TakesAt (element_of n i) q given h.deeds) (sym p_is)
+        (by_item i x (Some bytes) rest is open' first (TakesAt (element_of n i) (Outside i) given)
+        (subst (λ (y : Input). TakesAt (element_of n i) (Outside i) given (outside_step Pin Segment c n open_of i y (record { state = with_access Pin Segment c n open_of i (with_inbox rest) before; deeds = [] }) (Some (with_inbox rest x))).deeds) (sym (ap read_as read))
+        (subst (λ (as' : List Action). TakesAt (element_of n i) (Outside i) given (outside_acts Pin Segment c n open_of i false as'
+        (record { state = with_access Pin Segment c n open_of i (with_session (turn_of x.session (input.Got raw)).next) (with_access Pin Segment c n open_of i (with_inbox rest) before); deeds = [] })).deeds) (sym acts)
+        (give_takes (element_of n i) (Outside i) given _))))))
     passed at p m (from_inside a bytes rest is linked first read acts p_is) =
         subst (λ (q : Peer). TakesAt at q m h.deeds) (sym p_is)
         (by_first a at bytes rest is linked first (TakesAt at (Inner a) m)

@@ -22,13 +22,15 @@ use Rattle.plant_model.specs.declared.output.Output.{Output}
 use Rattle.plant_model.specs.declared.event.Event.TheVariants as event
 use Rattle.plant_model.specs.Wire.{Bytes, Codec}
 use Rattle.plant_model.specs.Laws.{IsCodec, IsNetwork, AreWords}
-use Rattle.plant_model.specs.Element.{Element, upped, downed}
+use Rattle.plant_model.specs.Element.{Element, Way, upped, downed}
 use Rattle.plant_model.specs.Taking.{take}
 use Rattle.plant_model.specs.Solving.{commit}
 use Rattle.plant_model.specs.BorderGraph.{Found}
 use Rattle.plant_model.specs.Parent as parent
 use Rattle.plant_model.specs.Parent.{AskingRow}
-use Rattle.plant_model.specs.Settings.{place, family, way, ways_along}
+use Rattle.plant_model.specs.declared.route.Route.{Route}
+use Rattle.plant_model.specs.Routes.{routes}
+use Rattle.plant_model.specs.Settings.{place, family, inner_ways, outer_way, way, ways_along}
 use Rattle.plant_model.specs.State.{State, Deed, Loads, Pops, Takes, Says, Ups, Downs, Clears, Solves, Expires, Hands}
 use Rattle.plant_model.specs.Deeds.{Going, element_of, own_message, with_parent, with_element, puts, give, rise, fall}
 use Rattle.plant_model.specs.Outside.{heeded_by, heeded_in}
@@ -220,6 +222,11 @@ alone_single (messages.Other kind) one = tt
 
 -- ---- the opening state
 
+ways_fit_all : (ws : List Way) (rs : List Route) → WaysOk ws → WaysOk (ws ++ map outer_way rs)
+ways_fit_all [] [] ok = tt
+ways_fit_all [] (r ∷ rs) ok = (omega arith, ways_fit_all [] rs tt)
+ways_fit_all (w ∷ ws) rs ok = (ok.0, ways_fit_all ws rs ok.1)
+
 ways_fit : (d : As) (xs : List Line) → WaysOk (ways_along d xs)
 ways_fit d [] = tt
 ways_fit d (x ∷ xs) = go (same_as x.lower d) (same_as x.upper d) (ways_fit d xs)
@@ -402,7 +409,7 @@ module _ (c : Codec) (codec : IsCodec c) (n : NetworkParts) (net : IsNetwork n) 
   bare_holds = record {
     stand = λ a b. refl;
     good = record { current = λ d. Topologies.empty_domain d; pinned = λ d. tt };
-    fit = λ prem. (tt, record { elements = λ d. (tt, ways_fit d (lines n), tt); parent = (tt, ways_fit parent_as (lines n)) });
+    fit = λ prem. (tt, record { elements = λ d. (tt, ways_fit_all (inner_ways n d) (routes n d) (ways_fit d (lines n)), tt); parent = (tt, ways_fit parent_as (lines n)) });
   }
 
   pub run_fits : (es : List Entry) (s : Plant) → Run c n es s → I (deeds_of c n es) s

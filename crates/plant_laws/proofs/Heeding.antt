@@ -1,5 +1,8 @@
 -- What is heeded of a message: the same, but for what its replies answer.
-use Rattle.std.proofs.Common.{◌≡◌, ◌<◌, ℕ, Option, Some, None, List, [], ◌∷◌, length, map, arith}
+use Rattle.std.proofs.Common.{◌≡◌, ◌∙◌, ◌<◌, ℕ, Option, Some, None, List, [], ◌∷◌, length, drop, map, ap, refl, arith}
+use Rattle.std.specs.Option.{option_map}
+use mathlib.Core.Path.{fun_ext}
+use Rattle.dom_base.specs.declared.names.Peer.{Peer}
 use Rattle.std.specs.List.{AllByRecursion}
 use Rattle.std.proofs.lemmas.List.{length-map}
 use Rattle.pcep_messages.specs.declared.message.Asked.{Asked}
@@ -8,8 +11,10 @@ use Rattle.pcep_messages.specs.declared.message.Message.TheVariants as messages
 use Rattle.pcep_messages.specs.declared.message.Reply.{Reply}
 use Rattle.plant_model.specs.Wire.{Codec}
 use Rattle.plant_model.specs.Laws.{AreWords}
-use Rattle.plant_model.specs.Outside.{heeded_by, heeded_in}
+use Rattle.plant_model.specs.Element.{Row, sent_through, waiting}
+use Rattle.plant_model.specs.Outside.{heeded, heeded_by, heeded_in}
 use Rattle.plant_laws.proofs.Sends.{IsAlone}
+use Rattle.plant_laws.proofs.Strip.{bare_rows, bare_found, bare_waiting}
 use Rattle.plant_laws.proofs.Takes.{IsSingle}
 
 module _ (c : Codec) (sent : ℕ → Option ℕ) where
@@ -55,3 +60,18 @@ module _ (c : Codec) (sent : ℕ → Option ℕ) where
       go : (o : Option ℕ) → AreWords ((heeded_by c o r).flags, (heeded_by c o r).id)
       go None = all.0
       go (Some domains) = all.0
+
+-- An element that knows of no pins heeds the same.
+module _ {P : Type 0} {Q : Type 0} (view : P → Q) where
+  abbrev behind : {X : Type 0} → Row X → ℕ
+  behind h = length (drop 1 h.1.item.sequence)
+
+  same_found : (o : Option (Row P)) → option_map (behind {X = Q}) (bare_found view o) ≡ option_map (behind {X = P}) o
+  same_found None = refl
+  same_found (Some h) = refl
+
+  same_sent : (p : Peer) (id : ℕ) (rows : List (Row P)) → sent_through p id (bare_rows view rows) ≡ sent_through p id rows
+  same_sent p id rows = ap (λ (o : Option (Row Q)). option_map (behind {X = Q}) o) (bare_waiting P (Unit {0}) Q view p id rows) ∙ same_found (waiting p id rows)
+
+  pub heeded_bare : (c : Codec) (p : Peer) (rows : List (Row P)) (m : Message) → heeded c p (bare_rows view rows) m ≡ heeded c p rows m
+  heeded_bare c p rows m = ap (λ (sent : ℕ → Option ℕ). heeded_in c sent m) (fun_ext (λ id. same_sent p id rows))
