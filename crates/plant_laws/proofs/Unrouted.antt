@@ -1,6 +1,6 @@
--- Where paths go on through no outside peer, requests for a domain go to its own element, and along links alone.
-use Rattle.std.proofs.Common.{◌≡◌, ◌∙◌, List, ◌++◌, map, Option, Some, None, ap, refl}
-use Rattle.std.proofs.lemmas.List.{append-nil}
+-- What routes leave as it is: who is asked by a link, and, where paths go on through no outside peer, that each request for a domain
+-- goes to its own element.
+use Rattle.std.proofs.Common.{◌≡◌, ◌∙◌, cond, List, [], ◌∷◌, ◌++◌, map, Option, Some, None, ap, refl}
 use Rattle.dom_base.specs.declared.names.As.{As}
 use Rattle.dom_base.specs.declared.names.Peer.TheVariants.{Inner}
 use Rattle.plant_text.specs.declared.settings.NetworkParts.{NetworkParts}
@@ -9,7 +9,9 @@ use Rattle.plant_text.specs.Settings.{row_of, deny_at}
 use Rattle.plant_model.specs.declared.route.Route.{Route}
 use Rattle.plant_model.specs.Laws.{IsNetwork}
 use Rattle.plant_model.specs.Routes.{routes, toward}
-use Rattle.plant_model.specs.Settings.{place, place_from, inner_ways, outer_way, ways}
+use Rattle.plant_model.specs.Element.{Way, way_to}
+use Rattle.plant_model.specs.Settings.{place, place_from, outer_way}
+use Rattle.request_table.specs.Pending.{same_peer}
 use Rattle.plant_model.proofs.Outward.{no_routes}
 
 pub place_routes : (n : NetworkParts) (d : As) → (place n d).routes ≡ routes n d
@@ -19,9 +21,11 @@ place_routes n d = go (row_of d n.elements)
     go None = refl
     go (Some r) = refl
 
-module _ (n : NetworkParts) (net : IsNetwork n) where
-  pub to_element : (d b : As) → toward b (place n d).routes ≡ Inner b
-  to_element d b = ap (toward b) (place_routes n d ∙ no_routes n d net.no_downs)
+pub to_element : (n : NetworkParts) → IsNetwork n → (d b : As) → toward b (place n d).routes ≡ Inner b
+to_element n net d b = ap (toward b) (place_routes n d ∙ no_routes n d net.no_downs)
 
-  pub ways_are_inner : (d : As) → ways n d ≡ inner_ways n d
-  ways_are_inner d = ap (λ (rs : List Route). inner_ways n d ++ map outer_way rs) (no_routes n d net.no_downs) ∙ append-nil (inner_ways n d)
+-- the way along a link, with routes behind
+pub way_inside : (b : As) (ws : List Way) (rs : List Route) → way_to (Inner b) (ws ++ map outer_way rs) ≡ way_to (Inner b) ws
+way_inside b [] [] = refl
+way_inside b [] (r ∷ rs) = way_inside b [] rs
+way_inside b (w ∷ ws) rs = ap (λ (o : Option Way). cond (same_peer w.peer (Inner b)) (Some w) o) (way_inside b ws rs)
