@@ -1,5 +1,5 @@
 //! The peers to which requests are sent: whether the session with each is up, and the last id sent to it.
-ghost use Rattle.std.specs.Prelude.{◌≡◌, ◌<◌, ◌++◌, map, length, slice_set, IfOk, OnOk, MatchOption};
+ghost use Rattle.std.specs.Prelude.{◌≡◌, ◌<◌, ◌++◌, false, map, length, slice_set, IfOk, MatchOption};
 ghost use Rattle.std.specs.List.{slice_index_or};
 ghost use Rattle.std.specs.Option.{option_copied};
 ghost use Rattle.plant_model.specs.Element.{way_to, with_last, with_up};
@@ -103,14 +103,14 @@ impl Ways {
         Ok(Ways { rows })
     }
 
-    /// A way by each of these routes, behind the others.
-    pub fn add(&mut self, routes: &[Route]) -> Result<(), NoMemory>
-        ensures { OnOk result (self.new ≡ self.old ++ map outer_way routes.now) }
+    /// A way to each of these numbers, and behind them one by each of these routes, none of them up.
+    pub fn with_routes(alloc: Global, links: &[As], routes: &[Route]) -> Result<Ways, NoMemory>
+        ensures { IfOk result (λ ways. ways ≡ map way_of links.now ++ map outer_way routes.now) }
     {
-        for route in routes {
-            self.rows.push(Way::new(Peer::Outside(route.peer)))?;
-        }
-        Ok(())
+        let mut ways = Ways::new(alloc, links)?;
+        let outer = outer_rows(alloc, routes)?;
+        ways.rows.extend_from_slice(&outer)?;
+        Ok(ways)
     }
 
     /// Equal ways in memory of their own.
@@ -159,6 +159,16 @@ impl Ways {
             set_last_at(&mut self.rows, i, id);
         }
     }
+}
+
+fn outer_rows(alloc: Global, routes: &[Route]) -> Result<Vec<Way>, NoMemory>
+    ensures { IfOk result (λ rows. rows.items ≡ map outer_way routes.now) }
+{
+    let mut rows = Vec::new(alloc);
+    for route in routes {
+        rows.push(Way::new(Peer::Outside(route.peer)))?;
+    }
+    Ok(rows)
 }
 
 // The place of the way to a peer.

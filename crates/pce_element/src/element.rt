@@ -78,8 +78,7 @@ impl<W: World> Element<W> {
         requires most { key_life ≤ 3600 }
         ensures { IfOk result (IsNew W.first (record { own = own; id = id; parent = parent; deny = deny; routes = routes }) key_life links.now) }
     {
-        let mut ways = Ways::new(alloc, links)?;
-        ways.add(routes.as_slice())?;
+        let ways = Ways::with_routes(alloc, links, routes.as_slice())?;
         Ok(Element {
             alloc,
             own,

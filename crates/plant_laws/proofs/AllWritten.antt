@@ -222,7 +222,7 @@ alone_single (messages.Other kind) one = tt
 
 -- ---- the opening state
 
-ways_fit_all : (ws : List Way) (rs : List Route) → WaysOk ws → WaysOk (ws ++ map outer_way rs)
+pub ways_fit_all : (ws : List Way) (rs : List Route) → WaysOk ws → WaysOk (ws ++ map outer_way rs)
 ways_fit_all [] [] ok = tt
 ways_fit_all [] (r ∷ rs) ok = (omega arith, ways_fit_all [] rs tt)
 ways_fit_all (w ∷ ws) rs ok = (ok.0, ways_fit_all ws rs ok.1)

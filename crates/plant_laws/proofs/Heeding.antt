@@ -38,6 +38,16 @@ module _ (c : Codec) (sent : ℕ → Option ℕ) where
   heeded_single (messages.Close why) one = tt
   heeded_single (messages.Other kind) one = tt
 
+  pub single_back : (m : Message) → IsSingle (heeded_in c sent m) → IsSingle m
+  single_back (messages.PcReq asks) one = one
+  single_back (messages.PcRep replies) one = tt
+  single_back (messages.PcNtf notices) one = tt
+  single_back (messages.PcErr reports) one = tt
+  single_back (messages.Open body) one = tt
+  single_back messages.Keepalive one = tt
+  single_back (messages.Close why) one = tt
+  single_back (messages.Other kind) one = tt
+
   -- a request is the one that was read
   pub asks_read : (m : Message) (asks : List Asked) → heeded_in c sent m ≡ messages.PcReq asks → m ≡ messages.PcReq asks
   asks_read (messages.PcReq asks') asks is = is

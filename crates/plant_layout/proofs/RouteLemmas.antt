@@ -19,7 +19,7 @@ left_is d k (suc i) (r ∷ rs) x inside = left_is d k i rs x (omega (arith, insi
 pub found_more : (d : As) (i : ℕ) (rs : List PeerRow) (x : PeerRow) (found more : List Route) → i < length rs → Found d i rs found → route_at d i (get_or rs i x) ≡ more → Found d (suc i) rs (found ++ more)
 found_more d i rs x found more inside so is =
     let rest : List Route = routes_from d (suc i) (drop (suc i) rs) in
-    append_assoc found more rest ∙ ap (λ (l : List Route). found ++ l ++ rest) (sym is) ∙ ap (λ (l : List Route). found ++ l) (sym (left_is d i i rs x inside)) ∙ so
+    append_assoc found more rest ∙ ap (λ (l : List Route). found ++ (l ++ rest)) (sym is) ∙ ap (λ (l : List Route). found ++ l) (sym (left_is d i i rs x inside)) ∙ so
 
 pub found_none : (d : As) (i : ℕ) (rs : List PeerRow) (x : PeerRow) (found : List Route) → i < length rs → Found d i rs found → route_at d i (get_or rs i x) ≡ [] → Found d (suc i) rs found
 found_none d i rs x found inside so is =
