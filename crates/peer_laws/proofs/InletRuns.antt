@@ -129,7 +129,7 @@ module _ (n : NetworkParts) where
             (all_later (IsOf (of_run older)) (IsOf (of_run (e ∷ older))) (λ i part. later_if (of_run older) e.event (is_accepted e.answer) i part) (deeds_of wire n older) before.1),
       )
 
-of_one : (R : ℕ → Bytes → Type 0) (ds : List PlantDeed) (at : As) (i : ℕ) (m : Message) (os : List Output) → AllTaken wire R ds → Contains ds (Takes at (Outside i) m os) → deed_taken wire R (Takes {S = Segment} at (Outside i) m os)
+of_one : (R : ℕ → Bytes → Type 0) (ds : List PlantDeed) (at : As) (i : ℕ) (m : Message) (os : List Output) → AllTaken wire R ds → Contains ds (Takes at (Outside i) m os) → (let x : PlantDeed = Takes at (Outside i) m os in deed_taken wire R x)
 of_one R [] at i m os all h = absurd (contains_none (Takes at (Outside i) m os) h)
 of_one R (d ∷ ds) at i m os all h =
     elim (contains_cases d ds (Takes at (Outside i) m os) h) [

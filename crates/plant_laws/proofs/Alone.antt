@@ -210,7 +210,7 @@ module _ (c : Codec) (codec : IsCodec c) (n : NetworkParts) where
   read_alone bytes (messages.PcNtf notices) read split = tt
   read_alone bytes (messages.PcErr reports) read split = tt
   read_alone bytes (messages.Open body) read split = tt
-  heard_alone bytes messages.Keepalive read split = tt
+  read_alone bytes messages.Keepalive read split = tt
   read_alone bytes (messages.Close why) read split = tt
   read_alone bytes (messages.Other kind) read split = tt
 

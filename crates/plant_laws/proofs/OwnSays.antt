@@ -244,8 +244,8 @@ module _ (P : Type 0) (S : Type 0) (c : Codec) (codec : IsCodec c) (n : NetworkP
       outside_acts_fine i ticks as' (fall P S c n show (element_of n i) (Outside i) k) fit.1
       (fall_fine (element_of n i) (Outside i) k (access_fit i (with_inbox []) g.state (λ x fits. fits) h.0, h.1))
   outside_acts_fine i ticks (action.Pass m ∷ as') g fit h =
-      let heard = heeded c (Outside i) (g.state.elements (element_of n i)).pending.rows m in
-      outside_acts_fine i ticks as' (give P S c n show (element_of n i) (Outside i) heard g) fit.1 (give_fine (element_of n i) (Outside i) heard g h)
+      let given = heeded c (Outside i) (g.state.elements (element_of n i)).pending.rows m in
+      outside_acts_fine i ticks as' (give P S c n show (element_of n i) (Outside i) given g) fit.1 (give_fine (element_of n i) (Outside i) given g h)
 
   outside_fine : (i : ℕ) (x : Input) (g : Going P S) → Timely x → Fine g → Fine (outside_input P S c n show i x g)
   outside_fine i x g times h = go (g.state.accesses i).connection (h.0.outer i)
