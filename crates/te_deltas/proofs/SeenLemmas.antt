@@ -17,7 +17,8 @@ use Rattle.te_deltas.specs.declared.name.RowName.TheVariants as names
 use Rattle.te_deltas.specs.declared.changes.Change.{Change}
 use Rattle.te_deltas.specs.declared.changes.Change.TheVariants.{AddNode, DropNode, AddLink, DropLink, AddOut, DropOut, AddEntry, DropEntry}
 use Rattle.te_deltas.specs.Changes.{added, changed, has_name, name_of, named, same_name, without}
-use Rattle.te_deltas.proofs.Names.{name_is}
+use Rattle.te_deltas.specs.contracts.name.RowNamePartialEq.TheImpl as compared
+use Rattle.te_deltas.proofs.Names.{compared_same, name_is}
 
 -- ---- all rows by their places
 
@@ -30,8 +31,10 @@ here make (one ∷ xs) rest zero x at = let same : Some one ≡ Some x = at in l
 here make (one ∷ xs) rest (suc i) x at = here make xs rest i x at
 
 past : {X : Type 0} (make : X → TextRow) (xs : List X) (rest : List TextRow) (i : ℕ) → slice_get (map make xs ++ rest) (length xs + i) ≡ slice_get rest i
-past make [] rest i = refl
-past make (one ∷ xs) rest i = past make xs rest i
+past make [] rest i = let same : length [] + i ≡ i = omega arith in ap (λ (k : ℕ). slice_get rest k) same
+past make (one ∷ xs) rest i =
+    let same : length (one ∷ xs) + i ≡ suc (length xs + i) = omega arith in
+    ap (λ (k : ℕ). slice_get (map make (one ∷ xs) ++ rest) k) same ∙ past make xs rest i
 
 named_by : (o : Option TextRow) (row : TextRow) → o ≡ Some row → option_map name_of o ≡ Some (name_of row)
 named_by o row is = ap (λ (p : Option TextRow). option_map name_of p) is
@@ -158,3 +161,8 @@ turn name list (DropNode n) = dropped name (names.Node n) list
 turn name list (DropLink far) = dropped name (names.Link far) list
 turn name list (DropOut far) = dropped name (names.Out far) list
 turn name list (DropEntry e) = dropped name (names.Entry e) list
+
+-- ---- what comparisons and loops tell
+
+pub eq_told : (a b n : RowName) (t : Bool) → t ≡ compared.eq-value.it a b → b ≡ n → same_name a n ≡ t
+eq_told a b n t is name = ap (λ (m : RowName). same_name a m) (sym name) ∙ sym (compared_same a b) ∙ sym is

@@ -37,6 +37,7 @@ fn name_in_order(topology: &Topology, place: u64) -> RowName
     if place < nodes + links + outs {
         return RowName::Out(topology.out_at((place - nodes - links) as u32).link.far);
     }
+    let _entries = topology.entry_count();
     RowName::Entry(topology.entry_at((place - nodes - links - outs) as u32))
 }
 
