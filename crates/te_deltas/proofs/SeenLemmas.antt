@@ -31,7 +31,7 @@ here make (one ∷ xs) rest zero x at = let same : Some one ≡ Some x = at in l
 here make (one ∷ xs) rest (suc i) x at = here make xs rest i x at
 
 past : {X : Type 0} (make : X → TextRow) (xs : List X) (rest : List TextRow) (i : ℕ) → slice_get (map make xs ++ rest) (length xs + i) ≡ slice_get rest i
-past make [] rest i = let same : length [] + i ≡ i = omega arith in ap (λ (k : ℕ). slice_get rest k) same
+past make [] rest i = let same : 0 + i ≡ i = omega arith in ap (λ (k : ℕ). slice_get rest k) same
 past make (one ∷ xs) rest i =
     let same : length (one ∷ xs) + i ≡ suc (length xs + i) = omega arith in
     ap (λ (k : ℕ). slice_get (map make (one ∷ xs) ++ rest) k) same ∙ past make xs rest i
