@@ -14,7 +14,7 @@ use Rattle.plant_script.specs.plant_play.Scripts.{AllPlayed}
 use Rattle.plant_script.specs.plant_play.Turns.{Turn}
 use Rattle.transcript.specs.declared.stop.Stop.{Stop}
 use Rattle.transcript.specs.declared.stop.Stop.TheVariants as stop
-use Rattle.plant_script.specs.Cues.{IsFileStop, PlaysCue}
+use Rattle.plant_script.specs.Cues.{IsFileStop, PlaysUnseen}
 use Rattle.plant_client.specs.Asking.{AreCues, ArePlayed, Asks, Begins, Exchanges, IsPlayed, LoadsStop, Receives, asking_lines, load_line, opening_lines, session_lines, topologies}
 use Rattle.plant_client.specs.declared.question.Question.{Question}
 use Rattle.plant_client.specs.Questions.{opening_text, question_text}
@@ -142,18 +142,18 @@ load_next files later xs i x old mid new inside is same p q =
 
 -- ---- one line
 
-pub is_played : (files : Option Files) (e : LineEvent) (answer : Answered) (old new : Stage) (before after : List ℕ) → PlaysCue files 0 e answer old new before after → IsPlayed files e old answer new
-is_played files e answer old new before after p = record {
-  cue = record { number = 0; event = e; file = p.file };
-  is_cue = record { number = refl; event = refl; has = p.has };
-  turns = p.turns;
-  told = p.told;
-  plays = p.plays;
+pub is_played : (files : Option Files) (e : LineEvent) (answer : Answered) (old new : Stage) → PlaysUnseen files e answer old new → IsPlayed files e old answer new
+is_played files e answer old new p = record {
+  cue = record { number = 0; event = e; file = p.1.file };
+  is_cue = record { number = refl; event = refl; has = p.1.has };
+  turns = p.1.turns;
+  told = p.1.told;
+  plays = p.1.plays;
 }
 
-pub if_played : (files : Option Files) (e : LineEvent) (old new : Stage) (before after : List ℕ) (r : Result Answered Stop) → IfOk r (λ answer. PlaysCue files 0 e answer old new before after) → IfOk r (λ answer. IsPlayed files e old answer new)
-if_played files e old new before after (Ok answer) p = is_played files e answer old new before after p
-if_played files e old new before after (Err why) p = p
+pub if_played : (files : Option Files) (e : LineEvent) (old new : Stage) (r : Result Answered Stop) → IfOk r (λ answer. PlaysUnseen files e answer old new) → IfOk r (λ answer. IsPlayed files e old answer new)
+if_played files e old new (Ok answer) p = is_played files e answer old new p
+if_played files e old new (Err why) p = p
 
 pub one_played : (files : Option Files) (e : LineEvent) (answer : Answered) (old new : Stage) → IsPlayed files e old answer new → ArePlayed files (e ∷ []) old new
 one_played files e answer old new p = record {

@@ -4,6 +4,8 @@ pub mod Due
 pub mod Playing
 pub mod Scripts
 -- inner
+pub mod Logs
+pub mod LogFields
 pub mod Making
 pub mod PlayerFields
 -- handed on from below

@@ -158,6 +158,10 @@ pub record Played (c : Cue) (old : Stage) (answer : Answered) (new : Stage) (bef
   pub tells : after ≡ before ++ told
   pub goes : AreGiven turns → (older : List Entry) → Run wire old.network older old.state → Run wire old.network (entries_of turns older) new.state
 
+-- The same where nobody reads what is told.
+abbrev pub PlayedUnseen : Cue → Stage → Answered → Stage → Type 0
+PlayedUnseen c old answer new = (told : List ℕ) × Played c old answer new [] told
+
 abbrev pub cue : ℕ → LineEvent → List ℕ → Cue
 cue number e file = record { number = number; event = e; file = file }
 

@@ -5,6 +5,7 @@ mod events;
 mod feeding;
 mod going;
 mod lines;
+mod log;
 mod player;
 mod showing;
 

@@ -1,11 +1,12 @@
 //! Who plays the lines of a script.
 ghost use Rattle.std.specs.Prelude.{◌≡◌, ◌≤◌, ◌++◌, ℕ, List, length, IfErr, IfOk, OnErr, OnOk};
 ghost use Rattle.te_deltas.specs.ChangeText.{change_file_most};
-ghost use Rattle.plant_play.specs.Playing.{IsNewStage, IsWhyNot, Played, cue, stage_of};
+ghost use Rattle.plant_play.specs.Playing.{IsNewStage, IsWhyNot, Played, PlayedUnseen, cue, stage_of};
 
 use crate::PlayError;
 use crate::events::Answer;
 use crate::lines::{modes_after, play_line};
+use crate::log::Log;
 use crate::showing::Modes;
 use dom_base::NoMemory;
 use pce_plant::Plant;
@@ -97,7 +98,7 @@ impl Player {
         ensures untold { OnErr result (into.new.items ≡ into.old.items) }
     {
         let after = modes_after(&event, self.modes);
-        let mut text = Vec::new(self.alloc);
+        let mut log = Log::kept(self.alloc);
         let answer = play_line(
             self.alloc,
             &mut self.plant,
@@ -105,10 +106,36 @@ impl Player {
             line,
             event,
             file,
-            &mut text,
+            &mut log,
         )?;
         self.modes = after;
-        append(into, &text)?;
+        append(into, log.text())?;
+        Ok(answer)
+    }
+
+    /// Plays a line as `play` does, where nobody reads what is told of it.
+    pub fn play_unseen(
+        &mut self,
+        line: u32,
+        event: LineEvent,
+        file: &[u8],
+    ) -> Result<Answer, PlayError>
+        requires { length file.now ≤ change_file_most }
+        ensures plays { IfOk result (λ answer. PlayedUnseen (cue line event file.now) (stage_of self.old) answer (stage_of self.new)) }
+        ensures refused { IfErr result (IsWhyNot event file.now (stage_of self.old) (stage_of self.new)) }
+    {
+        let after = modes_after(&event, self.modes);
+        let mut log = Log::dropped(self.alloc);
+        let answer = play_line(
+            self.alloc,
+            &mut self.plant,
+            self.modes,
+            line,
+            event,
+            file,
+            &mut log,
+        )?;
+        self.modes = after;
         Ok(answer)
     }
 }

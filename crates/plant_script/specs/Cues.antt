@@ -36,6 +36,10 @@ pub record PlaysCue (files : Option Files) (number : ℕ) (e : LineEvent) (answe
   pub plays : PlaysLine old (cue number e file) answer turns told new
   pub tells : after ≡ before ++ told
 
+-- The same where nobody reads what is told; the line has no number of its own.
+abbrev pub PlaysUnseen : Option Files → LineEvent → Answered → Stage → Stage → Type 0
+PlaysUnseen files e answer old new = (told : List ℕ) × PlaysCue files 0 e answer old new [] told
+
 -- a file that is named was not read
 abbrev pub IsNoFile : Option Files → List ℕ → ℕ × ℕ → List ℕ → Stop → Type 0
 IsNoFile files name counts failed_at stop.ReadFault = Rose counts.0 counts.1 × (failed_at ≡ name)

@@ -2,7 +2,7 @@
 ghost use Rattle.std.specs.Prelude.{◌≡◌, ◌≤◌, ◌++◌, length, IfErr, IfOk, MatchOption, None, OnErr, Some};
 ghost use Rattle.plant_play.specs.Playing.{stage_of};
 ghost use Rattle.transcript.specs.Stops.{IsTooLarge};
-ghost use Rattle.plant_script.specs.Cues.{HasText, IsBadAt, IsCueStop, IsFileStop, IsNoFile, PlaysCue, file_name};
+ghost use Rattle.plant_script.specs.Cues.{HasText, IsBadAt, IsCueStop, IsFileStop, IsNoFile, PlaysCue, PlaysUnseen, file_name};
 
 use dom_base::{Bytes, NoMemory, Text};
 use dom_edge::{Store, StoreError};
@@ -133,5 +133,58 @@ pub fn play_cue<S: Store>(
     match name_of(alloc, &event)? {
         Some(name) => play_with(alloc, store, player, number, event, name.as_str(), into),
         None => play_alone(player, number, event, into),
+    }
+}
+
+// A line that names a file, where nobody reads what is told of it.
+fn play_unseen_with<S: Store>(
+    alloc: Global,
+    store: &mut S,
+    player: &mut Player,
+    event: LineEvent,
+    name: &str,
+) -> Result<Answer, Stop>
+    requires named { file_name event ≡ Some name.now }
+    ensures plays { IfOk result (λ answer. PlaysUnseen (S.files store.old) event answer (stage_of player.old) (stage_of player.new)) }
+    ensures refused { IfErr result (IsFileStop (S.files store.old) name.now event (stage_of player.old) (stage_of player.new) (S.faults store.old, S.faults store.new) (S.failed_at store.new)) }
+    ensures files { S.files store.new ≡ S.files store.old }
+    ensures later { S.faults store.old ≤ S.faults store.new }
+{
+    let file = read_file(alloc, store, name)?;
+    match player.play_unseen(0, event, file.as_slice()) {
+        Ok(answer) => Ok(answer),
+        Err(PlayError::BadFile(line, fault)) => Err(bad_network(alloc, name, line, fault)),
+        Err(PlayError::NoMemory) => Err(Stop::NoMemory),
+    }
+}
+
+// A line that names no file, where nobody reads what is told of it.
+fn play_unseen_alone(player: &mut Player, event: LineEvent) -> Result<Answer, Stop>
+    requires named { file_name event ≡ None }
+    ensures plays { IfOk result (λ answer. PlaysUnseen None event answer (stage_of player.old) (stage_of player.new)) }
+    ensures refused { IfErr result (λ why. why ≡ Stop.NoMemory) }
+{
+    match player.play_unseen(0, event, &[]) {
+        Ok(answer) => Ok(answer),
+        Err(PlayError::BadFile(_, _)) => unreachable!(),
+        Err(PlayError::NoMemory) => Err(Stop::NoMemory),
+    }
+}
+
+/// Plays a line as `play_cue` does, with number 0, where nobody reads what is told of it.
+pub fn play_unseen<S: Store>(
+    alloc: Global,
+    store: &mut S,
+    player: &mut Player,
+    event: LineEvent,
+) -> Result<Answer, Stop>
+    ensures plays { IfOk result (λ answer. PlaysUnseen (S.files store.old) event answer (stage_of player.old) (stage_of player.new)) }
+    ensures refused { IfErr result (IsCueStop (S.files store.old) (file_name event) event (stage_of player.old) (stage_of player.new) (S.faults store.old, S.faults store.new) (S.failed_at store.new)) }
+    ensures files { S.files store.new ≡ S.files store.old }
+    ensures later { S.faults store.old ≤ S.faults store.new }
+{
+    match name_of(alloc, &event)? {
+        Some(name) => play_unseen_with(alloc, store, player, event, name.as_str()),
+        None => play_unseen_alone(player, event),
     }
 }

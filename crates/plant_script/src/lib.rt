@@ -4,7 +4,7 @@
 mod cue;
 mod script;
 
-pub use cue::{FILE_MAX, play_cue};
+pub use cue::{FILE_MAX, play_cue, play_unseen};
 pub use plant_play::{Answer, Outcome, Player};
 pub use script::{SCRIPT_MAX, play_script};
 pub use transcript::Stop;

@@ -14,5 +14,5 @@ returns-clause-plays c =
     let after = c.modes_after-after.result in
     let answer = c.in_ok-answer.answer in
     subst (λ (x : Scene). Played (cue c.args.line c.args.event c.args.file.now) (stage_of x) answer (stage after new) b0 b1) c.self.view_is
-    (played c.args.line c.args.event c.args.file.now c.self.inside.modes after old answer new c.new-text.result.items c.play_line.new.into.items c.deref.result.now
-    b0 b1 c.new-text.ensures.items c.modes_after-after.ensures c.in_ok-answer.ensures.plays c.deref.ensures.value c.in_ok-append.ensures.ok)
+    (played c.args.line c.args.event c.args.file.now c.self.inside.modes after old answer new c.kept-log.result c.play_line.new.into c.text.result.now
+    b0 b1 c.kept-log.ensures c.modes_after-after.ensures c.in_ok-answer.ensures.plays c.text.ensures c.in_ok-append.ensures.ok)
