@@ -153,7 +153,7 @@ fn play_unseen_with<S: Store>(
     let file = read_file(alloc, store, name)?;
     match player.play_unseen(0, event, file.as_slice()) {
         Ok(answer) => Ok(answer),
-        Err(PlayError::BadFile(line, fault)) => Err(bad_network(alloc, name, line, fault)),
+        Err(PlayError::BadFile(at, fault)) => Err(bad_network(alloc, name, at, fault)),
         Err(PlayError::NoMemory) => Err(Stop::NoMemory),
     }
 }
