@@ -57,13 +57,12 @@ fn rises(addrs: &[Addr]) -> bool
     true
 }
 
-// Whether no address is there twice.
-fn all_differ(alloc: Global, addrs: &[Addr]) -> Result<bool, AllocError>
-    ensures { IfOk result (λ differ. Decides differ (AllPairs (λ a b. a ≢ b) addrs.now)) }
+// Whether no address is there twice. They are brought into order where they stand, for they are let go then.
+fn all_differ(mut addrs: Vec<Addr>) -> bool
+    ensures { Decides result (AllPairs (λ a b. a ≢ b) addrs.items) }
 {
-    let mut sorted = Vec::from_slice(alloc, addrs)?;
-    sorted.sort_unstable();
-    Ok(rises(&sorted))
+    addrs.sort_unstable();
+    rises(&addrs)
 }
 
 // For each address how often it stands among those before it: never, in a topology, and a sort
@@ -71,7 +70,7 @@ fn all_differ(alloc: Global, addrs: &[Addr]) -> Result<bool, AllocError>
 fn repeats_of(alloc: Global, addrs: &[Addr]) -> Result<Vec<usize>, AllocError>
     ensures { IfOk result (λ counts. TellsRepeats addrs.now counts.items) }
 {
-    if all_differ(alloc, addrs)? {
+    if all_differ(Vec::from_slice(alloc, addrs)?) {
         return Ok(vec![in alloc; 0; addrs.len()]?);
     }
     counts_before(alloc, addrs)
@@ -112,6 +111,33 @@ fn fars_of(alloc: Global, parts: &Parts) -> Result<Vec<Addr>, AllocError>
     inner.chain(outer).collect(alloc)
 }
 
+// For each inner link, then for each out link, how often its near address stands among those before it. In the order of
+// the rows they are taken once more only where one stands twice.
+fn near_repeats(alloc: Global, parts: &Parts) -> Result<Vec<usize>, AllocError>
+    ensures { IfOk result (λ counts. TellsRepeats (map (λ l. l.near) parts.now.links ++ map (λ o. o.link.near) parts.now.outs) counts.items) }
+{
+    let nears = nears_of(alloc, parts)?;
+    let count = nears.len();
+    if all_differ(nears) {
+        return Ok(vec![in alloc; 0; count]?);
+    }
+    let again = nears_of(alloc, parts)?;
+    repeats_of(alloc, &again)
+}
+
+// The same of the far addresses.
+fn far_repeats(alloc: Global, parts: &Parts) -> Result<Vec<usize>, AllocError>
+    ensures { IfOk result (λ counts. TellsRepeats (map (λ l. l.far) parts.now.links ++ map (λ o. o.link.far) parts.now.outs) counts.items) }
+{
+    let fars = fars_of(alloc, parts)?;
+    let count = fars.len();
+    if all_differ(fars) {
+        return Ok(vec![in alloc; 0; count]?);
+    }
+    let again = fars_of(alloc, parts)?;
+    repeats_of(alloc, &again)
+}
+
 // The nodes that out links leave at.
 fn tails_of(alloc: Global, parts: &Parts) -> Result<Vec<Addr>, AllocError>
     ensures { IfOk result (λ v. v.items ≡ map (λ o. o.link.from) parts.now.outs) }
@@ -144,16 +170,14 @@ impl Survey {
         let mut nodes = Vec::from_slice(alloc, parts.nodes.as_slice())?;
         let same_node = repeats_of(alloc, &nodes)?;
         nodes.sort()?;
-        let nears = nears_of(alloc, parts)?;
-        let fars = fars_of(alloc, parts)?;
         let domains = domains_of(alloc, parts)?;
         let tails = tails_of(alloc, parts)?;
         let entry_nodes = entry_nodes_of(alloc, parts)?;
         Ok(Survey {
             nodes,
             same_node,
-            same_near: repeats_of(alloc, &nears)?,
-            same_far: repeats_of(alloc, &fars)?,
+            same_near: near_repeats(alloc, parts)?,
+            same_far: far_repeats(alloc, parts)?,
             same_entry: counts_before(alloc, parts.entries.as_slice())?,
             same_domain: counts_before(alloc, &domains)?,
             tails_end: few_up_to(alloc, &tails, TAILS_MAX)?,

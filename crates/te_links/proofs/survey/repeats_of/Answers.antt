@@ -14,4 +14,4 @@ pub returns-then-branch : goal.returns-then-branch
 returns-then-branch c =
     let counts = c.in_ok-vec.field-0.items in
     let zeros : counts ≡ replicate (length c.args.addrs.now) 0 = search rules in
-    none_repeat c.args.addrs.now counts zeros (c.in_ok-all_differ.ensures.0 c.if-branch.true)
+    none_repeat c.args.addrs.now counts zeros (rw c.in_ok-from_slice.ensures.items at c.if-all_differ.ensures.0 c.if-all_differ.true)
