@@ -226,7 +226,7 @@ module _ (n : NetworkParts) where
       go (Some k) = item k.inbox
 
   feed_refused : (j : ℕ) (bytes : Bytes) (s : Plant) → is_accepted (events.feed Pin Segment wire n open_of j bytes s).answer ≡ false → AreTaken s → AreTaken (events.feed Pin Segment wire n open_of j bytes s).state
-  feed_refused j bytes s no taken = go (s.accesses j).connection no
+  feed_refused j bytes s fails taken = go (s.accesses j).connection fails
     where
       go : (o : Option Connection) → is_accepted (events.feed_open Pin Segment wire n open_of j bytes s o).answer ≡ false → AreTaken (events.feed_open Pin Segment wire n open_of j bytes s o).state
       go None e = taken
@@ -268,7 +268,7 @@ module _ (n : NetworkParts) where
   leaves_feed j bytes s h is taken = subst (λ (x : Happened). AreTakenBut j x.state) (sym is) (feed_leaves j bytes s taken)
 
   pub keeps_refused_feed : (j : ℕ) (bytes : Bytes) (s : Plant) (h : Happened) → Happens wire n s (event.Feed j bytes) h → is_accepted h.answer ≡ false → AreTaken s → AreTaken h.state
-  keeps_refused_feed j bytes s h is no taken = subst Kept (sym is) (feed_refused j bytes s (ap (λ (x : Happened). is_accepted x.answer) (sym is) ∙ no) taken)
+  keeps_refused_feed j bytes s h is fails taken = subst Kept (sym is) (feed_refused j bytes s (ap (λ (x : Happened). is_accepted x.answer) (sym is) ∙ fails) taken)
 
   pub leaves_take : (j : ℕ) (s : Plant) (h : Happened) → Happens wire n s (event.Take j) h → AreTakenBut j s → AreTakenBut j h.state
   leaves_take j s h is taken = subst (λ (x : Happened). AreTakenBut j x.state) (sym is) (take_leaves j s taken)
