@@ -85,7 +85,7 @@ module _ (c : Codec) (d : As) (p : Peer) where
       go : (opened c d p x older ≡ Some at → opened c d p x at ≡ Some at) → (f : Effect) (o : Option Transcript) → opened c d p x older ≡ o → after f o (e ∷ older) ≡ Some at → opened c d p x at ≡ Some at
       go more Keeps o before held = more (before ∙ held)
       go more Ends o before held = cc
-      go more Begins None before held = subst (λ (z : Transcript). opened c d p x z ≡ Some at) (sym (some_is (e ∷ older) at held)) is
+      go more Begins None before held = subst (λ (z : Transcript). opened c d p x z ≡ Some at) (some_is (e ∷ older) at held) is
       go more Begins (Some m) before held = more (before ∙ held)
 
 pub taken_is_open : TakenIsOpen
