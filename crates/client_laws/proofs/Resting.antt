@@ -5,6 +5,7 @@ use Rattle.std.specs.Map.{lookup}
 use Rattle.std.proofs.lemmas.Bool.{cases_Bool, eqb-true}
 use Rattle.std.proofs.lemmas.List.Elements.{All-head, All-tail}
 use Rattle.dom_base.specs.declared.names.As.{As}
+use Rattle.dom_edge.specs.Stores.{Files}
 use Rattle.request_table.specs.declared.held.Held.{Held}
 use Rattle.plant_text.specs.declared.line.LineEvent.{LineEvent}
 use Rattle.plant_text.specs.declared.line.LineEvent.TheVariants as line
@@ -37,11 +38,14 @@ use Rattle.script_laws.specs.plant_play.Playing.{Changes, Cue, IsNewStage, Plays
 use Rattle.script_laws.specs.plant_play.Scripts.{AllPlayed}
 use Rattle.script_laws.specs.plant_play.Turns.{Turn}
 use Rattle.script_laws.proofs.plant_laws.Queues.{same_as_is}
+use Rattle.plant_bulk.specs.plant_client.declared.question.Question.{Question}
+use Rattle.plant_bulk.specs.plant_client.Asking.{AreCues, load_line, question_lines, topologies}
+use Rattle.plant_bulk.specs.plant_client.Questions.{opening_text, question_text}
 use Rattle.peer_laws.proofs.OutletRuns.{run_fits}
 use Rattle.client_laws.proofs.Asking.{no_connection}
 use Rattle.client_laws.proofs.Taking as taking
 use Rattle.client_laws.proofs.Taking.{AreTakenBut, Keeps}
-use Rattle.client_laws.specs.Resting.{AreTaken, FinishedIsAtRest, IsAtRest, LinesTakeAll}
+use Rattle.client_laws.specs.Resting.{AreTaken, AskedIsAtRest, FinishedIsAtRest, IsAtRest, LinesTakeAll}
 
 -- ---- all is taken, line by line
 
@@ -278,3 +282,40 @@ pub finished_is_at_rest : FinishedIsAtRest
 finished_is_at_rest n new mid end cues turns last told more c answer is played finish p =
     subst (λ (m : NetworkParts). IsAtRest m end.state) (lines_network cues new turns told mid played ∙ is.network)
     (finish_rests mid c answer last more end finish p (lines_take_all n new mid cues turns told is played))
+
+-- ---- a client that asks once
+
+module _ (files : Option Files) where
+  abbrev Rests : List LineEvent → Type 0
+  Rests es =
+      (cs : List Cue) → AreCues files es cs → (old new : Stage) (turns : List Turn) (told : List ℕ) → AllPlayed old cs turns told new → AreTaken old.state → IsAtRest old.network new.state
+
+  last_line : Rests (line.Finish ∷ [])
+  last_line [] are old new turns told p taken = absurd are
+  last_line (c ∷ []) are old new turns told p taken =
+      subst (λ (x : Stage). IsAtRest old.network x.state) (sym p.others.2) (finish_rests old c p.answer p.first p.said p.mid are.0.event p.plays taken)
+  last_line (c ∷ c' ∷ cs) are old new turns told p taken = absurd are.1
+
+  one_line : (e : LineEvent) (es : List LineEvent) → Rests es → Rests (e ∷ es)
+  one_line e es rests [] are old new turns told p taken = absurd are
+  one_line e es rests (c ∷ cs) are old new turns told p taken =
+      subst (λ (m : NetworkParts). IsAtRest m new.state) p.plays.network
+      (rests cs are.1 p.mid new p.later p.more p.others (line_keeps old c p.answer p.first p.said p.mid p.plays taken))
+
+  loads_first : (ts : List (As × List ℕ)) (es : List LineEvent) → Rests es → Rests (map load_line ts ++ es)
+  loads_first [] es rests = rests
+  loads_first (t ∷ ts) es rests = one_line (load_line t) (map load_line ts ++ es) (loads_first ts es rests)
+
+  question_rests : (client : ℕ) (q : Question) → Rests (question_lines client q)
+  question_rests client q =
+      let asks = line.Feed (Some client) (question_text q) ∷ line.Finish ∷ [] in
+      let opens = line.Feed (Some client) opening_text ∷ asks in
+      one_line line.Settle (line.Open (Some client) 0 ∷ opens)
+      (one_line (line.Open (Some client) 0) opens
+      (one_line (line.Feed (Some client) opening_text) asks (one_line (line.Feed (Some client) (question_text q)) (line.Finish ∷ []) last_line)))
+
+pub asked_is_at_rest : AskedIsAtRest
+asked_is_at_rest files n client q received a =
+    subst (λ (m : NetworkParts). IsAtRest m a.asked.state) a.new.network
+    (loads_first files (topologies n.elements) (question_lines client q) (question_rests files client q) a.lines.cues a.lines.are_cues a.start a.asked a.lines.turns a.lines.told a.lines.played
+    (new_is_taken n a.start a.new))

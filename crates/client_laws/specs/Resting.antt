@@ -1,6 +1,7 @@
 -- A network at rest, and that the line `finish` of a script leaves it so.
-use Rattle.std.specs.Prelude.{◌≡◌, ℕ, true, false, List, []}
+use Rattle.std.specs.Prelude.{◌≡◌, ℕ, true, false, List, [], Option}
 use Rattle.dom_base.specs.declared.names.As.{As}
+use Rattle.dom_edge.specs.Stores.{Files}
 use Rattle.plant_text.specs.declared.line.LineEvent.TheVariants as line
 use Rattle.plant_text.specs.declared.settings.NetworkParts.{NetworkParts}
 use Rattle.plant_text.specs.Settings.{is_linked}
@@ -10,6 +11,8 @@ use Rattle.script_laws.specs.plant_laws.Chains.{HasEmptyInbox}
 use Rattle.script_laws.specs.plant_play.Playing.{Cue, IsNewStage, PlaysLine, Stage}
 use Rattle.script_laws.specs.plant_play.Scripts.{AllPlayed}
 use Rattle.script_laws.specs.plant_play.Turns.{Turn}
+use Rattle.plant_bulk.specs.plant_client.declared.question.Question.{Question}
+use Rattle.plant_bulk.specs.plant_client.Asking.{Asks}
 
 -- all that was fed was taken
 abbrev pub AreTaken : Plant → Type 0
@@ -30,3 +33,7 @@ abbrev pub FinishedIsAtRest : Type 0
 FinishedIsAtRest =
     (n : NetworkParts) (new mid end : Stage) (cues : List Cue) (turns last : List Turn) (told more : List ℕ) (c : Cue) (answer : Answered) → IsNewStage n new → AllPlayed new cues turns told mid
     → c.event ≡ line.Finish → PlaysLine mid c answer last more end → IsAtRest n end.state
+
+-- So it is at the end of the lines of a client that asks once, before what waits for it is handed out.
+abbrev pub AskedIsAtRest : Type 0
+AskedIsAtRest = (files : Option Files) (n : NetworkParts) (client : ℕ) (question : Question) (received : List ℕ) → (a : Asks files n client question received) → IsAtRest n a.asked.state
