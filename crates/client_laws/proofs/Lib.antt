@@ -8,5 +8,8 @@ pub mod Written
 pub mod Clients
 mod Growing
 pub mod Exchanging
+mod Taking
+pub mod Resting
+pub mod Serving
 -- handed on from below
 pub use Rattle.script_laws.proofs as script_laws

@@ -2,5 +2,7 @@
 pub mod Told
 pub mod Asked
 pub mod Received
+pub mod Resting
+pub mod Served
 -- handed on from below
 pub use Rattle.script_laws.specs as script_laws

@@ -4,6 +4,8 @@
 
 ghost use Rattle.client_laws.specs.Asked.{OneIsAsked};
 ghost use Rattle.client_laws.specs.Received.{ManyAreReceived};
+ghost use Rattle.client_laws.specs.Resting.{AskedIsAtRest, FinishedIsAtRest, LinesTakeAll};
+ghost use Rattle.client_laws.specs.Served.{TakenIsOpen, TakenIsServed};
 ghost use Rattle.client_laws.specs.Told.{ClientsAreTold};
 
 /// Where a client asks once, its connection is open at the end, it receives all that was put there for it, and what it is told is what
@@ -24,4 +26,19 @@ pub fn one_is_asked()
 /// the laws of a network speak of.
 pub fn many_are_received()
     ensures { ManyAreReceived }
+{}
+
+/// Between the lines of a script all that was fed was taken; and where a script ends with `finish`, the network is at rest: no message
+/// is on its way along a link, and no job can be solved. So it is where a client has asked once.
+pub fn finished_is_at_rest()
+    ensures taken { LinesTakeAll }
+    ensures rest { FinishedIsAtRest }
+    ensures asked { AskedIsAtRest }
+{}
+
+/// Each request for a path that is taken and admitted is answered by the deed that took it, or is open from then on; and in a quiet
+/// state it was answered so, or had its one answer by what ended it, or was dropped, as its peer cancelled it or went down.
+pub fn taken_is_served()
+    ensures opens { TakenIsOpen }
+    ensures served { TakenIsServed }
 {}

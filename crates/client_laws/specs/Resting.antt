@@ -1,0 +1,39 @@
+-- A network at rest, and that the line `finish` of a script leaves it so.
+use Rattle.std.specs.Prelude.{◌≡◌, ℕ, true, false, List, [], Option}
+use Rattle.dom_base.specs.declared.names.As.{As}
+use Rattle.dom_edge.specs.Stores.{Files}
+use Rattle.plant_text.specs.declared.line.LineEvent.TheVariants as line
+use Rattle.plant_text.specs.declared.settings.NetworkParts.{NetworkParts}
+use Rattle.plant_text.specs.Settings.{is_linked}
+use Rattle.script_laws.specs.plant_model.Events.{Answered, has_jobs, is_ready}
+use Rattle.script_laws.specs.plant_model.Plant.{Plant}
+use Rattle.script_laws.specs.plant_laws.Chains.{HasEmptyInbox}
+use Rattle.script_laws.specs.plant_play.Playing.{Cue, IsNewStage, PlaysLine, Stage}
+use Rattle.script_laws.specs.plant_play.Scripts.{AllPlayed}
+use Rattle.script_laws.specs.plant_play.Turns.{Turn}
+use Rattle.plant_bulk.specs.plant_client.declared.question.Question.{Question}
+use Rattle.plant_bulk.specs.plant_client.Asking.{Asks}
+
+-- all that was fed was taken
+abbrev pub AreTaken : Plant → Type 0
+AreTaken s = (i : ℕ) → HasEmptyInbox (s.accesses i).connection
+
+-- And no message is on its way along a link, and no job of an element or the parent can be solved.
+pub record IsAtRest (n : NetworkParts) (s : Plant) : Type 0 where
+  pub taken : AreTaken s
+  pub carried : (a b : As) → is_linked n a b ≡ true → s.queues a b ≡ []
+  pub solved : (d : As) (k : ℕ) → has_jobs n d ≡ true → is_ready d k s ≡ false
+
+-- Between the lines of a script all that was fed was taken.
+abbrev pub LinesTakeAll : Type 0
+LinesTakeAll = (n : NetworkParts) (new end : Stage) (cues : List Cue) (turns : List Turn) (told : List ℕ) → IsNewStage n new → AllPlayed new cues turns told end → AreTaken end.state
+
+-- Where its last line is `finish`, the network is at rest.
+abbrev pub FinishedIsAtRest : Type 0
+FinishedIsAtRest =
+    (n : NetworkParts) (new mid end : Stage) (cues : List Cue) (turns last : List Turn) (told more : List ℕ) (c : Cue) (answer : Answered) → IsNewStage n new → AllPlayed new cues turns told mid
+    → c.event ≡ line.Finish → PlaysLine mid c answer last more end → IsAtRest n end.state
+
+-- So it is at the end of the lines of a client that asks once, before what waits for it is handed out.
+abbrev pub AskedIsAtRest : Type 0
+AskedIsAtRest = (files : Option Files) (n : NetworkParts) (client : ℕ) (question : Question) (received : List ℕ) → (a : Asks files n client question received) → IsAtRest n a.asked.state
