@@ -27,6 +27,7 @@ use Rattle.blind_plant.specs.plant_model.Taking.{take}
 use Rattle.blind_plant.specs.plant_model.Parent as parent
 use Rattle.blind_plant.specs.plant_model.State.{State, Connection, Access, Deed, Hands, Takes, Ups, Downs, Pops}
 use Rattle.blind_plant.specs.plant_model.Deeds.{Going, any_fall, begin_end, begin_line, break_line, clear, element_of, expire, fall, give, inner_act, inner_acts, inner_input, input_of, is_due, is_out_empty, is_tick, our_offer, outside_act, outside_acts, outside_input, outside_step, puts, rise, say, tick_lines, tick_outside, with_access, with_element, with_inbox, with_inner, with_parent, with_session}
+use Rattle.blind_plant.specs.plant_model.Outside.{heeded}
 use Rattle.blind_plant.specs.plant_model.Events as events
 use Rattle.blind_plant.specs.plant_model.Events.{Happened}
 
@@ -86,7 +87,9 @@ module _ (P : Type 0) (S : Type 0) (c : Codec) (n : NetworkParts) (show : S → 
   outside_acts_mute i ticks (action.Down why ∷ as') g mute =
       let h : Going P S = record { state = with_access P S c n show i (with_inbox []) g.state; deeds = g.deeds } in
       outside_acts_mute i ticks as' (fall P S c n show (element_of n i) (Outside i) h) (fall_mute (element_of n i) (Outside i) h mute)
-  outside_acts_mute i ticks (action.Pass m ∷ as') g mute = outside_acts_mute i ticks as' (give P S c n show (element_of n i) (Outside i) m g) (give_mute (element_of n i) (Outside i) m g mute)
+  outside_acts_mute i ticks (action.Pass m ∷ as') g mute =
+      let heard = heeded c (Outside i) (g.state.elements (element_of n i)).pending.rows m in
+      outside_acts_mute i ticks as' (give P S c n show (element_of n i) (Outside i) heard g) (give_mute (element_of n i) (Outside i) heard g mute)
 
   outside_step_mute : (i : ℕ) (x : Input) (g : Going P S) (o : Option Connection) → Mute g → Mute (outside_step P S c n show i x g o)
   outside_step_mute i x g None mute = mute

@@ -31,7 +31,7 @@ use Rattle.peer_laws.proofs.OutletRuns.{run_fits}
 use Rattle.peer_laws.proofs.Streams.{stream_of}
 use Rattle.peer_laws.specs.Inlets.{WasFed, streams}
 use Rattle.peer_laws.specs.Received.{framed}
-use Rattle.peer_laws.proofs.InletRuns.{taken_was_fed}
+use Rattle.peer_laws.proofs.InletRuns.{asks_were_fed}
 use Rattle.client_laws.proofs.Asking.{lines_feed}
 use Rattle.client_laws.specs.Asked.{OneIsAsked}
 use Rattle.client_laws.proofs.Feeding.{loading}
@@ -104,14 +104,14 @@ within_contains e older (d ∷ now) (inl same) = let is : e ≡ d = cc in subst 
 within_contains e older (d ∷ now) (inr h) = contains_tail d now e (within_contains e older now h)
 
 admits : (q : Question) → IsWritten (question_message q) → (n : NetworkParts) (client : ℕ) (es : List Entry) → streams client es ≡ (opening_text ++ question_text q) ∷ [] →
-    ((d : As) (m : Message) (os : List Output) → Contains (deeds_of wire n es) (Takes d (Outside client) m os) → WasFed client es m) →
+    ((d : As) (asks : List Asked) (os : List Output) → Contains (deeds_of wire n es) (Takes d (Outside client) (messages.PcReq asks) os) → WasFed client es (messages.PcReq asks)) →
     (d : As) (at : Transcript) (r : Request) → Within at (deeds_of wire n es) → Delivered wire at d (Outside client) r → check_of (asked_of q) d ≡ Admitted r
 admits q fits n client es stream fed d [] r within delivered = absurd delivered
 admits q fits n client es stream fed d (e ∷ older) r within delivered =
     let a = delivered.0 in
     let there : Contains (deeds_of wire n es) (Takes d (Outside client) (messages.PcReq (a ∷ [])) delivered.1) =
     subst (λ (x : PlantDeed). Contains (deeds_of wire n es) x) delivered.2 (within_contains e older (deeds_of wire n es) within) in
-    let was = fed d (messages.PcReq (a ∷ [])) delivered.1 there in
+    let was = fed d (a ∷ []) delivered.1 there in
     let whole : opening_text ++ question_text q ≡ was.stream = only (opening_text ++ question_text q) was.stream (subst (λ (xs : List Bytes). Contains xs was.stream) stream was.fed) in
     let among : Contains (message_text open_message ∷ message_text messages.Keepalive ∷ question_text q ∷ []) was.is_part.frame =
     subst (λ (xs : List Bytes). Contains xs was.is_part.frame) (frames_are q fits) (subst (λ (x : Bytes). Contains (framed x).frames was.is_part.frame) (sym whole) was.is_part.among) in
@@ -126,4 +126,4 @@ one_is_asked files n client question received net is fits a =
     let stream =
     loading client n is.known files (topologies n.elements) question a.lines.cues a.lines.are_cues a.start a.asked a.lines.turns a.lines.told [] a.lines.played a.new.network
     ((refl, run_fits wire n [] a.start.state a.new.run client), refl) in
-    admits question fits n client es stream (λ d m os h. taken_was_fed n es a.asked.state run d client m os h)
+    admits question fits n client es stream (λ d asks os h. asks_were_fed n es a.asked.state run d client asks os h)

@@ -1,13 +1,15 @@
 //! The peers to which requests are sent: whether the session with each is up, and the last id sent to it.
-ghost use Rattle.std.specs.Prelude.{◌≡◌, ◌<◌, map, length, slice_set, IfOk, MatchOption};
+ghost use Rattle.std.specs.Prelude.{◌≡◌, ◌<◌, ◌++◌, false, map, length, slice_set, IfOk, MatchOption};
 ghost use Rattle.std.specs.List.{slice_index_or};
 ghost use Rattle.std.specs.Option.{option_copied};
 ghost use Rattle.plant_model.specs.Element.{way_to, with_last, with_up};
 ghost use Rattle.plant_model.specs.Parent.{is_up};
+ghost use Rattle.plant_model.specs.Settings.{outer_way};
 ghost use Rattle.member_parts.specs.Ways.{way_of, no_way, IsFirstTo, IsNowhere};
 
 use crate::peers::is_same_peer;
 use dom_base::{As, List, NoMemory, Peer};
+use plant_model::Route;
 use std::alloc::Global;
 use std::marker::Model;
 
@@ -30,11 +32,11 @@ impl Model for Way {
 }
 
 impl Way {
-    fn new(number: As) -> Way
-        ensures { result ≡ way_of number }
+    fn new(peer: Peer) -> Way
+        ensures { result ≡ record { peer = peer; up = false; last_id = 0 } }
     {
         Way {
-            peer: Peer::Inner(number),
+            peer,
             up: false,
             last_id: 0,
         }
@@ -96,9 +98,19 @@ impl Ways {
     {
         let mut rows = Vec::new(alloc);
         for number in links {
-            rows.push(Way::new(*number))?;
+            rows.push(Way::new(Peer::Inner(*number)))?;
         }
         Ok(Ways { rows })
+    }
+
+    /// A way to each of these numbers, and behind them one by each of these routes, none of them up.
+    pub fn with_routes(alloc: Global, links: &[As], routes: &[Route]) -> Result<Ways, NoMemory>
+        ensures { IfOk result (λ ways. ways ≡ map way_of links.now ++ map outer_way routes.now) }
+    {
+        let mut ways = Ways::new(alloc, links)?;
+        let outer = outer_rows(alloc, routes)?;
+        ways.rows.extend_from_slice(&outer)?;
+        Ok(ways)
     }
 
     /// Equal ways in memory of their own.
@@ -147,6 +159,16 @@ impl Ways {
             set_last_at(&mut self.rows, i, id);
         }
     }
+}
+
+fn outer_rows(alloc: Global, routes: &[Route]) -> Result<Vec<Way>, NoMemory>
+    ensures { IfOk result (λ rows. rows.items ≡ map outer_way routes.now) }
+{
+    let mut rows = Vec::new(alloc);
+    for route in routes {
+        rows.push(Way::new(Peer::Outside(route.peer)))?;
+    }
+    Ok(rows)
 }
 
 // The place of the way to a peer.

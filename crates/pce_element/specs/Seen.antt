@@ -1,7 +1,9 @@
 -- An element as its callers see it.
-use Rattle.std.specs.Prelude.{◌≡◌, ℕ, List, [], map}
+use Rattle.std.specs.Prelude.{◌≡◌, ℕ, List, [], ◌++◌, map}
 use Rattle.dom_base.specs.declared.names.As.{As}
+use Rattle.member_parts.specs.plant_model.declared.route.Route.{Route}
 use Rattle.member_parts.specs.plant_model.Element.{Element, Place, Losing}
+use Rattle.member_parts.specs.plant_model.Settings.{outer_way}
 use Rattle.member_parts.specs.Ways.{way_of}
 
 -- how many more requests and keys there is memory for
@@ -31,14 +33,14 @@ abbrev pub SameButRoom : {P : Type 0} {S : Type 0} → Seen P S → Seen P S →
 SameButRoom a b = b ≡ record a { room = b.room }
 
 -- an element without requests and keys, whose keys will live so long
-abbrev pub new_element : {P : Type 0} {S : Type 0} → ℕ → List As → Element P S
-new_element life links = record {
+abbrev pub new_element : {P : Type 0} {S : Type 0} → ℕ → List As → List Route → Element P S
+new_element life links routes = record {
   pending = record { limit = 1024; given = 0; rows = [] };
   keys = record { life = life; next = 1; clock = 0; issued = [] };
-  ways = map way_of links;
+  ways = map way_of links ++ map outer_way routes;
 }
 
 -- The first pin of a domain is that of a world that has just begun.
 abbrev pub IsNew : {P : Type 0} {S : Type 0} → (As → P) → Place → ℕ → List As → Seen P S → Type 0
 IsNew first place life links s =
-    s ≡ record { place = place; current = first place.own; losing = record { element = new_element life links; lost = [] }; room = s.room }
+    s ≡ record { place = place; current = first place.own; losing = record { element = new_element life links place.routes; lost = [] }; room = s.room }

@@ -147,7 +147,7 @@ impl<W: World> Element<W> {
             Some(next) => {
                 let next = *next;
                 let refused = !self.allows(asker.class, next);
-                self.send_on(asker, wanted, sequence, refused, Peer::Inner(next))
+                self.send_on(asker, wanted, sequence, refused, self.toward(next))
             }
             None => Ok(self.own_job(asker, wanted, sequence)),
         }

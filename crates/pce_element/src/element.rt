@@ -10,7 +10,7 @@ use crate::world::World;
 use disclosure::Deny;
 use dom_base::{Addr, As, List, NoMemory, Peer, Tick};
 use member_parts::Ways;
-use member_parts::model::Lost;
+use member_parts::model::{Lost, Route};
 use path_keys::PathKeys;
 use std::alloc::Global;
 use std::collections::VecDeque;
@@ -24,6 +24,7 @@ pub struct Element<W: World> {
     pub(crate) id: Addr,
     pub(crate) parent: bool,
     pub(crate) deny: List<Deny>,
+    pub(crate) routes: List<Route>,
     pub(crate) requests: PinnedRequests<W>,
     pub(crate) keys: PathKeys<W::Segment>,
     pub(crate) ways: Ways,
@@ -39,6 +40,7 @@ impl<W: World> Drop for Element<W> {
             id: _,
             parent: _,
             deny: _,
+            routes: _,
             requests: _,
             keys: _,
             ways: _,
@@ -54,14 +56,14 @@ impl<W: World> Model for Element<W> {
 
     ghost use Rattle.pce_element.specs.Fields.{seen_of, HoldsLost};
 
-    ghost view = { λ a. seen_of (record { own = a.own; id = a.id; parent = a.parent; deny = a.deny }) a.requests a.keys a.ways a.lost };
+    ghost view = { λ a. seen_of (record { own = a.own; id = a.id; parent = a.parent; deny = a.deny; routes = a.routes }) a.requests a.keys a.ways a.lost };
 
     ghost invariant = { λ a. HoldsLost a.requests a.lost };
 }
 
 impl<W: World> Element<W> {
     /// The element of a domain of which nothing is known yet, without requests and keys. Its keys live for
-    /// so many ticks. It may send requests to `links`, among them 0 where it has a parent.
+    /// so many ticks. It may send requests to `links`, among them 0 where it has a parent, and by routes.
     pub fn new(
         alloc: Global,
         own: As,
@@ -70,20 +72,23 @@ impl<W: World> Element<W> {
         parent: bool,
         links: &[As],
         deny: List<Deny>,
+        routes: List<Route>,
     ) -> Result<Element<W>, NoMemory>
         requires least { 1 ≤ key_life }
         requires most { key_life ≤ 3600 }
-        ensures { IfOk result (IsNew W.first (record { own = own; id = id; parent = parent; deny = deny }) key_life links.now) }
+        ensures { IfOk result (IsNew W.first (record { own = own; id = id; parent = parent; deny = deny; routes = routes }) key_life links.now) }
     {
+        let ways = Ways::with_routes(alloc, links, routes.as_slice())?;
         Ok(Element {
             alloc,
             own,
             id,
             parent,
             deny,
+            routes,
             requests: PinnedRequests::new(alloc, own)?,
             keys: PathKeys::new(alloc, key_life)?,
-            ways: Ways::new(alloc, links)?,
+            ways,
             lost: VecDeque::new(alloc),
         })
     }

@@ -6,6 +6,7 @@ ghost use Rattle.path_keys.specs.Keys.{live_at, live_most, segment_of};
 ghost use Rattle.disclosure.specs.Policy.{is_denied};
 ghost use Rattle.member_parts.specs.plant_model.Element.{sent_through, way_to};
 ghost use Rattle.member_parts.specs.plant_model.Names.{same_addr};
+ghost use Rattle.member_parts.specs.plant_model.Routes.{toward};
 
 use crate::element::Element;
 use crate::pinned::PinnedRequests;
@@ -13,6 +14,7 @@ use crate::world::World;
 use disclosure::{Class, allows};
 use dom_base::{Addr, As, Peer, Tick};
 use member_parts::Way;
+use member_parts::model::Route;
 
 /// Whether two addresses are one.
 pub(crate) fn is_same_addr(one: Addr, other: Addr) -> bool
@@ -29,6 +31,18 @@ fn behind_first(sequence: &[As]) -> usize
         [] => 0,
         [_own, rest @ ..] => rest.len(),
     }
+}
+
+// The peer that is asked for a domain.
+fn toward(routes: &[Route], next: As) -> Peer
+    ensures { result ≡ toward next routes.now }
+{
+    for route in routes {
+        if route.next.0 == next.0 {
+            return Peer::Outside(route.peer);
+        }
+    }
+    Peer::Inner(next)
 }
 
 impl<W: World> Element<W> {
@@ -82,6 +96,13 @@ impl<W: World> Element<W> {
         ensures current { result.now.current ≡ self.now.current }
     {
         &self.requests
+    }
+
+    /// The peer that is asked for a domain: that of a route there, else the domain's own element.
+    pub(crate) fn toward(&self, next: As) -> Peer
+        ensures { result ≡ toward next self.now.place.routes }
+    {
+        toward(self.routes.as_slice(), next)
     }
 
     /// The way to a peer.

@@ -24,11 +24,12 @@ use Rattle.plant_laws.specs.plant_model.declared.output.Output.{Output}
 use Rattle.plant_laws.specs.plant_model.Names.{is_empty}
 use Rattle.plant_laws.specs.plant_model.Settings.{family, place}
 use Rattle.plant_laws.specs.plant_model.Wire.{Bytes, Codec}
-use Rattle.plant_laws.specs.plant_model.Element.{downed, upped}
+use Rattle.plant_laws.specs.plant_model.Element.{downed, sent_through, upped}
 use Rattle.plant_laws.specs.plant_model.Taking.{take}
 use Rattle.plant_laws.specs.plant_model.Parent as parent
 use Rattle.plant_laws.specs.plant_model.State.{Access, Clears, Connection, Deed, Downs, Expires, Hands, Loads, Pops, Says, Solves, State, Takes, Ups}
 use Rattle.plant_laws.specs.plant_model.Deeds.{Going, any_fall, begin_end, begin_line, break_line, clear, element_of, expire, fall, give, inner_act, inner_acts, inner_input, is_due, is_out_empty, is_tick, on_connection, our_offer, outside_act, outside_acts, outside_input, outside_step, own_message, put, put_to, puts, rise, say, tick_lines, tick_outside, with_access, with_element, with_inbox, with_inner, with_more, with_parent, with_session}
+use Rattle.plant_laws.specs.plant_model.Outside.{heeded, heeded_in}
 use Rattle.plant_laws.specs.plant_model.Events.{is_down}
 use Rattle.plant_laws.proofs.Shape.{has_pass, shape}
 
@@ -92,7 +93,7 @@ module _ (c : Codec) (R : ℕ → Bytes → Type 0) where
   CameFrom i m = (part : Bytes) × R i part × (c.read part ≡ Some m)
 
   abbrev pub FromPeer : Peer → Message → Type 0
-  FromPeer (Outside i) m = CameFrom i m
+  FromPeer (Outside i) m = (raw : Message) × CameFrom i raw × ((sent : ℕ → Option ℕ) × (m ≡ heeded_in c sent raw))
   FromPeer (Inner a) m = Unit {0}
 
   abbrev pub deed_taken : {S : Type 0} → Deed S → Type 0
@@ -223,7 +224,8 @@ module _ (P : Type 0) (S : Type 0) (c : Codec) (n : NetworkParts) (show : S → 
           | inl none ↦ quiet_outside i (is_tick x) t.actions h none r'
           | inr pass ↦
               subst (λ (as' : List Action). Grown (outside_acts P S c n show i (is_tick x) as' h)) (sym pass.2)
-              (give_on (element_of n i) (Outside i) pass.0 h (from pass.0 pass.1) r')
+              (give_on (element_of n i) (Outside i) (heeded c (Outside i) (h.state.elements (element_of n i)).pending.rows pass.0) h
+              (pass.0, from pass.0 pass.1, ((λ (id : ℕ). sent_through (Outside i) id (h.state.elements (element_of n i)).pending.rows), refl)) r')
         ]
 
     pub outside_input_on : (i : ℕ) (x : Input) (g : Going P S) → IsFrom i x → Grown g → Grown (outside_input P S c n show i x g)

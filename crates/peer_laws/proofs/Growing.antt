@@ -27,6 +27,7 @@ use Rattle.plant_laws.specs.plant_model.Taking.{take}
 use Rattle.plant_laws.specs.plant_model.Parent as parent
 use Rattle.plant_laws.specs.plant_model.State.{Access, Connection, Deed, Downs, Clears, Expires, Says, State, Takes, Ups}
 use Rattle.plant_laws.specs.plant_model.Deeds.{Going, any_fall, begin_end, begin_line, break_line, clear, element_of, expire, fall, give, inner_act, inner_acts, inner_input, is_due, is_out_empty, is_tick, on_connection, our_offer, outside_act, outside_acts, outside_input, outside_step, own_message, put, put_to, puts, rise, say, tick_lines, tick_outside, with_access, with_element, with_inbox, with_inner, with_more, with_parent, with_session}
+use Rattle.plant_laws.specs.plant_model.Outside.{heeded}
 use Rattle.peer_laws.specs.Outlets.{messages_for, outputs_of, put_for}
 
 pub nil_right : {A : Type 0} (xs : List A) → xs ++ [] ≡ xs
@@ -177,7 +178,7 @@ module _ (P : Type 0) (S : Type 0) (c : Codec) (n : NetworkParts) (show : S → 
     outside_act_on i ticks (action.Down why) g r =
         let h : Going P S = record { state = with_access P S c n show i (with_inbox []) g.state; deeds = g.deeds } in
         fall_on (element_of n i) (Outside i) h (rests g h.state (access_keeps i (with_inbox []) g.state (λ k. refl)) r)
-    outside_act_on i ticks (action.Pass m) g r = give_on (element_of n i) (Outside i) m g r
+    outside_act_on i ticks (action.Pass m) g r = give_on (element_of n i) (Outside i) (heeded c (Outside i) (g.state.elements (element_of n i)).pending.rows m) g r
 
     outside_acts_on : (i : ℕ) (ticks : Bool) (as' : List Action) (g : Going P S) → Grown g → Grown (outside_acts P S c n show i ticks as' g)
     outside_acts_on i ticks [] g r = r

@@ -6,7 +6,9 @@ use Rattle.dom_base.specs.declared.names.Peer.TheVariants.{Outside, Inner}
 use Rattle.disclosure.specs.Shown.{open_of}
 use Rattle.border_costs.proofs.Members.{contains_cases, contains_head, contains_none, contains_tail}
 use Rattle.pcep_messages.specs.declared.message.Bad.{Bad}
+use Rattle.pcep_messages.specs.declared.message.Asked.{Asked}
 use Rattle.pcep_messages.specs.declared.message.Message.{Message}
+use Rattle.pcep_messages.specs.declared.message.Message.TheVariants as messages
 use Rattle.pcep_messages.specs.Messages.{message_of}
 use Rattle.plant_text.specs.declared.settings.NetworkParts.{NetworkParts}
 use Rattle.plant_text.specs.Settings.{Line, lines}
@@ -20,7 +22,8 @@ use Rattle.plant_laws.specs.plant_model.Plant.{Entry, Happened, Pin, Plant, Plan
 use Rattle.plant_laws.specs.plant_model.RealWire.{message_or_none, wire}
 use Rattle.plant_laws.specs.plant_model.State.{Clears, Connection, Downs, Expires, Hands, Loads, Pops, Says, Solves, Takes, Ups}
 use Rattle.plant_laws.specs.plant_model.Wire.{Bytes}
-use Rattle.peer_laws.specs.Inlets.{IsPart, TakenWasFed, fed_to, streams, streams_with}
+use Rattle.plant_laws.proofs.Heeding.{asks_read}
+use Rattle.peer_laws.specs.Inlets.{IsPart, TakenWasFed, WasFed, fed_to, streams, streams_with}
 use Rattle.peer_laws.proofs.Fading as fading
 use Rattle.peer_laws.proofs.Fading.{AllFade, AllTaken, deed_taken, fades_here}
 use Rattle.peer_laws.proofs.InletEvents.{AllHeld, AreHeld, IsOf, Streams, steps_went}
@@ -69,7 +72,7 @@ later_if str e false i part h = h
 
 module _ (R Q : ℕ → Bytes → Type 0) (more : (i : ℕ) (part : Bytes) → R i part → Q i part) where
   deed_later : (d : PlantDeed) → deed_taken wire R d → deed_taken wire Q d
-  deed_later (Takes at (Outside i) m os) h = (h.0, more i h.0 h.1, h.2)
+  deed_later (Takes at (Outside i) m os) h = (h.0, (h.1.0, more i h.1.0 h.1.1, h.1.2), h.2)
   deed_later (Takes at (Inner a) m os) h = tt
   deed_later (Loads at g) h = tt
   deed_later (Pops a b) h = tt
@@ -126,7 +129,7 @@ module _ (n : NetworkParts) where
             (all_later (IsOf (of_run older)) (IsOf (of_run (e ∷ older))) (λ i part. later_if (of_run older) e.event (is_accepted e.answer) i part) (deeds_of wire n older) before.1),
       )
 
-of_one : (R : ℕ → Bytes → Type 0) (ds : List PlantDeed) (at : As) (i : ℕ) (m : Message) (os : List Output) → AllTaken wire R ds → Contains ds (Takes at (Outside i) m os) → (part : Bytes) × R i part × (wire.read part ≡ Some m)
+of_one : (R : ℕ → Bytes → Type 0) (ds : List PlantDeed) (at : As) (i : ℕ) (m : Message) (os : List Output) → AllTaken wire R ds → Contains ds (Takes at (Outside i) m os) → (let x : PlantDeed = Takes at (Outside i) m os in deed_taken wire R x)
 of_one R [] at i m os all h = absurd (contains_none (Takes at (Outside i) m os) h)
 of_one R (d ∷ ds) at i m os all h =
     elim (contains_cases d ds (Takes at (Outside i) m os) h) [
@@ -141,4 +144,12 @@ is_read (Err why) m e = absurd (cc)
 pub taken_was_fed : TakenWasFed
 taken_was_fed n es s run at i m os h =
     let r = of_one (IsOf (λ k. streams k es)) (deeds_of wire n es) at i m os (run_went n es s run).1 h in
-    record { stream = r.1.stream; fed = r.1.fed; part = r.0; is_part = r.1.is_part; reads = is_read (message_of r.0) m r.2 }
+    let came = r.1 in
+    (r.0, record { stream = came.1.stream; fed = came.1.fed; part = came.0; is_part = came.1.is_part; reads = is_read (message_of came.0) r.0 came.2 }, r.2)
+
+-- a request is taken as it was fed
+pub asks_were_fed : (n : NetworkParts) (es : List Entry) (s : Plant) → Run wire n es s → (at : As) (i : ℕ) (asks : List Asked) (os : List Output) → Contains (deeds_of wire n es) (Takes at (Outside i) (messages.PcReq asks) os) →
+    WasFed i es (messages.PcReq asks)
+asks_were_fed n es s run at i asks os h =
+    let r = taken_was_fed n es s run at i (messages.PcReq asks) os h in
+    subst (WasFed i es) (asks_read wire r.2.0 r.0 asks (sym r.2.1)) r.1

@@ -1,5 +1,5 @@
 -- What an element takes from an outside peer was fed there by that peer.
-use Rattle.std.specs.Prelude.{◌==◌, ℕ, cond, List, [], ◌∷◌, ◌++◌, Contains}
+use Rattle.std.specs.Prelude.{◌≡◌, ◌==◌, ℕ, cond, List, [], ◌∷◌, ◌++◌, Option, Contains}
 use Rattle.dom_base.specs.declared.names.As.{As}
 use Rattle.dom_base.specs.declared.names.Peer.TheVariants.{Outside}
 use Rattle.pcep_messages.specs.declared.message.Message.{Message}
@@ -10,6 +10,7 @@ use Rattle.plant_laws.specs.plant_model.declared.event.Event.{Event}
 use Rattle.plant_laws.specs.plant_model.declared.event.Event.TheVariants as event
 use Rattle.plant_laws.specs.plant_model.declared.output.Output.{Output}
 use Rattle.plant_laws.specs.plant_model.Blind.{is_accepted}
+use Rattle.plant_laws.specs.plant_model.Outside.{heeded_in}
 use Rattle.plant_laws.specs.plant_model.Plant.{Entry, Plant, Run, deeds_of}
 use Rattle.plant_laws.specs.plant_model.RealWire.{wire}
 use Rattle.plant_laws.specs.plant_model.State.{Takes}
@@ -56,7 +57,9 @@ pub record WasFed (i : ℕ) (es : List Entry) (m : Message) : Type 0 where
   pub is_part : IsPart stream part
   pub reads : Reads part m
 
+-- What is taken is what is heeded of such a message.
 abbrev pub TakenWasFed : Type 0
 TakenWasFed =
     (n : NetworkParts) (es : List Entry) (s : Plant) → Run wire n es s →
-    (at : As) (i : ℕ) (m : Message) (os : List Output) → Contains (deeds_of wire n es) (Takes at (Outside i) m os) → WasFed i es m
+    (at : As) (i : ℕ) (m : Message) (os : List Output) → Contains (deeds_of wire n es) (Takes at (Outside i) m os) →
+    (raw : Message) × WasFed i es raw × ((sent : ℕ → Option ℕ) × (m ≡ heeded_in wire sent raw))

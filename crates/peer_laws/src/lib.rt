@@ -31,7 +31,7 @@ pub fn answers_are_right()
     ensures { AnswersAreRight }
 {}
 
-/// Each message that is taken from an outside peer in a run is read from a part of a whole message of a stream that this peer fed,
+/// Each message that is taken from an outside peer in a run is what is heeded of one that is read from a part of a whole message of a stream that this peer fed,
 /// from an Open of its connection on.
 pub fn taken_was_fed()
     ensures { TakenWasFed }

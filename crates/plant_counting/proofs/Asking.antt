@@ -25,7 +25,11 @@ use Rattle.plant_laws.specs.plant_model.Element.{Element, upped, downed, lost}
 use Rattle.plant_laws.specs.plant_model.Taking.{take}
 use Rattle.plant_laws.specs.plant_model.Solving.{commit}
 use Rattle.plant_laws.specs.plant_model.Parent as parent
-use Rattle.plant_laws.specs.plant_model.Settings.{place, family, way, ways_along}
+use Rattle.plant_laws.specs.plant_model.Routes.{routes}
+use Rattle.plant_laws.specs.plant_model.Settings.{place, family, inner_ways, way, ways_along}
+use Rattle.plant_laws.proofs.AllWritten.{ways_fit_all}
+use Rattle.plant_laws.proofs.Heeding.{asks_read, single_back}
+use Rattle.plant_laws.proofs.Unrouted.{to_element}
 use Rattle.plant_laws.specs.plant_model.State.{Loads, Pops, Takes, Says, Ups, Downs, Clears, Solves, Expires, Hands}
 use Rattle.plant_laws.specs.plant_model.Deeds.{Going, element_of, own_message, with_parent, with_element, puts, give, rise, fall, clear}
 use Rattle.plant_laws.specs.plant_model.Events as events
@@ -48,7 +52,7 @@ use Rattle.plant_counting.proofs.Below.{below_none}
 use Rattle.plant_counting.proofs.Heavy.{Queues, as_of, message_heavy, read_heavy, queue_heavy, row, grid, grid_no_more, popped_less}
 use Rattle.plant_counting.proofs.Putting.{Core, asked_by, IsFair, AreFair, QueuesFair, set_fair, IsMeant, Passes, passes_none}
 use Rattle.plant_counting.proofs.Passing as passing
-use Rattle.plant_counting.proofs.Passing.{message_few}
+use Rattle.plant_counting.proofs.Passing.{ReadsAsks, message_few}
 use Rattle.plant_counting.proofs.NoChildren.{takes_none, commit_none, no_children}
 
 -- what a session says of itself asks for nothing
@@ -173,7 +177,7 @@ module _ (c : Codec) (codec : IsCodec c) (n : NetworkParts) where
 
     record Known (w : ℕ) (at : As) (p : Peer) (m : Message) (s : Core) (l : Transcript) (os : List Output) : Type 0 where
       pub bytes : Bytes
-      pub read : c.read bytes ≡ Some m
+      pub read : ReadsAsks c bytes m
       pub fair : IsFair c n bytes
       pub single : IsSingle m
       pub heavy : message_heavy x y c at m ≤ w + heard_in (Takes at p m os)
@@ -195,7 +199,7 @@ module _ (c : Codec) (codec : IsCodec c) (n : NetworkParts) where
         (passes_none c n x y at r.outputs prem.2.0 (takes_none c (family n) p (no_children n net alone) m s.parent)) refl b.good.ways b.good)
         (λ is prem.
         let b = known t.outputs prem in
-        let x' = passing.takes x y c codec n at is (place n at) (own_is n at) (s.current at) p (class_of n p) s.clock (s.elements at) (b.good.ways at) b.bytes m b.read b.fair b.single prem.2.0 in
+        let x' = passing.takes x y c codec n at is (place n at) (own_is n at) (s.current at) p (class_of n p) s.clock (s.elements at) (b.good.ways at) (to_element n net at) b.bytes m b.read b.fair b.single prem.2.0 in
         sent_good (Takes at p m t.outputs) at t.outputs w (message_heavy x y c at m) (es ++ ds) s v refl refl b.heavy x'.passes refl (set_ways at t.element s x'.ways b.good.ways) b.good)
 
     fall_good : (at : As) (p : Peer) (s : Core) (ds : Transcript) → I ds s → (let g = fall Pin Segment c n open_of at p (record { state = s; deeds = [] }) in I (g.deeds ++ ds) g.state)
@@ -290,8 +294,8 @@ module _ (c : Codec) (codec : IsCodec c) (n : NetworkParts) where
         let r = prem.0.0 in
         record {
           bytes = r.2;
-          read = r.4;
-          fair = outside_fair r.2 m r.3 prem.1.0 r.4;
+          read = λ asks is. r.5 ∙ ap (λ (z : Message). Some z) (asks_read c r.6 r.4 asks (sym r.7 ∙ is));
+          fair = outside_fair r.2 r.4 r.3 (single_back c r.6 r.4 (subst (λ (z : Message). IsSingle z) r.7 prem.1.0)) r.5;
           single = prem.1.0;
           heavy = let few = message_few x y c codec n (element_of n i) m prem.1.0 in omega (arith, few);
           good = held (older (Takes (element_of n i) (Outside i) m os) ds prem);
@@ -303,7 +307,7 @@ module _ (c : Codec) (codec : IsCodec c) (n : NetworkParts) where
         let fair = (front_fair a b bytes rest s is h.fair).0 in
         record {
           bytes = bytes;
-          read = read;
+          read = λ asks is'. read ∙ ap (λ (z : Message). Some z) is';
           fair = fair;
           single = single_of bytes m fair read;
           heavy = let weighs : read_heavy x y c b (c.read bytes) ≡ message_heavy x y c b m = ap (λ (o : Option Message). read_heavy x y c b o) read in omega (arith, weighs);
@@ -353,7 +357,7 @@ module _ (c : Codec) (codec : IsCodec c) (n : NetworkParts) where
     bare_good : I [] (events.bare Pin Segment c n open_of first_pin)
     bare_good = λ prem. record {
       fair = λ a b. tt;
-      ways = λ d. new_ways d (lines n);
+      ways = λ d. ways_fit_all (inner_ways n d) (routes n d) (new_ways d (lines n));
       few = λ k. (let none = nothing k in omega (arith, none));
     }
       where

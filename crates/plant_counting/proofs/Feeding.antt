@@ -26,6 +26,7 @@ use Rattle.plant_laws.specs.plant_model.Parent as parent
 use Rattle.plant_laws.specs.plant_model.Settings.{place, family}
 use Rattle.plant_laws.specs.plant_model.State.{Connection, Access, Takes, Ups, Downs}
 use Rattle.plant_laws.specs.plant_model.Deeds.{Going, element_of, is_due, is_tick, is_out_empty, any_fall, our_offer, on_connection, with_more, with_session, with_inbox, with_parent, with_element, put, put_to, puts, give, rise, fall, say, clear, outside_act, outside_acts, outside_step, outside_input, inner_act, inner_acts, inner_input, begin_end, begin_line, break_line, tick_outside, tick_lines, with_access, with_inner}
+use Rattle.plant_laws.specs.plant_model.Outside.{heeded}
 use Rattle.plant_laws.specs.plant_model.Events as events
 use Rattle.plant_laws.specs.plant_model.Events.{split_all, bad_item, is_down}
 use Rattle.plant_laws.specs.plant_model.Plant.{Pin, Segment, PlantDeed}
@@ -186,8 +187,9 @@ module _ (c : Codec) (n : NetworkParts) where
         elim (shape k.session x) [
           | inl none ↦ more_fine h v (outside_acts Pin Segment c n open_of i (is_tick x) t.actions g') (quiet_outside h i (is_tick x) t.actions g' none fine')
           | inr pass ↦
+              let heard' = heeded c (Outside i) (g'.state.elements (element_of n i)).pending.rows pass.0 in
               subst (λ (as' : List Action). Fine (v + h) (outside_acts Pin Segment c n open_of i (is_tick x) as' g')) (sym pass.2)
-              (at_most (once pass.0 pass.1) (give Pin Segment c n open_of (element_of n i) (Outside i) pass.0 g') (give_fine h (element_of n i) (Outside i) pass.0 g' fine'))
+              (at_most (once pass.0 pass.1) (give Pin Segment c n open_of (element_of n i) (Outside i) heard' g') (give_fine h (element_of n i) (Outside i) heard' g' fine'))
         ]
       where
         at_most : 1 ≤ v → (g' : Move) → Fine (1 + h) g' → Fine (v + h) g'

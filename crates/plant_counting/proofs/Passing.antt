@@ -26,6 +26,7 @@ use Rattle.plant_laws.specs.plant_model.Wire.{Bytes, Codec, Checked, Admitted, W
 use Rattle.plant_laws.specs.plant_model.Laws.{IsCodec, IsSequence, Admits, IsRequestInRange, CanBeSent}
 use Rattle.plant_laws.specs.plant_model.Writing.{asked_of, request_message}
 use Rattle.plant_laws.specs.plant_model.Element.{Element, Place, Taken, fresh_id, is_waiting}
+use Rattle.plant_laws.specs.plant_model.Routes.{toward}
 use Rattle.plant_laws.specs.plant_model.Taking.{take, sequence_or}
 use Rattle.plant_laws.specs.plant_model.Plant.{Pin, Segment}
 use Rattle.plant_laws.specs.Sending.{AreAll}
@@ -53,6 +54,10 @@ asked_in (Some (messages.Other kind)) = 0
 -- what is behind the own domain
 behind : (own own' next : As) (rest more : List As) → own ∷ rest ≡ own' ∷ next ∷ more → rest ≡ next ∷ more
 behind own own' next rest more same = cc
+
+-- where it is of requests, the bytes say it
+abbrev pub ReadsAsks : Codec → Bytes → Message → Type 0
+ReadsAsks c bytes m = (asks : List Asked) → m ≡ messages.PcReq asks → c.read bytes ≡ Some (messages.PcReq asks)
 
 module _ (x y : As) (c : Codec) (codec : IsCodec c) (n : NetworkParts) where
   -- a request in written form is fair
@@ -279,9 +284,9 @@ module _ (x y : As) (c : Codec) (codec : IsCodec c) (n : NetworkParts) where
             (on_steps x y own t.1 t.2 (on_real bytes a own z.flags z.id z.wanted octets read admits number some fits t.0 t.1 t.2 t.5)))
             (on_passes bytes a own z.flags z.id z.wanted octets read admits number some fits t.0 t.1 t.2 t.5 z.way.peer (peer ∙ t.3)))
 
-    -- a message that was read from bytes
-    pub takes : (bytes : Bytes) (m : Message) → c.read bytes ≡ Some m → IsFair c n bytes → IsSingle m → AreAll (IsMeant c n) (After m).outputs → Takes m
-    takes bytes m read fair one meant = go (take_of Pin Segment c open_of e pin p class now k m one)
+    -- a message whose requests were read from bytes
+    pub takes : ((b : As) → toward b e.routes ≡ Inner b) → (bytes : Bytes) (m : Message) → ReadsAsks c bytes m → IsFair c n bytes → IsSingle m → AreAll (IsMeant c n) (After m).outputs → Takes m
+    takes inner bytes m read fair one meant = go (take_of Pin Segment c open_of e pin p class now k inner m one)
       where
         calm : IsCalm Pin Segment k (After m) → Takes m
         calm z = record {
@@ -292,6 +297,6 @@ module _ (x y : As) (c : Codec) (codec : IsCodec c) (n : NetworkParts) where
         go : Of Pin Segment c open_of e pin p class now k m (After m) → Takes m
         go (inl z) = calm z
         go (inr z) =
-            let read' : c.read bytes ≡ Some (messages.PcReq (z.0 ∷ [])) = read ∙ ap (λ (b : Message). Some b) z.1 in
+            let read' : c.read bytes ≡ Some (messages.PcReq (z.0 ∷ [])) = read (z.0 ∷ []) z.1 in
             let octets = (fair (z.0 ∷ []) read').0 in
             sends_one bytes m z.0 z.1 octets read' z.2 z.3

@@ -2,7 +2,6 @@
 use Rattle.std.proofs.Common.{ℕ, ◌+◌, ◌≤◌, Bool, true, false, cond, ◌==◌, nat_eq, List, [], ◌∷◌, Option, Some, None, arith}
 use Rattle.dom_base.specs.declared.names.As.{As}
 use Rattle.dom_base.specs.declared.names.Peer.{Peer}
-use Rattle.dom_base.specs.declared.names.Peer.TheVariants.{Inner}
 use Rattle.pcep_subobjects.specs.declared.hop.Hop.{Hop}
 use Rattle.pcep_messages.specs.declared.message.Message.{Message}
 use Rattle.pcep_messages.specs.declared.message.Message.TheVariants as messages
@@ -24,6 +23,7 @@ use Rattle.plant_members.specs.plant_model.Writing.{reply_message, unavailable, 
 use Rattle.plant_members.specs.plant_model.Branches.{branches_in}
 use Rattle.disclosure.specs.Policy.{is_denied}
 use Rattle.plant_members.specs.plant_model.Element.{Stage, Waits, Ready, fresh_id, Item, Row, Way, Element, Place, Taken, each, ended, at_stage, waiting, way_to}
+use Rattle.plant_members.specs.plant_model.Routes.{toward}
 use Rattle.plant_members.specs.plant_model.Taking.{item_of, sequence_or, goes_up, sent_on, send_on, take_along, take_path, take_wish, take_new, take_checked, take_asked, staged, answered, made_ready, take_answer, take_reply, told_busy, cancelled, take_busy, take_cancel, notice_steps, take_notice, error_answer, told_error, take_failure, take_errors, take_report, take}
 use Rattle.plant_members.specs.Owed.{count_by_asker, asked_in}
 use Rattle.plant_deeds.proofs.CountLaws.{one_if, for_each, for_each_is, count_push, count_removed, count_written}
@@ -78,7 +78,7 @@ module _ (P : Type 0) (S : Type 0) (test : Peer → Bool) where
       Raises (one_if (test p)) k (take_along e pin p class flags x w k sequence)
   along_raises e pin p class flags x w k [] = omega arith
   along_raises e pin p class flags x w k (a ∷ []) = opened_raises p x (item_of pin class flags w (a ∷ []) (Ready [])) k.pending
-  along_raises e pin p class flags x w k (a ∷ b ∷ rest) = send_raises pin p class flags x w (a ∷ b ∷ rest) (b ∷ rest) (is_denied e.deny class b) k (way_to (Inner b) k.ways)
+  along_raises e pin p class flags x w k (a ∷ b ∷ rest) = send_raises pin p class flags x w (a ∷ b ∷ rest) (b ∷ rest) (is_denied e.deny class b) k (way_to (toward b e.routes) k.ways)
 
   path_raises : (e : Place) (pin : P) (p : Peer) (class : Class) (flags x : ℕ) (w : Wanted) (k : Element P S) →
       Raises (one_if (test p)) k (take_path e pin p class flags x w k)

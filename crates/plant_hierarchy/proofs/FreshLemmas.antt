@@ -10,7 +10,9 @@ use Rattle.plant_text.specs.declared.settings.NetworkParts.{NetworkParts}
 use Rattle.plant_text.specs.declared.settings.ElementRow.{ElementRow}
 use Rattle.plant_text.specs.Settings.{row_of, life, life_from, deny_at, lines}
 use Rattle.plant_members.specs.plant_model.Element.{Element, Way, Place}
-use Rattle.plant_members.specs.plant_model.Settings.{place, place_from}
+use Rattle.plant_members.specs.plant_model.declared.route.Route.{Route}
+use Rattle.plant_members.specs.plant_model.Routes.{routes}
+use Rattle.plant_members.specs.plant_model.Settings.{inner_ways, outer_way, place, place_from}
 use Rattle.plant_layout.specs.Lines.{others}
 use Rattle.plant_layout.proofs.LineLemmas.{ways_to_others}
 use Rattle.pce_element.specs.Seen.{Seen, IsNew}
@@ -20,7 +22,7 @@ use Rattle.plant_hierarchy.specs.Fresh.{AreNew, LivesFit, figures_from}
 use Rattle.plant_hierarchy.proofs.DomainLemmas.{same_as_is}
 
 -- what an element is told of itself
-pub place_is : (n : NetworkParts) (d : As) (o : Option ElementRow) → place_from d (deny_at d n.deny) o ≡ record { own = d; id = (figures_from o).id; parent = (figures_from o).parent; deny = deny_at d n.deny }
+pub place_is : (n : NetworkParts) (d : As) (o : Option ElementRow) → place_from d (deny_at d n.deny) (routes n d) o ≡ record { own = d; id = (figures_from o).id; parent = (figures_from o).parent; deny = deny_at d n.deny; routes = routes n d }
 place_is n d None = refl
 place_is n d (Some r) = refl
 
@@ -31,8 +33,11 @@ life_is (Some r) = refl
 pub own_place : (n : NetworkParts) (d : As) → (place n d).own ≡ d
 own_place n d = ap (λ (p : Place). p.own) (place_is n d (row_of d n.elements))
 
-abbrev pub told_of : As → Figures → List Deny → Place
-told_of d f deny = record { own = d; id = f.id; parent = f.parent; deny = deny }
+abbrev pub told_of : As → Figures → List Deny → List Route → Place
+told_of d f deny routes = record { own = d; id = f.id; parent = f.parent; deny = deny; routes = routes }
+
+pub routes_place : (n : NetworkParts) (d : As) → (place n d).routes ≡ routes n d
+routes_place n d = ap (λ (p : Place). p.routes) (place_is n d (row_of d n.elements))
 
 pub life_least : (n : NetworkParts) (d : As) (f : Figures) → f ≡ figures_from (row_of d n.elements) → LivesFit n → 1 ≤ f.key_life
 life_least n d f fs fit = subst (λ (k : ℕ). 1 ≤ k) (life_is (row_of d n.elements) ∙ sym (ap (λ (x : Figures). x.key_life) fs)) (fit.least d)
@@ -66,7 +71,8 @@ module _ {P : Type 0} {S : Type 0} (initial : As → P) where
       go : (b : Bool) → same_as (own_of e) d ≡ b → element_or n 0 d (at_domain d es) ≡ nobody n 0 d → element_or n 0 d (cond b (Some e) (at_domain d es)) ≡ nobody n 0 d
       go true same rest =
           ap (λ (x : Seen P S). x.losing.element) are.0
-          ∙ ap (λ (ws : List Way). let k : Element P S = record { pending = record { limit = 1024; given = 0; rows = [] }; keys = record { life = life n a; next = 1; clock = 0; issued = [] }; ways = ws } in k) (ways_to_others a (lines n))
+          ∙ ap (λ (ws : List Way). let k : Element P S = record { pending = record { limit = 1024; given = 0; rows = [] }; keys = record { life = life n a; next = 1; clock = 0; issued = [] }; ways = ws } in k)
+          (ap (λ (ws : List Way). ws ++ map outer_way (place n a).routes) (ways_to_others a (lines n)) ∙ ap (λ (rs : List Route). inner_ways n a ++ map outer_way rs) (routes_place n a))
           ∙ ap (nobody n 0) (sym (own_new n a e are.0) ∙ same_as_is (own_of e) d same)
       go false same rest = rest
 
@@ -88,16 +94,16 @@ module _ {P : Type 0} {S : Type 0} (initial : As → P) where
 
   -- ---- one element
 
-  pub new_for : (n : NetworkParts) (d : As) (f : Figures) (deny : List Deny) (links : List As) (r : Result (Seen P S) NoMemory) →
-      f ≡ figures_from (row_of d n.elements) → deny ≡ deny_at d n.deny → links ≡ others d (lines n) →
-      IfOk r (IsNew initial (told_of d f deny) f.key_life links) → IfOk r (IsNew initial (place n d) (life n d) (others d (lines n)))
-  new_for n d f deny links r fs ds ls ok =
+  pub new_for : (n : NetworkParts) (d : As) (f : Figures) (deny : List Deny) (rs : List Route) (links : List As) (r : Result (Seen P S) NoMemory) →
+      f ≡ figures_from (row_of d n.elements) → deny ≡ deny_at d n.deny → rs ≡ routes n d → links ≡ others d (lines n) →
+      IfOk r (IsNew initial (told_of d f deny rs) f.key_life links) → IfOk r (IsNew initial (place n d) (life n d) (others d (lines n)))
+  new_for n d f deny rs links r fs ds rs_are ls ok =
       subst (λ (l : List As). IfOk r (IsNew initial (place n d) (life n d) l)) ls
       (subst (λ (p : Place). IfOk r (IsNew initial p (life n d) links)) (same ∙ sym (place_is n d (row_of d n.elements)))
-      (subst (λ (k : ℕ). IfOk r (IsNew initial (told_of d f deny) k links)) (ap (λ (x : Figures). x.key_life) fs ∙ sym (life_is (row_of d n.elements))) ok))
+      (subst (λ (k : ℕ). IfOk r (IsNew initial (told_of d f deny rs) k links)) (ap (λ (x : Figures). x.key_life) fs ∙ sym (life_is (row_of d n.elements))) ok))
     where
-      same : told_of d f deny ≡ told_of d (figures_from (row_of d n.elements)) (deny_at d n.deny)
-      same = ap (λ (x : Figures). told_of d x deny) fs ∙ ap (told_of d (figures_from (row_of d n.elements))) ds
+      same : told_of d f deny rs ≡ told_of d (figures_from (row_of d n.elements)) (deny_at d n.deny) (routes n d)
+      same = ap (λ (x : Figures). told_of d x deny rs) fs ∙ ap (λ (l : List Deny). told_of d (figures_from (row_of d n.elements)) l rs) ds ∙ ap (told_of d (figures_from (row_of d n.elements)) (deny_at d n.deny)) rs_are
 
   pub take_more : (n : NetworkParts) (ds : List As) (i : ℕ) (x : As) (es : List (Seen P S)) (e : Seen P S) → i < length ds → AreNew initial n (take i ds) es →
       IsNew initial (place n (get_or ds i x)) (life n (get_or ds i x)) (others (get_or ds i x) (lines n)) e → AreNew initial n (take (suc i) ds) (es ++ e ∷ [])

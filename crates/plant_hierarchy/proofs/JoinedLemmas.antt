@@ -13,7 +13,7 @@ use Rattle.plant_text.specs.Networks.{IsAdded, IsNetwork}
 use Rattle.plant_text.specs.Settings.{Line, lines, before_line, insert_line, sorted, upward, has_line, children, children_of, is_element, row_of, peer_row}
 use Rattle.plant_members.specs.plant_model.Element.{Way}
 use Rattle.plant_members.specs.plant_model.Deeds.{at_row}
-use Rattle.plant_members.specs.plant_model.Settings.{way, ways, ways_along}
+use Rattle.plant_members.specs.plant_model.Settings.{inner_ways, way, ways_along}
 use Rattle.plant_members.specs.Membership.{AreJoined, is_member}
 use Rattle.pce_element.specs.member_parts.Ways.{way_of}
 use Rattle.plant_hierarchy.proofs.DomainLemmas.{same_as_is, as_self}
@@ -187,7 +187,7 @@ ways_upward : (cs : List As) (xs : List Line) → AreApart xs → ways_along par
 ways_upward [] xs are = ways_apart xs are
 ways_upward (c ∷ cs) xs are = ap (λ (ws : List Way). way c ∷ ws) (ways_upward cs xs are)
 
-pub ways_above : (n : NetworkParts) → IsNetwork n → map way_of (children n) ≡ ways n parent_as
+pub ways_above : (n : NetworkParts) → IsNetwork n → map way_of (children n) ≡ inner_ways n parent_as
 ways_above n net =
     let s = settings_of n net in
     sym (ways_upward (children n) (sorted n.links) (apart_sorted n n.links s.elements.domains s.links.known))

@@ -68,9 +68,9 @@ module _ {P : Type 0} {S : Type 0} where
 
   abbrev pub no_one : (As → P) → Seen P S
   no_one first = record {
-    place = record { own = parent_as; id = V4 0; parent = false; deny = [] };
+    place = record { own = parent_as; id = V4 0; parent = false; deny = []; routes = [] };
     current = first parent_as;
-    losing = record { element = new_element 600 []; lost = [] };
+    losing = record { element = new_element 600 [] []; lost = [] };
     room = record { requests = 0; keys = 0 };
   }
 

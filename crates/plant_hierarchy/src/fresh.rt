@@ -1,5 +1,5 @@
 //! The elements of a network that is made anew.
-ghost use Rattle.std.specs.Prelude.{◌≡◌, IfOk};
+ghost use Rattle.std.specs.Prelude.{◌≡◌, ◌<◌, ◌^◌, length, IfOk};
 ghost use Rattle.plant_text.specs.Names.{same_as};
 ghost use Rattle.plant_text.specs.Settings.{elements_of, life, lines, row_of};
 ghost use Rattle.plant_members.specs.plant_model.Settings.{place};
@@ -10,7 +10,7 @@ ghost use Rattle.plant_hierarchy.specs.Fresh.{AreNew, LivesFit, figures_from};
 use crate::elements::Elements;
 use dom_base::{Addr, As, NoMemory};
 use pce_element::{Element, World};
-use plant_layout::{deny_at, elements_of, others_along};
+use plant_layout::{deny_at, elements_of, others_along, routes_of};
 use plant_text::{ElementRow, NetworkParts};
 use std::alloc::Global;
 
@@ -56,11 +56,13 @@ fn element_of<W: World>(
 ) -> Result<Element<W>, NoMemory>
     requires lives { LivesFit parts.now }
     requires lines { are_lines inner.now ≡ lines parts.now }
+    requires peers { length parts.now.peers < 2 ^ 32 }
     ensures { IfOk result (IsNew W.first (place parts.now own) (life parts.now own) (others own (lines parts.now))) }
 {
     let figures = figures_of(parts.elements.as_slice(), own);
     let deny = deny_at(alloc, own, parts.deny.as_slice())?;
     let links = others_along(alloc, own, inner)?;
+    let routes = routes_of(alloc, own, parts.peers.as_slice())?;
     Element::new(
         alloc,
         own,
@@ -69,6 +71,7 @@ fn element_of<W: World>(
         figures.parent,
         links.as_slice(),
         deny,
+        routes,
     )
 }
 
@@ -80,6 +83,7 @@ fn each_element<W: World>(
 ) -> Result<Vec<Element<W>>, NoMemory>
     requires lives { LivesFit parts.now }
     requires lines { are_lines inner.now ≡ lines parts.now }
+    requires peers { length parts.now.peers < 2 ^ 32 }
     ensures { IfOk result (λ items. AreNew W.first parts.now domains.now items.items) }
 {
     let mut items = Vec::new(alloc);
@@ -99,6 +103,7 @@ impl<W: World> Elements<W> {
     ) -> Result<Elements<W>, NoMemory>
         requires lives { LivesFit parts.now }
         requires lines { are_lines inner.now ≡ lines parts.now }
+        requires peers { length parts.now.peers < 2 ^ 32 }
         ensures { IfOk result (AreNew W.first parts.now (elements_of parts.now.elements)) }
     {
         let domains = elements_of(alloc, parts.elements.as_slice())?.into_vec();

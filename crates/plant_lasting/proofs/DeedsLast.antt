@@ -32,6 +32,7 @@ use Rattle.plant_model.specs.Parent as parent
 use Rattle.plant_model.specs.BorderGraph.{Found}
 use Rattle.plant_model.specs.State.{State, Connection}
 use Rattle.plant_model.specs.Deeds.{Going, element_of, is_due, is_tick, is_out_empty, any_fall, our_offer, with_session, with_inbox, own_message, put_to, put, puts, with_element, with_parent, with_access, with_inner, give, rise, fall, say, clear, expire, solve, solve_upper, outside_act, outside_acts, outside_step, outside_input, inner_act, inner_acts, inner_input, begin_end, begin_line, break_line, tick_outside, tick_lines}
+use Rattle.plant_model.specs.Outside.{heeded}
 use Rattle.plant_lasting.specs.Lasting.{KeysInTime, can_solve}
 use Rattle.plant_lasting.proofs.Tables.{Becomes, still, and_then}
 use Rattle.plant_lasting.proofs.ElementsLast as elements
@@ -160,7 +161,7 @@ module _ (P : Type 0) (S : Type 0) (c : Codec) (n : NetworkParts) (show : S → 
     outside_act_lasts i ticks (action.Down why) g h =
         let k : Going P S = record { state = with_access P S c n show i (with_inbox []) g.state; deeds = g.deeds } in
         fall_lasts (element_of n i) (Outside i) k (rest_lasts g.state k.state refl refl (le_refl g.state.clock) h)
-    outside_act_lasts i ticks (action.Pass m) g h = give_lasts (element_of n i) (Outside i) m g h
+    outside_act_lasts i ticks (action.Pass m) g h = give_lasts (element_of n i) (Outside i) (heeded c (Outside i) (g.state.elements (element_of n i)).pending.rows m) g h
 
     outside_acts_last : (i : ℕ) (ticks : Bool) (as' : List Action) (g : Going P S) → Kept g → Kept (outside_acts P S c n show i ticks as' g)
     outside_acts_last i ticks [] g h = h

@@ -3,7 +3,6 @@ use Rattle.std.proofs.Common.{◌≡◌, ◌∙◌, ◌≤◌, ℕ, Bool, true, 
 use Rattle.std.proofs.Math.Nat.{le_refl}
 use Rattle.dom_base.specs.declared.names.As.{As}
 use Rattle.dom_base.specs.declared.names.Peer.{Peer}
-use Rattle.dom_base.specs.declared.names.Peer.TheVariants.{Inner}
 use Rattle.pcep_codes.specs.declared.notices.TheConstants as notices
 use Rattle.pcep_codes.specs.declared.no_paths.TheConstants as no_paths
 use Rattle.pcep_subobjects.specs.declared.hop.Hop.{Hop}
@@ -28,6 +27,7 @@ use Rattle.plant_model.specs.Writing.{reply_message, unavailable, busy}
 use Rattle.plant_model.specs.Branches.{branches_in}
 use Rattle.disclosure.specs.Policy.{is_denied}
 use Rattle.plant_model.specs.Element.{Stage, Waits, Ready, Item, Row, Way, Element, Place, Taken, each, ended, waiting, waits_for, way_to, fresh_id, at_stage, stays, upped, downed, ticked, is_client}
+use Rattle.plant_model.specs.Routes.{toward}
 use Rattle.plant_model.specs.Taking.{item_of, sequence_or, goes_up, send_on, take_along, take_path, take_wish, take_new, take_checked, take_asked, staged, answered, made_ready, take_answer, take_reply, told_busy, cancelled, take_busy, take_cancel, notice_steps, take_notice, error_answer, told_error, take_failure, take_errors, take_report, take}
 use Rattle.plant_model.specs.Solving.{commit, client_reply, closed_reply, closed_paths, issued_all, free}
 use Rattle.plant_lasting.specs.Lasting.{can_solve}
@@ -163,7 +163,7 @@ module _ {P : Type 0} {S : Type 0} where
   along_lasts : (e : Place) (pin : P) (p : Peer) (class : Class) (flags x : ℕ) (w : Wanted) (k : Element P S) (path : List As) → After k (take_along e pin p class flags x w k path)
   along_lasts e pin p class flags x w k [] = stands k
   along_lasts e pin p class flags x w k (a ∷ []) = (opened can_solve p x (item_of pin class flags w (a ∷ []) (Ready [])) k.pending, refl)
-  along_lasts e pin p class flags x w k (a ∷ b ∷ rest) = on_lasts pin p class flags x w (a ∷ b ∷ rest) (b ∷ rest) (is_denied e.deny class b) k (way_to (Inner b) k.ways)
+  along_lasts e pin p class flags x w k (a ∷ b ∷ rest) = on_lasts pin p class flags x w (a ∷ b ∷ rest) (b ∷ rest) (is_denied e.deny class b) k (way_to (toward b e.routes) k.ways)
 
   path_lasts : (e : Place) (pin : P) (p : Peer) (class : Class) (flags x : ℕ) (w : Wanted) (k : Element P S) → After k (take_path e pin p class flags x w k)
   path_lasts e pin p class flags x w k =

@@ -10,6 +10,7 @@ use Rattle.plant_text.specs.declared.settings.NetworkParts.{NetworkParts}
 use Rattle.plant_model.specs.Names.{set_pair}
 use Rattle.plant_model.specs.Wire.{Bytes, Codec}
 use Rattle.plant_text.specs.Settings.{Line}
+use Rattle.plant_model.specs.Outside.{heeded}
 use Rattle.plant_model.specs.State.{State, Deed, Pops, Hands}
 use Rattle.plant_model.specs.Deeds as deeds
 use Rattle.plant_model.specs.Deeds.{Going, element_of}
@@ -32,12 +33,16 @@ module _ (P : Type 0) (S : Type 0) (c : Codec) (n : NetworkParts) (show : S → 
   abbrev pub with_pop : As → As → State P S → Going P S
   with_pop a b t = record { state = t; deeds = Pops a b ∷ [] }
 
+  -- what the element of an outside peer heeds of a message that came as these bytes
+  abbrev pub IsHeard : ℕ → State P S → Bytes → Message → Type 0
+  IsHeard i s bytes m = (raw : Message) × (c.read bytes ≡ Some raw) × (m ≡ heeded c (Outside i) (s.elements (element_of n i)).pending.rows raw)
+
   -- One act: the state before it, its deeds, the newest first, and the state after it.
   pub data Acts : State P S → List (Deed S) → State P S → Type 0 where
     -- sessions, framers, inboxes and out queues change alone
     rests : (s t : State P S) → IsSameCore P S s t → Acts s [] t
     -- an outside peer's message is taken
-    hears : (i : ℕ) (bytes : Bytes) (m : Message) (s : State P S) → c.read bytes ≡ Some m →
+    hears : (i : ℕ) (bytes : Bytes) (m : Message) (s : State P S) → IsHeard i s bytes m →
         Acts s (deeds.give P S c n show (element_of n i) (Outside i) m (from s)).deeds (deeds.give P S c n show (element_of n i) (Outside i) m (from s)).state
     -- a message of an inner queue is taken
     carries : (a b : As) (bytes : Bytes) (rest : List Bytes) (m : Message) (s t : State P S) → s.queues a b ≡ bytes ∷ rest → c.read bytes ≡ Some m →

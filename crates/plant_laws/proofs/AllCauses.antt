@@ -28,6 +28,7 @@ use Rattle.plant_model.specs.Names.{set_pair}
 use Rattle.plant_model.specs.Wire.{Bytes, Codec}
 use Rattle.plant_model.specs.State.{Access, Connection, Pops, Takes, Says, Downs, Clears}
 use Rattle.plant_model.specs.Deeds.{Going, element_of, is_due, is_tick, is_out_empty, any_fall, with_session, with_inbox, read_as, input_of, with_access, with_inner, give, rise, fall, say, clear, outside_act, outside_acts, outside_step, inner_act, inner_acts, inner_input, our_offer, own_message, begin_end, begin_line, break_line}
+use Rattle.plant_model.specs.Outside.{heeded}
 use Rattle.plant_model.specs.Events as events
 use Rattle.plant_model.specs.Plant.{Pin, Segment, first_pin, Plant, PlantDeed, Happened, Entry, Run, Steps, Happens, is_full}
 use Rattle.plant_laws.specs.Transcript.{Transcript}
@@ -78,7 +79,9 @@ module _ (c : Codec) (n : NetworkParts) where
   acts_keep i ticks (action.Down why ∷ as') g d has =
       let h : Move = record { state = with_access Pin Segment c n open_of i (with_inbox []) g.state; deeds = g.deeds } in
       acts_keep i ticks as' (fall Pin Segment c n open_of (element_of n i) (Outside i) h) d (fall_keeps (element_of n i) (Outside i) h d has)
-  acts_keep i ticks (action.Pass m ∷ as') g d has = acts_keep i ticks as' (give Pin Segment c n open_of (element_of n i) (Outside i) m g) d (give_keeps (element_of n i) (Outside i) m g d has)
+  acts_keep i ticks (action.Pass m ∷ as') g d has =
+      let heard = heeded c (Outside i) (g.state.elements (element_of n i)).pending.rows m in
+      acts_keep i ticks as' (give Pin Segment c n open_of (element_of n i) (Outside i) heard g) d (give_keeps (element_of n i) (Outside i) heard g d has)
 
   acts_fall : (i : ℕ) (ticks : Bool) (as' : List Action) (g : Move) → any_fall as' ≡ true → FallsAt (element_of n i) (Outside i) (outside_acts Pin Segment c n open_of i ticks as' g).deeds
   acts_fall i ticks [] g none = (let no : false ≡ true = none in cc)
@@ -89,7 +92,8 @@ module _ (c : Codec) (n : NetworkParts) where
       let k = fall Pin Segment c n open_of (element_of n i) (Outside i) h in
       let f = fall_falls (element_of n i) (Outside i) h in
       (f.0, acts_keep i ticks as' k (Downs (element_of n i) (Outside i) f.0) f.1)
-  acts_fall i ticks (action.Pass m ∷ as') g more = acts_fall i ticks as' (give Pin Segment c n open_of (element_of n i) (Outside i) m g) more
+  acts_fall i ticks (action.Pass m ∷ as') g more =
+      acts_fall i ticks as' (give Pin Segment c n open_of (element_of n i) (Outside i) (heeded c (Outside i) (g.state.elements (element_of n i)).pending.rows m) g) more
 
   -- what a session says of its own is said, but at a tick
   acts_say : (i : ℕ) (as' : List Action) (g : Move) (o : Own) → Stands (action.Send o) as' → Contains (outside_acts Pin Segment c n open_of i false as' g).deeds (Says (element_of n i) (record { to = Outside i; message = own_message o }))
@@ -210,14 +214,16 @@ module _ (c : Codec) (n : NetworkParts) where
           (subst (λ (xs : List Bytes). Q (events.carry_first Pin Segment c n open_of a b before xs).deeds) (sym first) q))
 
     passed : (at : As) (p : Peer) (m : Message) → Passes c n before e at p m → TakesAt at p m h.deeds
-    passed at p m (from_outside i x bytes rest is open' first read acts at_is p_is) =
-        subst (λ (z : As). TakesAt z p m h.deeds) (sym at_is)
-        (subst (λ (q : Peer). TakesAt (element_of n i) q m h.deeds) (sym p_is)
-        (by_item i x (Some bytes) rest is open' first (TakesAt (element_of n i) (Outside i) m)
-        (subst (λ (y : Input). TakesAt (element_of n i) (Outside i) m (outside_step Pin Segment c n open_of i y (record { state = with_access Pin Segment c n open_of i (with_inbox rest) before; deeds = [] }) (Some (with_inbox rest x))).deeds) (sym (ap read_as read))
-        (subst (λ (as' : List Action). TakesAt (element_of n i) (Outside i) m (outside_acts Pin Segment c n open_of i false as'
-        (record { state = with_access Pin Segment c n open_of i (with_session (turn_of x.session (input.Got m)).next) (with_access Pin Segment c n open_of i (with_inbox rest) before); deeds = [] })).deeds) (sym acts)
-        (give_takes (element_of n i) (Outside i) m _)))))
+    passed at p m (from_outside i x bytes rest raw is open' first read acts heard at_is p_is) =
+        let given = heeded c (Outside i) (before.elements (element_of n i)).pending.rows raw in
+        subst (λ (z : Message). TakesAt at p z h.deeds) (sym heard)
+        (subst (λ (z : As). TakesAt z p given h.deeds) (sym at_is)
+        (subst (λ (q : Peer). TakesAt (element_of n i) q given h.deeds) (sym p_is)
+        (by_item i x (Some bytes) rest is open' first (TakesAt (element_of n i) (Outside i) given)
+        (subst (λ (y : Input). TakesAt (element_of n i) (Outside i) given (outside_step Pin Segment c n open_of i y (record { state = with_access Pin Segment c n open_of i (with_inbox rest) before; deeds = [] }) (Some (with_inbox rest x))).deeds) (sym (ap read_as read))
+        (subst (λ (as' : List Action). TakesAt (element_of n i) (Outside i) given (outside_acts Pin Segment c n open_of i false as'
+        (record { state = with_access Pin Segment c n open_of i (with_session (turn_of x.session (input.Got raw)).next) (with_access Pin Segment c n open_of i (with_inbox rest) before); deeds = [] })).deeds) (sym acts)
+        (give_takes (element_of n i) (Outside i) given _))))))
     passed at p m (from_inside a bytes rest is linked first read acts p_is) =
         subst (λ (q : Peer). TakesAt at q m h.deeds) (sym p_is)
         (by_first a at bytes rest is linked first (TakesAt at (Inner a) m)

@@ -1,6 +1,6 @@
 -- One induction over the acts of a run: where what solves and sessions sent is in written form, all is. What was sent so far is written,
 -- so what is read has numbers that fit, so what is sent next is written.
-use Rattle.std.proofs.Common.{◌≡◌, ℕ, Bool, true, false, cond, Option, Some, None, List, [], ◌∷◌, ◌++◌, length, sym, subst, refl, ap, ◌∙◌, inl, arith}
+use Rattle.std.proofs.Common.{◌≡◌, ℕ, Bool, true, false, cond, Option, Some, None, List, [], ◌∷◌, ◌++◌, length, map, sym, subst, refl, ap, ◌∙◌, inl, arith}
 use Rattle.std.specs.List.{AllByRecursion}
 use Rattle.te_links.specs.Rows.{Rows as Topology}
 use Rattle.dom_base.specs.declared.names.As.{As}
@@ -22,15 +22,18 @@ use Rattle.plant_model.specs.declared.output.Output.{Output}
 use Rattle.plant_model.specs.declared.event.Event.TheVariants as event
 use Rattle.plant_model.specs.Wire.{Bytes, Codec}
 use Rattle.plant_model.specs.Laws.{IsCodec, IsNetwork, AreWords}
-use Rattle.plant_model.specs.Element.{Element, upped, downed}
+use Rattle.plant_model.specs.Element.{Element, Way, upped, downed}
 use Rattle.plant_model.specs.Taking.{take}
 use Rattle.plant_model.specs.Solving.{commit}
 use Rattle.plant_model.specs.BorderGraph.{Found}
 use Rattle.plant_model.specs.Parent as parent
 use Rattle.plant_model.specs.Parent.{AskingRow}
-use Rattle.plant_model.specs.Settings.{place, family, way, ways_along}
+use Rattle.plant_model.specs.declared.route.Route.{Route}
+use Rattle.plant_model.specs.Routes.{routes}
+use Rattle.plant_model.specs.Settings.{place, family, inner_ways, outer_way, way, ways_along}
 use Rattle.plant_model.specs.State.{State, Deed, Loads, Pops, Takes, Says, Ups, Downs, Clears, Solves, Expires, Hands}
 use Rattle.plant_model.specs.Deeds.{Going, element_of, own_message, with_parent, with_element, puts, give, rise, fall}
+use Rattle.plant_model.specs.Outside.{heeded_by, heeded_in}
 use Rattle.plant_model.specs.Events as events
 use Rattle.plant_model.specs.Plant.{Pin, Segment, first_pin, Plant, Happened, Entry, Run, deeds_of, IsGiven, load_new, ask, ElementSolves, ParentSolves}
 use Rattle.plant_laws.specs.Transcript.{Transcript, Standing, standing, outputs_at}
@@ -43,6 +46,7 @@ use Rattle.plant_laws.proofs.Induction.{run_holds}
 use Rattle.plant_laws.proofs.Queues.{Stand, act_stands, left_stands, solve_stands, upper_stands}
 use Rattle.plant_laws.proofs.Rows.{In}
 use Rattle.plant_laws.proofs.Takes.{IsSingle, own_is}
+use Rattle.plant_laws.proofs.Heeding.{heeded_words}
 use Rattle.plant_laws.proofs.Inboxes.{AreOutsideSingle, run_outside}
 use Rattle.plant_laws.proofs.ReadBack.{standing_sent}
 use Rattle.plant_laws.proofs.Sent.{run_sent}
@@ -156,6 +160,20 @@ module _ (c : Codec) (codec : IsCodec c) (bytes : Bytes) (octets : AreOctets byt
   outside_known own i (messages.Close why) read one = tt
   outside_known own i (messages.Other kind) read one = tt
 
+  module _ (sent : ℕ → Option ℕ) where
+    heard_outside : (own : As) (i : ℕ) (raw m : Message) → c.read bytes ≡ Some raw → m ≡ heeded_in c sent raw → IsSingle m → Known c own (Outside i) m
+    heard_outside own i raw m read heard one = subst (Known c own (Outside i)) (sym heard) (go raw read (subst IsSingle heard one))
+      where
+        go : (raw' : Message) → c.read bytes ≡ Some raw' → IsSingle (heeded_in c sent raw') → Known c own (Outside i) (heeded_in c sent raw')
+        go (messages.PcReq asks) read' one' = outside_known own i (messages.PcReq asks) read' one'
+        go (messages.PcRep replies) read' one' = outside_replies i (map (λ (r : Reply). heeded_by c (sent r.id) r) replies) (heeded_words c sent replies (codec.replies bytes replies octets read'))
+        go (messages.PcNtf notices) read' one' = tt
+        go (messages.PcErr reports) read' one' = tt
+        go (messages.Open body) read' one' = tt
+        go messages.Keepalive read' one' = tt
+        go (messages.Close why) read' one' = tt
+        go (messages.Other kind) read' one' = tt
+
   inner_known : (own : As) (p : Peer) (m : Message) → c.read bytes ≡ Some m → IsAlone m → IsWritten m → Known c own p m
   inner_known own p (messages.PcReq asks) read one written = asks_known c codec own bytes asks octets read one
   inner_known own p (messages.PcRep []) read one written = tt
@@ -178,6 +196,20 @@ module _ (c : Codec) (codec : IsCodec c) (bytes : Bytes) (octets : AreOctets byt
   above_known (messages.Close why) read one = tt
   above_known (messages.Other kind) read one = tt
 
+module _ (c : Codec) (codec : IsCodec c) (bytes : Bytes) (octets : AreOctets bytes) (sent : ℕ → Option ℕ) where
+  heard_above : (raw m : Message) → c.read bytes ≡ Some raw → m ≡ heeded_in c sent raw → IsSingle m → KnownAbove c m
+  heard_above raw m read heard one = subst (KnownAbove c) (sym heard) (go raw read (subst IsSingle heard one))
+    where
+      go : (raw' : Message) → c.read bytes ≡ Some raw' → IsSingle (heeded_in c sent raw') → KnownAbove c (heeded_in c sent raw')
+      go (messages.PcReq asks) read' one' = above_known c codec bytes octets (messages.PcReq asks) read' one'
+      go (messages.PcRep replies) read' one' = heeded_words c sent replies (codec.replies bytes replies octets read')
+      go (messages.PcNtf notices) read' one' = tt
+      go (messages.PcErr reports) read' one' = tt
+      go (messages.Open body) read' one' = tt
+      go messages.Keepalive read' one' = tt
+      go (messages.Close why) read' one' = tt
+      go (messages.Other kind) read' one' = tt
+
 alone_single : (m : Message) → IsAlone m → IsSingle m
 alone_single (messages.PcReq asks) one = one
 alone_single (messages.PcRep replies) one = tt
@@ -189,6 +221,11 @@ alone_single (messages.Close why) one = tt
 alone_single (messages.Other kind) one = tt
 
 -- ---- the opening state
+
+pub ways_fit_all : (ws : List Way) (rs : List Route) → WaysOk ws → WaysOk (ws ++ map outer_way rs)
+ways_fit_all [] [] ok = tt
+ways_fit_all [] (r ∷ rs) ok = (omega arith, ways_fit_all [] rs tt)
+ways_fit_all (w ∷ ws) rs ok = (ok.0, ways_fit_all ws rs ok.1)
 
 ways_fit : (d : As) (xs : List Line) → WaysOk (ways_along d xs)
 ways_fit d [] = tt
@@ -310,7 +347,8 @@ module _ (c : Codec) (codec : IsCodec c) (n : NetworkParts) (net : IsNetwork n) 
   act_fit ds s t es held (rests s' t' same) = λ prem. let b = held.fit prem in (b.0, fit_same s t same.elements same.parent b.1)
   act_fit ds s t es held (hears i bytes m s' read) =
       give_fit (element_of n i) (Outside i) m s [] ds
-      (λ os prem sent. let r = prem.0.0 in (outside_known c codec r.2 r.3 (element_of n i) i m r.4 prem.1.0, above_known c codec r.2 r.3 m r.4 prem.1.0)) held.fit
+      (λ os prem sent. let r = prem.0.0 in
+      (heard_outside c codec r.2 r.3 r.6 (element_of n i) i r.4 m r.5 r.7 prem.1.0, heard_above c codec r.2 r.3 r.6 r.4 m r.5 r.7 prem.1.0)) held.fit
   act_fit ds s t es held (carries a b bytes rest m s' u is read same) =
       let popped : Deed Segment = Pops a b in
       give_fit b (Inner a) m u (popped ∷ []) ds
@@ -371,7 +409,7 @@ module _ (c : Codec) (codec : IsCodec c) (n : NetworkParts) (net : IsNetwork n) 
   bare_holds = record {
     stand = λ a b. refl;
     good = record { current = λ d. Topologies.empty_domain d; pinned = λ d. tt };
-    fit = λ prem. (tt, record { elements = λ d. (tt, ways_fit d (lines n), tt); parent = (tt, ways_fit parent_as (lines n)) });
+    fit = λ prem. (tt, record { elements = λ d. (tt, ways_fit_all (inner_ways n d) (routes n d) (ways_fit d (lines n)), tt); parent = (tt, ways_fit parent_as (lines n)) });
   }
 
   pub run_fits : (es : List Entry) (s : Plant) → Run c n es s → I (deeds_of c n es) s

@@ -18,7 +18,7 @@ use Rattle.plant_model.specs.declared.output.Output.{Output}
 use Rattle.plant_text.specs.Names.{same_as, parent_as}
 use Rattle.plant_model.specs.Wire.{Bytes, Codec}
 use Rattle.plant_model.specs.Writing.{reply_message, busy, error_message, request_message}
-use Rattle.plant_model.specs.Element.{upped, downed, lost}
+use Rattle.plant_model.specs.Element.{upped, downed, lost, sent_through}
 use Rattle.plant_model.specs.Taking.{take}
 use Rattle.plant_model.specs.Solving.{commit}
 use Rattle.plant_model.specs.Parent as parent
@@ -36,6 +36,8 @@ use Rattle.plant_laws.proofs.Sends.{IsAlone, Each, Each-within}
 use Rattle.plant_laws.proofs.Written.{AllOut, take_all, take_up, commit_all, commit_up, lost_all}
 use Rattle.plant_laws.proofs.Trips.{AllIn, Core, Move, at_start, after_pop, with_rest, broken, Step, rests, hears, carries, keeps, hands, rises, shuts, says, expires, breaks, drops}
 use Rattle.plant_laws.proofs.StepActs.{step_holds}
+use Rattle.plant_laws.proofs.Acts.{IsHeard}
+use Rattle.plant_laws.proofs.Heeding.{heeded_alone}
 use Rattle.plant_laws.proofs.Travel.{run_travels}
 use Rattle.plant_laws.proofs.Again.{EachRead, AreReadAgain}
 use Rattle.std.specs.Prelude.{Contains}
@@ -202,19 +204,23 @@ module _ (c : Codec) (codec : IsCodec c) (n : NetworkParts) where
       let f = fall Pin Segment c n open_of x.lower (Inner x.upper) g in
       (tt, fall_alone x.upper (Inner x.lower) f ds (fall_alone x.lower (Inner x.upper) g ds all))
 
-  heard_alone : (bytes : Bytes) (m : Message) → c.read bytes ≡ Some m → IsSplit c bytes → IsAlone m
-  heard_alone bytes (messages.PcReq asks) read split = codec.splits split.0 bytes asks split.1 read
-  heard_alone bytes (messages.PcRep replies) read split = codec.splits_replies split.0 bytes replies split.1 read
-  heard_alone bytes (messages.PcNtf notices) read split = tt
-  heard_alone bytes (messages.PcErr reports) read split = tt
-  heard_alone bytes (messages.Open body) read split = tt
-  heard_alone bytes messages.Keepalive read split = tt
-  heard_alone bytes (messages.Close why) read split = tt
-  heard_alone bytes (messages.Other kind) read split = tt
+  read_alone : (bytes : Bytes) (m : Message) → c.read bytes ≡ Some m → IsSplit c bytes → IsAlone m
+  read_alone bytes (messages.PcReq asks) read split = codec.splits split.0 bytes asks split.1 read
+  read_alone bytes (messages.PcRep replies) read split = codec.splits_replies split.0 bytes replies split.1 read
+  read_alone bytes (messages.PcNtf notices) read split = tt
+  read_alone bytes (messages.PcErr reports) read split = tt
+  read_alone bytes (messages.Open body) read split = tt
+  read_alone bytes messages.Keepalive read split = tt
+  read_alone bytes (messages.Close why) read split = tt
+  read_alone bytes (messages.Other kind) read split = tt
+
+  heard_alone : (i : ℕ) (s : Core) (bytes : Bytes) (m : Message) → IsHeard Pin Segment c n open_of i s bytes m → IsSplit c bytes → IsAlone m
+  heard_alone i s bytes m heard split =
+      subst IsAlone (sym heard.2) (heeded_alone c (λ id. sent_through (Outside i) id (s.elements (element_of n i)).pending.rows) heard.0 (read_alone bytes heard.0 heard.1 split))
 
   step_alone : (ds : Transcript) (s t : Core) (es : Transcript) → AreReadAgain c ds → Stand c n ds s → AllSo ds → Step c n (IsSplit c) s es t → AllSo (es ++ ds)
   step_alone ds s t es again stand all (rests s' t' same) = all
-  step_alone ds s t es again stand all (hears i bytes m s' read split) = give_alone (element_of n i) (Outside i) m s [] ds (heard_alone bytes m read split) all
+  step_alone ds s t es again stand all (hears i bytes m s' read split) = give_alone (element_of n i) (Outside i) m s [] ds (heard_alone i s bytes m read split) all
   step_alone ds s t es again stand all (carries a b bytes rest m s' u is read same) =
       let f = first_read c n a b ds s bytes rest m again stand is read in
       let first = standing_alone a b ds all f.0 (subst (λ (l : List Standing). In f.0 l) (sym f.2) (inl refl)) in

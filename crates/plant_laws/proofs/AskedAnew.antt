@@ -20,6 +20,7 @@ use Rattle.plant_model.specs.Names.{the_parent, has_pair}
 use Rattle.plant_model.specs.Wire.{Codec, Checked, Admitted, Wrong}
 use Rattle.plant_model.specs.Writing.{error_message, reply_message, request_message, busy, unavailable, no_key, ids_of}
 use Rattle.plant_model.specs.Element.{Element, Way, Place, Taken, fresh_id, way_to, with_last}
+use Rattle.plant_model.specs.Routes.{toward}
 use Rattle.plant_model.specs.Taking.{take, take_asked, take_checked, take_new, take_wish, take_path, take_along, send_on, sequence_or, goes_up, expansion}
 use Rattle.plant_model.specs.Parent as parent
 use Rattle.plant_model.specs.Parent.{Family, Parent, Given, Wait, Errand}
@@ -82,7 +83,7 @@ module _ (P : Type 0) (S : Type 0) (show : S → List Hop) (e : Place) (pin : P)
   along : (flags y : ℕ) (w : Wanted) (k : Element P S) (sequence : List As) → says (take_along e pin p class flags y w k sequence) ≤ one_if (y == x)
   along flags y w k [] = denies flags y
   along flags y w k (a ∷ []) = omega arith
-  along flags y w k (a ∷ b ∷ rest) = sends flags y w (a ∷ b ∷ rest) (b ∷ rest) (is_denied e.deny class b) k (way_to (Inner b) k.ways)
+  along flags y w k (a ∷ b ∷ rest) = sends flags y w (a ∷ b ∷ rest) (b ∷ rest) (is_denied e.deny class b) k (way_to (toward b e.routes) k.ways)
 
   wishes : (flags y : ℕ) (k : Element P S) (wish : Wish) → says (take_wish show e pin p class now flags y k wish) ≤ one_if (y == x)
   wishes flags y k (Path w) =

@@ -102,13 +102,13 @@ module _ (c : Codec) (codec : IsCodec c) (n : NetworkParts) (es : List Entry) (s
     is_of (Expires t) cause i = absurd i
     is_of (Hands i' bytes) cause i = absurd i
 
-  pub asked_of_run : (m : Transcript) (d b : As) (asks : List Asked) → d ≢ parent_as → Within m now → SentIn m d (Inner b) (messages.PcReq asks) → IsAsked c n m d b asks
-  asked_of_run [] d b asks real w sent = absurd sent
-  asked_of_run (e ∷ older) d b asks real w sent =
+  pub asked_of_run : IsNetwork n → (m : Transcript) (d b : As) (asks : List Asked) → d ≢ parent_as → Within m now → SentIn m d (Inner b) (messages.PcReq asks) → IsAsked c n m d b asks
+  asked_of_run net [] d b asks real w sent = absurd sent
+  asked_of_run net (e ∷ older) d b asks real w sent =
       let low = low_of d real in
       let single = run_single c n codec es s run written in
       let numbers = (run_last c codec n es s run single short d low).1 in
-      let x = is_of d b asks low e (Each-within (HasCause c) now (run_has c n es s run single) e older w).0 (in_of (Out d b asks low) (outputs_at d e) sent) in
+      let x = is_of d b asks low e (Each-within (HasCause c) now (run_has c n net es s run single) e older w).0 (in_of (Out d b asks low) (outputs_at d e) sent) in
       let f = x.4 in
       let to : Inner b ≡ f.to = ap (λ (o : Output). o.to) f.sends in
       let message : messages.PcReq asks ≡ request_message f.id f.wanted f.wanted.target f.rest = ap (λ (o : Output). o.message) f.sends in

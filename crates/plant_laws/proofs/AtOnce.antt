@@ -24,6 +24,7 @@ use Rattle.plant_model.specs.Wire.{Codec, Checked, Admitted, Wrong}
 use Rattle.plant_model.specs.Writing.{reply_message, unavailable, no_key}
 use Rattle.disclosure.specs.Policy.{is_denied}
 use Rattle.plant_model.specs.Element.{Element, Way, Place, Taken, way_to, with_last, upped, downed}
+use Rattle.plant_model.specs.Routes.{toward}
 use Rattle.plant_model.specs.Taking.{take, take_asked, take_checked, take_new, take_wish, take_along, send_on, sequence_or, goes_up, expansion}
 use Rattle.plant_model.specs.Parent as parent
 use Rattle.plant_model.specs.Parent.{Family, Parent, Given, Wait, Errand}
@@ -74,7 +75,7 @@ module _ (P : Type 0) (S : Type 0) (show : S → List Hop) (e : Place) (pin : P)
   along : (flags x : ℕ) (w : Wanted) (k : Element P S) (sequence : List As) → EachReply (OfId x) (take_along e pin p class flags x w k sequence).outputs
   along flags x w k [] = ((λ q is. same_reply flags x unavailable q is), tt)
   along flags x w k (a ∷ []) = tt
-  along flags x w k (a ∷ b ∷ rest) = sends flags x w (a ∷ b ∷ rest) (b ∷ rest) (is_denied e.deny class b) k (way_to (Inner b) k.ways)
+  along flags x w k (a ∷ b ∷ rest) = sends flags x w (a ∷ b ∷ rest) (b ∷ rest) (is_denied e.deny class b) k (way_to (toward b e.routes) k.ways)
 
   wishes : (flags x : ℕ) (k : Element P S) (wish : Wish) → EachReply (OfId x) (take_wish show e pin p class now flags x k wish).outputs
   wishes flags x k (Expand key pce) = ((λ q is. same_reply flags x (expansion show e class now key pce k) q is), tt)

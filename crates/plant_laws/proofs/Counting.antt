@@ -3,7 +3,6 @@ use Rattle.std.proofs.Common.{◌≡◌, ◌+◌, ◌-◌, ◌≤◌, ◌<◌, �
 use Rattle.std.proofs.lemmas.Bool.{cases_Bool, eq-eqb, leb-false}
 use Rattle.dom_base.specs.declared.names.As.{As}
 use Rattle.dom_base.specs.declared.names.Peer.{Peer}
-use Rattle.dom_base.specs.declared.names.Peer.TheVariants.{Inner}
 use Rattle.pcep_subobjects.specs.declared.hop.Hop.{Hop}
 use Rattle.pcep_messages.specs.declared.message.Asked.{Asked}
 use Rattle.pcep_messages.specs.declared.message.Answer.{Answer}
@@ -26,6 +25,7 @@ use Rattle.plant_model.specs.Writing.{error_message, reply_message, unavailable,
 use Rattle.plant_model.specs.Branches.{branches_in, open_branch, path_of}
 use Rattle.disclosure.specs.Policy.{is_denied}
 use Rattle.plant_model.specs.Element.{Stage, Waits, Ready, Element, Row, Way, Place, Taken, silent, only, each, way_to, waiting, waits_for, at_stage, is_client, lost, is_lost, lost_output, stays, downed}
+use Rattle.plant_model.specs.Routes.{toward}
 use Rattle.plant_model.specs.Taking.{take, take_asked, take_checked, take_new, take_wish, take_path, take_along, send_on, item_of, sequence_or, goes_up, expansion, answered, staged, take_reply, take_answer, made_ready, take_notice, notice_steps, take_busy, take_cancel, told_busy, cancelled, take_report, take_errors, take_failure, told_error, error_answer}
 use Rattle.vspt_tree.specs.declared.branch.Best.{Best}
 use Rattle.vspt_tree.specs.declared.branch.Branch.{Branch}
@@ -258,7 +258,7 @@ module _ (P : Type 0) (S : Type 0) where
         pending = begun_pending p x (item_of pin class flags w (a ∷ []) (Ready [])) k.pending are room.0 room.1 room.2;
         others = λ q x' other. refl;
       }
-      asks_along flags x w k are room (a ∷ b ∷ rest) = asks_send flags x w (a ∷ b ∷ rest) (b ∷ rest) (is_denied e.deny class b) k are room (way_to (Inner b) k.ways)
+      asks_along flags x w k are room (a ∷ b ∷ rest) = asks_send flags x w (a ∷ b ∷ rest) (b ∷ rest) (is_denied e.deny class b) k are room (way_to (toward b e.routes) k.ways)
 
       asks_path : (flags x : ℕ) (w : Wanted) (k : Element P S) → ArePending k.pending → HasRoom k x → Asks (take_path e pin p class flags x w k)
       asks_path flags x w k are room =

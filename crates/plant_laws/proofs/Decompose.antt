@@ -21,10 +21,11 @@ use Rattle.pcep_session.specs.Table.{turn_of, new_state}
 use Rattle.plant_text.specs.Settings.{Line, line, lines, is_linked, peer_row}
 use Rattle.plant_model.specs.State.{State, Deed, Connection, Pops}
 use Rattle.plant_model.specs.Deeds.{Going, element_of, is_due, is_tick, is_out_empty, any_fall, our_offer, with_session, with_inbox, read_as, input_of, give, rise, fall, say, clear, expire, outside_act, outside_acts, outside_step, outside_input, inner_act, inner_acts, inner_input, begin_end, begin_line, break_line, tick_outside, tick_lines, with_access, with_inner}
+use Rattle.plant_model.specs.Outside.{heeded}
 use Rattle.pcep_framing.specs.Frames.{joined}
 use Rattle.plant_model.specs.Events as events
 use Rattle.plant_model.specs.Events.{is_down}
-use Rattle.plant_laws.proofs.Acts.{IsSameCore, popped, Acts, rests, hears, carries, nods, hands, rises, falls, says, clears, expires, Goes, stands, goes_on}
+use Rattle.plant_laws.proofs.Acts.{IsSameCore, IsHeard, popped, Acts, rests, hears, carries, nods, hands, rises, falls, says, clears, expires, Goes, stands, goes_on}
 use Rattle.plant_laws.proofs.Shape.{has_pass, shape}
 
 pub nil_right : {A : Type 0} (xs : List A) → xs ++ [] ≡ xs
@@ -68,7 +69,7 @@ module _ (P : Type 0) (S : Type 0) (c : Codec) (n : NetworkParts) (show : S → 
     rest_on : (g : Going P S) (t : State P S) → IsSameCore P S g.state t → Reached g → Reached (record { state = t; deeds = g.deeds })
     rest_on g t same r = goes_on s0 g.state t g.deeds [] r (rests g.state t same)
 
-    hear_on : (i : ℕ) (bytes : Bytes) (m : Message) (g : Going P S) → c.read bytes ≡ Some m → Reached g → Reached (give P S c n show (element_of n i) (Outside i) m g)
+    hear_on : (i : ℕ) (bytes : Bytes) (m : Message) (g : Going P S) → IsHeard P S c n show i g.state bytes m → Reached g → Reached (give P S c n show (element_of n i) (Outside i) m g)
     hear_on i bytes m g read r =
         let h = give P S c n show (element_of n i) (Outside i) m (record { state = g.state; deeds = [] }) in
         subst Reached (sym (give_framed (element_of n i) (Outside i) m g.state g.deeds)) (goes_on s0 g.state h.state g.deeds h.deeds r (hears i bytes m g.state read))
@@ -134,7 +135,8 @@ module _ (P : Type 0) (S : Type 0) (c : Codec) (n : NetworkParts) (show : S → 
           | inl none ↦ quiet_outside i (is_tick x) t.actions h none r'
           | inr pass ↦
               let b = read pass.0 pass.1 in
-              subst (λ (as' : List Action). Reached (outside_acts P S c n show i (is_tick x) as' h)) (sym pass.2) (hear_on i b.0 pass.0 h b.1 r')
+              subst (λ (as' : List Action). Reached (outside_acts P S c n show i (is_tick x) as' h)) (sym pass.2)
+              (hear_on i b.0 (heeded c (Outside i) (h.state.elements (element_of n i)).pending.rows pass.0) h (pass.0, b.1, refl) r')
         ]
 
     outside_input_on : (i : ℕ) (x : Input) (g : Going P S) → IsRead x → Reached g → Reached (outside_input P S c n show i x g)

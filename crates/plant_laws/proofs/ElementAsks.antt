@@ -4,7 +4,6 @@ use Rattle.std.proofs.lemmas.Bool.{cases_Bool}
 use Rattle.dom_base.specs.declared.names.As.{As}
 use Rattle.dom_base.specs.declared.addr.Addr.{Addr}
 use Rattle.dom_base.specs.declared.names.Peer.{Peer}
-use Rattle.dom_base.specs.declared.names.Peer.TheVariants.{Inner}
 use Rattle.pcep_subobjects.specs.declared.hop.Hop.{Hop}
 use Rattle.pcep_messages.specs.declared.message.Message.{Message}
 use Rattle.pcep_messages.specs.declared.message.Asked.{Asked}
@@ -21,6 +20,7 @@ use Rattle.plant_model.specs.Wire.{Codec, Checked, Admitted, Wrong}
 use Rattle.plant_model.specs.Writing.{request_message, reply_message, busy, unavailable}
 use Rattle.disclosure.specs.Policy.{is_denied}
 use Rattle.plant_model.specs.Element.{Stage, Waits, Ready, Item, Way, Element, Place, Taken, silent, only, fresh_id, way_to}
+use Rattle.plant_model.specs.Routes.{toward}
 use Rattle.plant_model.specs.Taking as taking
 use Rattle.plant_model.specs.Taking.{sequence_or, goes_up}
 use Rattle.plant_laws.specs.Transcript.{answers_to, Effect, Keeps, begins_if}
@@ -99,7 +99,7 @@ module _ (P : Type 0) (S : Type 0) (c : Codec) (show : S → List Hop) (e : Plac
       along : (sequence : List As) → sequence ≡ cond (goes_up e.parent class w.sequence) [] (sequence_or e.own w.sequence) → Holds (Admitted (path_request w)) (taking.take_along e pin p class flags x w k sequence)
       along [] is = denied w are
       along (d ∷ []) is = opened (d ∷ []) (Ready []) (taking.take_along e pin p class flags x w k (d ∷ [])) refl (λ key. refl) is
-      along (d ∷ b ∷ rest) is = sends_on (d ∷ b ∷ rest) (b ∷ rest) (is_denied e.deny class b) (way_to (Inner b) k.ways) is
+      along (d ∷ b ∷ rest) is = sends_on (d ∷ b ∷ rest) (b ∷ rest) (is_denied e.deny class b) (way_to (toward b e.routes) k.ways) is
 
       path_asked : Holds (Admitted (path_request w)) (taking.take_path e pin p class flags x w k)
       path_asked = go (goes_up e.parent class w.sequence) refl

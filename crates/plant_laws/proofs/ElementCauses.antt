@@ -5,7 +5,6 @@ use Rattle.std.proofs.Common.{eqb-true, eq-eqb}
 use Rattle.dom_base.specs.declared.names.As.{As}
 use Rattle.dom_base.specs.declared.addr.Addr.{Addr}
 use Rattle.dom_base.specs.declared.names.Peer.{Peer}
-use Rattle.dom_base.specs.declared.names.Peer.TheVariants.{Inner}
 use Rattle.pcep_codes.specs.declared.errors.TheConstants as errors
 use Rattle.pcep_codes.specs.declared.notices.TheConstants as notices
 use Rattle.pcep_codes.specs.declared.no_paths.TheConstants as no_paths
@@ -32,6 +31,7 @@ use Rattle.plant_model.specs.Names.{the_parent, same_addr, has_pair}
 use Rattle.plant_model.specs.Wire.{Codec, Checked, Admitted, Wrong}
 use Rattle.plant_model.specs.Writing.{request_message, reply_message, busy, unavailable, no_key}
 use Rattle.plant_model.specs.Element.{Element, Row, Way, Taken, only, each, waiting, fresh_id, way_to}
+use Rattle.plant_model.specs.Routes.{toward}
 use Rattle.plant_model.specs.Taking.{sequence_or, goes_up, denied, send_on, sent_on, take_along, take_path, expansion_of, expansion, take_wish, take_new, take_checked, take_asked, answered, made_ready, take_answer, take_reply, told_busy, cancelled, take_busy, take_cancel, notice_steps, take_notice, told_error, take_failure, take_errors, take_report, take}
 use Rattle.plant_model.specs.Parent.{is_up}
 use Rattle.plant_model.specs.Settings.{place}
@@ -105,7 +105,8 @@ module _ (c : Codec) (n : NetworkParts) (d : As) (pin : Pin) (p : Peer) (now : �
     along_on down [] is = absurd (never_empty d w.sequence is)
     along_on down (a ∷ []) is = ends_here a down is refl
     along_on down (a ∷ b ∷ rest) is =
-        send_case (Inner b) (a ∷ b ∷ rest) (b ∷ rest) (is_denied (place n d).deny (class_of n p) b) (along a b rest down is refl refl refl) (way_to (Inner b) k.ways) refl
+        let to = toward b (place n d).routes in
+        send_case to (a ∷ b ∷ rest) (b ∷ rest) (is_denied (place n d).deny (class_of n p) b) (along a b rest down is refl refl refl) (way_to to k.ways) refl
 
     path_on : Goes (take_path (place n d) pin p (class_of n p) r.flags r.id w k)
     path_on =

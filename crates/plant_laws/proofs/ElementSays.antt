@@ -10,7 +10,6 @@ use Rattle.dom_base.specs.declared.addr.Addr.{Addr}
 use Rattle.dom_base.specs.declared.limits.TheConstants.{COST_MAX}
 use Rattle.pcep_subobjects.specs.Addresses.{IsAddr}
 use Rattle.dom_base.specs.declared.names.Peer.{Peer}
-use Rattle.dom_base.specs.declared.names.Peer.TheVariants.{Inner}
 use Rattle.pcep_subobjects.specs.declared.hop.Hop.{Hop}
 use Rattle.pcep_messages.specs.declared.message.Message.{Message}
 use Rattle.pcep_messages.specs.declared.message.Message.TheVariants as messages
@@ -38,6 +37,7 @@ use Rattle.plant_model.specs.Wire.{Codec, Checked, Admitted, Wrong}
 use Rattle.plant_model.specs.Laws.{IsCodec, Admits, IsRequestInRange, CanBeSent, IsSequence, AreWords, HasNumbers}
 use Rattle.plant_model.specs.Writing.{request_message, reply_message, error_message, busy, unavailable, no_key}
 use Rattle.plant_model.specs.Element.{Item, Stage, Ready, Waits, Row, Way, Element, Place, Taken, each, way_to, with_last, with_up, upped, ticked, waiting, waits_for, at_stage, lost_of, is_lost, stays, after_id, pass_over, is_waiting, fresh_id, is_client, lost_output, downed}
+use Rattle.plant_model.specs.Routes.{toward}
 use Rattle.plant_model.specs.Element as element
 use Rattle.plant_model.specs.Taking as taking
 use Rattle.plant_model.specs.Taking.{take, sequence_or, goes_up, error_answer}
@@ -386,7 +386,7 @@ module _ (P : Type 0) (S : Type 0) (show : S → List Hop) (Seg : S → Type 0)
     along_fine flags x v k [] fit goes w h = denied_fine flags x k w h
     along_fine flags x v k (a ∷ []) fit goes w h = (tt, (opened_fine flags x _ k refl fit w h, h.1, h.2))
     along_fine flags x v k (a ∷ b ∷ rest) fit goes w h =
-        on_fine flags x v (a ∷ b ∷ rest) (b ∷ rest) (is_denied e.deny class b) k (way_to (Inner b) k.ways) (way_fits (Inner b) k.ways h.1) fit (goes a b rest refl) w h
+        on_fine flags x v (a ∷ b ∷ rest) (b ∷ rest) (is_denied e.deny class b) k (way_to (toward b e.routes) k.ways) (way_fits (toward b e.routes) k.ways h.1) fit (goes a b rest refl) w h
 
     expansion_written : (flags x key : ℕ) (pce : Addr) (k : Element P S) → AreWords (flags, x) → Holds k → IsWritten (reply_message flags x (taking.expansion show e class now key pce k))
     expansion_written flags x key pce k w h = go (same_addr pce e.id) (can_expand class) (segment_of k.keys now key) (stands_fine k.keys.life now key k.keys.issued h.2)

@@ -101,7 +101,7 @@ module _ (c : Codec) (codec : IsCodec c) (n : NetworkParts) (net : IsNetwork n) 
     outside_none i row there y waits = go sent.goes
       where
         sent : WasSentOn c (deeds_of c n entries) d row (Outside i) y
-        sent = waits_are_sent c codec n entries before run (every_written c codec n net entries before run short) d row (contains row (before.elements d).pending.rows there) (Outside i) y waits
+        sent = waits_are_sent c codec n net entries before run (every_written c codec n net entries before run short) d row (contains row (before.elements d).pending.rows there) (Outside i) y waits
 
         go : GoesOn row.1.item.sequence sent.rest (Outside i) → ⊥
         go (inl up) = (let clash : Outside i ≡ the_parent = up.2 in cc)

@@ -130,7 +130,7 @@ module _ (c : Codec) (codec : IsCodec c) (n : NetworkParts) (net : IsNetwork n) 
   ]
     where
       asked : IsAsked c n put a at (x ∷ [])
-      asked = asked_of_run c codec n es s run written short put a at (x ∷ []) real within sent
+      asked = asked_of_run c codec n es s run written short net put a at (x ∷ []) real within sent
 
       upward : at ≡ parent_as → x ≡ asked_of asked.id asked.wanted asked.wanted.target [] → IsIpv6 at x rp kind value
       upward up same =
@@ -436,7 +436,7 @@ module _ (c : Codec) (codec : IsCodec c) (n : NetworkParts) (net : IsNetwork n) 
     own_told deed (own.Close why) same = not_both true refl (ap is_err same)
 
     linked_by : (before : Plant) (e : Event) (at : As) (q : Peer) (m : Message) → Passes c n before e at q m → (b : As) → q ≡ Inner b → is_linked n b at ≡ true
-    linked_by before e at q m (from_outside j x bytes rest ev conn first read acts at' peer) b is = absurd (let clash : Outside j ≡ Inner b = sym peer ∙ is in cc)
+    linked_by before e at q m (from_outside j x bytes rest raw ev conn first read acts heard at' peer) b is = absurd (let clash : Outside j ≡ Inner b = sym peer ∙ is in cc)
     linked_by before e at q m (from_inside a' bytes rest ev linked first read acts peer) b is =
         let same : Inner a' ≡ Inner b = sym peer ∙ is in
         let here : a' ≡ b = cc in

@@ -31,6 +31,7 @@ use Rattle.plant_model.specs.Parent as parent
 use Rattle.plant_model.specs.Settings.{place, family}
 use Rattle.plant_model.specs.State.{Connection, Access, Pops, Takes, Ups, Downs, Clears}
 use Rattle.plant_model.specs.Deeds.{Going, our_offer, own_message, element_of, is_due, is_tick, is_out_empty, any_fall, on_connection, with_session, with_inbox, read_as, input_of, with_access, with_element, with_parent, with_inner, put, puts, give, rise, fall, say, clear, expire, outside_act, outside_acts, outside_step, outside_input, inner_act, inner_acts, inner_input, begin_end, break_line, tick_outside, tick_lines}
+use Rattle.plant_model.specs.Outside.{heeded}
 use Rattle.plant_model.specs.Events as events
 use Rattle.plant_model.specs.Events.{is_down, later}
 use Rattle.plant_model.specs.Plant.{Pin, Segment, Plant}
@@ -348,10 +349,10 @@ module _ (c : Codec) (n : NetworkParts) (before : Plant) (e : Event) where
       | inr pass ↦
           let read = got_read c item pass.0 pass.1 in
           let acts : (turn_of x.session (input.Got pass.0)).actions ≡ action.Pass pass.0 ∷ [] = subst (λ (y : Input). (turn_of x.session y).actions ≡ action.Pass pass.0 ∷ []) pass.1 pass.2 in
-          let passes = from_outside i x read.0 rest is open' (first ∙ ap (λ (z : Option Bytes). z ∷ rest) read.1) read.2 acts refl refl in
+          let passes = from_outside i x read.0 rest pass.0 is open' (first ∙ ap (λ (z : Option Bytes). z ∷ rest) read.1) read.2 acts refl refl refl in
           let after = with_access Pin Segment c n open_of i (with_session (turn_of x.session came).next) taken in
           subst (λ (as' : List Action). Have (outside_acts Pin Segment c n open_of i (is_tick came) as' (record { state = after; deeds = [] })).deeds) (sym pass.2)
-          (give_on (element_of n i) (Outside i) pass.0 after.accesses after.sessions after.queues [] passes tt)
+          (give_on (element_of n i) (Outside i) (heeded c (Outside i) (before.elements (element_of n i)).pending.rows pass.0) after.accesses after.sessions after.queues [] passes tt)
     ]
 
     pub item_have : Have (outside_input Pin Segment c n open_of i came (record { state = taken; deeds = [] })).deeds

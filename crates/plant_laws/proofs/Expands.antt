@@ -31,6 +31,8 @@ use Rattle.plant_model.specs.Element.{Row}
 use Rattle.plant_model.specs.Taking.{take, take_checked, take_new, take_wish, expansion, expansion_of}
 use Rattle.plant_text.specs.Settings.{deny_at, row_of, class_of, life}
 use Rattle.plant_model.specs.Settings.{place, place_from}
+use Rattle.plant_model.specs.declared.route.Route.{Route}
+use Rattle.plant_model.specs.Routes.{routes}
 use Rattle.plant_model.specs.State.{Takes, Pops}
 use Rattle.plant_model.specs.Plant.{Pin, Segment, Plant, Entry, Run, deeds_of}
 use Rattle.plant_model.specs.Laws.{IsCodec, IsNetwork}
@@ -49,9 +51,9 @@ not_both : {X : Type 0} (t : Bool) → t ≡ true → t ≡ false → X
 not_both true e f = cc
 not_both false e f = cc
 
-own_is : (d : As) (deny : List Deny) (o : Option ElementRow) → (place_from d deny o).own ≡ d
-own_is d deny None = refl
-own_is d deny (Some r) = refl
+own_is : (d : As) (deny : List Deny) (routes : List Route) (o : Option ElementRow) → (place_from d deny routes o).own ≡ d
+own_is d deny routes None = refl
+own_is d deny routes (Some r) = refl
 
 -- what a number stands for among keys
 record StandsFor (life now number : ℕ) (keys : List (Issued Segment)) (segment : Segment) : Type 0 where
@@ -156,7 +158,7 @@ module _ (c : Codec) (codec : IsCodec c) (n : NetworkParts) (network : IsNetwork
       let checked : Checked → List Output = λ z. (take_checked open_of e (s.current d) p (class_of n p) s.clock k z).outputs ++ [] in
       let new : Option ℕ → List Output = λ o. (take_new open_of e (s.current d) p (class_of n p) s.clock r k o).outputs ++ [] in
       let wished : Wish → List Output = λ w. (take_wish open_of e (s.current d) p (class_of n p) s.clock r.flags r.id k w).outputs ++ [] in
-      ap checked (ap (λ (z : As). c.check a z) (own_is d (deny_at d n.deny) (row_of d n.elements)) ∙ admitted) ∙ ap new none ∙ ap wished wish
+      ap checked (ap (λ (z : As). c.check a z) (own_is d (deny_at d n.deny) (routes n d) (row_of d n.elements)) ∙ admitted) ∙ ap new none ∙ ap wished wish
 
   abbrev Right : Transcript → Peer → Request → ℕ → Addr → List Output → Type 0
   Right older p r key pce os =

@@ -31,6 +31,7 @@ use Rattle.plant_model.specs.Settings.{place, family}
 use Rattle.plant_model.specs.Samples.{As_, asks, the_open}
 use Rattle.plant_model.specs.State.{Access, Connection, Pops, Takes, Ups, Downs}
 use Rattle.plant_model.specs.Deeds.{Going, our_offer, own_message, element_of, is_due, is_tick, is_out_empty, any_fall, on_connection, with_more, with_session, with_inbox, input_of, with_access, with_element, with_parent, with_inner, put, puts, give, rise, fall, say, clear, outside_act, outside_acts, outside_step, inner_act, inner_acts, begin_end, break_line}
+use Rattle.plant_model.specs.Outside.{heeded}
 use Rattle.plant_model.specs.Events as events
 use Rattle.plant_model.specs.Events.{is_down, fed}
 use Rattle.plant_model.specs.Plant.{Pin, Segment, Plant, happened, solved, opened}
@@ -114,7 +115,9 @@ module _ (i : ℕ) (miss : (0 == i) ≡ false) where
   outside_none j ticks (action.Down why ∷ as') g none =
       let h : Move = record { state = with_access Pin Segment wire two open_of j (with_inbox []) g.state; deeds = g.deeds } in
       outside_none j ticks as' (fall Pin Segment wire two open_of (element_of two j) (Outside j) h) (fall_none (element_of two j) (Outside j) h (access_none j (with_inbox []) g.state none))
-  outside_none j ticks (action.Pass m ∷ as') g none = outside_none j ticks as' (give Pin Segment wire two open_of (element_of two j) (Outside j) m g) (give_none (element_of two j) (Outside j) m g none)
+  outside_none j ticks (action.Pass m ∷ as') g none =
+      let heard = heeded wire (Outside j) (g.state.elements (element_of two j)).pending.rows m in
+      outside_none j ticks as' (give Pin Segment wire two open_of (element_of two j) (Outside j) heard g) (give_none (element_of two j) (Outside j) heard g none)
 
   step_none : (j : ℕ) (x : Input) (g : Move) → NoneAt g.state → (o : Option Connection) → NoneAt (outside_step Pin Segment wire two open_of j x g o).state
   step_none j x g none None = none

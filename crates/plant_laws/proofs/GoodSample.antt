@@ -24,6 +24,7 @@ use Rattle.plant_model.specs.RealWire.{wire}
 use Rattle.plant_model.specs.Wire.{Codec, Checked, Admitted}
 use Rattle.plant_model.specs.Writing.{vspt_flag}
 use Rattle.plant_model.specs.Element.{Item, way_to}
+use Rattle.plant_model.specs.Routes.{toward}
 use Rattle.plant_model.specs.Parent.{is_up}
 use Rattle.plant_model.specs.Samples.{As_}
 use Rattle.plant_model.specs.Settings.{place}
@@ -253,7 +254,7 @@ leads_first next' rest denied (upward up n r d) = absurd (let clash : false ≡ 
 leads_first next' rest denied (along own b more up is n r d) =
     let same : As_ 1 ∷ As_ 2 ∷ [] ≡ own ∷ b ∷ more = is in
     let to : As_ 2 ≡ b = cc in
-    (n ∙ ap (λ (z : As). Inner z) (sym to), d)
+    (n ∙ ap (λ (z : As). toward z (place two (As_ 1)).routes) (sym to), d)
 
 leads_second : {X : Type 0} (next' : Peer) (rest : List As) (denied : Bool) → GoesTo two (As_ 2) (Inner (As_ 1)) wanted_second next' rest denied → X
 leads_second next' rest denied (upward up n r d) = absurd (let clash : false ≡ true = up in cc)

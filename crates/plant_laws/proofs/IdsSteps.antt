@@ -52,6 +52,7 @@ use Rattle.plant_laws.proofs.Asks.{Asks}
 use Rattle.plant_laws.proofs.Alive.{IsSound}
 use Rattle.plant_laws.proofs.Decode.{Rising, rising_none, same_request}
 use Rattle.plant_laws.proofs.Onward.{SendsOne, IsCalm, take_sends, way_peer}
+use Rattle.plant_laws.proofs.Unrouted.{to_element}
 use Rattle.plant_laws.proofs.OnwardUpper as above
 use Rattle.plant_laws.proofs.Errands.{Last, HasWay, HaveWays, IsBelow, asked_well}
 use Rattle.plant_laws.proofs.SentOnAsks.{IsGood, good_none, sound_deed, goes_asks, ask_along, one_rises, fresh_next}
@@ -220,8 +221,8 @@ module _ (c : Codec) (n : NetworkParts) (codec : IsCodec c) (p : Peer) (m : Mess
         (ids.waits at z id (tail_of h.1.item.sequence)
         (subst (λ (x : Bool). cond x (ParentWaits K z id (tail_of h.1.item.sequence)) (ElementWaits (E at) z id (tail_of h.1.item.sequence))) (sym real) (h.1.item.sequence, (h, i, is, refl), refl)))
 
-    pub element_given : IsShort (Takes at p m After.outputs ∷ ds) → Ids low (Takes at p m After.outputs ∷ ds) (set_as at After.element E) K × IsSound c (Takes at p m After.outputs)
-    element_given short = go (take_sends Pin Segment c open_of (place n at) pin p (class_of n p) now (E at) m one)
+    pub element_given : IsNetwork n → IsShort (Takes at p m After.outputs ∷ ds) → Ids low (Takes at p m After.outputs ∷ ds) (set_as at After.element E) K × IsSound c (Takes at p m After.outputs)
+    element_given net short = go (take_sends Pin Segment c open_of (place n at) pin p (class_of n p) now (E at) (to_element n net at) m one)
       where
         own_short : (b : As) → Last (E at).ways b + count_asks (put_into b After.outputs) ≤ 4294967295
         own_short b =

@@ -23,7 +23,7 @@ use Rattle.plant_text.specs.Names.{same_as, parent_as}
 use Rattle.plant_model.specs.Names.{is_empty, set_number, set_pair}
 use Rattle.plant_model.specs.Wire.{Bytes, Codec}
 use Rattle.plant_model.specs.Laws.{IsCodec}
-use Rattle.plant_model.specs.Element.{upped, downed}
+use Rattle.plant_model.specs.Element.{upped, downed, sent_through}
 use Rattle.plant_model.specs.Taking.{take}
 use Rattle.plant_model.specs.Solving.{commit}
 use Rattle.plant_model.specs.Parent as parent
@@ -31,10 +31,12 @@ use Rattle.plant_text.specs.Settings.{Line, line, lines, is_linked, is_element, 
 use Rattle.plant_model.specs.Settings.{place, family}
 use Rattle.plant_model.specs.State.{State, Deed, Connection, Access, Loads, Pops, Takes, Says, Ups, Downs, Clears, Solves, Expires, Hands}
 use Rattle.plant_model.specs.Deeds.{Going, element_of, is_due, is_tick, is_out_empty, any_fall, our_offer, on_connection, with_more, with_session, with_inbox, read_as, input_of, with_parent, with_element, put, put_to, puts, give, rise, fall, say, clear, outside_act, outside_acts, outside_step, outside_input, inner_act, inner_acts, inner_input, begin_end, begin_line, break_line, tick_outside, tick_lines, with_access, with_inner}
+use Rattle.plant_model.specs.Outside.{heeded}
 use Rattle.plant_model.specs.Events as events
 use Rattle.plant_model.specs.Events.{split_all, bad_item, is_down}
 use Rattle.plant_model.specs.Plant.{Pin, Segment, Plant, first_pin, Happened, Entry, Run, deeds_of, is_full, Happens}
 use Rattle.plant_laws.proofs.Shape.{has_pass, shape}
+use Rattle.plant_laws.proofs.Heeding.{heeded_single}
 use Rattle.plant_laws.proofs.Rows.{In}
 use Rattle.plant_laws.proofs.Takes.{IsSingle}
 
@@ -180,7 +182,10 @@ module _ (P : Type 0) (S : Type 0) (c : Codec) (n : NetworkParts) (show : S → 
   outside_fine i ticks (action.Down why ∷ as') g ok fine =
       let h : Going P S = record { state = with_access P S c n show i (with_inbox []) g.state; deeds = g.deeds } in
       outside_fine i ticks as' (fall P S c n show (element_of n i) (Outside i) h) ok (fall_fine (element_of n i) (Outside i) h (access_kept i (with_inbox []) g.state (λ x z. tt) fine.0, fine.1))
-  outside_fine i ticks (action.Pass m ∷ as') g ok fine = outside_fine i ticks as' (give P S c n show (element_of n i) (Outside i) m g) ok.1 (give_fine (element_of n i) (Outside i) m g ok.0 fine)
+  outside_fine i ticks (action.Pass m ∷ as') g ok fine =
+      let heard = heeded c (Outside i) (g.state.elements (element_of n i)).pending.rows m in
+      outside_fine i ticks as' (give P S c n show (element_of n i) (Outside i) heard g) ok.1
+      (give_fine (element_of n i) (Outside i) heard g (heeded_single c (λ id. sent_through (Outside i) id (g.state.elements (element_of n i)).pending.rows) m ok.0) fine)
 
   abbrev IsOne : Input → Type 0
   IsOne x = (m : Message) → x ≡ input.Got m → IsSingle m

@@ -23,6 +23,7 @@ use Rattle.plant_text.specs.Settings.{line, class_of, is_linked, peer_row}
 use Rattle.plant_model.specs.Settings.{place, family}
 use Rattle.plant_model.specs.State.{State, Connection, Loads, Pops, Takes, Says, Ups, Downs, Clears, Solves, Expires, Hands}
 use Rattle.plant_model.specs.Deeds.{Going, element_of, is_tick, any_fall, input_of, with_session, with_inbox, with_element, with_parent, puts, give, fall, outside_acts, outside_step, inner_acts, break_line, with_access, with_inner}
+use Rattle.plant_model.specs.Outside.{heeded}
 use Rattle.plant_model.specs.Events as events
 use Rattle.plant_model.specs.Events.{is_down}
 use Rattle.plant_model.specs.Plant.{Pin, Segment, PlantDeed, Happened}
@@ -240,7 +241,7 @@ module _ (c : Codec) (n : NetworkParts) where
           elim (shape k.session y) [
             | inl none ↦ inl (quiet_outside c n s [] i (is_tick y) r.actions h none (rest_on c n s [] (record { state = s; deeds = [] }) t refl refl (still c n s [])))
             | inr pass ↦ inr (subst (λ (as' : List Action). Gives s (outside_acts Pin Segment c n open_of i (is_tick y) as' h)) (sym pass.2)
-                (give_gives s (element_of n i) (Outside i) pass.0 s.queues t.accesses s.sessions [] (inl refl)))
+                (give_gives s (element_of n i) (Outside i) (heeded c (Outside i) (s.elements (element_of n i)).pending.rows pass.0) s.queues t.accesses s.sessions [] (inl refl)))
           ]
 
       item : (inbox : List (Option Bytes)) → Kind s (going (events.take_item Pin Segment c n open_of i s inbox))

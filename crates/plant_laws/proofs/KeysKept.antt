@@ -2,7 +2,6 @@
 use Rattle.std.proofs.Common.{◌≡◌, ℕ, Bool, true, false, cond, ◌==◌, List, [], ◌∷◌, Option, Some, None, refl}
 use Rattle.dom_base.specs.declared.names.As.{As}
 use Rattle.dom_base.specs.declared.names.Peer.{Peer}
-use Rattle.dom_base.specs.declared.names.Peer.TheVariants.{Inner}
 use Rattle.pcep_subobjects.specs.declared.hop.Hop.{Hop}
 use Rattle.pcep_messages.specs.declared.message.Message.{Message}
 use Rattle.pcep_messages.specs.declared.message.Message.TheVariants as messages
@@ -21,6 +20,7 @@ use Rattle.plant_model.specs.Wire.{Codec, Checked, Admitted, Wrong}
 use Rattle.plant_model.specs.Writing.{reply_message, busy, unavailable}
 use Rattle.disclosure.specs.Policy.{is_denied}
 use Rattle.plant_model.specs.Element.{Ready, Row, Way, Element, Place, Taken, silent, only, each, ended, waiting, way_to}
+use Rattle.plant_model.specs.Routes.{toward}
 use Rattle.plant_model.specs.Taking.{take, take_asked, take_checked, take_new, take_wish, take_path, take_along, goes_up, sequence_or, send_on, sent_on, denied, answered, staged, made_ready, take_answer, take_reply, told_busy, cancelled, take_busy, take_cancel, notice_steps, take_notice, told_error, take_failure, error_answer, take_errors, take_report}
 
 module _ (P : Type 0) (S : Type 0) (keys : Keys S) where
@@ -99,7 +99,7 @@ module _ (P : Type 0) (S : Type 0) (keys : Keys S) where
     along_good : (e : Place) (flags x : ℕ) (w : Wanted) (k : Element P S) (path : List As) → Good k → Good (take_along e pin p class flags x w k path).element
     along_good e flags x w k [] good = good
     along_good e flags x w k (a ∷ []) good = good
-    along_good e flags x w k (a ∷ b ∷ rest) good = send_good flags x w (a ∷ b ∷ rest) (b ∷ rest) (is_denied e.deny class b) k (way_to (Inner b) k.ways) good
+    along_good e flags x w k (a ∷ b ∷ rest) good = send_good flags x w (a ∷ b ∷ rest) (b ∷ rest) (is_denied e.deny class b) k (way_to (toward b e.routes) k.ways) good
 
     path_good : (e : Place) (flags x : ℕ) (w : Wanted) (k : Element P S) → Good k → Good (take_path e pin p class flags x w k).element
     path_good e flags x w k good =

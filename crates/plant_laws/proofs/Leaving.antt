@@ -30,6 +30,7 @@ use Rattle.plant_model.specs.Writing.{error_message, reply_message, unavailable,
 use Rattle.plant_model.specs.Branches.{branches_in, open_branch, path_of}
 use Rattle.disclosure.specs.Policy.{is_denied}
 use Rattle.plant_model.specs.Element.{Waits, Ready, Element, Item, Row, Way, Place, Taken, silent, only, each, way_to, waiting, at_stage, fresh_id, with_last, is_client, lost, lost_of, lost_output, is_lost, stays, waits_on, downed}
+use Rattle.plant_model.specs.Routes.{toward}
 use Rattle.plant_model.specs.Taking.{take, take_asked, take_checked, take_new, take_wish, take_path, take_along, send_on, item_of, sequence_or, goes_up, expansion, answered, staged, take_reply, take_answer, made_ready, take_notice, notice_steps, take_busy, take_cancel, told_busy, cancelled, take_report, take_errors, take_failure, told_error, error_answer}
 use Rattle.vspt_tree.specs.declared.branch.Best.{Best}
 use Rattle.vspt_tree.specs.declared.branch.Branch.{Branch}
@@ -438,7 +439,7 @@ module _ (P : Type 0) (S : Type 0) where
         moves_opened x (item_of pin class flags w (a ∷ []) (Ready [])) [] k.ways k (λ on id is. cc),
         begun_pending q x (item_of pin class flags w (a ∷ []) (Ready [])) k.pending are room.0 room.1 room.2,
       )
-      good_along flags x w k are room (a ∷ b ∷ rest) = good_send flags x w (a ∷ b ∷ rest) (is_denied e.deny class b) k are room (way_to (Inner b) k.ways)
+      good_along flags x w k are room (a ∷ b ∷ rest) = good_send flags x w (a ∷ b ∷ rest) (is_denied e.deny class b) k are room (way_to (toward b e.routes) k.ways)
 
       good_path : (flags x : ℕ) (w : Wanted) (k : Element P S) → ArePending k.pending → HasRoom k x → Good k (take_path e pin q class flags x w k)
       good_path flags x w k are room =

@@ -162,5 +162,7 @@ mod GoodRun
 mod GoodSample
 mod GoodInboxes
 mod GoodExists
+pub mod Unrouted
+pub mod Heeding
 -- handed on from below
 pub use Rattle.plant_model.proofs as plant_model

@@ -12,6 +12,7 @@ use Rattle.plant_model.specs.Names.{the_parent, set_as}
 use Rattle.plant_model.specs.Wire.{Codec}
 use Rattle.disclosure.specs.Policy.{is_denied}
 use Rattle.plant_model.specs.Element.{Element, Row, upped, downed}
+use Rattle.plant_model.specs.Routes.{toward}
 use Rattle.plant_model.specs.Taking.{take}
 use Rattle.plant_model.specs.Solving.{commit}
 use Rattle.plant_model.specs.Parent as parent
@@ -71,7 +72,7 @@ module _ (c : Codec) (e : Place) (pin : Pin) (p : Peer) (class : Class) (now : �
   along_same : (flags x : ℕ) (w : Wanted) (k : Elem) (path : List As) → Same k (taking.take_along e pin p class flags x w k path)
   along_same flags x w k [] = refl
   along_same flags x w k (a ∷ []) = refl
-  along_same flags x w k (a ∷ b ∷ rest) = on_same flags x w (a ∷ b ∷ rest) (b ∷ rest) (is_denied e.deny class b) k (way_to (Inner b) k.ways)
+  along_same flags x w k (a ∷ b ∷ rest) = on_same flags x w (a ∷ b ∷ rest) (b ∷ rest) (is_denied e.deny class b) k (way_to (toward b e.routes) k.ways)
 
   wish_same : (flags x : ℕ) (k : Elem) (w : Wish) → Same k (taking.take_wish open_of e pin p class now flags x k w)
   wish_same flags x k (Path w) =

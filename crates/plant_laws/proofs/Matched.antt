@@ -38,7 +38,7 @@ use Rattle.plant_laws.proofs.Readings.{messages_are_read}
 use Rattle.plant_laws.proofs.Counted.{low_of, numbered_within, asks_within, ids_differ}
 use Rattle.plant_laws.proofs.Founded.{founded_within, run_founded}
 use Rattle.plant_laws.proofs.SentOnAsks.{ends_are}
-use Rattle.plant_laws.proofs.WhereWritten.{WrittenIds}
+use Rattle.plant_laws.proofs.WhereWritten.{WrittenIds, WrittenNetIds}
 
 -- ---- what stands was put there
 
@@ -256,15 +256,15 @@ module _ (c : Codec) (codec : IsCodec c) (a b : As) (now : Transcript) (numbers 
       once_by r asks os older w' (single older w') (subst (λ (e : PlantDeed). DeedTells c e) is tells)
       (subst (λ (l : List Output). In {A = Output} (record { to = Inner a; message = messages.PcRep (r ∷ []) }) l) (rw (as_self b) refl) (subst (λ (e : PlantDeed). In {A = Output} (record { to = Inner a; message = messages.PcRep (r ∷ []) }) (outputs_at b e)) is i)))
 
-pub replies_match : WrittenIds RepliesMatchIn
-replies_match c codec n es s run written short a b real r put there h i waits =
+pub replies_match : WrittenNetIds RepliesMatchIn
+replies_match c codec n net es s run written short a b real r put there h i waits =
     let now = deeds_of c n es in
     let single = run_single c n codec es s run written in
     let numbers = (run_last c codec n es s run single short a (low_of a real)).1 in
     let read = run_read c n codec es s run written in
     let x : Standing = record { message = messages.PcRep (r ∷ []); put = put } in
     let was = was_put b a now x (in_of x (standing b a now) there) in
-    let sent = waits_are_sent c codec n es s run written a h i (Inner b) r.id waits in
+    let sent = waits_are_sent c codec n net es s run written a h i (Inner b) r.id waits in
     let some = reply_counts (Inner a) r (outputs_at b was.deed) was.sent in
     record {
       deed = was.deed;

@@ -30,7 +30,9 @@ use Rattle.plant_model.specs.Taking.{take, sequence_or}
 use Rattle.plant_model.specs.Solving.{commit}
 use Rattle.plant_model.specs.Parent as parent
 use Rattle.plant_text.specs.Settings.{Line, class_of, lines}
-use Rattle.plant_model.specs.Settings.{place, family, way, ways_along}
+use Rattle.plant_model.specs.declared.route.Route.{Route}
+use Rattle.plant_model.specs.Routes.{routes, toward}
+use Rattle.plant_model.specs.Settings.{place, family, inner_ways, outer_way, way, ways_along}
 use Rattle.plant_model.specs.State.{State, Loads, Pops, Takes, Says, Ups, Downs, Clears, Solves, Expires, Hands}
 use Rattle.plant_model.specs.Deeds.{Going, element_of, own_message, with_parent, with_element, puts, give, rise, fall}
 use Rattle.plant_model.specs.Events as events
@@ -87,18 +89,31 @@ peer_self p = elim (cases_Bool (same_peer p p)) [
   | inr e ↦ absurd (let out : false ≡ true = sym (rw e refl) ∙ same_key_self (key_of p 0) in cc)
 ]
 
+-- to the element of the domain, or to an outside peer
+abbrev pub Leads : Peer → As → Type 0
+Leads (Inner z) b = Inner z ≡ Inner b
+Leads (Outside i) b = Unit {0}
+
+toward_leads : (b : As) (routes : List Route) → Leads (toward b routes) b
+toward_leads b [] = refl
+toward_leads b (r ∷ rs) = go (same_as r.next b) (toward_leads b rs)
+  where
+    go : (t : Bool) → Leads (toward b rs) b → Leads (cond t (Outside r.peer) (toward b rs)) b
+    go true more = tt
+    go false more = more
+
 -- A request that is sent on asks for what an admitted one wanted, along the rest of its sequence, or of the parent.
 abbrev pub IsKnown : Codec → Wanted → Addr → List As → Peer → Type 0
 IsKnown c w t rest to = (a : Asked) × (own' : As) × (flags : ℕ) × (x : ℕ) × Admits c a own' flags x w × (t ≡ w.target)
-    × (((rest ≡ []) × (to ≡ the_parent)) ⊎ ((b : As) × (more : List As) × (rest ≡ b ∷ more) × (to ≡ Inner b) × IsSequence b more))
+    × (((rest ≡ []) × (to ≡ the_parent)) ⊎ ((b : As) × (more : List As) × (rest ≡ b ∷ more) × Leads to b × IsSequence b more))
 
 sequence_tail : (first b : As) (rest : List As) → IsSequence first (b ∷ rest) → IsSequence b rest
 sequence_tail first b rest is = record { few = let few = is.few in omega (arith, few); differ = λ i j d less below. is.differ (suc i) (suc j) d (omega (arith, less)) (omega (arith, below)); real = All-tail (λ (a : As). 1 ≤ a.0) first (b ∷ rest) is.real }
 
-goes_known : (c : Codec) → IsCodec c → (own' : As) (a : Asked) (flags x : ℕ) (w : Wanted) → Admits c a own' flags x w → Goes Pin Segment (IsKnown c) own' w
-goes_known c codec own' a flags x w admits = (
+goes_known : (c : Codec) → IsCodec c → (own' : As) (routes : List Route) (a : Asked) (flags x : ℕ) (w : Wanted) → Admits c a own' flags x w → Goes Pin Segment (IsKnown c) own' routes w
+goes_known c codec own' routes a flags x w admits = (
   (a, own', flags, x, admits, refl, inl (refl, refl)),
-  λ first b rest is. (a, own', flags, x, admits, refl, inr (b, rest, refl, refl, along first b rest is (codec.own a own' flags x w admits).2)),
+  λ first b rest is. (a, own', flags, x, admits, refl, inr (b, rest, refl, toward_leads b routes, along first b rest is (codec.own a own' flags x w admits).2)),
 )
   where
     along : (first b : As) (rest : List As) → sequence_or own' w.sequence ≡ first ∷ b ∷ rest → (w.sequence ≡ []) ⊎ ((more : List As) × (w.sequence ≡ own' ∷ more) × IsSequence own' more) → IsSequence b rest
@@ -310,7 +325,7 @@ module _ (c : Codec) (codec : IsCodec c) (n : NetworkParts) where
       (still (Takes at p m r.outputs) s u (puts_elements c n at r.outputs (with_parent Pin Segment c n open_of r.parent s)) (λ d low. above at d r.outputs up low)))
       (λ low short. after (Takes at p m t.outputs) (es ++ ds) s v old short
       (come (Takes at p m t.outputs) at t.outputs t.element s v (puts_elements c n at t.outputs (with_element Pin Segment c n open_of at t.element s)) (λ d. refl)
-      (take_numbers Pin Segment (IsKnown c) c open_of (place n at) (s.current at) p (class_of n p) s.clock (goes_known c codec (place n at).own) m one (s.elements at))))
+      (take_numbers Pin Segment (IsKnown c) c open_of (place n at) (s.current at) p (class_of n p) s.clock (goes_known c codec (place n at).own (place n at).routes) m one (s.elements at))))
 
   fall_last : (at : As) (p : Peer) (s : Core) (ds : Transcript) → AreLast ds s →
       (let g = fall Pin Segment c n open_of at p (record { state = s; deeds = [] }) in IsShort (g.deeds ++ ds) → AreLast (g.deeds ++ ds) g.state)
@@ -430,8 +445,20 @@ module _ (c : Codec) (codec : IsCodec c) (n : NetworkParts) where
       go false true rec = one x.lower rec
       go false false rec = rec
 
+  none_outside : (b : As) (rs : List Route) → last (Inner b) (map outer_way rs) ≡ 0
+  none_outside b [] = refl
+  none_outside b (r ∷ rs) = none_outside b rs
+
+  none_behind : (b : As) (ws : List Way) (rs : List Route) → last (Inner b) ws ≡ 0 → last (Inner b) (ws ++ map outer_way rs) ≡ 0
+  none_behind b [] rs none = none_outside b rs
+  none_behind b (w ∷ ws) rs none = go (same_peer w.peer (Inner b)) (none_behind b ws rs) none
+    where
+      go : (t : Bool) → (last (Inner b) ws ≡ 0 → last (Inner b) (ws ++ map outer_way rs) ≡ 0) → cond t w.last_id (last (Inner b) ws) ≡ 0 → cond t w.last_id (last (Inner b) (ws ++ map outer_way rs)) ≡ 0
+      go true more none' = none'
+      go false more none' = more none'
+
   bare_last : If [] (events.bare Pin Segment c n open_of first_pin)
-  bare_last single short d low = (λ b. (none_yet d b (lines n), λ h none. absurd none), tt)
+  bare_last single short d low = (λ b. (none_behind b (inner_ways n d) (routes n d) (none_yet d b (lines n)), λ h none. absurd none), tt)
 
   -- As long as no id comes round.
   pub run_last : (es : List Entry) (s : Plant) → Run c n es s → AreSingle (deeds_of c n es) → IsShort (deeds_of c n es) → AreLast (deeds_of c n es) s

@@ -6,7 +6,6 @@ use Rattle.std.proofs.lemmas.Grind.{common_steps}
 use Rattle.dom_base.specs.declared.names.As.{As}
 use Rattle.dom_base.specs.declared.addr.Addr.{Addr}
 use Rattle.dom_base.specs.declared.names.Peer.{Peer}
-use Rattle.dom_base.specs.declared.names.Peer.TheVariants.{Inner}
 use Rattle.pcep_subobjects.specs.declared.hop.Hop.{Hop}
 use Rattle.pcep_messages.specs.declared.message.Asked.{Asked}
 use Rattle.pcep_messages.specs.declared.message.Answer.{Answer}
@@ -29,6 +28,8 @@ use Rattle.plant_model.specs.Laws.{Admits}
 use Rattle.plant_model.specs.Writing.{request_message, error_message, reply_message, unavailable}
 use Rattle.disclosure.specs.Policy.{is_denied}
 use Rattle.plant_model.specs.Element.{Stage, Waits, Ready, Item, Row, Way, Element, Place, Taken, each, is_ready, is_waiting, waits_for, waiting, after_id, pass_over, fresh_id, way_to, with_last, with_up, is_client}
+use Rattle.plant_model.specs.declared.route.Route.{Route}
+use Rattle.plant_model.specs.Routes.{toward}
 use Rattle.plant_model.specs.Taking as taking
 use Rattle.plant_model.specs.Taking.{take, sequence_or, goes_up, error_answer}
 use Rattle.plant_model.specs.Solving as solving
@@ -193,10 +194,10 @@ module _ (P : Type 0) where
     })
 
     -- of a request that an element was asked and wants to send on
-    abbrev pub Goes : As → Wanted → Type 0
-    Goes own w = Known w w.target [] the_parent × ((first b : As) (rest : List As) → sequence_or own w.sequence ≡ first ∷ b ∷ rest → Known w w.target (b ∷ rest) (Inner b))
+    abbrev pub Goes : As → List Route → Wanted → Type 0
+    Goes own routes w = Known w w.target [] the_parent × ((first b : As) (rest : List As) → sequence_or own w.sequence ≡ first ∷ b ∷ rest → Known w w.target (b ∷ rest) (toward b routes))
 
-    module _ (c : Codec) (show : S → List Hop) (e : Place) (pin : P) (p : Peer) (class : Class) (now : ℕ) (goes : (a : Asked) (flags x : ℕ) (w : Wanted) → Admits c a e.own flags x w → Goes e.own w) where
+    module _ (c : Codec) (show : S → List Hop) (e : Place) (pin : P) (p : Peer) (class : Class) (now : ℕ) (goes : (a : Asked) (flags x : ℕ) (w : Wanted) → Admits c a e.own flags x w → Goes e.own e.routes w) where
       opened_rows : (k : Element P S) (x : ℕ) (item : Item P) (Q : Stage → Type 0) → Q item.stage → (h : Row P) → In h (opened_of k.pending p x item).rows →
           ((g : Row P) × In g k.pending.rows × (h.1.item.stage ≡ g.1.item.stage)) ⊎ Q h.1.item.stage
       opened_rows k x item Q q h i = go (in_append h k.pending.rows ((k.pending.given + 1, record { key = key_of p x; item = item }) ∷ []) i)
@@ -239,16 +240,16 @@ module _ (P : Type 0) where
                 (λ (stage : Stage). stage ≡ Waits way.peer (fresh_id way.peer way.last_id k.pending.rows)) refl;
           }
 
-      along : (k : Element P S) (flags x : ℕ) (w : Wanted) (sequence : List As) → ((first b : As) (rest : List As) → sequence ≡ first ∷ b ∷ rest → Known w w.target (b ∷ rest) (Inner b)) → Numbers k (taking.take_along e pin p class flags x w k sequence)
+      along : (k : Element P S) (flags x : ℕ) (w : Wanted) (sequence : List As) → ((first b : As) (rest : List As) → sequence ≡ first ∷ b ∷ rest → Known w w.target (b ∷ rest) (toward b e.routes)) → Numbers k (taking.take_along e pin p class flags x w k sequence)
       along k flags x w [] on = refused k flags x
       along k flags x w (a ∷ []) on = inl (record {
         lasts = λ q. refl;
         outs = tt;
         rows = opened_rows k x (taking.item_of pin class flags w (a ∷ []) (Ready [])) (λ (stage : Stage). is_ready stage ≡ true) refl;
       })
-      along k flags x w (a ∷ b ∷ rest) on = sends k flags x w (a ∷ b ∷ rest) (b ∷ rest) (is_denied e.deny class b) (Inner b) (way_to (Inner b) k.ways) refl (on a b rest refl)
+      along k flags x w (a ∷ b ∷ rest) on = sends k flags x w (a ∷ b ∷ rest) (b ∷ rest) (is_denied e.deny class b) (toward b e.routes) (way_to (toward b e.routes) k.ways) refl (on a b rest refl)
 
-      wishes : (k : Element P S) (flags x : ℕ) (wish : Wish) → ((w : Wanted) → wish ≡ Path w → Goes e.own w) → Numbers k (taking.take_wish show e pin p class now flags x k wish)
+      wishes : (k : Element P S) (flags x : ℕ) (wish : Wish) → ((w : Wanted) → wish ≡ Path w → Goes e.own e.routes w) → Numbers k (taking.take_wish show e pin p class now flags x k wish)
       wishes k flags x (Expand key pce) on = stays k _ ((λ none. none), tt)
       wishes k flags x (Path w) on =
           choose k (is_full k.pending) _ _ (stays k _ ((λ none. none), tt))
@@ -256,11 +257,11 @@ module _ (P : Type 0) where
           (sends k flags x w [] [] false the_parent (way_to the_parent k.ways) refl (on w refl).0)
           (along k flags x w (sequence_or e.own w.sequence) (on w refl).1))
 
-      news : (r : Request) (k : Element P S) (o : Option ℕ) → ((w : Wanted) → r.wish ≡ Path w → Goes e.own w) → Numbers k (taking.take_new show e pin p class now r k o)
+      news : (r : Request) (k : Element P S) (o : Option ℕ) → ((w : Wanted) → r.wish ≡ Path w → Goes e.own e.routes w) → Numbers k (taking.take_new show e pin p class now r k o)
       news r k (Some number) on = stays k [] tt
       news r k None on = wishes k r.flags r.id r.wish on
 
-      checks : (k : Element P S) (r : Checked) → ((q : Request) → r ≡ Admitted q → (w : Wanted) → q.wish ≡ Path w → Goes e.own w) → Numbers k (taking.take_checked show e pin p class now k r)
+      checks : (k : Element P S) (r : Checked) → ((q : Request) → r ≡ Admitted q → (w : Wanted) → q.wish ≡ Path w → Goes e.own e.routes w) → Numbers k (taking.take_checked show e pin p class now k r)
       checks k (Wrong rp kind value) on = stays k _ ((λ none. none), tt)
       checks k (Admitted r) on = news r k (number_of k.pending p r.id) (on r refl)
 

@@ -25,6 +25,7 @@ use Rattle.plant_model.specs.Wire.{Codec, Checked, Admitted, Wrong}
 use Rattle.plant_model.specs.Writing.{request_message, reply_message, error_message, busy, unavailable}
 use Rattle.disclosure.specs.Policy.{is_denied}
 use Rattle.plant_model.specs.Element.{Row, Way, Element, Place, Taken, silent, only, each, waiting, fresh_id, way_to, with_last, with_up, is_client, lost_output}
+use Rattle.plant_model.specs.Routes.{toward}
 use Rattle.plant_model.specs.Taking.{take, take_asked, take_checked, take_new, take_wish, take_path, take_along, send_on, sequence_or, goes_up, answered, take_reply, take_answer, made_ready, take_notice, notice_steps, take_busy, take_cancel, told_busy, cancelled, take_report, take_errors, take_failure, told_error, error_answer}
 use Rattle.plant_model.specs.Solving.{commit, client_reply, closed_reply, free}
 use Rattle.plant_model.specs.Parent.{last_to}
@@ -217,7 +218,7 @@ module _ (P : Type 0) (S : Type 0) where
     says : (a : Asked) (m : Message) → (IsAsk m → ⊥) → SendsFor a (only p m k)
     says a m never = inl (record { none = (never, tt); ways = refl })
 
-    module _ (a : Asked) where
+    module _ (a : Asked) (inner : (b : As) → toward b e.routes ≡ Inner b) where
       send : (flags x : ℕ) (w : Wanted) → c.check a e.own ≡ Admitted (record { flags = flags; id = x; wish = Path w }) → (to : Peer) (sequence rest : List As) → GoesTo w to rest → (refused : Bool) (o : Option Way) → way_to to k.ways ≡ o →
           SendsFor a (send_on pin p class flags x w sequence rest refused k o)
       send flags x w is to sequence rest goes refused None found = says a (reply_message flags x unavailable) (λ none. none)
@@ -230,7 +231,7 @@ module _ (P : Type 0) (S : Type 0) where
       along : (flags x : ℕ) (w : Wanted) → c.check a e.own ≡ Admitted (record { flags = flags; id = x; wish = Path w }) → (sequence : List As) → w.sequence ≡ sequence → SendsFor a (take_along e pin p class flags x w k (sequence_or e.own sequence))
       along flags x w is [] same = inl (record { none = tt; ways = refl })
       along flags x w is (d ∷ []) same = inl (record { none = tt; ways = refl })
-      along flags x w is (d ∷ b ∷ rest) same = send flags x w is (Inner b) (d ∷ b ∷ rest) (b ∷ rest) (inr (d, b, rest, refl, refl, same)) (is_denied e.deny class b) (way_to (Inner b) k.ways) refl
+      along flags x w is (d ∷ b ∷ rest) same = send flags x w is (toward b e.routes) (d ∷ b ∷ rest) (b ∷ rest) (inr (d, b, rest, inner b, refl, same)) (is_denied e.deny class b) (way_to (toward b e.routes) k.ways) refl
 
       wishes : (flags x : ℕ) (wish : Wish) → c.check a e.own ≡ Admitted (record { flags = flags; id = x; wish = wish }) → SendsFor a (take_wish show e pin p class now flags x k wish)
       wishes flags x (Expand key pce) is = says a (reply_message flags x _) (λ none. none)
@@ -254,21 +255,21 @@ module _ (P : Type 0) (S : Type 0) where
     abbrev pub Of : Message → Taken P S → Type 0
     Of m t = IsCalm k t ⊎ ((a : Asked) × (m ≡ messages.PcReq (a ∷ [])) × (x : SendsOne t) × (x.asked ≡ a))
 
-    pub take_of : (m : Message) → IsSingle m → Of m (take c show e pin p class now m k)
-    take_of (messages.PcReq []) one = inl (calm_silent k)
-    take_of (messages.PcReq (a ∷ [])) one =
+    pub take_of : ((b : As) → toward b e.routes ≡ Inner b) → (m : Message) → IsSingle m → Of m (take c show e pin p class now m k)
+    take_of inner (messages.PcReq []) one = inl (calm_silent k)
+    take_of inner (messages.PcReq (a ∷ [])) one =
         let t = take_asked c show e pin p class now a k in
         subst (λ (os : List Output). Of (messages.PcReq (a ∷ [])) (record { element = t.element; outputs = os })) (sym (nil_right t.outputs))
-        (elim (asked_sends a) [ inl calm ↦ inl calm | inr x ↦ inr (a, refl, x.0, x.1) ])
-    take_of (messages.PcReq (a ∷ b ∷ rest)) one = absurd (let none : length (a ∷ b ∷ rest) ≡ 1 = one in omega (arith, none))
-    take_of (messages.PcRep replies) one = inl (calm_replies c p replies k)
-    take_of (messages.PcNtf notices) one =
+        (elim (asked_sends a inner) [ inl calm ↦ inl calm | inr x ↦ inr (a, refl, x.0, x.1) ])
+    take_of inner (messages.PcReq (a ∷ b ∷ rest)) one = absurd (let none : length (a ∷ b ∷ rest) ≡ 1 = one in omega (arith, none))
+    take_of inner (messages.PcRep replies) one = inl (calm_replies c p replies k)
+    take_of inner (messages.PcNtf notices) one =
         inl (calm_each (take_notice p) (λ r j. calm_each (λ (rp : ℕ × ℕ). each (λ (step : Peer → ℕ × ℕ → Element P S → Taken P S). step p rp) (notice_steps r.kinds)) (λ rp j'. calm_steps c p r.kinds rp j') r.ids j) notices k)
-    take_of (messages.PcErr reports) one = inl (calm_each (take_report p) (λ r j. calm_errors c p r.ids r.errors j) reports k)
-    take_of (messages.Open body) one = inl (calm_silent k)
-    take_of messages.Keepalive one = inl (calm_silent k)
-    take_of (messages.Close why) one = inl (calm_silent k)
-    take_of (messages.Other kind) one = inl (calm_silent k)
+    take_of inner (messages.PcErr reports) one = inl (calm_each (take_report p) (λ r j. calm_errors c p r.ids r.errors j) reports k)
+    take_of inner (messages.Open body) one = inl (calm_silent k)
+    take_of inner messages.Keepalive one = inl (calm_silent k)
+    take_of inner (messages.Close why) one = inl (calm_silent k)
+    take_of inner (messages.Other kind) one = inl (calm_silent k)
 
-    pub take_sends : (m : Message) → IsSingle m → Sends (take c show e pin p class now m k)
-    take_sends m one = elim (take_of m one) [ inl calm ↦ inl calm | inr x ↦ inr x.2 ]
+    pub take_sends : ((b : As) → toward b e.routes ≡ Inner b) → (m : Message) → IsSingle m → Sends (take c show e pin p class now m k)
+    take_sends inner m one = elim (take_of inner m one) [ inl calm ↦ inl calm | inr x ↦ inr x.2 ]

@@ -34,6 +34,7 @@ use Rattle.plant_model.specs.Parent as parent
 use Rattle.plant_model.specs.Settings.{place, family}
 use Rattle.plant_model.specs.State.{State, Connection, Access, Deed, Loads, Pops, Takes, Says, Ups, Downs, Clears, Solves, Expires, Hands}
 use Rattle.plant_model.specs.Deeds.{Going, element_of, on_connection, is_due, is_tick, is_out_empty, any_fall, our_offer, with_more, with_session, with_inbox, read_as, input_of, own_message, put, put_to, puts, with_element, with_parent, give, rise, fall, say, clear, outside_act, outside_acts, outside_step, outside_input, inner_act, inner_acts, inner_input, begin_end, begin_line, break_line, tick_outside, tick_lines, with_access, with_inner}
+use Rattle.plant_model.specs.Outside.{heeded}
 use Rattle.plant_model.specs.Events as events
 use Rattle.plant_model.specs.Events.{is_down}
 use Rattle.plant_laws.proofs.InForm.{OfferFits, OwnFits, own_written}
@@ -242,7 +243,9 @@ module _ (P : Type 0) (S : Type 0) (c : Codec) (codec : IsCodec c) (n : NetworkP
       let k : Going P S = record { state = with_access P S c n show i (with_inbox []) g.state; deeds = g.deeds } in
       outside_acts_fine i ticks as' (fall P S c n show (element_of n i) (Outside i) k) fit.1
       (fall_fine (element_of n i) (Outside i) k (access_fit i (with_inbox []) g.state (λ x fits. fits) h.0, h.1))
-  outside_acts_fine i ticks (action.Pass m ∷ as') g fit h = outside_acts_fine i ticks as' (give P S c n show (element_of n i) (Outside i) m g) fit.1 (give_fine (element_of n i) (Outside i) m g h)
+  outside_acts_fine i ticks (action.Pass m ∷ as') g fit h =
+      let given = heeded c (Outside i) (g.state.elements (element_of n i)).pending.rows m in
+      outside_acts_fine i ticks as' (give P S c n show (element_of n i) (Outside i) given g) fit.1 (give_fine (element_of n i) (Outside i) given g h)
 
   outside_fine : (i : ℕ) (x : Input) (g : Going P S) → Timely x → Fine g → Fine (outside_input P S c n show i x g)
   outside_fine i x g times h = go (g.state.accesses i).connection (h.0.outer i)

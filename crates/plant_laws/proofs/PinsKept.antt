@@ -3,7 +3,6 @@ use Rattle.std.proofs.Common.{◌≡◌, ℕ, Bool, true, false, cond, ◌==◌,
 use Rattle.std.specs.Map.{remove_entry}
 use Rattle.dom_base.specs.declared.names.As.{As}
 use Rattle.dom_base.specs.declared.names.Peer.{Peer}
-use Rattle.dom_base.specs.declared.names.Peer.TheVariants.{Inner}
 use Rattle.pcep_subobjects.specs.declared.hop.Hop.{Hop}
 use Rattle.pcep_messages.specs.declared.message.Message.{Message}
 use Rattle.pcep_messages.specs.declared.message.Message.TheVariants as messages
@@ -25,6 +24,7 @@ use Rattle.plant_model.specs.Wire.{Codec, Checked, Admitted, Wrong}
 use Rattle.plant_model.specs.Writing.{reply_message, unavailable, busy}
 use Rattle.disclosure.specs.Policy.{is_denied}
 use Rattle.plant_model.specs.Element.{Ready, Item, Row, Way, Element, Place, Taken, each, at_stage, waiting, waits_for, way_to, stays, downed, is_client}
+use Rattle.plant_model.specs.Routes.{toward}
 use Rattle.plant_model.specs.Branches.{branches_in}
 use Rattle.plant_model.specs.Taking.{sequence_or, goes_up, send_on, take_along, take_path, take_wish, take_new, take_checked, take_asked, answered, made_ready, take_answer, take_reply, told_busy, cancelled, take_busy, take_cancel, notice_steps, take_notice, error_answer, told_error, take_failure, take_errors, take_report, take}
 use Rattle.plant_model.specs.Solving.{commit, client_reply, closed_reply, closed_paths, issued_all, free}
@@ -164,7 +164,7 @@ module _ (P : Type 0) (S : Type 0) (Q : P → Type 0) where
     along_after : (e : Place) (p : Peer) (class : Class) (flags x : ℕ) (w : Wanted) (k : Element P S) (path : List As) → Holds k → After (take_along e pin p class flags x w k path)
     along_after e p class flags x w k [] h = h
     along_after e p class flags x w k (a ∷ []) h = rows_append k.pending.rows _ h (new, tt)
-    along_after e p class flags x w k (a ∷ b ∷ rest) h = on_after p class flags x w (a ∷ b ∷ rest) (b ∷ rest) (is_denied e.deny class b) k (way_to (Inner b) k.ways) h
+    along_after e p class flags x w k (a ∷ b ∷ rest) h = on_after p class flags x w (a ∷ b ∷ rest) (b ∷ rest) (is_denied e.deny class b) k (way_to (toward b e.routes) k.ways) h
 
     path_after : (e : Place) (p : Peer) (class : Class) (flags x : ℕ) (w : Wanted) (k : Element P S) → Holds k → After (take_path e pin p class flags x w k)
     path_after e p class flags x w k h =

@@ -22,13 +22,14 @@ use Rattle.plant_model.specs.declared.output.Output.{Output}
 use Rattle.plant_text.specs.Names.{same_as, parent_as}
 use Rattle.plant_model.specs.Names.{is_empty, set_pair}
 use Rattle.plant_model.specs.Wire.{Bytes, Codec}
-use Rattle.plant_model.specs.Element.{downed}
+use Rattle.plant_model.specs.Element.{downed, sent_through}
 use Rattle.plant_model.specs.Taking.{take}
 use Rattle.plant_model.specs.Parent as parent
 use Rattle.plant_text.specs.Settings.{Line, line, lines, is_linked, peer_row, class_of}
 use Rattle.plant_model.specs.Settings.{place, family}
 use Rattle.plant_model.specs.State.{State, Connection, Access, Takes, Downs, Pops}
 use Rattle.plant_model.specs.Deeds.{Going, element_of, on_connection, is_due, is_tick, is_out_empty, any_fall, our_offer, with_more, with_session, with_inbox, read_as, input_of, own_message, put, put_to, puts, with_element, with_parent, give, rise, fall, say, clear, expire, outside_act, outside_acts, outside_step, outside_input, inner_act, inner_acts, inner_input, begin_end, begin_line, break_line, tick_outside, tick_lines, with_access, with_inner}
+use Rattle.plant_model.specs.Outside.{heeded, heeded_in}
 use Rattle.plant_model.specs.Events as events
 use Rattle.plant_model.specs.Events.{is_down}
 use Rattle.plant_model.specs.Laws.{IsCodec}
@@ -107,7 +108,8 @@ module _ (P : Type 0) (S : Type 0) (c : Codec) (codec : IsCodec c) (n : NetworkP
 
   -- what is known of a message that is taken
   abbrev Came : As → Peer → Message → Type 0
-  Came at (Outside i) m = (is_some (peer_row i n.peers) ≡ true) × (at ≡ element_of n i) × (bytes : Bytes) × AreOctets bytes × (c.read bytes ≡ Some m)
+  Came at (Outside i) m =
+      (is_some (peer_row i n.peers) ≡ true) × (at ≡ element_of n i) × (bytes : Bytes) × AreOctets bytes × (raw : Message) × (c.read bytes ≡ Some raw) × (sent : ℕ → Option ℕ) × (m ≡ heeded_in c sent raw)
   Came at (Inner a) m = Unit {0}
 
   took : (at : As) (p : Peer) (m : Message) (os : List Output) → Came at p m → IsRead {S = S} c n (Takes at p m os)
@@ -215,7 +217,10 @@ module _ (P : Type 0) (S : Type 0) (c : Codec) (codec : IsCodec c) (n : NetworkP
         | inl none ↦ quiet_good i (is_tick x) t.actions h none good'
         | inr pass ↦
             subst (λ (as' : List Action). Good (outside_acts P S c n show i (is_tick x) as' h)) (sym pass.2)
-            (let k' = came pass.0 pass.1 in give_good (element_of n i) (Outside i) pass.0 h (holds.2, refl, k'.0, k'.1, k'.2) good')
+            (let k' = came pass.0 pass.1 in
+            let rows = (h.state.elements (element_of n i)).pending.rows in
+            give_good (element_of n i) (Outside i) (heeded c (Outside i) rows pass.0) h
+            (holds.2, refl, k'.0, k'.1, pass.0, k'.2, (λ (id : ℕ). sent_through (Outside i) id rows), refl) good')
       ]
 
   outside_input_good : (i : ℕ) (x : Input) (g : Going P S) → CameAs x → Good g → Good (outside_input P S c n show i x g)

@@ -25,6 +25,7 @@ use Rattle.plant_model.specs.Names.{has_pair, the_parent}
 use Rattle.plant_model.specs.Wire.{Codec, Checked, Admitted, Wrong}
 use Rattle.disclosure.specs.Policy.{is_denied}
 use Rattle.plant_model.specs.Element.{Element, Row, Way, Place, Taken, each, way_to, is_client, lost, lost_output, downed, waiting, upped}
+use Rattle.plant_model.specs.Routes.{toward}
 use Rattle.plant_model.specs.Taking.{take, take_asked, take_checked, take_new, take_wish, take_path, take_along, send_on, sequence_or, goes_up, take_reply, take_answer, made_ready, take_notice, notice_steps, take_busy, take_cancel, told_busy, cancelled, take_report, take_errors, take_failure, told_error, error_answer}
 use Rattle.plant_model.specs.Writing.{error_message, reply_message, unavailable}
 use Rattle.plant_model.specs.Solving.{commit, closed_reply}
@@ -109,7 +110,7 @@ module _ (P : Type 0) (S : Type 0) where
     along_short : (flags x : ℕ) (w : Wanted) (k : Element P S) (sequence : List As) → length (take_along e pin p class flags x w k sequence).outputs ≤ 1
     along_short flags x w k [] = omega arith
     along_short flags x w k (a ∷ []) = omega arith
-    along_short flags x w k (a ∷ b ∷ rest) = send_short flags x w (a ∷ b ∷ rest) (b ∷ rest) (is_denied e.deny class b) k (way_to (Inner b) k.ways)
+    along_short flags x w k (a ∷ b ∷ rest) = send_short flags x w (a ∷ b ∷ rest) (b ∷ rest) (is_denied e.deny class b) k (way_to (toward b e.routes) k.ways)
 
     path_short : (flags x : ℕ) (w : Wanted) (k : Element P S) → length (take_path e pin p class flags x w k).outputs ≤ 1
     path_short flags x w k =

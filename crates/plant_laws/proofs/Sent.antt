@@ -29,6 +29,7 @@ use Rattle.plant_model.specs.Wire.{Codec, Checked, Admitted, Wrong}
 use Rattle.plant_model.specs.Writing.{request_message, reply_message, error_message, busy, unavailable, no_key}
 use Rattle.disclosure.specs.Policy.{is_denied}
 use Rattle.plant_model.specs.Element.{Row, Way, Element, Place, Taken, each, way_to, with_last, upped, waiting, is_client, lost_output, downed}
+use Rattle.plant_model.specs.Routes.{toward}
 use Rattle.plant_model.specs.Taking as taking
 use Rattle.plant_model.specs.Taking.{take, sequence_or, goes_up, error_answer}
 use Rattle.plant_model.specs.Solving.{commit, client_reply, closed_reply, free}
@@ -101,7 +102,7 @@ module _ (Q : Message → Type 0) where
         along : (flags x : ℕ) (w : Wanted) (k : Element P S) (sequence : List As) → Fine (taking.take_along e pin p class flags x w k sequence)
         along flags x w k [] = (replies flags x unavailable, tt)
         along flags x w k (a ∷ []) = tt
-        along flags x w k (a ∷ b ∷ rest) = sends flags x w (a ∷ b ∷ rest) (b ∷ rest) (is_denied e.deny class b) k (way_to (Inner b) k.ways)
+        along flags x w k (a ∷ b ∷ rest) = sends flags x w (a ∷ b ∷ rest) (b ∷ rest) (is_denied e.deny class b) k (way_to (toward b e.routes) k.ways)
 
         wishes : (flags x : ℕ) (k : Element P S) (wish : Wish) → Fine (taking.take_wish show e pin p class now flags x k wish)
         wishes flags x k (Expand key pce) = (replies flags x (taking.expansion show e class now key pce k), tt)

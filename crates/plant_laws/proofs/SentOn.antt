@@ -20,6 +20,7 @@ use Rattle.plant_model.specs.Wire.{Codec, Checked, Admitted, Wrong}
 use Rattle.plant_model.specs.Writing.{request_message, busy}
 use Rattle.disclosure.specs.Policy.{is_denied}
 use Rattle.plant_model.specs.Element.{Stage, Waits, Ready, Item, Row, Way, Element, Place, Taken, silent, only, waits_for, is_waiting, fresh_id, way_to}
+use Rattle.plant_model.specs.Routes.{toward}
 use Rattle.plant_model.specs.Taking as taking
 use Rattle.plant_model.specs.Taking.{take, sequence_or, goes_up}
 use Rattle.plant_laws.proofs.Decompose.{nil_right}
@@ -73,7 +74,8 @@ fresh_apart b y (row ∷ rows) free g i =
     here miss rec (inl is) = subst (λ (r : Row _). wait_alike (Waits b y) r.1.item.stage ≡ false) is (apart row.1.item.stage miss)
     here miss rec (inr j) = rec j
 
-module _ (P : Type 0) (S : Type 0) (c : Codec) (show : S → List Hop) (e : Place) (pin : P) (p : Peer) (class : Class) (now : ℕ) (k : Element P S) (few : length k.pending.rows < 4294967294) where
+module _ (P : Type 0) (S : Type 0) (c : Codec) (show : S → List Hop) (e : Place) (pin : P) (p : Peer) (class : Class) (now : ℕ) (k : Element P S) (few : length k.pending.rows < 4294967294)
+    (inner : (b : As) → toward b e.routes ≡ Inner b) where
   abbrev pub IsNew : List Output → Row P → Type 0
   IsNew os h =
       (number_among h.1.key k.pending.rows ≡ None) × IsSentIn os h.1.item h.1.item.stage
@@ -119,7 +121,7 @@ module _ (P : Type 0) (S : Type 0) (c : Codec) (show : S → List Hop) (e : Plac
     along [] = kept (taking.denied p flags x k) refl
     along (d ∷ []) = opens (taking.take_along e pin p class flags x w k (d ∷ [])) (taking.item_of pin class flags w (d ∷ []) (Ready [])) refl tt (λ g i. refl)
     along (d ∷ b ∷ rest) =
-        sends (d ∷ b ∷ rest) (b ∷ rest) (is_denied e.deny class b) (Inner b) (way_to (Inner b) k.ways) (λ way is. way_peer (Inner b) k.ways way is) (inr (d, b, rest, refl, refl, refl))
+        sends (d ∷ b ∷ rest) (b ∷ rest) (is_denied e.deny class b) (toward b e.routes) (way_to (toward b e.routes) k.ways) (λ way is. way_peer (toward b e.routes) k.ways way is) (inr (d, b, rest, refl, refl, inner b))
 
     paths : News (taking.take_path e pin p class flags x w k)
     paths =

@@ -4,6 +4,7 @@ use Rattle.std.proofs.lemmas.Bool.{eqb-true}
 use Rattle.dom_base.specs.declared.names.As.{As}
 use Rattle.dom_base.specs.declared.names.Tick.{Tick}
 use Rattle.dom_base.specs.declared.names.Peer.TheVariants.{Outside}
+use Rattle.pcep_messages.specs.declared.message.Message.{Message}
 use Rattle.pcep_session.specs.declared.session.Input.{Input}
 use Rattle.pcep_session.specs.declared.session.Input.TheVariants as input
 use Rattle.pcep_session.specs.declared.actions.Action.{Action}
@@ -22,10 +23,13 @@ use Rattle.pcep_session.specs.declared.state.State.{State as Session}
 use Rattle.pcep_session.specs.Table.{turn_of, new_state}
 use Rattle.plant_text.specs.Settings.{line, lines, is_linked, peer_row}
 use Rattle.plant_model.specs.State.{Connection, Access, Pops, Hands}
-use Rattle.plant_model.specs.Deeds.{Going, element_of, on_connection, with_session, with_inbox, with_access, is_out_empty, is_due, is_tick, input_of, fall, say, expire, outside_act, outside_acts, outside_step, outside_input, break_line, tick_outside, tick_lines, our_offer}
+use Rattle.plant_model.specs.Element.{Element}
+use Rattle.plant_model.specs.Outside.{heeded}
+use Rattle.plant_model.specs.Deeds.{Going, element_of, on_connection, with_session, with_inbox, with_access, is_out_empty, is_due, is_tick, input_of, give, fall, say, expire, outside_act, outside_acts, outside_step, outside_input, break_line, tick_outside, tick_lines, our_offer}
 use Rattle.plant_model.specs.Events as events
 use Rattle.plant_model.specs.Events.{is_down}
 use Rattle.plant_model.specs.Blind.{Drained, is_closed, heard, is_accepted}
+use Rattle.plant_laws.proofs.Heeding.{heeded_bare}
 use Rattle.plant_laws.proofs.Simulate.{IsConnectionAlike, AreConnectionsAlike, IsAccessAlike, Blank, Full, Sim, access_cond, Both, both_cond, set_pair_same, give_both, rise_both, fall_both, say_both, expire_both, inner_input_both, break_line_both, tick_lines_both}
 
 module _ (Q : Type 0) (view : As → Pin → Q) (c : Codec) (n : NetworkParts) where
@@ -82,7 +86,13 @@ module _ (Q : Type 0) (view : As → Pin → Q) (c : Codec) (n : NetworkParts) w
         sim = access_sim i (with_inbox []) (with_inbox []) g.state h.state (λ k k' x. record { holder = x.holder; session = x.session; framing = x.framing; inbox = refl; out = x.out }) both.sim;
         heard' = both.heard';
       })
-  act_both i ticks (action.Pass m) g h both = give_both Q view c n (element_of n i) (Outside i) m g h both
+  act_both i ticks (action.Pass m) g h both =
+      let at = element_of n i in
+      let given = heeded c (Outside i) (g.state.elements at).pending.rows m in
+      let same : heeded c (Outside i) (h.state.elements at).pending.rows m ≡ given =
+      ap (λ (e : Element Q U). heeded c (Outside i) e.pending.rows m) (both.sim.elements at) ∙ heeded_bare (view at) c (Outside i) (g.state.elements at).pending.rows m in
+      subst (λ (z : Message). Both Q view c n (give Pin Segment c n open_of at (Outside i) given g) (give Q U c n (λ u. []) at (Outside i) z h)) (sym same)
+      (give_both Q view c n at (Outside i) given g h both)
 
   acts_both : (i : ℕ) (ticks : Bool) (as' : List Action) (g : Going Pin Segment) (h : Going Q U) → Both Q view c n g h → Both Q view c n (outside_acts Pin Segment c n open_of i ticks as' g) (outside_acts Q U c n (λ u. []) i ticks as' h)
   acts_both i ticks [] g h both = both

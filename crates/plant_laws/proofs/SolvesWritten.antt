@@ -42,6 +42,7 @@ use Rattle.plant_model.specs.Jobs.{entry_nodes, entries_of}
 use Rattle.plant_model.specs.Element.{Item, Row, Element, Place, Taken, is_client}
 use Rattle.plant_model.specs.Solving.{commit, client_reply, closed_reply, closed_paths, free}
 use Rattle.plant_model.specs.Settings.{place, place_from}
+use Rattle.plant_model.specs.Routes.{routes}
 use Rattle.plant_model.specs.Plant.{Pin, Segment, Plant, Happened, Entry as RunEntry, Run, deeds_of, ask, ElementSolves}
 use Rattle.plant_laws.specs.Topologies.{IsDomain}
 use Rattle.plant_laws.specs.About.{IsShort}
@@ -248,11 +249,11 @@ module _ (c : Codec) (codec : IsCodec c) (n : NetworkParts) (d : As) (h : Row Pi
 place_id : (d : As) (n : NetworkParts) → IsNetwork n → IsAddr (place n d).id
 place_id d n net = go n.elements net.elements
   where
-    go : (rs : List ElementRow) → All IsElement rs → IsAddr (place_from d (deny_at d n.deny) (row_of d rs)).id
+    go : (rs : List ElementRow) → All IsElement rs → IsAddr (place_from d (deny_at d n.deny) (routes n d) (row_of d rs)).id
     go [] all = omega arith
     go (r ∷ rs) all = pick (same_as r.own d) (go rs (All-tail IsElement r rs all))
       where
-        pick : (b : Bool) → IsAddr (place_from d (deny_at d n.deny) (row_of d rs)).id → IsAddr (place_from d (deny_at d n.deny) (cond b (Some r) (row_of d rs))).id
+        pick : (b : Bool) → IsAddr (place_from d (deny_at d n.deny) (routes n d) (row_of d rs)).id → IsAddr (place_from d (deny_at d n.deny) (routes n d) (cond b (Some r) (row_of d rs))).id
         pick true more = (All-head IsElement r rs all).id
         pick false more = more
 

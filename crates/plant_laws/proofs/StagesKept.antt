@@ -8,7 +8,6 @@ use Rattle.plant_laws.proofs.Rows.{In as InList}
 use Rattle.plant_laws.proofs.RowsKept.{rise_append, rise_filter, rise_removed, rise_written}
 use Rattle.dom_base.specs.declared.names.As.{As}
 use Rattle.dom_base.specs.declared.names.Peer.{Peer}
-use Rattle.dom_base.specs.declared.names.Peer.TheVariants.{Inner}
 use Rattle.pcep_subobjects.specs.declared.hop.Hop.{Hop}
 use Rattle.pcep_messages.specs.declared.message.Message.{Message}
 use Rattle.pcep_messages.specs.declared.message.Message.TheVariants as messages
@@ -31,6 +30,7 @@ use Rattle.plant_model.specs.Wire.{Codec, Checked, Admitted, Wrong}
 use Rattle.plant_model.specs.Writing.{reply_message, unavailable, busy}
 use Rattle.disclosure.specs.Policy.{is_denied}
 use Rattle.plant_model.specs.Element.{Stage, Waits, Ready, Item, Row, Way, Element, Place, Taken, each, ended, at_stage, waiting, waits_for, way_to, with_last, fresh_id, stays, downed, is_client}
+use Rattle.plant_model.specs.Routes.{toward}
 use Rattle.plant_model.specs.Branches.{branches_in}
 use Rattle.plant_model.specs.Taking.{item_of, sequence_or, goes_up, send_on, take_along, take_path, take_wish, take_new, take_checked, take_asked, staged, answered, made_ready, take_answer, take_reply, told_busy, cancelled, take_busy, take_cancel, notice_steps, take_notice, error_answer, told_error, take_failure, take_errors, take_report, take}
 use Rattle.plant_model.specs.Solving.{commit, client_reply, closed_reply, closed_paths, issued_all, free}
@@ -245,7 +245,7 @@ module _ (P : Type 0) (S : Type 0) (Q : Held (Item P) → Type 0) (c0 : Codec) (
     along_after : (flags x : ℕ) (w : Wanted) (k : Element P S) (path : List As) → New flags x w → Holds k → After (take_along e pin p0 class flags x w k path)
     along_after flags x w k [] fresh h = h
     along_after flags x w k (a ∷ []) fresh h = opened_keeps flags x w (a ∷ []) (Ready []) k k.ways (a, refl, refl) fresh h
-    along_after flags x w k (a ∷ b ∷ rest) fresh h = on_after flags x w (a ∷ b ∷ rest) (b ∷ rest) (is_denied e.deny class b) k (way_to (Inner b) k.ways) fresh h
+    along_after flags x w k (a ∷ b ∷ rest) fresh h = on_after flags x w (a ∷ b ∷ rest) (b ∷ rest) (is_denied e.deny class b) k (way_to (toward b e.routes) k.ways) fresh h
 
     path_after : (flags x : ℕ) (w : Wanted) (k : Element P S) → New flags x w → Holds k → After (take_path e pin p0 class flags x w k)
     path_after flags x w k fresh h =

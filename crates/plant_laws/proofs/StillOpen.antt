@@ -4,11 +4,14 @@ use Rattle.std.specs.Prelude.{◌⊎◌}
 use Rattle.dom_base.specs.declared.names.As.{As}
 use Rattle.dom_base.specs.declared.names.Peer.{Peer}
 use Rattle.pcep_messages.specs.declared.message.Asked.{Asked}
+use Rattle.dom_base.specs.declared.names.Peer.TheVariants.{Outside}
 use Rattle.pcep_messages.specs.declared.message.Message.{Message}
 use Rattle.pcep_messages.specs.declared.message.Message.TheVariants as messages
 use Rattle.request_table.specs.Pending.{same_peer}
 use Rattle.plant_text.specs.declared.settings.NetworkParts.{NetworkParts}
 use Rattle.plant_text.specs.Names.{same_as}
+use Rattle.plant_model.specs.Deeds.{element_of}
+use Rattle.plant_model.specs.Outside.{heeded}
 use Rattle.plant_model.specs.declared.event.Event.{Event}
 use Rattle.plant_model.specs.declared.event.Event.TheVariants as event
 use Rattle.plant_model.specs.declared.output.Output.{Output}
@@ -105,10 +108,13 @@ module _ (c : Codec) (n : NetworkParts) (before : Plant) (e : Event) where
       cc
 
   passes_one : (at at' : As) (p p' : Peer) (m m' : Message) → Passes c n before e at p m → Passes c n before e at' p' m' → m ≡ m'
-  passes_one at at' p p' m m' (from_outside i x bytes rest ev conn first read acts here peer) (from_outside i' x' bytes' rest' ev' conn' first' read' acts' here' peer') =
-      same_read bytes bytes' m m' (outside_same i i' x x' bytes bytes' rest rest' (sym ev ∙ ev') conn conn' first first') read read'
-  passes_one at at' p p' m m' (from_outside i x bytes rest ev conn first read acts here peer) (from_inside a bytes' rest' ev' linked first' read' acts' peer') = absurd (let clash : event.Take i ≡ event.Carry a at' = sym ev ∙ ev' in cc)
-  passes_one at at' p p' m m' (from_inside a bytes rest ev linked first read acts peer) (from_outside i' x' bytes' rest' ev' conn' first' read' acts' here' peer') = absurd (let clash : event.Carry a at ≡ event.Take i' = sym ev ∙ ev' in cc)
+  passes_one at at' p p' m m' (from_outside i x bytes rest raw ev conn first read acts heard here peer) (from_outside i' x' bytes' rest' raw' ev' conn' first' read' acts' heard' here' peer') =
+      let takes : event.Take i ≡ event.Take i' = sym ev ∙ ev' in
+      let number : i ≡ i' = cc in
+      heard ∙ ap (λ (z : ℕ). heeded c (Outside z) (before.elements (element_of n z)).pending.rows raw) number
+      ∙ ap (heeded c (Outside i') (before.elements (element_of n i')).pending.rows) (same_read bytes bytes' raw raw' (outside_same i i' x x' bytes bytes' rest rest' takes conn conn' first first') read read') ∙ sym heard'
+  passes_one at at' p p' m m' (from_outside i x bytes rest raw ev conn first read acts heard here peer) (from_inside a bytes' rest' ev' linked first' read' acts' peer') = absurd (let clash : event.Take i ≡ event.Carry a at' = sym ev ∙ ev' in cc)
+  passes_one at at' p p' m m' (from_inside a bytes rest ev linked first read acts peer) (from_outside i' x' bytes' rest' raw' ev' conn' first' read' acts' heard' here' peer') = absurd (let clash : event.Carry a at ≡ event.Take i' = sym ev ∙ ev' in cc)
   passes_one at at' p p' m m' (from_inside a bytes rest ev linked first read acts peer) (from_inside a' bytes' rest' ev' linked' first' read' acts' peer') =
       same_read bytes bytes' m m' (inside_same a a' at at' bytes bytes' rest rest' (sym ev ∙ ev') first first') read read'
 

@@ -5,7 +5,6 @@ use Rattle.std.proofs.lemmas.List.Elements.{Contains-append_cases}
 use Rattle.dom_base.specs.declared.addr.Addr.{Addr}
 use Rattle.dom_base.specs.declared.names.As.{As}
 use Rattle.dom_base.specs.declared.names.Peer.{Peer}
-use Rattle.dom_base.specs.declared.names.Peer.TheVariants.{Inner}
 use Rattle.pcep_messages.specs.declared.message.Asked.{Asked}
 use Rattle.pcep_messages.specs.declared.message.Answer.{Answer}
 use Rattle.pcep_messages.specs.declared.message.Answer.TheVariants.{Paths, NoPath}
@@ -26,6 +25,7 @@ use Rattle.plant_model.specs.Wire.{Codec, Checked, Admitted, Wrong}
 use Rattle.plant_model.specs.Writing.{reply_message, error_message, request_message, unavailable, busy}
 use Rattle.disclosure.specs.Policy.{is_denied}
 use Rattle.plant_model.specs.Element.{Item, Row, Way, Element, Place, Taken, each, waiting, waits_for, way_to, fresh_id}
+use Rattle.plant_model.specs.Routes.{toward}
 use Rattle.plant_model.specs.Taking.{goes_up, sequence_or, send_on, take_along, take_path, take_wish, take_new, take_checked, take_asked, take_answer, take_reply, made_ready, answered, expansion}
 use Rattle.plant_model.specs.Plant.{Pin, Segment}
 use Rattle.border_costs.proofs.Members.{contains_none}
@@ -82,7 +82,7 @@ module _ (to : Peer) (r : Reply) (paths : List PathRow) (tells : Tells r.answer 
     along_says : (flags x : ℕ) (w : Wanted) (k : Element Pin Segment) (path : List As) → Silent (take_along e pin p class flags x w k path)
     along_says flags x w k [] h = not_known p flags x h
     along_says flags x w k (a ∷ []) h = contains_none _ h
-    along_says flags x w k (a ∷ b ∷ rest) h = on_says flags x w (a ∷ b ∷ rest) (b ∷ rest) (is_denied e.deny class b) k (way_to (Inner b) k.ways) h
+    along_says flags x w k (a ∷ b ∷ rest) h = on_says flags x w (a ∷ b ∷ rest) (b ∷ rest) (is_denied e.deny class b) k (way_to (toward b e.routes) k.ways) h
 
     path_says : (flags x : ℕ) (w : Wanted) (k : Element Pin Segment) → Silent (take_path e pin p class flags x w k)
     path_says flags x w k =

@@ -25,6 +25,7 @@ use Rattle.plant_model.specs.Writing.{error_message, reply_message, unavailable,
 use Rattle.plant_model.specs.Branches.{branches_in}
 use Rattle.disclosure.specs.Policy.{is_denied}
 use Rattle.plant_model.specs.Element.{Stage, Waits, Ready, Element, Item, Row, Way, Place, Taken, silent, only, is_client, way_to, waiting, waits_for, at_stage, fresh_id, with_last}
+use Rattle.plant_model.specs.Routes.{toward}
 use Rattle.plant_model.specs.Taking.{take, take_asked, take_checked, take_new, take_path, take_along, send_on, item_of, sequence_or, goes_up, answered, staged, take_answer, made_ready, told_busy, take_failure}
 use Rattle.plant_laws.proofs.Handing.{In}
 use Rattle.plant_laws.proofs.Counting.{waiting_in}
@@ -182,7 +183,7 @@ module _ (P : Type 0) (S : Type 0) where
     seen_along : (flags y : ℕ) (w : Wanted) (sequence : List As) → IsSeen y sequence (take_along e pin q class flags y w k sequence)
     seen_along flags y w [] = seen_reply flags y [] unavailable
     seen_along flags y w (a ∷ []) = seen_opened y (item_of pin class flags w (a ∷ []) (Ready [])) k.ways []
-    seen_along flags y w (a ∷ b ∷ rest) = go (way_to (Inner b) k.ways)
+    seen_along flags y w (a ∷ b ∷ rest) = go (way_to (toward b e.routes) k.ways)
       where
         go : (o : Option Way) → IsSeen y (a ∷ b ∷ rest) (send_on pin q class flags y w (a ∷ b ∷ rest) (b ∷ rest) (is_denied e.deny class b) k o)
         go None = seen_reply flags y (a ∷ b ∷ rest) unavailable

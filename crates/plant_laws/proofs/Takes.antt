@@ -22,6 +22,7 @@ use Rattle.plant_model.specs.Parent as parent
 use Rattle.plant_model.specs.Parent.{Parent, Given, Family, Asking}
 use Rattle.plant_text.specs.Settings.{row_of, deny_at}
 use Rattle.plant_model.specs.Settings.{place, place_from}
+use Rattle.plant_model.specs.Routes.{routes}
 use Rattle.plant_laws.specs.Transcript.{answers_to, Effect, Keeps, Ends, Begins, ends_if, take_effect}
 use Rattle.plant_laws.proofs.Decompose.{nil_right}
 use Rattle.plant_laws.proofs.Seen.{seen}
@@ -41,7 +42,7 @@ IsSingle m = Unit {0}
 pub own_is : (n : NetworkParts) (d : As) → (place n d).own ≡ d
 own_is n d = go n.elements
   where
-    go : (rows : List ElementRow) → (place_from d (deny_at d n.deny) (row_of d rows)).own ≡ d
+    go : (rows : List ElementRow) → (place_from d (deny_at d n.deny) (routes n d) (row_of d rows)).own ≡ d
     go [] = refl
     go (r ∷ rows) = elim (cases_Bool (same_as r.own d)) [ inl hit ↦ rw hit refl | inr miss ↦ rw miss (go rows) ]
 

@@ -27,12 +27,13 @@ use Rattle.plant_text.specs.Settings.{class_of, Line, line, lines, is_linked, ha
 use Rattle.plant_model.specs.Settings.{place, family}
 use Rattle.plant_model.specs.State.{State, Connection, Access, Pops, Takes, Ups, Downs, Hands}
 use Rattle.plant_model.specs.Deeds.{Going, own_message, with_parent, with_element, element_of, is_due, is_tick, is_out_empty, any_fall, our_offer, on_connection, with_more, with_session, with_inbox, read_as, input_of, give, rise, fall, say, clear, expire, put_to, put, puts, outside_act, outside_acts, outside_step, outside_input, inner_act, inner_acts, inner_input, begin_end, begin_line, break_line, tick_outside, tick_lines, with_access, with_inner}
+use Rattle.plant_model.specs.Outside.{heeded}
 use Rattle.pcep_framing.specs.Frames.{joined}
 use Rattle.plant_model.specs.Events as events
 use Rattle.plant_model.specs.Events.{is_down, split_all, bad_item}
 use Rattle.plant_model.specs.Plant.{Pin, Segment, first_pin}
 use Rattle.plant_laws.specs.Transcript.{Transcript}
-use Rattle.plant_laws.proofs.Acts.{IsSameCore}
+use Rattle.plant_laws.proofs.Acts.{IsSameCore, IsHeard}
 use Rattle.plant_laws.proofs.Shape.{has_pass, IsShape, shape}
 use Rattle.plant_laws.proofs.Decompose.{nil_right, append_assoc, framed, give_framed, rise_framed, fall_framed}
 use Rattle.plant_laws.proofs.Queues.{same_as_is}
@@ -84,7 +85,7 @@ module _ (c : Codec) (n : NetworkParts) where
 
     pub data Step : Core → Transcript → Core → Type 0 where
       rests : (s t : Core) → IsSameCore Pin Segment s t → Step s [] t
-      hears : (i : ℕ) (bytes : Bytes) (m : Message) (s : Core) → c.read bytes ≡ Some m → R bytes →
+      hears : (i : ℕ) (bytes : Bytes) (m : Message) (s : Core) → IsHeard Pin Segment c n open_of i s bytes m → R bytes →
           Step s (give Pin Segment c n open_of (element_of n i) (Outside i) m (at_start s)).deeds (give Pin Segment c n open_of (element_of n i) (Outside i) m (at_start s)).state
       carries : (a b : As) (bytes : Bytes) (rest : List Bytes) (m : Message) (s t : Core) → s.queues a b ≡ bytes ∷ rest → c.read bytes ≡ Some m →
           IsSameCore Pin Segment (with_rest a b rest s) t →
@@ -212,7 +213,7 @@ module _ (c : Codec) (n : NetworkParts) where
       rest_trip : (g : Move) (t : Core) → IsSameCore Pin Segment g.state t → Trip s0 g.deeds g.state → Trip s0 g.deeds t
       rest_trip g t same r = goes_on s0 g.state t g.deeds [] r (rests g.state t same)
 
-      hear_on : (i : ℕ) (bytes : Bytes) (m : Message) (g : Move) → c.read bytes ≡ Some m → R bytes → Reached g → Reached (give Pin Segment c n open_of (element_of n i) (Outside i) m g)
+      hear_on : (i : ℕ) (bytes : Bytes) (m : Message) (g : Move) → IsHeard Pin Segment c n open_of i g.state bytes m → R bytes → Reached g → Reached (give Pin Segment c n open_of (element_of n i) (Outside i) m g)
       hear_on i bytes m g read known r =
           let h = give Pin Segment c n open_of (element_of n i) (Outside i) m (at_start g.state) in
           record {
@@ -300,7 +301,8 @@ module _ (c : Codec) (n : NetworkParts) where
             | inl none ↦ quiet_outside i (is_tick x) t.actions h none r'
             | inr pass ↦
                 let b = read pass.0 pass.1 in
-                subst (λ (as' : List Action). Reached (outside_acts Pin Segment c n open_of i (is_tick x) as' h)) (sym pass.2) (hear_on i b.0 pass.0 h b.1 b.2 r')
+                subst (λ (as' : List Action). Reached (outside_acts Pin Segment c n open_of i (is_tick x) as' h)) (sym pass.2)
+                (hear_on i b.0 (heeded c (Outside i) (h.state.elements (element_of n i)).pending.rows pass.0) h (pass.0, b.1, refl) b.2 r')
           ]
 
       outside_input_on : (i : ℕ) (x : Input) (g : Move) → IsRead x → Reached g → Reached (outside_input Pin Segment c n open_of i x g)

@@ -16,7 +16,8 @@ use Rattle.plant_model.specs.Names.{same_id}
 use Rattle.plant_model.specs.Wire.{Bytes, Codec}
 use Rattle.plant_model.specs.Laws.{IsCodec, IsNetwork}
 use Rattle.plant_text.specs.Settings.{Line, lines}
-use Rattle.plant_model.specs.Settings.{ways_along, place}
+use Rattle.plant_model.specs.Routes.{routes}
+use Rattle.plant_model.specs.Settings.{inner_ways, ways_along, place}
 use Rattle.plant_model.specs.Element.{Stage, Waits, Row, way_to}
 use Rattle.plant_model.specs.Parent as parent
 use Rattle.plant_model.specs.Parent.{Wait, AskingRow, last_to}
@@ -35,6 +36,7 @@ use Rattle.plant_laws.proofs.Handing.{In}
 use Rattle.plant_laws.proofs.Rows as table
 use Rattle.plant_laws.proofs.OpenedRuns.{bare_holds}
 use Rattle.plant_laws.proofs.Waits.{IfBoth, Both, act_both, load_both, solve_both, upper_both}
+use Rattle.plant_laws.proofs.Unrouted.{way_inside}
 use Rattle.plant_laws.proofs.Trips.{AllIn, Step}
 use Rattle.plant_laws.proofs.StepActs.{step_holds}
 use Rattle.plant_laws.proofs.Travel.{run_travels}
@@ -145,7 +147,7 @@ module _ (c : Codec) (n : NetworkParts) (codec : IsCodec c) (net : IsNetwork n) 
 
   act_base : (ds : Transcript) (s t : Core) (es : Transcript) → Base ds s → Acts Pin Segment c n open_of s es t → Base (es ++ ds) t
   act_base ds s t es base act = (
-    act_both c n ds s t es base.0 act,
+    act_both c n net ds s t es base.0 act,
     act_stands c n ds s t es base.1 act,
     λ prem.
         let old = prem_drop es ds prem in
@@ -273,7 +275,7 @@ module _ (c : Codec) (n : NetworkParts) (codec : IsCodec c) (net : IsNetwork n) 
     where
       last : (a b : As) (z : Bool) → cond z (Last bare.parent.ways b) (Last (bare.elements a).ways b) ≤ 0
       last a b true = let e = first_last (Inner b) parent_as (lines n) in omega (arith, e)
-      last a b false = let e = first_last (Inner b) a (lines n) in omega (arith, e)
+      last a b false = let e = ap last_to (way_inside b (inner_ways n a) (routes n a)) ∙ first_last (Inner b) a (lines n) in omega (arith, e)
 
   pub run_inv : (es : List Entry) (s : Plant) → Run c n es s → Inv (deeds_of c n es) s
   run_inv es s run = (run_travels c n Any (λ fs. any_in (split_all c fs)) Inv bare_inv step_inv (λ ds s' d g given inv. load_inv ds s' d g inv) solve_inv upper_inv es s run).0

@@ -26,6 +26,7 @@ use Rattle.plant_model.specs.Wire.{Codec, Checked, Admitted, Wrong}
 use Rattle.plant_model.specs.Writing.{request_message, reply_message, error_message, busy, unavailable}
 use Rattle.disclosure.specs.Policy.{is_denied}
 use Rattle.plant_model.specs.Element.{Element, Row, Way, Place, Taken, each, way_to, is_client, lost_output, waiting, with_last}
+use Rattle.plant_model.specs.Routes.{toward}
 use Rattle.plant_model.specs.Taking.{take, take_asked, take_checked, take_new, take_wish, take_path, take_along, send_on, sequence_or, goes_up, take_reply, take_answer, made_ready, take_notice, notice_steps, take_busy, take_cancel, told_busy, cancelled, take_report, take_errors, take_failure, told_error, error_answer}
 use Rattle.plant_model.specs.Solving.{commit, closed_reply, client_reply, free}
 use Rattle.plant_model.specs.BorderGraph.{Found}
@@ -62,7 +63,7 @@ module _ (W : Peer → Message → Type 0) (w_reply : (p : Peer) (flags id : ℕ
       along_all : (flags x : ℕ) (w : Wanted) (k : Element P S) (sequence : List As) → AllOut W (take_along e pin p class flags x w k sequence).outputs
       along_all flags x w k [] = (w_reply p flags x unavailable, tt)
       along_all flags x w k (a ∷ []) = tt
-      along_all flags x w k (a ∷ b ∷ rest) = send_all flags x w (a ∷ b ∷ rest) (b ∷ rest) (is_denied e.deny class b) k (way_to (Inner b) k.ways)
+      along_all flags x w k (a ∷ b ∷ rest) = send_all flags x w (a ∷ b ∷ rest) (b ∷ rest) (is_denied e.deny class b) k (way_to (toward b e.routes) k.ways)
 
       path_all : (flags x : ℕ) (w : Wanted) (k : Element P S) → AllOut W (take_path e pin p class flags x w k).outputs
       path_all flags x w k =

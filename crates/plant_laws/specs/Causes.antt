@@ -28,6 +28,7 @@ use Rattle.plant_model.specs.Parent.{Wait, AskingRow}
 use Rattle.plant_model.specs.Parent as parent
 use Rattle.plant_model.specs.State.{Connection, Takes, Says, Downs, Clears, Solves}
 use Rattle.plant_model.specs.Deeds.{our_offer, own_message, element_of, is_tick, any_fall, input_of}
+use Rattle.plant_model.specs.Outside.{heeded}
 use Rattle.plant_model.specs.Events.{later}
 use Rattle.plant_model.specs.Plant.{Pin, Plant, PlantDeed, Happened, Entry, Run, Steps, opened}
 use Rattle.plant_laws.specs.Transcript.{Transcript}
@@ -70,10 +71,12 @@ asker_above h = record { peer = h.1.key.peer; flags = h.1.item.flags; id = h.1.k
 -- ---- an event, in the state before it
 
 module _ (c : Codec) (n : NetworkParts) (before : Plant) (e : Event) where
-  -- A message came first, and the session that it came to passes it on to its element, or the parent.
+  -- A message came first, and the session that it came to passes it on to its element, or the parent: what is heeded of it,
+  -- where it came from outside.
   pub data Passes (at : As) (p : Peer) (m : Message) : Type 0 where
-    from_outside : (i : ℕ) (x : Connection) (bytes : Bytes) (rest : List (Option Bytes)) → e ≡ event.Take i → (before.accesses i).connection ≡ Some x → x.inbox ≡ Some bytes ∷ rest →
-        c.read bytes ≡ Some m → (turn_of x.session (input.Got m)).actions ≡ action.Pass m ∷ [] → at ≡ element_of n i → p ≡ Outside i → Passes at p m
+    from_outside : (i : ℕ) (x : Connection) (bytes : Bytes) (rest : List (Option Bytes)) (raw : Message) → e ≡ event.Take i → (before.accesses i).connection ≡ Some x → x.inbox ≡ Some bytes ∷ rest →
+        c.read bytes ≡ Some raw → (turn_of x.session (input.Got raw)).actions ≡ action.Pass raw ∷ [] →
+        m ≡ heeded c (Outside i) (before.elements (element_of n i)).pending.rows raw → at ≡ element_of n i → p ≡ Outside i → Passes at p m
     from_inside : (a : As) (bytes : Bytes) (rest : List Bytes) → e ≡ event.Carry a at → is_linked n a at ≡ true → before.queues a at ≡ bytes ∷ rest →
         c.read bytes ≡ Some m → (turn_of (before.sessions at a) (input.Got m)).actions ≡ action.Pass m ∷ [] → p ≡ Inner a → Passes at p m
 

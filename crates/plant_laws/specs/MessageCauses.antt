@@ -37,6 +37,7 @@ use Rattle.plant_model.specs.Taking as taking
 use Rattle.plant_model.specs.Parent.{Wait, AskingRow, Parent, Errand, errands, is_up}
 use Rattle.plant_model.specs.Parent as parent
 use Rattle.plant_model.specs.Settings.{place, family}
+use Rattle.plant_model.specs.Routes.{toward}
 use Rattle.plant_model.specs.Plant.{Pin, Segment}
 use Rattle.plant_laws.specs.Keys.{shown_answer}
 
@@ -123,16 +124,16 @@ pub data OnError (Waiting : Asker → Type 0) (e : ℕ × ℕ) (os : List Output
 
 -- ---- a request
 
--- where a path request goes on from an element: to the parent, or to the next domain of its sequence
+-- where a path request goes on from an element: to the parent, or to whom is asked for the next domain of its sequence
 pub data GoesTo (n : NetworkParts) (d : As) (p : Peer) (w : Wanted) (next : Peer) (rest : List As) (denied : Bool) : Type 0 where
   upward : goes_up (place n d).parent (class_of n p) w.sequence ≡ true → next ≡ the_parent → rest ≡ [] → denied ≡ false → GoesTo n d p w next rest denied
   along : (own b : As) (more : List As) → goes_up (place n d).parent (class_of n p) w.sequence ≡ false → sequence_or d w.sequence ≡ own ∷ b ∷ more →
-      next ≡ Inner b → rest ≡ b ∷ more → denied ≡ is_denied (place n d).deny (class_of n p) b → GoesTo n d p w next rest denied
+      next ≡ toward b (place n d).routes → rest ≡ b ∷ more → denied ≡ is_denied (place n d).deny (class_of n p) b → GoesTo n d p w next rest denied
 
 pub data OnPath (n : NetworkParts) (d : As) (k : Element Pin Segment) (a : Asker) (w : Wanted) (os : List Output) : Type 0 where
   -- its sequence ends here: the job is ready, and nothing is said yet
   ends_here : (own : As) → goes_up (place n d).parent (class_of n a.peer) w.sequence ≡ false → sequence_or d w.sequence ≡ own ∷ [] → os ≡ [] → OnPath n d k a w os
-  -- no link leads to the next, or the session with it is not up
+  -- no link and no route leads to the next, or the session with it is not up
   no_session : (next : Peer) (rest : List As) (denied : Bool) → GoesTo n d a.peer w next rest denied → is_up (way_to next k.ways) ≡ false → os ≡ chain_broken a → OnPath n d k a w os
   -- policy denies the step
   is_refused : (next : Peer) (rest : List As) → GoesTo n d a.peer w next rest true → os ≡ chain_broken a → OnPath n d k a w os

@@ -1,8 +1,11 @@
--- Every message that an outside peer's element takes was read from bytes, and came from a peer of the settings.
-use Rattle.std.specs.Prelude.{◌≡◌, true, is_some, List, [], ◌∷◌, Some}
+-- Every message that an outside peer's element takes is what is heeded of one that was read from bytes, and came from a peer of
+-- the settings.
+use Rattle.std.specs.Prelude.{◌≡◌, ℕ, true, is_some, List, [], ◌∷◌, Option, Some}
 use Rattle.dom_base.specs.declared.names.Peer.TheVariants.{Outside}
 use Rattle.plant_text.specs.declared.settings.NetworkParts.{NetworkParts}
+use Rattle.pcep_messages.specs.declared.message.Message.{Message}
 use Rattle.plant_model.specs.Wire.{Bytes, Codec}
+use Rattle.plant_model.specs.Outside.{heeded_in}
 use Rattle.plant_model.specs.State.{Deed, Takes}
 use Rattle.plant_model.specs.Plant.{Plant, Entry, Run, deeds_of}
 use Rattle.plant_model.specs.Laws.{IsCodec}
@@ -11,7 +14,8 @@ use Rattle.plant_text.specs.Settings.{peer_row}
 use Rattle.plant_model.specs.Deeds.{element_of}
 
 abbrev pub IsRead : {S : Type 0} → Codec → NetworkParts → Deed S → Type 0
-IsRead c n (Takes at (Outside i) m os) = (is_some (peer_row i n.peers) ≡ true) × (at ≡ element_of n i) × (bytes : Bytes) × AreOctets bytes × (c.read bytes ≡ Some m)
+IsRead c n (Takes at (Outside i) m os) =
+    (is_some (peer_row i n.peers) ≡ true) × (at ≡ element_of n i) × (bytes : Bytes) × AreOctets bytes × (raw : Message) × (c.read bytes ≡ Some raw) × (sent : ℕ → Option ℕ) × (m ≡ heeded_in c sent raw)
 IsRead c n e = Unit {0}
 
 abbrev pub AreRead : {S : Type 0} → Codec → NetworkParts → List (Deed S) → Type 0

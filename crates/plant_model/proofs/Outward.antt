@@ -11,7 +11,8 @@ use Rattle.plant_text.specs.Names.{same_as}
 use Rattle.plant_text.specs.Settings.{peer_row}
 use Rattle.plant_text.specs.declared.settings.NetworkParts.{NetworkParts}
 use Rattle.plant_text.specs.declared.settings.PeerRow.{PeerRow}
-use Rattle.plant_model.specs.Routes.{Route, route_by, route_at, routes_from, IsRoute, RoutesGoOut, EachHasRoute, NoRoutes}
+use Rattle.plant_model.specs.declared.route.Route.{Route}
+use Rattle.plant_model.specs.Routes.{route_by, route_at, routes_from, IsRoute, RoutesGoOut, EachHasRoute, NoRoutes}
 
 same_as_is : (a b : As) → same_as a b ≡ true → a ≡ b
 same_as_is a b e = ap (λ (n : ℕ). let x : As = record { 0 = n } in x) (eqb-true a.0 b.0 e)

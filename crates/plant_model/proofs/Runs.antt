@@ -5,7 +5,7 @@ use Rattle.dom_base.specs.Parts.{parts_from}
 use Rattle.pcep_objects.specs.Bodies.{body_of}
 use Rattle.pcep_messages.specs.Refusals.{is_bound, is_minimised}
 use Rattle.plant_model.specs.Samples.{answers, after}
-use Rattle.plant_model.specs.SampleRuns.{ThreeDomains, BreakIsTold, LoadKeepsPin, KeysAreGuarded, IdsTellWhoSent, NoPathTellsClients, ParentAnswers}
+use Rattle.plant_model.specs.SampleRuns.{ThreeDomains, BreakIsTold, LoadKeepsPin, KeysAreGuarded, IdsTellWhoSent, GoesOutside, NoPathTellsClients, ParentAnswers}
 
 pub three_domains : ThreeDomains
 unfolding answers rank parts_from body_of is_bound is_minimised
@@ -26,6 +26,10 @@ keys_are_guarded = record { client = refl; last_moment = refl; expired = refl; n
 pub ids_tell_who_sent : IdsTellWhoSent
 unfolding answers rank parts_from body_of is_bound is_minimised
 ids_tell_who_sent = refl
+
+pub goes_outside : GoesOutside
+unfolding answers rank parts_from body_of is_bound is_minimised
+goes_outside = record { shown = refl; closed = refl }
 
 pub no_path_tells_clients : NoPathTellsClients
 unfolding answers rank parts_from body_of is_bound is_minimised

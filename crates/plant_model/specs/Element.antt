@@ -15,6 +15,7 @@ use Rattle.path_keys.specs.Keys.{Keys, expired_of}
 use Rattle.vspt_tree.specs.declared.branch.Branch.{Branch}
 use Rattle.plant_model.specs.declared.output.Output.{Output}
 use Rattle.plant_model.specs.declared.output.Lost.{Lost}
+use Rattle.plant_model.specs.declared.route.Route.{Route}
 use Rattle.plant_text.specs.Names.{same_as}
 use Rattle.plant_model.specs.Names.{same_id}
 use Rattle.plant_model.specs.Writing.{reply_message, unavailable}
@@ -55,6 +56,7 @@ pub record Place : Type 0 where
   pub id : Addr
   pub parent : Bool
   pub deny : List Deny
+  pub routes : List Route
 
 -- a change, and what is sent with it
 pub record Taken (P : Type 0) (S : Type 0) : Type 0 where

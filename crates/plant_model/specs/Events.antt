@@ -23,7 +23,7 @@ use Rattle.plant_model.specs.Element.{Item}
 use Rattle.plant_model.specs.Element as element
 use Rattle.plant_model.specs.Parent as parent
 use Rattle.plant_text.specs.Settings.{Line, line, lines, is_linked, is_element, elements_of, life, peer_row}
-use Rattle.plant_model.specs.Settings.{ways}
+use Rattle.plant_model.specs.Settings.{inner_ways, ways}
 use Rattle.plant_model.specs.State.{Connection, Access, State, Deed, Pops, Hands}
 use Rattle.plant_model.specs.Deeds as deeds
 use Rattle.plant_model.specs.Deeds.{Going, our_offer, element_of, input_of, with_inbox}
@@ -200,7 +200,7 @@ module _ (P : Type 0) (S : Type 0) (c : Codec) (n : NetworkParts) (show : S → 
       keys = record { life = life n d; next = 1; clock = 0; issued = [] };
       ways = ways n d;
     };
-    parent = record { pending = record { limit = parent.pending_most; given = 0; rows = [] }; ways = ways n parent_as };
+    parent = record { pending = record { limit = parent.pending_most; given = 0; rows = [] }; ways = inner_ways n parent_as };
     current = pins;
     accesses = λ i. record { opened = 0; connection = None };
     sessions = λ a b. new_state (our_offer 0) (record { 0 = 0 });

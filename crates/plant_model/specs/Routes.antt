@@ -10,11 +10,7 @@ use Rattle.plant_text.specs.Names.{same_as}
 use Rattle.plant_text.specs.Settings.{peer_row}
 use Rattle.plant_text.specs.declared.settings.NetworkParts.{NetworkParts}
 use Rattle.plant_text.specs.declared.settings.PeerRow.{PeerRow}
-
--- requests for a domain go to an outside peer
-pub record Route : Type 0 where
-  pub next : As
-  pub peer : ℕ
+use Rattle.plant_model.specs.declared.route.Route.{Route}
 
 -- the peer that is asked for a domain: that of the first route there, else the domain's own element
 abbrev pub toward : As → List Route → Peer

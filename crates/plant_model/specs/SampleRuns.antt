@@ -12,6 +12,7 @@ use Rattle.pcep_subobjects.specs.Hops.{strict_hop}
 use Rattle.pcep_messages.specs.declared.message.Message.{Message}
 use Rattle.pcep_messages.specs.declared.message.Message.TheVariants as messages
 use Rattle.pcep_messages.specs.declared.message.Answer.TheVariants.{Paths, NoPath}
+use Rattle.pcep_messages.specs.declared.message.Path.{Path}
 use Rattle.disclosure.specs.declared.class.Class.TheVariants.{Client, Neighbour}
 use Rattle.vspt_tree.specs.declared.branch.Best.{Best}
 use Rattle.plant_text.specs.declared.settings.NetworkParts.{NetworkParts}
@@ -21,7 +22,7 @@ use Rattle.plant_model.specs.Writing.{needed, reply_message, unavailable, no_key
 use Rattle.plant_model.specs.RealWire.{wire}
 use Rattle.plant_model.specs.Plant.{Pin, Plant}
 use Rattle.plant_model.specs.Blind.{heard}
-use Rattle.plant_model.specs.Samples.{Act, Do, Solve, Join, act, answers, after, link_up, comes, asks, As_, moment}
+use Rattle.plant_model.specs.Samples.{Act, Do, Solve, Join, act, answers, after, link_up, comes, stands_by, goes_on, asks, As_, moment}
 
 abbrev pub element : ℕ → Bool → ElementRow
 element d parent = record { own = As_ d; id = V4 (200 + d); topology = None; key_life = 600; parent = parent }
@@ -134,6 +135,40 @@ IdsTellWhoSent =
       1,
       reply_message 64 7 (Paths (record { hops = strict_hop (V4 1) ∷ strict_hop (V4 13) ∷ strict_hop (V4 3) ∷ hidden 1 3 ∷ strict_hop (V4 3) ∷ []; metric = Some (2, 1073741824) } ∷ [])),
     ) ∷ []
+
+-- ---- one domain, and a neighbour of it that paths may go on through
+
+abbrev pub outward : NetworkParts
+outward = record {
+  elements = element 1 false ∷ [];
+  links = [];
+  peers = record { name = []; at = As_ 1; class = Client true; port = 1; down = false } ∷ record { name = []; at = As_ 1; class = Neighbour (As_ 2); port = 2; down = true } ∷ [];
+  deny = [];
+  parent = None;
+  parent_links = [];
+  workers = 1;
+  watch = None;
+}
+
+abbrev pub reported : ℕ → ℕ → Path
+reported key word = record { hops = strict_hop (V4 2) ∷ hidden key 2 ∷ strict_hop (V4 9) ∷ []; metric = Some (2, word) }
+
+-- The neighbour tells two ways from one entry; 1088421888 is the word of 7, and 1087373312 that of 6.5, which counts as 7.
+abbrev pub reports : Message
+reports = reply_message 64 1 (Paths (reported 5 1088421888 ∷ reported 6 1087373312 ∷ []))
+
+abbrev pub client_asks : List Act
+client_asks = comes 0 (asks 7 (V4 1) (V4 9) (As_ 1 ∷ As_ 2 ∷ []))
+
+-- The neighbour is asked for its own domain, and of what it tells the first way of the least cost is shown to the client.
+-- Without a session of the neighbour the chain is not available, and nothing goes to it.
+pub record GoesOutside : Type 0 where
+  pub shown : answers outward (stands_by 1 ++ client_asks ++ goes_on 1 reports ++ Solve (As_ 1) 1 (way 1 8 12 (Some 2)) true true ∷ [])
+      ≡ (1, asks 1 (V4 1) (V4 9) (As_ 2 ∷ [])) ∷ (
+        0,
+        reply_message 64 7 (Paths (record { hops = strict_hop (V4 1) ∷ strict_hop (V4 12) ∷ strict_hop (V4 2) ∷ hidden 5 2 ∷ strict_hop (V4 9) ∷ []; metric = Some (2, 1090519040) } ∷ [])),
+      ) ∷ []
+  pub closed : answers outward client_asks ≡ (0, reply_message 64 7 unavailable) ∷ []
 
 -- ---- no path
 

@@ -103,6 +103,14 @@ comes i m =
     Do (event.Open i i) ∷ Do (event.Feed i (wire.text the_open)) ∷ Do (event.Feed i (wire.text messages.Keepalive)) ∷ Do (event.Feed i (wire.text m))
     ∷ Do (event.Take i) ∷ Do (event.Take i) ∷ Do (event.Take i) ∷ []
 
+-- it opens a session and says nothing yet
+abbrev pub stands_by : ℕ → List Act
+stands_by i = Do (event.Open i i) ∷ Do (event.Feed i (wire.text the_open)) ∷ Do (event.Feed i (wire.text messages.Keepalive)) ∷ Do (event.Take i) ∷ Do (event.Take i) ∷ []
+
+-- it says something more, and it is taken
+abbrev pub goes_on : ℕ → Message → List Act
+goes_on i m = Do (event.Feed i (wire.text m)) ∷ Do (event.Take i) ∷ []
+
 abbrev pub As_ : ℕ → As
 As_ n = record { 0 = n }
 

@@ -3,7 +3,6 @@ use Rattle.std.specs.Prelude.{ℕ, Bool, false, cond, ◌==◌, List, [], ◌∷
 use Rattle.dom_base.specs.declared.names.As.{As}
 use Rattle.dom_base.specs.declared.addr.Addr.{Addr}
 use Rattle.dom_base.specs.declared.names.Peer.{Peer}
-use Rattle.dom_base.specs.declared.names.Peer.TheVariants.{Inner}
 use Rattle.pcep_codes.specs.declared.errors.TheConstants as errors
 use Rattle.pcep_codes.specs.declared.notices.TheConstants as notices
 use Rattle.pcep_codes.specs.declared.no_paths.TheConstants as no_paths
@@ -29,6 +28,7 @@ use Rattle.plant_model.specs.Names.{same_addr, the_parent, has_pair}
 use Rattle.plant_model.specs.Wire.{Codec, Checked, Admitted, Wrong}
 use Rattle.plant_model.specs.Writing.{request_message, reply_message, error_message, busy, unavailable, no_key}
 use Rattle.plant_model.specs.Branches.{branches_in}
+use Rattle.plant_model.specs.Routes.{toward}
 use Rattle.plant_model.specs.Element.{Stage, Waits, Ready, Item, Row, Way, Element, Place, Taken, silent, only, each, ended, at_stage, waiting, fresh_id, way_to, with_last, is_client}
 
 -- the domain sequence of a request: its own, or the element's domain alone
@@ -67,7 +67,7 @@ abbrev pub take_along : {P : Type 0} {S : Type 0} → Place → P → Peer → C
 take_along e pin p class flags x w k [] = denied p flags x k
 take_along e pin p class flags x w k (a ∷ []) = silent (record k { pending = opened_of k.pending p x (item_of pin class flags w (a ∷ []) (Ready [])) })
 take_along e pin p class flags x w k (a ∷ b ∷ rest) =
-    send_on pin p class flags x w (a ∷ b ∷ rest) (b ∷ rest) (is_denied e.deny class b) k (way_to (Inner b) k.ways)
+    send_on pin p class flags x w (a ∷ b ∷ rest) (b ∷ rest) (is_denied e.deny class b) k (way_to (toward b e.routes) k.ways)
 
 abbrev pub take_path : {P : Type 0} {S : Type 0} → Place → P → Peer → Class → ℕ → ℕ → Wanted → Element P S → Taken P S
 take_path e pin p class flags x w k =

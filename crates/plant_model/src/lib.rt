@@ -6,6 +6,7 @@ mod event;
 mod law;
 mod outcome;
 mod output;
+mod route;
 mod sample;
 mod upper;
 
@@ -15,6 +16,7 @@ pub use law::{
 };
 pub use outcome::{Outcome, Refused};
 pub use output::{Lost, Output, Outputs};
+pub use route::Route;
 pub use sample::sample_runs;
 pub use upper::{BorderJob, ChildRow};
 

@@ -22,6 +22,7 @@ use Rattle.plant_deeds.specs.plant_model.Taking.{take}
 use Rattle.plant_deeds.specs.plant_model.Parent as parent
 use Rattle.plant_deeds.specs.plant_model.State.{State, Connection, Access, Takes, Ups, Downs}
 use Rattle.plant_deeds.specs.plant_model.Deeds.{Going, element_of, is_due, is_tick, is_out_empty, on_connection, with_more, with_session, with_inbox, input_of, with_parent, with_element, put, put_to, puts, give, rise, fall, say, outside_act, outside_acts, outside_step, outside_input, with_access}
+use Rattle.plant_deeds.specs.plant_model.Outside.{heeded}
 use Rattle.plant_deeds.specs.plant_model.Events as events
 use Rattle.plant_deeds.specs.plant_model.Blind.{is_accepted}
 use Rattle.plant_deeds.specs.plant_model.Events.{Happened}
@@ -104,7 +105,9 @@ module _ (P : Type 0) (S : Type 0) (c : Codec) (n : NetworkParts) (show : S → 
   acts_few j ticks (action.Down why ∷ as') g few =
       let h : Going P S = record { state = with_access P S c n show j (with_inbox []) g.state; deeds = g.deeds } in
       acts_few j ticks as' (fall P S c n show (element_of n j) (Outside j) h) (fall_few (element_of n j) (Outside j) h (access_few j (with_inbox []) g.state (λ x z. omega arith) few))
-  acts_few j ticks (action.Pass m ∷ as') g few = acts_few j ticks as' (give P S c n show (element_of n j) (Outside j) m g) (give_few (element_of n j) (Outside j) m g few)
+  acts_few j ticks (action.Pass m ∷ as') g few =
+      let heard = heeded c (Outside j) (g.state.elements (element_of n j)).pending.rows m in
+      acts_few j ticks as' (give P S c n show (element_of n j) (Outside j) heard g) (give_few (element_of n j) (Outside j) heard g few)
 
   step_few : (j : ℕ) (x : Input) (g : Going P S) (o : Option Connection) → Few g.state → Few (outside_step P S c n show j x g o).state
   step_few j x g None few = few

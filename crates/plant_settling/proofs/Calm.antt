@@ -25,6 +25,7 @@ use Rattle.plant_laws.specs.plant_model.Settings.{place, family}
 use Rattle.plant_laws.specs.plant_model.Wire.{Bytes, Codec}
 use Rattle.plant_laws.specs.plant_model.Element as element
 use Rattle.plant_laws.specs.plant_model.Element.{Element}
+use Rattle.plant_laws.specs.plant_model.Outside.{heeded}
 use Rattle.plant_laws.specs.plant_model.Taking as taking
 use Rattle.plant_laws.specs.plant_model.Parent as parent
 use Rattle.plant_laws.specs.plant_model.State.{State, Connection, Takes, Ups, Downs}
@@ -287,7 +288,8 @@ module _ (c : Codec) (n : NetworkParts) where
   outside_act_kept i ticks (action.Down why) g h =
       let k : Move = record { state = with_access Pin Segment c n open_of i (with_inbox []) g.state; deeds = g.deeds } in
       fall_kept (element_of n i) (Outside i) k (λ again. same_calm g.state k.state refl refl refl refl (h again))
-  outside_act_kept i ticks (action.Pass m) g h = give_kept (element_of n i) (Outside i) m g (λ calm. tt) h
+  outside_act_kept i ticks (action.Pass m) g h =
+      give_kept (element_of n i) (Outside i) (heeded c (Outside i) (g.state.elements (element_of n i)).pending.rows m) g (λ calm. tt) h
 
   outside_acts_kept : (i : ℕ) (ticks : Bool) (as' : List Action) (g : Move) → Kept g → Kept (outside_acts Pin Segment c n open_of i ticks as' g)
   outside_acts_kept i ticks [] g h = h

@@ -26,7 +26,9 @@ use Rattle.plant_laws.specs.plant_model.Laws.{IsCodec, IsNetwork}
 use Rattle.plant_laws.specs.plant_model.Names.{set_pair}
 use Rattle.plant_laws.specs.plant_model.Element.{Way, way_to}
 use Rattle.plant_laws.specs.plant_model.Parent as parent
-use Rattle.plant_laws.specs.plant_model.Settings.{place, way, ways, ways_along}
+use Rattle.plant_laws.specs.plant_model.Routes.{routes}
+use Rattle.plant_laws.specs.plant_model.Settings.{inner_ways, place, way, ways, ways_along}
+use Rattle.plant_laws.proofs.Unrouted.{way_inside}
 use Rattle.plant_laws.specs.plant_model.Solving as solving
 use Rattle.plant_laws.specs.plant_model.State.{Connection, Loads, Pops, Takes, Says, Ups, Downs, Clears, Solves, Expires, Hands}
 use Rattle.plant_laws.specs.plant_model.Deeds as deeds
@@ -371,7 +373,13 @@ module _ (c : Codec) (codec : IsCodec c) (n : NetworkParts) (net : IsNetwork n) 
       go more false false = more
 
   nobody_keeps : {T : Type 0} (d : As) → KeepsTo {T = T} (Nobody d) [] (ways n d)
-  nobody_keeps d = record { asked = tt; asks = λ b up. (let out : true ≡ false = sym up ∙ all_down d (lines n) b in cc) }
+  nobody_keeps d = record {
+    asked = tt;
+    asks = λ b up. (let out : true ≡ false = sym up ∙ ap (λ (o : Option Way). parent.is_up o) (way_inside b (inner_ways n d) (routes n d)) ∙ all_down d (lines n) b in cc);
+  }
+
+  nobody_above : {T : Type 0} → KeepsTo {T = T} (Nobody parent_as) [] (inner_ways n parent_as)
+  nobody_above = record { asked = tt; asks = λ b up. (let out : true ≡ false = sym up ∙ all_down parent_as (lines n) b in cc) }
 
   opened_calm : Calm c n (events.opening Pin Segment c n open_of first_pin).state
   opened_calm =
@@ -379,7 +387,7 @@ module _ (c : Codec) (codec : IsCodec c) (n : NetworkParts) (net : IsNetwork n) 
       let t = (events.opening Pin Segment c n open_of first_pin).state in
       record {
         queues = λ a d linked. lines_begun (lines n) (from b) (lines_apart n net) (lines_distinct n net) a d linked (record { there = refl; back = refl });
-        tables = tables_on Nobody (IsUp t) t (λ a d up. absurd up) (begun_tables (lines n) (from b) (record { elements = λ d real. nobody_keeps d; parent = nobody_keeps parent_as }));
+        tables = tables_on Nobody (IsUp t) t (λ a d up. absurd up) (begun_tables (lines n) (from b) (record { elements = λ d real. nobody_keeps d; parent = nobody_above }));
       }
 
   -- ---- runs

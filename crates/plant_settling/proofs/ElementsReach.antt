@@ -3,7 +3,7 @@ use Rattle.std.proofs.Common.{◌≡◌, ◌∙◌, ℕ, Bool, true, false, not,
 use Rattle.std.specs.Prelude.{map, filter}
 use Rattle.dom_base.specs.declared.names.As.{As}
 use Rattle.dom_base.specs.declared.names.Peer.{Peer}
-use Rattle.dom_base.specs.declared.names.Peer.TheVariants.{Inner}
+use Rattle.dom_base.specs.declared.names.Peer.TheVariants.{Outside, Inner}
 use Rattle.pcep_codes.specs.declared.errors.TheConstants as errors
 use Rattle.pcep_codes.specs.declared.notices.TheConstants as notices
 use Rattle.pcep_codes.specs.declared.no_paths.TheConstants as no_paths
@@ -29,6 +29,7 @@ use Rattle.plant_laws.specs.plant_model.Writing.{reply_message, error_message, u
 use Rattle.plant_laws.specs.plant_model.Branches.{branches_in}
 use Rattle.disclosure.specs.Policy.{is_denied}
 use Rattle.plant_laws.specs.plant_model.Element.{Stage, Ready, Row, Way, Element, Place, Taken, silent, only, each, ended, waiting, waits_for, waits_on, way_to, fresh_id, at_stage, stays, is_lost, lost_of, lost_output, lost, upped, downed, is_client}
+use Rattle.plant_laws.specs.plant_model.Routes.{toward}
 use Rattle.plant_laws.specs.plant_model.Taking.{sequence_or, goes_up, send_on, sent_on, take_along, take_path, take_wish, take_new, take_checked, take_asked, staged, answered, made_ready, take_answer, take_reply, told_busy, cancelled, take_busy, take_cancel, notice_steps, take_notice, error_answer, told_error, take_failure, take_errors, take_report, take, denied, expansion}
 use Rattle.plant_laws.specs.plant_model.Solving.{commit, client_reply, closed_reply, closed_paths, issued_all, free}
 use Rattle.plant_laws.specs.plant_model.Parent as parent
@@ -166,37 +167,41 @@ module _ (P : Type 0) (S : Type 0) (Up : As → Type 0) where
     denied_tells : (flags x : ℕ) (k : Element P S) → Keeps k → Tells (denied p flags x k)
     denied_tells flags x k keeps = one p (reply_message flags x unavailable) k reached refl keeps
 
-    on_tells : (pin : P) (class : Class) (flags x : ℕ) (w : Wanted) (sequence rest : List As) (refused : Bool) (k : Element P S) (b : As) → Keeps k →
-        Tells (send_on pin p class flags x w sequence rest refused k (way_to (Inner b) k.ways))
-    on_tells pin class flags x w sequence rest refused k b keeps = go (way_to (Inner b) k.ways) refl
+    on_tells : (pin : P) (class : Class) (flags x : ℕ) (w : Wanted) (sequence rest : List As) (refused : Bool) (k : Element P S) (to : Peer) → Keeps k →
+        Tells (send_on pin p class flags x w sequence rest refused k (way_to to k.ways))
+    on_tells pin class flags x w sequence rest refused k to keeps = go (way_to to k.ways) refl
       where
-        by : (way : Way) → way_to (Inner b) k.ways ≡ Some way → (up : Bool) → way.up ≡ up →
+        reach : (q : Peer) → parent.is_up (way_to q k.ways) ≡ true → Reaches Up q
+        reach (Inner b) up = keeps.asks b up
+        reach (Outside i) up = tt
+
+        by : (way : Way) → way_to to k.ways ≡ Some way → (up : Bool) → way.up ≡ up →
             Tells (cond up (cond refused (denied p flags x k) (sent_on pin p class flags x w sequence rest k way)) (denied p flags x k))
         by way is false down = denied_tells flags x k keeps
         by way is true up =
             pick refused (denied p flags x k) (sent_on pin p class flags x w sequence rest k way) (denied_tells flags x k keeps)
             (let y = fresh_id way.peer way.last_id k.pending.rows in
-            let to : Reaches Up way.peer = subst (Reaches Up) (sym (way_peer (Inner b) k.ways way is)) (keeps.asks b (ap (λ (o : Option Way). parent.is_up o) is ∙ up)) in
+            let reaches : Reaches Up way.peer = subst (Reaches Up) (sym (way_peer to k.ways way is)) (reach to (ap (λ (o : Option Way). parent.is_up o) is ∙ up)) in
             record {
               keeps = record {
                 asked = all_append Up k.pending.rows _ keeps.asked reached;
                 asks = λ b' up'. keeps.asks b' (sym (last_up (Inner b') way.peer y k.ways) ∙ up');
               };
-              sends = ((to, refl), tt);
+              sends = ((reaches, refl), tt);
             })
 
-        go : (o : Option Way) → way_to (Inner b) k.ways ≡ o → Tells (send_on pin p class flags x w sequence rest refused k o)
+        go : (o : Option Way) → way_to to k.ways ≡ o → Tells (send_on pin p class flags x w sequence rest refused k o)
         go None is = denied_tells flags x k keeps
         go (Some way) is = by way is way.up refl
 
     along_tells : (e : Place) (pin : P) (class : Class) (flags x : ℕ) (w : Wanted) (k : Element P S) (path : List As) → Keeps k → Tells (take_along e pin p class flags x w k path)
     along_tells e pin class flags x w k [] keeps = denied_tells flags x k keeps
     along_tells e pin class flags x w k (a ∷ []) keeps = record { keeps = record { asked = all_append Up k.pending.rows _ keeps.asked reached; asks = keeps.asks }; sends = tt }
-    along_tells e pin class flags x w k (a ∷ b ∷ rest) keeps = on_tells pin class flags x w (a ∷ b ∷ rest) (b ∷ rest) (is_denied e.deny class b) k b keeps
+    along_tells e pin class flags x w k (a ∷ b ∷ rest) keeps = on_tells pin class flags x w (a ∷ b ∷ rest) (b ∷ rest) (is_denied e.deny class b) k (toward b e.routes) keeps
 
     path_tells : (e : Place) (pin : P) (class : Class) (flags x : ℕ) (w : Wanted) (k : Element P S) → Keeps k → Tells (take_path e pin p class flags x w k)
     path_tells e pin class flags x w k keeps =
-        pick (goes_up e.parent class w.sequence) _ _ (on_tells pin class flags x w [] [] false k parent_as keeps)
+        pick (goes_up e.parent class w.sequence) _ _ (on_tells pin class flags x w [] [] false k (Inner parent_as) keeps)
         (along_tells e pin class flags x w k (sequence_or e.own w.sequence) keeps)
 
     wish_tells : (show : S → List Hop) (e : Place) (pin : P) (class : Class) (now flags x : ℕ) (k : Element P S) (w : Wish) → Keeps k → Tells (take_wish show e pin p class now flags x k w)

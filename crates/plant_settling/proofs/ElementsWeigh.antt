@@ -5,7 +5,7 @@ use Rattle.std.proofs.lemmas.Bool.{ne_eqb}
 use Rattle.std.proofs.lemmas.List.Elements.{All-head}
 use Rattle.dom_base.specs.declared.names.As.{As}
 use Rattle.dom_base.specs.declared.names.Peer.{Peer}
-use Rattle.dom_base.specs.declared.names.Peer.TheVariants.{Inner}
+use Rattle.dom_base.specs.declared.names.Peer.TheVariants.{Outside, Inner}
 use Rattle.pcep_codes.specs.declared.errors.TheConstants as errors
 use Rattle.pcep_codes.specs.declared.notices.TheConstants as notices
 use Rattle.pcep_codes.specs.declared.no_paths.TheConstants as no_paths
@@ -35,6 +35,8 @@ use Rattle.plant_laws.specs.plant_model.Writing.{asked_of, request_message, repl
 use Rattle.plant_laws.specs.plant_model.Branches.{branches_in}
 use Rattle.disclosure.specs.Policy.{is_denied}
 use Rattle.plant_laws.specs.plant_model.Element.{Stage, Waits, Ready, Row, Way, Element, Place, Taken, silent, only, each, waiting, waits_for, is_waiting, way_to, fresh_id, at_stage, is_client}
+use Rattle.plant_laws.specs.plant_model.declared.route.Route.{Route}
+use Rattle.plant_laws.specs.plant_model.Routes.{toward}
 use Rattle.plant_laws.specs.plant_model.Taking.{item_of, sequence_or, goes_up, send_on, sent_on, take_along, take_path, take_wish, take_new, take_checked, take_asked, staged, answered, made_ready, take_answer, take_reply, told_busy, cancelled, take_busy, take_cancel, notice_steps, take_notice, error_answer, told_error, take_failure, take_errors, take_report, take, denied, expansion}
 use Rattle.plant_laws.specs.plant_model.Solving.{commit, client_reply, closed_reply, closed_paths, issued_all, free}
 use Rattle.plant_laws.proofs.Onward.{way_peer}
@@ -208,11 +210,22 @@ module _ (P : Type 0) (S : Type 0) (c : Codec) (n : NetworkParts) where
         ap (λ (t : Bool). cond t (above_weight c n) (checked_weight c n b (c.check ask b))) (ne_eqb b.0 0 (λ e. omega (arith, real, e))) ∙ ap (λ (o : Checked). checked_weight c n b o) check in
         omega (arith, weight)
 
-    on_less : (pin : P) (a : Asked) (own : As) (flags x : ℕ) (w : Wanted) → Admits c a own flags x w → (b : As) (rest : List As) → IsSequence own (b ∷ rest) → (refused : Bool) (k : Element P S) → WaysOk k.ways →
-        Less (10 * length (own ∷ b ∷ rest)) k (send_on pin p class flags x w (own ∷ b ∷ rest) (b ∷ rest) refused k (way_to (Inner b) k.ways))
-    on_less pin a own flags x w admits b rest sequence refused k ok = go (way_to (Inner b) k.ways) refl (way_fits (Inner b) k.ways ok)
+    -- one that goes to an outside peer weighs nothing
+    weight_toward : (a : Asked) (own : As) (flags x : ℕ) (w : Wanted) → Admits c a own flags x w → (b : As) (rest : List As) → IsSequence own (b ∷ rest) → (y : ℕ) → 1 ≤ y → y < 4294967296 → (routes : List Route) →
+        peer_weight c n (toward b routes) (request_message y w w.target (b ∷ rest)) ≤ 11 + 10 * length rest
+    weight_toward a own flags x w admits b rest sequence y some fits [] = let inner = sent_is a own flags x w admits b rest sequence y some fits in omega (arith, inner)
+    weight_toward a own flags x w admits b rest sequence y some fits (r ∷ rs) = go (same_as r.next b) (weight_toward a own flags x w admits b rest sequence y some fits rs)
       where
-        go : (o : Option Way) → way_to (Inner b) k.ways ≡ o → WayOk o → Less (10 * length (own ∷ b ∷ rest)) k (send_on pin p class flags x w (own ∷ b ∷ rest) (b ∷ rest) refused k o)
+        go : (t : Bool) → peer_weight c n (toward b rs) (request_message y w w.target (b ∷ rest)) ≤ 11 + 10 * length rest →
+            peer_weight c n (cond t (Outside r.peer) (toward b rs)) (request_message y w w.target (b ∷ rest)) ≤ 11 + 10 * length rest
+        go true more = omega arith
+        go false more = more
+
+    on_less : (pin : P) (a : Asked) (own : As) (flags x : ℕ) (w : Wanted) → Admits c a own flags x w → (b : As) (rest : List As) → IsSequence own (b ∷ rest) → (routes : List Route) (refused : Bool) (k : Element P S) → WaysOk k.ways →
+        Less (10 * length (own ∷ b ∷ rest)) k (send_on pin p class flags x w (own ∷ b ∷ rest) (b ∷ rest) refused k (way_to (toward b routes) k.ways))
+    on_less pin a own flags x w admits b rest sequence routes refused k ok = go (way_to (toward b routes) k.ways) refl (way_fits (toward b routes) k.ways ok)
+      where
+        go : (o : Option Way) → way_to (toward b routes) k.ways ≡ o → WayOk o → Less (10 * length (own ∷ b ∷ rest)) k (send_on pin p class flags x w (own ∷ b ∷ rest) (b ∷ rest) refused k o)
         go None is fits = denied_less (10 * length (own ∷ b ∷ rest)) flags x k (omega arith) ok
         go (Some way) is fits =
             pick (10 * length (own ∷ b ∷ rest)) k way.up _ _
@@ -224,8 +237,8 @@ module _ (P : Type 0) (S : Type 0) (c : Codec) (n : NetworkParts) where
                 let y = fresh_id way.peer way.last_id k.pending.rows in
                 let y_fits = next_fits k.pending.rows (is_waiting way.peer k.pending.rows) way.last_id fits in
                 let y_some = next_some k.pending.rows (is_waiting way.peer k.pending.rows) way.last_id in
-                let to : peer_weight c n way.peer (request_message y w w.target (b ∷ rest)) ≡ 11 + 10 * length rest =
-                ap (λ (q : Peer). peer_weight c n q (request_message y w w.target (b ∷ rest))) (way_peer (Inner b) k.ways way is) ∙ sent_is a own flags x w admits b rest sequence y y_some y_fits in
+                let to : peer_weight c n way.peer (request_message y w w.target (b ∷ rest)) ≤ 11 + 10 * length rest =
+                subst (λ (q : Peer). peer_weight c n q (request_message y w w.target (b ∷ rest)) ≤ 11 + 10 * length rest) (sym (way_peer (toward b routes) k.ways way is)) (weight_toward a own flags x w admits b rest sequence y y_some y_fits routes) in
                 record {
                   ways = ways_last way.peer y k.ways y_fits ok;
                   weighs = record { least = (let l = opened_length k.pending p x (item_of pin class flags w (own ∷ b ∷ rest) (Waits way.peer y)) in omega (arith, to, l)) };
@@ -243,7 +256,7 @@ module _ (P : Type 0) (S : Type 0) (c : Codec) (n : NetworkParts) where
           | inl short ↦ subst (λ (l : List As). Less (10 * length l) k (take_along e pin p class flags x w k l)) (sym short) alone
           | inr long ↦
               subst (λ (l : List As). Less (10 * length l) k (take_along e pin p class flags x w k l)) (sym long.2)
-              (on_less pin a e.own flags x w admits long.0 long.1 long.3 (is_denied e.deny class long.0) k ok)
+              (on_less pin a e.own flags x w admits long.0 long.1 long.3 e.routes (is_denied e.deny class long.0) k ok)
         ])
       where
         alone : Less (10 * length (e.own ∷ [])) k (take_along e pin p class flags x w k (e.own ∷ []))

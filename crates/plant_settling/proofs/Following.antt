@@ -30,7 +30,10 @@ use Rattle.plant_laws.specs.plant_model.Taking.{take}
 use Rattle.plant_laws.specs.plant_model.Solving as solving
 use Rattle.plant_laws.specs.plant_model.Parent as parent
 use Rattle.plant_laws.specs.plant_model.Parent.{is_up}
-use Rattle.plant_laws.specs.plant_model.Settings.{place, family, way, ways, ways_along}
+use Rattle.plant_laws.specs.plant_model.Outside.{heeded}
+use Rattle.plant_laws.specs.plant_model.Routes.{routes}
+use Rattle.plant_laws.specs.plant_model.Settings.{place, family, inner_ways, way, ways, ways_along}
+use Rattle.plant_laws.proofs.Unrouted.{way_inside}
 use Rattle.plant_laws.specs.plant_model.State.{Connection, Downs, Ups, Takes, Pops}
 use Rattle.plant_laws.specs.plant_model.Deeds.{Going, our_offer, own_message, element_of, is_due, is_tick, is_out_empty, any_fall, with_session, with_inbox, input_of, with_access, with_element, with_parent, with_inner, put, puts, give, rise, fall, say, clear, outside_act, outside_acts, outside_step, outside_input, inner_act, inner_acts, inner_input, begin_end, break_line, tick_outside, tick_lines}
 use Rattle.plant_laws.specs.plant_model.Events as events
@@ -272,7 +275,9 @@ module _ (c : Codec) (n : NetworkParts) where
   outside_acts_inv i ticks (action.Down why ∷ as') g inv =
       let h : Move = record { state = with_access Pin Segment c n open_of i (with_inbox []) g.state; deeds = g.deeds } in
       outside_acts_inv i ticks as' (fall Pin Segment c n open_of (element_of n i) (Outside i) h) (fall_outside i (element_of n i) h inv)
-  outside_acts_inv i ticks (action.Pass m ∷ as') g inv = outside_acts_inv i ticks as' (give Pin Segment c n open_of (element_of n i) (Outside i) m g) (give_inv (element_of n i) (Outside i) m g inv)
+  outside_acts_inv i ticks (action.Pass m ∷ as') g inv =
+      let heard = heeded c (Outside i) (g.state.elements (element_of n i)).pending.rows m in
+      outside_acts_inv i ticks as' (give Pin Segment c n open_of (element_of n i) (Outside i) heard g) (give_inv (element_of n i) (Outside i) heard g inv)
 
   outside_inv : (i : ℕ) (x : Input) (g : Move) → Inv g.state → Inv (outside_input Pin Segment c n open_of i x g).state
   outside_inv i x g inv = go (g.state.accesses i).connection
@@ -514,11 +519,17 @@ module _ (c : Codec) (n : NetworkParts) where
         begun_inv xs (begin_end Pin Segment c n open_of 0 x.upper x.lower h) (begin_end_inv 0 x.upper x.lower h (begin_end_inv 0 x.lower x.upper g held))
 
     bare_inv : Inv (events.bare Pin Segment c n open_of first_pin)
-    bare_inv d b = subst (λ (ws : List Way). Follows ws false d b) (sym (at_start (same_as d parent_as) refl)) (some_ways d b (lines n), down_ways d b (lines n) ∙ sym (never_open (is_linked n d b)))
+    bare_inv d b = go (same_as d parent_as) refl
       where
-        at_start : (up : Bool) → same_as d parent_as ≡ up → cond up (ways n parent_as) (ways n d) ≡ ways n d
-        at_start true is = ap (ways n) (sym (same_as_is d parent_as is))
-        at_start false is = refl
+        inside : Follows (inner_ways n d) false d b
+        inside = (some_ways d b (lines n), down_ways d b (lines n) ∙ sym (never_open (is_linked n d b)))
+
+        same : way_to (Inner b) (ways n d) ≡ way_to (Inner b) (inner_ways n d)
+        same = way_inside b (inner_ways n d) (routes n d)
+
+        go : (up : Bool) → same_as d parent_as ≡ up → Follows (cond up (inner_ways n parent_as) (ways n d)) false d b
+        go true is = subst (λ (z : As). Follows (inner_ways n z) false d b) (same_as_is d parent_as is) inside
+        go false is = (ap (λ (o : Option Way). is_some o) same ∙ inside.0, ap (λ (o : Option Way). is_up o) same ∙ inside.1)
 
     run_inv : (es : List Entry) (s : Plant) → Run c n es s → Inv s
     run_inv [] s is = subst Inv (sym is) (begun_inv (lines n) (record { state = events.bare Pin Segment c n open_of first_pin; deeds = [] }) (bare_inv, λ d b. refl))

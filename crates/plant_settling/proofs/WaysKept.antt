@@ -25,6 +25,7 @@ use Rattle.plant_laws.specs.plant_model.Names.{the_parent, has_pair}
 use Rattle.plant_laws.specs.plant_model.Wire.{Codec, Checked, Admitted, Wrong}
 use Rattle.plant_laws.specs.plant_model.Writing.{reply_message}
 use Rattle.plant_laws.specs.plant_model.Element.{Row, Way, Element, Place, Taken, each, waiting, way_to, with_last, with_up, fresh_id, is_client}
+use Rattle.plant_laws.specs.plant_model.Routes.{toward}
 use Rattle.plant_laws.specs.plant_model.Taking as taking
 use Rattle.plant_laws.specs.plant_model.Taking.{goes_up, sequence_or, denied, answered, send_on, sent_on, take_along, take_path}
 use Rattle.plant_laws.specs.plant_model.Solving.{commit, client_reply, closed_reply, free}
@@ -98,7 +99,7 @@ module _ (P : Type 0) (S : Type 0) (c : Codec) (show : S → List Hop) (e : Plac
   along_kept : (flags x : ℕ) (w : Wanted) (k : Element P S) (s : List As) → Kept k (take_along e pin p class flags x w k s)
   along_kept flags x w k [] = same_view k.ways
   along_kept flags x w k (a ∷ []) = same_view k.ways
-  along_kept flags x w k (a ∷ b ∷ rest) = sends_kept flags x w (a ∷ b ∷ rest) (b ∷ rest) (is_denied e.deny class b) k (way_to (Inner b) k.ways)
+  along_kept flags x w k (a ∷ b ∷ rest) = sends_kept flags x w (a ∷ b ∷ rest) (b ∷ rest) (is_denied e.deny class b) k (way_to (toward b e.routes) k.ways)
 
   path_kept : (flags x : ℕ) (w : Wanted) (k : Element P S) → Kept k (take_path e pin p class flags x w k)
   path_kept flags x w k =

@@ -35,7 +35,7 @@ fn new_element(alloc: Global) -> Result<Element<Topologies>, Fail>
         from: As(7),
         next: As(3),
     })?;
-    let mut element = Element::new(alloc, As(2), id, 600, true, &links, deny)?;
+    let mut element = Element::new(alloc, As(2), id, 600, true, &links, deny, List::new(alloc))?;
     element.up(Peer::Inner(As(1)));
     element.up(Peer::Inner(As(3)));
     Ok(element)

@@ -16,6 +16,9 @@ returns-clause-keys c = Runs.keys_are_guarded
 pub returns-clause-ids : goal.returns-clause-ids
 returns-clause-ids c = Runs.ids_tell_who_sent
 
+pub returns-clause-outside : goal.returns-clause-outside
+returns-clause-outside c = Runs.goes_outside
+
 pub returns-clause-no_path : goal.returns-clause-no_path
 returns-clause-no_path c = Runs.no_path_tells_clients
 

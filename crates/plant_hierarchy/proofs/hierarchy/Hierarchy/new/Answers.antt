@@ -1,4 +1,4 @@
-use Rattle.std.proofs.Common.{All, sym, subst}
+use Rattle.std.proofs.Common.{◌<◌, ◌^◌, All, length, sym, subst}
 use Rattle.plant_text.specs.declared.settings.NetworkParts.{NetworkParts}
 use Rattle.plant_text.specs.Settings.{elements_of}
 use Rattle.plant_members.specs.plant_model.Settings.{family}
@@ -11,6 +11,9 @@ use Rattle.plant_hierarchy.proofs.hierarchy.Hierarchy.new.Goals as goal
 
 pub of-requires-clause-lives : goal.of-requires-clause-lives
 of-requires-clause-lives g c = subst LivesFit (sym c.parts-parts.ensures.parts) (lives_fit c.args.network c.parts-parts.ensures.rules)
+
+pub of-requires-clause-peers : goal.of-requires-clause-peers
+of-requires-clause-peers g c = subst (λ (n : NetworkParts). length n.peers < 2 ^ 32) (sym c.parts-parts.ensures.parts) c.parts-parts.ensures.rules.few
 
 pub parent_of-requires : goal.parent_of-requires
 parent_of-requires g c = record { weighed = subst (λ (n : NetworkParts). All IsWeighed n.parent_links) (sym c.parts-parts.ensures.parts) (weighed_links c.args.network c.parts-parts.ensures.rules) }
