@@ -4,4 +4,5 @@ pub mod GatherLemmas
 pub mod Listing
 pub mod Apart
 pub mod Turns
+pub mod SeenLemmas
 pub mod BlameLemmas

@@ -47,11 +47,16 @@ named_first list changes i (DropLink far) first = (DropLink far, first, refl)
 named_first list changes i (DropOut far) first = (DropOut far, first, refl)
 named_first list changes i (DropEntry e) first = (DropEntry e, first, refl)
 
-pub why_mistake : (g : Rows) (changes : List Change) (why : ChangeError) → IsMistake (rows_in_order g) changes why → IsWhy g changes why
-why_mistake g changes (Absent i) is = is
-why_mistake g changes (Present i) is = is
-why_mistake g changes (Rule fault row) is = absurd is
-why_mistake g changes NoMemory is = tt
+-- the first mistake, under its name, is why no topology is made
+pub why_first : (g : Rows) (changes : List Change) (i : ℕ) (change : Change) → IsFirstMistake (rows_in_order g) changes i change → IsWhy g changes (mistake change i)
+why_first g changes i (AddNode n) first = (AddNode n, first, refl)
+why_first g changes i (AddLink l) first = (AddLink l, first, refl)
+why_first g changes i (AddOut o) first = (AddOut o, first, refl)
+why_first g changes i (AddEntry e) first = (AddEntry e, first, refl)
+why_first g changes i (DropNode n) first = (DropNode n, first, refl)
+why_first g changes i (DropLink far) first = (DropLink far, first, refl)
+why_first g changes i (DropOut far) first = (DropOut far, first, refl)
+why_first g changes i (DropEntry e) first = (DropEntry e, first, refl)
 
 pub not_false : (b made : Bool) → made ≡ not b → made ≡ true → b ≡ false
 not_false true made is yes_made = absurd (let no : true ≡ false = sym yes_made ∙ is in cc)

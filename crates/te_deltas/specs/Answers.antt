@@ -48,12 +48,12 @@ IsMistake list changes (Present i) = NamesFirst list changes i (Present i)
 IsMistake list changes (Rule fault row) = ⊥
 IsMistake list changes NoMemory = Unit {0}
 
--- The first mistake among the changes; where there is none, the first rule that the changed rows break.
+-- The first mistake among the changes; where there is none, the first rule that the changed rows break, or want of memory.
 abbrev pub IsWhy : Rows → List Change → ChangeError → Type 0
 IsWhy g changes (Absent i) = NamesFirst (rows_in_order g) changes i (Absent i)
 IsWhy g changes (Present i) = NamesFirst (rows_in_order g) changes i (Present i)
 IsWhy g changes (Rule fault row) = CanBeMade (rows_in_order g) changes × IsFirstBreach (changed_rows g changes) fault row
-IsWhy g changes NoMemory = Unit {0}
+IsWhy g changes NoMemory = CanBeMade (rows_in_order g) changes
 
 -- what is answered to changes whose rows are no topology
 abbrev pub why_not : BuildError → ChangeError

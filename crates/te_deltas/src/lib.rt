@@ -9,6 +9,7 @@ mod making;
 mod name;
 mod reading;
 mod rows;
+mod seen;
 mod table;
 
 pub use blaming::line_of_fault;

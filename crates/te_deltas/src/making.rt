@@ -7,6 +7,7 @@ ghost use Rattle.te_deltas.specs.Answers.{IsBuiltOf, IsMistake, IsWhy, changed_r
 
 use crate::changes::Change;
 use crate::rows::rows_of_topology;
+use crate::seen::mistake_seen;
 use crate::table::Table;
 use dom_base::NoMemory;
 use std::alloc::Global;
@@ -59,8 +60,8 @@ fn make(alloc: Global, table: &mut Table, change: &Change) -> Result<bool, NoMem
     }
 }
 
-// What is wrong with a change that is a mistake, by its place.
-fn mistake_of(change: &Change, place: usize) -> ChangeError
+/// What is wrong with a change that is a mistake, by its place.
+pub(crate) fn mistake_of(change: &Change, place: usize) -> ChangeError
     ensures { result ≡ mistake change.now place }
 {
     match change {
@@ -112,11 +113,22 @@ fn why_not(why: BuildError) -> ChangeError
     }
 }
 
+// Why there are no changed rows: what want of memory hid is looked for without it.
+fn told(topology: &Topology, changes: &[Change], met: ChangeError) -> ChangeError
+    requires { IsMistake (rows_in_order topology.now) changes.now met }
+    ensures { IsWhy topology.now changes.now result }
+{
+    match met {
+        ChangeError::NoMemory => mistake_seen(topology, changes),
+        ChangeError::Absent(_) | ChangeError::Present(_) | ChangeError::Rule(_, _) => met,
+    }
+}
+
 /// The topology that `build` gives of the changed rows: the changes are made one at a time, in
 /// their order, where a drop takes its row out and an add appends its row to those of its kind.
 /// `Absent` and `Present` name the first change that is a mistake; only where there is none the
-/// rules are looked at. Takes time in proportion to the rows and the changes and the logarithm of
-/// their number.
+/// rules are looked at, or memory lacks. Takes time in proportion to the rows and the changes and
+/// the logarithm of their number; where memory lacks, also to the square of the changes' number.
 pub fn apply(
     alloc: Global,
     topology: &Topology,
@@ -125,7 +137,10 @@ pub fn apply(
     ensures ok { IfOk result (IsBuiltOf topology.now changes.now) }
     ensures refused { IfErr result (IsWhy topology.now changes.now) }
 {
-    let parts = changed_parts(alloc, topology, changes)?;
+    let parts = match changed_parts(alloc, topology, changes) {
+        Ok(parts) => parts,
+        Err(met) => return Err(told(topology, changes, met)),
+    };
     match Topology::build(alloc, parts) {
         Ok(changed) => Ok(changed),
         Err(why) => Err(why_not(why)),
