@@ -1,6 +1,7 @@
 -- A node that is barred is an end of no admitted link.
-use Rattle.std.proofs.Common.{◌≡◌, ◌⊎◌, ◌∙◌, ℕ, List, Bool, true, Some, ap, sym, inl, inr}
+use Rattle.std.proofs.Common.{◌≡◌, ◌⊎◌, ◌∙◌, ℕ, List, Bool, true, false, length, Some, ap, sym, inl, inr, arith, replicate}
 use Rattle.std.specs.Prelude.{slice_get}
+use Rattle.std.proofs.lemmas.List.{get_or-replicate, length-replicate}
 use Rattle.std.proofs.lemmas.Option.{slice_get_within}
 use Rattle.dom_base.specs.declared.link.Link.{Link}
 use Rattle.dom_base.specs.declared.query.Query.{Query}
@@ -22,3 +23,13 @@ barred_no_arc g q barred read tail head index are at_read at_tail ends bars l at
       | inl here ↦ admitted.from.free ((are.each tail l.from (slice_get_within g.nodes tail l.from from_at) from_at).0 here)
       | inr there ↦ admitted.to.free ((are.each head l.to (slice_get_within g.nodes head l.to to_at) to_at).0 there)
     ]
+
+-- where nothing is excluded, no node is barred
+pub none_barred : (g : Rows) (q : Query) (n : ℕ) → length q.exclusions ≡ 0 → n ≡ length g.nodes → AreBarred g q (replicate n false)
+none_barred g q n none same = record {
+  long = length-replicate n false ∙ same;
+  each = λ i a inside at. (
+    λ yes. absurd (let no : false ≡ true = sym (get_or-replicate n i false false (omega (arith, inside, same))) ∙ yes in cc),
+    λ bars. absurd (let no : ⊥ = omega (arith, none, bars.is_row.1) in no),
+  );
+}

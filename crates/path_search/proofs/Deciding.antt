@@ -1,11 +1,11 @@
 -- Whether a link is admitted is decided by its row, the exclusions and the nodes that are barred.
-use Rattle.std.proofs.Common.{◌≡◌, ◌≢◌, ◌⊎◌, ◌≤◌, ◌-◌, ◌/◌, ◌^◌, inl, inr, ℕ, zero, suc, Bool, true, false, List, [], ◌∷◌, length, ap, Some, arith, refl, subst, sym, ◌∙◌}
+use Rattle.std.proofs.Common.{◌≡◌, ◌⊎◌, ◌≤◌, ◌-◌, ◌/◌, ◌^◌, inl, inr, ℕ, zero, suc, Bool, true, false, List, [], ◌∷◌, length, ap, Some, arith, refl, subst, sym, ◌∙◌}
 use Rattle.std.specs.Prelude.{Contains, bit_and, slice_get}
 use Rattle.std.proofs.lemmas.Bool.{cases_lt}
 use Rattle.std.proofs.lemmas.Bool.Decides.{eqb_tells}
 use Rattle.std.proofs.lemmas.List.Elements.{All-contains}
 use Rattle.std.proofs.lemmas.Option.{slice_get_within}
-use Rattle.dom_base.specs.Admission.{Fits, LiesIn, NamesLink, BarsLink, BarsNode, Allows, weight}
+use Rattle.dom_base.specs.Admission.{Fits, LiesIn, NamesLink, BarsLink, Allows, weight}
 use Rattle.dom_base.specs.declared.addr.Addr.{Addr}
 use Rattle.dom_base.specs.declared.addr.Addr.TheVariants.{V4, V6}
 use Rattle.dom_base.specs.declared.link.Link.{Link}
@@ -15,7 +15,7 @@ use Rattle.dom_base.specs.declared.query.Excluded.{Excluded}
 use Rattle.dom_base.specs.declared.query.Excluded.TheVariants.{Prefix, AsNumber, Srlg, Other}
 use Rattle.te_links.specs.Rows.{Rows, IsTopology, IsInnerLink}
 use Rattle.te_links.specs.Index.{LinkEndsAt}
-use Rattle.walk_laws.specs.Walks.{AdmitsNode, AdmitsLink}
+use Rattle.walk_laws.specs.Walks.{AdmitsNode}
 use Rattle.path_search.specs.declared.arc.Arc.{Arc}
 use Rattle.path_search.specs.Barred.{is_barred, AreBarred}
 use Rattle.path_search.specs.Arcs.{CanLower}

@@ -7,6 +7,18 @@ use path_constraints::bars_node;
 use std::alloc::Global;
 use te_links::Links;
 
+// Where nothing is excluded, no node is barred.
+fn none_barred<'a, G: Links<'a>>(
+    alloc: Global,
+    links: &G,
+    _query: &Query,
+) -> Result<Vec<bool>, NoMemory>
+    requires { length _query.now.exclusions ≡ 0 }
+    ensures { IfOk result (λ barred. AreBarred (G.rows links.now) _query.now barred.items) }
+{
+    Ok(vec![in alloc; false; links.node_count() as usize]?)
+}
+
 /// For each node, by its place, whether the query bars it.
 pub(crate) fn barred_nodes<'a, G: Links<'a>>(
     alloc: Global,
@@ -15,7 +27,10 @@ pub(crate) fn barred_nodes<'a, G: Links<'a>>(
 ) -> Result<Vec<bool>, NoMemory>
     ensures { IfOk result (λ barred. AreBarred (G.rows links.now) query.now barred.items) }
 {
-    let mut barred = Vec::new(alloc);
+    if query.exclusions.is_empty() {
+        return none_barred(alloc, links, query);
+    }
+    let mut barred = Vec::with_capacity(alloc, links.node_count() as usize)?;
     for i in 0..links.node_count() {
         barred.push(bars_node(query, links.node_at(i)))?;
     }

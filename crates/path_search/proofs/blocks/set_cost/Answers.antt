@@ -1,6 +1,7 @@
-use Rattle.std.proofs.Common.{◌≡◌, ◌≢◌, ◌*◌, ◌/◌, ◌<◌, ◌≤◌, ℕ, length, map, refl, ◌∙◌, ap, arith}
+use Rattle.std.proofs.Common.{◌≡◌, ◌≢◌, ◌*◌, ◌/◌, ◌<◌, ◌≤◌, ℕ, length, map, refl, sym, ◌∙◌, ap, arith}
 use Rattle.std.specs.Prelude.{slice_set, slice_index_or}
 use Rattle.std.proofs.Math.ListN.{length-set}
+use Rattle.std.proofs.Math.Seq.{map-set_same}
 use Rattle.std.proofs.lemmas.List.{get_or-set_same, get_or-set_other, get_or_default, map-set}
 use Rattle.path_search.specs.declared.blocks.TheConstants.{NOTHING}
 use Rattle.path_search.specs.Blocks.{num_at, shown_cost}
@@ -49,6 +50,16 @@ returns-else-was-least-clause-blocks c =
     let differs : num_at costs place ≢ num_at least block = λ same. omega (arith, c.if-was-least.false, same, here, there) in
     put_blocks costs least least place number block (num_at least block) c.requires.blocks refl refl refl (λ b other. refl)
     (kept costs place number (block * 32) (num_at least block) c.requires.place no_less differs (c.requires.blocks.each block inside))
+
+pub returns-then-number-was-clause-blocks : goal.returns-then-number-was-clause-blocks
+returns-then-number-was-clause-blocks c = c.requires.blocks
+
+pub returns-then-number-was-clause-costs : goal.returns-then-number-was-clause-costs
+returns-then-number-was-clause-costs c =
+    let costs = c.args.costs.now in
+    let place = c.args.place in
+    sym (map-set_same shown_cost costs place c.number_of-number.result 0 (ap shown_cost c.if-number-was.true))
+    ∙ map-set shown_cost costs place c.number_of-number.result ∙ ap (λ o. slice_set (map shown_cost costs) place o) c.number_of-number.ensures
 
 pub returns-then-number-least-clause-costs : goal.returns-then-number-least-clause-costs
 returns-then-number-least-clause-costs c =
