@@ -1,5 +1,5 @@
 -- What closed peers hear of an event, by its answer and its messages.
-use Rattle.std.proofs.Common.{◌≡◌, ℕ, zero, suc, Bool, true, false, cond, ◌==◌, drop, option_map, List, [], ◌∷◌, ◌++◌, Option, Some, None, Ok, Err, inl, inr, sym, ◌∙◌, subst, ap, refl, append_assoc, append-nil}
+use Rattle.std.proofs.Common.{◌≡◌, ℕ, zero, suc, Bool, true, false, cond, ◌==◌, drop, option_map, List, [], ◌∷◌, ◌++◌, Option, Some, None, Ok, inl, inr, sym, ◌∙◌, subst, ap, refl}
 use Rattle.std.specs.Prelude.{is_some, slice_get}
 use Rattle.std.specs.List.{flat_map}
 use Rattle.dom_base.specs.declared.names.As.{As}
@@ -10,7 +10,6 @@ use Rattle.pcep_framing.specs.Frames.{joined}
 use Rattle.plant_queues.specs.declared.sent.Sent.{Sent}
 use Rattle.plant_text.specs.Sents.{sent_line}
 use Rattle.plant_text.specs.declared.settings.NetworkParts.{NetworkParts}
-use Rattle.plant_text.specs.declared.settings.PeerRow.{PeerRow}
 use Rattle.plant_text.specs.Settings.{is_linked, peer_row}
 use Rattle.plant_text.specs.Settings.{line as line_of}
 use Rattle.blind_plant.specs.plant_model.declared.event.BlindEvent.{BlindEvent}
@@ -21,7 +20,6 @@ use Rattle.blind_plant.specs.plant_model.Blind.{BlindHappened, BlindHappens, Bli
 use Rattle.blind_plant.specs.plant_model.Deeds as deeds
 use Rattle.blind_plant.specs.plant_model.Deeds.{Going}
 use Rattle.blind_plant.specs.plant_model.Events as events
-use Rattle.blind_plant.specs.plant_model.Events.{Answered}
 use Rattle.blind_plant.specs.plant_model.RealWire.{wire}
 use Rattle.blind_plant.specs.plant_model.State.{Connection, Deed, Loads, Pops, Takes, Says, Ups, Downs, Clears, Solves, Expires, Hands, said, sent_in}
 use Rattle.blind_plant.specs.plant_model.Wire.{Bytes}

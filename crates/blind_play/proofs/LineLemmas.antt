@@ -6,7 +6,7 @@ use Rattle.plant_text.specs.declared.line.LineEvent.{LineEvent}
 use Rattle.plant_text.specs.declared.settings.NetworkParts.{NetworkParts}
 use Rattle.blind_plant.specs.plant_model.declared.event.BlindEvent.{BlindEvent}
 use Rattle.blind_plant.specs.plant_model.declared.event.BlindEvent.TheVariants as blind
-use Rattle.blind_plant.specs.plant_model.Blind.{BlindState, is_accepted}
+use Rattle.blind_plant.specs.plant_model.Blind.{BlindState}
 use Rattle.blind_plant.specs.plant_model.Wire.{Bytes}
 use Rattle.plant_text.specs.Settings.{lines}
 use Rattle.blind_plant.specs.plant_network.plant_traffic.Carried.{flow_of}
@@ -17,8 +17,8 @@ use Rattle.blind_plant.specs.Held.{Held, whole}
 use Rattle.blind_plant.specs.Whole.{Whole}
 use Rattle.blind_play.specs.Due.{AreAllDue, AreDue, IsDueTake}
 use Rattle.blind_play.specs.Making.{Does, DoesAll, MakesTurn}
-use Rattle.blind_play.specs.Playing.{Played, Plays, PlaysFeed, PlaysNone, PlaysOne, Stage, cue}
-use Rattle.blind_play.specs.Turns.{IsTurn, Turn, turn_text, turns_text}
+use Rattle.blind_play.specs.Playing.{Played, Plays, PlaysFeed, PlaysNone, PlaysOne, cue}
+use Rattle.blind_play.specs.Turns.{Turn, turn_text, turns_text}
 
 pub on_ok : {T E A B : Type 0} (r : Result T E) → (A → B) → OnOk r A → OnOk r B
 on_ok (Ok x) f h = f h

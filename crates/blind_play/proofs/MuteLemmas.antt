@@ -25,8 +25,8 @@ use Rattle.blind_plant.specs.plant_model.Element.{upped, downed}
 use Rattle.blind_plant.specs.plant_model.Names.{is_empty, set_pair}
 use Rattle.blind_plant.specs.plant_model.Taking.{take}
 use Rattle.blind_plant.specs.plant_model.Parent as parent
-use Rattle.blind_plant.specs.plant_model.State.{State, Connection, Access, Deed, Hands, Takes, Ups, Downs, Pops}
-use Rattle.blind_plant.specs.plant_model.Deeds.{Going, any_fall, begin_end, begin_line, break_line, clear, element_of, expire, fall, give, inner_act, inner_acts, inner_input, input_of, is_due, is_out_empty, is_tick, our_offer, outside_act, outside_acts, outside_input, outside_step, puts, rise, say, tick_lines, tick_outside, with_access, with_element, with_inbox, with_inner, with_parent, with_session}
+use Rattle.blind_plant.specs.plant_model.State.{State, Connection, Deed, Hands, Takes, Ups, Downs, Pops}
+use Rattle.blind_plant.specs.plant_model.Deeds.{Going, any_fall, begin_end, begin_line, break_line, clear, element_of, fall, give, inner_act, inner_acts, inner_input, input_of, is_due, is_out_empty, is_tick, our_offer, outside_act, outside_acts, outside_input, outside_step, puts, rise, say, tick_lines, tick_outside, with_access, with_element, with_inbox, with_inner, with_parent, with_session}
 use Rattle.blind_plant.specs.plant_model.Outside.{heeded}
 use Rattle.blind_plant.specs.plant_model.Events as events
 use Rattle.blind_plant.specs.plant_model.Events.{Happened}

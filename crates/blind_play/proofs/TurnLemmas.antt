@@ -1,7 +1,5 @@
 -- Events that are done and told, one behind the other.
-use Rattle.std.proofs.Common.{◌≡◌, ◌<◌, ℕ, suc, arith, Bool, true, false, cond, List, [], ◌∷◌, ◌++◌, length, Option, Some, None, Ok, Err, is_ok, inl, inr, sym, ◌∙◌, subst, ap, refl, append_assoc, append-nil}
-use Rattle.std.specs.Prelude.{MatchBool}
-use Rattle.std.specs.List.{flat_map}
+use Rattle.std.proofs.Common.{◌≡◌, ◌<◌, ℕ, suc, arith, Bool, true, false, cond, List, [], ◌∷◌, ◌++◌, length, Option, Some, None, Ok, Err, is_ok, inl, inr, sym, ◌∙◌, subst, ap, refl, append-nil}
 use Rattle.std.proofs.lemmas.List.{flat_map_more}
 use Rattle.dom_base.specs.declared.names.As.{As}
 use Rattle.plant_queues.specs.declared.sent.Sent.{Sent}
@@ -19,8 +17,8 @@ use Rattle.blind_plant.proofs.plant_network.CarryLemmas.{can_carry}
 use Rattle.blind_plant.proofs.plant_network.InboxLemmas.{take_empty, take_less}
 use Rattle.blind_plant.specs.Whole.{Stepped, Whole}
 use Rattle.blind_play.specs.Due.{AreAllDue, AreDue, IsDueCarry, IsDueTake}
-use Rattle.blind_play.specs.Making.{Does, DoesAll, DoesSome, Makes, MakesTurn, closed_text, drain_text, drainer_of, lacks_memory, told_of}
-use Rattle.blind_play.specs.Turns.{IsTurn, Turn, happened_in, turn_text, turns_text}
+use Rattle.blind_play.specs.Making.{Does, DoesSome, Makes, MakesTurn, closed_text, drain_text, drainer_of, lacks_memory, told_of}
+use Rattle.blind_play.specs.Turns.{IsTurn, Turn, happened_in, turn_text}
 use Rattle.blind_play.proofs.HeardLemmas.{is_silent, is_told}
 
 -- an event that was not refused for want of memory happened

@@ -13,7 +13,7 @@ use Rattle.dom_base.specs.Parts.{half_at, parts_from}
 use Rattle.pcep_codes.specs.declared.TheConstants.{VERSION}
 use Rattle.pcep_codes.specs.declared.messages.TheConstants as types
 use Rattle.pcep_objects.specs.declared.object.Object.{Object}
-use Rattle.pcep_objects.specs.Spelling.{body_text, flag, object_text}
+use Rattle.pcep_objects.specs.Spelling.{body_text, object_text}
 use Rattle.pcep_objects.specs.declared.object.Body.TheVariants as bodies
 use Rattle.pcep_objects.specs.Spelling as objects
 use Rattle.pcep_messages.specs.declared.message.Bad.{Bad}

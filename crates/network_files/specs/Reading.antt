@@ -1,7 +1,6 @@
 -- Why the file of a line gives no topology to load.
 use Rattle.std.specs.Prelude.{◌≡◌, ◌≢◌, ◌⊎◌, ℕ, List, Option, Some, None, Ok, Err}
 use Rattle.dom_base.specs.declared.names.As.{As}
-use Rattle.te_links.specs.declared.fault.TopoFault.{TopoFault}
 use Rattle.te_links.specs.Rows.{Rows}
 use Rattle.te_text.specs.declared.error.TextError.TheVariants as text
 use Rattle.te_text.specs.Reads.{IsFaulty, Reads}

@@ -1,16 +1,15 @@
 -- Causes of a part are causes of the whole.
 use Rattle.std.proofs.Common.{◌≡◌, ◌∙◌, ◌⊎◌, inl, inr, ◌+◌, ◌≤◌, ◌<◌, ℕ, List, [], ◌∷◌, ◌++◌, length, map, ap, refl, sym, subst, arith, Option, Some, None}
-use Rattle.std.specs.Prelude.{Contains, codes}
+use Rattle.std.specs.Prelude.{Contains}
 use Rattle.dom_base.specs.declared.names.As.{As}
 use Rattle.dom_edge.specs.Causes.{Rose}
 use Rattle.dom_edge.specs.Stores.{Files, HasFile, IfFile}
 use Rattle.network_files.specs.Reading.{IsTopologyFault}
 use Rattle.network_files.specs.Settings.{HasNetwork, settings_max}
 use Rattle.plant_text.specs.declared.fault.NetFault.{NetFault}
-use Rattle.plant_text.specs.declared.fault.NetFault.TheVariants.{Duplicate}
 use Rattle.plant_text.specs.declared.settings.ElementRow.{ElementRow}
 use Rattle.plant_text.specs.declared.settings.NetworkParts.{NetworkParts}
-use Rattle.network_serving.specs.Files.{IsBadAt, IsBadText, IsFileEnd, IsLoadEnd, IsNamedEnd, IsNetworkEnd, IsNoFault, IsSettingsFault, IsTopologyEnd, topology_max}
+use Rattle.network_serving.specs.Files.{IsBadAt, IsBadText, IsFileEnd, IsLoadEnd, IsNamedEnd, IsNoFault, IsSettingsFault, IsTopologyEnd, topology_max}
 use Rattle.network_serving.specs.Ports.{IsRefusedPort}
 use Rattle.network_serving.specs.declared.served.Served.{Served}
 use Rattle.network_serving.specs.declared.served.Served.TheVariants as served

@@ -4,11 +4,10 @@ use Rattle.std.specs.Prelude.{slice_get}
 use Rattle.std.proofs.lemmas.List.{flat_map_more, length-take-le, map-append, take_more}
 use Rattle.std.specs.List.{flat_map}
 use Rattle.dom_base.specs.declared.names.As.{As}
-use Rattle.plant_text.specs.Names.{parent_as}
 use Rattle.std.proofs.lemmas.List.Elements.{All-head, All-nil, All-push, All-tail}
 use Rattle.std.proofs.lemmas.Option.{slice_get-map, slice_get_read}
 use Rattle.std.specs.Option.{option_map}
-use Rattle.dom_edge.specs.Causes.{Rose, next_count}
+use Rattle.dom_edge.specs.Causes.{next_count}
 use Rattle.plant_text.specs.declared.settings.NetworkParts.{NetworkParts}
 use Rattle.plant_text.specs.declared.settings.PeerRow.{PeerRow}
 use Rattle.serve_tasks.specs.Tasks.{IsNew, duty_of}

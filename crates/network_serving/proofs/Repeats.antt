@@ -1,6 +1,6 @@
 -- Ports that stand twice.
 use Rattle.std.proofs.Common.{◌≡◌, ◌∙◌, ◌⊎◌, inl, inr, ◌+◌, ◌≤◌, ◌<◌, ℕ, List, length, take, get_or, ap, refl, sym, subst, arith, Bool, true, false, Option, Some, None}
-use Rattle.std.specs.Prelude.{slice_get, codes, IfSome}
+use Rattle.std.specs.Prelude.{codes}
 use Rattle.std.proofs.lemmas.Bool.{cases_lt}
 use Rattle.std.proofs.lemmas.Option.{slice_get_cases, slice_get_read}
 use Rattle.plant_text.specs.declared.fault.NetFault.{NetFault}
@@ -8,7 +8,7 @@ use Rattle.plant_text.specs.declared.fault.NetFault.TheVariants.{Duplicate}
 use Rattle.plant_text.specs.declared.settings.NetworkParts.{NetworkParts}
 use Rattle.plant_text.specs.declared.settings.PeerRow.{PeerRow}
 use Rattle.network_serving.specs.Files.{IsBadText}
-use Rattle.network_serving.specs.Ports.{AreApart, IsFirstRepeat, IsPortFault, IsRefusedPort, has_port, repeats, repeats_in}
+use Rattle.network_serving.specs.Ports.{IsFirstRepeat, IsPortFault, IsRefusedPort, has_port, repeats, repeats_in}
 use Rattle.network_serving.specs.declared.served.Served.{Served}
 use Rattle.network_serving.specs.declared.served.Served.TheVariants as served
 

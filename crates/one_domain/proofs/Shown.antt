@@ -1,6 +1,6 @@
 -- What the rows of an ask with one entry and one target show of the domain.
 use Rattle.std.proofs.Common.{◌≡◌, ◌↔◌, ℕ, Bool, true, false, [], ◌∷◌, ◌++◌, ◌+◌, List, Some, None, inl, inr, sym, ◌∙◌, ap, subst, refl, arith, length, length-append, cond}
-use Rattle.std.specs.Prelude.{Contains, IsTrue, MatchOption, option_map, Result, Ok, Err, IfOk}
+use Rattle.std.specs.Prelude.{MatchOption, option_map, Result, Ok, Err, IfOk}
 use Rattle.dom_base.specs.declared.names.NoMemory.{NoMemory}
 use Rattle.pcep_messages.specs.declared.message.Answer.{Answer as Reply}
 use Rattle.one_domain.specs.Replies.{IsAnswer, IsPathAnswer}
@@ -17,7 +17,7 @@ use Rattle.pcep_messages.specs.declared.message.Wanted.{Wanted}
 use Rattle.border_costs.specs.declared.answer.Answer.{Answer}
 use Rattle.border_costs.specs.Solutions.{AreRows, AreBest, IsBest}
 use Rattle.one_domain.specs.declared.domain.Chosen.{Chosen}
-use Rattle.one_domain.specs.Domain.{target_seeds, ask_of, ShowsLeast, HasNone, IsChosen, IsBitWhere, IsUnknownVector, HasLabels}
+use Rattle.one_domain.specs.Domain.{target_seeds, ask_of, ShowsLeast, HasNone, IsChosen, HasLabels}
 use Rattle.one_domain.proofs.OneSeed.{segment_least, joins_label}
 
 -- the best way is the chosen segment, of least cost

@@ -6,8 +6,6 @@ use Rattle.dom_base.specs.declared.names.As.{As}
 use Rattle.dom_base.specs.declared.names.Peer.{Peer}
 use Rattle.pcep_messages.specs.declared.message.Wanted.{Wanted}
 use Rattle.disclosure.specs.declared.class.Class.{Class}
-use Rattle.disclosure.specs.declared.class.Class.TheVariants.{Client, Neighbour, Parent}
-use Rattle.disclosure.specs.declared.class.Deny.{Deny}
 use Rattle.disclosure.specs.Policy.{is_denied}
 use Rattle.request_table.specs.Pending.{opened_of}
 use Rattle.member_parts.specs.plant_model.declared.output.Output.{Output}

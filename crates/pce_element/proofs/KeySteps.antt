@@ -2,7 +2,6 @@
 use Rattle.std.proofs.Common.{None, Some, ◌≡◌, ◌≤◌, ◌+◌, ℕ, List, [], ◌∷◌, ◌++◌, length, arith, refl, sym, ◌∙◌, ap, subst}
 use Rattle.path_keys.specs.Keys.{Keys, AreKeys, live_at, issue_of}
 use Rattle.path_keys.proofs.RunLemmas.{adds_one}
-use Rattle.border_costs.specs.Solutions.{Solution}
 use Rattle.member_parts.specs.plant_model.Element.{Element}
 use Rattle.pce_element.specs.Changes.{MayIssue, all_issued, changed, solved_in}
 use Rattle.pce_element.specs.declared.change.Change.{Change}

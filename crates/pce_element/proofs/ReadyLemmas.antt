@@ -4,7 +4,7 @@ use Rattle.std.specs.Prelude.{Contains}
 use Rattle.dom_base.specs.declared.names.Peer.{Peer}
 use Rattle.request_table.specs.declared.held.Held.{Held}
 use Rattle.request_table.specs.Pending.{Pending, NumbersRise, item_of}
-use Rattle.request_table.specs.Lends.{written_of, with_item}
+use Rattle.request_table.specs.Lends.{written_of}
 use Rattle.vspt_tree.specs.declared.branch.Branch.{Branch}
 use Rattle.member_parts.specs.plant_model.Element.{Element, Item, Row, Stage, Waits, Ready, at_stage, is_ready, waits_for}
 use Rattle.member_parts.specs.plant_model.Taking.{staged}

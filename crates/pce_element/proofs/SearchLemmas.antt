@@ -2,14 +2,13 @@
 use Rattle.std.proofs.Common.{◌≡◌, ◌∙◌, ◌<◌, ◌+◌, ℕ, Bool, true, false, not, cond, Option, Some, None, List, [], ◌∷◌, nat_eq, drop, length, arith, inl, inr, refl, sym, ap}
 use Rattle.std.specs.Prelude.{filter, slice_get}
 use Rattle.std.specs.Map.{remove_entry}
-use Rattle.std.specs.Option.{option_map}
 use Rattle.std.proofs.lemmas.Bool.{cases_Bool, eqb-true, eq-eqb, ne_eqb}
 use Rattle.dom_base.specs.declared.names.Peer.{Peer}
 use Rattle.request_table.specs.declared.held.RequestKey.{RequestKey}
 use Rattle.request_table.specs.Pending.{Pending, NumbersRise, AreNamedOnce, ArePending, same_key, key_of, number_among, number_of, closed_of}
 use Rattle.request_table.proofs.KeyLemmas.{same_key_is}
 use Rattle.request_table.proofs.PendingLemmas.{NumbersRise-remove}
-use Rattle.member_parts.specs.plant_model.Element.{Item, Row, after_id, is_waiting, pass_over, sent_through, waiting, waits_for}
+use Rattle.member_parts.specs.plant_model.Element.{Item, Row, after_id, is_waiting, pass_over, waiting, waits_for}
 use Rattle.member_parts.specs.plant_model.Plant.{has_number}
 use Rattle.pce_element.specs.Changes.{all_closed}
 use Rattle.member_parts.proofs.Scans.{dropped_next, there_is}
@@ -140,12 +139,3 @@ is_waiting_here {P} p y rows k h at waits =
 pub is_waiting_later : {P : Type 0} → (p : Peer) (y : ℕ) (rows : List (Row P)) (k : ℕ) (h : Row P) → slice_get rows k ≡ Some h → waits_for p y h.1.item.stage ≡ false → is_waiting p (drop k rows) y ≡ is_waiting p (drop (k + 1) rows) y
 is_waiting_later {P} p y rows k h at waits =
     ap (λ (rs : List (Row P)). is_waiting p rs y) (dropped_next rows k h at) ∙ ap (λ (b : Bool). cond b true (is_waiting p (drop (k + 1) rows) y)) waits
-
--- ---- how far a request was sent
-
-pub sent_nowhere : {P : Type 0} → (p : Peer) (y : ℕ) (rows : List (Row P)) → waiting p y rows ≡ None → ◌≡◌ {A = Option ℕ} None (sent_through p y rows)
-sent_nowhere {P} p y rows none = ap (λ (o : Option (Row P)). option_map (λ (h : Row P). length (drop 1 h.1.item.sequence)) o) (sym none)
-
-pub sent_somewhere : {P : Type 0} → (p : Peer) (y : ℕ) (rows : List (Row P)) (h : Row P) (n : ℕ) → waiting p y rows ≡ Some h → n ≡ length (drop 1 h.1.item.sequence) → Some n ≡ sent_through p y rows
-sent_somewhere {P} p y rows h n found is =
-    ap (λ (k : ℕ). Some k) is ∙ ap (λ (o : Option (Row P)). option_map (λ (r : Row P). length (drop 1 r.1.item.sequence)) o) (sym found)

@@ -31,7 +31,7 @@ use Rattle.client_laws.proofs.script_laws.Disclosing.{shown_from_the_first}
 use Rattle.client_laws.proofs.script_laws.Rightly.{scripts_are_right}
 use Rattle.plant_bulk.specs.plant_script.Scripts.{AreCues}
 use Rattle.plant_bulk.specs.plant_client.declared.question.Question.{Question}
-use Rattle.plant_bulk.specs.plant_client.Asking.{Asks, lines_of, load_line, question_lines, topologies}
+use Rattle.plant_bulk.specs.plant_client.Asking.{lines_of, load_line, question_lines, topologies}
 use Rattle.plant_bulk.specs.plant_client.Asking as asking
 use Rattle.plant_bulk.specs.plant_client.Questions.{opening_text, question_text, sequence_most}
 use Rattle.plant_bulk.proofs.plant_client.QuestionLemmas.{question_short}

@@ -15,7 +15,7 @@ use Rattle.client_laws.proofs.Written.{IsInRange}
 use Rattle.pce_tool.specs.declared.route.Route.{Route}
 use Rattle.pce_tool.specs.Networks.{question_of}
 use Rattle.pce_tool.specs.Run.{Command, command_of}
-use Rattle.pce_tool.specs.Tasks.{Task, Blind, Bulk, Domain, Path, Play, along_in, are_alike, are_different, count_in, domain_in, domains_in, is_sequence, network_task, path_in, path_task, route_along, route_by, route_in, route_up, sequence_most, task_of, task_or, up_in, word_below}
+use Rattle.pce_tool.specs.Tasks.{Blind, Bulk, Path, Play, are_alike, are_different, count_in, domain_in, domains_in, is_sequence, network_task, path_in, path_task, route_along, route_by, route_in, route_up, sequence_most, task_of, task_or, word_below}
 
 -- what is only found where a test holds, and where it fails
 where_holds : {Y : Type 0} (b : Bool) (o : Option Y) (y : Y) → (if b then o else None) ≡ Some y → (b ≡ true) × (o ≡ Some y)

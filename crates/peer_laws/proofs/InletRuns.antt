@@ -25,7 +25,7 @@ use Rattle.plant_laws.specs.plant_model.Wire.{Bytes}
 use Rattle.plant_laws.proofs.Heeding.{asks_read}
 use Rattle.peer_laws.specs.Inlets.{IsPart, TakenWasFed, WasFed, fed_to, streams, streams_with}
 use Rattle.peer_laws.proofs.Fading as fading
-use Rattle.peer_laws.proofs.Fading.{AllFade, AllTaken, deed_taken, fades_here}
+use Rattle.peer_laws.proofs.Fading.{AllFade, AllTaken, deed_taken}
 use Rattle.peer_laws.proofs.InletEvents.{AllHeld, AreHeld, IsOf, Streams, steps_went}
 use Rattle.peer_laws.proofs.Frames.{part_more}
 

@@ -12,7 +12,7 @@ use Rattle.plant_laws.specs.plant_model.Events as events
 use Rattle.plant_laws.specs.plant_model.Plant.{Entry, Pin, Plant, Run, Segment, Steps, first_pin}
 use Rattle.peer_laws.specs.Outlets.{AreOne, DrainsHandOutAll, IsHandedOut, Outlet, OutletsStand, outlet}
 use Rattle.peer_laws.proofs.Growing as growing
-use Rattle.peer_laws.proofs.Growing.{View, more, nil_right, texts, view_of}
+use Rattle.peer_laws.proofs.Growing.{View, nil_right, view_of}
 use Rattle.peer_laws.proofs.OutletEvents.{Fits, drained_view, steps_went}
 
 module _ (c : Codec) (n : NetworkParts) where

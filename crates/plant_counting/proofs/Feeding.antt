@@ -28,7 +28,6 @@ use Rattle.plant_laws.specs.plant_model.State.{Connection, Access, Takes, Ups, D
 use Rattle.plant_laws.specs.plant_model.Deeds.{Going, element_of, is_due, is_tick, is_out_empty, any_fall, our_offer, on_connection, with_more, with_session, with_inbox, with_parent, with_element, put, put_to, puts, give, rise, fall, say, clear, outside_act, outside_acts, outside_step, outside_input, inner_act, inner_acts, inner_input, begin_end, begin_line, break_line, tick_outside, tick_lines, with_access, with_inner}
 use Rattle.plant_laws.specs.plant_model.Outside.{heeded}
 use Rattle.plant_laws.specs.plant_model.Events as events
-use Rattle.plant_laws.specs.plant_model.Events.{split_all, bad_item, is_down}
 use Rattle.plant_laws.specs.plant_model.Plant.{Pin, Segment, PlantDeed}
 use Rattle.plant_laws.proofs.Shape.{has_pass, shape}
 use Rattle.plant_counting.specs.Counting.{heard}

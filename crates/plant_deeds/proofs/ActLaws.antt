@@ -21,7 +21,7 @@ use Rattle.plant_members.specs.plant_model.Wire.{Bytes}
 use Rattle.plant_members.specs.plant_model.RealWire.{wire}
 use Rattle.plant_members.specs.plant_model.State.{Connection}
 use Rattle.plant_members.specs.plant_model.Deeds as deeds
-use Rattle.plant_members.specs.plant_model.Deeds.{Going, element_of, is_out_empty, is_due, any_fall, with_inbox}
+use Rattle.plant_members.specs.plant_model.Deeds.{Going, element_of, is_out_empty, is_due, with_inbox}
 use Rattle.plant_traffic.specs.plant_sessions.Ends.{own_bytes, is_left_out, said_in}
 use Rattle.plant_traffic.specs.Flow.{Flow, Puts, change_access, out_of, room_at, queue_at}
 use Rattle.plant_deeds.specs.Accounts.{Accounts, has_queue}

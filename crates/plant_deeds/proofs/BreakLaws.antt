@@ -17,7 +17,7 @@ use Rattle.plant_members.specs.plant_model.Element.{lost_output}
 use Rattle.plant_members.specs.plant_model.RealWire.{wire}
 use Rattle.plant_members.specs.plant_model.State.{State, sent_by}
 use Rattle.plant_members.specs.plant_model.Deeds as deeds
-use Rattle.plant_members.specs.plant_model.Deeds.{Going, our_offer}
+use Rattle.plant_members.specs.plant_model.Deeds.{our_offer}
 use Rattle.plant_traffic.specs.plant_sessions.Ends.{own_bytes}
 use Rattle.plant_traffic.specs.plant_sessions.Links.{next_sid}
 use Rattle.plant_traffic.specs.Flow.{Flow, Room, Begins, Clears, room_at}

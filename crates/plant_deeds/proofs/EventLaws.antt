@@ -13,7 +13,7 @@ use Rattle.plant_members.specs.plant_model.declared.output.Lost.{Lost}
 use Rattle.plant_members.specs.plant_model.RealWire.{wire}
 use Rattle.plant_members.specs.plant_model.State.{State, Connection, said}
 use Rattle.plant_members.specs.plant_model.Deeds as deeds
-use Rattle.plant_members.specs.plant_model.Deeds.{Going, element_of, on_connection, with_more}
+use Rattle.plant_members.specs.plant_model.Deeds.{element_of, on_connection, with_more}
 use Rattle.plant_members.specs.plant_model.Element.{ticked}
 use Rattle.plant_members.specs.plant_model.Wire.{Bytes}
 use Rattle.plant_members.specs.plant_model.Events as events

@@ -18,7 +18,7 @@ use Rattle.plant_members.specs.plant_model.Wire.{Bytes}
 use Rattle.plant_members.specs.plant_model.RealWire.{wire}
 use Rattle.plant_members.specs.plant_model.State.{State, said}
 use Rattle.plant_members.specs.plant_model.Deeds as deeds
-use Rattle.plant_members.specs.plant_model.Deeds.{Going, our_offer}
+use Rattle.plant_members.specs.plant_model.Deeds.{our_offer}
 use Rattle.plant_traffic.specs.plant_sessions.Ends.{own_bytes}
 use Rattle.plant_traffic.specs.plant_sessions.Rooms.{room_in_all}
 use Rattle.plant_traffic.specs.Flow.{Flow, Begins, Clears, Puts, set_session, room_at, queue_at}

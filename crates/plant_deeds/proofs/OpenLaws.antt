@@ -21,7 +21,7 @@ use Rattle.plant_members.specs.plant_model.Names.{set_number}
 use Rattle.plant_members.specs.plant_model.RealWire.{wire}
 use Rattle.plant_members.specs.plant_model.State.{Access, Connection}
 use Rattle.plant_members.specs.plant_model.Deeds as deeds
-use Rattle.plant_members.specs.plant_model.Deeds.{Going, element_of, our_offer}
+use Rattle.plant_members.specs.plant_model.Deeds.{Going, element_of}
 use Rattle.plant_members.specs.plant_model.Events as events
 use Rattle.plant_traffic.specs.plant_sessions.Ends.{just_open}
 use Rattle.plant_traffic.specs.Flow.{ClearsSaid, Flow, GrowsAt, KeepsRoomAt, just_opened, session_at, set_access, set_room}

@@ -25,7 +25,7 @@ use Rattle.plant_members.specs.plant_model.RealWire.{wire}
 use Rattle.plant_members.specs.plant_model.State.{State, Access, Connection, Pops}
 use Rattle.plant_members.specs.plant_model.Wire.{Bytes}
 use Rattle.plant_members.specs.plant_model.Deeds as deeds
-use Rattle.plant_members.specs.plant_model.Deeds.{Going, element_of, on_connection, with_inbox, with_session, input_of, read_as, is_tick}
+use Rattle.plant_members.specs.plant_model.Deeds.{Going, on_connection, with_inbox, with_session, input_of, read_as, is_tick}
 use Rattle.plant_members.specs.plant_model.Events as events
 use Rattle.plant_members.specs.plant_model.Events.{Happened, is_down}
 use Rattle.plant_traffic.specs.Carried.{Carried, flow_of}

@@ -13,7 +13,7 @@ use Rattle.plant_text.specs.Names.{same_as, same_link, parent_as}
 use Rattle.plant_model.specs.Names.{set_as}
 use Rattle.plant_model.specs.Wire.{Codec}
 use Rattle.plant_model.specs.Element as element
-use Rattle.plant_model.specs.Element.{Element, downed}
+use Rattle.plant_model.specs.Element.{downed}
 use Rattle.plant_model.specs.Parent as parent
 use Rattle.plant_model.specs.State.{Downs, Clears}
 use Rattle.plant_text.specs.Settings.{Line}

@@ -36,15 +36,15 @@ use Rattle.plant_model.specs.Taking.{sequence_or, goes_up, denied, send_on, sent
 use Rattle.plant_model.specs.Parent.{is_up}
 use Rattle.plant_model.specs.Settings.{place}
 use Rattle.plant_model.specs.Plant.{Pin, Segment}
-use Rattle.plant_laws.specs.MessageCauses.{Asker, WaitsAt, TellsOfPaths, OnReply, unknown, goes_on, is_kept, is_broken, OnNotice, next_is_full, noted_for_nobody, of_other_kind, IsError, IsOutOfProfile, OnError, failed_for_nobody, of_reply, out_of_profile, other_error, GoesTo, upward, along, OnPath, ends_here, no_session, is_refused, IsBehind, OnRequest, wrong, again, key_shown, key_refused, no_room, for_path, Part, Asks, Replies, Notes, Fails, alone, noted, failed_by, failed, parts, OnMessage}
+use Rattle.plant_laws.specs.MessageCauses.{Asker, WaitsAt, TellsOfPaths, OnReply, unknown, goes_on, is_kept, is_broken, OnNotice, next_is_full, noted_for_nobody, of_other_kind, OnError, failed_for_nobody, of_reply, out_of_profile, other_error, GoesTo, upward, along, OnPath, ends_here, no_session, is_refused, IsBehind, OnRequest, wrong, again, key_shown, key_refused, no_room, for_path, Part, Asks, Replies, Notes, Fails, alone, noted, failed_by, failed, OnMessage}
 use Rattle.plant_laws.specs.MessageCauses as causes
 use Rattle.plant_laws.proofs.PartCauses as part
-use Rattle.plant_laws.proofs.PartCauses.{full_is, has_room, pair_at, no_pair}
+use Rattle.plant_laws.proofs.PartCauses.{full_is, has_room, no_pair}
 use Rattle.plant_laws.proofs.Counting.{waiting_in}
 use Rattle.plant_laws.proofs.Taken.{waiting_none, waiting_at}
 use Rattle.plant_laws.proofs.Takes.{own_is}
 use Rattle.plant_laws.proofs.Onward.{way_peer}
-use Rattle.plant_laws.proofs.PartCauses.{contains_at, in_at, not_both, IsPair}
+use Rattle.plant_laws.proofs.PartCauses.{contains_at, in_at, not_both}
 use Rattle.plant_laws.proofs.BestParts.{same_addr_is}
 use Rattle.plant_laws.proofs.Decompose.{nil_right}
 use Rattle.dom_base.specs.AddrOrder.{rank}

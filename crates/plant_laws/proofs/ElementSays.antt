@@ -36,7 +36,7 @@ use Rattle.plant_model.specs.Names.{same_addr, the_parent, has_pair}
 use Rattle.plant_model.specs.Wire.{Codec, Checked, Admitted, Wrong}
 use Rattle.plant_model.specs.Laws.{IsCodec, Admits, IsRequestInRange, CanBeSent, IsSequence, AreWords, HasNumbers}
 use Rattle.plant_model.specs.Writing.{request_message, reply_message, error_message, busy, unavailable, no_key}
-use Rattle.plant_model.specs.Element.{Item, Stage, Ready, Waits, Row, Way, Element, Place, Taken, each, way_to, with_last, with_up, upped, ticked, waiting, waits_for, at_stage, lost_of, is_lost, stays, after_id, pass_over, is_waiting, fresh_id, is_client, lost_output, downed}
+use Rattle.plant_model.specs.Element.{Item, Stage, Ready, Row, Way, Element, Place, Taken, each, way_to, with_last, with_up, upped, ticked, waiting, waits_for, at_stage, lost_of, is_lost, stays, after_id, pass_over, is_waiting, fresh_id, is_client, lost_output, downed}
 use Rattle.plant_model.specs.Routes.{toward}
 use Rattle.plant_model.specs.Element as element
 use Rattle.plant_model.specs.Taking as taking

@@ -26,14 +26,14 @@ use Rattle.plant_model.specs.Names.{is_empty, set_pair, set_number}
 use Rattle.plant_model.specs.Wire.{Bytes, Codec}
 use Rattle.plant_model.specs.Element.{Element, Row, upped, downed, kept}
 use Rattle.plant_model.specs.Taking.{take}
-use Rattle.plant_model.specs.Parent.{Wait, AskingRow, any_on}
+use Rattle.plant_model.specs.Parent.{AskingRow}
 use Rattle.plant_model.specs.Parent as parent
 use Rattle.plant_model.specs.Settings.{place, family}
 use Rattle.plant_model.specs.State.{Connection, Access, Pops, Takes, Ups, Downs, Clears}
 use Rattle.plant_model.specs.Deeds.{Going, our_offer, own_message, element_of, is_due, is_tick, is_out_empty, any_fall, on_connection, with_session, with_inbox, read_as, input_of, with_access, with_element, with_parent, with_inner, put, puts, give, rise, fall, say, clear, expire, outside_act, outside_acts, outside_step, outside_input, inner_act, inner_acts, inner_input, begin_end, break_line, tick_outside, tick_lines}
 use Rattle.plant_model.specs.Outside.{heeded}
 use Rattle.plant_model.specs.Events as events
-use Rattle.plant_model.specs.Events.{is_down, later}
+use Rattle.plant_model.specs.Events.{later}
 use Rattle.plant_model.specs.Plant.{Pin, Segment, Plant}
 use Rattle.plant_laws.specs.Transcript.{Transcript}
 use Rattle.plant_laws.specs.Causes.{left_rows, left_above, IsLost, IsLostAbove, AnswersLost, asker_of, asker_above, Passes, from_outside, from_inside, by_element, by_parent, begins, came_first, came_along, ticks, OfSession, by_table, anew, HasCause, HaveCauses}

@@ -33,7 +33,7 @@ use Rattle.plant_model.specs.Plant.{Pin, Segment, PlantDeed, ask}
 use Rattle.plant_model.specs.Laws.{Admits}
 use Rattle.plant_model.specs.declared.upper.ChildRow.{ChildRow}
 use Rattle.plant_model.specs.BorderGraph.{SolvesBorder, Found}
-use Rattle.plant_model.specs.Parent.{Asking, AskingRow, Parent, Errand, errands, job_of}
+use Rattle.plant_model.specs.Parent.{Asking, Parent, Errand, errands, job_of}
 use Rattle.plant_model.specs.Parent as parent
 use Rattle.plant_laws.specs.Tables.{IsTakenAbove}
 use Rattle.plant_laws.specs.About.{IsPathAnswer, IsGathered, HasReplied}

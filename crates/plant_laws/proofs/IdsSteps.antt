@@ -30,7 +30,7 @@ use Rattle.plant_model.specs.Settings.{place, family}
 use Rattle.plant_model.specs.Element.{Waits, Row, Way, Taken, way_to, with_last, fresh_id}
 use Rattle.plant_model.specs.Taking.{take}
 use Rattle.plant_model.specs.Parent as parent
-use Rattle.plant_model.specs.Parent.{Wait, Asking, AskingRow, Errand, Parent, errands, errands_to, tails, with_end, all_up, all_waits, ask_all}
+use Rattle.plant_model.specs.Parent.{Wait, AskingRow, Errand, Parent, errands, errands_to, tails, with_end, all_up, all_waits, ask_all}
 use Rattle.plant_model.specs.State.{Takes}
 use Rattle.plant_model.specs.Plant.{Pin, Segment}
 use Rattle.plant_laws.specs.Transcript.{Transcript, Effect, Keeps, Ends, Begins, put_into, count_asks, asks, tail_of}
@@ -45,7 +45,7 @@ use Rattle.plant_laws.proofs.ElementSteps as lower_steps
 use Rattle.plant_laws.proofs.ParentSteps as upper_steps
 use Rattle.plant_laws.proofs.Takes.{IsSingle, OpenedBy, take_moves, UpperOpenedBy, upper_moves, own_is}
 use Rattle.plant_laws.proofs.Leaving as lower
-use Rattle.plant_laws.proofs.Leaving.{CancelNone, number_there}
+use Rattle.plant_laws.proofs.Leaving.{number_there}
 use Rattle.plant_laws.proofs.LeavingUpper as upper
 use Rattle.plant_laws.proofs.NodeMoves.{Elements, ElementWaits, ParentWaits}
 use Rattle.plant_laws.proofs.Asks.{Asks}

@@ -28,7 +28,6 @@ use Rattle.plant_model.specs.Settings.{place}
 use Rattle.plant_model.specs.State.{State, Loads, Pops, Takes, Solves}
 use Rattle.plant_model.specs.Deeds.{Going, with_element, with_parent, puts, begin_line, tick_outside, tick_lines}
 use Rattle.plant_model.specs.Events as events
-use Rattle.plant_model.specs.Events.{is_down}
 use Rattle.plant_model.specs.Plant.{Pin, Segment, first_pin, Plant, Happened, Entry, Run, Steps, Happens, opened, deeds_of, load, load_new, refused, is_full, ElementSolves, ParentSolves}
 use Rattle.plant_laws.specs.Transcript.{Transcript, Within}
 use Rattle.plant_laws.specs.Keys.{clock_at, last_keys}

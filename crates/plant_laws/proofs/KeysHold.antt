@@ -31,7 +31,6 @@ use Rattle.plant_model.specs.Settings.{place}
 use Rattle.plant_model.specs.State.{State, Loads, Pops, Takes, Says, Ups, Downs, Clears, Solves, Expires, Hands}
 use Rattle.plant_model.specs.Deeds.{Going, with_element, with_parent, puts, tick_outside, tick_lines}
 use Rattle.plant_model.specs.Events as events
-use Rattle.plant_model.specs.Events.{is_down}
 use Rattle.plant_model.specs.Plant.{Pin, Segment, first_pin, Plant, PlantDeed, Happened, Entry, Run, Happens, opened, deeds_of, load_new, refused, is_full, ElementSolves, ParentSolves}
 use Rattle.plant_laws.specs.Transcript.{Transcript, Within}
 use Rattle.plant_laws.proofs.Lists.{Stands, contains_of}

@@ -26,12 +26,12 @@ use Rattle.plant_model.specs.Laws.{IsCodec, IsNetwork}
 use Rattle.plant_text.specs.Settings.{class_of}
 use Rattle.plant_model.specs.Settings.{place, family}
 use Rattle.plant_model.specs.Element as element
-use Rattle.plant_model.specs.Element.{Item, Element, Row, Taken, upped, downed, ticked, lost, way_to}
+use Rattle.plant_model.specs.Element.{Element, upped, downed, ticked, lost}
 use Rattle.plant_model.specs.Taking.{take}
 use Rattle.plant_model.specs.Solving.{commit}
 use Rattle.plant_model.specs.BorderGraph.{Found}
 use Rattle.plant_model.specs.Parent as parent
-use Rattle.plant_model.specs.Parent.{AskingRow, Wait, all_waits}
+use Rattle.plant_model.specs.Parent.{AskingRow}
 use Rattle.plant_model.specs.State.{Deed, Loads, Pops, Takes, Says, Ups, Downs, Clears, Solves, Expires, Hands}
 use Rattle.plant_model.specs.Deeds.{Going, element_of, own_message, with_parent, with_element, puts, give, rise, fall}
 use Rattle.plant_model.specs.Plant.{Pin, Segment, Plant, Happened, load_new, ElementSolves, ParentSolves}

@@ -38,7 +38,7 @@ use Rattle.path_keys.specs.Keys.{Keys}
 use Rattle.plant_model.specs.Solving.{commit, closed_reply, client_reply, closed_paths, issued_all, free}
 use Rattle.plant_laws.specs.Transcript.{one_if, count_answers, tail_of}
 use Rattle.plant_laws.proofs.Handing.{In, In-append}
-use Rattle.plant_laws.proofs.Counting.{answers_append, waiting_in}
+use Rattle.plant_laws.proofs.Counting.{waiting_in}
 use Rattle.plant_laws.proofs.RowCounts.{ended_pending, item_pending, begun_pending}
 use Rattle.plant_laws.proofs.Counting as counting
 

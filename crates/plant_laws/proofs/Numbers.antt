@@ -31,7 +31,7 @@ use Rattle.plant_model.specs.Element.{Stage, Waits, Ready, Item, Row, Way, Eleme
 use Rattle.plant_model.specs.declared.route.Route.{Route}
 use Rattle.plant_model.specs.Routes.{toward}
 use Rattle.plant_model.specs.Taking as taking
-use Rattle.plant_model.specs.Taking.{take, sequence_or, goes_up, error_answer}
+use Rattle.plant_model.specs.Taking.{take, sequence_or, goes_up}
 use Rattle.plant_model.specs.Solving as solving
 use Rattle.plant_model.specs.Solving.{commit}
 use Rattle.plant_laws.proofs.Decompose.{nil_right}

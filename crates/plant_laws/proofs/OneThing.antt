@@ -17,7 +17,7 @@ use Rattle.plant_text.specs.Names.{same_as, parent_as}
 use Rattle.plant_model.specs.Wire.{Codec}
 use Rattle.plant_model.specs.Branches.{downs}
 use Rattle.plant_model.specs.Jobs.{target_along, IsJoinOf}
-use Rattle.plant_model.specs.Element.{Item, Element, Ready, Stage, Row, Place, Taken, is_client}
+use Rattle.plant_model.specs.Element.{Item, Ready, Stage, Taken, is_client}
 use Rattle.plant_model.specs.Element as element
 use Rattle.plant_model.specs.Solving.{commit}
 use Rattle.plant_model.specs.BorderGraph.{Found, SolvesBorder}

@@ -33,7 +33,7 @@ use Rattle.plant_model.specs.Parent.{Wait, AskingRow, Parent, Given, Errand, onl
 use Rattle.plant_model.specs.Settings.{family}
 use Rattle.plant_laws.specs.MessageCauses.{Asker, WaitsAbove, TellsOfPaths, OnReply, unknown, is_kept, is_broken, OnNotice, next_is_full, noted_for_nobody, of_other_kind, OnError, failed_for_nobody, of_reply, out_of_profile, other_error, AreAsked, OnRequestAbove, wrong_above, again_above, key_above, no_room_above, child_down, all_asked, Part, Asks, Replies, Notes, Fails, alone, noted, failed_by, failed, OnMessageAbove}
 use Rattle.plant_laws.proofs.PartCauses as part
-use Rattle.plant_laws.proofs.PartCauses.{full_is, has_room, pair_at, no_pair, contains_at, in_at, not_both}
+use Rattle.plant_laws.proofs.PartCauses.{full_is, has_room, no_pair, contains_at, in_at, not_both}
 use Rattle.plant_laws.proofs.Handing.{In}
 use Rattle.plant_laws.proofs.CountingUpper.{waiting_in}
 use Rattle.request_table.proofs.KeyLemmas.{same_peer_self as peer_self}

@@ -41,7 +41,7 @@ use Rattle.plant_model.specs.Branches.{path_of}
 use Rattle.plant_model.specs.Taking.{sequence_or}
 use Rattle.plant_model.specs.BorderGraph.{Vertex, Enter, Leave, Edge, IsFirstRow, IsLeastTo, Shows, SolvesBorder, Found}
 use Rattle.plant_model.specs.Parent as parent
-use Rattle.plant_model.specs.Parent.{Asking, AskingRow, rows_at, job_of}
+use Rattle.plant_model.specs.Parent.{Asking, rows_at, job_of}
 use Rattle.plant_model.specs.Element.{is_client}
 use Rattle.plant_model.specs.Settings.{place, family}
 use Rattle.plant_model.specs.State.{Pops, Takes, Solves}

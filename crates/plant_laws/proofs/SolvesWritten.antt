@@ -16,7 +16,7 @@ use Rattle.te_links.specs.declared.rows.Entry.{Entry}
 use Rattle.te_links.specs.Rows.{Rows, IsTopology}
 use Rattle.pcep_subobjects.specs.Addresses.{IsAddr}
 use Rattle.pcep_subobjects.specs.Hops as hops
-use Rattle.pcep_subobjects.specs.Hops.{hops_text, strict_hop}
+use Rattle.pcep_subobjects.specs.Hops.{strict_hop}
 use Rattle.pcep_messages.specs.declared.message.Path.{Path}
 use Rattle.pcep_messages.specs.declared.message.Answer.TheVariants.{Paths}
 use Rattle.pcep_messages.specs.Spelling.{IsWritten, AreMeasured}

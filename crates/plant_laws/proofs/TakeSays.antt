@@ -33,7 +33,7 @@ use Rattle.plant_laws.proofs.Rows.{In}
 use Rattle.plant_laws.proofs.Spoken.{is_reply, one_said, reply_is}
 use Rattle.plant_laws.proofs.StagesKept as kept
 use Rattle.plant_laws.proofs.Readied as readied
-use Rattle.plant_laws.proofs.Readied.{FromOld, of_rows, to_rows}
+use Rattle.plant_laws.proofs.Readied.{FromOld}
 use Rattle.plant_laws.specs.Certified.{Tells}
 
 no_reply : (m : Message) (r : Reply) → is_reply m ≡ false → m ≡ messages.PcRep (r ∷ []) → ⊥

@@ -20,7 +20,7 @@ use Rattle.plant_model.specs.Routes.{routes}
 use Rattle.plant_model.specs.Settings.{inner_ways, ways_along, place}
 use Rattle.plant_model.specs.Element.{Stage, Waits, Row, way_to}
 use Rattle.plant_model.specs.Parent as parent
-use Rattle.plant_model.specs.Parent.{Wait, AskingRow, last_to}
+use Rattle.plant_model.specs.Parent.{last_to}
 use Rattle.plant_model.specs.State.{Loads, Solves}
 use Rattle.plant_model.specs.Deeds.{with_element, with_parent}
 use Rattle.plant_model.specs.Solving.{commit}
@@ -42,7 +42,7 @@ use Rattle.plant_laws.proofs.StepActs.{step_holds}
 use Rattle.plant_laws.proofs.Travel.{run_travels}
 use Rattle.plant_laws.proofs.Taken.{peer_self}
 use Rattle.plant_laws.proofs.Leaving as lower
-use Rattle.plant_laws.proofs.Leaving.{CancelNone, answers_count, number_there}
+use Rattle.plant_laws.proofs.Leaving.{number_there}
 use Rattle.plant_laws.proofs.LeavingUpper as upper
 use Rattle.plant_laws.proofs.NodeMoves.{ElementWaits, ParentWaits}
 use Rattle.plant_laws.proofs.Asks.{Asks}

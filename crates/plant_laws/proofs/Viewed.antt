@@ -16,7 +16,7 @@ use Rattle.plant_model.specs.Parent as parent
 use Rattle.plant_text.specs.Settings.{Line, lines, class_of}
 use Rattle.plant_model.specs.Settings.{place}
 use Rattle.plant_model.specs.State.{Deed}
-use Rattle.plant_model.specs.Deeds.{Going, puts, with_element, with_parent, begin_line}
+use Rattle.plant_model.specs.Deeds.{Going, with_element, with_parent, begin_line}
 use Rattle.plant_model.specs.Deeds as deeds
 use Rattle.plant_model.specs.Events as events
 use Rattle.plant_model.specs.Plant.{Pin, Segment, Happened, opened, first_pin, ElementSolves, ParentSolves}

@@ -31,7 +31,7 @@ use Rattle.plant_model.specs.Taking.{take, take_asked, take_checked, take_new, t
 use Rattle.plant_model.specs.Solving.{commit, closed_reply, client_reply, free}
 use Rattle.plant_model.specs.BorderGraph.{Found}
 use Rattle.plant_model.specs.Parent as parent
-use Rattle.plant_model.specs.Parent.{Parent, Given, Family, Asking, AskingRow, Errand, Wait, ask_all, next_id}
+use Rattle.plant_model.specs.Parent.{Parent, Given, Family, AskingRow, Errand, Wait, ask_all, next_id}
 
 -- W holds of each message, and of whom it is for
 abbrev pub AllOut : (Peer → Message → Type 0) → List Output → Type 0

@@ -1,26 +1,15 @@
 -- The functions of the model are what the contracts of its parts say.
-use Rattle.std.proofs.Common.{◌≡◌, ◌≤◌, ◌<◌, ℕ, Bool, true, false, cond, nat_lt, List, [], ◌∷◌, ◌++◌, Option, Some, None, Ok, Err, sym, ◌∙◌, ap, subst, refl}
-use Rattle.std.specs.Prelude.{All}
-use Rattle.std.proofs.lemmas.Bool.{eqb-true, eq-eqb, eqb-false, lt-ltb, le-ltb}
-use Rattle.std.proofs.lemmas.List.Elements.{All-head, All-tail, All-nil, All-cons}
-use Rattle.dom_base.specs.declared.names.As.{As}
+use Rattle.std.proofs.Common.{◌≡◌, ◌≤◌, ◌<◌, ℕ, Bool, true, false, cond, List, [], ◌∷◌, ◌++◌, Option, Some, None, Ok, Err, sym, ◌∙◌, ap, subst, refl}
 use Rattle.dom_base.specs.declared.addr.Addr.{Addr}
-use Rattle.dom_base.specs.AddrOrder.{rank}
-use Rattle.dom_base.proofs.Ranks.{same_addr as one_place}
 use Rattle.pcep_subobjects.specs.declared.hop.Hop.{Hop}
 use Rattle.pcep_subobjects.specs.Hops.{strict_hop}
-use Rattle.disclosure.specs.declared.class.Class.TheVariants.{Client, Neighbour, Parent}
-use Rattle.disclosure.specs.declared.class.Deny.{Deny}
-use Rattle.disclosure.specs.Policy.{Denies}
 use Rattle.pcep_messages.specs.declared.message.Wish.{Wish}
 use Rattle.pcep_messages.specs.declared.message.Refusal.TheVariants as refusals
 use Rattle.pcep_messages.specs.Said.{rp_of}
 use Rattle.pcep_messages.specs.Refusals.{refusal_of}
 use Rattle.pcep_messages.specs.Requests.{wish_of, without_bit}
 use Rattle.vspt_tree.specs.declared.branch.Branch.{Branch}
-use Rattle.vspt_tree.specs.Branches.{IsFirstLeast, IsOnward}
-use Rattle.plant_text.specs.Names.{same_as}
-use Rattle.plant_model.specs.Names.{same_addr}
+use Rattle.vspt_tree.specs.Branches.{IsOnward}
 use Rattle.vspt_tree.proofs.FirstLeast.{first_least_is}
 use Rattle.plant_model.specs.Branches.{hops_of, onward}
 use Rattle.plant_model.specs.Wire.{Wrong}

@@ -19,7 +19,7 @@ use Rattle.pcep_subobjects.specs.Hops.{hops_of}
 use Rattle.pcep_subobjects.specs.Exclusions.{exclusions_of}
 use Rattle.dom_base.specs.Words.{is_malformed}
 use Rattle.pcep_objects.specs.Bodies as of
-use Rattle.pcep_objects.specs.Bodies.{body_of, first_kind, second_kind, of_length, with_tlvs, of_parts}
+use Rattle.pcep_objects.specs.Bodies.{body_of, second_kind, of_length, with_tlvs, of_parts}
 use Rattle.pcep_objects.specs.Objects.{with_body}
 use Rattle.pcep_messages.specs.declared.message.Message.{Message}
 use Rattle.pcep_messages.specs.declared.message.Message.TheVariants as messages

@@ -21,7 +21,7 @@ use Rattle.pcep_subobjects.specs.Hops.{hop_has_length, hop_of, hop_at, hops_of}
 use Rattle.pcep_subobjects.specs.Addresses.{wide_at, long_at, bits_of, IsAddr}
 use Rattle.pcep_subobjects.specs.Subobjects.{is_whole_words, AreOctets}
 use Rattle.pcep_subobjects.specs.Exclusions as exclusions
-use Rattle.pcep_subobjects.specs.Exclusions.{exclusion_has_length, excluded_of, exclusion_of, exclusion_at, exclusions_of, is_exclusion_kind}
+use Rattle.pcep_subobjects.specs.Exclusions.{exclusion_has_length, exclusion_of, exclusion_at, exclusions_of, is_exclusion_kind}
 use Rattle.pcep_objects.specs.declared.object.Body.{Body}
 use Rattle.pcep_objects.specs.declared.object.Body.TheVariants as bodies
 use Rattle.pcep_objects.specs.declared.object.Object.{Object}

@@ -1,5 +1,5 @@
 -- The branches of a reply (RFC 5441, section 5; RFC 5520): how they are read, and how an element puts its own part before one.
-use Rattle.std.specs.Prelude.{ℕ, cond, ◌==◌, nat_lt, nat_le, List, [], ◌∷◌, ◌++◌, map, Option, Some, None}
+use Rattle.std.specs.Prelude.{ℕ, cond, ◌==◌, nat_le, List, [], ◌∷◌, ◌++◌, map, Option, Some, None}
 use Rattle.dom_base.specs.declared.addr.Addr.{Addr}
 use Rattle.dom_base.specs.declared.query.Metric.{Metric}
 use Rattle.dom_base.specs.declared.limits.TheConstants.{COST_MAX}

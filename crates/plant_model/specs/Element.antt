@@ -16,7 +16,6 @@ use Rattle.vspt_tree.specs.declared.branch.Branch.{Branch}
 use Rattle.plant_model.specs.declared.output.Output.{Output}
 use Rattle.plant_model.specs.declared.output.Lost.{Lost}
 use Rattle.plant_model.specs.declared.route.Route.{Route}
-use Rattle.plant_text.specs.Names.{same_as}
 use Rattle.plant_model.specs.Names.{same_id}
 use Rattle.plant_model.specs.Writing.{reply_message, unavailable}
 

@@ -16,7 +16,7 @@ use Rattle.plant_deeds.specs.plant_model.State.{State}
 use Rattle.plant_deeds.specs.plant_model.Wire.{Bytes, Codec}
 use Rattle.plant_deeds.specs.plant_traffic.Flow.{Flow}
 use Rattle.plant_deeds.specs.plant_traffic.Waiting.{IsAtMost, WaitsNext, ways}
-use Rattle.plant_network.specs.Due.{IsLeast, IsSettled, has_mail}
+use Rattle.plant_network.specs.Due.{IsLeast, IsSettled}
 
 -- ---- along the links of the settings
 

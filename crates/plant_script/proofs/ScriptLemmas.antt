@@ -15,7 +15,7 @@ use Rattle.transcript.specs.declared.stop.Stop.{Stop}
 use Rattle.transcript.specs.declared.stop.Stop.TheVariants as stop
 use Rattle.transcript.proofs.ScriptParts.{rose_before, some_more, some_of_all}
 use Rattle.plant_script.specs.Cues.{IsFileStop}
-use Rattle.plant_script.specs.Scripts.{Around, IsCut, IsLineStop, IsWhole, LinePlays, LineStops, Playing, Reached, ScriptStops, StopsAt, StopsAtFile, WroteAll, WroteSome, around}
+use Rattle.plant_script.specs.Scripts.{IsLineStop, LinePlays, LineStops, Reached, ScriptStops, StopsAt, StopsAtFile, around}
 use Rattle.plant_script.proofs.PlayedLines.{none_yet, one_more, one_more_cue}
 
 -- ---- one line further

@@ -1,7 +1,7 @@
 -- The room that queues keep.
 use Rattle.std.proofs.Common.{◌≡◌, ◌≤◌, ℕ, zero, suc, ◌+◌, List, [], ◌∷◌, ◌++◌, length, drop, arith, ap, ◌∙◌, length-append, length-drop}
-use Rattle.plant_queues.specs.Messages.{Queued, Covers, IsRoomAgain, total}
-use Rattle.plant_sessions.specs.Rooms.{Queue, KeepsRoom, Puts, Frees, room_in_all, PutLeavesRoom, FirstLeavesRoom, LessLeavesRoom}
+use Rattle.plant_queues.specs.Messages.{total}
+use Rattle.plant_sessions.specs.Rooms.{Queue, Puts, room_in_all, PutLeavesRoom, FirstLeavesRoom, LessLeavesRoom}
 
 abbrev bytes_in : List (List ℕ) → ℕ
 bytes_in out = total (λ (message : List ℕ). length message) out

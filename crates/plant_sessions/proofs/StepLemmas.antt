@@ -1,6 +1,5 @@
 -- What no step of a session changes, and when one is over.
 use Rattle.std.proofs.Common.{◌≡◌, ℕ, ◌==◌, ◌&&◌, not, Bool, true, false, cond, List, [], ◌∷◌, Option, Some, None, refl}
-use Rattle.dom_base.specs.declared.names.Tick.{Tick}
 use Rattle.pcep_objects.specs.declared.object.OpenBody.{OpenBody}
 use Rattle.pcep_messages.specs.declared.message.Message.{Message}
 use Rattle.pcep_messages.specs.declared.message.Message.TheVariants as messages
@@ -10,7 +9,7 @@ use Rattle.pcep_session.specs.declared.session.Input.TheVariants.{Begin, Got, Ba
 use Rattle.pcep_session.specs.declared.state.Phase.{Phase}
 use Rattle.pcep_session.specs.declared.state.Phase.TheVariants.{Idle, OpenWait, KeepWait, Up, Down}
 use Rattle.pcep_session.specs.declared.state.State.{State}
-use Rattle.pcep_session.specs.Table.{Turn, turn_in, turn_of, open_wait, refused_terms, refused, keep_wait, unknown_type, in_up, up_tick, waits, heard, at_tick, has_passed, is_recent, stateful}
+use Rattle.pcep_session.specs.Table.{Turn, turn_in, turn_of, open_wait, refused_terms, refused, keep_wait, in_up, up_tick, waits, heard, at_tick, has_passed, is_recent}
 use Rattle.plant_model.specs.Names.{is_empty}
 use Rattle.plant_model.specs.Events.{is_down}
 use Rattle.plant_sessions.specs.Ends.{StepsKeepNumber}

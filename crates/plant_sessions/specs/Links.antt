@@ -7,7 +7,7 @@ use Rattle.pcep_session.specs.Table.{new_state}
 use Rattle.plant_model.specs.Deeds.{our_offer}
 use Rattle.plant_sessions.specs.declared.link.End.{End}
 use Rattle.plant_sessions.specs.declared.link.End.TheVariants.{Lower, Upper}
-use Rattle.plant_sessions.specs.Ends.{Roomy, Sender, with_kept}
+use Rattle.plant_sessions.specs.Ends.{Roomy, Sender}
 
 pub record Joined : Type 0 where
   pub line : Line

@@ -32,7 +32,7 @@ use Rattle.plant_laws.proofs.Unrouted.{way_inside}
 use Rattle.plant_laws.specs.plant_model.Solving as solving
 use Rattle.plant_laws.specs.plant_model.State.{Connection, Loads, Pops, Takes, Says, Ups, Downs, Clears, Solves, Expires, Hands}
 use Rattle.plant_laws.specs.plant_model.Deeds as deeds
-use Rattle.plant_laws.specs.plant_model.Deeds.{Going, element_of, any_fall, input_of, read_as, with_inbox, our_offer, own_message}
+use Rattle.plant_laws.specs.plant_model.Deeds.{element_of, input_of, read_as, with_inbox, our_offer, own_message}
 use Rattle.plant_laws.specs.plant_model.Events as events
 use Rattle.plant_laws.specs.plant_model.Events.{is_down}
 use Rattle.plant_laws.specs.plant_model.Plant.{Pin, Segment, first_pin, Plant, PlantDeed, Happened, Entry, Run, deeds_of, is_full, ElementSolves, ParentSolves, Happens, Steps}

@@ -18,9 +18,9 @@ use Rattle.plant_sessions.specs.Rooms.{KeepsRoom, Grows, Spends, Frees, queue}
 use Rattle.plant_traffic.specs.Flow.{just_opened, no_room, out_of}
 use Rattle.plant_traffic.specs.declared.peers.Drained.{Drained}
 use Rattle.plant_traffic.specs.Peers as peers
-use Rattle.plant_traffic.specs.Peers.{Guests, guests_of, access_of, access_or, room_of, room_or, set_guest, change_guest, Connects, GrowsGuest, SendsGuest, FeedsPeer, DrainsPeer, queue_to}
+use Rattle.plant_traffic.specs.Peers.{Guests, guests_of, access_of, access_or, room_of, room_or, set_guest, Connects, GrowsGuest, SendsGuest, FeedsPeer, DrainsPeer}
 use Rattle.plant_traffic.specs.Accesses as accesses
-use Rattle.plant_traffic.specs.Accesses.{ChangesAt, ConnectsAccess, ReservesAccess, ReservesConnection, SendsAccess, SendsConnection, FeedsAccess, DrainsAccess, Changes, on_connected}
+use Rattle.plant_traffic.specs.Accesses.{ChangesAt, ConnectsAccess, ReservesAccess, ReservesConnection, SendsAccess, SendsConnection, FeedsAccess, DrainsAccess, on_connected}
 use Rattle.plant_traffic.proofs.PeerLemmas.{number_same, number_here, guest_changes, guest_here, room_here, same_room, connection_changes}
 use Rattle.plant_traffic.proofs.FlowLemmas.{on_ok}
 

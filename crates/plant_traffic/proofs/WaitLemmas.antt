@@ -1,12 +1,11 @@
 -- The least of the ways on which messages are, when one more is looked at.
 use Rattle.std.proofs.Common.{◌≡◌, ◌<◌, ◌≤◌, ◌⊎◌, inl, inr, ℕ, zero, suc, take, ap, Bool, true, false, List, [], ◌∷◌, ◌++◌, Option, Some, None, arith, refl, sym, ◌∙◌}
 use Rattle.std.specs.Prelude.{slice_get}
-use Rattle.std.specs.List.{All, Contains}
 use Rattle.std.proofs.lemmas.List.Elements.{All-push, All-weaker, Contains-append_left, Contains-push}
 use Rattle.dom_base.specs.declared.names.As.{As}
 use Rattle.plant_text.specs.Settings.{Line}
 use Rattle.plant_traffic.specs.Flow.{Flow}
-use Rattle.plant_traffic.specs.Waiting.{IsAtMost, IsLeast, WaitsAmong, has_mail, ways}
+use Rattle.plant_traffic.specs.Waiting.{IsAtMost, WaitsAmong, has_mail, ways}
 
 at_most_itself : (p : As × As) → IsAtMost p p
 at_most_itself p = inr (refl, omega arith)

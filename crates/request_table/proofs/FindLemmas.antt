@@ -3,12 +3,11 @@ use Rattle.std.proofs.Common.{◌≡◌, ◌≢◌, inl, inr, ℕ, zero, suc, �
 use Rattle.std.specs.Prelude.{IsTrue}
 use Rattle.std.specs.Map.{lookup, remove_entry}
 use Rattle.std.proofs.lemmas.Bool.{cases_Bool, leb-true, eqb-true, le-leb, eq-eqb, ne_eqb, or_cases, or_left, or_right}
-use Rattle.dom_base.specs.declared.names.Peer.{Peer}
 use Rattle.request_table.specs.declared.held.RequestKey.{RequestKey}
 use Rattle.request_table.specs.declared.held.Held.{Held}
-use Rattle.request_table.specs.Pending.{Pending, ArePending, IsFull, is_full, key_of, same_key, number_among, NumbersRise, AreNamedOnce}
+use Rattle.request_table.specs.Pending.{IsFull, is_full, key_of, same_key, number_among, NumbersRise}
 use Rattle.request_table.specs.Laws.{OpenLaw, CloseLaw, FullLaw}
-use Rattle.request_table.proofs.KeyLemmas.{same_key_is, same_key_back, same_key_self}
+use Rattle.request_table.proofs.KeyLemmas.{same_key_is, same_key_self}
 use Rattle.request_table.proofs.PendingLemmas.{NumbersRise-last, opened_index, closed_index}
 
 same_number : (n : ℕ) → nat_eq n n ≡ true

@@ -1,5 +1,5 @@
 -- Turns of a port of watchers, one after the other.
-use Rattle.std.proofs.Common.{◌≡◌, ◌+◌, ℕ, zero, suc, List, refl, sym, subst, arith}
+use Rattle.std.proofs.Common.{◌≡◌, ◌+◌, ℕ, zero, suc, List, refl, subst, arith}
 use Rattle.session_serving.specs.Serving.{Waits}
 use Rattle.ted_watch.specs.declared.shown.Shown.{Shown}
 use Rattle.serve_tasks.specs.Watching.{IsWatchTurn, WatchesPort}

@@ -1,13 +1,8 @@
 -- What a spawner stands for: the duties that it started, and how often it failed.
 use Rattle.std.specs.Prelude.{◌≡◌, ◌≢◌, ◌∷◌, [], ◌++◌, ℕ, List}
-use Rattle.dom_edge.specs.Causes.{HasCause}
-use Rattle.dom_edge.specs.Memory.{Calls}
-use Rattle.serve_tasks.specs.declared.begun.Begun.{Begun}
-use Rattle.serve_tasks.specs.declared.begun.Begun.TheVariants as begun
 use Rattle.serve_tasks.specs.declared.duties.Duty.{Duty}
 use Rattle.serve_tasks.specs.declared.spawner.Spawner.{Spawner}
 use Rattle.serve_tasks.specs.declared.spawner.Spawner.TheVariants as spawner
-use Rattle.serve_tasks.specs.SpawnerStates.{MemoryState, ThreadState}
 
 -- the duties that were started, the oldest first
 abbrev pub started : {T : Type 0} → Spawner T → List Duty

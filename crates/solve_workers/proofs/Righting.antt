@@ -2,7 +2,7 @@
 use Rattle.std.proofs.Common.{◌≡◌, ◌⊎◌, inl, inr, ℕ, List, None, Some, refl, sym, ◌∙◌, ap, subst}
 use Rattle.std.specs.Prelude.{Contains, [], ◌<◌}
 use Rattle.std.specs.Arc.{arc_value}
-use Rattle.lru.specs.LruCache.{put_entries, lru_cache}
+use Rattle.lru.specs.LruCache.{put_entries}
 use Rattle.lru.proofs.CallerLemmas.{Contains-put_entries}
 use Rattle.lru.proofs.Splits.{Contains-nil}
 use Rattle.dom_base.specs.declared.names.As.{As}

@@ -1,5 +1,5 @@
 -- A run, one turn further.
-use Rattle.std.proofs.Common.{◌≡◌, ◌≢◌, inl, inr, ℕ, zero, suc, ◌+◌, ◌<◌, ◌≤◌, List, [], ◌∷◌, ◌++◌, None, Some, Ok, Err, append_assoc, add-one, arith, refl, sym, ◌∙◌, ap, subst}
+use Rattle.std.proofs.Common.{◌≡◌, ◌≢◌, inr, ℕ, zero, suc, ◌+◌, ◌<◌, ◌≤◌, List, [], ◌∷◌, ◌++◌, None, Some, Ok, Err, append_assoc, add-one, arith, refl, sym, ◌∙◌, ap, subst}
 use Rattle.std.specs.Prelude.{option_to_list}
 use Rattle.std.specs.declared.option.Option.{Option}
 use Rattle.std.proofs.lemmas.List.{append-nil}
@@ -9,9 +9,8 @@ use Rattle.dom_base.specs.declared.names.NoMemory.{NoMemory}
 use Rattle.cost_cache.specs.Entries.{Entries, Has}
 use Rattle.cost_cache.specs.declared.key.Key.{Key}
 use Rattle.solve_workers.specs.Benches.{Call, Benched, Ready}
-use Rattle.solve_workers.specs.Turns.{IsTurn, IsCut, AreTurns, Stops, HasLast, Runs, given_job, given_key, jobs_given, keys_given}
+use Rattle.solve_workers.specs.Turns.{IsTurn, AreTurns, Stops, HasLast, Runs, given_job, given_key, jobs_given, keys_given}
 use Rattle.solve_workers.specs.Steps.{AreRight, Holds, TurnBy, TurnsBy, IsTurned}
-use Rattle.solve_workers.specs.declared.working.Worked.{Worked}
 use Rattle.solve_workers.specs.declared.working.Worked.TheVariants.{Turns, Spent, NoMemory as WantOfMemory}
 use Rattle.solve_workers.proofs.Righting.{right_new}
 

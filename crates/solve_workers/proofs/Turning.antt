@@ -7,7 +7,6 @@ use Rattle.std.proofs.lemmas.List.{append-nil}
 use Rattle.std.proofs.lemmas.List.Elements.{filter_map-append}
 use Rattle.dom_base.specs.declared.names.As.{As}
 use Rattle.dom_base.specs.declared.names.NoMemory.{NoMemory}
-use Rattle.te_links.specs.Rows.{Rows}
 use Rattle.pce_parent.specs.declared.work.Work.{Work}
 use Rattle.pce_parent.specs.declared.work.Work.TheVariants.{Domain, Border}
 use Rattle.pce_parent.specs.declared.work.Done.{Done}
@@ -15,8 +14,8 @@ use Rattle.cost_cache.specs.Entries.{Entries}
 use Rattle.cost_cache.specs.Keys.{key_of}
 use Rattle.cost_cache.specs.declared.key.Key.{Key}
 use Rattle.solve_workers.specs.Benches.{Call, Ready, Look, Finish, Benched, Goes, IsOf, made_by}
-use Rattle.solve_workers.specs.Turns.{Asks, Follows, Breaks, GoesOn, IsTurn, IsCut, given_job, given_key, jobs_given, keys_given, key_of_work}
-use Rattle.solve_workers.specs.Steps.{AreRight, Holds, IsLive, Stays, AsksBy, FollowsBy, TurnBy, IsFound, IsFinished, IsWhole, IsTurned}
+use Rattle.solve_workers.specs.Turns.{Asks, Follows, IsTurn, IsCut, given_job, given_key, jobs_given, keys_given, key_of_work}
+use Rattle.solve_workers.specs.Steps.{AreRight, Holds, IsLive, Stays, AsksBy, FollowsBy, TurnBy, IsFound, IsFinished, IsTurned}
 use Rattle.solve_workers.specs.declared.benches.Finished.{Finished}
 use Rattle.solve_workers.specs.declared.benches.Finished.TheVariants.{Kept as Taken, Stranger, NoMemory as NoRoom}
 use Rattle.solve_workers.proofs.Righting.{right_grows}

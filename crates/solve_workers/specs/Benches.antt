@@ -1,5 +1,5 @@
 -- What a bench is asked and answers, and what it stands for.
-use Rattle.std.specs.Prelude.{◌≡◌, ℕ, List, [], ◌∷◌, ◌++◌, All, Contains, None, Some, Ok, Err, IsSome}
+use Rattle.std.specs.Prelude.{◌≡◌, ℕ, List, [], ◌∷◌, ◌++◌, All, Contains, None, Some, Ok}
 use Rattle.std.specs.Arc.{arc_value}
 use Rattle.std.specs.declared.option.Option.{Option}
 use Rattle.std.specs.declared.result.Result.{Result}
@@ -12,7 +12,7 @@ use Rattle.pce_parent.specs.declared.work.Work.TheVariants.{Domain, Border}
 use Rattle.pce_parent.specs.declared.work.Done.{Done}
 use Rattle.pce_parent.specs.declared.work.Done.TheVariants.{Domain as DomainDone, Border as BorderDone}
 use Rattle.solve_workers.specs.declared.benches.Finished.{Finished}
-use Rattle.solve_workers.specs.declared.benches.Finished.TheVariants.{Kept, Stranger, NoMemory as NoRoom}
+use Rattle.solve_workers.specs.declared.benches.Finished.TheVariants.{Stranger}
 
 -- a call with its answer
 pub data Call : Type 0 where

@@ -1,5 +1,5 @@
 -- The parts of a turn.
-use Rattle.std.specs.Prelude.{◌≡◌, ◌⊎◌, ℕ, List, [], ◌∷◌, ◌++◌, All, Contains, None, Some, Ok, Err, MatchResult, option_to_list}
+use Rattle.std.specs.Prelude.{◌≡◌, ◌⊎◌, ℕ, List, [], ◌∷◌, ◌++◌, All, Contains, None, Some, Ok, MatchResult, option_to_list}
 use Rattle.std.specs.Arc.{arc_value}
 use Rattle.std.specs.declared.option.Option.{Option}
 use Rattle.std.specs.declared.result.Result.{Result}
@@ -13,7 +13,7 @@ use Rattle.cost_cache.specs.Entries.{Entries, Has, IsGood, IsKept}
 use Rattle.cost_cache.specs.declared.key.Key.{Key}
 use Rattle.cost_cache.specs.declared.kept.Kept.{Kept}
 use Rattle.pce_parent.specs.declared.work.Done.{Done}
-use Rattle.solve_workers.specs.Benches.{Call, Ready, Look, Benched, IsGiven, IsOf}
+use Rattle.solve_workers.specs.Benches.{Call, Ready, Benched, IsGiven, IsOf}
 use Rattle.solve_workers.specs.Turns.{Asks, Follows, Breaks, IsTurn, IsCut, IsBroken, AreTurns, Stops, jobs_given, keys_given, key_of_work}
 
 -- the topologies that a bench knows

@@ -1,11 +1,10 @@
 -- The turns of a worker: which calls it makes, in their order.
-use Rattle.std.specs.Prelude.{◌≡◌, ◌≢◌, ◌⊎◌, ◌<◌, ◌≤◌, ℕ, zero, suc, List, [], ◌∷◌, ◌++◌, None, Some, Ok, Err, IfSome}
+use Rattle.std.specs.Prelude.{◌≡◌, ◌≢◌, ◌⊎◌, ◌<◌, ◌≤◌, ℕ, zero, suc, List, [], ◌∷◌, ◌++◌, None, Some, Ok, Err}
 use Rattle.std.specs.List.{filter_map}
 use Rattle.std.specs.declared.option.Option.{Option}
 use Rattle.std.specs.declared.result.Result.{Result}
 use Rattle.dom_base.specs.declared.names.As.{As}
 use Rattle.dom_base.specs.declared.names.NoMemory.{NoMemory}
-use Rattle.te_links.specs.Rows.{Rows}
 use Rattle.pce_parent.specs.declared.work.Work.{Work}
 use Rattle.pce_parent.specs.declared.work.Work.TheVariants.{Domain, Border}
 use Rattle.pce_parent.specs.declared.work.Done.{Done}
@@ -14,7 +13,7 @@ use Rattle.cost_cache.specs.Entries.{Entries, Has}
 use Rattle.cost_cache.specs.declared.key.Key.{Key}
 use Rattle.solve_workers.specs.Benches.{Call, Ready, Look, Finish, Benched, IsOf}
 use Rattle.solve_workers.specs.declared.benches.Finished.{Finished}
-use Rattle.solve_workers.specs.declared.benches.Finished.TheVariants.{Kept as Taken, Stranger, NoMemory as NoRoom}
+use Rattle.solve_workers.specs.declared.benches.Finished.TheVariants.{NoMemory as NoRoom}
 use Rattle.solve_workers.specs.declared.working.Worked.{Worked}
 use Rattle.solve_workers.specs.declared.working.Worked.TheVariants.{Turns, Spent, NoMemory as WantOfMemory}
 

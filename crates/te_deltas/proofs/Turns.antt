@@ -6,8 +6,6 @@ use Rattle.te_text.specs.declared.row.TextRow.{TextRow}
 use Rattle.te_text.specs.TopologyText.{rows_in_order}
 use Rattle.te_deltas.specs.declared.changes.Change.{Change}
 use Rattle.te_deltas.specs.declared.changes.Change.TheVariants.{AddNode, DropNode, AddLink, DropLink, AddOut, DropOut, AddEntry, DropEntry}
-use Rattle.te_deltas.specs.declared.making.ChangeError.{ChangeError}
-use Rattle.te_deltas.specs.declared.making.ChangeError.TheVariants.{Absent, Present, Rule, NoMemory}
 use Rattle.te_deltas.specs.Changes.{IsFirstMistake, NoneBefore, changed, is_mistake, rows_after}
 use Rattle.te_deltas.specs.Answers.{IsMistake, IsWhy, mistake}
 

@@ -1,6 +1,5 @@
 -- A full shelf by the different generations that are live.
 use Rattle.std.proofs.Common.{◌≡◌, ◌≢◌, ◌⊎◌, ◌≤◌, ◌<◌, ◌+◌, ◌-◌, ◌^◌, ℕ, Bool, true, false, List, [], ◌∷◌, length, map, nat_eq, sym, ◌∙◌, ap, inl, inr, refl, arith}
-use Rattle.std.specs.Prelude.{Contains}
 use Rattle.std.specs.Set.{is_member}
 use Rattle.std.specs.List.{IsDistinct, AllByRecursion}
 use Rattle.std.proofs.lemmas.Bool.{cases_eq}

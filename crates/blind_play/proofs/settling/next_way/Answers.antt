@@ -1,4 +1,3 @@
-use Rattle.blind_plant.specs.Held.{whole}
 use Rattle.blind_play.proofs.LineLemmas.{waiting_is}
 use Rattle.blind_play.proofs.settling.next_way.Goals as goal
 

@@ -1,5 +1,5 @@
 use Rattle.blind_plant.specs.Held.{whole}
-use Rattle.blind_play.proofs.TurnLemmas.{all_carried, one_carry}
+use Rattle.blind_play.proofs.TurnLemmas.{one_carry}
 use Rattle.blind_play.proofs.settling.settle.Goals as goal
 
 pub loop-preserved : goal.loop-preserved

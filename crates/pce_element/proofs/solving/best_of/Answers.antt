@@ -2,7 +2,6 @@ use Rattle.std.proofs.Common.{◌≡◌, ◌∙◌, ℕ, List, true, false, sym,
 use Rattle.std.proofs.lemmas.Result.{IfOk-weaker}
 use Rattle.dom_base.specs.declared.names.As.{As}
 use Rattle.pcep_messages.specs.declared.message.Wanted.{Wanted}
-use Rattle.disclosure.specs.declared.class.Class.{Class}
 use Rattle.border_costs.specs.declared.job.Target.{Target}
 use Rattle.member_parts.specs.plant_model.Branches.{downs}
 use Rattle.member_parts.specs.plant_model.Element.{is_client}

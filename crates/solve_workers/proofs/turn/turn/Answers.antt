@@ -3,7 +3,7 @@ use Rattle.std.proofs.Common.{◌≡◌, ◌∷◌, [], ℕ, Ok, Err, None, Some
 use Rattle.std.specs.Prelude.{Contains, List}
 use Rattle.std.proofs.lemmas.List.Elements.{Contains-push}
 use Rattle.dom_base.specs.declared.names.As.{As}
-use Rattle.solve_workers.specs.Benches.{Call, Benched, Look, Goes}
+use Rattle.solve_workers.specs.Benches.{Call, Look, Goes}
 use Rattle.solve_workers.specs.Steps.{IsFound}
 use Rattle.solve_workers.proofs.Righting.{right_grows}
 use Rattle.solve_workers.proofs.Turning.{idle_turn, late_turn, broken_look, full_turn, stays_of, stays_on, live, none_of, one_call}

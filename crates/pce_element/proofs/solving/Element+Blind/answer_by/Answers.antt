@@ -4,11 +4,10 @@ use Rattle.std.specs.Map.{lookup}
 use Rattle.request_table.specs.Pending.{Pending}
 use Rattle.vspt_tree.specs.Branches.{HasBranchAt}
 use Rattle.vspt_tree.specs.declared.branch.Best.{Best}
-use Rattle.vspt_tree.specs.declared.branch.Branch.{Branch}
 use Rattle.member_parts.specs.plant_model.Blind.{Nothing}
 use Rattle.member_parts.specs.plant_model.Element.{Item, Ready}
 use Rattle.pce_element.specs.Answering.{Answers}
-use Rattle.pce_element.specs.Blind.{AreJoined, stands_for_nothing}
+use Rattle.pce_element.specs.Blind.{stands_for_nothing}
 use Rattle.pce_element.specs.Rows.{row_of}
 use Rattle.pce_element.proofs.BlindLemmas.{blind_answers, no_request, not_ready}
 use Rattle.pce_element.proofs.CommitLemmas.{ready_stage}

@@ -1,6 +1,5 @@
 use Rattle.std.proofs.Common.{sym, subst}
 use Rattle.dom_base.specs.declared.names.Peer.{Peer}
-use Rattle.dom_base.specs.declared.names.Peer.TheVariants.{Inner}
 use Rattle.plant_traffic.specs.Carried.{Carried, seen, flow_of}
 use Rattle.plant_traffic.specs.Flow.{DropsFirst, DropsFirstAt}
 use Rattle.plant_traffic.specs.Sides.{row_of}

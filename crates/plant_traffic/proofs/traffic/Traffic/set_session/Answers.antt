@@ -1,8 +1,7 @@
 use Rattle.std.proofs.Common.{◌≡◌, ◌∙◌, ap, sym, subst}
 use Rattle.dom_base.specs.declared.names.Peer.{Peer}
-use Rattle.dom_base.specs.declared.names.Peer.TheVariants.{Inner}
 use Rattle.plant_traffic.specs.Carried.{Carried, seen, flow_of}
-use Rattle.plant_traffic.specs.Flow.{MaySet, set_session, set_session_at}
+use Rattle.plant_traffic.specs.Flow.{set_session, set_session_at}
 use Rattle.plant_traffic.specs.Sides.{row_of}
 use Rattle.plant_traffic.specs.TrafficFields.{carried_of}
 use Rattle.plant_traffic.proofs.FlowLemmas.{session_changes}
