@@ -14,11 +14,11 @@ copy=$(mktemp -d)
 trap 'rm -rf "$copy"' EXIT
 mkdir -p "$copy/crates"
 cp "$top/HANDLES" "$copy/"
-for name in dom_base line_text te_links te_text te_generations path_constraints walk_laws path_search path_certificate pcep_codes pcep_subobjects pcep_objects pcep_messages pcep_framing pcep_session vspt_tree border_costs request_table path_keys disclosure plant_queues plant_text plant_model member_parts pce_parent; do
+for name in dom_base line_text te_links te_text te_generations path_constraints walk_laws path_search path_certificate pcep_codes pcep_subobjects pcep_objects pcep_messages pcep_framing pcep_session vspt_tree border_costs request_table path_keys disclosure plant_queues plant_text plant_model pce_common pce_parent; do
     cp -r "$top/crates/$name" "$copy/crates/"
     grep "^$name[ :]" "$top/crates.txt" >>"$copy/crates.txt"
 done
-echo 'border_bench: dom_base pcep_subobjects plant_model member_parts pce_parent' >>"$copy/crates.txt"
+echo 'border_bench: dom_base pcep_subobjects plant_model pce_common pce_parent' >>"$copy/crates.txt"
 crate=$copy/crates/border_bench
 mkdir -p "$crate/src" "$crate/proofs/graph/links"
 

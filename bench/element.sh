@@ -14,7 +14,7 @@ copy=$(mktemp -d)
 trap 'rm -rf "$copy"' EXIT
 mkdir -p "$copy/crates"
 cp "$top/HANDLES" "$copy/"
-for name in dom_base line_text te_links te_text te_generations path_constraints walk_laws path_search path_certificate pcep_codes pcep_subobjects pcep_objects pcep_messages pcep_framing pcep_session vspt_tree border_costs request_table path_keys disclosure plant_queues plant_text plant_model member_parts pce_element; do
+for name in dom_base line_text te_links te_text te_generations path_constraints walk_laws path_search path_certificate pcep_codes pcep_subobjects pcep_objects pcep_messages pcep_framing pcep_session vspt_tree border_costs request_table path_keys disclosure plant_queues plant_text plant_model pce_common pce_element; do
     cp -r "$top/crates/$name" "$copy/crates/"
     grep "^$name[ :]" "$top/crates.txt" >>"$copy/crates.txt"
 done
@@ -100,7 +100,7 @@ RT
 cat >"$crate/src/serving.rt" <<'RT'
 //! Requests that one element takes and answers.
 ghost use Rattle.std.specs.Prelude.{◌≡◌, ◌≤◌, IfOk, IfSome, OnOk};
-ghost use Rattle.member_parts.specs.Messages.{HasOnePart};
+ghost use Rattle.pce_common.specs.Messages.{HasOnePart};
 
 use crate::network::{NODES, topology};
 use border_costs::solve;

@@ -17,21 +17,21 @@ use Rattle.plant_network.specs.plant_model.RealWire.{wire}
 use Rattle.plant_network.specs.plant_model.Settings.{place}
 use Rattle.plant_network.specs.plant_model.Solving.{commit}
 use Rattle.plant_network.specs.plant_model.State.{Deed, Solves, said, sent_by}
-use Rattle.plant_network.specs.plant_traffic.Carried.{Carried, flow_of}
-use Rattle.plant_network.specs.plant_traffic.Flow.{Flow}
-use Rattle.plant_network.specs.plant_members.Membership.{Membership, Replied, Standing, is_member, with_element, with_parent}
-use Rattle.plant_network.specs.plant_deeds.Answering.{IsAnswer, Sends}
-use Rattle.plant_network.specs.plant_deeds.Giving.{OnlyGrows}
-use Rattle.plant_network.specs.plant_deeds.Standing.{here, state_of}
+use Rattle.plant_network.specs.network_links.Carried.{Carried, flow_of}
+use Rattle.plant_network.specs.network_links.Flow.{Flow}
+use Rattle.plant_network.specs.member_trait.Membership.{Membership, Replied, Standing, is_member, with_element, with_parent}
+use Rattle.plant_network.specs.network_events.Answering.{IsAnswer, Sends}
+use Rattle.plant_network.specs.network_events.Giving.{OnlyGrows}
+use Rattle.plant_network.specs.network_events.Standing.{here, state_of}
 use Rattle.plant_network.specs.pce_element.Blind.{stands_for_nothing}
-use Rattle.plant_network.specs.plant_hierarchy.Answering.{IsRefusedFor, ParentAnswers}
-use Rattle.plant_network.specs.plant_hierarchy.Blind.{ElementAnswers, MemberAnswers, nothing_first}
-use Rattle.plant_network.specs.plant_hierarchy.Tiers.{Become, Tiers, lost_in, members_of, next_by, standing_of}
-use Rattle.plant_network.specs.plant_hierarchy.Tiers as tiers
-use Rattle.plant_network.specs.plant_hierarchy.declared.plan.MemberPlan.{MemberPlan}
+use Rattle.plant_network.specs.network_members.Answering.{IsRefusedFor, ParentAnswers}
+use Rattle.plant_network.specs.network_members.Blind.{ElementAnswers, MemberAnswers, nothing_first}
+use Rattle.plant_network.specs.network_members.Tiers.{Become, Tiers, lost_in, members_of, next_by, standing_of}
+use Rattle.plant_network.specs.network_members.Tiers as tiers
+use Rattle.plant_network.specs.network_members.declared.plan.MemberPlan.{MemberPlan}
 use Rattle.plant_network.proofs.AnswerLemmas.{element_answer, parent_answer}
-use Rattle.plant_network.proofs.plant_hierarchy.StepLemmas.{stands_as}
-use Rattle.plant_network.specs.plant_deeds.Moving.{IsKept}
+use Rattle.plant_network.proofs.network_members.StepLemmas.{stands_as}
+use Rattle.plant_network.specs.network_events.Moving.{IsKept}
 use Rattle.blind_plant.specs.Held.{IsSound, Moves, held, standing, whole}
 
 abbrev Members : Type 0

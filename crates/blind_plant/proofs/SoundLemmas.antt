@@ -3,9 +3,9 @@ use Rattle.plant_network.specs.plant_model.declared.event.BlindEvent.{BlindEvent
 use Rattle.plant_network.specs.plant_model.Blind.{BlindHappened, BlindSteps}
 use Rattle.plant_network.specs.plant_model.Events.{Answered}
 use Rattle.plant_network.specs.plant_model.RealWire.{wire}
-use Rattle.plant_network.specs.plant_lasting.Lasting.{Goes}
-use Rattle.plant_network.proofs.plant_lasting.BlindLast.{blind_steps_last}
-use Rattle.plant_network.proofs.plant_deeds.SoundLemmas as network
+use Rattle.plant_network.specs.jobs_last.Lasting.{Goes}
+use Rattle.plant_network.proofs.jobs_last.BlindLast.{blind_steps_last}
+use Rattle.plant_network.proofs.network_events.SoundLemmas as network
 use Rattle.blind_plant.specs.Held.{Held, standing, whole, IsSound, Moves}
 
 -- jobs last in an event, and tables and keys stay as they have to be

@@ -3,11 +3,11 @@ use Rattle.plant_network.specs.plant_model.declared.event.BlindEvent.{BlindEvent
 use Rattle.plant_network.specs.plant_model.Blind.{BlindSteps, Nothing}
 use Rattle.plant_network.specs.plant_model.Events.{Answered}
 use Rattle.plant_network.specs.plant_model.RealWire.{wire}
-use Rattle.plant_network.specs.plant_traffic.Carried.{Carried, flow_of}
-use Rattle.plant_network.specs.plant_deeds.Standing.{Here, here}
-use Rattle.plant_network.specs.plant_hierarchy.Blind.{nothing_first}
-use Rattle.plant_network.specs.plant_hierarchy.Tiers.{Tiers, standing_of}
-use Rattle.plant_network.specs.plant_deeds.Moving as network
+use Rattle.plant_network.specs.network_links.Carried.{Carried, flow_of}
+use Rattle.plant_network.specs.network_events.Standing.{Here, here}
+use Rattle.plant_network.specs.network_members.Blind.{nothing_first}
+use Rattle.plant_network.specs.network_members.Tiers.{Tiers, standing_of}
+use Rattle.plant_network.specs.network_events.Moving as network
 use Rattle.blind_plant.specs.Whole.{Whole}
 
 pub record Held : Type 0 where

@@ -1,10 +1,10 @@
 //! A network without topologies as one value.
 ghost use Rattle.std.specs.Prelude.{◌≡◌, IfOk};
-ghost use Rattle.plant_network.specs.plant_lasting.Lasting.{JobsLast};
+ghost use Rattle.plant_network.specs.jobs_last.Lasting.{JobsLast};
 ghost use Rattle.plant_network.specs.plant_model.Blind.{IsBlindGiven};
 ghost use Rattle.plant_text.specs.Settings.{lines};
-ghost use Rattle.plant_network.specs.plant_traffic.Carried.{flow_of};
-ghost use Rattle.plant_network.specs.plant_traffic.Waiting.{WaitsNext};
+ghost use Rattle.plant_network.specs.network_links.Carried.{flow_of};
+ghost use Rattle.plant_network.specs.network_links.Waiting.{WaitsNext};
 ghost use Rattle.blind_plant.specs.Held.{whole};
 ghost use Rattle.blind_plant.specs.Whole.{IsBegun, Stepped};
 

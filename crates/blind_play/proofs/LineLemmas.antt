@@ -9,8 +9,8 @@ use Rattle.blind_plant.specs.plant_model.declared.event.BlindEvent.TheVariants a
 use Rattle.blind_plant.specs.plant_model.Blind.{BlindState}
 use Rattle.blind_plant.specs.plant_model.Wire.{Bytes}
 use Rattle.plant_text.specs.Settings.{lines}
-use Rattle.blind_plant.specs.plant_network.plant_traffic.Carried.{flow_of}
-use Rattle.blind_plant.specs.plant_network.plant_traffic.Waiting.{WaitsNext}
+use Rattle.blind_plant.specs.plant_network.network_links.Carried.{flow_of}
+use Rattle.blind_plant.specs.plant_network.network_links.Waiting.{WaitsNext}
 use Rattle.blind_plant.specs.plant_network.Due.{IsLeast, IsSettled}
 use Rattle.blind_plant.proofs.plant_network.CarryLemmas.{least_here, settled_here}
 use Rattle.blind_plant.specs.Held.{Held, whole}

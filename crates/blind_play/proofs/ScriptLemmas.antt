@@ -10,8 +10,8 @@ use Rattle.line_text.specs.Lines.{NumberedLine, told_lines}
 use Rattle.plant_text.specs.declared.settings.NetworkParts.{NetworkParts}
 use Rattle.blind_plant.specs.plant_model.Blind.{blind_opened}
 use Rattle.blind_plant.specs.plant_model.RealWire.{wire}
-use Rattle.text_ranges.specs.Given.{IsBlindLine}
-use Rattle.text_ranges.proofs.GivenRows.{blind_line_given}
+use Rattle.texts_in_range.specs.Given.{IsBlindLine}
+use Rattle.texts_in_range.proofs.GivenRows.{blind_line_given}
 use Rattle.transcript.specs.declared.stop.Stop.{Stop}
 use Rattle.transcript.specs.declared.stop.Stop.TheVariants as stop
 use Rattle.transcript.proofs.ScriptParts.{rose_before, some_more, some_of_all}

@@ -9,4 +9,4 @@ pub mod Laws
 pub mod Making
 -- handed on from below
 pub use Rattle.blind_plant.specs.plant_model
-pub use Rattle.text_ranges.specs as text_ranges
+pub use Rattle.texts_in_range.specs as texts_in_range

@@ -1,6 +1,6 @@
 //! Who plays the lines of a script on a network without topologies.
 ghost use Rattle.std.specs.Prelude.{◌≡◌, ◌++◌, IfOk, OnErr, OnOk};
-ghost use Rattle.text_ranges.specs.Given.{IsBlindLine};
+ghost use Rattle.texts_in_range.specs.Given.{IsBlindLine};
 ghost use Rattle.blind_play.specs.Playing.{IsNewStage, Played, cue, stage_of};
 
 use crate::lines::play_line;

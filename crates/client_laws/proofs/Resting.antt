@@ -29,7 +29,7 @@ use Rattle.script_laws.specs.plant_model.State.{Connection}
 use Rattle.script_laws.specs.plant_model.Wire.{Bytes}
 use Rattle.script_laws.specs.plant_laws.Chains.{HasEmptyInbox}
 use Rattle.plant_network.specs.Due.{inbox_from}
-use Rattle.plant_network.specs.plant_traffic.Waiting.{ways}
+use Rattle.plant_network.specs.network_links.Waiting.{ways}
 use Rattle.script_laws.specs.plant_play.declared.going.Until.{Until}
 use Rattle.script_laws.specs.plant_play.declared.going.Until.TheVariants.{Finished, Settled}
 use Rattle.script_laws.specs.plant_play.declared.showing.Modes.{Modes}

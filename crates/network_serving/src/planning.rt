@@ -12,7 +12,7 @@ use crate::served::Served;
 use cost_cache::Cache;
 use dom_base::{As, List, NoMemory};
 use dom_edge::{Listener, Opened, Ports};
-use plant_layout::children_of;
+use settings_layout::children_of;
 use plant_text::{Network, NetworkParts, PeerRow};
 use serve_tasks::Task;
 use std::alloc::Global;

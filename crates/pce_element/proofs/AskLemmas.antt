@@ -8,10 +8,10 @@ use Rattle.pcep_messages.specs.declared.message.Wanted.{Wanted}
 use Rattle.disclosure.specs.declared.class.Class.{Class}
 use Rattle.disclosure.specs.Policy.{is_denied}
 use Rattle.request_table.specs.Pending.{opened_of}
-use Rattle.member_parts.specs.plant_model.declared.output.Output.{Output}
-use Rattle.member_parts.specs.plant_model.Element.{Element, Place, Ready, Taken, each, silent, way_to}
-use Rattle.member_parts.specs.plant_model.Routes.{toward}
-use Rattle.member_parts.specs.plant_model.Taking.{item_of, send_on, take_along}
+use Rattle.pce_common.specs.plant_model.declared.output.Output.{Output}
+use Rattle.pce_common.specs.plant_model.Element.{Element, Place, Ready, Taken, each, silent, way_to}
+use Rattle.pce_common.specs.plant_model.Routes.{toward}
+use Rattle.pce_common.specs.plant_model.Taking.{item_of, send_on, take_along}
 use Rattle.pce_element.specs.Changes.{IsDraft}
 use Rattle.pce_element.specs.Seen.{Seen}
 use Rattle.pce_element.specs.declared.change.Draft.{Draft}

@@ -8,11 +8,11 @@ use Rattle.request_table.specs.declared.held.Held.{Held}
 use Rattle.vspt_tree.specs.Branches.{HasBranchAt}
 use Rattle.vspt_tree.specs.declared.branch.Best.{Best}
 use Rattle.vspt_tree.specs.declared.branch.Branch.{Branch}
-use Rattle.member_parts.specs.plant_model.declared.output.Output.{Output}
-use Rattle.member_parts.specs.plant_model.Blind.{Nothing}
-use Rattle.member_parts.specs.plant_model.Branches.{downs}
-use Rattle.member_parts.specs.plant_model.Element.{Element, Item, Stage, Taken, Waits, Ready, is_client, is_ready}
-use Rattle.member_parts.specs.plant_model.Jobs.{IsJoinOf, target_along}
+use Rattle.pce_common.specs.plant_model.declared.output.Output.{Output}
+use Rattle.pce_common.specs.plant_model.Blind.{Nothing}
+use Rattle.pce_common.specs.plant_model.Branches.{downs}
+use Rattle.pce_common.specs.plant_model.Element.{Element, Item, Stage, Taken, Waits, Ready, is_client, is_ready}
+use Rattle.pce_common.specs.plant_model.Jobs.{IsJoinOf, target_along}
 use Rattle.pce_element.specs.Answering.{Answers, commit_row}
 use Rattle.pce_element.specs.Blind.{AnswersBlindly, AreJoined, HasNoJob, IsSolvedBy, stands_for_nothing}
 use Rattle.pce_element.specs.Items.{branches_at}

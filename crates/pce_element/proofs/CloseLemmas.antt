@@ -2,11 +2,11 @@
 use Rattle.std.proofs.Common.{◌≡◌, ◌∙◌, ◌+◌, ℕ, suc, List, [], ◌∷◌, ◌++◌, Some, take, arith, refl, sym, ap}
 use Rattle.std.specs.Prelude.{slice_get}
 use Rattle.request_table.specs.Pending.{Pending, closed_of}
-use Rattle.member_parts.specs.plant_model.Element.{Item}
+use Rattle.pce_common.specs.plant_model.Element.{Item}
 use Rattle.pce_element.specs.Changes.{all_closed}
 use Rattle.pce_element.specs.Pinned.{Pinned}
 use Rattle.pce_element.specs.Leaving.{SameButSpare}
-use Rattle.member_parts.proofs.HeldPlaces.{taken_at}
+use Rattle.pce_common.proofs.HeldPlaces.{taken_at}
 
 pub all_closed-more : {P : Type 0} → (ns : List ℕ) (n : ℕ) (p : Pending (Item P)) → all_closed (ns ++ n ∷ []) p ≡ closed_of (all_closed ns p) n
 all_closed-more [] n p = refl

@@ -19,15 +19,15 @@ use Rattle.border_costs.specs.declared.job.Ask.{Ask}
 use Rattle.border_costs.specs.declared.job.Down.{Down}
 use Rattle.border_costs.specs.Solutions.{AreRows, Solution}
 use Rattle.border_costs.proofs.Heads.{heads_have_branches}
-use Rattle.member_parts.proofs.plant_model.Meeting.{branch_meets}
-use Rattle.member_parts.specs.plant_model.Branches.{downs, onward, closed_branch, path_of}
-use Rattle.member_parts.specs.plant_model.Element.{Element, Item, Row, Stage, Taken, Waits, Ready, ended, is_client}
-use Rattle.member_parts.specs.plant_model.declared.output.Output.{Output}
-use Rattle.member_parts.specs.plant_model.Plant.{Pin, Segment}
-use Rattle.member_parts.specs.plant_model.RealWire.{wire}
-use Rattle.member_parts.specs.plant_model.Solving.{client_reply, closed_paths, closed_reply, free, issued_all}
-use Rattle.member_parts.specs.plant_model.Taking.{answered}
-use Rattle.member_parts.specs.plant_model.Writing.{busy, reply_message}
+use Rattle.pce_common.proofs.plant_model.Meeting.{branch_meets}
+use Rattle.pce_common.specs.plant_model.Branches.{downs, onward, closed_branch, path_of}
+use Rattle.pce_common.specs.plant_model.Element.{Element, Item, Row, Stage, Taken, Waits, Ready, ended, is_client}
+use Rattle.pce_common.specs.plant_model.declared.output.Output.{Output}
+use Rattle.pce_common.specs.plant_model.Plant.{Pin, Segment}
+use Rattle.pce_common.specs.plant_model.RealWire.{wire}
+use Rattle.pce_common.specs.plant_model.Solving.{client_reply, closed_paths, closed_reply, free, issued_all}
+use Rattle.pce_common.specs.plant_model.Taking.{answered}
+use Rattle.pce_common.specs.plant_model.Writing.{busy, reply_message}
 use Rattle.pce_element.specs.Changes.{all_issued}
 use Rattle.pce_element.specs.Answering.{Answers, AnswersClosed, client_answer, closed_parts, commit_row, paths_by}
 use Rattle.pce_element.specs.Committing.{AnswersFor, IsOwnJob, commit_held, commit_solved, commit_stage, own_part}
@@ -35,7 +35,7 @@ use Rattle.pce_element.specs.Jobs.{Work, job_at, work_at, work_for}
 use Rattle.pce_element.specs.Items.{branches_at}
 use Rattle.pce_element.specs.Seen.{Seen}
 use Rattle.pce_element.specs.declared.answering.Answered.{Answered}
-use Rattle.member_parts.proofs.HeldRows.{first_in, later_in}
+use Rattle.pce_common.proofs.HeldRows.{first_in, later_in}
 
 -- ---- each node beyond has a branch
 

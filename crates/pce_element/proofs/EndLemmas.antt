@@ -5,10 +5,10 @@ use Rattle.std.proofs.lemmas.List.{append-nil}
 use Rattle.dom_base.specs.declared.names.Peer.{Peer}
 use Rattle.pcep_messages.specs.declared.message.Message.{Message}
 use Rattle.request_table.specs.Pending.{number_of}
-use Rattle.member_parts.specs.plant_model.declared.output.Output.{Output}
-use Rattle.member_parts.specs.plant_model.Element.{Element, Row, Taken, each, ended, silent, waiting}
-use Rattle.member_parts.specs.plant_model.Taking.{answered, cancelled, error_answer, take_busy, take_cancel, take_failure, told_busy, told_error}
-use Rattle.member_parts.specs.plant_model.Writing.{busy}
+use Rattle.pce_common.specs.plant_model.declared.output.Output.{Output}
+use Rattle.pce_common.specs.plant_model.Element.{Element, Row, Taken, each, ended, silent, waiting}
+use Rattle.pce_common.specs.plant_model.Taking.{answered, cancelled, error_answer, take_busy, take_cancel, take_failure, told_busy, told_error}
+use Rattle.pce_common.specs.plant_model.Writing.{busy}
 use Rattle.pce_element.specs.Changes.{all_closed, all_ended}
 use Rattle.pce_element.specs.Endings.{after, failing, reached}
 use Rattle.pce_element.specs.declared.telling.Ending.{Ending}

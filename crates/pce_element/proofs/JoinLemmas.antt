@@ -21,11 +21,11 @@ use Rattle.border_costs.specs.declared.job.Down.{Down}
 use Rattle.border_costs.specs.declared.job.Target.{Target}
 use Rattle.border_costs.specs.declared.job.Target.TheVariants.{Node, Next}
 use Rattle.border_costs.proofs.Downs.{down_unique}
-use Rattle.member_parts.specs.plant_model.Branches.{downs}
-use Rattle.member_parts.specs.plant_model.Jobs.{IsJoinOf, JoinsBy}
+use Rattle.pce_common.specs.plant_model.Branches.{downs}
+use Rattle.pce_common.specs.plant_model.Jobs.{IsJoinOf, JoinsBy}
 use Rattle.pce_element.specs.Joining.{EndsElsewhere, IsJoinOfRow, JoinsNothing, JoinsOver, JoinsRow, TakesIn, head_over}
-use Rattle.member_parts.proofs.HeldPlaces.{split_at, taken_at}
-use Rattle.member_parts.proofs.HeldRows.{first_in, in_cases, later_in, none_in}
+use Rattle.pce_common.proofs.HeldPlaces.{split_at, taken_at}
+use Rattle.pce_common.proofs.HeldRows.{first_in, in_cases, later_in, none_in}
 
 -- ---- pairs of a list
 

@@ -2,7 +2,7 @@
 use Rattle.std.proofs.Common.{None, Some, ◌≡◌, ◌≤◌, ◌+◌, ℕ, List, [], ◌∷◌, ◌++◌, length, arith, refl, sym, ◌∙◌, ap, subst}
 use Rattle.path_keys.specs.Keys.{Keys, AreKeys, live_at, issue_of}
 use Rattle.path_keys.proofs.RunLemmas.{adds_one}
-use Rattle.member_parts.specs.plant_model.Element.{Element}
+use Rattle.pce_common.specs.plant_model.Element.{Element}
 use Rattle.pce_element.specs.Changes.{MayIssue, all_issued, changed, solved_in}
 use Rattle.pce_element.specs.declared.change.Change.{Change}
 use Rattle.pce_element.specs.declared.change.Change.TheVariants.{Nothing, Opens, Readies, Ends, Solves}

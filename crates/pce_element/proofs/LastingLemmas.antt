@@ -9,9 +9,9 @@ use Rattle.request_table.specs.declared.held.Held.{Held}
 use Rattle.request_table.specs.Pending.{Pending, ArePending, NumbersRise, item_of, opened_of, closed_of, key_of}
 use Rattle.request_table.specs.Lends.{with_item}
 use Rattle.request_table.proofs.PendingLemmas.{NumbersRise-last, NumbersRise-remove}
-use Rattle.member_parts.specs.plant_model.Element as element
-use Rattle.member_parts.specs.plant_model.Element.{Item, Place, Row, Stage, is_ready, at_stage, down_of, kept, stays}
-use Rattle.member_parts.specs.plant_model.Plant.{Pin, Segment}
+use Rattle.pce_common.specs.plant_model.Element as element
+use Rattle.pce_common.specs.plant_model.Element.{Item, Place, Row, Stage, is_ready, at_stage, down_of, kept, stays}
+use Rattle.pce_common.specs.plant_model.Plant.{Pin, Segment}
 use Rattle.pce_element.specs.declared.change.Change.{Change}
 use Rattle.pce_element.specs.declared.change.Change.TheVariants.{Nothing, Opens, Readies, Ends, Solves}
 use Rattle.pce_element.specs.Changes.{Fits, all_closed, changed, readied, readied_item}

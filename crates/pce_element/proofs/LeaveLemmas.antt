@@ -6,14 +6,14 @@ use Rattle.std.proofs.lemmas.List.Elements.{filter-append}
 use Rattle.std.proofs.Common.{append_assoc}
 use Rattle.dom_base.specs.declared.names.Peer.{Peer}
 use Rattle.request_table.specs.Pending.{ArePending, same_peer, closed_of}
-use Rattle.member_parts.specs.plant_model.declared.output.Lost.{Lost}
-use Rattle.member_parts.specs.plant_model.Element.{Element, Row, handed_lost, stays, is_lost, lost_of, waits_on}
+use Rattle.pce_common.specs.plant_model.declared.output.Lost.{Lost}
+use Rattle.pce_common.specs.plant_model.Element.{Element, Row, handed_lost, stays, is_lost, lost_of, waits_on}
 use Rattle.pce_element.specs.declared.pinned.Leaves.{Leaves}
 use Rattle.pce_element.specs.declared.pinned.Leaves.TheVariants.{Stays, Drops, Loses}
 use Rattle.pce_element.specs.Pinned.{Pinned}
 use Rattle.pce_element.specs.Leaving.{leaves_of, with_rows, SameButSpare, LeavesAt}
-use Rattle.member_parts.proofs.HeldPlaces.{split_at, taken_at, removed_at, kept_step, kept_length}
-use Rattle.member_parts.proofs.Scans.{there_is}
+use Rattle.pce_common.proofs.HeldPlaces.{split_at, taken_at, removed_at, kept_step, kept_length}
+use Rattle.pce_common.proofs.Scans.{there_is}
 
 abbrev left : {P : Type 0} → Peer → ℕ → List (Row P) → Row P → List (Row P)
 left p k rows h = take k rows ++ cond (stays p h) (h ∷ []) [] ++ drop (suc k) rows

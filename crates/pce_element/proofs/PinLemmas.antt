@@ -14,13 +14,13 @@ use Rattle.request_table.specs.declared.held.Held.{Held}
 use Rattle.dom_base.specs.declared.names.Peer.{Peer}
 use Rattle.request_table.specs.Pending.{Pending, is_full, key_of, opened_of}
 use Rattle.request_table.specs.Lends.{with_item}
-use Rattle.member_parts.specs.plant_model.Element.{Item, Row}
-use Rattle.member_parts.specs.plant_model.Plant.{Pin}
-use Rattle.member_parts.specs.plant_model.Meeting.{Shelves}
+use Rattle.pce_common.specs.plant_model.Element.{Item, Row}
+use Rattle.pce_common.specs.plant_model.Plant.{Pin}
+use Rattle.pce_common.specs.plant_model.Meeting.{Shelves}
 use Rattle.pce_element.specs.Pinned.{pins_in}
 use Rattle.pce_element.specs.Topologies.{KeepsPins, current_of}
 use Rattle.pce_element.specs.Worlds.{IsKept, KeepsOneLess, KeepsOneMore}
-use Rattle.member_parts.proofs.HeldRows.{counted, counted_more, counted_some, first_in, later_in, none_in, in_cases, none_removed}
+use Rattle.pce_common.proofs.HeldRows.{counted, counted_more, counted_some, first_in, later_in, none_in, in_cases, none_removed}
 
 -- ---- what requests pin
 

@@ -6,11 +6,11 @@ use Rattle.request_table.specs.declared.held.Held.{Held}
 use Rattle.request_table.specs.Pending.{Pending, NumbersRise, item_of}
 use Rattle.request_table.specs.Lends.{written_of}
 use Rattle.vspt_tree.specs.declared.branch.Branch.{Branch}
-use Rattle.member_parts.specs.plant_model.Element.{Element, Item, Row, Stage, Waits, Ready, at_stage, is_ready, waits_for}
-use Rattle.member_parts.specs.plant_model.Taking.{staged}
+use Rattle.pce_common.specs.plant_model.Element.{Element, Item, Row, Stage, Waits, Ready, at_stage, is_ready, waits_for}
+use Rattle.pce_common.specs.plant_model.Taking.{staged}
 use Rattle.pce_element.specs.Pinned.{pins_in}
 use Rattle.pce_element.specs.Changes.{readied, readied_item}
-use Rattle.member_parts.proofs.HeldRows.{in_found, length-written}
+use Rattle.pce_common.proofs.HeldRows.{in_found, length-written}
 use Rattle.pce_element.proofs.PinLemmas.{pins_written}
 
 pub readied_is : {P : Type 0} → (number : ℕ) (branches : List Branch) (pending : Pending (Item P)) (item : Item P) → item_of pending number ≡ Some item → readied number branches pending ≡ written_of pending number (at_stage (Ready branches) item)

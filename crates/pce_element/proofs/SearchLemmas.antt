@@ -8,10 +8,10 @@ use Rattle.request_table.specs.declared.held.RequestKey.{RequestKey}
 use Rattle.request_table.specs.Pending.{Pending, NumbersRise, AreNamedOnce, ArePending, same_key, key_of, number_among, number_of, closed_of}
 use Rattle.request_table.proofs.KeyLemmas.{same_key_is}
 use Rattle.request_table.proofs.PendingLemmas.{NumbersRise-remove}
-use Rattle.member_parts.specs.plant_model.Element.{Item, Row, after_id, is_waiting, pass_over, waiting, waits_for}
-use Rattle.member_parts.specs.plant_model.Plant.{has_number}
+use Rattle.pce_common.specs.plant_model.Element.{Item, Row, after_id, is_waiting, pass_over, waiting, waits_for}
+use Rattle.pce_common.specs.plant_model.Plant.{has_number}
 use Rattle.pce_element.specs.Changes.{all_closed}
-use Rattle.member_parts.proofs.Scans.{dropped_next, there_is}
+use Rattle.pce_common.proofs.Scans.{dropped_next, there_is}
 
 -- those that have not ended
 abbrev pub left_of : {P : Type 0} → List ℕ → List (Row P) → List (Row P)

@@ -10,11 +10,11 @@ use Rattle.path_keys.specs.Keys.{number_after}
 use Rattle.disclosure.specs.Shown.{closed_of}
 use Rattle.vspt_tree.specs.declared.branch.Best.{Best}
 use Rattle.vspt_tree.specs.declared.branch.Branch.{Branch}
-use Rattle.member_parts.specs.plant_model.Branches.{end_of, onward, open_branch, path_of}
-use Rattle.member_parts.specs.plant_model.Element.{Row, Taken, ended}
-use Rattle.member_parts.specs.plant_model.RealWire.{wire}
-use Rattle.member_parts.specs.plant_model.Solving.{closed_reply, commit}
-use Rattle.member_parts.specs.plant_model.Writing.{no_path}
+use Rattle.pce_common.specs.plant_model.Branches.{end_of, onward, open_branch, path_of}
+use Rattle.pce_common.specs.plant_model.Element.{Row, Taken, ended}
+use Rattle.pce_common.specs.plant_model.RealWire.{wire}
+use Rattle.pce_common.specs.plant_model.Solving.{closed_reply, commit}
+use Rattle.pce_common.specs.plant_model.Writing.{no_path}
 use Rattle.pce_element.specs.Changes.{all_issued}
 use Rattle.pce_element.specs.Seen.{Seen}
 use Rattle.pce_element.specs.declared.answering.Answered.{Answered}

@@ -7,9 +7,9 @@ use Rattle.request_table.specs.Pending.{item_of}
 use Rattle.vspt_tree.specs.declared.branch.Best.{Best}
 use Rattle.vspt_tree.specs.declared.branch.Branch.{Branch}
 use Rattle.plant_text.specs.declared.settings.NetworkParts.{NetworkParts}
-use Rattle.member_parts.specs.plant_model.Blind.{Joined, Nothing}
-use Rattle.member_parts.specs.plant_model.Element.{Item, Ready, Taken, is_ready}
-use Rattle.member_parts.specs.plant_model.RealWire.{wire}
+use Rattle.pce_common.specs.plant_model.Blind.{Joined, Nothing}
+use Rattle.pce_common.specs.plant_model.Element.{Item, Ready, Taken, is_ready}
+use Rattle.pce_common.specs.plant_model.RealWire.{wire}
 use Rattle.pce_element.specs.Answering.{AreOf, commit_row}
 use Rattle.pce_element.specs.declared.answering.Answered.{Answered}
 use Rattle.pce_element.specs.Seen.{Seen}

@@ -5,8 +5,8 @@ use Rattle.request_table.specs.Pending.{Pending, number_of, item_of, is_full, op
 use Rattle.request_table.specs.Lends.{written_of}
 use Rattle.path_keys.specs.Keys.{Keys, live_most, live_at, issue_of}
 use Rattle.vspt_tree.specs.declared.branch.Branch.{Branch}
-use Rattle.member_parts.specs.plant_model.Element as element
-use Rattle.member_parts.specs.plant_model.Element.{Element, Item, Way, Taken, at_stage, ended, is_ready, with_last}
+use Rattle.pce_common.specs.plant_model.Element as element
+use Rattle.pce_common.specs.plant_model.Element.{Element, Item, Way, Taken, at_stage, ended, is_ready, with_last}
 use Rattle.pce_element.specs.declared.accepted.Stage.{Stage}
 use Rattle.pce_element.specs.declared.accepted.Stage.TheVariants.{Waits, Ready}
 use Rattle.pce_element.specs.declared.change.Change.{Change}

@@ -5,8 +5,8 @@ use Rattle.request_table.specs.declared.held.Held.{Held}
 use Rattle.vspt_tree.specs.declared.branch.Best.{Best}
 use Rattle.vspt_tree.specs.declared.branch.Branch.{Branch}
 use Rattle.border_costs.specs.Solutions.{Solution}
-use Rattle.member_parts.specs.plant_model.Element.{Item, Row, Stage, Taken, Waits, Ready}
-use Rattle.member_parts.specs.plant_model.Plant.{Pin, Segment}
+use Rattle.pce_common.specs.plant_model.Element.{Item, Row, Stage, Taken, Waits, Ready}
+use Rattle.pce_common.specs.plant_model.Plant.{Pin, Segment}
 use Rattle.pce_element.specs.Answering.{AreOf, commit_row}
 use Rattle.pce_element.specs.Jobs.{job_at}
 use Rattle.pce_element.specs.Seen.{Seen}

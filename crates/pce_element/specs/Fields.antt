@@ -5,8 +5,8 @@ use Rattle.std.specs.VecDeque.{deque_capacity, deque_len}
 use Rattle.std.specs.declared.collections.VecDeque.{VecDeque}
 use Rattle.dom_base.specs.Room.{Room}
 use Rattle.path_keys.specs.Keys.{Keys}
-use Rattle.member_parts.specs.plant_model.declared.output.Lost.{Lost}
-use Rattle.member_parts.specs.plant_model.Element.{Element, Place, Way}
+use Rattle.pce_common.specs.plant_model.declared.output.Lost.{Lost}
+use Rattle.pce_common.specs.plant_model.Element.{Element, Place, Way}
 use Rattle.pce_element.specs.Pinned.{Pinned}
 use Rattle.pce_element.specs.Seen.{Seen, Spare}
 

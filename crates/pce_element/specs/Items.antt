@@ -1,8 +1,8 @@
 -- Accepted requests: how one begins, and how far it is.
 use Rattle.std.specs.Prelude.{List, Option, Some, None}
 use Rattle.vspt_tree.specs.declared.branch.Branch.{Branch}
-use Rattle.member_parts.specs.plant_model.Element as element
-use Rattle.member_parts.specs.plant_model.Element.{Item}
+use Rattle.pce_common.specs.plant_model.Element as element
+use Rattle.pce_common.specs.plant_model.Element.{Item}
 use Rattle.pce_element.specs.declared.accepted.Stage.{Stage}
 use Rattle.pce_element.specs.declared.accepted.Stage.TheVariants.{Waits, Ready}
 use Rattle.pce_element.specs.declared.accepted.Opening.{Opening}

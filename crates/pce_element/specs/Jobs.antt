@@ -9,9 +9,9 @@ use Rattle.request_table.specs.Pending.{item_of}
 use Rattle.border_costs.specs.declared.job.Ask.{Ask}
 use Rattle.border_costs.specs.declared.job.Job.{Job}
 use Rattle.plant_text.specs.Names.{same_as}
-use Rattle.member_parts.specs.plant_model.Element.{Item, Stage, Waits, Ready}
-use Rattle.member_parts.specs.plant_model.Jobs.{ask_of}
-use Rattle.member_parts.specs.plant_model.Plant.{Pin, Segment}
+use Rattle.pce_common.specs.plant_model.Element.{Item, Stage, Waits, Ready}
+use Rattle.pce_common.specs.plant_model.Jobs.{ask_of}
+use Rattle.pce_common.specs.plant_model.Plant.{Pin, Segment}
 use Rattle.pce_element.specs.Seen.{Seen}
 
 -- what is asked, and the topology that it is computed in

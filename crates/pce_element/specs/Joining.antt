@@ -6,7 +6,7 @@ use Rattle.vspt_tree.specs.declared.branch.Best.{Best}
 use Rattle.border_costs.specs.declared.job.Target.{Target}
 use Rattle.border_costs.specs.declared.job.Target.TheVariants.{Node, Next}
 use Rattle.border_costs.specs.declared.job.Down.{Down}
-use Rattle.member_parts.specs.plant_model.Jobs.{JoinsBy}
+use Rattle.pce_common.specs.plant_model.Jobs.{JoinsBy}
 
 -- a row by itself joins to nothing
 abbrev pub JoinsNothing : ℕ → Target → List Down → BorderRow → Type 0

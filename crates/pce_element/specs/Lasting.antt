@@ -1,8 +1,8 @@
 -- A request that can be solved stays as it is until it ends, and keeps its job. Its number is never given again.
 use Rattle.std.specs.Prelude.{◌≡◌, ◌⊎◌, ◌≤◌, ℕ, true, Option, Some, None}
 use Rattle.request_table.specs.Pending.{Pending, ArePending, item_of}
-use Rattle.member_parts.specs.plant_model.Element.{Item, is_ready}
-use Rattle.member_parts.specs.plant_model.Plant.{Pin, Segment}
+use Rattle.pce_common.specs.plant_model.Element.{Item, is_ready}
+use Rattle.pce_common.specs.plant_model.Plant.{Pin, Segment}
 use Rattle.pce_element.specs.Jobs.{Work, job_at}
 use Rattle.pce_element.specs.Seen.{Seen}
 

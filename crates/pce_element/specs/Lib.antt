@@ -18,4 +18,4 @@ pub mod Answering
 pub mod Committing
 pub mod Joining
 -- handed on from below
-pub use Rattle.member_parts.specs as member_parts
+pub use Rattle.pce_common.specs as pce_common

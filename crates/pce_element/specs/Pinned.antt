@@ -1,7 +1,7 @@
 -- Pending requests, each with what it pins.
 use Rattle.std.specs.Prelude.{◌≡◌, ℕ, List, map}
 use Rattle.request_table.specs.Pending.{Pending}
-use Rattle.member_parts.specs.plant_model.Element.{Item, Row}
+use Rattle.pce_common.specs.plant_model.Element.{Item, Row}
 
 -- the current pin, the requests, and how many more there is memory for
 pub record Pinned (P : Type 0) : Type 0 where

@@ -1,7 +1,7 @@
 -- A planned change as its holders see it.
 use Rattle.std.specs.Prelude.{List, Option}
-use Rattle.member_parts.specs.plant_model.declared.output.Output.{Output}
-use Rattle.member_parts.specs.plant_model.Element.{Taken}
+use Rattle.pce_common.specs.plant_model.declared.output.Output.{Output}
+use Rattle.pce_common.specs.plant_model.Element.{Taken}
 use Rattle.pce_element.specs.declared.change.Change.{Change}
 use Rattle.pce_element.specs.Changes.{Fits, HasRoom, changed, solved_in}
 use Rattle.pce_element.specs.Seen.{Seen}

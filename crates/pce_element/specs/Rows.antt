@@ -1,9 +1,9 @@
 -- A pending request that is looked at.
 use Rattle.std.specs.Prelude.{ℕ}
 use Rattle.te_links.specs.Rows.{Rows}
-use Rattle.member_parts.specs.plant_model.Element as element
-use Rattle.member_parts.specs.plant_model.Element.{Item}
-use Rattle.member_parts.specs.plant_model.Plant.{Pin}
+use Rattle.pce_common.specs.plant_model.Element as element
+use Rattle.pce_common.specs.plant_model.Element.{Item}
+use Rattle.pce_common.specs.plant_model.Plant.{Pin}
 use Rattle.pce_element.specs.declared.pinned.Row.{Row}
 
 abbrev pub row_of : {P : Type 0} → Row P → element.Row P

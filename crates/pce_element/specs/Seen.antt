@@ -1,10 +1,10 @@
 -- An element as its callers see it.
 use Rattle.std.specs.Prelude.{◌≡◌, ℕ, List, [], ◌++◌, map}
 use Rattle.dom_base.specs.declared.names.As.{As}
-use Rattle.member_parts.specs.plant_model.declared.route.Route.{Route}
-use Rattle.member_parts.specs.plant_model.Element.{Element, Place, Losing}
-use Rattle.member_parts.specs.plant_model.Settings.{outer_way}
-use Rattle.member_parts.specs.Ways.{way_of}
+use Rattle.pce_common.specs.plant_model.declared.route.Route.{Route}
+use Rattle.pce_common.specs.plant_model.Element.{Element, Place, Losing}
+use Rattle.pce_common.specs.plant_model.Settings.{outer_way}
+use Rattle.pce_common.specs.Ways.{way_of}
 
 -- how many more requests and keys there is memory for
 pub record Spare : Type 0 where

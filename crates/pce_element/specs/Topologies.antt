@@ -2,7 +2,7 @@
 use Rattle.std.specs.Prelude.{◌≡◌, ◌==◌, ℕ, List, length, count_by, Contains, Some}
 use Rattle.te_links.specs.Rows.{Rows}
 use Rattle.te_generations.specs.Shelf.{Shelf, all_pins, pins_of, topology_of}
-use Rattle.member_parts.specs.plant_model.Plant.{Pin}
+use Rattle.pce_common.specs.plant_model.Plant.{Pin}
 
 abbrev pub current_of : Shelf Rows → Pin
 current_of s = record { number = s.current.number; topology = s.current.topology }

@@ -1,13 +1,13 @@
 //! A request that was accepted.
 ghost use Rattle.std.specs.Prelude.{◌≡◌, None, Some};
 ghost use Rattle.std.specs.Option.{option_copied};
-ghost use Rattle.member_parts.specs.plant_model.Element.{Ready, at_stage, is_ready, waits_for, waits_on};
+ghost use Rattle.pce_common.specs.plant_model.Element.{Ready, at_stage, is_ready, waits_for, waits_on};
 ghost use Rattle.request_table.specs.Pending.{same_peer};
 ghost use Rattle.pce_element.specs.Items.{branches_at, new_item};
 
 use disclosure::Class;
 use dom_base::{As, List, Peer};
-use member_parts::is_same_peer;
+use pce_common::is_same_peer;
 use pcep_messages::Wanted;
 use std::marker::Model;
 use vspt_tree::Branch;
@@ -38,7 +38,7 @@ pub(crate) struct Accepted<P> {
 }
 
 impl<P> Model for Accepted<P> {
-    ghost use Rattle.member_parts.specs.plant_model.Element.{Item};
+    ghost use Rattle.pce_common.specs.plant_model.Element.{Item};
 
     ghost Value = { Item P };
 

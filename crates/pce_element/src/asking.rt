@@ -1,10 +1,10 @@
 //! What an element does with a request.
 ghost use Rattle.std.specs.Prelude.{◌≡◌, ◌≤◌, cond, drop, false, length, true, IfOk, IsOk, None};
 ghost use Rattle.request_table.specs.Pending.{is_full, number_of};
-ghost use Rattle.member_parts.specs.plant_model.Element.{only, way_to};
-ghost use Rattle.member_parts.specs.plant_model.RealWire.{wire};
-ghost use Rattle.member_parts.specs.plant_model.Writing.{busy};
-ghost use Rattle.member_parts.specs.plant_model.Taking.{denied, expansion, goes_up, send_on, sent_on, sequence_or, take_along, take_asked, take_new, take_path, take_wish};
+ghost use Rattle.pce_common.specs.plant_model.Element.{only, way_to};
+ghost use Rattle.pce_common.specs.plant_model.RealWire.{wire};
+ghost use Rattle.pce_common.specs.plant_model.Writing.{busy};
+ghost use Rattle.pce_common.specs.plant_model.Taking.{denied, expansion, goes_up, send_on, sent_on, sequence_or, take_along, take_asked, take_new, take_path, take_wish};
 ghost use Rattle.pce_element.specs.Changes.{IsDraft};
 
 use crate::accepted::{Opening, Stage};
@@ -14,8 +14,8 @@ use crate::looks::is_same_addr;
 use crate::world::World;
 use disclosure::{Class, may_expand};
 use dom_base::{Addr, As, List, NoMemory, Peer, Tick};
-use member_parts::model::Output;
-use member_parts::{
+use pce_common::model::Output;
+use pce_common::{
     Way, busy, error_message, no_key, one, reply_message, request_message, unavailable,
 };
 use pcep_messages::{Answer, Asked, Path, Refusal, Request, Wanted, Wish, request_of};

@@ -13,7 +13,7 @@ use vspt_tree::Best;
 pub struct Blind;
 
 impl World for Blind {
-    ghost use Rattle.member_parts.specs.plant_model.Blind.{show_nothing};
+    ghost use Rattle.pce_common.specs.plant_model.Blind.{show_nothing};
     ghost use Rattle.pce_element.specs.Blind.{stands_for_nothing};
 
     type Pin = ();

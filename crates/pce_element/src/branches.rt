@@ -1,10 +1,10 @@
 //! The branches of a reply (RFC 5441, section 5).
 ghost use Rattle.std.specs.Prelude.{◌≡◌, IfOk};
-ghost use Rattle.member_parts.specs.plant_model.Branches.{branches_in};
-ghost use Rattle.member_parts.specs.plant_model.RealWire.{wire};
+ghost use Rattle.pce_common.specs.plant_model.Branches.{branches_in};
+ghost use Rattle.pce_common.specs.plant_model.RealWire.{wire};
 
 use dom_base::{List, Metric, NoMemory};
-use member_parts::branch_of;
+use pce_common::branch_of;
 use pcep_messages::Path;
 use std::alloc::Global;
 use std::collections::VecDeque;

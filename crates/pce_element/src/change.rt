@@ -2,7 +2,7 @@
 use crate::accepted::Opening;
 use crate::world::World;
 use dom_base::{List, Peer, Tick};
-use member_parts::model::Outputs;
+use pce_common::model::Outputs;
 use vspt_tree::Branch;
 
 /// What is to change, with what was solved and what keys are to stand for.

@@ -1,7 +1,7 @@
 //! The parts of which drafts of changes are made.
 ghost use Rattle.std.specs.Prelude.{◌≡◌, false, Contains, IfOk};
-ghost use Rattle.member_parts.specs.plant_model.Element.{Ready, is_ready, only, silent};
-ghost use Rattle.member_parts.specs.plant_model.Taking.{answered, staged};
+ghost use Rattle.pce_common.specs.plant_model.Element.{Ready, is_ready, only, silent};
+ghost use Rattle.pce_common.specs.plant_model.Taking.{answered, staged};
 ghost use Rattle.pce_element.specs.Changes.{IsDraft};
 ghost use Rattle.pce_element.specs.Rows.{row_of};
 
@@ -10,8 +10,8 @@ use crate::element::Element;
 use crate::pinned::Row;
 use crate::world::World;
 use dom_base::{List, NoMemory, Peer};
-use member_parts::model::Output;
-use member_parts::one;
+use pce_common::model::Output;
+use pce_common::one;
 use pcep_messages::Message;
 use vspt_tree::Branch;
 

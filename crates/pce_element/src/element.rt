@@ -1,6 +1,6 @@
 //! One path computation element.
 ghost use Rattle.std.specs.Prelude.{◌≡◌, ◌≤◌, slice_get, IfOk};
-ghost use Rattle.member_parts.specs.plant_model.Element.{upped, down_of, next_lost_of, ticked, ready_numbers};
+ghost use Rattle.pce_common.specs.plant_model.Element.{upped, down_of, next_lost_of, ticked, ready_numbers};
 ghost use Rattle.pce_element.specs.Lasting.{ReadyLast};
 ghost use Rattle.pce_element.specs.Seen.{SameButRoom, IsNew, with_element, with_losing};
 
@@ -9,8 +9,8 @@ use crate::pinned::PinnedRequests;
 use crate::world::World;
 use disclosure::Deny;
 use dom_base::{Addr, As, List, NoMemory, Peer, Tick};
-use member_parts::Ways;
-use member_parts::model::{Lost, Route};
+use pce_common::Ways;
+use pce_common::model::{Lost, Route};
 use path_keys::PathKeys;
 use std::alloc::Global;
 use std::collections::VecDeque;

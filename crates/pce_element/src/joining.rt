@@ -2,9 +2,9 @@
 ghost use Rattle.std.specs.Prelude.{◌≡◌, ◌+◌, ◌≤◌, ◌<◌, ◌↔◌, cond, nat_lt, IsTrue, IfOk, OnOk, SomeIff, MatchOption};
 ghost use Rattle.walk_laws.specs.Borders.{IsDown};
 ghost use Rattle.border_costs.specs.Asks.{HasNoDown, beyond};
-ghost use Rattle.member_parts.specs.plant_model.Blind.{AreGivenRows};
-ghost use Rattle.member_parts.specs.plant_model.Branches.{downs};
-ghost use Rattle.member_parts.specs.plant_model.Jobs.{IsJoinOf};
+ghost use Rattle.pce_common.specs.plant_model.Blind.{AreGivenRows};
+ghost use Rattle.pce_common.specs.plant_model.Branches.{downs};
+ghost use Rattle.pce_common.specs.plant_model.Jobs.{IsJoinOf};
 ghost use Rattle.pce_element.specs.Joining.{IsJoinOfRow, JoinsNothing, JoinsOver, JoinsRow, TakesIn, head_over};
 
 use border_costs::Target;

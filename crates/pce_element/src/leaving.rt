@@ -1,13 +1,13 @@
 //! What becomes of the requests when a session goes down.
 ghost use Rattle.std.specs.Prelude.{◌≡◌, ◌≤◌, ◌+◌, ◌++◌, length};
 ghost use Rattle.std.specs.VecDeque.{deque_capacity, deque_len};
-ghost use Rattle.member_parts.specs.plant_model.Element.{kept, lost};
+ghost use Rattle.pce_common.specs.plant_model.Element.{kept, lost};
 ghost use Rattle.pce_element.specs.Leaving.{SameButSpare, with_rows};
 
 use crate::pinned::{Leaves, PinnedRequests};
 use crate::world::World;
 use dom_base::Peer;
-use member_parts::model::Lost;
+use pce_common::model::Lost;
 use std::collections::VecDeque;
 
 /// The requests of a peer are dropped, and those that wait on it are lost; takes no memory.

@@ -4,17 +4,17 @@ ghost use Rattle.std.specs.Option.{option_copied};
 ghost use Rattle.request_table.specs.Pending.{same_peer};
 ghost use Rattle.path_keys.specs.Keys.{live_at, live_most, segment_of};
 ghost use Rattle.disclosure.specs.Policy.{is_denied};
-ghost use Rattle.member_parts.specs.plant_model.Element.{sent_through, way_to};
-ghost use Rattle.member_parts.specs.plant_model.Names.{same_addr};
-ghost use Rattle.member_parts.specs.plant_model.Routes.{toward};
+ghost use Rattle.pce_common.specs.plant_model.Element.{sent_through, way_to};
+ghost use Rattle.pce_common.specs.plant_model.Names.{same_addr};
+ghost use Rattle.pce_common.specs.plant_model.Routes.{toward};
 
 use crate::element::Element;
 use crate::pinned::PinnedRequests;
 use crate::world::World;
 use disclosure::{Class, allows};
 use dom_base::{Addr, As, Peer, Tick};
-use member_parts::Way;
-use member_parts::model::Route;
+use pce_common::Way;
+use pce_common::model::Route;
 
 /// Whether two addresses are one.
 pub(crate) fn is_same_addr(one: Addr, other: Addr) -> bool

@@ -3,7 +3,7 @@ ghost use Rattle.std.specs.Prelude.{◌≡◌, ◌≤◌, ◌+◌, ◌-◌, leng
 ghost use Rattle.std.specs.Prelude.{false, None, IfOk};
 ghost use Rattle.path_keys.specs.Keys.{live_at, live_most};
 ghost use Rattle.request_table.specs.Pending.{is_full, number_of};
-ghost use Rattle.member_parts.specs.plant_model.Element.{ended};
+ghost use Rattle.pce_common.specs.plant_model.Element.{ended};
 ghost use Rattle.pce_element.specs.Changes.{HasRoom, Fits, MayIssue, MayOpen, all_ended, all_issued, changed, readied, solved_in, ways_after};
 ghost use Rattle.pce_element.specs.Items.{new_item};
 ghost use Rattle.pce_element.specs.Lasting.{ReadyLast};
@@ -16,7 +16,7 @@ use crate::element::Element;
 use crate::plan::Plan;
 use crate::world::World;
 use dom_base::{List, NoMemory, Peer, Tick};
-use member_parts::Ways;
+use pce_common::Ways;
 use path_keys::PathKeys;
 use std::collections::VecDeque;
 

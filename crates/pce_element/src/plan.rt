@@ -5,7 +5,7 @@ ghost use Rattle.pce_element.specs.Changes.{Fits, HasRoom, changed, solved_in};
 use crate::change::{Change, DraftIn};
 use crate::element::Element;
 use crate::world::World;
-use member_parts::model::Outputs;
+use pce_common::model::Outputs;
 use std::marker::Model;
 use std::snapshot::Snapshot;
 

@@ -1,8 +1,8 @@
 //! What an element does with a reply.
 ghost use Rattle.std.specs.Prelude.{◌≡◌, false, Contains, IfOk};
-ghost use Rattle.member_parts.specs.plant_model.Element.{is_ready};
-ghost use Rattle.member_parts.specs.plant_model.RealWire.{wire};
-ghost use Rattle.member_parts.specs.plant_model.Taking.{made_ready, take_answer, take_reply};
+ghost use Rattle.pce_common.specs.plant_model.Element.{is_ready};
+ghost use Rattle.pce_common.specs.plant_model.RealWire.{wire};
+ghost use Rattle.pce_common.specs.plant_model.Taking.{made_ready, take_answer, take_reply};
 ghost use Rattle.std.specs.Prelude.{Some};
 ghost use Rattle.pce_element.specs.Changes.{IsDraft};
 ghost use Rattle.pce_element.specs.Rows.{row_of};
@@ -13,7 +13,7 @@ use crate::element::Element;
 use crate::pinned::Row;
 use crate::world::World;
 use dom_base::{As, List, NoMemory, Peer};
-use member_parts::{error_message, is_same_peer, reply_message, unavailable};
+use pce_common::{error_message, is_same_peer, reply_message, unavailable};
 use pcep_codes::errors;
 use pcep_messages::{Answer, Reply};
 

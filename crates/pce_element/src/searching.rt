@@ -2,14 +2,14 @@
 ghost use Rattle.std.specs.Prelude.{◌≡◌, false, Contains, None, Some, MatchOption, nat_eq};
 ghost use Rattle.std.specs.Map.{lookup};
 ghost use Rattle.request_table.specs.Pending.{number_of};
-ghost use Rattle.member_parts.specs.plant_model.Element.{fresh_id, is_ready, is_waiting, waiting};
+ghost use Rattle.pce_common.specs.plant_model.Element.{fresh_id, is_ready, is_waiting, waiting};
 ghost use Rattle.pce_element.specs.Changes.{all_closed};
 ghost use Rattle.pce_element.specs.Rows.{row_of};
 
 use crate::pinned::{PinnedRequests, Row};
 use crate::world::World;
 use dom_base::Peer;
-use member_parts::{after_id, has_number};
+use pce_common::{after_id, has_number};
 
 impl<W: World> PinnedRequests<W> {
     /// The request that waits for the answer to an id of a peer, where those of some numbers have

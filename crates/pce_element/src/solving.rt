@@ -2,8 +2,8 @@
 ghost use Rattle.std.specs.Prelude.{◌≡◌, ◌≤◌, ◌+◌, All, length, IfOk, IfSome, MatchOption};
 ghost use Rattle.path_keys.specs.Keys.{live_at, live_most};
 ghost use Rattle.vspt_tree.specs.Branches.{HasBranchAt};
-ghost use Rattle.member_parts.specs.plant_model.Blind.{AreGivenRows};
-ghost use Rattle.member_parts.specs.plant_model.Element.{is_client};
+ghost use Rattle.pce_common.specs.plant_model.Blind.{AreGivenRows};
+ghost use Rattle.pce_common.specs.plant_model.Element.{is_client};
 ghost use Rattle.pce_element.specs.Blind.{AnswersBlindly, AreJoined, HasNoJob, IsSolvedBy};
 ghost use Rattle.pce_element.specs.Seen.{SameButRoom};
 

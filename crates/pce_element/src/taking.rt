@@ -1,10 +1,10 @@
 //! What an element does with a message.
 ghost use Rattle.std.specs.Prelude.{◌≡◌, ◌≤◌, length, IfOk, None};
-ghost use Rattle.member_parts.specs.plant_model.Element.{each};
-ghost use Rattle.member_parts.specs.plant_model.RealWire.{wire};
-ghost use Rattle.member_parts.specs.plant_model.Taking.{take, take_asked, take_reply};
+ghost use Rattle.pce_common.specs.plant_model.Element.{each};
+ghost use Rattle.pce_common.specs.plant_model.RealWire.{wire};
+ghost use Rattle.pce_common.specs.plant_model.Taking.{take, take_asked, take_reply};
 ghost use Rattle.pce_element.specs.Changes.{IsDraft};
-ghost use Rattle.member_parts.specs.Messages.{HasOnePart};
+ghost use Rattle.pce_common.specs.Messages.{HasOnePart};
 ghost use Rattle.pce_element.specs.Seen.{SameButRoom};
 
 use crate::change::DraftIn;

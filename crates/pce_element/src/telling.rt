@@ -1,7 +1,7 @@
 //! What an element does with notices and errors, which end requests one after the other.
 ghost use Rattle.std.specs.Prelude.{◌≡◌, ◌++◌, ◌∷◌, [], IfOk, OnOk};
-ghost use Rattle.member_parts.specs.plant_model.Element.{each, waiting};
-ghost use Rattle.member_parts.specs.plant_model.Taking.{notice_steps, take_busy, take_cancel, take_errors, take_failure, take_notice, take_report};
+ghost use Rattle.pce_common.specs.plant_model.Element.{each, waiting};
+ghost use Rattle.pce_common.specs.plant_model.Taking.{notice_steps, take_busy, take_cancel, take_errors, take_failure, take_notice, take_report};
 ghost use Rattle.pce_element.specs.Changes.{IsDraft};
 ghost use Rattle.pce_element.specs.Endings.{after, reached, failing};
 
@@ -10,8 +10,8 @@ use crate::element::Element;
 use crate::pinned::Row;
 use crate::world::World;
 use dom_base::{List, NoMemory, Peer};
-use member_parts::model::{Output, Outputs};
-use member_parts::{busy, error_answer, has_pair};
+use pce_common::model::{Output, Outputs};
+use pce_common::{busy, error_answer, has_pair};
 use pcep_codes::notices;
 use pcep_messages::{ErrorReport, Message, Notice};
 use std::alloc::Global;

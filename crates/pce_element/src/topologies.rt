@@ -4,7 +4,7 @@ ghost use Rattle.std.specs.Option.{option_map};
 ghost use Rattle.std.specs.Arc.{arc_value};
 ghost use Rattle.disclosure.specs.Shown.{open_of};
 ghost use Rattle.request_table.specs.Pending.{item_of};
-ghost use Rattle.member_parts.specs.plant_model.Plant.{first_pin, is_full};
+ghost use Rattle.pce_common.specs.plant_model.Plant.{first_pin, is_full};
 ghost use Rattle.pce_element.specs.Committing.{own_part};
 ghost use Rattle.pce_element.specs.Rows.{pin_in, pin_with};
 ghost use Rattle.pce_element.specs.Seen.{SameButRoom, with_current};
@@ -46,7 +46,7 @@ pub struct PinnedTopology {
 }
 
 impl Model for PinnedTopology {
-    ghost use Rattle.member_parts.specs.plant_model.Plant.{Pin};
+    ghost use Rattle.pce_common.specs.plant_model.Plant.{Pin};
 
     ghost Value = { Pin };
 

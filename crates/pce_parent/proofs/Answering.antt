@@ -4,14 +4,14 @@ use Rattle.std.specs.Prelude.{slice_get}
 use Rattle.std.specs.List.{remove}
 use Rattle.dom_base.specs.declared.names.Peer.{Peer}
 use Rattle.vspt_tree.specs.declared.branch.Branch.{Branch}
-use Rattle.member_parts.specs.plant_model.declared.upper.ChildRow.{ChildRow}
-use Rattle.member_parts.specs.plant_model.Names.{same_id}
+use Rattle.pce_common.specs.plant_model.declared.upper.ChildRow.{ChildRow}
+use Rattle.pce_common.specs.plant_model.Names.{same_id}
 use Rattle.pcep_messages.specs.declared.message.Wanted.{Wanted}
 use Rattle.pce_parent.specs.Changes.{with_answer}
-use Rattle.member_parts.specs.plant_model.Parent.{Asking, Wait, among, rows_at, rows_for, without}
+use Rattle.pce_common.specs.plant_model.Parent.{Asking, Wait, among, rows_at, rows_for, without}
 use Rattle.pce_parent.specs.Answered.{IsAnsweredAt}
 use Rattle.pce_parent.specs.Joined.{joined}
-use Rattle.member_parts.proofs.HeldPlaces.{taken_at, dropped_at}
+use Rattle.pce_common.proofs.HeldPlaces.{taken_at, dropped_at}
 
 -- none of those before the place is answered
 pub record NoneBefore (p : Peer) (y i : ℕ) (ws : List Wait) : Type 0 where

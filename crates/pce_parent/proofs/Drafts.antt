@@ -7,8 +7,8 @@ use Rattle.vspt_tree.specs.declared.branch.Branch.{Branch}
 use Rattle.request_table.specs.declared.held.Held.{Held}
 use Rattle.request_table.specs.Pending.{Pending, ArePending, item_of}
 use Rattle.request_table.specs.Lends.{written_of}
-use Rattle.member_parts.specs.plant_model.declared.upper.ChildRow.{ChildRow}
-use Rattle.member_parts.specs.plant_model.Parent.{Parent, Given, Asking, AskingRow, Wait, among, gathered, gathers, rows_at, waiting}
+use Rattle.pce_common.specs.plant_model.declared.upper.ChildRow.{ChildRow}
+use Rattle.pce_common.specs.plant_model.Parent.{Parent, Given, Asking, AskingRow, Wait, among, gathered, gathers, rows_at, waiting}
 use Rattle.pce_parent.specs.declared.change.Change.{Change}
 use Rattle.pce_parent.specs.declared.change.Change.TheVariants.{Gathers, Ends}
 use Rattle.pce_parent.specs.declared.change.Draft.{Draft}
@@ -17,7 +17,7 @@ use Rattle.pce_parent.specs.Answered.{Answers}
 use Rattle.pce_parent.specs.Changes.{Fits, IsDraft, Waits, answered_item, changed, solved_in, with_answer}
 use Rattle.pce_parent.specs.Endings.{given_by}
 use Rattle.pce_parent.specs.Seen.{Seen}
-use Rattle.member_parts.proofs.HeldRows.{first_in, later_in, in_found}
+use Rattle.pce_common.proofs.HeldRows.{first_in, later_in, in_found}
 
 module _ (s : Seen) (d : Draft) where
   of_change : (change : Change) (given : Given) → d.change ≡ change → Fits s change → solved_in change ≡ None → changed change s.losing.parent ≡ given.parent → d.outputs ≡ given.outputs → IsDraft s given d

@@ -6,15 +6,15 @@ use Rattle.std.specs.Option.{option_map}
 use Rattle.std.proofs.lemmas.Bool.{cases_Bool, eqb-true, eq-eqb, ne_eqb}
 use Rattle.dom_base.specs.declared.names.Peer.{Peer}
 use Rattle.request_table.specs.Pending.{Pending, ArePending, NumbersRise, closed_of, number_of, number_among, key_of, same_key}
-use Rattle.member_parts.specs.plant_model.Parent.{Asking, AskingRow, among, waiting}
+use Rattle.pce_common.specs.plant_model.Parent.{Asking, AskingRow, among, waiting}
 use Rattle.pce_parent.specs.declared.sought.Sought.TheVariants.{Asked, Awaited}
 use Rattle.pce_parent.specs.declared.sought.Sought.{Sought}
-use Rattle.member_parts.specs.plant_model.Plant.{has_number}
+use Rattle.pce_common.specs.plant_model.Plant.{has_number}
 use Rattle.pce_parent.specs.Soughts.{is_sought, first_sought, without_these}
 use Rattle.pce_parent.specs.Changes.{all_closed}
 use Rattle.pce_parent.specs.Pendings.{with_rows}
-use Rattle.member_parts.proofs.HeldPlaces.{taken_at}
-use Rattle.member_parts.proofs.Scans.{dropped_next}
+use Rattle.pce_common.proofs.HeldPlaces.{taken_at}
+use Rattle.pce_common.proofs.Scans.{dropped_next}
 
 -- ---- what is sought
 

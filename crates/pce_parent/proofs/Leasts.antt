@@ -8,9 +8,9 @@ use Rattle.std.proofs.lemmas.List.Elements.{All-contains}
 use Rattle.dom_base.specs.declared.names.As.{As}
 use Rattle.dom_base.specs.declared.addr.Addr.{Addr}
 use Rattle.dom_base.specs.declared.border.ParentLink.{ParentLink}
-use Rattle.member_parts.specs.plant_model.declared.upper.ChildRow.{ChildRow}
-use Rattle.member_parts.specs.plant_model.declared.upper.BorderJob.{BorderJob}
-use Rattle.member_parts.specs.plant_model.BorderGraph.{Vertex, Enter, Leave, Edge, IsEdge, BorderWalk, IsLeastTo, ExcludesAs}
+use Rattle.pce_common.specs.plant_model.declared.upper.ChildRow.{ChildRow}
+use Rattle.pce_common.specs.plant_model.declared.upper.BorderJob.{BorderJob}
+use Rattle.pce_common.specs.plant_model.BorderGraph.{Vertex, Enter, Leave, Edge, IsEdge, BorderWalk, IsLeastTo, ExcludesAs}
 use Rattle.pce_parent.specs.declared.arcs.Arc.{Arc}
 use Rattle.pce_parent.specs.declared.spot.Spot.{Spot}
 use Rattle.pce_parent.specs.Places.{spot_of, IsAt, HasLink, HasEnd}

@@ -6,11 +6,11 @@ use Rattle.std.proofs.lemmas.Option.{slice_get-get_or}
 use Rattle.std.proofs.lemmas.List.Elements.{filter-append}
 use Rattle.dom_base.specs.declared.names.Peer.{Peer}
 use Rattle.request_table.specs.Pending.{Pending, ArePending, same_peer, closed_of}
-use Rattle.member_parts.specs.plant_model.declared.output.Lost.{Lost}
-use Rattle.member_parts.specs.plant_model.Parent.{Asking, AskingRow, any_on, stays, is_lost, lost_of}
+use Rattle.pce_common.specs.plant_model.declared.output.Lost.{Lost}
+use Rattle.pce_common.specs.plant_model.Parent.{Asking, AskingRow, any_on, stays, is_lost, lost_of}
 use Rattle.pce_parent.specs.Pendings.{Leaves, with_rows}
-use Rattle.member_parts.proofs.HeldPlaces.{removed_at, split_at, taken_at, all_taken, nothing_dropped, kept_step, kept_length}
-use Rattle.member_parts.proofs.HeldRows.{length-removed, at_found}
+use Rattle.pce_common.proofs.HeldPlaces.{removed_at, split_at, taken_at, all_taken, nothing_dropped, kept_step, kept_length}
+use Rattle.pce_common.proofs.HeldRows.{length-removed, at_found}
 
 -- ---- one request
 

@@ -7,8 +7,8 @@ use Rattle.std.proofs.lemmas.Option.{slice_get_within, slice_get-get_or, get_or_
 use Rattle.dom_base.specs.declared.names.As.{As}
 use Rattle.dom_base.specs.AddrOrder.{rank}
 use Rattle.dom_base.proofs.Ranks.{same_addr}
-use Rattle.member_parts.specs.plant_model.declared.upper.ChildRow.{ChildRow}
-use Rattle.member_parts.specs.plant_model.BorderGraph.{IsFirstRow}
+use Rattle.pce_common.specs.plant_model.declared.upper.ChildRow.{ChildRow}
+use Rattle.pce_common.specs.plant_model.BorderGraph.{IsFirstRow}
 
 -- ---- places in lists
 

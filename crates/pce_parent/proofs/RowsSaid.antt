@@ -7,10 +7,10 @@ use Rattle.dom_base.specs.declared.query.Metric.{Metric}
 use Rattle.pcep_subobjects.specs.declared.hop.Hop.{Hop}
 use Rattle.pcep_messages.specs.declared.message.Path.{Path}
 use Rattle.vspt_tree.specs.declared.branch.Branch.{Branch}
-use Rattle.member_parts.specs.plant_model.declared.upper.ChildRow.{ChildRow}
-use Rattle.member_parts.specs.plant_model.Branches.{branch_of, branches_in}
-use Rattle.member_parts.specs.plant_model.Parent.{rows_at}
-use Rattle.member_parts.specs.plant_model.RealWire.{wire}
+use Rattle.pce_common.specs.plant_model.declared.upper.ChildRow.{ChildRow}
+use Rattle.pce_common.specs.plant_model.Branches.{branch_of, branches_in}
+use Rattle.pce_common.specs.plant_model.Parent.{rows_at}
+use Rattle.pce_common.specs.plant_model.RealWire.{wire}
 
 abbrev pub row_made : As → Addr → Addr → ℕ → List Hop → ChildRow
 row_made child target entry cost hs = record { at = child; entry = entry; target = target; cost = cost; hops = hs }

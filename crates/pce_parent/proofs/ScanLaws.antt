@@ -3,9 +3,9 @@ use Rattle.std.proofs.Common.{◌≡◌, ◌+◌, ℕ, Bool, true, false, cond, 
 use Rattle.std.specs.Prelude.{slice_get, OnOk}
 use Rattle.dom_base.specs.declared.names.Peer.{Peer}
 use Rattle.request_table.specs.Pending.{same_peer}
-use Rattle.member_parts.specs.plant_model.Names.{same_id}
-use Rattle.member_parts.specs.plant_model.Parent.{Wait, among, any_on}
-use Rattle.member_parts.proofs.Scans.{dropped_next}
+use Rattle.pce_common.specs.plant_model.Names.{same_id}
+use Rattle.pce_common.specs.plant_model.Parent.{Wait, among, any_on}
+use Rattle.pce_common.proofs.Scans.{dropped_next}
 
 pub on_ok : {A : Type 0} {E : Type 0} (r : Result A E) (P Q : Type 0) → (P → Q) → OnOk r P → OnOk r Q
 on_ok (Ok x) P Q f p = f p

@@ -5,13 +5,13 @@ use Rattle.std.proofs.lemmas.Bool.{cases_Bool}
 use Rattle.dom_base.specs.declared.names.Peer.{Peer}
 use Rattle.dom_base.specs.declared.names.Peer.TheVariants.{Inner}
 use Rattle.pcep_messages.specs.declared.message.Wanted.{Wanted}
-use Rattle.member_parts.specs.plant_model.declared.output.Output.{Output}
-use Rattle.member_parts.specs.plant_model.Names.{same_id}
-use Rattle.member_parts.specs.plant_model.Element.{Way, after_id, pass_over, way_to, with_last}
-use Rattle.member_parts.specs.plant_model.Parent.{AskingRow, Wait, Errand, Asks, all_waits, among, ask_all, last_to, next_id}
+use Rattle.pce_common.specs.plant_model.declared.output.Output.{Output}
+use Rattle.pce_common.specs.plant_model.Names.{same_id}
+use Rattle.pce_common.specs.plant_model.Element.{Way, after_id, pass_over, way_to, with_last}
+use Rattle.pce_common.specs.plant_model.Parent.{AskingRow, Wait, Errand, Asks, all_waits, among, ask_all, last_to, next_id}
 use Rattle.pce_parent.specs.declared.sending.Sending.{Sending}
 use Rattle.pce_parent.specs.Sending.{wait_of, id_for, asked_by, IsSent}
-use Rattle.member_parts.proofs.Scans.{dropped_next}
+use Rattle.pce_common.proofs.Scans.{dropped_next}
 
 -- ---- the same waits, in another order
 

@@ -4,7 +4,7 @@ use Rattle.std.proofs.lemmas.Grind.{common_steps}
 use Rattle.dom_base.specs.declared.names.As.{As}
 use Rattle.dom_base.specs.declared.addr.Addr.{Addr}
 use Rattle.dom_base.specs.declared.addr.Addr.TheVariants.{V4, V6}
-use Rattle.member_parts.specs.plant_model.BorderGraph.{Vertex, Enter, Leave}
+use Rattle.pce_common.specs.plant_model.BorderGraph.{Vertex, Enter, Leave}
 use Rattle.pce_parent.specs.declared.spot.Spot.{Spot}
 use Rattle.pce_parent.specs.contracts.spot.SpotPartialEq.TheImpl as derived
 use Rattle.pce_parent.specs.Places.{spot_at, spot_of, same_flag, same_spot}

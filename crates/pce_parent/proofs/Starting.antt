@@ -7,8 +7,8 @@ use Rattle.std.proofs.lemmas.Option.{get_or_from_slice_get, cond_some}
 use Rattle.dom_base.specs.declared.names.As.{As}
 use Rattle.dom_base.specs.declared.addr.Addr.{Addr}
 use Rattle.dom_base.specs.declared.addr.Addr.TheVariants.{V4, V6}
-use Rattle.member_parts.specs.plant_model.declared.upper.BorderJob.{BorderJob}
-use Rattle.member_parts.specs.plant_model.BorderGraph.{Vertex, Enter, Leave, IsEnd}
+use Rattle.pce_common.specs.plant_model.declared.upper.BorderJob.{BorderJob}
+use Rattle.pce_common.specs.plant_model.BorderGraph.{Vertex, Enter, Leave, IsEnd}
 use Rattle.pce_parent.specs.declared.spot.Spot.{Spot}
 use Rattle.pce_parent.specs.Places.{spot_of, same_spot, IsAt}
 use Rattle.pce_parent.specs.Costs.{cost_at, start_cost, Reaches, AreReached}

@@ -4,10 +4,10 @@ use Rattle.std.specs.Prelude.{Contains, All}
 use Rattle.std.proofs.lemmas.List.Elements.{All-weaker, Contains-append_right}
 use Rattle.dom_base.specs.declared.border.ParentLink.{ParentLink}
 use Rattle.dom_base.specs.Admission.{weight}
-use Rattle.member_parts.specs.plant_model.declared.upper.ChildRow.{ChildRow}
-use Rattle.member_parts.specs.plant_model.declared.upper.BorderJob.{BorderJob}
+use Rattle.pce_common.specs.plant_model.declared.upper.ChildRow.{ChildRow}
+use Rattle.pce_common.specs.plant_model.declared.upper.BorderJob.{BorderJob}
 use Rattle.pcep_subobjects.specs.Hops.{strict_hop}
-use Rattle.member_parts.specs.plant_model.BorderGraph.{Vertex, Enter, Leave, Edge, IsEdge, IsFirstRow}
+use Rattle.pce_common.specs.plant_model.BorderGraph.{Vertex, Enter, Leave, Edge, IsEdge, IsFirstRow}
 use Rattle.pce_parent.specs.declared.arcs.Arc.{Arc}
 use Rattle.pce_parent.specs.declared.spot.Spot.{Spot}
 use Rattle.pce_parent.specs.Places.{IsAt}

@@ -3,10 +3,10 @@ use Rattle.std.proofs.Common.{◌≡◌, ℕ, Option, Some, None, List, [], ◌�
 use Rattle.dom_base.specs.declared.names.Peer.{Peer}
 use Rattle.pcep_messages.specs.declared.message.Message.{Message}
 use Rattle.request_table.specs.Pending.{Pending, ArePending, closed_of, number_of}
-use Rattle.member_parts.specs.plant_model.declared.output.Output.{Output}
-use Rattle.member_parts.specs.plant_model.Writing.{busy}
-use Rattle.member_parts.specs.plant_model.Taking.{error_answer}
-use Rattle.member_parts.specs.plant_model.Parent.{Parent, Given, Asking, AskingRow, answered, cancelled, ended, silent, take_busy, take_cancel, take_failure, told_busy, told_error, waiting}
+use Rattle.pce_common.specs.plant_model.declared.output.Output.{Output}
+use Rattle.pce_common.specs.plant_model.Writing.{busy}
+use Rattle.pce_common.specs.plant_model.Taking.{error_answer}
+use Rattle.pce_common.specs.plant_model.Parent.{Parent, Given, Asking, AskingRow, answered, cancelled, ended, silent, take_busy, take_cancel, take_failure, told_busy, told_error, waiting}
 use Rattle.pce_parent.specs.declared.ending.Ending.{Ending}
 use Rattle.pce_parent.specs.declared.sought.Sought.TheVariants.{Asked, Awaited}
 use Rattle.pce_parent.specs.Changes.{all_closed, all_ended}

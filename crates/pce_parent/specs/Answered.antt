@@ -2,7 +2,7 @@
 use Rattle.std.specs.Prelude.{◌≡◌, ◌<◌, ◌++◌, ℕ, suc, true, List, length, take, drop, Some, slice_get}
 use Rattle.dom_base.specs.declared.names.Peer.{Peer}
 use Rattle.vspt_tree.specs.declared.branch.Branch.{Branch}
-use Rattle.member_parts.specs.plant_model.Parent.{Wait, among, rows_at, rows_for, without}
+use Rattle.pce_common.specs.plant_model.Parent.{Wait, among, rows_at, rows_for, without}
 
 -- this one is answered: the branches of the answer are rows from its child to its target
 pub record Answers (p : Peer) (y : ℕ) (w : Wait) (ws : List Wait) : Type 0 where

@@ -1,6 +1,6 @@
 -- What an accepted request is, by its fields.
 use Rattle.std.specs.Prelude.{◌+◌, ◌≤◌, length, vec_capacity}
-use Rattle.member_parts.specs.plant_model.Parent.{Asking}
+use Rattle.pce_common.specs.plant_model.Parent.{Asking}
 use Rattle.pce_parent.specs.Joined.{joined}
 use Rattle.pce_parent.specs.declared.asking.Asking.TheInside.{Inside}
 

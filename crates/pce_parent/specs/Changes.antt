@@ -3,8 +3,8 @@ use Rattle.std.specs.Prelude.{◌≡◌, ◌≤◌, ◌++◌, ℕ, true, false, 
 use Rattle.dom_base.specs.declared.names.Peer.{Peer}
 use Rattle.request_table.specs.Pending.{Pending, number_of, item_of, is_full, opened_of, closed_of}
 use Rattle.request_table.specs.Lends.{written_of}
-use Rattle.member_parts.specs.plant_model.declared.upper.ChildRow.{ChildRow}
-use Rattle.member_parts.specs.plant_model.Parent.{Parent, Asking, Given, among, ended, without}
+use Rattle.pce_common.specs.plant_model.declared.upper.ChildRow.{ChildRow}
+use Rattle.pce_common.specs.plant_model.Parent.{Parent, Asking, Given, among, ended, without}
 use Rattle.pce_parent.specs.declared.change.Change.{Change}
 use Rattle.pce_parent.specs.declared.change.Change.TheVariants.{Nothing, Opens, Gathers, Ends, Solves}
 use Rattle.pce_parent.specs.declared.change.Draft.{Draft}

@@ -4,12 +4,12 @@ use Rattle.std.specs.Map.{lookup}
 use Rattle.dom_base.specs.declared.query.Metric.{Metric}
 use Rattle.pcep_messages.specs.declared.message.Answer.{Answer}
 use Rattle.pcep_messages.specs.declared.message.Answer.TheVariants.{Paths}
-use Rattle.member_parts.specs.plant_model.RealWire.{wire}
-use Rattle.member_parts.specs.plant_model.declared.output.Output.{Output}
-use Rattle.member_parts.specs.plant_model.Writing.{no_path, reply_message}
-use Rattle.member_parts.specs.plant_model.Branches.{path_of}
-use Rattle.member_parts.specs.plant_model.BorderGraph.{Found}
-use Rattle.member_parts.specs.plant_model.Parent.{AskingRow, is_ready}
+use Rattle.pce_common.specs.plant_model.RealWire.{wire}
+use Rattle.pce_common.specs.plant_model.declared.output.Output.{Output}
+use Rattle.pce_common.specs.plant_model.Writing.{no_path, reply_message}
+use Rattle.pce_common.specs.plant_model.Branches.{path_of}
+use Rattle.pce_common.specs.plant_model.BorderGraph.{Found}
+use Rattle.pce_common.specs.plant_model.Parent.{AskingRow, is_ready}
 use Rattle.pce_parent.specs.declared.pending.Row.{Row}
 use Rattle.pce_parent.specs.Pendings.{row_of}
 use Rattle.pce_parent.specs.Seen.{Seen}

@@ -2,8 +2,8 @@
 use Rattle.std.specs.Prelude.{◌≡◌, ◌<◌, ◌≤◌, ◌+◌, ◌^◌, ℕ, cond, List, length, Option, Some, None, slice_index_or, sum_by}
 use Rattle.dom_base.specs.declared.addr.Addr.{Addr}
 use Rattle.dom_base.specs.declared.limits.TheConstants.{COST_MAX}
-use Rattle.member_parts.specs.plant_model.declared.upper.BorderJob.{BorderJob}
-use Rattle.member_parts.specs.plant_model.BorderGraph.{Vertex, Leave, Edge, IsEdge, IsEnd, BorderWalk}
+use Rattle.pce_common.specs.plant_model.declared.upper.BorderJob.{BorderJob}
+use Rattle.pce_common.specs.plant_model.BorderGraph.{Vertex, Leave, Edge, IsEdge, IsEnd, BorderWalk}
 use Rattle.pce_parent.specs.declared.arcs.Arc.{Arc}
 use Rattle.pce_parent.specs.declared.spot.Spot.{Spot}
 use Rattle.pce_parent.specs.Places.{IsAt, same_spot, spot_of}

@@ -1,6 +1,6 @@
 -- Requests that end one after the other.
 use Rattle.std.specs.Prelude.{◌≡◌, ◌++◌, List, [], ◌∷◌, Option, Some, None}
-use Rattle.member_parts.specs.plant_model.Parent.{Parent, Given}
+use Rattle.pce_common.specs.plant_model.Parent.{Parent, Given}
 use Rattle.pce_parent.specs.Changes.{all_ended}
 use Rattle.pce_parent.specs.declared.ending.Ending.{Ending}
 

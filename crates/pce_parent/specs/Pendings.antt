@@ -2,8 +2,8 @@
 use Rattle.std.specs.Prelude.{◌≡◌, ◌+◌, ℕ, suc, cond, List, [], ◌∷◌, ◌++◌, take, drop, map, Some, slice_get}
 use Rattle.dom_base.specs.declared.names.Peer.{Peer}
 use Rattle.request_table.specs.Pending.{Pending}
-use Rattle.member_parts.specs.plant_model.declared.output.Lost.{Lost}
-use Rattle.member_parts.specs.plant_model.Parent.{Asking, AskingRow, stays, is_lost, lost_of}
+use Rattle.pce_common.specs.plant_model.declared.output.Lost.{Lost}
+use Rattle.pce_common.specs.plant_model.Parent.{Asking, AskingRow, stays, is_lost, lost_of}
 use Rattle.pce_parent.specs.declared.pending.Row.{Row}
 
 -- a pending request that is looked at

@@ -1,6 +1,6 @@
 -- A planned change as its holders see it.
 use Rattle.std.specs.Prelude.{Option}
-use Rattle.member_parts.specs.plant_model.Parent.{Given}
+use Rattle.pce_common.specs.plant_model.Parent.{Given}
 use Rattle.pce_parent.specs.Seen.{Seen}
 use Rattle.pce_parent.specs.Solution.{BorderSolution}
 

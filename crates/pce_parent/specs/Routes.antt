@@ -4,8 +4,8 @@ use Rattle.dom_base.specs.declared.names.As.{As}
 use Rattle.dom_base.specs.declared.addr.Addr.{Addr}
 use Rattle.dom_base.specs.AddrOrder.{rank}
 use Rattle.pcep_subobjects.specs.declared.hop.Hop.{Hop}
-use Rattle.member_parts.specs.plant_model.declared.upper.BorderJob.{BorderJob}
-use Rattle.member_parts.specs.plant_model.BorderGraph.{Vertex, Enter, Leave, Edge, IsTightEdge, Shows}
+use Rattle.pce_common.specs.plant_model.declared.upper.BorderJob.{BorderJob}
+use Rattle.pce_common.specs.plant_model.BorderGraph.{Vertex, Enter, Leave, Edge, IsTightEdge, Shows}
 use Rattle.pce_parent.specs.declared.arcs.Arc.{Arc}
 use Rattle.pce_parent.specs.declared.spot.Spot.{Spot}
 use Rattle.pce_parent.specs.declared.route.Stand.{Stand}

@@ -3,12 +3,12 @@ use Rattle.std.specs.Prelude.{◌≡◌, ℕ, cond, nat_eq, [], map, Option, Som
 use Rattle.std.specs.Map.{lookup}
 use Rattle.dom_base.specs.declared.addr.Addr.{Addr}
 use Rattle.request_table.specs.declared.held.Held.{Held}
-use Rattle.member_parts.specs.plant_model.declared.TheConstants.{PARENT_PENDING_MAX}
-use Rattle.member_parts.specs.plant_model.declared.upper.BorderJob.{BorderJob}
-use Rattle.member_parts.specs.plant_model.RealWire.{wire}
-use Rattle.member_parts.specs.plant_model.Parent.{Parent, Family, Given, Losing, Asking, is_ready, job_of, commit}
+use Rattle.pce_common.specs.plant_model.declared.TheConstants.{PARENT_PENDING_MAX}
+use Rattle.pce_common.specs.plant_model.declared.upper.BorderJob.{BorderJob}
+use Rattle.pce_common.specs.plant_model.RealWire.{wire}
+use Rattle.pce_common.specs.plant_model.Parent.{Parent, Family, Given, Losing, Asking, is_ready, job_of, commit}
 use Rattle.pce_parent.specs.Solution.{BorderSolution}
-use Rattle.member_parts.specs.Ways.{way_of}
+use Rattle.pce_common.specs.Ways.{way_of}
 
 -- its id and settings, what it holds, the lost requests that it has yet to hand out, and for how many more requests there is
 -- memory

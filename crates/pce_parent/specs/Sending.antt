@@ -4,10 +4,10 @@ use Rattle.dom_base.specs.declared.names.As.{As}
 use Rattle.dom_base.specs.declared.addr.Addr.{Addr}
 use Rattle.dom_base.specs.declared.names.Peer.TheVariants.{Inner}
 use Rattle.pcep_messages.specs.declared.message.Wanted.{Wanted}
-use Rattle.member_parts.specs.plant_model.declared.output.Output.{Output}
-use Rattle.member_parts.specs.plant_model.Writing.{request_message}
-use Rattle.member_parts.specs.plant_model.Element.{Way, with_last}
-use Rattle.member_parts.specs.plant_model.Parent.{Wait, Errand, next_id, ask_all}
+use Rattle.pce_common.specs.plant_model.declared.output.Output.{Output}
+use Rattle.pce_common.specs.plant_model.Writing.{request_message}
+use Rattle.pce_common.specs.plant_model.Element.{Way, with_last}
+use Rattle.pce_common.specs.plant_model.Parent.{Wait, Errand, next_id, ask_all}
 use Rattle.pce_parent.specs.declared.sending.Sending.{Sending}
 
 abbrev pub wait_of : As → ℕ → Addr → Wait

@@ -2,8 +2,8 @@
 use Rattle.std.specs.Prelude.{Option}
 use Rattle.te_links.specs.Rows.{IsMetric}
 use Rattle.dom_base.specs.declared.border.ParentLink.{ParentLink}
-use Rattle.member_parts.specs.plant_model.declared.upper.BorderJob.{BorderJob}
-use Rattle.member_parts.specs.plant_model.BorderGraph.{Found}
+use Rattle.pce_common.specs.plant_model.declared.upper.BorderJob.{BorderJob}
+use Rattle.pce_common.specs.plant_model.BorderGraph.{Found}
 
 pub record BorderSolution : Type 0 where
   pub job : BorderJob

@@ -1,10 +1,10 @@
 //! The parent takes a request.
 ghost use Rattle.std.specs.Prelude.{◌≡◌, ◌≤◌, false, true, None, length, IfOk, IsOk};
 ghost use Rattle.request_table.specs.Pending.{is_full, number_of};
-ghost use Rattle.member_parts.specs.plant_model.RealWire.{wire};
-ghost use Rattle.member_parts.specs.plant_model.Parent.{each, only, all_up, is_up, take_path, take_wish, take_new, take_asked};
-ghost use Rattle.member_parts.specs.plant_model.Element.{way_to};
-ghost use Rattle.member_parts.specs.plant_model.Writing.{busy};
+ghost use Rattle.pce_common.specs.plant_model.RealWire.{wire};
+ghost use Rattle.pce_common.specs.plant_model.Parent.{each, only, all_up, is_up, take_path, take_wish, take_new, take_asked};
+ghost use Rattle.pce_common.specs.plant_model.Element.{way_to};
+ghost use Rattle.pce_common.specs.plant_model.Writing.{busy};
 ghost use Rattle.pce_parent.specs.Changes.{IsDraft};
 
 use crate::asking::Asking;
@@ -13,8 +13,8 @@ use crate::errands::errands;
 use crate::parent::Parent;
 use crate::sending::{Sending, send_all};
 use dom_base::{As, NoMemory, Peer};
-use member_parts::model::{Output, PARENT_PENDING_MAX};
-use member_parts::{busy, error_message, no_key, one, reply_message, unavailable};
+use pce_common::model::{Output, PARENT_PENDING_MAX};
+use pce_common::{busy, error_message, no_key, one, reply_message, unavailable};
 use pcep_messages::{Asked, Message, Refusal, Request, Wanted, Wish, request_of};
 
 impl Parent {

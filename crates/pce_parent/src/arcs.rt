@@ -1,6 +1,6 @@
 //! The edges of the border graph between vertices that have a place.
 ghost use Rattle.std.specs.Prelude.{◌≡◌, ◌↔◌, IsTrue, All, slice_get, length, ◌<◌, IfOk, MatchOption};
-ghost use Rattle.member_parts.specs.plant_model.BorderGraph.{ExcludesAs};
+ghost use Rattle.pce_common.specs.plant_model.BorderGraph.{ExcludesAs};
 ghost use Rattle.pce_parent.specs.Arcs.{IsOpenLink, IsRowArc, IsNoRowArc, AreRowArcs, IsLinkArc, IsNoLinkArc, AreLinkArcs, NamesDomain};
 ghost use Rattle.pce_parent.specs.Solution.{IsWeighed};
 
@@ -8,7 +8,7 @@ use crate::places::place_at;
 use crate::spot::{Spot, entering, leaving};
 use dom_base::{Addr, As, Excluded, Exclusion, NoMemory, ParentLink, Query};
 use indexmap::IndexSet;
-use member_parts::model::{BorderJob, ChildRow};
+use pce_common::model::{BorderJob, ChildRow};
 use path_constraints::{allows, weight};
 use std::alloc::Global;
 

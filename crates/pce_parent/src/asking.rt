@@ -1,6 +1,6 @@
 //! A request that the parent accepted, and what it waits for.
 ghost use Rattle.std.specs.Prelude.{◌≡◌, [], true, false, IfOk, MatchOption};
-ghost use Rattle.member_parts.specs.plant_model.Parent.{among, is_ready};
+ghost use Rattle.pce_common.specs.plant_model.Parent.{among, is_ready};
 ghost use Rattle.pce_parent.specs.Changes.{with_answer};
 ghost use Rattle.pce_parent.specs.Answered.{IsAnsweredAt, Answers};
 ghost use Rattle.pce_parent.specs.Joined.{joined};
@@ -8,7 +8,7 @@ ghost use Rattle.pce_parent.specs.Joined.{joined};
 use crate::copies::append_rows;
 use crate::wait::Wait;
 use dom_base::{List, NoMemory, Peer};
-use member_parts::model::ChildRow;
+use pce_common::model::ChildRow;
 use pcep_messages::Wanted;
 use std::alloc::Global;
 use std::marker::Model;
@@ -24,7 +24,7 @@ pub struct Asking {
 }
 
 impl Model for Asking {
-    ghost use Rattle.member_parts.specs.plant_model.Parent.{Asking};
+    ghost use Rattle.pce_common.specs.plant_model.Parent.{Asking};
 
     ghost Value = { Asking };
 

@@ -4,8 +4,8 @@ ghost use Rattle.std.specs.Prelude.{◌≡◌, []};
 use crate::asking::Asking;
 use crate::solved::BorderSolved;
 use dom_base::{List, Peer};
-use member_parts::Ways;
-use member_parts::model::{ChildRow, Outputs};
+use pce_common::Ways;
+use pce_common::model::{ChildRow, Outputs};
 use std::alloc::Global;
 
 /// What is to change.

@@ -2,7 +2,7 @@
 ghost use Rattle.std.specs.Prelude.{◌≡◌, ◌++◌, IfOk, OnOk};
 
 use dom_base::{Link, List, NoMemory, ParentLink};
-use member_parts::model::ChildRow;
+use pce_common::model::ChildRow;
 use pcep_subobjects::append_hops;
 use std::alloc::Global;
 

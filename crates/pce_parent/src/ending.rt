@@ -1,7 +1,7 @@
 //! Requests that end one after the other.
 ghost use Rattle.std.specs.Prelude.{◌≡◌, ℕ, [], None, Some, IfOk, OnOk};
-ghost use Rattle.member_parts.specs.plant_model.Taking.{error_answer};
-ghost use Rattle.member_parts.specs.plant_model.Parent.{Parent as Whole, answered, ended, silent};
+ghost use Rattle.pce_common.specs.plant_model.Taking.{error_answer};
+ghost use Rattle.pce_common.specs.plant_model.Parent.{Parent as Whole, answered, ended, silent};
 ghost use Rattle.pce_parent.specs.Changes.{IsDraft, all_ended};
 ghost use Rattle.pce_parent.specs.Endings.{GoesOn};
 ghost use Rattle.pce_parent.specs.Pendings.{row_of};
@@ -9,7 +9,7 @@ ghost use Rattle.pce_parent.specs.Pendings.{row_of};
 use crate::change::{Change, Draft};
 use crate::pending::Row;
 use dom_base::{List, NoMemory};
-use member_parts::model::{Output, Outputs};
+use pce_common::model::{Output, Outputs};
 use pcep_messages::Message;
 use std::alloc::Global;
 

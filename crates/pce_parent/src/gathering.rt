@@ -1,8 +1,8 @@
 //! The parent takes a child's answer.
 ghost use Rattle.std.specs.Prelude.{◌≡◌, ◌≤◌, Some, length, IfOk};
-ghost use Rattle.member_parts.specs.plant_model.RealWire.{wire};
-ghost use Rattle.member_parts.specs.plant_model.Branches.{branches_in};
-ghost use Rattle.member_parts.specs.plant_model.Parent.{each, answered, gathers, take_answer, take_reply, waiting};
+ghost use Rattle.pce_common.specs.plant_model.RealWire.{wire};
+ghost use Rattle.pce_common.specs.plant_model.Branches.{branches_in};
+ghost use Rattle.pce_common.specs.plant_model.Parent.{each, answered, gathers, take_answer, take_reply, waiting};
 ghost use Rattle.pce_parent.specs.Changes.{IsDraft};
 ghost use Rattle.pce_parent.specs.Pendings.{row_of};
 
@@ -13,7 +13,7 @@ use crate::pending::Row;
 use crate::rows::rows_of;
 use crate::sought::{Sought, find};
 use dom_base::{List, NoMemory, Peer};
-use member_parts::{error_message, reply_message, unavailable};
+use pce_common::{error_message, reply_message, unavailable};
 use pcep_codes::errors;
 use pcep_messages::{Answer, Message, Path, Reply};
 

@@ -10,7 +10,7 @@ use crate::parent::Parent;
 use crate::pending::{close_all, close_one, gather_at};
 use crate::plan::BorderPlan;
 use dom_base::{NoMemory, Peer};
-use member_parts::Ways;
+use pce_common::Ways;
 
 impl Parent {
     fn open(&mut self, peer: Peer, id: u32, asking: Asking, ways: Ways)

@@ -7,7 +7,7 @@ use crate::arcs::Arc;
 use crate::relax::relax;
 use crate::spot::Spot;
 use dom_base::{Cost, NoMemory};
-use member_parts::model::BorderJob;
+use pce_common::model::BorderJob;
 use std::alloc::Global;
 
 // The edges into each place, by their place in the list.

@@ -2,15 +2,15 @@
 ghost use Rattle.std.specs.Prelude.{◌≡◌, ◌≤◌, ◌<◌, ◌+◌, ◌++◌, ◌∷◌, [], filter, length, slice_get, Some, MatchOption};
 ghost use Rattle.std.specs.VecDeque.{deque_capacity, deque_len};
 ghost use Rattle.request_table.specs.Pending.{ArePending, closed_of, item_of, same_peer};
-ghost use Rattle.member_parts.specs.plant_model.Parent.{kept, lost, ready_numbers};
+ghost use Rattle.pce_common.specs.plant_model.Parent.{kept, lost, ready_numbers};
 ghost use Rattle.pce_parent.specs.Pendings.{Leaves, row_of, with_rows};
 ghost use Rattle.pce_parent.specs.Changes.{Waits, all_closed, answered_at};
 
 use crate::asking::Asking;
 use crate::wait::waits_on;
 use dom_base::{List, Peer};
-use member_parts::is_same_peer;
-use member_parts::model::{ChildRow, Lost};
+use pce_common::is_same_peer;
+use pce_common::model::{ChildRow, Lost};
 use request_table::{RequestKey, Requests};
 use std::collections::VecDeque;
 

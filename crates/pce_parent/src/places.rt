@@ -5,7 +5,7 @@ ghost use Rattle.pce_parent.specs.Places.{Adds, AreVertices, HasLink, HasEnd, Ho
 use crate::spot::{Spot, entering, leaving};
 use dom_base::{NoMemory, ParentLink};
 use indexmap::IndexSet;
-use member_parts::model::{BorderJob, ChildRow};
+use pce_common::model::{BorderJob, ChildRow};
 use std::alloc::Global;
 
 fn add(spots: &mut IndexSet<Spot>, spot: Spot) -> Result<(), NoMemory>

@@ -5,7 +5,7 @@ ghost use Rattle.pce_parent.specs.Changes.{Fits, HasRoom, changed, solved_in};
 use crate::change::{Change, Draft};
 use crate::parent::Parent;
 use crate::solved::BorderSolved;
-use member_parts::model::Outputs;
+use pce_common::model::Outputs;
 use std::marker::Model;
 use std::snapshot::Snapshot;
 

@@ -7,7 +7,7 @@ use crate::costs::cost_of;
 use crate::order::relax_in_order;
 use crate::spot::Spot;
 use dom_base::{Cost, NoMemory};
-use member_parts::model::BorderJob;
+use pce_common::model::BorderJob;
 use std::alloc::Global;
 
 /// Lowers the cost of the place that an edge leads from, where the way by the edge is better.

@@ -8,7 +8,7 @@ use crate::costs::cost_of;
 use crate::spot::Spot;
 use crate::tight::{next_arc, next_arcs};
 use dom_base::{Cost, List, NoMemory};
-use member_parts::model::BorderJob;
+use pce_common::model::BorderJob;
 use pcep_subobjects::{Hop, append_hops, strict_hop};
 use std::alloc::Global;
 

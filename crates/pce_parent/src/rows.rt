@@ -1,14 +1,14 @@
 //! The rows of a child's answer.
 ghost use Rattle.std.specs.Prelude.{◌≡◌, IfOk};
 ghost use Rattle.std.specs.Option.{option_to_list};
-ghost use Rattle.member_parts.specs.plant_model.Branches.{branch_of, branches_in};
-ghost use Rattle.member_parts.specs.plant_model.Parent.{rows_at};
-ghost use Rattle.member_parts.specs.plant_model.RealWire.{wire};
+ghost use Rattle.pce_common.specs.plant_model.Branches.{branch_of, branches_in};
+ghost use Rattle.pce_common.specs.plant_model.Parent.{rows_at};
+ghost use Rattle.pce_common.specs.plant_model.RealWire.{wire};
 
 use crate::wait::Wait;
 use dom_base::{List, Metric, NoMemory};
-use member_parts::branch_of;
-use member_parts::model::ChildRow;
+use pce_common::branch_of;
+use pce_common::model::ChildRow;
 use pcep_messages::Path;
 use std::alloc::Global;
 use std::collections::VecDeque;

@@ -2,8 +2,8 @@
 ghost use Rattle.std.specs.Prelude.{◌≡◌, ◌++◌, [], ◌∷◌, IfOk, OnOk};
 ghost use Rattle.std.specs.Option.{option_copied};
 ghost use Rattle.dom_base.specs.declared.names.Peer.TheVariants.{Inner};
-ghost use Rattle.member_parts.specs.plant_model.Parent.{all_waits, next_id, last_to};
-ghost use Rattle.member_parts.specs.plant_model.Element.{way_to};
+ghost use Rattle.pce_common.specs.plant_model.Parent.{all_waits, next_id, last_to};
+ghost use Rattle.pce_common.specs.plant_model.Element.{way_to};
 ghost use Rattle.pce_parent.specs.Sending.{IsSent, AreSent};
 
 use crate::asking::Asking;
@@ -11,8 +11,8 @@ use crate::errands::Errand;
 use crate::pending::row_at;
 use crate::wait::{Wait, waits_for};
 use dom_base::{List, NoMemory, Peer};
-use member_parts::model::{Output, Outputs};
-use member_parts::{Ways, after_id, request_message};
+use pce_common::model::{Output, Outputs};
+use pce_common::{Ways, after_id, request_message};
 use pcep_messages::Wanted;
 use request_table::Requests;
 use std::alloc::Global;

@@ -1,7 +1,7 @@
 //! The solution of a job of the parent.
 ghost use Rattle.std.specs.Prelude.{◌≡◌, All, IfOk};
 ghost use Rattle.std.specs.Option.{option_map};
-ghost use Rattle.member_parts.specs.plant_model.BorderGraph.{SolvesBorder};
+ghost use Rattle.pce_common.specs.plant_model.BorderGraph.{SolvesBorder};
 ghost use Rattle.pce_parent.specs.Solution.{IsWeighed};
 ghost use Rattle.pce_parent.specs.Routes.{AreLeast};
 ghost use Rattle.pce_parent.specs.Fields.{found_of, shown_of};
@@ -15,7 +15,7 @@ use crate::spot::{Spot, entering};
 use crate::starts::starts_of;
 use dom_base::{Cost, List, NoMemory};
 use indexmap::IndexSet;
-use member_parts::model::BorderJob;
+use pce_common::model::BorderJob;
 use pcep_subobjects::Hop;
 use std::alloc::Global;
 use std::marker::Model;

@@ -8,7 +8,7 @@ use crate::asking::Asking;
 use crate::pending::{Row, row_at};
 use crate::wait::waits_for;
 use dom_base::Peer;
-use member_parts::{has_number, is_same_peer};
+use pce_common::{has_number, is_same_peer};
 use request_table::{RequestKey, Requests};
 
 /// What a peer names by an id.

@@ -1,6 +1,6 @@
 //! A vertex of the border graph, as it is looked up.
 ghost use Rattle.std.specs.Prelude.{◌≡◌};
-ghost use Rattle.member_parts.specs.plant_model.BorderGraph.{Enter, Leave};
+ghost use Rattle.pce_common.specs.plant_model.BorderGraph.{Enter, Leave};
 ghost use Rattle.pce_parent.specs.Places.{spot_at, spot_of};
 
 use dom_base::{Addr, As};

@@ -4,7 +4,7 @@ ghost use Rattle.pce_parent.specs.Costs.{start_cost, AreReached};
 
 use crate::spot::{Spot, leaving};
 use dom_base::{Addr, Cost, NoMemory};
-use member_parts::model::BorderJob;
+use pce_common::model::BorderJob;
 use std::alloc::Global;
 
 fn start_at(target: Addr, spot: &Spot) -> Option<Cost>

@@ -1,8 +1,8 @@
 //! The parent takes a message: what is to change is planned.
 ghost use Rattle.std.specs.Prelude.{◌≡◌, None, IfOk};
-ghost use Rattle.member_parts.specs.plant_model.RealWire.{wire};
-ghost use Rattle.member_parts.specs.plant_model.Parent.{take};
-ghost use Rattle.member_parts.specs.Messages.{HasOnePart};
+ghost use Rattle.pce_common.specs.plant_model.RealWire.{wire};
+ghost use Rattle.pce_common.specs.plant_model.Parent.{take};
+ghost use Rattle.pce_common.specs.Messages.{HasOnePart};
 ghost use Rattle.pce_parent.specs.Seen.{SameButRoom};
 ghost use Rattle.pce_parent.specs.Changes.{IsDraft};
 

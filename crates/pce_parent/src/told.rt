@@ -1,6 +1,6 @@
 //! What peers tell of requests: notices and errors.
 ghost use Rattle.std.specs.Prelude.{◌≡◌, IfOk, OnOk};
-ghost use Rattle.member_parts.specs.plant_model.Parent.{each, waiting, notice_steps, take_busy, take_cancel, take_failure, take_notice, take_report};
+ghost use Rattle.pce_common.specs.plant_model.Parent.{each, waiting, notice_steps, take_busy, take_cancel, take_failure, take_notice, take_report};
 ghost use Rattle.pce_parent.specs.Changes.{IsDraft};
 ghost use Rattle.pce_parent.specs.Endings.{GoesOn};
 
@@ -9,7 +9,7 @@ use crate::ending::Ending;
 use crate::parent::Parent;
 use crate::sought::{Sought, find};
 use dom_base::{NoMemory, Peer};
-use member_parts::{busy, error_answer, has_pair};
+use pce_common::{busy, error_answer, has_pair};
 use pcep_codes::notices;
 use pcep_messages::{ErrorReport, Notice};
 

@@ -1,12 +1,12 @@
 //! What a request waits for.
 ghost use Rattle.std.specs.Prelude.{◌≡◌};
 ghost use Rattle.request_table.specs.Pending.{same_peer};
-ghost use Rattle.member_parts.specs.plant_model.Names.{same_id};
-ghost use Rattle.member_parts.specs.plant_model.Parent.{among, any_on};
+ghost use Rattle.pce_common.specs.plant_model.Names.{same_id};
+ghost use Rattle.pce_common.specs.plant_model.Parent.{among, any_on};
 ghost use Rattle.pce_parent.specs.Sending.{wait_of};
 
 use dom_base::{Addr, As, Peer};
-use member_parts::is_same_peer;
+use pce_common::is_same_peer;
 use std::marker::Model;
 
 /// A request to a child that is not answered yet.
@@ -19,7 +19,7 @@ pub struct Wait {
 }
 
 impl Model for Wait {
-    ghost use Rattle.member_parts.specs.plant_model.Parent.{Wait};
+    ghost use Rattle.pce_common.specs.plant_model.Parent.{Wait};
 
     ghost Value = { Wait };
 

@@ -1,7 +1,7 @@
 //! What is to be solved, and what was.
 use crate::solved::BorderSolved;
 use border_costs::{Job, Solved};
-use member_parts::model::BorderJob;
+use pce_common::model::BorderJob;
 
 /// A job of a domain or of the parent.
 #[derive(Drop)]

@@ -12,8 +12,8 @@ use Rattle.plant_network.specs.pce_element.contracts.topologies.PinnedTopology a
 use Rattle.plant_network.specs.pce_element.contracts.topologies.Topologies as Topologies
 use Rattle.plant_network.specs.pce_element.contracts.topologies.TopologiesWorld.TheImpl as TopologiesWorld
 use Rattle.plant_network.specs.pce_parent.contracts.work.Done as Done
-use Rattle.plant_network.specs.plant_hierarchy.contracts.elements.Elements as Elements
-use Rattle.plant_network.specs.plant_hierarchy.contracts.hierarchy.Hierarchy as Hierarchy
+use Rattle.plant_network.specs.network_members.contracts.elements.Elements as Elements
+use Rattle.plant_network.specs.network_members.contracts.hierarchy.Hierarchy as Hierarchy
 use Rattle.pce_plant.specs.contracts.acts.Act as Act
 use Rattle.pce_plant.specs.contracts.acts.Acted as Acted
 use Rattle.pce_plant.specs.contracts.acts.Turn as Turn

@@ -13,7 +13,7 @@ use Rattle.plant_network.specs.pce_parent.contracts.work.Work as Work
 use Rattle.plant_text.specs.contracts.network.Network as Network
 use Rattle.plant_network.specs.pce_parent.contracts.asking.Asking as Asking
 use Rattle.plant_network.specs.pce_parent.contracts.parent.Parent as Parent
-use Rattle.plant_network.specs.plant_traffic.contracts.traffic.Traffic as Traffic
+use Rattle.plant_network.specs.network_links.contracts.traffic.Traffic as Traffic
 use Rattle.pce_plant.specs.contracts.answering.CommitRefused as CommitRefused
 use Rattle.pce_plant.specs.contracts.acts.Acted as Acted
 

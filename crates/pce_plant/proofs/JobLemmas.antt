@@ -22,7 +22,7 @@ use Rattle.plant_network.specs.plant_model.Parent as parent
 use Rattle.plant_network.specs.plant_model.Plant.{Pin, Segment, ask}
 use Rattle.plant_network.specs.plant_model.RealWire.{wire}
 use Rattle.plant_network.specs.plant_model.Settings.{family}
-use Rattle.plant_network.specs.plant_members.Membership.{Membership}
+use Rattle.plant_network.specs.member_trait.Membership.{Membership}
 use Rattle.plant_network.specs.pce_element.Committing.{IsOwnJob}
 use Rattle.plant_network.specs.pce_element.Jobs as element
 use Rattle.plant_network.specs.pce_parent.Seen.{job_when}
@@ -31,13 +31,13 @@ use Rattle.plant_network.specs.pce_parent.declared.work.Done.{Done}
 use Rattle.plant_network.specs.pce_parent.declared.work.Done.TheVariants as done
 use Rattle.plant_network.specs.pce_parent.declared.work.Work.{Work}
 use Rattle.plant_network.specs.pce_parent.declared.work.Work.TheVariants as work
-use Rattle.plant_network.specs.plant_hierarchy.Answering.{IsElementWork, IsOwnDone, IsParentWork, IsRefusedFor, border_job}
-use Rattle.plant_network.specs.plant_hierarchy.Elements.{at_domain, element_or, own_of}
-use Rattle.plant_network.specs.plant_hierarchy.Ready.{work_in}
-use Rattle.plant_network.specs.plant_hierarchy.declared.answering.Unanswered.{Unanswered}
-use Rattle.plant_network.proofs.plant_hierarchy.AnswerLemmas.{no_border_job, no_job}
-use Rattle.plant_network.proofs.plant_hierarchy.DomainLemmas.{as_self, found_own, same_as_is}
-use Rattle.plant_network.specs.plant_hierarchy.Topologies.{Seen}
+use Rattle.plant_network.specs.network_members.Answering.{IsElementWork, IsOwnDone, IsParentWork, IsRefusedFor, border_job}
+use Rattle.plant_network.specs.network_members.Elements.{at_domain, element_or, own_of}
+use Rattle.plant_network.specs.network_members.Ready.{work_in}
+use Rattle.plant_network.specs.network_members.declared.answering.Unanswered.{Unanswered}
+use Rattle.plant_network.proofs.network_members.AnswerLemmas.{no_border_job, no_job}
+use Rattle.plant_network.proofs.network_members.DomainLemmas.{as_self, found_own, same_as_is}
+use Rattle.plant_network.specs.network_members.Topologies.{Seen}
 use Rattle.pce_plant.specs.Held.{Held, whole}
 use Rattle.pce_plant.specs.Whole.{Whole}
 use Rattle.pce_plant.specs.Jobs.{IsAsked, IsAskedAbove, IsOwn, IsSolvedBy, IsWork, answer_of, handed_back, refusal_of, solved_at, solved_number}

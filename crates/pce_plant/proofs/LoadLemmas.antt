@@ -9,21 +9,21 @@ use Rattle.plant_network.specs.plant_model.Element.{Element}
 use Rattle.plant_network.specs.plant_model.Parent.{Parent}
 use Rattle.plant_network.specs.plant_model.Plant.{Pin, Segment, Plant, Steps}
 use Rattle.plant_network.specs.plant_model.RealWire.{wire}
-use Rattle.plant_network.specs.plant_traffic.Carried.{Carried, flow_of}
-use Rattle.plant_network.specs.plant_traffic.Flow.{Flow, ClearsSaid}
-use Rattle.plant_network.specs.plant_members.Membership.{Membership}
-use Rattle.plant_network.specs.plant_members.Owed.{pending_at}
+use Rattle.plant_network.specs.network_links.Carried.{Carried, flow_of}
+use Rattle.plant_network.specs.network_links.Flow.{Flow, ClearsSaid}
+use Rattle.plant_network.specs.member_trait.Membership.{Membership}
+use Rattle.plant_network.specs.member_trait.Owed.{pending_at}
 use Rattle.plant_queues.specs.Messages.{Covers}
 use Rattle.plant_network.specs.plant_sessions.declared.TheConstants.{ANSWER_LENGTH, OWN_LENGTH}
 use Rattle.plant_text.specs.Settings.{elements_of}
-use Rattle.plant_network.specs.plant_deeds.Passing.{IsOf}
-use Rattle.plant_network.specs.plant_deeds.Rooms.{IsRoomy, own_most, said_in_all}
-use Rattle.plant_network.proofs.plant_deeds.FeedLaws.{cleared_roomy}
-use Rattle.plant_network.proofs.plant_deeds.RoomySteps.{emptied_keeps}
-use Rattle.plant_network.specs.plant_hierarchy.Loading.{Loads, answer_of, deeds_of}
-use Rattle.plant_network.specs.plant_hierarchy.Tiers.{lost_in}
-use Rattle.plant_network.specs.plant_hierarchy.Topologies.{Tiers, members_of}
-use Rattle.plant_network.proofs.plant_deeds.StepLemmas.{kept}
+use Rattle.plant_network.specs.network_events.Passing.{IsOf}
+use Rattle.plant_network.specs.network_events.Rooms.{IsRoomy, own_most, said_in_all}
+use Rattle.plant_network.proofs.network_events.FeedLaws.{cleared_roomy}
+use Rattle.plant_network.proofs.network_events.RoomySteps.{emptied_keeps}
+use Rattle.plant_network.specs.network_members.Loading.{Loads, answer_of, deeds_of}
+use Rattle.plant_network.specs.network_members.Tiers.{lost_in}
+use Rattle.plant_network.specs.network_members.Topologies.{Tiers, members_of}
+use Rattle.plant_network.proofs.network_events.StepLemmas.{kept}
 use Rattle.pce_plant.specs.Held.{Held, held, standing, whole, IsSound, Moves}
 
 module _ (d : As) (g : Rows) (old : Held) (r : Result ℕ Refused) (t : Tiers) (loads : Loads d g old.members r t) where

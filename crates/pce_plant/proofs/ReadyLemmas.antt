@@ -20,11 +20,11 @@ use Rattle.plant_network.specs.plant_model.Events.{has_jobs, is_ready, is_ready_
 use Rattle.plant_network.specs.plant_model.Parent as parent
 use Rattle.plant_network.specs.plant_model.Plant.{Pin, Plant}
 use Rattle.plant_network.specs.plant_model.State.{Connection}
-use Rattle.plant_network.specs.plant_members.Membership.{is_member}
-use Rattle.plant_network.specs.plant_members.Owed.{count_by_asker, is_peer}
-use Rattle.plant_network.specs.plant_traffic.Carried.{flow_of}
-use Rattle.plant_network.specs.plant_deeds.Rooms.{is_live, is_talking}
-use Rattle.plant_network.proofs.plant_deeds.LossEvents.{open_below}
+use Rattle.plant_network.specs.member_trait.Membership.{is_member}
+use Rattle.plant_network.specs.member_trait.Owed.{count_by_asker, is_peer}
+use Rattle.plant_network.specs.network_links.Carried.{flow_of}
+use Rattle.plant_network.specs.network_events.Rooms.{is_live, is_talking}
+use Rattle.plant_network.proofs.network_events.LossEvents.{open_below}
 use Rattle.pce_plant.specs.Held.{Held, IsSound, whole}
 use Rattle.pce_plant.specs.Jobs.{CanSolve}
 

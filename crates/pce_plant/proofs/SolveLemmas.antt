@@ -17,21 +17,21 @@ use Rattle.plant_network.specs.plant_model.RealWire.{wire}
 use Rattle.plant_network.specs.plant_model.Settings.{place}
 use Rattle.plant_network.specs.plant_model.Solving.{commit}
 use Rattle.plant_network.specs.plant_model.State.{Solves, said, sent_by}
-use Rattle.plant_network.specs.plant_traffic.Carried.{Carried, flow_of}
-use Rattle.plant_network.specs.plant_traffic.Flow.{Flow, SameFlow}
-use Rattle.plant_network.specs.plant_members.Membership.{Membership, Replied, Standing, is_member, with_element, with_parent}
-use Rattle.plant_network.specs.plant_deeds.Answering.{IsAnswer, Sends}
-use Rattle.plant_network.specs.plant_deeds.Giving.{OnlyGrows}
-use Rattle.plant_network.specs.plant_deeds.Moving as moving
-use Rattle.plant_network.specs.plant_deeds.Standing.{here, state_of}
-use Rattle.plant_network.specs.plant_hierarchy.Answering.{Commits, ElementAnswers, IsRefusedFor, MemberAnswers, ParentAnswers, number_of}
-use Rattle.plant_network.specs.plant_hierarchy.Tiers.{lost_in}
-use Rattle.plant_network.specs.plant_hierarchy.Tiers as tiers
-use Rattle.plant_network.specs.plant_hierarchy.declared.answering.Unanswered.{Unanswered}
+use Rattle.plant_network.specs.network_links.Carried.{Carried, flow_of}
+use Rattle.plant_network.specs.network_links.Flow.{Flow, SameFlow}
+use Rattle.plant_network.specs.member_trait.Membership.{Membership, Replied, Standing, is_member, with_element, with_parent}
+use Rattle.plant_network.specs.network_events.Answering.{IsAnswer, Sends}
+use Rattle.plant_network.specs.network_events.Giving.{OnlyGrows}
+use Rattle.plant_network.specs.network_events.Moving as moving
+use Rattle.plant_network.specs.network_events.Standing.{here, state_of}
+use Rattle.plant_network.specs.network_members.Answering.{Commits, ElementAnswers, IsRefusedFor, MemberAnswers, ParentAnswers, number_of}
+use Rattle.plant_network.specs.network_members.Tiers.{lost_in}
+use Rattle.plant_network.specs.network_members.Tiers as tiers
+use Rattle.plant_network.specs.network_members.declared.answering.Unanswered.{Unanswered}
 use Rattle.plant_network.specs.pce_parent.declared.work.Done.{Done}
-use Rattle.plant_network.specs.plant_hierarchy.Topologies.{Become, MemberPlan, Tiers, members_of, next_by, standing_of}
+use Rattle.plant_network.specs.network_members.Topologies.{Become, MemberPlan, Tiers, members_of, next_by, standing_of}
 use Rattle.plant_network.proofs.AnswerLemmas.{element_answer, parent_answer}
-use Rattle.plant_network.proofs.plant_hierarchy.StepLemmas.{stands_as}
+use Rattle.plant_network.proofs.network_members.StepLemmas.{stands_as}
 use Rattle.pce_plant.specs.Held.{IsKept, IsSound, Moves, held, whole}
 use Rattle.pce_plant.specs.Jobs.{solved_at, solved_number}
 

@@ -3,9 +3,9 @@ use Rattle.plant_network.specs.plant_model.declared.event.Event.{Event}
 use Rattle.plant_network.specs.plant_model.Events.{Answered}
 use Rattle.plant_network.specs.plant_model.Plant.{Happened, Steps}
 use Rattle.plant_network.specs.plant_model.RealWire.{wire}
-use Rattle.plant_lasting.specs.Lasting.{AreInOrder, JobsLast}
-use Rattle.plant_lasting.proofs.EventsLast.{steps_last, keys_are_before}
-use Rattle.plant_network.proofs.plant_deeds.SoundLemmas as network
+use Rattle.jobs_last.specs.Lasting.{AreInOrder, JobsLast}
+use Rattle.jobs_last.proofs.EventsLast.{steps_last, keys_are_before}
+use Rattle.plant_network.proofs.network_events.SoundLemmas as network
 use Rattle.pce_plant.specs.Whole.{GoesOn, Stepped}
 use Rattle.pce_plant.specs.Held.{Held, standing, whole, IsSound, Moves}
 

@@ -2,7 +2,7 @@
 use Rattle.std.specs.Prelude.{Option}
 use Rattle.dom_base.specs.declared.names.As.{As}
 use Rattle.plant_network.specs.plant_model.Plant.{Pin}
-use Rattle.plant_network.specs.plant_hierarchy.Current as hierarchy
+use Rattle.plant_network.specs.network_members.Current as hierarchy
 use Rattle.pce_plant.specs.Whole.{Whole}
 
 -- the topology and its number; none where there is no such element

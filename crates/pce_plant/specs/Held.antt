@@ -3,10 +3,10 @@ use Rattle.plant_network.specs.plant_model.declared.event.Event.{Event}
 use Rattle.plant_network.specs.plant_model.Events.{Answered}
 use Rattle.plant_network.specs.plant_model.Plant.{Pin, Segment, Steps}
 use Rattle.plant_network.specs.plant_model.RealWire.{wire}
-use Rattle.plant_network.specs.plant_traffic.Carried.{Carried, flow_of}
-use Rattle.plant_network.specs.plant_deeds.Standing.{Here, here}
-use Rattle.plant_network.specs.plant_hierarchy.Topologies.{Tiers, standing_of}
-use Rattle.plant_network.specs.plant_deeds.Moving as network
+use Rattle.plant_network.specs.network_links.Carried.{Carried, flow_of}
+use Rattle.plant_network.specs.network_events.Standing.{Here, here}
+use Rattle.plant_network.specs.network_members.Topologies.{Tiers, standing_of}
+use Rattle.plant_network.specs.network_events.Moving as network
 use Rattle.pce_plant.specs.Whole.{Whole}
 
 pub record Held : Type 0 where

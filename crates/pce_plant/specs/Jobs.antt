@@ -22,8 +22,8 @@ use Rattle.plant_network.specs.pce_parent.declared.work.Done.{Done}
 use Rattle.plant_network.specs.pce_parent.declared.work.Done.TheVariants as done
 use Rattle.plant_network.specs.pce_parent.declared.work.Work.{Work}
 use Rattle.plant_network.specs.pce_parent.declared.work.Work.TheVariants as work
-use Rattle.plant_network.specs.plant_hierarchy.Answering.{number_of}
-use Rattle.plant_network.specs.plant_hierarchy.declared.answering.Unanswered.{Unanswered}
+use Rattle.plant_network.specs.network_members.Answering.{number_of}
+use Rattle.plant_network.specs.network_members.declared.answering.Unanswered.{Unanswered}
 use Rattle.pce_plant.specs.Whole.{Whole}
 use Rattle.pce_plant.specs.declared.answering.CommitRefused.{CommitRefused}
 use Rattle.pce_plant.specs.declared.answering.CommitRefused.TheVariants.{NoSuchJob, NoMemory}

@@ -7,11 +7,11 @@ use Rattle.dom_base.specs.declared.names.NoMemory.{NoMemory}
 use Rattle.plant_network.specs.plant_model.declared.event.Event.{Event}
 use Rattle.plant_network.specs.plant_model.declared.event.Event.TheVariants.{Solve}
 use Rattle.plant_network.specs.plant_model.Events.{Answered, has_jobs, ready_jobs}
-use Rattle.plant_lasting.specs.Lasting.{HaveGiven, JobsLast}
+use Rattle.jobs_last.specs.Lasting.{HaveGiven, JobsLast}
 use Rattle.plant_network.specs.pce_element.Rows.{pin_with}
 use Rattle.plant_network.specs.pce_parent.declared.work.Done.{Done}
 use Rattle.plant_network.specs.pce_parent.declared.work.Work.{Work}
-use Rattle.plant_network.specs.plant_hierarchy.Answering.{IsWeighedWork}
+use Rattle.plant_network.specs.network_members.Answering.{IsWeighedWork}
 use Rattle.pce_plant.specs.Current.{IsCurrent}
 use Rattle.pce_plant.specs.Held.{whole}
 use Rattle.pce_plant.specs.Jobs.{IsOwn, IsSolvedBy, IsWork, answer_of, handed_back, solved_at, solved_number}

@@ -6,7 +6,7 @@ use Rattle.plant_network.specs.plant_model.declared.event.Event.TheVariants as e
 use Rattle.plant_network.specs.plant_model.Events.{Answered}
 use Rattle.plant_network.specs.plant_model.Plant.{Pin, Segment, PlantDeed, Steps, Entry, IsGiven, Run}
 use Rattle.plant_network.specs.plant_model.RealWire.{wire}
-use Rattle.plant_network.specs.plant_deeds.Whole as network
+use Rattle.plant_network.specs.network_events.Whole as network
 
 -- its settings, its state, and the messages that the last accepted event put into queues
 abbrev pub Whole : Type 0

@@ -2,8 +2,8 @@
 ghost use Rattle.std.specs.Prelude.{◌≡◌, true, is_some, Some, IfErr, IfOk};
 ghost use Rattle.plant_network.specs.plant_model.declared.event.Event.TheVariants.{Solve};
 ghost use Rattle.plant_network.specs.plant_model.Events.{has_jobs};
-ghost use Rattle.plant_network.specs.plant_hierarchy.Answering.{IsOwnDone, IsRefusedFor, IsWeighedWork, back_of};
-ghost use Rattle.plant_network.specs.plant_hierarchy.Topologies.{members_of};
+ghost use Rattle.plant_network.specs.network_members.Answering.{IsOwnDone, IsRefusedFor, IsWeighedWork, back_of};
+ghost use Rattle.plant_network.specs.network_members.Topologies.{members_of};
 ghost use Rattle.pce_plant.specs.Held.{IsSound, Moves, held};
 ghost use Rattle.pce_plant.specs.Jobs.{IsSolvedBy, answer_of, handed_back, refusal_of, solved_at, solved_number, told};
 

@@ -8,7 +8,7 @@ use Rattle.plant_text.specs.declared.settings.ElementRow.{ElementRow}
 use Rattle.plant_text.specs.declared.settings.PeerRow.{PeerRow}
 use Rattle.plant_text.specs.Settings.{is_element}
 use Rattle.client_laws.specs.script_laws.plant_model.Laws.{IsElement, IsNetwork, IsParentLink}
-use Rattle.client_laws.proofs.script_laws.text_ranges.ModelledNetworks.{with_client}
+use Rattle.client_laws.proofs.script_laws.texts_in_range.ModelledNetworks.{with_client}
 use Rattle.drawn_network.specs.Settings.{element, link, settings}
 use Rattle.plant_bulk.specs.Playing.{first_domain, network}
 

@@ -6,7 +6,7 @@ ghost use Rattle.plant_script.specs.plant_model.Writing.{bandwidth};
 ghost use Rattle.plant_client.specs.Questions.{asked_of, opening_text, question_message, question_text, sequence_most};
 
 use dom_base::{Addr, As, Bytes, List, NoMemory};
-use member_parts::{ends, needed, one, sequence_object};
+use pce_common::{ends, needed, one, sequence_object};
 use pcep_codes::classes;
 use pcep_messages::{Asked, Message, WriteError, write_message};
 use pcep_objects::{Body, Object};

@@ -11,18 +11,18 @@ use Rattle.vspt_tree.specs.declared.branch.Best.{Best}
 use Rattle.vspt_tree.specs.declared.branch.Branch.{Branch}
 use Rattle.plant_text.specs.declared.settings.NetworkParts.{NetworkParts}
 use Rattle.plant_text.specs.Names.{parent_as, same_as}
-use Rattle.plant_deeds.specs.plant_model.declared.output.Output.{Output}
-use Rattle.plant_deeds.specs.plant_model.BorderGraph.{Found}
-use Rattle.plant_deeds.specs.plant_model.Element.{Element, Item, Place, Row, Taken, is_client}
-use Rattle.plant_deeds.specs.plant_model.Parent as parent
-use Rattle.plant_deeds.specs.plant_model.RealWire.{wire}
-use Rattle.plant_deeds.specs.plant_model.Solving.{client_reply, closed_paths, closed_reply, commit, free, issued_all}
-use Rattle.plant_deeds.specs.plant_model.Taking.{answered}
-use Rattle.plant_deeds.specs.plant_model.Writing.{busy, reply_message}
-use Rattle.plant_deeds.specs.plant_members.Membership.{Membership, with_element, with_parent}
-use Rattle.plant_deeds.specs.plant_members.Owed.{count_by_asker, is_peer}
-use Rattle.plant_deeds.specs.Answering.{IsAnswer}
-use Rattle.plant_deeds.proofs.AnswerLaws.{count_found, owed_above, owed_below, pending_above, pending_below}
+use Rattle.network_events.specs.plant_model.declared.output.Output.{Output}
+use Rattle.network_events.specs.plant_model.BorderGraph.{Found}
+use Rattle.network_events.specs.plant_model.Element.{Element, Item, Place, Row, Taken, is_client}
+use Rattle.network_events.specs.plant_model.Parent as parent
+use Rattle.network_events.specs.plant_model.RealWire.{wire}
+use Rattle.network_events.specs.plant_model.Solving.{client_reply, closed_paths, closed_reply, commit, free, issued_all}
+use Rattle.network_events.specs.plant_model.Taking.{answered}
+use Rattle.network_events.specs.plant_model.Writing.{busy, reply_message}
+use Rattle.network_events.specs.member_trait.Membership.{Membership, with_element, with_parent}
+use Rattle.network_events.specs.member_trait.Owed.{count_by_asker, is_peer}
+use Rattle.network_events.specs.Answering.{IsAnswer}
+use Rattle.network_events.proofs.AnswerLaws.{count_found, owed_above, owed_below, pending_above, pending_below}
 
 module _ {P : Type 0} {S : Type 0} where
   record Ends (h : Row P) (k : Element P S) (t : Taken P S) : Type 0 where

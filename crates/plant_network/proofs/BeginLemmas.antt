@@ -9,25 +9,25 @@ use Rattle.plant_text.specs.declared.settings.NetworkParts.{NetworkParts}
 use Rattle.plant_text.specs.Names.{same_as, parent_as}
 use Rattle.plant_text.specs.Networks.{IsNetwork}
 use Rattle.plant_text.specs.Settings.{lines}
-use Rattle.plant_deeds.specs.plant_model.Element.{Element}
-use Rattle.plant_deeds.specs.plant_model.Events as events
-use Rattle.plant_deeds.specs.plant_model.Parent.{Parent}
-use Rattle.plant_deeds.specs.plant_model.RealWire.{wire}
-use Rattle.plant_deeds.specs.plant_model.State.{Access, State}
-use Rattle.plant_deeds.specs.plant_model.Wire.{Bytes}
-use Rattle.plant_deeds.specs.plant_traffic.Flow.{Flow, IsBare}
-use Rattle.plant_deeds.specs.plant_sessions.Links.{new_sender}
-use Rattle.plant_deeds.specs.plant_members.Membership.{Membership}
-use Rattle.plant_deeds.specs.plant_members.Owed.{count_by_asker, is_peer, owed, pending_at, pending_in}
-use Rattle.plant_deeds.specs.Passing.{IsOf}
-use Rattle.plant_deeds.specs.Rooms.{IsRoomy}
-use Rattle.plant_deeds.specs.Standing.{Here, state_of}
-use Rattle.plant_lasting.specs.Lasting.{AreInOrder, KeysInTime}
-use Rattle.plant_lasting.proofs.HappeningsLast.{opened_in_order, opened_in_time}
-use Rattle.plant_hierarchy.proofs.ApartLemmas.{ends_are_two}
-use Rattle.plant_hierarchy.proofs.JoinedLemmas.{are_joined, elements_below}
+use Rattle.network_events.specs.plant_model.Element.{Element}
+use Rattle.network_events.specs.plant_model.Events as events
+use Rattle.network_events.specs.plant_model.Parent.{Parent}
+use Rattle.network_events.specs.plant_model.RealWire.{wire}
+use Rattle.network_events.specs.plant_model.State.{Access, State}
+use Rattle.network_events.specs.plant_model.Wire.{Bytes}
+use Rattle.network_events.specs.network_links.Flow.{Flow, IsBare}
+use Rattle.network_events.specs.plant_sessions.Links.{new_sender}
+use Rattle.network_events.specs.member_trait.Membership.{Membership}
+use Rattle.network_events.specs.member_trait.Owed.{count_by_asker, is_peer, owed, pending_at, pending_in}
+use Rattle.network_events.specs.Passing.{IsOf}
+use Rattle.network_events.specs.Rooms.{IsRoomy}
+use Rattle.network_events.specs.Standing.{Here, state_of}
+use Rattle.jobs_last.specs.Lasting.{AreInOrder, KeysInTime}
+use Rattle.jobs_last.proofs.HappeningsLast.{opened_in_order, opened_in_time}
+use Rattle.network_members.proofs.ApartLemmas.{ends_are_two}
+use Rattle.network_members.proofs.JoinedLemmas.{are_joined, elements_below}
 use Rattle.plant_network.specs.Beginning.{AreBare, Begins}
-use Rattle.plant_deeds.specs.Moving.{IsKept, whole}
+use Rattle.network_events.specs.Moving.{IsKept, whole}
 
 none_either : (b : Bool) (z : ℕ) → cond b z z ≡ z
 none_either true z = refl

@@ -7,15 +7,15 @@ use Rattle.pcep_subobjects.specs.declared.hop.Hop.{Hop}
 use Rattle.plant_text.specs.declared.settings.NetworkParts.{NetworkParts}
 use Rattle.plant_text.specs.Names.{same_as, same_link}
 use Rattle.plant_text.specs.Settings.{Line, has_line, is_linked, lines}
-use Rattle.plant_deeds.specs.plant_model.declared.outcome.Refused.TheVariants as refused
-use Rattle.plant_deeds.specs.plant_model.Blind.{is_accepted}
-use Rattle.plant_deeds.specs.plant_model.Events as events
-use Rattle.plant_deeds.specs.plant_model.Events.{Happened}
-use Rattle.plant_deeds.specs.plant_model.Names.{is_empty}
-use Rattle.plant_deeds.specs.plant_model.State.{State}
-use Rattle.plant_deeds.specs.plant_model.Wire.{Bytes, Codec}
-use Rattle.plant_deeds.specs.plant_traffic.Flow.{Flow}
-use Rattle.plant_deeds.specs.plant_traffic.Waiting.{IsAtMost, WaitsNext, ways}
+use Rattle.network_events.specs.plant_model.declared.outcome.Refused.TheVariants as refused
+use Rattle.network_events.specs.plant_model.Blind.{is_accepted}
+use Rattle.network_events.specs.plant_model.Events as events
+use Rattle.network_events.specs.plant_model.Events.{Happened}
+use Rattle.network_events.specs.plant_model.Names.{is_empty}
+use Rattle.network_events.specs.plant_model.State.{State}
+use Rattle.network_events.specs.plant_model.Wire.{Bytes, Codec}
+use Rattle.network_events.specs.network_links.Flow.{Flow}
+use Rattle.network_events.specs.network_links.Waiting.{IsAtMost, WaitsNext, ways}
 use Rattle.plant_network.specs.Due.{IsLeast, IsSettled}
 
 -- ---- along the links of the settings

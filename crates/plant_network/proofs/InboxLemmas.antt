@@ -14,18 +14,18 @@ use Rattle.pcep_session.specs.Table.{turn_of}
 use Rattle.plant_text.specs.declared.settings.NetworkParts.{NetworkParts}
 use Rattle.plant_text.specs.Names.{same_as, parent_as}
 use Rattle.plant_text.specs.Settings.{class_of}
-use Rattle.plant_deeds.specs.plant_model.declared.output.Output.{Output}
-use Rattle.plant_deeds.specs.plant_model.Settings.{place, family}
-use Rattle.plant_deeds.specs.plant_model.Wire.{Bytes, Codec}
-use Rattle.plant_deeds.specs.plant_model.Element.{upped, downed}
-use Rattle.plant_deeds.specs.plant_model.Taking.{take}
-use Rattle.plant_deeds.specs.plant_model.Parent as parent
-use Rattle.plant_deeds.specs.plant_model.State.{State, Connection, Access, Takes, Ups, Downs}
-use Rattle.plant_deeds.specs.plant_model.Deeds.{Going, element_of, is_due, is_tick, is_out_empty, on_connection, with_more, with_session, with_inbox, input_of, with_parent, with_element, put, put_to, puts, give, rise, fall, say, outside_act, outside_acts, outside_step, outside_input, with_access}
-use Rattle.plant_deeds.specs.plant_model.Outside.{heeded}
-use Rattle.plant_deeds.specs.plant_model.Events as events
-use Rattle.plant_deeds.specs.plant_model.Blind.{is_accepted}
-use Rattle.plant_deeds.specs.plant_model.Events.{Happened}
+use Rattle.network_events.specs.plant_model.declared.output.Output.{Output}
+use Rattle.network_events.specs.plant_model.Settings.{place, family}
+use Rattle.network_events.specs.plant_model.Wire.{Bytes, Codec}
+use Rattle.network_events.specs.plant_model.Element.{upped, downed}
+use Rattle.network_events.specs.plant_model.Taking.{take}
+use Rattle.network_events.specs.plant_model.Parent as parent
+use Rattle.network_events.specs.plant_model.State.{State, Connection, Access, Takes, Ups, Downs}
+use Rattle.network_events.specs.plant_model.Deeds.{Going, element_of, is_due, is_tick, is_out_empty, on_connection, with_more, with_session, with_inbox, input_of, with_parent, with_element, put, put_to, puts, give, rise, fall, say, outside_act, outside_acts, outside_step, outside_input, with_access}
+use Rattle.network_events.specs.plant_model.Outside.{heeded}
+use Rattle.network_events.specs.plant_model.Events as events
+use Rattle.network_events.specs.plant_model.Blind.{is_accepted}
+use Rattle.network_events.specs.plant_model.Events.{Happened}
 use Rattle.plant_network.specs.Due.{inbox_from, inbox_of}
 use Rattle.plant_network.specs.DueLaws.{FoundNothing}
 

@@ -3,7 +3,7 @@ pub mod AnswerLemmas
 pub mod InboxLemmas
 pub mod CarryLemmas
 -- handed on from below
-pub use Rattle.plant_deeds.proofs as plant_deeds
-pub use Rattle.plant_hierarchy.proofs as plant_hierarchy
-pub use Rattle.plant_lasting.proofs as plant_lasting
-pub use Rattle.plant_deeds.proofs.plant_model
+pub use Rattle.network_events.proofs as network_events
+pub use Rattle.network_members.proofs as network_members
+pub use Rattle.jobs_last.proofs as jobs_last
+pub use Rattle.network_events.proofs.plant_model

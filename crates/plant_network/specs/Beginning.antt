@@ -2,11 +2,11 @@
 use Rattle.std.specs.Prelude.{◌≡◌, List, []}
 use Rattle.pcep_subobjects.specs.declared.hop.Hop.{Hop}
 use Rattle.plant_text.specs.declared.settings.NetworkParts.{NetworkParts}
-use Rattle.plant_deeds.specs.plant_model.Events.{bare, opening}
-use Rattle.plant_deeds.specs.plant_model.RealWire.{wire}
-use Rattle.plant_deeds.specs.plant_members.Membership.{Membership}
-use Rattle.plant_deeds.specs.Standing.{Here}
-use Rattle.plant_deeds.specs.Moving.{IsSound, whole}
+use Rattle.network_events.specs.plant_model.Events.{bare, opening}
+use Rattle.network_events.specs.plant_model.RealWire.{wire}
+use Rattle.network_events.specs.member_trait.Membership.{Membership}
+use Rattle.network_events.specs.Standing.{Here}
+use Rattle.network_events.specs.Moving.{IsSound, whole}
 
 module _ {P : Type 0} {S : Type 0} where
   -- the members are those of the model's beginning, whatever they pin

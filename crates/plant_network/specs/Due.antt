@@ -3,10 +3,10 @@ use Rattle.std.specs.Prelude.{◌≡◌, ℕ, Bool, true, false, not, List, [], 
 use Rattle.dom_base.specs.declared.names.As.{As}
 use Rattle.plant_text.specs.declared.settings.NetworkParts.{NetworkParts}
 use Rattle.plant_text.specs.Settings.{lines}
-use Rattle.plant_deeds.specs.plant_model.Names.{is_empty}
-use Rattle.plant_deeds.specs.plant_model.State.{Connection, State}
-use Rattle.plant_deeds.specs.plant_model.Wire.{Bytes}
-use Rattle.plant_deeds.specs.plant_traffic.Waiting.{IsAtMost, ways}
+use Rattle.network_events.specs.plant_model.Names.{is_empty}
+use Rattle.network_events.specs.plant_model.State.{Connection, State}
+use Rattle.network_events.specs.plant_model.Wire.{Bytes}
+use Rattle.network_events.specs.network_links.Waiting.{IsAtMost, ways}
 
 abbrev pub inbox_from : Option Connection → List (Option Bytes)
 inbox_from None = []

@@ -3,10 +3,10 @@ use Rattle.std.specs.Prelude.{◌≡◌, ◌<◌, ℕ, true, false, List, [], le
 use Rattle.dom_base.specs.declared.names.As.{As}
 use Rattle.pcep_subobjects.specs.declared.hop.Hop.{Hop}
 use Rattle.plant_text.specs.declared.settings.NetworkParts.{NetworkParts}
-use Rattle.plant_deeds.specs.plant_model.Blind.{is_accepted}
-use Rattle.plant_deeds.specs.plant_model.Events.{Happened, carry, take}
-use Rattle.plant_deeds.specs.plant_model.State.{State}
-use Rattle.plant_deeds.specs.plant_model.Wire.{Codec}
+use Rattle.network_events.specs.plant_model.Blind.{is_accepted}
+use Rattle.network_events.specs.plant_model.Events.{Happened, carry, take}
+use Rattle.network_events.specs.plant_model.State.{State}
+use Rattle.network_events.specs.plant_model.Wire.{Codec}
 use Rattle.plant_network.specs.Due.{IsLeast, inbox_of}
 
 -- A take that is refused found nothing, and changes and says nothing.

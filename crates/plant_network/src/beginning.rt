@@ -3,13 +3,13 @@ ghost use Rattle.std.specs.Prelude.{◌≡◌, [], length, IfOk, OnOk};
 ghost use Rattle.dom_base.specs.declared.names.As.{As as Domain};
 ghost use Rattle.plant_text.specs.Networks.{IsNetwork};
 ghost use Rattle.plant_text.specs.Settings.{lines};
-ghost use Rattle.plant_deeds.specs.plant_traffic.Carried.{flow_of};
-ghost use Rattle.plant_deeds.specs.plant_traffic.Flow.{IsBare};
-ghost use Rattle.plant_deeds.specs.Standing.{here};
+ghost use Rattle.network_events.specs.network_links.Carried.{flow_of};
+ghost use Rattle.network_events.specs.network_links.Flow.{IsBare};
+ghost use Rattle.network_events.specs.Standing.{here};
 ghost use Rattle.plant_network.specs.Beginning.{AreBare, Begins};
 
 use dom_base::NoMemory;
-use plant_deeds::{Members, Traffic, begin_links, lines_of};
+use network_events::{Members, Traffic, begin_links, lines_of};
 use plant_text::NetworkParts;
 use std::alloc::Global;
 

@@ -1,8 +1,8 @@
 //! What is due in a network that goes on by itself, with topologies and without: the takes of an outside peer's inbox, and the
 //! carrying of messages in the order of their pairs. Laws, as the contracts of calls that do nothing.
 ghost use Rattle.disclosure.specs.Shown.{open_of};
-ghost use Rattle.plant_deeds.specs.plant_model.Blind.{Nothing, show_nothing};
-ghost use Rattle.plant_deeds.specs.plant_model.Plant.{Pin, Segment};
+ghost use Rattle.network_events.specs.plant_model.Blind.{Nothing, show_nothing};
+ghost use Rattle.network_events.specs.plant_model.Plant.{Pin, Segment};
 ghost use Rattle.plant_network.specs.DueLaws.{LeastIsCarried, RefusedTakesFindNothing, TakesLeaveLess};
 
 /// A take that is accepted leaves less in the inbox.

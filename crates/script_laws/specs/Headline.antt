@@ -8,10 +8,10 @@ use Rattle.plant_play.specs.plant_model.Blind.{BlindSays, BlindState, heard}
 use Rattle.plant_play.specs.plant_model.Laws.{IsNetwork}
 use Rattle.plant_play.specs.plant_model.Plant.{Entry, Plant, Run, deeds_of}
 use Rattle.plant_play.specs.plant_model.RealWire.{wire}
-use Rattle.plant_counting.specs.plant_laws.About.{IsShort}
-use Rattle.plant_counting.specs.plant_laws.Headline.{LeastAnswersIn, NoneAnswersIn}
-use Rattle.plant_counting.specs.plant_laws.Worlds.{DisclosedRun}
-use Rattle.plant_counting.specs.Counting.{HasNoParent}
+use Rattle.ids_suffice.specs.plant_laws.About.{IsShort}
+use Rattle.ids_suffice.specs.plant_laws.Headline.{LeastAnswersIn, NoneAnswersIn}
+use Rattle.ids_suffice.specs.plant_laws.Worlds.{DisclosedRun}
+use Rattle.ids_suffice.specs.Counting.{HasNoParent}
 use Rattle.plant_play.specs.Playing.{Cue, IsNewStage, Stage}
 use Rattle.plant_play.specs.Scripts.{AllPlayed}
 use Rattle.plant_play.specs.Turns.{Turn, entries_of}

@@ -3,8 +3,8 @@ pub mod Laws
 pub mod Headline
 pub mod Disclosing
 -- handed on from below
-pub use Rattle.plant_counting.specs as plant_counting
-pub use Rattle.plant_counting.specs.plant_laws
+pub use Rattle.ids_suffice.specs as ids_suffice
+pub use Rattle.ids_suffice.specs.plant_laws
 pub use Rattle.plant_play.specs.plant_model
 pub use Rattle.plant_play.specs as plant_play
-pub use Rattle.text_ranges.specs as text_ranges
+pub use Rattle.texts_in_range.specs as texts_in_range

@@ -1,4 +1,4 @@
 pub mod LineLemmas
 pub mod ScriptParts
 -- handed on from below
-pub use Rattle.plant_layout.proofs as plant_layout
+pub use Rattle.settings_layout.proofs as settings_layout

@@ -8,7 +8,7 @@ ghost use Rattle.transcript.specs.Lines.{answer_line, answer_text, bytes_text, c
 use dom_base::{Addr, As, BorderRow, Label, NoMemory, Peer, write_addr, write_number};
 use line_text::write_hex;
 use path_certificate::Certificate;
-use plant_layout::model::{Outcome, Refused};
+use settings_layout::model::{Outcome, Refused};
 use plant_queues::Said;
 use plant_text::PeerRow;
 use std::alloc::Global;

@@ -1,6 +1,6 @@
 //! Public calls that the program does not make.
 use dom_base::As;
-use plant_layout::find_line;
+use settings_layout::find_line;
 use request_table::Requests;
 use std::test::Fail;
 

@@ -6,8 +6,8 @@ use Rattle.plant_network.specs.plant_model.declared.event.BlindEvent.TheVariants
 use Rattle.plant_network.specs.plant_model.declared.outcome.Outcome.TheVariants.{Done}
 use Rattle.plant_network.specs.plant_model.declared.outcome.Refused.{Refused}
 use Rattle.plant_network.specs.plant_model.declared.outcome.Refused.TheVariants.{NoMemory}
-use Rattle.plant_network.specs.plant_hierarchy.Blind.{Solves}
-use Rattle.plant_network.specs.plant_hierarchy.declared.plan.MemberPlan.{MemberPlan}
+use Rattle.plant_network.specs.network_members.Blind.{Solves}
+use Rattle.plant_network.specs.network_members.declared.plan.MemberPlan.{MemberPlan}
 use Rattle.blind_plant.specs.Held.{Moves, held}
 use Rattle.blind_plant.proofs.SolveLemmas.{kept_still, plan_answers, plan_done, plan_lacks, plan_member, planned_err}
 use Rattle.blind_plant.proofs.events.solve.Goals as goal

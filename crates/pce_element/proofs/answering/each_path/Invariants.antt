@@ -1,6 +1,6 @@
 use Rattle.std.proofs.Common.{◌≡◌, ◌++◌, length, map}
-use Rattle.member_parts.specs.plant_model.Branches.{path_of}
-use Rattle.member_parts.specs.plant_model.RealWire.{wire}
+use Rattle.pce_common.specs.plant_model.Branches.{path_of}
+use Rattle.pce_common.specs.plant_model.RealWire.{wire}
 use Rattle.pce_element.proofs.answering.each_path.Given as goal
 
 abbrev pub invariant-loop-branch : goal.invariant-loop-branch

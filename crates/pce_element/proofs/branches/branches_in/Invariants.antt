@@ -1,6 +1,6 @@
 use Rattle.std.proofs.Common.{◌≡◌, ◌++◌, length}
-use Rattle.member_parts.specs.plant_model.Branches.{branches_in}
-use Rattle.member_parts.specs.plant_model.RealWire.{wire}
+use Rattle.pce_common.specs.plant_model.Branches.{branches_in}
+use Rattle.pce_common.specs.plant_model.RealWire.{wire}
 use Rattle.pce_element.proofs.branches.branches_in.Given as goal
 
 abbrev pub invariant-loop-path : goal.invariant-loop-path

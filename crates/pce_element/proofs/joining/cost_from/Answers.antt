@@ -3,7 +3,7 @@ use Rattle.std.proofs.lemmas.List.{take_all}
 use Rattle.dom_base.proofs.Ranks.{Decides-rank}
 use Rattle.border_costs.specs.Asks.{beyond}
 use Rattle.border_costs.proofs.Downs.{step_taken, step_left}
-use Rattle.member_parts.specs.plant_model.Branches.{downs}
+use Rattle.pce_common.specs.plant_model.Branches.{downs}
 use Rattle.pce_element.proofs.JoinLemmas.{beyond_of, one_more}
 use Rattle.pce_element.proofs.joining.cost_from.Goals as goal
 use Rattle.pce_element.proofs.joining.cost_from.Goals.{then-eq+then-is_less, else-eq, else-eq-via-then-eq+else-is_less, else-eq-via-else-eq}

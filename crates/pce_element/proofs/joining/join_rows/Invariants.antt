@@ -1,6 +1,6 @@
 use Rattle.std.proofs.Common.{take}
-use Rattle.member_parts.specs.plant_model.Branches.{downs}
-use Rattle.member_parts.specs.plant_model.Jobs.{IsJoinOf}
+use Rattle.pce_common.specs.plant_model.Branches.{downs}
+use Rattle.pce_common.specs.plant_model.Jobs.{IsJoinOf}
 use Rattle.pce_element.proofs.joining.join_rows.Given as goal
 
 abbrev pub invariant-loop-row : goal.invariant-loop-row

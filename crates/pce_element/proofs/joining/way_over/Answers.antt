@@ -1,5 +1,5 @@
 use Rattle.std.proofs.Common.{refl}
-use Rattle.member_parts.specs.plant_model.Branches.{downs}
+use Rattle.pce_common.specs.plant_model.Branches.{downs}
 use Rattle.pce_element.proofs.JoinLemmas.{way_is}
 use Rattle.pce_element.proofs.joining.way_over.Goals as goal
 

@@ -4,11 +4,11 @@ use Rattle.std.specs.VecDeque.{deque_capacity, deque_len}
 use Rattle.std.specs.declared.collections.VecDeque.{VecDeque}
 use Rattle.std.specs.Global.{Global}
 use Rattle.std.proofs.lemmas.List.{append-nil}
-use Rattle.member_parts.specs.plant_model.declared.output.Lost.{Lost}
-use Rattle.member_parts.specs.plant_model.Element.{Row, stays, is_lost, lost_of}
+use Rattle.pce_common.specs.plant_model.declared.output.Lost.{Lost}
+use Rattle.pce_common.specs.plant_model.Element.{Row, stays, is_lost, lost_of}
 use Rattle.pce_element.specs.Pinned.{Pinned}
 use Rattle.pce_element.specs.Leaving.{with_rows}
-use Rattle.member_parts.proofs.HeldPlaces.{all_taken, nothing_dropped}
+use Rattle.pce_common.proofs.HeldPlaces.{all_taken, nothing_dropped}
 use Rattle.pce_element.proofs.LeaveLemmas.{turned, stays_told, drops_told, loses_told}
 use Rattle.pce_element.proofs.leaving.leave_all.Goals as goal
 use Rattle.pce_element.proofs.leaving.leave_all.Goals.{in-Stays, in-Drops, in-Loses+in-Ok}

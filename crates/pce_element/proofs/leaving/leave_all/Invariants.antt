@@ -1,7 +1,7 @@
 use Rattle.std.proofs.Common.{◌≡◌, ◌≤◌, ◌+◌, ◌++◌, length, map, take, drop}
 use Rattle.std.specs.Prelude.{filter}
 use Rattle.std.specs.VecDeque.{deque_capacity, deque_len}
-use Rattle.member_parts.specs.plant_model.Element.{stays, is_lost, lost_of}
+use Rattle.pce_common.specs.plant_model.Element.{stays, is_lost, lost_of}
 use Rattle.pce_element.specs.Leaving.{SameButSpare, with_rows}
 use Rattle.pce_element.proofs.leaving.leave_all.Given as goal
 

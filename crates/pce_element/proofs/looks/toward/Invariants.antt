@@ -1,5 +1,5 @@
 use Rattle.std.proofs.Common.{◌≡◌, drop}
-use Rattle.member_parts.specs.plant_model.Routes.{toward}
+use Rattle.pce_common.specs.plant_model.Routes.{toward}
 use Rattle.pce_element.proofs.looks.toward.Given as goal
 
 abbrev pub invariant-loop-route : goal.invariant-loop-route

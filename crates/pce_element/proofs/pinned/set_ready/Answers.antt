@@ -2,9 +2,9 @@ use Rattle.std.proofs.Common.{◌∙◌, ap, sym}
 use Rattle.dom_base.specs.Room.{Room}
 use Rattle.request_table.specs.Pending.{Pending}
 use Rattle.request_table.specs.Lends.{written_of}
-use Rattle.member_parts.specs.plant_model.Element.{Item}
+use Rattle.pce_common.specs.plant_model.Element.{Item}
 use Rattle.pce_element.proofs.ReadyLemmas.{readied_is}
-use Rattle.member_parts.proofs.Scans.{on_some}
+use Rattle.pce_common.proofs.Scans.{on_some}
 use Rattle.pce_element.proofs.pinned.set_ready.Goals as goal
 
 pub returns-in-Some-clause-kept : goal.returns-in-Some-clause-kept

@@ -3,9 +3,9 @@ use Rattle.std.proofs.lemmas.Result.{IfOk-weaker}
 use Rattle.dom_base.specs.declared.names.As.{As}
 use Rattle.pcep_messages.specs.declared.message.Wanted.{Wanted}
 use Rattle.border_costs.specs.declared.job.Target.{Target}
-use Rattle.member_parts.specs.plant_model.Branches.{downs}
-use Rattle.member_parts.specs.plant_model.Element.{is_client}
-use Rattle.member_parts.specs.plant_model.Jobs.{IsJoinOf, target_along}
+use Rattle.pce_common.specs.plant_model.Branches.{downs}
+use Rattle.pce_common.specs.plant_model.Element.{is_client}
+use Rattle.pce_common.specs.plant_model.Jobs.{IsJoinOf, target_along}
 use Rattle.pce_element.proofs.BlindLemmas.{client_joins, none_goes_on, other_joins}
 use Rattle.pce_element.proofs.JoinLemmas.{heads_told}
 use Rattle.pce_element.proofs.solving.best_of.Goals as goal

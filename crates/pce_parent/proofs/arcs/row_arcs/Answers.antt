@@ -1,6 +1,6 @@
 use Rattle.std.proofs.Common.{◌≡◌, List, Some, slice_get, length, refl, arith, subst}
 use Rattle.std.proofs.lemmas.Option.{slice_get_read}
-use Rattle.member_parts.specs.plant_model.declared.upper.ChildRow.{ChildRow}
+use Rattle.pce_common.specs.plant_model.declared.upper.ChildRow.{ChildRow}
 use Rattle.pce_parent.proofs.Collecting.{row_pushed, row_skipped}
 use Rattle.pce_parent.proofs.arcs.row_arcs.Goals as goal
 use Rattle.pce_parent.proofs.arcs.row_arcs.Goals.{in-Some+in_ok-push, in_default}

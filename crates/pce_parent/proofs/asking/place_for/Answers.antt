@@ -1,7 +1,7 @@
 use Rattle.std.proofs.Common.{◌≡◌, ◌∙◌, Some, length, refl, sym, arith}
 use Rattle.std.specs.Prelude.{slice_get}
 use Rattle.std.proofs.lemmas.Option.{slice_get_read}
-use Rattle.member_parts.specs.plant_model.Parent.{Wait}
+use Rattle.pce_common.specs.plant_model.Parent.{Wait}
 use Rattle.pce_parent.proofs.Answering.{this_one}
 use Rattle.pce_parent.proofs.asking.place_for.Goals as goal
 

@@ -1,7 +1,7 @@
 use Rattle.std.proofs.Common.{◌≤◌, length, nat_eq, sym, subst}
 use Rattle.request_table.specs.Pending.{Pending}
 use Rattle.request_table.proofs.PendingLemmas.{length-remove}
-use Rattle.member_parts.specs.plant_model.Parent.{Asking}
+use Rattle.pce_common.specs.plant_model.Parent.{Asking}
 use Rattle.pce_parent.proofs.pending.close_one.Goals as goal
 
 pub returns-clause-fewer : goal.returns-clause-fewer

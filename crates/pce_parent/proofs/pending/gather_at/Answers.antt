@@ -2,10 +2,10 @@ use Rattle.std.proofs.Common.{◌∙◌, length, ap}
 use Rattle.dom_base.specs.Room.{Room}
 use Rattle.request_table.specs.Pending.{Pending}
 use Rattle.request_table.specs.Lends.{written_of}
-use Rattle.member_parts.specs.plant_model.Parent.{Asking}
+use Rattle.pce_common.specs.plant_model.Parent.{Asking}
 use Rattle.pce_parent.specs.Changes.{answered_item}
-use Rattle.member_parts.proofs.HeldRows.{length-written}
-use Rattle.member_parts.proofs.Scans.{on_some}
+use Rattle.pce_common.proofs.HeldRows.{length-written}
+use Rattle.pce_common.proofs.Scans.{on_some}
 use Rattle.pce_parent.proofs.pending.gather_at.Goals as goal
 
 pub returns-in-Some-clause-kept : goal.returns-in-Some-clause-kept

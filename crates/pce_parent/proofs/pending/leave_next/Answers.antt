@@ -1,7 +1,7 @@
 use Rattle.std.proofs.Common.{◌≡◌, ℕ, List, length, true, false, sym, ◌∙◌, ap, arith}
 use Rattle.request_table.specs.Pending.{Pending}
-use Rattle.member_parts.specs.plant_model.declared.output.Lost.{Lost}
-use Rattle.member_parts.specs.plant_model.Parent.{Asking, AskingRow, Wait, any_on, lost_of}
+use Rattle.pce_common.specs.plant_model.declared.output.Lost.{Lost}
+use Rattle.pce_common.specs.plant_model.Parent.{Asking, AskingRow, Wait, any_on, lost_of}
 use Rattle.pce_parent.specs.Pendings.{row_of}
 use Rattle.pce_parent.proofs.Leaving.{drops, loses, stays_there, one_fewer}
 use Rattle.pce_parent.proofs.pending.leave_next.Goals as goal

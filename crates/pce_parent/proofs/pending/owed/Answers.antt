@@ -1,8 +1,8 @@
 use Rattle.std.proofs.Common.{◌≡◌, ◌∙◌, ℕ, Bool, cond, arith, sym, ap}
 use Rattle.request_table.specs.Pending.{same_peer}
-use Rattle.member_parts.specs.plant_model.Parent.{AskingRow}
+use Rattle.pce_common.specs.plant_model.Parent.{AskingRow}
 use Rattle.pce_parent.specs.Pendings.{row_of}
-use Rattle.member_parts.proofs.Scans.{tally_next}
+use Rattle.pce_common.proofs.Scans.{tally_next}
 use Rattle.pce_parent.proofs.pending.owed.Goals as goal
 use Rattle.pce_parent.proofs.pending.owed.Goals.{then-is_same_peer, else-is_same_peer}
 

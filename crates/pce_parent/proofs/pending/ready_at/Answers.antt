@@ -1,8 +1,8 @@
 use Rattle.std.proofs.Common.{◌∙◌, ◌<◌, ◌+◌, ℕ, sym, ap, arith, drop}
 use Rattle.std.specs.Prelude.{slice_get}
-use Rattle.member_parts.specs.plant_model.Parent.{AskingRow, is_ready, ready_numbers}
+use Rattle.pce_common.specs.plant_model.Parent.{AskingRow, is_ready, ready_numbers}
 use Rattle.pce_parent.specs.Pendings.{row_of}
-use Rattle.member_parts.proofs.Scans.{picked_here, picked_next, picked_more}
+use Rattle.pce_common.proofs.Scans.{picked_here, picked_next, picked_more}
 use Rattle.pce_parent.proofs.pending.ready_at.Goals as goal
 use Rattle.pce_parent.proofs.pending.ready_at.Goals.{then-is_ready+else-left-eq0, else-is_ready}
 

@@ -1,6 +1,6 @@
 use Rattle.std.proofs.Common.{◌≡◌, drop}
 use Rattle.std.specs.Prelude.{slice_get}
-use Rattle.member_parts.specs.plant_model.Parent.{ready_numbers}
+use Rattle.pce_common.specs.plant_model.Parent.{ready_numbers}
 use Rattle.pce_parent.proofs.pending.ready_at.Given as goal
 
 abbrev pub invariant-loop-i : goal.invariant-loop-i

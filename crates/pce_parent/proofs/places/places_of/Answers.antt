@@ -1,8 +1,8 @@
 use Rattle.std.proofs.Common.{◌∙◌, subst, All, arith}
 use Rattle.std.proofs.lemmas.List.{take_all}
 use Rattle.dom_base.specs.declared.border.ParentLink.{ParentLink}
-use Rattle.member_parts.specs.plant_model.declared.upper.ChildRow.{ChildRow}
-use Rattle.member_parts.specs.plant_model.BorderGraph.{Enter}
+use Rattle.pce_common.specs.plant_model.declared.upper.ChildRow.{ChildRow}
+use Rattle.pce_common.specs.plant_model.BorderGraph.{Enter}
 use Rattle.pce_parent.specs.Places.{HasLink, HasEnd, spot_of}
 use Rattle.pce_parent.proofs.PlaceLaws.{links_stay, more_links, more_ends}
 use Rattle.pce_parent.proofs.places.places_of.Goals as goal

@@ -1,5 +1,5 @@
 use Rattle.std.proofs.Common.{All, take, Contains}
-use Rattle.member_parts.specs.plant_model.BorderGraph.{Enter}
+use Rattle.pce_common.specs.plant_model.BorderGraph.{Enter}
 use Rattle.pce_parent.specs.Places.{HasLink, HasEnd, spot_of}
 use Rattle.pce_parent.proofs.places.places_of.Given as goal
 

@@ -3,7 +3,7 @@ use Rattle.std.proofs.lemmas.List.Elements.{All-contains}
 use Rattle.dom_base.specs.declared.addr.Addr.{Addr}
 use Rattle.pcep_subobjects.specs.declared.hop.Hop.{Hop}
 use Rattle.pcep_subobjects.specs.Hops.{strict_hop}
-use Rattle.member_parts.specs.plant_model.BorderGraph.{Vertex, Enter, Leave}
+use Rattle.pce_common.specs.plant_model.BorderGraph.{Vertex, Enter, Leave}
 use Rattle.pce_parent.specs.declared.arcs.Arc.{Arc}
 use Rattle.pce_parent.specs.Places.{IsAt}
 use Rattle.pce_parent.specs.Arcs.{IsSomeLinkArc}

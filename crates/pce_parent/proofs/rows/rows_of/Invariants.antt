@@ -1,7 +1,7 @@
 use Rattle.std.proofs.Common.{◌≡◌, ◌++◌, length}
-use Rattle.member_parts.specs.plant_model.Branches.{branches_in}
-use Rattle.member_parts.specs.plant_model.RealWire.{wire}
-use Rattle.member_parts.specs.plant_model.Parent.{rows_at}
+use Rattle.pce_common.specs.plant_model.Branches.{branches_in}
+use Rattle.pce_common.specs.plant_model.RealWire.{wire}
+use Rattle.pce_common.specs.plant_model.Parent.{rows_at}
 use Rattle.pce_parent.proofs.rows.rows_of.Given as goal
 
 abbrev pub invariant-loop-path : goal.invariant-loop-path

@@ -1,5 +1,5 @@
 use Rattle.std.proofs.Common.{◌≡◌, ◌++◌, drop}
-use Rattle.member_parts.specs.plant_model.Parent.{all_waits}
+use Rattle.pce_common.specs.plant_model.Parent.{all_waits}
 use Rattle.pce_parent.proofs.sending.all_waits.Given as goal
 
 abbrev pub invariant-loop-i : goal.invariant-loop-i

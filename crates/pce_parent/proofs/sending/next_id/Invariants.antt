@@ -1,6 +1,6 @@
 use Rattle.std.proofs.Common.{◌≡◌, drop}
-use Rattle.member_parts.specs.plant_model.Element.{pass_over}
-use Rattle.member_parts.specs.plant_model.Parent.{among, next_id}
+use Rattle.pce_common.specs.plant_model.Element.{pass_over}
+use Rattle.pce_common.specs.plant_model.Parent.{among, next_id}
 use Rattle.pce_parent.proofs.sending.next_id.Given as goal
 
 abbrev pub invariant-loop-wait : goal.invariant-loop-wait

@@ -1,7 +1,7 @@
 use Rattle.std.proofs.Common.{◌≡◌, Some, length, refl, arith}
 use Rattle.std.specs.Prelude.{slice_get}
 use Rattle.std.proofs.lemmas.Option.{slice_get_read}
-use Rattle.member_parts.specs.plant_model.Parent.{Errand, all_waits}
+use Rattle.pce_common.specs.plant_model.Parent.{Errand, all_waits}
 use Rattle.pce_parent.proofs.Sends.{one_sent}
 use Rattle.pce_parent.proofs.sending.send_all.Goals as goal
 

@@ -1,4 +1,4 @@
-use Rattle.member_parts.specs.plant_model.Parent.{all_waits}
+use Rattle.pce_common.specs.plant_model.Parent.{all_waits}
 use Rattle.pce_parent.proofs.Sends.{SentSoFar}
 use Rattle.pce_parent.proofs.sending.send_all.Given as goal
 

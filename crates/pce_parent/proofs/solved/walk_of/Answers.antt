@@ -1,5 +1,5 @@
 use Rattle.std.proofs.Common.{◌≡◌, List, Some, None, sym, ◌∙◌, ap, subst}
-use Rattle.member_parts.specs.plant_model.BorderGraph.{Enter}
+use Rattle.pce_common.specs.plant_model.BorderGraph.{Enter}
 use Rattle.pce_parent.specs.declared.spot.Spot.{Spot}
 use Rattle.pce_parent.specs.declared.route.Stand.{Stand}
 use Rattle.pce_parent.specs.Places.{place_of, spot_of, IsAt}

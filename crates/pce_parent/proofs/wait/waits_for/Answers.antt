@@ -1,9 +1,9 @@
 use Rattle.std.proofs.Common.{◌≡◌, List, length, Some, refl, sym, ◌∙◌, ap, arith}
 use Rattle.std.specs.Prelude.{slice_get}
 use Rattle.std.proofs.lemmas.Option.{slice_get_read}
-use Rattle.member_parts.specs.plant_model.Parent.{Wait, among}
+use Rattle.pce_common.specs.plant_model.Parent.{Wait, among}
 use Rattle.pce_parent.proofs.ScanLaws.{for_here, for_more}
-use Rattle.member_parts.proofs.HeldPlaces.{nothing_dropped}
+use Rattle.pce_common.proofs.HeldPlaces.{nothing_dropped}
 use Rattle.pce_parent.proofs.wait.waits_for.Goals as goal
 
 pub returns-then-is_for : goal.returns-then-is_for

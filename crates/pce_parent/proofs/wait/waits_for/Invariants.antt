@@ -1,5 +1,5 @@
 use Rattle.std.proofs.Common.{◌≡◌, drop}
-use Rattle.member_parts.specs.plant_model.Parent.{among}
+use Rattle.pce_common.specs.plant_model.Parent.{among}
 use Rattle.pce_parent.proofs.wait.waits_for.Given as goal
 
 abbrev pub invariant-loop-wait : goal.invariant-loop-wait

@@ -1,5 +1,5 @@
 use Rattle.std.proofs.Common.{◌≡◌, drop}
-use Rattle.member_parts.specs.plant_model.Parent.{any_on}
+use Rattle.pce_common.specs.plant_model.Parent.{any_on}
 use Rattle.pce_parent.proofs.wait.waits_on.Given as goal
 
 abbrev pub invariant-loop-wait : goal.invariant-loop-wait

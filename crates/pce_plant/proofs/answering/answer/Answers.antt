@@ -1,9 +1,9 @@
 use Rattle.std.proofs.Common.{Ok, Err, Result, ap, subst}
 use Rattle.std.proofs.lemmas.Result.{err_from_is_err_and}
 use Rattle.dom_base.specs.declared.names.Tick.{Tick}
-use Rattle.plant_network.specs.plant_hierarchy.Answering.{Commits}
-use Rattle.plant_network.specs.plant_hierarchy.declared.answering.Unanswered.{Unanswered}
-use Rattle.plant_network.specs.plant_hierarchy.Topologies.{MemberPlan}
+use Rattle.plant_network.specs.network_members.Answering.{Commits}
+use Rattle.plant_network.specs.network_members.declared.answering.Unanswered.{Unanswered}
+use Rattle.plant_network.specs.network_members.Topologies.{MemberPlan}
 use Rattle.pce_plant.proofs.SolveLemmas.{plan_answers, plan_done, plan_kept, plan_lacks, planned_err}
 use Rattle.pce_plant.proofs.answering.answer.Goals as goal
 

@@ -2,9 +2,9 @@ use Rattle.std.proofs.Common.{◌≡◌, ◌∙◌, Result, Err, IfErr, sym, ap,
 use Rattle.plant_network.specs.plant_model.declared.event.Event.TheVariants.{Solve}
 use Rattle.plant_network.specs.plant_model.declared.outcome.Outcome.{Outcome}
 use Rattle.plant_network.specs.plant_model.Events.{Answered, has_jobs}
-use Rattle.plant_network.specs.plant_hierarchy.Answering.{IsRefusedFor}
-use Rattle.plant_network.specs.plant_hierarchy.declared.answering.Unanswered.{Unanswered}
-use Rattle.plant_network.specs.plant_hierarchy.Topologies.{members_of}
+use Rattle.plant_network.specs.network_members.Answering.{IsRefusedFor}
+use Rattle.plant_network.specs.network_members.declared.answering.Unanswered.{Unanswered}
+use Rattle.plant_network.specs.network_members.Topologies.{members_of}
 use Rattle.pce_plant.specs.Held.{Moves, held}
 use Rattle.pce_plant.specs.Jobs.{answer_of, handed_back, solved_at, solved_number, told}
 use Rattle.pce_plant.specs.declared.answering.CommitRefused.{CommitRefused}

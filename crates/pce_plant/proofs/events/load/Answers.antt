@@ -1,6 +1,6 @@
 use Rattle.std.proofs.Common.{ℕ, Result, subst}
 use Rattle.plant_network.specs.plant_model.declared.outcome.Refused.{Refused}
-use Rattle.plant_network.specs.plant_hierarchy.Loading.{Loads}
+use Rattle.plant_network.specs.network_members.Loading.{Loads}
 use Rattle.pce_plant.specs.Held.{held}
 use Rattle.pce_plant.proofs.LoadLemmas.{load_accepted, load_refused}
 use Rattle.pce_plant.proofs.events.load.Goals as goal

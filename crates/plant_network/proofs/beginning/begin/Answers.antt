@@ -1,6 +1,6 @@
 use Rattle.plant_text.specs.Settings.{elements_of}
-use Rattle.plant_deeds.specs.plant_traffic.Carried.{flow_of}
-use Rattle.plant_deeds.specs.Standing.{here}
+use Rattle.network_events.specs.network_links.Carried.{flow_of}
+use Rattle.network_events.specs.Standing.{here}
 use Rattle.plant_network.proofs.BeginLemmas.{begins_if, owes_nothing, pends_nothing}
 use Rattle.plant_network.proofs.beginning.begin.Goals as goal
 

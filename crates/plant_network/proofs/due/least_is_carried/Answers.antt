@@ -1,8 +1,8 @@
 use Rattle.std.proofs.Common.{refl}
 use Rattle.disclosure.specs.Shown.{open_of}
-use Rattle.plant_deeds.specs.plant_model.Blind.{Nothing, show_nothing}
-use Rattle.plant_deeds.specs.plant_model.Events.{carry}
-use Rattle.plant_deeds.specs.plant_model.Plant.{Pin, Segment}
+use Rattle.network_events.specs.plant_model.Blind.{Nothing, show_nothing}
+use Rattle.network_events.specs.plant_model.Events.{carry}
+use Rattle.network_events.specs.plant_model.Plant.{Pin, Segment}
 use Rattle.plant_network.proofs.CarryLemmas.{can_carry}
 use Rattle.plant_network.proofs.due.least_is_carried.Goals as goal
 

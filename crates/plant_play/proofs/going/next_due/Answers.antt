@@ -1,7 +1,7 @@
 use Rattle.std.proofs.Common.{refl}
 use Rattle.dom_base.specs.declared.names.As.{As}
 use Rattle.pce_plant.specs.Held.{whole}
-use Rattle.pce_plant.specs.plant_network.plant_traffic.Carried.{flow_of}
+use Rattle.pce_plant.specs.plant_network.network_links.Carried.{flow_of}
 use Rattle.pce_plant.proofs.plant_network.CarryLemmas.{least_here, settled_here}
 use Rattle.plant_play.proofs.GoingLemmas.{can_carry, due_of}
 use Rattle.plant_play.proofs.going.next_due.Goals as goal

@@ -3,10 +3,10 @@ use Rattle.plant_text.specs.declared.settings.NetworkParts.{NetworkParts}
 use Rattle.plant_text.specs.Networks.{IsNetwork}
 use Rattle.plant_network.specs.plant_model.Blind.{Nothing, blind_opened, show_nothing}
 use Rattle.plant_network.specs.plant_model.RealWire.{wire}
-use Rattle.plant_network.specs.plant_members.Membership.{Membership}
-use Rattle.plant_network.specs.plant_hierarchy.Blind.{nothing_first}
-use Rattle.plant_network.specs.plant_hierarchy.Fresh.{begun}
-use Rattle.plant_network.specs.plant_hierarchy.Tiers.{members_of}
+use Rattle.plant_network.specs.member_trait.Membership.{Membership}
+use Rattle.plant_network.specs.network_members.Blind.{nothing_first}
+use Rattle.plant_network.specs.network_members.Fresh.{begun}
+use Rattle.plant_network.specs.network_members.Tiers.{members_of}
 use Rattle.plant_network.specs.Beginning.{AreBare}
 use Rattle.blind_plant.specs.Held.{held, whole}
 use Rattle.blind_plant.proofs.plant.BlindPlant.new.Goals as goal

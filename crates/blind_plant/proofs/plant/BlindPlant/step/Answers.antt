@@ -1,5 +1,5 @@
 use Rattle.std.proofs.Common.{subst}
-use Rattle.plant_network.specs.plant_lasting.Lasting.{JobsLast}
+use Rattle.plant_network.specs.jobs_last.Lasting.{JobsLast}
 use Rattle.blind_plant.specs.Held.{Held, held, whole}
 use Rattle.blind_plant.specs.PlantFields.{held_of}
 use Rattle.blind_plant.proofs.SoundLemmas.{goes_after, sound_after}

@@ -1,6 +1,6 @@
 use Rattle.std.proofs.Common.{◌≡◌, subst}
 use Rattle.plant_text.specs.Settings.{lines}
-use Rattle.plant_network.specs.plant_traffic.Carried.{flow_of}
+use Rattle.plant_network.specs.network_links.Carried.{flow_of}
 use Rattle.blind_plant.specs.Held.{Held, whole}
 use Rattle.blind_plant.proofs.plant.BlindPlant.waiting.Goals as goal
 

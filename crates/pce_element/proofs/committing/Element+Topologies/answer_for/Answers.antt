@@ -4,8 +4,8 @@ use Rattle.std.specs.Map.{lookup}
 use Rattle.request_table.specs.Pending.{Pending}
 use Rattle.vspt_tree.specs.Branches.{HasBranchAt}
 use Rattle.vspt_tree.specs.declared.branch.Branch.{Branch}
-use Rattle.member_parts.specs.plant_model.Element.{Item}
-use Rattle.member_parts.specs.plant_model.Plant.{Pin}
+use Rattle.pce_common.specs.plant_model.Element.{Item}
+use Rattle.pce_common.specs.plant_model.Plant.{Pin}
 use Rattle.pce_element.specs.Rows.{row_of}
 use Rattle.pce_element.proofs.CommitLemmas.{answers_for, own_heads, ready_stage}
 use Rattle.pce_element.proofs.committing.Element+Topologies.answer_for.Goals as goal

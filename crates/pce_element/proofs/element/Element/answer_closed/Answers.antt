@@ -1,9 +1,9 @@
 use Rattle.std.proofs.Common.{◌≡◌, ◌∙◌, ◌==◌, ◌≤◌, ℕ, false, length, rules, ap}
 use Rattle.pcep_messages.specs.declared.message.Answer.TheVariants.{Paths}
 use Rattle.pcep_messages.specs.declared.message.Wanted.{Wanted}
-use Rattle.member_parts.specs.plant_model.RealWire.{wire}
-use Rattle.member_parts.specs.plant_model.Solving.{closed_paths}
-use Rattle.member_parts.specs.plant_model.Writing.{reply_message}
+use Rattle.pce_common.specs.plant_model.RealWire.{wire}
+use Rattle.pce_common.specs.plant_model.Solving.{closed_paths}
+use Rattle.pce_common.specs.plant_model.Writing.{reply_message}
 use Rattle.pce_element.specs.Rows.{row_of}
 use Rattle.pce_element.proofs.CommitLemmas.{closed_answers}
 use Rattle.pce_element.proofs.EndLemmas.{if_ok_both}

@@ -1,6 +1,6 @@
 use Rattle.std.proofs.Common.{◌≡◌, ◌∙◌, ◌≤◌, sym, ap, subst}
 use Rattle.path_keys.specs.Keys.{Keys}
-use Rattle.member_parts.specs.plant_model.Element.{Element}
+use Rattle.pce_common.specs.plant_model.Element.{Element}
 use Rattle.pce_element.specs.Changes.{all_issued}
 use Rattle.pce_element.specs.Seen.{Seen}
 use Rattle.pce_element.proofs.KeySteps.{clock_after}

@@ -1,6 +1,6 @@
 use Rattle.std.proofs.Common.{refl, subst}
 use Rattle.request_table.specs.Pending.{NumbersRise, Pending}
-use Rattle.member_parts.specs.plant_model.Element.{Item, Row}
+use Rattle.pce_common.specs.plant_model.Element.{Item, Row}
 use Rattle.pce_element.specs.Rows.{row_of}
 use Rattle.pce_element.proofs.ReadyLemmas.{readied_row, row_waits}
 use Rattle.pce_element.proofs.element.Element.readied.Goals as goal

@@ -6,8 +6,8 @@ use Rattle.std.proofs.Common.{drop, refl}
 use Rattle.dom_base.specs.declared.names.As.{As}
 use Rattle.dom_base.specs.declared.names.Peer.{Peer}
 use Rattle.disclosure.specs.Policy.{is_denied}
-use Rattle.member_parts.specs.plant_model.Element.{Taken, way_to}
-use Rattle.member_parts.specs.plant_model.Taking.{send_on}
+use Rattle.pce_common.specs.plant_model.Element.{Taken, way_to}
+use Rattle.pce_common.specs.plant_model.Taking.{send_on}
 use Rattle.pce_element.specs.Changes.{IsDraft}
 use Rattle.pce_element.proofs.AskLemmas.{along_next, not_back}
 use Rattle.pce_element.proofs.element.Element.take_along.Goals as goal

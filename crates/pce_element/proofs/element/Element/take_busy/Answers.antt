@@ -1,7 +1,7 @@
 use Rattle.std.proofs.Common.{◌≡◌, ◌∙◌, ℕ, List, Some, sym, ap}
 use Rattle.request_table.specs.Pending.{Pending}
-use Rattle.member_parts.specs.plant_model.Element.{Item, waiting}
-use Rattle.member_parts.specs.plant_model.Writing.{busy}
+use Rattle.pce_common.specs.plant_model.Element.{Item, waiting}
+use Rattle.pce_common.specs.plant_model.Writing.{busy}
 use Rattle.pce_element.specs.Changes.{all_closed}
 use Rattle.pce_element.specs.Rows.{row_of}
 use Rattle.pce_element.proofs.EndLemmas.{busy_some, on_ok_both}

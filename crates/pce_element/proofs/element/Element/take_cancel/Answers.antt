@@ -1,6 +1,6 @@
 use Rattle.std.proofs.Common.{◌≡◌, ◌∙◌, ℕ, List, Some, refl, sym, ap}
 use Rattle.request_table.specs.Pending.{Pending, number_of}
-use Rattle.member_parts.specs.plant_model.Element.{Item}
+use Rattle.pce_common.specs.plant_model.Element.{Item}
 use Rattle.pce_element.specs.Changes.{all_closed}
 use Rattle.pce_element.proofs.EndLemmas.{cancel_some, on_ok}
 use Rattle.pce_element.proofs.element.Element.take_cancel.Goals as goal

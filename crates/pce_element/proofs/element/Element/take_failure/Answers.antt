@@ -2,8 +2,8 @@ use Rattle.std.proofs.Common.{◌≡◌, ◌∙◌, ℕ, List, Option, Some, sym
 use Rattle.std.specs.Option.{option_to_list}
 use Rattle.pcep_messages.specs.declared.message.Message.{Message}
 use Rattle.request_table.specs.Pending.{Pending}
-use Rattle.member_parts.specs.plant_model.Element.{Item, waiting}
-use Rattle.member_parts.specs.plant_model.Taking.{error_answer}
+use Rattle.pce_common.specs.plant_model.Element.{Item, waiting}
+use Rattle.pce_common.specs.plant_model.Taking.{error_answer}
 use Rattle.pce_element.specs.Changes.{all_closed}
 use Rattle.pce_element.specs.Rows.{row_of}
 use Rattle.pce_element.proofs.EndLemmas.{failure_some, on_ok_both}

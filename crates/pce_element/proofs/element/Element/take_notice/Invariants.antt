@@ -1,6 +1,6 @@
 use Rattle.std.proofs.Common.{◌≡◌, drop}
-use Rattle.member_parts.specs.plant_model.Element.{each}
-use Rattle.member_parts.specs.plant_model.Taking.{notice_steps, take_notice}
+use Rattle.pce_common.specs.plant_model.Element.{each}
+use Rattle.pce_common.specs.plant_model.Taking.{notice_steps, take_notice}
 use Rattle.pce_element.specs.Endings.{after, reached}
 use Rattle.pce_element.proofs.element.Element.take_notice.Given as goal
 

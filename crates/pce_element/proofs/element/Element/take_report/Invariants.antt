@@ -1,5 +1,5 @@
 use Rattle.std.proofs.Common.{◌≡◌, drop}
-use Rattle.member_parts.specs.plant_model.Element.{each}
+use Rattle.pce_common.specs.plant_model.Element.{each}
 use Rattle.pce_element.specs.Endings.{failing}
 use Rattle.pce_element.specs.Endings.{after, reached}
 use Rattle.pce_element.proofs.element.Element.take_report.Given as goal

@@ -1,6 +1,6 @@
 use Rattle.std.proofs.Common.{◌≡◌, drop}
-use Rattle.member_parts.specs.plant_model.Element.{each}
-use Rattle.member_parts.specs.plant_model.Taking.{take_report}
+use Rattle.pce_common.specs.plant_model.Element.{each}
+use Rattle.pce_common.specs.plant_model.Taking.{take_report}
 use Rattle.pce_element.specs.Endings.{after, reached}
 use Rattle.pce_element.proofs.element.Element.take_reports.Given as goal
 

@@ -1,7 +1,7 @@
 use Rattle.std.proofs.Common.{◌≡◌, ◌≤◌, ◌∙◌, ℕ, List, length, nat_eq, sym, ap, subst}
 use Rattle.request_table.specs.Pending.{Pending}
 use Rattle.request_table.proofs.PendingLemmas.{length-remove}
-use Rattle.member_parts.specs.plant_model.Element.{Item, Row}
+use Rattle.pce_common.specs.plant_model.Element.{Item, Row}
 use Rattle.pce_element.specs.Pinned.{pins_in}
 use Rattle.pce_element.specs.Worlds.{IsKept}
 use Rattle.pce_element.proofs.PinLemmas.{ended_keeps, kept_pin, none_ended}

@@ -1,5 +1,5 @@
 use Rattle.std.proofs.Common.{◌∙◌, ◌<◌, ◌+◌, ℕ, List, drop, length, arith, sym, ap}
-use Rattle.member_parts.specs.plant_model.Element.{Row, is_waiting, pass_over}
+use Rattle.pce_common.specs.plant_model.Element.{Row, is_waiting, pass_over}
 use Rattle.pce_element.proofs.SearchLemmas.{not_passed, passed_over}
 use Rattle.pce_element.proofs.pinned.PinnedRequests.fresh_id.Goals as goal
 

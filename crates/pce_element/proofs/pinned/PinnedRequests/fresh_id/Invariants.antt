@@ -1,5 +1,5 @@
 use Rattle.std.proofs.Common.{◌≡◌, drop}
-use Rattle.member_parts.specs.plant_model.Element.{fresh_id, is_waiting, pass_over}
+use Rattle.pce_common.specs.plant_model.Element.{fresh_id, is_waiting, pass_over}
 use Rattle.pce_element.proofs.pinned.PinnedRequests.fresh_id.Given as goal
 
 abbrev pub invariant-loop-row : goal.invariant-loop-row

@@ -1,7 +1,7 @@
 use Rattle.std.proofs.Common.{◌∙◌, sym, ap, arith, List}
-use Rattle.member_parts.specs.plant_model.Element.{Row, is_waiting}
+use Rattle.pce_common.specs.plant_model.Element.{Row, is_waiting}
 use Rattle.pce_element.specs.Rows.{row_of}
-use Rattle.member_parts.proofs.HeldPlaces.{nothing_dropped}
+use Rattle.pce_common.proofs.HeldPlaces.{nothing_dropped}
 use Rattle.pce_element.proofs.SearchLemmas.{is_waiting_here, is_waiting_later}
 use Rattle.pce_element.proofs.pinned.PinnedRequests.is_waiting.Goals as goal
 

@@ -1,5 +1,5 @@
 use Rattle.std.proofs.Common.{◌≡◌, drop}
-use Rattle.member_parts.specs.plant_model.Element.{is_waiting}
+use Rattle.pce_common.specs.plant_model.Element.{is_waiting}
 use Rattle.pce_element.proofs.pinned.PinnedRequests.is_waiting.Given as goal
 
 abbrev pub invariant-loop-k : goal.invariant-loop-k

@@ -1,5 +1,5 @@
 use Rattle.std.proofs.Common.{◌∙◌, ℕ, sym, ap}
-use Rattle.member_parts.specs.plant_model.declared.output.Lost.{Lost}
+use Rattle.pce_common.specs.plant_model.declared.output.Lost.{Lost}
 use Rattle.pce_element.specs.Rows.{row_of}
 use Rattle.pce_element.proofs.LeaveLemmas.{drops, loses, stays_there}
 use Rattle.pce_element.proofs.pinned.PinnedRequests.leave.Goals as goal

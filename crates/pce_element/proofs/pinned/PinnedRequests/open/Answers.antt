@@ -1,6 +1,6 @@
 use Rattle.std.proofs.Common.{◌≡◌, ◌∙◌, ◌<◌, ◌++◌, ◌∷◌, [], List, length, sym, ap, subst}
 use Rattle.request_table.specs.Pending.{Pending, is_full}
-use Rattle.member_parts.specs.plant_model.Element.{Item}
+use Rattle.pce_common.specs.plant_model.Element.{Item}
 use Rattle.pce_element.specs.Pinned.{Pinned, pins_in}
 use Rattle.pce_element.proofs.PinLemmas.{few_pins, opened_keeps}
 use Rattle.pce_element.proofs.pinned.PinnedRequests.open.Goals as goal

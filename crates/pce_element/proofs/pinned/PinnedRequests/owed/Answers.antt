@@ -1,8 +1,8 @@
 use Rattle.std.proofs.Common.{◌≡◌, ◌∙◌, ℕ, Bool, cond, arith, sym, ap}
 use Rattle.request_table.specs.Pending.{same_peer}
-use Rattle.member_parts.specs.plant_model.Element.{Row}
+use Rattle.pce_common.specs.plant_model.Element.{Row}
 use Rattle.pce_element.specs.Rows.{row_of}
-use Rattle.member_parts.proofs.Scans.{tally_next}
+use Rattle.pce_common.proofs.Scans.{tally_next}
 use Rattle.pce_element.proofs.pinned.PinnedRequests.owed.Goals as goal
 use Rattle.pce_element.proofs.pinned.PinnedRequests.owed.Goals.{then-is_same_peer, else-is_same_peer}
 

@@ -1,8 +1,8 @@
 use Rattle.std.proofs.Common.{◌∙◌, ◌<◌, ◌+◌, ℕ, sym, ap, arith, drop}
 use Rattle.std.specs.Prelude.{slice_get}
-use Rattle.member_parts.specs.plant_model.Element.{Row, is_ready, ready_numbers}
+use Rattle.pce_common.specs.plant_model.Element.{Row, is_ready, ready_numbers}
 use Rattle.pce_element.specs.Rows.{row_of}
-use Rattle.member_parts.proofs.Scans.{picked_here, picked_next, picked_more}
+use Rattle.pce_common.proofs.Scans.{picked_here, picked_next, picked_more}
 use Rattle.pce_element.proofs.pinned.PinnedRequests.ready.Goals as goal
 use Rattle.pce_element.proofs.pinned.PinnedRequests.ready.Goals.{then-is_ready+else-left-eq0, else-is_ready}
 

@@ -1,7 +1,7 @@
 use Rattle.std.proofs.Common.{◌∙◌, ◌≤◌, List, length, arith, sym, ap}
-use Rattle.member_parts.specs.plant_model.Element.{Row, waiting}
+use Rattle.pce_common.specs.plant_model.Element.{Row, waiting}
 use Rattle.pce_element.specs.Rows.{row_of}
-use Rattle.member_parts.proofs.HeldPlaces.{listed_at, nothing_dropped}
+use Rattle.pce_common.proofs.HeldPlaces.{listed_at, nothing_dropped}
 use Rattle.pce_element.proofs.ReadyLemmas.{waits_yet}
 use Rattle.pce_element.proofs.SearchLemmas.{closed_rows, has_ended, left_of, waits_here, waits_not}
 use Rattle.pce_element.proofs.pinned.PinnedRequests.waiting.Goals as goal

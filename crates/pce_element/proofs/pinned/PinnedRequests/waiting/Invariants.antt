@@ -1,5 +1,5 @@
 use Rattle.std.proofs.Common.{◌≡◌, drop}
-use Rattle.member_parts.specs.plant_model.Element.{waiting}
+use Rattle.pce_common.specs.plant_model.Element.{waiting}
 use Rattle.pce_element.proofs.SearchLemmas.{left_of}
 use Rattle.pce_element.proofs.pinned.PinnedRequests.waiting.Given as goal
 

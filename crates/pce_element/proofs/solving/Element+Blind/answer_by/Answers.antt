@@ -4,8 +4,8 @@ use Rattle.std.specs.Map.{lookup}
 use Rattle.request_table.specs.Pending.{Pending}
 use Rattle.vspt_tree.specs.Branches.{HasBranchAt}
 use Rattle.vspt_tree.specs.declared.branch.Best.{Best}
-use Rattle.member_parts.specs.plant_model.Blind.{Nothing}
-use Rattle.member_parts.specs.plant_model.Element.{Item, Ready}
+use Rattle.pce_common.specs.plant_model.Blind.{Nothing}
+use Rattle.pce_common.specs.plant_model.Element.{Item, Ready}
 use Rattle.pce_element.specs.Answering.{Answers}
 use Rattle.pce_element.specs.Blind.{stands_for_nothing}
 use Rattle.pce_element.specs.Rows.{row_of}

@@ -1,5 +1,5 @@
 use Rattle.std.proofs.Common.{◌∙◌}
-use Rattle.member_parts.proofs.plant_model.Live.{live_meets}
+use Rattle.pce_common.proofs.plant_model.Live.{live_meets}
 use Rattle.pce_element.specs.Pinned.{pins_in}
 use Rattle.pce_element.specs.Topologies.{current_of}
 use Rattle.pce_element.proofs.PinLemmas.{are_shelves, load_holds}

@@ -1,6 +1,6 @@
 use Rattle.std.proofs.Common.{◌≡◌, ◌∙◌, ap}
 use Rattle.te_links.specs.Rows.{Rows}
-use Rattle.member_parts.specs.plant_model.Plant.{Pin}
+use Rattle.pce_common.specs.plant_model.Plant.{Pin}
 use Rattle.pce_element.proofs.PinLemmas.{made_is, pinned_keeps}
 use Rattle.pce_element.proofs.topologies.TopologiesWorld.pin.Goals as goal
 

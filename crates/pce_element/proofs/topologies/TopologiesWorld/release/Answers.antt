@@ -1,6 +1,6 @@
 use Rattle.std.proofs.Common.{◌∙◌, ap}
 use Rattle.te_generations.specs.Shelf.{released_of}
-use Rattle.member_parts.specs.plant_model.Plant.{Pin}
+use Rattle.pce_common.specs.plant_model.Plant.{Pin}
 use Rattle.pce_element.proofs.PinLemmas.{released_keeps}
 use Rattle.pce_element.proofs.topologies.TopologiesWorld.release.Goals as goal
 

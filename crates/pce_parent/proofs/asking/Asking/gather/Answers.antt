@@ -1,5 +1,5 @@
 use Rattle.std.proofs.Common.{◌∙◌, List, ap, subst}
-use Rattle.member_parts.specs.plant_model.Parent.{Wait}
+use Rattle.pce_common.specs.plant_model.Parent.{Wait}
 use Rattle.pce_parent.specs.Answered.{IsAnsweredAt}
 use Rattle.pce_parent.specs.Changes.{with_answer}
 use Rattle.pce_parent.proofs.Answering.{answer_kept}

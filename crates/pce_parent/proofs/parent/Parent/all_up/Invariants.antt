@@ -1,5 +1,5 @@
 use Rattle.std.proofs.Common.{◌≡◌, drop}
-use Rattle.member_parts.specs.plant_model.Parent.{all_up}
+use Rattle.pce_common.specs.plant_model.Parent.{all_up}
 use Rattle.pce_parent.proofs.parent.Parent.all_up.Given as goal
 
 abbrev pub invariant-loop-child : goal.invariant-loop-child

@@ -1,5 +1,5 @@
 use Rattle.std.proofs.Common.{◌∙◌}
-use Rattle.member_parts.specs.plant_model.Parent.{answered}
+use Rattle.pce_common.specs.plant_model.Parent.{answered}
 use Rattle.pce_parent.specs.Pendings.{row_of}
 use Rattle.pce_parent.proofs.Drafts.{these_end}
 use Rattle.pce_parent.proofs.Telling.{at_first}

@@ -1,5 +1,5 @@
 use Rattle.std.proofs.Common.{◌≡◌, ℕ, List, Some, None, subst}
-use Rattle.member_parts.specs.plant_model.Parent.{take_cancel}
+use Rattle.pce_common.specs.plant_model.Parent.{take_cancel}
 use Rattle.pce_parent.specs.declared.sought.Sought.TheVariants.{Asked}
 use Rattle.pce_parent.specs.Endings.{GoesOn}
 use Rattle.pce_parent.specs.ParentFields.{parent_of}

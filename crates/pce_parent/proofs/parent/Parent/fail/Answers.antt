@@ -1,7 +1,7 @@
 use Rattle.std.proofs.Common.{◌≡◌, ◌∙◌, ℕ, List, [], ◌∷◌, Option, Some, None, sym, ap, subst}
 use Rattle.std.specs.Option.{option_to_list}
 use Rattle.pcep_messages.specs.declared.message.Message.{Message}
-use Rattle.member_parts.specs.plant_model.Parent.{AskingRow, take_failure, waiting}
+use Rattle.pce_common.specs.plant_model.Parent.{AskingRow, take_failure, waiting}
 use Rattle.pce_parent.specs.declared.sought.Sought.TheVariants.{Awaited}
 use Rattle.pce_parent.specs.Endings.{GoesOn}
 use Rattle.pce_parent.specs.ParentFields.{parent_of}
@@ -9,7 +9,7 @@ use Rattle.pce_parent.specs.Pendings.{row_of}
 use Rattle.pce_parent.specs.Seen.{Seen}
 use Rattle.pce_parent.specs.Soughts.{first_sought, without_these}
 use Rattle.pce_parent.proofs.ScanLaws.{on_ok}
-use Rattle.member_parts.specs.plant_model.Taking.{error_answer}
+use Rattle.pce_common.specs.plant_model.Taking.{error_answer}
 use Rattle.pce_parent.proofs.Telling.{fail_none, fail_some}
 use Rattle.pce_parent.proofs.parent.Parent.fail.Goals as goal
 

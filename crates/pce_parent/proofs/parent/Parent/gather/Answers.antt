@@ -1,8 +1,8 @@
 use Rattle.std.proofs.Common.{◌≡◌, ◌∙◌, true, false, refl, sym, ap, subst}
 use Rattle.pcep_messages.specs.declared.message.Wanted.{Wanted}
-use Rattle.member_parts.specs.plant_model.Branches.{branches_in}
-use Rattle.member_parts.specs.plant_model.RealWire.{wire}
-use Rattle.member_parts.specs.plant_model.Parent.{rows_at}
+use Rattle.pce_common.specs.plant_model.Branches.{branches_in}
+use Rattle.pce_common.specs.plant_model.RealWire.{wire}
+use Rattle.pce_common.specs.plant_model.Parent.{rows_at}
 use Rattle.request_table.specs.Pending.{ArePending}
 use Rattle.pce_parent.specs.declared.change.Draft.{Draft}
 use Rattle.pce_parent.specs.declared.change.Change.TheVariants.{Gathers}

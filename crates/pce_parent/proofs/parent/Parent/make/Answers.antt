@@ -1,6 +1,6 @@
 use Rattle.std.proofs.Common.{◌∙◌, ap, sym, arith}
 use Rattle.request_table.specs.Pending.{Pending}
-use Rattle.member_parts.specs.plant_model.Parent.{Asking}
+use Rattle.pce_common.specs.plant_model.Parent.{Asking}
 use Rattle.pce_parent.proofs.Gone.{closed_keeps}
 use Rattle.pce_parent.proofs.parent.Parent.make.Goals as goal
 

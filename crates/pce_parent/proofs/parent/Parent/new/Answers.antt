@@ -1,6 +1,6 @@
 use Rattle.std.proofs.Common.{length, sym, ap, arith}
 use Rattle.request_table.specs.Pending.{Pending}
-use Rattle.member_parts.specs.plant_model.Parent.{Asking}
+use Rattle.pce_common.specs.plant_model.Parent.{Asking}
 use Rattle.pce_parent.proofs.parent.Parent.new.Goals as goal
 
 pub invariant_of-result : goal.invariant_of-result

@@ -1,5 +1,5 @@
 use Rattle.std.proofs.Common.{◌≡◌, drop}
-use Rattle.member_parts.specs.plant_model.Parent.{each, take_notice}
+use Rattle.pce_common.specs.plant_model.Parent.{each, take_notice}
 use Rattle.pce_parent.specs.Endings.{given_by, then_given}
 use Rattle.pce_parent.proofs.parent.Parent.take_notices.Given as goal
 

@@ -1,7 +1,7 @@
 use Rattle.std.proofs.Common.{◌≡◌, ◌∙◌, Option, Some, None, sym, subst}
 use Rattle.std.specs.Prelude.{IfOk}
-use Rattle.member_parts.specs.plant_model.RealWire.{wire}
-use Rattle.member_parts.specs.plant_model.Parent.{AskingRow, take_found, waiting}
+use Rattle.pce_common.specs.plant_model.RealWire.{wire}
+use Rattle.pce_common.specs.plant_model.Parent.{AskingRow, take_found, waiting}
 use Rattle.pce_parent.specs.Changes.{IsDraft}
 use Rattle.pce_parent.specs.ParentFields.{parent_of}
 use Rattle.pce_parent.specs.Pendings.{row_of}

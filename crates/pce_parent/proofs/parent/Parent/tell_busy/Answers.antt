@@ -1,6 +1,6 @@
 use Rattle.std.proofs.Common.{◌≡◌, ◌∙◌, ℕ, List, Some, None, ap, subst}
 use Rattle.pcep_messages.specs.declared.message.Message.{Message}
-use Rattle.member_parts.specs.plant_model.Parent.{AskingRow, answered, take_busy}
+use Rattle.pce_common.specs.plant_model.Parent.{AskingRow, answered, take_busy}
 use Rattle.pce_parent.specs.declared.sought.Sought.TheVariants.{Awaited}
 use Rattle.pce_parent.specs.Endings.{GoesOn}
 use Rattle.pce_parent.specs.ParentFields.{parent_of}
@@ -8,7 +8,7 @@ use Rattle.pce_parent.specs.Pendings.{row_of}
 use Rattle.pce_parent.specs.Seen.{Seen}
 use Rattle.pce_parent.specs.Soughts.{first_sought, without_these}
 use Rattle.pce_parent.proofs.ScanLaws.{on_ok}
-use Rattle.member_parts.specs.plant_model.Writing.{busy}
+use Rattle.pce_common.specs.plant_model.Writing.{busy}
 use Rattle.pce_parent.proofs.Telling.{busy_none, busy_some}
 use Rattle.pce_parent.proofs.parent.Parent.tell_busy.Goals as goal
 

@@ -1,7 +1,7 @@
 use Rattle.std.proofs.Common.{sym, subst}
 use Rattle.plant_network.specs.plant_model.declared.event.Event.TheVariants.{Solve}
 use Rattle.plant_network.specs.plant_model.Events.{has_jobs}
-use Rattle.plant_lasting.specs.Lasting.{JobsLast}
+use Rattle.jobs_last.specs.Lasting.{JobsLast}
 use Rattle.pce_plant.specs.Jobs.{IsOwn, answer_of, solved_at, solved_number}
 use Rattle.pce_plant.specs.Held.{Held, held, whole}
 use Rattle.pce_plant.specs.PlantFields.{held_of}

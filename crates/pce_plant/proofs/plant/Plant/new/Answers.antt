@@ -6,8 +6,8 @@ use Rattle.disclosure.specs.Shown.{open_of}
 use Rattle.plant_network.specs.plant_model.Events.{opening}
 use Rattle.plant_network.specs.plant_model.Plant.{Pin, Run, Segment, first_pin}
 use Rattle.plant_network.specs.plant_model.RealWire.{wire}
-use Rattle.plant_network.specs.plant_members.Membership.{Membership}
-use Rattle.plant_network.specs.plant_hierarchy.Topologies.{begun, members_of}
+use Rattle.plant_network.specs.member_trait.Membership.{Membership}
+use Rattle.plant_network.specs.network_members.Topologies.{begun, members_of}
 use Rattle.plant_network.specs.Beginning.{AreBare}
 use Rattle.pce_plant.specs.Held.{held, whole}
 use Rattle.pce_plant.proofs.plant.Plant.new.Goals as goal

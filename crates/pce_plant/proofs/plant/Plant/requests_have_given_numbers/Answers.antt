@@ -1,6 +1,6 @@
 use Rattle.std.proofs.Common.{subst}
-use Rattle.plant_lasting.specs.Lasting.{HaveGiven}
-use Rattle.plant_lasting.proofs.JobsKept.{order_gives}
+use Rattle.jobs_last.specs.Lasting.{HaveGiven}
+use Rattle.jobs_last.proofs.JobsKept.{order_gives}
 use Rattle.pce_plant.specs.Held.{Held, whole}
 use Rattle.pce_plant.specs.PlantFields.{held_of}
 use Rattle.pce_plant.proofs.plant.Plant.requests_have_given_numbers.Goals as goal

@@ -1,5 +1,5 @@
 use Rattle.std.proofs.Common.{subst}
-use Rattle.plant_lasting.specs.Lasting.{JobsLast}
+use Rattle.jobs_last.specs.Lasting.{JobsLast}
 use Rattle.pce_plant.specs.Held.{Held, held, whole}
 use Rattle.pce_plant.specs.PlantFields.{held_of}
 use Rattle.pce_plant.specs.Whole.{GoesOn}

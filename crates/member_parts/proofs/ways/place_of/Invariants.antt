@@ -1,5 +1,0 @@
-use Rattle.member_parts.proofs.WayLemmas.{Skips}
-use Rattle.member_parts.proofs.ways.place_of.Given as goal
-
-abbrev pub invariant-loop-i : goal.invariant-loop-i
-invariant-loop-i l = Skips l.peer l.i l.rows

@@ -1,0 +1,58 @@
+use Rattle.std.proofs.Common.{◌≡◌, ◌<◌, ℕ, true, sym, subst, arith, add-one, length}
+use Rattle.dom_base.specs.declared.names.As.{As}
+use Rattle.plant_text.specs.declared.settings.NetworkParts.{NetworkParts}
+use Rattle.member_trait.specs.plant_model.Deeds.{element_of}
+use Rattle.network_links.specs.Carried.{flow_of}
+use Rattle.member_trait.specs.Membership.{is_member}
+use Rattle.network_events.specs.Standing.{here}
+use Rattle.network_events.proofs.RoomyNeeds.{fits_tick}
+use Rattle.network_events.proofs.TickLaws.{peers_to}
+use Rattle.network_events.proofs.TickingLaws.{Until, peer_more, peer_uses, peers_end, peers_fit, room_left}
+use Rattle.network_events.proofs.ticking.tick_peers.Goals as goal
+
+pub tick_session-requires-clause-fits : goal.tick_session-requires-clause-fits
+tick_session-requires-clause-fits g c =
+    let n = (g.M.Members.stands c.args.members.now).network in
+    let k = c.loop-peer.peer in
+    let all = peers_fit n (flow_of c.args.traffic.now) c.peers-count.result c.requires.under.of c.peers-count.ensures c.requires.few in
+    let below : k < length n.peers = omega (arith, c.loop-peer-test.true, all, c.requires.under.of.peers_are, c.peers-count.ensures) in
+    let member = subst (λ (m : NetworkParts). is_member m (element_of m k) ≡ true) (sym c.loop-peer.invariant.uses.goes.network) (c.requires.joined.peers k below) in
+    fits_tick (g.M.Members.stands c.loop-peer.members).network 1 k c.element_of-at.result c.args.now (g.M.Members.stands c.loop-peer.members).seen (flow_of c.loop-peer.traffic) c.element_of-at.ensures
+    (subst (λ (a : As). is_member (g.M.Members.stands c.loop-peer.members).network a ≡ true) (sym c.element_of-at.ensures) member) (omega arith)
+    (room_left k 1 (length n.peers) c.loop-peer.invariant.uses c.requires.under.on (omega (arith, below)) c.requires.under.keeps)
+
+pub tick_session-requires-clause-there : goal.tick_session-requires-clause-there
+tick_session-requires-clause-there g c =
+    let n = (g.M.Members.stands c.args.members.now).network in
+    let k = c.loop-peer.peer in
+    let all = peers_fit n (flow_of c.args.traffic.now) c.peers-count.result c.requires.under.of c.peers-count.ensures c.requires.few in
+    let below : k < length n.peers = omega (arith, c.loop-peer-test.true, all, c.requires.under.of.peers_are, c.peers-count.ensures) in
+    record {
+      end = c.element_of-at.ensures;
+      member = subst (λ (a : As). is_member (g.M.Members.stands c.loop-peer.members).network a ≡ true) (sym c.element_of-at.ensures)
+          (subst (λ (m : NetworkParts). is_member m (element_of m k) ≡ true) (sym c.loop-peer.invariant.uses.goes.network) (c.requires.joined.peers k below));
+      none = c.loop-peer.invariant.uses.goes.lost c.requires.under.none;
+    }
+
+pub loop-peer-preserved : goal.loop-peer-preserved
+loop-peer-preserved g c =
+    let n = (g.M.Members.stands c.args.members.now).network in
+    let k = c.loop-peer.peer in
+    let start = here (g.M.Members.stands c.args.members.now) (flow_of c.args.traffic.now) in
+    let now = here (g.M.Members.stands c.loop-peer.members) (flow_of c.loop-peer.traffic) in
+    let then = here (g.M.Members.stands c.tick_session.new.members) (flow_of c.tick_session.new.traffic) in
+    let all = peers_fit n (flow_of c.args.traffic.now) c.peers-count.result c.requires.under.of c.peers-count.ensures c.requires.few in
+    let below : k < length n.peers = omega (arith, c.loop-peer-test.true, all, c.requires.under.of.peers_are, c.peers-count.ensures) in
+    let member = subst (λ (m : NetworkParts). is_member m (element_of m k) ≡ true) (sym c.loop-peer.invariant.uses.goes.network) (c.requires.joined.peers k below) in
+    subst (λ (j : ℕ). Until (λ m. peers_to g.M.Members.show m c.args.now j) j j (length n.peers) start then) (sym (add-one k))
+    (record { within = omega (arith, below); uses = peer_more g.M.Members.show c.args.now k start now then c.loop-peer.invariant.uses (peer_uses g.M.Members.show c.args.now k now then member c.tick_session.ensures) })
+
+pub returns : goal.returns
+returns g c =
+    let n = (g.M.Members.stands c.args.members.now).network in
+    let all = peers_fit n (flow_of c.args.traffic.now) c.peers-count.result c.requires.under.of c.peers-count.ensures c.requires.few in
+    let end : c.loop-peer.peer ≡ length n.peers = omega (arith, c.loop-peer-test.false, c.loop-peer.invariant.within, all, c.requires.under.of.peers_are, c.peers-count.ensures) in
+    peers_end g.M.Members.show c.args.now c.loop-peer.peer
+    (here (g.M.Members.stands c.args.members.now) (flow_of c.args.traffic.now))
+    (here (g.M.Members.stands c.loop-peer.members) (flow_of c.loop-peer.traffic))
+    end c.loop-peer.invariant.uses

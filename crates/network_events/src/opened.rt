@@ -1,0 +1,47 @@
+//! The connection of an outside peer is opened.
+ghost use Rattle.std.specs.Prelude.{◌≡◌, true, []};
+ghost use Rattle.member_trait.specs.plant_model.RealWire.{wire};
+ghost use Rattle.member_trait.specs.plant_model.Events as events;
+ghost use Rattle.network_links.specs.Carried.{flow_of};
+ghost use Rattle.network_events.specs.Moving.{IsSound, Moves, OrLacks};
+ghost use Rattle.network_events.specs.Standing.{here};
+
+use crate::acting::give_input;
+use dom_base::Peer;
+use pcep_session::Input;
+use member_trait::Members;
+use member_trait::model::{Outcome, Refused};
+use network_links::Traffic;
+
+/// The connection of an outside peer is opened for this holder, and its session begins. An `Err` changes
+/// nothing but room.
+pub fn open<M: Members>(
+    members: &mut M,
+    traffic: &mut Traffic,
+    peer: u32,
+    holder: u32,
+) -> Result<Outcome, Refused>
+    requires sound { IsSound (here (M.stands members.old) (flow_of traffic.old)) }
+    ensures { Moves (OrLacks M.show (λ s. true) (λ n s. events.open_peer M.Pin M.Key wire n M.show peer holder s)) (here (M.stands members.old) (flow_of traffic.old)) result (here (M.stands members.new) (flow_of traffic.new)) }
+{
+    if peer as usize >= traffic.peers() {
+        return Err(Refused::NoSuchPeer);
+    }
+    if traffic.is_open(peer) {
+        return Err(Refused::NoSuchPeer);
+    }
+    let Ok(()) = traffic.connect(peer, holder) else {
+        return Err(Refused::NoMemory);
+    };
+    traffic.clear_said();
+    let at = members.element_of(peer);
+    give_input(
+        members,
+        traffic,
+        at,
+        Peer::Outside(peer),
+        Input::Begin,
+        false,
+    );
+    Ok(Outcome::Done)
+}

@@ -1,0 +1,9 @@
+use Rattle.std.proofs.Common.{◌∙◌, sym, ap}
+use Rattle.network_links.specs.Sides.{Side}
+use Rattle.plant_sessions.specs.Ends.{is_left_out}
+use Rattle.network_links.proofs.RowLemmas.{read_side}
+use Rattle.network_links.proofs.links.Links.leaves_out.Goals as goal
+
+pub returns-in-Some : goal.returns-in-Some
+returns-in-Some c =
+    c.leaves_out.ensures ∙ sym (ap (λ (s : Side). is_left_out c.args.ticks c.args.own.now s.kept.out) (read_side c.args.at c.args.to c.in-Some.place.link c.in-Some.place.end c.deref.result.now c.self.inside.links.items c.args.self.now c.deref.ensures.value c.self.view_is c.in-Some.ensures c.index.result.now c.index.ensures))

@@ -1,0 +1,46 @@
+-- What a tick does to an outside peer, or to an end of a link, whose session has nothing to say or to do at it.
+use Rattle.std.specs.Prelude.{◌≡◌, Bool, true}
+use Rattle.dom_base.specs.declared.names.As.{As}
+use Rattle.dom_base.specs.declared.names.Peer.{Peer}
+use Rattle.dom_base.specs.declared.names.Peer.TheVariants.{Outside, Inner}
+use Rattle.dom_base.specs.declared.names.Tick.{Tick}
+use Rattle.pcep_session.specs.Quiet.{after_quiet, is_quiet}
+use Rattle.plant_text.specs.Settings.{has_line}
+use Rattle.plant_sessions.specs.declared.access.Access.{Access}
+use Rattle.plant_sessions.specs.declared.link.End.{End}
+use Rattle.plant_sessions.specs.Ends.{with_kept}
+use Rattle.plant_sessions.specs.Links.{Joined, at_end, set_end}
+use Rattle.plant_sessions.specs.Quiet.{is_quiet_peer, sender_ticked, ticked_quietly}
+use Rattle.network_links.specs.Accesses.{on_connected}
+use Rattle.network_links.specs.Flow.{Flow, change_access, set_session}
+use Rattle.network_links.specs.Peers.{access_of}
+use Rattle.network_links.specs.Sides.{Side}
+
+-- whether there was nothing to say or to do, and what the peer is then
+pub record TicksAccess (now : Tick) (quiet : Bool) (old new : Access) : Type 0 where
+  pub answer : quiet ≡ is_quiet_peer now (access_of old).connection
+  pub is : new ≡ on_connected (ticked_quietly now) old
+
+-- the same of what one end of a link sends
+abbrev pub side_ticked : Tick → Side → Side
+side_ticked now s = with_kept (sender_ticked now s.kept) s
+
+pub record TicksEnd (now : Tick) (e : End) (quiet : Bool) (old new : Joined) : Type 0 where
+  pub answer : quiet ≡ is_quiet now (at_end e old).kept.session
+  pub is : new ≡ set_end e (side_ticked now (at_end e old)) old
+
+-- ---- the session of a member with a peer
+
+-- there is such a link
+abbrev pub IsReached : As → Peer → Flow → Type 0
+IsReached at (Outside i) f = Unit {0}
+IsReached at (Inner b) f = has_line at b f.lines ≡ true
+
+abbrev pub is_quiet_at : Tick → As → Peer → Flow → Bool
+is_quiet_at now at (Outside i) f = is_quiet_peer now (f.accesses i).connection
+is_quiet_at now at (Inner b) f = is_quiet now (f.sessions at b)
+
+-- at any other tick all is as it was
+abbrev pub ticked_at : Tick → As → Peer → Flow → Flow
+ticked_at now at (Outside i) f = change_access i (ticked_quietly now) f
+ticked_at now at (Inner b) f = set_session at b (after_quiet now (f.sessions at b)) f

@@ -1,0 +1,321 @@
+//! Inner links in their order.
+ghost use Rattle.std.specs.Prelude.{◌≡◌, ◌<◌, true, [], length, not, slice_get, Some, None, IfOk, IfSome, MatchOption};
+ghost use Rattle.std.specs.Option.{option_map};
+ghost use Rattle.plant_text.specs.Names.{same_link};
+ghost use Rattle.plant_text.specs.Settings.{has_line};
+ghost use Rattle.settings_layout.specs.Lines.{line_of, are_lines};
+ghost use Rattle.pcep_session.specs.Quiet.{is_quiet};
+ghost use Rattle.plant_queues.specs.Messages.{Covers};
+ghost use Rattle.settings_layout.specs.plant_model.Names.{is_empty};
+ghost use Rattle.settings_layout.specs.plant_model.RealWire.{wire};
+ghost use Rattle.settings_layout.specs.plant_model.Deeds as deeds;
+ghost use Rattle.plant_sessions.specs.Ends.{is_left_out};
+ghost use Rattle.plant_sessions.specs.Links.{at_end, set_end, new_sender, next_sid};
+ghost use Rattle.plant_sessions.specs.Rooms.{KeepsRoom, queue};
+ghost use Rattle.network_links.specs.Quiet.{TicksEnd, side_ticked};
+ghost use Rattle.network_links.specs.Sides as sides;
+ghost use Rattle.network_links.specs.Sides.{AreNewLinks, Begins, BothChange, BothSidesChange, ChangesAt, DropsFirst, Empties, EndChanges, HasSid, IsPlace, Reserves, Sends, SideChanges, link_at, row_of, set_side, with_session};
+
+use dom_base::{As, NoMemory, Tick};
+use pcep_session::{Input, Own, Session};
+use plant_sessions::{End, Link, OWN_LENGTH, our_offer};
+use std::alloc::Global;
+use std::marker::Model;
+
+/// The inner links of a network. Between two ends the first one counts.
+#[derive(Drop)]
+pub(crate) struct Links {
+    links: Vec<Link>,
+}
+
+impl Model for Links {
+    ghost use Rattle.std.specs.Prelude.{List};
+    ghost use Rattle.plant_sessions.specs.Links.{Joined};
+
+    ghost Value = { List Joined };
+
+    ghost view = { λ a. a.links.items };
+}
+
+/// The place of a link, and an end of it.
+#[derive(Clone, Copy)]
+struct Place {
+    link: usize,
+    end: End,
+}
+
+fn is_between(link: &Link, a: As, b: As) -> bool
+    ensures { result ≡ same_link link.now.line.lower link.now.line.upper a b }
+{
+    let (lower, upper) = link.line();
+    (lower.0 == a.0 && upper.0 == b.0) || (lower.0 == b.0 && upper.0 == a.0)
+}
+
+fn end_of(link: &Link, at: As) -> End
+    ensures { result ≡ sides.end_of at link.now.line }
+{
+    let (lower, _upper) = link.line();
+    if lower.0 == at.0 {
+        End::Lower
+    } else {
+        End::Upper
+    }
+}
+
+// Where what one end sends to another stands.
+fn place_of(links: &[Link], at: As, to: As) -> Option<Place>
+    ensures { MatchOption result (link_at at to links.now ≡ None) (λ p. IsPlace at to p.link p.end links.now) }
+{
+    for i in 0..links.len() {
+        let link = &links[i];
+        if is_between(link, at, to) {
+            let end = end_of(link, at);
+            return Some(Place { link: i, end });
+        }
+    }
+    None
+}
+
+fn new_link(alloc: Global, lower: As, upper: As) -> Result<Link, NoMemory>
+    ensures line { IfOk result (λ link. link.line ≡ record { lower = lower; upper = upper }) }
+    ensures lower { IfOk result (λ link. link.lower.kept ≡ new_sender) }
+    ensures upper { IfOk result (λ link. link.upper.kept ≡ new_sender) }
+    ensures lower_room { IfOk result (λ link. KeepsRoom 0 0 (queue [] link.lower.spare)) }
+    ensures upper_room { IfOk result (λ link. KeepsRoom 0 0 (queue [] link.upper.spare)) }
+{
+    let mut link = Link::new(alloc, lower, upper);
+    link.reserve(End::Lower, 0, 0)?;
+    link.reserve(End::Upper, 0, 0)?;
+    Ok(link)
+}
+
+fn session_at(link: &Link, end: End) -> Session
+    ensures { result ≡ (at_end end link.now).kept.session }
+{
+    link.session(end)
+}
+
+fn set_session_at(links: &mut Vec<Link>, i: usize, end: End, session: Session)
+    requires within { i < length links.old.items }
+    requires sid { IfSome (slice_get links.old.items i) (λ x. HasSid session.offer.sid (at_end end x)) }
+    ensures { ChangesAt i (λ x y. y ≡ set_end end (with_session session (at_end end x)) x) links.old.items links.new.items }
+{
+    links[i].set_session(end, session);
+}
+
+fn drop_first_at(links: &mut Vec<Link>, i: usize, end: End)
+    requires { i < length links.old.items }
+    ensures { ChangesAt i (EndChanges end DropsFirst) links.old.items links.new.items }
+{
+    links[i].drop_first(end);
+}
+
+fn clear_at(links: &mut Vec<Link>, i: usize)
+    requires { i < length links.old.items }
+    ensures { ChangesAt i (BothChange Empties) links.old.items links.new.items }
+{
+    links[i].clear();
+}
+
+fn reserve_at(
+    links: &mut Vec<Link>,
+    i: usize,
+    end: End,
+    messages: usize,
+    bytes: usize,
+) -> Result<(), NoMemory>
+    requires { i < length links.old.items }
+    ensures { ChangesAt i (EndChanges end (Reserves messages bytes result)) links.old.items links.new.items }
+{
+    links[i].reserve(end, messages, bytes)
+}
+
+fn put_at(links: &mut Vec<Link>, i: usize, end: End, message: &[u8])
+    requires within { i < length links.old.items }
+    requires room { IfSome (slice_get links.old.items i) (λ x. Covers (at_end end x).spare 1 (length message.now)) }
+    ensures { ChangesAt i (EndChanges end (Sends message.now)) links.old.items links.new.items }
+{
+    links[i].put(end, message);
+}
+
+fn begin_at(links: &mut Vec<Link>, i: usize, end: End, sid: u8, now: Tick)
+    requires within { i < length links.old.items }
+    requires room { IfSome (slice_get links.old.items i) (λ x. Covers (at_end end x).spare 1 OWN_LENGTH) }
+    ensures { ChangesAt i (EndChanges end (Begins sid now)) links.old.items links.new.items }
+{
+    links[i].begin(end, sid, now);
+}
+
+fn tick_quietly_at(links: &mut Vec<Link>, i: usize, end: End, now: Tick) -> bool
+    requires { i < length links.old.items }
+    ensures { ChangesAt i (TicksEnd now end result) links.old.items links.new.items }
+{
+    links[i].tick_quietly(end, now)
+}
+
+impl Links {
+    /// Links whose sessions have not begun.
+    pub fn new(alloc: Global, lines: &[(As, As)]) -> Result<Links, NoMemory>
+        ensures { IfOk result (λ links. AreNewLinks (are_lines lines.now) (row_of links)) }
+    {
+        let mut links = Vec::new(alloc);
+        for (lower, upper) in lines {
+            links.push(new_link(alloc, *lower, *upper)?)?;
+        }
+        Ok(Links { links })
+    }
+
+    /// How many inner links there are.
+    pub fn count(&self) -> usize
+        ensures { result ≡ length (row_of self.now).lines }
+    {
+        self.links.len()
+    }
+
+    /// Whether a link joins these two, in either order.
+    pub fn is_linked(&self, a: As, b: As) -> bool
+        ensures { result ≡ has_line a b (row_of self.now).lines }
+    {
+        match place_of(&self.links, a, b) {
+            Some(_) => true,
+            None => false,
+        }
+    }
+
+    /// The lower and the upper end of the k-th link.
+    pub fn line_at(&self, k: usize) -> Option<(As, As)>
+        ensures { option_map line_of result ≡ slice_get (row_of self.now).lines k }
+    {
+        match self.links.get(k) {
+            Some(link) => Some(link.line()),
+            None => None,
+        }
+    }
+
+    /// The session of this end of the link.
+    pub fn session(&self, at: As, to: As) -> Session
+        ensures { result ≡ ((row_of self.now).sides at to).kept.session }
+    {
+        match place_of(&self.links, at, to) {
+            Some(place) => self.links[place.link].session(place.end),
+            None => Session::new(our_offer(0), Tick(0)),
+        }
+    }
+
+    /// Puts the session at this end of the link in place of the one that stands there.
+    pub fn set_session(&mut self, at: As, to: As, session: Session)
+        requires linked { has_line at to (row_of self.old).lines ≡ true }
+        requires sid { session.offer.sid ≡ ((row_of self.old).sides at to).kept.session.offer.sid }
+        ensures { (row_of self.new) ≡ set_side at to (with_session session ((row_of self.old).sides at to)) (row_of self.old) }
+    {
+        match place_of(&self.links, at, to) {
+            Some(place) => set_session_at(&mut self.links, place.link, place.end, session),
+            None => unreachable!(),
+        }
+    }
+
+    /// Whether a message is on its way.
+    pub fn is_on_its_way(&self, from: As, to: As) -> bool
+        ensures { result ≡ not (is_empty ((row_of self.now).sides from to).kept.out) }
+    {
+        match place_of(&self.links, from, to) {
+            Some(place) => self.links[place.link].has_sent(place.end),
+            None => false,
+        }
+    }
+
+    /// The first message that is on its way, as the session at the other end takes it.
+    pub fn first_input(&self, from: As, to: As) -> Result<Option<Input>, NoMemory>
+        ensures { IfOk result (λ input. input ≡ option_map (λ frame. deeds.input_of wire (Some frame)) (slice_get ((row_of self.now).sides from to).kept.out 0)) }
+    {
+        match place_of(&self.links, from, to) {
+            Some(place) => self.links[place.link].first_input(place.end),
+            None => Ok(None),
+        }
+    }
+
+    /// Takes the first message on its way between these two off the link, where there is one.
+    pub fn drop_first(&mut self, from: As, to: As)
+        ensures { SideChanges from to DropsFirst (row_of self.old) (row_of self.new) }
+    {
+        match place_of(&self.links, from, to) {
+            Some(place) => drop_first_at(&mut self.links, place.link, place.end),
+            None => {}
+        }
+    }
+
+    /// Whether a message of the session itself is left out.
+    pub fn leaves_out(&self, at: As, to: As, ticks: bool, own: &Own) -> bool
+        ensures { result ≡ is_left_out ticks own.now ((row_of self.now).sides at to).kept.out }
+    {
+        match place_of(&self.links, at, to) {
+            Some(place) => self.links[place.link].leaves_out(place.end, ticks, own),
+            None => false,
+        }
+    }
+
+    /// Empties both queues.
+    pub fn clear(&mut self, a: As, b: As)
+        ensures { BothSidesChange a b Empties (row_of self.old) (row_of self.new) }
+    {
+        match place_of(&self.links, a, b) {
+            Some(place) => clear_at(&mut self.links, place.link),
+            None => {}
+        }
+    }
+
+    /// The number of the session that comes after that of now.
+    pub fn next_sid(&self, at: As, to: As) -> u8
+        ensures { result ≡ next_sid ((row_of self.now).sides at to).kept.session }
+    {
+        match place_of(&self.links, at, to) {
+            Some(place) => self.links[place.link].next_sid(place.end),
+            None => 1,
+        }
+    }
+
+    /// Makes room in the queue of an end; refuses where there is no link.
+    pub fn reserve(&mut self, at: As, to: As, messages: usize, bytes: usize) -> Result<(), NoMemory>
+        ensures { SideChanges at to (Reserves messages bytes result) (row_of self.old) (row_of self.new) }
+    {
+        match place_of(&self.links, at, to) {
+            Some(place) => reserve_at(&mut self.links, place.link, place.end, messages, bytes),
+            None => Err(NoMemory),
+        }
+    }
+
+    /// An end sends a message for which there is room.
+    pub fn put(&mut self, at: As, to: As, message: &[u8])
+        requires { Covers ((row_of self.old).sides at to).spare 1 (length message.now) }
+        ensures { SideChanges at to (Sends message.now) (row_of self.old) (row_of self.new) }
+    {
+        match place_of(&self.links, at, to) {
+            Some(place) => put_at(&mut self.links, place.link, place.end, message),
+            None => unreachable!(),
+        }
+    }
+
+    /// The session at an end is made anew and begun: it sends its Open.
+    pub fn begin(&mut self, at: As, to: As, sid: u8, now: Tick)
+        requires { Covers ((row_of self.old).sides at to).spare 1 OWN_LENGTH }
+        ensures { SideChanges at to (Begins sid now) (row_of self.old) (row_of self.new) }
+    {
+        match place_of(&self.links, at, to) {
+            Some(place) => begin_at(&mut self.links, place.link, place.end, sid, now),
+            None => unreachable!(),
+        }
+    }
+
+    /// The step of a tick, where the session of this end has nothing to say or to do at it, and whether
+    /// that is so; where it is not, nothing changes.
+    pub fn tick_quietly(&mut self, at: As, to: As, now: Tick) -> bool
+        requires { has_line at to (row_of self.old).lines ≡ true }
+        ensures quiet { result ≡ is_quiet now ((row_of self.old).sides at to).kept.session }
+        ensures next { (row_of self.new) ≡ set_side at to (side_ticked now ((row_of self.old).sides at to)) (row_of self.old) }
+    {
+        match place_of(&self.links, at, to) {
+            Some(place) => tick_quietly_at(&mut self.links, place.link, place.end, now),
+            None => unreachable!(),
+        }
+    }
+}

@@ -1,0 +1,230 @@
+//! Outside peers by their numbers.
+ghost use Rattle.std.specs.Prelude.{◌≡◌, ◌<◌, ◌%◌, ◌+◌, [], drop, length, slice_get, Some, None, IfOk, OnErr, is_some};
+ghost use Rattle.std.specs.Option.{option_map};
+ghost use Rattle.plant_queues.specs.Messages.{Covers};
+ghost use Rattle.settings_layout.specs.plant_model.RealWire.{wire};
+ghost use Rattle.settings_layout.specs.plant_model.Deeds as deeds;
+ghost use Rattle.plant_sessions.specs.Ends.{is_left_out};
+ghost use Rattle.plant_sessions.specs.Quiet.{is_quiet_peer, ticked_quietly};
+ghost use Rattle.network_links.specs.Flow.{drop_first, inbox_of, no_room, out_of};
+ghost use Rattle.network_links.specs.Peers.{Connects, DrainsPeer, FeedsPeer, GrowsGuest, SendsGuest, change_guest, guests_of, no_guests, set_guest};
+
+use crate::accesses::{
+    connect_at, drain_at, drop_first_at, empty_inbox_at, feed_at, put_at, reserve_at,
+    set_session_at, shut_at, tick_quietly_at,
+};
+use dom_base::{Bytes, NoMemory, Tick};
+use pcep_session::{Input, Own, Session};
+use settings_layout::model::Refused;
+use plant_sessions::{Access, Connection};
+use std::alloc::Global;
+use std::marker::Model;
+
+/// The outside peers of a network, numbered from 0.
+#[derive(Drop)]
+pub(crate) struct Peers {
+    rows: Vec<Access>,
+}
+
+impl Model for Peers {
+    ghost use Rattle.std.specs.Prelude.{List};
+    ghost use Rattle.plant_sessions.specs.declared.access.Access.{Access};
+
+    ghost Value = { List Access };
+
+    ghost view = { λ a. a.rows.items };
+}
+
+/// What is handed out to the holder of a connection: the bytes that waited, and whether its session is over.
+#[derive(Drop)]
+pub struct Drained {
+    pub bytes: Bytes,
+    pub ended: bool,
+}
+
+impl Peers {
+    /// So many peers, none of which was ever open.
+    pub fn new(alloc: Global, count: usize) -> Result<Peers, NoMemory>
+        ensures { IfOk result (λ peers. guests_of peers ≡ no_guests count) }
+    {
+        let mut rows = Vec::new(alloc);
+        for _i in 0..count {
+            rows.push(Access::new())?;
+        }
+        Ok(Peers { rows })
+    }
+
+    /// How many outside peers the settings have.
+    pub fn count(&self) -> usize
+        ensures { result ≡ (guests_of self.now).count }
+    {
+        self.rows.len()
+    }
+
+    fn connection(&self, peer: u32) -> Option<&Connection>
+        ensures { option_map (λ x. x.now.kept) result ≡ ((guests_of self.now).accesses peer).connection }
+    {
+        let Some(access) = self.rows.get(peer as usize) else {
+            return None;
+        };
+        access.connection.as_ref()
+    }
+
+    /// Whether the peer's connection is open.
+    pub fn is_open(&self, peer: u32) -> bool
+        ensures { result ≡ is_some ((guests_of self.now).accesses peer).connection }
+    {
+        match self.connection(peer) {
+            Some(_) => true,
+            None => false,
+        }
+    }
+
+    /// Who holds the peer's connection, where it is open.
+    pub fn holder(&self, peer: u32) -> Option<u32>
+        ensures { result ≡ option_map (λ x. x.holder) ((guests_of self.now).accesses peer).connection }
+    {
+        match self.connection(peer) {
+            Some(connection) => Some(connection.holder()),
+            None => None,
+        }
+    }
+
+    /// The peer's session, where its connection is open.
+    pub fn session(&self, peer: u32) -> Option<Session>
+        ensures { result ≡ option_map (λ x. x.session) ((guests_of self.now).accesses peer).connection }
+    {
+        match self.connection(peer) {
+            Some(connection) => Some(connection.session()),
+            None => None,
+        }
+    }
+
+    /// The first item of a peer's inbox, as its session takes it.
+    pub fn first_input(&self, peer: u32) -> Result<Option<Input>, NoMemory>
+        ensures { IfOk result (λ input. input ≡ option_map (deeds.input_of wire) (slice_get (inbox_of ((guests_of self.now).accesses peer).connection) 0)) }
+    {
+        match self.connection(peer) {
+            Some(connection) => connection.first_input(),
+            None => Ok(None),
+        }
+    }
+
+    /// Whether a message of the session itself is left out.
+    pub fn leaves_out(&self, peer: u32, ticks: bool, own: &Own) -> bool
+        ensures { result ≡ is_left_out ticks own.now (out_of ((guests_of self.now).accesses peer).connection) }
+    {
+        match self.connection(peer) {
+            Some(connection) => connection.leaves_out(ticks, own),
+            None => false,
+        }
+    }
+
+    /// Puts the peer's session in place of the one that stands there.
+    pub fn set_session(&mut self, peer: u32, session: Session)
+        ensures { (guests_of self.new) ≡ change_guest peer (deeds.with_session session) (guests_of self.old) }
+    {
+        if (peer as usize) < self.rows.len() {
+            set_session_at(&mut self.rows, peer as usize, session);
+        }
+    }
+
+    /// Takes the first message out of the peer's inbox.
+    pub fn drop_first(&mut self, peer: u32)
+        ensures { (guests_of self.new) ≡ change_guest peer drop_first (guests_of self.old) }
+    {
+        if (peer as usize) < self.rows.len() {
+            drop_first_at(&mut self.rows, peer as usize);
+        }
+    }
+
+    /// Drops all that waits in the peer's inbox.
+    pub fn empty_inbox(&mut self, peer: u32)
+        ensures { (guests_of self.new) ≡ change_guest peer (deeds.with_inbox []) (guests_of self.old) }
+    {
+        if (peer as usize) < self.rows.len() {
+            empty_inbox_at(&mut self.rows, peer as usize);
+        }
+    }
+
+    /// Opens the peer's connection in the name of this holder.
+    pub fn connect(
+        &mut self,
+        alloc: Global,
+        peer: u32,
+        holder: u32,
+        now: Tick,
+    ) -> Result<(), NoMemory>
+        requires { peer < (guests_of self.old).count }
+        ensures { Connects peer holder now (guests_of self.old) result (guests_of self.new) }
+    {
+        connect_at(&mut self.rows, peer as usize, alloc, holder, now)
+    }
+
+    /// Shuts the peer's connection; what waits in it is dropped.
+    pub fn shut(&mut self, peer: u32)
+        ensures { (guests_of self.new) ≡ set_guest peer (record { opened = ((guests_of self.old).accesses peer).opened; connection = None }) no_room (guests_of self.old) }
+    {
+        if (peer as usize) < self.rows.len() {
+            shut_at(&mut self.rows, peer as usize);
+        }
+    }
+
+    /// Makes room in the queue of a peer; refuses where it is closed.
+    pub fn reserve(&mut self, peer: u32, messages: usize, bytes: usize) -> Result<(), NoMemory>
+        ensures { GrowsGuest peer messages bytes (guests_of self.old) result (guests_of self.new) }
+    {
+        if (peer as usize) < self.rows.len() {
+            reserve_at(&mut self.rows, peer as usize, messages, bytes)
+        } else {
+            Err(NoMemory)
+        }
+    }
+
+    /// Sends a message for which there is room.
+    pub fn put(&mut self, peer: u32, message: &[u8])
+        requires { Covers ((guests_of self.old).room peer) 1 (length message.now) }
+        ensures { SendsGuest peer message.now (guests_of self.old) (guests_of self.new) }
+    {
+        if (peer as usize) < self.rows.len() {
+            put_at(&mut self.rows, peer as usize, message);
+        } else {
+            unreachable!();
+        }
+    }
+
+    /// An outside peer feeds bytes.
+    pub fn feed(&mut self, peer: u32, piece: &[u8]) -> Result<(), Refused>
+        ensures { FeedsPeer peer piece.now (guests_of self.old) result (guests_of self.new) }
+    {
+        if (peer as usize) < self.rows.len() {
+            feed_at(&mut self.rows, peer as usize, piece)
+        } else {
+            Err(Refused::NoSuchPeer)
+        }
+    }
+
+    /// What waits for an outside peer is handed out to the holder of its connection.
+    pub fn drain(&mut self, peer: u32, holder: u32) -> Result<Drained, Refused>
+        ensures { DrainsPeer peer holder (guests_of self.old) result (guests_of self.new) }
+    {
+        if (peer as usize) < self.rows.len() {
+            drain_at(&mut self.rows, peer as usize, holder)
+        } else {
+            Err(Refused::NoSuchPeer)
+        }
+    }
+
+    /// The step of a tick, where the peer's session has nothing to say or to do at it or the peer is
+    /// closed, and whether that is so; where it is not, nothing changes.
+    pub fn tick_quietly(&mut self, peer: u32, now: Tick) -> bool
+        ensures quiet { result ≡ is_quiet_peer now ((guests_of self.old).accesses peer).connection }
+        ensures next { (guests_of self.new) ≡ change_guest peer (ticked_quietly now) (guests_of self.old) }
+    {
+        if (peer as usize) < self.rows.len() {
+            tick_quietly_at(&mut self.rows, peer as usize, now)
+        } else {
+            true
+        }
+    }
+}

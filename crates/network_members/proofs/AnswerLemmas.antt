@@ -1,0 +1,280 @@
+-- The answer of an element, or of the parent, to a solved job is that of the model.
+use Rattle.std.proofs.Common.{◌≡◌, ℕ, Bool, true, false, cond, nat_eq, is_some, length, option_map, Option, Some, None, Result, Ok, Err, List, inl, inr, refl, sym, ◌∙◌, ap, ap₂, subst}
+use Rattle.std.specs.Prelude.{IfErr, IfOk, IfSome, ◌↔◌}
+use Rattle.std.specs.Map.{lookup}
+use Rattle.dom_base.specs.declared.names.As.{As}
+use Rattle.request_table.specs.declared.held.Held.{Held}
+use Rattle.disclosure.specs.Shown.{open_of}
+use Rattle.te_links.specs.Rows.{Rows}
+use Rattle.vspt_tree.specs.declared.branch.Branch.{Branch}
+use Rattle.border_costs.specs.declared.job.Ask.{Ask}
+use Rattle.border_costs.specs.Solutions.{AreRows, Solution}
+use Rattle.plant_text.specs.Names.{same_as, parent_as}
+use Rattle.plant_text.specs.Settings.{is_element}
+use Rattle.member_trait.specs.plant_model.declared.upper.BorderJob.{BorderJob}
+use Rattle.member_trait.specs.plant_model.BorderGraph.{Found, SolvesBorder}
+use Rattle.member_trait.specs.plant_model.Element.{Element, Item, Place, Stage, Taken, Waits, Ready, is_ready}
+use Rattle.member_trait.specs.plant_model.Events.{has_jobs, is_ready_asking, is_ready_row}
+use Rattle.member_trait.specs.plant_model.Jobs.{ask_of}
+use Rattle.member_trait.specs.plant_model.Parent as parent
+use Rattle.member_trait.specs.plant_model.Plant.{Pin, Segment, ask, first_pin}
+use Rattle.member_trait.specs.plant_model.RealWire.{wire}
+use Rattle.member_trait.specs.plant_model.Settings.{family, place}
+use Rattle.member_trait.specs.plant_model.Solving.{commit}
+use Rattle.member_trait.specs.Membership.{Membership, Replied, with_element, with_parent}
+use Rattle.pce_element.specs.Committing.{IsOwnJob, commit_held, commit_solved, commit_stage, committed}
+use Rattle.pce_element.specs.Jobs.{Work, job_at, work_for, work_at}
+use Rattle.pce_element.specs.Plans.{Planned}
+use Rattle.pce_element.specs.Seen.{Seen}
+use Rattle.pce_element.specs.declared.committing.CommitError.{CommitError}
+use Rattle.pce_element.specs.declared.committing.CommitError.TheVariants as commit_error
+use Rattle.pce_parent.specs.Plans.{Planned as BorderPlanned}
+use Rattle.pce_parent.specs.Refused.{handed_back as border_back}
+use Rattle.pce_parent.specs.Seen as border
+use Rattle.pce_parent.specs.Solution.{BorderSolution}
+use Rattle.pce_parent.specs.declared.committing.ParentCommitError.{ParentCommitError}
+use Rattle.pce_parent.specs.declared.committing.ParentCommitError.TheVariants as parent_error
+use Rattle.pce_parent.specs.declared.work.Done.{Done}
+use Rattle.pce_parent.specs.declared.work.Done.TheVariants as done
+use Rattle.network_members.specs.Answering.{Commits, IsBack, MemberAnswers, border_job, is_ready_at, told_above, told_below}
+use Rattle.network_members.specs.Becoming.{Becomes, unchanged}
+use Rattle.network_members.specs.Elements.{own_of, at_domain, element_or}
+use Rattle.network_members.specs.Tiers.{Tiers, AreSet, Become, lost_in, members_of}
+use Rattle.network_members.specs.declared.answering.Unanswered.{Unanswered}
+use Rattle.network_members.specs.declared.plan.MemberPlan.{MemberPlan}
+use Rattle.network_members.proofs.DomainLemmas.{found_own}
+use Rattle.network_members.proofs.StepLemmas.{is_upper, keeps_below}
+use Rattle.network_members.proofs.TierLemmas.{placed_at}
+
+-- the request that is answered
+record IsAnswered (s : Seen Pin Segment) (x : Solution) (now : ℕ) (taken : Taken Pin Segment) : Type 0 where
+  held : Held (Item Pin)
+  found : lookup (nat_eq x.ask.number) s.losing.element.pending.rows ≡ Some held
+  down : List Branch
+  ready : held.item.stage ≡ Ready down
+  is : taken ≡ commit_solved s x now (x.ask.number, held) down
+
+is_answered : (s : Seen Pin Segment) (x : Solution) (now : ℕ) (taken : Taken Pin Segment) → committed s x now ≡ Some taken → IsAnswered s x now taken
+is_answered s x now taken is = go (lookup (nat_eq x.ask.number) s.losing.element.pending.rows) refl is
+  where
+    some_one : (a b : Taken Pin Segment) → Some a ≡ Some b → a ≡ b
+    some_one a b e = cc
+
+    none_some : None ≡ Some taken → ⊥
+    none_some e = cc
+
+    at_stage : (h : Held (Item Pin)) → lookup (nat_eq x.ask.number) s.losing.element.pending.rows ≡ Some h → (stage : Stage) → h.item.stage ≡ stage → commit_stage s x now (x.ask.number, h) stage ≡ Some taken → IsAnswered s x now taken
+    at_stage h found (Waits on id) stands e = absurd (none_some e)
+    at_stage h found (Ready down) stands e = record { held = h; found = found; down = down; ready = stands; is = sym (some_one (commit_solved s x now (x.ask.number, h) down) taken e) }
+
+    go : (o : Option (Held (Item Pin))) → lookup (nat_eq x.ask.number) s.losing.element.pending.rows ≡ o → commit_held s x now x.ask.number o ≡ Some taken → IsAnswered s x now taken
+    go None found e = absurd (none_some e)
+    go (Some h) found e = at_stage h found h.item.stage refl e
+
+-- what was solved is its job
+own_work : (s : Seen Pin Segment) (x : Solution) (now : ℕ) (taken : Taken Pin Segment) (a : IsAnswered s x now taken) → IsOwnJob s x → (x.ask ≡ ask_of (own_of s) x.ask.number a.held.item a.down a.held.item.pin.number a.held.item.pin.topology) × (x.topology ≡ a.held.item.pin.topology)
+own_work s x now taken a own =
+    let k = x.ask.number in
+    let w : Work = record { ask = ask_of (own_of s) k a.held.item a.down a.held.item.pin.number a.held.item.pin.topology; topology = a.held.item.pin.topology } in
+    let job : job_at s k ≡ Some w =
+    ap (λ (o : Option (Held (Item Pin))). work_for (own_of s) k (option_map (λ (h : Held (Item Pin)). h.item) o)) a.found
+    ∙ ap (work_at (own_of s) k a.held.item) a.ready in
+    subst (λ (o : Option Work). IfSome o (λ v. (x.ask ≡ v.ask) × (x.topology ≡ v.topology))) job own
+
+-- a request without a job is not ready
+pub no_job : (s : Seen Pin Segment) (k : ℕ) → job_at s k ≡ None → is_ready_row (lookup (nat_eq k) s.losing.element.pending.rows) ≡ false
+no_job s k none = go (lookup (nat_eq k) s.losing.element.pending.rows) none
+  where
+    at_stage : (i : Item Pin) (stage : Stage) → work_at (own_of s) k i stage ≡ None → is_ready stage ≡ false
+    at_stage i (Waits on id) e = refl
+    at_stage i (Ready down) e = absurd (let no : Some (let v : Work = record { ask = ask_of (own_of s) k i down i.pin.number i.pin.topology; topology = i.pin.topology } in v) ≡ None = e in cc)
+
+    go : (o : Option (Held (Item Pin))) → work_for (own_of s) k (option_map (λ (h : Held (Item Pin)). h.item) o) ≡ None → is_ready_row o ≡ false
+    go None e = refl
+    go (Some h) e = at_stage h.item h.item.stage e
+
+module _ (d : As) (now : ℕ) (x : Solution) (t : Tiers Pin Segment) (es : List (Seen Pin Segment)) (are : AreSet t) (below : same_as d parent_as ≡ false) (there : is_element t.network d ≡ true)
+    (right : AreRows x.topology x.ask x.rows) (own : IfSome (at_domain d t.elements) (λ e. IsOwnJob e x)) (b : Becomes d unchanged t.elements es) where
+  abbrev u : Tiers Pin Segment
+  u = record t { elements = es }
+
+  jobs : has_jobs t.network d ≡ true
+  jobs = ap (λ (c : Bool). cond c (is_some t.network.parent) (is_element t.network d)) below ∙ there
+
+  one_own : IsOwnJob b.one x
+  one_own = subst (λ (o : Option (Seen Pin Segment)). IfSome o (λ e. IsOwnJob e x)) b.found own
+
+  answers : (p : Planned Pin Segment Solution) → committed b.one x now ≡ Some p.taken → MemberAnswers t.network now d x.ask.number (members_of first_pin t) (record { members = with_element d p.taken.element (members_of first_pin u); outputs = p.taken.outputs })
+  answers p is =
+      let a = is_answered b.one x now p.taken is in
+      let work = own_work b.one x now p.taken a one_own in
+      let k = x.ask.number in
+      let domain : own_of b.one ≡ d = found_own d t.elements b.one b.found in
+      let same = keeps_below first_pin open_of d t es b below in
+      let element_is : b.one.losing.element ≡ (members_of first_pin t).elements d = ap (element_or t.network t.clock d) (sym b.found) in
+      let place_is : b.one.place ≡ place t.network d = placed_at t.network d t.elements b.one are.places b.found ∙ ap (place t.network) domain in
+      let asked : x.ask ≡ ask wire t.network d (k, a.held) a.down = work.0 ∙ ap (λ (o : As). ask_of o k a.held.item a.down a.held.item.pin.number a.held.item.pin.topology) domain in
+      let taken_is : p.taken ≡ commit wire (place t.network d) (k, a.held) a.down now (λ s. s.segment) x.rows.source_known x.rows.target_known x.rows.best ((members_of first_pin t).elements d) =
+      a.is ∙ ap₂ (λ (e : Place) (m : Element Pin Segment). commit wire e (k, a.held) a.down now (λ s. s.segment) x.rows.source_known x.rows.target_known x.rows.best m) place_is element_is in
+      inl (record {
+        upper = below;
+        held = a.held;
+        is_held = ap (λ (m : Element Pin Segment). lookup (nat_eq k) m.pending.rows) (sym element_is) ∙ a.found;
+        down = a.down;
+        ready = a.ready;
+        rows = x.rows;
+        right = subst (λ (g : Rows). AreRows g (ask wire t.network d (k, a.held) a.down) x.rows) work.1 (subst (λ (q : Ask). AreRows x.topology q x.rows) asked right);
+        is = ap₂ (λ (r : Taken Pin Segment) (ms : Membership Pin Segment). let z : Replied Pin Segment = record { members = with_element d r.element ms; outputs = r.outputs } in z) taken_is same.seen;
+      })
+
+  pub commits_below : {W : Type 0} → (r : Result (Planned Pin Segment Solution) CommitError) → IfOk r (λ p. at_domain d es ≡ Some p.from) → IfOk r (λ p. IfSome (at_domain d t.elements) (λ e. committed e x now ≡ Some p.taken)) → IfOk r (λ p. length p.taken.outputs ≡ 1)
+      → IfOk r (λ p. p.solved ≡ Some x) → IfErr r (λ why. IfSome (at_domain d t.elements) (λ e. IsBack e x why)) → Commits {W = W} d now (done.Domain x) t (told_below d r) u
+  commits_below (Ok p) from taken one solved back = record {
+    same = keeps_below first_pin open_of d t es b below;
+    there = jobs;
+    fits = (below, from);
+    answers = answers p (subst (λ (o : Option (Seen Pin Segment)). IfSome o (λ e. committed e x now ≡ Some p.taken)) b.found taken);
+    one = one;
+    solved = ap (option_map done.Domain) solved;
+    why = tt;
+    back = tt;
+  }
+  commits_below (Err (commit_error.Stranger y)) from taken one solved back =
+      let is : IsBack b.one x (commit_error.Stranger y) = subst (λ (o : Option (Seen Pin Segment)). IfSome o (λ e. IsBack e x (commit_error.Stranger y))) b.found back in
+      let element_is : b.one.losing.element ≡ (members_of first_pin t).elements d = ap (element_or t.network t.clock d) (sym b.found) in
+      record {
+        same = keeps_below first_pin open_of d t es b below;
+        there = tt;
+        fits = tt;
+        answers = tt;
+        one = tt;
+        solved = tt;
+        why = (
+          jobs,
+          ap (λ (c : Bool). cond c (is_ready_asking (lookup (nat_eq x.ask.number) t.parent.losing.parent.pending.rows)) (is_ready_row (lookup (nat_eq x.ask.number) ((members_of first_pin t).elements d).pending.rows))) below
+              ∙ ap (λ (m : Element Pin Segment). is_ready_row (lookup (nat_eq x.ask.number) m.pending.rows)) (sym element_is) ∙ no_job b.one x.ask.number is.1,
+        );
+        back = ap done.Domain is.0;
+      }
+  commits_below (Err (commit_error.NoMemory y)) from taken one solved back =
+      let is : IsBack b.one x (commit_error.NoMemory y) = subst (λ (o : Option (Seen Pin Segment)). IfSome o (λ e. IsBack e x (commit_error.NoMemory y))) b.found back in
+      record { same = keeps_below first_pin open_of d t es b below; there = tt; fits = tt; answers = tt; one = tt; solved = tt; why = tt; back = ap done.Domain is }
+
+-- ---- at the parent
+
+-- the request that is answered
+pub record IsAnsweredAbove (x : BorderSolution) (k : parent.Parent) (given : parent.Given) : Type 0 where
+  pub held : Held parent.Asking
+  pub found : lookup (nat_eq x.job.number) k.pending.rows ≡ Some held
+  pub ready : parent.is_ready held.item ≡ true
+  pub is : given ≡ parent.commit wire (x.job.number, held) x.answer k
+
+pub answered_above : (x : BorderSolution) (k : parent.Parent) (given : parent.Given) → border.committed x k ≡ Some given → IsAnsweredAbove x k given
+answered_above x k given is = go (lookup (nat_eq x.job.number) k.pending.rows) refl is
+  where
+    some_one : (a b : parent.Given) → Some a ≡ Some b → a ≡ b
+    some_one a b e = cc
+
+    none_some : None ≡ Some given → ⊥
+    none_some e = cc
+
+    at_test : (h : Held parent.Asking) → lookup (nat_eq x.job.number) k.pending.rows ≡ Some h → (b : Bool) → parent.is_ready h.item ≡ b → cond b (Some (parent.commit wire (x.job.number, h) x.answer k)) None ≡ Some given → IsAnsweredAbove x k given
+    at_test h found true ready e = record { held = h; found = found; ready = ready; is = sym (some_one (parent.commit wire (x.job.number, h) x.answer k) given e) }
+    at_test h found false ready e = absurd (none_some e)
+
+    go : (o : Option (Held parent.Asking)) → lookup (nat_eq x.job.number) k.pending.rows ≡ o → border.committed_when x k o ≡ Some given → IsAnsweredAbove x k given
+    go None found e = absurd (none_some e)
+    go (Some h) found e = at_test h found (parent.is_ready h.item) refl e
+
+one_above : (h : parent.AskingRow) (a : Option Found) (k : parent.Parent) → length (parent.commit wire h a k).outputs ≡ 1
+one_above h None k = refl
+one_above h (Some a) k = refl
+
+-- a request without a job is not ready
+pub no_border_job : (f : parent.Family) (k : ℕ) (o : Option (Held parent.Asking)) → border.job_when f k o ≡ None → is_ready_asking o ≡ false
+no_border_job f k None none = refl
+no_border_job f k (Some h) none = go (parent.is_ready h.item) none
+  where
+    some_none : (j : BorderJob) → Some j ≡ None → ⊥
+    some_none j e = cc
+
+    go : (b : Bool) → cond b (Some (parent.job_of f (k, h))) None ≡ None → b ≡ false
+    go true e = absurd (some_none (parent.job_of f (k, h)) e)
+    go false e = refl
+
+module _ (d : As) (now : ℕ) (x : BorderSolution) (t : Tiers Pin Segment) (s : border.Seen) (are : AreSet t) (upper : same_as d parent_as ≡ true) (there : has_jobs t.network d ≡ true)
+    (right : SolvesBorder x.job x.answer) (own : IfSome (border_job t x.job.number) (λ j. x.job ≡ j)) (stays : s ≡ t.parent) where
+  abbrev v : Tiers Pin Segment
+  v = record t { parent = s }
+
+  still : Become first_pin t (members_of first_pin t) (lost_in t) v
+  still = record {
+    network = refl;
+    seen = ap (λ (y : border.Seen). members_of first_pin (record t { parent = y })) stays;
+    lost_is = ap (λ (y : border.Seen). lost_in (record t { parent = y })) stays;
+  }
+
+  answers_above : (p : BorderPlanned) → border.committed x t.parent.losing.parent ≡ Some p.given → MemberAnswers t.network now d x.job.number (members_of first_pin t) (record { members = with_parent p.given.parent (members_of first_pin v); outputs = p.given.outputs })
+  answers_above p is =
+      let a = answered_above x t.parent.losing.parent p.given is in
+      let k = x.job.number in
+      let f = family t.network in
+      let job : border_job t k ≡ Some (parent.job_of f (k, a.held)) =
+      ap (border.job_when f k) a.found ∙ ap (λ (b : Bool). cond b (Some (parent.job_of f (k, a.held))) None) a.ready in
+      let same : x.job ≡ parent.job_of f (k, a.held) = subst (λ (o : Option BorderJob). IfSome o (λ (j : BorderJob). x.job ≡ j)) job own in
+      inr (
+        is_upper d upper,
+        record {
+          held = a.held;
+          is_held = a.found;
+          ready = a.ready;
+          answer = x.answer;
+          solves = subst (λ (j : BorderJob). SolvesBorder j x.answer) same right;
+          is = ap₂ (λ (g : parent.Given) (ms : Membership Pin Segment). let z : Replied Pin Segment = record { members = with_parent g.parent ms; outputs = g.outputs } in z) a.is still.seen;
+        },
+      )
+
+  not_ready : border.job_at t.parent x.job.number ≡ None → is_ready_at d x.job.number (members_of first_pin t) ≡ false
+  not_ready none =
+      let k = x.job.number in
+      let rows = t.parent.losing.parent.pending.rows in
+      ap (λ (c : Bool). cond c (is_ready_asking (lookup (nat_eq k) rows)) (is_ready_row (lookup (nat_eq k) ((members_of first_pin t).elements d).pending.rows))) upper
+      ∙ no_border_job t.parent.family k (lookup (nat_eq k) rows) none
+
+  pub commits_above : {W : Type 0} → (r : Result BorderPlanned ParentCommitError) → IfOk r (λ p. p.from ≡ t.parent) → IfOk r (λ p. border.committed x t.parent.losing.parent ≡ Some p.given) → IfOk r (λ p. p.solved ≡ Some x)
+      → ((r ≡ Err (parent_error.Stranger x)) ↔ (border.job_at t.parent x.job.number ≡ None)) → IfErr r (λ why. border_back why ≡ x) → Commits {W = W} d now (done.Border x) t (told_above r) v
+  commits_above (Ok p) from given solved stranger back =
+      let a = answered_above x t.parent.losing.parent p.given given in
+      record {
+        same = still;
+        there = there;
+        fits = from ∙ sym stays;
+        answers = answers_above p given;
+        one = ap (λ (g : parent.Given). length g.outputs) a.is ∙ one_above (x.job.number, a.held) x.answer t.parent.losing.parent;
+        solved = ap (option_map done.Border) solved;
+        why = tt;
+        back = tt;
+      }
+  commits_above (Err (parent_error.Stranger y)) from given solved stranger back = record {
+    same = still;
+    there = tt;
+    fits = tt;
+    answers = tt;
+    one = tt;
+    solved = tt;
+    why = (there, not_ready (stranger.0 (ap (λ (z : BorderSolution). Err (parent_error.Stranger z)) back)));
+    back = ap done.Border back;
+  }
+  commits_above (Err (parent_error.NoMemory y)) from given solved stranger back = record {
+    same = still;
+    there = tt;
+    fits = tt;
+    answers = tt;
+    one = tt;
+    solved = tt;
+    why = tt;
+    back = ap done.Border back;
+  }
+
+pub commits_as : {W : Type 0} → (t u : Tiers Pin Segment) → t ≡ u → (d : As) (now : ℕ) (x : Done) (r r' : Result (MemberPlan W Pin Segment Solution) Unanswered) (v : Tiers Pin Segment) → r ≡ r' → Commits d now x t r v → Commits d now x u r' v
+commits_as {W = W} t u is d now x r r' v same h = subst (λ (z : Result (MemberPlan W Pin Segment Solution) Unanswered). Commits d now x u z v) same (subst (λ (y : Tiers Pin Segment). Commits d now x y r v) is h)

@@ -1,0 +1,93 @@
+-- One element that becomes another, by its place and by its domain.
+use Rattle.std.proofs.Common.{◌≡◌, ◌<◌, ℕ, true, is_some, Option, Some, None, Result, Ok, Err, List, length, map, get_or, set, refl, sym, ◌∙◌, ap, ap₂, subst}
+use Rattle.std.specs.Prelude.{IfErr, IfOk, IfSome}
+use Rattle.std.proofs.lemmas.Bool.{false≢true}
+use Rattle.std.proofs.lemmas.List.{get_or_read}
+use Rattle.dom_base.specs.declared.names.As.{As}
+use Rattle.plant_text.specs.declared.settings.NetworkParts.{NetworkParts}
+use Rattle.member_trait.specs.plant_model.Names.{set_as}
+use Rattle.member_trait.specs.plant_model.Element.{Element}
+use Rattle.pce_element.specs.Seen.{Seen, SameButRoom, with_losing}
+use Rattle.network_members.specs.Elements.{own_of, at_domain, no_one, elements_in, current_or, current_in, IsFirstAt, IsNowhere}
+use Rattle.network_members.specs.Becoming.{Course, Becomes, BecomesAt, HasElement}
+use Rattle.network_members.proofs.DomainLemmas.{found_own, first_own, at_first, at_nowhere, set_first, owns_set, elements_with, currents_with, set_again}
+
+some_one : {A : Type 0} → (a b : A) → Some a ≡ Some b → a ≡ b
+some_one a b is = cc
+
+pub ok_more : {A E : Type 0} (P Q : A → Type 0) (r : Result A E) → ((x : A) → P x → Q x) → IfOk r P → IfOk r Q
+ok_more P Q (Ok x) more p = more x p
+ok_more P Q (Err e) more p = tt
+
+pub err_more : {A E : Type 0} (P Q : E → Type 0) (r : Result A E) → ((x : E) → P x → Q x) → IfErr r P → IfErr r Q
+err_more P Q (Ok x) more p = tt
+err_more P Q (Err e) more p = more e p
+
+module _ {P : Type 0} {S : Type 0} where
+  pub none_there : (d : As) (es : List (Seen P S)) → HasElement d es → IsNowhere d (map own_of es) → ⊥
+  none_there d es has nowhere = false≢true (sym (ap is_some (at_nowhere d es nowhere)) ∙ has)
+
+  pub one_there : (d : As) (es : List (Seen P S)) (e : Seen P S) → at_domain d es ≡ Some e → HasElement d es
+  one_there d es e found = ap is_some found
+
+  pub there_one : (d : As) (es : List (Seen P S)) → HasElement d es → (e : Seen P S) × (at_domain d es ≡ Some e)
+  there_one d es has = go (at_domain d es) refl has
+    where
+      go : (o : Option (Seen P S)) → at_domain d es ≡ o → is_some o ≡ true → (e : Seen P S) × (at_domain d es ≡ Some e)
+      go None is has = absurd (false≢true has)
+      go (Some e) is has = (e, is)
+
+module _ {P : Type 0} {S : Type 0} (initial : As → P) where
+  -- the element that is at a place is written there
+  pub becomes_here : (i : ℕ) (f : Course P S) (old : List (Seen P S)) (e next : Seen P S) → i < length old → e ≡ get_or old i e → SameButRoom (with_losing (f e.losing) e) next → BecomesAt initial i f old (set old i next)
+  becomes_here i f old e next within is same = record {
+    next = next;
+    same = subst (λ (x : Seen P S). SameButRoom (with_losing (f x.losing) x) next) (get_or_read old i e within is (no_one initial)) same;
+    is = refl;
+  }
+
+  pub becomes : (d : As) (i : ℕ) (f : Course P S) (old new : List (Seen P S)) → IsFirstAt d i (map own_of old) → BecomesAt initial i f old new → Becomes d f old new
+  becomes d i f old new first h = record {
+    one = get_or old i (no_one initial);
+    found = at_first d i old (no_one initial) first;
+    next = h.next;
+    same = h.same;
+    is = h.is ∙ set_first d i old h.next (ap own_of h.same ∙ first_own d i old (no_one initial) first) first;
+  }
+
+  pub owns_become : (i : ℕ) (f : Course P S) (old new : List (Seen P S)) → BecomesAt initial i f old new → map own_of new ≡ map own_of old
+  owns_become i f old new h = ap (map own_of) h.is ∙ owns_set i old h.next (no_one initial) (ap own_of h.same)
+
+  -- the element that stands at the place afterwards
+  pub at_then : (d : As) (i : ℕ) (f : Course P S) (old new : List (Seen P S)) → IsFirstAt d i (map own_of old) → BecomesAt initial i f old new → at_domain d new ≡ Some (get_or new i (no_one initial))
+  at_then d i f old new first h = at_first d i new (no_one initial) (subst (IsFirstAt d i) (sym (owns_become i f old new h)) first)
+
+  -- ---- what stands at the place of a domain
+
+  pub from_here : (d : As) (i : ℕ) (es : List (Seen P S)) (x : Seen P S) → IsFirstAt d i (map own_of es) → at_domain d es ≡ Some x → x ≡ get_or es i (no_one initial)
+  from_here d i es x first found = some_one x (get_or es i (no_one initial)) (sym found ∙ at_first d i es (no_one initial) first)
+
+  pub there_of : (F : Seen P S → Type 0) (d : As) (i : ℕ) (es : List (Seen P S)) → IsFirstAt d i (map own_of es) → F (get_or es i (no_one initial)) → IfSome (at_domain d es) F
+  there_of F d i es first is = subst (λ (o : Option (Seen P S)). IfSome o F) (sym (at_first d i es (no_one initial) first)) is
+
+  pub of_there : (F : Seen P S → Type 0) (d : As) (i : ℕ) (es : List (Seen P S)) → IsFirstAt d i (map own_of es) → IfSome (at_domain d es) F → F (get_or es i (no_one initial))
+  of_there F d i es first is = subst (λ (o : Option (Seen P S)). IfSome o F) (at_first d i es (no_one initial) first) is
+
+-- ---- what the model has of it
+
+module _ {P : Type 0} {S : Type 0} (d : As) (f : Course P S) (old new : List (Seen P S)) (b : Becomes d f old new) where
+  pub next_own : own_of b.next ≡ d
+  next_own = ap own_of b.same ∙ found_own d old b.one b.found
+
+  next_there : at_domain (own_of b.next) old ≡ Some b.one
+  next_there = ap (λ (a : As). at_domain a old) next_own ∙ b.found
+
+  pub become_elements : (n : NetworkParts) (now : ℕ) → elements_in n now new ≡ set_as d (f b.one.losing).element (elements_in n now old)
+  become_elements n now =
+      ap (elements_in n now) b.is ∙ elements_with n now b.next old b.one next_there
+      ∙ ap₂ (λ (a : As) (k : Element P S). set_as a k (elements_in n now old)) next_own (ap (λ (y : Seen P S). y.losing.element) b.same)
+
+  pub become_currents : (initial : As → P) → current_in initial new ≡ current_in initial old
+  become_currents initial =
+      ap (current_in initial) b.is ∙ currents_with initial b.next old b.one next_there
+      ∙ set_again (own_of b.next) b.next.current (current_in initial old) (ap (current_or initial (own_of b.next)) next_there ∙ sym (ap (λ (y : Seen P S). y.current) b.same))

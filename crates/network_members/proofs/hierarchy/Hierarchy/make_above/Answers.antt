@@ -1,0 +1,16 @@
+use Rattle.std.proofs.Common.{subst}
+use Rattle.member_trait.specs.Membership.{with_parent}
+use Rattle.network_members.specs.Tiers.{Tiers, Become, members_of, lost_in}
+use Rattle.network_members.specs.TierFields.{tiers_of}
+use Rattle.network_members.proofs.TierLemmas.{set_above}
+use Rattle.network_members.proofs.StepLemmas as step
+use Rattle.network_members.proofs.hierarchy.Hierarchy.make_above.Goals as goal
+
+pub invariant_of-self : goal.invariant_of-self
+invariant_of-self g c = set_above (λ l. record l { parent = c.args.plan.given.parent }) (tiers_of c.self.inside.network c.self.inside.clock.0 c.self.inside.elements c.self.inside.parent) c.make.new.self c.make.ensures c.self.invariant
+
+pub returns : goal.returns
+returns g c =
+    let t = tiers_of c.self.inside.network c.self.inside.clock.0 c.self.inside.elements c.self.inside.parent in
+    subst (λ (u : Tiers _ _). Become g.W.World.first u (with_parent c.args.plan.given.parent (members_of g.W.World.first u)) (lost_in u) (record t { parent = c.make.new.self })) c.self.view_is
+    (step.makes_above g.W.World.first g.W.World.show c.args.plan.given.parent t c.make.new.self c.make.ensures)

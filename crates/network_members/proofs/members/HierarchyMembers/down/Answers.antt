@@ -1,0 +1,17 @@
+use Rattle.member_trait.specs.plant_model.Names.{set_as}
+use Rattle.member_trait.specs.Membership.{fallen, lost_at}
+use Rattle.network_members.specs.Tiers.{lost_in, members_of}
+use Rattle.network_members.proofs.StepLemmas.{stands_as}
+use Rattle.network_members.proofs.members.HierarchyMembers.down.Goals as goal
+
+pub returns-then-is_parent : goal.returns-then-is_parent
+returns-then-is_parent g c =
+    let t = c.args.self.now in
+    let u = c.down_above.new.self in
+    stands_as g.W.World.first t u (fallen c.args.at c.args.peer (members_of g.W.World.first t)) (set_as c.args.at (lost_at c.args.at c.args.peer (members_of g.W.World.first t)) (lost_in t)) c.down_above.ensures
+
+pub returns-else-is_parent : goal.returns-else-is_parent
+returns-else-is_parent g c =
+    let t = c.args.self.now in
+    let u = c.down_below.new.self in
+    stands_as g.W.World.first t u (fallen c.args.at c.args.peer (members_of g.W.World.first t)) (set_as c.args.at (lost_at c.args.at c.args.peer (members_of g.W.World.first t)) (lost_in t)) c.down_below.ensures

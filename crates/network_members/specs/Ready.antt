@@ -1,0 +1,19 @@
+-- Jobs of elements.
+use Rattle.std.specs.Prelude.{ℕ, List, [], ◌∷◌, ◌++◌, Option, Some, None}
+use Rattle.dom_base.specs.declared.names.As.{As}
+use Rattle.member_trait.specs.plant_model.Element.{ready_numbers}
+use Rattle.member_trait.specs.plant_model.Events.{jobs_at}
+use Rattle.member_trait.specs.plant_model.Plant.{Pin, Segment}
+use Rattle.pce_element.specs.Seen.{Seen}
+use Rattle.pce_element.specs.Jobs.{Work, job_at}
+use Rattle.network_members.specs.Elements.{own_of}
+
+-- those that can be solved, by the order of the elements and then by their numbers
+abbrev pub jobs_in : {P : Type 0} {S : Type 0} → List (Seen P S) → List (As × ℕ)
+jobs_in [] = []
+jobs_in (e ∷ es) = jobs_at (own_of e) (ready_numbers e.losing.element.pending.rows) ++ jobs_in es
+
+-- what is asked, where there is such an element and its request can be solved
+abbrev pub work_in : ℕ → Option (Seen Pin Segment) → Option Work
+work_in k None = None
+work_in k (Some e) = job_at e k

@@ -1,0 +1,166 @@
+//! A solved job is answered.
+ghost use Rattle.std.specs.Prelude.{◌≡◌, ◌<◌, ◌≤◌, length, Some, IfErr, IfOk, IfSome, false, true};
+ghost use Rattle.std.specs.List.{slice_index_or};
+ghost use Rattle.plant_text.specs.Names.{same_as, parent_as};
+ghost use Rattle.plant_text.specs.Settings.{is_element};
+ghost use Rattle.member_trait.specs.plant_model.Events.{has_jobs};
+ghost use Rattle.member_trait.specs.plant_model.Plant.{first_pin};
+ghost use Rattle.member_trait.specs.Membership.{KeysBefore};
+ghost use Rattle.pce_element.specs.Committing.{IsOwnJob, committed};
+ghost use Rattle.network_members.specs.Answering.{Commits, IsBack, IsOwnDone, border_job, told_above, told_below};
+ghost use Rattle.network_members.specs.Becoming.{Becomes, BecomesAt, HasElement, unchanged};
+ghost use Rattle.network_members.specs.Elements.{at_domain, no_one};
+ghost use Rattle.network_members.specs.Tiers.{members_of};
+
+use crate::elements::Elements;
+use crate::hierarchy::Hierarchy;
+use crate::plan::MemberPlan;
+use border_costs::Solved;
+use dom_base::{As, Tick};
+use pce_element::{CommitError, Element, Plan, Topologies};
+use pce_parent::{BorderPlan, BorderSolved, Done, ParentCommitError};
+use member_trait::model::Refused;
+
+/// Why a solved job is not answered, and the job.
+#[derive(Drop)]
+pub struct Unanswered {
+    pub why: Refused,
+    pub done: Done,
+}
+
+fn commit_at(
+    items: &mut Vec<Element<Topologies>>,
+    i: usize,
+    solved: Solved,
+    now: Tick,
+) -> Result<Plan<Topologies>, CommitError>
+    requires within { i < length items.old.items }
+    requires clock { (slice_index_or items.old.items i (no_one first_pin)).losing.element.keys.clock ≤ now.0 }
+    requires own { IsOwnJob (slice_index_or items.old.items i (no_one first_pin)) solved }
+    ensures same { BecomesAt first_pin i unchanged items.old.items items.new.items }
+    ensures from { IfOk result (λ plan. plan.from ≡ slice_index_or items.new.items i (no_one first_pin)) }
+    ensures taken { IfOk result (λ plan. committed (slice_index_or items.old.items i (no_one first_pin)) solved now.0 ≡ Some plan.taken) }
+    ensures one { IfOk result (λ plan. length plan.taken.outputs ≡ 1) }
+    ensures solved { IfOk result (λ plan. plan.solved ≡ Some solved) }
+    ensures back { IfErr result (IsBack (slice_index_or items.old.items i (no_one first_pin)) solved) }
+{
+    items[i].commit(solved, now)
+}
+
+// What is told of an element's answer.
+fn told_below(
+    at: As,
+    answer: Result<Plan<Topologies>, CommitError>,
+) -> Result<MemberPlan<Topologies>, Unanswered>
+    ensures { result ≡ told_below at answer }
+{
+    match answer {
+        Ok(plan) => Ok(MemberPlan::Element { at, plan }),
+        Err(CommitError::Stranger(solved)) => Err(Unanswered {
+            why: Refused::NoSuchJob,
+            done: Done::Domain(solved),
+        }),
+        Err(CommitError::NoMemory(solved)) => Err(Unanswered {
+            why: Refused::NoMemory,
+            done: Done::Domain(solved),
+        }),
+    }
+}
+
+// The same of the parent's.
+fn told_above(
+    answer: Result<BorderPlan, ParentCommitError>,
+) -> Result<MemberPlan<Topologies>, Unanswered>
+    ensures { result ≡ told_above answer }
+{
+    match answer {
+        Ok(plan) => Ok(MemberPlan::Parent(plan)),
+        Err(ParentCommitError::Stranger(solved)) => Err(Unanswered {
+            why: Refused::NoSuchJob,
+            done: Done::Border(solved),
+        }),
+        Err(ParentCommitError::NoMemory(solved)) => Err(Unanswered {
+            why: Refused::NoMemory,
+            done: Done::Border(solved),
+        }),
+    }
+}
+
+impl Elements<Topologies> {
+    /// Plans the answer to a job of the element of a domain that was solved.
+    pub fn commit(
+        &mut self,
+        at: As,
+        solved: Solved,
+        now: Tick,
+    ) -> Result<Plan<Topologies>, CommitError>
+        requires there { HasElement at self.old }
+        requires clock { IfSome (at_domain at self.old) (λ e. e.losing.element.keys.clock ≤ now.0) }
+        requires own { IfSome (at_domain at self.old) (λ e. IsOwnJob e solved) }
+        ensures same { Becomes at unchanged self.old self.new }
+        ensures from { IfOk result (λ plan. at_domain at self.new ≡ Some plan.from) }
+        ensures taken { IfOk result (λ plan. IfSome (at_domain at self.old) (λ e. committed e solved now.0 ≡ Some plan.taken)) }
+        ensures one { IfOk result (λ plan. length plan.taken.outputs ≡ 1) }
+        ensures solved { IfOk result (λ plan. plan.solved ≡ Some solved) }
+        ensures back { IfErr result (λ why. IfSome (at_domain at self.old) (λ e. IsBack e solved why)) }
+    {
+        let i = self.place(at);
+        commit_at(&mut self.items, i, solved, now)
+    }
+}
+
+impl Hierarchy<Topologies> {
+    fn commit_below(
+        &mut self,
+        at: As,
+        solved: Solved,
+        now: Tick,
+    ) -> Result<MemberPlan<Topologies>, Unanswered>
+        requires below { same_as at parent_as ≡ false }
+        requires there { is_element self.old.network at ≡ true }
+        requires clock { KeysBefore now.0 self.old.network (members_of first_pin self.old) }
+        requires own { IfSome (at_domain at self.old.elements) (λ e. IsOwnJob e solved) }
+        ensures { Commits at now.0 (Done.Domain solved) self.old result self.new }
+    {
+        let _at = solved.at();
+        told_below(at, self.elements.commit(at, solved, now))
+    }
+
+    fn commit_above(
+        &mut self,
+        at: As,
+        solved: BorderSolved,
+        now: Tick,
+    ) -> Result<MemberPlan<Topologies>, Unanswered>
+        requires above { same_as at parent_as ≡ true }
+        requires there { has_jobs self.old.network at ≡ true }
+        requires own { IfSome (border_job self.old solved.job.number) (λ j. solved.job ≡ j) }
+        ensures { Commits at now.0 (Done.Border solved) self.old result self.new }
+    {
+        let _number = solved.number();
+        told_above(self.parent.commit(solved, now))
+    }
+
+    /// Plans the answer to a job of a member that was solved, which changes nothing yet.
+    pub fn commit(
+        &mut self,
+        at: As,
+        done: Done,
+        now: Tick,
+    ) -> Result<MemberPlan<Topologies>, Unanswered>
+        requires clock { KeysBefore now.0 self.old.network (members_of first_pin self.old) }
+        requires own { IsOwnDone self.old at done }
+        ensures { Commits at now.0 done self.old result self.new }
+    {
+        if !self.has_jobs(at) {
+            return Err(Unanswered {
+                why: Refused::NoSuchPeer,
+                done,
+            });
+        }
+        match done {
+            Done::Domain(solved) => self.commit_below(at, solved, now),
+            Done::Border(solved) => self.commit_above(at, solved, now),
+        }
+    }
+}

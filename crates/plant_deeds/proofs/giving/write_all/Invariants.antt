@@ -1,7 +1,0 @@
-use Rattle.std.proofs.Common.{◌≡◌, ◌++◌, drop}
-use Rattle.plant_members.specs.plant_model.RealWire.{wire}
-use Rattle.plant_members.specs.plant_model.State.{sent_by}
-use Rattle.plant_deeds.proofs.giving.write_all.Given as goal
-
-abbrev pub invariant-loop-output : goal.invariant-loop-output
-invariant-loop-output l = l.letters.kept ++ sent_by wire l.at (drop l.output-index l.output-items) ≡ sent_by wire l.at l.output-items

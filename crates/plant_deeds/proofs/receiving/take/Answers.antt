@@ -1,4 +1,0 @@
-use Rattle.plant_deeds.proofs.receiving.take.Goals as goal
-
-pub returns : goal.returns
-returns g c = c.receive.ensures

@@ -1,5 +1,0 @@
-use Rattle.plant_lasting.proofs.JobsKept as JobsKept
-use Rattle.plant_lasting.proofs.jobs_are_kept.Goals as goal
-
-pub returns : goal.returns
-returns c = record { given = JobsKept.order_gives; elements = JobsKept.elements_keep_jobs; parents = JobsKept.parents_keep_jobs }

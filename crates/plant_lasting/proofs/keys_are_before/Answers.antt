@@ -1,5 +1,0 @@
-use Rattle.plant_lasting.proofs.EventsLast as EventsLast
-use Rattle.plant_lasting.proofs.keys_are_before.Goals as goal
-
-pub returns : goal.returns
-returns c = record { steps = EventsLast.keys_are_before; runs = EventsLast.runs_have_keys_before }

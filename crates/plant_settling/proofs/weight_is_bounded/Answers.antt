@@ -1,5 +1,0 @@
-use Rattle.plant_settling.proofs.Bounds as Bounds
-use Rattle.plant_settling.proofs.weight_is_bounded.Goals as goal
-
-pub returns : goal.returns
-returns c = record { weighs = Bounds.weighs_at_most; light = Bounds.messages_are_light; few = Bounds.few_follow }

@@ -1,6 +1,0 @@
-use Rattle.plant_traffic.specs.Sides.{DropsFirst}
-use Rattle.plant_traffic.proofs.RowLemmas.{changes_there}
-use Rattle.plant_traffic.proofs.links.Links.drop_first.Goals as goal
-
-pub returns-in-Some : goal.returns-in-Some
-returns-in-Some c = changes_there c.args.from c.args.to c.in-Some.place.link c.in-Some.place.end c.deref.result.now c.self.inside.links.items c.args.self.now c.deref.ensures.value c.self.view_is DropsFirst c.drop_first_at.new.links.items c.in-Some.ensures c.drop_first_at.ensures

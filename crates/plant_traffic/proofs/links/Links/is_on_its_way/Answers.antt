@@ -1,9 +1,0 @@
-use Rattle.std.proofs.Common.{◌≡◌, ◌∙◌, not, sym, ap}
-use Rattle.plant_layout.specs.plant_model.Names.{is_empty}
-use Rattle.plant_traffic.specs.Sides.{Side}
-use Rattle.plant_traffic.proofs.RowLemmas.{read_side}
-use Rattle.plant_traffic.proofs.links.Links.is_on_its_way.Goals as goal
-
-pub returns-in-Some : goal.returns-in-Some
-returns-in-Some c =
-    c.has_sent.ensures ∙ sym (ap (λ (s : Side). not (is_empty s.kept.out)) (read_side c.args.from c.args.to c.in-Some.place.link c.in-Some.place.end c.deref.result.now c.self.inside.links.items c.args.self.now c.deref.ensures.value c.self.view_is c.in-Some.ensures c.index.result.now c.index.ensures))

@@ -1,8 +1,0 @@
-use Rattle.std.proofs.Common.{◌∙◌, sym, ap}
-use Rattle.plant_traffic.specs.Sides.{Side}
-use Rattle.plant_traffic.proofs.RowLemmas.{read_side}
-use Rattle.plant_traffic.proofs.links.Links.session.Goals as goal
-
-pub returns-in-Some : goal.returns-in-Some
-returns-in-Some c =
-    c.session.ensures ∙ sym (ap (λ (s : Side). s.kept.session) (read_side c.args.at c.args.to c.in-Some.place.link c.in-Some.place.end c.deref.result.now c.self.inside.links.items c.args.self.now c.deref.ensures.value c.self.view_is c.in-Some.ensures c.index.result.now c.index.ensures))

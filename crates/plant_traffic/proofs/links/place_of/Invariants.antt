@@ -1,5 +1,0 @@
-use Rattle.plant_traffic.proofs.PlaceLemmas.{Other}
-use Rattle.plant_traffic.proofs.links.place_of.Given as goal
-
-abbrev pub invariant-loop-i : goal.invariant-loop-i
-invariant-loop-i l = Other l.at l.to l.i l.links

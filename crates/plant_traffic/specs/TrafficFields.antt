@@ -1,6 +1,0 @@
--- What a traffic is, by its fields.
-use Rattle.plant_traffic.specs.Carried.{Carried}
-use Rattle.plant_traffic.specs.declared.traffic.Traffic.TheInside.{Inside}
-
-abbrev pub carried_of : Inside → Carried
-carried_of a = record { clock = a.clock.0; peers = a.peers; links = a.links; said = a.said }

@@ -1,5 +1,0 @@
-use Rattle.text_ranges.proofs.GivenRows.{blind_line_given}
-use Rattle.text_ranges.proofs.blind_lines_are_given.Goals as goal
-
-pub returns : goal.returns
-returns c = λ n text e is. blind_line_given n text e is

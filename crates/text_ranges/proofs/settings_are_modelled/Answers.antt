@@ -1,5 +1,0 @@
-use Rattle.text_ranges.proofs.ModelledNetworks as ModelledNetworks
-use Rattle.text_ranges.proofs.settings_are_modelled.Goals as goal
-
-pub returns : goal.returns
-returns c = record { given = ModelledNetworks.settings_are_modelled; added = ModelledNetworks.client_is_modelled }
