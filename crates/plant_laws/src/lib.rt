@@ -19,7 +19,7 @@ ghost use Rattle.plant_laws.specs.Matched.{RepliesAnswer, RepliesMatch};
 ghost use Rattle.plant_laws.specs.Reading.{OutsideIsRead};
 ghost use Rattle.plant_laws.specs.Readings.{MessagesAreRead};
 ghost use Rattle.plant_laws.specs.Replies.{LeastReplies, LeastRepliesIn, NoneReplies, NoneRepliesIn, SolvesSendOne};
-ghost use Rattle.plant_laws.specs.Runs.{AllIsWritten, InShortRuns, OverPcep};
+ghost use Rattle.plant_laws.specs.Runs.{AllIsWritten, InRuns, InShortRuns, OverPcep, RequestsAreWritten};
 ghost use Rattle.plant_laws.specs.Served.{RequestsAreServed};
 ghost use Rattle.plant_laws.specs.Solves.{SolvesTell};
 ghost use Rattle.plant_laws.specs.Standing.{PinsAreCurrent, QueuesStand};
@@ -165,6 +165,11 @@ pub fn expanded_are_issued()
 /// All that is sent in a run is in written form, so it is read as it was meant.
 pub fn all_is_written()
     ensures { InShortRuns AllIsWritten }
+{}
+
+/// All requests that are sent in a run are in written form, also where ids come round.
+pub fn requests_are_written()
+    ensures { InRuns RequestsAreWritten }
 {}
 
 // ---- what stands by the transcript
