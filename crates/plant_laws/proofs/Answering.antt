@@ -450,4 +450,4 @@ module _ (c : Codec) (d : As) (p : Peer) (x : ℕ) where
 
 pub requests_are_answered_once : WrittenNet RequestsAreAnsweredOnceIn
 requests_are_answered_once c codec n network es s run written d p x at w is =
-    answered_once c d p x (deeds_of c n es) s (run_kept c n es s run).1 (run_founded c n es s run (run_single c n codec es s run written)) (λ at' open'. (open_is_pending c codec n es s run written).pending d p x at' open') at w is
+    answered_once c d p x (deeds_of c n es) s (run_kept c n es s run).1 (run_founded c n es s run (run_single c n codec es s run written)) (λ at' open'. (open_is_pending c codec n network es s run).pending d p x at' open') at w is
