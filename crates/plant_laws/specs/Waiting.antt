@@ -12,7 +12,7 @@ use Rattle.plant_model.specs.Writing.{request_message}
 use Rattle.plant_model.specs.Element.{Waits, Row, Stage, Ready}
 use Rattle.plant_model.specs.Plant.{Pin, Plant, Entry, deeds_of}
 use Rattle.plant_laws.specs.Transcript.{Transcript, opened, SentIn}
-use Rattle.plant_laws.specs.Runs.{InShortRuns}
+use Rattle.plant_laws.specs.Runs.{InRuns, InShortRuns}
 
 -- to the parent without a sequence, or to the next domain
 abbrev pub GoesOn : List As → List As → Peer → Type 0
@@ -31,7 +31,7 @@ abbrev pub WaitsAreSentIn : Codec → NetworkParts → List Entry → Plant → 
 WaitsAreSentIn c n es s = (d : As) (h : Row Pin) → Contains (s.elements d).pending.rows h → (b : Peer) (y : ℕ) → h.1.item.stage ≡ Waits b y → WasSentOn c (deeds_of c n es) d h b y
 
 abbrev pub WaitsAreSent : Type 0
-WaitsAreSent = InShortRuns WaitsAreSentIn
+WaitsAreSent = InRuns WaitsAreSentIn
 
 -- two stages wait for the answer to one id
 abbrev pub wait_alike : Stage → Stage → Bool
