@@ -33,7 +33,6 @@ use Rattle.plant_laws.proofs.Queues.{same_as_is}
 use Rattle.plant_laws.proofs.Induction.{run_holds}
 use Rattle.plant_laws.proofs.Seen.{seen_none}
 use Rattle.plant_laws.proofs.Rows.{In, in_of, seen_in}
-use Rattle.plant_laws.proofs.ReadBack.{run_single}
 use Rattle.plant_laws.proofs.RequestsWritten.{requests_are_single}
 use Rattle.plant_laws.specs.Runs.{InRuns}
 use Rattle.plant_laws.specs.Waiting.{WaitsAreSentIn, WaitsApartIn, wait_alike}
@@ -46,7 +45,6 @@ use Rattle.plant_laws.proofs.OpenTables.{row_matched}
 use Rattle.plant_laws.proofs.Subsides.{IsOlder, commit_subs, downed_subs}
 use Rattle.plant_laws.proofs.SentOn.{IsRest, IsSentIn, take_news, same_id_back}
 use Rattle.plant_laws.proofs.Unrouted.{to_element}
-use Rattle.plant_laws.proofs.WhereWritten.{WrittenNet}
 
 pub still : (eff : Effect) (o : Option Transcript) (now at at' : Transcript) → o ≡ Some at → after eff o now ≡ Some at' → after eff o now ≡ Some at
 still Keeps o now at at' e f = e
@@ -344,7 +342,7 @@ waits_are_sent c codec n net es s run d h i b y is =
     let w = subst (λ (stage : Stage). SentAt c n (deeds_of c n es) d h stage) is (all.0 d h (in_of h (s.elements d).pending.rows i)) in
     record { at = w.0; is_open = w.1; rest = w.2.0; sent = w.2.1; goes = w.2.2 }
 
-pub waits_apart : WrittenNet WaitsApartIn
-waits_apart c codec n net es s run written d h g i j differ =
-    let all = run_sent_on c n net es s run (run_single c n codec es s run written) in
+pub waits_apart : InRuns WaitsApartIn
+waits_apart c codec n net es s run d h g i j differ =
+    let all = run_sent_on c n net es s run (requests_are_single c codec n net es s run) in
     all.1 d h g (in_of h (s.elements d).pending.rows i) (in_of g (s.elements d).pending.rows j) differ

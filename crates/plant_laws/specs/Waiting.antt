@@ -12,7 +12,7 @@ use Rattle.plant_model.specs.Writing.{request_message}
 use Rattle.plant_model.specs.Element.{Waits, Row, Stage, Ready}
 use Rattle.plant_model.specs.Plant.{Pin, Plant, Entry, deeds_of}
 use Rattle.plant_laws.specs.Transcript.{Transcript, opened, SentIn}
-use Rattle.plant_laws.specs.Runs.{InRuns, InShortRuns}
+use Rattle.plant_laws.specs.Runs.{InRuns}
 
 -- to the parent without a sequence, or to the next domain
 abbrev pub GoesOn : List As → List As → Peer → Type 0
@@ -46,4 +46,4 @@ WaitsApartIn c n es s =
     same_key h.1.key g.1.key ≡ false → wait_alike h.1.item.stage g.1.item.stage ≡ false
 
 abbrev pub WaitsApart : Type 0
-WaitsApart = InShortRuns WaitsApartIn
+WaitsApart = InRuns WaitsApartIn
