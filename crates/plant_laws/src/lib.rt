@@ -19,7 +19,7 @@ ghost use Rattle.plant_laws.specs.Matched.{RepliesAnswer, RepliesMatch};
 ghost use Rattle.plant_laws.specs.Reading.{OutsideIsRead};
 ghost use Rattle.plant_laws.specs.Readings.{MessagesAreRead};
 ghost use Rattle.plant_laws.specs.Replies.{LeastReplies, LeastRepliesIn, NoneReplies, NoneRepliesIn, SolvesSendOne};
-ghost use Rattle.plant_laws.specs.Runs.{AllIsWritten, InRuns, InShortRuns, OverPcep, RequestsAreWritten};
+ghost use Rattle.plant_laws.specs.Runs.{AllIsWritten, InRuns, InRunsOverPcep, InShortRuns, OverPcep, RequestsAreWritten};
 ghost use Rattle.plant_laws.specs.Served.{RequestsAreServed};
 ghost use Rattle.plant_laws.specs.Solves.{SolvesTell};
 ghost use Rattle.plant_laws.specs.Standing.{PinsAreCurrent, QueuesStand};
@@ -294,7 +294,7 @@ pub fn laws_over_pcep()
     ensures certified { OverPcep SolvesCertifyIn }
     ensures quiet { OverPcep QuietIsAnsweredIn }
     ensures under_way { OverPcep WaitsAreUnderWayIn }
-    ensures once { OverPcep RequestsAreAnsweredOnceIn }
+    ensures once { InRunsOverPcep RequestsAreAnsweredOnceIn }
     ensures chain { OverPcep OneChainIn }
     ensures keys { OverPcep ExpandsRightlyIn }
 {}
