@@ -43,7 +43,7 @@ use Rattle.plant_laws.proofs.KeyedRuns.{KeysAre, run_keys, taken_from}
 use Rattle.dom_base.specs.AddrOrder.{rank}
 use Rattle.dom_base.proofs.Ranks.{same_addr as one_place}
 use Rattle.plant_laws.proofs.OpenTables.{open_is_pending}
-use Rattle.plant_laws.proofs.WhereWritten.{WrittenNet}
+use Rattle.plant_laws.specs.Runs.{InRuns}
 
 not_both : {X : Type 0} (t : Bool) → t ≡ true → t ≡ false → X
 not_both true e f = cc
@@ -219,8 +219,8 @@ module _ (c : Codec) (codec : IsCodec c) (n : NetworkParts) (network : IsNetwork
       by_keys from.entries from.state (run_keys c n from.entries from.state from.run) older before p r key pce os
       (from.outputs ∙ answered from.state p a r key pce admitted wish (not_pending from.entries from.state from.run p r.id (sym (before.open' p r.id) ∙ none)))
 
-pub expands_rightly : WrittenNet ExpandsRightlyIn
-expands_rightly c codec n network es s run written d p a os older other within r key pce admitted wish none =
+pub expands_rightly : InRuns ExpandsRightlyIn
+expands_rightly c codec n network es s run d p a os older other within r key pce admitted wish none =
     expands c codec n network d (upper (same_as d parent_as) refl) es s run p a os older within r key pce admitted wish none
   where
     upper : (b : Bool) → same_as d parent_as ≡ b → b ≡ false

@@ -296,5 +296,5 @@ pub fn laws_over_pcep()
     ensures under_way { OverPcep WaitsAreUnderWayIn }
     ensures once { InRunsOverPcep RequestsAreAnsweredOnceIn }
     ensures chain { OverPcep OneChainIn }
-    ensures keys { OverPcep ExpandsRightlyIn }
+    ensures keys { InRunsOverPcep ExpandsRightlyIn }
 {}
