@@ -10,7 +10,7 @@ use Rattle.plant_model.specs.State.{Connection}
 use Rattle.plant_model.specs.Events.{is_ready}
 use Rattle.plant_model.specs.Plant.{Plant, Entry, deeds_of}
 use Rattle.plant_laws.specs.Transcript.{Transcript, Leg, Chain, numbers}
-use Rattle.plant_laws.specs.Runs.{InShortRuns}
+use Rattle.plant_laws.specs.Runs.{InRuns, InShortRuns}
 
 -- A request has one chain: two that begin with the same moment and lead through the same domains have the same moments.
 abbrev pub moments : List Leg → List Transcript
@@ -29,7 +29,7 @@ OneChainIn c n es s =
     numbers (one ∷ rest) ≡ numbers (other ∷ rest') → moments (one ∷ rest) ≡ moments (other ∷ rest')
 
 abbrev pub OneChain : Type 0
-OneChain = InShortRuns OneChainIn
+OneChain = InRuns OneChainIn
 
 -- every inbox and every inner queue is empty, and no job is ready
 abbrev pub HasEmptyInbox : Option Connection → Type 0

@@ -295,6 +295,6 @@ pub fn laws_over_pcep()
     ensures quiet { OverPcep QuietIsAnsweredIn }
     ensures under_way { OverPcep WaitsAreUnderWayIn }
     ensures once { InRunsOverPcep RequestsAreAnsweredOnceIn }
-    ensures chain { OverPcep OneChainIn }
+    ensures chain { InRunsOverPcep OneChainIn }
     ensures keys { InRunsOverPcep ExpandsRightlyIn }
 {}
