@@ -1,5 +1,5 @@
 //! The laws of a network of path computation elements, over all its runs. They are the contracts of calls that do nothing; each
-//! statement stands in one file of specs/. Where ids or messages read come in, the runs are those in which no element and no parent
+//! statement stands in one file of specs/. Laws that fail where ids come round are of the runs in which no element and no parent
 //! sends a neighbour more requests than there are ids.
 #![tactic(auto)]
 
@@ -284,8 +284,8 @@ pub fn good_requests_exist()
 // ---- over PCEP
 
 /// Over the wire of PCEP, with no premise but the rules of settings and the number of ids: what clients and
-/// closed peers are answered, certificates, quiet, what is under way, one answer and one chain for each
-/// request, and what a key shows to whom.
+/// closed peers are answered, certificates, quiet and what is under way. And with no premise but the rules of
+/// settings: one answer and one chain for each request, and what a key shows to whom.
 pub fn laws_over_pcep()
     ensures paths { OverPcep LeastAnswersIn }
     ensures none { OverPcep NoneAnswersIn }
