@@ -122,6 +122,7 @@ pub mod SentOnAsks
 pub mod IdsSteps
 pub mod Known
 pub mod UnderWayRuns
+mod PassedOn
 pub mod UnderWayLaw
 pub mod AtOnce
 pub mod Matched

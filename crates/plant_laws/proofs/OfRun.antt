@@ -163,7 +163,7 @@ module _ (c : Codec) (codec : IsCodec c) (n : NetworkParts) (net : IsNetwork n) 
 
   above : (e : PlantDeed) (older : Transcript) (p : Peer) (r : Reply) (paths : List Path) → Within (e ∷ older) now → Contains (outputs_at parent_as e) (record { to = p; message = messages.PcRep (r ∷ []) }) → Tells r.answer paths →
       OfSolve parent_as e ⊎ OfKey c parent_as p r e
-  above e older p r paths w said tells = (Each-within (HasCause c) now (run_has c n net es s run (run_single c n codec es s run written)) e older w).1 p r paths said tells
+  above e older p r paths w said tells = (Each-within (HasCause c n) now (run_has c n es s run (run_single c n codec es s run written)) e older w).1 p r paths said tells
 
   inside : (e : PlantDeed) (older : Transcript) (i : ℕ) (r : Reply) (paths : List Path) → Within (e ∷ older) now → Contains (outputs_at parent_as e) (record { to = Outside i; message = messages.PcRep (r ∷ []) }) → Tells r.answer paths → ⊥
   inside e older i r paths w said tells = elim (above e older (Outside i) r paths w said tells) [
@@ -188,7 +188,7 @@ module _ (c : Codec) (codec : IsCodec c) (n : NetworkParts) (net : IsNetwork n) 
         owns = run_owns c n es s run;
         solved = λ d k os keys older real w. (moments d k os keys older w).0 real;
         replied = replied_of c codec n es s run written net;
-        asked = asked_of_run c codec n es s run written short net;
+        asked = asked_of_run c codec n es s run written short;
         carried_replies = λ d b replies os older w. (let r = readings.queues b d (messages.PcRep replies) os older w in record { before = r.before; is = r.is_popped; put = r.put; rest = r.rest; stood = r.stood });
         carried_requests = λ d b asks os older w. (let r = readings.queues b d (messages.PcReq asks) os older w in record { before = r.before; is = r.is_popped; put = r.put; rest = r.rest; stood = r.stood });
         ids = element_ids_differ c codec n es s run written short;

@@ -62,14 +62,14 @@ pub record IsMade (c : Codec) (p : Peer) (rs : List Reply) (i j : Item Pin) : Ty
   pub is : j ≡ at_stage (Ready (branches_in c i.wanted.query.metric paths)) i
 
 -- the branches came with a reply to what was sent on
-pub record IsBack (c : Codec) (ds : Transcript) (d : As) (h : Row Pin) (down : List Branch) : Type 0 where
+pub record IsBack (c : Codec) (n : NetworkParts) (ds : Transcript) (d : As) (h : Row Pin) (down : List Branch) : Type 0 where
   pub at : Transcript
   pub is_open : opened c d h.1.key.peer h.1.key.id ds ≡ Some at
   pub on : Peer
   pub id : ℕ
   pub rest : List As
   pub sent : SentIn at d on (request_message id h.1.item.wanted h.1.item.wanted.target rest)
-  pub goes : IsRest h.1.item.sequence rest on
+  pub goes : IsRest (place n d).routes h.1.item.sequence rest on
   pub upper : same_peer on the_parent ≡ false
   pub replies : List Reply
   pub outputs : List Output
@@ -186,7 +186,7 @@ module _ (c : Codec) (n : NetworkParts) where
 
   abbrev pub ReadyAt : Transcript → As → Row Pin → Stage → Type 0
   ReadyAt ds d h (Waits b y) = Unit {0}
-  ReadyAt ds d h (Ready down) = IsFresh h.1.item.sequence (Ready down) ⊎ IsBack c ds d h down
+  ReadyAt ds d h (Ready down) = IsFresh h.1.item.sequence (Ready down) ⊎ IsBack c n ds d h down
 
   abbrev pub AreReady : Transcript → Core → Type 0
   AreReady ds s = (d : As) (h : Row Pin) → In h (s.elements d).pending.rows → ReadyAt ds d h h.1.item.stage
@@ -214,7 +214,7 @@ module _ (c : Codec) (n : NetworkParts) where
     id = b.id;
     rest = b.rest;
     sent = subst (λ (i : Item Pin). SentIn b.at d b.on (request_message b.id i.wanted i.wanted.target b.rest)) (sym item) b.sent;
-    goes = subst (λ (i : Item Pin). IsRest i.sequence b.rest b.on) (sym item) b.goes;
+    goes = subst (λ (i : Item Pin). IsRest (place n d).routes i.sequence b.rest b.on) (sym item) b.goes;
     upper = b.upper;
     replies = b.replies;
     outputs = b.outputs;
@@ -234,7 +234,7 @@ module _ (c : Codec) (n : NetworkParts) where
 
   made_back : (e : PlantDeed) (ds : Transcript) (d : As) (h h0 : Row Pin) (at' : Transcript) → h.1.key ≡ h0.1.key → opened c d h.1.key.peer h.1.key.id (e ∷ ds) ≡ Some at' →
       (p : Peer) (rs : List Reply) (os : List Output) → e ≡ Takes d p (messages.PcRep rs) os → (m : IsMade c p rs h0.1.item h.1.item) →
-      (stage : Stage) → waits_for p m.reply.id stage ≡ true → SentAt c n ds d h0 stage → IsBack c (e ∷ ds) d h (branches_in c h0.1.item.wanted.query.metric m.paths)
+      (stage : Stage) → waits_for p m.reply.id stage ≡ true → SentAt c n ds d h0 stage → IsBack c n (e ∷ ds) d h (branches_in c h0.1.item.wanted.query.metric m.paths)
   made_back e ds d h h0 at' key is p rs os deed m (Ready bs) waits sent = absurd (differs (sym waits))
   made_back e ds d h h0 at' key is p rs os deed m (Waits on id) waits sent =
       let both = waits_both (same_peer on p) (id == m.reply.id) waits in
@@ -249,7 +249,7 @@ module _ (c : Codec) (n : NetworkParts) where
         id = id;
         rest = sent.2.0;
         sent = subst (λ (w : Wanted). SentIn sent.0 d on (request_message id w w.target sent.2.0)) (sym wanted) sent.2.1;
-        goes = subst (λ (l : List As). IsRest l sent.2.0 on) (sym sequence) sent.2.2;
+        goes = subst (λ (l : List As). IsRest (place n d).routes l sent.2.0 on) (sym sequence) sent.2.2;
         upper = subst (λ (x : Peer). same_peer x the_parent ≡ false) (sym to) m.upper;
         replies = rs;
         outputs = os;
@@ -384,8 +384,8 @@ module _ (c : Codec) (n : NetworkParts) where
       let x = give_single c n b (Inner a) m u (Pops a b ∷ []) ds single in
       let old = held x.1.1 in
       let q = popped Pin Segment c n open_of a b rest s in
-      let both = act_both c n net ds s q (Pops a b ∷ []) (λ z. (held z).0) (nods a b bytes rest s is) x.1 in
-      let both' = act_both c n net (Pops a b ∷ ds) q u [] (λ z. both) (rests q u same) x.1 in
+      let both = act_both c n ds s q (Pops a b ∷ []) (λ z. (held z).0) (nods a b bytes rest s is) x.1 in
+      let both' = act_both c n (Pops a b ∷ ds) q u [] (λ z. both) (rests q u same) x.1 in
       let ready' = ready_same (Pops a b ∷ ds) q u same.elements (ready_after (Pops a b) ds s q old.0.1 old.1 both.0 (stay (Pops a b) s q (λ d. refl))) in
       give_ready b (Inner a) m u (Pops a b ∷ []) ds (both', ready') next
   act_ready net ds s t es held (nods a b bytes rest s' is) = λ single next. let old = held single.1 in ready_after (Pops a b) ds s t old.0.1 old.1 next (stay (Pops a b) s t (λ d. refl))
@@ -403,7 +403,7 @@ module _ (c : Codec) (n : NetworkParts) where
 
   pub act_all : IsNetwork n → (ds : Transcript) (s t : Core) (es : Transcript) → IfAll ds s → Acts Pin Segment c n open_of s es t → IfAll (es ++ ds) t
   act_all net ds s t es held act single =
-      let both = act_both c n net ds s t es (λ z. (held z).0) act single in
+      let both = act_both c n ds s t es (λ z. (held z).0) act single in
       (both, act_ready net ds s t es held act single both.0)
 
   pub load_all : (ds : Transcript) (s : Plant) (d : As) (g : Rows) → IfAll ds s → IfAll (Loads d g ∷ ds) (load_new c n d g s).state

@@ -36,6 +36,7 @@ use Rattle.plant_laws.proofs.SentOn.{IsRest}
 use Rattle.plant_laws.proofs.StagesKept.{IsFresh}
 use Rattle.plant_laws.proofs.Readied.{IsBack, ReadyAt, run_ready}
 use Rattle.plant_laws.proofs.FromElement.{within_tail}
+use Rattle.plant_laws.proofs.Unrouted.{to_element}
 use Rattle.plant_laws.proofs.Given.{IsReadied}
 use Rattle.plant_laws.specs.Certified.{IsServed}
 
@@ -92,24 +93,25 @@ module _ (c : Codec) (codec : IsCodec c) (n : NetworkParts) (es : List Entry) (s
       let older_now : Within q.before now = within_tail _ q.before now (subst (λ (t : Transcript). Within t now) q.is_popped before_now) in
       standing_sent IsOneReply b d q.before x (sent_within IsOneReply q.before now older_now (sent_one c n es s run)) (subst (λ (l : List Standing). In x l) (sym q.stood) (inl refl))
 
-  back_served : (down : List Branch) (b : IsBack c now d h down) → IsServed c now d b.at h.1.item.wanted h.1.item.sequence down
-  back_served down b = go b.goes
+  back_served : IsNetwork n → (down : List Branch) (b : IsBack c n now d h down) → IsServed c now d b.at h.1.item.wanted h.1.item.sequence down
+  back_served net down b = go b.goes
     where
-      go : IsRest h.1.item.sequence b.rest b.on → IsServed c now d b.at h.1.item.wanted h.1.item.sequence down
+      go : IsRest (place n d).routes h.1.item.sequence b.rest b.on → IsServed c now d b.at h.1.item.wanted h.1.item.sequence down
       go (inl up) = absurd (no_up b.on b.upper up.2)
       go (inr on) =
           let next = on.1 in
           let more = on.2 in
-          let one = the_one b.replies b.reply (one_taken b.on next on.5 b.replies b.outputs b.before b.within) b.is_reply in
+          let to : b.on ≡ Inner next = on.5 ∙ to_element n net d next in
+          let one = the_one b.replies b.reply (one_taken b.on next to b.replies b.outputs b.before b.within) b.is_reply in
           subst (λ (l : List As). IsServed c now d b.at h.1.item.wanted l down) (sym (on.3 ∙ ap (λ (l : List As). on.0 ∷ l) on.4)) (record {
             id = b.id;
-            sent = subst (λ (p : Peer). SentIn b.at d p (request_message b.id h.1.item.wanted h.1.item.wanted.target (next ∷ more))) on.5
+            sent = subst (λ (p : Peer). SentIn b.at d p (request_message b.id h.1.item.wanted h.1.item.wanted.target (next ∷ more))) to
                 (subst (λ (l : List As). SentIn b.at d b.on (request_message b.id h.1.item.wanted h.1.item.wanted.target l)) on.4 b.sent);
             reply = b.reply;
             outputs = b.outputs;
             before = b.before;
             within = subst (λ (l : List Reply). Within (Takes d (Inner next) (messages.PcRep l) b.outputs ∷ b.before) now) one
-                (subst (λ (p : Peer). Within (Takes d p (messages.PcRep b.replies) b.outputs ∷ b.before) now) on.5 b.within);
+                (subst (λ (p : Peer). Within (Takes d p (messages.PcRep b.replies) b.outputs ∷ b.before) now) to b.within);
             same = b.same;
             paths = b.paths;
             tells = b.tells;
@@ -117,11 +119,11 @@ module _ (c : Codec) (codec : IsCodec c) (n : NetworkParts) (es : List Entry) (s
           })
 
   -- it has a sequence
-  ready_sequence : (down : List Branch) → IsFresh h.1.item.sequence (Ready down) ⊎ IsBack c now d h down → h.1.item.sequence ≡ [] → ⊥
+  ready_sequence : (down : List Branch) → IsFresh h.1.item.sequence (Ready down) ⊎ IsBack c n now d h down → h.1.item.sequence ≡ [] → ⊥
   ready_sequence down (inl fresh) none = no_cons fresh.0 [] (sym fresh.1 ∙ none)
   ready_sequence down (inr b) none = go b.goes
     where
-      go : IsRest h.1.item.sequence b.rest b.on → ⊥
+      go : IsRest (place n d).routes h.1.item.sequence b.rest b.on → ⊥
       go (inl up) = no_up b.on b.upper up.2
       go (inr on) = no_cons on.0 b.rest (sym on.3 ∙ none)
 
@@ -129,7 +131,7 @@ module _ (c : Codec) (codec : IsCodec c) (n : NetworkParts) (es : List Entry) (s
   is_readied net i down stage =
       let all = run_ready c n net es s run (run_single c n codec es s run written) in
       let f = found c n now s all.0.0 d h i in
-      let ready : IsFresh h.1.item.sequence (Ready down) ⊎ IsBack c now d h down = subst (λ (x : Stage). ReadyAt c n now d h x) stage (all.1 d h (in_of h (s.elements d).pending.rows i)) in
+      let ready : IsFresh h.1.item.sequence (Ready down) ⊎ IsBack c n now d h down = subst (λ (x : Stage). ReadyAt c n now d h x) stage (all.1 d h (in_of h (s.elements d).pending.rows i)) in
       let up = goes_up (place n d).parent (class_of n h.1.key.peer) h.1.item.wanted.sequence in
       elim (cases_Bool up) [
         | inl goes ↦ absurd (ready_sequence down ready (f.2.sequence' ∙ ap (λ (b : Bool). cond b [] (sequence_or d h.1.item.wanted.sequence)) goes))
@@ -139,7 +141,7 @@ module _ (c : Codec) (codec : IsCodec c) (n : NetworkParts) (es : List Entry) (s
             by_stage ready along here f.0 f.1
       ]
     where
-      by_stage : IsFresh h.1.item.sequence (Ready down) ⊎ IsBack c now d h down → h.1.item.sequence ≡ sequence_or d h.1.item.wanted.sequence → goes_up (place n d).parent h.1.item.class h.1.item.wanted.sequence ≡ false →
+      by_stage : IsFresh h.1.item.sequence (Ready down) ⊎ IsBack c n now d h down → h.1.item.sequence ≡ sequence_or d h.1.item.wanted.sequence → goes_up (place n d).parent h.1.item.class h.1.item.wanted.sequence ≡ false →
           (at : Transcript) → opened c d h.1.key.peer h.1.key.id now ≡ Some at → IsReadied c n now d h down
       by_stage (inl fresh) along here at open' = record { along = along; stays = here; at = at; is_open = open'; served = subst (λ (l : List As). IsServed c now d at h.1.item.wanted l down) (sym fresh.1) fresh.2 }
-      by_stage (inr b) along here at open' = record { along = along; stays = here; at = b.at; is_open = b.is_open; served = back_served down b }
+      by_stage (inr b) along here at open' = record { along = along; stays = here; at = b.at; is_open = b.is_open; served = back_served net down b }

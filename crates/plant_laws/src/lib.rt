@@ -7,7 +7,7 @@ ghost use Rattle.plant_laws.specs.Answered.{RequestsAreAnsweredOnce, RequestsAre
 ghost use Rattle.plant_laws.specs.Certified.{SolvesCertify, SolvesCertifyIn};
 ghost use Rattle.plant_laws.specs.Broken.{BrokenForReasons};
 ghost use Rattle.plant_laws.specs.Causes.{MessagesHaveCauses, NetworksBegin};
-ghost use Rattle.plant_laws.specs.Chains.{OneChain, OneChainIn, QuietIsAnswered, QuietIsAnsweredIn};
+ghost use Rattle.plant_laws.specs.Chains.{OneChain, OneChainIn, QuietHasNonePending, QuietIsAnswered, QuietIsAnsweredIn};
 ghost use Rattle.plant_laws.specs.Counted.{ElementIdsDiffer, IdsCount};
 ghost use Rattle.plant_laws.specs.Errors.{InnerErrors};
 ghost use Rattle.plant_laws.specs.Full.{FullForReasons};
@@ -77,13 +77,15 @@ pub fn solves_certify()
 
 // ---- requests
 
-/// In a quiet state no request is pending.
+/// In a quiet state the chain of each pending request ends at an element that waits on an outside peer, and
+/// none is pending at the parent. Where paths go on through no outside peer, none is pending at all.
 pub fn quiet_is_answered()
-    ensures { QuietIsAnswered }
+    ensures outside { QuietIsAnswered }
+    ensures none { QuietHasNonePending }
 {}
 
 /// Each request that waits is in the next's queue, or pending there with the rest of its sequence, or its
-/// answer is in the queue back.
+/// answer is in the queue back; or it waits on the outside peer that is asked for its next domain.
 pub fn waits_are_under_way()
     ensures { WaitsAreUnderWay }
 {}
