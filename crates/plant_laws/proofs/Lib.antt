@@ -165,5 +165,7 @@ mod GoodInboxes
 mod GoodExists
 pub mod Unrouted
 pub mod Heeding
+pub mod HeededHops
+pub mod EndsInside
 -- handed on from below
 pub use Rattle.plant_model.proofs as plant_model

@@ -33,6 +33,8 @@ use Rattle.plant_laws.proofs.Rows.{In, in_of}
 use Rattle.plant_laws.proofs.OpenedRuns.{lookup_in}
 use Rattle.plant_laws.proofs.OpenTables.{open_is_pending}
 use Rattle.plant_laws.proofs.Readings.{messages_are_read}
+use Rattle.plant_laws.proofs.Reading.{outside_is_read}
+use Rattle.plant_laws.proofs.HeededHops.{taken_range}
 use Rattle.plant_laws.proofs.Topologies.{pins_are_domains}
 use Rattle.border_costs.proofs.Members.{contains_head, contains_tail, contains_none, contains_cases}
 use Rattle.plant_laws.proofs.Told.{apart}
@@ -100,7 +102,7 @@ module _ (c : Codec) (codec : IsCodec c) (n : NetworkParts) (net : IsNetwork n) 
         along = r.along;
         stays = r.stays;
         down = x.down;
-        served = subst (λ (at : Transcript). IsServed c (deeds_of c n es) d at x.held.item.wanted x.held.item.sequence x.down) same r.served;
+        served = subst (λ (at : Transcript). IsServed c n (deeds_of c n es) d at x.held.item.wanted x.held.item.sequence x.down) same r.served;
         rows = x.rows;
         right = x.right;
         now = s.clock;
@@ -192,6 +194,7 @@ module _ (c : Codec) (codec : IsCodec c) (n : NetworkParts) (net : IsNetwork n) 
         carried_replies = λ d b replies os older w. (let r = readings.queues b d (messages.PcRep replies) os older w in record { before = r.before; is = r.is_popped; put = r.put; rest = r.rest; stood = r.stood });
         carried_requests = λ d b asks os older w. (let r = readings.queues b d (messages.PcReq asks) os older w in record { before = r.before; is = r.is_popped; put = r.put; rest = r.rest; stood = r.stood });
         ids = element_ids_differ c codec n es s run written short;
+        ranged = taken_range c codec n now (outside_is_read c codec n es s run);
         expands = codec.expands;
         inside = inside;
         replied_above = above;
@@ -251,7 +254,7 @@ solves_certify c codec n net es s run written d k h x =
       wanted = i.wanted;
       is_path = y.taken.wanted;
       down = x.down;
-      told = subst (λ (l : List As). IsServed c (deeds_of c n es) d y.taken.at i.wanted l x.down) y.along y.served;
+      told = subst (λ (l : List As). IsServed c n (deeds_of c n es) d y.taken.at i.wanted l x.down) y.along y.served;
       job = ask c n d (k, x.held) x.down;
       query = refl;
       source = refl;

@@ -25,7 +25,7 @@ use Rattle.plant_laws.specs.Sending.{AllSent}
 use Rattle.plant_laws.proofs.ReadBack.{run_single}
 use Rattle.plant_laws.proofs.NumberRuns.{toward_inner}
 use Rattle.plant_laws.proofs.SentOn.{IsRest}
-use Rattle.plant_laws.proofs.ReadyRows.{one_taken, the_one, no_cons}
+use Rattle.plant_laws.proofs.ReadyRows.{taken_alone, no_cons}
 use Rattle.plant_laws.proofs.Replied.{OfReplies, AllReplied, IsReplied, run_replied}
 use Rattle.plant_laws.proofs.FromElement.{admits_path, own_sequence, real_next, same_first, same_rest}
 use Rattle.plant_laws.proofs.LeastChains.{admitted_at}
@@ -65,7 +65,7 @@ module _ (c : Codec) (codec : IsCodec c) (n : NetworkParts) (es : List Entry) (s
   of_parent : (e : PlantDeed) (older : Transcript) (d : As) (p : Peer) (r : Reply) → Within (e ∷ older) (deeds_of c n es) → OfReplies c n older d p r e → OfParent c n older d p r e
   of_parent e older d p r w x =
       let w' : Within (Takes d the_parent (messages.PcRep x.replies) x.outputs ∷ older) (deeds_of c n es) = subst (λ (z : PlantDeed). Within (z ∷ older) (deeds_of c n es)) x.is w in
-      let one = the_one x.replies x.reply (one_taken c codec n es s run written d x.row the_parent parent_as refl x.replies x.outputs older w') x.is_reply' in
+      let one = taken_alone c codec n es s run written d x.row the_parent x.replies x.reply x.outputs older w' x.is_reply' in
       let v = x.row.1.item.wanted in
       let asked = admitted_at c x.taken_row.at d x.row.1.key.peer x.taken_row.request x.taken_row.delivered in
       let admits = admits_path c asked.0 d x.taken_row.request v asked.1 x.taken_row.wanted in
