@@ -23,6 +23,7 @@ use Rattle.pcep_messages.specs.declared.message.Answer.TheVariants.{Paths, NoPat
 use Rattle.pcep_messages.specs.declared.message.Message.TheVariants as messages
 use Rattle.pcep_messages.specs.declared.message.Path.{Path}
 use Rattle.pcep_messages.specs.declared.message.Reply.{Reply}
+use Rattle.pcep_messages.specs.declared.message.Wanted.{Wanted}
 use Rattle.pcep_messages.specs.Spelling.{IsWritten, answer_objects, path_objects, metric_objects}
 use Rattle.outside_part.specs.Ranges.{IsInRange, AreInRange, EachPath}
 use Rattle.outside_part.specs.Rows.{IsPlain}

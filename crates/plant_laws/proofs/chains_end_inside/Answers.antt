@@ -2,4 +2,4 @@ use Rattle.plant_laws.proofs.EndsInside as EndsInside
 use Rattle.plant_laws.proofs.chains_end_inside.Goals as goal
 
 pub returns : goal.returns
-returns = EndsInside.chains_end_inside
+returns c = EndsInside.chains_end_inside
