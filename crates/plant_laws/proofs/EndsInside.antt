@@ -1,17 +1,10 @@
 -- Where paths go on through no outside peer, chains end in the last domain.
-use Rattle.std.proofs.Common.{◌≡◌, List, [], ◌∷◌, sym, ◌∙◌, ap}
-use Rattle.std.specs.Prelude.{All, false}
-use Rattle.dom_base.specs.declared.names.As.{As}
+use Rattle.std.proofs.Common.{◌≡◌, [], ◌∷◌, sym, ◌∙◌, ap}
 use Rattle.dom_base.specs.declared.names.Peer.TheVariants.{Inner, Outside}
-use Rattle.plant_text.specs.declared.settings.NetworkParts.{NetworkParts}
-use Rattle.plant_text.specs.declared.settings.PeerRow.{PeerRow}
-use Rattle.pcep_messages.specs.declared.message.Wanted.{Wanted}
-use Rattle.plant_model.specs.Wire.{Codec}
 use Rattle.plant_model.specs.Routes.{toward}
 use Rattle.plant_model.specs.Settings.{place}
 use Rattle.plant_model.proofs.Outward.{no_routes}
-use Rattle.plant_laws.specs.Transcript.{Leg}
-use Rattle.plant_laws.specs.Ends.{End, Inside, Asked, ChainEnds, ChainsEndInside}
+use Rattle.plant_laws.specs.Ends.{Inside, Asked, ChainsEndInside}
 use Rattle.plant_laws.proofs.Unrouted.{place_routes}
 
 pub chains_end_inside : ChainsEndInside

@@ -40,7 +40,7 @@ use Rattle.plant_model.specs.State.{Pops, Takes, Solves}
 use Rattle.plant_model.specs.Plant.{Pin, Segment, PlantDeed}
 use Rattle.plant_model.specs.Laws.{IsCodec, Admits}
 use Rattle.plant_laws.specs.Transcript.{Transcript, Within, Standing, outputs_at, SentIn, Handed, Delivered, Leg, Chain, numbers, pinned, domains, Keeps, ends_if, answers_to}
-use Rattle.plant_laws.specs.Ends.{End, Inside, Asked as AskedFor, goal_of, EndsAt, ChainEnds}
+use Rattle.plant_laws.specs.Ends.{End, Inside, Asked as AskedFor, goal_of, ChainEnds}
 use Rattle.plant_laws.specs.About.{IsSolvedFor, AreSolved, IsLeastPath}
 use Rattle.plant_laws.specs.Replies.{AreRightful}
 use Rattle.border_costs.proofs.Members.{contains_head}

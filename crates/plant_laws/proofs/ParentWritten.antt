@@ -46,7 +46,7 @@ use Rattle.plant_model.specs.Element.{is_client}
 use Rattle.plant_model.specs.Settings.{place, family}
 use Rattle.plant_model.specs.State.{Pops, Takes, Solves}
 use Rattle.plant_model.specs.Plant.{Segment, Plant, PlantDeed, Happened, Entry, Run, deeds_of, ParentSolves}
-use Rattle.plant_laws.specs.Transcript.{Transcript, Within, Standing, outputs_at, SentIn, Leg, numbers, Delivered}
+use Rattle.plant_laws.specs.Transcript.{Transcript, Within, Standing, outputs_at, SentIn, numbers, Delivered}
 use Rattle.plant_laws.specs.About.{IsShort, IsGathered, told_in}
 use Rattle.plant_laws.specs.Certified.{Tells}
 use Rattle.plant_laws.specs.Sending.{AreAll, AllSent}

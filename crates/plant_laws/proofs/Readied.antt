@@ -49,7 +49,7 @@ use Rattle.plant_model.specs.Element.{at_stage, waits_for, waiting, sent_through
 use Rattle.plant_model.specs.Outside.{heeded, heeded_by}
 use Rattle.plant_laws.specs.Transcript.{Within}
 use Rattle.plant_laws.proofs.Moments.{peer_is}
-use Rattle.plant_laws.proofs.Waits.{Both, SentAt, AreSentOn, AreApart, still, is_open, act_both, load_both, solve_both, upper_both}
+use Rattle.plant_laws.proofs.Waits.{Both, SentAt, still, is_open, act_both, load_both, solve_both, upper_both}
 use Rattle.plant_laws.proofs.StagesKept as kept
 use Rattle.plant_laws.proofs.StagesKept.{IsFresh}
 use Rattle.plant_laws.specs.Ends.{Tells, IsHeeded}

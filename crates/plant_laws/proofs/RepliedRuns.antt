@@ -1,5 +1,5 @@
 -- In every run whose messages are in written form, a reply of an element that tells of paths comes from a solve, a key, or the parent.
-use Rattle.std.proofs.Common.{◌≡◌, ◌≢◌, ◌⊎◌, Bool, cond, List, [], ◌∷◌, Option, Some, sym, ◌∙◌, ap, subst, inl, inr, refl}
+use Rattle.std.proofs.Common.{◌≡◌, ◌≢◌, ◌⊎◌, Bool, cond, List, [], ◌∷◌, Option, Some, sym, ◌∙◌, ap, subst, inl, inr}
 use Rattle.std.specs.Prelude.{Contains}
 use Rattle.std.proofs.lemmas.Bool.{cases_Bool}
 use Rattle.dom_base.specs.declared.names.As.{As}
