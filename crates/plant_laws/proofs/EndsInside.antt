@@ -9,7 +9,7 @@ use Rattle.plant_laws.proofs.Unrouted.{place_routes}
 
 pub chains_end_inside : ChainsEndInside
 chains_end_inside c n w behind [] end none ends = absurd ends
-chains_end_inside c n w behind (one ∷ []) (Inside t) none ends = (ends.0, ap (λ (x : _). Inside x) ends.1)
+chains_end_inside c n w behind (one ∷ []) (Inside t) none ends = (ends.0, ap Inside ends.1)
 chains_end_inside c n w behind (one ∷ []) (Asked next told) none ends =
     let inner : toward next (place n one.own).routes ≡ Inner next = ap (toward next) (place_routes n one.own ∙ no_routes n one.own none) in
     let clash : Inner next ≡ Outside ends.peer = sym inner ∙ ends.route in
