@@ -29,7 +29,6 @@ use Rattle.plant_laws.specs.plant_model.Routes.{routes}
 use Rattle.plant_laws.specs.plant_model.Settings.{place, family, inner_ways, way, ways_along}
 use Rattle.plant_laws.proofs.AllWritten.{ways_fit_all}
 use Rattle.plant_laws.proofs.Heeding.{asks_read, single_back}
-use Rattle.plant_laws.proofs.Unrouted.{to_element}
 use Rattle.plant_laws.specs.plant_model.State.{Loads, Pops, Takes, Says, Ups, Downs, Clears, Solves, Expires, Hands}
 use Rattle.plant_laws.specs.plant_model.Deeds.{Going, element_of, own_message, with_parent, with_element, puts, give, rise, fall, clear}
 use Rattle.plant_laws.specs.plant_model.Events as events
@@ -199,7 +198,7 @@ module _ (c : Codec) (codec : IsCodec c) (n : NetworkParts) where
         (passes_none c n x y at r.outputs prem.2.0 (takes_none c (family n) p (no_children n net alone) m s.parent)) refl b.good.ways b.good)
         (λ is prem.
         let b = known t.outputs prem in
-        let x' = passing.takes x y c codec n at is (place n at) (own_is n at) (s.current at) p (class_of n p) s.clock (s.elements at) (b.good.ways at) (to_element n net at) b.bytes m b.read b.fair b.single prem.2.0 in
+        let x' = passing.takes x y c codec n at is (place n at) (own_is n at) (s.current at) p (class_of n p) s.clock (s.elements at) (b.good.ways at) b.bytes m b.read b.fair b.single prem.2.0 in
         sent_good (Takes at p m t.outputs) at t.outputs w (message_heavy x y c at m) (es ++ ds) s v refl refl b.heavy x'.passes refl (set_ways at t.element s x'.ways b.good.ways) b.good)
 
     fall_good : (at : As) (p : Peer) (s : Core) (ds : Transcript) → I ds s → (let g = fall Pin Segment c n open_of at p (record { state = s; deeds = [] }) in I (g.deeds ++ ds) g.state)

@@ -15,11 +15,13 @@ use Rattle.plant_text.specs.declared.settings.NetworkParts.{NetworkParts}
 use Rattle.plant_text.specs.declared.settings.ElementRow.{ElementRow}
 use Rattle.plant_text.specs.declared.settings.PeerRow.{PeerRow}
 use Rattle.plant_model.specs.declared.output.Output.{Output}
+use Rattle.plant_model.specs.declared.route.Route.{Route}
 use Rattle.plant_text.specs.Names.{same_as, parent_as}
 use Rattle.plant_model.specs.Wire.{Codec}
 use Rattle.plant_model.specs.Writing.{asked_of, request_message}
 use Rattle.plant_model.specs.Taking.{sequence_or}
 use Rattle.plant_text.specs.Settings.{is_element, row_of, peer_row}
+use Rattle.plant_model.specs.Settings.{place}
 use Rattle.plant_model.specs.Deeds.{at_row}
 use Rattle.plant_model.specs.State.{Loads, Pops, Takes, Says, Ups, Downs, Clears, Solves, Expires, Hands}
 use Rattle.plant_model.specs.Plant.{Pin, Segment, Plant, PlantDeed, Entry, Run, deeds_of}
@@ -35,7 +37,7 @@ use Rattle.plant_laws.proofs.Handing as handing
 use Rattle.plant_laws.proofs.Sends.{Each-within}
 use Rattle.plant_laws.proofs.ReadBack.{run_single}
 use Rattle.plant_laws.proofs.Counted.{low_of, numbered_is, numbered_within, asks_within}
-use Rattle.plant_laws.proofs.NumberRuns.{run_last}
+use Rattle.plant_laws.proofs.NumberRuns.{run_last, toward_inner}
 use Rattle.plant_laws.proofs.Reading.{outside_is_read}
 use Rattle.plant_laws.proofs.Onward.{GoesTo}
 use Rattle.plant_laws.proofs.Given.{IsAsked}
@@ -55,13 +57,13 @@ inner_of a (Inner b) = b
 inner_of a (Outside i) = a
 
 -- where a request goes on, along the sequence of its own domain
-module _ (d b : As) (w : Wanted) (own : (w.sequence ≡ []) ⊎ ((rest : List As) × (w.sequence ≡ d ∷ rest) × IsSequence d rest)) where
-  goes : (rest : List As) → GoesTo Pin Segment w (Inner b) rest → ((more : List As) × (sequence_or d w.sequence ≡ d ∷ b ∷ more) × (rest ≡ b ∷ more)) ⊎ ((b ≡ parent_as) × (rest ≡ []))
+module _ (d b : As) (routes : List Route) (w : Wanted) (own : (w.sequence ≡ []) ⊎ ((rest : List As) × (w.sequence ≡ d ∷ rest) × IsSequence d rest)) where
+  goes : (rest : List As) → GoesTo Pin Segment routes w (Inner b) rest → ((more : List As) × (sequence_or d w.sequence ≡ d ∷ b ∷ more) × (rest ≡ b ∷ more)) ⊎ ((b ≡ parent_as) × (rest ≡ []))
   goes rest (inl up) = inr (ap (λ (p : Peer). inner_of b p) up.0, up.1)
   goes rest (inr on) = inl (on.2, along own, on.4 ∙ ap (λ (z : As). z ∷ on.2) (sym to))
     where
       to : b ≡ on.1
-      to = ap (λ (p : Peer). inner_of b p) on.3
+      to = toward_inner on.1 b routes on.3
 
       along : (w.sequence ≡ []) ⊎ ((rest : List As) × (w.sequence ≡ d ∷ rest) × IsSequence d rest) → sequence_or d w.sequence ≡ d ∷ b ∷ on.2
       along (inl none) = absurd (let out : [] ≡ on.0 ∷ on.1 ∷ on.2 = sym none ∙ on.5 in cc)
@@ -79,11 +81,11 @@ module _ (c : Codec) (codec : IsCodec c) (n : NetworkParts) (es : List Entry) (s
     Out = record { to = Inner b; message = messages.PcReq asks }
 
     -- it is of the message that was taken
-    is_of : (e : PlantDeed) → AsksFor c e → In Out (outputs_at d e) → (peer : Peer) × (m : Message) × (os : List Output) × (e ≡ Takes d peer m os) × IsOf c d m Out
+    is_of : (e : PlantDeed) → AsksFor c n e → In Out (outputs_at d e) → (peer : Peer) × (m : Message) × (os : List Output) × (e ≡ Takes d peer m os) × IsOf c n d m Out
     is_of (Takes at p m os) cause i =
         let x = in_cond (same_as at d) Out os i in
         let is = same_as_is at d x.0 in
-        (p, m, os, ap (λ (z : As). Takes z p m os) is, subst (λ (z : As). IsOf c z m Out) is (cause (ap (λ (z : As). same_as z parent_as) is ∙ low) Out (flip_in Out os x.1) tt))
+        (p, m, os, ap (λ (z : As). Takes z p m os) is, subst (λ (z : As). IsOf c n z m Out) is (cause (ap (λ (z : As). same_as z parent_as) is ∙ low) Out (flip_in Out os x.1) tt))
     is_of (Says at o) cause i = absurd (alone (in_cond (same_as at d) Out (o ∷ []) i).1)
       where
         alone : In Out (o ∷ []) → ⊥
@@ -102,13 +104,13 @@ module _ (c : Codec) (codec : IsCodec c) (n : NetworkParts) (es : List Entry) (s
     is_of (Expires t) cause i = absurd i
     is_of (Hands i' bytes) cause i = absurd i
 
-  pub asked_of_run : IsNetwork n → (m : Transcript) (d b : As) (asks : List Asked) → d ≢ parent_as → Within m now → SentIn m d (Inner b) (messages.PcReq asks) → IsAsked c n m d b asks
-  asked_of_run net [] d b asks real w sent = absurd sent
-  asked_of_run net (e ∷ older) d b asks real w sent =
+  pub asked_of_run : (m : Transcript) (d b : As) (asks : List Asked) → d ≢ parent_as → Within m now → SentIn m d (Inner b) (messages.PcReq asks) → IsAsked c n m d b asks
+  asked_of_run [] d b asks real w sent = absurd sent
+  asked_of_run (e ∷ older) d b asks real w sent =
       let low = low_of d real in
       let single = run_single c n codec es s run written in
       let numbers = (run_last c codec n es s run single short d low).1 in
-      let x = is_of d b asks low e (Each-within (HasCause c) now (run_has c n net es s run single) e older w).0 (in_of (Out d b asks low) (outputs_at d e) sent) in
+      let x = is_of d b asks low e (Each-within (HasCause c n) now (run_has c n es s run single) e older w).0 (in_of (Out d b asks low) (outputs_at d e) sent) in
       let f = x.4 in
       let to : Inner b ≡ f.to = ap (λ (o : Output). o.to) f.sends in
       let message : messages.PcReq asks ≡ request_message f.id f.wanted f.wanted.target f.rest = ap (λ (o : Output). o.message) f.sends in
@@ -132,7 +134,7 @@ module _ (c : Codec) (codec : IsCodec c) (n : NetworkParts) (es : List Entry) (s
         id = f.id;
         some = omega (arith, at);
         fits = omega (arith, last, le, most);
-        sends = elim (goes d b f.wanted (codec.own f.taken d f.flags f.x f.wanted f.admits).2 f.rest (subst (λ (p : Peer). GoesTo Pin Segment f.wanted p f.rest) (sym to) f.goes)) [
+        sends = elim (goes d b (place n d).routes f.wanted (codec.own f.taken d f.flags f.x f.wanted f.admits).2 f.rest (subst (λ (p : Peer). GoesTo Pin Segment (place n d).routes f.wanted p f.rest) (sym to) f.goes)) [
           | inl on ↦ inl (on.0, on.1, lists ∙ ap (λ (l : List As). asked_of f.id f.wanted f.wanted.target l ∷ []) on.2)
           | inr up ↦ inr (up.0, lists ∙ ap (λ (l : List As). asked_of f.id f.wanted f.wanted.target l ∷ []) up.1)
         ];

@@ -48,7 +48,7 @@ use Rattle.plant_laws.specs.MessageCauses.{Asker, replied, WaitsAt, WaitsAbove, 
 use Rattle.plant_laws.specs.Sending.{AllSent}
 use Rattle.plant_laws.specs.Solves.{ElementTells, TellsClient, its_path, no_pair, TellsClosed, branches, no_branch, lacks_keys, TellsUpper, found as found_walk, no_walk}
 use Rattle.plant_laws.specs.Transcript.{Transcript, Within, SentIn, opened, answers_to, outputs_at}
-use Rattle.plant_laws.specs.Waiting.{GoesOn, WasSentOn}
+use Rattle.plant_laws.specs.Waiting.{WasSentOn}
 use Rattle.plant_laws.proofs.Again.{all_read}
 use Rattle.plant_laws.proofs.Alone.{takes_alone}
 use Rattle.plant_laws.proofs.Besides.{besides_asking, answers_in}
@@ -79,6 +79,7 @@ use Rattle.plant_laws.proofs.Sends.{IsAlone}
 use Rattle.plant_laws.proofs.SentOn.{same_peer_is}
 use Rattle.plant_laws.proofs.StillOpen.{still_open}
 use Rattle.plant_laws.proofs.Subsides.{in_filtered}
+use Rattle.plant_laws.proofs.Unrouted.{goes_inside}
 use Rattle.plant_laws.proofs.Waits.{waits_are_sent}
 use Rattle.plant_laws.proofs.WhereWritten.{WrittenNetIds}
 
@@ -337,8 +338,8 @@ module _ (p : Peer) (r : Reply) (broken : ¬ TellsOfPaths r.answer) where
           path (sent_on next rest way goes found up eq) = not_said next _ refl (subst (In out) eq i)
 
       -- the request that waits is the one that is open
-      sent_by : (y : ℕ) (a : Asker) → WaitsAt k q y a → (row : Row Pin) × (a ≡ record { peer = row.1.key.peer; flags = row.1.item.flags; id = row.1.key.id }) × WasSentOn c (deeds_of c n entries) d row q y
-      sent_by y a w = (w.row, w.asked, waits_are_sent c codec n net entries before run' (every_written c codec n net entries before run' short') d w.row w.is_row q y w.waits)
+      sent_by : (y : ℕ) (a : Asker) → WaitsAt k q y a → (row : Row Pin) × (a ≡ record { peer = row.1.key.peer; flags = row.1.item.flags; id = row.1.key.id }) × WasSentOn c n (deeds_of c n entries) d row q y
+      sent_by y a w = (w.row, w.asked, waits_are_sent c codec n net entries before run' d w.row w.is_row q y w.waits)
 
       went_on : (m : Message) → Passes c n before event d q m → (IsAsk m → ⊥) → (at : Transcript) → opened c d p r.id older ≡ Some at → (y : ℕ) (a : Asker) → WaitsAt k q y a → p ≡ a.peer → r.id ≡ a.id → WentOn c older d p r.id q y
       went_on m passes asks at is_open y a w peer id = elim (still_open c n before event d q m passes asks earlier (deeds_of c n entries) causes d p r.id sent.2.at opened_then) [
@@ -346,7 +347,7 @@ module _ (p : Peer) (r : Reply) (broken : ¬ TellsOfPaths r.answer) where
         | inr none ↦ absurd (let clash : ◌≡◌ {A = Option Transcript} None (Some at) = sym (ap (opened c d p r.id) is_then ∙ none) ∙ is_open in cc)
       ]
         where
-          sent : (row : Row Pin) × (a ≡ record { peer = row.1.key.peer; flags = row.1.item.flags; id = row.1.key.id }) × WasSentOn c (deeds_of c n entries) d row q y
+          sent : (row : Row Pin) × (a ≡ record { peer = row.1.key.peer; flags = row.1.item.flags; id = row.1.key.id }) × WasSentOn c n (deeds_of c n entries) d row q y
           sent = sent_by y a w
 
           opened_then : opened c d p r.id (deeds_of c n entries) ≡ Some sent.2.at
@@ -375,17 +376,16 @@ module _ (p : Peer) (r : Reply) (broken : ¬ TellsOfPaths r.answer) where
           let above = same_peer_is q the_parent up in
           further_on r0 all within parent_as above (λ tells. broken (subst TellsOfPaths (sym this.answer') tells)) (went_on (messages.PcRep (r0 ∷ [])) passes (λ no. no) at is_open r0.id a w this.peer this.id)
       reply_broken r0 os all within passes at is_open (is_kept a w down tells eq) i = nothing os eq i
-      reply_broken r0 os all within passes at is_open (is_broken a w down not_told eq) i = go sent.2.goes
+      reply_broken r0 os all within passes at is_open (is_broken a w down not_told eq) i = further_on r0 all within to.0 to.1 not_told went
         where
-          sent : (row : Row Pin) × (a ≡ record { peer = row.1.key.peer; flags = row.1.item.flags; id = row.1.key.id }) × WasSentOn c (deeds_of c n entries) d row q r0.id
+          sent : (row : Row Pin) × (a ≡ record { peer = row.1.key.peer; flags = row.1.item.flags; id = row.1.key.id }) × WasSentOn c n (deeds_of c n entries) d row q r0.id
           sent = sent_by r0.id a w
+
+          to : (z : As) × (q ≡ Inner z)
+          to = goes_inside n net d sent.0.1.item.sequence sent.2.rest q sent.2.goes
 
           went : WentOn c older d p r.id q r0.id
           went = (let this = this_one a unavailable (subst (In out) eq i) in went_on (messages.PcRep (r0 ∷ [])) passes (λ no. no) at is_open r0.id a w this.peer this.id)
-
-          go : GoesOn sent.0.1.item.sequence sent.2.rest q → Broke p r.id (Takes d q (messages.PcRep (r0 ∷ [])) all)
-          go (inl up) = further_on r0 all within parent_as up.2 not_told went
-          go (inr on) = further_on r0 all within on.1 on.5 not_told went
 
       -- the parent's refusal
       errors_broken : (reports : List ErrorReport) (pin : Pin) (all : List Output) → Within (Takes d q (messages.PcErr reports) all ∷ older) (deeds_of c n es) → Passes c n before event d q (messages.PcErr reports) → (at : Transcript) → opened c d p r.id older ≡ Some at →
@@ -443,12 +443,11 @@ module _ (p : Peer) (r : Reply) (broken : ¬ TellsOfPaths r.answer) where
         go false down lost' is i' found =
             let l = lost_one q (left_rows at (one.before.elements at).pending.rows one.earlier) os lost' i' in
             let there : table.In l.0 (one.before.elements at).pending.rows = left_in at (one.before.elements at).pending.rows one.earlier l.0 l.1 in
-            let sent = waits_are_sent c codec n net one.entries one.before one.run (every_written c codec n net one.entries one.before one.run one.short) at l.0 (contains l.0 (one.before.elements at).pending.rows there) q l.2.1 l.2.2 in
-            inner sent.goes l.3 found
+            let sent = waits_are_sent c codec n net one.entries one.before one.run at l.0 (contains l.0 (one.before.elements at).pending.rows there) q l.2.1 l.2.2 in
+            inner (goes_inside n net at l.0.1.item.sequence sent.rest q sent.goes) l.3 found
           where
-            inner : {l l' : List As} → GoesOn l l' q → (p ≢ q) → (at' : Transcript) × (opened c d p r.id older ≡ Some at') → Broke p r.id (Downs d q os)
-            inner (inl up) other f = subst (λ (z : Peer). Broke p r.id (Downs d z os)) (sym up.2) (lost d p r.id older f.0 parent_as os (λ same. other (same ∙ sym up.2)) f.1)
-            inner (inr on) other f = subst (λ (z : Peer). Broke p r.id (Downs d z os)) (sym on.5) (lost d p r.id older f.0 on.1 os (λ same. other (same ∙ sym on.5)) f.1)
+            inner : (z : As) × (q ≡ Inner z) → (p ≢ q) → (at' : Transcript) × (opened c d p r.id older ≡ Some at') → Broke p r.id (Downs d q os)
+            inner to other f = subst (λ (z : Peer). Broke p r.id (Downs d z os)) (sym to.1) (lost d p r.id older f.0 to.0 os (λ same. other (same ∙ sym to.1)) f.1)
     deed_broken (Solves at k os keys) within one meets i = go (at_here d out at os i) one.cause
       where
         solved : (d' : As) → d' ≡ d → (k' : ℕ) (tells : ElementTells c n one.before d' k' (Solves at k os keys ∷ [])) → In out (record { to = tells.held.key.peer; message = tells.message } ∷ []) → ⊥

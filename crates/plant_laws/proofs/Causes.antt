@@ -29,7 +29,7 @@ use Rattle.plant_text.specs.Names.{same_as, parent_as}
 use Rattle.plant_model.specs.Names.{has_pair}
 use Rattle.plant_model.specs.Wire.{Codec, Checked, Admitted, Wrong}
 use Rattle.plant_model.specs.Writing.{request_message, reply_message, error_message, no_key, unavailable, busy}
-use Rattle.plant_model.specs.Laws.{Admits, IsNetwork}
+use Rattle.plant_model.specs.Laws.{Admits}
 use Rattle.plant_model.specs.Element.{Way, fresh_id, with_last, lost_output, lost, upped, downed}
 use Rattle.plant_model.specs.Taking.{take}
 use Rattle.plant_model.specs.Solving.{commit}
@@ -52,7 +52,6 @@ use Rattle.plant_laws.proofs.Takes.{IsSingle, own_is}
 use Rattle.plant_laws.proofs.Opened.{AreSingle}
 use Rattle.plant_laws.proofs.OpenedRuns.{give_single, fall_single, rise_single}
 use Rattle.plant_laws.proofs.Onward.{GoesTo, take_of, way_peer, none_lost, calm_commit}
-use Rattle.plant_laws.proofs.Unrouted.{to_element}
 use Rattle.plant_laws.proofs.Given.{OfSolve, OfKey}
 use Rattle.plant_laws.proofs.Spoken.{one_said, reply_is}
 use Rattle.plant_laws.proofs.TakeSays.{OneTold, not_known, other_one}
@@ -197,7 +196,7 @@ module _ (to : Peer) (r : Reply) (paths : List PathRow) (tells : Tells r.answer 
 -- ---- deeds
 
 -- what an element asks for the message that it took
-pub record IsOf (c : Codec) (d : As) (m : Message) (o : Output) : Type 0 where
+pub record IsOf (c : Codec) (n : NetworkParts) (d : As) (m : Message) (o : Output) : Type 0 where
   pub taken : Asked
   pub is : m ≡ messages.PcReq (taken ∷ [])
   pub flags : ℕ
@@ -207,26 +206,26 @@ pub record IsOf (c : Codec) (d : As) (m : Message) (o : Output) : Type 0 where
   pub id : ℕ
   pub to : Peer
   pub rest : List As
-  pub goes : GoesTo Pin Segment wanted to rest
+  pub goes : GoesTo Pin Segment (place n d).routes wanted to rest
   pub sends : o ≡ record { to = to; message = request_message id wanted wanted.target rest }
 
-abbrev pub AsksFor : Codec → Deed Segment → Type 0
-AsksFor c (Takes at p m os) = same_as at parent_as ≡ false → (o : Output) → In o os → IsAsk o.message → IsOf c at m o
-AsksFor c (Says at o) = IsAsk o.message → ⊥
-AsksFor c (Downs at p os) = same_as at parent_as ≡ false → NoneAsks os
-AsksFor c (Solves at k os keys) = same_as at parent_as ≡ false → NoneAsks os
-AsksFor c (Loads at g) = Unit {0}
-AsksFor c (Pops a b) = Unit {0}
-AsksFor c (Ups at p) = Unit {0}
-AsksFor c (Clears a b) = Unit {0}
-AsksFor c (Expires now) = Unit {0}
-AsksFor c (Hands i bytes) = Unit {0}
+abbrev pub AsksFor : Codec → NetworkParts → Deed Segment → Type 0
+AsksFor c n (Takes at p m os) = same_as at parent_as ≡ false → (o : Output) → In o os → IsAsk o.message → IsOf c n at m o
+AsksFor c n (Says at o) = IsAsk o.message → ⊥
+AsksFor c n (Downs at p os) = same_as at parent_as ≡ false → NoneAsks os
+AsksFor c n (Solves at k os keys) = same_as at parent_as ≡ false → NoneAsks os
+AsksFor c n (Loads at g) = Unit {0}
+AsksFor c n (Pops a b) = Unit {0}
+AsksFor c n (Ups at p) = Unit {0}
+AsksFor c n (Clears a b) = Unit {0}
+AsksFor c n (Expires now) = Unit {0}
+AsksFor c n (Hands i bytes) = Unit {0}
 
 abbrev pub SaysAbove : Codec → Deed Segment → Type 0
 SaysAbove c e = (p : Peer) (r : Reply) (paths : List PathRow) → OneTold p r (outputs_at parent_as e) → Tells r.answer paths → OfSolve parent_as e ⊎ OfKey c parent_as p r e
 
-abbrev pub HasCause : Codec → Deed Segment → Type 0
-HasCause c e = AsksFor c e × SaysAbove c e
+abbrev pub HasCause : Codec → NetworkParts → Deed Segment → Type 0
+HasCause c n e = AsksFor c n e × SaysAbove c e
 
 pub none_in : (os : List Output) → NoneAsks os → (o : Output) → In o os → IsAsk o.message → ⊥
 none_in [] none o i = absurd i
@@ -238,7 +237,7 @@ module _ (c : Codec) (n : NetworkParts) where
   Core = State Pin Segment
 
   abbrev AllHave : Transcript → Type 0
-  AllHave ds = Each (HasCause c) ds
+  AllHave ds = Each (HasCause c n) ds
 
   abbrev If : Transcript → Core → Type 0
   If ds s = AreSingle ds → AllHave ds
@@ -273,8 +272,8 @@ module _ (c : Codec) (n : NetworkParts) where
         flags = x.2.flags;
       })
 
-  give_has : IsNetwork n → (at : As) (p : Peer) (m : Message) (s : Core) (es ds : Transcript) → IsSingle m → AllHave (es ++ ds) → AllHave ((give Pin Segment c n open_of at p m (record { state = s; deeds = es })).deeds ++ ds)
-  give_has net at p m s es ds one all =
+  give_has : (at : As) (p : Peer) (m : Message) (s : Core) (es ds : Transcript) → IsSingle m → AllHave (es ++ ds) → AllHave ((give Pin Segment c n open_of at p m (record { state = s; deeds = es })).deeds ++ ds)
+  give_has at p m s es ds one all =
       let r = parent.take c (family n) p m s.parent in
       let t = take c open_of (place n at) (s.current at) p (class_of n p) s.clock m (s.elements at) in
       split ds (same_as at parent_as)
@@ -283,8 +282,8 @@ module _ (c : Codec) (n : NetworkParts) where
       (λ up. (((λ low. absurd (let clash : true ≡ false = sym up ∙ low in cc)), above_takes at p m s.parent one up), all))
       (λ low. (((λ low' o i ask. asks o i ask), elsewhere (Takes at p m t.outputs) at t.outputs low refl), all))
     where
-      asks : (o : Output) → In o (take c open_of (place n at) (s.current at) p (class_of n p) s.clock m (s.elements at)).outputs → IsAsk o.message → IsOf c at m o
-      asks o i ask = elim (take_of Pin Segment c open_of (place n at) (s.current at) p (class_of n p) s.clock (s.elements at) (to_element n net at) m one) [
+      asks : (o : Output) → In o (take c open_of (place n at) (s.current at) p (class_of n p) s.clock m (s.elements at)).outputs → IsAsk o.message → IsOf c n at m o
+      asks o i ask = elim (take_of Pin Segment c open_of (place n at) (s.current at) p (class_of n p) s.clock (s.elements at) m one) [
         | inl calm ↦ absurd (none_in (take c open_of (place n at) (s.current at) p (class_of n p) s.clock m (s.elements at)).outputs calm.none o i ask)
         | inr x ↦
             let f = x.2 in
@@ -335,21 +334,21 @@ module _ (c : Codec) (n : NetworkParts) where
       go true said' = absurd (other_one q r paths tells p (own_message o) (own_silent o) said')
       go false said' = absurd (contains_none _ said')
 
-  act_has : IsNetwork n → (ds : Transcript) (s t : Core) (es : Transcript) → If ds s → Acts Pin Segment c n open_of s es t → If (es ++ ds) t
-  act_has net ds s t es held (rests s' t' same) single = held single
-  act_has net ds s t es held (hears i bytes m s' read) single =
+  act_has : (ds : Transcript) (s t : Core) (es : Transcript) → If ds s → Acts Pin Segment c n open_of s es t → If (es ++ ds) t
+  act_has ds s t es held (rests s' t' same) single = held single
+  act_has ds s t es held (hears i bytes m s' read) single =
       let x = give_single c n (element_of n i) (Outside i) m s [] ds single in
-      give_has net (element_of n i) (Outside i) m s [] ds x.0 (held x.1)
-  act_has net ds s t es held (carries a b bytes rest m s' u is read same) single =
+      give_has (element_of n i) (Outside i) m s [] ds x.0 (held x.1)
+  act_has ds s t es held (carries a b bytes rest m s' u is read same) single =
       let x = give_single c n b (Inner a) m u (Pops a b ∷ []) ds single in
-      give_has net b (Inner a) m u (Pops a b ∷ []) ds x.0 ((tt, no_output (Pops a b) refl), held x.1.1)
-  act_has net ds s t es held (nods a b bytes rest s' is) single = ((tt, no_output (Pops a b) refl), held single.1)
-  act_has net ds s t es held (hands i bytes s' t' same) single = ((tt, no_output (Hands i bytes) refl), held single.1)
-  act_has net ds s t es held (rises at p s') single = rise_has at p s ds (held (rise_single c n at p s ds single))
-  act_has net ds s t es held (falls at p s') single = fall_has at p s ds (held (fall_single c n at p s ds single))
-  act_has net ds s t es held (says at p o s') single = ((own_none o, says_silent at p o), held single.1)
-  act_has net ds s t es held (clears x s') single = ((tt, no_output (Clears x.lower x.upper) refl), held single.1)
-  act_has net ds s t es held (expires now s') single = ((tt, no_output (Expires now) refl), held single.1)
+      give_has b (Inner a) m u (Pops a b ∷ []) ds x.0 ((tt, no_output (Pops a b) refl), held x.1.1)
+  act_has ds s t es held (nods a b bytes rest s' is) single = ((tt, no_output (Pops a b) refl), held single.1)
+  act_has ds s t es held (hands i bytes s' t' same) single = ((tt, no_output (Hands i bytes) refl), held single.1)
+  act_has ds s t es held (rises at p s') single = rise_has at p s ds (held (rise_single c n at p s ds single))
+  act_has ds s t es held (falls at p s') single = fall_has at p s ds (held (fall_single c n at p s ds single))
+  act_has ds s t es held (says at p o s') single = ((own_none o, says_silent at p o), held single.1)
+  act_has ds s t es held (clears x s') single = ((tt, no_output (Clears x.lower x.upper) refl), held single.1)
+  act_has ds s t es held (expires now s') single = ((tt, no_output (Expires now) refl), held single.1)
 
   solved_says : (d : As) (k : ℕ) (os : List Output) (keys : _) → SaysAbove c (Solves d k os keys)
   solved_says d k os keys p r paths said tells = go (same_as d parent_as) refl said
@@ -373,5 +372,5 @@ module _ (c : Codec) (n : NetworkParts) where
   load_has : (ds : Transcript) (s : Plant) (d : As) (g : Rows) → If ds s → If (Loads d g ∷ ds) (load_new c n d g s).state
   load_has ds s d g held single = ((tt, no_output (Loads d g) refl), held single.1)
 
-  pub run_has : IsNetwork n → (es : List Entry) (s : Plant) → Run c n es s → AreSingle (deeds_of c n es) → Each (HasCause c) (deeds_of c n es)
-  run_has net = run_holds c n If (λ single. tt) (act_has net) (λ ds s d g given held. load_has ds s d g held) solve_has upper_has
+  pub run_has : (es : List Entry) (s : Plant) → Run c n es s → AreSingle (deeds_of c n es) → Each (HasCause c n) (deeds_of c n es)
+  run_has = run_holds c n If (λ single. tt) act_has (λ ds s d g given held. load_has ds s d g held) solve_has upper_has

@@ -24,13 +24,13 @@ use Rattle.plant_model.specs.Settings.{place}
 use Rattle.plant_model.specs.Plant.{Pin, Segment, Plant, Entry, Run, deeds_of}
 use Rattle.plant_laws.specs.About.{IsShort}
 use Rattle.plant_laws.specs.MessageCauses.{Asker, WaitsAt, IsOutOfProfile, OnError, failed_for_nobody, of_reply, out_of_profile, other_error, OnRequest, Part, Fails, alone, failed_by, failed, parts, OnParts, OnMessage}
-use Rattle.plant_laws.specs.Waiting.{GoesOn, WasSentOn}
+use Rattle.plant_laws.specs.Waiting.{WasSentOn}
 use Rattle.plant_laws.proofs.Decompose.{nil_right}
-use Rattle.plant_laws.proofs.EveryWritten.{every_written}
 use Rattle.plant_laws.proofs.Inboxes.{contains}
 use Rattle.plant_laws.proofs.PartCauses.{not_both}
 use Rattle.plant_laws.proofs.Rows as table
 use Rattle.plant_laws.proofs.Subsides.{reports_subs}
+use Rattle.plant_laws.proofs.Unrouted.{goes_inside}
 use Rattle.plant_laws.proofs.Waits.{waits_are_sent}
 
 -- PCErr 8/0 and 4/2 are not out of the profile
@@ -98,14 +98,13 @@ module _ (c : Codec) (codec : IsCodec c) (n : NetworkParts) (net : IsNetwork n) 
 
   module _ (entries : List Entry) (before : Plant) (run : Run c n entries before) (short : IsShort (deeds_of c n entries)) where
     outside_none : (i : ℕ) → Nobody' (Outside i) (before.elements d)
-    outside_none i row there y waits = go sent.goes
+    outside_none i row there y waits = go (goes_inside n net d row.1.item.sequence sent.rest (Outside i) sent.goes)
       where
-        sent : WasSentOn c (deeds_of c n entries) d row (Outside i) y
-        sent = waits_are_sent c codec n net entries before run (every_written c codec n net entries before run short) d row (contains row (before.elements d).pending.rows there) (Outside i) y waits
+        sent : WasSentOn c n (deeds_of c n entries) d row (Outside i) y
+        sent = waits_are_sent c codec n net entries before run d row (contains row (before.elements d).pending.rows there) (Outside i) y waits
 
-        go : GoesOn row.1.item.sequence sent.rest (Outside i) → ⊥
-        go (inl up) = (let clash : Outside i ≡ the_parent = up.2 in cc)
-        go (inr on) = (let clash : Outside i ≡ Inner on.1 = on.5 in cc)
+        go : (z : As) × (Outside i ≡ Inner z) → ⊥
+        go to = (let clash : Outside i ≡ Inner to.0 = to.1 in cc)
 
     -- so nothing is said to its errors
     pub outside_silent : (i : ℕ) (pin : Pin) (reports : List ErrorReport) (os : List Output) → OnMessage c n d pin (Outside i) before.clock (messages.PcErr reports) (before.elements d) os → os ≡ []

@@ -130,7 +130,7 @@ module _ (c : Codec) (codec : IsCodec c) (n : NetworkParts) (net : IsNetwork n) 
   ]
     where
       asked : IsAsked c n put a at (x ∷ [])
-      asked = asked_of_run c codec n es s run written short net put a at (x ∷ []) real within sent
+      asked = asked_of_run c codec n es s run written short put a at (x ∷ []) real within sent
 
       upward : at ≡ parent_as → x ≡ asked_of asked.id asked.wanted asked.wanted.target [] → IsIpv6 at x rp kind value
       upward up same =

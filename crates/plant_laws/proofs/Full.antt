@@ -44,7 +44,7 @@ use Rattle.plant_laws.specs.MessageCauses.{Asker, replied, WaitsAt, WaitsAbove, 
 use Rattle.plant_laws.specs.Sending.{AllSent}
 use Rattle.plant_laws.specs.Solves.{ElementTells, TellsClient, its_path, no_pair, TellsClosed, branches, no_branch, lacks_keys, TellsUpper, found as found_walk, no_walk}
 use Rattle.plant_laws.specs.Transcript.{Transcript, Within, Standing, SentIn, Handed, opened, one_if, count_answers, answers_to, outputs_at}
-use Rattle.plant_laws.specs.Waiting.{GoesOn, WasSentOn}
+use Rattle.plant_laws.specs.Waiting.{WasSentOn}
 use Rattle.plant_laws.proofs.Again.{all_read}
 use Rattle.plant_laws.proofs.Alone.{takes_alone}
 use Rattle.plant_laws.proofs.AskedRuns.{none_outside}
@@ -75,6 +75,7 @@ use Rattle.plant_laws.proofs.Sent.{run_sent}
 use Rattle.plant_laws.proofs.StillOpen.{still_open}
 use Rattle.plant_laws.proofs.Subsides.{notices_subs}
 use Rattle.plant_laws.proofs.Taken.{peer_self}
+use Rattle.plant_laws.proofs.Unrouted.{goes_inside}
 use Rattle.plant_laws.proofs.Waits.{waits_are_sent}
 use Rattle.plant_laws.proofs.WhereWritten.{WrittenNetIds}
 
@@ -369,14 +370,13 @@ module _ (p : Peer) (x flags : ℕ) where
           }))
 
       outside_none : (j : ℕ) → Nobody (Outside j) (before.elements d)
-      outside_none j row there y waits = go sent.goes
+      outside_none j row there y waits = go (goes_inside n net d row.1.item.sequence sent.rest (Outside j) sent.goes)
         where
-          sent : WasSentOn c (deeds_of c n entries) d row (Outside j) y
-          sent = waits_are_sent c codec n net entries before run' (every_written c codec n net entries before run' short') d row (contains row (before.elements d).pending.rows there) (Outside j) y waits
+          sent : WasSentOn c n (deeds_of c n entries) d row (Outside j) y
+          sent = waits_are_sent c codec n net entries before run' d row (contains row (before.elements d).pending.rows there) (Outside j) y waits
 
-          go : GoesOn row.1.item.sequence sent.rest (Outside j) → ⊥
-          go (inl up) = (let clash : Outside j ≡ the_parent = up.2 in cc)
-          go (inr on) = (let clash : Outside j ≡ Inner on.1 = on.5 in cc)
+          go : (z : As) × (Outside j ≡ Inner z) → ⊥
+          go to = (let clash : Outside j ≡ Inner to.0 = to.1 in cc)
 
       nobody_waits : (k : Element Pin Segment) → Nobody q k → (y : ℕ) (w : Asker) → WaitsAt k q y w → ⊥
       nobody_waits k none y w waits = none waits.row (table.in_of waits.row k.pending.rows waits.is_row) y waits.waits
@@ -404,8 +404,8 @@ module _ (p : Peer) (x flags : ℕ) where
           o : (at : Transcript) × (opened c d p x older ≡ Some at)
           o = open_then q ns all within i
 
-          sent : WasSentOn c (deeds_of c n entries) d w.row q y
-          sent = waits_are_sent c codec n net entries before run' (every_written c codec n net entries before run' short') d w.row w.is_row q y w.waits
+          sent : WasSentOn c n (deeds_of c n entries) d w.row q y
+          sent = waits_are_sent c codec n net entries before run' d w.row w.is_row q y w.waits
 
       element_full : (low : same_as d parent_as ≡ false) (pin : Pin) (m : Message) (all : List Output) → Meets c n es s run (Takes d q m all) older before → Within (Takes d q m all ∷ older) now → IsAlone m → Passes c n before event d q m → OnMessage c n d pin q before.clock m (before.elements d) all → In out all → Full (Takes d q m all)
       element_full low pin (messages.PcReq []) all meets within alone' passes on i = nothing all on i

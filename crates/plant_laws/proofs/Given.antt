@@ -13,6 +13,7 @@ use Rattle.pcep_messages.specs.declared.message.Message.TheVariants as messages
 use Rattle.pcep_messages.specs.declared.message.Request.{Request}
 use Rattle.pcep_messages.specs.declared.message.Wanted.{Wanted}
 use Rattle.pcep_messages.specs.declared.message.Wish.TheVariants as wishes
+use Rattle.outside_part.specs.Ranges.{AreInRange}
 use Rattle.path_keys.specs.declared.issued.Issued.{Issued}
 use Rattle.request_table.specs.declared.held.Held.{Held}
 use Rattle.vspt_tree.specs.declared.branch.Branch.{Branch}
@@ -56,7 +57,7 @@ pub record IsReadied (c : Codec) (n : NetworkParts) (now : Transcript) (d : As) 
   pub stays : goes_up (place n d).parent h.1.item.class h.1.item.wanted.sequence ≡ false
   pub at : Transcript
   pub is_open : opened c d h.1.key.peer h.1.key.id now ≡ Some at
-  pub served : IsServed c now d at h.1.item.wanted h.1.item.sequence down
+  pub served : IsServed c n now d at h.1.item.wanted h.1.item.sequence down
 
 -- A solve of an element: the pending request, what its rows are, and what was sent.
 pub record IsSolved (c : Codec) (n : NetworkParts) (older : Transcript) (d : As) (k : ℕ) (os : List Output) (keys : List (Issued Segment)) : Type 0 where
@@ -66,7 +67,7 @@ pub record IsSolved (c : Codec) (n : NetworkParts) (older : Transcript) (d : As)
   pub along : held.item.sequence ≡ sequence_or d held.item.wanted.sequence
   pub stays : goes_up (place n d).parent held.item.class held.item.wanted.sequence ≡ false
   pub down : List Branch
-  pub served : IsServed c older d taken.at held.item.wanted held.item.sequence down
+  pub served : IsServed c n older d taken.at held.item.wanted held.item.sequence down
   pub rows : Answers
   pub right : AreRows held.item.pin.topology (ask c n d (k, held) down) rows
   pub now : ℕ
@@ -157,6 +158,8 @@ pub record Given (c : Codec) (n : NetworkParts) (now : Transcript) : Type 0 wher
   pub ids : (m m' : Transcript) → Within m now → Within m' now → (a b : As) → a ≢ parent_as → (x : ℕ) (w w' : Wanted) (t t' : Addr) (rest rest' : List As) →
       SentIn m a (Inner b) (request_message x w t rest) → SentIn m' a (Inner b) (request_message x w' t' rest') →
       (m ≡ m') × (request_message x w t rest ≡ request_message x w' t' rest')
+  -- the hops that an outside peer's reply tells have numbers of their types
+  pub ranged : (d : As) (i : ℕ) (r : Reply) (os : List Output) (older : Transcript) → Within (Takes d (Outside i) (messages.PcRep (r ∷ [])) os ∷ older) now → AreInRange r.answer
   -- a request to expand a key has the flag of one
   pub expands : (a : Asked) (d : As) (r : Request) (key : ℕ) (pce : Addr) → c.check a d ≡ Admitted r → r.wish ≡ wishes.Expand key pce → bit_and r.flags 256 ≡ 0 → ⊥
   -- the parent: it has no outside peers, and what it answers comes from a solve or is about a key

@@ -29,7 +29,6 @@ use Rattle.plant_laws.specs.Transcript.{Transcript, Within, outputs_at, opened, 
 use Rattle.plant_model.specs.BorderGraph.{Found}
 use Rattle.plant_laws.specs.About.{AreSolved, IsAbout, IsViaParent}
 use Rattle.plant_laws.proofs.ViaParent.{FoundTells, passed_on}
-use Rattle.plant_laws.specs.Ends.{Inside}
 use Rattle.plant_laws.specs.Replies.{IsRightful, AreRightful}
 use Rattle.plant_laws.specs.Headline.{IsOfParent, IsOfChain, HasNoneOfChain}
 use Rattle.plant_laws.proofs.Moments.{no_more}
@@ -62,12 +61,12 @@ module _ (c : Codec) (codec : IsCodec c) (n : NetworkParts) (now : Transcript) (
       said_of = subst (λ (l : List Output). Contains l (record { to = p; message = messages.PcRep (r ∷ []) })) x.sends said
 
       to : x.held.key.peer ≡ p
-      to = goes_to c n d k x.held x.down x.now x.element x.rows.source_known x.rows.target_known one ch.chain (Inside x.held.item.wanted.target) p (messages.PcRep (r ∷ [])) x.rows.best said_of
+      to = goes_to c n d k x.held x.down x.now x.element x.rows.source_known x.rows.target_known one ch.chain ch.end p (messages.PcRep (r ∷ [])) x.rows.best said_of
 
       class : x.held.item.class ≡ class_of n p
       class = x.taken.class ∙ ap (class_of n) to
 
-      about : IsAbout c n older (Solves d k os keys ∷ older) d p x.taken.request x.held.item.wanted (one ∷ ch.chain)
+      about : IsAbout c n older (Solves d k os keys ∷ older) d p x.taken.request x.held.item.wanted (one ∷ ch.chain) ch.end
       about = record {
         at = x.taken.at;
         is_open =
@@ -80,24 +79,27 @@ module _ (c : Codec) (codec : IsCodec c) (n : NetworkParts) (now : Transcript) (
         begins = refl;
         chained = ch.chained;
         solved = subst (λ (q : Peer). AreSolved c q (one ∷ ch.chain)) to ch.ends;
+        behind = ch.behind;
         along = ch.along;
+        ends = ch.reaches;
       }
 
       solve_rightful : is_closed n p ≡ true → IsRightful c n older (Solves d k os keys ∷ older) d p r paths
       solve_rightful closed =
           let upper : is_client x.held.item.class ≡ false = ap is_client class ∙ closed_class n p closed in
-          let done = closes c n d k x.held x.down x.now x.element x.rows.source_known x.rows.target_known one ch.chain (Inside x.held.item.wanted.target) refl x.life p r paths x.rows.best upper ch.ways said_of tells x.has in
+          let done = closes c n d k x.held x.down x.now x.element x.rows.source_known x.rows.target_known one ch.chain ch.end refl x.life p r paths x.rows.best upper ch.ways said_of tells x.has in
           record {
             request = x.taken.request;
             wanted = x.held.item.wanted;
             chain = one ∷ ch.chain;
+            end = ch.end;
             same = x.taken.id ∙ sym done.0.id;
             about = about;
-            right = subst (λ (z : Class). AreRightful c n z (one ∷ ch.chain) (Inside x.held.item.wanted.target) x.held.item.wanted paths) class done.2;
+            right = subst (λ (z : Class). AreRightful c n z (one ∷ ch.chain) ch.end x.held.item.wanted paths) class done.2;
           }
 
-      solve_opens : is_client (class_of n p) ≡ true → IsReplyOf x.held r × (x.held.key.peer ≡ p) × Opens c n d k x.held x.down x.now x.element x.rows.source_known x.rows.target_known one ch.chain (Inside x.held.item.wanted.target) r paths
-      solve_opens client = opens c n d k x.held x.down x.now x.element x.rows.source_known x.rows.target_known one ch.chain (Inside x.held.item.wanted.target) p r paths x.rows.best (ap is_client class ∙ client) ch.ways said_of tells
+      solve_opens : is_client (class_of n p) ≡ true → IsReplyOf x.held r × (x.held.key.peer ≡ p) × Opens c n d k x.held x.down x.now x.element x.rows.source_known x.rows.target_known one ch.chain ch.end r paths
+      solve_opens client = opens c n d k x.held x.down x.now x.element x.rows.source_known x.rows.target_known one ch.chain ch.end p r paths x.rows.best (ap is_client class ∙ client) ch.ways said_of tells
 
     -- what an element tells a closed peer
     pub closed_rightful : (m older : Transcript) → is_closed n p ≡ true → RepliesAlone now m older d p r → IsRightful c n older m d p r paths
@@ -126,9 +128,9 @@ module _ (c : Codec) (codec : IsCodec c) (n : NetworkParts) (now : Transcript) (
       pub is : m ≡ Solves d number outputs keys ∷ older
       pub solved : IsSolved c n older d number outputs keys
       pub chain : Chained c codec n now given d number outputs keys older solved
-      pub about : IsAbout c n older m d p solved.taken.request solved.held.item.wanted (leg c codec n now given d number outputs keys older solved.taken.at ∷ chain.chain)
+      pub about : IsAbout c n older m d p solved.taken.request solved.held.item.wanted (leg c codec n now given d number outputs keys older solved.taken.at ∷ chain.chain) chain.end
       pub same : solved.taken.request.id ≡ r.id
-      pub opens : Opens c n d number solved.held solved.down solved.now solved.element solved.rows.source_known solved.rows.target_known (leg c codec n now given d number outputs keys older solved.taken.at) chain.chain (Inside solved.held.item.wanted.target) r paths
+      pub opens : Opens c n d number solved.held solved.down solved.now solved.element solved.rows.source_known solved.rows.target_known (leg c codec n now given d number outputs keys older solved.taken.at) chain.chain chain.end r paths
 
     pub record FromParent (m older : Transcript) : Type 0 where
       pub found : Option Found
@@ -155,7 +157,7 @@ module _ (c : Codec) (codec : IsCodec c) (n : NetworkParts) (now : Transcript) (
                 is = is;
                 solved = x;
                 chain = ch;
-                about = subst (λ (t : Transcript). IsAbout c n older t d p x.taken.request x.held.item.wanted (leg c codec n now given d o.number o.outputs o.keys older x.taken.at ∷ ch.chain)) (sym is)
+                about = subst (λ (t : Transcript). IsAbout c n older t d p x.taken.request x.held.item.wanted (leg c codec n now given d o.number o.outputs o.keys older x.taken.at ∷ ch.chain) ch.end) (sym is)
                     (about o.number o.outputs o.keys older x ch said');
                 same = x.taken.id ∙ sym opened'.0.id;
                 opens = opened'.2;
@@ -197,12 +199,13 @@ module _ (c : Codec) (codec : IsCodec c) (n : NetworkParts) (now : Transcript) (
       by_found (Some a) via shows = record { found = a; via = via; one = ap (paths_in []) (sym is ∙ shows) }
 
       by_opens : (x : IsOfSolve c codec n now given d (element_answers i r paths (subst (λ (a : Answer). Tells a paths) (sym is) refl) replies) (Outside i) r paths (subst (λ (a : Answer). Tells a paths) (sym is) refl) m older) →
-          Opens c n d x.number x.solved.held x.solved.down x.solved.now x.solved.element x.solved.rows.source_known x.solved.rows.target_known (leg c codec n now given d x.number x.outputs x.keys older x.solved.taken.at) x.chain.chain (Inside x.solved.held.item.wanted.target) r paths →
+          Opens c n d x.number x.solved.held x.solved.down x.solved.now x.solved.element x.solved.rows.source_known x.solved.rows.target_known (leg c codec n now given d x.number x.outputs x.keys older x.solved.taken.at) x.chain.chain x.chain.end r paths →
           IsOfChain c n older m d i r paths
       by_opens x (inl path) = record {
         request = x.solved.taken.request;
         wanted = x.solved.held.item.wanted;
         chain = leg c codec n now given d x.number x.outputs x.keys older x.solved.taken.at ∷ x.chain.chain;
+        end = x.chain.end;
         same = x.same;
         about = x.about;
         path = path.0;
@@ -226,13 +229,14 @@ module _ (c : Codec) (codec : IsCodec c) (n : NetworkParts) (now : Transcript) (
       by_found (Some a) via shows = absurd (apart (sym (ap has_paths (sym is ∙ shows))))
 
       by_opens : (x : IsOfSolve c codec n now given d (element_answers i r [] (subst (λ (a : Answer). Tells a []) (sym is) (refl, refl)) replies) (Outside i) r [] (subst (λ (a : Answer). Tells a []) (sym is) (refl, refl)) m older) →
-          Opens c n d x.number x.solved.held x.solved.down x.solved.now x.solved.element x.solved.rows.source_known x.solved.rows.target_known (leg c codec n now given d x.number x.outputs x.keys older x.solved.taken.at) x.chain.chain (Inside x.solved.held.item.wanted.target) r [] →
+          Opens c n d x.number x.solved.held x.solved.down x.solved.now x.solved.element x.solved.rows.source_known x.solved.rows.target_known (leg c codec n now given d x.number x.outputs x.keys older x.solved.taken.at) x.chain.chain x.chain.end r [] →
           HasNoneOfChain c n older m d i r
       by_opens x (inl path) = absurd (apart (sym path.2 ∙ ap has_paths is))
       by_opens x (inr none) = record {
         request = x.solved.taken.request;
         wanted = x.solved.held.item.wanted;
         chain = leg c codec n now given d x.number x.outputs x.keys older x.solved.taken.at ∷ x.chain.chain;
+        end = x.chain.end;
         same = x.same;
         about = x.about;
         none = none.2;

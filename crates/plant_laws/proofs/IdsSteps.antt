@@ -52,10 +52,9 @@ use Rattle.plant_laws.proofs.Asks.{Asks}
 use Rattle.plant_laws.proofs.Alive.{IsSound}
 use Rattle.plant_laws.proofs.Decode.{Rising, rising_none, same_request}
 use Rattle.plant_laws.proofs.Onward.{SendsOne, IsCalm, take_sends, way_peer}
-use Rattle.plant_laws.proofs.Unrouted.{to_element}
 use Rattle.plant_laws.proofs.OnwardUpper as above
 use Rattle.plant_laws.proofs.Errands.{Last, HasWay, HaveWays, IsBelow, asked_well}
-use Rattle.plant_laws.proofs.SentOnAsks.{IsGood, good_none, sound_deed, goes_asks, ask_along, one_rises, fresh_next}
+use Rattle.plant_laws.proofs.SentOnAsks.{IsGood, good_none, sound_deed, goes_asks, ask_along, one_rises, outside_rises, fresh_next}
 use Rattle.plant_laws.proofs.Ids.{Ids, element_ids, parent_ids}
 
 as_self : (d : As) → same_as d d ≡ true
@@ -221,8 +220,11 @@ module _ (c : Codec) (n : NetworkParts) (codec : IsCodec c) (p : Peer) (m : Mess
         (ids.waits at z id (tail_of h.1.item.sequence)
         (subst (λ (x : Bool). cond x (ParentWaits K z id (tail_of h.1.item.sequence)) (ElementWaits (E at) z id (tail_of h.1.item.sequence))) (sym real) (h.1.item.sequence, (h, i, is, refl), refl)))
 
-    pub element_given : IsNetwork n → IsShort (Takes at p m After.outputs ∷ ds) → Ids low (Takes at p m After.outputs ∷ ds) (set_as at After.element E) K × IsSound c (Takes at p m After.outputs)
-    element_given net short = go (take_sends Pin Segment c open_of (place n at) pin p (class_of n p) now (E at) (to_element n net at) m one)
+    abbrev Given : Type 0
+    Given = Ids low (Takes at p m After.outputs ∷ ds) (set_as at After.element E) K × IsSound c (Takes at p m After.outputs)
+
+    pub element_given : IsShort (Takes at p m After.outputs ∷ ds) → Given
+    element_given short = go (take_sends Pin Segment c open_of (place n at) pin p (class_of n p) now (E at) m one)
       where
         own_short : (b : As) → Last (E at).ways b + count_asks (put_into b After.outputs) ≤ 4294967295
         own_short b =
@@ -233,7 +235,50 @@ module _ (c : Codec) (n : NetworkParts) (codec : IsCodec c) (p : Peer) (m : Mess
             let v : Last (E at).ways b ≤ asks at b ds = subst (λ (x : Bool). cond x (Last K.ways b) (Last (E at).ways b) ≤ asks at b ds) real (ids.short at b) in
             omega arith
 
-        go : IsCalm Pin Segment (E at) After ⊎ SendsOne Pin Segment c open_of (place n at) pin p (class_of n p) now (E at) After → Ids low (Takes at p m After.outputs ∷ ds) (set_as at After.element E) K × IsSound c (Takes at p m After.outputs)
+        -- what is sent is one request
+        given_by : (sends : SendsOne Pin Segment c open_of (place n at) pin p (class_of n p) now (E at) After) →
+            (let y = fresh_id sends.way.peer sends.way.last_id (E at).pending.rows in
+            let out : Output = record { to = sends.way.peer; message = request_message y sends.wanted sends.wanted.target sends.rest } in
+            ((b : As) → Rising (put_into b (out ∷ [])) (Last (E at).ways b) (Last (with_last sends.way.peer y (E at).ways) b) × (Last (with_last sends.way.peer y (E at).ways) b ≤ Last (E at).ways b + count_asks (put_into b (out ∷ [])))) →
+            IsGood c out → Given)
+        given_by sends rises good = (
+          element_ids low (Takes at p m After.outputs) ds E K (λ a b xs. refl) ids at real After (λ a. refl) named_at
+              (λ b. subst (λ (ws : List Way). Rising (put_into b After.outputs) (Last (E at).ways b) (Last ws b) × (Last ws b ≤ Last (E at).ways b + count_asks (put_into b After.outputs))) (sym sends.ways)
+              (subst (λ (os : List Output). Rising (put_into b os) (Last (E at).ways b) (Last (with_last sends.way.peer (fresh_id sends.way.peer sends.way.last_id (E at).pending.rows) (E at).ways) b)
+              × (Last (with_last sends.way.peer (fresh_id sends.way.peer sends.way.last_id (E at).pending.rows) (E at).ways) b ≤ Last (E at).ways b + count_asks (put_into b os))) (sym sends.outs)
+              (rises b)))
+              old_waits,
+          sound_deed c at After.outputs (Takes at p m After.outputs) (λ a. refl) (λ o i. only o (subst (λ (os : List Output). In o os) sends.outs i)),
+        )
+          where
+            only : (o : Output) → In o (record { to = sends.way.peer; message = request_message (fresh_id sends.way.peer sends.way.last_id (E at).pending.rows) sends.wanted sends.wanted.target sends.rest } ∷ []) → IsGood c o
+            only o (inl same) = subst (λ (x : Output). IsGood c x) (sym same) good
+            only o (inr none) = absurd none
+
+        sent : (sends : SendsOne Pin Segment c open_of (place n at) pin p (class_of n p) now (E at) After) (to : Peer) → sends.to ≡ to → Given
+        sent sends (Outside i) is =
+            let peer : sends.way.peer ≡ Outside i = way_peer sends.to (E at).ways sends.way sends.found ∙ is in
+            given_by sends
+            (λ b. outside_rises sends.way.peer i (E at).ways (fresh_id sends.way.peer sends.way.last_id (E at).pending.rows) sends.wanted sends.wanted.target sends.rest peer b)
+            (λ b to ask. absurd (let clash : Outside i ≡ Inner b = sym peer ∙ to in cc))
+        sent sends (Inner z) is =
+            let y = fresh_id sends.way.peer sends.way.last_id (E at).pending.rows in
+            let out : Output = record { to = sends.way.peer; message = request_message y sends.wanted sends.wanted.target sends.rest } in
+            let found : way_to (Inner z) (E at).ways ≡ Some sends.way = subst (λ (q : Peer). way_to q (E at).ways ≡ Some sends.way) is sends.found in
+            let peer : sends.way.peer ≡ Inner z = way_peer (Inner z) (E at).ways sends.way found in
+            let counted : count_asks (put_into z (out ∷ [])) ≡ 1 = one_counted z sends.way.peer y sends.wanted sends.wanted.target sends.rest peer in
+            let room = own_short z in
+            let room' : Last (E at).ways z + count_asks (put_into z (out ∷ [])) ≤ 4294967295 = subst (λ (os : List Output). Last (E at).ways z + count_asks (put_into z os) ≤ 4294967295) sends.outs room in
+            let less : Last (E at).ways z < 4294967295 = omega (arith, counted, room') in
+            let next : y ≡ suc (Last (E at).ways z) = fresh_next z (E at).ways sends.way (E at).pending.rows found less (waits_below z) in
+            let asks' = goes_asks c codec sends.asked (place n at).own (place n at).routes sends.flags sends.id sends.wanted sends.admitted sends.to sends.rest sends.goes z is y (omega (arith, next)) (omega (arith, next, less)) in
+            given_by sends (λ b. one_rises sends.way.peer z (E at).ways sends.way y sends.wanted sends.wanted.target sends.rest found next peer b)
+            (λ b to ask.
+            let peers : Inner z ≡ Inner b = sym peer ∙ to in
+            let at' : z ≡ b = cc in
+            (y, sends.wanted, sends.wanted.target, sends.rest, refl, subst (λ (x : As). Asks c out.message x y sends.rest) at' asks'))
+
+        go : IsCalm Pin Segment (E at) After ⊎ SendsOne Pin Segment c open_of (place n at) pin p (class_of n p) now (E at) After → Given
         go (inl calm) = (
           element_ids low (Takes at p m After.outputs) ds E K (λ a b xs. refl) ids at real After (λ a. refl) named_at
               (λ b. subst (λ (ws : List Way). Rising (put_into b After.outputs) (Last (E at).ways b) (Last ws b) × (Last ws b ≤ Last (E at).ways b + count_asks (put_into b After.outputs))) (sym calm.ways)
@@ -241,36 +286,7 @@ module _ (c : Codec) (n : NetworkParts) (codec : IsCodec c) (p : Peer) (m : Mess
               old_waits,
           sound_deed c at After.outputs (Takes at p m After.outputs) (λ a. refl) (good_none c After.outputs calm.none),
         )
-        go (inr sends) =
-            let y = fresh_id sends.way.peer sends.way.last_id (E at).pending.rows in
-            let out : Output = record { to = sends.way.peer; message = request_message y sends.wanted sends.wanted.target sends.rest } in
-            let where' = goes_asks c codec sends.asked (place n at).own sends.flags sends.id sends.wanted sends.admitted sends.to sends.rest sends.goes 1 (omega arith) (omega arith) in
-            let z = where'.0 in
-            let found : way_to (Inner z) (E at).ways ≡ Some sends.way = subst (λ (q : Peer). way_to q (E at).ways ≡ Some sends.way) where'.1 sends.found in
-            let peer : sends.way.peer ≡ Inner z = way_peer (Inner z) (E at).ways sends.way found in
-            let counted : count_asks (put_into z (out ∷ [])) ≡ 1 = one_counted z sends.way.peer y sends.wanted sends.wanted.target sends.rest peer in
-            let room = own_short z in
-            let room' : Last (E at).ways z + count_asks (put_into z (out ∷ [])) ≤ 4294967295 = subst (λ (os : List Output). Last (E at).ways z + count_asks (put_into z os) ≤ 4294967295) sends.outs room in
-            let less : Last (E at).ways z < 4294967295 = omega (arith, counted, room') in
-            let next : y ≡ suc (Last (E at).ways z) = fresh_next z (E at).ways sends.way (E at).pending.rows found less (waits_below z) in
-            let asks' = goes_asks c codec sends.asked (place n at).own sends.flags sends.id sends.wanted sends.admitted sends.to sends.rest sends.goes y (omega (arith, next)) (omega (arith, next, less)) in (
-              element_ids low (Takes at p m After.outputs) ds E K (λ a b xs. refl) ids at real After (λ a. refl) named_at
-                  (λ b. subst (λ (ws : List Way). Rising (put_into b After.outputs) (Last (E at).ways b) (Last ws b) × (Last ws b ≤ Last (E at).ways b + count_asks (put_into b After.outputs))) (sym sends.ways)
-                  (subst (λ (os : List Output). Rising (put_into b os) (Last (E at).ways b) (Last (with_last sends.way.peer y (E at).ways) b)
-                  × (Last (with_last sends.way.peer y (E at).ways) b ≤ Last (E at).ways b + count_asks (put_into b os))) (sym sends.outs)
-                  (one_rises sends.way.peer z (E at).ways sends.way y sends.wanted sends.wanted.target sends.rest found next peer b)))
-                  old_waits,
-              sound_deed c at After.outputs (Takes at p m After.outputs) (λ a. refl)
-                  (λ o i. good o out (subst (λ (os : List Output). In o os) sends.outs i) asks'.0 y sends.wanted sends.wanted.target sends.rest (way_peer sends.to (E at).ways sends.way sends.found ∙ asks'.1) asks'.2 refl),
-            )
-          where
-            good : (o out : Output) → In o (out ∷ []) → (z : As) (y : ℕ) (w : Wanted) (t : Addr) (l : List As) → out.to ≡ Inner z → Asks c (request_message y w t l) z y l → out.message ≡ request_message y w t l → IsGood c o
-            good o out (inl same) z y w t l to asks' is = λ b to' ask.
-                let message : o.message ≡ request_message y w t l = ap (λ (x : Output). x.message) same ∙ is in
-                let peers : Inner z ≡ Inner b = sym to ∙ sym (ap (λ (x : Output). x.to) same) ∙ to' in
-                let at' : z ≡ b = cc in
-                (y, w, t, l, message, subst (λ (m' : Message). Asks c m' b y l) (sym message) (subst (λ (x : As). Asks c (request_message y w t l) x y l) at' asks'))
-            good o out (inr none) z y w t l to asks' is = absurd none
+        go (inr sends) = sent sends sends.to refl
 
   module _ (net : IsNetwork n) (are : ArePending K.pending) (kids : AreKids K) (new : IsNewId parent_as) where
     abbrev AfterUp : parent.Given

@@ -159,7 +159,7 @@ module _ (c : Codec) (n : NetworkParts) (codec : IsCodec c) (net : IsNetwork n) 
       (record { state = puts Pin Segment c n open_of at t.outputs v; deeds = Takes at p m t.outputs ∷ es })
       (λ up. upward (same_as_is at parent_as up))
       (λ low' prem.
-      let g = element_given c n codec p m prem.2.0 k.low (es ++ ds) s.elements s.parent k.ids at low' (are at) new (s.current at) s.clock net prem.3 in
+      let g = element_given c n codec p m prem.2.0 k.low (es ++ ds) s.elements s.parent k.ids at low' (are at) new (s.current at) s.clock prem.3 in
       known_state (Takes at p m t.outputs ∷ (es ++ ds)) k.low (set_as at t.element s.elements) s.parent (puts Pin Segment c n open_of at t.outputs v) (puts_elements c n at t.outputs v) (puts_parent c n at t.outputs v) g.0 k.kids (g.1, k.sound))
     where
       upward : at ≡ parent_as → (let r = parent.take c (family n) p m s.parent in

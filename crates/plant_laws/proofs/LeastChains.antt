@@ -1,5 +1,5 @@
 -- Each solve of an element has a chain, along which its best rows stand for least walks: one induction over the moments of a run.
-use Rattle.std.proofs.Common.{◌≡◌, ◌≢◌, ◌≤◌, ◌<◌, ◌^◌, ℕ, zero, suc, Bool, true, false, cond, List, [], ◌∷◌, length, sym, ◌∙◌, ap, subst, inl, inr, refl, arith}
+use Rattle.std.proofs.Common.{◌≡◌, ◌≢◌, ◌≤◌, ◌<◌, ◌^◌, ℕ, zero, suc, Bool, true, false, cond, List, [], ◌∷◌, ◌++◌, ◌⊎◌, length, sym, ◌∙◌, ap, subst, inl, inr, refl, arith}
 use Rattle.std.specs.Prelude.{Contains, Some}
 use Rattle.std.specs.declared.option.Option.{Option}
 use Rattle.std.proofs.lemmas.Bool.{eq-eqb}
@@ -7,7 +7,7 @@ use Rattle.dom_base.specs.declared.limits.TheConstants.{COST_MAX}
 use Rattle.dom_base.specs.declared.addr.Addr.{Addr}
 use Rattle.dom_base.specs.declared.names.As.{As}
 use Rattle.dom_base.specs.declared.names.Peer.{Peer}
-use Rattle.dom_base.specs.declared.names.Peer.TheVariants.{Inner}
+use Rattle.dom_base.specs.declared.names.Peer.TheVariants.{Inner, Outside}
 use Rattle.te_links.specs.Rows.{Rows, IsInOrder}
 use Rattle.pcep_messages.specs.declared.message.Asked.{Asked}
 use Rattle.pcep_messages.specs.declared.message.Path.{Path}
@@ -33,12 +33,14 @@ use Rattle.plant_model.specs.Taking.{sequence_or, goes_up}
 use Rattle.plant_model.specs.Solving.{commit}
 use Rattle.plant_text.specs.Settings.{class_of}
 use Rattle.plant_model.specs.Settings.{place}
+use Rattle.plant_model.specs.declared.route.Route.{Route}
+use Rattle.plant_model.specs.Routes.{toward}
 use Rattle.plant_model.specs.Jobs.{ask_of, entries_of}
 use Rattle.plant_model.specs.State.{Pops, Takes, Solves}
 use Rattle.plant_model.specs.Plant.{Pin, Segment, PlantDeed}
 use Rattle.plant_model.specs.Laws.{IsCodec, Admits}
 use Rattle.plant_laws.specs.Transcript.{Transcript, Within, Standing, outputs_at, SentIn, Handed, Delivered, Leg, Chain, numbers, pinned, domains, Keeps, ends_if, answers_to}
-use Rattle.plant_laws.specs.Ends.{End, Inside, goal_of}
+use Rattle.plant_laws.specs.Ends.{End, Inside, Asked as AskedFor, goal_of, ChainEnds}
 use Rattle.plant_laws.specs.About.{IsSolvedFor, AreSolved, IsLeastPath}
 use Rattle.plant_laws.specs.Replies.{AreRightful}
 use Rattle.border_costs.proofs.Members.{contains_head}
@@ -48,7 +50,7 @@ use Rattle.plant_laws.proofs.Moments.{within_here, within_trans, within_length, 
 use Rattle.plant_laws.proofs.OwnFree.{crossing_free, along_free, none_free, shows_free}
 use Rattle.plant_laws.proofs.Told.{apart, entry_of_node, node_of_entry, IsTold}
 use Rattle.plant_laws.proofs.Given.{Given, IsSolved, OfKey, OfParent}
-use Rattle.plant_laws.proofs.AllWays.{AreWays, end_ways, on_ways}
+use Rattle.plant_laws.proofs.AllWays.{AreWays, end_ways, over_ways, on_ways}
 use Rattle.plant_laws.proofs.ClosedReplies.{IsReplyOf, closes, goes_to}
 use Rattle.plant_laws.proofs.FromElement.{within_tail, same_request, same_wanted, no_expansion, same_asked, admits_path, own_sequence, real_next, on_wanted, IsFrom, from_inner, delivered_from, next_admits, IsAlong, sent_along}
 use Rattle.plant_laws.specs.Certified.{IsAnswered, IsServed}
@@ -75,6 +77,40 @@ told_of c n d w b rest next chain end paths right = record {
     | inr known ↦ inr (known.0, known.1, same_path c n (next ∷ chain) end w b rest e known.0 known.2)
   ];
 }
+
+-- a chain of the next element's request ends as one of the request before it
+same_end : (c : Codec) (n : NetworkParts) (w : Wanted) (b : As) (rest behind : List As) (chain : List Leg) (end : End) → ChainEnds c n (on_wanted w b rest) behind chain end → ChainEnds c n w behind chain end
+same_end c n w b rest behind [] end e = e
+same_end c n w b rest behind (one ∷ []) (Inside t) e = e
+same_end c n w b rest behind (one ∷ []) (AskedFor next told) e = record {
+  peer = e.peer;
+  route = e.route;
+  rest = e.rest;
+  is_behind = e.is_behind;
+  answered = record {
+    id = e.answered.id;
+    sent = e.answered.sent;
+    reply = e.answered.reply;
+    outputs = e.answered.outputs;
+    before = e.answered.before;
+    within = e.answered.within;
+    same = e.answered.same;
+    heeded = e.answered.heeded;
+    paths = e.answered.paths;
+    tells = e.answered.tells;
+    is = e.answered.is;
+  };
+}
+same_end c n w b rest behind (one ∷ next ∷ more) end e = same_end c n w b rest behind (next ∷ more) end e
+
+-- requests for a domain go to its own element or to an outside peer
+pub toward_is : (b : As) (routes : List Route) → (toward b routes ≡ Inner b) ⊎ ((i : ℕ) × (toward b routes ≡ Outside i))
+toward_is b [] = inl refl
+toward_is b (r ∷ rs) = go (same_as r.next b) (toward_is b rs)
+  where
+    go : (x : Bool) → (toward b rs ≡ Inner b) ⊎ ((i : ℕ) × (toward b rs ≡ Outside i)) → (cond x (Outside r.peer) (toward b rs) ≡ Inner b) ⊎ ((i : ℕ) × (cond x (Outside r.peer) (toward b rs) ≡ Outside i))
+    go true more = inr (r.peer, refl)
+    go false more = more
 
 pub admitted_at : (c : Codec) (at : Transcript) (d : As) (p : Peer) (r : Request) → Delivered c at d p r → (a : Asked) × (c.check a d ≡ Admitted r)
 admitted_at c [] d p r h = absurd h
@@ -119,8 +155,11 @@ module _ (c : Codec) (codec : IsCodec c) (n : NetworkParts) (now : Transcript) (
     pub chain : List Leg
     pub chained : Chain (Solves d k os keys ∷ older) (leg d k os keys older x.taken.at ∷ chain)
     pub ends : AreSolved c x.held.key.peer (leg d k os keys older x.taken.at ∷ chain)
-    pub along : numbers (leg d k os keys older x.taken.at ∷ chain) ≡ sequence_or d x.held.item.wanted.sequence
-    pub ways : AreWays n x.held.item.wanted (Inside x.held.item.wanted.target) (leg d k os keys older x.taken.at) chain x.down (entries_of x.held.item.class x.held.item.wanted.source (pinned d x.taken.at)) x.rows.best
+    pub behind : List As
+    pub along : numbers (leg d k os keys older x.taken.at ∷ chain) ++ behind ≡ sequence_or d x.held.item.wanted.sequence
+    pub end : End
+    pub reaches : ChainEnds c n x.held.item.wanted behind (leg d k os keys older x.taken.at ∷ chain) end
+    pub ways : AreWays n x.held.item.wanted end (leg d k os keys older x.taken.at) chain x.down (entries_of x.held.item.class x.held.item.wanted.source (pinned d x.taken.at)) x.rows.best
 
   -- what lies beyond, told by the next element
   pub record IsBeyond (d : As) (at : Transcript) (w : Wanted) (b : As) (rest : List As) (older : Transcript) (paths : List Path) : Type 0 where
@@ -130,8 +169,11 @@ module _ (c : Codec) (codec : IsCodec c) (n : NetworkParts) (now : Transcript) (
     pub handed : Handed d b at at_next
     pub chained : Chain older (record { own = b; at = at_next; solved = solved } ∷ chain)
     pub ends : AreSolved c (Inner d) (record { own = b; at = at_next; solved = solved } ∷ chain)
-    pub along : numbers (record { own = b; at = at_next; solved = solved } ∷ chain) ≡ b ∷ rest
-    pub told : IsTold c n d (record { own = b; at = at_next; solved = solved }) chain (Inside w.target) w paths
+    pub behind : List As
+    pub along : numbers (record { own = b; at = at_next; solved = solved } ∷ chain) ++ behind ≡ b ∷ rest
+    pub end : End
+    pub reaches : ChainEnds c n w behind (record { own = b; at = at_next; solved = solved } ∷ chain) end
+    pub told : IsTold c n d (record { own = b; at = at_next; solved = solved }) chain end w paths
 
   -- a solve and the request of it
   module _ (d : As) (real : d ≢ parent_as) (k : ℕ) (os : List Output) (keys : List (Issued Segment)) (older : Transcript) (before : Within older now) (x : Solved d k os keys older) where
@@ -177,32 +219,68 @@ module _ (c : Codec) (codec : IsCodec c) (n : NetworkParts) (now : Transcript) (
     chained_end : sequence_or d w.sequence ≡ d ∷ [] → Chained d k os keys older x
     chained_end is =
         let sequence : x.held.item.sequence ≡ d ∷ [] = x.along ∙ is in
-        let none : x.down ≡ [] = subst (λ (l : List As). IsServed c older d at w l x.down) sequence x.served in
+        let none : x.down ≡ [] = subst (λ (l : List As). IsServed c n older d at w l x.down) sequence x.served in
         let rows = subst (λ (l : List Branch). AreRows (pinned d at) (ask_of d k x.held.item l x.held.item.pin.number (pinned d at)) x.rows) none rows_over in
         let ways = end_ways n d k x.held.item one x.held.item.pin.number x.rows own home d sequence rows in
         record {
           chain = [];
           chained = (inr at_within, inl refl);
           ends = (solved_for d k os keys older x, tt);
+          behind = [];
           along = sym is;
+          end = Inside w.target;
+          reaches = (refl, refl);
           ways = subst (λ (l : List Branch). AreWays n w (Inside w.target) one [] l entries x.rows.best) (sym none) ways;
         }
 
-    chained_on : (b : As) (rest : List As) → sequence_or d w.sequence ≡ d ∷ b ∷ rest → (answered : IsAnswered c older d at w b rest x.down) → IsBeyond d at w b rest older answered.paths → Chained d k os keys older x
+    -- over what an outside peer told: nothing is asked of the run
+    chained_out : (b : As) (rest : List As) → sequence_or d w.sequence ≡ d ∷ b ∷ rest → (i : ℕ) → toward b (place n d).routes ≡ Outside i → IsAnswered c older d at w (Outside i) b rest x.down → Chained d k os keys older x
+    chained_out b rest is i route answered =
+        let sequence : x.held.item.sequence ≡ d ∷ b ∷ rest = x.along ∙ is in
+        let order = subst (λ (g : Rows). IsInOrder g) x.taken.pin x.domain.order in
+        let solved = Solves d k os keys ∷ older in
+        let later : IsAnswered c solved d at w (Outside i) b rest x.down = record {
+          id = answered.id;
+          sent = answered.sent;
+          reply = answered.reply;
+          outputs = answered.outputs;
+          before = answered.before;
+          within = inr answered.within;
+          same = answered.same;
+          heeded = answered.heeded;
+          paths = answered.paths;
+          tells = answered.tells;
+          is = answered.is;
+        } in
+        record {
+          chain = [];
+          chained = (inr at_within, inl refl);
+          ends = (solved_for d k os keys older x, tt);
+          behind = b ∷ rest;
+          along = sym is;
+          end = AskedFor b x.down;
+          reaches = record { peer = i; route = route; rest = rest; is_behind = refl; answered = later };
+          ways = over_ways n d k x.held.item one x.held.item.pin.number x.rows own home b rest x.down sequence order rows_over;
+        }
+
+    chained_on : (b : As) (rest : List As) → sequence_or d w.sequence ≡ d ∷ b ∷ rest → (answered : IsAnswered c older d at w (Inner b) b rest x.down) → IsBeyond d at w b rest older answered.paths → Chained d k os keys older x
     chained_on b rest is answered beyond =
         let sequence : x.held.item.sequence ≡ d ∷ b ∷ rest = x.along ∙ is in
         let next : Leg = record { own = b; at = beyond.at_next; solved = beyond.solved } in
         let rows = subst (λ (l : List Branch). AreRows (pinned d at) (ask_of d k x.held.item l x.held.item.pin.number (pinned d at)) x.rows) answered.is rows_over in
         let order = subst (λ (g : Rows). IsInOrder g) x.taken.pin x.domain.order in
         let next_within = chain_first next beyond.chain older beyond.chained in
-        let ways = on_ways n d k x.held.item one x.held.item.pin.number x.rows own home c codec next beyond.chain (Inside w.target) rest sequence small order here
+        let ways = on_ways n d k x.held.item one x.held.item.pin.number x.rows own home c codec next beyond.chain beyond.end rest sequence small order here
         (given.owns b beyond.at_next (within_trans beyond.at_next older now next_within before)) answered.paths beyond.told rows in
         record {
           chain = next ∷ beyond.chain;
           chained = (inr at_within, inl refl, beyond.handed, chain_later (next ∷ beyond.chain) older (Solves d k os keys ∷ older) (inr (within_here older)) beyond.chained);
           ends = (solved_for d k os keys older x, beyond.ends);
+          behind = beyond.behind;
           along = ap (λ (l : List As). d ∷ l) beyond.along ∙ sym is;
-          ways = subst (λ (l : List Branch). AreWays n w (Inside w.target) one (next ∷ beyond.chain) l entries x.rows.best) (sym answered.is) ways;
+          end = beyond.end;
+          reaches = beyond.reaches;
+          ways = subst (λ (l : List Branch). AreWays n w beyond.end one (next ∷ beyond.chain) l entries x.rows.best) (sym answered.is) ways;
         }
       where
         chain_first : (first : Leg) (chain : List Leg) (m : Transcript) → Chain m (first ∷ chain) → Within first.at m
@@ -210,7 +288,7 @@ module _ (c : Codec) (codec : IsCodec c) (n : NetworkParts) (now : Transcript) (
         chain_first first (next ∷ rest) m h = h.0
 
     -- what the next element told, by its own solve
-    module _ (b : As) (rest : List As) (is : sequence_or d w.sequence ≡ d ∷ b ∷ rest) (upper : b ≢ parent_as) (answered : IsAnswered c older d at w b rest x.down) where
+    module _ (b : As) (rest : List As) (is : sequence_or d w.sequence ≡ d ∷ b ∷ rest) (upper : b ≢ parent_as) (answered : IsAnswered c older d at w (Inner b) b rest x.down) where
       abbrev Told : Type 0
       Told = IsBeyond d at w b rest older answered.paths
 
@@ -249,15 +327,15 @@ module _ (c : Codec) (codec : IsCodec c) (n : NetworkParts) (now : Transcript) (
         said_here = subst (λ (l : List Output). Contains l (record { to = Inner d; message = messages.PcRep (answered.reply ∷ []) })) y.sends said
 
         to_here : y.held.key.peer ≡ Inner d
-        to_here = goes_to c n b k' y.held y.down y.now y.element y.rows.source_known y.rows.target_known (leg b k' os' keys' older' y.taken.at) ch.chain (Inside y.held.item.wanted.target) (Inner d) (messages.PcRep (answered.reply ∷ [])) y.rows.best said_here
+        to_here = goes_to c n b k' y.held y.down y.now y.element y.rows.source_known y.rows.target_known (leg b k' os' keys' older' y.taken.at) ch.chain ch.end (Inner d) (messages.PcRep (answered.reply ∷ [])) y.rows.best said_here
 
         class_here : y.held.item.class ≡ Neighbour d
         class_here = y.taken.class ∙ ap (class_of n) to_here ∙ class_inner n d real
 
         closes_here : IsReplyOf y.held answered.reply × (y.held.key.peer ≡ Inner d)
-            × AreRightful c n y.held.item.class (leg b k' os' keys' older' y.taken.at ∷ ch.chain) (Inside y.held.item.wanted.target) y.held.item.wanted answered.paths
+            × AreRightful c n y.held.item.class (leg b k' os' keys' older' y.taken.at ∷ ch.chain) ch.end y.held.item.wanted answered.paths
         closes_here =
-            closes c n b k' y.held y.down y.now y.element y.rows.source_known y.rows.target_known (leg b k' os' keys' older' y.taken.at) ch.chain (Inside y.held.item.wanted.target) refl y.life (Inner d) answered.reply answered.paths y.rows.best
+            closes c n b k' y.held y.down y.now y.element y.rows.source_known y.rows.target_known (leg b k' os' keys' older' y.taken.at) ch.chain ch.end refl y.life (Inner d) answered.reply answered.paths y.rows.best
             (ap is_client class_here) ch.ways said_here answered.tells y.has
 
         told_by_solve : Told
@@ -276,8 +354,8 @@ module _ (c : Codec) (codec : IsCodec c) (n : NetworkParts) (now : Transcript) (
             let request = same_request y.taken.request (record { flags = vspt_flag; id = answered.id; wish = wishes.Path (on_wanted w b rest) }) (sym from.1 ∙ same.admits) in
             let wanted : y.held.item.wanted ≡ on_wanted w b rest = same_wanted y.held.item.wanted (on_wanted w b rest) (sym y.taken.wanted ∙ ap (λ (r : Request). r.wish) request) in
             let chain : List Leg = leg b k' os' keys' older' at' ∷ ch.chain in
-            let right : AreRightful c n (Neighbour d) chain (Inside w.target) (on_wanted w b rest) answered.paths =
-            subst (λ (v : Wanted). AreRightful c n (Neighbour d) chain (Inside v.target) v answered.paths) wanted (subst (λ (z : Class). AreRightful c n z chain (Inside y.held.item.wanted.target) y.held.item.wanted answered.paths) class_here closes_here.2) in
+            let right : AreRightful c n (Neighbour d) chain ch.end (on_wanted w b rest) answered.paths =
+            subst (λ (v : Wanted). AreRightful c n (Neighbour d) chain ch.end v answered.paths) wanted (subst (λ (z : Class). AreRightful c n z chain ch.end y.held.item.wanted answered.paths) class_here closes_here.2) in
             record {
               at_next = at';
               solved = Solves b k' os' keys' ∷ older';
@@ -285,8 +363,11 @@ module _ (c : Codec) (codec : IsCodec c) (n : NetworkParts) (now : Transcript) (
               handed = same.handed;
               chained = chain_later chain (Solves b k' os' keys' ∷ older') older inside ch.chained;
               ends = subst (λ (p : Peer). AreSolved c p chain) to_here ch.ends;
+              behind = ch.behind;
               along = ch.along ∙ ap (λ (v : Wanted). sequence_or b v.sequence) wanted;
-              told = told_of c n d w b rest (leg b k' os' keys' older' at') ch.chain (Inside w.target) answered.paths right;
+              end = ch.end;
+              reaches = same_end c n w b rest ch.behind chain ch.end (subst (λ (v : Wanted). ChainEnds c n v ch.behind chain ch.end) wanted ch.reaches);
+              told = told_of c n d w b rest (leg b k' os' keys' older' at') ch.chain ch.end answered.paths right;
             }
 
       -- it was no expansion of a key, and not passed on from the parent
@@ -345,8 +426,15 @@ module _ (c : Codec) (codec : IsCodec c) (n : NetworkParts) (now : Transcript) (
             let b = long.0 in
             let rest = long.1 in
             let upper = real_next d b rest long.3 in
-            let answered : IsAnswered c older d x.taken.at x.held.item.wanted b rest x.down = subst (λ (l : List As). IsServed c older d x.taken.at x.held.item.wanted l x.down) (x.along ∙ long.2) x.served in
-            chained_on d real k os keys older before x b rest long.2 answered (told_beyond d real k os keys older before x b rest long.2 upper answered (ih b upper))
+            let served : IsAnswered c older d x.taken.at x.held.item.wanted (toward b (place n d).routes) b rest x.down = subst (λ (l : List As). IsServed c n older d x.taken.at x.held.item.wanted l x.down) (x.along ∙ long.2) x.served in
+            elim (toward_is b (place n d).routes) [
+              | inl inner ↦
+                  let answered = subst (λ (on : Peer). IsAnswered c older d x.taken.at x.held.item.wanted on b rest x.down) inner served in
+                  chained_on d real k os keys older before x b rest long.2 answered (told_beyond d real k os keys older before x b rest long.2 upper answered (ih b upper))
+              | inr out ↦
+                  chained_out d real k os keys older before x b rest long.2 out.0 out.1
+                  (subst (λ (on : Peer). IsAnswered c older d x.taken.at x.held.item.wanted on b rest x.down) out.1 served)
+            ]
       ]
 
   pub solve_chained : (fuel : ℕ) (d : As) (real : d ≢ parent_as) (k : ℕ) (os : List Output) (keys : List (Issued Segment)) (older : Transcript) (within : Within (Solves d k os keys ∷ older) now) →

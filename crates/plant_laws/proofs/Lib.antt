@@ -49,6 +49,7 @@ pub mod Takes
 pub mod Opened
 pub mod OpenedRuns
 pub mod ReadBack
+pub mod RequestsWritten
 pub mod Inboxes
 pub mod Sent
 pub mod OpenTables
@@ -122,6 +123,7 @@ pub mod SentOnAsks
 pub mod IdsSteps
 pub mod Known
 pub mod UnderWayRuns
+mod PassedOn
 pub mod UnderWayLaw
 pub mod AtOnce
 pub mod Matched
@@ -164,5 +166,7 @@ mod GoodInboxes
 mod GoodExists
 pub mod Unrouted
 pub mod Heeding
+pub mod HeededHops
+pub mod EndsInside
 -- handed on from below
 pub use Rattle.plant_model.proofs as plant_model

@@ -102,6 +102,13 @@ toward_leads b (r ∷ rs) = go (same_as r.next b) (toward_leads b rs)
     go true more = tt
     go false more = more
 
+-- an element that is asked for a domain is its own
+pub toward_inner : (b z : As) (routes : List Route) → Inner z ≡ toward b routes → z ≡ b
+toward_inner b z routes is = same (subst (λ (p : Peer). Leads p b) (sym is) (toward_leads b routes))
+  where
+    same : Inner z ≡ Inner b → z ≡ b
+    same e = cc
+
 -- A request that is sent on asks for what an admitted one wanted, along the rest of its sequence, or of the parent.
 abbrev pub IsKnown : Codec → Wanted → Addr → List As → Peer → Type 0
 IsKnown c w t rest to = (a : Asked) × (own' : As) × (flags : ℕ) × (x : ℕ) × Admits c a own' flags x w × (t ≡ w.target)

@@ -33,6 +33,8 @@ use Rattle.plant_laws.proofs.Rows.{In, in_of}
 use Rattle.plant_laws.proofs.OpenedRuns.{lookup_in}
 use Rattle.plant_laws.proofs.OpenTables.{open_is_pending}
 use Rattle.plant_laws.proofs.Readings.{messages_are_read}
+use Rattle.plant_laws.proofs.Reading.{outside_is_read}
+use Rattle.plant_laws.proofs.HeededHops.{taken_range}
 use Rattle.plant_laws.proofs.Topologies.{pins_are_domains}
 use Rattle.border_costs.proofs.Members.{contains_head, contains_tail, contains_none, contains_cases}
 use Rattle.plant_laws.proofs.Told.{apart}
@@ -90,7 +92,7 @@ module _ (c : Codec) (codec : IsCodec c) (n : NetworkParts) (net : IsNetwork n) 
   solved_of es s run written d k h x =
       let row : Row Pin = (k, x.held) in
       let there : Contains (s.elements d).pending.rows row = in_contains row (s.elements d).pending.rows (lookup_in k (s.elements d).pending.rows x.held x.is_held) in
-      let taken = (open_is_pending c codec n es s run written).taken d row there in
+      let taken = (open_is_pending c codec n net es s run).taken d row there in
       let r = is_readied c codec n es s run written d row net there x.down x.ready in
       let same = same_moment (opened c d x.held.key.peer x.held.key.id (deeds_of c n es)) r.at taken.at r.is_open taken.is_open in
       record {
@@ -100,7 +102,7 @@ module _ (c : Codec) (codec : IsCodec c) (n : NetworkParts) (net : IsNetwork n) 
         along = r.along;
         stays = r.stays;
         down = x.down;
-        served = subst (λ (at : Transcript). IsServed c (deeds_of c n es) d at x.held.item.wanted x.held.item.sequence x.down) same r.served;
+        served = subst (λ (at : Transcript). IsServed c n (deeds_of c n es) d at x.held.item.wanted x.held.item.sequence x.down) same r.served;
         rows = x.rows;
         right = x.right;
         now = s.clock;
@@ -123,7 +125,7 @@ module _ (c : Codec) (codec : IsCodec c) (n : NetworkParts) (net : IsNetwork n) 
     (λ up.
         let row : AskingRow = (k, x.held) in
         let there : Contains s.parent.pending.rows row = in_contains row s.parent.pending.rows (lookup_in k s.parent.pending.rows x.held x.is_held) in
-        let taken = (open_is_pending c codec n es s run written).taken_above row there in
+        let taken = (open_is_pending c codec n net es s run).taken_above row there in
         let g = has_gathered c codec n es s run written row there x.ready in
         let same = same_moment (opened c parent_as x.held.key.peer x.held.key.id (deeds_of c n es)) g.at taken.at g.is_open taken.is_open in
         record {
@@ -163,7 +165,7 @@ module _ (c : Codec) (codec : IsCodec c) (n : NetworkParts) (net : IsNetwork n) 
 
   above : (e : PlantDeed) (older : Transcript) (p : Peer) (r : Reply) (paths : List Path) → Within (e ∷ older) now → Contains (outputs_at parent_as e) (record { to = p; message = messages.PcRep (r ∷ []) }) → Tells r.answer paths →
       OfSolve parent_as e ⊎ OfKey c parent_as p r e
-  above e older p r paths w said tells = (Each-within (HasCause c) now (run_has c n net es s run (run_single c n codec es s run written)) e older w).1 p r paths said tells
+  above e older p r paths w said tells = (Each-within (HasCause c n) now (run_has c n es s run (run_single c n codec es s run written)) e older w).1 p r paths said tells
 
   inside : (e : PlantDeed) (older : Transcript) (i : ℕ) (r : Reply) (paths : List Path) → Within (e ∷ older) now → Contains (outputs_at parent_as e) (record { to = Outside i; message = messages.PcRep (r ∷ []) }) → Tells r.answer paths → ⊥
   inside e older i r paths w said tells = elim (above e older (Outside i) r paths w said tells) [
@@ -188,10 +190,11 @@ module _ (c : Codec) (codec : IsCodec c) (n : NetworkParts) (net : IsNetwork n) 
         owns = run_owns c n es s run;
         solved = λ d k os keys older real w. (moments d k os keys older w).0 real;
         replied = replied_of c codec n es s run written net;
-        asked = asked_of_run c codec n es s run written short net;
+        asked = asked_of_run c codec n es s run written short;
         carried_replies = λ d b replies os older w. (let r = readings.queues b d (messages.PcRep replies) os older w in record { before = r.before; is = r.is_popped; put = r.put; rest = r.rest; stood = r.stood });
         carried_requests = λ d b asks os older w. (let r = readings.queues b d (messages.PcReq asks) os older w in record { before = r.before; is = r.is_popped; put = r.put; rest = r.rest; stood = r.stood });
         ids = element_ids_differ c codec n es s run written short;
+        ranged = taken_range c codec n now (outside_is_read c codec n es s run);
         expands = codec.expands;
         inside = inside;
         replied_above = above;
@@ -251,7 +254,7 @@ solves_certify c codec n net es s run written d k h x =
       wanted = i.wanted;
       is_path = y.taken.wanted;
       down = x.down;
-      told = subst (λ (l : List As). IsServed c (deeds_of c n es) d y.taken.at i.wanted l x.down) y.along y.served;
+      told = subst (λ (l : List As). IsServed c n (deeds_of c n es) d y.taken.at i.wanted l x.down) y.along y.served;
       job = ask c n d (k, x.held) x.down;
       query = refl;
       source = refl;

@@ -3,12 +3,13 @@ use Rattle.std.proofs.Common.{◌≡◌, ◌⊎◌, ℕ, Bool, true, false, cond
 use Rattle.std.proofs.lemmas.Bool.{cases_Bool}
 use Rattle.dom_base.specs.declared.names.As.{As}
 use Rattle.dom_base.specs.declared.names.Peer.{Peer}
-use Rattle.dom_base.specs.declared.names.Peer.TheVariants.{Inner}
 use Rattle.pcep_subobjects.specs.declared.hop.Hop.{Hop}
 use Rattle.pcep_messages.specs.declared.message.Message.{Message}
 use Rattle.pcep_messages.specs.declared.message.Message.TheVariants as messages
 use Rattle.pcep_messages.specs.declared.message.Asked.{Asked}
 use Rattle.pcep_messages.specs.declared.message.Reply.{Reply}
+use Rattle.pcep_messages.specs.declared.message.Notice.{Notice}
+use Rattle.pcep_messages.specs.declared.message.ErrorReport.{ErrorReport}
 use Rattle.pcep_messages.specs.declared.message.Answer.{Answer}
 use Rattle.pcep_messages.specs.declared.message.Answer.TheVariants.{Paths, NoPath}
 use Rattle.pcep_messages.specs.declared.message.Wanted.{Wanted}
@@ -20,6 +21,7 @@ use Rattle.vspt_tree.specs.declared.branch.Best.{Best}
 use Rattle.vspt_tree.specs.declared.branch.Branch.{Branch}
 use Rattle.plant_model.specs.declared.output.Output.{Output}
 use Rattle.plant_model.specs.declared.output.Lost.{Lost}
+use Rattle.plant_model.specs.declared.route.Route.{Route}
 use Rattle.plant_model.specs.Names.{the_parent, has_pair}
 use Rattle.plant_model.specs.Wire.{Codec, Checked, Admitted, Wrong}
 use Rattle.plant_model.specs.Writing.{request_message, reply_message, error_message, busy, unavailable}
@@ -173,6 +175,13 @@ module _ (P : Type 0) (S : Type 0) where
     pub calm_replies : (rs : List Reply) (k : Element P S) → IsCalm k (each (take_reply c p) rs k)
     calm_replies rs k = calm_each (take_reply c p) (λ r j. calm_answer r j (waiting p r.id j.pending.rows)) rs k
 
+    pub calm_notices : (ns : List Notice) (k : Element P S) → IsCalm k (each (take_notice p) ns k)
+    calm_notices ns k =
+        calm_each (take_notice p) (λ r j. calm_each (λ (rp : ℕ × ℕ). each (λ (step : Peer → ℕ × ℕ → Element P S → Taken P S). step p rp) (notice_steps r.kinds)) (λ rp j'. calm_steps r.kinds rp j') r.ids j) ns k
+
+    pub calm_reports : (rs : List ErrorReport) (k : Element P S) → IsCalm k (each (take_report p) rs k)
+    calm_reports rs k = calm_each (take_report p) (λ r j. calm_errors r.ids r.errors j) rs k
+
   pub calm_commit : (c : Codec) (e : Place) (h : Row P) (down : List Branch) (now : ℕ) (stands : Best → S) (source_known target_known : Bool) (best : List Best) (k : Element P S) →
       IsCalm k (commit c e h down now stands source_known target_known best k)
   calm_commit c e h down now stands source_known target_known best k = calm_pick k (is_client h.1.item.class) _ (closed_reply c e h down now stands k best) (client best) (closed best)
@@ -186,8 +195,8 @@ module _ (P : Type 0) (S : Type 0) where
       closed (b ∷ bs) = calm_pick k (nat_lt (free now k.keys) (length (b ∷ bs))) _ _ (record { none = ((λ none. none), tt); ways = refl }) (record { none = ((λ none. none), tt); ways = refl })
 
   -- where a request goes on
-  abbrev pub GoesTo : Wanted → Peer → List As → Type 0
-  GoesTo w to rest = ((to ≡ the_parent) × (rest ≡ [])) ⊎ ((own : As) × (next : As) × (more : List As) × (to ≡ Inner next) × (rest ≡ next ∷ more) × (w.sequence ≡ own ∷ next ∷ more))
+  abbrev pub GoesTo : List Route → Wanted → Peer → List As → Type 0
+  GoesTo routes w to rest = ((to ≡ the_parent) × (rest ≡ [])) ⊎ ((own : As) × (next : As) × (more : List As) × (to ≡ toward next routes) × (rest ≡ next ∷ more) × (w.sequence ≡ own ∷ next ∷ more))
 
   module _ (c : Codec) (show : S → List Hop) (e : Place) (pin : P) (p : Peer) (class : Class) (now : ℕ) (k : Element P S) where
     pub record SendsOne (t : Taken P S) : Type 0 where
@@ -200,7 +209,7 @@ module _ (P : Type 0) (S : Type 0) where
       pub wanted : Wanted
       pub admitted : c.check asked e.own ≡ Admitted (record { flags = flags; id = id; wish = Path wanted })
       pub rest : List As
-      pub goes : GoesTo wanted to rest
+      pub goes : GoesTo e.routes wanted to rest
       pub outs : t.outputs ≡ record { to = way.peer; message = request_message (fresh_id way.peer way.last_id k.pending.rows) wanted wanted.target rest } ∷ []
       pub ways : t.element.ways ≡ with_last way.peer (fresh_id way.peer way.last_id k.pending.rows) k.ways
 
@@ -218,8 +227,8 @@ module _ (P : Type 0) (S : Type 0) where
     says : (a : Asked) (m : Message) → (IsAsk m → ⊥) → SendsFor a (only p m k)
     says a m never = inl (record { none = (never, tt); ways = refl })
 
-    module _ (a : Asked) (inner : (b : As) → toward b e.routes ≡ Inner b) where
-      send : (flags x : ℕ) (w : Wanted) → c.check a e.own ≡ Admitted (record { flags = flags; id = x; wish = Path w }) → (to : Peer) (sequence rest : List As) → GoesTo w to rest → (refused : Bool) (o : Option Way) → way_to to k.ways ≡ o →
+    module _ (a : Asked) where
+      send : (flags x : ℕ) (w : Wanted) → c.check a e.own ≡ Admitted (record { flags = flags; id = x; wish = Path w }) → (to : Peer) (sequence rest : List As) → GoesTo e.routes w to rest → (refused : Bool) (o : Option Way) → way_to to k.ways ≡ o →
           SendsFor a (send_on pin p class flags x w sequence rest refused k o)
       send flags x w is to sequence rest goes refused None found = says a (reply_message flags x unavailable) (λ none. none)
       send flags x w is to sequence rest goes refused (Some way) found =
@@ -231,7 +240,7 @@ module _ (P : Type 0) (S : Type 0) where
       along : (flags x : ℕ) (w : Wanted) → c.check a e.own ≡ Admitted (record { flags = flags; id = x; wish = Path w }) → (sequence : List As) → w.sequence ≡ sequence → SendsFor a (take_along e pin p class flags x w k (sequence_or e.own sequence))
       along flags x w is [] same = inl (record { none = tt; ways = refl })
       along flags x w is (d ∷ []) same = inl (record { none = tt; ways = refl })
-      along flags x w is (d ∷ b ∷ rest) same = send flags x w is (toward b e.routes) (d ∷ b ∷ rest) (b ∷ rest) (inr (d, b, rest, inner b, refl, same)) (is_denied e.deny class b) (way_to (toward b e.routes) k.ways) refl
+      along flags x w is (d ∷ b ∷ rest) same = send flags x w is (toward b e.routes) (d ∷ b ∷ rest) (b ∷ rest) (inr (d, b, rest, refl, refl, same)) (is_denied e.deny class b) (way_to (toward b e.routes) k.ways) refl
 
       wishes : (flags x : ℕ) (wish : Wish) → c.check a e.own ≡ Admitted (record { flags = flags; id = x; wish = wish }) → SendsFor a (take_wish show e pin p class now flags x k wish)
       wishes flags x (Expand key pce) is = says a (reply_message flags x _) (λ none. none)
@@ -255,21 +264,20 @@ module _ (P : Type 0) (S : Type 0) where
     abbrev pub Of : Message → Taken P S → Type 0
     Of m t = IsCalm k t ⊎ ((a : Asked) × (m ≡ messages.PcReq (a ∷ [])) × (x : SendsOne t) × (x.asked ≡ a))
 
-    pub take_of : ((b : As) → toward b e.routes ≡ Inner b) → (m : Message) → IsSingle m → Of m (take c show e pin p class now m k)
-    take_of inner (messages.PcReq []) one = inl (calm_silent k)
-    take_of inner (messages.PcReq (a ∷ [])) one =
+    pub take_of : (m : Message) → IsSingle m → Of m (take c show e pin p class now m k)
+    take_of (messages.PcReq []) one = inl (calm_silent k)
+    take_of (messages.PcReq (a ∷ [])) one =
         let t = take_asked c show e pin p class now a k in
         subst (λ (os : List Output). Of (messages.PcReq (a ∷ [])) (record { element = t.element; outputs = os })) (sym (nil_right t.outputs))
-        (elim (asked_sends a inner) [ inl calm ↦ inl calm | inr x ↦ inr (a, refl, x.0, x.1) ])
-    take_of inner (messages.PcReq (a ∷ b ∷ rest)) one = absurd (let none : length (a ∷ b ∷ rest) ≡ 1 = one in omega (arith, none))
-    take_of inner (messages.PcRep replies) one = inl (calm_replies c p replies k)
-    take_of inner (messages.PcNtf notices) one =
-        inl (calm_each (take_notice p) (λ r j. calm_each (λ (rp : ℕ × ℕ). each (λ (step : Peer → ℕ × ℕ → Element P S → Taken P S). step p rp) (notice_steps r.kinds)) (λ rp j'. calm_steps c p r.kinds rp j') r.ids j) notices k)
-    take_of inner (messages.PcErr reports) one = inl (calm_each (take_report p) (λ r j. calm_errors c p r.ids r.errors j) reports k)
-    take_of inner (messages.Open body) one = inl (calm_silent k)
-    take_of inner messages.Keepalive one = inl (calm_silent k)
-    take_of inner (messages.Close why) one = inl (calm_silent k)
-    take_of inner (messages.Other kind) one = inl (calm_silent k)
+        (elim (asked_sends a) [ inl calm ↦ inl calm | inr x ↦ inr (a, refl, x.0, x.1) ])
+    take_of (messages.PcReq (a ∷ b ∷ rest)) one = absurd (let none : length (a ∷ b ∷ rest) ≡ 1 = one in omega (arith, none))
+    take_of (messages.PcRep replies) one = inl (calm_replies c p replies k)
+    take_of (messages.PcNtf notices) one = inl (calm_notices c p notices k)
+    take_of (messages.PcErr reports) one = inl (calm_reports c p reports k)
+    take_of (messages.Open body) one = inl (calm_silent k)
+    take_of messages.Keepalive one = inl (calm_silent k)
+    take_of (messages.Close why) one = inl (calm_silent k)
+    take_of (messages.Other kind) one = inl (calm_silent k)
 
-    pub take_sends : ((b : As) → toward b e.routes ≡ Inner b) → (m : Message) → IsSingle m → Sends (take c show e pin p class now m k)
-    take_sends inner m one = elim (take_of inner m one) [ inl calm ↦ inl calm | inr x ↦ inr x.2 ]
+    pub take_sends : (m : Message) → IsSingle m → Sends (take c show e pin p class now m k)
+    take_sends m one = elim (take_of m one) [ inl calm ↦ inl calm | inr x ↦ inr x.2 ]

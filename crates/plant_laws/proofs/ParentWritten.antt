@@ -46,7 +46,7 @@ use Rattle.plant_model.specs.Element.{is_client}
 use Rattle.plant_model.specs.Settings.{place, family}
 use Rattle.plant_model.specs.State.{Pops, Takes, Solves}
 use Rattle.plant_model.specs.Plant.{Segment, Plant, PlantDeed, Happened, Entry, Run, deeds_of, ParentSolves}
-use Rattle.plant_laws.specs.Transcript.{Transcript, Within, Standing, outputs_at, SentIn, Leg, numbers, Delivered}
+use Rattle.plant_laws.specs.Transcript.{Transcript, Within, Standing, outputs_at, SentIn, numbers, Delivered}
 use Rattle.plant_laws.specs.About.{IsShort, IsGathered, told_in}
 use Rattle.plant_laws.specs.Certified.{Tells}
 use Rattle.plant_laws.specs.Sending.{AreAll, AllSent}
@@ -55,7 +55,6 @@ use Rattle.plant_laws.proofs.Rows.{In, in_of}
 use Rattle.plant_laws.proofs.Moments.{within_trans, opened_within, standing_put, no_more}
 use Rattle.plant_laws.proofs.Given.{Given}
 use Rattle.plant_laws.proofs.FromElement.{within_tail, same_request, same_wanted, no_expansion}
-use Rattle.plant_laws.specs.Ends.{Inside}
 use Rattle.plant_laws.proofs.ClosedReplies.{closes, goes_to}
 use Rattle.plant_laws.proofs.LeastChains.{leg, neighbour_stays, solve_chained}
 use Rattle.plant_laws.proofs.Asks.{closed_class}
@@ -65,7 +64,7 @@ use Rattle.plant_laws.proofs.Inboxes.{contains}
 use Rattle.plant_laws.proofs.OfRun.{given_of}
 use Rattle.plant_laws.proofs.InForm.{all_append, no_path_written, paths_written}
 use Rattle.plant_laws.proofs.BestFits.{hop_short}
-use Rattle.plant_laws.proofs.DownsFit.{HopsFit, BranchesFit, text_cons, text_append, shows_short, branches_fit, told_written, both_fit, drop_front, taken_written}
+use Rattle.plant_laws.proofs.DownsFit.{HopsFit, BranchesFit, text_cons, text_append, shown_fits, branches_fit, told_written, both_fit, drop_front, taken_written}
 use Rattle.plant_laws.proofs.SolvesWritten.{metric_fits}
 use Rattle.plant_laws.proofs.ElementSays.{Ok, under}
 use Rattle.plant_laws.proofs.ParentSays.{IsDown, IsMetBelow, asking_flags, asking_wanted}
@@ -256,11 +255,6 @@ module _ (c : Codec) (codec : IsCodec c) (n : NetworkParts) (now : Transcript) (
       let met = taken_below b h.0 h.1 older (subst (λ (z : PlantDeed). Within (z ∷ older) now) h.2 within) in
       (met.id, met.wanted, met.alone, sym h.3 ∙ met.admits)
 
-  one_long : (chain : List Leg) (b : As) → numbers chain ≡ b ∷ [] → length chain ≡ 1
-  one_long [] b is = absurd (let out : [] ≡ b ∷ [] = is in cc)
-  one_long (x ∷ []) b is = refl
-  one_long (x ∷ y ∷ rest) b is = absurd (let out : x.own ∷ y.own ∷ numbers rest ≡ b ∷ [] = is in cc)
-
   -- what a child told the parent takes three hops
   module _ (b : As) (real : b ≢ parent_as) (r : Reply) (paths : List Path) (tells : Tells r.answer paths) where
     abbrev AreShort : Type 0
@@ -272,17 +266,19 @@ module _ (c : Codec) (codec : IsCodec c) (n : NetworkParts) (now : Transcript) (
         let ch = solve_chained c codec n now given (suc (length older)) b real k os keys older within (omega arith) in
         let one = leg c codec n now given b k os keys older y.taken.at in
         let says = subst (λ (l : List Output). Contains l (record { to = Inner parent_as; message = messages.PcRep (r ∷ []) })) y.sends said in
-        let to : y.held.key.peer ≡ Inner parent_as = goes_to c n b k y.held y.down y.now y.element y.rows.source_known y.rows.target_known one ch.chain (Inside y.held.item.wanted.target) (Inner parent_as) (messages.PcRep (r ∷ [])) y.rows.best says in
+        let to : y.held.key.peer ≡ Inner parent_as = goes_to c n b k y.held y.down y.now y.element y.rows.source_known y.rows.target_known one ch.chain ch.end (Inner parent_as) (messages.PcRep (r ∷ [])) y.rows.best says in
         let class : is_client y.held.item.class ≡ false = ap is_client (y.taken.class ∙ ap (class_of n) to) ∙ closed_class n parent_as in
-        let right = closes c n b k y.held y.down y.now y.element y.rows.source_known y.rows.target_known one ch.chain (Inside y.held.item.wanted.target) refl y.life (Inner parent_as) r paths y.rows.best class ch.ways says tells y.has in
+        let right = closes c n b k y.held y.down y.now y.element y.rows.source_known y.rows.target_known one ch.chain ch.end refl y.life (Inner parent_as) r paths y.rows.best class ch.ways says tells y.has in
         let at_now = within_trans y.taken.at older now (opened_within c b y.held.key.peer y.held.key.id older y.taken.at y.taken.is_open) (within_tail (Solves b k os keys) older now within) in
         let alone = asked_alone b y.taken.request y.taken.at at_now (subst (λ (q : Peer). Delivered c y.taken.at b q y.taken.request) to y.taken.delivered) in
         let same = same_request y.taken.request (record { flags = vspt_flag; id = alone.0; wish = wishes.Path alone.1 }) alone.3 in
         let wanted : y.held.item.wanted ≡ alone.1 = same_wanted y.held.item.wanted alone.1 (sym y.taken.wanted ∙ ap (λ (q : Request). q.wish) same) in
-        let along : numbers (one ∷ ch.chain) ≡ b ∷ [] = ch.along ∙ ap (λ (v : Wanted). sequence_or b v.sequence) wanted ∙ ap (sequence_or b) alone.2 in
+        let along : numbers (one ∷ ch.chain) ++ ch.behind ≡ b ∷ [] = ch.along ∙ ap (λ (v : Wanted). sequence_or b v.sequence) wanted ∙ ap (sequence_or b) alone.2 in
         let told = right.2.each p (contains p paths inside) in
-        let short = shows_short n y.held.item.wanted.query y.held.item.wanted.target (one ∷ ch.chain) told.0 p.hops told.2.legs told.2.last told.2.shown in
-        omega (arith, short, one_long (one ∷ ch.chain) b along)
+        let short = shown_fits c codec n now given written y.held.item.wanted ch.behind (one ∷ ch.chain) ch.end (Solves b k os keys ∷ older) within ch.chained ch.reaches
+        y.held.item.wanted.query told.0 p.hops told.2.legs told.2.last told.2.shown in
+        let long = ap (λ (l : List As). length l) along in
+        omega (arith, short, long)
 
     by_put : (put : Transcript) → Within put now → SentIn put b (Inner parent_as) (messages.PcRep (r ∷ [])) → AreShort
     by_put [] within sent = absurd sent

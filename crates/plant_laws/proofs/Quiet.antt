@@ -1,4 +1,4 @@
--- In a quiet state no request is pending, if what waits is under way.
+-- In a quiet state the chain of each pending request ends at an outside peer, if what waits is under way.
 use Rattle.std.proofs.Common.{◌≡◌, ◌≢◌, ◌⊎◌, ◌≤◌, ◌<◌, nat_eq, ℕ, zero, suc, Bool, true, false, cond, List, [], ◌∷◌, ◌++◌, length, Some, sym, ◌∙◌, ap, subst, inl, inr, refl, arith}
 use Rattle.std.specs.Prelude.{Contains}
 use Rattle.std.specs.Map.{lookup}
@@ -10,7 +10,7 @@ use Rattle.dom_base.specs.declared.names.Peer.TheVariants.{Outside, Inner}
 use Rattle.disclosure.specs.Shown.{open_of}
 use Rattle.pcep_messages.specs.declared.message.Message.{Message}
 use Rattle.request_table.specs.declared.held.Held.{Held}
-use Rattle.request_table.specs.Pending.{NumbersRise}
+use Rattle.request_table.specs.Pending.{NumbersRise, key_of}
 use Rattle.plant_text.specs.declared.settings.NetworkParts.{NetworkParts}
 use Rattle.plant_model.specs.declared.output.Output.{Output}
 use Rattle.plant_text.specs.Names.{same_as, parent_as}
@@ -22,6 +22,7 @@ use Rattle.plant_model.specs.Solving.{commit}
 use Rattle.plant_model.specs.Parent as parent
 use Rattle.plant_model.specs.Parent.{Wait, AskingRow}
 use Rattle.plant_text.specs.Settings.{class_of}
+use Rattle.plant_model.specs.Routes.{toward}
 use Rattle.plant_model.specs.Settings.{place, family}
 use Rattle.plant_model.specs.State.{State, Takes, Ups, Downs, Pops}
 use Rattle.plant_model.specs.Deeds.{Going, element_of, own_message, with_parent, with_element, puts, give, rise, fall}
@@ -29,13 +30,12 @@ use Rattle.plant_model.specs.Events.{is_ready_row, is_ready_asking}
 use Rattle.plant_model.specs.Plant.{Pin, Segment, Plant, Happened, Entry, Run, ElementSolves, ParentSolves}
 use Rattle.plant_laws.specs.Transcript.{Transcript}
 use Rattle.plant_laws.proofs.Acts.{Acts, rests, hears, carries, nods, hands, rises, falls, says, clears, expires}
-use Rattle.plant_laws.specs.Chains.{IsQuiet, QuietIsAnsweredIn}
-use Rattle.plant_laws.specs.UnderWay.{IsUnderWay, coming, taken, taken_up, answered, GoesOn, along, upward, AreUnderWay, WaitsAreUnderWayIn}
+use Rattle.plant_laws.specs.Chains.{IsQuiet, IsPassedOn, WaitsOutside, asks_outside, through}
+use Rattle.plant_laws.specs.UnderWay.{IsUnderWay, coming, taken, taken_up, answered, GoesOn, along, outside, upward, AreUnderWay}
 use Rattle.plant_laws.proofs.Induction.{run_holds}
 use Rattle.plant_laws.proofs.Handing.{In}
 use Rattle.plant_laws.proofs.Queues.{same_as_is}
-use Rattle.plant_laws.proofs.Answering.{InOrder, run_kept, puts_elements}
-use Rattle.plant_laws.proofs.WhereWritten.{WrittenNetIds}
+use Rattle.plant_laws.proofs.Answering.{InOrder, puts_elements}
 
 -- ---- lists
 
@@ -149,7 +149,8 @@ module _ (c : Codec) (n : NetworkParts) where
 
 -- ---- a quiet state
 
-module _ (c : Codec) (s : Plant) (quiet : IsQuiet s) (order : InOrder s) (above' : (s.elements parent_as).pending.rows ≡ []) (way : AreUnderWay c s) where
+module _ (c : Codec) (n : NetworkParts) (s : Plant) (now : Transcript) (quiet : IsQuiet s) (order : InOrder s) (above' : (s.elements parent_as).pending.rows ≡ []) (way : AreUnderWay c n s)
+    (passed : (d b : As) (h g : Row Pin) (y : ℕ) → d ≢ parent_as → Contains (s.elements d).pending.rows h → h.1.item.stage ≡ Waits (Inner b) y → Contains (s.elements b).pending.rows g → g.1.key ≡ key_of (Inner d) y → IsPassedOn c s now d h b y g) where
   -- the queue is empty
   nothing : (a b : As) (bytes : Bytes) → Contains (s.queues a b) bytes → ⊥
   nothing a b bytes h = contains_none bytes (subst (λ (l : List Bytes). Contains l bytes) (quiet.queues a b) h)
@@ -171,37 +172,37 @@ module _ (c : Codec) (s : Plant) (quiet : IsQuiet s) (order : InOrder s) (above'
       let row = found 0 s.parent.pending.given s.parent.pending.rows h order.parent.numbers (contains_in s.parent.pending.rows h there) in
       ap is_ready_asking (sym row) ∙ quiet.jobs parent_as h.0
 
-  -- a request of a sequence that is not empty
-  abbrev IsNone : ℕ → Type 0
-  IsNone k = (d : As) (h : Row Pin) → Contains (s.elements d).pending.rows h → h.1.item.sequence ≢ [] → length h.1.item.sequence ≤ k → ⊥
-
-  stuck : (k : ℕ) (a b : As) (id : ℕ) (x : As) (rest : List As) → IsNone k → b ≢ parent_as → length (x ∷ rest) ≤ k → IsUnderWay c s a b id (x ∷ rest) → ⊥
-  stuck k a b id x rest none real short (coming w t there) = nothing a b (c.text _) there
-  stuck k a b id x rest none real short (answered m there answers) = nothing b a (c.text m) there
-  stuck k a b id x rest none real short (taken_up h is there key) = real is
-  stuck k a b id x rest none real short (taken h other there key is) =
-      none b h there (λ empty. let clash : x ∷ rest ≡ [] = sym is ∙ empty in cc) (subst (λ (l : List As). length l ≤ k) (sym is) short)
-
-  none_of : (k : ℕ) → IsNone k
-  none_of zero d h there some short = go h.1.item.sequence some short
+  -- each pending request waits, and went on
+  waits_on : (d : As) (h : Row Pin) → Contains (s.elements d).pending.rows h → (on : Peer) × (id : ℕ) × (h.1.item.stage ≡ Waits on id) × GoesOn c n s d h on id
+  waits_on d h there = go h.1.item.stage refl (not_ready d h there)
     where
-      go : (l : List As) → l ≢ [] → length l ≤ 0 → ⊥
-      go [] some short = some refl
-      go (x ∷ xs) some short = omega arith
-  none_of (suc k) d h there some short = go h.1.item.stage refl (not_ready d h there) (none_of k)
+      go : (g : Stage) → h.1.item.stage ≡ g → element.is_ready g ≡ false → (on : Peer) × (id : ℕ) × (h.1.item.stage ≡ Waits on id) × GoesOn c n s d h on id
+      go (Ready branches) is ready = absurd (let out : true ≡ false = ready in cc)
+      go (Waits on id) is ready = (on, id, is, way.elements d h on id there is)
+
+  -- what is under way to an element is pending there
+  pends : (a b : As) (id : ℕ) (l : List As) → b ≢ parent_as → IsUnderWay c s a b id l → (h : Row Pin) × Contains (s.elements b).pending.rows h × (h.1.key ≡ key_of (Inner a) id) × (h.1.item.sequence ≡ l)
+  pends a b id l real (coming w t there) = absurd (nothing a b (c.text _) there)
+  pends a b id l real (answered m there answers) = absurd (nothing b a (c.text m) there)
+  pends a b id l real (taken_up h is there key) = absurd (real is)
+  pends a b id l real (taken h other there key is) = (h, there, key, is)
+
+  no_cons : {X : Type 0} (x : X) (xs : List X) → x ∷ xs ≡ [] → ⊥
+  no_cons x xs e = cc
+
+  -- none of one domain alone is: it would go on nowhere
+  none_alone : (d : As) (h : Row Pin) (x : As) → Contains (s.elements d).pending.rows h → h.1.item.sequence ≡ x ∷ [] → ⊥
+  none_alone d h x there is = (let w = waits_on d h there in go w.0 w.1 w.3)
     where
-      on_way : (on : Peer) (id : ℕ) → GoesOn c s d h on id → IsNone k → ⊥
-      on_way on id (upward is empty under) none = some empty
-      on_way on id (along b rest is real sequence under) none =
-          let whole : length h.1.item.sequence ≡ length (d ∷ b ∷ rest) = ap length sequence in
-          let le : length (b ∷ rest) ≤ k = omega arith in
-          stuck k d b id b rest none real le under
+      no_next : (b : As) (rest : List As) → h.1.item.sequence ≡ d ∷ b ∷ rest → ⊥
+      no_next b rest sequence = (let both : x ∷ [] ≡ d ∷ b ∷ rest = sym is ∙ sequence in let tails : [] ≡ b ∷ rest = cc in no_cons b rest (sym tails))
 
-      go : (g : Stage) → h.1.item.stage ≡ g → element.is_ready g ≡ false → IsNone k → ⊥
-      go (Ready branches) is ready none = cc
-      go (Waits on id) is ready none = on_way on id (way.elements d h on id there is) none
+      go : (on : Peer) (id : ℕ) → GoesOn c n s d h on id → ⊥
+      go on id (upward to empty under) = no_cons x [] (sym is ∙ empty)
+      go on id (outside i b rest to toward' sequence) = no_next b rest sequence
+      go on id (along b rest to real sequence under) = no_next b rest sequence
 
-  -- a request at the parent
+  -- so none is at the parent, which asks each child for its own domain
   none_asking : (h : AskingRow) → Contains s.parent.pending.rows h → ⊥
   none_asking h there = go h.1.item.waits refl
     where
@@ -210,36 +211,55 @@ module _ (c : Codec) (s : Plant) (quiet : IsQuiet s) (order : InOrder s) (above'
           let ready : true ≡ false = ap (λ (l : List Wait). elim l as (λ x. Bool) [ [] ↦ true | w ∷ ws ↦ false ]) (sym is) ∙ asking_not_ready h there in cc
       go (w ∷ ws) is =
           let u = way.parent h w there (subst (λ (l : List Wait). Contains l w) (sym is) (contains_head w ws)) in
-          stuck 1 parent_as w.child w.id w.child [] (none_of 1) u.0 (omega arith) u.1
+          let g = pends parent_as w.child w.id (w.child ∷ []) u.0 u.1 in
+          none_alone w.child g.0 w.child g.1 g.3
 
-  -- any request
-  none_at : (d : As) (h : Row Pin) → Contains (s.elements d).pending.rows h → ⊥
-  none_at d h there = go h.1.item.stage refl (not_ready d h there)
+  -- and none waits on it
+  none_up : (d : As) (id : ℕ) → IsUnderWay c s d parent_as id [] → ⊥
+  none_up d id (coming w t at) = nothing d parent_as (c.text _) at
+  none_up d id (answered m at answers) = nothing parent_as d (c.text m) at
+  none_up d id (taken h other at key is) = other refl
+  none_up d id (taken_up h is at key) = none_asking h at
+
+  real_at : (d : As) (h : Row Pin) → Contains (s.elements d).pending.rows h → d ≢ parent_as
+  real_at d h there is = (let clash : true ≡ false = sym (ap (λ (z : As). same_as z parent_as) is) ∙ not_parent d h there in cc)
+
+  -- the chain of one ends outside, if the shorter ones do
+  ended : (k : ℕ) → ((b : As) (g : Row Pin) → Contains (s.elements b).pending.rows g → suc (length g.1.item.sequence) ≤ k → WaitsOutside c s now b g) →
+      (d : As) (h : Row Pin) → Contains (s.elements d).pending.rows h → length h.1.item.sequence ≤ k → WaitsOutside c s now d h
+  ended k shorter d h there short = (let w = waits_on d h there in go w.0 w.1 w.2 w.3)
     where
-      up : (id : ℕ) → IsUnderWay c s d parent_as id [] → ⊥
-      up id (coming w t at) = nothing d parent_as (c.text _) at
-      up id (answered m at answers) = nothing parent_as d (c.text m) at
-      up id (taken h' other at key is) = other refl
-      up id (taken_up h' is at key) = none_asking h' at
+      go : (on : Peer) (id : ℕ) → h.1.item.stage ≡ Waits on id → GoesOn c n s d h on id → WaitsOutside c s now d h
+      go on id waits (upward to empty under) = absurd (none_up d id under)
+      go on id waits (outside i b rest to toward' sequence) = asks_outside d h i id (waits ∙ ap (λ (p : Peer). Waits p id) to)
+      go on id waits (along b rest to real sequence under) =
+          let whole : length h.1.item.sequence ≡ length (d ∷ b ∷ rest) = ap length sequence in
+          let g = pends d b id (b ∷ rest) real under in
+          let same : length g.0.1.item.sequence ≡ length (b ∷ rest) = ap length g.3 in
+          let stage : h.1.item.stage ≡ Waits (Inner b) id = waits ∙ ap (λ (p : Peer). Waits p id) to in
+          through d b h g.0 id stage (passed d b h g.0 id (real_at d h there) there stage g.1 g.2) (shorter b g.0 g.1 (omega (arith, whole, short, same)))
 
-      on_way : (on : Peer) (id : ℕ) → GoesOn c s d h on id → ⊥
-      on_way on id (upward is empty under) = up id under
-      on_way on id (along b rest is real sequence under) =
-          none_of (length h.1.item.sequence) d h there (λ empty. let clash : d ∷ b ∷ rest ≡ [] = sym sequence ∙ empty in cc) (omega arith)
-
-      go : (g : Stage) → h.1.item.stage ≡ g → element.is_ready g ≡ false → ⊥
-      go (Ready branches) is ready = cc
-      go (Waits on id) is ready = on_way on id (way.elements d h on id there is)
+  ends : (k : ℕ) (d : As) (h : Row Pin) → Contains (s.elements d).pending.rows h → length h.1.item.sequence ≤ k → WaitsOutside c s now d h
+  ends zero = ended zero (λ b g there less. absurd (omega (arith, less)))
+  ends (suc k) = ended (suc k) (λ b g there less. ends k b g there (omega (arith, less)))
 
   no_rows : {X : Type 0} (rows : List X) → ((h : X) → Contains rows h → ⊥) → rows ≡ []
   no_rows [] none = refl
   no_rows (h ∷ rows) none = absurd (none h (contains_head h rows))
 
-pub quiet_is_answered : WrittenNetIds WaitsAreUnderWayIn → WrittenNetIds QuietIsAnsweredIn
-quiet_is_answered way c codec n network es s run written short quiet =
-    let order = (run_kept c n es s run).0 in
-    let above' = run_none c n es s run in
-    let under = way c codec n network es s run written short in (
-      no_rows c s quiet order above' under s.parent.pending.rows (none_asking c s quiet order above' under),
-      λ d. no_rows c s quiet order above' under (s.elements d).pending.rows (none_at c s quiet order above' under d),
-    )
+  pub quiet_ends : (s.parent.pending.rows ≡ []) × ((d : As) (h : Row Pin) → Contains (s.elements d).pending.rows h → WaitsOutside c s now d h)
+  quiet_ends = (no_rows s.parent.pending.rows none_asking, λ d h there. ends (length h.1.item.sequence) d h there (omega arith))
+
+  -- where no request for a domain goes to an outside peer
+  module _ (inner : (d b : As) → toward b (place n d).routes ≡ Inner b) where
+    none_outside : (d : As) (h : Row Pin) → Contains (s.elements d).pending.rows h → WaitsOutside c s now d h → ⊥
+    none_outside d h there (asks_outside d' h' i y stage) = go (way.elements d h (Outside i) y there stage)
+      where
+        go : GoesOn c n s d h (Outside i) y → ⊥
+        go (upward to empty under) = (let clash : Outside i ≡ Inner parent_as = to in cc)
+        go (along b rest to real sequence under) = (let clash : Outside i ≡ Inner b = to in cc)
+        go (outside j b rest to toward' sequence) = (let clash : Inner b ≡ Outside j = sym (inner d b) ∙ toward' in cc)
+    none_outside d h there (through d' b h' g y stage on more) = none_outside b g on.pending more
+
+    pub quiet_none : (s.parent.pending.rows ≡ []) × ((d : As) → (s.elements d).pending.rows ≡ [])
+    quiet_none = (quiet_ends.0, λ d. no_rows (s.elements d).pending.rows (λ h there. none_outside d h there (quiet_ends.1 d h there)))

@@ -1,6 +1,7 @@
 -- In every state of a run, the branches of a row that is ready are none, in the last domain, or those of a reply that was taken.
-use Rattle.std.proofs.Common.{◌≡◌, ◌⊎◌, ℕ, Bool, true, false, cond, Some, List, [], ◌∷◌, ◌++◌, inl, inr, sym, ◌∙◌, ap, subst, refl}
-use Rattle.std.proofs.lemmas.Bool.{eqb-true}
+use Rattle.std.proofs.Common.{◌≡◌, ◌⊎◌, ℕ, Bool, true, false, cond, Option, Some, None, List, [], ◌∷◌, ◌++◌, length, drop, map, inl, inr, sym, ◌∙◌, ap, subst, refl}
+use Rattle.std.proofs.lemmas.Bool.{cases_Bool, eqb-true}
+use Rattle.std.specs.Option.{option_map}
 use Rattle.dom_base.specs.declared.names.As.{As}
 use Rattle.dom_base.specs.declared.names.Peer.{Peer}
 use Rattle.dom_base.specs.declared.names.Peer.TheVariants.{Outside, Inner}
@@ -29,7 +30,7 @@ use Rattle.plant_laws.specs.Transcript.{Transcript, effect, opened, SentIn}
 use Rattle.plant_laws.proofs.Acts.{popped, Acts, rests, hears, carries, nods, hands, rises, falls, says, clears, expires}
 use Rattle.plant_laws.proofs.Queues.{same_as_is}
 use Rattle.plant_laws.proofs.Induction.{run_holds}
-use Rattle.plant_laws.proofs.Rows.{In}
+use Rattle.plant_laws.proofs.Rows.{In, seen_in}
 use Rattle.plant_laws.proofs.Opened.{AreSingle, Holds, puts_elements, set_pending}
 use Rattle.plant_laws.proofs.OpenedRuns.{give_single, fall_single, rise_single, bare_holds}
 use Rattle.plant_laws.proofs.SentOn.{IsRest}
@@ -41,15 +42,20 @@ use Rattle.pcep_messages.specs.declared.message.Reply.{Reply}
 use Rattle.pcep_messages.specs.declared.message.Wanted.{Wanted}
 use Rattle.disclosure.specs.declared.class.Class.{Class}
 use Rattle.vspt_tree.specs.declared.branch.Branch.{Branch}
-use Rattle.request_table.specs.Pending.{same_peer, NumbersRise}
+use Rattle.request_table.specs.Pending.{same_peer, same_key, NumbersRise, AreNamedOnce}
+use Rattle.request_table.proofs.KeyLemmas.{same_key_is}
 use Rattle.plant_model.specs.Branches.{branches_in}
-use Rattle.plant_model.specs.Element.{at_stage, waits_for, Place}
+use Rattle.plant_model.specs.Element.{at_stage, waits_for, waiting, sent_through, Place}
+use Rattle.plant_model.specs.Outside.{heeded, heeded_by}
 use Rattle.plant_laws.specs.Transcript.{Within}
 use Rattle.plant_laws.proofs.Moments.{peer_is}
-use Rattle.plant_laws.proofs.Waits.{Both, SentAt, AreSentOn, still, is_open, act_both, load_both, solve_both, upper_both}
+use Rattle.plant_laws.proofs.Waits.{Both, SentAt, still, is_open, act_both, load_both, solve_both, upper_both}
 use Rattle.plant_laws.proofs.StagesKept as kept
 use Rattle.plant_laws.proofs.StagesKept.{IsFresh}
-use Rattle.plant_laws.specs.Certified.{Tells}
+use Rattle.plant_laws.specs.Ends.{Tells, IsHeeded}
+use Rattle.plant_laws.specs.Waiting.{wait_alike}
+use Rattle.plant_laws.proofs.Seen.{seen}
+use Rattle.plant_laws.proofs.ElementSteps.{waiting_in}
 
 -- a row made ready by a reply
 pub record IsMade (c : Codec) (p : Peer) (rs : List Reply) (i j : Item Pin) : Type 0 where
@@ -62,14 +68,14 @@ pub record IsMade (c : Codec) (p : Peer) (rs : List Reply) (i j : Item Pin) : Ty
   pub is : j ≡ at_stage (Ready (branches_in c i.wanted.query.metric paths)) i
 
 -- the branches came with a reply to what was sent on
-pub record IsBack (c : Codec) (ds : Transcript) (d : As) (h : Row Pin) (down : List Branch) : Type 0 where
+pub record IsBack (c : Codec) (n : NetworkParts) (ds : Transcript) (d : As) (h : Row Pin) (down : List Branch) : Type 0 where
   pub at : Transcript
   pub is_open : opened c d h.1.key.peer h.1.key.id ds ≡ Some at
   pub on : Peer
   pub id : ℕ
   pub rest : List As
   pub sent : SentIn at d on (request_message id h.1.item.wanted h.1.item.wanted.target rest)
-  pub goes : IsRest h.1.item.sequence rest on
+  pub goes : IsRest (place n d).routes h.1.item.sequence rest on
   pub upper : same_peer on the_parent ≡ false
   pub replies : List Reply
   pub outputs : List Output
@@ -77,6 +83,7 @@ pub record IsBack (c : Codec) (ds : Transcript) (d : As) (h : Row Pin) (down : L
   pub within : Within (Takes d on (messages.PcRep replies) outputs ∷ before) ds
   pub reply : Reply
   pub is_reply : In reply replies
+  pub heeded : IsHeeded c on (length rest) reply
   pub same : reply.id ≡ id
   pub paths : List Path
   pub tells : Tells reply.answer paths
@@ -84,6 +91,11 @@ pub record IsBack (c : Codec) (ds : Transcript) (d : As) (h : Row Pin) (down : L
 
 differs : true ≡ false → ⊥
 differs e = cc
+
+-- a reply of an outside peer is what the element heeds of what it said, by the rows that it had
+abbrev pub Heeds : Codec → Peer → List (Row Pin) → Reply → Type 0
+Heeds c (Inner b) rows r = Unit {0}
+Heeds c (Outside i) rows r = (said : Reply) × (r ≡ heeded_by c (sent_through (Outside i) r.id rows) said)
 
 module _ (c : Codec) (old : List (Row Pin)) (p : Peer) (rs : List Reply) where
   abbrev pub FromOld : Held (Item Pin) → Type 0
@@ -142,6 +154,58 @@ replies_of messages.Keepalive = []
 replies_of (messages.Close why) = []
 replies_of (messages.Other kind) = []
 
+-- what is heeded
+module _ (c : Codec) where
+  same_name : (o : Option ℕ) (r : Reply) → (heeded_by c o r).id ≡ r.id
+  same_name None r = refl
+  same_name (Some domains) r = refl
+
+  heeds_in : (sent : ℕ → Option ℕ) (rs : List Reply) (r : Reply) → In r (map (λ (x : Reply). heeded_by c (sent x.id) x) rs) → (said : Reply) × (r ≡ heeded_by c (sent r.id) said)
+  heeds_in sent [] r none = absurd none
+  heeds_in sent (x ∷ xs) r (inl same) =
+      (x, subst (λ (z : Reply). z ≡ heeded_by c (sent z.id) x) same (ap (λ (y : ℕ). heeded_by c (sent y) x) (sym (same_name (sent x.id) x))))
+  heeds_in sent (x ∷ xs) r (inr more) = heeds_in sent xs r more
+
+  pub heeds_of : (i : ℕ) (rows : List (Row Pin)) (m : Message) (r : Reply) → In r (replies_of (heeded c (Outside i) rows m)) → Heeds c (Outside i) rows r
+  heeds_of i rows (messages.PcRep replies) r there = heeds_in (λ id. sent_through (Outside i) id rows) replies r there
+  heeds_of i rows (messages.PcReq asks) r none = absurd none
+  heeds_of i rows (messages.PcNtf notices) r none = absurd none
+  heeds_of i rows (messages.PcErr reports) r none = absurd none
+  heeds_of i rows (messages.Open body) r none = absurd none
+  heeds_of i rows messages.Keepalive r none = absurd none
+  heeds_of i rows (messages.Close why) r none = absurd none
+  heeds_of i rows (messages.Other kind) r none = absurd none
+
+  pub as_heeded : (p : Peer) (rows : List (Row Pin)) (r : Reply) (domains : ℕ) → Heeds c p rows r → sent_through p r.id rows ≡ Some domains → IsHeeded c p domains r
+  as_heeded (Inner b) rows r domains heeds through = tt
+  as_heeded (Outside i) rows r domains heeds through = (heeds.0, heeds.1 ∙ ap (λ (o : Option ℕ). heeded_by c o heeds.0) through)
+
+-- the row that waits for an id of a peer
+at_waits : (g : Stage) (p : Peer) (y : ℕ) → waits_for p y g ≡ true → g ≡ Waits p y
+at_waits (Ready bs) p y e = absurd (differs (sym e))
+at_waits (Waits on id) p y e = go (same_peer on p) refl e
+  where
+    go : (b : Bool) → same_peer on p ≡ b → cond b (id == y) false ≡ true → Waits on id ≡ Waits p y
+    go true is hit = ap (λ (q : Peer). Waits q id) (peer_is on p is) ∙ ap (λ (x : ℕ). Waits p x) (eqb-true id y hit)
+    go false is hit = absurd (differs (sym hit))
+
+first_waiting : (p : Peer) (y : ℕ) (rows : List (Row Pin)) (h : Row Pin) → In h rows → waits_for p y h.1.item.stage ≡ true → (g : Row Pin) × (waiting p y rows ≡ Some g)
+first_waiting p y [] h none waits = absurd none
+first_waiting p y (row ∷ rows) h there waits = elim (cases_Bool (waits_for p y row.1.item.stage)) [
+  | inl hit ↦ (row, rw hit refl)
+  | inr miss ↦ elim there [
+    | inl same ↦ absurd (differs (sym (subst (λ (z : Row Pin). waits_for p y z.1.item.stage ≡ true) (sym same) waits) ∙ miss))
+    | inr more ↦ (let rest = first_waiting p y rows h more waits in (rest.0, rw miss rest.1))
+  ]
+]
+
+-- rows of one request have one sequence
+one_sequence : (rows : List (Row Pin)) (h g : Row Pin) → AreNamedOnce rows → In h rows → In g rows → h.1.key ≡ g.1.key → h.1.item.sequence ≡ g.1.item.sequence
+one_sequence rows h g once i j key =
+    let f : Item Pin → List As = λ z. z.sequence in
+    let some : Some h.1.item.sequence ≡ Some g.1.item.sequence = sym (seen_in f rows h once i) ∙ ap (λ (k : RequestKey). seen f k rows) key ∙ seen_in f rows g once j in
+    cc
+
 module _ (c : Codec) (e : Place) (pin : Pin) (p : Peer) (class : Class) (now : ℕ) (k : Element Pin Segment) (numbers : NumbersRise 0 k.pending.rows k.pending.given) where
   abbrev From : List Reply → Row Pin → Type 0
   From rs h = FromOld c k.pending.rows p rs h.1
@@ -186,7 +250,7 @@ module _ (c : Codec) (n : NetworkParts) where
 
   abbrev pub ReadyAt : Transcript → As → Row Pin → Stage → Type 0
   ReadyAt ds d h (Waits b y) = Unit {0}
-  ReadyAt ds d h (Ready down) = IsFresh h.1.item.sequence (Ready down) ⊎ IsBack c ds d h down
+  ReadyAt ds d h (Ready down) = IsFresh h.1.item.sequence (Ready down) ⊎ IsBack c n ds d h down
 
   abbrev pub AreReady : Transcript → Core → Type 0
   AreReady ds s = (d : As) (h : Row Pin) → In h (s.elements d).pending.rows → ReadyAt ds d h h.1.item.stage
@@ -195,7 +259,7 @@ module _ (c : Codec) (n : NetworkParts) where
   abbrev ComesFrom : PlantDeed → Core → As → Row Pin → Type 0
   ComesFrom e s d h =
       ((h0 : Row Pin) × In h0 (s.elements d).pending.rows × (h.1.key ≡ h0.1.key) × (h.1.item ≡ h0.1.item))
-      ⊎ ((h0 : Row Pin) × In h0 (s.elements d).pending.rows × (h.1.key ≡ h0.1.key) × ((p : Peer) × (rs : List Reply) × (os : List Output) × (e ≡ Takes d p (messages.PcRep rs) os) × IsMade c p rs h0.1.item h.1.item))
+      ⊎ ((h0 : Row Pin) × In h0 (s.elements d).pending.rows × (h.1.key ≡ h0.1.key) × ((p : Peer) × (rs : List Reply) × (os : List Output) × (e ≡ Takes d p (messages.PcRep rs) os) × IsMade c p rs h0.1.item h.1.item × ((r : Reply) → In r rs → Heeds c p (s.elements d).pending.rows r)))
       ⊎ IsFresh h.1.item.sequence h.1.item.stage
 
   open_still : (e : PlantDeed) (ds : Transcript) (d : As) (h h0 : Row Pin) (at at' : Transcript) → h.1.key ≡ h0.1.key → opened c d h0.1.key.peer h0.1.key.id ds ≡ Some at → opened c d h.1.key.peer h.1.key.id (e ∷ ds) ≡ Some at' →
@@ -214,7 +278,7 @@ module _ (c : Codec) (n : NetworkParts) where
     id = b.id;
     rest = b.rest;
     sent = subst (λ (i : Item Pin). SentIn b.at d b.on (request_message b.id i.wanted i.wanted.target b.rest)) (sym item) b.sent;
-    goes = subst (λ (i : Item Pin). IsRest i.sequence b.rest b.on) (sym item) b.goes;
+    goes = subst (λ (i : Item Pin). IsRest (place n d).routes i.sequence b.rest b.on) (sym item) b.goes;
     upper = b.upper;
     replies = b.replies;
     outputs = b.outputs;
@@ -222,6 +286,7 @@ module _ (c : Codec) (n : NetworkParts) where
     within = inr b.within;
     reply = b.reply;
     is_reply = b.is_reply;
+    heeded = b.heeded;
     same = b.same;
     paths = b.paths;
     tells = b.tells;
@@ -232,11 +297,35 @@ module _ (c : Codec) (n : NetworkParts) where
   waits_both true b is = (refl, is)
   waits_both false b is = absurd (differs (sym is))
 
+  -- through how many domains it was sent on
+  through : (ds : Transcript) (s : Core) → Both c n ds s → (d : As) (h : Row Pin) → In h (s.elements d).pending.rows → (p : Peer) (y : ℕ) → waits_for p y h.1.item.stage ≡ true →
+      sent_through p y (s.elements d).pending.rows ≡ Some (length (drop 1 h.1.item.sequence))
+  through ds s both d h i p y waits =
+      let rows = (s.elements d).pending.rows in
+      let first = first_waiting p y rows h i waits in
+      let g = first.0 in
+      let other = waiting_in Pin Segment p y rows g first.1 in
+      let sequence : g.1.item.sequence ≡ h.1.item.sequence = elim (cases_Bool (same_key g.1.key h.1.key)) [
+        | inl same ↦ one_sequence rows g h (both.0.elements d).names other.0 i (same_key_is g.1.key h.1.key same)
+        | inr differ ↦ absurd (alike g.1.item.stage h.1.item.stage (at_waits g.1.item.stage p y other.1) (at_waits h.1.item.stage p y waits) waits (both.1.1 d g h other.0 i differ))
+      ] in
+      ap (λ (o : Option (Row Pin)). option_map (λ (z : Row Pin). length (drop 1 z.1.item.sequence)) o) first.1 ∙ ap (λ (l : List As). let o : Option ℕ = Some (length (drop 1 l)) in o) sequence
+    where
+      alike : (a b : Stage) → a ≡ Waits p y → b ≡ Waits p y → waits_for p y b ≡ true → wait_alike a b ≡ false → ⊥
+      alike a b is is' waits' apart =
+          let one : waits_for p y (Waits p y) ≡ true = subst (λ (z : Stage). waits_for p y z ≡ true) is' waits' in
+          let two : wait_alike (Waits p y) (Waits p y) ≡ false = subst (λ (z : Stage). wait_alike z (Waits p y) ≡ false) is (subst (λ (z : Stage). wait_alike a z ≡ false) is' apart) in
+          differs (sym one ∙ two)
+
+  behind_rest : (d : As) (sequence rest : List As) (on : Peer) → IsRest (place n d).routes sequence rest on → length (drop 1 sequence) ≡ length rest
+  behind_rest d sequence rest on (inl up) = ap (λ (l : List As). length (drop 1 l)) up.0 ∙ sym (ap (λ (l : List As). length l) up.1)
+  behind_rest d sequence rest on (inr along) = ap (λ (l : List As). length (drop 1 l)) along.3
+
   made_back : (e : PlantDeed) (ds : Transcript) (d : As) (h h0 : Row Pin) (at' : Transcript) → h.1.key ≡ h0.1.key → opened c d h.1.key.peer h.1.key.id (e ∷ ds) ≡ Some at' →
-      (p : Peer) (rs : List Reply) (os : List Output) → e ≡ Takes d p (messages.PcRep rs) os → (m : IsMade c p rs h0.1.item h.1.item) →
-      (stage : Stage) → waits_for p m.reply.id stage ≡ true → SentAt c n ds d h0 stage → IsBack c (e ∷ ds) d h (branches_in c h0.1.item.wanted.query.metric m.paths)
-  made_back e ds d h h0 at' key is p rs os deed m (Ready bs) waits sent = absurd (differs (sym waits))
-  made_back e ds d h h0 at' key is p rs os deed m (Waits on id) waits sent =
+      (p : Peer) (rs : List Reply) (os : List Output) → e ≡ Takes d p (messages.PcRep rs) os → (m : IsMade c p rs h0.1.item h.1.item) → IsHeeded c p (length (drop 1 h0.1.item.sequence)) m.reply →
+      (stage : Stage) → waits_for p m.reply.id stage ≡ true → SentAt c n ds d h0 stage → IsBack c n (e ∷ ds) d h (branches_in c h0.1.item.wanted.query.metric m.paths)
+  made_back e ds d h h0 at' key is p rs os deed m heeds (Ready bs) waits sent = absurd (differs (sym waits))
+  made_back e ds d h h0 at' key is p rs os deed m heeds (Waits on id) waits sent =
       let both = waits_both (same_peer on p) (id == m.reply.id) waits in
       let to : on ≡ p = peer_is on p both.0 in
       let ids : id ≡ m.reply.id = eqb-true id m.reply.id both.1 in
@@ -249,7 +338,7 @@ module _ (c : Codec) (n : NetworkParts) where
         id = id;
         rest = sent.2.0;
         sent = subst (λ (w : Wanted). SentIn sent.0 d on (request_message id w w.target sent.2.0)) (sym wanted) sent.2.1;
-        goes = subst (λ (l : List As). IsRest l sent.2.0 on) (sym sequence) sent.2.2;
+        goes = subst (λ (l : List As). IsRest (place n d).routes l sent.2.0 on) (sym sequence) sent.2.2;
         upper = subst (λ (x : Peer). same_peer x the_parent ≡ false) (sym to) m.upper;
         replies = rs;
         outputs = os;
@@ -257,6 +346,7 @@ module _ (c : Codec) (n : NetworkParts) where
         within = inl (ap (λ (z : PlantDeed). z ∷ ds) (sym (deed ∙ ap (λ (x : Peer). Takes d x (messages.PcRep rs) os) (sym to))));
         reply = m.reply;
         is_reply = m.is_reply;
+        heeded = subst (λ (x : Peer). IsHeeded c x (length sent.2.0) m.reply) (sym to) (subst (λ (k : ℕ). IsHeeded c p k m.reply) (behind_rest d h0.1.item.sequence sent.2.0 on sent.2.2) heeds);
         same = sym ids;
         paths = m.paths;
         tells = m.tells;
@@ -267,8 +357,8 @@ module _ (c : Codec) (n : NetworkParts) where
   fresh_ready ds d h (Waits b y) fresh = tt
   fresh_ready ds d h (Ready down) fresh = inl fresh
 
-  pub ready_after : (e : PlantDeed) (ds : Transcript) (s t : Core) → AreSentOn c n ds s → AreReady ds s → Holds c n (e ∷ ds) t → ((d : As) (h : Row Pin) → In h (t.elements d).pending.rows → ComesFrom e s d h) → AreReady (e ∷ ds) t
-  ready_after e ds s t sent ready next comes d h i =
+  pub ready_after : (e : PlantDeed) (ds : Transcript) (s t : Core) → Both c n ds s → AreReady ds s → Holds c n (e ∷ ds) t → ((d : As) (h : Row Pin) → In h (t.elements d).pending.rows → ComesFrom e s d h) → AreReady (e ∷ ds) t
+  ready_after e ds s t both ready next comes d h i =
       let o = is_open c n (e ∷ ds) t next d h i in
       elim (comes d h i) [
         | inl old ↦
@@ -277,7 +367,9 @@ module _ (c : Codec) (n : NetworkParts) where
         | inr (inl made) ↦
             let m = made.3.4 in
             subst (λ (stage : Stage). ReadyAt (e ∷ ds) d h stage) (sym (ap (λ (j : Item Pin). j.stage) m.is))
-            (inr (made_back e ds d h made.0 o.1.0 made.2 o.1.1 made.3.0 made.3.1 made.3.2 made.3.3 m made.0.1.item.stage m.waits (sent.0 d made.0 made.1)))
+            (inr (made_back e ds d h made.0 o.1.0 made.2 o.1.1 made.3.0 made.3.1 made.3.2 made.3.3 m
+            (as_heeded c made.3.0 (s.elements d).pending.rows m.reply (length (drop 1 made.0.1.item.sequence)) (made.3.5 m.reply m.is_reply) (through ds s both d made.0 made.1 made.3.0 m.reply.id m.waits))
+            made.0.1.item.stage m.waits (both.1.0 d made.0 made.1)))
         | inr (inr fresh) ↦ fresh_ready (e ∷ ds) d h h.1.item.stage fresh
       ]
 
@@ -303,17 +395,17 @@ module _ (c : Codec) (n : NetworkParts) where
   quiet_comes e at s p h (inr (inl q)) = absurd q.3.is_reply
   quiet_comes e at s p h (inr (inr q)) = inr (inr q.1)
 
-  take_comes : (at : As) (s : Core) (p : Peer) (m : Message) (os : List Output) (h : Row Pin) → FromOld c (s.elements at).pending.rows p (replies_of m) h.1 → ComesFrom (Takes at p m os) s at h
-  take_comes at s p (messages.PcRep rs) os h (inl q) = inl q
-  take_comes at s p (messages.PcRep rs) os h (inr (inl q)) = inr (inl (q.0, q.1, q.2, (p, rs, os, refl, q.3)))
-  take_comes at s p (messages.PcRep rs) os h (inr (inr q)) = inr (inr q.1)
-  take_comes at s p (messages.PcReq asks) os h q = silent_comes at s p (messages.PcReq asks) os h q
-  take_comes at s p (messages.PcNtf notices) os h q = silent_comes at s p (messages.PcNtf notices) os h q
-  take_comes at s p (messages.PcErr reports) os h q = silent_comes at s p (messages.PcErr reports) os h q
-  take_comes at s p (messages.Open body) os h q = silent_comes at s p (messages.Open body) os h q
-  take_comes at s p messages.Keepalive os h q = silent_comes at s p messages.Keepalive os h q
-  take_comes at s p (messages.Close why) os h q = silent_comes at s p (messages.Close why) os h q
-  take_comes at s p (messages.Other kind) os h q = silent_comes at s p (messages.Other kind) os h q
+  take_comes : (at : As) (s : Core) (p : Peer) (m : Message) (os : List Output) → ((r : Reply) → In r (replies_of m) → Heeds c p (s.elements at).pending.rows r) → (h : Row Pin) → FromOld c (s.elements at).pending.rows p (replies_of m) h.1 → ComesFrom (Takes at p m os) s at h
+  take_comes at s p (messages.PcRep rs) os heeds h (inl q) = inl q
+  take_comes at s p (messages.PcRep rs) os heeds h (inr (inl q)) = inr (inl (q.0, q.1, q.2, (p, rs, os, refl, q.3, heeds)))
+  take_comes at s p (messages.PcRep rs) os heeds h (inr (inr q)) = inr (inr q.1)
+  take_comes at s p (messages.PcReq asks) os heeds h q = silent_comes at s p (messages.PcReq asks) os h q
+  take_comes at s p (messages.PcNtf notices) os heeds h q = silent_comes at s p (messages.PcNtf notices) os h q
+  take_comes at s p (messages.PcErr reports) os heeds h q = silent_comes at s p (messages.PcErr reports) os h q
+  take_comes at s p (messages.Open body) os heeds h q = silent_comes at s p (messages.Open body) os h q
+  take_comes at s p messages.Keepalive os heeds h q = silent_comes at s p messages.Keepalive os h q
+  take_comes at s p (messages.Close why) os heeds h q = silent_comes at s p (messages.Close why) os h q
+  take_comes at s p (messages.Other kind) os heeds h q = silent_comes at s p (messages.Other kind) os h q
 
   split : (ds : Transcript) (x : Bool) (g h : Going Pin Segment) → (x ≡ true → Holds c n (g.deeds ++ ds) g.state → AreReady (g.deeds ++ ds) g.state) → (x ≡ false → Holds c n (h.deeds ++ ds) h.state → AreReady (h.deeds ++ ds) h.state) →
       Holds c n ((cond x g h).deeds ++ ds) (cond x g h).state → AreReady ((cond x g h).deeds ++ ds) (cond x g h).state
@@ -326,9 +418,9 @@ module _ (c : Codec) (n : NetworkParts) where
   pub numbers : (ds : Transcript) (s : Core) → Both c n ds s → (d : As) → NumbersRise 0 (s.elements d).pending.rows (s.elements d).pending.given
   numbers ds s both d = (both.0.elements d).numbers
 
-  give_ready : (at : As) (p : Peer) (m : Message) (s : Core) (es ds : Transcript) → All (es ++ ds) s →
+  give_ready : (at : As) (p : Peer) (m : Message) (s : Core) (es ds : Transcript) → ((r : Reply) → In r (replies_of m) → Heeds c p (s.elements at).pending.rows r) → All (es ++ ds) s →
       (let g = give Pin Segment c n open_of at p m (record { state = s; deeds = es }) in Holds c n (g.deeds ++ ds) g.state → AreReady (g.deeds ++ ds) g.state)
-  give_ready at p m s es ds all =
+  give_ready at p m s es ds heeds all =
       let r = parent.take c (family n) p m s.parent in
       let t = take c open_of (place n at) (s.current at) p (class_of n p) s.clock m (s.elements at) in
       let u = puts Pin Segment c n open_of at r.outputs (with_parent Pin Segment c n open_of r.parent s) in
@@ -336,11 +428,11 @@ module _ (c : Codec) (n : NetworkParts) where
       split ds (same_as at parent_as)
       (record { state = u; deeds = Takes at p m r.outputs ∷ es })
       (record { state = v; deeds = Takes at p m t.outputs ∷ es })
-      (λ up next. ready_after (Takes at p m r.outputs) (es ++ ds) s u all.0.1 all.1 next
+      (λ up next. ready_after (Takes at p m r.outputs) (es ++ ds) s u all.0 all.1 next
       (stay (Takes at p m r.outputs) s u (λ d. ap (λ (f : As → Element Pin Segment). (f d).pending) (puts_elements c n at r.outputs (with_parent Pin Segment c n open_of r.parent s)))))
-      (λ low next. ready_after (Takes at p m t.outputs) (es ++ ds) s v all.0.1 all.1 next
+      (λ low next. ready_after (Takes at p m t.outputs) (es ++ ds) s v all.0 all.1 next
       (come (Takes at p m t.outputs) at t.element s v (puts_elements c n at t.outputs (with_element Pin Segment c n open_of at t.element s))
-      (λ h i. take_comes at s p m t.outputs h (take_from c (place n at) (s.current at) p (class_of n p) s.clock (s.elements at) (numbers (es ++ ds) s all.0 at) m h i))))
+      (λ h i. take_comes at s p m t.outputs heeds h (take_from c (place n at) (s.current at) p (class_of n p) s.clock (s.elements at) (numbers (es ++ ds) s all.0 at) m h i))))
 
   fall_ready : (at : As) (p : Peer) (s : Core) (ds : Transcript) → All ds s →
       (let g = fall Pin Segment c n open_of at p (record { state = s; deeds = [] }) in Holds c n (g.deeds ++ ds) g.state → AreReady (g.deeds ++ ds) g.state)
@@ -352,9 +444,9 @@ module _ (c : Codec) (n : NetworkParts) where
       split ds (same_as at parent_as)
       (record { state = u; deeds = Downs at p r.outputs ∷ [] })
       (record { state = v; deeds = Downs at p t.outputs ∷ [] })
-      (λ up next. ready_after (Downs at p r.outputs) ds s u all.0.1 all.1 next
+      (λ up next. ready_after (Downs at p r.outputs) ds s u all.0 all.1 next
       (stay (Downs at p r.outputs) s u (λ d. ap (λ (f : As → Element Pin Segment). (f d).pending) (puts_elements c n at r.outputs (with_parent Pin Segment c n open_of r.parent s)))))
-      (λ low next. ready_after (Downs at p t.outputs) ds s v all.0.1 all.1 next
+      (λ low next. ready_after (Downs at p t.outputs) ds s v all.0 all.1 next
       (come (Downs at p t.outputs) at t.element s v (puts_elements c n at t.outputs (with_element Pin Segment c n open_of at t.element s))
       (λ h i. quiet_comes (Downs at p t.outputs) at s p h (downed_from c (s.elements at) (numbers ds s all.0 at) p p h i))))
 
@@ -366,8 +458,8 @@ module _ (c : Codec) (n : NetworkParts) where
       split ds (same_as at parent_as)
       (record { state = u; deeds = Ups at p ∷ [] })
       (record { state = v; deeds = Ups at p ∷ [] })
-      (λ up next. ready_after (Ups at p) ds s u all.0.1 all.1 next (stay (Ups at p) s u (λ d. refl)))
-      (λ low next. ready_after (Ups at p) ds s v all.0.1 all.1 next (come (Ups at p) at (upped p (s.elements at)) s v refl (λ h i. inl (h, i, refl, refl))))
+      (λ up next. ready_after (Ups at p) ds s u all.0 all.1 next (stay (Ups at p) s u (λ d. refl)))
+      (λ low next. ready_after (Ups at p) ds s v all.0 all.1 next (come (Ups at p) at (upped p (s.elements at)) s v refl (λ h i. inl (h, i, refl, refl))))
 
   abbrev pub IfAll : Transcript → Core → Type 0
   IfAll ds s = AreSingle ds → All ds s
@@ -379,38 +471,40 @@ module _ (c : Codec) (n : NetworkParts) where
   act_ready net ds s t es held (rests s' t' same) = λ single next. ready_same ds s t same.elements (held single).1
   act_ready net ds s t es held (hears i bytes m s' read) = λ single next.
       let x = give_single c n (element_of n i) (Outside i) m s [] ds single in
-      give_ready (element_of n i) (Outside i) m s [] ds (held x.1) next
+      let heard : (r : Reply) → In r (replies_of m) → Heeds c (Outside i) (s.elements (element_of n i)).pending.rows r =
+      subst (λ (z : Message). (r : Reply) → In r (replies_of z) → Heeds c (Outside i) (s.elements (element_of n i)).pending.rows r) (sym read.2) (heeds_of c i (s.elements (element_of n i)).pending.rows read.0) in
+      give_ready (element_of n i) (Outside i) m s [] ds heard (held x.1) next
   act_ready net ds s t es held (carries a b bytes rest m s' u is read same) = λ single next.
       let x = give_single c n b (Inner a) m u (Pops a b ∷ []) ds single in
       let old = held x.1.1 in
       let q = popped Pin Segment c n open_of a b rest s in
-      let both = act_both c n net ds s q (Pops a b ∷ []) (λ z. (held z).0) (nods a b bytes rest s is) x.1 in
-      let both' = act_both c n net (Pops a b ∷ ds) q u [] (λ z. both) (rests q u same) x.1 in
-      let ready' = ready_same (Pops a b ∷ ds) q u same.elements (ready_after (Pops a b) ds s q old.0.1 old.1 both.0 (stay (Pops a b) s q (λ d. refl))) in
-      give_ready b (Inner a) m u (Pops a b ∷ []) ds (both', ready') next
-  act_ready net ds s t es held (nods a b bytes rest s' is) = λ single next. let old = held single.1 in ready_after (Pops a b) ds s t old.0.1 old.1 next (stay (Pops a b) s t (λ d. refl))
+      let both = act_both c n ds s q (Pops a b ∷ []) (λ z. (held z).0) (nods a b bytes rest s is) x.1 in
+      let both' = act_both c n (Pops a b ∷ ds) q u [] (λ z. both) (rests q u same) x.1 in
+      let ready' = ready_same (Pops a b ∷ ds) q u same.elements (ready_after (Pops a b) ds s q old.0 old.1 both.0 (stay (Pops a b) s q (λ d. refl))) in
+      give_ready b (Inner a) m u (Pops a b ∷ []) ds (λ r j. tt) (both', ready') next
+  act_ready net ds s t es held (nods a b bytes rest s' is) = λ single next. let old = held single.1 in ready_after (Pops a b) ds s t old.0 old.1 next (stay (Pops a b) s t (λ d. refl))
   act_ready net ds s t es held (hands i bytes s' t' same) = λ single next.
       let old = held single.1 in
-      ready_after (Hands i bytes) ds s t old.0.1 old.1 next (stay (Hands i bytes) s t (λ d. ap (λ (f : As → Element Pin Segment). (f d).pending) same.elements))
+      ready_after (Hands i bytes) ds s t old.0 old.1 next (stay (Hands i bytes) s t (λ d. ap (λ (f : As → Element Pin Segment). (f d).pending) same.elements))
   act_ready net ds s t es held (rises at p s') = λ single next. rise_ready at p s ds (held (rise_single c n at p s ds single)) next
   act_ready net ds s t es held (falls at p s') = λ single next. fall_ready at p s ds (held (fall_single c n at p s ds single)) next
   act_ready net ds s t es held (says at p o s') = λ single next.
       let old = held single.1 in
       let out : Output = record { to = p; message = own_message o } in
-      ready_after (Says at out) ds s t old.0.1 old.1 next (stay (Says at out) s t (λ d. ap (λ (f : As → Element Pin Segment). (f d).pending) (puts_elements c n at (out ∷ []) s)))
-  act_ready net ds s t es held (clears x s') = λ single next. let old = held single.1 in ready_after (Clears x.lower x.upper) ds s t old.0.1 old.1 next (stay (Clears x.lower x.upper) s t (λ d. refl))
-  act_ready net ds s t es held (expires now s') = λ single next. let old = held single.1 in ready_after (Expires now) ds s t old.0.1 old.1 next (stay (Expires now) s t (λ d. refl))
+      ready_after (Says at out) ds s t old.0 old.1 next (stay (Says at out) s t (λ d. ap (λ (f : As → Element Pin Segment). (f d).pending) (puts_elements c n at (out ∷ []) s)))
+  act_ready net ds s t es held (clears x s') = λ single next. let old = held single.1 in ready_after (Clears x.lower x.upper) ds s t old.0 old.1 next (stay (Clears x.lower x.upper) s t (λ d. refl))
+  act_ready net ds s t es held (expires now s') = λ single next. let old = held single.1 in ready_after (Expires now) ds s t old.0 old.1 next (stay (Expires now) s t (λ d. refl))
 
   pub act_all : IsNetwork n → (ds : Transcript) (s t : Core) (es : Transcript) → IfAll ds s → Acts Pin Segment c n open_of s es t → IfAll (es ++ ds) t
   act_all net ds s t es held act single =
-      let both = act_both c n net ds s t es (λ z. (held z).0) act single in
+      let both = act_both c n ds s t es (λ z. (held z).0) act single in
       (both, act_ready net ds s t es held act single both.0)
 
   pub load_all : (ds : Transcript) (s : Plant) (d : As) (g : Rows) → IfAll ds s → IfAll (Loads d g ∷ ds) (load_new c n d g s).state
   load_all ds s d g held single =
       let old = held single.1 in
       let both = load_both c n ds s d g (λ z. (held z).0) single in
-      (both, ready_after (Loads d g) ds s (load_new c n d g s).state old.0.1 old.1 both.0 (stay (Loads d g) s (load_new c n d g s).state (λ d'. refl)))
+      (both, ready_after (Loads d g) ds s (load_new c n d g s).state old.0 old.1 both.0 (stay (Loads d g) s (load_new c n d g s).state (λ d'. refl)))
 
   pub solve_all : (ds : Transcript) (s : Plant) (d : As) (k : ℕ) (h : Happened) → IfAll ds s → ElementSolves c n d k s h → IfAll (h.deeds ++ ds) h.state
   solve_all ds s d k h held x single = (both, ready single both)
@@ -426,7 +520,7 @@ module _ (c : Codec) (n : NetworkParts) where
           subst (λ (h' : Happened). AreSingle (h'.deeds ++ ds) → Both c n (h'.deeds ++ ds) h'.state → AreReady (h'.deeds ++ ds) h'.state) (sym x.is)
           (λ single' next.
           let old = held single'.1 in
-          ready_after e ds s v old.0.1 old.1 next.0
+          ready_after e ds s v old.0 old.1 next.0
           (come e d r.element s v (puts_elements c n d r.outputs (with_element Pin Segment c n open_of d r.element s))
           (λ g i. quiet_comes e d s the_parent g (commit_from c (s.elements d) (numbers ds s old.0 d) the_parent (place n d) (k, x.held) x.down s.clock x.rows.source_known x.rows.target_known x.rows.best g i))))
 
@@ -444,7 +538,7 @@ module _ (c : Codec) (n : NetworkParts) where
           subst (λ (h' : Happened). AreSingle (h'.deeds ++ ds) → Both c n (h'.deeds ++ ds) h'.state → AreReady (h'.deeds ++ ds) h'.state) (sym x.is)
           (λ single' next.
           let old = held single'.1 in
-          ready_after e ds s v old.0.1 old.1 next.0
+          ready_after e ds s v old.0 old.1 next.0
           (stay e s v (λ d. ap (λ (f : As → Element Pin Segment). (f d).pending) (puts_elements c n parent_as r.outputs (with_parent Pin Segment c n open_of r.parent s)))))
 
   pub run_ready : IsNetwork n → (es : List Entry) (s : Plant) → Run c n es s → AreSingle (deeds_of c n es) → (Both c n (deeds_of c n es) s) × AreReady (deeds_of c n es) s

@@ -73,7 +73,7 @@ pub record OfReplies (c : Codec) (n : NetworkParts) (older : Transcript) (d : As
   pub is_open : opened c d row.1.key.peer row.1.key.id older ≡ Some at
   pub rest : List As
   pub sent : SentIn at d the_parent (request_message reply.id row.1.item.wanted row.1.item.wanted.target rest)
-  pub goes : IsRest row.1.item.sequence rest the_parent
+  pub goes : IsRest (place n d).routes row.1.item.sequence rest the_parent
   pub to : p ≡ row.1.key.peer
   pub id : r.id ≡ row.1.key.id
   pub answer : r.answer ≡ reply.answer
@@ -131,7 +131,7 @@ module _ (c : Codec) (n : NetworkParts) where
             rest = sent.2.0;
             sent = subst (λ (y : ℕ). SentIn sent.0 at the_parent (request_message y x.row.1.item.wanted x.row.1.item.wanted.target sent.2.0)) ids
                 (subst (λ (z : Peer). SentIn sent.0 at z (request_message id x.row.1.item.wanted x.row.1.item.wanted.target sent.2.0)) to_up sent.2.1);
-            goes = subst (λ (z : Peer). IsRest x.row.1.item.sequence sent.2.0 z) to_up sent.2.2;
+            goes = subst (λ (z : Peer). IsRest (place n at).routes x.row.1.item.sequence sent.2.0 z) to_up sent.2.2;
             to = sym x.passed.is_to;
             id = x.passed.id;
             answer = x.passed.answer;
@@ -294,8 +294,8 @@ module _ (c : Codec) (n : NetworkParts) where
       let x = give_single c n b (Inner a) m u (Pops a b ∷ []) ds single in
       let old = held x.1.1 in
       let q = popped Pin Segment c n open_of a b rest s in
-      let both = act_both c n net ds s q (Pops a b ∷ []) (λ z. (held z).0.0) (nods a b bytes rest s is) x.1 in
-      let both' = act_both c n net (Pops a b ∷ ds) q u [] (λ z. both) (rests q u same) x.1 in
+      let both = act_both c n ds s q (Pops a b ∷ []) (λ z. (held z).0.0) (nods a b bytes rest s is) x.1 in
+      let both' = act_both c n (Pops a b ∷ ds) q u [] (λ z. both) (rests q u same) x.1 in
       give_replied b (Inner a) m u (Pops a b ∷ []) ds x.0 both' (by_none (Pops a b) ds (λ d. refl), old.1)
   act_replied net ds s t es held (nods a b bytes rest s' is) = λ single. (by_none (Pops a b) ds (λ d. refl), (held single.1).1)
   act_replied net ds s t es held (hands i bytes s' t' same) = λ single. (by_none (Hands i bytes) ds (λ d. refl), (held single.1).1)

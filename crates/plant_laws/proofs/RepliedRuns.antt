@@ -1,16 +1,16 @@
 -- In every run whose messages are in written form, a reply of an element that tells of paths comes from a solve, a key, or the parent.
-use Rattle.std.proofs.Common.{◌≡◌, ◌≢◌, ◌⊎◌, Bool, cond, List, [], ◌∷◌, Option, Some, sym, ◌∙◌, ap, subst, inl, inr, refl}
+use Rattle.std.proofs.Common.{◌≡◌, ◌≢◌, ◌⊎◌, Bool, cond, List, [], ◌∷◌, Option, Some, sym, ◌∙◌, ap, subst, inl, inr}
 use Rattle.std.specs.Prelude.{Contains}
 use Rattle.std.proofs.lemmas.Bool.{cases_Bool}
 use Rattle.dom_base.specs.declared.names.As.{As}
 use Rattle.dom_base.specs.declared.names.Peer.{Peer}
-use Rattle.dom_base.specs.declared.names.Peer.TheVariants.{Outside, Inner}
 use Rattle.pcep_messages.specs.Spelling.{IsWritten}
 use Rattle.pcep_messages.specs.declared.message.Message.TheVariants as messages
 use Rattle.pcep_messages.specs.declared.message.Path.{Path}
 use Rattle.pcep_messages.specs.declared.message.Reply.{Reply}
 use Rattle.plant_text.specs.declared.settings.NetworkParts.{NetworkParts}
 use Rattle.plant_text.specs.Names.{parent_as}
+use Rattle.plant_model.specs.declared.route.Route.{Route}
 use Rattle.plant_model.specs.Names.{the_parent}
 use Rattle.plant_model.specs.Wire.{Codec}
 use Rattle.plant_model.specs.Writing.{request_message}
@@ -23,17 +23,14 @@ use Rattle.plant_model.specs.Laws.{IsCodec, IsNetwork, IsSequence}
 use Rattle.plant_laws.specs.Transcript.{Transcript, Within, opened, outputs_at, SentIn}
 use Rattle.plant_laws.specs.Sending.{AllSent}
 use Rattle.plant_laws.proofs.ReadBack.{run_single}
+use Rattle.plant_laws.proofs.NumberRuns.{toward_inner}
 use Rattle.plant_laws.proofs.SentOn.{IsRest}
-use Rattle.plant_laws.proofs.ReadyRows.{one_taken, the_one, no_cons}
+use Rattle.plant_laws.proofs.ReadyRows.{taken_alone, no_cons}
 use Rattle.plant_laws.proofs.Replied.{OfReplies, AllReplied, IsReplied, run_replied}
 use Rattle.plant_laws.proofs.FromElement.{admits_path, own_sequence, real_next, same_first, same_rest}
 use Rattle.plant_laws.proofs.LeastChains.{admitted_at}
 use Rattle.plant_laws.proofs.Given.{OfSolve, OfKey, OfParent}
 use Rattle.plant_laws.specs.Certified.{Tells}
-
-abbrev inner_of : As → Peer → As
-inner_of a (Inner b) = b
-inner_of a (Outside i) = a
 
 some_moment : (o : Option Transcript) (a b : Transcript) → o ≡ Some a → o ≡ Some b → a ≡ b
 some_moment o a b e f = let one : Some a ≡ Some b = sym e ∙ f in cc
@@ -42,15 +39,15 @@ never_empty : (d : As) (l : List As) → sequence_or d l ≡ [] → ⊥
 never_empty d [] e = no_cons d [] e
 never_empty d (a ∷ rest) e = no_cons a rest e
 
-rest_none : (sequence rest : List As) → IsRest sequence rest the_parent → sequence ≡ [] → rest ≡ []
-rest_none sequence rest (inl up) none = up.1
-rest_none sequence rest (inr on) none = absurd (no_cons on.0 rest (sym on.3 ∙ none))
+rest_none : (routes : List Route) (sequence rest : List As) → IsRest routes sequence rest the_parent → sequence ≡ [] → rest ≡ []
+rest_none routes sequence rest (inl up) none = up.1
+rest_none routes sequence rest (inr on) none = absurd (no_cons on.0 rest (sym on.3 ∙ none))
 
 -- no real sequence leads to the parent
-not_along : (d : As) (wanted sequence rest : List As) → ((wanted ≡ []) ⊎ ((l : List As) × (wanted ≡ d ∷ l) × IsSequence d l)) → sequence ≡ sequence_or d wanted → IsRest sequence rest the_parent → ⊥
-not_along d wanted sequence rest own is (inl up) = never_empty d wanted (sym is ∙ up.0)
-not_along d wanted sequence rest own is (inr on) =
-    let up : on.1 ≡ parent_as = sym (ap (inner_of parent_as) on.5) in
+not_along : (d : As) (routes : List Route) (wanted sequence rest : List As) → ((wanted ≡ []) ⊎ ((l : List As) × (wanted ≡ d ∷ l) × IsSequence d l)) → sequence ≡ sequence_or d wanted → IsRest routes sequence rest the_parent → ⊥
+not_along d routes wanted sequence rest own is (inl up) = never_empty d wanted (sym is ∙ up.0)
+not_along d routes wanted sequence rest own is (inr on) =
+    let up : on.1 ≡ parent_as = sym (toward_inner on.1 parent_as routes on.5) in
     let along : sequence_or d wanted ≡ on.0 ∷ on.1 ∷ on.2 = sym is ∙ on.3 ∙ ap (λ (l : List As). on.0 ∷ l) on.4 in
     elim (own_sequence d wanted own) [
       | inl short ↦ no_cons on.1 on.2 (same_rest on.0 d (on.1 ∷ on.2) [] (sym along ∙ short))
@@ -68,7 +65,7 @@ module _ (c : Codec) (codec : IsCodec c) (n : NetworkParts) (es : List Entry) (s
   of_parent : (e : PlantDeed) (older : Transcript) (d : As) (p : Peer) (r : Reply) → Within (e ∷ older) (deeds_of c n es) → OfReplies c n older d p r e → OfParent c n older d p r e
   of_parent e older d p r w x =
       let w' : Within (Takes d the_parent (messages.PcRep x.replies) x.outputs ∷ older) (deeds_of c n es) = subst (λ (z : PlantDeed). Within (z ∷ older) (deeds_of c n es)) x.is w in
-      let one = the_one x.replies x.reply (one_taken c codec n es s run written d x.row the_parent parent_as refl x.replies x.outputs older w') x.is_reply' in
+      let one = taken_alone c codec n es s run written d x.row the_parent x.replies x.reply x.outputs older w' x.is_reply' in
       let v = x.row.1.item.wanted in
       let asked = admitted_at c x.taken_row.at d x.row.1.key.peer x.taken_row.request x.taken_row.delivered in
       let admits = admits_path c asked.0 d x.taken_row.request v asked.1 x.taken_row.wanted in
@@ -87,12 +84,12 @@ module _ (c : Codec) (codec : IsCodec c) (n : NetworkParts) (es : List Entry) (s
               taken = x.taken_row;
               goes = ap (λ z. goes_up (place n d).parent z v.sequence) x.taken_row.class ∙ goes;
               sent = subst (λ (m : Transcript). SentIn m d the_parent (request_message x.reply.id v v.target [])) same
-                  (subst (λ (l : List As). SentIn x.at d the_parent (request_message x.reply.id v v.target l)) (rest_none x.row.1.item.sequence x.rest x.goes none) x.sent);
+                  (subst (λ (l : List As). SentIn x.at d the_parent (request_message x.reply.id v v.target l)) (rest_none (place n d).routes x.row.1.item.sequence x.rest x.goes none) x.sent);
               to = x.to;
               id = x.id;
               answer = x.answer;
             }
-        | inr stays ↦ absurd (not_along d v.sequence x.row.1.item.sequence x.rest sequence (x.sequence ∙ ap (λ (b : Bool). cond b [] (sequence_or d v.sequence)) stays) x.goes)
+        | inr stays ↦ absurd (not_along d (place n d).routes v.sequence x.row.1.item.sequence x.rest sequence (x.sequence ∙ ap (λ (b : Bool). cond b [] (sequence_or d v.sequence)) stays) x.goes)
       ]
 
   pub replied_of : IsNetwork n → (e : PlantDeed) (older : Transcript) (d : As) (p : Peer) (r : Reply) (paths : List Path) → d ≢ parent_as → Within (e ∷ older) (deeds_of c n es) →

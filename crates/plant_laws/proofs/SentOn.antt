@@ -3,7 +3,6 @@ use Rattle.std.proofs.Common.{◌≡◌, ◌⊎◌, ◌<◌, ℕ, ◌+◌, Bool,
 use Rattle.std.proofs.lemmas.Bool.{cases_Bool}
 use Rattle.dom_base.specs.declared.names.As.{As}
 use Rattle.dom_base.specs.declared.names.Peer.{Peer}
-use Rattle.dom_base.specs.declared.names.Peer.TheVariants.{Inner}
 use Rattle.pcep_subobjects.specs.declared.hop.Hop.{Hop}
 use Rattle.pcep_messages.specs.declared.message.Message.{Message}
 use Rattle.pcep_messages.specs.declared.message.Message.TheVariants as messages
@@ -15,6 +14,7 @@ use Rattle.request_table.specs.declared.held.RequestKey.{RequestKey}
 use Rattle.request_table.specs.Pending.{Pending, key_of, same_peer, number_of, number_among, opened_of, is_full}
 use Rattle.request_table.proofs.KeyLemmas.{same_key_is}
 use Rattle.plant_model.specs.declared.output.Output.{Output}
+use Rattle.plant_model.specs.declared.route.Route.{Route}
 use Rattle.plant_model.specs.Names.{the_parent, same_id}
 use Rattle.plant_model.specs.Wire.{Codec, Checked, Admitted, Wrong}
 use Rattle.plant_model.specs.Writing.{request_message, busy}
@@ -31,14 +31,14 @@ use Rattle.plant_laws.proofs.Takes.{IsSingle}
 use Rattle.plant_laws.proofs.Subsides.{IsOlder, Subsides, replies_subs, notices_subs, reports_subs}
 use Rattle.plant_laws.specs.Waiting.{wait_alike}
 
--- where a request goes on, by its sequence: to the parent without one, or to the next domain
-abbrev pub IsRest : List As → List As → Peer → Type 0
-IsRest sequence rest b = ((sequence ≡ []) × (rest ≡ []) × (b ≡ the_parent)) ⊎ ((own : As) × (next : As) × (more : List As) × (sequence ≡ own ∷ rest) × (rest ≡ next ∷ more) × (b ≡ Inner next))
+-- where a request goes on, by its sequence: to the parent without one, or to the peer that is asked for the next domain
+abbrev pub IsRest : List Route → List As → List As → Peer → Type 0
+IsRest routes sequence rest b = ((sequence ≡ []) × (rest ≡ []) × (b ≡ the_parent)) ⊎ ((own : As) × (next : As) × (more : List As) × (sequence ≡ own ∷ rest) × (rest ≡ next ∷ more) × (b ≡ toward next routes))
 
 -- a request that waits is among the outputs
-abbrev pub IsSentIn : {P : Type 0} → List Output → Item P → Stage → Type 0
-IsSentIn os i (Ready branches) = Unit {0}
-IsSentIn os i (Waits b y) = (rest : List As) × In (record { to = b; message = request_message y i.wanted i.wanted.target rest }) os × IsRest i.sequence rest b
+abbrev pub IsSentIn : {P : Type 0} → List Route → List Output → Item P → Stage → Type 0
+IsSentIn routes os i (Ready branches) = Unit {0}
+IsSentIn routes os i (Waits b y) = (rest : List As) × In (record { to = b; message = request_message y i.wanted i.wanted.target rest }) os × IsRest routes i.sequence rest b
 
 pub same_peer_is : (a b : Peer) → same_peer a b ≡ true → a ≡ b
 same_peer_is a b e = ap (λ (k : RequestKey). k.peer) (same_key_is (key_of a 0) (key_of b 0) (rw e refl))
@@ -74,11 +74,10 @@ fresh_apart b y (row ∷ rows) free g i =
     here miss rec (inl is) = subst (λ (r : Row _). wait_alike (Waits b y) r.1.item.stage ≡ false) is (apart row.1.item.stage miss)
     here miss rec (inr j) = rec j
 
-module _ (P : Type 0) (S : Type 0) (c : Codec) (show : S → List Hop) (e : Place) (pin : P) (p : Peer) (class : Class) (now : ℕ) (k : Element P S) (few : length k.pending.rows < 4294967294)
-    (inner : (b : As) → toward b e.routes ≡ Inner b) where
+module _ (P : Type 0) (S : Type 0) (c : Codec) (show : S → List Hop) (e : Place) (pin : P) (p : Peer) (class : Class) (now : ℕ) (k : Element P S) (few : length k.pending.rows < 4294967294) where
   abbrev pub IsNew : List Output → Row P → Type 0
   IsNew os h =
-      (number_among h.1.key k.pending.rows ≡ None) × IsSentIn os h.1.item h.1.item.stage
+      (number_among h.1.key k.pending.rows ≡ None) × IsSentIn e.routes os h.1.item h.1.item.stage
       × ((g : Row P) → In g k.pending.rows → wait_alike h.1.item.stage g.1.item.stage ≡ false)
 
   abbrev pub News : Taken P S → Type 0
@@ -95,7 +94,7 @@ module _ (P : Type 0) (S : Type 0) (c : Codec) (show : S → List Hop) (e : Plac
   choose false t u x y = y
 
   module _ (flags x : ℕ) (w : Wanted) (none : number_of k.pending p x ≡ None) where
-    opens : (t : Taken P S) (item : Item P) → t.element.pending ≡ opened_of k.pending p x item → IsSentIn t.outputs item item.stage →
+    opens : (t : Taken P S) (item : Item P) → t.element.pending ≡ opened_of k.pending p x item → IsSentIn e.routes t.outputs item item.stage →
         ((g : Row P) → In g k.pending.rows → wait_alike item.stage g.1.item.stage ≡ false) → News t
     opens t item same sent apart = (key_of p x, λ h i. go h (in_append h k.pending.rows ((k.pending.given + 1, record { key = key_of p x; item = item }) ∷ []) (subst (λ (q : Pending (Item P)). In h q.rows) same i)))
       where
@@ -107,13 +106,13 @@ module _ (P : Type 0) (S : Type 0) (c : Codec) (show : S → List Hop) (e : Plac
     kept : (t : Taken P S) → t.element.pending ≡ k.pending → News t
     kept t same = unchanged t same
 
-    sends : (sequence rest : List As) (r : Bool) (to : Peer) (o : Option Way) → ((way : Way) → o ≡ Some way → way.peer ≡ to) → IsRest sequence rest to → News (taking.send_on pin p class flags x w sequence rest r k o)
+    sends : (sequence rest : List As) (r : Bool) (to : Peer) (o : Option Way) → ((way : Way) → o ≡ Some way → way.peer ≡ to) → IsRest e.routes sequence rest to → News (taking.send_on pin p class flags x w sequence rest r k o)
     sends sequence rest r to None is goes = kept (taking.denied p flags x k) refl
     sends sequence rest r to (Some way) is goes =
         choose way.up _ _
         (choose r _ _ (kept (taking.denied p flags x k) refl)
         (opens (taking.sent_on pin p class flags x w sequence rest k way) (taking.item_of pin class flags w sequence (Waits way.peer (fresh_id way.peer way.last_id k.pending.rows))) refl
-        (rest, inl refl, subst (IsRest sequence rest) (sym (is way refl)) goes)
+        (rest, inl refl, subst (IsRest e.routes sequence rest) (sym (is way refl)) goes)
         (fresh_apart way.peer (fresh_id way.peer way.last_id k.pending.rows) k.pending.rows (fresh_is_free way.peer way.last_id k.pending.rows few))))
         (kept (taking.denied p flags x k) refl)
 
@@ -121,7 +120,7 @@ module _ (P : Type 0) (S : Type 0) (c : Codec) (show : S → List Hop) (e : Plac
     along [] = kept (taking.denied p flags x k) refl
     along (d ∷ []) = opens (taking.take_along e pin p class flags x w k (d ∷ [])) (taking.item_of pin class flags w (d ∷ []) (Ready [])) refl tt (λ g i. refl)
     along (d ∷ b ∷ rest) =
-        sends (d ∷ b ∷ rest) (b ∷ rest) (is_denied e.deny class b) (toward b e.routes) (way_to (toward b e.routes) k.ways) (λ way is. way_peer (toward b e.routes) k.ways way is) (inr (d, b, rest, refl, refl, inner b))
+        sends (d ∷ b ∷ rest) (b ∷ rest) (is_denied e.deny class b) (toward b e.routes) (way_to (toward b e.routes) k.ways) (λ way is. way_peer (toward b e.routes) k.ways way is) (inr (d, b, rest, refl, refl, refl))
 
     paths : News (taking.take_path e pin p class flags x w k)
     paths =

@@ -5,11 +5,12 @@ use Rattle.dom_base.specs.declared.names.As.{As}
 use Rattle.dom_base.specs.declared.addr.Addr.{Addr}
 use Rattle.dom_base.specs.declared.addr.Addr.TheVariants.{V4, V6}
 use Rattle.dom_base.specs.declared.names.Peer.{Peer}
-use Rattle.dom_base.specs.declared.names.Peer.TheVariants.{Inner}
+use Rattle.dom_base.specs.declared.names.Peer.TheVariants.{Outside, Inner}
 use Rattle.pcep_messages.specs.declared.message.Asked.{Asked}
 use Rattle.pcep_messages.specs.declared.message.Wanted.{Wanted}
 use Rattle.request_table.specs.Pending.{same_peer}
 use Rattle.plant_model.specs.declared.output.Output.{Output}
+use Rattle.plant_model.specs.declared.route.Route.{Route}
 use Rattle.plant_text.specs.Names.{same_as, parent_as}
 use Rattle.plant_model.specs.Wire.{Codec}
 use Rattle.plant_model.specs.Writing.{request_message, ends_kind, vspt_flag}
@@ -26,6 +27,7 @@ use Rattle.plant_laws.proofs.Asks.{Asks, admitted, refused}
 use Rattle.plant_laws.proofs.Alive.{IsSound}
 use Rattle.plant_laws.proofs.Decode.{Rising, same_request}
 use Rattle.plant_laws.proofs.Errands.{Last, after_suc, pass_still}
+use Rattle.plant_laws.proofs.NumberRuns.{toward_inner}
 use Rattle.plant_laws.proofs.Onward.{GoesTo, last_other, last_own, way_peer}
 
 -- an output that asks, asks its receiver
@@ -88,13 +90,17 @@ rest_sequence own next more s = record {
   real = λ i d le. s.real (suc i) d (omega (arith, le));
 }
 
--- where it goes, and that it asks there
-pub goes_asks : (c : Codec) → IsCodec c → (a : Asked) (own : As) (flags x : ℕ) (w : Wanted) → Admits c a own flags x w → (to : Peer) (rest : List As) → GoesTo Pin Segment w to rest → (y : ℕ) → 1 ≤ y → y ≤ 4294967295 →
-    (z : As) × (to ≡ Inner z) × Asks c (request_message y w w.target rest) z y rest
-goes_asks c codec a own flags x w is to rest (inl up) y some fits =
-    (parent_as, up.0, subst (λ (l : List As). Asks c (request_message y w w.target l) parent_as y l) (sym up.1) (ask_upward c codec a own flags x w is y some fits))
-goes_asks c codec a own flags x w is to rest (inr on) y some fits =
-    (on.1, on.3, subst (λ (l : List As). Asks c (request_message y w w.target l) on.1 y l) (sym on.4) (ask_along c codec a own flags x w is y w.target on.1 on.2 some fits (sequence (codec.own a own flags x w is).2)))
+-- where it goes to an element, or to the parent, it asks there
+pub goes_asks : (c : Codec) → IsCodec c → (a : Asked) (own : As) (routes : List Route) (flags x : ℕ) (w : Wanted) → Admits c a own flags x w → (to : Peer) (rest : List As) → GoesTo Pin Segment routes w to rest → (z : As) → to ≡ Inner z → (y : ℕ) → 1 ≤ y → y ≤ 4294967295 →
+    Asks c (request_message y w w.target rest) z y rest
+goes_asks c codec a own routes flags x w is to rest (inl up) z there y some fits =
+    let same : Inner z ≡ Inner parent_as = sym there ∙ up.0 in
+    let at : z ≡ parent_as = cc in
+    subst (λ (d : As). Asks c (request_message y w w.target rest) d y rest) (sym at) (subst (λ (l : List As). Asks c (request_message y w w.target l) parent_as y l) (sym up.1) (ask_upward c codec a own flags x w is y some fits))
+goes_asks c codec a own routes flags x w is to rest (inr on) z there y some fits =
+    let at : z ≡ on.1 = toward_inner on.1 z routes (sym there ∙ on.3) in
+    subst (λ (d : As). Asks c (request_message y w w.target rest) d y rest) (sym at)
+    (subst (λ (l : List As). Asks c (request_message y w w.target l) on.1 y l) (sym on.4) (ask_along c codec a own flags x w is y w.target on.1 on.2 some fits (sequence (codec.own a own flags x w is).2)))
   where
     sequence : (w.sequence ≡ []) ⊎ ((rest' : List As) × (w.sequence ≡ own ∷ rest') × IsSequence own rest') → IsSequence on.1 on.2
     sequence (inl none) = absurd (let out : on.0 ∷ on.1 ∷ on.2 ≡ [] = sym on.5 ∙ none in cc)
@@ -134,6 +140,15 @@ one_rises p z ways way y w t rest found is peer b =
           rw hit ((omega (arith, next), omega (arith, own)), omega (arith, own, next))
       | inr miss ↦ let other = ap last_to (last_other (Inner b) (Inner z) y ways miss) in rw miss (omega (arith, other), omega (arith, other))
     ])
+
+-- a request to an outside peer leaves the ids of links as they are
+pub outside_rises : (p : Peer) (i : ℕ) (ways : List Way) (y : ℕ) (w : Wanted) (t : Addr) (rest : List As) → p ≡ Outside i → (b : As) →
+    (let os : List Output = record { to = p; message = request_message y w t rest } ∷ [] in
+    Rising (put_into b os) (Last ways b) (Last (with_last p y ways) b) × (Last (with_last p y ways) b ≤ Last ways b + count_asks (put_into b os)))
+outside_rises p i ways y w t rest is b =
+    subst (λ (q : Peer). (let os : List Output = record { to = q; message = request_message y w t rest } ∷ [] in
+    Rising (put_into b os) (Last ways b) (Last (with_last q y ways) b) × (Last (with_last q y ways) b ≤ Last ways b + count_asks (put_into b os)))) (sym is)
+    (let other = ap last_to (last_other (Inner b) (Outside i) y ways refl) in (omega (arith, other), omega (arith, other)))
 
 -- the fresh id is the next
 pub fresh_next : (z : As) (ways : List Way) (way : Way) (rows : List (Row Pin)) → way_to (Inner z) ways ≡ Some way → Last ways z < 4294967295 → ((h : Row Pin) → In h rows → (id : ℕ) → h.1.item.stage ≡ Waits (Inner z) id → id ≤ Last ways z) →

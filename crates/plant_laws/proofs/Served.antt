@@ -50,7 +50,7 @@ use Rattle.plant_laws.proofs.MomentCauses.{HasOne, IsOpening, moment_cause, outs
 use Rattle.plant_laws.proofs.PartCauses.{contains_at, not_both}
 use Rattle.plant_laws.proofs.Queues.{same_as_is}
 use Rattle.plant_laws.proofs.SentOn.{same_peer_is}
-use Rattle.plant_laws.proofs.UnderWayLaw.{quiet_is_answered}
+use Rattle.plant_laws.proofs.UnderWayLaw.{quiet_has_none_pending}
 use Rattle.plant_laws.proofs.WhereWritten.{WrittenNetIds}
 
 -- ---- what an output is, that answers
@@ -326,10 +326,10 @@ module _ (c : Codec) (codec : IsCodec c) (n : NetworkParts) (net : IsNetwork n) 
       go false = ap (λ (rows : List _). is_some (number_among (key_of p x) rows)) (all d)
 
   came_to : IsQuiet s → Fate c now s d p x at → CameTo c n (run_of c n es s run) now d p x at
-  came_to quiet (once.pending open' is) = (let rows = quiet_is_answered c codec n net es s run written short quiet in not_both (is_pending s d p x) is (none_pending rows.0 rows.1))
+  came_to quiet (once.pending open' is) = (let rows = quiet_has_none_pending c codec n net es s run written short net.no_downs quiet in not_both (is_pending s d p x) is (none_pending rows.0 rows.1))
   came_to quiet (once.answered e one') = answered e one' (ends_with e one')
   came_to quiet (once.dropped e none why) = dropped e none why
 
 pub requests_are_served : WrittenNetIds RequestsAreServedIn
 requests_are_served c codec n net es s run written short run' quiet d p x at real within begins' =
-    came_to c codec n net es s run' written short d real p x at quiet (requests_are_answered_once c codec n net es s run written d p x at within begins').fate
+    came_to c codec n net es s run' written short d real p x at quiet (requests_are_answered_once c codec n net es s run d p x at within begins').fate

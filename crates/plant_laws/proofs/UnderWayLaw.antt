@@ -1,11 +1,11 @@
--- The law that what waits is under way, from the invariant of a run.
+-- The law that what waits is under way, from the invariant of a run; and what it makes of a quiet state.
 use Rattle.std.proofs.Common.{◌≡◌, ◌≢◌, ◌⊎◌, ◌≤◌, ℕ, Bool, true, false, cond, List, [], ◌∷◌, sym, ◌∙◌, ap, subst, inl, inr, refl, arith}
 use Rattle.std.specs.Prelude.{Contains}
 use Rattle.std.proofs.lemmas.Bool.{cases_Bool}
 use Rattle.std.proofs.lemmas.List.Elements.{All-head, All-tail}
 use Rattle.dom_base.specs.declared.names.As.{As}
 use Rattle.dom_base.specs.declared.names.Peer.{Peer}
-use Rattle.dom_base.specs.declared.names.Peer.TheVariants.{Inner}
+use Rattle.dom_base.specs.declared.names.Peer.TheVariants.{Outside, Inner}
 use Rattle.pcep_messages.specs.declared.message.Message.{Message}
 use Rattle.pcep_messages.specs.declared.message.Wanted.{Wanted}
 use Rattle.pcep_messages.specs.declared.message.Wish.{Wish}
@@ -24,15 +24,16 @@ use Rattle.dom_base.specs.declared.addr.Addr.{Addr}
 use Rattle.std.specs.Prelude.{Option}
 use Rattle.plant_model.specs.Laws.{IsCodec, IsSequence}
 use Rattle.plant_text.specs.Settings.{class_of}
+use Rattle.plant_model.specs.Routes.{toward}
 use Rattle.plant_model.specs.Settings.{place}
 use Rattle.plant_model.specs.Element.{Waits, Row}
 use Rattle.plant_model.specs.Taking.{sequence_or, goes_up}
 use Rattle.plant_model.specs.Plant.{Pin, Segment, Plant, deeds_of}
 use Rattle.plant_laws.specs.Transcript.{Transcript, opened, Delivered, tail_of}
 use Rattle.plant_laws.specs.Standing.{texts}
-use Rattle.plant_laws.specs.Chains.{QuietIsAnsweredIn}
+use Rattle.plant_laws.specs.Chains.{QuietIsAnsweredIn, QuietHasNonePendingIn}
 use Rattle.plant_laws.specs.Waiting as waiting
-use Rattle.plant_laws.specs.UnderWay.{IsUnderWay, coming, taken, taken_up, answered, GoesOn, along, upward, WaitsAreUnderWayIn}
+use Rattle.plant_laws.specs.UnderWay.{IsUnderWay, coming, taken, taken_up, answered, GoesOn, along, outside, upward, WaitsAreUnderWayIn}
 use Rattle.plant_laws.proofs.Queues.{same_as_is, Stand}
 use Rattle.plant_laws.proofs.Handing.{In}
 use Rattle.plant_laws.proofs.Rows as table
@@ -43,6 +44,10 @@ use Rattle.plant_laws.proofs.OpenTables.{row_matched}
 use Rattle.plant_laws.proofs.ReadBack.{run_single}
 use Rattle.plant_laws.proofs.Sent.{run_sent}
 use Rattle.plant_laws.proofs.Waits.{waits_are_sent}
+use Rattle.plant_laws.proofs.Answering.{run_kept}
+use Rattle.plant_laws.proofs.NumberRuns.{toward_inner}
+use Rattle.plant_laws.proofs.PassedOn.{passed_on}
+use Rattle.plant_laws.proofs.Unrouted.{unrouted}
 use Rattle.plant_laws.proofs.Quiet as quiet
 use Rattle.plant_laws.proofs.Leaving as lower
 use Rattle.plant_laws.proofs.Leaving.{answers_count, CancelNone}
@@ -135,7 +140,7 @@ module _ (c : Codec) (n : NetworkParts) (codec : IsCodec c) (ds : Transcript) (s
         absurd (subst (λ (rows : List (Row Pin)). table.In h rows) tables.nothing (subst (λ (z : As). table.In h (s.elements z).pending.rows) (same_as_is d parent_as up) i))
   ]
 
-  element_goes : IsAlive c n ds s → (d : As) (h : Row Pin) (on : Peer) (id : ℕ) → Contains (s.elements d).pending.rows h → h.1.item.stage ≡ Waits on id → waiting.WasSentOn c ds d h on id → GoesOn c s d h on id
+  element_goes : IsAlive c n ds s → (d : As) (h : Row Pin) (on : Peer) (id : ℕ) → Contains (s.elements d).pending.rows h → h.1.item.stage ≡ Waits on id → waiting.WasSentOn c n ds d h on id → GoesOn c n s d h on id
   element_goes alive d h on id there stage sent = go sent.goes
     where
       row : table.In h (s.elements d).pending.rows
@@ -158,15 +163,22 @@ module _ (c : Codec) (n : NetworkParts) (codec : IsCodec c) (ds : Transcript) (s
           goes_along d own next more h.1.item.wanted (goes_up (place n d).parent (class_of n h.1.key.peer) h.1.item.wanted.sequence) h.1.item.sequence
           (was_admitted r.0 d h.1.key.peer q.request h.1.item.wanted q.delivered q.wish') q.sequence' is
 
-      go : waiting.GoesOn h.1.item.sequence sent.rest on → GoesOn c s d h on id
+      -- along its sequence, to an outside peer or to an element
+      on_along : (own next : As) (more : List As) → h.1.item.sequence ≡ own ∷ next ∷ more → (p : Peer) → toward next (place n d).routes ≡ p → on ≡ p → GoesOn c n s d h on id
+      on_along own next more whole (Outside i) is to = outside i next more to is (shape own next more whole).0
+      on_along own next more whole (Inner b) is to =
+          let peer : on ≡ Inner next = to ∙ ap (λ (z : As). Inner z) (toward_inner next b (place n d).routes (sym is)) in
+          let g = shape own next more whole in
+          let w = subst (λ (l : List As). waits_of s.elements s.parent d next id l) (ap (λ (l : List As). tail_of l) whole) (wait next peer) in
+          along next more peer g.1 g.0 (under d next id (next ∷ more) (cases_Bool (same_as next parent_as)) (alive d next id (next ∷ more) w))
+
+      go : waiting.GoesOn (place n d).routes h.1.item.sequence sent.rest on → GoesOn c n s d h on id
       go (inl up) =
           let w = subst (λ (l : List As). waits_of s.elements s.parent d parent_as id l) (ap (λ (l : List As). tail_of l) up.0) (wait parent_as up.2) in
           upward up.2 up.0 (under d parent_as id [] (cases_Bool (same_as parent_as parent_as)) (alive d parent_as id [] w))
       go (inr on') =
           let whole : h.1.item.sequence ≡ on'.0 ∷ on'.1 ∷ on'.2 = on'.3 ∙ ap (λ (l : List As). on'.0 ∷ l) on'.4 in
-          let g = shape on'.0 on'.1 on'.2 whole in
-          let w = subst (λ (l : List As). waits_of s.elements s.parent d on'.1 id l) (ap (λ (l : List As). tail_of l) whole) (wait on'.1 on'.5) in
-          along on'.1 on'.2 on'.5 g.1 g.0 (under d on'.1 id (on'.1 ∷ on'.2) (cases_Bool (same_as on'.1 parent_as)) (alive d on'.1 id (on'.1 ∷ on'.2) w))
+          on_along on'.0 on'.1 on'.2 whole (toward on'.1 (place n d).routes) refl on'.5
 
 pub waits_are_under_way : WrittenNetIds WaitsAreUnderWayIn
 waits_are_under_way c codec n net es s run written short =
@@ -179,7 +191,7 @@ waits_are_under_way c codec n net es s run written short =
     let known = inv.0.2 prem in
     let both = inv.0.0 single in
     record {
-      elements = λ d h on id there stage. element_goes c n codec (deeds_of c n es) s inv.0.1 both.0 alive d h on id there stage (waits_are_sent c codec n net es s run written d h there on id stage);
+      elements = λ d h on id there stage. element_goes c n codec (deeds_of c n es) s inv.0.1 both.0 alive d h on id there stage (waits_are_sent c codec n net es s run d h there on id stage);
       parent = λ h w there in'.
           let i = in_flip h s.parent.pending.rows (table.in_of h s.parent.pending.rows there) in
           let j = in_flip w h.1.item.waits (table.in_of w h.1.item.waits in') in
@@ -191,4 +203,10 @@ waits_are_under_way c codec n net es s run written short =
     }
 
 pub quiet_is_answered : WrittenNetIds QuietIsAnsweredIn
-quiet_is_answered = quiet.quiet_is_answered waits_are_under_way
+quiet_is_answered c codec n net es s run written short quiet' =
+    quiet.quiet_ends c n s (deeds_of c n es) quiet' (run_kept c n es s run).0 (quiet.run_none c n es s run) (waits_are_under_way c codec n net es s run written short) (passed_on c codec n net es s run written short)
+
+pub quiet_has_none_pending : WrittenNetIds QuietHasNonePendingIn
+quiet_has_none_pending c codec n net es s run written short downs quiet' =
+    quiet.quiet_none c n s (deeds_of c n es) quiet' (run_kept c n es s run).0 (quiet.run_none c n es s run) (waits_are_under_way c codec n net es s run written short) (passed_on c codec n net es s run written short)
+    (unrouted n downs)

@@ -147,7 +147,7 @@ module _ (c : Codec) (n : NetworkParts) (codec : IsCodec c) (net : IsNetwork n) 
 
   act_base : (ds : Transcript) (s t : Core) (es : Transcript) → Base ds s → Acts Pin Segment c n open_of s es t → Base (es ++ ds) t
   act_base ds s t es base act = (
-    act_both c n net ds s t es base.0 act,
+    act_both c n ds s t es base.0 act,
     act_stands c n ds s t es base.1 act,
     λ prem.
         let old = prem_drop es ds prem in

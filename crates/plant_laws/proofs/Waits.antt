@@ -17,7 +17,6 @@ use Rattle.plant_text.specs.Names.{same_as, parent_as}
 use Rattle.plant_model.specs.Names.{the_parent, set_as}
 use Rattle.plant_model.specs.Wire.{Codec}
 use Rattle.plant_model.specs.Writing.{request_message}
-use Rattle.plant_model.specs.Laws.{IsNetwork}
 use Rattle.plant_model.specs.Element.{Stage, Waits, Ready, Item, Element, Row, is_ready, upped, downed}
 use Rattle.plant_model.specs.Taking.{take}
 use Rattle.plant_model.specs.Solving.{commit}
@@ -33,7 +32,8 @@ use Rattle.plant_laws.proofs.Queues.{same_as_is}
 use Rattle.plant_laws.proofs.Induction.{run_holds}
 use Rattle.plant_laws.proofs.Seen.{seen_none}
 use Rattle.plant_laws.proofs.Rows.{In, in_of, seen_in}
-use Rattle.plant_laws.proofs.ReadBack.{run_single}
+use Rattle.plant_laws.proofs.RequestsWritten.{requests_are_single}
+use Rattle.plant_laws.specs.Runs.{InRuns}
 use Rattle.plant_laws.specs.Waiting.{WaitsAreSentIn, WaitsApartIn, wait_alike}
 use Rattle.plant_laws.proofs.Inboxes.{contains}
 use Rattle.plant_laws.proofs.ElementSteps as lower
@@ -43,8 +43,6 @@ use Rattle.plant_laws.proofs.OpenedRuns.{act_holds, load_holds, solve_holds, upp
 use Rattle.plant_laws.proofs.OpenTables.{row_matched}
 use Rattle.plant_laws.proofs.Subsides.{IsOlder, commit_subs, downed_subs}
 use Rattle.plant_laws.proofs.SentOn.{IsRest, IsSentIn, take_news, same_id_back}
-use Rattle.plant_laws.proofs.Unrouted.{to_element}
-use Rattle.plant_laws.proofs.WhereWritten.{WrittenNet}
 
 pub still : (eff : Effect) (o : Option Transcript) (now at at' : Transcript) → o ≡ Some at → after eff o now ≡ Some at' → after eff o now ≡ Some at
 still Keeps o now at at' e f = e
@@ -66,7 +64,7 @@ module _ (c : Codec) (n : NetworkParts) where
   SentAt ds d h (Ready branches) = Unit {0}
   SentAt ds d h (Waits b y) =
       (at : Transcript) × (opened c d h.1.key.peer h.1.key.id ds ≡ Some at)
-      × ((rest : List As) × SentIn at d b (request_message y h.1.item.wanted h.1.item.wanted.target rest) × IsRest h.1.item.sequence rest b)
+      × ((rest : List As) × SentIn at d b (request_message y h.1.item.wanted h.1.item.wanted.target rest) × IsRest (place n d).routes h.1.item.sequence rest b)
 
   abbrev pub IsSentOn : Transcript → As → Row Pin → Type 0
   IsSentOn ds d h = SentAt ds d h h.1.item.stage
@@ -82,7 +80,7 @@ module _ (c : Codec) (n : NetworkParts) where
   abbrev Comes : PlantDeed → Core → As → RequestKey → Row Pin → Type 0
   Comes e s d key h =
       IsOlder Pin (s.elements d).pending.rows h
-      ⊎ ((h.1.key ≡ key) × ((number_among h.1.key (s.elements d).pending.rows ≡ None) × IsSentIn (outputs_at d e) h.1.item h.1.item.stage
+      ⊎ ((h.1.key ≡ key) × ((number_among h.1.key (s.elements d).pending.rows ≡ None) × IsSentIn (place n d).routes (outputs_at d e) h.1.item h.1.item.stage
       × ((g : Row Pin) → In g (s.elements d).pending.rows → wait_alike h.1.item.stage g.1.item.stage ≡ false)))
 
   -- the rows of an element after a deed
@@ -128,11 +126,11 @@ module _ (c : Codec) (n : NetworkParts) where
           let was : opened c d h.1.key.peer h.1.key.id ds ≡ Some w.0 = ap (λ (k : RequestKey). opened c d k.peer k.id ds) key ∙ w.1 in (
             w.0,
             still (effect c d h.1.key.peer h.1.key.id e) (opened c d h.1.key.peer h.1.key.id ds) (e ∷ ds) w.0 at' was is,
-            (w.2.0, subst (λ (i : Item Pin). SentIn w.0 d b (request_message y i.wanted i.wanted.target w.2.0)) (sym same) w.2.1, subst (λ (i : Item Pin). IsRest i.sequence w.2.0 b) (sym same) w.2.2),
+            (w.2.0, subst (λ (i : Item Pin). SentIn w.0 d b (request_message y i.wanted i.wanted.target w.2.0)) (sym same) w.2.1, subst (λ (i : Item Pin). IsRest (place n d).routes i.sequence w.2.0 b) (sym same) w.2.2),
           )
 
   new_sent : (e : PlantDeed) (ds : Transcript) (d : As) (h : Row Pin) (at' : Transcript) → opened c d h.1.key.peer h.1.key.id (e ∷ ds) ≡ Some at' → opened c d h.1.key.peer h.1.key.id ds ≡ None → (stage : Stage) →
-      IsSentIn (outputs_at d e) h.1.item stage → SentAt (e ∷ ds) d h stage
+      IsSentIn (place n d).routes (outputs_at d e) h.1.item stage → SentAt (e ∷ ds) d h stage
   new_sent e ds d h at' is none (Ready branches) sent = tt
   new_sent e ds d h at' is none (Waits b y) sent = (
     e ∷ ds,
@@ -208,9 +206,9 @@ module _ (c : Codec) (n : NetworkParts) where
   pub outputs_own : (at : As) (os : List Output) → cond (same_as at at) os [] ≡ os
   outputs_own at os = let own : same_as at at ≡ true = grind (arith, common_steps) in rw own refl
 
-  give_sent : IsNetwork n → (at : As) (p : Peer) (m : Message) (s : Core) (es ds : Transcript) → IsSingle m → Both (es ++ ds) s →
+  give_sent : (at : As) (p : Peer) (m : Message) (s : Core) (es ds : Transcript) → IsSingle m → Both (es ++ ds) s →
       (let g = give Pin Segment c n open_of at p m (record { state = s; deeds = es }) in Holds c n (g.deeds ++ ds) g.state → AreSentOn (g.deeds ++ ds) g.state)
-  give_sent net at p m s es ds one both =
+  give_sent at p m s es ds one both =
       let r = parent.take c (family n) p m s.parent in
       let t = take c open_of (place n at) (s.current at) p (class_of n p) s.clock m (s.elements at) in
       let u = puts Pin Segment c n open_of at r.outputs (with_parent Pin Segment c n open_of r.parent s) in
@@ -222,11 +220,11 @@ module _ (c : Codec) (n : NetworkParts) where
       (stay (Takes at p m r.outputs) s u (λ d. ap (λ (f : As → Element Pin Segment). (f d).pending) (puts_elements c n at r.outputs (with_parent Pin Segment c n open_of r.parent s)))))
       (λ low next. sent_after (Takes at p m t.outputs) (es ++ ds) s v both.0 both.1 next
       (come (Takes at p m t.outputs) at t.element s v (puts_elements c n at t.outputs (with_element Pin Segment c n open_of at t.element s))
-      (let news = take_news Pin Segment c open_of (place n at) (s.current at) p (class_of n p) s.clock (s.elements at) (few_rows (es ++ ds) s both.0 at) (to_element n net at) m one in (
+      (let news = take_news Pin Segment c open_of (place n at) (s.current at) p (class_of n p) s.clock (s.elements at) (few_rows (es ++ ds) s both.0 at) m one in (
         news.0,
         (λ h i. elim (news.1 h i) [
           | inl old ↦ inl old
-          | inr new ↦ inr (new.0, (new.1.0, subst (λ (os : List Output). IsSentIn os h.1.item h.1.item.stage) (sym (outputs_own at t.outputs)) new.1.1, new.1.2))
+          | inr new ↦ inr (new.0, (new.1.0, subst (λ (os : List Output). IsSentIn (place n at).routes os h.1.item h.1.item.stage) (sym (outputs_own at t.outputs)) new.1.1, new.1.2))
         ]),
       ))))
 
@@ -265,36 +263,36 @@ module _ (c : Codec) (n : NetworkParts) where
     subst (λ (f : As → Element Pin Segment). (d : As) (h g : Row Pin) → In h (f d).pending.rows → In g (f d).pending.rows → same_key h.1.key g.1.key ≡ false → wait_alike h.1.item.stage g.1.item.stage ≡ false) (sym same) sent.1,
   )
 
-  act_sent : IsNetwork n → (ds : Transcript) (s t : Core) (es : Transcript) → IfBoth ds s → Acts Pin Segment c n open_of s es t → AreSingle (es ++ ds) → Holds c n (es ++ ds) t → AreSentOn (es ++ ds) t
-  act_sent net ds s t es held (rests s' t' same) = λ single next. sent_same ds s t same.elements (held single).1
-  act_sent net ds s t es held (hears i bytes m s' read) = λ single next.
+  act_sent : (ds : Transcript) (s t : Core) (es : Transcript) → IfBoth ds s → Acts Pin Segment c n open_of s es t → AreSingle (es ++ ds) → Holds c n (es ++ ds) t → AreSentOn (es ++ ds) t
+  act_sent ds s t es held (rests s' t' same) = λ single next. sent_same ds s t same.elements (held single).1
+  act_sent ds s t es held (hears i bytes m s' read) = λ single next.
       let x = give_single c n (element_of n i) (Outside i) m s [] ds single in
-      give_sent net (element_of n i) (Outside i) m s [] ds x.0 (held x.1) next
-  act_sent net ds s t es held (carries a b bytes rest m s' u is read same) = λ single next.
+      give_sent (element_of n i) (Outside i) m s [] ds x.0 (held x.1) next
+  act_sent ds s t es held (carries a b bytes rest m s' u is read same) = λ single next.
       let x = give_single c n b (Inner a) m u (Pops a b ∷ []) ds single in
       let old = held x.1.1 in
       let p = popped Pin Segment c n open_of a b rest s in
       let good = quiet c n (Pops a b) ds s p (λ d q x. refl) (λ d. refl) refl refl (λ d. refl) (λ d. refl) old.0 in
       let good' = holds_same c n (Pops a b ∷ ds) p u same.elements same.parent same.current good in
       let sent' = sent_same (Pops a b ∷ ds) p u same.elements (sent_after (Pops a b) ds s p old.0 old.1 good (stay (Pops a b) s p (λ d. refl))) in
-      give_sent net b (Inner a) m u (Pops a b ∷ []) ds x.0 (good', sent') next
-  act_sent net ds s t es held (nods a b bytes rest s' is) = λ single next. let old = held single.1 in sent_after (Pops a b) ds s t old.0 old.1 next (stay (Pops a b) s t (λ d. refl))
-  act_sent net ds s t es held (hands i bytes s' t' same) = λ single next.
+      give_sent b (Inner a) m u (Pops a b ∷ []) ds x.0 (good', sent') next
+  act_sent ds s t es held (nods a b bytes rest s' is) = λ single next. let old = held single.1 in sent_after (Pops a b) ds s t old.0 old.1 next (stay (Pops a b) s t (λ d. refl))
+  act_sent ds s t es held (hands i bytes s' t' same) = λ single next.
       let old = held single.1 in
       sent_after (Hands i bytes) ds s t old.0 old.1 next (stay (Hands i bytes) s t (λ d. ap (λ (f : As → Element Pin Segment). (f d).pending) same.elements))
-  act_sent net ds s t es held (rises at p s') = λ single next. rise_sent at p s ds (held (rise_single c n at p s ds single)) next
-  act_sent net ds s t es held (falls at p s') = λ single next. fall_sent at p s ds (held (fall_single c n at p s ds single)) next
-  act_sent net ds s t es held (says at p o s') = λ single next.
+  act_sent ds s t es held (rises at p s') = λ single next. rise_sent at p s ds (held (rise_single c n at p s ds single)) next
+  act_sent ds s t es held (falls at p s') = λ single next. fall_sent at p s ds (held (fall_single c n at p s ds single)) next
+  act_sent ds s t es held (says at p o s') = λ single next.
       let old = held single.1 in
       let out : Output = record { to = p; message = own_message o } in
       sent_after (Says at out) ds s t old.0 old.1 next (stay (Says at out) s t (λ d. ap (λ (f : As → Element Pin Segment). (f d).pending) (puts_elements c n at (out ∷ []) s)))
-  act_sent net ds s t es held (clears x s') = λ single next. let old = held single.1 in sent_after (Clears x.lower x.upper) ds s t old.0 old.1 next (stay (Clears x.lower x.upper) s t (λ d. refl))
-  act_sent net ds s t es held (expires now s') = λ single next. let old = held single.1 in sent_after (Expires now) ds s t old.0 old.1 next (stay (Expires now) s t (λ d. refl))
+  act_sent ds s t es held (clears x s') = λ single next. let old = held single.1 in sent_after (Clears x.lower x.upper) ds s t old.0 old.1 next (stay (Clears x.lower x.upper) s t (λ d. refl))
+  act_sent ds s t es held (expires now s') = λ single next. let old = held single.1 in sent_after (Expires now) ds s t old.0 old.1 next (stay (Expires now) s t (λ d. refl))
 
-  pub act_both : IsNetwork n → (ds : Transcript) (s t : Core) (es : Transcript) → IfBoth ds s → Acts Pin Segment c n open_of s es t → IfBoth (es ++ ds) t
-  act_both net ds s t es held act single =
+  pub act_both : (ds : Transcript) (s t : Core) (es : Transcript) → IfBoth ds s → Acts Pin Segment c n open_of s es t → IfBoth (es ++ ds) t
+  act_both ds s t es held act single =
       let next = act_holds c n ds s t es (λ z. (held z).0) act single in
-      (next, act_sent net ds s t es held act single next)
+      (next, act_sent ds s t es held act single next)
 
   pub load_both : (ds : Transcript) (s : Plant) (d : As) (g : Rows) → IfBoth ds s → IfBoth (Loads d g ∷ ds) (load_new c n d g s).state
   load_both ds s d g held single =
@@ -333,16 +331,16 @@ module _ (c : Codec) (n : NetworkParts) where
           sent_after e ds s v old.0 old.1 (next single)
           (stay e s v (λ d. ap (λ (f : As → Element Pin Segment). (f d).pending) (puts_elements c n parent_as r.outputs (with_parent Pin Segment c n open_of r.parent s)))))
 
-  pub run_sent_on : IsNetwork n → (es : List Entry) (s : Plant) → Run c n es s → AreSingle (deeds_of c n es) → AreSentOn (deeds_of c n es) s
-  run_sent_on net es s run single = (run_holds c n IfBoth (λ z. (bare_holds c n z, ((λ d h none. absurd none), (λ d h g none. absurd none)))) (act_both net) (λ ds s d g given held. load_both ds s d g held) solve_both upper_both es s run single).1
+  pub run_sent_on : (es : List Entry) (s : Plant) → Run c n es s → AreSingle (deeds_of c n es) → AreSentOn (deeds_of c n es) s
+  run_sent_on es s run single = (run_holds c n IfBoth (λ z. (bare_holds c n z, ((λ d h none. absurd none), (λ d h g none. absurd none)))) act_both (λ ds s d g given held. load_both ds s d g held) solve_both upper_both es s run single).1
 
-pub waits_are_sent : WrittenNet WaitsAreSentIn
-waits_are_sent c codec n net es s run written d h i b y is =
-    let all = run_sent_on c n net es s run (run_single c n codec es s run written) in
+pub waits_are_sent : InRuns WaitsAreSentIn
+waits_are_sent c codec n net es s run d h i b y is =
+    let all = run_sent_on c n es s run (requests_are_single c codec n net es s run) in
     let w = subst (λ (stage : Stage). SentAt c n (deeds_of c n es) d h stage) is (all.0 d h (in_of h (s.elements d).pending.rows i)) in
     record { at = w.0; is_open = w.1; rest = w.2.0; sent = w.2.1; goes = w.2.2 }
 
-pub waits_apart : WrittenNet WaitsApartIn
-waits_apart c codec n net es s run written d h g i j differ =
-    let all = run_sent_on c n net es s run (run_single c n codec es s run written) in
+pub waits_apart : InRuns WaitsApartIn
+waits_apart c codec n net es s run d h g i j differ =
+    let all = run_sent_on c n es s run (requests_are_single c codec n net es s run) in
     all.1 d h g (in_of h (s.elements d).pending.rows i) (in_of g (s.elements d).pending.rows j) differ
