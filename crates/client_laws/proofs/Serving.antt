@@ -117,4 +117,4 @@ taken_is_served c codec n net es s run short quiet d p r w moment real within de
     go (served.answers deed older is some) = served.at_once deed older is some
     go (served.is_open at is) =
         by_fate at is
-        (requests_are_answered_once c codec n net es s run written d p r.id at (within_trans at moment (deeds_of c n es) (opened_within c d p r.id moment at is) within) (opened_there c d p r.id moment at is)).fate
+        (requests_are_answered_once c codec n net es s run d p r.id at (within_trans at moment (deeds_of c n es) (opened_within c d p r.id moment at is) within) (opened_there c d p r.id moment at is)).fate

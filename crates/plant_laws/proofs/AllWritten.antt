@@ -227,7 +227,7 @@ ways_fit_all [] [] ok = tt
 ways_fit_all [] (r ∷ rs) ok = (omega arith, ways_fit_all [] rs tt)
 ways_fit_all (w ∷ ws) rs ok = (ok.0, ways_fit_all ws rs ok.1)
 
-ways_fit : (d : As) (xs : List Line) → WaysOk (ways_along d xs)
+pub ways_fit : (d : As) (xs : List Line) → WaysOk (ways_along d xs)
 ways_fit d [] = tt
 ways_fit d (x ∷ xs) = go (same_as x.lower d) (same_as x.upper d) (ways_fit d xs)
   where

@@ -27,11 +27,12 @@ use Rattle.plant_model.specs.Plant.{Pin, Segment, Plant, Happened, Entry, Run, d
 use Rattle.plant_laws.specs.Transcript.{Transcript, Within, opened, after, effect, Effect, Keeps, Ends, Begins, ends_if, asks_effect, begins_if, begins, take_effect, cancels, answers_to}
 use Rattle.plant_laws.proofs.Acts.{Acts, rests, hears, carries, nods, hands, rises, falls, says, clears, expires}
 use Rattle.plant_laws.specs.Chains.{is_pending}
+use Rattle.plant_laws.specs.Runs.{InRuns}
 use Rattle.plant_laws.specs.Answered.{answers_of, AnswersFor, of_open, DropsFor, cancelled, went_down, IsEnd, pending, answered, dropped, IsAnsweredOnce, RequestsAreAnsweredOnceIn}
 use Rattle.plant_laws.proofs.Besides.{besides_asking, answers_in, own_none, no_more}
 use Rattle.plant_laws.proofs.Founded.{IsFounded, AreFounded, founded_within, run_founded}
 use Rattle.plant_laws.proofs.Induction.{run_holds}
-use Rattle.plant_laws.proofs.ReadBack.{run_single}
+use Rattle.plant_laws.proofs.RequestsWritten.{requests_are_single}
 use Rattle.plant_laws.proofs.Queues.{same_as_is}
 use Rattle.plant_laws.proofs.Handing.{Within-length}
 use Rattle.plant_laws.proofs.Sends.{Each, Each-within}
@@ -39,7 +40,6 @@ use Rattle.plant_laws.proofs.OpenTables.{open_is_pending}
 use Rattle.plant_laws.proofs.Counting.{IsFair}
 use Rattle.plant_laws.proofs.Counting as counting
 use Rattle.plant_laws.proofs.CountingUpper as upper
-use Rattle.plant_laws.proofs.WhereWritten.{WrittenNet}
 
 -- ---- what is said in each deed
 
@@ -448,6 +448,6 @@ module _ (c : Codec) (d : As) (p : Peer) (x : ℕ) where
     each = λ e older w' some. each_for e older (Each-within IsFairDeed now fair e older w') (founded_within c now founded e older w') some;
   }
 
-pub requests_are_answered_once : WrittenNet RequestsAreAnsweredOnceIn
-requests_are_answered_once c codec n network es s run written d p x at w is =
-    answered_once c d p x (deeds_of c n es) s (run_kept c n es s run).1 (run_founded c n es s run (run_single c n codec es s run written)) (λ at' open'. (open_is_pending c codec n es s run written).pending d p x at' open') at w is
+pub requests_are_answered_once : InRuns RequestsAreAnsweredOnceIn
+requests_are_answered_once c codec n network es s run d p x at w is =
+    answered_once c d p x (deeds_of c n es) s (run_kept c n es s run).1 (run_founded c n es s run (requests_are_single c codec n network es s run)) (λ at' open'. (open_is_pending c codec n network es s run).pending d p x at' open') at w is

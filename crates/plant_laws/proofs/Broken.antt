@@ -339,7 +339,7 @@ module _ (p : Peer) (r : Reply) (broken : ¬ TellsOfPaths r.answer) where
 
       -- the request that waits is the one that is open
       sent_by : (y : ℕ) (a : Asker) → WaitsAt k q y a → (row : Row Pin) × (a ≡ record { peer = row.1.key.peer; flags = row.1.item.flags; id = row.1.key.id }) × WasSentOn c n (deeds_of c n entries) d row q y
-      sent_by y a w = (w.row, w.asked, waits_are_sent c codec n net entries before run' (every_written c codec n net entries before run' short') d w.row w.is_row q y w.waits)
+      sent_by y a w = (w.row, w.asked, waits_are_sent c codec n net entries before run' d w.row w.is_row q y w.waits)
 
       went_on : (m : Message) → Passes c n before event d q m → (IsAsk m → ⊥) → (at : Transcript) → opened c d p r.id older ≡ Some at → (y : ℕ) (a : Asker) → WaitsAt k q y a → p ≡ a.peer → r.id ≡ a.id → WentOn c older d p r.id q y
       went_on m passes asks at is_open y a w peer id = elim (still_open c n before event d q m passes asks earlier (deeds_of c n entries) causes d p r.id sent.2.at opened_then) [
@@ -443,7 +443,7 @@ module _ (p : Peer) (r : Reply) (broken : ¬ TellsOfPaths r.answer) where
         go false down lost' is i' found =
             let l = lost_one q (left_rows at (one.before.elements at).pending.rows one.earlier) os lost' i' in
             let there : table.In l.0 (one.before.elements at).pending.rows = left_in at (one.before.elements at).pending.rows one.earlier l.0 l.1 in
-            let sent = waits_are_sent c codec n net one.entries one.before one.run (every_written c codec n net one.entries one.before one.run one.short) at l.0 (contains l.0 (one.before.elements at).pending.rows there) q l.2.1 l.2.2 in
+            let sent = waits_are_sent c codec n net one.entries one.before one.run at l.0 (contains l.0 (one.before.elements at).pending.rows there) q l.2.1 l.2.2 in
             inner (goes_inside n net at l.0.1.item.sequence sent.rest q sent.goes) l.3 found
           where
             inner : (z : As) × (q ≡ Inner z) → (p ≢ q) → (at' : Transcript) × (opened c d p r.id older ≡ Some at') → Broke p r.id (Downs d q os)

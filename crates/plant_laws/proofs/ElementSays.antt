@@ -147,10 +147,10 @@ way_fits p (w ∷ ws) h = go (same_peer w.peer p) (way_fits p ws h.1)
 abbrev pub Goes : Wanted → Addr → List As → Type 0
 Goes w t rest = (id : ℕ) → IsId id → IsWritten (request_message id w t rest)
 
-goes_up_written : (flags x : ℕ) (w : Wanted) → IsRequestInRange flags x w → CanBeSent w → Goes w w.target []
+pub goes_up_written : (flags x : ℕ) (w : Wanted) → IsRequestInRange flags x w → CanBeSent w → Goes w w.target []
 goes_up_written flags x w range can id fits = can id w.target [] fits range.target range.kinds (omega arith) (All-nil (λ (a : As). a.0 < 2 ^ 16))
 
-goes_along : (own : As) (flags x : ℕ) (w : Wanted) → IsRequestInRange flags x w → CanBeSent w → length w.sequence ≤ 16 → (a b : As) (rest : List As) → sequence_or own w.sequence ≡ a ∷ b ∷ rest → Goes w w.target (b ∷ rest)
+pub goes_along : (own : As) (flags x : ℕ) (w : Wanted) → IsRequestInRange flags x w → CanBeSent w → length w.sequence ≤ 16 → (a b : As) (rest : List As) → sequence_or own w.sequence ≡ a ∷ b ∷ rest → Goes w w.target (b ∷ rest)
 goes_along own flags x w range can few a b rest is id fits = go w.sequence few range.sequence is
   where
     go : (s : List As) → length s ≤ 16 → All (λ (a : As). a.0 < 2 ^ 16) s → sequence_or own s ≡ a ∷ b ∷ rest → IsWritten (request_message id w w.target (b ∷ rest))

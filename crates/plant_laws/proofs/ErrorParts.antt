@@ -26,7 +26,6 @@ use Rattle.plant_laws.specs.About.{IsShort}
 use Rattle.plant_laws.specs.MessageCauses.{Asker, WaitsAt, IsOutOfProfile, OnError, failed_for_nobody, of_reply, out_of_profile, other_error, OnRequest, Part, Fails, alone, failed_by, failed, parts, OnParts, OnMessage}
 use Rattle.plant_laws.specs.Waiting.{WasSentOn}
 use Rattle.plant_laws.proofs.Decompose.{nil_right}
-use Rattle.plant_laws.proofs.EveryWritten.{every_written}
 use Rattle.plant_laws.proofs.Inboxes.{contains}
 use Rattle.plant_laws.proofs.PartCauses.{not_both}
 use Rattle.plant_laws.proofs.Rows as table
@@ -102,7 +101,7 @@ module _ (c : Codec) (codec : IsCodec c) (n : NetworkParts) (net : IsNetwork n) 
     outside_none i row there y waits = go (goes_inside n net d row.1.item.sequence sent.rest (Outside i) sent.goes)
       where
         sent : WasSentOn c n (deeds_of c n entries) d row (Outside i) y
-        sent = waits_are_sent c codec n net entries before run (every_written c codec n net entries before run short) d row (contains row (before.elements d).pending.rows there) (Outside i) y waits
+        sent = waits_are_sent c codec n net entries before run d row (contains row (before.elements d).pending.rows there) (Outside i) y waits
 
         go : (z : As) × (Outside i ≡ Inner z) → ⊥
         go to = (let clash : Outside i ≡ Inner to.0 = to.1 in cc)

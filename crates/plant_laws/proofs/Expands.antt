@@ -43,9 +43,7 @@ use Rattle.plant_laws.proofs.KeyedRuns.{KeysAre, run_keys, taken_from}
 use Rattle.dom_base.specs.AddrOrder.{rank}
 use Rattle.dom_base.proofs.Ranks.{same_addr as one_place}
 use Rattle.plant_laws.proofs.OpenTables.{open_is_pending}
-use Rattle.plant_laws.specs.Sending.{AllSent}
-use Rattle.pcep_messages.specs.Spelling.{IsWritten}
-use Rattle.plant_laws.proofs.WhereWritten.{WrittenNet}
+use Rattle.plant_laws.specs.Runs.{InRuns}
 
 not_both : {X : Type 0} (t : Bool) → t ≡ true → t ≡ false → X
 not_both true e f = cc
@@ -133,14 +131,14 @@ module _ (c : Codec) (codec : IsCodec c) (n : NetworkParts) (network : IsNetwork
   before_is older es (inr is) = record { clock = ap clock_at is.2; keys = ap (λ (l : Transcript). last_keys d l) is.2; open' = λ p x. ap (λ (l : Transcript). opened c d p x l) is.2 }
 
   -- a request that is not open is not pending
-  not_pending : (es : List Entry) (s : Plant) → Run c n es s → AllSent IsWritten (deeds_of c n es) → (p : Peer) (x : ℕ) → opened c d p x (deeds_of c n es) ≡ None → number_of (s.elements d).pending p x ≡ None
-  not_pending es s run written p x none = go (number_of (s.elements d).pending p x) refl
+  not_pending : (es : List Entry) (s : Plant) → Run c n es s → (p : Peer) (x : ℕ) → opened c d p x (deeds_of c n es) ≡ None → number_of (s.elements d).pending p x ≡ None
+  not_pending es s run p x none = go (number_of (s.elements d).pending p x) refl
     where
       go : (o : Option ℕ) → number_of (s.elements d).pending p x ≡ o → o ≡ None
       go None e = refl
       go (Some number) e =
           let r = numbered (key_of p x) (s.elements d).pending.rows number e in
-          let is = (open_is_pending c codec n es s run written).taken d r.0 (contains_of (s.elements d).pending.rows r.0 r.1) in
+          let is = (open_is_pending c codec n network es s run).taken d r.0 (contains_of (s.elements d).pending.rows r.0 r.1) in
           let open' = subst (λ (k : RequestKey). opened c d k.peer k.id (deeds_of c n es) ≡ Some is.at) (sym r.2) is.is_open in
           let no : Some is.at ≡ None = sym open' ∙ none in
           cc
@@ -213,28 +211,17 @@ module _ (c : Codec) (codec : IsCodec c) (n : NetworkParts) (network : IsNetwork
             os_is true true (Some segment) e f g,
           )
 
-  -- what was sent before
-  sent_before : (m now : Transcript) → Within m now → AllSent IsWritten now → AllSent IsWritten m
-  sent_before m [] w h = subst (λ (l : Transcript). AllSent IsWritten l) (sym w) tt
-  sent_before m (e ∷ now) (inl is) h = subst (λ (l : Transcript). AllSent IsWritten l) (sym is) h
-  sent_before m (e ∷ now) (inr w) h = sent_before m now w h.1
-
-  sent_then : (older : Transcript) (es : List Entry) → (older ≡ deeds_of c n es) ⊎ ((a : As) × (b : As) × (older ≡ Pops a b ∷ deeds_of c n es)) → AllSent IsWritten older → AllSent IsWritten (deeds_of c n es)
-  sent_then older es (inl is) h = subst (λ (l : Transcript). AllSent IsWritten l) is h
-  sent_then older es (inr is) h = let g : AllSent IsWritten (Pops is.0 is.1 ∷ deeds_of c n es) = subst (λ (l : Transcript). AllSent IsWritten l) is.2 h in g.1
-
-  expands : (es : List Entry) (s : Plant) → Run c n es s → AllSent IsWritten (deeds_of c n es) → (p : Peer) (a : Asked) (os : List Output) (older : Transcript) → Within (Takes d p (messages.PcReq (a ∷ [])) os ∷ older) (deeds_of c n es) →
+  expands : (es : List Entry) (s : Plant) → Run c n es s → (p : Peer) (a : Asked) (os : List Output) (older : Transcript) → Within (Takes d p (messages.PcReq (a ∷ [])) os ∷ older) (deeds_of c n es) →
       (r : Request) (key : ℕ) (pce : Addr) → c.check a d ≡ Admitted r → r.wish ≡ wishes.Expand key pce → opened c d p r.id older ≡ None → Right older p r key pce os
-  expands es s run written p a os older within r key pce admitted wish none =
+  expands es s run p a os older within r key pce admitted wish none =
       let from = taken_from c n es s run d p (messages.PcReq (a ∷ [])) os older upper within in
       let before = before_is older from.entries from.before in
-      let sent = sent_then older from.entries from.before (sent_before (Takes d p (messages.PcReq (a ∷ [])) os ∷ older) (deeds_of c n es) within written).1 in
       by_keys from.entries from.state (run_keys c n from.entries from.state from.run) older before p r key pce os
-      (from.outputs ∙ answered from.state p a r key pce admitted wish (not_pending from.entries from.state from.run sent p r.id (sym (before.open' p r.id) ∙ none)))
+      (from.outputs ∙ answered from.state p a r key pce admitted wish (not_pending from.entries from.state from.run p r.id (sym (before.open' p r.id) ∙ none)))
 
-pub expands_rightly : WrittenNet ExpandsRightlyIn
-expands_rightly c codec n network es s run written d p a os older other within r key pce admitted wish none =
-    expands c codec n network d (upper (same_as d parent_as) refl) es s run written p a os older within r key pce admitted wish none
+pub expands_rightly : InRuns ExpandsRightlyIn
+expands_rightly c codec n network es s run d p a os older other within r key pce admitted wish none =
+    expands c codec n network d (upper (same_as d parent_as) refl) es s run p a os older within r key pce admitted wish none
   where
     upper : (b : Bool) → same_as d parent_as ≡ b → b ≡ false
     upper true e = absurd (other (ap (λ (z : ℕ). let x : As = record { 0 = z } in x) (eqb-true d.0 parent_as.0 e)))

@@ -373,7 +373,7 @@ module _ (p : Peer) (x flags : ℕ) where
       outside_none j row there y waits = go (goes_inside n net d row.1.item.sequence sent.rest (Outside j) sent.goes)
         where
           sent : WasSentOn c n (deeds_of c n entries) d row (Outside j) y
-          sent = waits_are_sent c codec n net entries before run' (every_written c codec n net entries before run' short') d row (contains row (before.elements d).pending.rows there) (Outside j) y waits
+          sent = waits_are_sent c codec n net entries before run' d row (contains row (before.elements d).pending.rows there) (Outside j) y waits
 
           go : (z : As) × (Outside j ≡ Inner z) → ⊥
           go to = (let clash : Outside j ≡ Inner to.0 = to.1 in cc)
@@ -405,7 +405,7 @@ module _ (p : Peer) (x flags : ℕ) where
           o = open_then q ns all within i
 
           sent : WasSentOn c n (deeds_of c n entries) d w.row q y
-          sent = waits_are_sent c codec n net entries before run' (every_written c codec n net entries before run' short') d w.row w.is_row q y w.waits
+          sent = waits_are_sent c codec n net entries before run' d w.row w.is_row q y w.waits
 
       element_full : (low : same_as d parent_as ≡ false) (pin : Pin) (m : Message) (all : List Output) → Meets c n es s run (Takes d q m all) older before → Within (Takes d q m all ∷ older) now → IsAlone m → Passes c n before event d q m → OnMessage c n d pin q before.clock m (before.elements d) all → In out all → Full (Takes d q m all)
       element_full low pin (messages.PcReq []) all meets within alone' passes on i = nothing all on i

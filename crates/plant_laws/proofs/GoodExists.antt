@@ -40,7 +40,6 @@ use Rattle.plant_laws.specs.Pending.{IsTaken}
 use Rattle.plant_laws.specs.Standing.{texts, messages as messages_in}
 use Rattle.plant_laws.specs.Tables.{AreTables}
 use Rattle.plant_laws.specs.Transcript.{Transcript, Within, Delivered, Standing, standing, standing_of, left_of, asks, count_asks, put_into, outputs_at}
-use Rattle.plant_laws.proofs.EveryWritten.{every_written}
 use Rattle.plant_laws.proofs.GoodInboxes.{last_none}
 use Rattle.plant_laws.proofs.GoodRun.{two, begun, first, second, third, fourth, last}
 use Rattle.plant_laws.proofs.GoodSample.{any, never, is_ask, now, whole, now_is, at_first, at_second, is_good, first_within, is_open, goes_further}
@@ -210,7 +209,7 @@ unfolding begun rank parts_from body_of is_bound is_minimised
 none_elsewhere = refl
 
 tables : AreTables wire two last.entries last.state
-tables = open_is_pending wire wire_is_codec two last.entries last.state last.run (every_written wire wire_is_codec two obeys last.entries last.state last.run short)
+tables = open_is_pending wire wire_is_codec two obeys last.entries last.state last.run
 
 rows_other : (d : As) → same_as (As_ 1) d ≡ false → same_as (As_ 2) d ≡ false → (rows : List (Row Pin)) → (last.state.elements d).pending.rows ≡ rows → rows ≡ []
 rows_other d not_one not_two [] is = refl

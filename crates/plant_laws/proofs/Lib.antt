@@ -49,6 +49,7 @@ pub mod Takes
 pub mod Opened
 pub mod OpenedRuns
 pub mod ReadBack
+pub mod RequestsWritten
 pub mod Inboxes
 pub mod Sent
 pub mod OpenTables

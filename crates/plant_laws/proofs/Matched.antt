@@ -264,7 +264,7 @@ replies_match c codec n net es s run written short a b real r put there h i wait
     let read = run_read c n codec es s run written in
     let x : Standing = record { message = messages.PcRep (r ∷ []); put = put } in
     let was = was_put b a now x (in_of x (standing b a now) there) in
-    let sent = waits_are_sent c codec n net es s run written a h i (Inner b) r.id waits in
+    let sent = waits_are_sent c codec n net es s run a h i (Inner b) r.id waits in
     let some = reply_counts (Inner a) r (outputs_at b was.deed) was.sent in
     record {
       deed = was.deed;

@@ -92,7 +92,7 @@ module _ (c : Codec) (codec : IsCodec c) (n : NetworkParts) (net : IsNetwork n) 
   solved_of es s run written d k h x =
       let row : Row Pin = (k, x.held) in
       let there : Contains (s.elements d).pending.rows row = in_contains row (s.elements d).pending.rows (lookup_in k (s.elements d).pending.rows x.held x.is_held) in
-      let taken = (open_is_pending c codec n es s run written).taken d row there in
+      let taken = (open_is_pending c codec n net es s run).taken d row there in
       let r = is_readied c codec n es s run written d row net there x.down x.ready in
       let same = same_moment (opened c d x.held.key.peer x.held.key.id (deeds_of c n es)) r.at taken.at r.is_open taken.is_open in
       record {
@@ -125,7 +125,7 @@ module _ (c : Codec) (codec : IsCodec c) (n : NetworkParts) (net : IsNetwork n) 
     (λ up.
         let row : AskingRow = (k, x.held) in
         let there : Contains s.parent.pending.rows row = in_contains row s.parent.pending.rows (lookup_in k s.parent.pending.rows x.held x.is_held) in
-        let taken = (open_is_pending c codec n es s run written).taken_above row there in
+        let taken = (open_is_pending c codec n net es s run).taken_above row there in
         let g = has_gathered c codec n es s run written row there x.ready in
         let same = same_moment (opened c parent_as x.held.key.peer x.held.key.id (deeds_of c n es)) g.at taken.at g.is_open taken.is_open in
         record {

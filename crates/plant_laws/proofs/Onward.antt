@@ -8,6 +8,8 @@ use Rattle.pcep_messages.specs.declared.message.Message.{Message}
 use Rattle.pcep_messages.specs.declared.message.Message.TheVariants as messages
 use Rattle.pcep_messages.specs.declared.message.Asked.{Asked}
 use Rattle.pcep_messages.specs.declared.message.Reply.{Reply}
+use Rattle.pcep_messages.specs.declared.message.Notice.{Notice}
+use Rattle.pcep_messages.specs.declared.message.ErrorReport.{ErrorReport}
 use Rattle.pcep_messages.specs.declared.message.Answer.{Answer}
 use Rattle.pcep_messages.specs.declared.message.Answer.TheVariants.{Paths, NoPath}
 use Rattle.pcep_messages.specs.declared.message.Wanted.{Wanted}
@@ -173,6 +175,13 @@ module _ (P : Type 0) (S : Type 0) where
     pub calm_replies : (rs : List Reply) (k : Element P S) → IsCalm k (each (take_reply c p) rs k)
     calm_replies rs k = calm_each (take_reply c p) (λ r j. calm_answer r j (waiting p r.id j.pending.rows)) rs k
 
+    pub calm_notices : (ns : List Notice) (k : Element P S) → IsCalm k (each (take_notice p) ns k)
+    calm_notices ns k =
+        calm_each (take_notice p) (λ r j. calm_each (λ (rp : ℕ × ℕ). each (λ (step : Peer → ℕ × ℕ → Element P S → Taken P S). step p rp) (notice_steps r.kinds)) (λ rp j'. calm_steps r.kinds rp j') r.ids j) ns k
+
+    pub calm_reports : (rs : List ErrorReport) (k : Element P S) → IsCalm k (each (take_report p) rs k)
+    calm_reports rs k = calm_each (take_report p) (λ r j. calm_errors r.ids r.errors j) rs k
+
   pub calm_commit : (c : Codec) (e : Place) (h : Row P) (down : List Branch) (now : ℕ) (stands : Best → S) (source_known target_known : Bool) (best : List Best) (k : Element P S) →
       IsCalm k (commit c e h down now stands source_known target_known best k)
   calm_commit c e h down now stands source_known target_known best k = calm_pick k (is_client h.1.item.class) _ (closed_reply c e h down now stands k best) (client best) (closed best)
@@ -263,9 +272,8 @@ module _ (P : Type 0) (S : Type 0) where
         (elim (asked_sends a) [ inl calm ↦ inl calm | inr x ↦ inr (a, refl, x.0, x.1) ])
     take_of (messages.PcReq (a ∷ b ∷ rest)) one = absurd (let none : length (a ∷ b ∷ rest) ≡ 1 = one in omega (arith, none))
     take_of (messages.PcRep replies) one = inl (calm_replies c p replies k)
-    take_of (messages.PcNtf notices) one =
-        inl (calm_each (take_notice p) (λ r j. calm_each (λ (rp : ℕ × ℕ). each (λ (step : Peer → ℕ × ℕ → Element P S → Taken P S). step p rp) (notice_steps r.kinds)) (λ rp j'. calm_steps c p r.kinds rp j') r.ids j) notices k)
-    take_of (messages.PcErr reports) one = inl (calm_each (take_report p) (λ r j. calm_errors c p r.ids r.errors j) reports k)
+    take_of (messages.PcNtf notices) one = inl (calm_notices c p notices k)
+    take_of (messages.PcErr reports) one = inl (calm_reports c p reports k)
     take_of (messages.Open body) one = inl (calm_silent k)
     take_of messages.Keepalive one = inl (calm_silent k)
     take_of (messages.Close why) one = inl (calm_silent k)

@@ -7,6 +7,8 @@ use Rattle.pcep_messages.specs.declared.message.Message.{Message}
 use Rattle.pcep_messages.specs.declared.message.Message.TheVariants as messages
 use Rattle.pcep_messages.specs.declared.message.Asked.{Asked}
 use Rattle.pcep_messages.specs.declared.message.Reply.{Reply}
+use Rattle.pcep_messages.specs.declared.message.Notice.{Notice}
+use Rattle.pcep_messages.specs.declared.message.ErrorReport.{ErrorReport}
 use Rattle.pcep_messages.specs.declared.message.Answer.{Answer}
 use Rattle.pcep_messages.specs.declared.message.Answer.TheVariants.{Paths, NoPath}
 use Rattle.pcep_messages.specs.declared.message.Wanted.{Wanted}
@@ -171,6 +173,16 @@ module _ (c : Codec) (p : Peer) where
   calm_errors ids [] k are = calm_silent k are
   calm_errors ids (e' ∷ es) k are = calm_each (λ rp j. take_failure e' j (waiting p rp.1 j.pending.rows)) (λ rp j are'. calm_failure e' j are' (waiting p rp.1 j.pending.rows)) ids k are
 
+  pub calm_replies : (rs : List Reply) (k : Parent) → ArePending k.pending → IsCalm k (each (take_reply c p) rs k)
+  calm_replies rs k are = (calm_each (take_reply c p) (λ r j are'. calm_reply r j are') rs k are).0
+
+  pub calm_notices : (ns : List Notice) (k : Parent) → ArePending k.pending → IsCalm k (each (take_notice p) ns k)
+  calm_notices ns k are =
+      (calm_each (take_notice p) (λ r j are'. calm_each (λ (rp : ℕ × ℕ). each (λ (step : Peer → ℕ × ℕ → Parent → Given). step p rp) (notice_steps r.kinds)) (λ rp j' are''. calm_steps r.kinds rp j' are'') r.ids j are') ns k are).0
+
+  pub calm_reports : (rs : List ErrorReport) (k : Parent) → ArePending k.pending → IsCalm k (each (take_report p) rs k)
+  calm_reports rs k are = (calm_each (take_report p) (λ r j are'. calm_errors r.ids r.errors j are') rs k are).0
+
   module _ (f : Family) where
     -- the requests to the children
     pub record SendsAll (k : Parent) (t : Given) : Type 0 where
@@ -223,10 +235,9 @@ module _ (c : Codec) (p : Peer) where
         let t = take_asked c f p a k in
         subst (λ (os : List Output). Sends k (record { parent = t.parent; outputs = os })) (sym (nil_right t.outputs)) (checks k a (c.check a parent_as) refl are)
     take_sends (messages.PcReq (a ∷ b ∷ rest)) one k are = absurd (let none : length (a ∷ b ∷ rest) ≡ 1 = one in omega (arith, none))
-    take_sends (messages.PcRep replies) one k are = inl (calm_each (take_reply c p) (λ r j are'. calm_reply r j are') replies k are).0
-    take_sends (messages.PcNtf notices) one k are =
-        inl (calm_each (take_notice p) (λ r j are'. calm_each (λ (rp : ℕ × ℕ). each (λ (step : Peer → ℕ × ℕ → Parent → Given). step p rp) (notice_steps r.kinds)) (λ rp j' are''. calm_steps r.kinds rp j' are'') r.ids j are') notices k are).0
-    take_sends (messages.PcErr reports) one k are = inl (calm_each (take_report p) (λ r j are'. calm_errors r.ids r.errors j are') reports k are).0
+    take_sends (messages.PcRep replies) one k are = inl (calm_replies replies k are)
+    take_sends (messages.PcNtf notices) one k are = inl (calm_notices notices k are)
+    take_sends (messages.PcErr reports) one k are = inl (calm_reports reports k are)
     take_sends (messages.Open body) one k are = inl (calm_silent k are).0
     take_sends messages.Keepalive one k are = inl (calm_silent k are).0
     take_sends (messages.Close why) one k are = inl (calm_silent k are).0

@@ -13,6 +13,7 @@ use Rattle.plant_model.specs.Plant.{Pin, Plant}
 use Rattle.plant_laws.specs.Transcript.{Transcript, loads, opened}
 use Rattle.plant_laws.specs.Pending.{IsTaken}
 use Rattle.plant_laws.specs.Chains.{is_pending}
+use Rattle.plant_laws.specs.Runs.{InRuns}
 use Rattle.plant_laws.specs.Tables.{IsTakenAbove, OpenIsPendingIn}
 use Rattle.plant_laws.proofs.Queues.{same_as_is}
 use Rattle.plant_laws.proofs.Seen.{seen, seen_none, seen_some}
@@ -20,8 +21,8 @@ use Rattle.plant_laws.proofs.Rows.{In, in_of, seen_in}
 use Rattle.plant_laws.proofs.ElementSteps as lower
 use Rattle.plant_laws.proofs.ParentSteps as upper
 use Rattle.plant_laws.proofs.Opened.{Matches, IsRequest, IsUpperRequest, Holds}
-use Rattle.plant_laws.proofs.ReadBack.{run_tables}
-use Rattle.plant_laws.proofs.WhereWritten.{Written}
+use Rattle.plant_laws.proofs.OpenedRuns.{run_opened}
+use Rattle.plant_laws.proofs.RequestsWritten.{requests_are_single}
 
 -- what is open has a row, and what has a row is open
 matched_some : {T : Type 0} {U : Type 0} (core : T → U) (Good : U → Transcript → Type 0) (t : Pending T) (p : Peer) (x : ℕ) (o : Option Transcript) (at : Transcript) → o ≡ Some at →
@@ -111,9 +112,9 @@ module _ (c : Codec) (n : NetworkParts) (ds : Transcript) (s : Plant) (held : Ho
         | inr low ↦ some_matched lower.core (IsRequest c n d p x) (s.elements d).pending p x (opened c d p x ds) (rw low at there) (held.rows d p x low)
       ]
 
-pub open_is_pending : Written OpenIsPendingIn
-open_is_pending c codec n es s run sent =
-    let held = run_tables c n codec es s run sent in
+pub open_is_pending : InRuns OpenIsPendingIn
+open_is_pending c codec n net es s run =
+    let held = run_opened c n es s run (requests_are_single c codec n net es s run) in
     record {
       tables = held.elements;
       above = held.parent;

@@ -145,7 +145,7 @@ module _ (c : Codec) (codec : IsCodec c) (a : Asked) (flags x : ℕ) (w : Wanted
   to_child child [] number all = tt
   to_child child (t ∷ ts) number all = (one_asked child t number all.0, to_child child ts number all.1)
 
-  to_children : (links : List ParentLink) (ds : List As) → All IsParentLink links → AreNumbers ds → AreAsked c w (errands links w.target ds)
+  pub to_children : (links : List ParentLink) (ds : List As) → All IsParentLink links → AreNumbers ds → AreAsked c w (errands links w.target ds)
   to_children links [] all numbers = tt
   to_children links (d ∷ ds) all numbers =
       asked_append c w (errands_to d (with_end w.target (tails d links))) (errands links w.target ds)
@@ -254,7 +254,7 @@ module _ (c : Codec) (codec : IsCodec c) where
   last_fits None h = omega arith
   last_fits (Some w) h = h
 
-  all_asks : (w : Wanted) (taken : List Wait) (rs : List Errand) (ways : List Way) → AreAsked c w rs → WaysOk ways → OutsUp c (parent.ask_all w taken rs ways).outputs × WaysOk (parent.ask_all w taken rs ways).ways
+  pub all_asks : (w : Wanted) (taken : List Wait) (rs : List Errand) (ways : List Way) → AreAsked c w rs → WaysOk ways → OutsUp c (parent.ask_all w taken rs ways).outputs × WaysOk (parent.ask_all w taken rs ways).ways
   all_asks w taken [] ways asked ok = (tt, ok)
   all_asks w taken (r ∷ rs) ways asked ok =
       let p = Inner r.child in

@@ -34,9 +34,9 @@ module _ (c : Codec) (codec : IsCodec c) (n : NetworkParts) (net : IsNetwork n) 
   passed_on d b h g y real there waits pending key =
       let numbers = (run_last c codec n es s run (run_single c n codec es s run written) short d (low_of d real)).1 in
       let read = run_read c n codec es s run written in
-      let sent = waits_are_sent c codec n net es s run written d h there (Inner b) y waits in
+      let sent = waits_are_sent c codec n net es s run d h there (Inner b) y waits in
       let sent_in = opened_within c d h.1.key.peer h.1.key.id now sent.at sent.is_open in
-      let taken = (open_is_pending c codec n es s run written).taken b g pending in
+      let taken = (open_is_pending c codec n net es s run).taken b g pending in
       let open' : opened c b (Inner d) y now ≡ Some taken.at = ap (λ (k : RequestKey). opened c b k.peer k.id now) (sym key) ∙ taken.is_open in
       let taken_in = opened_within c b (Inner d) y now taken.at open' in
       let delivered : Delivered c taken.at b (Inner d) taken.request = subst (λ (p : Peer). Delivered c taken.at b p taken.request) (ap (λ (k : RequestKey). k.peer) key) taken.delivered in

@@ -43,6 +43,7 @@ use Rattle.plant_laws.proofs.Decompose.{nil_right}
 use Rattle.plant_laws.proofs.Induction.{run_holds}
 use Rattle.plant_laws.proofs.Queues.{same_as_is}
 use Rattle.plant_laws.proofs.Handing.{IsAsk, AskFree, IsTerse}
+use Rattle.plant_laws.proofs.Takes.{IsSingle}
 
 -- none of these outputs asks
 abbrev pub NoneAsks : List Output → Type 0
@@ -179,18 +180,18 @@ module _ (P : Type 0) (S : Type 0) where
     errors_none ids (e' ∷ es) k = each_none (λ rp j. take_failure e' j (waiting p rp.1 j.pending.rows)) ids k (λ rp j. failure_none e' j (waiting p rp.1 j.pending.rows))
 
     -- what an element sends when it takes a message
-    pub take_terse : (m : Message) (k : Element P S) → IsAlone m → IsTerseOut (take c show e pin p class now m k).outputs
-    take_terse (messages.PcReq []) k alone = inl tt
-    take_terse (messages.PcReq (a ∷ [])) k alone =
+    pub take_terse : (m : Message) (k : Element P S) → IsSingle m → IsTerseOut (take c show e pin p class now m k).outputs
+    take_terse (messages.PcReq []) k one = inl tt
+    take_terse (messages.PcReq (a ∷ [])) k one =
         inr (subst (λ (l : List Output). length l ≤ 1) (sym (nil_right (take_asked c show e pin p class now a k).outputs)) (checked_short k (c.check a e.own)))
-    take_terse (messages.PcReq (a ∷ b ∷ rest)) k alone = absurd (omega arith)
-    take_terse (messages.PcRep replies) k alone = inl (each_none (take_reply c p) replies k (λ r j. answer_none r j (waiting p r.id j.pending.rows)))
-    take_terse (messages.PcNtf notices) k alone = inl (each_none (take_notice p) notices k (λ r j. each_none (λ rp. each (λ step. step p rp) (notice_steps r.kinds)) r.ids j (λ rp j'. steps_none r.kinds rp j')))
-    take_terse (messages.PcErr reports) k alone = inl (each_none (take_report p) reports k (λ r j. errors_none r.ids r.errors j))
-    take_terse (messages.Open body) k alone = inl tt
-    take_terse messages.Keepalive k alone = inl tt
-    take_terse (messages.Close why) k alone = inl tt
-    take_terse (messages.Other kind) k alone = inl tt
+    take_terse (messages.PcReq (a ∷ b ∷ rest)) k one = absurd (omega arith)
+    take_terse (messages.PcRep replies) k one = inl (each_none (take_reply c p) replies k (λ r j. answer_none r j (waiting p r.id j.pending.rows)))
+    take_terse (messages.PcNtf notices) k one = inl (each_none (take_notice p) notices k (λ r j. each_none (λ rp. each (λ step. step p rp) (notice_steps r.kinds)) r.ids j (λ rp j'. steps_none r.kinds rp j')))
+    take_terse (messages.PcErr reports) k one = inl (each_none (take_report p) reports k (λ r j. errors_none r.ids r.errors j))
+    take_terse (messages.Open body) k one = inl tt
+    take_terse messages.Keepalive k one = inl tt
+    take_terse (messages.Close why) k one = inl tt
+    take_terse (messages.Other kind) k one = inl tt
 
 lost_none : (ls : List Lost) → NoneAsks (map lost_output ls)
 lost_none [] = tt
@@ -218,7 +219,7 @@ upper_one c h (Some a) k = (_, refl)
 
 -- the deeds of a run
 abbrev pub IsSparing : Deed Segment → Type 0
-IsSparing (Takes at p m os) = at ≢ parent_as → IsAlone m → IsTerseOut os
+IsSparing (Takes at p m os) = at ≢ parent_as → IsSingle m → IsTerseOut os
 IsSparing (Downs at p os) = at ≢ parent_as → NoneAsks os
 IsSparing (Solves at k os keys) = IsOne os
 IsSparing (Says at o) = Unit {0}
@@ -258,7 +259,7 @@ module _ (c : Codec) (n : NetworkParts) where
       (record { state = puts Pin Segment c n open_of at r.outputs (with_parent Pin Segment c n open_of r.parent s); deeds = Takes at p m r.outputs ∷ es })
       (record { state = puts Pin Segment c n open_of at t.outputs (with_element Pin Segment c n open_of at t.element s); deeds = Takes at p m t.outputs ∷ es })
       (λ is. ((λ other. absurd (not_parent at is other)), all))
-      (λ is. ((λ other alone. take_terse Pin Segment c open_of (place n at) (s.current at) p (class_of n p) s.clock m (s.elements at) alone), all))
+      (λ is. ((λ other one. take_terse Pin Segment c open_of (place n at) (s.current at) p (class_of n p) s.clock m (s.elements at) one), all))
 
   fall_spares : (at : As) (p : Peer) (s : State Pin Segment) (ds : Transcript) → AllSpare ds →
       AllSpare ((fall Pin Segment c n open_of at p (record { state = s; deeds = [] })).deeds ++ ds)

@@ -332,4 +332,4 @@ module _ (c : Codec) (codec : IsCodec c) (n : NetworkParts) (net : IsNetwork n) 
 
 pub requests_are_served : WrittenNetIds RequestsAreServedIn
 requests_are_served c codec n net es s run written short run' quiet d p x at real within begins' =
-    came_to c codec n net es s run' written short d real p x at quiet (requests_are_answered_once c codec n net es s run written d p x at within begins').fate
+    came_to c codec n net es s run' written short d real p x at quiet (requests_are_answered_once c codec n net es s run d p x at within begins').fate

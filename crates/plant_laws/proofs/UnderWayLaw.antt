@@ -191,7 +191,7 @@ waits_are_under_way c codec n net es s run written short =
     let known = inv.0.2 prem in
     let both = inv.0.0 single in
     record {
-      elements = λ d h on id there stage. element_goes c n codec (deeds_of c n es) s inv.0.1 both.0 alive d h on id there stage (waits_are_sent c codec n net es s run written d h there on id stage);
+      elements = λ d h on id there stage. element_goes c n codec (deeds_of c n es) s inv.0.1 both.0 alive d h on id there stage (waits_are_sent c codec n net es s run d h there on id stage);
       parent = λ h w there in'.
           let i = in_flip h s.parent.pending.rows (table.in_of h s.parent.pending.rows there) in
           let j = in_flip w h.1.item.waits (table.in_of w h.1.item.waits in') in

@@ -32,7 +32,8 @@ use Rattle.plant_laws.proofs.Queues.{same_as_is}
 use Rattle.plant_laws.proofs.Induction.{run_holds}
 use Rattle.plant_laws.proofs.Seen.{seen_none}
 use Rattle.plant_laws.proofs.Rows.{In, in_of, seen_in}
-use Rattle.plant_laws.proofs.ReadBack.{run_single}
+use Rattle.plant_laws.proofs.RequestsWritten.{requests_are_single}
+use Rattle.plant_laws.specs.Runs.{InRuns}
 use Rattle.plant_laws.specs.Waiting.{WaitsAreSentIn, WaitsApartIn, wait_alike}
 use Rattle.plant_laws.proofs.Inboxes.{contains}
 use Rattle.plant_laws.proofs.ElementSteps as lower
@@ -42,7 +43,6 @@ use Rattle.plant_laws.proofs.OpenedRuns.{act_holds, load_holds, solve_holds, upp
 use Rattle.plant_laws.proofs.OpenTables.{row_matched}
 use Rattle.plant_laws.proofs.Subsides.{IsOlder, commit_subs, downed_subs}
 use Rattle.plant_laws.proofs.SentOn.{IsRest, IsSentIn, take_news, same_id_back}
-use Rattle.plant_laws.proofs.WhereWritten.{WrittenNet}
 
 pub still : (eff : Effect) (o : Option Transcript) (now at at' : Transcript) → o ≡ Some at → after eff o now ≡ Some at' → after eff o now ≡ Some at
 still Keeps o now at at' e f = e
@@ -334,13 +334,13 @@ module _ (c : Codec) (n : NetworkParts) where
   pub run_sent_on : (es : List Entry) (s : Plant) → Run c n es s → AreSingle (deeds_of c n es) → AreSentOn (deeds_of c n es) s
   run_sent_on es s run single = (run_holds c n IfBoth (λ z. (bare_holds c n z, ((λ d h none. absurd none), (λ d h g none. absurd none)))) act_both (λ ds s d g given held. load_both ds s d g held) solve_both upper_both es s run single).1
 
-pub waits_are_sent : WrittenNet WaitsAreSentIn
-waits_are_sent c codec n net es s run written d h i b y is =
-    let all = run_sent_on c n es s run (run_single c n codec es s run written) in
+pub waits_are_sent : InRuns WaitsAreSentIn
+waits_are_sent c codec n net es s run d h i b y is =
+    let all = run_sent_on c n es s run (requests_are_single c codec n net es s run) in
     let w = subst (λ (stage : Stage). SentAt c n (deeds_of c n es) d h stage) is (all.0 d h (in_of h (s.elements d).pending.rows i)) in
     record { at = w.0; is_open = w.1; rest = w.2.0; sent = w.2.1; goes = w.2.2 }
 
-pub waits_apart : WrittenNet WaitsApartIn
-waits_apart c codec n net es s run written d h g i j differ =
-    let all = run_sent_on c n es s run (run_single c n codec es s run written) in
+pub waits_apart : InRuns WaitsApartIn
+waits_apart c codec n net es s run d h g i j differ =
+    let all = run_sent_on c n es s run (requests_are_single c codec n net es s run) in
     all.1 d h g (in_of h (s.elements d).pending.rows i) (in_of g (s.elements d).pending.rows j) differ

@@ -13,7 +13,7 @@ use Rattle.plant_model.specs.Events.{is_ready}
 use Rattle.plant_model.specs.Element.{Waits, Row}
 use Rattle.plant_model.specs.Plant.{Pin, Plant, Entry, deeds_of}
 use Rattle.plant_laws.specs.Transcript.{Transcript, Handed, Leg, Chain, numbers, opened}
-use Rattle.plant_laws.specs.Runs.{InShortRuns}
+use Rattle.plant_laws.specs.Runs.{InRuns, InShortRuns}
 
 -- A request has one chain: two that begin with the same moment and lead through the same domains have the same moments.
 abbrev pub moments : List Leg → List Transcript
@@ -32,7 +32,7 @@ OneChainIn c n es s =
     numbers (one ∷ rest) ≡ numbers (other ∷ rest') → moments (one ∷ rest) ≡ moments (other ∷ rest')
 
 abbrev pub OneChain : Type 0
-OneChain = InShortRuns OneChainIn
+OneChain = InRuns OneChainIn
 
 -- every inbox and every inner queue is empty, and no job is ready
 abbrev pub HasEmptyInbox : Option Connection → Type 0

@@ -14,7 +14,7 @@ use Rattle.plant_model.specs.Settings.{place}
 use Rattle.plant_model.specs.Element.{Waits, Row, Stage, Ready}
 use Rattle.plant_model.specs.Plant.{Pin, Plant, Entry, deeds_of}
 use Rattle.plant_laws.specs.Transcript.{Transcript, opened, SentIn}
-use Rattle.plant_laws.specs.Runs.{InShortRuns}
+use Rattle.plant_laws.specs.Runs.{InRuns}
 
 -- to the parent without a sequence, or to the peer that is asked for the next domain
 abbrev pub GoesOn : List Route → List As → List As → Peer → Type 0
@@ -33,7 +33,7 @@ abbrev pub WaitsAreSentIn : Codec → NetworkParts → List Entry → Plant → 
 WaitsAreSentIn c n es s = (d : As) (h : Row Pin) → Contains (s.elements d).pending.rows h → (b : Peer) (y : ℕ) → h.1.item.stage ≡ Waits b y → WasSentOn c n (deeds_of c n es) d h b y
 
 abbrev pub WaitsAreSent : Type 0
-WaitsAreSent = InShortRuns WaitsAreSentIn
+WaitsAreSent = InRuns WaitsAreSentIn
 
 -- two stages wait for the answer to one id
 abbrev pub wait_alike : Stage → Stage → Bool
@@ -48,4 +48,4 @@ WaitsApartIn c n es s =
     same_key h.1.key g.1.key ≡ false → wait_alike h.1.item.stage g.1.item.stage ≡ false
 
 abbrev pub WaitsApart : Type 0
-WaitsApart = InShortRuns WaitsApartIn
+WaitsApart = InRuns WaitsApartIn

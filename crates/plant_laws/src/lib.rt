@@ -1,5 +1,5 @@
 //! The laws of a network of path computation elements, over all its runs. They are the contracts of calls that do nothing; each
-//! statement stands in one file of specs/. Where ids or messages read come in, the runs are those in which no element and no parent
+//! statement stands in one file of specs/. Laws that fail where ids come round are of the runs in which no element and no parent
 //! sends a neighbour more requests than there are ids.
 #![tactic(auto)]
 
@@ -20,7 +20,7 @@ ghost use Rattle.plant_laws.specs.Matched.{RepliesAnswer, RepliesMatch};
 ghost use Rattle.plant_laws.specs.Reading.{OutsideIsRead};
 ghost use Rattle.plant_laws.specs.Readings.{MessagesAreRead};
 ghost use Rattle.plant_laws.specs.Replies.{LeastReplies, LeastRepliesIn, NoneReplies, NoneRepliesIn, SolvesSendOne};
-ghost use Rattle.plant_laws.specs.Runs.{AllIsWritten, InShortRuns, OverPcep};
+ghost use Rattle.plant_laws.specs.Runs.{AllIsWritten, InRuns, InRunsOverPcep, InShortRuns, OverPcep, RequestsAreWritten};
 ghost use Rattle.plant_laws.specs.Served.{RequestsAreServed};
 ghost use Rattle.plant_laws.specs.Solves.{SolvesTell};
 ghost use Rattle.plant_laws.specs.Standing.{PinsAreCurrent, QueuesStand};
@@ -179,6 +179,11 @@ pub fn all_is_written()
     ensures { InShortRuns AllIsWritten }
 {}
 
+/// All requests that are sent in a run are in written form, also where ids come round.
+pub fn requests_are_written()
+    ensures { InRuns RequestsAreWritten }
+{}
+
 // ---- what stands by the transcript
 
 /// In every state of a run the inner queues hold the texts of what stands in them by the transcript.
@@ -291,8 +296,8 @@ pub fn good_requests_exist()
 // ---- over PCEP
 
 /// Over the wire of PCEP, with no premise but the rules of settings and the number of ids: what clients and
-/// closed peers are answered, certificates, quiet, what is under way, one answer and one chain for each
-/// request, and what a key shows to whom.
+/// closed peers are answered, certificates, quiet and what is under way. And with no premise but the rules of
+/// settings: one answer and one chain for each request, and what a key shows to whom.
 pub fn laws_over_pcep()
     ensures paths { OverPcep LeastAnswersIn }
     ensures none { OverPcep NoneAnswersIn }
@@ -301,7 +306,7 @@ pub fn laws_over_pcep()
     ensures certified { OverPcep SolvesCertifyIn }
     ensures quiet { OverPcep QuietIsAnsweredIn }
     ensures under_way { OverPcep WaitsAreUnderWayIn }
-    ensures once { OverPcep RequestsAreAnsweredOnceIn }
-    ensures chain { OverPcep OneChainIn }
-    ensures keys { OverPcep ExpandsRightlyIn }
+    ensures once { InRunsOverPcep RequestsAreAnsweredOnceIn }
+    ensures chain { InRunsOverPcep OneChainIn }
+    ensures keys { InRunsOverPcep ExpandsRightlyIn }
 {}
