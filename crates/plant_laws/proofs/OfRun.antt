@@ -93,7 +93,7 @@ module _ (c : Codec) (codec : IsCodec c) (n : NetworkParts) (net : IsNetwork n) 
       let row : Row Pin = (k, x.held) in
       let there : Contains (s.elements d).pending.rows row = in_contains row (s.elements d).pending.rows (lookup_in k (s.elements d).pending.rows x.held x.is_held) in
       let taken = (open_is_pending c codec n net es s run).taken d row there in
-      let r = is_readied c codec n es s run written d row net there x.down x.ready in
+      let r = is_readied c codec n es s run written d row there x.down x.ready in
       let same = same_moment (opened c d x.held.key.peer x.held.key.id (deeds_of c n es)) r.at taken.at r.is_open taken.is_open in
       record {
         held = x.held;
@@ -189,7 +189,7 @@ module _ (c : Codec) (codec : IsCodec c) (n : NetworkParts) (net : IsNetwork n) 
       record {
         owns = run_owns c n es s run;
         solved = λ d k os keys older real w. (moments d k os keys older w).0 real;
-        replied = replied_of c codec n es s run written net;
+        replied = replied_of c codec n es s run written;
         asked = asked_of_run c codec n es s run written short;
         carried_replies = λ d b replies os older w. (let r = readings.queues b d (messages.PcRep replies) os older w in record { before = r.before; is = r.is_popped; put = r.put; rest = r.rest; stood = r.stood });
         carried_requests = λ d b asks os older w. (let r = readings.queues b d (messages.PcReq asks) os older w in record { before = r.before; is = r.is_popped; put = r.put; rest = r.rest; stood = r.stood });

@@ -16,7 +16,6 @@ use Rattle.plant_text.specs.Names.{same_as, parent_as}
 use Rattle.plant_model.specs.Names.{the_parent, set_as}
 use Rattle.plant_model.specs.Wire.{Codec}
 use Rattle.plant_model.specs.Writing.{request_message}
-use Rattle.plant_model.specs.Laws.{IsNetwork}
 use Rattle.plant_model.specs.Element.{Stage, Waits, Ready, Item, Element, Row, upped, downed}
 use Rattle.plant_model.specs.Taking.{take}
 use Rattle.plant_model.specs.Solving.{commit}
@@ -467,14 +466,14 @@ module _ (c : Codec) (n : NetworkParts) where
   pub ready_same : (ds : Transcript) (s t : Core) → t.elements ≡ s.elements → AreReady ds s → AreReady ds t
   ready_same ds s t same ready = subst (λ (f : As → Element Pin Segment). (d : As) (h : Row Pin) → In h (f d).pending.rows → ReadyAt ds d h h.1.item.stage) (sym same) ready
 
-  act_ready : IsNetwork n → (ds : Transcript) (s t : Core) (es : Transcript) → IfAll ds s → Acts Pin Segment c n open_of s es t → AreSingle (es ++ ds) → Holds c n (es ++ ds) t → AreReady (es ++ ds) t
-  act_ready net ds s t es held (rests s' t' same) = λ single next. ready_same ds s t same.elements (held single).1
-  act_ready net ds s t es held (hears i bytes m s' read) = λ single next.
+  act_ready : (ds : Transcript) (s t : Core) (es : Transcript) → IfAll ds s → Acts Pin Segment c n open_of s es t → AreSingle (es ++ ds) → Holds c n (es ++ ds) t → AreReady (es ++ ds) t
+  act_ready ds s t es held (rests s' t' same) = λ single next. ready_same ds s t same.elements (held single).1
+  act_ready ds s t es held (hears i bytes m s' read) = λ single next.
       let x = give_single c n (element_of n i) (Outside i) m s [] ds single in
       let heard : (r : Reply) → In r (replies_of m) → Heeds c (Outside i) (s.elements (element_of n i)).pending.rows r =
       subst (λ (z : Message). (r : Reply) → In r (replies_of z) → Heeds c (Outside i) (s.elements (element_of n i)).pending.rows r) (sym read.2) (heeds_of c i (s.elements (element_of n i)).pending.rows read.0) in
       give_ready (element_of n i) (Outside i) m s [] ds heard (held x.1) next
-  act_ready net ds s t es held (carries a b bytes rest m s' u is read same) = λ single next.
+  act_ready ds s t es held (carries a b bytes rest m s' u is read same) = λ single next.
       let x = give_single c n b (Inner a) m u (Pops a b ∷ []) ds single in
       let old = held x.1.1 in
       let q = popped Pin Segment c n open_of a b rest s in
@@ -482,23 +481,23 @@ module _ (c : Codec) (n : NetworkParts) where
       let both' = act_both c n (Pops a b ∷ ds) q u [] (λ z. both) (rests q u same) x.1 in
       let ready' = ready_same (Pops a b ∷ ds) q u same.elements (ready_after (Pops a b) ds s q old.0 old.1 both.0 (stay (Pops a b) s q (λ d. refl))) in
       give_ready b (Inner a) m u (Pops a b ∷ []) ds (λ r j. tt) (both', ready') next
-  act_ready net ds s t es held (nods a b bytes rest s' is) = λ single next. let old = held single.1 in ready_after (Pops a b) ds s t old.0 old.1 next (stay (Pops a b) s t (λ d. refl))
-  act_ready net ds s t es held (hands i bytes s' t' same) = λ single next.
+  act_ready ds s t es held (nods a b bytes rest s' is) = λ single next. let old = held single.1 in ready_after (Pops a b) ds s t old.0 old.1 next (stay (Pops a b) s t (λ d. refl))
+  act_ready ds s t es held (hands i bytes s' t' same) = λ single next.
       let old = held single.1 in
       ready_after (Hands i bytes) ds s t old.0 old.1 next (stay (Hands i bytes) s t (λ d. ap (λ (f : As → Element Pin Segment). (f d).pending) same.elements))
-  act_ready net ds s t es held (rises at p s') = λ single next. rise_ready at p s ds (held (rise_single c n at p s ds single)) next
-  act_ready net ds s t es held (falls at p s') = λ single next. fall_ready at p s ds (held (fall_single c n at p s ds single)) next
-  act_ready net ds s t es held (says at p o s') = λ single next.
+  act_ready ds s t es held (rises at p s') = λ single next. rise_ready at p s ds (held (rise_single c n at p s ds single)) next
+  act_ready ds s t es held (falls at p s') = λ single next. fall_ready at p s ds (held (fall_single c n at p s ds single)) next
+  act_ready ds s t es held (says at p o s') = λ single next.
       let old = held single.1 in
       let out : Output = record { to = p; message = own_message o } in
       ready_after (Says at out) ds s t old.0 old.1 next (stay (Says at out) s t (λ d. ap (λ (f : As → Element Pin Segment). (f d).pending) (puts_elements c n at (out ∷ []) s)))
-  act_ready net ds s t es held (clears x s') = λ single next. let old = held single.1 in ready_after (Clears x.lower x.upper) ds s t old.0 old.1 next (stay (Clears x.lower x.upper) s t (λ d. refl))
-  act_ready net ds s t es held (expires now s') = λ single next. let old = held single.1 in ready_after (Expires now) ds s t old.0 old.1 next (stay (Expires now) s t (λ d. refl))
+  act_ready ds s t es held (clears x s') = λ single next. let old = held single.1 in ready_after (Clears x.lower x.upper) ds s t old.0 old.1 next (stay (Clears x.lower x.upper) s t (λ d. refl))
+  act_ready ds s t es held (expires now s') = λ single next. let old = held single.1 in ready_after (Expires now) ds s t old.0 old.1 next (stay (Expires now) s t (λ d. refl))
 
-  pub act_all : IsNetwork n → (ds : Transcript) (s t : Core) (es : Transcript) → IfAll ds s → Acts Pin Segment c n open_of s es t → IfAll (es ++ ds) t
-  act_all net ds s t es held act single =
+  pub act_all : (ds : Transcript) (s t : Core) (es : Transcript) → IfAll ds s → Acts Pin Segment c n open_of s es t → IfAll (es ++ ds) t
+  act_all ds s t es held act single =
       let both = act_both c n ds s t es (λ z. (held z).0) act single in
-      (both, act_ready net ds s t es held act single both.0)
+      (both, act_ready ds s t es held act single both.0)
 
   pub load_all : (ds : Transcript) (s : Plant) (d : As) (g : Rows) → IfAll ds s → IfAll (Loads d g ∷ ds) (load_new c n d g s).state
   load_all ds s d g held single =
@@ -541,6 +540,6 @@ module _ (c : Codec) (n : NetworkParts) where
           ready_after e ds s v old.0 old.1 next.0
           (stay e s v (λ d. ap (λ (f : As → Element Pin Segment). (f d).pending) (puts_elements c n parent_as r.outputs (with_parent Pin Segment c n open_of r.parent s)))))
 
-  pub run_ready : IsNetwork n → (es : List Entry) (s : Plant) → Run c n es s → AreSingle (deeds_of c n es) → (Both c n (deeds_of c n es) s) × AreReady (deeds_of c n es) s
-  run_ready net es s run single =
-      run_holds c n IfAll (λ z. ((bare_holds c n z, ((λ d h none. absurd none), (λ d h g none. absurd none))), (λ d h none. absurd none))) (act_all net) (λ ds s d g given held. load_all ds s d g held) solve_all upper_all es s run single
+  pub run_ready : (es : List Entry) (s : Plant) → Run c n es s → AreSingle (deeds_of c n es) → (Both c n (deeds_of c n es) s) × AreReady (deeds_of c n es) s
+  run_ready es s run single =
+      run_holds c n IfAll (λ z. ((bare_holds c n z, ((λ d h none. absurd none), (λ d h g none. absurd none))), (λ d h none. absurd none))) act_all (λ ds s d g given held. load_all ds s d g held) solve_all upper_all es s run single

@@ -24,7 +24,7 @@ use Rattle.plant_model.specs.Settings.{place}
 use Rattle.plant_model.specs.State.{Takes}
 use Rattle.plant_model.specs.Deeds.{own_message}
 use Rattle.plant_model.specs.Plant.{Pin, Plant, Entry, Run, deeds_of}
-use Rattle.plant_model.specs.Laws.{IsCodec, IsNetwork}
+use Rattle.plant_model.specs.Laws.{IsCodec}
 use Rattle.plant_laws.specs.Transcript.{Transcript, Within, opened, SentIn}
 use Rattle.plant_laws.specs.Sending.{AllSent}
 use Rattle.plant_laws.proofs.Sent.{AreSent, run_sent}
@@ -128,9 +128,9 @@ module _ (c : Codec) (codec : IsCodec c) (n : NetworkParts) (es : List Entry) (s
       go (inl up) = no_up b.on b.upper up.2
       go (inr on) = no_cons on.0 b.rest (sym on.3 ∙ none)
 
-  pub is_readied : IsNetwork n → Contains (s.elements d).pending.rows h → (down : List Branch) → h.1.item.stage ≡ Ready down → IsReadied c n now d h down
-  is_readied net i down stage =
-      let all = run_ready c n net es s run (run_single c n codec es s run written) in
+  pub is_readied : Contains (s.elements d).pending.rows h → (down : List Branch) → h.1.item.stage ≡ Ready down → IsReadied c n now d h down
+  is_readied i down stage =
+      let all = run_ready c n es s run (run_single c n codec es s run written) in
       let f = found c n now s all.0.0 d h i in
       let ready : IsFresh h.1.item.sequence (Ready down) ⊎ IsBack c n now d h down = subst (λ (x : Stage). ReadyAt c n now d h x) stage (all.1 d h (in_of h (s.elements d).pending.rows i)) in
       let up = goes_up (place n d).parent (class_of n h.1.key.peer) h.1.item.wanted.sequence in

@@ -13,7 +13,6 @@ use Rattle.plant_text.specs.Names.{same_as, parent_as}
 use Rattle.plant_model.specs.Names.{the_parent}
 use Rattle.plant_model.specs.Wire.{Codec, Admitted}
 use Rattle.plant_model.specs.Writing.{request_message}
-use Rattle.plant_model.specs.Laws.{IsNetwork}
 use Rattle.plant_model.specs.Element.{Stage, Waits, Ready, Element, Row, downed}
 use Rattle.plant_model.specs.Taking.{take}
 use Rattle.plant_model.specs.Solving.{commit}
@@ -285,30 +284,30 @@ module _ (c : Codec) (n : NetworkParts) where
   abbrev Full : Transcript → Core → Type 0
   Full ds s = AreSingle ds → All c n ds s × AllReplied ds
 
-  act_replied : IsNetwork n → (ds : Transcript) (s t : Core) (es : Transcript) → Full ds s → Acts Pin Segment c n open_of s es t → AreSingle (es ++ ds) → AllReplied (es ++ ds)
-  act_replied net ds s t es held (rests s' t' same) = λ single. (held single).1
-  act_replied net ds s t es held (hears i bytes m s' read) = λ single.
+  act_replied : (ds : Transcript) (s t : Core) (es : Transcript) → Full ds s → Acts Pin Segment c n open_of s es t → AreSingle (es ++ ds) → AllReplied (es ++ ds)
+  act_replied ds s t es held (rests s' t' same) = λ single. (held single).1
+  act_replied ds s t es held (hears i bytes m s' read) = λ single.
       let x = give_single c n (element_of n i) (Outside i) m s [] ds single in
       give_replied (element_of n i) (Outside i) m s [] ds x.0 (held x.1).0.0 (held x.1).1
-  act_replied net ds s t es held (carries a b bytes rest m s' u is read same) = λ single.
+  act_replied ds s t es held (carries a b bytes rest m s' u is read same) = λ single.
       let x = give_single c n b (Inner a) m u (Pops a b ∷ []) ds single in
       let old = held x.1.1 in
       let q = popped Pin Segment c n open_of a b rest s in
       let both = act_both c n ds s q (Pops a b ∷ []) (λ z. (held z).0.0) (nods a b bytes rest s is) x.1 in
       let both' = act_both c n (Pops a b ∷ ds) q u [] (λ z. both) (rests q u same) x.1 in
       give_replied b (Inner a) m u (Pops a b ∷ []) ds x.0 both' (by_none (Pops a b) ds (λ d. refl), old.1)
-  act_replied net ds s t es held (nods a b bytes rest s' is) = λ single. (by_none (Pops a b) ds (λ d. refl), (held single.1).1)
-  act_replied net ds s t es held (hands i bytes s' t' same) = λ single. (by_none (Hands i bytes) ds (λ d. refl), (held single.1).1)
-  act_replied net ds s t es held (rises at p s') = λ single. rise_replied at p s ds (held (rise_single c n at p s ds single)).1
-  act_replied net ds s t es held (falls at p s') = λ single. fall_replied at p s ds (held (fall_single c n at p s ds single)).1
-  act_replied net ds s t es held (says at p o s') = λ single.
+  act_replied ds s t es held (nods a b bytes rest s' is) = λ single. (by_none (Pops a b) ds (λ d. refl), (held single.1).1)
+  act_replied ds s t es held (hands i bytes s' t' same) = λ single. (by_none (Hands i bytes) ds (λ d. refl), (held single.1).1)
+  act_replied ds s t es held (rises at p s') = λ single. rise_replied at p s ds (held (rise_single c n at p s ds single)).1
+  act_replied ds s t es held (falls at p s') = λ single. fall_replied at p s ds (held (fall_single c n at p s ds single)).1
+  act_replied ds s t es held (says at p o s') = λ single.
       let out : Output = record { to = p; message = own_message o } in
       (by_own (Says at out) ds at (out ∷ []) (λ d. refl) (λ q r paths tells said. absurd (other_one q r paths tells p (own_message o) (own_silent o) said)), (held single.1).1)
-  act_replied net ds s t es held (clears x s') = λ single. (by_none (Clears x.lower x.upper) ds (λ d. refl), (held single.1).1)
-  act_replied net ds s t es held (expires now s') = λ single. (by_none (Expires now) ds (λ d. refl), (held single.1).1)
+  act_replied ds s t es held (clears x s') = λ single. (by_none (Clears x.lower x.upper) ds (λ d. refl), (held single.1).1)
+  act_replied ds s t es held (expires now s') = λ single. (by_none (Expires now) ds (λ d. refl), (held single.1).1)
 
-  act_full : IsNetwork n → (ds : Transcript) (s t : Core) (es : Transcript) → Full ds s → Acts Pin Segment c n open_of s es t → Full (es ++ ds) t
-  act_full net ds s t es held act single = (act_all c n net ds s t es (λ z. (held z).0) act single, act_replied net ds s t es held act single)
+  act_full : (ds : Transcript) (s t : Core) (es : Transcript) → Full ds s → Acts Pin Segment c n open_of s es t → Full (es ++ ds) t
+  act_full ds s t es held act single = (act_all c n ds s t es (λ z. (held z).0) act single, act_replied ds s t es held act single)
 
   load_full : (ds : Transcript) (s : Plant) (d : As) (g : Rows) → Full ds s → Full (Loads d g ∷ ds) (load_new c n d g s).state
   load_full ds s d g held single = (load_all c n ds s d g (λ z. (held z).0) single, (by_none (Loads d g) ds (λ d'. refl), (held single.1).1))
@@ -334,6 +333,6 @@ module _ (c : Codec) (n : NetworkParts) where
           subst (λ (h' : Happened). AreSingle (h'.deeds ++ ds) → AllReplied (h'.deeds ++ ds)) (sym x.is)
           (λ single'. (by_parent (Solves parent_as k r.outputs []) ds parent_as r.outputs (λ d'. refl) (eq-eqb 0 0 refl), (held single'.1).1))
 
-  pub run_replied : IsNetwork n → (es : List Entry) (s : Plant) → Run c n es s → AreSingle (deeds_of c n es) → AllReplied (deeds_of c n es)
-  run_replied net es s run single =
-      (run_holds c n Full (λ z. (((bare_holds c n z, ((λ d h none. absurd none), (λ d h g none. absurd none))), (λ d h none. absurd none)), tt)) (act_full net) (λ ds s d g given held. load_full ds s d g held) solve_full upper_full es s run single).1
+  pub run_replied : (es : List Entry) (s : Plant) → Run c n es s → AreSingle (deeds_of c n es) → AllReplied (deeds_of c n es)
+  run_replied es s run single =
+      (run_holds c n Full (λ z. (((bare_holds c n z, ((λ d h none. absurd none), (λ d h g none. absurd none))), (λ d h none. absurd none)), tt)) act_full (λ ds s d g given held. load_full ds s d g held) solve_full upper_full es s run single).1

@@ -19,7 +19,7 @@ use Rattle.plant_text.specs.Settings.{class_of}
 use Rattle.plant_model.specs.Settings.{place}
 use Rattle.plant_model.specs.State.{Takes}
 use Rattle.plant_model.specs.Plant.{Plant, PlantDeed, Entry, Run, deeds_of}
-use Rattle.plant_model.specs.Laws.{IsCodec, IsNetwork, IsSequence}
+use Rattle.plant_model.specs.Laws.{IsCodec, IsSequence}
 use Rattle.plant_laws.specs.Transcript.{Transcript, Within, opened, outputs_at, SentIn}
 use Rattle.plant_laws.specs.Sending.{AllSent}
 use Rattle.plant_laws.proofs.ReadBack.{run_single}
@@ -92,10 +92,10 @@ module _ (c : Codec) (codec : IsCodec c) (n : NetworkParts) (es : List Entry) (s
         | inr stays ↦ absurd (not_along d (place n d).routes v.sequence x.row.1.item.sequence x.rest sequence (x.sequence ∙ ap (λ (b : Bool). cond b [] (sequence_or d v.sequence)) stays) x.goes)
       ]
 
-  pub replied_of : IsNetwork n → (e : PlantDeed) (older : Transcript) (d : As) (p : Peer) (r : Reply) (paths : List Path) → d ≢ parent_as → Within (e ∷ older) (deeds_of c n es) →
+  pub replied_of : (e : PlantDeed) (older : Transcript) (d : As) (p : Peer) (r : Reply) (paths : List Path) → d ≢ parent_as → Within (e ∷ older) (deeds_of c n es) →
       Contains (outputs_at d e) (record { to = p; message = messages.PcRep (r ∷ []) }) → Tells r.answer paths → OfSolve d e ⊎ OfKey c d p r e ⊎ OfParent c n older d p r e
-  replied_of net e older d p r paths real w said tells =
-      elim (one_replied e older (deeds_of c n es) (run_replied c n net es s run (run_single c n codec es s run written)) w d p r paths real said tells) [
+  replied_of e older d p r paths real w said tells =
+      elim (one_replied e older (deeds_of c n es) (run_replied c n es s run (run_single c n codec es s run written)) w d p r paths real said tells) [
         | inl o ↦ inl o
         | inr (inl key) ↦ inr (inl key)
         | inr (inr x) ↦ inr (inr (of_parent e older d p r w x))
