@@ -168,5 +168,9 @@ pub mod Unrouted
 pub mod Heeding
 pub mod HeededHops
 pub mod EndsInside
+mod Reaches
+mod ReachesUpper
+pub mod ReachesRuns
+mod Confined
 -- handed on from below
 pub use Rattle.plant_model.proofs as plant_model
