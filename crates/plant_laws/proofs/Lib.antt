@@ -172,5 +172,6 @@ mod Reaches
 mod ReachesUpper
 pub mod ReachesRuns
 mod Confined
+pub mod Resting
 -- handed on from below
 pub use Rattle.plant_model.proofs as plant_model

@@ -21,6 +21,7 @@ ghost use Rattle.plant_laws.specs.Matched.{RepliesAnswer, RepliesMatch};
 ghost use Rattle.plant_laws.specs.Reading.{OutsideIsRead};
 ghost use Rattle.plant_laws.specs.Readings.{MessagesAreRead};
 ghost use Rattle.plant_laws.specs.Replies.{LeastReplies, LeastRepliesIn, NoneReplies, NoneRepliesIn, SolvesSendOne};
+ghost use Rattle.plant_laws.specs.Resting.{RestIsQuiet};
 ghost use Rattle.plant_laws.specs.Runs.{AllIsWritten, InRuns, InRunsOverPcep, InShortRuns, OverPcep, RequestsAreWritten};
 ghost use Rattle.plant_laws.specs.Served.{RequestsAreServed};
 ghost use Rattle.plant_laws.specs.Solves.{SolvesTell};
@@ -196,6 +197,11 @@ pub fn queues_stand()
 /// parent where there is one, and an outside peer that the settings do not have has no connection.
 pub fn runs_are_confined()
     ensures { RunsAreConfined }
+{}
+
+/// A network at rest is quiet, so what is said of quiet states is said of it.
+pub fn rest_is_quiet()
+    ensures { RestIsQuiet }
 {}
 
 /// In every state of a run the current pin of an element is of the topology that was last loaded.
