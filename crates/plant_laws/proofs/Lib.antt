@@ -173,5 +173,6 @@ mod ReachesUpper
 pub mod ReachesRuns
 mod Confined
 pub mod Resting
+pub mod OutsideStays
 -- handed on from below
 pub use Rattle.plant_model.proofs as plant_model
