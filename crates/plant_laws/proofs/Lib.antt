@@ -150,7 +150,7 @@ mod ParentCauses
 mod LostCauses
 mod EventCauses
 mod AllCauses
-mod MomentCauses
+pub mod MomentCauses
 mod NoLoops
 mod ErrorParts
 mod Errors
