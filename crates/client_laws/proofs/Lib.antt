@@ -11,5 +11,7 @@ pub mod Exchanging
 mod Taking
 pub mod Resting
 pub mod Serving
+mod Opening
+pub mod Answered
 -- handed on from below
 pub use Rattle.script_laws.proofs as script_laws

@@ -21,13 +21,15 @@ use Rattle.script_laws.specs.plant_model.Blind.{is_accepted}
 use Rattle.script_laws.specs.plant_model.Element as element
 use Rattle.script_laws.specs.plant_model.Element.{Item}
 use Rattle.script_laws.specs.plant_model.Events.{Answered, has_jobs, is_ready, is_ready_asking, is_ready_row, jobs_at, jobs_of, ready_jobs}
+use Rattle.script_laws.specs.plant_model.Laws.{IsNetwork}
 use Rattle.script_laws.specs.plant_model.Names.{is_empty}
 use Rattle.script_laws.specs.plant_model.Parent as parent
-use Rattle.script_laws.specs.plant_model.Plant.{Happened, Happens, Pin, Plant}
+use Rattle.script_laws.specs.plant_model.Plant.{Happened, Happens, Pin, Plant, Run}
 use Rattle.script_laws.specs.plant_model.RealWire.{wire}
 use Rattle.script_laws.specs.plant_model.State.{Connection}
 use Rattle.script_laws.specs.plant_model.Wire.{Bytes}
 use Rattle.script_laws.specs.plant_laws.Chains.{HasEmptyInbox}
+use Rattle.script_laws.specs.plant_laws.Resting.{IsAtRest}
 use Rattle.plant_network.specs.Due.{inbox_from}
 use Rattle.plant_network.specs.network_links.Waiting.{ways}
 use Rattle.script_laws.specs.plant_play.declared.going.Until.{Until}
@@ -36,16 +38,19 @@ use Rattle.script_laws.specs.plant_play.declared.showing.Modes.{Modes}
 use Rattle.script_laws.specs.plant_play.Due.{AreAllDue, AreDue, IsDue, IsDueTake}
 use Rattle.script_laws.specs.plant_play.Playing.{Changes, Cue, IsNewStage, Plays, PlaysDue, PlaysFeed, PlaysFeedAt, PlaysLine, PlaysNone, PlaysOne, Stage}
 use Rattle.script_laws.specs.plant_play.Scripts.{AllPlayed}
-use Rattle.script_laws.specs.plant_play.Turns.{Turn}
+use Rattle.script_laws.specs.plant_play.Turns.{Turn, entries_of}
 use Rattle.script_laws.proofs.plant_laws.Queues.{same_as_is}
+use Rattle.script_laws.proofs.plant_laws.Resting.{rest_is_quiet}
+use Rattle.script_laws.proofs.plant_laws.plant_model.WireLaws.{wire_is_codec}
+use Rattle.script_laws.proofs.Rightly.{scripts_are_right}
 use Rattle.plant_bulk.specs.plant_client.declared.question.Question.{Question}
-use Rattle.plant_bulk.specs.plant_client.Asking.{AreCues, load_line, question_lines, topologies}
+use Rattle.plant_bulk.specs.plant_client.Asking.{AreCues, Asks, load_line, question_lines, topologies}
 use Rattle.plant_bulk.specs.plant_client.Questions.{opening_text, question_text}
 use Rattle.peer_laws.proofs.OutletRuns.{run_fits}
-use Rattle.client_laws.proofs.Asking.{no_connection}
+use Rattle.client_laws.proofs.Asking.{lines_feed, no_connection}
 use Rattle.client_laws.proofs.Taking as taking
 use Rattle.client_laws.proofs.Taking.{AreTakenBut, Keeps}
-use Rattle.client_laws.specs.Resting.{AreTaken, AskedIsAtRest, FinishedIsAtRest, IsAtRest, LinesTakeAll}
+use Rattle.client_laws.specs.Resting.{AreTaken, AskedIsAtRest, AskedIsQuiet, FinishedIsAtRest, LinesTakeAll}
 
 -- ---- all is taken, line by line
 
@@ -319,3 +324,13 @@ asked_is_at_rest files n client q received a =
     subst (λ (m : NetworkParts). IsAtRest m a.asked.state) a.new.network
     (loads_first files (topologies n.elements) (question_lines client q) (question_rests files client q) a.lines.cues a.lines.are_cues a.start a.asked a.lines.turns a.lines.told a.lines.played
     (new_is_taken n a.start a.new))
+
+-- what the client's lines are is a run
+pub asked_run : (files : Option Files) (n : NetworkParts) (client : ℕ) (q : Question) (received : List ℕ) → IsNetwork n → (a : Asks files n client q received) → Run wire n (entries_of a.lines.turns []) a.asked.state
+asked_run files n client q received net a =
+    let octets = lines_feed (topologies n.elements) client q a.octets files a.lines.cues a.lines.are_cues in
+    (scripts_are_right n net a.start a.asked a.lines.cues a.lines.turns a.lines.told a.new octets a.lines.played).0.run
+
+pub asked_is_quiet : AskedIsQuiet
+asked_is_quiet files n client q received net a =
+    rest_is_quiet wire wire_is_codec n net (entries_of a.lines.turns []) a.asked.state (asked_run files n client q received net a) (asked_is_at_rest files n client q received a)

@@ -29,7 +29,7 @@ use Rattle.plant_text.specs.Settings.{Line, line, lines, is_linked, is_element, 
 use Rattle.plant_model.specs.declared.event.Event.TheVariants as event
 use Rattle.plant_model.specs.declared.output.Output.{Output}
 use Rattle.plant_model.specs.declared.outcome.Refused.TheVariants.{NoSuchPeer}
-use Rattle.plant_model.specs.Names.{is_empty, set_number, set_pair}
+use Rattle.plant_model.specs.Names.{is_empty, set_pair}
 use Rattle.plant_model.specs.Wire.{Bytes, Codec}
 use Rattle.plant_model.specs.Element.{Taken, upped, downed}
 use Rattle.plant_model.specs.Taking.{take}
