@@ -13,9 +13,7 @@ returns g c =
     let t = tiers_of c.self.inside.network c.self.inside.clock.0 c.self.inside.elements c.self.inside.parent in
     record {
       heard =
-          record {
-            heard = subst (λ (m : Message). IfOk c.heed.result (λ heeded. heeded ≡ m))
-                (heard_below g.W.World.first t c.args.at c.args.peer c.args.message ∙ ap (λ (u : Tiers _ _). heard wire c.args.at c.args.peer c.args.message (members_of g.W.World.first u)) c.self.view_is)
-                c.heed.ensures;
-          };
+          subst (λ (m : Message). IfOk c.heed.result (λ heeded. heeded ≡ m))
+          (heard_below g.W.World.first t c.args.at c.args.peer c.args.message ∙ ap (λ (u : Tiers _ _). heard wire c.args.at c.args.peer c.args.message (members_of g.W.World.first u)) c.self.view_is)
+          c.heed.ensures;
     }
