@@ -22,12 +22,12 @@ ghost use Rattle.network_events.specs.Turns.{IsPass};
 use crate::acting::step;
 use crate::giving::{perform, prepare};
 use dom_base::{As, NoMemory, Peer};
-use pcep_messages::Message;
-use pcep_session::{Action, Actions, Session};
 use member_trait::Members;
 use member_trait::model::{Outcome, Refused};
-use plant_sessions::ANSWER_LENGTH;
 use network_links::Traffic;
+use pcep_messages::Message;
+use pcep_session::{Action, Actions, Session};
+use plant_sessions::ANSWER_LENGTH;
 use std::alloc::Global;
 
 // How long a message of a session's own is at most: an Open that speaks of stateful sessions.

@@ -8,10 +8,10 @@ use crate::hierarchy::{Hierarchy, is_parent};
 use crate::plan::MemberPlan;
 use crate::steps::has_one_part;
 use dom_base::{As, NoMemory, Peer, Tick};
-use pce_element::World;
-use pcep_messages::Message;
 use member_trait::Members;
 use member_trait::model::{Lost, Outputs};
+use pce_element::World;
+use pcep_messages::Message;
 use plant_text::PeerRow;
 
 // The element of a peer.
