@@ -1,4 +1,4 @@
-use Rattle.plant_laws.proofs.Readings as Readings
+use Rattle.plant_laws.proofs.Runs.Readings as Readings
 use Rattle.plant_laws.proofs.requests_are_read.Goals as goal
 
 pub returns : goal.returns
