@@ -28,7 +28,7 @@ returns-in_err-prepared g c =
     let s = m.stands c.args.members.now in
     let old = here s (flow_of c.args.traffic.now) in
     let made = flow_of c.prepare.new.traffic in
-    let p = err_from_is_err_and c.from_residual.result c.from_residual.ensures.1 in
+    let p = err_from_is_err_and c.from_residual-in_err-prepared.result c.from_residual-in_err-prepared.ensures.1 in
     rw p.1 (subst (λ (x : Standing _ _). Receives m.show c.args.at c.args.to (Err p.0) old (here x made)) (sym c.prepare.ensures.same)
     (lacks_moves m.show (λ k st. receive_at m.Pin m.Key k m.show c.args.at c.args.to st) old made (λ st. true) c.requires.kept c.prepare.ensures.grows refl))
 
