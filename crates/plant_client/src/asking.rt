@@ -10,11 +10,7 @@ ghost use Rattle.plant_client.specs.Questions.{question_text, sequence_most};
 use crate::question::{Question, opening_bytes, question_bytes};
 use dom_base::{As, Bytes, List, NoMemory, Text};
 use dom_edge::Store;
-<<<<<<< HEAD
 use plant_script::{Answer, Log, Outcome, Player, Stop, play_cue};
-=======
-use plant_script::{Answer, Outcome, Player, Stop, play_cue};
->>>>>>> 5b3e0ccf6576acc67b5f8f35127d0f754498468c
 use plant_text::{ElementRow, LineEvent, Network};
 use settings_layout::elements_of;
 use std::alloc::Global;
