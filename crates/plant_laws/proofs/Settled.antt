@@ -9,3 +9,8 @@ pub mod AliveSteps
 pub mod UnderWayRuns
 pub mod PassedOn
 pub mod UnderWayLaw
+pub mod Confined
+pub mod Reaches
+pub mod ReachesUpper
+pub mod ReachesRuns
+pub mod Resting

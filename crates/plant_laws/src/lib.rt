@@ -8,6 +8,7 @@ ghost use Rattle.plant_laws.specs.Certified.{SolvesCertify, SolvesCertifyIn};
 ghost use Rattle.plant_laws.specs.Broken.{BrokenForReasons};
 ghost use Rattle.plant_laws.specs.Causes.{MessagesHaveCauses, NetworksBegin};
 ghost use Rattle.plant_laws.specs.Chains.{OneChain, OneChainIn, QuietHasNonePending, QuietIsAnswered, QuietIsAnsweredIn};
+ghost use Rattle.plant_laws.specs.Confined.{RunsAreConfined};
 ghost use Rattle.plant_laws.specs.Counted.{ElementIdsDiffer, IdsCount};
 ghost use Rattle.plant_laws.specs.Ends.{ChainsEndInside};
 ghost use Rattle.plant_laws.specs.Errors.{InnerErrors};
@@ -20,6 +21,7 @@ ghost use Rattle.plant_laws.specs.Matched.{RepliesAnswer, RepliesMatch};
 ghost use Rattle.plant_laws.specs.Reading.{OutsideIsRead};
 ghost use Rattle.plant_laws.specs.Readings.{MessagesAreRead, RequestsAreRead};
 ghost use Rattle.plant_laws.specs.Replies.{LeastReplies, LeastRepliesIn, NoneReplies, NoneRepliesIn, SolvesSendOne};
+ghost use Rattle.plant_laws.specs.Resting.{RestIsQuiet};
 ghost use Rattle.plant_laws.specs.Runs.{AllIsWritten, InRuns, InRunsOverPcep, InShortRuns, OverPcep, RequestsAreWritten};
 ghost use Rattle.plant_laws.specs.Served.{RequestsAreServed};
 ghost use Rattle.plant_laws.specs.Solves.{SolvesTell};
@@ -189,6 +191,17 @@ pub fn requests_are_written()
 /// In every state of a run the inner queues hold the texts of what stands in them by the transcript.
 pub fn queues_stand()
     ensures { QueuesStand }
+{}
+
+/// In every state of a run nothing stands in a queue but along links, nothing is pending but at elements, and at the
+/// parent where there is one, and an outside peer that the settings do not have has no connection.
+pub fn runs_are_confined()
+    ensures { RunsAreConfined }
+{}
+
+/// A network at rest is quiet, so what is said of quiet states is said of it.
+pub fn rest_is_quiet()
+    ensures { RestIsQuiet }
 {}
 
 /// In every state of a run the current pin of an element is of the topology that was last loaded.
