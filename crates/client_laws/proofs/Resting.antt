@@ -37,7 +37,7 @@ use Rattle.script_laws.specs.plant_play.Due.{AreAllDue, AreDue, IsDue, IsDueTake
 use Rattle.script_laws.specs.plant_play.Playing.{Changes, Cue, IsNewStage, Plays, PlaysDue, PlaysFeed, PlaysFeedAt, PlaysLine, PlaysNone, PlaysOne, Stage}
 use Rattle.script_laws.specs.plant_play.Scripts.{AllPlayed}
 use Rattle.script_laws.specs.plant_play.Turns.{Turn}
-use Rattle.script_laws.proofs.plant_laws.Queues.{same_as_is}
+use Rattle.script_laws.proofs.plant_laws.Runs.Queues.{same_as_is}
 use Rattle.plant_bulk.specs.plant_client.declared.question.Question.{Question}
 use Rattle.plant_bulk.specs.plant_client.Asking.{AreCues, load_line, question_lines, topologies}
 use Rattle.plant_bulk.specs.plant_client.Questions.{opening_text, question_text}

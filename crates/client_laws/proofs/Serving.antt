@@ -21,11 +21,11 @@ use Rattle.script_laws.specs.plant_laws.Answered as once
 use Rattle.script_laws.specs.plant_laws.Sending.{AllSent}
 use Rattle.script_laws.specs.plant_laws.Chains.{is_pending}
 use Rattle.script_laws.specs.plant_laws.Transcript.{Begins, Delivered, Effect, Ends, Keeps, Transcript, after, answers_to, begins, begins_if, effect, opened}
-use Rattle.script_laws.proofs.plant_laws.Answering.{requests_are_answered_once}
-use Rattle.script_laws.proofs.plant_laws.EveryWritten.{every_written}
-use Rattle.script_laws.proofs.plant_laws.Moments.{opened_within, within_trans}
-use Rattle.script_laws.proofs.plant_laws.NumberRuns.{peer_self}
-use Rattle.script_laws.proofs.plant_laws.UnderWayLaw.{quiet_is_answered}
+use Rattle.script_laws.proofs.plant_laws.Once.Answering.{requests_are_answered_once}
+use Rattle.script_laws.proofs.plant_laws.WrittenForm.EveryWritten.{every_written}
+use Rattle.script_laws.proofs.plant_laws.Runs.Moments.{opened_within, within_trans}
+use Rattle.script_laws.proofs.plant_laws.Numbering.NumberRuns.{peer_self}
+use Rattle.script_laws.proofs.plant_laws.Settled.UnderWayLaw.{quiet_has_none_pending}
 use Rattle.client_laws.specs.Served.{IsServed, IsTaken, TakenIsOpen, TakenIsServed}
 use Rattle.client_laws.specs.Served as served
 
@@ -108,7 +108,7 @@ taken_is_served c codec n net es s run short quiet d p r w moment real within de
 
     by_fate : (at : Transcript) → opened c d p r.id moment ≡ Some at → Fate c (deeds_of c n es) s d p r.id at → IsServed c (deeds_of c n es) d p r.id moment
     by_fate at is (once.pending open' there) =
-        let rows = quiet_is_answered c codec n net es s run written short quiet in
+        let rows = quiet_has_none_pending c codec n net es s run written short net.no_downs quiet in
         let clash : true ≡ false = sym there ∙ none_pending s d p r.id rows.0 rows.1 in cc
     by_fate at is (once.answered e one) = served.later at is e one
     by_fate at is (once.dropped e none why) = served.dropped at is e none why
@@ -117,4 +117,4 @@ taken_is_served c codec n net es s run short quiet d p r w moment real within de
     go (served.answers deed older is some) = served.at_once deed older is some
     go (served.is_open at is) =
         by_fate at is
-        (requests_are_answered_once c codec n net es s run written d p r.id at (within_trans at moment (deeds_of c n es) (opened_within c d p r.id moment at is) within) (opened_there c d p r.id moment at is)).fate
+        (requests_are_answered_once c codec n net es s run d p r.id at (within_trans at moment (deeds_of c n es) (opened_within c d p r.id moment at is) within) (opened_there c d p r.id moment at is)).fate

@@ -2,7 +2,7 @@
 ghost use Rattle.std.specs.Prelude.{◌≡◌, ◌<◌, ◌≤◌, ℕ, Some, length, IfOk, MatchOption};
 ghost use Rattle.te_links.specs.declared.limits.TheConstants.{METRIC_MAX};
 ghost use Rattle.diverse_pairs.specs.declared.arcs.TheConstants.{UNREACHED as unreached};
-ghost use Rattle.diverse_pairs.specs.Arcs.{at, is_used, IsAmong};
+ghost use Rattle.diverse_pairs.specs.Arcs.{at, IsAmong};
 ghost use Rattle.diverse_pairs.specs.Distances.{IsLow, IsNear, AreNear};
 ghost use Rattle.diverse_pairs.specs.Residual.{residual_of, end_with, left_arcs, height_of, AreHeights};
 ghost use Rattle.diverse_pairs.specs.Listed.{listed, Fits, FitsWalk, LeadsTo, LeadsElsewhere, BeginsAt, BeginsElsewhere};

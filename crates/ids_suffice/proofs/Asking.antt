@@ -27,9 +27,8 @@ use Rattle.plant_laws.specs.plant_model.Solving.{commit}
 use Rattle.plant_laws.specs.plant_model.Parent as parent
 use Rattle.plant_laws.specs.plant_model.Routes.{routes}
 use Rattle.plant_laws.specs.plant_model.Settings.{place, family, inner_ways, way, ways_along}
-use Rattle.plant_laws.proofs.AllWritten.{ways_fit_all}
-use Rattle.plant_laws.proofs.Heeding.{asks_read, single_back}
-use Rattle.plant_laws.proofs.Unrouted.{to_element}
+use Rattle.plant_laws.proofs.WrittenForm.AllWritten.{ways_fit_all}
+use Rattle.plant_laws.proofs.Runs.Heeding.{asks_read, single_back}
 use Rattle.plant_laws.specs.plant_model.State.{Loads, Pops, Takes, Says, Ups, Downs, Clears, Solves, Expires, Hands}
 use Rattle.plant_laws.specs.plant_model.Deeds.{Going, element_of, own_message, with_parent, with_element, puts, give, rise, fall, clear}
 use Rattle.plant_laws.specs.plant_model.Events as events
@@ -37,16 +36,16 @@ use Rattle.plant_laws.specs.plant_model.Plant.{Pin, Segment, first_pin, Plant, P
 use Rattle.plant_laws.specs.Transcript.{Transcript, asks}
 use Rattle.plant_laws.specs.Sending.{AllSent}
 use Rattle.plant_laws.specs.Reading.{AreRead}
-use Rattle.plant_laws.proofs.Acts.{popped, Acts, rests, hears, carries, nods, hands, rises, falls, says, clears, expires}
-use Rattle.plant_laws.proofs.Induction.{run_holds}
-use Rattle.plant_laws.proofs.Handing.{IsAsk}
-use Rattle.plant_laws.proofs.Takes.{IsSingle, own_is}
-use Rattle.plant_laws.proofs.Inboxes.{AreOutsideSingle, run_outside}
-use Rattle.plant_laws.proofs.Sent.{run_sent}
-use Rattle.plant_laws.proofs.Opened.{puts_elements}
-use Rattle.plant_laws.proofs.Onward.{none_lost, calm_commit}
-use Rattle.plant_laws.proofs.Reading as Reading
-use Rattle.plant_laws.proofs.ElementSays.{WaysOk, ways_up}
+use Rattle.plant_laws.proofs.Runs.Acts.{popped, Acts, rests, hears, carries, nods, hands, rises, falls, says, clears, expires}
+use Rattle.plant_laws.proofs.Runs.Induction.{run_holds}
+use Rattle.plant_laws.proofs.Once.Handing.{IsAsk}
+use Rattle.plant_laws.proofs.Once.Takes.{IsSingle, own_is}
+use Rattle.plant_laws.proofs.Runs.Inboxes.{AreOutsideSingle, run_outside}
+use Rattle.plant_laws.proofs.WrittenForm.Sent.{run_sent}
+use Rattle.plant_laws.proofs.Once.Opened.{puts_elements}
+use Rattle.plant_laws.proofs.Numbering.Onward.{none_lost, calm_commit}
+use Rattle.plant_laws.proofs.Runs.Reading as Reading
+use Rattle.plant_laws.proofs.WrittenForm.ElementSays.{WaysOk, ways_up}
 use Rattle.ids_suffice.specs.Counting.{HasNoParent, heard_in, heard}
 use Rattle.ids_suffice.proofs.Below.{below_none}
 use Rattle.ids_suffice.proofs.Heavy.{Queues, as_of, message_heavy, read_heavy, queue_heavy, row, grid, grid_no_more, popped_less}
@@ -199,7 +198,7 @@ module _ (c : Codec) (codec : IsCodec c) (n : NetworkParts) where
         (passes_none c n x y at r.outputs prem.2.0 (takes_none c (family n) p (no_children n net alone) m s.parent)) refl b.good.ways b.good)
         (λ is prem.
         let b = known t.outputs prem in
-        let x' = passing.takes x y c codec n at is (place n at) (own_is n at) (s.current at) p (class_of n p) s.clock (s.elements at) (b.good.ways at) (to_element n net at) b.bytes m b.read b.fair b.single prem.2.0 in
+        let x' = passing.takes x y c codec n at is (place n at) (own_is n at) (s.current at) p (class_of n p) s.clock (s.elements at) (b.good.ways at) b.bytes m b.read b.fair b.single prem.2.0 in
         sent_good (Takes at p m t.outputs) at t.outputs w (message_heavy x y c at m) (es ++ ds) s v refl refl b.heavy x'.passes refl (set_ways at t.element s x'.ways b.good.ways) b.good)
 
     fall_good : (at : As) (p : Peer) (s : Core) (ds : Transcript) → I ds s → (let g = fall Pin Segment c n open_of at p (record { state = s; deeds = [] }) in I (g.deeds ++ ds) g.state)

@@ -30,11 +30,12 @@ use Rattle.plant_laws.specs.plant_model.Routes.{toward}
 use Rattle.plant_laws.specs.plant_model.Taking.{take, sequence_or}
 use Rattle.plant_laws.specs.plant_model.Plant.{Pin, Segment}
 use Rattle.plant_laws.specs.Sending.{AreAll}
-use Rattle.plant_laws.proofs.Takes.{IsSingle}
+use Rattle.plant_laws.proofs.Once.Takes.{IsSingle}
 use Rattle.plant_laws.specs.Transcript.{one_if}
-use Rattle.plant_laws.proofs.FromElement.{admits_path, later_sequence, real_next}
-use Rattle.plant_laws.proofs.ElementSays.{IsId, WaysOk, WayOk, next_fits, next_some, ways_last, way_fits}
-use Rattle.plant_laws.proofs.Onward.{IsCalm, SendsOne, GoesTo, Of, take_of, way_peer}
+use Rattle.plant_laws.proofs.Least.FromElement.{admits_path, later_sequence, real_next}
+use Rattle.plant_laws.proofs.WrittenForm.ElementSays.{IsId, WaysOk, WayOk, next_fits, next_some, ways_last, way_fits}
+use Rattle.plant_laws.proofs.Numbering.NumberRuns.{toward_inner}
+use Rattle.plant_laws.proofs.Numbering.Onward.{IsCalm, SendsOne, GoesTo, Of, take_of, way_peer}
 use Rattle.ids_suffice.proofs.Heavy.{checked_heavy, asked_heavy, message_heavy, read_heavy}
 use Rattle.ids_suffice.proofs.Steps.{goes, route_heavy, few_routes, alone_routes, up_steps, on_steps}
 use Rattle.ids_suffice.proofs.Putting.{asked_by, one_asked, IsFair, IsMeant, Passes, passes_none, passes_one, passes_more}
@@ -216,6 +217,17 @@ module _ (x y : As) (c : Codec) (codec : IsCodec c) (n : NetworkParts) where
           (one_asked (same_as own x) y (Inner next) (request_message number w w.target (next ∷ more))))
           (written_fair (asked_of number w w.target (next ∷ more)) on_written) (λ b is. on_light b (sym to ∙ is))
 
+      -- an outside peer is asked by no link
+      pub out_passes : (i : ℕ) (p : Peer) → p ≡ Outside i → Passes c n x y own (record { to = p; message = request_message number w w.target (next ∷ more) } ∷ []) 0
+      out_passes i p to =
+          passes_one c n x y own (record { to = p; message = request_message number w w.target (next ∷ more) }) 0 0
+          (subst (λ (q : Peer). asked_by (same_as own x) y (record { to = q; message = request_message number w w.target (next ∷ more) } ∷ []) ≤ 0) (sym to) (none_there (same_as own x)))
+          (written_fair (asked_of number w w.target (next ∷ more)) on_written) (λ b is. absurd (let clash : Outside i ≡ Inner b = sym to ∙ is in cc))
+        where
+          none_there : (t : Bool) → asked_by t y (record { to = Outside i; message = request_message number w w.target (next ∷ more) } ∷ []) ≤ 0
+          none_there true = one_asked true y (Outside i) (request_message number w w.target (next ∷ more))
+          none_there false = one_asked false y (Outside i) (request_message number w w.target (next ∷ more))
+
   -- ---- an element
 
   module _ (own : As) (real : same_as own parent_as ≡ false) (e : Place) (is_own : e.own ≡ own) (pin : Pin) (p : Peer) (class : Class) (now : ℕ) (k : Element Pin Segment) (ok : WaysOk k.ways) where
@@ -270,23 +282,30 @@ module _ (x y : As) (c : Codec) (codec : IsCodec c) (n : NetworkParts) where
         on : (w l r v h : ℕ) → w ≡ l → l ≡ r → v + h ≤ r → v + h ≤ w
         on w l r v h one two three = omega (arith, one, two, three)
 
-        go : (rest : List As) → GoesTo Pin Segment z.wanted z.to rest → Goal rest
+        -- along its sequence, to an element or to an outside peer
+        led : (own' next : As) (more : List As) → z.wanted.sequence ≡ own' ∷ next ∷ more → (q : Peer) → toward next e.routes ≡ q → z.to ≡ q → Goal (next ∷ more)
+        led own' next more along (Outside i) is to =
+            passes_more c n x y own (record { to = z.way.peer; message = request_message number z.wanted z.wanted.target (next ∷ more) } ∷ []) 0 (message_heavy x y c own m) (omega arith)
+            (out_passes bytes a own z.flags z.id z.wanted octets read admits number some fits own' next more along i z.way.peer (peer ∙ to))
+        led own' next more along (Inner b) is to =
+            passes_more c n x y own (record { to = z.way.peer; message = request_message number z.wanted z.wanted.target (next ∷ more) } ∷ []) (one_if (goes x y own next) + route_heavy x y (next ∷ more)) (message_heavy x y c own m)
+            (on (message_heavy x y c own m) (route_heavy x y (sequence_or own z.wanted.sequence)) (route_heavy x y (own ∷ next ∷ more)) (one_if (goes x y own next)) (route_heavy x y (next ∷ more)) weighs
+            (on_route bytes a own z.flags z.id z.wanted octets read admits number some fits own' next more along)
+            (on_steps x y own next more (on_real bytes a own z.flags z.id z.wanted octets read admits number some fits own' next more along)))
+            (on_passes bytes a own z.flags z.id z.wanted octets read admits number some fits own' next more along z.way.peer
+            (peer ∙ to ∙ ap (λ (d : As). Inner d) (toward_inner next b e.routes (sym is))))
+
+        go : (rest : List As) → GoesTo Pin Segment e.routes z.wanted z.to rest → Goal rest
         go rest (inl t) =
             subst Goal (sym t.1)
             (passes_more c n x y own (record { to = z.way.peer; message = request_message number z.wanted z.wanted.target [] } ∷ []) (cond (same_as y parent_as) 1 0 + 0) (message_heavy x y c own m)
             (up (route_heavy x y (sequence_or own z.wanted.sequence)) (message_heavy x y c own m) (cond (same_as y parent_as) 1 0) weighs (up_steps x y (sequence_or own z.wanted.sequence)))
             (up_passes bytes a own z.flags z.id z.wanted octets read admits number some fits z.way.peer (peer ∙ t.0)))
-        go rest (inr t) =
-            subst Goal (sym t.4)
-            (passes_more c n x y own (record { to = z.way.peer; message = request_message number z.wanted z.wanted.target (t.1 ∷ t.2) } ∷ []) (one_if (goes x y own t.1) + route_heavy x y (t.1 ∷ t.2)) (message_heavy x y c own m)
-            (on (message_heavy x y c own m) (route_heavy x y (sequence_or own z.wanted.sequence)) (route_heavy x y (own ∷ t.1 ∷ t.2)) (one_if (goes x y own t.1)) (route_heavy x y (t.1 ∷ t.2)) weighs
-            (on_route bytes a own z.flags z.id z.wanted octets read admits number some fits t.0 t.1 t.2 t.5)
-            (on_steps x y own t.1 t.2 (on_real bytes a own z.flags z.id z.wanted octets read admits number some fits t.0 t.1 t.2 t.5)))
-            (on_passes bytes a own z.flags z.id z.wanted octets read admits number some fits t.0 t.1 t.2 t.5 z.way.peer (peer ∙ t.3)))
+        go rest (inr t) = subst Goal (sym t.4) (led t.0 t.1 t.2 t.5 (toward t.1 e.routes) refl t.3)
 
     -- a message whose requests were read from bytes
-    pub takes : ((b : As) → toward b e.routes ≡ Inner b) → (bytes : Bytes) (m : Message) → ReadsAsks c bytes m → IsFair c n bytes → IsSingle m → AreAll (IsMeant c n) (After m).outputs → Takes m
-    takes inner bytes m read fair one meant = go (take_of Pin Segment c open_of e pin p class now k inner m one)
+    pub takes : (bytes : Bytes) (m : Message) → ReadsAsks c bytes m → IsFair c n bytes → IsSingle m → AreAll (IsMeant c n) (After m).outputs → Takes m
+    takes bytes m read fair one meant = go (take_of Pin Segment c open_of e pin p class now k m one)
       where
         calm : IsCalm Pin Segment k (After m) → Takes m
         calm z = record {

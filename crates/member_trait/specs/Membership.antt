@@ -2,6 +2,7 @@
 use Rattle.std.specs.Prelude.{◌≡◌, ◌<◌, ◌≤◌, ℕ, Bool, true, cond, is_some, List, [], ◌∷◌, length, Option, Some, None}
 use Rattle.dom_base.specs.declared.names.As.{As}
 use Rattle.dom_base.specs.declared.names.Peer.{Peer}
+use Rattle.dom_base.specs.declared.names.Peer.TheVariants.{Outside}
 use Rattle.pcep_subobjects.specs.declared.hop.Hop.{Hop}
 use Rattle.pcep_messages.specs.declared.message.Message.{Message}
 use Rattle.plant_text.specs.declared.settings.NetworkParts.{NetworkParts}
@@ -14,6 +15,7 @@ use Rattle.plant_model.specs.Settings.{place, family}
 use Rattle.plant_model.specs.Wire.{Codec}
 use Rattle.plant_model.specs.Element.{Element, upped, downed, ticked, lost}
 use Rattle.plant_model.specs.Taking.{take}
+use Rattle.plant_model.specs.Outside.{heeded}
 use Rattle.plant_model.specs.Parent as parent
 use Rattle.plant_model.specs.Deeds.{element_of}
 
@@ -57,6 +59,10 @@ module _ {P : Type 0} {S : Type 0} where
       (let r = parent.take c (family n) p m ms.parent in record { members = with_parent r.parent ms; outputs = r.outputs })
       (let r = take c show (place n at) (ms.current at) p (class_of n p) now m (ms.elements at) in
       record { members = with_element at r.element ms; outputs = r.outputs })
+
+  -- what an element is given of a message of an outside peer
+  abbrev pub heard : Codec → As → ℕ → Message → Membership P S → Message
+  heard c at peer m ms = heeded c (Outside peer) (ms.elements at).pending.rows m
 
   -- a session of a member comes up
   abbrev pub raised : As → Peer → Membership P S → Membership P S

@@ -7,7 +7,7 @@ ghost use Rattle.plant_model.specs.declared.output.Output.{Output};
 ghost use Rattle.plant_model.specs.Names.{set_as};
 ghost use Rattle.plant_model.specs.RealWire.{wire};
 ghost use Rattle.plant_model.specs.Deeds as deeds;
-ghost use Rattle.member_trait.specs.Membership.{Membership, is_member, given, raised, fallen, lost_at, expired, KeysBefore, HandsOut, Standing};
+ghost use Rattle.member_trait.specs.Membership.{Membership, is_member, given, heard, raised, fallen, lost_at, expired, KeysBefore, HandsOut, Standing};
 ghost use Rattle.member_trait.specs.Owed.{owed, pending_in};
 
 use dom_base::{As, NoMemory, Peer, Tick};
@@ -49,6 +49,11 @@ pub trait Members {
         ensures fits { IfOk result (λ plan. fits self.new plan) }
         ensures next { IfOk result (λ plan. next self.new plan ≡ (given wire (stands self.old).network show at peer now.0 message (stands self.old).seen).members) }
         ensures sends { IfOk result (λ plan. sends plan ≡ (given wire (stands self.old).network show at peer now.0 message (stands self.old).seen).outputs) };
+
+    /// What an element is given of a message of an outside peer: of a reply to what it asked there, what is
+    /// kept by sifting; of all else the message as it came. It is refused for want of memory.
+    fn heed(&self, at: As, peer: u32, message: Message) -> Result<Message, NoMemory>
+        ensures heard { IfOk result (λ heeded. heeded ≡ heard wire at peer message (stands self.now).seen) };
 
     /// What a plan sends.
     fn outputs(plan: &Self::Plan) -> &Outputs

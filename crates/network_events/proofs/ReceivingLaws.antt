@@ -36,13 +36,13 @@ use Rattle.network_events.specs.Happening.{IsDone}
 use Rattle.member_trait.specs.Membership.{AreJoined, Membership, is_member}
 use Rattle.member_trait.specs.Owed.{asked_in}
 use Rattle.network_events.specs.Passing.{IsOf}
-use Rattle.network_events.specs.Peers.{IsEnd, IsPlaced, acts_at, breaks_by, input_at, receive_at}
+use Rattle.network_events.specs.Peers.{IsEnd, IsPlaced, acts_at, breaks_by, heard_from, input_at, receive_at}
 use Rattle.network_events.specs.Rooms.{IsRoomy, is_talking, own_most}
 use Rattle.network_events.specs.Roomy.{KeepsOn}
 use Rattle.network_events.specs.Standing.{IsAt, here_of, Goes, state_of}
 use Rattle.network_events.specs.Stepping.{Receives, Steps}
 use Rattle.network_events.specs.Turns.{IsPass}
-use Rattle.network_events.proofs.GoLaws.{access_same, goes_by}
+use Rattle.network_events.proofs.GoLaws.{access_same, goes_as}
 use Rattle.network_events.proofs.InputLaws.{input_stays, may_set, session_keeps, some_is}
 use Rattle.network_events.proofs.LossEvents.{open_below}
 use Rattle.network_events.proofs.PassEvents.{cleared_is, from_is, owed_is, own_is, pending_is}
@@ -332,8 +332,8 @@ module _ {P : Type 0} {S : Type 0} (show : S → List Hop) {n : NetworkParts} {a
 
 -- ---- a message is passed on, and nothing else is done
 
-module _ {P : Type 0} {S : Type 0} (show : S → List Hop) {n : NetworkParts} {at : As} {to : Peer} {m : Message} {next : Session} {ms mid : Membership P S} {letters : List Sent} {start made f : Flow} (x : Taking n at to (Pass m ∷ []) next ms start made f)
-    (is_given : IsGiven n show at to start.clock m ms mid letters) where
+module _ {P : Type 0} {S : Type 0} (show : S → List Hop) {n : NetworkParts} {at : As} {to : Peer} {m heeded : Message} {next : Session} {ms mid : Membership P S} {letters : List Sent} {start made f : Flow} (x : Taking n at to (Pass m ∷ []) next ms start made f)
+    (heeds : heeded ≡ heard_from to (ms.elements at).pending.rows m) (is_given : IsGiven n show at to start.clock heeded ms mid letters) where
   stays : (is_down x.steps.session.phase ≡ false) × (is_down next.phase ≡ false)
   stays =
       let s = x.steps.session in
@@ -341,7 +341,7 @@ module _ {P : Type 0} {S : Type 0} (show : S → List Hop) {n : NetworkParts} {a
       pass_stays s next input' m
       (ap (λ (l : List Action). let t : Turn = record { actions = l; next = (turn_of s input').next } in t) (sym x.steps.asks) ∙ ap (λ (q : Session). let t : Turn = record { actions = Pass m ∷ []; next = q } in t) (sym x.steps.becomes))
 
-  pub passing : RoomToGive n at to (asked_in m) letters ms made → Passing n at to (asked_in m) letters ms mid start made (set_session_at at to next f)
+  pub passing : RoomToGive n at to (asked_in heeded) letters ms made → Passing n at to (asked_in heeded) letters ms mid start made (set_session_at at to next f)
   passing room =
       let left = taken show x in
       let kept = session_keeps at to next f in
@@ -351,14 +351,14 @@ module _ {P : Type 0} {S : Type 0} (show : S → List Hop) {n : NetworkParts} {a
         own = own_is n start made x.of x.grows;
         grows = x.grows;
         room = room;
-        from = from_is show n at to m ms mid letters start.clock is_given;
+        from = from_is show n at to heeded ms mid letters start.clock is_given;
         no_less = no_less_then made f (set_session_at at to next f) (less show x) (session_no_less at to next f);
         said = subst (Grows made.room.said) (sym (kept.1 ∙ left.room)) (clear_said_grows made x.cleared x.clears);
         none = kept.0 ∙ left.said ∙ ap (λ (y : Flow). y.said) before;
         talking = λ j. session_talks at to x.steps.session next f (session_there show x) (stays.1 ∙ sym stays.0) j ∙ left.talking j ∙ ap (λ (y : Flow). is_talking (y.accesses j).connection) before;
         live = live_at n start at to x.steps.session x.end x.of x.steps.there stays.0;
-        owed_more = owed_is show n at to m ms mid letters start.clock is_given;
-        pending_more = pending_is show n at to m ms mid letters start.clock is_given;
+        owed_more = owed_is show n at to heeded ms mid letters start.clock is_given;
+        pending_more = pending_is show n at to heeded ms mid letters start.clock is_given;
       }
 
   calm : (p : Peer) → breaks_by p (Pass m ∷ []) ≡ false
@@ -366,16 +366,18 @@ module _ {P : Type 0} {S : Type 0} (show : S → List Hop) {n : NetworkParts} {a
   calm (Inner b) = refl
 
   pub passed_goes : (n1 n2 : NetworkParts) (ms1 ms2 : Membership P S) (lost lost1 lost2 : As → List Lost) (f4 f5 : Flow) → n1 ≡ n → ms1 ≡ ms → lost1 ≡ lost → f4 ≡ set_session_at at to next f →
-      (IsGiven n1 show at to f4.clock m ms1 mid letters → Goes (λ k. deeds.give P S wire k show at to m) (here_of n1 ms1 lost1 f4) (here_of n2 ms2 lost2 f5)) →
+      (IsGiven n1 show at to f4.clock heeded ms1 mid letters → Goes (λ k. deeds.give P S wire k show at to heeded) (here_of n1 ms1 lost1 f4) (here_of n2 ms2 lost2 f5)) →
       Goes (λ k. input_at P S k show at to (input_of wire x.steps.item)) (here_of n ms lost f) (here_of n2 ms2 lost2 f5)
   passed_goes n1 n2 ms1 ms2 lost lost1 lost2 f4 f5 same_n same_ms same_lost f4_is goes_if =
       let after = here_of n2 ms2 lost2 f5 in
-      let gives = λ (k : NetworkParts). deeds.give P S wire k show at to m in
+      let gives = λ (k : NetworkParts). deeds.give P S wire k show at to heeded in
       let clock : f4.clock ≡ start.clock = ap (λ (y : Flow). y.clock) f4_is ∙ (session_keeps at to next f).2 ∙ (taken show x).clock ∙ ap (λ (y : Flow). y.clock) (same show x) in
       let goes = goes_if
-      (subst (λ (k : NetworkParts). IsGiven k show at to f4.clock m ms1 mid letters) (sym same_n)
-      (subst (λ (y : Membership P S). IsGiven n show at to f4.clock m y mid letters) (sym same_ms) (subst (λ (t : ℕ). IsGiven n show at to t m ms mid letters) (sym clock) is_given))) in
+      (subst (λ (k : NetworkParts). IsGiven k show at to f4.clock heeded ms1 mid letters) (sym same_n)
+      (subst (λ (y : Membership P S). IsGiven n show at to f4.clock heeded y mid letters) (sym same_ms) (subst (λ (t : ℕ). IsGiven n show at to t heeded ms mid letters) (sym clock) is_given))) in
+      let heard_there : (g : Going P S) → IsAt g ms f4 → heard_from to (ms.elements at).pending.rows m ≡ heard_from to (g.state.elements at).pending.rows m =
+      λ g is. ap (λ (y : State P S). heard_from to (y.elements at).pending.rows m) is.state in
       let here_goes : Goes gives (here_of n ms lost f4) after =
       subst (λ (l : As → List Lost). Goes gives (here_of n ms l f4) after) same_lost (subst (λ (y : Membership P S). Goes gives (here_of n y lost1 f4) after) same_ms (subst (λ (k : NetworkParts). Goes gives (here_of k ms1 lost1 f4) after) same_n goes)) in
       input_stays show n ms lost (input_of wire x.steps.item) f at to x.steps.session next false (Pass m ∷ []) f4 after (end_there show x) (session_there show x)
-      x.steps.asks x.steps.becomes (no_tick x.steps.item) (calm to) f4_is (goes_by gives (λ k. acts_at P S k show at to false (Pass m ∷ [])) (here_of n ms lost f4) after (λ k g. refl) here_goes)
+      x.steps.asks x.steps.becomes (no_tick x.steps.item) (calm to) f4_is (goes_as gives (λ k. acts_at P S k show at to false (Pass m ∷ [])) (here_of n ms lost f4) after (λ g is. ap (λ (y : Message). deeds.give P S wire n show at to y g) (heeds ∙ heard_there g is)) here_goes)

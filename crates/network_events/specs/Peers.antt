@@ -4,6 +4,7 @@ use Rattle.dom_base.specs.declared.names.As.{As}
 use Rattle.dom_base.specs.declared.names.Peer.{Peer}
 use Rattle.dom_base.specs.declared.names.Peer.TheVariants.{Outside, Inner}
 use Rattle.pcep_subobjects.specs.declared.hop.Hop.{Hop}
+use Rattle.pcep_messages.specs.declared.message.Message.{Message}
 use Rattle.pcep_session.specs.declared.actions.Action.{Action}
 use Rattle.pcep_session.specs.declared.actions.Action.TheVariants as action
 use Rattle.pcep_session.specs.declared.session.Input.{Input}
@@ -12,7 +13,9 @@ use Rattle.plant_text.specs.Names.{same_as}
 use Rattle.plant_text.specs.Settings.{has_line, line, lines}
 use Rattle.member_trait.specs.plant_model.Deeds as deeds
 use Rattle.member_trait.specs.plant_model.Deeds.{Going, any_fall, element_of, is_due, is_out_empty, with_inbox}
+use Rattle.member_trait.specs.plant_model.Element.{Row}
 use Rattle.member_trait.specs.plant_model.Names.{is_empty}
+use Rattle.member_trait.specs.plant_model.Outside.{heeded}
 use Rattle.member_trait.specs.plant_model.Events as events
 use Rattle.member_trait.specs.plant_model.Events.{Happened}
 use Rattle.member_trait.specs.plant_model.RealWire.{wire}
@@ -47,6 +50,11 @@ abbrev pub breaks_by : Peer → List Action → Bool
 breaks_by (Outside i) as' = false
 breaks_by (Inner b) as' = any_fall as'
 
+-- what a member is given of a message that a session passes on: of an outside peer's what its element heeds by its pending requests
+abbrev pub heard_from : {P : Type 0} → Peer → List (Row P) → Message → Message
+heard_from (Outside i) rows m = heeded wire (Outside i) rows m
+heard_from (Inner b) rows m = m
+
 module _ (P : Type 0) (S : Type 0) (n : NetworkParts) (show : S → List Hop) where
   -- nothing waits for the peer
   abbrev pub is_out_empty_at : As → Peer → State P S → Bool
@@ -62,7 +70,7 @@ module _ (P : Type 0) (S : Type 0) (n : NetworkParts) (show : S → List Hop) wh
   act_at at to ticks (action.Send o) g = cond (cond ticks (cond (is_due o) (cond (is_out_empty_at at to g.state) false true) false) false) g (deeds.say P S wire n show at to o g)
   act_at at to ticks action.Up g = deeds.rise P S wire n show at to g
   act_at at to ticks (action.Down why) g = down_at at to g
-  act_at at to ticks (action.Pass m) g = deeds.give P S wire n show at to m g
+  act_at at to ticks (action.Pass m) g = deeds.give P S wire n show at to (heard_from to (g.state.elements at).pending.rows m) g
 
   abbrev pub acts_at : As → Peer → Bool → List Action → Going P S → Going P S
   acts_at at to ticks [] g = g

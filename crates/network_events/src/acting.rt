@@ -20,10 +20,10 @@ ghost use Rattle.network_events.specs.Acting.{Fits, FitsInput, FitsTurn, LeavesO
 use crate::deeds::{fall, rise, say};
 use crate::links::break_between;
 use dom_base::{As, Peer};
-use pcep_session::{Action, Actions, Input, Own, Reason, Session};
 use member_trait::Members;
-use plant_sessions::any_fall;
 use network_links::Traffic;
+use pcep_session::{Action, Actions, Input, Own, Reason, Session};
+use plant_sessions::any_fall;
 
 /// A message of the session's own is said, for which there is room, or left out at a tick.
 pub(crate) fn say_own<M: Members>(

@@ -13,10 +13,10 @@ ghost use Rattle.network_events.specs.Standing.{Goes, here};
 ghost use Rattle.network_events.specs.Telling.{RoomToTell, Tells};
 
 use dom_base::{As, Peer};
-use pcep_session::Own;
 use member_trait::Members;
-use plant_sessions::{lost_text, own_text};
 use network_links::Traffic;
+use pcep_session::Own;
+use plant_sessions::{lost_text, own_text};
 
 /// A session says a message of its own, for which there is room.
 pub(crate) fn say(traffic: &mut Traffic, at: As, to: Peer, own: Own)

@@ -18,12 +18,12 @@ ghost use Rattle.network_events.specs.Standing.{Goes, here};
 ghost use Rattle.network_events.specs.Giving.{CoversWords, IsGiven, KeepsForLetters, OnlyGrows, PutsAll, RoomToAnswer, RoomToGive, RoomToPut, is_own, own_words};
 
 use dom_base::{As, NoMemory, Peer};
-use pcep_messages::{Message, write_message};
 use member_trait::Members;
 use member_trait::model::{Output, Outputs};
+use network_links::Traffic;
+use pcep_messages::{Message, write_message};
 use plant_queues::Said;
 use plant_sessions::{ANSWER_LENGTH, OWN_LENGTH};
-use network_links::Traffic;
 use std::alloc::Global;
 
 /// What a message makes of a member, and what it sends, in its bytes.

@@ -8,10 +8,10 @@ ghost use Rattle.network_events.specs.Standing.{here};
 
 use crate::acting::give_input;
 use dom_base::Peer;
-use pcep_session::Input;
 use member_trait::Members;
 use member_trait::model::{Outcome, Refused};
 use network_links::Traffic;
+use pcep_session::Input;
 
 /// The connection of an outside peer is opened for this holder, and its session begins. An `Err` changes
 /// nothing but room.

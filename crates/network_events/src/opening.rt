@@ -18,8 +18,8 @@ ghost use Rattle.network_events.specs.Standing.{Goes, here, state_of};
 use crate::giving::{NOTHING, reserve_words};
 use dom_base::{As, NoMemory, Peer};
 use member_trait::Members;
-use plant_sessions::OWN_LENGTH;
 use network_links::Traffic;
+use plant_sessions::OWN_LENGTH;
 
 // An end of a link says its Open.
 fn begin_one<M: Members>(

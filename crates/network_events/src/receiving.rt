@@ -14,7 +14,7 @@ ghost use Rattle.network_events.specs.Giving.{OnlyGrows};
 ghost use Rattle.network_events.specs.Moving.{IsKept, IsSound, Moves, OrLacks};
 ghost use Rattle.member_trait.specs.Membership.{is_member};
 ghost use Rattle.member_trait.specs.Owed.{owed};
-ghost use Rattle.network_events.specs.Peers.{IsAtEnd, IsPlaced, receive_at};
+ghost use Rattle.network_events.specs.Peers.{IsAtEnd, IsPlaced, heard_from, receive_at};
 ghost use Rattle.network_events.specs.Standing.{here};
 ghost use Rattle.network_events.specs.Stepping.{Receives, Steps};
 ghost use Rattle.network_events.specs.Turns.{IsPass};
@@ -22,12 +22,12 @@ ghost use Rattle.network_events.specs.Turns.{IsPass};
 use crate::acting::step;
 use crate::giving::{perform, prepare};
 use dom_base::{As, NoMemory, Peer};
-use pcep_messages::Message;
-use pcep_session::{Action, Actions, Session};
 use member_trait::Members;
 use member_trait::model::{Outcome, Refused};
-use plant_sessions::ANSWER_LENGTH;
 use network_links::Traffic;
+use pcep_messages::Message;
+use pcep_session::{Action, Actions, Session};
+use plant_sessions::ANSWER_LENGTH;
 use std::alloc::Global;
 
 // How long a message of a session's own is at most: an Open that speaks of stateful sessions.
@@ -97,6 +97,16 @@ fn reserve_word<M: Members>(
     traffic.reserve(at, to, messages, bytes)
 }
 
+// What a member is given of a message that its session passes on: of an outside peer's what its element heeds.
+fn heard<M: Members>(members: &M, at: As, to: Peer, message: Message) -> Result<Message, NoMemory>
+    ensures { IfOk result (λ heeded. heeded ≡ heard_from to ((M.stands members.now).seen.elements at).pending.rows message) }
+{
+    match to {
+        Peer::Outside(peer) => members.heed(at, peer, message),
+        Peer::Inner(_) => Ok(message),
+    }
+}
+
 // The session passes this message on, and has then this state.
 fn receive_passed<M: Members>(
     alloc: Global,
@@ -112,7 +122,8 @@ fn receive_passed<M: Members>(
     requires kept { IsKept (here (M.stands members.old) (flow_of traffic.old)) }
     ensures { Receives M.show at to result (here (M.stands members.old) (flow_of traffic.old)) (here (M.stands members.new) (flow_of traffic.new)) }
 {
-    let prepared = prepare(alloc, members, traffic, at, to, message)?;
+    let heeded = heard(members, at, to, message)?;
+    let prepared = prepare(alloc, members, traffic, at, to, heeded)?;
     traffic.clear_said();
     traffic.drop_first(at, to);
     traffic.set_session(at, to, session);

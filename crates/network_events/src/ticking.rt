@@ -20,10 +20,10 @@ ghost use Rattle.network_events.specs.Using.{IsUnderWay, Uses};
 use crate::acting::give_input;
 use crate::events::expire;
 use dom_base::{As, Peer, Tick};
-use pcep_session::Input;
 use member_trait::Members;
 use member_trait::model::{Outcome, Refused};
 use network_links::Traffic;
+use pcep_session::Input;
 
 // The session of a member with a peer takes a tick: in place where it has nothing to say or to do at it.
 fn tick_session<M: Members>(members: &mut M, traffic: &mut Traffic, at: As, to: Peer, now: Tick)

@@ -10,8 +10,8 @@ ghost use Rattle.network_links.specs.Quiet.{TicksAccess};
 use crate::peers::Drained;
 use dom_base::{NoMemory, Tick};
 use pcep_session::Session;
-use settings_layout::model::Refused;
 use plant_sessions::Access;
+use settings_layout::model::Refused;
 use std::alloc::Global;
 
 fn set_session(access: &mut Access, session: Session)

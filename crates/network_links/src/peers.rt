@@ -15,8 +15,8 @@ use crate::accesses::{
 };
 use dom_base::{Bytes, NoMemory, Tick};
 use pcep_session::{Input, Own, Session};
-use settings_layout::model::Refused;
 use plant_sessions::{Access, Connection};
+use settings_layout::model::Refused;
 use std::alloc::Global;
 use std::marker::Model;
 

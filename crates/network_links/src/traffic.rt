@@ -20,9 +20,9 @@ use crate::links::Links;
 use crate::peers::{Drained, Peers};
 use dom_base::{As, NoMemory, Peer, Tick};
 use pcep_session::{Input, Own, Session};
-use settings_layout::model::Refused;
 use plant_queues::Said;
 use plant_sessions::{OWN_LENGTH, our_offer, own_text};
+use settings_layout::model::Refused;
 use std::alloc::Global;
 use std::marker::Model;
 

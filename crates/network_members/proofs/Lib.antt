@@ -8,6 +8,7 @@ pub mod TierLemmas
 pub mod RisingDomains
 pub mod StepLemmas
 pub mod TickLemmas
+pub mod HeedLemmas
 pub mod NetworkLemmas
 pub mod JoinedLemmas
 pub mod BegunLemmas

@@ -12,6 +12,7 @@ pub mod TierFields
 pub mod ElementFields
 pub mod Ready
 pub mod Fresh
+pub mod Heeding
 -- handed on from below
 pub use Rattle.pce_element.specs as pce_element
 pub use Rattle.pce_parent.specs as pce_parent

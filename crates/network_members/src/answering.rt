@@ -17,9 +17,9 @@ use crate::hierarchy::Hierarchy;
 use crate::plan::MemberPlan;
 use border_costs::Solved;
 use dom_base::{As, Tick};
+use member_trait::model::Refused;
 use pce_element::{CommitError, Element, Plan, Topologies};
 use pce_parent::{BorderPlan, BorderSolved, Done, ParentCommitError};
-use member_trait::model::Refused;
 
 /// Why a solved job is not answered, and the job.
 #[derive(Drop)]

@@ -9,9 +9,9 @@ ghost use Rattle.network_members.specs.Becoming.{Becomes, BecomesAt, HasElement,
 use crate::elements::{Elements, place_of};
 use disclosure::Class;
 use dom_base::{As, NoMemory, Peer, Tick};
+use member_trait::model::Lost;
 use pce_element::{Element, Plan, World};
 use pcep_messages::Message;
-use member_trait::model::Lost;
 
 fn take_at<W: World>(
     items: &mut Vec<Element<W>>,

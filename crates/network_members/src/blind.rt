@@ -18,9 +18,9 @@ use crate::elements::Elements;
 use crate::hierarchy::{Hierarchy, is_parent};
 use crate::plan::MemberPlan;
 use dom_base::{As, BorderRow, NoMemory, Tick};
+use member_trait::model::Refused;
 use pce_element::{Blind, Element, Plan};
 use pce_parent::{BorderPlan, BorderSolved, Parent, ParentCommitError, solve_border};
-use member_trait::model::Refused;
 use std::alloc::Global;
 
 fn solve_at(

@@ -10,8 +10,8 @@ ghost use Rattle.network_members.specs.Fresh.{AreNew, LivesFit, figures_from};
 use crate::elements::Elements;
 use dom_base::{Addr, As, NoMemory};
 use pce_element::{Element, World};
-use settings_layout::{deny_at, elements_of, others_along, routes_of};
 use plant_text::{ElementRow, NetworkParts};
+use settings_layout::{deny_at, elements_of, others_along, routes_of};
 use std::alloc::Global;
 
 /// What the settings say of one element.

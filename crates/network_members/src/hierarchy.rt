@@ -16,8 +16,8 @@ use crate::elements::Elements;
 use dom_base::{Addr, As, NoMemory, Tick};
 use pce_element::World;
 use pce_parent::{Parent, copy_links};
-use settings_layout::{children_of, lines_of};
 use plant_text::{Network, NetworkParts};
+use settings_layout::{children_of, lines_of};
 use std::alloc::Global;
 use std::marker::Model;
 

@@ -7,6 +7,7 @@ mod blind;
 mod counting;
 mod elements;
 mod fresh;
+mod heeding;
 mod hierarchy;
 mod loading;
 mod members;

@@ -8,10 +8,10 @@ use crate::hierarchy::{Hierarchy, is_parent};
 use crate::plan::MemberPlan;
 use crate::steps::has_one_part;
 use dom_base::{As, NoMemory, Peer, Tick};
-use pce_element::World;
-use pcep_messages::Message;
 use member_trait::Members;
 use member_trait::model::{Lost, Outputs};
+use pce_element::World;
+use pcep_messages::Message;
 use plant_text::PeerRow;
 
 // The element of a peer.
@@ -57,6 +57,10 @@ impl<W: World> Members for Hierarchy<W> {
         } else {
             self.take_below(at, peer, message, now)
         }
+    }
+
+    fn heed(&self, at: As, peer: u32, message: Message) -> Result<Message, NoMemory> {
+        self.elements.heed(at, peer, message)
     }
 
     fn outputs(plan: &MemberPlan<W>) -> &Outputs {

@@ -16,8 +16,8 @@ use crate::element::Element;
 use crate::plan::Plan;
 use crate::world::World;
 use dom_base::{List, NoMemory, Peer, Tick};
-use pce_common::Ways;
 use path_keys::PathKeys;
+use pce_common::Ways;
 use std::collections::VecDeque;
 
 /// Keys for segments; takes no memory.

@@ -8,8 +8,8 @@ use crate::places::place_at;
 use crate::spot::{Spot, entering, leaving};
 use dom_base::{Addr, As, Excluded, Exclusion, NoMemory, ParentLink, Query};
 use indexmap::IndexSet;
-use pce_common::model::{BorderJob, ChildRow};
 use path_constraints::{allows, weight};
+use pce_common::model::{BorderJob, ChildRow};
 use std::alloc::Global;
 
 /// An edge between the places of two vertices: its cost, the address that ties are broken by, and its

@@ -88,8 +88,8 @@ BlindsAreHeard files net =
     (n : NetworkParts) (done : List NumberedLine) (turns : List BlindTurn) (told : List ℕ) (end : BlindStage) → HasNetwork files net n → BlindlyPlaying n done turns told end → IsHeard n turns told end
 
 -- Of every run of a network that the words ask for: each path that a client is answered is feasible and of least cost among all walks
--- through the asked domains in order, each domain as it stood when its element took the request; where a client is answered NO-PATH of
--- nature 0, none exists; and what closed peers hear is a function of requests, policy and disclosed border costs alone.
+-- through the asked domains in order, each domain as it stood when its element took the request, or over what an outside peer told that
+-- was asked for the rest of them; where a client is answered NO-PATH of nature 0, none exists; and what closed peers hear is a function of requests, policy and disclosed border costs alone.
 abbrev pub RunsAreWorth : Option Files → Option Task → Type 0
 RunsAreWorth files (Some (Play net)) = PlaysAreWorth files net
 RunsAreWorth files (Some (Blind net)) = BlindsAreHeard files net

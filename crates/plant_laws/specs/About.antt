@@ -1,5 +1,5 @@
 -- What an answer is about: the request that is open, and the chain that it took; or the parent, which asked its children.
-use Rattle.std.specs.Prelude.{◌≡◌, ◌≤◌, ℕ, Bool, true, false, List, [], ◌∷◌, Contains, Option, Some, bit_and}
+use Rattle.std.specs.Prelude.{◌≡◌, ◌≤◌, ℕ, Bool, true, false, List, [], ◌∷◌, ◌++◌, Contains, Option, Some, bit_and}
 use Rattle.dom_base.specs.declared.names.As.{As}
 use Rattle.dom_base.specs.declared.addr.Addr.{Addr}
 use Rattle.dom_base.specs.declared.names.Peer.{Peer}
@@ -35,7 +35,7 @@ use Rattle.path_keys.specs.declared.issued.Issued.{Issued}
 use Rattle.plant_model.specs.State.{Takes, Solves}
 use Rattle.plant_model.specs.Plant.{PlantDeed, Segment}
 use Rattle.plant_laws.specs.Transcript.{Transcript, Within, opened, Delivered, Handed, SentIn, Leg, Chain, numbers, outputs_at, asks, effect, Ends}
-use Rattle.plant_laws.specs.Ends.{End, goal_of}
+use Rattle.plant_laws.specs.Ends.{End, goal_of, ChainEnds}
 use Rattle.plant_laws.specs.Shown.{ShowsAlong}
 use Rattle.dom_base.specs.declared.query.Metric.{Metric}
 use Rattle.pcep_messages.specs.declared.message.Answer.{Answer}
@@ -75,8 +75,9 @@ abbrev pub AreSolved : Codec → Peer → List Leg → Type 0
 AreSolved c p [] = Unit {0}
 AreSolved c p (leg ∷ legs) = IsSolvedFor c p leg × AreSolved c (Inner leg.own) legs
 
--- The reply of d to the peer p, sent in the moment now, is about this request, which took this chain.
-pub record IsAbout (c : Codec) (n : NetworkParts) (older now : Transcript) (d : As) (p : Peer) (r : Request) (w : Wanted) (chain : List Leg) : Type 0 where
+-- The reply of d to the peer p, sent in the moment now, is about this request, which took this chain and ended so: in the last domain
+-- of its sequence, or before those that an outside peer was asked for.
+pub record IsAbout (c : Codec) (n : NetworkParts) (older now : Transcript) (d : As) (p : Peer) (r : Request) (w : Wanted) (chain : List Leg) (end : End) : Type 0 where
   pub at : Transcript
   pub is_open : opened c d p r.id older ≡ Some at
   pub delivered : Delivered c at d p r
@@ -86,7 +87,9 @@ pub record IsAbout (c : Codec) (n : NetworkParts) (older now : Transcript) (d : 
   pub begins : chain ≡ record { own = d; at = at; solved = now } ∷ rest
   pub chained : Chain now chain
   pub solved : AreSolved c p chain
-  pub along : numbers chain ≡ sequence_or d w.sequence
+  pub behind : List As
+  pub along : numbers chain ++ behind ≡ sequence_or d w.sequence
+  pub ends : ChainEnds c n w behind chain end
 
 -- the branches that a reply tells
 abbrev pub told_in : Codec → Metric → Answer → List Branch

@@ -14,7 +14,7 @@ use Rattle.plant_model.specs.State.{Takes, Downs}
 use Rattle.plant_model.specs.Plant.{Plant, PlantDeed, Entry, deeds_of}
 use Rattle.plant_laws.specs.Transcript.{Transcript, Within, opened, outputs_at, answers_to, cancels, effect, Ends}
 use Rattle.plant_laws.specs.Chains.{is_pending}
-use Rattle.plant_laws.specs.Runs.{InShortRuns}
+use Rattle.plant_laws.specs.Runs.{InRuns}
 
 -- how many answers to the request x of p a deed of d has
 abbrev pub answers_of : As → Peer → ℕ → PlantDeed → ℕ
@@ -63,4 +63,4 @@ abbrev pub RequestsAreAnsweredOnceIn : Codec → NetworkParts → List Entry →
 RequestsAreAnsweredOnceIn c n es s = (d : As) (p : Peer) (x : ℕ) (at : Transcript) → Within at (deeds_of c n es) → opened c d p x at ≡ Some at → IsAnsweredOnce c (deeds_of c n es) s d p x at
 
 abbrev pub RequestsAreAnsweredOnce : Type 0
-RequestsAreAnsweredOnce = InShortRuns RequestsAreAnsweredOnceIn
+RequestsAreAnsweredOnce = InRuns RequestsAreAnsweredOnceIn

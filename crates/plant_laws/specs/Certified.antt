@@ -2,13 +2,6 @@
 -- the seeds that the taken reply gives.
 use Rattle.std.specs.Prelude.{◌≡◌, ℕ, List, [], ◌∷◌, Some}
 use Rattle.dom_base.specs.declared.names.As.{As}
-use Rattle.dom_base.specs.declared.names.Peer.TheVariants.{Inner}
-use Rattle.pcep_codes.specs.declared.no_paths.TheConstants as no_paths
-use Rattle.pcep_messages.specs.declared.message.Answer.{Answer}
-use Rattle.pcep_messages.specs.declared.message.Answer.TheVariants.{Paths, NoPath}
-use Rattle.pcep_messages.specs.declared.message.Path.{Path}
-use Rattle.pcep_messages.specs.declared.message.Reply.{Reply}
-use Rattle.pcep_messages.specs.declared.message.Message.TheVariants as messages
 use Rattle.pcep_messages.specs.declared.message.Request.{Request}
 use Rattle.pcep_messages.specs.declared.message.Wanted.{Wanted}
 use Rattle.pcep_messages.specs.declared.message.Wish.TheVariants as wishes
@@ -19,40 +12,23 @@ use Rattle.border_costs.specs.declared.answer.Answer.{Answer as Answers}
 use Rattle.border_costs.specs.Solutions.{AreRows}
 use Rattle.plant_text.specs.declared.settings.NetworkParts.{NetworkParts}
 use Rattle.plant_text.specs.Settings.{class_of}
-use Rattle.plant_model.specs.declared.output.Output.{Output}
 use Rattle.plant_model.specs.Wire.{Codec}
-use Rattle.plant_model.specs.Writing.{request_message}
-use Rattle.plant_model.specs.Branches.{branches_in, downs}
+use Rattle.plant_model.specs.Branches.{downs}
 use Rattle.plant_model.specs.Jobs.{entries_of, target_along}
 use Rattle.plant_model.specs.Taking.{sequence_or}
-use Rattle.plant_model.specs.State.{Takes}
 use Rattle.plant_model.specs.Plant.{Plant, Happened, Entry, deeds_of, ElementSolves}
-use Rattle.plant_laws.specs.Transcript.{Transcript, Within, SentIn, Delivered, opened, pinned}
+use Rattle.plant_model.specs.Routes.{toward}
+use Rattle.plant_model.specs.Settings.{place}
+use Rattle.plant_laws.specs.Transcript.{Transcript, Delivered, opened, pinned}
+pub use Rattle.plant_laws.specs.Ends.{Tells, IsAnswered}
 use Rattle.plant_laws.specs.Runs.{InShortRuns}
 
--- what an answer tells of paths: these, or that there are none
-abbrev pub Tells : Answer → List Path → Type 0
-Tells (Paths told) paths = told ≡ paths
-Tells (NoPath nature vector) paths = (nature ≡ no_paths.NONE_FOUND) × (paths ≡ [])
-
--- The branches are those of a reply of b to the request that was sent to it in that moment.
-pub record IsAnswered (c : Codec) (older : Transcript) (d : As) (at : Transcript) (w : Wanted) (b : As) (rest : List As) (down : List Branch) : Type 0 where
-  pub id : ℕ
-  pub sent : SentIn at d (Inner b) (request_message id w w.target (b ∷ rest))
-  pub reply : Reply
-  pub outputs : List Output
-  pub before : Transcript
-  pub within : Within (Takes d (Inner b) (messages.PcRep (reply ∷ [])) outputs ∷ before) older
-  pub same : reply.id ≡ id
-  pub paths : List Path
-  pub tells : Tells reply.answer paths
-  pub is : down ≡ branches_in c w.query.metric paths
-
--- What the next domain told of a request, by its sequence: nothing is asked in the last domain. No sequence is empty.
-abbrev pub IsServed : Codec → Transcript → As → Transcript → Wanted → List As → List Branch → Type 0
-IsServed c older d at w [] down = ⊥
-IsServed c older d at w (a ∷ []) down = down ≡ []
-IsServed c older d at w (a ∷ b ∷ rest) down = IsAnswered c older d at w b rest down
+-- What was told of a request for the next domain of its sequence, by the peer to which requests for it go: its own element, or an
+-- outside peer. Nothing is asked in the last domain. No sequence is empty.
+abbrev pub IsServed : Codec → NetworkParts → Transcript → As → Transcript → Wanted → List As → List Branch → Type 0
+IsServed c n older d at w [] down = ⊥
+IsServed c n older d at w (a ∷ []) down = down ≡ []
+IsServed c n older d at w (a ∷ b ∷ rest) down = IsAnswered c older d at w (toward b (place n d).routes) b rest down
 
 -- The rows that solve the request of a peer at an element: what was asked of the topology as it stood when the request was taken,
 -- and that these rows answer it, whose certificate meets the conditions over that topology from the seeds of what was told.
@@ -65,7 +41,7 @@ pub record IsCertified (c : Codec) (n : NetworkParts) (older : Transcript) (d : 
   pub wanted : Wanted
   pub is_path : request.wish ≡ wishes.Path wanted
   pub down : List Branch
-  pub told : IsServed c older d at wanted (sequence_or d wanted.sequence) down
+  pub told : IsServed c n older d at wanted (sequence_or d wanted.sequence) down
   pub job : Ask
   pub query : job.query ≡ wanted.query
   pub source : job.source ≡ wanted.source

@@ -2,7 +2,7 @@
 use Rattle.std.specs.Prelude.{◌≡◌, ◌≢◌, ◌⊎◌, ℕ, true, List, [], ◌∷◌, Some, None}
 use Rattle.dom_base.specs.declared.names.As.{As}
 use Rattle.dom_base.specs.declared.names.Peer.TheVariants.{Outside}
-use Rattle.plant_laws.specs.Ends.{Inside, goal_of}
+use Rattle.plant_laws.specs.Ends.{End, goal_of}
 use Rattle.pcep_codes.specs.declared.no_paths.TheConstants as no_paths
 use Rattle.pcep_messages.specs.declared.message.Reply.{Reply}
 use Rattle.pcep_messages.specs.declared.message.Path.{Path}
@@ -27,19 +27,20 @@ pub record IsOfParent (c : Codec) (n : NetworkParts) (older now : Transcript) (d
   pub via : IsViaParent c n older now d (Outside i) r.id (Some found)
   pub one : paths ≡ path_of c via.asked.query.metric found.cost found.hops ∷ []
 
--- The path that a client gets is least along the chain of its request.
+-- The path that a client gets is least along the chain of its request, to the target; or over what the outside peer told at its end.
 pub record IsOfChain (c : Codec) (n : NetworkParts) (older now : Transcript) (d : As) (i : ℕ) (r : Reply) (paths : List Path) : Type 0 where
   pub request : Request
   pub wanted : Wanted
   pub chain : List Leg
+  pub end : End
   pub same : request.id ≡ r.id
-  pub about : IsAbout c n older now d (Outside i) request wanted chain
+  pub about : IsAbout c n older now d (Outside i) request wanted chain end
   pub path : Path
   pub one : paths ≡ path ∷ []
-  pub least : IsLeastPath c n true (domains chain) chain (Inside wanted.target) wanted wanted.source path
+  pub least : IsLeastPath c n true (domains chain) chain end wanted wanted.source path
 
 -- A client is answered by an element. Each path answered to a client is of least cost among all walks through the asked domains in order, each domain as it stood
--- when its element took the request.
+-- when its element took the request; where an outside peer was asked for the domains behind them, among all walks that go on over what it told.
 abbrev pub LeastAnswersIn : Codec → NetworkParts → List Entry → Plant → Type 0
 LeastAnswersIn c n es s =
     (m older : Transcript) (d : As) (i : ℕ) (r : Reply) → is_client (class_of n (Outside i)) ≡ true → Replies (deeds_of c n es) m older d (Outside i) r →
@@ -48,14 +49,15 @@ LeastAnswersIn c n es s =
 abbrev pub LeastAnswers : Type 0
 LeastAnswers = InShortRuns LeastAnswersIn
 
--- There is no walk along the chain of the client's request.
+-- There is no walk along the chain of the client's request, to the target; or none over what the outside peer told at its end.
 pub record HasNoneOfChain (c : Codec) (n : NetworkParts) (older now : Transcript) (d : As) (i : ℕ) (r : Reply) : Type 0 where
   pub request : Request
   pub wanted : Wanted
   pub chain : List Leg
+  pub end : End
   pub same : request.id ≡ r.id
-  pub about : IsAbout c n older now d (Outside i) request wanted chain
-  pub none : HasNoneAlong wanted.query (domains chain) wanted.source (goal_of (Inside wanted.target))
+  pub about : IsAbout c n older now d (Outside i) request wanted chain end
+  pub none : HasNoneAlong wanted.query (domains chain) wanted.source (goal_of end)
 
 -- NO-PATH of nature 0 to a client says that there is none.
 abbrev pub NoneAnswersIn : Codec → NetworkParts → List Entry → Plant → Type 0

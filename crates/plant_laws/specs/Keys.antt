@@ -24,7 +24,7 @@ use Rattle.plant_model.specs.State.{Takes, Solves, Expires}
 use Rattle.plant_model.specs.Plant.{Plant, Entry, Run, deeds_of, Segment}
 use Rattle.plant_model.specs.Laws.{IsNetwork}
 use Rattle.plant_laws.specs.Transcript.{Transcript, Within, opened}
-use Rattle.plant_laws.specs.Runs.{InShortRuns}
+use Rattle.plant_laws.specs.Runs.{InRuns}
 
 -- the last tick
 abbrev pub clock_at : Transcript → ℕ
@@ -63,7 +63,7 @@ ExpandsRightlyIn c n es s =
     ⊎ (((segment : Segment) → ¬ MaySee n older d p key pce segment) × (os ≡ one_reply p r no_key))
 
 abbrev pub ExpandsRightly : Type 0
-ExpandsRightly = InShortRuns ExpandsRightlyIn
+ExpandsRightly = InRuns ExpandsRightlyIn
 
 -- The keys of an element have different numbers, which fit their field.
 abbrev pub KeysDiffer : Type 0

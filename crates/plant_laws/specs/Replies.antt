@@ -22,7 +22,7 @@ use Rattle.path_keys.specs.declared.issued.Issued.{Issued}
 use Rattle.plant_model.specs.Plant.{Plant, Entry, Run, deeds_of, Segment}
 use Rattle.plant_model.specs.Blind.{is_closed}
 use Rattle.plant_laws.specs.Transcript.{Transcript, Within, Leg, domains, pinned}
-use Rattle.plant_laws.specs.Ends.{End, Inside, goal_of}
+use Rattle.plant_laws.specs.Ends.{End, goal_of}
 use Rattle.plant_laws.specs.About.{Replies, IsAbout, HasNoneAlong, IsLeastPath}
 use Rattle.plant_laws.specs.Runs.{InShortRuns}
 
@@ -42,9 +42,10 @@ pub record IsRightful (c : Codec) (n : NetworkParts) (older now : Transcript) (d
   pub request : Request
   pub wanted : Wanted
   pub chain : List Leg
+  pub end : End
   pub same : request.id ≡ r.id
-  pub about : IsAbout c n older now d p request wanted chain
-  pub right : AreRightful c n (class_of n p) chain (Inside wanted.target) wanted paths
+  pub about : IsAbout c n older now d p request wanted chain end
+  pub right : AreRightful c n (class_of n p) chain end wanted paths
 
 -- Each reply of paths that an element sends a closed peer is rightful.
 abbrev pub LeastRepliesIn : Codec → NetworkParts → List Entry → Plant → Type 0

@@ -1,5 +1,4 @@
--- The pending requests of elements and of the parent are those that the transcript shows open, as long as all that was sent is
--- in written form.
+-- The pending requests of elements and of the parent are those that the transcript shows open.
 use Rattle.std.specs.Prelude.{◌≡◌, ℕ, true, List, Contains, Some}
 use Rattle.dom_base.specs.declared.names.As.{As}
 use Rattle.dom_base.specs.declared.names.Peer.{Peer}
@@ -16,7 +15,7 @@ use Rattle.plant_model.specs.Plant.{Pin, Plant, Entry, deeds_of}
 use Rattle.plant_laws.specs.Transcript.{Transcript, loads, opened, Delivered}
 use Rattle.plant_laws.specs.Pending.{IsTaken}
 use Rattle.plant_laws.specs.Chains.{is_pending}
-use Rattle.plant_laws.specs.Runs.{InShortRuns}
+use Rattle.plant_laws.specs.Runs.{InRuns}
 
 -- a request that is pending at the parent
 pub record IsTakenAbove (c : Codec) (now : Transcript) (h : AskingRow) : Type 0 where
@@ -47,4 +46,4 @@ abbrev pub OpenIsPendingIn : Codec → NetworkParts → List Entry → Plant →
 OpenIsPendingIn c n es s = AreTables c n es s
 
 abbrev pub OpenIsPending : Type 0
-OpenIsPending = InShortRuns OpenIsPendingIn
+OpenIsPending = InRuns OpenIsPendingIn

@@ -1,9 +1,10 @@
--- What waits is under way: the request is in the queue of the next, pending there, or answered in the queue back.
+-- What waits is under way: the request is in the queue of the next, pending there, or answered in the queue back; or an outside peer
+-- was asked, of which nothing is known but what it says.
 use Rattle.std.specs.Prelude.{◌≡◌, ◌≢◌, ◌≤◌, ℕ, List, [], ◌∷◌, Contains}
 use Rattle.dom_base.specs.declared.names.As.{As}
 use Rattle.dom_base.specs.declared.addr.Addr.{Addr}
 use Rattle.dom_base.specs.declared.names.Peer.{Peer}
-use Rattle.dom_base.specs.declared.names.Peer.TheVariants.{Inner}
+use Rattle.dom_base.specs.declared.names.Peer.TheVariants.{Outside, Inner}
 use Rattle.pcep_messages.specs.declared.message.Message.{Message}
 use Rattle.pcep_messages.specs.declared.message.Wanted.{Wanted}
 use Rattle.request_table.specs.Pending.{key_of}
@@ -12,6 +13,8 @@ use Rattle.plant_text.specs.Names.{parent_as}
 use Rattle.plant_model.specs.Wire.{Codec}
 use Rattle.plant_model.specs.Writing.{request_message}
 use Rattle.plant_model.specs.Element.{Waits, Row}
+use Rattle.plant_model.specs.Routes.{toward}
+use Rattle.plant_model.specs.Settings.{place}
 use Rattle.plant_model.specs.Parent.{Wait, AskingRow}
 use Rattle.plant_model.specs.Plant.{Pin, Plant, Entry}
 use Rattle.plant_laws.specs.Transcript.{count_answers}
@@ -25,18 +28,19 @@ pub data IsUnderWay (c : Codec) (s : Plant) (a b : As) (id : ℕ) (sequence : Li
   taken_up : (h : AskingRow) → b ≡ parent_as → Contains s.parent.pending.rows h → h.1.key ≡ key_of (Inner a) id → IsUnderWay c s a b id sequence
   answered : (m : Message) → Contains (s.queues b a) (c.text m) → 1 ≤ count_answers id m → IsUnderWay c s a b id sequence
 
--- where a request went on to: along its sequence, or to the parent
-pub data GoesOn (c : Codec) (s : Plant) (d : As) (h : Row Pin) (on : Peer) (id : ℕ) : Type 0 where
-  along : (b : As) (rest : List As) → on ≡ Inner b → b ≢ parent_as → h.1.item.sequence ≡ d ∷ b ∷ rest → IsUnderWay c s d b id (b ∷ rest) → GoesOn c s d h on id
-  upward : on ≡ Inner parent_as → h.1.item.sequence ≡ [] → IsUnderWay c s d parent_as id [] → GoesOn c s d h on id
+-- where a request went on to: along its sequence, to an element or to the outside peer that is asked for the next domain; or to the parent
+pub data GoesOn (c : Codec) (n : NetworkParts) (s : Plant) (d : As) (h : Row Pin) (on : Peer) (id : ℕ) : Type 0 where
+  along : (b : As) (rest : List As) → on ≡ Inner b → b ≢ parent_as → h.1.item.sequence ≡ d ∷ b ∷ rest → IsUnderWay c s d b id (b ∷ rest) → GoesOn c n s d h on id
+  outside : (i : ℕ) (b : As) (rest : List As) → on ≡ Outside i → toward b (place n d).routes ≡ Outside i → h.1.item.sequence ≡ d ∷ b ∷ rest → GoesOn c n s d h on id
+  upward : on ≡ Inner parent_as → h.1.item.sequence ≡ [] → IsUnderWay c s d parent_as id [] → GoesOn c n s d h on id
 
 -- What waits is under way.
-pub record AreUnderWay (c : Codec) (s : Plant) : Type 0 where
-  pub elements : (d : As) (h : Row Pin) (on : Peer) (id : ℕ) → Contains (s.elements d).pending.rows h → h.1.item.stage ≡ Waits on id → GoesOn c s d h on id
+pub record AreUnderWay (c : Codec) (n : NetworkParts) (s : Plant) : Type 0 where
+  pub elements : (d : As) (h : Row Pin) (on : Peer) (id : ℕ) → Contains (s.elements d).pending.rows h → h.1.item.stage ≡ Waits on id → GoesOn c n s d h on id
   pub parent : (h : AskingRow) (w : Wait) → Contains s.parent.pending.rows h → Contains h.1.item.waits w → (w.child ≢ parent_as) × IsUnderWay c s parent_as w.child w.id (w.child ∷ [])
 
 abbrev pub WaitsAreUnderWayIn : Codec → NetworkParts → List Entry → Plant → Type 0
-WaitsAreUnderWayIn c n es s = AreUnderWay c s
+WaitsAreUnderWayIn c n es s = AreUnderWay c n s
 
 abbrev pub WaitsAreUnderWay : Type 0
 WaitsAreUnderWay = InShortRuns WaitsAreUnderWayIn

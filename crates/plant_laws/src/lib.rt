@@ -1,5 +1,5 @@
 //! The laws of a network of path computation elements, over all its runs. They are the contracts of calls that do nothing; each
-//! statement stands in one file of specs/. Where ids or messages read come in, the runs are those in which no element and no parent
+//! statement stands in one file of specs/. Laws that fail where ids come round are of the runs in which no element and no parent
 //! sends a neighbour more requests than there are ids.
 #![tactic(auto)]
 
@@ -7,8 +7,10 @@ ghost use Rattle.plant_laws.specs.Answered.{RequestsAreAnsweredOnce, RequestsAre
 ghost use Rattle.plant_laws.specs.Certified.{SolvesCertify, SolvesCertifyIn};
 ghost use Rattle.plant_laws.specs.Broken.{BrokenForReasons};
 ghost use Rattle.plant_laws.specs.Causes.{MessagesHaveCauses, NetworksBegin};
-ghost use Rattle.plant_laws.specs.Chains.{OneChain, OneChainIn, QuietIsAnswered, QuietIsAnsweredIn};
+ghost use Rattle.plant_laws.specs.Chains.{OneChain, OneChainIn, QuietHasNonePending, QuietIsAnswered, QuietIsAnsweredIn};
+ghost use Rattle.plant_laws.specs.Confined.{RunsAreConfined};
 ghost use Rattle.plant_laws.specs.Counted.{ElementIdsDiffer, IdsCount};
+ghost use Rattle.plant_laws.specs.Ends.{ChainsEndInside};
 ghost use Rattle.plant_laws.specs.Errors.{InnerErrors};
 ghost use Rattle.plant_laws.specs.Full.{FullForReasons};
 ghost use Rattle.plant_laws.specs.Good.{GoodRequestsAreServed, HasGoodRequest};
@@ -17,9 +19,10 @@ ghost use Rattle.plant_laws.specs.Issuing.{ExpandedAreIssued, KeysAreIssued, Tol
 ghost use Rattle.plant_laws.specs.Keys.{ExpandsRightly, ExpandsRightlyIn, KeysDiffer};
 ghost use Rattle.plant_laws.specs.Matched.{RepliesAnswer, RepliesMatch};
 ghost use Rattle.plant_laws.specs.Reading.{OutsideIsRead};
-ghost use Rattle.plant_laws.specs.Readings.{MessagesAreRead};
+ghost use Rattle.plant_laws.specs.Readings.{MessagesAreRead, RequestsAreRead};
 ghost use Rattle.plant_laws.specs.Replies.{LeastReplies, LeastRepliesIn, NoneReplies, NoneRepliesIn, SolvesSendOne};
-ghost use Rattle.plant_laws.specs.Runs.{AllIsWritten, InShortRuns, OverPcep};
+ghost use Rattle.plant_laws.specs.Resting.{RestIsQuiet};
+ghost use Rattle.plant_laws.specs.Runs.{AllIsWritten, InRuns, InRunsOverPcep, InShortRuns, OverPcep, RequestsAreWritten};
 ghost use Rattle.plant_laws.specs.Served.{RequestsAreServed};
 ghost use Rattle.plant_laws.specs.Solves.{SolvesTell};
 ghost use Rattle.plant_laws.specs.Standing.{PinsAreCurrent, QueuesStand};
@@ -43,14 +46,16 @@ pub fn steps_are_one()
 /// Each path that a client is answered is of least cost among all walks through the asked domains in order,
 /// each domain as it stood when its element took the request, with the keys of the solves that answered this
 /// request; and NO-PATH of nature 0 says that there is none. For a request that went to the parent, which was
-/// asked the same, the same over its border graph.
+/// asked the same, the same over its border graph. Where an outside peer was asked for the domains behind, the
+/// walks go on over the rows that it told, as far as they are heeded.
 pub fn answers_are_least()
     ensures paths { LeastAnswers }
     ensures none { NoneAnswers }
 {}
 
 /// What an element replies to its neighbours and the parent is, for each entry, of least cost among all
-/// walks through the rest of the domains, and an entry without a path has none.
+/// walks through the rest of the domains, or over what an outside peer told of them, and an entry without a path
+/// has none.
 pub fn replies_are_least()
     ensures paths { LeastReplies }
     ensures none { NoneReplies }
@@ -70,20 +75,23 @@ pub fn solves_tell()
 {}
 
 /// The certificate of a solve's own rows meets the conditions over the topology that the element had when it
-/// took the request, from the seeds that the taken reply gives.
+/// took the request, from the seeds that the taken reply gives, of the next domain's element or of the outside
+/// peer that was asked for it.
 pub fn solves_certify()
     ensures { SolvesCertify }
 {}
 
 // ---- requests
 
-/// In a quiet state no request is pending.
+/// In a quiet state the chain of each pending request ends at an element that waits on an outside peer, and
+/// none is pending at the parent. Where paths go on through no outside peer, none is pending at all.
 pub fn quiet_is_answered()
-    ensures { QuietIsAnswered }
+    ensures outside { QuietIsAnswered }
+    ensures none { QuietHasNonePending }
 {}
 
 /// Each request that waits is in the next's queue, or pending there with the rest of its sequence, or its
-/// answer is in the queue back.
+/// answer is in the queue back; or it waits on the outside peer that is asked for its next domain.
 pub fn waits_are_under_way()
     ensures { WaitsAreUnderWay }
 {}
@@ -97,6 +105,12 @@ pub fn requests_are_answered_once()
 /// A request has one chain.
 pub fn one_chain()
     ensures { OneChain }
+{}
+
+/// Where paths go on through no outside peer, a chain that an answer is about goes through its whole sequence,
+/// to the target.
+pub fn chains_end_inside()
+    ensures { ChainsEndInside }
 {}
 
 // ---- two worlds
@@ -167,11 +181,27 @@ pub fn all_is_written()
     ensures { InShortRuns AllIsWritten }
 {}
 
+/// All requests that are sent in a run are in written form, also where ids come round.
+pub fn requests_are_written()
+    ensures { InRuns RequestsAreWritten }
+{}
+
 // ---- what stands by the transcript
 
 /// In every state of a run the inner queues hold the texts of what stands in them by the transcript.
 pub fn queues_stand()
     ensures { QueuesStand }
+{}
+
+/// In every state of a run nothing stands in a queue but along links, nothing is pending but at elements, and at the
+/// parent where there is one, and an outside peer that the settings do not have has no connection.
+pub fn runs_are_confined()
+    ensures { RunsAreConfined }
+{}
+
+/// A network at rest is quiet, so what is said of quiet states is said of it.
+pub fn rest_is_quiet()
+    ensures { RestIsQuiet }
 {}
 
 /// In every state of a run the current pin of an element is of the topology that was last loaded.
@@ -195,6 +225,11 @@ pub fn outside_is_read()
 /// one at a time.
 pub fn messages_are_read()
     ensures { MessagesAreRead }
+{}
+
+/// The same of requests alone, also where ids come round.
+pub fn requests_are_read()
+    ensures { RequestsAreRead }
 {}
 
 /// The requests that are pending are those that the transcript shows open, each as it was delivered, with
@@ -279,8 +314,8 @@ pub fn good_requests_exist()
 // ---- over PCEP
 
 /// Over the wire of PCEP, with no premise but the rules of settings and the number of ids: what clients and
-/// closed peers are answered, certificates, quiet, what is under way, one answer and one chain for each
-/// request, and what a key shows to whom.
+/// closed peers are answered, certificates, quiet and what is under way. And with no premise but the rules of
+/// settings: one answer and one chain for each request, and what a key shows to whom.
 pub fn laws_over_pcep()
     ensures paths { OverPcep LeastAnswersIn }
     ensures none { OverPcep NoneAnswersIn }
@@ -289,7 +324,7 @@ pub fn laws_over_pcep()
     ensures certified { OverPcep SolvesCertifyIn }
     ensures quiet { OverPcep QuietIsAnsweredIn }
     ensures under_way { OverPcep WaitsAreUnderWayIn }
-    ensures once { OverPcep RequestsAreAnsweredOnceIn }
-    ensures chain { OverPcep OneChainIn }
-    ensures keys { OverPcep ExpandsRightlyIn }
+    ensures once { InRunsOverPcep RequestsAreAnsweredOnceIn }
+    ensures chain { InRunsOverPcep OneChainIn }
+    ensures keys { InRunsOverPcep ExpandsRightlyIn }
 {}

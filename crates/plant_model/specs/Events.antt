@@ -26,7 +26,7 @@ use Rattle.plant_text.specs.Settings.{Line, line, lines, is_linked, is_element, 
 use Rattle.plant_model.specs.Settings.{inner_ways, ways}
 use Rattle.plant_model.specs.State.{Connection, Access, State, Deed, Pops, Hands}
 use Rattle.plant_model.specs.Deeds as deeds
-use Rattle.plant_model.specs.Deeds.{Going, our_offer, element_of, input_of, with_inbox}
+use Rattle.plant_model.specs.Deeds.{Going, our_offer, as_sid, element_of, input_of, with_inbox}
 
 abbrev pub Answered : Type 0
 Answered = Result Outcome Refused
@@ -117,7 +117,7 @@ module _ (P : Type 0) (S : Type 0) (c : Codec) (n : NetworkParts) (show : S → 
       let a = s.accesses i in
       set_access i (record {
         opened = a.opened + 1;
-        connection = Some (record { holder = holder; session = new_state (our_offer (a.opened % 256)) (record { 0 = s.clock }); framing = record { held = []; bad = false }; inbox = []; out = [] });
+        connection = Some (record { holder = holder; session = new_state (our_offer (as_sid a.opened)) (record { 0 = s.clock }); framing = record { held = []; bad = false }; inbox = []; out = [] });
       }) s
 
   abbrev pub open_new : ℕ → ℕ → State P S → Option Connection → Happened P S

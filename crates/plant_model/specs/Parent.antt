@@ -32,7 +32,7 @@ use Rattle.plant_text.specs.Names.{same_as, parent_as}
 use Rattle.plant_model.specs.Names.{same_id, has_pair}
 use Rattle.plant_model.specs.Rising.{has_addr, insert_addr}
 use Rattle.plant_model.specs.Wire.{Codec, Checked, Admitted, Wrong}
-use Rattle.plant_model.specs.Writing.{request_message, reply_message, error_message, busy, unavailable, no_key, no_path}
+use Rattle.plant_model.specs.Writing.{request_message, reply_message, error_message, busy, unavailable, no_key, none_between}
 use Rattle.plant_model.specs.Branches.{branches_in, path_of}
 use Rattle.plant_model.specs.Element.{Way, way_to, with_last, with_up, after_id, pass_over, lost_output}
 use Rattle.plant_model.specs.Taking.{error_answer}
@@ -339,5 +339,5 @@ job_of f h = record {
 
 -- The answer to the child that asked.
 abbrev pub commit : Codec → AskingRow → Option Found → Parent → Given
-commit c h None k = answered h (reply_message h.1.item.flags h.1.key.id (no_path true true)) k
+commit c h None k = answered h (reply_message h.1.item.flags h.1.key.id none_between) k
 commit c h (Some a) k = answered h (reply_message h.1.item.flags h.1.key.id (Paths (path_of c h.1.item.wanted.query.metric a.cost a.hops ∷ []))) k

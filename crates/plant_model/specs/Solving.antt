@@ -9,7 +9,7 @@ use Rattle.vspt_tree.specs.declared.branch.Best.{Best}
 use Rattle.vspt_tree.specs.declared.branch.Branch.{Branch}
 use Rattle.path_keys.specs.Keys.{Keys, live_most, live_at, issue_of, number_after}
 use Rattle.plant_model.specs.Wire.{Codec}
-use Rattle.plant_model.specs.Writing.{reply_message, busy, no_path}
+use Rattle.plant_model.specs.Writing.{reply_message, busy, no_path, none_between}
 use Rattle.plant_model.specs.Branches.{open_branch, closed_branch, path_of}
 use Rattle.plant_model.specs.Element.{Row, Element, Place, Taken, is_client}
 use Rattle.plant_model.specs.Taking.{answered}
@@ -35,7 +35,7 @@ abbrev pub free : {S : Type 0} → ℕ → Keys S → ℕ
 free now keys = live_most - length (live_at keys now)
 
 abbrev pub closed_reply : {P : Type 0} {S : Type 0} → Codec → Place → Row P → List Branch → ℕ → (Best → S) → Element P S → List Best → Taken P S
-closed_reply c e h down now stands k [] = answered h (reply_message h.1.item.flags h.1.key.id (no_path true true)) k
+closed_reply c e h down now stands k [] = answered h (reply_message h.1.item.flags h.1.key.id none_between) k
 closed_reply c e h down now stands k (b ∷ bs) =
     cond (nat_lt (free now k.keys) (length (b ∷ bs)))
     (answered h (busy h.1.item.flags h.1.key.id) k)

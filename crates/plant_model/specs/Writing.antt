@@ -102,6 +102,10 @@ no_path true false = NoPath no_paths.NONE_FOUND no_paths.UNKNOWN_TARGET
 no_path false true = NoPath no_paths.NONE_FOUND no_paths.UNKNOWN_SOURCE
 no_path false false = NoPath no_paths.NONE_FOUND (no_paths.UNKNOWN_SOURCE + no_paths.UNKNOWN_TARGET)
 
+-- there is none between ends that are known
+abbrev pub none_between : Answer
+none_between = no_path true true
+
 -- a full table, or too few free keys
 abbrev pub busy : ℕ → ℕ → Message
 busy flags id = notice_message flags id notices.BUSY.0 notices.BUSY.1

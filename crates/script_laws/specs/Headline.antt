@@ -27,9 +27,10 @@ all_octets [] = 0
 all_octets (c ∷ cs) = fed_octets c.event + all_octets cs
 
 -- The entries are those of a run. Each path that a client is answered in it is feasible and of least cost among all walks through the
--- asked domains in order, each domain as it stood when its element took the request; where a client is answered NO-PATH of nature 0,
--- none exists. And what closed peers hear is what a network without topologies says on the disclosed trace, which there is: requests,
--- policy and disclosed border costs are all that it has.
+-- asked domains in order, each domain as it stood when its element took the request, or over what an outside peer told that was asked
+-- for the rest of them; where a client is answered NO-PATH of nature 0, none exists. And what closed peers hear is
+-- what a network without topologies says on the disclosed trace, which there is: requests, policy and disclosed border costs are all
+-- that it has.
 pub record IsRight (n : NetworkParts) (es : List Entry) (s : Plant) : Type 0 where
   pub run : Run wire n es s
   pub least : IsShort (deeds_of wire n es) → LeastAnswersIn wire n es s

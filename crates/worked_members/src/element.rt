@@ -15,7 +15,7 @@ use endings::ENDINGS;
 use line_text::{Words, line_count};
 use messages::MESSAGES;
 use pce_element::{Element, Plan, Topologies};
-use plant_model::Lost;
+use plant_model::{Lost, Route};
 use sequences::SEQUENCES;
 use std::alloc::Global;
 use std::test::Fail;
@@ -24,7 +24,7 @@ use te_links::Topology;
 use te_text::read_topology;
 use topologies::topology_text;
 
-// The element of domain 2, whose sessions with domains 1 and 3 are up.
+// The element of domain 2, whose sessions with domains 1 and 3 are up. For domain 7 it asks an outside peer.
 fn new_element(alloc: Global) -> Result<Element<Topologies>, Fail>
     ensures { IfOk result (λ element. element.losing.element.keys.clock ≡ 0) }
 {
@@ -35,7 +35,12 @@ fn new_element(alloc: Global) -> Result<Element<Topologies>, Fail>
         from: As(7),
         next: As(3),
     })?;
-    let mut element = Element::new(alloc, As(2), id, 600, true, &links, deny, List::new(alloc))?;
+    let mut routes = List::new(alloc);
+    routes.push(Route {
+        next: As(7),
+        peer: 7,
+    })?;
+    let mut element = Element::new(alloc, As(2), id, 600, true, &links, deny, routes)?;
     element.up(Peer::Inner(As(1)));
     element.up(Peer::Inner(As(3)));
     Ok(element)

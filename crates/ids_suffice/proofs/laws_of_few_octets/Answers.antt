@@ -7,12 +7,12 @@ use Rattle.plant_laws.specs.Headline.{LeastAnswersIn, NoneAnswersIn}
 use Rattle.plant_laws.specs.Keys.{ExpandsRightlyIn}
 use Rattle.plant_laws.specs.Replies.{LeastRepliesIn, NoneRepliesIn}
 use Rattle.plant_laws.specs.UnderWay.{WaitsAreUnderWayIn}
-use Rattle.plant_laws.proofs.Answering as Answering
-use Rattle.plant_laws.proofs.Chained as Chained
-use Rattle.plant_laws.proofs.EveryWritten.{of_written_net, of_written_net_ids}
-use Rattle.plant_laws.proofs.Expands as Expands
-use Rattle.plant_laws.proofs.OfRun as OfRun
-use Rattle.plant_laws.proofs.UnderWayLaw as UnderWayLaw
+use Rattle.plant_laws.proofs.Once.Answering as Answering
+use Rattle.plant_laws.proofs.Once.Chained as Chained
+use Rattle.plant_laws.proofs.WrittenForm.EveryWritten.{of_written_net, of_written_net_ids}
+use Rattle.plant_laws.proofs.Keys.Expands as Expands
+use Rattle.plant_laws.proofs.Least.OfRun as OfRun
+use Rattle.plant_laws.proofs.Settled.UnderWayLaw as UnderWayLaw
 use Rattle.ids_suffice.proofs.FewOctets.{of_few_octets}
 use Rattle.ids_suffice.proofs.laws_of_few_octets.Goals as goal
 
@@ -25,7 +25,7 @@ returns c = record {
   certified = of_few_octets SolvesCertifyIn (of_written_net SolvesCertifyIn OfRun.solves_certify wire wire_is_codec);
   quiet = of_few_octets QuietIsAnsweredIn (of_written_net_ids QuietIsAnsweredIn UnderWayLaw.quiet_is_answered wire wire_is_codec);
   under_way = of_few_octets WaitsAreUnderWayIn (of_written_net_ids WaitsAreUnderWayIn UnderWayLaw.waits_are_under_way wire wire_is_codec);
-  once = of_few_octets RequestsAreAnsweredOnceIn (of_written_net RequestsAreAnsweredOnceIn Answering.requests_are_answered_once wire wire_is_codec);
-  chain = of_few_octets OneChainIn (of_written_net OneChainIn Chained.one_chain wire wire_is_codec);
-  keys = of_few_octets ExpandsRightlyIn (of_written_net ExpandsRightlyIn Expands.expands_rightly wire wire_is_codec);
+  once = of_few_octets RequestsAreAnsweredOnceIn (λ n net es s run short. Answering.requests_are_answered_once wire wire_is_codec n net es s run);
+  chain = of_few_octets OneChainIn (λ n net es s run short. Chained.one_chain wire wire_is_codec n net es s run);
+  keys = of_few_octets ExpandsRightlyIn (λ n net es s run short. Expands.expands_rightly wire wire_is_codec n net es s run);
 }

@@ -13,8 +13,8 @@
 //!     idle                      no request can be solved
 //!
 //! A message is a name of `messages` or hexadecimal digits. The element has the id 192.0.2.2, sends requests
-//! to domains 1 and 3, to domain 5, whose session never comes up, and to the parent, and denies the step from
-//! domain 7 to domain 3.
+//! to domains 1 and 3, to domain 5, whose session never comes up, to the parent, and for domain 7 to an outside
+//! element, and denies the step from domain 7 to domain 3.
 
 pub const SEQUENCES: &[u8] = b"
 # nothing is ready without requests
@@ -202,6 +202,32 @@ take one 200300340212000c00000040000000010412000c0a0100010a0300090612000c0000020
 # the session with the next domain is not up
 new
 take one 200300340212000c00000040000000010412000c0a0100010a0300090612000c00000202000000000a12000c2004000220040005 one unavailable
+
+# a route leads to an outside element, whose session must be up
+new
+take one ask-out one unavailable
+up seven
+take one ask-out seven sent-out
+take seven unavailable one unavailable
+take seven unavailable seven not-asked
+
+# no inner peer answers what went by a route
+new
+up seven
+take one ask-out seven sent-out
+take three unavailable three not-asked
+take seven busy one busy
+
+# a session with an outside element is lost
+new
+up seven
+take one ask-out seven sent-out
+down seven
+lost one 64 1
+lost
+take one ask-out one unavailable
+up seven
+take seven unavailable seven not-asked
 
 # a step that policy denies
 new
