@@ -4,7 +4,7 @@
 
 ghost use Rattle.client_laws.specs.Asked.{OneIsAsked};
 ghost use Rattle.client_laws.specs.Received.{ManyAreReceived};
-ghost use Rattle.client_laws.specs.Resting.{AskedIsAtRest, FinishedIsAtRest, LinesTakeAll};
+ghost use Rattle.client_laws.specs.Resting.{AskedIsAtRest, AskedIsQuiet, FinishedIsAtRest, LinesTakeAll};
 ghost use Rattle.client_laws.specs.Served.{TakenIsOpen, TakenIsServed};
 ghost use Rattle.client_laws.specs.Told.{ClientsAreTold};
 
@@ -29,11 +29,13 @@ pub fn many_are_received()
 {}
 
 /// Between the lines of a script all that was fed was taken; and where a script ends with `finish`, the network is at rest: no message
-/// is on its way along a link, and no job can be solved. So it is where a client has asked once.
+/// is on its way along a link, and no job can be solved. So it is where a client has asked once, and then it is quiet: nothing stands
+/// elsewhere either.
 pub fn finished_is_at_rest()
     ensures taken { LinesTakeAll }
     ensures rest { FinishedIsAtRest }
     ensures asked { AskedIsAtRest }
+    ensures quiet { AskedIsQuiet }
 {}
 
 /// Each request for a path that is taken and admitted is answered by the deed that took it, or is open from then on; and in a quiet
