@@ -32,18 +32,19 @@ use Rattle.script_laws.specs.plant_laws.MessageCauses.{OnRequest}
 use Rattle.script_laws.specs.plant_laws.MessageCauses as causes
 use Rattle.script_laws.specs.plant_laws.Transcript.{Delivered, Transcript, Within}
 use Rattle.script_laws.specs.plant_play.Turns.{entries_of}
+use Rattle.script_laws.proofs.Rightly.{scripts_are_right}
 use Rattle.script_laws.proofs.plant_laws.plant_model.WireLaws.{wire_is_codec}
-use Rattle.script_laws.proofs.plant_laws.AskedRuns.{none_outside}
-use Rattle.script_laws.proofs.plant_laws.MomentCauses.{HasOne, IsOpening, moment_cause}
-use Rattle.script_laws.proofs.plant_laws.OutsideStays.{none_dropped, opening_harmless}
-use Rattle.script_laws.proofs.plant_laws.Queues.{same_as_is}
+use Rattle.script_laws.proofs.plant_laws.Once.AskedRuns.{none_outside}
+use Rattle.script_laws.proofs.plant_laws.Reasons.MomentCauses.{HasOne, IsOpening, moment_cause}
+use Rattle.script_laws.proofs.plant_laws.Reasons.OutsideStays.{none_dropped, opening_harmless}
+use Rattle.script_laws.proofs.plant_laws.Runs.Queues.{same_as_is}
 use Rattle.plant_bulk.specs.plant_client.declared.question.Question.{Question}
 use Rattle.plant_bulk.specs.plant_client.Asking.{Asks, topologies}
 use Rattle.plant_bulk.specs.plant_client.Questions.{asked_of, question_message}
 use Rattle.peer_laws.proofs.OutletRuns.{run_fits}
-use Rattle.client_laws.proofs.Asking.{no_connection}
+use Rattle.client_laws.proofs.Asking.{lines_feed, no_connection}
 use Rattle.client_laws.proofs.Opening.{Ends, IsNone, Walks, loading}
-use Rattle.client_laws.proofs.Resting.{asked_is_quiet, asked_run}
+use Rattle.client_laws.proofs.Resting.{asked_is_quiet}
 use Rattle.client_laws.proofs.Serving.{taken_is_served}
 use Rattle.client_laws.specs.Answered.{HasAnswer, IsReadSo, IsTakenUp, QuestionIsAnswered, QuestionIsTaken, QuestionsAreRead, answered, refused}
 use Rattle.client_laws.specs.Served.{IsServed, at_once, dropped, later}
@@ -164,7 +165,8 @@ question_is_answered files n client q received net is fits a short = go (check_o
     d' = element_of n client
 
     run : Run wire n (entries_of a.lines.turns []) a.asked.state
-    run = asked_run files n client q received net a
+    run =
+        (scripts_are_right n net a.start a.asked a.lines.cues a.lines.turns a.lines.told a.new (lines_feed (topologies n.elements) client q a.octets files a.lines.cues a.lines.are_cues) a.lines.played).0.run
 
     t : IsTakenUp n (entries_of a.lines.turns []) client q
     t = question_is_taken files n client q received net is fits a

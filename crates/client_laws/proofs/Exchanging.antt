@@ -29,7 +29,7 @@ use Rattle.script_laws.specs.plant_play.Playing.{Cue, Plays, PlaysLine, PlaysOne
 use Rattle.script_laws.specs.plant_play.Scripts.{AllPlayed}
 use Rattle.script_laws.specs.plant_play.Turns.{Turn, entries_of}
 use Rattle.script_laws.proofs.plant_laws.plant_model.WireLaws.{wire_is_codec}
-use Rattle.script_laws.proofs.plant_laws.EveryWritten.{every_written}
+use Rattle.script_laws.proofs.plant_laws.WrittenForm.EveryWritten.{every_written}
 use Rattle.plant_bulk.specs.plant_client.declared.question.Question.{Question}
 use Rattle.plant_bulk.specs.plant_client.Asking.{AreCues, Exchanges, asking_lines, received_in, topologies}
 use Rattle.plant_bulk.specs.plant_client.Hearing.{heard_in}

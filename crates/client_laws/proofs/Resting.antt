@@ -21,10 +21,9 @@ use Rattle.script_laws.specs.plant_model.Blind.{is_accepted}
 use Rattle.script_laws.specs.plant_model.Element as element
 use Rattle.script_laws.specs.plant_model.Element.{Item}
 use Rattle.script_laws.specs.plant_model.Events.{Answered, has_jobs, is_ready, is_ready_asking, is_ready_row, jobs_at, jobs_of, ready_jobs}
-use Rattle.script_laws.specs.plant_model.Laws.{IsNetwork}
 use Rattle.script_laws.specs.plant_model.Names.{is_empty}
 use Rattle.script_laws.specs.plant_model.Parent as parent
-use Rattle.script_laws.specs.plant_model.Plant.{Happened, Happens, Pin, Plant, Run}
+use Rattle.script_laws.specs.plant_model.Plant.{Happened, Happens, Pin, Plant}
 use Rattle.script_laws.specs.plant_model.RealWire.{wire}
 use Rattle.script_laws.specs.plant_model.State.{Connection}
 use Rattle.script_laws.specs.plant_model.Wire.{Bytes}
@@ -39,14 +38,14 @@ use Rattle.script_laws.specs.plant_play.Due.{AreAllDue, AreDue, IsDue, IsDueTake
 use Rattle.script_laws.specs.plant_play.Playing.{Changes, Cue, IsNewStage, Plays, PlaysDue, PlaysFeed, PlaysFeedAt, PlaysLine, PlaysNone, PlaysOne, Stage}
 use Rattle.script_laws.specs.plant_play.Scripts.{AllPlayed}
 use Rattle.script_laws.specs.plant_play.Turns.{Turn, entries_of}
-use Rattle.script_laws.proofs.plant_laws.Queues.{same_as_is}
-use Rattle.script_laws.proofs.plant_laws.Resting.{rest_is_quiet}
-use Rattle.script_laws.proofs.plant_laws.plant_model.WireLaws.{wire_is_codec}
-use Rattle.script_laws.proofs.Rightly.{scripts_are_right}
+use Rattle.script_laws.proofs.plant_laws.Runs.Queues.{same_as_is}
 use Rattle.plant_bulk.specs.plant_client.declared.question.Question.{Question}
-use Rattle.plant_bulk.specs.plant_client.Asking.{AreCues, Asks, load_line, question_lines, topologies}
+use Rattle.plant_bulk.specs.plant_client.Asking.{AreCues, load_line, question_lines, topologies}
 use Rattle.plant_bulk.specs.plant_client.Questions.{opening_text, question_text}
 use Rattle.peer_laws.proofs.OutletRuns.{run_fits}
+use Rattle.script_laws.proofs.Rightly.{scripts_are_right}
+use Rattle.script_laws.proofs.plant_laws.Settled.Resting.{rest_is_quiet}
+use Rattle.script_laws.proofs.plant_laws.plant_model.WireLaws.{wire_is_codec}
 use Rattle.client_laws.proofs.Asking.{lines_feed, no_connection}
 use Rattle.client_laws.proofs.Taking as taking
 use Rattle.client_laws.proofs.Taking.{AreTakenBut, Keeps}
@@ -325,12 +324,8 @@ asked_is_at_rest files n client q received a =
     (loads_first files (topologies n.elements) (question_lines client q) (question_rests files client q) a.lines.cues a.lines.are_cues a.start a.asked a.lines.turns a.lines.told a.lines.played
     (new_is_taken n a.start a.new))
 
--- what the client's lines are is a run
-pub asked_run : (files : Option Files) (n : NetworkParts) (client : ℕ) (q : Question) (received : List ℕ) → IsNetwork n → (a : Asks files n client q received) → Run wire n (entries_of a.lines.turns []) a.asked.state
-asked_run files n client q received net a =
-    let octets = lines_feed (topologies n.elements) client q a.octets files a.lines.cues a.lines.are_cues in
-    (scripts_are_right n net a.start a.asked a.lines.cues a.lines.turns a.lines.told a.new octets a.lines.played).0.run
-
 pub asked_is_quiet : AskedIsQuiet
 asked_is_quiet files n client q received net a =
-    rest_is_quiet wire wire_is_codec n net (entries_of a.lines.turns []) a.asked.state (asked_run files n client q received net a) (asked_is_at_rest files n client q received a)
+    let octets = lines_feed (topologies n.elements) client q a.octets files a.lines.cues a.lines.are_cues in
+    let right = scripts_are_right n net a.start a.asked a.lines.cues a.lines.turns a.lines.told a.new octets a.lines.played in
+    rest_is_quiet wire wire_is_codec n net (entries_of a.lines.turns []) a.asked.state right.0.run (asked_is_at_rest files n client q received a)

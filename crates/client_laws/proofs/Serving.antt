@@ -21,11 +21,11 @@ use Rattle.script_laws.specs.plant_laws.Answered as once
 use Rattle.script_laws.specs.plant_laws.Sending.{AllSent}
 use Rattle.script_laws.specs.plant_laws.Chains.{is_pending}
 use Rattle.script_laws.specs.plant_laws.Transcript.{Begins, Delivered, Effect, Ends, Keeps, Transcript, after, answers_to, begins, begins_if, effect, opened}
-use Rattle.script_laws.proofs.plant_laws.Answering.{requests_are_answered_once}
-use Rattle.script_laws.proofs.plant_laws.EveryWritten.{every_written}
-use Rattle.script_laws.proofs.plant_laws.Moments.{opened_within, within_trans}
-use Rattle.script_laws.proofs.plant_laws.NumberRuns.{peer_self}
-use Rattle.script_laws.proofs.plant_laws.UnderWayLaw.{quiet_has_none_pending}
+use Rattle.script_laws.proofs.plant_laws.Once.Answering.{requests_are_answered_once}
+use Rattle.script_laws.proofs.plant_laws.WrittenForm.EveryWritten.{every_written}
+use Rattle.script_laws.proofs.plant_laws.Runs.Moments.{opened_within, within_trans}
+use Rattle.script_laws.proofs.plant_laws.Numbering.NumberRuns.{peer_self}
+use Rattle.script_laws.proofs.plant_laws.Settled.UnderWayLaw.{quiet_has_none_pending}
 use Rattle.client_laws.specs.Served.{IsServed, IsTaken, TakenIsOpen, TakenIsServed}
 use Rattle.client_laws.specs.Served as served
 

@@ -1,4 +1,4 @@
--- That the line `finish` of a script leaves a network at rest, so that it is quiet.
+-- The line `finish` of a script leaves a network at rest.
 use Rattle.std.specs.Prelude.{◌≡◌, ℕ, List, Option}
 use Rattle.dom_edge.specs.Stores.{Files}
 use Rattle.plant_text.specs.declared.line.LineEvent.TheVariants as line
@@ -32,6 +32,7 @@ FinishedIsAtRest =
 abbrev pub AskedIsAtRest : Type 0
 AskedIsAtRest = (files : Option Files) (n : NetworkParts) (client : ℕ) (question : Question) (received : List ℕ) → (a : Asks files n client question received) → IsAtRest n a.asked.state
 
--- and quiet
+-- And where the settings are those of a network, it is quiet: nothing stands elsewhere either.
 abbrev pub AskedIsQuiet : Type 0
-AskedIsQuiet = (files : Option Files) (n : NetworkParts) (client : ℕ) (question : Question) (received : List ℕ) → IsNetwork n → (a : Asks files n client question received) → IsQuiet a.asked.state
+AskedIsQuiet =
+    (files : Option Files) (n : NetworkParts) (client : ℕ) (question : Question) (received : List ℕ) → IsNetwork n → (a : Asks files n client question received) → IsQuiet a.asked.state

@@ -27,8 +27,8 @@ use Rattle.plant_laws.specs.plant_model.Solving.{commit}
 use Rattle.plant_laws.specs.plant_model.Parent as parent
 use Rattle.plant_laws.specs.plant_model.Routes.{routes}
 use Rattle.plant_laws.specs.plant_model.Settings.{place, family, inner_ways, way, ways_along}
-use Rattle.plant_laws.proofs.AllWritten.{ways_fit_all}
-use Rattle.plant_laws.proofs.Heeding.{asks_read, single_back}
+use Rattle.plant_laws.proofs.WrittenForm.AllWritten.{ways_fit_all}
+use Rattle.plant_laws.proofs.Runs.Heeding.{asks_read, single_back}
 use Rattle.plant_laws.specs.plant_model.State.{Loads, Pops, Takes, Says, Ups, Downs, Clears, Solves, Expires, Hands}
 use Rattle.plant_laws.specs.plant_model.Deeds.{Going, element_of, own_message, with_parent, with_element, puts, give, rise, fall, clear}
 use Rattle.plant_laws.specs.plant_model.Events as events
@@ -36,16 +36,16 @@ use Rattle.plant_laws.specs.plant_model.Plant.{Pin, Segment, first_pin, Plant, P
 use Rattle.plant_laws.specs.Transcript.{Transcript, asks}
 use Rattle.plant_laws.specs.Sending.{AllSent}
 use Rattle.plant_laws.specs.Reading.{AreRead}
-use Rattle.plant_laws.proofs.Acts.{popped, Acts, rests, hears, carries, nods, hands, rises, falls, says, clears, expires}
-use Rattle.plant_laws.proofs.Induction.{run_holds}
-use Rattle.plant_laws.proofs.Handing.{IsAsk}
-use Rattle.plant_laws.proofs.Takes.{IsSingle, own_is}
-use Rattle.plant_laws.proofs.Inboxes.{AreOutsideSingle, run_outside}
-use Rattle.plant_laws.proofs.Sent.{run_sent}
-use Rattle.plant_laws.proofs.Opened.{puts_elements}
-use Rattle.plant_laws.proofs.Onward.{none_lost, calm_commit}
-use Rattle.plant_laws.proofs.Reading as Reading
-use Rattle.plant_laws.proofs.ElementSays.{WaysOk, ways_up}
+use Rattle.plant_laws.proofs.Runs.Acts.{popped, Acts, rests, hears, carries, nods, hands, rises, falls, says, clears, expires}
+use Rattle.plant_laws.proofs.Runs.Induction.{run_holds}
+use Rattle.plant_laws.proofs.Once.Handing.{IsAsk}
+use Rattle.plant_laws.proofs.Once.Takes.{IsSingle, own_is}
+use Rattle.plant_laws.proofs.Runs.Inboxes.{AreOutsideSingle, run_outside}
+use Rattle.plant_laws.proofs.WrittenForm.Sent.{run_sent}
+use Rattle.plant_laws.proofs.Once.Opened.{puts_elements}
+use Rattle.plant_laws.proofs.Numbering.Onward.{none_lost, calm_commit}
+use Rattle.plant_laws.proofs.Runs.Reading as Reading
+use Rattle.plant_laws.proofs.WrittenForm.ElementSays.{WaysOk, ways_up}
 use Rattle.ids_suffice.specs.Counting.{HasNoParent, heard_in, heard}
 use Rattle.ids_suffice.proofs.Below.{below_none}
 use Rattle.ids_suffice.proofs.Heavy.{Queues, as_of, message_heavy, read_heavy, queue_heavy, row, grid, grid_no_more, popped_less}

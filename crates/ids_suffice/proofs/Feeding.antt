@@ -29,7 +29,7 @@ use Rattle.plant_laws.specs.plant_model.Deeds.{Going, element_of, is_due, is_tic
 use Rattle.plant_laws.specs.plant_model.Outside.{heeded}
 use Rattle.plant_laws.specs.plant_model.Events as events
 use Rattle.plant_laws.specs.plant_model.Plant.{Pin, Segment, PlantDeed}
-use Rattle.plant_laws.proofs.Shape.{has_pass, shape}
+use Rattle.plant_laws.proofs.Runs.Shape.{has_pass, shape}
 use Rattle.ids_suffice.specs.Counting.{heard}
 use Rattle.ids_suffice.proofs.Putting.{Core}
 

@@ -12,7 +12,7 @@ use Rattle.plant_text.specs.Names.{same_as, parent_as}
 use Rattle.plant_laws.specs.plant_model.Names.{set_pair}
 use Rattle.plant_laws.specs.plant_model.Wire.{Bytes, Codec, Checked, Admitted, Wrong}
 use Rattle.plant_laws.specs.plant_model.Taking.{sequence_or}
-use Rattle.plant_laws.proofs.Queues.{same_as_is}
+use Rattle.plant_laws.proofs.Runs.Queues.{same_as_is}
 use Rattle.ids_suffice.proofs.Steps.{route_heavy}
 use Rattle.ids_suffice.proofs.Below.{below, below_le, below_more, below_less, below_grows}
 

@@ -29,8 +29,8 @@ use Rattle.plant_laws.specs.plant_model.Writing.{reply_message, error_message, u
 use Rattle.plant_laws.specs.plant_model.Taking.{error_answer}
 use Rattle.plant_laws.specs.plant_model.BorderGraph.{Found}
 use Rattle.plant_laws.specs.plant_model.Parent.{Parent, Family, Given, AskingRow, each, errands, ask_all, all_waits, all_up, take, take_asked, take_checked, take_new, take_wish, take_path, take_reply, take_found, take_answer, take_notice, notice_steps, take_busy, take_cancel, told_busy, cancelled, take_report, take_errors, take_failure, told_error, only, waiting, commit}
-use Rattle.plant_laws.proofs.Sends.{NoneAsks}
-use Rattle.plant_laws.proofs.Onward.{none_append}
+use Rattle.plant_laws.proofs.Numbering.Sends.{NoneAsks}
+use Rattle.plant_laws.proofs.Numbering.Onward.{none_append}
 use Rattle.ids_suffice.specs.Counting.{HasNoParent}
 
 pick : (b : Bool) (t u : Given) → NoneAsks t.outputs → NoneAsks u.outputs → NoneAsks (cond b t u).outputs

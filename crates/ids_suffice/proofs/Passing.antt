@@ -30,12 +30,12 @@ use Rattle.plant_laws.specs.plant_model.Routes.{toward}
 use Rattle.plant_laws.specs.plant_model.Taking.{take, sequence_or}
 use Rattle.plant_laws.specs.plant_model.Plant.{Pin, Segment}
 use Rattle.plant_laws.specs.Sending.{AreAll}
-use Rattle.plant_laws.proofs.Takes.{IsSingle}
+use Rattle.plant_laws.proofs.Once.Takes.{IsSingle}
 use Rattle.plant_laws.specs.Transcript.{one_if}
-use Rattle.plant_laws.proofs.FromElement.{admits_path, later_sequence, real_next}
-use Rattle.plant_laws.proofs.ElementSays.{IsId, WaysOk, WayOk, next_fits, next_some, ways_last, way_fits}
-use Rattle.plant_laws.proofs.NumberRuns.{toward_inner}
-use Rattle.plant_laws.proofs.Onward.{IsCalm, SendsOne, GoesTo, Of, take_of, way_peer}
+use Rattle.plant_laws.proofs.Least.FromElement.{admits_path, later_sequence, real_next}
+use Rattle.plant_laws.proofs.WrittenForm.ElementSays.{IsId, WaysOk, WayOk, next_fits, next_some, ways_last, way_fits}
+use Rattle.plant_laws.proofs.Numbering.NumberRuns.{toward_inner}
+use Rattle.plant_laws.proofs.Numbering.Onward.{IsCalm, SendsOne, GoesTo, Of, take_of, way_peer}
 use Rattle.ids_suffice.proofs.Heavy.{checked_heavy, asked_heavy, message_heavy, read_heavy}
 use Rattle.ids_suffice.proofs.Steps.{goes, route_heavy, few_routes, alone_routes, up_steps, on_steps}
 use Rattle.ids_suffice.proofs.Putting.{asked_by, one_asked, IsFair, IsMeant, Passes, passes_none, passes_one, passes_more}

@@ -20,8 +20,8 @@ use Rattle.plant_laws.specs.plant_model.Deeds.{put_to, put, puts}
 use Rattle.plant_laws.specs.plant_model.Plant.{Pin, Segment}
 use Rattle.plant_laws.specs.Sending.{AreAll}
 use Rattle.plant_laws.specs.Transcript.{put_into, count_asks, one_if}
-use Rattle.plant_laws.proofs.Handing.{IsAsk}
-use Rattle.plant_laws.proofs.Sends.{NoneAsks}
+use Rattle.plant_laws.proofs.Once.Handing.{IsAsk}
+use Rattle.plant_laws.proofs.Numbering.Sends.{NoneAsks}
 use Rattle.ids_suffice.proofs.Heavy.{Queues, read_heavy, queue_heavy, heavy_append, grid, grid_more}
 
 abbrev pub Core : Type 0

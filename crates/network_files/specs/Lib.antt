@@ -1,4 +1,5 @@
 -- for readers
+pub mod Loading
 pub mod Reading
 pub mod Settings
 pub mod Topologies

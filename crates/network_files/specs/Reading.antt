@@ -4,12 +4,14 @@ use Rattle.dom_base.specs.declared.names.As.{As}
 use Rattle.te_links.specs.Rows.{Rows}
 use Rattle.te_text.specs.declared.error.TextError.TheVariants as text
 use Rattle.te_text.specs.Reads.{IsFaulty, Reads}
+use Rattle.te_text.specs.TopologyText.{rows_in_order}
 use Rattle.te_deltas.specs.declared.changes.Change.{Change}
 use Rattle.te_deltas.specs.declared.making.ChangeError.{ChangeError}
 use Rattle.te_deltas.specs.declared.making.ChangeError.TheVariants as change
 use Rattle.te_deltas.specs.Answers.{IsWhy}
 use Rattle.te_deltas.specs.Blame.{IsBlamedAt}
 use Rattle.te_deltas.specs.ChangeText.{text_in}
+use Rattle.te_deltas.specs.Changes.{CanBeMade}
 use Rattle.plant_text.specs.declared.fault.NetFault.{NetFault}
 use Rattle.plant_text.specs.declared.fault.NetFault.TheVariants as fault
 use Rattle.network_files.specs.declared.error.FileError.{FileError}
@@ -58,18 +60,19 @@ pub record CannotChange (g : Rows) (changes : List Change) (file : List ℕ) (li
   pub told : fault_of why ≡ Some fault
   pub blamed : IsBlamedAt g changes file why line
 
--- the same, unless memory lacks
+-- the same; or memory lacks, and every change can be made
 abbrev pub IsRefusal : Rows → List Change → List ℕ → FileError → Type 0
 IsRefusal g changes file (BadFile line fault) = CannotChange g changes file line fault
-IsRefusal g changes file NoMemory = Unit {0}
+IsRefusal g changes file NoMemory = CanBeMade (rows_in_order g) changes
 
 -- the changes can't be made, or the topology is of another domain
 abbrev pub IsChangeFault : As → Rows → List Change → List ℕ → ℕ → NetFault → Type 0
 IsChangeFault at g changes file line why = CannotChange g changes file line why ⊎ ((line ≡ 1) × (why ≡ fault.OtherAs) × (g.own ≢ at))
 
+-- the same; or memory lacks, where the topology is of the domain and every change can be made
 abbrev pub IsWhyNoChange : As → Rows → List Change → List ℕ → FileError → Type 0
 IsWhyNoChange at g changes file (BadFile line fault) = IsChangeFault at g changes file line fault
-IsWhyNoChange at g changes file NoMemory = Unit {0}
+IsWhyNoChange at g changes file NoMemory = (g.own ≡ at) × CanBeMade (rows_in_order g) changes
 
 -- the file of changes is refused, or they can't be made, or the topology is of another domain
 abbrev pub IsWhyNotChanged : As → Rows → List ℕ → FileError → Type 0

@@ -3,11 +3,9 @@
 #![tactic(auto)]
 
 mod error;
+mod loading;
 mod reading;
-mod settings;
-mod topology;
 
 pub use error::FileError;
+pub use loading::{LineFault, LoadError, SETTINGS_MAX, TOPOLOGY_MAX, load_network, load_topology};
 pub use reading::{changed_of, changes_of, topology_of};
-pub use settings::{SETTINGS_MAX, SettingsError, load_network};
-pub use topology::{TOPOLOGY_MAX, TopologyError, load_topology};

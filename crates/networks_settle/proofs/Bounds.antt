@@ -27,12 +27,12 @@ use Rattle.plant_laws.specs.Sending.{AllSent}
 use Rattle.plant_laws.specs.About.{IsShort}
 use Rattle.plant_laws.specs.Standing.{messages as messages_of, texts}
 use Rattle.plant_laws.specs.Transcript.{Standing, Transcript, standing}
-use Rattle.plant_laws.proofs.Rows.{In}
-use Rattle.plant_laws.proofs.ReadBack.{standing_sent, run_tables}
-use Rattle.plant_laws.proofs.Queues.{queues_stand}
-use Rattle.plant_laws.proofs.AllWritten.{IsAlone, sent_alone}
-use Rattle.plant_laws.proofs.EveryWritten.{every_written}
-use Rattle.plant_laws.proofs.FromElement.{admits_path}
+use Rattle.plant_laws.proofs.Runs.Rows.{In}
+use Rattle.plant_laws.proofs.WrittenForm.ReadBack.{standing_sent, run_tables}
+use Rattle.plant_laws.proofs.Runs.Queues.{queues_stand}
+use Rattle.plant_laws.proofs.WrittenForm.AllWritten.{IsAlone, sent_alone}
+use Rattle.plant_laws.proofs.WrittenForm.EveryWritten.{every_written}
+use Rattle.plant_laws.proofs.Least.FromElement.{admits_path}
 use Rattle.networks_settle.specs.Settling.{total, ends, cost, checked_weight, above_weight, asked_weight, read_weight, queue_weight, queues_weight, pending_count, weight, errands_most, message_count, message_most, WeighsAtMost, MessagesAreLight, FewFollow}
 
 -- ---- lists of domains, and of ends of interest

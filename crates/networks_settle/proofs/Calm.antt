@@ -32,7 +32,7 @@ use Rattle.plant_laws.specs.plant_model.State.{State, Connection, Takes, Ups, Do
 use Rattle.plant_laws.specs.plant_model.Deeds.{Going, element_of, is_due, is_tick, is_out_empty, with_session, with_inbox, put, put_to, puts, with_element, with_parent, with_access, give, rise, fall, say, outside_act, outside_acts, outside_step, outside_input, tick_outside}
 use Rattle.plant_laws.specs.plant_model.Plant.{Pin, Segment, PlantDeed}
 use Rattle.plant_laws.specs.Sending.{AllSent, AreAll}
-use Rattle.plant_laws.proofs.Queues.{same_as_is}
+use Rattle.plant_laws.proofs.Runs.Queues.{same_as_is}
 use Rattle.networks_settle.specs.Settling.{is_ordinary, IsOrdinary, Holds, Reaches, KeepsTo, TablesReach, IsUp, LinksAreCalm}
 use Rattle.networks_settle.proofs.Pairs.{same_back, set_all}
 use Rattle.networks_settle.proofs.Reaching.{AreSound, keeps_on}

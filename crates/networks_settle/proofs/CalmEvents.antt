@@ -28,7 +28,7 @@ use Rattle.plant_laws.specs.plant_model.Element.{Way, way_to}
 use Rattle.plant_laws.specs.plant_model.Parent as parent
 use Rattle.plant_laws.specs.plant_model.Routes.{routes}
 use Rattle.plant_laws.specs.plant_model.Settings.{inner_ways, place, way, ways, ways_along}
-use Rattle.plant_laws.proofs.Unrouted.{way_inside}
+use Rattle.plant_laws.proofs.Runs.Unrouted.{way_inside}
 use Rattle.plant_laws.specs.plant_model.Solving as solving
 use Rattle.plant_laws.specs.plant_model.State.{Connection, Loads, Pops, Takes, Says, Ups, Downs, Clears, Solves, Expires, Hands}
 use Rattle.plant_laws.specs.plant_model.Deeds as deeds
@@ -38,8 +38,8 @@ use Rattle.plant_laws.specs.plant_model.Events.{is_down}
 use Rattle.plant_laws.specs.plant_model.Plant.{Pin, Segment, first_pin, Plant, PlantDeed, Happened, Entry, Run, deeds_of, is_full, ElementSolves, ParentSolves, Happens, Steps}
 use Rattle.plant_laws.specs.Sending.{AreAll, DeedSends, AllSent}
 use Rattle.request_table.specs.Pending.{same_peer}
-use Rattle.plant_laws.proofs.Queues.{same_as_is}
-use Rattle.plant_laws.proofs.EveryWritten.{every_written}
+use Rattle.plant_laws.proofs.Runs.Queues.{same_as_is}
+use Rattle.plant_laws.proofs.WrittenForm.EveryWritten.{every_written}
 use Rattle.networks_settle.specs.Settling.{Holds, Reaches, AllReach, KeepsTo, TablesReach, IsUp, RunsAreCalm, CarriesBreakNothing}
 use Rattle.networks_settle.proofs.Pairs.{AllApart, both, both_flips, first_apart, same_back, same_self, set_here, set_other}
 use Rattle.networks_settle.proofs.ElementsReach as elements

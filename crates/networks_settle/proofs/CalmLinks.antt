@@ -25,7 +25,7 @@ use Rattle.plant_laws.specs.plant_model.Laws.{IsCodec}
 use Rattle.plant_laws.specs.plant_model.State.{Pops}
 use Rattle.plant_laws.specs.plant_model.Deeds.{own_message, our_offer, is_due, is_tick, any_fall, read_as, put_to, with_inner, fall, say, clear, inner_acts, inner_input, begin_line, break_line, tick_lines}
 use Rattle.plant_laws.specs.plant_model.Plant.{Pin, Segment}
-use Rattle.plant_laws.proofs.InForm.{own_written}
+use Rattle.plant_laws.proofs.WrittenForm.InForm.{own_written}
 use Rattle.networks_settle.specs.Settling.{IsOpen, IsKeepalive, IsOrdinary, Holds, TablesReach, IsUp}
 use Rattle.networks_settle.proofs.Pairs.{AllApart, both, both_are, both_flips, first_apart, second_apart, same_back, set_here, set_other, set_all}
 use Rattle.networks_settle.proofs.Turns.{ticks, Hears, opens, rises, keeps, passes, opened_sends, risen_holds, up_reads}

@@ -33,7 +33,7 @@ use Rattle.plant_laws.specs.plant_model.Routes.{toward}
 use Rattle.plant_laws.specs.plant_model.Taking.{sequence_or, goes_up, send_on, sent_on, take_along, take_path, take_wish, take_new, take_checked, take_asked, staged, answered, made_ready, take_answer, take_reply, told_busy, cancelled, take_busy, take_cancel, notice_steps, take_notice, error_answer, told_error, take_failure, take_errors, take_report, take, denied, expansion}
 use Rattle.plant_laws.specs.plant_model.Solving.{commit, client_reply, closed_reply, closed_paths, issued_all, free}
 use Rattle.plant_laws.specs.plant_model.Parent as parent
-use Rattle.plant_laws.proofs.Onward.{way_peer}
+use Rattle.plant_laws.proofs.Numbering.Onward.{way_peer}
 use Rattle.networks_settle.specs.Settling.{Reaches, AllReach, KeepsTo, is_ordinary}
 use Rattle.networks_settle.proofs.Reaching.{AreSound, sound_append, all_append, all_removed, all_written, last_up, upped_keeps, downed_keeps}
 

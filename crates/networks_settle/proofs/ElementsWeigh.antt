@@ -39,9 +39,9 @@ use Rattle.plant_laws.specs.plant_model.declared.route.Route.{Route}
 use Rattle.plant_laws.specs.plant_model.Routes.{toward}
 use Rattle.plant_laws.specs.plant_model.Taking.{item_of, sequence_or, goes_up, send_on, sent_on, take_along, take_path, take_wish, take_new, take_checked, take_asked, staged, answered, made_ready, take_answer, take_reply, told_busy, cancelled, take_busy, take_cancel, notice_steps, take_notice, error_answer, told_error, take_failure, take_errors, take_report, take, denied, expansion}
 use Rattle.plant_laws.specs.plant_model.Solving.{commit, client_reply, closed_reply, closed_paths, issued_all, free}
-use Rattle.plant_laws.proofs.Onward.{way_peer}
-use Rattle.plant_laws.proofs.FromElement.{own_sequence, later_sequence, admits_path}
-use Rattle.plant_laws.proofs.ElementSays.{WaysOk, ways_last, WayOk, way_fits, next_fits, next_some}
+use Rattle.plant_laws.proofs.Numbering.Onward.{way_peer}
+use Rattle.plant_laws.proofs.Least.FromElement.{own_sequence, later_sequence, admits_path}
+use Rattle.plant_laws.proofs.WrittenForm.ElementSays.{WaysOk, ways_last, WayOk, way_fits, next_fits, next_some}
 use Rattle.networks_settle.specs.Settling.{total, cost, asked_weight, checked_weight, above_weight}
 use Rattle.networks_settle.proofs.Sums.{total_all, opened_length, removed_less, written_length, first_closes, later_closes}
 use Rattle.networks_settle.proofs.Weighing.{peer_weight, IsAtMost, reply_light, busy_light, error_light, light_more, Weighs, rests_weigh, then_weigh, more_weigh, only_weigh, ended_weigh, same_weigh, fewer_weigh, IsLighter, ended_lighter}

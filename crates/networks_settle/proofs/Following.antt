@@ -33,13 +33,13 @@ use Rattle.plant_laws.specs.plant_model.Parent.{is_up}
 use Rattle.plant_laws.specs.plant_model.Outside.{heeded}
 use Rattle.plant_laws.specs.plant_model.Routes.{routes}
 use Rattle.plant_laws.specs.plant_model.Settings.{place, family, inner_ways, way, ways, ways_along}
-use Rattle.plant_laws.proofs.Unrouted.{way_inside}
+use Rattle.plant_laws.proofs.Runs.Unrouted.{way_inside}
 use Rattle.plant_laws.specs.plant_model.State.{Connection, Downs, Ups, Takes, Pops}
 use Rattle.plant_laws.specs.plant_model.Deeds.{Going, our_offer, own_message, element_of, is_due, is_tick, is_out_empty, any_fall, with_session, with_inbox, input_of, with_access, with_element, with_parent, with_inner, put, puts, give, rise, fall, say, clear, outside_act, outside_acts, outside_step, outside_input, inner_act, inner_acts, inner_input, begin_end, break_line, tick_outside, tick_lines}
 use Rattle.plant_laws.specs.plant_model.Events as events
 use Rattle.plant_laws.specs.plant_model.Events.{is_down}
 use Rattle.plant_laws.specs.plant_model.Plant.{Pin, Segment, first_pin, Plant, Happened, Entry, Run, Happens, is_full}
-use Rattle.plant_laws.proofs.Queues.{same_as_is}
+use Rattle.plant_laws.proofs.Runs.Queues.{same_as_is}
 use Rattle.networks_settle.specs.Following.{ways_of, WaysFollowSessions}
 use Rattle.networks_settle.proofs.Pairs.{AllApart, set_all}
 use Rattle.networks_settle.proofs.Lines.{lines_apart, linked_apart, line_ends_apart}

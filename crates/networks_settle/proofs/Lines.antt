@@ -9,7 +9,7 @@ use Rattle.plant_text.specs.declared.settings.ElementRow.{ElementRow}
 use Rattle.plant_text.specs.Names.{same_as, same_link, parent_as, insert_as}
 use Rattle.plant_text.specs.Settings.{Line, line, lines, before_line, insert_line, sorted, upward, has_line, children, children_of, elements_of, is_element, row_of}
 use Rattle.plant_laws.specs.plant_model.Laws.{IsNetwork, IsElement}
-use Rattle.plant_laws.proofs.Queues.{same_as_is}
+use Rattle.plant_laws.proofs.Runs.Queues.{same_as_is}
 use Rattle.networks_settle.proofs.Pairs.{AllApart, same_self, same_back}
 
 never : (b : Bool) → b ≡ false → b ≡ true → ⊥

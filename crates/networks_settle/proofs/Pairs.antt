@@ -5,7 +5,7 @@ use Rattle.dom_base.specs.declared.names.As.{As}
 use Rattle.plant_text.specs.Names.{same_as}
 use Rattle.plant_text.specs.Settings.{Line}
 use Rattle.plant_laws.specs.plant_model.Names.{set_pair}
-use Rattle.plant_laws.proofs.Queues.{same_as_is}
+use Rattle.plant_laws.proofs.Runs.Queues.{same_as_is}
 
 -- both ends of each link differ
 abbrev pub AllApart : List Line → Type 0

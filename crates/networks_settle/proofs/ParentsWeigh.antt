@@ -39,8 +39,8 @@ use Rattle.plant_laws.specs.plant_model.Element.{Way, way_to, with_last}
 use Rattle.plant_laws.specs.plant_model.Taking.{error_answer}
 use Rattle.plant_laws.specs.plant_model.BorderGraph.{Found}
 use Rattle.plant_laws.specs.plant_model.Parent.{Parent, Given, AskingRow, Wait, Errand, silent, only, each, among, waiting, all_waits, next_id, ask_all, errands, errands_to, with_end, tails, last_to, all_up, take_path, take_wish, take_new, take_checked, take_asked, answered, gathered, gathers, take_answer, take_found, take_reply, told_busy, cancelled, take_busy, take_cancel, notice_steps, take_notice, told_error, take_failure, take_errors, take_report, take, commit}
-use Rattle.plant_laws.proofs.FromElement.{admits_path}
-use Rattle.plant_laws.proofs.ElementSays.{WaysOk, ways_last, WayOk, way_fits, next_fits, next_some}
+use Rattle.plant_laws.proofs.Least.FromElement.{admits_path}
+use Rattle.plant_laws.proofs.WrittenForm.ElementSays.{WaysOk, ways_last, WayOk, way_fits, next_fits, next_some}
 use Rattle.networks_settle.specs.Settling.{total, cost, errands_most, above_weight, asked_weight, checked_weight}
 use Rattle.networks_settle.proofs.Lines.{Rises, children_rise}
 use Rattle.networks_settle.proofs.Sums.{total_all, opened_length, removed_less, written_length, first_closes, later_closes}

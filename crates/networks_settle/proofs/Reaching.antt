@@ -11,7 +11,7 @@ use Rattle.request_table.specs.Lends.{with_item}
 use Rattle.plant_laws.specs.plant_model.declared.output.Output.{Output}
 use Rattle.plant_laws.specs.plant_model.Element.{Way, way_to, with_last, with_up}
 use Rattle.plant_laws.specs.plant_model.Parent as parent
-use Rattle.plant_laws.proofs.SentOn.{same_peer_is}
+use Rattle.plant_laws.proofs.Numbering.SentOn.{same_peer_is}
 use Rattle.networks_settle.specs.Settling.{Reaches, AllReach, KeepsTo, is_ordinary}
 
 -- ---- tables

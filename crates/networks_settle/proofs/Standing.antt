@@ -7,7 +7,7 @@ use Rattle.plant_text.specs.declared.settings.ElementRow.{ElementRow}
 use Rattle.plant_text.specs.Names.{same_as, parent_as, insert_as}
 use Rattle.plant_text.specs.Settings.{Line, lines, before_line, insert_line, sorted, upward, has_line, is_linked, children, children_of, elements_of, is_element}
 use Rattle.plant_laws.specs.plant_model.Laws.{IsNetwork}
-use Rattle.plant_laws.proofs.Queues.{same_as_is}
+use Rattle.plant_laws.proofs.Runs.Queues.{same_as_is}
 use Rattle.networks_settle.specs.Settling.{ends}
 use Rattle.networks_settle.proofs.Pairs.{same_self}
 use Rattle.networks_settle.proofs.Lines.{Rises, elements_rise}

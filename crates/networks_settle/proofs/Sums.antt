@@ -10,7 +10,7 @@ use Rattle.request_table.specs.Lends.{with_item}
 use Rattle.plant_text.specs.declared.settings.ElementRow.{ElementRow}
 use Rattle.plant_text.specs.Names.{same_as, insert_as}
 use Rattle.plant_text.specs.Settings.{elements_of, row_of}
-use Rattle.plant_laws.proofs.Queues.{same_as_is}
+use Rattle.plant_laws.proofs.Runs.Queues.{same_as_is}
 use Rattle.networks_settle.specs.Settling.{total}
 use Rattle.networks_settle.proofs.Pairs.{same_self}
 use Rattle.networks_settle.proofs.Lines.{Rises}

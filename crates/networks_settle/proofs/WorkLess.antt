@@ -26,9 +26,9 @@ use Rattle.plant_laws.specs.plant_model.Parent as parent
 use Rattle.plant_laws.specs.plant_model.State.{Loads, Pops, Takes, Says, Ups, Downs, Clears, Solves, Expires, Hands}
 use Rattle.plant_laws.specs.plant_model.Deeds.{any_fall, is_tick, read_as, own_message, put_to, puts, with_element, with_parent, with_inner, give, rise, say, inner_acts, inner_input, break_line}
 use Rattle.plant_laws.specs.plant_model.Plant.{Pin, Segment, PlantDeed}
-use Rattle.plant_laws.proofs.Queues.{same_as_is}
-use Rattle.plant_laws.proofs.Takes.{own_is}
-use Rattle.plant_laws.proofs.ElementSays.{WaysOk}
+use Rattle.plant_laws.proofs.Runs.Queues.{same_as_is}
+use Rattle.plant_laws.proofs.Once.Takes.{own_is}
+use Rattle.plant_laws.proofs.WrittenForm.ElementSays.{WaysOk}
 use Rattle.networks_settle.specs.Settling.{total, ends, cost, read_weight, queues_weight, pending_count, weight}
 use Rattle.networks_settle.proofs.Pairs.{same_back}
 use Rattle.networks_settle.proofs.Turns.{Hears, opens, rises, keeps, passes}

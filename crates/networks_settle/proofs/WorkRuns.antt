@@ -30,8 +30,8 @@ use Rattle.plant_laws.specs.plant_model.Plant.{Pin, Segment, first_pin, Plant, P
 use Rattle.plant_laws.specs.Sending.{DeedSends, AllSent}
 use Rattle.plant_laws.specs.Transcript.{outputs_at, put_into, count_asks, asks}
 use Rattle.plant_laws.specs.About.{IsShort}
-use Rattle.plant_laws.proofs.AllWritten.{LeftSends, AllLeft, AllFit, left_is_all}
-use Rattle.plant_laws.proofs.EveryWritten.{every_written}
+use Rattle.plant_laws.proofs.WrittenForm.AllWritten.{LeftSends, AllLeft, AllFit, left_is_all}
+use Rattle.plant_laws.proofs.WrittenForm.EveryWritten.{every_written}
 use Rattle.networks_settle.specs.Settling.{Holds, total, ends, read_weight, queue_weight, queues_weight, pending_count, weight, IsWork, IsAccepted, HasIds, WorkWeighsLess, Works, WorkEnds, WorkKeepsIds, NewNetworksWeigh}
 use Rattle.networks_settle.proofs.Turns.{hears}
 use Rattle.networks_settle.proofs.Calm.{Move, Calm, Again}

@@ -6,8 +6,8 @@ use Rattle.client_laws.proofs.script_laws.texts_in_range.ModelledNetworks.{setti
 use Rattle.client_laws.specs.script_laws.plant_model.Blind.{blind_opened, heard}
 use Rattle.client_laws.specs.script_laws.plant_model.Plant.{deeds_of}
 use Rattle.client_laws.specs.script_laws.plant_model.RealWire.{wire}
-use Rattle.client_laws.proofs.script_laws.plant_laws.OneThing.{says_one_thing}
-use Rattle.client_laws.proofs.script_laws.plant_laws.SaysBlind.{says_as_blind}
+use Rattle.client_laws.proofs.script_laws.plant_laws.Blind.OneThing.{says_one_thing}
+use Rattle.client_laws.proofs.script_laws.plant_laws.Blind.SaysBlind.{says_as_blind}
 use Rattle.blind_play.specs.Turns.{all_heard, trace_of}
 use Rattle.blind_play.proofs.SayingLemmas.{says_so}
 use Rattle.blind_play.proofs.ScriptLemmas.{cues_given}

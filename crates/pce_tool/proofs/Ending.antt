@@ -4,6 +4,7 @@ use Rattle.std.specs.Prelude.{Err}
 use Rattle.std.specs.declared.option.Option.{Option}
 use Rattle.std.specs.Io.KnownBytes.{Keeps}
 use Rattle.te_links.specs.Rows.{Rows}
+use Rattle.te_links.specs.declared.fault.TopoFault.{TopoFault}
 use Rattle.te_text.specs.Reads.{IsFaulty}
 use Rattle.network_files.specs.Topologies.{HasTopology, topology_max}
 use Rattle.plant_text.specs.declared.fault.NetFault.{NetFault}
@@ -16,12 +17,30 @@ use Rattle.pce_tool.specs.Limits.{certificate_max}
 use Rattle.dom_edge.specs.Stores.{Files, IfFile}
 use Rattle.pce_tool.specs.Worlds.{World, WroteNothing}
 use Rattle.pce_tool.specs.Files.{File, TopologyFile, CertificateFile, PairFile, HoldsAtFile, IsTopo, IsFaultIn, name_of, limit_of}
-use Rattle.pce_tool.specs.Parts.{IsFileStatus, IsInputStatus, IsFinished}
+use Rattle.pce_tool.specs.Parts.{IsBadAt, IsFileStatus, IsInputStatus, IsFinished}
 use Rattle.pce_tool.specs.Run.{Command, Verify, PairVerify, FilesRead, IsBad, IsOutput, Ends, files_of, topology_of}
 
 pub keeps_refl : (o : Option (List ℕ)) → Keeps o o
 keeps_refl None = tt
 keeps_refl (Some xs) = refl
+
+-- the status of a topology whose text is refused at a line
+pub topology_status : (files : Option Files) (name : List ℕ) (line : ℕ) (fault : TopoFault) (counts : ℕ × ℕ) (failed : List ℕ) → IfFile files name (λ bytes. IsFaulty bytes line fault) →
+    (s : Status) → IsBadAt name line fault s → IsFileStatus files name topology_max (λ bytes line. IsTopo (λ told. IsFaulty bytes line told)) counts failed s
+topology_status files name line fault counts failed is status.Ok bad = absurd bad
+topology_status files name line fault counts failed is status.Usage bad = absurd bad
+topology_status files name line fault counts failed is status.ReadFault bad = absurd bad
+topology_status files name line fault counts failed is status.WriteFault bad = absurd bad
+topology_status files name line fault counts failed is (status.BadNetwork file at other) bad = (bad.0, told files is)
+  where
+    told : (held : Option Files) → IfFile held name (λ bytes. IsFaulty bytes line fault) → IfFile held name (λ bytes. IsTopo (λ f. IsFaulty bytes at f) other)
+    told None is = tt
+    told (Some fs) is = (is.0, is.1, (fault, bad.2, subst (λ (k : ℕ). IsFaulty is.0 k fault) (sym bad.1) is.2))
+topology_status files name line fault counts failed is (status.BadLine number) bad = absurd bad
+topology_status files name line fault counts failed is status.NoMemory bad = tt
+topology_status files name line fault counts failed is (status.BadRequest why) bad = absurd bad
+topology_status files name line fault counts failed is (status.Refuted place) bad = absurd bad
+topology_status files name line fault counts failed is (status.TooLarge file) bad = absurd bad
 
 -- the first file of a command
 first : (w : World) (c : Command) (name : List ℕ) (rest : List File) (P : File → Type 0) → files_of c ≡ TopologyFile name ∷ rest → P (TopologyFile name) →

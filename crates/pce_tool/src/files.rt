@@ -20,7 +20,7 @@ use crate::status::Status;
 use diverse_pairs::{PairCertificate, read_pair};
 use dom_base::{Bytes, Text};
 use dom_edge::{Store, StoreError};
-use network_files::{SettingsError, TopologyError};
+use network_files::LoadError;
 use path_certificate::{Certificate, read_certificate};
 use plant_text::{NetFault, Network};
 use std::alloc::Global;
@@ -95,10 +95,10 @@ pub fn load_topology<S: Store>(alloc: Global, store: &mut S, name: &str) -> Resu
 {
     match network_files::load_topology(alloc, store, name) {
         Ok(topology) => Ok(topology),
-        Err(TopologyError::Failed) => Err(Status::ReadFault),
-        Err(TopologyError::TooLong) => Err(too_large(alloc, name)),
-        Err(TopologyError::At(line, fault)) => Err(bad_network(alloc, name, line, fault)),
-        Err(TopologyError::NoMemory) => Err(Status::NoMemory),
+        Err(LoadError::Failed) => Err(Status::ReadFault),
+        Err(LoadError::TooLong) => Err(too_large(alloc, name)),
+        Err(LoadError::Fault(at)) => Err(bad_network(alloc, name, at.line, at.fault)),
+        Err(LoadError::NoMemory) => Err(Status::NoMemory),
     }
 }
 
@@ -157,9 +157,9 @@ pub(crate) fn load_network<S: Store>(
 {
     match network_files::load_network(alloc, store, name) {
         Ok(network) => Ok(network),
-        Err(SettingsError::Failed) => Err(Status::ReadFault),
-        Err(SettingsError::TooLong) => Err(too_large(alloc, name)),
-        Err(SettingsError::Fault(fault)) => Err(bad_settings(alloc, name, fault)),
-        Err(SettingsError::NoMemory) => Err(Status::NoMemory),
+        Err(LoadError::Failed) => Err(Status::ReadFault),
+        Err(LoadError::TooLong) => Err(too_large(alloc, name)),
+        Err(LoadError::Fault(fault)) => Err(bad_settings(alloc, name, fault)),
+        Err(LoadError::NoMemory) => Err(Status::NoMemory),
     }
 }

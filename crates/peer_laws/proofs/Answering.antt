@@ -18,9 +18,9 @@ use Rattle.plant_laws.proofs.plant_model.WireLaws.{wire_is_codec}
 use Rattle.plant_laws.specs.About.{Replies}
 use Rattle.plant_laws.specs.Headline.{LeastAnswersIn, NoneAnswersIn}
 use Rattle.plant_laws.specs.Transcript.{Transcript, Within, outputs_at}
-use Rattle.plant_laws.proofs.EveryWritten.{of_written_net_ids}
-use Rattle.plant_laws.proofs.Moments.{peer_is, within_here}
-use Rattle.plant_laws.proofs.OfRun as OfRun
+use Rattle.plant_laws.proofs.WrittenForm.EveryWritten.{of_written_net_ids}
+use Rattle.plant_laws.proofs.Runs.Moments.{peer_is, within_here}
+use Rattle.plant_laws.proofs.Least.OfRun as OfRun
 use Rattle.peer_laws.specs.Outlets.{outputs_of, put_for}
 use Rattle.peer_laws.specs.Received.{AnswersAreRight}
 use Rattle.peer_laws.proofs.Putting.{AllPut, put_is}

@@ -31,7 +31,7 @@ use Rattle.plant_laws.specs.plant_model.State.{Access, Clears, Connection, Deed,
 use Rattle.plant_laws.specs.plant_model.Deeds.{Going, any_fall, begin_end, begin_line, break_line, clear, element_of, expire, fall, give, inner_act, inner_acts, inner_input, is_due, is_out_empty, is_tick, on_connection, our_offer, outside_act, outside_acts, outside_input, outside_step, own_message, put, put_to, puts, rise, say, tick_lines, tick_outside, with_access, with_element, with_inbox, with_inner, with_more, with_parent, with_session}
 use Rattle.plant_laws.specs.plant_model.Outside.{heeded, heeded_in}
 use Rattle.plant_laws.specs.plant_model.Events.{is_down}
-use Rattle.plant_laws.proofs.Shape.{has_pass, shape}
+use Rattle.plant_laws.proofs.Runs.Shape.{has_pass, shape}
 
 -- ---- connections
 

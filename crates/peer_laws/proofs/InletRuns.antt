@@ -22,7 +22,7 @@ use Rattle.plant_laws.specs.plant_model.Plant.{Entry, Happened, Pin, Plant, Plan
 use Rattle.plant_laws.specs.plant_model.RealWire.{message_or_none, wire}
 use Rattle.plant_laws.specs.plant_model.State.{Clears, Connection, Downs, Expires, Hands, Loads, Pops, Says, Solves, Takes, Ups}
 use Rattle.plant_laws.specs.plant_model.Wire.{Bytes}
-use Rattle.plant_laws.proofs.Heeding.{asks_read}
+use Rattle.plant_laws.proofs.Runs.Heeding.{asks_read}
 use Rattle.peer_laws.specs.Inlets.{IsPart, TakenWasFed, WasFed, fed_to, streams, streams_with}
 use Rattle.peer_laws.proofs.Fading as fading
 use Rattle.peer_laws.proofs.Fading.{AllFade, AllTaken, deed_taken}

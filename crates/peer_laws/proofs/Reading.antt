@@ -8,7 +8,7 @@ use Rattle.pcep_messages.specs.Spelling.{IsWritten}
 use Rattle.plant_laws.specs.plant_model.Plant.{deeds_of}
 use Rattle.plant_laws.specs.plant_model.RealWire.{wire}
 use Rattle.plant_laws.proofs.plant_model.WireLaws.{wire_is_codec}
-use Rattle.plant_laws.proofs.EveryWritten.{every_written}
+use Rattle.plant_laws.proofs.WrittenForm.EveryWritten.{every_written}
 use Rattle.peer_laws.specs.Received.{HandedIsRead}
 use Rattle.peer_laws.proofs.Putting.{of_sent, put_is}
 use Rattle.peer_laws.proofs.Streams.{stream_of}

@@ -19,7 +19,7 @@ ghost use Rattle.plant_laws.specs.Issuing.{ExpandedAreIssued, KeysAreIssued, Tol
 ghost use Rattle.plant_laws.specs.Keys.{ExpandsRightly, ExpandsRightlyIn, KeysDiffer};
 ghost use Rattle.plant_laws.specs.Matched.{RepliesAnswer, RepliesMatch};
 ghost use Rattle.plant_laws.specs.Reading.{OutsideIsRead};
-ghost use Rattle.plant_laws.specs.Readings.{MessagesAreRead};
+ghost use Rattle.plant_laws.specs.Readings.{MessagesAreRead, RequestsAreRead};
 ghost use Rattle.plant_laws.specs.Replies.{LeastReplies, LeastRepliesIn, NoneReplies, NoneRepliesIn, SolvesSendOne};
 ghost use Rattle.plant_laws.specs.Resting.{RestIsQuiet};
 ghost use Rattle.plant_laws.specs.Runs.{AllIsWritten, InRuns, InRunsOverPcep, InShortRuns, OverPcep, RequestsAreWritten};
@@ -225,6 +225,11 @@ pub fn outside_is_read()
 /// one at a time.
 pub fn messages_are_read()
     ensures { MessagesAreRead }
+{}
+
+/// The same of requests alone, also where ids come round.
+pub fn requests_are_read()
+    ensures { RequestsAreRead }
 {}
 
 /// The requests that are pending are those that the transcript shows open, each as it was delivered, with

@@ -28,11 +28,11 @@ use Rattle.plant_laws.specs.plant_model.State.{Pops, Takes, Ups, Downs}
 use Rattle.plant_laws.specs.plant_model.Taking.{take}
 use Rattle.plant_laws.specs.plant_model.Wire.{Codec}
 use Rattle.plant_laws.specs.Transcript.{Transcript}
-use Rattle.plant_laws.proofs.Acts.{Acts, Goes, stands, goes_on, rests, hears, carries, nods, hands, rises, falls, says, clears, expires}
-use Rattle.plant_laws.proofs.Decompose.{open_did, shut_did, feed_did, take_did, carry_did, break_did, tick_did, drain_did}
-use Rattle.plant_laws.proofs.Pins.{puts_current}
-use Rattle.plant_laws.proofs.PinsKept.{Rows as RowsHold, Holds, take_keeps, downed_keeps, commit_keeps}
-use Rattle.plant_laws.proofs.Queues.{same_as_is}
+use Rattle.plant_laws.proofs.Runs.Acts.{Acts, Goes, stands, goes_on, rests, hears, carries, nods, hands, rises, falls, says, clears, expires}
+use Rattle.plant_laws.proofs.Runs.Decompose.{open_did, shut_did, feed_did, take_did, carry_did, break_did, tick_did, drain_did}
+use Rattle.plant_laws.proofs.Least.Pins.{puts_current}
+use Rattle.plant_laws.proofs.Least.PinsKept.{Rows as RowsHold, Holds, take_keeps, downed_keeps, commit_keeps}
+use Rattle.plant_laws.proofs.Runs.Queues.{same_as_is}
 use Rattle.plant_pins.specs.Steps.{Known, IsKnown, KnowsPins, KnowsLoad, Moves, StepsKnowPins, StepsMove}
 
 -- a step that is refused moves nothing

@@ -27,9 +27,9 @@ use Rattle.plant_play.specs.plant_model.RealWire.{wire}
 use Rattle.plant_play.specs.plant_model.State.{said}
 use Rattle.ids_suffice.specs.plant_laws.Solves.{ElementTells}
 use Rattle.ids_suffice.specs.plant_laws.Worlds.{DisclosedRun}
-use Rattle.ids_suffice.proofs.plant_laws.SaysBlind.{as_run}
-use Rattle.ids_suffice.proofs.plant_laws.Solved.{solves_tell}
-use Rattle.ids_suffice.proofs.plant_laws.Sound.{run_sound}
+use Rattle.ids_suffice.proofs.plant_laws.Blind.SaysBlind.{as_run}
+use Rattle.ids_suffice.proofs.plant_laws.Least.Solved.{solves_tell}
+use Rattle.ids_suffice.proofs.plant_laws.Runs.Sound.{run_sound}
 use Rattle.plant_play.specs.declared.showing.Modes.{Modes}
 use Rattle.plant_play.specs.Playing.{Cue, IsNewStage, Plays, PlaysLine, Stage, modes_after}
 use Rattle.plant_play.specs.Scripts.{AllPlayed}

@@ -6,9 +6,9 @@ use Rattle.plant_play.specs.plant_model.Laws.{IsNetwork}
 use Rattle.plant_play.specs.plant_model.Plant.{Entry, Plant, Run}
 use Rattle.plant_play.specs.plant_model.RealWire.{wire}
 use Rattle.ids_suffice.specs.plant_laws.Headline.{LeastAnswersIn, NoneAnswersIn}
-use Rattle.ids_suffice.proofs.plant_laws.EveryWritten.{of_written_net_ids}
-use Rattle.ids_suffice.proofs.plant_laws.OfRun as OfRun
-use Rattle.ids_suffice.proofs.plant_laws.SaysBlind.{says_as_blind}
+use Rattle.ids_suffice.proofs.plant_laws.WrittenForm.EveryWritten.{of_written_net_ids}
+use Rattle.ids_suffice.proofs.plant_laws.Least.OfRun as OfRun
+use Rattle.ids_suffice.proofs.plant_laws.Blind.SaysBlind.{says_as_blind}
 use Rattle.ids_suffice.specs.Counting.{HasNoParent}
 use Rattle.ids_suffice.proofs.FewOctets.{few_are_short}
 use Rattle.plant_play.specs.Playing.{Cue, IsNewStage, Stage}

@@ -1,4 +1,4 @@
-use Rattle.plant_laws.proofs.EveryWritten.{every_written}
+use Rattle.plant_laws.proofs.WrittenForm.EveryWritten.{every_written}
 use Rattle.plant_laws.proofs.all_is_written.Goals as goal
 
 pub returns : goal.returns

@@ -1,6 +1,6 @@
 use Rattle.plant_laws.specs.Headline.{LeastAnswersIn, NoneAnswersIn}
-use Rattle.plant_laws.proofs.EveryWritten.{of_written_net_ids}
-use Rattle.plant_laws.proofs.OfRun as OfRun
+use Rattle.plant_laws.proofs.WrittenForm.EveryWritten.{of_written_net_ids}
+use Rattle.plant_laws.proofs.Least.OfRun as OfRun
 use Rattle.plant_laws.proofs.answers_are_least.Goals as goal
 
 pub returns : goal.returns

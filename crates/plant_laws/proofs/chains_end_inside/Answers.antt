@@ -1,4 +1,4 @@
-use Rattle.plant_laws.proofs.EndsInside as EndsInside
+use Rattle.plant_laws.proofs.Least.EndsInside as EndsInside
 use Rattle.plant_laws.proofs.chains_end_inside.Goals as goal
 
 pub returns : goal.returns

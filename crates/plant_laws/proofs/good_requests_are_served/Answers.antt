@@ -1,6 +1,6 @@
 use Rattle.plant_laws.specs.Good.{GoodRequestsAreServedIn}
-use Rattle.plant_laws.proofs.EveryWritten.{of_written_net_ids}
-use Rattle.plant_laws.proofs.Good as Good
+use Rattle.plant_laws.proofs.WrittenForm.EveryWritten.{of_written_net_ids}
+use Rattle.plant_laws.proofs.Reasons.Good as Good
 use Rattle.plant_laws.proofs.good_requests_are_served.Goals as goal
 
 pub returns : goal.returns

@@ -1,4 +1,4 @@
-use Rattle.plant_laws.proofs.GoodExists as GoodExists
+use Rattle.plant_laws.proofs.Reasons.GoodExists as GoodExists
 use Rattle.plant_laws.proofs.good_requests_exist.Goals as goal
 
 pub returns : goal.returns

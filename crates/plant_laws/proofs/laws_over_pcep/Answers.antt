@@ -5,12 +5,12 @@ use Rattle.plant_laws.specs.Chains.{QuietIsAnsweredIn}
 use Rattle.plant_laws.specs.Headline.{LeastAnswersIn, NoneAnswersIn}
 use Rattle.plant_laws.specs.Replies.{LeastRepliesIn, NoneRepliesIn}
 use Rattle.plant_laws.specs.UnderWay.{WaitsAreUnderWayIn}
-use Rattle.plant_laws.proofs.Answering as Answering
-use Rattle.plant_laws.proofs.Chained as Chained
-use Rattle.plant_laws.proofs.EveryWritten.{of_written_net, of_written_net_ids}
-use Rattle.plant_laws.proofs.Expands as Expands
-use Rattle.plant_laws.proofs.OfRun as OfRun
-use Rattle.plant_laws.proofs.UnderWayLaw as UnderWayLaw
+use Rattle.plant_laws.proofs.Once.Answering as Answering
+use Rattle.plant_laws.proofs.Once.Chained as Chained
+use Rattle.plant_laws.proofs.WrittenForm.EveryWritten.{of_written_net, of_written_net_ids}
+use Rattle.plant_laws.proofs.Keys.Expands as Expands
+use Rattle.plant_laws.proofs.Least.OfRun as OfRun
+use Rattle.plant_laws.proofs.Settled.UnderWayLaw as UnderWayLaw
 use Rattle.plant_laws.proofs.laws_over_pcep.Goals as goal
 
 pub returns : goal.returns

@@ -1,4 +1,4 @@
-use Rattle.plant_laws.proofs.AllCauses as AllCauses
+use Rattle.plant_laws.proofs.Reasons.AllCauses as AllCauses
 use Rattle.plant_laws.proofs.messages_have_causes.Goals as goal
 
 pub returns : goal.returns

@@ -1,6 +1,6 @@
 use Rattle.plant_laws.specs.Chains.{QuietIsAnsweredIn, QuietHasNonePendingIn}
-use Rattle.plant_laws.proofs.EveryWritten.{of_written_net_ids}
-use Rattle.plant_laws.proofs.UnderWayLaw as UnderWayLaw
+use Rattle.plant_laws.proofs.WrittenForm.EveryWritten.{of_written_net_ids}
+use Rattle.plant_laws.proofs.Settled.UnderWayLaw as UnderWayLaw
 use Rattle.plant_laws.proofs.quiet_is_answered.Goals as goal
 
 pub returns : goal.returns

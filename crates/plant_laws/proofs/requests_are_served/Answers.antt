@@ -1,6 +1,6 @@
 use Rattle.plant_laws.specs.Served.{RequestsAreServedIn}
-use Rattle.plant_laws.proofs.EveryWritten.{of_written_net_ids}
-use Rattle.plant_laws.proofs.Served as Served
+use Rattle.plant_laws.proofs.WrittenForm.EveryWritten.{of_written_net_ids}
+use Rattle.plant_laws.proofs.Reasons.Served as Served
 use Rattle.plant_laws.proofs.requests_are_served.Goals as goal
 
 pub returns : goal.returns

@@ -1,4 +1,4 @@
-use Rattle.plant_laws.proofs.RequestsWritten as RequestsWritten
+use Rattle.plant_laws.proofs.WrittenForm.RequestsWritten as RequestsWritten
 use Rattle.plant_laws.proofs.requests_are_written.Goals as goal
 
 pub returns : goal.returns

@@ -1,4 +1,4 @@
-use Rattle.plant_laws.proofs.Resting as Resting
+use Rattle.plant_laws.proofs.Settled.Resting as Resting
 use Rattle.plant_laws.proofs.rest_is_quiet.Goals as goal
 
 pub returns : goal.returns

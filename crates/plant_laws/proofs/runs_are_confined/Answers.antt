@@ -1,4 +1,4 @@
-use Rattle.plant_laws.proofs.Confined as Confined
+use Rattle.plant_laws.proofs.Settled.Confined as Confined
 use Rattle.plant_laws.proofs.runs_are_confined.Goals as goal
 
 pub returns : goal.returns

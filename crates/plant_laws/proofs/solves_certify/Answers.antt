@@ -1,6 +1,6 @@
 use Rattle.plant_laws.specs.Certified.{SolvesCertifyIn}
-use Rattle.plant_laws.proofs.EveryWritten.{of_written_net}
-use Rattle.plant_laws.proofs.OfRun as OfRun
+use Rattle.plant_laws.proofs.WrittenForm.EveryWritten.{of_written_net}
+use Rattle.plant_laws.proofs.Least.OfRun as OfRun
 use Rattle.plant_laws.proofs.solves_certify.Goals as goal
 
 pub returns : goal.returns

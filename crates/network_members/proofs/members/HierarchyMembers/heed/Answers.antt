@@ -8,9 +8,12 @@ use Rattle.network_members.specs.TierFields.{tiers_of}
 use Rattle.network_members.proofs.HeedLemmas.{heard_below}
 use Rattle.network_members.proofs.members.HierarchyMembers.heed.Goals as goal
 
-pub returns-clause-heard : goal.returns-clause-heard
-returns-clause-heard g c =
+pub returns : goal.returns
+returns g c =
     let t = tiers_of c.self.inside.network c.self.inside.clock.0 c.self.inside.elements c.self.inside.parent in
-    subst (λ (m : Message). IfOk c.heed.result (λ heeded. heeded ≡ m))
-    (heard_below g.W.World.first t c.args.at c.args.peer c.args.message ∙ ap (λ (u : Tiers _ _). heard wire c.args.at c.args.peer c.args.message (members_of g.W.World.first u)) c.self.view_is)
-    c.heed.ensures
+    record {
+      heard =
+          subst (λ (m : Message). IfOk c.heed.result (λ heeded. heeded ≡ m))
+          (heard_below g.W.World.first t c.args.at c.args.peer c.args.message ∙ ap (λ (u : Tiers _ _). heard wire c.args.at c.args.peer c.args.message (members_of g.W.World.first u)) c.self.view_is)
+          c.heed.ensures;
+    }

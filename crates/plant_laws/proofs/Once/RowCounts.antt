@@ -1,0 +1,142 @@
+-- How often a peer and id are pending among rows: once at most, and an answer takes one away.
+use Rattle.std.proofs.Common.{◌≡◌, ◌+◌, ◌≤◌, ◌<◌, ◌^◌, ℕ, Bool, true, false, nat_eq, filter, List, [], ◌∷◌, ◌++◌, length, Some, None, sym, ap, subst, inl, inr, refl, arith}
+use Rattle.std.specs.Map.{remove_entry}
+use Rattle.std.proofs.lemmas.Bool.{cases_Bool, eqb-true, eq-eqb}
+use Rattle.dom_base.specs.declared.names.Peer.{Peer}
+use Rattle.request_table.specs.declared.held.RequestKey.{RequestKey}
+use Rattle.request_table.specs.declared.held.Held.{Held}
+use Rattle.request_table.specs.Pending.{Pending, ArePending, NumbersRise, AreNamedOnce, number_among, same_key, key_of, opened_of, closed_of}
+use Rattle.request_table.specs.Lends.{with_item, written_of}
+use Rattle.request_table.proofs.KeyLemmas.{same_key_is, same_key_back}
+use Rattle.request_table.proofs.PendingLemmas.{closed_pending, opened_pending}
+use Rattle.request_table.proofs.LendLemmas.{written_pending}
+use Rattle.plant_laws.specs.Transcript.{one_if}
+use Rattle.plant_laws.proofs.Once.Handing.{In}
+
+abbrev pub named : {T : Type 0} → Peer → ℕ → ℕ × Held T → ℕ
+named p x h = one_if (same_key h.1.key (key_of p x))
+
+abbrev pub count : {T : Type 0} → Peer → ℕ → List (ℕ × Held T) → ℕ
+count p x [] = 0
+count p x (h ∷ hs) = named p x h + count p x hs
+
+pub one_if_le : (b : Bool) → one_if b ≤ 1
+one_if_le true = omega arith
+one_if_le false = omega arith
+
+pub none_named : {T : Type 0} (key : RequestKey) (rows : List (ℕ × Held T)) → number_among key rows ≡ None → count key.peer key.id rows ≡ 0
+none_named key [] none = refl
+none_named key (row ∷ rows) none =
+    elim (cases_Bool (same_key key row.1.key)) [
+      | inl hit ↦ absurd (let other : Some row.0 ≡ None = rw hit at none in cc)
+      | inr miss ↦
+          let rest : number_among key rows ≡ None = rw miss at none in
+          rw (same_key_back row.1.key key, miss) (omega (arith, none_named key rows rest))
+    ]
+
+pub count_once : {T : Type 0} (p : Peer) (x : ℕ) (rows : List (ℕ × Held T)) → AreNamedOnce rows → count p x rows ≤ 1
+count_once p x [] once = omega arith
+count_once {T} p x (row ∷ rows) once =
+    elim (cases_Bool (same_key row.1.key (key_of p x))) [
+      | inl hit ↦
+          let is : row.1.key ≡ key_of p x = same_key_is row.1.key (key_of p x) hit in
+          let none : count p x rows ≡ 0 = subst (λ (key : RequestKey). count key.peer key.id rows ≡ 0) is (none_named row.1.key rows once.0) in
+          rw (hit, none) (omega arith)
+      | inr miss ↦ rw miss (omega (arith, count_once p x rows once.1))
+    ]
+
+above : {T : Type 0} (low high : ℕ) (rows : List (ℕ × Held T)) (h : ℕ × Held T) → NumbersRise low rows high → In h rows → low < h.0
+above low high [] h rises in' = absurd in'
+above {T} low high (row ∷ rows) h rises (inl is) = subst (λ (r : ℕ × Held T). low < r.0) (sym is) rises.0
+above low high (row ∷ rows) h rises (inr in') = omega (arith, rises.0, above row.0 high rows h rises.1 in')
+
+not_equal : (a b : ℕ) → b < a → nat_eq a b ≡ false
+not_equal a b below = elim (cases_Bool (nat_eq a b)) [ inl hit ↦ absurd (let is = eqb-true a b hit in omega arith) | inr miss ↦ miss ]
+
+-- a request that is taken away
+pub removed : {T : Type 0} (p : Peer) (x low high : ℕ) (rows : List (ℕ × Held T)) (h : ℕ × Held T) → NumbersRise low rows high → In h rows →
+    named p x h + count p x (remove_entry (nat_eq h.0) rows) ≡ count p x rows
+removed p x low high [] h rises in' = absurd in'
+removed {T} p x low high (row ∷ rows) h rises (inl is) =
+    let hit : nat_eq h.0 row.0 ≡ true = eq-eqb h.0 row.0 (ap (λ (r : ℕ × Held T). r.0) is) in
+    rw hit (ap (λ (r : ℕ × Held T). named p x r + count p x rows) is)
+removed p x low high (row ∷ rows) h rises (inr in') =
+    let miss : nat_eq h.0 row.0 ≡ false = not_equal h.0 row.0 (above row.0 high rows h rises.1 in') in
+    rw miss (omega (arith, removed p x row.0 high rows h rises.1 in'))
+
+pub removed_less : {T : Type 0} (p : Peer) (x : ℕ) (test : ℕ → Bool) (rows : List (ℕ × Held T)) → count p x (remove_entry test rows) ≤ count p x rows
+removed_less p x test [] = omega arith
+removed_less p x test (row ∷ rows) =
+    elim (cases_Bool (test row.0)) [
+      | inl hit ↦ rw hit (omega arith)
+      | inr miss ↦ rw miss (omega (arith, removed_less p x test rows))
+    ]
+
+pub rewritten : {T : Type 0} (p : Peer) (x number : ℕ) (item : T) (rows : List (ℕ × Held T)) → count p x (with_item number item rows) ≡ count p x rows
+rewritten p x number item [] = refl
+rewritten p x number item (row ∷ rows) =
+    elim (cases_Bool (nat_eq number row.0)) [
+      | inl hit ↦ rw hit refl
+      | inr miss ↦ rw miss (ap (λ (m : ℕ). named p x row + m) (rewritten p x number item rows))
+    ]
+
+-- fewer rows
+weaker : {T : Type 0} (low more high : ℕ) (rows : List (ℕ × Held T)) → low ≤ more → NumbersRise more rows high → NumbersRise low rows high
+weaker low more high [] le rises = omega arith
+weaker low more high (row ∷ rows) le rises = (omega (arith, rises.0), rises.1)
+
+rise_filter : {T : Type 0} (test : ℕ × Held T → Bool) (low high : ℕ) (rows : List (ℕ × Held T)) → NumbersRise low rows high → NumbersRise low (filter test rows) high
+rise_filter test low high [] rises = rises
+rise_filter test low high (row ∷ rows) rises =
+    elim (cases_Bool (test row)) [
+      | inl hit ↦ rw hit (rises.0, rise_filter test row.0 high rows rises.1)
+      | inr miss ↦ rw miss (weaker low row.0 high (filter test rows) (omega (arith, rises.0)) (rise_filter test row.0 high rows rises.1))
+    ]
+
+none_filter : {T : Type 0} (test : ℕ × Held T → Bool) (key : RequestKey) (rows : List (ℕ × Held T)) → number_among key rows ≡ None → number_among key (filter test rows) ≡ None
+none_filter test key [] none = refl
+none_filter test key (row ∷ rows) none =
+    elim (cases_Bool (same_key key row.1.key)) [
+      | inl hit ↦ absurd (let other : Some row.0 ≡ None = rw hit at none in cc)
+      | inr miss ↦
+          let rest : number_among key rows ≡ None = rw miss at none in
+          elim (cases_Bool (test row)) [
+            | inl stays ↦ rw (stays, miss) (none_filter test key rows rest)
+            | inr goes ↦ rw goes (none_filter test key rows rest)
+          ]
+    ]
+
+once_filter : {T : Type 0} (test : ℕ × Held T → Bool) (rows : List (ℕ × Held T)) → AreNamedOnce rows → AreNamedOnce (filter test rows)
+once_filter test [] once = tt
+once_filter test (row ∷ rows) once =
+    elim (cases_Bool (test row)) [
+      | inl stays ↦ rw stays (none_filter test row.1.key rows once.0, once_filter test rows once.1)
+      | inr goes ↦ rw goes (once_filter test rows once.1)
+    ]
+
+length_filter : {A : Type 0} (test : A → Bool) (xs : List A) → length (filter test xs) ≤ length xs
+length_filter test [] = omega arith
+length_filter test (x ∷ xs) =
+    elim (cases_Bool (test x)) [
+      | inl stays ↦ rw stays (omega (arith, length_filter test xs))
+      | inr goes ↦ rw goes (omega (arith, length_filter test xs))
+    ]
+
+pub filter_pending : {T : Type 0} (test : ℕ × Held T → Bool) (t : Pending T) → ArePending t → ArePending (record t { rows = filter test t.rows })
+filter_pending test t are = record {
+  few = omega (arith, are.few, length_filter test t.rows);
+  last = are.last;
+  numbers = rise_filter test 0 t.given t.rows are.numbers;
+  names = once_filter test t.rows are.names;
+}
+
+pub ended_pending : {T : Type 0} (number : ℕ) (t : Pending T) → ArePending t → ArePending (closed_of t number)
+ended_pending number t are = closed_pending t.limit t.given number t.rows (remove_entry (nat_eq number) t.rows) are refl
+
+pub item_pending : {T : Type 0} (number : ℕ) (item : T) (t : Pending T) → ArePending t → ArePending (written_of t number item)
+item_pending number item t are = written_pending t.limit t.given number item t.rows (with_item number item t.rows) are refl
+
+pub begun_pending : {T : Type 0} (p : Peer) (x : ℕ) (item : T) (t : Pending T) → ArePending t → length t.rows < t.limit → t.given + 1 < 2 ^ 64 → number_among (key_of p x) t.rows ≡ None →
+    ArePending (opened_of t p x item)
+begun_pending p x item t are room last none =
+    opened_pending t.limit t.given t.rows (t.rows ++ (t.given + 1, record { key = key_of p x; item = item }) ∷ []) (record { key = key_of p x; item = item }) are room last none refl

@@ -1,0 +1,21 @@
+-- Each message has its cause, and good requests are served.
+pub mod Causes
+pub mod PartCauses
+pub mod ElementCauses
+pub mod ParentCauses
+pub mod LostCauses
+pub mod EventCauses
+pub mod AllCauses
+pub mod MomentCauses
+pub mod OutsideStays
+pub mod ErrorParts
+pub mod Errors
+pub mod ErrorsTaken
+pub mod Broken
+pub mod Full
+pub mod Served
+pub mod Good
+pub mod GoodRun
+pub mod GoodSample
+pub mod GoodInboxes
+pub mod GoodExists

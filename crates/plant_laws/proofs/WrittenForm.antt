@@ -1,0 +1,19 @@
+-- All that is sent is in written form, and is read again as it was.
+pub mod Again
+pub mod ReadBack
+pub mod RequestsWritten
+pub mod Sent
+pub mod Written
+pub mod InForm
+pub mod BestFits
+pub mod ElementSays
+pub mod ParentSays
+pub mod AllWritten
+pub mod OwnSays
+pub mod EachWritten
+pub mod DownsFit
+pub mod SolvesWritten
+pub mod ParentWritten
+pub mod EveryWritten
+pub mod WhereWritten
+pub mod HeededHops
