@@ -21,7 +21,8 @@ use Rattle.plant_text.specs.declared.settings.NetworkParts.{NetworkParts}
 use Rattle.plant_text.specs.Names.{parent_as, same_as}
 use Rattle.script_laws.specs.plant_model.declared.output.Output.{Output}
 use Rattle.script_laws.specs.plant_model.Deeds.{element_of}
-use Rattle.script_laws.specs.plant_model.Plant.{Entry, PlantDeed, Run, deeds_of}
+use Rattle.script_laws.specs.plant_model.Element.{Element}
+use Rattle.script_laws.specs.plant_model.Plant.{Entry, Pin, PlantDeed, Run, Segment, deeds_of}
 use Rattle.script_laws.specs.plant_model.RealWire.{check_of, checked, wire}
 use Rattle.script_laws.specs.plant_model.State.{Takes}
 use Rattle.script_laws.specs.plant_model.Wire.{Admitted, Checked, Wrong}
@@ -136,7 +137,7 @@ module _ (n : NetworkParts) (es : List Entry) (client : ℕ) (q : Question) (t :
     same_rp : (rp' : Option (ℕ × ℕ)) (kind' value' : ℕ) → check_of (asked_of q) d ≡ Wrong rp' kind' value' → rp' ≡ rp
     same_rp rp' kind' value' e = (let same : Wrong rp' kind' value' ≡ Wrong rp kind value = sym e ∙ is in cc)
 
-    refuses : (os : List Output) (now' : ℕ) (k : _) → OnRequest wire n d (Outside client) now' (asked_of q) k os → (kind' : ℕ) × (value' : ℕ) × (os ≡ told kind' value')
+    refuses : (os : List Output) (now' : ℕ) (k : Element Pin Segment) → OnRequest wire n d (Outside client) now' (asked_of q) k os → (kind' : ℕ) × (value' : ℕ) × (os ≡ told kind' value')
     refuses os now' k (causes.wrong rp' kind' value' e says) =
         (kind', value', says ∙ ap (λ (z : Option (ℕ × ℕ)). let o : Output = record { to = Outside client; message = error_message z kind' value' } in o ∷ []) (same_rp rp' kind' value' e ∙ named))
     refuses os now' k (causes.again r number e there says) = not_admitted r e
@@ -156,14 +157,8 @@ module _ (n : NetworkParts) (es : List Entry) (client : ℕ) (q : Question) (t :
             refused said.0 said.1 t.older (subst (λ (os : List Output). Within (deed os ∷ t.older) now) all t.within)
 
 pub question_is_answered : QuestionIsAnswered
-question_is_answered files n client q received net is fits a short = go (check_of (asked_of q) d') refl
+question_is_answered files n client q received net is fits a short = go (check_of (asked_of q) (element_of n client)) refl
   where
-    es : List Entry
-    es = entries_of a.lines.turns []
-
-    d' : As
-    d' = element_of n client
-
     run : Run wire n (entries_of a.lines.turns []) a.asked.state
     run =
         (scripts_are_right n net a.start a.asked a.lines.cues a.lines.turns a.lines.told a.new (lines_feed (topologies n.elements) client q a.octets files a.lines.cues a.lines.are_cues) a.lines.played).0.run

@@ -100,7 +100,7 @@ pub record Walks (n : NetworkParts) (i : ℕ) (P : Option Connection → Type 0)
   pub at : P (s.accesses i).connection
   pub calm : AreHarmless i (deeds_of wire n es)
 
-abbrev IsNone : Option Connection → Type 0
+abbrev pub IsNone : Option Connection → Type 0
 IsNone None = Unit {0}
 IsNone (Some k) = ⊥
 
@@ -265,7 +265,7 @@ module _ (n : NetworkParts) (i : ℕ) where
       pub within : Within (Takes (element_of n i) (Outside i) (question_message question) outputs ∷ older) (deeds_of wire n es)
 
     later_taken : (ts : List Turn) (es : List Entry) → IsTaken es → IsTaken (entries_of ts es)
-    later_taken ts es t = record { outputs = t.outputs; older = t.older; within = within_later n ts es _ t.within }
+    later_taken ts es t = record { outputs = t.outputs; older = t.older; within = within_later n ts es (Takes (element_of n i) (Outside i) (question_message question) t.outputs ∷ t.older) t.within }
 
     first_taken : IsWritten (question_message question) → (m : Modes) (s : Plant) (ts : List Turn) (end : Plant) (older : List Entry) → AreDue (IsDueTake i) m n s ts end → inbox_from (end.accesses i).connection ≡ [] →
         Has phase.Up Empty (items (question_message question ∷ [])) (s.accesses i).connection → IsTaken (entries_of ts older)
@@ -295,14 +295,14 @@ module _ (n : NetworkParts) (i : ℕ) where
     opening_is = ap (λ (l : Bytes). message_text open_message ++ l) (sym (append-nil (message_text messages.Keepalive)))
 
     opening_goes : Goes phase.OpenWait (open_message ∷ messages.Keepalive ∷ []) phase.Up
-    opening_goes = (phase.KeepWait, open_leads _, (phase.Up, keepalive_leads, refl))
+    opening_goes = (phase.KeepWait, open_leads (record { keepalive = 0; dead = 0; sid = 1; stateful = false }), (phase.Up, keepalive_leads, refl))
 
     question_goes : Goes phase.Up (question_message question ∷ []) phase.Up
     question_goes = (phase.Up, request_leads (asked_of question ∷ []), refl)
 
     -- ---- lines one after the other
 
-    abbrev Ends : List Entry → Plant → Type 0
+    abbrev pub Ends : List Entry → Plant → Type 0
     Ends es s = Walks n i (Has phase.Up Empty []) es s × IsTaken es
 
     module _ (fits : IsWritten (question_message question)) (known : is_some (peer_row i n.peers) ≡ true) (files : Option Files) where
