@@ -37,7 +37,7 @@ use Rattle.script_laws.proofs.Rightly.{scripts_are_right}
 use Rattle.script_laws.proofs.plant_laws.plant_model.WireLaws.{wire_is_codec}
 use Rattle.script_laws.proofs.plant_laws.Once.AskedRuns.{none_outside}
 use Rattle.script_laws.proofs.plant_laws.Reasons.MomentCauses.{HasOne, IsOpening, moment_cause}
-use Rattle.script_laws.proofs.plant_laws.Reasons.OutsideStays.{none_dropped, opening_harmless}
+use Rattle.client_laws.proofs.OutsideStays.{none_dropped, opening_harmless}
 use Rattle.script_laws.proofs.plant_laws.Runs.Queues.{same_as_is}
 use Rattle.plant_bulk.specs.plant_client.declared.question.Question.{Question}
 use Rattle.plant_bulk.specs.plant_client.Asking.{Asks, topologies}

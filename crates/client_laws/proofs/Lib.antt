@@ -11,6 +11,7 @@ pub mod Exchanging
 mod Taking
 pub mod Resting
 pub mod Serving
+mod OutsideStays
 mod Opening
 pub mod Answered
 -- handed on from below

@@ -41,7 +41,7 @@ use Rattle.script_laws.specs.plant_play.Due.{AreAllDue, AreDue, IsDue, IsDueTake
 use Rattle.script_laws.specs.plant_play.Playing.{Cue, Plays, PlaysFeed, PlaysLine, PlaysOne, Stage}
 use Rattle.script_laws.specs.plant_play.Scripts.{AllPlayed}
 use Rattle.script_laws.specs.plant_play.Turns.{Turn, entries_of}
-use Rattle.script_laws.proofs.plant_laws.Reasons.OutsideStays.{AreHarmless, Has, Leads, carry_stays, feed_stays, harmless_append, keepalive_leads, load_stays, open_leads, open_stays, request_leads, request_taken, solve_stays, take_stays}
+use Rattle.client_laws.proofs.OutsideStays.{AreHarmless, Has, Leads, carry_stays, feed_stays, harmless_append, keepalive_leads, load_stays, open_leads, open_stays, request_leads, request_taken, solve_stays, take_stays}
 use Rattle.plant_network.specs.Due.{inbox_from}
 use Rattle.peer_laws.proofs.Streams.{stream_of}
 use Rattle.peer_laws.specs.Received.{IsStreamOf}

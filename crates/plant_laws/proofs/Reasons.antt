@@ -7,7 +7,6 @@ pub mod LostCauses
 pub mod EventCauses
 pub mod AllCauses
 pub mod MomentCauses
-pub mod OutsideStays
 pub mod ErrorParts
 pub mod Errors
 pub mod ErrorsTaken
