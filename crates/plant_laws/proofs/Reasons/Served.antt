@@ -1,5 +1,5 @@
 -- What became of a request when a network is quiet, from what was said in the deed that ended it.
-use Rattle.std.proofs.Common.{◌≡◌, ◌≢◌, ◌≤◌, ◌+◌, ◌==◌, ℕ, zero, suc, Bool, true, false, cond, List, [], ◌∷◌, ◌++◌, map, is_some, Option, Some, None, sym, ◌∙◌, ap, subst, inl, inr, refl, eqb-true, eq-eqb, arith}
+use Rattle.std.proofs.Common.{◌≡◌, ◌≢◌, ◌≤◌, ◌+◌, ◌==◌, ℕ, zero, suc, Bool, true, false, cond, List, [], ◌∷◌, ◌++◌, map, sym, ◌∙◌, ap, subst, inl, inr, refl, eqb-true, eq-eqb, arith}
 use Rattle.std.specs.Prelude.{◌⊎◌, Contains}
 use Rattle.dom_base.specs.declared.names.As.{As}
 use Rattle.dom_base.specs.declared.names.Peer.{Peer}
@@ -14,8 +14,7 @@ use Rattle.pcep_messages.specs.declared.message.Reply.{Reply}
 use Rattle.pcep_messages.specs.declared.message.Wish.{Wish}
 use Rattle.pcep_messages.specs.declared.message.Wish.TheVariants.{Path, Expand}
 use Rattle.pcep_messages.specs.Spelling.{IsWritten}
-use Rattle.request_table.specs.Pending.{same_peer, key_of, number_among, number_of}
-use Rattle.request_table.proofs.KeyLemmas.{same_key_is}
+use Rattle.request_table.specs.Pending.{same_peer}
 use Rattle.disclosure.specs.Shown.{open_of}
 use Rattle.plant_text.specs.declared.settings.NetworkParts.{NetworkParts}
 use Rattle.plant_text.specs.Names.{same_as, parent_as}
@@ -36,7 +35,7 @@ use Rattle.plant_laws.specs.Answered as once
 use Rattle.plant_laws.specs.Broken.{Breaks}
 use Rattle.plant_laws.specs.Errors.{chain_failed, Unserved}
 use Rattle.plant_laws.specs.Causes.{IsLost, IsLostAbove, AnswersLost, asker_of, asker_above, left_above, OnPassed, by_element, by_parent, OfSolve, of_element, of_parent, left_rows}
-use Rattle.plant_laws.specs.Chains.{IsQuiet, is_pending}
+use Rattle.plant_laws.specs.Chains.{IsQuiet}
 use Rattle.plant_laws.specs.MessageCauses.{Asker, told, replied, WaitsAt, OnRequest, OnMessage, TellsOfPaths, OnReply, unknown, goes_on, is_kept, is_broken, OnNotice, next_is_full, noted_for_nobody, of_other_kind, OnError, failed_for_nobody, of_reply, out_of_profile, other_error, Part, Asks, Replies, Notes, Fails, alone, noted, failed_by, failed, OnParts}
 use Rattle.plant_laws.specs.Met.{run_of}
 use Rattle.plant_laws.specs.Sending.{AllSent}
@@ -50,8 +49,7 @@ use Rattle.plant_laws.proofs.Reasons.Full.{full_for_reasons}
 use Rattle.plant_laws.proofs.Once.Handing.{In}
 use Rattle.plant_laws.proofs.Reasons.MomentCauses.{HasOne, IsOpening, moment_cause, outs, solver, head_of, at_here}
 use Rattle.plant_laws.proofs.Reasons.PartCauses.{contains_at, in_at, not_both}
-use Rattle.plant_laws.proofs.Runs.Inboxes.{contains}
-use Rattle.plant_laws.proofs.Runs.Rows.{numbered}
+use Rattle.plant_laws.proofs.Once.OpenTables.{pending_row}
 use Rattle.plant_laws.proofs.Runs.Queues.{same_as_is}
 use Rattle.plant_laws.proofs.Numbering.SentOn.{same_peer_is}
 use Rattle.plant_laws.proofs.Settled.UnderWayLaw.{quiet_is_answered}
@@ -355,20 +353,8 @@ module _ (c : Codec) (codec : IsCodec c) (n : NetworkParts) (net : IsNetwork n) 
               is_unserved flags has (heard_so e.deed e.older e.within flags heard has)
           go (other none) counts = absurd (let nothing = none x in omega (arith, nothing, counts))
 
-  -- the row of a request that is pending
-  pending_row : is_pending s d p x ≡ true → (h : Row Pin) × Contains (s.elements d).pending.rows h × (h.1.key ≡ key_of p x)
-  pending_row is = go (number_among (key_of p x) (s.elements d).pending.rows) refl (low (same_as d parent_as) refl is)
-    where
-      low : (b : Bool) → same_as d parent_as ≡ b → cond b (is_some (number_of s.parent.pending p x)) (is_some (number_of (s.elements d).pending p x)) ≡ true → is_some (number_of (s.elements d).pending p x) ≡ true
-      low true up is' = absurd (real (same_as_is d parent_as up))
-      low false down is' = is'
-
-      go : (o : Option ℕ) → number_among (key_of p x) (s.elements d).pending.rows ≡ o → is_some o ≡ true → (h : Row Pin) × Contains (s.elements d).pending.rows h × (h.1.key ≡ key_of p x)
-      go None at' is' = (let clash : false ≡ true = is' in cc)
-      go (Some number) at' is' = (let h = numbered (key_of p x) (s.elements d).pending.rows number at' in (h.0, contains h.0 (s.elements d).pending.rows h.1, sym (same_key_is (key_of p x) h.0.1.key h.3)))
-
   came_to : IsQuiet s → Fate c now s d p x at → CameTo c n (run_of c n es s run) now d p x at
-  came_to quiet (once.pending open' is) = (let row = pending_row is in waits open' row.0 row.1 row.2 ((quiet_is_answered c codec n net es s run written short quiet).1 d row.0 row.1))
+  came_to quiet (once.pending open' is) = (let row = pending_row s d real p x is in waits open' row.0 row.1 row.2 ((quiet_is_answered c codec n net es s run written short quiet).1 d row.0 row.1))
   came_to quiet (once.answered e one') = answered e one' (ends_with e one')
   came_to quiet (once.dropped e none why) = dropped e none why
 
