@@ -1,5 +1,6 @@
 -- What waits is under way, so in a quiet network nothing waits.
 pub mod Waits
+pub mod Fallen
 pub mod Quiet
 pub mod UnderWay
 pub mod UnderWayTakes

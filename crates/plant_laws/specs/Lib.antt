@@ -29,6 +29,7 @@ pub mod Certified
 pub mod Steps
 pub mod MessageCauses
 pub mod Causes
+pub mod WentOn
 pub mod Errors
 pub mod Met
 pub mod Broken

@@ -274,7 +274,8 @@ pub fn messages_have_causes()
 {}
 
 /// An error between elements and the parent names no request, or answers a reply, or says that the parent
-/// serves IPv4 alone: none is out of the profile, and no chain fails for one.
+/// serves IPv4 alone; or, between elements, that a chain failed, since an outside peer that was asked does
+/// not serve the request. None of their own is out of the profile.
 pub fn inner_errors()
     ensures { InnerErrors }
 {}
@@ -286,21 +287,21 @@ pub fn broken_for_reasons()
 {}
 
 /// Each notice of an element, or the parent, that there is no room has a reason on the way of its request: a full
-/// table, or a solve that needs more keys than are free.
+/// table, a solve that needs more keys than are free, or an outside peer that was asked and said so.
 pub fn full_for_reasons()
     ensures { FullForReasons }
 {}
 
 /// In a quiet state each path request that an element accepted had one answer: paths, or that there are none,
-/// or that there is no room or the chain is not available, for a reason on its way; or it was dropped, as its
-/// peer cancelled it or went down. No error answers it.
+/// or that there is no room, or the chain is not available or failed, for a reason on its way; or it was dropped,
+/// as its peer cancelled it or went down; or its chain ends at an outside peer that has yet to answer.
 pub fn requests_are_served()
     ensures { RequestsAreServed }
 {}
 
 /// Where policy allows each step on the way of an accepted request, over sessions that are up and stay up, with
-/// room in each table and keys enough, and what the parent asks for it is answered, then in the next quiet state
-/// it had its one answer: paths, or that there are none.
+/// room in each table and keys enough, and what the parent asks for it is answered, as is what an outside peer is
+/// asked, then in the next quiet state it had its one answer: paths, or that there are none.
 pub fn good_requests_are_served()
     ensures { GoodRequestsAreServed }
 {}
