@@ -19,10 +19,11 @@ use Rattle.pcep_messages.specs.Said.{end_points_of, with_bit}
 use Rattle.pcep_messages.specs.Spelling.{IsWritten}
 use Rattle.plant_text.specs.declared.settings.NetworkParts.{NetworkParts}
 use Rattle.plant_text.specs.Names.{parent_as, same_as}
+use Rattle.request_table.specs.Pending.{key_of}
 use Rattle.script_laws.specs.plant_model.declared.output.Output.{Output}
 use Rattle.script_laws.specs.plant_model.Deeds.{element_of}
 use Rattle.script_laws.specs.plant_model.Element.{Element}
-use Rattle.script_laws.specs.plant_model.Plant.{Entry, Pin, PlantDeed, Run, Segment, deeds_of}
+use Rattle.script_laws.specs.plant_model.Plant.{Entry, Pin, Plant, PlantDeed, Run, Segment, deeds_of}
 use Rattle.script_laws.specs.plant_model.RealWire.{check_of, checked, wire}
 use Rattle.script_laws.specs.plant_model.State.{Takes}
 use Rattle.script_laws.specs.plant_model.Wire.{Admitted, Checked, Wrong}
@@ -47,8 +48,9 @@ use Rattle.client_laws.proofs.Asking.{lines_feed, no_connection}
 use Rattle.client_laws.proofs.Opening.{Ends, IsNone, Walks, loading}
 use Rattle.client_laws.proofs.Resting.{asked_is_quiet}
 use Rattle.client_laws.proofs.Serving.{taken_is_served}
-use Rattle.client_laws.specs.Answered.{HasAnswer, IsReadSo, IsTakenUp, QuestionIsAnswered, QuestionIsTaken, QuestionsAreRead, answered, refused}
+use Rattle.client_laws.specs.Answered.{HasAnswer, IsReadSo, IsTakenUp, QuestionIsAnswered, QuestionIsTaken, QuestionsAreRead, answered, refused, waits}
 use Rattle.client_laws.specs.Served.{IsServed, at_once, dropped, later}
+use Rattle.client_laws.specs.Served as waiting
 
 -- ---- it is read as what it says
 
@@ -110,7 +112,7 @@ question_is_taken files n client question received net is fits a =
 
 -- ---- it has an answer
 
-module _ (n : NetworkParts) (es : List Entry) (client : ℕ) (q : Question) (t : IsTakenUp n es client q) (real : element_of n client ≢ parent_as) where
+module _ (n : NetworkParts) (es : List Entry) (s : Plant) (client : ℕ) (q : Question) (t : IsTakenUp n es client q) (real : element_of n client ≢ parent_as) where
   abbrev d : As
   d = element_of n client
 
@@ -120,11 +122,12 @@ module _ (n : NetworkParts) (es : List Entry) (client : ℕ) (q : Question) (t :
   abbrev deed : List Output → PlantDeed
   deed os = Takes d (Outside client) (question_message q) os
 
-  served : (r : Request) → r.id ≡ q.id → IsServed wire now d (Outside client) r.id (deed t.outputs ∷ t.older) → HasAnswer n es client q
+  served : (r : Request) → r.id ≡ q.id → IsServed wire s now d (Outside client) r.id (deed t.outputs ∷ t.older) → HasAnswer n es s client q
   served r id (at_once e older is some) =
       answered e older (subst (λ (m : Transcript). Within m now) is t.within) (subst (λ (x : ℕ). 1 ≤ answers_of d (Outside client) x e) id some)
   served r id (later at is e one) = answered e.deed e.older e.within (subst (λ (x : ℕ). 1 ≤ answers_of d (Outside client) x e.deed) id (omega (arith, one)))
   served r id (dropped at is e none why) = absurd (t.kept e.deed e.older e.within d r.id why)
+  served r id (waiting.waits at is now' h there key outside) = waits h there (key ∙ ap (λ (x : ℕ). key_of (Outside client) x) id) outside
 
   -- what is said to a question that is refused
   module _ (rp : Option (ℕ × ℕ)) (kind value : ℕ) (is : check_of (asked_of q) d ≡ Wrong rp kind value) (named : rp ≡ Some (0, q.id)) where
@@ -146,10 +149,10 @@ module _ (n : NetworkParts) (es : List Entry) (client : ℕ) (q : Question) (t :
     refuses os now' k (causes.no_room r w e none wish full says) = not_admitted r e
     refuses os now' k (causes.for_path r w e none wish room on) = not_admitted r e
 
-    by_cause : HasOne wire n (deed t.outputs) t.older → HasAnswer n es client q
+    by_cause : HasOne wire n (deed t.outputs) t.older → HasAnswer n es s client q
     by_cause one = go one.cause.1
       where
-        go : OnPassed wire n one.before one.event d (Outside client) (question_message q) t.outputs → HasAnswer n es client q
+        go : OnPassed wire n one.before one.event d (Outside client) (question_message q) t.outputs → HasAnswer n es s client q
         go (by_parent up on) = absurd (real (same_as_is d parent_as up))
         go (by_element low on) =
             let said = refuses on.0 one.before.clock (one.before.elements d) on.3 in
@@ -171,15 +174,15 @@ question_is_answered files n client q received net is fits a short = go (check_o
         none_outside n net wire wire_is_codec (entries_of a.lines.turns []) a.asked.state run client (question_message q) t.outputs t.older
         (subst (λ (z : As). Within (Takes z (Outside client) (question_message q) t.outputs ∷ t.older) (deeds_of wire n (entries_of a.lines.turns []))) up t.within)
 
-    go : (k : Checked) → check_of (asked_of q) (element_of n client) ≡ k → HasAnswer n (entries_of a.lines.turns []) client q
+    go : (k : Checked) → check_of (asked_of q) (element_of n client) ≡ k → HasAnswer n (entries_of a.lines.turns []) a.asked.state client q
     go (Admitted r) e =
         let read = (read_so q (element_of n client) real).admitted r e in
         let delivered : Delivered wire (Takes (element_of n client) (Outside client) (question_message q) t.outputs ∷ t.older) (element_of n client) (Outside client) r = (asked_of q, t.outputs, refl, e) in
-        served n (entries_of a.lines.turns []) client q t real r read.0
+        served n (entries_of a.lines.turns []) a.asked.state client q t real r read.0
         (taken_is_served wire wire_is_codec n net (entries_of a.lines.turns []) a.asked.state run short (asked_is_quiet files n client q received net a) (element_of n client) (Outside client) r read.1
         (Takes (element_of n client) (Outside client) (question_message q) t.outputs ∷ t.older) real t.within delivered read.2)
     go (Wrong rp kind value) e =
         elim (moment_cause wire n (entries_of a.lines.turns []) a.asked.state run short (Takes (element_of n client) (Outside client) (question_message q) t.outputs) t.older t.within) [
-          | inl one ↦ by_cause n (entries_of a.lines.turns []) client q t real rp kind value e ((read_so q (element_of n client) real).refused rp kind value e) one
+          | inl one ↦ by_cause n (entries_of a.lines.turns []) a.asked.state client q t real rp kind value e ((read_so q (element_of n client) real).refused rp kind value e) one
           | inr opening ↦ absurd opening
         ]

@@ -240,9 +240,11 @@ module _ (n : NetworkParts) (i : ℕ) where
       fed_walks =
           let come = comes ms bytes whole is_text in
           let h = feed_stays wire n i bytes old.state (happened_at feeds.fed) p Empty [] fed_happens up w.at in
-          stepped (Has p Empty (items ms)) feeds.fed older w.calm
-          (subst (λ (xs : List (Option Bytes)). Has p Empty xs (feeds.fed.after.accesses i).connection) come.1
-          (subst (λ (f : Framing). Has p f ([] ++ split_all wire (feed_of Empty bytes).frames ++ bad_item (feed_of Empty bytes).framing.bad) (feeds.fed.after.accesses i).connection) come.0 h.0), h.1)
+          stepped (Has p Empty (items ms)) feeds.fed older w.calm (
+            subst (λ (xs : List (Option Bytes)). Has p Empty xs (feeds.fed.after.accesses i).connection) come.1
+                (subst (λ (f : Framing). Has p f ([] ++ split_all wire (feed_of Empty bytes).frames ++ bad_item (feed_of Empty bytes).framing.bad) (feeds.fed.after.accesses i).connection) come.0 h.0),
+            h.1,
+          )
 
       fed_due : AreAllDue (IsDueTake i) old.modes n feeds.fed.after feeds.taken new.state
       fed_due =

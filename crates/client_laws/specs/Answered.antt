@@ -1,5 +1,6 @@
--- The question of a client that asks once is taken by the client's element, nothing drops it, and it has an answer.
-use Rattle.std.specs.Prelude.{◌≡◌, ◌≢◌, ◌≤◌, ℕ, List, [], ◌∷◌, Option, Some}
+-- The question of a client that asks once is taken by the client's element, nothing drops it, and it has an answer, or waits for an
+-- outside peer that was asked on its way.
+use Rattle.std.specs.Prelude.{◌≡◌, ◌≢◌, ◌≤◌, ℕ, List, [], ◌∷◌, Contains, Option, Some}
 use Rattle.dom_base.specs.declared.names.As.{As}
 use Rattle.dom_base.specs.declared.names.Peer.TheVariants.{Outside}
 use Rattle.dom_edge.specs.Stores.{Files}
@@ -9,15 +10,18 @@ use Rattle.pcep_messages.specs.declared.message.Wish.TheVariants as wishes
 use Rattle.pcep_messages.specs.Spelling.{IsWritten}
 use Rattle.plant_text.specs.declared.settings.NetworkParts.{NetworkParts}
 use Rattle.plant_text.specs.Names.{parent_as}
+use Rattle.request_table.specs.Pending.{key_of}
 use Rattle.script_laws.specs.plant_model.declared.output.Output.{Output}
 use Rattle.script_laws.specs.plant_model.Deeds.{element_of}
+use Rattle.script_laws.specs.plant_model.Element.{Row}
 use Rattle.script_laws.specs.plant_model.Laws.{IsNetwork}
-use Rattle.script_laws.specs.plant_model.Plant.{Entry, PlantDeed, deeds_of}
+use Rattle.script_laws.specs.plant_model.Plant.{Entry, Pin, Plant, PlantDeed, deeds_of}
 use Rattle.script_laws.specs.plant_model.RealWire.{check_of, wire}
 use Rattle.script_laws.specs.plant_model.State.{Takes}
 use Rattle.script_laws.specs.plant_model.Wire.{Admitted, Wrong}
 use Rattle.script_laws.specs.plant_model.Writing.{error_message}
 use Rattle.script_laws.specs.plant_laws.Answered.{DropsFor, answers_of}
+use Rattle.script_laws.specs.plant_laws.Chains.{WaitsOutside}
 use Rattle.script_laws.specs.plant_laws.Transcript.{Transcript, Within}
 use Rattle.script_laws.specs.plant_play.Turns.{entries_of}
 use Rattle.script_laws.specs.Headline.{HasIdsLeft}
@@ -53,15 +57,17 @@ QuestionIsTaken =
 
 -- ---- it has an answer
 
--- Its element answers it under its number, or refuses it by an error under that.
-pub data HasAnswer (n : NetworkParts) (es : List Entry) (client : ℕ) (question : Question) : Type 0 where
-  answered : (deed : PlantDeed) (older : Transcript) → Within (deed ∷ older) (deeds_of wire n es) → 1 ≤ answers_of (element_of n client) (Outside client) question.id deed → HasAnswer n es client question
+-- Its element answers it under its number, or refuses it by an error under that; or the end of its chain waits for an outside peer.
+pub data HasAnswer (n : NetworkParts) (es : List Entry) (s : Plant) (client : ℕ) (question : Question) : Type 0 where
+  answered : (deed : PlantDeed) (older : Transcript) → Within (deed ∷ older) (deeds_of wire n es) → 1 ≤ answers_of (element_of n client) (Outside client) question.id deed → HasAnswer n es s client question
   refused : (kind value : ℕ) (older : Transcript) →
       Within (Takes (element_of n client) (Outside client) (question_message question) (record { to = Outside client; message = error_message (Some (0, question.id)) kind value } ∷ []) ∷ older) (deeds_of wire n es) →
-      HasAnswer n es client question
+      HasAnswer n es s client question
+  waits : (h : Row Pin) → Contains (s.elements (element_of n client)).pending.rows h → h.1.key ≡ key_of (Outside client) question.id → WaitsOutside wire s (deeds_of wire n es) (element_of n client) h →
+      HasAnswer n es s client question
 
 -- Where no id comes round.
 abbrev pub QuestionIsAnswered : Type 0
 QuestionIsAnswered =
     (files : Option Files) (n : NetworkParts) (client : ℕ) (question : Question) (received : List ℕ) → IsNetwork n → IsClient n client → IsWritten (question_message question) →
-    (a : Asks files n client question received) → HasIdsLeft n (entries_of a.lines.turns []) → HasAnswer n (entries_of a.lines.turns []) client question
+    (a : Asks files n client question received) → HasIdsLeft n (entries_of a.lines.turns []) → HasAnswer n (entries_of a.lines.turns []) a.asked.state client question
