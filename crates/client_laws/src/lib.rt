@@ -49,7 +49,7 @@ pub fn taken_is_served()
 
 /// Where a client asks once, its session comes up and does not end, so that its question is taken by its element and not dropped.
 /// It is read as a request for a path under its number, or refused under that; and where no id comes round it has an answer: its
-/// element answers it, or refuses it.
+/// element answers it, or refuses it, or it waits for an outside peer that was asked on its way.
 pub fn question_is_answered()
     ensures read { QuestionsAreRead }
     ensures taken { QuestionIsTaken }
