@@ -1,14 +1,19 @@
--- Why a request was answered that there is no room (PCNtf 1/2): on its way a table was full, or a solve needs more keys than are free.
-use Rattle.std.specs.Prelude.{◌≡◌, ◌≢◌, ◌<◌, false, ℕ, cond, List, [], ◌∷◌, length, Contains, Some}
+-- Why a request was answered that there is no room (PCNtf 1/2): on its way a table was full, a solve needs more keys than are free, or an
+-- outside peer that was asked said so.
+use Rattle.std.specs.Prelude.{◌≡◌, ◌≢◌, ◌<◌, true, false, ℕ, cond, List, [], ◌∷◌, length, Contains, Some}
 use Rattle.dom_base.specs.declared.names.As.{As}
 use Rattle.dom_base.specs.declared.addr.Addr.{Addr}
 use Rattle.dom_base.specs.declared.names.Peer.{Peer}
-use Rattle.dom_base.specs.declared.names.Peer.TheVariants.{Inner}
+use Rattle.dom_base.specs.declared.names.Peer.TheVariants.{Outside, Inner}
+use Rattle.pcep_codes.specs.declared.notices.TheConstants as notices
+use Rattle.pcep_messages.specs.declared.message.Message.TheVariants as messages
+use Rattle.pcep_messages.specs.declared.message.Notice.{Notice}
 use Rattle.pcep_messages.specs.declared.message.Wanted.{Wanted}
 use Rattle.request_table.specs.Pending.{IsFull}
 use Rattle.plant_text.specs.declared.settings.NetworkParts.{NetworkParts}
 use Rattle.plant_text.specs.Names.{same_as, parent_as}
 use Rattle.plant_model.specs.declared.output.Output.{Output}
+use Rattle.plant_model.specs.Names.{has_pair}
 use Rattle.plant_model.specs.Wire.{Codec}
 use Rattle.plant_model.specs.Writing.{request_message, busy}
 use Rattle.plant_model.specs.Element.{is_client}
@@ -18,6 +23,8 @@ use Rattle.plant_model.specs.Plant.{Plant, PlantDeed, Entry, Run, deeds_of}
 use Rattle.plant_laws.specs.Transcript.{Transcript, Within, opened, SentIn, outputs_at}
 use Rattle.plant_laws.specs.Matched.{Answering}
 use Rattle.plant_laws.specs.Met.{RunOf, run_of, Meets, TakesPathRequest}
+use Rattle.plant_laws.specs.MessageCauses.{Notes, noted}
+use Rattle.plant_laws.specs.WentOn.{WentOn}
 use Rattle.plant_laws.specs.Solves.{ElementTells}
 use Rattle.plant_laws.specs.Runs.{InShortRuns}
 
@@ -58,6 +65,9 @@ pub record HearsFull (c : Codec) (older : Transcript) (d : As) (p : Peer) (x : �
 pub data Fills (c : Codec) (n : NetworkParts) (this : RunOf c n) : As → Peer → ℕ → PlantDeed → Transcript → Type 0 where
   crowded : (d : As) (p : Peer) (x : ℕ) (deed : PlantDeed) (older : Transcript) → IsCrowded c n this d p x deed older → Fills c n this d p x deed older
   lacks : (d : As) (p : Peer) (x : ℕ) (deed : PlantDeed) (older : Transcript) → LacksKeys c n this d p x deed older → Fills c n this d p x deed older
+  -- an outside peer to which it went on said so
+  outside_full : (d : As) (i : ℕ) (p : Peer) (x : ℕ) (older : Transcript) (told : List Notice) (kinds : List (ℕ × ℕ)) (rp : ℕ × ℕ) (os : List Output) → Contains (noted told) (Notes kinds rp) →
+      has_pair notices.BUSY.0 notices.BUSY.1 kinds ≡ true → WentOn c older d p x (Outside i) rp.1 → Fills c n this d p x (Takes d (Outside i) (messages.PcNtf told) os) older
   -- the next said so of what it was asked, for a reason of its own
   further_full : (d b : As) (p : Peer) (x : ℕ) (older : Transcript) (os : List Output) (hears : HearsFull c older d p x b) → Fills c n this b (Inner d) hears.id hears.deed hears.before → Fills c n this d p x (Takes d (Inner b) (busy hears.flags hears.id) os) older
 

@@ -8,6 +8,7 @@ ghost use Rattle.plant_laws.specs.Certified.{SolvesCertify, SolvesCertifyIn};
 ghost use Rattle.plant_laws.specs.Broken.{BrokenForReasons};
 ghost use Rattle.plant_laws.specs.Causes.{MessagesHaveCauses, NetworksBegin};
 ghost use Rattle.plant_laws.specs.Chains.{OneChain, OneChainIn, QuietHasNonePending, QuietIsAnswered, QuietIsAnsweredIn};
+ghost use Rattle.plant_laws.specs.Confined.{RunsAreConfined};
 ghost use Rattle.plant_laws.specs.Counted.{ElementIdsDiffer, IdsCount};
 ghost use Rattle.plant_laws.specs.Ends.{ChainsEndInside};
 ghost use Rattle.plant_laws.specs.Errors.{InnerErrors};
@@ -20,6 +21,7 @@ ghost use Rattle.plant_laws.specs.Matched.{RepliesAnswer, RepliesMatch};
 ghost use Rattle.plant_laws.specs.Reading.{OutsideIsRead};
 ghost use Rattle.plant_laws.specs.Readings.{MessagesAreRead, RequestsAreRead};
 ghost use Rattle.plant_laws.specs.Replies.{LeastReplies, LeastRepliesIn, NoneReplies, NoneRepliesIn, SolvesSendOne};
+ghost use Rattle.plant_laws.specs.Resting.{RestIsQuiet};
 ghost use Rattle.plant_laws.specs.Runs.{AllIsWritten, InRuns, InRunsOverPcep, InShortRuns, OverPcep, RequestsAreWritten};
 ghost use Rattle.plant_laws.specs.Served.{RequestsAreServed};
 ghost use Rattle.plant_laws.specs.Solves.{SolvesTell};
@@ -191,6 +193,17 @@ pub fn queues_stand()
     ensures { QueuesStand }
 {}
 
+/// In every state of a run nothing stands in a queue but along links, nothing is pending but at elements, and at the
+/// parent where there is one, and an outside peer that the settings do not have has no connection.
+pub fn runs_are_confined()
+    ensures { RunsAreConfined }
+{}
+
+/// A network at rest is quiet, so what is said of quiet states is said of it.
+pub fn rest_is_quiet()
+    ensures { RestIsQuiet }
+{}
+
 /// In every state of a run the current pin of an element is of the topology that was last loaded.
 pub fn pins_are_current()
     ensures { PinsAreCurrent }
@@ -261,7 +274,8 @@ pub fn messages_have_causes()
 {}
 
 /// An error between elements and the parent names no request, or answers a reply, or says that the parent
-/// serves IPv4 alone: none is out of the profile, and no chain fails for one.
+/// serves IPv4 alone; or, between elements, that a chain failed, since an outside peer that was asked does
+/// not serve the request. None of their own is out of the profile.
 pub fn inner_errors()
     ensures { InnerErrors }
 {}
@@ -273,21 +287,21 @@ pub fn broken_for_reasons()
 {}
 
 /// Each notice of an element, or the parent, that there is no room has a reason on the way of its request: a full
-/// table, or a solve that needs more keys than are free.
+/// table, a solve that needs more keys than are free, or an outside peer that was asked and said so.
 pub fn full_for_reasons()
     ensures { FullForReasons }
 {}
 
 /// In a quiet state each path request that an element accepted had one answer: paths, or that there are none,
-/// or that there is no room or the chain is not available, for a reason on its way; or it was dropped, as its
-/// peer cancelled it or went down. No error answers it.
+/// or that there is no room, or the chain is not available or failed, for a reason on its way; or it was dropped,
+/// as its peer cancelled it or went down; or its chain ends at an outside peer that has yet to answer.
 pub fn requests_are_served()
     ensures { RequestsAreServed }
 {}
 
 /// Where policy allows each step on the way of an accepted request, over sessions that are up and stay up, with
-/// room in each table and keys enough, and what the parent asks for it is answered, then in the next quiet state
-/// it had its one answer: paths, or that there are none.
+/// room in each table and keys enough, and what the parent asks for it is answered, as is what an outside peer is
+/// asked, then in the next quiet state it had its one answer: paths, or that there are none.
 pub fn good_requests_are_served()
     ensures { GoodRequestsAreServed }
 {}

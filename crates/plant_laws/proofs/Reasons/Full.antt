@@ -1,6 +1,5 @@
 -- A notice that there is no room has a reason on the way of its request.
 use Rattle.std.proofs.Common.{◌≡◌, ◌≢◌, ◌≤◌, ◌+◌, ◌==◌, ℕ, zero, suc, Bool, true, false, cond, List, [], ◌∷◌, ◌++◌, length, map, Option, Some, None, eq-eqb, sym, ◌∙◌, ap, subst, inl, inr, refl, arith}
-use Rattle.std.specs.Prelude.{◌⊎◌}
 use Rattle.dom_base.specs.declared.names.As.{As}
 use Rattle.dom_base.specs.declared.addr.Addr.{Addr}
 use Rattle.dom_base.specs.declared.names.Peer.{Peer}
@@ -26,7 +25,7 @@ use Rattle.plant_model.specs.Names.{the_parent}
 use Rattle.plant_model.specs.Wire.{Codec}
 use Rattle.plant_model.specs.Laws.{IsCodec, IsNetwork}
 use Rattle.plant_model.specs.Writing.{request_message, busy, unavailable}
-use Rattle.plant_model.specs.Element.{Item, Element, Row, Waits, is_client, is_ready}
+use Rattle.plant_model.specs.Element.{Element, is_client}
 use Rattle.plant_model.specs.Taking.{take}
 use Rattle.plant_model.specs.Parent as parent
 use Rattle.plant_model.specs.Parent.{AskingRow, Parent}
@@ -37,7 +36,7 @@ use Rattle.plant_model.specs.Deeds.{own_message}
 use Rattle.plant_model.specs.Plant.{Pin, Segment, Plant, PlantDeed, Entry, Run, deeds_of}
 use Rattle.plant_laws.specs.About.{IsShort}
 use Rattle.plant_laws.specs.Causes.{IsLost, IsLostAbove, AnswersLost, asker_of, asker_above, left_rows, left_above, Passes, OnPassed, by_element, by_parent, OfSession, by_table, anew, OfSolve, of_element, of_parent, HaveCauses}
-use Rattle.plant_laws.specs.Full.{IsCrowded, HearsFull, Fills, crowded, lacks, further_full, FullForReasonsIn}
+use Rattle.plant_laws.specs.Full.{IsCrowded, HearsFull, Fills, crowded, lacks, outside_full, further_full, FullForReasonsIn}
 use Rattle.plant_laws.specs.Matched.{Answering, ends, at_once}
 use Rattle.plant_laws.specs.Met.{run_of, Meets}
 use Rattle.plant_laws.specs.MessageCauses.{Asker, replied, WaitsAt, WaitsAbove, OnReply, unknown, goes_on, is_kept, is_broken, OnNotice, next_is_full, noted_for_nobody, of_other_kind, OnError, failed_for_nobody, of_reply, out_of_profile, other_error, OnPath, ends_here, no_session, is_refused, sent_on, OnRequest, wrong, again, key_shown, key_refused, no_room, for_path, AreAsked, OnRequestAbove, wrong_above, again_above, key_above, no_room_above, child_down, all_asked, Part, Notes, Fails, alone, noted, failed_by, failed, parts, OnParts, OnMessage}
@@ -45,12 +44,15 @@ use Rattle.plant_laws.specs.Sending.{AllSent}
 use Rattle.plant_laws.specs.Solves.{ElementTells, TellsClient, its_path, no_pair, TellsClosed, branches, no_branch, lacks_keys, TellsUpper, found as found_walk, no_walk}
 use Rattle.plant_laws.specs.Transcript.{Transcript, Within, Standing, SentIn, Handed, opened, one_if, count_answers, answers_to, outputs_at}
 use Rattle.plant_laws.specs.Waiting.{WasSentOn}
+use Rattle.plant_laws.specs.WentOn.{WentOn}
 use Rattle.plant_laws.proofs.WrittenForm.Again.{all_read}
 use Rattle.plant_laws.proofs.Once.Alone.{takes_alone}
 use Rattle.plant_laws.proofs.Once.AskedRuns.{none_outside}
 use Rattle.plant_laws.proofs.Once.Besides.{answers_in}
 use Rattle.plant_laws.proofs.Runs.Decompose.{nil_right}
-use Rattle.plant_laws.proofs.Reasons.Errors.{put_before}
+use Rattle.plant_laws.proofs.Reasons.Stood.{put_before}
+use Rattle.plant_laws.proofs.Reasons.Heard.{HearsNotice, hears_notice}
+use Rattle.plant_laws.proofs.Reasons.Went.{went_on}
 use Rattle.plant_laws.proofs.WrittenForm.EveryWritten.{every_written}
 use Rattle.plant_laws.proofs.Once.Answering.{IsFairDeed, behaves, run_kept, must_end}
 use Rattle.plant_laws.proofs.Numbering.Counted.{low_of, ids_differ}
@@ -61,10 +63,9 @@ use Rattle.plant_laws.proofs.Least.FromElement.{within_tail}
 use Rattle.plant_laws.proofs.Least.GatheredRuns.{run_gathers}
 use Rattle.plant_laws.proofs.Least.Gathers.{IsFilled}
 use Rattle.plant_laws.proofs.Once.Handing.{In}
-use Rattle.plant_laws.proofs.Runs.Inboxes.{contains}
 use Rattle.plant_laws.proofs.Reasons.MomentCauses.{HasOne, IsOpening, moment_met, outs, solver, head_of, in_two, at_here}
 use Rattle.plant_laws.proofs.Runs.Moments.{within_trans, within_length, opened_within}
-use Rattle.plant_laws.proofs.Reasons.PartCauses.{in_at, not_both}
+use Rattle.plant_laws.proofs.Reasons.PartCauses.{contains_at, in_at, not_both}
 use Rattle.plant_laws.proofs.Runs.Queues.{same_as_is}
 use Rattle.plant_laws.proofs.WrittenForm.ReadBack.{AreRead, run_read, run_single, standing_sent}
 use Rattle.plant_laws.proofs.Runs.Readings.{messages_are_read}
@@ -73,9 +74,7 @@ use Rattle.plant_laws.proofs.Runs.Rows as table
 use Rattle.plant_laws.proofs.Numbering.Sends.{IsAlone, Each-within}
 use Rattle.plant_laws.proofs.WrittenForm.Sent.{run_sent}
 use Rattle.plant_laws.proofs.Once.StillOpen.{still_open}
-use Rattle.plant_laws.proofs.Least.Subsides.{notices_subs}
 use Rattle.plant_laws.proofs.Numbering.Taken.{peer_self}
-use Rattle.plant_laws.proofs.Runs.Unrouted.{goes_inside}
 use Rattle.plant_laws.proofs.Settled.Waits.{waits_are_sent}
 use Rattle.plant_laws.proofs.WrittenForm.WhereWritten.{WrittenNetIds}
 
@@ -131,10 +130,6 @@ busy_counts p x flags (o ∷ os) (inl is) = subst (λ (y : Output). 1 ≤ cond (
     here = rw (peer_self p, eq-eqb x x refl) (omega arith)
 busy_counts p x flags (o ∷ os) (inr i) = let rec = busy_counts p x flags os i in omega (arith, rec)
 
--- nobody waits on an outside peer
-abbrev Nobody : Peer → Element Pin Segment → Type 0
-Nobody q k = (row : Row Pin) → table.In row k.pending.rows → (y : ℕ) → row.1.item.stage ≡ Waits q y → ⊥
-
 -- the deed that said so is about the request that was sent
 module _ (c : Codec) (codec : IsCodec c) (n : NetworkParts) (es : List Entry) (s : Plant) (run : Run c n es s) (written : AllSent IsWritten (deeds_of c n es)) (short : IsShort (deeds_of c n es)) (d : As) (real : d ≢ parent_as) (b : As) where
   abbrev now' : Transcript
@@ -149,6 +144,8 @@ module _ (c : Codec) (codec : IsCodec c) (n : NetworkParts) (es : List Entry) (s
   crowded_by : (id : ℕ) (deed : PlantDeed) (before : Transcript) → Fills c n (run_of c n es s run) b (Inner d) id deed before → (asks : List Asked) (os : List Output) → deed ≡ Takes b (Inner d) (messages.PcReq asks) os → IsCrowded c n (run_of c n es s run) b (Inner d) id deed before
   crowded_by id deed before (crowded b' q' x' deed' older' k) asks os is = k
   crowded_by id deed before (lacks b' q' x' deed' older' k) asks os is = no_lack k.before k.number asks os deed is k.tells
+  crowded_by id deed before (outside_full b' i q' x' older' told kinds rp os' there busy' went) asks os is =
+      absurd (let clash : ◌≡◌ {A = PlantDeed} (Takes b' (Outside i) (messages.PcNtf told) os') (Takes b (Inner d) (messages.PcReq asks) os) = is in cc)
   crowded_by id deed before (further_full b' a q' x' older' os' k deeper) asks os is =
       absurd (let clash : ◌≡◌ {A = PlantDeed} (Takes b (Inner a) (busy k.flags k.id) os') (Takes b (Inner d) (messages.PcReq asks) os) = is in cc)
 
@@ -243,25 +240,6 @@ module _ (p : Peer) (x flags : ℕ) where
       where
         go : Ons (parts (busy flags' y)) k os → OnNotice (Waiting k y) ((1, 2) ∷ []) os
         go on' = subst (OnNotice (Waiting k y) ((1, 2) ∷ [])) (sym (on'.2 ∙ ap (λ (l : List Output). on'.0 ++ l) on'.4 ∙ nil_right on'.0)) on'.3
-
-    -- notices of a peer on which nobody waits
-    module _ (None' : K → Type 0) (no_one : (k : K) → None' k → (y : ℕ) (w : Asker) → Waiting k y w → ⊥) (stays : (kinds : List (ℕ × ℕ)) (rp : ℕ × ℕ) (k : K) → None' k → None' (left (alone (Notes kinds rp)) k)) where
-      note_none : {X : Type 0} (kinds : List (ℕ × ℕ)) (rp : ℕ × ℕ) (k : K) (os : List Output) → None' k → OnNotice (Waiting k rp.1) kinds os → In out os → X
-      note_none kinds rp k os none (next_is_full w hit waits is) i = absurd (no_one k none rp.1 w waits)
-      note_none kinds rp k os none (noted_for_nobody none' is) i = nothing os is i
-      note_none kinds rp k os none (of_other_kind miss is) i = nothing os is i
-
-      notes_none : {X : Type 0} (kinds : List (ℕ × ℕ)) (ids : List (ℕ × ℕ)) (more : List Part) (k : K) (os : List Output) → None' k →
-          ((k' : K) (os' : List Output) → None' k' → Ons more k' os' → In out os' → X) → Ons (map (Notes kinds) ids ++ more) k os → In out os → X
-      notes_none kinds [] more k os none rest on i = rest k os none on i
-      notes_none kinds (rp ∷ ids) more k os none rest on i = elim (in_two out on.0 on.1 (subst (In out) on.2 i)) [
-        | inl first ↦ note_none kinds rp k on.0 none on.3 first
-        | inr second ↦ notes_none kinds ids more (left (alone (Notes kinds rp)) k) on.1 (stays kinds rp k none) rest on.4 second
-      ]
-
-      noted_none : {X : Type 0} (ns : List Notice) (k : K) (os : List Output) → None' k → Ons (noted ns) k os → In out os → X
-      noted_none [] k os none on i = nothing os on i
-      noted_none (m ∷ ms) k os none on i = notes_none m.kinds m.ids (noted ms) k os none (λ k' os' none' on' i'. noted_none ms k' os' none' on' i') on i
 
   module _ (c : Codec) (codec : IsCodec c) (n : NetworkParts) (net : IsNetwork n) (es : List Entry) (s : Plant) (run : Run c n es s) (written : AllSent IsWritten (deeds_of c n es)) (short : IsShort (deeds_of c n es)) (d : As) (older : Transcript)
       (rec : (b : As) (x' flags' : ℕ) (deed' : PlantDeed) (older' : Transcript) → Within (deed' ∷ older') older → In {A = Output} (record { to = Inner d; message = busy flags' x' }) (outputs_at b deed') → Fills c n (run_of c n es s run) b (Inner d) x' deed' older') where
@@ -369,27 +347,15 @@ module _ (p : Peer) (x flags : ℕ) where
             full = subst (λ (b : Bool). cond b (IsFull before.parent.pending) (IsFull (before.elements d).pending)) (sym low) full;
           }))
 
-      outside_none : (j : ℕ) → Nobody (Outside j) (before.elements d)
-      outside_none j row there y waits = go (goes_inside n net d row.1.item.sequence sent.rest (Outside j) sent.goes)
-        where
-          sent : WasSentOn c n (deeds_of c n entries) d row (Outside j) y
-          sent = waits_are_sent c codec n net entries before run' d row (contains row (before.elements d).pending.rows there) (Outside j) y waits
-
-          go : (z : As) × (Outside j ≡ Inner z) → ⊥
-          go to = (let clash : Outside j ≡ Inner to.0 = to.1 in cc)
-
-      nobody_waits : (k : Element Pin Segment) → Nobody q k → (y : ℕ) (w : Asker) → WaitsAt k q y w → ⊥
-      nobody_waits k none y w waits = none waits.row (table.in_of waits.row k.pending.rows waits.is_row) y waits.waits
-
-      nobody_stays : (pin : Pin) (kinds : List (ℕ × ℕ)) (rp : ℕ × ℕ) (k : Element Pin Segment) → Nobody q k → Nobody q (take c open_of (place n d) pin q (class_of n q) before.clock (alone (Notes kinds rp)) k).element
-      nobody_stays pin kinds rp k none row i y waits = go old.3
-        where
-          old : (h : Row Pin) × table.In h k.pending.rows × (row.1.key ≡ h.1.key) × ((row.1.item ≡ h.1.item) ⊎ (is_ready row.1.item.stage ≡ true))
-          old = notices_subs Pin Segment c q (record { ids = rp ∷ []; kinds = kinds } ∷ []) k row i
-
-          go : (row.1.item ≡ old.0.1.item) ⊎ (is_ready row.1.item.stage ≡ true) → ⊥
-          go (inl same) = none old.0 old.1 y (ap (λ (z : Item Pin). z.stage) (sym same) ∙ waits)
-          go (inr ready) = not_both (is_ready row.1.item.stage) ready (ap is_ready waits)
+      -- an outside peer said so
+      outer_full : (j : ℕ) → q ≡ Outside j → (pin : Pin) (ns : List Notice) (all : List Output) → Within (Takes d q (messages.PcNtf ns) all ∷ older) now → Passes c n before event d q (messages.PcNtf ns) →
+          In out all → HearsNotice c n d pin q before.clock (before.elements d) out ns → Full (Takes d q (messages.PcNtf ns) all)
+      outer_full j is pin ns all within passes i h =
+          let o = open_then q ns all within i in
+          let this = this_one h.asker.peer h.asker.flags h.asker.id h.says in
+          let went = went_on c codec n net d older q entries before run' earlier is_then event causes p x (messages.PcNtf ns) passes (λ no. no) o.0 o.1 h.rp.1 h.asker h.waits this.0 this.1 in
+          subst (λ (z : Peer). Full (Takes d z (messages.PcNtf ns) all)) (sym is)
+          (outside_full d j p x older ns h.kinds h.rp all (contains_at (Notes h.kinds h.rp) (noted ns) h.among) h.busy (subst (λ (z : Peer). WentOn c older d p x z h.rp.1) is went))
 
       inner_full : (b : As) → q ≡ Inner b → (ns : List Notice) (all : List Output) → Within (Takes d q (messages.PcNtf ns) all ∷ older) now → Passes c n before event d q (messages.PcNtf ns) → (y flags' : ℕ) → messages.PcNtf ns ≡ busy flags' y → OnNotice (WaitsAt (before.elements d) q y) ((1, 2) ∷ []) all →
           In out all → Full (Takes d q (messages.PcNtf ns) all)
@@ -421,9 +387,7 @@ module _ (p : Peer) (x flags : ℕ) where
       element_full low pin (messages.PcNtf ns) all meets within alone' passes on i = by q refl
         where
           by : (z : Peer) → q ≡ z → Full (Takes d q (messages.PcNtf ns) all)
-          by (Outside j) is =
-              noted_none (Element Pin Segment) (λ k'. WaitsAt k' q) (OnRequest c n d q before.clock) (λ m' k'. (take c open_of (place n d) pin q (class_of n q) before.clock m' k').element) (same_peer q the_parent) q
-              (Nobody q) nobody_waits (nobody_stays pin) ns (before.elements d) all (subst (λ (z : Peer). Nobody z (before.elements d)) (sym is) (outside_none j)) on i
+          by (Outside j) is = outer_full j is pin ns all within passes i (hears_notice c n d pin q before.clock ns (before.elements d) all out on i)
           by (Inner b) is =
               let h = heard b ns all (subst (λ (z : Peer). Within (Takes d z (messages.PcNtf ns) all ∷ older) now) is within) in
               inner_full b is ns all within passes h.1 h.0 h.2

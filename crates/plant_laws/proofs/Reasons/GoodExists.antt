@@ -42,7 +42,7 @@ use Rattle.plant_laws.specs.Tables.{AreTables}
 use Rattle.plant_laws.specs.Transcript.{Transcript, Within, Delivered, Standing, standing, standing_of, left_of, asks, count_asks, put_into, outputs_at}
 use Rattle.plant_laws.proofs.Reasons.GoodInboxes.{last_none}
 use Rattle.plant_laws.proofs.Reasons.GoodRun.{two, begun, first, second, third, fourth, last}
-use Rattle.plant_laws.proofs.Reasons.GoodSample.{any, never, is_ask, now, whole, now_is, at_first, at_second, is_good, first_within, is_open, goes_further}
+use Rattle.plant_laws.proofs.Reasons.GoodSample.{any, never, is_ask, now, whole, now_is, rows_one, rows_two, at_first, at_second, is_good, first_within, is_open, goes_further}
 use Rattle.plant_laws.proofs.Runs.Lists.{Stands, first_in, all_of, pairs_of}
 use Rattle.plant_laws.proofs.Runs.Moments.{opened_within}
 use Rattle.plant_laws.proofs.Once.OpenTables.{open_is_pending}
@@ -186,14 +186,6 @@ inbox_of i = elim (cases_Bool (0 == i)) [
   | inl hit ↦ subst (λ (j : ℕ). inbox_at (last.state.accesses j).connection ≡ []) (eqb-true 0 i hit) inbox_zero
   | inr miss ↦ ap inbox_at (last_none i miss)
 ]
-
-rows_one : (last.state.elements (As_ 1)).pending.rows ≡ []
-unfolding last fourth third second first begun rank parts_from body_of is_bound is_minimised
-rows_one = refl {a = []}
-
-rows_two : (last.state.elements (As_ 2)).pending.rows ≡ []
-unfolding last fourth third second first begun rank parts_from body_of is_bound is_minimised
-rows_two = refl {a = []}
 
 rows_above : last.state.parent.pending.rows ≡ []
 unfolding last fourth third second first begun rank parts_from body_of is_bound is_minimised
