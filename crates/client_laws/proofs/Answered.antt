@@ -131,7 +131,7 @@ module _ (n : NetworkParts) (es : List Entry) (s : Plant) (client : ℕ) (q : Qu
 
   -- what is said to a question that is refused
   module _ (rp : Option (ℕ × ℕ)) (kind value : ℕ) (is : check_of (asked_of q) d ≡ Wrong rp kind value) (named : rp ≡ Some (0, q.id)) where
-    told : ℕ → ℕ → List Output
+    abbrev told : ℕ → ℕ → List Output
     told kind' value' = record { to = Outside client; message = error_message (Some (0, q.id)) kind' value' } ∷ []
 
     not_admitted : {X : Type 0} (r : Request) → check_of (asked_of q) d ≡ Admitted r → X
