@@ -10,3 +10,8 @@ pub mod AliveSteps
 pub mod UnderWayRuns
 pub mod PassedOn
 pub mod UnderWayLaw
+pub mod Confined
+pub mod Reaches
+pub mod ReachesUpper
+pub mod ReachesRuns
+pub mod Resting

@@ -36,5 +36,7 @@ pub mod Broken
 pub mod Full
 pub mod Served
 pub mod Good
+pub mod Confined
+pub mod Resting
 -- handed on from below
 pub use Rattle.plant_model.specs as plant_model

@@ -8,6 +8,7 @@ ghost use Rattle.plant_laws.specs.Certified.{SolvesCertify, SolvesCertifyIn};
 ghost use Rattle.plant_laws.specs.Broken.{BrokenForReasons};
 ghost use Rattle.plant_laws.specs.Causes.{MessagesHaveCauses, NetworksBegin};
 ghost use Rattle.plant_laws.specs.Chains.{OneChain, OneChainIn, QuietHasNonePending, QuietIsAnswered, QuietIsAnsweredIn};
+ghost use Rattle.plant_laws.specs.Confined.{RunsAreConfined};
 ghost use Rattle.plant_laws.specs.Counted.{ElementIdsDiffer, IdsCount};
 ghost use Rattle.plant_laws.specs.Ends.{ChainsEndInside};
 ghost use Rattle.plant_laws.specs.Errors.{InnerErrors};
@@ -18,8 +19,9 @@ ghost use Rattle.plant_laws.specs.Issuing.{ExpandedAreIssued, KeysAreIssued, Tol
 ghost use Rattle.plant_laws.specs.Keys.{ExpandsRightly, ExpandsRightlyIn, KeysDiffer};
 ghost use Rattle.plant_laws.specs.Matched.{RepliesAnswer, RepliesMatch};
 ghost use Rattle.plant_laws.specs.Reading.{OutsideIsRead};
-ghost use Rattle.plant_laws.specs.Readings.{MessagesAreRead};
+ghost use Rattle.plant_laws.specs.Readings.{MessagesAreRead, RequestsAreRead};
 ghost use Rattle.plant_laws.specs.Replies.{LeastReplies, LeastRepliesIn, NoneReplies, NoneRepliesIn, SolvesSendOne};
+ghost use Rattle.plant_laws.specs.Resting.{RestIsQuiet};
 ghost use Rattle.plant_laws.specs.Runs.{AllIsWritten, InRuns, InRunsOverPcep, InShortRuns, OverPcep, RequestsAreWritten};
 ghost use Rattle.plant_laws.specs.Served.{RequestsAreServed};
 ghost use Rattle.plant_laws.specs.Solves.{SolvesTell};
@@ -192,6 +194,17 @@ pub fn queues_stand()
     ensures { QueuesStand }
 {}
 
+/// In every state of a run nothing stands in a queue but along links, nothing is pending but at elements, and at the
+/// parent where there is one, and an outside peer that the settings do not have has no connection.
+pub fn runs_are_confined()
+    ensures { RunsAreConfined }
+{}
+
+/// A network at rest is quiet, so what is said of quiet states is said of it.
+pub fn rest_is_quiet()
+    ensures { RestIsQuiet }
+{}
+
 /// In every state of a run the current pin of an element is of the topology that was last loaded.
 pub fn pins_are_current()
     ensures { PinsAreCurrent }
@@ -213,6 +226,11 @@ pub fn outside_is_read()
 /// one at a time.
 pub fn messages_are_read()
     ensures { MessagesAreRead }
+{}
+
+/// The same of requests alone, also where ids come round.
+pub fn requests_are_read()
+    ensures { RequestsAreRead }
 {}
 
 /// The requests that are pending are those that the transcript shows open, each as it was delivered, with
