@@ -17,6 +17,7 @@ pub mod Errors
 pub mod ErrorsTaken
 pub mod Failed
 pub mod Broken
+pub mod StaysInside
 pub mod Full
 pub mod Served
 pub mod Good

@@ -32,6 +32,7 @@ ghost use Rattle.plant_laws.specs.Topologies.{PinsAreDomains};
 ghost use Rattle.plant_laws.specs.Twins.{TwinWorlds};
 ghost use Rattle.plant_laws.specs.UnderWay.{WaitsAreUnderWay, WaitsAreUnderWayIn};
 ghost use Rattle.plant_laws.specs.Waiting.{WaitsApart, WaitsAreSent};
+ghost use Rattle.plant_laws.specs.WentOn.{NoneGoOut};
 ghost use Rattle.plant_laws.specs.Worlds.{AcceptsAsBlind, BorderJoins, SaysAsBlind, SaysOneThing, TwoWorlds};
 
 // ---- steps
@@ -281,9 +282,11 @@ pub fn inner_errors()
 {}
 
 /// Each reply of an element, or the parent, that the chain is not available has a reason on the way of its
-/// request.
+/// request. Where paths go on through no outside peer, no request goes on to one, so that no reason of these
+/// laws is of such a peer.
 pub fn broken_for_reasons()
-    ensures { BrokenForReasons }
+    ensures reasons { BrokenForReasons }
+    ensures inside { NoneGoOut }
 {}
 
 /// Each notice of an element, or the parent, that there is no room has a reason on the way of its request: a full
