@@ -17,6 +17,7 @@ use Rattle.plant_text.specs.Names.{parent_as}
 use Rattle.plant_text.specs.Settings.{children}
 use Rattle.plant_model.specs.declared.output.Output.{Output}
 use Rattle.plant_model.specs.Names.{the_parent}
+use Rattle.plant_model.specs.Routes.{StaysInside}
 use Rattle.plant_model.specs.Wire.{Codec}
 use Rattle.plant_model.specs.Writing.{request_message, error_message, ends_kind, vspt_flag}
 use Rattle.plant_model.specs.Element.{way_to}
@@ -94,10 +95,10 @@ pub data Breaks (c : Codec) (n : NetworkParts) (this : RunOf c n) : As → Peer 
   of_child : (b : As) (p : Peer) (x : ℕ) (older : Transcript) (r : Reply) (os : List Output) → ¬ TellsOfPaths r.answer → (went : WentDown c older p x b r) → Breaks c n this b the_parent r.id went.deed went.before →
       Breaks c n this parent_as p x (Takes parent_as (Inner b) (messages.PcRep (r ∷ [])) os) older
 
--- In every run each such reply of an element, or the parent, has a reason.
+-- In every run of a network whose paths go on through no outside peer each such reply of an element, or the parent, has a reason.
 abbrev pub BrokenForReasonsIn : Codec → NetworkParts → List Entry → Plant → Type 0
 BrokenForReasonsIn c n es s =
-    (run : Run c n es s) (d : As) (p : Peer) (r : Reply) (deed : PlantDeed) (older : Transcript) → Within (deed ∷ older) (deeds_of c n es) →
+    StaysInside n → (run : Run c n es s) (d : As) (p : Peer) (r : Reply) (deed : PlantDeed) (older : Transcript) → Within (deed ∷ older) (deeds_of c n es) →
     Contains (outputs_at d deed) (record { to = p; message = messages.PcRep (r ∷ []) }) → ¬ TellsOfPaths r.answer → Breaks c n (run_of c n es s run) d p r.id deed older
 
 abbrev pub BrokenForReasons : Type 0

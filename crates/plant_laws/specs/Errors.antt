@@ -13,6 +13,7 @@ use Rattle.pcep_messages.specs.declared.message.Wanted.{Wanted}
 use Rattle.plant_text.specs.declared.settings.NetworkParts.{NetworkParts}
 use Rattle.plant_text.specs.Names.{parent_as}
 use Rattle.plant_model.specs.declared.output.Output.{Output}
+use Rattle.plant_model.specs.Routes.{StaysInside}
 use Rattle.plant_model.specs.Wire.{Codec}
 use Rattle.plant_model.specs.Writing.{request_message, error_message, ends_kind, vspt_flag}
 use Rattle.plant_model.specs.State.{Takes}
@@ -33,10 +34,10 @@ pub data IsInnerError (a b : As) (deed : PlantDeed) (m : Message) : Type 0 where
   answers_reply : (rp : ℕ × ℕ) → m ≡ error_message (Some rp) errors.UNKNOWN_REQUEST.0 errors.UNKNOWN_REQUEST.1 → IsInnerError a b deed m
   refuses_ipv6 : (id : ℕ) → b ≡ parent_as → AsksForIpv6 a id deed → m ≡ error_message (Some (vspt_flag, id)) errors.KIND_NOT_SERVED.0 errors.KIND_NOT_SERVED.1 → IsInnerError a b deed m
 
--- In every run each error between two of them.
+-- In every run of a network whose paths go on through no outside peer each error between two of them.
 abbrev pub InnerErrorsIn : Codec → NetworkParts → List Entry → Plant → Type 0
 InnerErrorsIn c n es s =
-    (a b : As) (reports : List ErrorReport) (deed : PlantDeed) (older : Transcript) → Within (deed ∷ older) (deeds_of c n es) →
+    StaysInside n → (a b : As) (reports : List ErrorReport) (deed : PlantDeed) (older : Transcript) → Within (deed ∷ older) (deeds_of c n es) →
     Contains (outputs_at b deed) (record { to = Inner a; message = messages.PcErr reports }) → IsInnerError a b deed (messages.PcErr reports)
 
 abbrev pub InnerErrors : Type 0

@@ -9,6 +9,7 @@ use Rattle.request_table.specs.Pending.{IsFull}
 use Rattle.plant_text.specs.declared.settings.NetworkParts.{NetworkParts}
 use Rattle.plant_text.specs.Names.{same_as, parent_as}
 use Rattle.plant_model.specs.declared.output.Output.{Output}
+use Rattle.plant_model.specs.Routes.{StaysInside}
 use Rattle.plant_model.specs.Wire.{Codec}
 use Rattle.plant_model.specs.Writing.{request_message, busy}
 use Rattle.plant_model.specs.Element.{is_client}
@@ -61,10 +62,10 @@ pub data Fills (c : Codec) (n : NetworkParts) (this : RunOf c n) : As → Peer �
   -- the next said so of what it was asked, for a reason of its own
   further_full : (d b : As) (p : Peer) (x : ℕ) (older : Transcript) (os : List Output) (hears : HearsFull c older d p x b) → Fills c n this b (Inner d) hears.id hears.deed hears.before → Fills c n this d p x (Takes d (Inner b) (busy hears.flags hears.id) os) older
 
--- In every run each such notice of an element, or the parent, has a reason.
+-- In every run of a network whose paths go on through no outside peer each such notice of an element, or the parent, has a reason.
 abbrev pub FullForReasonsIn : Codec → NetworkParts → List Entry → Plant → Type 0
 FullForReasonsIn c n es s =
-    (run : Run c n es s) (d : As) (p : Peer) (x flags : ℕ) (deed : PlantDeed) (older : Transcript) → Within (deed ∷ older) (deeds_of c n es) →
+    StaysInside n → (run : Run c n es s) (d : As) (p : Peer) (x flags : ℕ) (deed : PlantDeed) (older : Transcript) → Within (deed ∷ older) (deeds_of c n es) →
     Contains (outputs_at d deed) (record { to = p; message = busy flags x }) → Fills c n (run_of c n es s run) d p x deed older
 
 abbrev pub FullForReasons : Type 0

@@ -14,6 +14,7 @@ use Rattle.plant_text.specs.declared.settings.NetworkParts.{NetworkParts}
 use Rattle.plant_text.specs.Names.{parent_as}
 use Rattle.plant_model.specs.declared.output.Output.{Output}
 use Rattle.plant_model.specs.Names.{the_parent}
+use Rattle.plant_model.specs.Routes.{StaysInside}
 use Rattle.plant_model.specs.Wire.{Codec}
 use Rattle.plant_model.specs.RealWire.{wire}
 use Rattle.plant_model.specs.Laws.{IsNetwork}
@@ -72,7 +73,7 @@ pub record IsWellServed (c : Codec) (now : Transcript) (d : As) (p : Peer) (x : 
 
 abbrev pub GoodRequestsAreServedIn : Codec → NetworkParts → List Entry → Plant → Type 0
 GoodRequestsAreServedIn c n es s =
-    (run : Run c n es s) → IsQuiet s → (d : As) (p : Peer) (x : ℕ) (at : Transcript) → d ≢ parent_as → Within at (deeds_of c n es) → opened c d p x at ≡ Some at →
+    StaysInside n → (run : Run c n es s) → IsQuiet s → (d : As) (p : Peer) (x : ℕ) (at : Transcript) → d ≢ parent_as → Within at (deeds_of c n es) → opened c d p x at ≡ Some at →
     IsGood c n (run_of c n es s run) (deeds_of c n es) d p x at → IsWellServed c (deeds_of c n es) d p x at
 
 abbrev pub GoodRequestsAreServed : Type 0
@@ -83,6 +84,7 @@ GoodRequestsAreServed = InShortRuns GoodRequestsAreServedIn
 pub record HasGoodRequest : Type 0 where
   pub n : NetworkParts
   pub obeys : IsNetwork n
+  pub stays : StaysInside n
   pub this : RunOf wire n
   pub short : IsShort (deeds_of wire n this.entries)
   pub quiet : IsQuiet this.state

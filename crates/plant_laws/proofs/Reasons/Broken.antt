@@ -29,6 +29,7 @@ use Rattle.plant_model.specs.declared.output.Output.{Output}
 use Rattle.plant_model.specs.Names.{the_parent}
 use Rattle.plant_model.specs.Wire.{Codec}
 use Rattle.plant_model.specs.Laws.{IsCodec, IsNetwork}
+use Rattle.plant_model.specs.Routes.{StaysInside}
 use Rattle.plant_model.specs.Writing.{request_message, no_path, unavailable, ends_kind}
 use Rattle.plant_model.specs.Element.{Element, Row, way_to, is_client, kept, stays}
 use Rattle.plant_model.specs.Taking.{take}
@@ -280,7 +281,7 @@ module _ (p : Peer) (r : Reply) (broken : ¬ TellsOfPaths r.answer) where
         go true is' = client (tells.2.to_client is')
         go false is' = closed (tells.2.to_closed is')
 
-  module _ (c : Codec) (codec : IsCodec c) (n : NetworkParts) (net : IsNetwork n) (es : List Entry) (s : Plant) (run : Run c n es s) (written : AllSent IsWritten (deeds_of c n es)) (short : IsShort (deeds_of c n es))
+  module _ (c : Codec) (codec : IsCodec c) (n : NetworkParts) (net : IsNetwork n) (stays : StaysInside n) (es : List Entry) (s : Plant) (run : Run c n es s) (written : AllSent IsWritten (deeds_of c n es)) (short : IsShort (deeds_of c n es))
       (d : As) (real : d ≢ parent_as) (older : Transcript)
       (rec : (b : As) (r' : Reply) (deed' : PlantDeed) (older' : Transcript) → Within (deed' ∷ older') older →
       In {A = Output} (record { to = Inner d; message = messages.PcRep (r' ∷ []) }) (outputs_at b deed') → ¬ TellsOfPaths r'.answer → Breaks c n (run_of c n es s run) b (Inner d) r'.id deed' older') where
@@ -293,7 +294,7 @@ module _ (p : Peer) (r : Reply) (broken : ¬ TellsOfPaths r.answer) where
         let asks = why.asks in
         let m = request_message id asks.wanted asks.wanted.target [] in
         let inside : Within (Takes parent_as (Inner d) m asks.os ∷ why.before) (deeds_of c n es) = subst (λ (e : PlantDeed). Within (e ∷ why.before) (deeds_of c n es)) asks.takes (within_trans (why.deed ∷ why.before) older (deeds_of c n es) why.within older_now) in
-        let put = put_before c codec n net es s run written short d parent_as m asks.os why.before inside in
+        let put = put_before c codec n net stays es s run written short d parent_as m asks.os why.before inside in
         let put_now = within_trans put.0 why.before (deeds_of c n es) put.1 (within_tail (Takes parent_as (Inner d) m asks.os) why.before (deeds_of c n es) inside) in
         let at_now = within_trans went.at older (deeds_of c n es) (opened_within c d p r.id older went.at went.is_open) older_now in
         let same = (element_ids_differ c codec n es s run written short put.0 went.at put_now at_now d parent_as real id asks.wanted went.wanted asks.wanted.target went.wanted.target [] went.rest put.2 went.sent).1 in
@@ -382,7 +383,7 @@ module _ (p : Peer) (r : Reply) (broken : ¬ TellsOfPaths r.answer) where
           sent = sent_by r0.id a w
 
           to : (z : As) × (q ≡ Inner z)
-          to = goes_inside n net d sent.0.1.item.sequence sent.2.rest q sent.2.goes
+          to = goes_inside n stays d sent.0.1.item.sequence sent.2.rest q sent.2.goes
 
           went : WentOn c older d p r.id q r0.id
           went = (let this = this_one a unavailable (subst (In out) eq i) in went_on (messages.PcRep (r0 ∷ [])) passes (λ no. no) at is_open r0.id a w this.peer this.id)
@@ -390,7 +391,7 @@ module _ (p : Peer) (r : Reply) (broken : ¬ TellsOfPaths r.answer) where
       -- the parent's refusal
       errors_broken : (reports : List ErrorReport) (pin : Pin) (all : List Output) → Within (Takes d q (messages.PcErr reports) all ∷ older) (deeds_of c n es) → Passes c n before event d q (messages.PcErr reports) → (at : Transcript) → opened c d p r.id older ≡ Some at →
           OnMessage c n d pin q before.clock (messages.PcErr reports) k all → In out all → Broke p r.id (Takes d q (messages.PcErr reports) all)
-      errors_broken reports pin all within passes at is_open on i = elim (hears_errors c codec n net es s run written short d entries before run' short' q pin reports all older within on) [
+      errors_broken reports pin all within passes at is_open on i = elim (hears_errors c codec n net stays es s run written short d entries before run' short' q pin reports all older within on) [
         | inl none ↦ nothing all none i
         | inr h ↦
             let this = this_one h.asker unavailable (subst (In out) h.says i) in
@@ -444,7 +445,7 @@ module _ (p : Peer) (r : Reply) (broken : ¬ TellsOfPaths r.answer) where
             let l = lost_one q (left_rows at (one.before.elements at).pending.rows one.earlier) os lost' i' in
             let there : table.In l.0 (one.before.elements at).pending.rows = left_in at (one.before.elements at).pending.rows one.earlier l.0 l.1 in
             let sent = waits_are_sent c codec n net one.entries one.before one.run at l.0 (contains l.0 (one.before.elements at).pending.rows there) q l.2.1 l.2.2 in
-            inner (goes_inside n net at l.0.1.item.sequence sent.rest q sent.goes) l.3 found
+            inner (goes_inside n stays at l.0.1.item.sequence sent.rest q sent.goes) l.3 found
           where
             inner : (z : As) × (q ≡ Inner z) → (p ≢ q) → (at' : Transcript) × (opened c d p r.id older ≡ Some at') → Broke p r.id (Downs d q os)
             inner to other f = subst (λ (z : Peer). Broke p r.id (Downs d z os)) (sym to.1) (lost d p r.id older f.0 to.0 os (λ same. other (same ∙ sym to.1)) f.1)
@@ -478,7 +479,7 @@ module _ (p : Peer) (r : Reply) (broken : ¬ TellsOfPaths r.answer) where
 
   -- ---- the parent
 
-  module _ (c : Codec) (codec : IsCodec c) (n : NetworkParts) (net : IsNetwork n) (es : List Entry) (s : Plant) (run : Run c n es s) (written : AllSent IsWritten (deeds_of c n es)) (short : IsShort (deeds_of c n es)) (older : Transcript)
+  module _ (c : Codec) (codec : IsCodec c) (n : NetworkParts) (net : IsNetwork n) (stays : StaysInside n) (es : List Entry) (s : Plant) (run : Run c n es s) (written : AllSent IsWritten (deeds_of c n es)) (short : IsShort (deeds_of c n es)) (older : Transcript)
       (rec : (b : As) (r' : Reply) (deed' : PlantDeed) (older' : Transcript) → Within (deed' ∷ older') older →
       In {A = Output} (record { to = the_parent; message = messages.PcRep (r' ∷ []) }) (outputs_at b deed') → ¬ TellsOfPaths r'.answer → Breaks c n (run_of c n es s run) b the_parent r'.id deed' older') where
     abbrev BrokeAbove : Peer → ℕ → PlantDeed → Type 0
@@ -525,7 +526,7 @@ module _ (p : Peer) (r : Reply) (broken : ¬ TellsOfPaths r.answer) where
           within' = subst (λ (z : Peer). Within (Takes parent_as z (messages.PcRep (r0 ∷ [])) all ∷ older) (deeds_of c n es)) is within
 
           put : (put : Transcript) × Within put older × SentIn put child (Inner parent_as) (messages.PcRep (r0 ∷ []))
-          put = put_before c codec n net es s run written short child parent_as (messages.PcRep (r0 ∷ [])) all older within'
+          put = put_before c codec n net stays es s run written short child parent_as (messages.PcRep (r0 ∷ [])) all older within'
 
           go : (put : Transcript) → Within put older → SentIn put child (Inner parent_as) (messages.PcRep (r0 ∷ [])) → BrokeAbove p r.id (Takes parent_as q (messages.PcRep (r0 ∷ [])) all)
           go [] inside said = absurd said
@@ -570,7 +571,7 @@ module _ (p : Peer) (r : Reply) (broken : ¬ TellsOfPaths r.answer) where
 
       -- nothing is said to errors
       above_errors : (b : As) → q ≡ Inner b → is_linked n b parent_as ≡ true → (reports : List ErrorReport) (os : List Output) → Within (Takes parent_as (Inner b) (messages.PcErr reports) os ∷ older) (deeds_of c n es) → OnsAbove q (parts (messages.PcErr reports)) before.parent os → os ≡ []
-      above_errors b is linked reports os within on = by (put_before c codec n net es s run written short b parent_as (messages.PcErr reports) os older within)
+      above_errors b is linked reports os within on = by (put_before c codec n net stays es s run written short b parent_as (messages.PcErr reports) os older within)
         where
           reply_none : (rp : ℕ × ℕ) → OnError (WaitsAbove before.parent q rp.1) errors.UNKNOWN_REQUEST os → os ≡ []
           reply_none rp (failed_for_nobody none eq) = eq
@@ -596,7 +597,7 @@ module _ (p : Peer) (r : Reply) (broken : ¬ TellsOfPaths r.answer) where
               go [] inside said = absurd said
               go (deed ∷ before') inside said =
                   told deed
-                  (told_of c codec n net es s run written short parent_as b reports deed before'
+                  (told_of c codec n net stays es s run written short parent_as b reports deed before'
                   (within_trans (deed ∷ before') older (deeds_of c n es) inside (within_tail (Takes parent_as (Inner b) (messages.PcErr reports) os) older (deeds_of c n es) within)) (in_at _ (outputs_at b deed) said))
 
       peer_errors : (reports : List ErrorReport) (os : List Output) → Within (Takes parent_as q (messages.PcErr reports) os ∷ older) (deeds_of c n es) → Passes c n before event parent_as q (messages.PcErr reports) → OnsAbove q (parts (messages.PcErr reports)) before.parent os → os ≡ []
@@ -704,7 +705,7 @@ opening_none d p r (Solves at k os keys) is i = absurd is
 opening_none d p r (Expires now) is i = absurd is
 opening_none d p r (Hands j bytes) is i = absurd is
 
-module _ (c : Codec) (codec : IsCodec c) (n : NetworkParts) (net : IsNetwork n) (es : List Entry) (s : Plant) (run : Run c n es s) (written : AllSent IsWritten (deeds_of c n es)) (short : IsShort (deeds_of c n es)) where
+module _ (c : Codec) (codec : IsCodec c) (n : NetworkParts) (net : IsNetwork n) (stays : StaysInside n) (es : List Entry) (s : Plant) (run : Run c n es s) (written : AllSent IsWritten (deeds_of c n es)) (short : IsShort (deeds_of c n es)) where
   abbrev Before : Transcript → Type 0
   Before older =
       (d b : As) (r : Reply) (deed : PlantDeed) (older' : Transcript) → Within (deed ∷ older') older → In {A = Output} (record { to = Inner d; message = messages.PcRep (r ∷ []) }) (outputs_at b deed) → ¬ TellsOfPaths r.answer → Breaks c n (run_of c n es s run) b (Inner d) r.id deed older'
@@ -719,13 +720,13 @@ module _ (c : Codec) (codec : IsCodec c) (n : NetworkParts) (net : IsNetwork n) 
       upper : d ≡ parent_as → CausedIn c n es s run deed older → Breaks c n (run_of c n es s run) d p r.id deed older
       upper is got =
           subst (λ (z : As). Breaks c n (run_of c n es s run) z p r.id deed older) (sym is)
-          (above_broken p r broken c codec n net es s run written short older (λ b r' deed' older'. before parent_as b r' deed' older') deed within got.0 got.1
+          (above_broken p r broken c codec n net stays es s run written short older (λ b r' deed' older'. before parent_as b r' deed' older') deed within got.0 got.1
           (subst (λ (z : As). In {A = Output} (record { to = p; message = messages.PcRep (r ∷ []) }) (outputs_at z deed)) is i))
 
       go : (b : Bool) → same_as d parent_as ≡ b → CausedIn c n es s run deed older → Breaks c n (run_of c n es s run) d p r.id deed older
       go true is got = upper (same_as_is d parent_as is) got
       go false is got =
-          deed_broken p r broken c codec n net es s run written short d (λ same. not_both (same_as d parent_as) (ap (λ (z : As). same_as z parent_as) same) is) older (λ b r' deed' older'. before d b r' deed' older') deed within got.0 got.1 i
+          deed_broken p r broken c codec n net stays es s run written short d (λ same. not_both (same_as d parent_as) (ap (λ (z : As). same_as z parent_as) same) is) older (λ b r' deed' older'. before d b r' deed' older') deed within got.0 got.1 i
 
   by_length : (most : ℕ) (d : As) (p : Peer) (r : Reply) (deed : PlantDeed) (older : Transcript) → length older ≤ most → Within (deed ∷ older) (deeds_of c n es) →
       In {A = Output} (record { to = p; message = messages.PcRep (r ∷ []) }) (outputs_at d deed) → ¬ TellsOfPaths r.answer → Breaks c n (run_of c n es s run) d p r.id deed older
@@ -738,5 +739,5 @@ module _ (c : Codec) (codec : IsCodec c) (n : NetworkParts) (net : IsNetwork n) 
       (within_trans (deed' ∷ older') older (deeds_of c n es) within' (within_tail deed older (deeds_of c n es) within)) i' broken')
 
 pub broken_for_reasons : WrittenNetIds BrokenForReasonsIn
-broken_for_reasons c codec n net es s run written short run' d p r deed older within has broken =
-    by_length c codec n net es s run' written short (length older) d p r deed older (omega arith) within (in_at _ (outputs_at d deed) has) broken
+broken_for_reasons c codec n net es s run written short stays run' d p r deed older within has broken =
+    by_length c codec n net stays es s run' written short (length older) d p r deed older (omega arith) within (in_at _ (outputs_at d deed) has) broken

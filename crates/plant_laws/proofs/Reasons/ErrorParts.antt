@@ -17,6 +17,7 @@ use Rattle.plant_model.specs.declared.output.Output.{Output}
 use Rattle.plant_model.specs.Names.{the_parent}
 use Rattle.plant_model.specs.Wire.{Codec}
 use Rattle.plant_model.specs.Laws.{IsCodec, IsNetwork}
+use Rattle.plant_model.specs.Routes.{StaysInside}
 use Rattle.plant_model.specs.Writing.{error_message}
 use Rattle.plant_model.specs.Element.{Item, Element, Row, Waits, is_ready}
 use Rattle.plant_model.specs.Taking.{take}
@@ -85,7 +86,7 @@ Nobody' q k = (row : Row Pin) → table.In row k.pending.rows → (y : ℕ) → 
 nobody_waits : (q : Peer) (k : Element Pin Segment) → Nobody' q k → (y : ℕ) (w : Asker) → WaitsAt k q y w → ⊥
 nobody_waits q k none y w waits = none waits.row (table.in_of waits.row k.pending.rows waits.is_row) y waits.waits
 
-module _ (c : Codec) (codec : IsCodec c) (n : NetworkParts) (net : IsNetwork n) (d : As) where
+module _ (c : Codec) (codec : IsCodec c) (n : NetworkParts) (net : IsNetwork n) (stays : StaysInside n) (d : As) where
   nobody_stays : (q : Peer) (pin : Pin) (clock : ℕ) (e rp : ℕ × ℕ) (k : Element Pin Segment) → Nobody' q k → Nobody' q (take c open_of (place n d) pin q (class_of n q) clock (alone (Fails e rp)) k).element
   nobody_stays q pin clock e rp k none row i y waits = go old.3
     where
@@ -98,7 +99,7 @@ module _ (c : Codec) (codec : IsCodec c) (n : NetworkParts) (net : IsNetwork n) 
 
   module _ (entries : List Entry) (before : Plant) (run : Run c n entries before) (short : IsShort (deeds_of c n entries)) where
     outside_none : (i : ℕ) → Nobody' (Outside i) (before.elements d)
-    outside_none i row there y waits = go (goes_inside n net d row.1.item.sequence sent.rest (Outside i) sent.goes)
+    outside_none i row there y waits = go (goes_inside n stays d row.1.item.sequence sent.rest (Outside i) sent.goes)
       where
         sent : WasSentOn c n (deeds_of c n entries) d row (Outside i) y
         sent = waits_are_sent c codec n net entries before run d row (contains row (before.elements d).pending.rows there) (Outside i) y waits

@@ -28,6 +28,7 @@ use Rattle.plant_model.specs.declared.output.Output.{Output}
 use Rattle.plant_model.specs.Names.{the_parent}
 use Rattle.plant_model.specs.Wire.{Codec, Checked, Admitted, Wrong}
 use Rattle.plant_model.specs.Laws.{IsCodec, IsNetwork}
+use Rattle.plant_model.specs.Routes.{StaysInside}
 use Rattle.plant_model.specs.Writing.{asked_of, request_message, error_message, unavailable, ends_kind, vspt_flag}
 use Rattle.plant_model.specs.Element.{Element, is_client}
 use Rattle.plant_model.specs.Taking.{take}
@@ -104,7 +105,7 @@ wrong_said rp rp' kind kind' value value' same = ap said same
 above_is : (a : As) → same_as a parent_as ≡ false → a ≢ parent_as
 above_is a low same = not_both (same_as a parent_as) (ap (λ (z : As). same_as z parent_as) same) low
 
-module _ (c : Codec) (codec : IsCodec c) (n : NetworkParts) (net : IsNetwork n) (es : List Entry) (s : Plant) (run : Run c n es s) (written : AllSent IsWritten (deeds_of c n es)) (short : IsShort (deeds_of c n es)) where
+module _ (c : Codec) (codec : IsCodec c) (n : NetworkParts) (net : IsNetwork n) (stays : StaysInside n) (es : List Entry) (s : Plant) (run : Run c n es s) (written : AllSent IsWritten (deeds_of c n es)) (short : IsShort (deeds_of c n es)) where
   abbrev now : Transcript
   now = deeds_of c n es
 
@@ -364,7 +365,7 @@ module _ (c : Codec) (codec : IsCodec c) (n : NetworkParts) (net : IsNetwork n) 
 
     module _ (entries : List Entry) (before : Plant) (run' : Run c n entries before) (short' : IsShort (deeds_of c n entries)) where
       errors_none : {X : Type 0} (q : Peer) (pin : Pin) (reports' : List ErrorReport) (all : List Output) → Within (Takes d q (messages.PcErr reports') all ∷ older) now → OnMessage c n d pin q before.clock (messages.PcErr reports') (before.elements d) all → In out all → X
-      errors_none (Outside j) pin reports' all within on i = nothing all (outside_silent c codec n net d entries before run' short' j pin reports' all on) i
+      errors_none (Outside j) pin reports' all within on i = nothing all (outside_silent c codec n net stays d entries before run' short' j pin reports' all on) i
       errors_none (Inner b) pin reports' all within on i =
           let f = inner_fine b reports' all within in
           own_error_none (Element Pin Segment) (λ k'. WaitsAt k' (Inner b)) (OnRequest c n d (Inner b) before.clock) (λ m' k'. (take c open_of (place n d) pin (Inner b) (class_of n (Inner b)) before.clock m' k').element) (same_peer (Inner b) the_parent) (Inner b)
@@ -524,4 +525,4 @@ module _ (c : Codec) (codec : IsCodec c) (n : NetworkParts) (net : IsNetwork n) 
   told_of a d reports deed older within i = by_length (length older) a d reports deed older (omega arith) within i
 
 pub inner_errors : WrittenNetIds InnerErrorsIn
-inner_errors c codec n net es s run written short a d reports deed older within has = told_of c codec n net es s run written short a d reports deed older within (in_at _ (outputs_at d deed) has)
+inner_errors c codec n net es s run written short stays a d reports deed older within has = told_of c codec n net stays es s run written short a d reports deed older within (in_at _ (outputs_at d deed) has)

@@ -16,6 +16,7 @@ use Rattle.plant_model.specs.declared.output.Output.{Output}
 use Rattle.plant_model.specs.Names.{the_parent}
 use Rattle.plant_model.specs.Wire.{Codec}
 use Rattle.plant_model.specs.Laws.{IsCodec, IsNetwork}
+use Rattle.plant_model.specs.Routes.{StaysInside}
 use Rattle.plant_model.specs.Writing.{vspt_flag}
 use Rattle.plant_model.specs.Element.{Element}
 use Rattle.plant_model.specs.Taking.{take}
@@ -43,14 +44,14 @@ pub record HearsRefusal (k : Element Pin Segment) (older : Transcript) (d : As) 
   pub waits : WaitsAt k q id asker
   pub says : os ≡ chain_broken asker
 
-module _ (c : Codec) (codec : IsCodec c) (n : NetworkParts) (net : IsNetwork n) (es : List Entry) (s : Plant) (run : Run c n es s) (written : AllSent IsWritten (deeds_of c n es)) (short : IsShort (deeds_of c n es))
+module _ (c : Codec) (codec : IsCodec c) (n : NetworkParts) (net : IsNetwork n) (stays : StaysInside n) (es : List Entry) (s : Plant) (run : Run c n es s) (written : AllSent IsWritten (deeds_of c n es)) (short : IsShort (deeds_of c n es))
     (d : As) (entries : List Entry) (before : Plant) (run' : Run c n entries before) (short' : IsShort (deeds_of c n entries)) where
   abbrev Hears : Peer → List ErrorReport → Transcript → List Output → Type 0
   Hears q reports older os = (os ≡ []) ⊎ HearsRefusal (before.elements d) older d q reports os
 
   hears_inner : (b : As) (pin : Pin) (reports : List ErrorReport) (os : List Output) (older : Transcript) → Within (Takes d (Inner b) (messages.PcErr reports) os ∷ older) (deeds_of c n es) →
       OnMessage c n d pin (Inner b) before.clock (messages.PcErr reports) (before.elements d) os → Hears (Inner b) reports older os
-  hears_inner b pin reports os older within on = by (put_before c codec n net es s run written short b d (messages.PcErr reports) os older within)
+  hears_inner b pin reports os older within on = by (put_before c codec n net stays es s run written short b d (messages.PcErr reports) os older within)
     where
       older_now : Within older (deeds_of c n es)
       older_now = within_tail (Takes d (Inner b) (messages.PcErr reports) os) older (deeds_of c n es) within
@@ -100,9 +101,9 @@ module _ (c : Codec) (codec : IsCodec c) (n : NetworkParts) (net : IsNetwork n) 
           go [] w sent = absurd sent
           go (deed ∷ before') w sent =
               one deed before' w sent
-              (told_of c codec n net es s run written short d b reports deed before' (within_trans (deed ∷ before') older (deeds_of c n es) w older_now) (in_at _ (outputs_at b deed) sent))
+              (told_of c codec n net stays es s run written short d b reports deed before' (within_trans (deed ∷ before') older (deeds_of c n es) w older_now) (in_at _ (outputs_at b deed) sent))
 
   pub hears_errors : (q : Peer) (pin : Pin) (reports : List ErrorReport) (os : List Output) (older : Transcript) → Within (Takes d q (messages.PcErr reports) os ∷ older) (deeds_of c n es) →
       OnMessage c n d pin q before.clock (messages.PcErr reports) (before.elements d) os → Hears q reports older os
-  hears_errors (Outside i) pin reports os older within on = inl (outside_silent c codec n net d entries before run' short' i pin reports os on)
+  hears_errors (Outside i) pin reports os older within on = inl (outside_silent c codec n net stays d entries before run' short' i pin reports os on)
   hears_errors (Inner b) pin reports os older within on = hears_inner b pin reports os older within on

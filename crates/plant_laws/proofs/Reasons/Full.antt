@@ -25,6 +25,7 @@ use Rattle.plant_model.specs.declared.output.Output.{Output}
 use Rattle.plant_model.specs.Names.{the_parent}
 use Rattle.plant_model.specs.Wire.{Codec}
 use Rattle.plant_model.specs.Laws.{IsCodec, IsNetwork}
+use Rattle.plant_model.specs.Routes.{StaysInside}
 use Rattle.plant_model.specs.Writing.{request_message, busy, unavailable}
 use Rattle.plant_model.specs.Element.{Item, Element, Row, Waits, is_client, is_ready}
 use Rattle.plant_model.specs.Taking.{take}
@@ -263,7 +264,7 @@ module _ (p : Peer) (x flags : ℕ) where
       noted_none [] k os none on i = nothing os on i
       noted_none (m ∷ ms) k os none on i = notes_none m.kinds m.ids (noted ms) k os none (λ k' os' none' on' i'. noted_none ms k' os' none' on' i') on i
 
-  module _ (c : Codec) (codec : IsCodec c) (n : NetworkParts) (net : IsNetwork n) (es : List Entry) (s : Plant) (run : Run c n es s) (written : AllSent IsWritten (deeds_of c n es)) (short : IsShort (deeds_of c n es)) (d : As) (older : Transcript)
+  module _ (c : Codec) (codec : IsCodec c) (n : NetworkParts) (net : IsNetwork n) (stays : StaysInside n) (es : List Entry) (s : Plant) (run : Run c n es s) (written : AllSent IsWritten (deeds_of c n es)) (short : IsShort (deeds_of c n es)) (d : As) (older : Transcript)
       (rec : (b : As) (x' flags' : ℕ) (deed' : PlantDeed) (older' : Transcript) → Within (deed' ∷ older') older → In {A = Output} (record { to = Inner d; message = busy flags' x' }) (outputs_at b deed') → Fills c n (run_of c n es s run) b (Inner d) x' deed' older') where
     abbrev now : Transcript
     now = deeds_of c n es
@@ -301,7 +302,7 @@ module _ (p : Peer) (x flags : ℕ) where
     hears b flags' id os within at is_open w t rest sent = go put.0 put.1 put.2
       where
         put : (put : Transcript) × Within put older × SentIn put b (Inner d) (busy flags' id)
-        put = put_before c codec n net es s run written short b d (busy flags' id) os older within
+        put = put_before c codec n net stays es s run written short b d (busy flags' id) os older within
 
         go : (put : Transcript) → Within put older → SentIn put b (Inner d) (busy flags' id) → Full (Takes d (Inner b) (busy flags' id) os)
         go [] inside said = absurd said
@@ -370,7 +371,7 @@ module _ (p : Peer) (x flags : ℕ) where
           }))
 
       outside_none : (j : ℕ) → Nobody (Outside j) (before.elements d)
-      outside_none j row there y waits = go (goes_inside n net d row.1.item.sequence sent.rest (Outside j) sent.goes)
+      outside_none j row there y waits = go (goes_inside n stays d row.1.item.sequence sent.rest (Outside j) sent.goes)
         where
           sent : WasSentOn c n (deeds_of c n entries) d row (Outside j) y
           sent = waits_are_sent c codec n net entries before run' d row (contains row (before.elements d).pending.rows there) (Outside j) y waits
@@ -581,13 +582,13 @@ module _ (p : Peer) (x flags : ℕ) where
   opening_none d (Expires t) is i = absurd is
   opening_none d (Hands j bytes) is i = absurd is
 
-module _ (c : Codec) (codec : IsCodec c) (n : NetworkParts) (net : IsNetwork n) (es : List Entry) (s : Plant) (run : Run c n es s) (written : AllSent IsWritten (deeds_of c n es)) (short : IsShort (deeds_of c n es)) where
+module _ (c : Codec) (codec : IsCodec c) (n : NetworkParts) (net : IsNetwork n) (stays : StaysInside n) (es : List Entry) (s : Plant) (run : Run c n es s) (written : AllSent IsWritten (deeds_of c n es)) (short : IsShort (deeds_of c n es)) where
   abbrev Before : Transcript → Type 0
   Before older = (d b : As) (x flags : ℕ) (deed : PlantDeed) (older' : Transcript) → Within (deed ∷ older') older → In {A = Output} (record { to = Inner d; message = busy flags x }) (outputs_at b deed) → Fills c n (run_of c n es s run) b (Inner d) x deed older'
 
   step : (d : As) (p : Peer) (x flags : ℕ) (deed : PlantDeed) (older : Transcript) → Within (deed ∷ older) (deeds_of c n es) → In {A = Output} (record { to = p; message = busy flags x }) (outputs_at d deed) → Before older → Fills c n (run_of c n es s run) d p x deed older
   step d p x flags deed older within i before = elim (moment_met c n es s run short deed older within) [
-    | inl got ↦ deed_full p x flags c codec n net es s run written short d older (λ b x' flags' deed' older'. before d b x' flags' deed' older') deed within got.0 got.1 i
+    | inl got ↦ deed_full p x flags c codec n net stays es s run written short d older (λ b x' flags' deed' older'. before d b x' flags' deed' older') deed within got.0 got.1 i
     | inr first ↦ opening_none p x flags d deed first i
   ]
 
@@ -600,4 +601,4 @@ module _ (c : Codec) (codec : IsCodec c) (n : NetworkParts) (net : IsNetwork n) 
       (within_trans (deed' ∷ older') older (deeds_of c n es) within' (within_tail deed older (deeds_of c n es) within)) i')
 
 pub full_for_reasons : WrittenNetIds FullForReasonsIn
-full_for_reasons c codec n net es s run written short run' d p x flags deed older within has = by_length c codec n net es s run' written short (length older) d p x flags deed older (omega arith) within (in_at _ (outputs_at d deed) has)
+full_for_reasons c codec n net es s run written short stays run' d p x flags deed older within has = by_length c codec n net stays es s run' written short (length older) d p x flags deed older (omega arith) within (in_at _ (outputs_at d deed) has)

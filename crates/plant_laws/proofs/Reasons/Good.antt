@@ -124,5 +124,5 @@ module _ (c : Codec) (n : NetworkParts) (this : RunOf c n) (now : Transcript) (d
       go (breaks r has id broken why) = absurd (never d p x e.deed e.older why at first e.within (inl (e.is_open, e.ends)))
 
 pub good_requests_are_served : WrittenNetIds GoodRequestsAreServedIn
-good_requests_are_served c codec n net es s run written short run' quiet d p x at real within begins good =
-    served c n (run_of c n es s run') (deeds_of c n es) d p x at good (requests_are_served c codec n net es s run written short run' quiet d p x at real within begins)
+good_requests_are_served c codec n net es s run written short stays run' quiet d p x at real within begins good =
+    served c n (run_of c n es s run') (deeds_of c n es) d p x at good (requests_are_served c codec n net es s run written short stays run' quiet d p x at real within begins)

@@ -24,7 +24,8 @@ use Rattle.plant_text.specs.Settings.{is_element}
 use Rattle.plant_model.specs.declared.output.Output.{Output}
 use Rattle.plant_model.specs.RealWire.{wire}
 use Rattle.plant_model.proofs.WireLaws.{wire_is_codec}
-use Rattle.plant_model.specs.Laws.{IsElement, IsParentLink, IsNetwork}
+use Rattle.plant_model.specs.Laws.{IsElement, IsParentLink, IsNetwork, LeadApart, LeadsOut}
+use Rattle.plant_model.specs.Routes.{StaysInside}
 use Rattle.plant_model.specs.Samples.{As_}
 use Rattle.plant_model.specs.SampleRuns.{element}
 use Rattle.plant_model.specs.State.{Connection, Loads, Pops, Takes, Says, Ups, Downs, Clears, Solves, Expires, Hands}
@@ -86,6 +87,13 @@ Joins p = (is_element two p.0 ≡ true) × (is_element two p.1 ≡ true) × (p.0
 abbrev Apart : As × As → As × As → Type 0
 Apart p q = ((p.0 ≡ q.0) × (p.1 ≡ q.1) → ⊥) × ((p.0 ≡ q.1) × (p.1 ≡ q.0) → ⊥)
 
+not_down : (r : PeerRow) → Stands r two.peers → r.down ≡ false
+not_down r (inl is) = ap (λ (z : PeerRow). z.down) is
+not_down r (inr none) = absurd none
+
+stays : StaysInside two
+stays = all_of (λ (r : PeerRow). r.down ≡ false) two.peers not_down
+
 obeys : IsNetwork two
 obeys = record {
   elements_differ = elements_differ;
@@ -95,7 +103,8 @@ obeys = record {
   links = All-cons Joins (As_ 1, As_ 2) [] (refl, refl, λ same. (let clash : 1 ≡ 2 = ap (λ (z : As). z.0) same in omega (arith, clash))) (All-nil Joins);
   links_differ = pairs_of Apart ((As_ 1, As_ 2) ∷ []) ((λ y none. absurd none), tt);
   peers = all_of (λ (r : PeerRow). is_element two r.at ≡ true) two.peers at_first_one;
-  no_downs = all_of (λ (r : PeerRow). r.down ≡ false) two.peers not_down;
+  downs = all_of (LeadsOut two) two.peers (λ r there down. (let clash : true ≡ false = sym down ∙ not_down r there in cc));
+  downs_differ = pairs_of LeadApart two.peers ((λ y none. absurd none), tt);
   few_parent_links = omega arith;
   parent_links = All-nil IsParentLink;
   parent_links_differ = pairs_of (λ (l m : ParentLink). (l.link.far ≢ m.link.far) × (l.link.near ≢ m.link.near)) [] tt;
@@ -104,10 +113,6 @@ obeys = record {
     at_first_one : (r : PeerRow) → Stands r two.peers → is_element two r.at ≡ true
     at_first_one r (inl is) = ap (λ (z : PeerRow). is_element two z.at) is
     at_first_one r (inr none) = absurd none
-
-    not_down : (r : PeerRow) → Stands r two.peers → r.down ≡ false
-    not_down r (inl is) = ap (λ (z : PeerRow). z.down) is
-    not_down r (inr none) = absurd none
 
 -- ---- few requests were sent
 
@@ -348,6 +353,7 @@ pub good_requests_exist : HasGoodRequest
 good_requests_exist = record {
   n = two;
   obeys = obeys;
+  stays = stays;
   this = last;
   short = short;
   quiet = quiet;

@@ -22,6 +22,7 @@ use Rattle.plant_text.specs.Settings.{class_of}
 use Rattle.plant_model.specs.declared.output.Output.{Output}
 use Rattle.plant_model.specs.Wire.{Codec, Checked, Admitted, Wrong}
 use Rattle.plant_model.specs.Laws.{IsCodec, IsNetwork}
+use Rattle.plant_model.specs.Routes.{StaysInside}
 use Rattle.plant_model.specs.Writing.{busy, unavailable}
 use Rattle.plant_model.specs.Names.{the_parent}
 use Rattle.plant_model.specs.Element.{Element, Row, Place, is_client}
@@ -182,7 +183,7 @@ pub asked_never : {X : Type 0} (c : Codec) (d : As) (p q : Peer) (x answers : �
 asked_never c d p q x answers asks true e = never_ends c d x answers asks e
 asked_never c d p q x answers asks false e = (let clash : Keeps ≡ Ends = e in cc)
 
-module _ (c : Codec) (codec : IsCodec c) (n : NetworkParts) (net : IsNetwork n) (es : List Entry) (s : Plant) (run : Run c n es s) (written : AllSent IsWritten (deeds_of c n es)) (short : IsShort (deeds_of c n es))
+module _ (c : Codec) (codec : IsCodec c) (n : NetworkParts) (net : IsNetwork n) (stays : StaysInside n) (es : List Entry) (s : Plant) (run : Run c n es s) (written : AllSent IsWritten (deeds_of c n es)) (short : IsShort (deeds_of c n es))
     (d : As) (real : d ≢ parent_as) (p : Peer) (x : ℕ) where
   keeps_never : {X : Type 0} → Keeps ≡ Ends → X
   keeps_never e = (let clash : Keeps ≡ Ends = e in cc)
@@ -230,7 +231,7 @@ module _ (c : Codec) (codec : IsCodec c) (n : NetworkParts) (net : IsNetwork n) 
       go true is e (by_element down on) = element_each one.before at (one.before.current at) q one.before.clock m (one.before.elements at) os e (heard on) on
         where
           heard : OnMessage c n at (one.before.current at) q one.before.clock m (one.before.elements at) os → (reports : List ErrorReport) → m ≡ messages.PcErr reports → Each os
-          heard on' reports same = elim (hears_errors c codec n net es s run written short at one.entries one.before one.run one.short q (one.before.current at) reports os older
+          heard on' reports same = elim (hears_errors c codec n net stays es s run written short at one.entries one.before one.run one.short q (one.before.current at) reports os older
               (subst (λ (z : Message). Within (Takes at q z os ∷ older) (deeds_of c n es)) same within) (subst (λ (z : Message). OnMessage c n at (one.before.current at) q one.before.clock z (one.before.elements at) os) same on')) [
                 | inl none ↦ none_each os none
                 | inr h ↦ replied_each h.asker unavailable os h.says
@@ -281,7 +282,7 @@ told_or_not (NoPath nature vector) = go (nature == no_paths.NONE_FOUND) refl
     go true is = inl (eqb-true nature no_paths.NONE_FOUND is)
     go false is = inr (λ same. not_both (nature == no_paths.NONE_FOUND) (eq-eqb nature no_paths.NONE_FOUND same) is)
 
-module _ (c : Codec) (codec : IsCodec c) (n : NetworkParts) (net : IsNetwork n) (es : List Entry) (s : Plant) (run : Run c n es s) (written : AllSent IsWritten (deeds_of c n es)) (short : IsShort (deeds_of c n es))
+module _ (c : Codec) (codec : IsCodec c) (n : NetworkParts) (net : IsNetwork n) (stays : StaysInside n) (es : List Entry) (s : Plant) (run : Run c n es s) (written : AllSent IsWritten (deeds_of c n es)) (short : IsShort (deeds_of c n es))
     (d : As) (real : d ≢ parent_as) (p : Peer) (x : ℕ) (at : Transcript) where
   abbrev now : Transcript
   now = deeds_of c n es
@@ -291,8 +292,8 @@ module _ (c : Codec) (codec : IsCodec c) (n : NetworkParts) (net : IsNetwork n) 
     where
       each : Each (outputs_at d e.deed)
       each = elim (moment_cause c n es s run short e.deed e.older e.within) [
-        | inl one ↦ ends_each c codec n net es s run written short d real p x e.deed e.older e.within one e.ends
-        | inr first ↦ opening_keeps c codec n net es s run written short d real p x e.deed first e.ends
+        | inl one ↦ ends_each c codec n net stays es s run written short d real p x e.deed e.older e.within one e.ends
+        | inr first ↦ opening_keeps c codec n net stays es s run written short d real p x e.deed first e.ends
       ]
 
       -- the output is to p, and says this
@@ -310,12 +311,12 @@ module _ (c : Codec) (codec : IsCodec c) (n : NetworkParts) (net : IsNetwork n) 
               let has = at_p a.one (messages.PcRep (r ∷ [])) a.there a.to is in
               elim (told_or_not r.answer) [
                 | inl told' ↦ tells r has id told'
-                | inr broken ↦ breaks r has id broken (subst (λ (y : ℕ). Breaks c n (run_of c n es s run) d p y e.deed e.older) id (broken_for_reasons c codec n net es s run written short run d p r e.deed e.older e.within has broken))
+                | inr broken ↦ breaks r has id broken (subst (λ (y : ℕ). Breaks c n (run_of c n es s run) d p y e.deed e.older) id (broken_for_reasons c codec n net es s run written short stays run d p r e.deed e.older e.within has broken))
               ]
           go (full flags id is) counts =
               let same : id ≡ x = has_one x (flags, id) (one_is (has_id x ((flags, id) ∷ [])) (subst (λ (m : Message). 1 ≤ count_answers x m) is counts)) in
               let has = subst (λ (y : ℕ). Contains (outputs_at d e.deed) (record { to = p; message = busy flags y })) same (at_p a.one (busy flags id) a.there a.to is) in
-              is_full flags has (full_for_reasons c codec n net es s run written short run d p x flags e.deed e.older e.within has)
+              is_full flags has (full_for_reasons c codec n net es s run written short stays run d p x flags e.deed e.older e.within has)
           go (other none) counts = absurd (let nothing = none x in omega (arith, nothing, counts))
 
   none_pending : s.parent.pending.rows ≡ [] → ((d' : As) → (s.elements d').pending.rows ≡ []) → is_pending s d p x ≡ false
@@ -326,10 +327,10 @@ module _ (c : Codec) (codec : IsCodec c) (n : NetworkParts) (net : IsNetwork n) 
       go false = ap (λ (rows : List _). is_some (number_among (key_of p x) rows)) (all d)
 
   came_to : IsQuiet s → Fate c now s d p x at → CameTo c n (run_of c n es s run) now d p x at
-  came_to quiet (once.pending open' is) = (let rows = quiet_has_none_pending c codec n net es s run written short net.no_downs quiet in not_both (is_pending s d p x) is (none_pending rows.0 rows.1))
+  came_to quiet (once.pending open' is) = (let rows = quiet_has_none_pending c codec n net es s run written short stays quiet in not_both (is_pending s d p x) is (none_pending rows.0 rows.1))
   came_to quiet (once.answered e one') = answered e one' (ends_with e one')
   came_to quiet (once.dropped e none why) = dropped e none why
 
 pub requests_are_served : WrittenNetIds RequestsAreServedIn
-requests_are_served c codec n net es s run written short run' quiet d p x at real within begins' =
-    came_to c codec n net es s run' written short d real p x at quiet (requests_are_answered_once c codec n net es s run d p x at within begins').fate
+requests_are_served c codec n net es s run written short stays run' quiet d p x at real within begins' =
+    came_to c codec n net stays es s run' written short d real p x at quiet (requests_are_answered_once c codec n net es s run d p x at within begins').fate
