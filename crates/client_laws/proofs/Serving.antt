@@ -101,14 +101,14 @@ none_pending s d p x above all = go (same_as d parent_as)
     go false = ap (λ (rows : List _). is_some (number_among (key_of p x) rows)) (all d)
 
 pub taken_is_served : TakenIsServed
-taken_is_served c codec n net es s run short quiet d p r w moment real within delivered path = go (opens c d p r w moment delivered path)
+taken_is_served c codec n net es s run short stays quiet d p r w moment real within delivered path = go (opens c d p r w moment delivered path)
   where
     written : AllSent IsWritten (deeds_of c n es)
     written = every_written c codec n net es s run short
 
     by_fate : (at : Transcript) → opened c d p r.id moment ≡ Some at → Fate c (deeds_of c n es) s d p r.id at → IsServed c (deeds_of c n es) d p r.id moment
     by_fate at is (once.pending open' there) =
-        let rows = quiet_has_none_pending c codec n net es s run written short net.no_downs quiet in
+        let rows = quiet_has_none_pending c codec n net es s run written short stays quiet in
         let clash : true ≡ false = sym there ∙ none_pending s d p r.id rows.0 rows.1 in cc
     by_fate at is (once.answered e one) = served.later at is e one
     by_fate at is (once.dropped e none why) = served.dropped at is e none why

@@ -9,6 +9,7 @@ use Rattle.pcep_messages.specs.declared.message.Wish.TheVariants as wishes
 use Rattle.plant_text.specs.declared.settings.NetworkParts.{NetworkParts}
 use Rattle.plant_text.specs.Names.{parent_as}
 use Rattle.script_laws.specs.plant_model.Plant.{Entry, Plant, PlantDeed, deeds_of}
+use Rattle.script_laws.specs.plant_model.Routes.{StaysInside}
 use Rattle.script_laws.specs.plant_model.Wire.{Codec}
 use Rattle.script_laws.specs.plant_laws.Answered.{DropsFor, IsEnd, answers_of}
 use Rattle.script_laws.specs.plant_laws.Chains.{IsQuiet}
@@ -30,10 +31,11 @@ pub data IsServed (c : Codec) (now : Transcript) (d : As) (p : Peer) (x : ℕ) (
   later : (at : Transcript) → opened c d p x moment ≡ Some at → (e : IsEnd c now d p x at) → answers_of d p x e.deed ≡ 1 → IsServed c now d p x moment
   dropped : (at : Transcript) → opened c d p x moment ≡ Some at → (e : IsEnd c now d p x at) → answers_of d p x e.deed ≡ 0 → DropsFor d p x e.deed → IsServed c now d p x moment
 
--- In a quiet state each request for a path that an element took and admitted was answered at once, or by what ended it, or was dropped.
+-- In a quiet state of a network whose paths go on through no outside peer each request for a path that an element took and admitted was
+-- answered at once, or by what ended it, or was dropped.
 abbrev pub TakenIsServedIn : Codec → NetworkParts → List Entry → Plant → Type 0
 TakenIsServedIn c n es s =
-    IsQuiet s → (d : As) (p : Peer) (r : Request) (w : Wanted) (moment : Transcript) → d ≢ parent_as → Within moment (deeds_of c n es) → Delivered c moment d p r → r.wish ≡ wishes.Path w →
+    StaysInside n → IsQuiet s → (d : As) (p : Peer) (r : Request) (w : Wanted) (moment : Transcript) → d ≢ parent_as → Within moment (deeds_of c n es) → Delivered c moment d p r → r.wish ≡ wishes.Path w →
     IsServed c (deeds_of c n es) d p r.id moment
 
 abbrev pub TakenIsServed : Type 0
