@@ -37,7 +37,8 @@ pub fn finished_is_at_rest()
 {}
 
 /// Each request for a path that is taken and admitted is answered by the deed that took it, or is open from then on; and in a quiet
-/// state it was answered so, or had its one answer by what ended it, or was dropped, as its peer cancelled it or went down.
+/// state of a network whose paths go on through no outside peer it was answered so, or had its one answer by what ended it, or was
+/// dropped, as its peer cancelled it or went down.
 pub fn taken_is_served()
     ensures opens { TakenIsOpen }
     ensures served { TakenIsServed }

@@ -255,34 +255,35 @@ pub fn messages_have_causes()
     ensures begin { NetworksBegin }
 {}
 
-/// An error between elements and the parent names no request, or answers a reply, or says that the parent
-/// serves IPv4 alone: none is out of the profile, and no chain fails for one.
+/// Where paths go on through no outside peer: an error between elements and the parent names no request, or
+/// answers a reply, or says that the parent serves IPv4 alone: none is out of the profile, and no chain fails
+/// for one.
 pub fn inner_errors()
     ensures { InnerErrors }
 {}
 
 /// Each reply of an element, or the parent, that the chain is not available has a reason on the way of its
-/// request.
+/// request, where paths go on through no outside peer.
 pub fn broken_for_reasons()
     ensures { BrokenForReasons }
 {}
 
 /// Each notice of an element, or the parent, that there is no room has a reason on the way of its request: a full
-/// table, or a solve that needs more keys than are free.
+/// table, a solve that needs more keys than are free, or what an outside peer said that was asked for the rest.
 pub fn full_for_reasons()
     ensures { FullForReasons }
 {}
 
 /// In a quiet state each path request that an element accepted had one answer: paths, or that there are none,
 /// or that there is no room or the chain is not available, for a reason on its way; or it was dropped, as its
-/// peer cancelled it or went down. No error answers it.
+/// peer cancelled it or went down. No error answers it. So it is where paths go on through no outside peer.
 pub fn requests_are_served()
     ensures { RequestsAreServed }
 {}
 
 /// Where policy allows each step on the way of an accepted request, over sessions that are up and stay up, with
 /// room in each table and keys enough, and what the parent asks for it is answered, then in the next quiet state
-/// it had its one answer: paths, or that there are none.
+/// it had its one answer: paths, or that there are none. So it is where paths go on through no outside peer.
 pub fn good_requests_are_served()
     ensures { GoodRequestsAreServed }
 {}

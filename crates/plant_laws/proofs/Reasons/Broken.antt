@@ -294,7 +294,7 @@ module _ (p : Peer) (r : Reply) (broken : ¬ TellsOfPaths r.answer) where
         let asks = why.asks in
         let m = request_message id asks.wanted asks.wanted.target [] in
         let inside : Within (Takes parent_as (Inner d) m asks.os ∷ why.before) (deeds_of c n es) = subst (λ (e : PlantDeed). Within (e ∷ why.before) (deeds_of c n es)) asks.takes (within_trans (why.deed ∷ why.before) older (deeds_of c n es) why.within older_now) in
-        let put = put_before c codec n net stays es s run written short d parent_as m asks.os why.before inside in
+        let put = put_before c codec n es s run written d parent_as m asks.os why.before inside in
         let put_now = within_trans put.0 why.before (deeds_of c n es) put.1 (within_tail (Takes parent_as (Inner d) m asks.os) why.before (deeds_of c n es) inside) in
         let at_now = within_trans went.at older (deeds_of c n es) (opened_within c d p r.id older went.at went.is_open) older_now in
         let same = (element_ids_differ c codec n es s run written short put.0 went.at put_now at_now d parent_as real id asks.wanted went.wanted asks.wanted.target went.wanted.target [] went.rest put.2 went.sent).1 in
@@ -526,7 +526,7 @@ module _ (p : Peer) (r : Reply) (broken : ¬ TellsOfPaths r.answer) where
           within' = subst (λ (z : Peer). Within (Takes parent_as z (messages.PcRep (r0 ∷ [])) all ∷ older) (deeds_of c n es)) is within
 
           put : (put : Transcript) × Within put older × SentIn put child (Inner parent_as) (messages.PcRep (r0 ∷ []))
-          put = put_before c codec n net stays es s run written short child parent_as (messages.PcRep (r0 ∷ [])) all older within'
+          put = put_before c codec n es s run written child parent_as (messages.PcRep (r0 ∷ [])) all older within'
 
           go : (put : Transcript) → Within put older → SentIn put child (Inner parent_as) (messages.PcRep (r0 ∷ [])) → BrokeAbove p r.id (Takes parent_as q (messages.PcRep (r0 ∷ [])) all)
           go [] inside said = absurd said
@@ -571,7 +571,7 @@ module _ (p : Peer) (r : Reply) (broken : ¬ TellsOfPaths r.answer) where
 
       -- nothing is said to errors
       above_errors : (b : As) → q ≡ Inner b → is_linked n b parent_as ≡ true → (reports : List ErrorReport) (os : List Output) → Within (Takes parent_as (Inner b) (messages.PcErr reports) os ∷ older) (deeds_of c n es) → OnsAbove q (parts (messages.PcErr reports)) before.parent os → os ≡ []
-      above_errors b is linked reports os within on = by (put_before c codec n net stays es s run written short b parent_as (messages.PcErr reports) os older within)
+      above_errors b is linked reports os within on = by (put_before c codec n es s run written b parent_as (messages.PcErr reports) os older within)
         where
           reply_none : (rp : ℕ × ℕ) → OnError (WaitsAbove before.parent q rp.1) errors.UNKNOWN_REQUEST os → os ≡ []
           reply_none rp (failed_for_nobody none eq) = eq

@@ -105,18 +105,19 @@ wrong_said rp rp' kind kind' value value' same = ap said same
 above_is : (a : As) → same_as a parent_as ≡ false → a ≢ parent_as
 above_is a low same = not_both (same_as a parent_as) (ap (λ (z : As). same_as z parent_as) same) low
 
-module _ (c : Codec) (codec : IsCodec c) (n : NetworkParts) (net : IsNetwork n) (stays : StaysInside n) (es : List Entry) (s : Plant) (run : Run c n es s) (written : AllSent IsWritten (deeds_of c n es)) (short : IsShort (deeds_of c n es)) where
-  abbrev now : Transcript
-  now = deeds_of c n es
-
+module _ (c : Codec) (codec : IsCodec c) (n : NetworkParts) (es : List Entry) (s : Plant) (run : Run c n es s) (written : AllSent IsWritten (deeds_of c n es)) where
   -- ---- what stood in an inner queue was sent
 
-  pub put_before : (a at : As) (m : Message) (os : List Output) (older : Transcript) → Within (Takes at (Inner a) m os ∷ older) now → (put : Transcript) × Within put older × SentIn put a (Inner at) m
+  pub put_before : (a at : As) (m : Message) (os : List Output) (older : Transcript) → Within (Takes at (Inner a) m os ∷ older) (deeds_of c n es) → (put : Transcript) × Within put older × SentIn put a (Inner at) m
   put_before a at m os older within =
       let q = (messages_are_read c codec n es s run written).queues a at m os older within in
       let x : Standing = record { message = m; put = q.put } in
       let was = standing_put a at q.before x (subst (λ (l : List Standing). Contains l x) (sym q.stood) (contains_head x q.rest)) in
       (q.put, subst (λ (l : Transcript). Within q.put l) (sym q.is_popped) (inr was.within), was.sent)
+
+module _ (c : Codec) (codec : IsCodec c) (n : NetworkParts) (net : IsNetwork n) (stays : StaysInside n) (es : List Entry) (s : Plant) (run : Run c n es s) (written : AllSent IsWritten (deeds_of c n es)) (short : IsShort (deeds_of c n es)) where
+  abbrev now : Transcript
+  now = deeds_of c n es
 
   -- ---- why a request that one of them sent is refused
 
@@ -200,7 +201,7 @@ module _ (c : Codec) (codec : IsCodec c) (n : NetworkParts) (net : IsNetwork n) 
   refused_for a at linked x os older within rp kind value is = go (same_as a parent_as) refl
     where
       p : (put : Transcript) × Within put older × SentIn put a (Inner at) (messages.PcReq (x ∷ []))
-      p = put_before a at (messages.PcReq (x ∷ [])) os older within
+      p = put_before c codec n es s run written a at (messages.PcReq (x ∷ [])) os older within
 
       inside : Within p.0 now
       inside = within_trans p.0 older now p.1 (within_tail (Takes at (Inner a) (messages.PcReq (x ∷ [])) os) older now within)
@@ -296,7 +297,7 @@ module _ (c : Codec) (codec : IsCodec c) (n : NetworkParts) (net : IsNetwork n) 
     -- errors of an inner peer
     inner_fine : (b : As) (reports' : List ErrorReport) (os : List Output) → Within (Takes d (Inner b) (messages.PcErr reports') os ∷ older) now →
         (rp : Option (ℕ × ℕ)) × (kind : ℕ) × (value : ℕ) × (messages.PcErr reports' ≡ error_message rp kind value) × ((rp' : ℕ × ℕ) → rp ≡ Some rp' → IsOutOfProfile (kind, value) → ⊥)
-    inner_fine b reports' os within = by (put_before b d (messages.PcErr reports') os older within)
+    inner_fine b reports' os within = by (put_before c codec n es s run written b d (messages.PcErr reports') os older within)
       where
         told : (deed' : PlantDeed) → IsInnerError d b deed' (messages.PcErr reports') →
             (rp : Option (ℕ × ℕ)) × (kind : ℕ) × (value : ℕ) × (messages.PcErr reports' ≡ error_message rp kind value) × ((rp' : ℕ × ℕ) → rp ≡ Some rp' → IsOutOfProfile (kind, value) → ⊥)

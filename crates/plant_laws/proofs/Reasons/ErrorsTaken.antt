@@ -51,7 +51,7 @@ module _ (c : Codec) (codec : IsCodec c) (n : NetworkParts) (net : IsNetwork n) 
 
   hears_inner : (b : As) (pin : Pin) (reports : List ErrorReport) (os : List Output) (older : Transcript) → Within (Takes d (Inner b) (messages.PcErr reports) os ∷ older) (deeds_of c n es) →
       OnMessage c n d pin (Inner b) before.clock (messages.PcErr reports) (before.elements d) os → Hears (Inner b) reports older os
-  hears_inner b pin reports os older within on = by (put_before c codec n net stays es s run written short b d (messages.PcErr reports) os older within)
+  hears_inner b pin reports os older within on = by (put_before c codec n es s run written b d (messages.PcErr reports) os older within)
     where
       older_now : Within older (deeds_of c n es)
       older_now = within_tail (Takes d (Inner b) (messages.PcErr reports) os) older (deeds_of c n es) within

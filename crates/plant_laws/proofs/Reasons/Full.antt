@@ -6,6 +6,7 @@ use Rattle.dom_base.specs.declared.addr.Addr.{Addr}
 use Rattle.dom_base.specs.declared.names.Peer.{Peer}
 use Rattle.dom_base.specs.declared.names.Peer.TheVariants.{Outside, Inner}
 use Rattle.disclosure.specs.Shown.{open_of}
+use Rattle.pcep_codes.specs.declared.notices.TheConstants as notices
 use Rattle.pcep_messages.specs.declared.message.Asked.{Asked}
 use Rattle.pcep_messages.specs.declared.message.ErrorReport.{ErrorReport}
 use Rattle.pcep_messages.specs.declared.message.Message.{Message}
@@ -16,16 +17,17 @@ use Rattle.pcep_messages.specs.declared.message.Wanted.{Wanted}
 use Rattle.pcep_messages.specs.Spelling.{IsWritten}
 use Rattle.pcep_session.specs.declared.actions.Own.{Own}
 use Rattle.pcep_session.specs.declared.actions.Own.TheVariants as own
+use Rattle.request_table.specs.declared.held.RequestKey.{RequestKey}
 use Rattle.request_table.specs.Pending.{IsFull, same_peer}
 use Rattle.plant_text.specs.declared.settings.NetworkParts.{NetworkParts}
 use Rattle.plant_text.specs.Names.{same_as, parent_as}
 use Rattle.plant_text.specs.Settings.{class_of}
 use Rattle.plant_model.specs.declared.event.Event.{Event}
 use Rattle.plant_model.specs.declared.output.Output.{Output}
-use Rattle.plant_model.specs.Names.{the_parent}
+use Rattle.plant_model.specs.Names.{the_parent, has_pair}
 use Rattle.plant_model.specs.Wire.{Codec}
 use Rattle.plant_model.specs.Laws.{IsCodec, IsNetwork}
-use Rattle.plant_model.specs.Routes.{StaysInside}
+use Rattle.plant_model.specs.Routes.{toward}
 use Rattle.plant_model.specs.Writing.{request_message, busy, unavailable}
 use Rattle.plant_model.specs.Element.{Item, Element, Row, Waits, is_client, is_ready}
 use Rattle.plant_model.specs.Taking.{take}
@@ -38,14 +40,14 @@ use Rattle.plant_model.specs.Deeds.{own_message}
 use Rattle.plant_model.specs.Plant.{Pin, Segment, Plant, PlantDeed, Entry, Run, deeds_of}
 use Rattle.plant_laws.specs.About.{IsShort}
 use Rattle.plant_laws.specs.Causes.{IsLost, IsLostAbove, AnswersLost, asker_of, asker_above, left_rows, left_above, Passes, OnPassed, by_element, by_parent, OfSession, by_table, anew, OfSolve, of_element, of_parent, HaveCauses}
-use Rattle.plant_laws.specs.Full.{IsCrowded, HearsFull, Fills, crowded, lacks, further_full, FullForReasonsIn}
+use Rattle.plant_laws.specs.Full.{IsCrowded, HearsFull, HearsFullOutside, Fills, crowded, lacks, further_full, full_outside, FullForReasonsIn}
 use Rattle.plant_laws.specs.Matched.{Answering, ends, at_once}
 use Rattle.plant_laws.specs.Met.{run_of, Meets}
-use Rattle.plant_laws.specs.MessageCauses.{Asker, replied, WaitsAt, WaitsAbove, OnReply, unknown, goes_on, is_kept, is_broken, OnNotice, next_is_full, noted_for_nobody, of_other_kind, OnError, failed_for_nobody, of_reply, out_of_profile, other_error, OnPath, ends_here, no_session, is_refused, sent_on, OnRequest, wrong, again, key_shown, key_refused, no_room, for_path, AreAsked, OnRequestAbove, wrong_above, again_above, key_above, no_room_above, child_down, all_asked, Part, Notes, Fails, alone, noted, failed_by, failed, parts, OnParts, OnMessage}
+use Rattle.plant_laws.specs.MessageCauses.{Asker, replied, WaitsAt, WaitsAbove, OnReply, unknown, goes_on, is_kept, is_broken, OnNotice, next_is_full, noted_for_nobody, of_other_kind, OnError, failed_for_nobody, of_reply, out_of_profile, other_error, OnPath, ends_here, no_session, is_refused, sent_on, OnRequest, wrong, again, key_shown, key_refused, no_room, for_path, AreAsked, OnRequestAbove, wrong_above, again_above, key_above, no_room_above, child_down, all_asked, Part, Asks, Replies, Notes, Fails, alone, noted, failed_by, failed, parts, OnParts, OnMessage}
 use Rattle.plant_laws.specs.Sending.{AllSent}
 use Rattle.plant_laws.specs.Solves.{ElementTells, TellsClient, its_path, no_pair, TellsClosed, branches, no_branch, lacks_keys, TellsUpper, found as found_walk, no_walk}
 use Rattle.plant_laws.specs.Transcript.{Transcript, Within, Standing, SentIn, Handed, opened, one_if, count_answers, answers_to, outputs_at}
-use Rattle.plant_laws.specs.Waiting.{WasSentOn}
+use Rattle.plant_laws.specs.Waiting.{GoesOn, WasSentOn}
 use Rattle.plant_laws.proofs.WrittenForm.Again.{all_read}
 use Rattle.plant_laws.proofs.Once.Alone.{takes_alone}
 use Rattle.plant_laws.proofs.Once.AskedRuns.{none_outside}
@@ -76,7 +78,6 @@ use Rattle.plant_laws.proofs.WrittenForm.Sent.{run_sent}
 use Rattle.plant_laws.proofs.Once.StillOpen.{still_open}
 use Rattle.plant_laws.proofs.Least.Subsides.{notices_subs}
 use Rattle.plant_laws.proofs.Numbering.Taken.{peer_self}
-use Rattle.plant_laws.proofs.Runs.Unrouted.{goes_inside}
 use Rattle.plant_laws.proofs.Settled.Waits.{waits_are_sent}
 use Rattle.plant_laws.proofs.WrittenForm.WhereWritten.{WrittenNetIds}
 
@@ -132,9 +133,37 @@ busy_counts p x flags (o ∷ os) (inl is) = subst (λ (y : Output). 1 ≤ cond (
     here = rw (peer_self p, eq-eqb x x refl) (omega arith)
 busy_counts p x flags (o ∷ os) (inr i) = let rec = busy_counts p x flags os i in omega (arith, rec)
 
--- nobody waits on an outside peer
-abbrev Nobody : Peer → Element Pin Segment → Type 0
-Nobody q k = (row : Row Pin) → table.In row k.pending.rows → (y : ℕ) → row.1.item.stage ≡ Waits q y → ⊥
+-- ---- the parts of a message of notices
+
+abbrev IsNote : Part → Type 0
+IsNote (Notes kinds rp) = Unit {0}
+IsNote (Asks a) = ⊥
+IsNote (Replies r) = ⊥
+IsNote (Fails e rp) = ⊥
+
+abbrev AreNotes : List Part → Type 0
+AreNotes [] = Unit {0}
+AreNotes (x ∷ xs) = IsNote x × AreNotes xs
+
+notes_are : (kinds : List (ℕ × ℕ)) (ids : List (ℕ × ℕ)) (more : List Part) → AreNotes more → AreNotes (map (Notes kinds) ids ++ more)
+notes_are kinds [] more are = are
+notes_are kinds (rp ∷ ids) more are = (tt, notes_are kinds ids more are)
+
+noted_are : (ns : List Notice) → AreNotes (noted ns)
+noted_are [] = tt
+noted_are (m ∷ ms) = notes_are m.kinds m.ids (noted ms) (noted_are ms)
+
+-- one of these parts told p of its request x, in a state that came of the first
+record IsTold (K : Type 0) (Waiting : K → ℕ → Asker → Type 0) (From : K → Type 0) (p : Peer) (x : ℕ) (xs : List Part) : Type 0 where
+  kinds : List (ℕ × ℕ)
+  rp : ℕ × ℕ
+  among : table.In (Notes kinds rp) xs
+  hit : has_pair notices.BUSY.0 notices.BUSY.1 kinds ≡ true
+  k : K
+  from : From k
+  asker : Asker
+  waits : Waiting k rp.1 asker
+  this : (p ≡ asker.peer) × (x ≡ asker.id)
 
 -- the deed that said so is about the request that was sent
 module _ (c : Codec) (codec : IsCodec c) (n : NetworkParts) (es : List Entry) (s : Plant) (run : Run c n es s) (written : AllSent IsWritten (deeds_of c n es)) (short : IsShort (deeds_of c n es)) (d : As) (real : d ≢ parent_as) (b : As) where
@@ -152,6 +181,8 @@ module _ (c : Codec) (codec : IsCodec c) (n : NetworkParts) (es : List Entry) (s
   crowded_by id deed before (lacks b' q' x' deed' older' k) asks os is = no_lack k.before k.number asks os deed is k.tells
   crowded_by id deed before (further_full b' a q' x' older' os' k deeper) asks os is =
       absurd (let clash : ◌≡◌ {A = PlantDeed} (Takes b (Inner a) (busy k.flags k.id) os') (Takes b (Inner d) (messages.PcReq asks) os) = is in cc)
+  crowded_by id deed before (full_outside b' i q' x' older' ns os' k) asks os is =
+      absurd (let clash : ◌≡◌ {A = PlantDeed} (Takes b (Outside i) (messages.PcNtf ns) os') (Takes b (Inner d) (messages.PcReq asks) os) = is in cc)
 
   answered_so : (id flags : ℕ) (deed : PlantDeed) (before : Transcript) → Within (deed ∷ before) now' → table.In {A = Output} (record { to = Inner d; message = busy flags id }) (outputs_at b deed) → Fills c n (run_of c n es s run) b (Inner d) id deed before → (at : Transcript) → Within at now' →
       (w : Wanted) (t : Addr) (rest : List As) → SentIn at d (Inner b) (request_message id w t rest) → Answering c d b id at deed before
@@ -245,26 +276,37 @@ module _ (p : Peer) (x flags : ℕ) where
         go : Ons (parts (busy flags' y)) k os → OnNotice (Waiting k y) ((1, 2) ∷ []) os
         go on' = subst (OnNotice (Waiting k y) ((1, 2) ∷ [])) (sym (on'.2 ∙ ap (λ (l : List Output). on'.0 ++ l) on'.4 ∙ nil_right on'.0)) on'.3
 
-    -- notices of a peer on which nobody waits
-    module _ (None' : K → Type 0) (no_one : (k : K) → None' k → (y : ℕ) (w : Asker) → Waiting k y w → ⊥) (stays : (kinds : List (ℕ × ℕ)) (rp : ℕ × ℕ) (k : K) → None' k → None' (left (alone (Notes kinds rp)) k)) where
-      note_none : {X : Type 0} (kinds : List (ℕ × ℕ)) (rp : ℕ × ℕ) (k : K) (os : List Output) → None' k → OnNotice (Waiting k rp.1) kinds os → In out os → X
-      note_none kinds rp k os none (next_is_full w hit waits is) i = absurd (no_one k none rp.1 w waits)
-      note_none kinds rp k os none (noted_for_nobody none' is) i = nothing os is i
-      note_none kinds rp k os none (of_other_kind miss is) i = nothing os is i
+    -- notices of a peer that say so
+    module _ (From : K → Type 0) (stays : (kinds : List (ℕ × ℕ)) (rp : ℕ × ℕ) (k : K) → From k → From (left (alone (Notes kinds rp)) k)) where
+      here_told : (kinds : List (ℕ × ℕ)) (rp : ℕ × ℕ) (xs : List Part) (k : K) (os : List Output) → From k → OnNotice (Waiting k rp.1) kinds os → In out os → IsTold K Waiting From p x (Notes kinds rp ∷ xs)
+      here_told kinds rp xs k os from (next_is_full w hit waits is) i = record {
+        kinds = kinds;
+        rp = rp;
+        among = inl refl;
+        hit = hit;
+        k = k;
+        from = from;
+        asker = w;
+        waits = waits;
+        this = this_one w.peer w.flags w.id (subst (In out) is i);
+      }
+      here_told kinds rp xs k os from (noted_for_nobody none is) i = nothing os is i
+      here_told kinds rp xs k os from (of_other_kind miss is) i = nothing os is i
 
-      notes_none : {X : Type 0} (kinds : List (ℕ × ℕ)) (ids : List (ℕ × ℕ)) (more : List Part) (k : K) (os : List Output) → None' k →
-          ((k' : K) (os' : List Output) → None' k' → Ons more k' os' → In out os' → X) → Ons (map (Notes kinds) ids ++ more) k os → In out os → X
-      notes_none kinds [] more k os none rest on i = rest k os none on i
-      notes_none kinds (rp ∷ ids) more k os none rest on i = elim (in_two out on.0 on.1 (subst (In out) on.2 i)) [
-        | inl first ↦ note_none kinds rp k on.0 none on.3 first
-        | inr second ↦ notes_none kinds ids more (left (alone (Notes kinds rp)) k) on.1 (stays kinds rp k none) rest on.4 second
+      later_told : (part : Part) (xs : List Part) → IsTold K Waiting From p x xs → IsTold K Waiting From p x (part ∷ xs)
+      later_told part xs t = record { kinds = t.kinds; rp = t.rp; among = inr t.among; hit = t.hit; k = t.k; from = t.from; asker = t.asker; waits = t.waits; this = t.this }
+
+      parts_told : (xs : List Part) → AreNotes xs → (k : K) (os : List Output) → From k → Ons xs k os → In out os → IsTold K Waiting From p x xs
+      parts_told [] are k os from on i = nothing os on i
+      parts_told (Notes kinds rp ∷ xs) are k os from on i = elim (in_two out on.0 on.1 (subst (In out) on.2 i)) [
+        | inl first ↦ here_told kinds rp xs k on.0 from on.3 first
+        | inr second ↦ later_told (Notes kinds rp) xs (parts_told xs are.1 (left (alone (Notes kinds rp)) k) on.1 (stays kinds rp k from) on.4 second)
       ]
+      parts_told (Asks a ∷ xs) are k os from on i = absurd are.0
+      parts_told (Replies r ∷ xs) are k os from on i = absurd are.0
+      parts_told (Fails e rp ∷ xs) are k os from on i = absurd are.0
 
-      noted_none : {X : Type 0} (ns : List Notice) (k : K) (os : List Output) → None' k → Ons (noted ns) k os → In out os → X
-      noted_none [] k os none on i = nothing os on i
-      noted_none (m ∷ ms) k os none on i = notes_none m.kinds m.ids (noted ms) k os none (λ k' os' none' on' i'. noted_none ms k' os' none' on' i') on i
-
-  module _ (c : Codec) (codec : IsCodec c) (n : NetworkParts) (net : IsNetwork n) (stays : StaysInside n) (es : List Entry) (s : Plant) (run : Run c n es s) (written : AllSent IsWritten (deeds_of c n es)) (short : IsShort (deeds_of c n es)) (d : As) (older : Transcript)
+  module _ (c : Codec) (codec : IsCodec c) (n : NetworkParts) (net : IsNetwork n) (es : List Entry) (s : Plant) (run : Run c n es s) (written : AllSent IsWritten (deeds_of c n es)) (short : IsShort (deeds_of c n es)) (d : As) (older : Transcript)
       (rec : (b : As) (x' flags' : ℕ) (deed' : PlantDeed) (older' : Transcript) → Within (deed' ∷ older') older → In {A = Output} (record { to = Inner d; message = busy flags' x' }) (outputs_at b deed') → Fills c n (run_of c n es s run) b (Inner d) x' deed' older') where
     abbrev now : Transcript
     now = deeds_of c n es
@@ -302,7 +344,7 @@ module _ (p : Peer) (x flags : ℕ) where
     hears b flags' id os within at is_open w t rest sent = go put.0 put.1 put.2
       where
         put : (put : Transcript) × Within put older × SentIn put b (Inner d) (busy flags' id)
-        put = put_before c codec n net stays es s run written short b d (busy flags' id) os older within
+        put = put_before c codec n es s run written b d (busy flags' id) os older within
 
         go : (put : Transcript) → Within put older → SentIn put b (Inner d) (busy flags' id) → Full (Takes d (Inner b) (busy flags' id) os)
         go [] inside said = absurd said
@@ -370,27 +412,60 @@ module _ (p : Peer) (x flags : ℕ) where
             full = subst (λ (b : Bool). cond b (IsFull before.parent.pending) (IsFull (before.elements d).pending)) (sym low) full;
           }))
 
-      outside_none : (j : ℕ) → Nobody (Outside j) (before.elements d)
-      outside_none j row there y waits = go (goes_inside n stays d row.1.item.sequence sent.rest (Outside j) sent.goes)
-        where
-          sent : WasSentOn c n (deeds_of c n entries) d row (Outside j) y
-          sent = waits_are_sent c codec n net entries before run' d row (contains row (before.elements d).pending.rows there) (Outside j) y waits
+      -- a row that waits on the peer stood there before
+      abbrev From : Element Pin Segment → Type 0
+      From k = (row : Row Pin) → table.In row k.pending.rows → (y : ℕ) → row.1.item.stage ≡ Waits q y → (h : Row Pin) × table.In h (before.elements d).pending.rows × (row.1.key ≡ h.1.key) × (row.1.item ≡ h.1.item)
 
-          go : (z : As) × (Outside j ≡ Inner z) → ⊥
-          go to = (let clash : Outside j ≡ Inner to.0 = to.1 in cc)
-
-      nobody_waits : (k : Element Pin Segment) → Nobody q k → (y : ℕ) (w : Asker) → WaitsAt k q y w → ⊥
-      nobody_waits k none y w waits = none waits.row (table.in_of waits.row k.pending.rows waits.is_row) y waits.waits
-
-      nobody_stays : (pin : Pin) (kinds : List (ℕ × ℕ)) (rp : ℕ × ℕ) (k : Element Pin Segment) → Nobody q k → Nobody q (take c open_of (place n d) pin q (class_of n q) before.clock (alone (Notes kinds rp)) k).element
-      nobody_stays pin kinds rp k none row i y waits = go old.3
+      from_stays : (pin : Pin) (kinds : List (ℕ × ℕ)) (rp : ℕ × ℕ) (k : Element Pin Segment) → From k → From (take c open_of (place n d) pin q (class_of n q) before.clock (alone (Notes kinds rp)) k).element
+      from_stays pin kinds rp k from row i y waits = go old.3
         where
           old : (h : Row Pin) × table.In h k.pending.rows × (row.1.key ≡ h.1.key) × ((row.1.item ≡ h.1.item) ⊎ (is_ready row.1.item.stage ≡ true))
           old = notices_subs Pin Segment c q (record { ids = rp ∷ []; kinds = kinds } ∷ []) k row i
 
-          go : (row.1.item ≡ old.0.1.item) ⊎ (is_ready row.1.item.stage ≡ true) → ⊥
-          go (inl same) = none old.0 old.1 y (ap (λ (z : Item Pin). z.stage) (sym same) ∙ waits)
-          go (inr ready) = not_both (is_ready row.1.item.stage) ready (ap is_ready waits)
+          go : (row.1.item ≡ old.0.1.item) ⊎ (is_ready row.1.item.stage ≡ true) → (h : Row Pin) × table.In h (before.elements d).pending.rows × (row.1.key ≡ h.1.key) × (row.1.item ≡ h.1.item)
+          go (inl same) = let h = from old.0 old.1 y (ap (λ (z : Item Pin). z.stage) (sym same) ∙ waits) in (h.0, h.1, old.2 ∙ h.2, same ∙ h.3)
+          go (inr ready) = absurd (not_both (is_ready row.1.item.stage) ready (ap is_ready waits))
+
+      outside_says : (j : ℕ) → q ≡ Outside j → (ns : List Notice) (all : List Output) → Within (Takes d q (messages.PcNtf ns) all ∷ older) now → Passes c n before event d q (messages.PcNtf ns) → In out all →
+          IsTold (Element Pin Segment) (λ k'. WaitsAt k' q) From p x (noted ns) → Full (Takes d q (messages.PcNtf ns) all)
+      outside_says j is ns all within passes i t = subst (λ (z : Peer). Full (Takes d z (messages.PcNtf ns) all)) (sym is) (full_outside d j p x older ns all (hears_outside route.0 route.1 route.2 route.3))
+        where
+          o : (at : Transcript) × (opened c d p x older ≡ Some at)
+          o = open_then q ns all within i
+
+          h : (h : Row Pin) × table.In h (before.elements d).pending.rows × (t.waits.row.1.key ≡ h.1.key) × (t.waits.row.1.item ≡ h.1.item)
+          h = t.from t.waits.row (table.in_of t.waits.row t.k.pending.rows t.waits.is_row) t.rp.1 t.waits.waits
+
+          sent : WasSentOn c n (deeds_of c n entries) d h.0 (Outside j) t.rp.1
+          sent =
+              waits_are_sent c codec n net entries before run' d h.0 (contains h.0 (before.elements d).pending.rows h.1) (Outside j) t.rp.1
+              (ap (λ (z : Item Pin). z.stage) (sym h.3) ∙ t.waits.waits ∙ ap (λ (z : Peer). Waits z t.rp.1) is)
+
+          asked : t.asker ≡ record { peer = h.0.1.key.peer; flags = t.waits.row.1.item.flags; id = h.0.1.key.id }
+          asked = t.waits.asked ∙ ap (λ (z : RequestKey). let a : Asker = record { peer = z.peer; flags = t.waits.row.1.item.flags; id = z.id } in a) h.2
+
+          then : opened c d p x older ≡ Some sent.at
+          then = still ns passes o.0 sent.at o.1 (opened_as t.asker h.0.1.key.peer t.waits.row.1.item.flags h.0.1.key.id sent.at t.this asked sent.is_open)
+
+          by_route : GoesOn (place n d).routes h.0.1.item.sequence sent.rest (Outside j) → (next : As) × (more : List As) × (sent.rest ≡ next ∷ more) × (toward next (place n d).routes ≡ Outside j)
+          by_route (inl up) = absurd (let clash : Outside j ≡ the_parent = up.2 in cc)
+          by_route (inr on) = (on.1, on.2, on.4, sym on.5)
+
+          route : (next : As) × (more : List As) × (sent.rest ≡ next ∷ more) × (toward next (place n d).routes ≡ Outside j)
+          route = by_route sent.goes
+
+          hears_outside : (next : As) (more : List As) → sent.rest ≡ next ∷ more → toward next (place n d).routes ≡ Outside j → HearsFullOutside c n older d p x j ns
+          hears_outside next more rest goes = record {
+            at = sent.at;
+            is_open = then;
+            id = t.rp.1;
+            wanted = h.0.1.item.wanted;
+            next = next;
+            more = more;
+            sent = subst (λ (l : List As). SentIn sent.at d (Outside j) (request_message t.rp.1 h.0.1.item.wanted h.0.1.item.wanted.target l)) rest sent.sent;
+            route = goes;
+            says = record { kinds = t.kinds; rp = t.rp; among = contains (Notes t.kinds t.rp) (noted ns) t.among; same = refl; full = t.hit };
+          }
 
       inner_full : (b : As) → q ≡ Inner b → (ns : List Notice) (all : List Output) → Within (Takes d q (messages.PcNtf ns) all ∷ older) now → Passes c n before event d q (messages.PcNtf ns) → (y flags' : ℕ) → messages.PcNtf ns ≡ busy flags' y → OnNotice (WaitsAt (before.elements d) q y) ((1, 2) ∷ []) all →
           In out all → Full (Takes d q (messages.PcNtf ns) all)
@@ -423,8 +498,9 @@ module _ (p : Peer) (x flags : ℕ) where
         where
           by : (z : Peer) → q ≡ z → Full (Takes d q (messages.PcNtf ns) all)
           by (Outside j) is =
-              noted_none (Element Pin Segment) (λ k'. WaitsAt k' q) (OnRequest c n d q before.clock) (λ m' k'. (take c open_of (place n d) pin q (class_of n q) before.clock m' k').element) (same_peer q the_parent) q
-              (Nobody q) nobody_waits (nobody_stays pin) ns (before.elements d) all (subst (λ (z : Peer). Nobody z (before.elements d)) (sym is) (outside_none j)) on i
+              outside_says j is ns all within passes i
+              (parts_told (Element Pin Segment) (λ k'. WaitsAt k' q) (OnRequest c n d q before.clock) (λ m' k'. (take c open_of (place n d) pin q (class_of n q) before.clock m' k').element) (same_peer q the_parent) q
+              From (from_stays pin) (noted ns) (noted_are ns) (before.elements d) all (λ row there y waits. (row, there, refl, refl)) on i)
           by (Inner b) is =
               let h = heard b ns all (subst (λ (z : Peer). Within (Takes d z (messages.PcNtf ns) all ∷ older) now) is within) in
               inner_full b is ns all within passes h.1 h.0 h.2
@@ -582,13 +658,13 @@ module _ (p : Peer) (x flags : ℕ) where
   opening_none d (Expires t) is i = absurd is
   opening_none d (Hands j bytes) is i = absurd is
 
-module _ (c : Codec) (codec : IsCodec c) (n : NetworkParts) (net : IsNetwork n) (stays : StaysInside n) (es : List Entry) (s : Plant) (run : Run c n es s) (written : AllSent IsWritten (deeds_of c n es)) (short : IsShort (deeds_of c n es)) where
+module _ (c : Codec) (codec : IsCodec c) (n : NetworkParts) (net : IsNetwork n) (es : List Entry) (s : Plant) (run : Run c n es s) (written : AllSent IsWritten (deeds_of c n es)) (short : IsShort (deeds_of c n es)) where
   abbrev Before : Transcript → Type 0
   Before older = (d b : As) (x flags : ℕ) (deed : PlantDeed) (older' : Transcript) → Within (deed ∷ older') older → In {A = Output} (record { to = Inner d; message = busy flags x }) (outputs_at b deed) → Fills c n (run_of c n es s run) b (Inner d) x deed older'
 
   step : (d : As) (p : Peer) (x flags : ℕ) (deed : PlantDeed) (older : Transcript) → Within (deed ∷ older) (deeds_of c n es) → In {A = Output} (record { to = p; message = busy flags x }) (outputs_at d deed) → Before older → Fills c n (run_of c n es s run) d p x deed older
   step d p x flags deed older within i before = elim (moment_met c n es s run short deed older within) [
-    | inl got ↦ deed_full p x flags c codec n net stays es s run written short d older (λ b x' flags' deed' older'. before d b x' flags' deed' older') deed within got.0 got.1 i
+    | inl got ↦ deed_full p x flags c codec n net es s run written short d older (λ b x' flags' deed' older'. before d b x' flags' deed' older') deed within got.0 got.1 i
     | inr first ↦ opening_none p x flags d deed first i
   ]
 
@@ -601,4 +677,4 @@ module _ (c : Codec) (codec : IsCodec c) (n : NetworkParts) (net : IsNetwork n) 
       (within_trans (deed' ∷ older') older (deeds_of c n es) within' (within_tail deed older (deeds_of c n es) within)) i')
 
 pub full_for_reasons : WrittenNetIds FullForReasonsIn
-full_for_reasons c codec n net es s run written short stays run' d p x flags deed older within has = by_length c codec n net stays es s run' written short (length older) d p x flags deed older (omega arith) within (in_at _ (outputs_at d deed) has)
+full_for_reasons c codec n net es s run written short run' d p x flags deed older within has = by_length c codec n net es s run' written short (length older) d p x flags deed older (omega arith) within (in_at _ (outputs_at d deed) has)

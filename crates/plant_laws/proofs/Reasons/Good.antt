@@ -5,7 +5,7 @@ use Rattle.std.proofs.lemmas.Bool.{cases_Bool}
 use Rattle.dom_base.specs.declared.names.As.{As}
 use Rattle.dom_base.specs.declared.addr.Addr.{Addr}
 use Rattle.dom_base.specs.declared.names.Peer.{Peer}
-use Rattle.dom_base.specs.declared.names.Peer.TheVariants.{Inner}
+use Rattle.dom_base.specs.declared.names.Peer.TheVariants.{Outside, Inner}
 use Rattle.pcep_messages.specs.declared.message.Asked.{Asked}
 use Rattle.pcep_messages.specs.declared.message.Message.TheVariants as messages
 use Rattle.pcep_messages.specs.declared.message.Wanted.{Wanted}
@@ -14,12 +14,13 @@ use Rattle.plant_text.specs.declared.settings.NetworkParts.{NetworkParts}
 use Rattle.plant_text.specs.Names.{same_as, parent_as}
 use Rattle.plant_model.specs.declared.output.Output.{Output}
 use Rattle.plant_model.specs.Names.{the_parent}
+use Rattle.plant_model.specs.Routes.{StaysInside}
 use Rattle.plant_model.specs.Wire.{Codec}
 use Rattle.plant_model.specs.Writing.{request_message, busy}
 use Rattle.plant_model.specs.State.{Takes, Downs, Solves}
 use Rattle.plant_model.specs.Plant.{Segment, PlantDeed, deeds_of}
 use Rattle.plant_laws.specs.Broken.{Breaks, stopped, lost, refused, further, stopped_above, of_child}
-use Rattle.plant_laws.specs.Full.{Fills, crowded, lacks, further_full}
+use Rattle.plant_laws.specs.Full.{Fills, crowded, lacks, further_full, full_outside}
 use Rattle.plant_laws.specs.Good.{IsOnWay, first, next, IsGood, IsWellServed, GoodRequestsAreServedIn}
 use Rattle.plant_laws.specs.Matched.{Answering, ends, at_once}
 use Rattle.plant_laws.specs.Met.{RunOf, run_of}
@@ -30,6 +31,7 @@ use Rattle.plant_laws.proofs.Reasons.MomentCauses.{head_of}
 use Rattle.plant_laws.proofs.Runs.Moments.{within_trans, opened_within}
 use Rattle.plant_laws.proofs.Reasons.PartCauses.{not_both}
 use Rattle.plant_laws.proofs.Runs.Queues.{same_as_is}
+use Rattle.plant_laws.proofs.Runs.Unrouted.{unrouted}
 use Rattle.plant_laws.proofs.Reasons.Served.{asked_never, requests_are_served}
 use Rattle.plant_laws.proofs.WrittenForm.WhereWritten.{WrittenNetIds}
 
@@ -49,7 +51,7 @@ taking_never {X} c b q y at from asks os e = go (same_as at b) e
 one_moment : (o : Option Transcript) (a b : Transcript) → o ≡ Some a → o ≡ Some b → a ≡ b
 one_moment o a b is is' = let both : Some a ≡ Some b = sym is ∙ is' in cc
 
-module _ (c : Codec) (n : NetworkParts) (this : RunOf c n) (now : Transcript) (d : As) (p : Peer) (x : ℕ) (at : Transcript) (good : IsGood c n this now d p x at) where
+module _ (c : Codec) (n : NetworkParts) (this : RunOf c n) (now : Transcript) (d : As) (p : Peer) (x : ℕ) (at : Transcript) (good : IsGood c n this now d p x at) (stays : StaysInside n) where
   -- the next step of the way
   step_of : (b b' : As) (q : Peer) (y : ℕ) (taken : Transcript) (deed' : PlantDeed) (older' : Transcript) (z : ℕ) → IsOnWay now d p x at b q y taken → (w : Wanted) (t : Addr) (rest : List As) → SentIn taken b (Inner b') (request_message z w t rest) →
       Answering c b b' z taken deed' older' → Within (deed' ∷ older') now → (taken' : Transcript) × IsOnWay now d p x at b' (Inner b) z taken' × IsAboutIt c b' (Inner b) z taken' deed' older'
@@ -95,6 +97,9 @@ module _ (c : Codec) (n : NetworkParts) (this : RunOf c n) (now : Transcript) (d
   never_full b q y deed older (lacks b' q' y' deed' older' is) taken way within (inr taking) =
       let solves : deed ≡ Solves b is.number (record { to = is.tells.held.key.peer; message = is.tells.message } ∷ []) is.tells.keys = ap (head_of deed) is.tells.sends_one in
       absurd (let clash : ◌≡◌ {A = PlantDeed} (Takes b q (messages.PcReq taking.1) taking.2) (Solves b is.number (record { to = is.tells.held.key.peer; message = is.tells.message } ∷ []) is.tells.keys) = sym taking.3 ∙ solves in cc)
+  never_full b q y deed older (full_outside b' i q' y' older' ns os h) taken way within about =
+      let clash : Outside i ≡ Inner h.next = sym h.route ∙ unrouted n stays b h.next in
+      absurd cc
   never_full b q y deed older (further_full b' a q' y' older' os h deeper) taken way within (inr taking) =
       absurd (let clash : ◌≡◌ {A = PlantDeed} (Takes b (Inner a) (busy h.flags h.id) os) (Takes b q (messages.PcReq taking.1) taking.2) = taking.3 in cc)
   never_full b q y deed older (further_full b' a q' y' older' os h deeper) taken way within (inl open') = elim (cases_Bool (same_as b parent_as)) [
@@ -125,4 +130,4 @@ module _ (c : Codec) (n : NetworkParts) (this : RunOf c n) (now : Transcript) (d
 
 pub good_requests_are_served : WrittenNetIds GoodRequestsAreServedIn
 good_requests_are_served c codec n net es s run written short stays run' quiet d p x at real within begins good =
-    served c n (run_of c n es s run') (deeds_of c n es) d p x at good (requests_are_served c codec n net es s run written short stays run' quiet d p x at real within begins)
+    served c n (run_of c n es s run') (deeds_of c n es) d p x at good stays (requests_are_served c codec n net es s run written short stays run' quiet d p x at real within begins)

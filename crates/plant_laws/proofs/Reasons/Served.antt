@@ -316,7 +316,7 @@ module _ (c : Codec) (codec : IsCodec c) (n : NetworkParts) (net : IsNetwork n) 
           go (full flags id is) counts =
               let same : id ≡ x = has_one x (flags, id) (one_is (has_id x ((flags, id) ∷ [])) (subst (λ (m : Message). 1 ≤ count_answers x m) is counts)) in
               let has = subst (λ (y : ℕ). Contains (outputs_at d e.deed) (record { to = p; message = busy flags y })) same (at_p a.one (busy flags id) a.there a.to is) in
-              is_full flags has (full_for_reasons c codec n net es s run written short stays run d p x flags e.deed e.older e.within has)
+              is_full flags has (full_for_reasons c codec n net es s run written short run d p x flags e.deed e.older e.within has)
           go (other none) counts = absurd (let nothing = none x in omega (arith, nothing, counts))
 
   none_pending : s.parent.pending.rows ≡ [] → ((d' : As) → (s.elements d').pending.rows ≡ []) → is_pending s d p x ≡ false
