@@ -37,14 +37,14 @@ use Rattle.client_laws.specs.Asked.{OneIsAsked}
 use Rattle.client_laws.proofs.Feeding.{loading}
 use Rattle.client_laws.proofs.Splitting.{question_alone}
 
-open_written : IsWritten open_message
+pub open_written : IsWritten open_message
 open_written = record {
   shape = tt;
   objects = (record { class = omega arith; octets = (omega arith, omega arith, omega arith); kind = omega arith; placed = (refl, refl); fits = omega arith; small = omega arith }, tt);
   small = omega arith;
 }
 
-keepalive_written : IsWritten messages.Keepalive
+pub keepalive_written : IsWritten messages.Keepalive
 keepalive_written = record { shape = tt; objects = tt; small = omega arith }
 
 -- the stream is of three messages

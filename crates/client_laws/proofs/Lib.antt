@@ -11,5 +11,8 @@ pub mod Exchanging
 mod Taking
 pub mod Resting
 pub mod Serving
+mod OutsideStays
+mod Opening
+pub mod Answered
 -- handed on from below
 pub use Rattle.script_laws.proofs as script_laws

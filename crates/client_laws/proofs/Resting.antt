@@ -28,6 +28,7 @@ use Rattle.script_laws.specs.plant_model.RealWire.{wire}
 use Rattle.script_laws.specs.plant_model.State.{Connection}
 use Rattle.script_laws.specs.plant_model.Wire.{Bytes}
 use Rattle.script_laws.specs.plant_laws.Chains.{HasEmptyInbox}
+use Rattle.script_laws.specs.plant_laws.Resting.{IsAtRest}
 use Rattle.plant_network.specs.Due.{inbox_from}
 use Rattle.plant_network.specs.network_links.Waiting.{ways}
 use Rattle.script_laws.specs.plant_play.declared.going.Until.{Until}
@@ -36,16 +37,19 @@ use Rattle.script_laws.specs.plant_play.declared.showing.Modes.{Modes}
 use Rattle.script_laws.specs.plant_play.Due.{AreAllDue, AreDue, IsDue, IsDueTake}
 use Rattle.script_laws.specs.plant_play.Playing.{Changes, Cue, IsNewStage, Plays, PlaysDue, PlaysFeed, PlaysFeedAt, PlaysLine, PlaysNone, PlaysOne, Stage}
 use Rattle.script_laws.specs.plant_play.Scripts.{AllPlayed}
-use Rattle.script_laws.specs.plant_play.Turns.{Turn}
+use Rattle.script_laws.specs.plant_play.Turns.{Turn, entries_of}
 use Rattle.script_laws.proofs.plant_laws.Runs.Queues.{same_as_is}
 use Rattle.plant_bulk.specs.plant_client.declared.question.Question.{Question}
 use Rattle.plant_bulk.specs.plant_client.Asking.{AreCues, load_line, question_lines, topologies}
 use Rattle.plant_bulk.specs.plant_client.Questions.{opening_text, question_text}
 use Rattle.peer_laws.proofs.OutletRuns.{run_fits}
-use Rattle.client_laws.proofs.Asking.{no_connection}
+use Rattle.script_laws.proofs.Rightly.{scripts_are_right}
+use Rattle.script_laws.proofs.plant_laws.Settled.Resting.{rest_is_quiet}
+use Rattle.script_laws.proofs.plant_laws.plant_model.WireLaws.{wire_is_codec}
+use Rattle.client_laws.proofs.Asking.{lines_feed, no_connection}
 use Rattle.client_laws.proofs.Taking as taking
 use Rattle.client_laws.proofs.Taking.{AreTakenBut, Keeps}
-use Rattle.client_laws.specs.Resting.{AreTaken, AskedIsAtRest, FinishedIsAtRest, IsAtRest, LinesTakeAll}
+use Rattle.client_laws.specs.Resting.{AreTaken, AskedIsAtRest, AskedIsQuiet, FinishedIsAtRest, LinesTakeAll}
 
 -- ---- all is taken, line by line
 
@@ -319,3 +323,9 @@ asked_is_at_rest files n client q received a =
     subst (λ (m : NetworkParts). IsAtRest m a.asked.state) a.new.network
     (loads_first files (topologies n.elements) (question_lines client q) (question_rests files client q) a.lines.cues a.lines.are_cues a.start a.asked a.lines.turns a.lines.told a.lines.played
     (new_is_taken n a.start a.new))
+
+pub asked_is_quiet : AskedIsQuiet
+asked_is_quiet files n client q received net a =
+    let octets = lines_feed (topologies n.elements) client q a.octets files a.lines.cues a.lines.are_cues in
+    let right = scripts_are_right n net a.start a.asked a.lines.cues a.lines.turns a.lines.told a.new octets a.lines.played in
+    rest_is_quiet wire wire_is_codec n net (entries_of a.lines.turns []) a.asked.state right.0.run (asked_is_at_rest files n client q received a)

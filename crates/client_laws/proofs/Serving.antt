@@ -1,5 +1,6 @@
--- A request for a path that is taken is answered at once, or open; and in a quiet state it has had its answer, or was dropped.
-use Rattle.std.proofs.Common.{◌≡◌, ◌≤◌, ◌==◌, ℕ, zero, suc, Bool, true, false, cond, is_some, List, [], ◌∷◌, Option, Some, None, sym, ap, subst, ◌∙◌, inl, inr, refl, arith}
+-- A request for a path that is taken is answered at once, or open; and in a quiet state it has had its answer, was dropped, or waits for
+-- an outside peer.
+use Rattle.std.proofs.Common.{◌≡◌, ◌≤◌, ◌==◌, ℕ, zero, suc, Bool, true, false, cond, List, [], ◌∷◌, Option, Some, None, sym, ap, subst, ◌∙◌, inl, inr, refl, arith}
 use Rattle.std.proofs.lemmas.Bool.{cases_Bool, eq-eqb}
 use Rattle.dom_base.specs.declared.names.As.{As}
 use Rattle.dom_base.specs.declared.names.Peer.{Peer}
@@ -10,8 +11,8 @@ use Rattle.pcep_messages.specs.declared.message.Wanted.{Wanted}
 use Rattle.pcep_messages.specs.declared.message.Wish.{Wish}
 use Rattle.pcep_messages.specs.declared.message.Wish.TheVariants as wishes
 use Rattle.pcep_messages.specs.Spelling.{IsWritten}
-use Rattle.request_table.specs.Pending.{key_of, number_among, number_of, same_peer}
-use Rattle.plant_text.specs.Names.{parent_as, same_as}
+use Rattle.request_table.specs.Pending.{same_peer}
+use Rattle.plant_text.specs.Names.{same_as}
 use Rattle.script_laws.specs.plant_model.declared.output.Output.{Output}
 use Rattle.script_laws.specs.plant_model.Plant.{Plant, PlantDeed, Segment, deeds_of}
 use Rattle.script_laws.specs.plant_model.State.{Takes}
@@ -19,13 +20,13 @@ use Rattle.script_laws.specs.plant_model.Wire.{Admitted, Checked, Codec}
 use Rattle.script_laws.specs.plant_laws.Answered.{Fate, answers_of}
 use Rattle.script_laws.specs.plant_laws.Answered as once
 use Rattle.script_laws.specs.plant_laws.Sending.{AllSent}
-use Rattle.script_laws.specs.plant_laws.Chains.{is_pending}
 use Rattle.script_laws.specs.plant_laws.Transcript.{Begins, Delivered, Effect, Ends, Keeps, Transcript, after, answers_to, begins, begins_if, effect, opened}
 use Rattle.script_laws.proofs.plant_laws.Once.Answering.{requests_are_answered_once}
+use Rattle.script_laws.proofs.plant_laws.Once.OpenTables.{pending_row}
 use Rattle.script_laws.proofs.plant_laws.WrittenForm.EveryWritten.{every_written}
 use Rattle.script_laws.proofs.plant_laws.Runs.Moments.{opened_within, within_trans}
 use Rattle.script_laws.proofs.plant_laws.Numbering.NumberRuns.{peer_self}
-use Rattle.script_laws.proofs.plant_laws.Settled.UnderWayLaw.{quiet_has_none_pending}
+use Rattle.script_laws.proofs.plant_laws.Settled.UnderWayLaw.{quiet_is_answered}
 use Rattle.client_laws.specs.Served.{IsServed, IsTaken, TakenIsOpen, TakenIsServed}
 use Rattle.client_laws.specs.Served as served
 
@@ -93,27 +94,20 @@ taken_is_open c d p r w moment delivered path = opens c d p r w moment delivered
 
 -- ---- in a quiet state
 
-none_pending : (s : Plant) (d : As) (p : Peer) (x : ℕ) → s.parent.pending.rows ≡ [] → ((d' : As) → (s.elements d').pending.rows ≡ []) → is_pending s d p x ≡ false
-none_pending s d p x above all = go (same_as d parent_as)
-  where
-    go : (b : Bool) → cond b (is_some (number_of s.parent.pending p x)) (is_some (number_of (s.elements d).pending p x)) ≡ false
-    go true = ap (λ (rows : List _). is_some (number_among (key_of p x) rows)) above
-    go false = ap (λ (rows : List _). is_some (number_among (key_of p x) rows)) (all d)
-
 pub taken_is_served : TakenIsServed
-taken_is_served c codec n net es s run short stays quiet d p r w moment real within delivered path = go (opens c d p r w moment delivered path)
+taken_is_served c codec n net es s run short quiet d p r w moment real within delivered path = go (opens c d p r w moment delivered path)
   where
     written : AllSent IsWritten (deeds_of c n es)
     written = every_written c codec n net es s run short
 
-    by_fate : (at : Transcript) → opened c d p r.id moment ≡ Some at → Fate c (deeds_of c n es) s d p r.id at → IsServed c (deeds_of c n es) d p r.id moment
+    by_fate : (at : Transcript) → opened c d p r.id moment ≡ Some at → Fate c (deeds_of c n es) s d p r.id at → IsServed c s (deeds_of c n es) d p r.id moment
     by_fate at is (once.pending open' there) =
-        let rows = quiet_has_none_pending c codec n net es s run written short stays quiet in
-        let clash : true ≡ false = sym there ∙ none_pending s d p r.id rows.0 rows.1 in cc
+        let row = pending_row s d real p r.id there in
+        served.waits at is open' row.0 row.1 row.2 ((quiet_is_answered c codec n net es s run written short quiet).1 d row.0 row.1)
     by_fate at is (once.answered e one) = served.later at is e one
     by_fate at is (once.dropped e none why) = served.dropped at is e none why
 
-    go : IsTaken c d p r.id moment → IsServed c (deeds_of c n es) d p r.id moment
+    go : IsTaken c d p r.id moment → IsServed c s (deeds_of c n es) d p r.id moment
     go (served.answers deed older is some) = served.at_once deed older is some
     go (served.is_open at is) =
         by_fate at is

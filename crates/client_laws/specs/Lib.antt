@@ -4,5 +4,6 @@ pub mod Asked
 pub mod Received
 pub mod Resting
 pub mod Served
+pub mod Answered
 -- handed on from below
 pub use Rattle.script_laws.specs as script_laws

@@ -1,13 +1,13 @@
--- A network at rest, and that the line `finish` of a script leaves it so.
-use Rattle.std.specs.Prelude.{◌≡◌, ℕ, true, false, List, [], Option}
-use Rattle.dom_base.specs.declared.names.As.{As}
+-- The line `finish` of a script leaves a network at rest.
+use Rattle.std.specs.Prelude.{◌≡◌, ℕ, List, Option}
 use Rattle.dom_edge.specs.Stores.{Files}
 use Rattle.plant_text.specs.declared.line.LineEvent.TheVariants as line
 use Rattle.plant_text.specs.declared.settings.NetworkParts.{NetworkParts}
-use Rattle.plant_text.specs.Settings.{is_linked}
-use Rattle.script_laws.specs.plant_model.Events.{Answered, has_jobs, is_ready}
+use Rattle.script_laws.specs.plant_model.Events.{Answered}
+use Rattle.script_laws.specs.plant_model.Laws.{IsNetwork}
 use Rattle.script_laws.specs.plant_model.Plant.{Plant}
-use Rattle.script_laws.specs.plant_laws.Chains.{HasEmptyInbox}
+use Rattle.script_laws.specs.plant_laws.Chains.{HasEmptyInbox, IsQuiet}
+use Rattle.script_laws.specs.plant_laws.Resting.{IsAtRest}
 use Rattle.script_laws.specs.plant_play.Playing.{Cue, IsNewStage, PlaysLine, Stage}
 use Rattle.script_laws.specs.plant_play.Scripts.{AllPlayed}
 use Rattle.script_laws.specs.plant_play.Turns.{Turn}
@@ -17,12 +17,6 @@ use Rattle.plant_bulk.specs.plant_client.Asking.{Asks}
 -- all that was fed was taken
 abbrev pub AreTaken : Plant → Type 0
 AreTaken s = (i : ℕ) → HasEmptyInbox (s.accesses i).connection
-
--- And no message is on its way along a link, and no job of an element or the parent can be solved.
-pub record IsAtRest (n : NetworkParts) (s : Plant) : Type 0 where
-  pub taken : AreTaken s
-  pub carried : (a b : As) → is_linked n a b ≡ true → s.queues a b ≡ []
-  pub solved : (d : As) (k : ℕ) → has_jobs n d ≡ true → is_ready d k s ≡ false
 
 -- Between the lines of a script all that was fed was taken.
 abbrev pub LinesTakeAll : Type 0
@@ -37,3 +31,8 @@ FinishedIsAtRest =
 -- So it is at the end of the lines of a client that asks once, before what waits for it is handed out.
 abbrev pub AskedIsAtRest : Type 0
 AskedIsAtRest = (files : Option Files) (n : NetworkParts) (client : ℕ) (question : Question) (received : List ℕ) → (a : Asks files n client question received) → IsAtRest n a.asked.state
+
+-- And where the settings are those of a network, it is quiet: nothing stands elsewhere either.
+abbrev pub AskedIsQuiet : Type 0
+AskedIsQuiet =
+    (files : Option Files) (n : NetworkParts) (client : ℕ) (question : Question) (received : List ℕ) → IsNetwork n → (a : Asks files n client question received) → IsQuiet a.asked.state

@@ -1,6 +1,6 @@
 -- What becomes of a request for a path once it is taken: it is answered at once, or is open from then on, and when the network is quiet
--- it has had its one answer, or was dropped.
-use Rattle.std.specs.Prelude.{◌≡◌, ◌≢◌, ◌≤◌, ℕ, List, ◌∷◌, Some}
+-- it has had its one answer, or was dropped, or an outside peer that was asked on its way has yet to answer.
+use Rattle.std.specs.Prelude.{◌≡◌, ◌≢◌, ◌≤◌, ℕ, List, ◌∷◌, Contains, Some}
 use Rattle.dom_base.specs.declared.names.As.{As}
 use Rattle.dom_base.specs.declared.names.Peer.{Peer}
 use Rattle.pcep_messages.specs.declared.message.Request.{Request}
@@ -8,11 +8,12 @@ use Rattle.pcep_messages.specs.declared.message.Wanted.{Wanted}
 use Rattle.pcep_messages.specs.declared.message.Wish.TheVariants as wishes
 use Rattle.plant_text.specs.declared.settings.NetworkParts.{NetworkParts}
 use Rattle.plant_text.specs.Names.{parent_as}
-use Rattle.script_laws.specs.plant_model.Plant.{Entry, Plant, PlantDeed, deeds_of}
-use Rattle.script_laws.specs.plant_model.Routes.{StaysInside}
+use Rattle.request_table.specs.Pending.{key_of}
+use Rattle.script_laws.specs.plant_model.Element.{Row}
+use Rattle.script_laws.specs.plant_model.Plant.{Entry, Pin, Plant, PlantDeed, deeds_of}
 use Rattle.script_laws.specs.plant_model.Wire.{Codec}
 use Rattle.script_laws.specs.plant_laws.Answered.{DropsFor, IsEnd, answers_of}
-use Rattle.script_laws.specs.plant_laws.Chains.{IsQuiet}
+use Rattle.script_laws.specs.plant_laws.Chains.{IsQuiet, WaitsOutside}
 use Rattle.script_laws.specs.plant_laws.Runs.{InShortRuns}
 use Rattle.script_laws.specs.plant_laws.Transcript.{Delivered, Transcript, Within, opened}
 
@@ -26,17 +27,18 @@ abbrev pub TakenIsOpen : Type 0
 TakenIsOpen = (c : Codec) (d : As) (p : Peer) (r : Request) (w : Wanted) (moment : Transcript) → Delivered c moment d p r → r.wish ≡ wishes.Path w → IsTaken c d p r.id moment
 
 -- and when the network is quiet
-pub data IsServed (c : Codec) (now : Transcript) (d : As) (p : Peer) (x : ℕ) (moment : Transcript) : Type 0 where
-  at_once : (deed : PlantDeed) (older : Transcript) → moment ≡ deed ∷ older → 1 ≤ answers_of d p x deed → IsServed c now d p x moment
-  later : (at : Transcript) → opened c d p x moment ≡ Some at → (e : IsEnd c now d p x at) → answers_of d p x e.deed ≡ 1 → IsServed c now d p x moment
-  dropped : (at : Transcript) → opened c d p x moment ≡ Some at → (e : IsEnd c now d p x at) → answers_of d p x e.deed ≡ 0 → DropsFor d p x e.deed → IsServed c now d p x moment
+pub data IsServed (c : Codec) (s : Plant) (now : Transcript) (d : As) (p : Peer) (x : ℕ) (moment : Transcript) : Type 0 where
+  at_once : (deed : PlantDeed) (older : Transcript) → moment ≡ deed ∷ older → 1 ≤ answers_of d p x deed → IsServed c s now d p x moment
+  later : (at : Transcript) → opened c d p x moment ≡ Some at → (e : IsEnd c now d p x at) → answers_of d p x e.deed ≡ 1 → IsServed c s now d p x moment
+  dropped : (at : Transcript) → opened c d p x moment ≡ Some at → (e : IsEnd c now d p x at) → answers_of d p x e.deed ≡ 0 → DropsFor d p x e.deed → IsServed c s now d p x moment
+  waits : (at : Transcript) → opened c d p x moment ≡ Some at → opened c d p x now ≡ Some at → (h : Row Pin) → Contains (s.elements d).pending.rows h → h.1.key ≡ key_of p x → WaitsOutside c s now d h → IsServed c s now d p x moment
 
--- In a quiet state of a network whose paths go on through no outside peer each request for a path that an element took and admitted was
--- answered at once, or by what ended it, or was dropped.
+-- In a quiet state each request for a path that an element took and admitted was answered at once, or by what ended it, or was dropped, or waits for an
+-- outside peer.
 abbrev pub TakenIsServedIn : Codec → NetworkParts → List Entry → Plant → Type 0
 TakenIsServedIn c n es s =
-    StaysInside n → IsQuiet s → (d : As) (p : Peer) (r : Request) (w : Wanted) (moment : Transcript) → d ≢ parent_as → Within moment (deeds_of c n es) → Delivered c moment d p r → r.wish ≡ wishes.Path w →
-    IsServed c (deeds_of c n es) d p r.id moment
+    IsQuiet s → (d : As) (p : Peer) (r : Request) (w : Wanted) (moment : Transcript) → d ≢ parent_as → Within moment (deeds_of c n es) → Delivered c moment d p r → r.wish ≡ wishes.Path w →
+    IsServed c s (deeds_of c n es) d p r.id moment
 
 abbrev pub TakenIsServed : Type 0
 TakenIsServed = InShortRuns TakenIsServedIn

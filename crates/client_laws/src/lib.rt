@@ -2,9 +2,10 @@
 //! calls that do nothing.
 #![tactic(auto)]
 
+ghost use Rattle.client_laws.specs.Answered.{QuestionIsAnswered, QuestionIsTaken, QuestionsAreRead};
 ghost use Rattle.client_laws.specs.Asked.{OneIsAsked};
 ghost use Rattle.client_laws.specs.Received.{ManyAreReceived};
-ghost use Rattle.client_laws.specs.Resting.{AskedIsAtRest, FinishedIsAtRest, LinesTakeAll};
+ghost use Rattle.client_laws.specs.Resting.{AskedIsAtRest, AskedIsQuiet, FinishedIsAtRest, LinesTakeAll};
 ghost use Rattle.client_laws.specs.Served.{TakenIsOpen, TakenIsServed};
 ghost use Rattle.client_laws.specs.Told.{ClientsAreTold};
 
@@ -29,17 +30,28 @@ pub fn many_are_received()
 {}
 
 /// Between the lines of a script all that was fed was taken; and where a script ends with `finish`, the network is at rest: no message
-/// is on its way along a link, and no job can be solved. So it is where a client has asked once.
+/// is on its way along a link, and no job can be solved. So it is where a client has asked once, and then it is quiet: nothing stands
+/// elsewhere either.
 pub fn finished_is_at_rest()
     ensures taken { LinesTakeAll }
     ensures rest { FinishedIsAtRest }
     ensures asked { AskedIsAtRest }
+    ensures quiet { AskedIsQuiet }
 {}
 
 /// Each request for a path that is taken and admitted is answered by the deed that took it, or is open from then on; and in a quiet
-/// state of a network whose paths go on through no outside peer it was answered so, or had its one answer by what ended it, or was
-/// dropped, as its peer cancelled it or went down.
+/// state it was answered so, or had its one answer by what ended it, or was dropped, as its peer cancelled it or went down,
+/// or waits for an outside peer that was asked on its way.
 pub fn taken_is_served()
     ensures opens { TakenIsOpen }
     ensures served { TakenIsServed }
+{}
+
+/// Where a client asks once, its session comes up and does not end, so that its question is taken by its element and not dropped.
+/// It is read as a request for a path under its number, or refused under that; and where no id comes round it has an answer: its
+/// element answers it, or refuses it, or it waits for an outside peer that was asked on its way.
+pub fn question_is_answered()
+    ensures read { QuestionsAreRead }
+    ensures taken { QuestionIsTaken }
+    ensures answered { QuestionIsAnswered }
 {}

@@ -8,6 +8,7 @@ use Rattle.te_links.specs.Rows.{Rows, IsTopology}
 use Rattle.diverse_pairs.specs.declared.arcs.Arc.{Arc}
 use Rattle.diverse_pairs.specs.Arcs.{IsAmong, AreAmong}
 use Rattle.diverse_pairs.specs.Distances.{AreNear}
+use Rattle.diverse_pairs.specs.Listed.{FitsWalk}
 use Rattle.diverse_pairs.specs.Paths.{Goes}
 use Rattle.diverse_pairs.specs.Solving.{IsSearched}
 use Rattle.diverse_pairs.proofs.Beside.{near}
@@ -19,6 +20,16 @@ searched_among g q to arcs ds valid f i a is_arc = subst (λ n. IsAmong n a) (sy
 
 pub searched_near : (g : Rows) (q : Query) (to : ℕ) (arcs : List (Option Arc)) (ds : List ℕ) → IsTopology g → IsSearched g q to arcs ds → AreNear ds
 searched_near g q to arcs ds valid f = near arcs to ds f.found (searched_among g q to arcs ds valid f) (arcs_light g q arcs valid f.are) (omega (arith, f.long, valid.few_nodes))
+
+-- what a walk leaves can be worked out
+pub walk_fits : (g : Rows) (q : Query) (to : ℕ) (arcs : List (Option Arc)) (ds : List ℕ) (us : List Bool) → IsTopology g → IsSearched g q to arcs ds → length us ≡ length arcs → FitsWalk arcs ds us
+walk_fits g q to arcs ds us valid f long = record {
+  long = long;
+  among = searched_among g q to arcs ds valid f;
+  low = f.found.low;
+  light = arcs_light g q arcs valid f.are;
+  near = searched_near g q to arcs ds valid f;
+}
 
 -- the places of a path stand among those of the arcs
 among_goes : (arcs : List (Option Arc)) (us : List Bool) (t : ℕ) (is : List ℕ) (u : ℕ) → Goes arcs us u is t → All (λ i. i < length arcs) is

@@ -37,3 +37,4 @@ pub mod CutShown
 pub mod Beginning
 pub mod Shortness
 pub mod Adding
+pub mod Listed

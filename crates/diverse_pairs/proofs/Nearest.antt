@@ -66,8 +66,8 @@ module _ (ds ns next : List ℕ) (place d block p : ℕ) where
       put_there 64 ds ns next place d block p old (λ b other in_block. other (omega (arith, of, in_block.from, in_block.to))) long here others is
 
 -- a distance below the nearest is the nearest
-pub lower_one : (ds : List ℕ) (place d b p : ℕ) → place < length ds → IsInBlock 8 b place → place ≢ p → d < at ds p → IsNearestIn 8 ds b p → IsNearestIn 8 (slice_set ds place d) b place
-lower_one ds place d b p inside in_block apart lower is =
+lower_in : (size : ℕ) (ds : List ℕ) (place d b p : ℕ) → place < length ds → IsInBlock size b place → place ≢ p → d < at ds p → IsNearestIn size ds b p → IsNearestIn size (slice_set ds place d) b place
+lower_in size ds place d b p inside in_block apart lower is =
     let long = length-set ds place d in
     let here = get_or-set_same ds place d 0 inside in
     record {
@@ -81,8 +81,8 @@ lower_one ds place d b p inside in_block apart lower is =
     }
 
 -- one that is not below it leaves it the nearest
-pub no_lower : (ds : List ℕ) (place d b p : ℕ) → place < length ds → p ≢ place → at ds p ≤ d → IsNearestIn 8 ds b p → IsNearestIn 8 (slice_set ds place d) b p
-no_lower ds place d b p inside apart most is =
+no_lower_in : (size : ℕ) (ds : List ℕ) (place d b p : ℕ) → place < length ds → p ≢ place → at ds p ≤ d → IsNearestIn size ds b p → IsNearestIn size (slice_set ds place d) b p
+no_lower_in size ds place d b p inside apart most is =
     let long = length-set ds place d in
     let there = get_or-set_other ds place p d 0 apart in
     record {
@@ -94,6 +94,19 @@ no_lower ds place d b p inside apart most is =
             | inr other ↦ omega (arith, there, get_or-set_other ds place i d 0 other, is.least i (omega (arith, within, long)) at_block)
           ];
     }
+
+module _ (ds : List ℕ) (place d b p : ℕ) (inside : place < length ds) where
+  pub lower_one : IsInBlock 8 b place → place ≢ p → d < at ds p → IsNearestIn 8 ds b p → IsNearestIn 8 (slice_set ds place d) b place
+  lower_one = lower_in 8 ds place d b p inside
+
+  pub lower_in_group : IsInBlock 64 b place → place ≢ p → d < at ds p → IsNearestIn 64 ds b p → IsNearestIn 64 (slice_set ds place d) b place
+  lower_in_group = lower_in 64 ds place d b p inside
+
+  pub no_lower : p ≢ place → at ds p ≤ d → IsNearestIn 8 ds b p → IsNearestIn 8 (slice_set ds place d) b p
+  no_lower = no_lower_in 8 ds place d b p inside
+
+  pub no_lower_in_group : p ≢ place → at ds p ≤ d → IsNearestIn 64 ds b p → IsNearestIn 64 (slice_set ds place d) b p
+  no_lower_in_group = no_lower_in 64 ds place d b p inside
 
 -- where the nearest of each group has no distance, none has
 pub none_near : (ds ns : List ℕ) (k least : ℕ) → AreNearest 64 ds ns → length ns ≤ k → ((b : ℕ) → b < k → least ≤ at ds (at ns b)) → least ≡ UNREACHED → (i : ℕ) → i < length ds → UNREACHED ≤ at ds i

@@ -1,5 +1,5 @@
 -- Arcs in use, by their marks or by distances.
-use Rattle.std.proofs.Common.{◌≡◌, inl, inr, ℕ, ◌+◌, ◌==◌, Bool, true, false, List, refl, sym, ◌∙◌, ap, arith, None, Some}
+use Rattle.std.proofs.Common.{◌≡◌, inl, inr, ℕ, ◌+◌, ◌==◌, Bool, true, false, List, refl, sym, ◌∙◌, ap, subst, arith, None, Some}
 use Rattle.std.specs.Prelude.{nat_lt, slice_index_or, if◌then◌else◌}
 use Rattle.std.specs.declared.option.Option.{Option}
 use Rattle.std.proofs.lemmas.Bool.{lt-ltb, ltb-true}
@@ -9,8 +9,9 @@ use Rattle.diverse_pairs.specs.declared.arcs.Arc.{Arc}
 use Rattle.diverse_pairs.specs.declared.arcs.TheConstants.{UNREACHED}
 use Rattle.diverse_pairs.specs.Arcs.{IsArc, at, is_used}
 use Rattle.diverse_pairs.specs.Distances.{IsTight, AreTight}
-use Rattle.diverse_pairs.specs.Uses.{used_at, tight_mark, tight_marks}
-use Rattle.diverse_pairs.proofs.Lowering.{arc_within}
+use Rattle.diverse_pairs.specs.Uses.{HasNoneAt, IsUsedAt, tight_mark, tight_marks}
+use Rattle.diverse_pairs.specs.Listed.{BeginsAt, BeginsElsewhere}
+use Rattle.diverse_pairs.proofs.Lowering.{arc_within, one_arc}
 use Rattle.diverse_pairs.proofs.FirstAmong.{HasNoneBefore}
 
 tight_if : (ds : List ℕ) (a : Arc) → tight_mark ds (Some a) ≡ true → IsTight ds a
@@ -40,53 +41,29 @@ tight_marked ds arcs i a is_arc = (
   λ t. mark_there ds arcs i a is_arc ∙ if_tight ds a t,
 )
 
-pub used_here : (arcs : List (Option Arc)) (marks : List Bool) (i : ℕ) → is_used marks i ≡ true → used_at arcs marks i ≡ slice_index_or arcs i None
-used_here arcs marks i used = rw used refl
+-- an arc that is not tight is not in use
+pub loose_here : (ds : List ℕ) (arcs : List (Option Arc)) (from i : ℕ) (a : Arc) → IsArc arcs i a → (IsTight ds a → ⊥) → HasNoneAt arcs (tight_marks ds arcs) from i
+loose_here ds arcs from i a is_arc loose b is_b used tail = loose (subst (IsTight ds) (one_arc arcs i b a is_b is_arc) ((tight_marked ds arcs i b is_b).0 used))
 
-pub unused_here : (arcs : List (Option Arc)) (marks : List Bool) (i : ℕ) → is_used marks i ≡ false → used_at arcs marks i ≡ None
-unused_here arcs marks i unused = rw unused refl
+-- a tight one that begins at the node is
+pub tight_here : (ds : List ℕ) (arcs : List (Option Arc)) (from i : ℕ) (a : Arc) → BeginsAt arcs i from a → IsTight ds a → IsUsedAt arcs (tight_marks ds arcs) from i a
+tight_here ds arcs from i a begins tight = (begins.0, (tight_marked ds arcs i a begins.0).1 tight, begins.1)
 
--- there is no arc at the place
-pub none_here : (arcs : List (Option Arc)) (marks : List Bool) (i : ℕ) → slice_index_or arcs i None ≡ None → used_at arcs marks i ≡ None
-none_here arcs marks i none = go (is_used marks i) refl
-  where
-    go : (b : Bool) → is_used marks i ≡ b → used_at arcs marks i ≡ None
-    go true used = used_here arcs marks i used ∙ none
-    go false unused = unused_here arcs marks i unused
+-- where none begins at the node, none in use does
+pub none_here : (arcs : List (Option Arc)) (marks : List Bool) (from i : ℕ) → BeginsElsewhere arcs i from → HasNoneAt arcs marks from i
+none_here arcs marks from i elsewhere a is_a used tail = elsewhere a is_a tail
 
--- an arc without a mark
-pub no_mark : (arcs : List (Option Arc)) (marks : List Bool) (i : ℕ) → (is_used marks i ≡ true → ⊥) → used_at arcs marks i ≡ None
-no_mark arcs marks i differs = go (is_used marks i) refl
-  where
-    go : (b : Bool) → is_used marks i ≡ b → used_at arcs marks i ≡ None
-    go true used = absurd (differs used)
-    go false unused = unused_here arcs marks i unused
-
--- a tight one is in use, and one that is not tight is not
-pub tight_here : (ds : List ℕ) (arcs : List (Option Arc)) (i : ℕ) (a : Arc) → IsArc arcs i a → IsTight ds a → used_at arcs (tight_marks ds arcs) i ≡ Some a
-tight_here ds arcs i a is_arc tight = used_here arcs (tight_marks ds arcs) i ((tight_marked ds arcs i a is_arc).1 tight) ∙ is_arc
-
-pub loose_here : (ds : List ℕ) (arcs : List (Option Arc)) (i : ℕ) (a : Arc) → IsArc arcs i a → (IsTight ds a → ⊥) → used_at arcs (tight_marks ds arcs) i ≡ None
-loose_here ds arcs i a is_arc loose = no_mark arcs (tight_marks ds arcs) i (λ used. loose ((tight_marked ds arcs i a is_arc).0 used))
-
-pub is_in_use : (arcs : List (Option Arc)) (marks : List Bool) (i : ℕ) (a : Arc) → used_at arcs marks i ≡ Some a → IsArc arcs i a × (is_used marks i ≡ true)
-is_in_use arcs marks i a is = go (is_used marks i) refl
-  where
-    go : (b : Bool) → is_used marks i ≡ b → IsArc arcs i a × (is_used marks i ≡ true)
-    go true used = (sym (used_here arcs marks i used) ∙ is, used)
-    go false unused = let bad : None ≡ Some a = sym (unused_here arcs marks i unused) ∙ is in cc
-
--- what is in use at a place is the arc there
-pub in_use_is : (arcs : List (Option Arc)) (marks : List Bool) (i : ℕ) (a : Arc) → IsArc arcs i a → is_used marks i ≡ true → used_at arcs marks i ≡ Some a
-in_use_is arcs marks i a is_arc used = used_here arcs marks i used ∙ is_arc
+-- one without a mark is not in use
+pub unmarked_here : (arcs : List (Option Arc)) (marks : List Bool) (from i : ℕ) → is_used marks i ≡ false → HasNoneAt arcs marks from i
+unmarked_here arcs marks from i unused a is_a used tail = let bad : false ≡ true = sym unused ∙ used in cc
 
 -- one more place has none that begins at the node
 pub none_more : (arcs : List (Option Arc)) (marks : List Bool) (from : ℕ) (places : List ℕ) (k : ℕ) → HasNoneBefore arcs marks from places k →
-    ((b : Arc) → used_at arcs marks (slice_index_or places k 0) ≡ Some b → b.tail ≡ from → ⊥) → HasNoneBefore arcs marks from places (k + 1)
+    HasNoneAt arcs marks from (slice_index_or places k 0) → HasNoneBefore arcs marks from places (k + 1)
 none_more arcs marks from places k before here m b up is_b used tail =
     elim (eqb_tells m k) [
       | inl same ↦
           let at : slice_index_or places m 0 ≡ slice_index_or places k 0 = ap (λ n. slice_index_or places n 0) same.1 in
-          here b (sym (ap (used_at arcs marks) at) ∙ in_use_is arcs marks (slice_index_or places m 0) b is_b used) tail
+          here b (subst (λ i. IsArc arcs i b) at is_b) (sym (ap (is_used marks) at) ∙ used) tail
       | inr other ↦ before m b (omega (arith, up, other.1)) is_b used tail
     ]

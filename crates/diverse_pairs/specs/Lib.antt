@@ -19,5 +19,6 @@ pub mod Settling
 pub mod Paths
 pub mod Uses
 pub mod Residual
+pub mod Listed
 pub mod Shown
 pub mod Solving

@@ -1,15 +1,19 @@
 -- Which arcs are in use: those with a mark, or those that are tight by distances.
-use Rattle.std.specs.Prelude.{◌≡◌, ◌+◌, ◌==◌, ℕ, Bool, false, List, length, map, nat_lt, None, Some, slice_index_or, if◌then◌else◌}
+use Rattle.std.specs.Prelude.{◌≡◌, ◌+◌, ◌==◌, ℕ, Bool, true, false, List, length, map, nat_lt, None, Some, if◌then◌else◌}
 use Rattle.std.specs.declared.option.Option.{Option}
 use Rattle.diverse_pairs.specs.declared.arcs.Arc.{Arc}
 use Rattle.diverse_pairs.specs.declared.arcs.TheConstants.{UNREACHED}
 use Rattle.diverse_pairs.specs.declared.tight.Use.{Use}
 use Rattle.diverse_pairs.specs.declared.tight.Use.TheVariants.{Marked, Tight}
-use Rattle.diverse_pairs.specs.Arcs.{at, is_used, AreAmong}
+use Rattle.diverse_pairs.specs.Arcs.{IsArc, at, is_used, AreAmong}
 
--- the arc at a place, if it has a mark
-abbrev pub used_at : List (Option Arc) → List Bool → ℕ → Option Arc
-used_at arcs marks i = if is_used marks i then slice_index_or arcs i None else None
+-- no arc at the place is in use and begins at the node
+abbrev pub HasNoneAt : List (Option Arc) → List Bool → ℕ → ℕ → Type 0
+HasNoneAt arcs marks from i = (a : Arc) → IsArc arcs i a → is_used marks i ≡ true → a.tail ≡ from → ⊥
+
+-- this one does
+abbrev pub IsUsedAt : List (Option Arc) → List Bool → ℕ → ℕ → Arc → Type 0
+IsUsedAt arcs marks from i a = IsArc arcs i a × (is_used marks i ≡ true) × (a.tail ≡ from)
 
 -- whether over the arc the distance falls by just its weight
 abbrev pub tight_mark : List ℕ → Option Arc → Bool

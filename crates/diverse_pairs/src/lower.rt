@@ -3,10 +3,12 @@
 ghost use Rattle.std.specs.Prelude.{◌≡◌, ◌≤◌, ◌<◌, ◌∷◌, [], All, length, IfOk, MatchBool};
 ghost use Rattle.diverse_pairs.specs.Arcs.{IsAmong, AreAmong};
 ghost use Rattle.diverse_pairs.specs.Along.{AreAlong};
+ghost use Rattle.diverse_pairs.specs.Listed.{listed, Fits};
 ghost use Rattle.diverse_pairs.specs.Distances.{IsLow, Lowers, AreMade, AreDistances};
 ghost use Rattle.diverse_pairs.specs.Settling.{Spreads, Settles, IsFarAlone};
 
 use crate::arcs::{Arc, UNREACHED};
+use crate::residual::{Arcs, arc_into};
 use crate::waiting::Waiting;
 use dom_base::NoMemory;
 use std::alloc::Global;
@@ -28,39 +30,41 @@ fn lower(arc: &Arc, distances: &mut [u64]) -> bool
 
 // Lowers over the arc at a place, if it leads to the node. A node whose distance fell waits.
 fn spread_arc(
-    arcs: &[Option<Arc>],
+    arcs: &Arcs<'_>,
     _target: usize,
     node: usize,
     place: usize,
     distances: &mut [u64],
     waiting: &mut Waiting,
 )
-    requires among { AreAmong (length distances.old) arcs.now }
-    requires place { place < length arcs.now }
+    requires fits { Fits arcs.now }
+    requires among { AreAmong (length distances.old) (listed arcs.now) }
+    requires place { place < length (listed arcs.now) }
     requires as_long { length waiting.old ≡ length distances.old }
-    ensures spreads { Spreads arcs.now _target node (place ∷ []) distances.old distances.new waiting.old waiting.new }
+    ensures spreads { Spreads (listed arcs.now) _target node (place ∷ []) distances.old distances.new waiting.old waiting.new }
 {
-    let Some(arc) = &arcs[place] else {
+    let Some(arc) = arc_into(arcs, place, node) else {
         return;
     };
-    if arc.head == node && lower(arc, distances) {
+    if lower(&arc, distances) {
         waiting.put(arc.tail, distances[arc.tail]);
     }
 }
 
 // Lowers over those of the arcs at some places that lead to the node.
 fn spread(
-    arcs: &[Option<Arc>],
+    arcs: &Arcs<'_>,
     _target: usize,
     node: usize,
     places: &[u32],
     distances: &mut [u64],
     waiting: &mut Waiting,
 )
-    requires among { AreAmong (length distances.old) arcs.now }
-    requires places { All (λ i. i < length arcs.now) places.now }
+    requires fits { Fits arcs.now }
+    requires among { AreAmong (length distances.old) (listed arcs.now) }
+    requires places { All (λ i. i < length (listed arcs.now)) places.now }
     requires as_long { length waiting.old ≡ length distances.old }
-    ensures spreads { Spreads arcs.now _target node places.now distances.old distances.new waiting.old waiting.new }
+    ensures spreads { Spreads (listed arcs.now) _target node places.now distances.old distances.new waiting.old waiting.new }
 {
     for place in places {
         spread_arc(arcs, _target, node, *place as usize, distances, waiting);
@@ -70,17 +74,18 @@ fn spread(
 // Settles a node: lowers over all arcs that lead to it.
 fn settle(
     topology: &Topology,
-    arcs: &[Option<Arc>],
+    arcs: &Arcs<'_>,
     _target: usize,
     node: usize,
     distances: &mut [u64],
     waiting: &mut Waiting,
 )
-    requires along { AreAlong topology.now arcs.now }
+    requires fits { Fits arcs.now }
+    requires along { AreAlong topology.now (listed arcs.now) }
     requires node { node < length topology.now.nodes }
     requires long { length distances.old ≡ length topology.now.nodes }
     requires as_long { length waiting.old ≡ length distances.old }
-    ensures settles { Settles arcs.now _target node distances.old distances.new waiting.old waiting.new }
+    ensures settles { Settles (listed arcs.now) _target node distances.old distances.new waiting.old waiting.new }
 {
     // A topology obeys the rules, so a place fits.
     let _own = topology.own();
@@ -104,13 +109,14 @@ fn at_target(alloc: Global, nodes: usize, target: usize) -> Result<Vec<u64>, NoM
 pub(crate) fn distances(
     alloc: Global,
     topology: &Topology,
-    arcs: &[Option<Arc>],
+    arcs: &Arcs<'_>,
     target: usize,
 ) -> Result<Vec<u64>, NoMemory>
-    requires along { AreAlong topology.now arcs.now }
+    requires fits { Fits arcs.now }
+    requires along { AreAlong topology.now (listed arcs.now) }
     requires target { target < length topology.now.nodes }
     ensures long { IfOk result (λ d. length d.items ≡ length topology.now.nodes) }
-    ensures distances { IfOk result (λ d. AreDistances arcs.now target d.items) }
+    ensures distances { IfOk result (λ d. AreDistances (listed arcs.now) target d.items) }
 {
     let nodes = topology.node_count() as usize;
     let mut distances = at_target(alloc, nodes, target)?;

@@ -2,10 +2,11 @@
 ghost use Rattle.std.specs.Prelude.{◌<◌, length, All, AllPairs, IfOk, MatchOption};
 ghost use Rattle.diverse_pairs.specs.Along.{AreAlong};
 ghost use Rattle.diverse_pairs.specs.Arcs.{HasArcFrom};
+ghost use Rattle.diverse_pairs.specs.Listed.{listed, Fits};
 ghost use Rattle.diverse_pairs.specs.Paths.{IsFirstFrom, IsFirstAmong, HasNoneAmong, Goes, LeadsOn, Falling};
 ghost use Rattle.diverse_pairs.specs.Uses.{Suits, marks_of};
 
-use crate::arcs::Arc;
+use crate::residual::Arcs;
 use crate::tight::{Use, used_arc};
 use dom_base::NoMemory;
 use std::alloc::Global;
@@ -19,17 +20,16 @@ struct Step {
 }
 
 // The first arc in use from a node, of those at some places.
-fn first_among(arcs: &[Option<Arc>], uses: &Use<'_>, places: &[u32], from: usize) -> Option<Step>
-    requires suits { Suits arcs.now uses.now }
-    requires places { All (λ i. i < length arcs.now) places.now }
+fn first_among(arcs: &Arcs<'_>, uses: &Use<'_>, places: &[u32], from: usize) -> Option<Step>
+    requires fits { Fits arcs.now }
+    requires suits { Suits (listed arcs.now) uses.now }
+    requires places { All (λ i. i < length (listed arcs.now)) places.now }
     requires rising { AllPairs (λ i j. i < j) places.now }
-    ensures { MatchOption result (HasNoneAmong arcs.now (marks_of uses.now arcs.now) from places.now) (λ step. IsFirstAmong arcs.now (marks_of uses.now arcs.now) from places.now step.arc step.head) }
+    ensures { MatchOption result (HasNoneAmong (listed arcs.now) (marks_of uses.now (listed arcs.now)) from places.now) (λ step. IsFirstAmong (listed arcs.now) (marks_of uses.now (listed arcs.now)) from places.now step.arc step.head) }
 {
     for place in places {
         let index = *place as usize;
-        if let Some(arc) = used_arc(arcs, uses, index)
-            && arc.tail == from
-        {
+        if let Some(arc) = used_arc(arcs, uses, index, from) {
             return Some(Step {
                 arc: index,
                 head: arc.head,
@@ -40,11 +40,12 @@ fn first_among(arcs: &[Option<Arc>], uses: &Use<'_>, places: &[u32], from: usize
 }
 
 // The first arc in use from a node. It runs along a link that begins or ends there.
-fn first_from(topology: &Topology, arcs: &[Option<Arc>], uses: &Use<'_>, from: usize) -> Step
-    requires along { AreAlong topology.now arcs.now }
-    requires suits { Suits arcs.now uses.now }
-    requires some { HasArcFrom arcs.now (marks_of uses.now arcs.now) from }
-    ensures { IsFirstFrom arcs.now (marks_of uses.now arcs.now) from result.arc result.head }
+fn first_from(topology: &Topology, arcs: &Arcs<'_>, uses: &Use<'_>, from: usize) -> Step
+    requires fits { Fits arcs.now }
+    requires along { AreAlong topology.now (listed arcs.now) }
+    requires suits { Suits (listed arcs.now) uses.now }
+    requires some { HasArcFrom (listed arcs.now) (marks_of uses.now (listed arcs.now)) from }
+    ensures { IsFirstFrom (listed arcs.now) (marks_of uses.now (listed arcs.now)) from result.arc result.head }
 {
     // A topology obeys the rules, so a place fits.
     let _own = topology.own();
@@ -62,17 +63,18 @@ fn first_from(topology: &Topology, arcs: &[Option<Arc>], uses: &Use<'_>, from: u
 pub(crate) fn lowest_path(
     alloc: Global,
     topology: &Topology,
-    arcs: &[Option<Arc>],
+    arcs: &Arcs<'_>,
     uses: &Use<'_>,
     _heights: &[u64],
     source: usize,
     target: usize,
 ) -> Result<Vec<usize>, NoMemory>
-    requires along { AreAlong topology.now arcs.now }
-    requires suits { Suits arcs.now uses.now }
-    requires leads { LeadsOn arcs.now (marks_of uses.now arcs.now) source target }
-    requires falling { Falling arcs.now (marks_of uses.now arcs.now) _heights.now }
-    ensures { IfOk result (λ path. Goes arcs.now (marks_of uses.now arcs.now) source path.items target) }
+    requires fits { Fits arcs.now }
+    requires along { AreAlong topology.now (listed arcs.now) }
+    requires suits { Suits (listed arcs.now) uses.now }
+    requires leads { LeadsOn (listed arcs.now) (marks_of uses.now (listed arcs.now)) source target }
+    requires falling { Falling (listed arcs.now) (marks_of uses.now (listed arcs.now)) _heights.now }
+    ensures { IfOk result (λ path. Goes (listed arcs.now) (marks_of uses.now (listed arcs.now)) source path.items target) }
 {
     let mut path = Vec::new(alloc);
     let mut here = source;

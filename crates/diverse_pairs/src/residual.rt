@@ -1,10 +1,11 @@
 //! What a walk leaves for a second one: the arcs beside it, and its own turned round.
-ghost use Rattle.std.specs.Prelude.{◌≡◌, ◌<◌, ◌≤◌, ℕ, Some, length, IfOk};
+ghost use Rattle.std.specs.Prelude.{◌≡◌, ◌<◌, ◌≤◌, ℕ, Some, length, IfOk, MatchOption};
 ghost use Rattle.te_links.specs.declared.limits.TheConstants.{METRIC_MAX};
 ghost use Rattle.diverse_pairs.specs.declared.arcs.TheConstants.{UNREACHED as unreached};
-ghost use Rattle.diverse_pairs.specs.Arcs.{at, is_used, IsAmong, AreAmong, AreLight};
-ghost use Rattle.diverse_pairs.specs.Distances.{IsLow, AreLow, IsNear, AreNear};
-ghost use Rattle.diverse_pairs.specs.Residual.{residual_of, AreResidual, height_of, AreHeights};
+ghost use Rattle.diverse_pairs.specs.Arcs.{at, IsAmong};
+ghost use Rattle.diverse_pairs.specs.Distances.{IsLow, IsNear, AreNear};
+ghost use Rattle.diverse_pairs.specs.Residual.{residual_of, end_with, left_arcs, height_of, AreHeights};
+ghost use Rattle.diverse_pairs.specs.Listed.{listed, Fits, FitsWalk, LeadsTo, LeadsElsewhere, BeginsAt, BeginsElsewhere};
 
 use crate::arcs::{Arc, UNREACHED};
 use dom_base::NoMemory;
@@ -40,29 +41,130 @@ fn residual_arc(arc: &Arc, distances: &[u64], used: bool) -> Option<Arc>
     })
 }
 
-/// The arcs that a walk leaves, those in use being the walk's.
-pub(crate) fn residual_arcs(
-    alloc: Global,
+/// The arcs that a search goes over: those of all links, or what a walk leaves of them for a second
+/// one, worked out where it is read. Its distances tell what each arc weighs, and those in use by it
+/// are turned round.
+#[derive(Clone, Copy)]
+pub enum Arcs<'a> {
+    Whole(&'a [Option<Arc>]),
+    Left {
+        arcs: &'a [Option<Arc>],
+        distances: &'a [u64],
+        in_use: &'a [bool],
+    },
+}
+
+// The arc at a place, if it leads to the node.
+fn whole_into(arcs: &[Option<Arc>], place: usize, node: usize) -> Option<Arc>
+    requires { place < length arcs.now }
+    ensures { MatchOption result (LeadsElsewhere arcs.now place node) (LeadsTo arcs.now place node) }
+{
+    let Some(arc) = arcs[place] else {
+        return None;
+    };
+    if arc.head != node {
+        return None;
+    }
+    Some(arc)
+}
+
+// Where an arc ends, or one that is turned round.
+fn end_of(arc: &Arc, turned: bool) -> usize
+    ensures { result ≡ end_with turned arc.now }
+{
+    if turned { arc.tail } else { arc.head }
+}
+
+// What a walk leaves at a place, if it leads to the node. Where it does not, no distance is read.
+fn left_into(
     arcs: &[Option<Arc>],
     distances: &[u64],
     in_use: &[bool],
-) -> Result<Vec<Option<Arc>>, NoMemory>
-    requires long { length in_use.now ≡ length arcs.now }
-    requires among { AreAmong (length distances.now) arcs.now }
-    requires low { AreLow arcs.now distances.now }
-    requires light { AreLight arcs.now }
-    requires near { AreNear distances.now }
-    ensures { IfOk result (λ rs. AreResidual arcs.now distances.now in_use.now rs.items) }
+    place: usize,
+    node: usize,
+) -> Option<Arc>
+    requires fits { FitsWalk arcs.now distances.now in_use.now }
+    requires place { place < length arcs.now }
+    ensures { MatchOption result (LeadsElsewhere (left_arcs distances.now in_use.now arcs.now) place node) (LeadsTo (left_arcs distances.now in_use.now arcs.now) place node) }
 {
-    let mut residual = Vec::with_capacity(alloc, arcs.len())?;
-    for index in 0..arcs.len() {
-        let left = match &arcs[index] {
-            Some(arc) => residual_arc(arc, distances, in_use[index]),
-            None => None,
-        };
-        residual.push(left)?;
+    let Some(arc) = &arcs[place] else {
+        return None;
+    };
+    let used = in_use[place];
+    if end_of(arc, used) != node {
+        return None;
     }
-    Ok(residual)
+    residual_arc(arc, distances, used)
+}
+
+/// The arc at a place, if it leads to the node.
+#[tactic(auto, using(crate::proofs::Listed::left_inside))]
+pub(crate) fn arc_into(arcs: &Arcs<'_>, place: usize, node: usize) -> Option<Arc>
+    requires fits { Fits arcs.now }
+    requires place { place < length (listed arcs.now) }
+    ensures { MatchOption result (LeadsElsewhere (listed arcs.now) place node) (LeadsTo (listed arcs.now) place node) }
+{
+    match arcs {
+        Arcs::Whole(arcs) => whole_into(arcs, place, node),
+        Arcs::Left {
+            arcs,
+            distances,
+            in_use,
+        } => left_into(arcs, distances, in_use, place, node),
+    }
+}
+
+// The arc at a place, if it begins at the node.
+fn whole_from(arcs: &[Option<Arc>], place: usize, node: usize) -> Option<Arc>
+    requires { place < length arcs.now }
+    ensures { MatchOption result (BeginsElsewhere arcs.now place node) (BeginsAt arcs.now place node) }
+{
+    let Some(arc) = arcs[place] else {
+        return None;
+    };
+    if arc.tail != node {
+        return None;
+    }
+    Some(arc)
+}
+
+// What a walk leaves at a place, if it begins at the node. Where it does not, no distance is read.
+fn left_from(
+    arcs: &[Option<Arc>],
+    distances: &[u64],
+    in_use: &[bool],
+    place: usize,
+    node: usize,
+) -> Option<Arc>
+    requires fits { FitsWalk arcs.now distances.now in_use.now }
+    requires place { place < length arcs.now }
+    ensures { MatchOption result (BeginsElsewhere (left_arcs distances.now in_use.now arcs.now) place node) (BeginsAt (left_arcs distances.now in_use.now arcs.now) place node) }
+{
+    let Some(arc) = &arcs[place] else {
+        return None;
+    };
+    let used = in_use[place];
+    if end_of(arc, !used) != node {
+        return None;
+    }
+    residual_arc(arc, distances, used)
+}
+
+/// The arc at a place, if it begins at the node.
+#[tactic(auto, using(crate::proofs::Listed::left_inside))]
+pub(crate) fn arc_from(arcs: &Arcs<'_>, place: usize, node: usize) -> Option<Arc>
+    requires fits { Fits arcs.now }
+    requires place { place < length (listed arcs.now) }
+    ensures { MatchOption result (BeginsElsewhere (listed arcs.now) place node) (BeginsAt (listed arcs.now) place node) }
+{
+    match arcs {
+        Arcs::Whole(arcs) => whole_from(arcs, place, node),
+        Arcs::Left {
+            arcs,
+            distances,
+            in_use,
+        } => left_from(arcs, distances, in_use, place, node),
+    }
 }
 
 fn height(first: u64, second: u64) -> u64

@@ -11,6 +11,7 @@ ghost use Rattle.diverse_pairs.specs.Conditions.{asked_of, IsVerdict};
 ghost use Rattle.diverse_pairs.specs.Potentials.{HasRising, StartsAtZero};
 ghost use Rattle.diverse_pairs.specs.PairText.{CanBeTold};
 ghost use Rattle.diverse_pairs.specs.Solution.{IsAnswer, IsShort, IsSolved};
+ghost use Rattle.diverse_pairs.specs.Residual.{left_arcs};
 ghost use Rattle.path_search.specs.Search.{IsOpenAt};
 ghost use Rattle.diverse_pairs.specs.Solving.{IsPlaced, IsSearched, IsWalked, MakePaths, ArePathsIn, IsCutForm};
 
@@ -18,9 +19,9 @@ use crate::arcs::{Arc, UNREACHED};
 use crate::certificate::{PairCertificate, PairForm};
 use crate::lower::distances;
 use crate::network::arcs_of;
-use crate::residual::{heights, residual_arcs};
+use crate::residual::{Arcs, heights};
 use crate::shown::{cut_off, far_addresses, potentials};
-use crate::turning::{take_path, turn_tight};
+use crate::turning::{take_path, tight_path, turn};
 use dom_base::{Addr, List, NoMemory, Query};
 use path_constraints::bars_node;
 use std::alloc::Global;
@@ -85,11 +86,10 @@ struct Searched {
     distances: Vec<u64>,
 }
 
-// A least path in use, the arcs that it leaves, and the distances over these.
+// A least path in use, and the distances over the arcs that it leaves.
 #[derive(Drop)]
 struct Walked {
     in_use: Vec<bool>,
-    left: Vec<Option<Arc>>,
     distances: Vec<u64>,
 }
 
@@ -105,7 +105,8 @@ fn search(
     // A topology obeys the rules.
     let _own = topology.own();
     let arcs = arcs_of(alloc, topology, query)?;
-    let distances = distances(alloc, topology, arcs.as_slice(), to)?;
+    let whole = Arcs::Whole(arcs.as_slice());
+    let distances = distances(alloc, topology, &whole, to)?;
     Ok(Searched { arcs, distances })
 }
 
@@ -123,17 +124,18 @@ fn walk(
     requires from { from < length first.now }
     requires to { to < length first.now }
     requires reached { at first.now from < unreached }
-    ensures { IfOk result (λ w. IsWalked from to arcs.now first.now w.in_use.items w.left.items w.distances.items) }
+    ensures { IfOk result (λ w. IsWalked from to arcs.now first.now w.in_use.items (left_arcs first.now w.in_use.items arcs.now) w.distances.items) }
 {
+    let path = tight_path(alloc, topology, &Arcs::Whole(arcs), first, from, to)?;
     let none = vec![in alloc; false; arcs.len()]?;
-    let in_use = turn_tight(alloc, topology, arcs, first, none, from, to)?;
-    let left = residual_arcs(alloc, arcs, first, in_use.as_slice())?;
-    let distances = distances(alloc, topology, left.as_slice(), to)?;
-    Ok(Walked {
-        in_use,
-        left,
-        distances,
-    })
+    let in_use = turn(none, path.as_slice());
+    let left = Arcs::Left {
+        arcs,
+        distances: first,
+        in_use: in_use.as_slice(),
+    };
+    let distances = distances(alloc, topology, &left, to)?;
+    Ok(Walked { in_use, distances })
 }
 
 // The chosen pair, where a second path leads from the source.
@@ -151,16 +153,18 @@ fn second(
 ) -> Result<PairForm, NoMemory>
     requires placed { IsPlaced topology.now _query.now source _target from to }
     requires searched { IsSearched topology.now _query.now to arcs.now first.now }
-    requires walked { IsWalked from to arcs.now first.now walked.in_use.items walked.left.items walked.distances.items }
+    requires walked { IsWalked from to arcs.now first.now walked.in_use.items (left_arcs first.now walked.in_use.items arcs.now) walked.distances.items }
     requires reached { at walked.distances.items from < unreached }
     ensures { IfOk result (IsSolved (asked_of topology.now _query.now source _target)) }
 {
-    let Walked {
-        in_use,
-        left,
-        distances,
-    } = walked;
-    let both = turn_tight(alloc, topology, &left, &distances, in_use, from, to)?;
+    let Walked { in_use, distances } = walked;
+    let left = Arcs::Left {
+        arcs,
+        distances: first,
+        in_use: in_use.as_slice(),
+    };
+    let path = tight_path(alloc, topology, &left, &distances, from, to)?;
+    let both = turn(in_use, path.as_slice());
     let heights = heights(alloc, first, &distances)?;
     paths_form(alloc, topology, source, arcs, both, &heights, from, to)
 }

@@ -1,11 +1,13 @@
 //! Which arcs a path may take: those that are marked, or those over which the distance falls by just
 //! their weight.
-ghost use Rattle.std.specs.Prelude.{◌≡◌, ◌↔◌, ◌<◌, length, IsTrue};
+ghost use Rattle.std.specs.Prelude.{◌≡◌, ◌↔◌, ◌<◌, length, IsTrue, MatchOption};
 ghost use Rattle.diverse_pairs.specs.Arcs.{AreAmong, IsAmong};
 ghost use Rattle.diverse_pairs.specs.Distances.{IsTight};
-ghost use Rattle.diverse_pairs.specs.Uses.{Suits, marks_of, tight_marks, used_at};
+ghost use Rattle.diverse_pairs.specs.Listed.{listed, Fits};
+ghost use Rattle.diverse_pairs.specs.Uses.{Suits, marks_of, tight_marks, HasNoneAt, IsUsedAt};
 
 use crate::arcs::{Arc, UNREACHED};
+use crate::residual::{Arcs, arc_from};
 
 /// The arcs in use: those with a mark, or those that are tight by distances.
 #[derive(Clone, Copy)]
@@ -23,25 +25,30 @@ fn is_tight(arc: &Arc, distances: &[u64]) -> bool
     from < UNREACHED && to <= from && from - to == arc.weight
 }
 
-// The arc at a place, if it has a mark. One without is not read.
-fn marked_arc(arcs: &[Option<Arc>], marks: &[bool], index: usize) -> Option<Arc>
-    requires long { length marks.now ≡ length arcs.now }
-    requires within { index < length arcs.now }
-    ensures { result ≡ used_at arcs.now marks.now index }
+// The arc at a place, if it has a mark and begins at the node. One without is not read.
+fn marked_arc(arcs: &Arcs<'_>, marks: &[bool], index: usize, from: usize) -> Option<Arc>
+    requires fits { Fits arcs.now }
+    requires long { length marks.now ≡ length (listed arcs.now) }
+    requires within { index < length (listed arcs.now) }
+    ensures { MatchOption result (HasNoneAt (listed arcs.now) marks.now from index) (IsUsedAt (listed arcs.now) marks.now from index) }
 {
     if !marks[index] {
         return None;
     }
-    arcs[index]
+    let Some(arc) = arc_from(arcs, index, from) else {
+        return None;
+    };
+    Some(arc)
 }
 
-// The arc at a place, if it is tight.
-fn tight_arc(arcs: &[Option<Arc>], distances: &[u64], index: usize) -> Option<Arc>
-    requires among { AreAmong (length distances.now) arcs.now }
-    requires within { index < length arcs.now }
-    ensures { result ≡ used_at arcs.now (tight_marks distances.now arcs.now) index }
+// The arc at a place, if it is tight and begins at the node.
+fn tight_arc(arcs: &Arcs<'_>, distances: &[u64], index: usize, from: usize) -> Option<Arc>
+    requires fits { Fits arcs.now }
+    requires among { AreAmong (length distances.now) (listed arcs.now) }
+    requires within { index < length (listed arcs.now) }
+    ensures { MatchOption result (HasNoneAt (listed arcs.now) (tight_marks distances.now (listed arcs.now)) from index) (IsUsedAt (listed arcs.now) (tight_marks distances.now (listed arcs.now)) from index) }
 {
-    let Some(arc) = arcs[index] else {
+    let Some(arc) = arc_from(arcs, index, from) else {
         return None;
     };
     if !is_tight(&arc, distances) {
@@ -50,14 +57,15 @@ fn tight_arc(arcs: &[Option<Arc>], distances: &[u64], index: usize) -> Option<Ar
     Some(arc)
 }
 
-/// The arc at a place, if it is in use.
-pub(crate) fn used_arc(arcs: &[Option<Arc>], uses: &Use<'_>, index: usize) -> Option<Arc>
-    requires suits { Suits arcs.now uses.now }
-    requires within { index < length arcs.now }
-    ensures { result ≡ used_at arcs.now (marks_of uses.now arcs.now) index }
+/// The arc at a place, if it is in use and begins at the node.
+pub(crate) fn used_arc(arcs: &Arcs<'_>, uses: &Use<'_>, index: usize, from: usize) -> Option<Arc>
+    requires fits { Fits arcs.now }
+    requires suits { Suits (listed arcs.now) uses.now }
+    requires within { index < length (listed arcs.now) }
+    ensures { MatchOption result (HasNoneAt (listed arcs.now) (marks_of uses.now (listed arcs.now)) from index) (IsUsedAt (listed arcs.now) (marks_of uses.now (listed arcs.now)) from index) }
 {
     match uses {
-        Use::Marked(marks) => marked_arc(arcs, marks, index),
-        Use::Tight(distances) => tight_arc(arcs, distances, index),
+        Use::Marked(marks) => marked_arc(arcs, marks, index, from),
+        Use::Tight(distances) => tight_arc(arcs, distances, index, from),
     }
 }

@@ -122,7 +122,12 @@ fn put_distance(
 {
     set_distance(distances, nearest, place, distance);
     let group = place / GROUP;
-    groups[group] = nearest_among(distances, nearest, group);
+    let was = groups[group];
+    if was == place {
+        groups[group] = nearest_among(distances, nearest, group);
+    } else if distance < distances[was] {
+        groups[group] = place;
+    }
 }
 
 // The place of a least distance, if there is one.

@@ -9,6 +9,7 @@ use Rattle.plant_text.specs.declared.line.LineEvent.{LineEvent}
 use Rattle.plant_text.specs.declared.line.LineEvent.TheVariants as line
 use Rattle.plant_text.specs.declared.settings.NetworkParts.{NetworkParts}
 use Rattle.plant_script.specs.plant_model.Events.{Answered}
+use Rattle.plant_script.specs.plant_play.Logs.{Told}
 use Rattle.plant_script.specs.plant_play.Playing.{Cue, IsNewStage, Stage}
 use Rattle.plant_script.specs.plant_play.Scripts.{AllPlayed}
 use Rattle.plant_script.specs.plant_play.Turns.{Turn}
@@ -142,7 +143,7 @@ load_next files later xs i x old mid new inside is same p q =
 
 -- ---- one line
 
-pub is_played : (files : Option Files) (e : LineEvent) (answer : Answered) (old new : Stage) (before after : List ℕ) → PlaysCue files 0 e answer old new before after → IsPlayed files e old answer new
+pub is_played : (files : Option Files) (e : LineEvent) (answer : Answered) (old new : Stage) (before after : Told) → PlaysCue files 0 e answer old new before after → IsPlayed files e old answer new
 is_played files e answer old new before after p = record {
   cue = record { number = 0; event = e; file = p.file };
   is_cue = record { number = refl; event = refl; has = p.has };
@@ -151,7 +152,7 @@ is_played files e answer old new before after p = record {
   plays = p.plays;
 }
 
-pub if_played : (files : Option Files) (e : LineEvent) (old new : Stage) (before after : List ℕ) (r : Result Answered Stop) → IfOk r (λ answer. PlaysCue files 0 e answer old new before after) → IfOk r (λ answer. IsPlayed files e old answer new)
+pub if_played : (files : Option Files) (e : LineEvent) (old new : Stage) (before after : Told) (r : Result Answered Stop) → IfOk r (λ answer. PlaysCue files 0 e answer old new before after) → IfOk r (λ answer. IsPlayed files e old answer new)
 if_played files e old new before after (Ok answer) p = is_played files e answer old new before after p
 if_played files e old new before after (Err why) p = p
 

@@ -10,7 +10,7 @@ ghost use Rattle.plant_client.specs.Questions.{question_text, sequence_most};
 use crate::question::{Question, opening_bytes, question_bytes};
 use dom_base::{As, Bytes, List, NoMemory, Text};
 use dom_edge::Store;
-use plant_script::{Answer, Outcome, Player, Stop, play_cue};
+use plant_script::{Answer, Log, Outcome, Player, Stop, play_cue};
 use plant_text::{ElementRow, LineEvent, Network};
 use settings_layout::elements_of;
 use std::alloc::Global;
@@ -66,7 +66,7 @@ fn topologies(alloc: Global, rows: &[ElementRow]) -> Result<Vec<(As, Text)>, NoM
 
 // ---- lines that are played
 
-// Plays a line; what is told of it is thrown away.
+// Plays a line; nobody reads what is told of it.
 fn play_line<S: Store>(
     alloc: Global,
     store: &mut S,
@@ -78,8 +78,8 @@ fn play_line<S: Store>(
     ensures files { S.files store.new ≡ S.files store.old }
     ensures later { S.faults store.old ≤ S.faults store.new }
 {
-    let mut told = Vec::new(alloc);
-    play_cue(alloc, store, player, 0, event, &mut told)
+    let mut unseen = Log::unseen(alloc);
+    play_cue(alloc, store, player, 0, event, &mut unseen)
 }
 
 // Plays a line whose answer is not looked at.

@@ -7,10 +7,17 @@ pub mod LostCauses
 pub mod EventCauses
 pub mod AllCauses
 pub mod MomentCauses
+pub mod Stood
+pub mod ChildRests
+pub mod Went
+pub mod Heard
+pub mod Unserved
 pub mod ErrorParts
 pub mod Errors
 pub mod ErrorsTaken
+pub mod Failed
 pub mod Broken
+pub mod StaysInside
 pub mod Full
 pub mod Served
 pub mod Good

@@ -1,12 +1,12 @@
 -- What is said of every run: a request has one chain, and in a quiet state the chain of a pending request ends at an outside peer.
-use Rattle.std.specs.Prelude.{◌≡◌, ◌≢◌, ℕ, Bool, false, cond, is_some, Contains, List, [], ◌∷◌, Option, Some, None}
+use Rattle.std.specs.Prelude.{◌≡◌, ◌≢◌, ℕ, Bool, false, cond, is_some, All, Contains, List, [], ◌∷◌, Option, Some, None}
 use Rattle.dom_base.specs.declared.names.As.{As}
 use Rattle.dom_base.specs.declared.names.Peer.{Peer}
 use Rattle.dom_base.specs.declared.names.Peer.TheVariants.{Outside, Inner}
 use Rattle.request_table.specs.Pending.{key_of, number_of}
 use Rattle.plant_text.specs.declared.settings.NetworkParts.{NetworkParts}
+use Rattle.plant_text.specs.declared.settings.PeerRow.{PeerRow}
 use Rattle.plant_text.specs.Names.{same_as, parent_as}
-use Rattle.plant_model.specs.Routes.{StaysInside}
 use Rattle.plant_model.specs.Wire.{Codec}
 use Rattle.plant_model.specs.State.{Connection}
 use Rattle.plant_model.specs.Events.{is_ready}
@@ -69,7 +69,7 @@ QuietIsAnswered = InShortRuns QuietIsAnsweredIn
 
 -- So where paths go on through no outside peer, nothing is pending.
 abbrev pub QuietHasNonePendingIn : Codec → NetworkParts → List Entry → Plant → Type 0
-QuietHasNonePendingIn c n es s = StaysInside n → IsQuiet s → (s.parent.pending.rows ≡ []) × ((d : As) → (s.elements d).pending.rows ≡ [])
+QuietHasNonePendingIn c n es s = All (λ (r : PeerRow). r.down ≡ false) n.peers → IsQuiet s → (s.parent.pending.rows ≡ []) × ((d : As) → (s.elements d).pending.rows ≡ [])
 
 abbrev pub QuietHasNonePending : Type 0
 QuietHasNonePending = InShortRuns QuietHasNonePendingIn

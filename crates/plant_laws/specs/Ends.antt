@@ -1,5 +1,5 @@
 -- Where the chain of a request ends, and what was told of a request by the peer that was asked for it.
-use Rattle.std.specs.Prelude.{◌≡◌, ℕ, List, [], ◌∷◌, length, Some}
+use Rattle.std.specs.Prelude.{◌≡◌, ℕ, false, All, List, [], ◌∷◌, length, Some}
 use Rattle.dom_base.specs.declared.addr.Addr.{Addr}
 use Rattle.dom_base.specs.declared.names.As.{As}
 use Rattle.dom_base.specs.declared.names.Peer.{Peer}
@@ -15,12 +15,13 @@ use Rattle.pcep_messages.specs.declared.message.Wanted.{Wanted}
 use Rattle.vspt_tree.specs.declared.branch.Branch.{Branch}
 use Rattle.border_costs.specs.Asks.{beyond}
 use Rattle.plant_text.specs.declared.settings.NetworkParts.{NetworkParts}
+use Rattle.plant_text.specs.declared.settings.PeerRow.{PeerRow}
 use Rattle.plant_model.specs.declared.output.Output.{Output}
 use Rattle.plant_model.specs.Wire.{Codec}
 use Rattle.plant_model.specs.Writing.{request_message}
 use Rattle.plant_model.specs.Branches.{branches_in, downs}
 use Rattle.plant_model.specs.Outside.{heeded_by}
-use Rattle.plant_model.specs.Routes.{toward, StaysInside}
+use Rattle.plant_model.specs.Routes.{toward}
 use Rattle.plant_model.specs.Settings.{place}
 use Rattle.plant_model.specs.State.{Takes}
 use Rattle.plant_laws.specs.Transcript.{Transcript, Within, SentIn, Leg}
@@ -82,5 +83,5 @@ ChainEnds c n w behind (one ∷ next ∷ rest) end = ChainEnds c n w behind (nex
 
 -- Where paths go on through no outside peer, a chain goes through its whole sequence, to the target.
 abbrev pub ChainsEndInside : Type 0
-ChainsEndInside = (c : Codec) (n : NetworkParts) (w : Wanted) (behind : List As) (chain : List Leg) (end : End) → StaysInside n →
+ChainsEndInside = (c : Codec) (n : NetworkParts) (w : Wanted) (behind : List As) (chain : List Leg) (end : End) → All (λ (r : PeerRow). r.down ≡ false) n.peers →
     ChainEnds c n w behind chain end → (behind ≡ []) × (end ≡ Inside w.target)

@@ -1,5 +1,5 @@
--- Why a request was answered that there is no room (PCNtf 1/2): on its way a table was full, or a solve needs more keys than are free, or
--- an outside peer said so.
+-- Why a request was answered that there is no room (PCNtf 1/2): on its way a table was full, a solve needs more keys than are free, or an
+-- outside peer that was asked said so.
 use Rattle.std.specs.Prelude.{◌≡◌, ◌≢◌, ◌<◌, true, false, ℕ, cond, List, [], ◌∷◌, length, Contains, Some}
 use Rattle.dom_base.specs.declared.names.As.{As}
 use Rattle.dom_base.specs.declared.addr.Addr.{Addr}
@@ -14,8 +14,6 @@ use Rattle.plant_text.specs.declared.settings.NetworkParts.{NetworkParts}
 use Rattle.plant_text.specs.Names.{same_as, parent_as}
 use Rattle.plant_model.specs.declared.output.Output.{Output}
 use Rattle.plant_model.specs.Names.{has_pair}
-use Rattle.plant_model.specs.Routes.{toward}
-use Rattle.plant_model.specs.Settings.{place}
 use Rattle.plant_model.specs.Wire.{Codec}
 use Rattle.plant_model.specs.Writing.{request_message, busy}
 use Rattle.plant_model.specs.Element.{is_client}
@@ -24,8 +22,9 @@ use Rattle.plant_model.specs.State.{Takes}
 use Rattle.plant_model.specs.Plant.{Plant, PlantDeed, Entry, Run, deeds_of}
 use Rattle.plant_laws.specs.Transcript.{Transcript, Within, opened, SentIn, outputs_at}
 use Rattle.plant_laws.specs.Matched.{Answering}
-use Rattle.plant_laws.specs.MessageCauses.{Notes, noted}
 use Rattle.plant_laws.specs.Met.{RunOf, run_of, Meets, TakesPathRequest}
+use Rattle.plant_laws.specs.MessageCauses.{Notes, noted}
+use Rattle.plant_laws.specs.WentOn.{WentOn}
 use Rattle.plant_laws.specs.Solves.{ElementTells}
 use Rattle.plant_laws.specs.Runs.{InShortRuns}
 
@@ -62,35 +61,15 @@ pub record HearsFull (c : Codec) (older : Transcript) (d : As) (p : Peer) (x : �
   pub said : SentIn (deed ∷ before) b (Inner d) (busy flags id)
   pub answering : d ≢ parent_as → Answering c d b id at deed before
 
--- Of this id notices say that there is no room.
-pub record SaysFull (ns : List Notice) (id : ℕ) : Type 0 where
-  pub kinds : List (ℕ × ℕ)
-  pub rp : ℕ × ℕ
-  pub among : Contains (noted ns) (Notes kinds rp)
-  pub same : rp.1 ≡ id
-  pub full : has_pair notices.BUSY.0 notices.BUSY.1 kinds ≡ true
-
--- The request x of p is open, in the moment that delivered it d asked an outside peer for the next domain under an id, and of this id the
--- peer's notices say that there is no room.
-pub record HearsFullOutside (c : Codec) (n : NetworkParts) (older : Transcript) (d : As) (p : Peer) (x : ℕ) (i : ℕ) (ns : List Notice) : Type 0 where
-  pub at : Transcript
-  pub is_open : opened c d p x older ≡ Some at
-  pub id : ℕ
-  pub wanted : Wanted
-  pub next : As
-  pub more : List As
-  pub sent : SentIn at d (Outside i) (request_message id wanted wanted.target (next ∷ more))
-  pub route : toward next (place n d).routes ≡ Outside i
-  pub says : SaysFull ns id
-
 -- why d told p in a moment that there is no room for its request x
 pub data Fills (c : Codec) (n : NetworkParts) (this : RunOf c n) : As → Peer → ℕ → PlantDeed → Transcript → Type 0 where
   crowded : (d : As) (p : Peer) (x : ℕ) (deed : PlantDeed) (older : Transcript) → IsCrowded c n this d p x deed older → Fills c n this d p x deed older
   lacks : (d : As) (p : Peer) (x : ℕ) (deed : PlantDeed) (older : Transcript) → LacksKeys c n this d p x deed older → Fills c n this d p x deed older
+  -- an outside peer to which it went on said so
+  outside_full : (d : As) (i : ℕ) (p : Peer) (x : ℕ) (older : Transcript) (told : List Notice) (kinds : List (ℕ × ℕ)) (rp : ℕ × ℕ) (os : List Output) → Contains (noted told) (Notes kinds rp) →
+      has_pair notices.BUSY.0 notices.BUSY.1 kinds ≡ true → WentOn c older d p x (Outside i) rp.1 → Fills c n this d p x (Takes d (Outside i) (messages.PcNtf told) os) older
   -- the next said so of what it was asked, for a reason of its own
   further_full : (d b : As) (p : Peer) (x : ℕ) (older : Transcript) (os : List Output) (hears : HearsFull c older d p x b) → Fills c n this b (Inner d) hears.id hears.deed hears.before → Fills c n this d p x (Takes d (Inner b) (busy hears.flags hears.id) os) older
-  -- an outside peer said so of what it was asked, and gives no reason
-  full_outside : (d : As) (i : ℕ) (p : Peer) (x : ℕ) (older : Transcript) (ns : List Notice) (os : List Output) → HearsFullOutside c n older d p x i ns → Fills c n this d p x (Takes d (Outside i) (messages.PcNtf ns) os) older
 
 -- In every run each such notice of an element, or the parent, has a reason.
 abbrev pub FullForReasonsIn : Codec → NetworkParts → List Entry → Plant → Type 0

@@ -29,11 +29,14 @@ pub mod Certified
 pub mod Steps
 pub mod MessageCauses
 pub mod Causes
+pub mod WentOn
 pub mod Errors
 pub mod Met
 pub mod Broken
 pub mod Full
 pub mod Served
 pub mod Good
+pub mod Confined
+pub mod Resting
 -- handed on from below
 pub use Rattle.plant_model.specs as plant_model

@@ -13,7 +13,7 @@ use Rattle.plant_model.specs.Wire.{Codec}
 use Rattle.plant_model.specs.State.{Takes, Pops}
 use Rattle.plant_model.specs.Plant.{Plant, Entry, deeds_of}
 use Rattle.plant_laws.specs.Transcript.{Transcript, Within, Standing, standing}
-use Rattle.plant_laws.specs.Runs.{InShortRuns}
+use Rattle.plant_laws.specs.Runs.{InRuns, InShortRuns}
 
 pub record IsFromQueue (a b : As) (m : Message) (older : Transcript) : Type 0 where
   pub before : Transcript
@@ -31,3 +31,14 @@ MessagesAreReadIn c n es s = AreReadings c n es
 
 abbrev pub MessagesAreRead : Type 0
 MessagesAreRead = InShortRuns MessagesAreReadIn
+
+-- Of requests the same, also where ids come round: what replies say has no part in it.
+pub record AreRequestReadings (c : Codec) (n : NetworkParts) (es : List Entry) : Type 0 where
+  pub queues : (a b : As) (asks : List Asked) (os : List Output) (older : Transcript) → Within (Takes b (Inner a) (messages.PcReq asks) os ∷ older) (deeds_of c n es) → IsFromQueue a b (messages.PcReq asks) older
+  pub single : (at : As) (p : Peer) (asks : List Asked) (os : List Output) (older : Transcript) → Within (Takes at p (messages.PcReq asks) os ∷ older) (deeds_of c n es) → length asks ≡ 1
+
+abbrev pub RequestsAreReadIn : Codec → NetworkParts → List Entry → Plant → Type 0
+RequestsAreReadIn c n es s = AreRequestReadings c n es
+
+abbrev pub RequestsAreRead : Type 0
+RequestsAreRead = InRuns RequestsAreReadIn

@@ -31,7 +31,7 @@ OverPcep Holds = (n : NetworkParts) → IsNetwork n → (es : List Entry) (s : P
 abbrev pub AllIsWritten : Codec → NetworkParts → List Entry → Plant → Type 0
 AllIsWritten c n es s = AllSent IsWritten (deeds_of c n es)
 
--- all requests that were sent are
+-- all requests that were sent are in written form
 abbrev pub IsWrittenRequest : Message → Type 0
 IsWrittenRequest m = (asks : List Asked) → m ≡ messages.PcReq asks → IsWritten m
 

@@ -8,6 +8,7 @@ ghost use Rattle.plant_laws.specs.Certified.{SolvesCertify, SolvesCertifyIn};
 ghost use Rattle.plant_laws.specs.Broken.{BrokenForReasons};
 ghost use Rattle.plant_laws.specs.Causes.{MessagesHaveCauses, NetworksBegin};
 ghost use Rattle.plant_laws.specs.Chains.{OneChain, OneChainIn, QuietHasNonePending, QuietIsAnswered, QuietIsAnsweredIn};
+ghost use Rattle.plant_laws.specs.Confined.{RunsAreConfined};
 ghost use Rattle.plant_laws.specs.Counted.{ElementIdsDiffer, IdsCount};
 ghost use Rattle.plant_laws.specs.Ends.{ChainsEndInside};
 ghost use Rattle.plant_laws.specs.Errors.{InnerErrors};
@@ -18,8 +19,9 @@ ghost use Rattle.plant_laws.specs.Issuing.{ExpandedAreIssued, KeysAreIssued, Tol
 ghost use Rattle.plant_laws.specs.Keys.{ExpandsRightly, ExpandsRightlyIn, KeysDiffer};
 ghost use Rattle.plant_laws.specs.Matched.{RepliesAnswer, RepliesMatch};
 ghost use Rattle.plant_laws.specs.Reading.{OutsideIsRead};
-ghost use Rattle.plant_laws.specs.Readings.{MessagesAreRead};
+ghost use Rattle.plant_laws.specs.Readings.{MessagesAreRead, RequestsAreRead};
 ghost use Rattle.plant_laws.specs.Replies.{LeastReplies, LeastRepliesIn, NoneReplies, NoneRepliesIn, SolvesSendOne};
+ghost use Rattle.plant_laws.specs.Resting.{RestIsQuiet};
 ghost use Rattle.plant_laws.specs.Runs.{AllIsWritten, InRuns, InRunsOverPcep, InShortRuns, OverPcep, RequestsAreWritten};
 ghost use Rattle.plant_laws.specs.Served.{RequestsAreServed};
 ghost use Rattle.plant_laws.specs.Solves.{SolvesTell};
@@ -30,6 +32,7 @@ ghost use Rattle.plant_laws.specs.Topologies.{PinsAreDomains};
 ghost use Rattle.plant_laws.specs.Twins.{TwinWorlds};
 ghost use Rattle.plant_laws.specs.UnderWay.{WaitsAreUnderWay, WaitsAreUnderWayIn};
 ghost use Rattle.plant_laws.specs.Waiting.{WaitsApart, WaitsAreSent};
+ghost use Rattle.plant_laws.specs.WentOn.{NoneGoOut};
 ghost use Rattle.plant_laws.specs.Worlds.{AcceptsAsBlind, BorderJoins, SaysAsBlind, SaysOneThing, TwoWorlds};
 
 // ---- steps
@@ -191,6 +194,17 @@ pub fn queues_stand()
     ensures { QueuesStand }
 {}
 
+/// In every state of a run nothing stands in a queue but along links, nothing is pending but at elements, and at the
+/// parent where there is one, and an outside peer that the settings do not have has no connection.
+pub fn runs_are_confined()
+    ensures { RunsAreConfined }
+{}
+
+/// A network at rest is quiet, so what is said of quiet states is said of it.
+pub fn rest_is_quiet()
+    ensures { RestIsQuiet }
+{}
+
 /// In every state of a run the current pin of an element is of the topology that was last loaded.
 pub fn pins_are_current()
     ensures { PinsAreCurrent }
@@ -212,6 +226,11 @@ pub fn outside_is_read()
 /// one at a time.
 pub fn messages_are_read()
     ensures { MessagesAreRead }
+{}
+
+/// The same of requests alone, also where ids come round.
+pub fn requests_are_read()
+    ensures { RequestsAreRead }
 {}
 
 /// The requests that are pending are those that the transcript shows open, each as it was delivered, with
@@ -255,35 +274,37 @@ pub fn messages_have_causes()
     ensures begin { NetworksBegin }
 {}
 
-/// Where paths go on through no outside peer: an error between elements and the parent names no request, or
-/// answers a reply, or says that the parent serves IPv4 alone: none is out of the profile, and no chain fails
-/// for one.
+/// An error between elements and the parent names no request, or answers a reply, or says that the parent
+/// serves IPv4 alone; or, between elements, that a chain failed, since an outside peer that was asked does
+/// not serve the request. None of their own is out of the profile.
 pub fn inner_errors()
     ensures { InnerErrors }
 {}
 
 /// Each reply of an element, or the parent, that the chain is not available has a reason on the way of its
-/// request, where paths go on through no outside peer.
+/// request. Where paths go on through no outside peer, no request goes on to one, so that no reason of these
+/// laws is of such a peer.
 pub fn broken_for_reasons()
-    ensures { BrokenForReasons }
+    ensures reasons { BrokenForReasons }
+    ensures inside { NoneGoOut }
 {}
 
 /// Each notice of an element, or the parent, that there is no room has a reason on the way of its request: a full
-/// table, a solve that needs more keys than are free, or what an outside peer said that was asked for the rest.
+/// table, a solve that needs more keys than are free, or an outside peer that was asked and said so.
 pub fn full_for_reasons()
     ensures { FullForReasons }
 {}
 
 /// In a quiet state each path request that an element accepted had one answer: paths, or that there are none,
-/// or that there is no room or the chain is not available, for a reason on its way; or it was dropped, as its
-/// peer cancelled it or went down. No error answers it. So it is where paths go on through no outside peer.
+/// or that there is no room, or the chain is not available or failed, for a reason on its way; or it was dropped,
+/// as its peer cancelled it or went down; or its chain ends at an outside peer that has yet to answer.
 pub fn requests_are_served()
     ensures { RequestsAreServed }
 {}
 
 /// Where policy allows each step on the way of an accepted request, over sessions that are up and stay up, with
-/// room in each table and keys enough, and what the parent asks for it is answered, then in the next quiet state
-/// it had its one answer: paths, or that there are none. So it is where paths go on through no outside peer.
+/// room in each table and keys enough, and what the parent asks for it is answered, as is what an outside peer is
+/// asked, then in the next quiet state it had its one answer: paths, or that there are none.
 pub fn good_requests_are_served()
     ensures { GoodRequestsAreServed }
 {}

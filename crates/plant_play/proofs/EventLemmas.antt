@@ -1,5 +1,5 @@
 -- An event that was done, and what is shown and told of it.
-use Rattle.std.proofs.Common.{◌≡◌, ℕ, Bool, true, false, not, cond, ◌&&◌, ◌||◌, List, [], ◌∷◌, ◌++◌, Option, Some, None, Ok, Err, inl, inr, sym, ◌∙◌, subst, ap, refl, append_assoc, OnOk}
+use Rattle.std.proofs.Common.{◌≡◌, ℕ, Bool, true, false, not, cond, ◌&&◌, ◌||◌, List, [], ◌∷◌, ◌++◌, Option, Some, None, Ok, Err, inl, inr, sym, ◌∙◌, subst, ap, refl, OnOk}
 use Rattle.std.specs.Arc.{arc_value}
 use Rattle.dom_base.specs.declared.names.As.{As}
 use Rattle.dom_base.specs.declared.border.BorderRow.{BorderRow}
@@ -22,9 +22,11 @@ use Rattle.pce_plant.specs.Jobs.{IsAsked}
 use Rattle.pce_plant.specs.Whole.{Whole}
 use Rattle.transcript.specs.Lines.{answer_line, rows_text, sents_text}
 use Rattle.plant_play.specs.declared.showing.Modes.{Modes}
+use Rattle.plant_play.specs.Logs.{Told, behind}
 use Rattle.plant_play.specs.Making.{Brings, CertificateOf, Does, IsJobAt, IsJobOf, IsToShow, Makes, MakesTurn, TableOf, shows_any, stage, told_of}
 use Rattle.plant_play.specs.Playing.{PlaysOne}
 use Rattle.plant_play.specs.Turns.{CertificateAt, HasTable, Shows, TableAt, Turn, brought_text, certificate_text, event_line, is_domain_solve, messages_of, tells_closed, unsaid}
+use Rattle.plant_play.proofs.LogLemmas.{behind_twice}
 
 -- ---- what an accepted solve solved
 
@@ -138,7 +140,7 @@ pub told_is : (answer : Answered) (deeds : List PlantDeed) (sents : List Sent) �
 told_is (Ok o) deeds sents h = h
 told_is (Err why) deeds sents h = refl
 
-module _ (line : ℕ) (m : Modes) (old : Whole) (e : Event) (answer : Answered) (new : Whole) (job : Option Job) (b1 b2 : List ℕ) where
+module _ (line : ℕ) (m : Modes) (old : Whole) (e : Event) (answer : Answered) (new : Whole) (job : Option Job) (b1 b2 : Told) where
   abbrev pub turn_of : Makes old e answer new → Brings line m new answer job b1 b2 → Turn
   turn_of makes brings = record { entry = record { event = e; answer = answer; deeds = makes.deeds }; after = new.state; rows = brings.rows; certificate = brings.certificate }
 
@@ -157,14 +159,14 @@ module _ (line : ℕ) (m : Modes) (old : Whole) (e : Event) (answer : Answered) 
           subst (λ (b : Bool). cond (m.disclose && b) (TableOf job brings.rows) (brings.rows ≡ [])) closed h in
           shown_of m old o makes.deeds new.state (tells_closed old.network (said wire makes.deeds)) job brings.rows brings.certificate e happens to_show h' l
 
-  pub brought_is : (makes : Makes old e answer new) (brings : Brings line m new answer job b1 b2) → b2 ≡ b1 ++ brought_text line old.network.peers (turn_of makes brings)
+  pub brought_is : (makes : Makes old e answer new) (brings : Brings line m new answer job b1 b2) → b2 ≡ behind b1 (brought_text line old.network.peers (turn_of makes brings))
   brought_is makes brings =
-      brings.tells ∙ ap (λ (sents : List Sent). b1 ++ (sents_text line new.network.peers sents ++ (rows_text line brings.rows ++ certificate_text line brings.certificate))) (told_is answer makes.deeds new.said makes.accepted)
-      ∙ ap (λ (n : NetworkParts). b1 ++ (sents_text line n.peers (messages_of answer makes.deeds) ++ (rows_text line brings.rows ++ certificate_text line brings.certificate))) makes.network
+      brings.tells ∙ ap (λ (sents : List Sent). behind b1 (sents_text line new.network.peers sents ++ (rows_text line brings.rows ++ certificate_text line brings.certificate))) (told_is answer makes.deeds new.said makes.accepted)
+      ∙ ap (λ (n : NetworkParts). behind b1 (sents_text line n.peers (messages_of answer makes.deeds) ++ (rows_text line brings.rows ++ certificate_text line brings.certificate))) makes.network
 
 -- the own event of a line
-pub one_event : (line : ℕ) (m : Modes) (old : Whole) (e : Event) (answer : Answered) (new : Whole) (job : Option Job) (b0 b1 b2 : List ℕ) → IsToShow m old e job → Makes old e answer new →
-    b1 ≡ b0 ++ answer_line line answer → Brings line m new answer job b1 b2 → Does old (PlaysOne line (stage m old) e answer) new b0 b2
+pub one_event : (line : ℕ) (m : Modes) (old : Whole) (e : Event) (answer : Answered) (new : Whole) (job : Option Job) (b0 b1 b2 : Told) → IsToShow m old e job → Makes old e answer new →
+    b1 ≡ behind b0 (answer_line line answer) → Brings line m new answer job b1 b2 → Does old (PlaysOne line (stage m old) e answer) new b0 b2
 one_event line m old e answer new job b0 b1 b2 to_show makes answered brings =
     let t = turn_of line m old e answer new job b1 b2 makes brings in
     record {
@@ -182,13 +184,13 @@ one_event line m old e answer new job b0 b1 b2 to_show makes answered brings =
       };
       goes = λ given older run. makes.goes given.0 older run;
       tells =
-          brought_is line m old e answer new job b1 b2 makes brings ∙ ap (λ (b : List ℕ). b ++ brought_text line old.network.peers t) answered
-          ∙ append_assoc b0 (answer_line line answer) (brought_text line old.network.peers t);
+          brought_is line m old e answer new job b1 b2 makes brings ∙ ap (λ (b : Told). behind b (brought_text line old.network.peers t)) answered
+          ∙ behind_twice b0 (answer_line line answer) (brought_text line old.network.peers t);
     }
 
 -- an event that was due
-pub due_event : (line : ℕ) (m : Modes) (old : Whole) (e : Event) (answer : Answered) (new : Whole) (job : Option Job) (b0 b1 b2 : List ℕ) → IsToShow m old e job → Makes old e answer new → is_accepted answer ≡ true →
-    b1 ≡ b0 ++ event_line line new.network.peers e → Brings line m new answer job b1 b2 → MakesTurn line m old e new b0 b2
+pub due_event : (line : ℕ) (m : Modes) (old : Whole) (e : Event) (answer : Answered) (new : Whole) (job : Option Job) (b0 b1 b2 : Told) → IsToShow m old e job → Makes old e answer new → is_accepted answer ≡ true →
+    b1 ≡ behind b0 (event_line line new.network.peers e) → Brings line m new answer job b1 b2 → MakesTurn line m old e new b0 b2
 due_event line m old e answer new job b0 b1 b2 to_show makes ok headed brings =
     let t = turn_of line m old e answer new job b1 b2 makes brings in
     record {
@@ -201,6 +203,6 @@ due_event line m old e answer new job b0 b1 b2 to_show makes ok headed brings =
       goes = makes.goes;
       tells =
           brought_is line m old e answer new job b1 b2 makes brings
-          ∙ ap (λ (b : List ℕ). b ++ brought_text line old.network.peers t) (headed ∙ ap (λ (n : NetworkParts). b0 ++ event_line line n.peers e) makes.network)
-          ∙ append_assoc b0 (event_line line old.network.peers e) (brought_text line old.network.peers t);
+          ∙ ap (λ (b : Told). behind b (brought_text line old.network.peers t)) (headed ∙ ap (λ (n : NetworkParts). behind b0 (event_line line n.peers e)) makes.network)
+          ∙ behind_twice b0 (event_line line old.network.peers e) (brought_text line old.network.peers t);
     }

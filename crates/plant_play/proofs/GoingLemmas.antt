@@ -22,6 +22,7 @@ use Rattle.plant_play.specs.declared.events.Due.TheVariants as due
 use Rattle.plant_play.specs.declared.going.Until.{Until}
 use Rattle.plant_play.specs.declared.showing.Modes.{Modes}
 use Rattle.plant_play.specs.Due.{AreDue, IsDue, IsDueTake, jobs_due}
+use Rattle.plant_play.specs.Logs.{Told}
 use Rattle.plant_play.specs.Making.{DoesAll, DoesSome, IsPossible, Makes, MakesTurn, Refuses, event_of, lacks_memory}
 use Rattle.plant_play.specs.Turns.{entries_of}
 use Rattle.plant_play.proofs.TurnLemmas.{one_more}
@@ -68,7 +69,7 @@ module _ (w : Whole) where
 -- ---- takes
 
 -- After a take that is refused all that was due is done.
-pub taken_all : (line : ℕ) (m : Modes) (i : ℕ) (old mid new : Whole) (b0 b1 b2 : List ℕ) (k : ℕ) → DoesSome line m (IsDueTake i) old mid b0 b1 k → Refuses mid (event.Take i) new b1 b2 →
+pub taken_all : (line : ℕ) (m : Modes) (i : ℕ) (old mid new : Whole) (b0 b1 b2 : Told) (k : ℕ) → DoesSome line m (IsDueTake i) old mid b0 b1 k → Refuses mid (event.Take i) new b1 b2 →
     DoesSome line m (IsDueTake i) old new b0 b2 k × (inbox_of i new.state ≡ [])
 taken_all line m i old mid new b0 b1 b2 k done refuses =
     let none = take_empty Pin Segment wire mid.network open_of i mid.state (record { answer = Err refuses.why; state = new.state; deeds = refuses.makes.deeds }) refuses.makes.happens refl in
@@ -85,7 +86,7 @@ taken_all line m i old mid new b0 b1 b2 k done refuses =
     )
 
 -- After a take that is accepted less is left.
-pub taken_less : (line : ℕ) (m : Modes) (i : ℕ) (mid new : Whole) (b1 b2 : List ℕ) → MakesTurn line m mid (event.Take i) new b1 b2 → length (inbox_of i new.state) < length (inbox_of i mid.state)
+pub taken_less : (line : ℕ) (m : Modes) (i : ℕ) (mid new : Whole) (b1 b2 : Told) → MakesTurn line m mid (event.Take i) new b1 b2 → length (inbox_of i new.state) < length (inbox_of i mid.state)
 taken_less line m i mid new b1 b2 makes =
     let t = makes.turn in
     let h : Happened = record { answer = t.entry.answer; state = t.after; deeds = t.entry.deeds } in
@@ -93,19 +94,19 @@ taken_less line m i mid new b1 b2 makes =
     subst (λ (s : Plant). length (inbox_of i s) < length (inbox_of i mid.state)) (sym makes.ends) (take_less Pin Segment wire mid.network open_of i mid.state h is makes.accepted)
 
 -- One take more, or the end.
-pub one_take : (line : ℕ) (m : Modes) (i : ℕ) (old mid new : Whole) (b0 b1 b2 : List ℕ) (taken : Bool) → (k : ℕ) × DoesSome line m (IsDueTake i) old mid b0 b1 k →
+pub one_take : (line : ℕ) (m : Modes) (i : ℕ) (old mid new : Whole) (b0 b1 b2 : Told) (taken : Bool) → (k : ℕ) × DoesSome line m (IsDueTake i) old mid b0 b1 k →
     MatchBool taken (MakesTurn line m mid (event.Take i) new b1 b2) (Refuses mid (event.Take i) new b1 b2) →
     ((k : ℕ) × DoesSome line m (IsDueTake i) old new b0 b2 k) × (taken ≡ false → inbox_of i new.state ≡ [])
 one_take line m i old mid new b0 b1 b2 true done makes =
     ((done.0 + 1, one_more line m (IsDueTake i) old mid new (event.Take i) b0 b1 b2 done.0 done.1 refl tt makes), λ e. absurd (let no : true ≡ false = e in cc))
 one_take line m i old mid new b0 b1 b2 false done refuses = let all = taken_all line m i old mid new b0 b1 b2 done.0 done.1 refuses in ((done.0, all.0), λ e. all.1)
 
-falls : (line : ℕ) (m : Modes) (i : ℕ) (mid new : Whole) (b1 b2 : List ℕ) (taken : Bool) → MatchBool taken (MakesTurn line m mid (event.Take i) new b1 b2) (Refuses mid (event.Take i) new b1 b2) →
+falls : (line : ℕ) (m : Modes) (i : ℕ) (mid new : Whole) (b1 b2 : Told) (taken : Bool) → MatchBool taken (MakesTurn line m mid (event.Take i) new b1 b2) (Refuses mid (event.Take i) new b1 b2) →
     cond taken (suc (length (inbox_of i new.state))) 0 < suc (length (inbox_of i mid.state))
 falls line m i mid new b1 b2 true makes = let less = taken_less line m i mid new b1 b2 makes in omega arith
 falls line m i mid new b1 b2 false refuses = omega arith
 
-pub take_falls : (line : ℕ) (m : Modes) (i : ℕ) (mid new : Whole) (b1 b2 : List ℕ) (was taken : Bool) → was ≡ true → MatchBool taken (MakesTurn line m mid (event.Take i) new b1 b2) (Refuses mid (event.Take i) new b1 b2) →
+pub take_falls : (line : ℕ) (m : Modes) (i : ℕ) (mid new : Whole) (b1 b2 : Told) (was taken : Bool) → was ≡ true → MatchBool taken (MakesTurn line m mid (event.Take i) new b1 b2) (Refuses mid (event.Take i) new b1 b2) →
     cond taken (suc (length (inbox_of i new.state))) 0 < cond was (suc (length (inbox_of i mid.state))) 0
 take_falls line m i mid new b1 b2 was taken e makes =
     subst (λ (b : Bool). cond taken (suc (length (inbox_of i new.state))) 0 < cond b (suc (length (inbox_of i mid.state))) 0) (sym e) (falls line m i mid new b1 b2 taken makes)
@@ -118,16 +119,16 @@ given_nothing (due.Solve d k) = tt
 
 -- ---- what was due, in a network that stays the same
 
-pub one_due : (line : ℕ) (m : Modes) (until : Until) (old mid new : Whole) (e : Event) (b0 b1 b2 : List ℕ) (k : ℕ) → DoesSome line m (IsDue until old.network) old mid b0 b1 k → IsDue until mid.network mid.state (Some e) →
+pub one_due : (line : ℕ) (m : Modes) (until : Until) (old mid new : Whole) (e : Event) (b0 b1 b2 : Told) (k : ℕ) → DoesSome line m (IsDue until old.network) old mid b0 b1 k → IsDue until mid.network mid.state (Some e) →
     IsGiven e → MakesTurn line m mid e new b1 b2 → DoesSome line m (IsDue until old.network) old new b0 b2 (k + 1)
 one_due line m until old mid new e b0 b1 b2 k done due given makes =
     one_more line m (IsDue until old.network) old mid new e b0 b1 b2 k done (subst (λ (n : NetworkParts). IsDue until n mid.state (Some e)) done.network due) given makes
 
-pub none_due : (line : ℕ) (m : Modes) (until : Until) (old new : Whole) (b0 b1 : List ℕ) (k : ℕ) → DoesSome line m (IsDue until old.network) old new b0 b1 k → IsDue until new.network new.state None → DoesAll line m (IsDue until old.network) old new b0 b1
+pub none_due : (line : ℕ) (m : Modes) (until : Until) (old new : Whole) (b0 b1 : Told) (k : ℕ) → DoesSome line m (IsDue until old.network) old new b0 b1 k → IsDue until new.network new.state None → DoesAll line m (IsDue until old.network) old new b0 b1
 none_due line m until old new b0 b1 k done due = record { count = k; some = done; over = subst (λ (n : NetworkParts). IsDue until n new.state None) done.network due }
 
 -- What is due, and is possible, was accepted.
-pub made_due : (line : ℕ) (m : Modes) (until : Until) (old mid new : Whole) (e : Event) (b0 b1 b2 : List ℕ) (k : ℕ) (taken : Bool) → DoesSome line m (IsDue until old.network) old mid b0 b1 k → IsDue until mid.network mid.state (Some e) →
+pub made_due : (line : ℕ) (m : Modes) (until : Until) (old mid new : Whole) (e : Event) (b0 b1 b2 : Told) (k : ℕ) (taken : Bool) → DoesSome line m (IsDue until old.network) old mid b0 b1 k → IsDue until mid.network mid.state (Some e) →
     IsPossible mid e → IsGiven e → MatchBool taken (MakesTurn line m mid e new b1 b2) (Refuses mid e new b1 b2) → DoesSome line m (IsDue until old.network) old new b0 b2 (k + 1)
 made_due line m until old mid new e b0 b1 b2 k true done due can given makes = one_due line m until old mid new e b0 b1 b2 k done due given makes
 made_due line m until old mid new e b0 b1 b2 k false done due can given refuses =

@@ -2,6 +2,7 @@ pub mod EventLemmas
 pub mod FeedLemmas
 pub mod GoingLemmas
 pub mod LineLemmas
+mod LogLemmas
 pub mod ShownLemmas
 pub mod TurnLemmas
 -- handed on from below

@@ -1,5 +1,5 @@
 -- Lines that load a topology.
-use Rattle.std.proofs.Common.{◌≡◌, ℕ, Bool, cond, List, [], ◌++◌, Some, Ok, Err, sym, ◌∙◌, subst, ap, Result, IfOk}
+use Rattle.std.proofs.Common.{◌≡◌, ℕ, Bool, cond, List, Some, Ok, Err, sym, ◌∙◌, subst, ap, Result, IfOk}
 use Rattle.dom_base.specs.declared.names.As.{As}
 use Rattle.te_links.specs.Rows.{IsInOrder, IsTopology, Rows}
 use Rattle.te_text.specs.Reads.{Reads}
@@ -15,21 +15,23 @@ use Rattle.pce_plant.specs.Current.{IsCurrent}
 use Rattle.pce_plant.specs.Whole.{Whole}
 use Rattle.network_files.specs.declared.error.FileError.{FileError}
 use Rattle.plant_play.specs.declared.showing.Modes.{Modes}
+use Rattle.plant_play.specs.Logs.{Told, behind, untold}
 use Rattle.plant_play.specs.Making.{Does, DoesLine, stage}
 use Rattle.plant_play.specs.Playing.{Changes, Played, Plays, PlaysChange, PlaysLoad, PlaysNone, PlaysOne, cue, modes_after}
 use Rattle.plant_play.specs.Turns.{Turn}
+use Rattle.plant_play.proofs.LogLemmas.{behind_again}
 
 -- the events are done, and more is said of them
-pub does_as : (old new : Whole) (Line More : List Turn → List ℕ → Plant → Type 0) (b0 b1 : List ℕ) → ((turns : List Turn) (told : List ℕ) (end : Plant) → Line turns told end → More turns told end) → Does old Line new b0 b1 → Does old More new b0 b1
+pub does_as : (old new : Whole) (Line More : List Turn → List ℕ → Plant → Type 0) (b0 b1 : Told) → ((turns : List Turn) (told : List ℕ) (end : Plant) → Line turns told end → More turns told end) → Does old Line new b0 b1 → Does old More new b0 b1
 does_as old new Line More b0 b1 more h = record { network = h.network; turns = h.turns; told = h.told; plays = more h.turns h.told new.state h.plays; goes = h.goes; tells = h.tells }
 
-pub loaded : (line : ℕ) (m : Modes) (old new : Whole) (at : As) (file : List ℕ) (g : Rows) (answer : Answered) (b0 b1 : List ℕ) → Reads file g → g.own ≡ at → IsTopology g → IsInOrder g →
+pub loaded : (line : ℕ) (m : Modes) (old new : Whole) (at : As) (file : List ℕ) (g : Rows) (answer : Answered) (b0 b1 : Told) → Reads file g → g.own ≡ at → IsTopology g → IsInOrder g →
     Does old (PlaysOne line (stage m old) (event.Load at g) answer) new b0 b1 → Does old (PlaysLoad line (stage m old) at file answer) new b0 b1
 loaded line m old new at file g answer b0 b1 reads own rules order =
     does_as old new (PlaysOne line (stage m old) (event.Load at g) answer) (PlaysLoad line (stage m old) at file answer) b0 b1
     (λ turns told end h. record { topology = g; reads = reads; own = own; rules = rules; order = order; loads = h })
 
-pub changed : (line : ℕ) (m : Modes) (old new : Whole) (at : As) (file : List ℕ) (changes listed : List Change) (pin : Pin) (t g : Rows) (answer : Answered) (b0 b1 : List ℕ) → text_in file ≡ Ok changes →
+pub changed : (line : ℕ) (m : Modes) (old new : Whole) (at : As) (file : List ℕ) (changes listed : List Change) (pin : Pin) (t g : Rows) (answer : Answered) (b0 b1 : Told) → text_in file ≡ Ok changes →
     IsCurrent old at (Some pin) → listed ≡ changes → t ≡ pin.topology → IsBuiltOf t listed g → IsTopology g → IsInOrder g →
     Does old (PlaysOne line (stage m old) (event.Load at g) answer) new b0 b1 → Does old (PlaysChange line (stage m old) at file answer) new b0 b1
 changed line m old new at file changes listed pin t g answer b0 b1 reads current are is built rules order =
@@ -44,17 +46,17 @@ changed line m old new at file changes listed pin t g answer b0 b1 reads current
     })
 
 -- a line of a kind
-pub of_kind : (line : ℕ) (m : Modes) (e kind : LineEvent) (file : List ℕ) (old new : Whole) (b0 b1 : List ℕ) (r : Result Answered FileError) → e ≡ kind → IfOk r (DoesLine old (Plays line (stage m old) kind file) new b0 b1) →
+pub of_kind : (line : ℕ) (m : Modes) (e kind : LineEvent) (file : List ℕ) (old new : Whole) (b0 b1 : Told) (r : Result Answered FileError) → e ≡ kind → IfOk r (DoesLine old (Plays line (stage m old) kind file) new b0 b1) →
     IfOk r (DoesLine old (Plays line (stage m old) e file) new b0 b1)
 of_kind line m e kind file old new b0 b1 r is does = subst (λ (x : LineEvent). IfOk r (DoesLine old (Plays line (stage m old) x file) new b0 b1)) (sym is) does
 
--- the text of a line, put behind what stands there
-pub played : (line : ℕ) (e : LineEvent) (file : List ℕ) (m after : Modes) (old : Whole) (answer : Answered) (new : Whole) (t0 t1 text b0 b1 : List ℕ) → t0 ≡ [] → after ≡ modes_after e m →
-    Does old (Plays line (stage m old) e file answer) new t0 t1 → text ≡ t1 → b1 ≡ b0 ++ text → Played (cue line e file) (stage m old) answer (stage after new) b0 b1
-played line e file m after old answer new t0 t1 text b0 b1 empty modes does is put = record {
+-- what is told of a line is put behind what stands there
+pub played : (line : ℕ) (e : LineEvent) (file : List ℕ) (m after : Modes) (old : Whole) (answer : Answered) (new : Whole) (t0 t1 b0 b1 : Told) → t0 ≡ untold b0.is_kept → after ≡ modes_after e m →
+    Does old (Plays line (stage m old) e file answer) new t0 t1 → b1 ≡ behind b0 t1.text → Played (cue line e file) (stage m old) answer (stage after new) b0 b1
+played line e file m after old answer new t0 t1 b0 b1 empty modes does put = record {
   turns = does.turns;
   told = does.told;
   line = record { network = does.network; modes = modes; plays = does.plays };
-  tells = put ∙ ap (λ (t : List ℕ). b0 ++ t) (is ∙ does.tells ∙ ap (λ (t : List ℕ). t ++ does.told) empty);
+  tells = put ∙ behind_again b0 t1 does.told (does.tells ∙ ap (λ (t : Told). behind t does.told) empty);
   goes = does.goes;
 }

@@ -1,5 +1,5 @@
 -- What is told of an answer, put together.
-use Rattle.std.proofs.Common.{◌≡◌, ℕ, Bool, true, false, cond, ◌&&◌, List, [], ◌++◌, Option, Some, None, Result, Ok, Err, is_err, sym, ◌∙◌, subst, ap, refl, append_assoc, append-nil, IfOk, OnOk}
+use Rattle.std.proofs.Common.{◌≡◌, ℕ, Bool, true, false, cond, ◌&&◌, List, [], ◌++◌, Option, Some, None, Result, Ok, Err, is_err, sym, ◌∙◌, subst, ap, refl, append-nil, IfOk, OnOk}
 use Rattle.std.specs.Arc.{arc_value}
 use Rattle.dom_base.specs.declared.border.BorderRow.{BorderRow}
 use Rattle.path_certificate.specs.declared.certificate.Certificate.{Certificate}
@@ -12,8 +12,10 @@ use Rattle.pce_plant.specs.plant_model.declared.event.Event.{Event}
 use Rattle.pce_plant.specs.Whole.{Whole}
 use Rattle.transcript.specs.Lines.{certified_text, rows_text, sents_text}
 use Rattle.plant_play.specs.declared.showing.Modes.{Modes}
+use Rattle.plant_play.specs.Logs.{Told, behind}
 use Rattle.plant_play.specs.Making.{Brings, CertificateOf, Labels, LabelsIf, Makes, Refuses, Shown, TableOf, Tables, TablesIf}
 use Rattle.plant_play.specs.Turns.{certificate_text, tells_closed}
+use Rattle.plant_play.proofs.LogLemmas.{behind_nothing, behind_twice}
 
 pub on_ok : {T E A B : Type 0} (r : Result T E) → (A → B) → OnOk r A → OnOk r B
 on_ok (Ok x) f h = f h
@@ -23,39 +25,39 @@ pub if_ok : {T E : Type 0} (P Q : T → Type 0) (r : Result T E) → ((x : T) �
 if_ok P Q (Ok x) f h = f x h
 if_ok P Q (Err x) f h = tt
 
-pub labels_told : (line : ℕ) (job : Job) (rows : Answer) (c : Certificate) (b0 b1 : List ℕ) → AreRows (arc_value job.topology) job.ask rows → c ≡ rows.certificate → b1 ≡ b0 ++ certified_text line c → Labels line job b0 b1
+pub labels_told : (line : ℕ) (job : Job) (rows : Answer) (c : Certificate) (b0 b1 : Told) → AreRows (arc_value job.topology) job.ask rows → c ≡ rows.certificate → b1 ≡ behind b0 (certified_text line c) → Labels line job b0 b1
 labels_told line job rows c b0 b1 are is told = record {
   certificate = rows.certificate;
   labels = record { seeds = are.seeds; are_seeds = are.are_seeds; labels = are.certificate };
-  tells = told ∙ ap (λ (x : Certificate). b0 ++ certified_text line x) is;
+  tells = told ∙ ap (λ (x : Certificate). behind b0 (certified_text line x)) is;
 }
 
-pub table_shown : (line : ℕ) (job : Job) (b0 b1 : List ℕ) → Tables line job b0 b1 → TablesIf line true job b0 b1
+pub table_shown : (line : ℕ) (job : Job) (b0 b1 : Told) → Tables line job b0 b1 → TablesIf line true job b0 b1
 table_shown line job b0 b1 h = record { rows = h.rows; are_rows = h.table; tells = h.tells }
 
-pub no_table : (line : ℕ) (job : Job) (b : List ℕ) → TablesIf line false job b b
-no_table line job b = record { rows = []; are_rows = refl; tells = sym (append-nil b) }
+pub no_table : (line : ℕ) (job : Job) (b : Told) → TablesIf line false job b b
+no_table line job b = record { rows = []; are_rows = refl; tells = behind_nothing b }
 
-pub labels_shown : (line : ℕ) (job : Job) (b0 b1 : List ℕ) → Labels line job b0 b1 → LabelsIf line true job b0 b1
+pub labels_shown : (line : ℕ) (job : Job) (b0 b1 : Told) → Labels line job b0 b1 → LabelsIf line true job b0 b1
 labels_shown line job b0 b1 h = record { certificate = Some h.certificate; is_certificate = h.labels; tells = h.tells }
 
-pub no_labels : (line : ℕ) (job : Job) (b : List ℕ) → LabelsIf line false job b b
-no_labels line job b = record { certificate = None; is_certificate = refl; tells = sym (append-nil b) }
+pub no_labels : (line : ℕ) (job : Job) (b : Told) → LabelsIf line false job b b
+no_labels line job b = record { certificate = None; is_certificate = refl; tells = behind_nothing b }
 
-pub both_shown : (line : ℕ) (m : Modes) (closed both : Bool) (job : Job) (b0 b1 b2 : List ℕ) → both ≡ (m.disclose && closed) → TablesIf line both job b0 b1 → LabelsIf line m.certify job b1 b2 → Shown line m closed job b0 b2
+pub both_shown : (line : ℕ) (m : Modes) (closed both : Bool) (job : Job) (b0 b1 b2 : Told) → both ≡ (m.disclose && closed) → TablesIf line both job b0 b1 → LabelsIf line m.certify job b1 b2 → Shown line m closed job b0 b2
 both_shown line m closed both job b0 b1 b2 e t l = record {
   rows = t.rows;
   certificate = l.certificate;
   are_rows = subst (λ (b : Bool). cond b (TableOf (Some job) t.rows) (t.rows ≡ [])) e t.are_rows;
   is_certificate = l.is_certificate;
-  tells = l.tells ∙ ap (λ (b : List ℕ). b ++ certificate_text line l.certificate) t.tells ∙ append_assoc b0 (rows_text line t.rows) (certificate_text line l.certificate);
+  tells = l.tells ∙ ap (λ (b : Told). behind b (certificate_text line l.certificate)) t.tells ∙ behind_twice b0 (rows_text line t.rows) (certificate_text line l.certificate);
 }
 
 -- ---- what an answer brought about
 
-pub refused_brings : (line : ℕ) (m : Modes) (w : Whole) (answer : Answered) (job : Option Job) (b : List ℕ) → is_err answer ≡ true → Brings line m w answer job b b
+pub refused_brings : (line : ℕ) (m : Modes) (w : Whole) (answer : Answered) (job : Option Job) (b : Told) → is_err answer ≡ true → Brings line m w answer job b b
 refused_brings line m w (Ok o) job b e = absurd (let no : false ≡ true = e in cc)
-refused_brings line m w (Err why) job b e = record { rows = []; certificate = None; are_rows = refl; is_certificate = refl; tells = sym (append-nil b) }
+refused_brings line m w (Err why) job b e = record { rows = []; certificate = None; are_rows = refl; is_certificate = refl; tells = behind_nothing b }
 
 no_rows : (b : Bool) → cond b (TableOf None []) (◌≡◌ {A = List BorderRow} [] [])
 no_rows true = refl
@@ -65,18 +67,18 @@ no_certificate : (b : Bool) → cond b (CertificateOf None None) (◌≡◌ {A =
 no_certificate true = refl
 no_certificate false = refl
 
-pub jobless_brings : (line : ℕ) (m : Modes) (w : Whole) (answer : Answered) (b0 b1 : List ℕ) → is_err answer ≡ false → b1 ≡ b0 ++ sents_text line w.network.peers w.said → Brings line m w answer None b0 b1
+pub jobless_brings : (line : ℕ) (m : Modes) (w : Whole) (answer : Answered) (b0 b1 : Told) → is_err answer ≡ false → b1 ≡ behind b0 (sents_text line w.network.peers w.said) → Brings line m w answer None b0 b1
 jobless_brings line m w (Err why) b0 b1 e told = absurd (let no : true ≡ false = e in cc)
 jobless_brings line m w (Ok o) b0 b1 e told = record {
   rows = [];
   certificate = None;
   are_rows = no_rows (m.disclose && tells_closed w.network w.said);
   is_certificate = no_certificate m.certify;
-  tells = told ∙ ap (λ (t : List ℕ). b0 ++ t) (sym (append-nil (sents_text line w.network.peers w.said)));
+  tells = told ∙ ap (λ (t : List ℕ). behind b0 t) (sym (append-nil (sents_text line w.network.peers w.said)));
 }
 
-pub job_brings : (line : ℕ) (m : Modes) (w : Whole) (answer : Answered) (job : Job) (closed : Bool) (b0 b1 b2 : List ℕ) → is_err answer ≡ false → closed ≡ tells_closed w.network w.said →
-    b1 ≡ b0 ++ sents_text line w.network.peers w.said → Shown line m closed job b1 b2 → Brings line m w answer (Some job) b0 b2
+pub job_brings : (line : ℕ) (m : Modes) (w : Whole) (answer : Answered) (job : Job) (closed : Bool) (b0 b1 b2 : Told) → is_err answer ≡ false → closed ≡ tells_closed w.network w.said →
+    b1 ≡ behind b0 (sents_text line w.network.peers w.said) → Shown line m closed job b1 b2 → Brings line m w answer (Some job) b0 b2
 job_brings line m w (Err why) job closed b0 b1 b2 e is told h = absurd (let no : true ≡ false = e in cc)
 job_brings line m w (Ok o) job closed b0 b1 b2 e is told h = record {
   rows = h.rows;
@@ -84,13 +86,13 @@ job_brings line m w (Ok o) job closed b0 b1 b2 e is told h = record {
   are_rows = subst (λ (b : Bool). cond (m.disclose && b) (TableOf (Some job) h.rows) (h.rows ≡ [])) is h.are_rows;
   is_certificate = h.is_certificate;
   tells =
-      h.tells ∙ ap (λ (b : List ℕ). b ++ (rows_text line h.rows ++ certificate_text line h.certificate)) told
-      ∙ append_assoc b0 (sents_text line w.network.peers w.said) (rows_text line h.rows ++ certificate_text line h.certificate);
+      h.tells ∙ ap (λ (b : Told). behind b (rows_text line h.rows ++ certificate_text line h.certificate)) told
+      ∙ behind_twice b0 (sents_text line w.network.peers w.said) (rows_text line h.rows ++ certificate_text line h.certificate);
 }
 
 -- ---- a refusal
 
-pub refuses : (old : Whole) (e e' : Event) (answer : Answered) (new : Whole) (b : List ℕ) → is_err answer ≡ true → e ≡ e' → Makes old e answer new → Refuses old e' new b b
+pub refuses : (old : Whole) (e e' : Event) (answer : Answered) (new : Whole) (b : Told) → is_err answer ≡ true → e ≡ e' → Makes old e answer new → Refuses old e' new b b
 refuses old e e' (Ok o) new b err is h = absurd (let no : false ≡ true = err in cc)
 refuses old e e' (Err why) new b err is h = record { why = why; makes = subst (λ (x : Event). Makes old x (Err why) new) is h; silent = refl }
 

@@ -1,6 +1,6 @@
 -- Events one behind the other, and one more.
-use Rattle.std.proofs.Common.{◌≡◌, ◌+◌, ℕ, true, List, [], ◌∷◌, ◌++◌, Option, Some, sym, ◌∙◌, subst, ap, refl, append-nil}
-use Rattle.std.proofs.lemmas.List.{flat_map_more, length_push}
+use Rattle.std.proofs.Common.{◌≡◌, ◌+◌, ℕ, true, List, [], ◌∷◌, ◌++◌, Option, Some, sym, ◌∙◌, subst, ap, refl}
+use Rattle.std.proofs.lemmas.List.{length_push}
 use Rattle.plant_text.specs.declared.settings.NetworkParts.{NetworkParts}
 use Rattle.pce_plant.specs.plant_model.declared.event.Event.{Event}
 use Rattle.pce_plant.specs.plant_model.Blind.{is_accepted}
@@ -9,8 +9,10 @@ use Rattle.pce_plant.specs.plant_model.RealWire.{wire}
 use Rattle.pce_plant.specs.Whole.{Whole}
 use Rattle.plant_play.specs.declared.showing.Modes.{Modes}
 use Rattle.plant_play.specs.Due.{AreDue}
+use Rattle.plant_play.specs.Logs.{Told, behind}
 use Rattle.plant_play.specs.Making.{DoesSome, MakesTurn}
 use Rattle.plant_play.specs.Turns.{IsTurn, Turn, entries_of, turn_text}
+use Rattle.plant_play.proofs.LogLemmas.{behind_more, behind_nothing}
 
 pub entries_more : (ts : List Turn) (t : Turn) (older : List Entry) → entries_of (ts ++ t ∷ []) older ≡ t.entry ∷ entries_of ts older
 entries_more [] t older = refl
@@ -23,11 +25,11 @@ module _ (Due : Plant → Option Event → Type 0) (m : Modes) (n : NetworkParts
   due_more s (x ∷ xs) mid t are is_due is ok = (are.0, are.1, are.2, due_more x.after xs mid t are.3 is_due is ok)
 
 -- nothing is done yet
-pub none_done : (line : ℕ) (m : Modes) (Due : Plant → Option Event → Type 0) (w : Whole) (text : List ℕ) → DoesSome line m Due w w text text 0
-none_done line m Due w text = record { network = refl; turns = []; so_many = refl; due = refl; goes = λ older run. run; tells = sym (append-nil text) }
+pub none_done : (line : ℕ) (m : Modes) (Due : Plant → Option Event → Type 0) (w : Whole) (text : Told) → DoesSome line m Due w w text text 0
+none_done line m Due w text = record { network = refl; turns = []; so_many = refl; due = refl; goes = λ older run. run; tells = behind_nothing text }
 
 -- one more event that was due
-pub one_more : (line : ℕ) (m : Modes) (Due : Plant → Option Event → Type 0) (old mid new : Whole) (e : Event) (b0 b1 b2 : List ℕ) (k : ℕ) → DoesSome line m Due old mid b0 b1 k → Due mid.state (Some e) → IsGiven e → MakesTurn line m mid e new b1 b2 →
+pub one_more : (line : ℕ) (m : Modes) (Due : Plant → Option Event → Type 0) (old mid new : Whole) (e : Event) (b0 b1 b2 : Told) (k : ℕ) → DoesSome line m Due old mid b0 b1 k → Due mid.state (Some e) → IsGiven e → MakesTurn line m mid e new b1 b2 →
     DoesSome line m Due old new b0 b2 (k + 1)
 one_more line m Due old mid new e b0 b1 b2 k done is_due given makes =
     let t = makes.turn in
@@ -45,6 +47,6 @@ one_more line m Due old mid new e b0 b1 b2 k done is_due given makes =
           let there : Run wire old.network (t.entry ∷ entries_of done.turns older) new.state = subst (λ (n : NetworkParts). Run wire n (t.entry ∷ entries_of done.turns older) new.state) done.network after in
           subst (λ (es : List Entry). Run wire old.network es new.state) (sym (entries_more done.turns t older)) there;
       tells =
-          makes.tells ∙ ap (λ (n : NetworkParts). b1 ++ turn_text line n.peers t) done.network ∙ ap (λ (b : List ℕ). b ++ turn_text line old.network.peers t) done.tells
-          ∙ flat_map_more (turn_text line old.network.peers) b0 done.turns t;
+          makes.tells ∙ ap (λ (n : NetworkParts). behind b1 (turn_text line n.peers t)) done.network ∙ ap (λ (b : Told). behind b (turn_text line old.network.peers t)) done.tells
+          ∙ behind_more (turn_text line old.network.peers) b0 done.turns t;
     }

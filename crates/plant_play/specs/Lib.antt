@@ -3,7 +3,9 @@ pub mod Turns
 pub mod Due
 pub mod Playing
 pub mod Scripts
+pub mod Logs
 -- inner
+pub mod LogFields
 pub mod Making
 pub mod PlayerFields
 -- handed on from below

@@ -32,6 +32,7 @@ use Rattle.plant_play.specs.declared.events.Due.{Due as DueEvent}
 use Rattle.plant_play.specs.declared.events.Due.TheVariants as due
 use Rattle.plant_play.specs.declared.showing.Modes.{Modes}
 use Rattle.plant_play.specs.Due.{AreDue}
+use Rattle.plant_play.specs.Logs.{Told, behind}
 use Rattle.plant_play.specs.Playing.{Stage}
 use Rattle.plant_play.specs.Turns.{AreGiven, IsTurn, Turn, certificate_text, entries_of, tells_closed, turns_text, turn_text}
 
@@ -113,43 +114,43 @@ CertificateOf (Some job) None = ⊥
 CertificateOf (Some job) (Some c) = LabelsOf job c
 
 -- the border table of a job is told
-pub record Tables (line : ℕ) (job : Job) (old new : List ℕ) : Type 0 where
+pub record Tables (line : ℕ) (job : Job) (old new : Told) : Type 0 where
   pub rows : List BorderRow
   pub table : TableOf (Some job) rows
-  pub tells : new ≡ old ++ rows_text line rows
+  pub tells : new ≡ behind old (rows_text line rows)
 
 -- the labels of a job are told
-pub record Labels (line : ℕ) (job : Job) (old new : List ℕ) : Type 0 where
+pub record Labels (line : ℕ) (job : Job) (old new : Told) : Type 0 where
   pub certificate : Certificate
   pub labels : LabelsOf job certificate
-  pub tells : new ≡ old ++ certified_text line certificate
+  pub tells : new ≡ behind old (certified_text line certificate)
 
 -- the same where they are shown, and nothing where they are not
-pub record TablesIf (line : ℕ) (shown : Bool) (job : Job) (old new : List ℕ) : Type 0 where
+pub record TablesIf (line : ℕ) (shown : Bool) (job : Job) (old new : Told) : Type 0 where
   pub rows : List BorderRow
   pub are_rows : cond shown (TableOf (Some job) rows) (rows ≡ [])
-  pub tells : new ≡ old ++ rows_text line rows
+  pub tells : new ≡ behind old (rows_text line rows)
 
-pub record LabelsIf (line : ℕ) (shown : Bool) (job : Job) (old new : List ℕ) : Type 0 where
+pub record LabelsIf (line : ℕ) (shown : Bool) (job : Job) (old new : Told) : Type 0 where
   pub certificate : Option Certificate
   pub is_certificate : cond shown (CertificateOf (Some job) certificate) (certificate ≡ None)
-  pub tells : new ≡ old ++ certificate_text line certificate
+  pub tells : new ≡ behind old (certificate_text line certificate)
 
 -- what is to be shown of a job is told
-pub record Shown (line : ℕ) (m : Modes) (closed : Bool) (job : Job) (old new : List ℕ) : Type 0 where
+pub record Shown (line : ℕ) (m : Modes) (closed : Bool) (job : Job) (old new : Told) : Type 0 where
   pub rows : List BorderRow
   pub certificate : Option Certificate
   pub are_rows : cond (m.disclose && closed) (TableOf (Some job) rows) (rows ≡ [])
   pub is_certificate : cond m.certify (CertificateOf (Some job) certificate) (certificate ≡ None)
-  pub tells : new ≡ old ++ (rows_text line rows ++ certificate_text line certificate)
+  pub tells : new ≡ behind old (rows_text line rows ++ certificate_text line certificate)
 
 -- what an answer brought about is told: nothing where it is a refusal
-pub record Brings (line : ℕ) (m : Modes) (w : Whole) (answer : Answered) (job : Option Job) (old new : List ℕ) : Type 0 where
+pub record Brings (line : ℕ) (m : Modes) (w : Whole) (answer : Answered) (job : Option Job) (old new : Told) : Type 0 where
   pub rows : List BorderRow
   pub certificate : Option Certificate
   pub are_rows : cond (is_accepted answer && (m.disclose && tells_closed w.network w.said)) (TableOf job rows) (rows ≡ [])
   pub is_certificate : cond (is_accepted answer && m.certify) (CertificateOf job certificate) (certificate ≡ None)
-  pub tells : new ≡ old ++ (sents_text line w.network.peers (told_of answer w.said) ++ (rows_text line rows ++ certificate_text line certificate))
+  pub tells : new ≡ behind old (sents_text line w.network.peers (told_of answer w.said) ++ (rows_text line rows ++ certificate_text line certificate))
 
 -- ---- events, one behind the other
 
@@ -158,7 +159,7 @@ abbrev pub stage : Modes → Whole → Stage
 stage m w = record { network = w.network; state = w.state; modes = m }
 
 -- An event that is not the line's own is done and told.
-pub record MakesTurn (line : ℕ) (m : Modes) (old : Whole) (e : Event) (new : Whole) (before after : List ℕ) : Type 0 where
+pub record MakesTurn (line : ℕ) (m : Modes) (old : Whole) (e : Event) (new : Whole) (before after : Told) : Type 0 where
   pub network : new.network ≡ old.network
   pub turn : Turn
   pub event : turn.entry.event ≡ e
@@ -166,38 +167,38 @@ pub record MakesTurn (line : ℕ) (m : Modes) (old : Whole) (e : Event) (new : W
   pub accepted : is_accepted turn.entry.answer ≡ true
   pub ends : new.state ≡ turn.after
   pub goes : IsGiven turn.entry.event → (older : List Entry) → Run wire old.network older old.state → Run wire old.network (turn.entry ∷ older) new.state
-  pub tells : after ≡ before ++ turn_text line old.network.peers turn
+  pub tells : after ≡ behind before (turn_text line old.network.peers turn)
 
 -- It is refused, and nothing is told.
-pub record Refuses (old : Whole) (e : Event) (new : Whole) (before after : List ℕ) : Type 0 where
+pub record Refuses (old : Whole) (e : Event) (new : Whole) (before after : Told) : Type 0 where
   pub why : Refused
   pub makes : Makes old e (Err why) new
   pub silent : after ≡ before
 
 -- Events are done, and their text is put behind what stands there.
-pub record Does (old : Whole) (Line : List Turn → List ℕ → Plant → Type 0) (new : Whole) (before after : List ℕ) : Type 0 where
+pub record Does (old : Whole) (Line : List Turn → List ℕ → Plant → Type 0) (new : Whole) (before after : Told) : Type 0 where
   pub network : new.network ≡ old.network
   pub turns : List Turn
   pub told : List ℕ
   pub plays : Line turns told new.state
   pub goes : AreGiven turns → (older : List Entry) → Run wire old.network older old.state → Run wire old.network (entries_of turns older) new.state
-  pub tells : after ≡ before ++ told
+  pub tells : after ≡ behind before told
 
 -- Events are done for a line with this answer.
-abbrev pub DoesLine : Whole → (Answered → List Turn → List ℕ → Plant → Type 0) → Whole → List ℕ → List ℕ → Answered → Type 0
+abbrev pub DoesLine : Whole → (Answered → List Turn → List ℕ → Plant → Type 0) → Whole → Told → Told → Answered → Type 0
 DoesLine old Line new before after answer = Does old (Line answer) new before after
 
 -- so many events that were due, so far
-pub record DoesSome (line : ℕ) (m : Modes) (Due : Plant → Option Event → Type 0) (old new : Whole) (before after : List ℕ) (count : ℕ) : Type 0 where
+pub record DoesSome (line : ℕ) (m : Modes) (Due : Plant → Option Event → Type 0) (old new : Whole) (before after : Told) (count : ℕ) : Type 0 where
   pub network : new.network ≡ old.network
   pub turns : List Turn
   pub so_many : length turns ≡ count
   pub due : AreDue Due m old.network old.state turns new.state
   pub goes : (older : List Entry) → Run wire old.network older old.state → Run wire old.network (entries_of turns older) new.state
-  pub tells : after ≡ before ++ turns_text line old.network.peers turns
+  pub tells : after ≡ behind before (turns_text line old.network.peers turns)
 
 -- all events that are due are done
-pub record DoesAll (line : ℕ) (m : Modes) (Due : Plant → Option Event → Type 0) (old new : Whole) (before after : List ℕ) : Type 0 where
+pub record DoesAll (line : ℕ) (m : Modes) (Due : Plant → Option Event → Type 0) (old new : Whole) (before after : Told) : Type 0 where
   pub count : ℕ
   pub some : DoesSome line m Due old new before after count
   pub over : Due new.state None

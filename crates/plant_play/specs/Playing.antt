@@ -27,6 +27,7 @@ use Rattle.network_files.specs.Reading.{IsWant, IsWhyNoTopology, IsWhyNotChanged
 use Rattle.plant_play.specs.declared.going.Until.TheVariants.{Settled, Finished}
 use Rattle.plant_play.specs.declared.showing.Modes.{Modes}
 use Rattle.plant_play.specs.Due.{AreAllDue, IsDue, IsDueTake}
+use Rattle.plant_play.specs.Logs.{Told, behind}
 use Rattle.plant_play.specs.Turns.{AreGiven, IsTurn, Turn, brought_text, entries_of, turns_text}
 
 -- a network and what is shown of it, as the value of who plays it
@@ -151,11 +152,11 @@ pub record PlaysLine (old : Stage) (c : Cue) (answer : Answered) (turns : List T
   pub plays : Plays c.number old c.event c.file answer turns told new.state
 
 -- The same, told at the end of a transcript; and a run goes on by its events.
-pub record Played (c : Cue) (old : Stage) (answer : Answered) (new : Stage) (before after : List ℕ) : Type 0 where
+pub record Played (c : Cue) (old : Stage) (answer : Answered) (new : Stage) (before after : Told) : Type 0 where
   pub turns : List Turn
   pub told : List ℕ
   pub line : PlaysLine old c answer turns told new
-  pub tells : after ≡ before ++ told
+  pub tells : after ≡ behind before told
   pub goes : AreGiven turns → (older : List Entry) → Run wire old.network older old.state → Run wire old.network (entries_of turns older) new.state
 
 abbrev pub cue : ℕ → LineEvent → List ℕ → Cue

@@ -1,22 +1,23 @@
 //! One event of a line, done and told.
-ghost use Rattle.std.specs.Prelude.{◌≡◌, ◌++◌, IfErr, Err, IfOk, MatchBool, OnOk};
+ghost use Rattle.std.specs.Prelude.{◌≡◌, IfErr, Err, IfOk, MatchBool, OnOk};
 ghost use Rattle.network_files.specs.Reading.{IsWant};
 ghost use Rattle.plant_text.specs.Settings.{peer_row};
 ghost use Rattle.pce_plant.specs.Held.{whole};
 ghost use Rattle.pce_plant.specs.Whole.{IsOwnLoad};
 ghost use Rattle.transcript.specs.Lines.{name_from};
+ghost use Rattle.plant_play.specs.Logs.{behind};
 ghost use Rattle.plant_play.specs.Making.{DoesLine, Makes, MakesTurn, Refuses, event_of, lacks_memory, stage};
 ghost use Rattle.plant_play.specs.Playing.{PlaysNone, PlaysOne};
 ghost use Rattle.plant_play.specs.Turns.{event_line};
 
 use crate::PlayError;
+use crate::log::{Log, write_answer, write_carry, write_solve, write_take};
 use crate::showing::{Modes, job_to_show, write_brought};
 use dom_base::{As, NoMemory};
 use pce_plant::Plant;
 use pce_plant::model::{Event, Outcome, Refused};
 use plant_text::PeerRow;
 use std::alloc::Global;
-use transcript::{write_answer, write_carry, write_solve, write_take};
 
 /// What came of an event: an outcome, or why it was refused.
 pub type Answer = Result<Outcome, Refused>;
@@ -69,10 +70,10 @@ pub(crate) fn play_event(
     modes: Modes,
     line: u32,
     event: Event,
-    into: &mut Vec<u8>,
+    into: &mut Log,
 ) -> Result<Answer, PlayError>
     requires { IsOwnLoad event }
-    ensures plays { IfOk result (DoesLine (whole plant.old) (PlaysOne line (stage modes (whole plant.old)) event) (whole plant.new) into.old.items into.new.items) }
+    ensures plays { IfOk result (DoesLine (whole plant.old) (PlaysOne line (stage modes (whole plant.old)) event) (whole plant.new) into.old into.new) }
     ensures refused { IfErr result IsWant }
 {
     let job = job_to_show(plant, modes, &event)?;
@@ -93,8 +94,8 @@ fn name_at(peers: &[PeerRow], number: u32) -> &str
 }
 
 // The line of an event that is not the line's own.
-fn write_due(line: u32, peers: &[PeerRow], due: Due, into: &mut Vec<u8>) -> Result<(), NoMemory>
-    ensures { OnOk result (into.new.items ≡ into.old.items ++ event_line line peers.now (event_of due)) }
+fn write_due(line: u32, peers: &[PeerRow], due: Due, into: &mut Log) -> Result<(), NoMemory>
+    ensures { OnOk result (into.new ≡ behind into.old (event_line line peers.now (event_of due))) }
 {
     match due {
         Due::Take(peer) => write_take(line, name_at(peers, peer), into),
@@ -111,12 +112,12 @@ pub(crate) fn make_due(
     modes: Modes,
     line: u32,
     due: Due,
-    into: &mut Vec<u8>,
+    into: &mut Log,
 ) -> Result<bool, PlayError>
     ensures refused { IfErr result IsWant }
     ensures makes { IfOk result (λ accepted. MatchBool accepted
-        (MakesTurn line modes (whole plant.old) (event_of due) (whole plant.new) into.old.items into.new.items)
-        (Refuses (whole plant.old) (event_of due) (whole plant.new) into.old.items into.new.items)) }
+        (MakesTurn line modes (whole plant.old) (event_of due) (whole plant.new) into.old into.new)
+        (Refuses (whole plant.old) (event_of due) (whole plant.new) into.old into.new)) }
 {
     let event = event_of(due);
     let job = job_to_show(plant, modes, &event)?;

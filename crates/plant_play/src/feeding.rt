@@ -1,5 +1,5 @@
 //! Bytes that a peer feeds, and the messages that are taken of them.
-ghost use Rattle.std.specs.Prelude.{◌≡◌, ◌++◌, IfErr, IfOk, OnOk};
+ghost use Rattle.std.specs.Prelude.{◌≡◌, IfErr, IfOk, OnOk};
 ghost use Rattle.network_files.specs.Reading.{IsWant};
 ghost use Rattle.pce_plant.specs.Held.{whole};
 ghost use Rattle.plant_play.specs.Due.{IsDueTake};
@@ -8,12 +8,12 @@ ghost use Rattle.plant_play.specs.Playing.{PlaysFeed};
 
 use crate::PlayError;
 use crate::events::{Answer, Due, done, make_due};
+use crate::log::{Log, write_answer};
 use crate::showing::Modes;
 use dom_base::Bytes;
 use pce_plant::Plant;
 use pce_plant::model::Event;
 use std::alloc::Global;
-use transcript::write_answer;
 
 // Takes what is in the inbox of a peer.
 fn take_all(
@@ -22,9 +22,9 @@ fn take_all(
     modes: Modes,
     line: u32,
     peer: u32,
-    into: &mut Vec<u8>,
+    into: &mut Log,
 ) -> Result<(), PlayError>
-    ensures plays { OnOk result (DoesAll line modes (IsDueTake peer) (whole plant.old) (whole plant.new) into.old.items into.new.items) }
+    ensures plays { OnOk result (DoesAll line modes (IsDueTake peer) (whole plant.old) (whole plant.new) into.old into.new) }
     ensures refused { IfErr result IsWant }
 {
     let mut taken = true;
@@ -42,9 +42,9 @@ pub(crate) fn feed(
     line: u32,
     peer: u32,
     bytes: Bytes,
-    into: &mut Vec<u8>,
+    into: &mut Log,
 ) -> Result<Answer, PlayError>
-    ensures plays { IfOk result (DoesLine (whole plant.old) (PlaysFeed line (stage modes (whole plant.old)) peer bytes) (whole plant.new) into.old.items into.new.items) }
+    ensures plays { IfOk result (DoesLine (whole plant.old) (PlaysFeed line (stage modes (whole plant.old)) peer bytes) (whole plant.new) into.old into.new) }
     ensures refused { IfErr result IsWant }
 {
     let answer = done(plant, Event::Feed(peer, bytes))?;

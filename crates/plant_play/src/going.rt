@@ -1,5 +1,5 @@
 //! A network goes on until nothing is due.
-ghost use Rattle.std.specs.Prelude.{◌≡◌, ◌++◌, IfErr, IfOk, IfSome, OnOk, slice_get};
+ghost use Rattle.std.specs.Prelude.{◌≡◌, IfErr, IfOk, IfSome, OnOk, slice_get};
 ghost use Rattle.std.specs.Option.{option_map};
 ghost use Rattle.pce_plant.specs.plant_model.declared.event.Event.TheVariants.{Solve};
 ghost use Rattle.pce_plant.specs.Held.{whole};
@@ -10,11 +10,11 @@ ghost use Rattle.plant_play.specs.Playing.{PlaysDue};
 
 use crate::PlayError;
 use crate::events::{Answer, Due, make_due};
+use crate::log::{Log, write_answer};
 use crate::showing::Modes;
 use pce_plant::Plant;
 use pce_plant::model::Outcome;
 use std::alloc::Global;
-use transcript::write_answer;
 
 /// How far a network goes on.
 #[derive(Clone, Copy)]
@@ -55,9 +55,9 @@ fn make_all(
     modes: Modes,
     until: Until,
     line: u32,
-    into: &mut Vec<u8>,
+    into: &mut Log,
 ) -> Result<(), PlayError>
-    ensures plays { OnOk result (DoesAll line modes (IsDue until (whole plant.old).network) (whole plant.old) (whole plant.new) into.old.items into.new.items) }
+    ensures plays { OnOk result (DoesAll line modes (IsDue until (whole plant.old).network) (whole plant.old) (whole plant.new) into.old into.new) }
     ensures refused { IfErr result IsWant }
 {
     for _ in 0..u64::MAX {
@@ -76,9 +76,9 @@ pub(crate) fn go_on(
     modes: Modes,
     until: Until,
     line: u32,
-    into: &mut Vec<u8>,
+    into: &mut Log,
 ) -> Result<Answer, PlayError>
-    ensures plays { IfOk result (DoesLine (whole plant.old) (PlaysDue line (stage modes (whole plant.old)) (IsDue until (whole plant.old).network)) (whole plant.new) into.old.items into.new.items) }
+    ensures plays { IfOk result (DoesLine (whole plant.old) (PlaysDue line (stage modes (whole plant.old)) (IsDue until (whole plant.old).network)) (whole plant.new) into.old into.new) }
     ensures refused { IfErr result IsWant }
 {
     make_all(alloc, plant, modes, until, line, into)?;

@@ -5,10 +5,12 @@ mod events;
 mod feeding;
 mod going;
 mod lines;
+mod log;
 mod player;
 mod showing;
 
 pub use events::Answer;
+pub use log::Log;
 pub use network_files::FileError as PlayError;
 pub use pce_plant::model::Outcome;
 pub use player::Player;

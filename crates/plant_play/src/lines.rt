@@ -1,5 +1,5 @@
 //! A line is played by its kind.
-ghost use Rattle.std.specs.Prelude.{◌≡◌, ◌≤◌, ◌++◌, length, Err, IfErr, IfOk};
+ghost use Rattle.std.specs.Prelude.{◌≡◌, ◌≤◌, length, Err, IfErr, IfOk};
 ghost use Rattle.std.specs.Option.{option_map};
 ghost use Rattle.te_deltas.specs.ChangeText.{change_file_most};
 ghost use Rattle.pce_plant.specs.plant_model.declared.outcome.Refused.TheVariants.{NoSuchPeer};
@@ -13,6 +13,7 @@ use crate::PlayError;
 use crate::events::{Answer, play_event};
 use crate::feeding::feed;
 use crate::going::{Until, go_on};
+use crate::log::{Log, write_answer};
 use crate::showing::Modes;
 use dom_base::{As, Bytes};
 use network_files::{changed_of, changes_of, topology_of};
@@ -20,7 +21,6 @@ use pce_plant::Plant;
 use pce_plant::model::{Event, Outcome, Refused};
 use plant_text::LineEvent;
 use std::alloc::Global;
-use transcript::write_answer;
 
 // A line without an event.
 fn play_none(
@@ -29,9 +29,9 @@ fn play_none(
     _modes: Modes,
     line: u32,
     fixed: Answer,
-    into: &mut Vec<u8>,
+    into: &mut Log,
 ) -> Result<Answer, PlayError>
-    ensures plays { IfOk result (DoesLine (whole _plant.now) (PlaysNone line (stage _modes (whole _plant.now)) fixed) (whole _plant.now) into.old.items into.new.items) }
+    ensures plays { IfOk result (DoesLine (whole _plant.now) (PlaysNone line (stage _modes (whole _plant.now)) fixed) (whole _plant.now) into.old into.new) }
     ensures refused { IfErr result IsWant }
 {
     write_answer(alloc, line, &fixed, into)?;
@@ -45,10 +45,10 @@ fn play_named(
     modes: Modes,
     line: u32,
     event: Option<Event>,
-    into: &mut Vec<u8>,
+    into: &mut Log,
 ) -> Result<Answer, PlayError>
     requires { AreNoLoads event }
-    ensures plays { IfOk result (DoesLine (whole plant.old) (PlaysNamed line (stage modes (whole plant.old)) event) (whole plant.new) into.old.items into.new.items) }
+    ensures plays { IfOk result (DoesLine (whole plant.old) (PlaysNamed line (stage modes (whole plant.old)) event) (whole plant.new) into.old into.new) }
     ensures refused { IfErr result IsWant }
 {
     match event {
@@ -64,9 +64,9 @@ fn feed_named(
     line: u32,
     peer: Option<u32>,
     bytes: Bytes,
-    into: &mut Vec<u8>,
+    into: &mut Log,
 ) -> Result<Answer, PlayError>
-    ensures plays { IfOk result (DoesLine (whole plant.old) (PlaysFeedAt line (stage modes (whole plant.old)) peer bytes) (whole plant.new) into.old.items into.new.items) }
+    ensures plays { IfOk result (DoesLine (whole plant.old) (PlaysFeedAt line (stage modes (whole plant.old)) peer bytes) (whole plant.new) into.old into.new) }
     ensures refused { IfErr result IsWant }
 {
     match peer {
@@ -82,10 +82,10 @@ fn load(
     line: u32,
     at: As,
     file: &[u8],
-    into: &mut Vec<u8>,
+    into: &mut Log,
 ) -> Result<Answer, PlayError>
     requires { length file.now ≤ change_file_most }
-    ensures plays { IfOk result (DoesLine (whole plant.old) (PlaysLoad line (stage modes (whole plant.old)) at file.now) (whole plant.new) into.old.items into.new.items) }
+    ensures plays { IfOk result (DoesLine (whole plant.old) (PlaysLoad line (stage modes (whole plant.old)) at file.now) (whole plant.new) into.old into.new) }
     ensures refused { IfErr result (WhyNotLoaded at file.now (stage modes (whole plant.old)) (stage modes (whole plant.new))) }
 {
     let topology = topology_of(alloc, at, file)?;
@@ -99,10 +99,10 @@ fn change(
     line: u32,
     at: As,
     file: &[u8],
-    into: &mut Vec<u8>,
+    into: &mut Log,
 ) -> Result<Answer, PlayError>
     requires { length file.now ≤ change_file_most }
-    ensures plays { IfOk result (DoesLine (whole plant.old) (PlaysChange line (stage modes (whole plant.old)) at file.now) (whole plant.new) into.old.items into.new.items) }
+    ensures plays { IfOk result (DoesLine (whole plant.old) (PlaysChange line (stage modes (whole plant.old)) at file.now) (whole plant.new) into.old into.new) }
     ensures refused { IfErr result (WhyNotChanged at file.now (stage modes (whole plant.old)) (stage modes (whole plant.new))) }
 {
     let changes = changes_of(alloc, file)?;
@@ -156,10 +156,10 @@ pub(crate) fn play_line(
     line: u32,
     event: LineEvent,
     file: &[u8],
-    into: &mut Vec<u8>,
+    into: &mut Log,
 ) -> Result<Answer, PlayError>
     requires { length file.now ≤ change_file_most }
-    ensures plays { IfOk result (DoesLine (whole plant.old) (Plays line (stage modes (whole plant.old)) event file.now) (whole plant.new) into.old.items into.new.items) }
+    ensures plays { IfOk result (DoesLine (whole plant.old) (Plays line (stage modes (whole plant.old)) event file.now) (whole plant.new) into.old into.new) }
     ensures refused { IfErr result (IsWhyNot event file.now (stage modes (whole plant.old)) (stage modes (whole plant.new))) }
 {
     match event {

@@ -1,11 +1,12 @@
 //! Who plays the lines of a script.
-ghost use Rattle.std.specs.Prelude.{◌≡◌, ◌≤◌, ◌++◌, ℕ, List, length, IfErr, IfOk, OnErr, OnOk};
+ghost use Rattle.std.specs.Prelude.{◌≡◌, ◌≤◌, length, IfErr, IfOk, OnErr};
 ghost use Rattle.te_deltas.specs.ChangeText.{change_file_most};
 ghost use Rattle.plant_play.specs.Playing.{IsNewStage, IsWhyNot, Played, cue, stage_of};
 
 use crate::PlayError;
 use crate::events::Answer;
 use crate::lines::{modes_after, play_line};
+use crate::log::Log;
 use crate::showing::Modes;
 use dom_base::NoMemory;
 use pce_plant::Plant;
@@ -41,15 +42,6 @@ impl Model for Player {
     ghost view = { scene_of };
 }
 
-// Puts a text behind another; after a refusal nothing is put.
-fn append(into: &mut Vec<u8>, text: &[u8]) -> Result<(), NoMemory>
-    ensures ok { OnOk result (into.new.items ≡ into.old.items ++ text.now) }
-    ensures err { OnErr result (into.new.items ≡ into.old.items) }
-{
-    into.extend_from_slice(text)?;
-    Ok(())
-}
-
 impl Player {
     /// A new network of these settings; nothing is shown of solved jobs.
     pub fn new(alloc: Global, network: Network) -> Result<Player, NoMemory>
@@ -79,25 +71,25 @@ impl Player {
         self.plant.network()
     }
 
-    /// Plays a line of this number, and puts what is told of it at the end of `into`; gives the answer of the line. `file`
-    /// is the text of the file that the line names. After an error nothing is put there; where it is no fault of the
-    /// file, what the line did up to there stays done. A file that is refused leaves the network as it was. NoMemory is
-    /// also told where there is no room to count more than 2^64 - 1 events of one line; where 2^47 messages stand in the
-    /// queues between elements at most, and no id comes round, fewer follow one another.
+    /// Plays a line of this number, and tells it at the end of `into`; gives the answer of the line. `file` is the text
+    /// of the file that the line names. After an error nothing is told; where it is no fault of the file, what the line
+    /// did up to there stays done. A file that is refused leaves the network as it was. NoMemory is also told where there
+    /// is no room to count more than 2^64 - 1 events of one line; where 2^47 messages stand in the queues between elements
+    /// at most, and no id comes round, fewer follow one another.
     pub fn play(
         &mut self,
         line: u32,
         event: LineEvent,
         file: &[u8],
-        into: &mut Vec<u8>,
+        into: &mut Log,
     ) -> Result<Answer, PlayError>
         requires { length file.now ≤ change_file_most }
-        ensures plays { IfOk result (λ answer. Played (cue line event file.now) (stage_of self.old) answer (stage_of self.new) into.old.items into.new.items) }
+        ensures plays { IfOk result (λ answer. Played (cue line event file.now) (stage_of self.old) answer (stage_of self.new) into.old into.new) }
         ensures refused { IfErr result (IsWhyNot event file.now (stage_of self.old) (stage_of self.new)) }
-        ensures untold { OnErr result (into.new.items ≡ into.old.items) }
+        ensures untold { OnErr result (into.new ≡ into.old) }
     {
         let after = modes_after(&event, self.modes);
-        let mut text = Vec::new(self.alloc);
+        let mut log = into.fresh(self.alloc);
         let answer = play_line(
             self.alloc,
             &mut self.plant,
@@ -105,10 +97,10 @@ impl Player {
             line,
             event,
             file,
-            &mut text,
+            &mut log,
         )?;
         self.modes = after;
-        append(into, &text)?;
+        into.append(&log)?;
         Ok(answer)
     }
 }

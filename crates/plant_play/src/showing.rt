@@ -1,5 +1,5 @@
 //! What is told of an event behind its answer: its messages, and what is shown of the job that it solved.
-ghost use Rattle.std.specs.Prelude.{◌≡◌, ◌++◌, ◌&&◌, ◌||◌, Some, IfOk, OnOk};
+ghost use Rattle.std.specs.Prelude.{◌≡◌, ◌&&◌, ◌||◌, Some, IfOk, OnOk};
 ghost use Rattle.path_certificate.specs.declared.certificate.Certificate.{Certificate as Certified};
 ghost use Rattle.dom_base.specs.declared.border.BorderRow.{BorderRow};
 ghost use Rattle.plant_text.specs.Settings.{class_from, peer_row};
@@ -9,6 +9,7 @@ ghost use Rattle.transcript.specs.Lines.{certified_text, rows_text};
 ghost use Rattle.plant_play.specs.Making.{Brings, IsToShow, Labels, LabelsIf, Shown, Tables, TablesIf, closed_among, shows_any};
 ghost use Rattle.plant_play.specs.Turns.{tells_closed};
 
+use crate::log::{Log, write_certified, write_rows, write_said};
 use border_costs::{Job, border_table, solve};
 use disclosure::Class;
 use dom_base::{NoMemory, Peer};
@@ -16,7 +17,6 @@ use pce_plant::model::{Event, Outcome, Refused};
 use pce_plant::{Plant, Work};
 use plant_text::PeerRow;
 use std::alloc::Global;
-use transcript::{write_certified, write_rows, write_said};
 
 /// What is shown of a domain's job that was solved.
 #[derive(Clone, Copy)]
@@ -87,15 +87,15 @@ fn tells_closed(plant: &Plant) -> bool
     is_closed(plant.parts().peers.as_slice(), to)
 }
 
-fn write_table(alloc: Global, line: u32, job: &Job, into: &mut Vec<u8>) -> Result<(), NoMemory>
-    ensures { OnOk result (Tables line job.now into.old.items into.new.items) }
+fn write_table(alloc: Global, line: u32, job: &Job, into: &mut Log) -> Result<(), NoMemory>
+    ensures { OnOk result (Tables line job.now into.old into.new) }
 {
     let rows = border_table(alloc, job)?;
     write_rows(line, rows.as_slice(), into)
 }
 
-fn write_labels(alloc: Global, line: u32, job: &Job, into: &mut Vec<u8>) -> Result<(), NoMemory>
-    ensures { OnOk result (Labels line job.now into.old.items into.new.items) }
+fn write_labels(alloc: Global, line: u32, job: &Job, into: &mut Log) -> Result<(), NoMemory>
+    ensures { OnOk result (Labels line job.now into.old into.new) }
 {
     let solved = solve(alloc, job)?;
     write_certified(line, solved.certificate(), into)
@@ -107,9 +107,9 @@ fn write_table_if(
     line: u32,
     shown: bool,
     job: &Job,
-    into: &mut Vec<u8>,
+    into: &mut Log,
 ) -> Result<(), NoMemory>
-    ensures { OnOk result (TablesIf line shown job.now into.old.items into.new.items) }
+    ensures { OnOk result (TablesIf line shown job.now into.old into.new) }
 {
     if shown {
         write_table(alloc, line, job, into)
@@ -124,9 +124,9 @@ fn write_labels_if(
     line: u32,
     shown: bool,
     job: &Job,
-    into: &mut Vec<u8>,
+    into: &mut Log,
 ) -> Result<(), NoMemory>
-    ensures { OnOk result (LabelsIf line shown job.now into.old.items into.new.items) }
+    ensures { OnOk result (LabelsIf line shown job.now into.old into.new) }
 {
     if shown {
         write_labels(alloc, line, job, into)
@@ -142,9 +142,9 @@ fn write_shown(
     modes: Modes,
     closed: bool,
     job: &Job,
-    into: &mut Vec<u8>,
+    into: &mut Log,
 ) -> Result<(), NoMemory>
-    ensures { OnOk result (Shown line modes closed job.now into.old.items into.new.items) }
+    ensures { OnOk result (Shown line modes closed job.now into.old into.new) }
 {
     write_table_if(alloc, line, modes.disclose && closed, job, into)?;
     write_labels_if(alloc, line, modes.certify, job, into)?;
@@ -160,9 +160,9 @@ pub(crate) fn write_brought(
     modes: Modes,
     answer: &Result<Outcome, Refused>,
     job: &Option<Job>,
-    into: &mut Vec<u8>,
+    into: &mut Log,
 ) -> Result<(), NoMemory>
-    ensures { OnOk result (Brings line modes (whole plant.now) answer.now job.now into.old.items into.new.items) }
+    ensures { OnOk result (Brings line modes (whole plant.now) answer.now job.now into.old into.new) }
 {
     if answer.is_err() {
         return Ok(());

@@ -1,5 +1,5 @@
 -- One line of a script, played with the text of the file that it names, and why it is not.
-use Rattle.std.specs.Prelude.{◌≡◌, ◌≤◌, ℕ, List, [], ◌++◌, length, Option, Some, None}
+use Rattle.std.specs.Prelude.{◌≡◌, ◌≤◌, ℕ, List, [], length, Option, Some, None}
 use Rattle.dom_edge.specs.Causes.{Rose}
 use Rattle.dom_edge.specs.Stores.{Files, HasFile, IfFile, IsLongFile}
 use Rattle.plant_text.specs.declared.fault.NetFault.{NetFault}
@@ -7,6 +7,7 @@ use Rattle.plant_text.specs.declared.line.LineEvent.{LineEvent}
 use Rattle.plant_text.specs.declared.line.LineEvent.TheVariants as line
 use Rattle.plant_play.specs.plant_model.Events.{Answered}
 use Rattle.plant_play.specs.network_files.declared.error.FileError.TheVariants as play
+use Rattle.plant_play.specs.Logs.{Told, behind}
 use Rattle.plant_play.specs.Playing.{IsWhyNot, PlaysLine, Stage, cue}
 use Rattle.plant_play.specs.Turns.{Turn}
 use Rattle.transcript.specs.declared.stop.Stop.{Stop}
@@ -28,13 +29,13 @@ HasText files None text = text ≡ []
 HasText files (Some name) text = HasFile files name text × (length text ≤ file_most)
 
 -- The line of this number is played, and what is told of it is put at the end.
-pub record PlaysCue (files : Option Files) (number : ℕ) (e : LineEvent) (answer : Answered) (old new : Stage) (before after : List ℕ) : Type 0 where
+pub record PlaysCue (files : Option Files) (number : ℕ) (e : LineEvent) (answer : Answered) (old new : Stage) (before after : Told) : Type 0 where
   pub file : List ℕ
   pub has : HasText files (file_name e) file
   pub turns : List Turn
   pub told : List ℕ
   pub plays : PlaysLine old (cue number e file) answer turns told new
-  pub tells : after ≡ before ++ told
+  pub tells : after ≡ behind before told
 
 -- a file that is named was not read
 abbrev pub IsNoFile : Option Files → List ℕ → ℕ × ℕ → List ℕ → Stop → Type 0

@@ -1,12 +1,12 @@
 //! One line of a script: the file that it names is read, and then it is played.
-ghost use Rattle.std.specs.Prelude.{◌≡◌, ◌≤◌, ◌++◌, length, IfErr, IfOk, MatchOption, None, OnErr, Some};
+ghost use Rattle.std.specs.Prelude.{◌≡◌, ◌≤◌, length, IfErr, IfOk, MatchOption, None, OnErr, Some};
 ghost use Rattle.plant_play.specs.Playing.{stage_of};
 ghost use Rattle.transcript.specs.Stops.{IsTooLarge};
 ghost use Rattle.plant_script.specs.Cues.{HasText, IsBadAt, IsCueStop, IsFileStop, IsNoFile, PlaysCue, file_name};
 
 use dom_base::{Bytes, NoMemory, Text};
 use dom_edge::{Store, StoreError};
-use plant_play::{Answer, PlayError, Player};
+use plant_play::{Answer, Log, PlayError, Player};
 use plant_text::{LineEvent, NetFault};
 use std::alloc::Global;
 use transcript::Stop;
@@ -77,12 +77,12 @@ fn play_with<S: Store>(
     number: u32,
     event: LineEvent,
     name: &str,
-    into: &mut Vec<u8>,
+    into: &mut Log,
 ) -> Result<Answer, Stop>
     requires named { file_name event ≡ Some name.now }
-    ensures plays { IfOk result (λ answer. PlaysCue (S.files store.old) number event answer (stage_of player.old) (stage_of player.new) into.old.items into.new.items) }
+    ensures plays { IfOk result (λ answer. PlaysCue (S.files store.old) number event answer (stage_of player.old) (stage_of player.new) into.old into.new) }
     ensures refused { IfErr result (IsFileStop (S.files store.old) name.now event (stage_of player.old) (stage_of player.new) (S.faults store.old, S.faults store.new) (S.failed_at store.new)) }
-    ensures untold { OnErr result (into.new.items ≡ into.old.items) }
+    ensures untold { OnErr result (into.new ≡ into.old) }
     ensures files { S.files store.new ≡ S.files store.old }
     ensures later { S.faults store.old ≤ S.faults store.new }
 {
@@ -99,12 +99,12 @@ fn play_alone(
     player: &mut Player,
     number: u32,
     event: LineEvent,
-    into: &mut Vec<u8>,
+    into: &mut Log,
 ) -> Result<Answer, Stop>
     requires named { file_name event ≡ None }
-    ensures plays { IfOk result (λ answer. PlaysCue None number event answer (stage_of player.old) (stage_of player.new) into.old.items into.new.items) }
+    ensures plays { IfOk result (λ answer. PlaysCue None number event answer (stage_of player.old) (stage_of player.new) into.old into.new) }
     ensures refused { IfErr result (λ why. why ≡ Stop.NoMemory) }
-    ensures untold { OnErr result (into.new.items ≡ into.old.items) }
+    ensures untold { OnErr result (into.new ≡ into.old) }
 {
     match player.play(number, event, &[], into) {
         Ok(answer) => Ok(answer),
@@ -113,20 +113,20 @@ fn play_alone(
     }
 }
 
-/// Plays a line of this number, over the text of the file that it names, and puts what is told of it at the end of
-/// `into`; gives the answer of the line. After an error nothing is put there. A file that is refused leaves the
-/// network as it was; after want of memory what the line did up to there stays done.
+/// Plays a line of this number, over the text of the file that it names, and tells it at the end of `into`; gives the
+/// answer of the line. After an error nothing is told. A file that is refused leaves the network as it was; after want
+/// of memory what the line did up to there stays done.
 pub fn play_cue<S: Store>(
     alloc: Global,
     store: &mut S,
     player: &mut Player,
     number: u32,
     event: LineEvent,
-    into: &mut Vec<u8>,
+    into: &mut Log,
 ) -> Result<Answer, Stop>
-    ensures plays { IfOk result (λ answer. PlaysCue (S.files store.old) number event answer (stage_of player.old) (stage_of player.new) into.old.items into.new.items) }
+    ensures plays { IfOk result (λ answer. PlaysCue (S.files store.old) number event answer (stage_of player.old) (stage_of player.new) into.old into.new) }
     ensures refused { IfErr result (IsCueStop (S.files store.old) (file_name event) event (stage_of player.old) (stage_of player.new) (S.faults store.old, S.faults store.new) (S.failed_at store.new)) }
-    ensures untold { OnErr result (into.new.items ≡ into.old.items) }
+    ensures untold { OnErr result (into.new ≡ into.old) }
     ensures files { S.files store.new ≡ S.files store.old }
     ensures later { S.faults store.old ≤ S.faults store.new }
 {

@@ -5,6 +5,6 @@ mod cue;
 mod script;
 
 pub use cue::{FILE_MAX, play_cue};
-pub use plant_play::{Answer, Outcome, Player};
+pub use plant_play::{Answer, Log, Outcome, Player};
 pub use script::{SCRIPT_MAX, play_script};
 pub use transcript::Stop;

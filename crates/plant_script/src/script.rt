@@ -8,7 +8,7 @@ ghost use Rattle.plant_script.specs.Scripts.{HasEvent, IsNoEvent, IsWhole, LineP
 use crate::cue::{play_cue, too_large};
 use dom_edge::{Sink, Store, write_all};
 use line_text::{Line, Lines};
-use plant_play::Player;
+use plant_play::{Log, Player};
 use plant_text::{LineError, LineEvent, Network, read_line};
 use std::alloc::Global;
 use transcript::{LINE_MAX, Stop};
@@ -50,9 +50,9 @@ fn play_line<S: Store, K: Sink>(
     ensures after { K.faults out.old ≤ K.faults out.new }
 {
     let event = event_of(alloc, player.network(), number, text)?;
-    let mut told = Vec::new(alloc);
+    let mut told = Log::kept(alloc);
     let _answer = play_cue(alloc, store, player, number, event, &mut told)?;
-    match write_all(out, &told) {
+    match write_all(out, told.text()) {
         Ok(()) => Ok(()),
         Err(_) => Err(Stop::WriteFault),
     }

@@ -143,7 +143,7 @@ module _ (c : Codec) (codec : IsCodec c) (n : NetworkParts) (es : List Entry) (s
 -- ---- the parent has no outside peers
 
 module _ (n : NetworkParts) (net : IsNetwork n) where
-  is_real : (d : As) (rows : List ElementRow) → All IsElement rows → is_some (row_of d rows) ≡ true → 1 ≤ d.0
+  pub is_real : (d : As) (rows : List ElementRow) → All IsElement rows → is_some (row_of d rows) ≡ true → 1 ≤ d.0
   is_real d [] all found = absurd (let clash : false ≡ true = found in cc)
   is_real d (r ∷ rows) all found = go (same_as r.own d) refl found (λ found'. is_real d rows (All-tail IsElement r rows all) found')
     where

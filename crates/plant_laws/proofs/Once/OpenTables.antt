@@ -1,9 +1,10 @@
 -- The law of open requests, from the tables of a run.
-use Rattle.std.proofs.Common.{◌≡◌, ℕ, true, false, Option, Some, None, is_some, List, [], ◌∷◌, Contains, inl, inr, sym, subst, refl}
+use Rattle.std.proofs.Common.{◌≡◌, ◌≢◌, ℕ, Bool, true, false, cond, Option, Some, None, is_some, List, [], ◌∷◌, Contains, inl, inr, sym, subst, refl}
 use Rattle.std.proofs.lemmas.Bool.{cases_Bool}
 use Rattle.dom_base.specs.declared.names.As.{As}
 use Rattle.dom_base.specs.declared.names.Peer.{Peer}
-use Rattle.request_table.specs.Pending.{Pending, key_of, number_of}
+use Rattle.request_table.specs.Pending.{Pending, key_of, number_among, number_of}
+use Rattle.request_table.proofs.KeyLemmas.{same_key_is}
 use Rattle.plant_text.specs.declared.settings.NetworkParts.{NetworkParts}
 use Rattle.plant_text.specs.Names.{same_as, parent_as}
 use Rattle.plant_model.specs.Wire.{Codec}
@@ -17,7 +18,8 @@ use Rattle.plant_laws.specs.Runs.{InRuns}
 use Rattle.plant_laws.specs.Tables.{IsTakenAbove, OpenIsPendingIn}
 use Rattle.plant_laws.proofs.Runs.Queues.{same_as_is}
 use Rattle.plant_laws.proofs.Runs.Seen.{seen, seen_none, seen_some}
-use Rattle.plant_laws.proofs.Runs.Rows.{In, in_of, seen_in}
+use Rattle.plant_laws.proofs.Runs.Rows.{In, in_of, numbered, seen_in}
+use Rattle.plant_laws.proofs.Runs.Inboxes.{contains}
 use Rattle.plant_laws.proofs.Once.ElementSteps as lower
 use Rattle.plant_laws.proofs.Once.ParentSteps as upper
 use Rattle.plant_laws.proofs.Once.Opened.{Matches, IsRequest, IsUpperRequest, Holds}
@@ -126,3 +128,15 @@ open_is_pending c codec n net es s run =
       pending = pending c n _ s held;
       «open» = is_opened c n _ s held;
     }
+
+-- the row of a request that is pending at an element
+pub pending_row : (s : Plant) (d : As) → d ≢ parent_as → (p : Peer) (x : ℕ) → is_pending s d p x ≡ true → (h : Row Pin) × Contains (s.elements d).pending.rows h × (h.1.key ≡ key_of p x)
+pending_row s d real p x is = go (number_among (key_of p x) (s.elements d).pending.rows) refl (low (same_as d parent_as) refl is)
+  where
+    low : (b : Bool) → same_as d parent_as ≡ b → cond b (is_some (number_of s.parent.pending p x)) (is_some (number_of (s.elements d).pending p x)) ≡ true → is_some (number_of (s.elements d).pending p x) ≡ true
+    low true up is' = absurd (real (same_as_is d parent_as up))
+    low false down is' = is'
+
+    go : (o : Option ℕ) → number_among (key_of p x) (s.elements d).pending.rows ≡ o → is_some o ≡ true → (h : Row Pin) × Contains (s.elements d).pending.rows h × (h.1.key ≡ key_of p x)
+    go None at is' = (let clash : false ≡ true = is' in cc)
+    go (Some number) at is' = (let h = numbered (key_of p x) (s.elements d).pending.rows number at in (h.0, contains h.0 (s.elements d).pending.rows h.1, sym (same_key_is (key_of p x) h.0.1.key h.3)))

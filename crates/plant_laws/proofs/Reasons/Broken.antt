@@ -4,7 +4,7 @@ use Rattle.std.specs.Prelude.{◌⊎◌, Option, Some, None}
 use Rattle.dom_base.specs.declared.names.As.{As}
 use Rattle.dom_base.specs.declared.addr.Addr.{Addr}
 use Rattle.dom_base.specs.declared.names.Peer.{Peer}
-use Rattle.dom_base.specs.declared.names.Peer.TheVariants.{Inner}
+use Rattle.dom_base.specs.declared.names.Peer.TheVariants.{Outside, Inner}
 use Rattle.pcep_codes.specs.declared.errors.TheConstants as errors
 use Rattle.pcep_codes.specs.declared.kinds.TheConstants as object_types
 use Rattle.pcep_objects.specs.declared.object.Object.{Object}
@@ -29,9 +29,8 @@ use Rattle.plant_model.specs.declared.output.Output.{Output}
 use Rattle.plant_model.specs.Names.{the_parent}
 use Rattle.plant_model.specs.Wire.{Codec}
 use Rattle.plant_model.specs.Laws.{IsCodec, IsNetwork}
-use Rattle.plant_model.specs.Routes.{StaysInside}
 use Rattle.plant_model.specs.Writing.{request_message, no_path, unavailable, ends_kind}
-use Rattle.plant_model.specs.Element.{Element, Row, way_to, is_client, kept, stays}
+use Rattle.plant_model.specs.Element.{Stage, Waits, Element, Row, way_to, is_client}
 use Rattle.plant_model.specs.Taking.{take}
 use Rattle.plant_model.specs.Parent as parent
 use Rattle.plant_model.specs.Parent.{AskingRow, Parent, is_up}
@@ -41,25 +40,28 @@ use Rattle.plant_model.specs.State.{Loads, Pops, Takes, Says, Ups, Downs, Clears
 use Rattle.plant_model.specs.Deeds.{own_message}
 use Rattle.plant_model.specs.Plant.{Pin, Segment, Plant, PlantDeed, Entry, Run, deeds_of}
 use Rattle.plant_laws.specs.About.{IsShort}
-use Rattle.plant_laws.specs.Broken.{WentOn, WentDown, IsRefusedAbove, Breaks, stopped, lost, refused, further, stopped_above, of_child, BrokenForReasonsIn}
+use Rattle.plant_laws.specs.Broken.{WentDown, IsRefusedAbove, Breaks, stopped, lost, refused, further, outside, outside_error, stopped_above, lost_above as lost_child, of_child, BrokenForReasonsIn}
+use Rattle.plant_laws.specs.WentOn.{WentOn}
 use Rattle.plant_laws.specs.Causes.{IsLost, IsLostAbove, AnswersLost, asker_of, asker_above, left_rows, left_above, Passes, from_outside, from_inside, OnPassed, by_element, by_parent, OfSession, by_table, anew, OfSolve, of_element, of_parent as of_upper, HaveCauses}
 use Rattle.plant_laws.specs.Matched.{Answering, ends, at_once, IsReplyTo}
 use Rattle.plant_laws.specs.Met.{run_of, Meets}
-use Rattle.plant_laws.specs.MessageCauses.{Asker, replied, WaitsAt, WaitsAbove, TellsOfPaths, OnReply, unknown, goes_on, is_kept, is_broken, OnNotice, next_is_full, noted_for_nobody, of_other_kind, GoesTo, OnPath, ends_here, no_session, is_refused, sent_on, OnRequest, wrong, again, key_shown, key_refused, no_room, for_path, AreAsked, OnRequestAbove, wrong_above, again_above, key_above, no_room_above, child_down, all_asked, OnError, failed_for_nobody, of_reply, out_of_profile, other_error, Part, Notes, alone, noted, parts, OnParts, OnMessage}
+use Rattle.plant_laws.specs.MessageCauses.{Asker, replied, WaitsAt, WaitsAbove, TellsOfPaths, OnReply, unknown, goes_on, is_kept, is_broken, OnNotice, next_is_full, noted_for_nobody, of_other_kind, GoesTo, OnPath, ends_here, no_session, is_refused, sent_on, OnRequest, wrong, again, key_shown, key_refused, no_room, for_path, AreAsked, OnRequestAbove, wrong_above, again_above, key_above, no_room_above, child_down, all_asked, OnError, failed_for_nobody, of_reply, out_of_profile, other_error, Part, Notes, Fails, alone, noted, failed, parts, OnParts, OnMessage}
 use Rattle.plant_laws.specs.Sending.{AllSent}
 use Rattle.plant_laws.specs.Solves.{ElementTells, TellsClient, its_path, no_pair, TellsClosed, branches, no_branch, lacks_keys, TellsUpper, found as found_walk, no_walk}
 use Rattle.plant_laws.specs.Transcript.{Transcript, Within, SentIn, opened, answers_to, outputs_at}
-use Rattle.plant_laws.specs.Waiting.{WasSentOn}
 use Rattle.plant_laws.proofs.WrittenForm.Again.{all_read}
 use Rattle.plant_laws.proofs.Once.Alone.{takes_alone}
 use Rattle.plant_laws.proofs.Once.Besides.{besides_asking, answers_in}
 use Rattle.plant_laws.proofs.Numbering.Counted.{element_ids_differ}
 use Rattle.plant_laws.proofs.Runs.Decompose.{nil_right}
 use Rattle.plant_laws.proofs.Once.AskedRuns.{none_outside}
-use Rattle.plant_laws.specs.Errors.{IsInnerError, names_none, answers_reply, refuses_ipv6}
+use Rattle.plant_laws.specs.Errors.{IsInnerError, names_none, answers_reply, refuses_ipv6, fails}
 use Rattle.plant_laws.proofs.Reasons.ErrorParts.{unknown_fine, one_error}
-use Rattle.plant_laws.proofs.Reasons.Errors.{put_before, told_of}
-use Rattle.plant_laws.proofs.Reasons.ErrorsTaken.{hears_errors}
+use Rattle.plant_laws.proofs.Reasons.Errors.{told_of}
+use Rattle.plant_laws.proofs.Reasons.Stood.{put_before}
+use Rattle.plant_laws.proofs.Reasons.Went.{went_on}
+use Rattle.plant_laws.proofs.Reasons.Heard.{HearsError, hears_error}
+use Rattle.plant_laws.proofs.Reasons.ErrorsTaken.{hears_inner}
 use Rattle.plant_laws.proofs.WrittenForm.EveryWritten.{every_written}
 use Rattle.plant_laws.proofs.Least.FromElement.{within_tail}
 use Rattle.plant_laws.proofs.Least.GatheredRuns.{run_gathers}
@@ -68,11 +70,10 @@ use Rattle.plant_laws.proofs.Runs.NoLoops.{not_to_itself}
 use Rattle.plant_laws.proofs.Once.Opened.{AreSingle}
 use Rattle.plant_laws.proofs.Once.Founded.{founded_within, run_founded}
 use Rattle.plant_laws.proofs.Once.Handing.{In, IsAsk, handed_within}
-use Rattle.plant_laws.proofs.Runs.Inboxes.{contains}
 use Rattle.plant_laws.proofs.Once.Matched.{reply_counts, replies_answer}
 use Rattle.plant_laws.proofs.Reasons.MomentCauses.{HasOne, IsOpening, CausedIn, moment_met, outs, solver, head_of, in_two, at_here}
 use Rattle.plant_laws.proofs.Runs.Moments.{within_trans, within_length, opened_within}
-use Rattle.plant_laws.proofs.Reasons.PartCauses.{in_at, not_both}
+use Rattle.plant_laws.proofs.Reasons.PartCauses.{contains_at, in_at, not_both}
 use Rattle.plant_laws.proofs.Runs.Queues.{same_as_is}
 use Rattle.plant_laws.proofs.WrittenForm.ReadBack.{run_single}
 use Rattle.plant_laws.proofs.Runs.Rows as table
@@ -80,8 +81,8 @@ use Rattle.plant_laws.proofs.Numbering.Sends.{IsAlone}
 use Rattle.plant_laws.proofs.Numbering.SentOn.{same_peer_is}
 use Rattle.plant_laws.proofs.Once.StillOpen.{still_open}
 use Rattle.plant_laws.proofs.Least.Subsides.{in_filtered}
-use Rattle.plant_laws.proofs.Runs.Unrouted.{goes_inside}
-use Rattle.plant_laws.proofs.Settled.Waits.{waits_are_sent}
+use Rattle.plant_laws.proofs.Settled.Fallen.{IsFallen, run_fallen, fallen_within}
+use Rattle.plant_laws.proofs.Settled.Waits.{SentAt, IsSentOn}
 use Rattle.plant_laws.proofs.WrittenForm.WhereWritten.{WrittenNetIds}
 
 -- ---- replies among what is said
@@ -137,23 +138,6 @@ ends_kind_in (messages.Close why) = 0
 ends_kind_in (messages.Other kind) = 0
 
 -- what falls leave of rows is among them
-left_in : (d : As) (rows : List (Row Pin)) (earlier : Transcript) (h : Row Pin) → table.In h (left_rows d rows earlier) → table.In h rows
-left_in d rows [] h i = i
-left_in d rows (Downs at q os ∷ earlier) h i = go (same_as at d) i (left_in d rows earlier h)
-  where
-    go : (b : Bool) → table.In h (cond b (kept q (left_rows d rows earlier)) (left_rows d rows earlier)) → (table.In h (left_rows d rows earlier) → table.In h rows) → table.In h rows
-    go true i' rec = rec (in_filtered (stays q) (left_rows d rows earlier) h i')
-    go false i' rec = rec i'
-left_in d rows (Loads at g ∷ earlier) h i = left_in d rows earlier h i
-left_in d rows (Pops a b ∷ earlier) h i = left_in d rows earlier h i
-left_in d rows (Takes at q m os ∷ earlier) h i = left_in d rows earlier h i
-left_in d rows (Says at o ∷ earlier) h i = left_in d rows earlier h i
-left_in d rows (Ups at q ∷ earlier) h i = left_in d rows earlier h i
-left_in d rows (Clears a b ∷ earlier) h i = left_in d rows earlier h i
-left_in d rows (Solves at k os keys ∷ earlier) h i = left_in d rows earlier h i
-left_in d rows (Expires t ∷ earlier) h i = left_in d rows earlier h i
-left_in d rows (Hands j bytes ∷ earlier) h i = left_in d rows earlier h i
-
 above_left : (rows : List AskingRow) (earlier : Transcript) (h : AskingRow) → table.In h (left_above rows earlier) → table.In h rows
 above_left rows [] h i = i
 above_left rows (Downs at q os ∷ earlier) h i = go (same_as at parent_as) i (above_left rows earlier h)
@@ -204,14 +188,20 @@ module _ (p : Peer) (r : Reply) (broken : ¬ TellsOfPaths r.answer) where
   nothing os none i = absurd (let i' : In out [] = subst (In out) none i in i')
 
   -- a request that was lost
-  lost_one : (q : Peer) (rows : List (Row Pin)) (os : List Output) → AnswersLost (IsLost q) asker_of rows os → In out os → (h : Row Pin) × table.In h rows × IsLost q h × (p ≢ q)
+  record WasLost (q : Peer) (rows : List (Row Pin)) : Type 0 where
+    pub row : Row Pin
+    pub there : table.In row rows
+    pub lost' : IsLost q row
+    pub this : IsThis (asker_of row) unavailable
+
+  lost_one : (q : Peer) (rows : List (Row Pin)) (os : List Output) → AnswersLost (IsLost q) asker_of rows os → In out os → WasLost q rows
   lost_one q [] os none i = nothing os none i
-  lost_one q (h ∷ hs) os (inr kept) i = (let more = lost_one q hs os kept.1 i in (more.0, inr more.1, more.2, more.3))
+  lost_one q (h ∷ hs) os (inr kept') i = (let more = lost_one q hs os kept'.1 i in record { row = more.row; there = inr more.there; lost' = more.lost'; this = more.this })
   lost_one q (h ∷ hs) os (inl is) i = go (subst (In out) is.2 i) (lost_one q hs is.1 is.3)
     where
-      go : In out (replied (asker_of h) unavailable ++ is.1) → (In out is.1 → (g : Row Pin) × table.In g hs × IsLost q g × (p ≢ q)) → (g : Row Pin) × table.In g (h ∷ hs) × IsLost q g × (p ≢ q)
-      go (inl same) more = (h, inl refl, is.0, λ at. is.0.0 (sym (this_one (asker_of h) unavailable (inl same)).peer ∙ at))
-      go (inr later) more = (let next = more later in (next.0, inr next.1, next.2, next.3))
+      go : In out (replied (asker_of h) unavailable ++ is.1) → (In out is.1 → WasLost q hs) → WasLost q (h ∷ hs)
+      go (inl same) more = record { row = h; there = inl refl; lost' = is.0; this = this_one (asker_of h) unavailable (inl same) }
+      go (inr later) more = (let next = more later in record { row = next.row; there = inr next.there; lost' = next.lost'; this = next.this })
 
   -- a notice tells of no paths
   module _ (K : Type 0) (Waiting : K → ℕ → Asker → Type 0) (OnAsked : Asked → K → List Output → Type 0) (left : Message → K → K) (of_parent' : Bool) (q : Peer) where
@@ -281,7 +271,7 @@ module _ (p : Peer) (r : Reply) (broken : ¬ TellsOfPaths r.answer) where
         go true is' = client (tells.2.to_client is')
         go false is' = closed (tells.2.to_closed is')
 
-  module _ (c : Codec) (codec : IsCodec c) (n : NetworkParts) (net : IsNetwork n) (stays : StaysInside n) (es : List Entry) (s : Plant) (run : Run c n es s) (written : AllSent IsWritten (deeds_of c n es)) (short : IsShort (deeds_of c n es))
+  module _ (c : Codec) (codec : IsCodec c) (n : NetworkParts) (net : IsNetwork n) (es : List Entry) (s : Plant) (run : Run c n es s) (written : AllSent IsWritten (deeds_of c n es)) (short : IsShort (deeds_of c n es))
       (d : As) (real : d ≢ parent_as) (older : Transcript)
       (rec : (b : As) (r' : Reply) (deed' : PlantDeed) (older' : Transcript) → Within (deed' ∷ older') older →
       In {A = Output} (record { to = Inner d; message = messages.PcRep (r' ∷ []) }) (outputs_at b deed') → ¬ TellsOfPaths r'.answer → Breaks c n (run_of c n es s run) b (Inner d) r'.id deed' older') where
@@ -294,7 +284,7 @@ module _ (p : Peer) (r : Reply) (broken : ¬ TellsOfPaths r.answer) where
         let asks = why.asks in
         let m = request_message id asks.wanted asks.wanted.target [] in
         let inside : Within (Takes parent_as (Inner d) m asks.os ∷ why.before) (deeds_of c n es) = subst (λ (e : PlantDeed). Within (e ∷ why.before) (deeds_of c n es)) asks.takes (within_trans (why.deed ∷ why.before) older (deeds_of c n es) why.within older_now) in
-        let put = put_before c codec n es s run written d parent_as m asks.os why.before inside in
+        let put = put_before c codec n net es s run written short d parent_as m asks.os why.before inside in
         let put_now = within_trans put.0 why.before (deeds_of c n es) put.1 (within_tail (Takes parent_as (Inner d) m asks.os) why.before (deeds_of c n es) inside) in
         let at_now = within_trans went.at older (deeds_of c n es) (opened_within c d p r.id older went.at went.is_open) older_now in
         let same = (element_ids_differ c codec n es s run written short put.0 went.at put_now at_now d parent_as real id asks.wanted went.wanted asks.wanted.target went.wanted.target [] went.rest put.2 went.sent).1 in
@@ -338,23 +328,9 @@ module _ (p : Peer) (r : Reply) (broken : ¬ TellsOfPaths r.answer) where
           path (is_refused next rest goes eq) = stops_here next rest true goes (inl refl) (subst (In out) eq i)
           path (sent_on next rest way goes found up eq) = not_said next _ refl (subst (In out) eq i)
 
-      -- the request that waits is the one that is open
-      sent_by : (y : ℕ) (a : Asker) → WaitsAt k q y a → (row : Row Pin) × (a ≡ record { peer = row.1.key.peer; flags = row.1.item.flags; id = row.1.key.id }) × WasSentOn c n (deeds_of c n entries) d row q y
-      sent_by y a w = (w.row, w.asked, waits_are_sent c codec n net entries before run' d w.row w.is_row q y w.waits)
-
-      went_on : (m : Message) → Passes c n before event d q m → (IsAsk m → ⊥) → (at : Transcript) → opened c d p r.id older ≡ Some at → (y : ℕ) (a : Asker) → WaitsAt k q y a → p ≡ a.peer → r.id ≡ a.id → WentOn c older d p r.id q y
-      went_on m passes asks at is_open y a w peer id = elim (still_open c n before event d q m passes asks earlier (deeds_of c n entries) causes d p r.id sent.2.at opened_then) [
-        | inl same ↦ record { at = sent.2.at; is_open = ap (opened c d p r.id) is_then ∙ same; wanted = sent.0.1.item.wanted; rest = sent.2.rest; sent = sent.2.sent }
-        | inr none ↦ absurd (let clash : ◌≡◌ {A = Option Transcript} None (Some at) = sym (ap (opened c d p r.id) is_then ∙ none) ∙ is_open in cc)
-      ]
-        where
-          sent : (row : Row Pin) × (a ≡ record { peer = row.1.key.peer; flags = row.1.item.flags; id = row.1.key.id }) × WasSentOn c n (deeds_of c n entries) d row q y
-          sent = sent_by y a w
-
-          opened_then : opened c d p r.id (deeds_of c n entries) ≡ Some sent.2.at
-          opened_then =
-              ap (λ (z : Peer). opened c d z r.id (deeds_of c n entries)) (peer ∙ ap (λ (z : Asker). z.peer) sent.1)
-              ∙ ap (λ (z : ℕ). opened c d sent.0.1.key.peer z (deeds_of c n entries)) (id ∙ ap (λ (z : Asker). z.id) sent.1) ∙ sent.2.is_open
+      -- the request that waits is the one that is open, and went on
+      went : (m : Message) → Passes c n before event d q m → (IsAsk m → ⊥) → (at : Transcript) → opened c d p r.id older ≡ Some at → (y : ℕ) (a : Asker) → WaitsAt k q y a → p ≡ a.peer → r.id ≡ a.id → WentOn c older d p r.id q y
+      went = went_on c codec n net d older q entries before run' earlier is_then event causes p r.id
 
       -- the reply is to that request, and its sender had a reason
       further_on : (r0 : Reply) (all : List Output) → Within (Takes d q (messages.PcRep (r0 ∷ [])) all ∷ older) (deeds_of c n es) → (b : As) → q ≡ Inner b → ¬ TellsOfPaths r0.answer → WentOn c older d p r.id q r0.id → Broke p r.id (Takes d q (messages.PcRep (r0 ∷ [])) all)
@@ -375,31 +351,53 @@ module _ (p : Peer) (r : Reply) (broken : ¬ TellsOfPaths r.answer) where
       reply_broken r0 os all within passes at is_open (goes_on a w up eq) i =
           let this = this_one a r0.answer (subst (In out) eq i) in
           let above = same_peer_is q the_parent up in
-          further_on r0 all within parent_as above (λ tells. broken (subst TellsOfPaths (sym this.answer') tells)) (went_on (messages.PcRep (r0 ∷ [])) passes (λ no. no) at is_open r0.id a w this.peer this.id)
+          further_on r0 all within parent_as above (λ tells. broken (subst TellsOfPaths (sym this.answer') tells)) (went (messages.PcRep (r0 ∷ [])) passes (λ no. no) at is_open r0.id a w this.peer this.id)
       reply_broken r0 os all within passes at is_open (is_kept a w down tells eq) i = nothing os eq i
-      reply_broken r0 os all within passes at is_open (is_broken a w down not_told eq) i = further_on r0 all within to.0 to.1 not_told went
+      reply_broken r0 os all within passes at is_open (is_broken a w down not_told eq) i = by q refl
         where
-          sent : (row : Row Pin) × (a ≡ record { peer = row.1.key.peer; flags = row.1.item.flags; id = row.1.key.id }) × WasSentOn c n (deeds_of c n entries) d row q r0.id
-          sent = sent_by r0.id a w
+          on : WentOn c older d p r.id q r0.id
+          on = (let this = this_one a unavailable (subst (In out) eq i) in went (messages.PcRep (r0 ∷ [])) passes (λ no. no) at is_open r0.id a w this.peer this.id)
 
-          to : (z : As) × (q ≡ Inner z)
-          to = goes_inside n stays d sent.0.1.item.sequence sent.2.rest q sent.2.goes
+          by : (z : Peer) → q ≡ z → Broke p r.id (Takes d q (messages.PcRep (r0 ∷ [])) all)
+          by (Inner b) is = further_on r0 all within b is not_told on
+          by (Outside j) is = subst (λ (z : Peer). Broke p r.id (Takes d z (messages.PcRep (r0 ∷ [])) all)) (sym is) (outside d j p r.id older r0 all not_told (subst (λ (z : Peer). WentOn c older d p r.id z r0.id) is on))
 
-          went : WentOn c older d p r.id q r0.id
-          went = (let this = this_one a unavailable (subst (In out) eq i) in went_on (messages.PcRep (r0 ∷ [])) passes (λ no. no) at is_open r0.id a w this.peer this.id)
+      -- an outside peer's error
+      outside_broken : (j : ℕ) → q ≡ Outside j → (reports : List ErrorReport) (pin : Pin) (all : List Output) → Passes c n before event d q (messages.PcErr reports) → (at : Transcript) → opened c d p r.id older ≡ Some at →
+          HearsError c n d pin q before.clock k out reports → Broke p r.id (Takes d q (messages.PcErr reports) all)
+      outside_broken j is reports pin all passes at is_open h = elim h.says [
+        | inl o ↦ not_said h.asker.peer _ refl o.1
+        | inr o ↦
+            let this = this_one h.asker unavailable o.2 in
+            let on = went (messages.PcErr reports) passes (λ no. no) at is_open h.rp.1 h.asker h.waits this.peer this.id in
+            subst (λ (z : Peer). Broke p r.id (Takes d z (messages.PcErr reports) all)) (sym is)
+            (outside_error d j p r.id older reports h.error h.rp all (contains_at (Fails h.error h.rp) (failed reports) h.among) o.0 o.1 (subst (λ (z : Peer). WentOn c older d p r.id z h.rp.1) is on))
+      ]
 
       -- the parent's refusal
+      inner_broken : (b : As) → q ≡ Inner b → (reports : List ErrorReport) (pin : Pin) (all : List Output) → Within (Takes d q (messages.PcErr reports) all ∷ older) (deeds_of c n es) → Passes c n before event d q (messages.PcErr reports) → (at : Transcript) → opened c d p r.id older ≡ Some at →
+          OnMessage c n d pin q before.clock (messages.PcErr reports) k all → In out all → Broke p r.id (Takes d q (messages.PcErr reports) all)
+      inner_broken b is reports pin all within passes at is_open on i = elim
+          (hears_inner c codec n net es s run written short d entries before run' short' b pin reports all older (subst (λ (z : Peer). Within (Takes d z (messages.PcErr reports) all ∷ older) (deeds_of c n es)) is within)
+          (subst (λ (z : Peer). OnMessage c n d pin z before.clock (messages.PcErr reports) k all) is on)) [
+            | inl none ↦ nothing all none i
+            | inr (inr f) ↦ not_said f.asker.peer _ refl (subst (In out) f.says i)
+            | inr (inl h) ↦
+                let this = this_one h.asker unavailable (subst (In out) h.says i) in
+                let w = subst (λ (z : Peer). WaitsAt k z h.id h.asker) (sym is) h.waits in
+                let above = is ∙ h.above in
+                let on' = subst (λ (z : Peer). WentOn c older d p r.id z h.id) above (went (messages.PcErr reports) passes (λ no. no) at is_open h.id h.asker w this.peer this.id) in
+                subst (λ (z : Peer). Broke p r.id (Takes d z (messages.PcErr reports) all)) (sym above)
+                (refused d p r.id older h.id reports all on' (ipv6_ends h.id reports (within_tail (Takes d q (messages.PcErr reports) all) older (deeds_of c n es) within) on' h.refused) h.refused)
+          ]
+
       errors_broken : (reports : List ErrorReport) (pin : Pin) (all : List Output) → Within (Takes d q (messages.PcErr reports) all ∷ older) (deeds_of c n es) → Passes c n before event d q (messages.PcErr reports) → (at : Transcript) → opened c d p r.id older ≡ Some at →
           OnMessage c n d pin q before.clock (messages.PcErr reports) k all → In out all → Broke p r.id (Takes d q (messages.PcErr reports) all)
-      errors_broken reports pin all within passes at is_open on i = elim (hears_errors c codec n net stays es s run written short d entries before run' short' q pin reports all older within on) [
-        | inl none ↦ nothing all none i
-        | inr h ↦
-            let this = this_one h.asker unavailable (subst (In out) h.says i) in
-            let went = went_on (messages.PcErr reports) passes (λ no. no) at is_open h.id h.asker h.waits this.peer this.id in
-            let went' = subst (λ (z : Peer). WentOn c older d p r.id z h.id) h.above went in
-            subst (λ (z : Peer). Broke p r.id (Takes d z (messages.PcErr reports) all)) (sym h.above)
-            (refused d p r.id older h.id reports all went' (ipv6_ends h.id reports (within_tail (Takes d q (messages.PcErr reports) all) older (deeds_of c n es) within) went' h.refused) h.refused)
-      ]
+      errors_broken reports pin all within passes at is_open on i = by q refl
+        where
+          by : (z : Peer) → q ≡ z → Broke p r.id (Takes d q (messages.PcErr reports) all)
+          by (Outside j) is = outside_broken j is reports pin all passes at is_open (hears_error c n d pin q before.clock reports k all out on i)
+          by (Inner b) is = inner_broken b is reports pin all within passes at is_open on i
 
       message_broken : (m : Message) (pin : Pin) (all : List Output) → Meets c n es s run (Takes d q m all) older before → Within (Takes d q m all ∷ older) (deeds_of c n es) → Passes c n before event d q m → ((IsAsk m → ⊥) → (at : Transcript) × (opened c d p r.id older ≡ Some at)) → IsAlone m → OnMessage c n d pin q before.clock m k all → In out all →
           Broke p r.id (Takes d q m all)
@@ -435,20 +433,31 @@ module _ (p : Peer) (r : Reply) (broken : ¬ TellsOfPaths r.answer) where
             (λ asks. open_then c codec n es s run written d older (Takes d q m os) within' (says_in c codec n es s run written d older q m os asks i')) alone' (subst (λ (z : As). OnMessage c n z (one.before.current at) q one.before.clock m (one.before.elements z) os) is on) i'
     deed_broken (Downs at q os) within one meets i =
         let here = at_here d out at os i in
+        let within' = subst (λ (z : As). Within (Downs z q os ∷ older) (deeds_of c n es)) here.0 within in
         subst (λ (z : As). Breaks c n (run_of c n es s run) d p r.id (Downs z q os) older) (sym here.0)
-        (go (same_as at parent_as) refl one.cause here.0 here.1 (open_then c codec n es s run written d older (Downs d q os) (subst (λ (z : As). Within (Downs z q os ∷ older) (deeds_of c n es)) here.0 within) (reply_counts p r (cond (same_as d d) os []) (said_own c codec n es s run written d older os here.1))))
+        (go here.1 (fallen_within c n (deeds_of c n es) (run_fallen c n es s run (run_single c n codec es s run written)) (Downs d q os) older within'))
       where
-        go : (b : Bool) → same_as at parent_as ≡ b → cond b (AnswersLost (IsLostAbove q) asker_above (left_above one.before.parent.pending.rows one.earlier) os)
-            (AnswersLost (IsLost q) asker_of (left_rows at (one.before.elements at).pending.rows one.earlier) os) → at ≡ d → In out os → (at' : Transcript) × (opened c d p r.id older ≡ Some at') → Broke p r.id (Downs d q os)
-        go true up lost' is i' found = absurd (below at is up)
-        go false down lost' is i' found =
-            let l = lost_one q (left_rows at (one.before.elements at).pending.rows one.earlier) os lost' i' in
-            let there : table.In l.0 (one.before.elements at).pending.rows = left_in at (one.before.elements at).pending.rows one.earlier l.0 l.1 in
-            let sent = waits_are_sent c codec n net one.entries one.before one.run at l.0 (contains l.0 (one.before.elements at).pending.rows there) q l.2.1 l.2.2 in
-            inner (goes_inside n stays at l.0.1.item.sequence sent.rest q sent.goes) l.3 found
+        lost_on : (h : Row Pin) → h.1.key.peer ≢ q → p ≡ h.1.key.peer → r.id ≡ h.1.key.id → (y : ℕ) → h.1.item.stage ≡ Waits q y → IsSentOn c n older d h → Broke p r.id (Downs d q os)
+        lost_on h other peer id y waits sent =
+            let w : SentAt c n older d h (Waits q y) = subst (λ (z : Stage). SentAt c n older d h z) waits sent in
+            lost d p r.id older q y os (λ same. other (sym peer ∙ same)) (record {
+              at = w.0;
+              is_open = ap (λ (z : Peer). opened c d z r.id older) peer ∙ ap (λ (z : ℕ). opened c d h.1.key.peer z older) id ∙ w.1;
+              wanted = h.1.item.wanted;
+              rest = w.2.0;
+              sent = w.2.1;
+            })
+
+        go : In out os → IsFallen c n (Downs d q os) older → Broke p r.id (Downs d q os)
+        go i' fallen =
+            let low : same_as d parent_as ≡ false = is_low (same_as d parent_as) refl in
+            let all = fallen low in
+            let l = lost_one q all.0 os all.1 i' in
+            lost_on l.row l.lost'.0 l.this.peer l.this.id l.lost'.1 l.lost'.2 (all.2 l.row l.there)
           where
-            inner : (z : As) × (q ≡ Inner z) → (p ≢ q) → (at' : Transcript) × (opened c d p r.id older ≡ Some at') → Broke p r.id (Downs d q os)
-            inner to other f = subst (λ (z : Peer). Broke p r.id (Downs d z os)) (sym to.1) (lost d p r.id older f.0 to.0 os (λ same. other (same ∙ sym to.1)) f.1)
+            is_low : (b : Bool) → same_as d parent_as ≡ b → b ≡ false
+            is_low true up = absurd (real (same_as_is d parent_as up))
+            is_low false down = refl
     deed_broken (Solves at k os keys) within one meets i = go (at_here d out at os i) one.cause
       where
         solved : (d' : As) → d' ≡ d → (k' : ℕ) (tells : ElementTells c n one.before d' k' (Solves at k os keys ∷ [])) → In out (record { to = tells.held.key.peer; message = tells.message } ∷ []) → ⊥
@@ -479,7 +488,7 @@ module _ (p : Peer) (r : Reply) (broken : ¬ TellsOfPaths r.answer) where
 
   -- ---- the parent
 
-  module _ (c : Codec) (codec : IsCodec c) (n : NetworkParts) (net : IsNetwork n) (stays : StaysInside n) (es : List Entry) (s : Plant) (run : Run c n es s) (written : AllSent IsWritten (deeds_of c n es)) (short : IsShort (deeds_of c n es)) (older : Transcript)
+  module _ (c : Codec) (codec : IsCodec c) (n : NetworkParts) (net : IsNetwork n) (es : List Entry) (s : Plant) (run : Run c n es s) (written : AllSent IsWritten (deeds_of c n es)) (short : IsShort (deeds_of c n es)) (older : Transcript)
       (rec : (b : As) (r' : Reply) (deed' : PlantDeed) (older' : Transcript) → Within (deed' ∷ older') older →
       In {A = Output} (record { to = the_parent; message = messages.PcRep (r' ∷ []) }) (outputs_at b deed') → ¬ TellsOfPaths r'.answer → Breaks c n (run_of c n es s run) b the_parent r'.id deed' older') where
     abbrev BrokeAbove : Peer → ℕ → PlantDeed → Type 0
@@ -526,7 +535,7 @@ module _ (p : Peer) (r : Reply) (broken : ¬ TellsOfPaths r.answer) where
           within' = subst (λ (z : Peer). Within (Takes parent_as z (messages.PcRep (r0 ∷ [])) all ∷ older) (deeds_of c n es)) is within
 
           put : (put : Transcript) × Within put older × SentIn put child (Inner parent_as) (messages.PcRep (r0 ∷ []))
-          put = put_before c codec n es s run written child parent_as (messages.PcRep (r0 ∷ [])) all older within'
+          put = put_before c codec n net es s run written short child parent_as (messages.PcRep (r0 ∷ [])) all older within'
 
           go : (put : Transcript) → Within put older → SentIn put child (Inner parent_as) (messages.PcRep (r0 ∷ [])) → BrokeAbove p r.id (Takes parent_as q (messages.PcRep (r0 ∷ [])) all)
           go [] inside said = absurd said
@@ -571,7 +580,7 @@ module _ (p : Peer) (r : Reply) (broken : ¬ TellsOfPaths r.answer) where
 
       -- nothing is said to errors
       above_errors : (b : As) → q ≡ Inner b → is_linked n b parent_as ≡ true → (reports : List ErrorReport) (os : List Output) → Within (Takes parent_as (Inner b) (messages.PcErr reports) os ∷ older) (deeds_of c n es) → OnsAbove q (parts (messages.PcErr reports)) before.parent os → os ≡ []
-      above_errors b is linked reports os within on = by (put_before c codec n es s run written b parent_as (messages.PcErr reports) os older within)
+      above_errors b is linked reports os within on = by (put_before c codec n net es s run written short b parent_as (messages.PcErr reports) os older within)
         where
           reply_none : (rp : ℕ × ℕ) → OnError (WaitsAbove before.parent q rp.1) errors.UNKNOWN_REQUEST os → os ≡ []
           reply_none rp (failed_for_nobody none eq) = eq
@@ -579,16 +588,17 @@ module _ (p : Peer) (r : Reply) (broken : ¬ TellsOfPaths r.answer) where
           reply_none rp (out_of_profile w waits out' eq) = absurd (unknown_fine out')
           reply_none rp (other_error w waits no' no'' eq) = absurd (no' (refl, refl))
 
-          told : (deed : PlantDeed) → IsInnerError parent_as b deed (messages.PcErr reports) → os ≡ []
-          told deed (names_none kind value eq) = elim (one_error Parent (λ k'. WaitsAbove k' q) (OnRequestAbove c n q) (λ m' k'. (parent.take c (family n) q m' k').parent) false q None kind value (messages.PcErr reports) before.parent os eq on) [
+          told : (deed : PlantDeed) (before' : Transcript) → IsInnerError c parent_as b deed before' (messages.PcErr reports) → os ≡ []
+          told deed before' (names_none kind value eq) = elim (one_error Parent (λ k'. WaitsAbove k' q) (OnRequestAbove c n q) (λ m' k'. (parent.take c (family n) q m' k').parent) false q None kind value (messages.PcErr reports) before.parent os eq on) [
             | inl none ↦ none
             | inr some ↦ absurd (let clash : ◌≡◌ {A = Option (ℕ × ℕ)} None (Some some.0) = some.1 in cc)
           ]
-          told deed (answers_reply rp eq) = elim (one_error Parent (λ k'. WaitsAbove k' q) (OnRequestAbove c n q) (λ m' k'. (parent.take c (family n) q m' k').parent) false q (Some rp) errors.UNKNOWN_REQUEST.0 errors.UNKNOWN_REQUEST.1 (messages.PcErr reports) before.parent os eq on) [
+          told deed before' (answers_reply rp eq) = elim (one_error Parent (λ k'. WaitsAbove k' q) (OnRequestAbove c n q) (λ m' k'. (parent.take c (family n) q m' k').parent) false q (Some rp) errors.UNKNOWN_REQUEST.0 errors.UNKNOWN_REQUEST.1 (messages.PcErr reports) before.parent os eq on) [
             | inl none ↦ none
             | inr some ↦ reply_none some.0 some.2
           ]
-          told deed (refuses_ipv6 id up asks eq) = absurd (not_to_itself n net (subst (λ (z : As). is_linked n z parent_as ≡ true) up linked))
+          told deed before' (refuses_ipv6 id up asks eq) = absurd (not_to_itself n net (subst (λ (z : As). is_linked n z parent_as ≡ true) up linked))
+          told deed before' (fails flags id low asker_low why eq) = absurd (asker_low refl)
 
           by : (put : Transcript) × Within put older × SentIn put b (Inner parent_as) (messages.PcErr reports) → os ≡ []
           by put = go put.0 put.1 put.2
@@ -596,8 +606,8 @@ module _ (p : Peer) (r : Reply) (broken : ¬ TellsOfPaths r.answer) where
               go : (put : Transcript) → Within put older → SentIn put b (Inner parent_as) (messages.PcErr reports) → os ≡ []
               go [] inside said = absurd said
               go (deed ∷ before') inside said =
-                  told deed
-                  (told_of c codec n net stays es s run written short parent_as b reports deed before'
+                  told deed before'
+                  (told_of c codec n net es s run written short parent_as b reports deed before'
                   (within_trans (deed ∷ before') older (deeds_of c n es) inside (within_tail (Takes parent_as (Inner b) (messages.PcErr reports) os) older (deeds_of c n es) within)) (in_at _ (outputs_at b deed) said))
 
       peer_errors : (reports : List ErrorReport) (os : List Output) → Within (Takes parent_as q (messages.PcErr reports) os ∷ older) (deeds_of c n es) → Passes c n before event parent_as q (messages.PcErr reports) → OnsAbove q (parts (messages.PcErr reports)) before.parent os → os ≡ []
@@ -661,7 +671,7 @@ module _ (p : Peer) (r : Reply) (broken : ¬ TellsOfPaths r.answer) where
             let g = run_gathers c n one.entries one.before one.run single l.0 there in
             let wait = l.2.1 in
             let child : q ≡ Inner wait.child = sym l.2.3 ∙ (g.2.waits wait (table.in_of wait l.0.1.item.waits l.2.2)).0 in
-            subst (λ (z : Peer). BrokeAbove p r.id (Downs parent_as z os)) (sym child) (lost parent_as p r.id older found'.0 wait.child os (λ same. l.3 (same ∙ sym child)) found'.1)
+            subst (λ (z : Peer). BrokeAbove p r.id (Downs parent_as z os)) (sym child) (lost_child p r.id older found'.0 wait.child os (λ same. l.3 (same ∙ sym child)) found'.1)
     above_broken (Solves at k os keys) within one meets i = go (at_here parent_as out at os i) one.cause
       where
         upper : (h : AskingRow) (answer : Option Found) (m : Message) → TellsUpper c h answer m → In out (record { to = h.1.key.peer; message = m } ∷ []) → ⊥
@@ -705,7 +715,7 @@ opening_none d p r (Solves at k os keys) is i = absurd is
 opening_none d p r (Expires now) is i = absurd is
 opening_none d p r (Hands j bytes) is i = absurd is
 
-module _ (c : Codec) (codec : IsCodec c) (n : NetworkParts) (net : IsNetwork n) (stays : StaysInside n) (es : List Entry) (s : Plant) (run : Run c n es s) (written : AllSent IsWritten (deeds_of c n es)) (short : IsShort (deeds_of c n es)) where
+module _ (c : Codec) (codec : IsCodec c) (n : NetworkParts) (net : IsNetwork n) (es : List Entry) (s : Plant) (run : Run c n es s) (written : AllSent IsWritten (deeds_of c n es)) (short : IsShort (deeds_of c n es)) where
   abbrev Before : Transcript → Type 0
   Before older =
       (d b : As) (r : Reply) (deed : PlantDeed) (older' : Transcript) → Within (deed ∷ older') older → In {A = Output} (record { to = Inner d; message = messages.PcRep (r ∷ []) }) (outputs_at b deed) → ¬ TellsOfPaths r.answer → Breaks c n (run_of c n es s run) b (Inner d) r.id deed older'
@@ -720,13 +730,13 @@ module _ (c : Codec) (codec : IsCodec c) (n : NetworkParts) (net : IsNetwork n) 
       upper : d ≡ parent_as → CausedIn c n es s run deed older → Breaks c n (run_of c n es s run) d p r.id deed older
       upper is got =
           subst (λ (z : As). Breaks c n (run_of c n es s run) z p r.id deed older) (sym is)
-          (above_broken p r broken c codec n net stays es s run written short older (λ b r' deed' older'. before parent_as b r' deed' older') deed within got.0 got.1
+          (above_broken p r broken c codec n net es s run written short older (λ b r' deed' older'. before parent_as b r' deed' older') deed within got.0 got.1
           (subst (λ (z : As). In {A = Output} (record { to = p; message = messages.PcRep (r ∷ []) }) (outputs_at z deed)) is i))
 
       go : (b : Bool) → same_as d parent_as ≡ b → CausedIn c n es s run deed older → Breaks c n (run_of c n es s run) d p r.id deed older
       go true is got = upper (same_as_is d parent_as is) got
       go false is got =
-          deed_broken p r broken c codec n net stays es s run written short d (λ same. not_both (same_as d parent_as) (ap (λ (z : As). same_as z parent_as) same) is) older (λ b r' deed' older'. before d b r' deed' older') deed within got.0 got.1 i
+          deed_broken p r broken c codec n net es s run written short d (λ same. not_both (same_as d parent_as) (ap (λ (z : As). same_as z parent_as) same) is) older (λ b r' deed' older'. before d b r' deed' older') deed within got.0 got.1 i
 
   by_length : (most : ℕ) (d : As) (p : Peer) (r : Reply) (deed : PlantDeed) (older : Transcript) → length older ≤ most → Within (deed ∷ older) (deeds_of c n es) →
       In {A = Output} (record { to = p; message = messages.PcRep (r ∷ []) }) (outputs_at d deed) → ¬ TellsOfPaths r.answer → Breaks c n (run_of c n es s run) d p r.id deed older
@@ -739,5 +749,5 @@ module _ (c : Codec) (codec : IsCodec c) (n : NetworkParts) (net : IsNetwork n) 
       (within_trans (deed' ∷ older') older (deeds_of c n es) within' (within_tail deed older (deeds_of c n es) within)) i' broken')
 
 pub broken_for_reasons : WrittenNetIds BrokenForReasonsIn
-broken_for_reasons c codec n net es s run written short stays run' d p r deed older within has broken =
-    by_length c codec n net stays es s run' written short (length older) d p r deed older (omega arith) within (in_at _ (outputs_at d deed) has) broken
+broken_for_reasons c codec n net es s run written short run' d p r deed older within has broken =
+    by_length c codec n net es s run' written short (length older) d p r deed older (omega arith) within (in_at _ (outputs_at d deed) has) broken

@@ -1,6 +1,6 @@
 -- Which errors elements and the parent send one another, by induction over the moments of a run.
 use Rattle.std.proofs.Common.{◌≡◌, ◌≢◌, ◌≤◌, ℕ, zero, suc, Bool, true, false, cond, List, [], ◌∷◌, ◌++◌, length, map, Option, Some, None, sym, ◌∙◌, ap, subst, inl, inr, refl, arith}
-use Rattle.std.specs.Prelude.{Contains}
+use Rattle.std.specs.Prelude.{◌⊎◌, Contains}
 use Rattle.dom_base.specs.declared.names.As.{As}
 use Rattle.dom_base.specs.declared.addr.Addr.{Addr}
 use Rattle.dom_base.specs.declared.names.Peer.{Peer}
@@ -28,7 +28,6 @@ use Rattle.plant_model.specs.declared.output.Output.{Output}
 use Rattle.plant_model.specs.Names.{the_parent}
 use Rattle.plant_model.specs.Wire.{Codec, Checked, Admitted, Wrong}
 use Rattle.plant_model.specs.Laws.{IsCodec, IsNetwork}
-use Rattle.plant_model.specs.Routes.{StaysInside}
 use Rattle.plant_model.specs.Writing.{asked_of, request_message, error_message, unavailable, ends_kind, vspt_flag}
 use Rattle.plant_model.specs.Element.{Element, is_client}
 use Rattle.plant_model.specs.Taking.{take}
@@ -38,12 +37,12 @@ use Rattle.plant_model.specs.State.{Loads, Pops, Takes, Says, Ups, Downs, Clears
 use Rattle.plant_model.specs.Deeds.{our_offer, own_message}
 use Rattle.plant_model.specs.Plant.{Pin, Segment, Plant, PlantDeed, Entry, Run, deeds_of}
 use Rattle.plant_laws.specs.About.{IsShort}
-use Rattle.plant_laws.specs.Causes.{IsLost, IsLostAbove, AnswersLost, asker_of, asker_above, left_rows, left_above, Passes, from_outside, from_inside, OnPassed, by_element, by_parent, OfSession, by_table, anew, OfSolve, of_element, of_parent}
-use Rattle.plant_laws.specs.Errors.{IsInnerError, names_none, answers_reply, refuses_ipv6, InnerErrorsIn}
-use Rattle.plant_laws.specs.MessageCauses.{Asker, replied, WaitsAt, WaitsAbove, OnReply, unknown, goes_on, is_kept, is_broken, OnNotice, next_is_full, noted_for_nobody, of_other_kind, IsOutOfProfile, OnError, failed_for_nobody, of_reply, out_of_profile, other_error, OnPath, ends_here, no_session, is_refused, sent_on, OnRequest, wrong, again, key_shown, key_refused, no_room, for_path, AreAsked, OnRequestAbove, wrong_above, again_above, key_above, no_room_above, child_down, all_asked, Part, Notes, alone, noted, parts, OnParts, OnMessage}
+use Rattle.plant_laws.specs.Causes.{IsLost, IsLostAbove, AnswersLost, asker_of, asker_above, left_rows, left_above, Passes, from_outside, from_inside, OnPassed, by_element, by_parent, OfSession, by_table, anew, OfSolve, of_element, of_parent, HaveCauses}
+use Rattle.plant_laws.specs.Errors.{chain_failed, Unserved, IsInnerError, names_none, answers_reply, refuses_ipv6, fails, InnerErrorsIn}
+use Rattle.plant_laws.specs.MessageCauses.{Asker, told as told', replied, WaitsAt, WaitsAbove, OnReply, unknown, goes_on, is_kept, is_broken, OnNotice, next_is_full, noted_for_nobody, of_other_kind, IsOutOfProfile, OnError, failed_for_nobody, of_reply, out_of_profile, other_error, OnPath, ends_here, no_session, is_refused, sent_on, OnRequest, wrong, again, key_shown, key_refused, no_room, for_path, AreAsked, OnRequestAbove, wrong_above, again_above, key_above, no_room_above, child_down, all_asked, Part, Notes, alone, noted, parts, OnParts, OnMessage}
 use Rattle.plant_laws.specs.Sending.{AllSent}
 use Rattle.plant_laws.specs.Solves.{ElementTells, TellsClient, its_path, no_pair, TellsClosed, branches, no_branch, lacks_keys, TellsUpper, found, no_walk}
-use Rattle.plant_laws.specs.Transcript.{Transcript, Within, Standing, SentIn, outputs_at}
+use Rattle.plant_laws.specs.Transcript.{Transcript, Within, SentIn, outputs_at}
 use Rattle.plant_laws.proofs.WrittenForm.Again.{all_read}
 use Rattle.plant_laws.proofs.Settled.Alive.{IsSound}
 use Rattle.plant_laws.proofs.Once.Alone.{takes_alone}
@@ -51,25 +50,22 @@ use Rattle.plant_laws.proofs.Once.AskedRuns.{asked_of_run, none_outside}
 use Rattle.plant_laws.proofs.Once.Asks.{Asks, IsMet, admitted, refused}
 use Rattle.plant_laws.proofs.Reasons.MomentCauses.{HasOne, IsOpening, moment_cause, outs, head_of, in_two, at_here}
 use Rattle.plant_laws.proofs.Runs.Decompose.{nil_right}
-use Rattle.plant_laws.proofs.Reasons.ErrorParts.{unknown_fine, kind_fine, one_error, outside_silent}
+use Rattle.plant_laws.proofs.Reasons.ErrorParts.{unknown_fine, kind_fine, one_error}
+use Rattle.plant_laws.proofs.Reasons.Stood.{put_before, sound, in_form}
+use Rattle.plant_laws.proofs.Reasons.ChildRests.{child_rests}
+use Rattle.plant_laws.proofs.Reasons.Heard.{HearsError, hears_error}
+use Rattle.plant_laws.proofs.Reasons.Unserved.{by_outside, by_inner}
 use Rattle.plant_laws.proofs.Least.FromElement.{within_tail, later_sequence, along_sequence, same_asked, same_first}
 use Rattle.plant_laws.proofs.Least.Given.{IsAsked}
 use Rattle.plant_laws.proofs.Once.Handing.{In}
-use Rattle.plant_laws.proofs.Numbering.Known.{IsForm, own_none, Prem}
-use Rattle.plant_laws.proofs.Runs.Moments.{standing_put, within_trans, within_length}
+use Rattle.plant_laws.proofs.Numbering.Known.{IsForm}
+use Rattle.plant_laws.proofs.Runs.Moments.{within_trans, within_length}
 use Rattle.plant_laws.proofs.Reasons.PartCauses.{in_at, not_both}
 use Rattle.plant_laws.proofs.Runs.Queues.{same_as_is}
-use Rattle.plant_laws.proofs.WrittenForm.ReadBack.{run_single, standing_sent}
-use Rattle.plant_laws.proofs.Least.ReadyRows.{sent_within}
 use Rattle.plant_laws.proofs.Runs.NoLoops.{not_to_itself}
-use Rattle.plant_laws.proofs.Runs.Readings.{messages_are_read}
-use Rattle.plant_laws.proofs.Runs.Rows as table
 use Rattle.plant_laws.proofs.Numbering.Sends.{IsAlone, Each, Each-within}
-use Rattle.plant_laws.proofs.WrittenForm.Sent.{run_sent}
 use Rattle.plant_laws.proofs.Numbering.SentOnAsks.{ends_are}
-use Rattle.plant_laws.proofs.Settled.UnderWayRuns.{run_inv}
 use Rattle.plant_laws.proofs.WrittenForm.WhereWritten.{WrittenNetIds}
-use Rattle.border_costs.proofs.Members.{contains_head}
 
 -- ---- errors among what is said
 
@@ -105,17 +101,19 @@ wrong_said rp rp' kind kind' value value' same = ap said same
 above_is : (a : As) → same_as a parent_as ≡ false → a ≢ parent_as
 above_is a low same = not_both (same_as a parent_as) (ap (λ (z : As). same_as z parent_as) same) low
 
-module _ (c : Codec) (codec : IsCodec c) (n : NetworkParts) (es : List Entry) (s : Plant) (run : Run c n es s) (written : AllSent IsWritten (deeds_of c n es)) where
-  -- ---- what stood in an inner queue was sent
+-- b said to d before that a chain failed, for a reason of its own
+pub record SaysFailed (c : Codec) (d b : As) (reports : List ErrorReport) (older : Transcript) : Type 0 where
+  pub flags : ℕ
+  pub id : ℕ
+  pub names : messages.PcErr reports ≡ chain_failed flags id
+  pub deed : PlantDeed
+  pub before : Transcript
+  pub within : Within (deed ∷ before) older
+  pub said : SentIn (deed ∷ before) b (Inner d) (messages.PcErr reports)
+  pub low : d ≢ parent_as
+  pub why : Unserved c b (Inner d) id deed before
 
-  pub put_before : (a at : As) (m : Message) (os : List Output) (older : Transcript) → Within (Takes at (Inner a) m os ∷ older) (deeds_of c n es) → (put : Transcript) × Within put older × SentIn put a (Inner at) m
-  put_before a at m os older within =
-      let q = (messages_are_read c codec n es s run written).queues a at m os older within in
-      let x : Standing = record { message = m; put = q.put } in
-      let was = standing_put a at q.before x (subst (λ (l : List Standing). Contains l x) (sym q.stood) (contains_head x q.rest)) in
-      (q.put, subst (λ (l : Transcript). Within q.put l) (sym q.is_popped) (inr was.within), was.sent)
-
-module _ (c : Codec) (codec : IsCodec c) (n : NetworkParts) (net : IsNetwork n) (stays : StaysInside n) (es : List Entry) (s : Plant) (run : Run c n es s) (written : AllSent IsWritten (deeds_of c n es)) (short : IsShort (deeds_of c n es)) where
+module _ (c : Codec) (codec : IsCodec c) (n : NetworkParts) (net : IsNetwork n) (es : List Entry) (s : Plant) (run : Run c n es s) (written : AllSent IsWritten (deeds_of c n es)) (short : IsShort (deeds_of c n es)) where
   abbrev now : Transcript
   now = deeds_of c n es
 
@@ -149,22 +147,6 @@ module _ (c : Codec) (codec : IsCodec c) (n : NetworkParts) (net : IsNetwork n) 
             }
           ]
 
-  -- what the parent asks is admitted
-  form : AllSent IsForm now
-  form = run_sent IsForm (λ y w t rest ask. (y, w, t, rest, refl)) (λ flags id a ask. absurd ask) (λ flags id ask. absurd ask) (λ rp kind value ask. absurd ask) (λ o ask. absurd (own_none o ask)) c n es s run
-
-  sound : Each (IsSound c) now
-  sound =
-      let prem : Prem c n codec net now = (written, form, run_single c n codec es s run written, short) in
-      ((run_inv c n codec net es s run).0.2 prem).sound
-
-  in_form : (a at : As) (m : Message) (os : List Output) (older : Transcript) → Within (Takes at (Inner a) m os ∷ older) now → IsForm m
-  in_form a at m os older within =
-      let q = (messages_are_read c codec n es s run written).queues a at m os older within in
-      let x : Standing = record { message = m; put = q.put } in
-      let inside : Within (Pops a at ∷ q.before) now = subst (λ (l : Transcript). Within l now) q.is_popped (within_tail (Takes at (Inner a) m os) older now within) in
-      standing_sent IsForm a at q.before x (sent_within IsForm q.before now (within_tail (Pops a at) q.before now inside) form) (subst (λ (l : List Standing). table.In x l) (sym q.stood) (inl refl))
-
   by_parent' : (at : As) → (at ≡ parent_as → ⊥) → (x : Asked) → IsForm (messages.PcReq (x ∷ [])) → (put : Transcript) → Within put now → SentIn put parent_as (Inner at) (messages.PcReq (x ∷ [])) →
       (rp : Option (ℕ × ℕ)) (kind value : ℕ) → c.check x at ≡ Wrong rp kind value → ⊥
   by_parent' at low x formed [] within sent rp kind value is = absurd sent
@@ -186,7 +168,7 @@ module _ (c : Codec) (codec : IsCodec c) (n : NetworkParts) (net : IsNetwork n) 
       written_so = (formed tt).4
 
       ask : Asks c (request_message id wanted end sequence) at id sequence
-      ask = Each-within (IsSound c) now sound e older within parent_as at id wanted end sequence (in_at _ (outputs_at parent_as e) (subst (λ (m : Message). Contains (outputs_at parent_as e) (record { to = Inner at; message = m })) written_so sent))
+      ask = Each-within (IsSound c) now (sound c codec n net es s run written short) e older within parent_as at id wanted end sequence (in_at _ (outputs_at parent_as e) (subst (λ (m : Message). Contains (outputs_at parent_as e) (record { to = Inner at; message = m })) written_so sent))
 
       same : x ≡ asked_of id ask.sent ask.end sequence
       same = same_asked x (asked_of id ask.sent ask.end sequence) (written_so ∙ ask.is)
@@ -201,7 +183,7 @@ module _ (c : Codec) (codec : IsCodec c) (n : NetworkParts) (net : IsNetwork n) 
   refused_for a at linked x os older within rp kind value is = go (same_as a parent_as) refl
     where
       p : (put : Transcript) × Within put older × SentIn put a (Inner at) (messages.PcReq (x ∷ []))
-      p = put_before c codec n es s run written a at (messages.PcReq (x ∷ [])) os older within
+      p = put_before c codec n net es s run written short a at (messages.PcReq (x ∷ [])) os older within
 
       inside : Within p.0 now
       inside = within_trans p.0 older now p.1 (within_tail (Takes at (Inner a) (messages.PcReq (x ∷ [])) os) older now within)
@@ -209,7 +191,7 @@ module _ (c : Codec) (codec : IsCodec c) (n : NetworkParts) (net : IsNetwork n) 
       upper : a ≡ parent_as → IsIpv6 at x rp kind value
       upper up =
           absurd (by_parent' at (λ above. not_to_itself n net (subst (λ (z : As). is_linked n z parent_as ≡ true) up (subst (λ (z : As). is_linked n a z ≡ true) above linked))) x
-          (in_form a at (messages.PcReq (x ∷ [])) os older within) p.0 inside (subst (λ (z : As). SentIn p.0 z (Inner at) (messages.PcReq (x ∷ []))) up p.2) rp kind value is)
+          (in_form c codec n net es s run written short a at (messages.PcReq (x ∷ [])) os older within) p.0 inside (subst (λ (z : As). SentIn p.0 z (Inner at) (messages.PcReq (x ∷ []))) up p.2) rp kind value is)
 
       go : (b : Bool) → same_as a parent_as ≡ b → IsIpv6 at x rp kind value
       go true up = upper (same_as_is a parent_as up)
@@ -220,14 +202,14 @@ module _ (c : Codec) (codec : IsCodec c) (n : NetworkParts) (net : IsNetwork n) 
   abbrev Before : Transcript → Type 0
   Before older =
       (a d : As) (reports : List ErrorReport) (deed : PlantDeed) (older' : Transcript) → Within (deed ∷ older') older →
-      In {A = Output} (record { to = Inner a; message = messages.PcErr reports }) (outputs_at d deed) → IsInnerError a d deed (messages.PcErr reports)
+      In {A = Output} (record { to = Inner a; message = messages.PcErr reports }) (outputs_at d deed) → IsInnerError c a d deed older' (messages.PcErr reports)
 
   module _ (a d : As) (reports : List ErrorReport) (older : Transcript) (rec : Before older) where
     abbrev out : Output
     out = record { to = Inner a; message = messages.PcErr reports }
 
     abbrev Told : PlantDeed → Type 0
-    Told deed = IsInnerError a d deed (messages.PcErr reports)
+    Told deed = IsInnerError c a d deed older (messages.PcErr reports)
 
     not_said : {X : Type 0} (q : Peer) (m : Message) → is_err m ≡ false → In out (record { to = q; message = m } ∷ []) → X
     not_said q m none (inl is) = not_both (is_err m) (sym (ap (λ (o : Output). is_err o.message) is)) none
@@ -294,25 +276,25 @@ module _ (c : Codec) (codec : IsCodec c) (n : NetworkParts) (net : IsNetwork n) 
         | inr one ↦ error_none (kind, value) one.0 k os (λ out'. fine one.0 one.1 out') one.2 i
       ]
 
-    -- errors of an inner peer
-    inner_fine : (b : As) (reports' : List ErrorReport) (os : List Output) → Within (Takes d (Inner b) (messages.PcErr reports') os ∷ older) now →
-        (rp : Option (ℕ × ℕ)) × (kind : ℕ) × (value : ℕ) × (messages.PcErr reports' ≡ error_message rp kind value) × ((rp' : ℕ × ℕ) → rp ≡ Some rp' → IsOutOfProfile (kind, value) → ⊥)
-    inner_fine b reports' os within = by (put_before c codec n es s run written b d (messages.PcErr reports') os older within)
-      where
-        told : (deed' : PlantDeed) → IsInnerError d b deed' (messages.PcErr reports') →
-            (rp : Option (ℕ × ℕ)) × (kind : ℕ) × (value : ℕ) × (messages.PcErr reports' ≡ error_message rp kind value) × ((rp' : ℕ × ℕ) → rp ≡ Some rp' → IsOutOfProfile (kind, value) → ⊥)
-        told deed' (names_none kind value is) = (None, kind, value, is, λ rp' none. absurd (let clash : ◌≡◌ {A = Option (ℕ × ℕ)} None (Some rp') = none in cc))
-        told deed' (answers_reply rp is) = (Some rp, errors.UNKNOWN_REQUEST.0, errors.UNKNOWN_REQUEST.1, is, λ rp' some out'. unknown_fine out')
-        told deed' (refuses_ipv6 id up asks is) = (Some (vspt_flag, id), errors.KIND_NOT_SERVED.0, errors.KIND_NOT_SERVED.1, is, λ rp' some out'. kind_fine out')
+    -- errors of an inner peer: one that is not out of the profile, or that a chain failed
+    abbrev IsFine : List ErrorReport → Type 0
+    IsFine reports' = (rp : Option (ℕ × ℕ)) × (kind : ℕ) × (value : ℕ) × (messages.PcErr reports' ≡ error_message rp kind value) × ((rp' : ℕ × ℕ) → rp ≡ Some rp' → IsOutOfProfile (kind, value) → ⊥)
 
-        by : (put : Transcript) × Within put older × SentIn put b (Inner d) (messages.PcErr reports') →
-            (rp : Option (ℕ × ℕ)) × (kind : ℕ) × (value : ℕ) × (messages.PcErr reports' ≡ error_message rp kind value) × ((rp' : ℕ × ℕ) → rp ≡ Some rp' → IsOutOfProfile (kind, value) → ⊥)
+    inner_fine : (b : As) (reports' : List ErrorReport) (os : List Output) → Within (Takes d (Inner b) (messages.PcErr reports') os ∷ older) now → IsFine reports' ⊎ SaysFailed c d b reports' older
+    inner_fine b reports' os within = by (put_before c codec n net es s run written short b d (messages.PcErr reports') os older within)
+      where
+        told : (deed' : PlantDeed) (before : Transcript) → Within (deed' ∷ before) older → SentIn (deed' ∷ before) b (Inner d) (messages.PcErr reports') → IsInnerError c d b deed' before (messages.PcErr reports') → IsFine reports' ⊎ SaysFailed c d b reports' older
+        told deed' before w sent (names_none kind value is) = inl (None, kind, value, is, λ rp' none. absurd (let clash : ◌≡◌ {A = Option (ℕ × ℕ)} None (Some rp') = none in cc))
+        told deed' before w sent (answers_reply rp is) = inl (Some rp, errors.UNKNOWN_REQUEST.0, errors.UNKNOWN_REQUEST.1, is, λ rp' some out'. unknown_fine out')
+        told deed' before w sent (refuses_ipv6 id up asks is) = inl (Some (vspt_flag, id), errors.KIND_NOT_SERVED.0, errors.KIND_NOT_SERVED.1, is, λ rp' some out'. kind_fine out')
+        told deed' before w sent (fails flags id low asker_low why is) = inr (record { flags = flags; id = id; names = is; deed = deed'; before = before; within = w; said = sent; low = asker_low; why = why })
+
+        by : (put : Transcript) × Within put older × SentIn put b (Inner d) (messages.PcErr reports') → IsFine reports' ⊎ SaysFailed c d b reports' older
         by p = go p.0 p.1 p.2
           where
-            go : (put : Transcript) → Within put older → SentIn put b (Inner d) (messages.PcErr reports') →
-                (rp : Option (ℕ × ℕ)) × (kind : ℕ) × (value : ℕ) × (messages.PcErr reports' ≡ error_message rp kind value) × ((rp' : ℕ × ℕ) → rp ≡ Some rp' → IsOutOfProfile (kind, value) → ⊥)
+            go : (put : Transcript) → Within put older → SentIn put b (Inner d) (messages.PcErr reports') → IsFine reports' ⊎ SaysFailed c d b reports' older
             go [] w sent = absurd sent
-            go (e ∷ before) w sent = told e (rec d b reports' e before w (in_at _ (outputs_at b e) sent))
+            go (e ∷ before) w sent = told e before w sent (rec d b reports' e before w (in_at _ (outputs_at b e) sent))
 
     -- ---- a request is refused
 
@@ -364,30 +346,75 @@ module _ (c : Codec) (codec : IsCodec c) (n : NetworkParts) (net : IsNetwork n) 
 
     -- ---- a message is taken
 
-    module _ (entries : List Entry) (before : Plant) (run' : Run c n entries before) (short' : IsShort (deeds_of c n entries)) where
-      errors_none : {X : Type 0} (q : Peer) (pin : Pin) (reports' : List ErrorReport) (all : List Output) → Within (Takes d q (messages.PcErr reports') all ∷ older) now → OnMessage c n d pin q before.clock (messages.PcErr reports') (before.elements d) all → In out all → X
-      errors_none (Outside j) pin reports' all within on i = nothing all (outside_silent c codec n net stays d entries before run' short' j pin reports' all on) i
-      errors_none (Inner b) pin reports' all within on i =
-          let f = inner_fine b reports' all within in
+    module _ (entries : List Entry) (before : Plant) (run' : Run c n entries before) (short' : IsShort (deeds_of c n entries)) (earlier : Transcript) (is_then : older ≡ earlier ++ deeds_of c n entries) (event : Event)
+        (causes : HaveCauses c n before event earlier) (low : d ≢ parent_as) where
+      -- no request of the parent waits
+      no_parent : (q : Peer) (y : ℕ) (w : Asker) → WaitsAt (before.elements d) q y w → Inner a ≡ w.peer → a ≢ parent_as
+      no_parent q y w waits peer up =
+          child_rests c codec n net entries before run' short' d waits.row waits.is_row (sym (ap (λ (z : Asker). z.peer) waits.asked) ∙ sym peer ∙ ap (λ (z : As). let o : Peer = Inner z in o) up) q y waits.waits
+
+      -- so it is told on
+      failed_told : (q : Peer) (reports' : List ErrorReport) (all : List Output) (w : Asker) (y : ℕ) → WaitsAt (before.elements d) q y w → In out (told' w (chain_failed w.flags w.id)) →
+          (In {A = Output} (record { to = Inner a; message = chain_failed w.flags w.id }) all → Unserved c d (Inner a) w.id (Takes d q (messages.PcErr reports') all) older) → In out all → Told (Takes d q (messages.PcErr reports') all)
+      failed_told q reports' all w y waits says unserved i =
+          let this = this_one w.peer (chain_failed w.flags w.id) says in
+          fails w.flags w.id low (no_parent q y w waits this.0) (unserved (subst (λ (m : Message). In {A = Output} (record { to = Inner a; message = m }) all) this.1 i)) this.1
+
+      outside_told : (j : ℕ) (pin : Pin) (reports' : List ErrorReport) (all : List Output) → Within (Takes d (Outside j) (messages.PcErr reports') all ∷ older) now → Passes c n before event d (Outside j) (messages.PcErr reports') →
+          OnMessage c n d pin (Outside j) before.clock (messages.PcErr reports') (before.elements d) all → In out all → Told (Takes d (Outside j) (messages.PcErr reports') all)
+      outside_told j pin reports' all within passes on i = by (hears_error c n d pin (Outside j) before.clock reports' (before.elements d) all out on i)
+        where
+          by : HearsError c n d pin (Outside j) before.clock (before.elements d) out reports' → Told (Takes d (Outside j) (messages.PcErr reports') all)
+          by h = elim h.says [
+            | inl o ↦
+                failed_told (Outside j) reports' all h.asker h.rp.1 h.waits o.1
+                (λ said. by_outside c codec n net es s run written short d low older (Outside j) entries before run' earlier is_then event causes (Inner a) h.asker.id h.asker.flags reports' all within passes said j refl pin on) i
+            | inr o ↦ not_said h.asker.peer _ refl o.2
+          ]
+
+      inner_told : (b : As) (pin : Pin) (reports' : List ErrorReport) (all : List Output) → Within (Takes d (Inner b) (messages.PcErr reports') all ∷ older) now → Passes c n before event d (Inner b) (messages.PcErr reports') →
+          OnMessage c n d pin (Inner b) before.clock (messages.PcErr reports') (before.elements d) all → In out all → IsFine reports' ⊎ SaysFailed c d b reports' older → Told (Takes d (Inner b) (messages.PcErr reports') all)
+      inner_told b pin reports' all within passes on i (inl f) =
           own_error_none (Element Pin Segment) (λ k'. WaitsAt k' (Inner b)) (OnRequest c n d (Inner b) before.clock) (λ m' k'. (take c open_of (place n d) pin (Inner b) (class_of n (Inner b)) before.clock m' k').element) (same_peer (Inner b) the_parent) (Inner b)
           f.0 f.1 f.2 (messages.PcErr reports') (before.elements d) all f.4 f.3 on i
+      inner_told b pin reports' all within passes on i (inr f) = elim
+          (one_error (Element Pin Segment) (λ k'. WaitsAt k' (Inner b)) (OnRequest c n d (Inner b) before.clock) (λ m' k'. (take c open_of (place n d) pin (Inner b) (class_of n (Inner b)) before.clock m' k').element) (same_peer (Inner b) the_parent) (Inner b)
+          (Some (f.flags, f.id)) errors.CHAIN_FAILED.0 errors.CHAIN_FAILED.1 (messages.PcErr reports') (before.elements d) all f.names on) [
+            | inl none ↦ nothing all none i
+            | inr one ↦ by one.0 (let same : (f.flags, f.id) ≡ one.0 = (let eq = one.1 in cc) in ap (λ (z : ℕ × ℕ). z.1) (sym same)) one.2
+          ]
+        where
+          by : (rp : ℕ × ℕ) → rp.1 ≡ f.id → OnError (WaitsAt (before.elements d) (Inner b) rp.1) errors.CHAIN_FAILED all → Told (Takes d (Inner b) (messages.PcErr reports') all)
+          by rp same (failed_for_nobody none is) = nothing all is i
+          by rp same (of_reply of is) = nothing all is i
+          by rp same (other_error w waits no' no'' is) = not_said w.peer _ refl (subst (In out) is i)
+          by rp same (out_of_profile w waits out' is) =
+              let w' : WaitsAt (before.elements d) (Inner b) f.id w = subst (λ (y : ℕ). WaitsAt (before.elements d) (Inner b) y w) same waits in
+              let one = this_one w.peer (chain_failed w.flags w.id) (subst (In out) is i) in
+              failed_told (Inner b) reports' all w f.id w' (subst (In out) is i)
+              (λ said. by_inner c codec n net es s run written short d low older (Inner b) entries before run' earlier is_then event causes (Inner a) w.id w.flags reports' all within passes said b refl f.id f.flags f.names w w' one.0 refl f.deed f.before f.within f.said f.why) i
 
-      element_told : (q : Peer) (pin : Pin) (m : Message) (all : List Output) → Within (Takes d q m all ∷ older) now → IsAlone m → ((b : As) → q ≡ Inner b → is_linked n b d ≡ true) → OnMessage c n d pin q before.clock m (before.elements d) all → In out all → Told (Takes d q m all)
-      element_told q pin (messages.PcReq []) all within alone' linked on i = nothing all on i
-      element_told q pin (messages.PcReq (x ∷ [])) all within alone' linked on i = request_told q before.clock (before.elements d) x all on.0 within linked on.3 (subst (In out) (on.2 ∙ ap (λ (l : List Output). on.0 ++ l) on.4 ∙ nil_right on.0) i)
-      element_told q pin (messages.PcReq (x ∷ y ∷ rest)) all within alone' linked on i = absurd (omega (arith, alone'))
-      element_told q pin (messages.PcRep []) all within alone' linked on i = nothing all on i
-      element_told q pin (messages.PcRep (r ∷ [])) all within alone' linked on i =
+      errors_told : (q : Peer) (pin : Pin) (reports' : List ErrorReport) (all : List Output) → Within (Takes d q (messages.PcErr reports') all ∷ older) now → Passes c n before event d q (messages.PcErr reports') →
+          OnMessage c n d pin q before.clock (messages.PcErr reports') (before.elements d) all → In out all → Told (Takes d q (messages.PcErr reports') all)
+      errors_told (Outside j) pin reports' all within passes on i = outside_told j pin reports' all within passes on i
+      errors_told (Inner b) pin reports' all within passes on i = inner_told b pin reports' all within passes on i (inner_fine b reports' all within)
+
+      element_told : (q : Peer) (pin : Pin) (m : Message) (all : List Output) → Within (Takes d q m all ∷ older) now → IsAlone m → ((b : As) → q ≡ Inner b → is_linked n b d ≡ true) → Passes c n before event d q m → OnMessage c n d pin q before.clock m (before.elements d) all → In out all → Told (Takes d q m all)
+      element_told q pin (messages.PcReq []) all within alone' linked passes on i = nothing all on i
+      element_told q pin (messages.PcReq (x ∷ [])) all within alone' linked passes on i = request_told q before.clock (before.elements d) x all on.0 within linked on.3 (subst (In out) (on.2 ∙ ap (λ (l : List Output). on.0 ++ l) on.4 ∙ nil_right on.0) i)
+      element_told q pin (messages.PcReq (x ∷ y ∷ rest)) all within alone' linked passes on i = absurd (omega (arith, alone'))
+      element_told q pin (messages.PcRep []) all within alone' linked passes on i = nothing all on i
+      element_told q pin (messages.PcRep (r ∷ [])) all within alone' linked passes on i =
           reply_told (Element Pin Segment) (λ k'. WaitsAt k' q) (OnRequest c n d q before.clock) (λ m' k'. (take c open_of (place n d) pin q (class_of n q) before.clock m' k').element) (same_peer q the_parent) q (Takes d q (messages.PcRep (r ∷ [])) all) r (before.elements d) on.0 on.3
           (subst (In out) (on.2 ∙ ap (λ (l : List Output). on.0 ++ l) on.4 ∙ nil_right on.0) i)
-      element_told q pin (messages.PcRep (x ∷ y ∷ rest)) all within alone' linked on i = absurd (omega (arith, alone'))
-      element_told q pin (messages.PcNtf notices) all within alone' linked on i =
+      element_told q pin (messages.PcRep (x ∷ y ∷ rest)) all within alone' linked passes on i = absurd (omega (arith, alone'))
+      element_told q pin (messages.PcNtf notices) all within alone' linked passes on i =
           noted_none (Element Pin Segment) (λ k'. WaitsAt k' q) (OnRequest c n d q before.clock) (λ m' k'. (take c open_of (place n d) pin q (class_of n q) before.clock m' k').element) (same_peer q the_parent) q notices (before.elements d) all on i
-      element_told q pin (messages.PcErr reports') all within alone' linked on i = errors_none q pin reports' all within on i
-      element_told q pin (messages.Open body) all within alone' linked on i = nothing all on i
-      element_told q pin messages.Keepalive all within alone' linked on i = nothing all on i
-      element_told q pin (messages.Close why) all within alone' linked on i = nothing all on i
-      element_told q pin (messages.Other kind) all within alone' linked on i = nothing all on i
+      element_told q pin (messages.PcErr reports') all within alone' linked passes on i = errors_told q pin reports' all within passes on i
+      element_told q pin (messages.Open body) all within alone' linked passes on i = nothing all on i
+      element_told q pin messages.Keepalive all within alone' linked passes on i = nothing all on i
+      element_told q pin (messages.Close why) all within alone' linked passes on i = nothing all on i
+      element_told q pin (messages.Other kind) all within alone' linked passes on i = nothing all on i
 
     parent_told : (up : d ≡ parent_as) (k : parent.Parent) (left : Message → parent.Parent → parent.Parent) (q : Peer) (m : Message) (all : List Output) → Within (Takes d q m all ∷ older) now → IsAlone m → ((b : As) → q ≡ Inner b → is_linked n b d ≡ true) →
         OnParts parent.Parent (λ k'. WaitsAbove k' q) (OnRequestAbove c n q) left false q (parts m) k all → In out all → Told (Takes d q m all)
@@ -401,9 +428,10 @@ module _ (c : Codec) (codec : IsCodec c) (n : NetworkParts) (net : IsNetwork n) 
     parent_told up k left q (messages.PcNtf notices) all within alone' linked on i = noted_none parent.Parent (λ k'. WaitsAbove k' q) (OnRequestAbove c n q) left false q notices k all on i
     parent_told up k left (Outside j) (messages.PcErr reports') all within alone' linked on i =
         absurd (none_outside n net c codec es s run j (messages.PcErr reports') all older (subst (λ (z : As). Within (Takes z (Outside j) (messages.PcErr reports') all ∷ older) now) up within))
-    parent_told up k left (Inner b) (messages.PcErr reports') all within alone' linked on i =
-        let f = inner_fine b reports' all within in
-        own_error_none parent.Parent (λ k'. WaitsAbove k' (Inner b)) (OnRequestAbove c n (Inner b)) left false (Inner b) f.0 f.1 f.2 (messages.PcErr reports') k all f.4 f.3 on i
+    parent_told up k left (Inner b) (messages.PcErr reports') all within alone' linked on i = elim (inner_fine b reports' all within) [
+      | inl f ↦ own_error_none parent.Parent (λ k'. WaitsAbove k' (Inner b)) (OnRequestAbove c n (Inner b)) left false (Inner b) f.0 f.1 f.2 (messages.PcErr reports') k all f.4 f.3 on i
+      | inr f ↦ absurd (f.low up)
+    ]
     parent_told up k left q (messages.Open body) all within alone' linked on i = nothing all on i
     parent_told up k left q messages.Keepalive all within alone' linked on i = nothing all on i
     parent_told up k left q (messages.Close why) all within alone' linked on i = nothing all on i
@@ -448,14 +476,14 @@ module _ (c : Codec) (codec : IsCodec c) (n : NetworkParts) (net : IsNetwork n) 
     deed_told (Takes at q m os) within one i =
         let here = at_here d out at os i in
         let alone' = takes_alone c codec n es s run (all_read c codec now written) at q m os older within in
-        subst (λ (z : As). IsInnerError a d (Takes z q m os) (messages.PcErr reports)) (sym here.0)
+        subst (λ (z : As). IsInnerError c a d (Takes z q m os) older (messages.PcErr reports)) (sym here.0)
         (go here.0 (subst (λ (z : As). Within (Takes z q m os ∷ older) now) here.0 within) alone'
-        (λ b is. subst (λ (z : As). is_linked n b z ≡ true) here.0 (linked_by one.before one.event at q m one.cause.0 b is)) here.1 one.cause.1)
+        (λ b is. subst (λ (z : As). is_linked n b z ≡ true) here.0 (linked_by one.before one.event at q m one.cause.0 b is)) (subst (λ (z : As). Passes c n one.before one.event z q m) here.0 one.cause.0) here.1 one.cause.1)
       where
-        go : at ≡ d → Within (Takes d q m os ∷ older) now → IsAlone m → ((b : As) → q ≡ Inner b → is_linked n b d ≡ true) → In out os → OnPassed c n one.before one.event at q m os → Told (Takes d q m os)
-        go is within' alone' linked i' (by_parent up on) = parent_told (sym is ∙ same_as_is at parent_as up) one.before.parent (λ m' k'. (parent.take c (family n) q m' k').parent) q m os within' alone' linked on i'
-        go is within' alone' linked i' (by_element down on) =
-            element_told one.entries one.before one.run one.short q (one.before.current at) m os within' alone' linked
+        go : at ≡ d → Within (Takes d q m os ∷ older) now → IsAlone m → ((b : As) → q ≡ Inner b → is_linked n b d ≡ true) → Passes c n one.before one.event d q m → In out os → OnPassed c n one.before one.event at q m os → Told (Takes d q m os)
+        go is within' alone' linked passes i' (by_parent up on) = parent_told (sym is ∙ same_as_is at parent_as up) one.before.parent (λ m' k'. (parent.take c (family n) q m' k').parent) q m os within' alone' linked on i'
+        go is within' alone' linked passes i' (by_element down on) =
+            element_told one.entries one.before one.run one.short one.earlier one.is_then one.event one.causes (λ up. not_both (same_as at parent_as) (ap (λ (z : As). same_as z parent_as) (is ∙ up)) down) q (one.before.current at) m os within' alone' linked passes
             (subst (λ (z : As). OnMessage c n z (one.before.current at) q one.before.clock m (one.before.elements z) os) is on) i'
     deed_told (Downs at q os) within one i = go (same_as at parent_as) one.cause (at_here d out at os i).1
       where
@@ -506,14 +534,14 @@ module _ (c : Codec) (codec : IsCodec c) (n : NetworkParts) (net : IsNetwork n) 
     opening_told (Hands j bytes) is i = absurd is
 
   step : (a d : As) (reports : List ErrorReport) (deed : PlantDeed) (older : Transcript) → Within (deed ∷ older) now → In {A = Output} (record { to = Inner a; message = messages.PcErr reports }) (outputs_at d deed) → Before older →
-      IsInnerError a d deed (messages.PcErr reports)
+      IsInnerError c a d deed older (messages.PcErr reports)
   step a d reports deed older within i rec = elim (moment_cause c n es s run short deed older within) [
     | inl one ↦ deed_told a d reports older rec deed within one i
     | inr first ↦ opening_told a d reports older rec deed first i
   ]
 
   by_length : (most : ℕ) (a d : As) (reports : List ErrorReport) (deed : PlantDeed) (older : Transcript) → length older ≤ most → Within (deed ∷ older) now → In {A = Output} (record { to = Inner a; message = messages.PcErr reports }) (outputs_at d deed) →
-      IsInnerError a d deed (messages.PcErr reports)
+      IsInnerError c a d deed older (messages.PcErr reports)
   by_length zero a d reports deed older few within i =
       step a d reports deed older within i (λ a' d' reports' deed' older' within' i'. absurd (let less = within_length (deed' ∷ older') older within' in omega (arith, less, few)))
   by_length (suc most) a d reports deed older few within i =
@@ -522,8 +550,8 @@ module _ (c : Codec) (codec : IsCodec c) (n : NetworkParts) (net : IsNetwork n) 
       by_length most a' d' reports' deed' older' (let less = within_length (deed' ∷ older') older within' in omega (arith, less, few))
       (within_trans (deed' ∷ older') older now within' (within_tail deed older now within)) i')
 
-  pub told_of : (a d : As) (reports : List ErrorReport) (deed : PlantDeed) (older : Transcript) → Within (deed ∷ older) now → In {A = Output} (record { to = Inner a; message = messages.PcErr reports }) (outputs_at d deed) → IsInnerError a d deed (messages.PcErr reports)
+  pub told_of : (a d : As) (reports : List ErrorReport) (deed : PlantDeed) (older : Transcript) → Within (deed ∷ older) now → In {A = Output} (record { to = Inner a; message = messages.PcErr reports }) (outputs_at d deed) → IsInnerError c a d deed older (messages.PcErr reports)
   told_of a d reports deed older within i = by_length (length older) a d reports deed older (omega arith) within i
 
 pub inner_errors : WrittenNetIds InnerErrorsIn
-inner_errors c codec n net es s run written short stays a d reports deed older within has = told_of c codec n net stays es s run written short a d reports deed older within (in_at _ (outputs_at d deed) has)
+inner_errors c codec n net es s run written short a d reports deed older within has = told_of c codec n net es s run written short a d reports deed older within (in_at _ (outputs_at d deed) has)

@@ -1,12 +1,10 @@
 -- A notice that there is no room has a reason on the way of its request.
 use Rattle.std.proofs.Common.{◌≡◌, ◌≢◌, ◌≤◌, ◌+◌, ◌==◌, ℕ, zero, suc, Bool, true, false, cond, List, [], ◌∷◌, ◌++◌, length, map, Option, Some, None, eq-eqb, sym, ◌∙◌, ap, subst, inl, inr, refl, arith}
-use Rattle.std.specs.Prelude.{◌⊎◌}
 use Rattle.dom_base.specs.declared.names.As.{As}
 use Rattle.dom_base.specs.declared.addr.Addr.{Addr}
 use Rattle.dom_base.specs.declared.names.Peer.{Peer}
 use Rattle.dom_base.specs.declared.names.Peer.TheVariants.{Outside, Inner}
 use Rattle.disclosure.specs.Shown.{open_of}
-use Rattle.pcep_codes.specs.declared.notices.TheConstants as notices
 use Rattle.pcep_messages.specs.declared.message.Asked.{Asked}
 use Rattle.pcep_messages.specs.declared.message.ErrorReport.{ErrorReport}
 use Rattle.pcep_messages.specs.declared.message.Message.{Message}
@@ -17,19 +15,17 @@ use Rattle.pcep_messages.specs.declared.message.Wanted.{Wanted}
 use Rattle.pcep_messages.specs.Spelling.{IsWritten}
 use Rattle.pcep_session.specs.declared.actions.Own.{Own}
 use Rattle.pcep_session.specs.declared.actions.Own.TheVariants as own
-use Rattle.request_table.specs.declared.held.RequestKey.{RequestKey}
 use Rattle.request_table.specs.Pending.{IsFull, same_peer}
 use Rattle.plant_text.specs.declared.settings.NetworkParts.{NetworkParts}
 use Rattle.plant_text.specs.Names.{same_as, parent_as}
 use Rattle.plant_text.specs.Settings.{class_of}
 use Rattle.plant_model.specs.declared.event.Event.{Event}
 use Rattle.plant_model.specs.declared.output.Output.{Output}
-use Rattle.plant_model.specs.Names.{the_parent, has_pair}
+use Rattle.plant_model.specs.Names.{the_parent}
 use Rattle.plant_model.specs.Wire.{Codec}
 use Rattle.plant_model.specs.Laws.{IsCodec, IsNetwork}
-use Rattle.plant_model.specs.Routes.{toward}
 use Rattle.plant_model.specs.Writing.{request_message, busy, unavailable}
-use Rattle.plant_model.specs.Element.{Item, Element, Row, Waits, is_client, is_ready}
+use Rattle.plant_model.specs.Element.{Element, is_client}
 use Rattle.plant_model.specs.Taking.{take}
 use Rattle.plant_model.specs.Parent as parent
 use Rattle.plant_model.specs.Parent.{AskingRow, Parent}
@@ -40,20 +36,23 @@ use Rattle.plant_model.specs.Deeds.{own_message}
 use Rattle.plant_model.specs.Plant.{Pin, Segment, Plant, PlantDeed, Entry, Run, deeds_of}
 use Rattle.plant_laws.specs.About.{IsShort}
 use Rattle.plant_laws.specs.Causes.{IsLost, IsLostAbove, AnswersLost, asker_of, asker_above, left_rows, left_above, Passes, OnPassed, by_element, by_parent, OfSession, by_table, anew, OfSolve, of_element, of_parent, HaveCauses}
-use Rattle.plant_laws.specs.Full.{IsCrowded, HearsFull, HearsFullOutside, Fills, crowded, lacks, further_full, full_outside, FullForReasonsIn}
+use Rattle.plant_laws.specs.Full.{IsCrowded, HearsFull, Fills, crowded, lacks, outside_full, further_full, FullForReasonsIn}
 use Rattle.plant_laws.specs.Matched.{Answering, ends, at_once}
 use Rattle.plant_laws.specs.Met.{run_of, Meets}
-use Rattle.plant_laws.specs.MessageCauses.{Asker, replied, WaitsAt, WaitsAbove, OnReply, unknown, goes_on, is_kept, is_broken, OnNotice, next_is_full, noted_for_nobody, of_other_kind, OnError, failed_for_nobody, of_reply, out_of_profile, other_error, OnPath, ends_here, no_session, is_refused, sent_on, OnRequest, wrong, again, key_shown, key_refused, no_room, for_path, AreAsked, OnRequestAbove, wrong_above, again_above, key_above, no_room_above, child_down, all_asked, Part, Asks, Replies, Notes, Fails, alone, noted, failed_by, failed, parts, OnParts, OnMessage}
+use Rattle.plant_laws.specs.MessageCauses.{Asker, replied, WaitsAt, WaitsAbove, OnReply, unknown, goes_on, is_kept, is_broken, OnNotice, next_is_full, noted_for_nobody, of_other_kind, OnError, failed_for_nobody, of_reply, out_of_profile, other_error, OnPath, ends_here, no_session, is_refused, sent_on, OnRequest, wrong, again, key_shown, key_refused, no_room, for_path, AreAsked, OnRequestAbove, wrong_above, again_above, key_above, no_room_above, child_down, all_asked, Part, Notes, Fails, alone, noted, failed_by, failed, parts, OnParts, OnMessage}
 use Rattle.plant_laws.specs.Sending.{AllSent}
 use Rattle.plant_laws.specs.Solves.{ElementTells, TellsClient, its_path, no_pair, TellsClosed, branches, no_branch, lacks_keys, TellsUpper, found as found_walk, no_walk}
 use Rattle.plant_laws.specs.Transcript.{Transcript, Within, Standing, SentIn, Handed, opened, one_if, count_answers, answers_to, outputs_at}
-use Rattle.plant_laws.specs.Waiting.{GoesOn, WasSentOn}
+use Rattle.plant_laws.specs.Waiting.{WasSentOn}
+use Rattle.plant_laws.specs.WentOn.{WentOn}
 use Rattle.plant_laws.proofs.WrittenForm.Again.{all_read}
 use Rattle.plant_laws.proofs.Once.Alone.{takes_alone}
 use Rattle.plant_laws.proofs.Once.AskedRuns.{none_outside}
 use Rattle.plant_laws.proofs.Once.Besides.{answers_in}
 use Rattle.plant_laws.proofs.Runs.Decompose.{nil_right}
-use Rattle.plant_laws.proofs.Reasons.Errors.{put_before}
+use Rattle.plant_laws.proofs.Reasons.Stood.{put_before}
+use Rattle.plant_laws.proofs.Reasons.Heard.{HearsNotice, hears_notice}
+use Rattle.plant_laws.proofs.Reasons.Went.{went_on}
 use Rattle.plant_laws.proofs.WrittenForm.EveryWritten.{every_written}
 use Rattle.plant_laws.proofs.Once.Answering.{IsFairDeed, behaves, run_kept, must_end}
 use Rattle.plant_laws.proofs.Numbering.Counted.{low_of, ids_differ}
@@ -64,10 +63,9 @@ use Rattle.plant_laws.proofs.Least.FromElement.{within_tail}
 use Rattle.plant_laws.proofs.Least.GatheredRuns.{run_gathers}
 use Rattle.plant_laws.proofs.Least.Gathers.{IsFilled}
 use Rattle.plant_laws.proofs.Once.Handing.{In}
-use Rattle.plant_laws.proofs.Runs.Inboxes.{contains}
 use Rattle.plant_laws.proofs.Reasons.MomentCauses.{HasOne, IsOpening, moment_met, outs, solver, head_of, in_two, at_here}
 use Rattle.plant_laws.proofs.Runs.Moments.{within_trans, within_length, opened_within}
-use Rattle.plant_laws.proofs.Reasons.PartCauses.{in_at, not_both}
+use Rattle.plant_laws.proofs.Reasons.PartCauses.{contains_at, in_at, not_both}
 use Rattle.plant_laws.proofs.Runs.Queues.{same_as_is}
 use Rattle.plant_laws.proofs.WrittenForm.ReadBack.{AreRead, run_read, run_single, standing_sent}
 use Rattle.plant_laws.proofs.Runs.Readings.{messages_are_read}
@@ -76,7 +74,6 @@ use Rattle.plant_laws.proofs.Runs.Rows as table
 use Rattle.plant_laws.proofs.Numbering.Sends.{IsAlone, Each-within}
 use Rattle.plant_laws.proofs.WrittenForm.Sent.{run_sent}
 use Rattle.plant_laws.proofs.Once.StillOpen.{still_open}
-use Rattle.plant_laws.proofs.Least.Subsides.{notices_subs}
 use Rattle.plant_laws.proofs.Numbering.Taken.{peer_self}
 use Rattle.plant_laws.proofs.Settled.Waits.{waits_are_sent}
 use Rattle.plant_laws.proofs.WrittenForm.WhereWritten.{WrittenNetIds}
@@ -133,38 +130,6 @@ busy_counts p x flags (o ∷ os) (inl is) = subst (λ (y : Output). 1 ≤ cond (
     here = rw (peer_self p, eq-eqb x x refl) (omega arith)
 busy_counts p x flags (o ∷ os) (inr i) = let rec = busy_counts p x flags os i in omega (arith, rec)
 
--- ---- the parts of a message of notices
-
-abbrev IsNote : Part → Type 0
-IsNote (Notes kinds rp) = Unit {0}
-IsNote (Asks a) = ⊥
-IsNote (Replies r) = ⊥
-IsNote (Fails e rp) = ⊥
-
-abbrev AreNotes : List Part → Type 0
-AreNotes [] = Unit {0}
-AreNotes (x ∷ xs) = IsNote x × AreNotes xs
-
-notes_are : (kinds : List (ℕ × ℕ)) (ids : List (ℕ × ℕ)) (more : List Part) → AreNotes more → AreNotes (map (Notes kinds) ids ++ more)
-notes_are kinds [] more are = are
-notes_are kinds (rp ∷ ids) more are = (tt, notes_are kinds ids more are)
-
-noted_are : (ns : List Notice) → AreNotes (noted ns)
-noted_are [] = tt
-noted_are (m ∷ ms) = notes_are m.kinds m.ids (noted ms) (noted_are ms)
-
--- one of these parts told p of its request x, in a state that came of the first
-record IsTold (K : Type 0) (Waiting : K → ℕ → Asker → Type 0) (From : K → Type 0) (p : Peer) (x : ℕ) (xs : List Part) : Type 0 where
-  kinds : List (ℕ × ℕ)
-  rp : ℕ × ℕ
-  among : table.In (Notes kinds rp) xs
-  hit : has_pair notices.BUSY.0 notices.BUSY.1 kinds ≡ true
-  k : K
-  from : From k
-  asker : Asker
-  waits : Waiting k rp.1 asker
-  this : (p ≡ asker.peer) × (x ≡ asker.id)
-
 -- the deed that said so is about the request that was sent
 module _ (c : Codec) (codec : IsCodec c) (n : NetworkParts) (es : List Entry) (s : Plant) (run : Run c n es s) (written : AllSent IsWritten (deeds_of c n es)) (short : IsShort (deeds_of c n es)) (d : As) (real : d ≢ parent_as) (b : As) where
   abbrev now' : Transcript
@@ -179,10 +144,10 @@ module _ (c : Codec) (codec : IsCodec c) (n : NetworkParts) (es : List Entry) (s
   crowded_by : (id : ℕ) (deed : PlantDeed) (before : Transcript) → Fills c n (run_of c n es s run) b (Inner d) id deed before → (asks : List Asked) (os : List Output) → deed ≡ Takes b (Inner d) (messages.PcReq asks) os → IsCrowded c n (run_of c n es s run) b (Inner d) id deed before
   crowded_by id deed before (crowded b' q' x' deed' older' k) asks os is = k
   crowded_by id deed before (lacks b' q' x' deed' older' k) asks os is = no_lack k.before k.number asks os deed is k.tells
+  crowded_by id deed before (outside_full b' i q' x' older' told kinds rp os' there busy' went) asks os is =
+      absurd (let clash : ◌≡◌ {A = PlantDeed} (Takes b' (Outside i) (messages.PcNtf told) os') (Takes b (Inner d) (messages.PcReq asks) os) = is in cc)
   crowded_by id deed before (further_full b' a q' x' older' os' k deeper) asks os is =
       absurd (let clash : ◌≡◌ {A = PlantDeed} (Takes b (Inner a) (busy k.flags k.id) os') (Takes b (Inner d) (messages.PcReq asks) os) = is in cc)
-  crowded_by id deed before (full_outside b' i q' x' older' ns os' k) asks os is =
-      absurd (let clash : ◌≡◌ {A = PlantDeed} (Takes b (Outside i) (messages.PcNtf ns) os') (Takes b (Inner d) (messages.PcReq asks) os) = is in cc)
 
   answered_so : (id flags : ℕ) (deed : PlantDeed) (before : Transcript) → Within (deed ∷ before) now' → table.In {A = Output} (record { to = Inner d; message = busy flags id }) (outputs_at b deed) → Fills c n (run_of c n es s run) b (Inner d) id deed before → (at : Transcript) → Within at now' →
       (w : Wanted) (t : Addr) (rest : List As) → SentIn at d (Inner b) (request_message id w t rest) → Answering c d b id at deed before
@@ -276,36 +241,6 @@ module _ (p : Peer) (x flags : ℕ) where
         go : Ons (parts (busy flags' y)) k os → OnNotice (Waiting k y) ((1, 2) ∷ []) os
         go on' = subst (OnNotice (Waiting k y) ((1, 2) ∷ [])) (sym (on'.2 ∙ ap (λ (l : List Output). on'.0 ++ l) on'.4 ∙ nil_right on'.0)) on'.3
 
-    -- notices of a peer that say so
-    module _ (From : K → Type 0) (stays : (kinds : List (ℕ × ℕ)) (rp : ℕ × ℕ) (k : K) → From k → From (left (alone (Notes kinds rp)) k)) where
-      here_told : (kinds : List (ℕ × ℕ)) (rp : ℕ × ℕ) (xs : List Part) (k : K) (os : List Output) → From k → OnNotice (Waiting k rp.1) kinds os → In out os → IsTold K Waiting From p x (Notes kinds rp ∷ xs)
-      here_told kinds rp xs k os from (next_is_full w hit waits is) i = record {
-        kinds = kinds;
-        rp = rp;
-        among = inl refl;
-        hit = hit;
-        k = k;
-        from = from;
-        asker = w;
-        waits = waits;
-        this = this_one w.peer w.flags w.id (subst (In out) is i);
-      }
-      here_told kinds rp xs k os from (noted_for_nobody none is) i = nothing os is i
-      here_told kinds rp xs k os from (of_other_kind miss is) i = nothing os is i
-
-      later_told : (part : Part) (xs : List Part) → IsTold K Waiting From p x xs → IsTold K Waiting From p x (part ∷ xs)
-      later_told part xs t = record { kinds = t.kinds; rp = t.rp; among = inr t.among; hit = t.hit; k = t.k; from = t.from; asker = t.asker; waits = t.waits; this = t.this }
-
-      parts_told : (xs : List Part) → AreNotes xs → (k : K) (os : List Output) → From k → Ons xs k os → In out os → IsTold K Waiting From p x xs
-      parts_told [] are k os from on i = nothing os on i
-      parts_told (Notes kinds rp ∷ xs) are k os from on i = elim (in_two out on.0 on.1 (subst (In out) on.2 i)) [
-        | inl first ↦ here_told kinds rp xs k on.0 from on.3 first
-        | inr second ↦ later_told (Notes kinds rp) xs (parts_told xs are.1 (left (alone (Notes kinds rp)) k) on.1 (stays kinds rp k from) on.4 second)
-      ]
-      parts_told (Asks a ∷ xs) are k os from on i = absurd are.0
-      parts_told (Replies r ∷ xs) are k os from on i = absurd are.0
-      parts_told (Fails e rp ∷ xs) are k os from on i = absurd are.0
-
   module _ (c : Codec) (codec : IsCodec c) (n : NetworkParts) (net : IsNetwork n) (es : List Entry) (s : Plant) (run : Run c n es s) (written : AllSent IsWritten (deeds_of c n es)) (short : IsShort (deeds_of c n es)) (d : As) (older : Transcript)
       (rec : (b : As) (x' flags' : ℕ) (deed' : PlantDeed) (older' : Transcript) → Within (deed' ∷ older') older → In {A = Output} (record { to = Inner d; message = busy flags' x' }) (outputs_at b deed') → Fills c n (run_of c n es s run) b (Inner d) x' deed' older') where
     abbrev now : Transcript
@@ -344,7 +279,7 @@ module _ (p : Peer) (x flags : ℕ) where
     hears b flags' id os within at is_open w t rest sent = go put.0 put.1 put.2
       where
         put : (put : Transcript) × Within put older × SentIn put b (Inner d) (busy flags' id)
-        put = put_before c codec n es s run written b d (busy flags' id) os older within
+        put = put_before c codec n net es s run written short b d (busy flags' id) os older within
 
         go : (put : Transcript) → Within put older → SentIn put b (Inner d) (busy flags' id) → Full (Takes d (Inner b) (busy flags' id) os)
         go [] inside said = absurd said
@@ -412,60 +347,15 @@ module _ (p : Peer) (x flags : ℕ) where
             full = subst (λ (b : Bool). cond b (IsFull before.parent.pending) (IsFull (before.elements d).pending)) (sym low) full;
           }))
 
-      -- a row that waits on the peer stood there before
-      abbrev From : Element Pin Segment → Type 0
-      From k = (row : Row Pin) → table.In row k.pending.rows → (y : ℕ) → row.1.item.stage ≡ Waits q y → (h : Row Pin) × table.In h (before.elements d).pending.rows × (row.1.key ≡ h.1.key) × (row.1.item ≡ h.1.item)
-
-      from_stays : (pin : Pin) (kinds : List (ℕ × ℕ)) (rp : ℕ × ℕ) (k : Element Pin Segment) → From k → From (take c open_of (place n d) pin q (class_of n q) before.clock (alone (Notes kinds rp)) k).element
-      from_stays pin kinds rp k from row i y waits = go old.3
-        where
-          old : (h : Row Pin) × table.In h k.pending.rows × (row.1.key ≡ h.1.key) × ((row.1.item ≡ h.1.item) ⊎ (is_ready row.1.item.stage ≡ true))
-          old = notices_subs Pin Segment c q (record { ids = rp ∷ []; kinds = kinds } ∷ []) k row i
-
-          go : (row.1.item ≡ old.0.1.item) ⊎ (is_ready row.1.item.stage ≡ true) → (h : Row Pin) × table.In h (before.elements d).pending.rows × (row.1.key ≡ h.1.key) × (row.1.item ≡ h.1.item)
-          go (inl same) = let h = from old.0 old.1 y (ap (λ (z : Item Pin). z.stage) (sym same) ∙ waits) in (h.0, h.1, old.2 ∙ h.2, same ∙ h.3)
-          go (inr ready) = absurd (not_both (is_ready row.1.item.stage) ready (ap is_ready waits))
-
-      outside_says : (j : ℕ) → q ≡ Outside j → (ns : List Notice) (all : List Output) → Within (Takes d q (messages.PcNtf ns) all ∷ older) now → Passes c n before event d q (messages.PcNtf ns) → In out all →
-          IsTold (Element Pin Segment) (λ k'. WaitsAt k' q) From p x (noted ns) → Full (Takes d q (messages.PcNtf ns) all)
-      outside_says j is ns all within passes i t = subst (λ (z : Peer). Full (Takes d z (messages.PcNtf ns) all)) (sym is) (full_outside d j p x older ns all (hears_outside route.0 route.1 route.2 route.3))
-        where
-          o : (at : Transcript) × (opened c d p x older ≡ Some at)
-          o = open_then q ns all within i
-
-          h : (h : Row Pin) × table.In h (before.elements d).pending.rows × (t.waits.row.1.key ≡ h.1.key) × (t.waits.row.1.item ≡ h.1.item)
-          h = t.from t.waits.row (table.in_of t.waits.row t.k.pending.rows t.waits.is_row) t.rp.1 t.waits.waits
-
-          sent : WasSentOn c n (deeds_of c n entries) d h.0 (Outside j) t.rp.1
-          sent =
-              waits_are_sent c codec n net entries before run' d h.0 (contains h.0 (before.elements d).pending.rows h.1) (Outside j) t.rp.1
-              (ap (λ (z : Item Pin). z.stage) (sym h.3) ∙ t.waits.waits ∙ ap (λ (z : Peer). Waits z t.rp.1) is)
-
-          asked : t.asker ≡ record { peer = h.0.1.key.peer; flags = t.waits.row.1.item.flags; id = h.0.1.key.id }
-          asked = t.waits.asked ∙ ap (λ (z : RequestKey). let a : Asker = record { peer = z.peer; flags = t.waits.row.1.item.flags; id = z.id } in a) h.2
-
-          then : opened c d p x older ≡ Some sent.at
-          then = still ns passes o.0 sent.at o.1 (opened_as t.asker h.0.1.key.peer t.waits.row.1.item.flags h.0.1.key.id sent.at t.this asked sent.is_open)
-
-          by_route : GoesOn (place n d).routes h.0.1.item.sequence sent.rest (Outside j) → (next : As) × (more : List As) × (sent.rest ≡ next ∷ more) × (toward next (place n d).routes ≡ Outside j)
-          by_route (inl up) = absurd (let clash : Outside j ≡ the_parent = up.2 in cc)
-          by_route (inr on) = (on.1, on.2, on.4, sym on.5)
-
-          route : (next : As) × (more : List As) × (sent.rest ≡ next ∷ more) × (toward next (place n d).routes ≡ Outside j)
-          route = by_route sent.goes
-
-          hears_outside : (next : As) (more : List As) → sent.rest ≡ next ∷ more → toward next (place n d).routes ≡ Outside j → HearsFullOutside c n older d p x j ns
-          hears_outside next more rest goes = record {
-            at = sent.at;
-            is_open = then;
-            id = t.rp.1;
-            wanted = h.0.1.item.wanted;
-            next = next;
-            more = more;
-            sent = subst (λ (l : List As). SentIn sent.at d (Outside j) (request_message t.rp.1 h.0.1.item.wanted h.0.1.item.wanted.target l)) rest sent.sent;
-            route = goes;
-            says = record { kinds = t.kinds; rp = t.rp; among = contains (Notes t.kinds t.rp) (noted ns) t.among; same = refl; full = t.hit };
-          }
+      -- an outside peer said so
+      outer_full : (j : ℕ) → q ≡ Outside j → (pin : Pin) (ns : List Notice) (all : List Output) → Within (Takes d q (messages.PcNtf ns) all ∷ older) now → Passes c n before event d q (messages.PcNtf ns) →
+          In out all → HearsNotice c n d pin q before.clock (before.elements d) out ns → Full (Takes d q (messages.PcNtf ns) all)
+      outer_full j is pin ns all within passes i h =
+          let o = open_then q ns all within i in
+          let this = this_one h.asker.peer h.asker.flags h.asker.id h.says in
+          let went = went_on c codec n net d older q entries before run' earlier is_then event causes p x (messages.PcNtf ns) passes (λ no. no) o.0 o.1 h.rp.1 h.asker h.waits this.0 this.1 in
+          subst (λ (z : Peer). Full (Takes d z (messages.PcNtf ns) all)) (sym is)
+          (outside_full d j p x older ns h.kinds h.rp all (contains_at (Notes h.kinds h.rp) (noted ns) h.among) h.busy (subst (λ (z : Peer). WentOn c older d p x z h.rp.1) is went))
 
       inner_full : (b : As) → q ≡ Inner b → (ns : List Notice) (all : List Output) → Within (Takes d q (messages.PcNtf ns) all ∷ older) now → Passes c n before event d q (messages.PcNtf ns) → (y flags' : ℕ) → messages.PcNtf ns ≡ busy flags' y → OnNotice (WaitsAt (before.elements d) q y) ((1, 2) ∷ []) all →
           In out all → Full (Takes d q (messages.PcNtf ns) all)
@@ -497,10 +387,7 @@ module _ (p : Peer) (x flags : ℕ) where
       element_full low pin (messages.PcNtf ns) all meets within alone' passes on i = by q refl
         where
           by : (z : Peer) → q ≡ z → Full (Takes d q (messages.PcNtf ns) all)
-          by (Outside j) is =
-              outside_says j is ns all within passes i
-              (parts_told (Element Pin Segment) (λ k'. WaitsAt k' q) (OnRequest c n d q before.clock) (λ m' k'. (take c open_of (place n d) pin q (class_of n q) before.clock m' k').element) (same_peer q the_parent) q
-              From (from_stays pin) (noted ns) (noted_are ns) (before.elements d) all (λ row there y waits. (row, there, refl, refl)) on i)
+          by (Outside j) is = outer_full j is pin ns all within passes i (hears_notice c n d pin q before.clock ns (before.elements d) all out on i)
           by (Inner b) is =
               let h = heard b ns all (subst (λ (z : Peer). Within (Takes d z (messages.PcNtf ns) all ∷ older) now) is within) in
               inner_full b is ns all within passes h.1 h.0 h.2

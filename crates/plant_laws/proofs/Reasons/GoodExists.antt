@@ -25,7 +25,6 @@ use Rattle.plant_model.specs.declared.output.Output.{Output}
 use Rattle.plant_model.specs.RealWire.{wire}
 use Rattle.plant_model.proofs.WireLaws.{wire_is_codec}
 use Rattle.plant_model.specs.Laws.{IsElement, IsParentLink, IsNetwork, LeadApart, LeadsOut}
-use Rattle.plant_model.specs.Routes.{StaysInside}
 use Rattle.plant_model.specs.Samples.{As_}
 use Rattle.plant_model.specs.SampleRuns.{element}
 use Rattle.plant_model.specs.State.{Connection, Loads, Pops, Takes, Says, Ups, Downs, Clears, Solves, Expires, Hands}
@@ -43,7 +42,7 @@ use Rattle.plant_laws.specs.Tables.{AreTables}
 use Rattle.plant_laws.specs.Transcript.{Transcript, Within, Delivered, Standing, standing, standing_of, left_of, asks, count_asks, put_into, outputs_at}
 use Rattle.plant_laws.proofs.Reasons.GoodInboxes.{last_none}
 use Rattle.plant_laws.proofs.Reasons.GoodRun.{two, begun, first, second, third, fourth, last}
-use Rattle.plant_laws.proofs.Reasons.GoodSample.{any, never, is_ask, now, whole, now_is, at_first, at_second, is_good, first_within, is_open, goes_further}
+use Rattle.plant_laws.proofs.Reasons.GoodSample.{any, never, is_ask, now, whole, now_is, rows_one, rows_two, at_first, at_second, is_good, first_within, is_open, goes_further}
 use Rattle.plant_laws.proofs.Runs.Lists.{Stands, first_in, all_of, pairs_of}
 use Rattle.plant_laws.proofs.Runs.Moments.{opened_within}
 use Rattle.plant_laws.proofs.Once.OpenTables.{open_is_pending}
@@ -87,13 +86,6 @@ Joins p = (is_element two p.0 ≡ true) × (is_element two p.1 ≡ true) × (p.0
 abbrev Apart : As × As → As × As → Type 0
 Apart p q = ((p.0 ≡ q.0) × (p.1 ≡ q.1) → ⊥) × ((p.0 ≡ q.1) × (p.1 ≡ q.0) → ⊥)
 
-not_down : (r : PeerRow) → Stands r two.peers → r.down ≡ false
-not_down r (inl is) = ap (λ (z : PeerRow). z.down) is
-not_down r (inr none) = absurd none
-
-stays : StaysInside two
-stays = all_of (λ (r : PeerRow). r.down ≡ false) two.peers not_down
-
 obeys : IsNetwork two
 obeys = record {
   elements_differ = elements_differ;
@@ -113,6 +105,10 @@ obeys = record {
     at_first_one : (r : PeerRow) → Stands r two.peers → is_element two r.at ≡ true
     at_first_one r (inl is) = ap (λ (z : PeerRow). is_element two z.at) is
     at_first_one r (inr none) = absurd none
+
+    not_down : (r : PeerRow) → Stands r two.peers → r.down ≡ false
+    not_down r (inl is) = ap (λ (z : PeerRow). z.down) is
+    not_down r (inr none) = absurd none
 
 -- ---- few requests were sent
 
@@ -191,14 +187,6 @@ inbox_of i = elim (cases_Bool (0 == i)) [
   | inl hit ↦ subst (λ (j : ℕ). inbox_at (last.state.accesses j).connection ≡ []) (eqb-true 0 i hit) inbox_zero
   | inr miss ↦ ap inbox_at (last_none i miss)
 ]
-
-rows_one : (last.state.elements (As_ 1)).pending.rows ≡ []
-unfolding last fourth third second first begun rank parts_from body_of is_bound is_minimised
-rows_one = refl {a = []}
-
-rows_two : (last.state.elements (As_ 2)).pending.rows ≡ []
-unfolding last fourth third second first begun rank parts_from body_of is_bound is_minimised
-rows_two = refl {a = []}
 
 rows_above : last.state.parent.pending.rows ≡ []
 unfolding last fourth third second first begun rank parts_from body_of is_bound is_minimised
@@ -353,7 +341,6 @@ pub good_requests_exist : HasGoodRequest
 good_requests_exist = record {
   n = two;
   obeys = obeys;
-  stays = stays;
   this = last;
   short = short;
   quiet = quiet;

@@ -1,6 +1,6 @@
 -- A good request in a run: what the law of good requests asks for holds together.
 use Rattle.std.proofs.Common.{◌≡◌, ◌≤◌, ℕ, Bool, true, false, cond, List, [], ◌∷◌, ◌++◌, length, Some, sym, ◌∙◌, ap, subst, inl, inr, refl, arith}
-use Rattle.std.specs.Prelude.{◌⊎◌}
+use Rattle.std.specs.Prelude.{◌⊎◌, Contains}
 use Rattle.dom_base.specs.AddrOrder.{rank}
 use Rattle.dom_base.specs.Parts.{parts_from}
 use Rattle.dom_base.specs.declared.names.As.{As}
@@ -23,7 +23,7 @@ use Rattle.plant_model.specs.declared.output.Output.{Output}
 use Rattle.plant_model.specs.RealWire.{wire}
 use Rattle.plant_model.specs.Wire.{Codec, Checked, Admitted}
 use Rattle.plant_model.specs.Writing.{vspt_flag}
-use Rattle.plant_model.specs.Element.{Item, way_to}
+use Rattle.plant_model.specs.Element.{Item, Row, way_to}
 use Rattle.plant_model.specs.Routes.{toward}
 use Rattle.plant_model.specs.Parent.{is_up}
 use Rattle.plant_model.specs.Samples.{As_}
@@ -41,6 +41,7 @@ use Rattle.plant_laws.specs.Solves.{TellsClosed, branches, no_branch, lacks_keys
 use Rattle.plant_laws.specs.Transcript.{Transcript, Within, standing, opened, Handed}
 use Rattle.plant_laws.proofs.Reasons.GoodRun.{two, begun, wanted_first, asked_first, sent_on, takes_first, first, asked_second, wanted_second, takes_second, second, answers_second, third, hears_first, fourth, answers_first, last}
 use Rattle.plant_laws.proofs.Runs.Lists.{one_of, first_in}
+use Rattle.plant_laws.proofs.Runs.Rows as table
 use Rattle.plant_laws.proofs.Reasons.MomentCauses.{head_of}
 
 -- ---- the transcript
@@ -70,6 +71,15 @@ whole = answers_first ++ hears_first ++ answers_second ++ at_second
 pub now_is : now ≡ whole
 unfolding last fourth third second first
 now_is = refl
+
+-- nothing is pending in the end
+pub rows_one : (last.state.elements (As_ 1)).pending.rows ≡ []
+unfolding last fourth third second first begun rank parts_from body_of is_bound is_minimised
+rows_one = refl {a = []}
+
+pub rows_two : (last.state.elements (As_ 2)).pending.rows ≡ []
+unfolding last fourth third second first begun rank parts_from body_of is_bound is_minimised
+rows_two = refl {a = []}
 
 -- ---- tests of deeds
 
@@ -354,6 +364,9 @@ abbrev number_in : Peer → ℕ
 number_in (Inner a) = a.0
 number_in (Outside i) = i
 
+none_left : {X : Type 0} (rows : List (Row Pin)) → rows ≡ [] → (h : Row Pin) → Contains rows h → X
+none_left rows none h has = absurd (let i = table.in_of h rows has in let out : table.In h [] = subst (table.In h) none i in out)
+
 goes_well : (b : As) (q : Peer) (y : ℕ) (taken : Transcript) → Where b q taken → GoesWell wire two last now b q y taken
 goes_well b q y taken here = record {
   allowed = λ deed older is k. goes_first deed older y is k;
@@ -363,7 +376,10 @@ goes_well b q y taken here = record {
   children_room = λ a w t rest flags id os older up sent within. no_parent 1 (omega arith) up;
   room = λ deed older is k. room_first deed older y is k;
   keys = λ deed older within is_open k. keys_suffice (As_ 1) (Outside 0) y deed older within k;
-  stays = λ a os older other within. no_fall (As_ 1) (Inner a) os older within;
+  stays = λ on z w rest os older sent other within. no_fall (As_ 1) on os older within;
+  stays_above = λ a os older up other within. no_parent 1 (omega arith) up;
+  outside = λ i z w rest sent. absurd (let to = ap (λ (o : Output). is_outside o.to) (one_of sent_on _ sent) in let clash : false ≡ true = to in cc);
+  answered = λ i z w rest h sent has key stage. none_left (last.state.elements (As_ 1)).pending.rows rows_one h has;
 }
 goes_well b q y taken there = record {
   allowed = λ deed older is k. goes_second deed older y is k;
@@ -373,7 +389,10 @@ goes_well b q y taken there = record {
   children_room = λ a w t rest flags id os older up sent within. no_parent 2 (omega arith) up;
   room = λ deed older is k. room_second deed older y is k;
   keys = λ deed older within is_open k. keys_suffice (As_ 2) (Inner (As_ 1)) y deed older within k;
-  stays = λ a os older other within. no_fall (As_ 2) (Inner a) os older within;
+  stays = λ on z w rest os older sent other within. no_fall (As_ 2) on os older within;
+  stays_above = λ a os older up other within. no_parent 2 (omega arith) up;
+  outside = λ i z w rest sent. absurd (omega (arith, sent.1));
+  answered = λ i z w rest h sent has key stage. none_left (last.state.elements (As_ 2)).pending.rows rows_two h has;
 }
 
 drops_none : (deed : PlantDeed) (older : Transcript) → Within (deed ∷ older) now → DropsFor (As_ 1) (Outside 0) 7 deed → ⊥

@@ -1,5 +1,5 @@
 -- The law of readings, from the transcript of a run.
-use Rattle.std.proofs.Common.{◌≡◌, [], ◌∷◌, inl, inr, sym, ap, subst}
+use Rattle.std.proofs.Common.{◌≡◌, [], ◌∷◌, inl, inr, sym, ap, subst, refl}
 use Rattle.dom_base.specs.declared.names.As.{As}
 use Rattle.dom_base.specs.declared.names.Peer.TheVariants.{Inner}
 use Rattle.pcep_messages.specs.declared.message.Message.{Message}
@@ -7,9 +7,11 @@ use Rattle.pcep_messages.specs.declared.message.Message.TheVariants as messages
 use Rattle.plant_model.specs.State.{Takes}
 use Rattle.plant_model.specs.Plant.{PlantDeed, deeds_of}
 use Rattle.plant_laws.specs.Transcript.{Transcript, Within}
-use Rattle.plant_laws.specs.Readings.{IsFromQueue, MessagesAreReadIn}
+use Rattle.plant_laws.specs.Readings.{IsFromQueue, MessagesAreReadIn, RequestsAreReadIn}
+use Rattle.plant_laws.specs.Runs.{InRuns}
 use Rattle.plant_laws.proofs.Once.Opened.{AreSingle, single_deed}
 use Rattle.plant_laws.proofs.WrittenForm.ReadBack.{StoodFirst, AreRead, read_deed, run_read, run_single}
+use Rattle.plant_laws.proofs.WrittenForm.RequestsWritten.{HaveStood, stood_deed, requests_are_single, requests_have_stood}
 use Rattle.plant_laws.proofs.WrittenForm.WhereWritten.{Written}
 
 -- what is so of each deed and what was before it
@@ -37,10 +39,22 @@ single_so : (ds : Transcript) → AreSingle ds → IsSo (λ (d : PlantDeed) olde
 single_so [] h = tt
 single_so (d ∷ ds) h = (h.0, single_so ds h.1)
 
+stood_so : (ds : Transcript) → HaveStood ds → IsSo stood_deed ds
+stood_so [] h = tt
+stood_so (d ∷ ds) h = (h.0, stood_so ds h.1)
+
 pub messages_are_read : Written MessagesAreReadIn
 messages_are_read c codec n es s run written = record {
   queues = λ a b m os older within.
       from_queue a b m older (so_within read_deed (Takes b (Inner a) m os) older (deeds_of c n es) (read_so (deeds_of c n es) (run_read c n codec es s run written)) within);
   single = λ at p asks os older within.
       so_within (λ (d : PlantDeed) older. single_deed d) (Takes at p (messages.PcReq asks) os) older (deeds_of c n es) (single_so (deeds_of c n es) (run_single c n codec es s run written)) within;
+}
+
+pub requests_are_read : InRuns RequestsAreReadIn
+requests_are_read c codec n net es s run = record {
+  queues = λ a b asks os older within.
+      from_queue a b (messages.PcReq asks) older (so_within stood_deed (Takes b (Inner a) (messages.PcReq asks) os) older (deeds_of c n es) (stood_so (deeds_of c n es) (requests_have_stood c codec n net es s run)) within asks refl);
+  single = λ at p asks os older within.
+      so_within (λ (d : PlantDeed) older. single_deed d) (Takes at p (messages.PcReq asks) os) older (deeds_of c n es) (single_so (deeds_of c n es) (requests_are_single c codec n net es s run)) within;
 }

@@ -100,6 +100,10 @@ module _ (c : Codec) (codec : IsCodec c) (n : NetworkParts) (net : IsNetwork n) 
 pub every_written : (c : Codec) → IsCodec c → (n : NetworkParts) → IsNetwork n → (es : List Entry) (s : Plant) → Run c n es s → IsShort (deeds_of c n es) → AllSent IsWritten (deeds_of c n es)
 every_written c codec n net es s run short = (solved_is_all c codec n net es s run (run_solves c codec n net es s run short)).0
 
+-- What the parent asks an element is admitted there, for its own domain alone.
+pub every_down : (c : Codec) → IsCodec c → (n : NetworkParts) → IsNetwork n → (es : List Entry) (s : Plant) → Run c n es s → IsShort (deeds_of c n es) → AllDown c (deeds_of c n es)
+every_down c codec n net es s run short = (solved_is_all c codec n net es s run (run_solves c codec n net es s run short)).1
+
 -- So laws of runs in written form are laws of all runs.
 module _ (Holds : OfRuns) where
   pub of_written : Written Holds → InShortRuns Holds

@@ -249,7 +249,7 @@ module _ (c : Codec) (codec : IsCodec c) (n : NetworkParts) (now : Transcript) (
       sent_below carried.put b a (within_trans carried.put carried.before now was.within before_within) was.sent
 
   -- the request of the parent that an element took asks for its own domain alone
-  asked_alone : (b : As) (r : Request) (at : Transcript) → Within at now → Delivered c at b (Inner parent_as) r → (id : ℕ) × (w : Wanted) × (w.sequence ≡ b ∷ []) × (Admitted r ≡ Admitted (record { flags = vspt_flag; id = id; wish = wishes.Path w }))
+  pub asked_alone : (b : As) (r : Request) (at : Transcript) → Within at now → Delivered c at b (Inner parent_as) r → (id : ℕ) × (w : Wanted) × (w.sequence ≡ b ∷ []) × (Admitted r ≡ Admitted (record { flags = vspt_flag; id = id; wish = wishes.Path w }))
   asked_alone b r [] within h = absurd h
   asked_alone b r (e ∷ older) within h =
       let met = taken_below b h.0 h.1 older (subst (λ (z : PlantDeed). Within (z ∷ older) now) h.2 within) in

@@ -1,5 +1,6 @@
 -- Requests are in written form in every run, also where ids come round: each goes on from one that came as octets and was admitted,
--- under an id that fits its word, whatever replies say. So each is read as it was meant, and is taken by itself.
+-- under an id that fits its word, whatever replies say. So each is read as it was meant: it is taken by itself, and is the one that
+-- stood first in its queue.
 use Rattle.std.proofs.Common.{◌≡◌, ◌⊎◌, ◌≤◌, ℕ, Bool, true, false, cond, Option, Some, None, List, [], ◌∷◌, ◌++◌, length, sym, ◌∙◌, ap, subst, inl, inr, refl, arith}
 use Rattle.dom_base.specs.declared.names.As.{As}
 use Rattle.dom_base.specs.declared.names.Peer.{Peer}
@@ -59,7 +60,7 @@ use Rattle.plant_laws.proofs.Once.Opened.{AreSingle, puts_elements, puts_parent}
 use Rattle.plant_laws.proofs.Once.OpenedRuns as opened
 use Rattle.plant_laws.proofs.WrittenForm.ParentSays.{AreAsked, IsFamily, is_family, all_asks, to_children, ups_written}
 use Rattle.plant_laws.proofs.Runs.Queues.{Stand, act_stands, left_stands, solve_stands, upper_stands}
-use Rattle.plant_laws.proofs.WrittenForm.ReadBack.{standing_sent}
+use Rattle.plant_laws.proofs.WrittenForm.ReadBack.{StoodFirst, standing_sent}
 use Rattle.plant_laws.proofs.Runs.Reading as Reading
 use Rattle.plant_laws.proofs.Runs.Rows.{In}
 use Rattle.plant_laws.proofs.Numbering.Sends.{NoneAsks}
@@ -289,6 +290,24 @@ module _ (c : Codec) (codec : IsCodec c) where
   heard_asks sent (messages.Close why) asks is = cc
   heard_asks sent (messages.Other kind) asks is = cc
 
+-- a request that was taken from an inner queue is the one that stood there first
+abbrev pub stood_deed : Deed Segment → Transcript → Type 0
+stood_deed (Takes b (Inner a) m os) older = (asks : List Asked) → m ≡ messages.PcReq asks → StoodFirst a b m older
+stood_deed (Takes b (Outside i) m os) older = Unit {0}
+stood_deed (Loads at g) older = Unit {0}
+stood_deed (Pops a b) older = Unit {0}
+stood_deed (Says at o) older = Unit {0}
+stood_deed (Ups at p) older = Unit {0}
+stood_deed (Downs at p os) older = Unit {0}
+stood_deed (Clears a b) older = Unit {0}
+stood_deed (Solves at k os keys) older = Unit {0}
+stood_deed (Expires now) older = Unit {0}
+stood_deed (Hands i bytes) older = Unit {0}
+
+abbrev pub HaveStood : Transcript → Type 0
+HaveStood [] = Unit {0}
+HaveStood (d ∷ ds) = stood_deed d ds × HaveStood ds
+
 -- ---- a run
 
 module _ (c : Codec) (codec : IsCodec c) (n : NetworkParts) (net : IsNetwork n) where
@@ -308,7 +327,7 @@ module _ (c : Codec) (codec : IsCodec c) (n : NetworkParts) (net : IsNetwork n) 
 
   -- what was sent, and what was taken
   abbrev Asked_well : Transcript → Type 0
-  Asked_well ds = AllSent IsWrittenRequest ds × AreSingle ds
+  Asked_well ds = AllSent IsWrittenRequest ds × AreSingle ds × HaveStood ds
 
   abbrev IfFit : Transcript → Core → Type 0
   IfFit ds s = Prem ds → Asked_well ds × WaysFit s
@@ -339,7 +358,7 @@ module _ (c : Codec) (codec : IsCodec c) (n : NetworkParts) (net : IsNetwork n) 
   pick_fit ds false g h x y = y
 
   -- what is given, where it is known
-  give_fit : (at : As) (p : Peer) (m : Message) (s : Core) (es ds : Transcript) → ((os : List Output) → Prem (Takes at p m os ∷ es ++ ds) → Asked_well (es ++ ds) → IsTaken c codec m × ArePending s.parent.pending) →
+  give_fit : (at : As) (p : Peer) (m : Message) (s : Core) (es ds : Transcript) → ((os : List Output) → Prem (Takes at p m os ∷ es ++ ds) → Asked_well (es ++ ds) → IsTaken c codec m × stood_deed (Takes at p m os) (es ++ ds) × ArePending s.parent.pending) →
       IfFit (es ++ ds) s → (let g = give Pin Segment c n open_of at p m (record { state = s; deeds = es }) in IfFit (g.deeds ++ ds) g.state)
   give_fit at p m s es ds known held =
       let r = parent.take c (family n) p m s.parent in
@@ -350,13 +369,13 @@ module _ (c : Codec) (codec : IsCodec c) (n : NetworkParts) (net : IsNetwork n) 
       (λ prem.
       let before = held (older (Takes at p m r.outputs) (es ++ ds) prem) in
       let is = known r.outputs prem before.0 in
-      let x = given_fits c codec (family n) (is_family n net) p m s.parent is.0.0 is.0.1 is.1 before.1.parent in
-      (((x.0, before.0.0), (is.0.0, before.0.1)), fit_puts at r.outputs (with_parent Pin Segment c n open_of r.parent s) (fit_parent r.parent s x.1 before.1)))
+      let x = given_fits c codec (family n) (is_family n net) p m s.parent is.0.0 is.0.1 is.2 before.1.parent in
+      (((x.0, before.0.0), (is.0.0, before.0.1), (is.1, before.0.2)), fit_puts at r.outputs (with_parent Pin Segment c n open_of r.parent s) (fit_parent r.parent s x.1 before.1)))
       (λ prem.
       let before = held (older (Takes at p m t.outputs) (es ++ ds) prem) in
-      let is = (known t.outputs prem before.0).0 in
-      let x = take_fits Pin Segment c codec open_of (place n at) (s.current at) p (class_of n p) s.clock m (s.elements at) is.0 is.1 (before.1.elements at) in
-      (((x.0, before.0.0), (is.0, before.0.1)), fit_puts at t.outputs (with_element Pin Segment c n open_of at t.element s) (fit_element at t.element s x.1 before.1)))
+      let is = known t.outputs prem before.0 in
+      let x = take_fits Pin Segment c codec open_of (place n at) (s.current at) p (class_of n p) s.clock m (s.elements at) is.0.0 is.0.1 (before.1.elements at) in
+      (((x.0, before.0.0), (is.0.0, before.0.1), (is.1, before.0.2)), fit_puts at t.outputs (with_element Pin Segment c n open_of at t.element s) (fit_element at t.element s x.1 before.1)))
 
   fall_fit : (at : As) (p : Peer) (s : Core) (ds : Transcript) → IfFit ds s → (let g = fall Pin Segment c n open_of at p (record { state = s; deeds = [] }) in IfFit (g.deeds ++ ds) g.state)
   fall_fit at p s ds held =
@@ -368,25 +387,25 @@ module _ (c : Codec) (codec : IsCodec c) (n : NetworkParts) (net : IsNetwork n) 
       (λ prem.
       let before = held (older (Downs at p r.outputs) ds prem) in
       let none = none_fits r.outputs (lower.none_lost (parent.lost p s.parent.pending.rows)) in
-      (((none, before.0.0), (tt, before.0.1)), fit_puts at r.outputs (with_parent Pin Segment c n open_of r.parent s) (fit_parent r.parent s (ways_up p false s.parent.ways before.1.parent) before.1)))
+      (((none, before.0.0), (tt, before.0.1), (tt, before.0.2)), fit_puts at r.outputs (with_parent Pin Segment c n open_of r.parent s) (fit_parent r.parent s (ways_up p false s.parent.ways before.1.parent) before.1)))
       (λ prem.
       let before = held (older (Downs at p t.outputs) ds prem) in
       let none = none_fits t.outputs (lower.none_lost (lost p (s.elements at).pending.rows)) in
-      (((none, before.0.0), (tt, before.0.1)), fit_puts at t.outputs (with_element Pin Segment c n open_of at t.element s) (fit_element at t.element s (ways_up p false (s.elements at).ways (before.1.elements at)) before.1)))
+      (((none, before.0.0), (tt, before.0.1), (tt, before.0.2)), fit_puts at t.outputs (with_element Pin Segment c n open_of at t.element s) (fit_element at t.element s (ways_up p false (s.elements at).ways (before.1.elements at)) before.1)))
 
   rise_fit : (at : As) (p : Peer) (s : Core) (ds : Transcript) → IfFit ds s → (let g = rise Pin Segment c n open_of at p (record { state = s; deeds = [] }) in IfFit (g.deeds ++ ds) g.state)
   rise_fit at p s ds held =
       pick_fit ds (same_as at parent_as)
       (record { state = with_parent Pin Segment c n open_of (parent.upped p s.parent) s; deeds = Ups at p ∷ [] })
       (record { state = with_element Pin Segment c n open_of at (upped p (s.elements at)) s; deeds = Ups at p ∷ [] })
-      (λ prem. let before = held (older (Ups at p) ds prem) in (((tt, before.0.0), (tt, before.0.1)), fit_parent (parent.upped p s.parent) s (ways_up p true s.parent.ways before.1.parent) before.1))
-      (λ prem. let before = held (older (Ups at p) ds prem) in (((tt, before.0.0), (tt, before.0.1)), fit_element at (upped p (s.elements at)) s (ways_up p true (s.elements at).ways (before.1.elements at)) before.1))
+      (λ prem. let before = held (older (Ups at p) ds prem) in (((tt, before.0.0), (tt, before.0.1), (tt, before.0.2)), fit_parent (parent.upped p s.parent) s (ways_up p true s.parent.ways before.1.parent) before.1))
+      (λ prem. let before = held (older (Ups at p) ds prem) in (((tt, before.0.0), (tt, before.0.1), (tt, before.0.2)), fit_element at (upped p (s.elements at)) s (ways_up p true (s.elements at).ways (before.1.elements at)) before.1))
 
   -- the first message of a queue, as it is read
-  front : (a b : As) (bytes : Bytes) (rest : List Bytes) (m : Message) (s : Core) (ds : Transcript) → Stand c n ds s → AllSent IsWrittenRequest ds → AllSent IsOrdinary ds → s.queues a b ≡ bytes ∷ rest → c.read bytes ≡ Some m → IsTaken c codec m
+  front : (a b : As) (bytes : Bytes) (rest : List Bytes) (m : Message) (s : Core) (ds : Transcript) → Stand c n ds s → AllSent IsWrittenRequest ds → AllSent IsOrdinary ds → s.queues a b ≡ bytes ∷ rest → c.read bytes ≡ Some m → IsTaken c codec m × ((asks : List Asked) → m ≡ messages.PcReq asks → StoodFirst a b m (Pops a b ∷ ds))
   front a b bytes rest m s ds stand sent ordinary is read = go (standing a b ds) refl
     where
-      go : (xs : List Standing) → standing a b ds ≡ xs → IsTaken c codec m
+      go : (xs : List Standing) → standing a b ds ≡ xs → IsTaken c codec m × ((asks : List Asked) → m ≡ messages.PcReq asks → StoodFirst a b m (Pops a b ∷ ds))
       go [] e =
           let no : bytes ∷ rest ≡ [] = sym is ∙ stand a b ∙ ap (λ (l : List Standing). texts c (messages_in l)) e in
           absurd (let out : bytes ∷ rest ≡ [] = no in cc)
@@ -394,30 +413,38 @@ module _ (c : Codec) (codec : IsCodec c) (n : NetworkParts) (net : IsNetwork n) 
           let both : bytes ∷ rest ≡ c.text x.message ∷ texts c (messages_in xs) = sym is ∙ stand a b ∙ ap (λ (l : List Standing). texts c (messages_in l)) e in
           let same : bytes ≡ c.text x.message = cc in
           let inside : In x (standing a b ds) = subst (λ (l : List Standing). In x l) (sym e) (inl refl) in
-          read_taken c codec x.message m (standing_sent IsOrdinary a b ds x ordinary inside) (standing_sent IsWrittenRequest a b ds x sent inside) (ap (λ z. c.read z) (sym same) ∙ read)
+          let one = standing_sent IsOrdinary a b ds x ordinary inside in
+          let fits = standing_sent IsWrittenRequest a b ds x sent inside in
+          let again : c.read (c.text x.message) ≡ Some m = ap (λ z. c.read z) (sym same) ∙ read in (
+            read_taken c codec x.message m one fits again,
+            λ asks is'.
+                let meant = (read_asks c codec x.message asks one fits (again ∙ ap (λ (y : Message). Some y) is')).0 ∙ sym is' in
+                (refl, (x.put, xs, e ∙ ap (λ z. let y : Standing = record { message = z; put = x.put } in y ∷ xs) meant)),
+          )
 
   act_fit : (ds : Transcript) (s t : Core) (es : Transcript) → I ds s → Acts Pin Segment c n open_of s es t → IfFit (es ++ ds) t
   act_fit ds s t es held (rests s' t' same) = λ prem. let b = held.fit prem in (b.0, fit_same s t same.elements same.parent b.1)
   act_fit ds s t es held (hears i bytes m s' read) =
       give_fit (element_of n i) (Outside i) m s [] ds
       (λ os prem well. let r = prem.0.0 in
-      ((prem.1.0, λ a is. (r.2, r.3, r.5 ∙ ap (λ (y : Message). Some y) (heard_asks c codec r.6 r.4 (a ∷ []) (sym r.7 ∙ is)))), (held.tables well.1).parent)) held.fit
+      ((prem.1.0, λ a is. (r.2, r.3, r.5 ∙ ap (λ (y : Message). Some y) (heard_asks c codec r.6 r.4 (a ∷ []) (sym r.7 ∙ is)))), tt, (held.tables well.1).parent)) held.fit
   act_fit ds s t es held (carries a b bytes rest m s' u is read same) =
       let popped : Deed Segment = Pops a b in
       give_fit b (Inner a) m u (popped ∷ []) ds
       (λ os prem well.
       let p : Prem ds = older popped ds (older (Takes b (Inner a) m os) (popped ∷ ds) prem) in
-      (front a b bytes rest m s ds held.stand well.0.1 p.2 is read, subst (λ (k : Parent). ArePending k.pending) (sym same.parent) (held.tables well.1.1).parent))
-      (λ prem. let x = held.fit (older popped ds prem) in (((tt, x.0.0), (tt, x.0.1)), fit_same s u same.elements same.parent x.1))
-  act_fit ds s t es held (nods a b bytes rest s' is) = λ prem. let x = held.fit (older (Pops a b) ds prem) in (((tt, x.0.0), (tt, x.0.1)), record { elements = x.1.elements; parent = x.1.parent })
-  act_fit ds s t es held (hands i bytes s' t' same) = λ prem. let x = held.fit (older (Hands i bytes) ds prem) in (((tt, x.0.0), (tt, x.0.1)), fit_same s t same.elements same.parent x.1)
+      let x = front a b bytes rest m s ds held.stand well.0.1 p.2 is read in
+      (x.0, x.1, subst (λ (k : Parent). ArePending k.pending) (sym same.parent) (held.tables well.1.1).parent))
+      (λ prem. let x = held.fit (older popped ds prem) in (((tt, x.0.0), (tt, x.0.1), (tt, x.0.2)), fit_same s u same.elements same.parent x.1))
+  act_fit ds s t es held (nods a b bytes rest s' is) = λ prem. let x = held.fit (older (Pops a b) ds prem) in (((tt, x.0.0), (tt, x.0.1), (tt, x.0.2)), record { elements = x.1.elements; parent = x.1.parent })
+  act_fit ds s t es held (hands i bytes s' t' same) = λ prem. let x = held.fit (older (Hands i bytes) ds prem) in (((tt, x.0.0), (tt, x.0.1), (tt, x.0.2)), fit_same s t same.elements same.parent x.1)
   act_fit ds s t es held (rises at p s') = rise_fit at p s ds held.fit
   act_fit ds s t es held (falls at p s') = fall_fit at p s ds held.fit
   act_fit ds s t es held (says at p o s') = λ prem.
       let out : Output = record { to = p; message = own_message o } in
-      let x = held.fit (older (Says at out) ds prem) in ((((not_asked (own_message o) (own_never o), tt), x.0.0), (tt, x.0.1)), fit_puts at (out ∷ []) s x.1)
-  act_fit ds s t es held (clears x s') = λ prem. let y = held.fit (older (Clears x.lower x.upper) ds prem) in (((tt, y.0.0), (tt, y.0.1)), record { elements = y.1.elements; parent = y.1.parent })
-  act_fit ds s t es held (expires now s') = λ prem. let x = held.fit (older (Expires now) ds prem) in (((tt, x.0.0), (tt, x.0.1)), record { elements = x.1.elements; parent = x.1.parent })
+      let x = held.fit (older (Says at out) ds prem) in ((((not_asked (own_message o) (own_never o), tt), x.0.0), (tt, x.0.1), (tt, x.0.2)), fit_puts at (out ∷ []) s x.1)
+  act_fit ds s t es held (clears x s') = λ prem. let y = held.fit (older (Clears x.lower x.upper) ds prem) in (((tt, y.0.0), (tt, y.0.1), (tt, y.0.2)), record { elements = y.1.elements; parent = y.1.parent })
+  act_fit ds s t es held (expires now s') = λ prem. let x = held.fit (older (Expires now) ds prem) in (((tt, x.0.0), (tt, x.0.1), (tt, x.0.2)), record { elements = x.1.elements; parent = x.1.parent })
 
   act_holds : (ds : Transcript) (s t : Core) (es : Transcript) → I ds s → Acts Pin Segment c n open_of s es t → I (es ++ ds) t
   act_holds ds s t es held act = record { stand = act_stands c n ds s t es held.stand act; tables = opened.act_holds c n ds s t es held.tables act; fit = act_fit ds s t es held act }
@@ -426,7 +453,7 @@ module _ (c : Codec) (codec : IsCodec c) (n : NetworkParts) (net : IsNetwork n) 
   load_holds ds s d g held = record {
     stand = left_stands c n s s ds (Loads d g) (λ a. refl) (λ a b. held.stand a b);
     tables = opened.load_holds c n ds s d g held.tables;
-    fit = λ prem. let x = held.fit (older (Loads d g) ds prem) in (((tt, x.0.0), (tt, x.0.1)), record { elements = x.1.elements; parent = x.1.parent });
+    fit = λ prem. let x = held.fit (older (Loads d g) ds prem) in (((tt, x.0.0), (tt, x.0.1), (tt, x.0.2)), record { elements = x.1.elements; parent = x.1.parent });
   }
 
   solve_fit : (ds : Transcript) (s : Plant) (d : As) (k : ℕ) (h : Happened) → I ds s → ElementSolves c n d k s h → IfFit (h.deeds ++ ds) h.state
@@ -436,7 +463,7 @@ module _ (c : Codec) (codec : IsCodec c) (n : NetworkParts) (net : IsNetwork n) 
       subst (λ (h' : Happened). IfFit (h'.deeds ++ ds) h'.state) (sym x.is) (λ prem.
       let b = held.fit (older (Solves d k r.outputs r.element.keys.issued) ds prem) in
       let y = calm_fits Pin Segment (s.elements d) r calm (b.1.elements d) in
-      (((y.0, b.0.0), (tt, b.0.1)), fit_puts d r.outputs (with_element Pin Segment c n open_of d r.element s) (fit_element d r.element s y.1 b.1)))
+      (((y.0, b.0.0), (tt, b.0.1), (tt, b.0.2)), fit_puts d r.outputs (with_element Pin Segment c n open_of d r.element s) (fit_element d r.element s y.1 b.1)))
 
   upper_fit : (ds : Transcript) (s : Plant) (k : ℕ) (h : Happened) → I ds s → ParentSolves c n k s h → IfFit (h.deeds ++ ds) h.state
   upper_fit ds s k h held x =
@@ -444,7 +471,7 @@ module _ (c : Codec) (codec : IsCodec c) (n : NetworkParts) (net : IsNetwork n) 
       subst (λ (h' : Happened). IfFit (h'.deeds ++ ds) h'.state) (sym x.is) (λ prem.
       let b = held.fit (older (Solves parent_as k r.outputs []) ds prem) in
       let y = solve_fits c (k, x.held) x.answer s.parent b.1.parent in
-      (((y.0, b.0.0), (tt, b.0.1)), fit_puts parent_as r.outputs (with_parent Pin Segment c n open_of r.parent s) (fit_parent r.parent s y.1 b.1)))
+      (((y.0, b.0.0), (tt, b.0.1), (tt, b.0.2)), fit_puts parent_as r.outputs (with_parent Pin Segment c n open_of r.parent s) (fit_parent r.parent s y.1 b.1)))
 
   solve_holds : (ds : Transcript) (s : Plant) (d : As) (k : ℕ) (h : Happened) → I ds s → ElementSolves c n d k s h → I (h.deeds ++ ds) h.state
   solve_holds ds s d k h held x = record { stand = solve_stands c n ds s d k h held.stand x; tables = opened.solve_holds c n ds s d k h held.tables x; fit = solve_fit ds s d k h held x }
@@ -456,7 +483,7 @@ module _ (c : Codec) (codec : IsCodec c) (n : NetworkParts) (net : IsNetwork n) 
   bare_holds = record {
     stand = λ a b. refl;
     tables = opened.bare_holds c n;
-    fit = λ prem. ((tt, tt), record { elements = λ d. ways_fit_all (inner_ways n d) (routes n d) (ways_fit d (lines n)); parent = ways_fit parent_as (lines n) });
+    fit = λ prem. ((tt, tt, tt), record { elements = λ d. ways_fit_all (inner_ways n d) (routes n d) (ways_fit d (lines n)); parent = ways_fit parent_as (lines n) });
   }
 
   well : (es : List Entry) (s : Plant) → Run c n es s → Asked_well (deeds_of c n es)
@@ -471,3 +498,7 @@ module _ (c : Codec) (codec : IsCodec c) (n : NetworkParts) (net : IsNetwork n) 
   -- Each message of requests that is taken in a run has one.
   pub requests_are_single : (es : List Entry) (s : Plant) → Run c n es s → AreSingle (deeds_of c n es)
   requests_are_single es s run = (well es s run).1
+
+  -- Each request that is taken from an inner queue in a run is the one that stood there first.
+  pub requests_have_stood : (es : List Entry) (s : Plant) → Run c n es s → HaveStood (deeds_of c n es)
+  requests_have_stood es s run = (well es s run).2

@@ -4,13 +4,14 @@ use Rattle.std.proofs.lemmas.List.{take_at}
 use Rattle.std.proofs.Math.ListN.{length-set}
 use Rattle.diverse_pairs.specs.declared.arcs.TheConstants.{UNREACHED}
 use Rattle.diverse_pairs.specs.Settling.{IsOpened, Settles, work}
+use Rattle.diverse_pairs.specs.Listed.{listed}
 use Rattle.diverse_pairs.proofs.Along.{along_among}
 use Rattle.diverse_pairs.proofs.Settling.{put_off, taken_out, all_low}
 use Rattle.diverse_pairs.proofs.lower.distances.Goals as goal
 
 pub loop-node-preserved : goal.loop-node-preserved
 loop-node-preserved c =
-    let arcs = c.args.arcs.now in
+    let arcs = listed c.args.arcs.now in
     let inv = c.loop-node.invariant in
     let old = c.loop-node.distances.items in
     let new = c.settle.new.distances in
@@ -28,7 +29,7 @@ loop-node-preserved c =
 
 pub loop-node-smaller : goal.loop-node-smaller
 loop-node-smaller c =
-    let arcs = c.args.arcs.now in
+    let arcs = listed c.args.arcs.now in
     let old = c.loop-node.distances.items in
     let new = c.settle.new.distances in
     let node = c.in-Some.node in
@@ -41,7 +42,7 @@ loop-node-smaller c =
 pub returns-clause-distances : goal.returns-clause-distances
 returns-clause-distances c =
     let g = c.args.topology.now in
-    let arcs = c.args.arcs.now in
+    let arcs = listed c.args.arcs.now in
     let inv = c.loop-node.invariant in
     record {
       made = inv.made;

@@ -1,6 +1,7 @@
 use Rattle.std.proofs.Common.{arith}
 use Rattle.diverse_pairs.specs.Paths.{IsFirstAmong, HasNoneAmong}
 use Rattle.diverse_pairs.specs.Uses.{marks_of}
+use Rattle.diverse_pairs.specs.Listed.{listed}
 use Rattle.diverse_pairs.proofs.Along.{arc_inside, into_within, from_within}
 use Rattle.diverse_pairs.proofs.FirstAmong.{first_on, first_back, only_on, only_back, one_of_both}
 use Rattle.diverse_pairs.proofs.lowest.first_from.Goals as goal
@@ -8,34 +9,34 @@ use Rattle.diverse_pairs.proofs.lowest.first_from.Goals as goal
 pub overflow_cast-from : goal.overflow_cast-from
 overflow_cast-from c =
     let some = c.requires.some in
-    omega (arith, (arc_inside c.args.topology.now c.args.arcs.now c.requires.along some.place some.arc some.is_arc).tail, some.tail, c.own-own.ensures.rules.few_nodes)
+    omega (arith, (arc_inside c.args.topology.now (listed c.args.arcs.now) c.requires.along some.place some.arc some.is_arc).tail, some.tail, c.own-own.ensures.rules.few_nodes)
 
 pub links_from-requires : goal.links_from-requires
 links_from-requires c =
     let some = c.requires.some in
-    omega (arith, (arc_inside c.args.topology.now c.args.arcs.now c.requires.along some.place some.arc some.is_arc).tail, some.tail)
+    omega (arith, (arc_inside c.args.topology.now (listed c.args.arcs.now) c.requires.along some.place some.arc some.is_arc).tail, some.tail)
 
 pub first_among-onward-requires-clause-places : goal.first_among-onward-requires-clause-places
-first_among-onward-requires-clause-places c = from_within c.args.topology.now c.args.arcs.now c.requires.along c.args.from c.links_from.result.now c.links_from.ensures.places
+first_among-onward-requires-clause-places c = from_within c.args.topology.now (listed c.args.arcs.now) c.requires.along c.args.from c.links_from.result.now c.links_from.ensures.places
 
 pub overflow_cast-from-2 : goal.overflow_cast-from-2
 overflow_cast-from-2 c =
     let some = c.requires.some in
-    omega (arith, (arc_inside c.args.topology.now c.args.arcs.now c.requires.along some.place some.arc some.is_arc).tail, some.tail, c.own-own.ensures.rules.few_nodes)
+    omega (arith, (arc_inside c.args.topology.now (listed c.args.arcs.now) c.requires.along some.place some.arc some.is_arc).tail, some.tail, c.own-own.ensures.rules.few_nodes)
 
 pub links_into-requires : goal.links_into-requires
 links_into-requires c =
     let some = c.requires.some in
-    omega (arith, (arc_inside c.args.topology.now c.args.arcs.now c.requires.along some.place some.arc some.is_arc).tail, some.tail)
+    omega (arith, (arc_inside c.args.topology.now (listed c.args.arcs.now) c.requires.along some.place some.arc some.is_arc).tail, some.tail)
 
 pub first_among-back-requires-clause-places : goal.first_among-back-requires-clause-places
-first_among-back-requires-clause-places c = into_within c.args.topology.now c.args.arcs.now c.requires.along c.args.from c.links_into.result.now c.links_into.ensures
+first_among-back-requires-clause-places c = into_within c.args.topology.now (listed c.args.arcs.now) c.requires.along c.args.from c.links_into.result.now c.links_into.ensures
 
 pub unreachable-requires : goal.unreachable-requires
 unreachable-requires c =
     let g = c.args.topology.now in
-    let arcs = c.args.arcs.now in
-    let us = marks_of c.args.uses.now c.args.arcs.now in
+    let arcs = listed c.args.arcs.now in
+    let us = marks_of c.args.uses.now (listed c.args.arcs.now) in
     let u = c.args.from in
     let into = c.links_into.result.now in
     let out = c.links_from.result.now in
@@ -46,8 +47,8 @@ unreachable-requires c =
 pub returns-then-other-one : goal.returns-then-other-one
 returns-then-other-one c =
     let g = c.args.topology.now in
-    let arcs = c.args.arcs.now in
-    let us = marks_of c.args.uses.now c.args.arcs.now in
+    let arcs = listed c.args.arcs.now in
+    let us = marks_of c.args.uses.now (listed c.args.arcs.now) in
     let u = c.args.from in
     let into = c.links_into.result.now in
     let out = c.links_from.result.now in
@@ -60,8 +61,8 @@ returns-then-other-one c =
 pub returns-else-other-one : goal.returns-else-other-one
 returns-else-other-one c =
     let g = c.args.topology.now in
-    let arcs = c.args.arcs.now in
-    let us = marks_of c.args.uses.now c.args.arcs.now in
+    let arcs = listed c.args.arcs.now in
+    let us = marks_of c.args.uses.now (listed c.args.arcs.now) in
     let u = c.args.from in
     let into = c.links_into.result.now in
     let out = c.links_from.result.now in
@@ -74,8 +75,8 @@ returns-else-other-one c =
 pub returns-in-Some-None : goal.returns-in-Some-None
 returns-in-Some-None c =
     let g = c.args.topology.now in
-    let arcs = c.args.arcs.now in
-    let us = marks_of c.args.uses.now c.args.arcs.now in
+    let arcs = listed c.args.arcs.now in
+    let us = marks_of c.args.uses.now (listed c.args.arcs.now) in
     let u = c.args.from in
     let into = c.links_into.result.now in
     let out = c.links_from.result.now in
@@ -87,8 +88,8 @@ returns-in-Some-None c =
 pub returns-in-None-Some : goal.returns-in-None-Some
 returns-in-None-Some c =
     let g = c.args.topology.now in
-    let arcs = c.args.arcs.now in
-    let us = marks_of c.args.uses.now c.args.arcs.now in
+    let arcs = listed c.args.arcs.now in
+    let us = marks_of c.args.uses.now (listed c.args.arcs.now) in
     let u = c.args.from in
     let into = c.links_into.result.now in
     let out = c.links_from.result.now in

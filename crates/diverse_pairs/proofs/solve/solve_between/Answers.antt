@@ -4,6 +4,7 @@ use Rattle.std.proofs.lemmas.Option.{slice_get_within}
 use Rattle.std.proofs.lemmas.Result.{IfOk-weaker}
 use Rattle.diverse_pairs.specs.declared.arcs.TheConstants.{UNREACHED}
 use Rattle.diverse_pairs.specs.Conditions.{asked_of}
+use Rattle.diverse_pairs.specs.Residual.{left_arcs}
 use Rattle.diverse_pairs.specs.Solution.{IsSolved}
 use Rattle.diverse_pairs.specs.Solving.{IsSearched, IsCutForm}
 use Rattle.diverse_pairs.proofs.CutShown.{first_cut, second_cut}
@@ -39,7 +40,7 @@ returns-then-over-from c =
     let far : slice_index_or c.in_ok-walked.walked.distances.items c.args.from 0 ≡ UNREACHED = rw c.as_slice-over.ensures.value at c.if-over-from.true in
     IfOk-weaker c.cut_form-then-over-from.result (IsCutForm g c.as_slice-over.result.now) (IsSolved (asked_of g q c.args.source c.args.target))
     (λ form cut.
-    second_cut g q c.args.source c.args.target c.args.from c.args.to arcs ds c.in_ok-walked.walked.in_use.items c.in_ok-walked.walked.left.items c.in_ok-walked.walked.distances.items
+    second_cut g q c.args.source c.args.target c.args.from c.args.to arcs ds c.in_ok-walked.walked.in_use.items (left_arcs ds c.in_ok-walked.walked.in_use.items arcs) c.in_ok-walked.walked.distances.items
     c.requires searched c.in_ok-walked.ensures form far (rw c.as_slice-over.ensures.value at cut))
     c.cut_form-then-over-from.ensures
 

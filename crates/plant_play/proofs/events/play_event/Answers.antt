@@ -4,5 +4,5 @@ use Rattle.plant_play.proofs.events.play_event.Goals as goal
 
 pub returns-clause-plays : goal.returns-clause-plays
 returns-clause-plays c =
-    one_event c.args.line c.args.modes (whole c.args.plant.now) c.args.event c.in_ok-answer.answer (whole c.done.new.plant) c.in_ok-job.job c.args.into.now.items c.write_answer.new.into.items c.write_brought.new.into.items
+    one_event c.args.line c.args.modes (whole c.args.plant.now) c.args.event c.in_ok-answer.answer (whole c.done.new.plant) c.in_ok-job.job c.args.into.now c.write_answer.new.into c.write_brought.new.into
     c.in_ok-job.ensures c.in_ok-answer.ensures.makes c.in_ok-write_answer.ensures c.in_ok-write_brought.ensures

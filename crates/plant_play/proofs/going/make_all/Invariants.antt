@@ -4,4 +4,4 @@ use Rattle.plant_play.specs.Making.{DoesSome}
 use Rattle.plant_play.proofs.going.make_all.Given as goal
 
 abbrev pub invariant-loop : goal.invariant-loop
-invariant-loop l = DoesSome l.line l.modes (IsDue l.until (whole l.initial.plant).network) (whole l.initial.plant) (whole l.plant) l.initial.into.items l.into.items l.counter
+invariant-loop l = DoesSome l.line l.modes (IsDue l.until (whole l.initial.plant).network) (whole l.initial.plant) (whole l.plant) l.initial.into l.into l.counter

@@ -10,8 +10,8 @@ pub returns-clause-plays : goal.returns-clause-plays
 returns-clause-plays c =
     let old = whole c.args.plant.now in
     let new = whole c.play_event.new.plant in
-    let b0 = c.args.into.now.items in
-    let b1 = c.play_event.new.into.items in
+    let b0 = c.args.into.now in
+    let b1 = c.play_event.new.into in
     let at = c.args.at in
     let g = c.in_ok-topology.topology in
     if_ok

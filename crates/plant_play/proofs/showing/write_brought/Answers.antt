@@ -1,24 +1,25 @@
-use Rattle.std.proofs.Common.{◌∙◌, ◌++◌, List, Option, sym, ap, subst}
+use Rattle.std.proofs.Common.{◌∙◌, List, Option, sym, ap, subst}
 use Rattle.border_costs.specs.declared.job.Job.{Job}
 use Rattle.plant_queues.specs.declared.sent.Sent.{Sent}
 use Rattle.plant_text.specs.declared.settings.NetworkParts.{NetworkParts}
 use Rattle.plant_text.specs.declared.settings.PeerRow.{PeerRow}
 use Rattle.pce_plant.specs.Held.{whole}
 use Rattle.transcript.specs.Lines.{sents_text}
+use Rattle.plant_play.specs.Logs.{behind}
 use Rattle.plant_play.specs.Making.{Brings}
 use Rattle.plant_play.proofs.ShownLemmas.{jobless_brings, refused_brings}
 use Rattle.plant_play.proofs.showing.write_brought.Goals as goal
 
 pub returns-then-is_err : goal.returns-then-is_err
-returns-then-is_err c = refused_brings c.args.line c.args.modes (whole c.args.plant.now) c.args.answer.now c.args.job.now c.args.into.now.items (sym c.if-is_err.ensures.value)
+returns-then-is_err c = refused_brings c.args.line c.args.modes (whole c.args.plant.now) c.args.answer.now c.args.job.now c.args.into.now (sym c.if-is_err.ensures.value)
 
 pub returns-in-None : goal.returns-in-None
 returns-in-None c =
     let w = whole c.args.plant.now in
-    let b0 = c.args.into.now.items in
-    let b1 = c.write_said.new.into.items in
+    let b0 = c.args.into.now in
+    let b1 = c.write_said.new.into in
     let told = c.in_ok-write_said.ensures
-    ∙ ap (λ (ps : List PeerRow). b0 ++ sents_text c.args.line ps c.said.result.now.kept) (c.as_slice.ensures ∙ ap (λ (n : NetworkParts). n.peers) c.parts.ensures)
-    ∙ ap (λ (ss : List Sent). b0 ++ sents_text c.args.line w.network.peers ss) c.said.ensures in
+    ∙ ap (λ (ps : List PeerRow). behind b0 (sents_text c.args.line ps c.said.result.now.kept)) (c.as_slice.ensures ∙ ap (λ (n : NetworkParts). n.peers) c.parts.ensures)
+    ∙ ap (λ (ss : List Sent). behind b0 (sents_text c.args.line w.network.peers ss)) c.said.ensures in
     subst (λ (j : Option Job). Brings c.args.line c.args.modes w c.args.answer.now j b0 b1) (sym c.in-None.is)
     (jobless_brings c.args.line c.args.modes w c.args.answer.now b0 b1 (sym c.if-is_err.ensures.value) told)

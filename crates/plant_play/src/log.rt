@@ -1,0 +1,186 @@
+//! What is told of events: as text, or not at all where nobody reads it.
+ghost use Rattle.std.specs.Prelude.{◌≡◌, ◌++◌, true, false, OnErr, OnOk};
+ghost use Rattle.transcript.specs.Lines.{answer_line, carry_line, certified_text, rows_text, sents_text, solve_line, take_line};
+ghost use Rattle.plant_play.specs.Logs.{behind, untold};
+
+use dom_base::{As, BorderRow, NoMemory};
+use path_certificate::Certificate;
+use pce_plant::model::{Outcome, Refused};
+use plant_queues::Said;
+use plant_text::PeerRow;
+use std::alloc::Global;
+use std::marker::Model;
+
+/// The transcript of events. Of an unseen one no text is made: who plays lines hands one in where nobody reads what is
+/// told of them.
+pub struct Log {
+    is_kept: bool,
+    text: Vec<u8>,
+}
+
+// Written, so that it is proved in this crate alone.
+impl Drop for Log {
+    fn drop(self) {
+        let Log {
+            is_kept: _,
+            text: _,
+        } = self;
+    }
+}
+
+impl Model for Log {
+    ghost use Rattle.plant_play.specs.Logs.{Told};
+
+    ghost Value = { Told };
+
+    ghost use Rattle.plant_play.specs.LogFields.{log_of};
+
+    ghost view = { log_of };
+}
+
+impl Log {
+    /// Nothing is told yet; what will be is kept.
+    pub fn kept(alloc: Global) -> Log
+        ensures { result ≡ untold true }
+    {
+        Log {
+            is_kept: true,
+            text: Vec::new(alloc),
+        }
+    }
+
+    /// Nothing is told, and nothing will be kept.
+    pub fn unseen(alloc: Global) -> Log
+        ensures { result ≡ untold false }
+    {
+        Log {
+            is_kept: false,
+            text: Vec::new(alloc),
+        }
+    }
+
+    /// Another one, with nothing told yet: what will be is kept where it is here.
+    pub(crate) fn fresh(&self, alloc: Global) -> Log
+        ensures { result ≡ untold self.now.is_kept }
+    {
+        Log {
+            is_kept: self.is_kept,
+            text: Vec::new(alloc),
+        }
+    }
+
+    /// What was told and kept.
+    pub fn text(&self) -> &[u8]
+        ensures { result.now ≡ self.now.text }
+    {
+        &self.text
+    }
+
+    /// Puts what another one keeps behind it; after a refusal nothing is put.
+    pub(crate) fn append(&mut self, other: &Log) -> Result<(), NoMemory>
+        ensures ok { OnOk result (self.new ≡ behind self.old other.now.text) }
+        ensures err { OnErr result (self.new ≡ self.old) }
+    {
+        if self.is_kept {
+            append(&mut self.text, other.text())
+        } else {
+            Ok(())
+        }
+    }
+}
+
+// Puts a text behind another; after a refusal nothing is put.
+fn append(into: &mut Vec<u8>, text: &[u8]) -> Result<(), NoMemory>
+    ensures ok { OnOk result (into.new.items ≡ into.old.items ++ text.now) }
+    ensures err { OnErr result (into.new.items ≡ into.old.items) }
+{
+    into.extend_from_slice(text)?;
+    Ok(())
+}
+
+// ---- each of these tells what the call of its name in `transcript` writes
+
+pub(crate) fn write_answer(
+    alloc: Global,
+    line: u32,
+    answer: &Result<Outcome, Refused>,
+    into: &mut Log,
+) -> Result<(), NoMemory>
+    ensures { OnOk result (into.new ≡ behind into.old (answer_line line answer.now)) }
+{
+    if into.is_kept {
+        transcript::write_answer(alloc, line, answer, &mut into.text)
+    } else {
+        Ok(())
+    }
+}
+
+pub(crate) fn write_take(line: u32, name: &str, into: &mut Log) -> Result<(), NoMemory>
+    ensures { OnOk result (into.new ≡ behind into.old (take_line line name.now)) }
+{
+    if into.is_kept {
+        transcript::write_take(line, name, &mut into.text)
+    } else {
+        Ok(())
+    }
+}
+
+pub(crate) fn write_carry(line: u32, from: As, to: As, into: &mut Log) -> Result<(), NoMemory>
+    ensures { OnOk result (into.new ≡ behind into.old (carry_line line from to)) }
+{
+    if into.is_kept {
+        transcript::write_carry(line, from, to, &mut into.text)
+    } else {
+        Ok(())
+    }
+}
+
+pub(crate) fn write_solve(line: u32, at: As, number: u64, into: &mut Log) -> Result<(), NoMemory>
+    ensures { OnOk result (into.new ≡ behind into.old (solve_line line at number)) }
+{
+    if into.is_kept {
+        transcript::write_solve(line, at, number, &mut into.text)
+    } else {
+        Ok(())
+    }
+}
+
+pub(crate) fn write_said(
+    alloc: Global,
+    line: u32,
+    peers: &[PeerRow],
+    said: &Said,
+    into: &mut Log,
+) -> Result<(), NoMemory>
+    ensures { OnOk result (into.new ≡ behind into.old (sents_text line peers.now said.now.kept)) }
+{
+    if into.is_kept {
+        transcript::write_said(alloc, line, peers, said, &mut into.text)
+    } else {
+        Ok(())
+    }
+}
+
+pub(crate) fn write_rows(line: u32, rows: &[BorderRow], into: &mut Log) -> Result<(), NoMemory>
+    ensures { OnOk result (into.new ≡ behind into.old (rows_text line rows.now)) }
+{
+    if into.is_kept {
+        transcript::write_rows(line, rows, &mut into.text)
+    } else {
+        Ok(())
+    }
+}
+
+pub(crate) fn write_certified(
+    line: u32,
+    certificate: &Certificate,
+    into: &mut Log,
+) -> Result<(), NoMemory>
+    ensures { OnOk result (into.new ≡ behind into.old (certified_text line certificate.now)) }
+{
+    if into.is_kept {
+        transcript::write_certified(line, certificate, &mut into.text)
+    } else {
+        Ok(())
+    }
+}
