@@ -37,7 +37,7 @@ bad.txt add node 10.2.0.3;node
 // that is published then; `;` stands for a line end, and `^` for a CR.
 const ROWS: &[u8] =
     b"load 2 d2.txt;load 9 d2.txt;jump;load 2 absent.txt;|9|9|1 ok generation 1;2 bad network d2.txt 1 other as;3 bad line;4 read fault;|end|1
-||9||end|-
+|9|9||end|-
 ;# load^;  ^;load 2 d2.txt|9|9|4 ok generation 1;|end|1
 load 2 d2.txt^;load 2 d2.txt^|9|9|1 ok generation 1;2 read fault;|end|1
 load 5 d5.txt;tick 1;load 2 bad.txt;load 2 big.txt;load 2|9|9|1 refused no such peer;2 bad line;3 bad network bad.txt 1 no header;4 too large big.txt;5 bad line;|end|-
@@ -49,8 +49,7 @@ load 2 d2.txt;change 2 more.txt;|2|9|1 ok generation 1;|spent|1
 load 2 d2.txt;change 2 more.txt;|3|9|1 ok generation 1;|spent|1
 load 2 d2.txt;change 2 more.txt;|4|9|1 ok generation 1;|spent|1
 load 2 d2.txt;|9|0||turns|-
-load 2 d2.txt;jump|9|1|1 ok generation 1;|turns|1
-";
+load 2 d2.txt;jump|9|1|1 ok generation 1;|turns|1";
 
 // How many bytes a line has, and what is told of it and of two more.
 const LONG: [(usize, &[u8]); 2] = [
@@ -213,9 +212,7 @@ fn want_of(alloc: Global, row: &'static [u8]) -> Option<Want> {
 fn each_input_is_answered_as_its_row_says(rt: HostRuntime) -> Result<(), Fail> {
     let alloc = rt.alloc();
     for row in ROWS.split(|c| *c == b'\n') {
-        let Some(want) = want_of(alloc, row) else {
-            break;
-        };
+        let want = want_of(alloc, row).ok_or("a row, or memory")?;
         let case = Case {
             input: &want.input,
             calls: want.calls,
