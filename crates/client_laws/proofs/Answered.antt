@@ -45,7 +45,7 @@ use Rattle.plant_bulk.specs.plant_client.Asking.{Asks, topologies}
 use Rattle.plant_bulk.specs.plant_client.Questions.{asked_of, question_message}
 use Rattle.peer_laws.proofs.OutletRuns.{run_fits}
 use Rattle.client_laws.proofs.Asking.{lines_feed, no_connection}
-use Rattle.client_laws.proofs.Opening.{Ends, IsNone, Walks, loading}
+use Rattle.client_laws.proofs.Opening.{Ends, IsNone, Walks, loading, tail_taken}
 use Rattle.client_laws.proofs.Resting.{asked_is_quiet}
 use Rattle.client_laws.proofs.Serving.{taken_is_served}
 use Rattle.client_laws.specs.Answered.{HasAnswer, IsReadSo, IsTakenUp, QuestionIsAnswered, QuestionIsTaken, QuestionsAreRead, answered, refused, waits}
@@ -103,10 +103,11 @@ question_is_taken files n client question received net is fits a =
     let start : Walks n client IsNone [] a.start.state = record { at = subst IsNone (sym none) tt; calm = opening_harmless wire n client } in
     let end : Ends n client question (entries_of a.lines.turns []) a.asked.state =
     loading n client question fits is.known files (topologies n.elements) a.lines.cues a.lines.are_cues a.start a.asked a.lines.turns a.lines.told [] a.lines.played a.new.network start in
+    let taken = tail_taken n client question (entries_of a.lines.turns []) end.1 in
     record {
-      outputs = end.1.outputs;
-      older = end.1.older;
-      within = end.1.within;
+      outputs = taken.outputs;
+      older = taken.older;
+      within = taken.within;
       kept = λ deed before within d x why. none_dropped client (deeds_of wire n (entries_of a.lines.turns [])) end.0.calm deed before within d x why;
     }
 

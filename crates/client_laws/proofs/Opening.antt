@@ -1,5 +1,5 @@
 -- The session of a client that asks once comes up, its question is taken, and nothing of what follows ends the session.
-use Rattle.std.proofs.Common.{◌≡◌, ℕ, Bool, true, false, cond, ◌==◌, List, [], ◌∷◌, ◌++◌, map, Option, Some, None, is_some, Ok, append_assoc, sym, ap, subst, ◌∙◌, inl, inr, refl, arith}
+use Rattle.std.proofs.Common.{◌≡◌, ◌⊎◌, ℕ, Bool, true, false, cond, ◌==◌, List, [], ◌∷◌, ◌++◌, map, Option, Some, None, is_some, Ok, append_assoc, sym, ap, subst, ◌∙◌, inl, inr, refl, arith}
 use Rattle.std.specs.List.{AllByRecursion}
 use Rattle.std.proofs.lemmas.List.{append-nil}
 use Rattle.dom_base.specs.declared.names.As.{As}
@@ -93,6 +93,12 @@ comes ms bytes whole is =
 got : (m : Message) → IsWritten m → input_of wire (Some (message_text m)) ≡ input.Got m
 got m fits = ap (λ r. read_as (message_or_none r)) (message_laws.written_is_read m fits)
 
+-- an event of others
+abbrev pub IsOfOthers : Event → Type 0
+IsOfOthers (event.Carry a b) = Unit {0}
+IsOfOthers (event.Solve d k) = Unit {0}
+IsOfOthers e = ⊥
+
 -- ---- the walk
 
 -- what is known of the connection, and that nothing dropped a request of the peer
@@ -111,10 +117,6 @@ is_none (Some k) h = absurd h
 within_behind : (es ds m : Transcript) → Within m ds → Within m (es ++ ds)
 within_behind [] ds m h = h
 within_behind (e ∷ es) ds m h = inr (within_behind es ds m h)
-
-pub within_later : (n : NetworkParts) (ts : List Turn) (older : List Entry) (m : Transcript) → Within m (deeds_of wire n older) → Within m (deeds_of wire n (entries_of ts older))
-within_later n [] older m h = h
-within_later n (t ∷ ts) older m h = within_later n ts (t.entry ∷ older) m (within_behind t.entry.deeds (deeds_of wire n older) m h)
 
 module _ (n : NetworkParts) (i : ℕ) where
   abbrev happened_at : Turn → Happened
@@ -261,28 +263,67 @@ module _ (n : NetworkParts) (i : ℕ) where
   -- ---- the question is taken
 
   module _ (question : Question) where
+    -- the entry that takes it
+    pub record IsTaking (e : Entry) : Type 0 where
+      pub outputs : List Output
+      pub accepted : is_accepted e.answer ≡ true
+      pub takes : e.event ≡ event.Take i
+      pub deeds : e.deeds ≡ Takes (element_of n i) (Outside i) (question_message question) outputs ∷ []
+
+    -- It was taken, and what follows is done by others alone.
+    abbrev pub IsTail : List Entry → Type 0
+    IsTail [] = ⊥
+    IsTail (e ∷ es) = IsTaking e ⊎ ((is_accepted e.answer ≡ true) × IsOfOthers e.event × IsTail es)
+
     pub record IsTaken (es : List Entry) : Type 0 where
       pub outputs : List Output
       pub older : Transcript
       pub within : Within (Takes (element_of n i) (Outside i) (question_message question) outputs ∷ older) (deeds_of wire n es)
 
-    later_taken : (ts : List Turn) (es : List Entry) → IsTaken es → IsTaken (entries_of ts es)
-    later_taken ts es t = record { outputs = t.outputs; older = t.older; within = within_later n ts es (Takes (element_of n i) (Outside i) (question_message question) t.outputs ∷ t.older) t.within }
+    pub tail_taken : (es : List Entry) → IsTail es → IsTaken es
+    tail_taken [] tail = absurd tail
+    tail_taken (e ∷ es) (inl x) = record {
+      outputs = x.outputs;
+      older = deeds_of wire n es;
+      within = subst (λ (ds : Transcript). Within (Takes (element_of n i) (Outside i) (question_message question) x.outputs ∷ deeds_of wire n es) (ds ++ deeds_of wire n es)) (sym x.deeds) (inl refl);
+    }
+    tail_taken (e ∷ es) (inr later) =
+        let t = tail_taken es later.2 in
+        record { outputs = t.outputs; older = t.older; within = within_behind e.deeds (deeds_of wire n es) (Takes (element_of n i) (Outside i) (question_message question) t.outputs ∷ t.older) t.within }
 
-    first_taken : IsWritten (question_message question) → (m : Modes) (s : Plant) (ts : List Turn) (end : Plant) (older : List Entry) → AreDue (IsDueTake i) m n s ts end → inbox_from (end.accesses i).connection ≡ [] →
-        Has phase.Up Empty (items (question_message question ∷ [])) (s.accesses i).connection → IsTaken (entries_of ts older)
-    first_taken fits m s [] end older all over has =
+    others_tail : (until : Until) (m : Modes) (s : Plant) (ts : List Turn) (end : Plant) (older : List Entry) → AreDue (IsDue until n) m n s ts end → IsTail older → IsTail (entries_of ts older)
+    others_tail until m s [] end older all tail = tail
+    others_tail until m s (t ∷ ts) end older all tail = others_tail until m t.after ts end (t.entry ∷ older) all.3 (inr (all.2, go t.entry.event all.0, tail))
+      where
+        go : (e : Event) → IsDue until n s (Some e) → IsOfOthers e
+        go (event.Carry a b) due = tt
+        go (event.Solve d k) due = tt
+        go (event.Load d g) due = absurd due
+        go (event.Open j holder) due = absurd due
+        go (event.Shut j) due = absurd due
+        go (event.Feed j bytes) due = absurd due
+        go (event.Take j) due = absurd due
+        go (event.Break a b) due = absurd due
+        go (event.Tick now) due = absurd due
+        go (event.Drain j holder) due = absurd due
+
+    -- it is the one that is taken
+    one_taken : IsWritten (question_message question) → (m : Modes) (s : Plant) (ts : List Turn) (end : Plant) (older : List Entry) → AreDue (IsDueTake i) m n s ts end → inbox_from (end.accesses i).connection ≡ [] →
+        Has phase.Up Empty (items (question_message question ∷ [])) (s.accesses i).connection → IsTail (entries_of ts older)
+    one_taken fits m s [] end older all over has =
         absurd (waits_there phase.Up Empty (Some (question_text question)) [] (s.accesses i).connection has (subst (λ (z : Plant). inbox_from (z.accesses i).connection ≡ []) all over))
-    first_taken fits m s (t ∷ ts) end older all over has =
+    one_taken fits m s (t ∷ []) end older all over has =
         let happens : Happens wire n s (event.Take i) (happened_at t) = subst (λ (e : Event). Happens wire n s e (happened_at t)) all.0 all.1.happens in
         let says =
         request_taken wire n i s (happened_at t) Empty (question_text question) (asked_of question ∷ []) [] happens (ap message_or_none (message_laws.written_is_read (question_message question) fits)) has in
-        later_taken ts (t.entry ∷ older)
-        (record {
-          outputs = says.0;
-          older = deeds_of wire n older;
-          within = subst (λ (ds : Transcript). Within (Takes (element_of n i) (Outside i) (question_message question) says.0 ∷ deeds_of wire n older) (ds ++ deeds_of wire n older)) (sym says.1) (inl refl);
-        })
+        inl (record { outputs = says.0; accepted = all.2; takes = all.0; deeds = says.1 })
+    one_taken fits m s (t ∷ u ∷ us) end older all over has =
+        let happens : Happens wire n s (event.Take i) (happened_at t) = subst (λ (e : Event). Happens wire n s e (happened_at t)) all.0 all.1.happens in
+        let leads : Leads phase.Up (input_of wire (Some (question_text question))) phase.Up =
+        subst (λ (y : Input). Leads phase.Up y phase.Up) (sym (got (question_message question) fits)) (request_leads (asked_of question ∷ [])) in
+        let then = take_stays wire n i s (happened_at t) phase.Up phase.Up Empty (Some (question_text question)) [] happens leads has in
+        let again : Happens wire n t.after (event.Take i) (happened_at u) = subst (λ (e : Event). Happens wire n t.after e (happened_at u)) all.3.0 all.3.1.happens in
+        absurd (let clash : true ≡ false = sym all.3.2 ∙ ap (λ (x : Happened). is_accepted x.answer) again ∙ none_there phase.Up Empty t.after then.0 in cc)
 
     question_whole : IsWritten (question_message question) → AreWhole (question_message question ∷ [])
     question_whole fits = ((fits, question_alone question fits), tt)
@@ -302,10 +343,16 @@ module _ (n : NetworkParts) (i : ℕ) where
     question_goes : Goes phase.Up (question_message question ∷ []) phase.Up
     question_goes = (phase.Up, request_leads (asked_of question ∷ []), refl)
 
+    finish_tail : (old : Stage) → old.network ≡ n → (c : Cue) (answer : Answered) (turns : List Turn) (told : List ℕ) (new : Stage) (older : List Entry) → c.event ≡ line.Finish → PlaysLine old c answer turns told new →
+        IsTail older → IsTail (entries_of turns older)
+    finish_tail old same c answer turns told new older is p tail =
+        let q = subst (λ (x : LineEvent). Plays c.number old x c.file answer turns told new.state) is p.plays in
+        others_tail Finished old.modes old.state turns new.state older (subst (λ (m : NetworkParts). AreDue (IsDue Finished m) old.modes m old.state turns new.state) same q.all.due) tail
+
     -- ---- lines one after the other
 
     abbrev pub Ends : List Entry → Plant → Type 0
-    Ends es s = Walks n i (Has phase.Up Empty []) es s × IsTaken es
+    Ends es s = Walks n i (Has phase.Up Empty []) es s × IsTail es
 
     module _ (fits : IsWritten (question_message question)) (known : is_some (peer_row i n.peers) ≡ true) (files : Option Files) where
       finishing : (cs : List Cue) → AreCues files (line.Finish ∷ []) cs → (old new : Stage) (turns : List Turn) (told : List ℕ) (older : List Entry) → AllPlayed old cs turns told new → old.network ≡ n → Ends older old.state → Ends (entries_of turns older) new.state
@@ -315,7 +362,7 @@ module _ (n : NetworkParts) (i : ℕ) where
           on i Ends turns p.first p.later older new.state p.turns_are
           (subst (λ (ts : List Turn). Ends (entries_of ts (entries_of p.first older)) new.state) (sym p.others.0)
           (subst (λ (x : Stage). Ends (entries_of p.first older) x.state) (sym p.others.2)
-          (finish_walks old same c p.answer p.first p.said p.mid older (Has phase.Up Empty []) (λ z. z) (λ k bytes z. z) are.0.event p.plays h.0, later_taken p.first older h.1)))
+          (finish_walks old same c p.answer p.first p.said p.mid older (Has phase.Up Empty []) (λ z. z) (λ k bytes z. z) are.0.event p.plays h.0, finish_tail old same c p.answer p.first p.said p.mid older are.0.event p.plays h.1)))
 
       asking : (cs : List Cue) → AreCues files (line.Feed (Some i) (question_text question) ∷ line.Finish ∷ []) cs → (old new : Stage) (turns : List Turn) (told : List ℕ) (older : List Entry) → AllPlayed old cs turns told new → old.network ≡ n →
           Walks n i (Has phase.Up Empty []) older old.state → Ends (entries_of turns older) new.state
@@ -326,8 +373,8 @@ module _ (n : NetworkParts) (i : ℕ) where
           let q = feeds old same c p.answer p.first p.said p.mid older phase.Up refl ms bytes (question_whole fits) question_is are.0.event p.plays w in
           let due = fed_due old same c p.answer p.first p.said p.mid older phase.Up refl ms bytes (question_whole fits) question_is are.0.event p.plays w in
           let fed = fed_walks old same c p.answer p.first p.said p.mid older phase.Up refl ms bytes (question_whole fits) question_is are.0.event p.plays w in
-          let taken : IsTaken (entries_of p.first older) =
-          subst (λ (ts : List Turn). IsTaken (entries_of ts older)) (sym q.are) (first_taken fits old.modes q.fed.after q.taken p.mid.state (q.fed.entry ∷ older) due.due due.over fed.at) in
+          let taken : IsTail (entries_of p.first older) =
+          subst (λ (ts : List Turn). IsTail (entries_of ts older)) (sym q.are) (one_taken fits old.modes q.fed.after q.taken p.mid.state (q.fed.entry ∷ older) due.due due.over fed.at) in
           on i Ends turns p.first p.later older new.state p.turns_are
           (finishing cs are.1 p.mid new p.later p.more (entries_of p.first older) p.others (p.plays.network ∙ same)
           (feed_walks old same c p.answer p.first p.said p.mid older phase.Up refl ms bytes (question_whole fits) question_is are.0.event p.plays w phase.Up question_goes, taken))
