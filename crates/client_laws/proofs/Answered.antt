@@ -83,14 +83,22 @@ module _ (q : Question) (d : As) where
   refused_so None rp kind value e = cc
   refused_so (Some error) rp kind value e = cc
 
+  -- and it has no flags
+  flags_so : (o : Option (ℕ × ℕ)) (r : Request) → checked (Some (0, q.id)) o (Some for_path) ≡ Admitted r → r.flags ≡ 0
+  flags_so None r e = (let mine : Request = record { flags = 0; id = q.id; wish = for_path } in let same : mine ≡ r = cc in ap (λ (x : Request). x.flags) (sym same))
+  flags_so (Some error) r e = cc
+
+  low_of : d ≢ parent_as → (d.0 == 0) ≡ false
+  low_of real = elim (cases_Bool (same_as d parent_as)) [ inl up ↦ absurd (real (same_as_is d parent_as up)) | inr other ↦ other ]
+
+  pub no_flags : d ≢ parent_as → (r : Request) → check_of (asked_of q) d ≡ Admitted r → r.flags ≡ 0
+  no_flags real r e = flags_so (refusal_of d.0 objects) r (sym (check_is (low_of real)) ∙ e)
+
   pub read_so : d ≢ parent_as → IsReadSo q d
   read_so real = record {
-    admitted = λ r e. admitted_so (refusal_of d.0 objects) r (sym (check_is low) ∙ e);
-    refused = λ rp kind value e. refused_so (refusal_of d.0 objects) rp kind value (sym (check_is low) ∙ e);
+    admitted = λ r e. admitted_so (refusal_of d.0 objects) r (sym (check_is (low_of real)) ∙ e);
+    refused = λ rp kind value e. refused_so (refusal_of d.0 objects) rp kind value (sym (check_is (low_of real)) ∙ e);
   }
-    where
-      low : (d.0 == 0) ≡ false
-      low = elim (cases_Bool (same_as d parent_as)) [ inl up ↦ absurd (real (same_as_is d parent_as up)) | inr other ↦ other ]
 
 pub questions_are_read : QuestionsAreRead
 questions_are_read q d real = read_so q d real

@@ -13,6 +13,8 @@ pub mod Resting
 pub mod Serving
 mod OutsideStays
 mod Opening
+mod Words
+mod Lasting
 pub mod Answered
 -- handed on from below
 pub use Rattle.script_laws.proofs as script_laws
