@@ -17,7 +17,6 @@ use Rattle.pcep_messages.specs.declared.message.Message.TheVariants as messages
 use Rattle.pcep_messages.specs.declared.message.Reply.{Reply}
 use Rattle.pcep_messages.specs.declared.message.Request.{Request}
 use Rattle.pcep_messages.specs.Spelling.{IsWritten}
-use Rattle.path_keys.specs.declared.issued.Issued.{Issued}
 use Rattle.disclosure.specs.Shown.{open_of}
 use Rattle.request_table.specs.declared.held.Held.{Held}
 use Rattle.request_table.specs.Pending.{same_peer}
@@ -100,13 +99,13 @@ module _ (n : NetworkParts) (net : IsNetwork n) (i : ℕ) (q : Question) (es : L
   abbrev now : Transcript
   now = deeds_of wire n es
 
-  not_above : (m : Transcript) (r : Request) → Within m now → Delivered wire m parent_as (Outside i) r → ⊥
+  pub not_above : (m : Transcript) (r : Request) → Within m now → Delivered wire m parent_as (Outside i) r → ⊥
   not_above [] r within delivered = delivered
   not_above (e ∷ older) r within delivered =
       none_outside n net wire wire_is_codec es s run i (messages.PcReq (delivered.0 ∷ [])) delivered.1 older (subst (λ (x : PlantDeed). Within (x ∷ older) now) delivered.2 within)
 
   -- a request of the client that was delivered is the question
-  its_own : (at : As) (m : Transcript) (r : Request) → Within m now → Delivered wire m at (Outside i) r → (r.id ≡ q.id) × (r.flags ≡ 0)
+  pub its_own : (at : As) (m : Transcript) (r : Request) → Within m now → Delivered wire m at (Outside i) r → (r.id ≡ q.id) × (r.flags ≡ 0)
   its_own at m r within delivered =
       let real : at ≢ parent_as = λ up. not_above m r within (subst (λ (d : As). Delivered wire m d (Outside i) r) up delivered) in
       let check = only at m r within delivered in
@@ -127,7 +126,7 @@ module _ (n : NetworkParts) (net : IsNetwork n) (i : ℕ) (q : Question) (es : L
         let f = was_open in
         not_above f.0 f.2 (within_trans f.0 older now (opened_within wire at (Outside i) y older f.0 f.1) (later_within e older now within)) (subst (λ (d : As). Delivered wire f.0 d (Outside i) f.2) up f.3)
 
-  some_answers : (y : ℕ) (os : List Output) (o : Output) → In o os → o.to ≡ Outside i → 1 ≤ count_answers y o.message → 1 ≤ answers_to (Outside i) y os
+  pub some_answers : (y : ℕ) (os : List Output) (o : Output) → In o os → o.to ≡ Outside i → 1 ≤ count_answers y o.message → 1 ≤ answers_to (Outside i) y os
   some_answers y [] o there to one = absurd there
   some_answers y (x ∷ os) o (inl is) to one =
       subst (λ (z : Output). 1 ≤ cond (same_peer z.to (Outside i)) (count_answers y z.message) 0 + answers_to (Outside i) y os) is
@@ -142,7 +141,7 @@ module _ (n : NetworkParts) (net : IsNetwork n) (i : ℕ) (q : Question) (es : L
     finals all own os (λ x is. among x (inr is)) h.1,
   )
 
-  all_final : (os : List Output) → ((y : ℕ) → 1 ≤ answers_to (Outside i) y os → y ≡ q.id) → Each i Denies os → Each i (IsFinal q.id) os
+  pub all_final : (os : List Output) → ((y : ℕ) → 1 ≤ answers_to (Outside i) y os → y ≡ q.id) → Each i Denies os → Each i (IsFinal q.id) os
   all_final os own h = finals os own os (λ o is. is) h
 
 -- ---- the deeds of an event of others
@@ -252,12 +251,12 @@ module _ (n : NetworkParts) (net : IsNetwork n) (i : ℕ) (q : Question) (downs 
     solved_busy : (m : Message) → m ≡ busy held.item.flags held.key.id → held.key.peer ≡ Outside i → IsFinal q.id m
     solved_busy m is to = denial (full held.item.flags (is ∙ ap (λ (x : ℕ). busy held.item.flags x) (mine to).0))
 
-  solved_final : (at : As) (k : ℕ) (os : List Output) (keys : List (Issued Segment)) (older : Transcript) → Within (Solves at k os keys ∷ older) (deeds_of wire n es) → OfSolve wire n before e (Solves at k os keys) → Final os
+  solved_final : (at : As) (k : ℕ) (os : List Output) (keys : _) (older : Transcript) → Within (Solves at k os keys ∷ older) (deeds_of wire n es) → OfSolve wire n before e (Solves at k os keys) → Final os
   solved_final at k os keys older within (of_element d k' is tells) =
       let same : os ≡ record { to = tells.held.key.peer; message = tells.message } ∷ [] = outs_are tells.sends_one in
       subst Final (sym same) (λ to. go (is_client tells.held.item.class) refl to, tt)
     where
-      outs_are : {to : Peer} {m : Message} {keys' : List (Issued Segment)} → Solves at k os keys ∷ [] ≡ Solves d k' (record { to = to; message = m } ∷ []) keys' ∷ [] → os ≡ record { to = to; message = m } ∷ []
+      outs_are : {to : Peer} {m : Message} {keys' : _} → Solves at k os keys ∷ [] ≡ Solves d k' (record { to = to; message = m } ∷ []) keys' ∷ [] → os ≡ record { to = to; message = m } ∷ []
       outs_are e' = cc
 
       client : solves.TellsClient wire (k', tells.held) tells.down tells.rows tells.message → tells.held.key.peer ≡ Outside i → IsFinal q.id tells.message

@@ -15,6 +15,7 @@ mod OutsideStays
 mod Opening
 mod Words
 mod Lasting
+pub mod Ended
 pub mod Answered
 -- handed on from below
 pub use Rattle.script_laws.proofs as script_laws

@@ -54,13 +54,13 @@ inner_is : (b : As) (i : ℕ) → Inner b ≡ Outside i → ⊥
 inner_is b i e = cc
 
 module _ (i : ℕ) where
-  abbrev Says : (Message → Type 0) → List Output → Type 0
+  abbrev pub Says : (Message → Type 0) → List Output → Type 0
   Says Q os = Each i Q os
 
-  nothing : (Q : Message → Type 0) (os : List Output) → os ≡ [] → Says Q os
+  pub nothing : (Q : Message → Type 0) (os : List Output) → os ≡ [] → Says Q os
   nothing Q os is = subst (Says Q) (sym is) tt
 
-  one : (Q : Message → Type 0) (to : Peer) (m : Message) (os : List Output) → os ≡ record { to = to; message = m } ∷ [] → (to ≡ Outside i → Q m) → Says Q os
+  pub one : (Q : Message → Type 0) (to : Peer) (m : Message) (os : List Output) → os ≡ record { to = to; message = m } ∷ [] → (to ≡ Outside i → Q m) → Says Q os
   one Q to m os is each = subst (Says Q) (sym is) (each, tt)
 
   denied : (a : Asker) (os : List Output) → os ≡ causes.chain_broken a → Says Denies os
