@@ -17,12 +17,14 @@ use Rattle.pcep_messages.specs.Refusals.{refusal_of}
 use Rattle.pcep_messages.specs.Requests.{wanted_of, wish_of, without_bit}
 use Rattle.pcep_messages.specs.Said.{end_points_of, with_bit}
 use Rattle.pcep_messages.specs.Spelling.{IsWritten}
+use Rattle.dom_edge.specs.Stores.{Files}
 use Rattle.plant_text.specs.declared.settings.NetworkParts.{NetworkParts}
 use Rattle.plant_text.specs.Names.{parent_as, same_as}
 use Rattle.request_table.specs.Pending.{key_of}
 use Rattle.script_laws.specs.plant_model.declared.output.Output.{Output}
 use Rattle.script_laws.specs.plant_model.Deeds.{element_of}
 use Rattle.script_laws.specs.plant_model.Element.{Element}
+use Rattle.script_laws.specs.plant_model.Laws.{IsNetwork}
 use Rattle.script_laws.specs.plant_model.Plant.{Entry, Pin, Plant, PlantDeed, Run, Segment, deeds_of}
 use Rattle.script_laws.specs.plant_model.RealWire.{check_of, checked, wire}
 use Rattle.script_laws.specs.plant_model.State.{Takes}
@@ -49,6 +51,7 @@ use Rattle.client_laws.proofs.Opening.{Ends, IsNone, Walks, loading, tail_taken}
 use Rattle.client_laws.proofs.Resting.{asked_is_quiet}
 use Rattle.client_laws.proofs.Serving.{taken_is_served}
 use Rattle.client_laws.specs.Answered.{HasAnswer, IsReadSo, IsTakenUp, QuestionIsAnswered, QuestionIsTaken, QuestionsAreRead, answered, refused, waits}
+use Rattle.client_laws.specs.Told.{IsClient}
 use Rattle.client_laws.specs.Served.{IsServed, at_once, dropped, later}
 use Rattle.client_laws.specs.Served as waiting
 
@@ -105,12 +108,17 @@ questions_are_read q d real = read_so q d real
 
 -- ---- it is taken
 
-pub question_is_taken : QuestionIsTaken
-question_is_taken files n client question received net is fits a =
+-- where the lines of the client end
+pub question_ends : (files : Option Files) (n : NetworkParts) (client : ℕ) (question : Question) (received : List ℕ) → IsNetwork n → IsClient n client → IsWritten (question_message question) → (a : Asks files n client question received) →
+    Ends n client question (entries_of a.lines.turns []) a.asked.state
+question_ends files n client question received net is fits a =
     let none : (a.start.state.accesses client).connection ≡ None = no_connection client None (a.start.state.accesses client).connection refl (run_fits wire n [] a.start.state a.new.run client) in
     let start : Walks n client IsNone [] a.start.state = record { at = subst IsNone (sym none) tt; calm = opening_harmless wire n client } in
-    let end : Ends n client question (entries_of a.lines.turns []) a.asked.state =
-    loading n client question fits is.known files (topologies n.elements) a.lines.cues a.lines.are_cues a.start a.asked a.lines.turns a.lines.told [] a.lines.played a.new.network start in
+    loading n client question fits is.known files (topologies n.elements) a.lines.cues a.lines.are_cues a.start a.asked a.lines.turns a.lines.told [] a.lines.played a.new.network start
+
+pub question_is_taken : QuestionIsTaken
+question_is_taken files n client question received net is fits a =
+    let end = question_ends files n client question received net is fits a in
     let taken = tail_taken n client question (entries_of a.lines.turns []) end.1 in
     record {
       outputs = taken.outputs;

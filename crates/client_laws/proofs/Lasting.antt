@@ -8,7 +8,7 @@ use Rattle.dom_base.specs.declared.names.As.{As}
 use Rattle.dom_base.specs.declared.names.Peer.{Peer}
 use Rattle.dom_base.specs.declared.names.Peer.TheVariants.{Inner, Outside}
 use Rattle.border_costs.proofs.Members.{contains_head, contains_tail}
-use Rattle.pcep_codes.specs.declared.errors.TheConstants as errors
+use Rattle.pcep_codes.specs.declared.no_paths.TheConstants as no_paths
 use Rattle.pcep_messages.specs.declared.message.Answer.{Answer}
 use Rattle.pcep_messages.specs.declared.message.Answer.TheVariants.{NoPath, Paths}
 use Rattle.pcep_messages.specs.declared.message.Asked.{Asked}
@@ -26,6 +26,7 @@ use Rattle.plant_text.specs.Names.{parent_as, same_as}
 use Rattle.script_laws.specs.plant_model.declared.event.Event.{Event}
 use Rattle.script_laws.specs.plant_model.declared.event.Event.TheVariants as event
 use Rattle.script_laws.specs.plant_model.declared.output.Output.{Output}
+use Rattle.script_laws.specs.plant_model.Branches.{path_of}
 use Rattle.script_laws.specs.plant_model.Element.{Element, Item, Row, is_client}
 use Rattle.script_laws.specs.plant_model.Laws.{IsNetwork}
 use Rattle.script_laws.specs.plant_model.Names.{the_parent}
@@ -77,6 +78,9 @@ counts y m (failed flags is) = subst (λ (z : Message). 1 ≤ count_answers y z)
 reply_counts : (flags y : ℕ) (answer : Answer) → 1 ≤ count_answers y (reply_message flags y answer)
 reply_counts flags y answer = rw (eq-eqb y y refl) (omega arith)
 
+same_row : {T : Type 0} (row : ℕ × Held T) (k : ℕ) (held : Held T) → row.0 ≡ k → row.1 ≡ held → row ≡ (k, held)
+same_row row k held number is = cc
+
 -- a row that is found is one of the rows
 found_row : {T : Type 0} (k : ℕ) (rows : List (ℕ × Held T)) (held : Held T) → lookup (nat_eq k) rows ≡ Some held → Contains rows (k, held)
 found_row k [] held e = (let out : None ≡ Some held = e in cc)
@@ -84,9 +88,7 @@ found_row {T} k (row ∷ rows) held e = elim (cases_Bool (nat_eq k row.0)) [
   | inl hit ↦
       let at : Some row.1 ≡ Some held = rw hit at e in
       let is : row.1 ≡ held = cc in
-      let number : row.0 ≡ k = sym (eqb-true k row.0 hit) in
-      let same : row ≡ (k, held) = ap (λ (x : ℕ). (x, row.1)) number ∙ ap (λ (h : Held T). (k, h)) is in
-      subst (λ (z : ℕ × Held T). Contains (row ∷ rows) z) same (contains_head row rows)
+      subst (λ (z : ℕ × Held T). Contains (row ∷ rows) z) (same_row row k held (sym (eqb-true k row.0 hit)) is) (contains_head row rows)
   | inr miss ↦ contains_tail row rows (k, held) (found_row k rows held (rw miss at e))
 ]
 
@@ -283,8 +285,8 @@ module _ (n : NetworkParts) (net : IsNetwork n) (i : ℕ) (q : Question) (downs 
       up = (let e' : Solves at k os keys ∷ [] ≡ Solves parent_as k' (record { to = held.key.peer; message = tells.message } ∷ []) [] ∷ [] = tells.sends_one in cc)
 
       replied : solves.TellsUpper wire (k', held) tells.answer tells.message → 1 ≤ count_answers held.key.id tells.message
-      replied (solves.found a is' said) = subst (λ (m : Message). 1 ≤ count_answers held.key.id m) (sym said) (reply_counts held.item.flags held.key.id _)
-      replied (solves.no_walk is' said) = subst (λ (m : Message). 1 ≤ count_answers held.key.id m) (sym said) (reply_counts held.item.flags held.key.id _)
+      replied (solves.found a is' said) = subst (λ (m : Message). 1 ≤ count_answers held.key.id m) (sym said) (reply_counts held.item.flags held.key.id (Paths (path_of wire held.item.wanted.query.metric a.cost a.hops ∷ [])))
+      replied (solves.no_walk is' said) = subst (λ (m : Message). 1 ≤ count_answers held.key.id m) (sym said) (reply_counts held.item.flags held.key.id (NoPath no_paths.NONE_FOUND 0))
 
       none_above : held.key.peer ≡ Outside i → ⊥
       none_above to =

@@ -4,6 +4,7 @@
 
 ghost use Rattle.client_laws.specs.Answered.{QuestionIsAnswered, QuestionIsTaken, QuestionsAreRead};
 ghost use Rattle.client_laws.specs.Asked.{OneIsAsked};
+ghost use Rattle.client_laws.specs.Ended.{AnswerIsTold};
 ghost use Rattle.client_laws.specs.Received.{ManyAreReceived};
 ghost use Rattle.client_laws.specs.Resting.{AskedIsAtRest, AskedIsQuiet, FinishedIsAtRest, LinesTakeAll};
 ghost use Rattle.client_laws.specs.Served.{TakenIsOpen, TakenIsServed};
@@ -54,4 +55,11 @@ pub fn question_is_answered()
     ensures read { QuestionsAreRead }
     ensures taken { QuestionIsTaken }
     ensures answered { QuestionIsAnswered }
+{}
+
+/// Where a client asks once, no id comes round and paths go on through no outside peer, the last message that was put for the client is
+/// the answer to its question, so nothing is said to it behind that. What it is told is what that answer says, and it is not nothing: a
+/// path has its cost, and each other answer a line.
+pub fn answer_is_told()
+    ensures { AnswerIsTold }
 {}
