@@ -120,8 +120,8 @@ module _ (d : As) (p : Peer) (x : ℕ) where
   -- after it ended, what is open began later
   began_later : (now : Transcript) (e : PlantDeed) (older : Transcript) → Within (e ∷ older) now → opened wire d p x (e ∷ older) ≡ None → (at : Transcript) → opened wire d p x now ≡ Some at → length (e ∷ older) < length at
   began_later [] e older w closed at is = cc
-  began_later (f ∷ now) e older (inl same) none at is = (let clash : None ≡ Some at = sym closed ∙ ap (opened wire d p x) same ∙ is in cc)
-  began_later (f ∷ now) e older (inr w) none at is = go (effect wire d p x f) (opened wire d p x now) is (began_later now e older w none at)
+  began_later (f ∷ now) e older (inl same) closed at is = (let clash : None ≡ Some at = sym closed ∙ ap (opened wire d p x) same ∙ is in cc)
+  began_later (f ∷ now) e older (inr w) closed at is = go (effect wire d p x f) (opened wire d p x now) is (began_later now e older w closed at)
     where
       go : (g : Effect) (o : Option Transcript) → after g o (f ∷ now) ≡ Some at → (o ≡ Some at → length (e ∷ older) < length at) → length (e ∷ older) < length at
       go Keeps o is' rec = rec is'

@@ -79,7 +79,7 @@ reply_counts : (flags y : ℕ) (answer : Answer) → 1 ≤ count_answers y (repl
 reply_counts flags y answer = rw (eq-eqb y y refl) (omega arith)
 
 same_row : {T : Type 0} (row : ℕ × Held T) (k : ℕ) (held : Held T) → row.0 ≡ k → row.1 ≡ held → row ≡ (k, held)
-same_row row k held number is = cc
+same_row {T} row k held number is = ap (λ (x : ℕ). (x, row.1)) number ∙ ap (λ (h : Held T). (k, h)) is
 
 -- a row that is found is one of the rows
 found_row : {T : Type 0} (k : ℕ) (rows : List (ℕ × Held T)) (held : Held T) → lookup (nat_eq k) rows ≡ Some held → Contains rows (k, held)
