@@ -8,14 +8,13 @@ use Rattle.dom_base.specs.declared.addr.Addr.{Addr}
 use Rattle.dom_base.specs.declared.names.As.{As}
 use Rattle.dom_base.specs.declared.names.Peer.TheVariants.{Outside}
 use Rattle.pcep_objects.specs.declared.object.Object.{Object}
-use Rattle.pcep_messages.specs.declared.message.Message.{Message}
 use Rattle.pcep_messages.specs.declared.message.Request.{Request}
 use Rattle.pcep_messages.specs.declared.message.Wanted.{Wanted}
 use Rattle.pcep_messages.specs.declared.message.Wish.{Wish}
 use Rattle.pcep_messages.specs.declared.message.Wish.TheVariants as wishes
 use Rattle.pcep_messages.specs.Refusals.{refusal_of}
 use Rattle.pcep_messages.specs.Requests.{wanted_of, wish_of, without_bit}
-use Rattle.pcep_messages.specs.Said.{end_points_of, with_bit}
+use Rattle.pcep_messages.specs.Said.{end_points_of}
 use Rattle.pcep_messages.specs.Spelling.{IsWritten}
 use Rattle.dom_edge.specs.Stores.{Files}
 use Rattle.plant_text.specs.declared.settings.NetworkParts.{NetworkParts}
@@ -29,7 +28,7 @@ use Rattle.script_laws.specs.plant_model.Plant.{Entry, Pin, Plant, PlantDeed, Ru
 use Rattle.script_laws.specs.plant_model.RealWire.{check_of, checked, wire}
 use Rattle.script_laws.specs.plant_model.State.{Takes}
 use Rattle.script_laws.specs.plant_model.Wire.{Admitted, Checked, Wrong}
-use Rattle.script_laws.specs.plant_model.Writing.{bandwidth, ends, ends_kind, error_message, iro}
+use Rattle.script_laws.specs.plant_model.Writing.{bandwidth, ends_kind, error_message, iro}
 use Rattle.script_laws.specs.plant_laws.Answered.{answers_of}
 use Rattle.script_laws.specs.plant_laws.Causes.{OnPassed, by_element, by_parent}
 use Rattle.script_laws.specs.plant_laws.MessageCauses.{OnRequest}
@@ -39,7 +38,7 @@ use Rattle.script_laws.specs.plant_play.Turns.{entries_of}
 use Rattle.script_laws.proofs.Rightly.{scripts_are_right}
 use Rattle.script_laws.proofs.plant_laws.plant_model.WireLaws.{wire_is_codec}
 use Rattle.script_laws.proofs.plant_laws.Once.AskedRuns.{none_outside}
-use Rattle.script_laws.proofs.plant_laws.Reasons.MomentCauses.{HasOne, IsOpening, moment_cause}
+use Rattle.script_laws.proofs.plant_laws.Reasons.MomentCauses.{HasOne, moment_cause}
 use Rattle.client_laws.proofs.OutsideStays.{none_dropped, opening_harmless}
 use Rattle.script_laws.proofs.plant_laws.Runs.Queues.{same_as_is}
 use Rattle.plant_bulk.specs.plant_client.declared.question.Question.{Question}

@@ -1,17 +1,16 @@
 -- Nothing is said to a client that asks once behind the answer to its question, and that has lines.
-use Rattle.std.proofs.Common.{◌≡◌, ◌≢◌, ◌⊎◌, ◌≤◌, ◌<◌, ◌+◌, ◌==◌, nat_eq, ℕ, zero, suc, Bool, true, false, cond, List, [], ◌∷◌, ◌++◌, length, Option, Some, None, option_map, Ok, Err, append_assoc, sym, ap, subst, ◌∙◌, inl, inr, refl, arith}
+use Rattle.std.proofs.Common.{◌≡◌, ◌≢◌, ◌⊎◌, ◌≤◌, ◌<◌, ◌+◌, ℕ, Bool, true, false, cond, List, [], ◌∷◌, ◌++◌, length, Option, Some, None, option_map, Ok, Err, append_assoc, sym, ap, subst, ◌∙◌, inl, inr, refl, arith}
 use Rattle.std.specs.Prelude.{All, Contains}
 use Rattle.std.specs.List.{AllByRecursion}
-use Rattle.std.proofs.lemmas.Bool.{cases_Bool, eq-eqb}
+use Rattle.std.proofs.lemmas.Bool.{cases_Bool}
 use Rattle.std.proofs.lemmas.List.{append-nil}
 use Rattle.dom_base.specs.declared.names.As.{As}
 use Rattle.dom_base.specs.declared.names.Peer.{Peer}
 use Rattle.dom_base.specs.declared.names.Peer.TheVariants.{Outside}
-use Rattle.dom_base.specs.Words.{is_malformed, units}
+use Rattle.dom_base.specs.Words.{is_malformed}
 use Rattle.border_costs.proofs.Members.{contains_head, contains_none, contains_tail}
 use Rattle.pcep_messages.specs.declared.message.Answer.{Answer}
 use Rattle.pcep_messages.specs.declared.message.Answer.TheVariants.{NoPath, Paths}
-use Rattle.pcep_messages.specs.declared.message.Asked.{Asked}
 use Rattle.pcep_messages.specs.declared.message.Message.{Message}
 use Rattle.pcep_messages.specs.declared.message.Message.TheVariants as messages
 use Rattle.pcep_messages.specs.declared.message.Path.{Path}
@@ -40,19 +39,19 @@ use Rattle.script_laws.specs.plant_model.Wire.{Admitted, Checked, Wrong}
 use Rattle.script_laws.specs.plant_model.Writing.{busy, error_message, reply_message}
 use Rattle.script_laws.specs.plant_laws.About.{IsPathAnswer, IsShort}
 use Rattle.script_laws.specs.plant_laws.Answered.{DropsFor, answers_of}
-use Rattle.script_laws.specs.plant_laws.Causes.{HasCause, HaveCauses, OnPassed, by_element, by_parent}
+use Rattle.script_laws.specs.plant_laws.Causes.{HaveCauses, OnPassed, by_element, by_parent}
 use Rattle.script_laws.specs.plant_laws.Chains.{IsQuiet}
 use Rattle.script_laws.specs.plant_laws.MessageCauses.{OnRequest}
 use Rattle.script_laws.specs.plant_laws.MessageCauses as causes
 use Rattle.script_laws.specs.plant_laws.Sending.{AllSent}
-use Rattle.script_laws.specs.plant_laws.Transcript.{Begins, Delivered, Effect, Ends, Keeps, Transcript, Within, after, answers_to, count_answers, effect, opened, outputs_at}
+use Rattle.script_laws.specs.plant_laws.Transcript.{Begins, Delivered, Effect, Ends, Keeps, Transcript, Within, after, answers_to, effect, opened}
 use Rattle.script_laws.specs.plant_play.Turns.{entries_of}
 use Rattle.script_laws.proofs.Rightly.{scripts_are_right}
 use Rattle.script_laws.proofs.plant_laws.plant_model.WireLaws.{wire_is_codec}
 use Rattle.script_laws.proofs.plant_laws.Once.AskedRuns.{none_outside}
 use Rattle.script_laws.proofs.plant_laws.Once.OpenTables.{open_is_pending}
 use Rattle.script_laws.proofs.plant_laws.Reasons.AllCauses.{messages_have_causes}
-use Rattle.script_laws.proofs.plant_laws.Runs.Moments.{opened_within, peer_is, within_length, within_trans}
+use Rattle.script_laws.proofs.plant_laws.Runs.Moments.{opened_within, peer_is, within_length}
 use Rattle.script_laws.proofs.plant_laws.Runs.Queues.{same_as_is}
 use Rattle.script_laws.proofs.plant_laws.Settled.UnderWayLaw.{quiet_has_none_pending}
 use Rattle.script_laws.proofs.plant_laws.WrittenForm.EveryWritten.{every_written}
@@ -65,7 +64,7 @@ use Rattle.peer_laws.specs.Outlets.{Outlet, Stays, Turn, handed_in, messages_for
 use Rattle.peer_laws.proofs.Putting.{of_sent, put_is}
 use Rattle.peer_laws.specs.Received.{IsRight}
 use Rattle.client_laws.specs.Asked.{AsksOnly}
-use Rattle.client_laws.specs.Ended.{AnswerIsTold, EndsAnswered, IsAnswerTo, fails, is_busy, replies}
+use Rattle.client_laws.specs.Ended.{AnswerIsTold, IsAnswerTo, fails, is_busy, replies}
 use Rattle.client_laws.specs.Served.{IsServed, at_once, dropped, later}
 use Rattle.client_laws.specs.Served as waiting
 use Rattle.client_laws.specs.Told.{last_lines}
@@ -73,7 +72,7 @@ use Rattle.client_laws.proofs.Answered.{no_flags, question_ends, question_is_tak
 use Rattle.client_laws.proofs.Asked.{one_is_asked}
 use Rattle.client_laws.proofs.Asking.{clients_are_told, lines_feed}
 use Rattle.client_laws.proofs.Lasting.{IsFinal, deed_final, denial, its_own, of_reply, refused}
-use Rattle.client_laws.proofs.Opening.{IsOfOthers, IsTail, IsTaking}
+use Rattle.client_laws.proofs.Opening.{IsOfOthers, IsTail}
 use Rattle.client_laws.proofs.Resting.{asked_is_quiet}
 use Rattle.client_laws.proofs.Serving.{taken_is_served}
 use Rattle.client_laws.proofs.Words.{Each, failed, full, none, nothing, on_path, one}
@@ -443,6 +442,12 @@ contains_last : (ms : List Message) (m : Message) → Contains (ms ++ m ∷ []) 
 contains_last [] m = contains_head m []
 contains_last (x ∷ ms) m = contains_tail x (ms ++ m ∷ []) m (contains_last ms m)
 
+joined_last : (put before ms inner : List Message) (m : Message) → put ≡ before ++ ms → ms ≡ inner ++ m ∷ [] → put ≡ (before ++ inner) ++ m ∷ []
+joined_last put before ms inner m is last = is ∙ ap (λ (l : List Message). before ++ l) last ∙ sym (append_assoc before inner (m ∷ []))
+
+told_last : (text : List ℕ) (put before : List Message) (m : Message) → text ≡ last_lines put → put ≡ before ++ m ∷ [] → text ≡ message_lines m
+told_last text put before m is whole = is ∙ ap last_lines whole ∙ last_is before m
+
 -- ---- the law
 
 pub answer_is_told : AnswerIsTold
@@ -463,10 +468,9 @@ answer_is_told files n client q received net is fits downs a short =
     let some = fresh_some n net client q downs real es s run short (asked_is_quiet files n client q received net a) tail up.kept in
     let last = last_final q.id (fresh n client q es tail) some all in
     let put = put_last n client q es tail told.connection told.is_open in
-    let whole : told.connection.put ≡ (put.0 ++ last.before) ++ last.last ∷ [] =
-    put.1 ∙ ap (λ (l : List Message). put.0 ++ l) last.is ∙ sym (append_assoc put.0 last.before (last.last ∷ [])) in
+    let whole : told.connection.put ≡ (put.0 ++ last.before) ++ last.last ∷ [] = joined_last told.connection.put put.0 (fresh n client q es tail) last.before last.last put.1 last.is in
     let there : Contains told.connection.put last.last = subst (λ (l : List Message). Contains l last.last) (sym whole) (contains_last (put.0 ++ last.before) last.last) in
-    let text : told_text received ≡ message_lines last.last = told.told ∙ ap last_lines whole ∙ last_is (put.0 ++ last.before) last.last in
+    let text : told_text received ≡ message_lines last.last = told_last (told_text received) told.connection.put (put.0 ++ last.before) last.last told.told whole in
     let fits' : IsWritten last.last = put_is client IsWritten wire n es (of_sent client IsWritten now written) told.connection told.is_open last.last there in
     let lines = final_lines n now client q.id last.last fits' (λ rs same r among answer. told.right rs (subst (Contains told.connection.put) same there) r among answer) last.final in
     record {

@@ -1,5 +1,5 @@
 -- What others make an element say to a client that asks once is about its question.
-use Rattle.std.proofs.Common.{◌≡◌, ◌≢◌, ◌⊎◌, ◌≤◌, ◌+◌, ◌==◌, nat_eq, ℕ, Bool, true, false, cond, List, [], ◌∷◌, ◌++◌, length, map, Option, Some, None, Ok, append_assoc, sym, ap, subst, ◌∙◌, inl, inr, refl, arith}
+use Rattle.std.proofs.Common.{◌≡◌, ◌≢◌, ◌⊎◌, ◌≤◌, ◌+◌, nat_eq, ℕ, Bool, true, false, cond, List, [], ◌∷◌, ◌++◌, Some, None, sym, ap, subst, ◌∙◌, inl, inr, refl, arith}
 use Rattle.std.specs.Prelude.{All, Contains}
 use Rattle.std.specs.Map.{lookup}
 use Rattle.std.proofs.lemmas.Bool.{cases_Bool, eq-eqb, eqb-true}
@@ -39,11 +39,9 @@ use Rattle.script_laws.specs.plant_model.Parent as parent
 use Rattle.script_laws.specs.plant_model.Taking as taking
 use Rattle.script_laws.specs.plant_model.State.{Clears, Downs, Expires, Hands, Loads, Pops, Says, Solves, Takes, Ups}
 use Rattle.script_laws.specs.plant_model.Writing.{busy, error_message, reply_message}
-use Rattle.script_laws.specs.plant_laws.Causes.{AnswersLost, Comes, HasCause, HaveCauses, IsLost, IsLostAbove, OfSession, OfSolve, OnPassed, Passes as Passed, anew, asker_above, asker_of, begins, by_element, by_parent, by_table, came_along, came_first, from_inside, from_outside, left_above, left_rows, of_element, of_parent, ticks}
+use Rattle.script_laws.specs.plant_laws.Causes.{AnswersLost, Comes, HasCause, IsLost, IsLostAbove, OfSession, OfSolve, OnPassed, Passes as Passed, anew, asker_above, asker_of, begins, by_element, by_parent, by_table, came_along, came_first, from_inside, from_outside, left_above, left_rows, of_element, of_parent, ticks}
 use Rattle.script_laws.specs.plant_laws.MessageCauses.{Asker, OnMessage, OnRequest, OnRequestAbove, WaitsAbove, WaitsAt, parts}
-use Rattle.script_laws.specs.plant_laws.MessageCauses as causes
 use Rattle.script_laws.specs.plant_laws.Solves as solves
-use Rattle.script_laws.specs.plant_laws.Pending.{IsTaken}
 use Rattle.script_laws.specs.plant_laws.Sending.{AllSent}
 use Rattle.script_laws.specs.plant_laws.Transcript.{Delivered, Transcript, Within, answers_to, count_answers, opened}
 use Rattle.script_laws.proofs.plant_laws.plant_model.WireLaws.{wire_is_codec}
@@ -54,7 +52,6 @@ use Rattle.script_laws.proofs.plant_laws.Once.Besides.{answers_in, besides_askin
 use Rattle.script_laws.proofs.plant_laws.Once.Founded.{founded_within, run_founded}
 use Rattle.script_laws.proofs.plant_laws.Once.Handing.{In}
 use Rattle.script_laws.proofs.plant_laws.Runs.Moments.{opened_within, peer_is, within_here, within_trans}
-use Rattle.script_laws.proofs.plant_laws.Runs.Queues.{same_as_is}
 use Rattle.script_laws.proofs.plant_laws.WrittenForm.Again.{all_read}
 use Rattle.script_laws.proofs.plant_laws.WrittenForm.RequestsWritten.{requests_are_single}
 use Rattle.plant_bulk.specs.plant_client.declared.question.Question.{Question}

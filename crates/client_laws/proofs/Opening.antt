@@ -1,5 +1,5 @@
 -- The session of a client that asks once comes up, its question is taken, and nothing of what follows ends the session.
-use Rattle.std.proofs.Common.{◌≡◌, ◌⊎◌, ℕ, Bool, true, false, cond, ◌==◌, List, [], ◌∷◌, ◌++◌, map, Option, Some, None, is_some, Ok, append_assoc, sym, ap, subst, ◌∙◌, inl, inr, refl, arith}
+use Rattle.std.proofs.Common.{◌≡◌, ◌⊎◌, ℕ, Bool, true, false, cond, List, [], ◌∷◌, ◌++◌, map, Option, Some, None, is_some, sym, ap, subst, ◌∙◌, inl, inr, refl}
 use Rattle.std.specs.List.{AllByRecursion}
 use Rattle.std.proofs.lemmas.List.{append-nil}
 use Rattle.dom_base.specs.declared.names.As.{As}
@@ -10,7 +10,6 @@ use Rattle.pcep_framing.specs.Frames.{Framing, joined}
 use Rattle.pcep_framing.specs.Feeding.{feed_of}
 use Rattle.pcep_messages.specs.declared.message.Message.{Message}
 use Rattle.pcep_messages.specs.declared.message.Message.TheVariants as messages
-use Rattle.pcep_messages.specs.Messages.{message_of}
 use Rattle.pcep_messages.specs.Spelling.{IsWritten, message_text}
 use Rattle.pcep_messages.specs.Splitting.{split_of}
 use Rattle.pcep_messages.proofs.MessageLaws as message_laws
@@ -29,7 +28,7 @@ use Rattle.script_laws.specs.plant_model.Blind.{is_accepted}
 use Rattle.script_laws.specs.plant_model.Deeds.{element_of, input_of, read_as, with_more}
 use Rattle.script_laws.specs.plant_model.Events as events
 use Rattle.script_laws.specs.plant_model.Events.{Answered, bad_item, is_down, split_all}
-use Rattle.script_laws.specs.plant_model.Plant.{Entry, Happened, Happens, Pin, Plant, Segment, deeds_of, opened}
+use Rattle.script_laws.specs.plant_model.Plant.{Entry, Happened, Happens, Pin, Plant, Segment, deeds_of}
 use Rattle.script_laws.specs.plant_model.RealWire.{message_or_none, wire}
 use Rattle.script_laws.specs.plant_model.State.{Connection, Takes}
 use Rattle.script_laws.specs.plant_model.Wire.{Bytes}

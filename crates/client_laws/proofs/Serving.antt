@@ -14,7 +14,7 @@ use Rattle.pcep_messages.specs.Spelling.{IsWritten}
 use Rattle.request_table.specs.Pending.{same_peer}
 use Rattle.plant_text.specs.Names.{same_as}
 use Rattle.script_laws.specs.plant_model.declared.output.Output.{Output}
-use Rattle.script_laws.specs.plant_model.Plant.{Plant, PlantDeed, Segment, deeds_of}
+use Rattle.script_laws.specs.plant_model.Plant.{PlantDeed, Segment, deeds_of}
 use Rattle.script_laws.specs.plant_model.State.{Takes}
 use Rattle.script_laws.specs.plant_model.Wire.{Admitted, Checked, Codec}
 use Rattle.script_laws.specs.plant_laws.Answered.{Fate, answers_of}
