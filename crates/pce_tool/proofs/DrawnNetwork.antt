@@ -7,7 +7,7 @@ use Rattle.dom_base.specs.declared.names.As.{As}
 use Rattle.plant_text.specs.declared.settings.ElementRow.{ElementRow}
 use Rattle.plant_text.specs.declared.settings.PeerRow.{PeerRow}
 use Rattle.plant_text.specs.Settings.{is_element}
-use Rattle.client_laws.specs.script_laws.plant_model.Laws.{IsElement, IsNetwork, IsParentLink}
+use Rattle.client_laws.specs.script_laws.plant_model.Laws.{IsElement, IsNetwork, IsParentLink, LeadApart, LeadsOut}
 use Rattle.client_laws.proofs.script_laws.texts_in_range.ModelledNetworks.{with_client}
 use Rattle.drawn_network.specs.Settings.{element, link, settings}
 use Rattle.plant_bulk.specs.Playing.{first_domain, network}
@@ -87,7 +87,8 @@ settings_modelled = record {
       (All-cons (LinksDiffer (link 2)) (link 3) [] (links_differ 2 3 (omega arith)) (All-nil (LinksDiffer (link 2))))
       (AllPairs-cons LinksDiffer (link 3) [] (All-nil (LinksDiffer (link 3))) (no_pairs LinksDiffer)));
   peers = All-nil (λ (r : PeerRow). is_element settings r.at ≡ true);
-  no_downs = All-nil (λ (r : PeerRow). r.down ≡ false);
+  downs = All-nil (LeadsOut settings);
+  downs_differ = no_pairs LeadApart;
   few_parent_links = omega arith;
   parent_links = All-nil IsParentLink;
   parent_links_differ = λ i j d before within. absurd (omega (arith, within));

@@ -10,5 +10,6 @@ pub mod Sends
 pub mod WireLaws
 pub mod Heeded
 pub mod Outward
+pub mod RoutesApart
 pub mod Live
 pub mod Runs

@@ -25,11 +25,13 @@ use Rattle.pcep_messages.specs.declared.message.Wanted.{Wanted}
 use Rattle.pcep_messages.specs.declared.message.Wish.TheVariants as wishes
 use Rattle.pcep_messages.specs.Spelling.{IsWritten, kind_of}
 use Rattle.pcep_framing.specs.Frames.{Framing, FeedsTo}
+use Rattle.disclosure.specs.declared.class.Class.TheVariants.{Neighbour}
 use Rattle.outside_part.specs.Ranges.{AreInRange}
 use Rattle.plant_text.specs.declared.settings.NetworkParts.{NetworkParts}
 use Rattle.plant_text.specs.declared.limits.TheConstants.{ELEMENTS_MAX, PARENT_LINKS_MAX, KEY_LIFE_MAX}
 use Rattle.pcep_messages.specs.declared.limits.TheConstants.{SEQUENCE_MAX}
 use Rattle.plant_text.specs.declared.settings.ElementRow.{ElementRow}
+use Rattle.plant_text.specs.declared.settings.PeerRow.{PeerRow}
 use Rattle.plant_text.specs.Names.{parent_as}
 use Rattle.plant_model.specs.Wire.{Bytes, Codec, Checked, Admitted, Wrong}
 use Rattle.plant_model.specs.Writing.{ends_kind, asked_of, request_message, vspt_flag}
@@ -138,6 +140,14 @@ pub record IsElement (a : ElementRow) : Type 0 where
   pub life : 1 ≤ a.key_life
   pub life_most : a.key_life ≤ KEY_LIFE_MAX
 
+-- a peer that paths go on through is a neighbour whose domain is no element's
+abbrev pub LeadsOut : NetworkParts → PeerRow → Type 0
+LeadsOut n p = p.down ≡ true → (a : As) × (p.class ≡ Neighbour a) × (is_element n a ≡ false)
+
+-- and two such peers of an element lead to different domains
+abbrev pub LeadApart : PeerRow → PeerRow → Type 0
+LeadApart p q = p.down ≡ true → q.down ≡ true → p.at ≡ q.at → p.class ≢ q.class
+
 -- The rules of the settings that the theorems rest on.
 pub record IsNetwork (n : NetworkParts) : Type 0 where
   pub elements_differ : AllPairs (λ (a b : ElementRow). (a.own ≢ b.own) × (a.id ≢ b.id)) n.elements
@@ -147,8 +157,8 @@ pub record IsNetwork (n : NetworkParts) : Type 0 where
   pub links : All (λ (p : As × As). (is_element n p.0 ≡ true) × (is_element n p.1 ≡ true) × (p.0 ≢ p.1)) n.links
   pub links_differ : AllPairs (λ (p q : As × As). ((p.0 ≡ q.0) × (p.1 ≡ q.1) → ⊥) × ((p.0 ≡ q.1) × (p.1 ≡ q.0) → ⊥)) n.links
   pub peers : All (λ r. is_element n r.at ≡ true) n.peers
-  -- no request goes on through an outside peer
-  pub no_downs : All (λ r. r.down ≡ false) n.peers
+  pub downs : All (LeadsOut n) n.peers
+  pub downs_differ : AllPairs LeadApart n.peers
   pub few_parent_links : length n.parent_links ≤ PARENT_LINKS_MAX
   pub parent_links : All IsParentLink n.parent_links
   pub parent_links_differ : AllPairs (λ (l m : ParentLink). (l.link.far ≢ m.link.far) × (l.link.near ≢ m.link.near)) n.parent_links

@@ -35,6 +35,10 @@ routes_from d i (r ∷ rs) = route_at d i r ++ routes_from d (suc i) rs
 abbrev pub routes : NetworkParts → As → List Route
 routes n d = routes_from d 0 n.peers
 
+-- paths go on through no outside peer
+abbrev pub StaysInside : NetworkParts → Type 0
+StaysInside n = All (λ (r : PeerRow). r.down ≡ false) n.peers
+
 -- ---- laws
 
 -- an outside peer of the element, which is a neighbour in the domain that it is asked for
@@ -55,4 +59,4 @@ EachHasRoute = (n : NetworkParts) (d b : As) (i : ℕ) (r : PeerRow) → peer_ro
 
 -- Where paths go on through no outside peer, there is no route.
 abbrev pub NoRoutes : Type 0
-NoRoutes = (n : NetworkParts) (d : As) → All (λ (r : PeerRow). r.down ≡ false) n.peers → routes n d ≡ []
+NoRoutes = (n : NetworkParts) (d : As) → StaysInside n → routes n d ≡ []

@@ -4,6 +4,7 @@ ghost use Rattle.plant_model.specs.Heeding.{HeedingKeeps, HeededJoins};
 ghost use Rattle.plant_model.specs.Jobs.{JoinsWhatWasTold};
 ghost use Rattle.plant_model.specs.Meeting.{BranchMeets, CheckMeets, LimitMeets, LiveMeets};
 ghost use Rattle.plant_model.specs.RealWire.{WireIsCodec};
+ghost use Rattle.plant_model.specs.Onwards.{RoutesDiffer, RoutesLeave};
 ghost use Rattle.plant_model.specs.Routes.{EachHasRoute, NoRoutes, RoutesGoOut};
 
 /// The model's branches, refusals and live generations are what the contracts of those parts say, and the
@@ -33,6 +34,12 @@ pub fn routes_go_out()
     ensures peers { RoutesGoOut }
     ensures each { EachHasRoute }
     ensures none { NoRoutes }
+{}
+
+/// By the rules of settings the routes of an element lead to different domains, and to none of an element.
+pub fn routes_are_apart()
+    ensures differ { RoutesDiffer }
+    ensures leave { RoutesLeave }
 {}
 
 /// The functions of messages, frames, refusals and words are a codec, on whose laws those of

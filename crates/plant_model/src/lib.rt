@@ -12,7 +12,8 @@ mod upper;
 
 pub use event::{BlindEvent, Event};
 pub use law::{
-    heeding_keeps, joins_what_was_told, model_meets_parts, routes_go_out, wire_is_codec,
+    heeding_keeps, joins_what_was_told, model_meets_parts, routes_are_apart, routes_go_out,
+    wire_is_codec,
 };
 pub use outcome::{Outcome, Refused};
 pub use output::{Lost, Output, Outputs};

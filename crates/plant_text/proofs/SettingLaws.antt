@@ -1,5 +1,5 @@
 -- What settings are like that obey the rules.
-use Rattle.std.proofs.Common.{◌≡◌, ◌≢◌, ℕ, ◌+◌, ◌==◌, ◌&&◌, ◌||◌, ◌<◌, ◌≤◌, Bool, true, false, not, nat_le, nat_lt, is_some, codes, length, All, AllPairs, List, [], ◌∷◌, ◌++◌, Option, Some, None, IfSome, refl, ap, append_assoc, arith, inl, inr}
+use Rattle.std.proofs.Common.{◌≡◌, ◌≢◌, ℕ, ◌+◌, ◌==◌, ◌&&◌, ◌||◌, ◌<◌, ◌≤◌, Bool, true, false, not, nat_le, nat_lt, is_some, codes, length, All, AllPairs, List, [], ◌∷◌, ◌++◌, Option, Some, None, IfSome, refl, sym, ◌∙◌, ap, append_assoc, arith, inl, inr}
 use Rattle.std.proofs.lemmas.Bool.{cases_Bool, and_parts, leb-true, ltb-true, eqb-false}
 use Rattle.std.proofs.lemmas.Bool.Decides.{not_from_Decides}
 use Rattle.std.proofs.lemmas.Slice.Eq.{bytes_eq-Decides}
@@ -11,6 +11,8 @@ use Rattle.dom_base.specs.declared.names.As.{As}
 use Rattle.dom_base.specs.declared.addr.Addr.{Addr}
 use Rattle.dom_base.specs.declared.border.ParentLink.{ParentLink}
 use Rattle.dom_base.specs.AddrOrder.{rank}
+use Rattle.disclosure.specs.declared.class.Class.{Class}
+use Rattle.disclosure.specs.declared.class.Class.TheVariants.{Client, Neighbour, Parent}
 use Rattle.plant_text.specs.declared.fault.Breach.{Breach}
 use Rattle.plant_text.specs.declared.fault.Breach.TheVariants.{TooMany, Shape, Duplicate, Unknown, NoParent}
 use Rattle.plant_text.specs.declared.fault.NetFault.TheVariants as fault
@@ -20,7 +22,7 @@ use Rattle.plant_text.specs.declared.settings.PeerRow.{PeerRow}
 use Rattle.plant_text.specs.declared.settings.DenyRow.{DenyRow}
 use Rattle.plant_text.specs.Names.{same_as, same_link, parent_as}
 use Rattle.plant_text.specs.Settings.{is_element}
-use Rattle.plant_text.specs.Rules.{Rules, at_row, rows_from, table, rules_of, sheet_of, is_name, is_class, is_link, is_no_port, element_rules, link_rules, peer_rules, deny_rules, parent_link_rules, is_between, is_domain}
+use Rattle.plant_text.specs.Rules.{Rules, at_row, rows_from, table, rules_of, sheet_of, is_name, is_class, is_link, is_no_port, is_neighbour, is_reached, leads, leads_out, peer_form, repeats_peer, element_rules, link_rules, peer_rules, deny_rules, parent_link_rules, is_between, is_domain}
 use Rattle.plant_text.specs.Faults.{first_of}
 use Rattle.plant_text.specs.Laws.{AreElements, AreLinks, ArePeers, AreDenials, AreParentLinks, RulesAreWorth}
 use Rattle.plant_text.proofs.RuleLaws.{none_of, none_front, none_back, few_rows}
@@ -211,35 +213,85 @@ are_links n c =
 
 -- ---- peers
 
-abbrev peer_formed : PeerRow → Bool
-peer_formed p = ((is_name p.name && is_class p.class) && nat_lt 0 p.port) && not p.down
+-- a peer that breaks no rule
+peer_whole : (n : NetworkParts) (before : List PeerRow) (p : PeerRow) → first_of (peer_rules (sheet_of n) before p) ≡ None → peer_form p ≡ true
+peer_whole n before p none =
+    not_false (peer_form p) (head_false (not (peer_form p)) Shape ((repeats_peer (sheet_of n) before p, Duplicate) ∷ (not (is_element n p.at), Unknown) ∷ []) none)
 
-peer_parts : (n : NetworkParts) (before : List PeerRow) (p : PeerRow) → first_of (peer_rules (sheet_of n) before p) ≡ None → (((is_name p.name && is_class p.class) && nat_lt 0 p.port) ≡ true) × (not p.down ≡ true)
-peer_parts n before p none =
-    and_parts ((is_name p.name && is_class p.class) && nat_lt 0 p.port) (not p.down)
-    (not_false (peer_formed p)
-    (head_false (not (peer_formed p)) Shape ((list_any (λ (q : PeerRow). bytes_eq q.name p.name) before, Duplicate) ∷ (not (is_element n p.at), Unknown) ∷ []) none))
+peer_once : (n : NetworkParts) (before : List PeerRow) (p : PeerRow) → first_of (peer_rules (sheet_of n) before p) ≡ None → repeats_peer (sheet_of n) before p ≡ false
+peer_once n before p none =
+    let again = repeats_peer (sheet_of n) before p in
+    let unknown = not (is_element n p.at) in
+    head_false again Duplicate ((unknown, Unknown) ∷ []) (tail_clear (not (peer_form p)) Shape ((again, Duplicate) ∷ (unknown, Unknown) ∷ []) none)
 
 peer_port : (n : NetworkParts) (before : List PeerRow) (p : PeerRow) → first_of (peer_rules (sheet_of n) before p) ≡ None → 0 < p.port
-peer_port n before p none = ltb-true 0 p.port (and_parts (is_name p.name && is_class p.class) (nat_lt 0 p.port) (peer_parts n before p none).0).1
-
-peer_down : (n : NetworkParts) (before : List PeerRow) (p : PeerRow) → first_of (peer_rules (sheet_of n) before p) ≡ None → p.down ≡ false
-peer_down n before p none = not_true p.down (peer_parts n before p none).1
+peer_port n before p none =
+    let named = (and_parts ((is_name p.name && is_class p.class) && nat_lt 0 p.port) (not p.down || leads_out p.class) (peer_whole n before p none)).0 in
+    ltb-true 0 p.port (and_parts (is_name p.name && is_class p.class) (nat_lt 0 p.port) named).1
 
 peer_again : (n : NetworkParts) (front : List PeerRow) (o : PeerRow) (back : List PeerRow) (p : PeerRow) → first_of (peer_rules (sheet_of n) (front ++ o ∷ back) p) ≡ None → o.name ≢ p.name
 peer_again n front o back p none =
-    let again = list_any (λ (q : PeerRow). bytes_eq q.name p.name) (front ++ o ∷ back) in
-    let unknown = not (is_element n p.at) in
+    let before = front ++ o ∷ back in
+    let named = list_any (λ (q : PeerRow). bytes_eq q.name p.name) before in
     other_name o.name p.name
     (any_false (λ (q : PeerRow). bytes_eq q.name p.name) front o back
-    (head_false again Duplicate ((unknown, Unknown) ∷ []) (tail_clear (not (peer_formed p)) Shape ((again, Duplicate) ∷ (unknown, Unknown) ∷ []) none)))
+    (left_false named (p.down && is_reached (sheet_of n) before p.at p.class) (peer_once n before p none)))
 
 peer_known : (n : NetworkParts) (before : List PeerRow) (p : PeerRow) → first_of (peer_rules (sheet_of n) before p) ≡ None → is_element n p.at ≡ true
 peer_known n before p none =
-    let again = list_any (λ (q : PeerRow). bytes_eq q.name p.name) before in
+    let again = repeats_peer (sheet_of n) before p in
     let unknown = not (is_element n p.at) in
     not_false (is_element n p.at)
-    (head_false unknown Unknown [] (tail_clear again Duplicate ((unknown, Unknown) ∷ []) (tail_clear (not (peer_formed p)) Shape ((again, Duplicate) ∷ (unknown, Unknown) ∷ []) none)))
+    (head_false unknown Unknown [] (tail_clear again Duplicate ((unknown, Unknown) ∷ []) (tail_clear (not (peer_form p)) Shape ((again, Duplicate) ∷ (unknown, Unknown) ∷ []) none)))
+
+-- ---- peers that paths go on through
+
+is_down : (down other : Bool) → (not down || other) ≡ true → down ≡ true → other ≡ true
+is_down true other e is = e
+is_down false other e is = absurd (let no : false ≡ true = is in cc)
+
+not_reached : (down reached : Bool) → (down && reached) ≡ false → down ≡ true → reached ≡ false
+not_reached true reached e is = e
+not_reached false reached e is = absurd (let no : false ≡ true = is in cc)
+
+peer_out : (n : NetworkParts) (before : List PeerRow) (p : PeerRow) → first_of (peer_rules (sheet_of n) before p) ≡ None → p.down ≡ true → leads_out p.class ≡ true
+peer_out n before p none =
+    let named = (is_name p.name && is_class p.class) && nat_lt 0 p.port in
+    is_down p.down (leads_out p.class) (and_parts named (not p.down || leads_out p.class) (peer_whole n before p none)).1
+
+peer_alone : (n : NetworkParts) (before : List PeerRow) (p : PeerRow) → first_of (peer_rules (sheet_of n) before p) ≡ None → p.down ≡ true → is_reached (sheet_of n) before p.at p.class ≡ false
+peer_alone n before p none =
+    let reached = is_reached (sheet_of n) before p.at p.class in
+    not_reached p.down reached (right_false (list_any (λ (q : PeerRow). bytes_eq q.name p.name) before) (p.down && reached) (peer_once n before p none))
+
+out_is : (n : NetworkParts) (before : List PeerRow) (at : As) (class : Class) → leads_out class ≡ true → is_reached (sheet_of n) before at class ≡ false →
+    (a : As) × (class ≡ Neighbour a) × (is_element n a ≡ false) × (list_any (leads at a) before ≡ false)
+out_is n before at (Client expand) out alone = absurd (let no : false ≡ true = out in cc)
+out_is n before at (Neighbour a) out alone = (a, refl, left_false (is_element n a) (list_any (leads at a) before) alone, right_false (is_element n a) (list_any (leads at a) before) alone)
+out_is n before at Parent out alone = absurd (let no : false ≡ true = out in cc)
+
+peer_down : (n : NetworkParts) (before : List PeerRow) (p : PeerRow) → first_of (peer_rules (sheet_of n) before p) ≡ None → p.down ≡ true →
+    (a : As) × (p.class ≡ Neighbour a) × (is_element n a ≡ false) × (list_any (leads p.at a) before ≡ false)
+peer_down n before p none is = out_is n before p.at p.class (peer_out n before p none is) (peer_alone n before p none is)
+
+same_self : (a : As) → same_as a a ≡ true
+same_self a = grind arith
+
+leads_there : (o : PeerRow) (at a : As) → o.down ≡ true → o.at ≡ at → o.class ≡ Neighbour a → leads at a o ≡ true
+leads_there o at a down here class =
+    ap (λ (x : Bool). (x && same_as o.at at) && is_neighbour a o.class) down
+    ∙ ap (λ (x : As). (true && same_as x at) && is_neighbour a o.class) here
+    ∙ ap (λ (x : Bool). (true && x) && is_neighbour a o.class) (same_self at)
+    ∙ ap (λ (x : Class). (true && true) && is_neighbour a x) class
+    ∙ same_self a
+
+other_ways : (n : NetworkParts) (front : List PeerRow) (o : PeerRow) (back : List PeerRow) (p : PeerRow) → first_of (peer_rules (sheet_of n) (front ++ o ∷ back) p) ≡ None →
+    o.down ≡ true → p.down ≡ true → o.at ≡ p.at → o.class ≢ p.class
+other_ways n front o back p none first second here same =
+    let is = peer_down n (front ++ o ∷ back) p none second in
+    let never : leads p.at is.0 o ≡ false = any_false (leads p.at is.0) front o back is.3 in
+    let clash : true ≡ false = sym (leads_there o p.at is.0 first here (same ∙ is.1)) ∙ never in
+    cc
 
 are_peers : (n : NetworkParts) → AreClear (sheet_of n) → ArePeers n
 are_peers n c =
@@ -251,7 +303,10 @@ are_peers n c =
       names_differ = pairs_in (λ (p q : PeerRow). p.name ≢ q.name) name 256 asked (peer_again n) n.peers none;
       known = all_in (λ (p : PeerRow). is_element n p.at ≡ true) name 256 asked (peer_known n) n.peers none;
       ports = all_in (λ (p : PeerRow). 0 < p.port) name 256 asked (peer_port n) n.peers none;
-      downs = all_in (λ (p : PeerRow). p.down ≡ false) name 256 asked (peer_down n) n.peers none;
+      downs =
+          all_in (λ (p : PeerRow). p.down ≡ true → (a : As) × (p.class ≡ Neighbour a) × (is_element n a ≡ false)) name 256 asked
+          (λ before p clear is. (let out = peer_down n before p clear is in (out.0, out.1, out.2))) n.peers none;
+      downs_differ = pairs_in (λ (p q : PeerRow). p.down ≡ true → q.down ≡ true → p.at ≡ q.at → p.class ≢ q.class) name 256 asked (other_ways n) n.peers none;
     }
 
 -- ---- rows of policy

@@ -2,6 +2,7 @@
 use Rattle.std.specs.Prelude.{◌≡◌, ◌≢◌, ◌<◌, ◌≤◌, false, true, length, is_some, All, AllPairs, IfSome}
 use Rattle.dom_base.specs.declared.names.As.{As}
 use Rattle.dom_base.specs.declared.border.ParentLink.{ParentLink}
+use Rattle.disclosure.specs.declared.class.Class.TheVariants.{Neighbour}
 use Rattle.plant_text.specs.declared.limits.TheConstants.{ELEMENTS_MAX, LINKS_MAX, PEERS_MAX, DENY_MAX, PARENT_LINKS_MAX, KEY_LIFE_MAX, WORKERS_MAX}
 use Rattle.plant_text.specs.declared.settings.NetworkParts.{NetworkParts}
 use Rattle.plant_text.specs.declared.settings.ElementRow.{ElementRow}
@@ -28,13 +29,15 @@ pub record AreLinks (n : NetworkParts) : Type 0 where
   pub known : All (λ (l : As × As). (is_element n l.0 ≡ true) × (is_element n l.1 ≡ true)) n.links
   pub once : AllPairs (λ (l m : As × As). same_link l.0 l.1 m.0 m.1 ≡ false) n.links
 
--- the outside peers: few, of different names, each at an element, none of them asked for paths
+-- the outside peers: few, of different names, each at an element; paths go on through neighbours alone, to domains that are no
+-- element's, and from an element to a domain through one peer
 pub record ArePeers (n : NetworkParts) : Type 0 where
   pub few : length n.peers ≤ PEERS_MAX
   pub names_differ : AllPairs (λ (p q : PeerRow). p.name ≢ q.name) n.peers
   pub known : All (λ (p : PeerRow). is_element n p.at ≡ true) n.peers
   pub ports : All (λ (p : PeerRow). 0 < p.port) n.peers
-  pub downs : All (λ (p : PeerRow). p.down ≡ false) n.peers
+  pub downs : All (λ (p : PeerRow). p.down ≡ true → (a : As) × (p.class ≡ Neighbour a) × (is_element n a ≡ false)) n.peers
+  pub downs_differ : AllPairs (λ (p q : PeerRow). p.down ≡ true → q.down ≡ true → p.at ≡ q.at → p.class ≢ q.class) n.peers
 
 -- the rows of policy: few, each at an element and about a next domain
 pub record AreDenials (n : NetworkParts) : Type 0 where

@@ -109,11 +109,37 @@ link_rules s before row =
     ∷ (not (is_element s.parts row.0 && is_element s.parts row.1), breach.Unknown)
     ∷ []
 
--- elements of other networks are not asked for paths yet: no peer is `down`
+-- paths go on through a neighbour alone
+abbrev pub leads_out : Class → Bool
+leads_out (Client expand) = false
+leads_out (Neighbour a) = true
+leads_out Parent = false
+
+abbrev pub is_neighbour : As → Class → Bool
+is_neighbour a (Client expand) = false
+is_neighbour a (Neighbour b) = same_as b a
+is_neighbour a Parent = false
+
+-- paths of an element go on to a domain through a peer
+abbrev pub leads : As → As → PeerRow → Bool
+leads at next p = (p.down && same_as p.at at) && is_neighbour next p.class
+
+-- the domain of a neighbour is reached otherwise: it is an element's, or a peer before leads there
+abbrev pub is_reached : Sheet → List PeerRow → As → Class → Bool
+is_reached s before at (Client expand) = false
+is_reached s before at (Neighbour a) = is_element s.parts a || list_any (leads at a) before
+is_reached s before at Parent = false
+
+abbrev pub peer_form : PeerRow → Bool
+peer_form row = ((is_name row.name && is_class row.class) && nat_lt 0 row.port) && (not row.down || leads_out row.class)
+
+abbrev pub repeats_peer : Sheet → List PeerRow → PeerRow → Bool
+repeats_peer s before row = list_any (λ (p : PeerRow). bytes_eq p.name row.name) before || (row.down && is_reached s before row.at row.class)
+
 abbrev pub peer_rules : Sheet → List PeerRow → PeerRow → Rules Breach
 peer_rules s before row =
-    (not (((is_name row.name && is_class row.class) && nat_lt 0 row.port) && not row.down), breach.Shape)
-    ∷ (list_any (λ (p : PeerRow). bytes_eq p.name row.name) before, breach.Duplicate)
+    (not (peer_form row), breach.Shape)
+    ∷ (repeats_peer s before row, breach.Duplicate)
     ∷ (not (is_element s.parts row.at), breach.Unknown)
     ∷ []
 

@@ -5,7 +5,7 @@ ghost use Rattle.std.specs.Str.{bytes_eq};
 ghost use Rattle.dom_base.specs.AddrOrder.{rank};
 ghost use Rattle.plant_text.specs.Faults.{first_of};
 ghost use Rattle.plant_text.specs.Names.{same_as, same_link};
-ghost use Rattle.plant_text.specs.Rules.{is_between, is_domain as is_domain_number, is_letter as is_letter_code, is_digit as is_digit_code, is_name as is_peer_name, is_class as is_class_of_peer, is_v4 as is_fourth, is_metric as is_link_metric, is_link as is_parent_link, has_parent as tells_parent, has_id as is_id_of, is_no_port as is_port_of_none, parent_rules, watch_rules, worker_rules};
+ghost use Rattle.plant_text.specs.Rules.{is_between, is_domain as is_domain_number, is_letter as is_letter_code, is_digit as is_digit_code, is_name as is_peer_name, is_class as is_class_of_peer, is_v4 as is_fourth, is_metric as is_link_metric, is_link as is_parent_link, has_parent as tells_parent, has_id as is_id_of, is_no_port as is_port_of_none, is_neighbour as is_neighbour_in, is_reached as is_reached_before, leads as leads_to, leads_out as is_class_that_leads, parent_rules, peer_form, repeats_peer as is_peer_again, watch_rules, worker_rules};
 ghost use Rattle.plant_text.specs.Settings.{row_of};
 
 use crate::fault::Breach;
@@ -177,18 +177,76 @@ fn repeats_name(before: &[PeerRow], name: &[u8]) -> bool
     before.iter().any(|p| p.name.as_str().as_bytes() == name)
 }
 
+// Whether paths may go on through peers of a class.
+fn leads_out(class: Class) -> bool
+    ensures { result ≡ is_class_that_leads class }
+{
+    match class {
+        Class::Client { .. } | Class::Parent => false,
+        Class::Neighbour(_) => true,
+    }
+}
+
+fn is_neighbour(next: As, class: Class) -> bool
+    ensures { result ≡ is_neighbour_in next class }
+{
+    match class {
+        Class::Client { .. } | Class::Parent => false,
+        Class::Neighbour(number) => number.0 == next.0,
+    }
+}
+
+// Whether paths of an element go on to a domain through a peer.
+fn leads(at: As, next: As, peer: &PeerRow) -> bool
+    ensures { result ≡ leads_to at next peer.now }
+{
+    peer.down && peer.at.0 == at.0 && is_neighbour(next, peer.class)
+}
+
+fn is_led(before: &[PeerRow], at: As, next: As) -> bool
+    ensures { result ≡ list_any (leads_to at next) before.now }
+{
+    before.iter().any(|p| leads(at, next, p))
+}
+
+// Whether paths to the domain of a neighbour go another way: there is an element, or a peer before.
+fn is_reached(sheet: &Sheet, before: &[PeerRow], at: As, class: Class) -> bool
+    ensures { result ≡ is_reached_before sheet.now before.now at class }
+{
+    match class {
+        Class::Client { .. } | Class::Parent => false,
+        Class::Neighbour(next) => {
+            is_element(sheet.parts.elements.as_slice(), next) || is_led(before, at, next)
+        }
+    }
+}
+
+impl PeerRow {
+    fn is_formed(&self) -> bool
+        ensures { result ≡ peer_form self.now }
+    {
+        let is_called = is_name(self.name.as_str().as_bytes()) && is_class(self.class);
+        is_called && self.port > 0 && (!self.down || leads_out(self.class))
+    }
+
+    fn repeats(&self, sheet: &Sheet, before: &[PeerRow]) -> bool
+        ensures { result ≡ is_peer_again sheet.now before.now self.now }
+    {
+        let is_again = self.down && is_reached(sheet, before, self.at, self.class);
+        repeats_name(before, self.name.as_str().as_bytes()) || is_again
+    }
+}
+
 impl Row for PeerRow {
     ghost use Rattle.plant_text.specs.Rules.{peer_rules};
 
     ghost rules = { peer_rules };
 
     fn breach(&self, sheet: &Sheet, before: &[PeerRow]) -> Option<Breach> {
-        let name = self.name.as_str().as_bytes();
-        let is_formed = is_name(name) && is_class(self.class) && self.port > 0 && !self.down;
         let is_known = is_element(sheet.parts.elements.as_slice(), self.at);
         first(&[
-            (!is_formed, Breach::Shape),
-            (repeats_name(before, name), Breach::Duplicate),
+            (!self.is_formed(), Breach::Shape),
+            (self.repeats(sheet, before), Breach::Duplicate),
             (!is_known, Breach::Unknown),
         ])
     }

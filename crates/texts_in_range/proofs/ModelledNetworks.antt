@@ -1,7 +1,8 @@
 -- Settings that a text gives are a network of the model.
-use Rattle.std.proofs.Common.{◌≡◌, ◌≢◌, ℕ, zero, suc, ◌+◌, ◌==◌, ◌&&◌, ◌||◌, ◌≤◌, Bool, true, false, not, nat_le, nat_lt, codes, option_map, length, get_or, All, Option, Some, None, List, [], ◌∷◌, ◌++◌, refl, sym, ◌∙◌, subst, arith, inl, inr}
+use Rattle.std.proofs.Common.{◌≡◌, ◌≢◌, ℕ, zero, suc, ◌+◌, ◌==◌, ◌&&◌, ◌||◌, ◌≤◌, Bool, true, false, not, nat_le, nat_lt, codes, option_map, length, get_or, ◌<◌, All, AllPairs, Option, Some, None, List, [], ◌∷◌, ◌++◌, refl, sym, ◌∙◌, subst, arith, inl, inr}
 use Rattle.std.proofs.lemmas.Bool.{and_parts, cases_Bool, eqb-true, leb-true}
 use Rattle.std.proofs.lemmas.List.Elements.{All-nil, All-cons, All-push}
+use Rattle.std.proofs.lemmas.List.Kept.{AllPairs-cons}
 use Rattle.std.specs.List.{list_any}
 use Rattle.dom_base.specs.AddrOrder.{rank}
 use Rattle.dom_base.specs.declared.addr.Addr.{Addr}
@@ -26,7 +27,7 @@ use Rattle.plant_text.specs.SettingsText.{sheet_in}
 use Rattle.plant_text.proofs.RuleLaws.{first_at_row, none_back, none_front, none_of, obeyed_of}
 use Rattle.plant_text.proofs.SettingLaws.{rules_are_worth}
 use Rattle.plant_text.proofs.SheetLaws.{all_clear, settings_clear}
-use Rattle.plant_model.specs.Laws.{IsIpv4Link, IsNetwork}
+use Rattle.plant_model.specs.Laws.{IsIpv4Link, IsNetwork, LeadApart, LeadsOut}
 use Rattle.texts_in_range.proofs.FieldRanges.{IsElementInRange, IsParentLinkInRange, elements_in_range, parent_links_in_range}
 
 -- ---- domains and links
@@ -162,7 +163,8 @@ network_of n are elements parent_links formed = record {
   links = λ i d within. ((are.links.known i d within).0, (are.links.known i d within).1, are.links.differ i d within);
   links_differ = λ i j d before within. links_differ (get_or n.links i d) (get_or n.links j d) (are.links.once i j d before within);
   peers = are.peers.known;
-  no_downs = are.peers.downs;
+  downs = are.peers.downs;
+  downs_differ = are.peers.downs_differ;
   few_parent_links = are.parent_links.few;
   parent_links = λ i d within. record {
     from_as = (parent_links i d within).from_as;
@@ -182,6 +184,14 @@ settings_are_modelled bytes n r =
     subst IsNetwork (sym r.rows)
     (network_of s.parts (rules_are_worth s.parts (obeyed_of (rules_of s.parts) none)) (elements_in_range r.root) (parent_links_in_range r.root) (links_formed s.parts none))
 
+-- a peer behind the others that paths do not go on through
+pairs_push : (ps : List PeerRow) (last : PeerRow) → last.down ≡ false → AllPairs LeadApart ps → AllPairs LeadApart (ps ++ last ∷ [])
+pairs_push [] last not_down all = λ i j d less below. absurd (omega (arith, less, below))
+pairs_push (p ∷ ps) last not_down all =
+    AllPairs-cons LeadApart p (ps ++ last ∷ [])
+    (All-push (LeadApart p) ps last (λ k d below. all 0 (suc k) d (omega arith) (omega (arith, below))) (λ first second here same. (let clash : true ≡ false = sym second ∙ not_down in cc)))
+    (pairs_push ps last not_down (λ i j d less below. all (suc i) (suc j) d (omega (arith, less)) (omega (arith, below))))
+
 -- a network with one more client of an element
 pub with_client : (n : NetworkParts) (at : As) → IsNetwork n → has_element n at ≡ true → IsNetwork (with_path n at)
 with_client n at net known = record {
@@ -192,7 +202,8 @@ with_client n at net known = record {
   links = net.links;
   links_differ = net.links_differ;
   peers = All-push (λ (p : PeerRow). has_element n p.at ≡ true) n.peers (path_client at) net.peers known;
-  no_downs = All-push (λ (p : PeerRow). p.down ≡ false) n.peers (path_client at) net.no_downs refl;
+  downs = All-push (LeadsOut n) n.peers (path_client at) net.downs (λ down. (let clash : false ≡ true = down in cc));
+  downs_differ = pairs_push n.peers (path_client at) refl net.downs_differ;
   few_parent_links = net.few_parent_links;
   parent_links = net.parent_links;
   parent_links_differ = net.parent_links_differ;

@@ -24,7 +24,7 @@ use Rattle.plant_text.specs.Settings.{is_element}
 use Rattle.plant_model.specs.declared.output.Output.{Output}
 use Rattle.plant_model.specs.RealWire.{wire}
 use Rattle.plant_model.proofs.WireLaws.{wire_is_codec}
-use Rattle.plant_model.specs.Laws.{IsElement, IsParentLink, IsNetwork}
+use Rattle.plant_model.specs.Laws.{IsElement, IsParentLink, IsNetwork, LeadApart, LeadsOut}
 use Rattle.plant_model.specs.Samples.{As_}
 use Rattle.plant_model.specs.SampleRuns.{element}
 use Rattle.plant_model.specs.State.{Connection, Loads, Pops, Takes, Says, Ups, Downs, Clears, Solves, Expires, Hands}
@@ -95,7 +95,8 @@ obeys = record {
   links = All-cons Joins (As_ 1, As_ 2) [] (refl, refl, λ same. (let clash : 1 ≡ 2 = ap (λ (z : As). z.0) same in omega (arith, clash))) (All-nil Joins);
   links_differ = pairs_of Apart ((As_ 1, As_ 2) ∷ []) ((λ y none. absurd none), tt);
   peers = all_of (λ (r : PeerRow). is_element two r.at ≡ true) two.peers at_first_one;
-  no_downs = all_of (λ (r : PeerRow). r.down ≡ false) two.peers not_down;
+  downs = all_of (LeadsOut two) two.peers (λ r there down. (let clash : true ≡ false = sym down ∙ not_down r there in cc));
+  downs_differ = pairs_of LeadApart two.peers ((λ y none. absurd none), tt);
   few_parent_links = omega arith;
   parent_links = All-nil IsParentLink;
   parent_links_differ = pairs_of (λ (l m : ParentLink). (l.link.far ≢ m.link.far) × (l.link.near ≢ m.link.near)) [] tt;
