@@ -12,17 +12,17 @@ use Rattle.plant_text.specs.Sents.{sent_line}
 use Rattle.plant_text.specs.declared.settings.NetworkParts.{NetworkParts}
 use Rattle.plant_text.specs.Settings.{is_linked, peer_row}
 use Rattle.plant_text.specs.Settings.{line as line_of}
-use Rattle.blind_plant.specs.plant_model.declared.event.BlindEvent.{BlindEvent}
-use Rattle.blind_plant.specs.plant_model.declared.event.BlindEvent.TheVariants as blind
-use Rattle.blind_plant.specs.plant_model.declared.outcome.Outcome.TheVariants as outcome
-use Rattle.blind_plant.specs.plant_model.declared.outcome.Refused.TheVariants as refused
-use Rattle.blind_plant.specs.plant_model.Blind.{BlindHappened, BlindHappens, BlindState, Drained, Heard, Message, Nothing, SolveHappens, done as blind_done, happened, heard, heard_in, heard_of, is_accepted, is_closed, show_nothing}
-use Rattle.blind_plant.specs.plant_model.Deeds as deeds
-use Rattle.blind_plant.specs.plant_model.Deeds.{Going}
-use Rattle.blind_plant.specs.plant_model.Events as events
-use Rattle.blind_plant.specs.plant_model.RealWire.{wire}
-use Rattle.blind_plant.specs.plant_model.State.{Connection, Deed, Loads, Pops, Takes, Says, Ups, Downs, Clears, Solves, Expires, Hands, said, sent_in}
-use Rattle.blind_plant.specs.plant_model.Wire.{Bytes}
+use Rattle.plant_network.specs.plant_model.declared.event.BlindEvent.{BlindEvent}
+use Rattle.plant_network.specs.plant_model.declared.event.BlindEvent.TheVariants as blind
+use Rattle.plant_network.specs.plant_model.declared.outcome.Outcome.TheVariants as outcome
+use Rattle.plant_network.specs.plant_model.declared.outcome.Refused.TheVariants as refused
+use Rattle.plant_network.specs.plant_model.Blind.{BlindHappened, BlindHappens, BlindState, Drained, Heard, Message, Nothing, SolveHappens, done as blind_done, happened, heard, heard_in, heard_of, is_accepted, is_closed, show_nothing}
+use Rattle.plant_network.specs.plant_model.Deeds as deeds
+use Rattle.plant_network.specs.plant_model.Deeds.{Going}
+use Rattle.plant_network.specs.plant_model.Events as events
+use Rattle.plant_network.specs.plant_model.RealWire.{wire}
+use Rattle.plant_network.specs.plant_model.State.{Connection, Deed, Loads, Pops, Takes, Says, Ups, Downs, Clears, Solves, Expires, Hands, said, sent_in}
+use Rattle.plant_network.specs.plant_model.Wire.{Bytes}
 use Rattle.transcript.specs.Lines.{answer_line, name_of}
 use Rattle.blind_play.specs.Making.{closed_text, drain_text, drainer_of}
 use Rattle.blind_play.specs.Turns.{heard_text, is_ended}

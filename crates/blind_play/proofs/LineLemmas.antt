@@ -4,17 +4,17 @@ use Rattle.std.specs.Prelude.{MatchOption}
 use Rattle.dom_base.specs.declared.names.As.{As}
 use Rattle.plant_text.specs.declared.line.LineEvent.{LineEvent}
 use Rattle.plant_text.specs.declared.settings.NetworkParts.{NetworkParts}
-use Rattle.blind_plant.specs.plant_model.declared.event.BlindEvent.{BlindEvent}
-use Rattle.blind_plant.specs.plant_model.declared.event.BlindEvent.TheVariants as blind
-use Rattle.blind_plant.specs.plant_model.Blind.{BlindState}
-use Rattle.blind_plant.specs.plant_model.Wire.{Bytes}
+use Rattle.plant_network.specs.plant_model.declared.event.BlindEvent.{BlindEvent}
+use Rattle.plant_network.specs.plant_model.declared.event.BlindEvent.TheVariants as blind
+use Rattle.plant_network.specs.plant_model.Blind.{BlindState}
+use Rattle.plant_network.specs.plant_model.Wire.{Bytes}
 use Rattle.plant_text.specs.Settings.{lines}
-use Rattle.blind_plant.specs.plant_network.network_links.Carried.{flow_of}
-use Rattle.blind_plant.specs.plant_network.network_links.Waiting.{WaitsNext}
-use Rattle.blind_plant.specs.plant_network.Due.{IsLeast, IsSettled}
-use Rattle.blind_plant.proofs.plant_network.CarryLemmas.{least_here, settled_here}
-use Rattle.blind_plant.specs.Held.{Held, whole}
-use Rattle.blind_plant.specs.Whole.{Whole}
+use Rattle.plant_network.specs.network_links.Carried.{flow_of}
+use Rattle.plant_network.specs.network_links.Waiting.{WaitsNext}
+use Rattle.plant_network.specs.Due.{IsLeast, IsSettled}
+use Rattle.plant_network.proofs.CarryLemmas.{least_here, settled_here}
+use Rattle.plant_network.specs.Blind.{Held, whole}
+use Rattle.plant_network.specs.Blind.{Whole}
 use Rattle.blind_play.specs.Due.{AreAllDue, AreDue, IsDueTake}
 use Rattle.blind_play.specs.Making.{Does, DoesAll, MakesTurn}
 use Rattle.blind_play.specs.Playing.{Played, Plays, PlaysFeed, PlaysNone, PlaysOne, cue}

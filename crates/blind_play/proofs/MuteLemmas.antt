@@ -17,19 +17,19 @@ use Rattle.plant_text.specs.declared.settings.NetworkParts.{NetworkParts}
 use Rattle.plant_text.specs.declared.settings.PeerRow.{PeerRow}
 use Rattle.plant_text.specs.Names.{same_as, parent_as}
 use Rattle.plant_text.specs.Settings.{Line, class_of, is_linked, line, lines, peer_row}
-use Rattle.blind_plant.specs.plant_model.declared.outcome.Outcome.TheVariants.{Done}
-use Rattle.blind_plant.specs.plant_model.declared.outcome.Refused.TheVariants.{NoSuchPeer}
-use Rattle.blind_plant.specs.plant_model.Settings.{place, family}
-use Rattle.blind_plant.specs.plant_model.Wire.{Bytes, Codec}
-use Rattle.blind_plant.specs.plant_model.Element.{upped, downed}
-use Rattle.blind_plant.specs.plant_model.Names.{is_empty, set_pair}
-use Rattle.blind_plant.specs.plant_model.Taking.{take}
-use Rattle.blind_plant.specs.plant_model.Parent as parent
-use Rattle.blind_plant.specs.plant_model.State.{State, Connection, Deed, Hands, Takes, Ups, Downs, Pops}
-use Rattle.blind_plant.specs.plant_model.Deeds.{Going, any_fall, begin_end, begin_line, break_line, clear, element_of, fall, give, inner_act, inner_acts, inner_input, input_of, is_due, is_out_empty, is_tick, our_offer, outside_act, outside_acts, outside_input, outside_step, puts, rise, say, tick_lines, tick_outside, with_access, with_element, with_inbox, with_inner, with_parent, with_session}
-use Rattle.blind_plant.specs.plant_model.Outside.{heeded}
-use Rattle.blind_plant.specs.plant_model.Events as events
-use Rattle.blind_plant.specs.plant_model.Events.{Happened}
+use Rattle.plant_network.specs.plant_model.declared.outcome.Outcome.TheVariants.{Done}
+use Rattle.plant_network.specs.plant_model.declared.outcome.Refused.TheVariants.{NoSuchPeer}
+use Rattle.plant_network.specs.plant_model.Settings.{place, family}
+use Rattle.plant_network.specs.plant_model.Wire.{Bytes, Codec}
+use Rattle.plant_network.specs.plant_model.Element.{upped, downed}
+use Rattle.plant_network.specs.plant_model.Names.{is_empty, set_pair}
+use Rattle.plant_network.specs.plant_model.Taking.{take}
+use Rattle.plant_network.specs.plant_model.Parent as parent
+use Rattle.plant_network.specs.plant_model.State.{State, Connection, Deed, Hands, Takes, Ups, Downs, Pops}
+use Rattle.plant_network.specs.plant_model.Deeds.{Going, any_fall, begin_end, begin_line, break_line, clear, element_of, fall, give, inner_act, inner_acts, inner_input, input_of, is_due, is_out_empty, is_tick, our_offer, outside_act, outside_acts, outside_input, outside_step, puts, rise, say, tick_lines, tick_outside, with_access, with_element, with_inbox, with_inner, with_parent, with_session}
+use Rattle.plant_network.specs.plant_model.Outside.{heeded}
+use Rattle.plant_network.specs.plant_model.Events as events
+use Rattle.plant_network.specs.plant_model.Events.{Happened}
 
 -- it hands nothing out
 abbrev pub IsMuteDeed : {S : Type 0} → Deed S → Type 0

@@ -6,11 +6,11 @@ use Rattle.plant_text.specs.declared.line.LineEvent.{LineEvent}
 use Rattle.plant_text.specs.declared.line.LineEvent.TheVariants as line
 use Rattle.plant_text.specs.declared.settings.NetworkParts.{NetworkParts}
 use Rattle.texts_in_range.specs.Given.{IsBlindLine}
-use Rattle.blind_plant.specs.plant_model.declared.event.BlindEvent.{BlindEvent}
-use Rattle.blind_plant.specs.plant_model.declared.event.BlindEvent.TheVariants as blind
-use Rattle.blind_plant.specs.plant_model.Blind.{AreBlindGiven, BlindSays, BlindState, Heard, IsBlindGiven, blind_opened, heard, is_accepted}
-use Rattle.blind_plant.specs.plant_model.RealWire.{wire}
-use Rattle.blind_plant.specs.plant_model.Wire.{Bytes}
+use Rattle.plant_network.specs.plant_model.declared.event.BlindEvent.{BlindEvent}
+use Rattle.plant_network.specs.plant_model.declared.event.BlindEvent.TheVariants as blind
+use Rattle.plant_network.specs.plant_model.Blind.{AreBlindGiven, BlindSays, BlindState, Heard, IsBlindGiven, blind_opened, heard, is_accepted}
+use Rattle.plant_network.specs.plant_model.RealWire.{wire}
+use Rattle.plant_network.specs.plant_model.Wire.{Bytes}
 use Rattle.blind_play.specs.Due.{AreAllDue, AreDue, IsDueCarry, IsDueTake}
 use Rattle.blind_play.specs.Laws.{SaysSo, Tells}
 use Rattle.blind_play.specs.Playing.{Cue, IsNewStage, Plays, PlaysFeed, PlaysFeedAt, PlaysNone, PlaysOne, Stage}

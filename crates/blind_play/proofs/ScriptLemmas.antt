@@ -8,8 +8,8 @@ use Rattle.std.specs.Io.KnownBytes.{Appends, Keeps}
 use Rattle.dom_edge.specs.Whole.{AppendsSome}
 use Rattle.line_text.specs.Lines.{NumberedLine, told_lines}
 use Rattle.plant_text.specs.declared.settings.NetworkParts.{NetworkParts}
-use Rattle.blind_plant.specs.plant_model.Blind.{blind_opened}
-use Rattle.blind_plant.specs.plant_model.RealWire.{wire}
+use Rattle.plant_network.specs.plant_model.Blind.{blind_opened}
+use Rattle.plant_network.specs.plant_model.RealWire.{wire}
 use Rattle.texts_in_range.specs.Given.{IsBlindLine}
 use Rattle.texts_in_range.proofs.GivenRows.{blind_line_given}
 use Rattle.transcript.specs.declared.stop.Stop.{Stop}

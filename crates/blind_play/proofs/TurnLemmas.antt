@@ -4,18 +4,18 @@ use Rattle.std.proofs.lemmas.List.{flat_map_more}
 use Rattle.dom_base.specs.declared.names.As.{As}
 use Rattle.plant_queues.specs.declared.sent.Sent.{Sent}
 use Rattle.plant_text.specs.declared.settings.NetworkParts.{NetworkParts}
-use Rattle.blind_plant.specs.plant_model.declared.event.BlindEvent.{BlindEvent}
-use Rattle.blind_plant.specs.plant_model.declared.event.BlindEvent.TheVariants as blind
-use Rattle.blind_plant.specs.plant_model.declared.outcome.Refused.TheVariants as refused
-use Rattle.blind_plant.specs.plant_model.Blind.{BlindHappened, BlindHappens, BlindState, Nothing, is_accepted, show_nothing}
-use Rattle.blind_plant.specs.plant_model.Events.{Answered}
-use Rattle.blind_plant.specs.plant_model.RealWire.{wire}
-use Rattle.blind_plant.specs.plant_model.State.{Deed, said}
-use Rattle.blind_plant.specs.plant_network.Due.{IsLeast, IsSettled, inbox_of}
-use Rattle.blind_plant.specs.plant_network.DueLaws.{FoundNothing}
-use Rattle.blind_plant.proofs.plant_network.CarryLemmas.{can_carry}
-use Rattle.blind_plant.proofs.plant_network.InboxLemmas.{take_empty, take_less}
-use Rattle.blind_plant.specs.Whole.{Stepped, Whole}
+use Rattle.plant_network.specs.plant_model.declared.event.BlindEvent.{BlindEvent}
+use Rattle.plant_network.specs.plant_model.declared.event.BlindEvent.TheVariants as blind
+use Rattle.plant_network.specs.plant_model.declared.outcome.Refused.TheVariants as refused
+use Rattle.plant_network.specs.plant_model.Blind.{BlindHappened, BlindHappens, BlindState, Nothing, is_accepted, show_nothing}
+use Rattle.plant_network.specs.plant_model.Events.{Answered}
+use Rattle.plant_network.specs.plant_model.RealWire.{wire}
+use Rattle.plant_network.specs.plant_model.State.{Deed, said}
+use Rattle.plant_network.specs.Due.{IsLeast, IsSettled, inbox_of}
+use Rattle.plant_network.specs.DueLaws.{FoundNothing}
+use Rattle.plant_network.proofs.CarryLemmas.{can_carry}
+use Rattle.plant_network.proofs.InboxLemmas.{take_empty, take_less}
+use Rattle.plant_network.specs.Blind.{Stepped, Whole}
 use Rattle.blind_play.specs.Due.{AreAllDue, AreDue, IsDueCarry, IsDueTake}
 use Rattle.blind_play.specs.Making.{Does, DoesSome, Makes, MakesTurn, closed_text, drain_text, drainer_of, lacks_memory, told_of}
 use Rattle.blind_play.specs.Turns.{IsTurn, Turn, happened_in, turn_text}

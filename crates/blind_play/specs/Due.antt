@@ -1,10 +1,10 @@
 -- What is due in a network without topologies, and events that are due one after the other.
 use Rattle.std.specs.Prelude.{◌≡◌, ℕ, true, List, [], ◌∷◌, Option, Some, None}
 use Rattle.plant_text.specs.declared.settings.NetworkParts.{NetworkParts}
-use Rattle.blind_plant.specs.plant_model.declared.event.BlindEvent.{BlindEvent}
-use Rattle.blind_plant.specs.plant_model.declared.event.BlindEvent.TheVariants as blind
-use Rattle.blind_plant.specs.plant_model.Blind.{BlindState, is_accepted}
-use Rattle.blind_plant.specs.plant_network.Due.{IsLeast, IsSettled, inbox_of}
+use Rattle.plant_network.specs.plant_model.declared.event.BlindEvent.{BlindEvent}
+use Rattle.plant_network.specs.plant_model.declared.event.BlindEvent.TheVariants as blind
+use Rattle.plant_network.specs.plant_model.Blind.{BlindState, is_accepted}
+use Rattle.plant_network.specs.Due.{IsLeast, IsSettled, inbox_of}
 use Rattle.blind_play.specs.Turns.{IsTurn, Turn}
 
 -- the message of the least pair is carried, until none is on its way

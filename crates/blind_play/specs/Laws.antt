@@ -2,8 +2,8 @@
 use Rattle.std.specs.Prelude.{◌≡◌, ℕ, Bool, List, [], ◌∷◌, ◌++◌, All}
 use Rattle.plant_text.specs.declared.settings.NetworkParts.{NetworkParts}
 use Rattle.texts_in_range.specs.Given.{IsBlindLine}
-use Rattle.blind_plant.specs.plant_model.Blind.{AreBlindGiven, BlindSays, Heard, blind_opened, heard}
-use Rattle.blind_plant.specs.plant_model.RealWire.{wire}
+use Rattle.plant_network.specs.plant_model.Blind.{AreBlindGiven, BlindSays, Heard, blind_opened, heard}
+use Rattle.plant_network.specs.plant_model.RealWire.{wire}
 use Rattle.blind_play.specs.Playing.{Cue, IsNewStage, Stage}
 use Rattle.blind_play.specs.Scripts.{AllPlayed}
 use Rattle.blind_play.specs.Turns.{Turn, all_heard, heard_text, trace_of}

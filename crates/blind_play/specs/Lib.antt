@@ -8,5 +8,5 @@ pub mod Laws
 -- inner
 pub mod Making
 -- handed on from below
-pub use Rattle.blind_plant.specs.plant_model
+pub use Rattle.plant_network.specs.plant_model
 pub use Rattle.texts_in_range.specs as texts_in_range

@@ -4,14 +4,14 @@ use Rattle.std.specs.List.{flat_map}
 use Rattle.dom_base.specs.declared.names.Peer.TheVariants.{Outside}
 use Rattle.plant_queues.specs.declared.sent.Sent.{Sent}
 use Rattle.plant_text.specs.declared.settings.NetworkParts.{NetworkParts}
-use Rattle.blind_plant.specs.plant_model.declared.event.BlindEvent.{BlindEvent}
-use Rattle.blind_plant.specs.plant_model.declared.event.BlindEvent.TheVariants as blind
-use Rattle.blind_plant.specs.plant_model.declared.outcome.Refused.TheVariants as refused
-use Rattle.blind_plant.specs.plant_model.Blind.{BlindHappens, BlindState, IsBlindGiven, Nothing, heard_of, is_accepted, is_closed}
-use Rattle.blind_plant.specs.plant_model.Events.{Answered}
-use Rattle.blind_plant.specs.plant_model.RealWire.{wire}
-use Rattle.blind_plant.specs.plant_model.State.{Deed, said}
-use Rattle.blind_plant.specs.Whole.{Whole}
+use Rattle.plant_network.specs.plant_model.declared.event.BlindEvent.{BlindEvent}
+use Rattle.plant_network.specs.plant_model.declared.event.BlindEvent.TheVariants as blind
+use Rattle.plant_network.specs.plant_model.declared.outcome.Refused.TheVariants as refused
+use Rattle.plant_network.specs.plant_model.Blind.{BlindHappens, BlindState, IsBlindGiven, Nothing, heard_of, is_accepted, is_closed}
+use Rattle.plant_network.specs.plant_model.Events.{Answered}
+use Rattle.plant_network.specs.plant_model.RealWire.{wire}
+use Rattle.plant_network.specs.plant_model.State.{Deed, said}
+use Rattle.plant_network.specs.Blind.{Whole}
 use Rattle.transcript.specs.Lines.{answer_line}
 use Rattle.blind_play.specs.Due.{AreDue}
 use Rattle.blind_play.specs.Turns.{IsTurn, Turn, heard_text, turn_text, turns_text}

@@ -3,12 +3,12 @@ use Rattle.std.specs.Prelude.{◌≡◌, ℕ, cond, List, [], ◌∷◌, ◌++�
 use Rattle.plant_text.specs.declared.line.LineEvent.{LineEvent}
 use Rattle.plant_text.specs.declared.line.LineEvent.TheVariants as line
 use Rattle.plant_text.specs.declared.settings.NetworkParts.{NetworkParts}
-use Rattle.blind_plant.specs.plant_model.declared.event.BlindEvent.{BlindEvent}
-use Rattle.blind_plant.specs.plant_model.declared.event.BlindEvent.TheVariants as blind
-use Rattle.blind_plant.specs.plant_model.Blind.{BlindState, blind_opened, is_accepted}
-use Rattle.blind_plant.specs.plant_model.RealWire.{wire}
-use Rattle.blind_plant.specs.plant_model.Wire.{Bytes}
-use Rattle.blind_plant.specs.Held.{Held, whole}
+use Rattle.plant_network.specs.plant_model.declared.event.BlindEvent.{BlindEvent}
+use Rattle.plant_network.specs.plant_model.declared.event.BlindEvent.TheVariants as blind
+use Rattle.plant_network.specs.plant_model.Blind.{BlindState, blind_opened, is_accepted}
+use Rattle.plant_network.specs.plant_model.RealWire.{wire}
+use Rattle.plant_network.specs.plant_model.Wire.{Bytes}
+use Rattle.plant_network.specs.Blind.{Held, whole}
 use Rattle.blind_play.specs.Due.{AreAllDue, IsDueCarry, IsDueTake}
 use Rattle.blind_play.specs.Turns.{IsTurn, Turn, turns_text}
 

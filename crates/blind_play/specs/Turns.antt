@@ -4,12 +4,12 @@ use Rattle.std.specs.List.{flat_map}
 use Rattle.plant_text.specs.Sents.{sent_line}
 use Rattle.plant_text.specs.declared.settings.NetworkParts.{NetworkParts}
 use Rattle.plant_text.specs.declared.settings.PeerRow.{PeerRow}
-use Rattle.blind_plant.specs.plant_model.declared.event.BlindEvent.{BlindEvent}
-use Rattle.blind_plant.specs.plant_model.declared.outcome.Outcome.TheVariants as outcome
-use Rattle.blind_plant.specs.plant_model.Blind.{BlindHappened, BlindHappens, BlindState, Drained, Heard, Message, Nothing, heard}
-use Rattle.blind_plant.specs.plant_model.Events.{Answered}
-use Rattle.blind_plant.specs.plant_model.RealWire.{wire}
-use Rattle.blind_plant.specs.plant_model.State.{Deed}
+use Rattle.plant_network.specs.plant_model.declared.event.BlindEvent.{BlindEvent}
+use Rattle.plant_network.specs.plant_model.declared.outcome.Outcome.TheVariants as outcome
+use Rattle.plant_network.specs.plant_model.Blind.{BlindHappened, BlindHappens, BlindState, Drained, Heard, Message, Nothing, heard}
+use Rattle.plant_network.specs.plant_model.Events.{Answered}
+use Rattle.plant_network.specs.plant_model.RealWire.{wire}
+use Rattle.plant_network.specs.plant_model.State.{Deed}
 use Rattle.transcript.specs.Lines.{answer_line, name_of}
 
 -- an event, its answer, its deeds, of which the newest is first, and the state that it leaves

@@ -1,12 +1,12 @@
 //! One event of a line, done and told.
 ghost use Rattle.std.specs.Prelude.{◌≡◌, ◌++◌, IfOk};
-ghost use Rattle.blind_plant.specs.plant_model.Blind.{IsBlindGiven};
-ghost use Rattle.blind_plant.specs.Held.{whole};
+ghost use Rattle.plant_network.specs.plant_model.Blind.{IsBlindGiven};
+ghost use Rattle.plant_network.specs.Blind.{whole};
 ghost use Rattle.blind_play.specs.Making.{Makes, MakesTurn, lacks_memory};
 
 use crate::telling::{drainer_of, write_heard};
-use blind_plant::BlindPlant;
-use blind_plant::model::{BlindEvent, Outcome, Refused};
+use plant_network::BlindPlant;
+use plant_network::model::{BlindEvent, Outcome, Refused};
 use dom_base::NoMemory;
 use std::alloc::Global;
 

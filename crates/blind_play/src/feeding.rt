@@ -1,13 +1,13 @@
 //! Bytes that a peer feeds, and the messages that are taken of them.
 ghost use Rattle.std.specs.Prelude.{◌≡◌, ◌++◌, OnOk};
-ghost use Rattle.blind_plant.specs.Held.{whole};
+ghost use Rattle.plant_network.specs.Blind.{whole};
 ghost use Rattle.blind_play.specs.Due.{IsDueTake};
 ghost use Rattle.blind_play.specs.Making.{Does, DoesAll};
 ghost use Rattle.blind_play.specs.Playing.{PlaysFeed};
 
 use crate::events::play_event;
-use blind_plant::BlindPlant;
-use blind_plant::model::BlindEvent;
+use plant_network::BlindPlant;
+use plant_network::model::BlindEvent;
 use dom_base::{Bytes, NoMemory};
 use std::alloc::Global;
 

@@ -1,17 +1,17 @@
 //! A line is played by its kind.
 ghost use Rattle.std.specs.Prelude.{◌≡◌, ◌++◌, OnOk};
 ghost use Rattle.std.specs.Option.{option_map};
-ghost use Rattle.blind_plant.specs.plant_model.Blind.{IsBlindGiven};
+ghost use Rattle.plant_network.specs.plant_model.Blind.{IsBlindGiven};
 ghost use Rattle.texts_in_range.specs.Given.{IsBlindLine};
-ghost use Rattle.blind_plant.specs.Held.{whole};
+ghost use Rattle.plant_network.specs.Blind.{whole};
 ghost use Rattle.blind_play.specs.Making.{Does, IsGivenIfAny};
 ghost use Rattle.blind_play.specs.Playing.{Plays, PlaysFeedAt, PlaysNamed, PlaysOne};
 
 use crate::events::play_event;
 use crate::feeding::feed;
 use crate::settling::settle;
-use blind_plant::BlindPlant;
-use blind_plant::model::BlindEvent;
+use plant_network::BlindPlant;
+use plant_network::model::BlindEvent;
 use dom_base::{Bytes, NoMemory};
 use plant_text::LineEvent;
 use std::alloc::Global;

@@ -4,7 +4,7 @@ ghost use Rattle.texts_in_range.specs.Given.{IsBlindLine};
 ghost use Rattle.blind_play.specs.Playing.{IsNewStage, Played, cue, stage_of};
 
 use crate::lines::play_line;
-use blind_plant::BlindPlant;
+use plant_network::BlindPlant;
 use dom_base::NoMemory;
 use plant_text::{LineEvent, Network, NetworkParts};
 use std::alloc::Global;
@@ -18,7 +18,7 @@ pub struct BlindPlayer {
 }
 
 impl Model for BlindPlayer {
-    ghost use Rattle.blind_plant.specs.Held.{Held};
+    ghost use Rattle.plant_network.specs.Blind.{Held};
 
     ghost Value = { Held };
 

@@ -1,13 +1,13 @@
 //! Messages are carried until none is on its way.
 ghost use Rattle.std.specs.Prelude.{◌≡◌, ◌++◌, MatchOption, OnOk};
-ghost use Rattle.blind_plant.specs.plant_network.Due.{IsLeast, IsSettled};
-ghost use Rattle.blind_plant.specs.Held.{whole};
+ghost use Rattle.plant_network.specs.Due.{IsLeast, IsSettled};
+ghost use Rattle.plant_network.specs.Blind.{whole};
 ghost use Rattle.blind_play.specs.Due.{AreAllDue, IsDueCarry};
 ghost use Rattle.blind_play.specs.Making.{Does};
 
 use crate::events::play_event;
-use blind_plant::BlindPlant;
-use blind_plant::model::BlindEvent;
+use plant_network::BlindPlant;
+use plant_network::model::BlindEvent;
 use dom_base::{As, NoMemory};
 use std::alloc::Global;
 

@@ -1,15 +1,15 @@
 //! What closed peers hear of an event, told: its messages to them, and what one of them drained.
 ghost use Rattle.std.specs.Prelude.{◌≡◌, ◌++◌, ◌+◌, ◌<◌, [], drop, length, IfOk, OnOk, cond};
-ghost use Rattle.blind_plant.specs.plant_model.Blind.{is_closed as is_closed_peer};
-ghost use Rattle.blind_plant.specs.plant_model.Element.{is_client};
+ghost use Rattle.plant_network.specs.plant_model.Blind.{is_closed as is_closed_peer};
+ghost use Rattle.plant_network.specs.plant_model.Element.{is_client};
 ghost use Rattle.plant_text.specs.Sents.{sent_line};
 ghost use Rattle.transcript.specs.Lines.{answer_line, name_of};
-ghost use Rattle.blind_plant.specs.Held.{whole};
+ghost use Rattle.plant_network.specs.Blind.{whole};
 ghost use Rattle.blind_play.specs.Making.{closed_text, drain_text, drainer_of, told_of};
 
 use crate::events::Answer;
-use blind_plant::BlindPlant;
-use blind_plant::model::BlindEvent;
+use plant_network::BlindPlant;
+use plant_network::model::BlindEvent;
 use disclosure::Class;
 use dom_base::{As, NoMemory, Peer};
 use plant_queues::Said;

@@ -1,4 +1,6 @@
 pub mod BeginLemmas
+pub mod BlindSound
+pub mod BlindSolves
 pub mod AnswerLemmas
 pub mod InboxLemmas
 pub mod CarryLemmas

@@ -1,5 +1,6 @@
 -- A network that has just been made.
 use Rattle.std.specs.Prelude.{◌≡◌, List, []}
+use Rattle.dom_base.specs.declared.names.As.{As}
 use Rattle.pcep_subobjects.specs.declared.hop.Hop.{Hop}
 use Rattle.plant_text.specs.declared.settings.NetworkParts.{NetworkParts}
 use Rattle.network_events.specs.plant_model.Events.{bare, opening}
@@ -7,6 +8,7 @@ use Rattle.network_events.specs.plant_model.RealWire.{wire}
 use Rattle.network_events.specs.member_trait.Membership.{Membership}
 use Rattle.network_events.specs.Standing.{Here}
 use Rattle.network_events.specs.Moving.{IsSound, whole}
+use Rattle.network_events.specs.Whole.{Whole}
 
 module _ {P : Type 0} {S : Type 0} where
   -- the members are those of the model's beginning, whatever they pin
@@ -19,3 +21,7 @@ module _ {P : Type 0} {S : Type 0} where
     pub state : (whole h).state ≡ (opening P S wire h.network show h.seen.current).state
     pub said : h.flow.said ≡ []
     pub sound : IsSound h
+
+  -- the same, as its callers see it
+  abbrev pub IsBegun : (As → P) → (S → List Hop) → NetworkParts → Whole P S → Type 0
+  IsBegun first show n w = (w.network ≡ n) × (w.state ≡ (opening P S wire n show first).state) × (w.said ≡ [])

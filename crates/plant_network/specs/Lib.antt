@@ -1,4 +1,6 @@
 -- for readers
+pub mod Held
+pub mod Blind
 pub mod Beginning
 pub mod Due
 pub mod DueLaws

@@ -1,5 +1,5 @@
 use Rattle.std.proofs.Common.{◌∙◌, ◌++◌, ℕ, Option, ap}
-use Rattle.blind_plant.specs.Held.{whole}
+use Rattle.plant_network.specs.Blind.{whole}
 use Rattle.blind_play.specs.Making.{told_of}
 use Rattle.blind_play.proofs.TurnLemmas.{made_turn}
 use Rattle.blind_play.proofs.events.play_event.Goals as goal

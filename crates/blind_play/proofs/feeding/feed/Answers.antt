@@ -1,4 +1,4 @@
-use Rattle.blind_plant.specs.Held.{whole}
+use Rattle.plant_network.specs.Blind.{whole}
 use Rattle.blind_play.proofs.LineLemmas.{feed_refused, feed_taken, on_ok}
 use Rattle.blind_play.proofs.feeding.feed.Goals as goal
 

@@ -1,4 +1,4 @@
-use Rattle.blind_plant.specs.Held.{whole}
+use Rattle.plant_network.specs.Blind.{whole}
 use Rattle.blind_play.proofs.TurnLemmas.{one_take, take_falls}
 use Rattle.blind_play.proofs.feeding.take_all.Goals as goal
 

@@ -1,6 +1,6 @@
 use Rattle.std.proofs.Common.{◌≡◌, [], false, suc, cond, length}
-use Rattle.blind_plant.specs.Held.{whole}
-use Rattle.blind_plant.specs.plant_network.Due.{inbox_of}
+use Rattle.plant_network.specs.Blind.{whole}
+use Rattle.plant_network.specs.Due.{inbox_of}
 use Rattle.blind_play.specs.Due.{IsDueTake}
 use Rattle.blind_play.specs.Making.{DoesSome}
 use Rattle.blind_play.proofs.feeding.take_all.Given as goal

@@ -1,4 +1,4 @@
-use Rattle.blind_plant.specs.Held.{whole}
+use Rattle.plant_network.specs.Blind.{whole}
 use Rattle.blind_play.proofs.LineLemmas.{one_played}
 use Rattle.blind_play.proofs.lines.play_one.Goals as goal
 

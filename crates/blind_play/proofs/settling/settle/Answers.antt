@@ -1,4 +1,4 @@
-use Rattle.blind_plant.specs.Held.{whole}
+use Rattle.plant_network.specs.Blind.{whole}
 use Rattle.blind_play.proofs.TurnLemmas.{one_carry}
 use Rattle.blind_play.proofs.settling.settle.Goals as goal
 

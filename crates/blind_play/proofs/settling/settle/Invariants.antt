@@ -1,4 +1,4 @@
-use Rattle.blind_plant.specs.Held.{whole}
+use Rattle.plant_network.specs.Blind.{whole}
 use Rattle.blind_play.specs.Due.{IsDueCarry}
 use Rattle.blind_play.specs.Making.{DoesSome}
 use Rattle.blind_play.proofs.settling.settle.Given as goal

@@ -1,6 +1,6 @@
 use Rattle.std.proofs.Common.{◌∙◌, ℕ, suc, List, ◌++◌, ◌+◌, [], cond, drop, append_assoc, sym, ap, add-one}
 use Rattle.plant_text.specs.Sents.{sent_line}
-use Rattle.blind_plant.specs.plant_model.Blind.{is_closed}
+use Rattle.plant_network.specs.plant_model.Blind.{is_closed}
 use Rattle.transcript.specs.Lines.{name_of}
 use Rattle.blind_play.specs.Making.{closed_text}
 use Rattle.blind_play.proofs.HeardLemmas.{closed_next}

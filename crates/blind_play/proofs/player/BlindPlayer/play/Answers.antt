@@ -1,5 +1,5 @@
 use Rattle.std.proofs.Common.{subst}
-use Rattle.blind_plant.specs.Held.{Held, whole}
+use Rattle.plant_network.specs.Blind.{Held, whole}
 use Rattle.blind_play.specs.Playing.{Played, cue, stage_of}
 use Rattle.blind_play.proofs.LineLemmas.{played}
 use Rattle.blind_play.proofs.player.BlindPlayer.play.Goals as goal

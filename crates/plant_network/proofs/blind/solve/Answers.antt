@@ -2,15 +2,15 @@ use Rattle.std.proofs.Common.{Ok, Err, Result, List, ap, subst}
 use Rattle.std.proofs.lemmas.Result.{err_from_is_err_and}
 use Rattle.dom_base.specs.declared.names.Tick.{Tick}
 use Rattle.dom_base.specs.declared.border.BorderRow.{BorderRow}
-use Rattle.plant_network.specs.plant_model.declared.event.BlindEvent.TheVariants.{Solve}
-use Rattle.plant_network.specs.plant_model.declared.outcome.Outcome.TheVariants.{Done}
-use Rattle.plant_network.specs.plant_model.declared.outcome.Refused.{Refused}
-use Rattle.plant_network.specs.plant_model.declared.outcome.Refused.TheVariants.{NoMemory}
-use Rattle.plant_network.specs.network_members.Blind.{Solves}
-use Rattle.plant_network.specs.network_members.declared.plan.MemberPlan.{MemberPlan}
-use Rattle.blind_plant.specs.Held.{Moves, held}
-use Rattle.blind_plant.proofs.SolveLemmas.{kept_still, plan_answers, plan_done, plan_lacks, plan_member, planned_err}
-use Rattle.blind_plant.proofs.events.solve.Goals as goal
+use Rattle.network_events.specs.plant_model.declared.event.BlindEvent.TheVariants.{Solve}
+use Rattle.network_events.specs.plant_model.declared.outcome.Outcome.TheVariants.{Done}
+use Rattle.network_events.specs.plant_model.declared.outcome.Refused.{Refused}
+use Rattle.network_events.specs.plant_model.declared.outcome.Refused.TheVariants.{NoMemory}
+use Rattle.network_members.specs.Blind.{Solves}
+use Rattle.network_members.specs.declared.plan.MemberPlan.{MemberPlan}
+use Rattle.plant_network.specs.Blind.{Moves, held}
+use Rattle.plant_network.proofs.BlindSolves.{kept_still, plan_answers, plan_done, plan_lacks, plan_member, planned_err}
+use Rattle.plant_network.proofs.blind.solve.Goals as goal
 
 pub returns-in_err-plan : goal.returns-in_err-plan
 returns-in_err-plan c =

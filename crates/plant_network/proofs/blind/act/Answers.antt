@@ -1,7 +1,7 @@
 use Rattle.std.proofs.Common.{sym, subst}
-use Rattle.plant_network.specs.plant_model.declared.event.BlindEvent.{BlindEvent}
-use Rattle.blind_plant.specs.Held.{Moves, held}
-use Rattle.blind_plant.proofs.events.act.Goals as goal
+use Rattle.network_events.specs.plant_model.declared.event.BlindEvent.{BlindEvent}
+use Rattle.plant_network.specs.Blind.{Moves, held}
+use Rattle.plant_network.proofs.blind.act.Goals as goal
 
 pub returns-in-Open : goal.returns-in-Open
 returns-in-Open c = subst (λ (e : BlindEvent). Moves (held c.args.members.now c.args.traffic.now) e c.open.result (held c.open.new.members c.open.new.traffic)) (sym c.in-Open.is) c.open.ensures

@@ -1,12 +1,12 @@
 -- What a network without topologies keeps from event to event.
-use Rattle.plant_network.specs.plant_model.declared.event.BlindEvent.{BlindEvent}
-use Rattle.plant_network.specs.plant_model.Blind.{BlindHappened, BlindSteps}
-use Rattle.plant_network.specs.plant_model.Events.{Answered}
-use Rattle.plant_network.specs.plant_model.RealWire.{wire}
-use Rattle.plant_network.specs.jobs_last.Lasting.{Goes}
-use Rattle.plant_network.proofs.jobs_last.BlindLast.{blind_steps_last}
-use Rattle.plant_network.proofs.network_events.SoundLemmas as network
-use Rattle.blind_plant.specs.Held.{Held, standing, whole, IsSound, Moves}
+use Rattle.network_events.specs.plant_model.declared.event.BlindEvent.{BlindEvent}
+use Rattle.network_events.specs.plant_model.Blind.{BlindHappened, BlindSteps}
+use Rattle.network_events.specs.plant_model.Events.{Answered}
+use Rattle.network_events.specs.plant_model.RealWire.{wire}
+use Rattle.jobs_last.specs.Lasting.{Goes}
+use Rattle.jobs_last.proofs.BlindLast.{blind_steps_last}
+use Rattle.network_events.proofs.SoundLemmas as network
+use Rattle.plant_network.specs.Blind.{Held, standing, whole, IsSound, Moves}
 
 -- jobs last in an event, and tables and keys stay as they have to be
 pub goes_after : (old new : Held) (e : BlindEvent) (told : Answered) → IsSound old → Moves old e told new → Goes (whole old).state (whole new).state

@@ -4,35 +4,35 @@ use Rattle.dom_base.specs.declared.names.As.{As}
 use Rattle.dom_base.specs.declared.border.BorderRow.{BorderRow}
 use Rattle.plant_text.specs.declared.settings.NetworkParts.{NetworkParts}
 use Rattle.plant_text.specs.Names.{parent_as}
-use Rattle.plant_network.specs.plant_model.declared.event.BlindEvent.TheVariants.{Solve}
-use Rattle.plant_network.specs.plant_model.declared.outcome.Outcome.TheVariants as outcome
-use Rattle.plant_network.specs.plant_model.declared.outcome.Refused.{Refused}
-use Rattle.plant_network.specs.plant_model.declared.outcome.Refused.TheVariants as refused
-use Rattle.plant_network.specs.plant_model.Blind.{BlindHappened, BlindState, BlindSteps, Nothing, show_nothing}
-use Rattle.plant_network.specs.plant_model.Deeds as deeds
-use Rattle.plant_network.specs.plant_model.Element.{Taken}
-use Rattle.plant_network.specs.plant_model.Events.{has_jobs}
-use Rattle.plant_network.specs.plant_model.Parent as parent
-use Rattle.plant_network.specs.plant_model.RealWire.{wire}
-use Rattle.plant_network.specs.plant_model.Settings.{place}
-use Rattle.plant_network.specs.plant_model.Solving.{commit}
-use Rattle.plant_network.specs.plant_model.State.{Deed, Solves, said, sent_by}
-use Rattle.plant_network.specs.network_links.Carried.{Carried, flow_of}
-use Rattle.plant_network.specs.network_links.Flow.{Flow}
-use Rattle.plant_network.specs.member_trait.Membership.{Membership, Replied, Standing, is_member, with_element, with_parent}
-use Rattle.plant_network.specs.network_events.Answering.{IsAnswer, Sends}
-use Rattle.plant_network.specs.network_events.Giving.{OnlyGrows}
-use Rattle.plant_network.specs.network_events.Standing.{here, state_of}
-use Rattle.plant_network.specs.pce_element.Blind.{stands_for_nothing}
-use Rattle.plant_network.specs.network_members.Answering.{IsRefusedFor, ParentAnswers}
-use Rattle.plant_network.specs.network_members.Blind.{ElementAnswers, MemberAnswers, nothing_first}
-use Rattle.plant_network.specs.network_members.Tiers.{Become, Tiers, lost_in, members_of, next_by, standing_of}
-use Rattle.plant_network.specs.network_members.Tiers as tiers
-use Rattle.plant_network.specs.network_members.declared.plan.MemberPlan.{MemberPlan}
+use Rattle.network_events.specs.plant_model.declared.event.BlindEvent.TheVariants.{Solve}
+use Rattle.network_events.specs.plant_model.declared.outcome.Outcome.TheVariants as outcome
+use Rattle.network_events.specs.plant_model.declared.outcome.Refused.{Refused}
+use Rattle.network_events.specs.plant_model.declared.outcome.Refused.TheVariants as refused
+use Rattle.network_events.specs.plant_model.Blind.{BlindHappened, BlindState, BlindSteps, Nothing, show_nothing}
+use Rattle.network_events.specs.plant_model.Deeds as deeds
+use Rattle.network_events.specs.plant_model.Element.{Taken}
+use Rattle.network_events.specs.plant_model.Events.{has_jobs}
+use Rattle.network_events.specs.plant_model.Parent as parent
+use Rattle.network_events.specs.plant_model.RealWire.{wire}
+use Rattle.network_events.specs.plant_model.Settings.{place}
+use Rattle.network_events.specs.plant_model.Solving.{commit}
+use Rattle.network_events.specs.plant_model.State.{Deed, Solves, said, sent_by}
+use Rattle.network_events.specs.network_links.Carried.{Carried, flow_of}
+use Rattle.network_events.specs.network_links.Flow.{Flow}
+use Rattle.network_events.specs.member_trait.Membership.{Membership, Replied, Standing, is_member, with_element, with_parent}
+use Rattle.network_events.specs.Answering.{IsAnswer, Sends}
+use Rattle.network_events.specs.Giving.{OnlyGrows}
+use Rattle.network_events.specs.Standing.{here, state_of}
+use Rattle.network_members.specs.pce_element.Blind.{stands_for_nothing}
+use Rattle.network_members.specs.Answering.{IsRefusedFor, ParentAnswers}
+use Rattle.network_members.specs.Blind.{ElementAnswers, MemberAnswers, nothing_first}
+use Rattle.network_members.specs.Tiers.{Become, Tiers, lost_in, members_of, next_by, standing_of}
+use Rattle.network_members.specs.Tiers as tiers
+use Rattle.network_members.specs.declared.plan.MemberPlan.{MemberPlan}
 use Rattle.plant_network.proofs.AnswerLemmas.{element_answer, parent_answer}
-use Rattle.plant_network.proofs.network_members.StepLemmas.{stands_as}
-use Rattle.plant_network.specs.network_events.Moving.{IsKept}
-use Rattle.blind_plant.specs.Held.{IsSound, Moves, held, standing, whole}
+use Rattle.network_members.proofs.StepLemmas.{stands_as}
+use Rattle.network_events.specs.Moving.{IsKept}
+use Rattle.plant_network.specs.Blind.{IsSound, Moves, held, standing, whole}
 
 abbrev Members : Type 0
 Members = Membership Nothing Nothing
