@@ -1,7 +1,7 @@
 -- A lock is opened round a network that has just been made.
 use Rattle.plant_text.specs.declared.settings.NetworkParts.{NetworkParts}
-use Rattle.pce_plant.specs.Held.{Held, whole}
-use Rattle.pce_plant.specs.Whole.{IsBegun}
+use Rattle.plant_network.specs.Topologies.{Held, whole}
+use Rattle.plant_network.specs.Whole.{IsBegun}
 use Rattle.turn_desk.specs.Histories.{NoneIsPending}
 use Rattle.turn_desk.proofs.Beginning.{begun_has_none}
 

@@ -12,7 +12,7 @@ use crate::served::Served;
 use crate::settings::load_settings;
 use dom_base::NoMemory;
 use dom_edge::Store;
-use pce_plant::Plant;
+use plant_network::Plant;
 use plant_text::Network;
 use std::alloc::Global;
 use std::sync::Wait;

@@ -1,4 +1,12 @@
 pub mod BeginLemmas
+pub mod SoundLemmas
+pub mod JobLemmas
+pub mod SolveLemmas
+pub mod LoadLemmas
+pub mod HistoryLemmas
+mod CrossingParts
+pub mod Crossing
+pub mod ReadyLemmas
 pub mod BlindSound
 pub mod BlindSolves
 pub mod AnswerLemmas

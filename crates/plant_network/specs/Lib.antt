@@ -1,9 +1,17 @@
 -- for readers
 pub mod Held
 pub mod Blind
+pub mod Whole
+pub mod Topologies
+pub mod Jobs
+pub mod Current
+pub mod Turns
+pub mod Histories
 pub mod Beginning
 pub mod Due
 pub mod DueLaws
+-- inner
+pub mod TurnLaws
 -- handed on from below
 pub use Rattle.network_members.specs.pce_element
 pub use Rattle.network_members.specs.pce_parent

@@ -14,7 +14,7 @@ use plant_text::NetworkParts;
 use std::alloc::Global;
 
 /// The outside peers and the links of these settings, on which nothing has begun.
-pub fn traffic_of(alloc: Global, parts: &NetworkParts) -> Result<Traffic, NoMemory>
+pub(crate) fn traffic_of(alloc: Global, parts: &NetworkParts) -> Result<Traffic, NoMemory>
     requires rules { IsNetwork parts.now }
     ensures bare { IfOk result (λ traffic. IsBare (lines parts.now) (length parts.now.peers) (flow_of traffic)) }
 {
@@ -24,7 +24,7 @@ pub fn traffic_of(alloc: Global, parts: &NetworkParts) -> Result<Traffic, NoMemo
 
 /// The inner links begin between members that have just been made: an Open is in each of their queues (RFC 5440,
 /// section 4.2.1).
-pub fn begin<M: Members>(members: &M, traffic: &mut Traffic) -> Result<(), NoMemory>
+pub(crate) fn begin<M: Members>(members: &M, traffic: &mut Traffic) -> Result<(), NoMemory>
     requires rules { IsNetwork (M.stands members.now).network }
     requires bare { IsBare (lines (M.stands members.now).network) (length (M.stands members.now).network.peers) (flow_of traffic.old) }
     requires new { AreBare (M.stands members.now).network M.show (M.stands members.now).seen }

@@ -1,19 +1,24 @@
-//! What every network does, whatever its members know of their domains, as one value: how it begins, what it shows, and what is
-//! due; the same without topologies, event by event.
+//! A network of path computation elements as one value, which takes one event at a time (RFC 4655), with topologies and without;
+//! what is due in it.
 #![tactic(auto)]
 
+mod acts;
+mod answering;
 mod beginning;
 mod blind;
 mod due;
+mod events;
+mod histories;
 mod network;
+mod topologies;
+mod turned;
 
-pub use beginning::{begin, traffic_of};
+pub use acts::{Act, Acted, Turn};
+pub use answering::CommitRefused;
 pub use blind::BlindPlant;
 pub use due::{least_is_carried, refused_takes_find_nothing, takes_leave_less};
+pub use histories::histories_are_runs;
 pub use network::Network;
-pub use network_events::{
-    Traffic, answer, break_link, carry, drain, feed, model, open, shut, take, tick,
-};
-pub use network_members::{
-    Done, Hierarchy, MemberPlan, Topologies, Unanswered, Work, solve_border,
-};
+pub use network_events::model;
+pub use network_members::{Done, Work};
+pub use topologies::Plant;

@@ -10,16 +10,16 @@ use Rattle.border_costs.specs.declared.job.Job.{Job}
 use Rattle.plant_queues.specs.declared.sent.Sent.{Sent}
 use Rattle.plant_text.specs.declared.settings.NetworkParts.{NetworkParts}
 use Rattle.plant_text.specs.Names.{same_as, parent_as}
-use Rattle.pce_plant.specs.plant_model.declared.event.Event.{Event}
-use Rattle.pce_plant.specs.plant_model.declared.event.Event.TheVariants as event
-use Rattle.pce_plant.specs.plant_model.declared.outcome.Outcome.{Outcome}
-use Rattle.pce_plant.specs.plant_model.Blind.{is_accepted}
-use Rattle.pce_plant.specs.plant_model.Events.{Answered, is_ready}
-use Rattle.pce_plant.specs.plant_model.State.{said}
-use Rattle.pce_plant.specs.plant_model.Plant.{Plant, PlantDeed, Happened, Happens, SolveHappens}
-use Rattle.pce_plant.specs.plant_model.RealWire.{wire}
-use Rattle.pce_plant.specs.Jobs.{IsAsked}
-use Rattle.pce_plant.specs.Whole.{Whole}
+use Rattle.plant_network.specs.plant_model.declared.event.Event.{Event}
+use Rattle.plant_network.specs.plant_model.declared.event.Event.TheVariants as event
+use Rattle.plant_network.specs.plant_model.declared.outcome.Outcome.{Outcome}
+use Rattle.plant_network.specs.plant_model.Blind.{is_accepted}
+use Rattle.plant_network.specs.plant_model.Events.{Answered, is_ready}
+use Rattle.plant_network.specs.plant_model.State.{said}
+use Rattle.plant_network.specs.plant_model.Plant.{Plant, PlantDeed, Happened, Happens, SolveHappens}
+use Rattle.plant_network.specs.plant_model.RealWire.{wire}
+use Rattle.plant_network.specs.Jobs.{IsAsked}
+use Rattle.plant_network.specs.Whole.{Whole}
 use Rattle.transcript.specs.Lines.{answer_line, rows_text, sents_text}
 use Rattle.plant_play.specs.declared.showing.Modes.{Modes}
 use Rattle.plant_play.specs.Logs.{Told, behind}

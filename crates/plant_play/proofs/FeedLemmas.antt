@@ -1,14 +1,14 @@
 -- A feed and the takes behind it, and all that was due with its answer.
 use Rattle.std.proofs.Common.{◌≡◌, ℕ, true, false, List, [], ◌∷◌, ◌++◌, Option, None, Ok, Err, is_err, sym, ◌∙◌, subst, ap, refl}
 use Rattle.plant_text.specs.declared.settings.NetworkParts.{NetworkParts}
-use Rattle.pce_plant.specs.plant_model.declared.event.Event.{Event}
-use Rattle.pce_plant.specs.plant_model.declared.event.Event.TheVariants as event
-use Rattle.pce_plant.specs.plant_model.declared.outcome.Outcome.TheVariants.{Done}
-use Rattle.pce_plant.specs.plant_model.Events.{Answered}
-use Rattle.pce_plant.specs.plant_model.Wire.{Bytes}
-use Rattle.pce_plant.specs.plant_model.Plant.{Plant, PlantDeed, Run}
-use Rattle.pce_plant.specs.plant_model.RealWire.{wire}
-use Rattle.pce_plant.specs.Whole.{Whole}
+use Rattle.plant_network.specs.plant_model.declared.event.Event.{Event}
+use Rattle.plant_network.specs.plant_model.declared.event.Event.TheVariants as event
+use Rattle.plant_network.specs.plant_model.declared.outcome.Outcome.TheVariants.{Done}
+use Rattle.plant_network.specs.plant_model.Events.{Answered}
+use Rattle.plant_network.specs.plant_model.Wire.{Bytes}
+use Rattle.plant_network.specs.plant_model.Plant.{Plant, PlantDeed, Run}
+use Rattle.plant_network.specs.plant_model.RealWire.{wire}
+use Rattle.plant_network.specs.Whole.{Whole}
 use Rattle.transcript.specs.Lines.{answer_line}
 use Rattle.plant_play.specs.declared.showing.Modes.{Modes}
 use Rattle.plant_play.specs.Due.{AreDue, IsDueTake}

@@ -3,18 +3,18 @@ use Rattle.std.proofs.Common.{◌≡◌, ◌<◌, ◌+◌, ℕ, suc, arith, Bool
 use Rattle.dom_base.specs.declared.names.As.{As}
 use Rattle.disclosure.specs.Shown.{open_of}
 use Rattle.plant_text.specs.declared.settings.NetworkParts.{NetworkParts}
-use Rattle.pce_plant.specs.plant_model.declared.event.Event.{Event}
-use Rattle.pce_plant.specs.plant_model.declared.event.Event.TheVariants as event
-use Rattle.pce_plant.specs.plant_model.declared.outcome.Refused.TheVariants as refused
-use Rattle.pce_plant.specs.plant_model.Blind.{is_accepted}
-use Rattle.pce_plant.specs.plant_model.Events.{Answered}
-use Rattle.pce_plant.specs.plant_model.Plant.{Pin, Plant, Segment, Happened, Happens, IsGiven, Run}
-use Rattle.pce_plant.specs.plant_model.RealWire.{wire}
-use Rattle.pce_plant.specs.plant_network.Due.{IsLeast, IsSettled, inbox_of}
-use Rattle.pce_plant.proofs.plant_network.CarryLemmas as carries
-use Rattle.pce_plant.proofs.plant_network.InboxLemmas.{take_empty, take_less}
-use Rattle.pce_plant.specs.Jobs.{CanSolve}
-use Rattle.pce_plant.specs.Whole.{Stepped, Whole}
+use Rattle.plant_network.specs.plant_model.declared.event.Event.{Event}
+use Rattle.plant_network.specs.plant_model.declared.event.Event.TheVariants as event
+use Rattle.plant_network.specs.plant_model.declared.outcome.Refused.TheVariants as refused
+use Rattle.plant_network.specs.plant_model.Blind.{is_accepted}
+use Rattle.plant_network.specs.plant_model.Events.{Answered}
+use Rattle.plant_network.specs.plant_model.Plant.{Pin, Plant, Segment, Happened, Happens, IsGiven, Run}
+use Rattle.plant_network.specs.plant_model.RealWire.{wire}
+use Rattle.plant_network.specs.Due.{IsLeast, IsSettled, inbox_of}
+use Rattle.plant_network.proofs.CarryLemmas as carries
+use Rattle.plant_network.proofs.InboxLemmas.{take_empty, take_less}
+use Rattle.plant_network.specs.Jobs.{CanSolve}
+use Rattle.plant_network.specs.Whole.{Stepped, Whole}
 use Rattle.std.specs.Prelude.{MatchBool, slice_get}
 use Rattle.std.specs.Option.{option_map}
 use Rattle.plant_play.specs.declared.events.Due.{Due as DueEvent}

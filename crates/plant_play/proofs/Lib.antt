@@ -6,4 +6,4 @@ mod LogLemmas
 pub mod ShownLemmas
 pub mod TurnLemmas
 -- handed on from below
-pub use Rattle.pce_plant.proofs.plant_model
+pub use Rattle.plant_network.proofs.plant_model

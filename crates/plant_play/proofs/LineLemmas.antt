@@ -7,12 +7,12 @@ use Rattle.te_deltas.specs.Answers.{IsBuiltOf}
 use Rattle.te_deltas.specs.ChangeText.{text_in}
 use Rattle.te_deltas.specs.declared.changes.Change.{Change}
 use Rattle.plant_text.specs.declared.line.LineEvent.{LineEvent}
-use Rattle.pce_plant.specs.plant_model.declared.event.Event.TheVariants as event
-use Rattle.pce_plant.specs.plant_model.declared.outcome.Refused.TheVariants.{NoSuchPeer}
-use Rattle.pce_plant.specs.plant_model.Events.{Answered}
-use Rattle.pce_plant.specs.plant_model.Plant.{Pin, Plant}
-use Rattle.pce_plant.specs.Current.{IsCurrent}
-use Rattle.pce_plant.specs.Whole.{Whole}
+use Rattle.plant_network.specs.plant_model.declared.event.Event.TheVariants as event
+use Rattle.plant_network.specs.plant_model.declared.outcome.Refused.TheVariants.{NoSuchPeer}
+use Rattle.plant_network.specs.plant_model.Events.{Answered}
+use Rattle.plant_network.specs.plant_model.Plant.{Pin, Plant}
+use Rattle.plant_network.specs.Current.{IsCurrent}
+use Rattle.plant_network.specs.Whole.{Whole}
 use Rattle.network_files.specs.declared.error.FileError.{FileError}
 use Rattle.plant_play.specs.declared.showing.Modes.{Modes}
 use Rattle.plant_play.specs.Logs.{Told, behind, untold}

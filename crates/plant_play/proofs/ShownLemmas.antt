@@ -6,10 +6,10 @@ use Rattle.path_certificate.specs.declared.certificate.Certificate.{Certificate}
 use Rattle.border_costs.specs.declared.job.Job.{Job}
 use Rattle.border_costs.specs.declared.answer.Answer.{Answer}
 use Rattle.border_costs.specs.Solutions.{AreRows}
-use Rattle.pce_plant.specs.plant_model.Blind.{is_accepted}
-use Rattle.pce_plant.specs.plant_model.Events.{Answered}
-use Rattle.pce_plant.specs.plant_model.declared.event.Event.{Event}
-use Rattle.pce_plant.specs.Whole.{Whole}
+use Rattle.plant_network.specs.plant_model.Blind.{is_accepted}
+use Rattle.plant_network.specs.plant_model.Events.{Answered}
+use Rattle.plant_network.specs.plant_model.declared.event.Event.{Event}
+use Rattle.plant_network.specs.Whole.{Whole}
 use Rattle.transcript.specs.Lines.{certified_text, rows_text, sents_text}
 use Rattle.plant_play.specs.declared.showing.Modes.{Modes}
 use Rattle.plant_play.specs.Logs.{Told, behind}

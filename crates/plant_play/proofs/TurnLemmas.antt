@@ -2,11 +2,11 @@
 use Rattle.std.proofs.Common.{◌≡◌, ◌+◌, ℕ, true, List, [], ◌∷◌, ◌++◌, Option, Some, sym, ◌∙◌, subst, ap, refl}
 use Rattle.std.proofs.lemmas.List.{length_push}
 use Rattle.plant_text.specs.declared.settings.NetworkParts.{NetworkParts}
-use Rattle.pce_plant.specs.plant_model.declared.event.Event.{Event}
-use Rattle.pce_plant.specs.plant_model.Blind.{is_accepted}
-use Rattle.pce_plant.specs.plant_model.Plant.{Plant, Entry, IsGiven, Run}
-use Rattle.pce_plant.specs.plant_model.RealWire.{wire}
-use Rattle.pce_plant.specs.Whole.{Whole}
+use Rattle.plant_network.specs.plant_model.declared.event.Event.{Event}
+use Rattle.plant_network.specs.plant_model.Blind.{is_accepted}
+use Rattle.plant_network.specs.plant_model.Plant.{Plant, Entry, IsGiven, Run}
+use Rattle.plant_network.specs.plant_model.RealWire.{wire}
+use Rattle.plant_network.specs.Whole.{Whole}
 use Rattle.plant_play.specs.declared.showing.Modes.{Modes}
 use Rattle.plant_play.specs.Due.{AreDue}
 use Rattle.plant_play.specs.Logs.{Told, behind}

@@ -10,5 +10,5 @@ pub mod Making
 pub mod PlayerFields
 -- handed on from below
 pub use Rattle.network_files.specs as network_files
-pub use Rattle.pce_plant.specs.plant_model
+pub use Rattle.plant_network.specs.plant_model
 pub use Rattle.transcript.specs as transcript

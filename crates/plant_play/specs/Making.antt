@@ -6,7 +6,7 @@ use Rattle.dom_base.specs.declared.names.Peer.{Peer}
 use Rattle.dom_base.specs.declared.names.Peer.TheVariants.{Outside, Inner}
 use Rattle.dom_base.specs.declared.border.BorderRow.{BorderRow}
 use Rattle.dom_base.specs.declared.query.Seed.{Seed}
-use Rattle.pce_plant.specs.plant_model.Element.{is_client}
+use Rattle.plant_network.specs.plant_model.Element.{is_client}
 use Rattle.path_certificate.specs.declared.certificate.Certificate.{Certificate}
 use Rattle.border_costs.specs.declared.job.Job.{Job}
 use Rattle.border_costs.specs.Asks.{AreSeeds}
@@ -16,17 +16,17 @@ use Rattle.plant_queues.specs.declared.sent.Sent.{Sent}
 use Rattle.plant_text.specs.Names.{same_as, parent_as}
 use Rattle.plant_text.specs.declared.settings.PeerRow.{PeerRow}
 use Rattle.plant_text.specs.Settings.{class_from, peer_row}
-use Rattle.pce_plant.specs.plant_model.declared.event.Event.{Event}
-use Rattle.pce_plant.specs.plant_model.declared.event.Event.TheVariants as event
-use Rattle.pce_plant.specs.plant_model.declared.outcome.Refused.{Refused}
-use Rattle.pce_plant.specs.plant_model.declared.outcome.Refused.TheVariants as refused
-use Rattle.pce_plant.specs.plant_model.Blind.{is_accepted}
-use Rattle.pce_plant.specs.plant_model.Events.{Answered, is_ready}
-use Rattle.pce_plant.specs.plant_model.State.{said}
-use Rattle.pce_plant.specs.plant_model.Plant.{Plant, PlantDeed, Entry, Happened, Happens, IsGiven, Run}
-use Rattle.pce_plant.specs.plant_model.RealWire.{wire}
-use Rattle.pce_plant.specs.Whole.{IsOwnLoad, Whole}
-use Rattle.pce_plant.specs.Jobs.{IsAsked}
+use Rattle.plant_network.specs.plant_model.declared.event.Event.{Event}
+use Rattle.plant_network.specs.plant_model.declared.event.Event.TheVariants as event
+use Rattle.plant_network.specs.plant_model.declared.outcome.Refused.{Refused}
+use Rattle.plant_network.specs.plant_model.declared.outcome.Refused.TheVariants as refused
+use Rattle.plant_network.specs.plant_model.Blind.{is_accepted}
+use Rattle.plant_network.specs.plant_model.Events.{Answered, is_ready}
+use Rattle.plant_network.specs.plant_model.State.{said}
+use Rattle.plant_network.specs.plant_model.Plant.{Plant, PlantDeed, Entry, Happened, Happens, IsGiven, Run}
+use Rattle.plant_network.specs.plant_model.RealWire.{wire}
+use Rattle.plant_network.specs.Whole.{IsOwnLoad, Whole}
+use Rattle.plant_network.specs.Jobs.{IsAsked}
 use Rattle.transcript.specs.Lines.{certified_text, rows_text, sents_text}
 use Rattle.plant_play.specs.declared.events.Due.{Due as DueEvent}
 use Rattle.plant_play.specs.declared.events.Due.TheVariants as due

@@ -10,16 +10,16 @@ use Rattle.plant_text.specs.declared.line.LineEvent.{LineEvent}
 use Rattle.plant_text.specs.declared.line.LineEvent.TheVariants as line
 use Rattle.plant_text.specs.declared.settings.NetworkParts.{NetworkParts}
 use Rattle.plant_text.specs.Settings.{is_element}
-use Rattle.pce_plant.specs.plant_model.declared.event.Event.{Event}
-use Rattle.pce_plant.specs.plant_model.declared.event.Event.TheVariants as event
-use Rattle.pce_plant.specs.plant_model.declared.outcome.Outcome.TheVariants.{Done}
-use Rattle.pce_plant.specs.plant_model.declared.outcome.Refused.TheVariants.{NoSuchPeer}
-use Rattle.pce_plant.specs.plant_model.Blind.{is_accepted}
-use Rattle.pce_plant.specs.plant_model.Events.{Answered}
-use Rattle.pce_plant.specs.plant_model.Plant.{Plant, Entry, Run}
-use Rattle.pce_plant.specs.plant_model.RealWire.{wire}
-use Rattle.pce_plant.specs.plant_model.Wire.{Bytes}
-use Rattle.pce_plant.specs.Held.{Held, whole}
+use Rattle.plant_network.specs.plant_model.declared.event.Event.{Event}
+use Rattle.plant_network.specs.plant_model.declared.event.Event.TheVariants as event
+use Rattle.plant_network.specs.plant_model.declared.outcome.Outcome.TheVariants.{Done}
+use Rattle.plant_network.specs.plant_model.declared.outcome.Refused.TheVariants.{NoSuchPeer}
+use Rattle.plant_network.specs.plant_model.Blind.{is_accepted}
+use Rattle.plant_network.specs.plant_model.Events.{Answered}
+use Rattle.plant_network.specs.plant_model.Plant.{Plant, Entry, Run}
+use Rattle.plant_network.specs.plant_model.RealWire.{wire}
+use Rattle.plant_network.specs.plant_model.Wire.{Bytes}
+use Rattle.plant_network.specs.Topologies.{Held, whole}
 use Rattle.transcript.specs.Lines.{answer_line}
 use Rattle.network_files.specs.declared.error.FileError.{FileError}
 use Rattle.network_files.specs.declared.error.FileError.TheVariants.{NoMemory}

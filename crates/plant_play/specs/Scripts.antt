@@ -1,6 +1,6 @@
 -- Lines of a script, played one after the other.
 use Rattle.std.specs.Prelude.{◌≡◌, ℕ, List, [], ◌∷◌, ◌++◌}
-use Rattle.pce_plant.specs.plant_model.Events.{Answered}
+use Rattle.plant_network.specs.plant_model.Events.{Answered}
 use Rattle.plant_play.specs.Playing.{Cue, PlaysLine, Stage}
 use Rattle.plant_play.specs.Turns.{Turn}
 

@@ -15,15 +15,15 @@ use Rattle.plant_text.specs.Names.{same_as, parent_as}
 use Rattle.plant_text.specs.declared.settings.NetworkParts.{NetworkParts}
 use Rattle.plant_text.specs.declared.settings.PeerRow.{PeerRow}
 use Rattle.plant_text.specs.Settings.{peer_row}
-use Rattle.pce_plant.specs.plant_model.declared.event.Event.{Event}
-use Rattle.pce_plant.specs.plant_model.declared.event.Event.TheVariants as event
-use Rattle.pce_plant.specs.plant_model.Blind.{is_accepted, is_closed}
-use Rattle.pce_plant.specs.plant_model.Events.{Answered}
-use Rattle.pce_plant.specs.plant_model.State.{said}
-use Rattle.pce_plant.specs.plant_model.Plant.{Plant, PlantDeed, Entry, Happens, IsGiven}
-use Rattle.pce_plant.specs.plant_model.RealWire.{wire}
-use Rattle.pce_plant.specs.Whole.{Whole}
-use Rattle.pce_plant.specs.Jobs.{IsAsked}
+use Rattle.plant_network.specs.plant_model.declared.event.Event.{Event}
+use Rattle.plant_network.specs.plant_model.declared.event.Event.TheVariants as event
+use Rattle.plant_network.specs.plant_model.Blind.{is_accepted, is_closed}
+use Rattle.plant_network.specs.plant_model.Events.{Answered}
+use Rattle.plant_network.specs.plant_model.State.{said}
+use Rattle.plant_network.specs.plant_model.Plant.{Plant, PlantDeed, Entry, Happens, IsGiven}
+use Rattle.plant_network.specs.plant_model.RealWire.{wire}
+use Rattle.plant_network.specs.Whole.{Whole}
+use Rattle.plant_network.specs.Jobs.{IsAsked}
 use Rattle.transcript.specs.Lines.{carry_line, certified_text, name_from, rows_text, sents_text, solve_line, take_line}
 use Rattle.plant_play.specs.declared.showing.Modes.{Modes}
 

@@ -2,8 +2,8 @@
 ghost use Rattle.std.specs.Prelude.{◌≡◌, IfErr, Err, IfOk, MatchBool, OnOk};
 ghost use Rattle.network_files.specs.Reading.{IsWant};
 ghost use Rattle.plant_text.specs.Settings.{peer_row};
-ghost use Rattle.pce_plant.specs.Held.{whole};
-ghost use Rattle.pce_plant.specs.Whole.{IsOwnLoad};
+ghost use Rattle.plant_network.specs.Topologies.{whole};
+ghost use Rattle.plant_network.specs.Whole.{IsOwnLoad};
 ghost use Rattle.transcript.specs.Lines.{name_from};
 ghost use Rattle.plant_play.specs.Logs.{behind};
 ghost use Rattle.plant_play.specs.Making.{DoesLine, Makes, MakesTurn, Refuses, event_of, lacks_memory, stage};
@@ -14,8 +14,8 @@ use crate::PlayError;
 use crate::log::{Log, write_answer, write_carry, write_solve, write_take};
 use crate::showing::{Modes, job_to_show, write_brought};
 use dom_base::{As, NoMemory};
-use pce_plant::Plant;
-use pce_plant::model::{Event, Outcome, Refused};
+use plant_network::Plant;
+use plant_network::model::{Event, Outcome, Refused};
 use plant_text::PeerRow;
 use std::alloc::Global;
 

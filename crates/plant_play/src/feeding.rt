@@ -1,7 +1,7 @@
 //! Bytes that a peer feeds, and the messages that are taken of them.
 ghost use Rattle.std.specs.Prelude.{◌≡◌, IfErr, IfOk, OnOk};
 ghost use Rattle.network_files.specs.Reading.{IsWant};
-ghost use Rattle.pce_plant.specs.Held.{whole};
+ghost use Rattle.plant_network.specs.Topologies.{whole};
 ghost use Rattle.plant_play.specs.Due.{IsDueTake};
 ghost use Rattle.plant_play.specs.Making.{DoesAll, DoesLine, stage};
 ghost use Rattle.plant_play.specs.Playing.{PlaysFeed};
@@ -11,8 +11,8 @@ use crate::events::{Answer, Due, done, make_due};
 use crate::log::{Log, write_answer};
 use crate::showing::Modes;
 use dom_base::Bytes;
-use pce_plant::Plant;
-use pce_plant::model::Event;
+use plant_network::Plant;
+use plant_network::model::Event;
 use std::alloc::Global;
 
 // Takes what is in the inbox of a peer.

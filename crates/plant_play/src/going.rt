@@ -1,8 +1,8 @@
 //! A network goes on until nothing is due.
 ghost use Rattle.std.specs.Prelude.{◌≡◌, IfErr, IfOk, IfSome, OnOk, slice_get};
 ghost use Rattle.std.specs.Option.{option_map};
-ghost use Rattle.pce_plant.specs.plant_model.declared.event.Event.TheVariants.{Solve};
-ghost use Rattle.pce_plant.specs.Held.{whole};
+ghost use Rattle.plant_network.specs.plant_model.declared.event.Event.TheVariants.{Solve};
+ghost use Rattle.plant_network.specs.Topologies.{whole};
 ghost use Rattle.plant_play.specs.Due.{IsDue, jobs_due};
 ghost use Rattle.network_files.specs.Reading.{IsWant};
 ghost use Rattle.plant_play.specs.Making.{DoesAll, DoesLine, IsPossible, event_of, stage};
@@ -12,8 +12,8 @@ use crate::PlayError;
 use crate::events::{Answer, Due, make_due};
 use crate::log::{Log, write_answer};
 use crate::showing::Modes;
-use pce_plant::Plant;
-use pce_plant::model::Outcome;
+use plant_network::Plant;
+use plant_network::model::Outcome;
 use std::alloc::Global;
 
 /// How far a network goes on.

@@ -12,6 +12,6 @@ mod showing;
 pub use events::Answer;
 pub use log::Log;
 pub use network_files::FileError as PlayError;
-pub use pce_plant::model::Outcome;
+pub use plant_network::model::Outcome;
 pub use player::Player;
 pub use showing::Modes;

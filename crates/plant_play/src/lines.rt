@@ -2,9 +2,9 @@
 ghost use Rattle.std.specs.Prelude.{◌≡◌, ◌≤◌, length, Err, IfErr, IfOk};
 ghost use Rattle.std.specs.Option.{option_map};
 ghost use Rattle.te_deltas.specs.ChangeText.{change_file_most};
-ghost use Rattle.pce_plant.specs.plant_model.declared.outcome.Refused.TheVariants.{NoSuchPeer};
-ghost use Rattle.pce_plant.specs.Held.{whole};
-ghost use Rattle.pce_plant.specs.Whole.{IsOwnLoad};
+ghost use Rattle.plant_network.specs.plant_model.declared.outcome.Refused.TheVariants.{NoSuchPeer};
+ghost use Rattle.plant_network.specs.Topologies.{whole};
+ghost use Rattle.plant_network.specs.Whole.{IsOwnLoad};
 ghost use Rattle.network_files.specs.Reading.{IsWant};
 ghost use Rattle.plant_play.specs.Making.{AreNoLoads, DoesLine, stage};
 ghost use Rattle.plant_play.specs.Playing.{IsWhyNot, Plays, PlaysChange, PlaysFeedAt, PlaysLoad, PlaysNamed, PlaysNone, WhyNotChanged, WhyNotLoaded, modes_after};
@@ -17,8 +17,8 @@ use crate::log::{Log, write_answer};
 use crate::showing::Modes;
 use dom_base::{As, Bytes};
 use network_files::{changed_of, changes_of, topology_of};
-use pce_plant::Plant;
-use pce_plant::model::{Event, Outcome, Refused};
+use plant_network::Plant;
+use plant_network::model::{Event, Outcome, Refused};
 use plant_text::LineEvent;
 use std::alloc::Global;
 

@@ -5,7 +5,7 @@ ghost use Rattle.plant_play.specs.Logs.{behind, untold};
 
 use dom_base::{As, BorderRow, NoMemory};
 use path_certificate::Certificate;
-use pce_plant::model::{Outcome, Refused};
+use plant_network::model::{Outcome, Refused};
 use plant_queues::Said;
 use plant_text::PeerRow;
 use std::alloc::Global;

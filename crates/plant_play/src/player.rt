@@ -9,7 +9,7 @@ use crate::lines::{modes_after, play_line};
 use crate::log::Log;
 use crate::showing::Modes;
 use dom_base::NoMemory;
-use pce_plant::Plant;
+use plant_network::Plant;
 use plant_text::{LineEvent, Network, NetworkParts};
 use std::alloc::Global;
 use std::marker::Model;

@@ -3,8 +3,8 @@ ghost use Rattle.std.specs.Prelude.{◌≡◌, ◌&&◌, ◌||◌, Some, IfOk, O
 ghost use Rattle.path_certificate.specs.declared.certificate.Certificate.{Certificate as Certified};
 ghost use Rattle.dom_base.specs.declared.border.BorderRow.{BorderRow};
 ghost use Rattle.plant_text.specs.Settings.{class_from, peer_row};
-ghost use Rattle.pce_plant.specs.plant_model.Element.{is_client};
-ghost use Rattle.pce_plant.specs.Held.{whole};
+ghost use Rattle.plant_network.specs.plant_model.Element.{is_client};
+ghost use Rattle.plant_network.specs.Topologies.{whole};
 ghost use Rattle.transcript.specs.Lines.{certified_text, rows_text};
 ghost use Rattle.plant_play.specs.Making.{Brings, IsToShow, Labels, LabelsIf, Shown, Tables, TablesIf, closed_among, shows_any};
 ghost use Rattle.plant_play.specs.Turns.{tells_closed};
@@ -13,8 +13,8 @@ use crate::log::{Log, write_certified, write_rows, write_said};
 use border_costs::{Job, border_table, solve};
 use disclosure::Class;
 use dom_base::{NoMemory, Peer};
-use pce_plant::model::{Event, Outcome, Refused};
-use pce_plant::{Plant, Work};
+use plant_network::model::{Event, Outcome, Refused};
+use plant_network::{Plant, Work};
 use plant_text::PeerRow;
 use std::alloc::Global;
 

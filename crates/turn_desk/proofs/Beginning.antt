@@ -6,17 +6,17 @@ use Rattle.te_links.specs.Rows.{Rows}
 use Rattle.disclosure.specs.Shown.{open_of}
 use Rattle.plant_text.specs.Settings.{Line, is_element, lines}
 use Rattle.plant_text.specs.declared.settings.NetworkParts.{NetworkParts}
-use Rattle.pce_plant.specs.plant_model.declared.event.Event.TheVariants.{Load}
-use Rattle.pce_plant.specs.plant_model.declared.outcome.Refused.TheVariants.{GenerationsFull, NoSuchPeer}
-use Rattle.pce_plant.specs.plant_model.Deeds as deeds
-use Rattle.pce_plant.specs.plant_model.Deeds.{Going}
-use Rattle.pce_plant.specs.plant_model.Element.{Element}
-use Rattle.pce_plant.specs.plant_model.Events as events
-use Rattle.pce_plant.specs.plant_model.Events.{Answered}
-use Rattle.pce_plant.specs.plant_model.Plant.{Happened, Pin, Plant, Segment, Steps, first_pin, is_full, load, load_new, refused}
-use Rattle.pce_plant.specs.plant_model.RealWire.{wire}
-use Rattle.pce_plant.specs.Held.{Held, whole}
-use Rattle.pce_plant.specs.Whole.{IsBegun, Stepped, Whole}
+use Rattle.plant_network.specs.plant_model.declared.event.Event.TheVariants.{Load}
+use Rattle.plant_network.specs.plant_model.declared.outcome.Refused.TheVariants.{GenerationsFull, NoSuchPeer}
+use Rattle.plant_network.specs.plant_model.Deeds as deeds
+use Rattle.plant_network.specs.plant_model.Deeds.{Going}
+use Rattle.plant_network.specs.plant_model.Element.{Element}
+use Rattle.plant_network.specs.plant_model.Events as events
+use Rattle.plant_network.specs.plant_model.Events.{Answered}
+use Rattle.plant_network.specs.plant_model.Plant.{Happened, Pin, Plant, Segment, Steps, first_pin, is_full, load, load_new, refused}
+use Rattle.plant_network.specs.plant_model.RealWire.{wire}
+use Rattle.plant_network.specs.Topologies.{Held, whole}
+use Rattle.plant_network.specs.Whole.{IsBegun, Stepped, Whole}
 use Rattle.plant_pins.specs.Histories.{PinsAreNow}
 use Rattle.turn_desk.specs.Histories.{Begins, NoneIsPending}
 

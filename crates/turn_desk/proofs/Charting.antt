@@ -2,13 +2,13 @@
 use Rattle.std.proofs.Common.{◌≡◌, ℕ, List, [], ◌∷◌, ◌++◌, ap, sym, refl, ◌∙◌, append-nil, Some, None, Ok, Err}
 use Rattle.dom_base.specs.declared.names.As.{As}
 use Rattle.operator_lines.specs.Charts as chart
-use Rattle.pce_plant.specs.plant_model.declared.event.Event.{Event}
-use Rattle.pce_plant.specs.plant_model.Events.{Answered}
-use Rattle.pce_plant.specs.Turns.{IsAnswer}
-use Rattle.pce_plant.specs.Whole.{Whole}
-use Rattle.pce_plant.specs.declared.acts.Act.TheVariants.{Do, Map}
-use Rattle.pce_plant.specs.declared.acts.Acted.{Acted}
-use Rattle.pce_plant.specs.declared.acts.Acted.TheVariants.{Did, Mapped}
+use Rattle.plant_network.specs.plant_model.declared.event.Event.{Event}
+use Rattle.plant_network.specs.plant_model.Events.{Answered}
+use Rattle.plant_network.specs.Turns.{IsAnswer}
+use Rattle.plant_network.specs.Whole.{Whole}
+use Rattle.plant_network.specs.declared.acts.Act.TheVariants.{Do, Map}
+use Rattle.plant_network.specs.declared.acts.Acted.{Acted}
+use Rattle.plant_network.specs.declared.acts.Acted.TheVariants.{Did, Mapped}
 use Rattle.session_serving.specs.Desks.{Answer}
 use Rattle.session_serving.specs.declared.desks.DeskRefused.TheVariants.{Plant, Spent}
 use Rattle.turn_desk.specs.Charts.{IsMapped, chart_call, charted_of}

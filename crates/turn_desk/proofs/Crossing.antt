@@ -3,7 +3,7 @@ use denote.RattleType.{RattleType}
 use denote.Param.Send.{IsSend, sendable}
 use Rattle.std.proofs.Crossing.{Arc-send, crosses}
 use Rattle.plant_lock.proofs.Crossing.{turn_seat_field_send, turnstile_send, turnstile_sync}
-use Rattle.pce_plant.proofs.Crossing.{plant_send}
+use Rattle.plant_network.proofs.Crossing.{plant_send}
 use Rattle.turn_desk.specs.contracts.desk.TurnDesk as TurnDesk
 
 pub turn_desk_send : (R : RattleType) → IsSend R → IsSend (TurnDesk.the_row R)

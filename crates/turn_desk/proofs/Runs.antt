@@ -4,21 +4,21 @@ use Rattle.dom_base.specs.declared.names.As.{As}
 use Rattle.te_links.specs.Rows.{Rows}
 use Rattle.plant_text.specs.declared.settings.NetworkParts.{NetworkParts}
 use Rattle.plant_lock.specs.History.{Legal, replay}
-use Rattle.pce_plant.specs.plant_model.declared.event.Event.{Event}
-use Rattle.pce_plant.specs.plant_model.Events.{Answered, has_jobs}
-use Rattle.pce_plant.specs.plant_model.Plant.{Plant}
-use Rattle.pce_plant.specs.plant_model.RealWire.{wire}
-use Rattle.pce_plant.specs.plant_model.Wire.{Codec}
-use Rattle.pce_plant.specs.Held.{Held, whole}
-use Rattle.pce_plant.specs.Histories.{event_of}
-use Rattle.pce_plant.specs.Jobs.{answer_of, solved_at}
-use Rattle.pce_plant.specs.Turns.{Admits, Allowed, IsAnswer, left_by, solve_of}
-use Rattle.pce_plant.specs.Whole.{Stepped, Whole}
-use Rattle.pce_plant.specs.declared.acts.Act.{Act}
-use Rattle.pce_plant.specs.declared.acts.Act.TheVariants.{Do, Look, Ready, Finish, Map}
-use Rattle.pce_plant.specs.declared.acts.Acted.{Acted}
-use Rattle.pce_plant.specs.declared.acts.Acted.TheVariants.{Did, Looked, Found, Committed, Mapped}
-use Rattle.pce_plant.specs.declared.acts.Turn.{Turn}
+use Rattle.plant_network.specs.plant_model.declared.event.Event.{Event}
+use Rattle.plant_network.specs.plant_model.Events.{Answered, has_jobs}
+use Rattle.plant_network.specs.plant_model.Plant.{Plant}
+use Rattle.plant_network.specs.plant_model.RealWire.{wire}
+use Rattle.plant_network.specs.plant_model.Wire.{Codec}
+use Rattle.plant_network.specs.Topologies.{Held, whole}
+use Rattle.plant_network.specs.Histories.{event_of}
+use Rattle.plant_network.specs.Jobs.{answer_of, solved_at}
+use Rattle.plant_network.specs.Turns.{Admits, Allowed, IsAnswer, left_by, solve_of}
+use Rattle.plant_network.specs.Whole.{Stepped, Whole}
+use Rattle.plant_network.specs.declared.acts.Act.{Act}
+use Rattle.plant_network.specs.declared.acts.Act.TheVariants.{Do, Look, Ready, Finish, Map}
+use Rattle.plant_network.specs.declared.acts.Acted.{Acted}
+use Rattle.plant_network.specs.declared.acts.Acted.TheVariants.{Did, Looked, Found, Committed, Mapped}
+use Rattle.plant_network.specs.declared.acts.Turn.{Turn}
 use Rattle.plant_pins.specs.Histories.{Leads, PinsAreNow, Told, known_in}
 use Rattle.plant_pins.specs.Steps.{Known, KnowsPins}
 use Rattle.plant_pins.proofs.HistoryLemmas.{histories_know_pins, known_stays}

@@ -13,28 +13,28 @@ use Rattle.plant_lock.specs.History.{Admitted, Legal, entries_at, replay}
 use Rattle.plant_lock.specs.Views.{Adds, LegalFrom}
 use Rattle.plant_lock.proofs.Lists.{legal_front}
 use Rattle.plant_lock.proofs.Turns.{last_allowed}
-use Rattle.pce_plant.specs.plant_model.declared.event.Event.{Event}
-use Rattle.pce_plant.specs.plant_model.declared.event.Event.TheVariants as event
-use Rattle.pce_plant.specs.plant_model.declared.outcome.Outcome.{Outcome}
-use Rattle.pce_plant.specs.plant_model.Events.{Answered}
-use Rattle.pce_plant.specs.Held.{Held, whole}
-use Rattle.pce_plant.specs.Jobs.{IsAsked, IsSolvedBy}
-use Rattle.pce_plant.specs.Turns.{Admits, Allowed, IsAnswer, IsShown, Warrants, left_by}
-use Rattle.pce_plant.specs.Whole as plant
-use Rattle.pce_plant.specs.Whole.{Whole}
-use Rattle.pce_plant.specs.declared.acts.Act.{Act}
-use Rattle.pce_plant.specs.declared.acts.Act.TheVariants.{Do, Look, Ready, Finish}
-use Rattle.pce_plant.specs.declared.acts.Acted.{Acted}
-use Rattle.pce_plant.specs.declared.acts.Acted.TheVariants.{Did, Looked, Found, Committed}
-use Rattle.pce_plant.specs.declared.acts.Turn.{Turn}
-use Rattle.pce_plant.specs.declared.answering.CommitRefused.{CommitRefused}
+use Rattle.plant_network.specs.plant_model.declared.event.Event.{Event}
+use Rattle.plant_network.specs.plant_model.declared.event.Event.TheVariants as event
+use Rattle.plant_network.specs.plant_model.declared.outcome.Outcome.{Outcome}
+use Rattle.plant_network.specs.plant_model.Events.{Answered}
+use Rattle.plant_network.specs.Topologies.{Held, whole}
+use Rattle.plant_network.specs.Jobs.{IsAsked, IsSolvedBy}
+use Rattle.plant_network.specs.Turns.{Admits, Allowed, IsAnswer, IsShown, Warrants, left_by}
+use Rattle.plant_network.specs.Whole as plant
+use Rattle.plant_network.specs.Whole.{Whole}
+use Rattle.plant_network.specs.declared.acts.Act.{Act}
+use Rattle.plant_network.specs.declared.acts.Act.TheVariants.{Do, Look, Ready, Finish}
+use Rattle.plant_network.specs.declared.acts.Acted.{Acted}
+use Rattle.plant_network.specs.declared.acts.Acted.TheVariants.{Did, Looked, Found, Committed}
+use Rattle.plant_network.specs.declared.acts.Turn.{Turn}
+use Rattle.plant_network.specs.declared.answering.CommitRefused.{CommitRefused}
 use Rattle.plant_pins.specs.Histories.{PinsAreNow}
 use Rattle.plant_pins.specs.Steps.{KnowsPins}
 use Rattle.plant_pins.proofs.StepLemmas.{found_pin}
-use Rattle.pce_plant.specs.pce_parent.declared.work.Done.{Done}
-use Rattle.pce_plant.specs.pce_parent.declared.work.Done.TheVariants as done
-use Rattle.pce_plant.specs.pce_parent.declared.work.Work.{Work}
-use Rattle.pce_plant.specs.pce_parent.declared.work.Work.TheVariants as work
+use Rattle.plant_network.specs.pce_parent.declared.work.Done.{Done}
+use Rattle.plant_network.specs.pce_parent.declared.work.Done.TheVariants as done
+use Rattle.plant_network.specs.pce_parent.declared.work.Work.{Work}
+use Rattle.plant_network.specs.pce_parent.declared.work.Work.TheVariants as work
 use Rattle.session_serving.specs.Desks as desk
 use Rattle.session_serving.specs.Desks.{Answer, Goes, call}
 use Rattle.session_serving.specs.declared.desks.DeskRefused.TheVariants.{Plant, Spent}

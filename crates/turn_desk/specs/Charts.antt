@@ -3,11 +3,11 @@ use Rattle.std.specs.Prelude.{Option, Some, None}
 use Rattle.std.specs.Arc.{arc_value}
 use Rattle.std.specs.List.{filter_map}
 use Rattle.operator_lines.specs.Charts.{Call, Did as DidSo, Mapped as MappedSo, Charted, current_of}
-use Rattle.pce_plant.specs.declared.acts.Act.{Act}
-use Rattle.pce_plant.specs.declared.acts.Act.TheVariants.{Do, Map}
-use Rattle.pce_plant.specs.declared.acts.Acted.{Acted}
-use Rattle.pce_plant.specs.declared.acts.Acted.TheVariants.{Did, Mapped}
-use Rattle.pce_plant.specs.declared.acts.Turn.{Turn}
+use Rattle.plant_network.specs.declared.acts.Act.{Act}
+use Rattle.plant_network.specs.declared.acts.Act.TheVariants.{Do, Map}
+use Rattle.plant_network.specs.declared.acts.Acted.{Acted}
+use Rattle.plant_network.specs.declared.acts.Acted.TheVariants.{Did, Mapped}
+use Rattle.plant_network.specs.declared.acts.Turn.{Turn}
 use Rattle.turn_desk.specs.Desks.{Stand}
 
 -- a call of an operator, with its answer

@@ -6,17 +6,17 @@ use Rattle.plant_lock.specs.declared.turned.Turned.{Ghosts}
 use Rattle.plant_lock.specs.History.{StartsWith}
 use Rattle.plant_lock.specs.Seats.{met_by, own_entries, seen_by, shares_of, view_of}
 use Rattle.plant_lock.specs.Views.{LegalFrom}
-use Rattle.pce_plant.specs.Held.{Held, whole}
-use Rattle.pce_plant.specs.Turns.{Admits, Allowed, left_by}
-use Rattle.pce_plant.specs.plant_model.declared.outcome.Outcome.{Outcome}
-use Rattle.pce_plant.specs.plant_model.Events.{Answered}
-use Rattle.pce_plant.specs.declared.acts.Act.{Act}
-use Rattle.pce_plant.specs.declared.acts.Act.TheVariants.{Do, Look, Ready, Finish}
-use Rattle.pce_plant.specs.declared.acts.Acted.{Acted}
-use Rattle.pce_plant.specs.declared.acts.Acted.TheVariants.{Did, Looked, Found, Committed}
-use Rattle.pce_plant.specs.declared.acts.Turn.{Turn}
-use Rattle.pce_plant.specs.declared.answering.CommitRefused.{CommitRefused}
-use Rattle.pce_plant.specs.declared.answering.CommitRefused.TheVariants.{NoSuchJob, NoMemory}
+use Rattle.plant_network.specs.Topologies.{Held, whole}
+use Rattle.plant_network.specs.Turns.{Admits, Allowed, left_by}
+use Rattle.plant_network.specs.plant_model.declared.outcome.Outcome.{Outcome}
+use Rattle.plant_network.specs.plant_model.Events.{Answered}
+use Rattle.plant_network.specs.declared.acts.Act.{Act}
+use Rattle.plant_network.specs.declared.acts.Act.TheVariants.{Do, Look, Ready, Finish}
+use Rattle.plant_network.specs.declared.acts.Acted.{Acted}
+use Rattle.plant_network.specs.declared.acts.Acted.TheVariants.{Did, Looked, Found, Committed}
+use Rattle.plant_network.specs.declared.acts.Turn.{Turn}
+use Rattle.plant_network.specs.declared.answering.CommitRefused.{CommitRefused}
+use Rattle.plant_network.specs.declared.answering.CommitRefused.TheVariants.{NoSuchJob, NoMemory}
 use Rattle.session_serving.specs.Desks.{Answer, Call, Desked, call}
 use Rattle.session_serving.specs.declared.desks.DeskRefused.TheVariants.{Plant, Spent}
 use Rattle.solve_workers.specs.Benches as bench

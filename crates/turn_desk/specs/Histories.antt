@@ -3,11 +3,11 @@ use Rattle.std.specs.Prelude.{◌≡◌, ℕ, List, [], ◌∷◌, ◌++◌, Opt
 use Rattle.dom_base.specs.declared.names.As.{As}
 use Rattle.te_links.specs.Rows.{Rows}
 use Rattle.plant_text.specs.declared.settings.NetworkParts.{NetworkParts}
-use Rattle.pce_plant.specs.Held.{Held, whole}
-use Rattle.pce_plant.specs.Histories.{event_of}
-use Rattle.pce_plant.specs.declared.acts.Act.{Act}
-use Rattle.pce_plant.specs.declared.acts.Turn.{Turn}
-use Rattle.pce_plant.specs.plant_model.Plant.{Plant}
+use Rattle.plant_network.specs.Topologies.{Held, whole}
+use Rattle.plant_network.specs.Histories.{event_of}
+use Rattle.plant_network.specs.declared.acts.Act.{Act}
+use Rattle.plant_network.specs.declared.acts.Turn.{Turn}
+use Rattle.plant_network.specs.plant_model.Plant.{Plant}
 use Rattle.plant_pins.specs.Histories.{Told, known_in}
 
 -- the events of a history, the oldest first, with their answers

@@ -2,15 +2,15 @@
 ghost use Rattle.std.specs.Prelude.{◌≡◌, ℕ, Option, Result};
 ghost use Rattle.dom_base.specs.declared.names.As.{As};
 ghost use Rattle.dom_base.specs.declared.names.NoMemory.{NoMemory};
-ghost use Rattle.pce_plant.specs.plant_model.declared.outcome.Outcome.{Outcome};
-ghost use Rattle.pce_plant.specs.plant_model.Events.{Answered};
-ghost use Rattle.pce_plant.specs.declared.acts.Acted.TheVariants.{Did, Looked, Found, Committed};
-ghost use Rattle.pce_plant.specs.declared.answering.CommitRefused.{CommitRefused};
-ghost use Rattle.pce_plant.specs.pce_parent.declared.work.Work.{Work};
+ghost use Rattle.plant_network.specs.plant_model.declared.outcome.Outcome.{Outcome};
+ghost use Rattle.plant_network.specs.plant_model.Events.{Answered};
+ghost use Rattle.plant_network.specs.declared.acts.Acted.TheVariants.{Did, Looked, Found, Committed};
+ghost use Rattle.plant_network.specs.declared.answering.CommitRefused.{CommitRefused};
+ghost use Rattle.plant_network.specs.pce_parent.declared.work.Work.{Work};
 
 use dom_base::{As, NoMemory};
-use pce_plant::model::{Outcome, Refused};
-use pce_plant::{Acted, CommitRefused, Work};
+use plant_network::model::{Outcome, Refused};
+use plant_network::{Acted, CommitRefused, Work};
 
 /// What became of an event.
 pub(crate) fn did_in(acted: Acted) -> Result<Outcome, Refused>

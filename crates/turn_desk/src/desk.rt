@@ -4,7 +4,7 @@ ghost use Rattle.plant_lock.specs.Seats.{IsAt, view_of};
 ghost use Rattle.turn_desk.specs.Histories.{Begins};
 
 use crate::naps::Idle;
-use pce_plant::Plant;
+use plant_network::Plant;
 use plant_lock::{TurnSeat, Turnstile};
 use std::alloc::Global;
 use std::sync::{Arc, Wait};

@@ -1,6 +1,6 @@
 //! How long a caller naps that finds nothing to do. No clause speaks of time.
 use dom_base::As;
-use pce_plant::model::Event;
+use plant_network::model::Event;
 use std::thread::sleep;
 use std::time::{Clock, Duration};
 

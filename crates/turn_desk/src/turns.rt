@@ -5,12 +5,12 @@ ghost use Rattle.plant_lock.specs.Seats.{IsAt, MayDo, shares_of, view_of};
 ghost use Rattle.plant_lock.specs.declared.turnstile.SplitError.TheVariants.{NoSeat};
 ghost use Rattle.turn_desk.specs.Desks.{IsTurn, opened_by, shares_at, split_from, stand_at, stand_of};
 ghost use Rattle.turn_desk.specs.Histories.{Begins, NoneIsPending};
-ghost use Rattle.pce_plant.specs.Held.{whole};
+ghost use Rattle.plant_network.specs.Topologies.{whole};
 
 use crate::desk::TurnDesk;
 use crate::naps::Idle;
 use dom_base::NoMemory;
-use pce_plant::{Act, Acted, Plant};
+use plant_network::{Act, Acted, Plant};
 use plant_lock::{Spent, SplitError, TurnSeat, Turnstile};
 use std::alloc::Global;
 use std::sync::{Arc, Wait};

@@ -1,4 +1,4 @@
-use Rattle.pce_plant.specs.Held.{whole}
+use Rattle.plant_network.specs.Topologies.{whole}
 use Rattle.plant_play.proofs.EventLemmas.{one_event}
 use Rattle.plant_play.proofs.events.play_event.Goals as goal
 

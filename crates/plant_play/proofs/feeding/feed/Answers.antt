@@ -1,5 +1,5 @@
 use Rattle.std.proofs.Common.{sym}
-use Rattle.pce_plant.specs.Held.{whole}
+use Rattle.plant_network.specs.Topologies.{whole}
 use Rattle.plant_play.proofs.FeedLemmas.{feed_refused, feed_taken}
 use Rattle.plant_play.proofs.feeding.feed.Goals as goal
 

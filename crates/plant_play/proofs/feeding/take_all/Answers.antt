@@ -1,4 +1,4 @@
-use Rattle.pce_plant.specs.Held.{whole}
+use Rattle.plant_network.specs.Topologies.{whole}
 use Rattle.plant_play.proofs.GoingLemmas.{one_take, take_falls}
 use Rattle.plant_play.proofs.feeding.take_all.Goals as goal
 

@@ -1,6 +1,6 @@
 use Rattle.std.proofs.Common.{◌≡◌, ℕ, [], false, suc, cond, length}
-use Rattle.pce_plant.specs.Held.{whole}
-use Rattle.pce_plant.specs.plant_network.Due.{inbox_of}
+use Rattle.plant_network.specs.Topologies.{whole}
+use Rattle.plant_network.specs.Due.{inbox_of}
 use Rattle.plant_play.specs.Due.{IsDueTake}
 use Rattle.plant_play.specs.Making.{DoesSome}
 use Rattle.plant_play.proofs.feeding.take_all.Given as goal

@@ -1,4 +1,4 @@
-use Rattle.pce_plant.specs.Held.{whole}
+use Rattle.plant_network.specs.Topologies.{whole}
 use Rattle.plant_play.proofs.GoingLemmas.{can_solve}
 use Rattle.plant_play.proofs.going.job_due.Goals as goal
 

@@ -1,4 +1,4 @@
-use Rattle.pce_plant.specs.Held.{whole}
+use Rattle.plant_network.specs.Topologies.{whole}
 use Rattle.plant_play.specs.Making.{event_of}
 use Rattle.plant_play.proofs.GoingLemmas.{given_nothing, made_due}
 use Rattle.plant_play.proofs.going.make_all.Goals as goal

@@ -1,4 +1,4 @@
-use Rattle.pce_plant.specs.Held.{whole}
+use Rattle.plant_network.specs.Topologies.{whole}
 use Rattle.plant_play.specs.Due.{IsDue}
 use Rattle.plant_play.specs.Making.{DoesSome}
 use Rattle.plant_play.proofs.going.make_all.Given as goal

@@ -1,8 +1,8 @@
 use Rattle.std.proofs.Common.{refl}
 use Rattle.dom_base.specs.declared.names.As.{As}
-use Rattle.pce_plant.specs.Held.{whole}
-use Rattle.pce_plant.specs.plant_network.network_links.Carried.{flow_of}
-use Rattle.pce_plant.proofs.plant_network.CarryLemmas.{least_here, settled_here}
+use Rattle.plant_network.specs.Topologies.{whole}
+use Rattle.plant_network.specs.network_links.Carried.{flow_of}
+use Rattle.plant_network.proofs.CarryLemmas.{least_here, settled_here}
 use Rattle.plant_play.proofs.GoingLemmas.{can_carry, due_of}
 use Rattle.plant_play.proofs.going.next_due.Goals as goal
 

@@ -1,6 +1,6 @@
 use Rattle.std.specs.Arc.{arc_value}
-use Rattle.pce_plant.specs.plant_model.declared.event.Event.TheVariants as event
-use Rattle.pce_plant.specs.Held.{whole}
+use Rattle.plant_network.specs.plant_model.declared.event.Event.TheVariants as event
+use Rattle.plant_network.specs.Topologies.{whole}
 use Rattle.plant_play.specs.Making.{DoesLine, stage}
 use Rattle.plant_play.specs.Playing.{PlaysChange, PlaysOne}
 use Rattle.plant_play.proofs.LineLemmas.{changed}

@@ -1,5 +1,5 @@
 use Rattle.std.proofs.Common.{ℕ, Option, IfOk, sym, subst}
-use Rattle.pce_plant.specs.Held.{whole}
+use Rattle.plant_network.specs.Topologies.{whole}
 use Rattle.plant_play.specs.Making.{DoesLine, stage}
 use Rattle.plant_play.specs.Playing.{PlaysFeedAt}
 use Rattle.plant_play.proofs.lines.feed_named.Goals as goal

@@ -1,5 +1,5 @@
-use Rattle.pce_plant.specs.plant_model.declared.event.Event.TheVariants as event
-use Rattle.pce_plant.specs.Held.{whole}
+use Rattle.plant_network.specs.plant_model.declared.event.Event.TheVariants as event
+use Rattle.plant_network.specs.Topologies.{whole}
 use Rattle.plant_play.specs.Making.{DoesLine, stage}
 use Rattle.plant_play.specs.Playing.{PlaysLoad, PlaysOne}
 use Rattle.plant_play.proofs.LineLemmas.{loaded}

@@ -1,4 +1,4 @@
-use Rattle.pce_plant.specs.Held.{whole}
+use Rattle.plant_network.specs.Topologies.{whole}
 use Rattle.plant_play.proofs.LineLemmas.{of_kind}
 use Rattle.plant_play.proofs.lines.play_line.Goals as goal
 

@@ -3,7 +3,7 @@ use Rattle.border_costs.specs.declared.job.Job.{Job}
 use Rattle.plant_queues.specs.declared.sent.Sent.{Sent}
 use Rattle.plant_text.specs.declared.settings.NetworkParts.{NetworkParts}
 use Rattle.plant_text.specs.declared.settings.PeerRow.{PeerRow}
-use Rattle.pce_plant.specs.Held.{whole}
+use Rattle.plant_network.specs.Topologies.{whole}
 use Rattle.transcript.specs.Lines.{sents_text}
 use Rattle.plant_play.specs.Logs.{behind}
 use Rattle.plant_play.specs.Making.{Brings}

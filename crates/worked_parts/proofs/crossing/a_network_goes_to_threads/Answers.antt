@@ -1,5 +1,5 @@
 use denote.Param.Send.{sendable}
-use Rattle.pce_plant.proofs.Crossing.{act_send, plant_send, turn_send}
+use Rattle.plant_network.proofs.Crossing.{act_send, plant_send, turn_send}
 use Rattle.worked_parts.proofs.crossing.a_network_goes_to_threads.Goals as goal
 
 pub goes_to_a_thread-requires-send-T : goal.goes_to_a_thread-requires-send-T

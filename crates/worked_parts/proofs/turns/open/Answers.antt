@@ -1,4 +1,4 @@
-use Rattle.pce_plant.specs.Held.{whole}
+use Rattle.plant_network.specs.Topologies.{whole}
 use Rattle.turn_desk.proofs.Beginning.{begun_has_none}
 use Rattle.worked_parts.proofs.turns.open.Goals as goal
 

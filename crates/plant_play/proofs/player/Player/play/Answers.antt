@@ -1,5 +1,5 @@
 use Rattle.std.proofs.Common.{subst}
-use Rattle.pce_plant.specs.Held.{whole}
+use Rattle.plant_network.specs.Topologies.{whole}
 use Rattle.plant_play.specs.Making.{stage}
 use Rattle.plant_play.specs.Playing.{Played, Scene, cue, stage_of}
 use Rattle.plant_play.proofs.LineLemmas.{played}

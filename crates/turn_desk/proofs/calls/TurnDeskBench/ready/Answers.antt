@@ -1,7 +1,7 @@
 use Rattle.std.proofs.Common.{Ok, inl, refl, subst, sym}
-use Rattle.pce_plant.specs.declared.acts.Act.TheVariants.{Ready}
-use Rattle.pce_plant.specs.declared.acts.Acted.{Acted}
-use Rattle.pce_plant.specs.declared.acts.Acted.TheVariants.{Found}
+use Rattle.plant_network.specs.declared.acts.Act.TheVariants.{Ready}
+use Rattle.plant_network.specs.declared.acts.Acted.{Acted}
+use Rattle.plant_network.specs.declared.acts.Acted.TheVariants.{Found}
 use Rattle.solve_workers.specs.Benches as bench
 use Rattle.turn_desk.specs.Desks.{IsTurn, Stand, benched_of, stand_of}
 use Rattle.turn_desk.proofs.Turning.{bench_done, found_turn}

@@ -1,9 +1,9 @@
 use Rattle.std.proofs.Common.{Ok, inl, refl, subst}
 use Rattle.std.specs.Arc.{arc_value}
 use Rattle.operator_lines.specs.Charts.{current_of}
-use Rattle.pce_plant.specs.declared.acts.Act.TheVariants.{Map}
-use Rattle.pce_plant.specs.declared.acts.Acted.{Acted}
-use Rattle.pce_plant.specs.declared.acts.Acted.TheVariants.{Mapped}
+use Rattle.plant_network.specs.declared.acts.Act.TheVariants.{Map}
+use Rattle.plant_network.specs.declared.acts.Acted.{Acted}
+use Rattle.plant_network.specs.declared.acts.Acted.TheVariants.{Mapped}
 use Rattle.turn_desk.specs.Desks.{IsTurn, stand_of}
 use Rattle.turn_desk.proofs.Charting.{chart_told, mapped_turn}
 use Rattle.turn_desk.proofs.chart.TurnDeskChart.map.Goals as goal

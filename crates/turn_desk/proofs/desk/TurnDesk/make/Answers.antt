@@ -1,5 +1,5 @@
 use Rattle.std.proofs.Common.{Ok}
-use Rattle.pce_plant.specs.declared.acts.Act.TheVariants.{Do}
+use Rattle.plant_network.specs.declared.acts.Act.TheVariants.{Do}
 use Rattle.turn_desk.specs.Desks.{IsTurn, stand_of}
 use Rattle.turn_desk.proofs.Turning.{did_turn}
 use Rattle.turn_desk.proofs.desk.TurnDesk.make.Goals as goal

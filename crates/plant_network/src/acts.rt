@@ -1,0 +1,42 @@
+//! What may be done to a network in a turn, and what it answers.
+use crate::answering::CommitRefused;
+use crate::topologies::Plant;
+use dom_base::{As, NoMemory};
+use network_events::model::{Event, Outcome, Refused};
+use network_members::{Done, Work};
+use std::snapshot::Snapshot;
+use std::sync::Arc;
+use te_links::Topology;
+
+/// What may be done to a network in a turn.
+#[derive(Drop)]
+pub enum Act {
+    /// An event is done. A topology is loaded by the element of its own domain.
+    Do(Event),
+    /// The job of a request is looked at.
+    Look(As, u64),
+    /// The k-th job that can be solved is asked for.
+    Ready(usize),
+    /// A job that was solved is answered, which is the event of that solve.
+    Finish(Done),
+    /// The current topology of an element is asked for.
+    Map(As),
+}
+
+/// What an act answers, each what the network's call of the same meaning does.
+#[derive(Drop)]
+pub enum Acted {
+    Did(Result<Outcome, Refused>),
+    Looked(Result<Option<Work>, NoMemory>),
+    Found(Option<(As, u64)>),
+    Committed(Result<Outcome, CommitRefused>),
+    Mapped(Result<Option<(u64, Arc<Topology>)>, NoMemory>),
+}
+
+/// The answer to an act, and the network that the act left. Contracts alone speak of that: a solve leaves a choice,
+/// and no answer shows all of it.
+#[derive(Drop)]
+pub struct Turn {
+    pub acted: Acted,
+    pub left: Snapshot<Plant>,
+}

@@ -1,0 +1,58 @@
+//! A network takes turns, so that a lock can hold it.
+ghost use Rattle.plant_network.specs.Topologies.{whole};
+ghost use Rattle.plant_network.specs.Turns.{Admits, IsAnswer, LastsTo};
+
+use crate::acts::{Act, Acted, Turn};
+use crate::network::Network;
+use crate::topologies::Plant;
+use network_members::Topologies;
+use plant_lock::Turned;
+use std::snapshot::Snapshot;
+
+fn perform(plant: &mut Plant, act: Act) -> Acted
+    requires admits { Admits (whole plant.old) act }
+    ensures answer { IsAnswer (whole plant.old) act result (whole plant.new) }
+    ensures lasts { LastsTo (whole plant.old) (whole plant.new) }
+{
+    match act {
+        Act::Do(event) => Acted::Did(plant.step(event)),
+        Act::Look(at, number) => Acted::Looked(plant.job(at, number)),
+        Act::Ready(k) => Acted::Found(plant.ready(k)),
+        Act::Finish(done) => Acted::Committed(plant.commit(done)),
+        Act::Map(at) => Acted::Mapped(plant.topology(at)),
+    }
+}
+
+impl Turned for Network<Topologies> {
+    ghost use Rattle.plant_network.specs.Topologies.{whole};
+    ghost use Rattle.plant_network.specs.Whole.{Whole};
+    ghost use Rattle.plant_network.specs.Turns.{Admits, Allowed, Warrants, left_by};
+    ghost use Rattle.plant_network.specs.TurnLaws.{looks_last};
+
+    type Act = Act;
+
+    type Answer = Turn;
+
+    ghost State = { Whole };
+
+    ghost plain = { whole };
+
+    ghost admits = { Admits };
+
+    ghost allows = { Allowed };
+
+    ghost after = { left_by };
+
+    ghost warrants = { λ act turn next. Warrants act turn.acted next };
+
+    fn turn(&mut self, act: Act) -> Turn {
+        self.requests_have_given_numbers();
+        let acted = perform(self, act);
+        Turn {
+            acted,
+            left: Snapshot::of(self),
+        }
+    }
+
+    ghost lasts = { looks_last };
+}
