@@ -1,5 +1,5 @@
 -- What is due to be carried can be carried; and what is on its way, of a network and of the traffic that it holds.
-use Rattle.std.proofs.Common.{◌≡◌, Bool, true, false, not, cond, List, [], ◌∷◌, All, Contains, Option, Some, None, inl, inr, sym, subst, ap, refl}
+use Rattle.std.proofs.Common.{◌≡◌, Bool, true, false, not, cond, List, [], ◌∷◌, All, Contains, Some, None, inl, inr, sym, subst, ap, refl}
 use Rattle.std.proofs.lemmas.Bool.{eq-eqb, eqb-true}
 use Rattle.border_costs.proofs.Members.{contains_cases, contains_none}
 use Rattle.dom_base.specs.declared.names.As.{As}
