@@ -11,7 +11,7 @@ use Rattle.plant_queues.specs.declared.sent.Sent.{Sent}
 use Rattle.plant_text.specs.Sents.{sent_line}
 use Rattle.plant_text.specs.declared.settings.NetworkParts.{NetworkParts}
 use Rattle.plant_text.specs.Settings.{is_linked, peer_row}
-use Rattle.plant_text.specs.Settings.{line as line_of}
+use Rattle.plant_text.specs.Settings.{adjacency}
 use Rattle.plant_network.specs.plant_model.declared.event.BlindEvent.{BlindEvent}
 use Rattle.plant_network.specs.plant_model.declared.event.BlindEvent.TheVariants as blind
 use Rattle.plant_network.specs.plant_model.declared.outcome.Outcome.TheVariants as outcome
@@ -165,7 +165,7 @@ module _ (line : ℕ) (n : NetworkParts) where
   break_silent : (a b : As) (s : BlindState) → IsSilent (events.break Nothing Nothing wire n show_nothing a b s)
   break_silent a b s = go (is_linked n a b)
     where
-      go : (linked : Bool) → IsSilent (cond linked (events.answered Nothing Nothing wire n show_nothing outcome.Done (deeds.break_line Nothing Nothing wire n show_nothing (line_of a b) (record { state = s; deeds = [] }))) (events.refused Nothing Nothing wire n show_nothing refused.NoSuchPeer s))
+      go : (linked : Bool) → IsSilent (cond linked (events.answered Nothing Nothing wire n show_nothing outcome.Done (deeds.break_adjacency Nothing Nothing wire n show_nothing (adjacency a b) (record { state = s; deeds = [] }))) (events.refused Nothing Nothing wire n show_nothing refused.NoSuchPeer s))
       go true = λ no. absurd (let both : true ≡ false = no in cc)
       go false = λ no. refl
 

@@ -8,7 +8,7 @@ use Rattle.plant_network.specs.plant_model.declared.event.BlindEvent.{BlindEvent
 use Rattle.plant_network.specs.plant_model.declared.event.BlindEvent.TheVariants as blind
 use Rattle.plant_network.specs.plant_model.Blind.{BlindState}
 use Rattle.plant_network.specs.plant_model.Wire.{Bytes}
-use Rattle.plant_text.specs.Settings.{lines}
+use Rattle.plant_text.specs.Settings.{adjacencies}
 use Rattle.plant_network.specs.network_links.Carried.{flow_of}
 use Rattle.plant_network.specs.network_links.Waiting.{WaitsNext}
 use Rattle.plant_network.specs.Due.{IsLeast, IsSettled}
@@ -97,7 +97,7 @@ played line e old new t0 t1 text b0 b1 empty does is put = record {
 
 -- ---- what is on its way
 
-pub waiting_is : (h : Held) (found : Option (As × As)) → WaitsNext (flow_of h.carried) found → (flow_of h.carried).lines ≡ lines (whole h).network →
+pub waiting_is : (h : Held) (found : Option (As × As)) → WaitsNext (flow_of h.carried) found → (flow_of h.carried).adjacencies ≡ adjacencies (whole h).network →
     MatchOption found (IsSettled (whole h).network (whole h).state) (IsLeast (whole h).network (whole h).state)
 waiting_is h None waits along = settled_here (whole h).network (flow_of h.carried) (whole h).state refl waits along
 waiting_is h (Some p) waits along = least_here (whole h).network (flow_of h.carried) (whole h).state p refl waits along

@@ -16,7 +16,7 @@ use Rattle.pcep_session.specs.Table.{new_state, turn_of}
 use Rattle.plant_text.specs.declared.settings.NetworkParts.{NetworkParts}
 use Rattle.plant_text.specs.declared.settings.PeerRow.{PeerRow}
 use Rattle.plant_text.specs.Names.{same_as, parent_as}
-use Rattle.plant_text.specs.Settings.{Line, class_of, is_linked, line, lines, peer_row}
+use Rattle.plant_text.specs.Settings.{Adjacency, class_of, is_linked, adjacency, adjacencies, peer_row}
 use Rattle.plant_network.specs.plant_model.declared.outcome.Outcome.TheVariants.{Done}
 use Rattle.plant_network.specs.plant_model.declared.outcome.Refused.TheVariants.{NoSuchPeer}
 use Rattle.plant_network.specs.plant_model.Settings.{place, family}
@@ -26,7 +26,7 @@ use Rattle.plant_network.specs.plant_model.Names.{is_empty, set_pair}
 use Rattle.plant_network.specs.plant_model.Taking.{take}
 use Rattle.plant_network.specs.plant_model.Parent as parent
 use Rattle.plant_network.specs.plant_model.State.{State, Connection, Deed, Hands, Takes, Ups, Downs, Pops}
-use Rattle.plant_network.specs.plant_model.Deeds.{Going, any_fall, begin_end, begin_line, break_line, clear, element_of, fall, give, inner_act, inner_acts, inner_input, input_of, is_due, is_out_empty, is_tick, our_offer, outside_act, outside_acts, outside_input, outside_step, puts, rise, say, tick_lines, tick_outside, with_access, with_element, with_inbox, with_inner, with_parent, with_session}
+use Rattle.plant_network.specs.plant_model.Deeds.{Going, any_fall, begin_end, begin_adjacency, break_adjacency, clear, element_of, fall, give, inner_act, inner_acts, inner_input, input_of, is_due, is_out_empty, is_tick, our_offer, outside_act, outside_acts, outside_input, outside_step, puts, rise, say, tick_adjacencies, tick_outside, with_access, with_element, with_inbox, with_inner, with_parent, with_session}
 use Rattle.plant_network.specs.plant_model.Outside.{heeded}
 use Rattle.plant_network.specs.plant_model.Events as events
 use Rattle.plant_network.specs.plant_model.Events.{Happened}
@@ -116,21 +116,21 @@ module _ (P : Type 0) (S : Type 0) (c : Codec) (n : NetworkParts) (show : S → 
       let r = turn_of (new_state (our_offer sid) (record { 0 = g.state.clock })) input.Begin in
       inner_acts_mute at b false r.actions (record { state = with_inner P S c n show at b r.next g.state; deeds = g.deeds }) mute
 
-  begin_line_mute : (sid : ℕ) (x : Line) (g : Going P S) → Mute g → Mute (begin_line P S c n show sid x g)
-  begin_line_mute sid x g mute = begin_end_mute sid x.upper x.lower (begin_end P S c n show sid x.lower x.upper g) (begin_end_mute sid x.lower x.upper g mute)
+  begin_adjacency_mute : (sid : ℕ) (x : Adjacency) (g : Going P S) → Mute g → Mute (begin_adjacency P S c n show sid x g)
+  begin_adjacency_mute sid x g mute = begin_end_mute sid x.upper x.lower (begin_end P S c n show sid x.lower x.upper g) (begin_end_mute sid x.lower x.upper g mute)
 
-  break_line_mute : (x : Line) (g : Going P S) → Mute g → Mute (break_line P S c n show x g)
-  break_line_mute x g mute =
+  break_adjacency_mute : (x : Adjacency) (g : Going P S) → Mute g → Mute (break_adjacency P S c n show x g)
+  break_adjacency_mute x g mute =
       let sid = ((g.state.sessions x.lower x.upper).offer.sid + 1) % 256 in
       let one = fall P S c n show x.lower (Inner x.upper) g in
       let both = fall P S c n show x.upper (Inner x.lower) one in
-      begin_line_mute sid x (clear P S c n show x both) (tt, fall_mute x.upper (Inner x.lower) one (fall_mute x.lower (Inner x.upper) g mute))
+      begin_adjacency_mute sid x (clear P S c n show x both) (tt, fall_mute x.upper (Inner x.lower) one (fall_mute x.lower (Inner x.upper) g mute))
 
-  inner_input_mute : (x : Line) (at b : As) (i : Input) (g : Going P S) → Mute g → Mute (inner_input P S c n show x at b i g)
+  inner_input_mute : (x : Adjacency) (at b : As) (i : Input) (g : Going P S) → Mute g → Mute (inner_input P S c n show x at b i g)
   inner_input_mute x at b i g mute =
       let r = turn_of (g.state.sessions at b) i in
       let h : Going P S = record { state = with_inner P S c n show at b r.next g.state; deeds = g.deeds } in
-      pick (any_fall r.actions) (break_line P S c n show x g) (inner_acts P S c n show at b (is_tick i) r.actions h) (break_line_mute x g mute)
+      pick (any_fall r.actions) (break_adjacency P S c n show x g) (inner_acts P S c n show at b (is_tick i) r.actions h) (break_adjacency_mute x g mute)
       (inner_acts_mute at b (is_tick i) r.actions h mute)
 
   tick_outside_mute : (i : ℕ) (rows : List PeerRow) (now : Tick) (g : Going P S) → Mute g → Mute (tick_outside P S c n show i rows now g)
@@ -138,11 +138,11 @@ module _ (P : Type 0) (S : Type 0) (c : Codec) (n : NetworkParts) (show : S → 
   tick_outside_mute i (r ∷ rows) now g mute =
       tick_outside_mute (i + 1) rows now (outside_input P S c n show i (input.Tick now) g) (outside_input_mute i (input.Tick now) g mute)
 
-  tick_lines_mute : (xs : List Line) (now : Tick) (g : Going P S) → Mute g → Mute (tick_lines P S c n show xs now g)
-  tick_lines_mute [] now g mute = mute
-  tick_lines_mute (x ∷ xs) now g mute =
+  tick_adjacencies_mute : (xs : List Adjacency) (now : Tick) (g : Going P S) → Mute g → Mute (tick_adjacencies P S c n show xs now g)
+  tick_adjacencies_mute [] now g mute = mute
+  tick_adjacencies_mute (x ∷ xs) now g mute =
       let one = inner_input P S c n show x x.lower x.upper (input.Tick now) g in
-      tick_lines_mute xs now (inner_input P S c n show x x.upper x.lower (input.Tick now) one)
+      tick_adjacencies_mute xs now (inner_input P S c n show x x.upper x.lower (input.Tick now) one)
       (inner_input_mute x x.upper x.lower (input.Tick now) one (inner_input_mute x x.lower x.upper (input.Tick now) g mute))
 
   -- ---- events
@@ -192,16 +192,16 @@ module _ (P : Type 0) (S : Type 0) (c : Codec) (n : NetworkParts) (show : S → 
     where
       go : (queue : List Bytes) → MuteHappened (events.carry_first P S c n show a b s queue)
       go [] = tt
-      go (x ∷ rest) = inner_input_mute (line a b) b a (input_of c (Some x)) (record { state = record s { queues = set_pair a b rest s.queues }; deeds = Pops a b ∷ [] }) (tt, tt)
+      go (x ∷ rest) = inner_input_mute (adjacency a b) b a (input_of c (Some x)) (record { state = record s { queues = set_pair a b rest s.queues }; deeds = Pops a b ∷ [] }) (tt, tt)
 
   pub break_mute : (a b : As) (s : State P S) → MuteHappened (events.break P S c n show a b s)
   break_mute a b s =
       let g : Going P S = record { state = s; deeds = [] } in
-      pick_happened (is_linked n a b) (events.answered P S c n show Done (break_line P S c n show (line a b) g)) (events.refused P S c n show NoSuchPeer s) (break_line_mute (line a b) g tt) tt
+      pick_happened (is_linked n a b) (events.answered P S c n show Done (break_adjacency P S c n show (adjacency a b) g)) (events.refused P S c n show NoSuchPeer s) (break_adjacency_mute (adjacency a b) g tt) tt
 
   pub tick_mute : (t : ℕ) (s : State P S) → MuteHappened (events.tick P S c n show t s)
   tick_mute t s =
       let now = events.later s.clock t in
       let g : Going P S = record { state = record s { clock = now }; deeds = [] } in
       let outside = tick_outside P S c n show 0 n.peers (record { 0 = now }) g in
-      (tt, tick_lines_mute (lines n) (record { 0 = now }) outside (tick_outside_mute 0 n.peers (record { 0 = now }) g tt))
+      (tt, tick_adjacencies_mute (adjacencies n) (record { 0 = now }) outside (tick_outside_mute 0 n.peers (record { 0 = now }) g tt))

@@ -13,7 +13,7 @@ use Rattle.plant_network.specs.plant_model.RealWire.{wire}
 use Rattle.plant_network.specs.plant_model.Wire.{Bytes}
 use Rattle.blind_play.specs.Due.{AreAllDue, AreDue, IsDueCarry, IsDueTake}
 use Rattle.blind_play.specs.Laws.{SaysSo, Tells}
-use Rattle.blind_play.specs.Playing.{Cue, IsNewStage, Plays, PlaysFeed, PlaysFeedAt, PlaysNone, PlaysOne, Stage}
+use Rattle.blind_play.specs.Playing.{Cue, IsNewNetwork, Plays, PlaysFeed, PlaysFeedAt, PlaysNone, PlaysOne, PlayedNetwork}
 use Rattle.blind_play.specs.Scripts.{AllPlayed}
 use Rattle.blind_play.specs.Turns.{IsTurn, Turn, all_heard, happened_in, heard_text, trace_of, turn_text, turns_text}
 
@@ -135,11 +135,11 @@ module _ (n : NetworkParts) where
   abbrev SoFar : List BlindEvent → List Heard → List Turn → List ℕ → BlindState → Type 0
   SoFar older hs turns told end = BlindSays wire n (trace_of turns older) (hs ++ all_heard n turns) end × Tells n (all_heard n turns) told × AreBlindGiven (trace_of turns older)
 
-  lines_say : (cues : List Cue) (old end : Stage) (turns : List Turn) (told : List ℕ) (older : List BlindEvent) (hs : List Heard) → old.network ≡ n → All (λ (c : Cue). IsBlindLine c.event) cues →
+  lines_say : (cues : List Cue) (old end : PlayedNetwork) (turns : List Turn) (told : List ℕ) (older : List BlindEvent) (hs : List Heard) → old.network ≡ n → All (λ (c : Cue). IsBlindLine c.event) cues →
       BlindSays wire n older hs old.state → AreBlindGiven older → AllPlayed old cues turns told end → SoFar older hs turns told end.state
   lines_say [] old end turns told older hs same given says were p =
       let none : SoFar older hs [] [] old.state = (subst (λ (ks : List Heard). BlindSays wire n older ks old.state) (sym (append-nil hs)) says, refl, were) in
-      subst (λ (s : Stage). SoFar older hs turns told s.state) (sym p.2)
+      subst (λ (s : PlayedNetwork). SoFar older hs turns told s.state) (sym p.2)
       (subst (λ (text : List ℕ). SoFar older hs turns text old.state) (sym p.1) (subst (λ (ts : List Turn). SoFar older hs ts [] old.state) (sym p.0) none))
   lines_say (c ∷ cues) old end turns told older hs same given says were p =
       let one = p.plays in
@@ -159,7 +159,7 @@ module _ (n : NetworkParts) where
       ) in
       subst (λ (ts : List Turn). SoFar older hs ts told end.state) (sym p.turns_are) (subst (λ (t : List ℕ). SoFar older hs (p.first ++ p.later) t end.state) (sym p.told_is) whole)
 
-pub says_so : (n : NetworkParts) (new end : Stage) (cues : List Cue) (turns : List Turn) (told : List ℕ) → All (λ (c : Cue). IsBlindLine c.event) cues → IsNewStage n new → AllPlayed new cues turns told end →
+pub says_so : (n : NetworkParts) (new end : PlayedNetwork) (cues : List Cue) (turns : List Turn) (told : List ℕ) → All (λ (c : Cue). IsBlindLine c.event) cues → IsNewNetwork n new → AllPlayed new cues turns told end →
     SaysSo n turns told end
 says_so n new end cues turns told given begun played =
     let opening : BlindSays wire n [] (heard wire n (blind_opened wire n).deeds) new.state = (refl, begun.opened) in

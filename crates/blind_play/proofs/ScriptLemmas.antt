@@ -15,23 +15,23 @@ use Rattle.texts_in_range.proofs.GivenRows.{blind_line_given}
 use Rattle.transcript.specs.declared.stop.Stop.{Stop}
 use Rattle.transcript.specs.declared.stop.Stop.TheVariants as stop
 use Rattle.transcript.proofs.ScriptParts.{rose_before, some_more, some_of_all}
-use Rattle.blind_play.specs.Playing.{Cue, IsNewStage, PlaysLine, Stage}
+use Rattle.blind_play.specs.Playing.{Cue, IsNewNetwork, PlaysLine, PlayedNetwork}
 use Rattle.blind_play.specs.Scripts.{AllPlayed}
 use Rattle.blind_play.specs.Turns.{Turn}
 use Rattle.blind_play.specs.WholeScripts.{AreCues, IsCue, IsNoEvent, LinePlays, LineStops, Reached, ScriptStops, StopsAt}
 
 -- ---- lines that are played one after the other, and one more at the end
 
-none_yet : (old : Stage) → AllPlayed old [] [] [] old
+none_yet : (old : PlayedNetwork) → AllPlayed old [] [] [] old
 none_yet old = (refl, refl, refl)
 
-one_more : (old now new : Stage) (cues : List Cue) (cue : Cue) (turns more : List Turn) (told more_told : List ℕ) →
+one_more : (old now new : PlayedNetwork) (cues : List Cue) (cue : Cue) (turns more : List Turn) (told more_told : List ℕ) →
     AllPlayed old cues turns told now → PlaysLine now cue more more_told new → AllPlayed old (cues ++ cue ∷ []) (turns ++ more) (told ++ more_told) new
 one_more old now new [] cue turns more told more_told all p = record {
   first = more;
   said = more_told;
   mid = new;
-  plays = subst (λ (s : Stage). PlaysLine s cue more more_told new) all.2 p;
+  plays = subst (λ (s : PlayedNetwork). PlaysLine s cue more more_told new) all.2 p;
   later = [];
   more = [];
   others = none_yet new;
@@ -66,11 +66,11 @@ cues_given n (l ∷ ls) (c ∷ cs) all = All-cons (λ (d : Cue). IsBlindLine d.e
 -- ---- one line further
 
 -- Lines are played up to here; what is told of them is written.
-abbrev pub IsAt : NetworkParts → List ℕ → Option (List ℕ) → Option (List ℕ) → List NumberedLine → Stage → Type 0
+abbrev pub IsAt : NetworkParts → List ℕ → Option (List ℕ) → Option (List ℕ) → List NumberedLine → PlayedNetwork → Type 0
 IsAt n script before now others end = Reached n script (λ told. Appends before now told) others end
 
 module _ (n : NetworkParts) (script : List ℕ) (w0 : Option (List ℕ)) where
-  pub at_start : (start : Stage) → IsNewStage n start → IsAt n script w0 w0 (told_lines script) start
+  pub at_start : (start : PlayedNetwork) → IsNewNetwork n start → IsAt n script w0 w0 (told_lines script) start
   at_start start new = record {
     done = [];
     parts = refl;
@@ -81,7 +81,7 @@ module _ (n : NetworkParts) (script : List ℕ) (w0 : Option (List ℕ)) where
   }
 
   -- one line more, told in any way
-  further : (w1 : Option (List ℕ)) (l : NumberedLine) (others : List NumberedLine) (now new : Stage) (Line Wrote : List ℕ → Type 0) →
+  further : (w1 : Option (List ℕ)) (l : NumberedLine) (others : List NumberedLine) (now new : PlayedNetwork) (Line Wrote : List ℕ → Type 0) →
       ((xs ys : List ℕ) → Appends w0 w1 xs → Line ys → Wrote (xs ++ ys)) →
       IsAt n script w0 w1 (l ∷ others) now → LinePlays n l now new Line → Reached n script Wrote others new
   further w1 l others now new Line Wrote join r p =
@@ -100,30 +100,30 @@ module _ (n : NetworkParts) (script : List ℕ) (w0 : Option (List ℕ)) where
         wrote = join r.told p.told r.wrote p.wrote;
       }
 
-  pub line_more : (w1 w2 : Option (List ℕ)) (l : NumberedLine) (others : List NumberedLine) (now new : Stage) →
+  pub line_more : (w1 w2 : Option (List ℕ)) (l : NumberedLine) (others : List NumberedLine) (now new : PlayedNetwork) →
       IsAt n script w0 w1 (l ∷ others) now → LinePlays n l now new (λ told. Appends w1 w2 told) → IsAt n script w0 w2 others new
   line_more w1 w2 l others now new r p =
       further w1 l others now new (λ told. Appends w1 w2 told) (λ told. Appends w0 w2 told) (λ xs ys one two. Appends-trans w0 w1 w2 xs ys one two) r p
 
-  cut_more : (w1 w2 : Option (List ℕ)) (l : NumberedLine) (others : List NumberedLine) (now new : Stage) →
+  cut_more : (w1 w2 : Option (List ℕ)) (l : NumberedLine) (others : List NumberedLine) (now new : PlayedNetwork) →
       IsAt n script w0 w1 (l ∷ others) now → LinePlays n l now new (λ told. AppendsSome w1 w2 told) → Reached n script (λ told. AppendsSome w0 w2 told) others new
   cut_more w1 w2 l others now new r p =
       further w1 l others now new (λ told. AppendsSome w1 w2 told) (λ told. AppendsSome w0 w2 told) (λ xs ys one two. some_more w0 w1 w2 xs ys one two) r p
 
-  rewritten : (Old New : List ℕ → Type 0) (others : List NumberedLine) (end : Stage) → ((xs : List ℕ) → Old xs → New xs) → Reached n script Old others end → Reached n script New others end
+  rewritten : (Old New : List ℕ → Type 0) (others : List NumberedLine) (end : PlayedNetwork) → ((xs : List ℕ) → Old xs → New xs) → Reached n script Old others end → Reached n script New others end
   rewritten Old New others end turn r =
       record { done = r.done; parts = r.parts; turns = r.turns; told = r.told; playing = r.playing; wrote = turn r.told r.wrote }
 
-  pub kept : (w1 w2 : Option (List ℕ)) (others : List NumberedLine) (now : Stage) → Keeps w1 w2 → IsAt n script w0 w1 others now → IsAt n script w0 w2 others now
+  pub kept : (w1 w2 : Option (List ℕ)) (others : List NumberedLine) (now : PlayedNetwork) → Keeps w1 w2 → IsAt n script w0 w1 others now → IsAt n script w0 w2 others now
   kept w1 w2 others now same r = rewritten (λ told. Appends w0 w1 told) (λ told. Appends w0 w2 told) others now (λ xs is. Appends-kept w0 w1 w2 xs is same) r
 
-  pub cut_here : (w1 : Option (List ℕ)) (others : List NumberedLine) (now : Stage) → IsAt n script w0 w1 others now → Reached n script (λ told. AppendsSome w0 w1 told) others now
+  pub cut_here : (w1 : Option (List ℕ)) (others : List NumberedLine) (now : PlayedNetwork) → IsAt n script w0 w1 others now → Reached n script (λ told. AppendsSome w0 w1 told) others now
   cut_here w1 others now r = rewritten (λ told. Appends w0 w1 told) (λ told. AppendsSome w0 w1 told) others now (λ xs is. some_of_all w0 w1 xs is) r
 
 -- ---- a line that stops the script
 
 module _ (n : NetworkParts) (script : List ℕ) (w0 w1 w2 : Option (List ℕ)) (o0 o1 o2 : ℕ) where
-  stops_at : (l : NumberedLine) (others : List NumberedLine) (now : Stage) (why : Stop) → IsAt n script w0 w1 (l ∷ others) now → Keeps w1 w2 → IsNoEvent n l why → StopsAt (w0, w2) n script why
+  stops_at : (l : NumberedLine) (others : List NumberedLine) (now : PlayedNetwork) (why : Stop) → IsAt n script w0 w1 (l ∷ others) now → Keeps w1 w2 → IsNoEvent n l why → StopsAt (w0, w2) n script why
   stops_at l others now why r same is = record {
     line = l;
     others = others;
@@ -132,7 +132,7 @@ module _ (n : NetworkParts) (script : List ℕ) (w0 w1 w2 : Option (List ℕ)) (
     stops = is;
   }
 
-  pub stops_here : (l : NumberedLine) (others : List NumberedLine) (now new : Stage) → IsAt n script w0 w1 (l ∷ others) now → o0 ≤ o1 → (why : Stop) →
+  pub stops_here : (l : NumberedLine) (others : List NumberedLine) (now new : PlayedNetwork) → IsAt n script w0 w1 (l ∷ others) now → o0 ≤ o1 → (why : Stop) →
       LineStops (w1, w2) (o1, o2) n l now new why → ScriptStops (w0, w2) (o0, o2) n script why
   stops_here l others now new r lo stop.ReadFault is = stops_at l others now stop.ReadFault r is.0 is.1
   stops_here l others now new r lo stop.WriteFault is = (rose_before o0 o1 o2 lo is.0, (others, (new, cut_more n script w0 w1 w2 l others now new r is.1)))
@@ -142,7 +142,7 @@ module _ (n : NetworkParts) (script : List ℕ) (w0 w1 w2 : Option (List ℕ)) (
   stops_here l others now new r lo stop.NoMemory is = (l ∷ others, (now, cut_here n script w0 w2 (l ∷ others) now (kept n script w0 w1 w2 (l ∷ others) now is r)))
 
 -- a network that could not be made
-abbrev pub new_stage : NetworkParts → Stage
+abbrev pub new_stage : NetworkParts → PlayedNetwork
 new_stage n = record { network = n; state = (blind_opened wire n).state }
 
 pub stops_unbegun : (n : NetworkParts) (script : List ℕ) (w : Option (List ℕ)) (o : ℕ) → ScriptStops (w, w) (o, o) n script stop.NoMemory

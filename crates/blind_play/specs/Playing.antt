@@ -13,15 +13,15 @@ use Rattle.blind_play.specs.Due.{AreAllDue, IsDueCarry, IsDueTake}
 use Rattle.blind_play.specs.Turns.{IsTurn, Turn, turns_text}
 
 -- a network without topologies that is played
-pub record Stage : Type 0 where
+pub record PlayedNetwork : Type 0 where
   pub network : NetworkParts
   pub state : BlindState
 
-abbrev pub stage_of : Held → Stage
-stage_of h = record { network = (whole h).network; state = (whole h).state }
+abbrev pub played_network : Held → PlayedNetwork
+played_network h = record { network = (whole h).network; state = (whole h).state }
 
 -- it has just been made
-pub record IsNewStage (n : NetworkParts) (new : Stage) : Type 0 where
+pub record IsNewNetwork (n : NetworkParts) (new : PlayedNetwork) : Type 0 where
   pub network : new.network ≡ n
   pub opened : new.state ≡ (blind_opened wire n).state
 
@@ -78,13 +78,13 @@ abbrev pub cue : ℕ → LineEvent → Cue
 cue number e = record { number = number; event = e }
 
 -- The line is played: its events, and what is told of them.
-pub record PlaysLine (old : Stage) (c : Cue) (turns : List Turn) (told : List ℕ) (new : Stage) : Type 0 where
+pub record PlaysLine (old : PlayedNetwork) (c : Cue) (turns : List Turn) (told : List ℕ) (new : PlayedNetwork) : Type 0 where
   pub network : new.network ≡ old.network
   pub plays : Plays c.event old.network old.state turns new.state
   pub tells : told ≡ turns_text c.number old.network turns
 
 -- The same, told at the end of a text.
-pub record Played (c : Cue) (old new : Stage) (before after : List ℕ) : Type 0 where
+pub record Played (c : Cue) (old new : PlayedNetwork) (before after : List ℕ) : Type 0 where
   pub turns : List Turn
   pub told : List ℕ
   pub line : PlaysLine old c turns told new

@@ -10,7 +10,7 @@ use Rattle.plant_text.specs.Lines.{blind_line_in}
 use Rattle.transcript.specs.declared.stop.Stop.{Stop}
 use Rattle.transcript.specs.declared.stop.Stop.TheVariants as stop
 use Rattle.transcript.specs.Stops.{input_name, line_most}
-use Rattle.blind_play.specs.Playing.{Cue, IsNewStage, PlaysLine, Stage}
+use Rattle.blind_play.specs.Playing.{Cue, IsNewNetwork, PlaysLine, PlayedNetwork}
 use Rattle.blind_play.specs.Scripts.{AllPlayed}
 use Rattle.blind_play.specs.Turns.{Turn}
 
@@ -30,11 +30,11 @@ AreCues n (l ∷ ls) [] = ⊥
 AreCues n (l ∷ ls) (c ∷ cs) = IsCue n l c × AreCues n ls cs
 
 -- The lines are played one after the other on a network of these settings that has just been made.
-pub record Playing (n : NetworkParts) (lines : List NumberedLine) (turns : List Turn) (told : List ℕ) (end : Stage) : Type 0 where
+pub record Playing (n : NetworkParts) (lines : List NumberedLine) (turns : List Turn) (told : List ℕ) (end : PlayedNetwork) : Type 0 where
   pub cues : List Cue
   pub are_cues : AreCues n lines cues
-  pub start : Stage
-  pub new : IsNewStage n start
+  pub start : PlayedNetwork
+  pub new : IsNewNetwork n start
   pub played : AllPlayed start cues turns told end
 
 -- ---- why a script stops
@@ -47,7 +47,7 @@ IsNoEvent n l stop.NoMemory = Unit {0}
 IsNoEvent n l why = ⊥
 
 -- The lines of a script before the others are played, and what is told of them is written so.
-pub record Reached (n : NetworkParts) (script : List ℕ) (Wrote : List ℕ → Type 0) (others : List NumberedLine) (end : Stage) : Type 0 where
+pub record Reached (n : NetworkParts) (script : List ℕ) (Wrote : List ℕ → Type 0) (others : List NumberedLine) (end : PlayedNetwork) : Type 0 where
   pub done : List NumberedLine
   pub parts : told_lines script ≡ done ++ others
   pub turns : List Turn
@@ -65,17 +65,17 @@ WroteSome written told = AppendsSome written.0 written.1 told
 
 -- all lines are played, and all that is told of them is written
 abbrev pub IsWhole : Option (List ℕ) × Option (List ℕ) → NetworkParts → List ℕ → Type 0
-IsWhole written n script = (end : Stage) × Reached n script (WroteAll written) [] end
+IsWhole written n script = (end : PlayedNetwork) × Reached n script (WroteAll written) [] end
 
 -- some first lines are played, and a first part of what is told of them is written
 abbrev pub IsCut : Option (List ℕ) × Option (List ℕ) → NetworkParts → List ℕ → Type 0
-IsCut written n script = (others : List NumberedLine) × ((end : Stage) × Reached n script (WroteSome written) others end)
+IsCut written n script = (others : List NumberedLine) × ((end : PlayedNetwork) × Reached n script (WroteSome written) others end)
 
 -- The lines before one are played, all that is told of them is written, and that line is why the script stops.
 pub record StopsAt (written : Option (List ℕ) × Option (List ℕ)) (n : NetworkParts) (script : List ℕ) (why : Stop) : Type 0 where
   pub line : NumberedLine
   pub others : List NumberedLine
-  pub end : Stage
+  pub end : PlayedNetwork
   pub reached : Reached n script (WroteAll written) (line ∷ others) end
   pub stops : IsNoEvent n line why
 
@@ -93,7 +93,7 @@ pub record HasEvent (n : NetworkParts) (l : NumberedLine) (e : LineEvent) : Type
   pub says : blind_line_in n l.text ≡ Some (Some e)
 
 -- The line is played, and what is told of it is written so.
-pub record LinePlays (n : NetworkParts) (l : NumberedLine) (old new : Stage) (Wrote : List ℕ → Type 0) : Type 0 where
+pub record LinePlays (n : NetworkParts) (l : NumberedLine) (old new : PlayedNetwork) (Wrote : List ℕ → Type 0) : Type 0 where
   pub cue : Cue
   pub is_cue : IsCue n l cue
   pub turns : List Turn
@@ -102,7 +102,7 @@ pub record LinePlays (n : NetworkParts) (l : NumberedLine) (old new : Stage) (Wr
   pub wrote : Wrote told
 
 -- Why a line stops the script; nothing is written, but where it is the output that failed.
-abbrev pub LineStops : Option (List ℕ) × Option (List ℕ) → ℕ × ℕ → NetworkParts → NumberedLine → Stage → Stage → Stop → Type 0
+abbrev pub LineStops : Option (List ℕ) × Option (List ℕ) → ℕ × ℕ → NetworkParts → NumberedLine → PlayedNetwork → PlayedNetwork → Stop → Type 0
 LineStops written counts n l old new stop.WriteFault = Rose counts.0 counts.1 × LinePlays n l old new (WroteSome written)
 LineStops written counts n l old new stop.NoMemory = Keeps written.0 written.1
 LineStops written counts n l old new why = Keeps written.0 written.1 × IsNoEvent n l why

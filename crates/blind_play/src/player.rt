@@ -1,7 +1,7 @@
 //! Who plays the lines of a script on a network without topologies.
 ghost use Rattle.std.specs.Prelude.{◌≡◌, ◌++◌, IfOk, OnErr, OnOk};
 ghost use Rattle.texts_in_range.specs.Given.{IsBlindLine};
-ghost use Rattle.blind_play.specs.Playing.{IsNewStage, Played, cue, stage_of};
+ghost use Rattle.blind_play.specs.Playing.{IsNewNetwork, Played, cue, played_network};
 
 use crate::lines::play_line;
 use plant_network::BlindPlant;
@@ -37,7 +37,7 @@ fn append(into: &mut Vec<u8>, text: &[u8]) -> Result<(), NoMemory>
 impl BlindPlayer {
     /// A new network of these settings.
     pub fn new(alloc: Global, network: Network) -> Result<BlindPlayer, NoMemory>
-        ensures { IfOk result (λ player. IsNewStage network (stage_of player)) }
+        ensures { IfOk result (λ player. IsNewNetwork network (played_network player)) }
     {
         Ok(BlindPlayer {
             alloc,
@@ -47,14 +47,14 @@ impl BlindPlayer {
 
     /// The settings.
     pub fn parts(&self) -> &NetworkParts
-        ensures { result.now ≡ (stage_of self.now).network }
+        ensures { result.now ≡ (played_network self.now).network }
     {
         self.plant.parts()
     }
 
     /// The settings as the value that they came in.
     pub fn network(&self) -> &Network
-        ensures { result.now ≡ (stage_of self.now).network }
+        ensures { result.now ≡ (played_network self.now).network }
     {
         self.plant.network()
     }
@@ -63,7 +63,7 @@ impl BlindPlayer {
     /// they drain. After an error nothing is put there, and what the line did up to there stays done.
     pub fn play(&mut self, line: u32, event: LineEvent, into: &mut Vec<u8>) -> Result<(), NoMemory>
         requires { IsBlindLine event }
-        ensures plays { OnOk result (Played (cue line event) (stage_of self.old) (stage_of self.new) into.old.items into.new.items) }
+        ensures plays { OnOk result (Played (cue line event) (played_network self.old) (played_network self.new) into.old.items into.new.items) }
         ensures untold { OnErr result (into.new.items ≡ into.old.items) }
     {
         let mut text = Vec::new(self.alloc);

@@ -3,7 +3,7 @@ ghost use Rattle.std.specs.Prelude.{◌≡◌, ◌≤◌, false, length, IfErr, 
 ghost use Rattle.line_text.specs.Lines.{is_skipped};
 ghost use Rattle.transcript.specs.Stops.{IsTooLarge, input_name, numbered, script_most};
 ghost use Rattle.texts_in_range.specs.Given.{IsBlindLine};
-ghost use Rattle.blind_play.specs.Playing.{IsNewStage, stage_of};
+ghost use Rattle.blind_play.specs.Playing.{IsNewNetwork, played_network};
 ghost use Rattle.blind_play.specs.WholeScripts.{HasEvent, IsNoEvent, IsWhole, LinePlays, LineStops, ScriptStops, WroteAll};
 
 use crate::player::BlindPlayer;
@@ -51,8 +51,8 @@ fn play_line<K: Sink>(
     out: &mut K,
 ) -> Result<(), Stop>
     requires told { is_skipped text.now ≡ false }
-    ensures plays { OnOk result (LinePlays (stage_of player.old).network (numbered number text.now) (stage_of player.old) (stage_of player.new) (WroteAll (K.written out.old, K.written out.new))) }
-    ensures stops { IfErr result (LineStops (K.written out.old, K.written out.new) (K.faults out.old, K.faults out.new) (stage_of player.old).network (numbered number text.now) (stage_of player.old) (stage_of player.new)) }
+    ensures plays { OnOk result (LinePlays (played_network player.old).network (numbered number text.now) (played_network player.old) (played_network player.new) (WroteAll (K.written out.old, K.written out.new))) }
+    ensures stops { IfErr result (LineStops (K.written out.old, K.written out.new) (K.faults out.old, K.faults out.new) (played_network player.old).network (numbered number text.now) (played_network player.old) (played_network player.new)) }
     ensures after { K.faults out.old ≤ K.faults out.new }
 {
     let event = event_of(alloc, player.network(), number, text)?;
@@ -72,9 +72,9 @@ fn play_lines<K: Sink>(
     out: &mut K,
 ) -> Result<(), Stop>
     requires within { length script.now ≤ script_most }
-    requires new { IsNewStage (stage_of player.old).network (stage_of player.old) }
-    ensures whole { OnOk result (IsWhole (K.written out.old, K.written out.new) (stage_of player.old).network script.now) }
-    ensures stops { IfErr result (ScriptStops (K.written out.old, K.written out.new) (K.faults out.old, K.faults out.new) (stage_of player.old).network script.now) }
+    requires new { IsNewNetwork (played_network player.old).network (played_network player.old) }
+    ensures whole { OnOk result (IsWhole (K.written out.old, K.written out.new) (played_network player.old).network script.now) }
+    ensures stops { IfErr result (ScriptStops (K.written out.old, K.written out.new) (K.faults out.old, K.faults out.new) (played_network player.old).network script.now) }
 {
     let mut lines = Lines::new(script);
     while let Some(line) = lines.next_line() {

@@ -25,7 +25,7 @@ use Rattle.script_laws.specs.plant_model.Events.{Answered, is_down}
 use Rattle.script_laws.specs.plant_model.Plant.{Entry, Happened, Happens, Pin, Plant, Run, Segment}
 use Rattle.script_laws.specs.plant_model.RealWire.{wire}
 use Rattle.script_laws.specs.plant_model.State.{Connection, Hands}
-use Rattle.script_laws.specs.plant_play.Playing.{Cue, Plays, PlaysLine, PlaysOne, Stage}
+use Rattle.script_laws.specs.plant_play.Playing.{Cue, Plays, PlaysLine, PlaysOne, PlayedNetwork}
 use Rattle.script_laws.specs.plant_play.Scripts.{AllPlayed}
 use Rattle.script_laws.specs.plant_play.Turns.{Turn, entries_of}
 use Rattle.script_laws.specs.Laws.{FeedOctets, FeedsOctets}
@@ -90,27 +90,27 @@ module _ (i : ℕ) where
   abbrev pub IsOpen : List Entry → Plant → Type 0
   IsOpen es s = IsUndrained 0 (outlet i es) × Fit es s
 
-  pub plain_fits : (e : LineEvent) → IsPlain e → (old : Stage) (c : Cue) (answer : Answered) (turns : List Turn) (told : List ℕ) (new : Stage) (older : List Entry) → c.event ≡ e → PlaysLine old c answer turns told new → Fit older old.state → Fit (entries_of turns older) new.state
+  pub plain_fits : (e : LineEvent) → IsPlain e → (old : PlayedNetwork) (c : Cue) (answer : Answered) (turns : List Turn) (told : List ℕ) (new : PlayedNetwork) (older : List Entry) → c.event ≡ e → PlaysLine old c answer turns told new → Fit older old.state → Fit (entries_of turns older) new.state
   plain_fits e plain old c answer turns told new older is p fits =
       turns_fit i old.modes old.network old.state turns new.state older
       (plain_turns c.number old answer turns told new.state e c.file plain (subst (λ (x : LineEvent). Plays c.number old x c.file answer turns told new.state) is p.plays)) fits
 
-  pub one_fits : (e : Event) (number : ℕ) (old : Stage) (answer : Answered) (turns : List Turn) (told : List ℕ) (end : Plant) (older : List Entry) → PlaysOne number old e answer turns told end → Fit older old.state → Fit (entries_of turns older) end
+  pub one_fits : (e : Event) (number : ℕ) (old : PlayedNetwork) (answer : Answered) (turns : List Turn) (told : List ℕ) (end : Plant) (older : List Entry) → PlaysOne number old e answer turns told end → Fit older old.state → Fit (entries_of turns older) end
   one_fits e number old answer turns told end older p fits = turns_fit i old.modes old.network old.state turns end older (one_turn number old answer turns told end e p) fits
 
   -- a line of another kind than that which opens
-  plain_line : (e : LineEvent) → IsPlain e → (old : Stage) (c : Cue) (answer : Answered) (turns : List Turn) (told : List ℕ) (new : Stage) → c.event ≡ e → PlaysLine old c answer turns told new → AllStay i turns
+  plain_line : (e : LineEvent) → IsPlain e → (old : PlayedNetwork) (c : Cue) (answer : Answered) (turns : List Turn) (told : List ℕ) (new : PlayedNetwork) → c.event ≡ e → PlaysLine old c answer turns told new → AllStay i turns
   plain_line e plain old c answer turns told new is p =
       plain_stays i c.number old answer turns told new.state e c.file plain (subst (λ (x : LineEvent). Plays c.number old x c.file answer turns told new.state) is p.plays)
 
-  pub plain_shut : (e : LineEvent) → IsPlain e → (old : Stage) (c : Cue) (answer : Answered) (turns : List Turn) (told : List ℕ) (new : Stage) (older : List Entry) → c.event ≡ e → PlaysLine old c answer turns told new →
+  pub plain_shut : (e : LineEvent) → IsPlain e → (old : PlayedNetwork) (c : Cue) (answer : Answered) (turns : List Turn) (told : List ℕ) (new : PlayedNetwork) (older : List Entry) → c.event ≡ e → PlaysLine old c answer turns told new →
       IsShut older old.state → IsShut (entries_of turns older) new.state
   plain_shut e plain old c answer turns told new older is p h = (
     still_shut i turns older (plain_line e plain old c answer turns told new is p) h.0,
     plain_fits e plain old c answer turns told new older is p h.1,
   )
 
-  pub plain_open : (e : LineEvent) → IsPlain e → (old : Stage) (c : Cue) (answer : Answered) (turns : List Turn) (told : List ℕ) (new : Stage) (older : List Entry) → c.event ≡ e → PlaysLine old c answer turns told new →
+  pub plain_open : (e : LineEvent) → IsPlain e → (old : PlayedNetwork) (c : Cue) (answer : Answered) (turns : List Turn) (told : List ℕ) (new : PlayedNetwork) (older : List Entry) → c.event ≡ e → PlaysLine old c answer turns told new →
       IsOpen older old.state → IsOpen (entries_of turns older) new.state
   plain_open e plain old c answer turns told new older is p h = (
     still_open i 0 turns older (plain_line e plain old c answer turns told new is p) h.0,
@@ -139,7 +139,7 @@ module _ (i : ℕ) where
       (subst (λ (x : Event). IsUndrained 0 (turned (turn_for i x) ms bytes o)) (sym is)
       (subst (λ (b : Bool). IsUndrained 0 (turned (cond b (Opens 0) Stays) ms bytes o)) (sym (eq-eqb i i refl)) (refl, refl)))
 
-  pub opening_line : (n : NetworkParts) → is_some (peer_row i n.peers) ≡ true → (old : Stage) (c : Cue) (answer : Answered) (turns : List Turn) (told : List ℕ) (new : Stage) (older : List Entry) → old.network ≡ n →
+  pub opening_line : (n : NetworkParts) → is_some (peer_row i n.peers) ≡ true → (old : PlayedNetwork) (c : Cue) (answer : Answered) (turns : List Turn) (told : List ℕ) (new : PlayedNetwork) (older : List Entry) → old.network ≡ n →
       c.event ≡ line.Open (Some i) 0 → PlaysLine old c answer turns told new → IsShut older old.state → IsOpen (entries_of turns older) new.state
   opening_line n known old c answer turns told new older same is p h =
       let one : PlaysOne c.number old (event.Open i 0) answer turns told new.state = subst (λ (x : LineEvent). Plays c.number old x c.file answer turns told new.state) is p.plays in
@@ -164,10 +164,10 @@ module _ (i : ℕ) where
   on P turns first later older s are h =
       subst (λ (ts : List Turn). P (entries_of ts older) s) (sym are) (subst (λ (es : List Entry). P es s) (sym (entries_join first later older)) h)
 
-  plain_lines : (files : Option Files) (es : List LineEvent) → AllPlain es → (cs : List Cue) → AreCues files es cs → (old new : Stage) (turns : List Turn) (told : List ℕ) (older : List Entry) → AllPlayed old cs turns told new →
+  plain_lines : (files : Option Files) (es : List LineEvent) → AllPlain es → (cs : List Cue) → AreCues files es cs → (old new : PlayedNetwork) (turns : List Turn) (told : List ℕ) (older : List Entry) → AllPlayed old cs turns told new →
       IsOpen older old.state → IsOpen (entries_of turns older) new.state
   plain_lines files [] plain [] are old new turns told older p h =
-      subst (λ (ts : List Turn). IsOpen (entries_of ts older) new.state) (sym p.0) (subst (λ (x : Stage). IsOpen older x.state) (sym p.2) h)
+      subst (λ (ts : List Turn). IsOpen (entries_of ts older) new.state) (sym p.0) (subst (λ (x : PlayedNetwork). IsOpen older x.state) (sym p.2) h)
   plain_lines files [] plain (c ∷ cs) are old new turns told older p h = absurd are
   plain_lines files (e ∷ es) plain [] are old new turns told older p h = absurd are
   plain_lines files (e ∷ es) plain (c ∷ cs) are old new turns told older p h =
@@ -176,7 +176,7 @@ module _ (i : ℕ) where
       (plain_open e plain.0 old c p.answer p.first p.said p.mid older are.0.event p.plays h))
 
   module _ (n : NetworkParts) (known : is_some (peer_row i n.peers) ≡ true) (files : Option Files) where
-    after_open : (es : List LineEvent) → AllPlain es → (cs : List Cue) → AreCues files (line.Open (Some i) 0 ∷ es) cs → (old new : Stage) (turns : List Turn) (told : List ℕ) (older : List Entry) → AllPlayed old cs turns told new →
+    after_open : (es : List LineEvent) → AllPlain es → (cs : List Cue) → AreCues files (line.Open (Some i) 0 ∷ es) cs → (old new : PlayedNetwork) (turns : List Turn) (told : List ℕ) (older : List Entry) → AllPlayed old cs turns told new →
         old.network ≡ n → IsShut older old.state → IsOpen (entries_of turns older) new.state
     after_open es plain [] are old new turns told older p same h = absurd are
     after_open es plain (c ∷ cs) are old new turns told older p same h =
@@ -184,7 +184,7 @@ module _ (i : ℕ) where
         (plain_lines files es plain cs are.1 p.mid new p.later p.more (entries_of p.first older) p.others
         (opening_line n known old c p.answer p.first p.said p.mid older same are.0.event p.plays h))
 
-    after_settling : (es : List LineEvent) → AllPlain es → (cs : List Cue) → AreCues files (line.Settle ∷ line.Open (Some i) 0 ∷ es) cs → (old new : Stage) (turns : List Turn) (told : List ℕ) (older : List Entry) → AllPlayed old cs turns told new →
+    after_settling : (es : List LineEvent) → AllPlain es → (cs : List Cue) → AreCues files (line.Settle ∷ line.Open (Some i) 0 ∷ es) cs → (old new : PlayedNetwork) (turns : List Turn) (told : List ℕ) (older : List Entry) → AllPlayed old cs turns told new →
         old.network ≡ n → IsShut older old.state → IsOpen (entries_of turns older) new.state
     after_settling es plain [] are old new turns told older p same h = absurd are
     after_settling es plain (c ∷ cs) are old new turns told older p same h =
@@ -193,7 +193,7 @@ module _ (i : ℕ) where
         (plain_shut line.Settle tt old c p.answer p.first p.said p.mid older are.0.event p.plays h))
 
     pub after_loads : (ts : List (As × List ℕ)) (es : List LineEvent) → AllPlain es → (cs : List Cue) → AreCues files (map load_line ts ++ line.Settle ∷ line.Open (Some i) 0 ∷ es) cs →
-        (old new : Stage) (turns : List Turn) (told : List ℕ) (older : List Entry) → AllPlayed old cs turns told new → old.network ≡ n → IsShut older old.state → IsOpen (entries_of turns older) new.state
+        (old new : PlayedNetwork) (turns : List Turn) (told : List ℕ) (older : List Entry) → AllPlayed old cs turns told new → old.network ≡ n → IsShut older old.state → IsOpen (entries_of turns older) new.state
     after_loads [] es plain cs are old new turns told older p same h = after_settling es plain cs are old new turns told older p same h
     after_loads (t ∷ ts) es plain [] are old new turns told older p same h = absurd are
     after_loads (t ∷ ts) es plain (c ∷ cs) are old new turns told older p same h =

@@ -60,7 +60,7 @@ use Rattle.plant_bulk.specs.plant_client.declared.question.Question.{Question}
 use Rattle.plant_bulk.specs.plant_client.Asking.{topologies}
 use Rattle.plant_bulk.specs.plant_client.Questions.{asked_of, question_message}
 use Rattle.plant_bulk.specs.plant_client.Telling.{told_text}
-use Rattle.peer_laws.specs.Outlets.{Outlet, Stays, Turn, handed_in, messages_for, outlet, outputs_of, put_for, turn_for, turned, with_put}
+use Rattle.peer_laws.specs.Outlets.{Outlet, Stays, ConnectionChange, handed_in, messages_for, outlet, outputs_of, put_for, turn_for, turned, with_put}
 use Rattle.peer_laws.proofs.Putting.{of_sent, put_is}
 use Rattle.peer_laws.specs.Received.{IsRight}
 use Rattle.client_laws.specs.Asked.{AsksOnly}
@@ -188,7 +188,7 @@ module _ (n : NetworkParts) (i : ℕ) (q : Question) where
   entry_put : (e : Entry) (es : List Entry) → is_accepted e.answer ≡ true → turn_for i e.event ≡ Stays → (new : Outlet) → outlet i (e ∷ es) ≡ Some new → (old : Outlet) × (outlet i es ≡ Some old) × (new.put ≡ old.put ++ messages_for i e.deeds)
   entry_put e es ok stay new is =
       stays_put (outlet i es) (messages_for i e.deeds) new
-      (sym (ap (λ (t : Turn). turned t (messages_for i e.deeds) (handed_in e.answer) (outlet i es)) stay)
+      (sym (ap (λ (t : ConnectionChange). turned t (messages_for i e.deeds) (handed_in e.answer) (outlet i es)) stay)
       ∙ sym (ap (λ (b : Bool). cond b (turned (turn_for i e.event) (messages_for i e.deeds) (handed_in e.answer) (outlet i es)) (outlet i es)) ok) ∙ is)
 
   others_stay : (e : Event) → IsOfOthers e → turn_for i e ≡ Stays

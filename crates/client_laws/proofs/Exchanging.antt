@@ -25,7 +25,7 @@ use Rattle.script_laws.specs.plant_model.Plant.{Entry, Happened, Happens, Pin, P
 use Rattle.script_laws.specs.plant_model.RealWire.{wire}
 use Rattle.script_laws.specs.plant_model.State.{Connection, Hands}
 use Rattle.script_laws.specs.plant_model.Wire.{Bytes}
-use Rattle.script_laws.specs.plant_play.Playing.{Cue, Plays, PlaysLine, PlaysOne, Stage}
+use Rattle.script_laws.specs.plant_play.Playing.{Cue, Plays, PlaysLine, PlaysOne, PlayedNetwork}
 use Rattle.script_laws.specs.plant_play.Scripts.{AllPlayed}
 use Rattle.script_laws.specs.plant_play.Turns.{Turn, entries_of}
 use Rattle.script_laws.proofs.plant_laws.plant_model.WireLaws.{wire_is_codec}
@@ -52,7 +52,7 @@ module _ (i : ℕ) where
   abbrev IsOpen : List Message → List Entry → Plant → Type 0
   IsOpen done es s = AreHeld 0 done (outlet i es) × Fit i es s
 
-  plain_open : (e : LineEvent) → IsPlain e → (done : List Message) (old : Stage) (c : Cue) (answer : Answered) (turns : List Turn) (told : List ℕ) (new : Stage) (older : List Entry) → c.event ≡ e → PlaysLine old c answer turns told new →
+  plain_open : (e : LineEvent) → IsPlain e → (done : List Message) (old : PlayedNetwork) (c : Cue) (answer : Answered) (turns : List Turn) (told : List ℕ) (new : PlayedNetwork) (older : List Entry) → c.event ≡ e → PlaysLine old c answer turns told new →
       IsOpen done older old.state → IsOpen done (entries_of turns older) new.state
   plain_open e plain done old c answer turns told new older is p h = (
     still_held i 0 done turns older
@@ -64,10 +64,10 @@ module _ (i : ℕ) where
   AllPlain [] = Unit {0}
   AllPlain (e ∷ es) = IsPlain e × AllPlain es
 
-  plain_lines : (files : Option Files) (es : List LineEvent) → AllPlain es → (done : List Message) (cs : List Cue) → AreCues files es cs → (old new : Stage) (turns : List Turn) (told : List ℕ) (older : List Entry) → AllPlayed old cs turns told new →
+  plain_lines : (files : Option Files) (es : List LineEvent) → AllPlain es → (done : List Message) (cs : List Cue) → AreCues files es cs → (old new : PlayedNetwork) (turns : List Turn) (told : List ℕ) (older : List Entry) → AllPlayed old cs turns told new →
       IsOpen done older old.state → IsOpen done (entries_of turns older) new.state
   plain_lines files [] plain done [] are old new turns told older p h =
-      subst (λ (ts : List Turn). IsOpen done (entries_of ts older) new.state) (sym p.0) (subst (λ (x : Stage). IsOpen done older x.state) (sym p.2) h)
+      subst (λ (ts : List Turn). IsOpen done (entries_of ts older) new.state) (sym p.0) (subst (λ (x : PlayedNetwork). IsOpen done older x.state) (sym p.2) h)
   plain_lines files [] plain done (c ∷ cs) are old new turns told older p h = absurd are
   plain_lines files (e ∷ es) plain done [] are old new turns told older p h = absurd are
   plain_lines files (e ∷ es) plain done (c ∷ cs) are old new turns told older p h =
@@ -136,7 +136,7 @@ module _ (i : ℕ) where
     pub bytes : came ≡ bytes_of wire rest
     pub open' : IsOpen (done ++ rest) (entries_of turns older) new
 
-  exchanged : (files : Option Files) (q : Question) (done : List Message) (old new : Stage) (came : List ℕ) (x : Exchanges files i q old came new) (older : List Entry) → IsOpen done older old.state → IsExchanged done came (turns_of x) older new.state
+  exchanged : (files : Option Files) (q : Question) (done : List Message) (old new : PlayedNetwork) (came : List ℕ) (x : Exchanges files i q old came new) (older : List Entry) → IsOpen done older old.state → IsExchanged done came (turns_of x) older new.state
   exchanged files q done old new came x older h =
       let asked = plain_lines files (asking_lines i q) (tt, (tt, tt)) done x.lines.cues x.lines.are_cues old x.asked x.lines.turns x.lines.told older x.lines.played h in
       let es = entries_of x.lines.turns older in
@@ -166,13 +166,13 @@ module _ (i : ℕ) where
     pub each : received ≡ map (bytes_of wire) news
     pub open' : IsOpen (done ++ all_of news) (entries_of turns older) new
 
-  all_exchanged : (files : Option Files) (qs : List Question) (done : List Message) (old new : Stage) (received : List (List ℕ)) (turns : List Turn) (older : List Entry) → AsksAll files i qs old received turns new → IsOpen done older old.state →
+  all_exchanged : (files : Option Files) (qs : List Question) (done : List Message) (old new : PlayedNetwork) (received : List (List ℕ)) (turns : List Turn) (older : List Entry) → AsksAll files i qs old received turns new → IsOpen done older old.state →
       AreExchanged done received turns older new.state
   all_exchanged files [] done old new received turns older p h = record {
     news = [];
     each = p.0;
     open' = subst (λ (l : List Message). IsOpen l (entries_of turns older) new.state) (sym (append-nil done))
-        (subst (λ (ts : List Turn). IsOpen done (entries_of ts older) new.state) (sym p.1) (subst (λ (x : Stage). IsOpen done older x.state) (sym p.2) h));
+        (subst (λ (ts : List Turn). IsOpen done (entries_of ts older) new.state) (sym p.1) (subst (λ (x : PlayedNetwork). IsOpen done older x.state) (sym p.2) h));
   }
   all_exchanged files (q ∷ qs) done old new received turns older p h =
       let first = exchanged files q done old p.mid p.came p.exchange older h in

@@ -21,7 +21,7 @@ use Rattle.script_laws.specs.plant_play.declared.going.Until.{Until}
 use Rattle.script_laws.specs.plant_play.declared.going.Until.TheVariants.{Finished, Settled}
 use Rattle.script_laws.specs.plant_play.declared.showing.Modes.{Modes}
 use Rattle.script_laws.specs.plant_play.Due.{AreAllDue, AreDue, IsDue, IsDueTake}
-use Rattle.script_laws.specs.plant_play.Playing.{Cue, Plays, PlaysFeed, PlaysLine, PlaysOne, Stage}
+use Rattle.script_laws.specs.plant_play.Playing.{Cue, Plays, PlaysFeed, PlaysLine, PlaysOne, PlayedNetwork}
 use Rattle.script_laws.specs.plant_play.Scripts.{AllPlayed}
 use Rattle.script_laws.specs.plant_play.Turns.{Turn, entries_of}
 use Rattle.plant_bulk.specs.plant_client.declared.question.Question.{Question}
@@ -75,17 +75,17 @@ module _ (i : ℕ) where
 
   -- ---- lines
 
-  load_idle : (topology : As × List ℕ) (old : Stage) (c : Cue) (answer : Answered) (turns : List Turn) (told : List ℕ) (new : Stage) → c.event ≡ load_line topology → PlaysLine old c answer turns told new → AllIdle turns
+  load_idle : (topology : As × List ℕ) (old : PlayedNetwork) (c : Cue) (answer : Answered) (turns : List Turn) (told : List ℕ) (new : PlayedNetwork) → c.event ≡ load_line topology → PlaysLine old c answer turns told new → AllIdle turns
   load_idle topology old c answer turns told new is p =
       let q = subst (λ (x : LineEvent). Plays c.number old x c.file answer turns told new.state) is p.plays in
       subst AllIdle (sym q.loads.one) (idle_if q.loads.turn.entry.event (event.Load topology.0 q.topology) q.loads.event (λ j xs. refl), tt)
 
-  settle_idle : (old : Stage) (c : Cue) (answer : Answered) (turns : List Turn) (told : List ℕ) (new : Stage) → c.event ≡ line.Settle → PlaysLine old c answer turns told new → AllIdle turns
+  settle_idle : (old : PlayedNetwork) (c : Cue) (answer : Answered) (turns : List Turn) (told : List ℕ) (new : PlayedNetwork) → c.event ≡ line.Settle → PlaysLine old c answer turns told new → AllIdle turns
   settle_idle old c answer turns told new is p =
       let q = subst (λ (x : LineEvent). Plays c.number old x c.file answer turns told new.state) is p.plays in
       due_idle Settled old.modes old.network old.state turns new.state q.all.due
 
-  finish_idle : (old : Stage) (c : Cue) (answer : Answered) (turns : List Turn) (told : List ℕ) (new : Stage) → c.event ≡ line.Finish → PlaysLine old c answer turns told new → AllIdle turns
+  finish_idle : (old : PlayedNetwork) (c : Cue) (answer : Answered) (turns : List Turn) (told : List ℕ) (new : PlayedNetwork) → c.event ≡ line.Finish → PlaysLine old c answer turns told new → AllIdle turns
   finish_idle old c answer turns told new is p =
       let q = subst (λ (x : LineEvent). Plays c.number old x c.file answer turns told new.state) is p.plays in
       due_idle Finished old.modes old.network old.state turns new.state q.all.due
@@ -104,7 +104,7 @@ module _ (i : ℕ) where
   taken_idle true m n s ts end all = takes_idle i m n s ts end all.due
   taken_idle false m n s ts end none = subst AllIdle (sym none.0) tt
 
-  feed_line : (bytes : Bytes) (old : Stage) (c : Cue) (answer : Answered) (turns : List Turn) (told : List ℕ) (new : Stage) (older : List Entry) → c.event ≡ line.Feed (Some i) bytes → PlaysLine old c answer turns told new →
+  feed_line : (bytes : Bytes) (old : PlayedNetwork) (c : Cue) (answer : Answered) (turns : List Turn) (told : List ℕ) (new : PlayedNetwork) (older : List Entry) → c.event ≡ line.Feed (Some i) bytes → PlaysLine old c answer turns told new →
       IsOpen i older old.state → streams i (entries_of turns older) ≡ fed_to bytes (streams i older)
   feed_line bytes old c answer turns told new older is p h =
       let q : PlaysFeed c.number old i bytes answer turns told new.state = subst (λ (x : LineEvent). Plays c.number old x c.file answer turns told new.state) is p.plays in
@@ -123,7 +123,7 @@ module _ (i : ℕ) where
       ∙ ap (λ (x : Event). streams_with i x xs) is
       ∙ ap (λ (b : Bool). cond b ([] ∷ xs) xs) (eq-eqb i i refl)
 
-  open_line : (n : NetworkParts) → is_some (peer_row i n.peers) ≡ true → (old : Stage) (c : Cue) (answer : Answered) (turns : List Turn) (told : List ℕ) (new : Stage) (older : List Entry) → old.network ≡ n →
+  open_line : (n : NetworkParts) → is_some (peer_row i n.peers) ≡ true → (old : PlayedNetwork) (c : Cue) (answer : Answered) (turns : List Turn) (told : List ℕ) (new : PlayedNetwork) (older : List Entry) → old.network ≡ n →
       c.event ≡ line.Open (Some i) 0 → PlaysLine old c answer turns told new → IsShut i older old.state → streams i (entries_of turns older) ≡ [] ∷ streams i older
   open_line n known old c answer turns told new older same is p h =
       let one : PlaysOne c.number old (event.Open i 0) answer turns told new.state = subst (λ (x : LineEvent). Plays c.number old x c.file answer turns told new.state) is p.plays in
@@ -144,7 +144,7 @@ module _ (i : ℕ) where
   Open stream es s = IsOpen i es s × (streams i es ≡ stream ∷ [])
 
   module _ (n : NetworkParts) (known : is_some (peer_row i n.peers) ≡ true) (files : Option Files) where
-    finishing : (stream : Bytes) (cs : List Cue) → AreCues files (line.Finish ∷ []) cs → (old new : Stage) (turns : List Turn) (told : List ℕ) (older : List Entry) → AllPlayed old cs turns told new → Open stream older old.state →
+    finishing : (stream : Bytes) (cs : List Cue) → AreCues files (line.Finish ∷ []) cs → (old new : PlayedNetwork) (turns : List Turn) (told : List ℕ) (older : List Entry) → AllPlayed old cs turns told new → Open stream older old.state →
         streams i (entries_of turns older) ≡ stream ∷ []
     finishing stream [] are old new turns told older p h = absurd are
     finishing stream (c ∷ d ∷ cs) are old new turns told older p h = absurd are.1
@@ -153,7 +153,7 @@ module _ (i : ℕ) where
         (subst (λ (ts : List Turn). streams i (entries_of ts (entries_of p.first older)) ≡ stream ∷ []) (sym p.others.0)
         (still p.first older (finish_idle old c p.answer p.first p.said p.mid are.0.event p.plays) ∙ h.1))
 
-    asking' : (stream bytes : Bytes) (cs : List Cue) → AreCues files (line.Feed (Some i) bytes ∷ line.Finish ∷ []) cs → (old new : Stage) (turns : List Turn) (told : List ℕ) (older : List Entry) → AllPlayed old cs turns told new → Open stream older old.state →
+    asking' : (stream bytes : Bytes) (cs : List Cue) → AreCues files (line.Feed (Some i) bytes ∷ line.Finish ∷ []) cs → (old new : PlayedNetwork) (turns : List Turn) (told : List ℕ) (older : List Entry) → AllPlayed old cs turns told new → Open stream older old.state →
         streams i (entries_of turns older) ≡ (stream ++ bytes) ∷ []
     asking' stream bytes [] are old new turns told older p h = absurd are
     asking' stream bytes (c ∷ cs) are old new turns told older p h =
@@ -163,7 +163,7 @@ module _ (i : ℕ) where
           feed_line bytes old c p.answer p.first p.said p.mid older are.0.event p.plays h.0 ∙ ap (fed_to bytes) h.1,
         ))
 
-    greeting : (stream opening bytes : Bytes) (cs : List Cue) → AreCues files (line.Feed (Some i) opening ∷ line.Feed (Some i) bytes ∷ line.Finish ∷ []) cs → (old new : Stage) (turns : List Turn) (told : List ℕ) (older : List Entry) → AllPlayed old cs turns told new →
+    greeting : (stream opening bytes : Bytes) (cs : List Cue) → AreCues files (line.Feed (Some i) opening ∷ line.Feed (Some i) bytes ∷ line.Finish ∷ []) cs → (old new : PlayedNetwork) (turns : List Turn) (told : List ℕ) (older : List Entry) → AllPlayed old cs turns told new →
         Open stream older old.state → streams i (entries_of turns older) ≡ ((stream ++ opening) ++ bytes) ∷ []
     greeting stream opening bytes [] are old new turns told older p h = absurd are
     greeting stream opening bytes (c ∷ cs) are old new turns told older p h =
@@ -173,7 +173,7 @@ module _ (i : ℕ) where
           feed_line opening old c p.answer p.first p.said p.mid older are.0.event p.plays h.0 ∙ ap (fed_to opening) h.1,
         ))
 
-    opening' : (opening bytes : Bytes) (cs : List Cue) → AreCues files (line.Open (Some i) 0 ∷ line.Feed (Some i) opening ∷ line.Feed (Some i) bytes ∷ line.Finish ∷ []) cs → (old new : Stage) (turns : List Turn) (told : List ℕ) (older : List Entry) →
+    opening' : (opening bytes : Bytes) (cs : List Cue) → AreCues files (line.Open (Some i) 0 ∷ line.Feed (Some i) opening ∷ line.Feed (Some i) bytes ∷ line.Finish ∷ []) cs → (old new : PlayedNetwork) (turns : List Turn) (told : List ℕ) (older : List Entry) →
         AllPlayed old cs turns told new → old.network ≡ n → Shut older old.state → streams i (entries_of turns older) ≡ (opening ++ bytes) ∷ []
     opening' opening bytes [] are old new turns told older p same h = absurd are
     opening' opening bytes (c ∷ cs) are old new turns told older p same h =
@@ -183,7 +183,7 @@ module _ (i : ℕ) where
           open_line n known old c p.answer p.first p.said p.mid older same are.0.event p.plays h.0 ∙ ap (λ (xs : List Bytes). [] ∷ xs) h.1,
         ))
 
-    settling : (opening bytes : Bytes) (cs : List Cue) → AreCues files (line.Settle ∷ line.Open (Some i) 0 ∷ line.Feed (Some i) opening ∷ line.Feed (Some i) bytes ∷ line.Finish ∷ []) cs → (old new : Stage) (turns : List Turn) (told : List ℕ) (older : List Entry) →
+    settling : (opening bytes : Bytes) (cs : List Cue) → AreCues files (line.Settle ∷ line.Open (Some i) 0 ∷ line.Feed (Some i) opening ∷ line.Feed (Some i) bytes ∷ line.Finish ∷ []) cs → (old new : PlayedNetwork) (turns : List Turn) (told : List ℕ) (older : List Entry) →
         AllPlayed old cs turns told new → old.network ≡ n → Shut older old.state → streams i (entries_of turns older) ≡ (opening ++ bytes) ∷ []
     settling opening bytes [] are old new turns told older p same h = absurd are
     settling opening bytes (c ∷ cs) are old new turns told older p same h =
@@ -193,7 +193,7 @@ module _ (i : ℕ) where
           still p.first older (settle_idle old c p.answer p.first p.said p.mid are.0.event p.plays) ∙ h.1,
         ))
 
-    pub loading : (ts : List (As × List ℕ)) (q : Question) (cs : List Cue) → AreCues files (map load_line ts ++ question_lines i q) cs → (old new : Stage) (turns : List Turn) (told : List ℕ) (older : List Entry) →
+    pub loading : (ts : List (As × List ℕ)) (q : Question) (cs : List Cue) → AreCues files (map load_line ts ++ question_lines i q) cs → (old new : PlayedNetwork) (turns : List Turn) (told : List ℕ) (older : List Entry) →
         AllPlayed old cs turns told new → old.network ≡ n → Shut older old.state → streams i (entries_of turns older) ≡ (opening_text ++ question_text q) ∷ []
     loading [] q cs are old new turns told older p same h = settling opening_text (question_text q) cs are old new turns told older p same h
     loading (t ∷ ts) q [] are old new turns told older p same h = absurd are

@@ -13,7 +13,7 @@ use Rattle.script_laws.specs.plant_model.Wire.{Bytes}
 use Rattle.script_laws.specs.plant_play.Turns.{Turn, entries_of}
 use Rattle.plant_bulk.specs.plant_client.Hearing.{heard_in, in_frame, in_reading}
 use Rattle.plant_bulk.specs.plant_client.Telling.{last_of}
-use Rattle.peer_laws.specs.Outlets.{Outlet, Turn as Kind, bytes_of, handed_in, messages_for, outlet, turn_for, turned, with_put}
+use Rattle.peer_laws.specs.Outlets.{Outlet, ConnectionChange, bytes_of, handed_in, messages_for, outlet, turn_for, turned, with_put}
 use Rattle.peer_laws.proofs.OutletEvents.{joined_append}
 use Rattle.peer_laws.proofs.Growing.{texts, texts_append}
 use Rattle.peer_laws.specs.Received.{IsStreamOf}
@@ -44,7 +44,7 @@ pub still_held : (i holder : ℕ) (done : List Message) (ts : List Turn) (older 
 still_held i holder done [] older stay h = h
 still_held i holder done (t ∷ ts) older stay h =
     let more : AreHeld holder done (turned (turn_for i t.entry.event) (messages_for i t.entry.deeds) (handed_in t.entry.answer) (outlet i older)) =
-    subst (λ (k : Kind). AreHeld holder done (turned k (messages_for i t.entry.deeds) (handed_in t.entry.answer) (outlet i older))) (sym stay.0) (put_held holder done (messages_for i t.entry.deeds) (outlet i older) h) in
+    subst (λ (k : ConnectionChange). AreHeld holder done (turned k (messages_for i t.entry.deeds) (handed_in t.entry.answer) (outlet i older))) (sym stay.0) (put_held holder done (messages_for i t.entry.deeds) (outlet i older) h) in
     still_held i holder done ts (t.entry ∷ older) stay.1 (pick (AreHeld holder done) (is_accepted t.entry.answer) _ (outlet i older) more h)
 
 pub bytes_append : (xs ys : List Message) → bytes_of wire (xs ++ ys) ≡ bytes_of wire xs ++ bytes_of wire ys

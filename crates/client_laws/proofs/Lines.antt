@@ -15,9 +15,9 @@ use Rattle.script_laws.specs.plant_play.declared.going.Until.{Until}
 use Rattle.script_laws.specs.plant_play.declared.going.Until.TheVariants.{Finished, Settled}
 use Rattle.script_laws.specs.plant_play.declared.showing.Modes.{Modes}
 use Rattle.script_laws.specs.plant_play.Due.{AreAllDue, AreDue, IsDue, IsDueTake}
-use Rattle.script_laws.specs.plant_play.Playing.{Plays, PlaysDue, PlaysFeedAt, PlaysOne, Stage}
+use Rattle.script_laws.specs.plant_play.Playing.{Plays, PlaysDue, PlaysFeedAt, PlaysOne, PlayedNetwork}
 use Rattle.script_laws.specs.plant_play.Turns.{IsTurn, Turn, entries_of}
-use Rattle.peer_laws.specs.Outlets.{Outlet, Stays, Turn as Kind, handed_in, messages_for, outlet, turn_for, turned, with_put}
+use Rattle.peer_laws.specs.Outlets.{Outlet, Stays, ConnectionChange, handed_in, messages_for, outlet, turn_for, turned, with_put}
 use Rattle.peer_laws.proofs.OutletEvents.{Fits, steps_went}
 use Rattle.peer_laws.proofs.Growing.{View, view_of}
 
@@ -57,7 +57,7 @@ IsPlain line.Settle = Unit {0}
 IsPlain line.Finish = Unit {0}
 IsPlain e = ⊥
 
-module _ (i number : ℕ) (old : Stage) (answer : Answered) (turns : List Turn) (told : List ℕ) (end : Plant) where
+module _ (i number : ℕ) (old : PlayedNetwork) (answer : Answered) (turns : List Turn) (told : List ℕ) (end : Plant) where
   fed_stay : (peer : Option ℕ) (bytes : Bytes) → PlaysFeedAt number old peer bytes answer turns told end → AllStay i turns
   fed_stay None bytes p = none_stay i turns p.no_turn
   fed_stay (Some j) bytes p = subst (AllStay i) (sym p.are) (ap (turn_for i) p.event, taken (is_accepted answer) p.takes)
@@ -93,7 +93,7 @@ due_turns : (Due : Plant → Option Event → Type 0) (m : Modes) (n : NetworkPa
 due_turns Due m n s [] end all = all
 due_turns Due m n s (t ∷ ts) end all = (all.1, due_turns Due m n t.after ts end all.3)
 
-module _ (number : ℕ) (old : Stage) (answer : Answered) (turns : List Turn) (told : List ℕ) (end : Plant) where
+module _ (number : ℕ) (old : PlayedNetwork) (answer : Answered) (turns : List Turn) (told : List ℕ) (end : Plant) where
   abbrev Are : List Turn → Type 0
   Are ts = AreTurns old.modes old.network old.state ts end
 
@@ -153,7 +153,7 @@ pub still_open : (i holder : ℕ) (ts : List Turn) (older : List Entry) → AllS
 still_open i holder [] older stay h = h
 still_open i holder (t ∷ ts) older stay h =
     let more : IsUndrained holder (turned (turn_for i t.entry.event) (messages_for i t.entry.deeds) (handed_in t.entry.answer) (outlet i older)) =
-    subst (λ (k : Kind). IsUndrained holder (turned k (messages_for i t.entry.deeds) (handed_in t.entry.answer) (outlet i older))) (sym stay.0) (kept_open (messages_for i t.entry.deeds) (outlet i older) holder h) in
+    subst (λ (k : ConnectionChange). IsUndrained holder (turned k (messages_for i t.entry.deeds) (handed_in t.entry.answer) (outlet i older))) (sym stay.0) (kept_open (messages_for i t.entry.deeds) (outlet i older) holder h) in
     still_open i holder ts (t.entry ∷ older) stay.1 (pick (IsUndrained holder) (is_accepted t.entry.answer) _ (outlet i older) more h)
 
 abbrev IsShut : Option Outlet → Type 0
@@ -163,7 +163,7 @@ pub still_shut : (i : ℕ) (ts : List Turn) (older : List Entry) → AllStay i t
 still_shut i [] older stay h = h
 still_shut i (t ∷ ts) older stay h =
     let more : turned (turn_for i t.entry.event) (messages_for i t.entry.deeds) (handed_in t.entry.answer) (outlet i older) ≡ None =
-    subst (λ (k : Kind). turned k (messages_for i t.entry.deeds) (handed_in t.entry.answer) (outlet i older) ≡ None) (sym stay.0) (kept_shut (messages_for i t.entry.deeds) (outlet i older) h) in
+    subst (λ (k : ConnectionChange). turned k (messages_for i t.entry.deeds) (handed_in t.entry.answer) (outlet i older) ≡ None) (sym stay.0) (kept_shut (messages_for i t.entry.deeds) (outlet i older) h) in
     still_shut i ts (t.entry ∷ older) stay.1 (pick (IsShut) (is_accepted t.entry.answer) _ (outlet i older) more h)
 
 -- ---- the connection in the state

@@ -37,7 +37,7 @@ use Rattle.script_laws.specs.plant_play.declared.going.Until.{Until}
 use Rattle.script_laws.specs.plant_play.declared.going.Until.TheVariants.{Finished, Settled}
 use Rattle.script_laws.specs.plant_play.declared.showing.Modes.{Modes}
 use Rattle.script_laws.specs.plant_play.Due.{AreAllDue, AreDue, IsDue, IsDueTake}
-use Rattle.script_laws.specs.plant_play.Playing.{Cue, Plays, PlaysFeed, PlaysLine, PlaysOne, Stage}
+use Rattle.script_laws.specs.plant_play.Playing.{Cue, Plays, PlaysFeed, PlaysLine, PlaysOne, PlayedNetwork}
 use Rattle.script_laws.specs.plant_play.Scripts.{AllPlayed}
 use Rattle.script_laws.specs.plant_play.Turns.{Turn, entries_of}
 use Rattle.client_laws.proofs.OutsideStays.{AreHarmless, Has, Leads, carry_stays, feed_stays, harmless_append, keepalive_leads, load_stays, open_leads, open_stays, request_leads, request_taken, solve_stays, take_stays}
@@ -189,7 +189,7 @@ module _ (n : NetworkParts) (i : ℕ) where
 
   -- ---- lines
 
-  module _ (old : Stage) (same : old.network ≡ n) (c : Cue) (answer : Answered) (turns : List Turn) (told : List ℕ) (new : Stage) (older : List Entry) where
+  module _ (old : PlayedNetwork) (same : old.network ≡ n) (c : Cue) (answer : Answered) (turns : List Turn) (told : List ℕ) (new : PlayedNetwork) (older : List Entry) where
     -- a line of others
     module _ (P : Option Connection → Type 0) (none : P None → P None) (more : (k : Connection) (bytes : Bytes) → P (Some k) → P (Some (with_more bytes k))) where
       load_walks : (topology : As × List ℕ) → c.event ≡ load_line topology → PlaysLine old c answer turns told new → Walks n i P older old.state → Walks n i P (entries_of turns older) new.state
@@ -342,7 +342,7 @@ module _ (n : NetworkParts) (i : ℕ) where
     question_goes : Goes phase.Up (question_message question ∷ []) phase.Up
     question_goes = (phase.Up, request_leads (asked_of question ∷ []), refl)
 
-    finish_tail : (old : Stage) → old.network ≡ n → (c : Cue) (answer : Answered) (turns : List Turn) (told : List ℕ) (new : Stage) (older : List Entry) → c.event ≡ line.Finish → PlaysLine old c answer turns told new →
+    finish_tail : (old : PlayedNetwork) → old.network ≡ n → (c : Cue) (answer : Answered) (turns : List Turn) (told : List ℕ) (new : PlayedNetwork) (older : List Entry) → c.event ≡ line.Finish → PlaysLine old c answer turns told new →
         IsTail older → IsTail (entries_of turns older)
     finish_tail old same c answer turns told new older is p tail =
         let q = subst (λ (x : LineEvent). Plays c.number old x c.file answer turns told new.state) is p.plays in
@@ -354,16 +354,16 @@ module _ (n : NetworkParts) (i : ℕ) where
     Ends es s = Walks n i (Has phase.Up Empty []) es s × IsTail es
 
     module _ (fits : IsWritten (question_message question)) (known : is_some (peer_row i n.peers) ≡ true) (files : Option Files) where
-      finishing : (cs : List Cue) → AreCues files (line.Finish ∷ []) cs → (old new : Stage) (turns : List Turn) (told : List ℕ) (older : List Entry) → AllPlayed old cs turns told new → old.network ≡ n → Ends older old.state → Ends (entries_of turns older) new.state
+      finishing : (cs : List Cue) → AreCues files (line.Finish ∷ []) cs → (old new : PlayedNetwork) (turns : List Turn) (told : List ℕ) (older : List Entry) → AllPlayed old cs turns told new → old.network ≡ n → Ends older old.state → Ends (entries_of turns older) new.state
       finishing [] are old new turns told older p same h = absurd are
       finishing (c ∷ d ∷ cs) are old new turns told older p same h = absurd are.1
       finishing (c ∷ []) are old new turns told older p same h =
           on i Ends turns p.first p.later older new.state p.turns_are
           (subst (λ (ts : List Turn). Ends (entries_of ts (entries_of p.first older)) new.state) (sym p.others.0)
-          (subst (λ (x : Stage). Ends (entries_of p.first older) x.state) (sym p.others.2)
+          (subst (λ (x : PlayedNetwork). Ends (entries_of p.first older) x.state) (sym p.others.2)
           (finish_walks old same c p.answer p.first p.said p.mid older (Has phase.Up Empty []) (λ z. z) (λ k bytes z. z) are.0.event p.plays h.0, finish_tail old same c p.answer p.first p.said p.mid older are.0.event p.plays h.1)))
 
-      asking : (cs : List Cue) → AreCues files (line.Feed (Some i) (question_text question) ∷ line.Finish ∷ []) cs → (old new : Stage) (turns : List Turn) (told : List ℕ) (older : List Entry) → AllPlayed old cs turns told new → old.network ≡ n →
+      asking : (cs : List Cue) → AreCues files (line.Feed (Some i) (question_text question) ∷ line.Finish ∷ []) cs → (old new : PlayedNetwork) (turns : List Turn) (told : List ℕ) (older : List Entry) → AllPlayed old cs turns told new → old.network ≡ n →
           Walks n i (Has phase.Up Empty []) older old.state → Ends (entries_of turns older) new.state
       asking [] are old new turns told older p same w = absurd are
       asking (c ∷ cs) are old new turns told older p same w =
@@ -378,7 +378,7 @@ module _ (n : NetworkParts) (i : ℕ) where
           (finishing cs are.1 p.mid new p.later p.more (entries_of p.first older) p.others (p.plays.network ∙ same)
           (feed_walks old same c p.answer p.first p.said p.mid older phase.Up refl ms bytes (question_whole fits) question_is are.0.event p.plays w phase.Up question_goes, taken))
 
-      greeting : (cs : List Cue) → AreCues files (line.Feed (Some i) opening_text ∷ line.Feed (Some i) (question_text question) ∷ line.Finish ∷ []) cs → (old new : Stage) (turns : List Turn) (told : List ℕ) (older : List Entry) → AllPlayed old cs turns told new →
+      greeting : (cs : List Cue) → AreCues files (line.Feed (Some i) opening_text ∷ line.Feed (Some i) (question_text question) ∷ line.Finish ∷ []) cs → (old new : PlayedNetwork) (turns : List Turn) (told : List ℕ) (older : List Entry) → AllPlayed old cs turns told new →
           old.network ≡ n → Walks n i (Has phase.OpenWait Empty []) older old.state → Ends (entries_of turns older) new.state
       greeting [] are old new turns told older p same w = absurd are
       greeting (c ∷ cs) are old new turns told older p same w =
@@ -386,14 +386,14 @@ module _ (n : NetworkParts) (i : ℕ) where
           (asking cs are.1 p.mid new p.later p.more (entries_of p.first older) p.others (p.plays.network ∙ same)
           (feed_walks old same c p.answer p.first p.said p.mid older phase.OpenWait refl (open_message ∷ messages.Keepalive ∷ []) opening_text opening_whole opening_is are.0.event p.plays w phase.Up opening_goes))
 
-      opening : (cs : List Cue) → AreCues files (line.Open (Some i) 0 ∷ line.Feed (Some i) opening_text ∷ line.Feed (Some i) (question_text question) ∷ line.Finish ∷ []) cs → (old new : Stage) (turns : List Turn) (told : List ℕ) (older : List Entry) →
+      opening : (cs : List Cue) → AreCues files (line.Open (Some i) 0 ∷ line.Feed (Some i) opening_text ∷ line.Feed (Some i) (question_text question) ∷ line.Finish ∷ []) cs → (old new : PlayedNetwork) (turns : List Turn) (told : List ℕ) (older : List Entry) →
           AllPlayed old cs turns told new → old.network ≡ n → Walks n i IsNone older old.state → Ends (entries_of turns older) new.state
       opening [] are old new turns told older p same w = absurd are
       opening (c ∷ cs) are old new turns told older p same w =
           on i Ends turns p.first p.later older new.state p.turns_are
           (greeting cs are.1 p.mid new p.later p.more (entries_of p.first older) p.others (p.plays.network ∙ same) (open_walks old same c p.answer p.first p.said p.mid older known are.0.event p.plays w))
 
-      settling : (cs : List Cue) → AreCues files (question_lines i question) cs → (old new : Stage) (turns : List Turn) (told : List ℕ) (older : List Entry) → AllPlayed old cs turns told new → old.network ≡ n → Walks n i IsNone older old.state →
+      settling : (cs : List Cue) → AreCues files (question_lines i question) cs → (old new : PlayedNetwork) (turns : List Turn) (told : List ℕ) (older : List Entry) → AllPlayed old cs turns told new → old.network ≡ n → Walks n i IsNone older old.state →
           Ends (entries_of turns older) new.state
       settling [] are old new turns told older p same w = absurd are
       settling (c ∷ cs) are old new turns told older p same w =
@@ -401,7 +401,7 @@ module _ (n : NetworkParts) (i : ℕ) where
           (opening cs are.1 p.mid new p.later p.more (entries_of p.first older) p.others (p.plays.network ∙ same)
           (settle_walks old same c p.answer p.first p.said p.mid older IsNone (λ z. z) (λ k bytes z. z) are.0.event p.plays w))
 
-      pub loading : (ts : List (As × List ℕ)) (cs : List Cue) → AreCues files (map load_line ts ++ question_lines i question) cs → (old new : Stage) (turns : List Turn) (told : List ℕ) (older : List Entry) → AllPlayed old cs turns told new → old.network ≡ n →
+      pub loading : (ts : List (As × List ℕ)) (cs : List Cue) → AreCues files (map load_line ts ++ question_lines i question) cs → (old new : PlayedNetwork) (turns : List Turn) (told : List ℕ) (older : List Entry) → AllPlayed old cs turns told new → old.network ≡ n →
           Walks n i IsNone older old.state → Ends (entries_of turns older) new.state
       loading [] cs are old new turns told older p same w = settling cs are old new turns told older p same w
       loading (t ∷ ts) [] are old new turns told older p same w = absurd are

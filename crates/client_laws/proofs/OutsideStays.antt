@@ -25,7 +25,7 @@ use Rattle.disclosure.specs.Shown.{open_of}
 use Rattle.request_table.specs.Pending.{same_peer}
 use Rattle.plant_text.specs.declared.settings.NetworkParts.{NetworkParts}
 use Rattle.plant_text.specs.Names.{same_as, parent_as}
-use Rattle.plant_text.specs.Settings.{Line, line, lines, is_linked, is_element, peer_row, class_of}
+use Rattle.plant_text.specs.Settings.{Adjacency, adjacency, adjacencies, is_linked, is_element, peer_row, class_of}
 use Rattle.script_laws.specs.plant_model.declared.event.Event.TheVariants as event
 use Rattle.script_laws.specs.plant_model.declared.output.Output.{Output}
 use Rattle.script_laws.specs.plant_model.declared.outcome.Refused.TheVariants.{NoSuchPeer}
@@ -37,7 +37,7 @@ use Rattle.script_laws.specs.plant_model.Solving.{commit}
 use Rattle.script_laws.specs.plant_model.Parent as parent
 use Rattle.script_laws.specs.plant_model.Settings.{place, family}
 use Rattle.script_laws.specs.plant_model.State.{Connection, Access, Loads, Pops, Takes, Says, Ups, Downs, Clears, Solves, Expires, Hands}
-use Rattle.script_laws.specs.plant_model.Deeds.{Going, element_of, is_due, is_tick, is_out_empty, any_fall, our_offer, as_sid, on_connection, with_more, with_session, with_inbox, read_as, input_of, with_parent, with_element, own_message, put, put_to, puts, give, rise, fall, say, clear, outside_act, outside_acts, outside_step, outside_input, inner_act, inner_acts, inner_input, begin_end, begin_line, break_line, with_access, with_inner}
+use Rattle.script_laws.specs.plant_model.Deeds.{Going, element_of, is_due, is_tick, is_out_empty, any_fall, our_offer, as_sid, on_connection, with_more, with_session, with_inbox, read_as, input_of, with_parent, with_element, own_message, put, put_to, puts, give, rise, fall, say, clear, outside_act, outside_acts, outside_step, outside_input, inner_act, inner_acts, inner_input, begin_end, begin_adjacency, break_adjacency, with_access, with_inner}
 use Rattle.script_laws.specs.plant_model.Events as events
 use Rattle.script_laws.specs.plant_model.Events.{split_all, bad_item, is_down}
 use Rattle.script_laws.specs.plant_model.Plant.{Pin, Segment, Plant, PlantDeed, Happened, Happens, SolveHappens, is_full, load_new, opened}
@@ -97,12 +97,12 @@ none_dropped i now all e older within d x why = go why
         (let other : nat_eq i i ≡ false = subst (IsHarmless i) is one in
         let clash : true ≡ false = sym (eq-eqb i i refl) ∙ other in cc)
 
-opens_harmless : (i : ℕ) (xs : List Line) (ds : Transcript) → AreHarmless i ds → AreHarmless i (opens_of xs ds)
+opens_harmless : (i : ℕ) (xs : List Adjacency) (ds : Transcript) → AreHarmless i ds → AreHarmless i (opens_of xs ds)
 opens_harmless i [] ds h = h
 opens_harmless i (x ∷ xs) ds h = opens_harmless i xs (an_open x.upper x.lower ∷ an_open x.lower x.upper ∷ ds) (tt, (tt, h))
 
 pub opening_harmless : (c : Codec) (n : NetworkParts) (i : ℕ) → AreHarmless i (opened c n).deeds
-opening_harmless c n i = subst (AreHarmless i) (sym (networks_begin c n)) (opens_harmless i (lines n) [] tt)
+opening_harmless c n i = subst (AreHarmless i) (sym (networks_begin c n)) (opens_harmless i (adjacencies n) [] tt)
 
 -- what a session does that goes on, and passes requests alone
 abbrev pub AreKept : List Action → Type 0
@@ -191,21 +191,21 @@ module _ (c : Codec) (n : NetworkParts) (i : ℕ) (P : Option Connection → Typ
       let t = turn_of (new_state (our_offer sid) (record { 0 = g.state.clock })) input.Begin in
       inner_good at b false t.actions (record { state = with_inner Pin Segment c n open_of at b t.next g.state; deeds = g.deeds }) h
 
-  begin_line_good : (sid : ℕ) (x : Line) (g : Move) → Good g → Good (begin_line Pin Segment c n open_of sid x g)
-  begin_line_good sid x g h = begin_end_good sid x.upper x.lower (begin_end Pin Segment c n open_of sid x.lower x.upper g) (begin_end_good sid x.lower x.upper g h)
+  begin_adjacency_good : (sid : ℕ) (x : Adjacency) (g : Move) → Good g → Good (begin_adjacency Pin Segment c n open_of sid x g)
+  begin_adjacency_good sid x g h = begin_end_good sid x.upper x.lower (begin_end Pin Segment c n open_of sid x.lower x.upper g) (begin_end_good sid x.lower x.upper g h)
 
-  break_line_good : (x : Line) (g : Move) → Good g → Good (break_line Pin Segment c n open_of x g)
-  break_line_good x g h =
+  break_adjacency_good : (x : Adjacency) (g : Move) → Good g → Good (break_adjacency Pin Segment c n open_of x g)
+  break_adjacency_good x g h =
       let f = fall Pin Segment c n open_of x.lower (Inner x.upper) g in
       let k = fall Pin Segment c n open_of x.upper (Inner x.lower) f in
       let h' = fall_good x.upper (Inner x.lower) f refl (fall_good x.lower (Inner x.upper) g refl h) in
-      begin_line_good (((g.state.sessions x.lower x.upper).offer.sid + 1) % 256) x (clear Pin Segment c n open_of x k) (h'.0, (tt, h'.1))
+      begin_adjacency_good (((g.state.sessions x.lower x.upper).offer.sid + 1) % 256) x (clear Pin Segment c n open_of x k) (h'.0, (tt, h'.1))
 
-  inner_input_good : (x : Line) (at b : As) (y : Input) (g : Move) → Good g → Good (inner_input Pin Segment c n open_of x at b y g)
+  inner_input_good : (x : Adjacency) (at b : As) (y : Input) (g : Move) → Good g → Good (inner_input Pin Segment c n open_of x at b y g)
   inner_input_good x at b y g h =
       let t = turn_of (g.state.sessions at b) y in
       let e : Move = record { state = with_inner Pin Segment c n open_of at b t.next g.state; deeds = g.deeds } in
-      pick (any_fall t.actions) (break_line Pin Segment c n open_of x g) (inner_acts Pin Segment c n open_of at b (is_tick y) t.actions e) (break_line_good x g h) (inner_good at b (is_tick y) t.actions e h)
+      pick (any_fall t.actions) (break_adjacency Pin Segment c n open_of x g) (inner_acts Pin Segment c n open_of at b (is_tick y) t.actions e) (break_adjacency_good x g h) (inner_good at b (is_tick y) t.actions e h)
 
   -- ---- events of others
 
@@ -222,7 +222,7 @@ module _ (c : Codec) (n : NetworkParts) (i : ℕ) (P : Option Connection → Typ
     where
       go : (q : List Bytes) → Did (events.carry_first Pin Segment c n open_of a b s q)
       go [] = (at, tt)
-      go (x ∷ rest) = inner_input_good (line a b) b a (input_of c (Some x)) (record { state = record s { queues = set_pair a b rest s.queues }; deeds = Pops a b ∷ [] }) (at, (tt, tt))
+      go (x ∷ rest) = inner_input_good (adjacency a b) b a (input_of c (Some x)) (record { state = record s { queues = set_pair a b rest s.queues }; deeds = Pops a b ∷ [] }) (at, (tt, tt))
 
   pub load_stays : (d : As) (g : Rows) (s : Plant) (h : Happened) → Happens c n s (event.Load d g) h → At s → Did h
   load_stays d g s h is at =
@@ -287,10 +287,10 @@ pub request_leads : (asks : List Asked) → Leads phase.Up (input.Got (messages.
 request_leads asks = leads_by phase.Up (input.Got (messages.PcReq asks)) phase.Up (λ y is. (tt, is))
 
 module _ (c : Codec) (n : NetworkParts) (i : ℕ) where
-  abbrev Seen : (Option Connection → Type 0) → Plant → Type 0
-  Seen Q s = Q (s.accesses i).connection
+  abbrev OnConnection : (Option Connection → Type 0) → Plant → Type 0
+  OnConnection Q s = Q (s.accesses i).connection
 
-  mapped : (Q Q' : Option Connection → Type 0) (g : Connection → Connection) → (Q None → Q' None) → ((k : Connection) → Q (Some k) → Q' (Some (g k))) → (s : Plant) → Seen Q s → Seen Q' (with_access Pin Segment c n open_of i g s)
+  mapped : (Q Q' : Option Connection → Type 0) (g : Connection → Connection) → (Q None → Q' None) → ((k : Connection) → Q (Some k) → Q' (Some (g k))) → (s : Plant) → OnConnection Q s → OnConnection Q' (with_access Pin Segment c n open_of i g s)
   mapped Q Q' g none some s h =
       subst (λ (b : Bool). Q' (cond b (on_connection g (s.accesses i)) (s.accesses i)).connection) (sym (eq-eqb i i refl)) (go (s.accesses i).connection h)
     where
@@ -298,17 +298,17 @@ module _ (c : Codec) (n : NetworkParts) (i : ℕ) where
       go None h' = none h'
       go (Some k) h' = some k h'
 
-  abbrev pub Shows : (Option Connection → Type 0) → Going Pin Segment → Type 0
-  Shows Q g = Q (g.state.accesses i).connection × AreHarmless i g.deeds
+  abbrev pub KeepsHarmless : (Option Connection → Type 0) → Going Pin Segment → Type 0
+  KeepsHarmless Q g = Q (g.state.accesses i).connection × AreHarmless i g.deeds
 
   has_more : (p : Phase) (f : Framing) (items : List (Option Bytes)) (k : Connection) (bytes : Bytes) → Has p f items (Some k) → Has p f items (Some (with_more bytes k))
   has_more p f items k bytes h = h
 
   -- an input
-  steps : (p p' : Phase) (x : Input) (f : Framing) (items : List (Option Bytes)) → Leads p x p' → (g : Going Pin Segment) → Shows (Has p f items) g → Shows (Has p' f items) (outside_input Pin Segment c n open_of i x g)
+  steps : (p p' : Phase) (x : Input) (f : Framing) (items : List (Option Bytes)) → Leads p x p' → (g : Going Pin Segment) → KeepsHarmless (Has p f items) g → KeepsHarmless (Has p' f items) (outside_input Pin Segment c n open_of i x g)
   steps p p' x f items leads g h = go (g.state.accesses i).connection h.0
     where
-      go : (o : Option Connection) → Has p f items o → Shows (Has p' f items) (outside_step Pin Segment c n open_of i x g o)
+      go : (o : Option Connection) → Has p f items o → KeepsHarmless (Has p' f items) (outside_step Pin Segment c n open_of i x g o)
       go None has = absurd has
       go (Some k) has =
           let l = leads k.session has.0 in
@@ -331,7 +331,7 @@ module _ (c : Codec) (n : NetworkParts) (i : ℕ) where
       (subst (λ (o : Option Connection). Did' (Has phase.OpenWait Empty []) (events.open_new Pin Segment c n open_of i holder s o)) (sym none)
       (steps phase.Idle phase.OpenWait input.Begin Empty [] begin_leads (record { state = events.connect Pin Segment c n open_of i holder s; deeds = [] }) (connected, tt))))
     where
-      connected : Seen (Has phase.Idle Empty []) (events.connect Pin Segment c n open_of i holder s)
+      connected : OnConnection (Has phase.Idle Empty []) (events.connect Pin Segment c n open_of i holder s)
       connected =
           subst (λ (b : Bool). Has phase.Idle Empty [] (cond b (record {
             opened = (s.accesses i).opened + 1;
@@ -339,7 +339,7 @@ module _ (c : Codec) (n : NetworkParts) (i : ℕ) where
           }) (s.accesses i)).connection) (sym (eq-eqb i i refl)) (refl, refl, refl)
 
   -- what is fed stands behind what stands there
-  pub feed_stays : (bytes : Bytes) (s : Plant) (h : Happened) (p : Phase) (f : Framing) (items : List (Option Bytes)) → Happens c n s (event.Feed i bytes) h → is_down p ≡ false → Seen (Has p f items) s →
+  pub feed_stays : (bytes : Bytes) (s : Plant) (h : Happened) (p : Phase) (f : Framing) (items : List (Option Bytes)) → Happens c n s (event.Feed i bytes) h → is_down p ≡ false → OnConnection (Has p f items) s →
       Did' (Has p (c.feed f bytes).framing (items ++ split_all c (c.feed f bytes).frames ++ bad_item (c.feed f bytes).framing.bad)) h
   feed_stays bytes s h p f items is up has = subst (Did' New) (sym is) (go (s.accesses i).connection has)
     where
@@ -357,10 +357,10 @@ module _ (c : Codec) (n : NetworkParts) (i : ℕ) where
       go : (o : Option Connection) → Has p f items o → Did' New (events.feed_open Pin Segment c n open_of i bytes s o)
       go None has' = absurd has'
       go (Some k) has' =
-          subst (λ (b : Bool). Seen New (cond b s (with_access Pin Segment c n open_of i (events.fed c bytes) s)) × Unit {0}) (sym (ap is_down has'.0 ∙ up)) (mapped (Has p f items) New (events.fed c bytes) (λ z. absurd z) fed s has, tt)
+          subst (λ (b : Bool). OnConnection New (cond b s (with_access Pin Segment c n open_of i (events.fed c bytes) s)) × Unit {0}) (sym (ap is_down has'.0 ∙ up)) (mapped (Has p f items) New (events.fed c bytes) (λ z. absurd z) fed s has, tt)
 
   -- the first item is taken
-  pub take_stays : (s : Plant) (h : Happened) (p p' : Phase) (f : Framing) (item : Option Bytes) (rest : List (Option Bytes)) → Happens c n s (event.Take i) h → Leads p (input_of c item) p' → Seen (Has p f (item ∷ rest)) s → Did' (Has p' f rest) h
+  pub take_stays : (s : Plant) (h : Happened) (p p' : Phase) (f : Framing) (item : Option Bytes) (rest : List (Option Bytes)) → Happens c n s (event.Take i) h → Leads p (input_of c item) p' → OnConnection (Has p f (item ∷ rest)) s → Did' (Has p' f rest) h
   take_stays s h p p' f item rest is leads has = subst (Did' (Has p' f rest)) (sym is) (go (s.accesses i).connection has)
     where
       by : (inbox : List (Option Bytes)) → inbox ≡ item ∷ rest → Did' (Has p' f rest) (events.take_item Pin Segment c n open_of i s inbox)
@@ -381,7 +381,7 @@ module _ (c : Codec) (n : NetworkParts) (i : ℕ) where
   give_tells : (asks : List Asked) (g : Going Pin Segment) → g.deeds ≡ [] → Tells asks (give Pin Segment c n open_of (element_of n i) (Outside i) (messages.PcReq asks) g).deeds
   give_tells asks g none = go (same_as (element_of n i) parent_as)
     where
-      r : parent.Given
+      r : parent.ParentTaken
       r = parent.take c (family n) (Outside i) (messages.PcReq asks) g.state.parent
 
       t : Taken Pin Segment
@@ -401,7 +401,7 @@ module _ (c : Codec) (n : NetworkParts) (i : ℕ) where
       Tells asks (outside_acts Pin Segment c n open_of i false (turn_in q k.session x).actions (record { state = with_access Pin Segment c n open_of i (with_session (turn_in q k.session x).next) g.state; deeds = g.deeds })).deeds) (sym has.0)
       (give_tells asks (record { state = with_access Pin Segment c n open_of i (with_session (turn_in phase.Up k.session x).next) g.state; deeds = g.deeds }) none)
 
-  pub request_taken : (s : Plant) (h : Happened) (f : Framing) (bytes : Bytes) (asks : List Asked) (rest : List (Option Bytes)) → Happens c n s (event.Take i) h → c.read bytes ≡ Some (messages.PcReq asks) → Seen (Has phase.Up f (Some bytes ∷ rest)) s →
+  pub request_taken : (s : Plant) (h : Happened) (f : Framing) (bytes : Bytes) (asks : List Asked) (rest : List (Option Bytes)) → Happens c n s (event.Take i) h → c.read bytes ≡ Some (messages.PcReq asks) → OnConnection (Has phase.Up f (Some bytes ∷ rest)) s →
       Tells asks h.deeds
   request_taken s h f bytes asks rest is read has = subst (λ (z : Happened). Tells asks z.deeds) (sym is) (go (s.accesses i).connection has)
     where

@@ -12,7 +12,7 @@ use Rattle.plant_text.specs.declared.line.LineEvent.TheVariants as line
 use Rattle.plant_text.specs.declared.settings.ElementRow.{ElementRow}
 use Rattle.plant_text.specs.declared.settings.NetworkParts.{NetworkParts}
 use Rattle.plant_text.specs.Names.{insert_as, parent_as, same_as}
-use Rattle.plant_text.specs.Settings.{Line, elements_of, has_line, is_element, lines, row_of}
+use Rattle.plant_text.specs.Settings.{Adjacency, elements_of, has_adjacency, is_element, adjacencies, row_of}
 use Rattle.script_laws.specs.plant_model.declared.event.Event.{Event}
 use Rattle.script_laws.specs.plant_model.declared.event.Event.TheVariants as event
 use Rattle.script_laws.specs.plant_model.declared.outcome.Outcome.TheVariants.{Done}
@@ -35,7 +35,7 @@ use Rattle.script_laws.specs.plant_play.declared.going.Until.{Until}
 use Rattle.script_laws.specs.plant_play.declared.going.Until.TheVariants.{Finished, Settled}
 use Rattle.script_laws.specs.plant_play.declared.showing.Modes.{Modes}
 use Rattle.script_laws.specs.plant_play.Due.{AreAllDue, AreDue, IsDue, IsDueTake}
-use Rattle.script_laws.specs.plant_play.Playing.{Changes, Cue, IsNewStage, Plays, PlaysDue, PlaysFeed, PlaysFeedAt, PlaysLine, PlaysNone, PlaysOne, Stage}
+use Rattle.script_laws.specs.plant_play.Playing.{Changes, Cue, IsNewNetwork, Plays, PlaysDue, PlaysFeed, PlaysFeedAt, PlaysLine, PlaysNone, PlaysOne, PlayedNetwork}
 use Rattle.script_laws.specs.plant_play.Scripts.{AllPlayed}
 use Rattle.script_laws.specs.plant_play.Turns.{Turn, entries_of}
 use Rattle.script_laws.proofs.plant_laws.Runs.Queues.{same_as_is}
@@ -89,7 +89,7 @@ module _ (m : Modes) (n : NetworkParts) where
     | inr other ↦ but i other
   ]
 
-module _ (number : ℕ) (old : Stage) (taken : AreTaken old.state) (answer : Answered) (turns : List Turn) (told : List ℕ) (end : Plant) where
+module _ (number : ℕ) (old : PlayedNetwork) (taken : AreTaken old.state) (answer : Answered) (turns : List Turn) (told : List ℕ) (end : Plant) where
   one_keeps : (e : Event) → Keeps old.network e → PlaysOne number old e answer turns told end → AreTaken end
   one_keeps e keeps p =
       let h = happened_at old.modes old.network p.turn in
@@ -141,15 +141,15 @@ module _ (number : ℕ) (old : Stage) (taken : AreTaken old.state) (answer : Ans
   plays_keep line.CertifyOn file p = none_keeps (Ok Done) p
   plays_keep line.DiscloseOn file p = none_keeps (Ok Done) p
 
-line_keeps : (old : Stage) (c : Cue) (answer : Answered) (turns : List Turn) (told : List ℕ) (new : Stage) → PlaysLine old c answer turns told new → AreTaken old.state → AreTaken new.state
+line_keeps : (old : PlayedNetwork) (c : Cue) (answer : Answered) (turns : List Turn) (told : List ℕ) (new : PlayedNetwork) → PlaysLine old c answer turns told new → AreTaken old.state → AreTaken new.state
 line_keeps old c answer turns told new p taken = plays_keep c.number old taken answer turns told new.state c.event c.file p.plays
 
-pub lines_keep : (cs : List Cue) (old : Stage) (turns : List Turn) (told : List ℕ) (new : Stage) → AllPlayed old cs turns told new → AreTaken old.state → AreTaken new.state
-lines_keep [] old turns told new p taken = subst (λ (x : Stage). AreTaken x.state) (sym p.2) taken
+pub lines_keep : (cs : List Cue) (old : PlayedNetwork) (turns : List Turn) (told : List ℕ) (new : PlayedNetwork) → AllPlayed old cs turns told new → AreTaken old.state → AreTaken new.state
+lines_keep [] old turns told new p taken = subst (λ (x : PlayedNetwork). AreTaken x.state) (sym p.2) taken
 lines_keep (c ∷ cs) old turns told new p taken = lines_keep cs p.mid p.later p.more new p.others (line_keeps old c p.answer p.first p.said p.mid p.plays taken)
 
 -- a new network has no connection
-pub new_is_taken : (n : NetworkParts) (new : Stage) → IsNewStage n new → AreTaken new.state
+pub new_is_taken : (n : NetworkParts) (new : PlayedNetwork) → IsNewNetwork n new → AreTaken new.state
 new_is_taken n new is i = subst HasEmptyInbox (sym (no_connection i None (new.state.accesses i).connection refl (run_fits wire n [] new.state is.run i))) tt
 
 pub lines_take_all : LinesTakeAll
@@ -165,7 +165,7 @@ module _ (queues : As → As → List Bytes) where
   abbrev IsCarried : As × As → Type 0
   IsCarried q = not (is_empty (queues q.0 q.1)) ≡ false
 
-  along : (xs : List Line) → All IsCarried (ways xs) → (a b : As) → has_line a b xs ≡ true → queues a b ≡ []
+  along : (xs : List Adjacency) → All IsCarried (ways xs) → (a b : As) → has_adjacency a b xs ≡ true → queues a b ≡ []
   along [] all a b linked = (let clash : false ≡ true = linked in cc)
   along (x ∷ xs) all a b linked =
       here (along xs (All-tail IsCarried (x.upper, x.lower) (ways xs) (All-tail IsCarried (x.lower, x.upper) ((x.upper, x.lower) ∷ ways xs) all)) a b)
@@ -186,8 +186,8 @@ module _ (queues : As → As → List Bytes) where
       downward : same_as x.lower b ≡ true → same_as x.upper a ≡ true → queues a b ≡ []
       downward low up = subst (λ (z : As). queues z b ≡ []) (same_as_is x.upper a up) (subst (λ (z : As). queues x.upper z ≡ []) (same_as_is x.lower b low) down_empty)
 
-      here : (has_line a b xs ≡ true → queues a b ≡ []) → (p : Bool) → same_as x.lower a ≡ p → (q : Bool) → same_as x.upper b ≡ q → (r : Bool) → same_as x.lower b ≡ r → (t : Bool) → same_as x.upper a ≡ t →
-          cond (cond p q (cond r t false)) true (has_line a b xs) ≡ true → queues a b ≡ []
+      here : (has_adjacency a b xs ≡ true → queues a b ≡ []) → (p : Bool) → same_as x.lower a ≡ p → (q : Bool) → same_as x.upper b ≡ q → (r : Bool) → same_as x.lower b ≡ r → (t : Bool) → same_as x.upper a ≡ t →
+          cond (cond p q (cond r t false)) true (has_adjacency a b xs) ≡ true → queues a b ≡ []
       here rest true low true up r e t f linked' = upward low up
       here rest true low false up r e t f linked' = rest linked'
       here rest false low q up true e true f linked' = downward e f
@@ -270,16 +270,16 @@ module _ (n : NetworkParts) (s : Plant) (none : ready_jobs n s ≡ []) where
 -- ---- the law
 
 pub rests_at : (n : NetworkParts) (s : Plant) → AreTaken s → IsDue Finished n s None → IsAtRest n s
-rests_at n s taken over = record { taken = taken; carried = along s.queues (lines n) over.0; solved = none_solvable n s over.1 }
+rests_at n s taken over = record { taken = taken; carried = along s.queues (adjacencies n) over.0; solved = none_solvable n s over.1 }
 
 -- after a line that finishes
-pub finish_rests : (old : Stage) (c : Cue) (answer : Answered) (turns : List Turn) (told : List ℕ) (new : Stage) → c.event ≡ line.Finish → PlaysLine old c answer turns told new → AreTaken old.state → IsAtRest old.network new.state
+pub finish_rests : (old : PlayedNetwork) (c : Cue) (answer : Answered) (turns : List Turn) (told : List ℕ) (new : PlayedNetwork) → c.event ≡ line.Finish → PlaysLine old c answer turns told new → AreTaken old.state → IsAtRest old.network new.state
 finish_rests old c answer turns told new is p taken =
     let due : PlaysDue c.number old (IsDue Finished old.network) answer turns told new.state = subst (λ (e : LineEvent). Plays c.number old e c.file answer turns told new.state) is p.plays in
     rests_at old.network new.state (line_keeps old c answer turns told new p taken) due.all.over
 
-lines_network : (cs : List Cue) (old : Stage) (ts : List Turn) (said : List ℕ) (end : Stage) → AllPlayed old cs ts said end → end.network ≡ old.network
-lines_network [] old ts said end p = ap (λ (x : Stage). x.network) p.2
+lines_network : (cs : List Cue) (old : PlayedNetwork) (ts : List Turn) (said : List ℕ) (end : PlayedNetwork) → AllPlayed old cs ts said end → end.network ≡ old.network
+lines_network [] old ts said end p = ap (λ (x : PlayedNetwork). x.network) p.2
 lines_network (c ∷ cs) old ts said end p = lines_network cs p.mid p.later p.more end p.others ∙ p.plays.network
 
 pub finished_is_at_rest : FinishedIsAtRest
@@ -292,12 +292,12 @@ finished_is_at_rest n new mid end cues turns last told more c answer is played f
 module _ (files : Option Files) where
   abbrev Rests : List LineEvent → Type 0
   Rests es =
-      (cs : List Cue) → AreCues files es cs → (old new : Stage) (turns : List Turn) (told : List ℕ) → AllPlayed old cs turns told new → AreTaken old.state → IsAtRest old.network new.state
+      (cs : List Cue) → AreCues files es cs → (old new : PlayedNetwork) (turns : List Turn) (told : List ℕ) → AllPlayed old cs turns told new → AreTaken old.state → IsAtRest old.network new.state
 
   last_line : Rests (line.Finish ∷ [])
   last_line [] are old new turns told p taken = absurd are
   last_line (c ∷ []) are old new turns told p taken =
-      subst (λ (x : Stage). IsAtRest old.network x.state) (sym p.others.2) (finish_rests old c p.answer p.first p.said p.mid are.0.event p.plays taken)
+      subst (λ (x : PlayedNetwork). IsAtRest old.network x.state) (sym p.others.2) (finish_rests old c p.answer p.first p.said p.mid are.0.event p.plays taken)
   last_line (c ∷ c' ∷ cs) are old new turns told p taken = absurd are.1
 
   one_line : (e : LineEvent) (es : List LineEvent) → Rests es → Rests (e ∷ es)

@@ -10,12 +10,12 @@ use Rattle.pcep_session.specs.declared.session.Input.TheVariants as input
 use Rattle.pcep_session.specs.Table.{new_state}
 use Rattle.plant_text.specs.declared.settings.NetworkParts.{NetworkParts}
 use Rattle.plant_text.specs.Names.{parent_as}
-use Rattle.plant_text.specs.Settings.{is_element, is_linked, line, lines, peer_row}
+use Rattle.plant_text.specs.Settings.{is_element, is_linked, adjacency, adjacencies, peer_row}
 use Rattle.script_laws.specs.plant_model.declared.event.Event.{Event}
 use Rattle.script_laws.specs.plant_model.declared.event.Event.TheVariants as event
 use Rattle.script_laws.specs.plant_model.declared.outcome.Refused.TheVariants.{NoSuchPeer}
 use Rattle.script_laws.specs.plant_model.Blind.{is_accepted}
-use Rattle.script_laws.specs.plant_model.Deeds.{Going, element_of, fall, input_of, on_connection, our_offer, outside_input, read_as, tick_lines, tick_outside, with_access, with_element, with_inbox, with_parent}
+use Rattle.script_laws.specs.plant_model.Deeds.{Going, element_of, fall, input_of, on_connection, our_offer, outside_input, read_as, tick_adjacencies, tick_outside, with_access, with_element, with_inbox, with_parent}
 use Rattle.script_laws.specs.plant_model.Events as events
 use Rattle.script_laws.specs.plant_model.Events.{is_down}
 use Rattle.script_laws.specs.plant_model.Names.{set_pair}
@@ -77,20 +77,20 @@ module _ (n : NetworkParts) where
       go (x ∷ rest) =
           let g : Going Pin Segment = record { state = record s { queues = set_pair a b rest s.queues }; deeds = Pops a b ∷ [] } in
           let r : Grown s g = fading.sends Pin Segment wire n open_of Anything s a [] (start s) g.state (Pops a b) refl tt (begin s) in
-          (fading.inner_input_on Pin Segment wire n open_of Anything s (line a b) b a (input_of wire (Some x)) g r).fades
+          (fading.inner_input_on Pin Segment wire n open_of Anything s (adjacency a b) b a (input_of wire (Some x)) g r).fades
 
   break_fades : (a b : As) (s : Plant) → Fade s (events.break Pin Segment wire n open_of a b s)
-  break_fades a b s = pick s (is_linked n a b) _ _ (fading.break_line_on Pin Segment wire n open_of Anything s (line a b) (start s) (begin s)).fades (here s)
+  break_fades a b s = pick s (is_linked n a b) _ _ (fading.break_adjacency_on Pin Segment wire n open_of Anything s (adjacency a b) (start s) (begin s)).fades (here s)
 
   tick_fades : (t : Tick) (s : Plant) → Fade s (events.tick Pin Segment wire n open_of t.0 s)
   tick_fades t s =
       let now = events.later s.clock t.0 in
       let g : Going Pin Segment = record { state = record s { clock = now }; deeds = [] } in
       let h = tick_outside Pin Segment wire n open_of 0 n.peers (record { 0 = now }) g in
-      let k = tick_lines Pin Segment wire n open_of (lines n) (record { 0 = now }) h in
+      let k = tick_adjacencies Pin Segment wire n open_of (adjacencies n) (record { 0 = now }) h in
       let first : Grown s g = fading.rests Pin Segment wire n open_of Anything s (start s) g.state (here s) (begin s) in
       (fading.expire_on Pin Segment wire n open_of Anything s now k
-      (fading.tick_lines_on Pin Segment wire n open_of Anything s (lines n) (record { 0 = now }) h
+      (fading.tick_adjacencies_on Pin Segment wire n open_of Anything s (adjacencies n) (record { 0 = now }) h
       (fading.tick_outside_on Pin Segment wire n open_of Anything s 0 n.peers (record { 0 = now }) g first))).fades
 
   drain_fades : (j holder : ℕ) (s : Plant) → Fade s (events.drain Pin Segment wire n open_of j holder s)

@@ -9,7 +9,7 @@ use Rattle.script_laws.specs.plant_model.Laws.{IsNetwork}
 use Rattle.script_laws.specs.plant_model.Plant.{Entry, Run, deeds_of}
 use Rattle.script_laws.specs.plant_model.RealWire.{wire}
 use Rattle.script_laws.specs.plant_laws.About.{IsPathAnswer}
-use Rattle.script_laws.specs.plant_play.Playing.{Stage}
+use Rattle.script_laws.specs.plant_play.Playing.{PlayedNetwork}
 use Rattle.script_laws.specs.plant_play.Turns.{Turn, entries_of}
 use Rattle.script_laws.specs.Headline.{HasIdsLeft}
 use Rattle.plant_bulk.specs.plant_client.declared.hearing.Heard.{Heard}
@@ -47,6 +47,6 @@ pub record AreReceived (n : NetworkParts) (es : List Entry) (client : ℕ) (rece
 abbrev pub ManyAreReceived : Type 0
 ManyAreReceived =
     (files : Option Files) (n : NetworkParts) (client : ℕ) (questions : List Question) (received : List (List ℕ)) → IsNetwork n → IsClient n client →
-    (begun end : Stage) (b : Begins files n client begun) (turns : List Turn) → AsksAll files client questions begun received turns end →
+    (begun end : PlayedNetwork) (b : Begins files n client begun) (turns : List Turn) → AsksAll files client questions begun received turns end →
     Run wire n (entries_of (b.lines.turns ++ turns) []) end.state → HasIdsLeft n (entries_of (b.lines.turns ++ turns) []) →
     AreReceived n (entries_of (b.lines.turns ++ turns) []) client received

@@ -8,7 +8,7 @@ use Rattle.script_laws.specs.plant_model.Laws.{IsNetwork}
 use Rattle.script_laws.specs.plant_model.Plant.{Plant}
 use Rattle.script_laws.specs.plant_laws.Chains.{HasEmptyInbox, IsQuiet}
 use Rattle.script_laws.specs.plant_laws.Resting.{IsAtRest}
-use Rattle.script_laws.specs.plant_play.Playing.{Cue, IsNewStage, PlaysLine, Stage}
+use Rattle.script_laws.specs.plant_play.Playing.{Cue, IsNewNetwork, PlaysLine, PlayedNetwork}
 use Rattle.script_laws.specs.plant_play.Scripts.{AllPlayed}
 use Rattle.script_laws.specs.plant_play.Turns.{Turn}
 use Rattle.plant_bulk.specs.plant_client.declared.question.Question.{Question}
@@ -20,12 +20,12 @@ AreTaken s = (i : ℕ) → HasEmptyInbox (s.accesses i).connection
 
 -- Between the lines of a script all that was fed was taken.
 abbrev pub LinesTakeAll : Type 0
-LinesTakeAll = (n : NetworkParts) (new end : Stage) (cues : List Cue) (turns : List Turn) (told : List ℕ) → IsNewStage n new → AllPlayed new cues turns told end → AreTaken end.state
+LinesTakeAll = (n : NetworkParts) (new end : PlayedNetwork) (cues : List Cue) (turns : List Turn) (told : List ℕ) → IsNewNetwork n new → AllPlayed new cues turns told end → AreTaken end.state
 
 -- Where its last line is `finish`, the network is at rest.
 abbrev pub FinishedIsAtRest : Type 0
 FinishedIsAtRest =
-    (n : NetworkParts) (new mid end : Stage) (cues : List Cue) (turns last : List Turn) (told more : List ℕ) (c : Cue) (answer : Answered) → IsNewStage n new → AllPlayed new cues turns told mid
+    (n : NetworkParts) (new mid end : PlayedNetwork) (cues : List Cue) (turns last : List Turn) (told more : List ℕ) (c : Cue) (answer : Answered) → IsNewNetwork n new → AllPlayed new cues turns told mid
     → c.event ≡ line.Finish → PlaysLine mid c answer last more end → IsAtRest n end.state
 
 -- So it is at the end of the lines of a client that asks once, before what waits for it is handed out.

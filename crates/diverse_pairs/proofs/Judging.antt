@@ -16,7 +16,7 @@ use Rattle.diverse_pairs.specs.declared.verdict.PairVerdict.{PairVerdict}
 use Rattle.diverse_pairs.specs.declared.verdict.PairVerdict.TheVariants.{Holds, Fails}
 use Rattle.diverse_pairs.specs.Pairs.{IsPair}
 use Rattle.diverse_pairs.specs.Potentials.{potential_in}
-use Rattle.diverse_pairs.specs.Conditions.{Asked, LeadsAlong, TracesOver, ListHolds, PathHolds, LinkHoldsAt, LinkHolds, HasEnds, EndsHold, IsOnlyToLeave, HoldsAt, IsBefore, IsVerdict, ShowsLeast, Shows, fars_of}
+use Rattle.diverse_pairs.specs.Conditions.{Asked, LeadsAlong, TracesOver, ListHolds, PathHolds, LinkHoldsAt, LinkHolds, HasEnds, EndsHold, IsOnlyToLeave, HoldsAt, IsBefore, IsVerdict, ShowsLeast, AnswersPair, fars_of}
 use Rattle.diverse_pairs.specs.Steps.{IsFirstNot}
 use Rattle.diverse_pairs.proofs.Best.{least_pair}
 use Rattle.diverse_pairs.proofs.Cutting.{no_pair}
@@ -162,11 +162,11 @@ paths_show a p first second order paths links =
       least = least_pair a.topology a.query (potential_in p) a.source a.target walk.links back.links order pair at_links;
     }
 
-pub shown : (a : Asked) (form : PairForm) → IsInOrder a.topology → ((place : Place) → HoldsAt a form place) → Shows a form
+pub shown : (a : Asked) (form : PairForm) → IsInOrder a.topology → ((place : Place) → HoldsAt a form place) → AnswersPair a form
 shown a (Paths p first second) order holds = paths_show a p first second order (λ k. holds (Path k)) (λ i. holds (Link i))
 shown a (Cut nodes) order holds = no_pair a nodes (holds (Seed 0)) (λ both i. holds (Link i) both)
 
 -- so a verdict that says so
-pub verdict_shows : (a : Asked) (form : PairForm) (v : PairVerdict) → IsInOrder a.topology → IsVerdict a form v → v ≡ Holds → Shows a form
+pub verdict_shows : (a : Asked) (form : PairForm) (v : PairVerdict) → IsInOrder a.topology → IsVerdict a form v → v ≡ Holds → AnswersPair a form
 verdict_shows a form Holds order says is = shown a form order says
 verdict_shows a form (Fails place) order says is = absurd (let e : Fails place ≡ Holds = is in cc)

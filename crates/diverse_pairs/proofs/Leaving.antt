@@ -37,10 +37,10 @@ stay_told g q nodes i l starts at begins is = (
 )
 
 -- one of the first k links leaves
-abbrev pub Seen : Rows → Query → List Addr → ℕ → Type 0
-Seen g q nodes k = (j : ℕ) × (j < k) × Leaves g q nodes j
+abbrev pub LeavesBefore : Rows → Query → List Addr → ℕ → Type 0
+LeavesBefore g q nodes k = (j : ℕ) × (j < k) × Leaves g q nodes j
 
-pub skip_told : (g : Rows) (q : Query) (nodes : List Addr) (k : ℕ) (seen : Bool) → (IsTrue seen ↔ Seen g q nodes k) → ¬ Leaves g q nodes k → IsTrue seen ↔ Seen g q nodes (k + 1)
+pub skip_told : (g : Rows) (q : Query) (nodes : List Addr) (k : ℕ) (seen : Bool) → (IsTrue seen ↔ LeavesBefore g q nodes k) → ¬ Leaves g q nodes k → IsTrue seen ↔ LeavesBefore g q nodes (k + 1)
 skip_told g q nodes k seen told stays = (
   λ is. let has = told.0 is in (has.0, omega (arith, has.1), has.2),
   λ has. elim (cases_lt has.0 k) [
@@ -56,10 +56,10 @@ skip_only g q nodes k only stays i below j before earlier here =
       | inr ge ↦ let same : i ≡ k = omega arith in stays (subst (Leaves g q nodes) same here)
     ]
 
-pub take_told : (g : Rows) (q : Query) (nodes : List Addr) (k : ℕ) → Leaves g q nodes k → IsTrue true ↔ Seen g q nodes (k + 1)
+pub take_told : (g : Rows) (q : Query) (nodes : List Addr) (k : ℕ) → Leaves g q nodes k → IsTrue true ↔ LeavesBefore g q nodes (k + 1)
 take_told g q nodes k leaves = (λ yes. (k, omega arith, leaves), λ has. refl)
 
-pub take_only : (g : Rows) (q : Query) (nodes : List Addr) (k : ℕ) → ((i : ℕ) → i < k → IsOnlyToLeave g q nodes i) → ¬ Seen g q nodes k → (i : ℕ) → i < k + 1 → IsOnlyToLeave g q nodes i
+pub take_only : (g : Rows) (q : Query) (nodes : List Addr) (k : ℕ) → ((i : ℕ) → i < k → IsOnlyToLeave g q nodes i) → ¬ LeavesBefore g q nodes k → (i : ℕ) → i < k + 1 → IsOnlyToLeave g q nodes i
 take_only g q nodes k only none i below j before earlier here =
     elim (cases_lt i k) [
       | inl lt ↦ only i lt j before earlier here

@@ -131,6 +131,6 @@ pub record ShowsLeast (a : Asked) (first second : List Addr) : Type 0 where
   pub least : IsLeastPair a.topology a.query a.source a.target one other
 
 -- what a certificate shows: a least pair, or that there is none
-abbrev pub Shows : Asked → PairForm → Type 0
-Shows a (Paths potentials first second) = ShowsLeast a first second
-Shows a (Cut nodes) = HasNoPair a.topology a.query a.source a.target
+abbrev pub AnswersPair : Asked → PairForm → Type 0
+AnswersPair a (Paths potentials first second) = ShowsLeast a first second
+AnswersPair a (Cut nodes) = HasNoPair a.topology a.query a.source a.target

@@ -1,7 +1,7 @@
 //! The checker, which trusts nobody.
 ghost use Rattle.std.specs.Prelude.{◌≡◌};
 ghost use Rattle.te_links.specs.Rows.{IsTopology, IsInOrder};
-ghost use Rattle.diverse_pairs.specs.Conditions.{asked_of, IsVerdict, Shows};
+ghost use Rattle.diverse_pairs.specs.Conditions.{asked_of, IsVerdict, AnswersPair};
 ghost use Rattle.diverse_pairs.specs.Potentials.{HasRising, AreRising};
 
 use crate::certificate::{PairCertificate, PairForm};
@@ -79,7 +79,7 @@ pub fn check_pair(
 
     // Where the conditions hold, paths are a pair, and no pair has a smaller sum; with a cut there
     // is no pair.
-    ensures shows { result ≡ PairVerdict.Holds → Shows (asked_of topology.now query.now source target) certificate.now.form }
+    ensures shows { result ≡ PairVerdict.Holds → AnswersPair (asked_of topology.now query.now source target) certificate.now.form }
 {
     // A topology obeys the rules.
     let _own = topology.own();

@@ -14,7 +14,7 @@ use Rattle.pcep_session.specs.declared.actions.Own.{Own}
 use Rattle.pcep_session.specs.declared.actions.Own.TheVariants as own
 use Rattle.plant_text.specs.declared.settings.NetworkParts.{NetworkParts}
 use Rattle.plant_text.specs.Names.{same_as, parent_as}
-use Rattle.plant_text.specs.Settings.{class_of, Line, lines}
+use Rattle.plant_text.specs.Settings.{class_of, Adjacency, adjacencies}
 use Rattle.plant_laws.specs.plant_model.declared.event.Event.TheVariants as event
 use Rattle.plant_laws.specs.plant_model.declared.output.Output.{Output}
 use Rattle.plant_laws.specs.plant_model.Names.{set_pair}
@@ -61,7 +61,7 @@ own_quiet own.Keepalive ask = ask
 own_quiet (own.Error kind value) ask = ask
 own_quiet (own.Close why) ask = ask
 
-new_ways : (d : As) (xs : List Line) → WaysOk (ways_along d xs)
+new_ways : (d : As) (xs : List Adjacency) → WaysOk (ways_along d xs)
 new_ways d [] = tt
 new_ways d (x ∷ xs) = go (same_as x.lower d) (same_as x.upper d) (new_ways d xs)
   where
@@ -263,7 +263,7 @@ module _ (c : Codec) (codec : IsCodec c) (n : NetworkParts) where
     empty_less : (b : As) (q : List Bytes) → queue_heavy x y c b [] ≤ queue_heavy x y c b q
     empty_less b q = omega arith
 
-    clear_good : (z : Line) (s : Core) (ds : Transcript) → Good 0 ds s → Good 0 (Clears z.lower z.upper ∷ ds) (clear Pin Segment c n open_of z (record { state = s; deeds = [] })).state
+    clear_good : (z : Adjacency) (s : Core) (ds : Transcript) → Good 0 ds s → Good 0 (Clears z.lower z.upper ∷ ds) (clear Pin Segment c n open_of z (record { state = s; deeds = [] })).state
     clear_good z s ds h =
         let q = set_pair z.upper z.lower [] s.queues in
         let t = (clear Pin Segment c n open_of z (record { state = s; deeds = [] })).state in
@@ -356,7 +356,7 @@ module _ (c : Codec) (codec : IsCodec c) (n : NetworkParts) where
     bare_good : I [] (events.bare Pin Segment c n open_of first_pin)
     bare_good = λ prem. record {
       fair = λ a b. tt;
-      ways = λ d. ways_fit_all (inner_ways n d) (routes n d) (new_ways d (lines n));
+      ways = λ d. ways_fit_all (inner_ways n d) (routes n d) (new_ways d (adjacencies n));
       few = λ k. (let none = nothing k in omega (arith, none));
     }
       where

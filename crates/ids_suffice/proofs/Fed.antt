@@ -10,7 +10,7 @@ use Rattle.pcep_messages.specs.declared.message.Message.{Message}
 use Rattle.pcep_session.specs.declared.session.Input.TheVariants as input
 use Rattle.plant_text.specs.declared.settings.NetworkParts.{NetworkParts}
 use Rattle.plant_text.specs.Names.{parent_as}
-use Rattle.plant_text.specs.Settings.{line, lines, is_linked, is_element, peer_row}
+use Rattle.plant_text.specs.Settings.{adjacency, adjacencies, is_linked, is_element, peer_row}
 use Rattle.plant_laws.specs.plant_model.declared.event.Event.{Event}
 use Rattle.plant_laws.specs.plant_model.declared.event.Event.TheVariants as event
 use Rattle.plant_laws.specs.plant_model.declared.outcome.Outcome.TheVariants.{Done}
@@ -22,14 +22,14 @@ use Rattle.plant_laws.specs.plant_model.Solving.{commit}
 use Rattle.plant_laws.specs.plant_model.Parent as parent
 use Rattle.plant_laws.specs.plant_model.Settings.{place}
 use Rattle.plant_laws.specs.plant_model.State.{Connection, Access, Pops}
-use Rattle.plant_laws.specs.plant_model.Deeds.{Going, element_of, on_connection, with_inbox, input_of, with_parent, with_element, fall, break_line, tick_outside, tick_lines, with_access}
+use Rattle.plant_laws.specs.plant_model.Deeds.{Going, element_of, on_connection, with_inbox, input_of, with_parent, with_element, fall, break_adjacency, tick_outside, tick_adjacencies, with_access}
 use Rattle.plant_laws.specs.plant_model.Events as events
 use Rattle.plant_laws.specs.plant_model.Events.{split_all, bad_item, fed, drained, is_down}
 use Rattle.plant_laws.specs.plant_model.Plant.{Pin, Segment, first_pin, Plant, Happened, Entry, Run, deeds_of, is_full, Happens}
 use Rattle.ids_suffice.specs.Counting.{fed_by, fed_bytes, heard}
 use Rattle.ids_suffice.proofs.Below.{below, below_le, below_none, below_more, below_less, below_grows}
 use Rattle.ids_suffice.proofs.Putting.{Core}
-use Rattle.ids_suffice.proofs.Feeding.{some_count, unread, unread_at, heard_append, Under, set_kept, access_kept, puts_kept, fall_fine, outside_input_fine, break_line_fine, inner_input_fine, tick_outside_fine, tick_lines_fine, begin_lines_fine}
+use Rattle.ids_suffice.proofs.Feeding.{some_count, unread, unread_at, heard_append, Under, set_kept, access_kept, puts_kept, fall_fine, outside_input_fine, break_adjacency_fine, inner_input_fine, tick_outside_fine, tick_adjacencies_fine, begin_adjacencies_fine}
 
 -- ---- sums that go on
 
@@ -245,20 +245,20 @@ module _ (c : Codec) (codec : IsCodec c) (few : (frame : Bytes) → 1 ≤ length
         go [] = still s 0 _ refl refl
         go (x ∷ rest) =
             let g : Going Pin Segment = record { state = record s { queues = set_pair a b rest s.queues }; deeds = Pops a b ∷ [] } in
-            fine 0 _ (inner_input_fine c n (unread_at s) 0 (line a b) b a (input_of c (Some x)) g (under, omega arith))
+            fine 0 _ (inner_input_fine c n (unread_at s) 0 (adjacency a b) b a (input_of c (Some x)) g (under, omega arith))
 
     break_moves : (a b : As) → Moves s 0 (events.break Pin Segment c n open_of a b s)
     break_moves a b =
-        pick s 0 (is_linked n a b) (events.answered Pin Segment c n open_of Done (break_line Pin Segment c n open_of (line a b) Start)) (events.refused Pin Segment c n open_of NoSuchPeer s)
-        (fine 0 _ (break_line_fine c n (unread_at s) 0 (line a b) Start (under, omega arith))) (still s 0 _ refl refl)
+        pick s 0 (is_linked n a b) (events.answered Pin Segment c n open_of Done (break_adjacency Pin Segment c n open_of (adjacency a b) Start)) (events.refused Pin Segment c n open_of NoSuchPeer s)
+        (fine 0 _ (break_adjacency_fine c n (unread_at s) 0 (adjacency a b) Start (under, omega arith))) (still s 0 _ refl refl)
 
     tick_moves : (t : ℕ) → Moves s 0 (events.tick Pin Segment c n open_of t s)
     tick_moves t =
         let now = events.later s.clock t in
         let g : Going Pin Segment = record { state = record s { clock = now }; deeds = [] } in
         let outside = tick_outside Pin Segment c n open_of 0 n.peers (record { 0 = now }) g in
-        let after = tick_lines Pin Segment c n open_of (lines n) (record { 0 = now }) outside in
-        let y = tick_lines_fine c n (unread_at s) 0 (lines n) (record { 0 = now }) outside (tick_outside_fine c n (unread_at s) 0 0 n.peers (record { 0 = now }) g (under, omega arith)) in
+        let after = tick_adjacencies Pin Segment c n open_of (adjacencies n) (record { 0 = now }) outside in
+        let y = tick_adjacencies_fine c n (unread_at s) 0 (adjacencies n) (record { 0 = now }) outside (tick_outside_fine c n (unread_at s) 0 0 n.peers (record { 0 = now }) g (under, omega arith)) in
         fine 0 (events.tick Pin Segment c n open_of t s) (y.0, plain (heard after.deeds) y.1)
       where
         plain : (d : ℕ) → d ≤ 0 → 0 + d ≤ 0
@@ -306,7 +306,7 @@ module _ (c : Codec) (codec : IsCodec c) (few : (frame : Bytes) → 1 ≤ length
   begun : (s : Plant) → Run c n [] s → Counted [] s
   begun s is k =
       let b = events.bare Pin Segment c n open_of first_pin in
-      let y = begin_lines_fine c n (λ i. 0) 0 (lines n) (record { state = b; deeds = [] }) ((λ i. omega arith), omega arith) in
+      let y = begin_adjacencies_fine c n (λ i. 0) 0 (adjacencies n) (record { state = b; deeds = [] }) ((λ i. omega arith), omega arith) in
       plain (heard (deeds_of c n [])) (below (unread_at s) k) (below (λ i. 0) k) y.1
       (below_le (unread_at s) (λ i. 0) (subst (λ (t : Plant). (i : ℕ) → unread_at t i ≤ 0) (sym is) y.0) k) (below_none (λ i. 0) (λ i. refl) k)
     where

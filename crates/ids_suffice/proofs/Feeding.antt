@@ -16,7 +16,7 @@ use Rattle.pcep_session.specs.Table.{turn_of, new_state}
 use Rattle.plant_text.specs.declared.settings.NetworkParts.{NetworkParts}
 use Rattle.plant_text.specs.declared.settings.PeerRow.{PeerRow}
 use Rattle.plant_text.specs.Names.{same_as, parent_as}
-use Rattle.plant_text.specs.Settings.{Line, class_of}
+use Rattle.plant_text.specs.Settings.{Adjacency, class_of}
 use Rattle.plant_laws.specs.plant_model.declared.output.Output.{Output}
 use Rattle.plant_laws.specs.plant_model.Names.{is_empty, set_number}
 use Rattle.plant_laws.specs.plant_model.Wire.{Bytes, Codec}
@@ -25,7 +25,7 @@ use Rattle.plant_laws.specs.plant_model.Taking.{take}
 use Rattle.plant_laws.specs.plant_model.Parent as parent
 use Rattle.plant_laws.specs.plant_model.Settings.{place, family}
 use Rattle.plant_laws.specs.plant_model.State.{Connection, Access, Takes, Ups, Downs}
-use Rattle.plant_laws.specs.plant_model.Deeds.{Going, element_of, is_due, is_tick, is_out_empty, any_fall, our_offer, on_connection, with_more, with_session, with_inbox, with_parent, with_element, put, put_to, puts, give, rise, fall, say, clear, outside_act, outside_acts, outside_step, outside_input, inner_act, inner_acts, inner_input, begin_end, begin_line, break_line, tick_outside, tick_lines, with_access, with_inner}
+use Rattle.plant_laws.specs.plant_model.Deeds.{Going, element_of, is_due, is_tick, is_out_empty, any_fall, our_offer, on_connection, with_more, with_session, with_inbox, with_parent, with_element, put, put_to, puts, give, rise, fall, say, clear, outside_act, outside_acts, outside_step, outside_input, inner_act, inner_acts, inner_input, begin_end, begin_adjacency, break_adjacency, tick_outside, tick_adjacencies, with_access, with_inner}
 use Rattle.plant_laws.specs.plant_model.Outside.{heeded}
 use Rattle.plant_laws.specs.plant_model.Events as events
 use Rattle.plant_laws.specs.plant_model.Plant.{Pin, Segment, PlantDeed}
@@ -216,21 +216,21 @@ module _ (c : Codec) (n : NetworkParts) where
         let t = turn_of (new_state (our_offer sid) (record { 0 = g.state.clock })) input.Begin in
         inner_fine h at b false t.actions (record { state = with_inner Pin Segment c n open_of at b t.next g.state; deeds = g.deeds }) fine
 
-    begin_line_fine : (h sid : ℕ) (x : Line) (g : Move) → Fine h g → Fine h (begin_line Pin Segment c n open_of sid x g)
-    begin_line_fine h sid x g fine = begin_end_fine h sid x.upper x.lower (begin_end Pin Segment c n open_of sid x.lower x.upper g) (begin_end_fine h sid x.lower x.upper g fine)
+    begin_adjacency_fine : (h sid : ℕ) (x : Adjacency) (g : Move) → Fine h g → Fine h (begin_adjacency Pin Segment c n open_of sid x g)
+    begin_adjacency_fine h sid x g fine = begin_end_fine h sid x.upper x.lower (begin_end Pin Segment c n open_of sid x.lower x.upper g) (begin_end_fine h sid x.lower x.upper g fine)
 
-    pub break_line_fine : (h : ℕ) (x : Line) (g : Move) → Fine h g → Fine h (break_line Pin Segment c n open_of x g)
-    break_line_fine h x g fine =
+    pub break_adjacency_fine : (h : ℕ) (x : Adjacency) (g : Move) → Fine h g → Fine h (break_adjacency Pin Segment c n open_of x g)
+    break_adjacency_fine h x g fine =
         let one = fall Pin Segment c n open_of x.lower (Inner x.upper) g in
         let two = fall Pin Segment c n open_of x.upper (Inner x.lower) one in
         let fine' : Fine h two = fall_fine h x.upper (Inner x.lower) one (fall_fine h x.lower (Inner x.upper) g fine) in
-        begin_line_fine h (((g.state.sessions x.lower x.upper).offer.sid + 1) % 256) x (clear Pin Segment c n open_of x two) (fine'.0, nothing h (heard two.deeds) fine'.1)
+        begin_adjacency_fine h (((g.state.sessions x.lower x.upper).offer.sid + 1) % 256) x (clear Pin Segment c n open_of x two) (fine'.0, nothing h (heard two.deeds) fine'.1)
 
-    pub inner_input_fine : (h : ℕ) (x : Line) (at b : As) (y : Input) (g : Move) → Fine h g → Fine h (inner_input Pin Segment c n open_of x at b y g)
+    pub inner_input_fine : (h : ℕ) (x : Adjacency) (at b : As) (y : Input) (g : Move) → Fine h g → Fine h (inner_input Pin Segment c n open_of x at b y g)
     inner_input_fine h x at b y g fine =
         let t = turn_of (g.state.sessions at b) y in
         let g' : Move = record { state = with_inner Pin Segment c n open_of at b t.next g.state; deeds = g.deeds } in
-        pick h (any_fall t.actions) (break_line Pin Segment c n open_of x g) (inner_acts Pin Segment c n open_of at b (is_tick y) t.actions g') (break_line_fine h x g fine) (inner_fine h at b (is_tick y) t.actions g' fine)
+        pick h (any_fall t.actions) (break_adjacency Pin Segment c n open_of x g) (inner_acts Pin Segment c n open_of at b (is_tick y) t.actions g') (break_adjacency_fine h x g fine) (inner_fine h at b (is_tick y) t.actions g' fine)
 
     pub tick_outside_fine : (h i : ℕ) (rs : List PeerRow) (now : Tick) (g : Move) → Fine h g → Fine h (tick_outside Pin Segment c n open_of i rs now g)
     tick_outside_fine h i [] now g fine = fine
@@ -238,13 +238,13 @@ module _ (c : Codec) (n : NetworkParts) where
         tick_outside_fine h (i + 1) rs now (outside_input Pin Segment c n open_of i (input.Tick now) g)
         (same_fine h (outside_input Pin Segment c n open_of i (input.Tick now) g) (outside_input_fine h 0 i (input.Tick now) g (λ m e. absurd (let other : input.Tick now ≡ input.Got m = e in cc)) fine))
 
-    pub tick_lines_fine : (h : ℕ) (xs : List Line) (now : Tick) (g : Move) → Fine h g → Fine h (tick_lines Pin Segment c n open_of xs now g)
-    tick_lines_fine h [] now g fine = fine
-    tick_lines_fine h (x ∷ xs) now g fine =
+    pub tick_adjacencies_fine : (h : ℕ) (xs : List Adjacency) (now : Tick) (g : Move) → Fine h g → Fine h (tick_adjacencies Pin Segment c n open_of xs now g)
+    tick_adjacencies_fine h [] now g fine = fine
+    tick_adjacencies_fine h (x ∷ xs) now g fine =
         let g' = inner_input Pin Segment c n open_of x x.lower x.upper (input.Tick now) g in
-        tick_lines_fine h xs now (inner_input Pin Segment c n open_of x x.upper x.lower (input.Tick now) g')
+        tick_adjacencies_fine h xs now (inner_input Pin Segment c n open_of x x.upper x.lower (input.Tick now) g')
         (inner_input_fine h x x.upper x.lower (input.Tick now) g' (inner_input_fine h x x.lower x.upper (input.Tick now) g fine))
 
-    pub begin_lines_fine : (h : ℕ) (xs : List Line) (g : Move) → Fine h g → Fine h (events.begin_lines Pin Segment c n open_of xs g)
-    begin_lines_fine h [] g fine = fine
-    begin_lines_fine h (x ∷ xs) g fine = begin_lines_fine h xs (begin_line Pin Segment c n open_of 0 x g) (begin_line_fine h 0 x g fine)
+    pub begin_adjacencies_fine : (h : ℕ) (xs : List Adjacency) (g : Move) → Fine h g → Fine h (events.begin_adjacencies Pin Segment c n open_of xs g)
+    begin_adjacencies_fine h [] g fine = fine
+    begin_adjacencies_fine h (x ∷ xs) g fine = begin_adjacencies_fine h xs (begin_adjacency Pin Segment c n open_of 0 x g) (begin_adjacency_fine h 0 x g fine)

@@ -28,16 +28,16 @@ use Rattle.plant_laws.specs.plant_model.Wire.{Codec, Checked, Admitted, Wrong}
 use Rattle.plant_laws.specs.plant_model.Writing.{reply_message, error_message, unavailable}
 use Rattle.plant_laws.specs.plant_model.Taking.{error_answer}
 use Rattle.plant_laws.specs.plant_model.BorderGraph.{Found}
-use Rattle.plant_laws.specs.plant_model.Parent.{Parent, Family, Given, AskingRow, each, errands, ask_all, all_waits, all_up, take, take_asked, take_checked, take_new, take_wish, take_path, take_reply, take_found, take_answer, take_notice, notice_steps, take_busy, take_cancel, told_busy, cancelled, take_report, take_errors, take_failure, told_error, only, waiting, commit}
+use Rattle.plant_laws.specs.plant_model.Parent.{Parent, Family, ParentTaken, AskingRow, each, errands, ask_all, all_waits, all_up, take, take_asked, take_checked, take_new, take_wish, take_path, take_reply, take_found, take_answer, take_notice, notice_steps, take_busy, take_cancel, told_busy, cancelled, take_report, take_errors, take_failure, told_error, only, waiting, commit}
 use Rattle.plant_laws.proofs.Numbering.Sends.{NoneAsks}
 use Rattle.plant_laws.proofs.Numbering.Onward.{none_append}
 use Rattle.ids_suffice.specs.Counting.{HasNoParent}
 
-pick : (b : Bool) (t u : Given) → NoneAsks t.outputs → NoneAsks u.outputs → NoneAsks (cond b t u).outputs
+pick : (b : Bool) (t u : ParentTaken) → NoneAsks t.outputs → NoneAsks u.outputs → NoneAsks (cond b t u).outputs
 pick true t u x y = x
 pick false t u x y = y
 
-each_none : {X : Type 0} (f : X → Parent → Given) → ((x : X) (k : Parent) → NoneAsks (f x k).outputs) → (xs : List X) (k : Parent) → NoneAsks (each f xs k).outputs
+each_none : {X : Type 0} (f : X → Parent → ParentTaken) → ((x : X) (k : Parent) → NoneAsks (f x k).outputs) → (xs : List X) (k : Parent) → NoneAsks (each f xs k).outputs
 each_none f one [] k = tt
 each_none f one (x ∷ xs) k = none_append (f x k).outputs (each f xs (f x k).parent).outputs (one x k) (each_none f one xs (f x k).parent)
 
@@ -81,7 +81,7 @@ module _ (c : Codec) (f : Family) (p : Peer) where
   cancel_none k (Some number) = tt
 
   abbrev Step : Type 0
-  Step = Peer → ℕ × ℕ → Parent → Given
+  Step = Peer → ℕ × ℕ → Parent → ParentTaken
 
   steps_none : (kinds : List (ℕ × ℕ)) (rp : ℕ × ℕ) (k : Parent) → NoneAsks (each (λ (step : Step). step p rp) (notice_steps kinds) k).outputs
   steps_none kinds rp k = go (has_pair notices.BUSY.0 notices.BUSY.1 kinds) (has_pair notices.CANCELLED.0 notices.CANCELLED.1 kinds)

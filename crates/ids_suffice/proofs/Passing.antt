@@ -25,7 +25,7 @@ use Rattle.plant_laws.specs.plant_model.Names.{the_parent}
 use Rattle.plant_laws.specs.plant_model.Wire.{Bytes, Codec, Checked, Admitted, Wrong}
 use Rattle.plant_laws.specs.plant_model.Laws.{IsCodec, IsSequence, Admits, IsRequestInRange, CanBeSent}
 use Rattle.plant_laws.specs.plant_model.Writing.{asked_of, request_message}
-use Rattle.plant_laws.specs.plant_model.Element.{Element, Place, Taken, fresh_id, is_waiting}
+use Rattle.plant_laws.specs.plant_model.Element.{Element, ElementSettings, Taken, fresh_id, is_waiting}
 use Rattle.plant_laws.specs.plant_model.Routes.{toward}
 use Rattle.plant_laws.specs.plant_model.Taking.{take, sequence_or}
 use Rattle.plant_laws.specs.plant_model.Plant.{Pin, Segment}
@@ -230,7 +230,7 @@ module _ (x y : As) (c : Codec) (codec : IsCodec c) (n : NetworkParts) where
 
   -- ---- an element
 
-  module _ (own : As) (real : same_as own parent_as ≡ false) (e : Place) (is_own : e.own ≡ own) (pin : Pin) (p : Peer) (class : Class) (now : ℕ) (k : Element Pin Segment) (ok : WaysOk k.ways) where
+  module _ (own : As) (real : same_as own parent_as ≡ false) (e : ElementSettings) (is_own : e.own ≡ own) (pin : Pin) (p : Peer) (class : Class) (now : ℕ) (k : Element Pin Segment) (ok : WaysOk k.ways) where
     abbrev After : Message → Taken Pin Segment
     After m = take c open_of e pin p class now m k
 

@@ -19,7 +19,7 @@ use Rattle.vspt_tree.specs.declared.branch.Branch.{Branch}
 use Rattle.plant_text.specs.declared.settings.NetworkParts.{NetworkParts}
 use Rattle.plant_text.specs.declared.settings.PeerRow.{PeerRow}
 use Rattle.plant_text.specs.Names.{same_as, parent_as}
-use Rattle.plant_text.specs.Settings.{Line, class_of}
+use Rattle.plant_text.specs.Settings.{Adjacency, class_of}
 use Rattle.plant_model.specs.declared.output.Output.{Output}
 use Rattle.plant_model.specs.Names.{is_empty}
 use Rattle.plant_model.specs.Settings.{place, family}
@@ -31,7 +31,7 @@ use Rattle.plant_model.specs.Solving as solving
 use Rattle.plant_model.specs.Parent as parent
 use Rattle.plant_model.specs.BorderGraph.{Found}
 use Rattle.plant_model.specs.State.{State, Connection}
-use Rattle.plant_model.specs.Deeds.{Going, element_of, is_due, is_tick, is_out_empty, any_fall, our_offer, with_session, with_inbox, own_message, put_to, put, puts, with_element, with_parent, with_access, with_inner, give, rise, fall, say, clear, expire, solve, solve_upper, outside_act, outside_acts, outside_step, outside_input, inner_act, inner_acts, inner_input, begin_end, begin_line, break_line, tick_outside, tick_lines}
+use Rattle.plant_model.specs.Deeds.{Going, element_of, is_due, is_tick, is_out_empty, any_fall, our_offer, with_session, with_inbox, own_message, put_to, put, puts, with_element, with_parent, with_access, with_inner, give, rise, fall, say, clear, expire, solve, solve_upper, outside_act, outside_acts, outside_step, outside_input, inner_act, inner_acts, inner_input, begin_end, begin_adjacency, break_adjacency, tick_outside, tick_adjacencies}
 use Rattle.plant_model.specs.Outside.{heeded}
 use Rattle.jobs_last.specs.Lasting.{KeysInTime, can_solve}
 use Rattle.jobs_last.proofs.Tables.{Becomes, still, and_then}
@@ -194,33 +194,33 @@ module _ (P : Type 0) (S : Type 0) (c : Codec) (n : NetworkParts) (show : S → 
         let t = with_inner P S c n show at b r.next g.state in
         inner_acts_last at b false r.actions (record { state = t; deeds = g.deeds }) (rest_lasts g.state t refl refl (le_refl g.state.clock) h)
 
-    pub begin_line_lasts : (sid : ℕ) (x : Line) (g : Going P S) → Kept g → Kept (begin_line P S c n show sid x g)
-    begin_line_lasts sid x g h = begin_end_lasts sid x.upper x.lower (begin_end P S c n show sid x.lower x.upper g) (begin_end_lasts sid x.lower x.upper g h)
+    pub begin_adjacency_lasts : (sid : ℕ) (x : Adjacency) (g : Going P S) → Kept g → Kept (begin_adjacency P S c n show sid x g)
+    begin_adjacency_lasts sid x g h = begin_end_lasts sid x.upper x.lower (begin_end P S c n show sid x.lower x.upper g) (begin_end_lasts sid x.lower x.upper g h)
 
-    pub break_line_lasts : (x : Line) (g : Going P S) → Kept g → Kept (break_line P S c n show x g)
-    break_line_lasts x g h =
+    pub break_adjacency_lasts : (x : Adjacency) (g : Going P S) → Kept g → Kept (break_adjacency P S c n show x g)
+    break_adjacency_lasts x g h =
         let sid = ((g.state.sessions x.lower x.upper).offer.sid + 1) % 256 in
         let f = fall P S c n show x.lower (Inner x.upper) g in
         let k = fall P S c n show x.upper (Inner x.lower) f in
         let e = clear P S c n show x k in
-        begin_line_lasts sid x e (rest_lasts k.state e.state refl refl (le_refl k.state.clock) (fall_lasts x.upper (Inner x.lower) f (fall_lasts x.lower (Inner x.upper) g h)))
+        begin_adjacency_lasts sid x e (rest_lasts k.state e.state refl refl (le_refl k.state.clock) (fall_lasts x.upper (Inner x.lower) f (fall_lasts x.lower (Inner x.upper) g h)))
 
-    pub inner_input_lasts : (x : Line) (at b : As) (y : Input) (g : Going P S) → Kept g → Kept (inner_input P S c n show x at b y g)
+    pub inner_input_lasts : (x : Adjacency) (at b : As) (y : Input) (g : Going P S) → Kept g → Kept (inner_input P S c n show x at b y g)
     inner_input_lasts x at b y g h =
         let r = turn_of (g.state.sessions at b) y in
         let t = with_inner P S c n show at b r.next g.state in
-        pick (any_fall r.actions) (break_line P S c n show x g) (inner_acts P S c n show at b (is_tick y) r.actions (record { state = t; deeds = g.deeds }))
-        (break_line_lasts x g h) (inner_acts_last at b (is_tick y) r.actions (record { state = t; deeds = g.deeds }) (rest_lasts g.state t refl refl (le_refl g.state.clock) h))
+        pick (any_fall r.actions) (break_adjacency P S c n show x g) (inner_acts P S c n show at b (is_tick y) r.actions (record { state = t; deeds = g.deeds }))
+        (break_adjacency_lasts x g h) (inner_acts_last at b (is_tick y) r.actions (record { state = t; deeds = g.deeds }) (rest_lasts g.state t refl refl (le_refl g.state.clock) h))
 
     pub tick_outside_lasts : (i : ℕ) (rs : List PeerRow) (now : Tick) (g : Going P S) → Kept g → Kept (tick_outside P S c n show i rs now g)
     tick_outside_lasts i [] now g h = h
     tick_outside_lasts i (r ∷ rs) now g h = tick_outside_lasts (i + 1) rs now (outside_input P S c n show i (input.Tick now) g) (outside_input_lasts i (input.Tick now) g h)
 
-    pub tick_lines_last : (xs : List Line) (now : Tick) (g : Going P S) → Kept g → Kept (tick_lines P S c n show xs now g)
-    tick_lines_last [] now g h = h
-    tick_lines_last (x ∷ xs) now g h =
+    pub tick_adjacencies_last : (xs : List Adjacency) (now : Tick) (g : Going P S) → Kept g → Kept (tick_adjacencies P S c n show xs now g)
+    tick_adjacencies_last [] now g h = h
+    tick_adjacencies_last (x ∷ xs) now g h =
         let k = inner_input P S c n show x x.lower x.upper (input.Tick now) g in
-        tick_lines_last xs now (inner_input P S c n show x x.upper x.lower (input.Tick now) k)
+        tick_adjacencies_last xs now (inner_input P S c n show x x.upper x.lower (input.Tick now) k)
         (inner_input_lasts x x.upper x.lower (input.Tick now) k (inner_input_lasts x x.lower x.upper (input.Tick now) g h))
 
   -- ---- solves

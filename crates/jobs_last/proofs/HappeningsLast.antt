@@ -7,7 +7,7 @@ use Rattle.dom_base.specs.declared.names.Peer.TheVariants.{Outside}
 use Rattle.pcep_session.specs.declared.session.Input.TheVariants as input
 use Rattle.pcep_subobjects.specs.declared.hop.Hop.{Hop}
 use Rattle.plant_text.specs.declared.settings.NetworkParts.{NetworkParts}
-use Rattle.plant_text.specs.Settings.{Line, line, lines, is_linked, peer_row}
+use Rattle.plant_text.specs.Settings.{Adjacency, adjacency, adjacencies, is_linked, peer_row}
 use Rattle.plant_model.specs.Wire.{Bytes, Codec}
 use Rattle.plant_model.specs.Names.{set_pair}
 use Rattle.plant_model.specs.State.{State, Connection, Pops}
@@ -16,7 +16,7 @@ use Rattle.plant_model.specs.Deeds.{Going, element_of, input_of, with_inbox}
 use Rattle.plant_model.specs.Events as events
 use Rattle.plant_model.specs.Events.{Happened, is_down}
 use Rattle.jobs_last.specs.Lasting.{AreInOrder, JobsLast, KeysInTime}
-use Rattle.jobs_last.proofs.DeedsLast.{Lasts, stands, then_lasts, rest_lasts, fall_lasts, outside_input_lasts, inner_input_lasts, begin_line_lasts, break_line_lasts, tick_outside_lasts, tick_lines_last, expire_lasts}
+use Rattle.jobs_last.proofs.DeedsLast.{Lasts, stands, then_lasts, rest_lasts, fall_lasts, outside_input_lasts, inner_input_lasts, begin_adjacency_lasts, break_adjacency_lasts, tick_outside_lasts, tick_adjacencies_last, expire_lasts}
 
 module _ {P : Type 0} {S : Type 0} where
   abbrev pub Did : State P S → Happened P S → Type 0
@@ -96,10 +96,10 @@ module _ (P : Type 0) (S : Type 0) (c : Codec) (n : NetworkParts) (show : S → 
       go [] = stands s
       go (x ∷ rest) =
           let g : Moves = record { state = record s { queues = set_pair a b rest s.queues }; deeds = Pops a b ∷ [] } in
-          inner_input_lasts P S c n show s (line a b) b a (input_of c (Some x)) g (rest_lasts P S c n show s s g.state refl refl (le_refl s.clock) (stands s))
+          inner_input_lasts P S c n show s (adjacency a b) b a (input_of c (Some x)) g (rest_lasts P S c n show s s g.state refl refl (le_refl s.clock) (stands s))
 
   pub break_did : (a b : As) (s : State P S) → Did s (events.break P S c n show a b s)
-  break_did a b s = pick s (is_linked n a b) _ _ (break_line_lasts P S c n show s (line a b) (from s) (stands s)) (stands s)
+  break_did a b s = pick s (is_linked n a b) _ _ (break_adjacency_lasts P S c n show s (adjacency a b) (from s) (stands s)) (stands s)
 
   is_later : (now t : ℕ) → now ≤ events.later now t
   is_later now t = elim (cases_Bool (nat_lt now t)) [
@@ -112,9 +112,9 @@ module _ (P : Type 0) (S : Type 0) (c : Codec) (n : NetworkParts) (show : S → 
       let now = events.later s.clock t in
       let u : State P S = record s { clock = now } in
       let h = deeds.tick_outside P S c n show 0 n.peers (record { 0 = now }) (from u) in
-      let k = deeds.tick_lines P S c n show (lines n) (record { 0 = now }) h in
+      let k = deeds.tick_adjacencies P S c n show (adjacencies n) (record { 0 = now }) h in
       let on : Lasts u k.state =
-      tick_lines_last P S c n show u (lines n) (record { 0 = now }) h
+      tick_adjacencies_last P S c n show u (adjacencies n) (record { 0 = now }) h
       (tick_outside_lasts P S c n show u 0 n.peers (record { 0 = now }) (from u) (stands u)) in
       then_lasts s u (deeds.expire P S c n show now k).state
       (rest_lasts P S c n show s s u refl refl (is_later s.clock t) (stands s)) (expire_lasts P S c n show u now k on.clock on)
@@ -130,14 +130,14 @@ module _ (P : Type 0) (S : Type 0) (c : Codec) (n : NetworkParts) (show : S → 
 
   -- ---- the beginning
 
-  pub begun : (xs : List Line) (s : State P S) (g : Moves) → Lasts s g.state → Lasts s (events.begin_lines P S c n show xs g).state
+  pub begun : (xs : List Adjacency) (s : State P S) (g : Moves) → Lasts s g.state → Lasts s (events.begin_adjacencies P S c n show xs g).state
   begun [] s g h = h
-  begun (x ∷ xs) s g h = begun xs s (deeds.begin_line P S c n show 0 x g) (begin_line_lasts P S c n show s 0 x g h)
+  begun (x ∷ xs) s g h = begun xs s (deeds.begin_adjacency P S c n show 0 x g) (begin_adjacency_lasts P S c n show s 0 x g h)
 
   pub opened_in_order : (first : As → P) → AreInOrder (events.opening P S c n show first).state
   opened_in_order first =
       let b = events.bare P S c n show first in
-      in_order b (events.opening P S c n show first).state (record { elements = λ d. omega arith; parent = omega arith }) (begun (lines n) b (from b) (stands b))
+      in_order b (events.opening P S c n show first).state (record { elements = λ d. omega arith; parent = omega arith }) (begun (adjacencies n) b (from b) (stands b))
 
   pub opened_in_time : (first : As → P) → KeysInTime (events.opening P S c n show first).state
-  opened_in_time first = let b = events.bare P S c n show first in (begun (lines n) b (from b) (stands b)).keys (λ d. le_refl 0)
+  opened_in_time first = let b = events.bare P S c n show first in (begun (adjacencies n) b (from b) (stands b)).keys (λ d. le_refl 0)

@@ -22,24 +22,24 @@ use Rattle.plant_model.specs.Writing.{reply_message, unavailable, busy}
 use Rattle.plant_model.specs.Branches.{branches_in}
 use Rattle.plant_model.specs.Taking.{error_answer}
 use Rattle.plant_model.specs.BorderGraph.{Found}
-use Rattle.plant_model.specs.Parent.{Wait, Asking, AskingRow, Parent, Family, Given, each, among, all_waits, all_up, errands, ask_all, waiting, gathered, gathers, answered, ended, take_path, take_wish, take_new, take_checked, take_asked, take_answer, take_found, take_reply, told_busy, cancelled, take_busy, take_cancel, notice_steps, take_notice, told_error, take_failure, take_errors, take_report, take, is_ready, stays, upped, downed, commit}
+use Rattle.plant_model.specs.Parent.{Wait, Asking, AskingRow, Parent, Family, ParentTaken, each, among, all_waits, all_up, errands, ask_all, waiting, gathered, gathers, answered, ended, take_path, take_wish, take_new, take_checked, take_asked, take_answer, take_found, take_reply, told_busy, cancelled, take_busy, take_cancel, notice_steps, take_notice, told_error, take_failure, take_errors, take_report, take, is_ready, stays, upped, downed, commit}
 use Rattle.jobs_last.proofs.Tables.{In, Becomes, still, and_then, closed, opened, filtered, written}
 
 abbrev pub Lasts : Parent → Parent → Type 0
 Lasts k t = Becomes is_ready k.pending t.pending
 
-abbrev After : Parent → Given → Type 0
+abbrev After : Parent → ParentTaken → Type 0
 After k t = Lasts k t.parent
 
 stands : (k : Parent) → Lasts k k
 stands k = still is_ready k.pending
 
-pick : (k : Parent) (b : Bool) (t u : Given) → After k t → After k u → After k (cond b t u)
+pick : (k : Parent) (b : Bool) (t u : ParentTaken) → After k t → After k u → After k (cond b t u)
 pick k true t u h i = h
 pick k false t u h i = i
 
 -- each of a list in turn
-each_lasts : {X : Type 0} (f : X → Parent → Given) → ((x : X) (k : Parent) → After k (f x k)) → (xs : List X) (k : Parent) → After k (each f xs k)
+each_lasts : {X : Type 0} (f : X → Parent → ParentTaken) → ((x : X) (k : Parent) → After k (f x k)) → (xs : List X) (k : Parent) → After k (each f xs k)
 each_lasts f one [] k = stands k
 each_lasts f one (x ∷ xs) k =
     let first = f x k in
@@ -105,10 +105,10 @@ cancel_lasts p rp k = go (number_of k.pending p rp.1)
     go None = stands k
     go (Some number) = ended_lasts number k
 
-steps_last : (p : Peer) (rp : ℕ × ℕ) (kinds : List (ℕ × ℕ)) (k : Parent) → After k (each (λ (step : Peer → ℕ × ℕ → Parent → Given). step p rp) (notice_steps kinds) k)
+steps_last : (p : Peer) (rp : ℕ × ℕ) (kinds : List (ℕ × ℕ)) (k : Parent) → After k (each (λ (step : Peer → ℕ × ℕ → Parent → ParentTaken). step p rp) (notice_steps kinds) k)
 steps_last p rp kinds k = go (has_pair notices.BUSY.0 notices.BUSY.1 kinds) (has_pair notices.CANCELLED.0 notices.CANCELLED.1 kinds)
   where
-    go : (b a : Bool) → After k (each (λ (step : Peer → ℕ × ℕ → Parent → Given). step p rp) (cond b (cond a (take_busy ∷ take_cancel ∷ []) (take_busy ∷ [])) (cond a (take_cancel ∷ []) [])) k)
+    go : (b a : Bool) → After k (each (λ (step : Peer → ℕ × ℕ → Parent → ParentTaken). step p rp) (cond b (cond a (take_busy ∷ take_cancel ∷ []) (take_busy ∷ [])) (cond a (take_cancel ∷ []) [])) k)
     go true true =
         let told = (take_busy p rp k).parent in
         and_then is_ready k.pending told.pending (take_cancel p rp told).parent.pending (busy_lasts p rp k) (cancel_lasts p rp told)
@@ -160,7 +160,7 @@ pub take_lasts : (c : Codec) (f : Family) (p : Peer) (m : Message) (k : Parent) 
 take_lasts c f p (messages.PcReq asks) k = each_lasts (take_asked c f p) (asked_lasts c f p) asks k
 take_lasts c f p (messages.PcRep replies) k = each_lasts (take_reply c p) (reply_lasts c p) replies k
 take_lasts c f p (messages.PcNtf notices') k =
-    each_lasts (take_notice p) (λ r k'. each_lasts (λ (rp : ℕ × ℕ). each (λ (step : Peer → ℕ × ℕ → Parent → Given). step p rp) (notice_steps r.kinds)) (λ rp k''. steps_last p rp r.kinds k'') r.ids k') notices' k
+    each_lasts (take_notice p) (λ r k'. each_lasts (λ (rp : ℕ × ℕ). each (λ (step : Peer → ℕ × ℕ → Parent → ParentTaken). step p rp) (notice_steps r.kinds)) (λ rp k''. steps_last p rp r.kinds k'') r.ids k') notices' k
 take_lasts c f p (messages.PcErr reports) k = each_lasts (take_report p) (λ r k'. errors_last p r.ids r.errors k') reports k
 take_lasts c f p (messages.Open body) k = stands k
 take_lasts c f p messages.Keepalive k = stands k

@@ -7,7 +7,7 @@ use Rattle.pcep_subobjects.specs.declared.hop.Hop.{Hop}
 use Rattle.pcep_messages.specs.declared.message.Message.{Message}
 use Rattle.plant_text.specs.declared.settings.NetworkParts.{NetworkParts}
 use Rattle.plant_text.specs.Names.{same_as, parent_as}
-use Rattle.plant_text.specs.Settings.{is_element, class_of, lines, has_line}
+use Rattle.plant_text.specs.Settings.{is_element, class_of, adjacencies, has_adjacency}
 use Rattle.plant_model.specs.declared.output.Output.{Output}
 use Rattle.plant_model.specs.declared.output.Lost.{Lost}
 use Rattle.plant_model.specs.Names.{set_as}
@@ -43,7 +43,7 @@ is_member n at = cond (same_as at parent_as) (is_some n.parent) (is_element n at
 -- Outside peers are those of elements, and links are between members.
 pub record AreJoined (n : NetworkParts) : Type 0 where
   pub peers : (i : ℕ) → i < length n.peers → is_member n (element_of n i) ≡ true
-  pub links : (a b : As) → has_line a b (lines n) ≡ true → is_member n a ≡ true
+  pub links : (a b : As) → has_adjacency a b (adjacencies n) ≡ true → is_member n a ≡ true
 
 module _ {P : Type 0} {S : Type 0} where
   abbrev pub with_element : As → Element P S → Membership P S → Membership P S

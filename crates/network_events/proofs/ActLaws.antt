@@ -194,7 +194,7 @@ module _ {P : Type 0} {S : Type 0} (show : S → List Hop) (n : NetworkParts) (m
   goes_access i h f out = record {
     network = refl;
     lost = λ none. none;
-    lines = refl;
+    adjacencies = refl;
     peers = refl;
     room = access_accounts i h f out;
     goes = λ g is. record { state = ap (deeds.with_access P S wire n show i h) is.state; said = is.said };

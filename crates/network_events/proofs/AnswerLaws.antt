@@ -152,6 +152,6 @@ module _ {P : Type 0} {S : Type 0} (n : NetworkParts) (at : As) (os : List Outpu
       let same = cleared_is start made cleared grows clears in
       let keeps = puts_keep letters cleared in
       record {
-        lines_are = ap (λ (f : Flow). f.lines) puts.kept ∙ keeps.1 ∙ ap (λ (f : Flow). f.lines) same ∙ of.lines_are;
+        adjacencies_are = ap (λ (f : Flow). f.adjacencies) puts.kept ∙ keeps.1 ∙ ap (λ (f : Flow). f.adjacencies) same ∙ of.adjacencies_are;
         peers_are = ap (λ (f : Flow). f.peers) puts.kept ∙ keeps.2 ∙ ap (λ (f : Flow). f.peers) same ∙ of.peers_are;
       }

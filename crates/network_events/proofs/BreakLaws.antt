@@ -9,7 +9,7 @@ use Rattle.request_table.specs.Pending.{same_peer}
 use Rattle.plant_queues.specs.declared.sent.Sent.{Sent}
 use Rattle.plant_queues.specs.Messages.{Covers, total}
 use Rattle.plant_queues.specs.Sents.{sent_of, size_of}
-use Rattle.plant_text.specs.Settings.{Line}
+use Rattle.plant_text.specs.Settings.{Adjacency}
 use Rattle.plant_text.specs.declared.settings.NetworkParts.{NetworkParts}
 use Rattle.plant_text.specs.Names.{same_as}
 use Rattle.member_trait.specs.plant_model.declared.output.Lost.{Lost}
@@ -166,22 +166,22 @@ module _ {P : Type 0} {S : Type 0} (show : S → List Hop) where
       Goes (λ n. deeds.fall P S wire n show l (Inner u)) (here_of n0 m0 l0 f0) (here_of n1 m1 l1 f1) →
       Goes (λ n. deeds.fall P S wire n show u (Inner l)) (here_of n1 m1 l1 f1) (here_of n2 m2 l2 f2) →
       Clears l u f2 f3 → Begins l u sid f3 f4 → Begins u l sid f4 f5 →
-      Goes (λ n. deeds.break_line P S wire n show (record { lower = l; upper = u })) (here_of n0 m0 l0 f0) (here_of n2 m2 l2 f5)
+      Goes (λ n. deeds.break_adjacency P S wire n show (record { lower = l; upper = u })) (here_of n0 m0 l0 f0) (here_of n2 m2 l2 f5)
   break_goes l u sid n0 n1 n2 m0 m1 m2 l0 l1 l2 f0 f1 f2 f3 f4 f5 sid_is below above clears lower upper =
-      let line : Line = record { lower = l; upper = u } in
+      let adjacency : Adjacency = record { lower = l; upper = u } in
       let two = goes_then (λ n. deeds.fall P S wire n show l (Inner u)) (λ n. deeds.fall P S wire n show u (Inner l)) (here_of n0 m0 l0 f0) (here_of n1 m1 l1 f1) (here_of n2 m2 l2 f2) below above in
-      let three = goes_then (λ n g. deeds.fall P S wire n show u (Inner l) (deeds.fall P S wire n show l (Inner u) g)) (λ n. deeds.clear P S wire n show line) (here_of n0 m0 l0 f0) (here_of n2 m2 l2 f2) (here_of n2 m2 l2 f3) two (goes_clear show n2 m2 l2 l u f2 f3 clears) in
-      let four = goes_then (λ n g. deeds.clear P S wire n show line (deeds.fall P S wire n show u (Inner l) (deeds.fall P S wire n show l (Inner u) g))) (λ n. deeds.begin_end P S wire n show sid l u)
+      let three = goes_then (λ n g. deeds.fall P S wire n show u (Inner l) (deeds.fall P S wire n show l (Inner u) g)) (λ n. deeds.clear P S wire n show adjacency) (here_of n0 m0 l0 f0) (here_of n2 m2 l2 f2) (here_of n2 m2 l2 f3) two (goes_clear show n2 m2 l2 l u f2 f3 clears) in
+      let four = goes_then (λ n g. deeds.clear P S wire n show adjacency (deeds.fall P S wire n show u (Inner l) (deeds.fall P S wire n show l (Inner u) g))) (λ n. deeds.begin_end P S wire n show sid l u)
       (here_of n0 m0 l0 f0) (here_of n2 m2 l2 f3) (here_of n2 m2 l2 f4) three (goes_begin show n2 m2 l2 l u sid f3 f4 lower) in
-      let five = goes_then (λ n g. deeds.begin_end P S wire n show sid l u (deeds.clear P S wire n show line (deeds.fall P S wire n show u (Inner l) (deeds.fall P S wire n show l (Inner u) g)))) (λ n. deeds.begin_end P S wire n show sid u l)
+      let five = goes_then (λ n g. deeds.begin_end P S wire n show sid l u (deeds.clear P S wire n show adjacency (deeds.fall P S wire n show u (Inner l) (deeds.fall P S wire n show l (Inner u) g)))) (λ n. deeds.begin_end P S wire n show sid u l)
       (here_of n0 m0 l0 f0) (here_of n2 m2 l2 f4) (here_of n2 m2 l2 f5) four (goes_begin show n2 m2 l2 u l sid f4 f5 upper) in
       record {
         network = five.network;
         lost = five.lost;
-        lines = five.lines;
+        adjacencies = five.adjacencies;
         peers = five.peers;
         room = five.room;
-        goes = λ g is. subst (λ (k : ℕ). IsAt (deeds.begin_line P S wire n0 show k line (deeds.clear P S wire n0 show line (deeds.fall P S wire n0 show u (Inner l) (deeds.fall P S wire n0 show l (Inner u) g)))) m2 f5)
+        goes = λ g is. subst (λ (k : ℕ). IsAt (deeds.begin_adjacency P S wire n0 show k adjacency (deeds.clear P S wire n0 show adjacency (deeds.fall P S wire n0 show u (Inner l) (deeds.fall P S wire n0 show l (Inner u) g)))) m2 f5)
             (sid_is ∙ ap (λ (s : State P S). next_sid (s.sessions l u)) is.state) (five.goes g is);
       }
 

@@ -6,7 +6,7 @@ use Rattle.dom_base.specs.declared.names.Peer.{Peer}
 use Rattle.dom_base.specs.declared.names.Peer.TheVariants.{Outside, Inner}
 use Rattle.pcep_subobjects.specs.declared.hop.Hop.{Hop}
 use Rattle.plant_text.specs.declared.settings.NetworkParts.{NetworkParts}
-use Rattle.plant_text.specs.Settings.{line, is_linked}
+use Rattle.plant_text.specs.Settings.{adjacency, is_linked}
 use Rattle.member_trait.specs.plant_model.declared.outcome.Outcome.TheVariants.{Done}
 use Rattle.member_trait.specs.plant_model.declared.outcome.Refused.TheVariants.{NoSuchPeer}
 use Rattle.member_trait.specs.plant_model.declared.output.Lost.{Lost}
@@ -36,7 +36,7 @@ module _ {P : Type 0} {S : Type 0} (show : S → List Hop) (n : NetworkParts) wh
   carry_none a b ms f miss = rw miss (record { answer = refl; state = refl; said = tt })
 
   pub break_done : (a b : As) (m : NetworkParts) (ms ms' : Membership P S) (lost lost' : As → List Lost) (f f1 f' : Flow) → is_linked n a b ≡ true → ClearsSaid f f1 →
-      Goes (λ k. deeds.break_line P S wire k show (line a b)) (here_of n ms lost f1) (here_of m ms' lost' f') → IsDone (events.break P S wire n show a b (state_of ms f)) (Ok Done) ms' f'
+      Goes (λ k. deeds.break_adjacency P S wire k show (adjacency a b)) (here_of n ms lost f1) (here_of m ms' lost' f') → IsDone (events.break P S wire n show a b (state_of ms f)) (Ok Done) ms' f'
   break_done a b m ms ms' lost lost' f f1 f' hit clears goes =
       let at = goes.goes (events.idle P S wire n show (state_of ms f)) (begins_at ms f f1 clears) in
       rw hit (record { answer = refl; state = at.state; said = at.said })
@@ -90,7 +90,7 @@ module _ {P : Type 0} {S : Type 0} (show : S → List Hop) (n : NetworkParts) wh
   goes_expire now n' ms ms' lost lost' f same_n same_ms same_lost = record {
     network = same_n;
     lost = λ none a. ap (λ (l : As → List Lost). l a) same_lost ∙ none a;
-    lines = refl;
+    adjacencies = refl;
     peers = refl;
     room = accounts_same f;
     goes = λ g is. record {

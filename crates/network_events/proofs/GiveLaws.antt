@@ -88,7 +88,7 @@ goes_give show n n' ms mid ms' lost lost' at p m letters f f' same_n same_lost s
     record {
       network = same_n;
       lost = λ none a. ap (λ (ls : As → List Lost). ls a) same_lost ∙ none a;
-      lines = ap (λ (x : Flow). x.lines) puts.kept ∙ keeps.1;
+      adjacencies = ap (λ (x : Flow). x.adjacencies) puts.kept ∙ keeps.1;
       peers = ap (λ (x : Flow). x.peers) puts.kept ∙ keeps.2;
       room = puts.room;
       goes = λ g is. subst (λ (x : Membership _ _). IsAt (deeds.give _ _ wire n show at p m g) x f') next (gives show n ms at p m f f' puts' g is);

@@ -232,23 +232,23 @@ puts_accounts at to m old new puts =
 pub said_none : (ss : List Sent) (more : List Sent) → more ≡ [] → ss ≡ ss ++ more
 said_none ss more e = sym (append-nil ss) ∙ ap (λ (x : List Sent). ss ++ x) (sym e)
 
-lines_put : (at : As) (to : Peer) (m : Bytes) (f f' : Flow) → SameFlow (put_flow at to m f) f' → (f'.lines ≡ f.lines) × (f'.peers ≡ f.peers)
-lines_put at (Outside i) m f f' same = (ap (λ (x : Flow). x.lines) same, ap (λ (x : Flow). x.peers) same)
-lines_put at (Inner b) m f f' same = (ap (λ (x : Flow). x.lines) same, ap (λ (x : Flow). x.peers) same)
+adjacencies_put : (at : As) (to : Peer) (m : Bytes) (f f' : Flow) → SameFlow (put_flow at to m f) f' → (f'.adjacencies ≡ f.adjacencies) × (f'.peers ≡ f.peers)
+adjacencies_put at (Outside i) m f f' same = (ap (λ (x : Flow). x.adjacencies) same, ap (λ (x : Flow). x.peers) same)
+adjacencies_put at (Inner b) m f f' same = (ap (λ (x : Flow). x.adjacencies) same, ap (λ (x : Flow). x.peers) same)
 
 module _ {P : Type 0} {S : Type 0} where
   pub goes_then : (f h : NetworkParts → Going P S → Going P S) (a b c : Here P S) → Goes f a b → Goes h b c → Goes (λ n g. h n (f n g)) a c
   goes_then f h a b c x y = record {
     network = y.network ∙ x.network;
     lost = λ none. y.lost (x.lost none);
-    lines = y.lines ∙ x.lines;
+    adjacencies = y.adjacencies ∙ x.adjacencies;
     peers = y.peers ∙ x.peers;
     room = accounts_then a.flow b.flow c.flow x.room y.room;
     goes = λ g is. subst (λ (n : NetworkParts). IsAt (h n (f a.network g)) c.seen c.flow) x.network (y.goes (f a.network g) (x.goes g is));
   }
 
   pub goes_same : (a : Here P S) → Goes (λ n g. g) a a
-  goes_same a = record { network = refl; lost = λ none. none; lines = refl; peers = refl; room = accounts_same a.flow; goes = λ g is. is }
+  goes_same a = record { network = refl; lost = λ none. none; adjacencies = refl; peers = refl; room = accounts_same a.flow; goes = λ g is. is }
 
   module _ (n : NetworkParts) (show : S → List Hop) where
     state_put : (at : As) (to : Peer) (m : Bytes) (ms : Membership P S) (f f' : Flow) → SameFlow (put_flow at to m f) f' → state_of ms f' ≡ deeds.put_to P S wire n show at m (state_of ms f) to
@@ -259,12 +259,12 @@ module _ {P : Type 0} {S : Type 0} where
   pub goes_say : (show : S → List Hop) (n : NetworkParts) (ms : Membership P S) (lost : As → List Lost) (at : As) (to : Peer) (o : Own) (f f' : Flow) → Puts at to (own_bytes o) f f' →
       Goes (λ k. deeds.say P S wire k show at to o) (here_of n ms lost f) (here_of n ms lost f')
   goes_say show n ms lost at to o f f' puts =
-      let lines = lines_put at to (own_bytes o) f f' puts.kept in
+      let adjacencies = adjacencies_put at to (own_bytes o) f f' puts.kept in
       record {
         network = refl;
         lost = λ none. none;
-        lines = lines.0;
-        peers = lines.1;
+        adjacencies = adjacencies.0;
+        peers = adjacencies.1;
         room = puts_accounts at to (own_bytes o) f f' puts;
         goes = λ g is. record {
           state = state_put n show at to (own_bytes o) ms f f' puts.kept ∙ ap (λ (s : State P S). deeds.put_to P S wire n show at (own_bytes o) s to) is.state;
@@ -278,7 +278,7 @@ module _ {P : Type 0} {S : Type 0} where
   goes_rise show n ms lost at p f = record {
     network = refl;
     lost = λ none. none;
-    lines = refl;
+    adjacencies = refl;
     peers = refl;
     room = accounts_same f;
     goes = λ g is. elim (cases_Bool (same_as at parent_as)) [
@@ -292,7 +292,7 @@ module _ {P : Type 0} {S : Type 0} where
   goes_as f h a b same x = record {
     network = x.network;
     lost = x.lost;
-    lines = x.lines;
+    adjacencies = x.adjacencies;
     peers = x.peers;
     room = x.room;
     goes = λ g is. subst (λ (y : Going P S). IsAt y b.seen b.flow) (same g is) (x.goes g is);

@@ -11,7 +11,7 @@ use Rattle.pcep_session.specs.declared.state.State.{State as Session}
 use Rattle.pcep_session.specs.Table.{turn_of}
 use Rattle.plant_queues.specs.Messages.{Spare, Covers}
 use Rattle.plant_text.specs.declared.settings.NetworkParts.{NetworkParts}
-use Rattle.plant_text.specs.Settings.{line}
+use Rattle.plant_text.specs.Settings.{adjacency}
 use Rattle.member_trait.specs.plant_model.declared.output.Lost.{Lost}
 use Rattle.member_trait.specs.plant_model.RealWire.{wire}
 use Rattle.member_trait.specs.plant_model.State.{State, Connection}
@@ -79,12 +79,12 @@ module _ {P : Type 0} {S : Type 0} (show : S → List Hop) (n : NetworkParts) (m
       Goes (λ k. break_at P S k show at to) (here_of n ms lost f) after → Goes (λ k. input_at P S k show at to x) (here_of n ms lost f) after
   input_breaks at (Outside i) s as' after there asks breaks = cc
   input_breaks at (Inner b) s as' after there asks breaks =
-      goes_as (λ k. deeds.break_line P S wire k show (line b at)) (λ k. deeds.inner_input P S wire k show (line b at) at b x) (here_of n ms lost f) after
+      goes_as (λ k. deeds.break_adjacency P S wire k show (adjacency b at)) (λ k. deeds.inner_input P S wire k show (adjacency b at) at b x) (here_of n ms lost f) after
       (λ g is.
       let acts = λ (q : Session). deeds.inner_acts P S wire n show at b (is_tick x) (turn_of q x).actions (record { state = deeds.with_inner P S wire n show at b (turn_of q x).next g.state; deeds = g.deeds }) in
       let falls : any_fall (turn_of (g.state.sessions at b) x).actions ≡ true =
       ap (λ (q : State P S). any_fall (turn_of (q.sessions at b) x).actions) (sym is.state) ∙ ap (λ (q : Session). any_fall (turn_of q x).actions) (some_is (f.sessions at b) s there) ∙ ap any_fall (sym asks) ∙ breaks in
-      sym (ap (λ (c : Bool). cond c (deeds.break_line P S wire n show (line b at) g) (acts (g.state.sessions at b))) falls))
+      sym (ap (λ (c : Bool). cond c (deeds.break_adjacency P S wire n show (adjacency b at) g) (acts (g.state.sessions at b))) falls))
 
   -- an input after which it stays
   outside_stays : (i : ℕ) (s : Session) (after : Here P S) → session_at (element_of n i) (Outside i) f ≡ Some s →
@@ -105,15 +105,15 @@ module _ {P : Type 0} {S : Type 0} (show : S → List Hop) (n : NetworkParts) (m
 
   inner_stays : (at b : As) (after : Here P S) → any_fall (turn_of (f.sessions at b) x).actions ≡ false →
       Goes (λ k. acts_at P S k show at (Inner b) (is_tick x) (turn_of (f.sessions at b) x).actions) (here_of n ms lost (set_session at b (turn_of (f.sessions at b) x).next f)) after →
-      Goes (λ k. deeds.inner_input P S wire k show (line b at) at b x) (here_of n ms lost f) after
+      Goes (λ k. deeds.inner_input P S wire k show (adjacency b at) at b x) (here_of n ms lost f) after
   inner_stays at b after calm acts =
       let t = turn_of (f.sessions at b) x in
       let set : NetworkParts → Going P S → Going P S = λ k g. record { state = deeds.with_inner P S wire k show at b t.next g.state; deeds = g.deeds } in
       let acting : NetworkParts → Going P S → Going P S = λ k. acts_at P S k show at (Inner b) (is_tick x) t.actions in
-      goes_as (λ k g. acting k (set k g)) (λ k. deeds.inner_input P S wire k show (line b at) at b x) (here_of n ms lost f) after
+      goes_as (λ k g. acting k (set k g)) (λ k. deeds.inner_input P S wire k show (adjacency b at) at b x) (here_of n ms lost f) after
       (λ g is. acts_inner show n (is_tick x) at b t.actions (set n g)
-      ∙ sym (ap (λ (c : Bool). cond c (deeds.break_line P S wire n show (line b at) g) (deeds.inner_acts P S wire n show at b (is_tick x) t.actions (set n g))) calm)
-      ∙ ap (λ (q : Session). cond (any_fall (turn_of q x).actions) (deeds.break_line P S wire n show (line b at) g)
+      ∙ sym (ap (λ (c : Bool). cond c (deeds.break_adjacency P S wire n show (adjacency b at) g) (deeds.inner_acts P S wire n show at b (is_tick x) t.actions (set n g))) calm)
+      ∙ ap (λ (q : Session). cond (any_fall (turn_of q x).actions) (deeds.break_adjacency P S wire n show (adjacency b at) g)
       (deeds.inner_acts P S wire n show at b (is_tick x) (turn_of q x).actions (record { state = deeds.with_inner P S wire n show at b (turn_of q x).next g.state; deeds = g.deeds }))) (ap (λ (q : State P S). q.sessions at b) is.state))
       (goes_then set acting (here_of n ms lost f) (here_of n ms lost (set_session at b t.next f)) after (goes_session show n ms lost at b t.next f) acts)
 

@@ -81,7 +81,7 @@ put_room : (at : As) (to : Peer) (m : Bytes) (f : Flow) (r : Room) → put_flow 
 put_room at (Outside i) m f r = refl
 put_room at (Inner b) m f r = refl
 
-put_keeps : (at : As) (to : Peer) (m : Bytes) (f : Flow) → ((put_flow at to m f).room ≡ f.room) × ((put_flow at to m f).lines ≡ f.lines) × ((put_flow at to m f).peers ≡ f.peers)
+put_keeps : (at : As) (to : Peer) (m : Bytes) (f : Flow) → ((put_flow at to m f).room ≡ f.room) × ((put_flow at to m f).adjacencies ≡ f.adjacencies) × ((put_flow at to m f).peers ≡ f.peers)
 put_keeps at (Outside i) m f = (refl, refl, refl)
 put_keeps at (Inner b) m f = (refl, refl, refl)
 
@@ -90,7 +90,7 @@ puts_room : (ss : List Sent) (f : Flow) (r : Room) → put_all ss (record f { ro
 puts_room [] f r = refl
 puts_room (s ∷ ss) f r = ap (put_all ss) (put_room s.from s.to s.bytes f r) ∙ puts_room ss (put_flow s.from s.to s.bytes f) r
 
-pub puts_keep : (ss : List Sent) (f : Flow) → ((put_all ss f).room ≡ f.room) × ((put_all ss f).lines ≡ f.lines) × ((put_all ss f).peers ≡ f.peers)
+pub puts_keep : (ss : List Sent) (f : Flow) → ((put_all ss f).room ≡ f.room) × ((put_all ss f).adjacencies ≡ f.adjacencies) × ((put_all ss f).peers ≡ f.peers)
 puts_keep [] f = (refl, refl, refl)
 puts_keep (s ∷ ss) f =
     let rest = puts_keep ss (put_flow s.from s.to s.bytes f) in
@@ -226,8 +226,8 @@ module _ {P : Type 0} {S : Type 0} (n : NetworkParts) (at : As) (p : Peer) (more
   words_grown : (a b : Flow) → OnlyGrows a b → CoversWords n (length letters) (total size_of letters) more ms a → CoversWords n (length letters) (total size_of letters) more ms b
   words_grown a b x covers =
       let peers : b.peers ≡ a.peers = ap (λ (f : Flow). f.peers) x.same in
-      let lines : length b.lines ≡ length a.lines = ap (λ (f : Flow). length f.lines) x.same in
-      record { messages = omega (arith, covers.messages, x.said.messages, peers, lines); bytes = omega (arith, covers.bytes, x.said.bytes, peers, lines) }
+      let adjacencies : length b.adjacencies ≡ length a.adjacencies = ap (λ (f : Flow). length f.adjacencies) x.same in
+      record { messages = omega (arith, covers.messages, x.said.messages, peers, adjacencies); bytes = omega (arith, covers.bytes, x.said.bytes, peers, adjacencies) }
 
   pub keeps_start : (start a b : Flow) (messages bytes : ℕ) → messages ≡ length letters → bytes ≡ total size_of letters → OnlyGrows start a → OnlyGrows a b → KeepsForLetters at p messages bytes more ms a →
       CoversWords n messages bytes more ms b → KeepsOn n at p more letters 0 ms start b

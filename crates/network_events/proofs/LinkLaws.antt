@@ -155,7 +155,7 @@ module _ {P : Type 0} {S : Type 0} (show : S → List Hop) (n : NetworkParts) (m
   goes_session at b s f = record {
     network = refl;
     lost = λ none. none;
-    lines = refl;
+    adjacencies = refl;
     peers = refl;
     room = session_accounts at b s f;
     goes = λ g is. record { state = ap (deeds.with_inner P S wire n show at b s) is.state; said = is.said };
@@ -170,7 +170,7 @@ module _ {P : Type 0} {S : Type 0} (show : S → List Hop) (n : NetworkParts) (m
       record {
         network = refl;
         lost = λ none. none;
-        lines = all.lines;
+        adjacencies = all.adjacencies;
         peers = all.peers;
         room = all.room;
         goes = λ g is. subst (λ (now : ℕ). IsAt (deeds.say P S wire n show at (Inner b) (own.Open (our_offer sid)) (record { state = deeds.with_inner P S wire n show at b (turn_of (new_state (our_offer sid) (record { 0 = now })) input.Begin).next g.state; deeds = g.deeds })) ms f')
@@ -182,7 +182,7 @@ module _ {P : Type 0} {S : Type 0} (show : S → List Hop) (n : NetworkParts) (m
   goes_clear a b f f' clears = record {
     network = refl;
     lost = λ none. none;
-    lines = ap (λ (x : Flow). x.lines) clears.kept;
+    adjacencies = ap (λ (x : Flow). x.adjacencies) clears.kept;
     peers = ap (λ (x : Flow). x.peers) clears.kept;
     room = clears_accounts a b f f' clears;
     goes = λ g is. record {

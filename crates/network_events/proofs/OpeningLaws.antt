@@ -10,7 +10,7 @@ use Rattle.plant_queues.specs.Messages.{total}
 use Rattle.plant_queues.specs.Sents.{size_of}
 use Rattle.plant_text.specs.declared.settings.NetworkParts.{NetworkParts}
 use Rattle.plant_text.specs.Names.{same_as, same_link}
-use Rattle.plant_text.specs.Settings.{Line, has_line, lines}
+use Rattle.plant_text.specs.Settings.{Adjacency, has_adjacency, adjacencies}
 use Rattle.member_trait.specs.plant_model.declared.output.Lost.{Lost}
 use Rattle.member_trait.specs.plant_model.Wire.{Bytes}
 use Rattle.member_trait.specs.plant_model.RealWire.{wire}
@@ -53,7 +53,7 @@ module _ {P : Type 0} {S : Type 0} (show : S → List Hop) (n : NetworkParts) (m
   goes_grown f f' x = record {
     network = refl;
     lost = λ none. none;
-    lines = ap (λ (g : Flow). g.lines) x.same;
+    adjacencies = ap (λ (g : Flow). g.adjacencies) x.same;
     peers = ap (λ (g : Flow). g.peers) x.same;
     room = grown_accounts f f' x;
     goes = λ g is. record { state = ap (state_of ms) x.same ∙ is.state; said = ap (λ (h : Flow). h.said) x.same ∙ is.said };
@@ -66,39 +66,39 @@ module _ {P : Type 0} {S : Type 0} (show : S → List Hop) (n : NetworkParts) (m
       let grown = goes_grown f f2 (grows_then f f1 f2 (grows_at at (Inner to) f f1 there) (grows_said f1 f2 said)) in
       goes_then (λ k g. g) (λ k. deeds.begin_end P S wire k show 0 at to) (here_of n ms lost f) (here_of n ms lost f2) (here_of n ms lost f3) grown (goes_begin show n ms lost at to 0 f2 f3 begins)
 
-  pub begin_more : (xs : List Line) (k : ℕ) (x : Line) (g : Going P S) → slice_get xs k ≡ Some x →
-      deeds.begin_line P S wire n show 0 x (events.begin_lines P S wire n show (take k xs) g) ≡ events.begin_lines P S wire n show (take (suc k) xs) g
+  pub begin_more : (xs : List Adjacency) (k : ℕ) (x : Adjacency) (g : Going P S) → slice_get xs k ≡ Some x →
+      deeds.begin_adjacency P S wire n show 0 x (events.begin_adjacencies P S wire n show (take k xs) g) ≡ events.begin_adjacencies P S wire n show (take (suc k) xs) g
   begin_more [] k x g is = absurd (let none : None ≡ Some x = is in cc)
   begin_more (y ∷ xs) zero x g is =
       let one : Some y ≡ Some x = is in
       let same : y ≡ x = cc in
-      ap (λ (z : Line). deeds.begin_line P S wire n show 0 z g) (sym same)
-  begin_more (y ∷ xs) (suc k) x g is = begin_more xs k x (deeds.begin_line P S wire n show 0 y g) is
+      ap (λ (z : Adjacency). deeds.begin_adjacency P S wire n show 0 z g) (sym same)
+  begin_more (y ∷ xs) (suc k) x g is = begin_more xs k x (deeds.begin_adjacency P S wire n show 0 y g) is
 
   -- it changes neither the clock nor an outside peer
-  pub begun_clock : (xs : List Line) (g : Going P S) → (events.begin_lines P S wire n show xs g).state.clock ≡ g.state.clock
+  pub begun_clock : (xs : List Adjacency) (g : Going P S) → (events.begin_adjacencies P S wire n show xs g).state.clock ≡ g.state.clock
   begun_clock [] g = refl
-  begun_clock (x ∷ xs) g = begun_clock xs (deeds.begin_line P S wire n show 0 x g)
+  begun_clock (x ∷ xs) g = begun_clock xs (deeds.begin_adjacency P S wire n show 0 x g)
 
-  pub begun_accesses : (xs : List Line) (g : Going P S) → (events.begin_lines P S wire n show xs g).state.accesses ≡ g.state.accesses
+  pub begun_accesses : (xs : List Adjacency) (g : Going P S) → (events.begin_adjacencies P S wire n show xs g).state.accesses ≡ g.state.accesses
   begun_accesses [] g = refl
-  begun_accesses (x ∷ xs) g = begun_accesses xs (deeds.begin_line P S wire n show 0 x g)
+  begun_accesses (x ∷ xs) g = begun_accesses xs (deeds.begin_adjacency P S wire n show 0 x g)
 
 -- ---- room that links keep
 
 -- both queues of the links so far keep room
 pub record KeptUpTo (k : ℕ) (start now : Flow) : Type 0 where
   pub grows : OnlyGrows start now
-  pub lower : (j : ℕ) (x : Line) → j < k → slice_get start.lines j ≡ Some x → KeepsRoomAt x.lower (Inner x.upper) 0 0 now
-  pub upper : (j : ℕ) (x : Line) → j < k → slice_get start.lines j ≡ Some x → KeepsRoomAt x.upper (Inner x.lower) 0 0 now
+  pub lower : (j : ℕ) (x : Adjacency) → j < k → slice_get start.adjacencies j ≡ Some x → KeepsRoomAt x.lower (Inner x.upper) 0 0 now
+  pub upper : (j : ℕ) (x : Adjacency) → j < k → slice_get start.adjacencies j ≡ Some x → KeepsRoomAt x.upper (Inner x.lower) 0 0 now
 
 -- one more link keeps it
-pub kept_more : (k : ℕ) (x : Line) (start now one two : Flow) → KeptUpTo k start now → slice_get start.lines k ≡ Some x →
+pub kept_more : (k : ℕ) (x : Adjacency) (start now one two : Flow) → KeptUpTo k start now → slice_get start.adjacencies k ≡ Some x →
     GrowsAt x.lower (Inner x.upper) now one → KeepsRoomAt x.lower (Inner x.upper) 0 0 one → GrowsAt x.upper (Inner x.lower) one two → KeepsRoomAt x.upper (Inner x.lower) 0 0 two → KeptUpTo (suc k) start two
 kept_more k x start now one two kept at first first_keeps second second_keeps = record {
   grows = grows_then start now two kept.grows on;
-  lower = λ j y below is. elim (split j below) [ inl less ↦ keeps_grown y.lower (Inner y.upper) 0 0 now two on (kept.lower j y less is) | inr same ↦ subst (λ (z : Line). KeepsRoomAt z.lower (Inner z.upper) 0 0 two) (one_line j y same is) (keeps_grown x.lower (Inner x.upper) 0 0 one two last first_keeps) ];
-  upper = λ j y below is. elim (split j below) [ inl less ↦ keeps_grown y.upper (Inner y.lower) 0 0 now two on (kept.upper j y less is) | inr same ↦ subst (λ (z : Line). KeepsRoomAt z.upper (Inner z.lower) 0 0 two) (one_line j y same is) second_keeps ];
+  lower = λ j y below is. elim (split j below) [ inl less ↦ keeps_grown y.lower (Inner y.upper) 0 0 now two on (kept.lower j y less is) | inr same ↦ subst (λ (z : Adjacency). KeepsRoomAt z.lower (Inner z.upper) 0 0 two) (one_adjacency j y same is) (keeps_grown x.lower (Inner x.upper) 0 0 one two last first_keeps) ];
+  upper = λ j y below is. elim (split j below) [ inl less ↦ keeps_grown y.upper (Inner y.lower) 0 0 now two on (kept.upper j y less is) | inr same ↦ subst (λ (z : Adjacency). KeepsRoomAt z.upper (Inner z.lower) 0 0 two) (one_adjacency j y same is) second_keeps ];
 }
   where
     last : OnlyGrows one two
@@ -110,12 +110,12 @@ kept_more k x start now one two kept at first first_keeps second second_keeps = 
     split : (j : ℕ) → j < suc k → (j < k) ⊎ (j ≡ k)
     split j below = elim (cases_lt j k) [ inl less ↦ inl less | inr past ↦ inr (omega (arith, below, past)) ]
 
-    one_line : (j : ℕ) (y : Line) → j ≡ k → slice_get start.lines j ≡ Some y → x ≡ y
-    one_line j y same is =
-        let both : Some x ≡ Some y = sym at ∙ ap (slice_get start.lines) (sym same) ∙ is in
+    one_adjacency : (j : ℕ) (y : Adjacency) → j ≡ k → slice_get start.adjacencies j ≡ Some y → x ≡ y
+    one_adjacency j y same is =
+        let both : Some x ≡ Some y = sym at ∙ ap (slice_get start.adjacencies) (sym same) ∙ is in
         cc
 
-link_found : (a b : As) (xs : List Line) → has_line a b xs ≡ true → (j : ℕ) × (x : Line) × (j < length xs) × (slice_get xs j ≡ Some x) × (same_link x.lower x.upper a b ≡ true)
+link_found : (a b : As) (xs : List Adjacency) → has_adjacency a b xs ≡ true → (j : ℕ) × (x : Adjacency) × (j < length xs) × (slice_get xs j ≡ Some x) × (same_link x.lower x.upper a b ≡ true)
 link_found a b [] is = absurd (let both : false ≡ true = is in cc)
 link_found a b (y ∷ xs) is = elim (cases_Bool (same_link y.lower y.upper a b)) [
   | inl here ↦ (0, y, omega arith, refl, here)
@@ -132,9 +132,9 @@ either_way l u a b is = go (same_as l a) (same_as u b) (same_as l b) (same_as u 
     go false q true false la ub lb ua is' = absurd (let both : false ≡ true = is' in cc)
     go false q false s la ub lb ua is' = absurd (let both : false ≡ true = is' in cc)
 
-pub kept_all : (k : ℕ) (start now : Flow) → length start.lines ≤ k → KeptUpTo k start now → (a b : As) → has_line a b start.lines ≡ true → KeepsRoomAt a (Inner b) 0 0 now
+pub kept_all : (k : ℕ) (start now : Flow) → length start.adjacencies ≤ k → KeptUpTo k start now → (a b : As) → has_adjacency a b start.adjacencies ≡ true → KeepsRoomAt a (Inner b) 0 0 now
 kept_all k start now past kept a b linked =
-    let found = link_found a b start.lines linked in
+    let found = link_found a b start.adjacencies linked in
     let x = found.1 in
     let below : found.0 < k = omega (arith, found.2, past) in
     elim (either_way x.lower x.upper a b found.4) [
@@ -142,21 +142,21 @@ kept_all k start now past kept a b linked =
       | inr way ↦ subst (λ (d : As). KeepsRoomAt d (Inner b) 0 0 now) way.1 (subst (λ (d : As). KeepsRoomAt x.upper (Inner d) 0 0 now) way.0 (kept.upper found.0 x below found.3))
     ]
 
--- ---- lines by their places
+-- ---- adjacencies by their places
 
-line_within : (xs : List Line) (k : ℕ) → k < length xs → None ≡ slice_get xs k → ⊥
-line_within [] k below is = absurd (omega (arith, below))
-line_within (x ∷ xs) zero below is = let none : None ≡ Some x = is in cc
-line_within (x ∷ xs) (suc k) below is = line_within xs k (omega (arith, below)) is
+adjacency_within : (xs : List Adjacency) (k : ℕ) → k < length xs → None ≡ slice_get xs k → ⊥
+adjacency_within [] k below is = absurd (omega (arith, below))
+adjacency_within (x ∷ xs) zero below is = let none : None ≡ Some x = is in cc
+adjacency_within (x ∷ xs) (suc k) below is = adjacency_within xs k (omega (arith, below)) is
 
-pub line_stands : (xs ys : List Line) (k count : ℕ) → xs ≡ ys → count ≡ length ys → k < count → None ≡ slice_get xs k → ⊥
-line_stands xs ys k count same counted below is = line_within ys k (omega (arith, counted, below)) (is ∙ ap (λ (zs : List Line). slice_get zs k) same)
+pub adjacency_stands : (xs ys : List Adjacency) (k count : ℕ) → xs ≡ ys → count ≡ length ys → k < count → None ≡ slice_get xs k → ⊥
+adjacency_stands xs ys k count same counted below is = adjacency_within ys k (omega (arith, counted, below)) (is ∙ ap (λ (zs : List Adjacency). slice_get zs k) same)
 
 -- ---- the network that has begun
 
-pub opens_roomy : {P : Type 0} {S : Type 0} (n : NetworkParts) (ms : Membership P S) (f now : Flow) → IsBare (lines n) (length n.peers) f → ((at : As) (p : Peer) → owed at p ms ≡ 0) →
-    now.accesses ≡ f.accesses → now.lines ≡ f.lines → now.peers ≡ f.peers → now.said ≡ [] → ((a b : As) → has_line a b (lines n) ≡ true → KeepsRoomAt a (Inner b) 0 0 now) → CoversWords n 0 0 0 ms now → IsRoomy n ms now
-opens_roomy n ms f now bare nothing accesses lines_are peers_are said keeps covers = record {
+pub opens_roomy : {P : Type 0} {S : Type 0} (n : NetworkParts) (ms : Membership P S) (f now : Flow) → IsBare (adjacencies n) (length n.peers) f → ((at : As) (p : Peer) → owed at p ms ≡ 0) →
+    now.accesses ≡ f.accesses → now.adjacencies ≡ f.adjacencies → now.peers ≡ f.peers → now.said ≡ [] → ((a b : As) → has_adjacency a b (adjacencies n) ≡ true → KeepsRoomAt a (Inner b) 0 0 now) → CoversWords n 0 0 0 ms now → IsRoomy n ms now
+opens_roomy n ms f now bare nothing accesses adjacencies_are peers_are said keeps covers = record {
   answers = record { live = live; dead = λ at to dead'. nothing at to };
   said = record {
     messages = omega (arith, covers.messages, words, ap length said);
@@ -165,7 +165,7 @@ opens_roomy n ms f now bare nothing accesses lines_are peers_are said keeps cove
 }
   where
     words : own_words now ≡ own_most n
-    words = omega (arith, peers_are ∙ bare.peers_are, ap length (lines_are ∙ bare.lines_are))
+    words = omega (arith, peers_are ∙ bare.peers_are, ap length (adjacencies_are ∙ bare.adjacencies_are))
 
     closed : (i : ℕ) → is_talking (now.accesses i).connection ≡ false
     closed i = ap (λ (f' : ℕ → _). is_talking (f' i).connection) (accesses ∙ bare.accesses)

@@ -21,7 +21,7 @@ use Rattle.member_trait.specs.plant_model.Wire.{Codec, Checked, Admitted, Wrong}
 use Rattle.member_trait.specs.plant_model.Writing.{reply_message, unavailable, busy}
 use Rattle.member_trait.specs.plant_model.Branches.{branches_in}
 use Rattle.member_trait.specs.plant_model.Taking.{error_answer}
-use Rattle.member_trait.specs.plant_model.Parent.{Asking, AskingRow, ask_all, all_waits, errands, Parent, Family, Given, each, waiting, gathered, gathers, all_up, take_path, take_wish, take_new, take_checked, take_asked, ended, answered, take_answer, take_found, take_reply, told_busy, cancelled, take_busy, take_cancel, notice_steps, take_notice, told_error, take_failure, take_errors, take_report, take}
+use Rattle.member_trait.specs.plant_model.Parent.{Asking, AskingRow, ask_all, all_waits, errands, Parent, Family, ParentTaken, each, waiting, gathered, gathers, all_up, take_path, take_wish, take_new, take_checked, take_asked, ended, answered, take_answer, take_found, take_reply, told_busy, cancelled, take_busy, take_cancel, notice_steps, take_notice, told_error, take_failure, take_errors, take_report, take}
 use Rattle.member_trait.specs.Owed.{count_by_asker, asked_in}
 use Rattle.network_events.proofs.CountLaws.{one_if, for_each, for_each_is, count_push, count_removed, count_written}
 
@@ -30,18 +30,18 @@ module _ (test : Peer → Bool) where
   counted k = count_by_asker test k.pending.rows
 
   -- at most so many more than before
-  abbrev pub Raises : ℕ → Parent → Given → Type 0
+  abbrev pub Raises : ℕ → Parent → ParentTaken → Type 0
   Raises w k t = counted t.parent ≤ counted k + w
 
-  pick : (w : ℕ) (k : Parent) (b : Bool) (t u : Given) → Raises w k t → Raises w k u → Raises w k (cond b t u)
+  pick : (w : ℕ) (k : Parent) (b : Bool) (t u : ParentTaken) → Raises w k t → Raises w k u → Raises w k (cond b t u)
   pick w k true t u left right = left
   pick w k false t u left right = right
 
-  each_raises : {X : Type 0} (w : ℕ) (f : X → Parent → Given) → ((x : X) (k : Parent) → Raises w k (f x k)) → (xs : List X) (k : Parent) → Raises (for_each w xs) k (each f xs k)
+  each_raises : {X : Type 0} (w : ℕ) (f : X → Parent → ParentTaken) → ((x : X) (k : Parent) → Raises w k (f x k)) → (xs : List X) (k : Parent) → Raises (for_each w xs) k (each f xs k)
   each_raises w f one [] k = omega arith
   each_raises w f one (x ∷ xs) k = omega (arith, one x k, each_raises w f one xs (f x k).parent)
 
-  each_keeps : {X : Type 0} (f : X → Parent → Given) → ((x : X) (k : Parent) → Raises 0 k (f x k)) → (xs : List X) (k : Parent) → Raises 0 k (each f xs k)
+  each_keeps : {X : Type 0} (f : X → Parent → ParentTaken) → ((x : X) (k : Parent) → Raises 0 k (f x k)) → (xs : List X) (k : Parent) → Raises 0 k (each f xs k)
   each_keeps f one [] k = omega arith
   each_keeps f one (x ∷ xs) k = omega (arith, one x k, each_keeps f one xs (f x k).parent)
 

@@ -35,7 +35,7 @@ from_at at (o ∷ os) (suc k) s e = from_at at os k s e
 
 pub own_is : (n : NetworkParts) (start made : Flow) → IsOf n start → OnlyGrows start made → own_words made ≡ own_most n
 own_is n start made of grows =
-    omega (arith, ap (λ (f : Flow). f.peers) grows.same, of.peers_are, ap (λ (f : Flow). length f.lines) grows.same, ap length of.lines_are)
+    omega (arith, ap (λ (f : Flow). f.peers) grows.same, of.peers_are, ap (λ (f : Flow). length f.adjacencies) grows.same, ap length of.adjacencies_are)
 
 -- nothing but what was said has changed
 pub cleared_is : (start made cleared : Flow) → OnlyGrows start made → ClearsSaid made cleared → cleared ≡ record start { said = []; room = cleared.room }

@@ -11,7 +11,7 @@ use Rattle.pcep_session.specs.declared.session.Input.TheVariants.{Begin, Got, Ba
 use Rattle.pcep_session.specs.declared.state.Phase.{Phase}
 use Rattle.pcep_session.specs.declared.state.Phase.TheVariants.{Idle, OpenWait, KeepWait, Up, Down}
 use Rattle.pcep_session.specs.declared.state.State.{State}
-use Rattle.pcep_session.specs.Table.{Turn, turn_in, turn_of, open_wait, refused_terms, refused, keep_wait, in_up, up_tick, waits, heard, at_tick, has_passed, is_recent}
+use Rattle.pcep_session.specs.Table.{SessionStep, turn_in, turn_of, open_wait, refused_terms, refused, keep_wait, in_up, up_tick, waits, heard, at_tick, has_passed, is_recent}
 use Rattle.member_trait.specs.plant_model.Events.{is_down}
 
 abbrev passes : List Action → Bool
@@ -22,17 +22,17 @@ passes (SayUp ∷ as') = false
 passes (SayDown why ∷ as') = false
 
 -- it passes nothing on, or its phase stays
-abbrev Fine : Phase → Turn → Type 0
+abbrev Fine : Phase → SessionStep → Type 0
 Fine p t = passes t.actions ≡ true → t.next.phase ≡ p
 
 differ : (b : Bool) → b ≡ false → b ≡ true → ⊥
 differ true x y = cc
 differ false x y = cc
 
-none : (p : Phase) (t : Turn) → passes t.actions ≡ false → Fine p t
+none : (p : Phase) (t : SessionStep) → passes t.actions ≡ false → Fine p t
 none p t e is = absurd (differ (passes t.actions) e is)
 
-either : (b : Bool) (x y : Turn) → passes x.actions ≡ false → passes y.actions ≡ false → passes (cond b x y).actions ≡ false
+either : (b : Bool) (x y : SessionStep) → passes x.actions ≡ false → passes y.actions ≡ false → passes (cond b x y).actions ≡ false
 either true x y left right = left
 either false x y left right = right
 
@@ -102,7 +102,7 @@ turn_fine Down s input is = cc
 -- neither before nor after is the session over
 pub pass_stays : (s next : State) (input : Input) (m : Message) → turn_of s input ≡ record { actions = Pass m ∷ []; next = next } → (is_down s.phase ≡ false) × (is_down next.phase ≡ false)
 pass_stays s next input m e =
-    let fine = turn_fine s.phase s input (ap (λ (t : Turn). passes t.actions) e) in
+    let fine = turn_fine s.phase s input (ap (λ (t : SessionStep). passes t.actions) e) in
     let before : is_down s.phase ≡ false = ap is_down fine.0 in
-    let same : next.phase ≡ s.phase = sym (ap (λ (t : Turn). t.next.phase) e) ∙ fine.1 in
+    let same : next.phase ≡ s.phase = sym (ap (λ (t : SessionStep). t.next.phase) e) ∙ fine.1 in
     (before, ap is_down same ∙ before)

@@ -12,10 +12,10 @@ use Rattle.pcep_session.specs.declared.actions.Action.{Action}
 use Rattle.pcep_session.specs.declared.actions.Action.TheVariants.{Pass}
 use Rattle.pcep_session.specs.declared.session.Input.{Input}
 use Rattle.pcep_session.specs.declared.state.State.{State as Session}
-use Rattle.pcep_session.specs.Table.{Turn, turn_of}
+use Rattle.pcep_session.specs.Table.{SessionStep, turn_of}
 use Rattle.plant_queues.specs.declared.sent.Sent.{Sent}
 use Rattle.plant_text.specs.declared.settings.NetworkParts.{NetworkParts}
-use Rattle.plant_text.specs.Settings.{line, lines, has_line}
+use Rattle.plant_text.specs.Settings.{adjacency, adjacencies, has_adjacency}
 use Rattle.network_links.specs.plant_sessions.Rooms.{Grows}
 use Rattle.member_trait.specs.plant_model.declared.outcome.Outcome.TheVariants.{Done}
 use Rattle.member_trait.specs.plant_model.declared.outcome.Refused.TheVariants.{NoSuchPeer, NothingToCarry}
@@ -49,7 +49,7 @@ use Rattle.network_events.proofs.PassEvents.{cleared_is, from_is, owed_is, own_i
 use Rattle.network_events.proofs.PassLaws.{access_no_less, clear_no_less, clear_said_grows, drop_no_less, session_no_less}
 use Rattle.network_events.proofs.PassRoom.{NoLess, Passing, no_less_then, roomy_grown}
 use Rattle.network_events.proofs.PassUp.{pass_stays}
-use Rattle.network_events.proofs.RoomyNeeds.{line_back, linked_in}
+use Rattle.network_events.proofs.RoomyNeeds.{adjacency_back, linked_in}
 use Rattle.network_events.proofs.RoomySteps.{begins_keeps, ends_roomy}
 use Rattle.network_events.proofs.StepLemmas.{done_moves}
 use Rattle.network_events.proofs.RoomyStarts.{less_keeps, word_less, words_at_link, words_at_peer}
@@ -79,8 +79,8 @@ pub placed_end : (n : NetworkParts) (x : Carried) (at : As) (to : Peer) (s : Ses
 placed_end n x at (Outside i) s joined of placed there =
     (placed, subst (λ (a : As). is_member n a ≡ true) (sym placed) (joined.peers i (omega (arith, open_below x i (open_there i (flow_of x) s at there), of.peers_are))))
 placed_end n x at (Inner b) s joined of placed there =
-    let back = line_back b at (lines n) placed.0 in
-    (record { other = joined.links b at placed.0; apart = placed.1; linked = ap (has_line at b) of.lines_are ∙ back }, joined.links at b back)
+    let back = adjacency_back b at (adjacencies n) placed.0 in
+    (record { other = joined.links b at placed.0; apart = placed.1; linked = ap (has_adjacency at b) of.adjacencies_are ∙ back }, joined.links at b back)
 
 -- and words that sessions may say
 words_there : (n : NetworkParts) (x : Carried) (at : As) (to : Peer) (s : Session) → IsEnd n (flow_of x) at to → IsOf n (flow_of x) → session_at at to (flow_of x) ≡ Some s → 2 ≤ own_most n
@@ -111,7 +111,7 @@ steps_turn at to as' next f x = subst (λ (l : List Action). IsOwnTurn l ⊎ IsP
 
 -- what stays so
 record Gone (at : As) (to : Peer) (cleared f : Flow) : Type 0 where
-  lines : f.lines ≡ cleared.lines
+  adjacencies : f.adjacencies ≡ cleared.adjacencies
   peers : f.peers ≡ cleared.peers
   clock : f.clock ≡ cleared.clock
   said : f.said ≡ cleared.said
@@ -122,7 +122,7 @@ record Gone (at : As) (to : Peer) (cleared f : Flow) : Type 0 where
 
 gone : (at : As) (to : Peer) (cleared f : Flow) → DropsFirstAt at to cleared f → Gone at to cleared f
 gone at (Outside i) cleared f drops = subst (Gone at (Outside i) cleared) (sym drops) (record {
-  lines = refl;
+  adjacencies = refl;
   peers = refl;
   clock = refl;
   said = refl;
@@ -132,7 +132,7 @@ gone at (Outside i) cleared f drops = subst (Gone at (Outside i) cleared) (sym d
   talking = λ j. access_same is_talking drop_first i j cleared (λ k. refl);
 })
 gone at (Inner b) cleared f drops = record {
-  lines = ap (λ (y : Flow). y.lines) drops.kept;
+  adjacencies = ap (λ (y : Flow). y.adjacencies) drops.kept;
   peers = ap (λ (y : Flow). y.peers) drops.kept;
   clock = ap (λ (y : Flow). y.clock) drops.kept;
   said = ap (λ (y : Flow). y.said) drops.kept;
@@ -146,9 +146,9 @@ session_before : (at : As) (to : Peer) (start made cleared : Flow) → OnlyGrows
 session_before at (Outside i) start made cleared grows clears = ap (session_at at (Outside i)) (cleared_is start made cleared grows clears)
 session_before at (Inner b) start made cleared grows clears = ap (session_at at (Inner b)) (cleared_is start made cleared grows clears)
 
-end_after : (n : NetworkParts) (f f' : Flow) (at : As) (to : Peer) → f'.lines ≡ f.lines → IsEnd n f at to → IsEnd n f' at to
+end_after : (n : NetworkParts) (f f' : Flow) (at : As) (to : Peer) → f'.adjacencies ≡ f.adjacencies → IsEnd n f at to → IsEnd n f' at to
 end_after n f f' at (Outside i) same end = end
-end_after n f f' at (Inner b) same end = record { other = end.other; apart = end.apart; linked = ap (has_line at b) same ∙ end.linked }
+end_after n f f' at (Inner b) same end = record { other = end.other; apart = end.apart; linked = ap (has_adjacency at b) same ∙ end.linked }
 
 -- a session that is as much over as it was
 session_talks : (at : As) (to : Peer) (s next : Session) (f : Flow) → session_at at to f ≡ Some s → is_down next.phase ≡ is_down s.phase → (j : ℕ) → is_talking ((set_session_at at to next f).accesses j).connection ≡ is_talking (f.accesses j).connection
@@ -237,18 +237,18 @@ module _ {P : Type 0} {S : Type 0} (show : S → List Hop) (n : NetworkParts) wh
               dropped = ap (λ (c : Option Connection). on_connection drop_first (access c)) is ∙ ap (λ (zs : List (Option Bytes)). access (Some (with_inbox (drop 1 zs) k))) inbox
                   ∙ sym (ap (λ (c : Option Connection). on_connection (with_inbox ys) (access c)) is)
   receive_is at (Inner b) item s ms f end of there first =
-      ap (λ (c : Bool). cond c (events.carry_first P S wire n show b at st (f.queues b at)) (events.refused P S wire n show NoSuchPeer st)) (line_back at b (lines n) (linked_in n f at b of end.linked)) ∙ items (f.queues b at) refl first
+      ap (λ (c : Bool). cond c (events.carry_first P S wire n show b at st (f.queues b at)) (events.refused P S wire n show NoSuchPeer st)) (adjacency_back at b (adjacencies n) (linked_in n f at b of end.linked)) ∙ items (f.queues b at) refl first
     where
       st : State P S
       st = state_of ms f
 
       items : (ys : List Bytes) → f.queues b at ≡ ys → option_map Some (slice_get ys 0) ≡ Some item →
-          events.carry_first P S wire n show b at st ys ≡ events.answered P S wire n show Done (deeds.inner_input P S wire n show (line b at) at b (input_of wire item) (first_gone at (Inner b) st))
+          events.carry_first P S wire n show b at st ys ≡ events.answered P S wire n show Done (deeds.inner_input P S wire n show (adjacency b at) at b (input_of wire item) (first_gone at (Inner b) st))
       items [] is e = cc
       items (y ∷ ys) is e =
           let same : Some y ≡ item = cc in
-          ap (λ (z : Option Bytes). events.answered P S wire n show Done (deeds.inner_input P S wire n show (line b at) at b (input_of wire z) (record { state = record st { queues = set_pair b at ys f.queues }; deeds = Pops b at ∷ [] }))) same
-          ∙ ap (λ (q : List Bytes). events.answered P S wire n show Done (deeds.inner_input P S wire n show (line b at) at b (input_of wire item) (record { state = record st { queues = set_pair b at (drop 1 q) f.queues }; deeds = Pops b at ∷ [] }))) (sym is)
+          ap (λ (z : Option Bytes). events.answered P S wire n show Done (deeds.inner_input P S wire n show (adjacency b at) at b (input_of wire z) (record { state = record st { queues = set_pair b at ys f.queues }; deeds = Pops b at ∷ [] }))) same
+          ∙ ap (λ (q : List Bytes). events.answered P S wire n show Done (deeds.inner_input P S wire n show (adjacency b at) at b (input_of wire item) (record { state = record st { queues = set_pair b at (drop 1 q) f.queues }; deeds = Pops b at ∷ [] }))) (sym is)
 
 -- what is known when a member is given the first: room was made, what was said is cleared, the first has left
 pub record Taking {P : Type 0} {S : Type 0} (n : NetworkParts) (at : As) (to : Peer) (as' : List Action) (next : Session) (ms : Membership P S) (start made f : Flow) : Type 0 where
@@ -292,10 +292,10 @@ module _ {P : Type 0} {S : Type 0} (show : S → List Hop) {n : NetworkParts} {a
   input = input_of wire x.steps.item
 
   pub end_there : IsEnd n f at to
-  end_there = end_after n start f at to (taken.lines ∙ ap (λ (y : Flow). y.lines) same) x.end
+  end_there = end_after n start f at to (taken.adjacencies ∙ ap (λ (y : Flow). y.adjacencies) same) x.end
 
   of_there : IsOf n f
-  of_there = record { lines_are = taken.lines ∙ ap (λ (y : Flow). y.lines) same ∙ x.of.lines_are; peers_are = taken.peers ∙ ap (λ (y : Flow). y.peers) same ∙ x.of.peers_are }
+  of_there = record { adjacencies_are = taken.adjacencies ∙ ap (λ (y : Flow). y.adjacencies) same ∙ x.of.adjacencies_are; peers_are = taken.peers ∙ ap (λ (y : Flow). y.peers) same ∙ x.of.peers_are }
 
   pub session_there : session_at at to f ≡ Some x.steps.session
   session_there = taken.session ∙ session_before at to start made x.cleared x.grows x.clears ∙ x.steps.there
@@ -309,7 +309,7 @@ module _ {P : Type 0} {S : Type 0} (show : S → List Hop) {n : NetworkParts} {a
       let going = first_gone show n at to (state_of ms start) in
       let ended : IsAt (input_at P S n show at to input going) ms' f' = goes.goes going (first_leaves show n at to ms start made x.cleared f x.grows x.clears x.drops) in
       done_moves show (λ k s. receive_at P S k show at to s) (here_of n ms lost start) (here_of n' ms' lost' f') goes.network
-      (record { lines_are = goes.lines ∙ of_there.lines_are; peers_are = goes.peers ∙ of_there.peers_are }) (goes.lost none) roomy (λ s. true) Done
+      (record { adjacencies_are = goes.adjacencies ∙ of_there.adjacencies_are; peers_are = goes.peers ∙ of_there.peers_are }) (goes.lost none) roomy (λ s. true) Done
       (subst (λ (h : Happened P S). IsDone h (Ok Done) ms' f') (sym (receive_is show n at to x.steps.item x.steps.session ms start x.end x.of x.steps.there x.steps.first)) (record { answer = refl; state = ended.state; said = ended.said }))
 
   -- ---- nothing is passed on
@@ -339,7 +339,7 @@ module _ {P : Type 0} {S : Type 0} (show : S → List Hop) {n : NetworkParts} {a
       let s = x.steps.session in
       let input' = input_of wire x.steps.item in
       pass_stays s next input' m
-      (ap (λ (l : List Action). let t : Turn = record { actions = l; next = (turn_of s input').next } in t) (sym x.steps.asks) ∙ ap (λ (q : Session). let t : Turn = record { actions = Pass m ∷ []; next = q } in t) (sym x.steps.becomes))
+      (ap (λ (l : List Action). let t : SessionStep = record { actions = l; next = (turn_of s input').next } in t) (sym x.steps.asks) ∙ ap (λ (q : Session). let t : SessionStep = record { actions = Pass m ∷ []; next = q } in t) (sym x.steps.becomes))
 
   pub passing : RoomToGive n at to (asked_in heeded) letters ms made → Passing n at to (asked_in heeded) letters ms mid start made (set_session_at at to next f)
   passing room =

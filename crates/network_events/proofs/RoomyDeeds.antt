@@ -9,7 +9,7 @@ use Rattle.plant_queues.specs.declared.sent.Sent.{Sent}
 use Rattle.plant_queues.specs.Sents.{sent_of}
 use Rattle.plant_text.specs.declared.settings.NetworkParts.{NetworkParts}
 use Rattle.plant_text.specs.Names.{same_as, parent_as}
-use Rattle.plant_text.specs.Settings.{Line}
+use Rattle.plant_text.specs.Settings.{Adjacency}
 use Rattle.member_trait.specs.plant_model.declared.output.Output.{Output}
 use Rattle.member_trait.specs.plant_model.Names.{set_pair, set_number}
 use Rattle.member_trait.specs.plant_model.Wire.{Bytes}
@@ -112,7 +112,7 @@ module _ {P : Type 0} {S : Type 0} (show : S → List Hop) (n : NetworkParts) wh
     | inr inner ↦ let puts = puts_leave at below.outputs (deeds.with_element P S wire n show at below.element g.state) in rw inner (record { members = puts.0; said = refl; talks = puts.1 })
   ]
     where
-      above : parent.Given
+      above : parent.ParentTaken
       above = parent.downed p g.state.parent
 
       below : element.Taken P S
@@ -133,13 +133,13 @@ module _ {P : Type 0} {S : Type 0} (show : S → List Hop) (n : NetworkParts) wh
     talks = λ i. y.talks i ∙ x.talks i;
   }
 
-  clear_leaves : (x : Line) (g : Going P S) → Leaves (members_of g.state) [] g (deeds.clear P S wire n show x g)
+  clear_leaves : (x : Adjacency) (g : Going P S) → Leaves (members_of g.state) [] g (deeds.clear P S wire n show x g)
   clear_leaves x g = record { members = refl; said = refl; talks = λ i. refl }
 
   begin_leaves : (sid : ℕ) (at b : As) (g : Going P S) → Leaves (members_of g.state) (open_of sid at b ∷ []) g (deeds.begin_end P S wire n show sid at b g)
   begin_leaves sid at b g = record { members = refl; said = refl; talks = λ i. refl }
 
-  pub break_leaves : (l u : As) (g : Going P S) → Leaves (fallen u (Inner l) (fallen l (Inner u) (members_of g.state))) (break_says (break_sid l u g) l u (members_of g.state)) g (deeds.break_line P S wire n show (record { lower = l; upper = u }) g)
+  pub break_leaves : (l u : As) (g : Going P S) → Leaves (fallen u (Inner l) (fallen l (Inner u) (members_of g.state))) (break_says (break_sid l u g) l u (members_of g.state)) g (deeds.break_adjacency P S wire n show (record { lower = l; upper = u }) g)
   break_leaves l u g = all
     where
       sid : ℕ
@@ -148,7 +148,7 @@ module _ {P : Type 0} {S : Type 0} (show : S → List Hop) (n : NetworkParts) wh
       ms : Membership P S
       ms = members_of g.state
 
-      x : Line
+      x : Adjacency
       x = record { lower = l; upper = u }
 
       g1 : Going P S
@@ -189,8 +189,8 @@ module _ {P : Type 0} {S : Type 0} (show : S → List Hop) (n : NetworkParts) wh
 
   -- both queues of the link have its Open alone
   pub break_queues : (l u : As) (g : Going P S) → same_as l u ≡ false →
-      ((deeds.break_line P S wire n show (record { lower = l; upper = u }) g).state.queues l u ≡ own_bytes (own.Open (our_offer (break_sid l u g))) ∷ []) ×
-      ((deeds.break_line P S wire n show (record { lower = l; upper = u }) g).state.queues u l ≡ own_bytes (own.Open (our_offer (break_sid l u g))) ∷ [])
+      ((deeds.break_adjacency P S wire n show (record { lower = l; upper = u }) g).state.queues l u ≡ own_bytes (own.Open (our_offer (break_sid l u g))) ∷ []) ×
+      ((deeds.break_adjacency P S wire n show (record { lower = l; upper = u }) g).state.queues u l ≡ own_bytes (own.Open (our_offer (break_sid l u g))) ∷ [])
   break_queues l u g apart = (
     pair_miss u l l u _ q4 (apart_back l u apart) ∙ pair_self l u _ q3 ∙ ap (λ (out : List Bytes). out ++ open' ∷ []) to_upper,
     pair_self u l _ q4 ∙ ap (λ (out : List Bytes). out ++ open' ∷ []) (pair_miss l u u l _ q3 apart ∙ to_lower),

@@ -10,7 +10,7 @@ use Rattle.pcep_session.specs.declared.actions.Action.TheVariants as action
 use Rattle.pcep_session.specs.declared.actions.Own.TheVariants as saying
 use Rattle.pcep_session.specs.declared.session.Input.TheVariants as input
 use Rattle.pcep_session.specs.declared.state.State.{State as Session}
-use Rattle.pcep_session.specs.Table.{Turn, turn_of}
+use Rattle.pcep_session.specs.Table.{SessionStep, turn_of}
 use Rattle.plant_queues.specs.declared.sent.Sent.{Sent}
 use Rattle.plant_queues.specs.Sents.{sent_of}
 use Rattle.plant_text.specs.declared.settings.NetworkParts.{NetworkParts}
@@ -76,10 +76,10 @@ module _ {P : Type 0} {S : Type 0} (show : S → List Hop) (n : NetworkParts) wh
   -- ---- a link breaks
 
   pub break_at : (own all : ℕ) (l u : As) (g : Going P S) (ms ms' : Membership P S) (f f' : Flow) → 2 + own ≤ all → same_as l u ≡ false → is_member n l ≡ true → is_member n u ≡ true → Accounts f f' → IsAt g ms f →
-      IsAt (deeds.break_line P S wire n show (record { lower = l; upper = u }) g) ms' f' → KeepsOn all n ms f → KeepsOn own n ms' f'
+      IsAt (deeds.break_adjacency P S wire n show (record { lower = l; upper = u }) g) ms' f' → KeepsOn all n ms f → KeepsOn own n ms' f'
   break_at own all l u g ms ms' f f' some apart lower upper room is is' keeps =
       let sid = break_sid l u g in
-      let c = carried (λ x. fallen u (Inner l) (fallen l (Inner u) x)) (λ x. break_says sid l u x) g (deeds.break_line P S wire n show (record { lower = l; upper = u }) g) ms ms' f f' (break_leaves show n l u g) is is' in
+      let c = carried (λ x. fallen u (Inner l) (fallen l (Inner u) x)) (λ x. break_says sid l u x) g (deeds.break_adjacency P S wire n show (record { lower = l; upper = u }) g) ms ms' f f' (break_leaves show n l u g) is is' in
       let queues = break_queues show n l u g apart in
       subst (λ (x : Membership P S). KeepsOn own n x f') (sym c.0)
       (pays_on n 2 own all ms (fallen u (Inner l) (fallen l (Inner u) ms)) f f' (break_says sid l u ms)
@@ -87,7 +87,7 @@ module _ {P : Type 0} {S : Type 0} (show : S → List Hop) (n : NetworkParts) wh
       (ap (λ (s : State P S). s.queues l u) is'.state ∙ queues.0) (ap (λ (s : State P S). s.queues u l) is'.state ∙ queues.1)) some keeps)
 
   pub break_keeps : (own all : ℕ) (l u : As) (g : Going P S) (n' : NetworkParts) (ms ms' : Membership P S) (lost lost' : As → List Lost) (f f' : Flow) → 2 + own ≤ all → same_as l u ≡ false → is_member n l ≡ true → is_member n u ≡ true →
-      Goes (λ k. deeds.break_line P S wire k show (record { lower = l; upper = u })) (here_of n ms lost f) (here_of n' ms' lost' f') → IsAt g ms f → KeepsOn all n ms f → KeepsOn own n ms' f'
+      Goes (λ k. deeds.break_adjacency P S wire k show (record { lower = l; upper = u })) (here_of n ms lost f) (here_of n' ms' lost' f') → IsAt g ms f → KeepsOn all n ms f → KeepsOn own n ms' f'
   break_keeps own all l u g n' ms ms' lost lost' f f' some apart lower upper goes is keeps =
       break_at own all l u g ms ms' f f' some apart lower upper goes.room is (goes.goes g is) keeps
 
@@ -137,14 +137,14 @@ module _ {P : Type 0} {S : Type 0} (show : S → List Hop) (n : NetworkParts) wh
           subst (λ (y : Membership P S). KeepsOn own n y f') (sym c.0)
           (pays_on n 1 own all ms ms f f' (sent_of e (Outside i) m ∷ []) (word_pays n e (Outside i) m ms f f' goes.room c.1 (live_like n f f' c.2) keeps.answers.dead alone (omega arith)) some keeps)
 
-      stays : (x : Connection) (r : Turn) → (g.state.accesses i).connection ≡ Some x → Stays (is_down x.session.phase) r → IsAt (deeds.outside_acts P S wire n show i true r.actions (stepped r.next)) ms' f' → KeepsOn own n ms' f'
+      stays : (x : Connection) (r : SessionStep) → (g.state.accesses i).connection ≡ Some x → Stays (is_down x.session.phase) r → IsAt (deeds.outside_acts P S wire n show i true r.actions (stepped r.next)) ms' f' → KeepsOn own n ms' f'
       stays x r here' t is' = says t.says
         where
           says : (r.actions ≡ []) ⊎ (r.actions ≡ action.Send saying.Keepalive ∷ []) → KeepsOn own n ms' f'
           says (inl none) = still (stepped r.next) (session_leaves show n i r.next x g here' t.after) (subst (λ (as' : List Action). IsAt (deeds.outside_acts P S wire n show i true as' (stepped r.next)) ms' f') none is')
           says (inr alone) = alive x r.next here' t.after (is_out_empty ((stepped r.next).state.accesses i).connection) refl (subst (λ (as' : List Action). IsAt (deeds.outside_acts P S wire n show i true as' (stepped r.next)) ms' f') alone is')
 
-      ends : (r : Turn) → Ends r → IsAt (deeds.outside_acts P S wire n show i true r.actions (stepped r.next)) ms' f' → KeepsOn own n ms' f'
+      ends : (r : SessionStep) → Ends r → IsAt (deeds.outside_acts P S wire n show i true r.actions (stepped r.next)) ms' f' → KeepsOn own n ms' f'
       ends r t is' = last t.last
         where
           last : IsLast r.actions → KeepsOn own n ms' f'
@@ -152,7 +152,7 @@ module _ {P : Type 0} {S : Type 0} (show : S → List Hop) (n : NetworkParts) wh
               closes_keeps own all i 1 g (deeds.outside_acts P S wire n show i true (action.Send o ∷ action.Down why ∷ []) (stepped r.next)) ms ms' f f' some member goes.room is (subst (λ (as' : List Action). IsAt (deeds.outside_acts P S wire n show i true as' (stepped r.next)) ms' f') as_is is')
               (outside_closes show n i o why r.next g short t.over) keeps
 
-      turns : (x : Connection) (r : Turn) → (g.state.accesses i).connection ≡ Some x → Stays (is_down x.session.phase) r ⊎ Ends r → IsAt (deeds.outside_acts P S wire n show i true r.actions (stepped r.next)) ms' f' → KeepsOn own n ms' f'
+      turns : (x : Connection) (r : SessionStep) → (g.state.accesses i).connection ≡ Some x → Stays (is_down x.session.phase) r ⊎ Ends r → IsAt (deeds.outside_acts P S wire n show i true r.actions (stepped r.next)) ms' f' → KeepsOn own n ms' f'
       turns x r here' (inl t) is' = stays x r here' t is'
       turns x r here' (inr t) is' = ends r t is'
 
@@ -173,7 +173,7 @@ module _ {P : Type 0} {S : Type 0} (show : S → List Hop) (n : NetworkParts) wh
       stepped next = record { state = deeds.with_inner P S wire n show at b next g.state; deeds = g.deeds }
 
       step : List Action → Session → Going P S
-      step as' next = cond (any_fall as') (deeds.break_line P S wire n show (record { lower = l; upper = u }) g) (deeds.inner_acts P S wire n show at b true as' (stepped next))
+      step as' next = cond (any_fall as') (deeds.break_adjacency P S wire n show (record { lower = l; upper = u }) g) (deeds.inner_acts P S wire n show at b true as' (stepped next))
 
       still : (next : Session) → IsAt (stepped next) ms' f' → KeepsOn own n ms' f'
       still next is' = still_keeps own all g (stepped next) ms ms' f f' (omega (arith, some)) goes.room (inner_leaves show n at b next g) is is' keeps
@@ -190,14 +190,14 @@ module _ {P : Type 0} {S : Type 0} (show : S → List Hop) (n : NetworkParts) wh
           subst (λ (y : Membership P S). KeepsOn own n y f') (sym c.0)
           (pays_on n 1 own all ms ms f f' (sent_of at (Inner b) m ∷ []) (word_pays n at (Inner b) m ms f f' goes.room c.1 (live_like n f f' c.2) keeps.answers.dead alone (omega arith)) (omega (arith, some)) keeps)
 
-      says : (r : Turn) → (r.actions ≡ []) ⊎ (r.actions ≡ action.Send saying.Keepalive ∷ []) → IsAt (step r.actions r.next) ms' f' → KeepsOn own n ms' f'
+      says : (r : SessionStep) → (r.actions ≡ []) ⊎ (r.actions ≡ action.Send saying.Keepalive ∷ []) → IsAt (step r.actions r.next) ms' f' → KeepsOn own n ms' f'
       says r (inl none) is' = still r.next (subst (λ (as' : List Action). IsAt (step as' r.next) ms' f') none is')
       says r (inr alone) is' = alive r.next (is_empty (g.state.queues at b)) refl (subst (λ (as' : List Action). IsAt (step as' r.next) ms' f') alone is')
 
-      last : (r : Turn) → IsLast r.actions → IsAt (step r.actions r.next) ms' f' → KeepsOn own n ms' f'
+      last : (r : SessionStep) → IsLast r.actions → IsAt (step r.actions r.next) ms' f' → KeepsOn own n ms' f'
       last r (o, why, short, as_is) is' = break_at own all l u g ms ms' f f' some apart lower upper goes.room is (subst (λ (as' : List Action). IsAt (step as' r.next) ms' f') as_is is') keeps
 
-      turns : (r : Turn) → Stays was r ⊎ Ends r → IsAt (step r.actions r.next) ms' f' → KeepsOn own n ms' f'
+      turns : (r : SessionStep) → Stays was r ⊎ Ends r → IsAt (step r.actions r.next) ms' f' → KeepsOn own n ms' f'
       turns r (inl t) is' = says r t.says is'
       turns r (inr t) is' = last r t.last is'
 

@@ -13,11 +13,11 @@ use Rattle.pcep_session.specs.declared.session.Input.TheVariants as input
 use Rattle.pcep_session.specs.declared.state.Phase.{Phase}
 use Rattle.pcep_session.specs.declared.state.Phase.TheVariants as phase
 use Rattle.pcep_session.specs.declared.state.State.{State as Session}
-use Rattle.pcep_session.specs.Table.{Turn, turn_in, turn_of, quiet}
+use Rattle.pcep_session.specs.Table.{SessionStep, turn_in, turn_of, quiet}
 use Rattle.plant_queues.specs.Messages.{Covers}
 use Rattle.plant_text.specs.declared.settings.NetworkParts.{NetworkParts}
 use Rattle.plant_text.specs.Names.{same_as, same_link, parent_as}
-use Rattle.plant_text.specs.Settings.{Line, line, lines, has_line, is_element, elements_of}
+use Rattle.plant_text.specs.Settings.{Adjacency, adjacency, adjacencies, has_adjacency, is_element, elements_of}
 use Rattle.member_trait.specs.plant_model.State.{Connection}
 use Rattle.member_trait.specs.plant_model.Deeds.{element_of}
 use Rattle.member_trait.specs.plant_model.Events.{is_down}
@@ -59,11 +59,11 @@ link_back a b c d e =
     go false q true s is e' = e'
     go false q false s is e' = cc
 
-pub line_back : (a b : As) (xs : List Line) → has_line a b xs ≡ true → has_line b a xs ≡ true
-line_back a b [] e = cc
-line_back a b (x ∷ xs) e = go (same_link x.lower x.upper a b) (same_link x.lower x.upper b a) (link_back x.lower x.upper a b) (line_back a b xs) e
+pub adjacency_back : (a b : As) (xs : List Adjacency) → has_adjacency a b xs ≡ true → has_adjacency b a xs ≡ true
+adjacency_back a b [] e = cc
+adjacency_back a b (x ∷ xs) e = go (same_link x.lower x.upper a b) (same_link x.lower x.upper b a) (link_back x.lower x.upper a b) (adjacency_back a b xs) e
   where
-    go : (p q : Bool) → (p ≡ true → q ≡ true) → (has_line a b xs ≡ true → has_line b a xs ≡ true) → cond p true (has_line a b xs) ≡ true → cond q true (has_line b a xs) ≡ true
+    go : (p q : Bool) → (p ≡ true → q ≡ true) → (has_adjacency a b xs ≡ true → has_adjacency b a xs ≡ true) → cond p true (has_adjacency a b xs) ≡ true → cond q true (has_adjacency b a xs) ≡ true
     go true true is more e' = refl
     go true false is more e' = let clash : false ≡ true = is refl in cc
     go false true is more e' = refl
@@ -103,32 +103,32 @@ one_element n l u i f apart live =
 
 -- ---- a link of the network
 
-pub line_either : (a b : As) (Q : Line → Type 0) → Q (record { lower = b; upper = a }) → Q (record { lower = a; upper = b }) → Q (line a b)
-line_either a b Q left right = go (nat_lt b.0 a.0)
+pub adjacency_either : (a b : As) (Q : Adjacency → Type 0) → Q (record { lower = b; upper = a }) → Q (record { lower = a; upper = b }) → Q (adjacency a b)
+adjacency_either a b Q left right = go (nat_lt b.0 a.0)
   where
     go : (c : Bool) → Q (cond c (record { lower = b; upper = a }) (record { lower = a; upper = b }))
     go true = left
     go false = right
 
-pub line_is : (a b l u : As) → l ≡ (line a b).lower → u ≡ (line a b).upper → record { lower = l; upper = u } ≡ line a b
-line_is a b l u lower upper =
-    ap (λ (c : As). let x : Line = record { lower = c; upper = u } in x) lower ∙ ap (λ (c : As). let x : Line = record { lower = (line a b).lower; upper = c } in x) upper
+pub adjacency_is : (a b l u : As) → l ≡ (adjacency a b).lower → u ≡ (adjacency a b).upper → record { lower = l; upper = u } ≡ adjacency a b
+adjacency_is a b l u lower upper =
+    ap (λ (c : As). let x : Adjacency = record { lower = c; upper = u } in x) lower ∙ ap (λ (c : As). let x : Adjacency = record { lower = (adjacency a b).lower; upper = c } in x) upper
 
-pub linked_in : (n : NetworkParts) (f : Flow) (a b : As) → IsOf n f → has_line a b f.lines ≡ true → has_line a b (lines n) ≡ true
-linked_in n f a b of linked = ap (λ (xs : List Line). has_line a b xs) (sym of.lines_are) ∙ linked
+pub linked_in : (n : NetworkParts) (f : Flow) (a b : As) → IsOf n f → has_adjacency a b f.adjacencies ≡ true → has_adjacency a b (adjacencies n) ≡ true
+linked_in n f a b of linked = ap (λ (xs : List Adjacency). has_adjacency a b xs) (sym of.adjacencies_are) ∙ linked
 
-pub record IsLink (n : NetworkParts) (x : Line) : Type 0 where
+pub record IsLink (n : NetworkParts) (x : Adjacency) : Type 0 where
   pub lower : is_member n x.lower ≡ true
   pub upper : is_member n x.upper ≡ true
   pub apart : same_as x.lower x.upper ≡ false
-  pub linked : has_line x.lower x.upper (lines n) ≡ true
+  pub linked : has_adjacency x.lower x.upper (adjacencies n) ≡ true
 
-pub link_of : (n : NetworkParts) (f : Flow) (at b : As) → IsLinkEnd n f at b → is_member n at ≡ true → IsOf n f → IsLink n (line b at)
+pub link_of : (n : NetworkParts) (f : Flow) (at b : As) → IsLinkEnd n f at b → is_member n at ≡ true → IsOf n f → IsLink n (adjacency b at)
 link_of n f at b end member of =
     let linked = linked_in n f at b of end.linked in
-    line_either b at (IsLink n)
+    adjacency_either b at (IsLink n)
     (record { lower = member; upper = end.other; apart = apart_back b at end.apart; linked = linked })
-    (record { lower = end.other; upper = member; apart = end.apart; linked = line_back at b (lines n) linked })
+    (record { lower = end.other; upper = member; apart = end.apart; linked = adjacency_back at b (adjacencies n) linked })
 
 -- an outside peer whose session is not over has a queue that is used
 pub live_outside : (n : NetworkParts) (f : Flow) (i : ℕ) (at : As) → at ≡ element_of n i → is_talking (f.accesses i).connection ≡ true → is_live n f at (Outside i) ≡ true
@@ -181,13 +181,13 @@ module _ {P : Type 0} {S : Type 0} (n : NetworkParts) where
   ]
 
   -- a link can break
-  pub breaks_room : (own : ℕ) (l u : As) (ms : Membership P S) (f : Flow) → same_as l u ≡ false → is_member n l ≡ true → is_member n u ≡ true → has_line l u (lines n) ≡ true → 2 ≤ own → KeepsOn own n ms f →
+  pub breaks_room : (own : ℕ) (l u : As) (ms : Membership P S) (f : Flow) → same_as l u ≡ false → is_member n l ≡ true → is_member n u ≡ true → has_adjacency l u (adjacencies n) ≡ true → 2 ≤ own → KeepsOn own n ms f →
       RoomToBreak l u (lost_at l (Inner u) ms) (lost_at u (Inner l) (fallen l (Inner u) ms)) f
   breaks_room own l u ms f apart lower upper linked some keeps =
       let below = lost_pending l (Inner u) ms lower in
       let above = lost_pending u (Inner l) (fallen l (Inner u) ms) upper in
       let to_upper = keeps.answers.live l (Inner u) linked in
-      let to_lower = keeps.answers.live u (Inner l) (line_back l u (lines n) linked) in
+      let to_lower = keeps.answers.live u (Inner l) (adjacency_back l u (adjacencies n) linked) in
       record {
         first = tells_room own l (Inner u) ms f lower keeps;
         inner = λ b. answers_least own u (Inner b) _ ms f keeps (second (Inner b));
@@ -232,7 +232,7 @@ module _ {P : Type 0} {S : Type 0} (n : NetworkParts) where
   pub breaks_end : (own : ℕ) (at b : As) (ms : Membership P S) (f : Flow) → IsLinkEnd n f at b → is_member n at ≡ true → IsOf n f → 2 ≤ own → KeepsOn own n ms f → RoomToBreakAt at (Inner b) ms f
   breaks_end own at b ms f end member of some keeps =
       let link = link_of n f at b end member of in
-      breaks_room own (line b at).lower (line b at).upper ms f link.apart link.lower link.upper link.linked some keeps
+      breaks_room own (adjacency b at).lower (adjacency b at).upper ms f link.apart link.lower link.upper link.linked some keeps
 
   -- a tick at an outside peer
   pub fits_tick : (own i : ℕ) (at : As) (now : Tick) (ms : Membership P S) (f : Flow) → at ≡ element_of n i → is_member n at ≡ true → 1 ≤ own → KeepsOn own n ms f → FitsInput at (Outside i) (input.Tick now) (session_at at (Outside i) f) ms f
@@ -243,7 +243,7 @@ module _ {P : Type 0} {S : Type 0} (n : NetworkParts) where
       go (Some x) is = record {
         stays = λ e. elim (cases_Bool (is_down x.session.phase)) [
           | inl over ↦
-              subst (λ (as' : List Action). Fits at (Outside i) as' ms f) (sym (ap (λ (t : Turn). t.actions) (down_quiet x.session (input.Tick now) over))) (record { turn = tt; room = act_none at (Outside i) f })
+              subst (λ (as' : List Action). Fits at (Outside i) as' ms f) (sym (ap (λ (t : SessionStep). t.actions) (down_quiet x.session (input.Tick now) over))) (record { turn = tt; room = act_none at (Outside i) f })
           | inr up ↦
               let live : is_live n f at (Outside i) ≡ true = live_outside n f i at at_is (ap is_talking is ∙ ap not up) in
               acts_room own at (Outside i) (turn_of x.session (input.Tick now)).actions ms f member live some keeps (ticks_are_turns x.session now)

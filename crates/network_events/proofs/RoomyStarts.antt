@@ -5,7 +5,7 @@ use Rattle.dom_base.specs.declared.names.Peer.{Peer}
 use Rattle.plant_queues.specs.Messages.{Spare, total}
 use Rattle.plant_queues.specs.Sents.{size_of}
 use Rattle.plant_text.specs.declared.settings.NetworkParts.{NetworkParts}
-use Rattle.plant_text.specs.Settings.{Line, lines, has_line}
+use Rattle.plant_text.specs.Settings.{Adjacency, adjacencies, has_adjacency}
 use Rattle.network_links.specs.Flow.{Flow}
 use Rattle.member_trait.specs.Membership.{Membership}
 use Rattle.member_trait.specs.Owed.{owed}
@@ -19,10 +19,10 @@ use Rattle.network_events.proofs.RoomyTakes.{KeepsWord}
 pub words_at_peer : (n : NetworkParts) (i : ℕ) → i < length n.peers → 2 ≤ own_most n
 words_at_peer n i within = omega (arith, within)
 
-pub words_at_link : (n : NetworkParts) (a b : As) → has_line a b (lines n) ≡ true → 4 ≤ own_most n
-words_at_link n a b linked = omega (arith, some (lines n) linked)
+pub words_at_link : (n : NetworkParts) (a b : As) → has_adjacency a b (adjacencies n) ≡ true → 4 ≤ own_most n
+words_at_link n a b linked = omega (arith, some (adjacencies n) linked)
   where
-    some : (xs : List Line) → has_line a b xs ≡ true → 1 ≤ length xs
+    some : (xs : List Adjacency) → has_adjacency a b xs ≡ true → 1 ≤ length xs
     some [] e = cc
     some (x ∷ xs) e = omega arith
 

@@ -12,12 +12,12 @@ use Rattle.pcep_session.specs.declared.actions.Own.{Own}
 use Rattle.pcep_session.specs.declared.actions.Reason.{Reason}
 use Rattle.pcep_session.specs.declared.session.Input.{Input}
 use Rattle.pcep_session.specs.declared.state.State.{State as Session}
-use Rattle.pcep_session.specs.Table.{Turn, turn_of}
+use Rattle.pcep_session.specs.Table.{SessionStep, turn_of}
 use Rattle.plant_queues.specs.Messages.{Covers}
 use Rattle.plant_queues.specs.Sents.{sent_of}
 use Rattle.plant_text.specs.declared.settings.NetworkParts.{NetworkParts}
 use Rattle.plant_text.specs.Names.{same_as}
-use Rattle.plant_text.specs.Settings.{line, lines, has_line, elements_of}
+use Rattle.plant_text.specs.Settings.{adjacency, adjacencies, has_adjacency, elements_of}
 use Rattle.member_trait.specs.plant_model.declared.output.Lost.{Lost}
 use Rattle.member_trait.specs.plant_model.RealWire.{wire}
 use Rattle.member_trait.specs.plant_model.State.{State, Connection}
@@ -69,7 +69,7 @@ module _ {P : Type 0} {S : Type 0} (n : NetworkParts) where
   -- ---- what an input asks for
 
   -- a session that stays
-  lives_fit : (own : ℕ) (at : As) (to : Peer) (was : Bool) (t : Turn) (ms : Membership P S) (f : Flow) → Covers (room_at at to f) 2 24 → 2 ≤ own → KeepsOn own n ms f → Lives was t → Fits at to t.actions ms f
+  lives_fit : (own : ℕ) (at : As) (to : Peer) (was : Bool) (t : SessionStep) (ms : Membership P S) (f : Flow) → Covers (room_at at to f) 2 24 → 2 ≤ own → KeepsOn own n ms f → Lives was t → Fits at to t.actions ms f
   lives_fit own at to was t ms f room some keeps lives = go lives.says
     where
       go : (t.actions ≡ []) ⊎ ((o : Own) × (t.actions ≡ action.Send o ∷ [])) ⊎ (t.actions ≡ action.Up ∷ []) → Fits at to t.actions ms f
@@ -94,7 +94,7 @@ module _ {P : Type 0} {S : Type 0} (n : NetworkParts) where
       })
 
   -- one that goes down
-  dies_fit : (own : ℕ) (at : As) (to : Peer) (t : Turn) (ms : Membership P S) (f : Flow) → is_member n at ≡ true → Covers (room_at at to f) 2 24 → 2 ≤ own → KeepsOn own n ms f → Dies t → Fits at to t.actions ms f
+  dies_fit : (own : ℕ) (at : As) (to : Peer) (t : SessionStep) (ms : Membership P S) (f : Flow) → is_member n at ≡ true → Covers (room_at at to f) 2 24 → 2 ≤ own → KeepsOn own n ms f → Dies t → Fits at to t.actions ms f
   dies_fit own at to t ms f member room some keeps dies = go dies.says
     where
       tells : RoomToTell at (lost_at at to ms) f
@@ -136,7 +136,7 @@ module _ {P : Type 0} {S : Type 0} (n : NetworkParts) where
         };
       })
 
-  turn_fits : (own : ℕ) (at : As) (to : Peer) (was : Bool) (t : Turn) (ms : Membership P S) (f : Flow) → is_member n at ≡ true → is_live n f at to ≡ true → 2 ≤ own → KeepsOn own n ms f → IsOwnTurn t.actions → IsStep was t → Fits at to t.actions ms f
+  turn_fits : (own : ℕ) (at : As) (to : Peer) (was : Bool) (t : SessionStep) (ms : Membership P S) (f : Flow) → is_member n at ≡ true → is_live n f at to ≡ true → 2 ≤ own → KeepsOn own n ms f → IsOwnTurn t.actions → IsStep was t → Fits at to t.actions ms f
   turn_fits own at to was t ms f member live some keeps turn step =
       let last = (keeps.answers.live at to live).last_words in
       let room : Covers (room_at at to f) 2 24 = record { messages = omega (arith, last.messages); bytes = omega (arith, last.bytes) } in
@@ -152,7 +152,7 @@ module _ {P : Type 0} {S : Type 0} (n : NetworkParts) where
       FitsTurn at to (turn_of s x).actions ms f
   fits_at own at to x s ms f end member of there some keeps turn = record {
     stays = λ e. elim (cases_Bool (is_down s.phase)) [
-      | inl over ↦ subst (λ (as' : List Action). Fits at to as' ms f) (sym (ap (λ (t : Turn). t.actions) (down_quiet s x over))) (record { turn = tt; room = act_none at to f })
+      | inl over ↦ subst (λ (as' : List Action). Fits at to as' ms f) (sym (ap (λ (t : SessionStep). t.actions) (down_quiet s x over))) (record { turn = tt; room = act_none at to f })
       | inr up ↦ turn_fits own at to (is_down s.phase) (turn_of s x) ms f member (live_at n f at to s end of there up) some keeps turn (steps_live_or_die s x)
     ];
     breaks = breaks to end;
@@ -196,7 +196,7 @@ module _ {P : Type 0} {S : Type 0} (show : S → List Hop) (n : NetworkParts) wh
       acted : List Action → Session → Going P S
       acted as' next = deeds.outside_acts P S wire n show i false as' (stepped next)
 
-      lives : (c : Connection) (t : Turn) → (g.state.accesses i).connection ≡ Some c → is_down c.session.phase ≡ false → Lives (is_down c.session.phase) t → IsAt (acted t.actions t.next) ms' f' → KeepsOn own n ms' f'
+      lives : (c : Connection) (t : SessionStep) → (g.state.accesses i).connection ≡ Some c → is_down c.session.phase ≡ false → Lives (is_down c.session.phase) t → IsAt (acted t.actions t.next) ms' f' → KeepsOn own n ms' f'
       lives c t open' up live is' = says live.says
         where
           stays : Leaves (members_of g.state) [] g (stepped t.next)
@@ -219,7 +219,7 @@ module _ {P : Type 0} {S : Type 0} (show : S → List Hop) (n : NetworkParts) wh
               (leaves_then show n (members_of g.state) (raised e (Outside i) (members_of g.state)) [] [] g (stepped t.next) g1 stays (rise_leaves show n e (Outside i) (stepped t.next)))
               is (subst (λ (as' : List Action). IsAt (acted as' t.next) ms' f') up' is') keeps
 
-      dies : (t : Turn) → Dies t → IsAt (acted t.actions t.next) ms' f' → KeepsOn own n ms' f'
+      dies : (t : SessionStep) → Dies t → IsAt (acted t.actions t.next) ms' f' → KeepsOn own n ms' f'
       dies t die is' = says die.says
         where
           g0 : Going P S
@@ -246,7 +246,7 @@ module _ {P : Type 0} {S : Type 0} (show : S → List Hop) (n : NetworkParts) wh
               (closes_after show n i 2 (own_bytes o ∷ own_bytes o' ∷ []) t.next g g2 (omega arith) (omega (arith, short, short')) die.over
               (leaves_then show n (members_of g.state) (members_of g.state) (sent_of e (Outside i) (own_bytes o) ∷ []) (sent_of e (Outside i) (own_bytes o') ∷ []) g0 g1 g2 first second)) keeps
 
-      step : (c : Connection) → (g.state.accesses i).connection ≡ Some c → is_down c.session.phase ≡ false → (t : Turn) → IsOwnTurn t.actions → IsStep (is_down c.session.phase) t → IsAt (acted t.actions t.next) ms' f' → KeepsOn own n ms' f'
+      step : (c : Connection) → (g.state.accesses i).connection ≡ Some c → is_down c.session.phase ≡ false → (t : SessionStep) → IsOwnTurn t.actions → IsStep (is_down c.session.phase) t → IsAt (acted t.actions t.next) ms' f' → KeepsOn own n ms' f'
       step c open' up t own_turn (inl live) is' = lives c t open' up live is'
       step c open' up t own_turn (inr (inl die)) is' = dies t die is'
       step c open' up t own_turn (inr (inr pass)) is' = absurd (no_pass t.actions own_turn pass)
@@ -259,14 +259,14 @@ module _ {P : Type 0} {S : Type 0} (show : S → List Hop) (n : NetworkParts) wh
           elim (cases_Bool (is_down c.session.phase)) [
             | inl over ↦
                 still_keeps show n own all g (stepped c.session) ms ms' f f' (omega (arith, some)) goes.room (session_leaves show n i c.session c g open' refl) is
-                (subst (λ (y : Turn). IsAt (acted y.actions y.next) ms' f') (down_quiet c.session x over) at') keeps
+                (subst (λ (y : SessionStep). IsAt (acted y.actions y.next) ms' f') (down_quiet c.session x over) at') keeps
             | inr up ↦
                 step c open' up t (turn c (ap (λ (s : State P S). (s.accesses i).connection) is.state ∙ open')) (steps_live_or_die c.session x) at'
           ]
 
   -- at an end of a link
   carry_keeps : (own all : ℕ) (l u at b : As) (x : Input) (g : Going P S) (n' : NetworkParts) (ms ms' : Membership P S) (lost lost' : As → List Lost) (f f' : Flow) → 2 + own ≤ all → same_as l u ≡ false → is_member n l ≡ true → is_member n u ≡ true →
-      has_line at b (lines n) ≡ true → is_tick x ≡ false → IsOwnTurn (turn_of (f.sessions at b) x).actions → KeepsWord at (Inner b) ms f →
+      has_adjacency at b (adjacencies n) ≡ true → is_tick x ≡ false → IsOwnTurn (turn_of (f.sessions at b) x).actions → KeepsWord at (Inner b) ms f →
       Goes (λ k. deeds.inner_input P S wire k show (record { lower = l; upper = u }) at b x) (here_of n ms lost f) (here_of n' ms' lost' f') → IsAt g ms f → KeepsOn all n ms f → KeepsOn own n ms' f'
   carry_keeps own all l u at b x g n' ms ms' lost lost' f f' some apart lower upper live later turn word goes is keeps =
       step (turn_of (g.state.sessions at b) x) (subst (λ (s : Session). IsOwnTurn (turn_of s x).actions) (ap (λ (s : State P S). s.sessions at b) is.state) turn) (steps_live_or_die (g.state.sessions at b) x)
@@ -276,12 +276,12 @@ module _ {P : Type 0} {S : Type 0} (show : S → List Hop) (n : NetworkParts) wh
       stepped next = record { state = deeds.with_inner P S wire n show at b next g.state; deeds = g.deeds }
 
       acted : Bool → List Action → Session → Going P S
-      acted c as' next = cond (any_fall as') (deeds.break_line P S wire n show (record { lower = l; upper = u }) g) (deeds.inner_acts P S wire n show at b c as' (stepped next))
+      acted c as' next = cond (any_fall as') (deeds.break_adjacency P S wire n show (record { lower = l; upper = u }) g) (deeds.inner_acts P S wire n show at b c as' (stepped next))
 
-      breaks : IsAt (deeds.break_line P S wire n show (record { lower = l; upper = u }) g) ms' f' → KeepsOn own n ms' f'
+      breaks : IsAt (deeds.break_adjacency P S wire n show (record { lower = l; upper = u }) g) ms' f' → KeepsOn own n ms' f'
       breaks is' = break_at show n own all l u g ms ms' f f' some apart lower upper goes.room is is' keeps
 
-      lives : (t : Turn) → (t.actions ≡ []) ⊎ ((o : Own) × (t.actions ≡ action.Send o ∷ [])) ⊎ (t.actions ≡ action.Up ∷ []) → IsAt (acted false t.actions t.next) ms' f' → KeepsOn own n ms' f'
+      lives : (t : SessionStep) → (t.actions ≡ []) ⊎ ((o : Own) × (t.actions ≡ action.Send o ∷ [])) ⊎ (t.actions ≡ action.Up ∷ []) → IsAt (acted false t.actions t.next) ms' f' → KeepsOn own n ms' f'
       lives t (inl none) is' = still_keeps show n own all g (stepped t.next) ms ms' f f' (omega (arith, some)) goes.room (inner_leaves show n at b t.next g) is (subst (λ (as' : List Action). IsAt (acted false as' t.next) ms' f') none is') keeps
       lives t (inr (inl (o, one))) is' =
           let g1 = deeds.say P S wire n show at (Inner b) o (stepped t.next) in
@@ -294,13 +294,13 @@ module _ {P : Type 0} {S : Type 0} (show : S → List Hop) (n : NetworkParts) wh
           (leaves_then show n (members_of g.state) (raised at (Inner b) (members_of g.state)) [] [] g (stepped t.next) g1 (inner_leaves show n at b t.next g) (rise_leaves show n at (Inner b) (stepped t.next)))
           is (subst (λ (as' : List Action). IsAt (acted false as' t.next) ms' f') up is') keeps
 
-      dies : (t : Turn) (why : Reason) → (t.actions ≡ action.Down why ∷ []) ⊎ ((o : Own) × IsShort o × (t.actions ≡ action.Send o ∷ action.Down why ∷ []))
+      dies : (t : SessionStep) (why : Reason) → (t.actions ≡ action.Down why ∷ []) ⊎ ((o : Own) × IsShort o × (t.actions ≡ action.Send o ∷ action.Down why ∷ []))
           ⊎ ((o o' : Own) × IsShort o × IsShort o' × (t.actions ≡ action.Send o ∷ action.Send o' ∷ action.Down why ∷ [])) → IsAt (acted false t.actions t.next) ms' f' → KeepsOn own n ms' f'
       dies t why (inl none) is' = breaks (subst (λ (as' : List Action). IsAt (acted false as' t.next) ms' f') none is')
       dies t why (inr (inl (o, short, one))) is' = breaks (subst (λ (as' : List Action). IsAt (acted false as' t.next) ms' f') one is')
       dies t why (inr (inr (o, o', short, short', two))) is' = breaks (subst (λ (as' : List Action). IsAt (acted false as' t.next) ms' f') two is')
 
-      step : (t : Turn) → IsOwnTurn t.actions → IsStep (is_down (g.state.sessions at b).phase) t → IsAt (acted false t.actions t.next) ms' f' → KeepsOn own n ms' f'
+      step : (t : SessionStep) → IsOwnTurn t.actions → IsStep (is_down (g.state.sessions at b).phase) t → IsAt (acted false t.actions t.next) ms' f' → KeepsOn own n ms' f'
       step t own_turn (inl l') is' = lives t l'.says is'
       step t own_turn (inr (inl d)) is' = dies t d.why d.says is'
       step t own_turn (inr (inr pass)) is' = absurd (no_pass t.actions own_turn pass)
@@ -316,5 +316,5 @@ module _ {P : Type 0} {S : Type 0} (show : S → List Hop) (n : NetworkParts) wh
       turns c e = subst (λ (q : Session). IsOwnTurn (turn_of q x).actions) (some_is s c.session (sym there ∙ ap (option_map (λ (k : Connection). k.session)) e)) turn
   input_keeps own all at (Inner b) x s g n' ms ms' lost lost' f f' some end member of there later turn word goes is keeps =
       let link = link_of n f at b end member of in
-      carry_keeps own all (line b at).lower (line b at).upper at b x g n' ms ms' lost lost' f f' some link.apart link.lower link.upper (linked_in n f at b of end.linked) later
+      carry_keeps own all (adjacency b at).lower (adjacency b at).upper at b x g n' ms ms' lost lost' f f' some link.apart link.lower link.upper (linked_in n f at b of end.linked) later
       (subst (λ (q : Session). IsOwnTurn (turn_of q x).actions) (some_is s (f.sessions at b) (sym there)) turn) word goes is keeps

@@ -8,24 +8,24 @@ use Rattle.pcep_session.specs.declared.session.Input.TheVariants.{Tick as Ticked
 use Rattle.pcep_session.specs.declared.state.Phase.{Phase}
 use Rattle.pcep_session.specs.declared.state.Phase.TheVariants.{Idle, OpenWait, KeepWait, Up, Down}
 use Rattle.pcep_session.specs.declared.state.State.{State}
-use Rattle.pcep_session.specs.Table.{Turn, turn_in, turn_of, waits, up_tick, at_tick, has_passed}
+use Rattle.pcep_session.specs.Table.{SessionStep, turn_in, turn_of, waits, up_tick, at_tick, has_passed}
 use Rattle.member_trait.specs.plant_model.Events.{is_down}
 use Rattle.network_events.specs.Turns.{IsLast}
 
 -- nothing, or a Keepalive: then it is over only if it was
-pub record Stays (over : Bool) (t : Turn) : Type 0 where
+pub record Stays (over : Bool) (t : SessionStep) : Type 0 where
   pub says : (t.actions ≡ []) ⊎ (t.actions ≡ Send own.Keepalive ∷ [])
   pub after : is_down t.next.phase ≡ over
 
 -- or the end
-pub record Ends (t : Turn) : Type 0 where
+pub record Ends (t : SessionStep) : Type 0 where
   pub last : IsLast t.actions
   pub over : is_down t.next.phase ≡ true
 
-abbrev pub IsTickOf : Bool → Turn → Type 0
+abbrev pub IsTickOf : Bool → SessionStep → Type 0
 IsTickOf was t = Stays was t ⊎ Ends t
 
-either : (Q : Turn → Type 0) (b : Bool) (x y : Turn) → Q x → Q y → Q (cond b x y)
+either : (Q : SessionStep → Type 0) (b : Bool) (x y : SessionStep) → Q x → Q y → Q (cond b x y)
 either Q true x y left right = left
 either Q false x y left right = right
 

@@ -14,7 +14,7 @@ use Rattle.pcep_session.specs.declared.state.Phase.{Phase}
 use Rattle.pcep_session.specs.declared.state.Phase.TheVariants.{Idle, OpenWait, KeepWait, Up, Down}
 use Rattle.pcep_session.specs.declared.state.State.{State}
 use Rattle.pcep_session.specs.Reports.{first_error_of, first_opening_of}
-use Rattle.pcep_session.specs.Table.{Turn, turn_in, turn_of, open_wait, refused_terms, refused, keep_wait, in_up, up_tick, waits, heard, at_tick, has_passed, is_recent}
+use Rattle.pcep_session.specs.Table.{SessionStep, turn_in, turn_of, open_wait, refused_terms, refused, keep_wait, in_up, up_tick, waits, heard, at_tick, has_passed, is_recent}
 use Rattle.member_trait.specs.plant_model.Events.{is_down}
 use Rattle.network_links.specs.plant_sessions.Ends.{own_bytes}
 use Rattle.network_events.specs.Turns.{IsPass}
@@ -30,40 +30,40 @@ word_length saying.Keepalive = omega arith
 word_length (saying.Error kind value) = omega arith
 word_length (saying.Close why) = omega arith
 
-pub record Lives (was : Bool) (t : Turn) : Type 0 where
+pub record Lives (was : Bool) (t : SessionStep) : Type 0 where
   pub says : (t.actions ≡ []) ⊎ ((o : Own) × (t.actions ≡ action.Send o ∷ [])) ⊎ (t.actions ≡ action.Up ∷ [])
   pub after : is_down t.next.phase ≡ was
 
 abbrev pub IsShort : Own → Type 0
 IsShort o = length (own_bytes o) ≤ 12
 
-pub record Dies (t : Turn) : Type 0 where
+pub record Dies (t : SessionStep) : Type 0 where
   pub why : Reason
   pub says : (t.actions ≡ action.Down why ∷ []) ⊎ ((o : Own) × IsShort o × (t.actions ≡ action.Send o ∷ action.Down why ∷ []))
       ⊎ ((o o' : Own) × IsShort o × IsShort o' × (t.actions ≡ action.Send o ∷ action.Send o' ∷ action.Down why ∷ []))
   pub over : is_down t.next.phase ≡ true
 
-abbrev pub IsStep : Bool → Turn → Type 0
+abbrev pub IsStep : Bool → SessionStep → Type 0
 IsStep was t = Lives was t ⊎ Dies t ⊎ IsPass t.actions
 
-either : (Q : Turn → Type 0) (b : Bool) (x y : Turn) → Q x → Q y → Q (cond b x y)
+either : (Q : SessionStep → Type 0) (b : Bool) (x y : SessionStep) → Q x → Q y → Q (cond b x y)
 either Q true x y left right = left
 either Q false x y left right = right
 
 -- the rows of the table
-still : (was : Bool) (t : Turn) → t.actions ≡ [] → is_down t.next.phase ≡ was → IsStep was t
+still : (was : Bool) (t : SessionStep) → t.actions ≡ [] → is_down t.next.phase ≡ was → IsStep was t
 still was t says is = inl (record { says = inl says; after = is })
 
-says_one : (was : Bool) (o : Own) (t : Turn) → t.actions ≡ action.Send o ∷ [] → is_down t.next.phase ≡ was → IsStep was t
+says_one : (was : Bool) (o : Own) (t : SessionStep) → t.actions ≡ action.Send o ∷ [] → is_down t.next.phase ≡ was → IsStep was t
 says_one was o t says is = inl (record { says = inr (inl (o, says)); after = is })
 
-last_of : (was : Bool) (o : Own) (why : Reason) (t : Turn) → IsShort o → t.actions ≡ action.Send o ∷ action.Down why ∷ [] → is_down t.next.phase ≡ true → IsStep was t
+last_of : (was : Bool) (o : Own) (why : Reason) (t : SessionStep) → IsShort o → t.actions ≡ action.Send o ∷ action.Down why ∷ [] → is_down t.next.phase ≡ true → IsStep was t
 last_of was o why t short says over = inr (inl (record { why = why; says = inr (inl (o, short, says)); over = over }))
 
-ends_of : (was : Bool) (why : Reason) (t : Turn) → t.actions ≡ action.Down why ∷ [] → is_down t.next.phase ≡ true → IsStep was t
+ends_of : (was : Bool) (why : Reason) (t : SessionStep) → t.actions ≡ action.Down why ∷ [] → is_down t.next.phase ≡ true → IsStep was t
 ends_of was why t says over = inr (inl (record { why = why; says = inl says; over = over }))
 
-two_of : (was : Bool) (o o' : Own) (why : Reason) (t : Turn) → IsShort o → IsShort o' → t.actions ≡ action.Send o ∷ action.Send o' ∷ action.Down why ∷ [] → is_down t.next.phase ≡ true → IsStep was t
+two_of : (was : Bool) (o o' : Own) (why : Reason) (t : SessionStep) → IsShort o → IsShort o' → t.actions ≡ action.Send o ∷ action.Send o' ∷ action.Down why ∷ [] → is_down t.next.phase ≡ true → IsStep was t
 two_of was o o' why t short short' says over = inr (inl (record { why = why; says = inr (inr (o, o', short, short', says)); over = over }))
 
 fails_as : (s : State) (value : ℕ) → IsStep false (record { actions = action.Send (saying.Error 1 value) ∷ action.Down (reason.Opening value) ∷ []; next = record s { phase = Down; since = s.clock } })

@@ -4,7 +4,7 @@ use Rattle.std.proofs.lemmas.Bool.{cases_lt, lt-ltb, le-ltb}
 use Rattle.dom_base.specs.declared.names.As.{As}
 use Rattle.plant_text.specs.declared.settings.NetworkParts.{NetworkParts}
 use Rattle.plant_text.specs.Names.{parent_as, same_as}
-use Rattle.plant_text.specs.Settings.{has_line, is_element, lines}
+use Rattle.plant_text.specs.Settings.{has_adjacency, is_element, adjacencies}
 use Rattle.member_trait.specs.plant_model.Events.{Answered, later}
 use Rattle.member_trait.specs.Membership.{AreJoined, KeysBefore}
 use Rattle.network_events.specs.Standing.{Here}
@@ -22,7 +22,7 @@ module _ {P : Type 0} {S : Type 0} where
       let same = sym moves.stepped.network in
       record {
         joined = subst AreJoined same sound.joined;
-        apart = subst (λ (n : NetworkParts). (a b : As) → has_line a b (lines n) ≡ true → same_as a b ≡ false) same sound.apart;
+        apart = subst (λ (n : NetworkParts). (a b : As) → has_adjacency a b (adjacencies n) ≡ true → same_as a b ≡ false) same sound.apart;
         below = subst (λ (n : NetworkParts). (d : As) → is_element n d ≡ true → same_as d parent_as ≡ false) same sound.below;
         few = subst (λ (n : NetworkParts). length n.peers < 2 ^ 32) same sound.few;
         kept = moves.kept;

@@ -20,7 +20,7 @@ use Rattle.network_events.proofs.PassRoom.{roomy_grown}
 -- ---- what is kept
 
 of_grown : (n : NetworkParts) (f f' : Flow) → OnlyGrows f f' → IsOf n f → IsOf n f'
-of_grown n f f' grows of = record { lines_are = ap (λ (y : Flow). y.lines) grows.same ∙ of.lines_are; peers_are = ap (λ (y : Flow). y.peers) grows.same ∙ of.peers_are }
+of_grown n f f' grows of = record { adjacencies_are = ap (λ (y : Flow). y.adjacencies) grows.same ∙ of.adjacencies_are; peers_are = ap (λ (y : Flow). y.peers) grows.same ∙ of.peers_are }
 
 -- nothing has grown
 grows_none : (f : Flow) → OnlyGrows f f
@@ -34,9 +34,9 @@ pub same_grows : (f f' : Flow) → f' ≡ f → OnlyGrows f f'
 same_grows f f' same = subst (λ (y : Flow). OnlyGrows f y) (sym same) (grows_none f)
 
 -- the links and peers stay once what was said is cleared
-pub cleared_of : (n : NetworkParts) (f f1 f2 : Flow) → f1.lines ≡ f.lines → f1.peers ≡ f.peers → ClearsSaid f1 f2 → IsOf n f → IsOf n f2
-cleared_of n f f1 f2 lines peers clears of = record {
-  lines_are = ap (λ (y : Flow). y.lines) clears.kept ∙ lines ∙ of.lines_are;
+pub cleared_of : (n : NetworkParts) (f f1 f2 : Flow) → f1.adjacencies ≡ f.adjacencies → f1.peers ≡ f.peers → ClearsSaid f1 f2 → IsOf n f → IsOf n f2
+cleared_of n f f1 f2 adjacencies peers clears of = record {
+  adjacencies_are = ap (λ (y : Flow). y.adjacencies) clears.kept ∙ adjacencies ∙ of.adjacencies_are;
   peers_are = ap (λ (y : Flow). y.peers) clears.kept ∙ peers ∙ of.peers_are;
 }
 

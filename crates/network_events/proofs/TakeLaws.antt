@@ -22,7 +22,7 @@ use Rattle.member_trait.specs.plant_model.Wire.{Codec, Checked, Admitted, Wrong}
 use Rattle.member_trait.specs.plant_model.Writing.{reply_message, unavailable, busy}
 use Rattle.member_trait.specs.plant_model.Branches.{branches_in}
 use Rattle.disclosure.specs.Policy.{is_denied}
-use Rattle.member_trait.specs.plant_model.Element.{Stage, Waits, Ready, fresh_id, Item, Row, Way, Element, Place, Taken, each, ended, at_stage, waiting, way_to}
+use Rattle.member_trait.specs.plant_model.Element.{Stage, Waits, Ready, fresh_id, Item, Row, Way, Element, ElementSettings, Taken, each, ended, at_stage, waiting, way_to}
 use Rattle.member_trait.specs.plant_model.Routes.{toward}
 use Rattle.member_trait.specs.plant_model.Taking.{item_of, sequence_or, goes_up, sent_on, send_on, take_along, take_path, take_wish, take_new, take_checked, take_asked, staged, answered, made_ready, take_answer, take_reply, told_busy, cancelled, take_busy, take_cancel, notice_steps, take_notice, error_answer, told_error, take_failure, take_errors, take_report, take}
 use Rattle.member_trait.specs.Owed.{count_by_asker, asked_in}
@@ -74,35 +74,35 @@ module _ (P : Type 0) (S : Type 0) (test : Peer → Bool) where
   send_raises pin p class flags x w sequence rest refused k (Some way) =
       pick (one_if (test p)) k way.up _ _ (pick (one_if (test p)) k refused _ _ (omega arith) (sent_raises pin p class flags x w sequence rest k way)) (omega arith)
 
-  along_raises : (e : Place) (pin : P) (p : Peer) (class : Class) (flags x : ℕ) (w : Wanted) (k : Element P S) (sequence : List As) →
+  along_raises : (e : ElementSettings) (pin : P) (p : Peer) (class : Class) (flags x : ℕ) (w : Wanted) (k : Element P S) (sequence : List As) →
       Raises (one_if (test p)) k (take_along e pin p class flags x w k sequence)
   along_raises e pin p class flags x w k [] = omega arith
   along_raises e pin p class flags x w k (a ∷ []) = opened_raises p x (item_of pin class flags w (a ∷ []) (Ready [])) k.pending
   along_raises e pin p class flags x w k (a ∷ b ∷ rest) = send_raises pin p class flags x w (a ∷ b ∷ rest) (b ∷ rest) (is_denied e.deny class b) k (way_to (toward b e.routes) k.ways)
 
-  path_raises : (e : Place) (pin : P) (p : Peer) (class : Class) (flags x : ℕ) (w : Wanted) (k : Element P S) →
+  path_raises : (e : ElementSettings) (pin : P) (p : Peer) (class : Class) (flags x : ℕ) (w : Wanted) (k : Element P S) →
       Raises (one_if (test p)) k (take_path e pin p class flags x w k)
   path_raises e pin p class flags x w k =
       pick (one_if (test p)) k (goes_up e.parent class w.sequence) _ _
       (send_raises pin p class flags x w [] [] false k (way_to the_parent k.ways))
       (along_raises e pin p class flags x w k (sequence_or e.own w.sequence))
 
-  wish_raises : (show : S → List Hop) (e : Place) (pin : P) (p : Peer) (class : Class) (now flags x : ℕ) (k : Element P S) (wish : Wish) →
+  wish_raises : (show : S → List Hop) (e : ElementSettings) (pin : P) (p : Peer) (class : Class) (now flags x : ℕ) (k : Element P S) (wish : Wish) →
       Raises (one_if (test p)) k (take_wish show e pin p class now flags x k wish)
   wish_raises show e pin p class now flags x k (Path w) = pick (one_if (test p)) k (is_full k.pending) _ _ (omega arith) (path_raises e pin p class flags x w k)
   wish_raises show e pin p class now flags x k (Expand key pce) = omega arith
 
-  new_raises : (show : S → List Hop) (e : Place) (pin : P) (p : Peer) (class : Class) (now : ℕ) (r : Request) (k : Element P S) (number : Option ℕ) →
+  new_raises : (show : S → List Hop) (e : ElementSettings) (pin : P) (p : Peer) (class : Class) (now : ℕ) (r : Request) (k : Element P S) (number : Option ℕ) →
       Raises (one_if (test p)) k (take_new show e pin p class now r k number)
   new_raises show e pin p class now r k (Some number) = omega arith
   new_raises show e pin p class now r k None = wish_raises show e pin p class now r.flags r.id k r.wish
 
-  checked_raises : (show : S → List Hop) (e : Place) (pin : P) (p : Peer) (class : Class) (now : ℕ) (k : Element P S) (checked : Checked) →
+  checked_raises : (show : S → List Hop) (e : ElementSettings) (pin : P) (p : Peer) (class : Class) (now : ℕ) (k : Element P S) (checked : Checked) →
       Raises (one_if (test p)) k (take_checked show e pin p class now k checked)
   checked_raises show e pin p class now k (Wrong rp kind value) = omega arith
   checked_raises show e pin p class now k (Admitted r) = new_raises show e pin p class now r k (number_of k.pending p r.id)
 
-  asked_raises : (c : Codec) (show : S → List Hop) (e : Place) (pin : P) (p : Peer) (class : Class) (now : ℕ) (a : Asked) (k : Element P S) →
+  asked_raises : (c : Codec) (show : S → List Hop) (e : ElementSettings) (pin : P) (p : Peer) (class : Class) (now : ℕ) (a : Asked) (k : Element P S) →
       Raises (one_if (test p)) k (take_asked c show e pin p class now a k)
   asked_raises c show e pin p class now a k = checked_raises show e pin p class now k (c.check a e.own)
 
@@ -154,7 +154,7 @@ module _ (P : Type 0) (S : Type 0) (test : Peer → Bool) where
   errors_raise p ids [] k = omega arith
   errors_raise p ids (e ∷ es) k = each_keeps (λ (rp : ℕ × ℕ) k'. take_failure e k' (waiting p rp.1 k'.pending.rows)) (λ rp k'. failure_raises e k' (waiting p rp.1 k'.pending.rows)) ids k
 
-  pub take_raises : (c : Codec) (show : S → List Hop) (e : Place) (pin : P) (p : Peer) (class : Class) (now : ℕ) (m : Message) (k : Element P S) →
+  pub take_raises : (c : Codec) (show : S → List Hop) (e : ElementSettings) (pin : P) (p : Peer) (class : Class) (now : ℕ) (m : Message) (k : Element P S) →
       Raises (cond (test p) (asked_in m) 0) k (take c show e pin p class now m k)
   take_raises c show e pin p class now (messages.PcReq asks) k =
       let all = each_raises (one_if (test p)) (take_asked c show e pin p class now) (asked_raises c show e pin p class now) asks k in

@@ -38,11 +38,11 @@ pub tell_room : (at : As) (ls : List Lost) (f : Flow) (r : Room) → tell_all at
 tell_room at [] f r = refl
 tell_room at (l ∷ ls) f r = ap (tell_all at ls) (put_room at l.to (lost_bytes l) f r) ∙ tell_room at ls (put_flow at l.to (lost_bytes l) f) r
 
-put_keeps : (at : As) (to : Peer) (m : Bytes) (f : Flow) → ((put_flow at to m f).room ≡ f.room) × ((put_flow at to m f).lines ≡ f.lines) × ((put_flow at to m f).peers ≡ f.peers)
+put_keeps : (at : As) (to : Peer) (m : Bytes) (f : Flow) → ((put_flow at to m f).room ≡ f.room) × ((put_flow at to m f).adjacencies ≡ f.adjacencies) × ((put_flow at to m f).peers ≡ f.peers)
 put_keeps at (Outside i) m f = (refl, refl, refl)
 put_keeps at (Inner b) m f = (refl, refl, refl)
 
-tell_keeps : (at : As) (ls : List Lost) (f : Flow) → ((tell_all at ls f).lines ≡ f.lines) × ((tell_all at ls f).peers ≡ f.peers)
+tell_keeps : (at : As) (ls : List Lost) (f : Flow) → ((tell_all at ls f).adjacencies ≡ f.adjacencies) × ((tell_all at ls f).peers ≡ f.peers)
 tell_keeps at [] f = (refl, refl)
 tell_keeps at (l ∷ ls) f =
     let rest = tell_keeps at ls (put_flow at l.to (lost_bytes l) f) in
@@ -184,7 +184,7 @@ module _ {P : Type 0} {S : Type 0} (show : S → List Hop) (n : NetworkParts) wh
       record {
         network = refl;
         lost = none;
-        lines = ap (λ (x : Flow). x.lines) tells.kept ∙ keeps.0;
+        adjacencies = ap (λ (x : Flow). x.adjacencies) tells.kept ∙ keeps.0;
         peers = ap (λ (x : Flow). x.peers) tells.kept ∙ keeps.1;
         room = tells.room;
         goes = λ g is. elim (cases_Bool (same_as at parent_as)) [

@@ -3,7 +3,7 @@ use Rattle.std.proofs.Common.{◌≡◌, ◌≤◌, ℕ, ◌+◌, ◌*◌, List,
 use Rattle.dom_base.specs.declared.names.Tick.{Tick}
 use Rattle.pcep_subobjects.specs.declared.hop.Hop.{Hop}
 use Rattle.plant_text.specs.declared.settings.NetworkParts.{NetworkParts}
-use Rattle.plant_text.specs.Settings.{lines}
+use Rattle.plant_text.specs.Settings.{adjacencies}
 use Rattle.member_trait.specs.plant_model.declared.outcome.Outcome.TheVariants.{Done}
 use Rattle.member_trait.specs.plant_model.RealWire.{wire}
 use Rattle.member_trait.specs.plant_model.Deeds as deeds
@@ -21,7 +21,7 @@ use Rattle.network_events.proofs.GoLaws.{goes_then}
 use Rattle.network_events.proofs.RoomySteps.{begins_keeps, ends_roomy, keeps_fewer}
 use Rattle.network_events.proofs.RoomyEvents.{expire_keeps}
 use Rattle.network_events.proofs.RoomyOpens.{clock_keeps}
-use Rattle.network_events.proofs.TickKeys.{keys_after, tick_lines_clock, tick_outside_clock}
+use Rattle.network_events.proofs.TickKeys.{keys_after, tick_adjacencies_clock, tick_outside_clock}
 use Rattle.network_events.proofs.TickingLaws.{uses_then}
 
 module _ {P : Type 0} {S : Type 0} (show : S → List Hop) where
@@ -46,7 +46,7 @@ module _ {P : Type 0} {S : Type 0} (show : S → List Hop) where
   pub moment_under : (now own : ℕ) (h : Here P S) (f1 f2 : Flow) → ClearsSaid h.flow f1 → f2 ≡ record f1 { clock = now } → own ≤ own_most h.network → IsKept h → IsUnderWay own (record h { flow = f2 })
   moment_under now own h f1 f2 clears is some kept = record {
     of = record {
-      lines_are = ap (λ (x : Flow). x.lines) is ∙ ap (λ (x : Flow). x.lines) clears.kept ∙ kept.of.lines_are;
+      adjacencies_are = ap (λ (x : Flow). x.adjacencies) is ∙ ap (λ (x : Flow). x.adjacencies) clears.kept ∙ kept.of.adjacencies_are;
       peers_are = ap (λ (x : Flow). x.peers) is ∙ ap (λ (x : Flow). x.peers) clears.kept ∙ kept.of.peers_are;
     };
     none = kept.none;
@@ -58,19 +58,19 @@ module _ {P : Type 0} {S : Type 0} (show : S → List Hop) where
     abbrev pub peers_told : NetworkParts → Going P S → Going P S
     peers_told n g = deeds.tick_outside P S wire n show 0 n.peers now g
 
-    abbrev pub lines_told : NetworkParts → Going P S → Going P S
-    lines_told n g = deeds.tick_lines P S wire n show (lines n) now g
+    abbrev pub adjacencies_told : NetworkParts → Going P S → Going P S
+    adjacencies_told n g = deeds.tick_adjacencies P S wire n show (adjacencies n) now g
 
     abbrev pub told_all : NetworkParts → Going P S → Going P S
-    told_all n g = deeds.expire P S wire n show now.0 (lines_told n (peers_told n g))
+    told_all n g = deeds.expire P S wire n show now.0 (adjacencies_told n (peers_told n g))
 
     -- no key was issued after the moment, before keys expire
-    pub told_keys : (a b c : Here P S) → Goes peers_told a b → Goes lines_told b c → IsOn a.seen a.flow → KeysBefore now.0 a.network a.seen → KeysBefore now.0 c.network c.seen
+    pub told_keys : (a b c : Here P S) → Goes peers_told a b → Goes adjacencies_told b c → IsOn a.seen a.flow → KeysBefore now.0 a.network a.seen → KeysBefore now.0 c.network c.seen
     told_keys a b c x y on keys =
         let g1 = peers_told a.network on.going in
         let is1 = x.goes on.going on.at in
         let before = keys_after now.0 a.network b.network on.going g1 a.seen b.seen a.flow b.flow x.network on.at is1 (λ d. tick_outside_clock show a.network now d a.network.peers on.going) keys in
-        keys_after now.0 b.network c.network g1 (lines_told b.network g1) b.seen c.seen b.flow c.flow y.network is1 (y.goes g1 is1) (λ d. tick_lines_clock show b.network now d (lines b.network) g1) before
+        keys_after now.0 b.network c.network g1 (adjacencies_told b.network g1) b.seen c.seen b.flow c.flow y.network is1 (y.goes g1 is1) (λ d. tick_adjacencies_clock show b.network now d (adjacencies b.network) g1) before
 
     expire_uses : (a b : Here P S) → Goes (λ n. deeds.expire P S wire n show now.0) a b → Uses (λ n. deeds.expire P S wire n show now.0) 0 a b
     expire_uses a b goes = record {
@@ -78,24 +78,24 @@ module _ {P : Type 0} {S : Type 0} (show : S → List Hop) where
       keeps = λ g is own keeps. expire_keeps show a.network own now.0 g b.network a.seen b.seen a.lost b.lost a.flow b.flow goes is (keeps_fewer a.network own (0 + own) a.seen a.flow (omega arith) keeps);
     }
 
-    pub told_uses : (a b c e : Here P S) → Uses peers_told (length a.network.peers) a b → Uses lines_told (4 * length (lines b.network)) b c → Goes (λ n. deeds.expire P S wire n show now.0) c e →
-        Uses told_all ((length a.network.peers + 4 * length (lines b.network)) + 0) a e
+    pub told_uses : (a b c e : Here P S) → Uses peers_told (length a.network.peers) a b → Uses adjacencies_told (4 * length (adjacencies b.network)) b c → Goes (λ n. deeds.expire P S wire n show now.0) c e →
+        Uses told_all ((length a.network.peers + 4 * length (adjacencies b.network)) + 0) a e
     told_uses a b c e x y z =
-        uses_then (λ n g. lines_told n (peers_told n g)) (λ n. deeds.expire P S wire n show now.0) (length a.network.peers + 4 * length (lines b.network)) 0 a c e
-        (uses_then peers_told lines_told (length a.network.peers) (4 * length (lines b.network)) a b c x y) (expire_uses c e z)
+        uses_then (λ n g. adjacencies_told n (peers_told n g)) (λ n. deeds.expire P S wire n show now.0) (length a.network.peers + 4 * length (adjacencies b.network)) 0 a c e
+        (uses_then peers_told adjacencies_told (length a.network.peers) (4 * length (adjacencies b.network)) a b c x y) (expire_uses c e z)
 
     -- between events again
-    pub told_roomy : (a b c e : Here P S) → Uses peers_told (length a.network.peers) a b → Uses lines_told (4 * length (lines b.network)) b c → Goes (λ n. deeds.expire P S wire n show now.0) c e →
+    pub told_roomy : (a b c e : Here P S) → Uses peers_told (length a.network.peers) a b → Uses adjacencies_told (4 * length (adjacencies b.network)) b c → Goes (λ n. deeds.expire P S wire n show now.0) c e →
         IsOn a.seen a.flow → KeepsOn (own_most a.network) a.network a.seen a.flow → IsRoomy a.network e.seen e.flow
     told_roomy a b c e x y z on keeps =
         let uses = told_uses a b c e x y z in
-        let words = (length a.network.peers + 4 * length (lines b.network)) + 0 in
+        let words = (length a.network.peers + 4 * length (adjacencies b.network)) + 0 in
         ends_roomy a.network 0 e.seen e.flow
-        (uses.keeps on.going on.at 0 (keeps_fewer a.network (words + 0) (own_most a.network) a.seen a.flow (omega (arith, ap (λ (n : NetworkParts). length (lines n)) x.goes.network)) keeps))
+        (uses.keeps on.going on.at 0 (keeps_fewer a.network (words + 0) (own_most a.network) a.seen a.flow (omega (arith, ap (λ (n : NetworkParts). length (adjacencies n)) x.goes.network)) keeps))
 
   -- the event
   pub tick_done : (t : ℕ) (now : Tick) (f f1 : Flow) (a b c e : Here P S) → now ≡ record { 0 = events.later f.clock t } → ClearsSaid f f1 → a.flow ≡ record f1 { clock = now.0 } →
-      Goes (peers_told now) a b → Goes (lines_told now) b c → Goes (λ n. deeds.expire P S wire n show now.0) c e → IsDone (events.tick P S wire a.network show t (state_of a.seen f)) (Ok Done) e.seen e.flow
+      Goes (peers_told now) a b → Goes (adjacencies_told now) b c → Goes (λ n. deeds.expire P S wire n show now.0) c e → IsDone (events.tick P S wire a.network show t (state_of a.seen f)) (Ok Done) e.seen e.flow
   tick_done t now f f1 a b c e now_is clears is x y z =
       let going : Tick → Going P S = λ (m : Tick). told_all m a.network (at_moment m.0 a.seen f) in
       let start : IsAt (at_moment now.0 a.seen f) a.seen a.flow = moment_is now.0 a.seen f f1 a.flow clears is in
@@ -103,5 +103,5 @@ module _ {P : Type 0} {S : Type 0} (show : S → List Hop) where
       let at : IsAt (going (record { 0 = events.later f.clock t })) e.seen e.flow = subst (λ (m : Tick). IsAt (going m) e.seen e.flow) now_is (all.goes (at_moment now.0 a.seen f) start) in
       record { answer = refl; state = at.state; said = at.said }
     where
-      goes_all : Goes (peers_told now) a b → Goes (lines_told now) b c → Goes (λ n. deeds.expire P S wire n show now.0) c e → Goes (told_all now) a e
-      goes_all x' y' z' = goes_then (λ n g. lines_told now n (peers_told now n g)) (λ n. deeds.expire P S wire n show now.0) a c e (goes_then (peers_told now) (lines_told now) a b c x' y') z'
+      goes_all : Goes (peers_told now) a b → Goes (adjacencies_told now) b c → Goes (λ n. deeds.expire P S wire n show now.0) c e → Goes (told_all now) a e
+      goes_all x' y' z' = goes_then (λ n g. adjacencies_told now n (peers_told now n g)) (λ n. deeds.expire P S wire n show now.0) a c e (goes_then (peers_told now) (adjacencies_told now) a b c x' y') z'

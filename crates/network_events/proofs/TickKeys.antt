@@ -13,7 +13,7 @@ use Rattle.pcep_session.specs.Table.{turn_of}
 use Rattle.plant_text.specs.declared.settings.NetworkParts.{NetworkParts}
 use Rattle.plant_text.specs.declared.settings.PeerRow.{PeerRow}
 use Rattle.plant_text.specs.Names.{same_as, parent_as}
-use Rattle.plant_text.specs.Settings.{Line, is_element}
+use Rattle.plant_text.specs.Settings.{Adjacency, is_element}
 use Rattle.member_trait.specs.plant_model.Names.{is_empty}
 use Rattle.member_trait.specs.plant_model.RealWire.{wire}
 use Rattle.member_trait.specs.plant_model.State.{State, Connection}
@@ -57,7 +57,7 @@ module _ {P : Type 0} {S : Type 0} where
     fall_clock : (at : As) (p : Peer) (g : Going P S) → clock_at d (deeds.fall P S wire n show at p g) ≡ clock_at d g
     fall_clock at p g = ap (clock_in d) (fall_leaves show n at p g).members ∙ fallen_clock d at p (members_of g.state)
 
-    break_clock : (x : Line) (g : Going P S) → clock_at d (deeds.break_line P S wire n show x g) ≡ clock_at d g
+    break_clock : (x : Adjacency) (g : Going P S) → clock_at d (deeds.break_adjacency P S wire n show x g) ≡ clock_at d g
     break_clock x g =
         ap (clock_in d) (break_leaves show n x.lower x.upper g).members
         ∙ fallen_clock d x.upper (Inner x.lower) (fallen x.lower (Inner x.upper) (members_of g.state)) ∙ fallen_clock d x.lower (Inner x.upper) (members_of g.state)
@@ -93,27 +93,27 @@ module _ {P : Type 0} {S : Type 0} where
 
     -- ---- links
 
-    inner_step_clock : (x : Line) (at b : As) (g g0 : Going P S) (as' : List Action) → clock_at d g0 ≡ clock_at d g → IsTickTurn as' →
-        clock_at d (cond (any_fall as') (deeds.break_line P S wire n show x g) (deeds.inner_acts P S wire n show at b true as' g0)) ≡ clock_at d g
+    inner_step_clock : (x : Adjacency) (at b : As) (g g0 : Going P S) (as' : List Action) → clock_at d g0 ≡ clock_at d g → IsTickTurn as' →
+        clock_at d (cond (any_fall as') (deeds.break_adjacency P S wire n show x g) (deeds.inner_acts P S wire n show at b true as' g0)) ≡ clock_at d g
     inner_step_clock x at b g g0 as' same (inl none) =
-        subst (λ (y : List Action). clock_at d (cond (any_fall y) (deeds.break_line P S wire n show x g) (deeds.inner_acts P S wire n show at b true y g0)) ≡ clock_at d g) (sym none) same
+        subst (λ (y : List Action). clock_at d (cond (any_fall y) (deeds.break_adjacency P S wire n show x g) (deeds.inner_acts P S wire n show at b true y g0)) ≡ clock_at d g) (sym none) same
     inner_step_clock x at b g g0 as' same (inr (inl alone)) =
-        subst (λ (y : List Action). clock_at d (cond (any_fall y) (deeds.break_line P S wire n show x g) (deeds.inner_acts P S wire n show at b true y g0)) ≡ clock_at d g) (sym alone)
+        subst (λ (y : List Action). clock_at d (cond (any_fall y) (deeds.break_adjacency P S wire n show x g) (deeds.inner_acts P S wire n show at b true y g0)) ≡ clock_at d g) (sym alone)
         (say_clock (cond true (cond (is_due own.Keepalive) (cond (is_empty (g0.state.queues at b)) false true) false) false) at (Inner b) own.Keepalive g0 ∙ same)
     inner_step_clock x at b g g0 as' same (inr (inr (o, why, short, last))) =
-        subst (λ (y : List Action). clock_at d (cond (any_fall y) (deeds.break_line P S wire n show x g) (deeds.inner_acts P S wire n show at b true y g0)) ≡ clock_at d g) (sym last)
+        subst (λ (y : List Action). clock_at d (cond (any_fall y) (deeds.break_adjacency P S wire n show x g) (deeds.inner_acts P S wire n show at b true y g0)) ≡ clock_at d g) (sym last)
         (break_clock x g)
 
-    inner_clock : (x : Line) (at b : As) (g : Going P S) → clock_at d (deeds.inner_input P S wire n show x at b (input.Tick now) g) ≡ clock_at d g
+    inner_clock : (x : Adjacency) (at b : As) (g : Going P S) → clock_at d (deeds.inner_input P S wire n show x at b (input.Tick now) g) ≡ clock_at d g
     inner_clock x at b g =
         let r = turn_of (g.state.sessions at b) (input.Tick now) in
         inner_step_clock x at b g (record { state = deeds.with_inner P S wire n show at b r.next g.state; deeds = g.deeds }) r.actions refl (ticks_are_turns (g.state.sessions at b) now)
 
-    pub tick_lines_clock : (xs : List Line) (g : Going P S) → clock_at d (deeds.tick_lines P S wire n show xs now g) ≡ clock_at d g
-    tick_lines_clock [] g = refl
-    tick_lines_clock (x ∷ xs) g =
+    pub tick_adjacencies_clock : (xs : List Adjacency) (g : Going P S) → clock_at d (deeds.tick_adjacencies P S wire n show xs now g) ≡ clock_at d g
+    tick_adjacencies_clock [] g = refl
+    tick_adjacencies_clock (x ∷ xs) g =
         let g1 : Going P S = deeds.inner_input P S wire n show x x.lower x.upper (input.Tick now) g in
-        tick_lines_clock xs (deeds.inner_input P S wire n show x x.upper x.lower (input.Tick now) g1) ∙ inner_clock x x.upper x.lower g1 ∙ inner_clock x x.lower x.upper g
+        tick_adjacencies_clock xs (deeds.inner_input P S wire n show x x.upper x.lower (input.Tick now) g1) ∙ inner_clock x x.upper x.lower g1 ∙ inner_clock x x.lower x.upper g
 
   -- so no key is issued after the moment
   pub keys_after : (now : ℕ) (n n' : NetworkParts) (g g' : Going P S) (ms ms' : Membership P S) (f f' : Flow) → n' ≡ n → IsAt g ms f → IsAt g' ms' f' → ((d : As) → clock_at d g' ≡ clock_at d g) → KeysBefore now n ms → KeysBefore now n' ms'

@@ -5,7 +5,7 @@ use Rattle.pcep_subobjects.specs.declared.hop.Hop.{Hop}
 use Rattle.pcep_session.specs.declared.session.Input.TheVariants as input
 use Rattle.plant_text.specs.declared.settings.NetworkParts.{NetworkParts}
 use Rattle.plant_text.specs.declared.settings.PeerRow.{PeerRow}
-use Rattle.plant_text.specs.Settings.{Line}
+use Rattle.plant_text.specs.Settings.{Adjacency}
 use Rattle.member_trait.specs.plant_model.RealWire.{wire}
 use Rattle.member_trait.specs.plant_model.Deeds as deeds
 use Rattle.member_trait.specs.plant_model.Deeds.{Going}
@@ -28,7 +28,7 @@ module _ {P : Type 0} {S : Type 0} (show : S → List Hop) (n : NetworkParts) (n
   peers_all rows g = let e : 0 + length rows ≡ length rows = omega arith in peers_are rows 0 g ∙ ap (λ (k : ℕ). peers_to k g) e
 
   -- links one behind the other
-  pub lines_append : (xs ys : List Line) (g : Going P S) → deeds.tick_lines P S wire n show (xs ++ ys) now g ≡ deeds.tick_lines P S wire n show ys now (deeds.tick_lines P S wire n show xs now g)
-  lines_append [] ys g = refl
-  lines_append (x ∷ xs) ys g =
-      lines_append xs ys (deeds.inner_input P S wire n show x x.upper x.lower (input.Tick now) (deeds.inner_input P S wire n show x x.lower x.upper (input.Tick now) g))
+  pub adjacencies_append : (xs ys : List Adjacency) (g : Going P S) → deeds.tick_adjacencies P S wire n show (xs ++ ys) now g ≡ deeds.tick_adjacencies P S wire n show ys now (deeds.tick_adjacencies P S wire n show xs now g)
+  adjacencies_append [] ys g = refl
+  adjacencies_append (x ∷ xs) ys g =
+      adjacencies_append xs ys (deeds.inner_input P S wire n show x x.upper x.lower (input.Tick now) (deeds.inner_input P S wire n show x x.lower x.upper (input.Tick now) g))

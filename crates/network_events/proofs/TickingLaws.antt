@@ -10,8 +10,8 @@ use Rattle.pcep_subobjects.specs.declared.hop.Hop.{Hop}
 use Rattle.pcep_session.specs.declared.session.Input.TheVariants as input
 use Rattle.plant_text.specs.declared.settings.NetworkParts.{NetworkParts}
 use Rattle.plant_text.specs.Names.{same_as, same_link}
-use Rattle.plant_text.specs.Settings.{Line, before_line, children, has_line, insert_line, line, lines, sorted, upward}
-use Rattle.network_links.specs.settings_layout.Lines.{line_of}
+use Rattle.plant_text.specs.Settings.{Adjacency, before_adjacency, children, has_adjacency, insert_adjacency, adjacency, adjacencies, sorted, upward}
+use Rattle.network_links.specs.settings_layout.Adjacencies.{adjacency_of}
 use Rattle.member_trait.specs.plant_model.RealWire.{wire}
 use Rattle.member_trait.specs.plant_model.Deeds as deeds
 use Rattle.member_trait.specs.plant_model.Deeds.{Going, element_of}
@@ -23,13 +23,13 @@ use Rattle.network_events.specs.Roomy.{KeepsOn}
 use Rattle.network_events.specs.Standing.{IsAt, Here, Goes}
 use Rattle.network_events.specs.Using.{IsOn, IsUnderWay, Uses}
 use Rattle.network_events.proofs.GoLaws.{goes_then, self}
-use Rattle.network_events.proofs.RoomyNeeds.{apart_back, line_back}
+use Rattle.network_events.proofs.RoomyNeeds.{apart_back, adjacency_back}
 use Rattle.network_events.proofs.RoomySteps.{keeps_fewer}
 use Rattle.network_events.proofs.RoomyEvents.{outside_keeps, inner_keeps}
 use Rattle.network_events.proofs.TickLaws.{peers_to, peers_all}
 
 pub goes_of : {P : Type 0} {S : Type 0} {step : NetworkParts → Going P S → Going P S} {a b : Here P S} → Goes step a b → IsOf a.network a.flow → IsOf a.network b.flow
-goes_of goes of = record { lines_are = goes.lines ∙ of.lines_are; peers_are = goes.peers ∙ of.peers_are }
+goes_of goes of = record { adjacencies_are = goes.adjacencies ∙ of.adjacencies_are; peers_are = goes.peers ∙ of.peers_are }
 
 module _ {P : Type 0} {S : Type 0} where
   pub uses_then : (f h : NetworkParts → Going P S → Going P S) (v w : ℕ) (a b c : Here P S) → Uses f v a b → Uses h w b c → Uses (λ n g. h n (f n g)) (v + w) a c
@@ -47,7 +47,7 @@ module _ {P : Type 0} {S : Type 0} where
     goes = record {
       network = x.goes.network;
       lost = x.goes.lost;
-      lines = x.goes.lines;
+      adjacencies = x.goes.adjacencies;
       peers = x.goes.peers;
       room = x.goes.room;
       goes = λ g is. subst (λ (y : Going P S). IsAt y b.seen b.flow) (same g) (x.goes.goes g is);
@@ -93,7 +93,7 @@ module _ {P : Type 0} {S : Type 0} where
 
     -- ---- links
 
-    pub end_uses : (x : Line) (at to : As) (a b : Here P S) → same_as x.lower x.upper ≡ false → is_member a.network x.lower ≡ true → is_member a.network x.upper ≡ true →
+    pub end_uses : (x : Adjacency) (at to : As) (a b : Here P S) → same_as x.lower x.upper ≡ false → is_member a.network x.lower ≡ true → is_member a.network x.upper ≡ true →
         Goes (λ n. deeds.inner_input P S wire n show x at to (input.Tick now)) a b → Uses (λ n. deeds.inner_input P S wire n show x at to (input.Tick now)) 2 a b
     end_uses x at to a b apart lower upper goes = record {
       goes = goes;
@@ -101,37 +101,37 @@ module _ {P : Type 0} {S : Type 0} where
     }
 
     -- a tick to one link, the lower end first
-    abbrev pub line_tick : Line → NetworkParts → Going P S → Going P S
-    line_tick x n g = deeds.inner_input P S wire n show x x.upper x.lower (input.Tick now) (deeds.inner_input P S wire n show x x.lower x.upper (input.Tick now) g)
+    abbrev pub adjacency_tick : Adjacency → NetworkParts → Going P S → Going P S
+    adjacency_tick x n g = deeds.inner_input P S wire n show x x.upper x.lower (input.Tick now) (deeds.inner_input P S wire n show x x.lower x.upper (input.Tick now) g)
 
-    line_more : (n : NetworkParts) (xs : List Line) (k : ℕ) (x : Line) (g : Going P S) → slice_get xs k ≡ Some x →
-        line_tick x n (deeds.tick_lines P S wire n show (take k xs) now g) ≡ deeds.tick_lines P S wire n show (take (suc k) xs) now g
-    line_more n [] k x g is = absurd (let none : None ≡ Some x = is in cc)
-    line_more n (y ∷ xs) zero x g is =
+    adjacency_more : (n : NetworkParts) (xs : List Adjacency) (k : ℕ) (x : Adjacency) (g : Going P S) → slice_get xs k ≡ Some x →
+        adjacency_tick x n (deeds.tick_adjacencies P S wire n show (take k xs) now g) ≡ deeds.tick_adjacencies P S wire n show (take (suc k) xs) now g
+    adjacency_more n [] k x g is = absurd (let none : None ≡ Some x = is in cc)
+    adjacency_more n (y ∷ xs) zero x g is =
         let one : Some y ≡ Some x = is in
         let same : y ≡ x = cc in
-        ap (λ (z : Line). line_tick z n g) (sym same)
-    line_more n (y ∷ xs) (suc k) x g is = line_more n xs k x (line_tick y n g) is
+        ap (λ (z : Adjacency). adjacency_tick z n g) (sym same)
+    adjacency_more n (y ∷ xs) (suc k) x g is = adjacency_more n xs k x (adjacency_tick y n g) is
 
-    pub lines_more : (xs : List Line) (k : ℕ) (x : Line) (a b c : Here P S) → slice_get xs k ≡ Some x → Uses (λ n. deeds.tick_lines P S wire n show (take k xs) now) (4 * k) a b → Uses (line_tick x) 4 b c →
-        Uses (λ n. deeds.tick_lines P S wire n show (take (suc k) xs) now) (4 * suc k) a c
-    lines_more xs k x a b c is one two =
-        uses_by (λ n g. line_tick x n (deeds.tick_lines P S wire n show (take k xs) now g)) (λ n. deeds.tick_lines P S wire n show (take (suc k) xs) now) (4 * k + 4) (4 * suc k) a c
-        (λ g. line_more a.network xs k x g is) (omega arith)
-        (uses_then (λ n. deeds.tick_lines P S wire n show (take k xs) now) (line_tick x) (4 * k) 4 a b c one two)
+    pub adjacencies_more : (xs : List Adjacency) (k : ℕ) (x : Adjacency) (a b c : Here P S) → slice_get xs k ≡ Some x → Uses (λ n. deeds.tick_adjacencies P S wire n show (take k xs) now) (4 * k) a b → Uses (adjacency_tick x) 4 b c →
+        Uses (λ n. deeds.tick_adjacencies P S wire n show (take (suc k) xs) now) (4 * suc k) a c
+    adjacencies_more xs k x a b c is one two =
+        uses_by (λ n g. adjacency_tick x n (deeds.tick_adjacencies P S wire n show (take k xs) now g)) (λ n. deeds.tick_adjacencies P S wire n show (take (suc k) xs) now) (4 * k + 4) (4 * suc k) a c
+        (λ g. adjacency_more a.network xs k x g is) (omega arith)
+        (uses_then (λ n. deeds.tick_adjacencies P S wire n show (take k xs) now) (adjacency_tick x) (4 * k) 4 a b c one two)
 
 -- a link of the list is between its ends
-pub line_found : (xs : List Line) (k : ℕ) (x : Line) → slice_get xs k ≡ Some x → has_line x.lower x.upper xs ≡ true
-line_found [] k x is = absurd (let none : None ≡ Some x = is in cc)
-line_found (y ∷ xs) zero x is =
+pub adjacency_found : (xs : List Adjacency) (k : ℕ) (x : Adjacency) → slice_get xs k ≡ Some x → has_adjacency x.lower x.upper xs ≡ true
+adjacency_found [] k x is = absurd (let none : None ≡ Some x = is in cc)
+adjacency_found (y ∷ xs) zero x is =
     let one : Some y ≡ Some x = is in
     let same : y ≡ x = cc in
-    subst (λ (z : Line). cond (same_link z.lower z.upper x.lower x.upper) true (has_line x.lower x.upper xs) ≡ true) (sym same)
-    (ap (λ (b : Bool). cond (cond b (same_as x.upper x.upper) (cond (same_as x.lower x.upper) (same_as x.upper x.lower) false)) true (has_line x.lower x.upper xs)) (self x.lower.0)
-    ∙ ap (λ (b : Bool). cond b true (has_line x.lower x.upper xs)) (self x.upper.0))
-line_found (y ∷ xs) (suc k) x is = go (same_link y.lower y.upper x.lower x.upper) (line_found xs k x is)
+    subst (λ (z : Adjacency). cond (same_link z.lower z.upper x.lower x.upper) true (has_adjacency x.lower x.upper xs) ≡ true) (sym same)
+    (ap (λ (b : Bool). cond (cond b (same_as x.upper x.upper) (cond (same_as x.lower x.upper) (same_as x.upper x.lower) false)) true (has_adjacency x.lower x.upper xs)) (self x.lower.0)
+    ∙ ap (λ (b : Bool). cond b true (has_adjacency x.lower x.upper xs)) (self x.upper.0))
+adjacency_found (y ∷ xs) (suc k) x is = go (same_link y.lower y.upper x.lower x.upper) (adjacency_found xs k x is)
   where
-    go : (b : Bool) → has_line x.lower x.upper xs ≡ true → cond b true (has_line x.lower x.upper xs) ≡ true
+    go : (b : Bool) → has_adjacency x.lower x.upper xs ≡ true → cond b true (has_adjacency x.lower x.upper xs) ≡ true
     go true e = refl
     go false e = e
 
@@ -144,11 +144,11 @@ module _ {P : Type 0} {S : Type 0} where
     pub uses : Uses step words old new
 
   -- the link at this place is one of the settings, which never change
-  pub line_here : {step : NetworkParts → Going P S → Going P S} {a b : Here P S} (k : ℕ) (x : Line) → Goes step a b → IsOf a.network a.flow → Some x ≡ slice_get b.flow.lines k → slice_get (lines a.network) k ≡ Some x
-  line_here k x goes of is = ap (λ (ys : List Line). slice_get ys k) (sym (goes.lines ∙ of.lines_are)) ∙ sym is
+  pub adjacency_here : {step : NetworkParts → Going P S → Going P S} {a b : Here P S} (k : ℕ) (x : Adjacency) → Goes step a b → IsOf a.network a.flow → Some x ≡ slice_get b.flow.adjacencies k → slice_get (adjacencies a.network) k ≡ Some x
+  adjacency_here k x goes of is = ap (λ (ys : List Adjacency). slice_get ys k) (sym (goes.adjacencies ∙ of.adjacencies_are)) ∙ sym is
 
-  pub line_linked : {step : NetworkParts → Going P S → Going P S} {a b : Here P S} (k : ℕ) (p : As × As) → Goes step a b → IsOf a.network a.flow → Some (line_of p) ≡ slice_get b.flow.lines k → has_line p.0 p.1 (lines a.network) ≡ true
-  line_linked {a = a} k p goes of is = line_found (lines a.network) k (line_of p) (line_here k (line_of p) goes of is)
+  pub adjacency_linked : {step : NetworkParts → Going P S → Going P S} {a b : Here P S} (k : ℕ) (p : As × As) → Goes step a b → IsOf a.network a.flow → Some (adjacency_of p) ≡ slice_get b.flow.adjacencies k → has_adjacency p.0 p.1 (adjacencies a.network) ≡ true
+  adjacency_linked {a = a} k p goes of is = adjacency_found (adjacencies a.network) k (adjacency_of p) (adjacency_here k (adjacency_of p) goes of is)
 
 -- the count of peers is one of 32 bits
 pub peers_fit : (n : NetworkParts) (f : Flow) (count : ℕ) → IsOf n f → count ≡ f.peers → length n.peers < 4294967296 → count % 4294967296 ≡ count
@@ -157,53 +157,53 @@ peers_fit n f count of count_is few = mod-eq_of_lt (omega (arith, few, of.peers_
 -- ---- both ends of a link
 
 -- each link of the settings has its lower end first
-abbrev AreRising : List Line → Type 0
+abbrev AreRising : List Adjacency → Type 0
 AreRising [] = Unit {0}
 AreRising (x ∷ xs) = (x.lower.0 ≤ x.upper.0) × AreRising xs
 
-rising_line : (a b : As) → (line a b).lower.0 ≤ (line a b).upper.0
-rising_line a b = go (nat_lt b.0 a.0) refl
+rising_adjacency : (a b : As) → (adjacency a b).lower.0 ≤ (adjacency a b).upper.0
+rising_adjacency a b = go (nat_lt b.0 a.0) refl
   where
-    go : (c : Bool) → nat_lt b.0 a.0 ≡ c → (cond {A = Line} c (record { lower = b; upper = a }) (record { lower = a; upper = b })).lower.0 ≤ (cond {A = Line} c (record { lower = b; upper = a }) (record { lower = a; upper = b })).upper.0
+    go : (c : Bool) → nat_lt b.0 a.0 ≡ c → (cond {A = Adjacency} c (record { lower = b; upper = a }) (record { lower = a; upper = b })).lower.0 ≤ (cond {A = Adjacency} c (record { lower = b; upper = a }) (record { lower = a; upper = b })).upper.0
     go true is = grind (arith, nat_tests)
     go false is = grind (arith, nat_tests)
 
-rising_insert : (x : Line) (xs : List Line) → x.lower.0 ≤ x.upper.0 → AreRising xs → AreRising (insert_line x xs)
+rising_insert : (x : Adjacency) (xs : List Adjacency) → x.lower.0 ≤ x.upper.0 → AreRising xs → AreRising (insert_adjacency x xs)
 rising_insert x [] one rest = (one, tt)
-rising_insert x (y ∷ ys) one rest = go (before_line x y) (rising_insert x ys one rest.1)
+rising_insert x (y ∷ ys) one rest = go (before_adjacency x y) (rising_insert x ys one rest.1)
   where
-    go : (c : Bool) → AreRising (insert_line x ys) → AreRising (cond c (x ∷ y ∷ ys) (y ∷ insert_line x ys))
+    go : (c : Bool) → AreRising (insert_adjacency x ys) → AreRising (cond c (x ∷ y ∷ ys) (y ∷ insert_adjacency x ys))
     go true more = (one, rest)
     go false more = (rest.0, more)
 
 rising_sorted : (ps : List (As × As)) → AreRising (sorted ps)
 rising_sorted [] = tt
-rising_sorted (p ∷ ps) = rising_insert (line p.0 p.1) (sorted ps) (rising_line p.0 p.1) (rising_sorted ps)
+rising_sorted (p ∷ ps) = rising_insert (adjacency p.0 p.1) (sorted ps) (rising_adjacency p.0 p.1) (rising_sorted ps)
 
-rising_upward : (ds : List As) (xs : List Line) → AreRising xs → AreRising (upward ds ++ xs)
+rising_upward : (ds : List As) (xs : List Adjacency) → AreRising xs → AreRising (upward ds ++ xs)
 rising_upward [] xs rest = rest
 rising_upward (d ∷ ds) xs rest = (omega arith, rising_upward ds xs rest)
 
-rising_at : (xs : List Line) (k : ℕ) (x : Line) → AreRising xs → slice_get xs k ≡ Some x → x.lower.0 ≤ x.upper.0
+rising_at : (xs : List Adjacency) (k : ℕ) (x : Adjacency) → AreRising xs → slice_get xs k ≡ Some x → x.lower.0 ≤ x.upper.0
 rising_at [] k x all is = cc
-rising_at (y ∷ xs) zero x all is = let same : y ≡ x = cc in subst (λ (z : Line). z.lower.0 ≤ z.upper.0) same all.0
+rising_at (y ∷ xs) zero x all is = let same : y ≡ x = cc in subst (λ (z : Adjacency). z.lower.0 ≤ z.upper.0) same all.0
 rising_at (y ∷ xs) (suc k) x all is = rising_at xs k x all.1 is
 
-pub line_rises : (n : NetworkParts) (k : ℕ) (x : Line) → slice_get (lines n) k ≡ Some x → same_as x.lower x.upper ≡ false → x.lower.0 < x.upper.0
-line_rises n k x is apart =
-    let most = rising_at (lines n) k x (rising_upward (children n) (sorted n.links) (rising_sorted n.links)) is in
+pub adjacency_rises : (n : NetworkParts) (k : ℕ) (x : Adjacency) → slice_get (adjacencies n) k ≡ Some x → same_as x.lower x.upper ≡ false → x.lower.0 < x.upper.0
+adjacency_rises n k x is apart =
+    let most = rising_at (adjacencies n) k x (rising_upward (children n) (sorted n.links) (rising_sorted n.links)) is in
     let differ = eqb-false x.lower.0 x.upper.0 apart in
     grind (arith, nat_tests)
 
 -- it is the same from either end
-pub line_ends : (a b : As) → a.0 < b.0 → (line a b ≡ record { lower = a; upper = b }) × (line b a ≡ record { lower = a; upper = b })
-line_ends a b rises =
+pub adjacency_ends : (a b : As) → a.0 < b.0 → (adjacency a b ≡ record { lower = a; upper = b }) × (adjacency b a ≡ record { lower = a; upper = b })
+adjacency_ends a b rises =
     let above : nat_lt b.0 a.0 ≡ false = grind (arith, nat_tests) in
     let below : nat_lt a.0 b.0 ≡ true = grind (arith, nat_tests) in
-    (ap (λ (c : Bool). cond {A = Line} c (record { lower = b; upper = a }) (record { lower = a; upper = b })) above, ap (λ (c : Bool). cond {A = Line} c (record { lower = a; upper = b }) (record { lower = b; upper = a })) below)
+    (ap (λ (c : Bool). cond {A = Adjacency} c (record { lower = b; upper = a }) (record { lower = a; upper = b })) above, ap (λ (c : Bool). cond {A = Adjacency} c (record { lower = a; upper = b }) (record { lower = b; upper = a })) below)
 
-pub both_ends : (n : NetworkParts) (f : Flow) (a b : As) → is_member n a ≡ true → is_member n b ≡ true → same_as a b ≡ false → has_line a b (lines n) ≡ true → IsOf n f → IsLinkEnd n f a b × IsLinkEnd n f b a
+pub both_ends : (n : NetworkParts) (f : Flow) (a b : As) → is_member n a ≡ true → is_member n b ≡ true → same_as a b ≡ false → has_adjacency a b (adjacencies n) ≡ true → IsOf n f → IsLinkEnd n f a b × IsLinkEnd n f b a
 both_ends n f a b lower upper apart linked of = (
-  record { other = upper; apart = apart_back a b apart; linked = ap (has_line a b) of.lines_are ∙ linked },
-  record { other = lower; apart = apart; linked = ap (has_line b a) of.lines_are ∙ line_back a b (lines n) linked },
+  record { other = upper; apart = apart_back a b apart; linked = ap (has_adjacency a b) of.adjacencies_are ∙ linked },
+  record { other = lower; apart = apart; linked = ap (has_adjacency b a) of.adjacencies_are ∙ adjacency_back a b (adjacencies n) linked },
 )

@@ -13,14 +13,14 @@ use Rattle.pcep_session.specs.declared.session.Input.TheVariants.{Begin, Got, Ba
 use Rattle.pcep_session.specs.declared.state.Phase.{Phase}
 use Rattle.pcep_session.specs.declared.state.Phase.TheVariants.{Idle, OpenWait, KeepWait, Up, Down}
 use Rattle.pcep_session.specs.declared.state.State.{State}
-use Rattle.pcep_session.specs.Table.{Turn, turn_in, open_wait, refused_terms, refused, keep_wait, in_up, up_tick, waits, heard, at_tick, has_passed, is_recent}
+use Rattle.pcep_session.specs.Table.{SessionStep, turn_in, open_wait, refused_terms, refused, keep_wait, in_up, up_tick, waits, heard, at_tick, has_passed, is_recent}
 use Rattle.network_events.specs.Acting.{IsOwnTurn}
 use Rattle.network_events.specs.Turns.{IsPass, IsTickTurn, StepsAreTurns, TicksAreTurns}
 
 abbrev IsTurn : List Action → Type 0
 IsTurn as' = IsOwnTurn as' ⊎ IsPass as'
 
-either : (Q : List Action → Type 0) (b : Bool) (x y : Turn) → Q x.actions → Q y.actions → Q (cond b x y).actions
+either : (Q : List Action → Type 0) (b : Bool) (x y : SessionStep) → Q x.actions → Q y.actions → Q (cond b x y).actions
 either Q true x y left right = left
 either Q false x y left right = right
 

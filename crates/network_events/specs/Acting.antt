@@ -10,7 +10,7 @@ use Rattle.pcep_session.specs.declared.state.State.{State as Session}
 use Rattle.pcep_session.specs.Table.{turn_of}
 use Rattle.request_table.specs.Pending.{same_peer}
 use Rattle.plant_queues.specs.Messages.{Covers, total}
-use Rattle.plant_text.specs.Settings.{line}
+use Rattle.plant_text.specs.Settings.{adjacency}
 use Rattle.member_trait.specs.plant_model.declared.output.Lost.{Lost}
 use Rattle.member_trait.specs.plant_model.Deeds.{any_fall}
 use Rattle.member_trait.specs.plant_model.Wire.{Bytes}
@@ -70,7 +70,7 @@ pub record Fits {P : Type 0} {S : Type 0} (at : As) (to : Peer) (as' : List Acti
 abbrev pub RoomToBreakAt : {P : Type 0} {S : Type 0} → As → Peer → Membership P S → Flow → Type 0
 RoomToBreakAt at (Outside i) ms f = Unit {0}
 RoomToBreakAt at (Inner b) ms f =
-    let x = line b at in
+    let x = adjacency b at in
     RoomToBreak x.lower x.upper (lost_at x.lower (Inner x.upper) ms) (lost_at x.upper (Inner x.lower) (fallen x.lower (Inner x.upper) ms)) f
 
 -- the same at any peer, of which a link may break by it

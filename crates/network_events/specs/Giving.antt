@@ -60,7 +60,7 @@ KeepsForLetters at to letters size more ms f = KeepsRoomAt at to (letters + (owe
 
 -- how many messages of their own sessions say at most in one event
 abbrev pub own_words : Flow → ℕ
-own_words f = 2 * f.peers + 4 * length f.lines
+own_words f = 2 * f.peers + 4 * length f.adjacencies
 
 -- room in what is said for so many letters, for what sessions say of themselves, and for the answers of what is then pending
 abbrev pub CoversWords : {P : Type 0} {S : Type 0} → NetworkParts → (letters size more : ℕ) → Membership P S → Flow → Type 0

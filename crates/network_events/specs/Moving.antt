@@ -4,7 +4,7 @@ use Rattle.dom_base.specs.declared.names.As.{As}
 use Rattle.pcep_subobjects.specs.declared.hop.Hop.{Hop}
 use Rattle.plant_text.specs.declared.settings.NetworkParts.{NetworkParts}
 use Rattle.plant_text.specs.Names.{parent_as, same_as}
-use Rattle.plant_text.specs.Settings.{has_line, is_element, lines}
+use Rattle.plant_text.specs.Settings.{has_adjacency, is_element, adjacencies}
 use Rattle.member_trait.specs.plant_model.declared.outcome.Refused.TheVariants.{NoMemory}
 use Rattle.member_trait.specs.plant_model.Events.{Answered, Happened, refused}
 use Rattle.member_trait.specs.plant_model.RealWire.{wire}
@@ -30,7 +30,7 @@ module _ {P : Type 0} {S : Type 0} where
   -- between two events
   pub record IsSound (h : Here P S) : Type 0 where
     pub joined : AreJoined h.network
-    pub apart : (a b : As) → has_line a b (lines h.network) ≡ true → same_as a b ≡ false
+    pub apart : (a b : As) → has_adjacency a b (adjacencies h.network) ≡ true → same_as a b ≡ false
     pub below : (d : As) → is_element h.network d ≡ true → same_as d parent_as ≡ false
     pub few : length h.network.peers < 2 ^ 32
     pub kept : IsKept h

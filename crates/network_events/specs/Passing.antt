@@ -1,10 +1,10 @@
 -- What a network's traffic is between events.
 use Rattle.std.specs.Prelude.{◌≡◌, length}
 use Rattle.plant_text.specs.declared.settings.NetworkParts.{NetworkParts}
-use Rattle.plant_text.specs.Settings.{lines}
+use Rattle.plant_text.specs.Settings.{adjacencies}
 use Rattle.network_links.specs.Flow.{Flow}
 
 -- the links and the outside peers are those of the settings
 pub record IsOf (n : NetworkParts) (f : Flow) : Type 0 where
-  pub lines_are : f.lines ≡ lines n
+  pub adjacencies_are : f.adjacencies ≡ adjacencies n
   pub peers_are : f.peers ≡ length n.peers

@@ -10,7 +10,7 @@ use Rattle.pcep_session.specs.declared.actions.Action.TheVariants as action
 use Rattle.pcep_session.specs.declared.session.Input.{Input}
 use Rattle.plant_text.specs.declared.settings.NetworkParts.{NetworkParts}
 use Rattle.plant_text.specs.Names.{same_as}
-use Rattle.plant_text.specs.Settings.{has_line, line, lines}
+use Rattle.plant_text.specs.Settings.{has_adjacency, adjacency, adjacencies}
 use Rattle.member_trait.specs.plant_model.Deeds as deeds
 use Rattle.member_trait.specs.plant_model.Deeds.{Going, any_fall, element_of, is_due, is_out_empty, with_inbox}
 use Rattle.member_trait.specs.plant_model.Element.{Row}
@@ -28,7 +28,7 @@ use Rattle.network_events.specs.Standing.{Here}
 pub record IsLinkEnd (n : NetworkParts) (f : Flow) (at b : As) : Type 0 where
   pub other : is_member n b ≡ true
   pub apart : same_as b at ≡ false
-  pub linked : has_line at b f.lines ≡ true
+  pub linked : has_adjacency at b f.adjacencies ≡ true
 
 abbrev pub IsEnd : NetworkParts → Flow → As → Peer → Type 0
 IsEnd n f at (Outside i) = at ≡ element_of n i
@@ -43,7 +43,7 @@ pub record IsAtEnd {P : Type 0} {S : Type 0} (at : As) (to : Peer) (h : Here P S
 -- such a link is one of the settings
 abbrev pub IsPlaced : NetworkParts → As → Peer → Type 0
 IsPlaced n at (Outside i) = at ≡ element_of n i
-IsPlaced n at (Inner b) = (has_line b at (lines n) ≡ true) × (same_as b at ≡ false)
+IsPlaced n at (Inner b) = (has_adjacency b at (adjacencies n) ≡ true) × (same_as b at ≡ false)
 
 -- a session of a link that goes down breaks it
 abbrev pub breaks_by : Peer → List Action → Bool
@@ -78,11 +78,11 @@ module _ (P : Type 0) (S : Type 0) (n : NetworkParts) (show : S → List Hop) wh
 
   abbrev pub break_at : As → Peer → Going P S → Going P S
   break_at at (Outside i) g = g
-  break_at at (Inner b) g = deeds.break_line P S wire n show (line b at) g
+  break_at at (Inner b) g = deeds.break_adjacency P S wire n show (adjacency b at) g
 
   abbrev pub input_at : As → Peer → Input → Going P S → Going P S
   input_at at (Outside i) x g = deeds.outside_input P S wire n show i x g
-  input_at at (Inner b) x g = deeds.inner_input P S wire n show (line b at) at b x g
+  input_at at (Inner b) x g = deeds.inner_input P S wire n show (adjacency b at) at b x g
 
   -- a member is given the first of what waits for it
   abbrev pub receive_at : As → Peer → State P S → Happened P S

@@ -7,7 +7,7 @@ use Rattle.plant_queues.specs.Messages.{Spare, Covers, total}
 use Rattle.plant_queues.specs.Sents.{size_of}
 use Rattle.plant_text.specs.declared.settings.NetworkParts.{NetworkParts}
 use Rattle.plant_text.specs.Names.{same_as}
-use Rattle.plant_text.specs.Settings.{has_line, lines, elements_of}
+use Rattle.plant_text.specs.Settings.{has_adjacency, adjacencies, elements_of}
 use Rattle.member_trait.specs.plant_model.State.{Connection}
 use Rattle.member_trait.specs.plant_model.Deeds.{element_of}
 use Rattle.member_trait.specs.plant_model.Events.{is_down}
@@ -24,7 +24,7 @@ is_talking (Some x) = not (is_down x.session.phase)
 -- The queue from a member to a peer is used.
 abbrev pub is_live : NetworkParts → Flow → As → Peer → Bool
 is_live n f at (Outside i) = cond (same_as at (element_of n i)) (is_talking (f.accesses i).connection) false
-is_live n f at (Inner b) = has_line at b (lines n)
+is_live n f at (Inner b) = has_adjacency at b (adjacencies n)
 
 -- Each queue that is used keeps room for an answer to each request that is owed one. Through no other queue is any owed.
 pub record KeepsAnswers {P : Type 0} {S : Type 0} (n : NetworkParts) (ms : Membership P S) (f : Flow) : Type 0 where
@@ -33,7 +33,7 @@ pub record KeepsAnswers {P : Type 0} {S : Type 0} (n : NetworkParts) (ms : Membe
 
 -- how many messages of their own sessions say at most at one tick
 abbrev pub own_most : NetworkParts → ℕ
-own_most n = 2 * length n.peers + 4 * length (lines n)
+own_most n = 2 * length n.peers + 4 * length (adjacencies n)
 
 -- what is said has room for so many messages of sessions, and for every answer that is owed
 abbrev pub KeepsSaid : {P : Type 0} {S : Type 0} → ℕ → NetworkParts → Membership P S → Spare → Type 0

@@ -43,7 +43,7 @@ here s f = here_of s.network s.seen s.lost f
 pub record Goes {P : Type 0} {S : Type 0} (step : NetworkParts → Going P S → Going P S) (old new : Here P S) : Type 0 where
   pub network : new.network ≡ old.network
   pub lost : ((a : As) → old.lost a ≡ []) → (a : As) → new.lost a ≡ []
-  pub lines : new.flow.lines ≡ old.flow.lines
+  pub adjacencies : new.flow.adjacencies ≡ old.flow.adjacencies
   pub peers : new.flow.peers ≡ old.flow.peers
   pub room : Accounts old.flow new.flow
   pub goes : (g : Going P S) → IsAt g old.seen old.flow → IsAt (step old.network g) new.seen new.flow

@@ -157,7 +157,7 @@ fn count_own(traffic: &Traffic) -> Option<usize>
     let Some(outside) = traffic.peers().checked_mul(2) else {
         return None;
     };
-    let Some(inner) = traffic.lines().checked_mul(4) else {
+    let Some(inner) = traffic.adjacencies().checked_mul(4) else {
         return None;
     };
     outside.checked_add(inner)

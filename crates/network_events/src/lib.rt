@@ -19,7 +19,7 @@ pub use events::{break_link, shut};
 pub use feeding::{drain, feed};
 pub use law::{requests_are_counted, steps_are_turns};
 pub use member_trait::{Members, model};
-pub use network_links::{Traffic, lines_of};
+pub use network_links::{Traffic, adjacencies_of};
 pub use opened::open;
 pub use opening::begin_links;
 pub use receiving::{carry, take};

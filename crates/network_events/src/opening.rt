@@ -3,7 +3,7 @@ ghost use Rattle.std.specs.Prelude.{◌≡◌, true, [], length, OnOk};
 ghost use Rattle.dom_base.specs.declared.names.As.{As};
 ghost use Rattle.dom_base.specs.declared.names.Peer.{Peer};
 ghost use Rattle.dom_base.specs.declared.names.Peer.TheVariants.{Inner};
-ghost use Rattle.plant_text.specs.Settings.{elements_of, has_line, lines};
+ghost use Rattle.plant_text.specs.Settings.{elements_of, has_adjacency, adjacencies};
 ghost use Rattle.member_trait.specs.plant_model.RealWire.{wire};
 ghost use Rattle.member_trait.specs.plant_model.Deeds as deeds;
 ghost use Rattle.member_trait.specs.plant_model.Events as events;
@@ -43,7 +43,7 @@ fn begin_both<M: Members>(
     lower: As,
     upper: As,
 ) -> Result<(), NoMemory>
-    ensures { OnOk result (Goes (λ n. deeds.begin_line M.Pin M.Key wire n M.show 0 (record { lower = lower; upper = upper })) (here (M.stands members.now) (flow_of traffic.old)) (here (M.stands members.now) (flow_of traffic.new))) }
+    ensures { OnOk result (Goes (λ n. deeds.begin_adjacency M.Pin M.Key wire n M.show 0 (record { lower = lower; upper = upper })) (here (M.stands members.now) (flow_of traffic.old)) (here (M.stands members.now) (flow_of traffic.new))) }
 {
     begin_one(members, traffic, lower, upper)?;
     begin_one(members, traffic, upper, lower)?;
@@ -52,10 +52,10 @@ fn begin_both<M: Members>(
 
 // All links, in their order.
 fn begin_all<M: Members>(members: &M, traffic: &mut Traffic) -> Result<(), NoMemory>
-    ensures { OnOk result (Goes (λ n. events.begin_lines M.Pin M.Key wire n M.show (flow_of traffic.old).lines) (here (M.stands members.now) (flow_of traffic.old)) (here (M.stands members.now) (flow_of traffic.new))) }
+    ensures { OnOk result (Goes (λ n. events.begin_adjacencies M.Pin M.Key wire n M.show (flow_of traffic.old).adjacencies) (here (M.stands members.now) (flow_of traffic.old)) (here (M.stands members.now) (flow_of traffic.new))) }
 {
-    for k in 0..traffic.lines() {
-        let Some((lower, upper)) = traffic.line_at(k) else {
+    for k in 0..traffic.adjacencies() {
+        let Some((lower, upper)) = traffic.adjacency_at(k) else {
             unreachable!()
         };
         begin_both(members, traffic, lower, upper)?;
@@ -66,10 +66,10 @@ fn begin_all<M: Members>(members: &M, traffic: &mut Traffic) -> Result<(), NoMem
 // Each queue of a link keeps room for what its session says of itself.
 fn keep_all(traffic: &mut Traffic) -> Result<(), NoMemory>
     ensures grows { OnlyGrows (flow_of traffic.old) (flow_of traffic.new) }
-    ensures keeps { OnOk result ((a b : As) → has_line a b (flow_of traffic.old).lines ≡ true → KeepsRoomAt a (Inner b) 0 0 (flow_of traffic.new)) }
+    ensures keeps { OnOk result ((a b : As) → has_adjacency a b (flow_of traffic.old).adjacencies ≡ true → KeepsRoomAt a (Inner b) 0 0 (flow_of traffic.new)) }
 {
-    for k in 0..traffic.lines() {
-        let Some((lower, upper)) = traffic.line_at(k) else {
+    for k in 0..traffic.adjacencies() {
+        let Some((lower, upper)) = traffic.adjacency_at(k) else {
             unreachable!()
         };
         traffic.reserve(lower, Peer::Inner(upper), 0, 0)?;
@@ -81,13 +81,13 @@ fn keep_all(traffic: &mut Traffic) -> Result<(), NoMemory>
 /// All inner links begin, in their order: each end says its Open. It is for members without requests, right after
 /// their traffic was made; after it the room that a network keeps between events is there.
 pub fn begin_links<M: Members>(members: &M, traffic: &mut Traffic) -> Result<(), NoMemory>
-    requires bare { IsBare (lines (M.stands members.now).network) (length (M.stands members.now).network.peers) (flow_of traffic.old) }
+    requires bare { IsBare (adjacencies (M.stands members.now).network) (length (M.stands members.now).network.peers) (flow_of traffic.old) }
     requires nothing { (at : As) (p : Peer) → owed at p (M.stands members.now).seen ≡ 0 }
     requires empty { pending_in (elements_of (M.stands members.now).network.elements) (M.stands members.now).seen ≡ 0 }
     ensures of { OnOk result (IsOf (M.stands members.now).network (flow_of traffic.new)) }
     ensures clock { OnOk result ((flow_of traffic.new).clock ≡ 0) }
     ensures said { OnOk result ((flow_of traffic.new).said ≡ []) }
-    ensures state { OnOk result (state_of (M.stands members.now).seen (flow_of traffic.new) ≡ (events.begin_lines M.Pin M.Key wire (M.stands members.now).network M.show (lines (M.stands members.now).network) (events.idle M.Pin M.Key wire (M.stands members.now).network M.show (state_of (M.stands members.now).seen (flow_of traffic.old)))).state) }
+    ensures state { OnOk result (state_of (M.stands members.now).seen (flow_of traffic.new) ≡ (events.begin_adjacencies M.Pin M.Key wire (M.stands members.now).network M.show (adjacencies (M.stands members.now).network) (events.idle M.Pin M.Key wire (M.stands members.now).network M.show (state_of (M.stands members.now).seen (flow_of traffic.old)))).state) }
     ensures room { OnOk result (IsRoomy (M.stands members.now).network (M.stands members.now).seen (flow_of traffic.new)) }
 {
     begin_all(members, traffic)?;

@@ -2,8 +2,8 @@
 ghost use Rattle.std.specs.Prelude.{◌≡◌, ◌<◌, ◌+◌, ◌*◌, true, false, [], length, Ok};
 ghost use Rattle.dom_base.specs.declared.names.As.{As};
 ghost use Rattle.plant_text.specs.Names.{same_as};
-ghost use Rattle.plant_text.specs.Settings.{has_line, lines};
-ghost use Rattle.network_links.specs.settings_layout.Lines.{line_of};
+ghost use Rattle.plant_text.specs.Settings.{has_adjacency, adjacencies};
+ghost use Rattle.network_links.specs.settings_layout.Adjacencies.{adjacency_of};
 ghost use Rattle.member_trait.specs.plant_model.RealWire.{wire};
 ghost use Rattle.member_trait.specs.plant_model.Deeds as deeds;
 ghost use Rattle.member_trait.specs.plant_model.Events as events;
@@ -52,31 +52,31 @@ fn tick_peers<M: Members>(members: &mut M, traffic: &mut Traffic, now: Tick)
 }
 
 // Both ends of a link are told, the lower first.
-fn tick_line<M: Members>(members: &mut M, traffic: &mut Traffic, line: (As, As), now: Tick)
-    requires lower { is_member (M.stands members.old).network line.0 ≡ true }
-    requires upper { is_member (M.stands members.old).network line.1 ≡ true }
-    requires apart { same_as line.0 line.1 ≡ false }
-    requires rises { line.0.0 < line.1.0 }
-    requires linked { has_line line.0 line.1 (lines (M.stands members.old).network) ≡ true }
+fn tick_adjacency<M: Members>(members: &mut M, traffic: &mut Traffic, adjacency: (As, As), now: Tick)
+    requires lower { is_member (M.stands members.old).network adjacency.0 ≡ true }
+    requires upper { is_member (M.stands members.old).network adjacency.1 ≡ true }
+    requires apart { same_as adjacency.0 adjacency.1 ≡ false }
+    requires rises { adjacency.0.0 < adjacency.1.0 }
+    requires linked { has_adjacency adjacency.0 adjacency.1 (adjacencies (M.stands members.old).network) ≡ true }
     requires under { IsUnderWay 4 (here (M.stands members.old) (flow_of traffic.old)) }
-    ensures { Uses (λ n g. deeds.inner_input M.Pin M.Key wire n M.show (line_of line) line.1 line.0 (inputs.Tick now) (deeds.inner_input M.Pin M.Key wire n M.show (line_of line) line.0 line.1 (inputs.Tick now) g)) 4 (here (M.stands members.old) (flow_of traffic.old)) (here (M.stands members.new) (flow_of traffic.new)) }
+    ensures { Uses (λ n g. deeds.inner_input M.Pin M.Key wire n M.show (adjacency_of adjacency) adjacency.1 adjacency.0 (inputs.Tick now) (deeds.inner_input M.Pin M.Key wire n M.show (adjacency_of adjacency) adjacency.0 adjacency.1 (inputs.Tick now) g)) 4 (here (M.stands members.old) (flow_of traffic.old)) (here (M.stands members.new) (flow_of traffic.new)) }
 {
-    tick_session(members, traffic, line.0, Peer::Inner(line.1), now);
-    tick_session(members, traffic, line.1, Peer::Inner(line.0), now);
+    tick_session(members, traffic, adjacency.0, Peer::Inner(adjacency.1), now);
+    tick_session(members, traffic, adjacency.1, Peer::Inner(adjacency.0), now);
 }
 
 // The sessions of the links are told, link by link.
-fn tick_lines<M: Members>(members: &mut M, traffic: &mut Traffic, now: Tick)
+fn tick_adjacencies<M: Members>(members: &mut M, traffic: &mut Traffic, now: Tick)
     requires joined { AreJoined (M.stands members.old).network }
-    requires apart { (a b : As) → has_line a b (lines (M.stands members.old).network) ≡ true → same_as a b ≡ false }
-    requires under { IsUnderWay (4 * length (lines (M.stands members.old).network)) (here (M.stands members.old) (flow_of traffic.old)) }
-    ensures { Uses (λ n. deeds.tick_lines M.Pin M.Key wire n M.show (lines n) now) (4 * length (lines (M.stands members.old).network)) (here (M.stands members.old) (flow_of traffic.old)) (here (M.stands members.new) (flow_of traffic.new)) }
+    requires apart { (a b : As) → has_adjacency a b (adjacencies (M.stands members.old).network) ≡ true → same_as a b ≡ false }
+    requires under { IsUnderWay (4 * length (adjacencies (M.stands members.old).network)) (here (M.stands members.old) (flow_of traffic.old)) }
+    ensures { Uses (λ n. deeds.tick_adjacencies M.Pin M.Key wire n M.show (adjacencies n) now) (4 * length (adjacencies (M.stands members.old).network)) (here (M.stands members.old) (flow_of traffic.old)) (here (M.stands members.new) (flow_of traffic.new)) }
 {
-    for k in 0..traffic.lines() {
-        let Some(line) = traffic.line_at(k) else {
+    for k in 0..traffic.adjacencies() {
+        let Some(adjacency) = traffic.adjacency_at(k) else {
             unreachable!()
         };
-        tick_line(members, traffic, line, now);
+        tick_adjacency(members, traffic, adjacency, now);
     }
 }
 
@@ -100,7 +100,7 @@ pub fn tick<M: Members>(
     traffic.clear_said();
     traffic.set_clock(now);
     tick_peers(members, traffic, now);
-    tick_lines(members, traffic, now);
+    tick_adjacencies(members, traffic, now);
     expire(members, traffic, now);
     Ok(Outcome::Done)
 }

@@ -23,7 +23,7 @@ use Rattle.network_links.specs.Peers.{Guests, SendsGuest, GrowsGuest, FeedsPeer,
 use Rattle.network_links.specs.Happenings.{FeedsIn, FeedsConnectionIn, DrainsIn, DrainsConnectionIn, DrainsHeldIn}
 use Rattle.network_links.specs.declared.peers.Drained.{Drained}
 use Rattle.settings_layout.specs.plant_model.declared.outcome.Refused.{Refused}
-use Rattle.network_links.specs.Carried.{Seen, flow_in}
+use Rattle.network_links.specs.Carried.{CarriedView, flow_in}
 use Rattle.network_links.proofs.SideLemmas.{one_as}
 use Rattle.network_links.proofs.RowLemmas.{pair_field, pair_same}
 
@@ -42,7 +42,7 @@ own_room new old room is = is ∙ ap (λ (r : Room). let f : Flow = record old {
 
 -- ---- links
 
-module _ (a : Seen) (at b : As) (r : Row) where
+module _ (a : CarriedView) (at b : As) (r : Row) where
   abbrev here : Side
   here = r.sides at b
 
@@ -146,7 +146,7 @@ abbrev none : Sender → Sender
 none k = record k { out = [] }
 
 -- both queues of a link are emptied
-pub both_clear : (a : Seen) (c d : As) (r : Row) → BothSidesChange c d sides.Empties a.links r → Clears c d (flow_in a) (flow_in (record a { links = r }))
+pub both_clear : (a : CarriedView) (c d : As) (r : Row) → BothSidesChange c d sides.Empties a.links r → Clears c d (flow_in a) (flow_in (record a { links = r }))
 both_clear a c d r h = record { kept = kept; here = empties (a.links.sides c d) (r.sides c d) h.here; there = empties (a.links.sides d c) (r.sides d c) h.there }
   where
     empties : (x y : Side) → sides.Empties x y → Frees (queue x.kept.out x.spare) (queue [] y.spare)
@@ -169,7 +169,7 @@ both_clear a c d r h = record { kept = kept; here = empties (a.links.sides c d) 
 
 -- ---- outside peers
 
-module _ (a : Seen) (i : ℕ) (g : Guests) where
+module _ (a : CarriedView) (i : ℕ) (g : Guests) where
   abbrev before : Flow
   before = flow_in a
 

@@ -7,8 +7,8 @@ use Rattle.std.proofs.lemmas.List.{append-nil, drop_all}
 use Rattle.std.proofs.lemmas.List.Elements.{All-push}
 use Rattle.dom_base.specs.declared.names.As.{As}
 use Rattle.plant_text.specs.Names.{same_as, same_link}
-use Rattle.plant_text.specs.Settings.{Line, has_line}
-use Rattle.settings_layout.specs.Lines.{line_of, are_lines}
+use Rattle.plant_text.specs.Settings.{Adjacency, has_adjacency}
+use Rattle.settings_layout.specs.Adjacencies.{adjacency_of, are_adjacencies}
 use Rattle.plant_queues.specs.Messages.{Spare}
 use Rattle.settings_layout.specs.plant_model.State as model
 use Rattle.plant_sessions.specs.declared.access.Access.{Access}
@@ -17,7 +17,7 @@ use Rattle.plant_sessions.specs.Links.{Joined, at_end, new_sender}
 use Rattle.plant_sessions.specs.Rooms.{KeepsRoom, queue}
 use Rattle.network_links.specs.Flow.{no_room}
 use Rattle.network_links.specs.Peers.{Guests, guests_of, no_guests, never_open, access_or, room_or}
-use Rattle.network_links.specs.Sides.{Side, row_of, side_at, side_or, link_at, end_of, lines_in, AreNewLinks}
+use Rattle.network_links.specs.Sides.{Side, row_of, side_at, side_or, link_at, end_of, adjacencies_in, AreNewLinks}
 
 -- ---- peers
 
@@ -49,8 +49,8 @@ pub record IsNewLink (x : Joined) : Type 0 where
   pub lower : IsNewSide x.lower
   pub upper : IsNewSide x.upper
 
-new_end : (a : As) (x : Joined) → IsNewLink x → IsNewSide (at_end (end_of a x.line) x)
-new_end a x new = go (same_as x.line.lower a)
+new_end : (a : As) (x : Joined) → IsNewLink x → IsNewSide (at_end (end_of a x.adjacency) x)
+new_end a x new = go (same_as x.adjacency.lower a)
   where
     go : (t : Bool) → IsNewSide (at_end (cond t Lower Upper) x)
     go true = new.lower
@@ -58,25 +58,25 @@ new_end a x new = go (same_as x.line.lower a)
 
 new_sides : (xs : List Joined) → All IsNewLink xs → (a b : As) → (side_at xs a b).kept ≡ new_sender
 new_sides [] all a b = refl
-new_sides (x ∷ xs) all a b = go (new_sides xs (λ k d within. all (suc k) d (omega arith)) a b) (same_link x.line.lower x.line.upper a b)
+new_sides (x ∷ xs) all a b = go (new_sides xs (λ k d within. all (suc k) d (omega arith)) a b) (same_link x.adjacency.lower x.adjacency.upper a b)
   where
     go : (side_at xs a b).kept ≡ new_sender → (t : Bool) → (side_or a (cond t (Some x) (link_at a b xs))).kept ≡ new_sender
     go rest true = (new_end a x (all zero x (omega arith))).kept
     go rest false = rest
 
-new_room : (xs : List Joined) → All IsNewLink xs → (a b : As) → has_line a b (lines_in xs) ≡ true → KeepsRoom 0 0 (queue [] (side_at xs a b).spare)
+new_room : (xs : List Joined) → All IsNewLink xs → (a b : As) → has_adjacency a b (adjacencies_in xs) ≡ true → KeepsRoom 0 0 (queue [] (side_at xs a b).spare)
 new_room [] all a b is = absurd (false≢true is)
-new_room (x ∷ xs) all a b is = go (λ is'. new_room xs (λ k d within. all (suc k) d (omega arith)) a b is') (same_link x.line.lower x.line.upper a b) is
+new_room (x ∷ xs) all a b is = go (λ is'. new_room xs (λ k d within. all (suc k) d (omega arith)) a b is') (same_link x.adjacency.lower x.adjacency.upper a b) is
   where
-    go : (has_line a b (lines_in xs) ≡ true → KeepsRoom 0 0 (queue [] (side_at xs a b).spare)) → (t : Bool) → cond t true (has_line a b (lines_in xs)) ≡ true → KeepsRoom 0 0 (queue [] (side_or a (cond t (Some x) (link_at a b xs))).spare)
+    go : (has_adjacency a b (adjacencies_in xs) ≡ true → KeepsRoom 0 0 (queue [] (side_at xs a b).spare)) → (t : Bool) → cond t true (has_adjacency a b (adjacencies_in xs)) ≡ true → KeepsRoom 0 0 (queue [] (side_or a (cond t (Some x) (link_at a b xs))).spare)
     go rest true is' = (new_end a x (all zero x (omega arith))).room
     go rest false is' = rest is'
 
-pub new_links : (lines : List Line) (xs : List Joined) → lines_in xs ≡ lines → All IsNewLink xs → AreNewLinks lines (row_of xs)
-new_links lines xs same all = record {
-  lines_are = same;
+pub new_links : (adjacencies : List Adjacency) (xs : List Joined) → adjacencies_in xs ≡ adjacencies → All IsNewLink xs → AreNewLinks adjacencies (row_of xs)
+new_links adjacencies xs same all = record {
+  adjacencies_are = same;
   sides = new_sides xs all;
-  room = λ a b is. new_room xs all a b (ap (has_line a b) same ∙ is);
+  room = λ a b is. new_room xs all a b (ap (has_adjacency a b) same ∙ is);
 }
 
 -- ---- links are made one after the other
@@ -84,20 +84,20 @@ new_links lines xs same all = record {
 abbrev pub Pair : Type 0
 Pair = As × As
 
-pub all_lines : (ps : List Pair) (i : ℕ) (done : List Line) → length ps ≤ i → done ++ are_lines (drop i ps) ≡ are_lines ps → done ≡ are_lines ps
-all_lines ps i done past is = sym (ap (λ (rest : List Pair). done ++ are_lines rest) (drop_all i ps past) ∙ append-nil done) ∙ is
+pub all_adjacencies : (ps : List Pair) (i : ℕ) (done : List Adjacency) → length ps ≤ i → done ++ are_adjacencies (drop i ps) ≡ are_adjacencies ps → done ≡ are_adjacencies ps
+all_adjacencies ps i done past is = sym (ap (λ (rest : List Pair). done ++ are_adjacencies rest) (drop_all i ps past) ∙ append-nil done) ∙ is
 
-lines_append : (xs : List Joined) (x : Joined) → lines_in (xs ++ x ∷ []) ≡ lines_in xs ++ x.line ∷ []
-lines_append [] x = refl
-lines_append (y ∷ xs) x = ap (λ (rest : List Line). y.line ∷ rest) (lines_append xs x)
+adjacencies_append : (xs : List Joined) (x : Joined) → adjacencies_in (xs ++ x ∷ []) ≡ adjacencies_in xs ++ x.adjacency ∷ []
+adjacencies_append [] x = refl
+adjacencies_append (y ∷ xs) x = ap (λ (rest : List Adjacency). y.adjacency ∷ rest) (adjacencies_append xs x)
 
-pub one_more : (ps : List Pair) (i : ℕ) (xs : List Joined) (x : Joined) (d : Pair) → i < length ps → x.line ≡ line_of (get_or ps i d) →
-    lines_in xs ++ are_lines (drop i ps) ≡ are_lines ps → lines_in (xs ++ x ∷ []) ++ are_lines (drop (i + 1) ps) ≡ are_lines ps
-one_more ps i xs x d within line done =
-    ap (λ (ls : List Line). ls ++ are_lines (drop (i + 1) ps)) (lines_append xs x)
-    ∙ append_assoc (lines_in xs) (x.line ∷ []) (are_lines (drop (i + 1) ps))
-    ∙ ap (λ (l : Line). lines_in xs ++ l ∷ are_lines (drop (i + 1) ps)) line
-    ∙ ap (λ (rest : List Pair). lines_in xs ++ are_lines rest) (sym rest_is)
+pub one_more : (ps : List Pair) (i : ℕ) (xs : List Joined) (x : Joined) (d : Pair) → i < length ps → x.adjacency ≡ adjacency_of (get_or ps i d) →
+    adjacencies_in xs ++ are_adjacencies (drop i ps) ≡ are_adjacencies ps → adjacencies_in (xs ++ x ∷ []) ++ are_adjacencies (drop (i + 1) ps) ≡ are_adjacencies ps
+one_more ps i xs x d within adjacency done =
+    ap (λ (ls : List Adjacency). ls ++ are_adjacencies (drop (i + 1) ps)) (adjacencies_append xs x)
+    ∙ append_assoc (adjacencies_in xs) (x.adjacency ∷ []) (are_adjacencies (drop (i + 1) ps))
+    ∙ ap (λ (l : Adjacency). adjacencies_in xs ++ l ∷ are_adjacencies (drop (i + 1) ps)) adjacency
+    ∙ ap (λ (rest : List Pair). adjacencies_in xs ++ are_adjacencies rest) (sym rest_is)
     ∙ done
   where
     rest_is : drop i ps ≡ get_or ps i d ∷ drop (i + 1) ps

@@ -11,7 +11,7 @@ use Rattle.plant_sessions.specs.declared.link.End.{End}
 use Rattle.plant_sessions.specs.Links.{Joined, at_end}
 use Rattle.plant_sessions.specs.Quiet.{is_quiet_peer, ticked_quietly}
 use Rattle.network_links.specs.Accesses as accesses
-use Rattle.network_links.specs.Carried.{Seen, flow_in}
+use Rattle.network_links.specs.Carried.{CarriedView, flow_in}
 use Rattle.network_links.specs.Flow.{set_session}
 use Rattle.network_links.specs.Peers.{guests_of, access_or, change_guest}
 use Rattle.network_links.specs.Quiet.{TicksAccess, TicksEnd, side_ticked}
@@ -48,6 +48,6 @@ module _ (a b : As) (i : ℕ) (e : End) (found items old : List Joined) (is_foun
       (holds_there a b i e found items old is_found is_old (λ (s : Side). is_quiet now s.kept.session ≡ here) p refl)
 
 -- the flow has another session there
-pub flow_ticks : (a : Seen) (at b : As) (r : Row) (now : Tick) → r ≡ set_side at b (side_ticked now (a.links.sides at b)) a.links →
+pub flow_ticks : (a : CarriedView) (at b : As) (r : Row) (now : Tick) → r ≡ set_side at b (side_ticked now (a.links.sides at b)) a.links →
     flow_in (record a { links = r }) ≡ set_session at b (after_quiet now (a.links.sides at b).kept.session) (flow_in a)
 flow_ticks a at b r now is = session_changes a at b r (after_quiet now (a.links.sides at b).kept.session) is

@@ -6,12 +6,12 @@ use Rattle.std.proofs.lemmas.Option.{get_or_from_slice_get}
 use Rattle.std.proofs.lemmas.Bool.{false≢true}
 use Rattle.dom_base.specs.declared.names.As.{As}
 use Rattle.plant_text.specs.Names.{same_as, same_link}
-use Rattle.plant_text.specs.Settings.{Line, has_line}
+use Rattle.plant_text.specs.Settings.{Adjacency, has_adjacency}
 use Rattle.settings_layout.specs.plant_model.Names.{set_pair}
 use Rattle.plant_sessions.specs.declared.link.End.{End}
 use Rattle.plant_sessions.specs.declared.link.End.TheVariants.{Lower, Upper}
 use Rattle.plant_sessions.specs.Links.{Joined, at_end, set_end}
-use Rattle.network_links.specs.Sides.{Side, Row, row_of, set_side, no_side, Empties, link_at, end_of, side_or, side_at, lines_in, IsFirst, IsPlace, ChangesAt, EndChanges, BothChange, SideChanges, BothSidesChange}
+use Rattle.network_links.specs.Sides.{Side, Row, row_of, set_side, no_side, Empties, link_at, end_of, side_or, side_at, adjacencies_in, IsFirst, IsPlace, ChangesAt, EndChanges, BothChange, SideChanges, BothSidesChange}
 use Rattle.network_links.proofs.SideLemmas.{one_as, no_way, eqb-refl, in_order, turned, as_is, twice, first_between, first_link, sides_after}
 
 -- ---- maps by two names
@@ -43,9 +43,9 @@ pub set_there : (e : End) (s : Side) (x : Joined) → at_end e (set_end e s x) �
 set_there Lower s x = refl
 set_there Upper s x = refl
 
-set_line : (e : End) (s : Side) (x : Joined) → (set_end e s x).line ≡ x.line
-set_line Lower s x = refl
-set_line Upper s x = refl
+set_adjacency : (e : End) (s : Side) (x : Joined) → (set_end e s x).adjacency ≡ x.adjacency
+set_adjacency Lower s x = refl
+set_adjacency Upper s x = refl
 
 pub side_here : (a b : As) (i : ℕ) (e : End) (xs : List Joined) → (p : IsPlace a b i e xs) → side_at xs a b ≡ at_end e p.link
 side_here a b i e xs p = ap (side_or a) (first_link a b i xs p.link p.first p.found) ∙ ap (λ (x : End). at_end x p.link) (sym p.end)
@@ -66,25 +66,25 @@ not_back l u a b differs = go (same_link l u b a) refl
 
 pub back_first : (a b : As) (i : ℕ) (xs : List Joined) → IsFirst a b i xs → IsFirst b a i xs
 back_first a b i [] first = absurd first
-back_first a b zero (x ∷ xs) first = between_back x.line.lower x.line.upper a b first
-back_first a b (suc i) (x ∷ xs) first = (not_back x.line.lower x.line.upper a b first.0, back_first a b i xs first.1)
+back_first a b zero (x ∷ xs) first = between_back x.adjacency.lower x.adjacency.upper a b first
+back_first a b (suc i) (x ∷ xs) first = (not_back x.adjacency.lower x.adjacency.upper a b first.0, back_first a b i xs first.1)
 
 -- the same link, from its other end
-abbrev pub back_place : (a b : As) (i : ℕ) (e : End) (xs : List Joined) → (p : IsPlace a b i e xs) → IsPlace b a i (end_of b p.link.line) xs
+abbrev pub back_place : (a b : As) (i : ℕ) (e : End) (xs : List Joined) → (p : IsPlace a b i e xs) → IsPlace b a i (end_of b p.link.adjacency) xs
 back_place a b i e xs p = record { link = p.link; first = back_first a b i xs p.first; found = p.found; end = refl }
 
-lines_set : (i : ℕ) (xs : List Joined) (x y : Joined) → slice_get xs i ≡ Some x → y.line ≡ x.line → lines_in (set xs i y) ≡ lines_in xs
-lines_set i [] x y found line = refl
-lines_set zero (z ∷ xs) x y found line = ap (λ (l : Line). l ∷ lines_in xs) (line ∙ ap (λ (w : Joined). w.line) (sym (one z x found)))
+adjacencies_set : (i : ℕ) (xs : List Joined) (x y : Joined) → slice_get xs i ≡ Some x → y.adjacency ≡ x.adjacency → adjacencies_in (set xs i y) ≡ adjacencies_in xs
+adjacencies_set i [] x y found adjacency = refl
+adjacencies_set zero (z ∷ xs) x y found adjacency = ap (λ (l : Adjacency). l ∷ adjacencies_in xs) (adjacency ∙ ap (λ (w : Joined). w.adjacency) (sym (one z x found)))
   where
     one : (v w : Joined) → Some v ≡ Some w → v ≡ w
     one v w is = cc
-lines_set (suc i) (z ∷ xs) x y found line = ap (λ (ls : List Line). z.line ∷ ls) (lines_set i xs x y found line)
+adjacencies_set (suc i) (z ∷ xs) x y found adjacency = ap (λ (ls : List Adjacency). z.adjacency ∷ ls) (adjacencies_set i xs x y found adjacency)
 
 -- ---- one link changes
 
 -- the other end of a link between two different ends
-other_end : (a b : As) (l : Line) (x : Joined) (s : Side) → same_link l.lower l.upper a b ≡ true → (a ≡ b → ⊥) → at_end (end_of b l) (set_end (end_of a l) s x) ≡ at_end (end_of b l) x
+other_end : (a b : As) (l : Adjacency) (x : Joined) (s : Side) → same_link l.lower l.upper a b ≡ true → (a ≡ b → ⊥) → at_end (end_of b l) (set_end (end_of a l) s x) ≡ at_end (end_of b l) x
 other_end a b l x s is differ = go (same_as l.lower a) refl (same_as l.lower b) refl
   where
     go : (p : Bool) → same_as l.lower a ≡ p → (q : Bool) → same_as l.lower b ≡ q → at_end (cond q Lower Upper) (set_end (cond p Lower Upper) s x) ≡ at_end (cond q Lower Upper) x
@@ -97,35 +97,35 @@ other_end a b l x s is differ = go (same_as l.lower a) refl (same_as l.lower b) 
         neither (inl y) = no_way l.lower a left y.0
         neither (inr y) = no_way l.lower b right y.0
 
-module _ (a b : As) (i : ℕ) (xs : List Joined) (x y : Joined) (first : IsFirst a b i xs) (found : slice_get xs i ≡ Some x) (line : y.line ≡ x.line) where
-  is_between : same_link x.line.lower x.line.upper a b ≡ true
+module _ (a b : As) (i : ℕ) (xs : List Joined) (x y : Joined) (first : IsFirst a b i xs) (found : slice_get xs i ≡ Some x) (adjacency : y.adjacency ≡ x.adjacency) where
+  is_between : same_link x.adjacency.lower x.adjacency.upper a b ≡ true
   is_between = first_between a b i xs x first found
 
   abbrev one : As → Side
-  one c = at_end (end_of c x.line) y
+  one c = at_end (end_of c x.adjacency) y
 
   abbrev sent : As → As → Side
   sent = side_at xs
 
-  after : (c d : As) → side_at (set xs i y) c d ≡ cond (same_link x.line.lower x.line.upper c d) (at_end (end_of c x.line) y) (side_at xs c d)
-  after c d = sides_after a b y c d i xs x first found line
+  after : (c d : As) → side_at (set xs i y) c d ≡ cond (same_link x.adjacency.lower x.adjacency.upper c d) (at_end (end_of c x.adjacency) y) (side_at xs c d)
+  after c d = sides_after a b y c d i xs x first found adjacency
 
   -- between two other ends nothing changes
   elsewhere : (c d : As) → (((a ≡ c) × (b ≡ d)) ⊎ ((b ≡ c) × (a ≡ d)) → ⊥) → side_at (set xs i y) c d ≡ side_at xs c d
-  elsewhere c d other = after c d ∙ go (same_link x.line.lower x.line.upper c d) refl
+  elsewhere c d other = after c d ∙ go (same_link x.adjacency.lower x.adjacency.upper c d) refl
     where
-      go : (t : Bool) → same_link x.line.lower x.line.upper c d ≡ t → cond t (at_end (end_of c x.line) y) (side_at xs c d) ≡ side_at xs c d
-      go true is = absurd (other (twice x.line.lower x.line.upper a b c d is_between is))
+      go : (t : Bool) → same_link x.adjacency.lower x.adjacency.upper c d ≡ t → cond t (at_end (end_of c x.adjacency) y) (side_at xs c d) ≡ side_at xs c d
+      go true is = absurd (other (twice x.adjacency.lower x.adjacency.upper a b c d is_between is))
       go false is = refl
 
-  there : (c d : As) → ((a ≡ c) × (b ≡ d)) ⊎ ((b ≡ c) × (a ≡ d)) → side_at (set xs i y) c d ≡ at_end (end_of c x.line) y
-  there c d same = after c d ∙ ap (λ (t : Bool). cond t (at_end (end_of c x.line) y) (side_at xs c d)) (go same)
+  there : (c d : As) → ((a ≡ c) × (b ≡ d)) ⊎ ((b ≡ c) × (a ≡ d)) → side_at (set xs i y) c d ≡ at_end (end_of c x.adjacency) y
+  there c d same = after c d ∙ ap (λ (t : Bool). cond t (at_end (end_of c x.adjacency) y) (side_at xs c d)) (go same)
     where
-      go : ((a ≡ c) × (b ≡ d)) ⊎ ((b ≡ c) × (a ≡ d)) → same_link x.line.lower x.line.upper c d ≡ true
+      go : ((a ≡ c) × (b ≡ d)) ⊎ ((b ≡ c) × (a ≡ d)) → same_link x.adjacency.lower x.adjacency.upper c d ≡ true
       go (inl z) = rw (sym z.0, sym z.1) is_between
       go (inr z) = rw (sym z.0, sym z.1) (first_between b a i xs x (back_first a b i xs first) found)
 
-  pub two_sides : side_at (set xs i y) ≡ set_pair a b (at_end (end_of a x.line) y) (set_pair b a (at_end (end_of b x.line) y) (side_at xs))
+  pub two_sides : side_at (set xs i y) ≡ set_pair a b (at_end (end_of a x.adjacency) y) (set_pair b a (at_end (end_of b x.adjacency) y) (side_at xs))
   two_sides = fun_ext (λ c. fun_ext (λ d. go c d (same_as a c) refl (same_as b d) refl (same_as b c) refl (same_as a d) refl))
     where
       go : (c d : As) (p : Bool) → same_as a c ≡ p → (q : Bool) → same_as b d ≡ q → (r : Bool) → same_as b c ≡ r → (t : Bool) → same_as a d ≡ t →
@@ -163,27 +163,27 @@ pair_twice {A} a v w f = fun_ext (λ c. fun_ext (λ d. go (f c d) (same_as a c) 
     go u false q = refl
 
 -- one end of it
-one_side : (a b : As) (i : ℕ) (xs : List Joined) (x y : Joined) (s : Side) → IsFirst a b i xs → slice_get xs i ≡ Some x → y ≡ set_end (end_of a x.line) s x → side_at (set xs i y) ≡ set_pair a b s (side_at xs)
+one_side : (a b : As) (i : ℕ) (xs : List Joined) (x y : Joined) (s : Side) → IsFirst a b i xs → slice_get xs i ≡ Some x → y ≡ set_end (end_of a x.adjacency) s x → side_at (set xs i y) ≡ set_pair a b s (side_at xs)
 one_side a b i xs x y s first found is = go (same_as a b) refl
   where
-    line : y.line ≡ x.line
-    line = ap (λ (z : Joined). z.line) is ∙ set_line (end_of a x.line) s x
+    adjacency : y.adjacency ≡ x.adjacency
+    adjacency = ap (λ (z : Joined). z.adjacency) is ∙ set_adjacency (end_of a x.adjacency) s x
 
-    here : at_end (end_of a x.line) y ≡ s
-    here = ap (λ (z : Joined). at_end (end_of a x.line) z) is ∙ set_there (end_of a x.line) s x
+    here : at_end (end_of a x.adjacency) y ≡ s
+    here = ap (λ (z : Joined). at_end (end_of a x.adjacency) z) is ∙ set_there (end_of a x.adjacency) s x
 
-    both : side_at (set xs i y) ≡ set_pair a b s (set_pair b a (at_end (end_of b x.line) y) (side_at xs))
-    both = two_sides a b i xs x y first found line ∙ ap (λ (v : Side). set_pair a b v (set_pair b a (at_end (end_of b x.line) y) (side_at xs))) here
+    both : side_at (set xs i y) ≡ set_pair a b s (set_pair b a (at_end (end_of b x.adjacency) y) (side_at xs))
+    both = two_sides a b i xs x y first found adjacency ∙ ap (λ (v : Side). set_pair a b v (set_pair b a (at_end (end_of b x.adjacency) y) (side_at xs))) here
 
     go : (t : Bool) → same_as a b ≡ t → side_at (set xs i y) ≡ set_pair a b s (side_at xs)
-    go true same = both ∙ subst (λ (c : As). set_pair a c s (set_pair c a (at_end (end_of b x.line) y) (side_at xs)) ≡ set_pair a c s (side_at xs)) (one_as a b same) (pair_twice a s (at_end (end_of b x.line) y) (side_at xs))
-    go false same = both ∙ ap (set_pair a b s) (pair_same b a (at_end (end_of b x.line) y) (side_at xs) (unchanged ∙ sym there_now))
+    go true same = both ∙ subst (λ (c : As). set_pair a c s (set_pair c a (at_end (end_of b x.adjacency) y) (side_at xs)) ≡ set_pair a c s (side_at xs)) (one_as a b same) (pair_twice a s (at_end (end_of b x.adjacency) y) (side_at xs))
+    go false same = both ∙ ap (set_pair a b s) (pair_same b a (at_end (end_of b x.adjacency) y) (side_at xs) (unchanged ∙ sym there_now))
       where
-        there_now : side_at xs b a ≡ at_end (end_of b x.line) x
+        there_now : side_at xs b a ≡ at_end (end_of b x.adjacency) x
         there_now = ap (side_or b) (first_link b a i xs x (back_first a b i xs first) found)
 
-        unchanged : at_end (end_of b x.line) y ≡ at_end (end_of b x.line) x
-        unchanged = ap (λ (z : Joined). at_end (end_of b x.line) z) is ∙ other_end a b x.line x s (first_between a b i xs x first found) (no_way a b same)
+        unchanged : at_end (end_of b x.adjacency) y ≡ at_end (end_of b x.adjacency) x
+        unchanged = ap (λ (z : Joined). at_end (end_of b x.adjacency) z) is ∙ other_end a b x.adjacency x s (first_between a b i xs x first found) (no_way a b same)
 
 module _ (a b : As) (i : ℕ) (e : End) (so : Side → Side → Type 0) (xs ys : List Joined) (p : IsPlace a b i e xs) where
   one_found : (x y : Joined) → slice_get xs i ≡ Some x → slice_get xs i ≡ Some y → x ≡ y
@@ -199,11 +199,11 @@ module _ (a b : As) (i : ℕ) (e : End) (so : Side → Side → Type 0) (xs ys :
       same : h.before ≡ p.link
       same = one_found h.before p.link h.found p.found
 
-      is : h.after ≡ set_end (end_of a p.link.line) (at_end e h.after) p.link
-      is = h.changes.rest ∙ ap (λ (f : End). set_end f (at_end e h.after) h.before) p.end ∙ ap (set_end (end_of a p.link.line) (at_end e h.after)) same
+      is : h.after ≡ set_end (end_of a p.link.adjacency) (at_end e h.after) p.link
+      is = h.changes.rest ∙ ap (λ (f : End). set_end f (at_end e h.after) h.before) p.end ∙ ap (set_end (end_of a p.link.adjacency) (at_end e h.after)) same
 
-      line : h.after.line ≡ p.link.line
-      line = ap (λ (z : Joined). z.line) is ∙ set_line (end_of a p.link.line) (at_end e h.after) p.link
+      adjacency : h.after.adjacency ≡ p.link.adjacency
+      adjacency = ap (λ (z : Joined). z.adjacency) is ∙ set_adjacency (end_of a p.link.adjacency) (at_end e h.after) p.link
 
       sides : side_at ys ≡ set_pair a b (at_end e h.after) (side_at xs)
       sides = ap side_at h.is ∙ one_side a b i xs p.link h.after (at_end e h.after) p.first p.found is
@@ -213,8 +213,8 @@ module _ (a b : As) (i : ℕ) (e : End) (so : Side → Side → Type 0) (xs ys :
 
       rest : row_of ys ≡ set_side a b (side_at ys a b) (row_of xs)
       rest =
-          ap (λ (ls : List Line). let r : Row = record { lines = ls; sides = side_at ys } in r) (ap lines_in h.is ∙ lines_set i xs p.link h.after p.found line)
-          ∙ ap (λ (f : As → As → Side). let r : Row = record { lines = lines_in xs; sides = f } in r) (sides ∙ ap (λ (v : Side). set_pair a b v (side_at xs)) (sym here))
+          ap (λ (ls : List Adjacency). let r : Row = record { adjacencies = ls; sides = side_at ys } in r) (ap adjacencies_in h.is ∙ adjacencies_set i xs p.link h.after p.found adjacency)
+          ∙ ap (λ (f : As → As → Side). let r : Row = record { adjacencies = adjacencies_in xs; sides = f } in r) (sides ∙ ap (λ (v : Side). set_pair a b v (side_at xs)) (sym here))
 
       does : so (side_at xs a b) (side_at ys a b)
       does =
@@ -227,58 +227,58 @@ module _ (a b : As) (i : ℕ) (e : End) (so : Side → Side → Type 0) (xs ys :
 
   -- a row of which a link changes at both ends
   pub link_changes : ChangesAt i (BothChange so) xs ys → BothSidesChange a b so (row_of xs) (row_of ys)
-  link_changes h = record { rest = rest; here = does a b e p.end here (side_here a b i e xs p); there = does b a (end_of b p.link.line) refl there' (side_here b a i (end_of b p.link.line) xs (back_place a b i e xs p)) }
+  link_changes h = record { rest = rest; here = does a b e p.end here (side_here a b i e xs p); there = does b a (end_of b p.link.adjacency) refl there' (side_here b a i (end_of b p.link.adjacency) xs (back_place a b i e xs p)) }
     where
       same : h.before ≡ p.link
       same = one_found h.before p.link h.found p.found
 
-      line : h.after.line ≡ p.link.line
-      line = h.changes.line ∙ ap (λ (z : Joined). z.line) same
+      adjacency : h.after.adjacency ≡ p.link.adjacency
+      adjacency = h.changes.adjacency ∙ ap (λ (z : Joined). z.adjacency) same
 
-      sides : side_at ys ≡ set_pair a b (at_end (end_of a p.link.line) h.after) (set_pair b a (at_end (end_of b p.link.line) h.after) (side_at xs))
-      sides = ap side_at h.is ∙ two_sides a b i xs p.link h.after p.first p.found line
+      sides : side_at ys ≡ set_pair a b (at_end (end_of a p.link.adjacency) h.after) (set_pair b a (at_end (end_of b p.link.adjacency) h.after) (side_at xs))
+      sides = ap side_at h.is ∙ two_sides a b i xs p.link h.after p.first p.found adjacency
 
-      here : side_at ys a b ≡ at_end (end_of a p.link.line) h.after
-      here = ap (λ (f : As → As → Side). f a b) sides ∙ pair_here a b (at_end (end_of a p.link.line) h.after) (set_pair b a (at_end (end_of b p.link.line) h.after) (side_at xs))
+      here : side_at ys a b ≡ at_end (end_of a p.link.adjacency) h.after
+      here = ap (λ (f : As → As → Side). f a b) sides ∙ pair_here a b (at_end (end_of a p.link.adjacency) h.after) (set_pair b a (at_end (end_of b p.link.adjacency) h.after) (side_at xs))
 
-      there' : side_at ys b a ≡ at_end (end_of b p.link.line) h.after
-      there' = ap (λ (zs : List Joined). side_at zs b a) h.is ∙ there a b i xs p.link h.after p.first p.found line b a (inr (refl, refl))
+      there' : side_at ys b a ≡ at_end (end_of b p.link.adjacency) h.after
+      there' = ap (λ (zs : List Joined). side_at zs b a) h.is ∙ there a b i xs p.link h.after p.first p.found adjacency b a (inr (refl, refl))
 
-      does : (c d : As) (f : End) → f ≡ end_of c p.link.line → side_at ys c d ≡ at_end (end_of c p.link.line) h.after → side_at xs c d ≡ at_end f p.link → so (side_at xs c d) (side_at ys c d)
+      does : (c d : As) (f : End) → f ≡ end_of c p.link.adjacency → side_at ys c d ≡ at_end (end_of c p.link.adjacency) h.after → side_at xs c d ≡ at_end f p.link → so (side_at xs c d) (side_at ys c d)
       does c d f f_is now before =
           subst (λ (v : Side). so v (side_at ys c d)) (ap (at_end f) same ∙ sym before)
           (subst (λ (v : Side). so (at_end f h.before) v) (ap (λ (g : End). at_end g h.after) f_is ∙ sym now) (at_each f h.before h.after h.changes))
 
       rest : row_of ys ≡ set_side a b (side_at ys a b) (set_side b a (side_at ys b a) (row_of xs))
       rest =
-          ap (λ (ls : List Line). let r : Row = record { lines = ls; sides = side_at ys } in r) (ap lines_in h.is ∙ lines_set i xs p.link h.after p.found line)
-          ∙ ap (λ (f : As → As → Side). let r : Row = record { lines = lines_in xs; sides = f } in r)
-          (sides ∙ ap (λ (v : Side). set_pair a b v (set_pair b a (at_end (end_of b p.link.line) h.after) (side_at xs))) (sym here) ∙ ap (λ (v : Side). set_pair a b (side_at ys a b) (set_pair b a v (side_at xs))) (sym there'))
+          ap (λ (ls : List Adjacency). let r : Row = record { adjacencies = ls; sides = side_at ys } in r) (ap adjacencies_in h.is ∙ adjacencies_set i xs p.link h.after p.found adjacency)
+          ∙ ap (λ (f : As → As → Side). let r : Row = record { adjacencies = adjacencies_in xs; sides = f } in r)
+          (sides ∙ ap (λ (v : Side). set_pair a b v (set_pair b a (at_end (end_of b p.link.adjacency) h.after) (side_at xs))) (sym here) ∙ ap (λ (v : Side). set_pair a b (side_at ys a b) (set_pair b a v (side_at xs))) (sym there'))
 
 -- ---- there is no link
 
 some_none : (x : Joined) → Some x ≡ None → ⊥
 some_none x is = cc
 
-pub no_line : (a b : As) (xs : List Joined) → link_at a b xs ≡ None → has_line a b (lines_in xs) ≡ false
-no_line a b [] none = refl
-no_line a b (x ∷ xs) none = go (λ is. no_line a b xs is) (same_link x.line.lower x.line.upper a b) none
+pub no_adjacency : (a b : As) (xs : List Joined) → link_at a b xs ≡ None → has_adjacency a b (adjacencies_in xs) ≡ false
+no_adjacency a b [] none = refl
+no_adjacency a b (x ∷ xs) none = go (λ is. no_adjacency a b xs is) (same_link x.adjacency.lower x.adjacency.upper a b) none
   where
-    go : (link_at a b xs ≡ None → has_line a b (lines_in xs) ≡ false) → (t : Bool) → cond t (Some x) (link_at a b xs) ≡ None → cond t true (has_line a b (lines_in xs)) ≡ false
+    go : (link_at a b xs ≡ None → has_adjacency a b (adjacencies_in xs) ≡ false) → (t : Bool) → cond t (Some x) (link_at a b xs) ≡ None → cond t true (has_adjacency a b (adjacencies_in xs)) ≡ false
     go rest true is = absurd (some_none x is)
     go rest false is = rest is
 
-pub some_line : (a b : As) (i : ℕ) (xs : List Joined) → IsFirst a b i xs → has_line a b (lines_in xs) ≡ true
-some_line a b i [] first = absurd first
-some_line a b zero (x ∷ xs) first = ap (λ (t : Bool). cond t true (has_line a b (lines_in xs))) first
-some_line a b (suc i) (x ∷ xs) first = ap (λ (t : Bool). cond t true (has_line a b (lines_in xs))) first.0 ∙ some_line a b i xs first.1
+pub some_adjacency : (a b : As) (i : ℕ) (xs : List Joined) → IsFirst a b i xs → has_adjacency a b (adjacencies_in xs) ≡ true
+some_adjacency a b i [] first = absurd first
+some_adjacency a b zero (x ∷ xs) first = ap (λ (t : Bool). cond t true (has_adjacency a b (adjacencies_in xs))) first
+some_adjacency a b (suc i) (x ∷ xs) first = ap (λ (t : Bool). cond t true (has_adjacency a b (adjacencies_in xs))) first.0 ∙ some_adjacency a b i xs first.1
 
 pub no_side_there : (a b : As) (xs : List Joined) → link_at a b xs ≡ None → side_at xs a b ≡ no_side
 no_side_there a b xs none = ap (side_or a) none
 
 -- nothing changes
 pub row_same : (a b : As) (r : Row) → r ≡ set_side a b (r.sides a b) r
-row_same a b r = ap (λ (f : As → As → Side). let s : Row = record { lines = r.lines; sides = f } in s) (sym (pair_same a b (r.sides a b) r.sides refl))
+row_same a b r = ap (λ (f : As → As → Side). let s : Row = record { adjacencies = r.adjacencies; sides = f } in s) (sym (pair_same a b (r.sides a b) r.sides refl))
 
 -- ---- a row as a call finds it
 
@@ -319,23 +319,23 @@ module _ (a b : As) (i : ℕ) (e : End) (found items old : List Joined) (is_foun
   pub both_there : (so : Side → Side → Type 0) (new : List Joined) → IsPlace a b i e found → ChangesAt i (BothChange so) items new → BothSidesChange a b so (row_of old) (row_of new)
   both_there so new p h = subst (λ (xs : List Joined). BothSidesChange a b so (row_of xs) (row_of new)) is_old (link_changes a b i e so items new (place_in p) h)
 
-  pub line_there : IsPlace a b i e found → true ≡ has_line a b (lines_in old)
-  line_there p = sym (sym (ap (λ (xs : List Joined). has_line a b (lines_in xs)) is_old) ∙ some_line a b i items (place_in p).first)
+  pub adjacency_there : IsPlace a b i e found → true ≡ has_adjacency a b (adjacencies_in old)
+  adjacency_there p = sym (sym (ap (λ (xs : List Joined). has_adjacency a b (adjacencies_in xs)) is_old) ∙ some_adjacency a b i items (place_in p).first)
 
 none_back : (a b : As) (xs : List Joined) → link_at a b xs ≡ None → link_at b a xs ≡ None
 none_back a b [] none = refl
-none_back a b (x ∷ xs) none = go (λ is. none_back a b xs is) (same_link x.line.lower x.line.upper a b) refl none
+none_back a b (x ∷ xs) none = go (λ is. none_back a b xs is) (same_link x.adjacency.lower x.adjacency.upper a b) refl none
   where
-    go : (link_at a b xs ≡ None → link_at b a xs ≡ None) → (t : Bool) → same_link x.line.lower x.line.upper a b ≡ t → cond t (Some x) (link_at a b xs) ≡ None → cond (same_link x.line.lower x.line.upper b a) (Some x) (link_at b a xs) ≡ None
+    go : (link_at a b xs ≡ None → link_at b a xs ≡ None) → (t : Bool) → same_link x.adjacency.lower x.adjacency.upper a b ≡ t → cond t (Some x) (link_at a b xs) ≡ None → cond (same_link x.adjacency.lower x.adjacency.upper b a) (Some x) (link_at b a xs) ≡ None
     go rest true at is = absurd (some_none x is)
-    go rest false at is = ap (λ (t : Bool). cond t (Some x) (link_at b a xs)) (not_back x.line.lower x.line.upper a b at) ∙ rest is
+    go rest false at is = ap (λ (t : Bool). cond t (Some x) (link_at b a xs)) (not_back x.adjacency.lower x.adjacency.upper a b at) ∙ rest is
 
 module _ (a b : As) (found items old : List Joined) (is_found : found ≡ items) (is_old : items ≡ old) (none : link_at a b found ≡ None) where
   none_old : link_at a b old ≡ None
   none_old = sym (ap (link_at a b) (is_found ∙ is_old)) ∙ none
 
-  pub no_line_there : false ≡ has_line a b (lines_in old)
-  no_line_there = sym (no_line a b old none_old)
+  pub no_adjacency_there : false ≡ has_adjacency a b (adjacencies_in old)
+  no_adjacency_there = sym (no_adjacency a b old none_old)
 
   pub no_side_at : side_at old a b ≡ no_side
   no_side_at = no_side_there a b old none_old

@@ -4,7 +4,7 @@ use Rattle.std.specs.Prelude.{◌⊎◌, slice_get}
 use Rattle.std.proofs.lemmas.Bool.{eqb-true, eqb-false, false≢true}
 use Rattle.dom_base.specs.declared.names.As.{As}
 use Rattle.plant_text.specs.Names.{same_as, same_link}
-use Rattle.plant_text.specs.Settings.{Line}
+use Rattle.plant_text.specs.Settings.{Adjacency}
 use Rattle.plant_sessions.specs.Links.{Joined, at_end}
 use Rattle.network_links.specs.Sides.{link_at, end_of, side_or, side_at, IsFirst}
 
@@ -74,9 +74,9 @@ not_both l u m v a b c d is no' also_is = go (same_link l u c d) refl
 one_joined : (x y : Joined) → Some x ≡ Some y → x ≡ y
 one_joined x y is = cc
 
-pub first_between : (a b : As) (i : ℕ) (xs : List Joined) (x : Joined) → IsFirst a b i xs → slice_get xs i ≡ Some x → same_link x.line.lower x.line.upper a b ≡ true
+pub first_between : (a b : As) (i : ℕ) (xs : List Joined) (x : Joined) → IsFirst a b i xs → slice_get xs i ≡ Some x → same_link x.adjacency.lower x.adjacency.upper a b ≡ true
 first_between a b i [] x first found = absurd first
-first_between a b zero (y ∷ xs) x first found = ap (λ (z : Joined). same_link z.line.lower z.line.upper a b) (sym (one_joined y x found)) ∙ first
+first_between a b zero (y ∷ xs) x first found = ap (λ (z : Joined). same_link z.adjacency.lower z.adjacency.upper a b) (sym (one_joined y x found)) ∙ first
 first_between a b (suc i) (y ∷ xs) x first found = first_between a b i xs x first.1 found
 
 pub first_link : (a b : As) (i : ℕ) (xs : List Joined) (x : Joined) → IsFirst a b i xs → slice_get xs i ≡ Some x → link_at a b xs ≡ Some x
@@ -87,23 +87,23 @@ first_link a b (suc i) (y ∷ xs) x first found = ap (λ (t : Bool). cond t (Som
 -- ---- one link changes, between the same ends
 
 module _ (a b : As) (y : Joined) (c d : As) where
-  after_here : (l : Line) (x : Joined) (rest : Option Joined) → y.line ≡ l → x.line ≡ l → (t : Bool) → same_link l.lower l.upper c d ≡ t →
-      side_or c (cond (same_link y.line.lower y.line.upper c d) (Some y) rest) ≡ cond t (at_end (end_of c l) y) (side_or c (cond (same_link x.line.lower x.line.upper c d) (Some x) rest))
+  after_here : (l : Adjacency) (x : Joined) (rest : Option Joined) → y.adjacency ≡ l → x.adjacency ≡ l → (t : Bool) → same_link l.lower l.upper c d ≡ t →
+      side_or c (cond (same_link y.adjacency.lower y.adjacency.upper c d) (Some y) rest) ≡ cond t (at_end (end_of c l) y) (side_or c (cond (same_link x.adjacency.lower x.adjacency.upper c d) (Some x) rest))
   after_here l x rest is_y is_x true is =
-      ap (λ (m : Line). side_or c (cond (same_link m.lower m.upper c d) (Some y) rest)) is_y ∙ ap (λ (t : Bool). side_or c (cond t (Some y) rest)) is ∙ ap (λ (m : Line). at_end (end_of c m) y) is_y
+      ap (λ (m : Adjacency). side_or c (cond (same_link m.lower m.upper c d) (Some y) rest)) is_y ∙ ap (λ (t : Bool). side_or c (cond t (Some y) rest)) is ∙ ap (λ (m : Adjacency). at_end (end_of c m) y) is_y
   after_here l x rest is_y is_x false is =
-      ap (λ (m : Line). side_or c (cond (same_link m.lower m.upper c d) (Some y) rest)) is_y ∙ ap (λ (t : Bool). side_or c (cond t (Some y) rest)) is
-      ∙ sym (ap (λ (m : Line). side_or c (cond (same_link m.lower m.upper c d) (Some x) rest)) is_x ∙ ap (λ (t : Bool). side_or c (cond t (Some x) rest)) is)
+      ap (λ (m : Adjacency). side_or c (cond (same_link m.lower m.upper c d) (Some y) rest)) is_y ∙ ap (λ (t : Bool). side_or c (cond t (Some y) rest)) is
+      ∙ sym (ap (λ (m : Adjacency). side_or c (cond (same_link m.lower m.upper c d) (Some x) rest)) is_x ∙ ap (λ (t : Bool). side_or c (cond t (Some x) rest)) is)
 
   -- what is sent between two ends afterwards
-  pub sides_after : (i : ℕ) (xs : List Joined) (x : Joined) → IsFirst a b i xs → slice_get xs i ≡ Some x → y.line ≡ x.line →
-      side_at (set xs i y) c d ≡ cond (same_link x.line.lower x.line.upper c d) (at_end (end_of c x.line) y) (side_at xs c d)
-  sides_after i [] x first found line = absurd first
-  sides_after zero (z ∷ xs) x first found line = after_here x.line z (link_at c d xs) line (ap (λ (w : Joined). w.line) (one_joined z x found)) (same_link x.line.lower x.line.upper c d) refl
-  sides_after (suc i) (z ∷ xs) x first found line = go (sides_after i xs x first.1 found line) (same_link z.line.lower z.line.upper c d) refl
+  pub sides_after : (i : ℕ) (xs : List Joined) (x : Joined) → IsFirst a b i xs → slice_get xs i ≡ Some x → y.adjacency ≡ x.adjacency →
+      side_at (set xs i y) c d ≡ cond (same_link x.adjacency.lower x.adjacency.upper c d) (at_end (end_of c x.adjacency) y) (side_at xs c d)
+  sides_after i [] x first found adjacency = absurd first
+  sides_after zero (z ∷ xs) x first found adjacency = after_here x.adjacency z (link_at c d xs) adjacency (ap (λ (w : Joined). w.adjacency) (one_joined z x found)) (same_link x.adjacency.lower x.adjacency.upper c d) refl
+  sides_after (suc i) (z ∷ xs) x first found adjacency = go (sides_after i xs x first.1 found adjacency) (same_link z.adjacency.lower z.adjacency.upper c d) refl
     where
-      go : side_at (set xs i y) c d ≡ cond (same_link x.line.lower x.line.upper c d) (at_end (end_of c x.line) y) (side_at xs c d) →
-          (t : Bool) → same_link z.line.lower z.line.upper c d ≡ t →
-          side_or c (cond t (Some z) (link_at c d (set xs i y))) ≡ cond (same_link x.line.lower x.line.upper c d) (at_end (end_of c x.line) y) (side_or c (cond t (Some z) (link_at c d xs)))
+      go : side_at (set xs i y) c d ≡ cond (same_link x.adjacency.lower x.adjacency.upper c d) (at_end (end_of c x.adjacency) y) (side_at xs c d) →
+          (t : Bool) → same_link z.adjacency.lower z.adjacency.upper c d ≡ t →
+          side_or c (cond t (Some z) (link_at c d (set xs i y))) ≡ cond (same_link x.adjacency.lower x.adjacency.upper c d) (at_end (end_of c x.adjacency) y) (side_or c (cond t (Some z) (link_at c d xs)))
       go rest false is = rest
-      go rest true is = sym (ap (λ (t : Bool). cond t (at_end (end_of c x.line) y) (at_end (end_of c z.line) z)) (not_both x.line.lower x.line.upper z.line.lower z.line.upper a b c d (first_between a b i xs x first.1 found) first.0 is))
+      go rest true is = sym (ap (λ (t : Bool). cond t (at_end (end_of c x.adjacency) y) (at_end (end_of c z.adjacency) z)) (not_both x.adjacency.lower x.adjacency.upper z.adjacency.lower z.adjacency.upper a b c d (first_between a b i xs x first.1 found) first.0 is))

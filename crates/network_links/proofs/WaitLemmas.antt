@@ -3,7 +3,7 @@ use Rattle.std.proofs.Common.{◌≡◌, ◌<◌, ◌≤◌, ◌⊎◌, inl, inr
 use Rattle.std.specs.Prelude.{slice_get}
 use Rattle.std.proofs.lemmas.List.Elements.{All-push, All-weaker, Contains-append_left, Contains-push}
 use Rattle.dom_base.specs.declared.names.As.{As}
-use Rattle.plant_text.specs.Settings.{Line}
+use Rattle.plant_text.specs.Settings.{Adjacency}
 use Rattle.network_links.specs.Flow.{Flow}
 use Rattle.network_links.specs.Waiting.{IsAtMost, WaitsAmong, has_mail, ways}
 
@@ -54,10 +54,10 @@ looked_before f all way p waits less is = record {
 }
 
 -- both ways of one more link
-pub ways_more : (xs : List Line) (k : ℕ) (x : Line) → slice_get xs k ≡ Some x → ways (take (suc k) xs) ≡ (ways (take k xs) ++ (x.lower, x.upper) ∷ []) ++ (x.upper, x.lower) ∷ []
+pub ways_more : (xs : List Adjacency) (k : ℕ) (x : Adjacency) → slice_get xs k ≡ Some x → ways (take (suc k) xs) ≡ (ways (take k xs) ++ (x.lower, x.upper) ∷ []) ++ (x.upper, x.lower) ∷ []
 ways_more [] k x is = absurd (let none : None ≡ Some x = is in cc)
 ways_more (y ∷ xs) zero x is =
     let one : Some y ≡ Some x = is in
     let same : y ≡ x = cc in
-    ap (λ (z : Line). (z.lower, z.upper) ∷ (z.upper, z.lower) ∷ []) same
+    ap (λ (z : Adjacency). (z.lower, z.upper) ∷ (z.upper, z.lower) ∷ []) same
 ways_more (y ∷ xs) (suc k) x is = ap (λ (ws : List (As × As)). (y.lower, y.upper) ∷ (y.upper, y.lower) ∷ ws) (ways_more xs k x is)

@@ -15,18 +15,18 @@ pub record Carried : Type 0 where
   pub said : Queued Sent
 
 -- its peers and links as maps
-pub record Seen : Type 0 where
+pub record CarriedView : Type 0 where
   pub clock : ℕ
   pub peers : Guests
   pub links : Row
   pub said : Queued Sent
 
-abbrev pub seen : Carried → Seen
+abbrev pub seen : Carried → CarriedView
 seen x = record { clock = x.clock; peers = guests_of x.peers; links = row_of x.links; said = x.said }
 
-abbrev pub flow_in : Seen → Flow
+abbrev pub flow_in : CarriedView → Flow
 flow_in a = record {
-  lines = a.links.lines;
+  adjacencies = a.links.adjacencies;
   peers = a.peers.count;
   clock = a.clock;
   accesses = a.peers.accesses;

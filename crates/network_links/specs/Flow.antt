@@ -14,7 +14,7 @@ use Rattle.plant_queues.specs.declared.sent.Sent.{Sent}
 use Rattle.plant_queues.specs.Messages.{Spare, IsRoomAgain}
 use Rattle.plant_queues.specs.Sents.{sent_of, size_of}
 use Rattle.plant_text.specs.Names.{parent_as}
-use Rattle.plant_text.specs.Settings.{Line, has_line}
+use Rattle.plant_text.specs.Settings.{Adjacency, has_adjacency}
 use Rattle.settings_layout.specs.plant_model.Names.{set_pair, set_number}
 use Rattle.settings_layout.specs.plant_model.Wire.{Bytes}
 use Rattle.settings_layout.specs.plant_model.State.{Connection, Access, State}
@@ -34,7 +34,7 @@ pub record Room : Type 0 where
 -- The inner links in their order and the number of outside peers never change. Beyond the last peer nobody was ever open, and
 -- between two ends without a link stands a session that has not begun.
 pub record Flow : Type 0 where
-  pub lines : List Line
+  pub adjacencies : List Adjacency
   pub peers : ℕ
   pub clock : ℕ
   pub accesses : ℕ → Access
@@ -114,7 +114,7 @@ set_session_at at (Inner b) session f = set_session at b session f
 -- at an end of a link it has the number that it had
 abbrev pub MaySet : As → Peer → Session → Flow → Type 0
 MaySet at (Outside i) session f = Unit {0}
-MaySet at (Inner b) session f = (has_line at b f.lines ≡ true) × (session.offer.sid ≡ (f.sessions at b).offer.sid)
+MaySet at (Inner b) session f = (has_adjacency at b f.adjacencies ≡ true) × (session.offer.sid ≡ (f.sessions at b).offer.sid)
 
 -- the first of what waits for it; only from outside comes what cannot be a message
 abbrev pub first_at : As → Peer → Flow → Option (Option Bytes)
@@ -195,12 +195,12 @@ pub record ClearsSaid (old new : Flow) : Type 0 where
 -- ---- the beginning
 
 -- nothing has begun, and each end of a link keeps room for what its session says of itself
-pub record IsBare (lines : List Line) (peers : ℕ) (f : Flow) : Type 0 where
-  pub lines_are : f.lines ≡ lines
+pub record IsBare (adjacencies : List Adjacency) (peers : ℕ) (f : Flow) : Type 0 where
+  pub adjacencies_are : f.adjacencies ≡ adjacencies
   pub peers_are : f.peers ≡ peers
   pub clock : f.clock ≡ 0
   pub accesses : f.accesses ≡ (λ i. record { opened = 0; connection = None })
   pub sessions : f.sessions ≡ (λ a b. new_sender.session)
   pub queues : f.queues ≡ (λ a b. [])
   pub said : f.said ≡ []
-  pub room : (a b : As) → has_line a b lines ≡ true → KeepsRoomAt a (Inner b) 0 0 f
+  pub room : (a b : As) → has_adjacency a b adjacencies ≡ true → KeepsRoomAt a (Inner b) 0 0 f

@@ -5,7 +5,7 @@ use Rattle.dom_base.specs.declared.names.Peer.{Peer}
 use Rattle.dom_base.specs.declared.names.Peer.TheVariants.{Outside, Inner}
 use Rattle.dom_base.specs.declared.names.Tick.{Tick}
 use Rattle.pcep_session.specs.Quiet.{after_quiet, is_quiet}
-use Rattle.plant_text.specs.Settings.{has_line}
+use Rattle.plant_text.specs.Settings.{has_adjacency}
 use Rattle.plant_sessions.specs.declared.access.Access.{Access}
 use Rattle.plant_sessions.specs.declared.link.End.{End}
 use Rattle.plant_sessions.specs.Ends.{with_kept}
@@ -34,7 +34,7 @@ pub record TicksEnd (now : Tick) (e : End) (quiet : Bool) (old new : Joined) : T
 -- there is such a link
 abbrev pub IsReached : As → Peer → Flow → Type 0
 IsReached at (Outside i) f = Unit {0}
-IsReached at (Inner b) f = has_line at b f.lines ≡ true
+IsReached at (Inner b) f = has_adjacency at b f.adjacencies ≡ true
 
 abbrev pub is_quiet_at : Tick → As → Peer → Flow → Bool
 is_quiet_at now at (Outside i) f = is_quiet_peer now (f.accesses i).connection

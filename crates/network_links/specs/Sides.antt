@@ -6,7 +6,7 @@ use Rattle.dom_base.specs.declared.names.Tick.{Tick}
 use Rattle.pcep_session.specs.declared.actions.Own.TheVariants.{Open}
 use Rattle.pcep_session.specs.declared.state.State.{State as Session}
 use Rattle.plant_text.specs.Names.{same_as, same_link}
-use Rattle.plant_text.specs.Settings.{Line, has_line}
+use Rattle.plant_text.specs.Settings.{Adjacency, has_adjacency}
 use Rattle.settings_layout.specs.plant_model.Names.{set_pair}
 use Rattle.settings_layout.specs.plant_model.Wire.{Bytes}
 use Rattle.settings_layout.specs.plant_model.Deeds.{our_offer}
@@ -27,37 +27,37 @@ no_side = record { kept = new_sender; spare = no_room }
 -- the first link between two ends, in either order
 abbrev pub link_at : As → As → List Joined → Option Joined
 link_at a b [] = None
-link_at a b (x ∷ xs) = cond (same_link x.line.lower x.line.upper a b) (Some x) (link_at a b xs)
+link_at a b (x ∷ xs) = cond (same_link x.adjacency.lower x.adjacency.upper a b) (Some x) (link_at a b xs)
 
 -- that this end of a link is the lower one, or else the upper
-abbrev pub end_of : As → Line → End
+abbrev pub end_of : As → Adjacency → End
 end_of a x = cond (same_as x.lower a) Lower Upper
 
 abbrev pub side_or : As → Option Joined → Side
 side_or a None = no_side
-side_or a (Some x) = at_end (end_of a x.line) x
+side_or a (Some x) = at_end (end_of a x.adjacency) x
 
 -- what one end sends to the other
 abbrev pub side_at : List Joined → As → As → Side
 side_at xs a b = side_or a (link_at a b xs)
 
-abbrev pub lines_in : List Joined → List Line
-lines_in xs = map (λ (x : Joined). x.line) xs
+abbrev pub adjacencies_in : List Joined → List Adjacency
+adjacencies_in xs = map (λ (x : Joined). x.adjacency) xs
 
 -- the first link between two ends stands at this place
 abbrev pub IsFirst : As → As → ℕ → List Joined → Type 0
 IsFirst a b i [] = ⊥
-IsFirst a b zero (x ∷ xs) = same_link x.line.lower x.line.upper a b ≡ true
-IsFirst a b (suc i) (x ∷ xs) = (same_link x.line.lower x.line.upper a b ≡ false) × IsFirst a b i xs
+IsFirst a b zero (x ∷ xs) = same_link x.adjacency.lower x.adjacency.upper a b ≡ true
+IsFirst a b (suc i) (x ∷ xs) = (same_link x.adjacency.lower x.adjacency.upper a b ≡ false) × IsFirst a b i xs
 
 -- ---- a row as contracts see it
 
 pub record Row : Type 0 where
-  pub lines : List Line
+  pub adjacencies : List Adjacency
   pub sides : As → As → Side
 
 abbrev pub row_of : List Joined → Row
-row_of xs = record { lines = lines_in xs; sides = side_at xs }
+row_of xs = record { adjacencies = adjacencies_in xs; sides = side_at xs }
 
 abbrev pub set_side : As → As → Side → Row → Row
 set_side a b s r = record r { sides = set_pair a b s r.sides }
@@ -73,7 +73,7 @@ pub record IsPlace (a b : As) (i : ℕ) (e : End) (xs : List Joined) : Type 0 wh
   pub link : Joined
   pub first : IsFirst a b i xs
   pub found : slice_get xs i ≡ Some link
-  pub end : e ≡ end_of a link.line
+  pub end : e ≡ end_of a link.adjacency
 
 -- one link changes, and so
 pub record ChangesAt (i : ℕ) (so : Joined → Joined → Type 0) (old new : List Joined) : Type 0 where
@@ -84,10 +84,10 @@ pub record ChangesAt (i : ℕ) (so : Joined → Joined → Type 0) (old new : Li
   pub changes : so before after
 
 -- links whose sessions have not begun, each end of which keeps room for what its session says of itself
-pub record AreNewLinks (lines : List Line) (r : Row) : Type 0 where
-  pub lines_are : r.lines ≡ lines
+pub record AreNewLinks (adjacencies : List Adjacency) (r : Row) : Type 0 where
+  pub adjacencies_are : r.adjacencies ≡ adjacencies
   pub sides : (a b : As) → (r.sides a b).kept ≡ new_sender
-  pub room : (a b : As) → has_line a b lines ≡ true → KeepsRoom 0 0 (queue [] (r.sides a b).spare)
+  pub room : (a b : As) → has_adjacency a b adjacencies ≡ true → KeepsRoom 0 0 (queue [] (r.sides a b).spare)
 
 -- ---- what calls do to an end of a link
 
@@ -122,7 +122,7 @@ pub record EndChanges (e : End) (so : Side → Side → Type 0) (x y : Joined) :
 
 -- both ends
 pub record BothChange (so : Side → Side → Type 0) (x y : Joined) : Type 0 where
-  pub line : y.line ≡ x.line
+  pub adjacency : y.adjacency ≡ x.adjacency
   pub lower : so x.lower y.lower
   pub upper : so x.upper y.upper
 

@@ -1,7 +1,7 @@
 -- Which message is carried first: that of the least pair of sender and receiver.
 use Rattle.std.specs.Prelude.{◌≡◌, ◌<◌, ◌≤◌, ◌⊎◌, Bool, true, false, not, List, [], ◌∷◌, ◌++◌, All, Contains, Option, Some, None}
 use Rattle.dom_base.specs.declared.names.As.{As}
-use Rattle.plant_text.specs.Settings.{Line}
+use Rattle.plant_text.specs.Settings.{Adjacency}
 use Rattle.settings_layout.specs.plant_model.Names.{is_empty}
 use Rattle.network_links.specs.Flow.{Flow}
 
@@ -10,7 +10,7 @@ abbrev pub IsAtMost : As × As → As × As → Type 0
 IsAtMost p q = (p.0.0 < q.0.0) ⊎ ((p.0.0 ≡ q.0.0) × (p.1.0 ≤ q.1.0))
 
 -- both ways of each link
-abbrev pub ways : List Line → List (As × As)
+abbrev pub ways : List Adjacency → List (As × As)
 ways [] = []
 ways (x ∷ xs) = (x.lower, x.upper) ∷ (x.upper, x.lower) ∷ ways xs
 
@@ -29,7 +29,7 @@ WaitsAmong f all (Some p) = IsLeast f all p
 
 -- the pair between which the next message is carried; None where no message is on its way
 abbrev pub WaitsNext : Flow → Option (As × As) → Type 0
-WaitsNext f found = WaitsAmong f (ways f.lines) found
+WaitsNext f found = WaitsAmong f (ways f.adjacencies) found
 
 -- one more way is looked at
 abbrev pub LooksFurther : Flow → As × As → Option (As × As) → Option (As × As) → Type 0

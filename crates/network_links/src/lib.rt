@@ -9,5 +9,5 @@ mod traffic;
 mod waiting;
 
 pub use peers::Drained;
-pub use settings_layout::lines_of;
+pub use settings_layout::adjacencies_of;
 pub use traffic::Traffic;

@@ -2,8 +2,8 @@
 ghost use Rattle.std.specs.Prelude.{◌≡◌, ◌<◌, true, [], length, not, slice_get, Some, None, IfOk, IfSome, MatchOption};
 ghost use Rattle.std.specs.Option.{option_map};
 ghost use Rattle.plant_text.specs.Names.{same_link};
-ghost use Rattle.plant_text.specs.Settings.{has_line};
-ghost use Rattle.settings_layout.specs.Lines.{line_of, are_lines};
+ghost use Rattle.plant_text.specs.Settings.{has_adjacency};
+ghost use Rattle.settings_layout.specs.Adjacencies.{adjacency_of, are_adjacencies};
 ghost use Rattle.pcep_session.specs.Quiet.{is_quiet};
 ghost use Rattle.plant_queues.specs.Messages.{Covers};
 ghost use Rattle.settings_layout.specs.plant_model.Names.{is_empty};
@@ -39,22 +39,22 @@ impl Model for Links {
 
 /// The place of a link, and an end of it.
 #[derive(Clone, Copy)]
-struct Place {
+struct LinkEnd {
     link: usize,
     end: End,
 }
 
 fn is_between(link: &Link, a: As, b: As) -> bool
-    ensures { result ≡ same_link link.now.line.lower link.now.line.upper a b }
+    ensures { result ≡ same_link link.now.adjacency.lower link.now.adjacency.upper a b }
 {
-    let (lower, upper) = link.line();
+    let (lower, upper) = link.adjacency();
     (lower.0 == a.0 && upper.0 == b.0) || (lower.0 == b.0 && upper.0 == a.0)
 }
 
 fn end_of(link: &Link, at: As) -> End
-    ensures { result ≡ sides.end_of at link.now.line }
+    ensures { result ≡ sides.end_of at link.now.adjacency }
 {
-    let (lower, _upper) = link.line();
+    let (lower, _upper) = link.adjacency();
     if lower.0 == at.0 {
         End::Lower
     } else {
@@ -63,21 +63,21 @@ fn end_of(link: &Link, at: As) -> End
 }
 
 // Where what one end sends to another stands.
-fn place_of(links: &[Link], at: As, to: As) -> Option<Place>
+fn place_of(links: &[Link], at: As, to: As) -> Option<LinkEnd>
     ensures { MatchOption result (link_at at to links.now ≡ None) (λ p. IsPlace at to p.link p.end links.now) }
 {
     for i in 0..links.len() {
         let link = &links[i];
         if is_between(link, at, to) {
             let end = end_of(link, at);
-            return Some(Place { link: i, end });
+            return Some(LinkEnd { link: i, end });
         }
     }
     None
 }
 
 fn new_link(alloc: Global, lower: As, upper: As) -> Result<Link, NoMemory>
-    ensures line { IfOk result (λ link. link.line ≡ record { lower = lower; upper = upper }) }
+    ensures adjacency { IfOk result (λ link. link.adjacency ≡ record { lower = lower; upper = upper }) }
     ensures lower { IfOk result (λ link. link.lower.kept ≡ new_sender) }
     ensures upper { IfOk result (λ link. link.upper.kept ≡ new_sender) }
     ensures lower_room { IfOk result (λ link. KeepsRoom 0 0 (queue [] link.lower.spare)) }
@@ -155,11 +155,11 @@ fn tick_quietly_at(links: &mut Vec<Link>, i: usize, end: End, now: Tick) -> bool
 
 impl Links {
     /// Links whose sessions have not begun.
-    pub fn new(alloc: Global, lines: &[(As, As)]) -> Result<Links, NoMemory>
-        ensures { IfOk result (λ links. AreNewLinks (are_lines lines.now) (row_of links)) }
+    pub fn new(alloc: Global, adjacencies: &[(As, As)]) -> Result<Links, NoMemory>
+        ensures { IfOk result (λ links. AreNewLinks (are_adjacencies adjacencies.now) (row_of links)) }
     {
         let mut links = Vec::new(alloc);
-        for (lower, upper) in lines {
+        for (lower, upper) in adjacencies {
             links.push(new_link(alloc, *lower, *upper)?)?;
         }
         Ok(Links { links })
@@ -167,14 +167,14 @@ impl Links {
 
     /// How many inner links there are.
     pub fn count(&self) -> usize
-        ensures { result ≡ length (row_of self.now).lines }
+        ensures { result ≡ length (row_of self.now).adjacencies }
     {
         self.links.len()
     }
 
     /// Whether a link joins these two, in either order.
     pub fn is_linked(&self, a: As, b: As) -> bool
-        ensures { result ≡ has_line a b (row_of self.now).lines }
+        ensures { result ≡ has_adjacency a b (row_of self.now).adjacencies }
     {
         match place_of(&self.links, a, b) {
             Some(_) => true,
@@ -183,11 +183,11 @@ impl Links {
     }
 
     /// The lower and the upper end of the k-th link.
-    pub fn line_at(&self, k: usize) -> Option<(As, As)>
-        ensures { option_map line_of result ≡ slice_get (row_of self.now).lines k }
+    pub fn adjacency_at(&self, k: usize) -> Option<(As, As)>
+        ensures { option_map adjacency_of result ≡ slice_get (row_of self.now).adjacencies k }
     {
         match self.links.get(k) {
-            Some(link) => Some(link.line()),
+            Some(link) => Some(link.adjacency()),
             None => None,
         }
     }
@@ -204,7 +204,7 @@ impl Links {
 
     /// Puts the session at this end of the link in place of the one that stands there.
     pub fn set_session(&mut self, at: As, to: As, session: Session)
-        requires linked { has_line at to (row_of self.old).lines ≡ true }
+        requires linked { has_adjacency at to (row_of self.old).adjacencies ≡ true }
         requires sid { session.offer.sid ≡ ((row_of self.old).sides at to).kept.session.offer.sid }
         ensures { (row_of self.new) ≡ set_side at to (with_session session ((row_of self.old).sides at to)) (row_of self.old) }
     {
@@ -309,7 +309,7 @@ impl Links {
     /// The step of a tick, where the session of this end has nothing to say or to do at it, and whether
     /// that is so; where it is not, nothing changes.
     pub fn tick_quietly(&mut self, at: As, to: As, now: Tick) -> bool
-        requires { has_line at to (row_of self.old).lines ≡ true }
+        requires { has_adjacency at to (row_of self.old).adjacencies ≡ true }
         ensures quiet { result ≡ is_quiet now ((row_of self.old).sides at to).kept.session }
         ensures next { (row_of self.new) ≡ set_side at to (side_ticked now ((row_of self.old).sides at to)) (row_of self.old) }
     {

@@ -1,8 +1,8 @@
 //! What is on its way in a network.
 ghost use Rattle.std.specs.Prelude.{◌≡◌, ◌<◌, true, false, [], length, not, slice_get, Some, None, IfOk, OnOk, OnErr, is_some};
 ghost use Rattle.std.specs.Option.{option_map};
-ghost use Rattle.plant_text.specs.Settings.{has_line};
-ghost use Rattle.settings_layout.specs.Lines.{line_of, are_lines};
+ghost use Rattle.plant_text.specs.Settings.{has_adjacency};
+ghost use Rattle.settings_layout.specs.Adjacencies.{adjacency_of, are_adjacencies};
 ghost use Rattle.pcep_session.specs.Quiet.{after_quiet, is_quiet};
 ghost use Rattle.plant_queues.specs.Messages.{Covers};
 ghost use Rattle.settings_layout.specs.plant_model.Names.{is_empty};
@@ -61,11 +61,11 @@ impl Model for Traffic {
 
 impl Traffic {
     /// Links, each with its lower end first, and so many outside peers. Nothing has begun.
-    pub fn new(alloc: Global, lines: &[(As, As)], peers: usize) -> Result<Traffic, NoMemory>
-        ensures { IfOk result (λ traffic. IsBare (are_lines lines.now) peers (flow_of traffic)) }
+    pub fn new(alloc: Global, adjacencies: &[(As, As)], peers: usize) -> Result<Traffic, NoMemory>
+        ensures { IfOk result (λ traffic. IsBare (are_adjacencies adjacencies.now) peers (flow_of traffic)) }
     {
         let peers = Peers::new(alloc, peers)?;
-        let links = Links::new(alloc, lines)?;
+        let links = Links::new(alloc, adjacencies)?;
         Ok(Traffic {
             alloc,
             clock: Tick(0),
@@ -152,24 +152,24 @@ impl Traffic {
     // ---- inner links
 
     /// How many inner links there are.
-    pub fn lines(&self) -> usize
-        ensures { result ≡ length (flow_of self.now).lines }
+    pub fn adjacencies(&self) -> usize
+        ensures { result ≡ length (flow_of self.now).adjacencies }
     {
         self.links.count()
     }
 
     /// Whether a link joins these two, in either order.
     pub fn is_linked(&self, a: As, b: As) -> bool
-        ensures { result ≡ has_line a b (flow_of self.now).lines }
+        ensures { result ≡ has_adjacency a b (flow_of self.now).adjacencies }
     {
         self.links.is_linked(a, b)
     }
 
     /// The lower and the upper end of the k-th link.
-    pub fn line_at(&self, k: usize) -> Option<(As, As)>
-        ensures { option_map line_of result ≡ slice_get (flow_of self.now).lines k }
+    pub fn adjacency_at(&self, k: usize) -> Option<(As, As)>
+        ensures { option_map adjacency_of result ≡ slice_get (flow_of self.now).adjacencies k }
     {
-        self.links.line_at(k)
+        self.links.adjacency_at(k)
     }
 
     /// Whether a message is on its way between two ends.
@@ -353,7 +353,7 @@ impl Traffic {
     }
 
     fn tick_inner(&mut self, at: As, to: As, now: Tick) -> bool
-        requires { has_line at to (flow_of self.old).lines ≡ true }
+        requires { has_adjacency at to (flow_of self.old).adjacencies ≡ true }
         ensures quiet { result ≡ is_quiet now ((flow_of self.old).sessions at to) }
         ensures next { (flow_of self.new) ≡ set_session at to (after_quiet now ((flow_of self.old).sessions at to)) (flow_of self.old) }
     {

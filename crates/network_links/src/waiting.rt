@@ -43,8 +43,8 @@ impl Traffic {
         ensures { WaitsNext (flow_of self.now) result }
     {
         let mut best = None;
-        for k in 0..self.lines() {
-            let Some((lower, upper)) = self.line_at(k) else {
+        for k in 0..self.adjacencies() {
+            let Some((lower, upper)) = self.adjacency_at(k) else {
                 unreachable!()
             };
             best = self.look_at(best, (lower, upper));

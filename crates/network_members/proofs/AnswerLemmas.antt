@@ -13,7 +13,7 @@ use Rattle.plant_text.specs.Names.{same_as, parent_as}
 use Rattle.plant_text.specs.Settings.{is_element}
 use Rattle.member_trait.specs.plant_model.declared.upper.BorderJob.{BorderJob}
 use Rattle.member_trait.specs.plant_model.BorderGraph.{Found, SolvesBorder}
-use Rattle.member_trait.specs.plant_model.Element.{Element, Item, Place, Stage, Taken, Waits, Ready, is_ready}
+use Rattle.member_trait.specs.plant_model.Element.{Element, Item, ElementSettings, Stage, Taken, Waits, Ready, is_ready}
 use Rattle.member_trait.specs.plant_model.Events.{has_jobs, is_ready_asking, is_ready_row}
 use Rattle.member_trait.specs.plant_model.Jobs.{ask_of}
 use Rattle.member_trait.specs.plant_model.Parent as parent
@@ -115,7 +115,7 @@ module _ (d : As) (now : ℕ) (x : Solution) (t : Tiers Pin Segment) (es : List 
       let place_is : b.one.place ≡ place t.network d = placed_at t.network d t.elements b.one are.places b.found ∙ ap (place t.network) domain in
       let asked : x.ask ≡ ask wire t.network d (k, a.held) a.down = work.0 ∙ ap (λ (o : As). ask_of o k a.held.item a.down a.held.item.pin.number a.held.item.pin.topology) domain in
       let taken_is : p.taken ≡ commit wire (place t.network d) (k, a.held) a.down now (λ s. s.segment) x.rows.source_known x.rows.target_known x.rows.best ((members_of first_pin t).elements d) =
-      a.is ∙ ap₂ (λ (e : Place) (m : Element Pin Segment). commit wire e (k, a.held) a.down now (λ s. s.segment) x.rows.source_known x.rows.target_known x.rows.best m) place_is element_is in
+      a.is ∙ ap₂ (λ (e : ElementSettings) (m : Element Pin Segment). commit wire e (k, a.held) a.down now (λ s. s.segment) x.rows.source_known x.rows.target_known x.rows.best m) place_is element_is in
       inl (record {
         upper = below;
         held = a.held;
@@ -163,16 +163,16 @@ module _ (d : As) (now : ℕ) (x : Solution) (t : Tiers Pin Segment) (es : List 
 -- ---- at the parent
 
 -- the request that is answered
-pub record IsAnsweredAbove (x : BorderSolution) (k : parent.Parent) (given : parent.Given) : Type 0 where
+pub record IsAnsweredAbove (x : BorderSolution) (k : parent.Parent) (given : parent.ParentTaken) : Type 0 where
   pub held : Held parent.Asking
   pub found : lookup (nat_eq x.job.number) k.pending.rows ≡ Some held
   pub ready : parent.is_ready held.item ≡ true
   pub is : given ≡ parent.commit wire (x.job.number, held) x.answer k
 
-pub answered_above : (x : BorderSolution) (k : parent.Parent) (given : parent.Given) → border.committed x k ≡ Some given → IsAnsweredAbove x k given
+pub answered_above : (x : BorderSolution) (k : parent.Parent) (given : parent.ParentTaken) → border.committed x k ≡ Some given → IsAnsweredAbove x k given
 answered_above x k given is = go (lookup (nat_eq x.job.number) k.pending.rows) refl is
   where
-    some_one : (a b : parent.Given) → Some a ≡ Some b → a ≡ b
+    some_one : (a b : parent.ParentTaken) → Some a ≡ Some b → a ≡ b
     some_one a b e = cc
 
     none_some : None ≡ Some given → ⊥
@@ -230,7 +230,7 @@ module _ (d : As) (now : ℕ) (x : BorderSolution) (t : Tiers Pin Segment) (s : 
           ready = a.ready;
           answer = x.answer;
           solves = subst (λ (j : BorderJob). SolvesBorder j x.answer) same right;
-          is = ap₂ (λ (g : parent.Given) (ms : Membership Pin Segment). let z : Replied Pin Segment = record { members = with_parent g.parent ms; outputs = g.outputs } in z) a.is still.seen;
+          is = ap₂ (λ (g : parent.ParentTaken) (ms : Membership Pin Segment). let z : Replied Pin Segment = record { members = with_parent g.parent ms; outputs = g.outputs } in z) a.is still.seen;
         },
       )
 
@@ -250,7 +250,7 @@ module _ (d : As) (now : ℕ) (x : BorderSolution) (t : Tiers Pin Segment) (s : 
         there = there;
         fits = from ∙ sym stays;
         answers = answers_above p given;
-        one = ap (λ (g : parent.Given). length g.outputs) a.is ∙ one_above (x.job.number, a.held) x.answer t.parent.losing.parent;
+        one = ap (λ (g : parent.ParentTaken). length g.outputs) a.is ∙ one_above (x.job.number, a.held) x.answer t.parent.losing.parent;
         solved = ap (option_map done.Border) solved;
         why = tt;
         back = tt;

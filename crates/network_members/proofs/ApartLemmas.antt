@@ -6,8 +6,8 @@ use Rattle.dom_base.specs.declared.names.As.{As}
 use Rattle.plant_text.specs.declared.settings.NetworkParts.{NetworkParts}
 use Rattle.plant_text.specs.declared.settings.ElementRow.{ElementRow}
 use Rattle.plant_text.specs.Names.{same_as, same_link, parent_as, insert_as}
-use Rattle.plant_text.specs.Networks.{IsNetwork}
-use Rattle.plant_text.specs.Settings.{Line, lines, before_line, insert_line, sorted, upward, has_line, children, children_of}
+use Rattle.plant_text.specs.Networks.{ObeysRules}
+use Rattle.plant_text.specs.Settings.{Adjacency, adjacencies, before_adjacency, insert_adjacency, sorted, upward, has_adjacency, children, children_of}
 use Rattle.network_members.proofs.DomainLemmas.{same_as_is}
 use Rattle.network_members.proofs.NetworkLemmas.{settings_of}
 use Rattle.network_members.proofs.TierLemmas.{as_sym}
@@ -20,19 +20,19 @@ differ a b other = go (same_as a b) refl
     go false is = refl
 
 -- the ends of each are two
-abbrev pub HaveTwo : List Line → Type 0
+abbrev pub HaveTwo : List Adjacency → Type 0
 HaveTwo [] = Unit {0}
 HaveTwo (x ∷ xs) = (same_as x.lower x.upper ≡ false) × HaveTwo xs
 
-two_append : (xs ys : List Line) → HaveTwo xs → HaveTwo ys → HaveTwo (xs ++ ys)
+two_append : (xs ys : List Adjacency) → HaveTwo xs → HaveTwo ys → HaveTwo (xs ++ ys)
 two_append [] ys one other = other
 two_append (x ∷ xs) ys one other = (one.0, two_append xs ys one.1 other)
 
-two_insert : (x : Line) (ys : List Line) → same_as x.lower x.upper ≡ false → HaveTwo ys → HaveTwo (insert_line x ys)
+two_insert : (x : Adjacency) (ys : List Adjacency) → same_as x.lower x.upper ≡ false → HaveTwo ys → HaveTwo (insert_adjacency x ys)
 two_insert x [] two are = (two, tt)
-two_insert x (y ∷ ys) two are = go (two_insert x ys two are.1) (before_line x y)
+two_insert x (y ∷ ys) two are = go (two_insert x ys two are.1) (before_adjacency x y)
   where
-    go : HaveTwo (insert_line x ys) → (b : Bool) → HaveTwo (cond b (x ∷ y ∷ ys) (y ∷ insert_line x ys))
+    go : HaveTwo (insert_adjacency x ys) → (b : Bool) → HaveTwo (cond b (x ∷ y ∷ ys) (y ∷ insert_adjacency x ys))
     go more true = (two, are)
     go more false = (are.0, more)
 
@@ -41,7 +41,7 @@ two_sorted [] all = tt
 two_sorted (p ∷ ps) all =
     go (nat_lt p.1.0 p.0.0) (differ p.0 p.1 (All-head (λ (l : As × As). l.0 ≢ l.1) p ps all)) (two_sorted ps (All-tail (λ (l : As × As). l.0 ≢ l.1) p ps all))
   where
-    go : (b : Bool) → same_as p.0 p.1 ≡ false → HaveTwo (sorted ps) → HaveTwo (insert_line (cond b (record { lower = p.1; upper = p.0 }) (record { lower = p.0; upper = p.1 })) (sorted ps))
+    go : (b : Bool) → same_as p.0 p.1 ≡ false → HaveTwo (sorted ps) → HaveTwo (insert_adjacency (cond b (record { lower = p.1; upper = p.0 }) (record { lower = p.0; upper = p.1 })) (sorted ps))
     go true two rest = two_insert (record { lower = p.1; upper = p.0 }) (sorted ps) (as_sym p.1 p.0 ∙ two) rest
     go false two rest = two_insert (record { lower = p.0; upper = p.1 }) (sorted ps) two rest
 
@@ -72,7 +72,7 @@ two_upward : (cs : List As) → AreLower cs → HaveTwo (upward cs)
 two_upward [] are = tt
 two_upward (c ∷ cs) are = (are.0, two_upward cs are.1)
 
-linked_two : (a b : As) (xs : List Line) → HaveTwo xs → has_line a b xs ≡ true → same_as a b ≡ false
+linked_two : (a b : As) (xs : List Adjacency) → HaveTwo xs → has_adjacency a b xs ≡ true → same_as a b ≡ false
 linked_two a b [] two is = absurd (false≢true is)
 linked_two a b (x ∷ xs) two is = go (linked_two a b xs two.1) (same_link x.lower x.upper a b) refl is
   where
@@ -89,11 +89,11 @@ linked_two a b (x ∷ xs) two is = go (linked_two a b xs two.1) (same_link x.low
         none true e = false≢true e
         none false e = false≢true e
 
-    go : (has_line a b xs ≡ true → same_as a b ≡ false) → (c : Bool) → same_link x.lower x.upper a b ≡ c → cond c true (has_line a b xs) ≡ true → same_as a b ≡ false
+    go : (has_adjacency a b xs ≡ true → same_as a b ≡ false) → (c : Bool) → same_link x.lower x.upper a b ≡ c → cond c true (has_adjacency a b xs) ≡ true → same_as a b ≡ false
     go more true same known = ends (same_as x.lower a) (same_as x.upper a) refl refl same
     go more false same known = more known
 
-pub ends_are_two : (n : NetworkParts) → IsNetwork n → (a b : As) → has_line a b (lines n) ≡ true → same_as a b ≡ false
+pub ends_are_two : (n : NetworkParts) → ObeysRules n → (a b : As) → has_adjacency a b (adjacencies n) ≡ true → same_as a b ≡ false
 ends_are_two n net a b =
     let s = settings_of n net in
-    linked_two a b (lines n) (two_append (upward (children n)) (sorted n.links) (two_upward (children n) (lower_children n.elements s.elements.domains)) (two_sorted n.links s.links.differ))
+    linked_two a b (adjacencies n) (two_append (upward (children n)) (sorted n.links) (two_upward (children n) (lower_children n.elements s.elements.domains)) (two_sorted n.links s.links.differ))

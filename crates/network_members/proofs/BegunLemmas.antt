@@ -4,7 +4,7 @@ use Rattle.dom_base.specs.declared.names.As.{As}
 use Rattle.dom_base.specs.declared.addr.Addr.{Addr}
 use Rattle.plant_text.specs.declared.settings.NetworkParts.{NetworkParts}
 use Rattle.plant_text.specs.Names.{same_as, parent_as}
-use Rattle.plant_text.specs.Networks.{IsNetwork}
+use Rattle.plant_text.specs.Networks.{ObeysRules}
 use Rattle.plant_text.specs.Settings.{elements_of}
 use Rattle.member_trait.specs.plant_model.Element.{Element, Way}
 use Rattle.member_trait.specs.plant_model.Parent as parent
@@ -54,7 +54,7 @@ module _ {P : Type 0} {S : Type 0} (initial : As → P) where
       go false = lost_each n (elements_of n.elements) es are d
 
 module _ {P : Type 0} {S : Type 0} (initial : As → P) (show : S → List Hop) where
-  pub begun_is : (n : NetworkParts) (es : List (Seen P S)) (id : Addr) (s : above.Seen) → IsNetwork n → AreNew initial n (elements_of n.elements) es → above.IsNew id (family n) s → members_of initial (beginning n es s) ≡ begun initial show n
+  pub begun_is : (n : NetworkParts) (es : List (Seen P S)) (id : Addr) (s : above.Seen) → ObeysRules n → AreNew initial n (elements_of n.elements) es → above.IsNew id (family n) s → members_of initial (beginning n es s) ≡ begun initial show n
   begun_is n es id s net are new =
       let parent_is : s.losing.parent ≡ (begun initial show n).parent =
       ap (λ (x : above.Seen). x.losing.parent) new

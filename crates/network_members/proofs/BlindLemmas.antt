@@ -13,7 +13,7 @@ use Rattle.member_trait.specs.plant_model.declared.outcome.Refused.TheVariants a
 use Rattle.member_trait.specs.plant_model.declared.upper.BorderJob.{BorderJob}
 use Rattle.member_trait.specs.plant_model.Blind.{Nothing, show_nothing}
 use Rattle.member_trait.specs.plant_model.BorderGraph.{SolvesBorder}
-use Rattle.member_trait.specs.plant_model.Element.{Element, Item, Place, Taken, is_ready}
+use Rattle.member_trait.specs.plant_model.Element.{Element, Item, ElementSettings, Taken, is_ready}
 use Rattle.member_trait.specs.plant_model.Events.{has_jobs, is_ready_asking, is_ready_row}
 use Rattle.member_trait.specs.plant_model.Parent as parent
 use Rattle.member_trait.specs.plant_model.RealWire.{wire}
@@ -72,7 +72,7 @@ module _ (d : As) (k : ℕ) (rows : List BorderRow) (now : ℕ) (t : Tiers Nothi
   answers : {D : Type 0} (p : Planned Nothing Nothing D) → IsSolvedBy b.one k rows now p.taken → MemberAnswers t.network now d k rows (members_of nothing_first t) (record { members = with_element d p.taken.element (members_of nothing_first u); outputs = p.taken.outputs })
   answers p a =
       let taken_is : p.taken ≡ commit wire (place t.network d) (k, a.held) a.down now stands_for_nothing true true a.best ((members_of nothing_first t).elements d) =
-      a.is ∙ ap₂ (λ (e : Place) (m : Element Nothing Nothing). commit wire e (k, a.held) a.down now stands_for_nothing true true a.best m) place_is element_is in
+      a.is ∙ ap₂ (λ (e : ElementSettings) (m : Element Nothing Nothing). commit wire e (k, a.held) a.down now stands_for_nothing true true a.best m) place_is element_is in
       inl (record {
         upper = below;
         held = a.held;
@@ -165,7 +165,7 @@ module _ (d : As) (k : ℕ) (rows : List BorderRow) (now : ℕ) (t : Tiers Nothi
             ready = a.ready;
             answer = x.answer;
             solves = subst (λ (j : BorderJob). SolvesBorder j x.answer) same right;
-            is = ap₂ (λ (g : parent.Given) (ms : Membership Nothing Nothing). let z : Replied Nothing Nothing = record { members = with_parent g.parent ms; outputs = g.outputs } in z)
+            is = ap₂ (λ (g : parent.ParentTaken) (ms : Membership Nothing Nothing). let z : Replied Nothing Nothing = record { members = with_parent g.parent ms; outputs = g.outputs } in z)
                 (a.is ∙ ap (λ (i : ℕ). parent.commit wire (i, a.held) x.answer t.parent.losing.parent) number_is) same_above.seen;
           },
         )

@@ -9,8 +9,8 @@ use Rattle.plant_text.specs.declared.settings.NetworkParts.{NetworkParts}
 use Rattle.plant_text.specs.declared.settings.ElementRow.{ElementRow}
 use Rattle.plant_text.specs.declared.settings.PeerRow.{PeerRow}
 use Rattle.plant_text.specs.Names.{same_as, same_link, parent_as, insert_as}
-use Rattle.plant_text.specs.Networks.{IsAdded, IsNetwork}
-use Rattle.plant_text.specs.Settings.{Line, lines, before_line, insert_line, sorted, upward, has_line, children, children_of, is_element, row_of, peer_row}
+use Rattle.plant_text.specs.Networks.{IsAdded, ObeysRules}
+use Rattle.plant_text.specs.Settings.{Adjacency, adjacencies, before_adjacency, insert_adjacency, sorted, upward, has_adjacency, children, children_of, is_element, row_of, peer_row}
 use Rattle.member_trait.specs.plant_model.Element.{Way}
 use Rattle.member_trait.specs.plant_model.Deeds.{at_row}
 use Rattle.member_trait.specs.plant_model.Settings.{inner_ways, way, ways_along}
@@ -50,19 +50,19 @@ element_member n d all is = ap (λ (b : Bool). cond b (is_some n.parent) (is_ele
 -- ---- links
 
 -- both ends of each are members
-abbrev pub AreBetween : NetworkParts → List Line → Type 0
+abbrev pub AreBetween : NetworkParts → List Adjacency → Type 0
 AreBetween n [] = Unit {0}
 AreBetween n (x ∷ xs) = (is_member n x.lower ≡ true) × (is_member n x.upper ≡ true) × AreBetween n xs
 
-between_append : (n : NetworkParts) (xs ys : List Line) → AreBetween n xs → AreBetween n ys → AreBetween n (xs ++ ys)
+between_append : (n : NetworkParts) (xs ys : List Adjacency) → AreBetween n xs → AreBetween n ys → AreBetween n (xs ++ ys)
 between_append n [] ys one other = other
 between_append n (x ∷ xs) ys one other = (one.0, one.1, between_append n xs ys one.2 other)
 
-between_insert : (n : NetworkParts) (x : Line) (ys : List Line) → is_member n x.lower ≡ true → is_member n x.upper ≡ true → AreBetween n ys → AreBetween n (insert_line x ys)
+between_insert : (n : NetworkParts) (x : Adjacency) (ys : List Adjacency) → is_member n x.lower ≡ true → is_member n x.upper ≡ true → AreBetween n ys → AreBetween n (insert_adjacency x ys)
 between_insert n x [] low up are = (low, up, tt)
-between_insert n x (y ∷ ys) low up are = go (between_insert n x ys low up are.2) (before_line x y)
+between_insert n x (y ∷ ys) low up are = go (between_insert n x ys low up are.2) (before_adjacency x y)
   where
-    go : AreBetween n (insert_line x ys) → (b : Bool) → AreBetween n (cond b (x ∷ y ∷ ys) (y ∷ insert_line x ys))
+    go : AreBetween n (insert_adjacency x ys) → (b : Bool) → AreBetween n (cond b (x ∷ y ∷ ys) (y ∷ insert_adjacency x ys))
     go more true = (low, up, are)
     go more false = (are.0, are.1, more)
 
@@ -73,7 +73,7 @@ between_sorted n (p ∷ ps) all known =
     let rest = between_sorted n ps all (All-tail (λ (l : As × As). (is_element n l.0 ≡ true) × (is_element n l.1 ≡ true)) p ps known) in
     go (nat_lt p.1.0 p.0.0) (element_member n p.0 all here.0) (element_member n p.1 all here.1) rest
   where
-    go : (b : Bool) → is_member n p.0 ≡ true → is_member n p.1 ≡ true → AreBetween n (sorted ps) → AreBetween n (insert_line (cond b (record { lower = p.1; upper = p.0 }) (record { lower = p.0; upper = p.1 })) (sorted ps))
+    go : (b : Bool) → is_member n p.0 ≡ true → is_member n p.1 ≡ true → AreBetween n (sorted ps) → AreBetween n (insert_adjacency (cond b (record { lower = p.1; upper = p.0 }) (record { lower = p.0; upper = p.1 })) (sorted ps))
     go true one other rest = between_insert n (record { lower = p.1; upper = p.0 }) (sorted ps) other one rest
     go false one other rest = between_insert n (record { lower = p.0; upper = p.1 }) (sorted ps) one other rest
 
@@ -107,7 +107,7 @@ between_upward : (n : NetworkParts) (cs : List As) → AreBelow n cs → AreBetw
 between_upward n [] are = tt
 between_upward n (c ∷ cs) are = (are.0, are.1, between_upward n cs are.2)
 
-linked_member : (n : NetworkParts) (a b : As) (xs : List Line) → AreBetween n xs → has_line a b xs ≡ true → is_member n a ≡ true
+linked_member : (n : NetworkParts) (a b : As) (xs : List Adjacency) → AreBetween n xs → has_adjacency a b xs ≡ true → is_member n a ≡ true
 linked_member n a b [] are is = absurd (false≢true is)
 linked_member n a b (x ∷ xs) are is = go (linked_member n a b xs are.2) (same_link x.lower x.upper a b) refl is
   where
@@ -120,12 +120,12 @@ linked_member n a b (x ∷ xs) are is = go (linked_member n a b xs are.2) (same_
         none true e = false≢true e
         none false e = false≢true e
 
-    go : (has_line a b xs ≡ true → is_member n a ≡ true) → (c : Bool) → same_link x.lower x.upper a b ≡ c → cond c true (has_line a b xs) ≡ true → is_member n a ≡ true
+    go : (has_adjacency a b xs ≡ true → is_member n a ≡ true) → (c : Bool) → same_link x.lower x.upper a b ≡ c → cond c true (has_adjacency a b xs) ≡ true → is_member n a ≡ true
     go more true same known = ends (same_as x.lower a) (same_as x.upper a) refl refl same
     go more false same known = more known
 
-between_lines : (n : NetworkParts) → IsNetwork n → AreBetween n (lines n)
-between_lines n net =
+between_adjacencies : (n : NetworkParts) → ObeysRules n → AreBetween n (adjacencies n)
+between_adjacencies n net =
     let s = settings_of n net in
     between_append n (upward (children n)) (sorted n.links)
     (between_upward n (children n) (below_children n n.elements s.elements.domains s.elements.children (All-contains_itself n.elements)))
@@ -138,33 +138,33 @@ peer_known n [] i within all = absurd (omega (arith, within))
 peer_known n (r ∷ rows) zero within all = All-head (λ (p : PeerRow). is_element n p.at ≡ true) r rows all
 peer_known n (r ∷ rows) (suc i) within all = peer_known n rows i (omega (arith, within)) (All-tail (λ (p : PeerRow). is_element n p.at ≡ true) r rows all)
 
-peers_known : (n : NetworkParts) → IsNetwork n → All (λ (p : PeerRow). is_element n p.at ≡ true) n.peers
+peers_known : (n : NetworkParts) → ObeysRules n → All (λ (p : PeerRow). is_element n p.at ≡ true) n.peers
 peers_known n net =
     let Known : PeerRow → Type 0 = λ p. is_element n p.at ≡ true in
     subst (All Known) (take-append-drop net.given n.peers)
     (All-append Known (take net.given n.peers) (drop net.given n.peers) (settings_of n net).peers.known (All-weaker (IsAdded n) Known (λ p added. added.1) (drop net.given n.peers) net.added))
 
-pub are_joined : (n : NetworkParts) → IsNetwork n → AreJoined n
+pub are_joined : (n : NetworkParts) → ObeysRules n → AreJoined n
 are_joined n net = record {
   peers = λ i within. element_member n (at_row (peer_row i n.peers)) (settings_of n net).elements.domains (peer_known n n.peers i within (peers_known n net));
-  links = λ a b is. linked_member n a b (lines n) (between_lines n net) is;
+  links = λ a b is. linked_member n a b (adjacencies n) (between_adjacencies n net) is;
 }
 
 -- no element has the number of the parent
-pub elements_below : (n : NetworkParts) → IsNetwork n → (d : As) → is_element n d ≡ true → same_as d parent_as ≡ false
+pub elements_below : (n : NetworkParts) → ObeysRules n → (d : As) → is_element n d ≡ true → same_as d parent_as ≡ false
 elements_below n net d is = not_upper d n.elements (settings_of n net).elements.domains is
 
 -- ---- the ways of the parent
 
-abbrev AreApart : List Line → Type 0
+abbrev AreApart : List Adjacency → Type 0
 AreApart [] = Unit {0}
 AreApart (x ∷ xs) = (same_as x.lower parent_as ≡ false) × (same_as x.upper parent_as ≡ false) × AreApart xs
 
-apart_insert : (x : Line) (ys : List Line) → same_as x.lower parent_as ≡ false → same_as x.upper parent_as ≡ false → AreApart ys → AreApart (insert_line x ys)
+apart_insert : (x : Adjacency) (ys : List Adjacency) → same_as x.lower parent_as ≡ false → same_as x.upper parent_as ≡ false → AreApart ys → AreApart (insert_adjacency x ys)
 apart_insert x [] low up are = (low, up, tt)
-apart_insert x (y ∷ ys) low up are = go (apart_insert x ys low up are.2) (before_line x y)
+apart_insert x (y ∷ ys) low up are = go (apart_insert x ys low up are.2) (before_adjacency x y)
   where
-    go : AreApart (insert_line x ys) → (b : Bool) → AreApart (cond b (x ∷ y ∷ ys) (y ∷ insert_line x ys))
+    go : AreApart (insert_adjacency x ys) → (b : Bool) → AreApart (cond b (x ∷ y ∷ ys) (y ∷ insert_adjacency x ys))
     go more true = (low, up, are)
     go more false = (are.0, are.1, more)
 
@@ -175,19 +175,19 @@ apart_sorted n (p ∷ ps) all known =
     go (nat_lt p.1.0 p.0.0) (not_upper p.0 n.elements all here.0) (not_upper p.1 n.elements all here.1)
     (apart_sorted n ps all (All-tail (λ (l : As × As). (is_element n l.0 ≡ true) × (is_element n l.1 ≡ true)) p ps known))
   where
-    go : (b : Bool) → same_as p.0 parent_as ≡ false → same_as p.1 parent_as ≡ false → AreApart (sorted ps) → AreApart (insert_line (cond b (record { lower = p.1; upper = p.0 }) (record { lower = p.0; upper = p.1 })) (sorted ps))
+    go : (b : Bool) → same_as p.0 parent_as ≡ false → same_as p.1 parent_as ≡ false → AreApart (sorted ps) → AreApart (insert_adjacency (cond b (record { lower = p.1; upper = p.0 }) (record { lower = p.0; upper = p.1 })) (sorted ps))
     go true one other rest = apart_insert (record { lower = p.1; upper = p.0 }) (sorted ps) other one rest
     go false one other rest = apart_insert (record { lower = p.0; upper = p.1 }) (sorted ps) one other rest
 
-ways_apart : (xs : List Line) → AreApart xs → ways_along parent_as xs ≡ []
+ways_apart : (xs : List Adjacency) → AreApart xs → ways_along parent_as xs ≡ []
 ways_apart [] are = refl
 ways_apart (x ∷ xs) are = rw are.0 (rw are.1 (ways_apart xs are.2))
 
-ways_upward : (cs : List As) (xs : List Line) → AreApart xs → ways_along parent_as (upward cs ++ xs) ≡ map way_of cs
+ways_upward : (cs : List As) (xs : List Adjacency) → AreApart xs → ways_along parent_as (upward cs ++ xs) ≡ map way_of cs
 ways_upward [] xs are = ways_apart xs are
 ways_upward (c ∷ cs) xs are = ap (λ (ws : List Way). way c ∷ ws) (ways_upward cs xs are)
 
-pub ways_above : (n : NetworkParts) → IsNetwork n → map way_of (children n) ≡ inner_ways n parent_as
+pub ways_above : (n : NetworkParts) → ObeysRules n → map way_of (children n) ≡ inner_ways n parent_as
 ways_above n net =
     let s = settings_of n net in
     sym (ways_upward (children n) (sorted n.links) (apart_sorted n n.links s.elements.domains s.links.known))

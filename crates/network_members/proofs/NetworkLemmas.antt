@@ -13,7 +13,7 @@ use Rattle.plant_text.specs.declared.settings.ElementRow.{ElementRow}
 use Rattle.plant_text.specs.Faults.{first_of}
 use Rattle.plant_text.specs.Laws.{AreSettings}
 use Rattle.plant_text.specs.Names.{same_as}
-use Rattle.plant_text.specs.Networks.{IsNetwork, with_peers}
+use Rattle.plant_text.specs.Networks.{ObeysRules, with_peers}
 use Rattle.plant_text.specs.Rules.{Rules, at_row, told, rows_from, rules_of, sheet_of, parent_link_rules, is_domain, is_link, is_metric, is_v4}
 use Rattle.plant_text.specs.Settings.{elements_of, life_from, row_of}
 use Rattle.plant_text.proofs.RuleLaws.{first_at_row, none_of, none_front, none_back}
@@ -23,7 +23,7 @@ use Rattle.pce_parent.specs.Solution.{IsWeighed}
 use Rattle.network_members.specs.Fresh.{LivesFit}
 use Rattle.network_members.proofs.RisingDomains.{few_domains}
 
-pub settings_of : (n : NetworkParts) (net : IsNetwork n) → AreSettings (with_peers n (take net.given n.peers))
+pub settings_of : (n : NetworkParts) (net : ObeysRules n) → AreSettings (with_peers n (take net.given n.peers))
 settings_of n net = rules_are_worth (with_peers n (take net.given n.peers)) net.obeyed
 
 -- ---- elements
@@ -36,12 +36,12 @@ lives (r ∷ rows) all d = go (lives rows (All-tail (λ (e : ElementRow). (1 ≤
     go more true = All-head (λ (e : ElementRow). (1 ≤ e.key_life) × (e.key_life ≤ 3600)) r rows all
     go more false = more
 
-pub lives_fit : (n : NetworkParts) → IsNetwork n → LivesFit n
+pub lives_fit : (n : NetworkParts) → ObeysRules n → LivesFit n
 lives_fit n net =
     let all = (settings_of n net).elements.lives in
     record { least = λ d. (lives n.elements all d).0; most = λ d. (lives n.elements all d).1 }
 
-pub few_elements : (n : NetworkParts) → IsNetwork n → length (elements_of n.elements) ≤ 16
+pub few_elements : (n : NetworkParts) → ObeysRules n → length (elements_of n.elements) ≤ 16
 few_elements n net = let few : length n.elements ≤ 16 = (settings_of n net).elements.few in omega (arith, few, few_domains n.elements)
 
 -- ---- the links of the parent
@@ -93,7 +93,7 @@ weighed_rows n i before (l ∷ rows) none =
     All-cons IsWeighed l rows (weighed_link n before l (tail_clear (nat_le 256 i) TooMany (asked before l) first))
     (weighed_rows n (i + 1) (before ++ l ∷ []) rows (none_back (at_row name i here) others none))
 
-pub weighed_links : (n : NetworkParts) → IsNetwork n → All IsWeighed n.parent_links
+pub weighed_links : (n : NetworkParts) → ObeysRules n → All IsWeighed n.parent_links
 weighed_links n net =
     let m = with_peers n (take net.given n.peers) in
     let clear = all_clear (sheet_of m) (none_of (rules_of m) net.obeyed) in

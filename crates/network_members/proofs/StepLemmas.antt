@@ -13,7 +13,7 @@ use Rattle.member_trait.specs.plant_model.declared.output.Lost.{Lost}
 use Rattle.member_trait.specs.plant_model.Names.{set_as}
 use Rattle.member_trait.specs.plant_model.RealWire.{wire}
 use Rattle.member_trait.specs.plant_model.Element as element
-use Rattle.member_trait.specs.plant_model.Element.{Element, Losing, Place, Taken, down_of, handed_lost, next_lost_of}
+use Rattle.member_trait.specs.plant_model.Element.{Element, Losing, ElementSettings, Taken, down_of, handed_lost, next_lost_of}
 use Rattle.member_trait.specs.plant_model.Parent as parent
 use Rattle.member_trait.specs.plant_model.Settings.{place, family}
 use Rattle.member_trait.specs.plant_model.Taking.{take}
@@ -102,13 +102,13 @@ module _ {P : Type 0} {S : Type 0} (initial : As → P) (show : S → List Hop) 
     abbrev below_does : Taken P S → Replied P S
     below_does r = record { members = with_element d r.element (members_of initial t); outputs = r.outputs }
 
-    abbrev above_does : parent.Given → Replied P S
+    abbrev above_does : parent.ParentTaken → Replied P S
     above_does r = record { members = with_parent r.parent (members_of initial t); outputs = r.outputs }
 
     abbrev taken_there : Taken P S
     taken_there = take wire show (place t.network d) ((members_of initial t).current d) p (class_of t.network p) now m ((members_of initial t).elements d)
 
-    abbrev given_there : parent.Given
+    abbrev given_there : parent.ParentTaken
     given_there = parent.take wire (family t.network) p m t.parent.losing.parent
 
     does_below : same_as d parent_as ≡ false → does ≡ below_does taken_there
@@ -125,7 +125,7 @@ module _ {P : Type 0} {S : Type 0} (initial : As → P) (show : S → List Hop) 
     taken_is one r are found taken =
         let e : r ≡ taken_by show p (class_of t.network p) now m one = subst (λ (o : Option (Seen P S)). IfSome o (λ x. r ≡ taken_by show p (class_of t.network p) now m x)) found taken in
         e
-        ∙ ap (λ (x : Place). take wire show x one.current p (class_of t.network p) now m one.losing.element) (placed_at t.network d t.elements one are.places found ∙ ap (place t.network) (found_own d t.elements one found))
+        ∙ ap (λ (x : ElementSettings). take wire show x one.current p (class_of t.network p) now m one.losing.element) (placed_at t.network d t.elements one are.places found ∙ ap (place t.network) (found_own d t.elements one found))
         ∙ ap (λ (x : P). take wire show (place t.network d) x p (class_of t.network p) now m one.losing.element) (ap (current_or initial d) (sym found))
         ∙ ap (λ (x : Element P S). take wire show (place t.network d) ((members_of initial t).current d) p (class_of t.network p) now m x) (ap (element_or t.network t.clock d) (sym found))
 
@@ -152,8 +152,8 @@ module _ {P : Type 0} {S : Type 0} (initial : As → P) (show : S → List Hop) 
         record {
           same = same;
           fits = from;
-          next = ap₂ (λ (k : parent.Parent) (ms : Membership P S). with_parent k ms) (ap (λ (r : parent.Given). r.parent) is) same.seen ∙ sym (ap (λ (r : Replied P S). r.members) (does_above upper));
-          sends = ap (λ (r : parent.Given). r.outputs) is ∙ sym (ap (λ (r : Replied P S). r.outputs) (does_above upper));
+          next = ap₂ (λ (k : parent.Parent) (ms : Membership P S). with_parent k ms) (ap (λ (r : parent.ParentTaken). r.parent) is) same.seen ∙ sym (ap (λ (r : Replied P S). r.members) (does_above upper));
+          sends = ap (λ (r : parent.ParentTaken). r.outputs) is ∙ sym (ap (λ (r : Replied P S). r.outputs) (does_above upper));
         }
 
   -- ---- plans are made

@@ -6,12 +6,12 @@ use Rattle.dom_base.specs.declared.addr.Addr.TheVariants.{V4}
 use Rattle.pcep_subobjects.specs.declared.hop.Hop.{Hop}
 use Rattle.plant_text.specs.declared.settings.NetworkParts.{NetworkParts}
 use Rattle.plant_text.specs.declared.settings.ElementRow.{ElementRow}
-use Rattle.plant_text.specs.Settings.{lines, life}
+use Rattle.plant_text.specs.Settings.{adjacencies, life}
 use Rattle.member_trait.specs.plant_model.Events.{bare}
 use Rattle.member_trait.specs.plant_model.RealWire.{wire}
 use Rattle.member_trait.specs.plant_model.Settings.{place}
 use Rattle.member_trait.specs.Membership.{Membership}
-use Rattle.settings_layout.specs.Lines.{others}
+use Rattle.settings_layout.specs.Adjacencies.{others}
 use Rattle.pce_element.specs.Seen.{Seen, IsNew}
 use Rattle.network_members.specs.declared.fresh.Figures.{Figures}
 
@@ -20,7 +20,7 @@ abbrev pub AreNew : {P : Type 0} {S : Type 0} → (As → P) → NetworkParts �
 AreNew first n [] [] = Unit {0}
 AreNew first n [] (e ∷ es) = ⊥
 AreNew first n (d ∷ ds) [] = ⊥
-AreNew first n (d ∷ ds) (e ∷ es) = IsNew first (place n d) (life n d) (others d (lines n)) e × AreNew first n ds es
+AreNew first n (d ∷ ds) (e ∷ es) = IsNew first (place n d) (life n d) (others d (adjacencies n)) e × AreNew first n ds es
 
 -- how long the keys of each element live
 pub record LivesFit (n : NetworkParts) : Type 0 where

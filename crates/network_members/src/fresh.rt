@@ -1,9 +1,9 @@
 //! The elements of a network that is made anew.
 ghost use Rattle.std.specs.Prelude.{◌≡◌, ◌<◌, ◌^◌, length, IfOk};
 ghost use Rattle.plant_text.specs.Names.{same_as};
-ghost use Rattle.plant_text.specs.Settings.{elements_of, life, lines, row_of};
+ghost use Rattle.plant_text.specs.Settings.{elements_of, life, adjacencies, row_of};
 ghost use Rattle.member_trait.specs.plant_model.Settings.{place};
-ghost use Rattle.settings_layout.specs.Lines.{are_lines, others};
+ghost use Rattle.settings_layout.specs.Adjacencies.{are_adjacencies, others};
 ghost use Rattle.pce_element.specs.Seen.{IsNew};
 ghost use Rattle.network_members.specs.Fresh.{AreNew, LivesFit, figures_from};
 
@@ -55,9 +55,9 @@ fn element_of<W: World>(
     own: As,
 ) -> Result<Element<W>, NoMemory>
     requires lives { LivesFit parts.now }
-    requires lines { are_lines inner.now ≡ lines parts.now }
+    requires adjacencies { are_adjacencies inner.now ≡ adjacencies parts.now }
     requires peers { length parts.now.peers < 2 ^ 32 }
-    ensures { IfOk result (IsNew W.first (place parts.now own) (life parts.now own) (others own (lines parts.now))) }
+    ensures { IfOk result (IsNew W.first (place parts.now own) (life parts.now own) (others own (adjacencies parts.now))) }
 {
     let figures = figures_of(parts.elements.as_slice(), own);
     let deny = deny_at(alloc, own, parts.deny.as_slice())?;
@@ -82,7 +82,7 @@ fn each_element<W: World>(
     domains: &[As],
 ) -> Result<Vec<Element<W>>, NoMemory>
     requires lives { LivesFit parts.now }
-    requires lines { are_lines inner.now ≡ lines parts.now }
+    requires adjacencies { are_adjacencies inner.now ≡ adjacencies parts.now }
     requires peers { length parts.now.peers < 2 ^ 32 }
     ensures { IfOk result (λ items. AreNew W.first parts.now domains.now items.items) }
 {
@@ -102,7 +102,7 @@ impl<W: World> Elements<W> {
         inner: &[(As, As)],
     ) -> Result<Elements<W>, NoMemory>
         requires lives { LivesFit parts.now }
-        requires lines { are_lines inner.now ≡ lines parts.now }
+        requires adjacencies { are_adjacencies inner.now ≡ adjacencies parts.now }
         requires peers { length parts.now.peers < 2 ^ 32 }
         ensures { IfOk result (AreNew W.first parts.now (elements_of parts.now.elements)) }
     {

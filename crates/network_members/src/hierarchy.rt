@@ -17,7 +17,7 @@ use dom_base::{Addr, As, NoMemory, Tick};
 use pce_element::World;
 use pce_parent::{Parent, copy_links};
 use plant_text::{Network, NetworkParts};
-use settings_layout::{children_of, lines_of};
+use settings_layout::{children_of, adjacencies_of};
 use std::alloc::Global;
 use std::marker::Model;
 
@@ -105,8 +105,8 @@ impl<W: World> Hierarchy<W> {
         ensures none { IfOk result (λ h. (d : Domain) → lost_in h d ≡ []) }
     {
         let parts = network.parts();
-        let lines = lines_of(alloc, parts)?;
-        let elements = Elements::of(alloc, parts, lines.as_slice())?;
+        let adjacencies = adjacencies_of(alloc, parts)?;
+        let elements = Elements::of(alloc, parts, adjacencies.as_slice())?;
         let parent = parent_of(alloc, parts)?;
         Ok(Hierarchy {
             network,

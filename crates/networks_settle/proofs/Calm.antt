@@ -162,7 +162,7 @@ module _ (c : Codec) (n : NetworkParts) where
   pub give_kept : (at : As) (p : Peer) (m : Message) (g : Move) → (Calm g.state → Reaches (IsUp g.state at) p) → Kept g → Kept (give Pin Segment c n open_of at p m g)
   give_kept at p m g reached kept = go (same_as at parent_as) refl
     where
-      r : parent.Given
+      r : parent.ParentTaken
       r = parent.take c (family n) p m g.state.parent
 
       e : element.Taken Pin Segment

@@ -15,7 +15,7 @@ use Rattle.disclosure.specs.Shown.{open_of}
 use Rattle.request_table.specs.declared.held.Held.{Held}
 use Rattle.plant_text.specs.declared.settings.NetworkParts.{NetworkParts}
 use Rattle.plant_text.specs.Names.{same_as, same_link, parent_as}
-use Rattle.plant_text.specs.Settings.{Line, line, lines, has_line, is_linked, is_element, peer_row}
+use Rattle.plant_text.specs.Settings.{Adjacency, adjacency, adjacencies, has_adjacency, is_linked, is_element, peer_row}
 use Rattle.plant_laws.specs.plant_model.declared.event.Event.{Event}
 use Rattle.plant_laws.specs.plant_model.declared.event.Event.TheVariants as event
 use Rattle.plant_laws.specs.plant_model.declared.outcome.Outcome.TheVariants.{Done}
@@ -46,15 +46,15 @@ use Rattle.networks_settle.proofs.ElementsReach as elements
 use Rattle.networks_settle.proofs.ParentsReach as parents
 use Rattle.networks_settle.proofs.Turns.{hears, heard_stays}
 use Rattle.networks_settle.proofs.Calm.{Move, tables_on, ReadsAgain, Calm, Again, Kept, same_calm, sends_calm, element_tables, parent_tables, outside_input_kept, tick_outside_kept, fall_kept}
-use Rattle.networks_settle.proofs.CalmLinks.{open_again, there_set, back_set, other_set, break_line_kept, tick_lines_kept, carried_calm}
-use Rattle.networks_settle.proofs.Lines.{Distinct, lines_apart, lines_distinct, linked_apart, linked_flips, line_ends_apart}
+use Rattle.networks_settle.proofs.CalmLinks.{open_again, there_set, back_set, other_set, break_adjacency_kept, tick_adjacencies_kept, carried_calm}
+use Rattle.networks_settle.proofs.Adjacencies.{Distinct, adjacencies_apart, adjacencies_distinct, linked_apart, linked_flips, adjacency_ends_apart}
 
 module _ (c : Codec) (codec : IsCodec c) (n : NetworkParts) (net : IsNetwork n) where
   abbrev from : Plant → Move
   from s = record { state = s; deeds = [] }
 
   apart_of : (a b : As) → is_linked n a b ≡ true → same_as a b ≡ false
-  apart_of a b linked = linked_apart a b (lines n) (lines_apart n net) linked
+  apart_of a b linked = linked_apart a b (adjacencies n) (adjacencies_apart n net) linked
 
   -- ---- events, from a calm state
 
@@ -124,7 +124,7 @@ module _ (c : Codec) (codec : IsCodec c) (n : NetworkParts) (net : IsNetwork n) 
         go : is_linked n a b ≡ true → (q : List Bytes) → s.queues a b ≡ q → Did (events.carry_first Pin Segment c n open_of a b s q)
         go linked [] is = stays
         go linked (x ∷ others) is =
-            carried_calm c codec n a b (apart_of a b linked) linked (linked_flips a b (lines n) linked) s calm x others is (line a b)
+            carried_calm c codec n a b (apart_of a b linked) linked (linked_flips a b (adjacencies n) linked) s calm x others is (adjacency a b)
             (hears c (s.sessions b a) (s.sessions a b).phase x others (subst (λ (q : List Bytes). Holds c (s.sessions a b).phase (s.sessions b a).phase q) is (calm.queues a b linked)))
 
         by : (t : Bool) → is_linked n a b ≡ t → Did (cond t (events.carry_first Pin Segment c n open_of a b s (s.queues a b)) (events.refused Pin Segment c n open_of NoSuchPeer s))
@@ -134,8 +134,8 @@ module _ (c : Codec) (codec : IsCodec c) (n : NetworkParts) (net : IsNetwork n) 
     break_did : (a b : As) → Did (events.break Pin Segment c n open_of a b s)
     break_did a b = by (is_linked n a b) refl
       where
-        by : (t : Bool) → is_linked n a b ≡ t → Did (cond t (events.answered Pin Segment c n open_of Done (deeds.break_line Pin Segment c n open_of (line a b) (from s))) (events.refused Pin Segment c n open_of NoSuchPeer s))
-        by true linked = break_line_kept c codec n (line a b) (line_ends_apart a b (apart_of a b linked)) (from s) stays
+        by : (t : Bool) → is_linked n a b ≡ t → Did (cond t (events.answered Pin Segment c n open_of Done (deeds.break_adjacency Pin Segment c n open_of (adjacency a b) (from s))) (events.refused Pin Segment c n open_of NoSuchPeer s))
+        by true linked = break_adjacency_kept c codec n (adjacency a b) (adjacency_ends_apart a b (apart_of a b linked)) (from s) stays
         by false linked = stays
 
     tick_did : (t : ℕ) → Did (events.tick Pin Segment c n open_of t s)
@@ -143,8 +143,8 @@ module _ (c : Codec) (codec : IsCodec c) (n : NetworkParts) (net : IsNetwork n) 
         let now = events.later s.clock t in
         let u : Plant = record s { clock = now } in
         let h = deeds.tick_outside Pin Segment c n open_of 0 n.peers (record { 0 = now }) (from u) in
-        let k = deeds.tick_lines Pin Segment c n open_of (lines n) (record { 0 = now }) h in
-        let kept : Kept c n k = tick_lines_kept c codec n (lines n) (lines_apart n net) (record { 0 = now }) h (tick_outside_kept c n 0 n.peers (record { 0 = now }) (from u) (rest u refl refl refl refl)) in
+        let k = deeds.tick_adjacencies Pin Segment c n open_of (adjacencies n) (record { 0 = now }) h in
+        let kept : Kept c n k = tick_adjacencies_kept c codec n (adjacencies n) (adjacencies_apart n net) (record { 0 = now }) h (tick_outside_kept c n 0 n.peers (record { 0 = now }) (from u) (rest u refl refl refl refl)) in
         λ again.
         let calm' = kept again.1 in
         record { queues = calm'.queues; tables = record { elements = λ d real. (let here = calm'.tables.elements d real in record { asked = here.asked; asks = here.asks }); parent = calm'.tables.parent } }
@@ -220,10 +220,10 @@ module _ (c : Codec) (codec : IsCodec c) (n : NetworkParts) (net : IsNetwork n) 
   abbrev IsBegun : Move → As → As → Type 0
   IsBegun g a b = Holds c (g.state.sessions a b).phase (g.state.sessions b a).phase (g.state.queues a b)
 
-  -- a line that has begun leaves other pairs as they are
-  module _ (x : Line) (g : Move) where
+  -- an adjacency that has begun leaves other pairs as they are
+  module _ (x : Adjacency) (g : Move) where
     abbrev began : Move
-    began = deeds.begin_line Pin Segment c n open_of 0 x g
+    began = deeds.begin_adjacency Pin Segment c n open_of 0 x g
 
     abbrev text : Bytes
     text = c.text (own_message (own.Open (our_offer 0)))
@@ -265,8 +265,8 @@ module _ (c : Codec) (codec : IsCodec c) (n : NetworkParts) (net : IsNetwork n) 
                 (subst (λ (p : Phase). Holds c (began.state.sessions x.upper x.lower).phase p (text ∷ [])) (sym here) (subst (λ (p : Phase). Holds c p phase.OpenWait (text ∷ [])) (sym back) one)),
           )
 
-  -- of two ends neither order is that of the line
-  missed : (x : Line) (a b : As) → same_as x.lower x.upper ≡ false → same_link x.lower x.upper a b ≡ false → (both x.lower x.upper a b ≡ false) × (both x.upper x.lower a b ≡ false)
+  -- of two ends neither order is that of the adjacency
+  missed : (x : Adjacency) (a b : As) → same_as x.lower x.upper ≡ false → same_link x.lower x.upper a b ≡ false → (both x.lower x.upper a b ≡ false) × (both x.upper x.lower a b ≡ false)
   missed x a b apart e = go (same_as x.lower a) (same_as x.upper b) (same_as x.lower b) (same_as x.upper a) refl refl refl refl e
     where
       clash : same_as x.lower a ≡ true → same_as x.upper a ≡ true → ⊥
@@ -287,12 +287,12 @@ module _ (c : Codec) (codec : IsCodec c) (n : NetworkParts) (net : IsNetwork n) 
   flipped : (l u a b : As) → (both l u a b ≡ false) × (both u l a b ≡ false) → (both l u b a ≡ false) × (both u l b a ≡ false)
   flipped l u a b miss = (both_flips l u b a ∙ miss.1, both_flips u l b a ∙ miss.0)
 
-  blank_other : (x : Line) (g : Move) (a b : As) → (both x.lower x.upper a b ≡ false) × (both x.upper x.lower a b ≡ false) → IsBlank g a b → IsBlank (began x g) a b
+  blank_other : (x : Adjacency) (g : Move) (a b : As) → (both x.lower x.upper a b ≡ false) × (both x.upper x.lower a b ≡ false) → IsBlank g a b → IsBlank (began x g) a b
   blank_other x g a b miss blank =
       let back = flipped x.lower x.upper a b miss in
       record { there = begun_queue x g a b miss.0 miss.1 ∙ blank.there; back = begun_queue x g b a back.0 back.1 ∙ blank.back }
 
-  begun_other : (x : Line) (g : Move) (a b : As) → same_as x.lower x.upper ≡ false → (both x.lower x.upper a b ≡ false) × (both x.upper x.lower a b ≡ false) → IsBegun g a b → IsBegun (began x g) a b
+  begun_other : (x : Adjacency) (g : Move) (a b : As) → same_as x.lower x.upper ≡ false → (both x.lower x.upper a b ≡ false) × (both x.upper x.lower a b ≡ false) → IsBegun g a b → IsBegun (began x g) a b
   begun_other x g a b apart miss begun =
       let back = flipped x.lower x.upper a b miss in
       let t = (began x g).state in
@@ -300,29 +300,29 @@ module _ (c : Codec) (codec : IsCodec c) (n : NetworkParts) (net : IsNetwork n) 
       (subst (λ (z : Session). Holds c (t.sessions a b).phase z.phase (g.state.queues a b)) (sym (begun_session x g apart b a back.0 back.1))
       (subst (λ (z : Session). Holds c z.phase (g.state.sessions b a).phase (g.state.queues a b)) (sym (begun_session x g apart a b miss.0 miss.1)) begun))
 
-  lines_keep : (xs : List Line) (g : Move) (a b : As) → AllApart xs → has_line a b xs ≡ false → IsBegun g a b → IsBegun (events.begin_lines Pin Segment c n open_of xs g) a b
-  lines_keep [] g a b all none begun = begun
-  lines_keep (x ∷ xs) g a b all none begun = go (lines_keep xs (began x g) a b all.1) (same_link x.lower x.upper a b) refl none
+  adjacencies_keep : (xs : List Adjacency) (g : Move) (a b : As) → AllApart xs → has_adjacency a b xs ≡ false → IsBegun g a b → IsBegun (events.begin_adjacencies Pin Segment c n open_of xs g) a b
+  adjacencies_keep [] g a b all none begun = begun
+  adjacencies_keep (x ∷ xs) g a b all none begun = go (adjacencies_keep xs (began x g) a b all.1) (same_link x.lower x.upper a b) refl none
     where
-      go : (has_line a b xs ≡ false → IsBegun (began x g) a b → IsBegun (events.begin_lines Pin Segment c n open_of xs (began x g)) a b) → (t : Bool) → same_link x.lower x.upper a b ≡ t → cond t true (has_line a b xs) ≡ false →
-          IsBegun (events.begin_lines Pin Segment c n open_of xs (began x g)) a b
+      go : (has_adjacency a b xs ≡ false → IsBegun (began x g) a b → IsBegun (events.begin_adjacencies Pin Segment c n open_of xs (began x g)) a b) → (t : Bool) → same_link x.lower x.upper a b ≡ t → cond t true (has_adjacency a b xs) ≡ false →
+          IsBegun (events.begin_adjacencies Pin Segment c n open_of xs (began x g)) a b
       go more true is none' = absurd (let out : true ≡ false = none' in cc)
       go more false is none' = more none' (begun_other x g a b all.0 (missed x a b all.0 is) begun)
 
-  lines_begun : (xs : List Line) (g : Move) → AllApart xs → Distinct xs → (a b : As) → has_line a b xs ≡ true → IsBlank g a b → IsBegun (events.begin_lines Pin Segment c n open_of xs g) a b
-  lines_begun [] g all distinct a b has blank = absurd (let out : false ≡ true = has in cc)
-  lines_begun (x ∷ xs) g all distinct a b has blank = go (lines_begun xs (began x g) all.1 distinct.1 a b) (lines_keep xs (began x g) a b all.1) (same_link x.lower x.upper a b) refl has
+  adjacencies_begun : (xs : List Adjacency) (g : Move) → AllApart xs → Distinct xs → (a b : As) → has_adjacency a b xs ≡ true → IsBlank g a b → IsBegun (events.begin_adjacencies Pin Segment c n open_of xs g) a b
+  adjacencies_begun [] g all distinct a b has blank = absurd (let out : false ≡ true = has in cc)
+  adjacencies_begun (x ∷ xs) g all distinct a b has blank = go (adjacencies_begun xs (began x g) all.1 distinct.1 a b) (adjacencies_keep xs (began x g) a b all.1) (same_link x.lower x.upper a b) refl has
     where
       Later : Move → Type 0
-      Later h = IsBegun (events.begin_lines Pin Segment c n open_of xs h) a b
+      Later h = IsBegun (events.begin_adjacencies Pin Segment c n open_of xs h) a b
 
-      -- the line itself, one way or the other
-      here : (p q r t : Bool) → same_as x.lower a ≡ p → same_as x.upper b ≡ q → same_as x.lower b ≡ r → same_as x.upper a ≡ t → cond p q (cond r t false) ≡ true → (has_line a b xs ≡ false) × IsBegun (began x g) a b
+      -- the adjacency itself, one way or the other
+      here : (p q r t : Bool) → same_as x.lower a ≡ p → same_as x.upper b ≡ q → same_as x.lower b ≡ r → same_as x.upper a ≡ t → cond p q (cond r t false) ≡ true → (has_adjacency a b xs ≡ false) × IsBegun (began x g) a b
       here true true r t e f k h is =
           let low = same_as_is x.lower a e in
           let up = same_as_is x.upper b f in
-          subst (λ (z : As). (has_line z b xs ≡ false) × IsBegun (began x g) z b) low
-          (subst (λ (z : As). (has_line x.lower z xs ≡ false) × IsBegun (began x g) x.lower z) up
+          subst (λ (z : As). (has_adjacency z b xs ≡ false) × IsBegun (began x g) z b) low
+          (subst (λ (z : As). (has_adjacency x.lower z xs ≡ false) × IsBegun (began x g) x.lower z) up
           (distinct.0, (here_begun x g all.0 (subst (λ (z : As). IsBlank g x.lower z) (sym up) (subst (λ (z : As). IsBlank g z b) (sym low) blank))).0))
       here true false r t e f k h is = absurd (let out : false ≡ true = is in cc)
       here false q true true e f k h is =
@@ -330,19 +330,19 @@ module _ (c : Codec) (codec : IsCodec c) (n : NetworkParts) (net : IsNetwork n) 
           let up = same_as_is x.upper a h in
           let turned : IsBlank g x.lower x.upper =
           subst (λ (z : As). IsBlank g x.lower z) (sym up) (subst (λ (z : As). IsBlank g z a) (sym low) (record { there = blank.back; back = blank.there })) in
-          subst (λ (z : As). (has_line z b xs ≡ false) × IsBegun (began x g) z b) up
-          (subst (λ (z : As). (has_line x.upper z xs ≡ false) × IsBegun (began x g) x.upper z) low
+          subst (λ (z : As). (has_adjacency z b xs ≡ false) × IsBegun (began x g) z b) up
+          (subst (λ (z : As). (has_adjacency x.upper z xs ≡ false) × IsBegun (began x g) x.upper z) low
           (not_has, (here_begun x g all.0 turned).1))
         where
-          not_has : has_line x.upper x.lower xs ≡ false
-          not_has = elim (cases_Bool (has_line x.upper x.lower xs)) [
+          not_has : has_adjacency x.upper x.lower xs ≡ false
+          not_has = elim (cases_Bool (has_adjacency x.upper x.lower xs)) [
             | inr miss ↦ miss
             | inl hit ↦ absurd (let out : true ≡ false = sym (linked_flips x.upper x.lower xs hit) ∙ distinct.0 in cc)
           ]
       here false q true false e f k h is = absurd (let out : false ≡ true = is in cc)
       here false q false t e f k h is = absurd (let out : false ≡ true = is in cc)
 
-      go : (has_line a b xs ≡ true → IsBlank (began x g) a b → Later (began x g)) → (has_line a b xs ≡ false → IsBegun (began x g) a b → Later (began x g)) → (t : Bool) → same_link x.lower x.upper a b ≡ t → cond t true (has_line a b xs) ≡ true → Later (began x g)
+      go : (has_adjacency a b xs ≡ true → IsBlank (began x g) a b → Later (began x g)) → (has_adjacency a b xs ≡ false → IsBegun (began x g) a b → Later (began x g)) → (t : Bool) → same_link x.lower x.upper a b ≡ t → cond t true (has_adjacency a b xs) ≡ true → Later (began x g)
       go more keep true is has' =
           let both' = here (same_as x.lower a) (same_as x.upper b) (same_as x.lower b) (same_as x.upper a) refl refl refl refl is in
           keep both'.0 both'.1
@@ -352,7 +352,7 @@ module _ (c : Codec) (codec : IsCodec c) (n : NetworkParts) (net : IsNetwork n) 
   abbrev Nobody : As → As → Type 0
   Nobody a b = ⊥
 
-  begun_tables : (xs : List Line) (g : Move) → TablesReach Nobody g.state → TablesReach Nobody (events.begin_lines Pin Segment c n open_of xs g).state
+  begun_tables : (xs : List Adjacency) (g : Move) → TablesReach Nobody g.state → TablesReach Nobody (events.begin_adjacencies Pin Segment c n open_of xs g).state
   begun_tables [] g tables = tables
   begun_tables (x ∷ xs) g tables = begun_tables xs (began x g) (record { elements = tables.elements; parent = tables.parent })
 
@@ -363,7 +363,7 @@ module _ (c : Codec) (codec : IsCodec c) (n : NetworkParts) (net : IsNetwork n) 
       go true = down
       go false = rest'
 
-  all_down : (d : As) (xs : List Line) (b : As) → parent.is_up (way_to (Inner b) (ways_along d xs)) ≡ false
+  all_down : (d : As) (xs : List Adjacency) (b : As) → parent.is_up (way_to (Inner b) (ways_along d xs)) ≡ false
   all_down d [] b = refl
   all_down d (x ∷ xs) b = go (all_down d xs b) (same_as x.lower d) (same_as x.upper d)
     where
@@ -375,19 +375,19 @@ module _ (c : Codec) (codec : IsCodec c) (n : NetworkParts) (net : IsNetwork n) 
   nobody_keeps : {T : Type 0} (d : As) → KeepsTo {T = T} (Nobody d) [] (ways n d)
   nobody_keeps d = record {
     asked = tt;
-    asks = λ b up. (let out : true ≡ false = sym up ∙ ap (λ (o : Option Way). parent.is_up o) (way_inside b (inner_ways n d) (routes n d)) ∙ all_down d (lines n) b in cc);
+    asks = λ b up. (let out : true ≡ false = sym up ∙ ap (λ (o : Option Way). parent.is_up o) (way_inside b (inner_ways n d) (routes n d)) ∙ all_down d (adjacencies n) b in cc);
   }
 
   nobody_above : {T : Type 0} → KeepsTo {T = T} (Nobody parent_as) [] (inner_ways n parent_as)
-  nobody_above = record { asked = tt; asks = λ b up. (let out : true ≡ false = sym up ∙ all_down parent_as (lines n) b in cc) }
+  nobody_above = record { asked = tt; asks = λ b up. (let out : true ≡ false = sym up ∙ all_down parent_as (adjacencies n) b in cc) }
 
   opened_calm : Calm c n (events.opening Pin Segment c n open_of first_pin).state
   opened_calm =
       let b = events.bare Pin Segment c n open_of first_pin in
       let t = (events.opening Pin Segment c n open_of first_pin).state in
       record {
-        queues = λ a d linked. lines_begun (lines n) (from b) (lines_apart n net) (lines_distinct n net) a d linked (record { there = refl; back = refl });
-        tables = tables_on Nobody (IsUp t) t (λ a d up. absurd up) (begun_tables (lines n) (from b) (record { elements = λ d real. nobody_keeps d; parent = nobody_above }));
+        queues = λ a d linked. adjacencies_begun (adjacencies n) (from b) (adjacencies_apart n net) (adjacencies_distinct n net) a d linked (record { there = refl; back = refl });
+        tables = tables_on Nobody (IsUp t) t (λ a d up. absurd up) (begun_tables (adjacencies n) (from b) (record { elements = λ d real. nobody_keeps d; parent = nobody_above }));
       }
 
   -- ---- runs

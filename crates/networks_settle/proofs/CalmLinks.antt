@@ -18,12 +18,12 @@ use Rattle.pcep_session.specs.Table.{new_state, turn_of}
 use Rattle.request_table.specs.Pending.{same_peer}
 use Rattle.plant_text.specs.declared.settings.NetworkParts.{NetworkParts}
 use Rattle.plant_text.specs.Names.{same_as}
-use Rattle.plant_text.specs.Settings.{Line, is_linked}
+use Rattle.plant_text.specs.Settings.{Adjacency, is_linked}
 use Rattle.plant_laws.specs.plant_model.Names.{is_empty, set_pair}
 use Rattle.plant_laws.specs.plant_model.Wire.{Bytes, Codec}
 use Rattle.plant_laws.specs.plant_model.Laws.{IsCodec}
 use Rattle.plant_laws.specs.plant_model.State.{Pops}
-use Rattle.plant_laws.specs.plant_model.Deeds.{own_message, our_offer, is_due, is_tick, any_fall, read_as, put_to, with_inner, fall, say, clear, inner_acts, inner_input, begin_line, break_line, tick_lines}
+use Rattle.plant_laws.specs.plant_model.Deeds.{own_message, our_offer, is_due, is_tick, any_fall, read_as, put_to, with_inner, fall, say, clear, inner_acts, inner_input, begin_adjacency, break_adjacency, tick_adjacencies}
 use Rattle.plant_laws.specs.plant_model.Plant.{Pin, Segment}
 use Rattle.plant_laws.proofs.WrittenForm.InForm.{own_written}
 use Rattle.networks_settle.specs.Settling.{IsOpen, IsKeepalive, IsOrdinary, Holds, TablesReach, IsUp}
@@ -145,12 +145,12 @@ module _ (c : Codec) (codec : IsCodec c) (n : NetworkParts) where
   abbrev Apart : As → As → Core → As → As → Type 0
   Apart l u s d b = IsUp s d b × (both l u d b ≡ false) × (both u l d b ≡ false)
 
-  begun_calm : (sid : ℕ) → sid < 256 → (x : Line) → same_as x.lower x.upper ≡ false → (g : Move) → QueuesCalm c n g.state → TablesReach (Apart x.lower x.upper g.state) g.state →
-      Calm c n (begin_line Pin Segment c n open_of sid x (clear Pin Segment c n open_of x g)).state
+  begun_calm : (sid : ℕ) → sid < 256 → (x : Adjacency) → same_as x.lower x.upper ≡ false → (g : Move) → QueuesCalm c n g.state → TablesReach (Apart x.lower x.upper g.state) g.state →
+      Calm c n (begin_adjacency Pin Segment c n open_of sid x (clear Pin Segment c n open_of x g)).state
   begun_calm sid fits x apart g calm tables =
       let l = x.lower in
       let u = x.upper in
-      let t = (begin_line Pin Segment c n open_of sid x (clear Pin Segment c n open_of x g)).state in
+      let t = (begin_adjacency Pin Segment c n open_of sid x (clear Pin Segment c n open_of x g)).state in
       let y = c.text (own_message (own.Open (our_offer sid))) in
       let next = (turn_of (new_state (our_offer sid) (record { 0 = g.state.clock })) input.Begin).next in
       let here : (t.sessions l u).phase ≡ phase.OpenWait = ap (λ (z : Session). z.phase) (there_set l u apart next next g.state.sessions) in
@@ -177,8 +177,8 @@ module _ (c : Codec) (codec : IsCodec c) (n : NetworkParts) where
   abbrev Twice : As → As → Core → As → As → Type 0
   Twice l u s d b = Once l u s d b × (both u l d b ≡ false)
 
-  pub break_line_kept : (x : Line) → same_as x.lower x.upper ≡ false → (g : Move) → Kept c n g → Kept c n (break_line Pin Segment c n open_of x g)
-  break_line_kept x apart g kept again =
+  pub break_adjacency_kept : (x : Adjacency) → same_as x.lower x.upper ≡ false → (g : Move) → Kept c n g → Kept c n (break_adjacency Pin Segment c n open_of x g)
+  break_adjacency_kept x apart g kept again =
       let l = x.lower in
       let u = x.upper in
       let f = fall Pin Segment c n open_of l (Inner u) g in
@@ -203,13 +203,13 @@ module _ (c : Codec) (codec : IsCodec c) (n : NetworkParts) where
 
   -- ---- ticks
 
-  tick_kept : (x : Line) → same_as x.lower x.upper ≡ false → (at b : As) (now : Tick) (g : Move) → Kept c n g → Kept c n (inner_input Pin Segment c n open_of x at b (input.Tick now) g)
+  tick_kept : (x : Adjacency) → same_as x.lower x.upper ≡ false → (at b : As) (now : Tick) (g : Move) → Kept c n g → Kept c n (inner_input Pin Segment c n open_of x at b (input.Tick now) g)
   tick_kept x apart at b now g kept = go (any_fall (turn_of (g.state.sessions at b) (input.Tick now)).actions) refl
     where
-      go : (falls : Bool) → any_fall (turn_of (g.state.sessions at b) (input.Tick now)).actions ≡ falls → Kept c n (cond falls (break_line Pin Segment c n open_of x g)
+      go : (falls : Bool) → any_fall (turn_of (g.state.sessions at b) (input.Tick now)).actions ≡ falls → Kept c n (cond falls (break_adjacency Pin Segment c n open_of x g)
           (inner_acts Pin Segment c n open_of at b true (turn_of (g.state.sessions at b) (input.Tick now)).actions
           (record { state = with_inner Pin Segment c n open_of at b (turn_of (g.state.sessions at b) (input.Tick now)).next g.state; deeds = g.deeds })))
-      go true falls = break_line_kept x apart g kept
+      go true falls = break_adjacency_kept x apart g kept
       go false stays =
           let s = g.state.sessions at b in
           let r = turn_of s (input.Tick now) in
@@ -224,11 +224,11 @@ module _ (c : Codec) (codec : IsCodec c) (n : NetworkParts) where
                 (say_keepalive at b h (λ calm. phase_same at b r.next g.state t.same at b ∙ says.0) kept'))
           ]
 
-  pub tick_lines_kept : (xs : List Line) → AllApart xs → (now : Tick) (g : Move) → Kept c n g → Kept c n (tick_lines Pin Segment c n open_of xs now g)
-  tick_lines_kept [] all now g kept = kept
-  tick_lines_kept (x ∷ xs) all now g kept =
+  pub tick_adjacencies_kept : (xs : List Adjacency) → AllApart xs → (now : Tick) (g : Move) → Kept c n g → Kept c n (tick_adjacencies Pin Segment c n open_of xs now g)
+  tick_adjacencies_kept [] all now g kept = kept
+  tick_adjacencies_kept (x ∷ xs) all now g kept =
       let h = inner_input Pin Segment c n open_of x x.lower x.upper (input.Tick now) g in
-      tick_lines_kept xs all.1 now (inner_input Pin Segment c n open_of x x.upper x.lower (input.Tick now) h)
+      tick_adjacencies_kept xs all.1 now (inner_input Pin Segment c n open_of x x.upper x.lower (input.Tick now) h)
       (tick_kept x all.0 x.upper x.lower now h (tick_kept x all.0 x.lower x.upper now g kept))
 
   -- ---- a message is carried
@@ -323,7 +323,7 @@ module _ (c : Codec) (codec : IsCodec c) (n : NetworkParts) where
     abbrev after_pop : Move
     after_pop = record { state = popped; deeds = Pops a b ∷ [] }
 
-    pub carried_calm : (z : Line) → Hears c (s.sessions a b).phase (s.sessions b a).phase x rest (turn_of (s.sessions b a) (read_as (c.read x))) → Kept c n (inner_input Pin Segment c n open_of z b a (read_as (c.read x)) after_pop)
+    pub carried_calm : (z : Adjacency) → Hears c (s.sessions a b).phase (s.sessions b a).phase x rest (turn_of (s.sessions b a) (read_as (c.read x))) → Kept c n (inner_input Pin Segment c n open_of z b a (read_as (c.read x)) after_pop)
     carried_calm z heard = go heard
       where
         r_next : Session
@@ -333,11 +333,11 @@ module _ (c : Codec) (codec : IsCodec c) (n : NetworkParts) where
         start = record { state = moved (turn_of (s.sessions b a) (read_as (c.read x))).next; deeds = Pops a b ∷ [] }
 
         -- by what the session does
-        by : (as' : List Action) → (turn_of (s.sessions b a) (read_as (c.read x))).actions ≡ as' → Kept c n (cond (any_fall as') (break_line Pin Segment c n open_of z after_pop) (inner_acts Pin Segment c n open_of b a false as' start)) →
+        by : (as' : List Action) → (turn_of (s.sessions b a) (read_as (c.read x))).actions ≡ as' → Kept c n (cond (any_fall as') (break_adjacency Pin Segment c n open_of z after_pop) (inner_acts Pin Segment c n open_of b a false as' start)) →
             Kept c n (inner_input Pin Segment c n open_of z b a (read_as (c.read x)) after_pop)
         by as' actions kept =
-            subst (λ (l : List Action). Kept c n (cond (any_fall l) (break_line Pin Segment c n open_of z after_pop) (inner_acts Pin Segment c n open_of b a (is_tick (read_as (c.read x))) l start))) (sym actions)
-            (subst (λ (t : Bool). Kept c n (cond (any_fall as') (break_line Pin Segment c n open_of z after_pop) (inner_acts Pin Segment c n open_of b a t as' start))) (sym (not_tick (c.read x))) kept)
+            subst (λ (l : List Action). Kept c n (cond (any_fall l) (break_adjacency Pin Segment c n open_of z after_pop) (inner_acts Pin Segment c n open_of b a (is_tick (read_as (c.read x))) l start))) (sym actions)
+            (subst (λ (t : Bool). Kept c n (cond (any_fall as') (break_adjacency Pin Segment c n open_of z after_pop) (inner_acts Pin Segment c n open_of b a t as' start))) (sym (not_tick (c.read x))) kept)
 
         up_back : (s.sessions b a).phase ≡ phase.Up → Holds c phase.Up (s.sessions a b).phase (s.queues b a)
         up_back was = subst (λ (p : Phase). Holds c p (s.sessions a b).phase (s.queues b a)) was (calm.queues b a linked_back)

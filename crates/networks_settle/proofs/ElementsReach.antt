@@ -28,7 +28,7 @@ use Rattle.plant_laws.specs.plant_model.Wire.{Codec, Checked, Admitted, Wrong}
 use Rattle.plant_laws.specs.plant_model.Writing.{reply_message, error_message, unavailable, busy, no_path}
 use Rattle.plant_laws.specs.plant_model.Branches.{branches_in}
 use Rattle.disclosure.specs.Policy.{is_denied}
-use Rattle.plant_laws.specs.plant_model.Element.{Stage, Ready, Row, Way, Element, Place, Taken, silent, only, each, ended, waiting, waits_for, waits_on, way_to, fresh_id, at_stage, stays, is_lost, lost_of, lost_output, lost, upped, downed, is_client}
+use Rattle.plant_laws.specs.plant_model.Element.{Stage, Ready, Row, Way, Element, ElementSettings, Taken, silent, only, each, ended, waiting, waits_for, waits_on, way_to, fresh_id, at_stage, stays, is_lost, lost_of, lost_output, lost, upped, downed, is_client}
 use Rattle.plant_laws.specs.plant_model.Routes.{toward}
 use Rattle.plant_laws.specs.plant_model.Taking.{sequence_or, goes_up, send_on, sent_on, take_along, take_path, take_wish, take_new, take_checked, take_asked, staged, answered, made_ready, take_answer, take_reply, told_busy, cancelled, take_busy, take_cancel, notice_steps, take_notice, error_answer, told_error, take_failure, take_errors, take_report, take, denied, expansion}
 use Rattle.plant_laws.specs.plant_model.Solving.{commit, client_reply, closed_reply, closed_paths, issued_all, free}
@@ -194,21 +194,21 @@ module _ (P : Type 0) (S : Type 0) (Up : As → Type 0) where
         go None is = denied_tells flags x k keeps
         go (Some way) is = by way is way.up refl
 
-    along_tells : (e : Place) (pin : P) (class : Class) (flags x : ℕ) (w : Wanted) (k : Element P S) (path : List As) → Keeps k → Tells (take_along e pin p class flags x w k path)
+    along_tells : (e : ElementSettings) (pin : P) (class : Class) (flags x : ℕ) (w : Wanted) (k : Element P S) (path : List As) → Keeps k → Tells (take_along e pin p class flags x w k path)
     along_tells e pin class flags x w k [] keeps = denied_tells flags x k keeps
     along_tells e pin class flags x w k (a ∷ []) keeps = record { keeps = record { asked = all_append Up k.pending.rows _ keeps.asked reached; asks = keeps.asks }; sends = tt }
     along_tells e pin class flags x w k (a ∷ b ∷ rest) keeps = on_tells pin class flags x w (a ∷ b ∷ rest) (b ∷ rest) (is_denied e.deny class b) k (toward b e.routes) keeps
 
-    path_tells : (e : Place) (pin : P) (class : Class) (flags x : ℕ) (w : Wanted) (k : Element P S) → Keeps k → Tells (take_path e pin p class flags x w k)
+    path_tells : (e : ElementSettings) (pin : P) (class : Class) (flags x : ℕ) (w : Wanted) (k : Element P S) → Keeps k → Tells (take_path e pin p class flags x w k)
     path_tells e pin class flags x w k keeps =
         pick (goes_up e.parent class w.sequence) _ _ (on_tells pin class flags x w [] [] false k (Inner parent_as) keeps)
         (along_tells e pin class flags x w k (sequence_or e.own w.sequence) keeps)
 
-    wish_tells : (show : S → List Hop) (e : Place) (pin : P) (class : Class) (now flags x : ℕ) (k : Element P S) (w : Wish) → Keeps k → Tells (take_wish show e pin p class now flags x k w)
+    wish_tells : (show : S → List Hop) (e : ElementSettings) (pin : P) (class : Class) (now flags x : ℕ) (k : Element P S) (w : Wish) → Keeps k → Tells (take_wish show e pin p class now flags x k w)
     wish_tells show e pin class now flags x k (Path w) keeps = pick (is_full k.pending) _ _ (one p (busy flags x) k reached refl keeps) (path_tells e pin class flags x w k keeps)
     wish_tells show e pin class now flags x k (Expand key pce) keeps = one p (reply_message flags x (expansion show e class now key pce k)) k reached refl keeps
 
-    asked_tells : (c : Codec) (show : S → List Hop) (e : Place) (pin : P) (class : Class) (now : ℕ) (a : Asked) (k : Element P S) → Keeps k → Tells (take_asked c show e pin p class now a k)
+    asked_tells : (c : Codec) (show : S → List Hop) (e : ElementSettings) (pin : P) (class : Class) (now : ℕ) (a : Asked) (k : Element P S) → Keeps k → Tells (take_asked c show e pin p class now a k)
     asked_tells c show e pin class now a k keeps = go (c.check a e.own)
       where
         fresh : (r : Request) (o : Option ℕ) → Tells (take_new show e pin p class now r k o)
@@ -221,7 +221,7 @@ module _ (P : Type 0) (S : Type 0) (Up : As → Type 0) where
 
     -- ---- what an element does
 
-    pub take_tells : (c : Codec) (show : S → List Hop) (e : Place) (pin : P) (class : Class) (now : ℕ) (m : Message) (k : Element P S) → Keeps k → Tells (take c show e pin p class now m k)
+    pub take_tells : (c : Codec) (show : S → List Hop) (e : ElementSettings) (pin : P) (class : Class) (now : ℕ) (m : Message) (k : Element P S) → Keeps k → Tells (take c show e pin p class now m k)
     take_tells c show e pin class now (messages.PcReq asks) k keeps = each_tells (take_asked c show e pin p class now) (asked_tells c show e pin class now) asks k keeps
     take_tells c show e pin class now (messages.PcRep replies) k keeps = each_tells (take_reply c p) (λ r k' keeps'. reply_tells c p r k' reached keeps') replies k keeps
     take_tells c show e pin class now (messages.PcNtf notices') k keeps =
@@ -232,7 +232,7 @@ module _ (P : Type 0) (S : Type 0) (Up : As → Type 0) where
     take_tells c show e pin class now (messages.Close why) k keeps = quiet k keeps
     take_tells c show e pin class now (messages.Other kind) k keeps = quiet k keeps
 
-  pub commit_tells : (c : Codec) (e : Place) (h : Row P) (down : List Branch) (now : ℕ) (means : Best → S) (source_known target_known : Bool) (best : List Best) (k : Element P S) → Reaches Up h.1.key.peer → Keeps k →
+  pub commit_tells : (c : Codec) (e : ElementSettings) (h : Row P) (down : List Branch) (now : ℕ) (means : Best → S) (source_known target_known : Bool) (best : List Best) (k : Element P S) → Reaches Up h.1.key.peer → Keeps k →
       Tells (commit c e h down now means source_known target_known best k)
   commit_tells c e h down now means source_known target_known best k reached keeps =
       pick (is_client h.1.item.class) (answered h (client_reply c h down source_known target_known best) k) (closed_reply c e h down now means k best)

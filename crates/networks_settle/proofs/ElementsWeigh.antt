@@ -34,7 +34,7 @@ use Rattle.plant_laws.specs.plant_model.Laws.{IsCodec, IsSequence, Admits}
 use Rattle.plant_laws.specs.plant_model.Writing.{asked_of, request_message, reply_message, error_message, unavailable, busy, no_path}
 use Rattle.plant_laws.specs.plant_model.Branches.{branches_in}
 use Rattle.disclosure.specs.Policy.{is_denied}
-use Rattle.plant_laws.specs.plant_model.Element.{Stage, Waits, Ready, Row, Way, Element, Place, Taken, silent, only, each, waiting, waits_for, is_waiting, way_to, fresh_id, at_stage, is_client}
+use Rattle.plant_laws.specs.plant_model.Element.{Stage, Waits, Ready, Row, Way, Element, ElementSettings, Taken, silent, only, each, waiting, waits_for, is_waiting, way_to, fresh_id, at_stage, is_client}
 use Rattle.plant_laws.specs.plant_model.declared.route.Route.{Route}
 use Rattle.plant_laws.specs.plant_model.Routes.{toward}
 use Rattle.plant_laws.specs.plant_model.Taking.{item_of, sequence_or, goes_up, send_on, sent_on, take_along, take_path, take_wish, take_new, take_checked, take_asked, staged, answered, made_ready, take_answer, take_reply, told_busy, cancelled, take_busy, take_cancel, notice_steps, take_notice, error_answer, told_error, take_failure, take_errors, take_report, take, denied, expansion}
@@ -248,7 +248,7 @@ module _ (P : Type 0) (S : Type 0) (c : Codec) (n : NetworkParts) where
     not_up up [] = ap (λ (t : Bool). cond t up false) neighbour
     not_up up (a ∷ rest) = refl
 
-    path_less : (e : Place) (pin : P) (a : Asked) (flags x : ℕ) (w : Wanted) → Admits c a e.own flags x w → (k : Element P S) → WaysOk k.ways → Less (10 * length (sequence_or e.own w.sequence)) k (take_path e pin p class flags x w k)
+    path_less : (e : ElementSettings) (pin : P) (a : Asked) (flags x : ℕ) (w : Wanted) → Admits c a e.own flags x w → (k : Element P S) → WaysOk k.ways → Less (10 * length (sequence_or e.own w.sequence)) k (take_path e pin p class flags x w k)
     path_less e pin a flags x w admits k ok =
         subst (λ (t : Bool). Less (10 * length (sequence_or e.own w.sequence)) k (cond t (send_on pin p class flags x w [] [] false k (way_to the_parent k.ways)) (take_along e pin p class flags x w k (sequence_or e.own w.sequence))))
         (sym (not_up e.parent w.sequence))
@@ -266,7 +266,7 @@ module _ (P : Type 0) (S : Type 0) (c : Codec) (n : NetworkParts) where
     long_enough own [] = omega arith
     long_enough own (a ∷ rest) = omega arith
 
-    asked_less : (show : S → List Hop) (e : Place) (pin : P) (now : ℕ) (a : Asked) (k : Element P S) → WaysOk k.ways → Less (checked_weight c n e.own (c.check a e.own)) k (take_asked c show e pin p class now a k)
+    asked_less : (show : S → List Hop) (e : ElementSettings) (pin : P) (now : ℕ) (a : Asked) (k : Element P S) → WaysOk k.ways → Less (checked_weight c n e.own (c.check a e.own)) k (take_asked c show e pin p class now a k)
     asked_less show e pin now a k ok = go (c.check a e.own) refl
       where
         wish : (r : Request) → c.check a e.own ≡ Admitted r → (v : Wish) → r.wish ≡ v → Less (checked_weight c n e.own (Admitted (record r { wish = v }))) k (take_wish show e pin p class now r.flags r.id k v)
@@ -286,7 +286,7 @@ module _ (P : Type 0) (S : Type 0) (c : Codec) (n : NetworkParts) where
 
     -- ---- what an element does
 
-    module _ (show : S → List Hop) (e : Place) (own : As) (is_own : e.own ≡ own) (real : same_as own parent_as ≡ false) (pin : P) (now : ℕ) where
+    module _ (show : S → List Hop) (e : ElementSettings) (own : As) (is_own : e.own ≡ own) (real : same_as own parent_as ≡ false) (pin : P) (now : ℕ) where
       asked_is : (a : Asked) → checked_weight c n e.own (c.check a e.own) ≡ asked_weight c n own a
       asked_is a =
           ap (λ (z : As). checked_weight c n z (c.check a z)) is_own
@@ -309,7 +309,7 @@ module _ (P : Type 0) (S : Type 0) (c : Codec) (n : NetworkParts) where
 
   -- ---- an answered job
 
-  pub commit_lighter : (e : Place) (h : Row P) (down : List Branch) (now : ℕ) (means : Best → S) (source_known target_known : Bool) (best : List Best) (k : Element P S) → suc (length (remove_entry (nat_eq h.0) k.pending.rows)) ≤ length k.pending.rows →
+  pub commit_lighter : (e : ElementSettings) (h : Row P) (down : List Branch) (now : ℕ) (means : Best → S) (source_known target_known : Bool) (best : List Best) (k : Element P S) → suc (length (remove_entry (nat_eq h.0) k.pending.rows)) ≤ length k.pending.rows →
       (let t = commit c e h down now means source_known target_known best k in IsLighter c n (length k.pending.rows) (length t.element.pending.rows) t.outputs)
   commit_lighter e h down now means source_known target_known best k closes =
       choose (is_client h.1.item.class) (answered h (client_reply c h down source_known target_known best) k) (closed_reply c e h down now means k best) (client best) (closed best)

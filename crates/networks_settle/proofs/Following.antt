@@ -18,7 +18,7 @@ use Rattle.pcep_session.specs.Table.{new_state, turn_of}
 use Rattle.plant_text.specs.declared.settings.NetworkParts.{NetworkParts}
 use Rattle.plant_text.specs.declared.settings.PeerRow.{PeerRow}
 use Rattle.plant_text.specs.Names.{same_as, parent_as}
-use Rattle.plant_text.specs.Settings.{Line, line, lines, has_line, is_linked, is_element, peer_row, class_of}
+use Rattle.plant_text.specs.Settings.{Adjacency, adjacency, adjacencies, has_adjacency, is_linked, is_element, peer_row, class_of}
 use Rattle.plant_laws.specs.plant_model.declared.event.Event.{Event}
 use Rattle.plant_laws.specs.plant_model.declared.event.Event.TheVariants as event
 use Rattle.plant_laws.specs.plant_model.declared.output.Output.{Output}
@@ -35,14 +35,14 @@ use Rattle.plant_laws.specs.plant_model.Routes.{routes}
 use Rattle.plant_laws.specs.plant_model.Settings.{place, family, inner_ways, way, ways, ways_along}
 use Rattle.plant_laws.proofs.Runs.Unrouted.{way_inside}
 use Rattle.plant_laws.specs.plant_model.State.{Connection, Downs, Ups, Takes, Pops}
-use Rattle.plant_laws.specs.plant_model.Deeds.{Going, our_offer, own_message, element_of, is_due, is_tick, is_out_empty, any_fall, with_session, with_inbox, input_of, with_access, with_element, with_parent, with_inner, put, puts, give, rise, fall, say, clear, outside_act, outside_acts, outside_step, outside_input, inner_act, inner_acts, inner_input, begin_end, break_line, tick_outside, tick_lines}
+use Rattle.plant_laws.specs.plant_model.Deeds.{Going, our_offer, own_message, element_of, is_due, is_tick, is_out_empty, any_fall, with_session, with_inbox, input_of, with_access, with_element, with_parent, with_inner, put, puts, give, rise, fall, say, clear, outside_act, outside_acts, outside_step, outside_input, inner_act, inner_acts, inner_input, begin_end, break_adjacency, tick_outside, tick_adjacencies}
 use Rattle.plant_laws.specs.plant_model.Events as events
 use Rattle.plant_laws.specs.plant_model.Events.{is_down}
 use Rattle.plant_laws.specs.plant_model.Plant.{Pin, Segment, first_pin, Plant, Happened, Entry, Run, Happens, is_full}
 use Rattle.plant_laws.proofs.Runs.Queues.{same_as_is}
 use Rattle.networks_settle.specs.Following.{ways_of, WaysFollowSessions}
 use Rattle.networks_settle.proofs.Pairs.{AllApart, set_all}
-use Rattle.networks_settle.proofs.Lines.{lines_apart, linked_apart, line_ends_apart}
+use Rattle.networks_settle.proofs.Adjacencies.{adjacencies_apart, linked_apart, adjacency_ends_apart}
 use Rattle.networks_settle.proofs.Reaching.{other_up, way_down}
 use Rattle.networks_settle.proofs.Turnings.{is_open, has_up, rested, rose, turns}
 use Rattle.networks_settle.proofs.WaysKept.{SameView, same_view, up_some, way_risen, take_kept, commit_kept, take_above, commit_above}
@@ -62,28 +62,28 @@ some_of true w o t same = refl
 some_of false w o t same = same
 
 -- there is a way where there is a link
-some_ways : (d b : As) (xs : List Line) → is_some (way_to (Inner b) (ways_along d xs)) ≡ has_line d b xs
+some_ways : (d b : As) (xs : List Adjacency) → is_some (way_to (Inner b) (ways_along d xs)) ≡ has_adjacency d b xs
 some_ways d b [] = refl
 some_ways d b (x ∷ xs) = go (some_ways d b xs) (same_as x.lower d) (same_as x.upper d)
   where
-    line_between : Bool → Bool → Bool
-    line_between l u = cond (cond l (same_as x.upper b) (cond (same_as x.lower b) u false)) true (has_line d b xs)
+    adjacency_between : Bool → Bool → Bool
+    adjacency_between l u = cond (cond l (same_as x.upper b) (cond (same_as x.lower b) u false)) true (has_adjacency d b xs)
 
-    low : (t : Bool) → is_some (way_to (Inner b) (ways_along d xs)) ≡ has_line d b xs → is_some (cond t (Some (way x.lower)) (way_to (Inner b) (ways_along d xs))) ≡ cond (cond t true false) true (has_line d b xs)
+    low : (t : Bool) → is_some (way_to (Inner b) (ways_along d xs)) ≡ has_adjacency d b xs → is_some (cond t (Some (way x.lower)) (way_to (Inner b) (ways_along d xs))) ≡ cond (cond t true false) true (has_adjacency d b xs)
     low true more = refl
     low false more = more
 
-    none : (t : Bool) → is_some (way_to (Inner b) (ways_along d xs)) ≡ has_line d b xs → is_some (way_to (Inner b) (ways_along d xs)) ≡ cond (cond t false false) true (has_line d b xs)
+    none : (t : Bool) → is_some (way_to (Inner b) (ways_along d xs)) ≡ has_adjacency d b xs → is_some (way_to (Inner b) (ways_along d xs)) ≡ cond (cond t false false) true (has_adjacency d b xs)
     none true more = more
     none false more = more
 
-    go : is_some (way_to (Inner b) (ways_along d xs)) ≡ has_line d b xs → (l u : Bool) →
-        is_some (way_to (Inner b) (cond l (way x.upper ∷ ways_along d xs) (cond u (way x.lower ∷ ways_along d xs) (ways_along d xs)))) ≡ line_between l u
-    go more true u = some_of (same_as x.upper b) (way x.upper) (way_to (Inner b) (ways_along d xs)) (has_line d b xs) more
+    go : is_some (way_to (Inner b) (ways_along d xs)) ≡ has_adjacency d b xs → (l u : Bool) →
+        is_some (way_to (Inner b) (cond l (way x.upper ∷ ways_along d xs) (cond u (way x.lower ∷ ways_along d xs) (ways_along d xs)))) ≡ adjacency_between l u
+    go more true u = some_of (same_as x.upper b) (way x.upper) (way_to (Inner b) (ways_along d xs)) (has_adjacency d b xs) more
     go more false true = low (same_as x.lower b) more
     go more false false = none (same_as x.lower b) more
 
-down_ways : (d b : As) (xs : List Line) → is_up (way_to (Inner b) (ways_along d xs)) ≡ false
+down_ways : (d b : As) (xs : List Adjacency) → is_up (way_to (Inner b) (ways_along d xs)) ≡ false
 down_ways d b [] = refl
 down_ways d b (x ∷ xs) = go (down_ways d b xs) (same_as x.lower d) (same_as x.upper d)
   where
@@ -327,7 +327,7 @@ module _ (c : Codec) (n : NetworkParts) where
 
   -- ---- a link that breaks
 
-  module _ (x : Line) (apart : same_as x.lower x.upper ≡ false) (g : Move) (inv : Inv g.state) where
+  module _ (x : Adjacency) (apart : same_as x.lower x.upper ≡ false) (g : Move) (inv : Inv g.state) where
     abbrev l : As
     l = x.lower
 
@@ -399,16 +399,16 @@ module _ (c : Codec) (n : NetworkParts) where
         subst (λ (ws : List Way). Follows ws (is_open (clean.sessions d b).phase) d b) (sym (fallen_is d))
         (subst (λ (f : As → As → Session). Follows (fallen d) (is_open (set_pair u l next (set_pair l u next f) d b).phase) d b) (sym sessions_are) (some_left d b, up_left d b))
 
-    break_inv : Inv (break_line Pin Segment c n open_of x g).state
+    break_inv : Inv (break_adjacency Pin Segment c n open_of x g).state
     break_inv d b = clean_inv d b
 
-  inner_inv : (x : Line) → same_as x.lower x.upper ≡ false → (at b : As) (y : Input) (g : Move) → Inv g.state → Inv (inner_input Pin Segment c n open_of x at b y g).state
+  inner_inv : (x : Adjacency) → same_as x.lower x.upper ≡ false → (at b : As) (y : Input) (g : Move) → Inv g.state → Inv (inner_input Pin Segment c n open_of x at b y g).state
   inner_inv x apart at b y g inv = go (any_fall (turn_of (g.state.sessions at b) y).actions) refl
     where
       h : Move
       h = record { state = with_inner Pin Segment c n open_of at b (turn_of (g.state.sessions at b) y).next g.state; deeds = g.deeds }
 
-      go : (falls : Bool) → any_fall (turn_of (g.state.sessions at b) y).actions ≡ falls → Inv (cond falls (break_line Pin Segment c n open_of x g) (inner_acts Pin Segment c n open_of at b (is_tick y) (turn_of (g.state.sessions at b) y).actions h)).state
+      go : (falls : Bool) → any_fall (turn_of (g.state.sessions at b) y).actions ≡ falls → Inv (cond falls (break_adjacency Pin Segment c n open_of x g) (inner_acts Pin Segment c n open_of at b (is_tick y) (turn_of (g.state.sessions at b) y).actions h)).state
       go true falls = break_inv x apart g inv
       go false stays = elim (turns (g.state.sessions at b) y stays) [
         | rested none same ↦ inner_acts_inv at b (is_tick y) (turn_of (g.state.sessions at b) y).actions h none (as_open at b (turn_of (g.state.sessions at b) y).next g.state same inv)
@@ -422,11 +422,11 @@ module _ (c : Codec) (n : NetworkParts) where
   tick_outside_inv i [] now g inv = inv
   tick_outside_inv i (row ∷ rs) now g inv = tick_outside_inv (i + 1) rs now (outside_input Pin Segment c n open_of i (input.Tick now) g) (outside_inv i (input.Tick now) g inv)
 
-  tick_lines_inv : (xs : List Line) → AllApart xs → (now : Tick) (g : Move) → Inv g.state → Inv (tick_lines Pin Segment c n open_of xs now g).state
-  tick_lines_inv [] all now g inv = inv
-  tick_lines_inv (x ∷ xs) all now g inv =
+  tick_adjacencies_inv : (xs : List Adjacency) → AllApart xs → (now : Tick) (g : Move) → Inv g.state → Inv (tick_adjacencies Pin Segment c n open_of xs now g).state
+  tick_adjacencies_inv [] all now g inv = inv
+  tick_adjacencies_inv (x ∷ xs) all now g inv =
       let h = inner_input Pin Segment c n open_of x x.lower x.upper (input.Tick now) g in
-      tick_lines_inv xs all.1 now (inner_input Pin Segment c n open_of x x.upper x.lower (input.Tick now) h)
+      tick_adjacencies_inv xs all.1 now (inner_input Pin Segment c n open_of x x.upper x.lower (input.Tick now) h)
       (inner_inv x all.0 x.upper x.lower (input.Tick now) h (inner_inv x all.0 x.lower x.upper (input.Tick now) g inv))
 
   pick_happened : (b : Bool) (g h : Happened) → (b ≡ true → Inv g.state) → (b ≡ false → Inv h.state) → Inv (cond b g h).state
@@ -434,8 +434,8 @@ module _ (c : Codec) (n : NetworkParts) where
   pick_happened false g h r r' = r' refl
 
   module _ (net : IsNetwork n) where
-    ends_apart : (a b : As) → is_linked n a b ≡ true → same_as (line a b).lower (line a b).upper ≡ false
-    ends_apart a b linked = line_ends_apart a b (linked_apart a b (lines n) (lines_apart n net) linked)
+    ends_apart : (a b : As) → is_linked n a b ≡ true → same_as (adjacency a b).lower (adjacency a b).upper ≡ false
+    ends_apart a b linked = adjacency_ends_apart a b (linked_apart a b (adjacencies n) (adjacencies_apart n net) linked)
 
     happens_inv : (s : Plant) → Inv s → (e : Event) (h : Happened) → Happens c n s e h → Inv h.state
     happens_inv s inv (event.Load d g) h is = subst (λ (k : Happened). Inv k.state) (sym is) (pick_happened (is_element n d) _ _ (λ known. pick_happened (is_full (s.current d).number (s.elements d).pending.rows) _ _ (λ full. inv) (λ room. inv)) (λ unknown. inv))
@@ -471,14 +471,14 @@ module _ (c : Codec) (n : NetworkParts) where
       where
         go : is_linked n a b ≡ true → (q : List Bytes) → Inv (events.carry_first Pin Segment c n open_of a b s q).state
         go linked [] = inv
-        go linked (x ∷ rest) = inner_inv (line a b) (ends_apart a b linked) b a (input_of c (Some x)) (record { state = record s { queues = set_pair a b rest s.queues }; deeds = Pops a b ∷ [] }) inv
+        go linked (x ∷ rest) = inner_inv (adjacency a b) (ends_apart a b linked) b a (input_of c (Some x)) (record { state = record s { queues = set_pair a b rest s.queues }; deeds = Pops a b ∷ [] }) inv
     happens_inv s inv (event.Break a b) h is =
-        subst (λ (k : Happened). Inv k.state) (sym is) (pick_happened (is_linked n a b) _ _ (λ linked. break_inv (line a b) (ends_apart a b linked) (record { state = s; deeds = [] }) inv) (λ none. inv))
+        subst (λ (k : Happened). Inv k.state) (sym is) (pick_happened (is_linked n a b) _ _ (λ linked. break_inv (adjacency a b) (ends_apart a b linked) (record { state = s; deeds = [] }) inv) (λ none. inv))
     happens_inv s inv (event.Tick t) h is =
         let now = events.later s.clock t.0 in
         let g : Move = record { state = record s { clock = now }; deeds = [] } in
         subst (λ (k : Happened). Inv k.state) (sym is)
-        (λ d b. tick_lines_inv (lines n) (lines_apart n net) (record { 0 = now }) (tick_outside Pin Segment c n open_of 0 n.peers (record { 0 = now }) g) (tick_outside_inv 0 n.peers (record { 0 = now }) g inv) d b)
+        (λ d b. tick_adjacencies_inv (adjacencies n) (adjacencies_apart n net) (record { 0 = now }) (tick_outside Pin Segment c n open_of 0 n.peers (record { 0 = now }) g) (tick_outside_inv 0 n.peers (record { 0 = now }) g inv) d b)
     happens_inv s inv (event.Drain i holder) h is = subst (λ (k : Happened). Inv k.state) (sym is) (go (s.accesses i).connection)
       where
         go : (o : Option Connection) → Inv (events.drain_open Pin Segment c n open_of i holder s o).state
@@ -512,7 +512,7 @@ module _ (c : Codec) (n : NetworkParts) where
           set_all (λ (z w : As) (x : Session). is_open x.phase ≡ false) at b next' g.state.sessions refl (λ z w miss. held.1 z w),
         )
 
-    begun_inv : (xs : List Line) (g : Move) → Inv g.state × AllShut g.state → Inv (events.begin_lines Pin Segment c n open_of xs g).state
+    begun_inv : (xs : List Adjacency) (g : Move) → Inv g.state × AllShut g.state → Inv (events.begin_adjacencies Pin Segment c n open_of xs g).state
     begun_inv [] g held = held.0
     begun_inv (x ∷ xs) g held =
         let h = begin_end Pin Segment c n open_of 0 x.lower x.upper g in
@@ -522,7 +522,7 @@ module _ (c : Codec) (n : NetworkParts) where
     bare_inv d b = go (same_as d parent_as) refl
       where
         inside : Follows (inner_ways n d) false d b
-        inside = (some_ways d b (lines n), down_ways d b (lines n) ∙ sym (never_open (is_linked n d b)))
+        inside = (some_ways d b (adjacencies n), down_ways d b (adjacencies n) ∙ sym (never_open (is_linked n d b)))
 
         same : way_to (Inner b) (ways n d) ≡ way_to (Inner b) (inner_ways n d)
         same = way_inside b (inner_ways n d) (routes n d)
@@ -532,7 +532,7 @@ module _ (c : Codec) (n : NetworkParts) where
         go false is = (ap (λ (o : Option Way). is_some o) same ∙ inside.0, ap (λ (o : Option Way). is_up o) same ∙ inside.1)
 
     run_inv : (es : List Entry) (s : Plant) → Run c n es s → Inv s
-    run_inv [] s is = subst Inv (sym is) (begun_inv (lines n) (record { state = events.bare Pin Segment c n open_of first_pin; deeds = [] }) (bare_inv, λ d b. refl))
+    run_inv [] s is = subst Inv (sym is) (begun_inv (adjacencies n) (record { state = events.bare Pin Segment c n open_of first_pin; deeds = [] }) (bare_inv, λ d b. refl))
     run_inv (e ∷ older) s run =
         let held = run_inv older run.0 run.1 in
         elim run.3 [

@@ -5,7 +5,7 @@ mod ParentsReach
 pub mod Turns
 mod Calm
 mod CalmLinks
-pub mod Lines
+pub mod Adjacencies
 mod CalmEvents
 pub mod Sums
 mod Weighing

@@ -3,12 +3,12 @@ use Rattle.std.proofs.Common.{◌≡◌, ◌∙◌, Bool, true, false, cond, Lis
 use Rattle.std.proofs.lemmas.Bool.{cases_Bool, eq-eqb}
 use Rattle.dom_base.specs.declared.names.As.{As}
 use Rattle.plant_text.specs.Names.{same_as}
-use Rattle.plant_text.specs.Settings.{Line}
+use Rattle.plant_text.specs.Settings.{Adjacency}
 use Rattle.plant_laws.specs.plant_model.Names.{set_pair}
 use Rattle.plant_laws.proofs.Runs.Queues.{same_as_is}
 
 -- both ends of each link differ
-abbrev pub AllApart : List Line → Type 0
+abbrev pub AllApart : List Adjacency → Type 0
 AllApart [] = Unit {0}
 AllApart (x ∷ xs) = (same_as x.lower x.upper ≡ false) × AllApart xs
 

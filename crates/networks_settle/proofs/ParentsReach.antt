@@ -29,7 +29,7 @@ use Rattle.plant_laws.specs.plant_model.Branches.{branches_in, path_of}
 use Rattle.plant_laws.specs.plant_model.Element.{Way, way_to, with_last, lost_output}
 use Rattle.plant_laws.specs.plant_model.Taking.{error_answer}
 use Rattle.plant_laws.specs.plant_model.BorderGraph.{Found}
-use Rattle.plant_laws.specs.plant_model.Parent.{Parent, Given, Family, AskingRow, Wait, Errand, silent, only, each, among, waiting, all_waits, next_id, ask_all, errands, errands_to, with_end, tails, is_up, all_up, take_path, take_wish, take_new, take_checked, take_asked, ended, answered, gathered, gathers, take_answer, take_found, take_reply, told_busy, cancelled, take_busy, take_cancel, notice_steps, take_notice, told_error, take_failure, take_errors, take_report, take, upped, any_on, stays, is_lost, lost_of, lost, downed, commit}
+use Rattle.plant_laws.specs.plant_model.Parent.{Parent, ParentTaken, Family, AskingRow, Wait, Errand, silent, only, each, among, waiting, all_waits, next_id, ask_all, errands, errands_to, with_end, tails, is_up, all_up, take_path, take_wish, take_new, take_checked, take_asked, ended, answered, gathered, gathers, take_answer, take_found, take_reply, told_busy, cancelled, take_busy, take_cancel, notice_steps, take_notice, told_error, take_failure, take_errors, take_report, take, upped, any_on, stays, is_lost, lost_of, lost, downed, commit}
 use Rattle.networks_settle.specs.Settling.{Reaches, AllReach, KeepsTo, is_ordinary}
 use Rattle.networks_settle.proofs.Reaching.{AreSound, sound_append, all_append, all_removed, all_written, last_up, upped_keeps, downed_keeps}
 
@@ -38,11 +38,11 @@ module _ (Up : As → Type 0) where
   Keeps k = KeepsTo Up k.pending.rows k.ways
 
   -- the parent that keeps to those that can be reached, and what it sends
-  pub record Tells (t : Given) : Type 0 where
+  pub record Tells (t : ParentTaken) : Type 0 where
     pub keeps : Keeps t.parent
     pub sends : AreSound Up t.outputs
 
-  pick : (b : Bool) (t u : Given) → Tells t → Tells u → Tells (cond b t u)
+  pick : (b : Bool) (t u : ParentTaken) → Tells t → Tells u → Tells (cond b t u)
   pick true t u h i = h
   pick false t u h i = i
 
@@ -53,7 +53,7 @@ module _ (Up : As → Type 0) where
   one to m k reached ordinary keeps = record { keeps = keeps; sends = ((reached, ordinary), tt) }
 
   -- each of a list in turn
-  each_tells : {X : Type 0} (f : X → Parent → Given) → ((x : X) (k : Parent) → Keeps k → Tells (f x k)) → (xs : List X) (k : Parent) → Keeps k → Tells (each f xs k)
+  each_tells : {X : Type 0} (f : X → Parent → ParentTaken) → ((x : X) (k : Parent) → Keeps k → Tells (f x k)) → (xs : List X) (k : Parent) → Keeps k → Tells (each f xs k)
   each_tells f each_one [] k keeps = quiet k keeps
   each_tells f each_one (x ∷ xs) k keeps =
       let first = each_one x k keeps in
@@ -112,7 +112,7 @@ module _ (Up : As → Type 0) where
 
   -- several steps in turn
   abbrev Step : Type 0
-  Step = Peer → ℕ × ℕ → Parent → Given
+  Step = Peer → ℕ × ℕ → Parent → ParentTaken
 
   abbrev AllTell : Peer → ℕ × ℕ → List Step → Type 0
   AllTell p rp [] = Unit {0}

@@ -38,11 +38,11 @@ use Rattle.plant_laws.specs.plant_model.Branches.{branches_in, path_of}
 use Rattle.plant_laws.specs.plant_model.Element.{Way, way_to, with_last}
 use Rattle.plant_laws.specs.plant_model.Taking.{error_answer}
 use Rattle.plant_laws.specs.plant_model.BorderGraph.{Found}
-use Rattle.plant_laws.specs.plant_model.Parent.{Parent, Given, AskingRow, Wait, Errand, silent, only, each, among, waiting, all_waits, next_id, ask_all, errands, errands_to, with_end, tails, last_to, all_up, take_path, take_wish, take_new, take_checked, take_asked, answered, gathered, gathers, take_answer, take_found, take_reply, told_busy, cancelled, take_busy, take_cancel, notice_steps, take_notice, told_error, take_failure, take_errors, take_report, take, commit}
+use Rattle.plant_laws.specs.plant_model.Parent.{Parent, ParentTaken, AskingRow, Wait, Errand, silent, only, each, among, waiting, all_waits, next_id, ask_all, errands, errands_to, with_end, tails, last_to, all_up, take_path, take_wish, take_new, take_checked, take_asked, answered, gathered, gathers, take_answer, take_found, take_reply, told_busy, cancelled, take_busy, take_cancel, notice_steps, take_notice, told_error, take_failure, take_errors, take_report, take, commit}
 use Rattle.plant_laws.proofs.Least.FromElement.{admits_path}
 use Rattle.plant_laws.proofs.WrittenForm.ElementSays.{WaysOk, ways_last, WayOk, way_fits, next_fits, next_some}
 use Rattle.networks_settle.specs.Settling.{total, cost, errands_most, above_weight, asked_weight, checked_weight}
-use Rattle.networks_settle.proofs.Lines.{Rises, children_rise}
+use Rattle.networks_settle.proofs.Adjacencies.{Rises, children_rise}
 use Rattle.networks_settle.proofs.Sums.{total_all, opened_length, removed_less, written_length, first_closes, later_closes}
 use Rattle.networks_settle.proofs.Weighing.{asked_count, peer_weight, sent_weight, IsAtMost, reply_light, busy_light, error_light, light_more, Weighs, rests_weigh, then_weigh, more_weigh, only_weigh, ended_weigh, same_weigh, fewer_weigh, IsLighter, ended_lighter}
 
@@ -69,15 +69,15 @@ errands_length links t (child ∷ rest) =
 
 module _ (c : Codec) (n : NetworkParts) where
   -- the ids of the ways fit, and all weighs at most so much more
-  pub record Less (w : ℕ) (k : Parent) (t : Given) : Type 0 where
+  pub record Less (w : ℕ) (k : Parent) (t : ParentTaken) : Type 0 where
     pub ways : WaysOk t.parent.ways
     pub weighs : Weighs c n (length k.pending.rows) (length t.parent.pending.rows) w t.outputs
 
-  pick : (w : ℕ) (k : Parent) (b : Bool) (t u : Given) → Less w k t → Less w k u → Less w k (cond b t u)
+  pick : (w : ℕ) (k : Parent) (b : Bool) (t u : ParentTaken) → Less w k t → Less w k u → Less w k (cond b t u)
   pick w k true t u h i = h
   pick w k false t u h i = i
 
-  more : (v w : ℕ) (k : Parent) (t : Given) → v ≤ w → Less v k t → Less w k t
+  more : (v w : ℕ) (k : Parent) (t : ParentTaken) → v ≤ w → Less v k t → Less w k t
   more v w k t le h = record { ways = h.ways; weighs = more_weigh c n (length k.pending.rows) (length t.parent.pending.rows) v w t.outputs le h.weighs }
 
   quiet : (w : ℕ) (k : Parent) → WaysOk k.ways → Less w k (silent k)
@@ -87,7 +87,7 @@ module _ (c : Codec) (n : NetworkParts) where
   one w v to m k light le ok = record { ways = ok; weighs = only_weigh c n (length k.pending.rows) w v to m light le }
 
   -- each of a list in turn
-  each_less : {X : Type 0} (g : X → ℕ) (f : X → Parent → Given) → ((x : X) (k : Parent) → WaysOk k.ways → Less (g x) k (f x k)) → (xs : List X) (k : Parent) → WaysOk k.ways → Less (total g xs) k (each f xs k)
+  each_less : {X : Type 0} (g : X → ℕ) (f : X → Parent → ParentTaken) → ((x : X) (k : Parent) → WaysOk k.ways → Less (g x) k (f x k)) → (xs : List X) (k : Parent) → WaysOk k.ways → Less (total g xs) k (each f xs k)
   each_less g f each_one [] k ok = quiet 0 k ok
   each_less g f each_one (x ∷ xs) k ok =
       let first = each_one x k ok in
@@ -99,7 +99,7 @@ module _ (c : Codec) (n : NetworkParts) where
       }
 
   -- each for nothing
-  each_free : {X : Type 0} (f : X → Parent → Given) → ((x : X) (k : Parent) → WaysOk k.ways → Less 0 k (f x k)) → (xs : List X) (k : Parent) → WaysOk k.ways → Less 0 k (each f xs k)
+  each_free : {X : Type 0} (f : X → Parent → ParentTaken) → ((x : X) (k : Parent) → WaysOk k.ways → Less 0 k (f x k)) → (xs : List X) (k : Parent) → WaysOk k.ways → Less 0 k (each f xs k)
   each_free {X} f each_one xs k ok = more (total (λ (x : X). 0) xs) 0 k (each f xs k) (let none = total_all {X = X} 0 xs in omega (arith, none)) (each_less (λ (x : X). 0) f each_one xs k ok)
 
   answered_less : (h : AskingRow) (m : Message) (k : Parent) → IsAtMost c n 2 m → suc (length (remove_entry (nat_eq h.0) k.pending.rows)) ≤ length k.pending.rows → WaysOk k.ways → Less 0 k (answered h m k)
@@ -160,7 +160,7 @@ module _ (c : Codec) (n : NetworkParts) where
 
   -- several steps in turn
   abbrev Step : Type 0
-  Step = Peer → ℕ × ℕ → Parent → Given
+  Step = Peer → ℕ × ℕ → Parent → ParentTaken
 
   abbrev AllFree : Peer → ℕ × ℕ → List Step → Type 0
   AllFree p rp [] = Unit {0}

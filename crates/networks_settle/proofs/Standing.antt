@@ -5,12 +5,12 @@ use Rattle.dom_base.specs.declared.names.As.{As}
 use Rattle.plant_text.specs.declared.settings.NetworkParts.{NetworkParts}
 use Rattle.plant_text.specs.declared.settings.ElementRow.{ElementRow}
 use Rattle.plant_text.specs.Names.{same_as, parent_as, insert_as}
-use Rattle.plant_text.specs.Settings.{Line, lines, before_line, insert_line, sorted, upward, has_line, is_linked, children, children_of, elements_of, is_element}
+use Rattle.plant_text.specs.Settings.{Adjacency, adjacencies, before_adjacency, insert_adjacency, sorted, upward, has_adjacency, is_linked, children, children_of, elements_of, is_element}
 use Rattle.plant_laws.specs.plant_model.Laws.{IsNetwork}
 use Rattle.plant_laws.proofs.Runs.Queues.{same_as_is}
 use Rattle.networks_settle.specs.Settling.{ends}
 use Rattle.networks_settle.proofs.Pairs.{same_self}
-use Rattle.networks_settle.proofs.Lines.{Rises, elements_rise}
+use Rattle.networks_settle.proofs.Adjacencies.{Rises, elements_rise}
 use Rattle.networks_settle.proofs.Sums.{stands, stands_insert, stands_rows}
 
 -- ---- children are elements
@@ -53,7 +53,7 @@ module _ (n : NetworkParts) where
   abbrev Ends : List As
   Ends = ends n
 
-  abbrev BothStand : List Line → Type 0
+  abbrev BothStand : List Adjacency → Type 0
   BothStand [] = Unit {0}
   BothStand (x ∷ xs) = (stands x.lower Ends ≡ true) × (stands x.upper Ends ≡ true) × BothStand xs
 
@@ -67,15 +67,15 @@ module _ (n : NetworkParts) where
   element_stands : (d : As) → is_element n d ≡ true → stands d Ends ≡ true
   element_stands d is = below d (stands_rows d n.elements ∙ is)
 
-  both_append : (xs ys : List Line) → BothStand xs → BothStand ys → BothStand (xs ++ ys)
+  both_append : (xs ys : List Adjacency) → BothStand xs → BothStand ys → BothStand (xs ++ ys)
   both_append [] ys one other = other
   both_append (x ∷ xs) ys one other = (one.0, one.1, both_append xs ys one.2 other)
 
-  both_insert : (x : Line) (ys : List Line) → stands x.lower Ends ≡ true → stands x.upper Ends ≡ true → BothStand ys → BothStand (insert_line x ys)
+  both_insert : (x : Adjacency) (ys : List Adjacency) → stands x.lower Ends ≡ true → stands x.upper Ends ≡ true → BothStand ys → BothStand (insert_adjacency x ys)
   both_insert x [] low up all = (low, up, tt)
-  both_insert x (y ∷ ys) low up all = go (before_line x y) (both_insert x ys low up all.2)
+  both_insert x (y ∷ ys) low up all = go (before_adjacency x y) (both_insert x ys low up all.2)
     where
-      go : (t : Bool) → BothStand (insert_line x ys) → BothStand (cond t (x ∷ y ∷ ys) (y ∷ insert_line x ys))
+      go : (t : Bool) → BothStand (insert_adjacency x ys) → BothStand (cond t (x ∷ y ∷ ys) (y ∷ insert_adjacency x ys))
       go true more = (low, up, all)
       go false more = (all.0, all.1, more)
 
@@ -94,18 +94,18 @@ module _ (n : NetworkParts) where
         go (sorted_stand ps (All-tail IsGood p ps all)) (nat_lt p.1.0 p.0.0) (element_stands p.0 good.0) (element_stands p.1 good.1)
       where
         go : BothStand (sorted ps) → (t : Bool) → stands p.0 Ends ≡ true → stands p.1 Ends ≡ true →
-            BothStand (insert_line (cond {A = Line} t (record { lower = p.1; upper = p.0 }) (record { lower = p.0; upper = p.1 })) (sorted ps))
+            BothStand (insert_adjacency (cond {A = Adjacency} t (record { lower = p.1; upper = p.0 }) (record { lower = p.0; upper = p.1 })) (sorted ps))
         go more true one other = both_insert (record { lower = p.1; upper = p.0 }) (sorted ps) other one more
         go more false one other = both_insert (record { lower = p.0; upper = p.1 }) (sorted ps) one other more
 
-    lines_stand : BothStand (lines n)
-    lines_stand = both_append (upward (children n)) (sorted n.links) (upward_stand (children n) (children_stand n.elements)) (sorted_stand n.links net.links)
+    adjacencies_stand : BothStand (adjacencies n)
+    adjacencies_stand = both_append (upward (children n)) (sorted n.links) (upward_stand (children n) (children_stand n.elements)) (sorted_stand n.links net.links)
 
-    linked_in : (a b : As) (xs : List Line) → BothStand xs → has_line a b xs ≡ true → (stands a Ends ≡ true) × (stands b Ends ≡ true)
+    linked_in : (a b : As) (xs : List Adjacency) → BothStand xs → has_adjacency a b xs ≡ true → (stands a Ends ≡ true) × (stands b Ends ≡ true)
     linked_in a b [] all e = absurd (let clash : false ≡ true = e in cc)
     linked_in a b (x ∷ xs) all e = go (linked_in a b xs all.2) (same_as x.lower a) (same_as x.upper b) (same_as x.lower b) (same_as x.upper a) refl refl refl refl e
       where
-        go : (has_line a b xs ≡ true → (stands a Ends ≡ true) × (stands b Ends ≡ true)) → (p q r s : Bool) → same_as x.lower a ≡ p → same_as x.upper b ≡ q → same_as x.lower b ≡ r → same_as x.upper a ≡ s → cond (cond p q (cond r s false)) true (has_line a b xs) ≡ true →
+        go : (has_adjacency a b xs ≡ true → (stands a Ends ≡ true) × (stands b Ends ≡ true)) → (p q r s : Bool) → same_as x.lower a ≡ p → same_as x.upper b ≡ q → same_as x.lower b ≡ r → same_as x.upper a ≡ s → cond (cond p q (cond r s false)) true (has_adjacency a b xs) ≡ true →
             (stands a Ends ≡ true) × (stands b Ends ≡ true)
         go more true true r s e f g h is = (subst (λ (z : As). stands z Ends ≡ true) (same_as_is x.lower a e) all.0, subst (λ (z : As). stands z Ends ≡ true) (same_as_is x.upper b f) all.1)
         go more true false r s e f g h is = more is
@@ -114,7 +114,7 @@ module _ (n : NetworkParts) where
         go more false q false s e f g h is = more is
 
     pub linked_stand : (a b : As) → is_linked n a b ≡ true → (stands a Ends ≡ true) × (stands b Ends ≡ true)
-    linked_stand a b linked = linked_in a b (lines n) lines_stand linked
+    linked_stand a b linked = linked_in a b (adjacencies n) adjacencies_stand linked
 
     pub ends_rise : Rises 0 Ends
     ends_rise = (omega arith, elements_rise n.elements net.elements)

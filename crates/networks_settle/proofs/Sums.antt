@@ -13,7 +13,7 @@ use Rattle.plant_text.specs.Settings.{elements_of, row_of}
 use Rattle.plant_laws.proofs.Runs.Queues.{same_as_is}
 use Rattle.networks_settle.specs.Settling.{total}
 use Rattle.networks_settle.proofs.Pairs.{same_self}
-use Rattle.networks_settle.proofs.Lines.{Rises}
+use Rattle.networks_settle.proofs.Adjacencies.{Rises}
 
 -- ---- lists
 

@@ -10,7 +10,7 @@ use Rattle.pcep_session.specs.declared.session.Input.TheVariants as input
 use Rattle.pcep_session.specs.declared.state.Phase.{Phase}
 use Rattle.pcep_session.specs.declared.state.Phase.TheVariants as phase
 use Rattle.pcep_session.specs.declared.state.State.{State as Session}
-use Rattle.pcep_session.specs.Table.{Turn, turn_of, turn_in, open_wait, keep_wait, refused, refused_terms, in_up, up_tick, unknown_type, waits, heard, at_tick, has_passed, is_recent}
+use Rattle.pcep_session.specs.Table.{SessionStep, turn_of, turn_in, open_wait, keep_wait, refused, refused_terms, in_up, up_tick, unknown_type, waits, heard, at_tick, has_passed, is_recent}
 use Rattle.plant_laws.specs.plant_model.Deeds.{any_fall}
 
 abbrev pub is_open : Phase → Bool
@@ -28,21 +28,21 @@ has_up (action.Down why ∷ as') = has_up as'
 has_up (action.Pass m ∷ as') = has_up as'
 
 -- it is as open as it was, or it came up
-pub data Turns (before : Bool) (r : Turn) : Type 0 where
+pub data Turns (before : Bool) (r : SessionStep) : Type 0 where
   rested : has_up r.actions ≡ false → is_open r.next.phase ≡ before → Turns before r
   rose : r.actions ≡ action.Up ∷ [] → is_open r.next.phase ≡ true → Turns before r
 
-abbrev On : Bool → Turn → Type 0
+abbrev On : Bool → SessionStep → Type 0
 On before r = any_fall r.actions ≡ false → Turns before r
 
-pick : (before b : Bool) (r r' : Turn) → On before r → On before r' → On before (cond b r r')
+pick : (before b : Bool) (r r' : SessionStep) → On before r → On before r' → On before (cond b r r')
 pick before true r r' h h' = h
 pick before false r r' h h' = h'
 
-falls : (before : Bool) (r : Turn) → any_fall r.actions ≡ true → On before r
+falls : (before : Bool) (r : SessionStep) → any_fall r.actions ≡ true → On before r
 falls before r fall none = (let no : true ≡ false = sym fall ∙ none in cc)
 
-rests : (before : Bool) (r : Turn) → has_up r.actions ≡ false → is_open r.next.phase ≡ before → On before r
+rests : (before : Bool) (r : SessionStep) → has_up r.actions ≡ false → is_open r.next.phase ≡ before → On before r
 rests before r none same stays = rested none same
 
 module _ (s : Session) where

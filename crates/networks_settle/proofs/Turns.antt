@@ -9,7 +9,7 @@ use Rattle.pcep_session.specs.declared.actions.Own.TheVariants as own
 use Rattle.pcep_session.specs.declared.state.Phase.{Phase}
 use Rattle.pcep_session.specs.declared.state.Phase.TheVariants as phase
 use Rattle.pcep_session.specs.declared.state.State.{State as Session}
-use Rattle.pcep_session.specs.Table.{Turn, turn_of, turn_in, up_tick, at_tick, has_passed, waits}
+use Rattle.pcep_session.specs.Table.{SessionStep, turn_of, turn_in, up_tick, at_tick, has_passed, waits}
 use Rattle.plant_laws.specs.plant_model.Wire.{Bytes, Codec}
 use Rattle.plant_laws.specs.plant_model.Deeds.{any_fall, read_as}
 use Rattle.networks_settle.specs.Settling.{is_ordinary, IsOpen, IsKeepalive, IsOrdinary, AreOrdinary, IsNothing, Holds}
@@ -17,21 +17,21 @@ use Rattle.networks_settle.specs.Settling.{is_ordinary, IsOpen, IsKeepalive, IsO
 -- ---- ticks
 
 -- at a tick a session that stays is in the phase that it was in, and sends a Keepalive at most, where it is open
-pub record Ticks (p : Phase) (r : Turn) : Type 0 where
+pub record Ticks (p : Phase) (r : SessionStep) : Type 0 where
   pub same : r.next.phase ≡ p
   pub actions : (r.actions ≡ []) ⊎ ((p ≡ phase.Up) × (r.actions ≡ action.Send own.Keepalive ∷ []))
 
-abbrev TicksOn : Phase → Turn → Type 0
+abbrev TicksOn : Phase → SessionStep → Type 0
 TicksOn p r = any_fall r.actions ≡ false → Ticks p r
 
-pick : (p : Phase) (b : Bool) (r r' : Turn) → TicksOn p r → TicksOn p r' → TicksOn p (cond b r r')
+pick : (p : Phase) (b : Bool) (r r' : SessionStep) → TicksOn p r → TicksOn p r' → TicksOn p (cond b r r')
 pick p true r r' h h' = h
 pick p false r r' h h' = h'
 
-falls : (p : Phase) (r : Turn) → any_fall r.actions ≡ true → TicksOn p r
+falls : (p : Phase) (r : SessionStep) → any_fall r.actions ≡ true → TicksOn p r
 falls p r fall none = absurd (let no : true ≡ false = sym fall ∙ none in cc)
 
-rests : (p : Phase) (r : Turn) → r.next.phase ≡ p → r.actions ≡ [] → TicksOn p r
+rests : (p : Phase) (r : SessionStep) → r.next.phase ≡ p → r.actions ≡ [] → TicksOn p r
 rests p r same none stays = record { same = same; actions = inl none }
 
 module _ (now : Tick) where
@@ -59,7 +59,7 @@ module _ (now : Tick) where
 module _ (c : Codec) where
   -- What a session does with the first message of a queue: it reads an Open and says a Keepalive, or comes up by a Keepalive, or
   -- hears one when it is up, or passes the message on. It has the phase after that, and there is what is left.
-  pub data Hears (sends reads : Phase) (x : Bytes) (rest : List Bytes) (r : Turn) : Type 0 where
+  pub data Hears (sends reads : Phase) (x : Bytes) (rest : List Bytes) (r : SessionStep) : Type 0 where
     opens : IsOpen c x → reads ≡ phase.OpenWait → r.actions ≡ action.Send own.Keepalive ∷ [] → r.next.phase ≡ phase.KeepWait → Holds c sends phase.KeepWait rest → Hears sends reads x rest r
     rises : IsKeepalive c x → reads ≡ phase.KeepWait → r.actions ≡ action.Up ∷ [] → r.next.phase ≡ phase.Up → Holds c sends phase.Up rest → Hears sends reads x rest r
     keeps : IsKeepalive c x → reads ≡ phase.Up → r.actions ≡ [] → r.next.phase ≡ phase.Up → Holds c sends phase.Up rest → Hears sends reads x rest r
@@ -128,7 +128,7 @@ module _ (c : Codec) where
   hears s sends x rest held = hears_in s x rest sends s.phase refl held
 
   -- such a turn takes no session down
-  pub heard_stays : (sends reads : Phase) (x : Bytes) (rest : List Bytes) (r : Turn) → Hears sends reads x rest r → any_fall r.actions ≡ false
+  pub heard_stays : (sends reads : Phase) (x : Bytes) (rest : List Bytes) (r : SessionStep) → Hears sends reads x rest r → any_fall r.actions ≡ false
   heard_stays sends reads x rest r (opens is at actions next left) = ap any_fall actions
   heard_stays sends reads x rest r (rises is at actions next left) = ap any_fall actions
   heard_stays sends reads x rest r (keeps is at actions next left) = ap any_fall actions

@@ -24,14 +24,14 @@ use Rattle.plant_text.specs.Names.{parent_as}
 use Rattle.plant_laws.specs.plant_model.Names.{the_parent, has_pair}
 use Rattle.plant_laws.specs.plant_model.Wire.{Codec, Checked, Admitted, Wrong}
 use Rattle.plant_laws.specs.plant_model.Writing.{reply_message}
-use Rattle.plant_laws.specs.plant_model.Element.{Row, Way, Element, Place, Taken, each, waiting, way_to, with_last, with_up, fresh_id, is_client}
+use Rattle.plant_laws.specs.plant_model.Element.{Row, Way, Element, ElementSettings, Taken, each, waiting, way_to, with_last, with_up, fresh_id, is_client}
 use Rattle.plant_laws.specs.plant_model.Routes.{toward}
 use Rattle.plant_laws.specs.plant_model.Taking as taking
 use Rattle.plant_laws.specs.plant_model.Taking.{goes_up, sequence_or, denied, answered, send_on, sent_on, take_along, take_path}
 use Rattle.plant_laws.specs.plant_model.Solving.{commit, client_reply, closed_reply, free}
 use Rattle.plant_laws.specs.plant_model.BorderGraph.{Found}
 use Rattle.plant_laws.specs.plant_model.Parent as parent
-use Rattle.plant_laws.specs.plant_model.Parent.{Wait, Errand, Family, Parent, Given, AskingRow, is_up}
+use Rattle.plant_laws.specs.plant_model.Parent.{Wait, Errand, Family, Parent, ParentTaken, AskingRow, is_up}
 use Rattle.networks_settle.proofs.Reaching.{last_up}
 
 -- the same neighbours may be sent requests, and there are ways to the same
@@ -78,7 +78,7 @@ way_risen p (w ∷ ws) = go (way_risen p ws) (same_peer w.peer p) refl
 
 -- ---- an element
 
-module _ (P : Type 0) (S : Type 0) (c : Codec) (show : S → List Hop) (e : Place) (pin : P) (p : Peer) (class : Class) (now : ℕ) where
+module _ (P : Type 0) (S : Type 0) (c : Codec) (show : S → List Hop) (e : ElementSettings) (pin : P) (p : Peer) (class : Class) (now : ℕ) where
   abbrev Kept : Element P S → Taken P S → Type 0
   Kept k t = SameView t.element.ways k.ways
 
@@ -186,14 +186,14 @@ module _ (P : Type 0) (S : Type 0) (c : Codec) (show : S → List Hop) (e : Plac
 -- ---- the parent
 
 module _ (c : Codec) (f : Family) (p : Peer) where
-  abbrev Held' : Parent → Given → Type 0
+  abbrev Held' : Parent → ParentTaken → Type 0
   Held' k t = SameView t.parent.ways k.ways
 
-  pick_above : (k : Parent) (b : Bool) (t u : Given) → Held' k t → Held' k u → Held' k (cond b t u)
+  pick_above : (k : Parent) (b : Bool) (t u : ParentTaken) → Held' k t → Held' k u → Held' k (cond b t u)
   pick_above k true t u h h' = h
   pick_above k false t u h h' = h'
 
-  each_above : {X : Type 0} (g : X → Parent → Given) → ((x : X) (k : Parent) → Held' k (g x k)) → (xs : List X) (k : Parent) → Held' k (parent.each g xs k)
+  each_above : {X : Type 0} (g : X → Parent → ParentTaken) → ((x : X) (k : Parent) → Held' k (g x k)) → (xs : List X) (k : Parent) → Held' k (parent.each g xs k)
   each_above g one [] k = same_view k.ways
   each_above g one (x ∷ xs) k = view_on (parent.each g xs (g x k).parent).parent.ways (g x k).parent.ways k.ways (each_above g one xs (g x k).parent) (one x k)
 
@@ -246,7 +246,7 @@ module _ (c : Codec) (f : Family) (p : Peer) where
   steps_above : (kinds : List (ℕ × ℕ)) (rp : ℕ × ℕ) (k : Parent) → Held' k (parent.each (λ step. step p rp) (parent.notice_steps kinds) k)
   steps_above kinds rp k = go (has_pair notices.BUSY.0 notices.BUSY.1 kinds) (has_pair notices.CANCELLED.0 notices.CANCELLED.1 kinds)
     where
-      go : (full cancels : Bool) → Held' k (parent.each (λ (step : Peer → ℕ × ℕ → Parent → Given). step p rp)
+      go : (full cancels : Bool) → Held' k (parent.each (λ (step : Peer → ℕ × ℕ → Parent → ParentTaken). step p rp)
           (cond full (cond cancels (parent.take_busy ∷ parent.take_cancel ∷ []) (parent.take_busy ∷ [])) (cond cancels (parent.take_cancel ∷ []) [])) k)
       go true true = view_on (parent.take_cancel p rp (parent.take_busy p rp k).parent).parent.ways (parent.take_busy p rp k).parent.ways k.ways (cancel_above rp (parent.take_busy p rp k).parent) (busy_above rp k)
       go true false = busy_above rp k

@@ -21,7 +21,7 @@ use Rattle.plant_laws.specs.Sending.{AreAll}
 use Rattle.networks_settle.specs.Settling.{total, ends, cost, read_weight, queue_weight, queues_weight, pending_count}
 use Rattle.networks_settle.proofs.Pairs.{both, first_apart, second_apart, same_self, set_here, set_other, set_all}
 use Rattle.networks_settle.proofs.Calm.{Core, ReadsAgain}
-use Rattle.networks_settle.proofs.Lines.{elements_rise}
+use Rattle.networks_settle.proofs.Adjacencies.{elements_rise}
 use Rattle.networks_settle.proofs.Sums.{stands, total_append, total_le, total_more, total_less, total_set}
 use Rattle.networks_settle.proofs.Standing.{ends_rise}
 use Rattle.networks_settle.proofs.Weighing.{peer_weight, sent_weight}

@@ -14,7 +14,7 @@ use Rattle.disclosure.specs.Shown.{open_of}
 use Rattle.disclosure.specs.declared.class.Class.TheVariants.{Neighbour, Parent as ParentClass}
 use Rattle.plant_text.specs.declared.settings.NetworkParts.{NetworkParts}
 use Rattle.plant_text.specs.Names.{same_as, parent_as}
-use Rattle.plant_text.specs.Settings.{Line, class_of, elements_of}
+use Rattle.plant_text.specs.Settings.{Adjacency, class_of, elements_of}
 use Rattle.plant_laws.specs.plant_model.Names.{set_pair}
 use Rattle.plant_laws.specs.plant_model.Wire.{Bytes, Codec}
 use Rattle.plant_laws.specs.plant_model.Laws.{IsCodec, IsNetwork}
@@ -24,7 +24,7 @@ use Rattle.plant_laws.specs.plant_model.Element.{is_client}
 use Rattle.plant_laws.specs.plant_model.Taking as taking
 use Rattle.plant_laws.specs.plant_model.Parent as parent
 use Rattle.plant_laws.specs.plant_model.State.{Loads, Pops, Takes, Says, Ups, Downs, Clears, Solves, Expires, Hands}
-use Rattle.plant_laws.specs.plant_model.Deeds.{any_fall, is_tick, read_as, own_message, put_to, puts, with_element, with_parent, with_inner, give, rise, say, inner_acts, inner_input, break_line}
+use Rattle.plant_laws.specs.plant_model.Deeds.{any_fall, is_tick, read_as, own_message, put_to, puts, with_element, with_parent, with_inner, give, rise, say, inner_acts, inner_input, break_adjacency}
 use Rattle.plant_laws.specs.plant_model.Plant.{Pin, Segment, PlantDeed}
 use Rattle.plant_laws.proofs.Runs.Queues.{same_as_is}
 use Rattle.plant_laws.proofs.Once.Takes.{own_is}
@@ -88,7 +88,7 @@ module _ (c : Codec) (codec : IsCodec c) (n : NetworkParts) (net : IsNetwork n) 
   give_weighs : (at a : As) (m : Message) (g : Move) → stands at (ends n) ≡ true → WaysOk (g.state.elements at).ways → WaysOk g.state.parent.ways → Gave g (give Pin Segment c n open_of at (Inner a) m g) (cost c n at m)
   give_weighs at a m g in_at ok ok_above = go (same_as at parent_as) refl
     where
-      r : parent.Given
+      r : parent.ParentTaken
       r = parent.take c (family n) (Inner a) m g.state.parent
 
       e : element.Taken Pin Segment
@@ -209,7 +209,7 @@ module _ (c : Codec) (codec : IsCodec c) (n : NetworkParts) (net : IsNetwork n) 
     not_tick None = refl
     not_tick (Some m) = refl
 
-    pub carried_less : (z : Line) → Hears c (s.sessions a b).phase (s.sessions b a).phase x rest (turn_of (s.sessions b a) (read_as (c.read x))) → IsLess (inner_input Pin Segment c n open_of z b a (read_as (c.read x)) after_pop)
+    pub carried_less : (z : Adjacency) → Hears c (s.sessions a b).phase (s.sessions b a).phase x rest (turn_of (s.sessions b a) (read_as (c.read x))) → IsLess (inner_input Pin Segment c n open_of z b a (read_as (c.read x)) after_pop)
     carried_less z heard = go heard
       where
         r_next : Session
@@ -218,11 +218,11 @@ module _ (c : Codec) (codec : IsCodec c) (n : NetworkParts) (net : IsNetwork n) 
         start : Move
         start = record { state = moved (turn_of (s.sessions b a) (read_as (c.read x))).next; deeds = Pops a b ∷ [] }
 
-        by : (as' : List Action) → (turn_of (s.sessions b a) (read_as (c.read x))).actions ≡ as' → IsLess (cond (any_fall as') (break_line Pin Segment c n open_of z after_pop) (inner_acts Pin Segment c n open_of b a false as' start)) →
+        by : (as' : List Action) → (turn_of (s.sessions b a) (read_as (c.read x))).actions ≡ as' → IsLess (cond (any_fall as') (break_adjacency Pin Segment c n open_of z after_pop) (inner_acts Pin Segment c n open_of b a false as' start)) →
             IsLess (inner_input Pin Segment c n open_of z b a (read_as (c.read x)) after_pop)
         by as' actions less =
-            subst (λ (l : List Action). IsLess (cond (any_fall l) (break_line Pin Segment c n open_of z after_pop) (inner_acts Pin Segment c n open_of b a (is_tick (read_as (c.read x))) l start))) (sym actions)
-            (subst (λ (t : Bool). IsLess (cond (any_fall as') (break_line Pin Segment c n open_of z after_pop) (inner_acts Pin Segment c n open_of b a t as' start))) (sym (not_tick (c.read x))) less)
+            subst (λ (l : List Action). IsLess (cond (any_fall l) (break_adjacency Pin Segment c n open_of z after_pop) (inner_acts Pin Segment c n open_of b a (is_tick (read_as (c.read x))) l start))) (sym actions)
+            (subst (λ (t : Bool). IsLess (cond (any_fall as') (break_adjacency Pin Segment c n open_of z after_pop) (inner_acts Pin Segment c n open_of b a t as' start))) (sym (not_tick (c.read x))) less)
 
         read_is : (m : Message) → c.read x ≡ Some m → read_weight c n b (c.read x) ≡ 1 + cost c n b m
         read_is m read = ap (λ (o : Option Message). read_weight c n b o) read

@@ -10,7 +10,7 @@ use Rattle.request_table.specs.Pending.{same_peer}
 use Rattle.disclosure.specs.Shown.{open_of}
 use Rattle.plant_text.specs.declared.settings.NetworkParts.{NetworkParts}
 use Rattle.plant_text.specs.Names.{same_as, parent_as}
-use Rattle.plant_text.specs.Settings.{Line, line, lines, is_linked, is_element, elements_of}
+use Rattle.plant_text.specs.Settings.{Adjacency, adjacency, adjacencies, is_linked, is_element, elements_of}
 use Rattle.plant_laws.specs.plant_model.declared.event.Event.{Event}
 use Rattle.plant_laws.specs.plant_model.declared.event.Event.TheVariants as event
 use Rattle.plant_laws.specs.plant_model.declared.outcome.Refused.{Refused}
@@ -23,7 +23,7 @@ use Rattle.plant_laws.specs.plant_model.Settings.{place}
 use Rattle.plant_laws.specs.plant_model.Solving as solving
 use Rattle.plant_laws.specs.plant_model.Parent as parent
 use Rattle.plant_laws.specs.plant_model.State.{Loads, Pops, Takes, Says, Ups, Downs, Clears, Solves, Expires, Hands}
-use Rattle.plant_laws.specs.plant_model.Deeds.{our_offer, own_message, puts, with_element, with_parent, begin_line}
+use Rattle.plant_laws.specs.plant_model.Deeds.{our_offer, own_message, puts, with_element, with_parent, begin_adjacency}
 use Rattle.plant_laws.specs.plant_model.Events as events
 use Rattle.plant_laws.specs.plant_model.Events.{has_jobs}
 use Rattle.plant_laws.specs.plant_model.Plant.{Pin, Segment, first_pin, Plant, PlantDeed, Happened, Entry, Run, Steps, IsGiven, deeds_of, ElementSolves, ParentSolves, Happens}
@@ -147,7 +147,7 @@ module _ (c : Codec) (codec : IsCodec c) (n : NetworkParts) (net : IsNetwork n) 
         go linked [] is = refused_less _ s
         go linked (x ∷ rest) is =
             λ accepted. let in' = linked_stand n net a b linked in
-            carried_less c codec n net a b in'.0 in'.1 s (fit.elements b).1 fit.parent.1 x rest is (line a b)
+            carried_less c codec n net a b in'.0 in'.1 s (fit.elements b).1 fit.parent.1 x rest is (adjacency a b)
             (hears c (s.sessions b a) (s.sessions a b).phase x rest (subst (λ (q : List Bytes). Holds c (s.sessions a b).phase (s.sessions b a).phase q) is (calm.queues a b linked)))
 
         by : (t : Bool) → is_linked n a b ≡ t → IsLess (cond t (events.carry_first Pin Segment c n open_of a b s (s.queues a b)) (events.refused Pin Segment c n open_of NoSuchPeer s))
@@ -283,13 +283,13 @@ module _ (c : Codec) (codec : IsCodec c) (n : NetworkParts) (net : IsNetwork n) 
 
   -- ---- a network that has just been made
 
-  began_weighs : (x : Line) (g : Move) → weight c n (begin_line Pin Segment c n open_of 0 x g).state ≤ 6 + weight c n g.state
+  began_weighs : (x : Adjacency) (g : Move) → weight c n (begin_adjacency Pin Segment c n open_of 0 x g).state ≤ 6 + weight c n g.state
   began_weighs x g =
       let text = c.text (own_message (own.Open (our_offer 0))) in
       let q = g.state.queues in
       let first' = set_pair x.lower x.upper (q x.lower x.upper ++ text ∷ []) q in
       let open' = open_again c codec n 0 (omega arith) in
-      plain (queues_weight c n (begin_line Pin Segment c n open_of 0 x g).state) (all_weight c n net first') (queues_weight c n g.state) (pending_count c n g.state)
+      plain (queues_weight c n (begin_adjacency Pin Segment c n open_of 0 x g).state) (all_weight c n net first') (queues_weight c n g.state) (pending_count c n g.state)
       (read_weight c n x.upper (c.read text)) (read_weight c n x.lower (c.read text))
       (longer_weighs c n net x.lower x.upper text q) (longer_weighs c n net x.upper x.lower text first')
       (ap (λ (o : Option Message). read_weight c n x.upper o) open'.1) (ap (λ (o : Option Message). read_weight c n x.lower o) open'.1)
@@ -297,21 +297,21 @@ module _ (c : Codec) (codec : IsCodec c) (n : NetworkParts) (net : IsNetwork n) 
       plain : (q2 q1 q0 k v w : ℕ) → q1 ≤ q0 + v → q2 ≤ q1 + w → v ≡ 3 → w ≡ 3 → q2 + 4 * k ≤ 6 + (q0 + 4 * k)
       plain q2 q1 q0 k v w one two up low = omega (arith, one, two, up, low)
 
-  lines_weigh : (xs : List Line) (g : Move) → weight c n (events.begin_lines Pin Segment c n open_of xs g).state ≤ 6 * length xs + weight c n g.state
-  lines_weigh [] g = plain (weight c n g.state)
+  adjacencies_weigh : (xs : List Adjacency) (g : Move) → weight c n (events.begin_adjacencies Pin Segment c n open_of xs g).state ≤ 6 * length xs + weight c n g.state
+  adjacencies_weigh [] g = plain (weight c n g.state)
     where
       plain : (w : ℕ) → w ≤ 0 + w
       plain w = omega arith
-  lines_weigh (x ∷ xs) g =
-      plain (weight c n (events.begin_lines Pin Segment c n open_of xs (begin_line Pin Segment c n open_of 0 x g)).state) (weight c n (begin_line Pin Segment c n open_of 0 x g).state) (weight c n g.state) (length xs)
-      (lines_weigh xs (begin_line Pin Segment c n open_of 0 x g)) (began_weighs x g)
+  adjacencies_weigh (x ∷ xs) g =
+      plain (weight c n (events.begin_adjacencies Pin Segment c n open_of xs (begin_adjacency Pin Segment c n open_of 0 x g)).state) (weight c n (begin_adjacency Pin Segment c n open_of 0 x g).state) (weight c n g.state) (length xs)
+      (adjacencies_weigh xs (begin_adjacency Pin Segment c n open_of 0 x g)) (began_weighs x g)
     where
       plain : (w2 w1 w0 l : ℕ) → w2 ≤ 6 * l + w1 → w1 ≤ 6 + w0 → w2 ≤ 6 * suc l + w0
       plain w2 w1 w0 l more one = omega (arith, more, one)
 
-  lines_ask : (xs : List Line) (g : Move) → all_asks (events.begin_lines Pin Segment c n open_of xs g).deeds ≡ all_asks g.deeds
-  lines_ask [] g = refl
-  lines_ask (x ∷ xs) g = lines_ask xs (begin_line Pin Segment c n open_of 0 x g) ∙ plain (all_asks g.deeds)
+  adjacencies_ask : (xs : List Adjacency) (g : Move) → all_asks (events.begin_adjacencies Pin Segment c n open_of xs g).deeds ≡ all_asks g.deeds
+  adjacencies_ask [] g = refl
+  adjacencies_ask (x ∷ xs) g = adjacencies_ask xs (begin_adjacency Pin Segment c n open_of 0 x g) ∙ plain (all_asks g.deeds)
     where
       plain : (w : ℕ) → 0 + 0 + (0 + 0 + w) ≡ w
       plain w = omega arith
@@ -334,12 +334,12 @@ module _ (c : Codec) (codec : IsCodec c) (n : NetworkParts) (net : IsNetwork n) 
       plain : (q k : ℕ) → q ≡ 0 → k ≡ 0 * length (elements_of n.elements) → q + 4 * (0 + k) ≡ 0
       plain q k one two = omega (arith, one, two)
 
-  new_weighs : (s : Plant) → Run c n [] s → (weight c n s ≤ 6 * length (lines n)) × ((a b : As) → asks a b (deeds_of c n []) ≡ 0)
+  new_weighs : (s : Plant) → Run c n [] s → (weight c n s ≤ 6 * length (adjacencies n)) × ((a b : As) → asks a b (deeds_of c n []) ≡ 0)
   new_weighs s is =
       let b = events.bare Pin Segment c n open_of first_pin in
       let g : Move = record { state = b; deeds = [] } in (
-        subst (λ (z : Plant). weight c n z ≤ 6 * length (lines n)) (sym is) (plain (weight c n (events.opening Pin Segment c n open_of first_pin).state) (6 * length (lines n)) (weight c n b) (lines_weigh (lines n) g) bare_weighs),
-        λ a d. none (asks a d (deeds_of c n [])) (all_asks (deeds_of c n [])) (asks_all a d (deeds_of c n [])) (lines_ask (lines n) g),
+        subst (λ (z : Plant). weight c n z ≤ 6 * length (adjacencies n)) (sym is) (plain (weight c n (events.opening Pin Segment c n open_of first_pin).state) (6 * length (adjacencies n)) (weight c n b) (adjacencies_weigh (adjacencies n) g) bare_weighs),
+        λ a d. none (asks a d (deeds_of c n [])) (all_asks (deeds_of c n [])) (asks_all a d (deeds_of c n [])) (adjacencies_ask (adjacencies n) g),
       )
     where
       plain : (w l z : ℕ) → w ≤ l + z → z ≡ 0 → w ≤ l

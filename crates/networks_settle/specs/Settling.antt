@@ -18,7 +18,7 @@ use Rattle.pcep_session.specs.Table.{turn_of}
 use Rattle.request_table.specs.declared.held.Held.{Held}
 use Rattle.plant_text.specs.declared.settings.NetworkParts.{NetworkParts}
 use Rattle.plant_text.specs.Names.{same_as, parent_as}
-use Rattle.plant_text.specs.Settings.{lines, is_linked, children, elements_of}
+use Rattle.plant_text.specs.Settings.{adjacencies, is_linked, children, elements_of}
 use Rattle.plant_laws.specs.plant_model.declared.event.Event.{Event}
 use Rattle.plant_laws.specs.plant_model.declared.event.Event.TheVariants as event
 use Rattle.plant_laws.specs.plant_model.declared.outcome.Outcome.TheVariants.{Done}
@@ -223,7 +223,7 @@ WorkKeepsIds = (c : Codec) → IsCodec c → (n : NetworkParts) → IsNetwork n 
 -- A network that has just been made weighs six for each of its inner links, and sent no request.
 abbrev pub NewNetworksWeigh : Type 0
 NewNetworksWeigh = (c : Codec) → IsCodec c → (n : NetworkParts) → IsNetwork n → (s : Plant) → Run c n [] s →
-    (weight c n s ≤ 6 * length (lines n)) × ((a b : As) → asks a b (deeds_of c n []) ≡ 0)
+    (weight c n s ≤ 6 * length (adjacencies n)) × ((a b : As) → asks a b (deeds_of c n []) ≡ 0)
 
 -- ---- how much there can be
 

@@ -28,7 +28,7 @@ use Rattle.plant_model.specs.declared.outcome.Refused.TheVariants.{NoSuchPeer}
 use Rattle.transcript.specs.Lines.{answer_line}
 use Rattle.ted_watch.specs.declared.shown.Shown.{Shown}
 use Rattle.operator_lines.specs.Charts.{Asks, Call, Charted, Current, Did, Mapped, current_of}
-use Rattle.operator_lines.specs.Operating.{Context, Does, DoesEvent, IsEndOf, IsFirstPart, Loads, Past, Publishes, Shows, Stage, WithFile, Work, is_done, line_most, past, shown_by}
+use Rattle.operator_lines.specs.Operating.{Context, Does, DoesEvent, IsEndOf, IsFirstPart, Loads, Past, Publishes, ShowsMapped, Progress, WithFile, Work, is_done, line_most, past, shown_by}
 use Rattle.operator_lines.specs.Steps.{Acted, Asked, DoesFile, DoesText, EndsAs, answered, file_of, Goes, IsBegun, IsFile, IsPartDone, Refuses, text_of}
 use Rattle.operator_lines.specs.Texts.{bad_network_text, fault_text, read_fault_text, too_large_text}
 use Rattle.operator_lines.specs.declared.operating.Operated.{Operated}
@@ -58,7 +58,7 @@ module _ (n : NetworkParts) (number : ℕ) (at : As) (g : Rows) (answer : Result
   abbrev pub work_of : List Call → List Shown → Work
   work_of asked shown = record { calls = Did (event.Load at g) answer ∷ asked; shown = shown; text = answer_line number answer }
 
-  loads_of : (list : List Shown) (asked : List Call) (shown : List Shown) → Shows at (is_done answer && is_element n at) list asked shown → Loads n number at g list [] (work_of asked shown)
+  loads_of : (list : List Shown) (asked : List Call) (shown : List Shown) → ShowsMapped at (is_done answer && is_element n at) list asked shown → Loads n number at g list [] (work_of asked shown)
   loads_of list asked shown shows = record { answer = answer; asked = asked; calls = refl; shows = shows; text = refl }
 
   behind : (a m b : Past) (asked : List Call) → m.calls ≡ a.calls ++ Did (event.Load at g) answer ∷ [] → b.calls ≡ m.calls ++ asked → b.calls ≡ a.calls ++ Did (event.Load at g) answer ∷ asked
@@ -71,7 +71,7 @@ module _ (n : NetworkParts) (number : ℕ) (at : As) (g : Rows) (answer : Result
       let shown = published.1 in (
         record {
           work = work_of asked shown;
-          does = loads_of a.shown asked shown (subst (λ (l : List Shown). Shows at (is_done answer && is_element n at) l asked shown) same published.2);
+          does = loads_of a.shown asked shown (subst (λ (l : List Shown). ShowsMapped at (is_done answer && is_element n at) l asked shown) same published.2);
           calls = behind a m b asked did published.3;
           shown = published.4 ∙ ap (λ (l : List Shown). l ++ shown) same;
           told = told;
@@ -90,7 +90,7 @@ module _ (n : NetworkParts) (number : ℕ) (at : As) (g : Rows) (answer : Result
         published.5,
         inr (record {
           work = work_of asked shown;
-          does = loads_of a.shown asked shown (subst (λ (l : List Shown). Shows at (is_done answer && is_element n at) l asked shown) same published.2);
+          does = loads_of a.shown asked shown (subst (λ (l : List Shown). ShowsMapped at (is_done answer && is_element n at) l asked shown) same published.2);
           part = record {
             made = Did (event.Load at g) answer ∷ asked;
             part = inl ([], sym (append-nil (Did (event.Load at g) answer ∷ asked)));
@@ -112,10 +112,10 @@ module _ (n : NetworkParts) (number : ℕ) (at : As) (g : Rows) (answer : Result
         published.2),
   )
     where
-      due : Shows at (is_done answer && is_element n at) a.shown [] [] → Unit {0}
+      due : ShowsMapped at (is_done answer && is_element n at) a.shown [] [] → Unit {0}
       due s = tt
 
-      shows_of : (c : Current) (d : Bool) → d ≡ true → Shows at d a.shown (Mapped at c ∷ []) (shown_by at c a.shown)
+      shows_of : (c : Current) (d : Bool) → d ≡ true → ShowsMapped at d a.shown (Mapped at c ∷ []) (shown_by at c a.shown)
       shows_of c true e = (c, refl, refl)
       shows_of c false e = absurd (cc e)
 
@@ -224,7 +224,7 @@ refused_later P number name (BadFile place fault) (Ok u) at m other some rest o 
     one_done P (Mapped at m) (bad_network_text number name place fault) o a spent before after (f place fault refl) fresh calls shown refuses
 refused_later P number name LacksFile (Ok u) at m other some rest o a spent before after f does is fresh calls shown refuses = absurd refuses
 
-module _ (x : Context) (number : ℕ) (name : List ℕ) (a b : Stage) (Then : List ℕ → Work → Type 0) where
+module _ (x : Context) (number : ℕ) (name : List ℕ) (a b : Progress) (Then : List ℕ → Work → Type 0) where
   -- it is told why the file was not read
   pub unread_goes : (p : Past) (spent : Option ℕ) (before after : List ℕ) → spent ≡ None → IsFile x.files number name (Ok None) a.faults b.faults b.failed_at before after → Goes (WithFile x number name a b Then) (Ok tt) p p spent before after
   unread_goes p spent before after fresh (inl f) = goes_said (WithFile x number name a b Then) (read_fault_text number) p spent before after (inl (f.0, f.1, refl)) fresh f.2
@@ -235,7 +235,7 @@ module _ (x : Context) (number : ℕ) (name : List ℕ) (a b : Stage) (Then : Li
   read_goes file has short r p q spent before after goes = goes_as (Then file) (WithFile x number name a b Then) (λ w d. inr (inr (file, has, short, d))) r p q spent before after goes
 
 -- a line does what the text of its file asks for
-pub text_goes : (x : Context) (number : ℕ) (name : List ℕ) (a b : Stage) (f g : Bool) (at : As) (file bytes : List ℕ) (r : Result (Unit {0}) Operated) (p q : Past) (spent : Option ℕ) (before mid after : List ℕ)
+pub text_goes : (x : Context) (number : ℕ) (name : List ℕ) (a b : Progress) (f g : Bool) (at : As) (file bytes : List ℕ) (r : Result (Unit {0}) Operated) (p q : Past) (spent : Option ℕ) (before mid after : List ℕ)
     → f ≡ g → bytes ≡ file → HasFile x.files name file × (length file ≤ change_file_most) × (mid ≡ before) → Goes (DoesText g x.network number at name a.past.shown bytes) r p q spent mid after → Goes (DoesFile x number (Some (f, at, name)) a b) r p q spent before after
 text_goes x number name a b f g at file bytes r p q spent before mid after same is read goes =
     read_goes x number name a b (DoesText f x.network number at name a.past.shown) file read.0 read.1 r p q spent before after
@@ -305,7 +305,7 @@ asked_goes_out P at Turns old new list other some rest before after does is aske
 
 -- ---- lines
 
-module _ (x : Context) (number : ℕ) (a b : Stage) (r : Result (Unit {0}) Operated) (p q : Past) (spent : Option ℕ) (before after : List ℕ) where
+module _ (x : Context) (number : ℕ) (a b : Progress) (r : Result (Unit {0}) Operated) (p q : Past) (spent : Option ℕ) (before after : List ℕ) where
   -- what a line says
   pub event_goes : (said known : Option (Option LineEvent)) → said ≡ known → Goes (DoesEvent x number known a b) r p q spent before after → Goes (DoesEvent x number said a b) r p q spent before after
   event_goes said known e goes = subst (λ (s : Option (Option LineEvent)). Goes (DoesEvent x number s a b) r p q spent before after) (sym e) goes
@@ -314,7 +314,7 @@ module _ (x : Context) (number : ℕ) (a b : Stage) (r : Result (Unit {0}) Opera
   short_goes text short goes = goes_as (DoesEvent x number (line_in x.network text) a b) (Does x number text a b) (λ w d. rw short d) r p q spent before after goes
 
 -- a line that is too long
-pub long_said : (x : Context) (number : ℕ) (a b : Stage) (text : List ℕ) → nat_lt line_most (length text) ≡ true → Does x number text a b (record { calls = []; shown = []; text = too_large_text number (codes "input") })
+pub long_said : (x : Context) (number : ℕ) (a b : Progress) (text : List ℕ) → nat_lt line_most (length text) ≡ true → Does x number text a b (record { calls = []; shown = []; text = too_large_text number (codes "input") })
 long_said x number a b text long = rw long refl
 
 -- ---- bytes of a line that was begun
@@ -373,13 +373,13 @@ ends_as P (Ok u) a b spent before after goes = goes.1
 ends_as P (Err end) a b spent before after goes = goes.0
 
 -- a line that is too long is told as such
-pub long_goes : (x : Context) (number : ℕ) (a b : Stage) (text : List ℕ) (r : Result (Unit {0}) Operated) (p : Past) (spent : Option ℕ) (before after : List ℕ) → nat_lt line_most (length text) ≡ true → spent ≡ None
+pub long_goes : (x : Context) (number : ℕ) (a b : Progress) (text : List ℕ) (r : Result (Unit {0}) Operated) (p : Past) (spent : Option ℕ) (before after : List ℕ) → nat_lt line_most (length text) ≡ true → spent ≡ None
     → OnOk r (after ≡ before ++ too_large_text number (codes "input")) → IfErr r (λ (e : Operated). e ≡ NoMemory) → Goes (Does x number text a b) r p p spent before after
 long_goes x number a b text (Ok u) p spent before after long fresh told lack = goes_said (Does x number text a b) (too_large_text number (codes "input")) p spent before after (long_said x number a b text long) fresh told
 long_goes x number a b text (Err end) p spent before after long fresh told lack = goes_lack (Does x number text a b) end p spent before after lack fresh
 
 -- a line does what the file asks that it names
-event_file : (x : Context) (number : ℕ) (e : LineEvent) (a b : Stage) (w : Work) → DoesFile x number (file_of e) a b w → DoesEvent x number (Some (Some e)) a b w
+event_file : (x : Context) (number : ℕ) (e : LineEvent) (a b : Progress) (w : Work) → DoesFile x number (file_of e) a b w → DoesEvent x number (Some (Some e)) a b w
 event_file x number (line.Load at name) a b w does = does
 event_file x number (line.Change at name) a b w does = does
 event_file x number (line.Open p h) a b w does = does
@@ -395,7 +395,7 @@ event_file x number line.Finish a b w does = does
 event_file x number line.CertifyOn a b w does = does
 event_file x number line.DiscloseOn a b w does = does
 
-pub event_goes_file : (x : Context) (number : ℕ) (e : LineEvent) (f : Option (Bool × As × List ℕ)) (a b : Stage) (r : Result (Unit {0}) Operated) (p q : Past) (spent : Option ℕ) (before after : List ℕ) → file_of e ≡ f → Goes (DoesFile x number f a b) r p q spent before after → Goes (DoesEvent x number (Some (Some e)) a b) r p q spent before after
+pub event_goes_file : (x : Context) (number : ℕ) (e : LineEvent) (f : Option (Bool × As × List ℕ)) (a b : Progress) (r : Result (Unit {0}) Operated) (p q : Past) (spent : Option ℕ) (before after : List ℕ) → file_of e ≡ f → Goes (DoesFile x number f a b) r p q spent before after → Goes (DoesEvent x number (Some (Some e)) a b) r p q spent before after
 event_goes_file x number e f a b r p q spent before after is goes =
     goes_as (DoesFile x number (file_of e) a b) (DoesEvent x number (Some (Some e)) a b) (event_file x number e a b) r p q spent before after
     (subst (λ (k : Option (Bool × As × List ℕ)). Goes (DoesFile x number k a b) r p q spent before after) (sym is) goes)

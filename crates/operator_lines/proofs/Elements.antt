@@ -8,7 +8,7 @@ use Rattle.std.proofs.lemmas.List.Elements.{All-push}
 use Rattle.dom_base.specs.declared.names.As.{As}
 use Rattle.plant_text.specs.declared.settings.ElementRow.{ElementRow}
 use Rattle.plant_text.specs.declared.settings.NetworkParts.{NetworkParts}
-use Rattle.plant_text.specs.Networks.{IsNetwork, with_peers}
+use Rattle.plant_text.specs.Networks.{ObeysRules, with_peers}
 use Rattle.plant_text.specs.Settings.{is_element, row_of}
 use Rattle.plant_text.proofs.SettingLaws.{rules_are_worth}
 use Rattle.ted_watch.specs.declared.shown.Shown.{Shown}
@@ -32,11 +32,11 @@ member_of (r ∷ rows) at is = by (r.own.0 == at.0) refl is (member_of rows at)
         or_true true b e = refl
         or_true false b e = e
 
-elements_few : (n : NetworkParts) → IsNetwork n → length n.elements ≤ 16
+elements_few : (n : NetworkParts) → ObeysRules n → length n.elements ≤ 16
 elements_few n is = (rules_are_worth (with_peers n _) is.obeyed).elements.few
 
 -- one entry more of an element is of no AS too many
-pub few_more : (n : NetworkParts) (list : List Shown) (s : Shown) → IsNetwork n → AreOfElements n list → is_element n s.at ≡ true → as_count (list ++ s ∷ []) ≤ 16
+pub few_more : (n : NetworkParts) (list : List Shown) (s : Shown) → ObeysRules n → AreOfElements n list → is_element n s.at ≡ true → as_count (list ++ s ∷ []) ≤ 16
 few_more n list s is all element =
     let every : All (λ (t : Shown). is_element n t.at ≡ true) (list ++ s ∷ []) = All-push (λ (t : Shown). is_element n t.at ≡ true) list s all element in
     let few = few_among (numbers n.elements) (list ++ s ∷ []) (λ k d lt. member_of n.elements _ (every k d lt)) in

@@ -7,14 +7,14 @@ use Rattle.dom_edge.specs.Causes.{Rose}
 use Rattle.dom_edge.specs.Causes.{HasCause as IsBlamed}
 use Rattle.dom_edge.specs.Streams.{Takes}
 use Rattle.dom_edge.specs.declared.source.Piece.TheVariants as piece
-use Rattle.operator_lines.specs.Operating.{AreTaken, Context, HasCause, IsReadOut, Operates, Side, Sides, Stage, Stops, side, sides}
+use Rattle.operator_lines.specs.Operating.{AreTaken, Context, HasCause, IsReadOut, Operates, Side, Sides, Progress, Stops, side, sides}
 use Rattle.operator_lines.specs.Steps.{Begun, Cuts, CutsOff, Feeds, Finishes, IsBegun, IsLastTurn, IsTurn, IsTurned, Lasts}
 use Rattle.operator_lines.specs.declared.operating.Operated.{Operated}
 use Rattle.operator_lines.specs.declared.operating.Operated.TheVariants.{End, ReadFault, WriteFault, Turns, Spent, NoMemory}
 use Rattle.operator_lines.proofs.Pieces.{stops_as, stops_on, taken_none, taken_on}
 
 -- so many turns were made, and the input goes on
-pub record IsRunning (x : Context) (turns : ℕ) (q : Begun) (a b : Stage) (before after : Sides) : Type 0 where
+pub record IsRunning (x : Context) (turns : ℕ) (q : Begun) (a b : Progress) (before after : Sides) : Type 0 where
   pub taken : List ℕ
   pub took : Consumes before.input.bytes after.input.bytes taken
   pub some : turns ≤ length taken
@@ -27,7 +27,7 @@ pub record IsRunning (x : Context) (turns : ℕ) (q : Begun) (a b : Stage) (befo
   pub wrote : before.output.faults ≤ after.output.faults
 
 module _ (x : Context) where
-  pub none_run : (q : Begun) (a : Stage) (s : Sides) → q.before ≡ 0 → IsBegun q.bytes q.is_long [] → IsRunning x 0 q a a s s
+  pub none_run : (q : Begun) (a : Progress) (s : Sides) → q.before ≡ 0 → IsBegun q.bytes q.is_long [] → IsRunning x 0 q a a s s
   none_run q a s zero is = record {
     taken = [];
     took = Consumes-nil s.input.bytes;
@@ -41,7 +41,7 @@ module _ (x : Context) where
     wrote = omega arith;
   }
 
-  module _ (q r : Begun) (a b c : Stage) (old mid new : Sides) where
+  module _ (q r : Begun) (a b c : Progress) (old mid new : Sides) where
     pub run_on : (turns : ℕ) (is : IsRunning x turns q a b old mid) → IsTurn x is.line q r b c mid new → IsRunning x (turns + 1) r a c old new
     run_on turns is on = record {
       taken = is.taken ++ on.piece;
@@ -83,7 +83,7 @@ module _ (x : Context) where
       cause = cause_on turns end last.ends is last.cause all (length (is.taken ++ last.piece));
     }
 
-  pub all_run : (turns : ℕ) (q : Begun) (a b : Stage) (old new : Sides) → IsRunning x turns q a b old new → Operates x turns Turns a b old new
+  pub all_run : (turns : ℕ) (q : Begun) (a b : Progress) (old new : Sides) → IsRunning x turns q a b old new → Operates x turns Turns a b old new
   all_run turns q a b old new is = record {
     taken = is.taken;
     took = is.took;
@@ -97,7 +97,7 @@ module _ (x : Context) where
   }
 
   -- a chart that was spent
-  pub spent_before : (turns t : ℕ) (a : Stage) (s : Sides) → Operates x turns (Spent t) a a s s
+  pub spent_before : (turns t : ℕ) (a : Progress) (s : Sides) → Operates x turns (Spent t) a a s s
   spent_before turns t a s = record {
     taken = [];
     took = Consumes-nil s.input.bytes;
@@ -112,9 +112,9 @@ module _ (x : Context) where
 
   -- ---- a turn
 
-  module _ (line : List ℕ) (f : Begun) (a : Stage) (is : IsBegun f.bytes f.is_long line) where
+  module _ (line : List ℕ) (f : Begun) (a : Progress) (is : IsBegun f.bytes f.is_long line) where
     -- nothing came, and nothing more is done
-    ended_by : (L : Type 0) (end : Operated) (b : Stage) (old new : Option (List ℕ)) → Stops x (f.before + 1) end L line a b old new [] → CutsOff x end L [] line f.before a b old new
+    ended_by : (L : Type 0) (end : Operated) (b : Progress) (old new : Option (List ℕ)) → Stops x (f.before + 1) end L line a b old new [] → CutsOff x end L [] line f.before a b old new
     ended_by L end b old new stops = record {
       rest = line;
       done = f.before;
@@ -146,7 +146,7 @@ module _ (x : Context) where
     finish_cause (Spent t) old new never other out rose = tt
     finish_cause NoMemory old new never other out rose = tt
 
-    pub read_end : (old new : Option (List ℕ)) (m n : ℕ) (o w : Side) (b : Stage) (end : Operated) (into : List ℕ) → Takes old new piece.End into → Finishes x end line f.before a b o.bytes w.bytes o.faults w.faults → IsLastTurn x end line f.before a b (sides (side old m) o) (sides (side new n) w)
+    pub read_end : (old new : Option (List ℕ)) (m n : ℕ) (o w : Side) (b : Progress) (end : Operated) (into : List ℕ) → Takes old new piece.End into → Finishes x end line f.before a b o.bytes w.bytes o.faults w.faults → IsLastTurn x end line f.before a b (sides (side old m) o) (sides (side new n) w)
     read_end old new m n o w b end into takes fin =
         let out = read_out old new takes.0 takes.1 in
         record {
@@ -173,7 +173,7 @@ module _ (x : Context) where
     never_turns (Spent t) m n spent cuts = λ e. absurd (cc e)
     never_turns NoMemory m n spent cuts = λ e. absurd (cc e)
 
-    cuts_as : (end : Operated) (L : Type 0) (p : List ℕ) (b : Stage) (old new : Option (List ℕ)) → CutsOff x end ⊥ p line f.before a b old new → CutsOff x end L p line f.before a b old new
+    cuts_as : (end : Operated) (L : Type 0) (p : List ℕ) (b : Progress) (old new : Option (List ℕ)) → CutsOff x end ⊥ p line f.before a b old new → CutsOff x end L p line f.before a b old new
     cuts_as end L p b old new cuts = record {
       rest = cuts.rest;
       done = cuts.done;
@@ -183,7 +183,7 @@ module _ (x : Context) where
       stops = stops_as x ⊥ L (λ e. absurd e) (cuts.done + 1) end cuts.rest cuts.mid b old new cuts.told cuts.stops;
     }
 
-    pub read_piece : (count : ℕ) (old new : Option (List ℕ)) (m n : ℕ) (o w : Side) (b : Stage) (g : Begun) (r : Result (Unit {0}) Operated) (into : List ℕ) (spent : Option ℕ) → Takes old new (piece.Bytes count) into → m ≤ n
+    pub read_piece : (count : ℕ) (old new : Option (List ℕ)) (m n : ℕ) (o w : Side) (b : Progress) (g : Begun) (r : Result (Unit {0}) Operated) (into : List ℕ) (spent : Option ℕ) → Takes old new (piece.Bytes count) into → m ≤ n
         → Feeds x (take count into) r line f g a b o.bytes w.bytes → Lasts r o.faults w.faults spent → IsTurned x r line f g a b (sides (side old m) o) (sides (side new n) w)
     read_piece count old new m n o w b g (Ok t) into spent takes later feeds lasts = record {
       piece = take count into;

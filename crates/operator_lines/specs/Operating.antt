@@ -57,13 +57,13 @@ abbrev pub past : Charted → List Shown → Past
 past c shown = record { calls = c.calls; shown = shown }
 
 -- what stands between two lines: what was done so far, how often the store failed, and at which name last
-pub record Stage : Type 0 where
+pub record Progress : Type 0 where
   pub past : Past
   pub faults : ℕ
   pub failed_at : List ℕ
 
-abbrev pub stage : Charted → List Shown → ℕ → List ℕ → Stage
-stage c shown faults failed_at = record { past = past c shown; faults = faults; failed_at = failed_at }
+abbrev pub progress : Charted → List Shown → ℕ → List ℕ → Progress
+progress c shown faults failed_at = record { past = past c shown; faults = faults; failed_at = failed_at }
 
 -- what a line does: its calls, the entries that it shows, and what is said of it
 pub record Work : Type 0 where
@@ -93,9 +93,9 @@ shown_by at (Ok None) list = []
 shown_by at (Err why) list = []
 
 -- after an accepted load of an element its current topology is asked for, and shown where it is newer
-abbrev pub Shows : As → Bool → List Shown → List Call → List Shown → Type 0
-Shows at true list asked shown = (m : Current) × (asked ≡ Mapped at m ∷ []) × (shown ≡ shown_by at m list)
-Shows at false list asked shown = (asked ≡ []) × (shown ≡ [])
+abbrev pub ShowsMapped : As → Bool → List Shown → List Call → List Shown → Type 0
+ShowsMapped at true list asked shown = (m : Current) × (asked ≡ Mapped at m ∷ []) × (shown ≡ shown_by at m list)
+ShowsMapped at false list asked shown = (asked ≡ []) × (shown ≡ [])
 
 -- at which number the chart is spent by an end that its calls bring
 abbrev pub IsEndOf : Operated → Option ℕ → Type 0
@@ -105,7 +105,7 @@ IsEndOf end spent = ⊥
 
 -- The current topology is asked for and shown, where that is due; or it is not shown, since the chart is spent or memory lacks.
 abbrev pub Publishes : Result (Unit {0}) Operated → As → Bool → Past → Past → Option ℕ → Type 0
-Publishes (Ok u) at is_due a b spent = (asked : List Call) × (shown : List Shown) × Shows at is_due a.shown asked shown × (b.calls ≡ a.calls ++ asked) × (b.shown ≡ a.shown ++ shown) × (spent ≡ None)
+Publishes (Ok u) at is_due a b spent = (asked : List Call) × (shown : List Shown) × ShowsMapped at is_due a.shown asked shown × (b.calls ≡ a.calls ++ asked) × (b.shown ≡ a.shown ++ shown) × (spent ≡ None)
 Publishes (Err end) at is_due a b spent = (is_due ≡ true) × IsEndOf end spent × ((b ≡ a) ⊎ ((m : Current) × (b.calls ≡ a.calls ++ Mapped at m ∷ []) × (b.shown ≡ a.shown)))
 
 -- a topology is loaded, after these calls of its line
@@ -113,7 +113,7 @@ pub record Loads (n : NetworkParts) (number : ℕ) (at : As) (g : Rows) (list : 
   pub answer : Result Outcome Refused
   pub asked : List Call
   pub calls : w.calls ≡ earlier ++ Did (event.Load at g) answer ∷ asked
-  pub shows : Shows at (is_done answer && is_element n at) list asked w.shown
+  pub shows : ShowsMapped at (is_done answer && is_element n at) list asked w.shown
   pub text : w.text ≡ answer_line number answer
 
 -- nothing is done, and this is said
@@ -144,7 +144,7 @@ ChangesFile n number at name file list w =
     ⊎ ((changes : List Change) × (text_in file ≡ Ok changes) × ((m : Current) × ChangesTo n number at name file changes list m w))
 
 -- the store failed at the file, or the file is too large, or it is read
-abbrev pub WithFile : Context → ℕ → List ℕ → Stage → Stage → (List ℕ → Work → Type 0) → Work → Type 0
+abbrev pub WithFile : Context → ℕ → List ℕ → Progress → Progress → (List ℕ → Work → Type 0) → Work → Type 0
 WithFile x number name a b Then w =
     (Rose a.faults b.faults × (b.failed_at ≡ name) × Says (read_fault_text number) w)
     ⊎ (IsLongFile x.files name change_file_most × Says (too_large_text number name) w)
@@ -153,7 +153,7 @@ WithFile x number name a b Then w =
 -- ---- a line
 
 -- what a line does that says this; None where it is outside the form
-abbrev pub DoesEvent : Context → ℕ → Option (Option LineEvent) → Stage → Stage → Work → Type 0
+abbrev pub DoesEvent : Context → ℕ → Option (Option LineEvent) → Progress → Progress → Work → Type 0
 DoesEvent x number None a b w = Says (bad_line_text number) w
 DoesEvent x number (Some None) a b w = Says [] w
 DoesEvent x number (Some (Some (line.Load at name))) a b w = WithFile x number name a b (λ file. LoadsFile x.network number at name file a.past.shown) w
@@ -161,11 +161,11 @@ DoesEvent x number (Some (Some (line.Change at name))) a b w = WithFile x number
 DoesEvent x number (Some (Some e)) a b w = Says (bad_line_text number) w
 
 -- what a line of this number does between two stages
-abbrev pub Does : Context → ℕ → List ℕ → Stage → Stage → Work → Type 0
+abbrev pub Does : Context → ℕ → List ℕ → Progress → Progress → Work → Type 0
 Does x number text a b w = MatchBool (nat_lt line_most (length text)) (Says (too_large_text number (codes "input")) w) (DoesEvent x number (line_in x.network text) a b w)
 
 -- it did all of it, and this is said
-pub record IsDone (x : Context) (number : ℕ) (text : List ℕ) (a b : Stage) (told : List ℕ) : Type 0 where
+pub record IsDone (x : Context) (number : ℕ) (text : List ℕ) (a b : Progress) (told : List ℕ) : Type 0 where
   pub work : Work
   pub does : Does x number text a b work
   pub calls : b.past.calls ≡ a.past.calls ++ work.calls
@@ -187,16 +187,16 @@ pub record IsPartOf (w : Work) (a b : Past) : Type 0 where
   pub shown : (b.shown ≡ a.shown) ⊎ (b.shown ≡ a.shown ++ w.shown)
 
 -- it did a first part of what it might have done
-pub record IsCut (x : Context) (number : ℕ) (text : List ℕ) (a b : Stage) : Type 0 where
+pub record IsCut (x : Context) (number : ℕ) (text : List ℕ) (a b : Progress) : Type 0 where
   pub work : Work
   pub does : Does x number text a b work
   pub part : IsPartOf work a.past b.past
 
 -- lines one after the other, the first of which has this number
-abbrev pub AreDone : Context → ℕ → List (List ℕ) → Stage → Stage → List ℕ → Type 0
+abbrev pub AreDone : Context → ℕ → List (List ℕ) → Progress → Progress → List ℕ → Type 0
 AreDone x number [] a b told = (b ≡ a) × (told ≡ [])
 AreDone x number (text ∷ texts) a b told =
-    (mid : Stage) × (first : List ℕ) × (later : List ℕ) × IsDone x number text a mid first × AreDone x (number + 1) texts mid b later × (told ≡ first ++ later)
+    (mid : Progress) × (first : List ℕ) × (later : List ℕ) × IsDone x number text a mid first × AreDone x (number + 1) texts mid b later × (told ≡ first ++ later)
 
 -- ---- all of it
 
@@ -208,7 +208,7 @@ abbrev pub ended : List ℕ → List ℕ
 ended line = line ++ 10 ∷ []
 
 -- The bytes are lines and a rest. The lines are done one after the other, less the CR before their LF; so many lines were done before and after.
-pub record AreTaken (x : Context) (before after : ℕ) (bytes rest : List ℕ) (a b : Stage) (told : List ℕ) : Type 0 where
+pub record AreTaken (x : Context) (before after : ℕ) (bytes rest : List ℕ) (a b : Progress) (told : List ℕ) : Type 0 where
   pub whole : List (List ℕ)
   pub each : All HasNoEnd whole
   pub is : bytes ≡ flat_map ended whole ++ rest
@@ -222,16 +222,16 @@ IsNext IsLast rest text =
     ⊎ (IsLast × HasNoEnd rest × (rest ≢ []) × (text ≡ rest))
 
 -- bytes behind the last LF are a line, and it is done
-abbrev pub EndsBy : Context → ℕ → List ℕ → Stage → Stage → Option (List ℕ) → Option (List ℕ) → List ℕ → Type 0
+abbrev pub EndsBy : Context → ℕ → List ℕ → Progress → Progress → Option (List ℕ) → Option (List ℕ) → List ℕ → Type 0
 EndsBy x number [] a b old new told = (b ≡ a) × Appends old new told
 EndsBy x number (c ∷ cs) a b old new told = (last : List ℕ) × IsDone x number (c ∷ cs) a b last × Appends old new (told ++ last)
 
 -- nothing more is done, or a part of what the next line asks for
-abbrev pub IsLeft : Context → ℕ → Type 0 → List ℕ → Stage → Stage → Type 0
+abbrev pub IsLeft : Context → ℕ → Type 0 → List ℕ → Progress → Progress → Type 0
 IsLeft x number IsLast rest a b = (b.past ≡ a.past) ⊎ ((text : List ℕ) × IsNext IsLast rest text × IsCut x number text a b)
 
 -- How it stops by an end behind the lines that are done, of which this is said: all of what is said is written, but where writing fails.
-abbrev pub Stops : Context → ℕ → Operated → Type 0 → List ℕ → Stage → Stage → Option (List ℕ) → Option (List ℕ) → List ℕ → Type 0
+abbrev pub Stops : Context → ℕ → Operated → Type 0 → List ℕ → Progress → Progress → Option (List ℕ) → Option (List ℕ) → List ℕ → Type 0
 Stops x number End IsLast rest a b old new told = HasNoEnd rest × EndsBy x number rest a b old new told
 Stops x number ReadFault IsLast rest a b old new told = HasNoEnd rest × (b ≡ a) × Appends old new told
 Stops x number Turns IsLast rest a b old new told = HasNoEnd rest × (b ≡ a) × Appends old new told
@@ -271,12 +271,12 @@ HasCause turns taken (Spent t) before after = Unit {0}
 HasCause turns taken NoMemory before after = Unit {0}
 
 -- The bytes that were taken from the input are lines and a rest. The lines are done in order, and what is said of them is written.
-pub record Operates (x : Context) (turns : ℕ) (end : Operated) (old new : Stage) (before after : Sides) : Type 0 where
+pub record Operates (x : Context) (turns : ℕ) (end : Operated) (old new : Progress) (before after : Sides) : Type 0 where
   pub taken : List ℕ
   pub took : Consumes before.input.bytes after.input.bytes taken
   pub rest : List ℕ
   pub done : ℕ
-  pub mid : Stage
+  pub mid : Progress
   pub told : List ℕ
   pub lines : AreTaken x 0 done taken rest old mid told
   pub stops : Stops x (done + 1) end (IsReadOut before.input.bytes after.input.bytes) rest mid new before.output.bytes after.output.bytes told

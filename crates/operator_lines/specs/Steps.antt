@@ -19,7 +19,7 @@ use Rattle.plant_model.specs.declared.outcome.Outcome.{Outcome}
 use Rattle.plant_model.specs.declared.outcome.Refused.{Refused}
 use Rattle.ted_watch.specs.declared.shown.Shown.{Shown}
 use Rattle.operator_lines.specs.Charts.{Call, Charted, Did, Mapped}
-use Rattle.operator_lines.specs.Operating.{AreTaken, ChangesFile, Context, HasCause, HasNoEnd, IsCut, IsDone, IsEndOf, IsPartOf, IsReadOut, LoadsFile, Past, Says, Sides, Stage, Stops, WithFile, Work, line_most}
+use Rattle.operator_lines.specs.Operating.{AreTaken, ChangesFile, Context, HasCause, HasNoEnd, IsCut, IsDone, IsEndOf, IsPartOf, IsReadOut, LoadsFile, Past, Says, Sides, Progress, Stops, WithFile, Work, line_most}
 use Rattle.operator_lines.specs.Texts.{bad_line_text, bad_network_text, read_fault_text, too_large_text}
 use Rattle.operator_lines.specs.declared.operating.Operated.{Operated}
 use Rattle.operator_lines.specs.declared.operating.Operated.TheVariants.{ReadFault, WriteFault, Turns, Spent, NoMemory}
@@ -96,7 +96,7 @@ DoesText true n number at name list file w = ChangesFile n number at name file l
 DoesText false n number at name list file w = LoadsFile n number at name file list w
 
 -- what a line does that names this file, or none
-abbrev pub DoesFile : Context → ℕ → Option (Bool × As × List ℕ) → Stage → Stage → Work → Type 0
+abbrev pub DoesFile : Context → ℕ → Option (Bool × As × List ℕ) → Progress → Progress → Work → Type 0
 DoesFile x number None a b w = Says (bad_line_text number) w
 DoesFile x number (Some f) a b w = WithFile x number f.2 a b (DoesText f.0 x.network number f.1 f.2 a.past.shown) w
 
@@ -136,7 +136,7 @@ abbrev pub begun : ℕ → List ℕ → Bool → Begun
 begun before bytes is_long = record { before = before; bytes = bytes; is_long = is_long }
 
 -- further bytes came behind a line that was begun, and the lines that end in them are done
-pub record TakesOn (x : Context) (piece line : List ℕ) (p q : Begun) (a b : Stage) (old new : Option (List ℕ)) : Type 0 where
+pub record TakesOn (x : Context) (piece line : List ℕ) (p q : Begun) (a b : Progress) (old new : Option (List ℕ)) : Type 0 where
   pub left : List ℕ
   pub is_begun : IsBegun q.bytes q.is_long left
   pub told : List ℕ
@@ -144,20 +144,20 @@ pub record TakesOn (x : Context) (piece line : List ℕ) (p q : Begun) (a b : St
   pub written : Appends old new told
 
 -- they end it
-pub record CutsOff (x : Context) (end : Operated) (IsLast : Type 0) (piece line : List ℕ) (before : ℕ) (a b : Stage) (old new : Option (List ℕ)) : Type 0 where
+pub record CutsOff (x : Context) (end : Operated) (IsLast : Type 0) (piece line : List ℕ) (before : ℕ) (a b : Progress) (old new : Option (List ℕ)) : Type 0 where
   pub rest : List ℕ
   pub done : ℕ
-  pub mid : Stage
+  pub mid : Progress
   pub told : List ℕ
   pub taken : AreTaken x before done (line ++ piece) rest a mid told
   pub stops : Stops x (done + 1) end IsLast rest mid b old new told
 
-abbrev pub Feeds : Context → List ℕ → Result (Unit {0}) Operated → List ℕ → Begun → Begun → Stage → Stage → Option (List ℕ) → Option (List ℕ) → Type 0
+abbrev pub Feeds : Context → List ℕ → Result (Unit {0}) Operated → List ℕ → Begun → Begun → Progress → Progress → Option (List ℕ) → Option (List ℕ) → Type 0
 Feeds x piece (Ok u) line p q a b old new = TakesOn x piece line p q a b old new
 Feeds x piece (Err end) line p q a b old new = CutsOff x end ⊥ piece line p.before a b old new
 
 -- the line that was begun ends, and a new one begins
-abbrev pub EndsLine : Context → Bool → List ℕ → Result (Unit {0}) Operated → Begun → Begun → Stage → Stage → Option (List ℕ) → Option (List ℕ) → Type 0
+abbrev pub EndsLine : Context → Bool → List ℕ → Result (Unit {0}) Operated → Begun → Begun → Progress → Progress → Option (List ℕ) → Option (List ℕ) → Type 0
 EndsLine x has_end line (Ok u) p q a b old new =
     (told : List ℕ) × IsDone x (p.before + 1) (text_of has_end line) a b told × Appends old new told × (q.before ≡ p.before + 1) × IsBegun q.bytes q.is_long []
 EndsLine x has_end line (Err WriteFault) p q a b old new =
@@ -172,7 +172,7 @@ Lasts (Err end) before after spent = Cuts end before after spent
 -- ---- turns
 
 -- a turn that took a piece
-pub record IsTurn (x : Context) (line : List ℕ) (p q : Begun) (a b : Stage) (before after : Sides) : Type 0 where
+pub record IsTurn (x : Context) (line : List ℕ) (p q : Begun) (a b : Progress) (before after : Sides) : Type 0 where
   pub piece : List ℕ
   pub took : Consumes before.input.bytes after.input.bytes piece
   pub some : 1 ≤ length piece
@@ -181,19 +181,19 @@ pub record IsTurn (x : Context) (line : List ℕ) (p q : Begun) (a b : Stage) (b
   pub wrote : before.output.faults ≤ after.output.faults
 
 -- a turn that ends it
-pub record IsLastTurn (x : Context) (end : Operated) (line : List ℕ) (number : ℕ) (a b : Stage) (before after : Sides) : Type 0 where
+pub record IsLastTurn (x : Context) (end : Operated) (line : List ℕ) (number : ℕ) (a b : Progress) (before after : Sides) : Type 0 where
   pub piece : List ℕ
   pub took : Consumes before.input.bytes after.input.bytes piece
   pub cuts : CutsOff x end (IsReadOut before.input.bytes after.input.bytes) piece line number a b before.output.bytes after.output.bytes
   pub ends : end ≢ Turns
   pub cause : HasCause 0 0 end before after
 
-abbrev pub IsTurned : Context → Result (Unit {0}) Operated → List ℕ → Begun → Begun → Stage → Stage → Sides → Sides → Type 0
+abbrev pub IsTurned : Context → Result (Unit {0}) Operated → List ℕ → Begun → Begun → Progress → Progress → Sides → Sides → Type 0
 IsTurned x (Ok u) line p q a b before after = IsTurn x line p q a b before after
 IsTurned x (Err end) line p q a b before after = IsLastTurn x end line p.before a b before after
 
 -- the input ended behind a line that was begun
-abbrev pub Finishes : Context → Operated → List ℕ → ℕ → Stage → Stage → Option (List ℕ) → Option (List ℕ) → ℕ → ℕ → Type 0
+abbrev pub Finishes : Context → Operated → List ℕ → ℕ → Progress → Progress → Option (List ℕ) → Option (List ℕ) → ℕ → ℕ → Type 0
 Finishes x end line before a b old new faults now =
     Stops x (before + 1) end (Unit {0}) line a b old new [] × (end ≡ WriteFault → Rose faults now) × (end ≢ ReadFault) × (end ≢ Turns)
 

@@ -3,7 +3,7 @@ ghost use Rattle.std.specs.Prelude.{◌≡◌, ◌≤◌, ◌∷◌, ◌++◌, [
 ghost use Rattle.te_deltas.specs.ChangeText.{change_file_most, text_in};
 ghost use Rattle.ted_watch.specs.Watch.{list_of, published};
 ghost use Rattle.operator_lines.specs.Charts.{Mapped};
-ghost use Rattle.operator_lines.specs.Operating.{AreOfElements, ChangesFile, Loads, LoadsFile, context, is_done, past, stage};
+ghost use Rattle.operator_lines.specs.Operating.{AreOfElements, ChangesFile, Loads, LoadsFile, context, is_done, past, progress};
 ghost use Rattle.operator_lines.specs.declared.operating.Operated.TheVariants.{NoMemory};
 ghost use Rattle.transcript.specs.Lines.{answer_line};
 ghost use Rattle.operator_lines.specs.Steps.{DoesFile, Goes, GoesFrom, IsFile, Refuses};
@@ -236,7 +236,7 @@ pub(crate) fn do_file<T: Store, D: Chart, R: Wait + Drop>(
 ) -> Result<(), Operated>
     requires elements { AreOfElements network.now (published publisher.old) }
     requires fresh { (D.charted desk.old).spent ≡ None }
-    ensures goes { Goes (DoesFile (context network.now (T.files store.old)) line.entry.number (Some (line.entry.is_change, line.entry.at, line.entry.name.now)) (stage (D.charted desk.old) (published publisher.old) (T.faults store.old) (T.failed_at store.old)) (stage (D.charted desk.new) (published publisher.new) (T.faults store.new) (T.failed_at store.new))) result (past (D.charted desk.old) (published publisher.old)) (past (D.charted desk.new) (published publisher.new)) (D.charted desk.new).spent into.old.items into.new.items }
+    ensures goes { Goes (DoesFile (context network.now (T.files store.old)) line.entry.number (Some (line.entry.is_change, line.entry.at, line.entry.name.now)) (progress (D.charted desk.old) (published publisher.old) (T.faults store.old) (T.failed_at store.old)) (progress (D.charted desk.new) (published publisher.new) (T.faults store.new) (T.failed_at store.new))) result (past (D.charted desk.old) (published publisher.old)) (past (D.charted desk.new) (published publisher.new)) (D.charted desk.new).spent into.old.items into.new.items }
     ensures elements { AreOfElements network.now (published publisher.new) }
     ensures list { list_of publisher.new ≡ list_of publisher.old }
     ensures later { T.faults store.old ≤ T.faults store.new }

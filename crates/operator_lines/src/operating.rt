@@ -1,7 +1,7 @@
 //! An operator's input is read to its end.
 ghost use Rattle.std.specs.Prelude.{◌≡◌, ◌↔◌, ℕ, List, None, Some};
 ghost use Rattle.ted_watch.specs.Watch.{list_of, published};
-ghost use Rattle.operator_lines.specs.Operating.{AreOfElements, Operates, context, side, sides, stage};
+ghost use Rattle.operator_lines.specs.Operating.{AreOfElements, Operates, context, side, sides, progress};
 ghost use Rattle.operator_lines.specs.Steps.{Finishes, IsBegun, IsTurned, Leaves, LeavesBy, begun as begun_of};
 ghost use Rattle.operator_lines.specs.declared.operating.Operated.TheVariants.{Spent as SpentAt};
 
@@ -59,7 +59,7 @@ fn finish<T: Store, K: Sink, D: Chart, R: Wait + Drop>(
 ) -> Operated
     requires elements { AreOfElements network.now (published publisher.old) }
     requires fresh { (D.charted desk.old).spent ≡ None }
-    ensures ends { (line : List ℕ) → IsBegun begun.old.bytes.items begun.old.is_long line → Finishes (context network.now (T.files store.old)) result line begun.old.before (stage (D.charted desk.old) (published publisher.old) (T.faults store.old) (T.failed_at store.old)) (stage (D.charted desk.new) (published publisher.new) (T.faults store.new) (T.failed_at store.new)) (K.written out.old) (K.written out.new) (K.faults out.old) (K.faults out.new) }
+    ensures ends { (line : List ℕ) → IsBegun begun.old.bytes.items begun.old.is_long line → Finishes (context network.now (T.files store.old)) result line begun.old.before (progress (D.charted desk.old) (published publisher.old) (T.faults store.old) (T.failed_at store.old)) (progress (D.charted desk.new) (published publisher.new) (T.faults store.new) (T.failed_at store.new)) (K.written out.old) (K.written out.new) (K.faults out.old) (K.faults out.new) }
     ensures leaves { Leaves result (D.charted desk.new).spent }
     ensures elements { AreOfElements network.now (published publisher.new) }
     ensures list { list_of publisher.new ≡ list_of publisher.old }
@@ -88,8 +88,8 @@ fn turn<T: Store, I: Source, K: Sink, D: Chart, R: Wait + Drop>(
     requires elements { AreOfElements network.now (published publisher.old) }
     requires fresh { (D.charted desk.old).spent ≡ None }
     ensures turned { (line : List ℕ) → IsBegun begun.old.bytes.items begun.old.is_long line → IsTurned (context network.now (T.files store.old)) result line (begun_of begun.old.before begun.old.bytes.items begun.old.is_long) (begun_of begun.new.before begun.new.bytes.items begun.new.is_long)
-        (stage (D.charted desk.old) (published publisher.old) (T.faults store.old) (T.failed_at store.old))
-        (stage (D.charted desk.new) (published publisher.new) (T.faults store.new) (T.failed_at store.new))
+        (progress (D.charted desk.old) (published publisher.old) (T.faults store.old) (T.failed_at store.old))
+        (progress (D.charted desk.new) (published publisher.new) (T.faults store.new) (T.failed_at store.new))
         (sides (side (I.left input.old) (I.faults input.old)) (side (K.written out.old) (K.faults out.old)))
         (sides (side (I.left input.new) (I.faults input.new)) (side (K.written out.new) (K.faults out.new))) }
     ensures leaves { LeavesBy result (D.charted desk.new).spent }
@@ -130,8 +130,8 @@ fn run<T: Store, I: Source, K: Sink, D: Chart, R: Wait + Drop>(
     requires elements { AreOfElements network.now (published publisher.old) }
     requires fresh { (D.charted desk.old).spent ≡ None }
     ensures operates { Operates (context network.now (T.files store.old)) turns result
-        (stage (D.charted desk.old) (published publisher.old) (T.faults store.old) (T.failed_at store.old))
-        (stage (D.charted desk.new) (published publisher.new) (T.faults store.new) (T.failed_at store.new))
+        (progress (D.charted desk.old) (published publisher.old) (T.faults store.old) (T.failed_at store.old))
+        (progress (D.charted desk.new) (published publisher.new) (T.faults store.new) (T.failed_at store.new))
         (sides (side (I.left input.old) (I.faults input.old)) (side (K.written out.old) (K.faults out.old)))
         (sides (side (I.left input.new) (I.faults input.new)) (side (K.written out.new) (K.faults out.new))) }
     ensures leaves { Leaves result (D.charted desk.new).spent }
@@ -169,8 +169,8 @@ pub fn operate<T: Store, I: Source, K: Sink, D: Chart, R: Wait + Drop>(
 ) -> Operated
     requires elements { AreOfElements network.now (published publisher.old) }
     ensures operates { Operates (context network.now (T.files store.old)) turns result
-        (stage (D.charted desk.old) (published publisher.old) (T.faults store.old) (T.failed_at store.old))
-        (stage (D.charted desk.new) (published publisher.new) (T.faults store.new) (T.failed_at store.new))
+        (progress (D.charted desk.old) (published publisher.old) (T.faults store.old) (T.failed_at store.old))
+        (progress (D.charted desk.new) (published publisher.new) (T.faults store.new) (T.failed_at store.new))
         (sides (side (I.left input.old) (I.faults input.old)) (side (K.written out.old) (K.faults out.old)))
         (sides (side (I.left input.new) (I.faults input.new)) (side (K.written out.new) (K.faults out.new))) }
     ensures spent { (t : ℕ) → (result ≡ SpentAt t) ↔ ((D.charted desk.new).spent ≡ Some t) }

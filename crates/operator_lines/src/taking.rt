@@ -1,7 +1,7 @@
 //! Bytes that come in are cut into lines, and each line is done.
 ghost use Rattle.std.specs.Prelude.{◌≡◌, ◌∷◌, [], ℕ, List, None};
 ghost use Rattle.ted_watch.specs.Watch.{list_of, published};
-ghost use Rattle.operator_lines.specs.Operating.{AreOfElements, context, stage};
+ghost use Rattle.operator_lines.specs.Operating.{AreOfElements, context, progress};
 ghost use Rattle.operator_lines.specs.Steps.{EndsLine, Feeds, IsBegun, Lasts, begun as begun_of};
 
 use crate::charts::Chart;
@@ -26,7 +26,7 @@ pub(crate) fn end_line<T: Store, K: Sink, D: Chart, R: Wait + Drop>(
 ) -> Result<(), Operated>
     requires elements { AreOfElements network.now (published publisher.old) }
     requires fresh { (D.charted desk.old).spent ≡ None }
-    ensures ends { (line : List ℕ) → IsBegun begun.old.bytes.items begun.old.is_long line → EndsLine (context network.now (T.files store.old)) has_end line result (begun_of begun.old.before begun.old.bytes.items begun.old.is_long) (begun_of begun.new.before begun.new.bytes.items begun.new.is_long) (stage (D.charted desk.old) (published publisher.old) (T.faults store.old) (T.failed_at store.old)) (stage (D.charted desk.new) (published publisher.new) (T.faults store.new) (T.failed_at store.new)) (K.written out.old) (K.written out.new) }
+    ensures ends { (line : List ℕ) → IsBegun begun.old.bytes.items begun.old.is_long line → EndsLine (context network.now (T.files store.old)) has_end line result (begun_of begun.old.before begun.old.bytes.items begun.old.is_long) (begun_of begun.new.before begun.new.bytes.items begun.new.is_long) (progress (D.charted desk.old) (published publisher.old) (T.faults store.old) (T.failed_at store.old)) (progress (D.charted desk.new) (published publisher.new) (T.faults store.new) (T.failed_at store.new)) (K.written out.old) (K.written out.new) }
     ensures lasts { Lasts result (K.faults out.old) (K.faults out.new) (D.charted desk.new).spent }
     ensures elements { AreOfElements network.now (published publisher.new) }
     ensures list { list_of publisher.new ≡ list_of publisher.old }
@@ -56,7 +56,7 @@ fn take_byte<T: Store, K: Sink, D: Chart, R: Wait + Drop>(
 ) -> Result<(), Operated>
     requires elements { AreOfElements network.now (published publisher.old) }
     requires fresh { (D.charted desk.old).spent ≡ None }
-    ensures feeds { (line : List ℕ) → IsBegun begun.old.bytes.items begun.old.is_long line → Feeds (context network.now (T.files store.old)) (byte ∷ []) result line (begun_of begun.old.before begun.old.bytes.items begun.old.is_long) (begun_of begun.new.before begun.new.bytes.items begun.new.is_long) (stage (D.charted desk.old) (published publisher.old) (T.faults store.old) (T.failed_at store.old)) (stage (D.charted desk.new) (published publisher.new) (T.faults store.new) (T.failed_at store.new)) (K.written out.old) (K.written out.new) }
+    ensures feeds { (line : List ℕ) → IsBegun begun.old.bytes.items begun.old.is_long line → Feeds (context network.now (T.files store.old)) (byte ∷ []) result line (begun_of begun.old.before begun.old.bytes.items begun.old.is_long) (begun_of begun.new.before begun.new.bytes.items begun.new.is_long) (progress (D.charted desk.old) (published publisher.old) (T.faults store.old) (T.failed_at store.old)) (progress (D.charted desk.new) (published publisher.new) (T.faults store.new) (T.failed_at store.new)) (K.written out.old) (K.written out.new) }
     ensures lasts { Lasts result (K.faults out.old) (K.faults out.new) (D.charted desk.new).spent }
     ensures elements { AreOfElements network.now (published publisher.new) }
     ensures list { list_of publisher.new ≡ list_of publisher.old }
@@ -82,7 +82,7 @@ pub(crate) fn take_piece<T: Store, K: Sink, D: Chart, R: Wait + Drop>(
 ) -> Result<(), Operated>
     requires elements { AreOfElements network.now (published publisher.old) }
     requires fresh { (D.charted desk.old).spent ≡ None }
-    ensures feeds { (line : List ℕ) → IsBegun begun.old.bytes.items begun.old.is_long line → Feeds (context network.now (T.files store.old)) piece.now result line (begun_of begun.old.before begun.old.bytes.items begun.old.is_long) (begun_of begun.new.before begun.new.bytes.items begun.new.is_long) (stage (D.charted desk.old) (published publisher.old) (T.faults store.old) (T.failed_at store.old)) (stage (D.charted desk.new) (published publisher.new) (T.faults store.new) (T.failed_at store.new)) (K.written out.old) (K.written out.new) }
+    ensures feeds { (line : List ℕ) → IsBegun begun.old.bytes.items begun.old.is_long line → Feeds (context network.now (T.files store.old)) piece.now result line (begun_of begun.old.before begun.old.bytes.items begun.old.is_long) (begun_of begun.new.before begun.new.bytes.items begun.new.is_long) (progress (D.charted desk.old) (published publisher.old) (T.faults store.old) (T.failed_at store.old)) (progress (D.charted desk.new) (published publisher.new) (T.faults store.new) (T.failed_at store.new)) (K.written out.old) (K.written out.new) }
     ensures lasts { Lasts result (K.faults out.old) (K.faults out.new) (D.charted desk.new).spent }
     ensures elements { AreOfElements network.now (published publisher.new) }
     ensures list { list_of publisher.new ≡ list_of publisher.old }

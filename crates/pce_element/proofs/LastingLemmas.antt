@@ -10,7 +10,7 @@ use Rattle.request_table.specs.Pending.{Pending, ArePending, NumbersRise, item_o
 use Rattle.request_table.specs.Lends.{with_item}
 use Rattle.request_table.proofs.PendingLemmas.{NumbersRise-last, NumbersRise-remove}
 use Rattle.pce_common.specs.plant_model.Element as element
-use Rattle.pce_common.specs.plant_model.Element.{Item, Place, Row, Stage, is_ready, at_stage, down_of, kept, stays}
+use Rattle.pce_common.specs.plant_model.Element.{Item, ElementSettings, Row, Stage, is_ready, at_stage, down_of, kept, stays}
 use Rattle.pce_common.specs.plant_model.Plant.{Pin, Segment}
 use Rattle.pce_element.specs.declared.change.Change.{Change}
 use Rattle.pce_element.specs.declared.change.Change.TheVariants.{Nothing, Opens, Readies, Ends, Solves}
@@ -236,7 +236,7 @@ down_last {P} {S} s t peer are is = record {
 }
 
 pub lasts_with : LastsWithRequests
-lasts_with a b are place last = jobs_last a b are.numbers (ap (λ (x : Place). x.own) place) last.requests
+lasts_with a b are place last = jobs_last a b are.numbers (ap (λ (x : ElementSettings). x.own) place) last.requests
 
 pub still_last : LastsStill
 still_last a b are place same = lasts_with a b are place (record { requests = pending_same a.losing.element.pending b.losing.element.pending same })

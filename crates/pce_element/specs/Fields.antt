@@ -6,7 +6,7 @@ use Rattle.std.specs.declared.collections.VecDeque.{VecDeque}
 use Rattle.dom_base.specs.Room.{Room}
 use Rattle.path_keys.specs.Keys.{Keys}
 use Rattle.pce_common.specs.plant_model.declared.output.Lost.{Lost}
-use Rattle.pce_common.specs.plant_model.Element.{Element, Place, Way}
+use Rattle.pce_common.specs.plant_model.Element.{Element, ElementSettings, Way}
 use Rattle.pce_element.specs.Pinned.{Pinned}
 use Rattle.pce_element.specs.Seen.{Seen, Spare}
 
@@ -18,7 +18,7 @@ abbrev pub room_of : {P : Type 0} {S : Type 0} → Pinned P → Room (Keys S) �
 room_of requests keys lost =
     record { requests = min requests.spare (deque_capacity lost - (deque_len lost + length requests.pending.rows)); keys = keys.spare }
 
-abbrev pub seen_of : {P : Type 0} {S : Type 0} → Place → Pinned P → Room (Keys S) → List Way → VecDeque Lost Global → Seen P S
+abbrev pub seen_of : {P : Type 0} {S : Type 0} → ElementSettings → Pinned P → Room (Keys S) → List Way → VecDeque Lost Global → Seen P S
 seen_of place requests keys ways lost = record {
   place = place;
   current = requests.current;

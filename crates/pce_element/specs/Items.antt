@@ -7,13 +7,13 @@ use Rattle.pce_element.specs.declared.accepted.Stage.{Stage}
 use Rattle.pce_element.specs.declared.accepted.Stage.TheVariants.{Waits, Ready}
 use Rattle.pce_element.specs.declared.accepted.Opening.{Opening}
 
-abbrev pub stage_of : Stage → element.Stage
-stage_of (Waits on id) = element.Waits on id
-stage_of (Ready branches) = element.Ready branches
+abbrev pub played_network : Stage → element.Stage
+played_network (Waits on id) = element.Waits on id
+played_network (Ready branches) = element.Ready branches
 
 -- a request at its begin, with its pin
 abbrev pub new_item : {P : Type 0} → Opening → P → Item P
-new_item o pin = record { class = o.class; flags = o.flags; wanted = o.wanted; sequence = o.sequence; pin = pin; stage = stage_of o.stage }
+new_item o pin = record { class = o.class; flags = o.flags; wanted = o.wanted; sequence = o.sequence; pin = pin; stage = played_network o.stage }
 
 -- the branches with which a request is ready
 abbrev pub branches_at : element.Stage → Option (List Branch)

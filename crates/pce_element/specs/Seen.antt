@@ -2,7 +2,7 @@
 use Rattle.std.specs.Prelude.{◌≡◌, ℕ, List, [], ◌++◌, map}
 use Rattle.dom_base.specs.declared.names.As.{As}
 use Rattle.pce_common.specs.plant_model.declared.route.Route.{Route}
-use Rattle.pce_common.specs.plant_model.Element.{Element, Place, Losing}
+use Rattle.pce_common.specs.plant_model.Element.{Element, ElementSettings, Losing}
 use Rattle.pce_common.specs.plant_model.Settings.{outer_way}
 use Rattle.pce_common.specs.Ways.{way_of}
 
@@ -14,7 +14,7 @@ pub record Spare : Type 0 where
 -- Its settings, what a request would pin, what it holds, and the lost requests that it has yet to hand out. P is what a pin
 -- is, and S what a key stands for.
 pub record Seen (P : Type 0) (S : Type 0) : Type 0 where
-  pub place : Place
+  pub place : ElementSettings
   pub current : P
   pub losing : Losing P S
   pub room : Spare
@@ -41,6 +41,6 @@ new_element life links routes = record {
 }
 
 -- The first pin of a domain is that of a world that has just begun.
-abbrev pub IsNew : {P : Type 0} {S : Type 0} → (As → P) → Place → ℕ → List As → Seen P S → Type 0
+abbrev pub IsNew : {P : Type 0} {S : Type 0} → (As → P) → ElementSettings → ℕ → List As → Seen P S → Type 0
 IsNew first place life links s =
     s ≡ record { place = place; current = first place.own; losing = record { element = new_element life links place.routes; lost = [] }; room = s.room }

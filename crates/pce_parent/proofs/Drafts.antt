@@ -8,7 +8,7 @@ use Rattle.request_table.specs.declared.held.Held.{Held}
 use Rattle.request_table.specs.Pending.{Pending, ArePending, item_of}
 use Rattle.request_table.specs.Lends.{written_of}
 use Rattle.pce_common.specs.plant_model.declared.upper.ChildRow.{ChildRow}
-use Rattle.pce_common.specs.plant_model.Parent.{Parent, Given, Asking, AskingRow, Wait, among, gathered, gathers, rows_at, waiting}
+use Rattle.pce_common.specs.plant_model.Parent.{Parent, ParentTaken, Asking, AskingRow, Wait, among, gathered, gathers, rows_at, waiting}
 use Rattle.pce_parent.specs.declared.change.Change.{Change}
 use Rattle.pce_parent.specs.declared.change.Change.TheVariants.{Gathers, Ends}
 use Rattle.pce_parent.specs.declared.change.Draft.{Draft}
@@ -20,7 +20,7 @@ use Rattle.pce_parent.specs.Seen.{Seen}
 use Rattle.pce_common.proofs.HeldRows.{first_in, later_in, in_found}
 
 module _ (s : Seen) (d : Draft) where
-  of_change : (change : Change) (given : Given) → d.change ≡ change → Fits s change → solved_in change ≡ None → changed change s.losing.parent ≡ given.parent → d.outputs ≡ given.outputs → IsDraft s given d
+  of_change : (change : Change) (given : ParentTaken) → d.change ≡ change → Fits s change → solved_in change ≡ None → changed change s.losing.parent ≡ given.parent → d.outputs ≡ given.outputs → IsDraft s given d
   of_change change given is fits unsolved parent outputs = record {
     fits = subst (λ (c : Change). Fits s c) (sym is) fits;
     unsolved = ap solved_in is ∙ unsolved;
@@ -28,8 +28,8 @@ module _ (s : Seen) (d : Draft) where
     outputs = outputs;
   }
 
-  pub these_end : (e : Ending) (given : Given) → d.change ≡ Ends e.numbers.items → d.outputs ≡ e.outputs → given_by s.losing.parent e ≡ given → IsDraft s given d
-  these_end e given is outputs ends = of_change (Ends e.numbers.items) given is tt refl (ap (λ (g : Given). g.parent) ends) (outputs ∙ ap (λ (g : Given). g.outputs) ends)
+  pub these_end : (e : Ending) (given : ParentTaken) → d.change ≡ Ends e.numbers.items → d.outputs ≡ e.outputs → given_by s.losing.parent e ≡ given → IsDraft s given d
+  these_end e given is outputs ends = of_change (Ends e.numbers.items) given is tt refl (ap (λ (g : ParentTaken). g.parent) ends) (outputs ∙ ap (λ (g : ParentTaken). g.outputs) ends)
 
 -- ---- a request that waits
 

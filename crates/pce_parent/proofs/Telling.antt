@@ -6,7 +6,7 @@ use Rattle.request_table.specs.Pending.{Pending, ArePending, closed_of, number_o
 use Rattle.pce_common.specs.plant_model.declared.output.Output.{Output}
 use Rattle.pce_common.specs.plant_model.Writing.{busy}
 use Rattle.pce_common.specs.plant_model.Taking.{error_answer}
-use Rattle.pce_common.specs.plant_model.Parent.{Parent, Given, Asking, AskingRow, answered, cancelled, ended, silent, take_busy, take_cancel, take_failure, told_busy, told_error, waiting}
+use Rattle.pce_common.specs.plant_model.Parent.{Parent, ParentTaken, Asking, AskingRow, answered, cancelled, ended, silent, take_busy, take_cancel, take_failure, told_busy, told_error, waiting}
 use Rattle.pce_parent.specs.declared.ending.Ending.{Ending}
 use Rattle.pce_parent.specs.declared.sought.Sought.TheVariants.{Asked, Awaited}
 use Rattle.pce_parent.specs.Changes.{all_closed, all_ended}
@@ -16,33 +16,33 @@ use Rattle.pce_parent.proofs.Gone.{asked_left, closed_more, waiting_left}
 
 -- ---- the first, and none
 
-pub at_first : (e : Ending) (k : Parent) (f : Parent → Given) → e.numbers.items ≡ [] → e.outputs ≡ [] → then_given (given_by k e) f ≡ f k
+pub at_first : (e : Ending) (k : Parent) (f : Parent → ParentTaken) → e.numbers.items ≡ [] → e.outputs ≡ [] → then_given (given_by k e) f ≡ f k
 at_first e k f none nothing =
-    ap (λ (ns : List ℕ). let g : Given = record { parent = all_ended ns k; outputs = e.outputs } in then_given g f) none
-    ∙ ap (λ (os : List Output). let g : Given = record { parent = k; outputs = os } in then_given g f) nothing
+    ap (λ (ns : List ℕ). let g : ParentTaken = record { parent = all_ended ns k; outputs = e.outputs } in then_given g f) none
+    ∙ ap (λ (os : List Output). let g : ParentTaken = record { parent = k; outputs = os } in then_given g f) nothing
 
-pub silent_next : (g : Given) → then_given g silent ≡ g
-silent_next g = ap (λ (os : List Output). let n : Given = record { parent = g.parent; outputs = os } in n) (append-nil g.outputs)
+pub silent_next : (g : ParentTaken) → then_given g silent ≡ g
+silent_next g = ap (λ (os : List Output). let n : ParentTaken = record { parent = g.parent; outputs = os } in n) (append-nil g.outputs)
 
 -- ---- one that ends
 
 pub ends_more : (old new : Ending) (n : ℕ) → new.numbers.items ≡ old.numbers.items ++ n ∷ [] → new.outputs ≡ old.outputs → (k : Parent) → GoesOn k (λ q. silent (ended n q)) old new
 ends_more old new n numbers outputs k =
-    ap (λ (ns : List ℕ). let g : Given = record { parent = record k { pending = all_closed ns k.pending }; outputs = new.outputs } in g) numbers
-    ∙ ap (λ (q : Pending Asking). let g : Given = record { parent = record k { pending = q }; outputs = new.outputs } in g) (closed_more old.numbers.items n k.pending)
-    ∙ ap (λ (os : List Output). let g : Given = record { parent = record k { pending = closed_of (all_closed old.numbers.items k.pending) n }; outputs = os } in g)
-    (outputs ∙ sym (ap (λ (g : Given). g.outputs) (silent_next (given_by k old))))
+    ap (λ (ns : List ℕ). let g : ParentTaken = record { parent = record k { pending = all_closed ns k.pending }; outputs = new.outputs } in g) numbers
+    ∙ ap (λ (q : Pending Asking). let g : ParentTaken = record { parent = record k { pending = q }; outputs = new.outputs } in g) (closed_more old.numbers.items n k.pending)
+    ∙ ap (λ (os : List Output). let g : ParentTaken = record { parent = record k { pending = closed_of (all_closed old.numbers.items k.pending) n }; outputs = os } in g)
+    (outputs ∙ sym (ap (λ (g : ParentTaken). g.outputs) (silent_next (given_by k old))))
 
 pub answers_more : (old new : Ending) (h : AskingRow) (m : Message) → new.numbers.items ≡ old.numbers.items ++ h.0 ∷ [] → new.outputs ≡ old.outputs ++ record { to = h.1.key.peer; message = m } ∷ [] → (k : Parent) → GoesOn k (answered h m) old new
 answers_more old new h m numbers outputs k =
-    ap (λ (ns : List ℕ). let g : Given = record { parent = record k { pending = all_closed ns k.pending }; outputs = new.outputs } in g) numbers
-    ∙ ap (λ (q : Pending Asking). let g : Given = record { parent = record k { pending = q }; outputs = new.outputs } in g) (closed_more old.numbers.items h.0 k.pending)
-    ∙ ap (λ (os : List Output). let g : Given = record { parent = record k { pending = closed_of (all_closed old.numbers.items k.pending) h.0 }; outputs = os } in g) outputs
+    ap (λ (ns : List ℕ). let g : ParentTaken = record { parent = record k { pending = all_closed ns k.pending }; outputs = new.outputs } in g) numbers
+    ∙ ap (λ (q : Pending Asking). let g : ParentTaken = record { parent = record k { pending = q }; outputs = new.outputs } in g) (closed_more old.numbers.items h.0 k.pending)
+    ∙ ap (λ (os : List Output). let g : ParentTaken = record { parent = record k { pending = closed_of (all_closed old.numbers.items k.pending) h.0 }; outputs = os } in g) outputs
 
 -- ---- what is done to an id
 
-then_at : (g : Given) (f h : Parent → Given) → f g.parent ≡ h g.parent → then_given g f ≡ then_given g h
-then_at g f h same = ap (λ (n : Given). let next : Given = record { parent = n.parent; outputs = g.outputs ++ n.outputs } in next) same
+then_at : (g : ParentTaken) (f h : Parent → ParentTaken) → f g.parent ≡ h g.parent → then_given g f ≡ then_given g h
+then_at g f h same = ap (λ (n : ParentTaken). let next : ParentTaken = record { parent = n.parent; outputs = g.outputs ++ n.outputs } in next) same
 
 module _ (k : Parent) (are : ArePending k.pending) (p : Peer) (rp : ℕ × ℕ) (e : Ending) where
   left : Parent

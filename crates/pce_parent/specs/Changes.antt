@@ -4,7 +4,7 @@ use Rattle.dom_base.specs.declared.names.Peer.{Peer}
 use Rattle.request_table.specs.Pending.{Pending, number_of, item_of, is_full, opened_of, closed_of}
 use Rattle.request_table.specs.Lends.{written_of}
 use Rattle.pce_common.specs.plant_model.declared.upper.ChildRow.{ChildRow}
-use Rattle.pce_common.specs.plant_model.Parent.{Parent, Asking, Given, among, ended, without}
+use Rattle.pce_common.specs.plant_model.Parent.{Parent, Asking, ParentTaken, among, ended, without}
 use Rattle.pce_parent.specs.declared.change.Change.{Change}
 use Rattle.pce_parent.specs.declared.change.Change.TheVariants.{Nothing, Opens, Gathers, Ends, Solves}
 use Rattle.pce_parent.specs.declared.change.Draft.{Draft}
@@ -71,7 +71,7 @@ HasRoom s (Ends numbers) = Unit {0}
 HasRoom s (Solves solved) = Unit {0}
 
 -- A draft is one of this parent, and makes this of it.
-pub record IsDraft (s : Seen) (given : Given) (d : Draft) : Type 0 where
+pub record IsDraft (s : Seen) (given : ParentTaken) (d : Draft) : Type 0 where
   pub fits : Fits s d.change
   pub unsolved : solved_in d.change ≡ None
   pub parent : changed d.change s.losing.parent ≡ given.parent

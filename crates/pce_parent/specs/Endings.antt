@@ -1,16 +1,16 @@
 -- Requests that end one after the other.
 use Rattle.std.specs.Prelude.{◌≡◌, ◌++◌, List, [], ◌∷◌, Option, Some, None}
-use Rattle.pce_common.specs.plant_model.Parent.{Parent, Given}
+use Rattle.pce_common.specs.plant_model.Parent.{Parent, ParentTaken}
 use Rattle.pce_parent.specs.Changes.{all_ended}
 use Rattle.pce_parent.specs.declared.ending.Ending.{Ending}
 
 -- what is made of a parent when these requests end, and what is said
-abbrev pub given_by : Parent → Ending → Given
+abbrev pub given_by : Parent → Ending → ParentTaken
 given_by k e = record { parent = all_ended e.numbers.items k; outputs = e.outputs }
 
 -- what is done next
-abbrev pub then_given : Given → (Parent → Given) → Given
+abbrev pub then_given : ParentTaken → (Parent → ParentTaken) → ParentTaken
 then_given g f = let next = f g.parent in record { parent = next.parent; outputs = g.outputs ++ next.outputs }
 
-abbrev pub GoesOn : Parent → (Parent → Given) → Ending → Ending → Type 0
+abbrev pub GoesOn : Parent → (Parent → ParentTaken) → Ending → Ending → Type 0
 GoesOn k f old new = given_by k new ≡ then_given (given_by k old) f

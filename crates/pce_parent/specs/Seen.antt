@@ -6,7 +6,7 @@ use Rattle.request_table.specs.declared.held.Held.{Held}
 use Rattle.pce_common.specs.plant_model.declared.TheConstants.{PARENT_PENDING_MAX}
 use Rattle.pce_common.specs.plant_model.declared.upper.BorderJob.{BorderJob}
 use Rattle.pce_common.specs.plant_model.RealWire.{wire}
-use Rattle.pce_common.specs.plant_model.Parent.{Parent, Family, Given, Losing, Asking, is_ready, job_of, commit}
+use Rattle.pce_common.specs.plant_model.Parent.{Parent, Family, ParentTaken, Losing, Asking, is_ready, job_of, commit}
 use Rattle.pce_parent.specs.Solution.{BorderSolution}
 use Rattle.pce_common.specs.Ways.{way_of}
 
@@ -44,9 +44,9 @@ abbrev pub job_at : Seen → ℕ → Option BorderJob
 job_at s n = job_when s.family n (lookup (nat_eq n) s.losing.parent.pending.rows)
 
 -- what comes of a solved job, where its request is ready
-abbrev pub committed_when : BorderSolution → Parent → Option (Held Asking) → Option Given
+abbrev pub committed_when : BorderSolution → Parent → Option (Held Asking) → Option ParentTaken
 committed_when solved k None = None
 committed_when solved k (Some h) = cond (is_ready h.item) (Some (commit wire (solved.job.number, h) solved.answer k)) None
 
-abbrev pub committed : BorderSolution → Parent → Option Given
+abbrev pub committed : BorderSolution → Parent → Option ParentTaken
 committed solved k = committed_when solved k (lookup (nat_eq solved.job.number) k.pending.rows)

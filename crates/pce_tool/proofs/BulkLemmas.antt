@@ -9,7 +9,7 @@ use Rattle.plant_text.specs.declared.line.LineEvent.{LineEvent}
 use Rattle.plant_text.specs.declared.line.LineEvent.TheVariants as line
 use Rattle.plant_text.specs.declared.settings.NetworkParts.{NetworkParts}
 use Rattle.client_laws.specs.script_laws.plant_model.Events.{Answered}
-use Rattle.client_laws.specs.script_laws.plant_play.Playing.{Cue, Stage}
+use Rattle.client_laws.specs.script_laws.plant_play.Playing.{Cue, PlayedNetwork}
 use Rattle.client_laws.specs.script_laws.plant_play.Scripts.{AllPlayed}
 use Rattle.client_laws.specs.script_laws.plant_play.Turns.{Turn, entries_of}
 use Rattle.client_laws.specs.script_laws.Headline.{HasIdsLeft, all_octets}
@@ -51,19 +51,19 @@ drain_feeds at = one_line (line.Drain (Some at) 0) [] 0 0 (tt, omega arith) no_l
 -- ---- lines that are played
 
 -- some lines with these events, which feed so many octets at most
-record IsScript (old new : Stage) (turns : List Turn) (most : ℕ) : Type 0 where
+record IsScript (old new : PlayedNetwork) (turns : List Turn) (most : ℕ) : Type 0 where
   cues : List Cue
   told : List ℕ
   feeds : FeedOctets cues
   few : all_octets cues ≤ most
   played : AllPlayed old cues turns told new
 
-of_lines : (files : Option Files) (es : List LineEvent) (old new : Stage) (most : ℕ) → FeedAll es most → (p : ArePlayed files es old new) → IsScript old new p.turns most
+of_lines : (files : Option Files) (es : List LineEvent) (old new : PlayedNetwork) (most : ℕ) → FeedAll es most → (p : ArePlayed files es old new) → IsScript old new p.turns most
 of_lines files es old new most feeds p =
     let fed = feeds files p.cues p.are_cues in
     record { cues = p.cues; told = p.told; feeds = fed.0; few = fed.1; played = p.played }
 
-of_played : (files : Option Files) (e : LineEvent) (old : Stage) (answer : Answered) (new : Stage) (most : ℕ) → FeedAll (e ∷ []) most → (p : IsPlayed files e old answer new) → IsScript old new p.turns most
+of_played : (files : Option Files) (e : LineEvent) (old : PlayedNetwork) (answer : Answered) (new : PlayedNetwork) (most : ℕ) → FeedAll (e ∷ []) most → (p : IsPlayed files e old answer new) → IsScript old new p.turns most
 of_played files e old answer new most feeds p =
     let fed = feeds files (p.cue ∷ []) (p.is_cue, tt) in
     record {
@@ -89,7 +89,7 @@ octets_append : (cs ds : List Cue) → all_octets (cs ++ ds) ≡ all_octets cs +
 octets_append [] ds = omega arith
 octets_append (c ∷ cs) ds = omega (arith, octets_append cs ds)
 
-both : (old mid new : Stage) (turns more : List Turn) (a b : ℕ) → IsScript old mid turns a → IsScript mid new more b → IsScript old new (turns ++ more) (a + b)
+both : (old mid new : PlayedNetwork) (turns more : List Turn) (a b : ℕ) → IsScript old mid turns a → IsScript mid new more b → IsScript old new (turns ++ more) (a + b)
 both old mid new turns more a b p q = record {
   cues = p.cues ++ q.cues;
   told = p.told ++ q.told;
@@ -98,14 +98,14 @@ both old mid new turns more a b p q = record {
   played = all_append old mid new p.cues q.cues turns more p.told q.told p.played q.played;
 }
 
-exchange_script : (files : Option Files) (q : Question) (old new : Stage) (came : List ℕ) → length q.sequence ≤ sequence_most → (x : Exchanges files client q old came new) → IsScript old new (turns_of x) 132
+exchange_script : (files : Option Files) (q : Question) (old new : PlayedNetwork) (came : List ℕ) → length q.sequence ≤ sequence_most → (x : Exchanges files client q old came new) → IsScript old new (turns_of x) 132
 exchange_script files q old new came few x =
     let drains = x.receives.drains in
     both old x.asked new x.lines.turns drains.turns 132 0
     (of_lines files (asking_lines client q) old x.asked 132 (asking_feeds client q x.octets few) x.lines)
     (of_played files (line.Drain (Some client) 0) x.asked x.receives.answer new 0 (drain_feeds client) drains)
 
-asks_script : (files : Option Files) (d : Demand) (ks : List ℕ) (old new : Stage) (received : List (List ℕ)) (turns : List Turn) → AsksAll files client (map (question d) ks) old received turns new →
+asks_script : (files : Option Files) (d : Demand) (ks : List ℕ) (old new : PlayedNetwork) (received : List (List ℕ)) (turns : List Turn) → AsksAll files client (map (question d) ks) old received turns new →
     IsScript old new turns (132 * length ks)
 asks_script files d [] old new received turns p = record {
   cues = [];

@@ -21,7 +21,7 @@ use Rattle.client_laws.proofs.script_laws.texts_in_range.Lengths.{all_lengths_ap
 use Rattle.client_laws.specs.script_laws.plant_model.Laws.{IsNetwork}
 use Rattle.client_laws.specs.script_laws.plant_model.RealWire.{wire}
 use Rattle.client_laws.specs.script_laws.plant_laws.Worlds.{DisclosedRun}
-use Rattle.client_laws.specs.script_laws.plant_play.Playing.{Cue, IsNewStage, Stage}
+use Rattle.client_laws.specs.script_laws.plant_play.Playing.{Cue, IsNewNetwork, PlayedNetwork}
 use Rattle.client_laws.specs.script_laws.plant_play.Scripts.{AllPlayed}
 use Rattle.client_laws.specs.script_laws.plant_play.Turns.{Turn, entries_of}
 use Rattle.client_laws.specs.script_laws.Disclosing.{shown_trace}
@@ -74,7 +74,7 @@ script_feeds files n (l ∷ ls) (c ∷ cs) are =
     let others = script_feeds files n ls cs are.1 in
     (All-cons (λ (x : Cue). FeedsOctets x.event) c cs one.0 others.0, omega (arith, one.1, others.1, all_lengths_cons l ls))
 
-shown_disclosed : (n : NetworkParts) (new end : Stage) (cs : List Cue) (turns : List Turn) (told : List ℕ) → IsNewStage n new → FeedOctets cs → AllPlayed new cs turns told end → ShowsRows cs →
+shown_disclosed : (n : NetworkParts) (new end : PlayedNetwork) (cs : List Cue) (turns : List Turn) (told : List ℕ) → IsNewNetwork n new → FeedOctets cs → AllPlayed new cs turns told end → ShowsRows cs →
     DisclosedRun wire n (entries_of turns []) (shown_trace turns []) end.state
 shown_disclosed n new end [] turns told is octets all on = absurd on
 shown_disclosed n new end (c ∷ cs) turns told is octets all on = shown_from_the_first n new end c cs turns told is octets on all

@@ -10,7 +10,7 @@ use Rattle.plant_text.specs.declared.settings.NetworkParts.{NetworkParts}
 use Rattle.plant_text.specs.Networks.{with_path}
 use Rattle.plant_text.specs.Reads.{IsFaulty}
 use Rattle.plant_text.specs.Settings.{is_element}
-use Rattle.client_laws.specs.script_laws.plant_play.Playing.{Stage}
+use Rattle.client_laws.specs.script_laws.plant_play.Playing.{PlayedNetwork}
 use Rattle.plant_bulk.specs.plant_script.transcript.declared.stop.Stop.{Stop}
 use Rattle.plant_bulk.specs.plant_script.transcript.declared.stop.Stop.TheVariants as stop
 use Rattle.plant_bulk.specs.plant_script.Scripts.{around}
@@ -112,7 +112,7 @@ pub path_told : (w : World) (net : List ℕ) (n : NetworkParts) → HasNetwork w
 path_told w net n has r element received text asks is s fin =
     inr (inr (record { network = n; has = has; element = element; ends = told w n r received text asks is s fin }))
 
-loads_before : (files : Option Files) (ts : List (As × List ℕ)) (old : Stage) (f0 f1 f2 : ℕ) (failed : List ℕ) → f0 ≤ f1 → (why : Stop) →
+loads_before : (files : Option Files) (ts : List (As × List ℕ)) (old : PlayedNetwork) (f0 f1 f2 : ℕ) (failed : List ℕ) → f0 ≤ f1 → (why : Stop) →
     StopsAtFile files ts old (f1, f2) failed why → StopsAtFile files ts old (f0, f2) failed why
 loads_before files ts old f0 f1 f2 failed le why is = record {
   before = is.before;

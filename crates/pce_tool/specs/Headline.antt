@@ -11,7 +11,7 @@ use Rattle.client_laws.specs.script_laws.plant_model.Plant.{Entry, Plant, deeds_
 use Rattle.client_laws.specs.script_laws.plant_model.RealWire.{wire}
 use Rattle.client_laws.specs.script_laws.plant_laws.Worlds.{DisclosedRun}
 use Rattle.client_laws.specs.script_laws.ids_suffice.Counting.{HasNoParent}
-use Rattle.client_laws.specs.script_laws.plant_play.Playing.{Cue, Stage}
+use Rattle.client_laws.specs.script_laws.plant_play.Playing.{Cue, PlayedNetwork}
 use Rattle.client_laws.specs.script_laws.plant_play.Turns.{Turn, entries_of}
 use Rattle.client_laws.specs.script_laws.Disclosing.{shown_trace}
 use Rattle.client_laws.specs.script_laws.Headline.{HasIdsLeft, IsRight}
@@ -26,7 +26,7 @@ use Rattle.plant_bulk.specs.declared.requests.Demand.{Demand}
 use Rattle.plant_bulk.specs.Playing.{IsBulk, bulk_turns, client, network}
 use Rattle.plant_bulk.specs.Requests.{requests_most}
 use Rattle.blind_play.specs.Laws.{SaysSo}
-use Rattle.blind_play.specs.Playing.{Stage as BlindStage}
+use Rattle.blind_play.specs.Playing.{PlayedNetwork as BlindPlayed}
 use Rattle.blind_play.specs.Turns.{Turn as BlindTurn}
 use Rattle.blind_play.specs.Turns.{all_heard, trace_of}
 use Rattle.blind_play.specs.WholeScripts.{Playing as BlindlyPlaying}
@@ -36,7 +36,7 @@ use Rattle.pce_tool.specs.Networks.{question_of}
 use Rattle.pce_tool.specs.Tasks.{Task, Blind, Bulk, Path, Play}
 
 -- A run is right; and without a parent no id comes round in it, so what is said of it then has no premise.
-pub record IsWorth (n : NetworkParts) (turns : List Turn) (end : Stage) : Type 0 where
+pub record IsWorth (n : NetworkParts) (turns : List Turn) (end : PlayedNetwork) : Type 0 where
   pub right : IsRight n (entries_of turns []) end.state
   pub short : HasNoParent n → HasIdsLeft n (entries_of turns [])
 
@@ -49,13 +49,13 @@ ShowsRows (c ∷ cs) = c.event ≡ DiscloseOn
 -- line on, the events with the rows that are shown of them are the trace that the run discloses.
 abbrev pub PlaysAreWorth : Option Files → List ℕ → Type 0
 PlaysAreWorth files net =
-    (n : NetworkParts) (script : List ℕ) (done others : List NumberedLine) (turns : List Turn) (told : List ℕ) (end : Stage)
+    (n : NetworkParts) (script : List ℕ) (done others : List NumberedLine) (turns : List Turn) (told : List ℕ) (end : PlayedNetwork)
     → HasNetwork files net n → length script ≤ script_most → told_lines script ≡ done ++ others → (p : Playing files n done turns told end)
     → IsWorth n turns end × (ShowsRows p.cues → DisclosedRun wire n (entries_of turns []) (shown_trace turns []) end.state)
 
 -- A client asks once in a run, and receives this. What it is told is what the last message answers that was sent to it; each reply to a
 -- request for a path among these messages is right; and each request that an element had from it is its question.
-pub record AnswerIsWorth (n : NetworkParts) (client : ℕ) (question : Question) (received : List ℕ) (turns : List Turn) (end : Stage) : Type 0 where
+pub record AnswerIsWorth (n : NetworkParts) (client : ℕ) (question : Question) (received : List ℕ) (turns : List Turn) (end : PlayedNetwork) : Type 0 where
   pub worth : IsWorth n turns end
   pub told : HasIdsLeft n (entries_of turns []) → IsTold n (entries_of turns []) client received
   pub asked : AsksOnly n (entries_of turns []) client question
@@ -68,7 +68,7 @@ PathsAreWorth files net r =
 
 -- The client of the drawn network asks one question behind the other in a run, and receives this for them. What is heard for each is what
 -- the last message says that was sent to it since the one before; and each reply to a request for a path among all these is right.
-pub record BulkIsWorth (received : List (List ℕ)) (turns : List Turn) (end : Stage) : Type 0 where
+pub record BulkIsWorth (received : List (List ℕ)) (turns : List Turn) (end : PlayedNetwork) : Type 0 where
   pub worth : IsWorth network turns end
   pub are_received : AreReceived network (entries_of turns []) client received
 
@@ -78,14 +78,14 @@ BulksAreWorth n = (d : Demand) (received : List (List ℕ)) → n ≤ requests_m
 
 -- What is told of lines that are played on a network without topologies is what such a network says on the trace of their events. Where
 -- that is what a run of a network with topologies discloses, it is what closed peers hear of that run once its links have begun.
-pub record IsHeard (n : NetworkParts) (turns : List BlindTurn) (told : List ℕ) (end : BlindStage) : Type 0 where
+pub record IsHeard (n : NetworkParts) (turns : List BlindTurn) (told : List ℕ) (end : BlindPlayed) : Type 0 where
   pub says : SaysSo n turns told end
   pub hears : (es : List Entry) (s : Plant) → DisclosedRun wire n es (trace_of turns []) s → heard wire n (deeds_of wire n es) ≡ heard wire n (blind_opened wire n).deeds ++ all_heard n turns
 
 -- The first lines of a script, however many, that are played on the network of these settings without topologies.
 abbrev pub BlindsAreHeard : Option Files → List ℕ → Type 0
 BlindsAreHeard files net =
-    (n : NetworkParts) (done : List NumberedLine) (turns : List BlindTurn) (told : List ℕ) (end : BlindStage) → HasNetwork files net n → BlindlyPlaying n done turns told end → IsHeard n turns told end
+    (n : NetworkParts) (done : List NumberedLine) (turns : List BlindTurn) (told : List ℕ) (end : BlindPlayed) → HasNetwork files net n → BlindlyPlaying n done turns told end → IsHeard n turns told end
 
 -- Of every run of a network that the words ask for: each path that a client is answered is feasible and of least cost among all walks
 -- through the asked domains in order, each domain as it stood when its element took the request, or over what an outside peer told that

@@ -11,7 +11,7 @@ use Rattle.pcep_session.specs.declared.state.Phase.{Phase}
 use Rattle.pcep_session.specs.declared.state.Phase.TheVariants.{Idle, OpenWait, KeepWait, Up, Down}
 use Rattle.pcep_session.specs.declared.state.State.{State}
 use Rattle.pcep_session.specs.Reports.{first_error_of, first_opening_of}
-use Rattle.pcep_session.specs.Table.{Turn, turn_in, turn_of, open_wait, refused, refused_terms, keep_wait, waits, in_up, unknown_type, up_tick, heard, at_tick, has_passed, is_recent}
+use Rattle.pcep_session.specs.Table.{SessionStep, turn_in, turn_of, open_wait, refused, refused_terms, keep_wait, waits, in_up, unknown_type, up_tick, heard, at_tick, has_passed, is_recent}
 use Rattle.pcep_session.specs.Order.{ups, downs, passes, opens}
 
 -- it says neither that it is up nor that it is down, and passes nothing on
@@ -20,7 +20,7 @@ pub record IsMute (actions : List Action) : Type 0 where
   pub downs : downs actions ≡ 0
   pub passes : passes actions ≡ 0
 
-pub data Move (from : Phase) (input : Input) (turn : Turn) : Type 0 where
+pub data Move (from : Phase) (input : Input) (turn : SessionStep) : Type 0 where
   stays : turn.next.phase ≡ from → IsMute turn.actions → Move from input turn
   hands_on : from ≡ Up → turn.next.phase ≡ from → ups turn.actions ≡ 0 → downs turn.actions ≡ 0 → Move from input turn
   begins : from ≡ Idle → turn.next.phase ≡ OpenWait → IsMute turn.actions → Move from input turn

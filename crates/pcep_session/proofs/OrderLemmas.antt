@@ -9,7 +9,7 @@ use Rattle.pcep_session.specs.declared.session.Input.TheVariants.{Begin, Got, Ba
 use Rattle.pcep_session.specs.declared.state.Phase.{Phase}
 use Rattle.pcep_session.specs.declared.state.Phase.TheVariants.{Idle, OpenWait, KeepWait, Up, Down}
 use Rattle.pcep_session.specs.declared.state.State.{State}
-use Rattle.pcep_session.specs.Table.{Turn, turn_in, turn_of, new_state}
+use Rattle.pcep_session.specs.Table.{SessionStep, turn_in, turn_of, new_state}
 use Rattle.pcep_session.specs.Order.{after_inputs, done_over, ups, downs, passes, opens, IsOrdered, KeepsOrder}
 use Rattle.pcep_session.proofs.MoveLemmas.{Move, stays, hands_on, begins, agrees, rises, falls, moves}
 
@@ -81,7 +81,7 @@ is_down KeepWait u d o at said = absurd (omega (arith, at.1))
 is_down Up u d o at said = absurd (omega (arith, at.1))
 is_down Down u d o at said = refl
 
-moved : (from : Phase) (input : Input) (turn : Turn) (u d o : ℕ) → Standing from u d o → Move from input turn →
+moved : (from : Phase) (input : Input) (turn : SessionStep) (u d o : ℕ) → Standing from u d o → Move from input turn →
     Standing turn.next.phase (u + ups turn.actions) (d + downs turn.actions) (o + opens (input ∷ []))
 moved from input turn u d o at (stays next mute) =
     rw next (stands_on from u d o (u + ups turn.actions) (d + downs turn.actions) (o + opens (input ∷ [])) at (omega (arith, mute.ups)) (omega (arith, mute.downs)) (omega arith))
@@ -115,7 +115,7 @@ stands_over (input ∷ inputs) s u d o at =
 silent_down : (phase : Phase) (s : State) (input : Input) → phase ≡ Down → (turn_in phase s input).actions ≡ []
 silent_down phase s input is = subst (λ p. (turn_in p s input).actions ≡ []) (sym is) refl
 
-by_keepalive : (from : Phase) (input : Input) (turn : Turn) → Move from input turn → ups turn.actions ≡ 1 → (input ≡ Got KeepaliveMessage) × (from ≡ KeepWait)
+by_keepalive : (from : Phase) (input : Input) (turn : SessionStep) → Move from input turn → ups turn.actions ≡ 1 → (input ≡ Got KeepaliveMessage) × (from ≡ KeepWait)
 by_keepalive from input turn (stays next mute) up = absurd (omega (arith, mute.ups))
 by_keepalive from input turn (hands_on is next no_up no_down) up = absurd (omega arith)
 by_keepalive from input turn (begins is next mute) up = absurd (omega (arith, mute.ups))
@@ -123,7 +123,7 @@ by_keepalive from input turn (agrees is next opened mute) up = absurd (omega (ar
 by_keepalive from input turn (rises is next by up_said no_down no_pass) up = (by, is)
 by_keepalive from input turn (falls other next no_up down no_pass) up = absurd (omega arith)
 
-passes_up : (from : Phase) (input : Input) (turn : Turn) → Move from input turn → 1 ≤ passes turn.actions → from ≡ Up
+passes_up : (from : Phase) (input : Input) (turn : SessionStep) → Move from input turn → 1 ≤ passes turn.actions → from ≡ Up
 passes_up from input turn (stays next mute) some = absurd (omega (arith, mute.passes))
 passes_up from input turn (hands_on is next no_up no_down) some = is
 passes_up from input turn (begins is next mute) some = absurd (omega (arith, mute.passes))

@@ -6,18 +6,18 @@ use Rattle.pcep_session.specs.declared.state.Phase.{Phase}
 use Rattle.pcep_session.specs.declared.state.Phase.TheVariants.{Idle, OpenWait, KeepWait, Up, Down}
 use Rattle.pcep_session.specs.declared.state.State.{State}
 use Rattle.pcep_session.specs.Quiet.{is_nothing, is_quiet}
-use Rattle.pcep_session.specs.Table.{Turn, turn_in, turn_of, waits, up_tick, at_tick, has_passed}
+use Rattle.pcep_session.specs.Table.{SessionStep, turn_in, turn_of, waits, up_tick, at_tick, has_passed}
 
 -- one of two turns, of which the first asks for something
-nothing_in : (b : Bool) (x y : Turn) → is_nothing x.actions ≡ false → is_nothing y.actions ≡ true → is_nothing (cond b x y).actions ≡ not b
+nothing_in : (b : Bool) (x y : SessionStep) → is_nothing x.actions ≡ false → is_nothing y.actions ≡ true → is_nothing (cond b x y).actions ≡ not b
 nothing_in true x y some none = some
 nothing_in false x y some none = none
 
-nothing_both : (b c : Bool) (x y z : Turn) → is_nothing x.actions ≡ false → is_nothing y.actions ≡ false → is_nothing z.actions ≡ true → is_nothing (cond b x (cond c y z)).actions ≡ (not b && not c)
+nothing_both : (b c : Bool) (x y z : SessionStep) → is_nothing x.actions ≡ false → is_nothing y.actions ≡ false → is_nothing z.actions ≡ true → is_nothing (cond b x (cond c y z)).actions ≡ (not b && not c)
 nothing_both true c x y z some also none = some
 nothing_both false c x y z some also none = nothing_in c y z also none
 
-next_in : (b : Bool) (x y : Turn) (s : State) → is_nothing x.actions ≡ false → (is_nothing y.actions ≡ true → y.next ≡ s) → is_nothing (cond b x y).actions ≡ true → (cond b x y).next ≡ s
+next_in : (b : Bool) (x y : SessionStep) (s : State) → is_nothing x.actions ≡ false → (is_nothing y.actions ≡ true → y.next ≡ s) → is_nothing (cond b x y).actions ≡ true → (cond b x y).next ≡ s
 next_in true x y s some next calm = absurd (let clash : true ≡ false = sym calm ∙ some in cc)
 next_in false x y s some next calm = next calm
 

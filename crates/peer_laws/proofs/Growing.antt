@@ -16,7 +16,7 @@ use Rattle.pcep_session.specs.Table.{new_state, turn_of}
 use Rattle.plant_text.specs.declared.settings.NetworkParts.{NetworkParts}
 use Rattle.plant_text.specs.declared.settings.PeerRow.{PeerRow}
 use Rattle.plant_text.specs.Names.{same_as, parent_as}
-use Rattle.plant_text.specs.Settings.{Line, class_of}
+use Rattle.plant_text.specs.Settings.{Adjacency, class_of}
 use Rattle.request_table.specs.Pending.{same_peer}
 use Rattle.plant_laws.specs.plant_model.declared.output.Output.{Output}
 use Rattle.plant_laws.specs.plant_model.Names.{is_empty}
@@ -26,7 +26,7 @@ use Rattle.plant_laws.specs.plant_model.Element.{downed, upped}
 use Rattle.plant_laws.specs.plant_model.Taking.{take}
 use Rattle.plant_laws.specs.plant_model.Parent as parent
 use Rattle.plant_laws.specs.plant_model.State.{Access, Connection, Deed, Downs, Clears, Expires, Says, State, Takes, Ups}
-use Rattle.plant_laws.specs.plant_model.Deeds.{Going, any_fall, begin_end, begin_line, break_line, clear, element_of, expire, fall, give, inner_act, inner_acts, inner_input, is_due, is_out_empty, is_tick, on_connection, our_offer, outside_act, outside_acts, outside_input, outside_step, own_message, put, put_to, puts, rise, say, tick_lines, tick_outside, with_access, with_element, with_inbox, with_inner, with_more, with_parent, with_session}
+use Rattle.plant_laws.specs.plant_model.Deeds.{Going, any_fall, begin_end, begin_adjacency, break_adjacency, clear, element_of, expire, fall, give, inner_act, inner_acts, inner_input, is_due, is_out_empty, is_tick, on_connection, our_offer, outside_act, outside_acts, outside_input, outside_step, own_message, put, put_to, puts, rise, say, tick_adjacencies, tick_outside, with_access, with_element, with_inbox, with_inner, with_more, with_parent, with_session}
 use Rattle.plant_laws.specs.plant_model.Outside.{heeded}
 use Rattle.peer_laws.specs.Outlets.{messages_for, outputs_of, put_for}
 
@@ -213,24 +213,24 @@ module _ (P : Type 0) (S : Type 0) (c : Codec) (n : NetworkParts) (show : S → 
         let h : Going P S = record { state = with_inner P S c n show at b t.next g.state; deeds = g.deeds } in
         inner_acts_on at b false t.actions h (rests g h.state (λ i. refl) r)
 
-    pub begin_line_on : (sid : ℕ) (x : Line) (g : Going P S) → Grown g → Grown (begin_line P S c n show sid x g)
-    begin_line_on sid x g r = begin_end_on sid x.upper x.lower (begin_end P S c n show sid x.lower x.upper g) (begin_end_on sid x.lower x.upper g r)
+    pub begin_adjacency_on : (sid : ℕ) (x : Adjacency) (g : Going P S) → Grown g → Grown (begin_adjacency P S c n show sid x g)
+    begin_adjacency_on sid x g r = begin_end_on sid x.upper x.lower (begin_end P S c n show sid x.lower x.upper g) (begin_end_on sid x.lower x.upper g r)
 
-    clear_on : (x : Line) (g : Going P S) → Grown g → Grown (clear P S c n show x g)
+    clear_on : (x : Adjacency) (g : Going P S) → Grown g → Grown (clear P S c n show x g)
     clear_on x g r = sends x.lower [] g (clear P S c n show x g).state (Clears x.lower x.upper) refl refl r
 
-    pub break_line_on : (x : Line) (g : Going P S) → Grown g → Grown (break_line P S c n show x g)
-    break_line_on x g r =
+    pub break_adjacency_on : (x : Adjacency) (g : Going P S) → Grown g → Grown (break_adjacency P S c n show x g)
+    break_adjacency_on x g r =
         let f = fall P S c n show x.lower (Inner x.upper) g in
         let h = fall P S c n show x.upper (Inner x.lower) f in
-        begin_line_on (((g.state.sessions x.lower x.upper).offer.sid + 1) % 256) x (clear P S c n show x h)
+        begin_adjacency_on (((g.state.sessions x.lower x.upper).offer.sid + 1) % 256) x (clear P S c n show x h)
         (clear_on x h (fall_on x.upper (Inner x.lower) f (fall_on x.lower (Inner x.upper) g r)))
 
-    pub inner_input_on : (x : Line) (at b : As) (y : Input) (g : Going P S) → Grown g → Grown (inner_input P S c n show x at b y g)
+    pub inner_input_on : (x : Adjacency) (at b : As) (y : Input) (g : Going P S) → Grown g → Grown (inner_input P S c n show x at b y g)
     inner_input_on x at b y g r =
         let t = turn_of (g.state.sessions at b) y in
         let h : Going P S = record { state = with_inner P S c n show at b t.next g.state; deeds = g.deeds } in
-        pick (any_fall t.actions) _ _ (break_line_on x g r) (inner_acts_on at b (is_tick y) t.actions h (rests g h.state (λ i. refl) r))
+        pick (any_fall t.actions) _ _ (break_adjacency_on x g r) (inner_acts_on at b (is_tick y) t.actions h (rests g h.state (λ i. refl) r))
 
     -- ---- a tick
 
@@ -238,11 +238,11 @@ module _ (P : Type 0) (S : Type 0) (c : Codec) (n : NetworkParts) (show : S → 
     tick_outside_on i [] now g r = r
     tick_outside_on i (row ∷ rs) now g r = tick_outside_on (i + 1) rs now (outside_input P S c n show i (input.Tick now) g) (outside_input_on i (input.Tick now) g r)
 
-    pub tick_lines_on : (xs : List Line) (now : Tick) (g : Going P S) → Grown g → Grown (tick_lines P S c n show xs now g)
-    tick_lines_on [] now g r = r
-    tick_lines_on (x ∷ xs) now g r =
+    pub tick_adjacencies_on : (xs : List Adjacency) (now : Tick) (g : Going P S) → Grown g → Grown (tick_adjacencies P S c n show xs now g)
+    tick_adjacencies_on [] now g r = r
+    tick_adjacencies_on (x ∷ xs) now g r =
         let h = inner_input P S c n show x x.lower x.upper (input.Tick now) g in
-        tick_lines_on xs now (inner_input P S c n show x x.upper x.lower (input.Tick now) h)
+        tick_adjacencies_on xs now (inner_input P S c n show x x.upper x.lower (input.Tick now) h)
         (inner_input_on x x.upper x.lower (input.Tick now) h (inner_input_on x x.lower x.upper (input.Tick now) g r))
 
     pub expire_on : (now : ℕ) (g : Going P S) → Grown g → Grown (expire P S c n show now g)

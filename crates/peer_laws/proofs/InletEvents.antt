@@ -16,7 +16,7 @@ use Rattle.pcep_messages.specs.declared.message.Message.{Message}
 use Rattle.pcep_session.specs.declared.session.Input.TheVariants as input
 use Rattle.pcep_session.specs.Table.{new_state}
 use Rattle.plant_text.specs.declared.settings.NetworkParts.{NetworkParts}
-use Rattle.plant_text.specs.Settings.{is_element, is_linked, line, lines, peer_row}
+use Rattle.plant_text.specs.Settings.{is_element, is_linked, adjacency, adjacencies, peer_row}
 use Rattle.plant_text.specs.Names.{parent_as}
 use Rattle.plant_laws.specs.plant_model.declared.event.Event.{Event}
 use Rattle.plant_laws.specs.plant_model.declared.event.Event.TheVariants as event
@@ -24,7 +24,7 @@ use Rattle.plant_laws.specs.plant_model.declared.outcome.Outcome.TheVariants.{Do
 use Rattle.plant_laws.specs.plant_model.declared.outcome.Refused.{Refused}
 use Rattle.plant_laws.specs.plant_model.declared.outcome.Refused.TheVariants.{GenerationsFull, NoMemory, NoSuchJob, NoSuchPeer, NotHolder, NothingToCarry}
 use Rattle.plant_laws.specs.plant_model.Blind.{is_accepted}
-use Rattle.plant_laws.specs.plant_model.Deeds.{Going, break_line, element_of, expire, fall, inner_input, input_of, on_connection, our_offer, outside_input, puts, read_as, tick_lines, tick_outside, with_access, with_element, with_inbox, with_parent}
+use Rattle.plant_laws.specs.plant_model.Deeds.{Going, break_adjacency, element_of, expire, fall, inner_input, input_of, on_connection, our_offer, outside_input, puts, read_as, tick_adjacencies, tick_outside, with_access, with_element, with_inbox, with_parent}
 use Rattle.plant_laws.specs.plant_model.Events as events
 use Rattle.plant_laws.specs.plant_model.Events.{bad_item, is_down, split_all}
 use Rattle.plant_laws.specs.plant_model.Names.{set_pair}
@@ -131,15 +131,15 @@ module _ (n : NetworkParts) where
       go [] = refused str s (event.Carry a b) NothingToCarry held
       go (x ∷ rest) =
           let g : Going Pin Segment = record { state = record s { queues = set_pair a b rest s.queues }; deeds = Pops a b ∷ [] } in
-          let h = inner_input Pin Segment wire n open_of (line a b) b a (input_of wire (Some x)) g in
+          let h = inner_input Pin Segment wire n open_of (adjacency a b) b a (input_of wire (Some x)) g in
           let r : Grown str s g = fading.sends Pin Segment wire n open_of (IsOf str) s a [] (start s) g.state (Pops a b) refl tt (begin str s) in
-          let all = done str s h held (fading.inner_input_on Pin Segment wire n open_of (IsOf str) s (line a b) b a (input_of wire (Some x)) g r) in
+          let all = done str s h held (fading.inner_input_on Pin Segment wire n open_of (IsOf str) s (adjacency a b) b a (input_of wire (Some x)) g r) in
           record { held = all.0; taken = all.1 }
 
   break_went : (str : Streams) (a b : As) (s : Plant) → AllHeld str s → Went str s (event.Break a b) (events.break Pin Segment wire n open_of a b s)
   break_went str a b s held =
-      let g = break_line Pin Segment wire n open_of (line a b) (start s) in
-      let all = done str s g held (fading.break_line_on Pin Segment wire n open_of (IsOf str) s (line a b) (start s) (begin str s)) in
+      let g = break_adjacency Pin Segment wire n open_of (adjacency a b) (start s) in
+      let all = done str s g held (fading.break_adjacency_on Pin Segment wire n open_of (IsOf str) s (adjacency a b) (start s) (begin str s)) in
       pick str s (event.Break a b) (is_linked n a b) _ _ (record { held = all.0; taken = all.1 }) (refused str s (event.Break a b) NoSuchPeer held)
 
   tick_went : (str : Streams) (t : Tick) (s : Plant) → AllHeld str s → Went str s (event.Tick t) (events.tick Pin Segment wire n open_of t.0 s)
@@ -147,12 +147,12 @@ module _ (n : NetworkParts) where
       let now = events.later s.clock t.0 in
       let g : Going Pin Segment = record { state = record s { clock = now }; deeds = [] } in
       let h = tick_outside Pin Segment wire n open_of 0 n.peers (record { 0 = now }) g in
-      let k = tick_lines Pin Segment wire n open_of (lines n) (record { 0 = now }) h in
+      let k = tick_adjacencies Pin Segment wire n open_of (adjacencies n) (record { 0 = now }) h in
       let first : Grown str s g = fading.rests Pin Segment wire n open_of (IsOf str) s (start s) g.state (λ i. fading.fades_here (at i s)) (begin str s) in
       let all =
       done str s (expire Pin Segment wire n open_of now k) held
       (fading.expire_on Pin Segment wire n open_of (IsOf str) s now k
-      (fading.tick_lines_on Pin Segment wire n open_of (IsOf str) s (lines n) (record { 0 = now }) h
+      (fading.tick_adjacencies_on Pin Segment wire n open_of (IsOf str) s (adjacencies n) (record { 0 = now }) h
       (fading.tick_outside_on Pin Segment wire n open_of (IsOf str) s 0 n.peers (record { 0 = now }) g first))) in
       record { held = all.0; taken = all.1 }
 

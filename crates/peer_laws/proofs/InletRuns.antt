@@ -11,12 +11,12 @@ use Rattle.pcep_messages.specs.declared.message.Message.{Message}
 use Rattle.pcep_messages.specs.declared.message.Message.TheVariants as messages
 use Rattle.pcep_messages.specs.Messages.{message_of}
 use Rattle.plant_text.specs.declared.settings.NetworkParts.{NetworkParts}
-use Rattle.plant_text.specs.Settings.{Line, lines}
+use Rattle.plant_text.specs.Settings.{Adjacency, adjacencies}
 use Rattle.plant_laws.specs.plant_model.declared.event.Event.{Event}
 use Rattle.plant_laws.specs.plant_model.declared.event.Event.TheVariants as event
 use Rattle.plant_laws.specs.plant_model.declared.output.Output.{Output}
 use Rattle.plant_laws.specs.plant_model.Blind.{is_accepted}
-use Rattle.plant_laws.specs.plant_model.Deeds.{Going, begin_line}
+use Rattle.plant_laws.specs.plant_model.Deeds.{Going, begin_adjacency}
 use Rattle.plant_laws.specs.plant_model.Events as events
 use Rattle.plant_laws.specs.plant_model.Plant.{Entry, Happened, Pin, Plant, PlantDeed, Run, Segment, deeds_of, first_pin}
 use Rattle.plant_laws.specs.plant_model.RealWire.{message_or_none, wire}
@@ -98,9 +98,9 @@ module _ (n : NetworkParts) where
   abbrev none : Streams
   none i = []
 
-  begun : (xs : List Line) (start : Plant) (g : Going Pin Segment) → fading.Grown Pin Segment wire n open_of (IsOf none) start g → fading.Grown Pin Segment wire n open_of (IsOf none) start (events.begin_lines Pin Segment wire n open_of xs g)
+  begun : (xs : List Adjacency) (start : Plant) (g : Going Pin Segment) → fading.Grown Pin Segment wire n open_of (IsOf none) start g → fading.Grown Pin Segment wire n open_of (IsOf none) start (events.begin_adjacencies Pin Segment wire n open_of xs g)
   begun [] start g r = r
-  begun (x ∷ xs) start g r = begun xs start (begin_line Pin Segment wire n open_of 0 x g) (fading.begin_line_on Pin Segment wire n open_of (IsOf none) start 0 x g r)
+  begun (x ∷ xs) start g r = begun xs start (begin_adjacency Pin Segment wire n open_of 0 x g) (fading.begin_adjacency_on Pin Segment wire n open_of (IsOf none) start 0 x g r)
 
   abbrev bare : Plant
   bare = events.bare Pin Segment wire n open_of first_pin
@@ -109,7 +109,7 @@ module _ (n : NetworkParts) where
   opened = events.opening Pin Segment wire n open_of first_pin
 
   opening : fading.Grown Pin Segment wire n open_of (IsOf none) bare opened
-  opening = begun (lines n) bare (record { state = bare; deeds = [] }) (fading.at_start Pin Segment wire n open_of (IsOf none) bare)
+  opening = begun (adjacencies n) bare (record { state = bare; deeds = [] }) (fading.at_start Pin Segment wire n open_of (IsOf none) bare)
 
   no_connection : (o : Option Connection) → AllFade None o → AreHeld [] o
   no_connection None h = tt

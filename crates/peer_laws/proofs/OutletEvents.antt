@@ -10,7 +10,7 @@ use Rattle.pcep_framing.specs.Frames.{joined}
 use Rattle.pcep_session.specs.declared.session.Input.TheVariants as input
 use Rattle.pcep_session.specs.Table.{new_state}
 use Rattle.plant_text.specs.declared.settings.NetworkParts.{NetworkParts}
-use Rattle.plant_text.specs.Settings.{is_element, is_linked, line, lines, peer_row}
+use Rattle.plant_text.specs.Settings.{is_element, is_linked, adjacency, adjacencies, peer_row}
 use Rattle.plant_text.specs.Names.{parent_as}
 use Rattle.plant_laws.specs.plant_model.declared.event.Event.{Event}
 use Rattle.plant_laws.specs.plant_model.declared.event.Event.TheVariants as event
@@ -26,11 +26,11 @@ use Rattle.plant_laws.specs.plant_model.Blind.{is_accepted}
 use Rattle.plant_laws.specs.plant_model.Solving.{commit}
 use Rattle.plant_laws.specs.plant_model.Parent as parent
 use Rattle.plant_laws.specs.plant_model.State.{Access, Connection, Hands, Loads, Pops, Solves}
-use Rattle.plant_laws.specs.plant_model.Deeds.{Going, break_line, element_of, fall, input_of, on_connection, outside_input, inner_input, our_offer, expire, tick_lines, tick_outside, with_access, with_element, with_inbox, with_parent, puts}
+use Rattle.plant_laws.specs.plant_model.Deeds.{Going, break_adjacency, element_of, fall, input_of, on_connection, outside_input, inner_input, our_offer, expire, tick_adjacencies, tick_outside, with_access, with_element, with_inbox, with_parent, puts}
 use Rattle.plant_laws.specs.plant_model.Events as events
 use Rattle.plant_laws.specs.plant_model.Events.{is_down}
 use Rattle.plant_laws.specs.plant_model.Plant.{ElementSolves, Happened, Happens, ParentSolves, Pin, Plant, Segment, Steps, is_full, load_new}
-use Rattle.peer_laws.specs.Outlets.{Drains, Opens, Outlet, Shuts, Stays, Turn, bytes_of, handed_in, messages_for, turn_for, turned, with_handed, with_put}
+use Rattle.peer_laws.specs.Outlets.{Drains, Opens, Outlet, Shuts, Stays, ConnectionChange, bytes_of, handed_in, messages_for, turn_for, turned, with_handed, with_put}
 use Rattle.peer_laws.proofs.Growing as growing
 use Rattle.peer_laws.proofs.Growing.{View, append_assoc, more, nil_right, texts, texts_append, view_of}
 
@@ -42,14 +42,14 @@ differ : false ≡ true → ⊥
 differ e = cc
 
 -- what drains handed out and what waits is what was put
-abbrev pub Shows : Codec → Outlet → ℕ × List Bytes → Type 0
-Shows c x v = (v.0 ≡ x.holder) × (x.handed ++ joined v.1 ≡ bytes_of c x.put)
+abbrev pub IsHandedOut : Codec → Outlet → ℕ × List Bytes → Type 0
+IsHandedOut c x v = (v.0 ≡ x.holder) × (x.handed ++ joined v.1 ≡ bytes_of c x.put)
 
 abbrev pub Fits : Codec → Option Outlet → View → Type 0
 Fits c None None = Unit {0}
 Fits c None (Some v) = ⊥
 Fits c (Some x) None = ⊥
-Fits c (Some x) (Some v) = Shows c x v
+Fits c (Some x) (Some v) = IsHandedOut c x v
 
 -- more is put
 pub put_fits : (c : Codec) (ms : List Message) (o : Option Outlet) (v : View) → Fits c o v → Fits c (option_map (with_put ms) o) (more (texts c ms) v)
@@ -89,7 +89,7 @@ module _ (c : Codec) (n : NetworkParts) where
 
   stays : (s : Plant) (e : Event) (out : Outcome) (g : Going Pin Segment) → Quiet e → Grown s g → Went s e (events.answered Pin Segment c n open_of out g)
   stays s e out g quiet grown i o fits =
-      subst (λ (t : Turn). Fits c (turned t (messages_for i g.deeds) (handed_in (Ok out)) o) (view i g.state)) (sym (quiet i))
+      subst (λ (t : ConnectionChange). Fits c (turned t (messages_for i g.deeds) (handed_in (Ok out)) o) (view i g.state)) (sym (quiet i))
       (subst (λ (v : View). Fits c (option_map (with_put (messages_for i g.deeds)) o) v) (sym (grown i)) (put_fits c (messages_for i g.deeds) o (view i s) fits))
 
   load_went : (d : As) (g : Rows) (s : Plant) → Went s (event.Load d g) (load_new c n d g s)
@@ -236,15 +236,15 @@ module _ (c : Codec) (n : NetworkParts) where
       go [] = refused s (event.Carry a b) NothingToCarry
       go (x ∷ rest) =
           let g : Going Pin Segment = record { state = record s { queues = set_pair a b rest s.queues }; deeds = Pops a b ∷ [] } in
-          stays s (event.Carry a b) Done (inner_input Pin Segment c n open_of (line a b) b a (input_of c (Some x)) g) (λ i. refl)
-          (growing.inner_input_on Pin Segment c n open_of s (line a b) b a (input_of c (Some x)) g
+          stays s (event.Carry a b) Done (inner_input Pin Segment c n open_of (adjacency a b) b a (input_of c (Some x)) g) (λ i. refl)
+          (growing.inner_input_on Pin Segment c n open_of s (adjacency a b) b a (input_of c (Some x)) g
           (growing.sends Pin Segment c n open_of s a [] (record { state = s; deeds = [] }) g.state (Pops a b) refl refl (growing.at_start Pin Segment c n open_of s)))
 
   break_went : (a b : As) (s : Plant) → Went s (event.Break a b) (events.break Pin Segment c n open_of a b s)
   break_went a b s =
       pick s (event.Break a b) (is_linked n a b) _ _
-      (stays s (event.Break a b) Done (break_line Pin Segment c n open_of (line a b) (record { state = s; deeds = [] })) (λ i. refl)
-      (growing.break_line_on Pin Segment c n open_of s (line a b) (record { state = s; deeds = [] }) (growing.at_start Pin Segment c n open_of s)))
+      (stays s (event.Break a b) Done (break_adjacency Pin Segment c n open_of (adjacency a b) (record { state = s; deeds = [] })) (λ i. refl)
+      (growing.break_adjacency_on Pin Segment c n open_of s (adjacency a b) (record { state = s; deeds = [] }) (growing.at_start Pin Segment c n open_of s)))
       (refused s (event.Break a b) NoSuchPeer)
 
   tick_went : (t : Tick) (s : Plant) → Went s (event.Tick t) (events.tick Pin Segment c n open_of t.0 s)
@@ -252,10 +252,10 @@ module _ (c : Codec) (n : NetworkParts) where
       let now = events.later s.clock t.0 in
       let g : Going Pin Segment = record { state = record s { clock = now }; deeds = [] } in
       let h = tick_outside Pin Segment c n open_of 0 n.peers (record { 0 = now }) g in
-      let k = tick_lines Pin Segment c n open_of (lines n) (record { 0 = now }) h in
+      let k = tick_adjacencies Pin Segment c n open_of (adjacencies n) (record { 0 = now }) h in
       stays s (event.Tick t) Done (expire Pin Segment c n open_of now k) (λ i. refl)
       (growing.expire_on Pin Segment c n open_of s now k
-      (growing.tick_lines_on Pin Segment c n open_of s (lines n) (record { 0 = now }) h
+      (growing.tick_adjacencies_on Pin Segment c n open_of s (adjacencies n) (record { 0 = now }) h
       (growing.tick_outside_on Pin Segment c n open_of s 0 n.peers (record { 0 = now }) g
       (growing.rests Pin Segment c n open_of s (record { state = s; deeds = [] }) g.state (λ i. refl) (growing.at_start Pin Segment c n open_of s)))))
 

@@ -2,12 +2,12 @@
 use Rattle.std.proofs.Common.{◌≡◌, ℕ, List, [], ◌∷◌, Option, Some, None, sym, ◌∙◌, ap, subst}
 use Rattle.disclosure.specs.Shown.{open_of}
 use Rattle.plant_text.specs.declared.settings.NetworkParts.{NetworkParts}
-use Rattle.plant_text.specs.Settings.{Line, lines}
+use Rattle.plant_text.specs.Settings.{Adjacency, adjacencies}
 use Rattle.plant_laws.specs.plant_model.declared.event.Event.{Event}
 use Rattle.plant_laws.specs.plant_model.declared.event.Event.TheVariants as event
 use Rattle.plant_laws.specs.plant_model.Wire.{Codec}
 use Rattle.plant_laws.specs.plant_model.State.{Connection}
-use Rattle.plant_laws.specs.plant_model.Deeds.{Going, begin_line}
+use Rattle.plant_laws.specs.plant_model.Deeds.{Going, begin_adjacency}
 use Rattle.plant_laws.specs.plant_model.Events as events
 use Rattle.plant_laws.specs.plant_model.Plant.{Entry, Pin, Plant, Run, Segment, Steps, first_pin}
 use Rattle.peer_laws.specs.Outlets.{AreOne, DrainsHandOutAll, IsHandedOut, Outlet, OutletsStand, outlet}
@@ -19,14 +19,14 @@ module _ (c : Codec) (n : NetworkParts) where
   abbrev view : ℕ → Plant → View
   view i s = growing.view Pin Segment c n open_of i s
 
-  begun : (xs : List Line) (start : Plant) (g : Going Pin Segment) → growing.Grown Pin Segment c n open_of start g → growing.Grown Pin Segment c n open_of start (events.begin_lines Pin Segment c n open_of xs g)
+  begun : (xs : List Adjacency) (start : Plant) (g : Going Pin Segment) → growing.Grown Pin Segment c n open_of start g → growing.Grown Pin Segment c n open_of start (events.begin_adjacencies Pin Segment c n open_of xs g)
   begun [] start g r = r
-  begun (x ∷ xs) start g r = begun xs start (begin_line Pin Segment c n open_of 0 x g) (growing.begin_line_on Pin Segment c n open_of start 0 x g r)
+  begun (x ∷ xs) start g r = begun xs start (begin_adjacency Pin Segment c n open_of 0 x g) (growing.begin_adjacency_on Pin Segment c n open_of start 0 x g r)
 
   opening : (s : Plant) → Run c n [] s → (i : ℕ) → view i s ≡ None
   opening s is i =
       let bare = events.bare Pin Segment c n open_of first_pin in
-      ap (λ (t : Plant). view i t) is ∙ begun (lines n) bare (record { state = bare; deeds = [] }) (growing.at_start Pin Segment c n open_of bare) i
+      ap (λ (t : Plant). view i t) is ∙ begun (adjacencies n) bare (record { state = bare; deeds = [] }) (growing.at_start Pin Segment c n open_of bare) i
 
   pub run_fits : (es : List Entry) (s : Plant) → Run c n es s → (i : ℕ) → Fits c (outlet i es) (view i s)
   run_fits [] s is i = subst (λ (v : View). Fits c None v) (sym (opening s is i)) tt

@@ -14,7 +14,7 @@ use Rattle.plant_laws.specs.plant_model.State.{Clears, Downs, Expires, Hands, Lo
 use Rattle.plant_laws.specs.plant_model.Plant.{Entry, deeds_of}
 use Rattle.plant_laws.specs.Sending.{AllSent, AreAll}
 use Rattle.plant_laws.specs.Transcript.{Transcript}
-use Rattle.peer_laws.specs.Outlets.{Drains, Opens, Outlet, Shuts, Stays, Turn, handed_in, messages_for, outlet, outputs_of, put_for, turn_for, turned}
+use Rattle.peer_laws.specs.Outlets.{Drains, Opens, Outlet, Shuts, Stays, ConnectionChange, handed_in, messages_for, outlet, outputs_of, put_for, turn_for, turned}
 
 module _ (i : ℕ) (Q : Message → Type 0) where
   -- each message that a deed of these puts for the peer
@@ -39,7 +39,7 @@ module _ (i : ℕ) (Q : Message → Type 0) where
   HasPut None = Unit {0}
   HasPut (Some x) = (m : Message) → Contains x.put m → Q m
 
-  turned_puts : (t : Turn) (ms : List Message) (bytes : Bytes) (o : Option Outlet) → ((m : Message) → Contains ms m → Q m) → HasPut o → HasPut (turned t ms bytes o)
+  turned_puts : (t : ConnectionChange) (ms : List Message) (bytes : Bytes) (o : Option Outlet) → ((m : Message) → Contains ms m → Q m) → HasPut o → HasPut (turned t ms bytes o)
   turned_puts (Opens holder) ms bytes o new old = new
   turned_puts Shuts ms bytes o new old = tt
   turned_puts Drains ms bytes None new old = tt

@@ -41,11 +41,11 @@ bytes_of c ms = joined (map (λ m. c.text m) ms)
 -- ---- a connection as the transcript shows it
 
 -- what an accepted event is to the connection of the peer
-pub data Turn : Type 0 where
-  Opens : (holder : ℕ) → Turn
-  Shuts Drains Stays : Turn
+pub data ConnectionChange : Type 0 where
+  Opens : (holder : ℕ) → ConnectionChange
+  Shuts Drains Stays : ConnectionChange
 
-abbrev pub turn_for : ℕ → Event → Turn
+abbrev pub turn_for : ℕ → Event → ConnectionChange
 turn_for i (event.Open j holder) = cond (j == i) (Opens holder) Stays
 turn_for i (event.Shut j) = cond (j == i) Shuts Stays
 turn_for i (event.Drain j holder) = cond (j == i) Drains Stays
@@ -71,7 +71,7 @@ with_handed bytes x = record x { handed = x.handed ++ bytes }
 
 -- An Open makes a new one, with what the event itself puts there; a Shut leaves none. All other events put there what they say: also
 -- a link that breaks, and a session that ends, whose connection stays open. Where there is none, what is said for the peer is lost.
-abbrev pub turned : Turn → List Message → Bytes → Option Outlet → Option Outlet
+abbrev pub turned : ConnectionChange → List Message → Bytes → Option Outlet → Option Outlet
 turned (Opens holder) ms bytes before = Some (record { holder = holder; put = ms; handed = [] })
 turned Shuts ms bytes before = None
 turned Drains ms bytes before = option_map (with_handed bytes) before

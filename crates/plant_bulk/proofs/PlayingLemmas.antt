@@ -6,7 +6,7 @@ use Rattle.std.specs.Result.{IfOk}
 use Rattle.dom_base.specs.declared.names.NoMemory.{NoMemory}
 use Rattle.dom_edge.specs.Stores.{Files, file_named}
 use Rattle.drawn_network.specs.Files.{AreFiles}
-use Rattle.plant_client.specs.plant_play.Playing.{Stage}
+use Rattle.plant_client.specs.plant_play.Playing.{PlayedNetwork}
 use Rattle.plant_client.specs.plant_play.Turns.{Turn}
 use Rattle.plant_client.specs.declared.hearing.Heard.{Heard}
 use Rattle.plant_client.specs.declared.question.Question.{Question}
@@ -20,11 +20,11 @@ use Rattle.plant_bulk.specs.Tallies.{tally_of, with_heard}
 use Rattle.plant_bulk.proofs.TallyLemmas.{tally_more}
 
 -- the same question from the same stage
-moved : (files : Option Files) (q : Question) (old mid new : Stage) (came : List ℕ) → mid ≡ old → (x : Exchanges files client q mid came new) →
+moved : (files : Option Files) (q : Question) (old mid new : PlayedNetwork) (came : List ℕ) → mid ≡ old → (x : Exchanges files client q mid came new) →
     (y : Exchanges files client q old came new) × (turns_of y ≡ turns_of x)
-moved files q old mid new came same x = subst (λ (s : Stage). (y : Exchanges files client q s came new) × (turns_of y ≡ turns_of x)) same (x, refl)
+moved files q old mid new came same x = subst (λ (s : PlayedNetwork). (y : Exchanges files client q s came new) × (turns_of y ≡ turns_of x)) same (x, refl)
 
-pub one_more : (files : Option Files) (qs : List Question) (q : Question) (old mid new : Stage) (received : List (List ℕ)) (came : List ℕ) (turns : List Turn) →
+pub one_more : (files : Option Files) (qs : List Question) (q : Question) (old mid new : PlayedNetwork) (received : List (List ℕ)) (came : List ℕ) (turns : List Turn) →
     AsksAll files client qs old received turns mid → (x : Exchanges files client q mid came new) →
     AsksAll files client (qs ++ q ∷ []) old (received ++ came ∷ []) (turns ++ turns_of x) new
 one_more files [] q old mid new received came turns p x =
@@ -50,10 +50,10 @@ one_more files (first ∷ qs) q old mid new received came turns p x = record {
   turns_are = ap (λ (l : List Turn). l ++ turns_of x) p.turns_are ∙ append_assoc (turns_of p.exchange) p.more (turns_of x);
 }
 
-pub none_tallied : (files : Option Files) (s : Stage) (tally : Tally) → tally ≡ tally_of [] → AreTallied files [] s s tally
+pub none_tallied : (files : Option Files) (s : PlayedNetwork) (tally : Tally) → tally ≡ tally_of [] → AreTallied files [] s s tally
 none_tallied files s tally is = ([], [], (refl, refl, refl), is)
 
-pub one_tallied_more : (files later : Option Files) (d : Demand) (k : ℕ) (old mid new : Stage) (before after : Tally) (came : List ℕ) (heard : Heard) → later ≡ files →
+pub one_tallied_more : (files later : Option Files) (d : Demand) (k : ℕ) (old mid new : PlayedNetwork) (before after : Tally) (came : List ℕ) (heard : Heard) → later ≡ files →
     AreTallied files (questions d k) old mid before → Exchanges later client (question d k) mid came new → heard ≡ heard_in came → after ≡ with_heard before heard →
     AreTallied files (questions d (k + 1)) old new after
 one_tallied_more files later d k old mid new before after came heard same p x hears counts =
@@ -69,7 +69,7 @@ one_tallied_more files later d k old mid new before after came heard same p x he
     )
 
 -- a run over files that are those of the drawn topologies
-pub tallied_of : (files held : List (List ℕ × List ℕ)) (later : Option Files) (d : Demand) (n : ℕ) (begun end : Stage) (r : Result Tally NoMemory) → AreFiles files → held ≡ files →
+pub tallied_of : (files held : List (List ℕ × List ℕ)) (later : Option Files) (d : Demand) (n : ℕ) (begun end : PlayedNetwork) (r : Result Tally NoMemory) → AreFiles files → held ≡ files →
     later ≡ Some (file_named held) → Begins (Some (file_named held)) network client begun → IfOk r (AreTallied later (questions d n) begun end) → IfOk r (IsTallied d n)
 tallied_of files held later d n begun end (Err why) drawn are same begins last = last
 tallied_of files held later d n begun end (Ok tally) drawn are same begins last =

@@ -4,7 +4,7 @@ use Rattle.dom_base.specs.declared.names.As.{As}
 use Rattle.dom_edge.specs.Stores.{Files, file_named}
 use Rattle.plant_text.specs.declared.settings.NetworkParts.{NetworkParts}
 use Rattle.plant_text.specs.Networks.{with_path}
-use Rattle.plant_client.specs.plant_play.Playing.{Stage}
+use Rattle.plant_client.specs.plant_play.Playing.{PlayedNetwork}
 use Rattle.plant_client.specs.plant_play.Turns.{Turn}
 use Rattle.plant_client.specs.declared.question.Question.{Question}
 use Rattle.plant_client.specs.Asking.{Begins, Exchanges}
@@ -26,13 +26,13 @@ abbrev pub client : ℕ
 client = 0
 
 -- the events of a question that is put, until what waits for the client is handed out
-abbrev pub turns_of : {files : Option Files} {at : ℕ} {q : Question} {old : Stage} {came : List ℕ} {new : Stage} → Exchanges files at q old came new → List Turn
+abbrev pub turns_of : {files : Option Files} {at : ℕ} {q : Question} {old : PlayedNetwork} {came : List ℕ} {new : PlayedNetwork} → Exchanges files at q old came new → List Turn
 turns_of {files} {at} {q} {old} {came} {new} x = x.lines.turns ++ x.receives.drains.turns
 
 -- one question, and then others
-pub record AsksFirst (Others : Stage → List (List ℕ) → List Turn → Stage → Type 0) (files : Option Files) (at : ℕ) (q : Question) (old : Stage) (received : List (List ℕ)) (turns : List Turn) (new : Stage) : Type 0 where
+pub record AsksFirst (Others : PlayedNetwork → List (List ℕ) → List Turn → PlayedNetwork → Type 0) (files : Option Files) (at : ℕ) (q : Question) (old : PlayedNetwork) (received : List (List ℕ)) (turns : List Turn) (new : PlayedNetwork) : Type 0 where
   pub came : List ℕ
-  pub mid : Stage
+  pub mid : PlayedNetwork
   pub exchange : Exchanges files at q old came mid
   pub later : List (List ℕ)
   pub more : List Turn
@@ -41,7 +41,7 @@ pub record AsksFirst (Others : Stage → List (List ℕ) → List Turn → Stage
   pub turns_are : turns ≡ turns_of exchange ++ more
 
 -- The questions are put one behind the other: what is received for each, and the events.
-abbrev pub AsksAll : Option Files → ℕ → List Question → Stage → List (List ℕ) → List Turn → Stage → Type 0
+abbrev pub AsksAll : Option Files → ℕ → List Question → PlayedNetwork → List (List ℕ) → List Turn → PlayedNetwork → Type 0
 AsksAll files at [] old received turns new = (received ≡ []) × (turns ≡ []) × (new ≡ old)
 AsksAll files at (q ∷ qs) old received turns new = AsksFirst (λ mid later more end. AsksAll files at qs mid later more end) files at q old received turns new
 
@@ -49,10 +49,10 @@ AsksAll files at (q ∷ qs) old received turns new = AsksFirst (λ mid later mor
 pub record IsBulk (d : Demand) (n : ℕ) (received : List (List ℕ)) : Type 0 where
   pub files : List (List ℕ × List ℕ)
   pub drawn : AreFiles files
-  pub begun : Stage
+  pub begun : PlayedNetwork
   pub begins : Begins (Some (file_named files)) network client begun
   pub turns : List Turn
-  pub end : Stage
+  pub end : PlayedNetwork
   pub asks : AsksAll (Some (file_named files)) client (questions d n) begun received turns end
 
 -- all events of such a run
@@ -64,5 +64,5 @@ abbrev pub IsTallied : Demand → ℕ → Tally → Type 0
 IsTallied d n tally = (received : List (List ℕ)) × IsBulk d n received × (tally ≡ tally_of received)
 
 -- the same of the questions alone
-abbrev pub AreTallied : Option Files → List Question → Stage → Stage → Tally → Type 0
+abbrev pub AreTallied : Option Files → List Question → PlayedNetwork → PlayedNetwork → Tally → Type 0
 AreTallied files qs old new tally = (received : List (List ℕ)) × (turns : List Turn) × AsksAll files client qs old received turns new × (tally ≡ tally_of received)

@@ -4,7 +4,7 @@ ghost use Rattle.dom_edge.specs.Stores.{file_named};
 ghost use Rattle.drawn_network.specs.Files.{AreFiles, links_draws};
 ghost use Rattle.drawn_network.specs.Settings.{settings};
 ghost use Rattle.plant_client.specs.Asking.{Begins, Exchanges};
-ghost use Rattle.plant_client.specs.plant_play.Playing.{stage_of};
+ghost use Rattle.plant_client.specs.plant_play.Playing.{played_network};
 ghost use Rattle.plant_bulk.specs.Playing.{AreTallied, IsTallied, client, network};
 ghost use Rattle.plant_bulk.specs.Requests.{question, questions, requests_most};
 
@@ -45,7 +45,7 @@ fn ask_next<S: Store>(
 ) -> Result<Bytes, NoMemory>
     requires within { request < requests_most }
     requires place { draws.old ≡ links_draws + 2 * request }
-    ensures exchanges { IfOk result (λ received. Exchanges (S.files store.old) client (question demand request) (stage_of player.old) received (stage_of player.new)) }
+    ensures exchanges { IfOk result (λ received. Exchanges (S.files store.old) client (question demand request) (played_network player.old) received (played_network player.new)) }
     ensures drawn { draws.new ≡ links_draws + 2 * (request + 1) }
     ensures files { S.files store.new ≡ S.files store.old }
 {
@@ -67,7 +67,7 @@ fn ask_all<S: Store>(
 ) -> Result<Tally, NoMemory>
     requires few { count ≤ requests_most }
     requires place { draws.old ≡ links_draws }
-    ensures tallied { IfOk result (AreTallied (S.files store.old) (questions demand count) (stage_of player.old) (stage_of player.new)) }
+    ensures tallied { IfOk result (AreTallied (S.files store.old) (questions demand count) (played_network player.old) (played_network player.new)) }
 {
     let mut tally = Tally::new();
     for request in 0..count {
@@ -81,7 +81,7 @@ fn ask_all<S: Store>(
 // A network over the drawn files begins. They are those of its settings; were one refused, it would be told as want of
 // memory.
 fn begun(alloc: Global, store: &mut MemoryStore) -> Result<Player, NoMemory>
-    ensures begins { IfOk result (λ player. Begins (Some (file_named store.old.files)) network client (stage_of player)) }
+    ensures begins { IfOk result (λ player. Begins (Some (file_named store.old.files)) network client (played_network player)) }
     ensures files { Some (file_named store.new.files) ≡ Some (file_named store.old.files) }
 {
     match begin(alloc, store, network(alloc)?, CLIENT) {

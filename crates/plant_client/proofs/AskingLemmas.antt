@@ -10,7 +10,7 @@ use Rattle.plant_text.specs.declared.line.LineEvent.TheVariants as line
 use Rattle.plant_text.specs.declared.settings.NetworkParts.{NetworkParts}
 use Rattle.plant_script.specs.plant_model.Events.{Answered}
 use Rattle.plant_script.specs.plant_play.Logs.{Told}
-use Rattle.plant_script.specs.plant_play.Playing.{Cue, IsNewStage, Stage}
+use Rattle.plant_script.specs.plant_play.Playing.{Cue, IsNewNetwork, PlayedNetwork}
 use Rattle.plant_script.specs.plant_play.Scripts.{AllPlayed}
 use Rattle.plant_script.specs.plant_play.Turns.{Turn}
 use Rattle.transcript.specs.declared.stop.Stop.{Stop}
@@ -25,11 +25,11 @@ use Rattle.plant_client.specs.Questions.{opening_text, question_text}
 abbrev Named : Type 0
 Named = As × List ℕ
 
-pub all_append : (old mid new : Stage) (cs ds : List Cue) (ts us : List Turn) (told more : List ℕ) → AllPlayed old cs ts told mid → AllPlayed mid ds us more new → AllPlayed old (cs ++ ds) (ts ++ us) (told ++ more) new
+pub all_append : (old mid new : PlayedNetwork) (cs ds : List Cue) (ts us : List Turn) (told more : List ℕ) → AllPlayed old cs ts told mid → AllPlayed mid ds us more new → AllPlayed old (cs ++ ds) (ts ++ us) (told ++ more) new
 all_append old mid new [] ds ts us told more p q =
     subst (λ (l : List Turn). AllPlayed old ds l (told ++ more) new) (sym (ap (λ (l : List Turn). l ++ us) p.0))
     (subst (λ (l : List ℕ). AllPlayed old ds us l new) (sym (ap (λ (l : List ℕ). l ++ more) p.1))
-    (subst (λ (s : Stage). AllPlayed s ds us more new) p.2 q))
+    (subst (λ (s : PlayedNetwork). AllPlayed s ds us more new) p.2 q))
 all_append old mid new (c ∷ cs) ds ts us told more p q = record {
   answer = p.answer;
   first = p.first;
@@ -50,7 +50,7 @@ cues_append files (e ∷ es) fs [] ds p q = absurd p
 cues_append files (e ∷ es) fs (c ∷ cs) ds p q = (p.0, cues_append files es fs cs ds p.1 q)
 
 -- the files stay the same
-pub then_played : (files later : Option Files) (es fs : List LineEvent) (old mid new : Stage) → later ≡ files → ArePlayed files es old mid → ArePlayed later fs mid new → ArePlayed files (es ++ fs) old new
+pub then_played : (files later : Option Files) (es fs : List LineEvent) (old mid new : PlayedNetwork) → later ≡ files → ArePlayed files es old mid → ArePlayed later fs mid new → ArePlayed files (es ++ fs) old new
 then_played files later es fs old mid new same p q =
     let r = subst (λ (f : Option Files). ArePlayed f fs mid new) same q in
     record {
@@ -61,11 +61,11 @@ then_played files later es fs old mid new same p q =
       played = all_append old mid new p.cues r.cues p.turns r.turns p.told r.told p.played r.played;
     }
 
-pub none_played : (files : Option Files) (s : Stage) → ArePlayed files [] s s
+pub none_played : (files : Option Files) (s : PlayedNetwork) → ArePlayed files [] s s
 none_played files s = record { cues = []; are_cues = tt; turns = []; told = []; played = (refl, refl, refl) }
 
 -- a session is opened, by its bytes; over files that stay the same
-pub session_played : (files f g : Option Files) (client : ℕ) (opening : List ℕ) (s t u v : Stage) (r : Result (Unit {0}) Stop) → opening ≡ opening_text → f ≡ files → g ≡ f →
+pub session_played : (files f g : Option Files) (client : ℕ) (opening : List ℕ) (s t u v : PlayedNetwork) (r : Result (Unit {0}) Stop) → opening ≡ opening_text → f ≡ files → g ≡ f →
     ArePlayed files (line.Settle ∷ []) s t → ArePlayed f (line.Open (Some client) 0 ∷ []) t u → OnOk r (ArePlayed g (line.Feed (Some client) opening ∷ []) u v) →
     OnOk r (ArePlayed files (session_lines client) s v)
 session_played files f g client opening s t u v (Err why) o same next one two last = last
@@ -75,7 +75,7 @@ session_played files f g client opening s t u v (Ok done) o same next one two la
     (then_played f g (line.Open (Some client) 0 ∷ []) (line.Feed (Some client) opening_text ∷ []) t u v next two feeds)
 
 -- a question that is put, by its bytes
-pub asking_played : (files f : Option Files) (client : ℕ) (question : Question) (asked : List ℕ) (s t u : Stage) (r : Result (Unit {0}) Stop) → asked ≡ question_text question → f ≡ files →
+pub asking_played : (files f : Option Files) (client : ℕ) (question : Question) (asked : List ℕ) (s t u : PlayedNetwork) (r : Result (Unit {0}) Stop) → asked ≡ question_text question → f ≡ files →
     ArePlayed files (line.Feed (Some client) asked ∷ []) s t → OnOk r (ArePlayed f (line.Finish ∷ []) t u) → OnOk r (ArePlayed files (asking_lines client question) s u)
 asking_played files f client question asked s t u (Err why) a same one last = last
 asking_played files f client question asked s t u (Ok done) a same one last =
@@ -83,7 +83,7 @@ asking_played files f client question asked s t u (Ok done) a same one last =
     (subst (λ (l : List ℕ). ArePlayed files (line.Feed (Some client) l ∷ []) s t) a one) last
 
 -- all topologies are loaded, and a session is opened
-pub begin_played : (files f : Option Files) (n : NetworkParts) (client : ℕ) (found : List Named) (start loaded begun : Stage) (r : Result (Unit {0}) Stop) → IsNewStage n start → found ≡ topologies n.elements →
+pub begin_played : (files f : Option Files) (n : NetworkParts) (client : ℕ) (found : List Named) (start loaded begun : PlayedNetwork) (r : Result (Unit {0}) Stop) → IsNewNetwork n start → found ≡ topologies n.elements →
     f ≡ files → ArePlayed files (map load_line found) start loaded → OnOk r (ArePlayed f (session_lines client) loaded begun) → OnOk r (Begins files n client begun)
 begin_played files f n client found start loaded begun (Err why) new are same one last = last
 begin_played files f n client found start loaded begun (Ok done) new are same one last = record {
@@ -94,7 +94,7 @@ begin_played files f n client found start loaded begun (Ok done) new are same on
 }
 
 -- a question is put, and the client receives
-pub exchange_played : (files f : Option Files) (client : ℕ) (question : Question) (old asked new : Stage) (r : Result (List ℕ) Stop) → f ≡ files → ArePlayed files (asking_lines client question) old asked →
+pub exchange_played : (files f : Option Files) (client : ℕ) (question : Question) (old asked new : PlayedNetwork) (r : Result (List ℕ) Stop) → f ≡ files → ArePlayed files (asking_lines client question) old asked →
     AreOctets (question_text question) → IfOk r (λ received. Receives f client asked received new) → IfOk r (λ received. Exchanges files client question old received new)
 exchange_played files f client question old asked new (Err why) same lines octets last = last
 exchange_played files f client question old asked new (Ok received) same lines octets last = record {
@@ -105,7 +105,7 @@ exchange_played files f client question old asked new (Ok received) same lines o
 }
 
 -- a client that asks once
-pub ask_played : (files f : Option Files) (n : NetworkParts) (client : ℕ) (question : Question) (begun new : Stage) (r : Result (List ℕ) Stop) → f ≡ files → Begins files n client begun →
+pub ask_played : (files f : Option Files) (n : NetworkParts) (client : ℕ) (question : Question) (begun new : PlayedNetwork) (r : Result (List ℕ) Stop) → f ≡ files → Begins files n client begun →
     IfOk r (λ received. Exchanges f client question begun received new) → IfOk r (λ received. Asks files n client question received)
 ask_played files f n client question begun new (Err why) same b last = last
 ask_played files f n client question begun new (Ok received) same b last =
@@ -132,18 +132,18 @@ pub parts_at : (xs : List Named) (i : ℕ) (x : Named) → i < length xs → x �
 parts_at xs i x inside is =
     sym (take-append-drop i xs) ∙ ap (λ (l : List Named). take i xs ++ l) (drop_more xs i x inside ∙ ap (λ (y : Named). y ∷ drop (i + 1) xs) (sym is))
 
-pub all_loaded : (files : Option Files) (xs : List Named) (i : ℕ) (old new : Stage) → length xs ≤ i → ArePlayed files (map load_line (take i xs)) old new → ArePlayed files (map load_line xs) old new
+pub all_loaded : (files : Option Files) (xs : List Named) (i : ℕ) (old new : PlayedNetwork) → length xs ≤ i → ArePlayed files (map load_line (take i xs)) old new → ArePlayed files (map load_line xs) old new
 all_loaded files xs i old new past p = subst (λ (l : List Named). ArePlayed files (map load_line l) old new) (take_all i xs past) p
 
 -- one topology more
-pub load_next : (files later : Option Files) (xs : List Named) (i : ℕ) (x : Named) (old mid new : Stage) → i < length xs → x ≡ get_or xs i x → later ≡ files →
+pub load_next : (files later : Option Files) (xs : List Named) (i : ℕ) (x : Named) (old mid new : PlayedNetwork) → i < length xs → x ≡ get_or xs i x → later ≡ files →
     ArePlayed files (map load_line (take i xs)) old mid → ArePlayed later (load_line x ∷ []) mid new → ArePlayed files (map load_line (take (i + 1) xs)) old new
 load_next files later xs i x old mid new inside is same p q =
     subst (λ (l : List LineEvent). ArePlayed files l old new) (sym (next_load xs i x inside is)) (then_played files later (map load_line (take i xs)) (load_line x ∷ []) old mid new same p q)
 
 -- ---- one line
 
-pub is_played : (files : Option Files) (e : LineEvent) (answer : Answered) (old new : Stage) (before after : Told) → PlaysCue files 0 e answer old new before after → IsPlayed files e old answer new
+pub is_played : (files : Option Files) (e : LineEvent) (answer : Answered) (old new : PlayedNetwork) (before after : Told) → PlaysCue files 0 e answer old new before after → IsPlayed files e old answer new
 is_played files e answer old new before after p = record {
   cue = record { number = 0; event = e; file = p.file };
   is_cue = record { number = refl; event = refl; has = p.has };
@@ -152,11 +152,11 @@ is_played files e answer old new before after p = record {
   plays = p.plays;
 }
 
-pub if_played : (files : Option Files) (e : LineEvent) (old new : Stage) (before after : Told) (r : Result Answered Stop) → IfOk r (λ answer. PlaysCue files 0 e answer old new before after) → IfOk r (λ answer. IsPlayed files e old answer new)
+pub if_played : (files : Option Files) (e : LineEvent) (old new : PlayedNetwork) (before after : Told) (r : Result Answered Stop) → IfOk r (λ answer. PlaysCue files 0 e answer old new before after) → IfOk r (λ answer. IsPlayed files e old answer new)
 if_played files e old new before after (Ok answer) p = is_played files e answer old new before after p
 if_played files e old new before after (Err why) p = p
 
-pub one_played : (files : Option Files) (e : LineEvent) (answer : Answered) (old new : Stage) → IsPlayed files e old answer new → ArePlayed files (e ∷ []) old new
+pub one_played : (files : Option Files) (e : LineEvent) (answer : Answered) (old new : PlayedNetwork) → IsPlayed files e old answer new → ArePlayed files (e ∷ []) old new
 one_played files e answer old new p = record {
   cues = p.cue ∷ [];
   are_cues = (p.is_cue, tt);
@@ -179,7 +179,7 @@ one_played files e answer old new p = record {
 -- ---- files that stop
 
 -- the store had failed no more often before
-pub stop_earlier : (files : Option Files) (name : List ℕ) (e : LineEvent) (old new : Stage) (before mid now : ℕ) (failed_at : List ℕ) (why : Stop) → before ≤ mid → IsFileStop files name e old new (mid, now) failed_at why → IsFileStop files name e old new (before, now) failed_at why
+pub stop_earlier : (files : Option Files) (name : List ℕ) (e : LineEvent) (old new : PlayedNetwork) (before mid now : ℕ) (failed_at : List ℕ) (why : Stop) → before ≤ mid → IsFileStop files name e old new (mid, now) failed_at why → IsFileStop files name e old new (before, now) failed_at why
 stop_earlier files name e old new before mid now failed_at stop.ReadFault le p = (omega (arith, le, p.0), p.1)
 stop_earlier files name e old new before mid now failed_at stop.WriteFault le p = p
 stop_earlier files name e old new before mid now failed_at (stop.BadNetwork file line fault) le p = p
@@ -187,7 +187,7 @@ stop_earlier files name e old new before mid now failed_at (stop.BadLine line) l
 stop_earlier files name e old new before mid now failed_at (stop.TooLarge file) le p = p
 stop_earlier files name e old new before mid now failed_at stop.NoMemory le p = p
 
-loads_stop_by : (files : Option Files) (all before behind : List Named) (x : Named) (old mid new : Stage) (counts : ℕ × ℕ) (failed_at : List ℕ) (why : Stop) →
+loads_stop_by : (files : Option Files) (all before behind : List Named) (x : Named) (old mid new : PlayedNetwork) (counts : ℕ × ℕ) (failed_at : List ℕ) (why : Stop) →
     all ≡ before ++ x ∷ behind → ArePlayed files (map load_line before) old mid → IsFileStop files x.1 (load_line x) mid new counts failed_at why → LoadsStop files all old counts failed_at why
 loads_stop_by files all before behind x old mid new counts failed_at stop.ReadFault parts played p = record { before = before; topology = x; behind = behind; parts = parts; loaded = mid; lines = played; end = new; stops = p }
 loads_stop_by files all before behind x old mid new counts failed_at stop.WriteFault parts played p = absurd p
@@ -197,7 +197,7 @@ loads_stop_by files all before behind x old mid new counts failed_at (stop.TooLa
 loads_stop_by files all before behind x old mid new counts failed_at stop.NoMemory parts played p = tt
 
 -- the files that were there before and the count before it serve as well
-pub loads_stop : (files later : Option Files) (all before behind : List Named) (x : Named) (old mid new : Stage) (first count now : ℕ) (failed_at : List ℕ) (why : Stop) →
+pub loads_stop : (files later : Option Files) (all before behind : List Named) (x : Named) (old mid new : PlayedNetwork) (first count now : ℕ) (failed_at : List ℕ) (why : Stop) →
     later ≡ files → first ≤ count → all ≡ before ++ x ∷ behind → ArePlayed files (map load_line before) old mid → IsFileStop later x.1 (load_line x) mid new (count, now) failed_at why →
     LoadsStop files all old (first, now) failed_at why
 loads_stop files later all before behind x old mid new first count now failed_at why same le parts played p =

@@ -11,7 +11,7 @@ use Rattle.plant_text.specs.declared.settings.NetworkParts.{NetworkParts}
 use Rattle.plant_text.specs.Settings.{elements_of, row_of}
 use Rattle.plant_script.specs.plant_model.declared.outcome.Outcome.TheVariants as outcome
 use Rattle.plant_script.specs.plant_model.Events.{Answered}
-use Rattle.plant_script.specs.plant_play.Playing.{Cue, IsNewStage, PlaysLine, Stage}
+use Rattle.plant_script.specs.plant_play.Playing.{Cue, IsNewNetwork, PlaysLine, PlayedNetwork}
 use Rattle.plant_script.specs.plant_play.Scripts.{AllPlayed}
 use Rattle.plant_script.specs.plant_play.Turns.{Turn}
 use Rattle.transcript.specs.declared.stop.Stop.{Stop}
@@ -76,7 +76,7 @@ AreCues files (e ∷ es) [] = ⊥
 AreCues files (e ∷ es) (c ∷ cs) = IsCue files e c × AreCues files es cs
 
 -- the lines are played one after the other
-pub record ArePlayed (files : Option Files) (lines : List LineEvent) (old new : Stage) : Type 0 where
+pub record ArePlayed (files : Option Files) (lines : List LineEvent) (old new : PlayedNetwork) : Type 0 where
   pub cues : List Cue
   pub are_cues : AreCues files lines cues
   pub turns : List Turn
@@ -84,7 +84,7 @@ pub record ArePlayed (files : Option Files) (lines : List LineEvent) (old new : 
   pub played : AllPlayed old cues turns told new
 
 -- a line is played, with this answer
-pub record IsPlayed (files : Option Files) (e : LineEvent) (old : Stage) (answer : Answered) (new : Stage) : Type 0 where
+pub record IsPlayed (files : Option Files) (e : LineEvent) (old : PlayedNetwork) (answer : Answered) (new : PlayedNetwork) : Type 0 where
   pub cue : Cue
   pub is_cue : IsCue files e cue
   pub turns : List Turn
@@ -101,49 +101,49 @@ received_in (Ok (outcome.Loaded generation)) = []
 received_in (Err why) = []
 
 -- what waits for the client is handed out
-pub record Receives (files : Option Files) (client : ℕ) (old : Stage) (received : List ℕ) (new : Stage) : Type 0 where
+pub record Receives (files : Option Files) (client : ℕ) (old : PlayedNetwork) (received : List ℕ) (new : PlayedNetwork) : Type 0 where
   pub answer : Answered
   pub drains : IsPlayed files (line.Drain (Some client) 0) old answer new
   pub bytes : received ≡ received_in answer
 
 -- Over a network of these settings that has just been made, all topologies are loaded, and the client opens its session.
-pub record Begins (files : Option Files) (n : NetworkParts) (client : ℕ) (begun : Stage) : Type 0 where
-  pub start : Stage
-  pub new : IsNewStage n start
+pub record Begins (files : Option Files) (n : NetworkParts) (client : ℕ) (begun : PlayedNetwork) : Type 0 where
+  pub start : PlayedNetwork
+  pub new : IsNewNetwork n start
   pub lines : ArePlayed files (opening_lines n client) start begun
 
 -- The client asks, and receives. What it sends is octets.
-pub record Exchanges (files : Option Files) (client : ℕ) (question : Question) (old : Stage) (received : List ℕ) (new : Stage) : Type 0 where
-  pub asked : Stage
+pub record Exchanges (files : Option Files) (client : ℕ) (question : Question) (old : PlayedNetwork) (received : List ℕ) (new : PlayedNetwork) : Type 0 where
+  pub asked : PlayedNetwork
   pub lines : ArePlayed files (asking_lines client question) old asked
   pub octets : AreOctets (question_text question)
   pub receives : Receives files client asked received new
 
 -- The same of a client that asks once: all lines are played, and then it receives.
 pub record Asks (files : Option Files) (n : NetworkParts) (client : ℕ) (question : Question) (received : List ℕ) : Type 0 where
-  pub start : Stage
-  pub new : IsNewStage n start
-  pub asked : Stage
+  pub start : PlayedNetwork
+  pub new : IsNewNetwork n start
+  pub asked : PlayedNetwork
   pub lines : ArePlayed files (lines_of n client question) start asked
   pub octets : AreOctets (question_text question)
-  pub end : Stage
+  pub end : PlayedNetwork
   pub receives : Receives files client asked received end
 
 -- ---- why it does not come to that
 
 -- The topologies before one are loaded, and its file stops it.
-pub record StopsAtFile (files : Option Files) (topologies : List (As × List ℕ)) (old : Stage) (counts : ℕ × ℕ) (failed_at : List ℕ) (why : Stop) : Type 0 where
+pub record StopsAtFile (files : Option Files) (topologies : List (As × List ℕ)) (old : PlayedNetwork) (counts : ℕ × ℕ) (failed_at : List ℕ) (why : Stop) : Type 0 where
   pub before : List (As × List ℕ)
   pub topology : As × List ℕ
   pub behind : List (As × List ℕ)
   pub parts : topologies ≡ before ++ topology ∷ behind
-  pub loaded : Stage
+  pub loaded : PlayedNetwork
   pub lines : ArePlayed files (map load_line before) old loaded
-  pub end : Stage
+  pub end : PlayedNetwork
   pub stops : IsFileStop files topology.1 (load_line topology) loaded end counts failed_at why
 
 -- want of memory says nothing
-abbrev pub LoadsStop : Option Files → List (As × List ℕ) → Stage → ℕ × ℕ → List ℕ → Stop → Type 0
+abbrev pub LoadsStop : Option Files → List (As × List ℕ) → PlayedNetwork → ℕ × ℕ → List ℕ → Stop → Type 0
 LoadsStop files topologies old counts failed_at stop.NoMemory = Unit {0}
 LoadsStop files topologies old counts failed_at why = StopsAtFile files topologies old counts failed_at why
 
@@ -151,4 +151,4 @@ LoadsStop files topologies old counts failed_at why = StopsAtFile files topologi
 abbrev pub AskStops : Option Files → NetworkParts → ℕ × ℕ → List ℕ → Stop → Type 0
 AskStops files n counts failed_at stop.NoMemory = Unit {0}
 AskStops files n counts failed_at why =
-    (start : Stage) × IsNewStage n start × StopsAtFile files (topologies n.elements) start counts failed_at why
+    (start : PlayedNetwork) × IsNewNetwork n start × StopsAtFile files (topologies n.elements) start counts failed_at why

@@ -2,7 +2,7 @@
 ghost use Rattle.std.specs.Prelude.{◌≡◌, ◌≤◌, ◌++◌, ◌∷◌, [], length, map, IfErr, IfOk, MatchOption, None, OnOk, Some};
 ghost use Rattle.pcep_subobjects.specs.Subobjects.{AreOctets};
 ghost use Rattle.plant_text.specs.Settings.{row_of};
-ghost use Rattle.plant_script.specs.plant_play.Playing.{IsNewStage, stage_of};
+ghost use Rattle.plant_script.specs.plant_play.Playing.{IsNewNetwork, played_network};
 ghost use Rattle.plant_script.specs.Cues.{IsCueStop, IsFileStop, file_name};
 ghost use Rattle.plant_client.specs.Asking.{ArePlayed, AskStops, Asks, Begins, Exchanges, IsPlayed, LoadsStop, Receives, asking_lines, load_line, name_in, named, received_in, session_lines, topologies};
 ghost use Rattle.plant_client.specs.Questions.{question_text, sequence_most};
@@ -73,8 +73,8 @@ fn play_line<S: Store>(
     player: &mut Player,
     event: LineEvent,
 ) -> Result<Answer, Stop>
-    ensures plays { IfOk result (λ answer. IsPlayed (S.files store.old) event (stage_of player.old) answer (stage_of player.new)) }
-    ensures refused { IfErr result (IsCueStop (S.files store.old) (file_name event) event (stage_of player.old) (stage_of player.new) (S.faults store.old, S.faults store.new) (S.failed_at store.new)) }
+    ensures plays { IfOk result (λ answer. IsPlayed (S.files store.old) event (played_network player.old) answer (played_network player.new)) }
+    ensures refused { IfErr result (IsCueStop (S.files store.old) (file_name event) event (played_network player.old) (played_network player.new) (S.faults store.old, S.faults store.new) (S.failed_at store.new)) }
     ensures files { S.files store.new ≡ S.files store.old }
     ensures later { S.faults store.old ≤ S.faults store.new }
 {
@@ -89,8 +89,8 @@ fn play_blindly<S: Store>(
     player: &mut Player,
     event: LineEvent,
 ) -> Result<(), Stop>
-    ensures plays { OnOk result (ArePlayed (S.files store.old) (event ∷ []) (stage_of player.old) (stage_of player.new)) }
-    ensures refused { IfErr result (IsCueStop (S.files store.old) (file_name event) event (stage_of player.old) (stage_of player.new) (S.faults store.old, S.faults store.new) (S.failed_at store.new)) }
+    ensures plays { OnOk result (ArePlayed (S.files store.old) (event ∷ []) (played_network player.old) (played_network player.new)) }
+    ensures refused { IfErr result (IsCueStop (S.files store.old) (file_name event) event (played_network player.old) (played_network player.new) (S.faults store.old, S.faults store.new) (S.failed_at store.new)) }
     ensures files { S.files store.new ≡ S.files store.old }
     ensures later { S.faults store.old ≤ S.faults store.new }
 {
@@ -106,7 +106,7 @@ fn play_alone<S: Store>(
     event: LineEvent,
 ) -> Result<(), Stop>
     requires alone { file_name event ≡ None }
-    ensures plays { OnOk result (ArePlayed (S.files store.old) (event ∷ []) (stage_of player.old) (stage_of player.new)) }
+    ensures plays { OnOk result (ArePlayed (S.files store.old) (event ∷ []) (played_network player.old) (played_network player.new)) }
     ensures refused { IfErr result (λ why. why ≡ Stop.NoMemory) }
     ensures files { S.files store.new ≡ S.files store.old }
     ensures later { S.faults store.old ≤ S.faults store.new }
@@ -120,8 +120,8 @@ fn load<S: Store>(
     player: &mut Player,
     topology: &(As, Text),
 ) -> Result<(), Stop>
-    ensures loads { OnOk result (ArePlayed (S.files store.old) (load_line topology.now ∷ []) (stage_of player.old) (stage_of player.new)) }
-    ensures refused { IfErr result (IsFileStop (S.files store.old) topology.now.1 (load_line topology.now) (stage_of player.old) (stage_of player.new) (S.faults store.old, S.faults store.new) (S.failed_at store.new)) }
+    ensures loads { OnOk result (ArePlayed (S.files store.old) (load_line topology.now ∷ []) (played_network player.old) (played_network player.new)) }
+    ensures refused { IfErr result (IsFileStop (S.files store.old) topology.now.1 (load_line topology.now) (played_network player.old) (played_network player.new) (S.faults store.old, S.faults store.new) (S.failed_at store.new)) }
     ensures files { S.files store.new ≡ S.files store.old }
     ensures later { S.faults store.old ≤ S.faults store.new }
 {
@@ -135,8 +135,8 @@ fn load_all<S: Store>(
     player: &mut Player,
     topologies: &[(As, Text)],
 ) -> Result<(), Stop>
-    ensures loads { OnOk result (ArePlayed (S.files store.old) (map load_line topologies.now) (stage_of player.old) (stage_of player.new)) }
-    ensures stops { IfErr result (LoadsStop (S.files store.old) topologies.now (stage_of player.old) (S.faults store.old, S.faults store.new) (S.failed_at store.new)) }
+    ensures loads { OnOk result (ArePlayed (S.files store.old) (map load_line topologies.now) (played_network player.old) (played_network player.new)) }
+    ensures stops { IfErr result (LoadsStop (S.files store.old) topologies.now (played_network player.old) (S.faults store.old, S.faults store.new) (S.failed_at store.new)) }
     ensures files { S.files store.new ≡ S.files store.old }
     ensures later { S.faults store.old ≤ S.faults store.new }
 {
@@ -153,7 +153,7 @@ fn open_session<S: Store>(
     player: &mut Player,
     client: u32,
 ) -> Result<(), Stop>
-    ensures opens { OnOk result (ArePlayed (S.files store.old) (session_lines client) (stage_of player.old) (stage_of player.new)) }
+    ensures opens { OnOk result (ArePlayed (S.files store.old) (session_lines client) (played_network player.old) (played_network player.new)) }
     ensures refused { IfErr result (λ why. why ≡ Stop.NoMemory) }
     ensures files { S.files store.new ≡ S.files store.old }
     ensures later { S.faults store.old ≤ S.faults store.new }
@@ -173,7 +173,7 @@ fn put<S: Store>(
     question: &Question,
 ) -> Result<(), Stop>
     requires few { length question.now.sequence ≤ sequence_most }
-    ensures asks { OnOk result (ArePlayed (S.files store.old) (asking_lines client question.now) (stage_of player.old) (stage_of player.new)) }
+    ensures asks { OnOk result (ArePlayed (S.files store.old) (asking_lines client question.now) (played_network player.old) (played_network player.new)) }
     ensures octets { OnOk result (AreOctets (question_text question.now)) }
     ensures refused { IfErr result (λ why. why ≡ Stop.NoMemory) }
     ensures files { S.files store.new ≡ S.files store.old }
@@ -207,7 +207,7 @@ fn receive<S: Store>(
     player: &mut Player,
     client: u32,
 ) -> Result<Bytes, Stop>
-    ensures receives { IfOk result (λ received. Receives (S.files store.old) client (stage_of player.old) received (stage_of player.new)) }
+    ensures receives { IfOk result (λ received. Receives (S.files store.old) client (played_network player.old) received (played_network player.new)) }
     ensures refused { IfErr result (λ why. why ≡ Stop.NoMemory) }
     ensures files { S.files store.new ≡ S.files store.old }
     ensures later { S.faults store.old ≤ S.faults store.new }
@@ -224,10 +224,10 @@ fn begin_new<S: Store>(
     named: &[(As, Text)],
     client: u32,
 ) -> Result<(), Stop>
-    requires new { IsNewStage (stage_of player.old).network (stage_of player.old) }
-    requires found { named.now ≡ topologies (stage_of player.old).network.elements }
-    ensures begins { OnOk result (Begins (S.files store.old) (stage_of player.old).network client (stage_of player.new)) }
-    ensures stops { IfErr result (AskStops (S.files store.old) (stage_of player.old).network (S.faults store.old, S.faults store.new) (S.failed_at store.new)) }
+    requires new { IsNewNetwork (played_network player.old).network (played_network player.old) }
+    requires found { named.now ≡ topologies (played_network player.old).network.elements }
+    ensures begins { OnOk result (Begins (S.files store.old) (played_network player.old).network client (played_network player.new)) }
+    ensures stops { IfErr result (AskStops (S.files store.old) (played_network player.old).network (S.faults store.old, S.faults store.new) (S.failed_at store.new)) }
     ensures files { S.files store.new ≡ S.files store.old }
     ensures later { S.faults store.old ≤ S.faults store.new }
 {
@@ -244,7 +244,7 @@ pub fn begin<S: Store>(
     network: Network,
     client: u32,
 ) -> Result<Player, Stop>
-    ensures begins { IfOk result (λ player. Begins (S.files store.old) network client (stage_of player)) }
+    ensures begins { IfOk result (λ player. Begins (S.files store.old) network client (played_network player)) }
     ensures stops { IfErr result (AskStops (S.files store.old) network (S.faults store.old, S.faults store.new) (S.failed_at store.new)) }
     ensures files { S.files store.new ≡ S.files store.old }
     ensures later { S.faults store.old ≤ S.faults store.new }
@@ -265,7 +265,7 @@ pub fn exchange<S: Store>(
     question: &Question,
 ) -> Result<Bytes, Stop>
     requires few { length question.now.sequence ≤ sequence_most }
-    ensures exchanges { IfOk result (λ received. Exchanges (S.files store.old) client question.now (stage_of player.old) received (stage_of player.new)) }
+    ensures exchanges { IfOk result (λ received. Exchanges (S.files store.old) client question.now (played_network player.old) received (played_network player.new)) }
     ensures refused { IfErr result (λ why. why ≡ Stop.NoMemory) }
     ensures files { S.files store.new ≡ S.files store.old }
     ensures later { S.faults store.old ≤ S.faults store.new }

@@ -16,7 +16,7 @@ use Rattle.pcep_session.specs.declared.state.State.{State as Session}
 use Rattle.pcep_session.specs.Table.{new_state, turn_of}
 use Rattle.plant_text.specs.declared.settings.NetworkParts.{NetworkParts}
 use Rattle.plant_text.specs.Names.{same_as, parent_as}
-use Rattle.plant_text.specs.Settings.{Line, lines, is_linked}
+use Rattle.plant_text.specs.Settings.{Adjacency, adjacencies, is_linked}
 use Rattle.plant_model.specs.declared.event.Event.{Event}
 use Rattle.plant_model.specs.declared.event.Event.TheVariants as event
 use Rattle.plant_model.specs.declared.outcome.Outcome.{Outcome}
@@ -151,9 +151,9 @@ MessagesHaveCauses = (c : Codec) (n : NetworkParts) (es : List Entry) (before : 
 abbrev pub an_open : As → As → PlantDeed
 an_open at b = Says at (record { to = Inner b; message = own_message (own.Open (our_offer 0)) })
 
-abbrev pub opens_of : List Line → Transcript → Transcript
+abbrev pub opens_of : List Adjacency → Transcript → Transcript
 opens_of [] earlier = earlier
 opens_of (x ∷ xs) earlier = opens_of xs (an_open x.upper x.lower ∷ an_open x.lower x.upper ∷ earlier)
 
 abbrev pub NetworksBegin : Type 0
-NetworksBegin = (c : Codec) (n : NetworkParts) → (opened c n).deeds ≡ opens_of (lines n) []
+NetworksBegin = (c : Codec) (n : NetworkParts) → (opened c n).deeds ≡ opens_of (adjacencies n) []

@@ -21,7 +21,7 @@ use Rattle.plant_text.specs.Names.{same_as, parent_as}
 use Rattle.plant_model.specs.Wire.{Codec}
 use Rattle.plant_model.specs.Writing.{reply_message, busy, no_path}
 use Rattle.plant_model.specs.Branches.{open_branch, path_of}
-use Rattle.plant_model.specs.Element.{Item, Row, Place, Ready, is_client}
+use Rattle.plant_model.specs.Element.{Item, Row, ElementSettings, Ready, is_client}
 use Rattle.plant_model.specs.Solving.{closed_paths, free}
 use Rattle.plant_model.specs.Parent as parent
 use Rattle.plant_model.specs.BorderGraph.{Found, SolvesBorder}
@@ -42,7 +42,7 @@ pub data TellsClient (c : Codec) (h : Row Pin) (down : List Branch) (rows : Answ
   no_pair : rows.best ≡ [] → m ≡ reply_to h (no_path rows.source_known rows.target_known) → TellsClient c h down rows m
 
 -- to a neighbour, or the parent, at a moment and with these keys
-pub data TellsClosed (c : Codec) (e : Place) (h : Row Pin) (down : List Branch) (now : ℕ) (keys : Keys Segment) (best : List Best) (m : Message) : Type 0 where
+pub data TellsClosed (c : Codec) (e : ElementSettings) (h : Row Pin) (down : List Branch) (now : ℕ) (keys : Keys Segment) (best : List Best) (m : Message) : Type 0 where
   -- a branch for each entry that has a pair, in their order, each with its cost and a key of its own
   branches : best ≢ [] → length best ≤ free now keys →
       m ≡ reply_to h (Paths (closed_paths c e.id h.1.item.wanted.query.metric h.1.item.wanted.target down keys.next best)) → TellsClosed c e h down now keys best m

@@ -14,8 +14,8 @@ use Rattle.std.specs.declared.snapshot.Snapshot.{Snapshot}
 use Rattle.plant_lock.specs.declared.view.View.{View}
 use Rattle.plant_lock.specs.declared.view.Slot.{Slot}
 use Rattle.plant_lock.specs.declared.view.Slot.TheVariants.{Value, Entry}
-use Rattle.plant_lock.specs.declared.view.Stage.{Stage}
-use Rattle.plant_lock.specs.declared.view.Stage.TheVariants.{Idle, Waits, Serves}
+use Rattle.plant_lock.specs.declared.view.SeatStage.{SeatStage}
+use Rattle.plant_lock.specs.declared.view.SeatStage.TheVariants.{Idle, Waits, Serves}
 use Rattle.plant_lock.specs.History.{replay, Legal, StartsWith, times, once_below, longer}
 use Rattle.plant_lock.specs.Views.{opened, gone, kept_half, given_half, both, LegalFrom, LeadsTo}
 use Rattle.plant_lock.specs.Rule.{places_at, view_shares, HasTicket, StageOk, SlotOk, LiveOk, Ruled}
@@ -97,7 +97,7 @@ module _ {T S A B : Type 0} (plain : T → S) (admits : S → A → Type 0) (all
   restated : (s : St) (r : R s) (id : ℕ) (v w : V) → get_elem? s.views id ≡ some v → 0 < v.shares → w.places ≡ v.places → w.shares ≡ v.shares → w.stage ≡ v.stage → (0 < w.shares → Live r.history r.next r.owner r.holder id w)
       → R record { words = s.words; homes = s.homes; views = set s.views id w }
   restated s r id v w at some_share places same stage mine = changed s r id v w at same r.history r.next r.owner r.holder s.words s.homes r.words r.bound r.behind r.legal
-      (λ t lo hi. there_set (λ (u : V). HasTicket u.stage t) s.views id (r.owner t) v w at (subst (λ (x : Stage). HasTicket x t) (sym stage)) (r.out t lo hi))
+      (λ t lo hi. there_set (λ (u : V). HasTicket u.stage t) s.views id (r.owner t) v w at (subst (λ (x : SeatStage). HasTicket x t) (sym stage)) (r.out t lo hi))
       (slot_stays r.history s.homes s.views id v w at (λ pos is. (subst (λ (x : ℕ). 0 < x) (sym same) pos, stage ∙ is)) r.holder r.slot) mine some_share (λ x. ap (λ (l : List ℕ). times x l + once_below x (length r.history)) places) (λ j u ne e pos l. l)
 
   -- the words after a step that leaves them
@@ -127,7 +127,7 @@ module _ {T S A B : Type 0} (plain : T → S) (admits : S → A → Type 0) (all
   owned_else : (owner : ℕ → ℕ) (n id t : ℕ) → t ≢ n → owned owner n id t ≡ owner t
   owned_else owner n id t ne = ap (λ (b : Bool). cond b id (owner t)) (ne_eqb t n ne)
 
-  stage_drawn : (h : List (A × B)) (n : ℕ) (owner : ℕ → ℕ) (holder : maybe.Option ℕ) (id j : ℕ) (seen : List (A × B)) (st : Stage)
+  stage_drawn : (h : List (A × B)) (n : ℕ) (owner : ℕ → ℕ) (holder : maybe.Option ℕ) (id j : ℕ) (seen : List (A × B)) (st : SeatStage)
       → StageOk plain admits allows after h n owner holder j seen st → StageOk plain admits allows after h (n + 1) (owned owner n id) holder j seen st
   stage_drawn h n owner holder id j seen Idle k = tt
   stage_drawn h n owner holder id j seen (Waits t) k = let a = k.1 in (k.0, omega arith, owned_else owner n id t (omega arith) ∙ k.2)
@@ -145,7 +145,7 @@ module _ {T S A B : Type 0} (plain : T → S) (admits : S → A → Type 0) (all
             (λ t lo hi. dite (ℕ_discrete t m)
             (λ e. (w, subst (λ (k : ℕ). get_elem? (set s.views id w) k ≡ some w) (sym (ap (owned r.owner m id) e ∙ owned_here r.owner m id)) (set_at s.views id me.0 w at), here ∙ sym e))
             (λ ne. subst (λ (k : ℕ). (u : V) × (get_elem? (set s.views id w) k ≡ some u) × HasTicket u.stage t) (sym (owned_else r.owner m id t ne))
-            (there_set (λ (u : V). HasTicket u.stage t) s.views id (r.owner t) me.0 w at (λ has. absurd (subst (λ (z : Stage). HasTicket z t) idle has)) (r.out t lo (omega arith)))))
+            (there_set (λ (u : V). HasTicket u.stage t) s.views id (r.owner t) me.0 w at (λ has. absurd (subst (λ (z : SeatStage). HasTicket z t) idle has)) (r.out t lo (omega arith)))))
             (slot_stays r.history s.homes s.views id me.0 w at (λ _ srv. absurd (idle_serves (length r.history) (sym idle ∙ srv))) r.holder r.slot)
             (λ _. record { starts = l.starts; seen = l.seen; told = l.told; met = omega arith; stage = (let b = r.behind in omega arith, omega arith, ap (owned r.owner m id) here ∙ owned_here r.owner m id) })
             pos (λ _. refl)
@@ -160,7 +160,7 @@ module _ {T S A B : Type 0} (plain : T → S) (admits : S → A → Type 0) (all
         ((λ hit. absurd (miss hit)), (λ _. refl)),
       ))
 
-  stage_held : (h : List (A × B)) (n : ℕ) (owner : ℕ → ℕ) (id j : ℕ) (seen : List (A × B)) (st : Stage)
+  stage_held : (h : List (A × B)) (n : ℕ) (owner : ℕ → ℕ) (id j : ℕ) (seen : List (A × B)) (st : SeatStage)
       → StageOk plain admits allows after h n owner none j seen st → StageOk plain admits allows after h n owner (some id) j seen st
   stage_held h n owner id j seen Idle k = tt
   stage_held h n owner id j seen (Waits t) k = k
@@ -177,7 +177,7 @@ module _ {T S A B : Type 0} (plain : T → S) (admits : S → A → Type 0) (all
         takes 0 (Value o.0),
         o.1,
         changed s r id me.0 w at refl h r.next r.owner (some id) (set s.words 1 (get_or s.words 1 0)) (set s.homes 0 none) (word_same s 1 ∙ r.words) r.bound r.behind r.legal
-            (λ u lo hi. there_set (λ (x : V). HasTicket x.stage u) s.views id (r.owner u) me.0 w at (λ has. subst (λ (z : Stage). HasTicket z u) waits has) (r.out u lo hi))
+            (λ u lo hi. there_set (λ (x : V). HasTicket x.stage u) s.views id (r.owner u) me.0 w at (λ has. subst (λ (z : SeatStage). HasTicket z u) waits has) (r.out u lo hi))
             (w, set_at s.views id me.0 w at, pos, ap Serves (sym len))
             (λ _. record { starts = l.starts; seen = starts_self h; told = l.told; met = l.met; stage = (sym len, k.1, k.2, refl, refl) })
             pos (λ _. refl)
@@ -193,12 +193,12 @@ module _ {T S A B : Type 0} (plain : T → S) (admits : S → A → Type 0) (all
 
   pub takes_slot : (n id t : ℕ) (me : M) → 0 < me.0.shares → me.0.stage ≡ Waits t → Allows R n id me 1 (λ x. x) (took plain admits allows after (step n 1 0 0 none) me)
   takes_slot n id t me pos waits s r _ at _ = let x : ℕ = get_or s.words 1 0 in let l = r.live id me.0 at pos in
-      subst (λ (z : Stage). (w : V) × (a : Act (Slot T A B)) × Valid s.homes me.1 a × R (stepped s 1 x id me.1 w a) × took_at plain admits allows after z me x (w, carried_after me.1 a)) (sym waits)
+      subst (λ (z : SeatStage). (w : V) × (a : Act (Slot T A B)) × Valid s.homes me.1 a × R (stepped s 1 x id me.1 w a) × took_at plain admits allows after z me x (w, carried_after me.1 a)) (sym waits)
       (dite (ℕ_discrete x t)
       (λ hit. let g = takes_home s r n id t me pos waits at hit l r.holder refl r.slot in (g.0, g.1, g.2, g.3, ((λ _. g.4), (λ miss. absurd (miss hit)))))
       (λ miss. (me.0, keeps, tt, rested s 1 id me me.0 (restated s r id me.0 me.0 at pos refl refl refl (λ _. l)), ((λ hit. absurd (miss hit)), (λ _. refl)))))
 
-  stage_advanced : (h : List (A × B)) (e : A × B) (n : ℕ) (owner : ℕ → ℕ) (id j : ℕ) (seen : List (A × B)) (st : Stage) → j ≢ id → owner (length h) ≡ id
+  stage_advanced : (h : List (A × B)) (e : A × B) (n : ℕ) (owner : ℕ → ℕ) (id j : ℕ) (seen : List (A × B)) (st : SeatStage) → j ≢ id → owner (length h) ≡ id
       → StageOk plain admits allows after h n owner (some id) j seen st → StageOk plain admits allows after (h ++ e ∷ []) n owner none j seen st
   stage_advanced h e n owner id j seen Idle ne mine k = tt
   stage_advanced h e n owner id j seen (Waits t) ne mine k = let len = length-append h (e ∷ []) in let le = k.0 in
@@ -219,7 +219,7 @@ module _ {T S A B : Type 0} (plain : T → S) (admits : S → A → Type 0) (all
       (ap₂ (λ (ws : List ℕ) (z : ℕ). set ws 1 z) r.words (let q : new ≡ length (h ++ e ∷ []) = omega arith in q)) r.bound (omega arith)
       (legal_snoc admits allows after (plain start) h a b r.legal (subst (λ (z : List (A × B)). admits (replay after (plain start) z) a) same may) (subst (λ (z : List (A × B)). allows (replay after (plain start) z) a b) same can))
       (λ u lo hi. there_set (λ (x : V). HasTicket x.stage u) s.views id (r.owner u) me.0 w at
-      (λ has. let q : t ≡ u = subst (λ (z : Stage). HasTicket z u) serves has in absurd (omega arith)) (r.out u (omega arith) hi))
+      (λ has. let q : t ≡ u = subst (λ (z : SeatStage). HasTicket z u) serves has in absurd (omega arith)) (r.out u (omega arith) hi))
       (y, set_here s.homes 0 (some (Value y)) some_slot, left ∙ (ap (λ (z : List (A × B)). after (replay after (plain start) z) a b) same ∙ sym (replay_snoc after (plain start) h a b)))
       (λ _. record { starts = l.starts; seen = subst (λ (z : List (A × B)). StartsWith (h ++ e ∷ []) (z ++ e ∷ [])) (sym same) (starts_self (h ++ e ∷ [])); told = starts_more h (e ∷ []) me.0.told l.told; met = l.met; stage = tt })
       pos (λ x. let a = times_append x me.0.places (t ∷ []) in let b = once_next x (length h) in let c : length (h ++ e ∷ []) ≡ length h + 1 = omega arith in let d = ap (once_below x) c in let f = ap (λ (z : ℕ). times x (z ∷ [])) is in omega arith)
@@ -272,7 +272,7 @@ module _ {T S A B : Type 0} (plain : T → S) (admits : S → A → Type 0) (all
         (refl, q.0, q.1, subst (λ (z : Option T). LegalFrom plain admits allows after z w.seen) (sym l.starts) (legal_start admits allows after (plain start) r.history w.seen r.legal q.2), (let part = part_below view_shares s.views id me.0 at in let all = r.whole in let few = r.few in omega arith)),
       )
 
-  stage_idle : (h : List (A × B)) (n : ℕ) (owner : ℕ → ℕ) (holder : maybe.Option ℕ) (id : ℕ) (seen : List (A × B)) (st : Stage) → st ≡ Idle → StageOk plain admits allows after h n owner holder id seen st
+  stage_idle : (h : List (A × B)) (n : ℕ) (owner : ℕ → ℕ) (holder : maybe.Option ℕ) (id : ℕ) (seen : List (A × B)) (st : SeatStage) → st ≡ Idle → StageOk plain admits allows after h n owner holder id seen st
   stage_idle h n owner holder id seen st is = subst (StageOk plain admits allows after h n owner holder id seen) (sym is) tt
 
   pub splits : (id : ℕ) (v : V) → 1 < v.shares → Splits R id v (kept_half v) (given_half v)
@@ -325,7 +325,7 @@ module _ {T S A B : Type 0} (plain : T → S) (admits : S → A → Type 0) (all
         bound = r.bound;
         behind = r.behind;
         legal = r.legal;
-        out = λ t lo hi. there_set (λ (x : V). HasTicket x.stage t) vs other (r.owner t) w gone at' (λ has. absurd (subst (λ (z : Stage). HasTicket z t) idle has))
+        out = λ t lo hi. there_set (λ (x : V). HasTicket x.stage t) vs other (r.owner t) w gone at' (λ has. absurd (subst (λ (z : SeatStage). HasTicket z t) idle has))
             (there_set (λ (x : V). HasTicket x.stage t) s.views id (r.owner t) v u at (λ has. has) (r.out t lo hi));
         slot = slot_stays r.history s.homes vs other w gone at' (λ _ srv. absurd (idle_serves (length r.history) (sym idle ∙ srv))) r.holder
             (slot_stays r.history s.homes s.views id v u at (λ p is. (omega arith, is)) r.holder r.slot);

@@ -8,8 +8,8 @@ use Rattle.atomic_table.specs.Table.{State}
 use Rattle.plant_lock.specs.declared.view.View.{View}
 use Rattle.plant_lock.specs.declared.view.Slot.{Slot}
 use Rattle.plant_lock.specs.declared.view.Slot.TheVariants.{Value}
-use Rattle.plant_lock.specs.declared.view.Stage.{Stage}
-use Rattle.plant_lock.specs.declared.view.Stage.TheVariants.{Idle, Waits, Serves}
+use Rattle.plant_lock.specs.declared.view.SeatStage.{SeatStage}
+use Rattle.plant_lock.specs.declared.view.SeatStage.TheVariants.{Idle, Waits, Serves}
 use Rattle.plant_lock.specs.History.{replay, Legal, StartsWith, times, once_below}
 
 -- of each view, added up
@@ -17,7 +17,7 @@ abbrev pub total : {V : Type 0} → (V → ℕ) → List V → ℕ
 total f [] = 0
 total f (v ∷ vs) = f v + total f vs
 
-abbrev pub HasTicket : Stage → ℕ → Type 0
+abbrev pub HasTicket : SeatStage → ℕ → Type 0
 HasTicket Idle t = ⊥
 HasTicket (Waits n) t = n ≡ t
 HasTicket (Serves n) t = n ≡ t
@@ -31,7 +31,7 @@ module _ {T A B : Type 0} where
 
 module _ {T S A B : Type 0} (plain : T → S) (admits : S → A → Type 0) (allows : S → A → B → Type 0) (after : S → A → B → S) where
   -- What a seat knows of its ticket is so. The history is h, the next ticket n, the seat of each ticket that is out is its owner, and the holder is the seat that has the slot, if one has.
-  abbrev pub StageOk : List (A × B) → ℕ → (ℕ → ℕ) → maybe.Option ℕ → ℕ → List (A × B) → Stage → Type 0
+  abbrev pub StageOk : List (A × B) → ℕ → (ℕ → ℕ) → maybe.Option ℕ → ℕ → List (A × B) → SeatStage → Type 0
   StageOk h n owner holder id seen Idle = Unit {0}
   StageOk h n owner holder id seen (Waits t) = (length h ≤ t) × (t < n) × (owner t ≡ id)
   StageOk h n owner holder id seen (Serves t) = (t ≡ length h) × (t < n) × (owner t ≡ id) × (seen ≡ h) × (holder ≡ some id)

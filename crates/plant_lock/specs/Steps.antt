@@ -6,8 +6,8 @@ use Rattle.atomic_table.specs.Table.{Me, Step, rest}
 use Rattle.plant_lock.specs.declared.view.View.{View}
 use Rattle.plant_lock.specs.declared.view.Slot.{Slot}
 use Rattle.plant_lock.specs.declared.view.Slot.TheVariants.{Value, Entry}
-use Rattle.plant_lock.specs.declared.view.Stage.{Stage}
-use Rattle.plant_lock.specs.declared.view.Stage.TheVariants.{Idle, Waits, Serves}
+use Rattle.plant_lock.specs.declared.view.SeatStage.{SeatStage}
+use Rattle.plant_lock.specs.declared.view.SeatStage.TheVariants.{Idle, Waits, Serves}
 use Rattle.plant_lock.specs.History.{StartsWith, longer}
 use Rattle.plant_lock.specs.Views.{LegalFrom, LeadsTo}
 
@@ -33,7 +33,7 @@ module _ {T S A B : Type 0} (plain : T → S) (admits : S → A → Type 0) (all
   Taken m t m' = (x : T) × (h : List (A × B)) × (m' ≡ (record m.0 { seen = h; stage = Serves t }, (0, Value x) ∷ m.1)) × StartsWith h m.0.seen × (length h ≡ t)
       × LegalFrom plain admits allows after m.0.start h × LeadsTo plain admits allows after m.0.start h (plain x)
 
-  abbrev pub took_at : Stage → Sat → ℕ → Sat → Type 0
+  abbrev pub took_at : SeatStage → Sat → ℕ → Sat → Type 0
   took_at (Waits t) m n m' = (n ≡ t → Taken m t m') × (¬ (n ≡ t) → m' ≡ m)
   took_at _ m n m' = Unit {0}
 

@@ -1,7 +1,7 @@
 -- What a seat knows of its turnstile, and how that changes at an opening, a turn, a split, a join and a close.
 use Rattle.std.specs.Prelude.{◌≡◌, ℕ, ◌+◌, ◌-◌, ◌^◌, ◌<◌, List, [], ◌∷◌, ◌++◌, length, Option, Some, None, if◌then◌else◌, ltb}
 use Rattle.plant_lock.specs.declared.view.View.{View}
-use Rattle.plant_lock.specs.declared.view.Stage.TheVariants.{Idle}
+use Rattle.plant_lock.specs.declared.view.SeatStage.TheVariants.{Idle}
 use Rattle.plant_lock.specs.History.{replay, Legal, StartsWith, longer, times, once_below}
 
 module _ {T A B : Type 0} where

@@ -1,6 +1,6 @@
 //! A turnstile, and a seat at it.
 ghost use Rattle.std.specs.Prelude.{◌≡◌, ◌<◌, [], true, length};
-ghost use Rattle.plant_lock.specs.declared.view.Stage.TheVariants.{Idle};
+ghost use Rattle.plant_lock.specs.declared.view.SeatStage.TheVariants.{Idle};
 ghost use Rattle.plant_lock.specs.History.{all_below};
 
 use crate::steps::TicketRule;

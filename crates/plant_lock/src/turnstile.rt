@@ -1,6 +1,6 @@
 //! What is done with a turnstile and its seats.
 ghost use Rattle.std.specs.Prelude.{◌≡◌, ◌+◌, ◌-◌, ◌^◌, ◌<◌, ◌≤◌, ◌↔◌, [], ◌∷◌, ◌++◌, IsTrue, IfOk, IfErr, OnOk, OnErr, MatchResult};
-ghost use Rattle.plant_lock.specs.declared.view.Stage.TheVariants.{Idle, Waits, Serves};
+ghost use Rattle.plant_lock.specs.declared.view.SeatStage.TheVariants.{Idle, Waits, Serves};
 ghost use Rattle.plant_lock.specs.declared.turnstile.SplitError.TheVariants.{NoSeat};
 ghost use Rattle.plant_lock.specs.History.{StartsWith};
 ghost use Rattle.plant_lock.specs.Views.{opened, kept_half, given_half, joined, LegalFrom};
@@ -34,7 +34,7 @@ pub enum SplitError {
     NoMemory,
 }
 
-type Place<T> = Seat<
+type SeatOf<T> = Seat<
     Slot<T, <T as Turned>::Act, <T as Turned>::Answer>,
     View<T, <T as Turned>::Act, <T as Turned>::Answer>,
 >;
@@ -156,7 +156,7 @@ impl<T: Turned> Turnstile<T> {
     }
 
     // The ticket word, met where no ticket was out, or after so many waits.
-    fn approach<R: Clock>(&self, rt: &R, seat: &mut Place<T>) -> u64
+    fn approach<R: Clock>(&self, rt: &R, seat: &mut SeatOf<T>) -> u64
         requires here { seat.old.table_id ≡ self.now.table.shared.table_id }
         requires live { 0 < seat.old.me.0.shares }
         ensures here { (seat.new.table_id ≡ seat.old.table_id) × (seat.new.id ≡ seat.old.id) }
@@ -174,7 +174,7 @@ impl<T: Turned> Turnstile<T> {
     }
 
     // Draws a ticket, or else answers the word that it met.
-    fn draw<R: Wait + Clock>(&self, rt: &R, seat: &mut Place<T>) -> Result<u64, u64>
+    fn draw<R: Wait + Clock>(&self, rt: &R, seat: &mut SeatOf<T>) -> Result<u64, u64>
         requires here { seat.old.table_id ≡ self.now.table.shared.table_id }
         requires live { (0 < seat.old.me.0.shares) × (seat.old.me.0.stage ≡ Idle) }
         ensures here { (seat.new.table_id ≡ seat.old.table_id) × (seat.new.id ≡ seat.old.id) }
@@ -199,7 +199,7 @@ impl<T: Turned> Turnstile<T> {
     }
 
     // Waits until the ticket is served, and takes the slot.
-    fn enter<R: Wait + Clock>(&self, rt: &R, seat: &mut Place<T>, ticket: u64)
+    fn enter<R: Wait + Clock>(&self, rt: &R, seat: &mut SeatOf<T>, ticket: u64)
         requires here { seat.old.table_id ≡ self.now.table.shared.table_id }
         requires live { (0 < seat.old.me.0.shares) × (seat.old.me.0.stage ≡ Waits ticket) }
         ensures here { (seat.new.table_id ≡ seat.old.table_id) × (seat.new.id ≡ seat.old.id) }
@@ -218,7 +218,7 @@ impl<T: Turned> Turnstile<T> {
     }
 
     // Does the act, and gives the slot back with one entry more in the history.
-    fn perform(&self, seat: &mut Place<T>, ticket: u64, act: T::Act) -> T::Answer
+    fn perform(&self, seat: &mut SeatOf<T>, ticket: u64, act: T::Act) -> T::Answer
         requires here { seat.old.table_id ≡ self.now.table.shared.table_id }
         requires live { (0 < seat.old.me.0.shares) × (seat.old.me.0.stage ≡ Serves ticket) × (ticket < 2 ^ 63) }
         requires slot { Holds T.plain T.admits T.allows T.after seat.old.me (λ x. T.admits (T.plain x) act) }

@@ -12,7 +12,7 @@ pub enum Slot<T, A, B> {
 }
 
 /// Where a seat is in a turn.
-pub enum Stage {
+pub enum SeatStage {
     /// In none.
     Idle,
     /// It has this ticket, which is not served yet.
@@ -34,7 +34,7 @@ pub struct View<T, A, B> {
     pub shares: u64,
     /// The ticket word that it last met, 0 at first.
     pub met: u64,
-    pub stage: Stage,
+    pub stage: SeatStage,
 }
 
 /// What the rule of the lock is told at the opening.

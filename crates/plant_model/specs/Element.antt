@@ -50,7 +50,7 @@ pub record Element (P : Type 0) (S : Type 0) : Type 0 where
   pub ways : List Way
 
 -- the settings of an element
-pub record Place : Type 0 where
+pub record ElementSettings : Type 0 where
   pub own : As
   pub id : Addr
   pub parent : Bool

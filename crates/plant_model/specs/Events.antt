@@ -22,7 +22,7 @@ use Rattle.plant_model.specs.Wire.{Bytes, Codec}
 use Rattle.plant_model.specs.Element.{Item}
 use Rattle.plant_model.specs.Element as element
 use Rattle.plant_model.specs.Parent as parent
-use Rattle.plant_text.specs.Settings.{Line, line, lines, is_linked, is_element, elements_of, life, peer_row}
+use Rattle.plant_text.specs.Settings.{Adjacency, adjacency, adjacencies, is_linked, is_element, elements_of, life, peer_row}
 use Rattle.plant_model.specs.Settings.{inner_ways, ways}
 use Rattle.plant_model.specs.State.{Connection, Access, State, Deed, Pops, Hands}
 use Rattle.plant_model.specs.Deeds as deeds
@@ -161,20 +161,20 @@ module _ (P : Type 0) (S : Type 0) (c : Codec) (n : NetworkParts) (show : S → 
   abbrev pub carry_first : As → As → State P S → List Bytes → Happened P S
   carry_first a b s [] = refused NothingToCarry s
   carry_first a b s (x ∷ rest) =
-      answered Done (deeds.inner_input P S c n show (line a b) b a (input_of c (Some x))
+      answered Done (deeds.inner_input P S c n show (adjacency a b) b a (input_of c (Some x))
       (record { state = record s { queues = set_pair a b rest s.queues }; deeds = Pops a b ∷ [] }))
 
   abbrev pub carry : As → As → State P S → Happened P S
   carry a b s = cond (is_linked n a b) (carry_first a b s (s.queues a b)) (refused NoSuchPeer s)
 
   abbrev pub break : As → As → State P S → Happened P S
-  break a b s = cond (is_linked n a b) (answered Done (deeds.break_line P S c n show (line a b) (idle s))) (refused NoSuchPeer s)
+  break a b s = cond (is_linked n a b) (answered Done (deeds.break_adjacency P S c n show (adjacency a b) (idle s))) (refused NoSuchPeer s)
 
   abbrev pub tick : ℕ → State P S → Happened P S
   tick t s =
       let now = later s.clock t in
       answered Done (deeds.expire P S c n show now
-      (deeds.tick_lines P S c n show (lines n) (record { 0 = now })
+      (deeds.tick_adjacencies P S c n show (adjacencies n) (record { 0 = now })
       (deeds.tick_outside P S c n show 0 n.peers (record { 0 = now }) (idle (record s { clock = now })))))
 
   abbrev pub drain_open : ℕ → ℕ → State P S → Option Connection → Happened P S
@@ -207,9 +207,9 @@ module _ (P : Type 0) (S : Type 0) (c : Codec) (n : NetworkParts) (show : S → 
     queues = λ a b. [];
   }
 
-  abbrev pub begin_lines : List Line → Going P S → Going P S
-  begin_lines [] g = g
-  begin_lines (x ∷ xs) g = begin_lines xs (deeds.begin_line P S c n show 0 x g)
+  abbrev pub begin_adjacencies : List Adjacency → Going P S → Going P S
+  begin_adjacencies [] g = g
+  begin_adjacencies (x ∷ xs) g = begin_adjacencies xs (deeds.begin_adjacency P S c n show 0 x g)
 
   abbrev pub opening : (As → P) → Going P S
-  opening pins = begin_lines (lines n) (idle (bare pins))
+  opening pins = begin_adjacencies (adjacencies n) (idle (bare pins))

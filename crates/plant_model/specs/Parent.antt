@@ -68,17 +68,17 @@ pub record Family : Type 0 where
   pub children : List As
   pub links : List ParentLink
 
-pub record Given : Type 0 where
+pub record ParentTaken : Type 0 where
   pub parent : Parent
   pub outputs : List Output
 
-abbrev pub silent : Parent → Given
+abbrev pub silent : Parent → ParentTaken
 silent k = record { parent = k; outputs = [] }
 
-abbrev pub only : Peer → Message → Parent → Given
+abbrev pub only : Peer → Message → Parent → ParentTaken
 only to m k = record { parent = k; outputs = record { to = to; message = m } ∷ [] }
 
-abbrev pub each : {X : Type 0} → (X → Parent → Given) → List X → Parent → Given
+abbrev pub each : {X : Type 0} → (X → Parent → ParentTaken) → List X → Parent → ParentTaken
 each f [] k = silent k
 each f (x ∷ xs) k =
     let first = f x k in
@@ -155,7 +155,7 @@ abbrev pub all_up : List As → List Way → Bool
 all_up [] ways = true
 all_up (child ∷ rest) ways = cond (is_up (way_to (Inner child) ways)) (all_up rest ways) false
 
-abbrev pub take_path : Family → Peer → ℕ → ℕ → Wanted → Parent → Given
+abbrev pub take_path : Family → Peer → ℕ → ℕ → Wanted → Parent → ParentTaken
 take_path f p flags x w k =
     let asks = ask_all w (all_waits k.pending.rows) (errands f.links w.target f.children) k.ways in
     record {
@@ -163,27 +163,27 @@ take_path f p flags x w k =
       outputs = asks.outputs;
     }
 
-abbrev pub take_wish : Family → Peer → ℕ → ℕ → Parent → Wish → Given
+abbrev pub take_wish : Family → Peer → ℕ → ℕ → Parent → Wish → ParentTaken
 take_wish f p flags x k (Expand key pce) = only p (reply_message flags x no_key) k
 take_wish f p flags x k (Path w) =
     cond (is_full k.pending) (only p (busy flags x) k)
     (cond (all_up f.children k.ways) (take_path f p flags x w k) (only p (reply_message flags x unavailable) k))
 
-abbrev pub take_new : Family → Peer → Request → Parent → Option ℕ → Given
+abbrev pub take_new : Family → Peer → Request → Parent → Option ℕ → ParentTaken
 take_new f p r k (Some number) = silent k
 take_new f p r k None = take_wish f p r.flags r.id k r.wish
 
-abbrev pub take_checked : Family → Peer → Parent → Checked → Given
+abbrev pub take_checked : Family → Peer → Parent → Checked → ParentTaken
 take_checked f p k (Wrong rp kind value) = only p (error_message rp kind value) k
 take_checked f p k (Admitted r) = take_new f p r k (number_of k.pending p r.id)
 
-abbrev pub take_asked : Codec → Family → Peer → Asked → Parent → Given
+abbrev pub take_asked : Codec → Family → Peer → Asked → Parent → ParentTaken
 take_asked c f p a k = take_checked f p k (c.check a parent_as)
 
 abbrev pub ended : ℕ → Parent → Parent
 ended number k = record k { pending = closed_of k.pending number }
 
-abbrev pub answered : AskingRow → Message → Parent → Given
+abbrev pub answered : AskingRow → Message → Parent → ParentTaken
 answered h m k = only h.1.key.peer m (ended h.0 k)
 
 -- the rows of a child's answer to one of its requests
@@ -202,61 +202,61 @@ without p y (w ∷ ws) = cond (same_id w.peer w.id p y) ws (w ∷ without p y ws
 abbrev pub gathered : Peer → ℕ → List Branch → Asking → Asking
 gathered p y bs i = record i { waits = without p y i.waits; rows = i.rows ++ rows_for p y bs i.waits }
 
-abbrev pub gathers : Peer → ℕ → List Branch → AskingRow → Parent → Given
+abbrev pub gathers : Peer → ℕ → List Branch → AskingRow → Parent → ParentTaken
 gathers p y bs h k = silent (record k { pending = written_of k.pending h.0 (gathered p y bs h.1.item) })
 
-abbrev pub take_answer : Codec → Peer → ℕ → AskingRow → Parent → Answer → Given
+abbrev pub take_answer : Codec → Peer → ℕ → AskingRow → Parent → Answer → ParentTaken
 take_answer c p y h k (Paths ps) = gathers p y (branches_in c h.1.item.wanted.query.metric ps) h k
 take_answer c p y h k (NoPath nature vector) =
     cond (nature == no_paths.NONE_FOUND) (gathers p y [] h k) (answered h (reply_message h.1.item.flags h.1.key.id unavailable) k)
 
-abbrev pub take_found : Codec → Peer → Reply → Parent → Option AskingRow → Given
+abbrev pub take_found : Codec → Peer → Reply → Parent → Option AskingRow → ParentTaken
 take_found c p r k None = only p (error_message (Some (r.flags, r.id)) errors.UNKNOWN_REQUEST.0 errors.UNKNOWN_REQUEST.1) k
 take_found c p r k (Some h) = take_answer c p r.id h k r.answer
 
-abbrev pub take_reply : Codec → Peer → Reply → Parent → Given
+abbrev pub take_reply : Codec → Peer → Reply → Parent → ParentTaken
 take_reply c p r k = take_found c p r k (waiting p r.id k.pending.rows)
 
-abbrev pub told_busy : Parent → Option AskingRow → Given
+abbrev pub told_busy : Parent → Option AskingRow → ParentTaken
 told_busy k None = silent k
 told_busy k (Some h) = answered h (busy h.1.item.flags h.1.key.id) k
 
-abbrev pub cancelled : Parent → Option ℕ → Given
+abbrev pub cancelled : Parent → Option ℕ → ParentTaken
 cancelled k None = silent k
 cancelled k (Some number) = silent (ended number k)
 
-abbrev pub take_busy : Peer → ℕ × ℕ → Parent → Given
+abbrev pub take_busy : Peer → ℕ × ℕ → Parent → ParentTaken
 take_busy p rp k = told_busy k (waiting p rp.1 k.pending.rows)
 
-abbrev pub take_cancel : Peer → ℕ × ℕ → Parent → Given
+abbrev pub take_cancel : Peer → ℕ × ℕ → Parent → ParentTaken
 take_cancel p rp k = cancelled k (number_of k.pending p rp.1)
 
-abbrev pub notice_steps : List (ℕ × ℕ) → List (Peer → ℕ × ℕ → Parent → Given)
+abbrev pub notice_steps : List (ℕ × ℕ) → List (Peer → ℕ × ℕ → Parent → ParentTaken)
 notice_steps kinds =
     cond (has_pair notices.BUSY.0 notices.BUSY.1 kinds)
     (cond (has_pair notices.CANCELLED.0 notices.CANCELLED.1 kinds) (take_busy ∷ take_cancel ∷ []) (take_busy ∷ []))
     (cond (has_pair notices.CANCELLED.0 notices.CANCELLED.1 kinds) (take_cancel ∷ []) [])
 
-abbrev pub take_notice : Peer → Notice → Parent → Given
+abbrev pub take_notice : Peer → Notice → Parent → ParentTaken
 take_notice p n = each (λ rp. each (λ step. step p rp) (notice_steps n.kinds)) n.ids
 
-abbrev pub told_error : AskingRow → Parent → List Message → Given
+abbrev pub told_error : AskingRow → Parent → List Message → ParentTaken
 told_error h k [] = silent k
 told_error h k (m ∷ ms) = answered h m k
 
-abbrev pub take_failure : ℕ × ℕ → Parent → Option AskingRow → Given
+abbrev pub take_failure : ℕ × ℕ → Parent → Option AskingRow → ParentTaken
 take_failure e k None = silent k
 take_failure e k (Some h) = told_error h k (error_answer e h.1.item.flags h.1.key.id)
 
-abbrev pub take_errors : Peer → List (ℕ × ℕ) → List (ℕ × ℕ) → Parent → Given
+abbrev pub take_errors : Peer → List (ℕ × ℕ) → List (ℕ × ℕ) → Parent → ParentTaken
 take_errors p ids [] = silent
 take_errors p ids (e ∷ es) = each (λ rp k. take_failure e k (waiting p rp.1 k.pending.rows)) ids
 
-abbrev pub take_report : Peer → ErrorReport → Parent → Given
+abbrev pub take_report : Peer → ErrorReport → Parent → ParentTaken
 take_report p r = take_errors p r.ids r.errors
 
 -- What the parent does with a message that its session passes.
-abbrev pub take : Codec → Family → Peer → Message → Parent → Given
+abbrev pub take : Codec → Family → Peer → Message → Parent → ParentTaken
 take c f p (messages.PcReq asks) = each (take_asked c f p) asks
 take c f p (messages.PcRep replies) = each (take_reply c p) replies
 take c f p (messages.PcNtf notices) = each (take_notice p) notices
@@ -291,7 +291,7 @@ kept p hs = filter (stays p) hs
 abbrev pub lost : Peer → List AskingRow → List Lost
 lost p hs = map lost_of (filter (is_lost p) hs)
 
-abbrev pub downed : Peer → Parent → Given
+abbrev pub downed : Peer → Parent → ParentTaken
 downed p k = record {
   parent = record { pending = record k.pending { rows = kept p k.pending.rows }; ways = with_up p false k.ways };
   outputs = map lost_output (lost p k.pending.rows);
@@ -338,6 +338,6 @@ job_of f h = record {
 }
 
 -- The answer to the child that asked.
-abbrev pub commit : Codec → AskingRow → Option Found → Parent → Given
+abbrev pub commit : Codec → AskingRow → Option Found → Parent → ParentTaken
 commit c h None k = answered h (reply_message h.1.item.flags h.1.key.id none_between) k
 commit c h (Some a) k = answered h (reply_message h.1.item.flags h.1.key.id (Paths (path_of c h.1.item.wanted.query.metric a.cost a.hops ∷ []))) k

@@ -7,17 +7,17 @@ use Rattle.disclosure.specs.declared.class.Deny.{Deny}
 use Rattle.plant_text.specs.declared.settings.NetworkParts.{NetworkParts}
 use Rattle.plant_text.specs.declared.settings.ElementRow.{ElementRow}
 use Rattle.plant_text.specs.Names.{same_as}
-use Rattle.plant_text.specs.Settings.{row_of, deny_at, children, Line, lines}
+use Rattle.plant_text.specs.Settings.{row_of, deny_at, children, Adjacency, adjacencies}
 use Rattle.plant_model.specs.declared.route.Route.{Route}
-use Rattle.plant_model.specs.Element.{Way, Place}
+use Rattle.plant_model.specs.Element.{Way, ElementSettings}
 use Rattle.plant_model.specs.Parent.{Family}
 use Rattle.plant_model.specs.Routes.{routes}
 
-abbrev pub place_from : As → List Deny → List Route → Option ElementRow → Place
+abbrev pub place_from : As → List Deny → List Route → Option ElementRow → ElementSettings
 place_from d deny routes None = record { own = d; id = V4 0; parent = false; deny = deny; routes = routes }
 place_from d deny routes (Some r) = record { own = d; id = r.id; parent = r.parent; deny = deny; routes = routes }
 
-abbrev pub place : NetworkParts → As → Place
+abbrev pub place : NetworkParts → As → ElementSettings
 place n d = place_from d (deny_at d n.deny) (routes n d) (row_of d n.elements)
 
 abbrev pub family : NetworkParts → Family
@@ -27,12 +27,12 @@ family n = record { children = children n; links = n.parent_links }
 abbrev pub way : As → Way
 way b = record { peer = Inner b; up = false; last_id = 0 }
 
-abbrev pub ways_along : As → List Line → List Way
+abbrev pub ways_along : As → List Adjacency → List Way
 ways_along d [] = []
 ways_along d (x ∷ xs) = cond (same_as x.lower d) (way x.upper ∷ ways_along d xs) (cond (same_as x.upper d) (way x.lower ∷ ways_along d xs) (ways_along d xs))
 
 abbrev pub inner_ways : NetworkParts → As → List Way
-inner_ways n d = ways_along d (lines n)
+inner_ways n d = ways_along d (adjacencies n)
 
 -- an element sends requests by its routes as well
 abbrev pub outer_way : Route → Way

@@ -11,7 +11,7 @@ use Rattle.path_keys.specs.Keys.{Keys, live_most, live_at, issue_of, number_afte
 use Rattle.plant_model.specs.Wire.{Codec}
 use Rattle.plant_model.specs.Writing.{reply_message, busy, no_path, none_between}
 use Rattle.plant_model.specs.Branches.{open_branch, closed_branch, path_of}
-use Rattle.plant_model.specs.Element.{Row, Element, Place, Taken, is_client}
+use Rattle.plant_model.specs.Element.{Row, Element, ElementSettings, Taken, is_client}
 use Rattle.plant_model.specs.Taking.{answered}
 
 -- To a client: the path of its source, or that there is none. The bits say whether its ends are nodes here.
@@ -34,7 +34,7 @@ issued_all now stands (b ∷ bs) keys = issued_all now stands bs (issue_of keys 
 abbrev pub free : {S : Type 0} → ℕ → Keys S → ℕ
 free now keys = live_most - length (live_at keys now)
 
-abbrev pub closed_reply : {P : Type 0} {S : Type 0} → Codec → Place → Row P → List Branch → ℕ → (Best → S) → Element P S → List Best → Taken P S
+abbrev pub closed_reply : {P : Type 0} {S : Type 0} → Codec → ElementSettings → Row P → List Branch → ℕ → (Best → S) → Element P S → List Best → Taken P S
 closed_reply c e h down now stands k [] = answered h (reply_message h.1.item.flags h.1.key.id none_between) k
 closed_reply c e h down now stands k (b ∷ bs) =
     cond (nat_lt (free now k.keys) (length (b ∷ bs)))
@@ -44,6 +44,6 @@ closed_reply c e h down now stands k (b ∷ bs) =
     (record k { keys = issued_all now stands (b ∷ bs) k.keys }))
 
 -- The answer to the asker, and the element after it.
-abbrev pub commit : {P : Type 0} {S : Type 0} → Codec → Place → Row P → List Branch → ℕ → (Best → S) → Bool → Bool → List Best → Element P S → Taken P S
+abbrev pub commit : {P : Type 0} {S : Type 0} → Codec → ElementSettings → Row P → List Branch → ℕ → (Best → S) → Bool → Bool → List Best → Element P S → Taken P S
 commit c e h down now stands source_known target_known best k =
     cond (is_client h.1.item.class) (answered h (client_reply c h down source_known target_known best) k) (closed_reply c e h down now stands k best)

@@ -29,7 +29,7 @@ use Rattle.plant_model.specs.Wire.{Codec, Checked, Admitted, Wrong}
 use Rattle.plant_model.specs.Writing.{request_message, reply_message, error_message, busy, unavailable, no_key}
 use Rattle.plant_model.specs.Branches.{branches_in}
 use Rattle.plant_model.specs.Routes.{toward}
-use Rattle.plant_model.specs.Element.{Stage, Waits, Ready, Item, Row, Way, Element, Place, Taken, silent, only, each, ended, at_stage, waiting, fresh_id, way_to, with_last, is_client}
+use Rattle.plant_model.specs.Element.{Stage, Waits, Ready, Item, Row, Way, Element, ElementSettings, Taken, silent, only, each, ended, at_stage, waiting, fresh_id, way_to, with_last, is_client}
 
 -- the domain sequence of a request: its own, or the element's domain alone
 abbrev pub sequence_or : As → List As → List As
@@ -63,13 +63,13 @@ send_on pin p class flags x w sequence rest refused k (Some way) =
     cond way.up (cond refused (denied p flags x k) (sent_on pin p class flags x w sequence rest k way)) (denied p flags x k)
 
 -- along a sequence that begins with the own domain
-abbrev pub take_along : {P : Type 0} {S : Type 0} → Place → P → Peer → Class → ℕ → ℕ → Wanted → Element P S → List As → Taken P S
+abbrev pub take_along : {P : Type 0} {S : Type 0} → ElementSettings → P → Peer → Class → ℕ → ℕ → Wanted → Element P S → List As → Taken P S
 take_along e pin p class flags x w k [] = denied p flags x k
 take_along e pin p class flags x w k (a ∷ []) = silent (record k { pending = opened_of k.pending p x (item_of pin class flags w (a ∷ []) (Ready [])) })
 take_along e pin p class flags x w k (a ∷ b ∷ rest) =
     send_on pin p class flags x w (a ∷ b ∷ rest) (b ∷ rest) (is_denied e.deny class b) k (way_to (toward b e.routes) k.ways)
 
-abbrev pub take_path : {P : Type 0} {S : Type 0} → Place → P → Peer → Class → ℕ → ℕ → Wanted → Element P S → Taken P S
+abbrev pub take_path : {P : Type 0} {S : Type 0} → ElementSettings → P → Peer → Class → ℕ → ℕ → Wanted → Element P S → Taken P S
 take_path e pin p class flags x w k =
     cond (goes_up e.parent class w.sequence)
     (send_on pin p class flags x w [] [] false k (way_to the_parent k.ways))
@@ -80,25 +80,25 @@ abbrev pub expansion_of : {S : Type 0} → (S → List Hop) → Option S → Ans
 expansion_of show None = no_key
 expansion_of show (Some stands) = Paths (record { hops = show stands; metric = None } ∷ [])
 
-abbrev pub expansion : {P : Type 0} {S : Type 0} → (S → List Hop) → Place → Class → ℕ → ℕ → Addr → Element P S → Answer
+abbrev pub expansion : {P : Type 0} {S : Type 0} → (S → List Hop) → ElementSettings → Class → ℕ → ℕ → Addr → Element P S → Answer
 expansion show e class now key pce k =
     cond (same_addr pce e.id) (cond (can_expand class) (expansion_of show (segment_of k.keys now key)) no_key) no_key
 
-abbrev pub take_wish : {P : Type 0} {S : Type 0} → (S → List Hop) → Place → P → Peer → Class → ℕ → ℕ → ℕ → Element P S → Wish → Taken P S
+abbrev pub take_wish : {P : Type 0} {S : Type 0} → (S → List Hop) → ElementSettings → P → Peer → Class → ℕ → ℕ → ℕ → Element P S → Wish → Taken P S
 take_wish show e pin p class now flags x k (Path w) =
     cond (is_full k.pending) (only p (busy flags x) k) (take_path e pin p class flags x w k)
 take_wish show e pin p class now flags x k (Expand key pce) = only p (reply_message flags x (expansion show e class now key pce k)) k
 
 -- a request that is pending already is answered once only
-abbrev pub take_new : {P : Type 0} {S : Type 0} → (S → List Hop) → Place → P → Peer → Class → ℕ → Request → Element P S → Option ℕ → Taken P S
+abbrev pub take_new : {P : Type 0} {S : Type 0} → (S → List Hop) → ElementSettings → P → Peer → Class → ℕ → Request → Element P S → Option ℕ → Taken P S
 take_new show e pin p class now r k (Some number) = silent k
 take_new show e pin p class now r k None = take_wish show e pin p class now r.flags r.id k r.wish
 
-abbrev pub take_checked : {P : Type 0} {S : Type 0} → (S → List Hop) → Place → P → Peer → Class → ℕ → Element P S → Checked → Taken P S
+abbrev pub take_checked : {P : Type 0} {S : Type 0} → (S → List Hop) → ElementSettings → P → Peer → Class → ℕ → Element P S → Checked → Taken P S
 take_checked show e pin p class now k (Wrong rp kind value) = only p (error_message rp kind value) k
 take_checked show e pin p class now k (Admitted r) = take_new show e pin p class now r k (number_of k.pending p r.id)
 
-abbrev pub take_asked : {P : Type 0} {S : Type 0} → Codec → (S → List Hop) → Place → P → Peer → Class → ℕ → Asked → Element P S → Taken P S
+abbrev pub take_asked : {P : Type 0} {S : Type 0} → Codec → (S → List Hop) → ElementSettings → P → Peer → Class → ℕ → Asked → Element P S → Taken P S
 take_asked c show e pin p class now a k = take_checked show e pin p class now k (c.check a e.own)
 
 -- the asker of a request gets an answer, and the request ends
@@ -176,7 +176,7 @@ take_report p r = take_errors p r.ids r.errors
 
 -- What an element does with a message that its session passes. The show tells what stands behind a key, and the pin is that
 -- of the current topology.
-abbrev pub take : {P : Type 0} {S : Type 0} → Codec → (S → List Hop) → Place → P → Peer → Class → ℕ → Message → Element P S → Taken P S
+abbrev pub take : {P : Type 0} {S : Type 0} → Codec → (S → List Hop) → ElementSettings → P → Peer → Class → ℕ → Message → Element P S → Taken P S
 take c show e pin p class now (messages.PcReq asks) = each (take_asked c show e pin p class now) asks
 take c show e pin p class now (messages.PcRep replies) = each (take_reply c p) replies
 take c show e pin p class now (messages.PcNtf notices) = each (take_notice p) notices

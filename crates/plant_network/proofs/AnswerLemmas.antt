@@ -13,7 +13,7 @@ use Rattle.plant_text.specs.declared.settings.NetworkParts.{NetworkParts}
 use Rattle.plant_text.specs.Names.{parent_as, same_as}
 use Rattle.network_events.specs.plant_model.declared.output.Output.{Output}
 use Rattle.network_events.specs.plant_model.BorderGraph.{Found}
-use Rattle.network_events.specs.plant_model.Element.{Element, Item, Place, Row, Taken, is_client}
+use Rattle.network_events.specs.plant_model.Element.{Element, Item, ElementSettings, Row, Taken, is_client}
 use Rattle.network_events.specs.plant_model.Parent as parent
 use Rattle.network_events.specs.plant_model.RealWire.{wire}
 use Rattle.network_events.specs.plant_model.Solving.{client_reply, closed_paths, closed_reply, commit, free, issued_all}
@@ -30,7 +30,7 @@ module _ {P : Type 0} {S : Type 0} where
     outputs : t.outputs ≡ (let o : Output = record { to = h.1.key.peer; message = message } in o) ∷ []
     ends : t.element.pending ≡ closed_of k.pending h.0
 
-  closed_ends : (e : Place) (h : Row P) (down : List Branch) (now : ℕ) (stands : Best → S) (best : List Best) (k : Element P S) → Ends h k (closed_reply wire e h down now stands k best)
+  closed_ends : (e : ElementSettings) (h : Row P) (down : List Branch) (now : ℕ) (stands : Best → S) (best : List Best) (k : Element P S) → Ends h k (closed_reply wire e h down now stands k best)
   closed_ends e h down now stands [] k = record { message = _; outputs = refl; ends = refl }
   closed_ends e h down now stands (b ∷ bs) k = go (nat_lt (free now k.keys) (length (b ∷ bs)))
     where
@@ -39,14 +39,14 @@ module _ {P : Type 0} {S : Type 0} where
       go true = record { message = busy h.1.item.flags h.1.key.id; outputs = refl; ends = refl }
       go false = record { message = reply_message h.1.item.flags h.1.key.id (Paths (closed_paths wire e.id h.1.item.wanted.query.metric h.1.item.wanted.target down k.keys.next (b ∷ bs))); outputs = refl; ends = refl }
 
-  commit_ends : (e : Place) (h : Row P) (down : List Branch) (now : ℕ) (stands : Best → S) (source_known target_known : Bool) (best : List Best) (k : Element P S) → Ends h k (commit wire e h down now stands source_known target_known best k)
+  commit_ends : (e : ElementSettings) (h : Row P) (down : List Branch) (now : ℕ) (stands : Best → S) (source_known target_known : Bool) (best : List Best) (k : Element P S) → Ends h k (commit wire e h down now stands source_known target_known best k)
   commit_ends e h down now stands source_known target_known best k = go (is_client h.1.item.class)
     where
       go : (c : Bool) → Ends h k (cond c (answered h (client_reply wire h down source_known target_known best) k) (closed_reply wire e h down now stands k best))
       go true = record { message = client_reply wire h down source_known target_known best; outputs = refl; ends = refl }
       go false = closed_ends e h down now stands best k
 
-record EndsAbove (h : parent.AskingRow) (k : parent.Parent) (g : parent.Given) : Type 0 where
+record EndsAbove (h : parent.AskingRow) (k : parent.Parent) (g : parent.ParentTaken) : Type 0 where
   message : Message
   outputs : g.outputs ≡ (let o : Output = record { to = h.1.key.peer; message = message } in o) ∷ []
   ends : g.parent.pending ≡ closed_of k.pending h.0
@@ -56,7 +56,7 @@ commit_ends_above h None k = record { message = _; outputs = refl; ends = refl }
 commit_ends_above h (Some a) k = record { message = _; outputs = refl; ends = refl }
 
 module _ {P : Type 0} {S : Type 0} (n : NetworkParts) (ms : Membership P S) where
-  pub element_answer : (e : Place) (now : ℕ) (d : As) (k : ℕ) (held : Asked (Item P)) (down : List Branch) (stands : Best → S) (source_known target_known : Bool) (best : List Best) →
+  pub element_answer : (e : ElementSettings) (now : ℕ) (d : As) (k : ℕ) (held : Asked (Item P)) (down : List Branch) (stands : Best → S) (source_known target_known : Bool) (best : List Best) →
       same_as d parent_as ≡ false → lookup (nat_eq k) (ms.elements d).pending.rows ≡ Some held →
       IsAnswer n d (commit wire e (k, held) down now stands source_known target_known best (ms.elements d)).outputs ms
       (with_element d (commit wire e (k, held) down now stands source_known target_known best (ms.elements d)).element ms)

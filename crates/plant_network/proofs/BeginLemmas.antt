@@ -7,8 +7,8 @@ use Rattle.pcep_subobjects.specs.declared.hop.Hop.{Hop}
 use Rattle.pcep_session.specs.declared.state.State.{State as Session}
 use Rattle.plant_text.specs.declared.settings.NetworkParts.{NetworkParts}
 use Rattle.plant_text.specs.Names.{same_as, parent_as}
-use Rattle.plant_text.specs.Networks.{IsNetwork}
-use Rattle.plant_text.specs.Settings.{lines}
+use Rattle.plant_text.specs.Networks.{ObeysRules}
+use Rattle.plant_text.specs.Settings.{adjacencies}
 use Rattle.network_events.specs.plant_model.Element.{Element}
 use Rattle.network_events.specs.plant_model.Events as events
 use Rattle.network_events.specs.plant_model.Parent.{Parent}
@@ -58,7 +58,7 @@ module _ {P : Type 0} {S : Type 0} (n : NetworkParts) (show : S → List Hop) wh
       let s = events.bare P S wire n show first in
       record { clock = clock; elements = s.elements; parent = s.parent; current = first; accesses = accesses; sessions = sessions; queues = queues }
 
-  bare_is : (ms : Membership P S) (f : Flow) → AreBare n show ms → IsBare (lines n) (length n.peers) f → state_of ms f ≡ events.bare P S wire n show ms.current
+  bare_is : (ms : Membership P S) (f : Flow) → AreBare n show ms → IsBare (adjacencies n) (length n.peers) f → state_of ms f ≡ events.bare P S wire n show ms.current
   bare_is ms f are bare =
       ap₂ (λ (es : As → Element P S) (k : Parent). let s : State P S = record { clock = f.clock; elements = es; parent = k; current = ms.current; accesses = f.accesses; sessions = f.sessions; queues = f.queues } in s) are.elements are.parent
       ∙ ap (λ (x : ℕ). bare_at ms.current x f.accesses f.sessions f.queues) bare.clock
@@ -66,14 +66,14 @@ module _ {P : Type 0} {S : Type 0} (n : NetworkParts) (show : S → List Hop) wh
       ∙ ap (λ (x : As → As → Session). bare_at ms.current 0 (λ i. record { opened = 0; connection = None }) x f.queues) bare.sessions
       ∙ ap (λ (x : As → As → List Bytes). bare_at ms.current 0 (λ i. record { opened = 0; connection = None }) new_sessions x) bare.queues
 
-  pub opens : (ms : Membership P S) (f g : Flow) → AreBare n show ms → IsBare (lines n) (length n.peers) f →
-      state_of ms g ≡ (events.begin_lines P S wire n show (lines n) (events.idle P S wire n show (state_of ms f))).state → state_of ms g ≡ (events.opening P S wire n show ms.current).state
+  pub opens : (ms : Membership P S) (f g : Flow) → AreBare n show ms → IsBare (adjacencies n) (length n.peers) f →
+      state_of ms g ≡ (events.begin_adjacencies P S wire n show (adjacencies n) (events.idle P S wire n show (state_of ms f))).state → state_of ms g ≡ (events.opening P S wire n show ms.current).state
   opens ms f g are bare state =
-      state ∙ ap (λ (s : State P S). (events.begin_lines P S wire n show (lines n) (events.idle P S wire n show s)).state) (bare_is ms f are bare)
+      state ∙ ap (λ (s : State P S). (events.begin_adjacencies P S wire n show (adjacencies n) (events.idle P S wire n show s)).state) (bare_is ms f are bare)
 
 -- it is sound
 module _ {P : Type 0} {S : Type 0} (show : S → List Hop) (h : Here P S) where
-  pub begins : IsNetwork h.network → IsKept h → h.flow.said ≡ [] → (whole h).state ≡ (events.opening P S wire h.network show h.seen.current).state → Begins show h
+  pub begins : ObeysRules h.network → IsKept h → h.flow.said ≡ [] → (whole h).state ≡ (events.opening P S wire h.network show h.seen.current).state → Begins show h
   begins net kept said state = record {
     state = state;
     said = said;
@@ -88,9 +88,9 @@ module _ {P : Type 0} {S : Type 0} (show : S → List Hop) (h : Here P S) where
     };
   }
 
-  pub begins_if : (f : Flow) (r : Result (Unit {0}) NoMemory) → IsNetwork h.network → IsBare (lines h.network) (length h.network.peers) f → AreBare h.network show h.seen → ((d : As) → h.lost d ≡ []) →
+  pub begins_if : (f : Flow) (r : Result (Unit {0}) NoMemory) → ObeysRules h.network → IsBare (adjacencies h.network) (length h.network.peers) f → AreBare h.network show h.seen → ((d : As) → h.lost d ≡ []) →
       OnOk r (IsOf h.network h.flow) → OnOk r (IsRoomy h.network h.seen h.flow) → OnOk r (h.flow.said ≡ []) →
-      OnOk r (state_of h.seen h.flow ≡ (events.begin_lines P S wire h.network show (lines h.network) (events.idle P S wire h.network show (state_of h.seen f))).state) → OnOk r (Begins show h)
+      OnOk r (state_of h.seen h.flow ≡ (events.begin_adjacencies P S wire h.network show (adjacencies h.network) (events.idle P S wire h.network show (state_of h.seen f))).state) → OnOk r (Begins show h)
   begins_if f (Ok done) net bare are none of room said state =
       begins net (record { of = of; none = none; roomy = room }) said (opens h.network show h.seen f h.flow are bare state)
   begins_if f (Err why) net bare are none of room said state = tt

@@ -110,7 +110,7 @@ module _ (n : NetworkParts) (d : As) (k : ℕ) (rows : List BorderRow) (ms ms' :
     says = sends.said ∙ ap (λ (y : Reply). sent_by wire d y.outputs) a.is ∙ ap (λ (x : As). sent_by wire x g.outputs) upper;
   }
     where
-      g : parent.Given
+      g : parent.ParentTaken
       g = parent.commit wire (k, a.held) a.answer ms.parent
 
       state_is : state_of ms' f' ≡ deeds.puts Nothing Nothing wire n show_nothing parent_as g.outputs (state_of (with_parent g.parent ms) f)

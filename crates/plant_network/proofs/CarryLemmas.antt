@@ -6,7 +6,7 @@ use Rattle.dom_base.specs.declared.names.As.{As}
 use Rattle.pcep_subobjects.specs.declared.hop.Hop.{Hop}
 use Rattle.plant_text.specs.declared.settings.NetworkParts.{NetworkParts}
 use Rattle.plant_text.specs.Names.{same_as, same_link}
-use Rattle.plant_text.specs.Settings.{Line, has_line, is_linked, lines}
+use Rattle.plant_text.specs.Settings.{Adjacency, has_adjacency, is_linked, adjacencies}
 use Rattle.network_events.specs.plant_model.declared.outcome.Refused.TheVariants as refused
 use Rattle.network_events.specs.plant_model.Blind.{is_accepted}
 use Rattle.network_events.specs.plant_model.Events as events
@@ -28,17 +28,17 @@ turned_link a b = go (same_as a b) refl
     go true same = eq-eqb b.0 a.0 (sym (eqb-true a.0 b.0 same))
     go false other = rw (eq-eqb a.0 a.0 refl) (eq-eqb b.0 b.0 refl)
 
-way_linked : (ls : List Line) (p : As × As) → Contains (ways ls) p → has_line p.0 p.1 ls ≡ true
+way_linked : (ls : List Adjacency) (p : As × As) → Contains (ways ls) p → has_adjacency p.0 p.1 ls ≡ true
 way_linked [] p has = absurd (contains_none p has)
 way_linked (x ∷ xs) p has = elim (contains_cases (x.lower, x.upper) ((x.upper, x.lower) ∷ ways xs) p has) [
-  | inl same ↦ subst (λ (q : As × As). has_line q.0 q.1 (x ∷ xs) ≡ true) same (rw (eq-eqb x.lower.0 x.lower.0 refl) (rw (eq-eqb x.upper.0 x.upper.0 refl) refl))
+  | inl same ↦ subst (λ (q : As × As). has_adjacency q.0 q.1 (x ∷ xs) ≡ true) same (rw (eq-eqb x.lower.0 x.lower.0 refl) (rw (eq-eqb x.upper.0 x.upper.0 refl) refl))
   | inr there ↦ elim (contains_cases (x.upper, x.lower) (ways xs) p there) [
-    | inl same ↦ subst (λ (q : As × As). has_line q.0 q.1 (x ∷ xs) ≡ true) same (ap (λ (b : Bool). cond b true (has_line x.upper x.lower xs)) (turned_link x.lower x.upper))
+    | inl same ↦ subst (λ (q : As × As). has_adjacency q.0 q.1 (x ∷ xs) ≡ true) same (ap (λ (b : Bool). cond b true (has_adjacency x.upper x.lower xs)) (turned_link x.lower x.upper))
     | inr more ↦ go (same_link x.lower x.upper p.0 p.1) (way_linked xs p more)
   ]
 ]
   where
-    go : (b : Bool) → has_line p.0 p.1 xs ≡ true → cond b true (has_line p.0 p.1 xs) ≡ true
+    go : (b : Bool) → has_adjacency p.0 p.1 xs ≡ true → cond b true (has_adjacency p.0 p.1 xs) ≡ true
     go true e = refl
     go false e = e
 
@@ -53,21 +53,21 @@ module _ (P : Type 0) (S : Type 0) (c : Codec) (n : NetworkParts) (show : S → 
   pub can_carry : (a b : As) → IsLeast n s (a, b) → (h : Happened P S) → h ≡ events.carry P S c n show a b s → is_accepted h.answer ≡ true
   can_carry a b least h happens =
       subst (λ (x : Happened P S). is_accepted x.answer ≡ true) (sym happens)
-      (carry_accepted a b (is_linked n a b) (s.queues a b) (way_linked (lines n) (a, b) least.there) least.waits)
+      (carry_accepted a b (is_linked n a b) (s.queues a b) (way_linked (adjacencies n) (a, b) least.there) least.waits)
 
 -- ---- what is on its way in a flow, of a state with its queues
 
 module _ {P : Type 0} {S : Type 0} (n : NetworkParts) (f : Flow) (s : State P S) where
-  pub settled_here : s.queues ≡ f.queues → WaitsNext f None → f.lines ≡ lines n → IsSettled n s
+  pub settled_here : s.queues ≡ f.queues → WaitsNext f None → f.adjacencies ≡ adjacencies n → IsSettled n s
   settled_here same waits along =
-      subst (λ (q : As → As → List Bytes). All (λ (p : As × As). not (is_empty (q p.0 p.1)) ≡ false) (ways (lines n))) (sym same)
-      (subst (λ (xs : List Line). All (λ (p : As × As). not (is_empty (f.queues p.0 p.1)) ≡ false) (ways xs)) along waits)
+      subst (λ (q : As → As → List Bytes). All (λ (p : As × As). not (is_empty (q p.0 p.1)) ≡ false) (ways (adjacencies n))) (sym same)
+      (subst (λ (xs : List Adjacency). All (λ (p : As × As). not (is_empty (f.queues p.0 p.1)) ≡ false) (ways xs)) along waits)
 
-  pub least_here : (p : As × As) → s.queues ≡ f.queues → WaitsNext f (Some p) → f.lines ≡ lines n → IsLeast n s p
+  pub least_here : (p : As × As) → s.queues ≡ f.queues → WaitsNext f (Some p) → f.adjacencies ≡ adjacencies n → IsLeast n s p
   least_here p same waits along = record {
-    there = subst (λ (xs : List Line). Contains (ways xs) p) along waits.there;
+    there = subst (λ (xs : List Adjacency). Contains (ways xs) p) along waits.there;
     waits = subst (λ (q : As → As → List Bytes). not (is_empty (q p.0 p.1)) ≡ true) (sym same) waits.waits;
     least =
-        subst (λ (q : As → As → List Bytes). All (λ (r : As × As). not (is_empty (q r.0 r.1)) ≡ true → IsAtMost p r) (ways (lines n))) (sym same)
-        (subst (λ (xs : List Line). All (λ (r : As × As). not (is_empty (f.queues r.0 r.1)) ≡ true → IsAtMost p r) (ways xs)) along waits.least);
+        subst (λ (q : As → As → List Bytes). All (λ (r : As × As). not (is_empty (q r.0 r.1)) ≡ true → IsAtMost p r) (ways (adjacencies n))) (sym same)
+        (subst (λ (xs : List Adjacency). All (λ (r : As × As). not (is_empty (f.queues r.0 r.1)) ≡ true → IsAtMost p r) (ways xs)) along waits.least);
   }

@@ -16,7 +16,7 @@ use Rattle.network_members.specs.contracts.elements.Elements as Elements
 use Rattle.network_members.specs.contracts.hierarchy.Hierarchy as Hierarchy
 use Rattle.plant_network.specs.contracts.acts.Act as Act
 use Rattle.plant_network.specs.contracts.acts.Acted as Acted
-use Rattle.plant_network.specs.contracts.acts.Turn as Turn
+use Rattle.plant_network.specs.contracts.acts.ActAnswer as ActAnswer
 use Rattle.plant_network.specs.contracts.network.Network as Network
 use Rattle.plant_network.proofs.CrossingParts.{border_solved_send, network_send, outcome_send, parent_send, refused_send, solved_send, topology_send, topology_sync, traffic_send, work_send}
 
@@ -33,7 +33,7 @@ acted_field_send = search (sendable, crosses, outcome_send, work_send, refused_s
 pub act_send : IsSend Act.the_row
 act_send = search (event_field_send, done_field_send, sendable, crosses) depth 60 fits 10000
 
-pub turn_send : IsSend Turn.the_row
+pub turn_send : IsSend ActAnswer.the_row
 turn_send = search (acted_field_send, sendable, crosses) depth 60 fits 10000
 
 generations_send : IsSend Generations.the_row

@@ -85,4 +85,4 @@ load_accepted d g old k t carried sound loads clears = record {
 }
   where
     of : IsOf old.members.network (flow_of carried)
-    of = record { lines_are = ap (λ (f : Flow). f.lines) clears.kept ∙ sound.kept.of.lines_are; peers_are = ap (λ (f : Flow). f.peers) clears.kept ∙ sound.kept.of.peers_are }
+    of = record { adjacencies_are = ap (λ (f : Flow). f.adjacencies) clears.kept ∙ sound.kept.of.adjacencies_are; peers_are = ap (λ (f : Flow). f.peers) clears.kept ∙ sound.kept.of.peers_are }

@@ -12,7 +12,7 @@ use Rattle.request_table.proofs.KeyLemmas.{same_peer_self}
 use Rattle.plant_text.specs.declared.settings.ElementRow.{ElementRow}
 use Rattle.plant_text.specs.declared.settings.NetworkParts.{NetworkParts}
 use Rattle.plant_text.specs.Names.{insert_as, parent_as, same_as}
-use Rattle.plant_text.specs.Settings.{elements_of, has_line, is_element, lines, row_of}
+use Rattle.plant_text.specs.Settings.{elements_of, has_adjacency, is_element, adjacencies, row_of}
 use Rattle.network_events.specs.plant_model.Deeds.{element_of}
 use Rattle.network_events.specs.plant_model.Element as element
 use Rattle.network_events.specs.plant_model.Element.{Item}
@@ -137,9 +137,9 @@ module _ (h : Held) (sound : IsSound h) where
           let here : same_as (element_of n i) parent_as ≡ true = eq-eqb (element_of n i).0 parent_as.0 (sym same) in
           let has : is_some n.parent ≡ true = sym (ap (λ (b : Bool). cond b (is_some n.parent) (is_element n (element_of n i))) here) ∙ member in
           absurd (let no : true ≡ false = sym has ∙ none in cc)
-  no_queue none (Inner b) = go (has_line parent_as b (lines n)) refl
+  no_queue none (Inner b) = go (has_adjacency parent_as b (adjacencies n)) refl
     where
-      go : (c : Bool) → has_line parent_as b (lines n) ≡ c → c ≡ false
+      go : (c : Bool) → has_adjacency parent_as b (adjacencies n) ≡ c → c ≡ false
       go false is = refl
       go true is = absurd (let no : true ≡ false = sym (sound.joined.links parent_as b is) ∙ none in cc)
 

@@ -105,7 +105,7 @@ module _ (n : NetworkParts) (d : As) (k : ℕ) (ms ms' : Membership Pin Segment)
     says = sends.said ∙ ap (λ (y : Replied Pin Segment). sent_by wire d y.outputs) a.is ∙ ap (λ (x : As). sent_by wire x g.outputs) upper;
   }
     where
-      g : parent.Given
+      g : parent.ParentTaken
       g = parent.commit wire (k, a.held) a.answer ms.parent
 
       state_is : state_of ms' f' ≡ deeds.puts Pin Segment wire n open_of parent_as g.outputs (state_of (with_parent g.parent ms) f)

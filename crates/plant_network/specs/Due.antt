@@ -2,7 +2,7 @@
 use Rattle.std.specs.Prelude.{◌≡◌, ℕ, Bool, true, false, not, List, [], All, Contains, Option, Some, None}
 use Rattle.dom_base.specs.declared.names.As.{As}
 use Rattle.plant_text.specs.declared.settings.NetworkParts.{NetworkParts}
-use Rattle.plant_text.specs.Settings.{lines}
+use Rattle.plant_text.specs.Settings.{adjacencies}
 use Rattle.network_events.specs.plant_model.Names.{is_empty}
 use Rattle.network_events.specs.plant_model.State.{Connection, State}
 use Rattle.network_events.specs.plant_model.Wire.{Bytes}
@@ -19,13 +19,13 @@ module _ {P : Type 0} {S : Type 0} where
 
   -- of the pairs of sender and receiver between which messages are on their way it is the least
   pub record IsLeast (n : NetworkParts) (s : State P S) (p : As × As) : Type 0 where
-    pub there : Contains (ways (lines n)) p
+    pub there : Contains (ways (adjacencies n)) p
     pub waits : has_mail s p ≡ true
-    pub least : All (λ q. has_mail s q ≡ true → IsAtMost p q) (ways (lines n))
+    pub least : All (λ q. has_mail s q ≡ true → IsAtMost p q) (ways (adjacencies n))
 
   -- no message is on its way
   abbrev pub IsSettled : NetworkParts → State P S → Type 0
-  IsSettled n s = All (λ q. has_mail s q ≡ false) (ways (lines n))
+  IsSettled n s = All (λ q. has_mail s q ≡ false) (ways (adjacencies n))
 
   -- what came from an outside peer and is not yet taken
   abbrev pub inbox_of : ℕ → State P S → List (Option Bytes)

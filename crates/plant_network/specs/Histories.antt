@@ -13,7 +13,7 @@ use Rattle.plant_network.specs.declared.acts.Act.{Act}
 use Rattle.plant_network.specs.declared.acts.Act.TheVariants.{Do, Look, Ready, Finish, Map}
 use Rattle.plant_network.specs.declared.acts.Acted.{Acted}
 use Rattle.plant_network.specs.declared.acts.Acted.TheVariants.{Did, Committed}
-use Rattle.plant_network.specs.declared.acts.Turn.{Turn}
+use Rattle.plant_network.specs.declared.acts.ActAnswer.{ActAnswer}
 
 -- the event of an act, with its answer; to look at a job, to ask which can be solved and to ask for a topology are none
 abbrev pub event_of : NetworkParts → Act → Acted → List (Event × Answered)
@@ -22,7 +22,7 @@ event_of n (Finish x) (Committed r) = (solve_of x, answer_of (has_jobs n (solved
 event_of n a r = []
 
 -- the events of a history, the newest first
-abbrev pub events_of : NetworkParts → List (Act × Turn) → List (Event × Answered)
+abbrev pub events_of : NetworkParts → List (Act × ActAnswer) → List (Event × Answered)
 events_of n [] = []
 events_of n (e ∷ es) = events_of n es ++ event_of n e.0 e.1.acted
 
@@ -37,11 +37,11 @@ IsGivenIn (Ready k) = Unit {0}
 IsGivenIn (Finish x) = Unit {0}
 IsGivenIn (Map d) = Unit {0}
 
-abbrev pub AreGiven : List (Act × Turn) → Type 0
+abbrev pub AreGiven : List (Act × ActAnswer) → Type 0
 AreGiven [] = Unit {0}
 AreGiven (e ∷ es) = IsGivenIn e.0 × AreGiven es
 
 -- Where turns begin in a state of a run, a legal history leaves a state of that run as it goes on over the history's events, in order.
 abbrev pub HistoriesAreRuns : Type 0
-HistoriesAreRuns = (w : Whole) (older : List Entry) (es : List (Act × Turn)) → AreGiven es → Run wire w.network older w.state → Legal Admits Allowed left_by w es →
+HistoriesAreRuns = (w : Whole) (older : List Entry) (es : List (Act × ActAnswer)) → AreGiven es → Run wire w.network older w.state → Legal Admits Allowed left_by w es →
     (newer : List Entry) × Run wire w.network (newer ++ older) (replay left_by w es).state × (map done_by newer ≡ events_of w.network es)

@@ -33,7 +33,7 @@ use Rattle.plant_network.specs.declared.acts.Act.{Act}
 use Rattle.plant_network.specs.declared.acts.Act.TheVariants.{Look, Finish}
 use Rattle.plant_network.specs.declared.acts.Acted.{Acted}
 use Rattle.plant_network.specs.declared.acts.Acted.TheVariants.{Looked}
-use Rattle.plant_network.specs.declared.acts.Turn.{Turn}
+use Rattle.plant_network.specs.declared.acts.ActAnswer.{ActAnswer}
 
 -- ---- what lasts
 
@@ -44,7 +44,7 @@ pub lasts_on : (a b c : Whole) → LastsTo a b → LastsTo b c → LastsTo a c
 lasts_on a b c first second = record { network = second.network ∙ first.network; jobs = jobs_on a.state b.state c.state first.jobs second.jobs }
 
 -- over a legal list of entries
-pub history_lasts : (w : Whole) (es : List (Act × Turn)) → Legal Admits Allowed left_by w es → LastsTo w (replay left_by w es)
+pub history_lasts : (w : Whole) (es : List (Act × ActAnswer)) → Legal Admits Allowed left_by w es → LastsTo w (replay left_by w es)
 history_lasts w [] legal = stays w
 history_lasts w (e ∷ es) legal =
     let next : Whole = left_by w e.0 e.1 in lasts_on w next (replay left_by next es) legal.1.lasts (history_lasts next es legal.2)
@@ -111,7 +111,7 @@ finish_admitted : (w left last : Whole) → HaveGiven w.state → LastsTo w last
 finish_admitted w left last given lasts (Look d k) (Looked (Ok (Some job))) (Finish x) warrant answer = solution_lasts w last given lasts d k job x answer.1.work warrant
 finish_admitted w left last given lasts a r next warrant answer = absurd warrant
 
-pub looks_last : (w : Whole) (a : Act) (t : Turn) (es : List (Act × Turn)) (next : Act) → Warrants a t.acted next → Admits w a → Allowed w a t → Legal Admits Allowed left_by (left_by w a t) es → Admits (replay left_by (left_by w a t) es) next
+pub looks_last : (w : Whole) (a : Act) (t : ActAnswer) (es : List (Act × ActAnswer)) (next : Act) → Warrants a t.acted next → Admits w a → Allowed w a t → Legal Admits Allowed left_by (left_by w a t) es → Admits (replay left_by (left_by w a t) es) next
 looks_last w a t es next warrant admits allowed legal =
     let left : Whole = left_by w a t in
     finish_admitted w left (replay left_by left es) allowed.given (lasts_on w left (replay left_by left es) allowed.lasts (history_lasts left es legal)) a t.acted next warrant allowed.answer

@@ -20,7 +20,7 @@ use Rattle.plant_network.specs.declared.acts.Act.{Act}
 use Rattle.plant_network.specs.declared.acts.Act.TheVariants.{Do, Look, Ready, Finish, Map}
 use Rattle.plant_network.specs.declared.acts.Acted.{Acted}
 use Rattle.plant_network.specs.declared.acts.Acted.TheVariants.{Did, Looked, Found, Committed, Mapped}
-use Rattle.plant_network.specs.declared.acts.Turn.{Turn}
+use Rattle.plant_network.specs.declared.acts.ActAnswer.{ActAnswer}
 
 -- ---- what is admitted
 
@@ -61,11 +61,11 @@ pub record LastsTo (w next : Whole) : Type 0 where
   pub network : next.network ≡ w.network
   pub jobs : JobsLast w.state next.state
 
-abbrev pub left_by : Whole → Act → Turn → Whole
+abbrev pub left_by : Whole → Act → ActAnswer → Whole
 left_by w a t = whole t.left.value
 
 -- A state allows the answer to the act, with what it left. Whatever the act, each request has a number that was given, and jobs last.
-pub record Allowed (w : Whole) (a : Act) (t : Turn) : Type 0 where
+pub record Allowed (w : Whole) (a : Act) (t : ActAnswer) : Type 0 where
   pub answer : IsAnswer w a t.acted (left_by w a t)
   pub given : HaveGiven w.state
   pub lasts : LastsTo w (left_by w a t)

@@ -36,7 +36,7 @@ pub enum Acted {
 /// The answer to an act, and the network that the act left. Contracts alone speak of that: a solve leaves a choice,
 /// and no answer shows all of it.
 #[derive(Drop)]
-pub struct Turn {
+pub struct ActAnswer {
     pub acted: Acted,
     pub left: Snapshot<Plant>,
 }

@@ -1,6 +1,6 @@
 //! A network as one value, whatever its members know of their domains.
 ghost use Rattle.std.specs.Prelude.{◌≡◌, IfOk};
-ghost use Rattle.plant_text.specs.Settings.{lines};
+ghost use Rattle.plant_text.specs.Settings.{adjacencies};
 ghost use Rattle.network_events.specs.network_links.Carried.{flow_of};
 ghost use Rattle.network_events.specs.network_links.Waiting.{WaitsNext};
 ghost use Rattle.plant_network.specs.Beginning.{IsBegun};
@@ -86,7 +86,7 @@ impl<W: World> Network<W> {
     /// takes no memory.
     pub fn waiting(&self) -> Option<(As, As)>
         ensures next { WaitsNext (flow_of self.now.carried) result }
-        ensures along { (flow_of self.now.carried).lines ≡ lines (whole W.first self.now).network }
+        ensures along { (flow_of self.now.carried).adjacencies ≡ adjacencies (whole W.first self.now).network }
     {
         self.traffic.waiting()
     }

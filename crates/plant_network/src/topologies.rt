@@ -9,7 +9,7 @@ ghost use Rattle.jobs_last.specs.Lasting.{HaveGiven, JobsLast};
 ghost use Rattle.network_members.specs.Answering.{IsWeighedWork};
 ghost use Rattle.network_events.specs.network_links.Carried.{flow_of};
 ghost use Rattle.network_events.specs.network_links.Waiting.{WaitsNext};
-ghost use Rattle.plant_text.specs.Settings.{lines};
+ghost use Rattle.plant_text.specs.Settings.{adjacencies};
 ghost use Rattle.plant_network.specs.Topologies.{whole};
 ghost use Rattle.plant_network.specs.Current.{IsCurrent};
 ghost use Rattle.plant_network.specs.Jobs.{CanSolve, IsOwn, IsWork, answer_of, handed_back, solved_at, solved_number};

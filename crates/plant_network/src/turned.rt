@@ -2,7 +2,7 @@
 ghost use Rattle.plant_network.specs.Topologies.{whole};
 ghost use Rattle.plant_network.specs.Turns.{Admits, IsAnswer, LastsTo};
 
-use crate::acts::{Act, Acted, Turn};
+use crate::acts::{Act, Acted, ActAnswer};
 use crate::network::Network;
 use crate::topologies::Plant;
 use network_members::Topologies;
@@ -31,7 +31,7 @@ impl Turned for Network<Topologies> {
 
     type Act = Act;
 
-    type Answer = Turn;
+    type Answer = ActAnswer;
 
     ghost State = { Whole };
 
@@ -45,10 +45,10 @@ impl Turned for Network<Topologies> {
 
     ghost warrants = { λ act turn next. Warrants act turn.acted next };
 
-    fn turn(&mut self, act: Act) -> Turn {
+    fn turn(&mut self, act: Act) -> ActAnswer {
         self.requests_have_given_numbers();
         let acted = perform(self, act);
-        Turn {
+        ActAnswer {
             acted,
             left: Snapshot::of(self),
         }

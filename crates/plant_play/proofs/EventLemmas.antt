@@ -23,9 +23,9 @@ use Rattle.plant_network.specs.Whole.{Whole}
 use Rattle.transcript.specs.Lines.{answer_line, rows_text, sents_text}
 use Rattle.plant_play.specs.declared.showing.Modes.{Modes}
 use Rattle.plant_play.specs.Logs.{Told, behind}
-use Rattle.plant_play.specs.Making.{Brings, CertificateOf, Does, IsJobAt, IsJobOf, IsToShow, Makes, MakesTurn, TableOf, shows_any, stage, told_of}
+use Rattle.plant_play.specs.Making.{Brings, CertificateOf, Does, IsJobAt, IsJobOf, IsToShow, Makes, MakesTurn, TableOf, shows_any, playing, told_of}
 use Rattle.plant_play.specs.Playing.{PlaysOne}
-use Rattle.plant_play.specs.Turns.{CertificateAt, HasTable, Shows, TableAt, Turn, brought_text, certificate_text, event_line, is_domain_solve, messages_of, tells_closed, unsaid}
+use Rattle.plant_play.specs.Turns.{CertificateAt, HasTable, ShowsTurn, TableAt, Turn, brought_text, certificate_text, event_line, is_domain_solve, messages_of, tells_closed, unsaid}
 use Rattle.plant_play.proofs.LogLemmas.{behind_twice}
 
 -- ---- what an accepted solve solved
@@ -144,13 +144,13 @@ module _ (line : ℕ) (m : Modes) (old : Whole) (e : Event) (answer : Answered) 
   abbrev pub turn_of : Makes old e answer new → Brings line m new answer job b1 b2 → Turn
   turn_of makes brings = record { entry = record { event = e; answer = answer; deeds = makes.deeds }; after = new.state; rows = brings.rows; certificate = brings.certificate }
 
-  pub turn_shows : (makes : Makes old e answer new) (brings : Brings line m new answer job b1 b2) → IsToShow m old e job → Shows m old.network old.state (turn_of makes brings)
+  pub turn_shows : (makes : Makes old e answer new) (brings : Brings line m new answer job b1 b2) → IsToShow m old e job → ShowsTurn m old.network old.state (turn_of makes brings)
   turn_shows makes brings to_show = go answer makes.happens makes.accepted brings.are_rows brings.is_certificate
     where
       go : (a : Answered) → Happens wire old.network old.state e (record { answer = a; state = new.state; deeds = makes.deeds }) → OnOk a (new.said ≡ said wire makes.deeds) →
           cond (is_accepted a && (m.disclose && tells_closed new.network new.said)) (TableOf job brings.rows) (brings.rows ≡ []) →
           cond (is_accepted a && m.certify) (CertificateOf job brings.certificate) (brings.certificate ≡ None) →
-          Shows m old.network old.state (record { entry = record { event = e; answer = a; deeds = makes.deeds }; after = new.state; rows = brings.rows; certificate = brings.certificate })
+          ShowsTurn m old.network old.state (record { entry = record { event = e; answer = a; deeds = makes.deeds }; after = new.state; rows = brings.rows; certificate = brings.certificate })
       go (Err why) happens said h l = (h, l)
       go (Ok o) happens is_said h l =
           let closed : tells_closed new.network new.said ≡ tells_closed old.network (said wire makes.deeds) =
@@ -166,7 +166,7 @@ module _ (line : ℕ) (m : Modes) (old : Whole) (e : Event) (answer : Answered) 
 
 -- the own event of a line
 pub one_event : (line : ℕ) (m : Modes) (old : Whole) (e : Event) (answer : Answered) (new : Whole) (job : Option Job) (b0 b1 b2 : Told) → IsToShow m old e job → Makes old e answer new →
-    b1 ≡ behind b0 (answer_line line answer) → Brings line m new answer job b1 b2 → Does old (PlaysOne line (stage m old) e answer) new b0 b2
+    b1 ≡ behind b0 (answer_line line answer) → Brings line m new answer job b1 b2 → Does old (PlaysOne line (playing m old) e answer) new b0 b2
 one_event line m old e answer new job b0 b1 b2 to_show makes answered brings =
     let t = turn_of line m old e answer new job b1 b2 makes brings in
     record {

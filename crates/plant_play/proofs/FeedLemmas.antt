@@ -13,9 +13,9 @@ use Rattle.transcript.specs.Lines.{answer_line}
 use Rattle.plant_play.specs.declared.showing.Modes.{Modes}
 use Rattle.plant_play.specs.Due.{AreDue, IsDueTake}
 use Rattle.plant_play.specs.Logs.{Told, behind}
-use Rattle.plant_play.specs.Making.{Does, DoesAll, Makes, stage}
+use Rattle.plant_play.specs.Making.{Does, DoesAll, Makes, playing}
 use Rattle.plant_play.specs.Playing.{PlaysDue, PlaysFeed}
-use Rattle.plant_play.specs.Turns.{IsTurn, Shows, Turn, entries_of, turns_text}
+use Rattle.plant_play.specs.Turns.{IsTurn, ShowsTurn, Turn, entries_of, turns_text}
 use Rattle.plant_play.proofs.LogLemmas.{behind_twice}
 
 -- an event of which nothing is shown
@@ -26,11 +26,11 @@ module _ (line : ℕ) (m : Modes) (old : Whole) (i : ℕ) (bytes : Bytes) where
   fed_turn : (answer : Answered) (new : Whole) (makes : Makes old (event.Feed i bytes) answer new) → IsTurn m old.network old.state (plain (event.Feed i bytes) answer old new makes.deeds)
   fed_turn answer new makes = record { happens = makes.happens; shows = shows answer }
     where
-      shows : (a : Answered) → Shows m old.network old.state (plain (event.Feed i bytes) a old new makes.deeds)
+      shows : (a : Answered) → ShowsTurn m old.network old.state (plain (event.Feed i bytes) a old new makes.deeds)
       shows (Ok o) = (refl, refl)
       shows (Err why) = (refl, refl)
 
-  pub feed_refused : (answer : Answered) (new : Whole) (b0 b1 : Told) → is_err answer ≡ true → Makes old (event.Feed i bytes) answer new → b1 ≡ behind b0 (answer_line line answer) → Does old (PlaysFeed line (stage m old) i bytes answer) new b0 b1
+  pub feed_refused : (answer : Answered) (new : Whole) (b0 b1 : Told) → is_err answer ≡ true → Makes old (event.Feed i bytes) answer new → b1 ≡ behind b0 (answer_line line answer) → Does old (PlaysFeed line (playing m old) i bytes answer) new b0 b1
   feed_refused (Ok o) new b0 b1 e makes told = absurd (let no : false ≡ true = e in cc)
   feed_refused (Err why) new b0 b1 e makes told =
       let fed = plain (event.Feed i bytes) (Err why) old new makes.deeds in
@@ -44,7 +44,7 @@ module _ (line : ℕ) (m : Modes) (old : Whole) (i : ℕ) (bytes : Bytes) where
       }
 
   pub feed_taken : (answer : Answered) (mid new : Whole) (b0 b1 b2 : Told) → is_err answer ≡ false → Makes old (event.Feed i bytes) answer mid → DoesAll line m (IsDueTake i) mid new b0 b1 → b2 ≡ behind b1 (answer_line line answer) →
-      Does old (PlaysFeed line (stage m old) i bytes answer) new b0 b2
+      Does old (PlaysFeed line (playing m old) i bytes answer) new b0 b2
   feed_taken (Err why) mid new b0 b1 b2 e makes all told = absurd (let no : true ≡ false = e in cc)
   feed_taken (Ok o) mid new b0 b1 b2 e makes all told =
       let fed = plain (event.Feed i bytes) (Ok o) old mid makes.deeds in
@@ -72,7 +72,7 @@ module _ (line : ℕ) (m : Modes) (old : Whole) (i : ℕ) (bytes : Bytes) where
       }
 
 -- all that was due, and its answer
-pub all_told : (line : ℕ) (m : Modes) (Due : Plant → Option Event → Type 0) (old new : Whole) (b0 b1 b2 : Told) → DoesAll line m Due old new b0 b1 → b2 ≡ behind b1 (answer_line line (Ok Done)) → Does old (PlaysDue line (stage m old) Due (Ok Done)) new b0 b2
+pub all_told : (line : ℕ) (m : Modes) (Due : Plant → Option Event → Type 0) (old new : Whole) (b0 b1 b2 : Told) → DoesAll line m Due old new b0 b1 → b2 ≡ behind b1 (answer_line line (Ok Done)) → Does old (PlaysDue line (playing m old) Due (Ok Done)) new b0 b2
 all_told line m Due old new b0 b1 b2 all told = record {
   network = all.some.network;
   turns = all.some.turns;

@@ -33,7 +33,7 @@ use Rattle.plant_play.specs.declared.events.Due.TheVariants as due
 use Rattle.plant_play.specs.declared.showing.Modes.{Modes}
 use Rattle.plant_play.specs.Due.{AreDue}
 use Rattle.plant_play.specs.Logs.{Told, behind}
-use Rattle.plant_play.specs.Playing.{Stage}
+use Rattle.plant_play.specs.Playing.{PlayedNetwork}
 use Rattle.plant_play.specs.Turns.{AreGiven, IsTurn, Turn, certificate_text, entries_of, tells_closed, turns_text, turn_text}
 
 -- an event is done, and was not refused for want of memory
@@ -155,8 +155,8 @@ pub record Brings (line : ℕ) (m : Modes) (w : Whole) (answer : Answered) (job 
 -- ---- events, one behind the other
 
 -- a network at a line, with what is shown
-abbrev pub stage : Modes → Whole → Stage
-stage m w = record { network = w.network; state = w.state; modes = m }
+abbrev pub playing : Modes → Whole → PlayedNetwork
+playing m w = record { network = w.network; state = w.state; modes = m }
 
 -- An event that is not the line's own is done and told.
 pub record MakesTurn (line : ℕ) (m : Modes) (old : Whole) (e : Event) (new : Whole) (before after : Told) : Type 0 where

@@ -36,16 +36,16 @@ pub record Scene : Type 0 where
   pub modes : Modes
 
 -- a network that is played, and what its transcript shows
-pub record Stage : Type 0 where
+pub record PlayedNetwork : Type 0 where
   pub network : NetworkParts
   pub state : Plant
   pub modes : Modes
 
-abbrev pub stage_of : Scene → Stage
-stage_of x = record { network = (whole x.plant).network; state = (whole x.plant).state; modes = x.modes }
+abbrev pub played_network : Scene → PlayedNetwork
+played_network x = record { network = (whole x.plant).network; state = (whole x.plant).state; modes = x.modes }
 
 -- a network has just been made, and nothing is shown
-pub record IsNewStage (n : NetworkParts) (new : Stage) : Type 0 where
+pub record IsNewNetwork (n : NetworkParts) (new : PlayedNetwork) : Type 0 where
   pub network : new.network ≡ n
   pub run : Run wire n [] new.state
   pub modes : new.modes ≡ record { certify = false; disclose = false }
@@ -53,7 +53,7 @@ pub record IsNewStage (n : NetworkParts) (new : Stage) : Type 0 where
 -- ---- the kinds of lines: the answer of a line, its events, what is told, and the state that is left
 
 -- one event: its answer is told first
-pub record PlaysOne (number : ℕ) (old : Stage) (e : Event) (answer : Answered) (turns : List Turn) (told : List ℕ) (end : Plant) : Type 0 where
+pub record PlaysOne (number : ℕ) (old : PlayedNetwork) (e : Event) (answer : Answered) (turns : List Turn) (told : List ℕ) (end : Plant) : Type 0 where
   pub turn : Turn
   pub one : turns ≡ turn ∷ []
   pub event : turn.entry.event ≡ e
@@ -63,14 +63,14 @@ pub record PlaysOne (number : ℕ) (old : Stage) (e : Event) (answer : Answered)
   pub tells : told ≡ answer_line number answer ++ brought_text number old.network.peers turn
 
 -- no event: the answer is fixed
-pub record PlaysNone (number : ℕ) (old : Stage) (fixed : Answered) (answer : Answered) (turns : List Turn) (told : List ℕ) (end : Plant) : Type 0 where
+pub record PlaysNone (number : ℕ) (old : PlayedNetwork) (fixed : Answered) (answer : Answered) (turns : List Turn) (told : List ℕ) (end : Plant) : Type 0 where
   pub answered : answer ≡ fixed
   pub no_turn : turns ≡ []
   pub ends : end ≡ old.state
   pub tells : told ≡ answer_line number answer
 
 -- a feed, and if it is accepted the takes that are due then, each with its line; the answer to the feed is told last
-pub record PlaysFeed (number : ℕ) (old : Stage) (peer : ℕ) (bytes : Bytes) (answer : Answered) (turns : List Turn) (told : List ℕ) (end : Plant) : Type 0 where
+pub record PlaysFeed (number : ℕ) (old : PlayedNetwork) (peer : ℕ) (bytes : Bytes) (answer : Answered) (turns : List Turn) (told : List ℕ) (end : Plant) : Type 0 where
   pub fed : Turn
   pub taken : List Turn
   pub are : turns ≡ fed ∷ taken
@@ -81,22 +81,22 @@ pub record PlaysFeed (number : ℕ) (old : Stage) (peer : ℕ) (bytes : Bytes) (
   pub tells : told ≡ turns_text number old.network.peers taken ++ answer_line number answer
 
 -- all that is due, each with its line
-pub record PlaysDue (number : ℕ) (old : Stage) (Due : Plant → Option Event → Type 0) (answer : Answered) (turns : List Turn) (told : List ℕ) (end : Plant) : Type 0 where
+pub record PlaysDue (number : ℕ) (old : PlayedNetwork) (Due : Plant → Option Event → Type 0) (answer : Answered) (turns : List Turn) (told : List ℕ) (end : Plant) : Type 0 where
   pub answered : answer ≡ Ok Done
   pub all : AreAllDue Due old.modes old.network old.state turns end
   pub tells : told ≡ turns_text number old.network.peers turns ++ answer_line number answer
 
 -- the event of a peer that a line names; a name that the settings lack is no peer
-abbrev pub PlaysNamed : ℕ → Stage → Option Event → Answered → List Turn → List ℕ → Plant → Type 0
+abbrev pub PlaysNamed : ℕ → PlayedNetwork → Option Event → Answered → List Turn → List ℕ → Plant → Type 0
 PlaysNamed number old None = PlaysNone number old (Err NoSuchPeer)
 PlaysNamed number old (Some e) = PlaysOne number old e
 
-abbrev pub PlaysFeedAt : ℕ → Stage → Option ℕ → Bytes → Answered → List Turn → List ℕ → Plant → Type 0
+abbrev pub PlaysFeedAt : ℕ → PlayedNetwork → Option ℕ → Bytes → Answered → List Turn → List ℕ → Plant → Type 0
 PlaysFeedAt number old None bytes = PlaysNone number old (Err NoSuchPeer)
 PlaysFeedAt number old (Some i) bytes = PlaysFeed number old i bytes
 
 -- the topology of the file, which is of this domain
-pub record PlaysLoad (number : ℕ) (old : Stage) (at : As) (file : List ℕ) (answer : Answered) (turns : List Turn) (told : List ℕ) (end : Plant) : Type 0 where
+pub record PlaysLoad (number : ℕ) (old : PlayedNetwork) (at : As) (file : List ℕ) (answer : Answered) (turns : List Turn) (told : List ℕ) (end : Plant) : Type 0 where
   pub topology : Rows
   pub reads : Reads file topology
   pub own : topology.own ≡ at
@@ -105,19 +105,19 @@ pub record PlaysLoad (number : ℕ) (old : Stage) (at : As) (file : List ℕ) (a
   pub loads : PlaysOne number old (event.Load at topology) answer turns told end
 
 -- the element's topology with the changes of the file
-pub record Changes (number : ℕ) (old : Stage) (at : As) (changes : List Change) (answer : Answered) (turns : List Turn) (told : List ℕ) (end : Plant) : Type 0 where
+pub record Changes (number : ℕ) (old : PlayedNetwork) (at : As) (changes : List Change) (answer : Answered) (turns : List Turn) (told : List ℕ) (end : Plant) : Type 0 where
   pub topology : Rows
   pub built : IsBuiltOf (old.state.current at).topology changes topology
   pub rules : IsTopology topology
   pub order : IsInOrder topology
   pub loads : PlaysOne number old (event.Load at topology) answer turns told end
 
-pub record PlaysChange (number : ℕ) (old : Stage) (at : As) (file : List ℕ) (answer : Answered) (turns : List Turn) (told : List ℕ) (end : Plant) : Type 0 where
+pub record PlaysChange (number : ℕ) (old : PlayedNetwork) (at : As) (file : List ℕ) (answer : Answered) (turns : List Turn) (told : List ℕ) (end : Plant) : Type 0 where
   pub changes : List Change
   pub reads : text_in file ≡ Ok changes
   pub makes : cond (is_element old.network at) (Changes number old at changes answer turns told end) (PlaysNone number old (Err NoSuchPeer) answer turns told end)
 
-abbrev pub Plays : ℕ → Stage → LineEvent → List ℕ → Answered → List Turn → List ℕ → Plant → Type 0
+abbrev pub Plays : ℕ → PlayedNetwork → LineEvent → List ℕ → Answered → List Turn → List ℕ → Plant → Type 0
 Plays number old (line.Load at name) file = PlaysLoad number old at file
 Plays number old (line.Change at name) file = PlaysChange number old at file
 Plays number old (line.Open peer holder) file = PlaysNamed number old (option_map (λ i. event.Open i holder) peer)
@@ -146,13 +146,13 @@ pub record Cue : Type 0 where
   pub file : List ℕ
 
 -- The line is played: its answer, its events, and what is told of them.
-pub record PlaysLine (old : Stage) (c : Cue) (answer : Answered) (turns : List Turn) (told : List ℕ) (new : Stage) : Type 0 where
+pub record PlaysLine (old : PlayedNetwork) (c : Cue) (answer : Answered) (turns : List Turn) (told : List ℕ) (new : PlayedNetwork) : Type 0 where
   pub network : new.network ≡ old.network
   pub modes : new.modes ≡ modes_after c.event old.modes
   pub plays : Plays c.number old c.event c.file answer turns told new.state
 
 -- The same, told at the end of a transcript; and a run goes on by its events.
-pub record Played (c : Cue) (old : Stage) (answer : Answered) (new : Stage) (before after : Told) : Type 0 where
+pub record Played (c : Cue) (old : PlayedNetwork) (answer : Answered) (new : PlayedNetwork) (before after : Told) : Type 0 where
   pub turns : List Turn
   pub told : List ℕ
   pub line : PlaysLine old c answer turns told new
@@ -165,16 +165,16 @@ cue number e file = record { number = number; event = e; file = file }
 -- ---- why a line is not played; want of memory says nothing
 
 -- The topology file is refused, and the network is as before.
-abbrev pub WhyNotLoaded : As → List ℕ → Stage → Stage → FileError → Type 0
+abbrev pub WhyNotLoaded : As → List ℕ → PlayedNetwork → PlayedNetwork → FileError → Type 0
 WhyNotLoaded at file old new NoMemory = Unit {0}
 WhyNotLoaded at file old new why = IsWhyNoTopology at file why × (new ≡ old)
 
 -- The change file is refused, or the changes can't be made, and the network is as before.
-abbrev pub WhyNotChanged : As → List ℕ → Stage → Stage → FileError → Type 0
+abbrev pub WhyNotChanged : As → List ℕ → PlayedNetwork → PlayedNetwork → FileError → Type 0
 WhyNotChanged at file old new NoMemory = Unit {0}
 WhyNotChanged at file old new why = IsWhyNotChanged at (old.state.current at).topology file why × (new ≡ old)
 
-abbrev pub IsWhyNot : LineEvent → List ℕ → Stage → Stage → FileError → Type 0
+abbrev pub IsWhyNot : LineEvent → List ℕ → PlayedNetwork → PlayedNetwork → FileError → Type 0
 IsWhyNot (line.Load at name) file old new why = WhyNotLoaded at file old new why
 IsWhyNot (line.Change at name) file old new why = WhyNotChanged at file old new why
 IsWhyNot e file old new why = IsWant why

@@ -1,15 +1,15 @@
 -- Lines of a script, played one after the other.
 use Rattle.std.specs.Prelude.{◌≡◌, ℕ, List, [], ◌∷◌, ◌++◌}
 use Rattle.plant_network.specs.plant_model.Events.{Answered}
-use Rattle.plant_play.specs.Playing.{Cue, PlaysLine, Stage}
+use Rattle.plant_play.specs.Playing.{Cue, PlaysLine, PlayedNetwork}
 use Rattle.plant_play.specs.Turns.{Turn}
 
 -- one line, and then others
-pub record PlaysFirst (Others : Stage → List Turn → List ℕ → Stage → Type 0) (old : Stage) (c : Cue) (turns : List Turn) (told : List ℕ) (new : Stage) : Type 0 where
+pub record PlaysFirst (Others : PlayedNetwork → List Turn → List ℕ → PlayedNetwork → Type 0) (old : PlayedNetwork) (c : Cue) (turns : List Turn) (told : List ℕ) (new : PlayedNetwork) : Type 0 where
   pub answer : Answered
   pub first : List Turn
   pub said : List ℕ
-  pub mid : Stage
+  pub mid : PlayedNetwork
   pub plays : PlaysLine old c answer first said mid
   pub later : List Turn
   pub more : List ℕ
@@ -18,6 +18,6 @@ pub record PlaysFirst (Others : Stage → List Turn → List ℕ → Stage → T
   pub told_is : told ≡ said ++ more
 
 -- The lines are played one after the other.
-abbrev pub AllPlayed : Stage → List Cue → List Turn → List ℕ → Stage → Type 0
+abbrev pub AllPlayed : PlayedNetwork → List Cue → List Turn → List ℕ → PlayedNetwork → Type 0
 AllPlayed old [] turns told new = (turns ≡ []) × (told ≡ []) × (new ≡ old)
 AllPlayed old (c ∷ cs) turns told new = PlaysFirst (λ mid later more end. AllPlayed mid cs later more end) old c turns told new

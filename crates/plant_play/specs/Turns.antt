@@ -90,8 +90,8 @@ CertificateAt w e c = ⊥
 
 -- What is shown of an accepted solve of a domain: its table where that is disclosed to a closed peer, and its certificate. Nothing is
 -- shown of other events.
-abbrev pub Shows : Modes → NetworkParts → Plant → Turn → Type 0
-Shows m n s t =
+abbrev pub ShowsTurn : Modes → NetworkParts → Plant → Turn → Type 0
+ShowsTurn m n s t =
     cond (is_accepted t.entry.answer && is_domain_solve t.entry.event)
     (cond (m.disclose && tells_closed n (said wire t.entry.deeds)) (TableAt (unsaid n s) t.entry.event t.rows) (t.rows ≡ [])
     × cond m.certify (CertificateAt (unsaid n s) t.entry.event t.certificate) (t.certificate ≡ None))
@@ -100,7 +100,7 @@ Shows m n s t =
 -- the event happens in this state
 pub record IsTurn (m : Modes) (n : NetworkParts) (s : Plant) (t : Turn) : Type 0 where
   pub happens : Happens wire n s t.entry.event (record { answer = t.entry.answer; state = t.after; deeds = t.entry.deeds })
-  pub shows : Shows m n s t
+  pub shows : ShowsTurn m n s t
 
 -- ---- what is told
 

@@ -6,7 +6,7 @@ ghost use Rattle.plant_network.specs.Topologies.{whole};
 ghost use Rattle.plant_network.specs.Whole.{IsOwnLoad};
 ghost use Rattle.transcript.specs.Lines.{name_from};
 ghost use Rattle.plant_play.specs.Logs.{behind};
-ghost use Rattle.plant_play.specs.Making.{DoesLine, Makes, MakesTurn, Refuses, event_of, lacks_memory, stage};
+ghost use Rattle.plant_play.specs.Making.{DoesLine, Makes, MakesTurn, Refuses, event_of, lacks_memory, playing};
 ghost use Rattle.plant_play.specs.Playing.{PlaysNone, PlaysOne};
 ghost use Rattle.plant_play.specs.Turns.{event_line};
 
@@ -73,7 +73,7 @@ pub(crate) fn play_event(
     into: &mut Log,
 ) -> Result<Answer, PlayError>
     requires { IsOwnLoad event }
-    ensures plays { IfOk result (DoesLine (whole plant.old) (PlaysOne line (stage modes (whole plant.old)) event) (whole plant.new) into.old into.new) }
+    ensures plays { IfOk result (DoesLine (whole plant.old) (PlaysOne line (playing modes (whole plant.old)) event) (whole plant.new) into.old into.new) }
     ensures refused { IfErr result IsWant }
 {
     let job = job_to_show(plant, modes, &event)?;

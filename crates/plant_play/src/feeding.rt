@@ -3,7 +3,7 @@ ghost use Rattle.std.specs.Prelude.{◌≡◌, IfErr, IfOk, OnOk};
 ghost use Rattle.network_files.specs.Reading.{IsWant};
 ghost use Rattle.plant_network.specs.Topologies.{whole};
 ghost use Rattle.plant_play.specs.Due.{IsDueTake};
-ghost use Rattle.plant_play.specs.Making.{DoesAll, DoesLine, stage};
+ghost use Rattle.plant_play.specs.Making.{DoesAll, DoesLine, playing};
 ghost use Rattle.plant_play.specs.Playing.{PlaysFeed};
 
 use crate::PlayError;
@@ -44,7 +44,7 @@ pub(crate) fn feed(
     bytes: Bytes,
     into: &mut Log,
 ) -> Result<Answer, PlayError>
-    ensures plays { IfOk result (DoesLine (whole plant.old) (PlaysFeed line (stage modes (whole plant.old)) peer bytes) (whole plant.new) into.old into.new) }
+    ensures plays { IfOk result (DoesLine (whole plant.old) (PlaysFeed line (playing modes (whole plant.old)) peer bytes) (whole plant.new) into.old into.new) }
     ensures refused { IfErr result IsWant }
 {
     let answer = done(plant, Event::Feed(peer, bytes))?;

@@ -5,7 +5,7 @@ ghost use Rattle.plant_network.specs.plant_model.declared.event.Event.TheVariant
 ghost use Rattle.plant_network.specs.Topologies.{whole};
 ghost use Rattle.plant_play.specs.Due.{IsDue, jobs_due};
 ghost use Rattle.network_files.specs.Reading.{IsWant};
-ghost use Rattle.plant_play.specs.Making.{DoesAll, DoesLine, IsPossible, event_of, stage};
+ghost use Rattle.plant_play.specs.Making.{DoesAll, DoesLine, IsPossible, event_of, playing};
 ghost use Rattle.plant_play.specs.Playing.{PlaysDue};
 
 use crate::PlayError;
@@ -78,7 +78,7 @@ pub(crate) fn go_on(
     line: u32,
     into: &mut Log,
 ) -> Result<Answer, PlayError>
-    ensures plays { IfOk result (DoesLine (whole plant.old) (PlaysDue line (stage modes (whole plant.old)) (IsDue until (whole plant.old).network)) (whole plant.new) into.old into.new) }
+    ensures plays { IfOk result (DoesLine (whole plant.old) (PlaysDue line (playing modes (whole plant.old)) (IsDue until (whole plant.old).network)) (whole plant.new) into.old into.new) }
     ensures refused { IfErr result IsWant }
 {
     make_all(alloc, plant, modes, until, line, into)?;

@@ -6,7 +6,7 @@ ghost use Rattle.plant_network.specs.plant_model.declared.outcome.Refused.TheVar
 ghost use Rattle.plant_network.specs.Topologies.{whole};
 ghost use Rattle.plant_network.specs.Whole.{IsOwnLoad};
 ghost use Rattle.network_files.specs.Reading.{IsWant};
-ghost use Rattle.plant_play.specs.Making.{AreNoLoads, DoesLine, stage};
+ghost use Rattle.plant_play.specs.Making.{AreNoLoads, DoesLine, playing};
 ghost use Rattle.plant_play.specs.Playing.{IsWhyNot, Plays, PlaysChange, PlaysFeedAt, PlaysLoad, PlaysNamed, PlaysNone, WhyNotChanged, WhyNotLoaded, modes_after};
 
 use crate::PlayError;
@@ -31,7 +31,7 @@ fn play_none(
     fixed: Answer,
     into: &mut Log,
 ) -> Result<Answer, PlayError>
-    ensures plays { IfOk result (DoesLine (whole _plant.now) (PlaysNone line (stage _modes (whole _plant.now)) fixed) (whole _plant.now) into.old into.new) }
+    ensures plays { IfOk result (DoesLine (whole _plant.now) (PlaysNone line (playing _modes (whole _plant.now)) fixed) (whole _plant.now) into.old into.new) }
     ensures refused { IfErr result IsWant }
 {
     write_answer(alloc, line, &fixed, into)?;
@@ -48,7 +48,7 @@ fn play_named(
     into: &mut Log,
 ) -> Result<Answer, PlayError>
     requires { AreNoLoads event }
-    ensures plays { IfOk result (DoesLine (whole plant.old) (PlaysNamed line (stage modes (whole plant.old)) event) (whole plant.new) into.old into.new) }
+    ensures plays { IfOk result (DoesLine (whole plant.old) (PlaysNamed line (playing modes (whole plant.old)) event) (whole plant.new) into.old into.new) }
     ensures refused { IfErr result IsWant }
 {
     match event {
@@ -66,7 +66,7 @@ fn feed_named(
     bytes: Bytes,
     into: &mut Log,
 ) -> Result<Answer, PlayError>
-    ensures plays { IfOk result (DoesLine (whole plant.old) (PlaysFeedAt line (stage modes (whole plant.old)) peer bytes) (whole plant.new) into.old into.new) }
+    ensures plays { IfOk result (DoesLine (whole plant.old) (PlaysFeedAt line (playing modes (whole plant.old)) peer bytes) (whole plant.new) into.old into.new) }
     ensures refused { IfErr result IsWant }
 {
     match peer {
@@ -85,8 +85,8 @@ fn load(
     into: &mut Log,
 ) -> Result<Answer, PlayError>
     requires { length file.now ≤ change_file_most }
-    ensures plays { IfOk result (DoesLine (whole plant.old) (PlaysLoad line (stage modes (whole plant.old)) at file.now) (whole plant.new) into.old into.new) }
-    ensures refused { IfErr result (WhyNotLoaded at file.now (stage modes (whole plant.old)) (stage modes (whole plant.new))) }
+    ensures plays { IfOk result (DoesLine (whole plant.old) (PlaysLoad line (playing modes (whole plant.old)) at file.now) (whole plant.new) into.old into.new) }
+    ensures refused { IfErr result (WhyNotLoaded at file.now (playing modes (whole plant.old)) (playing modes (whole plant.new))) }
 {
     let topology = topology_of(alloc, at, file)?;
     play_event(alloc, plant, modes, line, Event::Load(at, topology), into)
@@ -102,8 +102,8 @@ fn change(
     into: &mut Log,
 ) -> Result<Answer, PlayError>
     requires { length file.now ≤ change_file_most }
-    ensures plays { IfOk result (DoesLine (whole plant.old) (PlaysChange line (stage modes (whole plant.old)) at file.now) (whole plant.new) into.old into.new) }
-    ensures refused { IfErr result (WhyNotChanged at file.now (stage modes (whole plant.old)) (stage modes (whole plant.new))) }
+    ensures plays { IfOk result (DoesLine (whole plant.old) (PlaysChange line (playing modes (whole plant.old)) at file.now) (whole plant.new) into.old into.new) }
+    ensures refused { IfErr result (WhyNotChanged at file.now (playing modes (whole plant.old)) (playing modes (whole plant.new))) }
 {
     let changes = changes_of(alloc, file)?;
     let Some((_number, topology)) = plant.topology(at)? else {
@@ -159,8 +159,8 @@ pub(crate) fn play_line(
     into: &mut Log,
 ) -> Result<Answer, PlayError>
     requires { length file.now ≤ change_file_most }
-    ensures plays { IfOk result (DoesLine (whole plant.old) (Plays line (stage modes (whole plant.old)) event file.now) (whole plant.new) into.old into.new) }
-    ensures refused { IfErr result (IsWhyNot event file.now (stage modes (whole plant.old)) (stage modes (whole plant.new))) }
+    ensures plays { IfOk result (DoesLine (whole plant.old) (Plays line (playing modes (whole plant.old)) event file.now) (whole plant.new) into.old into.new) }
+    ensures refused { IfErr result (IsWhyNot event file.now (playing modes (whole plant.old)) (playing modes (whole plant.new))) }
 {
     match event {
         LineEvent::Load(at, _name) => load(alloc, plant, modes, line, at, file, into),

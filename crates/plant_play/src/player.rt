@@ -1,7 +1,7 @@
 //! Who plays the lines of a script.
 ghost use Rattle.std.specs.Prelude.{◌≡◌, ◌≤◌, length, IfErr, IfOk, OnErr};
 ghost use Rattle.te_deltas.specs.ChangeText.{change_file_most};
-ghost use Rattle.plant_play.specs.Playing.{IsNewStage, IsWhyNot, Played, cue, stage_of};
+ghost use Rattle.plant_play.specs.Playing.{IsNewNetwork, IsWhyNot, Played, cue, played_network};
 
 use crate::PlayError;
 use crate::events::Answer;
@@ -45,7 +45,7 @@ impl Model for Player {
 impl Player {
     /// A new network of these settings; nothing is shown of solved jobs.
     pub fn new(alloc: Global, network: Network) -> Result<Player, NoMemory>
-        ensures { IfOk result (λ player. IsNewStage network (stage_of player)) }
+        ensures { IfOk result (λ player. IsNewNetwork network (played_network player)) }
     {
         Ok(Player {
             alloc,
@@ -59,14 +59,14 @@ impl Player {
 
     /// The settings.
     pub fn parts(&self) -> &NetworkParts
-        ensures { result.now ≡ (stage_of self.now).network }
+        ensures { result.now ≡ (played_network self.now).network }
     {
         self.plant.parts()
     }
 
     /// The settings as the value that they came in.
     pub fn network(&self) -> &Network
-        ensures { result.now ≡ (stage_of self.now).network }
+        ensures { result.now ≡ (played_network self.now).network }
     {
         self.plant.network()
     }
@@ -84,8 +84,8 @@ impl Player {
         into: &mut Log,
     ) -> Result<Answer, PlayError>
         requires { length file.now ≤ change_file_most }
-        ensures plays { IfOk result (λ answer. Played (cue line event file.now) (stage_of self.old) answer (stage_of self.new) into.old into.new) }
-        ensures refused { IfErr result (IsWhyNot event file.now (stage_of self.old) (stage_of self.new)) }
+        ensures plays { IfOk result (λ answer. Played (cue line event file.now) (played_network self.old) answer (played_network self.new) into.old into.new) }
+        ensures refused { IfErr result (IsWhyNot event file.now (played_network self.old) (played_network self.new)) }
         ensures untold { OnErr result (into.new ≡ into.old) }
     {
         let after = modes_after(&event, self.modes);

@@ -7,5 +7,5 @@ mod said;
 mod sent;
 
 pub use queue::Queue;
-pub use said::{Place, Said};
+pub use said::{MessageSpan, Said};
 pub use sent::Sent;

@@ -11,7 +11,7 @@ use std::marker::Model;
 
 /// Where a message stands in the bytes.
 #[derive(Clone, Copy)]
-pub struct Place {
+pub struct MessageSpan {
     pub from: As,
     pub to: Peer,
     pub start: usize,
@@ -22,7 +22,7 @@ pub struct Place {
 #[derive(Drop)]
 pub struct Said {
     bytes: Vec<u8>,
-    places: Vec<Place>,
+    places: Vec<MessageSpan>,
 }
 
 impl Model for Said {
@@ -79,7 +79,7 @@ impl Said {
     {
         let start = self.bytes.len();
         append_within(&mut self.bytes, message);
-        let place = Place {
+        let place = MessageSpan {
             from,
             to,
             start,

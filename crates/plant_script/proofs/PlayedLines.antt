@@ -6,22 +6,22 @@ use Rattle.dom_edge.specs.Stores.{Files}
 use Rattle.line_text.specs.Lines.{NumberedLine}
 use Rattle.plant_text.specs.declared.settings.NetworkParts.{NetworkParts}
 use Rattle.plant_play.specs.plant_model.Events.{Answered}
-use Rattle.plant_play.specs.Playing.{Cue, PlaysLine, Stage}
+use Rattle.plant_play.specs.Playing.{Cue, PlaysLine, PlayedNetwork}
 use Rattle.plant_play.specs.Scripts.{AllPlayed}
 use Rattle.plant_play.specs.Turns.{Turn}
 use Rattle.plant_script.specs.Scripts.{AreCues, IsCue}
 
-pub none_yet : (old : Stage) → AllPlayed old [] [] [] old
+pub none_yet : (old : PlayedNetwork) → AllPlayed old [] [] [] old
 none_yet old = (refl, refl, refl)
 
-pub one_more : (old now new : Stage) (cues : List Cue) (cue : Cue) (answer : Answered) (turns more : List Turn) (told more_told : List ℕ) →
+pub one_more : (old now new : PlayedNetwork) (cues : List Cue) (cue : Cue) (answer : Answered) (turns more : List Turn) (told more_told : List ℕ) →
     AllPlayed old cues turns told now → PlaysLine now cue answer more more_told new → AllPlayed old (cues ++ cue ∷ []) (turns ++ more) (told ++ more_told) new
 one_more old now new [] cue answer turns more told more_told all p = record {
   answer = answer;
   first = more;
   said = more_told;
   mid = new;
-  plays = subst (λ (s : Stage). PlaysLine s cue answer more more_told new) all.2 p;
+  plays = subst (λ (s : PlayedNetwork). PlaysLine s cue answer more more_told new) all.2 p;
   later = [];
   more = [];
   others = none_yet new;

@@ -10,7 +10,7 @@ use Rattle.plant_text.specs.declared.settings.NetworkParts.{NetworkParts}
 use Rattle.plant_text.specs.declared.line.LineEvent.{LineEvent}
 use Rattle.plant_play.specs.plant_model.Plant.{opened}
 use Rattle.plant_play.specs.plant_model.RealWire.{wire}
-use Rattle.plant_play.specs.Playing.{IsNewStage, Stage}
+use Rattle.plant_play.specs.Playing.{IsNewNetwork, PlayedNetwork}
 use Rattle.transcript.specs.declared.stop.Stop.{Stop}
 use Rattle.transcript.specs.declared.stop.Stop.TheVariants as stop
 use Rattle.transcript.proofs.ScriptParts.{rose_before, some_more, some_of_all}
@@ -21,11 +21,11 @@ use Rattle.plant_script.proofs.PlayedLines.{none_yet, one_more, one_more_cue}
 -- ---- one line further
 
 -- Lines are played up to here; what is told of them is written.
-abbrev pub IsAt : Option Files → NetworkParts → List ℕ → Option (List ℕ) → Option (List ℕ) → List NumberedLine → Stage → Type 0
+abbrev pub IsAt : Option Files → NetworkParts → List ℕ → Option (List ℕ) → Option (List ℕ) → List NumberedLine → PlayedNetwork → Type 0
 IsAt files n script before now others end = Reached files n script (λ told. Appends before now told) others end
 
 module _ (files : Option Files) (n : NetworkParts) (script : List ℕ) (w0 : Option (List ℕ)) where
-  pub at_start : (start : Stage) → IsNewStage n start → IsAt files n script w0 w0 (told_lines script) start
+  pub at_start : (start : PlayedNetwork) → IsNewNetwork n start → IsAt files n script w0 w0 (told_lines script) start
   at_start start new = record {
     done = [];
     parts = refl;
@@ -36,7 +36,7 @@ module _ (files : Option Files) (n : NetworkParts) (script : List ℕ) (w0 : Opt
   }
 
   -- one line more, told in any way
-  further : (w1 : Option (List ℕ)) (l : NumberedLine) (others : List NumberedLine) (now new : Stage) (Line Wrote : List ℕ → Type 0) →
+  further : (w1 : Option (List ℕ)) (l : NumberedLine) (others : List NumberedLine) (now new : PlayedNetwork) (Line Wrote : List ℕ → Type 0) →
       ((xs ys : List ℕ) → Appends w0 w1 xs → Line ys → Wrote (xs ++ ys)) →
       IsAt files n script w0 w1 (l ∷ others) now → LinePlays files n l now new Line → Reached files n script Wrote others new
   further w1 l others now new Line Wrote join r p =
@@ -55,30 +55,30 @@ module _ (files : Option Files) (n : NetworkParts) (script : List ℕ) (w0 : Opt
         wrote = join r.told p.told r.wrote p.wrote;
       }
 
-  pub line_more : (w1 w2 : Option (List ℕ)) (l : NumberedLine) (others : List NumberedLine) (now new : Stage) →
+  pub line_more : (w1 w2 : Option (List ℕ)) (l : NumberedLine) (others : List NumberedLine) (now new : PlayedNetwork) →
       IsAt files n script w0 w1 (l ∷ others) now → LinePlays files n l now new (λ told. Appends w1 w2 told) → IsAt files n script w0 w2 others new
   line_more w1 w2 l others now new r p =
       further w1 l others now new (λ told. Appends w1 w2 told) (λ told. Appends w0 w2 told) (λ xs ys one two. Appends-trans w0 w1 w2 xs ys one two) r p
 
-  cut_more : (w1 w2 : Option (List ℕ)) (l : NumberedLine) (others : List NumberedLine) (now new : Stage) →
+  cut_more : (w1 w2 : Option (List ℕ)) (l : NumberedLine) (others : List NumberedLine) (now new : PlayedNetwork) →
       IsAt files n script w0 w1 (l ∷ others) now → LinePlays files n l now new (λ told. AppendsSome w1 w2 told) → Reached files n script (λ told. AppendsSome w0 w2 told) others new
   cut_more w1 w2 l others now new r p =
       further w1 l others now new (λ told. AppendsSome w1 w2 told) (λ told. AppendsSome w0 w2 told) (λ xs ys one two. some_more w0 w1 w2 xs ys one two) r p
 
-  rewritten : (Old New : List ℕ → Type 0) (others : List NumberedLine) (end : Stage) → ((xs : List ℕ) → Old xs → New xs) →
+  rewritten : (Old New : List ℕ → Type 0) (others : List NumberedLine) (end : PlayedNetwork) → ((xs : List ℕ) → Old xs → New xs) →
       Reached files n script Old others end → Reached files n script New others end
   rewritten Old New others end turn r =
       record { done = r.done; parts = r.parts; turns = r.turns; told = r.told; playing = r.playing; wrote = turn r.told r.wrote }
 
-  pub kept : (w1 w2 : Option (List ℕ)) (others : List NumberedLine) (now : Stage) → Keeps w1 w2 → IsAt files n script w0 w1 others now → IsAt files n script w0 w2 others now
+  pub kept : (w1 w2 : Option (List ℕ)) (others : List NumberedLine) (now : PlayedNetwork) → Keeps w1 w2 → IsAt files n script w0 w1 others now → IsAt files n script w0 w2 others now
   kept w1 w2 others now same r = rewritten (λ told. Appends w0 w1 told) (λ told. Appends w0 w2 told) others now (λ xs is. Appends-kept w0 w1 w2 xs is same) r
 
-  pub cut_here : (w1 : Option (List ℕ)) (others : List NumberedLine) (now : Stage) → IsAt files n script w0 w1 others now → Reached files n script (λ told. AppendsSome w0 w1 told) others now
+  pub cut_here : (w1 : Option (List ℕ)) (others : List NumberedLine) (now : PlayedNetwork) → IsAt files n script w0 w1 others now → Reached files n script (λ told. AppendsSome w0 w1 told) others now
   cut_here w1 others now r = rewritten (λ told. Appends w0 w1 told) (λ told. AppendsSome w0 w1 told) others now (λ xs is. some_of_all w0 w1 xs is) r
 
 -- ---- a line that stops the script
 
-pub file_before : (files : Option Files) (name : List ℕ) (e : LineEvent) (old new : Stage) (f0 f1 f2 : ℕ) (failed : List ℕ) → f0 ≤ f1 → (why : Stop) →
+pub file_before : (files : Option Files) (name : List ℕ) (e : LineEvent) (old new : PlayedNetwork) (f0 f1 f2 : ℕ) (failed : List ℕ) → f0 ≤ f1 → (why : Stop) →
     IsFileStop files name e old new (f1, f2) failed why → IsFileStop files name e old new (f0, f2) failed why
 file_before files name e old new f0 f1 f2 failed le stop.ReadFault is = (rose_before f0 f1 f2 le is.0, is.1)
 file_before files name e old new f0 f1 f2 failed le stop.WriteFault is = is
@@ -87,7 +87,7 @@ file_before files name e old new f0 f1 f2 failed le (stop.BadLine line) is = is
 file_before files name e old new f0 f1 f2 failed le (stop.TooLarge file) is = is
 file_before files name e old new f0 f1 f2 failed le stop.NoMemory is = is
 
-at_file_before : (files : Option Files) (n : NetworkParts) (l : NumberedLine) (old new : Stage) (f0 f1 f2 : ℕ) (failed : List ℕ) → f0 ≤ f1 → (why : Stop) →
+at_file_before : (files : Option Files) (n : NetworkParts) (l : NumberedLine) (old new : PlayedNetwork) (f0 f1 f2 : ℕ) (failed : List ℕ) → f0 ≤ f1 → (why : Stop) →
     StopsAtFile files n l old new (f1, f2) failed why → StopsAtFile files n l old new (f0, f2) failed why
 at_file_before files n l old new f0 f1 f2 failed le why is = record {
   event = is.event;
@@ -97,12 +97,12 @@ at_file_before files n l old new f0 f1 f2 failed le why is = record {
   stops = file_before files is.name is.event old new f0 f1 f2 failed le why is.stops;
 }
 
-large_before : (files : Option Files) (n : NetworkParts) (l : NumberedLine) (old new : Stage) (f0 f1 f2 : ℕ) (failed name : List ℕ) → f0 ≤ f1 →
+large_before : (files : Option Files) (n : NetworkParts) (l : NumberedLine) (old new : PlayedNetwork) (f0 f1 f2 : ℕ) (failed name : List ℕ) → f0 ≤ f1 →
     IsLineStop files n l old new (f1, f2) failed (stop.TooLarge name) → IsLineStop files n l old new (f0, f2) failed (stop.TooLarge name)
 large_before files n l old new f0 f1 f2 failed name le (inl is) = inl is
 large_before files n l old new f0 f1 f2 failed name le (inr is) = inr (at_file_before files n l old new f0 f1 f2 failed le (stop.TooLarge name) is)
 
-line_before : (files : Option Files) (n : NetworkParts) (l : NumberedLine) (old new : Stage) (f0 f1 f2 : ℕ) (failed : List ℕ) → f0 ≤ f1 → (why : Stop) →
+line_before : (files : Option Files) (n : NetworkParts) (l : NumberedLine) (old new : PlayedNetwork) (f0 f1 f2 : ℕ) (failed : List ℕ) → f0 ≤ f1 → (why : Stop) →
     IsLineStop files n l old new (f1, f2) failed why → IsLineStop files n l old new (f0, f2) failed why
 line_before files n l old new f0 f1 f2 failed le stop.ReadFault is = at_file_before files n l old new f0 f1 f2 failed le stop.ReadFault is
 line_before files n l old new f0 f1 f2 failed le stop.WriteFault is = at_file_before files n l old new f0 f1 f2 failed le stop.WriteFault is
@@ -133,7 +133,7 @@ script_before files n script w f0 f1 f2 o failed le (stop.TooLarge name) is = at
 script_before files n script w f0 f1 f2 o failed le stop.NoMemory is = is
 
 module _ (files : Option Files) (n : NetworkParts) (script : List ℕ) (w0 w1 w2 : Option (List ℕ)) (f0 f1 f2 o0 o1 o2 : ℕ) (failed : List ℕ) where
-  stops_at : (l : NumberedLine) (others : List NumberedLine) (now new : Stage) (why : Stop) → IsAt files n script w0 w1 (l ∷ others) now → Keeps w1 w2 → f0 ≤ f1 →
+  stops_at : (l : NumberedLine) (others : List NumberedLine) (now new : PlayedNetwork) (why : Stop) → IsAt files n script w0 w1 (l ∷ others) now → Keeps w1 w2 → f0 ≤ f1 →
       IsLineStop files n l now new (f1, f2) failed why → StopsAt (around files (w0, w2) (f0, f2) (o0, o2) failed) n script why
   stops_at l others now new why r same le is = record {
     line = l;
@@ -144,7 +144,7 @@ module _ (files : Option Files) (n : NetworkParts) (script : List ℕ) (w0 w1 w2
     stops = line_before files n l now new f0 f1 f2 failed le why is;
   }
 
-  pub stops_here : (l : NumberedLine) (others : List NumberedLine) (now new : Stage) → IsAt files n script w0 w1 (l ∷ others) now → f0 ≤ f1 → o0 ≤ o1 → (why : Stop) →
+  pub stops_here : (l : NumberedLine) (others : List NumberedLine) (now new : PlayedNetwork) → IsAt files n script w0 w1 (l ∷ others) now → f0 ≤ f1 → o0 ≤ o1 → (why : Stop) →
       LineStops (around files (w1, w2) (f1, f2) (o1, o2) failed) n l now new why → ScriptStops (around files (w0, w2) (f0, f2) (o0, o2) failed) n script why
   stops_here l others now new r le lo stop.ReadFault is = stops_at l others now new stop.ReadFault r is.0 le is.1
   stops_here l others now new r le lo stop.WriteFault is =
@@ -156,7 +156,7 @@ module _ (files : Option Files) (n : NetworkParts) (script : List ℕ) (w0 w1 w2
       (l ∷ others, (now, cut_here files n script w0 w2 (l ∷ others) now (kept files n script w0 w1 w2 (l ∷ others) now is r)))
 
 -- a network that could not be made
-abbrev pub new_stage : NetworkParts → Stage
+abbrev pub new_stage : NetworkParts → PlayedNetwork
 new_stage n = record { network = n; state = (opened wire n).state; modes = record { certify = false; disclose = false } }
 
 pub stops_unbegun : (files : Option Files) (n : NetworkParts) (script : List ℕ) (w : Option (List ℕ)) (f o : ℕ) (failed : List ℕ) →

@@ -8,7 +8,7 @@ use Rattle.plant_text.specs.declared.line.LineEvent.TheVariants as line
 use Rattle.plant_play.specs.plant_model.Events.{Answered}
 use Rattle.plant_play.specs.network_files.declared.error.FileError.TheVariants as play
 use Rattle.plant_play.specs.Logs.{Told, behind}
-use Rattle.plant_play.specs.Playing.{IsWhyNot, PlaysLine, Stage, cue}
+use Rattle.plant_play.specs.Playing.{IsWhyNot, PlaysLine, PlayedNetwork, cue}
 use Rattle.plant_play.specs.Turns.{Turn}
 use Rattle.transcript.specs.declared.stop.Stop.{Stop}
 use Rattle.transcript.specs.declared.stop.Stop.TheVariants as stop
@@ -29,7 +29,7 @@ HasText files None text = text ≡ []
 HasText files (Some name) text = HasFile files name text × (length text ≤ file_most)
 
 -- The line of this number is played, and what is told of it is put at the end.
-pub record PlaysCue (files : Option Files) (number : ℕ) (e : LineEvent) (answer : Answered) (old new : Stage) (before after : Told) : Type 0 where
+pub record PlaysCue (files : Option Files) (number : ℕ) (e : LineEvent) (answer : Answered) (old new : PlayedNetwork) (before after : Told) : Type 0 where
   pub file : List ℕ
   pub has : HasText files (file_name e) file
   pub turns : List Turn
@@ -51,11 +51,11 @@ IsBadAt name line fault stop.NoMemory = Unit {0}
 IsBadAt name line fault why = ⊥
 
 -- The file is refused at this line of it.
-abbrev pub IsRefusedAt : Option Files → List ℕ → LineEvent → Stage → Stage → ℕ → NetFault → Type 0
+abbrev pub IsRefusedAt : Option Files → List ℕ → LineEvent → PlayedNetwork → PlayedNetwork → ℕ → NetFault → Type 0
 IsRefusedAt files name e old new line fault = IfFile files name (λ file. (length file ≤ file_most) × IsWhyNot e file old new (play.BadFile line fault))
 
 -- Why a file that is named stops the line. `counts` are the store's faults before and after.
-abbrev pub IsFileStop : Option Files → List ℕ → LineEvent → Stage → Stage → ℕ × ℕ → List ℕ → Stop → Type 0
+abbrev pub IsFileStop : Option Files → List ℕ → LineEvent → PlayedNetwork → PlayedNetwork → ℕ × ℕ → List ℕ → Stop → Type 0
 IsFileStop files name e old new counts failed_at stop.ReadFault = Rose counts.0 counts.1 × (failed_at ≡ name)
 IsFileStop files name e old new counts failed_at (stop.BadNetwork file line fault) = (file ≡ name) × IsRefusedAt files name e old new line fault
 IsFileStop files name e old new counts failed_at (stop.TooLarge file) = (file ≡ name) × IsLongFile files name file_most
@@ -63,6 +63,6 @@ IsFileStop files name e old new counts failed_at stop.NoMemory = Unit {0}
 IsFileStop files name e old new counts failed_at why = ⊥
 
 -- Why a line stops: its file, where it names one; want of memory says nothing.
-abbrev pub IsCueStop : Option Files → Option (List ℕ) → LineEvent → Stage → Stage → ℕ × ℕ → List ℕ → Stop → Type 0
+abbrev pub IsCueStop : Option Files → Option (List ℕ) → LineEvent → PlayedNetwork → PlayedNetwork → ℕ × ℕ → List ℕ → Stop → Type 0
 IsCueStop files None e old new counts failed_at why = why ≡ stop.NoMemory
 IsCueStop files (Some name) e old new counts failed_at why = IsFileStop files name e old new counts failed_at why

@@ -9,7 +9,7 @@ use Rattle.plant_text.specs.declared.line.LineEvent.{LineEvent}
 use Rattle.plant_text.specs.declared.settings.NetworkParts.{NetworkParts}
 use Rattle.plant_text.specs.Lines.{line_in}
 use Rattle.plant_play.specs.plant_model.Events.{Answered}
-use Rattle.plant_play.specs.Playing.{Cue, IsNewStage, PlaysLine, Stage}
+use Rattle.plant_play.specs.Playing.{Cue, IsNewNetwork, PlaysLine, PlayedNetwork}
 use Rattle.plant_play.specs.Scripts.{AllPlayed}
 use Rattle.plant_play.specs.Turns.{Turn}
 use Rattle.transcript.specs.declared.stop.Stop.{Stop}
@@ -34,17 +34,17 @@ AreCues files n (l ∷ ls) [] = ⊥
 AreCues files n (l ∷ ls) (c ∷ cs) = IsCue files n l c × AreCues files n ls cs
 
 -- The lines are played one after the other on a network of these settings that has just been made.
-pub record Playing (files : Option Files) (n : NetworkParts) (lines : List NumberedLine) (turns : List Turn) (told : List ℕ) (end : Stage) : Type 0 where
+pub record Playing (files : Option Files) (n : NetworkParts) (lines : List NumberedLine) (turns : List Turn) (told : List ℕ) (end : PlayedNetwork) : Type 0 where
   pub cues : List Cue
   pub are_cues : AreCues files n lines cues
-  pub start : Stage
-  pub new : IsNewStage n start
+  pub start : PlayedNetwork
+  pub new : IsNewNetwork n start
   pub played : AllPlayed start cues turns told end
 
 -- ---- why a script stops
 
 -- the file that a line names stops it
-pub record StopsAtFile (files : Option Files) (n : NetworkParts) (l : NumberedLine) (old new : Stage) (counts : ℕ × ℕ) (failed_at : List ℕ) (why : Stop) : Type 0 where
+pub record StopsAtFile (files : Option Files) (n : NetworkParts) (l : NumberedLine) (old new : PlayedNetwork) (counts : ℕ × ℕ) (failed_at : List ℕ) (why : Stop) : Type 0 where
   pub event : LineEvent
   pub says : line_in n l.text ≡ Some (Some event)
   pub name : List ℕ
@@ -52,7 +52,7 @@ pub record StopsAtFile (files : Option Files) (n : NetworkParts) (l : NumberedLi
   pub stops : IsFileStop files name event old new counts failed_at why
 
 -- Why a line stops the script: it is too long or outside the form, or the file that it names stops it.
-abbrev pub IsLineStop : Option Files → NetworkParts → NumberedLine → Stage → Stage → ℕ × ℕ → List ℕ → Stop → Type 0
+abbrev pub IsLineStop : Option Files → NetworkParts → NumberedLine → PlayedNetwork → PlayedNetwork → ℕ × ℕ → List ℕ → Stop → Type 0
 IsLineStop files n l old new counts failed_at (stop.BadLine number) = (number ≡ l.number) × (line_in n l.text ≡ None)
 IsLineStop files n l old new counts failed_at (stop.TooLarge name) =
     ((name ≡ input_name) × (line_most < length l.text)) ⊎ StopsAtFile files n l old new counts failed_at (stop.TooLarge name)
@@ -74,7 +74,7 @@ around files written store_faults output_faults failed_at =
     record { files = files; before = written.0; after = written.1; store_faults = store_faults; output_faults = output_faults; failed_at = failed_at }
 
 -- The lines of a script before the others are played, and what is told of them is written so.
-pub record Reached (files : Option Files) (n : NetworkParts) (script : List ℕ) (Wrote : List ℕ → Type 0) (others : List NumberedLine) (end : Stage) : Type 0 where
+pub record Reached (files : Option Files) (n : NetworkParts) (script : List ℕ) (Wrote : List ℕ → Type 0) (others : List NumberedLine) (end : PlayedNetwork) : Type 0 where
   pub done : List NumberedLine
   pub parts : told_lines script ≡ done ++ others
   pub turns : List Turn
@@ -92,19 +92,19 @@ WroteSome a told = AppendsSome a.before a.after told
 
 -- all lines are played, and all that is told of them is written
 abbrev pub IsWhole : Around → NetworkParts → List ℕ → Type 0
-IsWhole a n script = (end : Stage) × Reached a.files n script (WroteAll a) [] end
+IsWhole a n script = (end : PlayedNetwork) × Reached a.files n script (WroteAll a) [] end
 
 -- some first lines are played, and a first part of what is told of them is written
 abbrev pub IsCut : Around → NetworkParts → List ℕ → Type 0
-IsCut a n script = (others : List NumberedLine) × ((end : Stage) × Reached a.files n script (WroteSome a) others end)
+IsCut a n script = (others : List NumberedLine) × ((end : PlayedNetwork) × Reached a.files n script (WroteSome a) others end)
 
 -- The lines before one are played, all that is told of them is written, and that line is why the script stops.
 pub record StopsAt (a : Around) (n : NetworkParts) (script : List ℕ) (why : Stop) : Type 0 where
   pub line : NumberedLine
   pub others : List NumberedLine
-  pub end : Stage
+  pub end : PlayedNetwork
   pub reached : Reached a.files n script (WroteAll a) (line ∷ others) end
-  pub new : Stage
+  pub new : PlayedNetwork
   pub stops : IsLineStop a.files n line end new a.store_faults a.failed_at why
 
 -- Why a script stops before its end; want of memory says nothing.
@@ -128,7 +128,7 @@ IsNoEvent n l stop.NoMemory = Unit {0}
 IsNoEvent n l why = ⊥
 
 -- The line is played, and what is told of it is written so.
-pub record LinePlays (files : Option Files) (n : NetworkParts) (l : NumberedLine) (old new : Stage) (Wrote : List ℕ → Type 0) : Type 0 where
+pub record LinePlays (files : Option Files) (n : NetworkParts) (l : NumberedLine) (old new : PlayedNetwork) (Wrote : List ℕ → Type 0) : Type 0 where
   pub cue : Cue
   pub is_cue : IsCue files n l cue
   pub answer : Answered
@@ -138,7 +138,7 @@ pub record LinePlays (files : Option Files) (n : NetworkParts) (l : NumberedLine
   pub wrote : Wrote told
 
 -- Why a line stops the script; nothing is written, but where it is the output that failed.
-abbrev pub LineStops : Around → NetworkParts → NumberedLine → Stage → Stage → Stop → Type 0
+abbrev pub LineStops : Around → NetworkParts → NumberedLine → PlayedNetwork → PlayedNetwork → Stop → Type 0
 LineStops a n l old new stop.WriteFault = Rose a.output_faults.0 a.output_faults.1 × LinePlays a.files n l old new (WroteSome a)
 LineStops a n l old new stop.NoMemory = Keeps a.before a.after
 LineStops a n l old new why = Keeps a.before a.after × IsLineStop a.files n l old new a.store_faults a.failed_at why

@@ -1,6 +1,6 @@
 //! One line of a script: the file that it names is read, and then it is played.
 ghost use Rattle.std.specs.Prelude.{◌≡◌, ◌≤◌, length, IfErr, IfOk, MatchOption, None, OnErr, Some};
-ghost use Rattle.plant_play.specs.Playing.{stage_of};
+ghost use Rattle.plant_play.specs.Playing.{played_network};
 ghost use Rattle.transcript.specs.Stops.{IsTooLarge};
 ghost use Rattle.plant_script.specs.Cues.{HasText, IsBadAt, IsCueStop, IsFileStop, IsNoFile, PlaysCue, file_name};
 
@@ -80,8 +80,8 @@ fn play_with<S: Store>(
     into: &mut Log,
 ) -> Result<Answer, Stop>
     requires named { file_name event ≡ Some name.now }
-    ensures plays { IfOk result (λ answer. PlaysCue (S.files store.old) number event answer (stage_of player.old) (stage_of player.new) into.old into.new) }
-    ensures refused { IfErr result (IsFileStop (S.files store.old) name.now event (stage_of player.old) (stage_of player.new) (S.faults store.old, S.faults store.new) (S.failed_at store.new)) }
+    ensures plays { IfOk result (λ answer. PlaysCue (S.files store.old) number event answer (played_network player.old) (played_network player.new) into.old into.new) }
+    ensures refused { IfErr result (IsFileStop (S.files store.old) name.now event (played_network player.old) (played_network player.new) (S.faults store.old, S.faults store.new) (S.failed_at store.new)) }
     ensures untold { OnErr result (into.new ≡ into.old) }
     ensures files { S.files store.new ≡ S.files store.old }
     ensures later { S.faults store.old ≤ S.faults store.new }
@@ -102,7 +102,7 @@ fn play_alone(
     into: &mut Log,
 ) -> Result<Answer, Stop>
     requires named { file_name event ≡ None }
-    ensures plays { IfOk result (λ answer. PlaysCue None number event answer (stage_of player.old) (stage_of player.new) into.old into.new) }
+    ensures plays { IfOk result (λ answer. PlaysCue None number event answer (played_network player.old) (played_network player.new) into.old into.new) }
     ensures refused { IfErr result (λ why. why ≡ Stop.NoMemory) }
     ensures untold { OnErr result (into.new ≡ into.old) }
 {
@@ -124,8 +124,8 @@ pub fn play_cue<S: Store>(
     event: LineEvent,
     into: &mut Log,
 ) -> Result<Answer, Stop>
-    ensures plays { IfOk result (λ answer. PlaysCue (S.files store.old) number event answer (stage_of player.old) (stage_of player.new) into.old into.new) }
-    ensures refused { IfErr result (IsCueStop (S.files store.old) (file_name event) event (stage_of player.old) (stage_of player.new) (S.faults store.old, S.faults store.new) (S.failed_at store.new)) }
+    ensures plays { IfOk result (λ answer. PlaysCue (S.files store.old) number event answer (played_network player.old) (played_network player.new) into.old into.new) }
+    ensures refused { IfErr result (IsCueStop (S.files store.old) (file_name event) event (played_network player.old) (played_network player.new) (S.faults store.old, S.faults store.new) (S.failed_at store.new)) }
     ensures untold { OnErr result (into.new ≡ into.old) }
     ensures files { S.files store.new ≡ S.files store.old }
     ensures later { S.faults store.old ≤ S.faults store.new }

@@ -1,7 +1,7 @@
 //! All lines of a script, one after the other.
 ghost use Rattle.std.specs.Prelude.{◌≡◌, ◌≤◌, false, length, IfErr, IfOk, OnOk};
 ghost use Rattle.line_text.specs.Lines.{is_skipped};
-ghost use Rattle.plant_play.specs.Playing.{IsNewStage, stage_of};
+ghost use Rattle.plant_play.specs.Playing.{IsNewNetwork, played_network};
 ghost use Rattle.transcript.specs.Stops.{numbered, script_most};
 ghost use Rattle.plant_script.specs.Scripts.{HasEvent, IsNoEvent, IsWhole, LinePlays, LineStops, ScriptStops, WroteAll, around};
 
@@ -43,8 +43,8 @@ fn play_line<S: Store, K: Sink>(
     out: &mut K,
 ) -> Result<(), Stop>
     requires told { is_skipped text.now ≡ false }
-    ensures plays { OnOk result (LinePlays (S.files store.old) (stage_of player.old).network (numbered number text.now) (stage_of player.old) (stage_of player.new) (WroteAll (around (S.files store.old) (K.written out.old, K.written out.new) (S.faults store.old, S.faults store.new) (K.faults out.old, K.faults out.new) (S.failed_at store.new)))) }
-    ensures stops { IfErr result (LineStops (around (S.files store.old) (K.written out.old, K.written out.new) (S.faults store.old, S.faults store.new) (K.faults out.old, K.faults out.new) (S.failed_at store.new)) (stage_of player.old).network (numbered number text.now) (stage_of player.old) (stage_of player.new)) }
+    ensures plays { OnOk result (LinePlays (S.files store.old) (played_network player.old).network (numbered number text.now) (played_network player.old) (played_network player.new) (WroteAll (around (S.files store.old) (K.written out.old, K.written out.new) (S.faults store.old, S.faults store.new) (K.faults out.old, K.faults out.new) (S.failed_at store.new)))) }
+    ensures stops { IfErr result (LineStops (around (S.files store.old) (K.written out.old, K.written out.new) (S.faults store.old, S.faults store.new) (K.faults out.old, K.faults out.new) (S.failed_at store.new)) (played_network player.old).network (numbered number text.now) (played_network player.old) (played_network player.new)) }
     ensures files { S.files store.new ≡ S.files store.old }
     ensures later { S.faults store.old ≤ S.faults store.new }
     ensures after { K.faults out.old ≤ K.faults out.new }
@@ -67,9 +67,9 @@ fn play_lines<S: Store, K: Sink>(
     out: &mut K,
 ) -> Result<(), Stop>
     requires within { length script.now ≤ script_most }
-    requires new { IsNewStage (stage_of player.old).network (stage_of player.old) }
-    ensures whole { OnOk result (IsWhole (around (S.files store.old) (K.written out.old, K.written out.new) (S.faults store.old, S.faults store.new) (K.faults out.old, K.faults out.new) (S.failed_at store.new)) (stage_of player.old).network script.now) }
-    ensures stops { IfErr result (ScriptStops (around (S.files store.old) (K.written out.old, K.written out.new) (S.faults store.old, S.faults store.new) (K.faults out.old, K.faults out.new) (S.failed_at store.new)) (stage_of player.old).network script.now) }
+    requires new { IsNewNetwork (played_network player.old).network (played_network player.old) }
+    ensures whole { OnOk result (IsWhole (around (S.files store.old) (K.written out.old, K.written out.new) (S.faults store.old, S.faults store.new) (K.faults out.old, K.faults out.new) (S.failed_at store.new)) (played_network player.old).network script.now) }
+    ensures stops { IfErr result (ScriptStops (around (S.files store.old) (K.written out.old, K.written out.new) (S.faults store.old, S.faults store.new) (K.faults out.old, K.faults out.new) (S.failed_at store.new)) (played_network player.old).network script.now) }
     ensures files { S.files store.new ≡ S.files store.old }
     ensures later { S.faults store.old ≤ S.faults store.new }
 {

@@ -9,13 +9,13 @@ use Rattle.pcep_session.specs.declared.session.Input.TheVariants.{Begin, Got, Ba
 use Rattle.pcep_session.specs.declared.state.Phase.{Phase}
 use Rattle.pcep_session.specs.declared.state.Phase.TheVariants.{Idle, OpenWait, KeepWait, Up, Down}
 use Rattle.pcep_session.specs.declared.state.State.{State}
-use Rattle.pcep_session.specs.Table.{Turn, turn_in, turn_of, open_wait, refused_terms, refused, keep_wait, in_up, up_tick, waits, heard, at_tick, has_passed, is_recent}
+use Rattle.pcep_session.specs.Table.{SessionStep, turn_in, turn_of, open_wait, refused_terms, refused, keep_wait, in_up, up_tick, waits, heard, at_tick, has_passed, is_recent}
 use Rattle.plant_model.specs.Names.{is_empty}
 use Rattle.plant_model.specs.Events.{is_down}
 use Rattle.plant_sessions.specs.Ends.{StepsKeepNumber}
 
 -- either way, so both ways
-either : (b : Bool) (x y : Turn) (n : ℕ) → x.next.offer.sid ≡ n → y.next.offer.sid ≡ n → (cond b x y).next.offer.sid ≡ n
+either : (b : Bool) (x y : SessionStep) (n : ℕ) → x.next.offer.sid ≡ n → y.next.offer.sid ≡ n → (cond b x y).next.offer.sid ≡ n
 either true x y n left right = left
 either false x y n left right = right
 

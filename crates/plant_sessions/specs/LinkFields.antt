@@ -4,7 +4,7 @@ use Rattle.plant_sessions.specs.Links.{Joined}
 use Rattle.plant_sessions.specs.declared.link.Link.TheInside.{Inside}
 
 abbrev pub link_of : Inside → Joined
-link_of a = record { line = record { lower = a.below; upper = a.above }; lower = a.lower; upper = a.upper }
+link_of a = record { adjacency = record { lower = a.below; upper = a.above }; lower = a.lower; upper = a.upper }
 
 -- the numbers of both sessions
 pub record KeepsNumbers (a : Inside) : Type 0 where

@@ -1,7 +1,7 @@
 -- An inner link: two sessions and two queues, each named by the end that sends.
 use Rattle.std.specs.Prelude.{ℕ, ◌+◌, ◌%◌, List, []}
 use Rattle.dom_base.specs.declared.names.As.{As}
-use Rattle.plant_text.specs.Settings.{Line}
+use Rattle.plant_text.specs.Settings.{Adjacency}
 use Rattle.pcep_session.specs.declared.state.State.{State as Session}
 use Rattle.pcep_session.specs.Table.{new_state}
 use Rattle.plant_model.specs.Deeds.{our_offer}
@@ -10,7 +10,7 @@ use Rattle.plant_sessions.specs.declared.link.End.TheVariants.{Lower, Upper}
 use Rattle.plant_sessions.specs.Ends.{Roomy, Sender}
 
 pub record Joined : Type 0 where
-  pub line : Line
+  pub adjacency : Adjacency
   pub lower : Roomy Sender
   pub upper : Roomy Sender
 
@@ -27,7 +27,7 @@ other Lower = Upper
 other Upper = Lower
 
 -- the domain, or the parent, at an end
-abbrev pub as_at : End → Line → As
+abbrev pub as_at : End → Adjacency → As
 as_at Lower x = x.lower
 as_at Upper x = x.upper
 

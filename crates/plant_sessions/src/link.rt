@@ -55,7 +55,7 @@ impl Model for Link {
 impl Link {
     /// A link whose sessions have not begun; takes no memory.
     pub fn new(alloc: Global, lower: As, upper: As) -> Link
-        ensures line { result.line ≡ record { lower = lower; upper = upper } }
+        ensures adjacency { result.adjacency ≡ record { lower = lower; upper = upper } }
         ensures lower { result.lower.kept ≡ new_sender }
         ensures upper { result.upper.kept ≡ new_sender }
     {
@@ -71,8 +71,8 @@ impl Link {
     }
 
     /// The lower number and the upper one.
-    pub fn line(&self) -> (As, As)
-        ensures { result ≡ (self.now.line.lower, self.now.line.upper) }
+    pub fn adjacency(&self) -> (As, As)
+        ensures { result ≡ (self.now.adjacency.lower, self.now.adjacency.upper) }
     {
         (self.below, self.above)
     }
@@ -171,7 +171,7 @@ impl Link {
 
     /// Empties both queues; takes no memory.
     pub fn clear(&mut self)
-        ensures line { self.new.line ≡ self.old.line }
+        ensures adjacency { self.new.adjacency ≡ self.old.adjacency }
         ensures lower { self.new.lower.kept ≡ record self.old.lower.kept { out = [] } }
         ensures upper { self.new.upper.kept ≡ record self.old.upper.kept { out = [] } }
         ensures lower_room { Frees (queue self.old.lower.kept.out self.old.lower.spare) (queue self.new.lower.kept.out self.new.lower.spare) }

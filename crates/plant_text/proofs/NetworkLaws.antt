@@ -8,12 +8,12 @@ use Rattle.plant_text.specs.declared.settings.NetworkParts.{NetworkParts}
 use Rattle.plant_text.specs.Settings.{is_element}
 use Rattle.plant_text.specs.Rules.{rules_of, sheet_of, peer_rules}
 use Rattle.plant_text.specs.Faults.{first_of}
-use Rattle.plant_text.specs.Networks.{IsAdded, IsNetwork, path_client, with_path, with_peers}
+use Rattle.plant_text.specs.Networks.{IsAdded, ObeysRules, path_client, with_path, with_peers}
 use Rattle.plant_text.specs.Fields.{HoldsRules}
 use Rattle.plant_text.proofs.RuleLaws.{few_rows, obeyed_of}
 use Rattle.plant_text.proofs.SheetLaws.{all_clear}
 
-pub network_of : (n : Inside) → HoldsRules n → IsNetwork n.parts
+pub network_of : (n : Inside) → HoldsRules n → ObeysRules n.parts
 network_of n holds = record {
   given = n.given;
   within = holds.within;

@@ -24,7 +24,7 @@ abbrev pub IsAdded : NetworkParts → PeerRow → Type 0
 IsAdded n p = (p ≡ path_client p.at) × (is_element n p.at ≡ true)
 
 -- Settings that were given obey the rules; no rule counts the clients that were added behind their peers.
-pub record IsNetwork (n : NetworkParts) : Type 0 where
+pub record ObeysRules (n : NetworkParts) : Type 0 where
   pub given : ℕ
   pub within : given ≤ length n.peers
   pub obeyed : AreObeyed (rules_of (with_peers n (take given n.peers)))

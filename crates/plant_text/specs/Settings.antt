@@ -39,37 +39,37 @@ abbrev pub children : NetworkParts → List As
 children n = children_of n.elements
 
 -- The inner links: each with its lower end first, in rising order; those of the parent are first.
-pub record Line : Type 0 where
+pub record Adjacency : Type 0 where
   pub lower : As
   pub upper : As
 
-abbrev pub line : As → As → Line
-line a b = cond (nat_lt b.0 a.0) (record { lower = b; upper = a }) (record { lower = a; upper = b })
+abbrev pub adjacency : As → As → Adjacency
+adjacency a b = cond (nat_lt b.0 a.0) (record { lower = b; upper = a }) (record { lower = a; upper = b })
 
-abbrev pub before_line : Line → Line → Bool
-before_line x y = cond (nat_lt x.lower.0 y.lower.0) true (cond (nat_lt y.lower.0 x.lower.0) false (nat_lt x.upper.0 y.upper.0))
+abbrev pub before_adjacency : Adjacency → Adjacency → Bool
+before_adjacency x y = cond (nat_lt x.lower.0 y.lower.0) true (cond (nat_lt y.lower.0 x.lower.0) false (nat_lt x.upper.0 y.upper.0))
 
-abbrev pub insert_line : Line → List Line → List Line
-insert_line x [] = x ∷ []
-insert_line x (y ∷ ys) = cond (before_line x y) (x ∷ y ∷ ys) (y ∷ insert_line x ys)
+abbrev pub insert_adjacency : Adjacency → List Adjacency → List Adjacency
+insert_adjacency x [] = x ∷ []
+insert_adjacency x (y ∷ ys) = cond (before_adjacency x y) (x ∷ y ∷ ys) (y ∷ insert_adjacency x ys)
 
-abbrev pub sorted : List (As × As) → List Line
+abbrev pub sorted : List (As × As) → List Adjacency
 sorted [] = []
-sorted (p ∷ ps) = insert_line (line p.0 p.1) (sorted ps)
+sorted (p ∷ ps) = insert_adjacency (adjacency p.0 p.1) (sorted ps)
 
-abbrev pub upward : List As → List Line
+abbrev pub upward : List As → List Adjacency
 upward [] = []
 upward (a ∷ as') = record { lower = parent_as; upper = a } ∷ upward as'
 
-abbrev pub lines : NetworkParts → List Line
-lines n = upward (children n) ++ sorted n.links
+abbrev pub adjacencies : NetworkParts → List Adjacency
+adjacencies n = upward (children n) ++ sorted n.links
 
-abbrev pub has_line : As → As → List Line → Bool
-has_line a b [] = false
-has_line a b (x ∷ xs) = cond (same_link x.lower x.upper a b) true (has_line a b xs)
+abbrev pub has_adjacency : As → As → List Adjacency → Bool
+has_adjacency a b [] = false
+has_adjacency a b (x ∷ xs) = cond (same_link x.lower x.upper a b) true (has_adjacency a b xs)
 
 abbrev pub is_linked : NetworkParts → As → As → Bool
-is_linked n a b = has_line a b (lines n)
+is_linked n a b = has_adjacency a b (adjacencies n)
 
 -- outside peers are numbered from 0
 abbrev pub peer_row : ℕ → List PeerRow → Option PeerRow

@@ -3,7 +3,7 @@ ghost use Rattle.std.specs.Prelude.{◌≡◌, ◌<◌, ◌-◌, ◌^◌, true, 
 ghost use Rattle.plant_text.specs.declared.fault.NetFault.{NetFault};
 ghost use Rattle.plant_text.specs.declared.fault.NetFault.TheVariants.{NoElement};
 ghost use Rattle.plant_text.specs.Faults.{AreObeyed, IsFirst, Tells};
-ghost use Rattle.plant_text.specs.Networks.{IsNetwork, path_client, with_path};
+ghost use Rattle.plant_text.specs.Networks.{ObeysRules, path_client, with_path};
 ghost use Rattle.plant_text.specs.Rules.{no_cuts, rules as rules_of_sheet, rules_of, sheet_of};
 ghost use Rattle.plant_text.specs.Settings.{is_element as has_element};
 
@@ -130,7 +130,7 @@ impl Network {
     /// The settings.
     pub fn parts(&self) -> &NetworkParts
         ensures parts { result.now ≡ self.now }
-        ensures rules { IsNetwork self.now }
+        ensures rules { ObeysRules self.now }
     {
         &self.parts
     }

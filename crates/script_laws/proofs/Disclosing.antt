@@ -31,7 +31,7 @@ use Rattle.ids_suffice.proofs.plant_laws.Blind.SaysBlind.{as_run}
 use Rattle.ids_suffice.proofs.plant_laws.Least.Solved.{solves_tell}
 use Rattle.ids_suffice.proofs.plant_laws.Runs.Sound.{run_sound}
 use Rattle.plant_play.specs.declared.showing.Modes.{Modes}
-use Rattle.plant_play.specs.Playing.{Cue, IsNewStage, Plays, PlaysLine, Stage, modes_after}
+use Rattle.plant_play.specs.Playing.{Cue, IsNewNetwork, Plays, PlaysLine, PlayedNetwork, modes_after}
 use Rattle.plant_play.specs.Scripts.{AllPlayed}
 use Rattle.plant_play.specs.Turns.{AreGiven, HasTable, IsTurn, TableAt, Turn, entries_of, is_domain_solve, tells_closed, unsaid}
 use Rattle.script_laws.specs.Disclosing.{shown_trace}
@@ -165,7 +165,7 @@ stays_on line.Finish m on = on
 stays_on line.CertifyOn m on = on
 stays_on line.DiscloseOn m on = refl
 
-first_discloses : (n : NetworkParts) (old : Stage) (cue : Cue) (answer : Answered) (turns : List Turn) (told : List ℕ) (next : Stage) → old.network ≡ n → old.modes.disclose ≡ true →
+first_discloses : (n : NetworkParts) (old : PlayedNetwork) (cue : Cue) (answer : Answered) (turns : List Turn) (told : List ℕ) (next : PlayedNetwork) → old.network ≡ n → old.modes.disclose ≡ true →
     FeedsOctets cue.event → PlaysLine old cue answer turns told next → (older : List Entry) (trace : List BlindEvent) → DisclosedRun wire n older trace old.state →
     DisclosedRun wire n (entries_of turns older) (shown_trace turns trace) next.state
 first_discloses n old cue answer turns told next is on octets p older trace run =
@@ -173,12 +173,12 @@ first_discloses n old cue answer turns told next is on octets p older trace run 
     let are = line_turns cue.number old answer turns told next.state cue.event cue.file p.plays in
     turns_disclose old.modes on n old.state turns next.state (subst (λ (m : NetworkParts). AreTurns old.modes m old.state turns next.state) is are) given older trace run
 
-lines_disclose : (n : NetworkParts) (old end : Stage) (cues : List Cue) (turns : List Turn) (told : List ℕ) → old.network ≡ n → old.modes.disclose ≡ true → FeedOctets cues →
+lines_disclose : (n : NetworkParts) (old end : PlayedNetwork) (cues : List Cue) (turns : List Turn) (told : List ℕ) → old.network ≡ n → old.modes.disclose ≡ true → FeedOctets cues →
     AllPlayed old cues turns told end → (older : List Entry) (trace : List BlindEvent) → DisclosedRun wire n older trace old.state →
     DisclosedRun wire n (entries_of turns older) (shown_trace turns trace) end.state
 lines_disclose n old end [] turns told is on octets all older trace run =
     subst (λ (ts : List Turn). DisclosedRun wire n (entries_of ts older) (shown_trace ts trace) end.state) (sym all.0)
-    (subst (λ (s : Stage). DisclosedRun wire n older trace s.state) (sym all.2) run)
+    (subst (λ (s : PlayedNetwork). DisclosedRun wire n older trace s.state) (sym all.2) run)
 lines_disclose n old end (cue ∷ cues) turns told is on octets p older trace run =
     let one = All-head (λ (c : Cue). FeedsOctets c.event) cue cues octets in
     let others = All-tail (λ (c : Cue). FeedsOctets c.event) cue cues octets in
@@ -189,20 +189,20 @@ lines_disclose n old end (cue ∷ cues) turns told is on octets p older trace ru
     (subst (λ (es : List Entry). DisclosedRun wire n es (shown_trace (p.first ++ p.later) trace) end.state) (sym (entries_join p.first p.later older))
     (subst (λ (tr : List BlindEvent). DisclosedRun wire n (entries_of p.later (entries_of p.first older)) tr end.state) (sym (trace_joins p.first p.later trace)) all))
 
-pub shown_is_disclosed : (old end : Stage) (cues : List Cue) (turns : List Turn) (told : List ℕ) → FeedOctets cues → old.modes.disclose ≡ true → AllPlayed old cues turns told end
+pub shown_is_disclosed : (old end : PlayedNetwork) (cues : List Cue) (turns : List Turn) (told : List ℕ) → FeedOctets cues → old.modes.disclose ≡ true → AllPlayed old cues turns told end
     → (older : List Entry) (trace : List BlindEvent) → DisclosedRun wire old.network older trace old.state → DisclosedRun wire old.network (entries_of turns older) (shown_trace turns trace) end.state
 shown_is_disclosed old end cues turns told octets on all older trace run = lines_disclose old.network old end cues turns told refl on octets all older trace run
 
 -- ---- from the first line on
 
 -- the line that shows them has no event
-shows_first : (n : NetworkParts) (new : Stage) (first : Cue) (answer : Answered) (turns : List Turn) (told : List ℕ) (next : Stage) → first.event ≡ line.DiscloseOn →
+shows_first : (n : NetworkParts) (new : PlayedNetwork) (first : Cue) (answer : Answered) (turns : List Turn) (told : List ℕ) (next : PlayedNetwork) → first.event ≡ line.DiscloseOn →
     PlaysLine new first answer turns told next → (turns ≡ []) × (next.state ≡ new.state) × (next.modes.disclose ≡ true)
 shows_first n new first answer turns told next is p =
     let plays = subst (λ (e : LineEvent). Plays first.number new e first.file answer turns told next.state) is p.plays in
     (plays.no_turn, plays.ends, ap (λ (m : Modes). m.disclose) p.modes ∙ ap (λ (e : LineEvent). (modes_after e new.modes).disclose) is)
 
-pub shown_from_the_first : (n : NetworkParts) (new end : Stage) (first : Cue) (cues : List Cue) (turns : List Turn) (told : List ℕ) → IsNewStage n new → FeedOctets (first ∷ cues)
+pub shown_from_the_first : (n : NetworkParts) (new end : PlayedNetwork) (first : Cue) (cues : List Cue) (turns : List Turn) (told : List ℕ) → IsNewNetwork n new → FeedOctets (first ∷ cues)
     → first.event ≡ line.DiscloseOn → AllPlayed new (first ∷ cues) turns told end → DisclosedRun wire n (entries_of turns []) (shown_trace turns []) end.state
 shown_from_the_first n new end first cues turns told is octets on p =
     let shows = shows_first n new first p.answer p.first p.said p.mid on p.plays in

@@ -19,7 +19,7 @@ use Rattle.plant_play.specs.declared.going.Until.TheVariants.{Settled, Finished}
 use Rattle.plant_play.specs.declared.showing.Modes.{Modes}
 use Rattle.plant_play.specs.Due.{AreAllDue, AreDue, IsDue, IsDueTake}
 use Rattle.plant_play.specs.Scripts.{AllPlayed}
-use Rattle.plant_play.specs.Playing.{Changes, Cue, Plays, PlaysDue, PlaysFeedAt, PlaysNamed, PlaysNone, PlaysOne, Stage}
+use Rattle.plant_play.specs.Playing.{Changes, Cue, Plays, PlaysDue, PlaysFeedAt, PlaysNamed, PlaysNone, PlaysOne, PlayedNetwork}
 use Rattle.plant_play.specs.Turns.{Turn, entries_of}
 use Rattle.script_laws.specs.Headline.{all_octets, fed_octets}
 use Rattle.script_laws.proofs.Onward.{entries_join}
@@ -56,7 +56,7 @@ going_fed until n s (event.Solve d k) is = refl
 going_fed until n s (event.Tick now) is = refl
 going_fed until n s (event.Drain i holder) is = refl
 
-module _ (number : ℕ) (old : Stage) (answer : Answered) (turns : List Turn) (told : List ℕ) (end : Plant) where
+module _ (number : ℕ) (old : PlayedNetwork) (answer : Answered) (turns : List Turn) (told : List ℕ) (end : Plant) where
   made_fed : (e : Event) → PlaysOne number old e answer turns told end → Feed turns (fed_by e)
   made_fed e p = one_fed turns p.turn e p.one p.event
 
@@ -109,7 +109,7 @@ module _ (number : ℕ) (old : Stage) (answer : Answered) (turns : List Turn) (t
   line_fed line.CertifyOn file p older = at_most 0 (fixed_fed _ p) older
   line_fed line.DiscloseOn file p older = at_most 0 (fixed_fed _ p) older
 
-pub script_fed : (old end : Stage) (cues : List Cue) (turns : List Turn) (told : List ℕ) → AllPlayed old cues turns told end → (older : List Entry) →
+pub script_fed : (old end : PlayedNetwork) (cues : List Cue) (turns : List Turn) (told : List ℕ) → AllPlayed old cues turns told end → (older : List Entry) →
     fed_bytes (entries_of turns older) ≤ all_octets cues + fed_bytes older
 script_fed old end [] turns told all older = omega (arith, none_fed turns all.0 older)
 script_fed old end (c ∷ cs) turns told p older =

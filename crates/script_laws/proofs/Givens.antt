@@ -18,7 +18,7 @@ use Rattle.plant_play.specs.declared.going.Until.{Until}
 use Rattle.plant_play.specs.declared.going.Until.TheVariants.{Settled, Finished}
 use Rattle.plant_play.specs.declared.showing.Modes.{Modes}
 use Rattle.plant_play.specs.Due.{AreAllDue, AreDue, IsDue, IsDueTake}
-use Rattle.plant_play.specs.Playing.{Changes, Plays, PlaysDue, PlaysFeedAt, PlaysNamed, PlaysNone, PlaysOne, Stage}
+use Rattle.plant_play.specs.Playing.{Changes, Plays, PlaysDue, PlaysFeedAt, PlaysNamed, PlaysNone, PlaysOne, PlayedNetwork}
 use Rattle.plant_play.specs.Turns.{AreGiven, Turn}
 use Rattle.texts_in_range.specs.Ranges.{AreOctets}
 use Rattle.texts_in_range.proofs.ChangeRanges.{changes_keep_range}
@@ -49,7 +49,7 @@ going_given until n s (event.Drain i holder) is = tt
 
 -- ---- the kinds of lines
 
-module _ (number : ℕ) (old : Stage) (answer : Answered) (turns : List Turn) (told : List ℕ) (end : Plant) where
+module _ (number : ℕ) (old : PlayedNetwork) (answer : Answered) (turns : List Turn) (told : List ℕ) (end : Plant) where
   one_given : (e : Event) → PlaysOne number old e answer turns told end → IsGiven e → AreGiven turns
   one_given e p given = subst AreGiven (sym p.one) (subst IsGiven (sym p.event) given, tt)
 
@@ -98,6 +98,6 @@ module _ (number : ℕ) (old : Stage) (answer : Answered) (turns : List Turn) (t
   given line.CertifyOn file octets loadable p = none_given _ p
   given line.DiscloseOn file octets loadable p = none_given _ p
 
-pub lines_are_given : (number : ℕ) (old : Stage) (e : LineEvent) (file : List ℕ) (answer : Answered) (turns : List Turn) (told : List ℕ) (end : Plant)
+pub lines_are_given : (number : ℕ) (old : PlayedNetwork) (e : LineEvent) (file : List ℕ) (answer : Answered) (turns : List Turn) (told : List ℕ) (end : Plant)
     → FeedsOctets e → AreLoadable old.state → Plays number old e file answer turns told end → AreGiven turns
 lines_are_given number old e file answer turns told end octets loadable p = given number old answer turns told end e file octets loadable p

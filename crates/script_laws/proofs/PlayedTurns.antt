@@ -15,7 +15,7 @@ use Rattle.plant_play.specs.plant_model.Plant.{Plant}
 use Rattle.plant_play.specs.plant_model.Wire.{Bytes}
 use Rattle.plant_play.specs.declared.showing.Modes.{Modes}
 use Rattle.plant_play.specs.Due.{AreAllDue, AreDue, IsDueTake}
-use Rattle.plant_play.specs.Playing.{Changes, Plays, PlaysDue, PlaysFeedAt, PlaysNamed, PlaysNone, PlaysOne, Stage}
+use Rattle.plant_play.specs.Playing.{Changes, Plays, PlaysDue, PlaysFeedAt, PlaysNamed, PlaysNone, PlaysOne, PlayedNetwork}
 use Rattle.plant_play.specs.Turns.{IsTurn, Turn}
 
 -- each event happens in the state that the one before it leaves
@@ -30,7 +30,7 @@ due_turns : (Due : Plant → Option Event → Type 0) (m : Modes) (n : NetworkPa
 due_turns Due m n s [] end all = all
 due_turns Due m n s (t ∷ ts) end all = (all.1, due_turns Due m n t.after ts end all.3)
 
-module _ (number : ℕ) (old : Stage) (answer : Answered) (turns : List Turn) (told : List ℕ) (end : Plant) where
+module _ (number : ℕ) (old : PlayedNetwork) (answer : Answered) (turns : List Turn) (told : List ℕ) (end : Plant) where
   abbrev Are : List Turn → Type 0
   Are ts = AreTurns old.modes old.network old.state ts end
 

@@ -11,7 +11,7 @@ use Rattle.ids_suffice.proofs.plant_laws.Least.OfRun as OfRun
 use Rattle.ids_suffice.proofs.plant_laws.Blind.SaysBlind.{says_as_blind}
 use Rattle.ids_suffice.specs.Counting.{HasNoParent}
 use Rattle.ids_suffice.proofs.FewOctets.{few_are_short}
-use Rattle.plant_play.specs.Playing.{Cue, IsNewStage, Stage}
+use Rattle.plant_play.specs.Playing.{Cue, IsNewNetwork, PlayedNetwork}
 use Rattle.plant_play.specs.Scripts.{AllPlayed}
 use Rattle.plant_play.specs.Turns.{Turn, entries_of}
 use Rattle.script_laws.specs.Headline.{HasIdsLeft, IsRight, all_octets}
@@ -30,7 +30,7 @@ runs_are_right n ok es s run = record {
   closed = λ trace disclosed. says_as_blind wire n es trace s disclosed;
 }
 
-pub scripts_are_right : (n : NetworkParts) → IsNetwork n → (new end : Stage) (cues : List Cue) (turns : List Turn) (told : List ℕ) → IsNewStage n new → FeedOctets cues → AllPlayed new cues turns told end
+pub scripts_are_right : (n : NetworkParts) → IsNetwork n → (new end : PlayedNetwork) (cues : List Cue) (turns : List Turn) (told : List ℕ) → IsNewNetwork n new → FeedOctets cues → AllPlayed new cues turns told end
     → IsRight n (entries_of turns []) end.state × (HasNoParent n → all_octets cues ≤ 4294967295 → HasIdsLeft n (entries_of turns []))
 scripts_are_right n ok new end cues turns told is octets all =
     let run = scripts_are_runs runs_are_loadable n new end cues turns told is octets all in (

@@ -7,7 +7,7 @@ use Rattle.plant_play.specs.plant_model.Blind.{blind_of, is_accepted, with_event
 use Rattle.plant_play.specs.plant_model.Plant.{Entry, Plant, Run}
 use Rattle.plant_play.specs.plant_model.RealWire.{wire}
 use Rattle.ids_suffice.specs.plant_laws.Worlds.{DisclosedRun}
-use Rattle.plant_play.specs.Playing.{Cue, IsNewStage, Stage}
+use Rattle.plant_play.specs.Playing.{Cue, IsNewNetwork, PlayedNetwork}
 use Rattle.plant_play.specs.Scripts.{AllPlayed}
 use Rattle.plant_play.specs.Turns.{Turn, entries_of}
 use Rattle.script_laws.specs.Laws.{FeedOctets}
@@ -25,13 +25,13 @@ shown_trace (t ∷ ts) older = shown_trace ts (cond (is_accepted t.entry.answer)
 -- While rows are shown, a run and its disclosed trace go on by the events of lines and what is shown of them.
 abbrev pub ShownIsDisclosed : Type 0
 ShownIsDisclosed =
-    (old end : Stage) (cues : List Cue) (turns : List Turn) (told : List ℕ) → FeedOctets cues → old.modes.disclose ≡ true → AllPlayed old cues turns told end
+    (old end : PlayedNetwork) (cues : List Cue) (turns : List Turn) (told : List ℕ) → FeedOctets cues → old.modes.disclose ≡ true → AllPlayed old cues turns told end
     → (older : List Entry) (trace : List BlindEvent) → DisclosedRun wire old.network older trace old.state
     → DisclosedRun wire old.network (entries_of turns older) (shown_trace turns trace) end.state
 
 -- So where rows are shown from the first line on, what is shown is the disclosed trace of the whole run.
 abbrev pub ShownFromTheFirst : Type 0
 ShownFromTheFirst =
-    (n : NetworkParts) (new end : Stage) (first : Cue) (cues : List Cue) (turns : List Turn) (told : List ℕ) → IsNewStage n new → FeedOctets (first ∷ cues)
+    (n : NetworkParts) (new end : PlayedNetwork) (first : Cue) (cues : List Cue) (turns : List Turn) (told : List ℕ) → IsNewNetwork n new → FeedOctets (first ∷ cues)
     → first.event ≡ DiscloseOn → AllPlayed new (first ∷ cues) turns told end
     → DisclosedRun wire n (entries_of turns []) (shown_trace turns []) end.state

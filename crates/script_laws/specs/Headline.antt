@@ -12,7 +12,7 @@ use Rattle.ids_suffice.specs.plant_laws.About.{IsShort}
 use Rattle.ids_suffice.specs.plant_laws.Headline.{LeastAnswersIn, NoneAnswersIn}
 use Rattle.ids_suffice.specs.plant_laws.Worlds.{DisclosedRun}
 use Rattle.ids_suffice.specs.Counting.{HasNoParent}
-use Rattle.plant_play.specs.Playing.{Cue, IsNewStage, Stage}
+use Rattle.plant_play.specs.Playing.{Cue, IsNewNetwork, PlayedNetwork}
 use Rattle.plant_play.specs.Scripts.{AllPlayed}
 use Rattle.plant_play.specs.Turns.{Turn, entries_of}
 use Rattle.script_laws.specs.Laws.{FeedOctets}
@@ -45,5 +45,5 @@ HasIdsLeft n es = IsShort (deeds_of wire n es)
 -- Every script is right; and without a parent no id comes round in one that feeds no more octets than there are ids.
 abbrev pub ScriptsAreRight : Type 0
 ScriptsAreRight =
-    (n : NetworkParts) → IsNetwork n → (new end : Stage) (cues : List Cue) (turns : List Turn) (told : List ℕ) → IsNewStage n new → FeedOctets cues → AllPlayed new cues turns told end
+    (n : NetworkParts) → IsNetwork n → (new end : PlayedNetwork) (cues : List Cue) (turns : List Turn) (told : List ℕ) → IsNewNetwork n new → FeedOctets cues → AllPlayed new cues turns told end
     → IsRight n (entries_of turns []) end.state × (HasNoParent n → all_octets cues ≤ 4294967295 → HasIdsLeft n (entries_of turns []))

@@ -1,4 +1,4 @@
 pub mod PlaceLemmas
-pub mod LineLemmas
+pub mod AdjacencyLemmas
 pub mod RowLemmas
 pub mod RouteLemmas

@@ -1,5 +1,5 @@
 -- for readers
-pub mod Lines
+pub mod Adjacencies
 -- inner
 pub mod Places
 -- handed on from below

@@ -3,12 +3,12 @@
 #![tactic(auto)]
 
 mod domains;
-mod lines;
+mod adjacencies;
 mod routes;
 mod rows;
 
 pub use domains::{children_of, elements_of};
-pub use lines::{find_line, lines_of, others_along};
+pub use adjacencies::{find_adjacency, adjacencies_of, others_along};
 pub use plant_model as model;
 pub use routes::routes_of;
 pub use rows::{class_of, deny_at};

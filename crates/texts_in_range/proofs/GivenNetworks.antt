@@ -3,7 +3,7 @@ use Rattle.std.proofs.Common.{◌≡◌, ℕ, true, length, List, None, sym, sub
 use Rattle.dom_base.specs.declared.names.As.{As}
 use Rattle.plant_text.specs.declared.settings.NetworkParts.{NetworkParts}
 use Rattle.plant_text.specs.Faults.{first_of}
-use Rattle.plant_text.specs.Networks.{IsNetwork, with_path}
+use Rattle.plant_text.specs.Networks.{ObeysRules, with_path}
 use Rattle.plant_text.specs.Reads.{Reads}
 use Rattle.plant_text.specs.Rules.{rules, rules_of}
 use Rattle.plant_text.specs.Settings.{is_element as has_element}
@@ -18,10 +18,10 @@ unbroken bytes n r =
     let s = sheet_in r.root in
     subst (λ (m : NetworkParts). first_of (rules_of m) ≡ None) (sym r.rows) (settings_clear s (none_of (rules s) r.obeyed))
 
-pub settings_are_network : (bytes : List ℕ) (n : NetworkParts) → Reads bytes n → IsNetwork n
+pub settings_are_network : (bytes : List ℕ) (n : NetworkParts) → Reads bytes n → ObeysRules n
 settings_are_network bytes n r = network_of (record { parts = n; given = length n.peers }) (holds_new n (unbroken bytes n r))
 
-pub client_is_added : (bytes : List ℕ) (n : NetworkParts) (at : As) → Reads bytes n → has_element n at ≡ true → IsNetwork (with_path n at)
+pub client_is_added : (bytes : List ℕ) (n : NetworkParts) (at : As) → Reads bytes n → has_element n at ≡ true → ObeysRules (with_path n at)
 client_is_added bytes n at r known =
     let none = unbroken bytes n r in
     let few = few_peers n none in

@@ -2,23 +2,23 @@
 use Rattle.std.specs.Prelude.{◌≡◌, ℕ, true, List}
 use Rattle.dom_base.specs.declared.names.As.{As}
 use Rattle.plant_text.specs.declared.settings.NetworkParts.{NetworkParts}
-use Rattle.plant_text.specs.Networks.{IsNetwork, with_path}
+use Rattle.plant_text.specs.Networks.{ObeysRules, with_path}
 use Rattle.plant_text.specs.Reads.{Reads}
 use Rattle.plant_text.specs.Settings.{is_element as has_element}
-use Rattle.plant_model.specs.Laws.{IsNetwork as IsModelled}
+use Rattle.plant_model.specs.Laws.{IsNetwork}
 
 -- Settings that a text gives obey the rules of a network.
 abbrev pub SettingsAreNetworks : Type 0
-SettingsAreNetworks = (bytes : List ℕ) (n : NetworkParts) → Reads bytes n → IsNetwork n
+SettingsAreNetworks = (bytes : List ℕ) (n : NetworkParts) → Reads bytes n → ObeysRules n
 
 -- So do they with the client `path` of one of their elements.
 abbrev pub ClientsAreAdded : Type 0
-ClientsAreAdded = (bytes : List ℕ) (n : NetworkParts) (at : As) → Reads bytes n → has_element n at ≡ true → IsNetwork (with_path n at)
+ClientsAreAdded = (bytes : List ℕ) (n : NetworkParts) (at : As) → Reads bytes n → has_element n at ≡ true → ObeysRules (with_path n at)
 
 -- Such settings are a network of the model: what the rules say of it, and the ranges of its numbers.
 abbrev pub SettingsAreModelled : Type 0
-SettingsAreModelled = (bytes : List ℕ) (n : NetworkParts) → Reads bytes n → IsModelled n
+SettingsAreModelled = (bytes : List ℕ) (n : NetworkParts) → Reads bytes n → IsNetwork n
 
 -- So are they with the client `path` of one of their elements.
 abbrev pub ClientsAreModelled : Type 0
-ClientsAreModelled = (bytes : List ℕ) (n : NetworkParts) (at : As) → Reads bytes n → has_element n at ≡ true → IsModelled (with_path n at)
+ClientsAreModelled = (bytes : List ℕ) (n : NetworkParts) (at : As) → Reads bytes n → has_element n at ≡ true → IsNetwork (with_path n at)

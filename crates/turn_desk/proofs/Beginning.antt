@@ -4,7 +4,7 @@ use Rattle.std.specs.Prelude.{Contains}
 use Rattle.dom_base.specs.declared.names.As.{As}
 use Rattle.te_links.specs.Rows.{Rows}
 use Rattle.disclosure.specs.Shown.{open_of}
-use Rattle.plant_text.specs.Settings.{Line, is_element, lines}
+use Rattle.plant_text.specs.Settings.{Adjacency, is_element, adjacencies}
 use Rattle.plant_text.specs.declared.settings.NetworkParts.{NetworkParts}
 use Rattle.plant_network.specs.plant_model.declared.event.Event.TheVariants.{Load}
 use Rattle.plant_network.specs.plant_model.declared.outcome.Refused.TheVariants.{GenerationsFull, NoSuchPeer}
@@ -24,7 +24,7 @@ abbrev Elements : Type 0
 Elements = As → Element Pin Segment
 
 -- to begin the links changes no element
-begun_elements : (n : NetworkParts) (xs : List Line) (g : Going Pin Segment) → (events.begin_lines Pin Segment wire n open_of xs g).state.elements ≡ g.state.elements
+begun_elements : (n : NetworkParts) (xs : List Adjacency) (g : Going Pin Segment) → (events.begin_lines Pin Segment wire n open_of xs g).state.elements ≡ g.state.elements
 begun_elements n [] g = refl
 begun_elements n (x ∷ xs) g = begun_elements n xs (deeds.begin_line Pin Segment wire n open_of 0 x g)
 
@@ -32,7 +32,7 @@ begun_elements n (x ∷ xs) g = begun_elements n xs (deeds.begin_line Pin Segmen
 pub begun_has_none : (n : NetworkParts) (w : Whole) → IsBegun n w → NoneIsPending w.state
 begun_has_none n w is d =
     ap (λ (s : Plant). length (s.elements d).pending.rows) is.1
-    ∙ ap (λ (f : Elements). length (f d).pending.rows) (begun_elements n (lines n) (record { state = events.bare Pin Segment wire n open_of first_pin; deeds = [] }))
+    ∙ ap (λ (f : Elements). length (f d).pending.rows) (begun_elements n (adjacencies n) (record { state = events.bare Pin Segment wire n open_of first_pin; deeds = [] }))
 
 module _ (n : NetworkParts) (d : As) (g : Rows) (s : Plant) where
   abbrev Same : Happened → Type 0

@@ -18,7 +18,7 @@ use Rattle.plant_network.specs.declared.acts.Act.{Act}
 use Rattle.plant_network.specs.declared.acts.Act.TheVariants.{Do, Look, Ready, Finish, Map}
 use Rattle.plant_network.specs.declared.acts.Acted.{Acted}
 use Rattle.plant_network.specs.declared.acts.Acted.TheVariants.{Did, Looked, Found, Committed, Mapped}
-use Rattle.plant_network.specs.declared.acts.Turn.{Turn}
+use Rattle.plant_network.specs.declared.acts.ActAnswer.{ActAnswer}
 use Rattle.plant_pins.specs.Histories.{Leads, PinsAreNow, Told, known_in}
 use Rattle.plant_pins.specs.Steps.{Known, KnowsPins}
 use Rattle.plant_pins.proofs.HistoryLemmas.{histories_know_pins, known_stays}
@@ -47,7 +47,7 @@ module _ (w next : Whole) where
   act_leads (Map d) (Mapped r) answer = same_leads answer.0
   act_leads a r answer = absurd answer
 
-history_leads : (w : Whole) (es : List (Act × Turn)) → Legal Admits Allowed left_by w es → Leads wire w.network w.state (told_by w.network es) (replay left_by w es).state
+history_leads : (w : Whole) (es : List (Act × ActAnswer)) → Legal Admits Allowed left_by w es → Leads wire w.network w.state (told_by w.network es) (replay left_by w es).state
 history_leads w [] legal = refl
 history_leads w (e ∷ es) legal =
     let next : Whole = left_by w e.0 e.1 in
@@ -57,7 +57,7 @@ history_leads w (e ∷ es) legal =
     leads_on wire w.network w.state (event_of w.network e.0 e.1.acted) (told_by w.network es) next.state last.state (act_leads w next e.0 e.1.acted legal.1.answer) rest
 
 -- all pins are of the topologies that the history tells
-pub pins_are_known : (h : Held) (es : List (Act × Turn)) → PinsAreNow (whole h).state → Legal Admits Allowed left_by (whole h) es → KnowsPins (known_by (Some h) es) (replay left_by (whole h) es).state
+pub pins_are_known : (h : Held) (es : List (Act × ActAnswer)) → PinsAreNow (whole h).state → Legal Admits Allowed left_by (whole h) es → KnowsPins (known_by (Some h) es) (replay left_by (whole h) es).state
 pins_are_known h es now legal =
     let w : Whole = whole h in
     histories_know_pins wire w.network w.state (told_by w.network es) (replay left_by w es).state now (history_leads w es legal)
@@ -68,12 +68,12 @@ knows_more known more s grows knows = record {
   pending = λ d h is. grows d h.1.item.pin.number h.1.item.pin.topology (knows.pending d h is);
 }
 
-told_append : (n : NetworkParts) (xs ys : List (Act × Turn)) → told_by n (xs ++ ys) ≡ told_by n xs ++ told_by n ys
+told_append : (n : NetworkParts) (xs ys : List (Act × ActAnswer)) → told_by n (xs ++ ys) ≡ told_by n xs ++ told_by n ys
 told_append n [] ys = refl
 told_append n (x ∷ xs) ys = ap (λ (l : List Told). event_of n x.0 x.1.acted ++ l) (told_append n xs ys) ∙ sym (append_assoc (event_of n x.0 x.1.acted) (told_by n xs) (told_by n ys))
 
 -- what a history tells stays, whatever comes later
-pub known_grows : (start : Option Held) (es more : List (Act × Turn)) (d : As) (k : ℕ) (g : Rows) → known_by start es d k ≡ Some g → known_by start (es ++ more) d k ≡ Some g
+pub known_grows : (start : Option Held) (es more : List (Act × ActAnswer)) (d : As) (k : ℕ) (g : Rows) → known_by start es d k ≡ Some g → known_by start (es ++ more) d k ≡ Some g
 known_grows (Some h) es more d k g is =
     let w : Whole = whole h in
     subst (λ (l : List Told). known_in w.state l d k ≡ Some g) (sym (told_append w.network es more)) (known_stays w.state (told_by w.network es) (told_by w.network more) d k g is)

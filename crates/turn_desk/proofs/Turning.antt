@@ -26,7 +26,7 @@ use Rattle.plant_network.specs.declared.acts.Act.{Act}
 use Rattle.plant_network.specs.declared.acts.Act.TheVariants.{Do, Look, Ready, Finish}
 use Rattle.plant_network.specs.declared.acts.Acted.{Acted}
 use Rattle.plant_network.specs.declared.acts.Acted.TheVariants.{Did, Looked, Found, Committed}
-use Rattle.plant_network.specs.declared.acts.Turn.{Turn}
+use Rattle.plant_network.specs.declared.acts.ActAnswer.{ActAnswer}
 use Rattle.plant_network.specs.declared.answering.CommitRefused.{CommitRefused}
 use Rattle.plant_pins.specs.Histories.{PinsAreNow}
 use Rattle.plant_pins.specs.Steps.{KnowsPins}
@@ -53,7 +53,7 @@ own_load e is = tt
 -- ---- a turn of the seat
 
 -- what a turn makes of what a seat knows
-pub seat_makes : (v w : View Held Act Turn) (own owned : List (Act × Turn)) (spent : Option ℕ) (act : Act) (n : ℕ) (turn : Turn) → spent ≡ None → Adds whole Admits Allowed left_by v act n turn w → owned ≡ own ++ (act, turn) ∷ [] →
+pub seat_makes : (v w : View Held Act ActAnswer) (own owned : List (Act × ActAnswer)) (spent : Option ℕ) (act : Act) (n : ℕ) (turn : ActAnswer) → spent ≡ None → Adds whole Admits Allowed left_by v act n turn w → owned ≡ own ++ (act, turn) ∷ [] →
     Makes (record { start = v.start; seen = v.seen; own = own; met = v.met; spent = spent }) (record { start = w.start; seen = w.seen; own = owned; met = w.met; spent = spent }) act turn
 seat_makes v w own owned spent act n turn none adds is = record {
   before = v.seen ++ adds.between;
@@ -66,8 +66,8 @@ seat_makes v w own owned spent act n turn none adds is = record {
 }
 
 -- the answer to the act of a turn was allowed
-pub answered : (old new : Stand) (act : Act) (turn : Turn) (m : Makes old new act turn) → (x : Held) × (new.start ≡ Some x) × Admits (replay left_by (whole x) m.before) act × Allowed (replay left_by (whole x) m.before) act turn
-answered old new act turn m = last_allowed whole Admits Allowed left_by new.start m.before act turn (subst (λ (h : List (Act × Turn)). LegalFrom whole Admits Allowed left_by new.start h) m.seen m.legal)
+pub answered : (old new : Stand) (act : Act) (turn : ActAnswer) (m : Makes old new act turn) → (x : Held) × (new.start ≡ Some x) × Admits (replay left_by (whole x) m.before) act × Allowed (replay left_by (whole x) m.before) act turn
+answered old new act turn m = last_allowed whole Admits Allowed left_by new.start m.before act turn (subst (λ (h : List (Act × ActAnswer)). LegalFrom whole Admits Allowed left_by new.start h) m.seen m.legal)
 
 -- ---- how an act is answered
 
@@ -119,13 +119,13 @@ no_turn old new act Is number r = subst (λ (s : Option ℕ). IsTurnBy s act Is 
 -- ---- the list of calls
 
 module _ {C : Type 0} (f : Act → Acted → Option C) where
-  abbrev picked : List (Act × Turn) → List C
-  picked es = filter_map (λ (e : Act × Turn). f e.0 e.1.acted) es
+  abbrev picked : List (Act × ActAnswer) → List C
+  picked es = filter_map (λ (e : Act × ActAnswer). f e.0 e.1.acted) es
 
   -- the call of a turn
   pub one_call : (old new : Stand) (act : Act) (acted : Acted) (c : C) → IsTurn act (Ok acted) old new → f act acted ≡ Some c → picked new.own ≡ picked old.own ++ c ∷ []
   one_call old new act acted c t call =
-      ap picked t.2.own ∙ filter_map-append (λ (e : Act × Turn). f e.0 e.1.acted) old.own ((act, t.0) ∷ [])
+      ap picked t.2.own ∙ filter_map-append (λ (e : Act × ActAnswer). f e.0 e.1.acted) old.own ((act, t.0) ∷ [])
       ∙ ap (λ (o : Option C). picked old.own ++ filter_map (λ (x : Option C). x) (o ∷ [])) (ap (f act) t.1 ∙ call)
 
   pub no_call : (old new : Stand) (number : ℕ) → Rests old new number → picked new.own ≡ picked old.own ++ []
@@ -134,10 +134,10 @@ module _ {C : Type 0} (f : Act → Acted → Option C) where
 -- ---- topologies
 
 -- what was known before a turn is known after it
-still_known : (old new : Stand) (act : Act) (turn : Turn) → Makes old new act turn → (d : As) (n : ℕ) (g : Rows) → known_by old.start old.seen d n ≡ Some g → known_by new.start new.seen d n ≡ Some g
+still_known : (old new : Stand) (act : Act) (turn : ActAnswer) → Makes old new act turn → (d : As) (n : ℕ) (g : Rows) → known_by old.start old.seen d n ≡ Some g → known_by new.start new.seen d n ≡ Some g
 still_known old new act turn m d n g is =
-    let first : known_by old.start m.before d n ≡ Some g = subst (λ (h : List (Act × Turn)). known_by old.start h d n ≡ Some g) (sym m.begins.1) (known_grows old.start old.seen m.begins.0 d n g is) in
-    let later : known_by old.start new.seen d n ≡ Some g = subst (λ (h : List (Act × Turn)). known_by old.start h d n ≡ Some g) (sym m.seen) (known_grows old.start m.before ((act, turn) ∷ []) d n g first) in
+    let first : known_by old.start m.before d n ≡ Some g = subst (λ (h : List (Act × ActAnswer)). known_by old.start h d n ≡ Some g) (sym m.begins.1) (known_grows old.start old.seen m.begins.0 d n g is) in
+    let later : known_by old.start new.seen d n ≡ Some g = subst (λ (h : List (Act × ActAnswer)). known_by old.start h d n ≡ Some g) (sym m.seen) (known_grows old.start m.before ((act, turn) ∷ []) d n g first) in
     subst (λ (s : Option Held). known_by s new.seen d n ≡ Some g) (sym m.start) later
 
 pub none_spent : (n : ℕ) (s : Option ℕ) → s ≡ None → s ≡ Some n → ⊥
@@ -191,7 +191,7 @@ pub bench_rests : (old new : Stand) (number : ℕ) (c : bench.Call) → Rests ol
 bench_rests old new number c r idle = record {
   calls = no_call bench_call old new number r ∙ ap (λ (s : Option ℕ). (benched_of old).calls ++ bench.made_by s c) (sym r.spent);
   topologies = λ at generation g known.
-      subst (λ (h : List (Act × Turn)). known_by new.start h at generation ≡ Some g) (sym r.seen) (subst (λ (s : Option Held). known_by s old.seen at generation ≡ Some g) (sym r.start) known);
+      subst (λ (h : List (Act × ActAnswer)). known_by new.start h at generation ≡ Some g) (sym r.seen) (subst (λ (s : Option Held). known_by s old.seen at generation ≡ Some g) (sym r.start) known);
   stays = λ n was. r.spent ∙ ap (λ (m : ℕ). Some m) (sym (r.stays n was));
   idle = λ n now. idle;
 }
@@ -205,10 +205,10 @@ shown_given new w d k (work.Domain j) knows shown =
 shown_given new w d k (work.Border j) knows shown = shown.weighed
 
 -- what was known before the look is known by then
-grown : (old new : Stand) (act : Act) (turn : Turn) (m : Makes old new act turn) (x : Held) → new.start ≡ Some x → (e : As) (n : ℕ) (g : Rows) → known_by (Some x) m.before e n ≡ Some g → known_by new.start new.seen e n ≡ Some g
+grown : (old new : Stand) (act : Act) (turn : ActAnswer) (m : Makes old new act turn) (x : Held) → new.start ≡ Some x → (e : As) (n : ℕ) (g : Rows) → known_by (Some x) m.before e n ≡ Some g → known_by new.start new.seen e n ≡ Some g
 grown old new act turn m x start e n g known =
     subst (λ (s : Option Held). known_by s new.seen e n ≡ Some g) (sym start)
-    (subst (λ (h : List (Act × Turn)). known_by (Some x) h e n ≡ Some g) (sym m.seen) (known_grows (Some x) m.before ((act, turn) ∷ []) e n g known))
+    (subst (λ (h : List (Act × ActAnswer)). known_by (Some x) h e n ≡ Some g) (sym m.seen) (known_grows (Some x) m.before ((act, turn) ∷ []) e n g known))
 
 pub look_given : (old new : Stand) (d : As) (k : ℕ) (job : Work) → IsTurn (Look d k) (Ok (Looked (Ok (Some job)))) old new → Begins old.start → bench.IsGiven (benched_of new) job
 look_given old new d k job t begun =
@@ -219,7 +219,7 @@ look_given old new d k job t begun =
     let next : Whole = left_by w (Look d k) t.0 in
     let answer : IsAnswer w (Look d k) (Looked (Ok (Some job))) next = subst (λ (r : Acted). IsAnswer w (Look d k) r next) t.1 a.3.answer in
     let legal : Legal Admits Allowed left_by (whole x) (m.before ++ (Look d k, t.0) ∷ []) =
-    subst (λ (h : List (Act × Turn)). Legal Admits Allowed left_by (whole x) h) m.seen (subst (λ (s : Option Held). LegalFrom whole Admits Allowed left_by s new.seen) a.1 m.legal) in
+    subst (λ (h : List (Act × ActAnswer)). Legal Admits Allowed left_by (whole x) h) m.seen (subst (λ (s : Option Held). LegalFrom whole Admits Allowed left_by s new.seen) a.1 m.legal) in
     let begins : Begins (Some x) = subst Begins (sym m.start ∙ a.1) begun in
     let now : PinsAreNow (whole x).state = none_is_now (whole x).state (begins x refl) in
     let knows : KnowsPins (known_by (Some x) m.before) w.state = pins_are_known x m.before now (legal_front Admits Allowed left_by (whole x) m.before ((Look d k, t.0) ∷ []) legal) in
@@ -232,7 +232,7 @@ looks_given old new d k (Err why) t begun = tt
 
 -- ---- what a finish is warranted by
 
-abbrev Warranted : Act → Turn → Act → Type 0
+abbrev Warranted : Act → ActAnswer → Act → Type 0
 Warranted act turn next = Warrants act turn.acted next
 
 solved_by : (job : Work) (x : Done) → bench.IsOf x job → IsSolvedBy job x
@@ -251,8 +251,8 @@ look_warrants act acted d k job x is by = absurd (let no : ⊥ = cc in no)
 
 pub may_finish : (s : Stand) (places : List ℕ) (x : Done) → s.own ≡ entries_at s.seen places → bench.WasGiven (benched_of s) x → Admitted Admits Warranted s.seen (Finish x)
 may_finish s places x own given =
-    let found = picked_from (λ (e : Act × Turn). bench_call e.0 e.1.acted) s.own (bench.Look given.at given.number (Ok (Some given.work))) given.looked in
-    let e : Act × Turn = found.0 in
-    let seen = own_is_seen s.seen places e (subst (λ (es : List (Act × Turn)). Contains es e) own found.1) in
+    let found = picked_from (λ (e : Act × ActAnswer). bench_call e.0 e.1.acted) s.own (bench.Look given.at given.number (Ok (Some given.work))) given.looked in
+    let e : Act × ActAnswer = found.0 in
+    let seen = own_is_seen s.seen places e (subst (λ (es : List (Act × ActAnswer)). Contains es e) own found.1) in
     let parts = split_at s.seen e seen in
     inr (parts.0, e, parts.1, parts.2, look_warrants e.0 e.1.acted given.at given.number given.work x found.2 (solved_by given.work x given.is_of))

@@ -7,7 +7,7 @@ use Rattle.plant_network.specs.declared.acts.Act.{Act}
 use Rattle.plant_network.specs.declared.acts.Act.TheVariants.{Do, Map}
 use Rattle.plant_network.specs.declared.acts.Acted.{Acted}
 use Rattle.plant_network.specs.declared.acts.Acted.TheVariants.{Did, Mapped}
-use Rattle.plant_network.specs.declared.acts.Turn.{Turn}
+use Rattle.plant_network.specs.declared.acts.ActAnswer.{ActAnswer}
 use Rattle.turn_desk.specs.Desks.{Stand}
 
 -- a call of an operator, with its answer
@@ -18,7 +18,7 @@ chart_call a r = None
 
 -- the calls as a chart are the own entries that are events or questions for a topology
 abbrev pub charted_of : Stand → Charted
-charted_of s = record { calls = filter_map (λ (e : Act × Turn). chart_call e.0 e.1.acted) s.own; spent = s.spent }
+charted_of s = record { calls = filter_map (λ (e : Act × ActAnswer). chart_call e.0 e.1.acted) s.own; spent = s.spent }
 
 -- the answer to a question for a topology
 abbrev pub IsMapped : Acted → Type 0

@@ -14,7 +14,7 @@ use Rattle.plant_network.specs.declared.acts.Act.{Act}
 use Rattle.plant_network.specs.declared.acts.Act.TheVariants.{Do, Look, Ready, Finish}
 use Rattle.plant_network.specs.declared.acts.Acted.{Acted}
 use Rattle.plant_network.specs.declared.acts.Acted.TheVariants.{Did, Looked, Found, Committed}
-use Rattle.plant_network.specs.declared.acts.Turn.{Turn}
+use Rattle.plant_network.specs.declared.acts.ActAnswer.{ActAnswer}
 use Rattle.plant_network.specs.declared.answering.CommitRefused.{CommitRefused}
 use Rattle.plant_network.specs.declared.answering.CommitRefused.TheVariants.{NoSuchJob, NoMemory}
 use Rattle.session_serving.specs.Desks.{Answer, Call, Desked, call}
@@ -32,13 +32,13 @@ use Rattle.turn_desk.specs.declared.desk.TurnDesk.{TurnDesk}
 -- last met, and at which number it was spent
 pub record Stand : Type 0 where
   pub start : Option Held
-  pub seen : List (Act × Turn)
-  pub own : List (Act × Turn)
+  pub seen : List (Act × ActAnswer)
+  pub own : List (Act × ActAnswer)
   pub met : ℕ
   pub spent : Option ℕ
 
 -- of a seat, and of a desk that was spent at this number
-abbrev pub stand_at : {g : Ghosts Held Act Turn} → TurnSeat Held Act Turn g → Option ℕ → Stand
+abbrev pub stand_at : {g : Ghosts Held Act ActAnswer} → TurnSeat Held Act ActAnswer g → Option ℕ → Stand
 stand_at {g} seat spent = record { start = (view_of seat).start; seen = seen_by seat; own = own_entries seat; met = met_by seat; spent = spent }
 
 abbrev pub stand_of : {R : Type 0} → TurnDesk R → Stand
@@ -69,7 +69,7 @@ desk_call a r = None
 
 -- the calls as a desk are the own entries that are events
 abbrev pub desked_of : Stand → Desked
-desked_of s = record { calls = filter_map (λ (e : Act × Turn). desk_call e.0 e.1.acted) s.own; spent = s.spent }
+desked_of s = record { calls = filter_map (λ (e : Act × ActAnswer). desk_call e.0 e.1.acted) s.own; spent = s.spent }
 
 -- what a worker is told of a solution
 abbrev pub finished_as : Result Outcome CommitRefused → Finished
@@ -86,13 +86,13 @@ bench_call a r = None
 
 -- the calls as a bench are the own entries of workers, and the topologies those of the history as far as it was seen
 abbrev pub benched_of : Stand → Benched
-benched_of s = record { calls = filter_map (λ (e : Act × Turn). bench_call e.0 e.1.acted) s.own; topologies = known_by s.start s.seen; spent = s.spent }
+benched_of s = record { calls = filter_map (λ (e : Act × ActAnswer). bench_call e.0 e.1.acted) s.own; topologies = known_by s.start s.seen; spent = s.spent }
 
 -- ---- a turn
 
 -- Just this act was done, and answered so.
-pub record Makes (old new : Stand) (act : Act) (turn : Turn) : Type 0 where
-  pub before : List (Act × Turn)
+pub record Makes (old new : Stand) (act : Act) (turn : ActAnswer) : Type 0 where
+  pub before : List (Act × ActAnswer)
   pub begins : StartsWith before old.seen
   pub seen : new.seen ≡ before ++ (act, turn) ∷ []
   pub own : new.own ≡ old.own ++ (act, turn) ∷ []
@@ -111,11 +111,11 @@ pub record Rests (old new : Stand) (number : ℕ) : Type 0 where
 
 -- a turn, or none of a desk that is spent
 abbrev pub IsTurn : Act → Result Acted ℕ → Stand → Stand → Type 0
-IsTurn act (Ok acted) old new = (turn : Turn) × (turn.acted ≡ acted) × Makes old new act turn
+IsTurn act (Ok acted) old new = (turn : ActAnswer) × (turn.acted ≡ acted) × Makes old new act turn
 IsTurn act (Err number) old new = Rests old new number
 
 abbrev pub IsTurnBy : Option ℕ → Act → (Acted → Type 0) → Stand → Stand → Type 0
-IsTurnBy None act Is old new = (turn : Turn) × Is turn.acted × Makes old new act turn
+IsTurnBy None act Is old new = (turn : ActAnswer) × Is turn.acted × Makes old new act turn
 IsTurnBy (Some number) act Is old new = Rests old new number
 
 -- Unless the desk is spent by then, exactly this act was done, and its answer is such; else no turn was made.

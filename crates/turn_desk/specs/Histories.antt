@@ -6,17 +6,17 @@ use Rattle.plant_text.specs.declared.settings.NetworkParts.{NetworkParts}
 use Rattle.plant_network.specs.Topologies.{Held, whole}
 use Rattle.plant_network.specs.Histories.{event_of}
 use Rattle.plant_network.specs.declared.acts.Act.{Act}
-use Rattle.plant_network.specs.declared.acts.Turn.{Turn}
+use Rattle.plant_network.specs.declared.acts.ActAnswer.{ActAnswer}
 use Rattle.plant_network.specs.plant_model.Plant.{Plant}
 use Rattle.plant_pins.specs.Histories.{Told, known_in}
 
 -- the events of a history, the oldest first, with their answers
-abbrev pub told_by : NetworkParts → List (Act × Turn) → List Told
+abbrev pub told_by : NetworkParts → List (Act × ActAnswer) → List Told
 told_by n [] = []
 told_by n (e ∷ es) = event_of n e.0 e.1.acted ++ told_by n es
 
 -- the topology of each element and number, as far as the history tells it from the opening on
-abbrev pub known_by : Option Held → List (Act × Turn) → As → ℕ → Option Rows
+abbrev pub known_by : Option Held → List (Act × ActAnswer) → As → ℕ → Option Rows
 known_by (Some h) seen d n = known_in (whole h).state (told_by (whole h).network seen) d n
 known_by None seen d n = None
 

@@ -1,5 +1,5 @@
 //! What goes to other threads: a network with all that it holds, what a turn at its lock hands in and out, and a desk there.
-use plant_network::{Act, Plant, Turn};
+use plant_network::{Act, Plant, ActAnswer};
 use std::sync::Wait;
 use std::time::Clock;
 use turn_desk::TurnDesk;
@@ -15,6 +15,6 @@ fn desk_goes<R: Wait + Clock + Send>(_rt: &R) {
 fn a_network_goes_to_threads(rt: HostRuntime) {
     goes_to_a_thread::<Plant>();
     goes_to_a_thread::<Act>();
-    goes_to_a_thread::<Turn>();
+    goes_to_a_thread::<ActAnswer>();
     desk_goes(&rt);
 }

@@ -21,7 +21,7 @@ use Rattle.request_table.specs.Pending.{number_of, key_of, is_full}
 use Rattle.path_keys.specs.declared.issued.Issued.{Issued}
 use Rattle.path_keys.specs.Keys.{Keys, segment_of, issue_of, live_at, number_after}
 use Rattle.plant_model.specs.Writing.{reply_message, error_message, busy, no_key}
-use Rattle.plant_model.specs.Element.{Element, Place, Taken, silent, only, each, waiting, is_client}
+use Rattle.plant_model.specs.Element.{Element, ElementSettings, Taken, silent, only, each, waiting, is_client}
 use Rattle.plant_model.specs.Taking.{take, take_asked, take_checked, take_new, take_wish, take_path, take_reply, take_notice, notice_steps, take_busy, take_cancel, take_errors, take_failure, take_report, expansion, expansion_of}
 use Rattle.plant_model.specs.Solving.{issued_all}
 use Rattle.plant_text.specs.Settings.{class_of}
@@ -76,7 +76,7 @@ module _ (P : Type 0) (S : Type 0) (Q : Type 0) (view : P → Q) (n : NetworkPar
   opens_to_client (Neighbour a) e = let no : false ≡ true = e in cc
   opens_to_client Parent e = let no : false ≡ true = e in cc
 
-  expansion_alike : (show : S → List Hop) (e : Place) (p : Peer) (now flags x key : ℕ) (pce : Addr) (k : Element P S) →
+  expansion_alike : (show : S → List Hop) (e : ElementSettings) (p : Peer) (now flags x key : ℕ) (pce : Addr) (k : Element P S) →
       Alike (only p (reply_message flags x (expansion show e (class_of n p) now key pce k)) k) (only p (reply_message flags x (expansion (λ u. []) e (class_of n p) now key pce (bare view k))) (bare view k))
   expansion_alike show e p now flags x key pce k = record { element = refl; outputs = (refl, go (can_expand (class_of n p)) refl, tt) }
     where
@@ -99,7 +99,7 @@ module _ (P : Type 0) (S : Type 0) (Q : Type 0) (view : P → Q) (n : NetworkPar
   full_same : (k : Element P S) → is_full (bare view k).pending ≡ is_full k.pending
   full_same k = ap (λ (l : ℕ). nat_le k.pending.limit l || (k.pending.given == 2 ^ 64 - 1)) (bare_length P S Q view k.pending.rows)
 
-  wish_alike : (show : S → List Hop) (e : Place) (pin : P) (p : Peer) (now flags x : ℕ) (k : Element P S) (w : Wish) →
+  wish_alike : (show : S → List Hop) (e : ElementSettings) (pin : P) (p : Peer) (now flags x : ℕ) (k : Element P S) (w : Wish) →
       Alike (take_wish show e pin p (class_of n p) now flags x k w) (take_wish (λ u. []) e (view pin) p (class_of n p) now flags x (bare view k) w)
   wish_alike show e pin p now flags x k (Expand key pce) = expansion_alike show e p now flags x key pce k
   wish_alike show e pin p now flags x k (Path w) =
@@ -108,12 +108,12 @@ module _ (P : Type 0) (S : Type 0) (Q : Type 0) (view : P → Q) (n : NetworkPar
       ∙ ap (λ t. cond (is_full k.pending) (only p (busy flags x) (bare view k)) t) (bare_path P S Q view e pin p (class_of n p) flags x w k)
       ∙ sym (taken_cond P S Q view (is_full k.pending) (only p (busy flags x) k) (take_path e pin p (class_of n p) flags x w k)))
 
-  new_alike : (show : S → List Hop) (e : Place) (pin : P) (p : Peer) (now : ℕ) (r : Request) (k : Element P S) (o : Option ℕ) →
+  new_alike : (show : S → List Hop) (e : ElementSettings) (pin : P) (p : Peer) (now : ℕ) (r : Request) (k : Element P S) (o : Option ℕ) →
       Alike (take_new show e pin p (class_of n p) now r k o) (take_new (λ u. []) e (view pin) p (class_of n p) now r (bare view k) o)
   new_alike show e pin p now r k None = wish_alike show e pin p now r.flags r.id k r.wish
   new_alike show e pin p now r k (Some h) = record { element = refl; outputs = tt }
 
-  checked_alike : (show : S → List Hop) (e : Place) (pin : P) (p : Peer) (now : ℕ) (k : Element P S) (r : Checked) →
+  checked_alike : (show : S → List Hop) (e : ElementSettings) (pin : P) (p : Peer) (now : ℕ) (k : Element P S) (r : Checked) →
       Alike (take_checked show e pin p (class_of n p) now k r) (take_checked (λ u. []) e (view pin) p (class_of n p) now (bare view k) r)
   checked_alike show e pin p now k (Wrong rp kind value) = record { element = refl; outputs = same_alike n (record { to = p; message = error_message rp kind value } ∷ []) }
   checked_alike show e pin p now k (Admitted r) =
@@ -166,7 +166,7 @@ module _ (P : Type 0) (S : Type 0) (Q : Type 0) (view : P → Q) (n : NetworkPar
       each_alike (λ rp k. take_failure e k (waiting p rp.1 k.pending.rows)) (λ rp k. take_failure e k (waiting p rp.1 k.pending.rows)) (failure_alike p e) ids k
 
   -- An element that is given a message does the same, but for what a client is shown.
-  pub take_alike : (c : Codec) (show : S → List Hop) (e : Place) (pin : P) (p : Peer) (now : ℕ) (m : Message) (k : Element P S) →
+  pub take_alike : (c : Codec) (show : S → List Hop) (e : ElementSettings) (pin : P) (p : Peer) (now : ℕ) (m : Message) (k : Element P S) →
       Alike (take c show e pin p (class_of n p) now m k) (take c (λ u. []) e (view pin) p (class_of n p) now m (bare view k))
   take_alike c show e pin p now (messages.PcReq asks) k =
       each_alike (take_asked c show e pin p (class_of n p) now) (take_asked c (λ u. []) e (view pin) p (class_of n p) now) (λ a k. checked_alike show e pin p now k (c.check a e.own)) asks k

@@ -8,14 +8,14 @@ use Rattle.plant_model.specs.Wire.{Codec}
 use Rattle.path_keys.specs.declared.issued.Issued.{Issued}
 use Rattle.path_keys.specs.Keys.{Keys, live_at, live_most}
 use Rattle.plant_model.specs.Writing.{reply_message, busy}
-use Rattle.plant_model.specs.Element.{Row, Element, Place, Taken, is_client}
+use Rattle.plant_model.specs.Element.{Row, Element, ElementSettings, Taken, is_client}
 use Rattle.plant_model.specs.Taking.{answered}
 use Rattle.plant_model.specs.Solving.{commit, client_reply, closed_reply, closed_paths, issued_all, free}
 use Rattle.plant_model.specs.Blind.{is_closed}
 use Rattle.plant_laws.proofs.Blind.Strip.{bare, bare_taken, bare_row, bare_key_rows, taken_cond, bare_live, bare_answered, bare_ended}
 use Rattle.plant_laws.proofs.Blind.Alike.{Alike, from_same, issued_same}
 
-module _ (P : Type 0) (S : Type 0) (Q : Type 0) (view : P → Q) (n : NetworkParts) (c : Codec) (e : Place) where
+module _ (P : Type 0) (S : Type 0) (Q : Type 0) (view : P → Q) (n : NetworkParts) (c : Codec) (e : ElementSettings) where
   keys_length : (ks : List (Issued S)) → length (bare_key_rows ks) ≡ length ks
   keys_length [] = refl
   keys_length (k ∷ ks) = ap suc (keys_length ks)

@@ -10,7 +10,7 @@ use Rattle.vspt_tree.specs.declared.branch.Branch.{Branch}
 use Rattle.plant_model.specs.Wire.{Codec}
 use Rattle.plant_model.specs.Writing.{reply_message, busy}
 use Rattle.plant_model.specs.Branches.{closed_branch, path_of}
-use Rattle.plant_model.specs.Element.{Element, Row, Place, Taken, is_client}
+use Rattle.plant_model.specs.Element.{Element, Row, ElementSettings, Taken, is_client}
 use Rattle.plant_model.specs.Taking.{answered}
 use Rattle.plant_model.specs.Solving.{commit, client_reply, closed_reply, closed_paths, issued_all, free}
 use Rattle.plant_laws.proofs.Blind.OneJoin.{AllOne}
@@ -44,7 +44,7 @@ one_paths c pce m target down key (x ∷ xs) (y ∷ ys) h =
     ∙ ap (λ (o : Option Addr). made y.entry y.cost y.exit o ∷ rest) h.0.head
     ∙ ap (λ (l : List Path). made y.entry y.cost y.exit y.head ∷ l) (one_paths c pce m target down (number_after key) xs ys h.1)
 
-pub one_reply : (Q : Type 0) (c : Codec) (e : Place) (h : Row Q) (down : List Branch) (now : ℕ) (k : Element Q U) (xs ys : List Best) → AllOne xs ys → closed_reply c e h down now (λ b. tt) k xs ≡ closed_reply c e h down now (λ b. tt) k ys
+pub one_reply : (Q : Type 0) (c : Codec) (e : ElementSettings) (h : Row Q) (down : List Branch) (now : ℕ) (k : Element Q U) (xs ys : List Best) → AllOne xs ys → closed_reply c e h down now (λ b. tt) k xs ≡ closed_reply c e h down now (λ b. tt) k ys
 one_reply Q c e h down now k [] [] one = refl
 one_reply Q c e h down now k [] (y ∷ ys) one = absurd one
 one_reply Q c e h down now k (x ∷ xs) [] one = absurd one
@@ -57,7 +57,7 @@ one_reply Q c e h down now k (x ∷ xs) (y ∷ ys) one =
     ∙ ap (λ (l : List Path). made (length (y ∷ ys)) l (issued_all now (λ b. tt) (x ∷ xs) k.keys)) (one_paths c e.id h.1.item.wanted.query.metric h.1.item.wanted.target down k.keys.next (x ∷ xs) (y ∷ ys) one)
     ∙ ap (λ (keys : Keys U). made (length (y ∷ ys)) (paths (y ∷ ys)) keys) (one_issued now (x ∷ xs) (y ∷ ys) k.keys one)
 
-pub one_commit : (Q : Type 0) (c : Codec) (e : Place) (h : Row Q) (down : List Branch) (now : ℕ) (k : Element Q U) (xs ys : List Best) → (t : Bool) → is_client h.1.item.class ≡ t → cond t (xs ≡ ys) (AllOne xs ys) →
+pub one_commit : (Q : Type 0) (c : Codec) (e : ElementSettings) (h : Row Q) (down : List Branch) (now : ℕ) (k : Element Q U) (xs ys : List Best) → (t : Bool) → is_client h.1.item.class ≡ t → cond t (xs ≡ ys) (AllOne xs ys) →
     commit c e h down now (λ b. tt) true true xs k ≡ commit c e h down now (λ b. tt) true true ys k
 one_commit Q c e h down now k xs ys true is same = ap (λ (l : List Best). commit c e h down now (λ b. tt) true true l k) same
 one_commit Q c e h down now k xs ys false is one =

@@ -24,10 +24,10 @@ use Rattle.plant_model.specs.Parent as parent
 use Rattle.pcep_session.specs.declared.state.State.{State as Session}
 use Rattle.pcep_session.specs.Table.{turn_of, new_state}
 use Rattle.plant_model.specs.Plant.{Pin, Segment}
-use Rattle.plant_text.specs.Settings.{Line, class_of}
+use Rattle.plant_text.specs.Settings.{Adjacency, class_of}
 use Rattle.plant_model.specs.Settings.{place, family}
 use Rattle.plant_model.specs.State.{State, Connection, Access, sent_by, Takes, Ups, Downs}
-use Rattle.plant_model.specs.Deeds.{Going, own_message, on_connection, with_more, with_parent, with_element, with_inner, put, put_to, puts, give, rise, fall, say, clear, expire, our_offer, is_due, is_tick, any_fall, inner_act, inner_acts, begin_end, begin_line, break_line, inner_input, tick_lines}
+use Rattle.plant_model.specs.Deeds.{Going, own_message, on_connection, with_more, with_parent, with_element, with_inner, put, put_to, puts, give, rise, fall, say, clear, expire, our_offer, is_due, is_tick, any_fall, inner_act, inner_acts, begin_end, begin_adjacency, break_adjacency, inner_input, tick_adjacencies}
 use Rattle.plant_model.specs.Blind.{Heard, Message as Said, is_closed, heard_of, heard}
 use Rattle.plant_laws.proofs.Runs.Queues.{same_as_is}
 use Rattle.plant_laws.proofs.Blind.Strip.{bare, bare_downed, bare_ticked}
@@ -221,7 +221,7 @@ module _ (Q : Type 0) (view : As → Pin → Q) (c : Codec) (n : NetworkParts) w
       let r = parent.take c (family n) p m g.state.parent in
       let r' = parent.take c (family n) p m h.state.parent in
       let same : r' ≡ r = ap (λ (k : parent.Parent). parent.take c (family n) p m k) both.sim.parent in
-      let alike_r : AreAlike n r.outputs r'.outputs = subst (λ (x : parent.Given). AreAlike n r.outputs x.outputs) (sym same) (same_alike n r.outputs) in
+      let alike_r : AreAlike n r.outputs r'.outputs = subst (λ (x : parent.ParentTaken). AreAlike n r.outputs x.outputs) (sym same) (same_alike n r.outputs) in
       let t = take c open_of (place n at) (g.state.current at) p (class_of n p) g.state.clock m (g.state.elements at) in
       let t' = take c (λ u. []) (place n at) (h.state.current at) p (class_of n p) h.state.clock m (h.state.elements at) in
       let alike0 = take_alike Pin Segment Q (view at) n c open_of (place n at) (g.state.current at) p g.state.clock m (g.state.elements at) in
@@ -238,7 +238,7 @@ module _ (Q : Type 0) (view : As → Pin → Q) (c : Codec) (n : NetworkParts) w
       (record { state = puts Q U c n (λ u. []) at r'.outputs u'; deeds = Takes at p m r'.outputs ∷ h.deeds })
       (record { state = puts Q U c n (λ u. []) at t'.outputs v'; deeds = Takes at p m t'.outputs ∷ h.deeds })
       (record {
-        sim = puts_sim at r.outputs r'.outputs u u' alike_r (with_parent_sim r.parent r'.parent g.state h.state (ap (λ (x : parent.Given). x.parent) same) both.sim);
+        sim = puts_sim at r.outputs r'.outputs u u' alike_r (with_parent_sim r.parent r'.parent g.state h.state (ap (λ (x : parent.ParentTaken). x.parent) same) both.sim);
         heard' = heard_more (heard c n g.deeds) (heard c n h.deeds) (heard_of n (sent_by c at r.outputs)) (heard_of n (sent_by c at r'.outputs)) both.heard' (heard_same at r.outputs r'.outputs alike_r);
       })
       (record {
@@ -251,7 +251,7 @@ module _ (Q : Type 0) (view : As → Pin → Q) (c : Codec) (n : NetworkParts) w
       let r = parent.downed p g.state.parent in
       let r' = parent.downed p h.state.parent in
       let same : r' ≡ r = ap (λ (k : parent.Parent). parent.downed p k) both.sim.parent in
-      let alike_r : AreAlike n r.outputs r'.outputs = subst (λ (x : parent.Given). AreAlike n r.outputs x.outputs) (sym same) (same_alike n r.outputs) in
+      let alike_r : AreAlike n r.outputs r'.outputs = subst (λ (x : parent.ParentTaken). AreAlike n r.outputs x.outputs) (sym same) (same_alike n r.outputs) in
       let t = downed p (g.state.elements at) in
       let t' = downed p (h.state.elements at) in
       let alike : Alike Pin Segment Q (view at) n t t' = from_same Pin Segment Q (view at) n t t' (ap (λ (e : Element Q U). downed p e) (both.sim.elements at) ∙ bare_downed Pin Segment Q (view at) p (g.state.elements at)) in
@@ -265,7 +265,7 @@ module _ (Q : Type 0) (view : As → Pin → Q) (c : Codec) (n : NetworkParts) w
       (record { state = puts Q U c n (λ u. []) at r'.outputs u'; deeds = Downs at p r'.outputs ∷ h.deeds })
       (record { state = puts Q U c n (λ u. []) at t'.outputs v'; deeds = Downs at p t'.outputs ∷ h.deeds })
       (record {
-        sim = puts_sim at r.outputs r'.outputs u u' alike_r (with_parent_sim r.parent r'.parent g.state h.state (ap (λ (x : parent.Given). x.parent) same) both.sim);
+        sim = puts_sim at r.outputs r'.outputs u u' alike_r (with_parent_sim r.parent r'.parent g.state h.state (ap (λ (x : parent.ParentTaken). x.parent) same) both.sim);
         heard' = heard_more (heard c n g.deeds) (heard c n h.deeds) (heard_of n (sent_by c at r.outputs)) (heard_of n (sent_by c at r'.outputs)) both.heard' (heard_same at r.outputs r'.outputs alike_r);
       })
       (record {
@@ -313,7 +313,7 @@ module _ (Q : Type 0) (view : As → Pin → Q) (c : Codec) (n : NetworkParts) w
   set_pair_same x y v w f g e same a b =
       ap (λ z. cond (same_as x a) (cond (same_as y b) z (f a b)) (f a b)) e ∙ ap (λ z. cond (same_as x a) (cond (same_as y b) w z) z) (same a b)
 
-  pub clear_both : (x : Line) (g : Going Pin Segment) (h : Going Q U) → Both g h → Both (clear Pin Segment c n open_of x g) (clear Q U c n (λ u. []) x h)
+  pub clear_both : (x : Adjacency) (g : Going Pin Segment) (h : Going Q U) → Both g h → Both (clear Pin Segment c n open_of x g) (clear Q U c n (λ u. []) x h)
   clear_both x g h both = record {
     sim = record {
       clock = both.sim.clock;
@@ -367,36 +367,36 @@ module _ (Q : Type 0) (view : As → Pin → Q) (c : Codec) (n : NetworkParts) w
       (inner_acts_both at b false r.actions (record { state = with_inner Pin Segment c n open_of at b r.next g.state; deeds = g.deeds }) (record { state = with_inner Q U c n (λ u. []) at b r.next h.state; deeds = h.deeds })
       (inner_sim at b r.next r.next g h refl both))
 
-  pub begin_line_both : (sid : ℕ) (x : Line) (g : Going Pin Segment) (h : Going Q U) → Both g h → Both (begin_line Pin Segment c n open_of sid x g) (begin_line Q U c n (λ u. []) sid x h)
-  begin_line_both sid x g h both =
+  pub begin_adjacency_both : (sid : ℕ) (x : Adjacency) (g : Going Pin Segment) (h : Going Q U) → Both g h → Both (begin_adjacency Pin Segment c n open_of sid x g) (begin_adjacency Q U c n (λ u. []) sid x h)
+  begin_adjacency_both sid x g h both =
       begin_end_both sid x.upper x.lower (begin_end Pin Segment c n open_of sid x.lower x.upper g) (begin_end Q U c n (λ u. []) sid x.lower x.upper h) (begin_end_both sid x.lower x.upper g h both)
 
-  pub break_line_both : (x : Line) (g : Going Pin Segment) (h : Going Q U) → Both g h → Both (break_line Pin Segment c n open_of x g) (break_line Q U c n (λ u. []) x h)
-  break_line_both x g h both =
+  pub break_adjacency_both : (x : Adjacency) (g : Going Pin Segment) (h : Going Q U) → Both g h → Both (break_adjacency Pin Segment c n open_of x g) (break_adjacency Q U c n (λ u. []) x h)
+  break_adjacency_both x g h both =
       let g1 = fall Pin Segment c n open_of x.lower (Inner x.upper) g in
       let h1 = fall Q U c n (λ u. []) x.lower (Inner x.upper) h in
       let g2 = fall Pin Segment c n open_of x.upper (Inner x.lower) g1 in
       let h2 = fall Q U c n (λ u. []) x.upper (Inner x.lower) h1 in
-      subst (λ (s : Session). Both (break_line Pin Segment c n open_of x g) (begin_line Q U c n (λ u. []) ((s.offer.sid + 1) % 256) x (clear Q U c n (λ u. []) x h2))) (sym (both.sim.sessions x.lower x.upper))
-      (begin_line_both (((g.state.sessions x.lower x.upper).offer.sid + 1) % 256) x (clear Pin Segment c n open_of x g2) (clear Q U c n (λ u. []) x h2)
+      subst (λ (s : Session). Both (break_adjacency Pin Segment c n open_of x g) (begin_adjacency Q U c n (λ u. []) ((s.offer.sid + 1) % 256) x (clear Q U c n (λ u. []) x h2))) (sym (both.sim.sessions x.lower x.upper))
+      (begin_adjacency_both (((g.state.sessions x.lower x.upper).offer.sid + 1) % 256) x (clear Pin Segment c n open_of x g2) (clear Q U c n (λ u. []) x h2)
       (clear_both x g2 h2 (fall_both x.upper (Inner x.lower) g1 h1 (fall_both x.lower (Inner x.upper) g h both))))
 
-  pub inner_input_both : (x : Line) (at b : As) (y : Input) (g : Going Pin Segment) (h : Going Q U) → Both g h → Both (inner_input Pin Segment c n open_of x at b y g) (inner_input Q U c n (λ u. []) x at b y h)
+  pub inner_input_both : (x : Adjacency) (at b : As) (y : Input) (g : Going Pin Segment) (h : Going Q U) → Both g h → Both (inner_input Pin Segment c n open_of x at b y g) (inner_input Q U c n (λ u. []) x at b y h)
   inner_input_both x at b y g h both =
       let r = turn_of (g.state.sessions at b) y in
       subst (λ (s : Session). Both (inner_input Pin Segment c n open_of x at b y g)
-      (cond (any_fall (turn_of s y).actions) (break_line Q U c n (λ u. []) x h) (inner_acts Q U c n (λ u. []) at b (is_tick y) (turn_of s y).actions (record { state = with_inner Q U c n (λ u. []) at b (turn_of s y).next h.state; deeds = h.deeds }))))
+      (cond (any_fall (turn_of s y).actions) (break_adjacency Q U c n (λ u. []) x h) (inner_acts Q U c n (λ u. []) at b (is_tick y) (turn_of s y).actions (record { state = with_inner Q U c n (λ u. []) at b (turn_of s y).next h.state; deeds = h.deeds }))))
       (sym (both.sim.sessions at b))
-      (both_cond (any_fall r.actions) (break_line Pin Segment c n open_of x g) (inner_acts Pin Segment c n open_of at b (is_tick y) r.actions (record { state = with_inner Pin Segment c n open_of at b r.next g.state; deeds = g.deeds }))
-      (break_line Q U c n (λ u. []) x h) (inner_acts Q U c n (λ u. []) at b (is_tick y) r.actions (record { state = with_inner Q U c n (λ u. []) at b r.next h.state; deeds = h.deeds }))
-      (break_line_both x g h both)
+      (both_cond (any_fall r.actions) (break_adjacency Pin Segment c n open_of x g) (inner_acts Pin Segment c n open_of at b (is_tick y) r.actions (record { state = with_inner Pin Segment c n open_of at b r.next g.state; deeds = g.deeds }))
+      (break_adjacency Q U c n (λ u. []) x h) (inner_acts Q U c n (λ u. []) at b (is_tick y) r.actions (record { state = with_inner Q U c n (λ u. []) at b r.next h.state; deeds = h.deeds }))
+      (break_adjacency_both x g h both)
       (inner_acts_both at b (is_tick y) r.actions (record { state = with_inner Pin Segment c n open_of at b r.next g.state; deeds = g.deeds }) (record { state = with_inner Q U c n (λ u. []) at b r.next h.state; deeds = h.deeds })
       (inner_sim at b r.next r.next g h refl both)))
 
-  pub tick_lines_both : (xs : List Line) (now : Tick) (g : Going Pin Segment) (h : Going Q U) → Both g h → Both (tick_lines Pin Segment c n open_of xs now g) (tick_lines Q U c n (λ u. []) xs now h)
-  tick_lines_both [] now g h both = both
-  tick_lines_both (x ∷ xs) now g h both =
+  pub tick_adjacencies_both : (xs : List Adjacency) (now : Tick) (g : Going Pin Segment) (h : Going Q U) → Both g h → Both (tick_adjacencies Pin Segment c n open_of xs now g) (tick_adjacencies Q U c n (λ u. []) xs now h)
+  tick_adjacencies_both [] now g h both = both
+  tick_adjacencies_both (x ∷ xs) now g h both =
       let g1 = inner_input Pin Segment c n open_of x x.lower x.upper (input.Tick now) g in
       let h1 = inner_input Q U c n (λ u. []) x x.lower x.upper (input.Tick now) h in
-      tick_lines_both xs now (inner_input Pin Segment c n open_of x x.upper x.lower (input.Tick now) g1) (inner_input Q U c n (λ u. []) x x.upper x.lower (input.Tick now) h1)
+      tick_adjacencies_both xs now (inner_input Pin Segment c n open_of x x.upper x.lower (input.Tick now) g1) (inner_input Q U c n (λ u. []) x x.upper x.lower (input.Tick now) h1)
       (inner_input_both x x.upper x.lower (input.Tick now) g1 h1 (inner_input_both x x.lower x.upper (input.Tick now) g h both))

@@ -21,16 +21,16 @@ use Rattle.pcep_framing.specs.Frames.{Framing, joined}
 use Rattle.plant_model.specs.Plant.{Pin, Segment}
 use Rattle.pcep_session.specs.declared.state.State.{State as Session}
 use Rattle.pcep_session.specs.Table.{turn_of, new_state}
-use Rattle.plant_text.specs.Settings.{line, lines, is_linked, peer_row}
+use Rattle.plant_text.specs.Settings.{adjacency, adjacencies, is_linked, peer_row}
 use Rattle.plant_model.specs.State.{Connection, Access, Pops, Hands}
 use Rattle.plant_model.specs.Element.{Element}
 use Rattle.plant_model.specs.Outside.{heeded}
-use Rattle.plant_model.specs.Deeds.{Going, element_of, on_connection, with_session, with_inbox, with_access, is_out_empty, is_due, is_tick, input_of, give, fall, say, expire, outside_act, outside_acts, outside_step, outside_input, break_line, tick_outside, tick_lines, our_offer}
+use Rattle.plant_model.specs.Deeds.{Going, element_of, on_connection, with_session, with_inbox, with_access, is_out_empty, is_due, is_tick, input_of, give, fall, say, expire, outside_act, outside_acts, outside_step, outside_input, break_adjacency, tick_outside, tick_adjacencies, our_offer}
 use Rattle.plant_model.specs.Events as events
 use Rattle.plant_model.specs.Events.{is_down}
 use Rattle.plant_model.specs.Blind.{Drained, is_closed, heard, is_accepted}
 use Rattle.plant_laws.proofs.Runs.Heeding.{heeded_bare}
-use Rattle.plant_laws.proofs.Blind.Simulate.{IsConnectionAlike, AreConnectionsAlike, IsAccessAlike, Blank, Full, Sim, access_cond, Both, both_cond, set_pair_same, give_both, rise_both, fall_both, say_both, expire_both, inner_input_both, break_line_both, tick_lines_both}
+use Rattle.plant_laws.proofs.Blind.Simulate.{IsConnectionAlike, AreConnectionsAlike, IsAccessAlike, Blank, Full, Sim, access_cond, Both, both_cond, set_pair_same, give_both, rise_both, fall_both, say_both, expire_both, inner_input_both, break_adjacency_both, tick_adjacencies_both}
 
 module _ (Q : Type 0) (view : As → Pin → Q) (c : Codec) (n : NetworkParts) where
   abbrev U : Type 0
@@ -236,7 +236,7 @@ module _ (Q : Type 0) (view : As → Pin → Q) (c : Codec) (n : NetworkParts) w
       go (x ∷ rest) =
           let u : Full = record s { queues = set_pair a d rest s.queues } in
           let v : Blank Q = record b { queues = set_pair a d rest b.queues } in
-          let both = inner_input_both Q view c n (line a d) d a (input_of c (Some x)) (record { state = u; deeds = Pops a d ∷ [] }) (record { state = v; deeds = Pops a d ∷ [] })
+          let both = inner_input_both Q view c n (adjacency a d) d a (input_of c (Some x)) (record { state = u; deeds = Pops a d ∷ [] }) (record { state = v; deeds = Pops a d ∷ [] })
           (record {
             sim = record { clock = sim.clock; elements = sim.elements; parent = sim.parent; current = sim.current; sessions = sim.sessions; queues = set_pair_same Q view c n a d rest rest b.queues s.queues refl sim.queues; accesses = sim.accesses };
             heard' = refl;
@@ -245,14 +245,14 @@ module _ (Q : Type 0) (view : As → Pin → Q) (c : Codec) (n : NetworkParts) w
 
   pub break_happens : (a d : As) (s : Full) (b : Blank Q) → Sim Q view n s b → Happen (events.break Pin Segment c n open_of a d s) (events.break Q U c n (λ u. []) a d b)
   break_happens a d s b sim =
-      let both = break_line_both Q view c n (line a d) (record { state = s; deeds = [] }) (record { state = b; deeds = [] }) (idle_both s b sim) in
-      happen_cond (is_linked n a d) (events.answered Pin Segment c n open_of Done (break_line Pin Segment c n open_of (line a d) (record { state = s; deeds = [] }))) (events.refused Pin Segment c n open_of NoSuchPeer s)
-      (events.answered Q U c n (λ u. []) Done (break_line Q U c n (λ u. []) (line a d) (record { state = b; deeds = [] }))) (events.refused Q U c n (λ u. []) NoSuchPeer b) (record { sim = both.sim; heard' = both.heard'; accepted = refl }) (record { sim = sim; heard' = refl; accepted = refl })
+      let both = break_adjacency_both Q view c n (adjacency a d) (record { state = s; deeds = [] }) (record { state = b; deeds = [] }) (idle_both s b sim) in
+      happen_cond (is_linked n a d) (events.answered Pin Segment c n open_of Done (break_adjacency Pin Segment c n open_of (adjacency a d) (record { state = s; deeds = [] }))) (events.refused Pin Segment c n open_of NoSuchPeer s)
+      (events.answered Q U c n (λ u. []) Done (break_adjacency Q U c n (λ u. []) (adjacency a d) (record { state = b; deeds = [] }))) (events.refused Q U c n (λ u. []) NoSuchPeer b) (record { sim = both.sim; heard' = both.heard'; accepted = refl }) (record { sim = sim; heard' = refl; accepted = refl })
 
   ticked_both : (now : ℕ) (s : Full) (b : Blank Q) → Sim Q view n s b →
       Both Q view c n
-      (expire Pin Segment c n open_of now (tick_lines Pin Segment c n open_of (lines n) (record { 0 = now }) (tick_outside Pin Segment c n open_of 0 n.peers (record { 0 = now }) (record { state = record s { clock = now }; deeds = [] }))))
-      (expire Q U c n (λ u. []) now (tick_lines Q U c n (λ u. []) (lines n) (record { 0 = now }) (tick_outside Q U c n (λ u. []) 0 n.peers (record { 0 = now }) (record { state = record b { clock = now }; deeds = [] }))))
+      (expire Pin Segment c n open_of now (tick_adjacencies Pin Segment c n open_of (adjacencies n) (record { 0 = now }) (tick_outside Pin Segment c n open_of 0 n.peers (record { 0 = now }) (record { state = record s { clock = now }; deeds = [] }))))
+      (expire Q U c n (λ u. []) now (tick_adjacencies Q U c n (λ u. []) (adjacencies n) (record { 0 = now }) (tick_outside Q U c n (λ u. []) 0 n.peers (record { 0 = now }) (record { state = record b { clock = now }; deeds = [] }))))
   ticked_both now s b sim =
       let g : Going Pin Segment = record { state = record s { clock = now }; deeds = [] } in
       let h : Going Q U = record { state = record b { clock = now }; deeds = [] } in
@@ -262,15 +262,15 @@ module _ (Q : Type 0) (view : As → Pin → Q) (c : Codec) (n : NetworkParts) w
       } in
       let g1 = tick_outside Pin Segment c n open_of 0 n.peers (record { 0 = now }) g in
       let h1 = tick_outside Q U c n (λ u. []) 0 n.peers (record { 0 = now }) h in
-      expire_both Q view c n now (tick_lines Pin Segment c n open_of (lines n) (record { 0 = now }) g1) (tick_lines Q U c n (λ u. []) (lines n) (record { 0 = now }) h1)
-      (tick_lines_both Q view c n (lines n) (record { 0 = now }) g1 h1 (tick_outside_both 0 n.peers (record { 0 = now }) g h both))
+      expire_both Q view c n now (tick_adjacencies Pin Segment c n open_of (adjacencies n) (record { 0 = now }) g1) (tick_adjacencies Q U c n (λ u. []) (adjacencies n) (record { 0 = now }) h1)
+      (tick_adjacencies_both Q view c n (adjacencies n) (record { 0 = now }) g1 h1 (tick_outside_both 0 n.peers (record { 0 = now }) g h both))
 
   pub tick_happens : (t : ℕ) (s : Full) (b : Blank Q) → Sim Q view n s b → Happen (events.tick Pin Segment c n open_of t s) (events.tick Q U c n (λ u. []) t b)
   tick_happens t s b sim =
       let both = ticked_both (events.later s.clock t) s b sim in
       subst (λ (now : ℕ). Happen (events.tick Pin Segment c n open_of t s)
       (events.answered Q U c n (λ u. []) Done
-      (expire Q U c n (λ u. []) now (tick_lines Q U c n (λ u. []) (lines n) (record { 0 = now }) (tick_outside Q U c n (λ u. []) 0 n.peers (record { 0 = now }) (record { state = record b { clock = now }; deeds = [] }))))))
+      (expire Q U c n (λ u. []) now (tick_adjacencies Q U c n (λ u. []) (adjacencies n) (record { 0 = now }) (tick_outside Q U c n (λ u. []) 0 n.peers (record { 0 = now }) (record { state = record b { clock = now }; deeds = [] }))))))
       (ap (λ (clock : ℕ). events.later clock t) (sym sim.clock))
       (record { sim = both.sim; heard' = both.heard'; accepted = refl })
 

@@ -13,10 +13,10 @@ use Rattle.plant_model.specs.Element.{Element, Row, Taken, is_client}
 use Rattle.plant_model.specs.Solving.{commit}
 use Rattle.plant_model.specs.BorderGraph.{Found}
 use Rattle.plant_model.specs.Parent as parent
-use Rattle.plant_text.specs.Settings.{Line, lines, class_of}
+use Rattle.plant_text.specs.Settings.{Adjacency, adjacencies, class_of}
 use Rattle.plant_model.specs.Settings.{place}
 use Rattle.plant_model.specs.State.{Deed}
-use Rattle.plant_model.specs.Deeds.{Going, with_element, with_parent, begin_line}
+use Rattle.plant_model.specs.Deeds.{Going, with_element, with_parent, begin_adjacency}
 use Rattle.plant_model.specs.Deeds as deeds
 use Rattle.plant_model.specs.Events as events
 use Rattle.plant_model.specs.Plant.{Pin, Segment, Happened, opened, first_pin, ElementSolves, ParentSolves}
@@ -25,7 +25,7 @@ use Rattle.plant_laws.proofs.Runs.Decompose.{append_assoc, nil_right}
 use Rattle.plant_laws.proofs.Blind.Strip.{bare, bare_held, bare_looked, bare_lookup}
 use Rattle.plant_laws.proofs.Blind.Alike.{AreAlike, same_alike, Alike}
 use Rattle.plant_laws.proofs.Blind.AlikeSolves.{commit_closed, commit_client}
-use Rattle.plant_laws.proofs.Blind.Simulate.{Blank, Full, Sim, Both, puts_sim, heard_same, with_element_sim, with_parent_sim, begin_line_both}
+use Rattle.plant_laws.proofs.Blind.Simulate.{Blank, Full, Sim, Both, puts_sim, heard_same, with_element_sim, with_parent_sim, begin_adjacency_both}
 use Rattle.plant_laws.proofs.Blind.SimulateEvents.{Happen}
 use Rattle.plant_laws.proofs.Blind.OneJoin.{AllOne}
 use Rattle.plant_laws.proofs.Blind.OneReply.{one_commit}
@@ -38,14 +38,14 @@ module _ (Q : Type 0) (view : As → Pin → Q) (c : Codec) (n : NetworkParts) w
   seen_opening = events.opening Q U c n (λ u. []) (λ d. view d (first_pin d))
 
   -- the opening states
-  begun_both : (xs : List Line) (g : Going Pin Segment) (h : Going Q U) → Both Q view c n g h →
-      Both Q view c n (events.begin_lines Pin Segment c n open_of xs g) (events.begin_lines Q U c n (λ u. []) xs h)
+  begun_both : (xs : List Adjacency) (g : Going Pin Segment) (h : Going Q U) → Both Q view c n g h →
+      Both Q view c n (events.begin_adjacencies Pin Segment c n open_of xs g) (events.begin_adjacencies Q U c n (λ u. []) xs h)
   begun_both [] g h both = both
-  begun_both (x ∷ xs) g h both = begun_both xs (begin_line Pin Segment c n open_of 0 x g) (begin_line Q U c n (λ u. []) 0 x h) (begin_line_both Q view c n 0 x g h both)
+  begun_both (x ∷ xs) g h both = begun_both xs (begin_adjacency Pin Segment c n open_of 0 x g) (begin_adjacency Q U c n (λ u. []) 0 x h) (begin_adjacency_both Q view c n 0 x g h both)
 
   pub opened_both : Both Q view c n (opened c n) seen_opening
   opened_both =
-      begun_both (lines n) (record { state = events.bare Pin Segment c n open_of first_pin; deeds = [] }) (record { state = events.bare Q U c n (λ u. []) (λ d. view d (first_pin d)); deeds = [] })
+      begun_both (adjacencies n) (record { state = events.bare Pin Segment c n open_of first_pin; deeds = [] }) (record { state = events.bare Q U c n (λ u. []) (λ d. view d (first_pin d)); deeds = [] })
       (record {
         sim = record {
           clock = refl;
@@ -114,12 +114,12 @@ module _ (Q : Type 0) (view : As → Pin → Q) (c : Codec) (n : NetworkParts) w
       let r = parent.commit c (k, x.held) x.answer s.parent in
       let r' = parent.commit c (k, x.held) x.answer b.parent in
       let same : r' ≡ r = ap (λ (p : parent.Parent). parent.commit c (k, x.held) x.answer p) sim.parent in
-      let alike : AreAlike n r.outputs r'.outputs = subst (λ (g : parent.Given). AreAlike n r.outputs g.outputs) (sym same) (same_alike n r.outputs) in
+      let alike : AreAlike n r.outputs r'.outputs = subst (λ (g : parent.ParentTaken). AreAlike n r.outputs g.outputs) (sym same) (same_alike n r.outputs) in
       let v = with_parent Pin Segment c n open_of r.parent s in
       let v' = with_parent Q U c n (λ u. []) r'.parent b in
       subst (λ (g : Happened). Happen Q view c n g (seen_upper (k, x.held) x.answer b)) (sym x.is)
       (record {
-        sim = puts_sim Q view c n parent_as r.outputs r'.outputs v v' alike (with_parent_sim Q view c n r.parent r'.parent s b (ap (λ (g : parent.Given). g.parent) same) sim);
+        sim = puts_sim Q view c n parent_as r.outputs r'.outputs v v' alike (with_parent_sim Q view c n r.parent r'.parent s b (ap (λ (g : parent.ParentTaken). g.parent) same) sim);
         heard' = heard_same Q view c n parent_as r.outputs r'.outputs alike;
         accepted = refl;
       })

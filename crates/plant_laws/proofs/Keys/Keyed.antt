@@ -19,10 +19,10 @@ use Rattle.plant_model.specs.Wire.{Bytes, Codec}
 use Rattle.plant_model.specs.Element.{Element}
 use Rattle.plant_model.specs.Taking.{take}
 use Rattle.plant_model.specs.Parent as parent
-use Rattle.plant_text.specs.Settings.{line, class_of, is_linked, peer_row}
+use Rattle.plant_text.specs.Settings.{adjacency, class_of, is_linked, peer_row}
 use Rattle.plant_model.specs.Settings.{place, family}
 use Rattle.plant_model.specs.State.{State, Connection, Loads, Pops, Takes, Says, Ups, Downs, Clears, Solves, Expires, Hands}
-use Rattle.plant_model.specs.Deeds.{Going, element_of, is_tick, any_fall, input_of, with_session, with_inbox, with_element, with_parent, puts, give, fall, outside_acts, outside_step, inner_acts, break_line, with_access, with_inner}
+use Rattle.plant_model.specs.Deeds.{Going, element_of, is_tick, any_fall, input_of, with_session, with_inbox, with_element, with_parent, puts, give, fall, outside_acts, outside_step, inner_acts, break_adjacency, with_access, with_inner}
 use Rattle.plant_model.specs.Outside.{heeded}
 use Rattle.plant_model.specs.Events as events
 use Rattle.plant_model.specs.Events.{is_down}
@@ -32,7 +32,7 @@ use Rattle.plant_laws.specs.Keys.{clock_at, last_keys}
 use Rattle.plant_laws.proofs.Runs.Decompose.{nil_right}
 use Rattle.plant_laws.proofs.Runs.Shape.{shape}
 use Rattle.plant_laws.proofs.Keys.KeysKept.{take_keys}
-use Rattle.plant_laws.proofs.Runs.Calm.{is_plain, Plain, Calm, still, rest_on, one_on, fall_on, quiet_outside, quiet_input_on, break_line_on, other_input_on, keys_set, puts_elements, puts_clock}
+use Rattle.plant_laws.proofs.Runs.Calm.{is_plain, Plain, Calm, still, rest_on, one_on, fall_on, quiet_outside, quiet_input_on, break_adjacency_on, other_input_on, keys_set, puts_elements, puts_clock}
 
 not_both : {X : Type 0} (t : Bool) → t ≡ true → t ≡ false → X
 not_both true e f = cc
@@ -214,8 +214,8 @@ module _ (c : Codec) (n : NetworkParts) where
 
   pub break_calm : (a b : As) (s : Core) → Calm c n s [] (going (events.break Pin Segment c n open_of a b s))
   break_calm a b s =
-      calm_pick s (is_linked n a b) (events.answered Pin Segment c n open_of _ (break_line Pin Segment c n open_of (line a b) (record { state = s; deeds = [] }))) (events.refused Pin Segment c n open_of _ s)
-      (break_line_on c n s [] (line a b) (record { state = s; deeds = [] }) (still c n s [])) (still c n s [])
+      calm_pick s (is_linked n a b) (events.answered Pin Segment c n open_of _ (break_adjacency Pin Segment c n open_of (adjacency a b) (record { state = s; deeds = [] }))) (events.refused Pin Segment c n open_of _ s)
+      (break_adjacency_on c n s [] (adjacency a b) (record { state = s; deeds = [] }) (still c n s [])) (still c n s [])
 
   pub drain_calm : (i holder : ℕ) (s : Core) → Calm c n s [] (going (events.drain Pin Segment c n open_of i holder s))
   drain_calm i holder s = go (s.accesses i).connection
@@ -269,8 +269,8 @@ module _ (c : Codec) (n : NetworkParts) where
           let r = turn_of (u.sessions b a) y in
           let t = with_inner Pin Segment c n open_of b a r.next u in
           elim (shape (u.sessions b a) y) [
-            | inl none ↦ inl (quiet_input_on c n s [] (line a b) b a y g none (one_on c n s [] (record { state = s; deeds = [] }) (Pops a b) u refl refl (λ d. refl) (still c n s [])))
+            | inl none ↦ inl (quiet_input_on c n s [] (adjacency a b) b a y g none (one_on c n s [] (record { state = s; deeds = [] }) (Pops a b) u refl refl (λ d. refl) (still c n s [])))
             | inr pass ↦ inr (subst (λ (as' : List Action). Gives s
-                (cond (any_fall as') (break_line Pin Segment c n open_of (line a b) g) (inner_acts Pin Segment c n open_of b a (is_tick y) as' (record { state = t; deeds = Pops a b ∷ [] })))) (sym pass.2)
+                (cond (any_fall as') (break_adjacency Pin Segment c n open_of (adjacency a b) g) (inner_acts Pin Segment c n open_of b a (is_tick y) as' (record { state = t; deeds = Pops a b ∷ [] })))) (sym pass.2)
                 (give_gives s b (Inner a) pass.0 t.queues s.accesses t.sessions (Pops a b ∷ []) (inr (a, b, refl))))
           ]

@@ -19,14 +19,14 @@ use Rattle.plant_model.specs.declared.event.Event.TheVariants as event
 use Rattle.plant_model.specs.declared.output.Output.{Output}
 use Rattle.plant_text.specs.Names.{same_as, parent_as}
 use Rattle.plant_model.specs.Wire.{Codec}
-use Rattle.plant_model.specs.Element.{Element, Place, Row, Taken, is_client}
+use Rattle.plant_model.specs.Element.{Element, ElementSettings, Row, Taken, is_client}
 use Rattle.plant_model.specs.Taking.{take, answered}
 use Rattle.plant_model.specs.Solving.{commit, client_reply, closed_reply, issued_all}
 use Rattle.plant_model.specs.Parent as parent
-use Rattle.plant_text.specs.Settings.{Line, lines, class_of, life, is_element}
+use Rattle.plant_text.specs.Settings.{Adjacency, adjacencies, class_of, life, is_element}
 use Rattle.plant_model.specs.Settings.{place}
 use Rattle.plant_model.specs.State.{State, Loads, Pops, Takes, Solves}
-use Rattle.plant_model.specs.Deeds.{Going, with_element, with_parent, puts, begin_line, tick_outside, tick_lines}
+use Rattle.plant_model.specs.Deeds.{Going, with_element, with_parent, puts, begin_adjacency, tick_outside, tick_adjacencies}
 use Rattle.plant_model.specs.Events as events
 use Rattle.plant_model.specs.Plant.{Pin, Segment, first_pin, Plant, Happened, Entry, Run, Steps, Happens, opened, deeds_of, load, load_new, refused, is_full, ElementSolves, ParentSolves}
 use Rattle.plant_laws.specs.Transcript.{Transcript, Within}
@@ -34,7 +34,7 @@ use Rattle.plant_laws.specs.Keys.{clock_at, last_keys}
 use Rattle.plant_laws.proofs.Runs.Decompose.{nil_right}
 use Rattle.plant_laws.proofs.Runs.Queues.{same_as_is}
 use Rattle.plant_laws.proofs.Keys.Keyed.{plain_clock, plain_keys, plain_nil, plain_none, earlier_take, TakesNone, Gives, Kind, going, open_calm, shut_calm, feed_calm, break_calm, drain_calm, take_kind, carry_kind}
-use Rattle.plant_laws.proofs.Runs.Calm.{Plain, Calm, still, begin_line_on, tick_outside_on, tick_lines_on, puts_elements, puts_clock}
+use Rattle.plant_laws.proofs.Runs.Calm.{Plain, Calm, still, begin_adjacency_on, tick_outside_on, tick_adjacencies_on, puts_elements, puts_clock}
 use Rattle.plant_laws.proofs.Runs.Lists.{Stands}
 
 not_both : {X : Type 0} (t : Bool) → t ≡ true → t ≡ false → X
@@ -79,11 +79,11 @@ module _ (c : Codec) (n : NetworkParts) where
   taken_pick L true t u x y = x
   taken_pick L false t u x y = y
 
-  closed_life : (e : Place) (h : Row Pin) (down : List Branch) (now : ℕ) (stands : Best → Segment) (k : Element Pin Segment) (best : List Best) → (closed_reply c e h down now stands k best).element.keys.life ≡ k.keys.life
+  closed_life : (e : ElementSettings) (h : Row Pin) (down : List Branch) (now : ℕ) (stands : Best → Segment) (k : Element Pin Segment) (best : List Best) → (closed_reply c e h down now stands k best).element.keys.life ≡ k.keys.life
   closed_life e h down now stands k [] = refl
   closed_life e h down now stands k (b ∷ bs) = taken_pick k.keys.life _ _ _ refl (issued_life now stands (b ∷ bs) k.keys)
 
-  commit_life : (e : Place) (h : Row Pin) (down : List Branch) (now : ℕ) (stands : Best → Segment) (sk tk : Bool) (best : List Best) (k : Element Pin Segment) →
+  commit_life : (e : ElementSettings) (h : Row Pin) (down : List Branch) (now : ℕ) (stands : Best → Segment) (sk tk : Bool) (best : List Best) (k : Element Pin Segment) →
       (commit c e h down now stands sk tk best k).element.keys.life ≡ k.keys.life
   commit_life e h down now stands sk tk best k =
       taken_pick k.keys.life (is_client h.1.item.class) (answered h (client_reply c h down sk tk best) k) (closed_reply c e h down now stands k best) refl (closed_life e h down now stands k best)
@@ -129,19 +129,19 @@ module _ (c : Codec) (n : NetworkParts) where
   -- a tick
   pub ticked_calm : (t : ℕ) (s : Core) →
       (let now = events.later s.clock t in
-      Calm c n (record s { clock = now }) [] (tick_lines Pin Segment c n open_of (lines n) (record { 0 = now }) (tick_outside Pin Segment c n open_of 0 n.peers (record { 0 = now }) (record { state = record s { clock = now }; deeds = [] }))))
+      Calm c n (record s { clock = now }) [] (tick_adjacencies Pin Segment c n open_of (adjacencies n) (record { 0 = now }) (tick_outside Pin Segment c n open_of 0 n.peers (record { 0 = now }) (record { state = record s { clock = now }; deeds = [] }))))
   ticked_calm t s =
       let now = events.later s.clock t in
       let u : Core = record s { clock = now } in
       let g : Going Pin Segment = record { state = u; deeds = [] } in
-      tick_lines_on c n u [] (lines n) (record { 0 = now }) (tick_outside Pin Segment c n open_of 0 n.peers (record { 0 = now }) g)
+      tick_adjacencies_on c n u [] (adjacencies n) (record { 0 = now }) (tick_outside Pin Segment c n open_of 0 n.peers (record { 0 = now }) g)
       (tick_outside_on c n u [] 0 n.peers (record { 0 = now }) g (still c n u []))
 
   tick_keys : (t : ℕ) (ds : Transcript) (s : Core) → KeysAre ds s → KeysAre ((events.tick Pin Segment c n open_of t s).deeds ++ ds) (events.tick Pin Segment c n open_of t s).state
   tick_keys t ds s h =
       let now = events.later s.clock t in
       let u : Core = record s { clock = now } in
-      let g = tick_lines Pin Segment c n open_of (lines n) (record { 0 = now }) (tick_outside Pin Segment c n open_of 0 n.peers (record { 0 = now }) (record { state = u; deeds = [] })) in
+      let g = tick_adjacencies Pin Segment c n open_of (adjacencies n) (record { 0 = now }) (tick_outside Pin Segment c n open_of 0 n.peers (record { 0 = now }) (record { state = u; deeds = [] })) in
       let calm = ticked_calm t s in
       let plain = plain_nil g.deeds calm.more calm.is calm.plain in
       let low = later_least s.clock t in
@@ -233,12 +233,12 @@ module _ (c : Codec) (n : NetworkParts) where
   happens_keys ds s (event.Solve d k) h (inr (inr (inl solves))) held = solve_keys ds s d k h held solves.1
   happens_keys ds s (event.Solve d k) h (inr (inr (inr solves))) held = upper_keys ds s k h held solves.2
 
-  opening_calm : (xs : List Line) (s : Core) (g : Going Pin Segment) → Calm c n s [] g → Calm c n s [] (events.begin_lines Pin Segment c n open_of xs g)
+  opening_calm : (xs : List Adjacency) (s : Core) (g : Going Pin Segment) → Calm c n s [] g → Calm c n s [] (events.begin_adjacencies Pin Segment c n open_of xs g)
   opening_calm [] s g calm = calm
-  opening_calm (x ∷ xs) s g calm = opening_calm xs s (begin_line Pin Segment c n open_of 0 x g) (begin_line_on c n s [] 0 x g calm)
+  opening_calm (x ∷ xs) s g calm = opening_calm xs s (begin_adjacency Pin Segment c n open_of 0 x g) (begin_adjacency_on c n s [] 0 x g calm)
 
   pub opened_calm : Calm c n (events.bare Pin Segment c n open_of first_pin) [] (opened c n)
-  opened_calm = let b = events.bare Pin Segment c n open_of first_pin in opening_calm (lines n) b (record { state = b; deeds = [] }) (still c n b [])
+  opened_calm = let b = events.bare Pin Segment c n open_of first_pin in opening_calm (adjacencies n) b (record { state = b; deeds = [] }) (still c n b [])
 
   pub run_keys : (es : List Entry) (s : Plant) → Run c n es s → KeysAre (deeds_of c n es) s
   run_keys [] s is =

@@ -22,14 +22,14 @@ use Rattle.plant_model.specs.declared.event.Event.TheVariants as event
 use Rattle.plant_model.specs.declared.output.Output.{Output}
 use Rattle.plant_text.specs.Names.{same_as, parent_as}
 use Rattle.plant_model.specs.Wire.{Codec}
-use Rattle.plant_model.specs.Element.{Element, Place, Row, Taken, is_client}
+use Rattle.plant_model.specs.Element.{Element, ElementSettings, Row, Taken, is_client}
 use Rattle.plant_model.specs.Taking.{answered}
 use Rattle.plant_model.specs.Solving.{commit, client_reply, closed_reply, issued_all}
 use Rattle.plant_model.specs.Parent as parent
-use Rattle.plant_text.specs.Settings.{lines, life, is_element}
+use Rattle.plant_text.specs.Settings.{adjacencies, life, is_element}
 use Rattle.plant_model.specs.Settings.{place}
 use Rattle.plant_model.specs.State.{State, Loads, Pops, Takes, Says, Ups, Downs, Clears, Solves, Expires, Hands}
-use Rattle.plant_model.specs.Deeds.{Going, with_element, with_parent, puts, tick_outside, tick_lines}
+use Rattle.plant_model.specs.Deeds.{Going, with_element, with_parent, puts, tick_outside, tick_adjacencies}
 use Rattle.plant_model.specs.Events as events
 use Rattle.plant_model.specs.Plant.{Pin, Segment, first_pin, Plant, PlantDeed, Happened, Entry, Run, Happens, opened, deeds_of, load_new, refused, is_full, ElementSolves, ParentSolves}
 use Rattle.plant_laws.specs.Transcript.{Transcript, Within}
@@ -131,7 +131,7 @@ module _ (c : Codec) (n : NetworkParts) where
   fine_pick now true t u x y = x refl
   fine_pick now false t u x y = y refl
 
-  closed_fine : (e : Place) (h : Row Pin) (down : List Branch) (now : ℕ) (stands : Best → Segment) (k : Element Pin Segment) (best : List Best) → Fine now k.keys → Fine now (closed_reply c e h down now stands k best).element.keys
+  closed_fine : (e : ElementSettings) (h : Row Pin) (down : List Branch) (now : ℕ) (stands : Best → Segment) (k : Element Pin Segment) (best : List Best) → Fine now k.keys → Fine now (closed_reply c e h down now stands k best).element.keys
   closed_fine e h down now stands k [] fine = fine
   closed_fine e h down now stands k (b ∷ bs) fine =
       fine_pick now (nat_lt (free now k.keys) (length (b ∷ bs))) _ _ (λ full. fine) (λ room.
@@ -141,7 +141,7 @@ module _ (c : Codec) (n : NetworkParts) where
       let r = issued_good now stands (b ∷ bs) k.keys fine.are fine.clock (omega (arith, enough, few)) in
       record { are = r.0; clock = r.1 }))
 
-  commit_fine : (e : Place) (h : Row Pin) (down : List Branch) (now : ℕ) (stands : Best → Segment) (sk tk : Bool) (best : List Best) (k : Element Pin Segment) → Fine now k.keys → Fine now (commit c e h down now stands sk tk best k).element.keys
+  commit_fine : (e : ElementSettings) (h : Row Pin) (down : List Branch) (now : ℕ) (stands : Best → Segment) (sk tk : Bool) (best : List Best) (k : Element Pin Segment) → Fine now k.keys → Fine now (commit c e h down now stands sk tk best k).element.keys
   commit_fine e h down now stands sk tk best k fine =
       fine_pick now (is_client h.1.item.class) (answered h (client_reply c h down sk tk best) k) (closed_reply c e h down now stands k best) (λ client. fine) (λ closed. closed_fine e h down now stands k best fine)
 
@@ -156,7 +156,7 @@ module _ (c : Codec) (n : NetworkParts) where
   tick_fine t s fine d =
       let now = events.later s.clock t in
       let u : Core = record s { clock = now } in
-      let g = tick_lines Pin Segment c n open_of (lines n) (record { 0 = now }) (tick_outside Pin Segment c n open_of 0 n.peers (record { 0 = now }) (record { state = u; deeds = [] })) in
+      let g = tick_adjacencies Pin Segment c n open_of (adjacencies n) (record { 0 = now }) (tick_outside Pin Segment c n open_of 0 n.peers (record { 0 = now }) (record { state = u; deeds = [] })) in
       let calm = ticked_calm c n t s in
       subst (λ (k : Keys Segment). Fine g.state.clock (expired_of k now)) (sym (calm.keys d))
       (subst (λ (z : ℕ). Fine z (expired_of (s.elements d).keys now)) (sym calm.clock)

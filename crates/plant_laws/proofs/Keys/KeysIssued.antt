@@ -14,7 +14,7 @@ use Rattle.plant_model.specs.declared.event.Event.TheVariants as event
 use Rattle.plant_model.specs.declared.output.Output.{Output}
 use Rattle.plant_text.specs.Names.{same_as, parent_as}
 use Rattle.plant_model.specs.Wire.{Codec}
-use Rattle.plant_model.specs.Element.{Element, Place, Row, Taken, is_client}
+use Rattle.plant_model.specs.Element.{Element, ElementSettings, Row, Taken, is_client}
 use Rattle.plant_model.specs.Taking.{answered}
 use Rattle.plant_model.specs.Solving.{commit, client_reply, closed_reply, issued_all}
 use Rattle.plant_text.specs.Settings.{is_element}
@@ -84,13 +84,13 @@ module _ (c : Codec) (pce : Addr) (m : Metric) (target : Addr) (down : List Bran
           ]
 
 -- what a commit issues
-record IsTold (c : Codec) (e : Place) (h : Row Pin) (down : List Branch) (now : ℕ) (best : List Best) (t : Taken Pin Segment) (x : Issued Segment) : Type 0 where
+record IsTold (c : Codec) (e : ElementSettings) (h : Row Pin) (down : List Branch) (now : ℕ) (best : List Best) (t : Taken Pin Segment) (x : Issued Segment) : Type 0 where
   pub closed : is_client h.1.item.class ≡ false
   pub paths : List Path
   pub outputs : t.outputs ≡ record { to = h.1.key.peer; message = reply_message h.1.item.flags h.1.key.id (Paths paths) } ∷ []
   pub new : IsNew c e.id h.1.item.wanted.query.metric h.1.item.wanted.target down now best paths x
 
-module _ (c : Codec) (e : Place) (h : Row Pin) (down : List Branch) (now : ℕ) (k : Element Pin Segment) (x : Issued Segment) where
+module _ (c : Codec) (e : ElementSettings) (h : Row Pin) (down : List Branch) (now : ℕ) (k : Element Pin Segment) (x : Issued Segment) where
   abbrev Comes : List Best → Taken Pin Segment → Type 0
   Comes best t = Stands x t.element.keys.issued → Stands x k.keys.issued ⊎ IsTold c e h down now best t x
 

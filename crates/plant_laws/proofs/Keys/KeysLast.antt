@@ -13,7 +13,7 @@ use Rattle.plant_model.specs.declared.event.Event.TheVariants as event
 use Rattle.plant_model.specs.declared.output.Output.{Output}
 use Rattle.plant_text.specs.Names.{same_as, parent_as}
 use Rattle.plant_model.specs.Wire.{Codec}
-use Rattle.plant_model.specs.Element.{Element, Place, Row, Taken, is_client}
+use Rattle.plant_model.specs.Element.{Element, ElementSettings, Row, Taken, is_client}
 use Rattle.plant_model.specs.Taking.{answered}
 use Rattle.plant_model.specs.Solving.{commit, client_reply, closed_reply, issued_all}
 use Rattle.plant_text.specs.Settings.{life, is_element}
@@ -93,7 +93,7 @@ abbrev first_reply : List Output → Bool
 first_reply [] = false
 first_reply (o ∷ os) = is_reply o.message
 
-module _ (c : Codec) (e : Place) (h : Row Pin) (down : List Branch) (now : ℕ) (k : Element Pin Segment) where
+module _ (c : Codec) (e : ElementSettings) (h : Row Pin) (down : List Branch) (now : ℕ) (k : Element Pin Segment) where
   taken_pick : (x : Issued Segment) (b : Bool) (t u : Taken Pin Segment) → Stands x t.element.keys.issued → Stands x u.element.keys.issued → Stands x (cond b t u).element.keys.issued
   taken_pick x true t u f g = f
   taken_pick x false t u f g = g

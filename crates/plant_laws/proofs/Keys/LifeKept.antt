@@ -43,7 +43,7 @@ use Rattle.request_table.specs.Pending.{same_peer, number_of, is_full}
 use Rattle.plant_text.specs.declared.settings.ElementRow.{ElementRow}
 use Rattle.plant_model.specs.Names.{has_pair}
 use Rattle.plant_model.specs.Wire.{Checked, Admitted, Wrong}
-use Rattle.plant_model.specs.Element.{Way, Place, Taken, each, waiting, way_to, is_client}
+use Rattle.plant_model.specs.Element.{Way, ElementSettings, Taken, each, waiting, way_to, is_client}
 use Rattle.plant_model.specs.Taking as taking
 use Rattle.plant_model.specs.Taking.{goes_up, sequence_or, error_answer}
 use Rattle.plant_model.specs.Solving.{closed_reply, issued_all, free}
@@ -64,7 +64,7 @@ each_same : {X : Type 0} (f : X → Elem → Taken Pin Segment) → ((x : X) (k 
 each_same f one [] k = refl
 each_same f one (x ∷ xs) k = each_same f one xs (f x k).element ∙ one x k
 
-module _ (c : Codec) (e : Place) (pin : Pin) (p : Peer) (class : Class) (now : ℕ) where
+module _ (c : Codec) (e : ElementSettings) (pin : Pin) (p : Peer) (class : Class) (now : ℕ) where
   on_same : (flags x : ℕ) (w : Wanted) (sequence rest : List As) (refused : Bool) (k : Elem) (o : Option Way) → Same k (taking.send_on pin p class flags x w sequence rest refused k o)
   on_same flags x w sequence rest refused k None = refl
   on_same flags x w sequence rest refused k (Some way) = pick k way.up _ _ (pick k refused _ _ refl refl) refl
@@ -142,7 +142,7 @@ issued_same : (now : ℕ) (bs : List Best) (keys : Keys Segment) → (issued_all
 issued_same now [] keys = refl
 issued_same now (b ∷ bs) keys = issued_same now bs (issue_of keys now b.segment)
 
-commit_same : (c : Codec) (e : Place) (h : Row Pin) (down : List Branch) (now : ℕ) (s t : Bool) (best : List Best) (k : Elem) → Same k (commit c e h down now (λ b. b.segment) s t best k)
+commit_same : (c : Codec) (e : ElementSettings) (h : Row Pin) (down : List Branch) (now : ℕ) (s t : Bool) (best : List Best) (k : Elem) → Same k (commit c e h down now (λ b. b.segment) s t best k)
 commit_same c e h down now s t best k = pick k (is_client h.1.item.class) _ _ refl (go best)
   where
     go : (bs : List Best) → Same k (closed_reply c e h down now (λ b. b.segment) k bs)

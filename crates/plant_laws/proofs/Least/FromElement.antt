@@ -25,7 +25,7 @@ use Rattle.plant_model.specs.Laws.{IsCodec, IsSequence, Admits}
 use Rattle.plant_laws.specs.Transcript.{Transcript, Within, Standing, SentIn, Handed, Delivered}
 use Rattle.border_costs.proofs.Members.{contains_head}
 use Rattle.plant_laws.proofs.Runs.Moments.{within_here, within_trans, standing_put}
-use Rattle.plant_laws.proofs.Least.Given.{Given, IsAsked}
+use Rattle.plant_laws.proofs.Least.Given.{Premises, IsAsked}
 
 pub within_tail : (e : PlantDeed) (older now : Transcript) → Within (e ∷ older) now → Within older now
 within_tail e older now h = within_trans older (e ∷ older) now (inr (within_here older)) h
@@ -122,7 +122,7 @@ along_sequence d b rest sequence own is = elim (own_sequence d sequence own) [
 abbrev pub on_wanted : Wanted → As → List As → Wanted
 on_wanted w b rest = record w { target = w.target; query = query_in w.query b; sequence = b ∷ rest }
 
-module _ (c : Codec) (codec : IsCodec c) (n : NetworkParts) (now : Transcript) (given : Given c n now) where
+module _ (c : Codec) (codec : IsCodec c) (n : NetworkParts) (now : Transcript) (given : Premises c n now) where
   pub record IsFrom (d b : As) (a : Asked) (at : Transcript) : Type 0 where
     pub put : Transcript
     pub within : Within put now

@@ -25,7 +25,7 @@ use Rattle.plant_model.specs.Element.{upped, downed}
 use Rattle.plant_model.specs.Taking.{take}
 use Rattle.plant_model.specs.Solving.{commit}
 use Rattle.plant_model.specs.Parent as parent
-use Rattle.plant_model.specs.Parent.{Asking, AskingRow, Parent, Given, Errand, Wait, errands, all_waits, all_up, is_ready}
+use Rattle.plant_model.specs.Parent.{Asking, AskingRow, Parent, ParentTaken, Errand, Wait, errands, all_waits, all_up, is_ready}
 use Rattle.plant_text.specs.Settings.{class_of}
 use Rattle.plant_model.specs.Settings.{place, family}
 use Rattle.plant_model.specs.State.{State, Loads, Pops, Takes, Says, Ups, Downs, Clears, Solves, Expires, Hands}
@@ -152,10 +152,10 @@ module _ (c : Codec) (n : NetworkParts) where
 
     -- a request
     module _ (m : Message) where
-      abbrev Fine : Given → Type 0
+      abbrev Fine : ParentTaken → Type 0
       Fine t = (h : AskingRow) → In h t.parent.pending.rows → Comes (Takes parent_as q m t.outputs) ds s h.1
 
-      pick : (b : Bool) (t u : Given) → Fine t → Fine u → Fine (cond b t u)
+      pick : (b : Bool) (t u : ParentTaken) → Fine t → Fine u → Fine (cond b t u)
       pick true t u f g = f
       pick false t u f g = g
 

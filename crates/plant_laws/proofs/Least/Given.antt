@@ -144,7 +144,7 @@ pub record IsSolvedAbove (c : Codec) (n : NetworkParts) (older : Transcript) (k 
   pub each : (row : ChildRow) → Contains held.item.rows row → IsGathered c older taken.at held.item.wanted row
   pub every : (end : Errand) → Contains (errands n.parent_links held.item.wanted.target (family n).children) end → HasReplied c older taken.at held.item.wanted held.item.rows end
 
-pub record Given (c : Codec) (n : NetworkParts) (now : Transcript) : Type 0 where
+pub record Premises (c : Codec) (n : NetworkParts) (now : Transcript) : Type 0 where
   pub owns : (d : As) (m : Transcript) → Within m now → (pinned d m).own ≡ d
   pub solved : (d : As) (k : ℕ) (os : List Output) (keys : List (Issued Segment)) (older : Transcript) → d ≢ parent_as → Within (Solves d k os keys ∷ older) now → IsSolved c n older d k os keys
   pub replied : (e : PlantDeed) (older : Transcript) (d : As) (p : Peer) (r : Reply) (paths : List Path) → d ≢ parent_as → Within (e ∷ older) now →

@@ -33,7 +33,7 @@ use Rattle.plant_laws.specs.Replies.{IsRightful, AreRightful}
 use Rattle.plant_laws.specs.Headline.{IsOfParent, IsOfChain, HasNoneOfChain}
 use Rattle.plant_laws.proofs.Runs.Moments.{no_more}
 use Rattle.plant_laws.proofs.Least.Told.{apart}
-use Rattle.plant_laws.proofs.Least.Given.{Given, IsSolved, RepliesAlone}
+use Rattle.plant_laws.proofs.Least.Given.{Premises, IsSolved, RepliesAlone}
 use Rattle.plant_laws.proofs.Least.ClosedReplies.{has_paths, IsReplyOf, Opens, closes, opens, goes_to}
 use Rattle.plant_laws.proofs.Least.LeastChains.{neighbour_stays, leg, Chained, solve_chained}
 use Rattle.plant_laws.specs.Certified.{Tells}
@@ -49,7 +49,7 @@ closed_class n p = go (is_client (class_of n p))
     go true is = absurd (apart (sym is))
     go false is = refl
 
-module _ (c : Codec) (codec : IsCodec c) (n : NetworkParts) (now : Transcript) (given : Given c n now) where
+module _ (c : Codec) (codec : IsCodec c) (n : NetworkParts) (now : Transcript) (given : Premises c n now) where
   module _ (d : As) (real : d ≢ parent_as) (p : Peer) (r : Reply) (paths : List Path) (tells : Tells r.answer paths) where
     -- by a solve
     module _ (k : ℕ) (os : List Output) (keys : List (Issued Segment)) (older : Transcript) (x : IsSolved c n older d k os keys) (ch : Chained c codec n now given d k os keys older x)
@@ -169,7 +169,7 @@ module _ (c : Codec) (codec : IsCodec c) (n : NetworkParts) (now : Transcript) (
         ]
 
 -- The four statements, over what is given of a run.
-module _ (c : Codec) (codec : IsCodec c) (n : NetworkParts) (now : Transcript) (given : Given c n now) (m older : Transcript) (d : As) where
+module _ (c : Codec) (codec : IsCodec c) (n : NetworkParts) (now : Transcript) (given : Premises c n now) (m older : Transcript) (d : As) where
   pub least_replies : (p : Peer) (r : Reply) → d ≢ parent_as → is_closed n p ≡ true → RepliesAlone now m older d p r → (paths : List Path) → r.answer ≡ Paths paths → IsRightful c n older m d p r paths
   least_replies p r real closed replies paths is =
       closed_rightful c codec n now given d real p r paths (subst (λ (a : Answer). Tells a paths) (sym is) refl) m older closed replies

@@ -49,7 +49,7 @@ use Rattle.plant_laws.proofs.Runs.Queues.{same_as_is}
 use Rattle.plant_laws.proofs.Runs.Moments.{within_here, within_trans, within_length, standing_put, opened_within, chain_later, no_more}
 use Rattle.plant_laws.proofs.Least.OwnFree.{crossing_free, along_free, none_free, shows_free}
 use Rattle.plant_laws.proofs.Least.Told.{apart, entry_of_node, node_of_entry, IsTold}
-use Rattle.plant_laws.proofs.Least.Given.{Given, IsSolved, OfKey, OfParent}
+use Rattle.plant_laws.proofs.Least.Given.{Premises, IsSolved, OfKey, OfParent}
 use Rattle.plant_laws.proofs.Least.AllWays.{AreWays, end_ways, over_ways, on_ways}
 use Rattle.plant_laws.proofs.Least.ClosedReplies.{IsReplyOf, closes, goes_to}
 use Rattle.plant_laws.proofs.Least.FromElement.{within_tail, same_request, same_wanted, no_expansion, same_asked, admits_path, own_sequence, real_next, on_wanted, IsFrom, from_inner, delivered_from, next_admits, IsAlong, sent_along}
@@ -128,7 +128,7 @@ pub neighbour_stays : (parent : Bool) (class : Class) (sequence : List As) → i
 neighbour_stays parent class [] upper goes = apart (sym goes ∙ ap (λ (b : Bool). cond b parent false) upper)
 neighbour_stays parent class (a ∷ rest) upper goes = apart (sym goes)
 
-module _ (c : Codec) (codec : IsCodec c) (n : NetworkParts) (now : Transcript) (given : Given c n now) where
+module _ (c : Codec) (codec : IsCodec c) (n : NetworkParts) (now : Transcript) (given : Premises c n now) where
   abbrev pub Solved : As → ℕ → List Output → List (Issued Segment) → Transcript → Type 0
   Solved d k os keys older = IsSolved c n older d k os keys
 

@@ -43,7 +43,7 @@ use Rattle.plant_laws.proofs.Runs.Own.{run_owns}
 use Rattle.plant_laws.proofs.Keys.LifeKept.{run_lives}
 use Rattle.plant_laws.proofs.Once.RepliedRuns.{replied_of}
 use Rattle.plant_laws.proofs.Runs.SolveMoments.{element_deed, upper_deed, run_moments}
-use Rattle.plant_laws.proofs.Least.Given.{Given, IsSolved, IsSolvedAbove, OfSolve, OfKey, RepliesAlone}
+use Rattle.plant_laws.proofs.Least.Given.{Premises, IsSolved, IsSolvedAbove, OfSolve, OfKey, RepliesAlone}
 use Rattle.plant_laws.proofs.WrittenForm.Again.{all_read}
 use Rattle.plant_laws.proofs.Once.Alone.{sent_alone}
 use Rattle.plant_laws.proofs.Least.GatheredRuns.{has_gathered}
@@ -183,7 +183,7 @@ module _ (c : Codec) (codec : IsCodec c) (n : NetworkParts) (net : IsNetwork n) 
         none_outside n net c codec es s run i (messages.PcReq (key.taken ∷ [])) key.outputs older (subst (λ (z : PlantDeed). Within (z ∷ older) now) key.is w)
   ]
 
-  pub given_of : Given c n now
+  pub given_of : Premises c n now
   given_of =
       let readings = messages_are_read c codec n es s run written in
       record {

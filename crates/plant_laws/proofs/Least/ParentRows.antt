@@ -19,7 +19,7 @@ use Rattle.plant_model.specs.Wire.{Codec}
 use Rattle.plant_model.specs.Writing.{reply_message, unavailable, busy}
 use Rattle.plant_model.specs.Taking.{error_answer}
 use Rattle.plant_model.specs.BorderGraph.{Found}
-use Rattle.plant_model.specs.Parent.{Asking, AskingRow, Parent, Given, each, among, waiting, gathered, gathers, answered, ended, take_answer, take_found, take_reply, told_busy, cancelled, take_busy, take_cancel, notice_steps, take_notice, told_error, take_failure, take_errors, take_report, stays, downed, commit}
+use Rattle.plant_model.specs.Parent.{Asking, AskingRow, Parent, ParentTaken, each, among, waiting, gathered, gathers, answered, ended, take_answer, take_found, take_reply, told_busy, cancelled, take_busy, take_cancel, notice_steps, take_notice, told_error, take_failure, take_errors, take_report, stays, downed, commit}
 use Rattle.plant_laws.specs.About.{told_in}
 use Rattle.plant_laws.proofs.Runs.Rows.{In}
 use Rattle.plant_laws.proofs.Least.RowsKept.{rise_filter, rise_removed, rise_written}
@@ -93,14 +93,14 @@ module _ (Q : Held Asking → Type 0) (c : Codec) (q : Peer) (rs0 : List Reply)
       go true is o f = (inl refl, is)
       go false is o f = further o f
 
-  abbrev pub After : Given → Type 0
+  abbrev pub After : ParentTaken → Type 0
   After t = Holds t.parent
 
-  pick : (b : Bool) (t u : Given) → After t → After u → After (cond b t u)
+  pick : (b : Bool) (t u : ParentTaken) → After t → After u → After (cond b t u)
   pick true t u h k = h
   pick false t u h k = k
 
-  each_after : {X : Type 0} (f : X → Parent → Given) → ((x : X) (k : Parent) → Holds k → After (f x k)) → (xs : List X) (k : Parent) → Holds k → After (each f xs k)
+  each_after : {X : Type 0} (f : X → Parent → ParentTaken) → ((x : X) (k : Parent) → Holds k → After (f x k)) → (xs : List X) (k : Parent) → Holds k → After (each f xs k)
   each_after f one [] k h = h
   each_after f one (x ∷ xs) k h = each_after f one xs (f x k).parent (one x k h)
 
@@ -151,10 +151,10 @@ module _ (Q : Held Asking → Type 0) (c : Codec) (q : Peer) (rs0 : List Reply)
       go None = h
       go (Some number) = ended_keeps number k h
 
-  steps_after : (rp : ℕ × ℕ) (kinds : List (ℕ × ℕ)) (k : Parent) → Holds k → After (each (λ (step : Peer → ℕ × ℕ → Parent → Given). step q rp) (notice_steps kinds) k)
+  steps_after : (rp : ℕ × ℕ) (kinds : List (ℕ × ℕ)) (k : Parent) → Holds k → After (each (λ (step : Peer → ℕ × ℕ → Parent → ParentTaken). step q rp) (notice_steps kinds) k)
   steps_after rp kinds k h = go (has_pair 1 2 kinds) (has_pair 1 1 kinds)
     where
-      go : (b a : Bool) → After (each (λ (step : Peer → ℕ × ℕ → Parent → Given). step q rp) (cond b (cond a (take_busy ∷ take_cancel ∷ []) (take_busy ∷ [])) (cond a (take_cancel ∷ []) [])) k)
+      go : (b a : Bool) → After (each (λ (step : Peer → ℕ × ℕ → Parent → ParentTaken). step q rp) (cond b (cond a (take_busy ∷ take_cancel ∷ []) (take_busy ∷ [])) (cond a (take_cancel ∷ []) [])) k)
       go true true = cancel_after rp (take_busy q rp k).parent (busy_after rp k h)
       go true false = busy_after rp k h
       go false true = cancel_after rp k h
@@ -162,7 +162,7 @@ module _ (Q : Held Asking → Type 0) (c : Codec) (q : Peer) (rs0 : List Reply)
 
   pub notices_after : (notices : List Notice) (k : Parent) → Holds k → After (each (take_notice q) notices k)
   notices_after notices k h =
-      each_after (take_notice q) (λ r k' h'. each_after (λ (rp : ℕ × ℕ). each (λ (step : Peer → ℕ × ℕ → Parent → Given). step q rp) (notice_steps r.kinds)) (λ rp k'' h''. steps_after rp r.kinds k'' h'') r.ids k' h') notices k h
+      each_after (take_notice q) (λ r k' h'. each_after (λ (rp : ℕ × ℕ). each (λ (step : Peer → ℕ × ℕ → Parent → ParentTaken). step q rp) (notice_steps r.kinds)) (λ rp k'' h''. steps_after rp r.kinds k'' h'') r.ids k' h') notices k h
 
   failure_after : (e : ℕ × ℕ) (rp : ℕ × ℕ) (k : Parent) → Holds k → After (take_failure e k (waiting q rp.1 k.pending.rows))
   failure_after e rp k h = go (waiting q rp.1 k.pending.rows)

@@ -44,7 +44,7 @@ use Rattle.vspt_tree.specs.declared.branch.Branch.{Branch}
 use Rattle.request_table.specs.Pending.{same_peer, same_key, NumbersRise, AreNamedOnce}
 use Rattle.request_table.proofs.KeyLemmas.{same_key_is}
 use Rattle.plant_model.specs.Branches.{branches_in}
-use Rattle.plant_model.specs.Element.{at_stage, waits_for, waiting, sent_through, Place}
+use Rattle.plant_model.specs.Element.{at_stage, waits_for, waiting, sent_through, ElementSettings}
 use Rattle.plant_model.specs.Outside.{heeded, heeded_by}
 use Rattle.plant_laws.specs.Transcript.{Within}
 use Rattle.plant_laws.proofs.Runs.Moments.{peer_is}
@@ -205,7 +205,7 @@ one_sequence rows h g once i j key =
     let some : Some h.1.item.sequence ≡ Some g.1.item.sequence = sym (seen_in f rows h once i) ∙ ap (λ (k : RequestKey). seen f k rows) key ∙ seen_in f rows g once j in
     cc
 
-module _ (c : Codec) (e : Place) (pin : Pin) (p : Peer) (class : Class) (now : ℕ) (k : Element Pin Segment) (numbers : NumbersRise 0 k.pending.rows k.pending.given) where
+module _ (c : Codec) (e : ElementSettings) (pin : Pin) (p : Peer) (class : Class) (now : ℕ) (k : Element Pin Segment) (numbers : NumbersRise 0 k.pending.rows k.pending.given) where
   abbrev From : List Reply → Row Pin → Type 0
   From rs h = FromOld c k.pending.rows p rs h.1
 
@@ -237,7 +237,7 @@ module _ (c : Codec) (k : Element Pin Segment) (numbers : NumbersRise 0 k.pendin
       of_rows c k.pending.rows q [] (downed p k).element.pending.rows
       (kept.downed_keeps Pin Segment (FromOld c k.pending.rows q []) c q [] (made_ready c k.pending.rows q []) p k (record { rise = numbers; rows = to_rows c k.pending.rows q [] k.pending.rows (λ g j. j) })).rows h i
 
-  pub commit_from : (e : Place) (row : Row Pin) (down : List Branch) (now : ℕ) (s t : Bool) (best : List _) (h : Row Pin) → In h (commit c e row down now (λ b. b.segment) s t best k).element.pending.rows → FromOld c k.pending.rows q [] h.1
+  pub commit_from : (e : ElementSettings) (row : Row Pin) (down : List Branch) (now : ℕ) (s t : Bool) (best : List _) (h : Row Pin) → In h (commit c e row down now (λ b. b.segment) s t best k).element.pending.rows → FromOld c k.pending.rows q [] h.1
   commit_from e row down now s t best h i =
       of_rows c k.pending.rows q [] (commit c e row down now (λ b. b.segment) s t best k).element.pending.rows
       (kept.commit_keeps Pin Segment (FromOld c k.pending.rows q []) c q [] (made_ready c k.pending.rows q []) c e row down now (λ b. b.segment) s t best k

@@ -22,7 +22,7 @@ use Rattle.plant_text.specs.Names.{parent_as}
 use Rattle.plant_model.specs.Wire.{Codec}
 use Rattle.plant_model.specs.Jobs.{entries_of}
 use Rattle.plant_model.specs.Taking.{answered}
-use Rattle.plant_model.specs.Element.{Element, Row, Place, Taken, is_client}
+use Rattle.plant_model.specs.Element.{Element, Row, ElementSettings, Taken, is_client}
 use Rattle.plant_model.specs.Solving.{commit, client_reply, closed_reply, free}
 use Rattle.plant_model.specs.Parent as parent
 use Rattle.plant_model.specs.BorderGraph.{Found}
@@ -41,7 +41,7 @@ client_entries (Client may) source g is = refl
 client_entries (Neighbour a) source g is = cc
 client_entries Parent source g is = cc
 
-module _ (c : Codec) (e : Place) (h : Row Pin) (down : List Branch) (now : ℕ) (rows : Answer) (k : Element Pin Segment) where
+module _ (c : Codec) (e : ElementSettings) (h : Row Pin) (down : List Branch) (now : ℕ) (rows : Answer) (k : Element Pin Segment) where
   abbrev reply : Message
   reply = client_reply c h down rows.source_known rows.target_known rows.best
 
@@ -69,7 +69,7 @@ module _ (c : Codec) (e : Place) (h : Row Pin) (down : List Branch) (now : ℕ) 
       (λ is. (_, refl, branches (λ none. cc) (ltb-false (free now k.keys) (length (b ∷ bs)) is) refl))
 
 -- what is sent, and to whom
-pub record Said (c : Codec) (e : Place) (h : Row Pin) (down : List Branch) (now : ℕ) (rows : Answer) (k : Element Pin Segment) (os : List Output) : Type 0 where
+pub record Said (c : Codec) (e : ElementSettings) (h : Row Pin) (down : List Branch) (now : ℕ) (rows : Answer) (k : Element Pin Segment) (os : List Output) : Type 0 where
   pub message : Message
   pub one : os ≡ record { to = h.1.key.peer; message = message } ∷ []
   pub to_client : is_client h.1.item.class ≡ true → TellsClient c h down rows message

@@ -29,7 +29,7 @@ use Rattle.plant_model.specs.Names.{has_pair, the_parent}
 use Rattle.plant_model.specs.Wire.{Codec, Checked, Admitted, Wrong}
 use Rattle.plant_model.specs.Writing.{reply_message, unavailable, busy}
 use Rattle.disclosure.specs.Policy.{is_denied}
-use Rattle.plant_model.specs.Element.{Stage, Waits, Ready, Item, Row, Way, Element, Place, Taken, each, ended, at_stage, waiting, waits_for, way_to, with_last, fresh_id, stays, downed, is_client}
+use Rattle.plant_model.specs.Element.{Stage, Waits, Ready, Item, Row, Way, Element, ElementSettings, Taken, each, ended, at_stage, waiting, waits_for, way_to, with_last, fresh_id, stays, downed, is_client}
 use Rattle.plant_model.specs.Routes.{toward}
 use Rattle.plant_model.specs.Branches.{branches_in}
 use Rattle.plant_model.specs.Taking.{item_of, sequence_or, goes_up, send_on, take_along, take_path, take_wish, take_new, take_checked, take_asked, staged, answered, made_ready, take_answer, take_reply, told_busy, cancelled, take_busy, take_cancel, notice_steps, take_notice, error_answer, told_error, take_failure, take_errors, take_report, take}
@@ -223,7 +223,7 @@ module _ (P : Type 0) (S : Type 0) (Q : Held (Item P) → Type 0) (c0 : Codec) (
   errors_after p ids (e ∷ es) k h = each_after (λ rp k'. take_failure e k' (waiting p rp.1 k'.pending.rows)) (failure_after p e) ids k h
 
   -- a new request, with this pin
-  module _ (e : Place) (pin : P) (class : Class)
+  module _ (e : ElementSettings) (pin : P) (class : Class)
       (new : (a : Asked) (r : Request) (w : Wanted) → c0.check a e.own ≡ Admitted r → r.wish ≡ Path w → (sequence : List As) (stage : Stage) → IsFresh sequence stage →
       Q (record { key = key_of p0 r.id; item = item_of pin class r.flags w sequence stage })) where
     abbrev New : ℕ → ℕ → Wanted → Type 0
@@ -291,7 +291,7 @@ module _ (P : Type 0) (S : Type 0) (Q : Held (Item P) → Type 0) (c0 : Codec) (
   pub downed_keeps : (p : Peer) (k : Element P S) → Holds k → After (downed p k)
   downed_keeps p k h = record { rise = rise_filter (Item P) (stays p) 0 k.pending.given k.pending.rows h.rise; rows = rows_filter (stays p) k.pending.rows h.rows }
 
-  pub commit_keeps : (c : Codec) (e : Place) (h : Row P) (down : List Branch) (now : ℕ) (stands : Best → S) (source_known target_known : Bool) (best : List Best) (k : Element P S) →
+  pub commit_keeps : (c : Codec) (e : ElementSettings) (h : Row P) (down : List Branch) (now : ℕ) (stands : Best → S) (source_known target_known : Bool) (best : List Best) (k : Element P S) →
       Holds k → After (commit c e h down now stands source_known target_known best k)
   commit_keeps c e h down now stands source_known target_known best k r =
       after_pick (is_client h.1.item.class) (answered h (client_reply c h down source_known target_known best) k) (closed_reply c e h down now stands k best)

@@ -16,7 +16,7 @@ use Rattle.vspt_tree.specs.declared.branch.Best.{Best}
 use Rattle.vspt_tree.specs.declared.branch.Branch.{Branch}
 use Rattle.plant_model.specs.Names.{the_parent, has_pair}
 use Rattle.plant_model.specs.Wire.{Codec}
-use Rattle.plant_model.specs.Element.{Ready, Item, Row, Element, Place, Taken, each, at_stage, is_ready, waiting, is_client, downed, stays}
+use Rattle.plant_model.specs.Element.{Ready, Item, Row, Element, ElementSettings, Taken, each, at_stage, is_ready, waiting, is_client, downed, stays}
 use Rattle.plant_model.specs.Taking as taking
 use Rattle.plant_model.specs.Taking.{error_answer}
 use Rattle.plant_model.specs.Solving.{commit, closed_reply, free}
@@ -151,7 +151,7 @@ module _ (P : Type 0) where
       pub reports_subs : (rs : List ErrorReport) (k : Element P S) → Subs k (each (taking.take_report p) rs k)
       reports_subs rs k = each_subs (taking.take_report p) (λ r k. report_subs r.ids r.errors k) rs k
 
-    pub commit_subs : (c : Codec) (e : Place) (h : Row P) (down : List Branch) (now : ℕ) (stands : Best → S) (s t : Bool) (best : List Best) (k : Element P S) → Subs k (commit c e h down now stands s t best k)
+    pub commit_subs : (c : Codec) (e : ElementSettings) (h : Row P) (down : List Branch) (now : ℕ) (stands : Best → S) (s t : Bool) (best : List Best) (k : Element P S) → Subs k (commit c e h down now stands s t best k)
     commit_subs c e h down now stands s t best k = choose k (is_client h.1.item.class) _ _ (ends k h.0) (closed best)
       where
         closed : (best : List Best) → Subs k (closed_reply c e h down now stands k best)

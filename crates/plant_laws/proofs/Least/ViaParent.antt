@@ -40,7 +40,7 @@ use Rattle.plant_laws.specs.About.{IsGathered, IsViaParent, HasReplied, upward}
 use Rattle.border_costs.proofs.Members.{contains_head}
 use Rattle.plant_laws.proofs.Numbering.SentOnAsks.{ends_are}
 use Rattle.plant_laws.proofs.Runs.Moments.{within_here, within_trans, standing_put, opened_within, no_more}
-use Rattle.plant_laws.proofs.Least.Given.{Given, IsSolvedAbove, OfKey, OfParent}
+use Rattle.plant_laws.proofs.Least.Given.{Premises, IsSolvedAbove, OfKey, OfParent}
 use Rattle.plant_laws.proofs.Least.Spoken.{one_said, reply_is}
 use Rattle.plant_laws.proofs.Least.LeastChains.{admitted_at}
 use Rattle.plant_laws.proofs.Least.FromElement.{within_tail, same_request, same_wanted, same_asked, admits_path, no_expansion, same_first, along_sequence, real_next, IsFrom, from_inner, delivered_from}
@@ -93,7 +93,7 @@ upward_admits c codec first d flags x w admits id some fits a is r admitted =
     ] in
     subst (λ (z : Asked). Admits c z parent_as vspt_flag id (upward w)) (sym is) (codec.admits_upward first d flags x w admits four id some fits)
 
-module _ (c : Codec) (codec : IsCodec c) (n : NetworkParts) (now : Transcript) (given : Given c n now) where
+module _ (c : Codec) (codec : IsCodec c) (n : NetworkParts) (now : Transcript) (given : Premises c n now) where
   -- what an element sent to the parent
   pub record IsUpward (d : As) (a : Asked) (id : ℕ) (w : Wanted) : Type 0 where
     pub is : a ≡ asked_of id w w.target []

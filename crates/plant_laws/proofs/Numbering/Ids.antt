@@ -14,7 +14,7 @@ use Rattle.plant_model.specs.Writing.{request_message}
 use Rattle.request_table.specs.Pending.{Pending}
 use Rattle.plant_model.specs.Element.{Item, Taken}
 use Rattle.plant_model.specs.Parent as parent
-use Rattle.plant_model.specs.Parent.{Parent, Given, Wait, all_waits}
+use Rattle.plant_model.specs.Parent.{Parent, ParentTaken, Wait, all_waits}
 use Rattle.plant_model.specs.State.{Deed, Pops, Clears}
 use Rattle.plant_model.specs.Plant.{Pin, Segment}
 use Rattle.plant_laws.specs.Transcript.{Transcript, Standing, standing, put_into, outputs_at, left_of, tail_of, asks, count_asks}
@@ -150,7 +150,7 @@ module _ (low : As → As → ℕ) (e : Deed Segment) (ds : Transcript) (E : Ele
                 inr (sym is, (request_message id sent'.0 sent'.0.target (tail_of here.0), In-put b (request_message id sent'.0 sent'.0.target (tail_of here.0)) t.outputs sent'.1, id_of id sent'.0 sent'.0.target (tail_of here.0)))
           ]
 
-  pub parent_ids : (t : Given) → ((a : As) → outputs_at a e ≡ cond (same_as parent_as a) t.outputs []) →
+  pub parent_ids : (t : ParentTaken) → ((a : As) → outputs_at a e ≡ cond (same_as parent_as a) t.outputs []) →
       ((a : As) (x : ℕ) → upper.Named t.parent (Inner a) x → x ≤ low a parent_as) →
       ((b : As) → Rising (put_into b t.outputs) (Last K.ways b) (Last t.parent.ways b) × (Last t.parent.ways b ≤ Last K.ways b + count_asks (put_into b t.outputs))) →
       ((w : Wait) → upper.WaitsFor t.parent w → upper.WaitsFor K w ⊎ upper.IsSent w t.outputs) →

@@ -289,7 +289,7 @@ module _ (c : Codec) (n : NetworkParts) (codec : IsCodec c) (p : Peer) (m : Mess
         go (inr sends) = sent sends sends.to refl
 
   module _ (net : IsNetwork n) (are : ArePending K.pending) (kids : AreKids K) (new : IsNewId parent_as) where
-    abbrev AfterUp : parent.Given
+    abbrev AfterUp : parent.ParentTaken
     AfterUp = parent.take c (family n) p m K
 
     named_up : (a : As) (x : ℕ) → upper.Named AfterUp.parent (Inner a) x → x ≤ low a parent_as

@@ -29,7 +29,7 @@ use Rattle.plant_model.specs.Element.{Stage, Waits, Element, Way, upped, downed,
 use Rattle.plant_model.specs.Taking.{take, sequence_or}
 use Rattle.plant_model.specs.Solving.{commit}
 use Rattle.plant_model.specs.Parent as parent
-use Rattle.plant_text.specs.Settings.{Line, class_of, lines}
+use Rattle.plant_text.specs.Settings.{Adjacency, class_of, adjacencies}
 use Rattle.plant_model.specs.declared.route.Route.{Route}
 use Rattle.plant_model.specs.Routes.{routes, toward}
 use Rattle.plant_model.specs.Settings.{place, family, inner_ways, outer_way, way, ways_along}
@@ -436,7 +436,7 @@ module _ (c : Codec) (codec : IsCodec c) (n : NetworkParts) where
       after e ds s v (held single.1 (short_tail e ds short)) short
       (still e s v (puts_elements c n parent_as r.outputs (with_parent Pin Segment c n open_of r.parent s)) (λ d low. above parent_as d r.outputs refl low)))
 
-  none_yet : (d b : As) (xs : List Line) → last (Inner b) (ways_along d xs) ≡ 0
+  none_yet : (d b : As) (xs : List Adjacency) → last (Inner b) (ways_along d xs) ≡ 0
   none_yet d b [] = refl
   none_yet d b (x ∷ xs) = go (same_as x.lower d) (same_as x.upper d) (none_yet d b xs)
     where
@@ -465,7 +465,7 @@ module _ (c : Codec) (codec : IsCodec c) (n : NetworkParts) where
       go false more none' = more none'
 
   bare_last : If [] (events.bare Pin Segment c n open_of first_pin)
-  bare_last single short d low = (λ b. (none_behind b (inner_ways n d) (routes n d) (none_yet d b (lines n)), λ h none. absurd none), tt)
+  bare_last single short d low = (λ b. (none_behind b (inner_ways n d) (routes n d) (none_yet d b (adjacencies n)), λ h none. absurd none), tt)
 
   -- As long as no id comes round.
   pub run_last : (es : List Entry) (s : Plant) → Run c n es s → AreSingle (deeds_of c n es) → IsShort (deeds_of c n es) → AreLast (deeds_of c n es) s

@@ -27,7 +27,7 @@ use Rattle.plant_model.specs.Wire.{Codec, Checked, Admitted, Wrong}
 use Rattle.plant_model.specs.Laws.{Admits}
 use Rattle.plant_model.specs.Writing.{request_message, error_message, reply_message, unavailable}
 use Rattle.disclosure.specs.Policy.{is_denied}
-use Rattle.plant_model.specs.Element.{Stage, Waits, Ready, Item, Row, Way, Element, Place, Taken, each, is_ready, is_waiting, waits_for, waiting, after_id, pass_over, fresh_id, way_to, with_last, with_up, is_client}
+use Rattle.plant_model.specs.Element.{Stage, Waits, Ready, Item, Row, Way, Element, ElementSettings, Taken, each, is_ready, is_waiting, waits_for, waiting, after_id, pass_over, fresh_id, way_to, with_last, with_up, is_client}
 use Rattle.plant_model.specs.declared.route.Route.{Route}
 use Rattle.plant_model.specs.Routes.{toward}
 use Rattle.plant_model.specs.Taking as taking
@@ -197,7 +197,7 @@ module _ (P : Type 0) where
     abbrev pub Goes : As → List Route → Wanted → Type 0
     Goes own routes w = Known w w.target [] the_parent × ((first b : As) (rest : List As) → sequence_or own w.sequence ≡ first ∷ b ∷ rest → Known w w.target (b ∷ rest) (toward b routes))
 
-    module _ (c : Codec) (show : S → List Hop) (e : Place) (pin : P) (p : Peer) (class : Class) (now : ℕ) (goes : (a : Asked) (flags x : ℕ) (w : Wanted) → Admits c a e.own flags x w → Goes e.own e.routes w) where
+    module _ (c : Codec) (show : S → List Hop) (e : ElementSettings) (pin : P) (p : Peer) (class : Class) (now : ℕ) (goes : (a : Asked) (flags x : ℕ) (w : Wanted) → Admits c a e.own flags x w → Goes e.own e.routes w) where
       opened_rows : (k : Element P S) (x : ℕ) (item : Item P) (Q : Stage → Type 0) → Q item.stage → (h : Row P) → In h (opened_of k.pending p x item).rows →
           ((g : Row P) × In g k.pending.rows × (h.1.item.stage ≡ g.1.item.stage)) ⊎ Q h.1.item.stage
       opened_rows k x item Q q h i = go (in_append h k.pending.rows ((k.pending.given + 1, record { key = key_of p x; item = item }) ∷ []) i)
@@ -339,7 +339,7 @@ module _ (P : Type 0) where
       take_numbers (messages.Other kind) one k = stays k [] tt
 
     -- a solve sends nothing on
-    pub commit_stays : (c : Codec) (e : Place) (h : Row P) (down : List Branch) (now : ℕ) (stands : Best → S) (s t : Bool) (best : List Best) (k : Element P S) →
+    pub commit_stays : (c : Codec) (e : ElementSettings) (h : Row P) (down : List Branch) (now : ℕ) (stands : Best → S) (s t : Bool) (best : List Best) (k : Element P S) →
         ((commit c e h down now stands s t best k).element.ways ≡ k.ways) × NoneAsks (commit c e h down now stands s t best k).outputs
     commit_stays c e h down now stands s t best k = pick k (is_client h.1.item.class) _ _ (client best) (closed best)
       where

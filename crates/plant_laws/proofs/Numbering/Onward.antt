@@ -26,7 +26,7 @@ use Rattle.plant_model.specs.Names.{the_parent, has_pair}
 use Rattle.plant_model.specs.Wire.{Codec, Checked, Admitted, Wrong}
 use Rattle.plant_model.specs.Writing.{request_message, reply_message, error_message, busy, unavailable}
 use Rattle.disclosure.specs.Policy.{is_denied}
-use Rattle.plant_model.specs.Element.{Row, Way, Element, Place, Taken, silent, only, each, waiting, fresh_id, way_to, with_last, with_up, is_client, lost_output}
+use Rattle.plant_model.specs.Element.{Row, Way, Element, ElementSettings, Taken, silent, only, each, waiting, fresh_id, way_to, with_last, with_up, is_client, lost_output}
 use Rattle.plant_model.specs.Routes.{toward}
 use Rattle.plant_model.specs.Taking.{take, take_asked, take_checked, take_new, take_wish, take_path, take_along, send_on, sequence_or, goes_up, answered, take_reply, take_answer, made_ready, take_notice, notice_steps, take_busy, take_cancel, told_busy, cancelled, take_report, take_errors, take_failure, told_error, error_answer}
 use Rattle.plant_model.specs.Solving.{commit, client_reply, closed_reply, free}
@@ -182,7 +182,7 @@ module _ (P : Type 0) (S : Type 0) where
     pub calm_reports : (rs : List ErrorReport) (k : Element P S) → IsCalm k (each (take_report p) rs k)
     calm_reports rs k = calm_each (take_report p) (λ r j. calm_errors r.ids r.errors j) rs k
 
-  pub calm_commit : (c : Codec) (e : Place) (h : Row P) (down : List Branch) (now : ℕ) (stands : Best → S) (source_known target_known : Bool) (best : List Best) (k : Element P S) →
+  pub calm_commit : (c : Codec) (e : ElementSettings) (h : Row P) (down : List Branch) (now : ℕ) (stands : Best → S) (source_known target_known : Bool) (best : List Best) (k : Element P S) →
       IsCalm k (commit c e h down now stands source_known target_known best k)
   calm_commit c e h down now stands source_known target_known best k = calm_pick k (is_client h.1.item.class) _ (closed_reply c e h down now stands k best) (client best) (closed best)
     where
@@ -198,7 +198,7 @@ module _ (P : Type 0) (S : Type 0) where
   abbrev pub GoesTo : List Route → Wanted → Peer → List As → Type 0
   GoesTo routes w to rest = ((to ≡ the_parent) × (rest ≡ [])) ⊎ ((own : As) × (next : As) × (more : List As) × (to ≡ toward next routes) × (rest ≡ next ∷ more) × (w.sequence ≡ own ∷ next ∷ more))
 
-  module _ (c : Codec) (show : S → List Hop) (e : Place) (pin : P) (p : Peer) (class : Class) (now : ℕ) (k : Element P S) where
+  module _ (c : Codec) (show : S → List Hop) (e : ElementSettings) (pin : P) (p : Peer) (class : Class) (now : ℕ) (k : Element P S) where
     pub record SendsOne (t : Taken P S) : Type 0 where
       pub to : Peer
       pub way : Way

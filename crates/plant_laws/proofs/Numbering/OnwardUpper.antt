@@ -24,7 +24,7 @@ use Rattle.plant_model.specs.Wire.{Codec, Checked, Admitted, Wrong}
 use Rattle.plant_model.specs.Writing.{error_message, reply_message, busy, unavailable}
 use Rattle.plant_model.specs.Taking.{error_answer}
 use Rattle.plant_model.specs.BorderGraph.{Found}
-use Rattle.plant_model.specs.Parent.{Wait, Asking, AskingRow, Parent, Family, Given, silent, only, each, errands, ask_all, all_waits, waiting, without, all_up, take, take_asked, take_checked, take_new, take_wish, take_path, answered, gathered, gathers, take_answer, take_found, take_reply, take_busy, take_cancel, told_busy, cancelled, take_notice, notice_steps, take_report, take_errors, take_failure, told_error, commit}
+use Rattle.plant_model.specs.Parent.{Wait, Asking, AskingRow, Parent, Family, ParentTaken, silent, only, each, errands, ask_all, all_waits, waiting, without, all_up, take, take_asked, take_checked, take_new, take_wish, take_path, answered, gathered, gathers, take_answer, take_found, take_reply, take_busy, take_cancel, told_busy, cancelled, take_notice, notice_steps, take_report, take_errors, take_failure, told_error, commit}
 use Rattle.plant_laws.proofs.Runs.Decompose.{nil_right}
 use Rattle.plant_laws.proofs.Once.Handing.{In, IsAsk}
 use Rattle.plant_laws.proofs.Numbering.Sends.{NoneAsks}
@@ -79,15 +79,15 @@ fewer_written q y low high i (row ∷ rows) h up (inr in') less =
     ))
 
 -- nothing is sent on, and no more wait than before
-pub record IsCalm (k : Parent) (t : Given) : Type 0 where
+pub record IsCalm (k : Parent) (t : ParentTaken) : Type 0 where
   pub none : NoneAsks t.outputs
   pub ways : t.parent.ways ≡ k.ways
   pub fewer : (q : Peer) (y : ℕ) → count_waits q y (all_waits t.parent.pending.rows) ≤ count_waits q y (all_waits k.pending.rows)
 
-abbrev Calm : Parent → Given → Type 0
+abbrev Calm : Parent → ParentTaken → Type 0
 Calm k t = IsCalm k t × ArePending t.parent.pending
 
-calm_pick : (k : Parent) (b : Bool) (t u : Given) → Calm k t → Calm k u → Calm k (cond b t u)
+calm_pick : (k : Parent) (b : Bool) (t u : ParentTaken) → Calm k t → Calm k u → Calm k (cond b t u)
 calm_pick k true t u x y = x
 calm_pick k false t u x y = y
 
@@ -97,10 +97,10 @@ calm_silent k are = (record { none = tt; ways = refl; fewer = λ q y. omega arit
 calm_only : (p : Peer) (m : Message) (k : Parent) → (IsAsk m → ⊥) → IsCalm k (only p m k)
 calm_only p m k never = record { none = (never, tt); ways = refl; fewer = λ q y. omega arith }
 
-calm_then : (k : Parent) (t u : Given) → IsCalm k t → Calm t.parent u → Calm k (record { parent = u.parent; outputs = t.outputs ++ u.outputs })
+calm_then : (k : Parent) (t u : ParentTaken) → IsCalm k t → Calm t.parent u → Calm k (record { parent = u.parent; outputs = t.outputs ++ u.outputs })
 calm_then k t u x y = (record { none = none_append t.outputs u.outputs x.none y.0.none; ways = y.0.ways ∙ x.ways; fewer = λ q z. (let a = x.fewer q z in let b = y.0.fewer q z in omega arith) }, y.1)
 
-calm_each : {X : Type 0} (f : X → Parent → Given) → ((x : X) (k : Parent) → ArePending k.pending → Calm k (f x k)) → (xs : List X) (k : Parent) → ArePending k.pending → Calm k (each f xs k)
+calm_each : {X : Type 0} (f : X → Parent → ParentTaken) → ((x : X) (k : Parent) → ArePending k.pending → Calm k (f x k)) → (xs : List X) (k : Parent) → ArePending k.pending → Calm k (each f xs k)
 calm_each f one [] k are = calm_silent k are
 calm_each f one (x ∷ xs) k are = let first = one x k are in calm_then k (f x k) (each f xs (f x k).parent) first.0 (calm_each f one xs (f x k).parent first.1)
 
@@ -146,13 +146,13 @@ module _ (c : Codec) (p : Peer) where
       cancel : (j : Parent) → ArePending j.pending → Calm j (take_cancel p rp j)
       cancel j are' = calm_cancel j are' (number_of j.pending p rp.1)
 
-      one : (f : Peer → ℕ × ℕ → Parent → Given) → ((j : Parent) → ArePending j.pending → Calm j (f p rp j)) → (j : Parent) → ArePending j.pending → Calm j (each (λ (step : Peer → ℕ × ℕ → Parent → Given). step p rp) (f ∷ []) j)
+      one : (f : Peer → ℕ × ℕ → Parent → ParentTaken) → ((j : Parent) → ArePending j.pending → Calm j (f p rp j)) → (j : Parent) → ArePending j.pending → Calm j (each (λ (step : Peer → ℕ × ℕ → Parent → ParentTaken). step p rp) (f ∷ []) j)
       one f calm j are' = let first = calm j are' in calm_then j (f p rp j) (silent (f p rp j).parent) first.0 (calm_silent (f p rp j).parent first.1)
 
-      go : (b b' : Bool) → Calm k (each (λ (step : Peer → ℕ × ℕ → Parent → Given). step p rp) (cond b (cond b' (take_busy ∷ take_cancel ∷ []) (take_busy ∷ [])) (cond b' (take_cancel ∷ []) [])) k)
+      go : (b b' : Bool) → Calm k (each (λ (step : Peer → ℕ × ℕ → Parent → ParentTaken). step p rp) (cond b (cond b' (take_busy ∷ take_cancel ∷ []) (take_busy ∷ [])) (cond b' (take_cancel ∷ []) [])) k)
       go true true =
           let first = busy' k are in
-          calm_then k (take_busy p rp k) (each (λ (step : Peer → ℕ × ℕ → Parent → Given). step p rp) (take_cancel ∷ []) (take_busy p rp k).parent) first.0 (one take_cancel cancel (take_busy p rp k).parent first.1)
+          calm_then k (take_busy p rp k) (each (λ (step : Peer → ℕ × ℕ → Parent → ParentTaken). step p rp) (take_cancel ∷ []) (take_busy p rp k).parent) first.0 (one take_cancel cancel (take_busy p rp k).parent first.1)
       go true false = one take_busy busy' k are
       go false true = one take_cancel cancel k are
       go false false = calm_silent k are
@@ -178,14 +178,14 @@ module _ (c : Codec) (p : Peer) where
 
   pub calm_notices : (ns : List Notice) (k : Parent) → ArePending k.pending → IsCalm k (each (take_notice p) ns k)
   calm_notices ns k are =
-      (calm_each (take_notice p) (λ r j are'. calm_each (λ (rp : ℕ × ℕ). each (λ (step : Peer → ℕ × ℕ → Parent → Given). step p rp) (notice_steps r.kinds)) (λ rp j' are''. calm_steps r.kinds rp j' are'') r.ids j are') ns k are).0
+      (calm_each (take_notice p) (λ r j are'. calm_each (λ (rp : ℕ × ℕ). each (λ (step : Peer → ℕ × ℕ → Parent → ParentTaken). step p rp) (notice_steps r.kinds)) (λ rp j' are''. calm_steps r.kinds rp j' are'') r.ids j are') ns k are).0
 
   pub calm_reports : (rs : List ErrorReport) (k : Parent) → ArePending k.pending → IsCalm k (each (take_report p) rs k)
   calm_reports rs k are = (calm_each (take_report p) (λ r j are'. calm_errors r.ids r.errors j are') rs k are).0
 
   module _ (f : Family) where
     -- the requests to the children
-    pub record SendsAll (k : Parent) (t : Given) : Type 0 where
+    pub record SendsAll (k : Parent) (t : ParentTaken) : Type 0 where
       pub asked : Asked
       pub flags : ℕ
       pub id : ℕ
@@ -197,10 +197,10 @@ module _ (c : Codec) (p : Peer) where
       pub waits : (q : Peer) (y : ℕ) → count_waits q y (all_waits t.parent.pending.rows)
           ≡ count_waits q y (all_waits k.pending.rows) + count_waits q y (ask_all wanted (all_waits k.pending.rows) (errands f.links wanted.target f.children) k.ways).waits
 
-    abbrev pub Sends : Parent → Given → Type 0
+    abbrev pub Sends : Parent → ParentTaken → Type 0
     Sends k t = IsCalm k t ⊎ SendsAll k t
 
-    pick : (k : Parent) (b : Bool) (t u : Given) → (b ≡ true → Sends k t) → (b ≡ false → Sends k u) → Sends k (cond b t u)
+    pick : (k : Parent) (b : Bool) (t u : ParentTaken) → (b ≡ true → Sends k t) → (b ≡ false → Sends k u) → Sends k (cond b t u)
     pick k true t u x y = x refl
     pick k false t u x y = y refl
 

@@ -24,7 +24,7 @@ use Rattle.plant_text.specs.Names.{same_as, parent_as}
 use Rattle.plant_model.specs.Names.{has_pair, the_parent}
 use Rattle.plant_model.specs.Wire.{Codec, Checked, Admitted, Wrong}
 use Rattle.disclosure.specs.Policy.{is_denied}
-use Rattle.plant_model.specs.Element.{Element, Row, Way, Place, Taken, each, way_to, is_client, lost, lost_output, downed, waiting, upped}
+use Rattle.plant_model.specs.Element.{Element, Row, Way, ElementSettings, Taken, each, way_to, is_client, lost, lost_output, downed, waiting, upped}
 use Rattle.plant_model.specs.Routes.{toward}
 use Rattle.plant_model.specs.Taking.{take, take_asked, take_checked, take_new, take_wish, take_path, take_along, send_on, sequence_or, goes_up, take_reply, take_answer, made_ready, take_notice, notice_steps, take_busy, take_cancel, told_busy, cancelled, take_report, take_errors, take_failure, told_error, error_answer}
 use Rattle.plant_model.specs.Writing.{error_message, reply_message, unavailable}
@@ -102,7 +102,7 @@ module _ (P : Type 0) (S : Type 0) where
   each_none f [] k h = tt
   each_none f (x ∷ xs) k h = none_append (f x k).outputs (each f xs (f x k).element).outputs (h x k) (each_none f xs (f x k).element h)
 
-  module _ (c : Codec) (show : S → List Hop) (e : Place) (pin : P) (p : Peer) (class : Class) (now : ℕ) where
+  module _ (c : Codec) (show : S → List Hop) (e : ElementSettings) (pin : P) (p : Peer) (class : Class) (now : ℕ) where
     send_short : (flags x : ℕ) (w : Wanted) (sequence rest : List As) (refused : Bool) (k : Element P S) (way : Option Way) →
         length (send_on pin p class flags x w sequence rest refused k way).outputs ≤ 1
     send_short flags x w sequence rest refused k None = omega arith
@@ -201,7 +201,7 @@ abbrev pub IsOne : List Output → Type 0
 IsOne os = (o : Output) × (os ≡ o ∷ [])
 
 -- a solve sends one message
-pub commit_one : {P S : Type 0} (c : Codec) (e : Place) (h : Row P) (down : List Branch) (now : ℕ) (stands : Best → S) (source_known target_known : Bool) (best : List Best) (k : Element P S) →
+pub commit_one : {P S : Type 0} (c : Codec) (e : ElementSettings) (h : Row P) (down : List Branch) (now : ℕ) (stands : Best → S) (source_known target_known : Bool) (best : List Best) (k : Element P S) →
     IsOne (commit c e h down now stands source_known target_known best k).outputs
 commit_one {P} {S} c e h down now stands source_known target_known best k = pick (is_client h.1.item.class) _ (closed_reply c e h down now stands k best) (_, refl) (closed best)
   where

@@ -19,7 +19,7 @@ use Rattle.plant_model.specs.Names.{the_parent, same_id}
 use Rattle.plant_model.specs.Wire.{Codec, Checked, Admitted, Wrong}
 use Rattle.plant_model.specs.Writing.{request_message, busy}
 use Rattle.disclosure.specs.Policy.{is_denied}
-use Rattle.plant_model.specs.Element.{Stage, Waits, Ready, Item, Row, Way, Element, Place, Taken, silent, only, waits_for, is_waiting, fresh_id, way_to}
+use Rattle.plant_model.specs.Element.{Stage, Waits, Ready, Item, Row, Way, Element, ElementSettings, Taken, silent, only, waits_for, is_waiting, fresh_id, way_to}
 use Rattle.plant_model.specs.Routes.{toward}
 use Rattle.plant_model.specs.Taking as taking
 use Rattle.plant_model.specs.Taking.{take, sequence_or, goes_up}
@@ -74,7 +74,7 @@ fresh_apart b y (row ∷ rows) free g i =
     here miss rec (inl is) = subst (λ (r : Row _). wait_alike (Waits b y) r.1.item.stage ≡ false) is (apart row.1.item.stage miss)
     here miss rec (inr j) = rec j
 
-module _ (P : Type 0) (S : Type 0) (c : Codec) (show : S → List Hop) (e : Place) (pin : P) (p : Peer) (class : Class) (now : ℕ) (k : Element P S) (few : length k.pending.rows < 4294967294) where
+module _ (P : Type 0) (S : Type 0) (c : Codec) (show : S → List Hop) (e : ElementSettings) (pin : P) (p : Peer) (class : Class) (now : ℕ) (k : Element P S) (few : length k.pending.rows < 4294967294) where
   abbrev pub IsNew : List Output → Row P → Type 0
   IsNew os h =
       (number_among h.1.key k.pending.rows ≡ None) × IsSentIn e.routes os h.1.item h.1.item.stage

@@ -24,7 +24,7 @@ use Rattle.plant_model.specs.Wire.{Codec, Checked, Admitted}
 use Rattle.plant_model.specs.Writing.{error_message, reply_message, unavailable, busy, request_message}
 use Rattle.plant_model.specs.Branches.{branches_in}
 use Rattle.disclosure.specs.Policy.{is_denied}
-use Rattle.plant_model.specs.Element.{Stage, Waits, Ready, Element, Item, Row, Way, Place, Taken, silent, only, is_client, way_to, waiting, waits_for, at_stage, fresh_id, with_last}
+use Rattle.plant_model.specs.Element.{Stage, Waits, Ready, Element, Item, Row, Way, ElementSettings, Taken, silent, only, is_client, way_to, waiting, waits_for, at_stage, fresh_id, with_last}
 use Rattle.plant_model.specs.Routes.{toward}
 use Rattle.plant_model.specs.Taking.{take, take_asked, take_checked, take_new, take_path, take_along, send_on, item_of, sequence_or, goes_up, answered, staged, take_answer, made_ready, told_busy, take_failure}
 use Rattle.plant_laws.proofs.Once.Handing.{In}
@@ -133,7 +133,7 @@ module _ (P : Type 0) (S : Type 0) where
     over_ready h (Paths ps) is = over_staged h (branches_in c h.1.item.wanted.query.metric ps) is
     over_ready h (NoPath nature vector) is = over_pick (nature == 0) _ _ (over_staged h [] is) (over_answered h (reply_message h.1.item.flags h.1.key.id unavailable) is)
 
-    module _ (show : S → List Hop) (e : Place) (pin : P) (class : Class) (now : ℕ) where
+    module _ (show : S → List Hop) (e : ElementSettings) (pin : P) (class : Class) (now : ℕ) where
       pub reply_over : (flags : ℕ) (a : Answer) → IsOver (take c show e pin q class now (reply_message flags y a) k)
       reply_over flags a = go (waiting q y k.pending.rows) refl
         where
@@ -164,7 +164,7 @@ module _ (P : Type 0) (S : Type 0) where
 
   -- ---- a request comes from q, which has none of this id pending
 
-  module _ (c : Codec) (q : Peer) (k : Element P S) (show : S → List Hop) (e : Place) (pin : P) (class : Class) (closed : is_client class ≡ false) (now : ℕ) where
+  module _ (c : Codec) (q : Peer) (k : Element P S) (show : S → List Hop) (e : ElementSettings) (pin : P) (class : Class) (closed : is_client class ≡ false) (now : ℕ) where
     abbrev IsSeen : ℕ → List As → Taken P S → Type 0
     IsSeen y sequence t = Named P S t.element q y sequence ⊎ (Answered q y t.outputs)
 

@@ -20,7 +20,7 @@ use Rattle.plant_model.specs.Wire.{Codec, Checked, Admitted, Wrong}
 use Rattle.plant_model.specs.Writing.{error_message, reply_message, unavailable, busy}
 use Rattle.plant_model.specs.Branches.{branches_in}
 use Rattle.plant_model.specs.Element.{lost_output}
-use Rattle.plant_model.specs.Parent.{Wait, Asking, AskingRow, Parent, Family, Given, only, errands, ask_all, all_waits, among, waiting, without, all_up, take, take_asked, take_checked, take_new, take_path, answered, gathered, gathers, take_answer, take_found, told_busy, take_failure, any_on, stays, is_lost, lost, lost_of, downed}
+use Rattle.plant_model.specs.Parent.{Wait, Asking, AskingRow, Parent, Family, ParentTaken, only, errands, ask_all, all_waits, among, waiting, without, all_up, take, take_asked, take_checked, take_new, take_path, answered, gathered, gathers, take_answer, take_found, told_busy, take_failure, any_on, stays, is_lost, lost, lost_of, downed}
 use Rattle.plant_laws.specs.Transcript.{one_if}
 use Rattle.plant_laws.proofs.Once.Handing.{In}
 use Rattle.plant_laws.proofs.Once.CountingUpper.{waiting_in}
@@ -130,10 +130,10 @@ waiting_none q y (g ∷ rows) e = go (among q g.1.item.waits y) refl e (waiting_
 -- ---- an answer to the id y comes from q, and one wait is for it at most
 
 module _ (c : Codec) (f : Family) (q : Peer) (y : ℕ) (k : Parent) (are : ArePending k.pending) (once : count_waits q y (all_waits k.pending.rows) ≤ 1) where
-  abbrev IsOver : Given → Type 0
+  abbrev IsOver : ParentTaken → Type 0
   IsOver t = count_waits q y (all_waits t.parent.pending.rows) ≡ 0
 
-  over_pick : (b : Bool) (t u : Given) → IsOver t → IsOver u → IsOver (cond b t u)
+  over_pick : (b : Bool) (t u : ParentTaken) → IsOver t → IsOver u → IsOver (cond b t u)
   over_pick true t u g g' = g
   over_pick false t u g g' = g'
 
@@ -202,10 +202,10 @@ ask_seen c f q k a flags y w admitted fresh =
     (seen_pick (is_full k.pending) _ (cond (all_up f.children k.ways) (take_path f q flags y w k) (only q (reply_message flags y unavailable) k)) (inr (answer_there q y (busy flags y) (busy_answers flags y)))
     (seen_pick (all_up f.children k.ways) (take_path f q flags y w k) _ opened (inr (answer_there q y (reply_message flags y unavailable) (reply_answers flags y unavailable))))))
   where
-    IsSeen : Given → Type 0
+    IsSeen : ParentTaken → Type 0
     IsSeen t = Named t.parent q y ⊎ (Answered q y t.outputs)
 
-    seen_pick : (b : Bool) (t u : Given) → IsSeen t → IsSeen u → IsSeen (cond b t u)
+    seen_pick : (b : Bool) (t u : ParentTaken) → IsSeen t → IsSeen u → IsSeen (cond b t u)
     seen_pick true t u g g' = g
     seen_pick false t u g g' = g'
 

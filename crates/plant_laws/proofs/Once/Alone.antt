@@ -22,7 +22,7 @@ use Rattle.plant_model.specs.Element.{upped, downed, lost, sent_through}
 use Rattle.plant_model.specs.Taking.{take}
 use Rattle.plant_model.specs.Solving.{commit}
 use Rattle.plant_model.specs.Parent as parent
-use Rattle.plant_text.specs.Settings.{Line, line, class_of}
+use Rattle.plant_text.specs.Settings.{Adjacency, adjacency, class_of}
 use Rattle.plant_model.specs.Settings.{place, family}
 use Rattle.plant_model.specs.State.{Deed, Loads, Pops, Takes, Says, Ups, Downs, Clears, Solves, Expires, Hands}
 use Rattle.plant_model.specs.Deeds.{element_of, own_message, with_parent, with_element, puts, give, rise, fall}
@@ -199,7 +199,7 @@ module _ (c : Codec) (codec : IsCodec c) (n : NetworkParts) where
       (record { state = with_element Pin Segment c n open_of at (upped p (s.elements at)) s; deeds = Ups at p ∷ [] })
       (tt, all) (tt, all)
 
-  broken_alone : (x : Line) (g : Move) (ds : Transcript) → AllSo (g.deeds ++ ds) → AllSo ((broken c n x g).deeds ++ ds)
+  broken_alone : (x : Adjacency) (g : Move) (ds : Transcript) → AllSo (g.deeds ++ ds) → AllSo ((broken c n x g).deeds ++ ds)
   broken_alone x g ds all =
       let f = fall Pin Segment c n open_of x.lower (Inner x.upper) g in
       (tt, fall_alone x.upper (Inner x.lower) f ds (fall_alone x.lower (Inner x.upper) g ds all))
@@ -232,7 +232,7 @@ module _ (c : Codec) (codec : IsCodec c) (n : NetworkParts) where
   step_alone ds s t es again stand all (says at p o s') = (alone_own o, all)
   step_alone ds s t es again stand all (expires now s') = (tt, all)
   step_alone ds s t es again stand all (breaks x s') = broken_alone x (at_start s) ds all
-  step_alone ds s t es again stand all (drops a b bytes rest s' is) = broken_alone (line a b) (after_pop a b (with_rest a b rest s)) ds (tt, all)
+  step_alone ds s t es again stand all (drops a b bytes rest s' is) = broken_alone (adjacency a b) (after_pop a b (with_rest a b rest s)) ds (tt, all)
 
   abbrev Both : Transcript → Plant → Type 0
   Both ds s = AreReadAgain c ds → Stand c n ds s × AllSo ds

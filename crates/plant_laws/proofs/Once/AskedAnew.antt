@@ -19,11 +19,11 @@ use Rattle.plant_text.specs.Names.{parent_as}
 use Rattle.plant_model.specs.Names.{the_parent, has_pair}
 use Rattle.plant_model.specs.Wire.{Codec, Checked, Admitted, Wrong}
 use Rattle.plant_model.specs.Writing.{error_message, reply_message, request_message, busy, unavailable, no_key, ids_of}
-use Rattle.plant_model.specs.Element.{Element, Way, Place, Taken, fresh_id, way_to, with_last}
+use Rattle.plant_model.specs.Element.{Element, Way, ElementSettings, Taken, fresh_id, way_to, with_last}
 use Rattle.plant_model.specs.Routes.{toward}
 use Rattle.plant_model.specs.Taking.{take, take_asked, take_checked, take_new, take_wish, take_path, take_along, send_on, sequence_or, goes_up, expansion}
 use Rattle.plant_model.specs.Parent as parent
-use Rattle.plant_model.specs.Parent.{Family, Parent, Given, Wait, Errand}
+use Rattle.plant_model.specs.Parent.{Family, Parent, ParentTaken, Wait, Errand}
 use Rattle.plant_laws.specs.Transcript.{one_if, has_id, count_answers, answers_to}
 use Rattle.plant_laws.proofs.Once.Counting.{answers_append, reply_at, busy_at}
 
@@ -63,7 +63,7 @@ error_under x rp kind value = go rp (has_pair 8 0 ((kind, value) ∷ []))
     go (Some r) b = either b (r.1 == x)
 
 -- an element
-module _ (P : Type 0) (S : Type 0) (show : S → List Hop) (e : Place) (pin : P) (p : Peer) (class : Class) (now : ℕ) (q : Peer) (x : ℕ) where
+module _ (P : Type 0) (S : Type 0) (show : S → List Hop) (e : ElementSettings) (pin : P) (p : Peer) (class : Class) (now : ℕ) (q : Peer) (x : ℕ) where
   abbrev says : Taken P S → ℕ
   says t = answers_to q x t.outputs
 
@@ -120,10 +120,10 @@ module _ (P : Type 0) (S : Type 0) (show : S → List Hop) (e : Place) (pin : P)
 
 -- the parent
 module _ (f : Family) (p : Peer) (q : Peer) (x : ℕ) where
-  abbrev says_above : Given → ℕ
+  abbrev says_above : ParentTaken → ℕ
   says_above t = answers_to q x t.outputs
 
-  pick_above : (n : ℕ) (b : Bool) (t u : Given) → says_above t ≤ n → says_above u ≤ n → says_above (cond b t u) ≤ n
+  pick_above : (n : ℕ) (b : Bool) (t u : ParentTaken) → says_above t ≤ n → says_above u ≤ n → says_above (cond b t u) ≤ n
   pick_above n true t u h g = h
   pick_above n false t u h g = g
 

@@ -23,11 +23,11 @@ use Rattle.plant_model.specs.Names.{the_parent}
 use Rattle.plant_model.specs.Wire.{Codec, Checked, Admitted, Wrong}
 use Rattle.plant_model.specs.Writing.{reply_message, unavailable, no_key}
 use Rattle.disclosure.specs.Policy.{is_denied}
-use Rattle.plant_model.specs.Element.{Element, Way, Place, Taken, way_to, with_last, upped, downed}
+use Rattle.plant_model.specs.Element.{Element, Way, ElementSettings, Taken, way_to, with_last, upped, downed}
 use Rattle.plant_model.specs.Routes.{toward}
 use Rattle.plant_model.specs.Taking.{take, take_asked, take_checked, take_new, take_wish, take_along, send_on, sequence_or, goes_up, expansion}
 use Rattle.plant_model.specs.Parent as parent
-use Rattle.plant_model.specs.Parent.{Family, Parent, Given, Wait, Errand}
+use Rattle.plant_model.specs.Parent.{Family, Parent, ParentTaken, Wait, Errand}
 use Rattle.plant_text.specs.Settings.{class_of}
 use Rattle.plant_model.specs.Settings.{place, family}
 use Rattle.plant_model.specs.State.{State, Deed, Loads, Pops, Takes, Says, Ups, Downs, Clears, Solves, Expires, Hands}
@@ -65,7 +65,7 @@ same_reply flags x a r e =
 abbrev OfId : ℕ → Reply → Type 0
 OfId x r = r.id ≡ x
 
-module _ (P : Type 0) (S : Type 0) (show : S → List Hop) (e : Place) (pin : P) (p : Peer) (class : Class) (now : ℕ) where
+module _ (P : Type 0) (S : Type 0) (show : S → List Hop) (e : ElementSettings) (pin : P) (p : Peer) (class : Class) (now : ℕ) where
   sends : (flags x : ℕ) (w : Wanted) (sequence rest : List As) (r : Bool) (k : Element P S) (o : Option Way) → EachReply (OfId x) (send_on pin p class flags x w sequence rest r k o).outputs
   sends flags x w sequence rest r k None = ((λ q is. same_reply flags x unavailable q is), tt)
   sends flags x w sequence rest r k (Some way) =
@@ -102,8 +102,8 @@ module _ (f : Family) (p : Peer) where
   upper_wishes : (flags x : ℕ) (k : Parent) (wish : Wish) → EachReply (OfId x) (parent.take_wish f p flags x k wish).outputs
   upper_wishes flags x k (Expand key pce) = ((λ q is. same_reply flags x no_key q is), tt)
   upper_wishes flags x k (Path w) =
-      pick (λ (t : Given). t.outputs) (OfId x) (is_full k.pending) _ _ ((λ q is. absurd (cc)), tt)
-      (pick (λ (t : Given). t.outputs) (OfId x) (parent.all_up f.children k.ways) _ _
+      pick (λ (t : ParentTaken). t.outputs) (OfId x) (is_full k.pending) _ _ ((λ q is. absurd (cc)), tt)
+      (pick (λ (t : ParentTaken). t.outputs) (OfId x) (parent.all_up f.children k.ways) _ _
       (all_asked x w (parent.all_waits k.pending.rows) (parent.errands f.links w.target f.children) k.ways) ((λ q is. same_reply flags x unavailable q is), tt))
 
   upper_news : (r : Request) (k : Parent) (o : Option ℕ) → EachReply (OfId r.id) (parent.take_new f p r k o).outputs

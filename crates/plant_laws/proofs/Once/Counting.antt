@@ -24,7 +24,7 @@ use Rattle.plant_model.specs.Wire.{Codec, Checked, Admitted, Wrong}
 use Rattle.plant_model.specs.Writing.{error_message, reply_message, unavailable, busy, no_path}
 use Rattle.plant_model.specs.Branches.{branches_in, open_branch, path_of}
 use Rattle.disclosure.specs.Policy.{is_denied}
-use Rattle.plant_model.specs.Element.{Stage, Waits, Ready, Element, Row, Way, Place, Taken, silent, only, each, way_to, waiting, waits_for, at_stage, is_client, lost, is_lost, lost_output, stays, downed}
+use Rattle.plant_model.specs.Element.{Stage, Waits, Ready, Element, Row, Way, ElementSettings, Taken, silent, only, each, way_to, waiting, waits_for, at_stage, is_client, lost, is_lost, lost_output, stays, downed}
 use Rattle.plant_model.specs.Routes.{toward}
 use Rattle.plant_model.specs.Taking.{take, take_asked, take_checked, take_new, take_wish, take_path, take_along, send_on, item_of, sequence_or, goes_up, expansion, answered, staged, take_reply, take_answer, made_ready, take_notice, notice_steps, take_busy, take_cancel, told_busy, cancelled, take_report, take_errors, take_failure, told_error, error_answer}
 use Rattle.vspt_tree.specs.declared.branch.Best.{Best}
@@ -239,7 +239,7 @@ module _ (P : Type 0) (S : Type 0) where
     abbrev HasRoom : Element P S → ℕ → Type 0
     HasRoom k x = (length k.pending.rows < k.pending.limit) × (k.pending.given + 1 < 2 ^ 64) × (number_of k.pending p x ≡ None)
 
-    module _ (show : S → List Hop) (e : Place) (pin : P) (class : Class) (now : ℕ) where
+    module _ (show : S → List Hop) (e : ElementSettings) (pin : P) (class : Class) (now : ℕ) where
       asks_send : (flags x : ℕ) (w : Wanted) (sequence rest : List As) (refused : Bool) (k : Element P S) → ArePending k.pending → HasRoom k x → (way : Option Way) →
           Asks (send_on pin p class flags x w sequence rest refused k way)
       asks_send flags x w sequence rest refused k are room None = asks_only (reply_message flags x unavailable) k are
@@ -336,7 +336,7 @@ module _ (P : Type 0) (S : Type 0) where
   once_answered : (h : Row P) (m : Message) (k : Element P S) → ArePending k.pending → AnswersAt h.1.key.id m → IsOnce (answered h m k)
   once_answered h m k are at = (ended_pending h.0 k.pending are, λ q x. omega (arith, one_answer h m at q x, one_if_le (same_key h.1.key (key_of q x))))
 
-  pub commit_once : (c : Codec) (e : Place) (h : Row P) (down : List Branch) (now : ℕ) (stands : Best → S) (source_known target_known : Bool) (best : List Best) (k : Element P S) → ArePending k.pending →
+  pub commit_once : (c : Codec) (e : ElementSettings) (h : Row P) (down : List Branch) (now : ℕ) (stands : Best → S) (source_known target_known : Bool) (best : List Best) (k : Element P S) → ArePending k.pending →
       IsOnce (commit c e h down now stands source_known target_known best k)
   commit_once c e h down now stands source_known target_known best k are =
       once_pick (is_client h.1.item.class) _ (closed_reply c e h down now stands k best)
@@ -371,7 +371,7 @@ module _ (P : Type 0) (S : Type 0) where
   busy_answers : (h : Row P) (k : Element P S) → Answers h (answered h (busy h.1.item.flags h.1.key.id) k)
   busy_answers h k = answers_by h (busy h.1.item.flags h.1.key.id) k (ap (λ (b : Bool). one_if (cond b true false) + 0) (eq-eqb h.1.key.id h.1.key.id refl))
 
-  pub commit_answers : (c : Codec) (e : Place) (h : Row P) (down : List Branch) (now : ℕ) (stands : Best → S) (source_known target_known : Bool) (best : List Best) (k : Element P S) →
+  pub commit_answers : (c : Codec) (e : ElementSettings) (h : Row P) (down : List Branch) (now : ℕ) (stands : Best → S) (source_known target_known : Bool) (best : List Best) (k : Element P S) →
       Answers h (commit c e h down now stands source_known target_known best k)
   commit_answers c e h down now stands source_known target_known best k =
       answers_pick h (is_client h.1.item.class) _ (closed_reply c e h down now stands k best) (client best) (closed best)

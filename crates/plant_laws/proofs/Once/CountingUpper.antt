@@ -22,7 +22,7 @@ use Rattle.plant_model.specs.Branches.{branches_in, path_of}
 use Rattle.plant_model.specs.Element.{Way, lost_output, with_last}
 use Rattle.plant_model.specs.Taking.{error_answer}
 use Rattle.plant_model.specs.BorderGraph.{Found}
-use Rattle.plant_model.specs.Parent.{Wait, AskingRow, Parent, Family, Given, Errand, silent, only, each, errands, ask_all, all_waits, next_id, among, waiting, all_up, take, take_asked, take_checked, take_new, take_wish, take_path, answered, gathered, gathers, take_answer, take_found, take_reply, take_busy, take_cancel, told_busy, cancelled, take_notice, notice_steps, take_report, take_errors, take_failure, told_error, commit, downed, lost, is_lost, stays}
+use Rattle.plant_model.specs.Parent.{Wait, AskingRow, Parent, Family, ParentTaken, Errand, silent, only, each, errands, ask_all, all_waits, next_id, among, waiting, all_up, take, take_asked, take_checked, take_new, take_wish, take_path, answered, gathered, gathers, take_answer, take_found, take_reply, take_busy, take_cancel, told_busy, cancelled, take_notice, notice_steps, take_report, take_errors, take_failure, told_error, commit, downed, lost, is_lost, stays}
 use Rattle.plant_laws.proofs.Once.Besides.{besides_asking}
 use Rattle.plant_laws.specs.Transcript.{one_if, count_answers, answers_to}
 use Rattle.plant_laws.proofs.Once.Handing.{In}
@@ -38,18 +38,18 @@ waiting_in p y (g ∷ hs) h e = go (among p g.1.item.waits y) e (waiting_in p y 
     go false e rec = inr (rec e)
 
 -- the answers of a step were pending before it, and are not after it
-pub record Good (k : Parent) (t : Given) : Type 0 where
+pub record Good (k : Parent) (t : ParentTaken) : Type 0 where
   pub pending : ArePending t.parent.pending
   pub counts : (p : Peer) (x : ℕ) → answers_to p x t.outputs + count p x t.parent.pending.rows ≤ count p x k.pending.rows
 
 good_silent : (k : Parent) → ArePending k.pending → Good k (silent k)
 good_silent k are = record { pending = are; counts = λ p x. omega arith }
 
-good_pick : (k : Parent) (b : Bool) (t u : Given) → Good k t → Good k u → Good k (cond b t u)
+good_pick : (k : Parent) (b : Bool) (t u : ParentTaken) → Good k t → Good k u → Good k (cond b t u)
 good_pick k true t u g g' = g
 good_pick k false t u g g' = g'
 
-good_each : {X : Type 0} (f : X → Parent → Given) → ((x : X) (k : Parent) → ArePending k.pending → Good k (f x k)) → (xs : List X) (k : Parent) → ArePending k.pending → Good k (each f xs k)
+good_each : {X : Type 0} (f : X → Parent → ParentTaken) → ((x : X) (k : Parent) → ArePending k.pending → Good k (f x k)) → (xs : List X) (k : Parent) → ArePending k.pending → Good k (each f xs k)
 good_each f good [] k are = good_silent k are
 good_each f good (x ∷ xs) k are =
     let one = good x k are in
@@ -68,7 +68,7 @@ good_gathers p y bs h k are = record {
   counts = λ q x. omega (arith, rewritten q x h.0 (gathered p y bs h.1.item) k.pending.rows);
 }
 
-at_most : (k : Parent) (t : Given) → ArePending k.pending → Good k t → (p : Peer) (x : ℕ) → answers_to p x t.outputs ≤ 1
+at_most : (k : Parent) (t : ParentTaken) → ArePending k.pending → Good k t → (p : Peer) (x : ℕ) → answers_to p x t.outputs ≤ 1
 at_most k t are good p x = omega (arith, good.counts p x, count_once p x k.pending.rows are.names)
 
 module _ (c : Codec) (p : Peer) where
@@ -106,8 +106,8 @@ module _ (c : Codec) (p : Peer) where
   good_steps : (kinds : List (ℕ × ℕ)) (rp : ℕ × ℕ) (k : Parent) → ArePending k.pending → Good k (each (λ step. step p rp) (notice_steps kinds) k)
   good_steps kinds rp k are = go (has_pair 1 2 kinds) (has_pair 1 1 kinds)
     where
-      two : (f g : Peer → ℕ × ℕ → Parent → Given) → ((j : Parent) → ArePending j.pending → Good j (f p rp j)) → ((j : Parent) → ArePending j.pending → Good j (g p rp j)) →
-          Good k (each (λ (step : Peer → ℕ × ℕ → Parent → Given). step p rp) (f ∷ g ∷ []) k)
+      two : (f g : Peer → ℕ × ℕ → Parent → ParentTaken) → ((j : Parent) → ArePending j.pending → Good j (f p rp j)) → ((j : Parent) → ArePending j.pending → Good j (g p rp j)) →
+          Good k (each (λ (step : Peer → ℕ × ℕ → Parent → ParentTaken). step p rp) (f ∷ g ∷ []) k)
       two f g good good' =
           let one = good k are in
           let rest = good' (f p rp k).parent one.pending in
@@ -116,12 +116,12 @@ module _ (c : Codec) (p : Peer) where
             counts = λ q x. omega (arith, answers_append q x (f p rp k).outputs ((g p rp (f p rp k).parent).outputs ++ []), answers_append q x (g p rp (f p rp k).parent).outputs [], one.counts q x, rest.counts q x);
           }
 
-      one : (f : Peer → ℕ × ℕ → Parent → Given) → ((j : Parent) → ArePending j.pending → Good j (f p rp j)) → Good k (each (λ (step : Peer → ℕ × ℕ → Parent → Given). step p rp) (f ∷ []) k)
+      one : (f : Peer → ℕ × ℕ → Parent → ParentTaken) → ((j : Parent) → ArePending j.pending → Good j (f p rp j)) → Good k (each (λ (step : Peer → ℕ × ℕ → Parent → ParentTaken). step p rp) (f ∷ []) k)
       one f good =
           let one = good k are in
           record { pending = one.pending; counts = λ q x. omega (arith, answers_append q x (f p rp k).outputs [], one.counts q x) }
 
-      go : (b b' : Bool) → Good k (each (λ (step : Peer → ℕ × ℕ → Parent → Given). step p rp) (cond b (cond b' (take_busy ∷ take_cancel ∷ []) (take_busy ∷ [])) (cond b' (take_cancel ∷ []) [])) k)
+      go : (b b' : Bool) → Good k (each (λ (step : Peer → ℕ × ℕ → Parent → ParentTaken). step p rp) (cond b (cond b' (take_busy ∷ take_cancel ∷ []) (take_busy ∷ [])) (cond b' (take_cancel ∷ []) [])) k)
       go true true = two take_busy take_cancel (good_busy rp) (good_cancel rp)
       go true false = one take_busy (good_busy rp)
       go false true = one take_cancel (good_cancel rp)
@@ -148,11 +148,11 @@ module _ (c : Codec) (p : Peer) where
   good_errors ids (e ∷ es) k are = good_each (λ rp j. take_failure e j (waiting p rp.1 j.pending.rows)) (λ rp j are'. good_failure e rp j are') ids k are
 
   -- a message that asks: what is said goes to its sender
-  pub record Asks (t : Given) : Type 0 where
+  pub record Asks (t : ParentTaken) : Type 0 where
     pub pending : ArePending t.parent.pending
     pub others : (q : Peer) (x : ℕ) → same_peer p q ≡ false → answers_to q x t.outputs ≡ 0
 
-  asks_pick : (b : Bool) (t u : Given) → (b ≡ true → Asks t) → (b ≡ false → Asks u) → Asks (cond b t u)
+  asks_pick : (b : Bool) (t u : ParentTaken) → (b ≡ true → Asks t) → (b ≡ false → Asks u) → Asks (cond b t u)
   asks_pick true t u g g' = g refl
   asks_pick false t u g g' = g' refl
 
@@ -241,7 +241,7 @@ module _ (c : Codec) (p : Peer) where
     take_counts (messages.Close why) k are q x = omega arith
     take_counts (messages.Other kind) k are q x = omega arith
 
-abbrev pub IsOnce : Given → Type 0
+abbrev pub IsOnce : ParentTaken → Type 0
 IsOnce t = ArePending t.parent.pending × ((q : Peer) (x : ℕ) → answers_to q x t.outputs ≤ 1)
 
 once_answered : (h : AskingRow) (m : Message) (k : Parent) → ArePending k.pending → AnswersAt h.1.key.id m → IsOnce (answered h m k)

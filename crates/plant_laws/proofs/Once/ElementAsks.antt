@@ -19,7 +19,7 @@ use Rattle.plant_model.specs.Names.{the_parent}
 use Rattle.plant_model.specs.Wire.{Codec, Checked, Admitted, Wrong}
 use Rattle.plant_model.specs.Writing.{request_message, reply_message, busy, unavailable}
 use Rattle.disclosure.specs.Policy.{is_denied}
-use Rattle.plant_model.specs.Element.{Stage, Waits, Ready, Item, Way, Element, Place, Taken, silent, only, fresh_id, way_to}
+use Rattle.plant_model.specs.Element.{Stage, Waits, Ready, Item, Way, Element, ElementSettings, Taken, silent, only, fresh_id, way_to}
 use Rattle.plant_model.specs.Routes.{toward}
 use Rattle.plant_model.specs.Taking as taking
 use Rattle.plant_model.specs.Taking.{sequence_or, goes_up}
@@ -29,7 +29,7 @@ use Rattle.plant_laws.proofs.Once.TableAsks.{IsAsked, keeps_asked, answered_keep
 use Rattle.plant_laws.proofs.Once.ElementSteps.{core}
 
 -- a request that was opened just now is that which was asked, and pins what was given
-pub record IsFresh (P : Type 0) (c : Codec) (e : Place) (pin : P) (p : Peer) (class : Class) (a : Asked) (key : RequestKey) (u : Item P) : Type 0 where
+pub record IsFresh (P : Type 0) (c : Codec) (e : ElementSettings) (pin : P) (p : Peer) (class : Class) (a : Asked) (key : RequestKey) (u : Item P) : Type 0 where
   pub peer : key.peer ≡ p
   pub request : Request
   pub admitted : c.check a e.own ≡ Admitted request
@@ -40,7 +40,7 @@ pub record IsFresh (P : Type 0) (c : Codec) (e : Place) (pin : P) (p : Peer) (cl
   pub pin' : u.pin ≡ pin
   pub sequence' : u.sequence ≡ cond (goes_up e.parent class u.wanted.sequence) [] (sequence_or e.own u.wanted.sequence)
 
-module _ (P : Type 0) (S : Type 0) (c : Codec) (show : S → List Hop) (e : Place) (pin : P) (p : Peer) (class : Class) (now : ℕ) (a : Asked) (k : Element P S) where
+module _ (P : Type 0) (S : Type 0) (c : Codec) (show : S → List Hop) (e : ElementSettings) (pin : P) (p : Peer) (class : Class) (now : ℕ) (a : Asked) (k : Element P S) where
   abbrev Good : RequestKey → Item P → Type 0
   Good = IsFresh P c e pin p class a
 

@@ -16,7 +16,7 @@ use Rattle.plant_model.specs.Names.{the_parent, has_pair}
 use Rattle.plant_model.specs.Wire.{Codec}
 use Rattle.plant_model.specs.Writing.{reply_message, busy, unavailable, no_path}
 use Rattle.plant_model.specs.Branches.{open_branch, path_of}
-use Rattle.plant_model.specs.Element.{Ready, Item, Row, Element, Place, Taken, silent, each, at_stage, waits_for, waits_on, waiting, downed, is_client}
+use Rattle.plant_model.specs.Element.{Ready, Item, Row, Element, ElementSettings, Taken, silent, each, at_stage, waits_for, waits_on, waiting, downed, is_client}
 use Rattle.plant_model.specs.Taking as taking
 use Rattle.plant_model.specs.Solving.{commit, client_reply, closed_reply, closed_paths, issued_all, free}
 use Rattle.plant_laws.specs.Transcript.{answers_to, has_id, cancels}
@@ -194,7 +194,7 @@ module _ (P : Type 0) (S : Type 0) where
   reports_step p rs k are = regone k (each (taking.take_report p) rs k) (λ key. any_by (λ (r : ErrorReport). false) rs) nobody (λ key. any_none rs) (each_step (taking.take_report p) (λ r. nobody) (λ r k are. report_step p r k are) rs k are)
 
   -- a job is answered
-  pub commit_step : (c : Codec) (e : Place) (h : Row P) (down : List Branch) (now : ℕ) (stands : Best → S) (s t : Bool) (best : List Best) (k : Element P S) → ArePending k.pending → In h k.pending.rows →
+  pub commit_step : (c : Codec) (e : ElementSettings) (h : Row P) (down : List Branch) (now : ℕ) (stands : Best → S) (s t : Bool) (best : List Best) (k : Element P S) → ArePending k.pending → In h k.pending.rows →
       Steps k (commit c e h down now stands s t best k) nobody
   commit_step c e h down now stands s t best k are there = go (is_client h.1.item.class)
     where

@@ -29,7 +29,7 @@ use Rattle.plant_model.specs.Wire.{Codec, Checked, Admitted, Wrong}
 use Rattle.plant_model.specs.Writing.{error_message, reply_message, unavailable, busy, request_message, no_path}
 use Rattle.plant_model.specs.Branches.{branches_in, open_branch, path_of}
 use Rattle.disclosure.specs.Policy.{is_denied}
-use Rattle.plant_model.specs.Element.{Waits, Ready, Element, Item, Row, Way, Place, Taken, silent, only, each, way_to, waiting, at_stage, fresh_id, with_last, is_client, lost, lost_of, lost_output, is_lost, stays, waits_on, downed}
+use Rattle.plant_model.specs.Element.{Waits, Ready, Element, Item, Row, Way, ElementSettings, Taken, silent, only, each, way_to, waiting, at_stage, fresh_id, with_last, is_client, lost, lost_of, lost_output, is_lost, stays, waits_on, downed}
 use Rattle.plant_model.specs.Routes.{toward}
 use Rattle.plant_model.specs.Taking.{take, take_asked, take_checked, take_new, take_wish, take_path, take_along, send_on, item_of, sequence_or, goes_up, expansion, answered, staged, take_reply, take_answer, made_ready, take_notice, notice_steps, take_busy, take_cancel, told_busy, cancelled, take_report, take_errors, take_failure, told_error, error_answer}
 use Rattle.vspt_tree.specs.declared.branch.Best.{Best}
@@ -411,7 +411,7 @@ module _ (P : Type 0) (S : Type 0) where
     good_only : (m : Message) (k : Element P S) → ArePending k.pending → Good k (only q m k)
     good_only m k are = (moves_silent p k (record { to = q; message = m } ∷ []), are)
 
-    module _ (show : S → List Hop) (e : Place) (pin : P) (class : Class) (now : ℕ) where
+    module _ (show : S → List Hop) (e : ElementSettings) (pin : P) (class : Class) (now : ℕ) where
       good_send : (flags x : ℕ) (w : Wanted) (sequence : List As) (refused : Bool) (k : Element P S) → ArePending k.pending → HasRoom k x → (way : Option Way) →
           Good k (send_on pin q class flags x w sequence (tail_of sequence) refused k way)
       good_send flags x w sequence refused k are room None = good_only (reply_message flags x unavailable) k are
@@ -487,7 +487,7 @@ module _ (P : Type 0) (S : Type 0) where
 
   -- ---- a solve, and a session that goes down
 
-  pub commit_moves : (p : Peer) (c : Codec) (e : Place) (h : Row P) (down : List Branch) (now : ℕ) (stands : Best → S) (source_known target_known : Bool) (best : List Best) (k : Element P S) →
+  pub commit_moves : (p : Peer) (c : Codec) (e : ElementSettings) (h : Row P) (down : List Branch) (now : ℕ) (stands : Best → S) (source_known target_known : Bool) (best : List Best) (k : Element P S) →
       ArePending k.pending → In h k.pending.rows → Moves p k (commit c e h down now stands source_known target_known best k)
   commit_moves p c e h down now stands source_known target_known best k are in' =
       moves_pick p k (is_client h.1.item.class) _ (closed_reply c e h down now stands k best) (moves_answered p h (client_reply c h down source_known target_known best) k are in' (client best)) (closed best)

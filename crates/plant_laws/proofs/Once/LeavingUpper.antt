@@ -26,7 +26,7 @@ use Rattle.plant_model.specs.Branches.{branches_in, path_of}
 use Rattle.plant_model.specs.Element.{Way, with_last}
 use Rattle.plant_model.specs.Taking.{error_answer}
 use Rattle.plant_model.specs.BorderGraph.{Found}
-use Rattle.plant_model.specs.Parent.{Wait, Asking, AskingRow, Parent, Family, Given, Errand, silent, only, each, errands, ask_all, all_waits, next_id, waiting, without, all_up, take, take_asked, take_checked, take_new, take_wish, take_path, answered, gathered, gathers, take_answer, take_found, take_reply, take_busy, take_cancel, told_busy, cancelled, take_notice, notice_steps, take_report, take_errors, take_failure, told_error, commit}
+use Rattle.plant_model.specs.Parent.{Wait, Asking, AskingRow, Parent, Family, ParentTaken, Errand, silent, only, each, errands, ask_all, all_waits, next_id, waiting, without, all_up, take, take_asked, take_checked, take_new, take_wish, take_path, answered, gathered, gathers, take_answer, take_found, take_reply, take_busy, take_cancel, told_busy, cancelled, take_notice, notice_steps, take_report, take_errors, take_failure, told_error, commit}
 use Rattle.plant_laws.proofs.Once.Handing.{In, In-append}
 use Rattle.plant_laws.proofs.Once.Counting.{has_room}
 use Rattle.plant_laws.proofs.Once.CountingUpper.{waiting_in}
@@ -48,14 +48,14 @@ WaitsFor k w = (h : AskingRow) × In h k.pending.rows × In w h.1.item.waits
 abbrev pub IsSent : Wait → List Output → Type 0
 IsSent v os = (w : Wanted) × In {A = Output} (record { to = v.peer; message = request_message v.id w v.target (v.child ∷ []) }) os
 
-pub record Moves (p : Peer) (k : Parent) (t : Given) : Type 0 where
+pub record Moves (p : Peer) (k : Parent) (t : ParentTaken) : Type 0 where
   pub left : (x : ℕ) → Named k p x → Named t.parent p x ⊎ (Answered p x t.outputs)
   pub old : (w : Wait) → WaitsFor t.parent w → WaitsFor k w ⊎ IsSent w t.outputs
 
 moves_silent : (p : Peer) (k : Parent) (os : List Output) → Moves p k (record { parent = k; outputs = os })
 moves_silent p k os = record { left = λ x h. inl h; old = λ w h. inl h }
 
-moves_then : (p : Peer) (k : Parent) (t u : Given) → Moves p k t → Moves p t.parent u → Moves p k (record { parent = u.parent; outputs = t.outputs ++ u.outputs })
+moves_then : (p : Peer) (k : Parent) (t u : ParentTaken) → Moves p k t → Moves p t.parent u → Moves p k (record { parent = u.parent; outputs = t.outputs ++ u.outputs })
 moves_then p k t u m m' = record {
   left = λ x h. elim (m.left x h) [
     | inl still ↦
@@ -75,7 +75,7 @@ moves_then p k t u m m' = record {
   ];
 }
 
-moves_each : {X : Type 0} (p : Peer) (f : X → Parent → Given) → ((x : X) (k : Parent) → ArePending k.pending → Moves p k (f x k) × ArePending (f x k).parent.pending) →
+moves_each : {X : Type 0} (p : Peer) (f : X → Parent → ParentTaken) → ((x : X) (k : Parent) → ArePending k.pending → Moves p k (f x k) × ArePending (f x k).parent.pending) →
     (xs : List X) (k : Parent) → ArePending k.pending → Moves p k (each f xs k) × ArePending (each f xs k).parent.pending
 moves_each p f moves [] k are = (moves_silent p k [], are)
 moves_each p f moves (x ∷ xs) k are =
@@ -121,10 +121,10 @@ moves_gathers p q y bs h k in' = record {
 }
 
 module _ (c : Codec) (q : Peer) (p : Peer) where
-  abbrev Good : Parent → Given → Type 0
+  abbrev Good : Parent → ParentTaken → Type 0
   Good k t = Moves p k t × ArePending t.parent.pending
 
-  good_pick : (k : Parent) (b : Bool) (t u : Given) → (b ≡ true → Good k t) → (b ≡ false → Good k u) → Good k (cond b t u)
+  good_pick : (k : Parent) (b : Bool) (t u : ParentTaken) → (b ≡ true → Good k t) → (b ≡ false → Good k u) → Good k (cond b t u)
   good_pick k true t u g g' = g refl
   good_pick k false t u g g' = g' refl
 
@@ -187,16 +187,16 @@ module _ (c : Codec) (q : Peer) (p : Peer) where
   good_steps : (kinds : List (ℕ × ℕ)) → IsFree kinds → (rp : ℕ × ℕ) (k : Parent) → ArePending k.pending → Good k (each (λ step. step q rp) (notice_steps kinds) k)
   good_steps kinds free rp k are = go (has_pair 1 2 kinds) (has_pair 1 1 kinds) refl
     where
-      one : (f : Peer → ℕ × ℕ → Parent → Given) → ((j : Parent) → ArePending j.pending → Good j (f q rp j)) → (j : Parent) → ArePending j.pending →
-          Good j (each (λ (step : Peer → ℕ × ℕ → Parent → Given). step q rp) (f ∷ []) j)
+      one : (f : Peer → ℕ × ℕ → Parent → ParentTaken) → ((j : Parent) → ArePending j.pending → Good j (f q rp j)) → (j : Parent) → ArePending j.pending →
+          Good j (each (λ (step : Peer → ℕ × ℕ → Parent → ParentTaken). step q rp) (f ∷ []) j)
       one f good j are' = let g = good j are' in (moves_then p j (f q rp j) (silent (f q rp j).parent) g.0 (moves_silent p (f q rp j).parent []), g.1)
 
-      two : (f g : Peer → ℕ × ℕ → Parent → Given) → ((j : Parent) → ArePending j.pending → Good j (f q rp j)) → ((j : Parent) → ArePending j.pending → Good j (g q rp j)) →
-          Good k (each (λ (step : Peer → ℕ × ℕ → Parent → Given). step q rp) (f ∷ g ∷ []) k)
+      two : (f g : Peer → ℕ × ℕ → Parent → ParentTaken) → ((j : Parent) → ArePending j.pending → Good j (f q rp j)) → ((j : Parent) → ArePending j.pending → Good j (g q rp j)) →
+          Good k (each (λ (step : Peer → ℕ × ℕ → Parent → ParentTaken). step q rp) (f ∷ g ∷ []) k)
       two f g good good' =
           let first = good k are in
           let rest = one g good' (f q rp k).parent first.1 in
-          (moves_then p k (f q rp k) (each (λ (step : Peer → ℕ × ℕ → Parent → Given). step q rp) (g ∷ []) (f q rp k).parent) first.0 rest.0, rest.1)
+          (moves_then p k (f q rp k) (each (λ (step : Peer → ℕ × ℕ → Parent → ParentTaken). step q rp) (g ∷ []) (f q rp k).parent) first.0 rest.0, rest.1)
 
       cancel : (b' : Bool) → has_pair 1 1 kinds ≡ b' → b' ≡ true → (j : Parent) → ArePending j.pending → Good j (take_cancel q rp j)
       cancel b' is hit j are' = elim free [
@@ -205,7 +205,7 @@ module _ (c : Codec) (q : Peer) (p : Peer) where
       ]
 
       go : (b b' : Bool) → has_pair 1 1 kinds ≡ b' →
-          Good k (each (λ (step : Peer → ℕ × ℕ → Parent → Given). step q rp) (cond b (cond b' (take_busy ∷ take_cancel ∷ []) (take_busy ∷ [])) (cond b' (take_cancel ∷ []) [])) k)
+          Good k (each (λ (step : Peer → ℕ × ℕ → Parent → ParentTaken). step q rp) (cond b (cond b' (take_busy ∷ take_cancel ∷ []) (take_busy ∷ [])) (cond b' (take_cancel ∷ []) [])) k)
       go true true is = two take_busy take_cancel (good_busy rp) (cancel true is refl)
       go true false is = one take_busy (good_busy rp) k are
       go false true is = one take_cancel (cancel true is refl) k are

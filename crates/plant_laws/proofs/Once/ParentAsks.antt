@@ -16,7 +16,7 @@ use Rattle.plant_model.specs.Wire.{Codec, Checked, Admitted, Wrong}
 use Rattle.plant_model.specs.Writing.{reply_message, busy, unavailable}
 use Rattle.plant_model.specs.Element.{Way, with_last}
 use Rattle.plant_model.specs.Parent as parent
-use Rattle.plant_model.specs.Parent.{Parent, Given, Family, Asking, Wait, Errand}
+use Rattle.plant_model.specs.Parent.{Parent, ParentTaken, Family, Asking, Wait, Errand}
 use Rattle.plant_laws.specs.Transcript.{answers_to, Effect, Keeps, begins_if}
 use Rattle.plant_laws.proofs.Once.TableSteps.{AnswersOnly, reply_answers, busy_answers}
 use Rattle.plant_laws.proofs.Once.TableAsks.{IsAsked, keeps_asked, answered_keeps, repeats_asked, opens_asked}
@@ -51,10 +51,10 @@ module _ (c : Codec) (f : Family) (p : Peer) (a : Asked) (k : Parent) where
   abbrev pub asked_effect : Checked → List Output → RequestKey → Effect
   asked_effect r os key = cond (same_peer p key.peer) (begins_if c parent_as key.id (answers_to key.peer key.id os) r) Keeps
 
-  abbrev Holds : Checked → Given → Type 0
+  abbrev Holds : Checked → ParentTaken → Type 0
   Holds r t = IsAsked core Good (asked_effect r t.outputs) k.pending t.parent.pending
 
-  no_effect : (r : Checked) (t : Given) → t.parent.pending ≡ k.pending → ArePending k.pending → ((key : RequestKey) → asked_effect r t.outputs key ≡ Keeps) → Holds r t
+  no_effect : (r : Checked) (t : ParentTaken) → t.parent.pending ≡ k.pending → ArePending k.pending → ((key : RequestKey) → asked_effect r t.outputs key ≡ Keeps) → Holds r t
   no_effect r t same are keeps = subst (λ (q : Pending Asking). IsAsked core Good (asked_effect r t.outputs) k.pending q) (sym same) (keeps_asked core Good k.pending (asked_effect r t.outputs) are keeps)
 
   cond_same : (b : Bool) → cond b Keeps Keeps ≡ Keeps

@@ -16,7 +16,7 @@ use Rattle.plant_model.specs.Writing.{reply_message, error_message, unavailable,
 use Rattle.plant_model.specs.Branches.{branches_in, path_of}
 use Rattle.plant_model.specs.Parent as parent
 use Rattle.plant_model.specs.Taking.{error_answer}
-use Rattle.plant_model.specs.Parent.{Parent, Given, Asking, AskingRow}
+use Rattle.plant_model.specs.Parent.{Parent, ParentTaken, Asking, AskingRow}
 use Rattle.plant_model.specs.BorderGraph.{Found}
 use Rattle.plant_laws.specs.Transcript.{answers_to}
 use Rattle.plant_laws.proofs.Runs.Seen.{seen, ended_if}
@@ -28,10 +28,10 @@ use Rattle.plant_laws.proofs.Once.ElementSteps.{any_none, gone_by}
 abbrev pub core : Asking → Asking
 core i = record i { waits = []; rows = [] }
 
-abbrev pub Steps : Parent → Given → (RequestKey → Bool) → Type 0
+abbrev pub Steps : Parent → ParentTaken → (RequestKey → Bool) → Type 0
 Steps k t gone = IsStep (core) k.pending t.parent.pending gone t.outputs
 
-pub each_step : {X : Type 0} (f : X → Parent → Given) (g : X → RequestKey → Bool) → ((x : X) (k : Parent) → ArePending k.pending → Steps k (f x k) (g x)) →
+pub each_step : {X : Type 0} (f : X → Parent → ParentTaken) (g : X → RequestKey → Bool) → ((x : X) (k : Parent) → ArePending k.pending → Steps k (f x k) (g x)) →
     (xs : List X) (k : Parent) → ArePending k.pending → Steps k (parent.each f xs k) (λ key. any_by (λ x. g x key) xs)
 each_step f g one [] k are = no_step core k.pending are
 each_step f g one (x ∷ xs) k are =
@@ -39,7 +39,7 @@ each_step f g one (x ∷ xs) k are =
     let rest = each_step f g one xs (f x k).parent first.pending in
     then_step core k.pending (f x k).parent.pending (parent.each f xs (f x k).parent).parent.pending (g x) (λ key. any_by (λ y. g y key) xs) (f x k).outputs (parent.each f xs (f x k).parent).outputs first rest
 
-regone : (k : Parent) (t : Given) (f g : RequestKey → Bool) → ((key : RequestKey) → f key ≡ g key) → Steps k t f → Steps k t g
+regone : (k : Parent) (t : ParentTaken) (f g : RequestKey → Bool) → ((key : RequestKey) → f key ≡ g key) → Steps k t f → Steps k t g
 regone k t f g same s = record { pending = s.pending; limit = s.limit; table = λ key. s.table key ∙ ap (λ b. ended_if b (answers_to key.peer key.id t.outputs) (seen core key k.pending.rows)) (same key) }
 
 pub waiting_in : (p : Peer) (y : ℕ) (rows : List (AskingRow)) (h : AskingRow) → parent.waiting p y rows ≡ Some h → In h rows × (parent.among p h.1.item.waits y ≡ true)
@@ -97,7 +97,7 @@ cancels_step p rp k are = go (number_of k.pending p rp.1) refl
     go (Some number) e = cancel_step core k.pending p rp.1 number are e
 
 abbrev Step : Type 0
-Step = Peer → ℕ × ℕ → Parent → Given
+Step = Peer → ℕ × ℕ → Parent → ParentTaken
 
 id_step : (p : Peer) (kinds : List (ℕ × ℕ)) (rp : ℕ × ℕ) (k : Parent) → ArePending k.pending →
     Steps k (parent.each (λ (step : Step). step p rp) (parent.notice_steps kinds) k) (λ key. cond (has_pair 1 1 kinds) (same_key (key_of p rp.1) key) false)

@@ -24,7 +24,7 @@ use Rattle.plant_model.specs.Names.{the_parent}
 use Rattle.plant_model.specs.Wire.{Codec, Checked, Admitted, Wrong}
 use Rattle.plant_model.specs.Writing.{reply_message, error_message, request_message, unavailable, busy}
 use Rattle.disclosure.specs.Policy.{is_denied}
-use Rattle.plant_model.specs.Element.{Item, Row, Way, Element, Place, Taken, each, waiting, waits_for, way_to, fresh_id}
+use Rattle.plant_model.specs.Element.{Item, Row, Way, Element, ElementSettings, Taken, each, waiting, waits_for, way_to, fresh_id}
 use Rattle.plant_model.specs.Routes.{toward}
 use Rattle.plant_model.specs.Taking.{goes_up, sequence_or, send_on, take_along, take_path, take_wish, take_new, take_checked, take_asked, take_answer, take_reply, made_ready, answered, expansion}
 use Rattle.plant_model.specs.Plant.{Pin, Segment}
@@ -57,7 +57,7 @@ module _ (to : Peer) (r : Reply) (paths : List PathRow) (tells : Tells r.answer 
       let one : 1 ≡ 0 = t.0 in
       omega (arith, one)
 
-  module _ (c : Codec) (e : Place) (pin : Pin) (p : Peer) (class : Class) (now : ℕ) where
+  module _ (c : Codec) (e : ElementSettings) (pin : Pin) (p : Peer) (class : Class) (now : ℕ) where
     pub record IsKeyReply (a : Asked) : Type 0 where
       pub request : Request
       pub admits : c.check a e.own ≡ Admitted request

@@ -19,7 +19,7 @@ use Rattle.plant_model.specs.Wire.{Codec}
 use Rattle.plant_model.specs.Element.{Item, Element, Taken}
 use Rattle.plant_model.specs.Taking as taking
 use Rattle.plant_model.specs.Parent as parent
-use Rattle.plant_model.specs.Parent.{Parent, Given, Family, Asking}
+use Rattle.plant_model.specs.Parent.{Parent, ParentTaken, Family, Asking}
 use Rattle.plant_text.specs.Settings.{row_of, deny_at}
 use Rattle.plant_model.specs.Settings.{place, place_from}
 use Rattle.plant_model.specs.Routes.{routes}
@@ -121,7 +121,7 @@ module _ (c : Codec) (f : Family) (p : Peer) (k : Parent) where
   abbrev pub UpperOpenedBy : Message → RequestKey → Asking → Type 0
   UpperOpenedBy m key u = (a : Asked) × (m ≡ messages.PcReq (a ∷ [])) × upper_asks.IsFresh c p a key u
 
-  abbrev upper_after : Message → Given
+  abbrev upper_after : Message → ParentTaken
   upper_after m = parent.take c f p m k
 
   pub upper_moves : (m : Message) → IsSingle m → ArePending k.pending →

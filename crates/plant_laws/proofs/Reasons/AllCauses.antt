@@ -13,10 +13,10 @@ use Rattle.pcep_session.specs.declared.actions.Action.TheVariants as action
 use Rattle.pcep_session.specs.declared.actions.Own.{Own}
 use Rattle.pcep_session.specs.declared.actions.Own.TheVariants as own
 use Rattle.pcep_session.specs.declared.state.State.{State as Session}
-use Rattle.pcep_session.specs.Table.{Turn, new_state, turn_of}
+use Rattle.pcep_session.specs.Table.{SessionStep, new_state, turn_of}
 use Rattle.plant_text.specs.declared.settings.NetworkParts.{NetworkParts}
 use Rattle.plant_text.specs.Names.{same_as, parent_as}
-use Rattle.plant_text.specs.Settings.{Line, line, lines, is_linked, is_element, peer_row}
+use Rattle.plant_text.specs.Settings.{Adjacency, adjacency, adjacencies, is_linked, is_element, peer_row}
 use Rattle.plant_model.specs.declared.event.Event.{Event}
 use Rattle.plant_model.specs.declared.event.Event.TheVariants as event
 use Rattle.plant_model.specs.declared.outcome.Outcome.{Outcome}
@@ -27,7 +27,7 @@ use Rattle.plant_model.specs.declared.output.Output.{Output}
 use Rattle.plant_model.specs.Names.{set_pair}
 use Rattle.plant_model.specs.Wire.{Bytes, Codec}
 use Rattle.plant_model.specs.State.{Access, Connection, Pops, Takes, Says, Downs, Clears}
-use Rattle.plant_model.specs.Deeds.{Going, element_of, is_due, is_tick, is_out_empty, any_fall, with_session, with_inbox, read_as, input_of, with_access, with_inner, give, rise, fall, say, clear, outside_act, outside_acts, outside_step, inner_act, inner_acts, inner_input, our_offer, own_message, begin_end, begin_line, break_line}
+use Rattle.plant_model.specs.Deeds.{Going, element_of, is_due, is_tick, is_out_empty, any_fall, with_session, with_inbox, read_as, input_of, with_access, with_inner, give, rise, fall, say, clear, outside_act, outside_acts, outside_step, inner_act, inner_acts, inner_input, our_offer, own_message, begin_end, begin_adjacency, break_adjacency}
 use Rattle.plant_model.specs.Outside.{heeded}
 use Rattle.plant_model.specs.Events as events
 use Rattle.plant_model.specs.Plant.{Pin, Segment, first_pin, Plant, PlantDeed, Happened, Entry, Run, Steps, Happens, is_full}
@@ -121,33 +121,33 @@ module _ (c : Codec) (n : NetworkParts) where
   begin_keeps : (sid : ℕ) (at b : As) (g : Move) (d : PlantDeed) → Contains g.deeds d → Contains (begin_end Pin Segment c n open_of sid at b g).deeds d
   begin_keeps sid at b g d has = later_in (Says at (record { to = Inner b; message = own_message (own.Open (our_offer sid)) })) g.deeds d has
 
-  anew_keeps : (x : Line) (g : Move) (d : PlantDeed) → Contains (fall Pin Segment c n open_of x.upper (Inner x.lower) (fall Pin Segment c n open_of x.lower (Inner x.upper) g)).deeds d →
-      Contains (break_line Pin Segment c n open_of x g).deeds d
+  anew_keeps : (x : Adjacency) (g : Move) (d : PlantDeed) → Contains (fall Pin Segment c n open_of x.upper (Inner x.lower) (fall Pin Segment c n open_of x.lower (Inner x.upper) g)).deeds d →
+      Contains (break_adjacency Pin Segment c n open_of x g).deeds d
   anew_keeps x g d has =
       let sid = ((g.state.sessions x.lower x.upper).offer.sid + 1) % 256 in
       let h = fall Pin Segment c n open_of x.upper (Inner x.lower) (fall Pin Segment c n open_of x.lower (Inner x.upper) g) in
       let k = clear Pin Segment c n open_of x h in
       begin_keeps sid x.upper x.lower (begin_end Pin Segment c n open_of sid x.lower x.upper k) d (begin_keeps sid x.lower x.upper k d (later_in (Clears x.lower x.upper) h.deeds d has))
 
-  lower_falls : (x : Line) (g : Move) → FallsAt x.lower (Inner x.upper) (break_line Pin Segment c n open_of x g).deeds
+  lower_falls : (x : Adjacency) (g : Move) → FallsAt x.lower (Inner x.upper) (break_adjacency Pin Segment c n open_of x g).deeds
   lower_falls x g =
       let f = fall Pin Segment c n open_of x.lower (Inner x.upper) g in
       let one = fall_falls x.lower (Inner x.upper) g in
       (one.0, anew_keeps x g (Downs x.lower (Inner x.upper) one.0) (fall_keeps x.upper (Inner x.lower) f (Downs x.lower (Inner x.upper) one.0) one.1))
 
-  upper_falls : (x : Line) (g : Move) → FallsAt x.upper (Inner x.lower) (break_line Pin Segment c n open_of x g).deeds
+  upper_falls : (x : Adjacency) (g : Move) → FallsAt x.upper (Inner x.lower) (break_adjacency Pin Segment c n open_of x g).deeds
   upper_falls x g =
       let one = fall_falls x.upper (Inner x.lower) (fall Pin Segment c n open_of x.lower (Inner x.upper) g) in
       (one.0, anew_keeps x g (Downs x.upper (Inner x.lower) one.0) one.1)
 
-  first_falls : (a b : As) (g : Move) → FallsAt a (Inner b) (break_line Pin Segment c n open_of (line a b) g).deeds
+  first_falls : (a b : As) (g : Move) → FallsAt a (Inner b) (break_adjacency Pin Segment c n open_of (adjacency a b) g).deeds
   first_falls a b g =
-      pick (λ (x : Line). FallsAt a (Inner b) (break_line Pin Segment c n open_of x g).deeds) (nat_lt b.0 a.0) (record { lower = b; upper = a }) (record { lower = a; upper = b })
+      pick (λ (x : Adjacency). FallsAt a (Inner b) (break_adjacency Pin Segment c n open_of x g).deeds) (nat_lt b.0 a.0) (record { lower = b; upper = a }) (record { lower = a; upper = b })
       (λ is. upper_falls (record { lower = b; upper = a }) g) (λ is. lower_falls (record { lower = a; upper = b }) g)
 
-  second_falls : (a b : As) (g : Move) → FallsAt b (Inner a) (break_line Pin Segment c n open_of (line a b) g).deeds
+  second_falls : (a b : As) (g : Move) → FallsAt b (Inner a) (break_adjacency Pin Segment c n open_of (adjacency a b) g).deeds
   second_falls a b g =
-      pick (λ (x : Line). FallsAt b (Inner a) (break_line Pin Segment c n open_of x g).deeds) (nat_lt b.0 a.0) (record { lower = b; upper = a }) (record { lower = a; upper = b })
+      pick (λ (x : Adjacency). FallsAt b (Inner a) (break_adjacency Pin Segment c n open_of x g).deeds) (nat_lt b.0 a.0) (record { lower = b; upper = a }) (record { lower = a; upper = b })
       (λ is. lower_falls (record { lower = b; upper = a }) g) (λ is. upper_falls (record { lower = a; upper = b }) g)
 
   module _ (before : Plant) (e : Event) (h : Happened) (steps : Steps c n before e h) (o : Outcome) (ok : h.answer ≡ Ok o) where
@@ -207,7 +207,7 @@ module _ (c : Codec) (n : NetworkParts) where
       abbrev popped : Move
       popped = record { state = record before { queues = set_pair a b rest before.queues }; deeds = Pops a b ∷ [] }
 
-      by_first : (Q : Transcript → Type 0) → Q (inner_input Pin Segment c n open_of (line a b) b a (input_of c (Some bytes)) popped).deeds → Q h.deeds
+      by_first : (Q : Transcript → Type 0) → Q (inner_input Pin Segment c n open_of (adjacency a b) b a (input_of c (Some bytes)) popped).deeds → Q h.deeds
       by_first Q q =
           subst (λ (k : Happened). Q k.deeds) (sym (happens (event.Carry a b) is))
           (subst (λ (t : Bool). Q (cond t (events.carry_first Pin Segment c n open_of a b before (before.queues a b)) (events.refused Pin Segment c n open_of NoSuchPeer before)).deeds) (sym linked)
@@ -227,19 +227,19 @@ module _ (c : Codec) (n : NetworkParts) where
     passed at p m (from_inside a bytes rest is linked first read acts p_is) =
         subst (λ (q : Peer). TakesAt at q m h.deeds) (sym p_is)
         (by_first a at bytes rest is linked first (TakesAt at (Inner a) m)
-        (subst (λ (y : Input). TakesAt at (Inner a) m (inner_input Pin Segment c n open_of (line a at) at a y (record { state = record before { queues = set_pair a at rest before.queues }; deeds = Pops a at ∷ [] })).deeds) (sym (ap read_as read))
+        (subst (λ (y : Input). TakesAt at (Inner a) m (inner_input Pin Segment c n open_of (adjacency a at) at a y (record { state = record before { queues = set_pair a at rest before.queues }; deeds = Pops a at ∷ [] })).deeds) (sym (ap read_as read))
         (subst (λ (as' : List Action). TakesAt at (Inner a) m (cond (any_fall as')
-        (break_line Pin Segment c n open_of (line a at) (record { state = record before { queues = set_pair a at rest before.queues }; deeds = Pops a at ∷ [] }))
+        (break_adjacency Pin Segment c n open_of (adjacency a at) (record { state = record before { queues = set_pair a at rest before.queues }; deeds = Pops a at ∷ [] }))
         (inner_acts Pin Segment c n open_of at a false as'
         (record { state = with_inner Pin Segment c n open_of at a (turn_of (before.sessions at a) (input.Got m)).next (record before { queues = set_pair a at rest before.queues }); deeds = Pops a at ∷ [] }))).deeds) (sym acts)
         (give_takes at (Inner a) m _))))
 
     -- ---- where a session goes down
 
-    break_falls : (a b at : As) (p : Peer) → e ≡ event.Break a b → FallsAt at p (break_line Pin Segment c n open_of (line a b) (record { state = before; deeds = [] })).deeds → FallsAt at p h.deeds
+    break_falls : (a b at : As) (p : Peer) → e ≡ event.Break a b → FallsAt at p (break_adjacency Pin Segment c n open_of (adjacency a b) (record { state = before; deeds = [] })).deeds → FallsAt at p h.deeds
     break_falls a b at p is falls = go (is_linked n a b) (happens (event.Break a b) is)
       where
-        go : (t : Bool) → h ≡ cond t (events.answered Pin Segment c n open_of Done (break_line Pin Segment c n open_of (line a b) (record { state = before; deeds = [] }))) (events.refused Pin Segment c n open_of NoSuchPeer before) → FallsAt at p h.deeds
+        go : (t : Bool) → h ≡ cond t (events.answered Pin Segment c n open_of Done (break_adjacency Pin Segment c n open_of (adjacency a b) (record { state = before; deeds = [] }))) (events.refused Pin Segment c n open_of NoSuchPeer before) → FallsAt at p h.deeds
         go true same = subst (λ (k : Happened). FallsAt at p k.deeds) (sym same) falls
         go false same = refused_not NoSuchPeer same
 
@@ -252,13 +252,13 @@ module _ (c : Codec) (n : NetworkParts) where
 
     -- a message that ends the session at its end breaks the link
     drops : (a b : As) (bytes : Bytes) (rest : List Bytes) → any_fall (turn_of (before.sessions b a) (input_of c (Some bytes))).actions ≡ true → (Q : Transcript → Type 0) →
-        Q (break_line Pin Segment c n open_of (line a b) (record { state = record before { queues = set_pair a b rest before.queues }; deeds = Pops a b ∷ [] })).deeds →
-        Q (inner_input Pin Segment c n open_of (line a b) b a (input_of c (Some bytes)) (record { state = record before { queues = set_pair a b rest before.queues }; deeds = Pops a b ∷ [] })).deeds
+        Q (break_adjacency Pin Segment c n open_of (adjacency a b) (record { state = record before { queues = set_pair a b rest before.queues }; deeds = Pops a b ∷ [] })).deeds →
+        Q (inner_input Pin Segment c n open_of (adjacency a b) b a (input_of c (Some bytes)) (record { state = record before { queues = set_pair a b rest before.queues }; deeds = Pops a b ∷ [] })).deeds
     drops a b bytes rest falls Q q =
         let s : Plant = record before { queues = set_pair a b rest before.queues } in
         let came = input_of c (Some bytes) in
         let t = turn_of (before.sessions b a) came in
-        subst (λ (fell' : Bool). Q (cond fell' (break_line Pin Segment c n open_of (line a b) (record { state = s; deeds = Pops a b ∷ [] }))
+        subst (λ (fell' : Bool). Q (cond fell' (break_adjacency Pin Segment c n open_of (adjacency a b) (record { state = s; deeds = Pops a b ∷ [] }))
         (inner_acts Pin Segment c n open_of b a (is_tick came) t.actions (record { state = with_inner Pin Segment c n open_of b a t.next s; deeds = Pops a b ∷ [] }))).deeds) (sym falls) q
 
     fell : (at : As) (p : Peer) → Falls c n before e at p → FallsAt at p h.deeds
@@ -318,13 +318,13 @@ module _ (c : Codec) (n : NetworkParts) where
         any_fall (turn_of (before.sessions at a) (input_of c (Some bytes))).actions ≡ false → (o' : Own) → Stands (action.Send o') (turn_of (before.sessions at a) (input_of c (Some bytes))).actions → Said at (Inner a) o' h.deeds
     along_says at a bytes rest ev linked first quiet stays o' has =
         by_first a at bytes rest ev linked first (Said at (Inner a) o')
-        (subst (λ (fell' : Bool). Said at (Inner a) o' (cond fell' (break_line Pin Segment c n open_of (line a at) (record { state = s; deeds = Pops a at ∷ [] })) (inner_acts Pin Segment c n open_of at a (is_tick came) t.actions g)).deeds) (sym stays)
+        (subst (λ (fell' : Bool). Said at (Inner a) o' (cond fell' (break_adjacency Pin Segment c n open_of (adjacency a at) (record { state = s; deeds = Pops a at ∷ [] })) (inner_acts Pin Segment c n open_of at a (is_tick came) t.actions g)).deeds) (sym stays)
         (subst (λ (ticks' : Bool). Said at (Inner a) o' (inner_acts Pin Segment c n open_of at a ticks' t.actions g).deeds) (sym quiet) (inner_say at a t.actions g o' has)))
       where
         came : Input
         came = input_of c (Some bytes)
 
-        t : Turn
+        t : SessionStep
         t = turn_of (before.sessions at a) came
 
         s : Plant
@@ -360,9 +360,9 @@ messages_have_causes c n es before run e h steps o ok =
 
 -- ---- the opening
 
-begun : (c : Codec) (n : NetworkParts) (xs : List Line) (g : Going Pin Segment) → (events.begin_lines Pin Segment c n open_of xs g).deeds ≡ opens_of xs g.deeds
+begun : (c : Codec) (n : NetworkParts) (xs : List Adjacency) (g : Going Pin Segment) → (events.begin_adjacencies Pin Segment c n open_of xs g).deeds ≡ opens_of xs g.deeds
 begun c n [] g = refl
-begun c n (x ∷ xs) g = begun c n xs (begin_line Pin Segment c n open_of 0 x g)
+begun c n (x ∷ xs) g = begun c n xs (begin_adjacency Pin Segment c n open_of 0 x g)
 
 pub networks_begin : NetworksBegin
-networks_begin c n = begun c n (lines n) (record { state = events.bare Pin Segment c n open_of first_pin; deeds = [] })
+networks_begin c n = begun c n (adjacencies n) (record { state = events.bare Pin Segment c n open_of first_pin; deeds = [] })

@@ -34,7 +34,7 @@ use Rattle.plant_model.specs.Element.{Way, fresh_id, with_last, lost_output, los
 use Rattle.plant_model.specs.Taking.{take}
 use Rattle.plant_model.specs.Solving.{commit}
 use Rattle.plant_model.specs.Parent as parent
-use Rattle.plant_model.specs.Parent.{Parent, Given, Family, AskingRow, Errand, Wait, ask_all, errands, all_waits, all_up}
+use Rattle.plant_model.specs.Parent.{Parent, ParentTaken, Family, AskingRow, Errand, Wait, ask_all, errands, all_waits, all_up}
 use Rattle.plant_text.specs.Settings.{class_of}
 use Rattle.plant_model.specs.Settings.{place, family}
 use Rattle.plant_model.specs.State.{State, Deed, Loads, Pops, Takes, Says, Ups, Downs, Clears, Solves, Expires, Hands}
@@ -62,14 +62,14 @@ use Rattle.plant_laws.specs.Certified.{Tells}
 -- ---- the parent: what it says to a message that it takes
 
 module _ (to : Peer) (r : Reply) (paths : List PathRow) (tells : Tells r.answer paths) where
-  abbrev Silent : Given → Type 0
+  abbrev Silent : ParentTaken → Type 0
   Silent t = OneTold to r t.outputs → ⊥
 
-  pick : (b : Bool) (t u : Given) → Silent t → Silent u → Silent (cond b t u)
+  pick : (b : Bool) (t u : ParentTaken) → Silent t → Silent u → Silent (cond b t u)
   pick true t u f g = f
   pick false t u f g = g
 
-  each_silent : {X : Type 0} (f : X → Parent → Given) → ((x : X) (k : Parent) → Silent (f x k)) → (xs : List X) (k : Parent) → Silent (parent.each f xs k)
+  each_silent : {X : Type 0} (f : X → Parent → ParentTaken) → ((x : X) (k : Parent) → Silent (f x k)) → (xs : List X) (k : Parent) → Silent (parent.each f xs k)
   each_silent f one [] k = λ said. contains_none _ said
   each_silent f one (x ∷ xs) k = λ said. elim (Contains-append_cases (f x k).outputs (parent.each f xs (f x k).parent).outputs _ said) [ inl here ↦ one x k here | inr later ↦ each_silent f one xs (f x k).parent later ]
 
@@ -146,13 +146,13 @@ module _ (to : Peer) (r : Reply) (paths : List PathRow) (tells : Tells r.answer 
         go None = nothing k
         go (Some number) = λ said. contains_none _ said
 
-    both_silent : (t : Given) (os : List Output) → Silent t → (OneTold to r os → ⊥) → OneTold to r (t.outputs ++ os) → ⊥
+    both_silent : (t : ParentTaken) (os : List Output) → Silent t → (OneTold to r os → ⊥) → OneTold to r (t.outputs ++ os) → ⊥
     both_silent t os f g said = elim (Contains-append_cases t.outputs os _ said) [ inl here ↦ f here | inr later ↦ g later ]
 
-    steps_silent : (rp : ℕ × ℕ) (kinds : List (ℕ × ℕ)) (k : Parent) → Silent (parent.each (λ (step : Peer → ℕ × ℕ → Parent → Given). step q rp) (parent.notice_steps kinds) k)
+    steps_silent : (rp : ℕ × ℕ) (kinds : List (ℕ × ℕ)) (k : Parent) → Silent (parent.each (λ (step : Peer → ℕ × ℕ → Parent → ParentTaken). step q rp) (parent.notice_steps kinds) k)
     steps_silent rp kinds k = go (has_pair 1 2 kinds) (has_pair 1 1 kinds)
       where
-        go : (b a : Bool) → Silent (parent.each (λ (step : Peer → ℕ × ℕ → Parent → Given). step q rp) (cond b (cond a (parent.take_busy ∷ parent.take_cancel ∷ []) (parent.take_busy ∷ [])) (cond a (parent.take_cancel ∷ []) [])) k)
+        go : (b a : Bool) → Silent (parent.each (λ (step : Peer → ℕ × ℕ → Parent → ParentTaken). step q rp) (cond b (cond a (parent.take_busy ∷ parent.take_cancel ∷ []) (parent.take_busy ∷ [])) (cond a (parent.take_cancel ∷ []) [])) k)
         go true true =
             let u = parent.take_busy q rp k in
             both_silent u ((parent.take_cancel q rp u.parent).outputs ++ []) (busy_silent rp k) (both_silent (parent.take_cancel q rp u.parent) [] (cancel_silent rp u.parent) (λ none. contains_none _ none))
@@ -179,7 +179,7 @@ module _ (to : Peer) (r : Reply) (paths : List PathRow) (tells : Tells r.answer 
     take_says (messages.PcReq (a ∷ b ∷ rest)) one k said = absurd (let none : length (a ∷ b ∷ rest) ≡ 1 = one in omega (arith, none))
     take_says (messages.PcRep replies) one k said = absurd (each_silent (parent.take_reply c q) reply_silent replies k said)
     take_says (messages.PcNtf notices) one k said =
-        absurd (each_silent (parent.take_notice q) (λ x k'. each_silent (λ (rp : ℕ × ℕ). parent.each (λ (step : Peer → ℕ × ℕ → Parent → Given). step q rp) (parent.notice_steps x.kinds)) (λ rp k''. steps_silent rp x.kinds k'') x.ids k') notices k said)
+        absurd (each_silent (parent.take_notice q) (λ x k'. each_silent (λ (rp : ℕ × ℕ). parent.each (λ (step : Peer → ℕ × ℕ → Parent → ParentTaken). step q rp) (parent.notice_steps x.kinds)) (λ rp k''. steps_silent rp x.kinds k'') x.ids k') notices k said)
     take_says (messages.PcErr reports) one k said = absurd (each_silent (parent.take_report q) (λ x k'. errors_silent x.ids x.errors k') reports k said)
     take_says (messages.Open body) one k said = absurd (contains_none _ said)
     take_says messages.Keepalive one k said = absurd (contains_none _ said)

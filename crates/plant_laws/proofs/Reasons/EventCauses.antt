@@ -18,7 +18,7 @@ use Rattle.pcep_session.specs.Table.{new_state, turn_of}
 use Rattle.plant_text.specs.declared.settings.NetworkParts.{NetworkParts}
 use Rattle.plant_text.specs.declared.settings.PeerRow.{PeerRow}
 use Rattle.plant_text.specs.Names.{same_as, parent_as}
-use Rattle.plant_text.specs.Settings.{Line, line, lines, is_linked, peer_row, class_of}
+use Rattle.plant_text.specs.Settings.{Adjacency, adjacency, adjacencies, is_linked, peer_row, class_of}
 use Rattle.plant_model.specs.declared.event.Event.{Event}
 use Rattle.plant_model.specs.declared.event.Event.TheVariants as event
 use Rattle.plant_model.specs.declared.output.Output.{Output}
@@ -30,7 +30,7 @@ use Rattle.plant_model.specs.Parent.{AskingRow}
 use Rattle.plant_model.specs.Parent as parent
 use Rattle.plant_model.specs.Settings.{place, family}
 use Rattle.plant_model.specs.State.{Connection, Access, Pops, Takes, Ups, Downs, Clears}
-use Rattle.plant_model.specs.Deeds.{Going, our_offer, own_message, element_of, is_due, is_tick, is_out_empty, any_fall, on_connection, with_session, with_inbox, read_as, input_of, with_access, with_element, with_parent, with_inner, put, puts, give, rise, fall, say, clear, expire, outside_act, outside_acts, outside_step, outside_input, inner_act, inner_acts, inner_input, begin_end, break_line, tick_outside, tick_lines}
+use Rattle.plant_model.specs.Deeds.{Going, our_offer, own_message, element_of, is_due, is_tick, is_out_empty, any_fall, on_connection, with_session, with_inbox, read_as, input_of, with_access, with_element, with_parent, with_inner, put, puts, give, rise, fall, say, clear, expire, outside_act, outside_acts, outside_step, outside_input, inner_act, inner_acts, inner_input, begin_end, break_adjacency, tick_outside, tick_adjacencies}
 use Rattle.plant_model.specs.Outside.{heeded}
 use Rattle.plant_model.specs.Events as events
 use Rattle.plant_model.specs.Events.{later}
@@ -168,7 +168,7 @@ module _ (c : Codec) (n : NetworkParts) (before : Plant) (e : Event) where
           subst (λ (b : Bool). cond b (AnswersLost (IsLostAbove p) asker_above theirs (parent.downed p g.state.parent).outputs) (AnswersLost (IsLost p) asker_of (mine at) (parent.downed p g.state.parent).outputs)) (sym up)
           (subst (λ (rows : List AskingRow). AnswersLost (IsLostAbove p) asker_above rows (parent.downed p g.state.parent).outputs) r.above (lost_above p g.state.parent.pending.rows))
 
-  clear_on : (x : Line) (g : Move) → Caused g → Caused (clear Pin Segment c n open_of x g)
+  clear_on : (x : Adjacency) (g : Move) → Caused g → Caused (clear Pin Segment c n open_of x g)
   clear_on x g r = record { causes = (tt, r.causes); rows = r.rows; above = r.above }
 
   expire_on : (now : ℕ) (g : Move) → Caused g → Caused (expire Pin Segment c n open_of now g)
@@ -215,8 +215,8 @@ module _ (c : Codec) (n : NetworkParts) (before : Plant) (e : Event) where
       let h : Move = record { state = with_inner Pin Segment c n open_of at b t.next g.state; deeds = g.deeds } in
       say_on at (Inner b) (own.Open (our_offer sid)) h (anew lower upper sid cleared sides refl) (rest_on g h.state refl refl r)
 
-  break_line_on : (x : Line) (g : Move) → Caused g → Caused (break_line Pin Segment c n open_of x g)
-  break_line_on x g r =
+  break_adjacency_on : (x : Adjacency) (g : Move) → Caused g → Caused (break_adjacency Pin Segment c n open_of x g)
+  break_adjacency_on x g r =
       let sid = ((g.state.sessions x.lower x.upper).offer.sid + 1) % 256 in
       let f = fall Pin Segment c n open_of x.lower (Inner x.upper) g in
       let h = fall Pin Segment c n open_of x.upper (Inner x.lower) f in
@@ -227,12 +227,12 @@ module _ (c : Codec) (n : NetworkParts) (before : Plant) (e : Event) where
       (begin_end_on sid x.lower x.upper x.lower x.upper k (inl (refl, refl)) cleared (clear_on x h (fall_on x.upper (Inner x.lower) f (fall_on x.lower (Inner x.upper) g r))))
 
   -- an input that passes nothing on
-  pub quiet_input_on : (x : Line) (at b : As) (y : Input) (g : Move) → has_pass (turn_of (g.state.sessions at b) y).actions ≡ false → Sent at (Inner b) (turn_of (g.state.sessions at b) y).actions → Caused g →
+  pub quiet_input_on : (x : Adjacency) (at b : As) (y : Input) (g : Move) → has_pass (turn_of (g.state.sessions at b) y).actions ≡ false → Sent at (Inner b) (turn_of (g.state.sessions at b) y).actions → Caused g →
       Caused (inner_input Pin Segment c n open_of x at b y g)
   quiet_input_on x at b y g none sent r =
       let t = turn_of (g.state.sessions at b) y in
       let h : Move = record { state = with_inner Pin Segment c n open_of at b t.next g.state; deeds = g.deeds } in
-      pick Caused (any_fall t.actions) (break_line Pin Segment c n open_of x g) (inner_acts Pin Segment c n open_of at b (is_tick y) t.actions h) (λ is. break_line_on x g r)
+      pick Caused (any_fall t.actions) (break_adjacency Pin Segment c n open_of x g) (inner_acts Pin Segment c n open_of at b (is_tick y) t.actions h) (λ is. break_adjacency_on x g r)
       (λ is. quiet_inner at b (is_tick y) t.actions h none sent (rest_on g h.state refl refl r))
 
   pub quiet_step_on : (i : ℕ) (y : Input) (g : Move) (k : Connection) → has_pass (turn_of k.session y).actions ≡ false → Sent (element_of n i) (Outside i) (turn_of k.session y).actions → Caused g →
@@ -380,10 +380,10 @@ module _ (c : Codec) (n : NetworkParts) (before : Plant) (e : Event) where
     after_pop : Caused popped
     after_pop = record { causes = (tt, tt); rows = λ d down. refl; above = refl }
 
-    pub first_have : Have (inner_input Pin Segment c n open_of (line a b) b a heard popped).deeds
+    pub first_have : Have (inner_input Pin Segment c n open_of (adjacency a b) b a heard popped).deeds
     first_have = elim (shape (before.sessions b a) heard) [
       | inl none ↦
-          (quiet_input_on (line a b) b a heard popped none
+          (quiet_input_on (adjacency a b) b a heard popped none
           (λ o in' earlier. by_table (before.sessions b a) heard o (came_along a bytes rest is refl linked first refl refl) (contains_at (action.Send o) (turn_of (before.sessions b a) heard).actions in') refl)
           after_pop).causes
       | inr pass ↦
@@ -392,7 +392,7 @@ module _ (c : Codec) (n : NetworkParts) (before : Plant) (e : Event) where
           let known : c.read bytes ≡ Some pass.0 = (let same : bytes ≡ read.0 = cc in subst (λ (z : Bytes). c.read z ≡ Some pass.0) (sym same) read.2) in
           let passes = from_inside a bytes rest is linked first known acts refl in
           let after = with_inner Pin Segment c n open_of b a (turn_of (before.sessions b a) heard).next popped.state in
-          subst (λ (as' : List Action). Have (cond (any_fall as') (break_line Pin Segment c n open_of (line a b) popped) (inner_acts Pin Segment c n open_of b a (is_tick heard) as' (record { state = after; deeds = popped.deeds }))).deeds) (sym pass.2)
+          subst (λ (as' : List Action). Have (cond (any_fall as') (break_adjacency Pin Segment c n open_of (adjacency a b) popped) (inner_acts Pin Segment c n open_of b a (is_tick heard) as' (record { state = after; deeds = popped.deeds }))).deeds) (sym pass.2)
           (give_on b (Inner a) pass.0 after.accesses after.sessions after.queues popped.deeds passes (tt, tt))
     ]
 
@@ -408,7 +408,7 @@ module _ (c : Codec) (n : NetworkParts) (before : Plant) (e : Event) where
   pub break_have : (a b : As) → Have (events.break Pin Segment c n open_of a b before).deeds
   break_have a b =
       pick (λ (h : events.Happened Pin Segment). Have h.deeds) (is_linked n a b) _ (events.refused Pin Segment c n open_of _ before)
-      (λ linked. (break_line_on (line a b) (record { state = before; deeds = [] }) at_start).causes) (λ none. tt)
+      (λ linked. (break_adjacency_on (adjacency a b) (record { state = before; deeds = [] }) at_start).causes) (λ none. tt)
 
   -- a tick
   module _ (t : Tick) (is : e ≡ event.Tick t) where
@@ -426,18 +426,18 @@ module _ (c : Codec) (n : NetworkParts) (before : Plant) (e : Event) where
         go None = r
         go (Some k) = quiet_step_on i (input.Tick now) g k (no_pass k.session (input.Tick now) (tick_is_other now)) (ticked_sent (element_of n i) (Outside i) k.session) r
 
-    tick_lines_on : (xs : List Line) (g : Move) → Caused g → Caused (tick_lines Pin Segment c n open_of xs now g)
-    tick_lines_on [] g r = r
-    tick_lines_on (x ∷ xs) g r =
+    tick_adjacencies_on : (xs : List Adjacency) (g : Move) → Caused g → Caused (tick_adjacencies Pin Segment c n open_of xs now g)
+    tick_adjacencies_on [] g r = r
+    tick_adjacencies_on (x ∷ xs) g r =
         let h = inner_input Pin Segment c n open_of x x.lower x.upper (input.Tick now) g in
         let r' : Caused h =
         quiet_input_on x x.lower x.upper (input.Tick now) g (no_pass (g.state.sessions x.lower x.upper) (input.Tick now) (tick_is_other now)) (ticked_sent x.lower (Inner x.upper) (g.state.sessions x.lower x.upper)) r in
-        tick_lines_on xs (inner_input Pin Segment c n open_of x x.upper x.lower (input.Tick now) h)
+        tick_adjacencies_on xs (inner_input Pin Segment c n open_of x x.upper x.lower (input.Tick now) h)
         (quiet_input_on x x.upper x.lower (input.Tick now) h (no_pass (h.state.sessions x.upper x.lower) (input.Tick now) (tick_is_other now)) (ticked_sent x.upper (Inner x.lower) (h.state.sessions x.upper x.lower)) r')
 
     pub tick_have : Have (events.tick Pin Segment c n open_of t.0 before).deeds
     tick_have =
         let g : Move = record { state = record before { clock = now.0 }; deeds = [] } in
         let h = tick_outside Pin Segment c n open_of 0 n.peers now g in
-        let k = tick_lines Pin Segment c n open_of (lines n) now h in
-        (expire_on now.0 k (tick_lines_on (lines n) h (tick_outside_on 0 n.peers g (rest_on (record { state = before; deeds = [] }) g.state refl refl at_start)))).causes
+        let k = tick_adjacencies Pin Segment c n open_of (adjacencies n) now h in
+        (expire_on now.0 k (tick_adjacencies_on (adjacencies n) h (tick_outside_on 0 n.peers g (rest_on (record { state = before; deeds = [] }) g.state refl refl at_start)))).causes

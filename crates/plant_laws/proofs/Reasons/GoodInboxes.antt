@@ -15,7 +15,7 @@ use Rattle.pcep_session.specs.declared.actions.Own.{Own}
 use Rattle.pcep_session.specs.Table.{new_state, turn_of}
 use Rattle.border_costs.specs.declared.answer.Answer.{Answer}
 use Rattle.plant_text.specs.Names.{same_as, parent_as}
-use Rattle.plant_text.specs.Settings.{Line, line, class_of, is_linked, peer_row}
+use Rattle.plant_text.specs.Settings.{Adjacency, adjacency, class_of, is_linked, peer_row}
 use Rattle.plant_model.specs.declared.event.Event.{Event}
 use Rattle.plant_model.specs.declared.event.Event.TheVariants as event
 use Rattle.plant_model.specs.declared.output.Output.{Output}
@@ -30,7 +30,7 @@ use Rattle.plant_model.specs.Parent as parent
 use Rattle.plant_model.specs.Settings.{place, family}
 use Rattle.plant_model.specs.Samples.{As_, asks, the_open}
 use Rattle.plant_model.specs.State.{Access, Connection, Pops, Takes, Ups, Downs}
-use Rattle.plant_model.specs.Deeds.{Going, our_offer, own_message, element_of, is_due, is_tick, is_out_empty, any_fall, on_connection, with_more, with_session, with_inbox, input_of, with_access, with_element, with_parent, with_inner, put, puts, give, rise, fall, say, clear, outside_act, outside_acts, outside_step, inner_act, inner_acts, begin_end, break_line}
+use Rattle.plant_model.specs.Deeds.{Going, our_offer, own_message, element_of, is_due, is_tick, is_out_empty, any_fall, on_connection, with_more, with_session, with_inbox, input_of, with_access, with_element, with_parent, with_inner, put, puts, give, rise, fall, say, clear, outside_act, outside_acts, outside_step, inner_act, inner_acts, begin_end, break_adjacency}
 use Rattle.plant_model.specs.Outside.{heeded}
 use Rattle.plant_model.specs.Events as events
 use Rattle.plant_model.specs.Events.{is_down, fed}
@@ -130,7 +130,7 @@ module _ (i : ℕ) (miss : (0 == i) ≡ false) where
       let r = turn_of (new_state (our_offer sid) (record { 0 = g.state.clock })) input.Begin in
       inner_none at b false r.actions (record { state = with_inner Pin Segment wire two open_of at b r.next g.state; deeds = g.deeds }) none
 
-  break_none : (x : Line) (g : Move) → NoneAt g.state → NoneAt (break_line Pin Segment wire two open_of x g).state
+  break_none : (x : Adjacency) (g : Move) → NoneAt g.state → NoneAt (break_adjacency Pin Segment wire two open_of x g).state
   break_none x g none =
       let sid = ((g.state.sessions x.lower x.upper).offer.sid + 1) % 256 in
       let f = fall Pin Segment wire two open_of x.lower (Inner x.upper) g in
@@ -154,8 +154,8 @@ module _ (i : ℕ) (miss : (0 == i) ≡ false) where
           let came = input_of wire (Some x) in
           let r = turn_of (s.sessions b a) came in
           let g : Move = record { state = record s { queues = set_pair a b rest s.queues }; deeds = Pops a b ∷ [] } in
-          pick (any_fall r.actions) (break_line Pin Segment wire two open_of (line a b) g) (inner_acts Pin Segment wire two open_of b a (is_tick came) r.actions (record { state = with_inner Pin Segment wire two open_of b a r.next g.state; deeds = g.deeds }))
-          (break_none (line a b) g none) (inner_none b a (is_tick came) r.actions (record { state = with_inner Pin Segment wire two open_of b a r.next g.state; deeds = g.deeds }) none)
+          pick (any_fall r.actions) (break_adjacency Pin Segment wire two open_of (adjacency a b) g) (inner_acts Pin Segment wire two open_of b a (is_tick came) r.actions (record { state = with_inner Pin Segment wire two open_of b a r.next g.state; deeds = g.deeds }))
+          (break_none (adjacency a b) g none) (inner_none b a (is_tick came) r.actions (record { state = with_inner Pin Segment wire two open_of b a r.next g.state; deeds = g.deeds }) none)
 
   open_keeps : Keeps (event.Open 0 0)
   open_keeps s none = go (is_some (peer_row 0 two.peers)) (s.accesses 0).connection

@@ -5,7 +5,7 @@ use Rattle.dom_base.specs.declared.names.As.{As}
 use Rattle.pcep_session.specs.declared.actions.Own.TheVariants as own
 use Rattle.plant_text.specs.declared.settings.NetworkParts.{NetworkParts}
 use Rattle.plant_text.specs.Names.{same_as}
-use Rattle.plant_text.specs.Settings.{Line, lines}
+use Rattle.plant_text.specs.Settings.{Adjacency, adjacencies}
 use Rattle.plant_model.specs.declared.event.Event.{Event}
 use Rattle.plant_model.specs.declared.output.Output.{Output}
 use Rattle.plant_model.specs.Wire.{Codec}
@@ -49,7 +49,7 @@ AreOpens [] = Unit {0}
 AreOpens (Says at o ∷ earlier) = (o.message ≡ own_message (own.Open (our_offer 0))) × AreOpens earlier
 AreOpens (e ∷ earlier) = ⊥
 
-opens_are : (xs : List Line) (ds : Transcript) → AreOpens ds → AreOpens (opens_of xs ds)
+opens_are : (xs : List Adjacency) (ds : Transcript) → AreOpens ds → AreOpens (opens_of xs ds)
 opens_are [] ds opens = opens
 opens_are (x ∷ xs) ds opens = opens_are xs (an_open x.upper x.lower ∷ an_open x.lower x.upper ∷ ds) (refl, (refl, opens))
 
@@ -85,7 +85,7 @@ CausedIn c n es s run deed older = (one : HasOne c n deed older) × Meets c n es
 
 pub moment_met : (c : Codec) (n : NetworkParts) (es : List Entry) (s : Plant) (run : Run c n es s) → IsShort (deeds_of c n es) → (deed : PlantDeed) (older : Transcript) → Within (deed ∷ older) (deeds_of c n es) →
     CausedIn c n es s run deed older ⊎ IsOpening deed
-moment_met c n [] s run short deed older within = inr (opens_within (opened c n).deeds deed older (subst AreOpens (sym (networks_begin c n)) (opens_are (lines n) [] tt)) within)
+moment_met c n [] s run short deed older within = inr (opens_within (opened c n).deeds deed older (subst AreOpens (sym (networks_begin c n)) (opens_are (adjacencies n) [] tt)) within)
 moment_met c n (e ∷ es) s run short deed older within = go e.answer refl (λ within'. further (moment_met c n es run.0 run.1 (short_before e.deeds (deeds_of c n es) short) deed older within'))
   where
     h : Happened

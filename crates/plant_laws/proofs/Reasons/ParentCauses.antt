@@ -29,7 +29,7 @@ use Rattle.plant_model.specs.Names.{same_id, has_pair}
 use Rattle.plant_model.specs.Wire.{Codec, Checked, Admitted, Wrong}
 use Rattle.plant_model.specs.Writing.{reply_message, busy, unavailable}
 use Rattle.plant_model.specs.Element.{Way, way_to, with_last}
-use Rattle.plant_model.specs.Parent.{Wait, AskingRow, Parent, Given, Errand, only, each, errands, among, waiting, all_waits, next_id, ask_all, is_up, all_up, take_path, take_wish, take_new, take_checked, take_asked, answered, gathers, take_answer, take_found, take_reply, told_busy, cancelled, take_busy, take_cancel, notice_steps, take_notice, told_error, take_failure, take_errors, take_report, take}
+use Rattle.plant_model.specs.Parent.{Wait, AskingRow, Parent, ParentTaken, Errand, only, each, errands, among, waiting, all_waits, next_id, ask_all, is_up, all_up, take_path, take_wish, take_new, take_checked, take_asked, answered, gathers, take_answer, take_found, take_reply, told_busy, cancelled, take_busy, take_cancel, notice_steps, take_notice, told_error, take_failure, take_errors, take_report, take}
 use Rattle.plant_model.specs.Settings.{family}
 use Rattle.plant_laws.specs.MessageCauses.{Asker, WaitsAbove, TellsOfPaths, OnReply, unknown, is_kept, is_broken, OnNotice, next_is_full, noted_for_nobody, of_other_kind, OnError, failed_for_nobody, of_reply, out_of_profile, other_error, AreAsked, OnRequestAbove, wrong_above, again_above, key_above, no_room_above, child_down, all_asked, Part, Asks, Replies, Notes, Fails, alone, noted, failed_by, failed, OnMessageAbove}
 use Rattle.plant_laws.proofs.Reasons.PartCauses as part
@@ -144,7 +144,7 @@ module _ (c : Codec) (n : NetworkParts) (p : Peer) where
     abbrev Request_on : List Output → Type 0
     Request_on os = OnRequestAbove c n p a k os
 
-    abbrev Given_on : Given → Type 0
+    abbrev Given_on : ParentTaken → Type 0
     Given_on t = Request_on t.outputs
 
     wish_on : (r : Request) → c.check a parent_as ≡ Admitted r → number_of k.pending p r.id ≡ None → (x : Wish) → r.wish ≡ x → Given_on (take_wish (family n) p r.flags r.id k x)
@@ -171,7 +171,7 @@ module _ (c : Codec) (n : NetworkParts) (p : Peer) where
   -- ---- a reply
 
   module _ (r : Reply) (k : Parent) where
-    abbrev Reply_on : Given → Type 0
+    abbrev Reply_on : ParentTaken → Type 0
     Reply_on t = OnReply (WaitsAbove k p r.id) false p r t.outputs
 
     answer_on : (h : AskingRow) → waiting p r.id k.pending.rows ≡ Some h → (x : Answer) → r.answer ≡ x → Reply_on (take_answer c p r.id h k x)
@@ -194,7 +194,7 @@ module _ (c : Codec) (n : NetworkParts) (p : Peer) where
     abbrev Notice_on : List Output → Type 0
     Notice_on os = OnNotice (WaitsAbove k p rp.1) kinds os
 
-    abbrev Steps_on : List (Peer → ℕ × ℕ → Parent → Given) → Type 0
+    abbrev Steps_on : List (Peer → ℕ × ℕ → Parent → ParentTaken) → Type 0
     Steps_on steps = Notice_on (each (λ step. step p rp) steps k).outputs
 
     busy_on : has_pair notices.BUSY.0 notices.BUSY.1 kinds ≡ true → Notice_on (take_busy p rp k).outputs
@@ -252,7 +252,7 @@ module _ (c : Codec) (n : NetworkParts) (p : Peer) where
   append_on : (xs ys : List Part) (k : Parent) (os os' : List Output) → Ons xs k os → Ons ys (left_by xs k) os' → Ons (xs ++ ys) k (os ++ os')
   append_on xs ys k os os' h h' = part.on_append Parent (λ k'. WaitsAbove k' p) (OnRequestAbove c n p) left false p xs ys k os os' h h'
 
-  module _ {X : Type 0} (part_of : X → Part) (f : X → Parent → Given) (same : (x : X) (k : Parent) → left (alone (part_of x)) k ≡ (f x k).parent)
+  module _ {X : Type 0} (part_of : X → Part) (f : X → Parent → ParentTaken) (same : (x : X) (k : Parent) → left (alone (part_of x)) k ≡ (f x k).parent)
       (says : (x : X) (k : Parent) → part.On Parent (λ k'. WaitsAbove k' p) (OnRequestAbove c n p) left false p (part_of x) k (f x k).outputs) where
     each_on : (xs : List X) (k : Parent) → Ons (map part_of xs) k (each f xs k).outputs
     each_on [] k = refl

@@ -24,7 +24,7 @@ use Rattle.plant_model.specs.Wire.{Codec, Checked, Admitted, Wrong}
 use Rattle.plant_model.specs.Laws.{IsCodec, IsNetwork}
 use Rattle.plant_model.specs.Writing.{busy}
 use Rattle.plant_model.specs.Names.{the_parent}
-use Rattle.plant_model.specs.Element.{Element, Row, Place, is_client}
+use Rattle.plant_model.specs.Element.{Element, Row, ElementSettings, is_client}
 use Rattle.plant_model.specs.Taking.{take}
 use Rattle.plant_model.specs.Settings.{place}
 use Rattle.plant_model.specs.State.{Loads, Pops, Takes, Says, Ups, Downs, Clears, Solves, Expires, Hands}
@@ -238,7 +238,7 @@ module _ (c : Codec) (codec : IsCodec c) (n : NetworkParts) (net : IsNetwork n) 
   client_each F h down rows m (its_path b one at is) = reply _ is
   client_each F h down rows m (no_pair none is) = reply _ is
 
-  closed_each : (F : Type 0) (e : Place) (h : Row Pin) (down : _) (now : ℕ) (keys : _) (best : _) (m : Message) → TellsClosed c e h down now keys best m → IsOf F m
+  closed_each : (F : Type 0) (e : ElementSettings) (h : Row Pin) (down : _) (now : ℕ) (keys : _) (best : _) (m : Message) → TellsClosed c e h down now keys best m → IsOf F m
   closed_each F e h down now keys best m (branches some few is) = reply _ is
   closed_each F e h down now keys best m (no_branch none is) = reply _ is
   closed_each F e h down now keys best m (lacks_keys few is) = full _ _ is

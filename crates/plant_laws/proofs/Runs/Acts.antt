@@ -9,7 +9,7 @@ use Rattle.pcep_session.specs.declared.actions.Own.{Own}
 use Rattle.plant_text.specs.declared.settings.NetworkParts.{NetworkParts}
 use Rattle.plant_model.specs.Names.{set_pair}
 use Rattle.plant_model.specs.Wire.{Bytes, Codec}
-use Rattle.plant_text.specs.Settings.{Line}
+use Rattle.plant_text.specs.Settings.{Adjacency}
 use Rattle.plant_model.specs.Outside.{heeded}
 use Rattle.plant_model.specs.State.{State, Deed, Pops, Hands}
 use Rattle.plant_model.specs.Deeds as deeds
@@ -55,7 +55,7 @@ module _ (P : Type 0) (S : Type 0) (c : Codec) (n : NetworkParts) (show : S → 
     rises : (at : As) (p : Peer) (s : State P S) → Acts s (deeds.rise P S c n show at p (from s)).deeds (deeds.rise P S c n show at p (from s)).state
     falls : (at : As) (p : Peer) (s : State P S) → Acts s (deeds.fall P S c n show at p (from s)).deeds (deeds.fall P S c n show at p (from s)).state
     says : (at : As) (p : Peer) (o : Own) (s : State P S) → Acts s (deeds.say P S c n show at p o (from s)).deeds (deeds.say P S c n show at p o (from s)).state
-    clears : (x : Line) (s : State P S) → Acts s (deeds.clear P S c n show x (from s)).deeds (deeds.clear P S c n show x (from s)).state
+    clears : (x : Adjacency) (s : State P S) → Acts s (deeds.clear P S c n show x (from s)).deeds (deeds.clear P S c n show x (from s)).state
     expires : (now : ℕ) (s : State P S) → Acts s (deeds.expire P S c n show now (from s)).deeds (deeds.expire P S c n show now (from s)).state
 
   -- several, the newest last

@@ -21,9 +21,9 @@ use Rattle.plant_model.specs.Names.{is_empty}
 use Rattle.plant_model.specs.Wire.{Bytes, Codec}
 use Rattle.plant_model.specs.Element.{Element, upped, downed}
 use Rattle.plant_model.specs.Parent as parent
-use Rattle.plant_text.specs.Settings.{Line}
+use Rattle.plant_text.specs.Settings.{Adjacency}
 use Rattle.plant_model.specs.State.{State, Connection, Loads, Pops, Takes, Says, Ups, Downs, Clears, Solves, Expires, Hands}
-use Rattle.plant_model.specs.Deeds.{Going, element_of, own_message, is_due, is_tick, is_out_empty, any_fall, our_offer, with_session, with_inbox, with_element, with_parent, put, put_to, puts, rise, fall, say, clear, outside_act, outside_acts, outside_step, outside_input, inner_act, inner_acts, inner_input, begin_end, begin_line, break_line, tick_outside, tick_lines, with_access, with_inner}
+use Rattle.plant_model.specs.Deeds.{Going, element_of, own_message, is_due, is_tick, is_out_empty, any_fall, our_offer, with_session, with_inbox, with_element, with_parent, put, put_to, puts, rise, fall, say, clear, outside_act, outside_acts, outside_step, outside_input, inner_act, inner_acts, inner_input, begin_end, begin_adjacency, break_adjacency, tick_outside, tick_adjacencies, with_access, with_inner}
 use Rattle.plant_model.specs.Plant.{Pin, Segment, PlantDeed}
 use Rattle.plant_laws.proofs.Runs.Queues.{same_as_is}
 use Rattle.plant_laws.proofs.Runs.Shape.{has_pass, shape}
@@ -138,7 +138,7 @@ module _ (c : Codec) (n : NetworkParts) where
         one_on g (Says at out) (put Pin Segment c n open_of at out g.state) refl (put_clock at (c.text (own_message o)) g.state p)
         (λ d. ap (λ (f : As → Element Pin Segment). (f d).keys) (put_elements at (c.text (own_message o)) g.state p)) r
 
-    clear_on : (x : Line) (g : Going Pin Segment) → Reached g → Reached (clear Pin Segment c n open_of x g)
+    clear_on : (x : Adjacency) (g : Going Pin Segment) → Reached g → Reached (clear Pin Segment c n open_of x g)
     clear_on x g r = one_on g (Clears x.lower x.upper) (clear Pin Segment c n open_of x g).state refl refl (λ d. refl) r
 
     pub quiet_inner : (at b : As) (ticks : Bool) (as' : List Action) (g : Going Pin Segment) → has_pass as' ≡ false → Reached g → Reached (inner_acts Pin Segment c n open_of at b ticks as' g)
@@ -169,22 +169,22 @@ module _ (c : Codec) (n : NetworkParts) where
         let h : Going Pin Segment = record { state = with_inner Pin Segment c n open_of at b t.next g.state; deeds = g.deeds } in
         quiet_inner at b false t.actions h refl (rest_on g h.state refl refl r)
 
-    pub begin_line_on : (sid : ℕ) (x : Line) (g : Going Pin Segment) → Reached g → Reached (begin_line Pin Segment c n open_of sid x g)
-    begin_line_on sid x g r = begin_end_on sid x.upper x.lower (begin_end Pin Segment c n open_of sid x.lower x.upper g) (begin_end_on sid x.lower x.upper g r)
+    pub begin_adjacency_on : (sid : ℕ) (x : Adjacency) (g : Going Pin Segment) → Reached g → Reached (begin_adjacency Pin Segment c n open_of sid x g)
+    begin_adjacency_on sid x g r = begin_end_on sid x.upper x.lower (begin_end Pin Segment c n open_of sid x.lower x.upper g) (begin_end_on sid x.lower x.upper g r)
 
-    pub break_line_on : (x : Line) (g : Going Pin Segment) → Reached g → Reached (break_line Pin Segment c n open_of x g)
-    break_line_on x g r =
+    pub break_adjacency_on : (x : Adjacency) (g : Going Pin Segment) → Reached g → Reached (break_adjacency Pin Segment c n open_of x g)
+    break_adjacency_on x g r =
         let f = fall Pin Segment c n open_of x.lower (Inner x.upper) g in
         let h = fall Pin Segment c n open_of x.upper (Inner x.lower) f in
-        begin_line_on (((g.state.sessions x.lower x.upper).offer.sid + 1) % 256) x (clear Pin Segment c n open_of x h)
+        begin_adjacency_on (((g.state.sessions x.lower x.upper).offer.sid + 1) % 256) x (clear Pin Segment c n open_of x h)
         (clear_on x h (fall_on x.upper (Inner x.lower) f (fall_on x.lower (Inner x.upper) g r)))
 
     -- an input that passes nothing on
-    pub quiet_input_on : (x : Line) (at b : As) (y : Input) (g : Going Pin Segment) → has_pass (turn_of (g.state.sessions at b) y).actions ≡ false → Reached g → Reached (inner_input Pin Segment c n open_of x at b y g)
+    pub quiet_input_on : (x : Adjacency) (at b : As) (y : Input) (g : Going Pin Segment) → has_pass (turn_of (g.state.sessions at b) y).actions ≡ false → Reached g → Reached (inner_input Pin Segment c n open_of x at b y g)
     quiet_input_on x at b y g none r =
         let t = turn_of (g.state.sessions at b) y in
         let h : Going Pin Segment = record { state = with_inner Pin Segment c n open_of at b t.next g.state; deeds = g.deeds } in
-        pick (any_fall t.actions) (break_line Pin Segment c n open_of x g) (inner_acts Pin Segment c n open_of at b (is_tick y) t.actions h) (break_line_on x g r)
+        pick (any_fall t.actions) (break_adjacency Pin Segment c n open_of x g) (inner_acts Pin Segment c n open_of at b (is_tick y) t.actions h) (break_adjacency_on x g r)
         (quiet_inner at b (is_tick y) t.actions h none (rest_on g h.state refl refl r))
 
     no_pass : (s : Session) (y : Input) → ((m : Message) → y ≡ input.Got m → ⊥) → has_pass (turn_of s y).actions ≡ false
@@ -209,10 +209,10 @@ module _ (c : Codec) (n : NetworkParts) where
     tick_outside_on i (row ∷ rs) now g r =
         tick_outside_on (i + 1) rs now (outside_input Pin Segment c n open_of i (input.Tick now) g) (other_input_on i (input.Tick now) g (tick_is_other now) r)
 
-    pub tick_lines_on : (xs : List Line) (now : Tick) (g : Going Pin Segment) → Reached g → Reached (tick_lines Pin Segment c n open_of xs now g)
-    tick_lines_on [] now g r = r
-    tick_lines_on (x ∷ xs) now g r =
+    pub tick_adjacencies_on : (xs : List Adjacency) (now : Tick) (g : Going Pin Segment) → Reached g → Reached (tick_adjacencies Pin Segment c n open_of xs now g)
+    tick_adjacencies_on [] now g r = r
+    tick_adjacencies_on (x ∷ xs) now g r =
         let h = inner_input Pin Segment c n open_of x x.lower x.upper (input.Tick now) g in
         let r' : Reached h = quiet_input_on x x.lower x.upper (input.Tick now) g (no_pass (g.state.sessions x.lower x.upper) (input.Tick now) (tick_is_other now)) r in
-        tick_lines_on xs now (inner_input Pin Segment c n open_of x x.upper x.lower (input.Tick now) h)
+        tick_adjacencies_on xs now (inner_input Pin Segment c n open_of x x.upper x.lower (input.Tick now) h)
         (quiet_input_on x x.upper x.lower (input.Tick now) h (no_pass (h.state.sessions x.upper x.lower) (input.Tick now) (tick_is_other now)) r')

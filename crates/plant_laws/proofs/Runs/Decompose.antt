@@ -18,9 +18,9 @@ use Rattle.plant_model.specs.Names.{is_empty}
 use Rattle.plant_model.specs.Wire.{Bytes, Codec}
 use Rattle.pcep_session.specs.declared.state.State.{State as Session}
 use Rattle.pcep_session.specs.Table.{turn_of, new_state}
-use Rattle.plant_text.specs.Settings.{Line, line, lines, is_linked, peer_row}
+use Rattle.plant_text.specs.Settings.{Adjacency, adjacency, adjacencies, is_linked, peer_row}
 use Rattle.plant_model.specs.State.{State, Deed, Connection, Pops}
-use Rattle.plant_model.specs.Deeds.{Going, element_of, is_due, is_tick, is_out_empty, any_fall, our_offer, with_session, with_inbox, read_as, input_of, give, rise, fall, say, clear, expire, outside_act, outside_acts, outside_step, outside_input, inner_act, inner_acts, inner_input, begin_end, begin_line, break_line, tick_outside, tick_lines, with_access, with_inner}
+use Rattle.plant_model.specs.Deeds.{Going, element_of, is_due, is_tick, is_out_empty, any_fall, our_offer, with_session, with_inbox, read_as, input_of, give, rise, fall, say, clear, expire, outside_act, outside_acts, outside_step, outside_input, inner_act, inner_acts, inner_input, begin_end, begin_adjacency, break_adjacency, tick_outside, tick_adjacencies, with_access, with_inner}
 use Rattle.plant_model.specs.Outside.{heeded}
 use Rattle.pcep_framing.specs.Frames.{joined}
 use Rattle.plant_model.specs.Events as events
@@ -89,7 +89,7 @@ module _ (P : Type 0) (S : Type 0) (c : Codec) (n : NetworkParts) (show : S → 
         let h = say P S c n show at p o (record { state = g.state; deeds = [] }) in
         goes_on s0 g.state h.state g.deeds h.deeds r (says at p o g.state)
 
-    clear_on : (x : Line) (g : Going P S) → Reached g → Reached (clear P S c n show x g)
+    clear_on : (x : Adjacency) (g : Going P S) → Reached g → Reached (clear P S c n show x g)
     clear_on x g r =
         let h = clear P S c n show x (record { state = g.state; deeds = [] }) in
         goes_on s0 g.state h.state g.deeds h.deeds r (clears x g.state)
@@ -149,22 +149,22 @@ module _ (P : Type 0) (S : Type 0) (c : Codec) (n : NetworkParts) (show : S → 
         let h : Going P S = record { state = with_inner P S c n show at b t.next g.state; deeds = g.deeds } in
         quiet_inner at b false t.actions h refl (rest_on g h.state (record { elements = refl; parent = refl; current = refl; queues = refl }) r)
 
-    pub begin_line_on : (sid : ℕ) (x : Line) (g : Going P S) → Reached g → Reached (begin_line P S c n show sid x g)
-    begin_line_on sid x g r = begin_end_on sid x.upper x.lower (begin_end P S c n show sid x.lower x.upper g) (begin_end_on sid x.lower x.upper g r)
+    pub begin_adjacency_on : (sid : ℕ) (x : Adjacency) (g : Going P S) → Reached g → Reached (begin_adjacency P S c n show sid x g)
+    begin_adjacency_on sid x g r = begin_end_on sid x.upper x.lower (begin_end P S c n show sid x.lower x.upper g) (begin_end_on sid x.lower x.upper g r)
 
-    break_line_on : (x : Line) (g : Going P S) → Reached g → Reached (break_line P S c n show x g)
-    break_line_on x g r =
+    break_adjacency_on : (x : Adjacency) (g : Going P S) → Reached g → Reached (break_adjacency P S c n show x g)
+    break_adjacency_on x g r =
         let f = fall P S c n show x.lower (Inner x.upper) g in
         let h = fall P S c n show x.upper (Inner x.lower) f in
-        begin_line_on (((g.state.sessions x.lower x.upper).offer.sid + 1) % 256) x (clear P S c n show x h)
+        begin_adjacency_on (((g.state.sessions x.lower x.upper).offer.sid + 1) % 256) x (clear P S c n show x h)
         (clear_on x h (fall_on x.upper (Inner x.lower) f (fall_on x.lower (Inner x.upper) g r)))
 
     -- an input that passes nothing on
-    quiet_input_on : (x : Line) (at b : As) (y : Input) (g : Going P S) → has_pass (turn_of (g.state.sessions at b) y).actions ≡ false → Reached g → Reached (inner_input P S c n show x at b y g)
+    quiet_input_on : (x : Adjacency) (at b : As) (y : Input) (g : Going P S) → has_pass (turn_of (g.state.sessions at b) y).actions ≡ false → Reached g → Reached (inner_input P S c n show x at b y g)
     quiet_input_on x at b y g none r =
         let t = turn_of (g.state.sessions at b) y in
         let h : Going P S = record { state = with_inner P S c n show at b t.next g.state; deeds = g.deeds } in
-        pick (any_fall t.actions) (break_line P S c n show x g) (inner_acts P S c n show at b (is_tick y) t.actions h) (break_line_on x g r)
+        pick (any_fall t.actions) (break_adjacency P S c n show x g) (inner_acts P S c n show at b (is_tick y) t.actions h) (break_adjacency_on x g r)
         (quiet_inner at b (is_tick y) t.actions h none (rest_on g h.state (record { elements = refl; parent = refl; current = refl; queues = refl }) r))
 
     no_pass : (s : Session) (y : Input) → ((m : Message) → y ≡ input.Got m → ⊥) → has_pass (turn_of s y).actions ≡ false
@@ -179,12 +179,12 @@ module _ (P : Type 0) (S : Type 0) (c : Codec) (n : NetworkParts) (show : S → 
         tick_outside_on (i + 1) rs now (outside_input P S c n show i (input.Tick now) g)
         (outside_input_on i (input.Tick now) g (λ m e. absurd (tick_is_other now m e)) r)
 
-    tick_lines_on : (xs : List Line) (now : Tick) (g : Going P S) → Reached g → Reached (tick_lines P S c n show xs now g)
-    tick_lines_on [] now g r = r
-    tick_lines_on (x ∷ xs) now g r =
+    tick_adjacencies_on : (xs : List Adjacency) (now : Tick) (g : Going P S) → Reached g → Reached (tick_adjacencies P S c n show xs now g)
+    tick_adjacencies_on [] now g r = r
+    tick_adjacencies_on (x ∷ xs) now g r =
         let h = inner_input P S c n show x x.lower x.upper (input.Tick now) g in
         let r' : Reached h = quiet_input_on x x.lower x.upper (input.Tick now) g (no_pass (g.state.sessions x.lower x.upper) (input.Tick now) (tick_is_other now)) r in
-        tick_lines_on xs now (inner_input P S c n show x x.upper x.lower (input.Tick now) h)
+        tick_adjacencies_on xs now (inner_input P S c n show x x.upper x.lower (input.Tick now) h)
         (quiet_input_on x x.upper x.lower (input.Tick now) h (no_pass (h.state.sessions x.upper x.lower) (input.Tick now) (tick_is_other now)) r')
 
   -- an event, from the state before it
@@ -269,22 +269,22 @@ module _ (P : Type 0) (S : Type 0) (c : Codec) (n : NetworkParts) (show : S → 
           let t = turn_of (g.state.sessions b a) y in
           let u = with_inner P S c n show b a t.next g.state in
           elim (shape (g.state.sessions b a) y) [
-            | inl none ↦ quiet_input_on s (line a b) b a y g none (goes_on s s g.state [] (Pops a b ∷ []) (stands s) (nods a b x rest s is))
+            | inl none ↦ quiet_input_on s (adjacency a b) b a y g none (goes_on s s g.state [] (Pops a b ∷ []) (stands s) (nods a b x rest s is))
             | inr pass ↦
                 let h = give P S c n show b (Inner a) pass.0 (record { state = u; deeds = Pops a b ∷ [] }) in
                 let act : Acts P S c n show s h.deeds h.state = carries a b x rest pass.0 s u is (read_back (c.read x) pass.0 pass.1) (record { elements = refl; parent = refl; current = refl; queues = refl }) in
                 subst (λ (as' : List Action). Goes P S c n show s
-                (cond (any_fall as') (break_line P S c n show (line a b) g) (inner_acts P S c n show b a (is_tick y) as' (record { state = u; deeds = g.deeds }))).deeds
-                (cond (any_fall as') (break_line P S c n show (line a b) g) (inner_acts P S c n show b a (is_tick y) as' (record { state = u; deeds = g.deeds }))).state)
+                (cond (any_fall as') (break_adjacency P S c n show (adjacency a b) g) (inner_acts P S c n show b a (is_tick y) as' (record { state = u; deeds = g.deeds }))).deeds
+                (cond (any_fall as') (break_adjacency P S c n show (adjacency a b) g) (inner_acts P S c n show b a (is_tick y) as' (record { state = u; deeds = g.deeds }))).state)
                 (sym pass.2)
                 (subst (λ (ds : List (Deed S)). Goes P S c n show s ds h.state) (nil_right h.deeds) (goes_on s s h.state [] h.deeds (stands s) act))
           ]
 
   pub break_did : (a b : As) (s : State P S) → Did s (events.break P S c n show a b s)
   break_did a b s =
-      let g = break_line P S c n show (line a b) (record { state = s; deeds = [] }) in
+      let g = break_adjacency P S c n show (adjacency a b) (record { state = s; deeds = [] }) in
       did_pick s (is_linked n a b) (events.answered P S c n show _ g) (events.refused P S c n show _ s)
-      (break_line_on s (line a b) (record { state = s; deeds = [] }) (stands s)) (stands s)
+      (break_adjacency_on s (adjacency a b) (record { state = s; deeds = [] }) (stands s)) (stands s)
 
   pub tick_did : (t : ℕ) (s : State P S) → Did s (events.tick P S c n show t s)
   tick_did t s =
@@ -292,8 +292,8 @@ module _ (P : Type 0) (S : Type 0) (c : Codec) (n : NetworkParts) (show : S → 
       let u : State P S = record s { clock = now } in
       let g : Going P S = record { state = u; deeds = [] } in
       let h = tick_outside P S c n show 0 n.peers (record { 0 = now }) g in
-      expire_on s now (tick_lines P S c n show (lines n) (record { 0 = now }) h)
-      (tick_lines_on s (lines n) (record { 0 = now }) h
+      expire_on s now (tick_adjacencies P S c n show (adjacencies n) (record { 0 = now }) h)
+      (tick_adjacencies_on s (adjacencies n) (record { 0 = now }) h
       (tick_outside_on s 0 n.peers (record { 0 = now }) g (rest_first s u (record { elements = refl; parent = refl; current = refl; queues = refl }))))
 
   pub drain_did : (i holder : ℕ) (s : State P S) → Did s (events.drain P S c n show i holder s)

@@ -27,10 +27,10 @@ use Rattle.plant_model.specs.Element.{upped, downed, sent_through}
 use Rattle.plant_model.specs.Taking.{take}
 use Rattle.plant_model.specs.Solving.{commit}
 use Rattle.plant_model.specs.Parent as parent
-use Rattle.plant_text.specs.Settings.{Line, line, lines, is_linked, is_element, peer_row, class_of}
+use Rattle.plant_text.specs.Settings.{Adjacency, adjacency, adjacencies, is_linked, is_element, peer_row, class_of}
 use Rattle.plant_model.specs.Settings.{place, family}
 use Rattle.plant_model.specs.State.{State, Deed, Connection, Access, Loads, Pops, Takes, Says, Ups, Downs, Clears, Solves, Expires, Hands}
-use Rattle.plant_model.specs.Deeds.{Going, element_of, is_due, is_tick, is_out_empty, any_fall, our_offer, on_connection, with_more, with_session, with_inbox, read_as, input_of, with_parent, with_element, put, put_to, puts, give, rise, fall, say, clear, outside_act, outside_acts, outside_step, outside_input, inner_act, inner_acts, inner_input, begin_end, begin_line, break_line, tick_outside, tick_lines, with_access, with_inner}
+use Rattle.plant_model.specs.Deeds.{Going, element_of, is_due, is_tick, is_out_empty, any_fall, our_offer, on_connection, with_more, with_session, with_inbox, read_as, input_of, with_parent, with_element, put, put_to, puts, give, rise, fall, say, clear, outside_act, outside_acts, outside_step, outside_input, inner_act, inner_acts, inner_input, begin_end, begin_adjacency, break_adjacency, tick_outside, tick_adjacencies, with_access, with_inner}
 use Rattle.plant_model.specs.Outside.{heeded}
 use Rattle.plant_model.specs.Events as events
 use Rattle.plant_model.specs.Events.{split_all, bad_item, is_down}
@@ -218,21 +218,21 @@ module _ (P : Type 0) (S : Type 0) (c : Codec) (n : NetworkParts) (show : S → 
       let t = turn_of (new_state (our_offer sid) (record { 0 = g.state.clock })) input.Begin in
       inner_fine at b false t.actions (record { state = with_inner P S c n show at b t.next g.state; deeds = g.deeds }) fine
 
-  begin_line_fine : (sid : ℕ) (x : Line) (g : Going P S) → Fine g → Fine (begin_line P S c n show sid x g)
-  begin_line_fine sid x g fine = begin_end_fine sid x.upper x.lower (begin_end P S c n show sid x.lower x.upper g) (begin_end_fine sid x.lower x.upper g fine)
+  begin_adjacency_fine : (sid : ℕ) (x : Adjacency) (g : Going P S) → Fine g → Fine (begin_adjacency P S c n show sid x g)
+  begin_adjacency_fine sid x g fine = begin_end_fine sid x.upper x.lower (begin_end P S c n show sid x.lower x.upper g) (begin_end_fine sid x.lower x.upper g fine)
 
-  break_line_fine : (x : Line) (g : Going P S) → Fine g → Fine (break_line P S c n show x g)
-  break_line_fine x g fine =
+  break_adjacency_fine : (x : Adjacency) (g : Going P S) → Fine g → Fine (break_adjacency P S c n show x g)
+  break_adjacency_fine x g fine =
       let f = fall P S c n show x.lower (Inner x.upper) g in
       let h = fall P S c n show x.upper (Inner x.lower) f in
       let fine' : Fine h = fall_fine x.upper (Inner x.lower) f (fall_fine x.lower (Inner x.upper) g fine) in
-      begin_line_fine (((g.state.sessions x.lower x.upper).offer.sid + 1) % 256) x (clear P S c n show x h) (fine'.0, (tt, fine'.1))
+      begin_adjacency_fine (((g.state.sessions x.lower x.upper).offer.sid + 1) % 256) x (clear P S c n show x h) (fine'.0, (tt, fine'.1))
 
-  inner_input_fine : (x : Line) (at b : As) (y : Input) (g : Going P S) → Fine g → Fine (inner_input P S c n show x at b y g)
+  inner_input_fine : (x : Adjacency) (at b : As) (y : Input) (g : Going P S) → Fine g → Fine (inner_input P S c n show x at b y g)
   inner_input_fine x at b y g fine =
       let t = turn_of (g.state.sessions at b) y in
       let h : Going P S = record { state = with_inner P S c n show at b t.next g.state; deeds = g.deeds } in
-      pick (any_fall t.actions) (break_line P S c n show x g) (inner_acts P S c n show at b (is_tick y) t.actions h) (break_line_fine x g fine) (inner_fine at b (is_tick y) t.actions h fine)
+      pick (any_fall t.actions) (break_adjacency P S c n show x g) (inner_acts P S c n show at b (is_tick y) t.actions h) (break_adjacency_fine x g fine) (inner_fine at b (is_tick y) t.actions h fine)
 
   tick_outside_fine : (i : ℕ) (rs : List PeerRow) (now : Tick) (g : Going P S) → Fine g → Fine (tick_outside P S c n show i rs now g)
   tick_outside_fine i [] now g fine = fine
@@ -240,16 +240,16 @@ module _ (P : Type 0) (S : Type 0) (c : Codec) (n : NetworkParts) (show : S → 
       tick_outside_fine (i + 1) rs now (outside_input P S c n show i (input.Tick now) g)
       (outside_input_fine i (input.Tick now) g (λ m e. absurd (let other : input.Tick now ≡ input.Got m = e in cc)) fine)
 
-  tick_lines_fine : (xs : List Line) (now : Tick) (g : Going P S) → Fine g → Fine (tick_lines P S c n show xs now g)
-  tick_lines_fine [] now g fine = fine
-  tick_lines_fine (x ∷ xs) now g fine =
+  tick_adjacencies_fine : (xs : List Adjacency) (now : Tick) (g : Going P S) → Fine g → Fine (tick_adjacencies P S c n show xs now g)
+  tick_adjacencies_fine [] now g fine = fine
+  tick_adjacencies_fine (x ∷ xs) now g fine =
       let h = inner_input P S c n show x x.lower x.upper (input.Tick now) g in
-      tick_lines_fine xs now (inner_input P S c n show x x.upper x.lower (input.Tick now) h)
+      tick_adjacencies_fine xs now (inner_input P S c n show x x.upper x.lower (input.Tick now) h)
       (inner_input_fine x x.upper x.lower (input.Tick now) h (inner_input_fine x x.lower x.upper (input.Tick now) g fine))
 
-  pub begin_lines_fine : (xs : List Line) (g : Going P S) → Fine g → Fine (events.begin_lines P S c n show xs g)
-  begin_lines_fine [] g fine = fine
-  begin_lines_fine (x ∷ xs) g fine = begin_lines_fine xs (begin_line P S c n show 0 x g) (begin_line_fine 0 x g fine)
+  pub begin_adjacencies_fine : (xs : List Adjacency) (g : Going P S) → Fine g → Fine (events.begin_adjacencies P S c n show xs g)
+  begin_adjacencies_fine [] g fine = fine
+  begin_adjacencies_fine (x ∷ xs) g fine = begin_adjacencies_fine xs (begin_adjacency P S c n show 0 x g) (begin_adjacency_fine 0 x g fine)
 
   -- events
   abbrev pub Did : events.Happened P S → Type 0
@@ -326,16 +326,16 @@ module _ (P : Type 0) (S : Type 0) (c : Codec) (n : NetworkParts) (show : S → 
         go [] = (kept, tt)
         go (x ∷ rest) =
             let g : Going P S = record { state = record s { queues = set_pair a b rest s.queues }; deeds = Pops a b ∷ [] } in
-            inner_input_fine (line a b) b a (input_of c (Some x)) g (kept, (tt, tt))
+            inner_input_fine (adjacency a b) b a (input_of c (Some x)) g (kept, (tt, tt))
 
     break_did : (a b : As) → Did (events.break P S c n show a b s)
-    break_did a b = did_pick (is_linked n a b) (events.answered P S c n show _ (break_line P S c n show (line a b) (record { state = s; deeds = [] }))) (events.refused P S c n show _ s) (break_line_fine (line a b) (record { state = s; deeds = [] }) (kept, tt)) (kept, tt)
+    break_did a b = did_pick (is_linked n a b) (events.answered P S c n show _ (break_adjacency P S c n show (adjacency a b) (record { state = s; deeds = [] }))) (events.refused P S c n show _ s) (break_adjacency_fine (adjacency a b) (record { state = s; deeds = [] }) (kept, tt)) (kept, tt)
 
     tick_did : (t : ℕ) → Did (events.tick P S c n show t s)
     tick_did t =
         let now = events.later s.clock t in
         let g : Going P S = record { state = record s { clock = now }; deeds = [] } in
-        let h = tick_lines_fine (lines n) (record { 0 = now }) (tick_outside P S c n show 0 n.peers (record { 0 = now }) g) (tick_outside_fine 0 n.peers (record { 0 = now }) g (kept, tt)) in
+        let h = tick_adjacencies_fine (adjacencies n) (record { 0 = now }) (tick_outside P S c n show 0 n.peers (record { 0 = now }) g) (tick_outside_fine 0 n.peers (record { 0 = now }) g (kept, tt)) in
         (h.0, (tt, h.1))
 
     drain_did : (i holder : ℕ) → Did (events.drain P S c n show i holder s)
@@ -409,7 +409,7 @@ module _ (c : Codec) (n : NetworkParts) (codec : IsCodec c) where
   pub run_outside : (es : List Entry) (s : Plant) → Run c n es s → Inboxes Pin Segment c n open_of s × AreOutsideSingle (deeds_of c n es)
   run_outside [] s is =
       let b = events.bare Pin Segment c n open_of first_pin in
-      let h = begin_lines_fine Pin Segment c n open_of (lines n) (record { state = b; deeds = [] }) ((λ i. tt), tt) in
+      let h = begin_adjacencies_fine Pin Segment c n open_of (adjacencies n) (record { state = b; deeds = [] }) ((λ i. tt), tt) in
       (subst (Inboxes Pin Segment c n open_of) (sym is) h.0, h.1)
   run_outside (e ∷ older) s run =
       let held = run_outside older run.0 run.1 in

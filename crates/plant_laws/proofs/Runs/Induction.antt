@@ -7,14 +7,14 @@ use Rattle.plant_model.specs.declared.event.Event.{Event}
 use Rattle.plant_model.specs.declared.event.Event.TheVariants as event
 use Rattle.plant_model.specs.Wire.{Codec}
 use Rattle.disclosure.specs.Shown.{open_of}
-use Rattle.plant_text.specs.Settings.{Line, lines, is_element}
+use Rattle.plant_text.specs.Settings.{Adjacency, adjacencies, is_element}
 use Rattle.plant_model.specs.State.{Loads}
-use Rattle.plant_model.specs.Deeds.{Going, begin_line}
+use Rattle.plant_model.specs.Deeds.{Going, begin_adjacency}
 use Rattle.plant_model.specs.Events as events
 use Rattle.plant_model.specs.Plant.{Pin, Segment, first_pin, Plant, Happened, Entry, Run, deeds_of, IsGiven, load_new, is_full, ElementSolves, ParentSolves, Happens}
 use Rattle.plant_laws.specs.Transcript.{Transcript}
 use Rattle.plant_laws.proofs.Runs.Acts.{Acts, Goes, stands, goes_on}
-use Rattle.plant_laws.proofs.Runs.Decompose.{append_assoc, begin_line_on, open_did, shut_did, feed_did, take_did, carry_did, break_did, tick_did, drain_did}
+use Rattle.plant_laws.proofs.Runs.Decompose.{append_assoc, begin_adjacency_on, open_did, shut_did, feed_did, take_did, carry_did, break_did, tick_did, drain_did}
 
 module _ (c : Codec) (n : NetworkParts) (I : Transcript → Plant → Type 0)
     (bare_holds : I [] (events.bare Pin Segment c n open_of first_pin))
@@ -27,10 +27,10 @@ module _ (c : Codec) (n : NetworkParts) (I : Transcript → Plant → Type 0)
   goes_hold ds s u es (goes_on s' t u' fs gs r a) h =
       subst (λ (l : Transcript). I l u) (sym (append_assoc gs fs ds)) (act_holds (fs ++ ds) t u gs (goes_hold ds s t fs r h) a)
 
-  begun : (xs : List Line) (s0 : Plant) (g : Going Pin Segment) → Goes Pin Segment c n open_of s0 g.deeds g.state →
-      Goes Pin Segment c n open_of s0 (events.begin_lines Pin Segment c n open_of xs g).deeds (events.begin_lines Pin Segment c n open_of xs g).state
+  begun : (xs : List Adjacency) (s0 : Plant) (g : Going Pin Segment) → Goes Pin Segment c n open_of s0 g.deeds g.state →
+      Goes Pin Segment c n open_of s0 (events.begin_adjacencies Pin Segment c n open_of xs g).deeds (events.begin_adjacencies Pin Segment c n open_of xs g).state
   begun [] s0 g r = r
-  begun (x ∷ xs) s0 g r = begun xs s0 (begin_line Pin Segment c n open_of 0 x g) (begin_line_on Pin Segment c n open_of s0 0 x g r)
+  begun (x ∷ xs) s0 g r = begun xs s0 (begin_adjacency Pin Segment c n open_of 0 x g) (begin_adjacency_on Pin Segment c n open_of s0 0 x g r)
 
   opening_holds : (s : Plant) → Run c n [] s → I (deeds_of c n []) s
   opening_holds s is =
@@ -38,7 +38,7 @@ module _ (c : Codec) (n : NetworkParts) (I : Transcript → Plant → Type 0)
       let g = events.opening Pin Segment c n open_of first_pin in
       subst (λ (p : Plant). I g.deeds p) (sym is)
       (subst (λ (l : Transcript). I l g.state) (nil g.deeds)
-      (goes_hold [] b g.state g.deeds (begun (lines n) b (record { state = b; deeds = [] }) (stands b)) bare_holds))
+      (goes_hold [] b g.state g.deeds (begun (adjacencies n) b (record { state = b; deeds = [] }) (stands b)) bare_holds))
     where
       nil : (ds : Transcript) → ds ++ [] ≡ ds
       nil [] = refl

@@ -13,7 +13,7 @@ use Rattle.plant_text.specs.Names.{same_as, parent_as}
 use Rattle.plant_model.specs.Names.{set_as}
 use Rattle.plant_model.specs.Writing.{request_message}
 use Rattle.plant_model.specs.Element.{Element, Taken}
-use Rattle.plant_model.specs.Parent.{Parent, Given, Wait}
+use Rattle.plant_model.specs.Parent.{Parent, ParentTaken, Wait}
 use Rattle.plant_model.specs.Plant.{Pin, Segment}
 use Rattle.plant_laws.specs.Transcript.{tail_of}
 use Rattle.plant_laws.proofs.Runs.Queues.{same_as_is}
@@ -115,7 +115,7 @@ module _ (asks : Asking) (E : Elements) (K : Parent) (from : As) (first : Messag
 
 -- the parent moves
 module _ (asks : Asking) (E : Elements) (K : Parent) (from : As) (first : Message) (queues left : Queues)
-    (popped : (a b : As) (m : Message) → In m (queues a b) → In m (left a b) ⊎ ((a ≡ from) × (b ≡ parent_as) × (m ≡ first))) (t : Given) where
+    (popped : (a b : As) (m : Message) → In m (queues a b) → In m (left a b) ⊎ ((a ≡ from) × (b ≡ parent_as) × (m ≡ first))) (t : ParentTaken) where
   pub parent_moves : ((a : As) → upper.Moves (Inner a) K t) →
       ((b : As) (id : ℕ) (w : Wanted) (target : Addr) (sequence : List As) → In {A = Output} (record { to = Inner b; message = request_message id w target sequence }) t.outputs → asks (request_message id w target sequence) b id sequence) →
       ((id : ℕ) (sequence : List As) → asks first parent_as id sequence → upper.Named t.parent (Inner from) id ⊎ Answered (Inner from) id t.outputs) →

@@ -12,7 +12,7 @@ use Rattle.request_table.specs.Pending.{same_peer}
 use Rattle.disclosure.specs.Shown.{open_of}
 use Rattle.plant_text.specs.Names.{same_as, parent_as}
 use Rattle.plant_model.specs.Wire.{Bytes, Codec}
-use Rattle.plant_text.specs.Settings.{Line, class_of}
+use Rattle.plant_text.specs.Settings.{Adjacency, class_of}
 use Rattle.plant_model.specs.Settings.{place, family}
 use Rattle.plant_model.specs.State.{State, Deed, Loads, Pops, Takes, Says, Ups, Downs, Clears, Solves, Expires, Hands}
 use Rattle.plant_model.specs.Element.{upped, downed}
@@ -160,7 +160,7 @@ module _ (c : Codec) (n : NetworkParts) where
       go a' b' true false e f = stand a' b'
       go a' b' false u e f = stand a' b'
 
-  cleared : (x : Line) (s : Core) (ds : Transcript) → Stand ds s → (a b : As) (l u l' u' : Bool) → same_as x.lower a ≡ l → same_as x.upper b ≡ u → same_as x.lower b ≡ l' → same_as x.upper a ≡ u' →
+  cleared : (x : Adjacency) (s : Core) (ds : Transcript) → Stand ds s → (a b : As) (l u l' u' : Bool) → same_as x.lower a ≡ l → same_as x.upper b ≡ u → same_as x.lower b ≡ l' → same_as x.upper a ≡ u' →
       cond l (cond u [] (cond u' (cond l' [] (s.queues a b)) (s.queues a b))) (cond u' (cond l' [] (s.queues a b)) (s.queues a b))
       ≡ texts c (messages (cond (cond l u (cond l' u' false)) [] (standing a b ds)))
   cleared x s ds stand a b true true l' u' e f g h = refl

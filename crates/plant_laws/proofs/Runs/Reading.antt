@@ -25,10 +25,10 @@ use Rattle.plant_model.specs.Wire.{Bytes, Codec}
 use Rattle.plant_model.specs.Element.{downed, sent_through}
 use Rattle.plant_model.specs.Taking.{take}
 use Rattle.plant_model.specs.Parent as parent
-use Rattle.plant_text.specs.Settings.{Line, line, lines, is_linked, peer_row, class_of}
+use Rattle.plant_text.specs.Settings.{Adjacency, adjacency, adjacencies, is_linked, peer_row, class_of}
 use Rattle.plant_model.specs.Settings.{place, family}
 use Rattle.plant_model.specs.State.{State, Connection, Access, Takes, Downs, Pops}
-use Rattle.plant_model.specs.Deeds.{Going, element_of, on_connection, is_due, is_tick, is_out_empty, any_fall, our_offer, with_more, with_session, with_inbox, read_as, input_of, own_message, put, put_to, puts, with_element, with_parent, give, rise, fall, say, clear, expire, outside_act, outside_acts, outside_step, outside_input, inner_act, inner_acts, inner_input, begin_end, begin_line, break_line, tick_outside, tick_lines, with_access, with_inner}
+use Rattle.plant_model.specs.Deeds.{Going, element_of, on_connection, is_due, is_tick, is_out_empty, any_fall, our_offer, with_more, with_session, with_inbox, read_as, input_of, own_message, put, put_to, puts, with_element, with_parent, give, rise, fall, say, clear, expire, outside_act, outside_acts, outside_step, outside_input, inner_act, inner_acts, inner_input, begin_end, begin_adjacency, break_adjacency, tick_outside, tick_adjacencies, with_access, with_inner}
 use Rattle.plant_model.specs.Outside.{heeded, heeded_in}
 use Rattle.plant_model.specs.Events as events
 use Rattle.plant_model.specs.Events.{is_down}
@@ -164,31 +164,31 @@ module _ (P : Type 0) (S : Type 0) (c : Codec) (codec : IsCodec c) (n : NetworkP
       let t = turn_of (new_state (our_offer sid) (record { 0 = g.state.clock })) input.Begin in
       inner_acts_good at b false t.actions (record { state = with_inner P S c n show at b t.next g.state; deeds = g.deeds }) (record { inboxes = good.inboxes; read = good.read })
 
-  begin_line_good : (sid : ℕ) (x : Line) (g : Going P S) → Good g → Good (begin_line P S c n show sid x g)
-  begin_line_good sid x g good = begin_end_good sid x.upper x.lower (begin_end P S c n show sid x.lower x.upper g) (begin_end_good sid x.lower x.upper g good)
+  begin_adjacency_good : (sid : ℕ) (x : Adjacency) (g : Going P S) → Good g → Good (begin_adjacency P S c n show sid x g)
+  begin_adjacency_good sid x g good = begin_end_good sid x.upper x.lower (begin_end P S c n show sid x.lower x.upper g) (begin_end_good sid x.lower x.upper g good)
 
-  clear_good : (x : Line) (g : Going P S) → Good g → Good (clear P S c n show x g)
+  clear_good : (x : Adjacency) (g : Going P S) → Good g → Good (clear P S c n show x g)
   clear_good x g good = record { inboxes = good.inboxes; read = (tt, good.read) }
 
-  break_line_good : (x : Line) (g : Going P S) → Good g → Good (break_line P S c n show x g)
-  break_line_good x g good =
+  break_adjacency_good : (x : Adjacency) (g : Going P S) → Good g → Good (break_adjacency P S c n show x g)
+  break_adjacency_good x g good =
       let f = fall P S c n show x.lower (Inner x.upper) g in
       let h = fall P S c n show x.upper (Inner x.lower) f in
-      begin_line_good (((g.state.sessions x.lower x.upper).offer.sid + 1) % 256) x (clear P S c n show x h)
+      begin_adjacency_good (((g.state.sessions x.lower x.upper).offer.sid + 1) % 256) x (clear P S c n show x h)
       (clear_good x h (fall_good x.upper (Inner x.lower) f (fall_good x.lower (Inner x.upper) g good)))
 
-  inner_input_good : (x : Line) (at b : As) (y : Input) (g : Going P S) → Good g → Good (inner_input P S c n show x at b y g)
+  inner_input_good : (x : Adjacency) (at b : As) (y : Input) (g : Going P S) → Good g → Good (inner_input P S c n show x at b y g)
   inner_input_good x at b y g good =
       let t = turn_of (g.state.sessions at b) y in
       let h : Going P S = record { state = with_inner P S c n show at b t.next g.state; deeds = g.deeds } in
-      good_pick (any_fall t.actions) (break_line P S c n show x g) (inner_acts P S c n show at b (is_tick y) t.actions h)
-      (break_line_good x g good) (inner_acts_good at b (is_tick y) t.actions h (record { inboxes = good.inboxes; read = good.read }))
+      good_pick (any_fall t.actions) (break_adjacency P S c n show x g) (inner_acts P S c n show at b (is_tick y) t.actions h)
+      (break_adjacency_good x g good) (inner_acts_good at b (is_tick y) t.actions h (record { inboxes = good.inboxes; read = good.read }))
 
-  tick_lines_good : (xs : List Line) (now : Tick) (g : Going P S) → Good g → Good (tick_lines P S c n show xs now g)
-  tick_lines_good [] now g good = good
-  tick_lines_good (x ∷ xs) now g good =
+  tick_adjacencies_good : (xs : List Adjacency) (now : Tick) (g : Going P S) → Good g → Good (tick_adjacencies P S c n show xs now g)
+  tick_adjacencies_good [] now g good = good
+  tick_adjacencies_good (x ∷ xs) now g good =
       let h = inner_input P S c n show x x.lower x.upper (input.Tick now) g in
-      tick_lines_good xs now (inner_input P S c n show x x.upper x.lower (input.Tick now) h)
+      tick_adjacencies_good xs now (inner_input P S c n show x x.upper x.lower (input.Tick now) h)
       (inner_input_good x x.upper x.lower (input.Tick now) h (inner_input_good x x.lower x.upper (input.Tick now) g good))
 
   -- outside sessions
@@ -371,22 +371,22 @@ module _ (P : Type 0) (S : Type 0) (c : Codec) (codec : IsCodec c) (n : NetworkP
       go [] = refused_gone _ s ok
       go (x ∷ rest) =
           let g : Going P S = record { state = record s { queues = set_pair a b rest s.queues }; deeds = Pops a b ∷ [] } in
-          from_good (inner_input P S c n show (line a b) b a (input_of c (Some x)) g) _
-          (inner_input_good (line a b) b a (input_of c (Some x)) g (record { inboxes = ok; read = (tt, tt) }))
+          from_good (inner_input P S c n show (adjacency a b) b a (input_of c (Some x)) g) _
+          (inner_input_good (adjacency a b) b a (input_of c (Some x)) g (record { inboxes = ok; read = (tt, tt) }))
 
   pub break_gone : (a b : As) (s : State P S) → Ok s → Gone (events.break P S c n show a b s)
   break_gone a b s ok =
       let g : Going P S = record { state = s; deeds = [] } in
-      gone_pick (is_linked n a b) (events.answered P S c n show _ (break_line P S c n show (line a b) g)) (events.refused P S c n show _ s)
-      (from_good (break_line P S c n show (line a b) g) _ (break_line_good (line a b) g (record { inboxes = ok; read = tt }))) (refused_gone _ s ok)
+      gone_pick (is_linked n a b) (events.answered P S c n show _ (break_adjacency P S c n show (adjacency a b) g)) (events.refused P S c n show _ s)
+      (from_good (break_adjacency P S c n show (adjacency a b) g) _ (break_adjacency_good (adjacency a b) g (record { inboxes = ok; read = tt }))) (refused_gone _ s ok)
 
   pub tick_gone : (t : ℕ) (s : State P S) → Ok s → Gone (events.tick P S c n show t s)
   tick_gone t s ok =
       let now = events.later s.clock t in
       let g : Going P S = record { state = record s { clock = now }; deeds = [] } in
       let h = tick_outside P S c n show 0 n.peers (record { 0 = now }) g in
-      let k = tick_lines P S c n show (lines n) (record { 0 = now }) h in
-      let good = tick_lines_good (lines n) (record { 0 = now }) h (tick_outside_good 0 n.peers (record { 0 = now }) g (record { inboxes = ok; read = tt })) in
+      let k = tick_adjacencies P S c n show (adjacencies n) (record { 0 = now }) h in
+      let good = tick_adjacencies_good (adjacencies n) (record { 0 = now }) h (tick_outside_good 0 n.peers (record { 0 = now }) g (record { inboxes = ok; read = tt })) in
       from_good (expire P S c n show now k) _ (record { inboxes = good.inboxes; read = (tt, good.read) })
 
   pub drain_gone : (i holder : ℕ) (s : State P S) → Ok s → Gone (events.drain P S c n show i holder s)
@@ -398,12 +398,12 @@ module _ (P : Type 0) (S : Type 0) (c : Codec) (codec : IsCodec c) (n : NetworkP
           gone_pick (x.holder == holder) _ (events.refused P S c n show _ s)
           (record { inboxes = access_ok i events.drained s (λ y k. k) ok; read = (tt, tt) }) (refused_gone _ s ok)
 
-  begin_lines_good : (xs : List Line) (g : Going P S) → Good g → Good (events.begin_lines P S c n show xs g)
-  begin_lines_good [] g good = good
-  begin_lines_good (x ∷ xs) g good = begin_lines_good xs (begin_line P S c n show 0 x g) (begin_line_good 0 x g good)
+  begin_adjacencies_good : (xs : List Adjacency) (g : Going P S) → Good g → Good (events.begin_adjacencies P S c n show xs g)
+  begin_adjacencies_good [] g good = good
+  begin_adjacencies_good (x ∷ xs) g good = begin_adjacencies_good xs (begin_adjacency P S c n show 0 x g) (begin_adjacency_good 0 x g good)
 
   pub opening_good : (pins : As → P) → Good (events.opening P S c n show pins)
-  opening_good pins = begin_lines_good (lines n) (record { state = events.bare P S c n show pins; deeds = [] }) (record { inboxes = λ i. tt; read = tt })
+  opening_good pins = begin_adjacencies_good (adjacencies n) (record { state = events.bare P S c n show pins; deeds = [] }) (record { inboxes = λ i. tt; read = tt })
 
   pub solve_ok : (d : As) (os : List Output) (s t : State P S) → t.accesses ≡ s.accesses → Ok s → Ok (puts P S c n show d os t)
   solve_ok d os s t same ok = puts_ok d os t (λ i. subst (λ (f : ℕ → Access). HoldsBytes n i (f i).connection) (sym same) (ok i))

@@ -11,7 +11,7 @@ use Rattle.pcep_session.specs.declared.state.Phase.{Phase}
 use Rattle.pcep_session.specs.declared.state.Phase.TheVariants as phase
 use Rattle.pcep_session.specs.declared.state.State.{State}
 use Rattle.pcep_session.specs.Reports.{first_error_of, first_opening_of}
-use Rattle.pcep_session.specs.Table.{Turn, turn_of, turn_in, open_wait, keep_wait, refused, refused_terms, in_up, up_tick, unknown_type, heard, at_tick, has_passed, is_recent, waits}
+use Rattle.pcep_session.specs.Table.{SessionStep, turn_of, turn_in, open_wait, keep_wait, refused, refused_terms, in_up, up_tick, unknown_type, heard, at_tick, has_passed, is_recent, waits}
 use Rattle.plant_model.specs.Deeds.{any_fall}
 use Rattle.plant_laws.proofs.Runs.Shape.{has_pass}
 
@@ -35,23 +35,23 @@ IsKept (messages.Close why) = Unit {0}
 IsKept (messages.Other kind) = Unit {0}
 
 -- a turn that does not end the session
-pub record Stays (x : Input) (r : Turn) : Type 0 where
+pub record Stays (x : Input) (r : SessionStep) : Type 0 where
   pub live : IsLive r.next.phase
   pub kept : has_pass r.actions ≡ false → (m : Message) → x ≡ input.Got m → IsKept m
   pub good : x ≡ input.Bad → ⊥
 
-abbrev pub IsFine : Input → Turn → Type 0
+abbrev pub IsFine : Input → SessionStep → Type 0
 IsFine x r = any_fall r.actions ≡ false → Stays x r
 
-pick : (x : Input) (b : Bool) (r r' : Turn) → (b ≡ true → IsFine x r) → (b ≡ false → IsFine x r') → IsFine x (cond b r r')
+pick : (x : Input) (b : Bool) (r r' : SessionStep) → (b ≡ true → IsFine x r) → (b ≡ false → IsFine x r') → IsFine x (cond b r r')
 pick x true r r' h h' = h refl
 pick x false r r' h h' = h' refl
 
-falls : (x : Input) (r : Turn) → any_fall r.actions ≡ true → IsFine x r
+falls : (x : Input) (r : SessionStep) → any_fall r.actions ≡ true → IsFine x r
 falls x r fall none = cc
 
 -- a message that is kept
-keeps : (m : Message) (r : Turn) → IsLive r.next.phase → IsKept m → IsFine (input.Got m) r
+keeps : (m : Message) (r : SessionStep) → IsLive r.next.phase → IsKept m → IsFine (input.Got m) r
 keeps m r live kept none = record {
   live = live;
   kept = λ quiet m' is. let same : m ≡ m' = cc in subst IsKept same kept;
@@ -59,11 +59,11 @@ keeps m r live kept none = record {
 }
 
 -- one that is passed on
-passes : (m : Message) (r : Turn) → IsLive r.next.phase → has_pass r.actions ≡ true → IsFine (input.Got m) r
+passes : (m : Message) (r : SessionStep) → IsLive r.next.phase → has_pass r.actions ≡ true → IsFine (input.Got m) r
 passes m r live pass none = record { live = live; kept = λ quiet m' is. cc; good = λ is. cc }
 
 -- no message
-others : (x : Input) (r : Turn) → IsLive r.next.phase → ((m : Message) → x ≡ input.Got m → ⊥) → (x ≡ input.Bad → ⊥) → IsFine x r
+others : (x : Input) (r : SessionStep) → IsLive r.next.phase → ((m : Message) → x ≡ input.Got m → ⊥) → (x ≡ input.Bad → ⊥) → IsFine x r
 others x r live got bad none = record { live = live; kept = λ quiet m is. absurd (got m is); good = bad }
 
 fine_open_wait : (s : State) (m : Message) → IsFine (input.Got m) (open_wait s m)
@@ -124,7 +124,7 @@ module _ (now : Tick) where
   tick_bad : input.Tick now ≡ input.Bad → ⊥
   tick_bad e = cc
 
-  ticks : (r : Turn) → IsLive r.next.phase → IsFine (input.Tick now) r
+  ticks : (r : SessionStep) → IsLive r.next.phase → IsFine (input.Tick now) r
   ticks r live = others (input.Tick now) r live tick_got tick_bad
 
   fine_waits : (s : State) (error : ℕ) → IsLive s.phase → IsFine (input.Tick now) (waits s error)

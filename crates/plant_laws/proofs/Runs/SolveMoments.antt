@@ -11,18 +11,18 @@ use Rattle.plant_model.specs.declared.event.Event.{Event}
 use Rattle.plant_model.specs.declared.event.Event.TheVariants as event
 use Rattle.plant_text.specs.Names.{same_as, parent_as}
 use Rattle.plant_model.specs.Wire.{Codec}
-use Rattle.plant_text.specs.Settings.{Line, lines, is_element}
+use Rattle.plant_text.specs.Settings.{Adjacency, adjacencies, is_element}
 use Rattle.plant_model.specs.Settings.{place}
 use Rattle.plant_model.specs.Parent as parent
 use Rattle.plant_model.specs.Solving.{commit}
 use Rattle.plant_model.specs.State.{Loads, Pops, Takes, Says, Ups, Downs, Clears, Solves, Expires, Hands}
-use Rattle.plant_model.specs.Deeds.{Going, element_of, begin_line}
+use Rattle.plant_model.specs.Deeds.{Going, element_of, begin_adjacency}
 use Rattle.plant_model.specs.Events as events
 use Rattle.plant_model.specs.Plant.{Pin, Segment, first_pin, Plant, PlantDeed, Happened, Entry, Run, deeds_of, is_full, ElementSolves, ParentSolves, Happens}
 use Rattle.plant_laws.specs.Transcript.{Transcript, Within}
 use Rattle.plant_laws.specs.Sending.{AllSent}
 use Rattle.plant_laws.proofs.Runs.Acts.{Acts, Goes, rests, hears, carries, nods, hands, rises, falls, says, clears, expires, stands, goes_on}
-use Rattle.plant_laws.proofs.Runs.Decompose.{nil_right, begin_line_on, open_did, shut_did, feed_did, take_did, carry_did, break_did, tick_did, drain_did}
+use Rattle.plant_laws.proofs.Runs.Decompose.{nil_right, begin_adjacency_on, open_did, shut_did, feed_did, take_did, carry_did, break_did, tick_did, drain_did}
 
 -- deeds that are no solves
 abbrev pub IsPlain : PlantDeed → Type 0
@@ -78,16 +78,16 @@ module _ (c : Codec) (n : NetworkParts) where
   goes_plain s t es (stands s') = tt
   goes_plain s u es (goes_on s' t u' fs gs r a) = plain_append gs fs (act_plain t u gs a) (goes_plain s t fs r)
 
-  begun : (xs : List Line) (s0 : Plant) (g : Going Pin Segment) → Goes Pin Segment c n open_of s0 g.deeds g.state →
-      Goes Pin Segment c n open_of s0 (events.begin_lines Pin Segment c n open_of xs g).deeds (events.begin_lines Pin Segment c n open_of xs g).state
+  begun : (xs : List Adjacency) (s0 : Plant) (g : Going Pin Segment) → Goes Pin Segment c n open_of s0 g.deeds g.state →
+      Goes Pin Segment c n open_of s0 (events.begin_adjacencies Pin Segment c n open_of xs g).deeds (events.begin_adjacencies Pin Segment c n open_of xs g).state
   begun [] s0 g r = r
-  begun (x ∷ xs) s0 g r = begun xs s0 (begin_line Pin Segment c n open_of 0 x g) (begin_line_on Pin Segment c n open_of s0 0 x g r)
+  begun (x ∷ xs) s0 g r = begun xs s0 (begin_adjacency Pin Segment c n open_of 0 x g) (begin_adjacency_on Pin Segment c n open_of s0 0 x g r)
 
   pub opening_plain : ArePlain (deeds_of c n [])
   opening_plain =
       let b = events.bare Pin Segment c n open_of first_pin in
       let g = events.opening Pin Segment c n open_of first_pin in
-      goes_plain b g.state g.deeds (begun (lines n) b (record { state = b; deeds = [] }) (stands b))
+      goes_plain b g.state g.deeds (begun (adjacencies n) b (record { state = b; deeds = [] }) (stands b))
 
   pub sent_before : (Q : Message → Type 0) (es ds : Transcript) → AllSent Q (es ++ ds) → AllSent Q ds
   sent_before Q [] ds h = h

@@ -4,7 +4,7 @@ use Rattle.disclosure.specs.Shown.{open_of}
 use Rattle.dom_base.specs.declared.names.Peer.TheVariants.{Outside, Inner}
 use Rattle.plant_text.specs.declared.settings.NetworkParts.{NetworkParts}
 use Rattle.plant_model.specs.Wire.{Bytes, Codec}
-use Rattle.plant_text.specs.Settings.{Line, line}
+use Rattle.plant_text.specs.Settings.{Adjacency, adjacency}
 use Rattle.plant_model.specs.State.{Pops}
 use Rattle.plant_model.specs.Deeds.{element_of, fall, clear}
 use Rattle.plant_model.specs.Plant.{Pin, Segment}
@@ -21,7 +21,7 @@ module _ (c : Codec) (n : NetworkParts) (R : Bytes → Type 0) where
   one : (s t : Core) (es : Transcript) → Acts Pin Segment c n open_of s es t → Gone s es t
   one s t es act = subst (λ (l : Transcript). Gone s l t) (nil_right es) (goes_on s s t [] es (stands s) act)
 
-  broken_goes : (x : Line) (s : Core) (g : Move) → Gone s g.deeds g.state → Gone s (broken c n x g).deeds (broken c n x g).state
+  broken_goes : (x : Adjacency) (s : Core) (g : Move) → Gone s g.deeds g.state → Gone s (broken c n x g).deeds (broken c n x g).state
   broken_goes x s g r =
       let f = fall Pin Segment c n open_of x.lower (Inner x.upper) (at_start g.state) in
       let f' = fall Pin Segment c n open_of x.lower (Inner x.upper) g in
@@ -43,7 +43,7 @@ module _ (c : Codec) (n : NetworkParts) (R : Bytes → Type 0) where
   step_goes s t es (says at p o s') = one s t es (acts.says at p o s)
   step_goes s t es (expires now s') = one s t es (acts.expires now s)
   step_goes s t es (breaks x s') = broken_goes x s (at_start s) (stands s)
-  step_goes s t es (drops a b bytes rest s' is) = broken_goes (line a b) s (after_pop a b (with_rest a b rest s)) (one s (with_rest a b rest s) (Pops a b ∷ []) (acts.nods a b bytes rest s is))
+  step_goes s t es (drops a b bytes rest s' is) = broken_goes (adjacency a b) s (after_pop a b (with_rest a b rest s)) (one s (with_rest a b rest s) (Pops a b ∷ []) (acts.nods a b bytes rest s is))
 
   module _ (I : Transcript → Core → Type 0) (act_holds : (ds : Transcript) (s t : Core) (es : Transcript) → I ds s → Acts Pin Segment c n open_of s es t → I (es ++ ds) t) where
     goes_hold : (ds : Transcript) (s t : Core) (es : Transcript) → Gone s es t → I ds s → I (es ++ ds) t

@@ -7,7 +7,7 @@ use Rattle.plant_text.specs.declared.settings.NetworkParts.{NetworkParts}
 use Rattle.plant_model.specs.declared.event.Event.{Event}
 use Rattle.plant_model.specs.declared.event.Event.TheVariants as event
 use Rattle.plant_model.specs.Wire.{Bytes, Codec}
-use Rattle.plant_text.specs.Settings.{lines, is_element}
+use Rattle.plant_text.specs.Settings.{adjacencies, is_element}
 use Rattle.plant_model.specs.Settings.{place}
 use Rattle.plant_model.specs.State.{Loads}
 use Rattle.plant_model.specs.Solving.{commit}
@@ -40,7 +40,7 @@ module _ (c : Codec) (n : NetworkParts) (R : Bytes → Type 0) (items : (fs : Li
       let b = events.bare Pin Segment c n open_of first_pin in
       let g = events.opening Pin Segment c n open_of first_pin in
       subst (λ (p : Plant). Held g.deeds p) (sym is)
-      (subst (λ (l : Transcript). I l g.state) (nil_right g.deeds) (trip_holds [] b g.state g.deeds (begun_trip c n R items (lines n) b (at_start b) (stands b)) bare_holds), opening_safe c n R items)
+      (subst (λ (l : Transcript). I l g.state) (nil_right g.deeds) (trip_holds [] b g.state g.deeds (begun_trip c n R items (adjacencies n) b (at_start b) (stands b)) bare_holds), opening_safe c n R items)
 
   abbrev Kept : Transcript → Happened → Type 0
   Kept ds h = Held (h.deeds ++ ds) h.state

@@ -23,10 +23,10 @@ use Rattle.pcep_session.specs.Table.{turn_of, new_state}
 use Rattle.plant_model.specs.Element.{upped, downed}
 use Rattle.plant_model.specs.Taking.{take}
 use Rattle.plant_model.specs.Parent as parent
-use Rattle.plant_text.specs.Settings.{class_of, Line, line, lines, is_linked, has_line, peer_row}
+use Rattle.plant_text.specs.Settings.{class_of, Adjacency, adjacency, adjacencies, is_linked, has_adjacency, peer_row}
 use Rattle.plant_model.specs.Settings.{place, family}
 use Rattle.plant_model.specs.State.{State, Connection, Access, Pops, Takes, Ups, Downs, Hands}
-use Rattle.plant_model.specs.Deeds.{Going, own_message, with_parent, with_element, element_of, is_due, is_tick, is_out_empty, any_fall, our_offer, on_connection, with_more, with_session, with_inbox, read_as, input_of, give, rise, fall, say, clear, expire, put_to, put, puts, outside_act, outside_acts, outside_step, outside_input, inner_act, inner_acts, inner_input, begin_end, begin_line, break_line, tick_outside, tick_lines, with_access, with_inner}
+use Rattle.plant_model.specs.Deeds.{Going, own_message, with_parent, with_element, element_of, is_due, is_tick, is_out_empty, any_fall, our_offer, on_connection, with_more, with_session, with_inbox, read_as, input_of, give, rise, fall, say, clear, expire, put_to, put, puts, outside_act, outside_acts, outside_step, outside_input, inner_act, inner_acts, inner_input, begin_end, begin_adjacency, break_adjacency, tick_outside, tick_adjacencies, with_access, with_inner}
 use Rattle.plant_model.specs.Outside.{heeded}
 use Rattle.pcep_framing.specs.Frames.{joined}
 use Rattle.plant_model.specs.Events as events
@@ -56,10 +56,10 @@ after_pop a b t = record { state = t; deeds = Pops a b ∷ [] }
 
 module _ (c : Codec) (n : NetworkParts) where
   -- a link goes down at both ends, and its queues are emptied
-  abbrev pub broken : Line → Move → Move
+  abbrev pub broken : Adjacency → Move → Move
   broken x g = clear Pin Segment c n open_of x (fall Pin Segment c n open_of x.upper (Inner x.lower) (fall Pin Segment c n open_of x.lower (Inner x.upper) g))
 
-  pub broken_framed : (x : Line) (s : Core) (ds : Transcript) → broken x (record { state = s; deeds = ds }) ≡ framed ds (broken x (at_start s))
+  pub broken_framed : (x : Adjacency) (s : Core) (ds : Transcript) → broken x (record { state = s; deeds = ds }) ≡ framed ds (broken x (at_start s))
   broken_framed x s ds =
       let f = fall Pin Segment c n open_of x.lower (Inner x.upper) (at_start s) in
       let h = fall Pin Segment c n open_of x.upper (Inner x.lower) (at_start f.state) in
@@ -98,10 +98,10 @@ module _ (c : Codec) (n : NetworkParts) where
           Step s (fall Pin Segment c n open_of (element_of n i) (Outside i) (at_start s)).deeds (fall Pin Segment c n open_of (element_of n i) (Outside i) (at_start s)).state
       says : (at : As) (p : Peer) (o : Own) (s : Core) → Step s (say Pin Segment c n open_of at p o (at_start s)).deeds (say Pin Segment c n open_of at p o (at_start s)).state
       expires : (now : ℕ) (s : Core) → Step s (expire Pin Segment c n open_of now (at_start s)).deeds (expire Pin Segment c n open_of now (at_start s)).state
-      breaks : (x : Line) (s : Core) → Step s (broken x (at_start s)).deeds (broken x (at_start s)).state
+      breaks : (x : Adjacency) (s : Core) → Step s (broken x (at_start s)).deeds (broken x (at_start s)).state
       -- a message that breaks the link
       drops : (a b : As) (bytes : Bytes) (rest : List Bytes) (s : Core) → s.queues a b ≡ bytes ∷ rest →
-          Step s (broken (line a b) (after_pop a b (with_rest a b rest s))).deeds (broken (line a b) (after_pop a b (with_rest a b rest s))).state
+          Step s (broken (adjacency a b) (after_pop a b (with_rest a b rest s))).deeds (broken (adjacency a b) (after_pop a b (with_rest a b rest s))).state
 
     -- several, the newest last
     pub data Trip : Core → Transcript → Core → Type 0 where
@@ -180,7 +180,7 @@ module _ (c : Codec) (n : NetworkParts) where
     say_safe : (at : As) (p : Peer) (o : Own) (g : Move) → Safe g.state → Safe (say Pin Segment c n open_of at p o g).state
     say_safe at p o g safe = put_safe at (c.text (own_message o)) g.state p safe
 
-    broken_safe : (x : Line) (g : Move) → Safe g.state → Safe (broken x g).state
+    broken_safe : (x : Adjacency) (g : Move) → Safe g.state → Safe (broken x g).state
     broken_safe x g safe =
         let f = fall Pin Segment c n open_of x.lower (Inner x.upper) g in
         let h = fall_safe x.upper (Inner x.lower) f (fall_safe x.lower (Inner x.upper) g safe) in
@@ -251,7 +251,7 @@ module _ (c : Codec) (n : NetworkParts) where
           let h = expire Pin Segment c n open_of now (at_start g.state) in
           record { trip = goes_on s0 g.state h.state g.deeds h.deeds r.trip (expires now g.state); safe = record { live = r.safe.live; inboxes = r.safe.inboxes } }
 
-      broken_on : (x : Line) (g : Move) → Reached g → Reached (broken x g)
+      broken_on : (x : Adjacency) (g : Move) → Reached g → Reached (broken x g)
       broken_on x g r =
           let h = broken x (at_start g.state) in
           record {
@@ -320,19 +320,19 @@ module _ (c : Codec) (n : NetworkParts) where
           let h : Move = record { state = with_inner Pin Segment c n open_of at b t.next g.state; deeds = g.deeds } in
           record { trip = begin_trip sid at b g r.trip; safe = say_safe at (Inner b) (own.Open (our_offer sid)) h (inner_safe at b t.next g.state (λ live. tt) r.safe) }
 
-      begin_line_on : (sid : ℕ) (x : Line) (g : Move) → Reached g → Reached (begin_line Pin Segment c n open_of sid x g)
-      begin_line_on sid x g r = begin_end_on sid x.upper x.lower (begin_end Pin Segment c n open_of sid x.lower x.upper g) (begin_end_on sid x.lower x.upper g r)
+      begin_adjacency_on : (sid : ℕ) (x : Adjacency) (g : Move) → Reached g → Reached (begin_adjacency Pin Segment c n open_of sid x g)
+      begin_adjacency_on sid x g r = begin_end_on sid x.upper x.lower (begin_end Pin Segment c n open_of sid x.lower x.upper g) (begin_end_on sid x.lower x.upper g r)
 
-      break_line_on : (x : Line) (g : Move) → Reached g → Reached (break_line Pin Segment c n open_of x g)
-      break_line_on x g r = begin_line_on (((g.state.sessions x.lower x.upper).offer.sid + 1) % 256) x (broken x g) (broken_on x g r)
+      break_adjacency_on : (x : Adjacency) (g : Move) → Reached g → Reached (break_adjacency Pin Segment c n open_of x g)
+      break_adjacency_on x g r = begin_adjacency_on (((g.state.sessions x.lower x.upper).offer.sid + 1) % 256) x (broken x g) (broken_on x g r)
 
       -- an input that passes nothing on, from outside the link
-      tick_input_on : (x : Line) (at b : As) (y : Input) (g : Move) → ((m : Message) → y ≡ input.Got m → ⊥) → Reached g → Reached (inner_input Pin Segment c n open_of x at b y g)
+      tick_input_on : (x : Adjacency) (at b : As) (y : Input) (g : Move) → ((m : Message) → y ≡ input.Got m → ⊥) → Reached g → Reached (inner_input Pin Segment c n open_of x at b y g)
       tick_input_on x at b y g other r =
           let t = turn_of (g.state.sessions at b) y in
           let h : Move = record { state = with_inner Pin Segment c n open_of at b t.next g.state; deeds = g.deeds } in
-          pick (any_fall t.actions) (break_line Pin Segment c n open_of x g) (inner_acts Pin Segment c n open_of at b (is_tick y) t.actions h)
-          (λ falls. break_line_on x g r)
+          pick (any_fall t.actions) (break_adjacency Pin Segment c n open_of x g) (inner_acts Pin Segment c n open_of at b (is_tick y) t.actions h)
+          (λ falls. break_adjacency_on x g r)
           (λ stays. quiet_inner at b (is_tick y) t.actions h (no_pass (g.state.sessions at b))
           (record {
             trip = rest_trip g h.state (record { elements = refl; parent = refl; current = refl; queues = refl }) r.trip;
@@ -351,11 +351,11 @@ module _ (c : Codec) (n : NetworkParts) where
           tick_outside_on (i + 1) rs now (outside_input Pin Segment c n open_of i (input.Tick now) g)
           (outside_input_on i (input.Tick now) g (λ m e. absurd (tick_is_other now m e)) r)
 
-      tick_lines_on : (xs : List Line) (now : Tick) (g : Move) → Reached g → Reached (tick_lines Pin Segment c n open_of xs now g)
-      tick_lines_on [] now g r = r
-      tick_lines_on (x ∷ xs) now g r =
+      tick_adjacencies_on : (xs : List Adjacency) (now : Tick) (g : Move) → Reached g → Reached (tick_adjacencies Pin Segment c n open_of xs now g)
+      tick_adjacencies_on [] now g r = r
+      tick_adjacencies_on (x ∷ xs) now g r =
           let h = inner_input Pin Segment c n open_of x x.lower x.upper (input.Tick now) g in
-          tick_lines_on xs now (inner_input Pin Segment c n open_of x x.upper x.lower (input.Tick now) h)
+          tick_adjacencies_on xs now (inner_input Pin Segment c n open_of x x.upper x.lower (input.Tick now) h)
           (tick_input_on x x.upper x.lower (input.Tick now) h (tick_is_other now) (tick_input_on x x.lower x.upper (input.Tick now) g (tick_is_other now) r))
 
     -- ---- an event, from a safe state
@@ -493,9 +493,9 @@ module _ (c : Codec) (n : NetworkParts) where
               by (inl none) =
                   let t = turn_of (s.sessions b a) y in
                   let h : Move = record { state = with_inner Pin Segment c n open_of b a t.next g.state; deeds = g.deeds } in
-                  let z = line a b in
-                  pick s (any_fall t.actions) (break_line Pin Segment c n open_of z g) (inner_acts Pin Segment c n open_of b a (is_tick y) t.actions h)
-                  (λ falls. begin_line_on s (((g.state.sessions z.lower z.upper).offer.sid + 1) % 256) z (broken z g) (record {
+                  let z = adjacency a b in
+                  pick s (any_fall t.actions) (break_adjacency Pin Segment c n open_of z g) (inner_acts Pin Segment c n open_of b a (is_tick y) t.actions h)
+                  (λ falls. begin_adjacency_on s (((g.state.sessions z.lower z.upper).offer.sid + 1) % 256) z (broken z g) (record {
                     trip = subst (λ (ds : Transcript). Trip s ds (broken z g).state) (nil_right (broken z g).deeds) (goes_on s s (broken z g).state [] (broken z g).deeds (stands s) (drops a b x rest s is));
                     safe = broken_safe z g popped_safe;
                   }))
@@ -516,22 +516,22 @@ module _ (c : Codec) (n : NetworkParts) where
                     safe = give_safe b (Inner a) pass.0 (after_pop a b u) (inner_safe b a t.next g.state (λ live'. (fine (s.sessions b a) y live' none).live) popped_safe);
                   } in
                   subst (λ (as' : List Action). Reached s
-                  (cond (any_fall as') (break_line Pin Segment c n open_of (line a b) g) (inner_acts Pin Segment c n open_of b a (is_tick y) as' (record { state = u; deeds = g.deeds }))))
+                  (cond (any_fall as') (break_adjacency Pin Segment c n open_of (adjacency a b) g) (inner_acts Pin Segment c n open_of b a (is_tick y) as' (record { state = u; deeds = g.deeds }))))
                   (sym pass.2) reached
 
       pub break_did : (a b : As) (s : Core) → Safe s → Did s (events.break Pin Segment c n open_of a b s)
       break_did a b s safe =
-          let g = break_line Pin Segment c n open_of (line a b) (at_start s) in
+          let g = break_adjacency Pin Segment c n open_of (adjacency a b) (at_start s) in
           did_pick s (is_linked n a b) (events.answered Pin Segment c n open_of _ g) (events.refused Pin Segment c n open_of _ s)
-          (λ is. break_line_on s (line a b) (at_start s) (stay s safe)) (λ is. stay s safe)
+          (λ is. break_adjacency_on s (adjacency a b) (at_start s) (stay s safe)) (λ is. stay s safe)
 
       pub tick_did : (t : ℕ) (s : Core) → Safe s → Did s (events.tick Pin Segment c n open_of t s)
       tick_did t s safe =
           let now = events.later s.clock t in
           let u : Core = record s { clock = now } in
           let h = tick_outside Pin Segment c n open_of 0 n.peers (record { 0 = now }) (at_start u) in
-          expire_on s now (tick_lines Pin Segment c n open_of (lines n) (record { 0 = now }) h)
-          (tick_lines_on s (lines n) (record { 0 = now }) h
+          expire_on s now (tick_adjacencies Pin Segment c n open_of (adjacencies n) (record { 0 = now }) h)
+          (tick_adjacencies_on s (adjacencies n) (record { 0 = now }) h
           (tick_outside_on s 0 n.peers (record { 0 = now }) (at_start u) (record {
             trip = rest_trip s (at_start s) u (record { elements = refl; parent = refl; current = refl; queues = refl }) (stands s);
             safe = record { live = safe.live; inboxes = safe.inboxes };
@@ -560,10 +560,10 @@ module _ (c : Codec) (n : NetworkParts) where
       abbrev LiveAt : Core → As → As → Type 0
       LiveAt s a b = IsLive (s.sessions a b).phase × IsLive (s.sessions b a).phase
 
-      pub begun_trip : (xs : List Line) (s0 : Core) (g : Move) → Trip s0 g.deeds g.state → Trip s0 (events.begin_lines Pin Segment c n open_of xs g).deeds (events.begin_lines Pin Segment c n open_of xs g).state
+      pub begun_trip : (xs : List Adjacency) (s0 : Core) (g : Move) → Trip s0 g.deeds g.state → Trip s0 (events.begin_adjacencies Pin Segment c n open_of xs g).deeds (events.begin_adjacencies Pin Segment c n open_of xs g).state
       begun_trip [] s0 g r = r
       begun_trip (x ∷ xs) s0 g r =
-          begun_trip xs s0 (begin_line Pin Segment c n open_of 0 x g) (begin_trip s0 0 x.upper x.lower (begin_end Pin Segment c n open_of 0 x.lower x.upper g) (begin_trip s0 0 x.lower x.upper g r))
+          begun_trip xs s0 (begin_adjacency Pin Segment c n open_of 0 x g) (begin_trip s0 0 x.upper x.lower (begin_end Pin Segment c n open_of 0 x.lower x.upper g) (begin_trip s0 0 x.lower x.upper g r))
 
       set_live : (at b a' b' : As) (next old : Session) → IsLive next.phase → IsLive old.phase → (t u : Bool) → IsLive (cond t (cond u next old) old).phase
       set_live at b a' b' next old new h true true = new
@@ -581,37 +581,37 @@ module _ (c : Codec) (n : NetworkParts) where
           subst (λ (t : Bool). IsLive (cond t (cond (same_as b b') next (g.state.sessions a' b')) (g.state.sessions a' b')).phase) (sym e)
           (subst (λ (t : Bool). IsLive (cond t next (g.state.sessions a' b')).phase) (sym f) tt)
 
-      line_live : (x : Line) (g : Move) (a b : As) → same_link x.lower x.upper a b ≡ true → LiveAt (begin_line Pin Segment c n open_of 0 x g).state a b
-      line_live x g a b e = go (same_as x.lower a) (same_as x.upper b) (same_as x.lower b) (same_as x.upper a) refl refl refl refl e
+      adjacency_live : (x : Adjacency) (g : Move) (a b : As) → same_link x.lower x.upper a b ≡ true → LiveAt (begin_adjacency Pin Segment c n open_of 0 x g).state a b
+      adjacency_live x g a b e = go (same_as x.lower a) (same_as x.upper b) (same_as x.lower b) (same_as x.upper a) refl refl refl refl e
         where
           f : Move
           f = begin_end Pin Segment c n open_of 0 x.lower x.upper g
 
           go : (t u v w : Bool) → same_as x.lower a ≡ t → same_as x.upper b ≡ u → same_as x.lower b ≡ v → same_as x.upper a ≡ w → cond t u (cond v w false) ≡ true →
-              LiveAt (begin_line Pin Segment c n open_of 0 x g).state a b
+              LiveAt (begin_adjacency Pin Segment c n open_of 0 x g).state a b
           go true true v w is is' is'' is''' e = (begun_keeps 0 x.upper x.lower f a b (begun_here 0 x.lower x.upper a b g is is'), begun_here 0 x.upper x.lower b a f is' is)
           go true false v w is is' is'' is''' e = cc
           go false u true true is is' is'' is''' e = (begun_here 0 x.upper x.lower a b f is''' is'', begun_keeps 0 x.upper x.lower f b a (begun_here 0 x.lower x.upper b a g is'' is'''))
           go false u true false is is' is'' is''' e = cc
           go false u false w is is' is'' is''' e = cc
 
-      lines_keep : (xs : List Line) (g : Move) (a b : As) → IsLive (g.state.sessions a b).phase → IsLive ((events.begin_lines Pin Segment c n open_of xs g).state.sessions a b).phase
-      lines_keep [] g a b h = h
-      lines_keep (x ∷ xs) g a b h =
-          lines_keep xs (begin_line Pin Segment c n open_of 0 x g) a b (begun_keeps 0 x.upper x.lower (begin_end Pin Segment c n open_of 0 x.lower x.upper g) a b (begun_keeps 0 x.lower x.upper g a b h))
+      adjacencies_keep : (xs : List Adjacency) (g : Move) (a b : As) → IsLive (g.state.sessions a b).phase → IsLive ((events.begin_adjacencies Pin Segment c n open_of xs g).state.sessions a b).phase
+      adjacencies_keep [] g a b h = h
+      adjacencies_keep (x ∷ xs) g a b h =
+          adjacencies_keep xs (begin_adjacency Pin Segment c n open_of 0 x g) a b (begun_keeps 0 x.upper x.lower (begin_end Pin Segment c n open_of 0 x.lower x.upper g) a b (begun_keeps 0 x.lower x.upper g a b h))
 
-      lines_live : (xs : List Line) (g : Move) (a b : As) → has_line a b xs ≡ true → LiveAt (events.begin_lines Pin Segment c n open_of xs g).state a b
-      lines_live [] g a b e = cc
-      lines_live (x ∷ xs) g a b e = elim (has_part (same_link x.lower x.upper a b) (has_line a b xs) e) [
-        | inl here ↦ let h = line_live x g a b here in (lines_keep xs (begin_line Pin Segment c n open_of 0 x g) a b h.0, lines_keep xs (begin_line Pin Segment c n open_of 0 x g) b a h.1)
-        | inr there ↦ lines_live xs (begin_line Pin Segment c n open_of 0 x g) a b there
+      adjacencies_live : (xs : List Adjacency) (g : Move) (a b : As) → has_adjacency a b xs ≡ true → LiveAt (events.begin_adjacencies Pin Segment c n open_of xs g).state a b
+      adjacencies_live [] g a b e = cc
+      adjacencies_live (x ∷ xs) g a b e = elim (has_part (same_link x.lower x.upper a b) (has_adjacency a b xs) e) [
+        | inl here ↦ let h = adjacency_live x g a b here in (adjacencies_keep xs (begin_adjacency Pin Segment c n open_of 0 x g) a b h.0, adjacencies_keep xs (begin_adjacency Pin Segment c n open_of 0 x g) b a h.1)
+        | inr there ↦ adjacencies_live xs (begin_adjacency Pin Segment c n open_of 0 x g) a b there
       ]
 
-      lines_inboxes : (xs : List Line) (g : Move) → ((i : ℕ) → Inbox (g.state.accesses i).connection) → (i : ℕ) → Inbox ((events.begin_lines Pin Segment c n open_of xs g).state.accesses i).connection
-      lines_inboxes [] g h i = h i
-      lines_inboxes (x ∷ xs) g h i = lines_inboxes xs (begin_line Pin Segment c n open_of 0 x g) h i
+      adjacencies_inboxes : (xs : List Adjacency) (g : Move) → ((i : ℕ) → Inbox (g.state.accesses i).connection) → (i : ℕ) → Inbox ((events.begin_adjacencies Pin Segment c n open_of xs g).state.accesses i).connection
+      adjacencies_inboxes [] g h i = h i
+      adjacencies_inboxes (x ∷ xs) g h i = adjacencies_inboxes xs (begin_adjacency Pin Segment c n open_of 0 x g) h i
 
       pub opening_safe : Safe (events.opening Pin Segment c n open_of first_pin).state
       opening_safe =
           let g = at_start (events.bare Pin Segment c n open_of first_pin) in
-          record { live = λ a b linked. lines_live (lines n) g a b linked; inboxes = lines_inboxes (lines n) g (λ i. tt) }
+          record { live = λ a b linked. adjacencies_live (adjacencies n) g a b linked; inboxes = adjacencies_inboxes (adjacencies n) g (λ i. tt) }

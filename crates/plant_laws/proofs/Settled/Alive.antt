@@ -160,7 +160,7 @@ module _ (c : Codec) (n : NetworkParts) where
       (element_moves (Asks c) s.elements s.parent at no_message (queues_at ds) (queues_at ds) at (λ a b m h. inl h) real t moves (sound_of at t.outputs e (outs at) sound)
       (λ id l ask. absurd (asks_nothing c at id l ask)) (λ id whole answers w. no_answer id answers)) alive))
 
-  pub parent_moved : (s : Core) (t : parent.Given) (e : Deed Segment) (ds : Transcript) → ((a : As) → outputs_at a e ≡ cond (same_as parent_as a) t.outputs []) →
+  pub parent_moved : (s : Core) (t : parent.ParentTaken) (e : Deed Segment) (ds : Transcript) → ((a : As) → outputs_at a e ≡ cond (same_as parent_as a) t.outputs []) →
       ((a b : As) (xs : List Standing) → left_of e a b xs ≡ xs) → ((a : As) → upper.Moves (Inner a) s.parent t) → IsSound c e → IsAlive ds s →
       IsAlive (e ∷ ds) (puts Pin Segment c n open_of parent_as t.outputs (with_parent Pin Segment c n open_of t.parent s))
   parent_moved s t e ds outs left moves sound alive =

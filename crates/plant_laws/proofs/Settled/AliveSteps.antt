@@ -15,7 +15,7 @@ use Rattle.plant_text.specs.Names.{same_as, same_link, parent_as}
 use Rattle.plant_model.specs.Names.{set_as}
 use Rattle.plant_model.specs.Wire.{Bytes, Codec}
 use Rattle.plant_model.specs.Laws.{IsCodec}
-use Rattle.plant_text.specs.Settings.{Line, line}
+use Rattle.plant_text.specs.Settings.{Adjacency, adjacency}
 use Rattle.plant_model.specs.Settings.{place}
 use Rattle.plant_model.specs.Element.{Item, Waits, Row, Element, upped, downed, ticked}
 use Rattle.plant_model.specs.Solving.{commit}
@@ -177,14 +177,14 @@ module _ (c : Codec) (n : NetworkParts) (codec : IsCodec c) where
         | inr taken ↦ absurd (kept_answers id m kept (subst (λ (z : Message). Answers id z) (taken.2 ∙ meant) answers))
       ]
 
-  line_linked : (a b : As) → same_link (line a b).lower (line a b).upper a b ≡ true
-  line_linked a b = go (nat_lt b.0 a.0)
+  adjacency_linked : (a b : As) → same_link (adjacency a b).lower (adjacency a b).upper a b ≡ true
+  adjacency_linked a b = go (nat_lt b.0 a.0)
     where
       swap : (x : Bool) → same_as b a ≡ x → cond x (same_as a b) (cond (same_as b b) (same_as a a) false) ≡ true
       swap true e = ap (λ (z : As). same_as a z) (same_as_is b a e) ∙ as_self a
       swap false e = ap (λ (x : Bool). cond x (same_as a a) false) (as_self b) ∙ as_self a
 
-      go : (x : Bool) → (let y : Line = cond x (record { lower = b; upper = a }) (record { lower = a; upper = b }) in same_link y.lower y.upper a b ≡ true)
+      go : (x : Bool) → (let y : Adjacency = cond x (record { lower = b; upper = a }) (record { lower = a; upper = b }) in same_link y.lower y.upper a b ≡ true)
       go true = swap (same_as b a) refl
       go false = ap (λ (x : Bool). cond x (same_as b b) (cond (same_as a b) (same_as b a) false)) (as_self a) ∙ as_self b
 
@@ -257,12 +257,12 @@ module _ (c : Codec) (n : NetworkParts) (codec : IsCodec c) where
     step_alive ds s t es (breaks x s') sound stand fits alive = λ now. broken_alive c n x s (queues_at ds) [] ds (λ a b m apart h. h) alive
     step_alive ds s t es (drops a b bytes rest s' is) sound stand fits alive = λ now.
         let f = first a b bytes rest s ds stand is in
-        broken_alive c n (line a b) (with_rest a b rest s) (queues_at ds) (Pops a b ∷ []) ds
+        broken_alive c n (adjacency a b) (with_rest a b rest s) (queues_at ds) (Pops a b ∷ []) ds
         (λ a' b' m apart h. elim (popped_now a b ds f.0 f.1 f.2 a' b' m h) [
           | inl stays ↦ stays
           | inr taken ↦
-              absurd (let clash : true ≡ false = sym (line_linked a b) ∙ ap (λ (z : As). same_link (line a b).lower (line a b).upper z b) (sym taken.0)
-              ∙ ap (λ (z : As). same_link (line a b).lower (line a b).upper a' z) (sym taken.1) ∙ apart in cc)
+              absurd (let clash : true ≡ false = sym (adjacency_linked a b) ∙ ap (λ (z : As). same_link (adjacency a b).lower (adjacency a b).upper z b) (sym taken.0)
+              ∙ ap (λ (z : As). same_link (adjacency a b).lower (adjacency a b).upper a' z) (sym taken.1) ∙ apart in cc)
         ]) alive
 
   -- ---- loads and solves

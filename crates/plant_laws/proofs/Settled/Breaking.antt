@@ -16,7 +16,7 @@ use Rattle.plant_model.specs.Element as element
 use Rattle.plant_model.specs.Element.{downed}
 use Rattle.plant_model.specs.Parent as parent
 use Rattle.plant_model.specs.State.{Downs, Clears}
-use Rattle.plant_text.specs.Settings.{Line}
+use Rattle.plant_text.specs.Settings.{Adjacency}
 use Rattle.plant_model.specs.Deeds.{Going, with_parent, with_element, puts, fall}
 use Rattle.plant_model.specs.Plant.{Pin, Segment}
 use Rattle.plant_laws.specs.Transcript.{Transcript, Standing, standing, put_into}
@@ -235,7 +235,7 @@ module _ (c : Codec) (n : NetworkParts) where
       subst (λ (x : Bool). In m (messages_in (cond x [] (standing a b ds) ++ []))) (sym apart) (subst (λ (l : List Standing). In m (messages_in l)) (sym (nil_right (standing a b ds))) h)
 
   -- a link breaks, and a message of it may have been taken before
-  pub broken_alive : (x : Line) (s : Core) (queues : Queues) (es ds : Transcript) →
+  pub broken_alive : (x : Adjacency) (s : Core) (queues : Queues) (es ds : Transcript) →
       ((a b : As) (m : Message) → same_link x.lower x.upper a b ≡ false → In m (queues a b) → In m (queues_at (es ++ ds) a b)) →
       AllAlive (Asks c) (named_of s.elements s.parent) (waits_of s.elements s.parent) queues →
       (let g = broken c n x (record { state = s; deeds = es }) in IsAlive c n (g.deeds ++ ds) g.state)

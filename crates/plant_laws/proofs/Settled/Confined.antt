@@ -12,7 +12,7 @@ use Rattle.plant_text.specs.declared.settings.NetworkParts.{NetworkParts}
 use Rattle.plant_text.specs.declared.settings.ElementRow.{ElementRow}
 use Rattle.plant_text.specs.declared.settings.PeerRow.{PeerRow}
 use Rattle.plant_text.specs.Names.{same_as, same_link, parent_as, insert_as}
-use Rattle.plant_text.specs.Settings.{Line, line, before_line, insert_line, sorted, upward, children_of, lines, has_line, is_linked, is_element, row_of, peer_row}
+use Rattle.plant_text.specs.Settings.{Adjacency, adjacency, before_adjacency, insert_adjacency, sorted, upward, children_of, adjacencies, has_adjacency, is_linked, is_element, row_of, peer_row}
 use Rattle.plant_model.specs.Laws.{IsNetwork}
 use Rattle.plant_model.specs.Deeds.{at_row, element_of}
 use Rattle.plant_model.specs.Element.{Item}
@@ -32,7 +32,7 @@ module _ (n : NetworkParts) where
   abbrev IsThere : As → Type 0
   IsThere d = (is_element n d ≡ true) ⊎ ((d ≡ parent_as) × (is_some n.parent ≡ true))
 
-  abbrev AreThere : List Line → Type 0
+  abbrev AreThere : List Adjacency → Type 0
   AreThere [] = Unit {0}
   AreThere (x ∷ xs) = (IsThere x.lower × IsThere x.upper) × AreThere xs
 
@@ -75,15 +75,15 @@ module _ (n : NetworkParts) where
 
   -- ---- those between elements
 
-  there_append : (xs ys : List Line) → AreThere xs → AreThere ys → AreThere (xs ++ ys)
+  there_append : (xs ys : List Adjacency) → AreThere xs → AreThere ys → AreThere (xs ++ ys)
   there_append [] ys h k = k
   there_append (x ∷ xs) ys h k = (h.0, there_append xs ys h.1 k)
 
-  insert_there : (x : Line) (ys : List Line) → IsThere x.lower × IsThere x.upper → AreThere ys → AreThere (insert_line x ys)
+  insert_there : (x : Adjacency) (ys : List Adjacency) → IsThere x.lower × IsThere x.upper → AreThere ys → AreThere (insert_adjacency x ys)
   insert_there x [] is all = (is, tt)
-  insert_there x (y ∷ ys) is all = go (before_line x y) (insert_there x ys is all.1)
+  insert_there x (y ∷ ys) is all = go (before_adjacency x y) (insert_there x ys is all.1)
     where
-      go : (b : Bool) → AreThere (insert_line x ys) → AreThere (cond b (x ∷ y ∷ ys) (y ∷ insert_line x ys))
+      go : (b : Bool) → AreThere (insert_adjacency x ys) → AreThere (cond b (x ∷ y ∷ ys) (y ∷ insert_adjacency x ys))
       go true more = (is, all)
       go false more = (all.0, more)
 
@@ -92,19 +92,19 @@ module _ (n : NetworkParts) where
 
   sorted_there : (ps : List (As × As)) → All IsLink ps → AreThere (sorted ps)
   sorted_there [] all = tt
-  sorted_there (p ∷ ps) all = insert_there (line p.0 p.1) (sorted ps) (go (nat_lt p.1.0 p.0.0)) (sorted_there ps (All-tail IsLink p ps all))
+  sorted_there (p ∷ ps) all = insert_there (adjacency p.0 p.1) (sorted ps) (go (nat_lt p.1.0 p.0.0)) (sorted_there ps (All-tail IsLink p ps all))
     where
-      go : (t : Bool) → (let x : Line = cond t (record { lower = p.1; upper = p.0 }) (record { lower = p.0; upper = p.1 }) in IsThere x.lower × IsThere x.upper)
+      go : (t : Bool) → (let x : Adjacency = cond t (record { lower = p.1; upper = p.0 }) (record { lower = p.0; upper = p.1 }) in IsThere x.lower × IsThere x.upper)
       go true = (let e = All-head IsLink p ps all in (inl e.1, inl e.0))
       go false = (let e = All-head IsLink p ps all in (inl e.0, inl e.1))
 
   -- ---- both ends of a link are there
 
-  ends_there : (a b : As) (xs : List Line) → AreThere xs → has_line a b xs ≡ true → IsThere b
+  ends_there : (a b : As) (xs : List Adjacency) → AreThere xs → has_adjacency a b xs ≡ true → IsThere b
   ends_there a b [] all e = absurd (let clash : false ≡ true = e in cc)
   ends_there a b (x ∷ xs) all e = go (same_as x.lower a) (same_as x.upper b) refl (same_as x.lower b) refl e (ends_there a b xs all.1)
     where
-      go : (t u : Bool) → same_as x.upper b ≡ u → (v : Bool) → same_as x.lower b ≡ v → cond (cond t u (cond v (same_as x.upper a) false)) true (has_line a b xs) ≡ true → (has_line a b xs ≡ true → IsThere b) → IsThere b
+      go : (t u : Bool) → same_as x.upper b ≡ u → (v : Bool) → same_as x.lower b ≡ v → cond (cond t u (cond v (same_as x.upper a) false)) true (has_adjacency a b xs) ≡ true → (has_adjacency a b xs ≡ true → IsThere b) → IsThere b
       go true true is v is' e' rest = subst IsThere (same_as_is x.upper b is) all.0.1
       go true false is v is' e' rest = rest e'
       go false u is true is' e' rest = subst IsThere (same_as_is x.lower b is') all.0.0
@@ -113,7 +113,7 @@ module _ (n : NetworkParts) where
   module _ (net : IsNetwork n) where
     heard_there : (b d : As) → is_linked n b d ≡ true → IsThere d
     heard_there b d linked =
-        ends_there b d (lines n) (there_append (upward (children_of n.elements)) (sorted n.links) (upward_there (children_of n.elements) (are_children n.elements net.has_parent (λ d' found. found))) (sorted_there n.links net.links)) linked
+        ends_there b d (adjacencies n) (there_append (upward (children_of n.elements)) (sorted n.links) (upward_there (children_of n.elements) (are_children n.elements net.has_parent (λ d' found. found))) (sorted_there n.links net.links)) linked
 
     peer_there : (i : ℕ) (rs : List PeerRow) → All (λ (r : PeerRow). is_element n r.at ≡ true) rs → is_some (peer_row i rs) ≡ true → is_element n (at_row (peer_row i rs)) ≡ true
     peer_there i [] all known = absurd (let clash : false ≡ true = known in cc)

@@ -25,7 +25,7 @@ use Rattle.plant_model.specs.declared.output.Output.{Output}
 use Rattle.plant_model.specs.Names.{the_parent, has_pair}
 use Rattle.plant_model.specs.Wire.{Codec, Checked, Admitted, Wrong}
 use Rattle.plant_model.specs.Writing.{reply_message, unavailable, busy, none_between}
-use Rattle.plant_model.specs.Element.{Stage, Ready, Item, Row, Way, Element, Place, Taken, each, ended, at_stage, waiting, waits_for, way_to, with_last, with_up, fresh_id, stays, is_lost, lost_of, lost_output, downed, upped, is_client}
+use Rattle.plant_model.specs.Element.{Stage, Ready, Item, Row, Way, Element, ElementSettings, Taken, each, ended, at_stage, waiting, waits_for, way_to, with_last, with_up, fresh_id, stays, is_lost, lost_of, lost_output, downed, upped, is_client}
 use Rattle.plant_model.specs.Routes.{toward}
 use Rattle.plant_model.specs.Branches.{branches_in}
 use Rattle.plant_model.specs.Taking.{item_of, sequence_or, goes_up, send_on, take_along, take_path, take_wish, take_new, take_checked, take_asked, staged, answered, made_ready, take_answer, take_reply, told_busy, cancelled, take_busy, take_cancel, notice_steps, take_notice, error_answer, told_error, take_failure, take_errors, take_report, take}
@@ -225,7 +225,7 @@ module _ (R L : Peer → Type 0) (told : (p : Peer) → R p → L p) (P : Type 0
     errors_after ids (e ∷ es) k h = each_after (λ rp k'. take_failure e k' (waiting p rp.1 k'.pending.rows)) (failure_after e) ids k h
 
     -- ---- a request
-    module _ (c : Codec) (e : Place) (pin : P) (class : Class) where
+    module _ (c : Codec) (e : ElementSettings) (pin : P) (class : Class) where
       opened_keeps : (flags x : ℕ) (w : Wanted) (sequence : List As) (stage : Stage) (k : Element P S) (ways : List Way) → Ways L ways → Reaches k →
           Reaches (record k { pending = opened_of k.pending p x (item_of pin class flags w sequence stage); ways = ways })
       opened_keeps flags x w sequence stage k ways lead h = record { rows = askers_append R (Item P) k.pending.rows _ h.rows (asks, tt); ways = lead }
@@ -290,7 +290,7 @@ module _ (R L : Peer → Type 0) (told : (p : Peer) → R p → L p) (P : Type 0
   pub upped_reaches : (p : Peer) (k : Element P S) → Reaches k → Reaches (upped p k)
   upped_reaches p k h = record { rows = h.rows; ways = ways_up L p true k.ways h.ways }
 
-  pub commit_reaches : (c : Codec) (e : Place) (h : Row P) (down : List Branch) (now : ℕ) (stands : Best → S) (source_known target_known : Bool) (best : List Best) (k : Element P S) →
+  pub commit_reaches : (c : Codec) (e : ElementSettings) (h : Row P) (down : List Branch) (now : ℕ) (stands : Best → S) (source_known target_known : Bool) (best : List Best) (k : Element P S) →
       R h.1.key.peer → Reaches k → After (commit c e h down now stands source_known target_known best k)
   commit_reaches c e h down now stands source_known target_known best k asks r =
       after_pick (is_client h.1.item.class) (answered h (client_reply c h down source_known target_known best) k) (closed_reply c e h down now stands k best)

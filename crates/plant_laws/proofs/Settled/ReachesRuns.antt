@@ -19,7 +19,7 @@ use Rattle.disclosure.specs.Shown.{open_of}
 use Rattle.plant_text.specs.declared.settings.NetworkParts.{NetworkParts}
 use Rattle.plant_text.specs.declared.settings.PeerRow.{PeerRow}
 use Rattle.plant_text.specs.Names.{same_as, same_link, parent_as}
-use Rattle.plant_text.specs.Settings.{Line, line, lines, has_line, is_linked, upward, children, sorted, is_element, peer_row, class_of}
+use Rattle.plant_text.specs.Settings.{Adjacency, adjacency, adjacencies, has_adjacency, is_linked, upward, children, sorted, is_element, peer_row, class_of}
 use Rattle.plant_model.specs.declared.event.Event.{Event}
 use Rattle.plant_model.specs.declared.event.Event.TheVariants as event
 use Rattle.plant_model.specs.declared.output.Output.{Output}
@@ -35,7 +35,7 @@ use Rattle.plant_model.specs.Parent.{Asking}
 use Rattle.plant_model.specs.Settings.{place, family, way, ways_along, inner_ways, outer_way}
 use Rattle.plant_model.specs.Routes.{routes}
 use Rattle.plant_model.specs.State.{Connection, Access, Pops, Takes, Ups, Downs}
-use Rattle.plant_model.specs.Deeds.{Going, element_of, is_due, is_tick, is_out_empty, any_fall, our_offer, on_connection, with_more, with_session, with_inbox, input_of, with_parent, with_element, own_message, put, put_to, puts, give, rise, fall, say, clear, expire, outside_act, outside_acts, outside_step, outside_input, inner_act, inner_acts, inner_input, begin_end, begin_line, break_line, tick_outside, tick_lines, with_access, with_inner}
+use Rattle.plant_model.specs.Deeds.{Going, element_of, is_due, is_tick, is_out_empty, any_fall, our_offer, on_connection, with_more, with_session, with_inbox, input_of, with_parent, with_element, own_message, put, put_to, puts, give, rise, fall, say, clear, expire, outside_act, outside_acts, outside_step, outside_input, inner_act, inner_acts, inner_input, begin_end, begin_adjacency, break_adjacency, tick_outside, tick_adjacencies, with_access, with_inner}
 use Rattle.plant_model.specs.Outside.{heeded}
 use Rattle.plant_model.specs.Events as events
 use Rattle.plant_model.specs.Events.{is_down}
@@ -60,39 +60,39 @@ swapped l u a b e = go (same_as l a) refl (same_as l b) refl e
     go false is true is' e' = e'
     go false is false is' e' = e'
 
-has_swapped : (a b : As) (xs : List Line) → has_line a b xs ≡ true → has_line b a xs ≡ true
+has_swapped : (a b : As) (xs : List Adjacency) → has_adjacency a b xs ≡ true → has_adjacency b a xs ≡ true
 has_swapped a b [] e = e
 has_swapped a b (x ∷ xs) e = go (same_link x.lower x.upper a b) refl (same_link x.lower x.upper b a) refl e (has_swapped a b xs)
   where
-    go : (t : Bool) → same_link x.lower x.upper a b ≡ t → (u : Bool) → same_link x.lower x.upper b a ≡ u → cond t true (has_line a b xs) ≡ true → (has_line a b xs ≡ true → has_line b a xs ≡ true) →
-        cond u true (has_line b a xs) ≡ true
+    go : (t : Bool) → same_link x.lower x.upper a b ≡ t → (u : Bool) → same_link x.lower x.upper b a ≡ u → cond t true (has_adjacency a b xs) ≡ true → (has_adjacency a b xs ≡ true → has_adjacency b a xs ≡ true) →
+        cond u true (has_adjacency b a xs) ≡ true
     go t is true is' e' rec = refl
     go true is false is' e' rec = absurd (let clash : true ≡ false = sym (swapped x.lower x.upper a b is) ∙ is' in cc)
     go false is false is' e' rec = rec e'
 
 pub linked_swapped : (n : NetworkParts) (a b : As) → is_linked n a b ≡ true → is_linked n b a ≡ true
-linked_swapped n a b e = has_swapped a b (lines n) e
+linked_swapped n a b e = has_swapped a b (adjacencies n) e
 
 -- both directions of a link
-abbrev IsJoined : NetworkParts → Line → Type 0
+abbrev IsJoined : NetworkParts → Adjacency → Type 0
 IsJoined n x = (is_linked n x.lower x.upper ≡ true) × (is_linked n x.upper x.lower ≡ true)
 
-joined_line : (n : NetworkParts) (a b : As) → is_linked n a b ≡ true → IsJoined n (line a b)
-joined_line n a b e = go (nat_lt b.0 a.0)
+joined_adjacency : (n : NetworkParts) (a b : As) → is_linked n a b ≡ true → IsJoined n (adjacency a b)
+joined_adjacency n a b e = go (nat_lt b.0 a.0)
   where
     go : (t : Bool) → IsJoined n (cond t (record { lower = b; upper = a }) (record { lower = a; upper = b }))
     go true = (linked_swapped n a b e, e)
     go false = (e, linked_swapped n a b e)
 
-abbrev AreJoined : NetworkParts → List Line → Type 0
+abbrev AreJoined : NetworkParts → List Adjacency → Type 0
 AreJoined n [] = Unit {0}
 AreJoined n (x ∷ xs) = IsJoined n x × AreJoined n xs
 
-joined_among : (n : NetworkParts) (xs : List Line) → ((a b : As) → has_line a b xs ≡ true → is_linked n a b ≡ true) → AreJoined n xs
+joined_among : (n : NetworkParts) (xs : List Adjacency) → ((a b : As) → has_adjacency a b xs ≡ true → is_linked n a b ≡ true) → AreJoined n xs
 joined_among n [] known = tt
 joined_among n (x ∷ xs) known =
-    let first = known x.lower x.upper (ap (λ (t : Bool). cond t true (has_line x.lower x.upper xs)) here) in
-    ((first, linked_swapped n x.lower x.upper first), joined_among n xs (λ a b e. known a b (later (same_link x.lower x.upper a b) (has_line a b xs) e)))
+    let first = known x.lower x.upper (ap (λ (t : Bool). cond t true (has_adjacency x.lower x.upper xs)) here) in
+    ((first, linked_swapped n x.lower x.upper first), joined_among n xs (λ a b e. known a b (later (same_link x.lower x.upper a b) (has_adjacency a b xs) e)))
   where
     here : same_link x.lower x.upper x.lower x.upper ≡ true
     here = ap (λ (t : Bool). cond t (same_as x.upper x.upper) (cond (same_as x.lower x.upper) (same_as x.upper x.lower) false)) (as_self x.lower) ∙ as_self x.upper
@@ -101,8 +101,8 @@ joined_among n (x ∷ xs) known =
     later true u e = refl
     later false u e = e
 
-joined_lines : (n : NetworkParts) → AreJoined n (lines n)
-joined_lines n = joined_among n (lines n) (λ a b e. e)
+joined_adjacencies : (n : NetworkParts) → AreJoined n (adjacencies n)
+joined_adjacencies n = joined_among n (adjacencies n) (λ a b e. e)
 
 -- ---- whom a domain hears, and whom it tells
 
@@ -122,7 +122,7 @@ outer_told : (n : NetworkParts) (d : As) (rs : List Route) → Ways (IsTold n d)
 outer_told n d [] = tt
 outer_told n d (r ∷ rs) = (tt, outer_told n d rs)
 
-along_told : (n : NetworkParts) (d : As) (xs : List Line) → AreJoined n xs → Ways (IsTold n d) (ways_along d xs)
+along_told : (n : NetworkParts) (d : As) (xs : List Adjacency) → AreJoined n xs → Ways (IsTold n d) (ways_along d xs)
 along_told n d [] all = tt
 along_told n d (x ∷ xs) all = go (same_as x.lower d) refl (same_as x.upper d) refl (along_told n d xs all.1)
   where
@@ -132,7 +132,7 @@ along_told n d (x ∷ xs) all = go (same_as x.lower d) refl (same_as x.upper d) 
     go false is true is' rest = (subst (λ (z : As). is_linked n z x.lower ≡ true) (same_as_is x.upper d is') all.0.1, rest)
     go false is false is' rest = rest
 
-children_told : (n : NetworkParts) (cs : List As) (rest : List Line) → AreJoined n (upward cs ++ rest) → Children (IsTold n parent_as) cs
+children_told : (n : NetworkParts) (cs : List As) (rest : List Adjacency) → AreJoined n (upward cs ++ rest) → Children (IsTold n parent_as) cs
 children_told n [] rest all = tt
 children_told n (a ∷ cs) rest all = (all.0.0, children_told n cs rest all.1)
 
@@ -229,7 +229,7 @@ module _ (c : Codec) (n : NetworkParts) where
       (λ up. let is = same_as_is at parent_as up in
       parent_moves at r.parent r.outputs g.state is
       (upper.take_reaches (IsHeard n parent_as) (IsTold n parent_as) (is_told n parent_as) p (subst (λ (z : As). IsHeard n z p) is heard) c (family n)
-      (children_told n (children n) (sorted n.links) (joined_lines n)) m g.state.parent h.above) h)
+      (children_told n (children n) (sorted n.links) (joined_adjacencies n)) m g.state.parent h.above) h)
       (λ low.
       element_moves at t.element t.outputs g.state
       (lower.take_reaches (IsHeard n at) (IsTold n at) (is_told n at) Pin Segment p heard c (place n at) (g.state.current at) (class_of n p) open_of g.state.clock m (g.state.elements at) (h.elements at)) h)
@@ -301,11 +301,11 @@ module _ (c : Codec) (n : NetworkParts) where
       let t = turn_of (new_state (our_offer sid) (record { 0 = g.state.clock })) input.Begin in
       inner_keeps at b false t.actions (record { state = with_inner Pin Segment c n open_of at b t.next g.state; deeds = g.deeds }) linked (session_keeps at b t.next g.state h)
 
-  begin_line_keeps : (sid : ℕ) (x : Line) (g : Move) → IsJoined n x → Keeps g.state → Keeps (begin_line Pin Segment c n open_of sid x g).state
-  begin_line_keeps sid x g joined h =
+  begin_adjacency_keeps : (sid : ℕ) (x : Adjacency) (g : Move) → IsJoined n x → Keeps g.state → Keeps (begin_adjacency Pin Segment c n open_of sid x g).state
+  begin_adjacency_keeps sid x g joined h =
       begin_end_keeps sid x.upper x.lower (begin_end Pin Segment c n open_of sid x.lower x.upper g) joined.1 (begin_end_keeps sid x.lower x.upper g joined.0 h)
 
-  clear_keeps : (x : Line) (g : Move) → IsJoined n x → Keeps g.state → Keeps (clear Pin Segment c n open_of x g).state
+  clear_keeps : (x : Adjacency) (g : Move) → IsJoined n x → Keeps g.state → Keeps (clear Pin Segment c n open_of x g).state
   clear_keeps x g joined h = record {
     queues = queue_set x.lower x.upper [] (set_pair x.upper x.lower [] g.state.queues) joined.0 (queue_set x.upper x.lower [] g.state.queues joined.1 h.queues);
     elements = h.elements;
@@ -313,35 +313,35 @@ module _ (c : Codec) (n : NetworkParts) where
     peers = h.peers;
   }
 
-  break_line_keeps : (x : Line) (g : Move) → IsJoined n x → Keeps g.state → Keeps (break_line Pin Segment c n open_of x g).state
-  break_line_keeps x g joined h =
+  break_adjacency_keeps : (x : Adjacency) (g : Move) → IsJoined n x → Keeps g.state → Keeps (break_adjacency Pin Segment c n open_of x g).state
+  break_adjacency_keeps x g joined h =
       let f = fall Pin Segment c n open_of x.lower (Inner x.upper) g in
       let k = fall Pin Segment c n open_of x.upper (Inner x.lower) f in
-      begin_line_keeps (((g.state.sessions x.lower x.upper).offer.sid + 1) % 256) x (clear Pin Segment c n open_of x k) joined
+      begin_adjacency_keeps (((g.state.sessions x.lower x.upper).offer.sid + 1) % 256) x (clear Pin Segment c n open_of x k) joined
       (clear_keeps x k joined (fall_keeps x.upper (Inner x.lower) f (fall_keeps x.lower (Inner x.upper) g h)))
 
-  inner_input_keeps : (x : Line) (at b : As) (y : Input) (g : Move) → IsJoined n x → is_linked n at b ≡ true → Keeps g.state → Keeps (inner_input Pin Segment c n open_of x at b y g).state
+  inner_input_keeps : (x : Adjacency) (at b : As) (y : Input) (g : Move) → IsJoined n x → is_linked n at b ≡ true → Keeps g.state → Keeps (inner_input Pin Segment c n open_of x at b y g).state
   inner_input_keeps x at b y g joined linked h =
       let t = turn_of (g.state.sessions at b) y in
       let e : Move = record { state = with_inner Pin Segment c n open_of at b t.next g.state; deeds = g.deeds } in
-      pick (any_fall t.actions) (break_line Pin Segment c n open_of x g) (inner_acts Pin Segment c n open_of at b (is_tick y) t.actions e)
-      (λ is. break_line_keeps x g joined h) (λ is. inner_keeps at b (is_tick y) t.actions e linked (session_keeps at b t.next g.state h))
+      pick (any_fall t.actions) (break_adjacency Pin Segment c n open_of x g) (inner_acts Pin Segment c n open_of at b (is_tick y) t.actions e)
+      (λ is. break_adjacency_keeps x g joined h) (λ is. inner_keeps at b (is_tick y) t.actions e linked (session_keeps at b t.next g.state h))
 
   tick_outside_keeps : (i : ℕ) (rs : List PeerRow) (now : Tick) (g : Move) → Keeps g.state → Keeps (tick_outside Pin Segment c n open_of i rs now g).state
   tick_outside_keeps i [] now g h = h
   tick_outside_keeps i (row ∷ rs) now g h =
       tick_outside_keeps (i + 1) rs now (outside_input Pin Segment c n open_of i (input.Tick now) g) (outside_input_keeps i (input.Tick now) g h)
 
-  tick_lines_keeps : (xs : List Line) (now : Tick) (g : Move) → AreJoined n xs → Keeps g.state → Keeps (tick_lines Pin Segment c n open_of xs now g).state
-  tick_lines_keeps [] now g joined h = h
-  tick_lines_keeps (x ∷ xs) now g joined h =
+  tick_adjacencies_keeps : (xs : List Adjacency) (now : Tick) (g : Move) → AreJoined n xs → Keeps g.state → Keeps (tick_adjacencies Pin Segment c n open_of xs now g).state
+  tick_adjacencies_keeps [] now g joined h = h
+  tick_adjacencies_keeps (x ∷ xs) now g joined h =
       let e = inner_input Pin Segment c n open_of x x.lower x.upper (input.Tick now) g in
-      tick_lines_keeps xs now (inner_input Pin Segment c n open_of x x.upper x.lower (input.Tick now) e) joined.1
+      tick_adjacencies_keeps xs now (inner_input Pin Segment c n open_of x x.upper x.lower (input.Tick now) e) joined.1
       (inner_input_keeps x x.upper x.lower (input.Tick now) e joined.0 joined.0.1 (inner_input_keeps x x.lower x.upper (input.Tick now) g joined.0 joined.0.0 h))
 
-  begin_lines_keep : (xs : List Line) (g : Move) → AreJoined n xs → Keeps g.state → Keeps (events.begin_lines Pin Segment c n open_of xs g).state
-  begin_lines_keep [] g joined h = h
-  begin_lines_keep (x ∷ xs) g joined h = begin_lines_keep xs (begin_line Pin Segment c n open_of 0 x g) joined.1 (begin_line_keeps 0 x g joined.0 h)
+  begin_adjacencies_keep : (xs : List Adjacency) (g : Move) → AreJoined n xs → Keeps g.state → Keeps (events.begin_adjacencies Pin Segment c n open_of xs g).state
+  begin_adjacencies_keep [] g joined h = h
+  begin_adjacencies_keep (x ∷ xs) g joined h = begin_adjacencies_keep xs (begin_adjacency Pin Segment c n open_of 0 x g) joined.1 (begin_adjacency_keeps 0 x g joined.0 h)
 
   -- ---- events
 
@@ -399,19 +399,19 @@ module _ (c : Codec) (n : NetworkParts) where
         go : is_linked n a b ≡ true → (q : List Bytes) → Keeps (events.carry_first Pin Segment c n open_of a b s q).state
         go linked [] = h
         go linked (x ∷ rest) =
-            inner_input_keeps (line a b) b a (input_of c (Some x)) (record { state = record s { queues = set_pair a b rest s.queues }; deeds = Pops a b ∷ [] }) (joined_line n a b linked) (linked_swapped n a b linked)
+            inner_input_keeps (adjacency a b) b a (input_of c (Some x)) (record { state = record s { queues = set_pair a b rest s.queues }; deeds = Pops a b ∷ [] }) (joined_adjacency n a b linked) (linked_swapped n a b linked)
             (record { queues = queue_set a b rest s.queues linked h.queues; elements = h.elements; above = h.above; peers = h.peers })
 
     break_did : (a b : As) → Keeps (events.break Pin Segment c n open_of a b s).state
     break_did a b =
-        did_pick (is_linked n a b) (events.answered Pin Segment c n open_of _ (break_line Pin Segment c n open_of (line a b) (record { state = s; deeds = [] }))) (events.refused Pin Segment c n open_of _ s)
-        (λ linked. break_line_keeps (line a b) (record { state = s; deeds = [] }) (joined_line n a b linked) h) (λ apart. h)
+        did_pick (is_linked n a b) (events.answered Pin Segment c n open_of _ (break_adjacency Pin Segment c n open_of (adjacency a b) (record { state = s; deeds = [] }))) (events.refused Pin Segment c n open_of _ s)
+        (λ linked. break_adjacency_keeps (adjacency a b) (record { state = s; deeds = [] }) (joined_adjacency n a b linked) h) (λ apart. h)
 
     tick_did : (t : ℕ) → Keeps (events.tick Pin Segment c n open_of t s).state
     tick_did t =
         let now = events.later s.clock t in
         let g : Move = record { state = record s { clock = now }; deeds = [] } in
-        let k = tick_lines_keeps (lines n) (record { 0 = now }) (tick_outside Pin Segment c n open_of 0 n.peers (record { 0 = now }) g) (joined_lines n)
+        let k = tick_adjacencies_keeps (adjacencies n) (record { 0 = now }) (tick_outside Pin Segment c n open_of 0 n.peers (record { 0 = now }) g) (joined_adjacencies n)
         (tick_outside_keeps 0 n.peers (record { 0 = now }) g (record { queues = h.queues; elements = h.elements; above = h.above; peers = h.peers })) in
         record { queues = k.queues; elements = λ d. record { rows = (k.elements d).rows; ways = (k.elements d).ways }; above = k.above; peers = k.peers }
 
@@ -457,14 +457,14 @@ module _ (c : Codec) (n : NetworkParts) where
   bare_keeps : Keeps (events.bare Pin Segment c n open_of first_pin)
   bare_keeps = record {
     queues = λ a b apart. refl;
-    elements = λ d. record { rows = tt; ways = ways_append (IsTold n d) (inner_ways n d) (map outer_way (routes n d)) (along_told n d (lines n) (joined_lines n)) (outer_told n d (routes n d)) };
-    above = record { rows = tt; ways = along_told n parent_as (lines n) (joined_lines n) };
+    elements = λ d. record { rows = tt; ways = ways_append (IsTold n d) (inner_ways n d) (map outer_way (routes n d)) (along_told n d (adjacencies n) (joined_adjacencies n)) (outer_told n d (routes n d)) };
+    above = record { rows = tt; ways = along_told n parent_as (adjacencies n) (joined_adjacencies n) };
     peers = λ i. tt;
   }
 
   pub run_keeps : (es : List Entry) (s : Plant) → Run c n es s → Keeps s
   run_keeps [] s is =
-      subst Keeps (sym is) (begin_lines_keep (lines n) (record { state = events.bare Pin Segment c n open_of first_pin; deeds = [] }) (joined_lines n) bare_keeps)
+      subst Keeps (sym is) (begin_adjacencies_keep (adjacencies n) (record { state = events.bare Pin Segment c n open_of first_pin; deeds = [] }) (joined_adjacencies n) bare_keeps)
   run_keeps (e ∷ older) s run =
       let held = run_keeps older run.0 run.1 in
       elim run.3 [

@@ -24,7 +24,7 @@ use Rattle.plant_model.specs.Writing.{reply_message, unavailable, busy}
 use Rattle.plant_model.specs.Taking.{error_answer}
 use Rattle.plant_model.specs.Element.{Way, with_last, lost_output}
 use Rattle.plant_model.specs.BorderGraph.{Found}
-use Rattle.plant_model.specs.Parent.{Asking, AskingRow, Parent, Given, Wait, Errand, Family, each, among, waiting, gathers, gathered, answered, ended, errands, errands_to, tails, with_end, ask_all, all_waits, all_up, next_id, take_path, take_wish, take_new, take_checked, take_asked, take_answer, take_found, take_reply, told_busy, cancelled, take_busy, take_cancel, notice_steps, take_notice, told_error, take_failure, take_errors, take_report, take, stays, is_lost, lost_of, downed, upped, commit}
+use Rattle.plant_model.specs.Parent.{Asking, AskingRow, Parent, ParentTaken, Wait, Errand, Family, each, among, waiting, gathers, gathered, answered, ended, errands, errands_to, tails, with_end, ask_all, all_waits, all_up, next_id, take_path, take_wish, take_new, take_checked, take_asked, take_answer, take_found, take_reply, told_busy, cancelled, take_busy, take_cancel, notice_steps, take_notice, told_error, take_failure, take_errors, take_report, take, stays, is_lost, lost_of, downed, upped, commit}
 use Rattle.plant_laws.proofs.Settled.Reaches.{Askers, askers_append, askers_filter, askers_removed, askers_written, Ways, Outs, outs_append, ways_last, ways_up}
 
 -- the children are told
@@ -64,14 +64,14 @@ module _ (R L : Peer → Type 0) (told : (p : Peer) → R p → L p) where
     pub rows : Askers R Asking k.pending.rows
     pub ways : Ways L k.ways
 
-  abbrev pub After : Given → Type 0
+  abbrev pub After : ParentTaken → Type 0
   After t = Reaches t.parent × Outs L t.outputs
 
-  after_pick : (b : Bool) (t u : Given) → After t → After u → After (cond b t u)
+  after_pick : (b : Bool) (t u : ParentTaken) → After t → After u → After (cond b t u)
   after_pick true t u h k = h
   after_pick false t u h k = k
 
-  each_after : {X : Type 0} (f : X → Parent → Given) → ((x : X) (k : Parent) → Reaches k → After (f x k)) → (xs : List X) (k : Parent) → Reaches k → After (each f xs k)
+  each_after : {X : Type 0} (f : X → Parent → ParentTaken) → ((x : X) (k : Parent) → Reaches k → After (f x k)) → (xs : List X) (k : Parent) → Reaches k → After (each f xs k)
   each_after f one [] k h = (h, tt)
   each_after f one (x ∷ xs) k h =
       let first = one x k h in
@@ -127,13 +127,13 @@ module _ (R L : Peer → Type 0) (told : (p : Peer) → R p → L p) where
         go None = (h, tt)
         go (Some number) = (ended_keeps number k h, tt)
 
-    steps_after : (rp : ℕ × ℕ) (kinds : List (ℕ × ℕ)) (k : Parent) → Reaches k → After (each (λ (step : Peer → ℕ × ℕ → Parent → Given). step p rp) (notice_steps kinds) k)
+    steps_after : (rp : ℕ × ℕ) (kinds : List (ℕ × ℕ)) (k : Parent) → Reaches k → After (each (λ (step : Peer → ℕ × ℕ → Parent → ParentTaken). step p rp) (notice_steps kinds) k)
     steps_after rp kinds k h = go (has_pair 1 2 kinds) (has_pair 1 1 kinds)
       where
-        alone : (t : Given) → After t → After (record { parent = t.parent; outputs = t.outputs ++ [] })
+        alone : (t : ParentTaken) → After t → After (record { parent = t.parent; outputs = t.outputs ++ [] })
         alone t a = (a.0, outs_append L t.outputs [] a.1 tt)
 
-        go : (b a : Bool) → After (each (λ (step : Peer → ℕ × ℕ → Parent → Given). step p rp) (cond b (cond a (take_busy ∷ take_cancel ∷ []) (take_busy ∷ [])) (cond a (take_cancel ∷ []) [])) k)
+        go : (b a : Bool) → After (each (λ (step : Peer → ℕ × ℕ → Parent → ParentTaken). step p rp) (cond b (cond a (take_busy ∷ take_cancel ∷ []) (take_busy ∷ [])) (cond a (take_cancel ∷ []) [])) k)
         go true true =
             let first = busy_after rp k h in
             let t = take_cancel p rp (take_busy p rp k).parent in
@@ -185,7 +185,7 @@ module _ (R L : Peer → Type 0) (told : (p : Peer) → R p → L p) where
       take_reaches (messages.PcReq all) k h = each_after (take_asked c f p) asked_after all k h
       take_reaches (messages.PcRep replies) k h = each_after (take_reply c p) (reply_after c) replies k h
       take_reaches (messages.PcNtf notices) k h =
-          each_after (take_notice p) (λ r k' h'. each_after (λ (rp : ℕ × ℕ). each (λ (step : Peer → ℕ × ℕ → Parent → Given). step p rp) (notice_steps r.kinds)) (λ rp k'' h''. steps_after rp r.kinds k'' h'') r.ids k' h') notices k h
+          each_after (take_notice p) (λ r k' h'. each_after (λ (rp : ℕ × ℕ). each (λ (step : Peer → ℕ × ℕ → Parent → ParentTaken). step p rp) (notice_steps r.kinds)) (λ rp k'' h''. steps_after rp r.kinds k'' h'') r.ids k' h') notices k h
       take_reaches (messages.PcErr reports) k h = each_after (take_report p) (λ r k' h'. errors_after r.ids r.errors k' h') reports k h
       take_reaches (messages.Open body) k h = (h, tt)
       take_reaches messages.Keepalive k h = (h, tt)

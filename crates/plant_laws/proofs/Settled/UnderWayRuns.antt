@@ -15,7 +15,7 @@ use Rattle.plant_text.specs.Names.{same_as, parent_as}
 use Rattle.plant_model.specs.Names.{same_id}
 use Rattle.plant_model.specs.Wire.{Bytes, Codec}
 use Rattle.plant_model.specs.Laws.{IsCodec, IsNetwork}
-use Rattle.plant_text.specs.Settings.{Line, lines}
+use Rattle.plant_text.specs.Settings.{Adjacency, adjacencies}
 use Rattle.plant_model.specs.Routes.{routes}
 use Rattle.plant_model.specs.Settings.{inner_ways, ways_along, place}
 use Rattle.plant_model.specs.Element.{Stage, Waits, Row, way_to}
@@ -227,7 +227,7 @@ module _ (c : Codec) (n : NetworkParts) (codec : IsCodec c) (net : IsNetwork n) 
           (sent_stands c n parent_as r.outputs s (with_parent Pin Segment c n open_of r.parent s) ds (Solves parent_as k r.outputs []) refl (λ a. refl) (λ a b xs. refl) inv.0.1)
 
   -- at first nothing waits, and no id was sent
-  first_last : (p : Peer) (d : As) (xs : List Line) → last_to (way_to p (ways_along d xs)) ≡ 0
+  first_last : (p : Peer) (d : As) (xs : List Adjacency) → last_to (way_to p (ways_along d xs)) ≡ 0
   first_last p d [] = refl
   first_last p d (x ∷ xs) = go (same_as x.lower d) (same_as x.upper d) (first_last p d xs)
     where
@@ -274,8 +274,8 @@ module _ (c : Codec) (n : NetworkParts) (codec : IsCodec c) (net : IsNetwork n) 
   )
     where
       last : (a b : As) (z : Bool) → cond z (Last bare.parent.ways b) (Last (bare.elements a).ways b) ≤ 0
-      last a b true = let e = first_last (Inner b) parent_as (lines n) in omega (arith, e)
-      last a b false = let e = ap last_to (way_inside b (inner_ways n a) (routes n a)) ∙ first_last (Inner b) a (lines n) in omega (arith, e)
+      last a b true = let e = first_last (Inner b) parent_as (adjacencies n) in omega (arith, e)
+      last a b false = let e = ap last_to (way_inside b (inner_ways n a) (routes n a)) ∙ first_last (Inner b) a (adjacencies n) in omega (arith, e)
 
   pub run_inv : (es : List Entry) (s : Plant) → Run c n es s → Inv (deeds_of c n es) s
   run_inv es s run = (run_travels c n Any (λ fs. any_in (split_all c fs)) Inv bare_inv step_inv (λ ds s' d g given inv. load_inv ds s' d g inv) solve_inv upper_inv es s run).0

@@ -16,7 +16,7 @@ use Rattle.plant_text.specs.Names.{same_as, parent_as}
 use Rattle.plant_model.specs.Names.{set_as}
 use Rattle.plant_model.specs.Wire.{Codec}
 use Rattle.plant_model.specs.Writing.{request_message}
-use Rattle.plant_model.specs.Element.{Place}
+use Rattle.plant_model.specs.Element.{ElementSettings}
 use Rattle.plant_model.specs.Taking.{take}
 use Rattle.plant_model.specs.Parent as parent
 use Rattle.plant_model.specs.Parent.{Parent, Family, Wait}
@@ -35,7 +35,7 @@ module _ (asks : Asking) (c : Codec) (E : Elements) (K : Parent) (d from : As) (
     (popped : (a b : As) (m : Message) → In m (queues a b) → In m (queues_at ds a b) ⊎ ((a ≡ from) × (b ≡ d) × (m ≡ first)))
     (alive : AllAlive asks (named_of E K) (waits_of E K) queues)
     (q : Peer) (m : Message) (free : (a : As) (notices : List Notice) → m ≡ messages.PcNtf notices → (same_peer q (Inner a) ≡ false) ⊎ CancelNone notices) where
-  module _ (real : same_as d parent_as ≡ false) (are : ArePending (E d).pending) (e : Place) (pin : Pin) (class : Class) (now : ℕ) where
+  module _ (real : same_as d parent_as ≡ false) (are : ArePending (E d).pending) (e : ElementSettings) (pin : Pin) (class : Class) (now : ℕ) where
     pub element_takes : (let t = take c open_of e pin q class now m (E d) in
         ((b : As) (id : ℕ) (w : Wanted) (target : Addr) (sequence : List As) → In {A = Output} (record { to = Inner b; message = request_message id w target sequence }) t.outputs → asks (request_message id w target sequence) b id sequence) →
         ((id : ℕ) (sequence : List As) → asks first d id sequence → lower.Named Pin Segment t.element (Inner from) id sequence ⊎ Answered (Inner from) id t.outputs) →

@@ -17,7 +17,7 @@ use Rattle.pcep_session.specs.declared.actions.Own.TheVariants as own
 use Rattle.disclosure.specs.Shown.{open_of}
 use Rattle.plant_text.specs.declared.settings.NetworkParts.{NetworkParts}
 use Rattle.plant_text.specs.Names.{same_as, parent_as}
-use Rattle.plant_text.specs.Settings.{class_of, Line, lines}
+use Rattle.plant_text.specs.Settings.{class_of, Adjacency, adjacencies}
 use Rattle.plant_model.specs.declared.output.Output.{Output}
 use Rattle.plant_model.specs.declared.event.Event.TheVariants as event
 use Rattle.plant_model.specs.Wire.{Bytes, Codec}
@@ -227,7 +227,7 @@ ways_fit_all [] [] ok = tt
 ways_fit_all [] (r ∷ rs) ok = (omega arith, ways_fit_all [] rs tt)
 ways_fit_all (w ∷ ws) rs ok = (ok.0, ways_fit_all ws rs ok.1)
 
-pub ways_fit : (d : As) (xs : List Line) → WaysOk (ways_along d xs)
+pub ways_fit : (d : As) (xs : List Adjacency) → WaysOk (ways_along d xs)
 ways_fit d [] = tt
 ways_fit d (x ∷ xs) = go (same_as x.lower d) (same_as x.upper d) (ways_fit d xs)
   where
@@ -409,7 +409,7 @@ module _ (c : Codec) (codec : IsCodec c) (n : NetworkParts) (net : IsNetwork n) 
   bare_holds = record {
     stand = λ a b. refl;
     good = record { current = λ d. Topologies.empty_domain d; pinned = λ d. tt };
-    fit = λ prem. (tt, record { elements = λ d. (tt, ways_fit_all (inner_ways n d) (routes n d) (ways_fit d (lines n)), tt); parent = (tt, ways_fit parent_as (lines n)) });
+    fit = λ prem. (tt, record { elements = λ d. (tt, ways_fit_all (inner_ways n d) (routes n d) (ways_fit d (adjacencies n)), tt); parent = (tt, ways_fit parent_as (adjacencies n)) });
   }
 
   pub run_fits : (es : List Entry) (s : Plant) → Run c n es s → I (deeds_of c n es) s

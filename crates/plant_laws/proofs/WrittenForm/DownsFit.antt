@@ -52,7 +52,7 @@ use Rattle.plant_laws.proofs.WrittenForm.ReadBack.{standing_sent}
 use Rattle.plant_laws.proofs.Runs.Moments.{within_here, within_trans}
 use Rattle.plant_laws.proofs.Least.BestParts.{IsFirst, first_is}
 use Rattle.plant_laws.proofs.WrittenForm.HeededHops.{AreFewPlain, sifted_plain}
-use Rattle.plant_laws.proofs.Least.Given.{Given, IsSolved}
+use Rattle.plant_laws.proofs.Least.Given.{Premises, IsSolved}
 use Rattle.plant_laws.proofs.Least.FromElement.{own_sequence, real_next}
 use Rattle.plant_laws.proofs.Least.LeastChains.{taken_asked, taken_admits, toward_is, told_beyond, solve_chained}
 use Rattle.plant_laws.proofs.Runs.Inboxes.{contains}
@@ -172,7 +172,7 @@ sent_within m (e ∷ now) (inr w) h = sent_within m now w h.1
 
 -- ---- a solve after a run
 
-module _ (c : Codec) (codec : IsCodec c) (n : NetworkParts) (now : Transcript) (given : Given c n now) (written : AllSent IsWritten now) where
+module _ (c : Codec) (codec : IsCodec c) (n : NetworkParts) (now : Transcript) (given : Premises c n now) (written : AllSent IsWritten now) where
   -- a reply that an element took was written
   pub taken_written : (d b : As) (r : Reply) (os : List Output) (older : Transcript) → Within (Takes d (Inner b) (messages.PcRep (r ∷ [])) os ∷ older) now → IsWritten (messages.PcRep (r ∷ []))
   taken_written d b r os older within =

@@ -36,7 +36,7 @@ use Rattle.plant_model.specs.Names.{same_addr, the_parent, has_pair}
 use Rattle.plant_model.specs.Wire.{Codec, Checked, Admitted, Wrong}
 use Rattle.plant_model.specs.Laws.{IsCodec, Admits, IsRequestInRange, CanBeSent, IsSequence, AreWords, HasNumbers}
 use Rattle.plant_model.specs.Writing.{request_message, reply_message, error_message, busy, unavailable, no_key}
-use Rattle.plant_model.specs.Element.{Item, Stage, Ready, Row, Way, Element, Place, Taken, each, way_to, with_last, with_up, upped, ticked, waiting, waits_for, at_stage, lost_of, is_lost, stays, after_id, pass_over, is_waiting, fresh_id, is_client, lost_output, downed}
+use Rattle.plant_model.specs.Element.{Item, Stage, Ready, Row, Way, Element, ElementSettings, Taken, each, way_to, with_last, with_up, upped, ticked, waiting, waits_for, at_stage, lost_of, is_lost, stays, after_id, pass_over, is_waiting, fresh_id, is_client, lost_output, downed}
 use Rattle.plant_model.specs.Routes.{toward}
 use Rattle.plant_model.specs.Element as element
 use Rattle.plant_model.specs.Taking as taking
@@ -366,7 +366,7 @@ module _ (P : Type 0) (S : Type 0) (show : S → List Hop) (Seg : S → Type 0)
       go false k = k
 
   -- a request that was checked
-  module _ (c : Codec) (codec : IsCodec c) (e : Place) (pin : P) (p : Peer) (class : Class) (now : ℕ) where
+  module _ (c : Codec) (codec : IsCodec c) (e : ElementSettings) (pin : P) (p : Peer) (class : Class) (now : ℕ) where
     opened_fine : (flags x : ℕ) (i : Item P) (k : Element P S) → i.flags ≡ flags → WantedFits i.wanted → AreWords (flags, x) → Holds k → AreOk (opened_of k.pending p x i).rows
     opened_fine flags x i k same v w h = rows_append (Item P) flags_in wanted_in k.pending.rows _ h.0 (((subst (λ (z : ℕ). z < 2 ^ 32) (sym same) w.0, w.1), v), tt)
 
@@ -470,7 +470,7 @@ module _ (P : Type 0) (S : Type 0) (show : S → List Hop) (Seg : S → Type 0)
   issued_fine now stands (b ∷ bs) keys all h =
       issued_fine now stands bs (issue_of keys now (stands b)) all.1 (keys_append (live_at keys now) _ (keys_filter (is_live keys.life now) keys.issued h) (all.0, tt))
 
-  pub commit_keeps : (c : Codec) (e : Place) (h : Row P) (down : List Branch) (now : ℕ) (stands : Best → S) (s t : Bool) (best : List Best) (k : Element P S) → AllByRecursion (λ (b : Best). Seg (stands b)) best → Holds k →
+  pub commit_keeps : (c : Codec) (e : ElementSettings) (h : Row P) (down : List Branch) (now : ℕ) (stands : Best → S) (s t : Bool) (best : List Best) (k : Element P S) → AllByRecursion (λ (b : Best). Seg (stands b)) best → Holds k →
       Holds (commit c e h down now stands s t best k).element
   commit_keeps c e h down now stands s t best k all r = pick (is_client h.1.item.class) _ _ (gone k r) (closed best all)
     where

@@ -19,11 +19,11 @@ use Rattle.pcep_session.specs.declared.state.Phase.{Phase}
 use Rattle.pcep_session.specs.declared.state.Phase.TheVariants as phase
 use Rattle.pcep_session.specs.declared.state.State.{State as Session}
 use Rattle.pcep_session.specs.Reports.{first_error_of, first_opening_of}
-use Rattle.pcep_session.specs.Table.{Turn, turn_of, turn_in, new_state, open_wait, keep_wait, refused, refused_terms, in_up, up_tick, unknown_type, fails, heard, at_tick, has_passed, is_recent}
+use Rattle.pcep_session.specs.Table.{SessionStep, turn_of, turn_in, new_state, open_wait, keep_wait, refused, refused_terms, in_up, up_tick, unknown_type, fails, heard, at_tick, has_passed, is_recent}
 use Rattle.plant_text.specs.declared.settings.NetworkParts.{NetworkParts}
 use Rattle.plant_text.specs.declared.settings.PeerRow.{PeerRow}
 use Rattle.plant_text.specs.Names.{same_as, parent_as}
-use Rattle.plant_text.specs.Settings.{Line, line, lines, is_linked, peer_row, class_of}
+use Rattle.plant_text.specs.Settings.{Adjacency, adjacency, adjacencies, is_linked, peer_row, class_of}
 use Rattle.plant_model.specs.declared.output.Output.{Output}
 use Rattle.plant_model.specs.Names.{is_empty, set_pair}
 use Rattle.plant_model.specs.Wire.{Bytes, Codec}
@@ -33,7 +33,7 @@ use Rattle.plant_model.specs.Taking.{take}
 use Rattle.plant_model.specs.Parent as parent
 use Rattle.plant_model.specs.Settings.{place, family}
 use Rattle.plant_model.specs.State.{State, Connection, Access, Deed, Loads, Pops, Takes, Says, Ups, Downs, Clears, Solves, Expires, Hands}
-use Rattle.plant_model.specs.Deeds.{Going, element_of, on_connection, is_due, is_tick, is_out_empty, any_fall, our_offer, with_more, with_session, with_inbox, read_as, input_of, own_message, put, put_to, puts, with_element, with_parent, give, rise, fall, say, clear, outside_act, outside_acts, outside_step, outside_input, inner_act, inner_acts, inner_input, begin_end, begin_line, break_line, tick_outside, tick_lines, with_access, with_inner}
+use Rattle.plant_model.specs.Deeds.{Going, element_of, on_connection, is_due, is_tick, is_out_empty, any_fall, our_offer, with_more, with_session, with_inbox, read_as, input_of, own_message, put, put_to, puts, with_element, with_parent, give, rise, fall, say, clear, outside_act, outside_acts, outside_step, outside_input, inner_act, inner_acts, inner_input, begin_end, begin_adjacency, break_adjacency, tick_outside, tick_adjacencies, with_access, with_inner}
 use Rattle.plant_model.specs.Outside.{heeded}
 use Rattle.plant_model.specs.Events as events
 use Rattle.plant_model.specs.Events.{is_down}
@@ -59,10 +59,10 @@ abbrev pub ActionsFit : List Action → Type 0
 ActionsFit [] = Unit {0}
 ActionsFit (a ∷ as') = ActionFits a × ActionsFit as'
 
-abbrev pub TurnFits : Turn → Type 0
+abbrev pub TurnFits : SessionStep → Type 0
 TurnFits t = OfferFits t.next.offer × ActionsFit t.actions
 
-pick : (b : Bool) (r r' : Turn) → TurnFits r → TurnFits r' → TurnFits (cond b r r')
+pick : (b : Bool) (r r' : SessionStep) → TurnFits r → TurnFits r' → TurnFits (cond b r r')
 pick true r r' h h' = h
 pick false r r' h h' = h'
 
@@ -282,37 +282,37 @@ module _ (P : Type 0) (S : Type 0) (c : Codec) (codec : IsCodec c) (n : NetworkP
       let f = turn_fits s input.Begin tt (our_fits sid less) in
       inner_acts_fine at b false t.actions (record { state = with_inner P S c n show at b t.next g.state; deeds = g.deeds }) f.1 (inner_fit at b t.next g.state f.0 h.0, h.1)
 
-  pub begin_line_fine : (sid : ℕ) (x : Line) (g : Going P S) → sid < 256 → Fine g → Fine (begin_line P S c n show sid x g)
-  begin_line_fine sid x g less h = begin_end_fine sid x.upper x.lower (begin_end P S c n show sid x.lower x.upper g) less (begin_end_fine sid x.lower x.upper g less h)
+  pub begin_adjacency_fine : (sid : ℕ) (x : Adjacency) (g : Going P S) → sid < 256 → Fine g → Fine (begin_adjacency P S c n show sid x g)
+  begin_adjacency_fine sid x g less h = begin_end_fine sid x.upper x.lower (begin_end P S c n show sid x.lower x.upper g) less (begin_end_fine sid x.lower x.upper g less h)
 
   rest_less : (k : ℕ) → k % 256 < 256
   rest_less k = omega arith
 
-  break_fine : (x : Line) (g : Going P S) → Fine g → Fine (break_line P S c n show x g)
+  break_fine : (x : Adjacency) (g : Going P S) → Fine g → Fine (break_adjacency P S c n show x g)
   break_fine x g h =
       let f = fall P S c n show x.lower (Inner x.upper) g in
       let k = fall P S c n show x.upper (Inner x.lower) f in
       let two = fall_fine x.upper (Inner x.lower) f (fall_fine x.lower (Inner x.upper) g h) in
-      begin_line_fine (((g.state.sessions x.lower x.upper).offer.sid + 1) % 256) x (clear P S c n show x k) (rest_less ((g.state.sessions x.lower x.upper).offer.sid + 1))
+      begin_adjacency_fine (((g.state.sessions x.lower x.upper).offer.sid + 1) % 256) x (clear P S c n show x k) (rest_less ((g.state.sessions x.lower x.upper).offer.sid + 1))
       (record { inner = two.0.inner; outer = two.0.outer }, two.1)
 
-  inner_fine : (x : Line) (at b : As) (y : Input) (g : Going P S) → Timely y → Fine g → Fine (inner_input P S c n show x at b y g)
+  inner_fine : (x : Adjacency) (at b : As) (y : Input) (g : Going P S) → Timely y → Fine g → Fine (inner_input P S c n show x at b y g)
   inner_fine x at b y g times h =
       let t = turn_of (g.state.sessions at b) y in
       let f = turn_fits (g.state.sessions at b) y times (h.0.inner at b) in
       let k : Going P S = record { state = with_inner P S c n show at b t.next g.state; deeds = g.deeds } in
-      choose (any_fall t.actions) (break_line P S c n show x g) (inner_acts P S c n show at b (is_tick y) t.actions k) (break_fine x g h)
+      choose (any_fall t.actions) (break_adjacency P S c n show x g) (inner_acts P S c n show at b (is_tick y) t.actions k) (break_fine x g h)
       (inner_acts_fine at b (is_tick y) t.actions k f.1 (inner_fit at b t.next g.state f.0 h.0, h.1))
 
   tick_outside_fine : (i : ℕ) (rs : List PeerRow) (now : Tick) (g : Going P S) → Fine g → Fine (tick_outside P S c n show i rs now g)
   tick_outside_fine i [] now g h = h
   tick_outside_fine i (row ∷ rs) now g h = tick_outside_fine (i + 1) rs now (outside_input P S c n show i (input.Tick now) g) (outside_fine i (input.Tick now) g tt h)
 
-  tick_lines_fine : (xs : List Line) (now : Tick) (g : Going P S) → Fine g → Fine (tick_lines P S c n show xs now g)
-  tick_lines_fine [] now g h = h
-  tick_lines_fine (x ∷ xs) now g h =
+  tick_adjacencies_fine : (xs : List Adjacency) (now : Tick) (g : Going P S) → Fine g → Fine (tick_adjacencies P S c n show xs now g)
+  tick_adjacencies_fine [] now g h = h
+  tick_adjacencies_fine (x ∷ xs) now g h =
       let k = inner_input P S c n show x x.lower x.upper (input.Tick now) g in
-      tick_lines_fine xs now (inner_input P S c n show x x.upper x.lower (input.Tick now) k)
+      tick_adjacencies_fine xs now (inner_input P S c n show x x.upper x.lower (input.Tick now) k)
       (inner_fine x x.upper x.lower (input.Tick now) k tt (inner_fine x x.lower x.upper (input.Tick now) g tt h))
 
   -- ---- events
@@ -407,11 +407,11 @@ module _ (P : Type 0) (S : Type 0) (c : Codec) (codec : IsCodec c) (n : NetworkP
         go : (q : List Bytes) → s.queues a b ≡ q → Did (events.carry_first P S c n show a b s q)
         go [] is = (fit, tt)
         go (x ∷ rest) is =
-            inner_fine (line a b) b a (input_of c (Some x)) (record { state = record s { queues = set_pair a b rest s.queues }; deeds = Pops a b ∷ [] }) (bytes_times x (octets x rest is))
+            inner_fine (adjacency a b) b a (input_of c (Some x)) (record { state = record s { queues = set_pair a b rest s.queues }; deeds = Pops a b ∷ [] }) (bytes_times x (octets x rest is))
             (record { inner = fit.inner; outer = fit.outer }, tt)
 
     pub break_fits : (a b : As) → Did (events.break P S c n show a b s)
-    break_fits a b = did_pick (is_linked n a b) (events.answered P S c n show _ (break_line P S c n show (line a b) (record { state = s; deeds = [] }))) (events.refused P S c n show _ s) (break_fine (line a b) (record { state = s; deeds = [] }) (fit, tt)) (fit, tt)
+    break_fits a b = did_pick (is_linked n a b) (events.answered P S c n show _ (break_adjacency P S c n show (adjacency a b) (record { state = s; deeds = [] }))) (events.refused P S c n show _ s) (break_fine (adjacency a b) (record { state = s; deeds = [] }) (fit, tt)) (fit, tt)
 
     pub clock_fits : (t : ℕ) → Did (events.tick P S c n show t s)
     clock_fits t =
@@ -419,7 +419,7 @@ module _ (P : Type 0) (S : Type 0) (c : Codec) (codec : IsCodec c) (n : NetworkP
         let u : State P S = record s { clock = now } in
         let g : Going P S = record { state = u; deeds = [] } in
         let h = tick_outside P S c n show 0 n.peers (record { 0 = now }) g in
-        let k = tick_lines_fine (lines n) (record { 0 = now }) h (tick_outside_fine 0 n.peers (record { 0 = now }) g (record { inner = fit.inner; outer = fit.outer }, tt)) in
+        let k = tick_adjacencies_fine (adjacencies n) (record { 0 = now }) h (tick_outside_fine 0 n.peers (record { 0 = now }) g (record { inner = fit.inner; outer = fit.outer }, tt)) in
         (record { inner = k.0.inner; outer = k.0.outer }, k.1)
 
     pub drain_fits : (i holder : ℕ) → Did (events.drain P S c n show i holder s)
@@ -429,9 +429,9 @@ module _ (P : Type 0) (S : Type 0) (c : Codec) (codec : IsCodec c) (n : NetworkP
         go None = (fit, tt)
         go (Some x) = did_pick (x.holder == holder) _ _ (access_fit i events.drained s (λ y fits. fits) fit, tt) (fit, tt)
 
-  begin_lines_fine : (xs : List Line) (g : Going P S) → Fine g → Fine (events.begin_lines P S c n show xs g)
-  begin_lines_fine [] g h = h
-  begin_lines_fine (x ∷ xs) g h = begin_lines_fine xs (begin_line P S c n show 0 x g) (begin_line_fine 0 x g (omega arith) h)
+  begin_adjacencies_fine : (xs : List Adjacency) (g : Going P S) → Fine g → Fine (events.begin_adjacencies P S c n show xs g)
+  begin_adjacencies_fine [] g h = h
+  begin_adjacencies_fine (x ∷ xs) g h = begin_adjacencies_fine xs (begin_adjacency P S c n show 0 x g) (begin_adjacency_fine 0 x g (omega arith) h)
 
   pub opening_fits : (pins : As → P) → Fine (events.opening P S c n show pins)
-  opening_fits pins = begin_lines_fine (lines n) (record { state = events.bare P S c n show pins; deeds = [] }) (record { inner = λ a b. our_fits 0 (omega arith); outer = λ i. tt }, tt)
+  opening_fits pins = begin_adjacencies_fine (adjacencies n) (record { state = events.bare P S c n show pins; deeds = [] }) (record { inner = λ a b. our_fits 0 (omega arith); outer = λ i. tt }, tt)

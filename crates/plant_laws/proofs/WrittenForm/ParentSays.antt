@@ -39,7 +39,7 @@ use Rattle.plant_model.specs.Element.{Way, with_last, way_to, lost_output}
 use Rattle.plant_model.specs.Taking.{error_answer}
 use Rattle.plant_model.specs.BorderGraph.{Found}
 use Rattle.plant_model.specs.Parent as parent
-use Rattle.plant_model.specs.Parent.{Parent, Given, Family, Asking, AskingRow, Wait, Errand, tails, with_end, errands_to, errands, last_to}
+use Rattle.plant_model.specs.Parent.{Parent, ParentTaken, Family, Asking, AskingRow, Wait, Errand, tails, with_end, errands_to, errands, last_to}
 use Rattle.plant_model.specs.Settings.{family}
 use Rattle.plant_laws.proofs.WrittenForm.InForm.{busy_written, error_written, no_path_written}
 use Rattle.plant_laws.proofs.WrittenForm.ElementSays.{Outs, unavailable_written, failure_written, IsId, next_fits, next_some, WaysOk, ways_last, ways_up, WayOk, way_fits, Goes, IsKnown, WantedFits, Ok, Rows, rows_append, rows_filter, rows_removed, rows_written}
@@ -211,21 +211,21 @@ KnownAbove c (messages.PcRep replies) = AllByRecursion (λ (r : Reply). AreWords
 KnownAbove c m = Unit {0}
 
 module _ (c : Codec) (codec : IsCodec c) where
-  abbrev pub GivenFine : Given → Type 0
+  abbrev pub GivenFine : ParentTaken → Type 0
   GivenFine t = OutsUp c t.outputs × ParentHolds t.parent
 
-  choose : (b : Bool) (t u : Given) → GivenFine t → GivenFine u → GivenFine (cond b t u)
+  choose : (b : Bool) (t u : ParentTaken) → GivenFine t → GivenFine u → GivenFine (cond b t u)
   choose true t u h k = h
   choose false t u h k = k
 
-  each_fine : {X : Type 0} (Good : X → Type 0) (f : X → Parent → Given) → ((x : X) (k : Parent) → Good x → ParentHolds k → GivenFine (f x k)) → (xs : List X) (k : Parent) → AllByRecursion Good xs → ParentHolds k → GivenFine (parent.each f xs k)
+  each_fine : {X : Type 0} (Good : X → Type 0) (f : X → Parent → ParentTaken) → ((x : X) (k : Parent) → Good x → ParentHolds k → GivenFine (f x k)) → (xs : List X) (k : Parent) → AllByRecursion Good xs → ParentHolds k → GivenFine (parent.each f xs k)
   each_fine Good f one [] k g h = (tt, h)
   each_fine Good f one (x ∷ xs) k g h =
       let first = one x k g.0 h in
       let rest = each_fine Good f one xs (f x k).parent g.1 first.1 in
       (ups_append c (f x k).outputs (parent.each f xs (f x k).parent).outputs first.0 rest.0, rest.1)
 
-  each_any : {X : Type 0} (f : X → Parent → Given) → ((x : X) (k : Parent) → ParentHolds k → GivenFine (f x k)) → (xs : List X) (k : Parent) → ParentHolds k → GivenFine (parent.each f xs k)
+  each_any : {X : Type 0} (f : X → Parent → ParentTaken) → ((x : X) (k : Parent) → ParentHolds k → GivenFine (f x k)) → (xs : List X) (k : Parent) → ParentHolds k → GivenFine (parent.each f xs k)
   each_any f one [] k h = (tt, h)
   each_any f one (x ∷ xs) k h =
       let first = one x k h in
@@ -319,13 +319,13 @@ module _ (c : Codec) (codec : IsCodec c) where
         go None = (tt, h)
         go (Some number) = (tt, (rows_removed Asking asking_flags asking_wanted number k.pending.rows h.0, h.1))
 
-    steps_fine : (rp : ℕ × ℕ) (kinds : List (ℕ × ℕ)) (k : Parent) → ParentHolds k → GivenFine (parent.each (λ (step : Peer → ℕ × ℕ → Parent → Given). step p rp) (parent.notice_steps kinds) k)
+    steps_fine : (rp : ℕ × ℕ) (kinds : List (ℕ × ℕ)) (k : Parent) → ParentHolds k → GivenFine (parent.each (λ (step : Peer → ℕ × ℕ → Parent → ParentTaken). step p rp) (parent.notice_steps kinds) k)
     steps_fine rp kinds k h = go (has_pair 1 2 kinds) (has_pair 1 1 kinds)
       where
-        run : (steps : List (Peer → ℕ × ℕ → Parent → Given)) → AllByRecursion (λ (step : Peer → ℕ × ℕ → Parent → Given). (k : Parent) → ParentHolds k → GivenFine (step p rp k)) steps → GivenFine (parent.each (λ (step : Peer → ℕ × ℕ → Parent → Given). step p rp) steps k)
-        run steps good = each_fine (λ (step : Peer → ℕ × ℕ → Parent → Given). (k : Parent) → ParentHolds k → GivenFine (step p rp k)) (λ (step : Peer → ℕ × ℕ → Parent → Given). step p rp) (λ step k g h. g k h) steps k good h
+        run : (steps : List (Peer → ℕ × ℕ → Parent → ParentTaken)) → AllByRecursion (λ (step : Peer → ℕ × ℕ → Parent → ParentTaken). (k : Parent) → ParentHolds k → GivenFine (step p rp k)) steps → GivenFine (parent.each (λ (step : Peer → ℕ × ℕ → Parent → ParentTaken). step p rp) steps k)
+        run steps good = each_fine (λ (step : Peer → ℕ × ℕ → Parent → ParentTaken). (k : Parent) → ParentHolds k → GivenFine (step p rp k)) (λ (step : Peer → ℕ × ℕ → Parent → ParentTaken). step p rp) (λ step k g h. g k h) steps k good h
 
-        go : (b a : Bool) → GivenFine (parent.each (λ (step : Peer → ℕ × ℕ → Parent → Given). step p rp) (cond b (cond a (parent.take_busy ∷ parent.take_cancel ∷ []) (parent.take_busy ∷ [])) (cond a (parent.take_cancel ∷ []) [])) k)
+        go : (b a : Bool) → GivenFine (parent.each (λ (step : Peer → ℕ × ℕ → Parent → ParentTaken). step p rp) (cond b (cond a (parent.take_busy ∷ parent.take_cancel ∷ []) (parent.take_busy ∷ [])) (cond a (parent.take_cancel ∷ []) [])) k)
         go true true = run (parent.take_busy ∷ parent.take_cancel ∷ []) (busy_fine rp, (cancel_fine rp, tt))
         go true false = run (parent.take_busy ∷ []) (busy_fine rp, tt)
         go false true = run (parent.take_cancel ∷ []) (cancel_fine rp, tt)
@@ -350,7 +350,7 @@ module _ (c : Codec) (codec : IsCodec c) where
     given_take_fine (messages.PcReq asks) k g h = each_fine (IsKnownAbove c) (parent.take_asked c f p) asked_fine asks k g h
     given_take_fine (messages.PcRep replies) k g h = each_fine (λ (r : Reply). AreWords (r.flags, r.id)) (parent.take_reply c p) reply_fine replies k g h
     given_take_fine (messages.PcNtf notices) k g h =
-        each_any (parent.take_notice p) (λ r k' h'. each_any (λ (rp : ℕ × ℕ). parent.each (λ (step : Peer → ℕ × ℕ → Parent → Given). step p rp) (parent.notice_steps r.kinds)) (λ rp k'' h''. steps_fine rp r.kinds k'' h'') r.ids k' h') notices k h
+        each_any (parent.take_notice p) (λ r k' h'. each_any (λ (rp : ℕ × ℕ). parent.each (λ (step : Peer → ℕ × ℕ → Parent → ParentTaken). step p rp) (parent.notice_steps r.kinds)) (λ rp k'' h''. steps_fine rp r.kinds k'' h'') r.ids k' h') notices k h
     given_take_fine (messages.PcErr reports) k g h = each_any (parent.take_report p) (λ r k' h'. errors_fine r.ids r.errors k' h') reports k h
     given_take_fine (messages.Open body) k g h = (tt, h)
     given_take_fine messages.Keepalive k g h = (tt, h)

@@ -53,7 +53,7 @@ use Rattle.plant_laws.specs.Sending.{AreAll, AllSent}
 use Rattle.border_costs.proofs.Members.{contains_none, contains_head, contains_cases}
 use Rattle.plant_laws.proofs.Runs.Rows.{In, in_of}
 use Rattle.plant_laws.proofs.Runs.Moments.{within_trans, opened_within, standing_put, no_more}
-use Rattle.plant_laws.proofs.Least.Given.{Given}
+use Rattle.plant_laws.proofs.Least.Given.{Premises}
 use Rattle.plant_laws.proofs.Least.FromElement.{within_tail, same_request, same_wanted, no_expansion}
 use Rattle.plant_laws.proofs.Least.ClosedReplies.{closes, goes_to}
 use Rattle.plant_laws.proofs.Least.LeastChains.{leg, neighbour_stays, solve_chained}
@@ -217,7 +217,7 @@ row_of_branch most child target (b ∷ bs) row fit there = elim (contains_cases 
   | inr more ↦ row_of_branch most child target bs row fit.1 more
 ]
 
-module _ (c : Codec) (codec : IsCodec c) (n : NetworkParts) (now : Transcript) (given : Given c n now) (written : AllSent IsWritten now) (down : AllDown c now) where
+module _ (c : Codec) (codec : IsCodec c) (n : NetworkParts) (now : Transcript) (given : Premises c n now) (written : AllSent IsWritten now) (down : AllDown c now) where
   down_within : (e : PlantDeed) (older ds : Transcript) → Within (e ∷ older) ds → AllDown c ds → AllByRecursion (λ (o : Output). IsDown c o.to o.message) (outputs_at parent_as e)
   down_within e older [] w h = absurd (let out : e ∷ older ≡ [] = w in cc)
   down_within e older (d ∷ ds) (inl is) h = let same : d ≡ e = cc in subst (λ (z : PlantDeed). AllByRecursion (λ (o : Output). IsDown c o.to o.message) (outputs_at parent_as z)) same h.0

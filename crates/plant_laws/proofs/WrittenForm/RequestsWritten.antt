@@ -23,19 +23,19 @@ use Rattle.disclosure.specs.Shown.{open_of}
 use Rattle.request_table.specs.Pending.{ArePending, number_of, is_full}
 use Rattle.plant_text.specs.declared.settings.NetworkParts.{NetworkParts}
 use Rattle.plant_text.specs.Names.{same_as, parent_as}
-use Rattle.plant_text.specs.Settings.{class_of, lines}
+use Rattle.plant_text.specs.Settings.{class_of, adjacencies}
 use Rattle.plant_model.specs.declared.output.Output.{Output}
 use Rattle.plant_model.specs.Names.{the_parent}
 use Rattle.plant_model.specs.Wire.{Bytes, Codec, Checked, Admitted, Wrong}
 use Rattle.plant_model.specs.Laws.{IsCodec, IsNetwork, IsSequence, Admits}
 use Rattle.plant_model.specs.Writing.{reply_message, error_message, busy, unavailable}
-use Rattle.plant_model.specs.Element.{Way, Element, Place, Taken, only, is_waiting, fresh_id, way_to, upped, downed, lost}
+use Rattle.plant_model.specs.Element.{Way, Element, ElementSettings, Taken, only, is_waiting, fresh_id, way_to, upped, downed, lost}
 use Rattle.plant_model.specs.Routes.{routes, toward}
 use Rattle.plant_model.specs.Taking.{take, take_asked, take_checked, take_new, take_wish, take_path, take_along, send_on, sequence_or, goes_up}
 use Rattle.plant_model.specs.Solving.{commit}
 use Rattle.plant_model.specs.BorderGraph.{Found}
 use Rattle.plant_model.specs.Parent as parent
-use Rattle.plant_model.specs.Parent.{Parent, Given, Family, AskingRow, errands}
+use Rattle.plant_model.specs.Parent.{Parent, ParentTaken, Family, AskingRow, errands}
 use Rattle.plant_model.specs.Settings.{place, family, inner_ways}
 use Rattle.plant_model.specs.State.{State, Deed, Loads, Pops, Takes, Says, Ups, Downs, Clears, Solves, Expires, Hands}
 use Rattle.plant_model.specs.Deeds.{Going, element_of, own_message, with_parent, with_element, puts, give, rise, fall}
@@ -107,7 +107,7 @@ module _ (P : Type 0) (S : Type 0) where
   pick true t u x y = x
   pick false t u x y = y
 
-  module _ (c : Codec) (codec : IsCodec c) (show : S → List Hop) (e : Place) (pin : P) (p : Peer) (class : Class) (now : ℕ) where
+  module _ (c : Codec) (codec : IsCodec c) (show : S → List Hop) (e : ElementSettings) (pin : P) (p : Peer) (class : Class) (now : ℕ) where
     tells : (m : Message) (k : Element P S) → (IsAsk m → ⊥) → WaysOk k.ways → Fits (only p m k)
     tells m k never ok = ((not_asked m never, tt), ok)
 
@@ -176,14 +176,14 @@ module _ (P : Type 0) (S : Type 0) where
 
 -- ---- the parent
 
-abbrev GivenFits : Given → Type 0
+abbrev GivenFits : ParentTaken → Type 0
 GivenFits t = AsksFit t.outputs × WaysOk t.parent.ways
 
-given_pick : (b : Bool) (t u : Given) → GivenFits t → GivenFits u → GivenFits (cond b t u)
+given_pick : (b : Bool) (t u : ParentTaken) → GivenFits t → GivenFits u → GivenFits (cond b t u)
 given_pick true t u x y = x
 given_pick false t u x y = y
 
-given_calm : (k : Parent) (t : Given) → upper.IsCalm k t → WaysOk k.ways → GivenFits t
+given_calm : (k : Parent) (t : ParentTaken) → upper.IsCalm k t → WaysOk k.ways → GivenFits t
 given_calm k t calm ok = (none_fits t.outputs calm.none, subst WaysOk (sym calm.ways) ok)
 
 module _ (c : Codec) (codec : IsCodec c) (f : Family) (fam : IsFamily f) (p : Peer) where
@@ -483,7 +483,7 @@ module _ (c : Codec) (codec : IsCodec c) (n : NetworkParts) (net : IsNetwork n) 
   bare_holds = record {
     stand = λ a b. refl;
     tables = opened.bare_holds c n;
-    fit = λ prem. ((tt, tt, tt), record { elements = λ d. ways_fit_all (inner_ways n d) (routes n d) (ways_fit d (lines n)); parent = ways_fit parent_as (lines n) });
+    fit = λ prem. ((tt, tt, tt), record { elements = λ d. ways_fit_all (inner_ways n d) (routes n d) (ways_fit d (adjacencies n)); parent = ways_fit parent_as (adjacencies n) });
   }
 
   well : (es : List Entry) (s : Plant) → Run c n es s → Asked_well (deeds_of c n es)

@@ -28,14 +28,14 @@ use Rattle.plant_model.specs.Names.{the_parent, has_pair}
 use Rattle.plant_model.specs.Wire.{Codec, Checked, Admitted, Wrong}
 use Rattle.plant_model.specs.Writing.{request_message, reply_message, error_message, busy, unavailable, no_key}
 use Rattle.disclosure.specs.Policy.{is_denied}
-use Rattle.plant_model.specs.Element.{Row, Way, Element, Place, Taken, each, way_to, with_last, upped, waiting, is_client, lost_output, downed}
+use Rattle.plant_model.specs.Element.{Row, Way, Element, ElementSettings, Taken, each, way_to, with_last, upped, waiting, is_client, lost_output, downed}
 use Rattle.plant_model.specs.Routes.{toward}
 use Rattle.plant_model.specs.Taking as taking
 use Rattle.plant_model.specs.Taking.{take, sequence_or, goes_up, error_answer}
 use Rattle.plant_model.specs.Solving.{commit, client_reply, closed_reply, free}
 use Rattle.plant_model.specs.BorderGraph.{Found}
 use Rattle.plant_model.specs.Parent as parent
-use Rattle.plant_model.specs.Parent.{Parent, Given, Family, AskingRow, Wait, Errand}
+use Rattle.plant_model.specs.Parent.{Parent, ParentTaken, Family, AskingRow, Wait, Errand}
 use Rattle.plant_text.specs.Settings.{class_of}
 use Rattle.plant_model.specs.Settings.{place, family}
 use Rattle.plant_model.specs.State.{State, Deed, Pops, Takes, Ups, Downs}
@@ -93,7 +93,7 @@ module _ (Q : Message → Type 0) where
       each_outs f one [] k = tt
       each_outs f one (x ∷ xs) k = outs_append (f x k).outputs (each f xs (f x k).element).outputs (one x k) (each_outs f one xs (f x k).element)
 
-      module _ (c : Codec) (show : S → List Hop) (e : Place) (pin : P) (p : Peer) (class : Class) (now : ℕ) where
+      module _ (c : Codec) (show : S → List Hop) (e : ElementSettings) (pin : P) (p : Peer) (class : Class) (now : ℕ) where
         sends : (flags x : ℕ) (w : Wanted) (sequence rest : List As) (r : Bool) (k : Element P S) (o : Option Way) → Fine (taking.send_on pin p class flags x w sequence rest r k o)
         sends flags x w sequence rest r k None = (replies flags x unavailable, tt)
         sends flags x w sequence rest r k (Some way) =
@@ -175,7 +175,7 @@ module _ (Q : Message → Type 0) where
         take_outs (messages.Close why) k = tt
         take_outs (messages.Other kind) k = tt
 
-      pub commit_outs : (c : Codec) (e : Place) (h : Row P) (down : List Branch) (now : ℕ) (stands : Best → S) (s t : Bool) (best : List Best) (k : Element P S) → Fine (commit c e h down now stands s t best k)
+      pub commit_outs : (c : Codec) (e : ElementSettings) (h : Row P) (down : List Branch) (now : ℕ) (stands : Best → S) (s t : Bool) (best : List Best) (k : Element P S) → Fine (commit c e h down now stands s t best k)
       commit_outs c e h down now stands s t best k = choose (is_client h.1.item.class) _ _ (client best) (closed best)
         where
           client : (best : List Best) → Fine (taking.answered h (client_reply c h down s t best) k)
@@ -190,14 +190,14 @@ module _ (Q : Message → Type 0) where
       downed_outs p k = lost_outs _
 
     -- the same of the parent
-    abbrev Given_fine : Given → Type 0
+    abbrev Given_fine : ParentTaken → Type 0
     Given_fine t = Outs t.outputs
 
-    given_choose : (b : Bool) (t u : Given) → Given_fine t → Given_fine u → Given_fine (cond b t u)
+    given_choose : (b : Bool) (t u : ParentTaken) → Given_fine t → Given_fine u → Given_fine (cond b t u)
     given_choose true t u h k = h
     given_choose false t u h k = k
 
-    given_each : {X : Type 0} (f : X → Parent → Given) → ((x : X) (k : Parent) → Given_fine (f x k)) → (xs : List X) (k : Parent) → Given_fine (parent.each f xs k)
+    given_each : {X : Type 0} (f : X → Parent → ParentTaken) → ((x : X) (k : Parent) → Given_fine (f x k)) → (xs : List X) (k : Parent) → Given_fine (parent.each f xs k)
     given_each f one [] k = tt
     given_each f one (x ∷ xs) k = outs_append (f x k).outputs (parent.each f xs (f x k).parent).outputs (one x k) (given_each f one xs (f x k).parent)
 
@@ -240,7 +240,7 @@ module _ (Q : Message → Type 0) where
       given_cancel k None = tt
       given_cancel k (Some number) = tt
 
-      given_steps : (rp : ℕ × ℕ) (kinds : List (ℕ × ℕ)) (k : Parent) → Given_fine (parent.each (λ (step : Peer → ℕ × ℕ → Parent → Given). step p rp) (parent.notice_steps kinds) k)
+      given_steps : (rp : ℕ × ℕ) (kinds : List (ℕ × ℕ)) (k : Parent) → Given_fine (parent.each (λ (step : Peer → ℕ × ℕ → Parent → ParentTaken). step p rp) (parent.notice_steps kinds) k)
       given_steps rp kinds k = go (has_pair 1 2 kinds) (has_pair 1 1 kinds)
         where
           busy_one : (k : Parent) → Given_fine (parent.take_busy p rp k)
@@ -249,7 +249,7 @@ module _ (Q : Message → Type 0) where
           cancel_one : (k : Parent) → Given_fine (parent.take_cancel p rp k)
           cancel_one k = given_cancel k (number_of k.pending p rp.1)
 
-          go : (a b : Bool) → Given_fine (parent.each (λ (step : Peer → ℕ × ℕ → Parent → Given). step p rp) (cond a (cond b (parent.take_busy ∷ parent.take_cancel ∷ []) (parent.take_busy ∷ [])) (cond b (parent.take_cancel ∷ []) [])) k)
+          go : (a b : Bool) → Given_fine (parent.each (λ (step : Peer → ℕ × ℕ → Parent → ParentTaken). step p rp) (cond a (cond b (parent.take_busy ∷ parent.take_cancel ∷ []) (parent.take_busy ∷ [])) (cond b (parent.take_cancel ∷ []) [])) k)
           go true true =
               let t = parent.take_busy p rp k in
               let u = parent.take_cancel p rp t.parent in
@@ -274,7 +274,7 @@ module _ (Q : Message → Type 0) where
       given_take (messages.PcReq as') k = given_each (parent.take_asked c f p) (λ a k. given_check k (c.check a parent_as)) as' k
       given_take (messages.PcRep rs) k = given_each (parent.take_reply c p) (λ r k. given_found r k (parent.waiting p r.id k.pending.rows)) rs k
       given_take (messages.PcNtf ns) k =
-          given_each (parent.take_notice p) (λ x k. given_each (λ (rp : ℕ × ℕ). parent.each (λ (step : Peer → ℕ × ℕ → Parent → Given). step p rp) (parent.notice_steps x.kinds)) (λ rp k. given_steps rp x.kinds k) x.ids k) ns k
+          given_each (parent.take_notice p) (λ x k. given_each (λ (rp : ℕ × ℕ). parent.each (λ (step : Peer → ℕ × ℕ → Parent → ParentTaken). step p rp) (parent.notice_steps x.kinds)) (λ rp k. given_steps rp x.kinds k) x.ids k) ns k
       given_take (messages.PcErr rs) k = given_each (parent.take_report p) (λ r k. given_report r.ids r.errors k) rs k
       given_take (messages.Open body) k = tt
       given_take messages.Keepalive k = tt

@@ -39,7 +39,7 @@ use Rattle.plant_model.specs.Writing.{no_path, reply_message}
 use Rattle.vspt_tree.specs.Branches.{better, first_least}
 use Rattle.plant_model.specs.Branches.{hops_of, onward, open_branch, end_of, path_of}
 use Rattle.plant_model.specs.Jobs.{entry_nodes, entries_of}
-use Rattle.plant_model.specs.Element.{Item, Row, Element, Place, Taken, is_client}
+use Rattle.plant_model.specs.Element.{Item, Row, Element, ElementSettings, Taken, is_client}
 use Rattle.plant_model.specs.Solving.{commit, client_reply, closed_reply, closed_paths, free}
 use Rattle.plant_model.specs.Settings.{place, place_from}
 use Rattle.plant_model.specs.Routes.{routes}
@@ -191,7 +191,7 @@ no_path_fits flags id true false w = no_path_written flags id 0 2 w (omega arith
 no_path_fits flags id false true w = no_path_written flags id 0 4 w (omega arith) (omega arith)
 no_path_fits flags id false false w = no_path_written flags id 0 6 w (omega arith) (omega arith)
 
-module _ (c : Codec) (codec : IsCodec c) (n : NetworkParts) (d : As) (h : Row Pin) (domain : IsDomain d h.1.item.pin.topology) (down : List Branch) (downs : BranchesFit 900 down) (e : Place) (at_id : IsAddr e.id)
+module _ (c : Codec) (codec : IsCodec c) (n : NetworkParts) (d : As) (h : Row Pin) (domain : IsDomain d h.1.item.pin.topology) (down : List Branch) (downs : BranchesFit 900 down) (e : ElementSettings) (at_id : IsAddr e.id)
     (words : AreWords (h.1.item.flags, h.1.key.id)) (at_target : IsAddr h.1.item.wanted.target) (cap : h.1.item.wanted.query.cap ≤ COST_MAX) where
   abbrev Fits : Best → Type 0
   Fits b = BestFits d h.1.item.pin.topology domain (ask c n d h down) b

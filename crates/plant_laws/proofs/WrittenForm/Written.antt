@@ -25,13 +25,13 @@ use Rattle.plant_model.specs.Names.{has_pair, the_parent}
 use Rattle.plant_model.specs.Wire.{Codec, Checked, Admitted, Wrong}
 use Rattle.plant_model.specs.Writing.{request_message, reply_message, error_message, busy, unavailable}
 use Rattle.disclosure.specs.Policy.{is_denied}
-use Rattle.plant_model.specs.Element.{Element, Row, Way, Place, Taken, each, way_to, is_client, lost_output, waiting, with_last}
+use Rattle.plant_model.specs.Element.{Element, Row, Way, ElementSettings, Taken, each, way_to, is_client, lost_output, waiting, with_last}
 use Rattle.plant_model.specs.Routes.{toward}
 use Rattle.plant_model.specs.Taking.{take, take_asked, take_checked, take_new, take_wish, take_path, take_along, send_on, sequence_or, goes_up, take_reply, take_answer, made_ready, take_notice, notice_steps, take_busy, take_cancel, told_busy, cancelled, take_report, take_errors, take_failure, told_error, error_answer}
 use Rattle.plant_model.specs.Solving.{commit, closed_reply, client_reply, free}
 use Rattle.plant_model.specs.BorderGraph.{Found}
 use Rattle.plant_model.specs.Parent as parent
-use Rattle.plant_model.specs.Parent.{Parent, Given, Family, AskingRow, Errand, Wait, ask_all, next_id}
+use Rattle.plant_model.specs.Parent.{Parent, ParentTaken, Family, AskingRow, Errand, Wait, ask_all, next_id}
 
 -- W holds of each message, and of whom it is for
 abbrev pub AllOut : (Peer → Message → Type 0) → List Output → Type 0
@@ -53,7 +53,7 @@ module _ (W : Peer → Message → Type 0) (w_reply : (p : Peer) (flags id : ℕ
     each_all f [] k h = tt
     each_all f (x ∷ xs) k h = all_append W (f x k).outputs (each f xs (f x k).element).outputs (h x k) (each_all f xs (f x k).element h)
 
-    module _ (c : Codec) (show : S → List Hop) (e : Place) (pin : P) (p : Peer) (class : Class) (now : ℕ) where
+    module _ (c : Codec) (show : S → List Hop) (e : ElementSettings) (pin : P) (p : Peer) (class : Class) (now : ℕ) where
       send_all : (flags x : ℕ) (w : Wanted) (sequence rest : List As) (refused : Bool) (k : Element P S) (way : Option Way) →
           AllOut W (send_on pin p class flags x w sequence rest refused k way).outputs
       send_all flags x w sequence rest refused k None = (w_reply p flags x unavailable, tt)
@@ -141,7 +141,7 @@ module _ (W : Peer → Message → Type 0) (w_reply : (p : Peer) (flags id : ℕ
       take_all (messages.Close why) k = tt
       take_all (messages.Other kind) k = tt
 
-    pub commit_all : (c : Codec) (e : Place) (h : Row P) (down : List Branch) (now : ℕ) (stands : Best → S) (source_known target_known : Bool) (best : List Best) (k : Element P S) →
+    pub commit_all : (c : Codec) (e : ElementSettings) (h : Row P) (down : List Branch) (now : ℕ) (stands : Best → S) (source_known target_known : Bool) (best : List Best) (k : Element P S) →
         AllOut W (commit c e h down now stands source_known target_known best k).outputs
     commit_all c e h down now stands source_known target_known best k = pick (is_client h.1.item.class) _ (closed_reply c e h down now stands k best) (client best, tt) (closed best)
       where
@@ -158,11 +158,11 @@ module _ (W : Peer → Message → Type 0) (w_reply : (p : Peer) (flags id : ℕ
   lost_all (l ∷ ls) = (w_reply l.to l.flags l.id unavailable, lost_all ls)
 
   -- the parent
-  pick_up : (b : Bool) (x y : Given) → AllOut W x.outputs → AllOut W y.outputs → AllOut W (cond b x y).outputs
+  pick_up : (b : Bool) (x y : ParentTaken) → AllOut W x.outputs → AllOut W y.outputs → AllOut W (cond b x y).outputs
   pick_up true x y h g = h
   pick_up false x y h g = g
 
-  each_up : {X : Type 0} (f : X → Parent → Given) (xs : List X) (k : Parent) → ((x : X) (k : Parent) → AllOut W (f x k).outputs) → AllOut W (parent.each f xs k).outputs
+  each_up : {X : Type 0} (f : X → Parent → ParentTaken) (xs : List X) (k : Parent) → ((x : X) (k : Parent) → AllOut W (f x k).outputs) → AllOut W (parent.each f xs k).outputs
   each_up f [] k h = tt
   each_up f (x ∷ xs) k h = all_append W (f x k).outputs (parent.each f xs (f x k).parent).outputs (h x k) (each_up f xs (f x k).parent h)
 
@@ -214,7 +214,7 @@ module _ (W : Peer → Message → Type 0) (w_reply : (p : Peer) (flags id : ℕ
         cancel : (j : Parent) → AllOut W (parent.take_cancel p rp j).outputs
         cancel j = cancel_up j (number_of j.pending p rp.1)
 
-        go : (b b' : Bool) → AllOut W (parent.each (λ (step : Peer → ℕ × ℕ → Parent → Given). step p rp) (cond b (cond b' (parent.take_busy ∷ parent.take_cancel ∷ []) (parent.take_busy ∷ [])) (cond b' (parent.take_cancel ∷ []) [])) k).outputs
+        go : (b b' : Bool) → AllOut W (parent.each (λ (step : Peer → ℕ × ℕ → Parent → ParentTaken). step p rp) (cond b (cond b' (parent.take_busy ∷ parent.take_cancel ∷ []) (parent.take_busy ∷ [])) (cond b' (parent.take_cancel ∷ []) [])) k).outputs
         go true true = all_append W (parent.take_busy p rp k).outputs _ (busy' k) (all_append W (parent.take_cancel p rp (parent.take_busy p rp k).parent).outputs [] (cancel (parent.take_busy p rp k).parent) tt)
         go true false = all_append W (parent.take_busy p rp k).outputs [] (busy' k) tt
         go false true = all_append W (parent.take_cancel p rp k).outputs [] (cancel k) tt

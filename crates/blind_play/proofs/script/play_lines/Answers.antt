@@ -6,7 +6,7 @@ use Rattle.std.specs.Io.KnownBytes.{Appends}
 use Rattle.line_text.specs.Lines.{NumberedLine}
 use Rattle.line_text.proofs.Counts.{lines_at_most}
 use Rattle.plant_text.specs.declared.settings.NetworkParts.{NetworkParts}
-use Rattle.blind_play.specs.Playing.{stage_of}
+use Rattle.blind_play.specs.Playing.{played_network}
 use Rattle.transcript.specs.Stops.{numbered}
 use Rattle.transcript.proofs.ScriptParts.{Tells, script_tells}
 use Rattle.blind_play.specs.WholeScripts.{LinePlays, LineStops}
@@ -19,22 +19,22 @@ new-lines-requires g c = omega (arith, c.requires.within, lines_at_most c.args.s
 pub loop-line-init : goal.loop-line-init
 loop-line-init g c = rw c.new-lines.ensures (record {
   settings = refl;
-  reached = at_start (stage_of c.args.player.now).network c.args.script.now (g.K.Sink.written c.args.out.now) (stage_of c.args.player.now) c.requires.new;
+  reached = at_start (played_network c.args.player.now).network c.args.script.now (g.K.Sink.written c.args.out.now) (played_network c.args.player.now) c.requires.new;
   tell = script_tells c.args.script.now;
   after = omega arith;
 })
 
 pub loop-line-preserved : goal.loop-line-preserved
 loop-line-preserved g c =
-    let n = (stage_of c.args.player.now).network in
+    let n = (played_network c.args.player.now).network in
     let script = c.args.script.now in
     let w0 = g.K.Sink.written c.args.out.now in
     let w1 = g.K.Sink.written c.loop-line.out in
     let w2 = g.K.Sink.written c.play_line.new.out in
     let l = numbered c.in-Some.line.number c.in-Some.line.text.now in
     let others = c.next_line.new.self in
-    let now = stage_of c.loop-line.player in
-    let new = stage_of c.play_line.new.player in
+    let now = played_network c.loop-line.player in
+    let new = played_network c.play_line.new.player in
     let was = c.loop-line.invariant in
     let made = c.in_ok-play_line.ensures in
     let here : IsAt n script w0 w1 (l ∷ others) now = subst (λ (ls : List NumberedLine). IsAt n script w0 w1 ls now) c.in-Some.ensures was.reached in
@@ -50,7 +50,7 @@ loop-line-preserved g c =
 
 pub returns-in_err-play_line-clause-stops : goal.returns-in_err-play_line-clause-stops
 returns-in_err-play_line-clause-stops g c =
-    let n = (stage_of c.args.player.now).network in
+    let n = (played_network c.args.player.now).network in
     let script = c.args.script.now in
     let w0 = g.K.Sink.written c.args.out.now in
     let w1 = g.K.Sink.written c.loop-line.out in
@@ -60,8 +60,8 @@ returns-in_err-play_line-clause-stops g c =
     let o2 = g.K.Sink.faults c.play_line.new.out in
     let l = numbered c.in-Some.line.number c.in-Some.line.text.now in
     let others = c.next_line.new.self in
-    let now = stage_of c.loop-line.player in
-    let new = stage_of c.play_line.new.player in
+    let now = played_network c.loop-line.player in
+    let new = played_network c.play_line.new.player in
     let was = c.loop-line.invariant in
     let why = c.in_err-play_line.field-0.0 in
     let here : IsAt n script w0 w1 (l ∷ others) now = subst (λ (ls : List NumberedLine). IsAt n script w0 w1 ls now) c.in-Some.ensures was.reached in

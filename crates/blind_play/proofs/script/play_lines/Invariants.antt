@@ -1,13 +1,13 @@
 use Rattle.std.proofs.Common.{◌≡◌, ◌≤◌, All, length}
-use Rattle.blind_play.specs.Playing.{stage_of}
+use Rattle.blind_play.specs.Playing.{played_network}
 use Rattle.transcript.proofs.ScriptParts.{Tells}
 use Rattle.blind_play.proofs.ScriptLemmas.{IsAt}
 use Rattle.blind_play.proofs.script.play_lines.Given as goal
 
 abbrev pub invariant-loop-line : goal.invariant-loop-line
 invariant-loop-line g l = record {
-  settings : (stage_of l.player).network ≡ (stage_of l.initial.player).network;
-  reached : IsAt (stage_of l.initial.player).network l.script (g.K.Sink.written l.initial.out) (g.K.Sink.written l.out) l.lines (stage_of l.player);
+  settings : (played_network l.player).network ≡ (played_network l.initial.player).network;
+  reached : IsAt (played_network l.initial.player).network l.script (g.K.Sink.written l.initial.out) (g.K.Sink.written l.out) l.lines (played_network l.player);
   tell : All Tells l.lines;
   after : g.K.Sink.faults l.initial.out ≤ g.K.Sink.faults l.out;
 }

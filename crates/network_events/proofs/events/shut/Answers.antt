@@ -53,7 +53,7 @@ returns g c =
     let below : c.args.peer < length s.network.peers = omega (arith, sound.kept.of.peers_are, open_below c.args.traffic.now c.args.peer open') in
     done_moves m.show (λ n st. events.shut m.Pin m.Key wire n m.show c.args.peer st) (here s start) (here t end) c.fall.ensures.goes.network
     (record {
-      lines_are = ap (λ (f : Flow). f.lines) c.shut.ensures ∙ c.fall.ensures.goes.lines ∙ ap (λ (f : Flow). f.lines) c.clear_said.ensures.kept ∙ sound.kept.of.lines_are;
+      adjacencies_are = ap (λ (f : Flow). f.adjacencies) c.shut.ensures ∙ c.fall.ensures.goes.adjacencies ∙ ap (λ (f : Flow). f.adjacencies) c.clear_said.ensures.kept ∙ sound.kept.of.adjacencies_are;
       peers_are = ap (λ (f : Flow). f.peers) c.shut.ensures ∙ c.fall.ensures.goes.peers ∙ ap (λ (f : Flow). f.peers) c.clear_said.ensures.kept ∙ sound.kept.of.peers_are;
     })
     (c.fall.ensures.goes.lost sound.kept.none)

@@ -39,7 +39,7 @@ returns g c =
     let is = drains_ok c.args.peer c.args.holder start drained d drains in
     still_moves m.show (λ n st. events.drain m.Pin m.Key wire n m.show c.args.peer c.args.holder st) (here s start) end (λ st. true) (Drained d.bytes d.ended)
     (record {
-      of = cleared_of s.network start drained end (ap (λ (f : Flow). f.lines) is.is) (ap (λ (f : Flow). f.peers) is.is) c.clear_said.ensures c.requires.sound.kept.of;
+      of = cleared_of s.network start drained end (ap (λ (f : Flow). f.adjacencies) is.is) (ap (λ (f : Flow). f.peers) is.is) c.clear_said.ensures c.requires.sound.kept.of;
       none = c.requires.sound.kept.none;
       roomy = drain_roomy m.show s.network s.seen c.args.peer start drained end is c.clear_said.ensures c.requires.sound.kept.roomy;
     })

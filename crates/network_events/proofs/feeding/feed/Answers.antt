@@ -38,7 +38,7 @@ returns g c =
     let is = feeds_ok c.args.peer c.args.piece start fed feeds in
     still_moves m.show (λ n st. events.feed m.Pin m.Key wire n m.show c.args.peer c.args.piece st) (here s start) end (λ st. events.takes_feed (st.accesses c.args.peer).connection) Done
     (record {
-      of = cleared_of s.network start fed end (ap (λ (f : Flow). f.lines) is) (ap (λ (f : Flow). f.peers) is) c.clear_said.ensures c.requires.sound.kept.of;
+      of = cleared_of s.network start fed end (ap (λ (f : Flow). f.adjacencies) is) (ap (λ (f : Flow). f.peers) is) c.clear_said.ensures c.requires.sound.kept.of;
       none = c.requires.sound.kept.none;
       roomy = feed_roomy m.show s.network s.seen c.args.peer c.args.piece start fed end is c.clear_said.ensures c.requires.sound.kept.roomy;
     })

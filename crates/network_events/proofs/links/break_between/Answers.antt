@@ -2,40 +2,40 @@ use Rattle.std.proofs.Common.{◌≡◌, true, false, subst, sym}
 use Rattle.dom_base.specs.declared.names.As.{As}
 use Rattle.dom_base.specs.declared.names.Peer.TheVariants.{Inner}
 use Rattle.plant_text.specs.Names.{same_as}
-use Rattle.plant_text.specs.Settings.{Line}
+use Rattle.plant_text.specs.Settings.{Adjacency}
 use Rattle.member_trait.specs.plant_model.RealWire.{wire}
 use Rattle.member_trait.specs.plant_model.Deeds as deeds
 use Rattle.network_links.specs.Carried.{flow_of}
 use Rattle.member_trait.specs.Membership.{fallen, is_member, lost_at}
 use Rattle.network_events.specs.Breaking.{RoomToBreak}
 use Rattle.network_events.specs.Standing.{Goes, here}
-use Rattle.network_events.proofs.RoomyNeeds.{apart_back, line_either, line_is}
+use Rattle.network_events.proofs.RoomyNeeds.{apart_back, adjacency_either, adjacency_is}
 use Rattle.network_events.proofs.links.break_between.Goals as goal
 
-pub break_line-requires-clause-lower : goal.break_line-requires-clause-lower
-break_line-requires-clause-lower g c =
+pub break_adjacency-requires-clause-lower : goal.break_adjacency-requires-clause-lower
+break_adjacency-requires-clause-lower g c =
     let n = (g.M.Members.stands c.args.members.now).network in
-    subst (λ (d : As). is_member n d ≡ true) (sym c.line_between.ensures.lower) (line_either c.args.a c.args.b (λ x. is_member n x.lower ≡ true) c.requires.there c.requires.here)
+    subst (λ (d : As). is_member n d ≡ true) (sym c.adjacency_between.ensures.lower) (adjacency_either c.args.a c.args.b (λ x. is_member n x.lower ≡ true) c.requires.there c.requires.here)
 
-pub break_line-requires-clause-upper : goal.break_line-requires-clause-upper
-break_line-requires-clause-upper g c =
+pub break_adjacency-requires-clause-upper : goal.break_adjacency-requires-clause-upper
+break_adjacency-requires-clause-upper g c =
     let n = (g.M.Members.stands c.args.members.now).network in
-    subst (λ (d : As). is_member n d ≡ true) (sym c.line_between.ensures.upper) (line_either c.args.a c.args.b (λ x. is_member n x.upper ≡ true) c.requires.here c.requires.there)
+    subst (λ (d : As). is_member n d ≡ true) (sym c.adjacency_between.ensures.upper) (adjacency_either c.args.a c.args.b (λ x. is_member n x.upper ≡ true) c.requires.here c.requires.there)
 
-pub break_line-requires-clause-apart : goal.break_line-requires-clause-apart
-break_line-requires-clause-apart g c =
-    subst (λ (x : Line). same_as x.lower x.upper ≡ false) (sym (line_is c.args.a c.args.b c.line_between.result.0 c.line_between.result.1 c.line_between.ensures.lower c.line_between.ensures.upper))
-    (line_either c.args.a c.args.b (λ x. same_as x.lower x.upper ≡ false) (apart_back c.args.a c.args.b c.requires.apart) c.requires.apart)
+pub break_adjacency-requires-clause-apart : goal.break_adjacency-requires-clause-apart
+break_adjacency-requires-clause-apart g c =
+    subst (λ (x : Adjacency). same_as x.lower x.upper ≡ false) (sym (adjacency_is c.args.a c.args.b c.adjacency_between.result.0 c.adjacency_between.result.1 c.adjacency_between.ensures.lower c.adjacency_between.ensures.upper))
+    (adjacency_either c.args.a c.args.b (λ x. same_as x.lower x.upper ≡ false) (apart_back c.args.a c.args.b c.requires.apart) c.requires.apart)
 
-pub break_line-requires-clause-room : goal.break_line-requires-clause-room
-break_line-requires-clause-room g c =
+pub break_adjacency-requires-clause-room : goal.break_adjacency-requires-clause-room
+break_adjacency-requires-clause-room g c =
     let ms = (g.M.Members.stands c.args.members.now).seen in
-    subst (λ (x : Line). RoomToBreak x.lower x.upper (lost_at x.lower (Inner x.upper) ms) (lost_at x.upper (Inner x.lower) (fallen x.lower (Inner x.upper) ms)) (flow_of c.args.traffic.now))
-    (sym (line_is c.args.a c.args.b c.line_between.result.0 c.line_between.result.1 c.line_between.ensures.lower c.line_between.ensures.upper)) c.requires.room
+    subst (λ (x : Adjacency). RoomToBreak x.lower x.upper (lost_at x.lower (Inner x.upper) ms) (lost_at x.upper (Inner x.lower) (fallen x.lower (Inner x.upper) ms)) (flow_of c.args.traffic.now))
+    (sym (adjacency_is c.args.a c.args.b c.adjacency_between.result.0 c.adjacency_between.result.1 c.adjacency_between.ensures.lower c.adjacency_between.ensures.upper)) c.requires.room
 
 pub returns : goal.returns
 returns g c =
-    subst (λ (x : Line). Goes (λ k. deeds.break_line g.M.Members.Pin g.M.Members.Key wire k g.M.Members.show x)
+    subst (λ (x : Adjacency). Goes (λ k. deeds.break_adjacency g.M.Members.Pin g.M.Members.Key wire k g.M.Members.show x)
     (here (g.M.Members.stands c.args.members.now) (flow_of c.args.traffic.now))
-    (here (g.M.Members.stands c.break_line.new.members) (flow_of c.break_line.new.traffic)))
-    (line_is c.args.a c.args.b c.line_between.result.0 c.line_between.result.1 c.line_between.ensures.lower c.line_between.ensures.upper) c.break_line.ensures
+    (here (g.M.Members.stands c.break_adjacency.new.members) (flow_of c.break_adjacency.new.traffic)))
+    (adjacency_is c.args.a c.args.b c.adjacency_between.result.0 c.adjacency_between.result.1 c.adjacency_between.ensures.lower c.adjacency_between.ensures.upper) c.break_adjacency.ensures

@@ -78,9 +78,9 @@ returns g c =
     let room = on_ok_of c.connect.result c.in-Ok.field-0 c.in-Ok.is c.connect.ensures.room in
     let keeps = begins_keeps s.network s.seen f1 f2 c.clear_said.ensures (connected_roomy m.show s.network i c.args.holder s.seen f f1 shut connects room sound.kept.roomy) in
     let going = events.idle m.Pin m.Key wire s.network m.show (events.connect m.Pin m.Key wire s.network m.show i c.args.holder (state_of s.seen f)) in
-    let of = cleared_of s.network f f1 f2 (ap (λ (x : Flow). x.lines) connects) (ap (λ (x : Flow). x.peers) connects) c.clear_said.ensures sound.kept.of in
+    let of = cleared_of s.network f f1 f2 (ap (λ (x : Flow). x.adjacencies) connects) (ap (λ (x : Flow). x.peers) connects) c.clear_said.ensures sound.kept.of in
     done_moves m.show (λ n st. events.open_peer m.Pin m.Key wire n m.show i c.args.holder st) (here s f) (here t end) c.give_input.ensures.network
-    (record { lines_are = c.give_input.ensures.lines ∙ of.lines_are; peers_are = c.give_input.ensures.peers ∙ of.peers_are })
+    (record { adjacencies_are = c.give_input.ensures.adjacencies ∙ of.adjacencies_are; peers_are = c.give_input.ensures.peers ∙ of.peers_are })
     (c.give_input.ensures.lost sound.kept.none)
     (opened_roomy m.show s.network i c.args.holder ((f.accesses i).opened % 256) (record { 0 = f.clock }) going t.network s.seen t.seen s.lost t.lost f2 end (omega (arith, below)) (connected_of i c.args.holder f f1 f2 connects c.clear_said.ensures)
     c.give_input.ensures (connected_is m.show s.network i c.args.holder s.seen f f1 f2 connects c.clear_said.ensures) keeps)

@@ -1,5 +1,5 @@
 use Rattle.std.proofs.Common.{◌∙◌, true, ap, sym}
-use Rattle.plant_text.specs.Settings.{has_line}
+use Rattle.plant_text.specs.Settings.{has_adjacency}
 use Rattle.member_trait.specs.plant_model.declared.outcome.Refused.TheVariants.{NoSuchPeer}
 use Rattle.member_trait.specs.plant_model.Events as events
 use Rattle.member_trait.specs.plant_model.RealWire.{wire}
@@ -14,7 +14,7 @@ pub returns-then-not-is_linked : goal.returns-then-not-is_linked
 returns-then-not-is_linked g c =
     let m = g.M.Members in
     let s = m.stands c.args.members.now in
-    let miss = ap (has_line c.args.from c.args.to) (sym c.requires.sound.kept.of.lines_are) ∙ sym c.is_linked.ensures ∙ c.if-not-is_linked.true in
+    let miss = ap (has_adjacency c.args.from c.args.to) (sym c.requires.sound.kept.of.adjacencies_are) ∙ sym c.is_linked.ensures ∙ c.if-not-is_linked.true in
     unmoved m.show (λ n st. events.carry m.Pin m.Key wire n m.show c.args.from c.args.to st) (here s (flow_of c.args.traffic.now)) (λ st. true) NoSuchPeer c.requires.sound.kept (λ e. cc)
     (carry_none m.show s.network c.args.from c.args.to s.seen (flow_of c.args.traffic.now) miss)
 

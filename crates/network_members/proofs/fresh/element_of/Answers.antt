@@ -2,7 +2,7 @@ use Rattle.std.proofs.Common.{◌∙◌, List, ap}
 use Rattle.plant_text.specs.declared.settings.ElementRow.{ElementRow}
 use Rattle.plant_text.specs.Settings.{row_of, deny_at}
 use Rattle.member_trait.specs.plant_model.Routes.{routes_from}
-use Rattle.settings_layout.specs.Lines.{others}
+use Rattle.settings_layout.specs.Adjacencies.{others}
 use Rattle.network_members.specs.Fresh.{figures_from}
 use Rattle.network_members.proofs.FreshLemmas.{new_for, life_least, life_most}
 use Rattle.network_members.proofs.fresh.element_of.Goals as goal
@@ -19,5 +19,5 @@ returns g c =
     (c.figures_of-figures.ensures ∙ ap (λ (rows : List ElementRow). figures_from (row_of c.args.own rows)) c.as_slice.ensures)
     (c.in_ok-deny.ensures ∙ ap (deny_at c.args.own) c.as_slice-2.ensures)
     (c.in_ok-routes.ensures ∙ ap (routes_from c.args.own 0) c.as_slice-3.ensures)
-    (c.as_slice-4.ensures ∙ c.in_ok-links.ensures ∙ ap (others c.args.own) c.requires.lines)
+    (c.as_slice-4.ensures ∙ c.in_ok-links.ensures ∙ ap (others c.args.own) c.requires.adjacencies)
     c.new.ensures

@@ -1,6 +1,6 @@
 use Rattle.std.proofs.Common.{◌∙◌, ℕ, List, None, Some, sym, subst, refl}
 use Rattle.ted_watch.specs.Watch.{published}
-use Rattle.operator_lines.specs.Operating.{context, stage}
+use Rattle.operator_lines.specs.Operating.{context, progress}
 use Rattle.operator_lines.specs.Steps.{DoesFile, Goes}
 use Rattle.operator_lines.specs.Texts.{bad_line_text}
 use Rattle.operator_lines.proofs.Doing.{event_goes_file, said_or}
@@ -10,8 +10,8 @@ pub returns-in-Some-clause-goes : goal.returns-in-Some-clause-goes
 returns-in-Some-clause-goes g c =
     let x = context c.args.network.now (g.T.Store.files c.args.store.now) in
     let k = c.args.number in
-    let a = stage (g.D.Chart.charted c.args.desk.now) (published c.args.publisher.now) (g.T.Store.faults c.args.store.now) (g.T.Store.failed_at c.args.store.now) in
-    let b = stage (g.D.Chart.charted c.do_file.new.desk) (published c.do_file.new.publisher) (g.T.Store.faults c.do_file.new.store) (g.T.Store.failed_at c.do_file.new.store) in
+    let a = progress (g.D.Chart.charted c.args.desk.now) (published c.args.publisher.now) (g.T.Store.faults c.args.store.now) (g.T.Store.failed_at c.args.store.now) in
+    let b = progress (g.D.Chart.charted c.do_file.new.desk) (published c.do_file.new.publisher) (g.T.Store.faults c.do_file.new.store) (g.T.Store.failed_at c.do_file.new.store) in
     let spent = (g.D.Chart.charted c.do_file.new.desk).spent in
     let before = c.args.into.now.items in
     let after = c.do_file.new.into.items in
@@ -24,7 +24,7 @@ pub returns-in-None-clause-goes : goal.returns-in-None-clause-goes
 returns-in-None-clause-goes g c =
     let x = context c.args.network.now (g.T.Store.files c.args.store.now) in
     let k = c.args.number in
-    let a = (stage (g.D.Chart.charted c.args.desk.now) (published c.args.publisher.now) (g.T.Store.faults c.args.store.now) (g.T.Store.failed_at c.args.store.now)) in
+    let a = (progress (g.D.Chart.charted c.args.desk.now) (published c.args.publisher.now) (g.T.Store.faults c.args.store.now) (g.T.Store.failed_at c.args.store.now)) in
     let spent = (g.D.Chart.charted c.args.desk.now).spent in
     let before = c.args.into.now.items in
     let after = c.tell_bad_line.new.into.items in

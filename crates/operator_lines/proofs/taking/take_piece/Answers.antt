@@ -5,7 +5,7 @@ use lib.ListN.{get_or}
 use Rattle.std.specs.declared.option.Option.{Option}
 use Rattle.dom_edge.specs.Stores.{Files}
 use Rattle.ted_watch.specs.Watch.{published}
-use Rattle.operator_lines.specs.Operating.{context, stage}
+use Rattle.operator_lines.specs.Operating.{context, progress}
 use Rattle.operator_lines.specs.Steps.{CutsOff, Feeds, Lasts, TakesOn, begun}
 use Rattle.operator_lines.proofs.Pieces.{fed_more, fed_on, none_fed}
 use Rattle.operator_lines.proofs.taking.take_piece.Goals as goal
@@ -14,7 +14,7 @@ pub loop-byte-init : goal.loop-byte-init
 loop-byte-init g c =
     let x = context c.args.network.now (g.T.Store.files c.args.store.now) in
     let f = begun c.args.begun.now.before c.args.begun.now.bytes.items c.args.begun.now.is_long in
-    let a = stage (g.D.Chart.charted c.args.desk.now) (published c.args.publisher.now) (g.T.Store.faults c.args.store.now) (g.T.Store.failed_at c.args.store.now) in
+    let a = progress (g.D.Chart.charted c.args.desk.now) (published c.args.publisher.now) (g.T.Store.faults c.args.store.now) (g.T.Store.failed_at c.args.store.now) in
     record {
       takes = λ line is. none_fed x line f a (g.K.Sink.written c.args.out.now) is;
       wrote = omega arith;
@@ -32,9 +32,9 @@ returns-in_err-take_byte-clause-feeds g c = λ line is.
     let f = begun c.args.begun.now.before c.args.begun.now.bytes.items c.args.begun.now.is_long in
     let m = begun c.loop-byte.begun.before c.loop-byte.begun.bytes.items c.loop-byte.begun.is_long in
     let h = begun c.take_byte.new.begun.before c.take_byte.new.begun.bytes.items c.take_byte.new.begun.is_long in
-    let a = stage (g.D.Chart.charted c.args.desk.now) (published c.args.publisher.now) (g.T.Store.faults c.args.store.now) (g.T.Store.failed_at c.args.store.now) in
-    let b = stage (g.D.Chart.charted c.loop-byte.desk) (published c.loop-byte.publisher) (g.T.Store.faults c.loop-byte.store) (g.T.Store.failed_at c.loop-byte.store) in
-    let d = stage (g.D.Chart.charted c.take_byte.new.desk) (published c.take_byte.new.publisher) (g.T.Store.faults c.take_byte.new.store) (g.T.Store.failed_at c.take_byte.new.store) in
+    let a = progress (g.D.Chart.charted c.args.desk.now) (published c.args.publisher.now) (g.T.Store.faults c.args.store.now) (g.T.Store.failed_at c.args.store.now) in
+    let b = progress (g.D.Chart.charted c.loop-byte.desk) (published c.loop-byte.publisher) (g.T.Store.faults c.loop-byte.store) (g.T.Store.failed_at c.loop-byte.store) in
+    let d = progress (g.D.Chart.charted c.take_byte.new.desk) (published c.take_byte.new.publisher) (g.T.Store.faults c.take_byte.new.store) (g.T.Store.failed_at c.take_byte.new.store) in
     let o = g.K.Sink.written c.args.out.now in
     let v = g.K.Sink.written c.loop-byte.out in
     let w = g.K.Sink.written c.take_byte.new.out in
@@ -56,9 +56,9 @@ loop-byte-preserved g c =
     let f = begun c.args.begun.now.before c.args.begun.now.bytes.items c.args.begun.now.is_long in
     let m = begun c.loop-byte.begun.before c.loop-byte.begun.bytes.items c.loop-byte.begun.is_long in
     let h = begun c.take_byte.new.begun.before c.take_byte.new.begun.bytes.items c.take_byte.new.begun.is_long in
-    let a = stage (g.D.Chart.charted c.args.desk.now) (published c.args.publisher.now) (g.T.Store.faults c.args.store.now) (g.T.Store.failed_at c.args.store.now) in
-    let b = stage (g.D.Chart.charted c.loop-byte.desk) (published c.loop-byte.publisher) (g.T.Store.faults c.loop-byte.store) (g.T.Store.failed_at c.loop-byte.store) in
-    let d = stage (g.D.Chart.charted c.take_byte.new.desk) (published c.take_byte.new.publisher) (g.T.Store.faults c.take_byte.new.store) (g.T.Store.failed_at c.take_byte.new.store) in
+    let a = progress (g.D.Chart.charted c.args.desk.now) (published c.args.publisher.now) (g.T.Store.faults c.args.store.now) (g.T.Store.failed_at c.args.store.now) in
+    let b = progress (g.D.Chart.charted c.loop-byte.desk) (published c.loop-byte.publisher) (g.T.Store.faults c.loop-byte.store) (g.T.Store.failed_at c.loop-byte.store) in
+    let d = progress (g.D.Chart.charted c.take_byte.new.desk) (published c.take_byte.new.publisher) (g.T.Store.faults c.take_byte.new.store) (g.T.Store.failed_at c.take_byte.new.store) in
     let o = g.K.Sink.written c.args.out.now in
     let v = g.K.Sink.written c.loop-byte.out in
     let w = g.K.Sink.written c.take_byte.new.out in
@@ -87,6 +87,6 @@ returns-clause-feeds g c = λ line is.
     let x = context c.args.network.now (g.T.Store.files c.args.store.now) in
     let f = begun c.args.begun.now.before c.args.begun.now.bytes.items c.args.begun.now.is_long in
     let h = begun c.loop-byte.begun.before c.loop-byte.begun.bytes.items c.loop-byte.begun.is_long in
-    let a = stage (g.D.Chart.charted c.args.desk.now) (published c.args.publisher.now) (g.T.Store.faults c.args.store.now) (g.T.Store.failed_at c.args.store.now) in
-    let b = stage (g.D.Chart.charted c.loop-byte.desk) (published c.loop-byte.publisher) (g.T.Store.faults c.loop-byte.store) (g.T.Store.failed_at c.loop-byte.store) in
+    let a = progress (g.D.Chart.charted c.args.desk.now) (published c.args.publisher.now) (g.T.Store.faults c.args.store.now) (g.T.Store.failed_at c.args.store.now) in
+    let b = progress (g.D.Chart.charted c.loop-byte.desk) (published c.loop-byte.publisher) (g.T.Store.faults c.loop-byte.store) (g.T.Store.failed_at c.loop-byte.store) in
     subst (λ (l : List ℕ). TakesOn x l line f h a b (g.K.Sink.written c.args.out.now) (g.K.Sink.written c.loop-byte.out)) (take_all i xs (omega (arith, c.loop-byte-test.false))) (c.loop-byte.invariant.takes line is)

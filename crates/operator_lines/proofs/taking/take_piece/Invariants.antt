@@ -1,6 +1,6 @@
 use Rattle.std.proofs.Common.{◌≡◌, ◌≤◌, ℕ, List, None, take}
 use Rattle.ted_watch.specs.Watch.{list_of, published}
-use Rattle.operator_lines.specs.Operating.{AreOfElements, context, stage}
+use Rattle.operator_lines.specs.Operating.{AreOfElements, context, progress}
 use Rattle.operator_lines.specs.Steps.{IsBegun, TakesOn, begun}
 use Rattle.operator_lines.proofs.taking.take_piece.Given as goal
 
@@ -9,8 +9,8 @@ abbrev pub invariant-loop-byte : goal.invariant-loop-byte
 invariant-loop-byte g l = record {
   takes : (line : List ℕ) → IsBegun l.initial.begun.bytes.items l.initial.begun.is_long line
       → TakesOn (context l.network (g.T.Store.files l.initial.store)) (take l.byte-index l.piece) line (begun l.initial.begun.before l.initial.begun.bytes.items l.initial.begun.is_long) (begun l.begun.before l.begun.bytes.items l.begun.is_long)
-      (stage (g.D.Chart.charted l.initial.desk) (published l.initial.publisher) (g.T.Store.faults l.initial.store) (g.T.Store.failed_at l.initial.store))
-      (stage (g.D.Chart.charted l.desk) (published l.publisher) (g.T.Store.faults l.store) (g.T.Store.failed_at l.store))
+      (progress (g.D.Chart.charted l.initial.desk) (published l.initial.publisher) (g.T.Store.faults l.initial.store) (g.T.Store.failed_at l.initial.store))
+      (progress (g.D.Chart.charted l.desk) (published l.publisher) (g.T.Store.faults l.store) (g.T.Store.failed_at l.store))
       (g.K.Sink.written l.initial.out) (g.K.Sink.written l.out);
   wrote : g.K.Sink.faults l.initial.out ≤ g.K.Sink.faults l.out;
   fresh : (g.D.Chart.charted l.desk).spent ≡ None;

@@ -1,5 +1,5 @@
 use Rattle.std.proofs.Common.{◌≡◌, ◌+◌, ◌*◌}
-use Rattle.plant_client.specs.plant_play.Playing.{stage_of}
+use Rattle.plant_client.specs.plant_play.Playing.{played_network}
 use Rattle.drawn_network.specs.Files.{links_draws}
 use Rattle.plant_bulk.specs.Playing.{AreTallied}
 use Rattle.plant_bulk.specs.Requests.{questions}
@@ -9,5 +9,5 @@ abbrev pub invariant-loop-request : goal.invariant-loop-request
 invariant-loop-request g l = record {
   files : g.S.Store.files l.store ≡ g.S.Store.files l.initial.store;
   place : l.draws ≡ links_draws + 2 * l.request;
-  tallied : AreTallied (g.S.Store.files l.initial.store) (questions l.demand l.request) (stage_of l.initial.player) (stage_of l.player) l.tally;
+  tallied : AreTallied (g.S.Store.files l.initial.store) (questions l.demand l.request) (played_network l.initial.player) (played_network l.player) l.tally;
 }

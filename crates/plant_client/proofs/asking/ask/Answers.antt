@@ -1,8 +1,8 @@
-use Rattle.plant_script.specs.plant_play.Playing.{stage_of}
+use Rattle.plant_script.specs.plant_play.Playing.{played_network}
 use Rattle.plant_client.proofs.AskingLemmas.{ask_played}
 use Rattle.plant_client.proofs.asking.ask.Goals as goal
 
 pub returns-clause-asks : goal.returns-clause-asks
 returns-clause-asks g c =
     ask_played (g.S.Store.files c.args.store.now) (g.S.Store.files c.begin.new.store) c.args.network c.args.client c.args.question.now
-    (stage_of c.in_ok-player.player) (stage_of c.exchange.new.player) c.exchange.result c.begin.ensures.files c.in_ok-player.ensures.begins c.exchange.ensures.exchanges
+    (played_network c.in_ok-player.player) (played_network c.exchange.new.player) c.exchange.result c.begin.ensures.files c.in_ok-player.ensures.begins c.exchange.ensures.exchanges

@@ -1,7 +1,7 @@
 use Rattle.std.specs.Arc.{arc_value}
 use Rattle.plant_network.specs.plant_model.declared.event.Event.TheVariants as event
 use Rattle.plant_network.specs.Topologies.{whole}
-use Rattle.plant_play.specs.Making.{DoesLine, stage}
+use Rattle.plant_play.specs.Making.{DoesLine, playing}
 use Rattle.plant_play.specs.Playing.{PlaysChange, PlaysOne}
 use Rattle.plant_play.proofs.LineLemmas.{changed}
 use Rattle.plant_play.proofs.ShownLemmas.{if_ok}
@@ -16,8 +16,8 @@ returns-clause-plays c =
     let at = c.args.at in
     let g = c.in_ok-changed.changed in
     if_ok
-    (DoesLine old (PlaysOne c.args.line (stage c.args.modes old) (event.Load at g)) new b0 b1)
-    (DoesLine old (PlaysChange c.args.line (stage c.args.modes old) at c.args.file.now) new b0 b1)
+    (DoesLine old (PlaysOne c.args.line (playing c.args.modes old) (event.Load at g)) new b0 b1)
+    (DoesLine old (PlaysChange c.args.line (playing c.args.modes old) at c.args.file.now) new b0 b1)
     c.play_event.result
     (λ answer.
     changed c.args.line c.args.modes old new at c.args.file.now c.in_ok-changes.changes c.as_slice.result.now

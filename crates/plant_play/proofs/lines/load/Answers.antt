@@ -1,6 +1,6 @@
 use Rattle.plant_network.specs.plant_model.declared.event.Event.TheVariants as event
 use Rattle.plant_network.specs.Topologies.{whole}
-use Rattle.plant_play.specs.Making.{DoesLine, stage}
+use Rattle.plant_play.specs.Making.{DoesLine, playing}
 use Rattle.plant_play.specs.Playing.{PlaysLoad, PlaysOne}
 use Rattle.plant_play.proofs.LineLemmas.{loaded}
 use Rattle.plant_play.proofs.ShownLemmas.{if_ok}
@@ -15,8 +15,8 @@ returns-clause-plays c =
     let at = c.args.at in
     let g = c.in_ok-topology.topology in
     if_ok
-    (DoesLine old (PlaysOne c.args.line (stage c.args.modes old) (event.Load at g)) new b0 b1)
-    (DoesLine old (PlaysLoad c.args.line (stage c.args.modes old) at c.args.file.now) new b0 b1)
+    (DoesLine old (PlaysOne c.args.line (playing c.args.modes old) (event.Load at g)) new b0 b1)
+    (DoesLine old (PlaysLoad c.args.line (playing c.args.modes old) at c.args.file.now) new b0 b1)
     c.play_event.result
     (λ answer.
     loaded c.args.line c.args.modes old new at c.args.file.now g answer b0 b1 c.in_ok-topology.ensures.reads c.in_ok-topology.ensures.own

@@ -1,13 +1,13 @@
 use Rattle.std.proofs.Common.{◌≡◌, ◌≤◌, All, length}
-use Rattle.plant_play.specs.Playing.{stage_of}
+use Rattle.plant_play.specs.Playing.{played_network}
 use Rattle.transcript.proofs.ScriptParts.{Tells}
 use Rattle.plant_script.proofs.ScriptLemmas.{IsAt}
 use Rattle.plant_script.proofs.script.play_lines.Given as goal
 
 abbrev pub invariant-loop-line : goal.invariant-loop-line
 invariant-loop-line g l = record {
-  settings : (stage_of l.player).network ≡ (stage_of l.initial.player).network;
-  reached : IsAt (g.S.Store.files l.initial.store) (stage_of l.initial.player).network l.script (g.K.Sink.written l.initial.out) (g.K.Sink.written l.out) l.lines (stage_of l.player);
+  settings : (played_network l.player).network ≡ (played_network l.initial.player).network;
+  reached : IsAt (g.S.Store.files l.initial.store) (played_network l.initial.player).network l.script (g.K.Sink.written l.initial.out) (g.K.Sink.written l.out) l.lines (played_network l.player);
   tell : All Tells l.lines;
   files : g.S.Store.files l.store ≡ g.S.Store.files l.initial.store;
   later : g.S.Store.faults l.initial.store ≤ g.S.Store.faults l.store;

@@ -1,12 +1,12 @@
 use Rattle.std.proofs.Common.{◌∙◌}
 use Rattle.std.proofs.lemmas.Bool.{false≢true}
-use Rattle.network_links.proofs.RowLemmas.{no_line_there}
+use Rattle.network_links.proofs.RowLemmas.{no_adjacency_there}
 use Rattle.network_links.proofs.QuietLemmas.{end_answers, end_ticks}
 use Rattle.network_links.proofs.links.Links.tick_quietly.Goals as goal
 
 pub unreachable-requires : goal.unreachable-requires
 unreachable-requires c =
-    false≢true (no_line_there c.args.at c.args.to c.deref.result.now c.self.inside.links.items c.args.self.now c.deref.ensures.value c.self.view_is c.in-None.ensures ∙ c.requires)
+    false≢true (no_adjacency_there c.args.at c.args.to c.deref.result.now c.self.inside.links.items c.args.self.now c.deref.ensures.value c.self.view_is c.in-None.ensures ∙ c.requires)
 
 pub returns-clause-quiet : goal.returns-clause-quiet
 returns-clause-quiet c =

@@ -2,7 +2,7 @@ use Rattle.std.proofs.Common.{◌≡◌, ◌≤◌, ℕ, suc, Some, List, [], �
 use Rattle.std.specs.Prelude.{slice_get}
 use Rattle.std.proofs.lemmas.List.{take_all}
 use Rattle.dom_base.specs.declared.names.As.{As}
-use Rattle.plant_text.specs.Settings.{Line}
+use Rattle.plant_text.specs.Settings.{Adjacency}
 use Rattle.network_links.specs.Carried.{flow_of}
 use Rattle.network_links.specs.Waiting.{WaitsAmong, ways}
 use Rattle.network_links.proofs.WaitLemmas.{ways_more}
@@ -11,11 +11,11 @@ use Rattle.network_links.proofs.traffic.Traffic.waiting.Goals as goal
 pub loop-k-preserved : goal.loop-k-preserved
 loop-k-preserved c =
     let f = flow_of c.args.self.now in
-    let xs = f.lines in
+    let xs = f.adjacencies in
     let k = c.loop-k.k in
     let lower = c.in-Some.lower in
     let upper = c.in-Some.upper in
-    let x : Line = record { lower = lower; upper = upper } in
+    let x : Adjacency = record { lower = lower; upper = upper } in
     let at : slice_get xs k ≡ Some x = sym c.in-Some.ensures in
     let best = c.look_at-best-in-loop-k.result in
     let both : WaitsAmong f ((ways (take k xs) ++ (lower, upper) ∷ []) ++ (upper, lower) ∷ []) best =
@@ -26,5 +26,5 @@ loop-k-preserved c =
 pub returns : goal.returns
 returns c =
     let f = flow_of c.args.self.now in
-    let all : length f.lines ≤ c.loop-k.k = omega (arith, c.lines-k-end.ensures, c.loop-k-test.false) in
-    subst (λ (xs : List Line). WaitsAmong f (ways xs) c.loop-k.best) (take_all c.loop-k.k f.lines all) c.loop-k.invariant
+    let all : length f.adjacencies ≤ c.loop-k.k = omega (arith, c.adjacencies-k-end.ensures, c.loop-k-test.false) in
+    subst (λ (xs : List Adjacency). WaitsAmong f (ways xs) c.loop-k.best) (take_all c.loop-k.k f.adjacencies all) c.loop-k.invariant

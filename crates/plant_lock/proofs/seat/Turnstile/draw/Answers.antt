@@ -1,5 +1,5 @@
 use Rattle.std.proofs.Common.{rules, arith, refl, sym, subst, ◌<◌, ◌≡◌, ◌^◌}
-use Rattle.plant_lock.specs.declared.view.Stage.TheVariants.{Idle}
+use Rattle.plant_lock.specs.declared.view.SeatStage.TheVariants.{Idle}
 use Rattle.plant_lock.proofs.Keeps.{draws}
 use Rattle.plant_lock.proofs.seat.Turnstile.draw.Goals as goal
 

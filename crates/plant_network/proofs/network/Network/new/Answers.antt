@@ -2,7 +2,7 @@ use Rattle.std.proofs.Common.{◌≡◌, List, refl, sym, ap, subst}
 use Rattle.dom_base.specs.declared.names.As.{As}
 use Rattle.pcep_subobjects.specs.declared.hop.Hop.{Hop}
 use Rattle.plant_text.specs.declared.settings.NetworkParts.{NetworkParts}
-use Rattle.plant_text.specs.Networks.{IsNetwork}
+use Rattle.plant_text.specs.Networks.{ObeysRules}
 use Rattle.network_events.specs.plant_model.Events.{opening}
 use Rattle.network_events.specs.plant_model.RealWire.{wire}
 use Rattle.network_events.specs.member_trait.Membership.{Membership}
@@ -17,7 +17,7 @@ are_bare : {P : Type 0} {S : Type 0} (first : As → P) (show : S → List Hop) 
 are_bare first show n ms is = subst (AreBare n show) (sym is) (record { elements = refl; parent = refl })
 
 pub begin-requires-clause-rules : goal.begin-requires-clause-rules
-begin-requires-clause-rules g c = subst IsNetwork (sym c.in_ok-members.ensures.network) c.parts.ensures.rules
+begin-requires-clause-rules g c = subst ObeysRules (sym c.in_ok-members.ensures.network) c.parts.ensures.rules
 
 pub begin-requires-clause-new : goal.begin-requires-clause-new
 begin-requires-clause-new g c =

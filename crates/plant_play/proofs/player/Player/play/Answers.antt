@@ -1,7 +1,7 @@
 use Rattle.std.proofs.Common.{subst}
 use Rattle.plant_network.specs.Topologies.{whole}
-use Rattle.plant_play.specs.Making.{stage}
-use Rattle.plant_play.specs.Playing.{Played, Scene, cue, stage_of}
+use Rattle.plant_play.specs.Making.{playing}
+use Rattle.plant_play.specs.Playing.{Played, Scene, cue, played_network}
 use Rattle.plant_play.proofs.LineLemmas.{played}
 use Rattle.plant_play.proofs.player.Player.play.Goals as goal
 
@@ -13,6 +13,6 @@ returns-clause-plays c =
     let new = whole c.play_line.new.plant in
     let after = c.modes_after-after.result in
     let answer = c.in_ok-answer.answer in
-    subst (λ (x : Scene). Played (cue c.args.line c.args.event c.args.file.now) (stage_of x) answer (stage after new) b0 b1) c.self.view_is
+    subst (λ (x : Scene). Played (cue c.args.line c.args.event c.args.file.now) (played_network x) answer (playing after new) b0 b1) c.self.view_is
     (played c.args.line c.args.event c.args.file.now c.self.inside.modes after old answer new c.fresh-log.result c.play_line.new.into
     b0 b1 c.fresh-log.ensures c.modes_after-after.ensures c.in_ok-answer.ensures.plays c.in_ok-append.ensures.ok)

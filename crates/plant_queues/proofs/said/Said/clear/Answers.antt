@@ -1,7 +1,7 @@
 use Rattle.std.proofs.Common.{refl, ap, arith, List}
 use Rattle.plant_queues.specs.Sents.{sents}
 use Rattle.plant_queues.specs.SaidFields.{said_of}
-use Rattle.plant_queues.specs.declared.said.Place.{Place}
+use Rattle.plant_queues.specs.declared.said.MessageSpan.{MessageSpan}
 use Rattle.plant_queues.specs.declared.said.Said.TheInside.{Inside}
 use Rattle.plant_queues.proofs.SaidLemmas.{cleared_said}
 use Rattle.plant_queues.proofs.said.Said.clear.Goals as goal
@@ -12,4 +12,4 @@ returns-clause-room c =
     let after : Inside = record { bytes = c.clear.new.self; places = c.clear-2.new.self } in
     rw (← c.self.view_is)
     (cleared_said (said_of before) (said_of after) before.bytes.items before.places.items refl c.self.invariant
-    (ap (λ (places : List Place). sents after.bytes.items places) c.clear-2.ensures.items) (omega arith) (omega arith))
+    (ap (λ (places : List MessageSpan). sents after.bytes.items places) c.clear-2.ensures.items) (omega arith) (omega arith))

@@ -3,7 +3,7 @@ use Rattle.plant_text.specs.declared.settings.NetworkParts.{NetworkParts}
 use Rattle.member_trait.specs.Membership.{is_member}
 use Rattle.network_links.specs.Carried.{flow_of}
 use Rattle.network_events.proofs.BreakLaws.{break_room, break_can, begin_second, break_goes}
-use Rattle.network_events.proofs.links.break_line.Goals as goal
+use Rattle.network_events.proofs.links.break_adjacency.Goals as goal
 
 pub fall-requires-2-clause-member : goal.fall-requires-2-clause-member
 fall-requires-2-clause-member g c = subst (λ (n : NetworkParts). is_member n c.args.upper ≡ true) (sym c.fall.ensures.goes.network) c.requires.upper
