@@ -5,9 +5,9 @@ ghost use Rattle.plant_network.specs.Blind.{whole};
 ghost use Rattle.blind_play.specs.Making.{Makes, MakesTurn, lacks_memory};
 
 use crate::telling::{drainer_of, write_heard};
+use dom_base::NoMemory;
 use plant_network::BlindPlant;
 use plant_network::model::{BlindEvent, Outcome, Refused};
-use dom_base::NoMemory;
 use std::alloc::Global;
 
 /// What came of an event: an outcome, or why it was refused.

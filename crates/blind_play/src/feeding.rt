@@ -6,9 +6,9 @@ ghost use Rattle.blind_play.specs.Making.{Does, DoesAll};
 ghost use Rattle.blind_play.specs.Playing.{PlaysFeed};
 
 use crate::events::play_event;
+use dom_base::{Bytes, NoMemory};
 use plant_network::BlindPlant;
 use plant_network::model::BlindEvent;
-use dom_base::{Bytes, NoMemory};
 use std::alloc::Global;
 
 // Takes what is in the inbox of a peer.

@@ -10,9 +10,9 @@ ghost use Rattle.blind_play.specs.Playing.{Plays, PlaysFeedAt, PlaysNamed, Plays
 use crate::events::play_event;
 use crate::feeding::feed;
 use crate::settling::settle;
+use dom_base::{Bytes, NoMemory};
 use plant_network::BlindPlant;
 use plant_network::model::BlindEvent;
-use dom_base::{Bytes, NoMemory};
 use plant_text::LineEvent;
 use std::alloc::Global;
 

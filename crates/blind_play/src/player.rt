@@ -4,8 +4,8 @@ ghost use Rattle.texts_in_range.specs.Given.{IsBlindLine};
 ghost use Rattle.blind_play.specs.Playing.{IsNewNetwork, Played, cue, played_network};
 
 use crate::lines::play_line;
-use plant_network::BlindPlant;
 use dom_base::NoMemory;
+use plant_network::BlindPlant;
 use plant_text::{LineEvent, Network, NetworkParts};
 use std::alloc::Global;
 use std::marker::Model;

@@ -6,9 +6,9 @@ ghost use Rattle.blind_play.specs.Due.{AreAllDue, IsDueCarry};
 ghost use Rattle.blind_play.specs.Making.{Does};
 
 use crate::events::play_event;
+use dom_base::{As, NoMemory};
 use plant_network::BlindPlant;
 use plant_network::model::BlindEvent;
-use dom_base::{As, NoMemory};
 use std::alloc::Global;
 
 // The least pair between which a message is on its way.

@@ -8,10 +8,10 @@ ghost use Rattle.plant_network.specs.Blind.{whole};
 ghost use Rattle.blind_play.specs.Making.{closed_text, drain_text, drainer_of, told_of};
 
 use crate::events::Answer;
-use plant_network::BlindPlant;
-use plant_network::model::BlindEvent;
 use disclosure::Class;
 use dom_base::{As, NoMemory, Peer};
+use plant_network::BlindPlant;
+use plant_network::model::BlindEvent;
 use plant_queues::Said;
 use plant_text::NetworkParts;
 use std::alloc::Global;

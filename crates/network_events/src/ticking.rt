@@ -52,7 +52,12 @@ fn tick_peers<M: Members>(members: &mut M, traffic: &mut Traffic, now: Tick)
 }
 
 // Both ends of a link are told, the lower first.
-fn tick_adjacency<M: Members>(members: &mut M, traffic: &mut Traffic, adjacency: (As, As), now: Tick)
+fn tick_adjacency<M: Members>(
+    members: &mut M,
+    traffic: &mut Traffic,
+    adjacency: (As, As),
+    now: Tick,
+)
     requires lower { is_member (M.stands members.old).network adjacency.0 ≡ true }
     requires upper { is_member (M.stands members.old).network adjacency.1 ≡ true }
     requires apart { same_as adjacency.0 adjacency.1 ≡ false }

@@ -17,7 +17,7 @@ use dom_base::{Addr, As, NoMemory, Tick};
 use pce_element::World;
 use pce_parent::{Parent, copy_links};
 use plant_text::{Network, NetworkParts};
-use settings_layout::{children_of, adjacencies_of};
+use settings_layout::{adjacencies_of, children_of};
 use std::alloc::Global;
 use std::marker::Model;
 

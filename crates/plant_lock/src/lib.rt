@@ -16,4 +16,4 @@ mod waiting;
 pub use seat::{TurnSeat, Turnstile};
 pub use turned::Turned;
 pub use turnstile::{Spent, SplitError};
-pub use view::{Key, Slot, SeatStage, View};
+pub use view::{Key, SeatStage, Slot, View};

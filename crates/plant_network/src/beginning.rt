@@ -9,7 +9,7 @@ ghost use Rattle.network_events.specs.Standing.{here};
 ghost use Rattle.plant_network.specs.Beginning.{AreBare, Begins};
 
 use dom_base::NoMemory;
-use network_events::{Members, Traffic, begin_links, adjacencies_of};
+use network_events::{Members, Traffic, adjacencies_of, begin_links};
 use plant_text::NetworkParts;
 use std::alloc::Global;
 

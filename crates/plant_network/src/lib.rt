@@ -13,7 +13,7 @@ mod network;
 mod topologies;
 mod turned;
 
-pub use acts::{Act, Acted, ActAnswer};
+pub use acts::{Act, ActAnswer, Acted};
 pub use answering::CommitRefused;
 pub use blind::BlindPlant;
 pub use due::{least_is_carried, refused_takes_find_nothing, takes_leave_less};

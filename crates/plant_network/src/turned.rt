@@ -2,7 +2,7 @@
 ghost use Rattle.plant_network.specs.Topologies.{whole};
 ghost use Rattle.plant_network.specs.Turns.{Admits, IsAnswer, LastsTo};
 
-use crate::acts::{Act, Acted, ActAnswer};
+use crate::acts::{Act, ActAnswer, Acted};
 use crate::network::Network;
 use crate::topologies::Plant;
 use network_members::Topologies;

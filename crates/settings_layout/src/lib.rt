@@ -2,13 +2,13 @@
 //! parent, the inner links in their order, the neighbours and the routes of each element, its policy and its peers' classes.
 #![tactic(auto)]
 
-mod domains;
 mod adjacencies;
+mod domains;
 mod routes;
 mod rows;
 
+pub use adjacencies::{adjacencies_of, find_adjacency, others_along};
 pub use domains::{children_of, elements_of};
-pub use adjacencies::{find_adjacency, adjacencies_of, others_along};
 pub use plant_model as model;
 pub use routes::routes_of;
 pub use rows::{class_of, deny_at};

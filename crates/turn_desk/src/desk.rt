@@ -4,8 +4,8 @@ ghost use Rattle.plant_lock.specs.Seats.{IsAt, view_of};
 ghost use Rattle.turn_desk.specs.Histories.{Begins};
 
 use crate::naps::Idle;
-use plant_network::Plant;
 use plant_lock::{TurnSeat, Turnstile};
+use plant_network::Plant;
 use std::alloc::Global;
 use std::sync::{Arc, Wait};
 use std::time::Clock;

@@ -1,5 +1,5 @@
 //! What goes to other threads: a network with all that it holds, what a turn at its lock hands in and out, and a desk there.
-use plant_network::{Act, Plant, ActAnswer};
+use plant_network::{Act, ActAnswer, Plant};
 use std::sync::Wait;
 use std::time::Clock;
 use turn_desk::TurnDesk;

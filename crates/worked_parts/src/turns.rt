@@ -3,9 +3,9 @@ ghost use Rattle.std.specs.Prelude.{◌≡◌, ◌<◌, IfSome};
 
 use cost_cache::Cache;
 use dom_base::{As, Bytes, Tick};
+use plant_lock::SplitError;
 use plant_network::Plant;
 use plant_network::model::{Event, Outcome};
-use plant_lock::SplitError;
 use plant_text::read_network;
 use session_serving::Desk;
 use solve_workers::{Bench, Gate, Worked, work};
