@@ -17,6 +17,7 @@ use Rattle.plant_network.specs.plant_model.declared.event.BlindEvent.TheVariants
 use Rattle.plant_network.specs.plant_model.declared.outcome.Outcome.TheVariants as outcome
 use Rattle.plant_network.specs.plant_model.declared.outcome.Refused.TheVariants as refused
 use Rattle.plant_network.specs.plant_model.Blind.{BlindHappened, BlindHappens, BlindState, Drained, Heard, Message, Nothing, SolveHappens, done as blind_done, happened, heard, heard_in, heard_of, is_accepted, is_closed, show_nothing}
+use Rattle.plant_network.specs.plant_model.Solving.{job_found}
 use Rattle.plant_network.specs.plant_model.Deeds as deeds
 use Rattle.plant_network.specs.plant_model.Deeds.{Going}
 use Rattle.plant_network.specs.plant_model.Events as events
@@ -203,7 +204,7 @@ module _ (line : ℕ) (n : NetworkParts) where
   solve_fair d k rows s h (inr (inl x)) = subst (IsFair None) (sym x.2) (mute_told (events.refused Nothing Nothing wire n show_nothing refused.NoSuchJob s) tt, λ no. refl)
   solve_fair d k rows s h (inr (inr (inl x))) =
       let p = x.1 in
-      solved_fair (deeds.solve Nothing Nothing wire n show_nothing d (k, p.held) p.down (λ b. tt) true true p.best s) h (tt, tt) p.is
+      solved_fair (deeds.solve Nothing Nothing wire n show_nothing d (k, p.held) p.down (λ b. tt) (job_found true true p.best) s) h (tt, tt) p.is
   solve_fair d k rows s h (inr (inr (inr x))) = let p = x.2 in solved_fair (deeds.solve_upper Nothing Nothing wire n show_nothing (k, p.held) p.answer s) h (tt, tt) p.is
 
   one_fair : (e : BlindEvent) (s : BlindState) (h : BlindHappened) → h ≡ happened wire n s e → IsFair (drainer_of e) (happened wire n s e) → IsFair (drainer_of e) h

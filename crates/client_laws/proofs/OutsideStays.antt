@@ -33,7 +33,7 @@ use Rattle.script_laws.specs.plant_model.Names.{is_empty, set_pair}
 use Rattle.script_laws.specs.plant_model.Wire.{Bytes, Codec}
 use Rattle.script_laws.specs.plant_model.Element.{Taken, upped, downed}
 use Rattle.script_laws.specs.plant_model.Taking.{take}
-use Rattle.script_laws.specs.plant_model.Solving.{commit}
+use Rattle.script_laws.specs.plant_model.Solving.{commit, job_found}
 use Rattle.script_laws.specs.plant_model.Parent as parent
 use Rattle.script_laws.specs.plant_model.Settings.{place, family}
 use Rattle.script_laws.specs.plant_model.State.{Connection, Access, Loads, Pops, Takes, Says, Ups, Downs, Clears, Solves, Expires, Hands}
@@ -234,7 +234,7 @@ module _ (c : Codec) (n : NetworkParts) (i : ℕ) (P : Option Connection → Typ
   solve_stays d k s h (inr (inl none')) at = subst Did (sym none'.2) (at, tt)
   solve_stays d k s h (inr (inr (inl solves))) at =
       let x = solves.1 in
-      let t = commit c (place n d) (k, x.held) x.down s.clock (λ b. b.segment) x.rows.source_known x.rows.target_known x.rows.best (s.elements d) in
+      let t = commit c (place n d) (k, x.held) x.down s.clock (λ b. b.segment) (job_found x.rows.source_known x.rows.target_known x.rows.best) (s.elements d) in
       subst Did (sym x.is) (puts_good d t.outputs (with_element Pin Segment c n open_of d t.element s) at, (tt, tt))
   solve_stays d k s h (inr (inr (inr solves))) at =
       let x = solves.2 in

@@ -23,7 +23,7 @@ use Rattle.script_laws.specs.plant_model.Parent as parent
 use Rattle.script_laws.specs.plant_model.Plant.{ElementSolves, Happened, Happens, ParentSolves, Pin, Plant, Segment, is_full}
 use Rattle.script_laws.specs.plant_model.RealWire.{wire}
 use Rattle.script_laws.specs.plant_model.Settings.{place}
-use Rattle.script_laws.specs.plant_model.Solving.{commit}
+use Rattle.script_laws.specs.plant_model.Solving.{commit, job_found}
 use Rattle.script_laws.specs.plant_model.State.{Access, Connection, Pops, Solves}
 use Rattle.script_laws.specs.plant_model.Wire.{Bytes}
 use Rattle.script_laws.specs.plant_laws.Chains.{HasEmptyInbox}
@@ -105,7 +105,7 @@ module _ (n : NetworkParts) where
 
   solve_fades : (d : As) (k : ℕ) (s : Plant) (h : Happened) → ElementSolves wire n d k s h → Fade s h
   solve_fades d k s h x =
-      let r = commit wire (place n d) (k, x.held) x.down s.clock (λ b. b.segment) x.rows.source_known x.rows.target_known x.rows.best (s.elements d) in
+      let r = commit wire (place n d) (k, x.held) x.down s.clock (λ b. b.segment) (job_found x.rows.source_known x.rows.target_known x.rows.best) (s.elements d) in
       let u = with_element Pin Segment wire n open_of d r.element s in
       subst (Fade s) (sym x.is) (fading.sends Pin Segment wire n open_of Anything s d r.outputs (start s) u (Solves d k r.outputs r.element.keys.issued) refl tt (begin s)).fades
 

@@ -23,7 +23,7 @@ use Rattle.plant_laws.specs.plant_model.Laws.{IsCodec, IsNetwork}
 use Rattle.plant_laws.specs.plant_model.Writing.{reply_message, error_message, busy}
 use Rattle.plant_laws.specs.plant_model.Element.{Element, upped, downed, lost}
 use Rattle.plant_laws.specs.plant_model.Taking.{take}
-use Rattle.plant_laws.specs.plant_model.Solving.{commit}
+use Rattle.plant_laws.specs.plant_model.Solving.{commit, job_found}
 use Rattle.plant_laws.specs.plant_model.Parent as parent
 use Rattle.plant_laws.specs.plant_model.Routes.{routes}
 use Rattle.plant_laws.specs.plant_model.Settings.{place, family, inner_ways, way, ways_along}
@@ -335,7 +335,7 @@ module _ (c : Codec) (codec : IsCodec c) (n : NetworkParts) where
 
     solve_good : (ds : Transcript) (s : Plant) (d : As) (k : ℕ) (h : Happened) → I ds s → ElementSolves c n d k s h → I (h.deeds ++ ds) h.state
     solve_good ds s d k h held z =
-        let r = commit c (place n d) (k, z.held) z.down s.clock (λ b. b.segment) z.rows.source_known z.rows.target_known z.rows.best (s.elements d) in
+        let r = commit c (place n d) (k, z.held) z.down s.clock (λ b. b.segment) (job_found z.rows.source_known z.rows.target_known z.rows.best) (s.elements d) in
         let u = with_element Pin Segment c n open_of d r.element s in
         let calm = calm_commit Pin Segment c (place n d) (k, z.held) z.down s.clock (λ b. b.segment) z.rows.source_known z.rows.target_known z.rows.best (s.elements d) in
         subst (λ (h' : Happened). I (h'.deeds ++ ds) h'.state) (sym z.is) (λ prem.

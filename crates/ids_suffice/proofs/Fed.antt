@@ -18,7 +18,7 @@ use Rattle.plant_laws.specs.plant_model.declared.outcome.Refused.TheVariants.{No
 use Rattle.plant_laws.specs.plant_model.Names.{set_number, set_pair}
 use Rattle.plant_laws.specs.plant_model.Wire.{Bytes, Codec}
 use Rattle.plant_laws.specs.plant_model.Laws.{IsCodec}
-use Rattle.plant_laws.specs.plant_model.Solving.{commit}
+use Rattle.plant_laws.specs.plant_model.Solving.{commit, job_found}
 use Rattle.plant_laws.specs.plant_model.Parent as parent
 use Rattle.plant_laws.specs.plant_model.Settings.{place}
 use Rattle.plant_laws.specs.plant_model.State.{Connection, Access, Pops}
@@ -291,7 +291,7 @@ module _ (c : Codec) (codec : IsCodec c) (few : (frame : Bytes) → 1 ≤ length
     happens_moves (event.Solve d k) h (inr (inl none)) = same_moves 0 _ h none.2 (still s 0 _ refl refl)
     happens_moves (event.Solve d k) h (inr (inr (inl solves))) =
         let x = solves.1 in
-        let r = commit c (place n d) (k, x.held) x.down s.clock (λ b. b.segment) x.rows.source_known x.rows.target_known x.rows.best (s.elements d) in
+        let r = commit c (place n d) (k, x.held) x.down s.clock (λ b. b.segment) (job_found x.rows.source_known x.rows.target_known x.rows.best) (s.elements d) in
         same_moves 0 _ h x.is (fine 0 _ (puts_kept c n (unread_at s) d r.outputs (with_element Pin Segment c n open_of d r.element s) under, omega arith))
     happens_moves (event.Solve d k) h (inr (inr (inr solves))) =
         let x = solves.2 in

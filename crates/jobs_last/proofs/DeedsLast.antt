@@ -226,9 +226,9 @@ module _ (P : Type 0) (S : Type 0) (c : Codec) (n : NetworkParts) (show : S → 
   -- ---- solves
 
   pub solve_lasts : (d : As) (h : Row P) (down : List Branch) (means : Best → S) (source_known target_known : Bool) (best : List Best) (s : State P S) →
-      Lasts s (solve P S c n show d h down means source_known target_known best s).state
+      Lasts s (solve P S c n show d h down means (solving.job_found source_known target_known best) s).state
   solve_lasts d h down means source_known target_known best s =
-      let r = solving.commit c (place n d) h down s.clock means source_known target_known best (s.elements d) in
+      let r = solving.commit c (place n d) h down s.clock means (solving.job_found source_known target_known best) (s.elements d) in
       puts_last d r.outputs s (with_element P S c n show d r.element s)
       (element_lasts d r.element s (elements.commit_lasts c (place n d) h down s.clock means source_known target_known best (s.elements d)))
 

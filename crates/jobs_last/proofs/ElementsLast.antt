@@ -28,8 +28,8 @@ use Rattle.plant_model.specs.Branches.{branches_in}
 use Rattle.disclosure.specs.Policy.{is_denied}
 use Rattle.plant_model.specs.Element.{Stage, Waits, Ready, Item, Row, Way, Element, ElementSettings, Taken, each, ended, waiting, waits_for, way_to, fresh_id, at_stage, stays, upped, downed, ticked, is_client}
 use Rattle.plant_model.specs.Routes.{toward}
-use Rattle.plant_model.specs.Taking.{item_of, sequence_or, goes_up, send_on, take_along, take_path, take_wish, take_new, take_checked, take_asked, staged, answered, made_ready, take_answer, take_reply, told_busy, cancelled, take_busy, take_cancel, notice_steps, take_notice, error_answer, told_error, take_failure, take_errors, take_report, take}
-use Rattle.plant_model.specs.Solving.{commit, client_reply, closed_reply, closed_paths, issued_all, free}
+use Rattle.plant_model.specs.Taking.{item_of, sequence_or, goes_up, send_on, take_along, take_path, take_wish, take_new, take_checked, take_asked, staged, answered, made_ready, take_answer, take_reply, told_busy, cancelled, take_busy, take_cancel, notice_steps, take_notice, error_answer, told_error, take_failure, take_errors, take_report, take, sight, wanting}
+use Rattle.plant_model.specs.Solving.{commit, client_reply, closed_reply, closed_paths, issued_all, free, job_found}
 use Rattle.jobs_last.specs.Lasting.{can_solve}
 use Rattle.jobs_last.proofs.Tables.{In, Becomes, still, and_then, closed, opened, filtered, written}
 
@@ -154,23 +154,23 @@ module _ {P : Type 0} {S : Type 0} where
 
   -- ---- requests
 
-  on_lasts : (pin : P) (p : Peer) (class : Class) (flags x : ℕ) (w : Wanted) (sequence rest : List As) (refused : Bool) (k : Element P S) (o : Option Way) → After k (send_on pin p class flags x w sequence rest refused k o)
+  on_lasts : (pin : P) (p : Peer) (class : Class) (flags x : ℕ) (w : Wanted) (sequence rest : List As) (refused : Bool) (k : Element P S) (o : Option Way) → After k (send_on (sight pin p class) (wanting flags x w) sequence rest refused k o)
   on_lasts pin p class flags x w sequence rest refused k None = stands k
   on_lasts pin p class flags x w sequence rest refused k (Some way) =
       let y = fresh_id way.peer way.last_id k.pending.rows in
       pick k way.up _ _ (pick k refused _ _ (stands k) (opened can_solve p x (item_of pin class flags w sequence (Waits way.peer y)) k.pending, refl)) (stands k)
 
-  along_lasts : (e : ElementSettings) (pin : P) (p : Peer) (class : Class) (flags x : ℕ) (w : Wanted) (k : Element P S) (path : List As) → After k (take_along e pin p class flags x w k path)
+  along_lasts : (e : ElementSettings) (pin : P) (p : Peer) (class : Class) (flags x : ℕ) (w : Wanted) (k : Element P S) (path : List As) → After k (take_along e (sight pin p class) (wanting flags x w) k path)
   along_lasts e pin p class flags x w k [] = stands k
   along_lasts e pin p class flags x w k (a ∷ []) = (opened can_solve p x (item_of pin class flags w (a ∷ []) (Ready [])) k.pending, refl)
   along_lasts e pin p class flags x w k (a ∷ b ∷ rest) = on_lasts pin p class flags x w (a ∷ b ∷ rest) (b ∷ rest) (is_denied e.deny class b) k (way_to (toward b e.routes) k.ways)
 
-  path_lasts : (e : ElementSettings) (pin : P) (p : Peer) (class : Class) (flags x : ℕ) (w : Wanted) (k : Element P S) → After k (take_path e pin p class flags x w k)
+  path_lasts : (e : ElementSettings) (pin : P) (p : Peer) (class : Class) (flags x : ℕ) (w : Wanted) (k : Element P S) → After k (take_path e (sight pin p class) (wanting flags x w) k)
   path_lasts e pin p class flags x w k =
       pick k (goes_up e.parent class w.sequence) _ _ (on_lasts pin p class flags x w [] [] false k (way_to the_parent k.ways))
       (along_lasts e pin p class flags x w k (sequence_or e.own w.sequence))
 
-  wish_lasts : (show : S → List Hop) (e : ElementSettings) (pin : P) (p : Peer) (class : Class) (now flags x : ℕ) (k : Element P S) (w : Wish) → After k (take_wish show e pin p class now flags x k w)
+  wish_lasts : (show : S → List Hop) (e : ElementSettings) (pin : P) (p : Peer) (class : Class) (now flags x : ℕ) (k : Element P S) (w : Wish) → After k (take_wish show e (sight pin p class) now flags x k w)
   wish_lasts show e pin p class now flags x k (Path w) = pick k (is_full k.pending) _ _ (stands k) (path_lasts e pin p class flags x w k)
   wish_lasts show e pin p class now flags x k (Expand key pce) = stands k
 
@@ -220,7 +220,7 @@ module _ {P : Type 0} {S : Type 0} where
   ends now number k = record { lasts = closed can_solve number k.pending; keys = λ before. before }
 
   pub commit_lasts : (c : Codec) (e : ElementSettings) (h : Row P) (down : List Branch) (now : ℕ) (means : Best → S) (source_known target_known : Bool) (best : List Best) (k : Element P S) →
-      Answers now k (commit c e h down now means source_known target_known best k).element
+      Answers now k (commit c e h down now means (job_found source_known target_known best) k).element
   commit_lasts c e h down now means source_known target_known best k =
       pick_answer now k (is_client h.1.item.class) (answered h (client_reply c h down source_known target_known best) k) (closed_reply c e h down now means k best)
       (ends now h.0 k) (go best)

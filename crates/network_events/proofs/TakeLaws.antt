@@ -24,7 +24,7 @@ use Rattle.member_trait.specs.plant_model.Branches.{branches_in}
 use Rattle.disclosure.specs.Policy.{is_denied}
 use Rattle.member_trait.specs.plant_model.Element.{Stage, Waits, Ready, fresh_id, Item, Row, Way, Element, ElementSettings, Taken, each, ended, at_stage, waiting, way_to}
 use Rattle.member_trait.specs.plant_model.Routes.{toward}
-use Rattle.member_trait.specs.plant_model.Taking.{item_of, sequence_or, goes_up, sent_on, send_on, take_along, take_path, take_wish, take_new, take_checked, take_asked, staged, answered, made_ready, take_answer, take_reply, told_busy, cancelled, take_busy, take_cancel, notice_steps, take_notice, error_answer, told_error, take_failure, take_errors, take_report, take}
+use Rattle.member_trait.specs.plant_model.Taking.{item_of, sequence_or, goes_up, sent_on, send_on, take_along, take_path, take_wish, take_new, take_checked, take_asked, staged, answered, made_ready, take_answer, take_reply, told_busy, cancelled, take_busy, take_cancel, notice_steps, take_notice, error_answer, told_error, take_failure, take_errors, take_report, take, sight, wanting}
 use Rattle.member_trait.specs.Owed.{count_by_asker, asked_in}
 use Rattle.network_events.proofs.CountLaws.{one_if, for_each, for_each_is, count_push, count_removed, count_written}
 
@@ -65,30 +65,30 @@ module _ (P : Type 0) (S : Type 0) (test : Peer → Bool) where
   opened_raises p x i t = omega (arith, count_push test t.rows (t.given + 1, record { key = key_of p x; item = i }))
 
   sent_raises : (pin : P) (p : Peer) (class : Class) (flags x : ℕ) (w : Wanted) (sequence rest : List As) (k : Element P S) (way : Way) →
-      Raises (one_if (test p)) k (sent_on pin p class flags x w sequence rest k way)
+      Raises (one_if (test p)) k (sent_on (sight pin p class) (wanting flags x w) sequence rest k way)
   sent_raises pin p class flags x w sequence rest k way = opened_raises p x (item_of pin class flags w sequence (Waits way.peer (fresh_id way.peer way.last_id k.pending.rows))) k.pending
 
   send_raises : (pin : P) (p : Peer) (class : Class) (flags x : ℕ) (w : Wanted) (sequence rest : List As) (refused : Bool) (k : Element P S) (way : Option Way) →
-      Raises (one_if (test p)) k (send_on pin p class flags x w sequence rest refused k way)
+      Raises (one_if (test p)) k (send_on (sight pin p class) (wanting flags x w) sequence rest refused k way)
   send_raises pin p class flags x w sequence rest refused k None = omega arith
   send_raises pin p class flags x w sequence rest refused k (Some way) =
       pick (one_if (test p)) k way.up _ _ (pick (one_if (test p)) k refused _ _ (omega arith) (sent_raises pin p class flags x w sequence rest k way)) (omega arith)
 
   along_raises : (e : ElementSettings) (pin : P) (p : Peer) (class : Class) (flags x : ℕ) (w : Wanted) (k : Element P S) (sequence : List As) →
-      Raises (one_if (test p)) k (take_along e pin p class flags x w k sequence)
+      Raises (one_if (test p)) k (take_along e (sight pin p class) (wanting flags x w) k sequence)
   along_raises e pin p class flags x w k [] = omega arith
   along_raises e pin p class flags x w k (a ∷ []) = opened_raises p x (item_of pin class flags w (a ∷ []) (Ready [])) k.pending
   along_raises e pin p class flags x w k (a ∷ b ∷ rest) = send_raises pin p class flags x w (a ∷ b ∷ rest) (b ∷ rest) (is_denied e.deny class b) k (way_to (toward b e.routes) k.ways)
 
   path_raises : (e : ElementSettings) (pin : P) (p : Peer) (class : Class) (flags x : ℕ) (w : Wanted) (k : Element P S) →
-      Raises (one_if (test p)) k (take_path e pin p class flags x w k)
+      Raises (one_if (test p)) k (take_path e (sight pin p class) (wanting flags x w) k)
   path_raises e pin p class flags x w k =
       pick (one_if (test p)) k (goes_up e.parent class w.sequence) _ _
       (send_raises pin p class flags x w [] [] false k (way_to the_parent k.ways))
       (along_raises e pin p class flags x w k (sequence_or e.own w.sequence))
 
   wish_raises : (show : S → List Hop) (e : ElementSettings) (pin : P) (p : Peer) (class : Class) (now flags x : ℕ) (k : Element P S) (wish : Wish) →
-      Raises (one_if (test p)) k (take_wish show e pin p class now flags x k wish)
+      Raises (one_if (test p)) k (take_wish show e (sight pin p class) now flags x k wish)
   wish_raises show e pin p class now flags x k (Path w) = pick (one_if (test p)) k (is_full k.pending) _ _ (omega arith) (path_raises e pin p class flags x w k)
   wish_raises show e pin p class now flags x k (Expand key pce) = omega arith
 

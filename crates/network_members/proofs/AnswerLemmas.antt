@@ -20,7 +20,7 @@ use Rattle.member_trait.specs.plant_model.Parent as parent
 use Rattle.member_trait.specs.plant_model.Plant.{Pin, Segment, ask, first_pin}
 use Rattle.member_trait.specs.plant_model.RealWire.{wire}
 use Rattle.member_trait.specs.plant_model.Settings.{family, place}
-use Rattle.member_trait.specs.plant_model.Solving.{commit}
+use Rattle.member_trait.specs.plant_model.Solving.{commit, job_found}
 use Rattle.member_trait.specs.Membership.{Membership, Replied, with_element, with_parent}
 use Rattle.pce_element.specs.Committing.{IsOwnJob, commit_held, commit_solved, commit_stage, committed}
 use Rattle.pce_element.specs.Jobs.{Work, job_at, work_for, work_at}
@@ -114,8 +114,8 @@ module _ (d : As) (now : ℕ) (x : Solution) (t : Tiers Pin Segment) (es : List 
       let element_is : b.one.losing.element ≡ (members_of first_pin t).elements d = ap (element_or t.network t.clock d) (sym b.found) in
       let place_is : b.one.place ≡ place t.network d = placed_at t.network d t.elements b.one are.places b.found ∙ ap (place t.network) domain in
       let asked : x.ask ≡ ask wire t.network d (k, a.held) a.down = work.0 ∙ ap (λ (o : As). ask_of o k a.held.item a.down a.held.item.pin.number a.held.item.pin.topology) domain in
-      let taken_is : p.taken ≡ commit wire (place t.network d) (k, a.held) a.down now (λ s. s.segment) x.rows.source_known x.rows.target_known x.rows.best ((members_of first_pin t).elements d) =
-      a.is ∙ ap₂ (λ (e : ElementSettings) (m : Element Pin Segment). commit wire e (k, a.held) a.down now (λ s. s.segment) x.rows.source_known x.rows.target_known x.rows.best m) place_is element_is in
+      let taken_is : p.taken ≡ commit wire (place t.network d) (k, a.held) a.down now (λ s. s.segment) (job_found x.rows.source_known x.rows.target_known x.rows.best) ((members_of first_pin t).elements d) =
+      a.is ∙ ap₂ (λ (e : ElementSettings) (m : Element Pin Segment). commit wire e (k, a.held) a.down now (λ s. s.segment) (job_found x.rows.source_known x.rows.target_known x.rows.best) m) place_is element_is in
       inl (record {
         upper = below;
         held = a.held;

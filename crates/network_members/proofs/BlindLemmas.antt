@@ -18,7 +18,7 @@ use Rattle.member_trait.specs.plant_model.Events.{has_jobs, is_ready_asking, is_
 use Rattle.member_trait.specs.plant_model.Parent as parent
 use Rattle.member_trait.specs.plant_model.RealWire.{wire}
 use Rattle.member_trait.specs.plant_model.Settings.{family, place}
-use Rattle.member_trait.specs.plant_model.Solving.{commit}
+use Rattle.member_trait.specs.plant_model.Solving.{commit, job_found}
 use Rattle.member_trait.specs.Membership.{KeysBefore, Membership, Replied, with_element, with_parent}
 use Rattle.pce_element.specs.Blind.{HasNoJob, IsSolvedBy, stands_for_nothing}
 use Rattle.pce_element.specs.Plans.{Planned}
@@ -71,8 +71,8 @@ module _ (d : As) (k : ℕ) (rows : List BorderRow) (now : ℕ) (t : Tiers Nothi
 
   answers : {D : Type 0} (p : Planned Nothing Nothing D) → IsSolvedBy b.one k rows now p.taken → MemberAnswers t.network now d k rows (members_of nothing_first t) (record { members = with_element d p.taken.element (members_of nothing_first u); outputs = p.taken.outputs })
   answers p a =
-      let taken_is : p.taken ≡ commit wire (place t.network d) (k, a.held) a.down now stands_for_nothing true true a.best ((members_of nothing_first t).elements d) =
-      a.is ∙ ap₂ (λ (e : ElementSettings) (m : Element Nothing Nothing). commit wire e (k, a.held) a.down now stands_for_nothing true true a.best m) place_is element_is in
+      let taken_is : p.taken ≡ commit wire (place t.network d) (k, a.held) a.down now stands_for_nothing (job_found true true a.best) ((members_of nothing_first t).elements d) =
+      a.is ∙ ap₂ (λ (e : ElementSettings) (m : Element Nothing Nothing). commit wire e (k, a.held) a.down now stands_for_nothing (job_found true true a.best) m) place_is element_is in
       inl (record {
         upper = below;
         held = a.held;

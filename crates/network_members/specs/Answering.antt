@@ -20,7 +20,7 @@ use Rattle.member_trait.specs.plant_model.Parent as parent
 use Rattle.member_trait.specs.plant_model.Plant.{Pin, Segment, ask, first_pin}
 use Rattle.member_trait.specs.plant_model.RealWire.{wire}
 use Rattle.member_trait.specs.plant_model.Settings.{family, place}
-use Rattle.member_trait.specs.plant_model.Solving.{commit}
+use Rattle.member_trait.specs.plant_model.Solving.{commit, job_found}
 use Rattle.member_trait.specs.Membership.{Membership, Replied, with_element, with_parent}
 use Rattle.pce_element.specs.Committing.{IsOwnJob, own_part}
 use Rattle.pce_element.specs.Plans.{Planned}
@@ -55,7 +55,7 @@ module _ {P : Type 0} {S : Type 0} where
   -- the answer to a request of an element, and to one of the parent
   abbrev pub solved_below : (Best → S) → NetworkParts → ℕ → As → Row P → List Branch → Bool → Bool → List Best → Membership P S → Replied P S
   solved_below stands n now d h down source_known target_known best ms =
-      let r = commit wire (place n d) h down now stands source_known target_known best (ms.elements d) in
+      let r = commit wire (place n d) h down now stands (job_found source_known target_known best) (ms.elements d) in
       record { members = with_element d r.element ms; outputs = r.outputs }
 
   abbrev pub solved_above : parent.AskingRow → Option Found → Membership P S → Replied P S

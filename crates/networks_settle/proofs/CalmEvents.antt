@@ -170,7 +170,7 @@ module _ (c : Codec) (codec : IsCodec c) (n : NetworkParts) (net : IsNetwork n) 
 
     element_did : (d : As) (k : ℕ) (h : Happened) → ElementSolves c n d k s h → Did h
     element_did d k h x =
-        let r = solving.commit c (place n d) (k, x.held) x.down s.clock (λ b. b.segment) x.rows.source_known x.rows.target_known x.rows.best (s.elements d) in
+        let r = solving.commit c (place n d) (k, x.held) x.down s.clock (λ b. b.segment) (solving.job_found x.rows.source_known x.rows.target_known x.rows.best) (s.elements d) in
         let keeps = calm.tables.elements d x.upper in
         let told = elements.commit_tells Pin Segment (IsUp s d) c (place n d) (k, x.held) x.down s.clock (λ b. b.segment) x.rows.source_known x.rows.target_known x.rows.best (s.elements d)
         (found (IsUp s d) k (s.elements d).pending.rows x.held x.is_held keeps.asked) keeps in

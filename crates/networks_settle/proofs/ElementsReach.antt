@@ -30,8 +30,8 @@ use Rattle.plant_laws.specs.plant_model.Branches.{branches_in}
 use Rattle.disclosure.specs.Policy.{is_denied}
 use Rattle.plant_laws.specs.plant_model.Element.{Stage, Ready, Row, Way, Element, ElementSettings, Taken, silent, only, each, ended, waiting, waits_for, waits_on, way_to, fresh_id, at_stage, stays, is_lost, lost_of, lost_output, lost, upped, downed, is_client}
 use Rattle.plant_laws.specs.plant_model.Routes.{toward}
-use Rattle.plant_laws.specs.plant_model.Taking.{sequence_or, goes_up, send_on, sent_on, take_along, take_path, take_wish, take_new, take_checked, take_asked, staged, answered, made_ready, take_answer, take_reply, told_busy, cancelled, take_busy, take_cancel, notice_steps, take_notice, error_answer, told_error, take_failure, take_errors, take_report, take, denied, expansion}
-use Rattle.plant_laws.specs.plant_model.Solving.{commit, client_reply, closed_reply, closed_paths, issued_all, free}
+use Rattle.plant_laws.specs.plant_model.Taking.{sequence_or, goes_up, send_on, sent_on, take_along, take_path, take_wish, take_new, take_checked, take_asked, staged, answered, made_ready, take_answer, take_reply, told_busy, cancelled, take_busy, take_cancel, notice_steps, take_notice, error_answer, told_error, take_failure, take_errors, take_report, take, denied, expansion, sight, wanting}
+use Rattle.plant_laws.specs.plant_model.Solving.{commit, client_reply, closed_reply, closed_paths, issued_all, free, job_found}
 use Rattle.plant_laws.specs.plant_model.Parent as parent
 use Rattle.plant_laws.proofs.Numbering.Onward.{way_peer}
 use Rattle.networks_settle.specs.Settling.{Reaches, AllReach, KeepsTo, is_ordinary}
@@ -168,7 +168,7 @@ module _ (P : Type 0) (S : Type 0) (Up : As → Type 0) where
     denied_tells flags x k keeps = one p (reply_message flags x unavailable) k reached refl keeps
 
     on_tells : (pin : P) (class : Class) (flags x : ℕ) (w : Wanted) (sequence rest : List As) (refused : Bool) (k : Element P S) (to : Peer) → Keeps k →
-        Tells (send_on pin p class flags x w sequence rest refused k (way_to to k.ways))
+        Tells (send_on (sight pin p class) (wanting flags x w) sequence rest refused k (way_to to k.ways))
     on_tells pin class flags x w sequence rest refused k to keeps = go (way_to to k.ways) refl
       where
         reach : (q : Peer) → parent.is_up (way_to q k.ways) ≡ true → Reaches Up q
@@ -176,10 +176,10 @@ module _ (P : Type 0) (S : Type 0) (Up : As → Type 0) where
         reach (Outside i) up = tt
 
         by : (way : Way) → way_to to k.ways ≡ Some way → (up : Bool) → way.up ≡ up →
-            Tells (cond up (cond refused (denied p flags x k) (sent_on pin p class flags x w sequence rest k way)) (denied p flags x k))
+            Tells (cond up (cond refused (denied p flags x k) (sent_on (sight pin p class) (wanting flags x w) sequence rest k way)) (denied p flags x k))
         by way is false down = denied_tells flags x k keeps
         by way is true up =
-            pick refused (denied p flags x k) (sent_on pin p class flags x w sequence rest k way) (denied_tells flags x k keeps)
+            pick refused (denied p flags x k) (sent_on (sight pin p class) (wanting flags x w) sequence rest k way) (denied_tells flags x k keeps)
             (let y = fresh_id way.peer way.last_id k.pending.rows in
             let reaches : Reaches Up way.peer = subst (Reaches Up) (sym (way_peer to k.ways way is)) (reach to (ap (λ (o : Option Way). parent.is_up o) is ∙ up)) in
             record {
@@ -190,21 +190,21 @@ module _ (P : Type 0) (S : Type 0) (Up : As → Type 0) where
               sends = ((reaches, refl), tt);
             })
 
-        go : (o : Option Way) → way_to to k.ways ≡ o → Tells (send_on pin p class flags x w sequence rest refused k o)
+        go : (o : Option Way) → way_to to k.ways ≡ o → Tells (send_on (sight pin p class) (wanting flags x w) sequence rest refused k o)
         go None is = denied_tells flags x k keeps
         go (Some way) is = by way is way.up refl
 
-    along_tells : (e : ElementSettings) (pin : P) (class : Class) (flags x : ℕ) (w : Wanted) (k : Element P S) (path : List As) → Keeps k → Tells (take_along e pin p class flags x w k path)
+    along_tells : (e : ElementSettings) (pin : P) (class : Class) (flags x : ℕ) (w : Wanted) (k : Element P S) (path : List As) → Keeps k → Tells (take_along e (sight pin p class) (wanting flags x w) k path)
     along_tells e pin class flags x w k [] keeps = denied_tells flags x k keeps
     along_tells e pin class flags x w k (a ∷ []) keeps = record { keeps = record { asked = all_append Up k.pending.rows _ keeps.asked reached; asks = keeps.asks }; sends = tt }
     along_tells e pin class flags x w k (a ∷ b ∷ rest) keeps = on_tells pin class flags x w (a ∷ b ∷ rest) (b ∷ rest) (is_denied e.deny class b) k (toward b e.routes) keeps
 
-    path_tells : (e : ElementSettings) (pin : P) (class : Class) (flags x : ℕ) (w : Wanted) (k : Element P S) → Keeps k → Tells (take_path e pin p class flags x w k)
+    path_tells : (e : ElementSettings) (pin : P) (class : Class) (flags x : ℕ) (w : Wanted) (k : Element P S) → Keeps k → Tells (take_path e (sight pin p class) (wanting flags x w) k)
     path_tells e pin class flags x w k keeps =
         pick (goes_up e.parent class w.sequence) _ _ (on_tells pin class flags x w [] [] false k (Inner parent_as) keeps)
         (along_tells e pin class flags x w k (sequence_or e.own w.sequence) keeps)
 
-    wish_tells : (show : S → List Hop) (e : ElementSettings) (pin : P) (class : Class) (now flags x : ℕ) (k : Element P S) (w : Wish) → Keeps k → Tells (take_wish show e pin p class now flags x k w)
+    wish_tells : (show : S → List Hop) (e : ElementSettings) (pin : P) (class : Class) (now flags x : ℕ) (k : Element P S) (w : Wish) → Keeps k → Tells (take_wish show e (sight pin p class) now flags x k w)
     wish_tells show e pin class now flags x k (Path w) keeps = pick (is_full k.pending) _ _ (one p (busy flags x) k reached refl keeps) (path_tells e pin class flags x w k keeps)
     wish_tells show e pin class now flags x k (Expand key pce) keeps = one p (reply_message flags x (expansion show e class now key pce k)) k reached refl keeps
 
@@ -233,7 +233,7 @@ module _ (P : Type 0) (S : Type 0) (Up : As → Type 0) where
     take_tells c show e pin class now (messages.Other kind) k keeps = quiet k keeps
 
   pub commit_tells : (c : Codec) (e : ElementSettings) (h : Row P) (down : List Branch) (now : ℕ) (means : Best → S) (source_known target_known : Bool) (best : List Best) (k : Element P S) → Reaches Up h.1.key.peer → Keeps k →
-      Tells (commit c e h down now means source_known target_known best k)
+      Tells (commit c e h down now means (job_found source_known target_known best) k)
   commit_tells c e h down now means source_known target_known best k reached keeps =
       pick (is_client h.1.item.class) (answered h (client_reply c h down source_known target_known best) k) (closed_reply c e h down now means k best)
       (client best) (closed best)

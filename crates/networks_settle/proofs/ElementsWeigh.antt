@@ -37,8 +37,8 @@ use Rattle.disclosure.specs.Policy.{is_denied}
 use Rattle.plant_laws.specs.plant_model.Element.{Stage, Waits, Ready, Row, Way, Element, ElementSettings, Taken, silent, only, each, waiting, waits_for, is_waiting, way_to, fresh_id, at_stage, is_client}
 use Rattle.plant_laws.specs.plant_model.declared.route.Route.{Route}
 use Rattle.plant_laws.specs.plant_model.Routes.{toward}
-use Rattle.plant_laws.specs.plant_model.Taking.{item_of, sequence_or, goes_up, send_on, sent_on, take_along, take_path, take_wish, take_new, take_checked, take_asked, staged, answered, made_ready, take_answer, take_reply, told_busy, cancelled, take_busy, take_cancel, notice_steps, take_notice, error_answer, told_error, take_failure, take_errors, take_report, take, denied, expansion}
-use Rattle.plant_laws.specs.plant_model.Solving.{commit, client_reply, closed_reply, closed_paths, issued_all, free}
+use Rattle.plant_laws.specs.plant_model.Taking.{item_of, sequence_or, goes_up, send_on, sent_on, take_along, take_path, take_wish, take_new, take_checked, take_asked, staged, answered, made_ready, take_answer, take_reply, told_busy, cancelled, take_busy, take_cancel, notice_steps, take_notice, error_answer, told_error, take_failure, take_errors, take_report, take, denied, expansion, sight, wanting}
+use Rattle.plant_laws.specs.plant_model.Solving.{commit, client_reply, closed_reply, closed_paths, issued_all, free, job_found}
 use Rattle.plant_laws.proofs.Numbering.Onward.{way_peer}
 use Rattle.plant_laws.proofs.Least.FromElement.{own_sequence, later_sequence, admits_path}
 use Rattle.plant_laws.proofs.WrittenForm.ElementSays.{WaysOk, ways_last, WayOk, way_fits, next_fits, next_some}
@@ -222,17 +222,17 @@ module _ (P : Type 0) (S : Type 0) (c : Codec) (n : NetworkParts) where
         go false more = more
 
     on_less : (pin : P) (a : Asked) (own : As) (flags x : ℕ) (w : Wanted) → Admits c a own flags x w → (b : As) (rest : List As) → IsSequence own (b ∷ rest) → (routes : List Route) (refused : Bool) (k : Element P S) → WaysOk k.ways →
-        Less (10 * length (own ∷ b ∷ rest)) k (send_on pin p class flags x w (own ∷ b ∷ rest) (b ∷ rest) refused k (way_to (toward b routes) k.ways))
+        Less (10 * length (own ∷ b ∷ rest)) k (send_on (sight pin p class) (wanting flags x w) (own ∷ b ∷ rest) (b ∷ rest) refused k (way_to (toward b routes) k.ways))
     on_less pin a own flags x w admits b rest sequence routes refused k ok = go (way_to (toward b routes) k.ways) refl (way_fits (toward b routes) k.ways ok)
       where
-        go : (o : Option Way) → way_to (toward b routes) k.ways ≡ o → WayOk o → Less (10 * length (own ∷ b ∷ rest)) k (send_on pin p class flags x w (own ∷ b ∷ rest) (b ∷ rest) refused k o)
+        go : (o : Option Way) → way_to (toward b routes) k.ways ≡ o → WayOk o → Less (10 * length (own ∷ b ∷ rest)) k (send_on (sight pin p class) (wanting flags x w) (own ∷ b ∷ rest) (b ∷ rest) refused k o)
         go None is fits = denied_less (10 * length (own ∷ b ∷ rest)) flags x k (omega arith) ok
         go (Some way) is fits =
             pick (10 * length (own ∷ b ∷ rest)) k way.up _ _
             (pick (10 * length (own ∷ b ∷ rest)) k refused _ _ (denied_less (10 * length (own ∷ b ∷ rest)) flags x k (omega arith) ok) sent)
             (denied_less (10 * length (own ∷ b ∷ rest)) flags x k (omega arith) ok)
           where
-            sent : Less (10 * length (own ∷ b ∷ rest)) k (sent_on pin p class flags x w (own ∷ b ∷ rest) (b ∷ rest) k way)
+            sent : Less (10 * length (own ∷ b ∷ rest)) k (sent_on (sight pin p class) (wanting flags x w) (own ∷ b ∷ rest) (b ∷ rest) k way)
             sent =
                 let y = fresh_id way.peer way.last_id k.pending.rows in
                 let y_fits = next_fits k.pending.rows (is_waiting way.peer k.pending.rows) way.last_id fits in
@@ -248,18 +248,18 @@ module _ (P : Type 0) (S : Type 0) (c : Codec) (n : NetworkParts) where
     not_up up [] = ap (λ (t : Bool). cond t up false) neighbour
     not_up up (a ∷ rest) = refl
 
-    path_less : (e : ElementSettings) (pin : P) (a : Asked) (flags x : ℕ) (w : Wanted) → Admits c a e.own flags x w → (k : Element P S) → WaysOk k.ways → Less (10 * length (sequence_or e.own w.sequence)) k (take_path e pin p class flags x w k)
+    path_less : (e : ElementSettings) (pin : P) (a : Asked) (flags x : ℕ) (w : Wanted) → Admits c a e.own flags x w → (k : Element P S) → WaysOk k.ways → Less (10 * length (sequence_or e.own w.sequence)) k (take_path e (sight pin p class) (wanting flags x w) k)
     path_less e pin a flags x w admits k ok =
-        subst (λ (t : Bool). Less (10 * length (sequence_or e.own w.sequence)) k (cond t (send_on pin p class flags x w [] [] false k (way_to the_parent k.ways)) (take_along e pin p class flags x w k (sequence_or e.own w.sequence))))
+        subst (λ (t : Bool). Less (10 * length (sequence_or e.own w.sequence)) k (cond t (send_on (sight pin p class) (wanting flags x w) [] [] false k (way_to the_parent k.ways)) (take_along e (sight pin p class) (wanting flags x w) k (sequence_or e.own w.sequence))))
         (sym (not_up e.parent w.sequence))
         (elim (own_sequence e.own w.sequence (codec.own a e.own flags x w admits).2) [
-          | inl short ↦ subst (λ (l : List As). Less (10 * length l) k (take_along e pin p class flags x w k l)) (sym short) alone
+          | inl short ↦ subst (λ (l : List As). Less (10 * length l) k (take_along e (sight pin p class) (wanting flags x w) k l)) (sym short) alone
           | inr long ↦
-              subst (λ (l : List As). Less (10 * length l) k (take_along e pin p class flags x w k l)) (sym long.2)
+              subst (λ (l : List As). Less (10 * length l) k (take_along e (sight pin p class) (wanting flags x w) k l)) (sym long.2)
               (on_less pin a e.own flags x w admits long.0 long.1 long.3 e.routes (is_denied e.deny class long.0) k ok)
         ])
       where
-        alone : Less (10 * length (e.own ∷ [])) k (take_along e pin p class flags x w k (e.own ∷ []))
+        alone : Less (10 * length (e.own ∷ [])) k (take_along e (sight pin p class) (wanting flags x w) k (e.own ∷ []))
         alone = record { ways = ok; weighs = record { least = (let l = opened_length k.pending p x (item_of pin class flags w (e.own ∷ []) (Ready [])) in omega (arith, l)) } }
 
     long_enough : (own : As) (l : List As) → 10 ≤ 10 * length (sequence_or own l)
@@ -269,7 +269,7 @@ module _ (P : Type 0) (S : Type 0) (c : Codec) (n : NetworkParts) where
     asked_less : (show : S → List Hop) (e : ElementSettings) (pin : P) (now : ℕ) (a : Asked) (k : Element P S) → WaysOk k.ways → Less (checked_weight c n e.own (c.check a e.own)) k (take_asked c show e pin p class now a k)
     asked_less show e pin now a k ok = go (c.check a e.own) refl
       where
-        wish : (r : Request) → c.check a e.own ≡ Admitted r → (v : Wish) → r.wish ≡ v → Less (checked_weight c n e.own (Admitted (record r { wish = v }))) k (take_wish show e pin p class now r.flags r.id k v)
+        wish : (r : Request) → c.check a e.own ≡ Admitted r → (v : Wish) → r.wish ≡ v → Less (checked_weight c n e.own (Admitted (record r { wish = v }))) k (take_wish show e (sight pin p class) now r.flags r.id k v)
         wish r is (Path w) asks =
             pick (10 * length (sequence_or e.own w.sequence)) k (is_full k.pending) _ _
             (one (10 * length (sequence_or e.own w.sequence)) 1 p (busy r.flags r.id) k (busy_light c n r.flags r.id) (let l = long_enough e.own w.sequence in omega (arith, l)) ok)
@@ -310,7 +310,7 @@ module _ (P : Type 0) (S : Type 0) (c : Codec) (n : NetworkParts) where
   -- ---- an answered job
 
   pub commit_lighter : (e : ElementSettings) (h : Row P) (down : List Branch) (now : ℕ) (means : Best → S) (source_known target_known : Bool) (best : List Best) (k : Element P S) → suc (length (remove_entry (nat_eq h.0) k.pending.rows)) ≤ length k.pending.rows →
-      (let t = commit c e h down now means source_known target_known best k in IsLighter c n (length k.pending.rows) (length t.element.pending.rows) t.outputs)
+      (let t = commit c e h down now means (job_found source_known target_known best) k in IsLighter c n (length k.pending.rows) (length t.element.pending.rows) t.outputs)
   commit_lighter e h down now means source_known target_known best k closes =
       choose (is_client h.1.item.class) (answered h (client_reply c h down source_known target_known best) k) (closed_reply c e h down now means k best) (client best) (closed best)
     where

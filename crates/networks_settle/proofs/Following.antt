@@ -488,7 +488,7 @@ module _ (c : Codec) (n : NetworkParts) where
     happens_inv s inv (event.Solve d k) h (inr (inl none)) = subst (λ (z : Happened). Inv z.state) (sym none.2) inv
     happens_inv s inv (event.Solve d k) h (inr (inr (inl solves))) =
         let x = solves.1 in
-        let r = solving.commit c (place n d) (k, x.held) x.down s.clock (λ b. b.segment) x.rows.source_known x.rows.target_known x.rows.best (s.elements d) in
+        let r = solving.commit c (place n d) (k, x.held) x.down s.clock (λ b. b.segment) (solving.job_found x.rows.source_known x.rows.target_known x.rows.best) (s.elements d) in
         let t = with_element Pin Segment c n open_of d r.element s in
         subst (λ (z : Happened). Inv z.state) (sym x.is)
         (put_inv d r.outputs t (view_inv s t (element_view d r.element s

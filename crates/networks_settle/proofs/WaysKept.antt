@@ -27,8 +27,8 @@ use Rattle.plant_laws.specs.plant_model.Writing.{reply_message}
 use Rattle.plant_laws.specs.plant_model.Element.{Row, Way, Element, ElementSettings, Taken, each, waiting, way_to, with_last, with_up, fresh_id, is_client}
 use Rattle.plant_laws.specs.plant_model.Routes.{toward}
 use Rattle.plant_laws.specs.plant_model.Taking as taking
-use Rattle.plant_laws.specs.plant_model.Taking.{goes_up, sequence_or, denied, answered, send_on, sent_on, take_along, take_path}
-use Rattle.plant_laws.specs.plant_model.Solving.{commit, client_reply, closed_reply, free}
+use Rattle.plant_laws.specs.plant_model.Taking.{goes_up, sequence_or, denied, answered, send_on, sent_on, take_along, take_path, sight, wanting}
+use Rattle.plant_laws.specs.plant_model.Solving.{commit, client_reply, closed_reply, free, job_found}
 use Rattle.plant_laws.specs.plant_model.BorderGraph.{Found}
 use Rattle.plant_laws.specs.plant_model.Parent as parent
 use Rattle.plant_laws.specs.plant_model.Parent.{Wait, Errand, Family, Parent, ParentTaken, AskingRow, is_up}
@@ -90,22 +90,22 @@ module _ (P : Type 0) (S : Type 0) (c : Codec) (show : S → List Hop) (e : Elem
   each_kept f one [] k = same_view k.ways
   each_kept f one (x ∷ xs) k = view_on (each f xs (f x k).element).element.ways (f x k).element.ways k.ways (each_kept f one xs (f x k).element) (one x k)
 
-  sends_kept : (flags x : ℕ) (w : Wanted) (sequence rest : List As) (refused : Bool) (k : Element P S) (o : Option Way) → Kept k (send_on pin p class flags x w sequence rest refused k o)
+  sends_kept : (flags x : ℕ) (w : Wanted) (sequence rest : List As) (refused : Bool) (k : Element P S) (o : Option Way) → Kept k (send_on (sight pin p class) (wanting flags x w) sequence rest refused k o)
   sends_kept flags x w sequence rest refused k None = same_view k.ways
   sends_kept flags x w sequence rest refused k (Some way) =
       pick k way.up _ (denied p flags x k)
-      (pick k refused (denied p flags x k) (sent_on pin p class flags x w sequence rest k way) (same_view k.ways) (last_view way.peer (fresh_id way.peer way.last_id k.pending.rows) k.ways)) (same_view k.ways)
+      (pick k refused (denied p flags x k) (sent_on (sight pin p class) (wanting flags x w) sequence rest k way) (same_view k.ways) (last_view way.peer (fresh_id way.peer way.last_id k.pending.rows) k.ways)) (same_view k.ways)
 
-  along_kept : (flags x : ℕ) (w : Wanted) (k : Element P S) (s : List As) → Kept k (take_along e pin p class flags x w k s)
+  along_kept : (flags x : ℕ) (w : Wanted) (k : Element P S) (s : List As) → Kept k (take_along e (sight pin p class) (wanting flags x w) k s)
   along_kept flags x w k [] = same_view k.ways
   along_kept flags x w k (a ∷ []) = same_view k.ways
   along_kept flags x w k (a ∷ b ∷ rest) = sends_kept flags x w (a ∷ b ∷ rest) (b ∷ rest) (is_denied e.deny class b) k (way_to (toward b e.routes) k.ways)
 
-  path_kept : (flags x : ℕ) (w : Wanted) (k : Element P S) → Kept k (take_path e pin p class flags x w k)
+  path_kept : (flags x : ℕ) (w : Wanted) (k : Element P S) → Kept k (take_path e (sight pin p class) (wanting flags x w) k)
   path_kept flags x w k =
       pick k (goes_up e.parent class w.sequence) _ _ (sends_kept flags x w [] [] false k (way_to the_parent k.ways)) (along_kept flags x w k (sequence_or e.own w.sequence))
 
-  wish_kept : (flags x : ℕ) (k : Element P S) (y : Wish) → Kept k (taking.take_wish show e pin p class now flags x k y)
+  wish_kept : (flags x : ℕ) (k : Element P S) (y : Wish) → Kept k (taking.take_wish show e (taking.sight pin p class) now flags x k y)
   wish_kept flags x k (Path w) = pick k (is_full k.pending) _ _ (same_view k.ways) (path_kept flags x w k)
   wish_kept flags x k (Expand key pce) = same_view k.ways
 
@@ -175,7 +175,7 @@ module _ (P : Type 0) (S : Type 0) (c : Codec) (show : S → List Hop) (e : Elem
   take_kept (messages.Close why) k = same_view k.ways
   take_kept (messages.Other kind) k = same_view k.ways
 
-  pub commit_kept : (h : Row P) (down : List Branch) (stands : Best → S) (source_known target_known : Bool) (best : List Best) (k : Element P S) → Kept k (commit c e h down now stands source_known target_known best k)
+  pub commit_kept : (h : Row P) (down : List Branch) (stands : Best → S) (source_known target_known : Bool) (best : List Best) (k : Element P S) → Kept k (commit c e h down now stands (job_found source_known target_known best) k)
   commit_kept h down stands source_known target_known best k =
       pick k (is_client h.1.item.class) (answered h (client_reply c h down source_known target_known best) k) (closed_reply c e h down now stands k best) (same_view k.ways) (closed best)
     where

@@ -163,7 +163,7 @@ module _ (c : Codec) (codec : IsCodec c) (n : NetworkParts) (net : IsNetwork n) 
 
     element_less : (d : As) (k : ℕ) (h : Happened) → has_jobs n d ≡ true → ElementSolves c n d k s h → IsLess h
     element_less d k h jobs x =
-        let r = solving.commit c (place n d) (k, x.held) x.down s.clock (λ b. b.segment) x.rows.source_known x.rows.target_known x.rows.best (s.elements d) in
+        let r = solving.commit c (place n d) (k, x.held) x.down s.clock (λ b. b.segment) (solving.job_found x.rows.source_known x.rows.target_known x.rows.best) (s.elements d) in
         let t = with_element Pin Segment c n open_of d r.element s in
         let there : stands d (elements_of n.elements) ≡ true = stands_rows d n.elements ∙ subst (λ (b : Bool). cond b (is_some n.parent) (is_element n d) ≡ true) x.upper jobs in
         let lighter = (elements.commit_lighter Pin Segment c n (place n d) (k, x.held) x.down s.clock (λ b. b.segment) x.rows.source_known x.rows.target_known x.rows.best (s.elements d)

@@ -11,21 +11,21 @@ use Rattle.request_table.specs.Pending.{opened_of}
 use Rattle.pce_common.specs.plant_model.declared.output.Output.{Output}
 use Rattle.pce_common.specs.plant_model.Element.{Element, ElementSettings, Ready, Taken, each, silent, way_to}
 use Rattle.pce_common.specs.plant_model.Routes.{toward}
-use Rattle.pce_common.specs.plant_model.Taking.{item_of, send_on, take_along}
+use Rattle.pce_common.specs.plant_model.Taking.{item_of, send_on, take_along, sight, wanting}
 use Rattle.pce_element.specs.Changes.{IsDraft}
 use Rattle.pce_element.specs.Seen.{Seen}
 use Rattle.pce_element.specs.declared.change.Draft.{Draft}
 
 pub along_next : {P : Type 0} {S : Type 0} → (e : ElementSettings) (pin : P) (p : Peer) (class : Class) (flags x : ℕ) (w : Wanted) (k : Element P S) (sequence : List As) (next : As) → slice_get sequence 1 ≡ Some next →
-    send_on pin p class flags x w sequence (drop 1 sequence) (is_denied e.deny class next) k (way_to (toward next e.routes) k.ways) ≡ take_along e pin p class flags x w k sequence
+    send_on (sight pin p class) (wanting flags x w) sequence (drop 1 sequence) (is_denied e.deny class next) k (way_to (toward next e.routes) k.ways) ≡ take_along e (sight pin p class) (wanting flags x w) k sequence
 along_next e pin p class flags x w k [] next at = absurd (let no : None ≡ Some next = at in cc)
 along_next e pin p class flags x w k (a ∷ []) next at = absurd (let no : None ≡ Some next = at in cc)
 along_next e pin p class flags x w k (a ∷ b ∷ rest) next at =
     let same : Some b ≡ Some next = at in
-    ap (λ (n : As). send_on pin p class flags x w (a ∷ b ∷ rest) (b ∷ rest) (is_denied e.deny class n) k (way_to (toward n e.routes) k.ways)) (let same' : next ≡ b = cc in same')
+    ap (λ (n : As). send_on (sight pin p class) (wanting flags x w) (a ∷ b ∷ rest) (b ∷ rest) (is_denied e.deny class n) k (way_to (toward n e.routes) k.ways)) (let same' : next ≡ b = cc in same')
 
 pub along_own : {P : Type 0} {S : Type 0} → (e : ElementSettings) (pin : P) (p : Peer) (class : Class) (flags x : ℕ) (w : Wanted) (k : Element P S) (sequence : List As) → length sequence ≡ 1 →
-    silent (record k { pending = opened_of k.pending p x (item_of pin class flags w sequence (Ready [])) }) ≡ take_along e pin p class flags x w k sequence
+    silent (record k { pending = opened_of k.pending p x (item_of pin class flags w sequence (Ready [])) }) ≡ take_along e (sight pin p class) (wanting flags x w) k sequence
 along_own e pin p class flags x w k [] one = absurd (omega (arith, one))
 along_own e pin p class flags x w k (a ∷ []) one = refl
 along_own e pin p class flags x w k (a ∷ b ∷ rest) one = absurd (omega (arith, one))

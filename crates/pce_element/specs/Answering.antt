@@ -13,7 +13,7 @@ use Rattle.vspt_tree.specs.declared.branch.Branch.{Branch}
 use Rattle.pce_common.specs.plant_model.Branches.{end_of, onward, open_branch, path_of}
 use Rattle.pce_common.specs.plant_model.Element.{Row, Taken, ended}
 use Rattle.pce_common.specs.plant_model.RealWire.{wire}
-use Rattle.pce_common.specs.plant_model.Solving.{closed_reply, commit}
+use Rattle.pce_common.specs.plant_model.Solving.{closed_reply, commit, job_found}
 use Rattle.pce_common.specs.plant_model.Writing.{no_path}
 use Rattle.pce_element.specs.Changes.{all_issued}
 use Rattle.pce_element.specs.Seen.{Seen}
@@ -42,7 +42,7 @@ pub record AreOf {P : Type 0} {S : Type 0} (s : Seen P S) (number now : ℕ) (ta
 
 -- the change and the answer of a request that is ready with these branches; keys stand for this of each way
 abbrev pub commit_row : {P : Type 0} {S : Type 0} → (Best → S) → Seen P S → Bool → Bool → List Best → ℕ → Row P → List Branch → Taken P S
-commit_row stands s source_known target_known best now h down = commit wire s.place h down now stands source_known target_known best s.losing.element
+commit_row stands s source_known target_known best now h down = commit wire s.place h down now stands (job_found source_known target_known best) s.losing.element
 
 abbrev pub AnswersClosed : {P : Type 0} {S : Type 0} → (Best → S) → Seen P S → List Best → ℕ → Row P → List Branch → Answered S → Type 0
 AnswersClosed stands s best now h down a = AreOf s h.0 now (closed_reply wire s.place h down now stands s.losing.element best) a

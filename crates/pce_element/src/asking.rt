@@ -4,7 +4,7 @@ ghost use Rattle.request_table.specs.Pending.{is_full, number_of};
 ghost use Rattle.pce_common.specs.plant_model.Element.{only, way_to};
 ghost use Rattle.pce_common.specs.plant_model.RealWire.{wire};
 ghost use Rattle.pce_common.specs.plant_model.Writing.{busy};
-ghost use Rattle.pce_common.specs.plant_model.Taking.{denied, expansion, goes_up, send_on, sent_on, sequence_or, take_along, take_asked, take_new, take_path, take_wish};
+ghost use Rattle.pce_common.specs.plant_model.Taking.{denied, expansion, goes_up, send_on, sent_on, sequence_or, take_along, take_asked, take_new, take_path, take_wish, sight, wanting};
 ghost use Rattle.pce_element.specs.Changes.{IsDraft};
 
 use crate::accepted::{Opening, Stage};
@@ -58,7 +58,7 @@ impl<W: World> Element<W> {
     ) -> Result<DraftIn<W>, NoMemory>
         requires new { number_of self.now.losing.element.pending asker.peer asker.id ≡ None }
         requires fits { is_full self.now.losing.element.pending ≡ false }
-        ensures { IfOk result (IsDraft self.now (sent_on self.now.current asker.peer asker.class asker.flags asker.id wanted sequence (drop 1 sequence) self.now.losing.element way.now)) }
+        ensures { IfOk result (IsDraft self.now (sent_on (sight self.now.current asker.peer asker.class) (wanting asker.flags asker.id wanted) sequence (drop 1 sequence) self.now.losing.element way.now)) }
     {
         let on = way.peer();
         let id = self.requests().fresh_id(on, way.last_id());
@@ -95,7 +95,7 @@ impl<W: World> Element<W> {
     ) -> Result<DraftIn<W>, NoMemory>
         requires new { number_of self.now.losing.element.pending asker.peer asker.id ≡ None }
         requires fits { is_full self.now.losing.element.pending ≡ false }
-        ensures { IfOk result (IsDraft self.now (send_on self.now.current asker.peer asker.class asker.flags asker.id wanted sequence (drop 1 sequence) refused self.now.losing.element (way_to to self.now.losing.element.ways))) }
+        ensures { IfOk result (IsDraft self.now (send_on (sight self.now.current asker.peer asker.class) (wanting asker.flags asker.id wanted) sequence (drop 1 sequence) refused self.now.losing.element (way_to to self.now.losing.element.ways))) }
     {
         let Some(way) = self.way_to(to) else {
             return self.denied(asker);
@@ -112,7 +112,7 @@ impl<W: World> Element<W> {
         requires new { number_of self.now.losing.element.pending asker.peer asker.id ≡ None }
         requires fits { is_full self.now.losing.element.pending ≡ false }
         requires own { length sequence ≡ 1 }
-        ensures { IsDraft self.now (take_along self.now.place self.now.current asker.peer asker.class asker.flags asker.id wanted self.now.losing.element sequence) result }
+        ensures { IsDraft self.now (take_along self.now.place (sight self.now.current asker.peer asker.class) (wanting asker.flags asker.id wanted) self.now.losing.element sequence) result }
     {
         let opening = Opening {
             class: asker.class,
@@ -141,7 +141,7 @@ impl<W: World> Element<W> {
         requires new { number_of self.now.losing.element.pending asker.peer asker.id ≡ None }
         requires fits { is_full self.now.losing.element.pending ≡ false }
         requires begins { 1 ≤ length sequence }
-        ensures { IfOk result (IsDraft self.now (take_along self.now.place self.now.current asker.peer asker.class asker.flags asker.id wanted self.now.losing.element sequence)) }
+        ensures { IfOk result (IsDraft self.now (take_along self.now.place (sight self.now.current asker.peer asker.class) (wanting asker.flags asker.id wanted) self.now.losing.element sequence)) }
     {
         match sequence.as_slice().get(1) {
             Some(next) => {
@@ -167,7 +167,7 @@ impl<W: World> Element<W> {
     fn take_path(&self, asker: Asker, wanted: Wanted) -> Result<DraftIn<W>, NoMemory>
         requires new { number_of self.now.losing.element.pending asker.peer asker.id ≡ None }
         requires fits { is_full self.now.losing.element.pending ≡ false }
-        ensures { IfOk result (IsDraft self.now (take_path self.now.place self.now.current asker.peer asker.class asker.flags asker.id wanted self.now.losing.element)) }
+        ensures { IfOk result (IsDraft self.now (take_path self.now.place (sight self.now.current asker.peer asker.class) (wanting asker.flags asker.id wanted) self.now.losing.element)) }
     {
         if goes_up(self.has_parent(), asker.class, wanted.sequence.as_slice()) {
             let none = List::new(self.alloc);
@@ -204,7 +204,7 @@ impl<W: World> Element<W> {
     ) -> Result<DraftIn<W>, NoMemory>
         requires new { number_of self.now.losing.element.pending asker.peer asker.id ≡ None }
         requires notice { IsDraft self.now (only asker.peer (busy asker.flags asker.id) self.now.losing.element) notice }
-        ensures draft { IfOk result (IsDraft self.now (cond (is_full self.now.losing.element.pending) (only asker.peer (busy asker.flags asker.id) self.now.losing.element) (take_path self.now.place self.now.current asker.peer asker.class asker.flags asker.id wanted self.now.losing.element))) }
+        ensures draft { IfOk result (IsDraft self.now (cond (is_full self.now.losing.element.pending) (only asker.peer (busy asker.flags asker.id) self.now.losing.element) (take_path self.now.place (sight self.now.current asker.peer asker.class) (wanting asker.flags asker.id wanted) self.now.losing.element))) }
         ensures full { is_full self.now.losing.element.pending ≡ true → IsOk result }
     {
         if self.requests().is_full() {
@@ -216,7 +216,7 @@ impl<W: World> Element<W> {
     // The notice is made before the table is looked at, so that want of memory leaves no full table unanswered.
     fn take_wish(&self, asker: Asker, wish: Wish, now: Tick) -> Result<DraftIn<W>, NoMemory>
         requires { number_of self.now.losing.element.pending asker.peer asker.id ≡ None }
-        ensures { IfOk result (IsDraft self.now (take_wish W.show self.now.place self.now.current asker.peer asker.class now.0 asker.flags asker.id self.now.losing.element wish)) }
+        ensures { IfOk result (IsDraft self.now (take_wish W.show self.now.place (sight self.now.current asker.peer asker.class) now.0 asker.flags asker.id self.now.losing.element wish)) }
     {
         match wish {
             Wish::Path(wanted) => {

@@ -32,7 +32,7 @@ use Rattle.plant_laws.specs.plant_model.Parent as parent
 use Rattle.plant_laws.specs.plant_model.Plant.{ElementSolves, Happened, Happens, ParentSolves, Pin, Plant, Segment, Steps, is_full, load_new}
 use Rattle.plant_laws.specs.plant_model.RealWire.{wire}
 use Rattle.plant_laws.specs.plant_model.Settings.{place}
-use Rattle.plant_laws.specs.plant_model.Solving.{commit}
+use Rattle.plant_laws.specs.plant_model.Solving.{commit, job_found}
 use Rattle.plant_laws.specs.plant_model.State.{Access, Connection, Hands, Pops, Solves}
 use Rattle.plant_laws.specs.plant_model.Wire.{Bytes}
 use Rattle.peer_laws.specs.Inlets.{IsPart, fed_to, streams_with}
@@ -176,7 +176,7 @@ module _ (n : NetworkParts) where
 
   solve_went : (str : Streams) (d : As) (k : ℕ) (s : Plant) (h : Happened) → AllHeld str s → ElementSolves wire n d k s h → Went str s (event.Solve d k) h
   solve_went str d k s h held x =
-      let r = commit wire (place n d) (k, x.held) x.down s.clock (λ b. b.segment) x.rows.source_known x.rows.target_known x.rows.best (s.elements d) in
+      let r = commit wire (place n d) (k, x.held) x.down s.clock (λ b. b.segment) (job_found x.rows.source_known x.rows.target_known x.rows.best) (s.elements d) in
       let u = with_element Pin Segment wire n open_of d r.element s in
       let g : Going Pin Segment = record { state = puts Pin Segment wire n open_of d r.outputs u; deeds = Solves d k r.outputs r.element.keys.issued ∷ [] } in
       let all = done str s g held (fading.sends Pin Segment wire n open_of (IsOf str) s d r.outputs (start s) u (Solves d k r.outputs r.element.keys.issued) refl tt (begin str s)) in

@@ -23,7 +23,7 @@ use Rattle.dom_base.specs.declared.names.Tick.{Tick}
 use Rattle.plant_laws.specs.plant_model.Settings.{place}
 use Rattle.plant_laws.specs.plant_model.Wire.{Bytes, Codec}
 use Rattle.plant_laws.specs.plant_model.Blind.{is_accepted}
-use Rattle.plant_laws.specs.plant_model.Solving.{commit}
+use Rattle.plant_laws.specs.plant_model.Solving.{commit, job_found}
 use Rattle.plant_laws.specs.plant_model.Parent as parent
 use Rattle.plant_laws.specs.plant_model.State.{Access, Connection, Hands, Loads, Pops, Solves}
 use Rattle.plant_laws.specs.plant_model.Deeds.{Going, break_adjacency, element_of, fall, input_of, on_connection, outside_input, inner_input, our_offer, expire, tick_adjacencies, tick_outside, with_access, with_element, with_inbox, with_parent, puts}
@@ -261,7 +261,7 @@ module _ (c : Codec) (n : NetworkParts) where
 
   solve_went : (d : As) (k : ℕ) (s : Plant) (h : Happened) → ElementSolves c n d k s h → Went s (event.Solve d k) h
   solve_went d k s h x =
-      let r = commit c (place n d) (k, x.held) x.down s.clock (λ b. b.segment) x.rows.source_known x.rows.target_known x.rows.best (s.elements d) in
+      let r = commit c (place n d) (k, x.held) x.down s.clock (λ b. b.segment) (job_found x.rows.source_known x.rows.target_known x.rows.best) (s.elements d) in
       let u = with_element Pin Segment c n open_of d r.element s in
       let g : Going Pin Segment = record { state = puts Pin Segment c n open_of d r.outputs u; deeds = Solves d k r.outputs r.element.keys.issued ∷ [] } in
       subst (Went s (event.Solve d k)) (sym x.is)

@@ -31,6 +31,7 @@ use Rattle.plant_model.specs.Parent as parent
 use Rattle.plant_text.specs.Settings.{class_of}
 use Rattle.plant_model.specs.Settings.{family}
 use Rattle.plant_model.specs.State.{State, Deed, sent_in, Hands}
+use Rattle.plant_model.specs.Solving.{job_found}
 use Rattle.plant_model.specs.Deeds as deeds
 use Rattle.plant_model.specs.Deeds.{Going}
 use Rattle.plant_model.specs.Events as events
@@ -83,7 +84,7 @@ module _ (c : Codec) (n : NetworkParts) where
     pub ready : held.item.stage ≡ Ready down
     pub best : List Best
     pub joined : Joined held.item rows down best
-    pub is : h ≡ done (deeds.solve Nothing Nothing c n show_nothing d (k, held) down (λ b. tt) true true best s)
+    pub is : h ≡ done (deeds.solve Nothing Nothing c n show_nothing d (k, held) down (λ b. tt) (job_found true true best) s)
 
   pub record BlindUpperSolves (k : ℕ) (s : BlindState) (h : BlindHappened) : Type 0 where
     pub held : Held parent.Asking

@@ -31,6 +31,7 @@ use Rattle.plant_model.specs.Parent as parent
 use Rattle.plant_text.specs.Settings.{is_element}
 use Rattle.plant_model.specs.Settings.{family}
 use Rattle.plant_model.specs.State.{State, Deed, Loads}
+use Rattle.plant_model.specs.Solving.{job_found}
 use Rattle.plant_model.specs.Deeds as deeds
 use Rattle.plant_model.specs.Deeds.{Going}
 use Rattle.plant_model.specs.Events as events
@@ -99,7 +100,7 @@ module _ (c : Codec) (n : NetworkParts) where
   -- A job of an element that was solved by these rows is answered, and keys stand for their segments.
   abbrev pub solved : As → Row Pin → List Branch → Answer → Plant → Happened
   solved d h down rows s =
-      done (deeds.solve Pin Segment c n open_of d h down (λ b. b.segment) rows.source_known rows.target_known rows.best s)
+      done (deeds.solve Pin Segment c n open_of d h down (λ b. b.segment) (job_found rows.source_known rows.target_known rows.best) s)
 
   abbrev pub parent_solved : parent.AskingRow → Option Found → Plant → Happened
   parent_solved h a s = done (deeds.solve_upper Pin Segment c n open_of h a s)

@@ -43,7 +43,18 @@ closed_reply c e h down now stands k (b ∷ bs) =
     (reply_message h.1.item.flags h.1.key.id (Paths (closed_paths c e.id h.1.item.wanted.query.metric h.1.item.wanted.target down k.keys.next (b ∷ bs))))
     (record k { keys = issued_all now stands (b ∷ bs) k.keys }))
 
+-- what the search for a job found: whether the ends of the path are nodes here, and the best ways
+pub record JobFound : Type 0 where
+  pub source_known : Bool
+  pub target_known : Bool
+  pub best : List Best
+
+abbrev pub job_found : Bool → Bool → List Best → JobFound
+job_found source_known target_known best = record { source_known = source_known; target_known = target_known; best = best }
+
 -- The answer to the asker, and the element after it.
-abbrev pub commit : {P : Type 0} {S : Type 0} → Codec → ElementSettings → Row P → List Branch → ℕ → (Best → S) → Bool → Bool → List Best → Element P S → Taken P S
-commit c e h down now stands source_known target_known best k =
-    cond (is_client h.1.item.class) (answered h (client_reply c h down source_known target_known best) k) (closed_reply c e h down now stands k best)
+abbrev pub commit : {P : Type 0} {S : Type 0} → Codec → ElementSettings → Row P → List Branch → ℕ → (Best → S) → JobFound → Element P S → Taken P S
+commit c e h down now stands found k =
+    cond (is_client h.1.item.class)
+    (answered h (client_reply c h down found.source_known found.target_known found.best) k)
+    (closed_reply c e h down now stands k found.best)

@@ -41,39 +41,63 @@ abbrev pub goes_up : Bool → Class → List As → Bool
 goes_up parent class (a ∷ rest) = false
 goes_up parent class [] = cond (is_client class) parent false
 
+-- what an element sees of a message beside its text: what a request in it would pin, who sent it, and what that peer is to the domain
+pub record Sight (P : Type 0) : Type 0 where
+  pub pin : P
+  pub peer : Peer
+  pub class : Class
+
+abbrev pub sight : {P : Type 0} → P → Peer → Class → Sight P
+sight pin p class = record { pin = pin; peer = p; class = class }
+
+-- what was asked: a path, by a request with these flags and this id
+pub record Wanting : Type 0 where
+  pub flags : ℕ
+  pub id : ℕ
+  pub wanted : Wanted
+
+abbrev pub wanting : ℕ → ℕ → Wanted → Wanting
+wanting flags x w = record { flags = flags; id = x; wanted = w }
+
 abbrev pub item_of : {P : Type 0} → P → Class → ℕ → Wanted → List As → Stage → Item P
 item_of pin class flags w sequence stage = record { class = class; flags = flags; wanted = w; sequence = sequence; pin = pin; stage = stage }
 
 -- the request waits on a peer, to which it was sent under a new id
-abbrev pub sent_on : {P : Type 0} {S : Type 0} → P → Peer → Class → ℕ → ℕ → Wanted → List As → List As → Element P S → Way → Taken P S
-sent_on pin p class flags x w sequence rest k way =
+abbrev pub sent_on : {P : Type 0} {S : Type 0} → Sight P → Wanting → List As → List As → Element P S → Way → Taken P S
+sent_on seen a sequence rest k way =
     let y = fresh_id way.peer way.last_id k.pending.rows in
     record {
-      element = record k { pending = opened_of k.pending p x (item_of pin class flags w sequence (Waits way.peer y)); ways = with_last way.peer y k.ways };
-      outputs = record { to = way.peer; message = request_message y w w.target rest } ∷ [];
+      element = record k {
+        pending = opened_of k.pending seen.peer a.id (item_of seen.pin seen.class a.flags a.wanted sequence (Waits way.peer y));
+        ways = with_last way.peer y k.ways;
+      };
+      outputs = record { to = way.peer; message = request_message y a.wanted a.wanted.target rest } ∷ [];
     }
 
 abbrev pub denied : {P : Type 0} {S : Type 0} → Peer → ℕ → ℕ → Element P S → Taken P S
 denied p flags x k = only p (reply_message flags x unavailable) k
 
 -- by the way there, where there is one
-abbrev pub send_on : {P : Type 0} {S : Type 0} → P → Peer → Class → ℕ → ℕ → Wanted → List As → List As → Bool → Element P S → Option Way → Taken P S
-send_on pin p class flags x w sequence rest refused k None = denied p flags x k
-send_on pin p class flags x w sequence rest refused k (Some way) =
-    cond way.up (cond refused (denied p flags x k) (sent_on pin p class flags x w sequence rest k way)) (denied p flags x k)
+abbrev pub send_on : {P : Type 0} {S : Type 0} → Sight P → Wanting → List As → List As → Bool → Element P S → Option Way → Taken P S
+send_on seen a sequence rest refused k None = denied seen.peer a.flags a.id k
+send_on seen a sequence rest refused k (Some way) =
+    cond way.up
+    (cond refused (denied seen.peer a.flags a.id k) (sent_on seen a sequence rest k way))
+    (denied seen.peer a.flags a.id k)
 
 -- along a sequence that begins with the own domain
-abbrev pub take_along : {P : Type 0} {S : Type 0} → ElementSettings → P → Peer → Class → ℕ → ℕ → Wanted → Element P S → List As → Taken P S
-take_along e pin p class flags x w k [] = denied p flags x k
-take_along e pin p class flags x w k (a ∷ []) = silent (record k { pending = opened_of k.pending p x (item_of pin class flags w (a ∷ []) (Ready [])) })
-take_along e pin p class flags x w k (a ∷ b ∷ rest) =
-    send_on pin p class flags x w (a ∷ b ∷ rest) (b ∷ rest) (is_denied e.deny class b) k (way_to (toward b e.routes) k.ways)
+abbrev pub take_along : {P : Type 0} {S : Type 0} → ElementSettings → Sight P → Wanting → Element P S → List As → Taken P S
+take_along e seen a k [] = denied seen.peer a.flags a.id k
+take_along e seen a k (own ∷ []) =
+    silent (record k { pending = opened_of k.pending seen.peer a.id (item_of seen.pin seen.class a.flags a.wanted (own ∷ []) (Ready [])) })
+take_along e seen a k (own ∷ next ∷ rest) =
+    send_on seen a (own ∷ next ∷ rest) (next ∷ rest) (is_denied e.deny seen.class next) k (way_to (toward next e.routes) k.ways)
 
-abbrev pub take_path : {P : Type 0} {S : Type 0} → ElementSettings → P → Peer → Class → ℕ → ℕ → Wanted → Element P S → Taken P S
-take_path e pin p class flags x w k =
-    cond (goes_up e.parent class w.sequence)
-    (send_on pin p class flags x w [] [] false k (way_to the_parent k.ways))
-    (take_along e pin p class flags x w k (sequence_or e.own w.sequence))
+abbrev pub take_path : {P : Type 0} {S : Type 0} → ElementSettings → Sight P → Wanting → Element P S → Taken P S
+take_path e seen a k =
+    cond (goes_up e.parent seen.class a.wanted.sequence)
+    (send_on seen a [] [] false k (way_to the_parent k.ways))
+    (take_along e seen a k (sequence_or e.own a.wanted.sequence))
 
 -- A key's expansion (RFC 5520, section 3.2): what the key stands for is shown, or one and the same refusal.
 abbrev pub expansion_of : {S : Type 0} → (S → List Hop) → Option S → Answer
@@ -84,15 +108,15 @@ abbrev pub expansion : {P : Type 0} {S : Type 0} → (S → List Hop) → Elemen
 expansion show e class now key pce k =
     cond (same_addr pce e.id) (cond (can_expand class) (expansion_of show (segment_of k.keys now key)) no_key) no_key
 
-abbrev pub take_wish : {P : Type 0} {S : Type 0} → (S → List Hop) → ElementSettings → P → Peer → Class → ℕ → ℕ → ℕ → Element P S → Wish → Taken P S
-take_wish show e pin p class now flags x k (Path w) =
-    cond (is_full k.pending) (only p (busy flags x) k) (take_path e pin p class flags x w k)
-take_wish show e pin p class now flags x k (Expand key pce) = only p (reply_message flags x (expansion show e class now key pce k)) k
+abbrev pub take_wish : {P : Type 0} {S : Type 0} → (S → List Hop) → ElementSettings → Sight P → ℕ → ℕ → ℕ → Element P S → Wish → Taken P S
+take_wish show e seen now flags x k (Path w) =
+    cond (is_full k.pending) (only seen.peer (busy flags x) k) (take_path e seen (wanting flags x w) k)
+take_wish show e seen now flags x k (Expand key pce) = only seen.peer (reply_message flags x (expansion show e seen.class now key pce k)) k
 
 -- a request that is pending already is answered once only
 abbrev pub take_new : {P : Type 0} {S : Type 0} → (S → List Hop) → ElementSettings → P → Peer → Class → ℕ → Request → Element P S → Option ℕ → Taken P S
 take_new show e pin p class now r k (Some number) = silent k
-take_new show e pin p class now r k None = take_wish show e pin p class now r.flags r.id k r.wish
+take_new show e pin p class now r k None = take_wish show e (sight pin p class) now r.flags r.id k r.wish
 
 abbrev pub take_checked : {P : Type 0} {S : Type 0} → (S → List Hop) → ElementSettings → P → Peer → Class → ℕ → Element P S → Checked → Taken P S
 take_checked show e pin p class now k (Wrong rp kind value) = only p (error_message rp kind value) k

@@ -16,7 +16,7 @@ use Rattle.network_events.specs.plant_model.BorderGraph.{Found}
 use Rattle.network_events.specs.plant_model.Element.{Element, Item, ElementSettings, Row, Taken, is_client}
 use Rattle.network_events.specs.plant_model.Parent as parent
 use Rattle.network_events.specs.plant_model.RealWire.{wire}
-use Rattle.network_events.specs.plant_model.Solving.{client_reply, closed_paths, closed_reply, commit, free, issued_all}
+use Rattle.network_events.specs.plant_model.Solving.{client_reply, closed_paths, closed_reply, commit, free, issued_all, job_found}
 use Rattle.network_events.specs.plant_model.Taking.{answered}
 use Rattle.network_events.specs.plant_model.Writing.{busy, reply_message}
 use Rattle.network_events.specs.member_trait.Membership.{Membership, with_element, with_parent}
@@ -39,7 +39,7 @@ module _ {P : Type 0} {S : Type 0} where
       go true = record { message = busy h.1.item.flags h.1.key.id; outputs = refl; ends = refl }
       go false = record { message = reply_message h.1.item.flags h.1.key.id (Paths (closed_paths wire e.id h.1.item.wanted.query.metric h.1.item.wanted.target down k.keys.next (b ∷ bs))); outputs = refl; ends = refl }
 
-  commit_ends : (e : ElementSettings) (h : Row P) (down : List Branch) (now : ℕ) (stands : Best → S) (source_known target_known : Bool) (best : List Best) (k : Element P S) → Ends h k (commit wire e h down now stands source_known target_known best k)
+  commit_ends : (e : ElementSettings) (h : Row P) (down : List Branch) (now : ℕ) (stands : Best → S) (source_known target_known : Bool) (best : List Best) (k : Element P S) → Ends h k (commit wire e h down now stands (job_found source_known target_known best) k)
   commit_ends e h down now stands source_known target_known best k = go (is_client h.1.item.class)
     where
       go : (c : Bool) → Ends h k (cond c (answered h (client_reply wire h down source_known target_known best) k) (closed_reply wire e h down now stands k best))
@@ -58,10 +58,10 @@ commit_ends_above h (Some a) k = record { message = _; outputs = refl; ends = re
 module _ {P : Type 0} {S : Type 0} (n : NetworkParts) (ms : Membership P S) where
   pub element_answer : (e : ElementSettings) (now : ℕ) (d : As) (k : ℕ) (held : Asked (Item P)) (down : List Branch) (stands : Best → S) (source_known target_known : Bool) (best : List Best) →
       same_as d parent_as ≡ false → lookup (nat_eq k) (ms.elements d).pending.rows ≡ Some held →
-      IsAnswer n d (commit wire e (k, held) down now stands source_known target_known best (ms.elements d)).outputs ms
-      (with_element d (commit wire e (k, held) down now stands source_known target_known best (ms.elements d)).element ms)
+      IsAnswer n d (commit wire e (k, held) down now stands (job_found source_known target_known best) (ms.elements d)).outputs ms
+      (with_element d (commit wire e (k, held) down now stands (job_found source_known target_known best) (ms.elements d)).element ms)
   element_answer e now d k held down stands source_known target_known best below found =
-      let t = commit wire e (k, held) down now stands source_known target_known best (ms.elements d) in
+      let t = commit wire e (k, held) down now stands (job_found source_known target_known best) (ms.elements d) in
       let ends : Ends (k, held) (ms.elements d) t = commit_ends e (k, held) down now stands source_known target_known best (ms.elements d) in
       record {
         to = held.key.peer;

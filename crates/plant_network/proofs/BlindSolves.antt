@@ -15,7 +15,7 @@ use Rattle.network_events.specs.plant_model.Events.{has_jobs}
 use Rattle.network_events.specs.plant_model.Parent as parent
 use Rattle.network_events.specs.plant_model.RealWire.{wire}
 use Rattle.network_events.specs.plant_model.Settings.{place}
-use Rattle.network_events.specs.plant_model.Solving.{commit}
+use Rattle.network_events.specs.plant_model.Solving.{commit, job_found}
 use Rattle.network_events.specs.plant_model.State.{Deed, Solves, said, sent_by}
 use Rattle.network_events.specs.network_links.Carried.{Carried, flow_of}
 use Rattle.network_events.specs.network_links.Flow.{Flow}
@@ -84,7 +84,7 @@ module _ (n : NetworkParts) (d : As) (k : ℕ) (rows : List BorderRow) (ms ms' :
   }
     where
       t : Taken Nothing Nothing
-      t = commit wire (place n d) (k, a.held) a.down f.clock stands_for_nothing true true a.best (ms.elements d)
+      t = commit wire (place n d) (k, a.held) a.down f.clock stands_for_nothing (job_found true true a.best) (ms.elements d)
 
       state_is : state_of ms' f' ≡ deeds.puts Nothing Nothing wire n show_nothing d t.outputs (state_of (with_element d t.element ms) f)
       state_is =

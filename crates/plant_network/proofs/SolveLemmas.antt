@@ -15,7 +15,7 @@ use Rattle.network_events.specs.plant_model.Parent as parent
 use Rattle.network_events.specs.plant_model.Plant.{Pin, Plant, PlantDeed, Happened, Segment, Steps, first_pin}
 use Rattle.network_events.specs.plant_model.RealWire.{wire}
 use Rattle.network_events.specs.plant_model.Settings.{place}
-use Rattle.network_events.specs.plant_model.Solving.{commit}
+use Rattle.network_events.specs.plant_model.Solving.{commit, job_found}
 use Rattle.network_events.specs.plant_model.State.{Solves, said, sent_by}
 use Rattle.network_events.specs.network_links.Carried.{Carried, flow_of}
 use Rattle.network_events.specs.network_links.Flow.{Flow, SameFlow}
@@ -79,7 +79,7 @@ module _ (n : NetworkParts) (d : As) (k : ℕ) (ms ms' : Membership Pin Segment)
   }
     where
       t : Taken Pin Segment
-      t = commit wire (place n d) (k, a.held) a.down f.clock (λ b. b.segment) a.rows.source_known a.rows.target_known a.rows.best (ms.elements d)
+      t = commit wire (place n d) (k, a.held) a.down f.clock (λ b. b.segment) (job_found a.rows.source_known a.rows.target_known a.rows.best) (ms.elements d)
 
       state_is : state_of ms' f' ≡ deeds.puts Pin Segment wire n open_of d t.outputs (state_of (with_element d t.element ms) f)
       state_is =

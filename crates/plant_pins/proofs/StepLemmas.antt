@@ -23,7 +23,7 @@ use Rattle.plant_laws.specs.plant_model.Events as events
 use Rattle.plant_laws.specs.plant_model.Parent as parent
 use Rattle.plant_laws.specs.plant_model.Plant.{Pin, Segment, Plant, Happened, Steps, Happens, load, load_new, is_full, refused, ElementSolves, ParentSolves}
 use Rattle.plant_laws.specs.plant_model.Settings.{place, family}
-use Rattle.plant_laws.specs.plant_model.Solving.{commit}
+use Rattle.plant_laws.specs.plant_model.Solving.{commit, job_found}
 use Rattle.plant_laws.specs.plant_model.State.{Pops, Takes, Ups, Downs}
 use Rattle.plant_laws.specs.plant_model.Taking.{take}
 use Rattle.plant_laws.specs.plant_model.Wire.{Codec}
@@ -185,7 +185,7 @@ module _ (known : Known) where
 
     solve_kept : (s : Plant) (d : As) (k : ℕ) (h : Happened) → ElementSolves c n d k s h → Kept s h.state
     solve_kept s d k h x =
-        let r = commit c (place n d) (k, x.held) x.down s.clock (λ b. b.segment) x.rows.source_known x.rows.target_known x.rows.best (s.elements d) in
+        let r = commit c (place n d) (k, x.held) x.down s.clock (λ b. b.segment) (job_found x.rows.source_known x.rows.target_known x.rows.best) (s.elements d) in
         let v = with_element Pin Segment c n open_of d r.element s in
         subst (λ (h' : Happened). Kept s h'.state) (sym x.is)
         (record {

@@ -22,7 +22,7 @@ use Rattle.path_keys.specs.declared.issued.Issued.{Issued}
 use Rattle.path_keys.specs.Keys.{Keys, segment_of, issue_of, live_at, number_after}
 use Rattle.plant_model.specs.Writing.{reply_message, error_message, busy, no_key}
 use Rattle.plant_model.specs.Element.{Element, ElementSettings, Taken, silent, only, each, waiting, is_client}
-use Rattle.plant_model.specs.Taking.{take, take_asked, take_checked, take_new, take_wish, take_path, take_reply, take_notice, notice_steps, take_busy, take_cancel, take_errors, take_failure, take_report, expansion, expansion_of}
+use Rattle.plant_model.specs.Taking.{take, take_asked, take_checked, take_new, take_wish, take_path, take_reply, take_notice, notice_steps, take_busy, take_cancel, take_errors, take_failure, take_report, expansion, expansion_of, sight, wanting}
 use Rattle.plant_model.specs.Solving.{issued_all}
 use Rattle.plant_text.specs.Settings.{class_of}
 use Rattle.plant_model.specs.Blind.{is_closed}
@@ -100,13 +100,13 @@ module _ (P : Type 0) (S : Type 0) (Q : Type 0) (view : P → Q) (n : NetworkPar
   full_same k = ap (λ (l : ℕ). nat_le k.pending.limit l || (k.pending.given == 2 ^ 64 - 1)) (bare_length P S Q view k.pending.rows)
 
   wish_alike : (show : S → List Hop) (e : ElementSettings) (pin : P) (p : Peer) (now flags x : ℕ) (k : Element P S) (w : Wish) →
-      Alike (take_wish show e pin p (class_of n p) now flags x k w) (take_wish (λ u. []) e (view pin) p (class_of n p) now flags x (bare view k) w)
+      Alike (take_wish show e (sight pin p (class_of n p)) now flags x k w) (take_wish (λ u. []) e (sight (view pin) p (class_of n p)) now flags x (bare view k) w)
   wish_alike show e pin p now flags x k (Expand key pce) = expansion_alike show e p now flags x key pce k
   wish_alike show e pin p now flags x k (Path w) =
-      from_same (take_wish show e pin p (class_of n p) now flags x k (Path w)) (take_wish (λ u. []) e (view pin) p (class_of n p) now flags x (bare view k) (Path w))
-      (ap (λ b. cond b (only p (busy flags x) (bare view k)) (take_path e (view pin) p (class_of n p) flags x w (bare view k))) (full_same k)
+      from_same (take_wish show e (sight pin p (class_of n p)) now flags x k (Path w)) (take_wish (λ u. []) e (sight (view pin) p (class_of n p)) now flags x (bare view k) (Path w))
+      (ap (λ b. cond b (only p (busy flags x) (bare view k)) (take_path e (sight (view pin) p (class_of n p)) (wanting flags x w) (bare view k))) (full_same k)
       ∙ ap (λ t. cond (is_full k.pending) (only p (busy flags x) (bare view k)) t) (bare_path P S Q view e pin p (class_of n p) flags x w k)
-      ∙ sym (taken_cond P S Q view (is_full k.pending) (only p (busy flags x) k) (take_path e pin p (class_of n p) flags x w k)))
+      ∙ sym (taken_cond P S Q view (is_full k.pending) (only p (busy flags x) k) (take_path e (sight pin p (class_of n p)) (wanting flags x w) k)))
 
   new_alike : (show : S → List Hop) (e : ElementSettings) (pin : P) (p : Peer) (now : ℕ) (r : Request) (k : Element P S) (o : Option ℕ) →
       Alike (take_new show e pin p (class_of n p) now r k o) (take_new (λ u. []) e (view pin) p (class_of n p) now r (bare view k) o)

@@ -10,7 +10,7 @@ use Rattle.path_keys.specs.Keys.{Keys, live_at, live_most}
 use Rattle.plant_model.specs.Writing.{reply_message, busy}
 use Rattle.plant_model.specs.Element.{Row, Element, ElementSettings, Taken, is_client}
 use Rattle.plant_model.specs.Taking.{answered}
-use Rattle.plant_model.specs.Solving.{commit, client_reply, closed_reply, closed_paths, issued_all, free}
+use Rattle.plant_model.specs.Solving.{commit, client_reply, closed_reply, closed_paths, issued_all, free, job_found}
 use Rattle.plant_model.specs.Blind.{is_closed}
 use Rattle.plant_laws.proofs.Blind.Strip.{bare, bare_taken, bare_row, bare_key_rows, taken_cond, bare_live, bare_answered, bare_ended}
 use Rattle.plant_laws.proofs.Blind.Alike.{Alike, from_same, issued_same}
@@ -41,9 +41,9 @@ module _ (P : Type 0) (S : Type 0) (Q : Type 0) (view : P → Q) (n : NetworkPar
   -- To a closed peer: the same.
   pub commit_closed : (h : Row P) (down : List Branch) (now : ℕ) (stands : Best → S) (source_known target_known : Bool) (best : List Best) (k : Element P S) →
       is_client h.1.item.class ≡ false →
-      Alike P S Q view n (commit c e h down now stands source_known target_known best k) (commit c e (bare_row view h) down now (λ b. tt) true true best (bare view k))
+      Alike P S Q view n (commit c e h down now stands (job_found source_known target_known best) k) (commit c e (bare_row view h) down now (λ b. tt) (job_found true true best) (bare view k))
   commit_closed h down now stands source_known target_known best k closed =
-      from_same P S Q view n (commit c e h down now stands source_known target_known best k) (commit c e (bare_row view h) down now (λ b. tt) true true best (bare view k))
+      from_same P S Q view n (commit c e h down now stands (job_found source_known target_known best) k) (commit c e (bare_row view h) down now (λ b. tt) (job_found true true best) (bare view k))
       (go (is_client h.1.item.class) closed)
     where
       go : (b : Bool) → b ≡ false →
@@ -55,7 +55,7 @@ module _ (P : Type 0) (S : Type 0) (Q : Type 0) (view : P → Q) (n : NetworkPar
   -- To a client, whose answer no closed peer hears: the request ends.
   pub commit_client : (h : Row P) (down : List Branch) (now : ℕ) (stands : Best → S) (source_known target_known : Bool) (best : List Best) (k : Element P S) →
       is_client h.1.item.class ≡ true → is_closed n h.1.key.peer ≡ false →
-      Alike P S Q view n (commit c e h down now stands source_known target_known best k) (commit c e (bare_row view h) down now (λ b. tt) true true [] (bare view k))
+      Alike P S Q view n (commit c e h down now stands (job_found source_known target_known best) k) (commit c e (bare_row view h) down now (λ b. tt) (job_found true true []) (bare view k))
   commit_client h down now stands source_known target_known best k client heard = go (is_client h.1.item.class) client
     where
       go : (b : Bool) → b ≡ true →

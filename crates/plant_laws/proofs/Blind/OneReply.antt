@@ -12,7 +12,7 @@ use Rattle.plant_model.specs.Writing.{reply_message, busy}
 use Rattle.plant_model.specs.Branches.{closed_branch, path_of}
 use Rattle.plant_model.specs.Element.{Element, Row, ElementSettings, Taken, is_client}
 use Rattle.plant_model.specs.Taking.{answered}
-use Rattle.plant_model.specs.Solving.{commit, client_reply, closed_reply, closed_paths, issued_all, free}
+use Rattle.plant_model.specs.Solving.{commit, client_reply, closed_reply, closed_paths, issued_all, free, job_found}
 use Rattle.plant_laws.proofs.Blind.OneJoin.{AllOne}
 
 abbrev U : Type 0
@@ -58,8 +58,8 @@ one_reply Q c e h down now k (x ∷ xs) (y ∷ ys) one =
     ∙ ap (λ (keys : Keys U). made (length (y ∷ ys)) (paths (y ∷ ys)) keys) (one_issued now (x ∷ xs) (y ∷ ys) k.keys one)
 
 pub one_commit : (Q : Type 0) (c : Codec) (e : ElementSettings) (h : Row Q) (down : List Branch) (now : ℕ) (k : Element Q U) (xs ys : List Best) → (t : Bool) → is_client h.1.item.class ≡ t → cond t (xs ≡ ys) (AllOne xs ys) →
-    commit c e h down now (λ b. tt) true true xs k ≡ commit c e h down now (λ b. tt) true true ys k
-one_commit Q c e h down now k xs ys true is same = ap (λ (l : List Best). commit c e h down now (λ b. tt) true true l k) same
+    commit c e h down now (λ b. tt) (job_found true true xs) k ≡ commit c e h down now (λ b. tt) (job_found true true ys) k
+one_commit Q c e h down now k xs ys true is same = ap (λ (l : List Best). commit c e h down now (λ b. tt) (job_found true true l) k) same
 one_commit Q c e h down now k xs ys false is one =
     ap (λ (u : Bool). cond u (answered h (client_reply c h down true true xs) k) (closed_reply c e h down now (λ b. tt) k xs)) is
     ∙ one_reply Q c e h down now k xs ys one

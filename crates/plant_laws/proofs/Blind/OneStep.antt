@@ -33,6 +33,7 @@ use Rattle.plant_model.specs.Element as element
 use Rattle.plant_model.specs.BorderGraph.{Found, SolvesBorder}
 use Rattle.plant_model.specs.Parent as parent
 use Rattle.plant_model.specs.Settings.{family}
+use Rattle.plant_model.specs.Solving.{job_found}
 use Rattle.plant_model.specs.Deeds as deeds
 use Rattle.plant_model.specs.Events.{is_ready, is_ready_row, is_ready_asking, has_jobs}
 use Rattle.plant_model.specs.Plant.{Pin, Segment, Plant, Happened, Happens, ask, done, ElementSolves, ParentSolves, SolveHappens}
@@ -163,7 +164,7 @@ module _ (c : Codec) (n : NetworkParts) (fars : FarsDiffer n) (s : Plant) (sound
       ∙ sym y.is
     where
       made : Held (Item Pin) → List Branch → Bool → Bool → List Best → Happened
-      made z l known known' best = done c n (deeds.solve Pin Segment c n open_of d (k, z) l (λ b. b.segment) known known' best s)
+      made z l known known' best = done c n (deeds.solve Pin Segment c n open_of d (k, z) l (λ b. b.segment) (job_found known known' best) s)
 
       held : x.held ≡ y.held
       held = held_one x.held y.held (lookup (nat_eq k) (s.elements d).pending.rows) x.is_held y.is_held

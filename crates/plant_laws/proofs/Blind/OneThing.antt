@@ -19,7 +19,7 @@ use Rattle.plant_model.specs.Branches.{downs}
 use Rattle.plant_model.specs.Jobs.{target_along, IsJoinOf}
 use Rattle.plant_model.specs.Element.{Item, Ready, Stage, Taken, is_client}
 use Rattle.plant_model.specs.Element as element
-use Rattle.plant_model.specs.Solving.{commit}
+use Rattle.plant_model.specs.Solving.{commit, job_found}
 use Rattle.plant_model.specs.BorderGraph.{Found, SolvesBorder}
 use Rattle.plant_model.specs.Parent as parent
 use Rattle.plant_model.specs.Settings.{place, family}
@@ -72,7 +72,7 @@ module _ (c : Codec) (n : NetworkParts) (fars : FarsDiffer n) where
   one_solve : (d : As) (k : ℕ) (rows : List BorderRow) (s : BlindState) (h h' : BlindHappened) → AllPairs IsRowBefore rows → BlindSolves c n d k rows s h → BlindSolves c n d k rows s h' → h ≡ h'
   one_solve d k rows s h h' order x y =
       x.is ∙ ap (λ (r : Taken P P). made x.held r) commits
-      ∙ ap (λ (z : Held (Item P)). made z (commit c (place n d) (k, z) y.down s.clock (λ b. tt) true true y.best (s.elements d))) held ∙ sym y.is
+      ∙ ap (λ (z : Held (Item P)). made z (commit c (place n d) (k, z) y.down s.clock (λ b. tt) (job_found true true y.best) (s.elements d))) held ∙ sym y.is
     where
       made : Held (Item P) → Taken P P → BlindHappened
       made z r = done c n (record { state = puts P P c n (λ u. []) d r.outputs (with_element P P c n (λ u. []) d r.element s); deeds = Solves d k r.outputs r.element.keys.issued ∷ [] })
@@ -96,10 +96,10 @@ module _ (c : Codec) (n : NetworkParts) (fars : FarsDiffer n) where
           let other = subst (λ (u : Bool). cond u (y.best ≡ []) (IsJoinOf x.held.item.wanted.query.cap (target_along x.held.item.sequence x.held.item.wanted.target) rows (downs x.down) y.best)) is other1 in
           one_join x.held.item.wanted.query.cap (target_along x.held.item.sequence x.held.item.wanted.target) rows (downs x.down) x.best y.best order one other
 
-      commits : commit c (place n d) (k, x.held) x.down s.clock (λ b. tt) true true x.best (s.elements d) ≡ commit c (place n d) (k, x.held) y.down s.clock (λ b. tt) true true y.best (s.elements d)
+      commits : commit c (place n d) (k, x.held) x.down s.clock (λ b. tt) (job_found true true x.best) (s.elements d) ≡ commit c (place n d) (k, x.held) y.down s.clock (λ b. tt) (job_found true true y.best) (s.elements d)
       commits =
           one_commit P c (place n d) (k, x.held) x.down s.clock (s.elements d) x.best y.best (is_client x.held.item.class) refl (bests (is_client x.held.item.class) refl)
-          ∙ ap (λ (l : List Branch). commit c (place n d) (k, x.held) l s.clock (λ b. tt) true true y.best (s.elements d)) down
+          ∙ ap (λ (l : List Branch). commit c (place n d) (k, x.held) l s.clock (λ b. tt) (job_found true true y.best) (s.elements d)) down
 
   one_upper : (k : ℕ) (s : BlindState) (h h' : BlindHappened) → BlindUpperSolves c n k s h → BlindUpperSolves c n k s h' → h ≡ h'
   one_upper k s h h' x y =

@@ -10,7 +10,7 @@ use Rattle.plant_text.specs.declared.settings.NetworkParts.{NetworkParts}
 use Rattle.plant_text.specs.Names.{parent_as}
 use Rattle.plant_model.specs.Wire.{Codec}
 use Rattle.plant_model.specs.Element.{Element, Row, Taken, is_client}
-use Rattle.plant_model.specs.Solving.{commit}
+use Rattle.plant_model.specs.Solving.{commit, job_found}
 use Rattle.plant_model.specs.BorderGraph.{Found}
 use Rattle.plant_model.specs.Parent as parent
 use Rattle.plant_text.specs.Settings.{Adjacency, adjacencies, class_of}
@@ -61,7 +61,7 @@ module _ (Q : Type 0) (view : As → Pin → Q) (c : Codec) (n : NetworkParts) w
 
   -- a job of an element that is answered by these best ways
   abbrev pub seen_solve : As → Row Q → List Branch → List Best → Blank Q → events.Happened Q U
-  seen_solve d h down best b = events.answered Q U c n (λ u. []) Done (deeds.solve Q U c n (λ u. []) d h down (λ y. tt) true true best b)
+  seen_solve d h down best b = events.answered Q U c n (λ u. []) Done (deeds.solve Q U c n (λ u. []) d h down (λ y. tt) (job_found true true best) b)
 
   abbrev pub seen_upper : parent.AskingRow → Option Found → Blank Q → events.Happened Q U
   seen_upper h a b = events.answered Q U c n (λ u. []) Done (deeds.solve_upper Q U c n (λ u. []) h a b)
@@ -74,14 +74,14 @@ module _ (Q : Type 0) (view : As → Pin → Q) (c : Codec) (n : NetworkParts) w
 
     -- what is alike makes events that are alike
     happen : (best : List Best) →
-        Alike Pin Segment Q (view d) n (commit c (place n d) (k, x.held) x.down s.clock (λ y. y.segment) x.rows.source_known x.rows.target_known x.rows.best (s.elements d))
-        (commit c (place n d) (k, bare_held (view d) x.held) x.down s.clock (λ y. tt) true true best (bare (view d) (s.elements d))) →
+        Alike Pin Segment Q (view d) n (commit c (place n d) (k, x.held) x.down s.clock (λ y. y.segment) (job_found x.rows.source_known x.rows.target_known x.rows.best) (s.elements d))
+        (commit c (place n d) (k, bare_held (view d) x.held) x.down s.clock (λ y. tt) (job_found true true best) (bare (view d) (s.elements d))) →
         Happen Q view c n h (seen_solve d (k, bare_held (view d) x.held) x.down best b)
     happen best alike0 =
-        let r = commit c (place n d) (k, x.held) x.down s.clock (λ y. y.segment) x.rows.source_known x.rows.target_known x.rows.best (s.elements d) in
-        let r' = commit c (place n d) (k, bare_held (view d) x.held) x.down b.clock (λ y. tt) true true best (b.elements d) in
-        let alike1 = subst (λ (e : Element Q U). Alike Pin Segment Q (view d) n r (commit c (place n d) (k, bare_held (view d) x.held) x.down s.clock (λ y. tt) true true best e)) (sym (sim.elements d)) alike0 in
-        let alike : Alike Pin Segment Q (view d) n r r' = subst (λ (now : ℕ). Alike Pin Segment Q (view d) n r (commit c (place n d) (k, bare_held (view d) x.held) x.down now (λ y. tt) true true best (b.elements d))) (sym sim.clock) alike1 in
+        let r = commit c (place n d) (k, x.held) x.down s.clock (λ y. y.segment) (job_found x.rows.source_known x.rows.target_known x.rows.best) (s.elements d) in
+        let r' = commit c (place n d) (k, bare_held (view d) x.held) x.down b.clock (λ y. tt) (job_found true true best) (b.elements d) in
+        let alike1 = subst (λ (e : Element Q U). Alike Pin Segment Q (view d) n r (commit c (place n d) (k, bare_held (view d) x.held) x.down s.clock (λ y. tt) (job_found true true best) e)) (sym (sim.elements d)) alike0 in
+        let alike : Alike Pin Segment Q (view d) n r r' = subst (λ (now : ℕ). Alike Pin Segment Q (view d) n r (commit c (place n d) (k, bare_held (view d) x.held) x.down now (λ y. tt) (job_found true true best) (b.elements d))) (sym sim.clock) alike1 in
         let v = with_element Pin Segment c n open_of d r.element s in
         let v' = with_element Q U c n (λ u. []) d r'.element b in
         subst (λ (g : Happened). Happen Q view c n g (seen_solve d (k, bare_held (view d) x.held) x.down best b)) (sym x.is)
@@ -103,7 +103,7 @@ module _ (Q : Type 0) (view : As → Pin → Q) (c : Codec) (n : NetworkParts) w
     -- by rows that differ in their segments alone
     pub closed_seen : (best : List Best) → is_client x.held.item.class ≡ false → AllOne x.rows.best best → Happen Q view c n h (seen_solve d (k, bare_held (view d) x.held) x.down best b)
     closed_seen best closed one =
-        let r = commit c (place n d) (k, x.held) x.down s.clock (λ y. y.segment) x.rows.source_known x.rows.target_known x.rows.best (s.elements d) in
+        let r = commit c (place n d) (k, x.held) x.down s.clock (λ y. y.segment) (job_found x.rows.source_known x.rows.target_known x.rows.best) (s.elements d) in
         happen best (subst (λ (t : Taken Q U). Alike Pin Segment Q (view d) n r t)
         (one_commit Q c (place n d) (k, bare_held (view d) x.held) x.down s.clock (bare (view d) (s.elements d)) x.rows.best best false closed one)
         (commit_closed Pin Segment Q (view d) n c (place n d) (k, x.held) x.down s.clock (λ y. y.segment) x.rows.source_known x.rows.target_known x.rows.best (s.elements d) closed))

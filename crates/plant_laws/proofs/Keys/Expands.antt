@@ -28,7 +28,7 @@ use Rattle.plant_model.specs.Names.{same_addr}
 use Rattle.plant_model.specs.Wire.{Codec, Checked, Admitted}
 use Rattle.plant_model.specs.Writing.{no_key}
 use Rattle.plant_model.specs.Element.{Row}
-use Rattle.plant_model.specs.Taking.{take, take_checked, take_new, take_wish, expansion, expansion_of}
+use Rattle.plant_model.specs.Taking.{take, take_checked, take_new, take_wish, expansion, expansion_of, sight}
 use Rattle.plant_text.specs.Settings.{deny_at, row_of, class_of, life}
 use Rattle.plant_model.specs.Settings.{place, place_from}
 use Rattle.plant_model.specs.declared.route.Route.{Route}
@@ -155,7 +155,7 @@ module _ (c : Codec) (codec : IsCodec c) (n : NetworkParts) (network : IsNetwork
       let e = place n d in
       let checked : Checked → List Output = λ z. (take_checked open_of e (s.current d) p (class_of n p) s.clock k z).outputs ++ [] in
       let new : Option ℕ → List Output = λ o. (take_new open_of e (s.current d) p (class_of n p) s.clock r k o).outputs ++ [] in
-      let wished : Wish → List Output = λ w. (take_wish open_of e (s.current d) p (class_of n p) s.clock r.flags r.id k w).outputs ++ [] in
+      let wished : Wish → List Output = λ w. (take_wish open_of e (sight (s.current d) p (class_of n p)) s.clock r.flags r.id k w).outputs ++ [] in
       ap checked (ap (λ (z : As). c.check a z) (own_is d (deny_at d n.deny) (routes n d) (row_of d n.elements)) ∙ admitted) ∙ ap new none ∙ ap wished wish
 
   abbrev Right : Transcript → Peer → Request → ℕ → Addr → List Output → Type 0

@@ -21,7 +21,7 @@ use Rattle.plant_text.specs.Names.{same_as, parent_as}
 use Rattle.plant_model.specs.Wire.{Codec}
 use Rattle.plant_model.specs.Element.{Element, ElementSettings, Row, Taken, is_client}
 use Rattle.plant_model.specs.Taking.{take, answered}
-use Rattle.plant_model.specs.Solving.{commit, client_reply, closed_reply, issued_all}
+use Rattle.plant_model.specs.Solving.{commit, client_reply, closed_reply, issued_all, job_found}
 use Rattle.plant_model.specs.Parent as parent
 use Rattle.plant_text.specs.Settings.{Adjacency, adjacencies, class_of, life, is_element}
 use Rattle.plant_model.specs.Settings.{place}
@@ -84,7 +84,7 @@ module _ (c : Codec) (n : NetworkParts) where
   closed_life e h down now stands k (b ∷ bs) = taken_pick k.keys.life _ _ _ refl (issued_life now stands (b ∷ bs) k.keys)
 
   commit_life : (e : ElementSettings) (h : Row Pin) (down : List Branch) (now : ℕ) (stands : Best → Segment) (sk tk : Bool) (best : List Best) (k : Element Pin Segment) →
-      (commit c e h down now stands sk tk best k).element.keys.life ≡ k.keys.life
+      (commit c e h down now stands (job_found sk tk best) k).element.keys.life ≡ k.keys.life
   commit_life e h down now stands sk tk best k =
       taken_pick k.keys.life (is_client h.1.item.class) (answered h (client_reply c h down sk tk best) k) (closed_reply c e h down now stands k best) refl (closed_life e h down now stands k best)
 
@@ -162,7 +162,7 @@ module _ (c : Codec) (n : NetworkParts) where
   -- a solve
   solve_keys : (ds : Transcript) (s : Plant) (d : As) (k : ℕ) (h : Happened) → KeysAre ds s → ElementSolves c n d k s h → KeysAre (h.deeds ++ ds) h.state
   solve_keys ds s d k h held x =
-      let r = commit c (place n d) (k, x.held) x.down s.clock (λ b. b.segment) x.rows.source_known x.rows.target_known x.rows.best (s.elements d) in
+      let r = commit c (place n d) (k, x.held) x.down s.clock (λ b. b.segment) (job_found x.rows.source_known x.rows.target_known x.rows.best) (s.elements d) in
       let v = with_element Pin Segment c n open_of d r.element s in
       let life-r : r.element.keys.life ≡ (s.elements d).keys.life = commit_life (place n d) (k, x.held) x.down s.clock (λ b. b.segment) x.rows.source_known x.rows.target_known x.rows.best (s.elements d) in
       subst (λ (h' : Happened). KeysAre (h'.deeds ++ ds) h'.state) (sym x.is)

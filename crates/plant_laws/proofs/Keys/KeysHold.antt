@@ -9,7 +9,7 @@ use Rattle.std.specs.Prelude.{AllPairs, All, ◌-◌, drop}
 use Rattle.std.proofs.lemmas.List.Elements.{All-nil, All-cons, All-contains}
 use Rattle.plant_text.specs.declared.settings.ElementRow.{ElementRow}
 use Rattle.plant_text.specs.Settings.{life_from, row_of}
-use Rattle.plant_model.specs.Solving.{free}
+use Rattle.plant_model.specs.Solving.{free, job_found}
 use Rattle.plant_model.specs.Laws.{IsElement, IsNetwork}
 use Rattle.plant_laws.specs.Keys.{KeysDiffer}
 use Rattle.plant_laws.proofs.Keys.KeyedRuns.{opened_calm, ticked_calm, later_least, before_plain}
@@ -141,7 +141,7 @@ module _ (c : Codec) (n : NetworkParts) where
       let r = issued_good now stands (b ∷ bs) k.keys fine.are fine.clock (omega (arith, enough, few)) in
       record { are = r.0; clock = r.1 }))
 
-  commit_fine : (e : ElementSettings) (h : Row Pin) (down : List Branch) (now : ℕ) (stands : Best → Segment) (sk tk : Bool) (best : List Best) (k : Element Pin Segment) → Fine now k.keys → Fine now (commit c e h down now stands sk tk best k).element.keys
+  commit_fine : (e : ElementSettings) (h : Row Pin) (down : List Branch) (now : ℕ) (stands : Best → Segment) (sk tk : Bool) (best : List Best) (k : Element Pin Segment) → Fine now k.keys → Fine now (commit c e h down now stands (job_found sk tk best) k).element.keys
   commit_fine e h down now stands sk tk best k fine =
       fine_pick now (is_client h.1.item.class) (answered h (client_reply c h down sk tk best) k) (closed_reply c e h down now stands k best) (λ client. fine) (λ closed. closed_fine e h down now stands k best fine)
 
@@ -166,7 +166,7 @@ module _ (c : Codec) (n : NetworkParts) where
 
   solve_fine : (s : Plant) (d : As) (k : ℕ) (h : Happened) → AllFine s → ElementSolves c n d k s h → AllFine h.state
   solve_fine s d k h fine x =
-      let r = commit c (place n d) (k, x.held) x.down s.clock (λ b. b.segment) x.rows.source_known x.rows.target_known x.rows.best (s.elements d) in
+      let r = commit c (place n d) (k, x.held) x.down s.clock (λ b. b.segment) (job_found x.rows.source_known x.rows.target_known x.rows.best) (s.elements d) in
       let v = with_element Pin Segment c n open_of d r.element s in
       let one : Fine s.clock r.element.keys = commit_fine (place n d) (k, x.held) x.down s.clock (λ b. b.segment) x.rows.source_known x.rows.target_known x.rows.best (s.elements d) (fine d) in
       subst (λ (h' : Happened). AllFine h'.state) (sym x.is)

@@ -16,7 +16,7 @@ use Rattle.plant_text.specs.Names.{same_as, parent_as}
 use Rattle.plant_model.specs.Wire.{Codec}
 use Rattle.plant_model.specs.Element.{Element, ElementSettings, Row, Taken, is_client}
 use Rattle.plant_model.specs.Taking.{answered}
-use Rattle.plant_model.specs.Solving.{commit, client_reply, closed_reply, issued_all}
+use Rattle.plant_model.specs.Solving.{commit, client_reply, closed_reply, issued_all, job_found}
 use Rattle.plant_text.specs.Settings.{is_element}
 use Rattle.plant_model.specs.Settings.{place}
 use Rattle.plant_model.specs.State.{Solves}
@@ -83,8 +83,7 @@ module _ (c : Codec) (pce : Addr) (m : Metric) (target : Addr) (down : List Bran
             })
           ]
 
--- what a commit issues
-record IsTold (c : Codec) (e : ElementSettings) (h : Row Pin) (down : List Branch) (now : ℕ) (best : List Best) (t : Taken Pin Segment) (x : Issued Segment) : Type 0 where
+-- what a commit issues record IsTold (c : Codec) (e : ElementSettings) (h : Row Pin) (job_found (down : List Branch) (now : ℕ) (best : List Best)) (t : Taken Pin Segment) (x : Issued Segment) : Type 0 where
   pub closed : is_client h.1.item.class ≡ false
   pub paths : List Path
   pub outputs : t.outputs ≡ record { to = h.1.key.peer; message = reply_message h.1.item.flags h.1.key.id (Paths paths) } ∷ []
@@ -107,7 +106,7 @@ module _ (c : Codec) (e : ElementSettings) (h : Row Pin) (down : List Branch) (n
         | inr new ↦ inr (record { closed = closed; paths = closed_paths c e.id h.1.item.wanted.query.metric h.1.item.wanted.target down k.keys.next (b ∷ bs); outputs = refl; new = new })
       ])
 
-  commit_comes : (sk tk : Bool) (best : List Best) → Comes best (commit c e h down now (λ b. b.segment) sk tk best k)
+  commit_comes : (sk tk : Bool) (best : List Best) → Comes best (commit c e h down now (λ b. b.segment) (job_found sk tk best) k)
   commit_comes sk tk best = go (is_client h.1.item.class) refl
     where
       go : (b : Bool) → is_client h.1.item.class ≡ b → Comes best (cond b (answered h (client_reply c h down sk tk best) k) (closed_reply c e h down now (λ b. b.segment) k best))
@@ -149,7 +148,7 @@ module _ (c : Codec) (n : NetworkParts) (d : As) (upper : same_as d parent_as �
       go true e = inr (k, subst (λ (z : As). ElementSolves c n z k s h) (same_as_is x d e) solves.1)
       go false e =
           let y = solves.1 in
-          let r = commit c (place n x) (k, y.held) y.down s.clock (λ b. b.segment) y.rows.source_known y.rows.target_known y.rows.best (s.elements x) in
+          let r = commit c (place n x) (k, y.held) y.down s.clock (λ b. b.segment) (job_found y.rows.source_known y.rows.target_known y.rows.best) (s.elements x) in
           inl (ap (λ (z : Happened). last_keys d (z.deeds ++ ds)) y.is ∙ ap (λ (b : Bool). cond b r.element.keys.issued (last_keys d ds)) e)
   happens_leaves ds s (event.Solve x k) h (inr (inr (inr solves))) = inl (ap (λ (z : Happened). last_keys d (z.deeds ++ ds)) solves.2.is ∙ go (same_as parent_as d) refl)
     where
@@ -190,7 +189,7 @@ module _ (c : Codec) (n : NetworkParts) (d : As) (upper : same_as d parent_as �
       solved : (k : ℕ) (y : ElementSolves c n d k run.0 (record { answer = e.answer; state = s; deeds = e.deeds })) → (Stands x (last_keys d (deeds_of c n es)) → IsIssued c n es d x) → IsIssued c n (e ∷ es) d x
       solved k y rec =
           let p = run.0 in
-          let r = commit c (place n d) (k, y.held) y.down p.clock (λ b. b.segment) y.rows.source_known y.rows.target_known y.rows.best (p.elements d) in
+          let r = commit c (place n d) (k, y.held) y.down p.clock (λ b. b.segment) (job_found y.rows.source_known y.rows.target_known y.rows.best) (p.elements d) in
           let deeds' : e.deeds ≡ Solves d k r.outputs r.element.keys.issued ∷ [] = ap (λ (z : Happened). z.deeds) y.is in
           let self : same_as d d ≡ true = eq-eqb d.0 d.0 refl in
           let here : Stands x r.element.keys.issued =

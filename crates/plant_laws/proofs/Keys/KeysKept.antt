@@ -21,7 +21,7 @@ use Rattle.plant_model.specs.Writing.{reply_message, busy, unavailable}
 use Rattle.disclosure.specs.Policy.{is_denied}
 use Rattle.plant_model.specs.Element.{Ready, Row, Way, Element, ElementSettings, Taken, silent, only, each, ended, waiting, way_to}
 use Rattle.plant_model.specs.Routes.{toward}
-use Rattle.plant_model.specs.Taking.{take, take_asked, take_checked, take_new, take_wish, take_path, take_along, goes_up, sequence_or, send_on, sent_on, denied, answered, staged, made_ready, take_answer, take_reply, told_busy, cancelled, take_busy, take_cancel, notice_steps, take_notice, told_error, take_failure, error_answer, take_errors, take_report}
+use Rattle.plant_model.specs.Taking.{take, take_asked, take_checked, take_new, take_wish, take_path, take_along, goes_up, sequence_or, send_on, sent_on, denied, answered, staged, made_ready, take_answer, take_reply, told_busy, cancelled, take_busy, take_cancel, notice_steps, take_notice, told_error, take_failure, error_answer, take_errors, take_report, sight, wanting}
 
 module _ (P : Type 0) (S : Type 0) (keys : Keys S) where
   abbrev pub Good : Element P S → Type 0
@@ -90,25 +90,25 @@ module _ (P : Type 0) (S : Type 0) (keys : Keys S) where
 
   -- a request of the peer
   module _ (pin : P) (p : Peer) (class : Class) where
-    send_good : (flags x : ℕ) (w : Wanted) (sequence rest : List As) (refused : Bool) (k : Element P S) (o : Option Way) → Good k → Good (send_on pin p class flags x w sequence rest refused k o).element
+    send_good : (flags x : ℕ) (w : Wanted) (sequence rest : List As) (refused : Bool) (k : Element P S) (o : Option Way) → Good k → Good (send_on (sight pin p class) (wanting flags x w) sequence rest refused k o).element
     send_good flags x w sequence rest refused k None good = good
     send_good flags x w sequence rest refused k (Some way) good =
-        good_pick way.up (cond refused (denied p flags x k) (sent_on pin p class flags x w sequence rest k way)) (denied p flags x k)
-        (good_pick refused (denied p flags x k) (sent_on pin p class flags x w sequence rest k way) good good) good
+        good_pick way.up (cond refused (denied p flags x k) (sent_on (sight pin p class) (wanting flags x w) sequence rest k way)) (denied p flags x k)
+        (good_pick refused (denied p flags x k) (sent_on (sight pin p class) (wanting flags x w) sequence rest k way) good good) good
 
-    along_good : (e : ElementSettings) (flags x : ℕ) (w : Wanted) (k : Element P S) (path : List As) → Good k → Good (take_along e pin p class flags x w k path).element
+    along_good : (e : ElementSettings) (flags x : ℕ) (w : Wanted) (k : Element P S) (path : List As) → Good k → Good (take_along e (sight pin p class) (wanting flags x w) k path).element
     along_good e flags x w k [] good = good
     along_good e flags x w k (a ∷ []) good = good
     along_good e flags x w k (a ∷ b ∷ rest) good = send_good flags x w (a ∷ b ∷ rest) (b ∷ rest) (is_denied e.deny class b) k (way_to (toward b e.routes) k.ways) good
 
-    path_good : (e : ElementSettings) (flags x : ℕ) (w : Wanted) (k : Element P S) → Good k → Good (take_path e pin p class flags x w k).element
+    path_good : (e : ElementSettings) (flags x : ℕ) (w : Wanted) (k : Element P S) → Good k → Good (take_path e (sight pin p class) (wanting flags x w) k).element
     path_good e flags x w k good =
-        good_pick (goes_up e.parent class w.sequence) (send_on pin p class flags x w [] [] false k (way_to the_parent k.ways)) (take_along e pin p class flags x w k (sequence_or e.own w.sequence))
+        good_pick (goes_up e.parent class w.sequence) (send_on (sight pin p class) (wanting flags x w) [] [] false k (way_to the_parent k.ways)) (take_along e (sight pin p class) (wanting flags x w) k (sequence_or e.own w.sequence))
         (send_good flags x w [] [] false k (way_to the_parent k.ways) good) (along_good e flags x w k (sequence_or e.own w.sequence) good)
 
-    wish_good : (show : S → List Hop) (e : ElementSettings) (now flags x : ℕ) (k : Element P S) (w : Wish) → Good k → Good (take_wish show e pin p class now flags x k w).element
+    wish_good : (show : S → List Hop) (e : ElementSettings) (now flags x : ℕ) (k : Element P S) (w : Wish) → Good k → Good (take_wish show e (sight pin p class) now flags x k w).element
     wish_good show e now flags x k (Expand key pce) good = good
-    wish_good show e now flags x k (Path w) good = good_pick (is_full k.pending) (only p (busy flags x) k) (take_path e pin p class flags x w k) good (path_good e flags x w k good)
+    wish_good show e now flags x k (Path w) good = good_pick (is_full k.pending) (only p (busy flags x) k) (take_path e (sight pin p class) (wanting flags x w) k) good (path_good e flags x w k good)
 
     new_good : (show : S → List Hop) (e : ElementSettings) (now : ℕ) (r : Request) (k : Element P S) (o : Option ℕ) → Good k → Good (take_new show e pin p class now r k o).element
     new_good show e now r k None good = wish_good show e now r.flags r.id k r.wish good

@@ -15,7 +15,7 @@ use Rattle.plant_text.specs.Names.{same_as, parent_as}
 use Rattle.plant_model.specs.Wire.{Codec}
 use Rattle.plant_model.specs.Element.{Element, ElementSettings, Row, Taken, is_client}
 use Rattle.plant_model.specs.Taking.{answered}
-use Rattle.plant_model.specs.Solving.{commit, client_reply, closed_reply, issued_all}
+use Rattle.plant_model.specs.Solving.{commit, client_reply, closed_reply, issued_all, job_found}
 use Rattle.plant_text.specs.Settings.{life, is_element}
 use Rattle.plant_model.specs.Settings.{place}
 use Rattle.plant_model.specs.State.{Solves}
@@ -102,7 +102,7 @@ module _ (c : Codec) (e : ElementSettings) (h : Row Pin) (down : List Branch) (n
   closed_keeps x [] stands live = stands
   closed_keeps x (b ∷ bs) stands live = taken_pick x (nat_lt (free now k.keys) (length (b ∷ bs))) _ _ stands (keeps now (b ∷ bs) k.keys x stands live)
 
-  pub commit_keeps : (x : Issued Segment) (sk tk : Bool) (best : List Best) → Stands x k.keys.issued → is_live k.keys.life now x ≡ true → Stands x (commit c e h down now (λ b. b.segment) sk tk best k).element.keys.issued
+  pub commit_keeps : (x : Issued Segment) (sk tk : Bool) (best : List Best) → Stands x k.keys.issued → is_live k.keys.life now x ≡ true → Stands x (commit c e h down now (λ b. b.segment) (job_found sk tk best) k).element.keys.issued
   commit_keeps x sk tk best stands live =
       taken_pick x (is_client h.1.item.class) (answered h (client_reply c h down sk tk best) k) (closed_reply c e h down now (λ b. b.segment) k best) stands (closed_keeps x best stands live)
 
@@ -120,7 +120,7 @@ module _ (c : Codec) (e : ElementSettings) (h : Row Pin) (down : List Branch) (n
       go false told = issues now (o ∷ os) k.keys number b some stands
 
   pub commit_issues : (sk tk : Bool) (best : List Best) (number : ℕ) (b : Best) → 1 ≤ k.keys.life → is_client h.1.item.class ≡ false → Stands (number, b) (numbered k.keys.next best) →
-      first_reply (commit c e h down now (λ b. b.segment) sk tk best k).outputs ≡ true → Has now (commit c e h down now (λ b. b.segment) sk tk best k).element.keys.issued number b
+      first_reply (commit c e h down now (λ b. b.segment) (job_found sk tk best) k).outputs ≡ true → Has now (commit c e h down now (λ b. b.segment) (job_found sk tk best) k).element.keys.issued number b
   commit_issues sk tk best number b some closed stands told = go (is_client h.1.item.class) closed told
     where
       go : (x : Bool) → x ≡ false → first_reply (cond x (answered h (client_reply c h down sk tk best) k) (closed_reply c e h down now (λ b. b.segment) k best)).outputs ≡ true →
@@ -171,9 +171,9 @@ module _ (c : Codec) (n : NetworkParts) (lives : (d : As) → (1 ≤ life n d) �
   steps_rises ds s e h (inr none) clock = same_rises ds h _ none.1 refl
 
   -- the keys right after a solve
-  after_solve : (ds : Transcript) (s : Plant) (k : ℕ) (h : Happened) (y : ElementSolves c n d k s h) → last_keys d (h.deeds ++ ds) ≡ (commit c (place n d) (k, y.held) y.down s.clock (λ b. b.segment) y.rows.source_known y.rows.target_known y.rows.best (s.elements d)).element.keys.issued
+  after_solve : (ds : Transcript) (s : Plant) (k : ℕ) (h : Happened) (y : ElementSolves c n d k s h) → last_keys d (h.deeds ++ ds) ≡ (commit c (place n d) (k, y.held) y.down s.clock (λ b. b.segment) (job_found y.rows.source_known y.rows.target_known y.rows.best) (s.elements d)).element.keys.issued
   after_solve ds s k h y =
-      let r = commit c (place n d) (k, y.held) y.down s.clock (λ b. b.segment) y.rows.source_known y.rows.target_known y.rows.best (s.elements d) in
+      let r = commit c (place n d) (k, y.held) y.down s.clock (λ b. b.segment) (job_found y.rows.source_known y.rows.target_known y.rows.best) (s.elements d) in
       ap (λ (g : Happened). last_keys d (g.deeds ++ ds)) y.is ∙ ap (λ (b : Bool). cond b r.element.keys.issued (last_keys d ds)) (eq-eqb d.0 d.0 refl)
 
   -- a live key stays among the keys of the last solve
@@ -198,7 +198,7 @@ module _ (c : Codec) (n : NetworkParts) (lives : (d : As) → (1 ≤ life n d) �
       let y = tells.solves in
       let h : Happened = record { answer = entry.answer; state = tells.after; deeds = entry.deeds } in
       let keys = run_keys c n older before tells.run in
-      let r = commit c (place n d) (tells.number, y.held) y.down before.clock (λ b. b.segment) y.rows.source_known y.rows.target_known y.rows.best (before.elements d) in
+      let r = commit c (place n d) (tells.number, y.held) y.down before.clock (λ b. b.segment) (job_found y.rows.source_known y.rows.target_known y.rows.best) (before.elements d) in
       let outputs = ap (λ (g : Happened). outputs_in g.deeds) (sym y.is) ∙ ap outputs_in tells.told in
       subst (λ (l : List (Issued Segment)). Has before.clock l number b) (sym (after_solve (deeds_of c n older) before tells.number h y))
       (commit_issues c (place n d) (tells.number, y.held) y.down before.clock (before.elements d) y.rows.source_known y.rows.target_known y.rows.best number b

@@ -14,7 +14,7 @@ use Rattle.disclosure.specs.Policy.{is_denied}
 use Rattle.plant_model.specs.Element.{Element, Row, upped, downed}
 use Rattle.plant_model.specs.Routes.{toward}
 use Rattle.plant_model.specs.Taking.{take}
-use Rattle.plant_model.specs.Solving.{commit}
+use Rattle.plant_model.specs.Solving.{commit, job_found}
 use Rattle.plant_model.specs.Parent as parent
 use Rattle.plant_text.specs.Settings.{class_of}
 use Rattle.plant_model.specs.Settings.{place, family}
@@ -65,16 +65,16 @@ each_same f one [] k = refl
 each_same f one (x ∷ xs) k = each_same f one xs (f x k).element ∙ one x k
 
 module _ (c : Codec) (e : ElementSettings) (pin : Pin) (p : Peer) (class : Class) (now : ℕ) where
-  on_same : (flags x : ℕ) (w : Wanted) (sequence rest : List As) (refused : Bool) (k : Elem) (o : Option Way) → Same k (taking.send_on pin p class flags x w sequence rest refused k o)
+  on_same : (flags x : ℕ) (w : Wanted) (sequence rest : List As) (refused : Bool) (k : Elem) (o : Option Way) → Same k (taking.send_on (taking.sight pin p class) (taking.wanting flags x w) sequence rest refused k o)
   on_same flags x w sequence rest refused k None = refl
   on_same flags x w sequence rest refused k (Some way) = pick k way.up _ _ (pick k refused _ _ refl refl) refl
 
-  along_same : (flags x : ℕ) (w : Wanted) (k : Elem) (path : List As) → Same k (taking.take_along e pin p class flags x w k path)
+  along_same : (flags x : ℕ) (w : Wanted) (k : Elem) (path : List As) → Same k (taking.take_along e (taking.sight pin p class) (taking.wanting flags x w) k path)
   along_same flags x w k [] = refl
   along_same flags x w k (a ∷ []) = refl
   along_same flags x w k (a ∷ b ∷ rest) = on_same flags x w (a ∷ b ∷ rest) (b ∷ rest) (is_denied e.deny class b) k (way_to (toward b e.routes) k.ways)
 
-  wish_same : (flags x : ℕ) (k : Elem) (w : Wish) → Same k (taking.take_wish open_of e pin p class now flags x k w)
+  wish_same : (flags x : ℕ) (k : Elem) (w : Wish) → Same k (taking.take_wish open_of e (taking.sight pin p class) now flags x k w)
   wish_same flags x k (Path w) =
       pick k (is_full k.pending) _ _ refl
       (pick k (goes_up e.parent class w.sequence) _ _ (on_same flags x w [] [] false k (way_to the_parent k.ways)) (along_same flags x w k (sequence_or e.own w.sequence)))
@@ -142,7 +142,7 @@ issued_same : (now : ℕ) (bs : List Best) (keys : Keys Segment) → (issued_all
 issued_same now [] keys = refl
 issued_same now (b ∷ bs) keys = issued_same now bs (issue_of keys now b.segment)
 
-commit_same : (c : Codec) (e : ElementSettings) (h : Row Pin) (down : List Branch) (now : ℕ) (s t : Bool) (best : List Best) (k : Elem) → Same k (commit c e h down now (λ b. b.segment) s t best k)
+commit_same : (c : Codec) (e : ElementSettings) (h : Row Pin) (down : List Branch) (now : ℕ) (s t : Bool) (best : List Best) (k : Elem) → Same k (commit c e h down now (λ b. b.segment) (job_found s t best) k)
 commit_same c e h down now s t best k = pick k (is_client h.1.item.class) _ _ refl (go best)
   where
     go : (bs : List Best) → Same k (closed_reply c e h down now (λ b. b.segment) k bs)
@@ -203,7 +203,7 @@ module _ (c : Codec) (n : NetworkParts) where
 
   solve_lives : (ds : Transcript) (s : Plant) (d : As) (k : ℕ) (h : Happened) → Lives ds s → ElementSolves c n d k s h → Lives (h.deeds ++ ds) h.state
   solve_lives ds s d k h old x =
-      let r = commit c (place n d) (k, x.held) x.down s.clock (λ b. b.segment) x.rows.source_known x.rows.target_known x.rows.best (s.elements d) in
+      let r = commit c (place n d) (k, x.held) x.down s.clock (λ b. b.segment) (job_found x.rows.source_known x.rows.target_known x.rows.best) (s.elements d) in
       subst (λ (z : Happened). Lives [] z.state) (sym x.is)
       (changed d r.element s (puts Pin Segment c n open_of d r.outputs (with_element Pin Segment c n open_of d r.element s)) (puts_elements c n d r.outputs (with_element Pin Segment c n open_of d r.element s))
       (commit_same c (place n d) (k, x.held) x.down s.clock x.rows.source_known x.rows.target_known x.rows.best (s.elements d)) old)

@@ -24,7 +24,7 @@ use Rattle.plant_model.specs.Writing.{reply_message, no_path, busy}
 use Rattle.plant_model.specs.Branches.{path_of, closed_branch, open_branch}
 use Rattle.plant_model.specs.Element.{Item, Element, Taken, is_client}
 use Rattle.plant_model.specs.Taking.{answered}
-use Rattle.plant_model.specs.Solving.{client_reply, closed_paths, closed_reply, commit, free, issued_all}
+use Rattle.plant_model.specs.Solving.{client_reply, closed_paths, closed_reply, commit, free, issued_all, job_found}
 use Rattle.plant_model.specs.Settings.{place}
 use Rattle.plant_model.specs.Jobs.{entries_of}
 use Rattle.plant_model.specs.Plant.{Pin, Segment}
@@ -59,7 +59,7 @@ module _ (c : Codec) (n : NetworkParts) (d : As) (k : ℕ) (held : Held (Item Pi
   entries = entries_of held.item.class w.source (pinned one.own one.at)
 
   abbrev made : List Best → Taken Pin Segment
-  made best = commit c (place n d) (k, held) down now (λ b. b.segment) source_known target_known best element
+  made best = commit c (place n d) (k, held) down now (λ b. b.segment) (job_found source_known target_known best) element
 
   abbrev closed : List Best → Taken Pin Segment
   closed best = closed_reply c (place n d) (k, held) down now (λ b. b.segment) element best

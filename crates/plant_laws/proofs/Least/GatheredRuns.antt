@@ -23,7 +23,7 @@ use Rattle.plant_text.specs.Names.{same_as, parent_as}
 use Rattle.plant_model.specs.Wire.{Codec, Checked, Admitted, Wrong}
 use Rattle.plant_model.specs.Element.{upped, downed}
 use Rattle.plant_model.specs.Taking.{take}
-use Rattle.plant_model.specs.Solving.{commit}
+use Rattle.plant_model.specs.Solving.{commit, job_found}
 use Rattle.plant_model.specs.Parent as parent
 use Rattle.plant_model.specs.Parent.{Asking, AskingRow, Parent, ParentTaken, Errand, Wait, errands, all_waits, all_up, is_ready}
 use Rattle.plant_text.specs.Settings.{class_of}
@@ -301,7 +301,7 @@ module _ (c : Codec) (n : NetworkParts) where
     where
       gathers : AreSingle (h.deeds ++ ds) → AreGathered (h.deeds ++ ds) h.state
       gathers =
-          let r = commit c (place n d) (k, x.held) x.down s.clock (λ b. b.segment) x.rows.source_known x.rows.target_known x.rows.best (s.elements d) in
+          let r = commit c (place n d) (k, x.held) x.down s.clock (λ b. b.segment) (job_found x.rows.source_known x.rows.target_known x.rows.best) (s.elements d) in
           let v = puts Pin Segment c n open_of d r.outputs (with_element Pin Segment c n open_of d r.element s) in
           let e : PlantDeed = Solves d k r.outputs r.element.keys.issued in
           let next : AreSingle (e ∷ ds) → Holds c n (e ∷ ds) v = subst (λ (h' : Happened). AreSingle (h'.deeds ++ ds) → Holds c n (h'.deeds ++ ds) h'.state) x.is (solve_holds c n ds s d k h (λ z. (held z).0) x) in

@@ -27,7 +27,7 @@ use Rattle.plant_model.specs.Wire.{Codec, Admitted}
 use Rattle.plant_model.specs.Writing.{asked_of, request_message}
 use Rattle.plant_model.specs.Element.{Item, Row, Element}
 use Rattle.plant_model.specs.Taking.{sequence_or, goes_up}
-use Rattle.plant_model.specs.Solving.{commit}
+use Rattle.plant_model.specs.Solving.{commit, job_found}
 use Rattle.plant_model.specs.Settings.{place, family}
 use Rattle.plant_model.specs.State.{Pops, Takes, Solves}
 use Rattle.plant_model.specs.Plant.{Pin, Segment, PlantDeed, ask}
@@ -73,8 +73,8 @@ pub record IsSolved (c : Codec) (n : NetworkParts) (older : Transcript) (d : As)
   pub now : ℕ
   pub element : Element Pin Segment
   pub life : 1 ≤ element.keys.life
-  pub sends : os ≡ (commit c (place n d) (k, held) down now (λ b. b.segment) rows.source_known rows.target_known rows.best element).outputs
-  pub has : keys ≡ (commit c (place n d) (k, held) down now (λ b. b.segment) rows.source_known rows.target_known rows.best element).element.keys.issued
+  pub sends : os ≡ (commit c (place n d) (k, held) down now (λ b. b.segment) (job_found rows.source_known rows.target_known rows.best) element).outputs
+  pub has : keys ≡ (commit c (place n d) (k, held) down now (λ b. b.segment) (job_found rows.source_known rows.target_known rows.best) element).element.keys.issued
 
 -- A request that an element sent: of the path request that it took in the same moment, along the rest of its sequence, or upward.
 pub record IsAsked (c : Codec) (n : NetworkParts) (m : Transcript) (d : As) (b : As) (asks : List Asked) : Type 0 where

@@ -20,7 +20,7 @@ use Rattle.plant_model.specs.Element.{is_client}
 use Rattle.plant_model.specs.Taking.{goes_up}
 use Rattle.plant_text.specs.Settings.{class_of}
 use Rattle.plant_model.specs.Settings.{place}
-use Rattle.plant_model.specs.Solving.{commit}
+use Rattle.plant_model.specs.Solving.{commit, job_found}
 use Rattle.plant_model.specs.Blind.{is_closed}
 use Rattle.plant_model.specs.State.{Solves}
 use Rattle.plant_model.specs.Plant.{Segment, PlantDeed}
@@ -57,7 +57,7 @@ module _ (c : Codec) (codec : IsCodec c) (n : NetworkParts) (now : Transcript) (
       abbrev one : Leg
       one = leg c codec n now given d k os keys older x.taken.at
 
-      said_of : Contains (commit c (place n d) (k, x.held) x.down x.now (λ z. z.segment) x.rows.source_known x.rows.target_known x.rows.best x.element).outputs (record { to = p; message = messages.PcRep (r ∷ []) })
+      said_of : Contains (commit c (place n d) (k, x.held) x.down x.now (λ z. z.segment) (job_found x.rows.source_known x.rows.target_known x.rows.best) x.element).outputs (record { to = p; message = messages.PcRep (r ∷ []) })
       said_of = subst (λ (l : List Output). Contains l (record { to = p; message = messages.PcRep (r ∷ []) })) x.sends said
 
       to : x.held.key.peer ≡ p

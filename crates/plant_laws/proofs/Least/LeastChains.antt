@@ -30,7 +30,7 @@ use Rattle.pcep_messages.specs.Requests.{type_of_metric}
 use Rattle.plant_model.specs.Writing.{asked_of, request_message, vspt_flag}
 use Rattle.plant_model.specs.Element.{is_client}
 use Rattle.plant_model.specs.Taking.{sequence_or, goes_up}
-use Rattle.plant_model.specs.Solving.{commit}
+use Rattle.plant_model.specs.Solving.{commit, job_found}
 use Rattle.plant_text.specs.Settings.{class_of}
 use Rattle.plant_model.specs.Settings.{place}
 use Rattle.plant_model.specs.declared.route.Route.{Route}
@@ -323,7 +323,7 @@ module _ (c : Codec) (codec : IsCodec c) (n : NetworkParts) (now : Transcript) (
         within' : Within (Solves b k' os' keys' ∷ older') now
         within' = within_trans (Solves b k' os' keys' ∷ older') older now inside before
 
-        said_here : Contains (commit c (place n b) (k', y.held) y.down y.now (λ z. z.segment) y.rows.source_known y.rows.target_known y.rows.best y.element).outputs (record { to = Inner d; message = messages.PcRep (answered.reply ∷ []) })
+        said_here : Contains (commit c (place n b) (k', y.held) y.down y.now (λ z. z.segment) (job_found y.rows.source_known y.rows.target_known y.rows.best) y.element).outputs (record { to = Inner d; message = messages.PcRep (answered.reply ∷ []) })
         said_here = subst (λ (l : List Output). Contains l (record { to = Inner d; message = messages.PcRep (answered.reply ∷ []) })) y.sends said
 
         to_here : y.held.key.peer ≡ Inner d

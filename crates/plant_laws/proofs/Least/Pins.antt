@@ -12,7 +12,7 @@ use Rattle.plant_model.specs.Wire.{Bytes, Codec}
 use Rattle.disclosure.specs.Shown.{open_of}
 use Rattle.plant_model.specs.Element.{upped, downed}
 use Rattle.plant_model.specs.Taking.{take}
-use Rattle.plant_model.specs.Solving.{commit}
+use Rattle.plant_model.specs.Solving.{commit, job_found}
 use Rattle.plant_model.specs.Parent as parent
 use Rattle.plant_text.specs.Settings.{class_of}
 use Rattle.plant_model.specs.Settings.{place, family}
@@ -117,7 +117,7 @@ module _ (c : Codec) (n : NetworkParts) where
 
   solve_current : (ds : Transcript) (s : Plant) (d : As) (k : ℕ) (h : Happened) → Current ds s → ElementSolves c n d k s h → Current (h.deeds ++ ds) h.state
   solve_current ds s d k h held x =
-      let r = commit c (place n d) (k, x.held) x.down s.clock (λ b. b.segment) x.rows.source_known x.rows.target_known x.rows.best (s.elements d) in
+      let r = commit c (place n d) (k, x.held) x.down s.clock (λ b. b.segment) (job_found x.rows.source_known x.rows.target_known x.rows.best) (s.elements d) in
       let v = with_element Pin Segment c n open_of d r.element s in
       subst (λ (h' : Happened). Current (h'.deeds ++ ds) h'.state) (sym x.is)
       (left_current ds (Solves d k r.outputs r.element.keys.issued ∷ []) s (puts Pin Segment c n open_of d r.outputs v) held

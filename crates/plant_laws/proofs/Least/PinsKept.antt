@@ -26,8 +26,8 @@ use Rattle.disclosure.specs.Policy.{is_denied}
 use Rattle.plant_model.specs.Element.{Ready, Item, Row, Way, Element, ElementSettings, Taken, each, at_stage, waiting, waits_for, way_to, stays, downed, is_client}
 use Rattle.plant_model.specs.Routes.{toward}
 use Rattle.plant_model.specs.Branches.{branches_in}
-use Rattle.plant_model.specs.Taking.{sequence_or, goes_up, send_on, take_along, take_path, take_wish, take_new, take_checked, take_asked, answered, made_ready, take_answer, take_reply, told_busy, cancelled, take_busy, take_cancel, notice_steps, take_notice, error_answer, told_error, take_failure, take_errors, take_report, take}
-use Rattle.plant_model.specs.Solving.{commit, client_reply, closed_reply, closed_paths, issued_all, free}
+use Rattle.plant_model.specs.Taking.{sequence_or, goes_up, send_on, take_along, take_path, take_wish, take_new, take_checked, take_asked, answered, made_ready, take_answer, take_reply, told_busy, cancelled, take_busy, take_cancel, notice_steps, take_notice, error_answer, told_error, take_failure, take_errors, take_report, take, sight, wanting}
+use Rattle.plant_model.specs.Solving.{commit, client_reply, closed_reply, closed_paths, issued_all, free, job_found}
 
 module _ (P : Type 0) (S : Type 0) (Q : P → Type 0) where
   abbrev pub Rows : List (Row P) → Type 0
@@ -156,22 +156,22 @@ module _ (P : Type 0) (S : Type 0) (Q : P → Type 0) where
 
   -- a new request, with this pin
   module _ (pin : P) (new : Q pin) where
-    on_after : (p : Peer) (class : Class) (flags x : ℕ) (w : Wanted) (sequence rest : List As) (refused : Bool) (k : Element P S) (o : Option Way) → Holds k → After (send_on pin p class flags x w sequence rest refused k o)
+    on_after : (p : Peer) (class : Class) (flags x : ℕ) (w : Wanted) (sequence rest : List As) (refused : Bool) (k : Element P S) (o : Option Way) → Holds k → After (send_on (sight pin p class) (wanting flags x w) sequence rest refused k o)
     on_after p class flags x w sequence rest refused k None h = h
     on_after p class flags x w sequence rest refused k (Some way) h =
         after_pick way.up _ _ (after_pick refused _ _ h (rows_append k.pending.rows _ h (new, tt))) h
 
-    along_after : (e : ElementSettings) (p : Peer) (class : Class) (flags x : ℕ) (w : Wanted) (k : Element P S) (path : List As) → Holds k → After (take_along e pin p class flags x w k path)
+    along_after : (e : ElementSettings) (p : Peer) (class : Class) (flags x : ℕ) (w : Wanted) (k : Element P S) (path : List As) → Holds k → After (take_along e (sight pin p class) (wanting flags x w) k path)
     along_after e p class flags x w k [] h = h
     along_after e p class flags x w k (a ∷ []) h = rows_append k.pending.rows _ h (new, tt)
     along_after e p class flags x w k (a ∷ b ∷ rest) h = on_after p class flags x w (a ∷ b ∷ rest) (b ∷ rest) (is_denied e.deny class b) k (way_to (toward b e.routes) k.ways) h
 
-    path_after : (e : ElementSettings) (p : Peer) (class : Class) (flags x : ℕ) (w : Wanted) (k : Element P S) → Holds k → After (take_path e pin p class flags x w k)
+    path_after : (e : ElementSettings) (p : Peer) (class : Class) (flags x : ℕ) (w : Wanted) (k : Element P S) → Holds k → After (take_path e (sight pin p class) (wanting flags x w) k)
     path_after e p class flags x w k h =
         after_pick (goes_up e.parent class w.sequence) _ _ (on_after p class flags x w [] [] false k (way_to the_parent k.ways) h)
         (along_after e p class flags x w k (sequence_or e.own w.sequence) h)
 
-    wish_after : (show : S → List Hop) (e : ElementSettings) (p : Peer) (class : Class) (now flags x : ℕ) (k : Element P S) (w : Wish) → Holds k → After (take_wish show e pin p class now flags x k w)
+    wish_after : (show : S → List Hop) (e : ElementSettings) (p : Peer) (class : Class) (now flags x : ℕ) (k : Element P S) (w : Wish) → Holds k → After (take_wish show e (sight pin p class) now flags x k w)
     wish_after show e p class now flags x k (Path w) h = after_pick (is_full k.pending) _ _ h (path_after e p class flags x w k h)
     wish_after show e p class now flags x k (Expand key pce) h = h
 
@@ -201,7 +201,7 @@ module _ (P : Type 0) (S : Type 0) (Q : P → Type 0) where
   downed_keeps p k h = rows_filter (stays p) k.pending.rows h
 
   pub commit_keeps : (c : Codec) (e : ElementSettings) (h : Row P) (down : List Branch) (now : ℕ) (stands : Best → S) (source_known target_known : Bool) (best : List Best) (k : Element P S) →
-      Holds k → After (commit c e h down now stands source_known target_known best k)
+      Holds k → After (commit c e h down now stands (job_found source_known target_known best) k)
   commit_keeps c e h down now stands source_known target_known best k r =
       after_pick (is_client h.1.item.class) (answered h (client_reply c h down source_known target_known best) k) (closed_reply c e h down now stands k best)
       (rows_removed h.0 k.pending.rows r) (go best)

@@ -18,7 +18,7 @@ use Rattle.plant_model.specs.Wire.{Codec}
 use Rattle.plant_model.specs.Writing.{request_message}
 use Rattle.plant_model.specs.Element.{Stage, Waits, Ready, Item, Element, Row, upped, downed}
 use Rattle.plant_model.specs.Taking.{take}
-use Rattle.plant_model.specs.Solving.{commit}
+use Rattle.plant_model.specs.Solving.{commit, job_found}
 use Rattle.plant_model.specs.Parent as parent
 use Rattle.plant_text.specs.Settings.{class_of}
 use Rattle.plant_model.specs.Settings.{place, family}
@@ -237,9 +237,9 @@ module _ (c : Codec) (k : Element Pin Segment) (numbers : NumbersRise 0 k.pendin
       of_rows c k.pending.rows q [] (downed p k).element.pending.rows
       (kept.downed_keeps Pin Segment (FromOld c k.pending.rows q []) c q [] (made_ready c k.pending.rows q []) p k (record { rise = numbers; rows = to_rows c k.pending.rows q [] k.pending.rows (λ g j. j) })).rows h i
 
-  pub commit_from : (e : ElementSettings) (row : Row Pin) (down : List Branch) (now : ℕ) (s t : Bool) (best : List _) (h : Row Pin) → In h (commit c e row down now (λ b. b.segment) s t best k).element.pending.rows → FromOld c k.pending.rows q [] h.1
+  pub commit_from : (e : ElementSettings) (row : Row Pin) (down : List Branch) (now : ℕ) (s t : Bool) (best : List _) (h : Row Pin) → In h (commit c e row down now (λ b. b.segment) (job_found s t best) k).element.pending.rows → FromOld c k.pending.rows q [] h.1
   commit_from e row down now s t best h i =
-      of_rows c k.pending.rows q [] (commit c e row down now (λ b. b.segment) s t best k).element.pending.rows
+      of_rows c k.pending.rows q [] (commit c e row down now (λ b. b.segment) (job_found s t best) k).element.pending.rows
       (kept.commit_keeps Pin Segment (FromOld c k.pending.rows q []) c q [] (made_ready c k.pending.rows q []) c e row down now (λ b. b.segment) s t best k
       (record { rise = numbers; rows = to_rows c k.pending.rows q [] k.pending.rows (λ g j. j) })).rows h i
 
@@ -513,7 +513,7 @@ module _ (c : Codec) (n : NetworkParts) where
 
       ready : AreSingle (h.deeds ++ ds) → Both c n (h.deeds ++ ds) h.state → AreReady (h.deeds ++ ds) h.state
       ready =
-          let r = commit c (place n d) (k, x.held) x.down s.clock (λ b. b.segment) x.rows.source_known x.rows.target_known x.rows.best (s.elements d) in
+          let r = commit c (place n d) (k, x.held) x.down s.clock (λ b. b.segment) (job_found x.rows.source_known x.rows.target_known x.rows.best) (s.elements d) in
           let v = puts Pin Segment c n open_of d r.outputs (with_element Pin Segment c n open_of d r.element s) in
           let e : PlantDeed = Solves d k r.outputs r.element.keys.issued in
           subst (λ (h' : Happened). AreSingle (h'.deeds ++ ds) → Both c n (h'.deeds ++ ds) h'.state → AreReady (h'.deeds ++ ds) h'.state) (sym x.is)

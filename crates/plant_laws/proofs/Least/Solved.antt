@@ -23,7 +23,7 @@ use Rattle.plant_model.specs.Wire.{Codec}
 use Rattle.plant_model.specs.Jobs.{entries_of}
 use Rattle.plant_model.specs.Taking.{answered}
 use Rattle.plant_model.specs.Element.{Element, Row, ElementSettings, Taken, is_client}
-use Rattle.plant_model.specs.Solving.{commit, client_reply, closed_reply, free}
+use Rattle.plant_model.specs.Solving.{commit, client_reply, closed_reply, free, job_found}
 use Rattle.plant_model.specs.Parent as parent
 use Rattle.plant_model.specs.BorderGraph.{Found}
 use Rattle.plant_model.specs.Settings.{place}
@@ -78,7 +78,7 @@ pub record Said (c : Codec) (e : ElementSettings) (h : Row Pin) (down : List Bra
 module _ (c : Codec) (n : NetworkParts) (before : Plant) where
   commit_says : (d : As) (h : Row Pin) (down : List Branch) (rows : Answer) → AreRows h.1.item.pin.topology (ask c n d h down) rows →
       Said c (place n d) h down before.clock rows (before.elements d)
-      (commit c (place n d) h down before.clock (λ (b : Best). b.segment) rows.source_known rows.target_known rows.best (before.elements d)).outputs
+      (commit c (place n d) h down before.clock (λ (b : Best). b.segment) (job_found rows.source_known rows.target_known rows.best) (before.elements d)).outputs
   commit_says d h down rows right = go (is_client h.1.item.class) refl
     where
       go : (b : Bool) → is_client h.1.item.class ≡ b → Said c (place n d) h down before.clock rows (before.elements d)
@@ -103,7 +103,7 @@ module _ (c : Codec) (n : NetworkParts) (before : Plant) where
   element_tells : (d : As) (k : ℕ) (h : Happened) → ElementSolves c n d k before h → ElementTells c n before d k h.deeds
   element_tells d k h x =
       let said = commit_says d (k, x.held) x.down x.rows x.right in
-      let done = commit c (place n d) (k, x.held) x.down before.clock (λ (b : Best). b.segment) x.rows.source_known x.rows.target_known x.rows.best (before.elements d) in
+      let done = commit c (place n d) (k, x.held) x.down before.clock (λ (b : Best). b.segment) (job_found x.rows.source_known x.rows.target_known x.rows.best) (before.elements d) in
       record {
         upper = x.upper;
         held = x.held;

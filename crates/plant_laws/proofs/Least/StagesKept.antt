@@ -32,8 +32,8 @@ use Rattle.disclosure.specs.Policy.{is_denied}
 use Rattle.plant_model.specs.Element.{Stage, Waits, Ready, Item, Row, Way, Element, ElementSettings, Taken, each, ended, at_stage, waiting, waits_for, way_to, with_last, fresh_id, stays, downed, is_client}
 use Rattle.plant_model.specs.Routes.{toward}
 use Rattle.plant_model.specs.Branches.{branches_in}
-use Rattle.plant_model.specs.Taking.{item_of, sequence_or, goes_up, send_on, take_along, take_path, take_wish, take_new, take_checked, take_asked, staged, answered, made_ready, take_answer, take_reply, told_busy, cancelled, take_busy, take_cancel, notice_steps, take_notice, error_answer, told_error, take_failure, take_errors, take_report, take}
-use Rattle.plant_model.specs.Solving.{commit, client_reply, closed_reply, closed_paths, issued_all, free}
+use Rattle.plant_model.specs.Taking.{item_of, sequence_or, goes_up, send_on, take_along, take_path, take_wish, take_new, take_checked, take_asked, staged, answered, made_ready, take_answer, take_reply, told_busy, cancelled, take_busy, take_cancel, notice_steps, take_notice, error_answer, told_error, take_failure, take_errors, take_report, take, sight, wanting}
+use Rattle.plant_model.specs.Solving.{commit, client_reply, closed_reply, closed_paths, issued_all, free, job_found}
 use Rattle.plant_laws.specs.Certified.{Tells}
 
 abbrev pub IsFresh : List As → Stage → Type 0
@@ -236,23 +236,23 @@ module _ (P : Type 0) (S : Type 0) (Q : Held (Item P) → Type 0) (c0 : Codec) (
       rows = rows_append k.pending.rows _ h.rows (fresh sequence stage is, tt);
     }
 
-    on_after : (flags x : ℕ) (w : Wanted) (sequence rest : List As) (refused : Bool) (k : Element P S) (o : Option Way) → New flags x w → Holds k → After (send_on pin p0 class flags x w sequence rest refused k o)
+    on_after : (flags x : ℕ) (w : Wanted) (sequence rest : List As) (refused : Bool) (k : Element P S) (o : Option Way) → New flags x w → Holds k → After (send_on (sight pin p0 class) (wanting flags x w) sequence rest refused k o)
     on_after flags x w sequence rest refused k None fresh h = h
     on_after flags x w sequence rest refused k (Some way) fresh h =
         let y = fresh_id way.peer way.last_id k.pending.rows in
         after_pick way.up _ _ (after_pick refused _ _ h (opened_keeps flags x w sequence (Waits way.peer y) k (with_last way.peer y k.ways) tt fresh h)) h
 
-    along_after : (flags x : ℕ) (w : Wanted) (k : Element P S) (path : List As) → New flags x w → Holds k → After (take_along e pin p0 class flags x w k path)
+    along_after : (flags x : ℕ) (w : Wanted) (k : Element P S) (path : List As) → New flags x w → Holds k → After (take_along e (sight pin p0 class) (wanting flags x w) k path)
     along_after flags x w k [] fresh h = h
     along_after flags x w k (a ∷ []) fresh h = opened_keeps flags x w (a ∷ []) (Ready []) k k.ways (a, refl, refl) fresh h
     along_after flags x w k (a ∷ b ∷ rest) fresh h = on_after flags x w (a ∷ b ∷ rest) (b ∷ rest) (is_denied e.deny class b) k (way_to (toward b e.routes) k.ways) fresh h
 
-    path_after : (flags x : ℕ) (w : Wanted) (k : Element P S) → New flags x w → Holds k → After (take_path e pin p0 class flags x w k)
+    path_after : (flags x : ℕ) (w : Wanted) (k : Element P S) → New flags x w → Holds k → After (take_path e (sight pin p0 class) (wanting flags x w) k)
     path_after flags x w k fresh h =
         after_pick (goes_up e.parent class w.sequence) _ _ (on_after flags x w [] [] false k (way_to the_parent k.ways) fresh h)
         (along_after flags x w k (sequence_or e.own w.sequence) fresh h)
 
-    wish_after : (show : S → List Hop) (now flags x : ℕ) (k : Element P S) (w : Wish) → ((v : Wanted) → w ≡ Path v → New flags x v) → Holds k → After (take_wish show e pin p0 class now flags x k w)
+    wish_after : (show : S → List Hop) (now flags x : ℕ) (k : Element P S) (w : Wish) → ((v : Wanted) → w ≡ Path v → New flags x v) → Holds k → After (take_wish show e (sight pin p0 class) now flags x k w)
     wish_after show now flags x k (Path w) fresh h = after_pick (is_full k.pending) _ _ h (path_after flags x w k (fresh w refl) h)
     wish_after show now flags x k (Expand key pce) fresh h = h
 
@@ -292,7 +292,7 @@ module _ (P : Type 0) (S : Type 0) (Q : Held (Item P) → Type 0) (c0 : Codec) (
   downed_keeps p k h = record { rise = rise_filter (Item P) (stays p) 0 k.pending.given k.pending.rows h.rise; rows = rows_filter (stays p) k.pending.rows h.rows }
 
   pub commit_keeps : (c : Codec) (e : ElementSettings) (h : Row P) (down : List Branch) (now : ℕ) (stands : Best → S) (source_known target_known : Bool) (best : List Best) (k : Element P S) →
-      Holds k → After (commit c e h down now stands source_known target_known best k)
+      Holds k → After (commit c e h down now stands (job_found source_known target_known best) k)
   commit_keeps c e h down now stands source_known target_known best k r =
       after_pick (is_client h.1.item.class) (answered h (client_reply c h down source_known target_known best) k) (closed_reply c e h down now stands k best)
       (ended_keeps h.0 k r) (go best)

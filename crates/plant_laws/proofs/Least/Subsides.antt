@@ -19,7 +19,7 @@ use Rattle.plant_model.specs.Wire.{Codec}
 use Rattle.plant_model.specs.Element.{Ready, Item, Row, Element, ElementSettings, Taken, each, at_stage, is_ready, waiting, is_client, downed, stays}
 use Rattle.plant_model.specs.Taking as taking
 use Rattle.plant_model.specs.Taking.{error_answer}
-use Rattle.plant_model.specs.Solving.{commit, closed_reply, free}
+use Rattle.plant_model.specs.Solving.{commit, closed_reply, free, job_found}
 use Rattle.plant_laws.proofs.Runs.Rows.{In}
 
 pub in_removed : {T : Type 0} (t : ℕ → Bool) (rows : List (ℕ × Held T)) (h : ℕ × Held T) → In h (remove_entry t rows) → In h rows
@@ -151,7 +151,7 @@ module _ (P : Type 0) where
       pub reports_subs : (rs : List ErrorReport) (k : Element P S) → Subs k (each (taking.take_report p) rs k)
       reports_subs rs k = each_subs (taking.take_report p) (λ r k. report_subs r.ids r.errors k) rs k
 
-    pub commit_subs : (c : Codec) (e : ElementSettings) (h : Row P) (down : List Branch) (now : ℕ) (stands : Best → S) (s t : Bool) (best : List Best) (k : Element P S) → Subs k (commit c e h down now stands s t best k)
+    pub commit_subs : (c : Codec) (e : ElementSettings) (h : Row P) (down : List Branch) (now : ℕ) (stands : Best → S) (s t : Bool) (best : List Best) (k : Element P S) → Subs k (commit c e h down now stands (job_found s t best) k)
     commit_subs c e h down now stands s t best k = choose k (is_client h.1.item.class) _ _ (ends k h.0) (closed best)
       where
         closed : (best : List Best) → Subs k (closed_reply c e h down now stands k best)

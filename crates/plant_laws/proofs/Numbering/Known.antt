@@ -28,7 +28,7 @@ use Rattle.plant_model.specs.Settings.{place, family}
 use Rattle.plant_model.specs.Element as element
 use Rattle.plant_model.specs.Element.{Element, upped, downed, ticked, lost}
 use Rattle.plant_model.specs.Taking.{take}
-use Rattle.plant_model.specs.Solving.{commit}
+use Rattle.plant_model.specs.Solving.{commit, job_found}
 use Rattle.plant_model.specs.BorderGraph.{Found}
 use Rattle.plant_model.specs.Parent as parent
 use Rattle.plant_model.specs.Parent.{AskingRow}
@@ -347,7 +347,7 @@ module _ (c : Codec) (n : NetworkParts) (codec : IsCodec c) (net : IsNetwork n) 
 
   pub solve_known : (ds : Transcript) (s : Plant) (d : As) (k : ℕ) (h : Happened) → ((d' : As) → ArePending (s.elements d').pending) → Known ds s → ElementSolves c n d k s h → Known (h.deeds ++ ds) h.state
   solve_known ds s d k h are known x =
-      let r = commit c (place n d) (k, x.held) x.down s.clock (λ b. b.segment) x.rows.source_known x.rows.target_known x.rows.best (s.elements d) in
+      let r = commit c (place n d) (k, x.held) x.down s.clock (λ b. b.segment) (job_found x.rows.source_known x.rows.target_known x.rows.best) (s.elements d) in
       let v = with_element Pin Segment c n open_of d r.element s in
       let e : Deed Segment = Solves d k r.outputs r.element.keys.issued in
       let calm = calm_commit Pin Segment c (place n d) (k, x.held) x.down s.clock (λ b. b.segment) x.rows.source_known x.rows.target_known x.rows.best (s.elements d) in

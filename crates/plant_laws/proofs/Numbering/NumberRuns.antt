@@ -27,7 +27,7 @@ use Rattle.plant_model.specs.Laws.{Admits, IsSequence, IsCodec}
 use Rattle.plant_model.specs.Writing.{request_message}
 use Rattle.plant_model.specs.Element.{Stage, Waits, Element, Way, upped, downed, lost, lost_output, fresh_id}
 use Rattle.plant_model.specs.Taking.{take, sequence_or}
-use Rattle.plant_model.specs.Solving.{commit}
+use Rattle.plant_model.specs.Solving.{commit, job_found}
 use Rattle.plant_model.specs.Parent as parent
 use Rattle.plant_text.specs.Settings.{Adjacency, class_of, adjacencies}
 use Rattle.plant_model.specs.declared.route.Route.{Route}
@@ -411,7 +411,7 @@ module _ (c : Codec) (codec : IsCodec c) (n : NetworkParts) where
 
   solve_last : (ds : Transcript) (s : Plant) (d : As) (k : ℕ) (h : Happened) → If ds s → ElementSolves c n d k s h → If (h.deeds ++ ds) h.state
   solve_last ds s d k h held x =
-      let r = commit c (place n d) (k, x.held) x.down s.clock (λ b. b.segment) x.rows.source_known x.rows.target_known x.rows.best (s.elements d) in
+      let r = commit c (place n d) (k, x.held) x.down s.clock (λ b. b.segment) (job_found x.rows.source_known x.rows.target_known x.rows.best) (s.elements d) in
       let v = puts Pin Segment c n open_of d r.outputs (with_element Pin Segment c n open_of d r.element s) in
       let e : PlantDeed = Solves d k r.outputs r.element.keys.issued in
       let stay = commit_stays Pin Segment (IsKnown c) c (place n d) (k, x.held) x.down s.clock (λ b. b.segment) x.rows.source_known x.rows.target_known x.rows.best (s.elements d) in

@@ -33,7 +33,7 @@ use Rattle.plant_model.specs.Routes.{toward}
 use Rattle.plant_model.specs.Taking as taking
 use Rattle.plant_model.specs.Taking.{take, sequence_or, goes_up}
 use Rattle.plant_model.specs.Solving as solving
-use Rattle.plant_model.specs.Solving.{commit}
+use Rattle.plant_model.specs.Solving.{commit, job_found}
 use Rattle.plant_laws.proofs.Runs.Decompose.{nil_right}
 use Rattle.plant_laws.proofs.Runs.Rows.{In, in_append}
 use Rattle.plant_laws.proofs.Once.Takes.{IsSingle}
@@ -210,7 +210,7 @@ module _ (P : Type 0) where
       refused : (k : Element P S) (flags x : ℕ) → Numbers k (taking.denied p flags x k)
       refused k flags x = stays k _ ((λ none. none), tt)
 
-      sends : (k : Element P S) (flags x : ℕ) (w : Wanted) (sequence rest : List As) (r : Bool) (q : Peer) (o : Option Way) → way_to q k.ways ≡ o → Known w w.target rest q → Numbers k (taking.send_on pin p class flags x w sequence rest r k o)
+      sends : (k : Element P S) (flags x : ℕ) (w : Wanted) (sequence rest : List As) (r : Bool) (q : Peer) (o : Option Way) → way_to q k.ways ≡ o → Known w w.target rest q → Numbers k (taking.send_on (taking.sight pin p class) (taking.wanting flags x w) sequence rest r k o)
       sends k flags x w sequence rest r q None is known = refused k flags x
       sends k flags x w sequence rest r q (Some way) is known =
           choose k way.up _ _ (choose k r _ _ (refused k flags x) (inr sent)) (refused k flags x)
@@ -224,7 +224,7 @@ module _ (P : Type 0) where
           found : way_to way.peer k.ways ≡ Some way
           found = ap (λ (z : Peer). way_to z k.ways) about.1 ∙ is
 
-          sent : SendsOn k (taking.sent_on pin p class flags x w sequence rest k way)
+          sent : SendsOn k (taking.sent_on (taking.sight pin p class) (taking.wanting flags x w) sequence rest k way)
           sent = record {
             to = way.peer;
             id = fresh_id way.peer way.last_id k.pending.rows;
@@ -240,7 +240,7 @@ module _ (P : Type 0) where
                 (λ (stage : Stage). stage ≡ Waits way.peer (fresh_id way.peer way.last_id k.pending.rows)) refl;
           }
 
-      along : (k : Element P S) (flags x : ℕ) (w : Wanted) (sequence : List As) → ((first b : As) (rest : List As) → sequence ≡ first ∷ b ∷ rest → Known w w.target (b ∷ rest) (toward b e.routes)) → Numbers k (taking.take_along e pin p class flags x w k sequence)
+      along : (k : Element P S) (flags x : ℕ) (w : Wanted) (sequence : List As) → ((first b : As) (rest : List As) → sequence ≡ first ∷ b ∷ rest → Known w w.target (b ∷ rest) (toward b e.routes)) → Numbers k (taking.take_along e (taking.sight pin p class) (taking.wanting flags x w) k sequence)
       along k flags x w [] on = refused k flags x
       along k flags x w (a ∷ []) on = inl (record {
         lasts = λ q. refl;
@@ -249,7 +249,7 @@ module _ (P : Type 0) where
       })
       along k flags x w (a ∷ b ∷ rest) on = sends k flags x w (a ∷ b ∷ rest) (b ∷ rest) (is_denied e.deny class b) (toward b e.routes) (way_to (toward b e.routes) k.ways) refl (on a b rest refl)
 
-      wishes : (k : Element P S) (flags x : ℕ) (wish : Wish) → ((w : Wanted) → wish ≡ Path w → Goes e.own e.routes w) → Numbers k (taking.take_wish show e pin p class now flags x k wish)
+      wishes : (k : Element P S) (flags x : ℕ) (wish : Wish) → ((w : Wanted) → wish ≡ Path w → Goes e.own e.routes w) → Numbers k (taking.take_wish show e (taking.sight pin p class) now flags x k wish)
       wishes k flags x (Expand key pce) on = stays k _ ((λ none. none), tt)
       wishes k flags x (Path w) on =
           choose k (is_full k.pending) _ _ (stays k _ ((λ none. none), tt))
@@ -340,7 +340,7 @@ module _ (P : Type 0) where
 
     -- a solve sends nothing on
     pub commit_stays : (c : Codec) (e : ElementSettings) (h : Row P) (down : List Branch) (now : ℕ) (stands : Best → S) (s t : Bool) (best : List Best) (k : Element P S) →
-        ((commit c e h down now stands s t best k).element.ways ≡ k.ways) × NoneAsks (commit c e h down now stands s t best k).outputs
+        ((commit c e h down now stands (job_found s t best) k).element.ways ≡ k.ways) × NoneAsks (commit c e h down now stands (job_found s t best) k).outputs
     commit_stays c e h down now stands s t best k = pick k (is_client h.1.item.class) _ _ (client best) (closed best)
       where
         client : (best : List Best) → Stay k (taking.answered h (solving.client_reply c h down s t best) k)

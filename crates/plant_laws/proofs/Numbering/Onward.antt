@@ -28,8 +28,8 @@ use Rattle.plant_model.specs.Writing.{request_message, reply_message, error_mess
 use Rattle.disclosure.specs.Policy.{is_denied}
 use Rattle.plant_model.specs.Element.{Row, Way, Element, ElementSettings, Taken, silent, only, each, waiting, fresh_id, way_to, with_last, with_up, is_client, lost_output}
 use Rattle.plant_model.specs.Routes.{toward}
-use Rattle.plant_model.specs.Taking.{take, take_asked, take_checked, take_new, take_wish, take_path, take_along, send_on, sequence_or, goes_up, answered, take_reply, take_answer, made_ready, take_notice, notice_steps, take_busy, take_cancel, told_busy, cancelled, take_report, take_errors, take_failure, told_error, error_answer}
-use Rattle.plant_model.specs.Solving.{commit, client_reply, closed_reply, free}
+use Rattle.plant_model.specs.Taking.{take, take_asked, take_checked, take_new, take_wish, take_path, take_along, send_on, sequence_or, goes_up, answered, take_reply, take_answer, made_ready, take_notice, notice_steps, take_busy, take_cancel, told_busy, cancelled, take_report, take_errors, take_failure, told_error, error_answer, sight, wanting}
+use Rattle.plant_model.specs.Solving.{commit, client_reply, closed_reply, free, job_found}
 use Rattle.plant_model.specs.Parent.{last_to}
 use Rattle.plant_laws.proofs.Runs.Decompose.{nil_right}
 use Rattle.plant_laws.proofs.Once.Handing.{IsAsk}
@@ -183,7 +183,7 @@ module _ (P : Type 0) (S : Type 0) where
     calm_reports rs k = calm_each (take_report p) (λ r j. calm_errors r.ids r.errors j) rs k
 
   pub calm_commit : (c : Codec) (e : ElementSettings) (h : Row P) (down : List Branch) (now : ℕ) (stands : Best → S) (source_known target_known : Bool) (best : List Best) (k : Element P S) →
-      IsCalm k (commit c e h down now stands source_known target_known best k)
+      IsCalm k (commit c e h down now stands (job_found source_known target_known best) k)
   calm_commit c e h down now stands source_known target_known best k = calm_pick k (is_client h.1.item.class) _ (closed_reply c e h down now stands k best) (client best) (closed best)
     where
       client : (best : List Best) → IsCalm k (answered h (client_reply c h down source_known target_known best) k)
@@ -229,7 +229,7 @@ module _ (P : Type 0) (S : Type 0) where
 
     module _ (a : Asked) where
       send : (flags x : ℕ) (w : Wanted) → c.check a e.own ≡ Admitted (record { flags = flags; id = x; wish = Path w }) → (to : Peer) (sequence rest : List As) → GoesTo e.routes w to rest → (refused : Bool) (o : Option Way) → way_to to k.ways ≡ o →
-          SendsFor a (send_on pin p class flags x w sequence rest refused k o)
+          SendsFor a (send_on (sight pin p class) (wanting flags x w) sequence rest refused k o)
       send flags x w is to sequence rest goes refused None found = says a (reply_message flags x unavailable) (λ none. none)
       send flags x w is to sequence rest goes refused (Some way) found =
           pick a way.up _ _
@@ -237,16 +237,16 @@ module _ (P : Type 0) (S : Type 0) where
           (inr (record { to = to; way = way; found = found; asked = a; flags = flags; id = x; wanted = w; admitted = is; rest = rest; goes = goes; outs = refl; ways = refl }, refl)))
           (says a (reply_message flags x unavailable) (λ none. none))
 
-      along : (flags x : ℕ) (w : Wanted) → c.check a e.own ≡ Admitted (record { flags = flags; id = x; wish = Path w }) → (sequence : List As) → w.sequence ≡ sequence → SendsFor a (take_along e pin p class flags x w k (sequence_or e.own sequence))
+      along : (flags x : ℕ) (w : Wanted) → c.check a e.own ≡ Admitted (record { flags = flags; id = x; wish = Path w }) → (sequence : List As) → w.sequence ≡ sequence → SendsFor a (take_along e (sight pin p class) (wanting flags x w) k (sequence_or e.own sequence))
       along flags x w is [] same = inl (record { none = tt; ways = refl })
       along flags x w is (d ∷ []) same = inl (record { none = tt; ways = refl })
       along flags x w is (d ∷ b ∷ rest) same = send flags x w is (toward b e.routes) (d ∷ b ∷ rest) (b ∷ rest) (inr (d, b, rest, refl, refl, same)) (is_denied e.deny class b) (way_to (toward b e.routes) k.ways) refl
 
-      wishes : (flags x : ℕ) (wish : Wish) → c.check a e.own ≡ Admitted (record { flags = flags; id = x; wish = wish }) → SendsFor a (take_wish show e pin p class now flags x k wish)
+      wishes : (flags x : ℕ) (wish : Wish) → c.check a e.own ≡ Admitted (record { flags = flags; id = x; wish = wish }) → SendsFor a (take_wish show e (sight pin p class) now flags x k wish)
       wishes flags x (Expand key pce) is = says a (reply_message flags x _) (λ none. none)
       wishes flags x (Path w) is =
-          pick a (is_full k.pending) _ (take_path e pin p class flags x w k) (says a (busy flags x) (λ none. none))
-          (pick a (goes_up e.parent class w.sequence) (send_on pin p class flags x w [] [] false k (way_to the_parent k.ways)) (take_along e pin p class flags x w k (sequence_or e.own w.sequence))
+          pick a (is_full k.pending) _ (take_path e (sight pin p class) (wanting flags x w) k) (says a (busy flags x) (λ none. none))
+          (pick a (goes_up e.parent class w.sequence) (send_on (sight pin p class) (wanting flags x w) [] [] false k (way_to the_parent k.ways)) (take_along e (sight pin p class) (wanting flags x w) k (sequence_or e.own w.sequence))
           (send flags x w is the_parent [] [] (inl (refl, refl)) false (way_to the_parent k.ways) refl) (along flags x w is w.sequence refl))
 
       checks : (o : Checked) → c.check a e.own ≡ o → SendsFor a (take_checked show e pin p class now k o)

@@ -26,9 +26,9 @@ use Rattle.plant_model.specs.Wire.{Codec, Checked, Admitted, Wrong}
 use Rattle.disclosure.specs.Policy.{is_denied}
 use Rattle.plant_model.specs.Element.{Element, Row, Way, ElementSettings, Taken, each, way_to, is_client, lost, lost_output, downed, waiting, upped}
 use Rattle.plant_model.specs.Routes.{toward}
-use Rattle.plant_model.specs.Taking.{take, take_asked, take_checked, take_new, take_wish, take_path, take_along, send_on, sequence_or, goes_up, take_reply, take_answer, made_ready, take_notice, notice_steps, take_busy, take_cancel, told_busy, cancelled, take_report, take_errors, take_failure, told_error, error_answer}
+use Rattle.plant_model.specs.Taking.{take, take_asked, take_checked, take_new, take_wish, take_path, take_along, send_on, sequence_or, goes_up, take_reply, take_answer, made_ready, take_notice, notice_steps, take_busy, take_cancel, told_busy, cancelled, take_report, take_errors, take_failure, told_error, error_answer, sight, wanting}
 use Rattle.plant_model.specs.Writing.{error_message, reply_message, unavailable}
-use Rattle.plant_model.specs.Solving.{commit, closed_reply}
+use Rattle.plant_model.specs.Solving.{commit, closed_reply, job_found}
 use Rattle.plant_model.specs.Parent as parent
 use Rattle.plant_model.specs.BorderGraph.{Found}
 use Rattle.plant_text.specs.Settings.{class_of}
@@ -104,23 +104,23 @@ module _ (P : Type 0) (S : Type 0) where
 
   module _ (c : Codec) (show : S → List Hop) (e : ElementSettings) (pin : P) (p : Peer) (class : Class) (now : ℕ) where
     send_short : (flags x : ℕ) (w : Wanted) (sequence rest : List As) (refused : Bool) (k : Element P S) (way : Option Way) →
-        length (send_on pin p class flags x w sequence rest refused k way).outputs ≤ 1
+        length (send_on (sight pin p class) (wanting flags x w) sequence rest refused k way).outputs ≤ 1
     send_short flags x w sequence rest refused k None = omega arith
     send_short flags x w sequence rest refused k (Some way) = pick_short way.up _ _ (pick_short refused _ _ (omega arith) (omega arith)) (omega arith)
 
-    along_short : (flags x : ℕ) (w : Wanted) (k : Element P S) (sequence : List As) → length (take_along e pin p class flags x w k sequence).outputs ≤ 1
+    along_short : (flags x : ℕ) (w : Wanted) (k : Element P S) (sequence : List As) → length (take_along e (sight pin p class) (wanting flags x w) k sequence).outputs ≤ 1
     along_short flags x w k [] = omega arith
     along_short flags x w k (a ∷ []) = omega arith
     along_short flags x w k (a ∷ b ∷ rest) = send_short flags x w (a ∷ b ∷ rest) (b ∷ rest) (is_denied e.deny class b) k (way_to (toward b e.routes) k.ways)
 
-    path_short : (flags x : ℕ) (w : Wanted) (k : Element P S) → length (take_path e pin p class flags x w k).outputs ≤ 1
+    path_short : (flags x : ℕ) (w : Wanted) (k : Element P S) → length (take_path e (sight pin p class) (wanting flags x w) k).outputs ≤ 1
     path_short flags x w k =
-        pick_short (goes_up e.parent class w.sequence) (send_on pin p class flags x w [] [] false k (way_to the_parent k.ways)) (take_along e pin p class flags x w k (sequence_or e.own w.sequence))
+        pick_short (goes_up e.parent class w.sequence) (send_on (sight pin p class) (wanting flags x w) [] [] false k (way_to the_parent k.ways)) (take_along e (sight pin p class) (wanting flags x w) k (sequence_or e.own w.sequence))
         (send_short flags x w [] [] false k (way_to the_parent k.ways))
         (along_short flags x w k (sequence_or e.own w.sequence))
 
-    wish_short : (flags x : ℕ) (k : Element P S) (wish : Wish) → length (take_wish show e pin p class now flags x k wish).outputs ≤ 1
-    wish_short flags x k (Path w) = pick_short (is_full k.pending) _ (take_path e pin p class flags x w k) (omega arith) (path_short flags x w k)
+    wish_short : (flags x : ℕ) (k : Element P S) (wish : Wish) → length (take_wish show e (sight pin p class) now flags x k wish).outputs ≤ 1
+    wish_short flags x k (Path w) = pick_short (is_full k.pending) _ (take_path e (sight pin p class) (wanting flags x w) k) (omega arith) (path_short flags x w k)
     wish_short flags x k (Expand key pce) = omega arith
 
     new_short : (r : _) (k : Element P S) (number : Option ℕ) → length (take_new show e pin p class now r k number).outputs ≤ 1
@@ -202,7 +202,7 @@ IsOne os = (o : Output) × (os ≡ o ∷ [])
 
 -- a solve sends one message
 pub commit_one : {P S : Type 0} (c : Codec) (e : ElementSettings) (h : Row P) (down : List Branch) (now : ℕ) (stands : Best → S) (source_known target_known : Bool) (best : List Best) (k : Element P S) →
-    IsOne (commit c e h down now stands source_known target_known best k).outputs
+    IsOne (commit c e h down now stands (job_found source_known target_known best) k).outputs
 commit_one {P} {S} c e h down now stands source_known target_known best k = pick (is_client h.1.item.class) _ (closed_reply c e h down now stands k best) (_, refl) (closed best)
   where
     pick : (b : Bool) (x y : Taken P S) → IsOne x.outputs → IsOne y.outputs → IsOne (cond b x y).outputs

@@ -106,30 +106,30 @@ module _ (P : Type 0) (S : Type 0) (c : Codec) (show : S → List Hop) (e : Elem
     kept : (t : Taken P S) → t.element.pending ≡ k.pending → News t
     kept t same = unchanged t same
 
-    sends : (sequence rest : List As) (r : Bool) (to : Peer) (o : Option Way) → ((way : Way) → o ≡ Some way → way.peer ≡ to) → IsRest e.routes sequence rest to → News (taking.send_on pin p class flags x w sequence rest r k o)
+    sends : (sequence rest : List As) (r : Bool) (to : Peer) (o : Option Way) → ((way : Way) → o ≡ Some way → way.peer ≡ to) → IsRest e.routes sequence rest to → News (taking.send_on (taking.sight pin p class) (taking.wanting flags x w) sequence rest r k o)
     sends sequence rest r to None is goes = kept (taking.denied p flags x k) refl
     sends sequence rest r to (Some way) is goes =
         choose way.up _ _
         (choose r _ _ (kept (taking.denied p flags x k) refl)
-        (opens (taking.sent_on pin p class flags x w sequence rest k way) (taking.item_of pin class flags w sequence (Waits way.peer (fresh_id way.peer way.last_id k.pending.rows))) refl
+        (opens (taking.sent_on (taking.sight pin p class) (taking.wanting flags x w) sequence rest k way) (taking.item_of pin class flags w sequence (Waits way.peer (fresh_id way.peer way.last_id k.pending.rows))) refl
         (rest, inl refl, subst (IsRest e.routes sequence rest) (sym (is way refl)) goes)
         (fresh_apart way.peer (fresh_id way.peer way.last_id k.pending.rows) k.pending.rows (fresh_is_free way.peer way.last_id k.pending.rows few))))
         (kept (taking.denied p flags x k) refl)
 
-    along : (sequence : List As) → News (taking.take_along e pin p class flags x w k sequence)
+    along : (sequence : List As) → News (taking.take_along e (taking.sight pin p class) (taking.wanting flags x w) k sequence)
     along [] = kept (taking.denied p flags x k) refl
-    along (d ∷ []) = opens (taking.take_along e pin p class flags x w k (d ∷ [])) (taking.item_of pin class flags w (d ∷ []) (Ready [])) refl tt (λ g i. refl)
+    along (d ∷ []) = opens (taking.take_along e (taking.sight pin p class) (taking.wanting flags x w) k (d ∷ [])) (taking.item_of pin class flags w (d ∷ []) (Ready [])) refl tt (λ g i. refl)
     along (d ∷ b ∷ rest) =
         sends (d ∷ b ∷ rest) (b ∷ rest) (is_denied e.deny class b) (toward b e.routes) (way_to (toward b e.routes) k.ways) (λ way is. way_peer (toward b e.routes) k.ways way is) (inr (d, b, rest, refl, refl, refl))
 
-    paths : News (taking.take_path e pin p class flags x w k)
+    paths : News (taking.take_path e (taking.sight pin p class) (taking.wanting flags x w) k)
     paths =
         choose (goes_up e.parent class w.sequence) _ _
         (sends [] [] false the_parent (way_to the_parent k.ways) (λ way is. way_peer the_parent k.ways way is) (inl (refl, refl, refl)))
         (along (sequence_or e.own w.sequence))
 
-  wishes : (flags x : ℕ) (wish : Wish) → number_of k.pending p x ≡ None → News (taking.take_wish show e pin p class now flags x k wish)
-  wishes flags x (Expand key pce) none = unchanged (taking.take_wish show e pin p class now flags x k (Expand key pce)) refl
+  wishes : (flags x : ℕ) (wish : Wish) → number_of k.pending p x ≡ None → News (taking.take_wish show e (taking.sight pin p class) now flags x k wish)
+  wishes flags x (Expand key pce) none = unchanged (taking.take_wish show e (taking.sight pin p class) now flags x k (Expand key pce)) refl
   wishes flags x (Path w) none = choose (is_full k.pending) _ _ (unchanged (only p (busy flags x) k) refl) (paths flags x w none)
 
   checks : (r : Checked) → News (taking.take_checked show e pin p class now k r)

@@ -26,7 +26,7 @@ use Rattle.plant_model.specs.Branches.{branches_in}
 use Rattle.disclosure.specs.Policy.{is_denied}
 use Rattle.plant_model.specs.Element.{Stage, Waits, Ready, Element, Item, Row, Way, ElementSettings, Taken, silent, only, is_client, way_to, waiting, waits_for, at_stage, fresh_id, with_last}
 use Rattle.plant_model.specs.Routes.{toward}
-use Rattle.plant_model.specs.Taking.{take, take_asked, take_checked, take_new, take_path, take_along, send_on, item_of, sequence_or, goes_up, answered, staged, take_answer, made_ready, told_busy, take_failure}
+use Rattle.plant_model.specs.Taking.{take, take_asked, take_checked, take_new, take_path, take_along, send_on, item_of, sequence_or, goes_up, answered, staged, take_answer, made_ready, told_busy, take_failure, sight, wanting}
 use Rattle.plant_laws.proofs.Once.Handing.{In}
 use Rattle.plant_laws.proofs.Once.Counting.{waiting_in}
 use Rattle.plant_laws.proofs.Once.Leaving.{In-back, was_in, written_in, Answered, answer_there, reply_answers, busy_answers, Named, WaitsFor}
@@ -180,12 +180,12 @@ module _ (P : Type 0) (S : Type 0) where
         let new : Row P = (k.pending.given + 1, record { key = key_of q y; item = i }) in
         inl (new, In-back new k.pending.rows (new ∷ []) (inl refl), refl, refl)
 
-    seen_along : (flags y : ℕ) (w : Wanted) (sequence : List As) → IsSeen y sequence (take_along e pin q class flags y w k sequence)
+    seen_along : (flags y : ℕ) (w : Wanted) (sequence : List As) → IsSeen y sequence (take_along e (sight pin q class) (wanting flags y w) k sequence)
     seen_along flags y w [] = seen_reply flags y [] unavailable
     seen_along flags y w (a ∷ []) = seen_opened y (item_of pin class flags w (a ∷ []) (Ready [])) k.ways []
     seen_along flags y w (a ∷ b ∷ rest) = go (way_to (toward b e.routes) k.ways)
       where
-        go : (o : Option Way) → IsSeen y (a ∷ b ∷ rest) (send_on pin q class flags y w (a ∷ b ∷ rest) (b ∷ rest) (is_denied e.deny class b) k o)
+        go : (o : Option Way) → IsSeen y (a ∷ b ∷ rest) (send_on (sight pin q class) (wanting flags y w) (a ∷ b ∷ rest) (b ∷ rest) (is_denied e.deny class b) k o)
         go None = seen_reply flags y (a ∷ b ∷ rest) unavailable
         go (Some way) =
             seen_pick y (a ∷ b ∷ rest) way.up _ _
@@ -198,14 +198,14 @@ module _ (P : Type 0) (S : Type 0) where
     stays_down [] = ap (λ (b : Bool). cond b e.parent false) closed
     stays_down (a ∷ l) = refl
 
-    seen_path : (flags y : ℕ) (w : Wanted) (a : As) (rest : List As) → w.sequence ≡ a ∷ rest → IsSeen y (a ∷ rest) (take_path e pin q class flags y w k)
+    seen_path : (flags y : ℕ) (w : Wanted) (a : As) (rest : List As) → w.sequence ≡ a ∷ rest → IsSeen y (a ∷ rest) (take_path e (sight pin q class) (wanting flags y w) k)
     seen_path flags y w a rest is =
-        subst (λ (b : Bool). IsSeen y (a ∷ rest) (cond b (send_on pin q class flags y w [] [] false k (way_to the_parent k.ways)) (take_along e pin q class flags y w k (sequence_or e.own w.sequence)))) (sym (stays_down w.sequence))
-        (subst (λ (l : List As). IsSeen y (a ∷ rest) (take_along e pin q class flags y w k (sequence_or e.own l))) (sym is) (seen_along flags y w (a ∷ rest)))
+        subst (λ (b : Bool). IsSeen y (a ∷ rest) (cond b (send_on (sight pin q class) (wanting flags y w) [] [] false k (way_to the_parent k.ways)) (take_along e (sight pin q class) (wanting flags y w) k (sequence_or e.own w.sequence)))) (sym (stays_down w.sequence))
+        (subst (λ (l : List As). IsSeen y (a ∷ rest) (take_along e (sight pin q class) (wanting flags y w) k (sequence_or e.own l))) (sym is) (seen_along flags y w (a ∷ rest)))
 
     pub ask_seen : (a : Asked) (flags y : ℕ) (w : Wanted) (b : As) (rest : List As) → c.check a e.own ≡ Admitted (record { flags = flags; id = y; wish = Path w }) → number_of k.pending q y ≡ None →
         w.sequence ≡ b ∷ rest → IsSeen y (b ∷ rest) (take_asked c show e pin q class now a k)
     ask_seen a flags y w b rest admitted fresh is =
         subst (λ (o : Checked). IsSeen y (b ∷ rest) (take_checked show e pin q class now k o)) (sym admitted)
         (subst (λ (o : Option ℕ). IsSeen y (b ∷ rest) (take_new show e pin q class now (record { flags = flags; id = y; wish = Path w }) k o)) (sym fresh)
-        (seen_pick y (b ∷ rest) (is_full k.pending) _ (take_path e pin q class flags y w k) (inr (answer_there q y (busy flags y) (busy_answers flags y))) (seen_path flags y w b rest is)))
+        (seen_pick y (b ∷ rest) (is_full k.pending) _ (take_path e (sight pin q class) (wanting flags y w) k) (inr (answer_there q y (busy flags y) (busy_answers flags y))) (seen_path flags y w b rest is)))

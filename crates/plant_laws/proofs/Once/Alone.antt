@@ -20,7 +20,7 @@ use Rattle.plant_model.specs.Wire.{Bytes, Codec}
 use Rattle.plant_model.specs.Writing.{reply_message, busy, error_message, request_message}
 use Rattle.plant_model.specs.Element.{upped, downed, lost, sent_through}
 use Rattle.plant_model.specs.Taking.{take}
-use Rattle.plant_model.specs.Solving.{commit}
+use Rattle.plant_model.specs.Solving.{commit, job_found}
 use Rattle.plant_model.specs.Parent as parent
 use Rattle.plant_text.specs.Settings.{Adjacency, adjacency, class_of}
 use Rattle.plant_model.specs.Settings.{place, family}
@@ -239,7 +239,7 @@ module _ (c : Codec) (codec : IsCodec c) (n : NetworkParts) where
 
   solve_alone : (ds : Transcript) (s : Plant) (d : As) (k : ℕ) (h : Happened) → Both ds s → ElementSolves c n d k s h → Both (h.deeds ++ ds) h.state
   solve_alone ds s d k h held x =
-      let r = commit c (place n d) (k, x.held) x.down s.clock (λ b. b.segment) x.rows.source_known x.rows.target_known x.rows.best (s.elements d) in
+      let r = commit c (place n d) (k, x.held) x.down s.clock (λ b. b.segment) (job_found x.rows.source_known x.rows.target_known x.rows.best) (s.elements d) in
       subst (λ (h' : Happened). Both (h'.deeds ++ ds) h'.state) (sym x.is)
       (λ again. (
         sent_stands c n d r.outputs s (with_element Pin Segment c n open_of d r.element s) ds (Solves d k r.outputs r.element.keys.issued) refl (λ a. refl) (λ a b xs. refl) (held again.1).0,

@@ -17,7 +17,7 @@ use Rattle.plant_text.specs.Names.{same_as, parent_as}
 use Rattle.plant_model.specs.Wire.{Bytes, Codec, Checked, Admitted, Wrong}
 use Rattle.plant_model.specs.Element.{Element, upped, downed}
 use Rattle.plant_model.specs.Taking.{take}
-use Rattle.plant_model.specs.Solving.{commit}
+use Rattle.plant_model.specs.Solving.{commit, job_found}
 use Rattle.plant_model.specs.Parent as parent
 use Rattle.plant_text.specs.Settings.{class_of}
 use Rattle.plant_model.specs.Settings.{place, family}
@@ -162,7 +162,7 @@ module _ (c : Codec) (n : NetworkParts) where
 
   solve_kept : (ds : Transcript) (s : Plant) (d : As) (k : ℕ) (h : Happened) → KeptIn ds s → ElementSolves c n d k s h → KeptIn (h.deeds ++ ds) h.state
   solve_kept ds s d k h kept x =
-      let r = commit c (place n d) (k, x.held) x.down s.clock (λ b. b.segment) x.rows.source_known x.rows.target_known x.rows.best (s.elements d) in
+      let r = commit c (place n d) (k, x.held) x.down s.clock (λ b. b.segment) (job_found x.rows.source_known x.rows.target_known x.rows.best) (s.elements d) in
       let once = counting.commit_once Pin Segment c (place n d) (k, x.held) x.down s.clock (λ b. b.segment) x.rows.source_known x.rows.target_known x.rows.best (s.elements d) (kept.0.elements d) in
       subst (λ (h' : Happened). KeptIn (h'.deeds ++ ds) h'.state) (sym x.is)
       (sent_order d r.outputs (with_element Pin Segment c n open_of d r.element s) (with_one d r.element s once.0 kept.0), (once.1, kept.1))

@@ -21,7 +21,7 @@ use Rattle.plant_model.specs.Wire.{Codec, Checked, Admitted, Wrong}
 use Rattle.plant_model.specs.Writing.{error_message, reply_message, request_message, busy, unavailable, no_key, ids_of}
 use Rattle.plant_model.specs.Element.{Element, Way, ElementSettings, Taken, fresh_id, way_to, with_last}
 use Rattle.plant_model.specs.Routes.{toward}
-use Rattle.plant_model.specs.Taking.{take, take_asked, take_checked, take_new, take_wish, take_path, take_along, send_on, sequence_or, goes_up, expansion}
+use Rattle.plant_model.specs.Taking.{take, take_asked, take_checked, take_new, take_wish, take_path, take_along, send_on, sequence_or, goes_up, expansion, sight, wanting}
 use Rattle.plant_model.specs.Parent as parent
 use Rattle.plant_model.specs.Parent.{Family, Parent, ParentTaken, Wait, Errand}
 use Rattle.plant_laws.specs.Transcript.{one_if, has_id, count_answers, answers_to}
@@ -74,20 +74,20 @@ module _ (P : Type 0) (S : Type 0) (show : S → List Hop) (e : ElementSettings)
   denies : (flags y : ℕ) → answers_to q x (record { to = p; message = reply_message flags y unavailable } ∷ []) ≤ one_if (y == x)
   denies flags y = said p q x (one_if (y == x)) (reply_message flags y unavailable) (reply_at flags y unavailable x)
 
-  sends : (flags y : ℕ) (w : Wanted) (sequence rest : List As) (refused : Bool) (k : Element P S) (o : Option Way) → says (send_on pin p class flags y w sequence rest refused k o) ≤ one_if (y == x)
+  sends : (flags y : ℕ) (w : Wanted) (sequence rest : List As) (refused : Bool) (k : Element P S) (o : Option Way) → says (send_on (sight pin p class) (wanting flags y w) sequence rest refused k o) ≤ one_if (y == x)
   sends flags y w sequence rest refused k None = denies flags y
   sends flags y w sequence rest refused k (Some way) =
       pick (one_if (y == x)) way.up _ _
       (pick (one_if (y == x)) refused _ _ (denies flags y) (said way.peer q x (one_if (y == x)) (request_message (fresh_id way.peer way.last_id k.pending.rows) w w.target rest) (omega arith))) (denies flags y)
 
-  along : (flags y : ℕ) (w : Wanted) (k : Element P S) (sequence : List As) → says (take_along e pin p class flags y w k sequence) ≤ one_if (y == x)
+  along : (flags y : ℕ) (w : Wanted) (k : Element P S) (sequence : List As) → says (take_along e (sight pin p class) (wanting flags y w) k sequence) ≤ one_if (y == x)
   along flags y w k [] = denies flags y
   along flags y w k (a ∷ []) = omega arith
   along flags y w k (a ∷ b ∷ rest) = sends flags y w (a ∷ b ∷ rest) (b ∷ rest) (is_denied e.deny class b) k (way_to (toward b e.routes) k.ways)
 
-  wishes : (flags y : ℕ) (k : Element P S) (wish : Wish) → says (take_wish show e pin p class now flags y k wish) ≤ one_if (y == x)
+  wishes : (flags y : ℕ) (k : Element P S) (wish : Wish) → says (take_wish show e (sight pin p class) now flags y k wish) ≤ one_if (y == x)
   wishes flags y k (Path w) =
-      pick (one_if (y == x)) (is_full k.pending) _ (take_path e pin p class flags y w k) (said p q x (one_if (y == x)) (busy flags y) (busy_at flags y x))
+      pick (one_if (y == x)) (is_full k.pending) _ (take_path e (sight pin p class) (wanting flags y w) k) (said p q x (one_if (y == x)) (busy flags y) (busy_at flags y x))
       (pick (one_if (y == x)) (goes_up e.parent class w.sequence) _ _ (sends flags y w [] [] false k (way_to the_parent k.ways)) (along flags y w k (sequence_or e.own w.sequence)))
   wishes flags y k (Expand key pce) =
       said p q x (one_if (y == x)) (reply_message flags y (expansion show e class now key pce k)) (reply_at flags y (expansion show e class now key pce k) x)

@@ -25,7 +25,7 @@ use Rattle.plant_model.specs.Writing.{reply_message, unavailable, no_key}
 use Rattle.disclosure.specs.Policy.{is_denied}
 use Rattle.plant_model.specs.Element.{Element, Way, ElementSettings, Taken, way_to, with_last, upped, downed}
 use Rattle.plant_model.specs.Routes.{toward}
-use Rattle.plant_model.specs.Taking.{take, take_asked, take_checked, take_new, take_wish, take_along, send_on, sequence_or, goes_up, expansion}
+use Rattle.plant_model.specs.Taking.{take, take_asked, take_checked, take_new, take_wish, take_along, send_on, sequence_or, goes_up, expansion, sight, wanting}
 use Rattle.plant_model.specs.Parent as parent
 use Rattle.plant_model.specs.Parent.{Family, Parent, ParentTaken, Wait, Errand}
 use Rattle.plant_text.specs.Settings.{class_of}
@@ -66,18 +66,18 @@ abbrev OfId : ℕ → Reply → Type 0
 OfId x r = r.id ≡ x
 
 module _ (P : Type 0) (S : Type 0) (show : S → List Hop) (e : ElementSettings) (pin : P) (p : Peer) (class : Class) (now : ℕ) where
-  sends : (flags x : ℕ) (w : Wanted) (sequence rest : List As) (r : Bool) (k : Element P S) (o : Option Way) → EachReply (OfId x) (send_on pin p class flags x w sequence rest r k o).outputs
+  sends : (flags x : ℕ) (w : Wanted) (sequence rest : List As) (r : Bool) (k : Element P S) (o : Option Way) → EachReply (OfId x) (send_on (sight pin p class) (wanting flags x w) sequence rest r k o).outputs
   sends flags x w sequence rest r k None = ((λ q is. same_reply flags x unavailable q is), tt)
   sends flags x w sequence rest r k (Some way) =
       pick (λ (t : Taken P S). t.outputs) (OfId x) way.up _ _
       (pick (λ (t : Taken P S). t.outputs) (OfId x) r _ _ ((λ q is. same_reply flags x unavailable q is), tt) ((λ q is. absurd (cc)), tt)) ((λ q is. same_reply flags x unavailable q is), tt)
 
-  along : (flags x : ℕ) (w : Wanted) (k : Element P S) (sequence : List As) → EachReply (OfId x) (take_along e pin p class flags x w k sequence).outputs
+  along : (flags x : ℕ) (w : Wanted) (k : Element P S) (sequence : List As) → EachReply (OfId x) (take_along e (sight pin p class) (wanting flags x w) k sequence).outputs
   along flags x w k [] = ((λ q is. same_reply flags x unavailable q is), tt)
   along flags x w k (a ∷ []) = tt
   along flags x w k (a ∷ b ∷ rest) = sends flags x w (a ∷ b ∷ rest) (b ∷ rest) (is_denied e.deny class b) k (way_to (toward b e.routes) k.ways)
 
-  wishes : (flags x : ℕ) (k : Element P S) (wish : Wish) → EachReply (OfId x) (take_wish show e pin p class now flags x k wish).outputs
+  wishes : (flags x : ℕ) (k : Element P S) (wish : Wish) → EachReply (OfId x) (take_wish show e (sight pin p class) now flags x k wish).outputs
   wishes flags x k (Expand key pce) = ((λ q is. same_reply flags x (expansion show e class now key pce k) q is), tt)
   wishes flags x k (Path w) =
       pick (λ (t : Taken P S). t.outputs) (OfId x) (is_full k.pending) _ _ ((λ q is. absurd (cc)), tt)

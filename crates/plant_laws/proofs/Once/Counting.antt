@@ -26,10 +26,10 @@ use Rattle.plant_model.specs.Branches.{branches_in, open_branch, path_of}
 use Rattle.disclosure.specs.Policy.{is_denied}
 use Rattle.plant_model.specs.Element.{Stage, Waits, Ready, Element, Row, Way, ElementSettings, Taken, silent, only, each, way_to, waiting, waits_for, at_stage, is_client, lost, is_lost, lost_output, stays, downed}
 use Rattle.plant_model.specs.Routes.{toward}
-use Rattle.plant_model.specs.Taking.{take, take_asked, take_checked, take_new, take_wish, take_path, take_along, send_on, item_of, sequence_or, goes_up, expansion, answered, staged, take_reply, take_answer, made_ready, take_notice, notice_steps, take_busy, take_cancel, told_busy, cancelled, take_report, take_errors, take_failure, told_error, error_answer}
+use Rattle.plant_model.specs.Taking.{take, take_asked, take_checked, take_new, take_wish, take_path, take_along, send_on, item_of, sequence_or, goes_up, expansion, answered, staged, take_reply, take_answer, made_ready, take_notice, notice_steps, take_busy, take_cancel, told_busy, cancelled, take_report, take_errors, take_failure, told_error, error_answer, sight, wanting}
 use Rattle.vspt_tree.specs.declared.branch.Best.{Best}
 use Rattle.vspt_tree.specs.declared.branch.Branch.{Branch}
-use Rattle.plant_model.specs.Solving.{commit, closed_reply, client_reply, closed_paths, issued_all, free}
+use Rattle.plant_model.specs.Solving.{commit, closed_reply, client_reply, closed_paths, issued_all, free, job_found}
 use Rattle.plant_laws.proofs.Once.Besides.{besides_asking}
 use Rattle.plant_laws.specs.Transcript.{one_if, count_answers, answers_to}
 use Rattle.plant_laws.proofs.Once.Handing.{In}
@@ -241,7 +241,7 @@ module _ (P : Type 0) (S : Type 0) where
 
     module _ (show : S → List Hop) (e : ElementSettings) (pin : P) (class : Class) (now : ℕ) where
       asks_send : (flags x : ℕ) (w : Wanted) (sequence rest : List As) (refused : Bool) (k : Element P S) → ArePending k.pending → HasRoom k x → (way : Option Way) →
-          Asks (send_on pin p class flags x w sequence rest refused k way)
+          Asks (send_on (sight pin p class) (wanting flags x w) sequence rest refused k way)
       asks_send flags x w sequence rest refused k are room None = asks_only (reply_message flags x unavailable) k are
       asks_send flags x w sequence rest refused k are room (Some way) =
           asks_pick way.up _ _
@@ -252,7 +252,7 @@ module _ (P : Type 0) (S : Type 0) where
           }))
           (λ up. asks_only (reply_message flags x unavailable) k are)
 
-      asks_along : (flags x : ℕ) (w : Wanted) (k : Element P S) → ArePending k.pending → HasRoom k x → (sequence : List As) → Asks (take_along e pin p class flags x w k sequence)
+      asks_along : (flags x : ℕ) (w : Wanted) (k : Element P S) → ArePending k.pending → HasRoom k x → (sequence : List As) → Asks (take_along e (sight pin p class) (wanting flags x w) k sequence)
       asks_along flags x w k are room [] = asks_only (reply_message flags x unavailable) k are
       asks_along flags x w k are room (a ∷ []) = record {
         pending = begun_pending p x (item_of pin class flags w (a ∷ []) (Ready [])) k.pending are room.0 room.1 room.2;
@@ -260,15 +260,15 @@ module _ (P : Type 0) (S : Type 0) where
       }
       asks_along flags x w k are room (a ∷ b ∷ rest) = asks_send flags x w (a ∷ b ∷ rest) (b ∷ rest) (is_denied e.deny class b) k are room (way_to (toward b e.routes) k.ways)
 
-      asks_path : (flags x : ℕ) (w : Wanted) (k : Element P S) → ArePending k.pending → HasRoom k x → Asks (take_path e pin p class flags x w k)
+      asks_path : (flags x : ℕ) (w : Wanted) (k : Element P S) → ArePending k.pending → HasRoom k x → Asks (take_path e (sight pin p class) (wanting flags x w) k)
       asks_path flags x w k are room =
-          asks_pick (goes_up e.parent class w.sequence) (send_on pin p class flags x w [] [] false k (way_to the_parent k.ways)) (take_along e pin p class flags x w k (sequence_or e.own w.sequence))
+          asks_pick (goes_up e.parent class w.sequence) (send_on (sight pin p class) (wanting flags x w) [] [] false k (way_to the_parent k.ways)) (take_along e (sight pin p class) (wanting flags x w) k (sequence_or e.own w.sequence))
           (λ is. asks_send flags x w [] [] false k are room (way_to the_parent k.ways))
           (λ is. asks_along flags x w k are room (sequence_or e.own w.sequence))
 
-      asks_wish : (flags x : ℕ) (k : Element P S) → ArePending k.pending → number_of k.pending p x ≡ None → (wish : Wish) → Asks (take_wish show e pin p class now flags x k wish)
+      asks_wish : (flags x : ℕ) (k : Element P S) → ArePending k.pending → number_of k.pending p x ≡ None → (wish : Wish) → Asks (take_wish show e (sight pin p class) now flags x k wish)
       asks_wish flags x k are none (Path w) =
-          asks_pick (is_full k.pending) _ (take_path e pin p class flags x w k)
+          asks_pick (is_full k.pending) _ (take_path e (sight pin p class) (wanting flags x w) k)
           (λ is. asks_only (busy flags x) k are)
           (λ is. let r = has_room k.pending are is in asks_path flags x w k are (r.0, r.1, none))
       asks_wish flags x k are none (Expand key pce) = asks_only (reply_message flags x (expansion show e class now key pce k)) k are
@@ -337,7 +337,7 @@ module _ (P : Type 0) (S : Type 0) where
   once_answered h m k are at = (ended_pending h.0 k.pending are, λ q x. omega (arith, one_answer h m at q x, one_if_le (same_key h.1.key (key_of q x))))
 
   pub commit_once : (c : Codec) (e : ElementSettings) (h : Row P) (down : List Branch) (now : ℕ) (stands : Best → S) (source_known target_known : Bool) (best : List Best) (k : Element P S) → ArePending k.pending →
-      IsOnce (commit c e h down now stands source_known target_known best k)
+      IsOnce (commit c e h down now stands (job_found source_known target_known best) k)
   commit_once c e h down now stands source_known target_known best k are =
       once_pick (is_client h.1.item.class) _ (closed_reply c e h down now stands k best)
       (once_answered h (client_reply c h down source_known target_known best) k are (client best)) (closed best)
@@ -372,7 +372,7 @@ module _ (P : Type 0) (S : Type 0) where
   busy_answers h k = answers_by h (busy h.1.item.flags h.1.key.id) k (ap (λ (b : Bool). one_if (cond b true false) + 0) (eq-eqb h.1.key.id h.1.key.id refl))
 
   pub commit_answers : (c : Codec) (e : ElementSettings) (h : Row P) (down : List Branch) (now : ℕ) (stands : Best → S) (source_known target_known : Bool) (best : List Best) (k : Element P S) →
-      Answers h (commit c e h down now stands source_known target_known best k)
+      Answers h (commit c e h down now stands (job_found source_known target_known best) k)
   commit_answers c e h down now stands source_known target_known best k =
       answers_pick h (is_client h.1.item.class) _ (closed_reply c e h down now stands k best) (client best) (closed best)
     where

@@ -85,37 +85,37 @@ module _ (P : Type 0) (S : Type 0) (c : Codec) (show : S → List Hop) (e : Elem
       quiet_request q y t rest key = elim (cases_Bool (same_peer q key.peer)) [ inl own ↦ rw own refl | inr other ↦ rw other refl ]
 
       sends_on : (sequence rest : List As) (ref : Bool) (o : Option Way) → sequence ≡ cond (goes_up e.parent class w.sequence) [] (sequence_or e.own w.sequence) →
-          Holds (Admitted (path_request w)) (taking.send_on pin p class flags x w sequence rest ref k o)
+          Holds (Admitted (path_request w)) (taking.send_on (taking.sight pin p class) (taking.wanting flags x w) sequence rest ref k o)
       sends_on sequence rest ref None is = denied w are
       sends_on sequence rest ref (Some way) is = go way.up ref
         where
-          go : (u n : Bool) → Holds (Admitted (path_request w)) (cond u (cond n (taking.denied p flags x k) (taking.sent_on pin p class flags x w sequence rest k way)) (taking.denied p flags x k))
+          go : (u n : Bool) → Holds (Admitted (path_request w)) (cond u (cond n (taking.denied p flags x k) (taking.sent_on (taking.sight pin p class) (taking.wanting flags x w) sequence rest k way)) (taking.denied p flags x k))
           go true true = denied w are
           go true false =
               let y = fresh_id way.peer way.last_id k.pending.rows in
-              opened sequence (Waits way.peer y) (taking.sent_on pin p class flags x w sequence rest k way) refl (quiet_request way.peer y w.target rest) is
+              opened sequence (Waits way.peer y) (taking.sent_on (taking.sight pin p class) (taking.wanting flags x w) sequence rest k way) refl (quiet_request way.peer y w.target rest) is
           go false n = denied w are
 
-      along : (sequence : List As) → sequence ≡ cond (goes_up e.parent class w.sequence) [] (sequence_or e.own w.sequence) → Holds (Admitted (path_request w)) (taking.take_along e pin p class flags x w k sequence)
+      along : (sequence : List As) → sequence ≡ cond (goes_up e.parent class w.sequence) [] (sequence_or e.own w.sequence) → Holds (Admitted (path_request w)) (taking.take_along e (taking.sight pin p class) (taking.wanting flags x w) k sequence)
       along [] is = denied w are
-      along (d ∷ []) is = opened (d ∷ []) (Ready []) (taking.take_along e pin p class flags x w k (d ∷ [])) refl (λ key. refl) is
+      along (d ∷ []) is = opened (d ∷ []) (Ready []) (taking.take_along e (taking.sight pin p class) (taking.wanting flags x w) k (d ∷ [])) refl (λ key. refl) is
       along (d ∷ b ∷ rest) is = sends_on (d ∷ b ∷ rest) (b ∷ rest) (is_denied e.deny class b) (way_to (toward b e.routes) k.ways) is
 
-      path_asked : Holds (Admitted (path_request w)) (taking.take_path e pin p class flags x w k)
+      path_asked : Holds (Admitted (path_request w)) (taking.take_path e (taking.sight pin p class) (taking.wanting flags x w) k)
       path_asked = go (goes_up e.parent class w.sequence) refl
         where
           go : (b : Bool) → goes_up e.parent class w.sequence ≡ b →
-              Holds (Admitted (path_request w)) (cond b (taking.send_on pin p class flags x w [] [] false k (way_to the_parent k.ways)) (taking.take_along e pin p class flags x w k (sequence_or e.own w.sequence)))
+              Holds (Admitted (path_request w)) (cond b (taking.send_on (taking.sight pin p class) (taking.wanting flags x w) [] [] false k (way_to the_parent k.ways)) (taking.take_along e (taking.sight pin p class) (taking.wanting flags x w) k (sequence_or e.own w.sequence)))
           go true up = sends_on [] [] false (way_to the_parent k.ways) (rw up refl)
           go false up = along (sequence_or e.own w.sequence) (rw up refl)
 
     wish_asked : (wish : Wish) → ArePending k.pending → c.check a e.own ≡ Admitted (record { flags = flags; id = x; wish = wish }) → number_of k.pending p x ≡ None →
-        Holds (Admitted (record { flags = flags; id = x; wish = wish })) (taking.take_wish show e pin p class now flags x k wish)
+        Holds (Admitted (record { flags = flags; id = x; wish = wish })) (taking.take_wish show e (taking.sight pin p class) now flags x k wish)
     wish_asked (Expand key pce) are admitted none =
-        no_effect (Admitted (record { flags = flags; id = x; wish = Expand key pce })) (taking.take_wish show e pin p class now flags x k (Expand key pce)) refl are (λ key'. cond_twice (same_peer p key'.peer) (x == key'.id))
+        no_effect (Admitted (record { flags = flags; id = x; wish = Expand key pce })) (taking.take_wish show e (taking.sight pin p class) now flags x k (Expand key pce)) refl are (λ key'. cond_twice (same_peer p key'.peer) (x == key'.id))
     wish_asked (Path w) are admitted none = go (is_full k.pending) refl
       where
-        go : (b : Bool) → is_full k.pending ≡ b → Holds (Admitted (path_request w)) (cond b (only p (busy flags x) k) (taking.take_path e pin p class flags x w k))
+        go : (b : Bool) → is_full k.pending ≡ b → Holds (Admitted (path_request w)) (cond b (only p (busy flags x) k) (taking.take_path e (taking.sight pin p class) (taking.wanting flags x w) k))
         go true full = refused w (busy flags x) (busy_answers flags x) are
         go false room = path_asked w are admitted room none
 

@@ -18,7 +18,7 @@ use Rattle.plant_model.specs.Writing.{reply_message, busy, unavailable, no_path}
 use Rattle.plant_model.specs.Branches.{open_branch, path_of}
 use Rattle.plant_model.specs.Element.{Ready, Item, Row, Element, ElementSettings, Taken, silent, each, at_stage, waits_for, waits_on, waiting, downed, is_client}
 use Rattle.plant_model.specs.Taking as taking
-use Rattle.plant_model.specs.Solving.{commit, client_reply, closed_reply, closed_paths, issued_all, free}
+use Rattle.plant_model.specs.Solving.{commit, client_reply, closed_reply, closed_paths, issued_all, free, job_found}
 use Rattle.plant_laws.specs.Transcript.{answers_to, has_id, cancels}
 use Rattle.plant_laws.proofs.Runs.Seen.{seen, ended_if}
 use Rattle.plant_laws.proofs.Runs.Rows.{In, seen_kept, filtered_pending}
@@ -195,7 +195,7 @@ module _ (P : Type 0) (S : Type 0) where
 
   -- a job is answered
   pub commit_step : (c : Codec) (e : ElementSettings) (h : Row P) (down : List Branch) (now : ℕ) (stands : Best → S) (s t : Bool) (best : List Best) (k : Element P S) → ArePending k.pending → In h k.pending.rows →
-      Steps k (commit c e h down now stands s t best k) nobody
+      Steps k (commit c e h down now stands (job_found s t best) k) nobody
   commit_step c e h down now stands s t best k are there = go (is_client h.1.item.class)
     where
       client : (best : List Best) → Steps k (taking.answered h (client_reply c h down s t best) k) nobody

@@ -27,7 +27,7 @@ use Rattle.plant_model.specs.Writing.{reply_message, busy, no_path}
 use Rattle.plant_model.specs.Branches.{open_branch, path_of}
 use Rattle.plant_model.specs.Element.{Element, Row, ElementSettings, Taken, upped, downed, is_client}
 use Rattle.plant_model.specs.Taking.{take}
-use Rattle.plant_model.specs.Solving.{commit, client_reply, closed_reply, closed_paths, free}
+use Rattle.plant_model.specs.Solving.{commit, client_reply, closed_reply, closed_paths, free, job_found}
 use Rattle.plant_model.specs.BorderGraph.{Found}
 use Rattle.plant_model.specs.Parent as parent
 use Rattle.plant_text.specs.Settings.{class_of}
@@ -105,7 +105,7 @@ module _ (P : Type 0) (S : Type 0) where
   pick q x n false t u a b = b
 
   commit_counts : (c : Codec) (e : ElementSettings) (h : Row P) (down : List Branch) (now : ℕ) (stands : Best → S) (source_known target_known : Bool) (best : List Best) (k : Element P S) (q : Peer) (x : ℕ) →
-      answers_to q x (commit c e h down now stands source_known target_known best k).outputs ≤ named q x h
+      answers_to q x (commit c e h down now stands (job_found source_known target_known best) k).outputs ≤ named q x h
   commit_counts c e h down now stands source_known target_known best k q x =
       pick q x (named q x h) (is_client h.1.item.class) _ (closed_reply c e h down now stands k best) (one_answer h (client_reply c h down source_known target_known best) (client best) q x) (closed best)
     where
@@ -359,7 +359,7 @@ module _ (c : Codec) (n : NetworkParts) where
     where
       founded : AreSingle (h.deeds ++ ds) → AreFounded c (h.deeds ++ ds)
       founded =
-          let r = commit c (place n d) (k, x.held) x.down s.clock (λ b. b.segment) x.rows.source_known x.rows.target_known x.rows.best (s.elements d) in
+          let r = commit c (place n d) (k, x.held) x.down s.clock (λ b. b.segment) (job_found x.rows.source_known x.rows.target_known x.rows.best) (s.elements d) in
           subst (λ (h' : Happened). AreSingle (h'.deeds ++ ds) → AreFounded c (h'.deeds ++ ds)) (sym x.is)
           (λ single.
           let old = held single.1 in (

@@ -31,11 +31,11 @@ use Rattle.plant_model.specs.Branches.{branches_in, open_branch, path_of}
 use Rattle.disclosure.specs.Policy.{is_denied}
 use Rattle.plant_model.specs.Element.{Waits, Ready, Element, Item, Row, Way, ElementSettings, Taken, silent, only, each, way_to, waiting, at_stage, fresh_id, with_last, is_client, lost, lost_of, lost_output, is_lost, stays, waits_on, downed}
 use Rattle.plant_model.specs.Routes.{toward}
-use Rattle.plant_model.specs.Taking.{take, take_asked, take_checked, take_new, take_wish, take_path, take_along, send_on, item_of, sequence_or, goes_up, expansion, answered, staged, take_reply, take_answer, made_ready, take_notice, notice_steps, take_busy, take_cancel, told_busy, cancelled, take_report, take_errors, take_failure, told_error, error_answer}
+use Rattle.plant_model.specs.Taking.{take, take_asked, take_checked, take_new, take_wish, take_path, take_along, send_on, item_of, sequence_or, goes_up, expansion, answered, staged, take_reply, take_answer, made_ready, take_notice, notice_steps, take_busy, take_cancel, told_busy, cancelled, take_report, take_errors, take_failure, told_error, error_answer, sight, wanting}
 use Rattle.vspt_tree.specs.declared.branch.Best.{Best}
 use Rattle.vspt_tree.specs.declared.branch.Branch.{Branch}
 use Rattle.path_keys.specs.Keys.{Keys}
-use Rattle.plant_model.specs.Solving.{commit, closed_reply, client_reply, closed_paths, issued_all, free}
+use Rattle.plant_model.specs.Solving.{commit, closed_reply, client_reply, closed_paths, issued_all, free, job_found}
 use Rattle.plant_laws.specs.Transcript.{one_if, count_answers, tail_of}
 use Rattle.plant_laws.proofs.Once.Handing.{In, In-append}
 use Rattle.plant_laws.proofs.Once.Counting.{waiting_in}
@@ -413,7 +413,7 @@ module _ (P : Type 0) (S : Type 0) where
 
     module _ (show : S → List Hop) (e : ElementSettings) (pin : P) (class : Class) (now : ℕ) where
       good_send : (flags x : ℕ) (w : Wanted) (sequence : List As) (refused : Bool) (k : Element P S) → ArePending k.pending → HasRoom k x → (way : Option Way) →
-          Good k (send_on pin q class flags x w sequence (tail_of sequence) refused k way)
+          Good k (send_on (sight pin q class) (wanting flags x w) sequence (tail_of sequence) refused k way)
       good_send flags x w sequence refused k are room None = good_only (reply_message flags x unavailable) k are
       good_send flags x w sequence refused k are room (Some way) =
           good_pick k way.up _ _
@@ -433,7 +433,7 @@ module _ (P : Type 0) (S : Type 0) where
             begun_pending q x (item_of pin class flags w sequence (Waits way.peer y)) k.pending are room.0 room.1 room.2,
           )
 
-      good_along : (flags x : ℕ) (w : Wanted) (k : Element P S) → ArePending k.pending → HasRoom k x → (sequence : List As) → Good k (take_along e pin q class flags x w k sequence)
+      good_along : (flags x : ℕ) (w : Wanted) (k : Element P S) → ArePending k.pending → HasRoom k x → (sequence : List As) → Good k (take_along e (sight pin q class) (wanting flags x w) k sequence)
       good_along flags x w k are room [] = good_only (reply_message flags x unavailable) k are
       good_along flags x w k are room (a ∷ []) = (
         moves_opened x (item_of pin class flags w (a ∷ []) (Ready [])) [] k.ways k (λ on id is. cc),
@@ -441,15 +441,15 @@ module _ (P : Type 0) (S : Type 0) where
       )
       good_along flags x w k are room (a ∷ b ∷ rest) = good_send flags x w (a ∷ b ∷ rest) (is_denied e.deny class b) k are room (way_to (toward b e.routes) k.ways)
 
-      good_path : (flags x : ℕ) (w : Wanted) (k : Element P S) → ArePending k.pending → HasRoom k x → Good k (take_path e pin q class flags x w k)
+      good_path : (flags x : ℕ) (w : Wanted) (k : Element P S) → ArePending k.pending → HasRoom k x → Good k (take_path e (sight pin q class) (wanting flags x w) k)
       good_path flags x w k are room =
-          good_pick k (goes_up e.parent class w.sequence) (send_on pin q class flags x w [] [] false k (way_to the_parent k.ways)) (take_along e pin q class flags x w k (sequence_or e.own w.sequence))
+          good_pick k (goes_up e.parent class w.sequence) (send_on (sight pin q class) (wanting flags x w) [] [] false k (way_to the_parent k.ways)) (take_along e (sight pin q class) (wanting flags x w) k (sequence_or e.own w.sequence))
           (good_send flags x w [] false k are room (way_to the_parent k.ways))
           (good_along flags x w k are room (sequence_or e.own w.sequence))
 
-      good_wish : (flags x : ℕ) (k : Element P S) → ArePending k.pending → number_of k.pending q x ≡ None → (wish : Wish) → Good k (take_wish show e pin q class now flags x k wish)
+      good_wish : (flags x : ℕ) (k : Element P S) → ArePending k.pending → number_of k.pending q x ≡ None → (wish : Wish) → Good k (take_wish show e (sight pin q class) now flags x k wish)
       good_wish flags x k are none (Path w) =
-          pick_room k (is_full k.pending) _ (take_path e pin q class flags x w k)
+          pick_room k (is_full k.pending) _ (take_path e (sight pin q class) (wanting flags x w) k)
           (λ is. good_only (busy flags x) k are)
           (λ is. let r = counting.has_room k.pending are is in good_path flags x w k are (r.0, r.1, none))
       good_wish flags x k are none (Expand key pce) = good_only (reply_message flags x (expansion show e class now key pce k)) k are
@@ -488,7 +488,7 @@ module _ (P : Type 0) (S : Type 0) where
   -- ---- a solve, and a session that goes down
 
   pub commit_moves : (p : Peer) (c : Codec) (e : ElementSettings) (h : Row P) (down : List Branch) (now : ℕ) (stands : Best → S) (source_known target_known : Bool) (best : List Best) (k : Element P S) →
-      ArePending k.pending → In h k.pending.rows → Moves p k (commit c e h down now stands source_known target_known best k)
+      ArePending k.pending → In h k.pending.rows → Moves p k (commit c e h down now stands (job_found source_known target_known best) k)
   commit_moves p c e h down now stands source_known target_known best k are in' =
       moves_pick p k (is_client h.1.item.class) _ (closed_reply c e h down now stands k best) (moves_answered p h (client_reply c h down source_known target_known best) k are in' (client best)) (closed best)
     where

@@ -17,7 +17,7 @@ use Rattle.plant_text.specs.Names.{same_as, parent_as}
 use Rattle.plant_model.specs.Wire.{Codec, Admitted}
 use Rattle.plant_model.specs.Element.{Item, upped, downed}
 use Rattle.plant_model.specs.Taking.{take, sequence_or, goes_up}
-use Rattle.plant_model.specs.Solving.{commit}
+use Rattle.plant_model.specs.Solving.{commit, job_found}
 use Rattle.plant_model.specs.Parent as parent
 use Rattle.plant_model.specs.Parent.{Asking}
 use Rattle.plant_text.specs.Settings.{class_of}
@@ -272,7 +272,7 @@ module _ (c : Codec) (n : NetworkParts) where
 
   pub solve_holds : (ds : Transcript) (s : Plant) (d : As) (k : ℕ) (h : Happened) → If ds s → ElementSolves c n d k s h → If (h.deeds ++ ds) h.state
   solve_holds ds s d k h held x =
-      let r = commit c (place n d) (k, x.held) x.down s.clock (λ b. b.segment) x.rows.source_known x.rows.target_known x.rows.best (s.elements d) in
+      let r = commit c (place n d) (k, x.held) x.down s.clock (λ b. b.segment) (job_found x.rows.source_known x.rows.target_known x.rows.best) (s.elements d) in
       let v = with_element Pin Segment c n open_of d r.element s in
       let e : PlantDeed = Solves d k r.outputs r.element.keys.issued in
       subst (λ (h' : Happened). If (h'.deeds ++ ds) h'.state) (sym x.is)

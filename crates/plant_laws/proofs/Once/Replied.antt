@@ -15,7 +15,7 @@ use Rattle.plant_model.specs.Wire.{Codec, Admitted}
 use Rattle.plant_model.specs.Writing.{request_message}
 use Rattle.plant_model.specs.Element.{Stage, Waits, Ready, Element, Row, downed}
 use Rattle.plant_model.specs.Taking.{take}
-use Rattle.plant_model.specs.Solving.{commit}
+use Rattle.plant_model.specs.Solving.{commit, job_found}
 use Rattle.plant_model.specs.Parent as parent
 use Rattle.plant_text.specs.Settings.{class_of}
 use Rattle.plant_model.specs.Settings.{place, family}
@@ -317,7 +317,7 @@ module _ (c : Codec) (n : NetworkParts) where
     where
       replied : AreSingle (h.deeds ++ ds) → AllReplied (h.deeds ++ ds)
       replied =
-          let r = commit c (place n d) (k, x.held) x.down s.clock (λ b. b.segment) x.rows.source_known x.rows.target_known x.rows.best (s.elements d) in
+          let r = commit c (place n d) (k, x.held) x.down s.clock (λ b. b.segment) (job_found x.rows.source_known x.rows.target_known x.rows.best) (s.elements d) in
           subst (λ (h' : Happened). AreSingle (h'.deeds ++ ds) → AllReplied (h'.deeds ++ ds)) (sym x.is)
           (λ single'. (
             by_own (Solves d k r.outputs r.element.keys.issued) ds d r.outputs (λ d'. refl) (λ p r' paths tells said. inl (record { number = k; outputs = r.outputs; keys = r.element.keys.issued; is = refl })),

@@ -26,7 +26,7 @@ use Rattle.plant_model.specs.Writing.{reply_message, error_message, request_mess
 use Rattle.disclosure.specs.Policy.{is_denied}
 use Rattle.plant_model.specs.Element.{Item, Row, Way, Element, ElementSettings, Taken, each, waiting, waits_for, way_to, fresh_id}
 use Rattle.plant_model.specs.Routes.{toward}
-use Rattle.plant_model.specs.Taking.{goes_up, sequence_or, send_on, take_along, take_path, take_wish, take_new, take_checked, take_asked, take_answer, take_reply, made_ready, answered, expansion}
+use Rattle.plant_model.specs.Taking.{goes_up, sequence_or, send_on, take_along, take_path, take_wish, take_new, take_checked, take_asked, take_answer, take_reply, made_ready, answered, expansion, sight, wanting}
 use Rattle.plant_model.specs.Plant.{Pin, Segment}
 use Rattle.border_costs.proofs.Members.{contains_none}
 use Rattle.plant_laws.proofs.Runs.Rows.{In}
@@ -74,24 +74,24 @@ module _ (to : Peer) (r : Reply) (paths : List PathRow) (tells : Tells r.answer 
     pick true t u f g = f
     pick false t u f g = g
 
-    on_says : (flags x : ℕ) (w : Wanted) (sequence rest : List As) (refused : Bool) (k : Element Pin Segment) (o : Option Way) → Silent (send_on pin p class flags x w sequence rest refused k o)
+    on_says : (flags x : ℕ) (w : Wanted) (sequence rest : List As) (refused : Bool) (k : Element Pin Segment) (o : Option Way) → Silent (send_on (sight pin p class) (wanting flags x w) sequence rest refused k o)
     on_says flags x w sequence rest refused k None = not_known p flags x
     on_says flags x w sequence rest refused k (Some way) =
         pick way.up _ _ (pick refused _ _ (not_known p flags x) (λ h. other_one way.peer (request_message (fresh_id way.peer way.last_id k.pending.rows) w w.target rest) refl h)) (not_known p flags x)
 
-    along_says : (flags x : ℕ) (w : Wanted) (k : Element Pin Segment) (path : List As) → Silent (take_along e pin p class flags x w k path)
+    along_says : (flags x : ℕ) (w : Wanted) (k : Element Pin Segment) (path : List As) → Silent (take_along e (sight pin p class) (wanting flags x w) k path)
     along_says flags x w k [] h = not_known p flags x h
     along_says flags x w k (a ∷ []) h = contains_none _ h
     along_says flags x w k (a ∷ b ∷ rest) h = on_says flags x w (a ∷ b ∷ rest) (b ∷ rest) (is_denied e.deny class b) k (way_to (toward b e.routes) k.ways) h
 
-    path_says : (flags x : ℕ) (w : Wanted) (k : Element Pin Segment) → Silent (take_path e pin p class flags x w k)
+    path_says : (flags x : ℕ) (w : Wanted) (k : Element Pin Segment) → Silent (take_path e (sight pin p class) (wanting flags x w) k)
     path_says flags x w k =
         pick (goes_up e.parent class w.sequence) _ _ (on_says flags x w [] [] false k (way_to the_parent k.ways)) (along_says flags x w k (sequence_or e.own w.sequence))
 
     pub asked_says : (a : Asked) (k : Element Pin Segment) → OneTold to r (take_asked c open_of e pin p class now a k).outputs → IsKeyReply a
     asked_says a k = go (c.check a e.own) refl
       where
-        wish_says : (q : Request) → c.check a e.own ≡ Admitted q → (v : Wish) → q.wish ≡ v → OneTold to r (take_wish open_of e pin p class now q.flags q.id k v).outputs → IsKeyReply a
+        wish_says : (q : Request) → c.check a e.own ≡ Admitted q → (v : Wish) → q.wish ≡ v → OneTold to r (take_wish open_of e (sight pin p class) now q.flags q.id k v).outputs → IsKeyReply a
         wish_says q is (Path w) wish h = absurd (pick (is_full k.pending) _ _ (λ h'. other_one p (busy q.flags q.id) refl h') (path_says q.flags q.id w k) h)
         wish_says q is (Expand key pce) wish h =
             let answer = expansion open_of e class now key pce k in

@@ -32,7 +32,7 @@ use Rattle.plant_model.specs.Writing.{request_message, reply_message, error_mess
 use Rattle.plant_model.specs.Laws.{Admits}
 use Rattle.plant_model.specs.Element.{Way, fresh_id, with_last, lost_output, lost, upped, downed}
 use Rattle.plant_model.specs.Taking.{take}
-use Rattle.plant_model.specs.Solving.{commit}
+use Rattle.plant_model.specs.Solving.{commit, job_found}
 use Rattle.plant_model.specs.Parent as parent
 use Rattle.plant_model.specs.Parent.{Parent, ParentTaken, Family, AskingRow, Errand, Wait, ask_all, errands, all_waits, all_up}
 use Rattle.plant_text.specs.Settings.{class_of}
@@ -359,7 +359,7 @@ module _ (c : Codec) (n : NetworkParts) where
 
   solve_has : (ds : Transcript) (s : Plant) (d : As) (k : ℕ) (h : Happened) → If ds s → ElementSolves c n d k s h → If (h.deeds ++ ds) h.state
   solve_has ds s d k h held x =
-      let r = commit c (place n d) (k, x.held) x.down s.clock (λ b. b.segment) x.rows.source_known x.rows.target_known x.rows.best (s.elements d) in
+      let r = commit c (place n d) (k, x.held) x.down s.clock (λ b. b.segment) (job_found x.rows.source_known x.rows.target_known x.rows.best) (s.elements d) in
       subst (λ (h' : Happened). If (h'.deeds ++ ds) h'.state) (sym x.is)
       (λ single. (((λ low. (calm_commit Pin Segment c (place n d) (k, x.held) x.down s.clock (λ b. b.segment) x.rows.source_known x.rows.target_known x.rows.best (s.elements d)).none), solved_says d k r.outputs r.element.keys.issued), held single.1))
 

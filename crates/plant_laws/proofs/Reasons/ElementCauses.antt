@@ -32,7 +32,7 @@ use Rattle.plant_model.specs.Wire.{Codec, Checked, Admitted, Wrong}
 use Rattle.plant_model.specs.Writing.{request_message, reply_message, busy, unavailable, no_key}
 use Rattle.plant_model.specs.Element.{Element, Row, Way, Taken, only, each, waiting, fresh_id, way_to}
 use Rattle.plant_model.specs.Routes.{toward}
-use Rattle.plant_model.specs.Taking.{sequence_or, goes_up, denied, send_on, sent_on, take_along, take_path, expansion_of, expansion, take_wish, take_new, take_checked, take_asked, answered, made_ready, take_answer, take_reply, told_busy, cancelled, take_busy, take_cancel, notice_steps, take_notice, told_error, take_failure, take_errors, take_report, take}
+use Rattle.plant_model.specs.Taking.{sequence_or, goes_up, denied, send_on, sent_on, take_along, take_path, expansion_of, expansion, take_wish, take_new, take_checked, take_asked, answered, made_ready, take_answer, take_reply, told_busy, cancelled, take_busy, take_cancel, notice_steps, take_notice, told_error, take_failure, take_errors, take_report, take, sight, wanting}
 use Rattle.plant_model.specs.Parent.{is_up}
 use Rattle.plant_model.specs.Settings.{place}
 use Rattle.plant_model.specs.Plant.{Pin, Segment}
@@ -90,29 +90,29 @@ module _ (c : Codec) (n : NetworkParts) (d : As) (pin : Pin) (p : Peer) (now : �
     Goes t = OnPath n d k (asker r) w t.outputs
 
     send_case : (next : Peer) (sequence rest : List As) (refused : Bool) → GoesTo n d p w next rest refused → (o : Option Way) → way_to next k.ways ≡ o →
-        Goes (send_on pin p (class_of n p) r.flags r.id w sequence rest refused k o)
+        Goes (send_on (sight pin p (class_of n p)) (wanting r.flags r.id w) sequence rest refused k o)
     send_case next sequence rest refused goes None is = no_session next rest refused goes (ap is_up is) refl
     send_case next sequence rest refused goes (Some way) is =
         pick Goes way.up _ (denied p r.flags r.id k)
-        (λ up. pick Goes refused (denied p r.flags r.id k) (sent_on pin p (class_of n p) r.flags r.id w sequence rest k way)
+        (λ up. pick Goes refused (denied p r.flags r.id k) (sent_on (sight pin p (class_of n p)) (wanting r.flags r.id w) sequence rest k way)
         (λ hit. is_refused next rest (subst (λ (b : Bool). GoesTo n d p w next rest b) hit goes) refl)
         (λ miss. causes.sent_on next rest way (subst (λ (b : Bool). GoesTo n d p w next rest b) miss goes) is up
         (ap (λ (z : Peer). let o : Output = record { to = z; message = request_message (fresh_id z way.last_id k.pending.rows) w w.target rest } in o ∷ []) (way_peer next k.ways way is))))
         (λ down. no_session next rest refused goes (ap is_up is ∙ down) refl)
 
     along_on : goes_up (place n d).parent (class_of n p) w.sequence ≡ false → (s : List As) → sequence_or d w.sequence ≡ s →
-        Goes (take_along (place n d) pin p (class_of n p) r.flags r.id w k s)
+        Goes (take_along (place n d) (sight pin p (class_of n p)) (wanting r.flags r.id w) k s)
     along_on down [] is = absurd (never_empty d w.sequence is)
     along_on down (a ∷ []) is = ends_here a down is refl
     along_on down (a ∷ b ∷ rest) is =
         let to = toward b (place n d).routes in
         send_case to (a ∷ b ∷ rest) (b ∷ rest) (is_denied (place n d).deny (class_of n p) b) (along a b rest down is refl refl refl) (way_to to k.ways) refl
 
-    path_on : Goes (take_path (place n d) pin p (class_of n p) r.flags r.id w k)
+    path_on : Goes (take_path (place n d) (sight pin p (class_of n p)) (wanting r.flags r.id w) k)
     path_on =
         pick Goes (goes_up (place n d).parent (class_of n p) w.sequence) _ _
         (λ up. send_case the_parent [] [] false (upward up refl refl refl) (way_to the_parent k.ways) refl)
-        (λ down. subst (λ (o : As). Goes (take_along (place n d) pin p (class_of n p) r.flags r.id w k (sequence_or o w.sequence))) (sym (own_is n d)) (along_on down (sequence_or d w.sequence) refl))
+        (λ down. subst (λ (o : As). Goes (take_along (place n d) (sight pin p (class_of n p)) (wanting r.flags r.id w) k (sequence_or o w.sequence))) (sym (own_is n d)) (along_on down (sequence_or d w.sequence) refl))
 
   module _ (a : Asked) (k : Elem) where
     abbrev Request_on : List Output → Type 0
@@ -138,9 +138,9 @@ module _ (c : Codec) (n : NetworkParts) (d : As) (pin : Pin) (p : Peer) (now : �
             (λ never. not_shown (λ s b. not_both (can_expand (class_of n p)) b.may never)))
             (λ foreign. not_shown (λ s b. not_both (same_addr pce (place n d).id) (eq-eqb (rank pce) (rank (place n d).id) (ap rank b.own)) foreign))
 
-      wish_on : (x : Wish) → r.wish ≡ x → Request_on (take_wish open_of (place n d) pin p (class_of n p) now r.flags r.id k x).outputs
+      wish_on : (x : Wish) → r.wish ≡ x → Request_on (take_wish open_of (place n d) (sight pin p (class_of n p)) now r.flags r.id k x).outputs
       wish_on (Path w) wish =
-          pick (λ (t : Told). Request_on t.outputs) (is_full k.pending) (only p (busy r.flags r.id) k) (take_path (place n d) pin p (class_of n p) r.flags r.id w k)
+          pick (λ (t : Told). Request_on t.outputs) (is_full k.pending) (only p (busy r.flags r.id) k) (take_path (place n d) (sight pin p (class_of n p)) (wanting r.flags r.id w) k)
           (λ full. no_room r w is new wish (full_is k.pending full) refl)
           (λ room. for_path r w is new wish (has_room k.pending room) (path_on k r w))
       wish_on (Expand key pce) wish = key_on key pce wish

@@ -25,7 +25,7 @@ use Rattle.plant_model.specs.RealWire.{wire}
 use Rattle.plant_model.specs.Wire.{Bytes}
 use Rattle.plant_model.specs.Element.{Row, upped, downed}
 use Rattle.plant_model.specs.Taking.{take}
-use Rattle.plant_model.specs.Solving.{commit}
+use Rattle.plant_model.specs.Solving.{commit, job_found}
 use Rattle.plant_model.specs.Parent as parent
 use Rattle.plant_model.specs.Settings.{place, family}
 use Rattle.plant_model.specs.Samples.{As_, asks, the_open}
@@ -196,7 +196,7 @@ module _ (i : ℕ) (miss : (0 == i) ≡ false) where
 
   solved_none : (d : As) (h : Row Pin) (rows : Answer) (s : Plant) → NoneAt s → NoneAt (solved wire two d h [] rows s).state
   solved_none d h rows s none =
-      let r = commit wire (place two d) h [] s.clock (λ b. b.segment) rows.source_known rows.target_known rows.best (s.elements d) in
+      let r = commit wire (place two d) h [] s.clock (λ b. b.segment) (job_found rows.source_known rows.target_known rows.best) (s.elements d) in
       puts_none d r.outputs (with_element Pin Segment wire two open_of d r.element s) none
 
   -- ---- the run

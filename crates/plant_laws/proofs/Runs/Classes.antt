@@ -11,7 +11,7 @@ use Rattle.plant_text.specs.Names.{same_as, parent_as}
 use Rattle.plant_model.specs.Wire.{Codec}
 use Rattle.plant_model.specs.Element.{Stage, Item, Element, at_stage, upped, downed}
 use Rattle.plant_model.specs.Taking.{take}
-use Rattle.plant_model.specs.Solving.{commit}
+use Rattle.plant_model.specs.Solving.{commit, job_found}
 use Rattle.plant_model.specs.Parent as parent
 use Rattle.plant_text.specs.Settings.{class_of}
 use Rattle.plant_model.specs.Settings.{place, family}
@@ -124,7 +124,7 @@ module _ (c : Codec) (n : NetworkParts) where
 
   solve_good : (ds : Transcript) (s : Plant) (d : As) (k : ℕ) (h : Happened) → Good n ds s → ElementSolves c n d k s h → Good n (h.deeds ++ ds) h.state
   solve_good ds s d k h good x =
-      let r = commit c (place n d) (k, x.held) x.down s.clock (λ b. b.segment) x.rows.source_known x.rows.target_known x.rows.best (s.elements d) in
+      let r = commit c (place n d) (k, x.held) x.down s.clock (λ b. b.segment) (job_found x.rows.source_known x.rows.target_known x.rows.best) (s.elements d) in
       subst (λ (h' : Happened). Good n (h'.deeds ++ ds) h'.state) (sym x.is)
       (changed d r.element r.outputs s
       (commit_keeps Pin Segment (HasClass n) (class_stays n) c (place n d) (k, x.held) x.down s.clock (λ b. b.segment) x.rows.source_known x.rows.target_known x.rows.best (s.elements d) (good d)) good)

@@ -25,7 +25,7 @@ use Rattle.plant_model.specs.Wire.{Bytes, Codec}
 use Rattle.plant_model.specs.Laws.{IsCodec}
 use Rattle.plant_model.specs.Element.{upped, downed, sent_through}
 use Rattle.plant_model.specs.Taking.{take}
-use Rattle.plant_model.specs.Solving.{commit}
+use Rattle.plant_model.specs.Solving.{commit, job_found}
 use Rattle.plant_model.specs.Parent as parent
 use Rattle.plant_text.specs.Settings.{Adjacency, adjacency, adjacencies, is_linked, is_element, peer_row, class_of}
 use Rattle.plant_model.specs.Settings.{place, family}
@@ -399,7 +399,7 @@ module _ (c : Codec) (n : NetworkParts) (codec : IsCodec c) where
   happens_well s (event.Solve d k) h kept (inr (inl none)) = subst Well (sym none.2) (kept, tt)
   happens_well s (event.Solve d k) h kept (inr (inr (inl solves))) =
       let x = solves.1 in
-      let r = commit c (place n d) (k, x.held) x.down s.clock (λ b. b.segment) x.rows.source_known x.rows.target_known x.rows.best (s.elements d) in
+      let r = commit c (place n d) (k, x.held) x.down s.clock (λ b. b.segment) (job_found x.rows.source_known x.rows.target_known x.rows.best) (s.elements d) in
       subst Well (sym x.is) (puts_kept Pin Segment c n open_of d r.outputs (with_element Pin Segment c n open_of d r.element s) kept, (tt, tt))
   happens_well s (event.Solve d k) h kept (inr (inr (inr solves))) =
       let x = solves.2 in

@@ -17,7 +17,7 @@ use Rattle.plant_model.specs.Settings.{place, family}
 use Rattle.plant_model.specs.State.{State, Deed, Loads, Pops, Takes, Says, Ups, Downs, Clears, Solves, Expires, Hands}
 use Rattle.plant_model.specs.Element.{upped, downed}
 use Rattle.plant_model.specs.Taking.{take}
-use Rattle.plant_model.specs.Solving.{commit}
+use Rattle.plant_model.specs.Solving.{commit, job_found}
 use Rattle.plant_model.specs.Parent as parent
 use Rattle.plant_model.specs.Deeds.{Going, element_of, own_message, with_parent, with_element, put, put_to, puts, give, rise, fall, clear, expire}
 use Rattle.plant_model.specs.Plant.{Pin, Segment, Plant, Happened, Entry, Run, deeds_of, ElementSolves, ParentSolves}
@@ -200,7 +200,7 @@ module _ (c : Codec) (n : NetworkParts) where
 
   pub solve_stands : (ds : Transcript) (s : Plant) (d : As) (k : ℕ) (h : Happened) → StandIn ds s → ElementSolves c n d k s h → StandIn (h.deeds ++ ds) h.state
   solve_stands ds s d k h stand x =
-      let r = commit c (place n d) (k, x.held) x.down s.clock (λ b. b.segment) x.rows.source_known x.rows.target_known x.rows.best (s.elements d) in
+      let r = commit c (place n d) (k, x.held) x.down s.clock (λ b. b.segment) (job_found x.rows.source_known x.rows.target_known x.rows.best) (s.elements d) in
       subst (λ (h' : Happened). StandIn (h'.deeds ++ ds) h'.state) (sym x.is)
       (sent_stands d r.outputs s (with_element Pin Segment c n open_of d r.element s) ds (Solves d k r.outputs r.element.keys.issued) refl (λ a. refl) (λ a b xs. refl) stand)
 

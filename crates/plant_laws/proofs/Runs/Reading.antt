@@ -37,7 +37,7 @@ use Rattle.disclosure.specs.Shown.{open_of}
 use Rattle.plant_model.specs.declared.event.Event.{Event}
 use Rattle.plant_model.specs.declared.event.Event.TheVariants as event
 use Rattle.plant_text.specs.Settings.{is_element}
-use Rattle.plant_model.specs.Solving.{commit}
+use Rattle.plant_model.specs.Solving.{commit, job_found}
 use Rattle.plant_model.specs.Plant.{Pin, Segment, first_pin, Plant, Happened, Entry, Run, deeds_of, IsGiven, is_full, Happens}
 use Rattle.plant_laws.specs.Transcript.{Transcript}
 use Rattle.plant_laws.specs.Reading.{IsRead, AreRead, OutsideIsRead}
@@ -440,7 +440,7 @@ module _ (c : Codec) (codec : IsCodec c) (n : NetworkParts) where
   happens_kept ds s (event.Solve d k) h given (inr (inl none)) ok read = subst (Kept c n ds) (sym none.2) (ok, read)
   happens_kept ds s (event.Solve d k) h given (inr (inr (inl solves))) ok read =
       let x = solves.1 in
-      let r = commit c (place n d) (k, x.held) x.down s.clock (λ b. b.segment) x.rows.source_known x.rows.target_known x.rows.best (s.elements d) in
+      let r = commit c (place n d) (k, x.held) x.down s.clock (λ b. b.segment) (job_found x.rows.source_known x.rows.target_known x.rows.best) (s.elements d) in
       subst (Kept c n ds) (sym x.is) (solve_ok Pin Segment c codec n open_of d r.outputs s (with_element Pin Segment c n open_of d r.element s) refl ok, (tt, read))
   happens_kept ds s (event.Solve d k) h given (inr (inr (inr solves))) ok read =
       let x = solves.2 in

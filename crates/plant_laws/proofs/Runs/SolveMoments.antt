@@ -14,7 +14,7 @@ use Rattle.plant_model.specs.Wire.{Codec}
 use Rattle.plant_text.specs.Settings.{Adjacency, adjacencies, is_element}
 use Rattle.plant_model.specs.Settings.{place}
 use Rattle.plant_model.specs.Parent as parent
-use Rattle.plant_model.specs.Solving.{commit}
+use Rattle.plant_model.specs.Solving.{commit, job_found}
 use Rattle.plant_model.specs.State.{Loads, Pops, Takes, Says, Ups, Downs, Clears, Solves, Expires, Hands}
 use Rattle.plant_model.specs.Deeds.{Going, element_of, begin_adjacency}
 use Rattle.plant_model.specs.Events as events
@@ -95,7 +95,7 @@ module _ (c : Codec) (n : NetworkParts) where
 
   abbrev pub element_deed : (d : As) (k : ℕ) (s : Plant) (h : Happened) → ElementSolves c n d k s h → PlantDeed
   element_deed d k s h x =
-      let r = commit c (place n d) (k, x.held) x.down s.clock (λ b. b.segment) x.rows.source_known x.rows.target_known x.rows.best (s.elements d) in
+      let r = commit c (place n d) (k, x.held) x.down s.clock (λ b. b.segment) (job_found x.rows.source_known x.rows.target_known x.rows.best) (s.elements d) in
       Solves d k r.outputs r.element.keys.issued
 
   abbrev pub upper_deed : (k : ℕ) (s : Plant) (h : Happened) → ParentSolves c n k s h → PlantDeed

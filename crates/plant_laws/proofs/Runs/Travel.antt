@@ -10,7 +10,7 @@ use Rattle.plant_model.specs.Wire.{Bytes, Codec}
 use Rattle.plant_text.specs.Settings.{adjacencies, is_element}
 use Rattle.plant_model.specs.Settings.{place}
 use Rattle.plant_model.specs.State.{Loads}
-use Rattle.plant_model.specs.Solving.{commit}
+use Rattle.plant_model.specs.Solving.{commit, job_found}
 use Rattle.plant_model.specs.Parent as parent
 use Rattle.plant_model.specs.Deeds.{with_element, with_parent}
 use Rattle.plant_model.specs.Events as events
@@ -69,7 +69,7 @@ module _ (c : Codec) (n : NetworkParts) (R : Bytes → Type 0) (items : (fs : Li
   happens_kept ds s (event.Solve d k) h given (inr (inl none)) held = subst (Kept ds) (sym none.2) held
   happens_kept ds s (event.Solve d k) h given (inr (inr (inl solves))) held =
       let x = solves.1 in
-      let r = commit c (place n d) (k, x.held) x.down s.clock (λ b. b.segment) x.rows.source_known x.rows.target_known x.rows.best (s.elements d) in (
+      let r = commit c (place n d) (k, x.held) x.down s.clock (λ b. b.segment) (job_found x.rows.source_known x.rows.target_known x.rows.best) (s.elements d) in (
         solve_holds ds s d k h held.0 x,
         subst (λ (h' : Happened). Safe c n R h'.state) (sym x.is)
             (puts_safe c n R d r.outputs (with_element Pin Segment c n open_of d r.element s) (record { live = held.1.live; inboxes = held.1.inboxes })),

@@ -18,7 +18,7 @@ use Rattle.plant_model.specs.Laws.{IsCodec}
 use Rattle.plant_text.specs.Settings.{Adjacency, adjacency}
 use Rattle.plant_model.specs.Settings.{place}
 use Rattle.plant_model.specs.Element.{Item, Waits, Row, Element, upped, downed, ticked}
-use Rattle.plant_model.specs.Solving.{commit}
+use Rattle.plant_model.specs.Solving.{commit, job_found}
 use Rattle.plant_model.specs.Parent as parent
 use Rattle.plant_model.specs.State.{Deed, Loads, Pops, Says, Ups, Downs, Solves, Expires, Hands}
 use Rattle.plant_model.specs.Deeds.{Going, element_of, own_message, with_parent, with_element, puts, give, rise, fall}
@@ -272,7 +272,7 @@ module _ (c : Codec) (n : NetworkParts) (codec : IsCodec c) where
 
   pub solve_alive : (ds : Transcript) (s : Plant) (d : As) (k : ℕ) (h : Happened) → ElementSolves c n d k s h → Fits c ds s.elements s.parent → IsAlive c n ds s → AreSound c (h.deeds ++ ds) → IsAlive c n (h.deeds ++ ds) h.state
   solve_alive ds s d k h x fits alive =
-      let r = commit c (place n d) (k, x.held) x.down s.clock (λ b. b.segment) x.rows.source_known x.rows.target_known x.rows.best (s.elements d) in
+      let r = commit c (place n d) (k, x.held) x.down s.clock (λ b. b.segment) (job_found x.rows.source_known x.rows.target_known x.rows.best) (s.elements d) in
       subst (λ (h' : Happened). AreSound c (h'.deeds ++ ds) → IsAlive c n (h'.deeds ++ ds) h'.state) (sym x.is)
       (λ sound.
       element_moved c n d s r (Solves d k r.outputs r.element.keys.issued) ds x.upper (λ a. refl) (λ a b xs. refl)

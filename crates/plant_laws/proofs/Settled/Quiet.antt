@@ -18,7 +18,7 @@ use Rattle.plant_model.specs.Wire.{Bytes, Codec}
 use Rattle.plant_model.specs.Element.{Stage, Waits, Ready, Element, Row, upped, downed}
 use Rattle.plant_model.specs.Element as element
 use Rattle.plant_model.specs.Taking.{take}
-use Rattle.plant_model.specs.Solving.{commit}
+use Rattle.plant_model.specs.Solving.{commit, job_found}
 use Rattle.plant_model.specs.Parent as parent
 use Rattle.plant_model.specs.Parent.{Wait, AskingRow}
 use Rattle.plant_text.specs.Settings.{class_of}
@@ -136,7 +136,7 @@ module _ (c : Codec) (n : NetworkParts) where
 
   solve_none : (ds : Transcript) (s : Plant) (d : As) (k : ℕ) (h : Happened) → NoneIn ds s → ElementSolves c n d k s h → NoneIn (h.deeds ++ ds) h.state
   solve_none ds s d k h none x =
-      let r = commit c (place n d) (k, x.held) x.down s.clock (λ b. b.segment) x.rows.source_known x.rows.target_known x.rows.best (s.elements d) in
+      let r = commit c (place n d) (k, x.held) x.down s.clock (λ b. b.segment) (job_found x.rows.source_known x.rows.target_known x.rows.best) (s.elements d) in
       subst (λ (h' : Happened). NoneAbove h'.state) (sym x.is) (none_sent d r.outputs r.element s x.upper none)
 
   upper_none : (ds : Transcript) (s : Plant) (k : ℕ) (h : Happened) → NoneIn ds s → ParentSolves c n k s h → NoneIn (h.deeds ++ ds) h.state

@@ -28,8 +28,8 @@ use Rattle.plant_model.specs.Writing.{reply_message, unavailable, busy, none_bet
 use Rattle.plant_model.specs.Element.{Stage, Ready, Item, Row, Way, Element, ElementSettings, Taken, each, ended, at_stage, waiting, waits_for, way_to, with_last, with_up, fresh_id, stays, is_lost, lost_of, lost_output, downed, upped, is_client}
 use Rattle.plant_model.specs.Routes.{toward}
 use Rattle.plant_model.specs.Branches.{branches_in}
-use Rattle.plant_model.specs.Taking.{item_of, sequence_or, goes_up, send_on, take_along, take_path, take_wish, take_new, take_checked, take_asked, staged, answered, made_ready, take_answer, take_reply, told_busy, cancelled, take_busy, take_cancel, notice_steps, take_notice, error_answer, told_error, take_failure, take_errors, take_report, take}
-use Rattle.plant_model.specs.Solving.{commit, client_reply, closed_reply, closed_paths, issued_all, free}
+use Rattle.plant_model.specs.Taking.{item_of, sequence_or, goes_up, send_on, take_along, take_path, take_wish, take_new, take_checked, take_asked, staged, answered, made_ready, take_answer, take_reply, told_busy, cancelled, take_busy, take_cancel, notice_steps, take_notice, error_answer, told_error, take_failure, take_errors, take_report, take, sight, wanting}
+use Rattle.plant_model.specs.Solving.{commit, client_reply, closed_reply, closed_paths, issued_all, free, job_found}
 
 -- who asked for what is pending
 module _ (R : Peer → Type 0) (T : Type 0) where
@@ -230,7 +230,7 @@ module _ (R L : Peer → Type 0) (told : (p : Peer) → R p → L p) (P : Type 0
           Reaches (record k { pending = opened_of k.pending p x (item_of pin class flags w sequence stage); ways = ways })
       opened_keeps flags x w sequence stage k ways lead h = record { rows = askers_append R (Item P) k.pending.rows _ h.rows (asks, tt); ways = lead }
 
-      on_after : (flags x : ℕ) (w : Wanted) (sequence rest : List As) (refused : Bool) (k : Element P S) (o : Option Way) → OfWay L o → Reaches k → After (send_on pin p class flags x w sequence rest refused k o)
+      on_after : (flags x : ℕ) (w : Wanted) (sequence rest : List As) (refused : Bool) (k : Element P S) (o : Option Way) → OfWay L o → Reaches k → After (send_on (sight pin p class) (wanting flags x w) sequence rest refused k o)
       on_after flags x w sequence rest refused k None leads h = (h, (told p asks, tt))
       on_after flags x w sequence rest refused k (Some way) leads h =
           after_pick way.up _ _
@@ -238,18 +238,18 @@ module _ (R L : Peer → Type 0) (told : (p : Peer) → R p → L p) (P : Type 0
           (opened_keeps flags x w sequence _ k (with_last way.peer (fresh_id way.peer way.last_id k.pending.rows) k.ways) (ways_last L way.peer (fresh_id way.peer way.last_id k.pending.rows) k.ways h.ways) h, (leads, tt)))
           (h, (told p asks, tt))
 
-      along_after : (flags x : ℕ) (w : Wanted) (k : Element P S) (path : List As) → Reaches k → After (take_along e pin p class flags x w k path)
+      along_after : (flags x : ℕ) (w : Wanted) (k : Element P S) (path : List As) → Reaches k → After (take_along e (sight pin p class) (wanting flags x w) k path)
       along_after flags x w k [] h = (h, (told p asks, tt))
       along_after flags x w k (a ∷ []) h = (opened_keeps flags x w (a ∷ []) (Ready []) k k.ways h.ways h, tt)
       along_after flags x w k (a ∷ b ∷ rest) h =
           on_after flags x w (a ∷ b ∷ rest) (b ∷ rest) (is_denied e.deny class b) k (way_to (toward b e.routes) k.ways) (way_found L (toward b e.routes) k.ways h.ways) h
 
-      path_after : (flags x : ℕ) (w : Wanted) (k : Element P S) → Reaches k → After (take_path e pin p class flags x w k)
+      path_after : (flags x : ℕ) (w : Wanted) (k : Element P S) → Reaches k → After (take_path e (sight pin p class) (wanting flags x w) k)
       path_after flags x w k h =
           after_pick (goes_up e.parent class w.sequence) _ _ (on_after flags x w [] [] false k (way_to the_parent k.ways) (way_found L the_parent k.ways h.ways) h)
           (along_after flags x w k (sequence_or e.own w.sequence) h)
 
-      wish_after : (show : S → List Hop) (now flags x : ℕ) (k : Element P S) (w : Wish) → Reaches k → After (take_wish show e pin p class now flags x k w)
+      wish_after : (show : S → List Hop) (now flags x : ℕ) (k : Element P S) (w : Wish) → Reaches k → After (take_wish show e (sight pin p class) now flags x k w)
       wish_after show now flags x k (Path w) h = after_pick (is_full k.pending) _ _ (h, (told p asks, tt)) (path_after flags x w k h)
       wish_after show now flags x k (Expand key pce) h = (h, (told p asks, tt))
 
@@ -291,7 +291,7 @@ module _ (R L : Peer → Type 0) (told : (p : Peer) → R p → L p) (P : Type 0
   upped_reaches p k h = record { rows = h.rows; ways = ways_up L p true k.ways h.ways }
 
   pub commit_reaches : (c : Codec) (e : ElementSettings) (h : Row P) (down : List Branch) (now : ℕ) (stands : Best → S) (source_known target_known : Bool) (best : List Best) (k : Element P S) →
-      R h.1.key.peer → Reaches k → After (commit c e h down now stands source_known target_known best k)
+      R h.1.key.peer → Reaches k → After (commit c e h down now stands (job_found source_known target_known best) k)
   commit_reaches c e h down now stands source_known target_known best k asks r =
       after_pick (is_client h.1.item.class) (answered h (client_reply c h down source_known target_known best) k) (closed_reply c e h down now stands k best)
       (answered_after h (client_reply c h down source_known target_known best) k asks r) (go best)

@@ -29,7 +29,7 @@ use Rattle.plant_model.specs.Names.{is_empty, set_as, set_number, set_pair}
 use Rattle.plant_model.specs.Wire.{Bytes, Codec}
 use Rattle.plant_model.specs.Element.{Item, Element, Way, upped, downed}
 use Rattle.plant_model.specs.Taking.{take}
-use Rattle.plant_model.specs.Solving.{commit}
+use Rattle.plant_model.specs.Solving.{commit, job_found}
 use Rattle.plant_model.specs.Parent as parent
 use Rattle.plant_model.specs.Parent.{Asking}
 use Rattle.plant_model.specs.Settings.{place, family, way, ways_along, inner_ways, outer_way}
@@ -439,7 +439,7 @@ module _ (c : Codec) (n : NetworkParts) where
     happens_keeps (event.Solve d k) r (inr (inl none)) = subst (λ (z : Happened). Keeps z.state) (sym none.2) h
     happens_keeps (event.Solve d k) r (inr (inr (inl solves))) =
         let x = solves.1 in
-        let t = commit c (place n d) (k, x.held) x.down s.clock (λ b. b.segment) x.rows.source_known x.rows.target_known x.rows.best (s.elements d) in
+        let t = commit c (place n d) (k, x.held) x.down s.clock (λ b. b.segment) (job_found x.rows.source_known x.rows.target_known x.rows.best) (s.elements d) in
         subst (λ (z : Happened). Keeps z.state) (sym x.is)
         (element_moves d t.element t.outputs s
         (lower.commit_reaches (IsHeard n d) (IsTold n d) (is_told n d) Pin Segment c (place n d) (k, x.held) x.down s.clock (λ b. b.segment) x.rows.source_known x.rows.target_known x.rows.best (s.elements d)

@@ -23,7 +23,7 @@ use Rattle.plant_model.specs.Parent as parent
 use Rattle.plant_model.specs.Parent.{last_to}
 use Rattle.plant_model.specs.State.{Loads, Solves}
 use Rattle.plant_model.specs.Deeds.{with_element, with_parent}
-use Rattle.plant_model.specs.Solving.{commit}
+use Rattle.plant_model.specs.Solving.{commit, job_found}
 use Rattle.plant_model.specs.Events as events
 use Rattle.plant_model.specs.Events.{split_all}
 use Rattle.plant_model.specs.Plant.{Pin, Segment, Plant, Happened, Entry, Run, deeds_of, first_pin, load_new, ElementSolves, ParentSolves}
@@ -203,7 +203,7 @@ module _ (c : Codec) (n : NetworkParts) (codec : IsCodec c) (net : IsNetwork n) 
     where
       stands : Stand c n (h.deeds ++ ds) h.state
       stands =
-          let r = commit c (place n d) (k, x.held) x.down s.clock (λ b. b.segment) x.rows.source_known x.rows.target_known x.rows.best (s.elements d) in
+          let r = commit c (place n d) (k, x.held) x.down s.clock (λ b. b.segment) (job_found x.rows.source_known x.rows.target_known x.rows.best) (s.elements d) in
           subst (λ (h' : Happened). Stand c n (h'.deeds ++ ds) h'.state) (sym x.is)
           (sent_stands c n d r.outputs s (with_element Pin Segment c n open_of d r.element s) ds (Solves d k r.outputs r.element.keys.issued) refl (λ a. refl) (λ a b xs. refl) inv.0.1)
 

@@ -24,7 +24,7 @@ use Rattle.plant_model.specs.Wire.{Bytes, Codec}
 use Rattle.plant_model.specs.Laws.{IsCodec, IsNetwork, AreWords}
 use Rattle.plant_model.specs.Element.{Element, Way, upped, downed}
 use Rattle.plant_model.specs.Taking.{take}
-use Rattle.plant_model.specs.Solving.{commit}
+use Rattle.plant_model.specs.Solving.{commit, job_found}
 use Rattle.plant_model.specs.BorderGraph.{Found}
 use Rattle.plant_model.specs.Parent as parent
 use Rattle.plant_model.specs.Parent.{AskingRow}
@@ -381,7 +381,7 @@ module _ (c : Codec) (codec : IsCodec c) (n : NetworkParts) (net : IsNetwork n) 
 
   solve_fit : (ds : Transcript) (s : Plant) (d : As) (k : ℕ) (h : Happened) → I ds s → ElementSolves c n d k s h → IfFit (h.deeds ++ ds) h.state
   solve_fit ds s d k h held x =
-      let r = commit c (place n d) (k, x.held) x.down s.clock (λ b. b.segment) x.rows.source_known x.rows.target_known x.rows.best (s.elements d) in
+      let r = commit c (place n d) (k, x.held) x.down s.clock (λ b. b.segment) (job_found x.rows.source_known x.rows.target_known x.rows.best) (s.elements d) in
       let u = with_element Pin Segment c n open_of d r.element s in
       let domain = Topologies.domain_under d k (s.elements d).pending.rows x.held (held.good.pinned d) x.is_held in
       let best = rows_fit d x.held.item.pin.topology domain (ask c n d (k, x.held) x.down) x.rows x.right in

@@ -12,7 +12,7 @@ use Rattle.plant_model.specs.declared.event.Event.{Event}
 use Rattle.plant_model.specs.declared.event.Event.TheVariants as event
 use Rattle.plant_model.specs.Wire.{Bytes, Codec}
 use Rattle.plant_model.specs.Laws.{IsCodec, IsNetwork}
-use Rattle.plant_model.specs.Solving.{commit}
+use Rattle.plant_model.specs.Solving.{commit, job_found}
 use Rattle.plant_model.specs.Parent as parent
 use Rattle.plant_model.specs.Settings.{place}
 use Rattle.plant_model.specs.State.{Deed, Loads, Pops, Takes, Says, Ups, Downs, Clears, Solves, Expires, Hands}
@@ -119,7 +119,7 @@ module _ (c : Codec) (codec : IsCodec c) (n : NetworkParts) (net : IsNetwork n) 
   happens_kept ds s (event.Solve d k) h (inr (inl none)) ok stand sent fit says = subst (Kept ds) (sym none.2) (fit, says)
   happens_kept ds s (event.Solve d k) h (inr (inr (inl solves))) ok stand sent fit says =
       let x = solves.1 in
-      let r = commit c (place n d) (k, x.held) x.down s.clock (λ b. b.segment) x.rows.source_known x.rows.target_known x.rows.best (s.elements d) in
+      let r = commit c (place n d) (k, x.held) x.down s.clock (λ b. b.segment) (job_found x.rows.source_known x.rows.target_known x.rows.best) (s.elements d) in
       subst (Kept ds) (sym x.is) (puts_fit Pin Segment c codec n open_of d r.outputs (with_element Pin Segment c n open_of d r.element s) (record { inner = fit.inner; outer = fit.outer }), says)
   happens_kept ds s (event.Solve d k) h (inr (inr (inr solves))) ok stand sent fit says =
       let x = solves.2 in

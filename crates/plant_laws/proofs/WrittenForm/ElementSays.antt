@@ -41,7 +41,7 @@ use Rattle.plant_model.specs.Routes.{toward}
 use Rattle.plant_model.specs.Element as element
 use Rattle.plant_model.specs.Taking as taking
 use Rattle.plant_model.specs.Taking.{take, sequence_or, goes_up, error_answer}
-use Rattle.plant_model.specs.Solving.{commit, closed_reply, issued_all, free}
+use Rattle.plant_model.specs.Solving.{commit, closed_reply, issued_all, free, job_found}
 use Rattle.plant_laws.specs.Sending.{AreAll}
 use Rattle.plant_laws.proofs.WrittenForm.InForm.{busy_written, error_written, no_path_written, passed_written}
 
@@ -373,7 +373,7 @@ module _ (P : Type 0) (S : Type 0) (show : S → List Hop) (Seg : S → Type 0)
     denied_fine : (flags x : ℕ) (k : Element P S) → AreWords (flags, x) → Holds k → Fine (taking.denied p flags x k)
     denied_fine flags x k w h = ((unavailable_written flags x w, tt), h)
 
-    on_fine : (flags x : ℕ) (v : Wanted) (sequence rest : List As) (r : Bool) (k : Element P S) (o : Option Way) → WayOk o → WantedFits v → Goes v v.target rest → AreWords (flags, x) → Holds k → Fine (taking.send_on pin p class flags x v sequence rest r k o)
+    on_fine : (flags x : ℕ) (v : Wanted) (sequence rest : List As) (r : Bool) (k : Element P S) (o : Option Way) → WayOk o → WantedFits v → Goes v v.target rest → AreWords (flags, x) → Holds k → Fine (taking.send_on (taking.sight pin p class) (taking.wanting flags x v) sequence rest r k o)
     on_fine flags x v sequence rest r k None way fit goes w h = denied_fine flags x k w h
     on_fine flags x v sequence rest r k (Some way) is fit goes w h =
         let y = fresh_id way.peer way.last_id k.pending.rows in
@@ -382,7 +382,7 @@ module _ (P : Type 0) (S : Type 0) (show : S → List Hop) (Seg : S → Type 0)
         (choose r _ _ (denied_fine flags x k w h) ((goes y fits, tt), (opened_fine flags x _ k refl fit w h, ways_last way.peer y k.ways fits h.1, h.2)))
         (denied_fine flags x k w h)
 
-    along_fine : (flags x : ℕ) (v : Wanted) (k : Element P S) (sequence : List As) → WantedFits v → ((a b : As) (rest : List As) → sequence ≡ a ∷ b ∷ rest → Goes v v.target (b ∷ rest)) → AreWords (flags, x) → Holds k → Fine (taking.take_along e pin p class flags x v k sequence)
+    along_fine : (flags x : ℕ) (v : Wanted) (k : Element P S) (sequence : List As) → WantedFits v → ((a b : As) (rest : List As) → sequence ≡ a ∷ b ∷ rest → Goes v v.target (b ∷ rest)) → AreWords (flags, x) → Holds k → Fine (taking.take_along e (taking.sight pin p class) (taking.wanting flags x v) k sequence)
     along_fine flags x v k [] fit goes w h = denied_fine flags x k w h
     along_fine flags x v k (a ∷ []) fit goes w h = (tt, (opened_fine flags x _ k refl fit w h, h.1, h.2))
     along_fine flags x v k (a ∷ b ∷ rest) fit goes w h =
@@ -401,7 +401,7 @@ module _ (P : Type 0) (S : Type 0) (show : S → List Hop) (Seg : S → Type 0)
         go true true (Some t) is = seg_written t flags x w is
 
     wish_fine : (flags x : ℕ) (k : Element P S) (wish : Wish) → ((v : Wanted) → wish ≡ Path v → WantedFits v × Goes v v.target [] × ((a b : As) (rest : List As) → sequence_or e.own v.sequence ≡ a ∷ b ∷ rest → Goes v v.target (b ∷ rest))) →
-        AreWords (flags, x) → Holds k → Fine (taking.take_wish show e pin p class now flags x k wish)
+        AreWords (flags, x) → Holds k → Fine (taking.take_wish show e (taking.sight pin p class) now flags x k wish)
     wish_fine flags x k (Expand key pce) goes w h = ((expansion_written flags x key pce k w h, tt), h)
     wish_fine flags x k (Path v) goes w h =
         let g = goes v refl in
@@ -471,7 +471,7 @@ module _ (P : Type 0) (S : Type 0) (show : S → List Hop) (Seg : S → Type 0)
       issued_fine now stands bs (issue_of keys now (stands b)) all.1 (keys_append (live_at keys now) _ (keys_filter (is_live keys.life now) keys.issued h) (all.0, tt))
 
   pub commit_keeps : (c : Codec) (e : ElementSettings) (h : Row P) (down : List Branch) (now : ℕ) (stands : Best → S) (s t : Bool) (best : List Best) (k : Element P S) → AllByRecursion (λ (b : Best). Seg (stands b)) best → Holds k →
-      Holds (commit c e h down now stands s t best k).element
+      Holds (commit c e h down now stands (job_found s t best) k).element
   commit_keeps c e h down now stands s t best k all r = pick (is_client h.1.item.class) _ _ (gone k r) (closed best all)
     where
       pick : (b : Bool) (t u : Taken P S) → Holds t.element → Holds u.element → Holds (cond b t u).element

@@ -17,7 +17,7 @@ use Rattle.plant_model.specs.Wire.{Bytes, Codec}
 use Rattle.plant_model.specs.Laws.{IsCodec}
 use Rattle.plant_model.specs.Element.{upped, downed}
 use Rattle.plant_model.specs.Taking.{take}
-use Rattle.plant_model.specs.Solving.{commit}
+use Rattle.plant_model.specs.Solving.{commit, job_found}
 use Rattle.plant_model.specs.Parent as parent
 use Rattle.plant_text.specs.Settings.{class_of}
 use Rattle.plant_model.specs.Settings.{place, family}
@@ -240,7 +240,7 @@ module _ (c : Codec) (n : NetworkParts) (codec : IsCodec c) where
 
   solve_stands : (ds : Transcript) (s : Plant) (d : As) (k : ℕ) (h : Happened) → Stands ds s → ElementSolves c n d k s h → Stands (h.deeds ++ ds) h.state
   solve_stands ds s d k h held x =
-      let r = commit c (place n d) (k, x.held) x.down s.clock (λ b. b.segment) x.rows.source_known x.rows.target_known x.rows.best (s.elements d) in
+      let r = commit c (place n d) (k, x.held) x.down s.clock (λ b. b.segment) (job_found x.rows.source_known x.rows.target_known x.rows.best) (s.elements d) in
       subst (λ (h' : Happened). Stands (h'.deeds ++ ds) h'.state) (sym x.is)
       (sent_stands c n d r.outputs s (with_element Pin Segment c n open_of d r.element s) ds (Solves d k r.outputs r.element.keys.issued) refl (λ a. refl) (λ a b xs. refl) held.0, (λ sent. (tt, held.1 sent.1)))
 

@@ -31,8 +31,8 @@ use Rattle.plant_model.specs.Laws.{IsCodec, IsNetwork, IsSequence, Admits}
 use Rattle.plant_model.specs.Writing.{reply_message, error_message, busy, unavailable}
 use Rattle.plant_model.specs.Element.{Way, Element, ElementSettings, Taken, only, is_waiting, fresh_id, way_to, upped, downed, lost}
 use Rattle.plant_model.specs.Routes.{routes, toward}
-use Rattle.plant_model.specs.Taking.{take, take_asked, take_checked, take_new, take_wish, take_path, take_along, send_on, sequence_or, goes_up}
-use Rattle.plant_model.specs.Solving.{commit}
+use Rattle.plant_model.specs.Taking.{take, take_asked, take_checked, take_new, take_wish, take_path, take_along, send_on, sequence_or, goes_up, sight, wanting}
+use Rattle.plant_model.specs.Solving.{commit, job_found}
 use Rattle.plant_model.specs.BorderGraph.{Found}
 use Rattle.plant_model.specs.Parent as parent
 use Rattle.plant_model.specs.Parent.{Parent, ParentTaken, Family, AskingRow, errands}
@@ -112,7 +112,7 @@ module _ (P : Type 0) (S : Type 0) where
     tells m k never ok = ((not_asked m never, tt), ok)
 
     sends : (flags x : ℕ) (w : Wanted) (sequence rest : List As) (refused : Bool) (k : Element P S) (o : Option Way) → Goes w w.target rest → WayOk o → WaysOk k.ways →
-        Fits (send_on pin p class flags x w sequence rest refused k o)
+        Fits (send_on (sight pin p class) (wanting flags x w) sequence rest refused k o)
     sends flags x w sequence rest refused k None goes is ok = tells (reply_message flags x unavailable) k (λ none. none) ok
     sends flags x w sequence rest refused k (Some way) goes is ok =
         let denied = tells (reply_message flags x unavailable) k (λ none. none) ok in
@@ -120,7 +120,7 @@ module _ (P : Type 0) (S : Type 0) where
         let fits : IsId y = next_fits k.pending.rows (is_waiting way.peer k.pending.rows) way.last_id is in
         pick way.up _ _ (pick refused _ _ denied (((λ asks same. goes y fits), tt), ways_last way.peer y k.ways fits ok)) denied
 
-    along : (flags x : ℕ) (w : Wanted) (k : Element P S) (sequence : List As) → ((a b : As) (rest : List As) → sequence ≡ a ∷ b ∷ rest → Goes w w.target (b ∷ rest)) → WaysOk k.ways → Fits (take_along e pin p class flags x w k sequence)
+    along : (flags x : ℕ) (w : Wanted) (k : Element P S) (sequence : List As) → ((a b : As) (rest : List As) → sequence ≡ a ∷ b ∷ rest → Goes w w.target (b ∷ rest)) → WaysOk k.ways → Fits (take_along e (sight pin p class) (wanting flags x w) k sequence)
     along flags x w k [] goes ok = tells (reply_message flags x unavailable) k (λ none. none) ok
     along flags x w k (a ∷ []) goes ok = (tt, ok)
     along flags x w k (a ∷ b ∷ rest) goes ok =
@@ -130,11 +130,11 @@ module _ (P : Type 0) (S : Type 0) where
     abbrev GoesOn : Wanted → Type 0
     GoesOn w = Goes w w.target [] × ((a b : As) (rest : List As) → sequence_or e.own w.sequence ≡ a ∷ b ∷ rest → Goes w w.target (b ∷ rest))
 
-    wishes : (flags x : ℕ) (k : Element P S) (wish : Wish) → ((w : Wanted) → wish ≡ Path w → GoesOn w) → WaysOk k.ways → Fits (take_wish show e pin p class now flags x k wish)
+    wishes : (flags x : ℕ) (k : Element P S) (wish : Wish) → ((w : Wanted) → wish ≡ Path w → GoesOn w) → WaysOk k.ways → Fits (take_wish show e (sight pin p class) now flags x k wish)
     wishes flags x k (Expand key pce) goes ok = tells (reply_message flags x _) k (λ none. none) ok
     wishes flags x k (Path w) goes ok =
         let on = goes w refl in
-        pick (is_full k.pending) _ (take_path e pin p class flags x w k) (tells (busy flags x) k (λ none. none) ok)
+        pick (is_full k.pending) _ (take_path e (sight pin p class) (wanting flags x w) k) (tells (busy flags x) k (λ none. none) ok)
         (pick (goes_up e.parent class w.sequence) _ _
         (sends flags x w [] [] false k (way_to the_parent k.ways) on.0 (way_fits the_parent k.ways ok) ok)
         (along flags x w k (sequence_or e.own w.sequence) on.1 ok))
@@ -458,7 +458,7 @@ module _ (c : Codec) (codec : IsCodec c) (n : NetworkParts) (net : IsNetwork n) 
 
   solve_fit : (ds : Transcript) (s : Plant) (d : As) (k : ℕ) (h : Happened) → I ds s → ElementSolves c n d k s h → IfFit (h.deeds ++ ds) h.state
   solve_fit ds s d k h held x =
-      let r = commit c (place n d) (k, x.held) x.down s.clock (λ b. b.segment) x.rows.source_known x.rows.target_known x.rows.best (s.elements d) in
+      let r = commit c (place n d) (k, x.held) x.down s.clock (λ b. b.segment) (job_found x.rows.source_known x.rows.target_known x.rows.best) (s.elements d) in
       let calm = lower.calm_commit Pin Segment c (place n d) (k, x.held) x.down s.clock (λ b. b.segment) x.rows.source_known x.rows.target_known x.rows.best (s.elements d) in
       subst (λ (h' : Happened). IfFit (h'.deeds ++ ds) h'.state) (sym x.is) (λ prem.
       let b = held.fit (older (Solves d k r.outputs r.element.keys.issued) ds prem) in

@@ -32,7 +32,7 @@ use Rattle.plant_model.specs.Element.{Row, Way, Element, ElementSettings, Taken,
 use Rattle.plant_model.specs.Routes.{toward}
 use Rattle.plant_model.specs.Taking as taking
 use Rattle.plant_model.specs.Taking.{take, sequence_or, goes_up, error_answer}
-use Rattle.plant_model.specs.Solving.{commit, client_reply, closed_reply, free}
+use Rattle.plant_model.specs.Solving.{commit, client_reply, closed_reply, free, job_found}
 use Rattle.plant_model.specs.BorderGraph.{Found}
 use Rattle.plant_model.specs.Parent as parent
 use Rattle.plant_model.specs.Parent.{Parent, ParentTaken, Family, AskingRow, Wait, Errand}
@@ -94,17 +94,17 @@ module _ (Q : Message → Type 0) where
       each_outs f one (x ∷ xs) k = outs_append (f x k).outputs (each f xs (f x k).element).outputs (one x k) (each_outs f one xs (f x k).element)
 
       module _ (c : Codec) (show : S → List Hop) (e : ElementSettings) (pin : P) (p : Peer) (class : Class) (now : ℕ) where
-        sends : (flags x : ℕ) (w : Wanted) (sequence rest : List As) (r : Bool) (k : Element P S) (o : Option Way) → Fine (taking.send_on pin p class flags x w sequence rest r k o)
+        sends : (flags x : ℕ) (w : Wanted) (sequence rest : List As) (r : Bool) (k : Element P S) (o : Option Way) → Fine (taking.send_on (taking.sight pin p class) (taking.wanting flags x w) sequence rest r k o)
         sends flags x w sequence rest r k None = (replies flags x unavailable, tt)
         sends flags x w sequence rest r k (Some way) =
             choose way.up _ _ (choose r _ _ (replies flags x unavailable, tt) (asks _ w w.target rest, tt)) (replies flags x unavailable, tt)
 
-        along : (flags x : ℕ) (w : Wanted) (k : Element P S) (sequence : List As) → Fine (taking.take_along e pin p class flags x w k sequence)
+        along : (flags x : ℕ) (w : Wanted) (k : Element P S) (sequence : List As) → Fine (taking.take_along e (taking.sight pin p class) (taking.wanting flags x w) k sequence)
         along flags x w k [] = (replies flags x unavailable, tt)
         along flags x w k (a ∷ []) = tt
         along flags x w k (a ∷ b ∷ rest) = sends flags x w (a ∷ b ∷ rest) (b ∷ rest) (is_denied e.deny class b) k (way_to (toward b e.routes) k.ways)
 
-        wishes : (flags x : ℕ) (k : Element P S) (wish : Wish) → Fine (taking.take_wish show e pin p class now flags x k wish)
+        wishes : (flags x : ℕ) (k : Element P S) (wish : Wish) → Fine (taking.take_wish show e (taking.sight pin p class) now flags x k wish)
         wishes flags x k (Expand key pce) = (replies flags x (taking.expansion show e class now key pce k), tt)
         wishes flags x k (Path w) =
             choose (is_full k.pending) _ _ (busies flags x, tt)
@@ -175,7 +175,7 @@ module _ (Q : Message → Type 0) where
         take_outs (messages.Close why) k = tt
         take_outs (messages.Other kind) k = tt
 
-      pub commit_outs : (c : Codec) (e : ElementSettings) (h : Row P) (down : List Branch) (now : ℕ) (stands : Best → S) (s t : Bool) (best : List Best) (k : Element P S) → Fine (commit c e h down now stands s t best k)
+      pub commit_outs : (c : Codec) (e : ElementSettings) (h : Row P) (down : List Branch) (now : ℕ) (stands : Best → S) (s t : Bool) (best : List Best) (k : Element P S) → Fine (commit c e h down now stands (job_found s t best) k)
       commit_outs c e h down now stands s t best k = choose (is_client h.1.item.class) _ _ (client best) (closed best)
         where
           client : (best : List Best) → Fine (taking.answered h (client_reply c h down s t best) k)

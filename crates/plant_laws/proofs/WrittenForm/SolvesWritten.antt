@@ -40,7 +40,7 @@ use Rattle.vspt_tree.specs.Branches.{better, first_least}
 use Rattle.plant_model.specs.Branches.{hops_of, onward, open_branch, end_of, path_of}
 use Rattle.plant_model.specs.Jobs.{entry_nodes, entries_of}
 use Rattle.plant_model.specs.Element.{Item, Row, Element, ElementSettings, Taken, is_client}
-use Rattle.plant_model.specs.Solving.{commit, client_reply, closed_reply, closed_paths, free}
+use Rattle.plant_model.specs.Solving.{commit, client_reply, closed_reply, closed_paths, free, job_found}
 use Rattle.plant_model.specs.Settings.{place, place_from}
 use Rattle.plant_model.specs.Routes.{routes}
 use Rattle.plant_model.specs.Plant.{Pin, Segment, Plant, Happened, Entry as RunEntry, Run, deeds_of, ask, ElementSolves}
@@ -227,7 +227,7 @@ module _ (c : Codec) (codec : IsCodec c) (n : NetworkParts) (d : As) (h : Row Pi
       ((record { route = fit.written; few = fit.short; metric = metric_fits c codec m b.cost (cost_fits b all.0) }, more.0), ap suc more.1, (refl, more.2))
 
   pub commit_written : (now : ℕ) (stands : Best → Segment) (s t : Bool) (best : List Best) (k : Element Pin Segment) → AllByRecursion Fits best → length best ≤ 65 → k.keys.next ≤ number_most →
-      AreAll IsWritten (commit c e h down now stands s t best k).outputs
+      AreAll IsWritten (commit c e h down now stands (job_found s t best) k).outputs
   commit_written now stands s t best k all few next = choose (is_client h.1.item.class) _ _ (client_written s t best all, tt) (closed best all few)
     where
       choose : (b : Bool) (x y : Taken Pin Segment) → AreAll IsWritten x.outputs → AreAll IsWritten y.outputs → AreAll IsWritten (cond b x y).outputs
@@ -259,7 +259,7 @@ place_id d n net = go n.elements net.elements
 
 module _ (c : Codec) (codec : IsCodec c) (n : NetworkParts) (net : IsNetwork n) (es : List RunEntry) (s : Plant) (run : Run c n es s) (written : AllSent IsWritten (deeds_of c n es)) (fit : AllFit c codec n net s) (short : IsShort (deeds_of c n es)) where
   pub element_writes : (d : As) → d ≢ parent_as → (k : ℕ) (h : Happened) (x : ElementSolves c n d k s h) →
-      AreAll IsWritten (commit c (place n d) (k, x.held) x.down s.clock (λ b. b.segment) x.rows.source_known x.rows.target_known x.rows.best (s.elements d)).outputs
+      AreAll IsWritten (commit c (place n d) (k, x.held) x.down s.clock (λ b. b.segment) (job_found x.rows.source_known x.rows.target_known x.rows.best) (s.elements d)).outputs
   element_writes d real k h x =
       let now = deeds_of c n es in
       let given = given_of c codec n net es s run written short in

@@ -27,8 +27,8 @@ use Rattle.plant_model.specs.Writing.{request_message, reply_message, error_mess
 use Rattle.disclosure.specs.Policy.{is_denied}
 use Rattle.plant_model.specs.Element.{Element, Row, Way, ElementSettings, Taken, each, way_to, is_client, lost_output, waiting, with_last}
 use Rattle.plant_model.specs.Routes.{toward}
-use Rattle.plant_model.specs.Taking.{take, take_asked, take_checked, take_new, take_wish, take_path, take_along, send_on, sequence_or, goes_up, take_reply, take_answer, made_ready, take_notice, notice_steps, take_busy, take_cancel, told_busy, cancelled, take_report, take_errors, take_failure, told_error, error_answer}
-use Rattle.plant_model.specs.Solving.{commit, closed_reply, client_reply, free}
+use Rattle.plant_model.specs.Taking.{take, take_asked, take_checked, take_new, take_wish, take_path, take_along, send_on, sequence_or, goes_up, take_reply, take_answer, made_ready, take_notice, notice_steps, take_busy, take_cancel, told_busy, cancelled, take_report, take_errors, take_failure, told_error, error_answer, sight, wanting}
+use Rattle.plant_model.specs.Solving.{commit, closed_reply, client_reply, free, job_found}
 use Rattle.plant_model.specs.BorderGraph.{Found}
 use Rattle.plant_model.specs.Parent as parent
 use Rattle.plant_model.specs.Parent.{Parent, ParentTaken, Family, AskingRow, Errand, Wait, ask_all, next_id}
@@ -55,24 +55,24 @@ module _ (W : Peer → Message → Type 0) (w_reply : (p : Peer) (flags id : ℕ
 
     module _ (c : Codec) (show : S → List Hop) (e : ElementSettings) (pin : P) (p : Peer) (class : Class) (now : ℕ) where
       send_all : (flags x : ℕ) (w : Wanted) (sequence rest : List As) (refused : Bool) (k : Element P S) (way : Option Way) →
-          AllOut W (send_on pin p class flags x w sequence rest refused k way).outputs
+          AllOut W (send_on (sight pin p class) (wanting flags x w) sequence rest refused k way).outputs
       send_all flags x w sequence rest refused k None = (w_reply p flags x unavailable, tt)
       send_all flags x w sequence rest refused k (Some way) =
           pick way.up _ _ (pick refused _ _ (w_reply p flags x unavailable, tt) (w_request way.peer _ w w.target rest, tt)) (w_reply p flags x unavailable, tt)
 
-      along_all : (flags x : ℕ) (w : Wanted) (k : Element P S) (sequence : List As) → AllOut W (take_along e pin p class flags x w k sequence).outputs
+      along_all : (flags x : ℕ) (w : Wanted) (k : Element P S) (sequence : List As) → AllOut W (take_along e (sight pin p class) (wanting flags x w) k sequence).outputs
       along_all flags x w k [] = (w_reply p flags x unavailable, tt)
       along_all flags x w k (a ∷ []) = tt
       along_all flags x w k (a ∷ b ∷ rest) = send_all flags x w (a ∷ b ∷ rest) (b ∷ rest) (is_denied e.deny class b) k (way_to (toward b e.routes) k.ways)
 
-      path_all : (flags x : ℕ) (w : Wanted) (k : Element P S) → AllOut W (take_path e pin p class flags x w k).outputs
+      path_all : (flags x : ℕ) (w : Wanted) (k : Element P S) → AllOut W (take_path e (sight pin p class) (wanting flags x w) k).outputs
       path_all flags x w k =
-          pick (goes_up e.parent class w.sequence) (send_on pin p class flags x w [] [] false k (way_to the_parent k.ways)) (take_along e pin p class flags x w k (sequence_or e.own w.sequence))
+          pick (goes_up e.parent class w.sequence) (send_on (sight pin p class) (wanting flags x w) [] [] false k (way_to the_parent k.ways)) (take_along e (sight pin p class) (wanting flags x w) k (sequence_or e.own w.sequence))
           (send_all flags x w [] [] false k (way_to the_parent k.ways))
           (along_all flags x w k (sequence_or e.own w.sequence))
 
-      wish_all : (flags x : ℕ) (k : Element P S) (wish : Wish) → AllOut W (take_wish show e pin p class now flags x k wish).outputs
-      wish_all flags x k (Path w) = pick (is_full k.pending) _ (take_path e pin p class flags x w k) (w_busy p flags x, tt) (path_all flags x w k)
+      wish_all : (flags x : ℕ) (k : Element P S) (wish : Wish) → AllOut W (take_wish show e (sight pin p class) now flags x k wish).outputs
+      wish_all flags x k (Path w) = pick (is_full k.pending) _ (take_path e (sight pin p class) (wanting flags x w) k) (w_busy p flags x, tt) (path_all flags x w k)
       wish_all flags x k (Expand key pce) = (w_reply p flags x _, tt)
 
       new_all : (r : Request) (k : Element P S) (number : Option ℕ) → AllOut W (take_new show e pin p class now r k number).outputs
@@ -142,7 +142,7 @@ module _ (W : Peer → Message → Type 0) (w_reply : (p : Peer) (flags id : ℕ
       take_all (messages.Other kind) k = tt
 
     pub commit_all : (c : Codec) (e : ElementSettings) (h : Row P) (down : List Branch) (now : ℕ) (stands : Best → S) (source_known target_known : Bool) (best : List Best) (k : Element P S) →
-        AllOut W (commit c e h down now stands source_known target_known best k).outputs
+        AllOut W (commit c e h down now stands (job_found source_known target_known best) k).outputs
     commit_all c e h down now stands source_known target_known best k = pick (is_client h.1.item.class) _ (closed_reply c e h down now stands k best) (client best, tt) (closed best)
       where
         client : (best : List Best) → W h.1.key.peer (client_reply c h down source_known target_known best)
