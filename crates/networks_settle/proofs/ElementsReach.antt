@@ -25,7 +25,7 @@ use Rattle.vspt_tree.specs.declared.branch.Branch.{Branch}
 use Rattle.plant_text.specs.Names.{parent_as}
 use Rattle.plant_laws.specs.plant_model.Names.{has_pair, the_parent}
 use Rattle.plant_laws.specs.plant_model.Wire.{Codec, Checked, Admitted, Wrong}
-use Rattle.plant_laws.specs.plant_model.Writing.{reply_message, error_message, unavailable, busy, no_path}
+use Rattle.plant_laws.specs.plant_model.Writing.{reply_message, error_message, unavailable, busy, no_path, none_between}
 use Rattle.plant_laws.specs.plant_model.Branches.{branches_in}
 use Rattle.disclosure.specs.Policy.{is_denied}
 use Rattle.plant_laws.specs.plant_model.Element.{Stage, Ready, Row, Way, Element, ElementSettings, Taken, silent, only, each, ended, waiting, waits_for, waits_on, way_to, fresh_id, at_stage, stays, is_lost, lost_of, lost_output, lost, upped, downed, is_client}
@@ -243,7 +243,7 @@ module _ (P : Type 0) (S : Type 0) (Up : As → Type 0) where
       client (b ∷ bs) = answered_tells h (client_reply c h down source_known target_known (b ∷ bs)) k reached refl keeps
 
       closed : (bs : List Best) → Tells (closed_reply c e h down now means k bs)
-      closed [] = answered_tells h (reply_message h.1.item.flags h.1.key.id (no_path true true)) k reached refl keeps
+      closed [] = answered_tells h (reply_message h.1.item.flags h.1.key.id none_between) k reached refl keeps
       closed (b ∷ bs) =
           let more = record k { keys = issued_all now means (b ∷ bs) k.keys } in
           pick (nat_lt (free now k.keys) (length (b ∷ bs))) (answered h (busy h.1.item.flags h.1.key.id) k)

@@ -31,7 +31,7 @@ use Rattle.plant_text.specs.Names.{same_as, parent_as}
 use Rattle.plant_laws.specs.plant_model.Names.{has_pair, the_parent}
 use Rattle.plant_laws.specs.plant_model.Wire.{Codec, Checked, Admitted, Wrong}
 use Rattle.plant_laws.specs.plant_model.Laws.{IsCodec, IsSequence, Admits}
-use Rattle.plant_laws.specs.plant_model.Writing.{asked_of, request_message, reply_message, error_message, unavailable, busy, no_path}
+use Rattle.plant_laws.specs.plant_model.Writing.{asked_of, request_message, reply_message, error_message, unavailable, busy, no_path, none_between}
 use Rattle.plant_laws.specs.plant_model.Branches.{branches_in}
 use Rattle.disclosure.specs.Policy.{is_denied}
 use Rattle.plant_laws.specs.plant_model.Element.{Stage, Waits, Ready, Row, Way, Element, ElementSettings, Taken, silent, only, each, waiting, waits_for, is_waiting, way_to, fresh_id, at_stage, is_client}
@@ -327,7 +327,7 @@ module _ (P : Type 0) (S : Type 0) (c : Codec) (n : NetworkParts) where
       client (b ∷ bs) = ends (client_reply c h down source_known target_known (b ∷ bs)) (record { asks = refl; costs = λ z. omega arith })
 
       closed : (bs : List Best) → (let t = closed_reply c e h down now means k bs in IsLighter c n (length k.pending.rows) (length t.element.pending.rows) t.outputs)
-      closed [] = ends (reply_message h.1.item.flags h.1.key.id (no_path true true)) (reply_light c n h.1.item.flags h.1.key.id (no_path true true))
+      closed [] = ends (reply_message h.1.item.flags h.1.key.id none_between) (reply_light c n h.1.item.flags h.1.key.id none_between)
       closed (b ∷ bs) =
           let paths = Paths (closed_paths c e.id h.1.item.wanted.query.metric h.1.item.wanted.target down k.keys.next (b ∷ bs)) in
           choose (nat_lt (free now k.keys) (length (b ∷ bs))) (answered h (busy h.1.item.flags h.1.key.id) k)

@@ -24,7 +24,7 @@ use Rattle.request_table.specs.Pending.{number_of, same_peer, is_full}
 use Rattle.plant_text.specs.Names.{parent_as}
 use Rattle.plant_laws.specs.plant_model.Names.{has_pair}
 use Rattle.plant_laws.specs.plant_model.Wire.{Codec, Checked, Admitted, Wrong}
-use Rattle.plant_laws.specs.plant_model.Writing.{reply_message, error_message, unavailable, busy, no_key, no_path}
+use Rattle.plant_laws.specs.plant_model.Writing.{reply_message, error_message, unavailable, busy, no_key, none_between}
 use Rattle.plant_laws.specs.plant_model.Branches.{branches_in, path_of}
 use Rattle.plant_laws.specs.plant_model.Element.{Way, way_to, with_last, lost_output}
 use Rattle.plant_laws.specs.plant_model.Taking.{error_answer}
@@ -239,7 +239,7 @@ module _ (Up : As → Type 0) where
     take_tells c f (messages.Other kind) k keeps = quiet k keeps
 
   pub commit_tells : (c : Codec) (h : AskingRow) (a : Option Found) (k : Parent) → Reaches Up h.1.key.peer → Keeps k → Tells (commit c h a k)
-  commit_tells c h None k reached keeps = answered_tells h (reply_message h.1.item.flags h.1.key.id (no_path true true)) k reached refl keeps
+  commit_tells c h None k reached keeps = answered_tells h (reply_message h.1.item.flags h.1.key.id none_between) k reached refl keeps
   commit_tells c h (Some a) k reached keeps = answered_tells h (reply_message h.1.item.flags h.1.key.id (Paths (path_of c h.1.item.wanted.query.metric a.cost a.hops ∷ []))) k reached refl keeps
 
   pub upped_tells : (p : Peer) (k : Parent) → Reaches Up p → Keeps k → Keeps (upped p k)

@@ -33,7 +33,7 @@ use Rattle.plant_laws.specs.plant_model.Rising.{has_addr}
 use Rattle.plant_laws.specs.plant_model.Settings.{family}
 use Rattle.plant_laws.specs.plant_model.Wire.{Codec, Checked, Admitted, Wrong}
 use Rattle.plant_laws.specs.plant_model.Laws.{IsCodec, IsNetwork, IsSequence, Admits}
-use Rattle.plant_laws.specs.plant_model.Writing.{asked_of, request_message, reply_message, error_message, unavailable, busy, no_key, no_path}
+use Rattle.plant_laws.specs.plant_model.Writing.{asked_of, request_message, reply_message, error_message, unavailable, busy, no_key, none_between}
 use Rattle.plant_laws.specs.plant_model.Branches.{branches_in, path_of}
 use Rattle.plant_laws.specs.plant_model.Element.{Way, way_to, with_last}
 use Rattle.plant_laws.specs.plant_model.Taking.{error_answer}
@@ -314,8 +314,8 @@ module _ (c : Codec) (n : NetworkParts) where
   pub commit_lighter : (h : AskingRow) (a : Option Found) (k : Parent) → suc (length (remove_entry (nat_eq h.0) k.pending.rows)) ≤ length k.pending.rows →
       (let t = commit c h a k in IsLighter c n (length k.pending.rows) (length t.parent.pending.rows) t.outputs)
   commit_lighter h None k closes =
-      ended_lighter c n (length k.pending.rows) (length (remove_entry (nat_eq h.0) k.pending.rows)) h.1.key.peer (reply_message h.1.item.flags h.1.key.id (no_path true true))
-      (reply_light c n h.1.item.flags h.1.key.id (no_path true true)) (omega (arith, closes))
+      ended_lighter c n (length k.pending.rows) (length (remove_entry (nat_eq h.0) k.pending.rows)) h.1.key.peer (reply_message h.1.item.flags h.1.key.id none_between)
+      (reply_light c n h.1.item.flags h.1.key.id none_between) (omega (arith, closes))
   commit_lighter h (Some a) k closes =
       let paths = Paths (path_of c h.1.item.wanted.query.metric a.cost a.hops ∷ []) in
       ended_lighter c n (length k.pending.rows) (length (remove_entry (nat_eq h.0) k.pending.rows)) h.1.key.peer (reply_message h.1.item.flags h.1.key.id paths) (reply_light c n h.1.item.flags h.1.key.id paths) (omega (arith, closes))

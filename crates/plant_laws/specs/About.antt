@@ -34,7 +34,7 @@ use Rattle.plant_model.specs.Settings.{place, family}
 use Rattle.path_keys.specs.declared.issued.Issued.{Issued}
 use Rattle.plant_model.specs.State.{Takes, Solves}
 use Rattle.plant_model.specs.Plant.{PlantDeed, Segment}
-use Rattle.plant_laws.specs.Transcript.{Transcript, Within, opened, Delivered, Handed, SentIn, Leg, Chain, numbers, outputs_at, asks, effect, Ends}
+use Rattle.plant_laws.specs.Transcript.{Transcript, Within, opened, Delivered, Handed, SentIn, Visit, Chain, numbers, outputs_at, asks, effect, Ends}
 use Rattle.plant_laws.specs.Ends.{End, goal_of, ChainEnds}
 use Rattle.plant_laws.specs.Shown.{ShowsAlong}
 use Rattle.dom_base.specs.declared.query.Metric.{Metric}
@@ -60,7 +60,7 @@ pub record Replies (now m older : Transcript) (d : As) (p : Peer) (r : Reply) : 
   pub answer : IsPathAnswer r
 
 -- The moment that answered a leg is the very solve that ended the request which the leg's moment delivered from this peer.
-pub record IsSolvedFor (c : Codec) (p : Peer) (leg : Leg) : Type 0 where
+pub record IsSolvedFor (c : Codec) (p : Peer) (leg : Visit) : Type 0 where
   pub number : ℕ
   pub outputs : List Output
   pub keys : List (Issued Segment)
@@ -71,19 +71,19 @@ pub record IsSolvedFor (c : Codec) (p : Peer) (leg : Leg) : Type 0 where
   pub ends : effect c leg.own p id (Solves leg.own number outputs keys) ≡ Ends
 
 -- of each leg: the peer asked the first, and each asked the next
-abbrev pub AreSolved : Codec → Peer → List Leg → Type 0
+abbrev pub AreSolved : Codec → Peer → List Visit → Type 0
 AreSolved c p [] = Unit {0}
 AreSolved c p (leg ∷ legs) = IsSolvedFor c p leg × AreSolved c (Inner leg.own) legs
 
 -- The reply of d to the peer p, sent in the moment now, is about this request, which took this chain and ended so: in the last domain
 -- of its sequence, or before those that an outside peer was asked for.
-pub record IsAbout (c : Codec) (n : NetworkParts) (older now : Transcript) (d : As) (p : Peer) (r : Request) (w : Wanted) (chain : List Leg) (end : End) : Type 0 where
+pub record IsAbout (c : Codec) (n : NetworkParts) (older now : Transcript) (d : As) (p : Peer) (r : Request) (w : Wanted) (chain : List Visit) (end : End) : Type 0 where
   pub at : Transcript
   pub is_open : opened c d p r.id older ≡ Some at
   pub delivered : Delivered c at d p r
   pub is_path : r.wish ≡ wishes.Path w
   pub stays : goes_up (place n d).parent (class_of n p) w.sequence ≡ false
-  pub rest : List Leg
+  pub rest : List Visit
   pub begins : chain ≡ record { own = d; at = at; solved = now } ∷ rest
   pub chained : Chain now chain
   pub solved : AreSolved c p chain
@@ -156,7 +156,7 @@ HasNoneAlong q (g ∷ rest) s goal = HasNoCrossing q g rest s goal
 
 -- The path shows a walk from a node that is least through these domains, the first part open or closed, and its metric is the
 -- walk's cost.
-pub record IsLeastPath (c : Codec) (n : NetworkParts) (open' : Bool) (domains : List Rows) (chain : List Leg) (end : End) (w : Wanted) (from : Addr) (path : Path) : Type 0 where
+pub record IsLeastPath (c : Codec) (n : NetworkParts) (open' : Bool) (domains : List Rows) (chain : List Visit) (end : End) (w : Wanted) (from : Addr) (path : Path) : Type 0 where
   pub legs : List crossing.Leg
   pub last : Last
   pub least : IsLeastAlong w.query domains from (goal_of end) legs last

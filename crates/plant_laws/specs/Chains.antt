@@ -12,22 +12,22 @@ use Rattle.plant_model.specs.State.{Connection}
 use Rattle.plant_model.specs.Events.{is_ready}
 use Rattle.plant_model.specs.Element.{Waits, Row}
 use Rattle.plant_model.specs.Plant.{Pin, Plant, Entry, deeds_of}
-use Rattle.plant_laws.specs.Transcript.{Transcript, Handed, Leg, Chain, numbers, opened}
+use Rattle.plant_laws.specs.Transcript.{Transcript, Handed, Visit, Chain, numbers, opened}
 use Rattle.plant_laws.specs.Runs.{InRuns, InShortRuns}
 
 -- A request has one chain: two that begin with the same moment and lead through the same domains have the same moments.
-abbrev pub moments : List Leg → List Transcript
+abbrev pub moments : List Visit → List Transcript
 moments [] = []
 moments (leg ∷ legs) = leg.at ∷ moments legs
 
 -- none of them is the parent, which sends several requests for one
-abbrev pub AreElements : List Leg → Type 0
+abbrev pub AreElements : List Visit → Type 0
 AreElements [] = Unit {0}
 AreElements (leg ∷ legs) = (leg.own ≢ parent_as) × AreElements legs
 
 abbrev pub OneChainIn : Codec → NetworkParts → List Entry → Plant → Type 0
 OneChainIn c n es s =
-    (one other : Leg) (rest rest' : List Leg) → one.at ≡ other.at → AreElements (one ∷ rest) →
+    (one other : Visit) (rest rest' : List Visit) → one.at ≡ other.at → AreElements (one ∷ rest) →
     Chain (deeds_of c n es) (one ∷ rest) → Chain (deeds_of c n es) (other ∷ rest') →
     numbers (one ∷ rest) ≡ numbers (other ∷ rest') → moments (one ∷ rest) ≡ moments (other ∷ rest')
 

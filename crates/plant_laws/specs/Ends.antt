@@ -24,7 +24,7 @@ use Rattle.plant_model.specs.Outside.{heeded_by}
 use Rattle.plant_model.specs.Routes.{toward}
 use Rattle.plant_model.specs.Settings.{place}
 use Rattle.plant_model.specs.State.{Takes}
-use Rattle.plant_laws.specs.Transcript.{Transcript, Within, SentIn, Leg}
+use Rattle.plant_laws.specs.Transcript.{Transcript, Within, SentIn, Visit}
 
 -- A chain ends at the element of the last domain, or at one that asked an outside peer for the next domain, with the branches that it
 -- was told.
@@ -63,7 +63,7 @@ pub record IsAnswered (c : Codec) (older : Transcript) (d : As) (at : Transcript
 
 -- Where the last leg's element ended the chain, with these domains of the sequence behind its own: none, at the target; or the next of
 -- them is asked for by a route, and that outside peer told these branches.
-abbrev pub EndsAt : Codec → NetworkParts → Wanted → List As → Leg → End → Type 0
+abbrev pub EndsAt : Codec → NetworkParts → Wanted → List As → Visit → End → Type 0
 EndsAt c n w behind last (Inside t) = (behind ≡ []) × (t ≡ w.target)
 EndsAt c n w behind last (Asked next told) = record {
   peer : ℕ;
@@ -74,7 +74,7 @@ EndsAt c n w behind last (Asked next told) = record {
 }
 
 -- the same of a chain. No chain is empty.
-abbrev pub ChainEnds : Codec → NetworkParts → Wanted → List As → List Leg → End → Type 0
+abbrev pub ChainEnds : Codec → NetworkParts → Wanted → List As → List Visit → End → Type 0
 ChainEnds c n w behind [] end = ⊥
 ChainEnds c n w behind (one ∷ []) end = EndsAt c n w behind one end
 ChainEnds c n w behind (one ∷ next ∷ rest) end = ChainEnds c n w behind (next ∷ rest) end
@@ -83,5 +83,5 @@ ChainEnds c n w behind (one ∷ next ∷ rest) end = ChainEnds c n w behind (nex
 
 -- Where paths go on through no outside peer, a chain goes through its whole sequence, to the target.
 abbrev pub ChainsEndInside : Type 0
-ChainsEndInside = (c : Codec) (n : NetworkParts) (w : Wanted) (behind : List As) (chain : List Leg) (end : End) → All (λ (r : PeerRow). r.down ≡ false) n.peers →
+ChainsEndInside = (c : Codec) (n : NetworkParts) (w : Wanted) (behind : List As) (chain : List Visit) (end : End) → All (λ (r : PeerRow). r.down ≡ false) n.peers →
     ChainEnds c n w behind chain end → (behind ≡ []) × (end ≡ Inside w.target)

@@ -16,7 +16,7 @@ use Rattle.plant_model.specs.Element.{is_client}
 use Rattle.plant_model.specs.BorderGraph.{Found}
 use Rattle.plant_text.specs.Settings.{class_of}
 use Rattle.plant_model.specs.Plant.{Plant, Entry, deeds_of}
-use Rattle.plant_laws.specs.Transcript.{Transcript, Leg, domains}
+use Rattle.plant_laws.specs.Transcript.{Transcript, Visit, domains}
 use Rattle.plant_laws.specs.About.{Replies, IsAbout, IsViaParent, HasNoneAlong, IsLeastPath}
 use Rattle.plant_text.specs.Names.{parent_as}
 use Rattle.plant_laws.specs.Runs.{InShortRuns}
@@ -31,7 +31,7 @@ pub record IsOfParent (c : Codec) (n : NetworkParts) (older now : Transcript) (d
 pub record IsOfChain (c : Codec) (n : NetworkParts) (older now : Transcript) (d : As) (i : ℕ) (r : Reply) (paths : List Path) : Type 0 where
   pub request : Request
   pub wanted : Wanted
-  pub chain : List Leg
+  pub chain : List Visit
   pub end : End
   pub same : request.id ≡ r.id
   pub about : IsAbout c n older now d (Outside i) request wanted chain end
@@ -53,7 +53,7 @@ LeastAnswers = InShortRuns LeastAnswersIn
 pub record HasNoneOfChain (c : Codec) (n : NetworkParts) (older now : Transcript) (d : As) (i : ℕ) (r : Reply) : Type 0 where
   pub request : Request
   pub wanted : Wanted
-  pub chain : List Leg
+  pub chain : List Visit
   pub end : End
   pub same : request.id ≡ r.id
   pub about : IsAbout c n older now d (Outside i) request wanted chain end

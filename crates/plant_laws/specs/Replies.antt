@@ -21,18 +21,18 @@ use Rattle.plant_model.specs.State.{Solves}
 use Rattle.path_keys.specs.declared.issued.Issued.{Issued}
 use Rattle.plant_model.specs.Plant.{Plant, Entry, Run, deeds_of, Segment}
 use Rattle.plant_model.specs.Blind.{is_closed}
-use Rattle.plant_laws.specs.Transcript.{Transcript, Within, Leg, domains, pinned}
+use Rattle.plant_laws.specs.Transcript.{Transcript, Within, Visit, domains, pinned}
 use Rattle.plant_laws.specs.Ends.{End, goal_of}
 use Rattle.plant_laws.specs.About.{Replies, IsAbout, HasNoneAlong, IsLeastPath}
 use Rattle.plant_laws.specs.Runs.{InShortRuns}
 
 -- the nodes that an asker of this class is answered for, in the first domain of a chain as it stood
-abbrev pub entries_along : Class → Wanted → List Leg → List Addr
+abbrev pub entries_along : Class → Wanted → List Visit → List Addr
 entries_along class w [] = []
 entries_along class w (leg ∷ legs) = entries_of class w.source (pinned leg.own leg.at)
 
 -- each path is least from one of the entries, and an entry without a path has no walk
-pub record AreRightful (c : Codec) (n : NetworkParts) (class : Class) (chain : List Leg) (end : End) (w : Wanted) (paths : List Path) : Type 0 where
+pub record AreRightful (c : Codec) (n : NetworkParts) (class : Class) (chain : List Visit) (end : End) (w : Wanted) (paths : List Path) : Type 0 where
   pub each : (path : Path) → Contains paths path → (e : Addr) × Contains (entries_along class w chain) e × IsLeastPath c n false (domains chain) chain end w e path
   pub every : (e : Addr) → Contains (entries_along class w chain) e →
       HasNoneAlong w.query (domains chain) e (goal_of end) ⊎ ((path : Path) × Contains paths path × IsLeastPath c n false (domains chain) chain end w e path)
@@ -41,7 +41,7 @@ pub record AreRightful (c : Codec) (n : NetworkParts) (class : Class) (chain : L
 pub record IsRightful (c : Codec) (n : NetworkParts) (older now : Transcript) (d : As) (p : Peer) (r : Reply) (paths : List Path) : Type 0 where
   pub request : Request
   pub wanted : Wanted
-  pub chain : List Leg
+  pub chain : List Visit
   pub end : End
   pub same : request.id ≡ r.id
   pub about : IsAbout c n older now d p request wanted chain end

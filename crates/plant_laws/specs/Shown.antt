@@ -21,7 +21,7 @@ use Rattle.vspt_tree.specs.Branches.{first_least}
 use Rattle.plant_model.specs.Branches.{downs}
 use Rattle.plant_model.specs.Settings.{place}
 use Rattle.plant_model.specs.Plant.{Segment}
-use Rattle.plant_laws.specs.Transcript.{Leg, pinned, keys_at, domains}
+use Rattle.plant_laws.specs.Transcript.{Visit, pinned, keys_at, domains}
 use Rattle.plant_laws.specs.Ends.{End, Inside, Asked, goal_of}
 use Rattle.pcep_subobjects.specs.Hops.{strict_hop}
 use Rattle.walk_laws.specs.Composition.{AreBeyond}
@@ -50,7 +50,7 @@ ending false t = strict_hop t ∷ []
 
 -- What the hops show of the last domain of a chain: its chosen segment, and then the target, or the far address of an out link and
 -- the hops of the first least branch that was told of its head. A walk that ends otherwise than the goal says is not shown.
-abbrev pub ShowsLast : NetworkParts → Bool → Query → End → Leg → Addr → List Hop → Last → Type 0
+abbrev pub ShowsLast : NetworkParts → Bool → Query → End → Visit → Addr → List Hop → Last → Type 0
 ShowsLast n open' q (Inside t) one e hs (Links last) = record {
   part : List Hop;
   is_part : IsPart open' (keys_at one.solved) (place n one.own).id e last part;
@@ -72,7 +72,7 @@ ShowsLast n open' q (Asked next told) one e hs (Links last) = ⊥
 -- The hops show this walk along the chain, the first part open or closed, and the others closed. The part of each domain is the
 -- chosen segment over the least costs of the rest. No chain is empty, and a walk crosses from each domain but the last to the next: of
 -- others nothing is shown.
-abbrev pub ShowsAlong : NetworkParts → Bool → Query → End → List Leg → Addr → List Hop → List crossing.Leg → Last → Type 0
+abbrev pub ShowsAlong : NetworkParts → Bool → Query → End → List Visit → Addr → List Hop → List crossing.Leg → Last → Type 0
 ShowsAlong n open' q end [] e hs legs last = ⊥
 ShowsAlong n open' q end (one ∷ []) e hs [] last = ShowsLast n open' q end one e hs last
 ShowsAlong n open' q end (one ∷ []) e hs (l ∷ ls) last = ⊥

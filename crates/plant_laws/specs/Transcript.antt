@@ -193,24 +193,24 @@ SentIn [] d p m = ⊥
 SentIn (e ∷ older) d p m = Contains (outputs_at d e) (record { to = p; message = m })
 
 -- A pair of a chain: an element, and the moment that delivered the request to it; besides, the moment that answered it there.
-pub record Leg : Type 0 where
+pub record Visit : Type 0 where
   pub own : As
   pub at : Transcript
   pub solved : Transcript
 
 -- Each leg's request is the one that the leg before it sent on. A chain has a leg.
-abbrev pub Chain : Transcript → List Leg → Type 0
+abbrev pub Chain : Transcript → List Visit → Type 0
 Chain now [] = ⊥
 Chain now (one ∷ []) = Within one.at now × Within one.solved now
 Chain now (one ∷ next ∷ rest) =
     Within one.at now × Within one.solved now × Handed one.own next.own one.at next.at × Chain now (next ∷ rest)
 
-abbrev pub numbers : List Leg → List As
+abbrev pub numbers : List Visit → List As
 numbers [] = []
 numbers (leg ∷ legs) = leg.own ∷ numbers legs
 
 -- the domains as they stood when their elements took the request
-abbrev pub domains : List Leg → List Rows
+abbrev pub domains : List Visit → List Rows
 domains [] = []
 domains (leg ∷ legs) = pinned leg.own leg.at ∷ domains legs
 

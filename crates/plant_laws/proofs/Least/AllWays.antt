@@ -23,7 +23,7 @@ use Rattle.plant_model.specs.Laws.{IsCodec}
 use Rattle.plant_model.specs.Element.{Item}
 use Rattle.plant_model.specs.Jobs.{ask_of, target_along}
 use Rattle.plant_model.specs.Plant.{Pin}
-use Rattle.plant_laws.specs.Transcript.{Leg, pinned, domains}
+use Rattle.plant_laws.specs.Transcript.{Visit, pinned, domains}
 use Rattle.plant_laws.specs.Ends.{End, Inside, Asked, goal_of}
 use Rattle.border_costs.proofs.Composing.{rows_compose, rows_end, rows_report}
 use Rattle.plant_laws.proofs.Least.BorderJoins.{finds}
@@ -32,11 +32,11 @@ use Rattle.plant_laws.proofs.Least.BestParts.{best_ends, best_goes_on}
 use Rattle.plant_laws.proofs.Least.Told.{from_path, IsTold, told_beyond}
 use Rattle.plant_laws.proofs.Least.Ways.{IsWay, end_way, over_way, on_way}
 
-pub record AreWays (n : NetworkParts) (w : Wanted) (end : End) (one : Leg) (chain : List Leg) (down : List Branch) (entries : List Addr) (best : List Best) : Type 0 where
+pub record AreWays (n : NetworkParts) (w : Wanted) (end : End) (one : Visit) (chain : List Visit) (down : List Branch) (entries : List Addr) (best : List Best) : Type 0 where
   pub each : (b : Best) → Contains best b → Contains entries b.entry × IsWay n w.query end w.target one chain down b
   pub every : (e : Addr) → Contains entries e → HasNoCrossing w.query (pinned one.own one.at) (domains chain) e (goal_of end) ⊎ ((b : Best) × Contains best b × (b.entry ≡ e))
 
-module _ (n : NetworkParts) (d : As) (k : ℕ) (item : Item Pin) (one : Leg) (number : ℕ) (rows : Answers)
+module _ (n : NetworkParts) (d : As) (k : ℕ) (item : Item Pin) (one : Visit) (number : ℕ) (rows : Answers)
     (own : item.wanted.query ≡ query_in item.wanted.query one.own) (home : item.wanted.query ≡ query_in item.wanted.query (pinned one.own one.at).own) where
   abbrev g : Rows
   g = pinned one.own one.at
@@ -76,7 +76,7 @@ module _ (n : NetworkParts) (d : As) (k : ℕ) (item : Item Pin) (one : Leg) (nu
         every = tells.every;
       }
 
-  pub on_ways : (c : Codec) (codec : IsCodec c) (next : Leg) (chain : List Leg) (end : End) (rest : List As) → item.sequence ≡ one.own ∷ next.own ∷ rest → w.query.cap ≤ COST_MAX → IsInOrder g → g.own ≡ one.own →
+  pub on_ways : (c : Codec) (codec : IsCodec c) (next : Visit) (chain : List Visit) (end : End) (rest : List As) → item.sequence ≡ one.own ∷ next.own ∷ rest → w.query.cap ≤ COST_MAX → IsInOrder g → g.own ≡ one.own →
       (pinned next.own next.at).own ≡ next.own → (paths : List Path) → IsTold c n one.own next chain end w paths →
       AreRows g (asked (branches_in c w.query.metric paths)) rows → AreWays n w end one (next ∷ chain) (branches_in c w.query.metric paths) (asked (branches_in c w.query.metric paths)).entries rows.best
   on_ways c codec next chain end rest sequence small order here at_next paths told are =

@@ -28,7 +28,7 @@ use Rattle.plant_model.specs.Solving.{client_reply, closed_paths, closed_reply, 
 use Rattle.plant_model.specs.Settings.{place}
 use Rattle.plant_model.specs.Jobs.{entries_of}
 use Rattle.plant_model.specs.Plant.{Pin, Segment}
-use Rattle.plant_laws.specs.Transcript.{Leg, pinned, domains, keys_at}
+use Rattle.plant_laws.specs.Transcript.{Visit, pinned, domains, keys_at}
 use Rattle.plant_laws.specs.Ends.{End, goal_of}
 use Rattle.plant_laws.specs.About.{HasNoneAlong, IsLeastPath}
 use Rattle.plant_laws.specs.Replies.{AreRightful}
@@ -51,7 +51,7 @@ pub record IsReplyOf (held : Held (Item Pin)) (r : Reply) : Type 0 where
   pub flags : r.flags ≡ held.item.flags
   pub id : r.id ≡ held.key.id
 
-module _ (c : Codec) (n : NetworkParts) (d : As) (k : ℕ) (held : Held (Item Pin)) (down : List Branch) (now : ℕ) (element : Element Pin Segment) (source_known target_known : Bool) (one : Leg) (chain : List Leg) (end : End) where
+module _ (c : Codec) (n : NetworkParts) (d : As) (k : ℕ) (held : Held (Item Pin)) (down : List Branch) (now : ℕ) (element : Element Pin Segment) (source_known target_known : Bool) (one : Visit) (chain : List Visit) (end : End) where
   abbrev w : Wanted
   w = held.item.wanted
 

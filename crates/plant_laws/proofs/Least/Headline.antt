@@ -25,7 +25,7 @@ use Rattle.plant_model.specs.Blind.{is_closed}
 use Rattle.plant_model.specs.State.{Solves}
 use Rattle.plant_model.specs.Plant.{Segment, PlantDeed}
 use Rattle.plant_model.specs.Laws.{IsCodec}
-use Rattle.plant_laws.specs.Transcript.{Transcript, Within, outputs_at, opened, Delivered, Leg}
+use Rattle.plant_laws.specs.Transcript.{Transcript, Within, outputs_at, opened, Delivered, Visit}
 use Rattle.plant_model.specs.BorderGraph.{Found}
 use Rattle.plant_laws.specs.About.{AreSolved, IsAbout, IsViaParent}
 use Rattle.plant_laws.proofs.Least.ViaParent.{FoundTells, passed_on}
@@ -54,7 +54,7 @@ module _ (c : Codec) (codec : IsCodec c) (n : NetworkParts) (now : Transcript) (
     -- by a solve
     module _ (k : ℕ) (os : List Output) (keys : List (Issued Segment)) (older : Transcript) (x : IsSolved c n older d k os keys) (ch : Chained c codec n now given d k os keys older x)
         (said : Contains os (record { to = p; message = messages.PcRep (r ∷ []) })) where
-      abbrev one : Leg
+      abbrev one : Visit
       one = leg c codec n now given d k os keys older x.taken.at
 
       said_of : Contains (commit c (place n d) (k, x.held) x.down x.now (λ z. z.segment) (job_found x.rows.source_known x.rows.target_known x.rows.best) x.element).outputs (record { to = p; message = messages.PcRep (r ∷ []) })

@@ -39,7 +39,7 @@ use Rattle.plant_model.specs.Jobs.{ask_of, entries_of}
 use Rattle.plant_model.specs.State.{Pops, Takes, Solves}
 use Rattle.plant_model.specs.Plant.{Pin, Segment, PlantDeed}
 use Rattle.plant_model.specs.Laws.{IsCodec, Admits}
-use Rattle.plant_laws.specs.Transcript.{Transcript, Within, Standing, outputs_at, SentIn, Handed, Delivered, Leg, Chain, numbers, pinned, domains, Keeps, ends_if, answers_to}
+use Rattle.plant_laws.specs.Transcript.{Transcript, Within, Standing, outputs_at, SentIn, Handed, Delivered, Visit, Chain, numbers, pinned, domains, Keeps, ends_if, answers_to}
 use Rattle.plant_laws.specs.Ends.{End, Inside, Asked as AskedFor, goal_of, ChainEnds}
 use Rattle.plant_laws.specs.About.{IsSolvedFor, AreSolved, IsLeastPath}
 use Rattle.plant_laws.specs.Replies.{AreRightful}
@@ -56,7 +56,7 @@ use Rattle.plant_laws.proofs.Least.FromElement.{within_tail, same_request, same_
 use Rattle.plant_laws.specs.Certified.{IsAnswered, IsServed}
 
 -- a path of the next element's request is one of the request before it
-same_path : (c : Codec) (n : NetworkParts) (chain : List Leg) (end : End) (w : Wanted) (b : As) (rest : List As) (e : Addr) (path : Path) →
+same_path : (c : Codec) (n : NetworkParts) (chain : List Visit) (end : End) (w : Wanted) (b : As) (rest : List As) (e : Addr) (path : Path) →
     IsLeastPath c n false (domains chain) chain end (on_wanted w b rest) e path → IsLeastPath c n false (domains chain) chain end w e path
 same_path c n chain end w b rest e path p = record {
   legs = p.legs;
@@ -66,7 +66,7 @@ same_path c n chain end w b rest e path p = record {
   shown = shows_free w.query b n end false chain e path.hops p.legs p.last p.shown;
 }
 
-told_of : (c : Codec) (n : NetworkParts) (d : As) (w : Wanted) (b : As) (rest : List As) (next : Leg) (chain : List Leg) (end : End) (paths : List Path) →
+told_of : (c : Codec) (n : NetworkParts) (d : As) (w : Wanted) (b : As) (rest : List As) (next : Visit) (chain : List Visit) (end : End) (paths : List Path) →
     AreRightful c n (Neighbour d) (next ∷ chain) end (on_wanted w b rest) paths → IsTold c n d next chain end w paths
 told_of c n d w b rest next chain end paths right = record {
   each = λ path h.
@@ -79,7 +79,7 @@ told_of c n d w b rest next chain end paths right = record {
 }
 
 -- a chain of the next element's request ends as one of the request before it
-same_end : (c : Codec) (n : NetworkParts) (w : Wanted) (b : As) (rest behind : List As) (chain : List Leg) (end : End) → ChainEnds c n (on_wanted w b rest) behind chain end → ChainEnds c n w behind chain end
+same_end : (c : Codec) (n : NetworkParts) (w : Wanted) (b : As) (rest behind : List As) (chain : List Visit) (end : End) → ChainEnds c n (on_wanted w b rest) behind chain end → ChainEnds c n w behind chain end
 same_end c n w b rest behind [] end e = e
 same_end c n w b rest behind (one ∷ []) (Inside t) e = e
 same_end c n w b rest behind (one ∷ []) (AskedFor next told) e = record {
@@ -132,7 +132,7 @@ module _ (c : Codec) (codec : IsCodec c) (n : NetworkParts) (now : Transcript) (
   abbrev pub Solved : As → ℕ → List Output → List (Issued Segment) → Transcript → Type 0
   Solved d k os keys older = IsSolved c n older d k os keys
 
-  abbrev pub leg : As → ℕ → List Output → List (Issued Segment) → Transcript → Transcript → Leg
+  abbrev pub leg : As → ℕ → List Output → List (Issued Segment) → Transcript → Transcript → Visit
   leg d k os keys older at = record { own = d; at = at; solved = Solves d k os keys ∷ older }
 
   -- the solve ended its own request
@@ -152,7 +152,7 @@ module _ (c : Codec) (codec : IsCodec c) (n : NetworkParts) (now : Transcript) (
   }
 
   pub record Chained (d : As) (k : ℕ) (os : List Output) (keys : List (Issued Segment)) (older : Transcript) (x : Solved d k os keys older) : Type 0 where
-    pub chain : List Leg
+    pub chain : List Visit
     pub chained : Chain (Solves d k os keys ∷ older) (leg d k os keys older x.taken.at ∷ chain)
     pub ends : AreSolved c x.held.key.peer (leg d k os keys older x.taken.at ∷ chain)
     pub behind : List As
@@ -165,7 +165,7 @@ module _ (c : Codec) (codec : IsCodec c) (n : NetworkParts) (now : Transcript) (
   pub record IsBeyond (d : As) (at : Transcript) (w : Wanted) (b : As) (rest : List As) (older : Transcript) (paths : List Path) : Type 0 where
     pub at_next : Transcript
     pub solved : Transcript
-    pub chain : List Leg
+    pub chain : List Visit
     pub handed : Handed d b at at_next
     pub chained : Chain older (record { own = b; at = at_next; solved = solved } ∷ chain)
     pub ends : AreSolved c (Inner d) (record { own = b; at = at_next; solved = solved } ∷ chain)
@@ -192,7 +192,7 @@ module _ (c : Codec) (codec : IsCodec c) (n : NetworkParts) (now : Transcript) (
     pub taken_admits : Admits c taken_asked.0 d x.taken.request.flags x.taken.request.id w
     taken_admits = admits_path c taken_asked.0 d x.taken.request w taken_asked.1 x.taken.wanted
 
-    abbrev one : Leg
+    abbrev one : Visit
     one = leg d k os keys older at
 
     query_own : w.query.own ≡ d
@@ -266,7 +266,7 @@ module _ (c : Codec) (codec : IsCodec c) (n : NetworkParts) (now : Transcript) (
     chained_on : (b : As) (rest : List As) → sequence_or d w.sequence ≡ d ∷ b ∷ rest → (answered : IsAnswered c older d at w (Inner b) b rest x.down) → IsBeyond d at w b rest older answered.paths → Chained d k os keys older x
     chained_on b rest is answered beyond =
         let sequence : x.held.item.sequence ≡ d ∷ b ∷ rest = x.along ∙ is in
-        let next : Leg = record { own = b; at = beyond.at_next; solved = beyond.solved } in
+        let next : Visit = record { own = b; at = beyond.at_next; solved = beyond.solved } in
         let rows = subst (λ (l : List Branch). AreRows (pinned d at) (ask_of d k x.held.item l x.held.item.pin.number (pinned d at)) x.rows) answered.is rows_over in
         let order = subst (λ (g : Rows). IsInOrder g) x.taken.pin x.domain.order in
         let next_within = chain_first next beyond.chain older beyond.chained in
@@ -283,7 +283,7 @@ module _ (c : Codec) (codec : IsCodec c) (n : NetworkParts) (now : Transcript) (
           ways = subst (λ (l : List Branch). AreWays n w beyond.end one (next ∷ beyond.chain) l entries x.rows.best) (sym answered.is) ways;
         }
       where
-        chain_first : (first : Leg) (chain : List Leg) (m : Transcript) → Chain m (first ∷ chain) → Within first.at m
+        chain_first : (first : Visit) (chain : List Visit) (m : Transcript) → Chain m (first ∷ chain) → Within first.at m
         chain_first first [] m h = h.0
         chain_first first (next ∷ rest) m h = h.0
 
@@ -353,7 +353,7 @@ module _ (c : Codec) (codec : IsCodec c) (n : NetworkParts) (now : Transcript) (
             let same = same_at a at' f id in
             let request = same_request y.taken.request (record { flags = vspt_flag; id = answered.id; wish = wishes.Path (on_wanted w b rest) }) (sym from.1 ∙ same.admits) in
             let wanted : y.held.item.wanted ≡ on_wanted w b rest = same_wanted y.held.item.wanted (on_wanted w b rest) (sym y.taken.wanted ∙ ap (λ (r : Request). r.wish) request) in
-            let chain : List Leg = leg b k' os' keys' older' at' ∷ ch.chain in
+            let chain : List Visit = leg b k' os' keys' older' at' ∷ ch.chain in
             let right : AreRightful c n (Neighbour d) chain ch.end (on_wanted w b rest) answered.paths =
             subst (λ (v : Wanted). AreRightful c n (Neighbour d) chain ch.end v answered.paths) wanted (subst (λ (z : Class). AreRightful c n z chain ch.end y.held.item.wanted answered.paths) class_here closes_here.2) in
             record {

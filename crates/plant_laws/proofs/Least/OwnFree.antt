@@ -8,9 +8,9 @@ use Rattle.dom_base.specs.Admission.{weight}
 use Rattle.te_links.specs.Rows.{Rows}
 use Rattle.pcep_subobjects.specs.declared.hop.Hop.{Hop}
 use Rattle.walk_laws.specs.Walks.{cost}
-use Rattle.walk_laws.specs.Crossing.{Leg as Part, Goal, Last, Links, Over, CrossingWalk, crossing_cost, query_in, IsFeasibleCrossing, IsLeastCrossing}
+use Rattle.walk_laws.specs.Crossing.{Leg, Goal, Last, Links, Over, CrossingWalk, crossing_cost, query_in, IsFeasibleCrossing, IsLeastCrossing}
 use Rattle.plant_text.specs.declared.settings.NetworkParts.{NetworkParts}
-use Rattle.plant_laws.specs.Transcript.{Leg, pinned, domains}
+use Rattle.plant_laws.specs.Transcript.{Visit, pinned, domains}
 use Rattle.plant_laws.specs.Ends.{End, Inside, Asked, goal_of}
 use Rattle.plant_laws.specs.Shown.{ShowsLast, ShowsAlong}
 use Rattle.plant_laws.specs.About.{IsLeastAlong, HasNoneAlong}
@@ -23,35 +23,35 @@ module _ (q : Query) (b : As) where
   cost_free [] = refl
   cost_free (l ∷ ls) = ap (λ (k : ℕ). weight q.metric l + k) (cost_free ls)
 
-  pub crossing_free : (legs : List Part) (last : Last) → crossing_cost (query_in q b) legs last ≡ crossing_cost q legs last
+  pub crossing_free : (legs : List Leg) (last : Last) → crossing_cost (query_in q b) legs last ≡ crossing_cost q legs last
   crossing_free [] (Links last) = cost_free last
   crossing_free [] (Over leg c) = omega (arith, cost_free leg.links)
   crossing_free (leg ∷ legs) last = omega (arith, cost_free leg.links, crossing_free legs last)
 
-  walk_free : (g : Rows) (rest : List Rows) (s : Addr) (goal : Goal) (legs : List Part) (last : Last) → CrossingWalk (query_in q b) g rest s goal legs last → CrossingWalk q g rest s goal legs last
+  walk_free : (g : Rows) (rest : List Rows) (s : Addr) (goal : Goal) (legs : List Leg) (last : Last) → CrossingWalk (query_in q b) g rest s goal legs last → CrossingWalk q g rest s goal legs last
   walk_free g [] s goal [] last w = w
   walk_free g [] s goal (leg ∷ legs) last w = w
   walk_free g (h ∷ rest) s goal [] last w = w
   walk_free g (h ∷ rest) s goal (leg ∷ legs) last w =
       (w.0, record { is_out = w.1.is_out; towards = w.1.towards; allowed = w.1.allowed; entry = w.1.entry }, walk_free h rest leg.out.link.to goal legs last w.2)
 
-  free_walk : (g : Rows) (rest : List Rows) (s : Addr) (goal : Goal) (legs : List Part) (last : Last) → CrossingWalk q g rest s goal legs last → CrossingWalk (query_in q b) g rest s goal legs last
+  free_walk : (g : Rows) (rest : List Rows) (s : Addr) (goal : Goal) (legs : List Leg) (last : Last) → CrossingWalk q g rest s goal legs last → CrossingWalk (query_in q b) g rest s goal legs last
   free_walk g [] s goal [] last w = w
   free_walk g [] s goal (leg ∷ legs) last w = w
   free_walk g (h ∷ rest) s goal [] last w = w
   free_walk g (h ∷ rest) s goal (leg ∷ legs) last w =
       (w.0, record { is_out = w.1.is_out; towards = w.1.towards; allowed = w.1.allowed; entry = w.1.entry }, free_walk h rest leg.out.link.to goal legs last w.2)
 
-  free_feasible : (g : Rows) (rest : List Rows) (s : Addr) (goal : Goal) (legs : List Part) (last : Last) → IsFeasibleCrossing q g rest s goal legs last → IsFeasibleCrossing (query_in q b) g rest s goal legs last
+  free_feasible : (g : Rows) (rest : List Rows) (s : Addr) (goal : Goal) (legs : List Leg) (last : Last) → IsFeasibleCrossing q g rest s goal legs last → IsFeasibleCrossing (query_in q b) g rest s goal legs last
   free_feasible g rest s goal legs last f = record { walk = free_walk g rest s goal legs last f.walk; within = omega (arith, f.within, crossing_free legs last) }
 
-  least_free : (g : Rows) (rest : List Rows) (s : Addr) (goal : Goal) (legs : List Part) (last : Last) → IsLeastCrossing (query_in q b) g rest s goal legs last → IsLeastCrossing q g rest s goal legs last
+  least_free : (g : Rows) (rest : List Rows) (s : Addr) (goal : Goal) (legs : List Leg) (last : Last) → IsLeastCrossing (query_in q b) g rest s goal legs last → IsLeastCrossing q g rest s goal legs last
   least_free g rest s goal legs last l = record {
     feasible = record { walk = walk_free g rest s goal legs last l.feasible.walk; within = omega (arith, l.feasible.within, crossing_free legs last) };
     least = λ other end f. (let le = l.least other end (free_feasible g rest s goal other end f) in omega (arith, le, crossing_free legs last, crossing_free other end));
   }
 
-  pub along_free : (gs : List Rows) (s : Addr) (goal : Goal) (legs : List Part) (last : Last) → IsLeastAlong (query_in q b) gs s goal legs last → IsLeastAlong q gs s goal legs last
+  pub along_free : (gs : List Rows) (s : Addr) (goal : Goal) (legs : List Leg) (last : Last) → IsLeastAlong (query_in q b) gs s goal legs last → IsLeastAlong q gs s goal legs last
   along_free [] s goal legs last l = l
   along_free (g ∷ rest) s goal legs last l = least_free g rest s goal legs last l
 
@@ -66,7 +66,7 @@ module _ (q : Query) (b : As) where
   }
 
   module _ (n : NetworkParts) (end : End) where
-    pub shows_free : (open' : Bool) (chain : List Leg) (e : Addr) (hs : List Hop) (legs : List Part) (last : Last) → ShowsAlong n open' (query_in q b) end chain e hs legs last → ShowsAlong n open' q end chain e hs legs last
+    pub shows_free : (open' : Bool) (chain : List Visit) (e : Addr) (hs : List Hop) (legs : List Leg) (last : Last) → ShowsAlong n open' (query_in q b) end chain e hs legs last → ShowsAlong n open' q end chain e hs legs last
     shows_free open' [] e hs legs last s = s
     shows_free open' (one ∷ []) e hs [] last s = go end last s
       where

@@ -14,7 +14,7 @@ use Rattle.te_links.specs.Rows.{Rows}
 use Rattle.pcep_subobjects.specs.declared.hop.Hop.{Hop}
 use Rattle.pcep_messages.specs.declared.message.Path.{Path}
 use Rattle.pcep_messages.specs.declared.message.Wanted.{Wanted}
-use Rattle.walk_laws.specs.Crossing.{Leg as Part, Goal, Last, Links, Over, crossing_cost, IsLeastCost}
+use Rattle.walk_laws.specs.Crossing.{Leg, Goal, Last, Links, Over, crossing_cost, IsLeastCost}
 use Rattle.walk_laws.specs.Composition.{IsEntryFrom, AreBeyond}
 use Rattle.vspt_tree.specs.declared.branch.Branch.{Branch}
 use Rattle.border_costs.specs.Asks.{beyond}
@@ -24,7 +24,7 @@ use Rattle.plant_model.specs.Wire.{Codec}
 use Rattle.pcep_messages.specs.Requests.{type_of_metric}
 use Rattle.plant_model.specs.Branches.{downs, branch_at, branch_by, branch_of, branches_in}
 use Rattle.plant_model.specs.Laws.{IsCodec}
-use Rattle.plant_laws.specs.Transcript.{Leg, pinned, domains}
+use Rattle.plant_laws.specs.Transcript.{Visit, pinned, domains}
 use Rattle.plant_laws.specs.Ends.{End, Inside, Asked, goal_of}
 use Rattle.plant_laws.specs.Shown.{ShowsAlong}
 use Rattle.plant_laws.specs.About.{IsLeastAlong, HasNoneAlong, IsLeastPath}
@@ -82,7 +82,7 @@ branch_made c m cost units le e hs rest is =
     ∙ ap (λ (b : Bool). cond b (record { entry = e; cost = cost; hops = hs } ∷ []) []) (le-leb cost COST_MAX le)
 
 -- what is shown begins with the entry
-pub shown_head : (n : NetworkParts) (q : Query) (end : End) (chain : List Leg) (e : Addr) (hs : List Hop) (legs : List Part) (last : Last) → ShowsAlong n false q end chain e hs legs last →
+pub shown_head : (n : NetworkParts) (q : Query) (end : End) (chain : List Visit) (e : Addr) (hs : List Hop) (legs : List Leg) (last : Last) → ShowsAlong n false q end chain e hs legs last →
     (rest : List Hop) × (hs ≡ strict_hop e ∷ rest)
 shown_head n q end [] e hs legs last s = absurd s
 shown_head n q (Inside t) (one ∷ []) e hs [] (Links last) s = (_, s.is_hops ∙ ap (λ (p : List Hop). p ++ strict_hop t ∷ []) s.is_part.3)
@@ -93,11 +93,11 @@ shown_head n q end (one ∷ []) e hs (l ∷ ls) last s = absurd s
 shown_head n q end (one ∷ next ∷ rest) e hs [] last s = absurd s
 shown_head n q end (one ∷ next ∷ rest) e hs (l ∷ ls) last s = (_, s.is_hops ∙ ap (λ (p : List Hop). p ++ strict_hop l.out.link.far ∷ s.below) s.is_part.3)
 
-pub along_within : (q : Query) (gs : List Rows) (s : Addr) (goal : Goal) (legs : List Part) (last : Last) → IsLeastAlong q gs s goal legs last → crossing_cost q legs last ≤ q.cap
+pub along_within : (q : Query) (gs : List Rows) (s : Addr) (goal : Goal) (legs : List Leg) (last : Last) → IsLeastAlong q gs s goal legs last → crossing_cost q legs last ≤ q.cap
 along_within q [] s goal legs last l = absurd l
 along_within q (g ∷ rest) s goal legs last l = l.feasible.within
 
-module _ (c : Codec) (codec : IsCodec c) (n : NetworkParts) (chain : List Leg) (end : End) (w : Wanted) (cap : w.query.cap ≤ COST_MAX) (P : Addr → Type 0) where
+module _ (c : Codec) (codec : IsCodec c) (n : NetworkParts) (chain : List Visit) (end : End) (w : Wanted) (cap : w.query.cap ≤ COST_MAX) (P : Addr → Type 0) where
   abbrev pub Least : Addr → Path → Type 0
   Least e path = IsLeastPath c n false (domains chain) chain end w e path
 
@@ -152,12 +152,12 @@ module _ (c : Codec) (codec : IsCodec c) (n : NetworkParts) (chain : List Leg) (
   ]
 
 -- what the next domain told: from which of its nodes there are paths
-pub record IsTold (c : Codec) (n : NetworkParts) (d : As) (next : Leg) (chain : List Leg) (end : End) (w : Wanted) (paths : List Path) : Type 0 where
+pub record IsTold (c : Codec) (n : NetworkParts) (d : As) (next : Visit) (chain : List Visit) (end : End) (w : Wanted) (paths : List Path) : Type 0 where
   pub each : (path : Path) → Contains paths path → (e : Addr) × IsEntryFrom (pinned next.own next.at) d e × IsLeastPath c n false (domains (next ∷ chain)) (next ∷ chain) end w e path
   pub every : (e : Addr) → IsEntryFrom (pinned next.own next.at) d e →
       HasNoneAlong w.query (domains (next ∷ chain)) e (goal_of end) ⊎ ((path : Path) × Contains paths path × IsLeastPath c n false (domains (next ∷ chain)) (next ∷ chain) end w e path)
 
-pub told_beyond : (c : Codec) → IsCodec c → (n : NetworkParts) (d : As) (next : Leg) (chain : List Leg) (end : End) (w : Wanted) → w.query.cap ≤ COST_MAX → (paths : List Path) → IsTold c n d next chain end w paths →
+pub told_beyond : (c : Codec) → IsCodec c → (n : NetworkParts) (d : As) (next : Visit) (chain : List Visit) (end : End) (w : Wanted) → w.query.cap ≤ COST_MAX → (paths : List Path) → IsTold c n d next chain end w paths →
     AreBeyond w.query d (pinned next.own next.at) (domains chain) (goal_of end) (beyond (downs (branches_in c w.query.metric paths)))
 told_beyond c codec n d next chain end w small paths told = record {
   each = λ e cost row.

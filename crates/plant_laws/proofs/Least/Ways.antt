@@ -13,7 +13,7 @@ use Rattle.pcep_messages.specs.declared.message.Path.{Path}
 use Rattle.pcep_messages.specs.declared.message.Wanted.{Wanted}
 use Rattle.walk_laws.specs.Walks.{Walk}
 use Rattle.walk_laws.specs.Borders.{Beyond, LeadsTo}
-use Rattle.walk_laws.specs.Crossing.{Leg as Part, Goal, At, Last, Links, Over, Crosses, CrossingWalk, crossing_cost, query_in, IsLeastCrossing, IsLeastCost}
+use Rattle.walk_laws.specs.Crossing.{Leg, Goal, At, Last, Links, Over, Crosses, CrossingWalk, crossing_cost, query_in, IsLeastCrossing, IsLeastCost}
 use Rattle.walk_laws.specs.Composition.{IsEntryFrom, AreBeyond}
 use Rattle.vspt_tree.specs.declared.branch.Best.{Best}
 use Rattle.vspt_tree.specs.declared.branch.Branch.{Branch}
@@ -26,7 +26,7 @@ use Rattle.plant_model.specs.Branches.{hops_of, onward, open_branch, closed_bran
 use Rattle.plant_model.specs.Laws.{IsCodec}
 use Rattle.plant_model.specs.Settings.{place}
 use Rattle.plant_model.specs.Plant.{Segment}
-use Rattle.plant_laws.specs.Transcript.{Leg, pinned, domains, keys_at}
+use Rattle.plant_laws.specs.Transcript.{Visit, pinned, domains, keys_at}
 use Rattle.plant_laws.specs.Ends.{End, Inside, Asked, goal_of}
 use Rattle.plant_laws.specs.Shown.{IsChosenTo, ShowsAlong}
 use Rattle.plant_laws.proofs.Least.BestParts.{EndsIn, GoesOn, row_of_branch}
@@ -34,8 +34,8 @@ use Rattle.plant_laws.proofs.Least.Told.{FromPath}
 use Rattle.pcep_subobjects.specs.Hops.{strict_hop}
 use Rattle.border_costs.specs.Asks.{beyond}
 
-pub record IsWay (n : NetworkParts) (q : Query) (end : End) (t : Addr) (one : Leg) (chain : List Leg) (down : List Branch) (b : Best) : Type 0 where
-  pub legs : List Part
+pub record IsWay (n : NetworkParts) (q : Query) (end : End) (t : Addr) (one : Visit) (chain : List Visit) (down : List Branch) (b : Best) : Type 0 where
+  pub legs : List Leg
   pub last : Last
   pub least : IsLeastCrossing q (pinned one.own one.at) (domains chain) b.entry (goal_of end) legs last
   pub sum : b.cost ≡ crossing_cost q legs last
@@ -43,7 +43,7 @@ pub record IsWay (n : NetworkParts) (q : Query) (end : End) (t : Addr) (one : Le
   pub closed : (key : Issued Segment) → Contains (keys_at one.solved) key → key.segment ≡ b.segment → ShowsAlong n false q end (one ∷ chain) b.entry (closed_branch key.number (place n one.own).id t b down) legs last
 
 -- a walk of the least cost is least
-walk_least : (q : Query) (g : Rows) (rest : List Rows) (s : Addr) (goal : Goal) (c : ℕ) (legs : List Part) (last : Last) → IsLeastCost q g rest s goal c → CrossingWalk q g rest s goal legs last →
+walk_least : (q : Query) (g : Rows) (rest : List Rows) (s : Addr) (goal : Goal) (c : ℕ) (legs : List Leg) (last : Last) → IsLeastCost q g rest s goal c → CrossingWalk q g rest s goal legs last →
     c ≡ crossing_cost q legs last → IsLeastCrossing q g rest s goal legs last
 walk_least q g rest s goal c legs last known walk sum =
     let within = known.least.feasible.within in
@@ -52,7 +52,7 @@ walk_least q g rest s goal c legs last known walk sum =
       least = λ other end f. (let le = known.least.least other end f in omega (arith, le, known.is, sum));
     }
 
-module _ (n : NetworkParts) (w : Wanted) (one : Leg) (own : w.query ≡ query_in w.query one.own) (home : w.query ≡ query_in w.query (pinned one.own one.at).own) where
+module _ (n : NetworkParts) (w : Wanted) (one : Visit) (own : w.query ≡ query_in w.query one.own) (home : w.query ≡ query_in w.query (pinned one.own one.at).own) where
   abbrev g : Rows
   g = pinned one.own one.at
 
@@ -89,7 +89,7 @@ module _ (n : NetworkParts) (w : Wanted) (one : Leg) (own : w.query ≡ query_in
   -- in the last domain, over what an outside element told
   pub over_way : (next : As) (told : List Branch) (b : Best) → GoesOn g q next told b → IsLeastCost q g [] b.entry (goal_of (Asked next told)) b.cost → IsWay n q (Asked next told) t one [] told b
   over_way next told b part known =
-      let leg : Part = record { links = part.links; out = part.out } in
+      let leg : Leg = record { links = part.links; out = part.out } in
       let branch = part.below.branch in
       let make : Addr → ℕ → Beyond = λ x k. record { node = x; cost = k } in
       let row : Contains (beyond (downs told)) (make part.out.link.to part.below_cost) =
@@ -132,7 +132,7 @@ module _ (n : NetworkParts) (w : Wanted) (one : Leg) (own : w.query ≡ query_in
       }
 
   -- before another domain
-  module _ (c : Codec) (codec : IsCodec c) (next : Leg) (chain : List Leg) (end : End) (small : w.query.cap ≤ COST_MAX) (here : g.own ≡ one.own)
+  module _ (c : Codec) (codec : IsCodec c) (next : Visit) (chain : List Visit) (end : End) (small : w.query.cap ≤ COST_MAX) (here : g.own ≡ one.own)
       (at_next : (pinned next.own next.at).own ≡ next.own) (paths : List Path) where
     abbrev h : Rows
     h = pinned next.own next.at
@@ -144,7 +144,7 @@ module _ (n : NetworkParts) (w : Wanted) (one : Leg) (own : w.query ≡ query_in
         IsLeastCost q g (h ∷ domains chain) b.entry (goal_of end) b.cost → AreBeyond q one.own h (domains chain) (goal_of end) (beyond (downs down)) → IsWay n q end t one (next ∷ chain) down b
     on_way b part f known right =
         let head : f.entry ≡ part.out.link.to = sym (ap (λ (x : Branch). x.entry) f.is) ∙ part.below.at in
-        let leg : Part = record { links = part.links; out = part.out } in
+        let leg : Leg = record { links = part.links; out = part.out } in
         let inside : Walk g (query_in q g.own) b.entry part.out.link.from part.links = subst (λ (x : Query). Walk g x b.entry part.out.link.from part.links) home part.walk in
         let entry : Contains h.entries (record { node = part.out.link.to; from_as = g.own }) =
         subst (λ (a : As). Contains h.entries (record { node = part.out.link.to; from_as = a })) (sym here) (subst (λ (x : Addr). IsEntryFrom h one.own x) head f.holds) in

@@ -9,7 +9,7 @@ use Rattle.plant_model.specs.declared.output.Output.{Output}
 use Rattle.plant_text.specs.Names.{same_as, same_link, parent_as}
 use Rattle.plant_model.specs.State.{Deed, Loads, Pops, Takes, Says, Ups, Downs, Clears, Solves, Expires, Hands}
 use Rattle.plant_model.specs.Plant.{Segment}
-use Rattle.plant_laws.specs.Transcript.{Transcript, Within, Standing, standing, standing_of, put_into, left_of, tail_of, outputs_at, Handed, Leg, Chain, numbers}
+use Rattle.plant_laws.specs.Transcript.{Transcript, Within, Standing, standing, standing_of, put_into, left_of, tail_of, outputs_at, Handed, Visit, Chain, numbers}
 use Rattle.plant_laws.specs.Chains.{moments, AreElements}
 use Rattle.plant_laws.proofs.Runs.Decompose.{nil_right}
 
@@ -208,12 +208,12 @@ one a b (e ∷ now) terse m n n' (inl is) (inr w') handed handed' = absurd (not_
 one a b (e ∷ now) terse m n n' (inr w) (inl is') handed handed' = absurd (not_again a b m n now e terse.1 (subst (λ (t : Transcript). Handed a b m t) is' handed') w handed)
 one a b (e ∷ now) terse m n n' (inr w) (inr w') handed handed' = one a b now terse.1 m n n' w w' handed handed'
 
-chain_within : (now : Transcript) (leg : Leg) (legs : List Leg) → Chain now (leg ∷ legs) → Within leg.at now
+chain_within : (now : Transcript) (leg : Visit) (legs : List Visit) → Chain now (leg ∷ legs) → Within leg.at now
 chain_within now leg [] h = h.0
 chain_within now leg (next ∷ legs) h = h.0
 
 -- the moments of two chains, where what elements send is terse
-pub same_moments : (now : Transcript) → ((a b : As) → a ≢ parent_as → AreTerse a b now) → (leg leg' : Leg) (rest rest' : List Leg) → leg.at ≡ leg'.at → AreElements (leg ∷ rest) →
+pub same_moments : (now : Transcript) → ((a b : As) → a ≢ parent_as → AreTerse a b now) → (leg leg' : Visit) (rest rest' : List Visit) → leg.at ≡ leg'.at → AreElements (leg ∷ rest) →
     Chain now (leg ∷ rest) → Chain now (leg' ∷ rest') → numbers (leg ∷ rest) ≡ numbers (leg' ∷ rest') → moments (leg ∷ rest) ≡ moments (leg' ∷ rest')
 same_moments now terse leg leg' [] [] at real h h' same = ap (λ (t : Transcript). t ∷ []) at
 same_moments now terse leg leg' [] (next' ∷ rest') at real h h' same = cc

@@ -13,7 +13,7 @@ use Rattle.plant_text.specs.Names.{same_as, same_link}
 use Rattle.plant_model.specs.Wire.{Codec}
 use Rattle.plant_model.specs.State.{Loads, Pops, Takes, Says, Ups, Downs, Clears, Solves, Expires, Hands}
 use Rattle.plant_model.specs.Plant.{PlantDeed}
-use Rattle.plant_laws.specs.Transcript.{Transcript, Within, Standing, standing, standing_of, put_into, left_of, tail_of, outputs_at, SentIn, Effect, Keeps, Ends, Begins, after, effect, opened, Leg, Chain}
+use Rattle.plant_laws.specs.Transcript.{Transcript, Within, Standing, standing, standing_of, put_into, left_of, tail_of, outputs_at, SentIn, Effect, Keeps, Ends, Begins, after, effect, opened, Visit, Chain}
 use Rattle.border_costs.proofs.Members.{contains_head, contains_tail, contains_none, contains_cases}
 
 pub within_here : (m : Transcript) → Within m m
@@ -136,7 +136,7 @@ opened_within c d p x (e ∷ older) at h = go (effect c d p x e) (opened c d p x
     go Begins (Some m) more h' = inr (more h')
 
 -- a chain is one at a later moment
-pub chain_later : (legs : List Leg) (m now : Transcript) → Within m now → Chain m legs → Chain now legs
+pub chain_later : (legs : List Visit) (m now : Transcript) → Within m now → Chain m legs → Chain now legs
 chain_later [] m now w h = h
 chain_later (one ∷ []) m now w h = (within_trans one.at m now h.0 w, within_trans one.solved m now h.1 w)
 chain_later (one ∷ next ∷ rest) m now w h = (within_trans one.at m now h.0 w, within_trans one.solved m now h.1 w, h.2, chain_later (next ∷ rest) m now w h.3)

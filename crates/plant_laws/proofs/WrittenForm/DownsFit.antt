@@ -11,7 +11,7 @@ use Rattle.dom_base.specs.declared.names.Peer.{Peer}
 use Rattle.dom_base.specs.declared.names.Peer.TheVariants.{Inner, Outside}
 use Rattle.dom_base.specs.declared.query.Query.{Query}
 use Rattle.dom_base.specs.declared.query.Metric.{Metric}
-use Rattle.walk_laws.specs.Crossing.{Leg as Part, Last, Links, Over}
+use Rattle.walk_laws.specs.Crossing.{Leg, Last, Links, Over}
 use Rattle.pcep_subobjects.specs.declared.hop.Hop.{Hop}
 use Rattle.pcep_subobjects.specs.declared.hop.Hop.TheVariants.{Prefix, AsNumber, Key, Other}
 use Rattle.pcep_subobjects.specs.Hops as hops
@@ -42,7 +42,7 @@ use Rattle.pcep_messages.specs.Requests.{type_of_metric}
 use Rattle.plant_model.specs.State.{Takes}
 use Rattle.plant_model.specs.Settings.{place}
 use Rattle.plant_model.specs.Plant.{Segment, PlantDeed}
-use Rattle.plant_laws.specs.Transcript.{Transcript, Within, Standing, Leg, Chain, numbers}
+use Rattle.plant_laws.specs.Transcript.{Transcript, Within, Standing, Visit, Chain, numbers}
 use Rattle.plant_laws.specs.Ends.{End, Inside, Asked, ChainEnds}
 use Rattle.plant_laws.specs.Shown.{ShowsAlong}
 use Rattle.plant_laws.specs.Certified.{Tells, IsServed, IsAnswered}
@@ -206,7 +206,7 @@ module _ (c : Codec) (codec : IsCodec c) (n : NetworkParts) (now : Transcript) (
   EndFits most (Inside t) = Unit {0}
   EndFits most (Asked next told) = BranchesFit most told
 
-  end_fits : (w : Wanted) (behind : List As) (chain : List Leg) (end : End) (m : Transcript) → Within m now → Chain m chain → ChainEnds c n w behind chain end → EndFits (60 * length behind) end
+  end_fits : (w : Wanted) (behind : List As) (chain : List Visit) (end : End) (m : Transcript) → Within m now → Chain m chain → ChainEnds c n w behind chain end → EndFits (60 * length behind) end
   end_fits w behind [] end m within chained ends = absurd ends
   end_fits w behind (one ∷ []) (Inside t) m within chained ends = tt
   end_fits w behind (one ∷ []) (Asked next told) m within chained ends =
@@ -220,7 +220,7 @@ module _ (c : Codec) (codec : IsCodec c) (n : NetworkParts) (now : Transcript) (
   in_fits most (x ∷ xs) b (inr more) all = in_fits most xs b more all.1
 
   -- what is shown behind keys takes at most three hops for each domain of the chain, and those of what was told at its end
-  shows_short : (q : Query) (most : ℕ) (end : End) → EndFits most end → (chain : List Leg) (e : Addr) (hs : List Hop) (legs : List Part) (last : Last) → ShowsAlong n false q end chain e hs legs last →
+  shows_short : (q : Query) (most : ℕ) (end : End) → EndFits most end → (chain : List Visit) (e : Addr) (hs : List Hop) (legs : List Leg) (last : Last) → ShowsAlong n false q end chain e hs legs last →
       length (hops_text hs) ≤ 60 * length chain + most
   shows_short q most end fits [] e hs legs last s = absurd s
   shows_short q most (Inside t) fits (one ∷ []) e hs [] (Links last) s =
@@ -248,13 +248,13 @@ module _ (c : Codec) (codec : IsCodec c) (n : NetworkParts) (now : Transcript) (
       let more = shows_short q most end fits (next ∷ rest) l.out.link.to s.below ls last s.shown in
       omega (arith, is, part, pce, more, text_append (closed_of e s.is_part.0.number (place n one.own).id None) (exit ∷ s.below), text_cons exit s.below, hop_short l.out.link.far)
 
-  long : (chain : List Leg) → length chain ≡ length (numbers chain)
+  long : (chain : List Visit) → length chain ≡ length (numbers chain)
   long [] = refl
   long (leg ∷ legs) = ap suc (long legs)
 
   -- so it takes three for each domain of the sequence
-  pub shown_fits : (w : Wanted) (behind : List As) (chain : List Leg) (end : End) (m : Transcript) → Within m now → Chain m chain → ChainEnds c n w behind chain end →
-      (q : Query) (e : Addr) (hs : List Hop) (legs : List Part) (last : Last) → ShowsAlong n false q end chain e hs legs last → length (hops_text hs) ≤ 60 * length (numbers chain ++ behind)
+  pub shown_fits : (w : Wanted) (behind : List As) (chain : List Visit) (end : End) (m : Transcript) → Within m now → Chain m chain → ChainEnds c n w behind chain end →
+      (q : Query) (e : Addr) (hs : List Hop) (legs : List Leg) (last : Last) → ShowsAlong n false q end chain e hs legs last → length (hops_text hs) ≤ 60 * length (numbers chain ++ behind)
   shown_fits w behind chain end m within chained ends q e hs legs last s =
       let short = shows_short q (60 * length behind) end (end_fits w behind chain end m within chained ends) chain e hs legs last s in
       omega (arith, short, long chain, length-append (numbers chain) behind)
@@ -292,7 +292,7 @@ module _ (c : Codec) (codec : IsCodec c) (n : NetworkParts) (now : Transcript) (
           let upper = real_next d b rest sequence in
           let beyond = told_beyond c codec n now given d real k os keys now (within_here now) x b rest along upper answered
           (λ k' os' keys' older' less w'. solve_chained c codec n now given (suc (length older')) b upper k' os' keys' older' w' (omega arith)) in
-          let chain : List Leg = record { own = b; at = beyond.at_next; solved = beyond.solved } ∷ beyond.chain in
+          let chain : List Visit = record { own = b; at = beyond.at_next; solved = beyond.solved } ∷ beyond.chain in
           let texts = told_written answered.reply answered.paths (taken_written d b answered.reply answered.outputs answered.before answered.within) answered.tells in
           let all = both_fit 900 answered.paths texts (λ p i.
           let told = beyond.told.each p (contains p answered.paths i) in
