@@ -38,6 +38,7 @@ use Rattle.plant_bulk.proofs.plant_client.QuestionLemmas.{question_short}
 use Rattle.client_laws.proofs.Asked.{one_is_asked}
 use Rattle.client_laws.proofs.Asking.{clients_are_told}
 use Rattle.client_laws.proofs.Clients.{path_is_client}
+use Rattle.client_laws.proofs.Ended.{answer_is_told}
 use Rattle.client_laws.proofs.Written.{IsInRange, question_written}
 use Rattle.pce_tool.specs.declared.route.Route.{Route}
 use Rattle.pce_tool.specs.Headline.{PathsAreWorth, PlaysAreWorth, ShowsRows}
@@ -147,4 +148,5 @@ paths_are_worth files net r fits n received has element a =
       worth = record { right = right.0; short = λ alone. right.1 alone (omega (arith, feeds.1)) };
       told = clients_are_told files m i q received modelled (path_is_client n r.at) a;
       asked = one_is_asked files m i q received modelled (path_is_client n r.at) (question_written q fits) a;
+      answered = λ left inside. answer_is_told files m i q received modelled (path_is_client n r.at) (question_written q fits) inside a left;
     }

@@ -1,9 +1,10 @@
 -- What every run of a network is worth that a command plays.
-use Rattle.std.specs.Prelude.{◌≡◌, ◌≤◌, ℕ, true, List, [], ◌∷◌, ◌++◌, length, Option, Some}
+use Rattle.std.specs.Prelude.{◌≡◌, ◌≤◌, ℕ, false, true, All, List, [], ◌∷◌, ◌++◌, length, Option, Some}
 use Rattle.dom_edge.specs.Stores.{Files}
 use Rattle.line_text.specs.Lines.{NumberedLine, told_lines}
 use Rattle.plant_text.specs.declared.line.LineEvent.TheVariants.{DiscloseOn}
 use Rattle.plant_text.specs.declared.settings.NetworkParts.{NetworkParts}
+use Rattle.plant_text.specs.declared.settings.PeerRow.{PeerRow}
 use Rattle.plant_text.specs.Networks.{with_path}
 use Rattle.plant_text.specs.Settings.{is_element}
 use Rattle.client_laws.specs.script_laws.plant_model.Blind.{blind_opened, heard}
@@ -16,6 +17,7 @@ use Rattle.client_laws.specs.script_laws.plant_play.Turns.{Turn, entries_of}
 use Rattle.client_laws.specs.script_laws.Disclosing.{shown_trace}
 use Rattle.client_laws.specs.script_laws.Headline.{HasIdsLeft, IsRight}
 use Rattle.client_laws.specs.Asked.{AsksOnly}
+use Rattle.client_laws.specs.Ended.{EndsAnswered}
 use Rattle.client_laws.specs.Received.{AreReceived}
 use Rattle.client_laws.specs.Told.{IsTold}
 use Rattle.plant_bulk.specs.plant_script.transcript.Stops.{script_most}
@@ -54,11 +56,13 @@ PlaysAreWorth files net =
     → IsWorth n turns end × (ShowsRows p.cues → DisclosedRun wire n (entries_of turns []) (shown_trace turns []) end.state)
 
 -- A client asks once in a run, and receives this. What it is told is what the last message answers that was sent to it; each reply to a
--- request for a path among these messages is right; and each request that an element had from it is its question.
+-- request for a path among these messages is right; and each request that an element had from it is its question. Where no id comes round
+-- and paths go on through no outside peer, what it is told last is the answer to that, and not nothing.
 pub record AnswerIsWorth (n : NetworkParts) (client : ℕ) (question : Question) (received : List ℕ) (turns : List Turn) (end : PlayedNetwork) : Type 0 where
   pub worth : IsWorth n turns end
   pub told : HasIdsLeft n (entries_of turns []) → IsTold n (entries_of turns []) client received
   pub asked : AsksOnly n (entries_of turns []) client question
+  pub answered : HasIdsLeft n (entries_of turns []) → All (λ (r : PeerRow). r.down ≡ false) n.peers → EndsAnswered (entries_of turns []) client question received
 
 -- What is played until the client of a route is answered, and what is told of that.
 abbrev pub PathsAreWorth : Option Files → List ℕ → Route → Type 0
