@@ -18,7 +18,7 @@ for crate in "$top"/crates/*; do
         [ ! -d "$crate/$part" ] || ln -s "$crate/$part" "$copy/crates/${crate##*/}/$part"
     done
 done
-echo 'repeats: dom_base line_text te_text plant_text pce_plant' >>"$copy/crates.txt"
+echo 'repeats: dom_base line_text te_text plant_text plant_network' >>"$copy/crates.txt"
 mkdir -p "$copy/crates/repeats/src"
 
 text() { # a file as a literal, without comments and without the files that settings name
@@ -30,8 +30,8 @@ cat >"$copy/crates/repeats/src/main.rt" <<RT
 
 use dom_base::{As, List, Peer, Tick};
 use line_text::read_hex;
-use pce_plant::Plant;
-use pce_plant::model::{Event, Outcome, Refused};
+use plant_network::Plant;
+use plant_network::model::{Event, Outcome, Refused};
 use plant_text::{Network, read_network};
 use std::alloc::Global;
 use std::io;
