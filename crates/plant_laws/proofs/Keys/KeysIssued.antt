@@ -83,13 +83,11 @@ module _ (c : Codec) (pce : Addr) (m : Metric) (target : Addr) (down : List Bran
             })
           ]
 
-  -- what a commit issues record IsTold (c : Codec) (e : ElementSettings) (h : Row Pin) (job_found (down : List Branch) (now : ℕ) (best : List Best)) (t : Taken Pin Segment) (x : Issued Segment) : Type 0 where
+-- what a commit issues
+record IsTold (c : Codec) (e : ElementSettings) (h : Row Pin) (down : List Branch) (now : ℕ) (best : List Best) (t : Taken Pin Segment) (x : Issued Segment) : Type 0 where
   pub closed : is_client h.1.item.class ≡ false
-
   pub paths : List Path
-
   pub outputs : t.outputs ≡ record { to = h.1.key.peer; message = reply_message h.1.item.flags h.1.key.id (Paths paths) } ∷ []
-
   pub new : IsNew c e.id h.1.item.wanted.query.metric h.1.item.wanted.target down now best paths x
 
 module _ (c : Codec) (e : ElementSettings) (h : Row Pin) (down : List Branch) (now : ℕ) (k : Element Pin Segment) (x : Issued Segment) where
