@@ -229,7 +229,7 @@ module _ {P : Type 0} {S : Type 0} (show : S → List Hop) (n : NetworkParts) wh
       to_lower : q3 u l ≡ []
       to_lower = pair_miss l u u l [] (set_pair u l [] q2) apart ∙ pair_self u l [] q2
 
-  -- ---- an outside session at a tick
+  -- ---- an outside session
 
   pub access_talks : (i j : ℕ) (h : Connection → Connection) (s : State P S) → ((x : Connection) → is_down (h x).session.phase ≡ is_down x.session.phase) → talks j (deeds.with_access P S wire n show i h s) ≡ talks j s
   access_talks i j h s same = go (i == j) (eqb-true i j)

@@ -1,5 +1,5 @@
 //! What a session of a member with a peer, outside or inside, asks for where it passes nothing on.
-ghost use Rattle.std.specs.Prelude.{◌≡◌, true, false, [], ◌∷◌, length, Some, MatchOption};
+ghost use Rattle.std.specs.Prelude.{◌≡◌, true, false, [], ◌∷◌, length, Some};
 ghost use Rattle.dom_base.specs.declared.names.As.{As};
 ghost use Rattle.pcep_session.specs.declared.session.Input.{Input};
 ghost use Rattle.pcep_session.specs.declared.state.State.{State};
@@ -90,28 +90,6 @@ fn act<M: Members>(
     }
 }
 
-// The first action, and those behind it.
-fn split(actions: Actions) -> Option<(Action, Actions)>
-    ensures { MatchOption result (listed actions ≡ []) (λ x. listed actions ≡ x.0 ∷ listed x.1) }
-{
-    let Actions {
-        first,
-        second,
-        third,
-    } = actions;
-    match first {
-        Some(action) => Some((
-            action,
-            Actions {
-                first: second,
-                second: third,
-                third: None,
-            },
-        )),
-        None => None,
-    }
-}
-
 /// The actions of the session, none of which passes anything on.
 pub(crate) fn acts<M: Members>(
     members: &mut M,
@@ -126,7 +104,7 @@ pub(crate) fn acts<M: Members>(
     requires fits { Fits at to (listed actions) (M.stands members.old).seen (flow_of traffic.old) }
     ensures { Goes (λ n. acts_at M.Pin M.Key n M.show at to ticks (listed actions)) (here (M.stands members.old) (flow_of traffic.old)) (here (M.stands members.new) (flow_of traffic.new)) }
 {
-    let Some((action, rest)) = split(actions) else {
+    let Some((action, rest)) = actions.split() else {
         return;
     };
     act(members, traffic, at, to, ticks, action);

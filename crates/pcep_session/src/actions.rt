@@ -1,5 +1,5 @@
 //! What a step of a session asks for.
-ghost use Rattle.std.specs.Prelude.{◌≡◌, [], ◌∷◌, IsSome};
+ghost use Rattle.std.specs.Prelude.{◌≡◌, [], ◌∷◌, IsSome, MatchOption};
 ghost use Rattle.pcep_session.specs.Table.{error_of};
 
 use pcep_messages::Message;
@@ -106,6 +106,28 @@ impl Actions {
             first: Some(first),
             second: Some(second),
             third: Some(third),
+        }
+    }
+
+    /// The first of them, and those behind it.
+    pub fn split(self) -> Option<(Action, Actions)>
+        ensures { MatchOption result (listed self ≡ []) (λ x. listed self ≡ x.0 ∷ listed x.1) }
+    {
+        let Actions {
+            first,
+            second,
+            third,
+        } = self;
+        match first {
+            Some(action) => Some((
+                action,
+                Actions {
+                    first: second,
+                    second: third,
+                    third: None,
+                },
+            )),
+            None => None,
         }
     }
 }
