@@ -1,7 +1,7 @@
 use Rattle.std.proofs.Common.{sym, subst}
 use Rattle.network_events.specs.plant_model.declared.event.Event.TheVariants.{Solve}
 use Rattle.network_events.specs.plant_model.Events.{has_jobs}
-use Rattle.jobs_last.specs.Lasting.{JobsLast}
+use Rattle.plant_laws.specs.Lasting.{JobsLast}
 use Rattle.plant_network.specs.Jobs.{IsOwn, answer_of, solved_at, solved_number}
 use Rattle.plant_network.specs.Topologies.{Held, held, whole}
 use Rattle.plant_network.specs.Whole.{GoesOn}
