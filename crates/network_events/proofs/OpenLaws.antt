@@ -14,22 +14,22 @@ use Rattle.plant_queues.specs.Messages.{Spare}
 use Rattle.plant_text.specs.declared.settings.NetworkParts.{NetworkParts}
 use Rattle.plant_text.specs.declared.settings.PeerRow.{PeerRow}
 use Rattle.plant_text.specs.Settings.{peer_row}
-use Rattle.member_trait.specs.plant_model.declared.outcome.Outcome.TheVariants.{Done}
-use Rattle.member_trait.specs.plant_model.declared.outcome.Refused.TheVariants.{NoSuchPeer}
-use Rattle.member_trait.specs.plant_model.declared.output.Lost.{Lost}
-use Rattle.member_trait.specs.plant_model.Names.{set_number}
-use Rattle.member_trait.specs.plant_model.RealWire.{wire}
-use Rattle.member_trait.specs.plant_model.State.{Access, Connection}
-use Rattle.member_trait.specs.plant_model.Deeds as deeds
-use Rattle.member_trait.specs.plant_model.Deeds.{Going, element_of}
-use Rattle.member_trait.specs.plant_model.Events as events
+use Rattle.pce_common.specs.plant_model.declared.outcome.Outcome.TheVariants.{Done}
+use Rattle.pce_common.specs.plant_model.declared.outcome.Refused.TheVariants.{NoSuchPeer}
+use Rattle.pce_common.specs.plant_model.declared.output.Lost.{Lost}
+use Rattle.pce_common.specs.plant_model.Names.{set_number}
+use Rattle.pce_common.specs.plant_model.RealWire.{wire}
+use Rattle.pce_common.specs.plant_model.State.{Access, Connection}
+use Rattle.pce_common.specs.plant_model.Deeds as deeds
+use Rattle.pce_common.specs.plant_model.Deeds.{Going, element_of}
+use Rattle.pce_common.specs.plant_model.Events as events
 use Rattle.network_links.specs.plant_sessions.Ends.{just_open}
 use Rattle.network_links.specs.Flow.{ClearsSaid, Flow, GrowsAt, KeepsRoomAt, just_opened, session_at, set_access, set_room}
 use Rattle.plant_text.specs.Names.{parent_as}
 use Rattle.network_events.specs.Acting.{FitsInput}
 use Rattle.network_events.specs.Happening.{IsDone}
-use Rattle.member_trait.specs.Membership.{Membership}
-use Rattle.member_trait.specs.Owed.{owed}
+use Rattle.pce_common.specs.Membership.{Membership}
+use Rattle.pce_common.specs.Owed.{owed}
 use Rattle.network_events.specs.Rooms.{IsRoomy, emptied, is_live, is_talking, own_most}
 use Rattle.network_events.specs.Roomy.{KeepsOn}
 use Rattle.network_events.specs.Standing.{Goes, IsAt, here_of, state_of}

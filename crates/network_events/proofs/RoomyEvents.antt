@@ -16,19 +16,19 @@ use Rattle.plant_queues.specs.Sents.{sent_of}
 use Rattle.plant_text.specs.declared.settings.NetworkParts.{NetworkParts}
 use Rattle.plant_text.specs.Names.{same_as}
 use Rattle.plant_text.specs.Settings.{elements_of}
-use Rattle.member_trait.specs.plant_model.declared.output.Lost.{Lost}
-use Rattle.member_trait.specs.plant_model.Names.{is_empty}
-use Rattle.member_trait.specs.plant_model.RealWire.{wire}
-use Rattle.member_trait.specs.plant_model.State.{State, Access, Connection}
-use Rattle.member_trait.specs.plant_model.Deeds as deeds
-use Rattle.member_trait.specs.plant_model.Deeds.{Going, element_of, any_fall, is_out_empty, on_connection, with_session}
-use Rattle.member_trait.specs.plant_model.Events.{is_down}
-use Rattle.member_trait.specs.plant_model.Wire.{Bytes}
+use Rattle.pce_common.specs.plant_model.declared.output.Lost.{Lost}
+use Rattle.pce_common.specs.plant_model.Names.{is_empty}
+use Rattle.pce_common.specs.plant_model.RealWire.{wire}
+use Rattle.pce_common.specs.plant_model.State.{State, Access, Connection}
+use Rattle.pce_common.specs.plant_model.Deeds as deeds
+use Rattle.pce_common.specs.plant_model.Deeds.{Going, element_of, any_fall, is_out_empty, on_connection, with_session}
+use Rattle.pce_common.specs.plant_model.Events.{is_down}
+use Rattle.pce_common.specs.plant_model.Wire.{Bytes}
 use Rattle.network_links.specs.plant_sessions.Ends.{own_bytes}
 use Rattle.network_links.specs.Flow.{Flow, out_of}
 use Rattle.network_events.specs.Accounts.{Accounts}
-use Rattle.member_trait.specs.Membership.{Membership, is_member, expired, fallen, lost_at}
-use Rattle.member_trait.specs.Owed.{pending_at, pending_in}
+use Rattle.pce_common.specs.Membership.{Membership, is_member, expired, fallen, lost_at}
+use Rattle.pce_common.specs.Owed.{pending_at, pending_in}
 use Rattle.network_events.specs.Rooms.{is_talking}
 use Rattle.network_events.specs.Roomy.{KeepsOn}
 use Rattle.network_events.specs.Standing.{IsAt, here_of, Goes}

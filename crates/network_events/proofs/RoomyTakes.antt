@@ -18,20 +18,20 @@ use Rattle.plant_queues.specs.Sents.{sent_of}
 use Rattle.plant_text.specs.declared.settings.NetworkParts.{NetworkParts}
 use Rattle.plant_text.specs.Names.{same_as}
 use Rattle.plant_text.specs.Settings.{adjacency, adjacencies, has_adjacency, elements_of}
-use Rattle.member_trait.specs.plant_model.declared.output.Lost.{Lost}
-use Rattle.member_trait.specs.plant_model.RealWire.{wire}
-use Rattle.member_trait.specs.plant_model.State.{State, Connection}
-use Rattle.member_trait.specs.plant_model.Deeds as deeds
-use Rattle.member_trait.specs.plant_model.Deeds.{Going, element_of, any_fall, is_tick, with_session, with_inbox}
-use Rattle.member_trait.specs.plant_model.Events.{is_down}
+use Rattle.pce_common.specs.plant_model.declared.output.Lost.{Lost}
+use Rattle.pce_common.specs.plant_model.RealWire.{wire}
+use Rattle.pce_common.specs.plant_model.State.{State, Connection}
+use Rattle.pce_common.specs.plant_model.Deeds as deeds
+use Rattle.pce_common.specs.plant_model.Deeds.{Going, element_of, any_fall, is_tick, with_session, with_inbox}
+use Rattle.pce_common.specs.plant_model.Events.{is_down}
 use Rattle.network_links.specs.plant_sessions.Ends.{own_bytes}
 use Rattle.network_links.specs.Flow.{Flow, KeepsRoomAt, room_at, session_at}
 use Rattle.network_events.specs.Accounts.{Accounts}
 use Rattle.network_events.specs.Acting.{IsOwnTurn, Fits, FitsTurn, RoomToBreakAt}
 use Rattle.network_events.specs.Passing.{IsOf}
 use Rattle.network_events.specs.Peers.{IsEnd, breaks_by, input_at}
-use Rattle.member_trait.specs.Membership.{Membership, is_member, raised, fallen, lost_at}
-use Rattle.member_trait.specs.Owed.{is_peer, owed, pending_in}
+use Rattle.pce_common.specs.Membership.{Membership, is_member, raised, fallen, lost_at}
+use Rattle.pce_common.specs.Owed.{is_peer, owed, pending_in}
 use Rattle.network_events.specs.Rooms.{is_live, is_talking}
 use Rattle.network_events.specs.Roomy.{KeepsOn}
 use Rattle.network_events.specs.Standing.{IsAt, here_of, Goes}

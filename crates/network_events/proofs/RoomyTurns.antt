@@ -9,7 +9,7 @@ use Rattle.pcep_session.specs.declared.state.Phase.{Phase}
 use Rattle.pcep_session.specs.declared.state.Phase.TheVariants.{Idle, OpenWait, KeepWait, Up, Down}
 use Rattle.pcep_session.specs.declared.state.State.{State}
 use Rattle.pcep_session.specs.Table.{SessionStep, turn_in, turn_of, waits, up_tick, at_tick, has_passed}
-use Rattle.member_trait.specs.plant_model.Events.{is_down}
+use Rattle.pce_common.specs.plant_model.Events.{is_down}
 use Rattle.network_events.specs.Turns.{IsLast}
 
 -- nothing, or a Keepalive: then it is over only if it was

@@ -1,6 +1,8 @@
 -- for readers
 pub mod Messages
 pub mod Ways
+pub mod Membership
+pub mod Owed
 -- inner
 pub mod Branches
 -- handed on from below

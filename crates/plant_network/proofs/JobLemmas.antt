@@ -22,7 +22,7 @@ use Rattle.network_events.specs.plant_model.Parent as parent
 use Rattle.network_events.specs.plant_model.Plant.{Pin, Segment, ask}
 use Rattle.network_events.specs.plant_model.RealWire.{wire}
 use Rattle.network_events.specs.plant_model.Settings.{family}
-use Rattle.network_events.specs.member_trait.Membership.{Membership}
+use Rattle.network_events.specs.pce_common.Membership.{Membership}
 use Rattle.network_members.specs.pce_element.Committing.{IsOwnJob}
 use Rattle.network_members.specs.pce_element.Jobs as element
 use Rattle.network_members.specs.pce_parent.Seen.{job_when}

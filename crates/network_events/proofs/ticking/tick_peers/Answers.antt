@@ -1,9 +1,9 @@
 use Rattle.std.proofs.Common.{◌≡◌, ◌<◌, ℕ, true, sym, subst, arith, add-one, length}
 use Rattle.dom_base.specs.declared.names.As.{As}
 use Rattle.plant_text.specs.declared.settings.NetworkParts.{NetworkParts}
-use Rattle.member_trait.specs.plant_model.Deeds.{element_of}
+use Rattle.pce_common.specs.plant_model.Deeds.{element_of}
 use Rattle.network_links.specs.Carried.{flow_of}
-use Rattle.member_trait.specs.Membership.{is_member}
+use Rattle.pce_common.specs.Membership.{is_member}
 use Rattle.network_events.specs.Standing.{here}
 use Rattle.network_events.proofs.RoomyNeeds.{fits_tick}
 use Rattle.network_events.proofs.TickLaws.{peers_to}

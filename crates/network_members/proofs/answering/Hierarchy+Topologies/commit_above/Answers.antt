@@ -1,12 +1,12 @@
 use Rattle.std.proofs.Common.{◌≡◌, true, sym, subst}
 use Rattle.std.specs.Prelude.{IfSome}
-use Rattle.member_trait.specs.plant_model.Events.{has_jobs}
+use Rattle.pce_common.specs.plant_model.Events.{has_jobs}
 use Rattle.pce_parent.specs.declared.work.Done.TheVariants as done
 use Rattle.network_members.specs.Answering.{border_job, told_above}
 use Rattle.network_members.specs.Tiers.{Tiers}
 use Rattle.network_members.specs.TierFields.{tiers_of}
 use Rattle.network_members.proofs.AnswerLemmas.{commits_as, commits_above}
-use Rattle.member_trait.specs.plant_model.Plant.{Pin, Segment}
+use Rattle.pce_common.specs.plant_model.Plant.{Pin, Segment}
 use Rattle.network_members.proofs.answering.Hierarchy+Topologies.commit_above.Goals as goal
 
 pub returns : goal.returns
