@@ -25,7 +25,7 @@ use Rattle.pcep_session.specs.declared.actions.Own.{Own}
 use Rattle.pcep_session.specs.declared.actions.Own.TheVariants as own
 use Rattle.pcep_session.specs.declared.actions.Reason.{Reason}
 use Rattle.pcep_session.specs.declared.state.State.{State as Session}
-use Rattle.network_links.specs.plant_sessions.Ends.{own_bytes}
+use Rattle.network_links.specs.Ends.{own_bytes}
 use Rattle.network_links.specs.Flow.{out_of}
 use Rattle.network_events.specs.Acting.{size_in}
 use Rattle.pce_common.specs.Membership.{Membership, expired, fallen, lost_at, raised}

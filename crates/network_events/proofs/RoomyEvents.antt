@@ -24,7 +24,7 @@ use Rattle.pce_common.specs.plant_model.Deeds as deeds
 use Rattle.pce_common.specs.plant_model.Deeds.{Going, element_of, any_fall, is_out_empty, on_connection, with_session}
 use Rattle.pce_common.specs.plant_model.Events.{is_down}
 use Rattle.pce_common.specs.plant_model.Wire.{Bytes}
-use Rattle.network_links.specs.plant_sessions.Ends.{own_bytes}
+use Rattle.network_links.specs.Ends.{own_bytes}
 use Rattle.network_links.specs.Flow.{Flow, out_of}
 use Rattle.network_events.specs.Accounts.{Accounts}
 use Rattle.pce_common.specs.Membership.{Membership, is_member, expired, fallen, lost_at}

@@ -24,7 +24,7 @@ use Rattle.pce_common.specs.plant_model.State.{State, Connection}
 use Rattle.pce_common.specs.plant_model.Deeds as deeds
 use Rattle.pce_common.specs.plant_model.Deeds.{Going, element_of, any_fall, is_tick, with_session, with_inbox}
 use Rattle.pce_common.specs.plant_model.Events.{is_down}
-use Rattle.network_links.specs.plant_sessions.Ends.{own_bytes}
+use Rattle.network_links.specs.Ends.{own_bytes}
 use Rattle.network_links.specs.Flow.{Flow, KeepsRoomAt, room_at, session_at}
 use Rattle.network_events.specs.Accounts.{Accounts}
 use Rattle.network_events.specs.Acting.{IsOwnTurn, Fits, FitsTurn, RoomToBreakAt}
