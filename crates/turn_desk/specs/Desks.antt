@@ -17,8 +17,8 @@ use Rattle.plant_network.specs.declared.acts.Acted.TheVariants.{Did, Looked, Fou
 use Rattle.plant_network.specs.declared.acts.ActAnswer.{ActAnswer}
 use Rattle.plant_network.specs.declared.answering.CommitRefused.{CommitRefused}
 use Rattle.plant_network.specs.declared.answering.CommitRefused.TheVariants.{NoSuchJob, NoMemory}
-use Rattle.session_serving.specs.Desks.{Answer, Call, Desked, call}
-use Rattle.session_serving.specs.declared.desks.DeskRefused.TheVariants.{Plant, Spent}
+use Rattle.server_loops.specs.Desks.{Answer, Call, Desked, call}
+use Rattle.server_loops.specs.declared.desks.DeskRefused.TheVariants.{Plant, Spent}
 use Rattle.solve_workers.specs.Benches as bench
 use Rattle.solve_workers.specs.Benches.{Benched}
 use Rattle.solve_workers.specs.declared.benches.Finished.{Finished}
