@@ -26,7 +26,7 @@ Elements = As → Element Pin Segment
 -- to begin the links changes no element
 begun_elements : (n : NetworkParts) (xs : List Adjacency) (g : Going Pin Segment) → (events.begin_adjacencies Pin Segment wire n open_of xs g).state.elements ≡ g.state.elements
 begun_elements n [] g = refl
-begun_elements n (x ∷ xs) g = begun_elements n xs (deeds.begin_line Pin Segment wire n open_of 0 x g)
+begun_elements n (x ∷ xs) g = begun_elements n xs (deeds.begin_adjacency Pin Segment wire n open_of 0 x g)
 
 -- a network that has just been made
 pub begun_has_none : (n : NetworkParts) (w : Whole) → IsBegun n w → NoneIsPending w.state
