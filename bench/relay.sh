@@ -96,10 +96,10 @@ class Chain:
     def busy(self):
         return sum(server.busy() for server in self.programs)
 
-    def load(self, sessions, window, count=0):
+    def load(self, sessions, window, during=seconds, count=0):
         """What a load comes to, with the processor seconds of all programs."""
         before = self.busy()
-        words = [self.first, sessions, window, seconds, count, "10.1.0.1", 1, "10.%d.0.2" % self.count, 1, *range(1, self.count + 1)]
+        words = [self.first, sessions, window, during, count, "10.1.0.1", 1, "10.%d.0.2" % self.count, 1, *range(1, self.count + 1)]
         done = subprocess.run([os.path.join(work, "load"), *map(str, words)], capture_output=True, text=True)
         if done.returncode != 0:
             return None
@@ -139,13 +139,14 @@ def rate(told):
 
 
 def octets(chain, answers):
-    """Octets of one request and its reply on the first relay and on the last, as they were counted."""
+    """Octets of one request and of its reply on the first relay and on the last, as they were counted; the client leaves one behind, under way."""
     counted = chain.counted()
     if not counted:
         return "none"
-    if any(row[0] != answers or row[2] != answers for row in counted):
-        return "other than one request and one reply each: %s" % counted
-    each = [(row[1] // row[0], row[3] // row[2]) for row in counted]
+    for requests, asked, replies, told in counted:
+        if not answers <= replies <= requests <= answers + 1 or asked % requests or told % replies:
+            return "other than one request and one reply each: %s" % counted
+    each = [(asked // requests, told // replies) for requests, asked, replies, told in counted]
     return "%d, %d; %d, %d; in all %d" % (*each[0], *each[-1], sum(map(sum, each)))
 
 
@@ -158,7 +159,7 @@ def idle(chain, during=3):
 def row(count, apart):
     with Chain(count, apart) as chain:
         chain.counted()
-        one = chain.load(1, 1, ALONE)
+        one = chain.load(1, 1, 120, ALONE)
         counts = octets(chain, one["answers"] if one else 0)
         words = [alone(one), rate(chain.load(1, 64)), rate(chain.load(CLIENTS, 8)), counts, idle(chain)]
         print("| %d in %s | %s |" % (count, "programs of their own" if apart else "one program", " | ".join(words)), flush=True)
