@@ -2,7 +2,7 @@
 # What a chain of programs costs: 1, 2, 4, 8 and 16 domains in a row, each in a program of its own, joined by relays of TCP (bench/plain/relay.c),
 # and beside it one program that holds all of them. A client of the first asks for paths through all: the time from a request to its reply for one
 # request at a time; requests a second, with the processor time of an answer in all programs together, with 64 requests of one client under way, and
-# with 8 of each of 8 clients; requests, replies and octets of one request on each relay; and how busy the programs are when nobody asks. A domain has
+# with 64 of each of 8 clients; requests, replies and octets of one request on each relay; and how busy the programs are when nobody asks. A domain has
 # two nodes, so hardly any time goes into searches. With a delay each relay hands on what comes that much later, each way, as a long line does.
 # A key lives for one second. Programs, relays and clients share the machine; the load is told. It needs Python and a C compiler. The figures hold
 # for the machine and the moment alone: no clause speaks of time.
@@ -161,12 +161,12 @@ def row(count, apart):
         chain.counted()
         one = chain.load(1, 1, 120, ALONE)
         counts = octets(chain, one["answers"] if one else 0)
-        words = [alone(one), rate(chain.load(1, 64)), rate(chain.load(CLIENTS, 8)), counts, idle(chain)]
+        words = [alone(one), rate(chain.load(1, 64)), rate(chain.load(CLIENTS, 64)), counts, idle(chain)]
         print("| %d in %s | %s |" % (count, "programs of their own" if apart else "one program", " | ".join(words)), flush=True)
 
 
 print("load %s, %d processors, a delay of %g ms on each relay" % (" ".join(open("/proc/loadavg").read().split()[:3]), os.cpu_count(), delay))
-heading = ["Domains", "one at a time: median, 99th of %d, in ms" % ALONE, "64 of one client: a second, processor time of an answer", "8 of each of %d clients" % CLIENTS,
+heading = ["Domains", "one at a time: median, 99th of %d, in ms" % ALONE, "64 of one client: a second, processor time of an answer", "64 of each of %d clients" % CLIENTS,
            "octets of a request and a reply: first relay; last", "idle, in 100 of a processor"]
 print("\n| %s |\n|%s" % (" | ".join(heading), "---|" * len(heading)), flush=True)
 for count in COUNTS:
