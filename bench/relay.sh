@@ -133,7 +133,7 @@ def alone(told):
 
 def rate(told):
     if not told or not told["answers"]:
-        return "failed"
+        return "no answers" if told else "failed"
     lost = told["answers"] - told["paths"]
     return "%.0f, %.3f ms" % (told["rate"], 1000 * told["busy"] / told["answers"]) + (" (%.0f without a path)" % lost if lost else "")
 
