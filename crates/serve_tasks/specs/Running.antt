@@ -9,7 +9,7 @@ use Rattle.session_serving.specs.declared.port.Ran.TheVariants as ran
 use Rattle.solve_workers.specs.Turns.{Runs}
 use Rattle.solve_workers.specs.declared.working.Worked.{Worked}
 use Rattle.solve_workers.specs.declared.working.Worked.TheVariants as worked
-use Rattle.operator_lines.specs.Operating.{Operates, context, side, sides, stage}
+use Rattle.operator_lines.specs.Operating.{Operates, context, side, sides, progress}
 use Rattle.operator_lines.specs.declared.operating.Operated.{Operated}
 use Rattle.operator_lines.specs.declared.operating.Operated.TheVariants as operated
 use Rattle.turn_desk.specs.Desks.{Stand, benched_of, desked_of, stand_of}
@@ -61,8 +61,8 @@ module _ {K F I O R : Type 0} (x : Outside K F I O) (turns : ℕ) where
   RunsTask (end.Operated e) (task.Operate desk files network publisher input out) (task.Operate desk' files' network' publisher' input' out') =
       (network' ≡ network) × (x.files files' ≡ x.files files)
       × Operates (context network (x.files files)) turns e
-      (stage (charted_of (stand_of desk)) (published publisher) (x.store_faults files) (x.failed_at files))
-      (stage (charted_of (stand_of desk')) (published publisher') (x.store_faults files') (x.failed_at files'))
+      (progress (charted_of (stand_of desk)) (published publisher) (x.store_faults files) (x.failed_at files))
+      (progress (charted_of (stand_of desk')) (published publisher') (x.store_faults files') (x.failed_at files'))
       (sides (side (x.left input) (x.input_faults input)) (side (x.written out) (x.output_faults out)))
       (sides (side (x.left input') (x.input_faults input')) (side (x.written out') (x.output_faults out')))
       × OperatedAsShown e (stand_of desk')
