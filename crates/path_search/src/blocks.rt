@@ -24,18 +24,25 @@ fn least_of(numbers: &[u32]) -> u32
     least
 }
 
-// The place of a number.
+// The place of a number. All are looked at: going on is cheaper than a branch that can't be foreseen.
 fn place_of(numbers: &[u32], number: u32) -> Option<usize>
+    requires short { length numbers.now < 2 ^ 31 }
     ensures { MatchOption result
         ((i : ℕ) → i < length numbers.now → num_at numbers.now i ≢ number)
         (λ i. (i < length numbers.now) × (num_at numbers.now i ≡ number)) }
 {
+    let mut place = NOTHING;
     for (i, other) in numbers.iter().enumerate() {
-        if *other == number {
-            return Some(i);
+        let here = if *other == number { i as u32 } else { NOTHING };
+        if here < place {
+            place = here;
         }
     }
-    None
+    if place == NOTHING {
+        None
+    } else {
+        Some(place as usize)
+    }
 }
 
 // The costs of a block.
