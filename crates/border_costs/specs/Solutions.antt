@@ -81,7 +81,13 @@ pub record AreRows (g : Rows) (ask : Ask) (rows : Answer) : Type 0 where
   pub best : AreBest g ask seeds ask.entries rows.best
   pub source_known : IsTrue rows.source_known ↔ Contains g.nodes ask.source
   pub target_known : IsTrue rows.target_known ↔ IsKnownTarget g ask.target
-  pub certificate : IsLabelled g ask seeds rows.certificate
+  pub labels : AreLabels g ask.query seeds rows.labels
+
+-- the labels of all nodes, from the seeds of an ask, as a certificate
+pub record IsCertificateOf (g : Rows) (ask : Ask) (c : Certificate) : Type 0 where
+  pub seeds : List Seed
+  pub are_seeds : AreSeeds g ask seeds
+  pub labelled : IsLabelled g ask seeds c
 
 -- an ask, the topology that it is computed in, and what is computed
 pub record Solution : Type 0 where

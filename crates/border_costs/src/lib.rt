@@ -16,6 +16,7 @@ mod ways;
 pub use answer::Answer;
 pub use best::head_of;
 pub use job::{Ask, Down, Job, Target};
+pub use labelled::{certificate_of, certify};
 pub use law::{rows_compose, table_tells_pairs};
 pub use seeds::{seed_of_target, seeds_of};
 pub use solution::{is_node, knows_target, solve_rows};

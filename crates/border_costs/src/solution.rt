@@ -5,7 +5,6 @@ ghost use Rattle.border_costs.specs.Solutions.{AreRows, IsKnownTarget};
 use crate::answer::Answer;
 use crate::best::best_rows;
 use crate::job::{Ask, Target};
-use crate::labelled::certificate_of;
 use crate::seeds::seeds_of;
 use dom_base::{Addr, List, NoMemory};
 use path_search::search;
@@ -42,11 +41,10 @@ pub fn solve_rows<'a, G: Links<'a>>(
     let seeds = seeds_of(alloc, ask, links)?;
     let labels = search(alloc, links, &ask.query, &seeds)?;
     let best = best_rows(alloc, ask, links, &seeds, &labels)?;
-    let certificate = certificate_of(alloc, ask, links, &seeds, &labels)?;
     Ok(Answer {
         best: List::from_vec(best),
         source_known: is_node(links, ask.source),
         target_known: knows_target(links, ask.target),
-        certificate,
+        labels,
     })
 }

@@ -8,7 +8,7 @@ use crate::answer::Answer;
 use crate::job::{Ask, Job};
 use crate::solution::solve_rows;
 use dom_base::{As, NoMemory};
-use path_certificate::Certificate;
+use path_search::Labels;
 use std::alloc::Global;
 use std::marker::Model;
 use std::snapshot::Snapshot;
@@ -113,10 +113,10 @@ impl Solved {
     }
 
     /// The labels of all nodes.
-    pub fn certificate(&self) -> &Certificate
-        ensures { result.now ≡ self.now.rows.certificate }
+    pub fn labels(&self) -> &Labels
+        ensures { result.now ≡ self.now.rows.labels }
     {
-        &self.rows.certificate
+        &self.rows.labels
     }
 }
 

@@ -12,10 +12,11 @@ use Rattle.te_links.specs.Rows.{Rows}
 use Rattle.walk_laws.specs.Labels.{IsSegment}
 use Rattle.walk_laws.specs.Borders.{JoinsAt}
 use Rattle.path_search.specs.Search.{AreLabels}
+use Rattle.path_certificate.specs.declared.certificate.Certificate.{Certificate}
 use Rattle.vspt_tree.specs.declared.branch.Best.{Best}
 use Rattle.pcep_messages.specs.declared.message.Wanted.{Wanted}
 use Rattle.border_costs.specs.declared.answer.Answer.{Answer}
-use Rattle.border_costs.specs.Solutions.{AreRows, AreBest, IsBest}
+use Rattle.border_costs.specs.Solutions.{AreRows, AreBest, IsBest, IsCertificateOf}
 use Rattle.one_domain.specs.declared.domain.Chosen.{Chosen}
 use Rattle.one_domain.specs.Domain.{target_seeds, ask_of, ShowsLeast, HasNone, IsChosen, HasLabels}
 use Rattle.one_domain.proofs.OneSeed.{segment_least, joins_label}
@@ -63,12 +64,12 @@ is_chosen g w rows rest b are is = go are.best
         let same : b ≡ some.0 = one_row rest b some.0 one in
         subst (λ (row : Best). ShowsLeast g w.query w.source w.target row.segment row.cost) (sym same) (shows g w are.seeds some.0 are.are_seeds.are some.3)
 
-pub labelled : (g : Rows) (w : Wanted) (rows : Answer) → AreRows g (ask_of g.own w) rows → HasLabels g w rows.certificate
-labelled g w rows are = record {
-  own = are.certificate.own;
-  labels = are.certificate.labels;
-  are_labels = subst (λ (s : List Seed). AreLabels g w.query s are.certificate.labels) are.are_seeds.are are.certificate.are_labels;
-  rows = are.certificate.rows;
+pub labelled : (g : Rows) (w : Wanted) (c : Certificate) → IsCertificateOf g (ask_of g.own w) c → HasLabels g w c
+labelled g w c is = record {
+  own = is.labelled.own;
+  labels = is.labelled.labels;
+  are_labels = subst (λ (s : List Seed). AreLabels g w.query s is.labelled.labels) is.are_seeds.are is.labelled.are_labels;
+  rows = is.labelled.rows;
 }
 
 -- the one best way, if there is one, is the chosen path

@@ -1,10 +1,10 @@
 //! The way of least cost through one domain.
 ghost use Rattle.std.specs.Prelude.{◌≡◌, ◌∷◌, ◌++◌, [], Contains, List, IfOk, MatchOption};
-ghost use Rattle.border_costs.specs.Solutions.{AreRows};
+ghost use Rattle.border_costs.specs.Solutions.{AreRows, IsCertificateOf};
 ghost use Rattle.vspt_tree.specs.declared.branch.Best.{Best};
 ghost use Rattle.one_domain.specs.Domain.{ask_of, target_seeds, HasLabels, IsBitWhere, IsChosen, IsUnknownVector};
 
-use border_costs::{Answer, Ask, Target, seed_of_target, solve_rows};
+use border_costs::{Answer, Ask, Target, certificate_of, seed_of_target, solve_rows};
 use dom_base::{Addr, As, Cost, List, NoMemory, Seed};
 use path_certificate::Certificate;
 use pcep_codes::no_paths;
@@ -55,12 +55,20 @@ fn ask_for(alloc: Global, own: As, wanted: &Wanted) -> Result<Ask, NoMemory>
     })
 }
 
-fn rows_for(alloc: Global, topology: &Topology, wanted: &Wanted) -> Result<Answer, NoMemory>
-    ensures { IfOk result (AreRows topology.now (ask_of topology.now.own wanted.now)) }
+// The rows, and their labels as a certificate.
+fn rows_for(
+    alloc: Global,
+    topology: &Topology,
+    wanted: &Wanted,
+) -> Result<(Answer, Certificate), NoMemory>
+    ensures rows { IfOk result (λ both. AreRows topology.now (ask_of topology.now.own wanted.now) both.0) }
+    ensures labels { IfOk result (λ both. IsCertificateOf topology.now (ask_of topology.now.own wanted.now) both.1) }
 {
     let ask = ask_for(alloc, topology.own(), wanted)?;
     let mut links = Counted::new(topology);
-    solve_rows(alloc, &ask, &mut links)
+    let rows = solve_rows(alloc, &ask, &mut links)?;
+    let certificate = certificate_of(alloc, &ask, &links, &rows)?;
+    Ok((rows, certificate))
 }
 
 // The path of the one best way, if there is one.
@@ -94,20 +102,16 @@ pub fn unknown_ends(topology: &Topology, wanted: &Wanted) -> u32
     source + target
 }
 
-// What the rows of the ask show.
-fn shown(topology: &Topology, wanted: &Wanted, rows: Answer) -> DomainPath
-    requires { AreRows topology.now (ask_of topology.now.own wanted.now) rows }
+// What the rows of the ask show, with their certificate.
+fn shown(topology: &Topology, wanted: &Wanted, rows: Answer, certificate: Certificate) -> DomainPath
+    requires rows { AreRows topology.now (ask_of topology.now.own wanted.now) rows }
+    requires labels { IsCertificateOf topology.now (ask_of topology.now.own wanted.now) certificate }
     ensures chosen { IsChosen topology.now wanted.now result.chosen }
     ensures vector { IsUnknownVector topology.now wanted.now.source wanted.now.target result.vector }
     ensures labels { HasLabels topology.now wanted.now result.certificate }
 {
-    let Answer {
-        best,
-        certificate,
-        ..
-    } = rows;
     DomainPath {
-        chosen: path_of(best),
+        chosen: path_of(rows.best),
         vector: unknown_ends(topology, wanted),
         certificate,
     }
@@ -123,6 +127,6 @@ pub fn search_domain(
     ensures vector { IfOk result (λ d. IsUnknownVector topology.now wanted.now.source wanted.now.target d.vector) }
     ensures labels { IfOk result (λ d. HasLabels topology.now wanted.now d.certificate) }
 {
-    let rows = rows_for(alloc, topology, wanted)?;
-    Ok(shown(topology, wanted, rows))
+    let (rows, certificate) = rows_for(alloc, topology, wanted)?;
+    Ok(shown(topology, wanted, rows, certificate))
 }

@@ -5,7 +5,7 @@ ghost use Rattle.pcep_subobjects.specs.Subobjects.{Gives, IsLeftBehind};
 ghost use Rattle.pcep_subobjects.specs.Hops.{hop_has_length, hop_of, hop_at, hops_of, hop_text, hops_text, strict_hop, WrittenIsRead, NoneBeginsAnother};
 
 use crate::hop::{Hop, HopFault};
-use crate::octets::{addr_len, first, put_addr, wide};
+use crate::octets::{COMMON_OCTETS, addr_len, first, put_addr, wide};
 use crate::part::{Spelled, build_parts, check_parts, room_behind_parts, write_parts};
 use crate::subobject::Subobject;
 use dom_base::{Addr, As, List, NoMemory, half, word};
@@ -89,7 +89,7 @@ pub fn read_hops(alloc: Global, bytes: &[u8]) -> Result<List<Hop>, HopFault>
     ensures { Gives result (hops_of bytes.now) }
 {
     check_hops(bytes)?;
-    Ok(build_parts::<HopFault, Hop>(alloc, 0, bytes)?)
+    Ok(build_parts::<HopFault, Hop>(alloc, bytes.len() / COMMON_OCTETS, 0, bytes)?)
 }
 
 fn put_prefix(text: &mut Vec<u8>, addr: Addr) -> Result<(), NoMemory>

@@ -61,9 +61,10 @@ pub fn check_parts<F, P: Part<F>>(start: usize, bytes: &[u8]) -> Result<(), F>
     Ok(())
 }
 
-/// The parts of octets that have no fault.
+/// The parts of octets that have no fault. Room for `count` of them is taken from the start.
 pub fn build_parts<F, P: Part<F>>(
     alloc: Global,
+    count: usize,
     start: usize,
     bytes: &[u8],
 ) -> Result<List<P>, NoMemory>
@@ -71,7 +72,7 @@ pub fn build_parts<F, P: Part<F>>(
     requires good { IsOk (parts_from P.at start 0 bytes.now) }
     ensures { IfOk result (λ xs. parts_from P.at start 0 bytes.now ≡ Ok xs) }
 {
-    let mut built = List::new(alloc);
+    let mut built = List::from_vec(Vec::with_capacity(alloc, count)?);
     let mut rest = bytes;
     let mut place = start;
     while !rest.is_empty() {

@@ -4,8 +4,7 @@ use Rattle.std.specs.Arc.{arc_value}
 use Rattle.dom_base.specs.declared.border.BorderRow.{BorderRow}
 use Rattle.path_certificate.specs.declared.certificate.Certificate.{Certificate}
 use Rattle.border_costs.specs.declared.job.Job.{Job}
-use Rattle.border_costs.specs.declared.answer.Answer.{Answer}
-use Rattle.border_costs.specs.Solutions.{AreRows}
+use Rattle.border_costs.specs.Solutions.{IsCertificateOf}
 use Rattle.plant_network.specs.plant_model.Blind.{is_accepted}
 use Rattle.plant_network.specs.plant_model.Events.{Answered}
 use Rattle.plant_network.specs.plant_model.declared.event.Event.{Event}
@@ -25,11 +24,11 @@ pub if_ok : {T E : Type 0} (P Q : T → Type 0) (r : Result T E) → ((x : T) �
 if_ok P Q (Ok x) f h = f x h
 if_ok P Q (Err x) f h = tt
 
-pub labels_told : (line : ℕ) (job : Job) (rows : Answer) (c : Certificate) (b0 b1 : Told) → AreRows (arc_value job.topology) job.ask rows → c ≡ rows.certificate → b1 ≡ behind b0 (certified_text line c) → Labels line job b0 b1
-labels_told line job rows c b0 b1 are is told = record {
-  certificate = rows.certificate;
-  labels = record { seeds = are.seeds; are_seeds = are.are_seeds; labels = are.certificate };
-  tells = told ∙ ap (λ (x : Certificate). behind b0 (certified_text line x)) is;
+pub labels_told : (line : ℕ) (job : Job) (c : Certificate) (b0 b1 : Told) → IsCertificateOf (arc_value job.topology) job.ask c → b1 ≡ behind b0 (certified_text line c) → Labels line job b0 b1
+labels_told line job c b0 b1 is told = record {
+  certificate = c;
+  labels = record { seeds = is.seeds; are_seeds = is.are_seeds; labels = is.labelled };
+  tells = told;
 }
 
 pub table_shown : (line : ℕ) (job : Job) (b0 b1 : Told) → Tables line job b0 b1 → TablesIf line true job b0 b1

@@ -10,7 +10,7 @@ ghost use Rattle.plant_play.specs.Making.{Brings, IsToShow, Labels, LabelsIf, Sh
 ghost use Rattle.plant_play.specs.Turns.{tells_closed};
 
 use crate::log::{Log, write_certified, write_rows, write_said};
-use border_costs::{Job, border_table, solve};
+use border_costs::{Job, border_table, certify};
 use disclosure::Class;
 use dom_base::{NoMemory, Peer};
 use plant_network::model::{Event, Outcome, Refused};
@@ -97,8 +97,8 @@ fn write_table(alloc: Global, line: u32, job: &Job, into: &mut Log) -> Result<()
 fn write_labels(alloc: Global, line: u32, job: &Job, into: &mut Log) -> Result<(), NoMemory>
     ensures { OnOk result (Labels line job.now into.old into.new) }
 {
-    let solved = solve(alloc, job)?;
-    write_certified(line, solved.certificate(), into)
+    let certificate = certify(alloc, job)?;
+    write_certified(line, &certificate, into)
 }
 
 // The border table, where it is shown.

@@ -63,8 +63,8 @@ pub(crate) fn put_answer(solved: &Solved, text: &mut Vec<u8>) -> Result<(), NoMe
         put_best(best, text)?;
     }
     text.extend_from_slice(b"\nlabels")?;
-    for row in solved.certificate().labels.as_slice() {
-        put_label(&row.1, text)?;
+    for label in solved.labels().as_slice() {
+        put_label(label, text)?;
     }
     Ok(())
 }

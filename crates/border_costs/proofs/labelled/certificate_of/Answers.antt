@@ -5,11 +5,17 @@ use Rattle.border_costs.proofs.labelled.certificate_of.Goals as goal
 pub returns : goal.returns
 returns g c =
     let rows = g.G.Links.rows c.args.links.now in
+    let are = c.requires in
+    let shown = c.from_vec.ensures ∙ c.in_ok-labels.ensures in
     record {
-      own = refl;
-      labels = c.args.labels.now;
-      are_labels = c.requires;
-      rows = c.from_vec.ensures ∙ c.in_ok-rows.ensures;
-      certifies = rw (c.from_vec.ensures ∙ c.in_ok-rows.ensures) (certified rows c.args.ask.now.query c.args.seeds.now c.args.labels.now c.requires);
-      path = refl;
+      seeds = are.seeds;
+      are_seeds = are.are_seeds;
+      labelled = record {
+        own = refl;
+        labels = c.args.rows.now.labels;
+        are_labels = are.labels;
+        rows = shown;
+        certifies = rw shown (certified rows c.args.ask.now.query are.seeds c.args.rows.now.labels are.labels);
+        path = refl;
+      };
     }

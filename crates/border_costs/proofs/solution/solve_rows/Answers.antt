@@ -13,5 +13,5 @@ returns-clause-rows g c =
       best = search rules;
       source_known = search rules;
       target_known = search rules;
-      certificate = search rules;
+      labels = c.search.ensures.labels;
     }
