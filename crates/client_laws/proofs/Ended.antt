@@ -411,7 +411,7 @@ sound_word x p k word metric fits =
 
 paths_lines : (n : NetworkParts) (now : Transcript) (i x : ℕ) (paths : List Path) → IsWritten (reply_message 0 x (Paths paths)) → IsRight n now i (record { flags = 0; id = x; answer = Paths paths }) → 1 ≤ length (message_lines (reply_message 0 x (Paths paths)))
 paths_lines n now i x paths fits right = elim (right.paths paths refl) [
-  | inl up ↦ of_one (path_of wire up.via.asked.query.metric up.found.cost up.found.hops) _ _ up.one refl
+  | inl up ↦ of_one (path_of wire up.via.asks.asked.query.metric up.found.cost up.found.hops) _ _ up.one refl
   | inr chain ↦ of_one chain.path _ _ chain.one chain.least.metric
 ]
   where

@@ -76,19 +76,19 @@ module _ (c : Codec) (codec : IsCodec c) (n : NetworkParts) where
   meant_request m ask asked is = ask
 
   meant_reply : (flags id : ℕ) (a : Answer) → IsMeant c n (reply_message flags id a)
-  meant_reply flags id a asked is = absurd (let clash : 4 ≡ 3 = codec.kinds (reply_message flags id a) (messages.PcReq asked) is in omega (arith, clash))
+  meant_reply flags id a asked is = absurd (let clash : 4 ≡ 3 = codec.texts.kinds (reply_message flags id a) (messages.PcReq asked) is in omega (arith, clash))
 
   meant_busy : (flags id : ℕ) → IsMeant c n (busy flags id)
-  meant_busy flags id asked is = absurd (let clash : 5 ≡ 3 = codec.kinds (busy flags id) (messages.PcReq asked) is in omega (arith, clash))
+  meant_busy flags id asked is = absurd (let clash : 5 ≡ 3 = codec.texts.kinds (busy flags id) (messages.PcReq asked) is in omega (arith, clash))
 
   meant_error : (rp : Option (ℕ × ℕ)) (kind value : ℕ) → IsMeant c n (error_message rp kind value)
-  meant_error rp kind value asked is = absurd (let clash : 6 ≡ 3 = codec.kinds (error_message rp kind value) (messages.PcReq asked) is in omega (arith, clash))
+  meant_error rp kind value asked is = absurd (let clash : 6 ≡ 3 = codec.texts.kinds (error_message rp kind value) (messages.PcReq asked) is in omega (arith, clash))
 
   meant_own : (o : Own) → IsMeant c n (own_message o)
-  meant_own (own.Open offer) asked is = absurd (let clash : 1 ≡ 3 = codec.kinds (own_message (own.Open offer)) (messages.PcReq asked) is in omega (arith, clash))
-  meant_own own.Keepalive asked is = absurd (let clash : 2 ≡ 3 = codec.kinds (own_message own.Keepalive) (messages.PcReq asked) is in omega (arith, clash))
-  meant_own (own.Error kind value) asked is = absurd (let clash : 6 ≡ 3 = codec.kinds (own_message (own.Error kind value)) (messages.PcReq asked) is in omega (arith, clash))
-  meant_own (own.Close why) asked is = absurd (let clash : 7 ≡ 3 = codec.kinds (own_message (own.Close why)) (messages.PcReq asked) is in omega (arith, clash))
+  meant_own (own.Open offer) asked is = absurd (let clash : 1 ≡ 3 = codec.texts.kinds (own_message (own.Open offer)) (messages.PcReq asked) is in omega (arith, clash))
+  meant_own own.Keepalive asked is = absurd (let clash : 2 ≡ 3 = codec.texts.kinds (own_message own.Keepalive) (messages.PcReq asked) is in omega (arith, clash))
+  meant_own (own.Error kind value) asked is = absurd (let clash : 6 ≡ 3 = codec.texts.kinds (own_message (own.Error kind value)) (messages.PcReq asked) is in omega (arith, clash))
+  meant_own (own.Close why) asked is = absurd (let clash : 7 ≡ 3 = codec.texts.kinds (own_message (own.Close why)) (messages.PcReq asked) is in omega (arith, clash))
 
   run_meant : (es : List Entry) (s : Plant) → Run c n es s → AllSent (IsMeant c n) (deeds_of c n es)
   run_meant es s run = run_sent (IsMeant c n) (λ y w t rest asked is. tt) meant_reply meant_busy meant_error meant_own c n es s run

@@ -115,7 +115,7 @@ module _ (c : Codec) (codec : IsCodec c) (few : (frame : Bytes) → 1 ≤ length
       omega (arith, parts, here, one, more, long)
 
   fed_more : (bytes : Bytes) (x : Connection) → unread (Some (fed c bytes x)) ≤ unread (Some x) + length bytes
-  fed_more bytes x = go x.framing.bad (codec.frames x.framing bytes)
+  fed_more bytes x = go x.framing.bad (codec.stream.frames x.framing bytes)
     where
       frames : List Bytes
       frames = (c.feed x.framing bytes).frames

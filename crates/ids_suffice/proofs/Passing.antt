@@ -63,10 +63,10 @@ ReadsAsks c bytes m = (asks : List Asked) → m ≡ messages.PcReq asks → c.re
 module _ (x y : As) (c : Codec) (codec : IsCodec c) (n : NetworkParts) where
   -- a request in written form is fair
   written_fair : (asked : Asked) → IsWritten (messages.PcReq (asked ∷ [])) → IsFair c n (c.text (messages.PcReq (asked ∷ [])))
-  written_fair asked written others is = (codec.bytes (messages.PcReq (asked ∷ [])) written, sym (ap asked_in (sym (codec.reads (messages.PcReq (asked ∷ [])) written) ∙ is)))
+  written_fair asked written others is = (codec.texts.bytes (messages.PcReq (asked ∷ [])) written, sym (ap asked_in (sym (codec.texts.reads (messages.PcReq (asked ∷ [])) written) ∙ is)))
 
   written_heavy : (b : As) (asked : Asked) → IsWritten (messages.PcReq (asked ∷ [])) → read_heavy x y c b (c.read (c.text (messages.PcReq (asked ∷ [])))) ≡ asked_heavy x y c b asked
-  written_heavy b asked written = ap (λ (o : Option Message). read_heavy x y c b o) (codec.reads (messages.PcReq (asked ∷ [])) written) ∙ plain (asked_heavy x y c b asked)
+  written_heavy b asked written = ap (λ (o : Option Message). read_heavy x y c b o) (codec.texts.reads (messages.PcReq (asked ∷ [])) written) ∙ plain (asked_heavy x y c b asked)
     where
       plain : (w : ℕ) → w + 0 ≡ w
       plain w = omega arith
@@ -80,7 +80,7 @@ module _ (x y : As) (c : Codec) (codec : IsCodec c) (n : NetworkParts) where
   checked_few own a = go (c.check a own) refl
     where
       wish : (r : Request) → c.check a own ≡ Admitted r → (w : Wish) → r.wish ≡ w → checked_heavy x y c own (Admitted (record r { wish = w })) ≤ 1
-      wish r is (Path w) asks = sequence_few own w.sequence (codec.own a own r.flags r.id w (admits_path c a own r w is asks)).2
+      wish r is (Path w) asks = sequence_few own w.sequence (codec.onward.own a own r.flags r.id w (admits_path c a own r w is asks)).2
       wish r is (Expand key pce) asks = omega arith
 
       go : (o : Checked) → c.check a own ≡ o → checked_heavy x y c own o ≤ 1
@@ -111,10 +111,10 @@ module _ (x y : As) (c : Codec) (codec : IsCodec c) (n : NetworkParts) where
 
   module _ (bytes : Bytes) (a : Asked) (own : As) (flags id : ℕ) (w : Wanted) (octets : AreOctets bytes) (read : c.read bytes ≡ Some (messages.PcReq (a ∷ []))) (admits : Admits c a own flags id w) (number : ℕ) (some : 1 ≤ number) (fits : IsId number) where
     range : IsRequestInRange flags id w
-    range = (codec.sends bytes a own flags id w octets read admits).0
+    range = (codec.onward.sends bytes a own flags id w octets read admits).0
 
     can : CanBeSent w
-    can = (codec.sends bytes a own flags id w octets read admits).1
+    can = (codec.onward.sends bytes a own flags id w octets read admits).1
 
     -- to the parent, which asks nobody
     up_written : IsWritten (request_message number w w.target [])
@@ -172,7 +172,7 @@ module _ (x y : As) (c : Codec) (codec : IsCodec c) (n : NetworkParts) where
           (s.1 ∙ ap (λ (l : List As). own ∷ l) rest, subst (λ (l : List As). IsSequence own l) rest s.2)
 
       on_own : OnOwn
-      on_own = own_is (codec.own a own flags id w admits).2
+      on_own = own_is (codec.onward.own a own flags id w admits).2
 
       pub on_route : route_heavy x y (sequence_or own w.sequence) ≡ route_heavy x y (own ∷ next ∷ more)
       on_route = ap (λ (l : List As). route_heavy x y (sequence_or own l)) on_own.0
@@ -187,7 +187,7 @@ module _ (x y : As) (c : Codec) (codec : IsCodec c) (n : NetworkParts) where
           (All-tail (λ (d : As). d.0 < 2 ^ 16) own' (next ∷ more) (subst (λ (l : List As). All (λ (d : As). d.0 < 2 ^ 16) l) along range.sequence))
 
       on_checked : checked_heavy x y c next (c.check (asked_of number w w.target (next ∷ more)) next) ≡ route_heavy x y (next ∷ more)
-      on_checked = ap (λ (o : Checked). checked_heavy x y c next o) (codec.admits a own flags id w admits number w.target next more some fits (later_sequence own next more on_own.1))
+      on_checked = ap (λ (o : Checked). checked_heavy x y c next o) (codec.onward.admits a own flags id w admits number w.target next more some fits (later_sequence own next more on_own.1))
 
       on_light : (b : As) → Inner next ≡ Inner b → read_heavy x y c b (c.read (c.text (request_message number w w.target (next ∷ more)))) ≤ route_heavy x y (next ∷ more)
       on_light b is =

@@ -103,7 +103,7 @@ module _ (c : Codec) (codec : IsCodec c) (n : NetworkParts) where
   checked_light b a = go (c.check a b) refl
     where
       wish : (r : Request) → c.check a b ≡ Admitted r → (w : Wish) → r.wish ≡ w → checked_weight c n b (Admitted (record r { wish = w })) ≤ 160
-      wish r is (Path w) asks = let few = sequence_few b w.sequence (codec.own a b r.flags r.id w (admits_path c a b r w is asks)).2 in omega (arith, few)
+      wish r is (Path w) asks = let few = sequence_few b w.sequence (codec.onward.own a b r.flags r.id w (admits_path c a b r w is asks)).2 in omega (arith, few)
       wish r is (Expand key pce) asks = omega arith
 
       go : (o : Checked) → c.check a b ≡ o → checked_weight c n b o ≤ 160
@@ -162,7 +162,7 @@ module _ (c : Codec) (codec : IsCodec c) (n : NetworkParts) where
         let ds = deeds_of c n es in
         subst (λ (q : List Bytes). queue_weight c n b q ≤ message_most n * length q) (sym (queues_stand c n es s run a b))
         (texts_light b (messages_of (standing a b ds)) (all_alone a b ds (standing a b ds)
-        (λ x i. (standing_sent IsAlone a b ds x (sent_alone c n es s run) i, codec.reads x.message (standing_sent IsWritten a b ds x written i)))))
+        (λ x i. (standing_sent IsAlone a b ds x (sent_alone c n es s run) i, codec.texts.reads x.message (standing_sent IsWritten a b ds x written i)))))
 
     rows_light : (f g : As → ℕ) (as' : List As) → ((d : As) → f d ≤ message_most n * g d) → total f as' ≤ message_most n * total g as'
     rows_light f g [] each = omega arith

@@ -404,7 +404,7 @@ module _ (c : Codec) (codec : IsCodec c) (n : NetworkParts) (net : IsNetwork n) 
 
   all_again : (os : List Output) → AreAll IsWritten os → AreAll (ReadsAgain c n) os
   all_again [] written = tt
-  all_again (o ∷ os) written = (codec.reads o.message written.0, all_again os written.1)
+  all_again (o ∷ os) written = (codec.texts.reads o.message written.0, all_again os written.1)
 
   deed_again : (d : PlantDeed) → DeedSends IsWritten d → DeedSends (ReadsAgain c n) d
   deed_again (Takes at p m os) written = all_again os written

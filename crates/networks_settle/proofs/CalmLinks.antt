@@ -35,10 +35,10 @@ module _ (c : Codec) (codec : IsCodec c) (n : NetworkParts) where
   -- ---- what sessions say is read again
 
   pub open_again : (sid : ℕ) → sid < 256 → IsOpen c (c.text (own_message (own.Open (our_offer sid))))
-  open_again sid fits = (our_offer sid, codec.reads (own_message (own.Open (our_offer sid))) (own_written (own.Open (our_offer sid)) (omega arith, omega arith, fits)))
+  open_again sid fits = (our_offer sid, codec.texts.reads (own_message (own.Open (our_offer sid))) (own_written (own.Open (our_offer sid)) (omega arith, omega arith, fits)))
 
   pub keepalive_again : IsKeepalive c (c.text (own_message own.Keepalive))
-  keepalive_again = codec.reads messages.Keepalive (own_written own.Keepalive tt)
+  keepalive_again = codec.texts.reads messages.Keepalive (own_written own.Keepalive tt)
 
   keepalive_ordinary : IsOrdinary c (c.text (own_message own.Keepalive))
   keepalive_ordinary = (messages.Keepalive, keepalive_again, refl)

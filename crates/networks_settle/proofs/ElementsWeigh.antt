@@ -205,7 +205,7 @@ module _ (P : Type 0) (S : Type 0) (c : Codec) (n : NetworkParts) where
         let ask = asked_of y w w.target (b ∷ rest) in
         let here : IsSequence b rest = later_sequence own b rest sequence in
         let real : 1 ≤ b.0 = All-head (λ (z : As). 1 ≤ z.0) b rest here.real in
-        let check = codec.admits a own flags x w admits y w.target b rest some fits here in
+        let check = codec.onward.admits a own flags x w admits y w.target b rest some fits here in
         let weight : asked_weight c n b ask ≡ 10 * length (b ∷ rest) =
         ap (λ (t : Bool). cond t (above_weight c n) (checked_weight c n b (c.check ask b))) (ne_eqb b.0 0 (λ e. omega (arith, real, e))) ∙ ap (λ (o : Checked). checked_weight c n b o) check in
         omega (arith, weight)
@@ -252,7 +252,7 @@ module _ (P : Type 0) (S : Type 0) (c : Codec) (n : NetworkParts) where
     path_less e pin a flags x w admits k ok =
         subst (λ (t : Bool). Less (10 * length (sequence_or e.own w.sequence)) k (cond t (send_on (sight pin p class) (wanting flags x w) [] [] false k (way_to the_parent k.ways)) (take_along e (sight pin p class) (wanting flags x w) k (sequence_or e.own w.sequence))))
         (sym (not_up e.parent w.sequence))
-        (elim (own_sequence e.own w.sequence (codec.own a e.own flags x w admits).2) [
+        (elim (own_sequence e.own w.sequence (codec.onward.own a e.own flags x w admits).2) [
           | inl short ↦ subst (λ (l : List As). Less (10 * length l) k (take_along e (sight pin p class) (wanting flags x w) k l)) (sym short) alone
           | inr long ↦
               subst (λ (l : List As). Less (10 * length l) k (take_along e (sight pin p class) (wanting flags x w) k l)) (sym long.2)

@@ -247,7 +247,7 @@ module _ (c : Codec) (n : NetworkParts) where
     child_weighs : (child : As) (t : Addr) (y : ℕ) → 1 ≤ child.0 → 1 ≤ y → y < 4294967296 → peer_weight c n (Inner child) (request_message y w t (child ∷ [])) ≡ 11
     child_weighs child t y real some fits =
         let ask = asked_of y w t (child ∷ []) in
-        let check = codec.admits a parent_as flags x w admits y t child [] some fits (alone child real) in
+        let check = codec.onward.admits a parent_as flags x w admits y t child [] some fits (alone child real) in
         let weight : asked_weight c n child ask ≡ 10 =
         ap (λ (u : Bool). cond u (above_weight c n) (checked_weight c n child (c.check ask child))) (ne_eqb child.0 0 (λ e. omega (arith, real, e))) ∙ ap (λ (o : Checked). checked_weight c n child o) check in
         omega (arith, weight)

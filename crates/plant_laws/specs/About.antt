@@ -118,9 +118,8 @@ pub record HasReplied (c : Codec) (now asking : Transcript) (w : Wanted) (rows :
 abbrev pub upward : Wanted → Wanted
 upward w = record w { query = query_in w.query parent_as; sequence = [] }
 
--- The reply of d to its client is the parent's: this is what it found over its border graph, whose rows are those of its children's
--- replies, one reply for each end of interest of each child.
-pub record IsViaParent (c : Codec) (n : NetworkParts) (older now : Transcript) (d : As) (p : Peer) (x : ℕ) (found : Option Found) : Type 0 where
+-- The request of a peer that is open at d went up to the parent.
+pub record WentUp (c : Codec) (n : NetworkParts) (older : Transcript) (d : As) (p : Peer) (x : ℕ) : Type 0 where
   pub at : Transcript
   pub is_open : opened c d p x older ≡ Some at
   pub request : Request
@@ -130,11 +129,18 @@ pub record IsViaParent (c : Codec) (n : NetworkParts) (older now : Transcript) (
   pub goes : goes_up (place n d).parent (class_of n p) wanted.sequence ≡ true
   pub asking : Transcript
   pub handed : Handed d parent_as at asking
+
+-- In that moment d asked the parent what it was asked itself.
+pub record AsksParent (c : Codec) (d : As) (asking : Transcript) (wanted : Wanted) : Type 0 where
   pub upper : Request
   pub asked : Wanted
   pub taken : Delivered c asking parent_as (Inner d) upper
   pub is_asked : upper.wish ≡ wishes.Path asked
   pub question : asked ≡ upward wanted
+
+-- What the parent found for d over its border graph, whose rows are those of its children's replies, one reply for each end of interest of
+-- each child.
+pub record ParentFinds (c : Codec) (n : NetworkParts) (now : Transcript) (d : As) (asking : Transcript) (asked : Wanted) (found : Option Found) : Type 0 where
   pub job : BorderJob
   pub start : job.start ≡ d
   pub source : job.source ≡ asked.source
@@ -144,6 +150,12 @@ pub record IsViaParent (c : Codec) (n : NetworkParts) (older now : Transcript) (
   pub each : (row : ChildRow) → Contains job.rows row → IsGathered c now asking asked row
   pub every : (end : Errand) → Contains (errands n.parent_links asked.target (family n).children) end → HasReplied c now asking asked job.rows end
   pub solved : SolvesBorder job found
+
+-- The reply of d to its client is what the parent found.
+pub record IsViaParent (c : Codec) (n : NetworkParts) (older now : Transcript) (d : As) (p : Peer) (x : ℕ) (found : Option Found) : Type 0 where
+  pub up : WentUp c n older d p x
+  pub asks : AsksParent c d up.asking up.wanted
+  pub finds : ParentFinds c n now d up.asking asks.asked found
 
 -- The first domain and the further ones of a chain, with a walk through them. No chain is empty, and nothing is said of one that were.
 abbrev pub IsLeastAlong : Query → List Rows → Addr → Goal → List crossing.Leg → Last → Type 0

@@ -25,7 +25,7 @@ use Rattle.plant_laws.specs.Runs.{InShortRuns}
 pub record IsOfParent (c : Codec) (n : NetworkParts) (older now : Transcript) (d : As) (i : ℕ) (r : Reply) (paths : List Path) : Type 0 where
   pub found : Found
   pub via : IsViaParent c n older now d (Outside i) r.id (Some found)
-  pub one : paths ≡ path_of c via.asked.query.metric found.cost found.hops ∷ []
+  pub one : paths ≡ path_of c via.asks.asked.query.metric found.cost found.hops ∷ []
 
 -- The path that a client gets is least along the chain of its request, to the target; or over what the outside peer told at its end.
 pub record IsOfChain (c : Codec) (n : NetworkParts) (older now : Transcript) (d : As) (i : ℕ) (r : Reply) (paths : List Path) : Type 0 where

@@ -34,4 +34,4 @@ heeding_keeps c sent (messages.Other kind) = record { kind = refl; replies = ref
 pub heeded_joins : HeededJoins
 heeded_joins c bytes replies domains codec octets read =
     each_weaker (λ (r : Reply). AreInRange r.answer) (λ (r : Reply). EachPath (CanBeJoined (3 * domains)) (heeded_by c (Some domains) r).answer)
-    (λ r range. sifted_fits c.units c.word (3 * domains) r range) replies (codec.hops bytes replies octets read)
+    (λ r range. sifted_fits c.units c.word (3 * domains) r range) replies (codec.numbers.hops bytes replies octets read)

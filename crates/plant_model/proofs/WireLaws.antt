@@ -34,24 +34,34 @@ word_is word n e = go (is_malformed word) refl e
 
 pub wire_is_codec : WireIsCodec
 wire_is_codec = record {
-  reads = λ m is. ap message_or_none (written_is_read m is);
-  kinds = kinds.kinds;
-  bytes = written_is_octets;
-  frames = feed_feeds;
-  splits = parts.splits;
-  splits_replies = parts.splits_replies;
-  splits_bytes = parts.splits_bytes;
-  sends = sends.sends;
-  admits = sent.admits;
-  admits_upward = sent.admits_upward;
-  checks = numbers.checks;
-  replies = numbers.replies;
-  hops = numbers.hops;
-  openings = numbers.openings;
-  admits_ipv4 = numbers.admits_ipv4;
-  refuses_upward = sent.refuses_upward;
-  own = admitted.own;
-  expands = admitted.expands;
-  words = λ n le. word_is (wire.word n) n (cost_again n le);
-  costs = cost_again;
+  texts = record {
+    reads = λ m is. ap message_or_none (written_is_read m is);
+    kinds = kinds.kinds;
+    bytes = written_is_octets;
+  };
+  stream = record {
+    frames = feed_feeds;
+    splits = parts.splits;
+    splits_replies = parts.splits_replies;
+    splits_bytes = parts.splits_bytes;
+  };
+  onward = record {
+    own = admitted.own;
+    sends = sends.sends;
+    admits = sent.admits;
+    admits_upward = sent.admits_upward;
+    admits_ipv4 = numbers.admits_ipv4;
+    refuses_upward = sent.refuses_upward;
+  };
+  numbers = record {
+    checks = numbers.checks;
+    replies = numbers.replies;
+    hops = numbers.hops;
+    openings = numbers.openings;
+    expands = admitted.expands;
+  };
+  costs = record {
+    words = λ n le. word_is (wire.word n) n (cost_again n le);
+    costs = cost_again;
+  };
 }

@@ -82,16 +82,23 @@ abbrev pub HasTimers : Option OpenBody → Type 0
 HasTimers None = Unit {0}
 HasTimers (Some body) = (body.offer.keepalive < 256) × (body.offer.dead < 256)
 
--- What is written is read as what was meant, a request sent on asks for the same at the next element, and costs keep their
--- value.
-pub record IsCodec (c : Codec) : Type 0 where
+-- what is written is read as what was meant, as octets
+pub record ReadsTexts (c : Codec) : Type 0 where
   pub reads : (m : Message) → IsWritten m → c.read (c.text m) ≡ Some m
   pub kinds : (m other : Message) → c.read (c.text m) ≡ Some other → kind_of m ≡ kind_of other
   pub bytes : (m : Message) → IsWritten m → AreOctets (c.text m)
+
+-- a stream is cut into frames as it comes, and a frame into messages of one request or reply each
+pub record CutsStreams (c : Codec) : Type 0 where
   pub frames : (framing : Framing) (piece : Bytes) → FeedsTo framing piece (c.feed framing piece).frames (c.feed framing piece).framing
   pub splits : (frame bytes : Bytes) (asks : List Asked) → Contains (c.split frame) bytes → c.read bytes ≡ Some (messages.PcReq asks) → length asks ≡ 1
   pub splits_replies : (frame bytes : Bytes) (replies : List Reply) → Contains (c.split frame) bytes → c.read bytes ≡ Some (messages.PcRep replies) → length replies ≤ 1
   pub splits_bytes : (frame bytes : Bytes) → AreOctets frame → Contains (c.split frame) bytes → AreOctets bytes
+
+-- a request that was admitted can be sent on, and asks for the same at the next element; the parent serves IPv4 alone
+pub record AdmitsOnward (c : Codec) : Type 0 where
+  pub own : (a : Asked) (own : As) (flags x : ℕ) (w : Wanted) → Admits c a own flags x w →
+      (w.query.own ≡ own) × (w.query.cap ≤ COST_MAX) × ((w.sequence ≡ []) ⊎ ((rest : List As) × (w.sequence ≡ own ∷ rest) × IsSequence own rest))
   pub sends : (bytes : Bytes) (a : Asked) (own : As) (flags x : ℕ) (w : Wanted) → AreOctets bytes → c.read bytes ≡ Some (messages.PcReq (a ∷ [])) → Admits c a own flags x w →
       IsRequestInRange flags x w × CanBeSent w
   pub admits : (a : Asked) (own : As) (flags x : ℕ) (w : Wanted) → Admits c a own flags x w →
@@ -99,23 +106,32 @@ pub record IsCodec (c : Codec) : Type 0 where
       Admits c (asked_of id w t (next ∷ rest)) next vspt_flag id (record w { target = t; query = query_in w.query next; sequence = next ∷ rest })
   pub admits_upward : (a : Asked) (own : As) (flags x : ℕ) (w : Wanted) → Admits c a own flags x w → ends_kind w.source w.target ≡ object_types.FIRST → (id : ℕ) → 1 ≤ id → id < 2 ^ 32 →
       Admits c (asked_of id w w.target []) parent_as vspt_flag id (record w { query = query_in w.query parent_as; sequence = [] })
-  -- what came as octets has numbers that can be said back
-  pub checks : (bytes : Bytes) (a : Asked) (own : As) → AreOctets bytes → c.read bytes ≡ Some (messages.PcReq (a ∷ [])) → HasNumbers (c.check a own)
-  pub replies : (bytes : Bytes) (replies : List Reply) → AreOctets bytes → c.read bytes ≡ Some (messages.PcRep replies) → AllByRecursion (λ (r : Reply). AreWords (r.flags, r.id)) replies
-  pub hops : (bytes : Bytes) (replies : List Reply) → AreOctets bytes → c.read bytes ≡ Some (messages.PcRep replies) → AllByRecursion (λ (r : Reply). AreInRange r.answer) replies
-  pub openings : (bytes : Bytes) (reports : List ErrorReport) → AreOctets bytes → c.read bytes ≡ Some (messages.PcErr reports) → HasTimers (first_opening_of reports)
-  -- the parent serves IPv4 alone
   pub admits_ipv4 : (bytes : Bytes) (a : Asked) (flags x : ℕ) (w : Wanted) → AreOctets bytes → c.read bytes ≡ Some (messages.PcReq (a ∷ [])) → Admits c a parent_as flags x w →
       bits_of w.source ≡ 32
   pub refuses_upward : (w : Wanted) (id : ℕ) → ends_kind w.source w.target ≡ object_types.END_POINTS_IPV6 →
       c.check (asked_of id w w.target []) parent_as ≡ Wrong (Some (vspt_flag, id)) errors.KIND_NOT_SERVED.0 errors.KIND_NOT_SERVED.1
-  -- a request to expand a key has the flag of one
+
+-- what came as octets has numbers that can be said back; a request to expand a key has the flag of one
+pub record SaysBack (c : Codec) : Type 0 where
+  pub checks : (bytes : Bytes) (a : Asked) (own : As) → AreOctets bytes → c.read bytes ≡ Some (messages.PcReq (a ∷ [])) → HasNumbers (c.check a own)
+  pub replies : (bytes : Bytes) (replies : List Reply) → AreOctets bytes → c.read bytes ≡ Some (messages.PcRep replies) → AllByRecursion (λ (r : Reply). AreWords (r.flags, r.id)) replies
+  pub hops : (bytes : Bytes) (replies : List Reply) → AreOctets bytes → c.read bytes ≡ Some (messages.PcRep replies) → AllByRecursion (λ (r : Reply). AreInRange r.answer) replies
+  pub openings : (bytes : Bytes) (reports : List ErrorReport) → AreOctets bytes → c.read bytes ≡ Some (messages.PcErr reports) → HasTimers (first_opening_of reports)
   pub expands : (a : Asked) (own : As) (r : Request) (key : ℕ) (pce : Addr) → c.check a own ≡ Admitted r → r.wish ≡ wishes.Expand key pce → bit_and r.flags rp_flags.PATH_KEY ≢ 0
-  -- what a request that was admitted is like
-  pub own : (a : Asked) (own : As) (flags x : ℕ) (w : Wanted) → Admits c a own flags x w →
-      (w.query.own ≡ own) × (w.query.cap ≤ COST_MAX) × ((w.sequence ≡ []) ⊎ ((rest : List As) × (w.sequence ≡ own ∷ rest) × IsSequence own rest))
+
+-- costs keep their value as words
+pub record KeepsCosts (c : Codec) : Type 0 where
   pub words : (n : ℕ) → n ≤ COST_MAX → IsWord (c.word n)
   pub costs : (n : ℕ) → n ≤ COST_MAX → c.units (c.word n) ≡ Some n
+
+-- What is written is read as what was meant, a request sent on asks for the same at the next element, and costs keep their
+-- value.
+pub record IsCodec (c : Codec) : Type 0 where
+  pub texts : ReadsTexts c
+  pub stream : CutsStreams c
+  pub onward : AdmitsOnward c
+  pub numbers : SaysBack c
+  pub costs : KeepsCosts c
 
 -- the parent stays with IPv4
 pub record IsIpv4Link (l : Link) : Type 0 where

@@ -1,4 +1,5 @@
 -- The parent (RFC 6805, section 4.6): it asks its children, one request for each end of interest, and joins what they answer.
+-- What each letter stands for is in docs/GLOSSARY.md, under Letters.
 use Rattle.std.specs.Prelude.{ℕ, Bool, true, false, not, cond, ◌==◌, List, [], ◌∷◌, ◌++◌, map, filter, Option, Some, None}
 use Rattle.dom_base.specs.declared.names.As.{As}
 use Rattle.dom_base.specs.declared.addr.Addr.{Addr}

@@ -1,4 +1,5 @@
 -- An element takes a message (RFC 5440, sections 6.4 to 6.7; RFC 5441, section 5).
+-- What each letter stands for is in docs/GLOSSARY.md, under Letters.
 use Rattle.std.specs.Prelude.{ℕ, Bool, false, cond, ◌==◌, List, [], ◌∷◌, Option, Some, None}
 use Rattle.dom_base.specs.declared.names.As.{As}
 use Rattle.dom_base.specs.declared.addr.Addr.{Addr}

@@ -156,7 +156,7 @@ module _ (c : Codec) (codec : IsCodec c) (n : NetworkParts) (now : Transcript) (
   pub next_admits : (d b : As) (a : Asked) (flags x : ℕ) (w : Wanted) → Admits c a d flags x w → (rest : List As) → sequence_or d w.sequence ≡ d ∷ b ∷ rest → (id : ℕ) → 1 ≤ id → id < 2 ^ 32 →
       Admits c (asked_of id w w.target (b ∷ rest)) b vspt_flag id (on_wanted w b rest)
   next_admits d b a flags x w admits rest is id some fits =
-      codec.admits a d flags x w admits id w.target b rest some fits (later_sequence d b rest (along_sequence d b rest w.sequence (codec.own a d flags x w admits).2 is))
+      codec.onward.admits a d flags x w admits id w.target b rest some fits (later_sequence d b rest (along_sequence d b rest w.sequence (codec.onward.own a d flags x w admits).2 is))
 
   -- what an element, other than the parent, sent to another: along a sequence
   pub record IsAlong (d b : As) (a : Asked) (put : Transcript) : Type 0 where

@@ -135,7 +135,7 @@ module _ (c : Codec) (codec : IsCodec c) (n : NetworkParts) (now : Transcript) (
     pub record FromParent (m older : Transcript) : Type 0 where
       pub found : Option Found
       pub via : IsViaParent c n older m d p r.id found
-      pub shows : FoundTells c via.asked found r.answer
+      pub shows : FoundTells c via.asks.asked found r.answer
 
     pub client_answered : (m older : Transcript) → is_client (class_of n p) ≡ true → RepliesAlone now m older d p r → IsOfSolve m older ⊎ FromParent m older
     client_answered m older client replies =
@@ -194,7 +194,7 @@ module _ (c : Codec) (codec : IsCodec c) (n : NetworkParts) (now : Transcript) (
         | inl x ↦ inr (by_opens x x.opens)
       ]
     where
-      by_found : (found : Option Found) (via : IsViaParent c n older m d (Outside i) r.id found) → FoundTells c via.asked found r.answer → IsOfParent c n older m d i r paths
+      by_found : (found : Option Found) (via : IsViaParent c n older m d (Outside i) r.id found) → FoundTells c via.asks.asked found r.answer → IsOfParent c n older m d i r paths
       by_found None via shows = absurd (apart (ap has_paths (sym is ∙ shows)))
       by_found (Some a) via shows = record { found = a; via = via; one = ap (paths_in []) (sym is ∙ shows) }
 
@@ -224,7 +224,7 @@ module _ (c : Codec) (codec : IsCodec c) (n : NetworkParts) (now : Transcript) (
         | inl x ↦ inr (by_opens x x.opens)
       ]
     where
-      by_found : (found : Option Found) (via : IsViaParent c n older m d (Outside i) r.id found) → FoundTells c via.asked found r.answer → IsViaParent c n older m d (Outside i) r.id None
+      by_found : (found : Option Found) (via : IsViaParent c n older m d (Outside i) r.id found) → FoundTells c via.asks.asked found r.answer → IsViaParent c n older m d (Outside i) r.id None
       by_found None via shows = via
       by_found (Some a) via shows = absurd (apart (sym (ap has_paths (sym is ∙ shows))))
 

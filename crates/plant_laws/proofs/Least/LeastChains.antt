@@ -196,10 +196,10 @@ module _ (c : Codec) (codec : IsCodec c) (n : NetworkParts) (now : Transcript) (
     one = leg d k os keys older at
 
     query_own : w.query.own ≡ d
-    query_own = (codec.own taken_asked.0 d x.taken.request.flags x.taken.request.id w taken_admits).0
+    query_own = (codec.onward.own taken_asked.0 d x.taken.request.flags x.taken.request.id w taken_admits).0
 
     small : w.query.cap ≤ COST_MAX
-    small = (codec.own taken_asked.0 d x.taken.request.flags x.taken.request.id w taken_admits).1
+    small = (codec.onward.own taken_asked.0 d x.taken.request.flags x.taken.request.id w taken_admits).1
 
     here : (pinned d at).own ≡ d
     here = given.owns d at (within_trans at older now at_within before)
@@ -419,7 +419,7 @@ module _ (c : Codec) (codec : IsCodec c) (n : NetworkParts) (now : Transcript) (
   by_sequence d real k os keys older before x ih =
       let asked = taken_asked d real k os keys older before x in
       let admits = taken_admits d real k os keys older before x in
-      let sequence = (codec.own asked.0 d x.taken.request.flags x.taken.request.id x.held.item.wanted admits).2 in
+      let sequence = (codec.onward.own asked.0 d x.taken.request.flags x.taken.request.id x.held.item.wanted admits).2 in
       elim (own_sequence d x.held.item.wanted.sequence sequence) [
         | inl short ↦ chained_end d real k os keys older before x short
         | inr long ↦

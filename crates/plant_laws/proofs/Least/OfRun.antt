@@ -195,7 +195,7 @@ module _ (c : Codec) (codec : IsCodec c) (n : NetworkParts) (net : IsNetwork n) 
         carried_requests = λ d b asks os older w. (let r = readings.queues b d (messages.PcReq asks) os older w in record { before = r.before; is = r.is_popped; put = r.put; rest = r.rest; stood = r.stood });
         ids = element_ids_differ c codec n es s run written short;
         ranged = taken_range c codec n now (outside_is_read c codec n es s run);
-        expands = codec.expands;
+        expands = codec.numbers.expands;
         inside = inside;
         replied_above = above;
         solved_above = λ k os keys older w. (moments parent_as k os keys older w).1 refl;

@@ -110,7 +110,7 @@ module _ (c : Codec) (codec : IsCodec c) (n : NetworkParts) (chain : List Visit)
       let small : cost_of e path p ≤ COST_MAX = omega (arith, within, cap) in
       let head = shown_head n w.query end chain e path.hops p.legs p.last p.shown in
       subst (λ (m : Option (ℕ × ℕ)). branch_of c w.query.metric path.hops m ≡ record { entry = e; cost = cost_of e path p; hops = path.hops } ∷ []) (sym p.metric)
-      (branch_made c w.query.metric (cost_of e path p) (codec.costs (cost_of e path p) small) small e path.hops head.0 head.1)
+      (branch_made c w.query.metric (cost_of e path p) (codec.costs.costs (cost_of e path p) small) small e path.hops head.0 head.1)
 
   -- a branch that was read is one of the paths
   pub record FromPath (paths : List Path) (b : Branch) : Type 0 where

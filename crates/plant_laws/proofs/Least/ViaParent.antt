@@ -89,9 +89,9 @@ upward_admits : (c : Codec) → IsCodec c → (first : Asked) (d : As) (flags x 
 upward_admits c codec first d flags x w admits id some fits a is r admitted =
     let four : ends_kind w.source w.target ≡ 1 = elim (ends_are w.source w.target) [
       | inl four ↦ four
-      | inr six ↦ absurd (let clash : Admitted r ≡ Wrong (Some (vspt_flag, id)) 4 2 = sym admitted ∙ ap (λ (z : Asked). c.check z parent_as) is ∙ codec.refuses_upward w id six in cc)
+      | inr six ↦ absurd (let clash : Admitted r ≡ Wrong (Some (vspt_flag, id)) 4 2 = sym admitted ∙ ap (λ (z : Asked). c.check z parent_as) is ∙ codec.onward.refuses_upward w id six in cc)
     ] in
-    subst (λ (z : Asked). Admits c z parent_as vspt_flag id (upward w)) (sym is) (codec.admits_upward first d flags x w admits four id some fits)
+    subst (λ (z : Asked). Admits c z parent_as vspt_flag id (upward w)) (sym is) (codec.onward.admits_upward first d flags x w admits four id some fits)
 
 module _ (c : Codec) (codec : IsCodec c) (n : NetworkParts) (now : Transcript) (given : Premises c n now) where
   -- what an element sent to the parent
@@ -101,7 +101,7 @@ module _ (c : Codec) (codec : IsCodec c) (n : NetworkParts) (now : Transcript) (
 
   pub sent_up : (d : As) → d ≢ parent_as → (a : Asked) (r : Request) → c.check a parent_as ≡ Admitted r → (at : Transcript) (f : IsFrom c codec n now given d parent_as a at) → IsUpward d a f.asked.id f.asked.wanted
   sent_up d real a r admitted at f = elim f.asked.sends [
-    | inl on ↦ absurd (real_next d parent_as on.0 (along_sequence d parent_as on.0 f.asked.wanted.sequence (codec.own f.asked.taken d f.asked.flags f.asked.x f.asked.wanted f.asked.admits).2 on.1) refl)
+    | inl on ↦ absurd (real_next d parent_as on.0 (along_sequence d parent_as on.0 f.asked.wanted.sequence (codec.onward.own f.asked.taken d f.asked.flags f.asked.x f.asked.wanted f.asked.admits).2 on.1) refl)
     | inr up ↦
         let is = same_first a (asked_of f.asked.id f.asked.wanted f.asked.wanted.target []) [] [] up.1 in
         record {
@@ -114,7 +114,7 @@ module _ (c : Codec) (codec : IsCodec c) (n : NetworkParts) (now : Transcript) (
     pub record IsPassedOn : Type 0 where
       pub found : Option Found
       pub via : IsViaParent c n older (e ∷ older) d p r.id found
-      pub shows : FoundTells c via.asked found r.answer
+      pub shows : FoundTells c via.asks.asked found r.answer
 
     abbrev at : Transcript
     at = q.taken.at
@@ -166,31 +166,37 @@ module _ (c : Codec) (codec : IsCodec c) (n : NetworkParts) (now : Transcript) (
       passed = record {
         found = y.answer;
         via = record {
-          at = at;
-          is_open =
-              subst (λ (i : ℕ). opened c d p i older ≡ Some at) (sym q.id)
-              (subst (λ (z : Peer). opened c d z q.held.key.id older ≡ Some at) (sym q.to) q.taken.is_open);
-          request = q.taken.request;
-          wanted = q.held.item.wanted;
-          delivered = subst (λ (z : Peer). Delivered c at d z q.taken.request) (sym q.to) q.taken.delivered;
-          is_path = q.taken.wanted;
-          goes = subst (λ (z : Class). goes_up (place n d).parent z q.held.item.wanted.sequence ≡ true) (q.taken.class ∙ ap (class_of n) (sym q.to)) q.goes;
-          asking = y.taken.at;
-          handed = handed.0;
-          upper = y.taken.request;
-          asked = y.held.item.wanted;
-          taken = delivered;
-          is_asked = y.taken.wanted;
-          question = handed.1;
-          job = job_of (family n) (k, y.held);
-          start = ap start_of says.0;
-          source = refl;
-          target = refl;
-          query = refl;
-          links = refl;
-          each = λ row h. gathered_later c older' (e ∷ older) y.taken.at y.held.item.wanted row (inr older'_older) (y.each row h);
-          every = λ end h. replied_later c older' (e ∷ older) y.taken.at y.held.item.wanted y.held.item.rows end (inr older'_older) (y.every end h);
-          solved = y.solves;
+          up = record {
+            at = at;
+            is_open =
+                subst (λ (i : ℕ). opened c d p i older ≡ Some at) (sym q.id)
+                (subst (λ (z : Peer). opened c d z q.held.key.id older ≡ Some at) (sym q.to) q.taken.is_open);
+            request = q.taken.request;
+            wanted = q.held.item.wanted;
+            delivered = subst (λ (z : Peer). Delivered c at d z q.taken.request) (sym q.to) q.taken.delivered;
+            is_path = q.taken.wanted;
+            goes = subst (λ (z : Class). goes_up (place n d).parent z q.held.item.wanted.sequence ≡ true) (q.taken.class ∙ ap (class_of n) (sym q.to)) q.goes;
+            asking = y.taken.at;
+            handed = handed.0;
+          };
+          asks = record {
+            upper = y.taken.request;
+            asked = y.held.item.wanted;
+            taken = delivered;
+            is_asked = y.taken.wanted;
+            question = handed.1;
+          };
+          finds = record {
+            job = job_of (family n) (k, y.held);
+            start = ap start_of says.0;
+            source = refl;
+            target = refl;
+            query = refl;
+            links = refl;
+            each = λ row h. gathered_later c older' (e ∷ older) y.taken.at y.held.item.wanted row (inr older'_older) (y.each row h);
+            every = λ end h. replied_later c older' (e ∷ older) y.taken.at y.held.item.wanted y.held.item.rows end (inr older'_older) (y.every end h);
+            solved = y.solves;
+          };
         };
         shows = subst (λ (z : Answer). FoundTells c y.held.item.wanted y.answer z) (sym q.answer) says.2;
       }

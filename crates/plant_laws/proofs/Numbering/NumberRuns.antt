@@ -120,7 +120,7 @@ sequence_tail first b rest is = record { few = let few = is.few in omega (arith,
 goes_known : (c : Codec) → IsCodec c → (own' : As) (routes : List Route) (a : Asked) (flags x : ℕ) (w : Wanted) → Admits c a own' flags x w → Goes Pin Segment (IsKnown c) own' routes w
 goes_known c codec own' routes a flags x w admits = (
   (a, own', flags, x, admits, refl, inl (refl, refl)),
-  λ first b rest is. (a, own', flags, x, admits, refl, inr (b, rest, refl, toward_leads b routes, along first b rest is (codec.own a own' flags x w admits).2)),
+  λ first b rest is. (a, own', flags, x, admits, refl, inr (b, rest, refl, toward_leads b routes, along first b rest is (codec.onward.own a own' flags x w admits).2)),
 )
   where
     along : (first b : As) (rest : List As) → sequence_or own' w.sequence ≡ first ∷ b ∷ rest → (w.sequence ≡ []) ⊎ ((more : List As) × (w.sequence ≡ own' ∷ more) × IsSequence own' more) → IsSequence b rest

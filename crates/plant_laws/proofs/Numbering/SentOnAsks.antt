@@ -62,7 +62,7 @@ ask_along c codec a own flags x w is y t next rest some fits sequence = record {
   sent = w;
   end = t;
   is = refl;
-  met = admitted vspt_flag _ (codec.admits a own flags x w is y t next rest some (omega (arith, fits)) sequence) (λ real. (refl, (rest, refl)));
+  met = admitted vspt_flag _ (codec.onward.admits a own flags x w is y t next rest some (omega (arith, fits)) sequence) (λ real. (refl, (rest, refl)));
 }
 
 -- the type of END-POINTS is 1 or 2
@@ -77,8 +77,8 @@ ask_upward c codec a own flags x w is y some fits = record {
   end = w.target;
   is = refl;
   met = elim (ends_are w.source w.target) [
-    | inl four ↦ admitted vspt_flag _ (codec.admits_upward a own flags x w is four y some (omega (arith, fits))) (λ real. absurd (let out : true ≡ false = real in cc))
-    | inr six ↦ refused vspt_flag refl (codec.refuses_upward w y six)
+    | inl four ↦ admitted vspt_flag _ (codec.onward.admits_upward a own flags x w is four y some (omega (arith, fits))) (λ real. absurd (let out : true ≡ false = real in cc))
+    | inr six ↦ refused vspt_flag refl (codec.onward.refuses_upward w y six)
   ];
 }
 
@@ -100,7 +100,7 @@ goes_asks c codec a own routes flags x w is to rest (inl up) z there y some fits
 goes_asks c codec a own routes flags x w is to rest (inr on) z there y some fits =
     let at : z ≡ on.1 = toward_inner on.1 z routes (sym there ∙ on.3) in
     subst (λ (d : As). Asks c (request_message y w w.target rest) d y rest) (sym at)
-    (subst (λ (l : List As). Asks c (request_message y w w.target l) on.1 y l) (sym on.4) (ask_along c codec a own flags x w is y w.target on.1 on.2 some fits (sequence (codec.own a own flags x w is).2)))
+    (subst (λ (l : List As). Asks c (request_message y w w.target l) on.1 y l) (sym on.4) (ask_along c codec a own flags x w is y w.target on.1 on.2 some fits (sequence (codec.onward.own a own flags x w is).2)))
   where
     sequence : (w.sequence ≡ []) ⊎ ((rest' : List As) × (w.sequence ≡ own ∷ rest') × IsSequence own rest') → IsSequence on.1 on.2
     sequence (inl none) = absurd (let out : on.0 ∷ on.1 ∷ on.2 ≡ [] = sym on.5 ∙ none in cc)

@@ -205,8 +205,8 @@ module _ (c : Codec) (codec : IsCodec c) (n : NetworkParts) where
       (tt, fall_alone x.upper (Inner x.lower) f ds (fall_alone x.lower (Inner x.upper) g ds all))
 
   read_alone : (bytes : Bytes) (m : Message) → c.read bytes ≡ Some m → IsSplit c bytes → IsAlone m
-  read_alone bytes (messages.PcReq asks) read split = codec.splits split.0 bytes asks split.1 read
-  read_alone bytes (messages.PcRep replies) read split = codec.splits_replies split.0 bytes replies split.1 read
+  read_alone bytes (messages.PcReq asks) read split = codec.stream.splits split.0 bytes asks split.1 read
+  read_alone bytes (messages.PcRep replies) read split = codec.stream.splits_replies split.0 bytes replies split.1 read
   read_alone bytes (messages.PcNtf notices) read split = tt
   read_alone bytes (messages.PcErr reports) read split = tt
   read_alone bytes (messages.Open body) read split = tt

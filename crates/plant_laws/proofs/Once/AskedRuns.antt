@@ -134,7 +134,7 @@ module _ (c : Codec) (codec : IsCodec c) (n : NetworkParts) (es : List Entry) (s
         id = f.id;
         some = omega (arith, at);
         fits = omega (arith, last, le, most);
-        sends = elim (goes d b (place n d).routes f.wanted (codec.own f.taken d f.flags f.x f.wanted f.admits).2 f.rest (subst (λ (p : Peer). GoesTo Pin Segment (place n d).routes f.wanted p f.rest) (sym to) f.goes)) [
+        sends = elim (goes d b (place n d).routes f.wanted (codec.onward.own f.taken d f.flags f.x f.wanted f.admits).2 f.rest (subst (λ (p : Peer). GoesTo Pin Segment (place n d).routes f.wanted p f.rest) (sym to) f.goes)) [
           | inl on ↦ inl (on.0, on.1, lists ∙ ap (λ (l : List As). asked_of f.id f.wanted f.wanted.target l ∷ []) on.2)
           | inr up ↦ inr (up.0, lists ∙ ap (λ (l : List As). asked_of f.id f.wanted f.wanted.target l ∷ []) up.1)
         ];

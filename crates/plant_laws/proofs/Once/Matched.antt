@@ -171,12 +171,12 @@ known_id c codec b id w t rest k some fits r admitted = go k.6
         let checks : Admitted r ≡ c.check (asked_of id w w.target []) parent_as =
         sym admitted ∙ ap (λ (z : Addr). c.check (asked_of id w z rest) b) k.5 ∙ ap (λ (z : List As). c.check (asked_of id w w.target z) b) up.0 ∙ ap (λ (z : As). c.check (asked_of id w w.target []) z) is in
         elim (ends_are w.source w.target) [
-          | inl four ↦ ap (λ (z : Checked). id_in z) (checks ∙ codec.admits_upward k.0 k.1 k.2 k.3 w k.4 four id some fits)
-          | inr six ↦ absurd (let clash : Admitted r ≡ Wrong (Some (vspt_flag, id)) 4 2 = checks ∙ codec.refuses_upward w id six in cc)
+          | inl four ↦ ap (λ (z : Checked). id_in z) (checks ∙ codec.onward.admits_upward k.0 k.1 k.2 k.3 w k.4 four id some fits)
+          | inr six ↦ absurd (let clash : Admitted r ≡ Wrong (Some (vspt_flag, id)) 4 2 = checks ∙ codec.onward.refuses_upward w id six in cc)
         ]
     go (inr on) =
         let is : b ≡ on.0 = (let e : Inner b ≡ Inner on.0 = on.3 in cc) in
-        let then = codec.admits k.0 k.1 k.2 k.3 w k.4 id t on.0 on.1 some fits on.4 in
+        let then = codec.onward.admits k.0 k.1 k.2 k.3 w k.4 id t on.0 on.1 some fits on.4 in
         ap (λ (z : Checked). id_in z) (sym admitted ∙ ap (λ (z : List As). c.check (asked_of id w t z) b) on.2 ∙ ap (λ (z : As). c.check (asked_of id w t (on.0 ∷ on.1)) z) is ∙ then)
 
 module _ (c : Codec) (codec : IsCodec c) (a b : As) (now : Transcript) (numbers : AreNumbered c a now) (short : IsShort now) (read : AreRead now) where

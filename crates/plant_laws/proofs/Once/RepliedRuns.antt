@@ -69,7 +69,7 @@ module _ (c : Codec) (codec : IsCodec c) (n : NetworkParts) (es : List Entry) (s
       let v = x.row.1.item.wanted in
       let asked = admitted_at c x.taken_row.at d x.row.1.key.peer x.taken_row.request x.taken_row.delivered in
       let admits = admits_path c asked.0 d x.taken_row.request v asked.1 x.taken_row.wanted in
-      let sequence = (codec.own asked.0 d x.taken_row.request.flags x.taken_row.request.id v admits).2 in
+      let sequence = (codec.onward.own asked.0 d x.taken_row.request.flags x.taken_row.request.id v admits).2 in
       let up = goes_up (place n d).parent (class_of n x.row.1.key.peer) v.sequence in
       elim (cases_Bool up) [
         | inl goes ↦

@@ -123,8 +123,8 @@ module _ (c : Codec) (codec : IsCodec c) (n : NetworkParts) (net : IsNetwork n) 
   by_element' a at real x put within sent rp kind value is = elim asked.sends [
     | inl on ↦
         let same = same_first x (asked_of asked.id asked.wanted asked.wanted.target (at ∷ on.0)) [] [] on.2 in
-        let sequence = later_sequence a at on.0 (along_sequence a at on.0 asked.wanted.sequence (codec.own asked.taken a asked.flags asked.x asked.wanted asked.admits).2 on.1) in
-        let admits = codec.admits asked.taken a asked.flags asked.x asked.wanted asked.admits asked.id asked.wanted.target at on.0 asked.some asked.fits sequence in
+        let sequence = later_sequence a at on.0 (along_sequence a at on.0 asked.wanted.sequence (codec.onward.own asked.taken a asked.flags asked.x asked.wanted asked.admits).2 on.1) in
+        let admits = codec.onward.admits asked.taken a asked.flags asked.x asked.wanted asked.admits asked.id asked.wanted.target at on.0 asked.some asked.fits sequence in
         not_wrong rp kind value _ (sym is ∙ ap (λ (z : Asked). c.check z at) same ∙ admits)
     | inr up ↦ upward up.0 (same_first x (asked_of asked.id asked.wanted asked.wanted.target []) [] [] up.1)
   ]
@@ -136,14 +136,14 @@ module _ (c : Codec) (codec : IsCodec c) (n : NetworkParts) (net : IsNetwork n) 
       upward up same =
           let there : c.check (asked_of asked.id asked.wanted asked.wanted.target []) parent_as ≡ Wrong rp kind value = ap (λ (z : As). c.check (asked_of asked.id asked.wanted asked.wanted.target []) z) (sym up) ∙ ap (λ (z : Asked). c.check z at) (sym same) ∙ is in
           elim (ends_are asked.wanted.source asked.wanted.target) [
-            | inl four ↦ not_wrong rp kind value _ (sym there ∙ codec.admits_upward asked.taken a asked.flags asked.x asked.wanted asked.admits four asked.id asked.some asked.fits)
+            | inl four ↦ not_wrong rp kind value _ (sym there ∙ codec.onward.admits_upward asked.taken a asked.flags asked.x asked.wanted asked.admits four asked.id asked.some asked.fits)
             | inr six ↦ record {
               above = up;
               id = asked.id;
               wanted = asked.wanted;
               asked = same;
               ipv6 = six;
-              said = wrong_said rp (Some (vspt_flag, asked.id)) kind errors.KIND_NOT_SERVED.0 value errors.KIND_NOT_SERVED.1 (sym there ∙ codec.refuses_upward asked.wanted asked.id six);
+              said = wrong_said rp (Some (vspt_flag, asked.id)) kind errors.KIND_NOT_SERVED.0 value errors.KIND_NOT_SERVED.1 (sym there ∙ codec.onward.refuses_upward asked.wanted asked.id six);
             }
           ]
 

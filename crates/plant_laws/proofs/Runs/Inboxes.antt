@@ -356,7 +356,7 @@ module _ (P : Type 0) (S : Type 0) (c : Codec) (n : NetworkParts) (show : S → 
           read_back (Some x) m e = cc
 
           single : (m : Message) → c.read bytes ≡ Some m → IsSingle m
-          single (messages.PcReq as') read = codec.splits piece.0 bytes as' (contains bytes (c.split piece.0) piece.1) read
+          single (messages.PcReq as') read = codec.stream.splits piece.0 bytes as' (contains bytes (c.split piece.0) piece.1) read
           single (messages.PcRep replies) read = tt
           single (messages.PcNtf notices) read = tt
           single (messages.PcErr reports) read = tt

@@ -282,7 +282,7 @@ module _ (P : Type 0) (S : Type 0) (c : Codec) (codec : IsCodec c) (n : NetworkP
 
   split_items : (fs : List Bytes) → AreAllBytes fs → AreItems (events.split_all c fs)
   split_items [] h = tt
-  split_items (f ∷ fs) h = items_append (map Some (c.split f)) (events.split_all c fs) (some_items (c.split f) (λ b k. codec.splits_bytes f b h.0 k)) (split_items fs h.1)
+  split_items (f ∷ fs) h = items_append (map Some (c.split f)) (events.split_all c fs) (some_items (c.split f) (λ b k. codec.stream.splits_bytes f b h.0 k)) (split_items fs h.1)
 
   bad_items : (b : Bool) → AreItems (events.bad_item b)
   bad_items true = tt
@@ -291,7 +291,7 @@ module _ (P : Type 0) (S : Type 0) (c : Codec) (codec : IsCodec c) (n : NetworkP
   fed_holds : (i : ℕ) (bytes : Bytes) (x : Connection) → AreOctets bytes → HoldsBytes n i (Some x) → HoldsBytes n i (Some (events.fed c bytes x))
   fed_holds i bytes x is h =
       let f = c.feed x.framing bytes in
-      let fed = frames_bytes x.framing.bad x.framing f.framing bytes f.frames (codec.frames x.framing bytes) h.0 is in (
+      let fed = frames_bytes x.framing.bad x.framing f.framing bytes f.frames (codec.stream.frames x.framing bytes) h.0 is in (
         fed.1,
         items_append (x.inbox ++ events.split_all c f.frames) (events.bad_item f.framing.bad)
             (items_append x.inbox (events.split_all c f.frames) h.1 (split_items f.frames fed.0)) (bad_items f.framing.bad),

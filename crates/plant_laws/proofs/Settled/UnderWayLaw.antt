@@ -117,7 +117,7 @@ module _ (c : Codec) (n : NetworkParts) (codec : IsCodec c) (ds : Transcript) (s
   was_admitted : (at : Transcript) (d : As) (p : Peer) (r : Request) (w : Wanted) → Delivered c at d p r → r.wish ≡ Path w → (w.sequence ≡ []) ⊎ ((rest : List As) × (w.sequence ≡ d ∷ rest) × IsSequence d rest)
   was_admitted [] d p r w delivered is = absurd delivered
   was_admitted (e ∷ older) d p r w delivered is =
-      (codec.own delivered.0 d r.flags r.id w (delivered.3 ∙ ap (λ (x : Wish). Admitted (record { flags = r.flags; id = r.id; wish = x })) is)).2
+      (codec.onward.own delivered.0 d r.flags r.id w (delivered.3 ∙ ap (λ (x : Wish). Admitted (record { flags = r.flags; id = r.id; wish = x })) is)).2
 
   -- a row that goes on along its sequence
   goes_along : (d : As) (own next : As) (more : List As) (w : Wanted) (b : Bool) (l : List As) → (w.sequence ≡ []) ⊎ ((rest : List As) × (w.sequence ≡ d ∷ rest) × IsSequence d rest) → l ≡ cond b [] (sequence_or d w.sequence) → l ≡ own ∷ next ∷ more →

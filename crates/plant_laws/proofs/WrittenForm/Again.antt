@@ -31,7 +31,7 @@ put_read c codec b [] h = tt
 put_read c codec b (o ∷ os) h = go (same_peer o.to (Inner b)) (put_read c codec b os h.1)
   where
     go : (t : Bool) → EachRead c (put_into b os) → EachRead c (cond t (o.message ∷ put_into b os) (put_into b os))
-    go true rec = (codec.reads o.message h.0, rec)
+    go true rec = (codec.texts.reads o.message h.0, rec)
     go false rec = rec
 
 cond_read : (c : Codec) → IsCodec c → (b : As) (t : Bool) (os : List Output) → AreAll IsWritten os → EachRead c (put_into b (cond t os []))

@@ -121,13 +121,13 @@ commit_down c h (Some a) k = (tt, tt)
 
 asks_known : (c : Codec) → IsCodec c → (own : As) (bytes : Bytes) (asks : List Asked) → AreOctets bytes → c.read bytes ≡ Some (messages.PcReq asks) → length asks ≡ 1 → AllByRecursion (IsKnown c own) asks
 asks_known c codec own bytes [] octets read one = absurd (let none : 0 ≡ 1 = one in omega (arith, none))
-asks_known c codec own bytes (a ∷ []) octets read one = (record { numbers = codec.checks bytes a own octets read; sends = λ flags x w admits. codec.sends bytes a own flags x w octets read admits }, tt)
+asks_known c codec own bytes (a ∷ []) octets read one = (record { numbers = codec.numbers.checks bytes a own octets read; sends = λ flags x w admits. codec.onward.sends bytes a own flags x w octets read admits }, tt)
 asks_known c codec own bytes (a ∷ b ∷ rest) octets read one = absurd (omega (arith, one))
 
 asks_above : (c : Codec) → IsCodec c → (bytes : Bytes) (asks : List Asked) → AreOctets bytes → c.read bytes ≡ Some (messages.PcReq asks) → length asks ≡ 1 → AllByRecursion (IsKnownAbove c) asks
 asks_above c codec bytes [] octets read one = absurd (let none : 0 ≡ 1 = one in omega (arith, none))
 asks_above c codec bytes (a ∷ []) octets read one =
-    ((record { numbers = codec.checks bytes a parent_as octets read; sends = λ flags x w admits. codec.sends bytes a parent_as flags x w octets read admits }, λ flags x w admits. codec.admits_ipv4 bytes a flags x w octets read admits), tt)
+    ((record { numbers = codec.numbers.checks bytes a parent_as octets read; sends = λ flags x w admits. codec.onward.sends bytes a parent_as flags x w octets read admits }, λ flags x w admits. codec.onward.admits_ipv4 bytes a flags x w octets read admits), tt)
 asks_above c codec bytes (a ∷ b ∷ rest) octets read one = absurd (omega (arith, one))
 
 -- a message of requests has one, and so has one of replies
@@ -152,7 +152,7 @@ module _ (c : Codec) (codec : IsCodec c) (bytes : Bytes) (octets : AreOctets byt
 
   outside_known : (own : As) (i : ℕ) (m : Message) → c.read bytes ≡ Some m → IsSingle m → Known c own (Outside i) m
   outside_known own i (messages.PcReq asks) read one = asks_known c codec own bytes asks octets read one
-  outside_known own i (messages.PcRep replies) read one = outside_replies i replies (codec.replies bytes replies octets read)
+  outside_known own i (messages.PcRep replies) read one = outside_replies i replies (codec.numbers.replies bytes replies octets read)
   outside_known own i (messages.PcNtf notices) read one = tt
   outside_known own i (messages.PcErr reports) read one = tt
   outside_known own i (messages.Open body) read one = tt
@@ -166,7 +166,7 @@ module _ (c : Codec) (codec : IsCodec c) (bytes : Bytes) (octets : AreOctets byt
       where
         go : (raw' : Message) → c.read bytes ≡ Some raw' → IsSingle (heeded_in c sent raw') → Known c own (Outside i) (heeded_in c sent raw')
         go (messages.PcReq asks) read' one' = outside_known own i (messages.PcReq asks) read' one'
-        go (messages.PcRep replies) read' one' = outside_replies i (map (λ (r : Reply). heeded_by c (sent r.id) r) replies) (heeded_words c sent replies (codec.replies bytes replies octets read'))
+        go (messages.PcRep replies) read' one' = outside_replies i (map (λ (r : Reply). heeded_by c (sent r.id) r) replies) (heeded_words c sent replies (codec.numbers.replies bytes replies octets read'))
         go (messages.PcNtf notices) read' one' = tt
         go (messages.PcErr reports) read' one' = tt
         go (messages.Open body) read' one' = tt
@@ -177,7 +177,7 @@ module _ (c : Codec) (codec : IsCodec c) (bytes : Bytes) (octets : AreOctets byt
   inner_known : (own : As) (p : Peer) (m : Message) → c.read bytes ≡ Some m → IsAlone m → IsWritten m → Known c own p m
   inner_known own p (messages.PcReq asks) read one written = asks_known c codec own bytes asks octets read one
   inner_known own p (messages.PcRep []) read one written = tt
-  inner_known own p (messages.PcRep (r ∷ [])) read one written = (((codec.replies bytes (r ∷ []) octets read).0, λ e. written), tt)
+  inner_known own p (messages.PcRep (r ∷ [])) read one written = (((codec.numbers.replies bytes (r ∷ []) octets read).0, λ e. written), tt)
   inner_known own p (messages.PcRep (r ∷ q ∷ rs)) read one written = absurd (omega (arith, one))
   inner_known own p (messages.PcNtf notices) read one written = tt
   inner_known own p (messages.PcErr reports) read one written = tt
@@ -188,7 +188,7 @@ module _ (c : Codec) (codec : IsCodec c) (bytes : Bytes) (octets : AreOctets byt
 
   above_known : (m : Message) → c.read bytes ≡ Some m → IsSingle m → KnownAbove c m
   above_known (messages.PcReq asks) read one = asks_above c codec bytes asks octets read one
-  above_known (messages.PcRep replies) read one = codec.replies bytes replies octets read
+  above_known (messages.PcRep replies) read one = codec.numbers.replies bytes replies octets read
   above_known (messages.PcNtf notices) read one = tt
   above_known (messages.PcErr reports) read one = tt
   above_known (messages.Open body) read one = tt
@@ -202,7 +202,7 @@ module _ (c : Codec) (codec : IsCodec c) (bytes : Bytes) (octets : AreOctets byt
     where
       go : (raw' : Message) → c.read bytes ≡ Some raw' → IsSingle (heeded_in c sent raw') → KnownAbove c (heeded_in c sent raw')
       go (messages.PcReq asks) read' one' = above_known c codec bytes octets (messages.PcReq asks) read' one'
-      go (messages.PcRep replies) read' one' = heeded_words c sent replies (codec.replies bytes replies octets read')
+      go (messages.PcRep replies) read' one' = heeded_words c sent replies (codec.numbers.replies bytes replies octets read')
       go (messages.PcNtf notices) read' one' = tt
       go (messages.PcErr reports) read' one' = tt
       go (messages.Open body) read' one' = tt
@@ -339,9 +339,9 @@ module _ (c : Codec) (codec : IsCodec c) (n : NetworkParts) (net : IsNetwork n) 
           let same : bytes ≡ c.text x.message = cc in
           let inside : In x (standing a b ds) = subst (λ (l : List Standing). In x l) (sym e) (inl refl) in
           let written : IsWritten x.message = standing_sent IsWritten a b ds x sent inside in
-          let some : Some m ≡ Some x.message = sym read ∙ ap (λ z. c.read z) same ∙ codec.reads x.message written in
+          let some : Some m ≡ Some x.message = sym read ∙ ap (λ z. c.read z) same ∙ codec.texts.reads x.message written in
           let meant : x.message ≡ m = cc in
-          (subst AreOctets (sym same) (codec.bytes x.message written), subst IsWritten meant written, subst IsAlone meant (standing_sent IsAlone a b ds x alone inside))
+          (subst AreOctets (sym same) (codec.texts.bytes x.message written), subst IsWritten meant written, subst IsAlone meant (standing_sent IsAlone a b ds x alone inside))
 
   act_fit : (ds : Transcript) (s t : Core) (es : Transcript) → I ds s → Acts Pin Segment c n open_of s es t → IfFit (es ++ ds) t
   act_fit ds s t es held (rests s' t' same) = λ prem. let b = held.fit prem in (b.0, fit_same s t same.elements same.parent b.1)

@@ -268,7 +268,7 @@ module _ (c : Codec) (codec : IsCodec c) (n : NetworkParts) (now : Transcript) (
       let asked = taken_asked c codec n now given d real k os keys now (within_here now) x in
       let admits = taken_admits c codec n now given d real k os keys now (within_here now) x in
       let w = x.held.item.wanted in
-      elim (own_sequence d w.sequence (codec.own asked.0 d x.taken.request.flags x.taken.request.id w admits).2) [
+      elim (own_sequence d w.sequence (codec.onward.own asked.0 d x.taken.request.flags x.taken.request.id w admits).2) [
         | inl short ↦
             let none : x.down ≡ [] = subst (λ (l : List As). IsServed c n now d x.taken.at w l x.down) (x.along ∙ short) x.served in
             subst (BranchesFit 900) (sym none) tt

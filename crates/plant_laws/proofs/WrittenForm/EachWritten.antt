@@ -101,7 +101,7 @@ module _ (c : Codec) (codec : IsCodec c) (n : NetworkParts) (net : IsNetwork n) 
           let both : bytes ∷ rest ≡ c.text x.message ∷ texts c (standing_texts.messages xs) = sym is ∙ stand a b ∙ ap (λ (l : List Standing). texts c (standing_texts.messages l)) e in
           let same : bytes ≡ c.text x.message = cc in
           let inside : In x (standing a b ds) = subst (λ (l : List Standing). In x l) (sym e) (inl refl) in
-          subst AreOctets (sym same) (codec.bytes x.message (standing_sent IsWritten a b ds x sent inside))
+          subst AreOctets (sym same) (codec.texts.bytes x.message (standing_sent IsWritten a b ds x sent inside))
 
   happens_kept : (ds : Transcript) (s : Plant) (e : Event) (h : Happened) → Happens c n s e h → Reading.Ok Pin Segment c codec n open_of s → Stand c n ds s → AllSent IsWritten ds → Fit s → SaysSend ds → Kept ds h
   happens_kept ds s (event.Load d g) h is ok stand sent fit says =

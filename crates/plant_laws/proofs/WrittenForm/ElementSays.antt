@@ -421,7 +421,7 @@ module _ (P : Type 0) (S : Type 0) (show : S → List Hop) (Seg : S → Type 0)
         goes r is v wish =
             let admits : Admits c a e.own r.flags r.id v = subst (λ (z : Wish). c.check a e.own ≡ Admitted (record { flags = r.flags; id = r.id; wish = z })) wish is in
             let known = g.sends r.flags r.id v admits in
-            let own = codec.own a e.own r.flags r.id v admits in
+            let own = codec.onward.own a e.own r.flags r.id v admits in
             ((known.0.source, known.0.target, own.1), goes_up_written r.flags r.id v known.0 known.1, goes_along e.own r.flags r.id v known.0 known.1 (few v own.2))
 
         new : (r : Request) → c.check a e.own ≡ Admitted r → (o : Option ℕ) → AreWords (r.flags, r.id) → Fine (taking.take_new show e pin p class now r k o)

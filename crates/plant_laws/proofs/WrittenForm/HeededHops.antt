@@ -64,7 +64,7 @@ all_heeded c sent (r ∷ rs) all = (heeded_range c (sent r.id) r all.0, all_heed
 read_range : (c : Codec) → IsCodec c → (bytes : Bytes) → AreOctets bytes → (raw : Message) → c.read bytes ≡ Some raw → (sent : ℕ → Option ℕ) (r : Reply) → messages.PcRep (r ∷ []) ≡ heeded_in c sent raw → AreInRange r.answer
 read_range c codec bytes octets (messages.PcRep replies) read sent r is =
     let same : r ∷ [] ≡ map (λ (x : Reply). heeded_by c (sent x.id) x) replies = cc in
-    (subst (λ (l : List Reply). AllByRecursion (λ (x : Reply). AreInRange x.answer) l) (sym same) (all_heeded c sent replies (codec.hops bytes replies octets read))).0
+    (subst (λ (l : List Reply). AllByRecursion (λ (x : Reply). AreInRange x.answer) l) (sym same) (all_heeded c sent replies (codec.numbers.hops bytes replies octets read))).0
 read_range c codec bytes octets (messages.PcReq asks) read sent r is = absurd (let out : messages.PcRep (r ∷ []) ≡ messages.PcReq asks = is in cc)
 read_range c codec bytes octets (messages.PcNtf notices) read sent r is = absurd (let out : messages.PcRep (r ∷ []) ≡ messages.PcNtf notices = is in cc)
 read_range c codec bytes octets (messages.PcErr reports) read sent r is = absurd (let out : messages.PcRep (r ∷ []) ≡ messages.PcErr reports = is in cc)

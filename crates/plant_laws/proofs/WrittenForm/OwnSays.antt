@@ -326,7 +326,7 @@ module _ (P : Type 0) (S : Type 0) (c : Codec) (codec : IsCodec c) (n : NetworkP
 
   -- a message of octets has timers of octets
   message_times : (bytes : Bytes) (m : Message) → AreOctets bytes → c.read bytes ≡ Some m → MessageTimes m
-  message_times bytes (messages.PcErr reports) octets read = codec.openings bytes reports octets read
+  message_times bytes (messages.PcErr reports) octets read = codec.numbers.openings bytes reports octets read
   message_times bytes (messages.PcReq asks) octets read = tt
   message_times bytes (messages.PcRep replies) octets read = tt
   message_times bytes (messages.PcNtf notices) octets read = tt

@@ -138,7 +138,7 @@ module _ (c : Codec) (codec : IsCodec c) (a : Asked) (flags x : ℕ) (w : Wanted
   one_asked : (child : As) (t : Addr) → IsNumber child → IsShort t → IsErrand c w (record { child = child; target = t })
   one_asked child t number is = (
     (λ id fits. can id t (child ∷ []) fits is.0 (ipv4 ∙ sym is.1) (omega arith) (All-cons (λ (a : As). a.0 < 2 ^ 16) child [] number.1 (All-nil (λ (a : As). a.0 < 2 ^ 16)))),
-    (λ id some fits. record { id = id; wanted = record w { target = t; query = query_in w.query child; sequence = child ∷ [] }; admits = codec.admits a parent_as flags x w admits id t child [] some fits (alone_sequence child number.0); alone = refl; real = number.0 }),
+    (λ id some fits. record { id = id; wanted = record w { target = t; query = query_in w.query child; sequence = child ∷ [] }; admits = codec.onward.admits a parent_as flags x w admits id t child [] some fits (alone_sequence child number.0); alone = refl; real = number.0 }),
   )
 
   to_child : (child : As) (ts : List Addr) → IsNumber child → AreShort ts → AreAsked c w (errands_to child ts)
@@ -283,7 +283,7 @@ module _ (c : Codec) (codec : IsCodec c) where
         asked r is v wish =
             let admits : Admits c a parent_as r.flags r.id v = subst (λ (z : Wish). c.check a parent_as ≡ Admitted (record { flags = r.flags; id = r.id; wish = z })) wish is in
             let known = g.0.sends r.flags r.id v admits in
-            ((known.0.source, known.0.target, (codec.own a parent_as r.flags r.id v admits).1), to_children c codec a r.flags r.id v admits known.0 known.1 (g.1 r.flags r.id v admits) f.links f.children fam.links fam.children)
+            ((known.0.source, known.0.target, (codec.onward.own a parent_as r.flags r.id v admits).1), to_children c codec a r.flags r.id v admits known.0 known.1 (g.1 r.flags r.id v admits) f.links f.children fam.links fam.children)
 
         new : (r : Request) → c.check a parent_as ≡ Admitted r → (o : Option ℕ) → AreWords (r.flags, r.id) → GivenFine (parent.take_new f p r k o)
         new r is None w = wish_fine r.flags r.id k r.wish (asked r is) w h

@@ -218,7 +218,7 @@ module _ (c : Codec) (n : NetworkParts) (codec : IsCodec c) where
           let both : bytes ∷ rest ≡ c.text x.message ∷ texts c (messages xs) = sym is ∙ stand a b ∙ ap (λ (l : List Standing). texts c (messages l)) e in
           let same : bytes ≡ c.text x.message = cc in
           let written : IsWritten x.message = standing_sent IsWritten a b ds x sent (subst (λ (l : List Standing). In x l) (sym e) (inl refl)) in
-          let some : Some m ≡ Some x.message = sym read ∙ ap (λ z. c.read z) same ∙ codec.reads x.message written in
+          let some : Some m ≡ Some x.message = sym read ∙ ap (λ z. c.read z) same ∙ codec.texts.reads x.message written in
           let meant : x.message ≡ m = cc in
           (refl, (x.put, xs, e ∙ ap (λ z. let y : Standing = record { message = z; put = x.put } in y ∷ xs) meant))
 

@@ -142,8 +142,8 @@ module _ (P : Type 0) (S : Type 0) where
     admitted_goes : (a : Asked) → CameAsOctets c (messages.PcReq (a ∷ [])) → (flags x : ℕ) (w : Wanted) → Admits c a e.own flags x w → GoesOn w
     admitted_goes a came flags x w admits =
         let octets = came a refl in
-        let known = codec.sends octets.0 a e.own flags x w octets.1 octets.2 admits in
-        (goes_up_written flags x w known.0 known.1, goes_along e.own flags x w known.0 known.1 (few (codec.own a e.own flags x w admits).2))
+        let known = codec.onward.sends octets.0 a e.own flags x w octets.1 octets.2 admits in
+        (goes_up_written flags x w known.0 known.1, goes_along e.own flags x w known.0 known.1 (few (codec.onward.own a e.own flags x w admits).2))
       where
         few : (w.sequence ≡ []) ⊎ ((rest : List As) × (w.sequence ≡ e.own ∷ rest) × IsSequence e.own rest) → length w.sequence ≤ 16
         few (inl none) = subst (λ (l : List As). length l ≤ 16) (sym none) (omega arith)
@@ -204,8 +204,8 @@ module _ (c : Codec) (codec : IsCodec c) (f : Family) (fam : IsFamily f) (p : Pe
       asked : (flags x : ℕ) (w : Wanted) → Admits c a parent_as flags x w → AreAsked c w (errands f.links w.target f.children)
       asked flags x w admits =
           let octets = came a refl in
-          let known = codec.sends octets.0 a parent_as flags x w octets.1 octets.2 admits in
-          to_children c codec a flags x w admits known.0 known.1 (codec.admits_ipv4 octets.0 a flags x w octets.1 octets.2 admits) f.links f.children fam.links fam.children
+          let known = codec.onward.sends octets.0 a parent_as flags x w octets.1 octets.2 admits in
+          to_children c codec a flags x w admits known.0 known.1 (codec.onward.admits_ipv4 octets.0 a flags x w octets.1 octets.2 admits) f.links f.children fam.links fam.children
 
       new : (r : Request) → c.check a parent_as ≡ Admitted r → (o : Option ℕ) → GivenFits (parent.take_new f p r k o)
       new r is (Some number) = (tt, ok)
@@ -253,15 +253,15 @@ module _ (c : Codec) (codec : IsCodec c) where
   read_asks : (x : Message) (asks : List Asked) → IsOrdinary x → IsWrittenRequest x → c.read (c.text x) ≡ Some (messages.PcReq asks) → (x ≡ messages.PcReq asks) × (length asks ≡ 1) × AreOctets (c.text x)
   read_asks (messages.PcReq asks') asks one fits read =
       let written = fits asks' refl in
-      let some : Some (messages.PcReq asks) ≡ Some (messages.PcReq asks') = sym read ∙ codec.reads (messages.PcReq asks') written in
+      let some : Some (messages.PcReq asks) ≡ Some (messages.PcReq asks') = sym read ∙ codec.texts.reads (messages.PcReq asks') written in
       let same : asks' ≡ asks = cc in
-      (ap (λ (l : List Asked). messages.PcReq l) same, subst (λ (l : List Asked). length l ≡ 1) same one, codec.bytes (messages.PcReq asks') written)
-  read_asks (messages.PcRep replies) asks one fits read = absurd (let none : 4 ≡ 3 = codec.kinds (messages.PcRep replies) (messages.PcReq asks) read in omega (arith, none))
-  read_asks (messages.PcNtf notices) asks one fits read = absurd (let none : 5 ≡ 3 = codec.kinds (messages.PcNtf notices) (messages.PcReq asks) read in omega (arith, none))
-  read_asks (messages.PcErr reports) asks one fits read = absurd (let none : 6 ≡ 3 = codec.kinds (messages.PcErr reports) (messages.PcReq asks) read in omega (arith, none))
-  read_asks (messages.Open body) asks one fits read = absurd (let none : 1 ≡ 3 = codec.kinds (messages.Open body) (messages.PcReq asks) read in omega (arith, none))
-  read_asks messages.Keepalive asks one fits read = absurd (let none : 2 ≡ 3 = codec.kinds messages.Keepalive (messages.PcReq asks) read in omega (arith, none))
-  read_asks (messages.Close why) asks one fits read = absurd (let none : 7 ≡ 3 = codec.kinds (messages.Close why) (messages.PcReq asks) read in omega (arith, none))
+      (ap (λ (l : List Asked). messages.PcReq l) same, subst (λ (l : List Asked). length l ≡ 1) same one, codec.texts.bytes (messages.PcReq asks') written)
+  read_asks (messages.PcRep replies) asks one fits read = absurd (let none : 4 ≡ 3 = codec.texts.kinds (messages.PcRep replies) (messages.PcReq asks) read in omega (arith, none))
+  read_asks (messages.PcNtf notices) asks one fits read = absurd (let none : 5 ≡ 3 = codec.texts.kinds (messages.PcNtf notices) (messages.PcReq asks) read in omega (arith, none))
+  read_asks (messages.PcErr reports) asks one fits read = absurd (let none : 6 ≡ 3 = codec.texts.kinds (messages.PcErr reports) (messages.PcReq asks) read in omega (arith, none))
+  read_asks (messages.Open body) asks one fits read = absurd (let none : 1 ≡ 3 = codec.texts.kinds (messages.Open body) (messages.PcReq asks) read in omega (arith, none))
+  read_asks messages.Keepalive asks one fits read = absurd (let none : 2 ≡ 3 = codec.texts.kinds messages.Keepalive (messages.PcReq asks) read in omega (arith, none))
+  read_asks (messages.Close why) asks one fits read = absurd (let none : 7 ≡ 3 = codec.texts.kinds (messages.Close why) (messages.PcReq asks) read in omega (arith, none))
   read_asks (messages.Other kind) asks none fits read = absurd none
 
   abbrev pub IsTaken : Message → Type 0

@@ -150,9 +150,9 @@ onward_fits exit (Some head) down is all = go (first_least head down) (first_fit
 -- ---- the paths of a solve
 
 pub metric_fits : (c : Codec) → IsCodec c → (m : Metric) (cost : ℕ) → cost ≤ COST_MAX → MetricFits (Some (type_of_metric m, c.word cost))
-metric_fits c codec Igp cost le = (omega arith, codec.words cost le)
-metric_fits c codec Te cost le = (omega arith, codec.words cost le)
-metric_fits c codec Hops cost le = (omega arith, codec.words cost le)
+metric_fits c codec Igp cost le = (omega arith, codec.costs.words cost le)
+metric_fits c codec Te cost le = (omega arith, codec.costs.words cost le)
+metric_fits c codec Hops cost le = (omega arith, codec.costs.words cost le)
 
 closed_fits : (entry : Addr) (key : ℕ) (pce exit : Addr) (head : Option Addr) (target : Addr) (down : List Branch) → IsAddr entry → key < 2 ^ 16 → IsAddr pce → IsAddr target → ((h : Addr) → head ≡ Some h → IsAddr exit) → BranchesFit 900 down →
     HopsFit 960 (closed_of entry key pce (end_of head target) ++ onward exit head down)
