@@ -1,14 +1,11 @@
 -- What one action of a session is in the model, and the room that it leaves for the next.
-use Rattle.std.proofs.Common.{◌≡◌, ℕ, ◌+◌, ◌*◌, Bool, true, false, cond, is_some, Option, Some, None, List, [], ◌∷◌, ◌++◌, length, refl, ap, sym, subst, ◌∙◌, arith, inl, inr, append_assoc}
+use Rattle.std.proofs.Common.{◌≡◌, ℕ, ◌*◌, Bool, true, false, cond, is_some, Option, Some, None, List, [], ◌∷◌, refl, ap, sym, subst, ◌∙◌, arith, inl, inr}
 use Rattle.std.proofs.lemmas.Bool.{cases_Bool}
-use Rattle.std.specs.Option.{option_to_list}
 use Rattle.dom_base.specs.declared.names.As.{As}
 use Rattle.dom_base.specs.declared.names.Peer.{Peer}
 use Rattle.dom_base.specs.declared.names.Peer.TheVariants.{Outside, Inner}
 use Rattle.pcep_subobjects.specs.declared.hop.Hop.{Hop}
 use Rattle.pcep_session.specs.declared.actions.Action.{Action}
-use Rattle.pcep_session.specs.declared.actions.Actions.{Actions}
-use Rattle.pcep_session.specs.Listed.{listed}
 use Rattle.pcep_session.specs.declared.actions.Action.TheVariants as action
 use Rattle.pcep_session.specs.declared.actions.Reason.{Reason}
 use Rattle.pcep_session.specs.declared.actions.Own.{Own}
@@ -22,14 +19,14 @@ use Rattle.member_trait.specs.plant_model.RealWire.{wire}
 use Rattle.member_trait.specs.plant_model.State.{Connection}
 use Rattle.member_trait.specs.plant_model.Deeds as deeds
 use Rattle.member_trait.specs.plant_model.Deeds.{Going, element_of, is_out_empty, is_due, with_inbox}
-use Rattle.network_links.specs.plant_sessions.Ends.{own_bytes, is_left_out, said_in}
+use Rattle.network_links.specs.plant_sessions.Ends.{own_bytes, is_left_out}
 use Rattle.network_links.specs.Flow.{Flow, Puts, change_access, out_of, room_at, queue_at}
 use Rattle.network_events.specs.Accounts.{Accounts, has_queue}
 use Rattle.member_trait.specs.Membership.{Membership, lost_at}
 use Rattle.member_trait.specs.Owed.{is_peer}
 use Rattle.network_events.specs.Standing.{Here, here_of, Goes, state_of}
 use Rattle.network_events.specs.Telling.{RoomToTell, count_lost}
-use Rattle.network_events.specs.Acting.{IsOwnTurn, Spent, RoomToAct, Fits, LeavesOff, lost_by, size_in}
+use Rattle.network_events.specs.Acting.{Spent, RoomToAct, Fits, LeavesOff, RoomFor, lost_by}
 use Rattle.network_events.specs.Peers.{act_at, acts_at, down_at, is_out_empty_at}
 use Rattle.network_events.proofs.GoLaws.{access_same, goes_as, goes_then, goes_same, goes_say, peer_is, put_case}
 use Rattle.network_events.proofs.TellLaws.{into_peer}
@@ -54,9 +51,6 @@ access_accounts i h f out = accounts_like f (change_access i h f) rooms queues o
 
 -- ---- the room of one action
 
-pub spent_none : (at : As) (to : Peer) (f : Flow) → Spent at to [] f f
-spent_none at to f = record { messages = omega arith; bytes = omega arith; said = omega arith; said_bytes = omega arith; elsewhere = λ q miss. refl }
-
 -- what is left out takes no room
 pub spent_less : (at : As) (to : Peer) (m : Bytes) (f : Flow) → Spent at to (m ∷ []) f f
 spent_less at to m f = record { messages = omega arith; bytes = omega arith; said = omega arith; said_bytes = omega arith; elsewhere = λ q miss. refl }
@@ -77,9 +71,6 @@ room_access at ls i h f room = record { there = there; said = record { messages 
     there (Outside j) = room.there (Outside j)
     there (Inner b) = room.there (Inner b)
 
-any_send : (o : Own) (as' : List Action) (ls : List Lost) → lost_by (action.Send o ∷ as') ls ≡ lost_by as' ls
-any_send o as' ls = refl
-
 -- no action needs no room
 pub act_none : (at : As) (to : Peer) (f : Flow) → RoomToAct at to [] [] f
 act_none at to f = record {
@@ -89,86 +80,8 @@ act_none at to f = record {
   said = record { messages = omega arith; bytes = omega arith };
 }
 
-act_rest : (at : As) (to : Peer) (ms : List Bytes) (rest : List Action) (ls : List Lost) (f f' : Flow) → Spent at to ms f f' →
-    Covers (room_at at to f) (length ms + length (said_in rest)) (size_in ms + size_in (said_in rest)) → count_lost (is_peer to) ls ≡ 0 →
-    ((q : Peer) → same_peer to q ≡ false → Covers (room_at at q f) (count_lost (is_peer q) ls) (32 * count_lost (is_peer q) ls)) →
-    Covers f.room.said (length ms + length (said_in rest) + length ls) (size_in ms + size_in (said_in rest) + 32 * length ls) →
-    RoomToAct at to rest ls f'
-act_rest at to ms rest ls f f' spent there none elsewhere said = record {
-  there = record { messages = omega (arith, there.messages, spent.messages); bytes = omega (arith, there.bytes, spent.bytes) };
-  none = none;
-  elsewhere = λ q miss. subst (λ (x : Spare). Covers x (count_lost (is_peer q) ls) (32 * count_lost (is_peer q) ls)) (sym (spent.elsewhere q miss)) (elsewhere q miss);
-  said = record { messages = omega (arith, said.messages, spent.said); bytes = omega (arith, said.bytes, spent.said_bytes) };
-}
-
-turn_before : (o : Option Action) (rest : List Action) → IsOwnTurn (option_to_list o ++ rest) → IsOwnTurn (option_to_list o)
-turn_before None rest turn = tt
-turn_before (Some (action.Send o)) rest turn = tt
-turn_before (Some action.Up) rest turn = refl
-turn_before (Some (action.Down why)) rest turn = refl
-turn_before (Some (action.Pass m)) rest turn = absurd turn
-
-turn_after : (o : Option Action) (rest : List Action) → IsOwnTurn (option_to_list o ++ rest) → IsOwnTurn rest
-turn_after None rest turn = turn
-turn_after (Some (action.Send o)) rest turn = turn
-turn_after (Some action.Up) rest turn = subst IsOwnTurn (sym turn) tt
-turn_after (Some (action.Down why)) rest turn = subst IsOwnTurn (sym turn) tt
-turn_after (Some (action.Pass m)) rest turn = absurd turn
-
-module _ {P : Type 0} {S : Type 0} (at : As) (to : Peer) where
-  -- the room that one action leaves is that which the rest need
-  room_after : (o : Option Action) (rest : List Action) (ms ms' : Membership P S) (f f' : Flow) → IsOwnTurn (option_to_list o ++ rest) →
-      RoomToAct at to (option_to_list o ++ rest) (lost_by (option_to_list o ++ rest) (lost_at at to ms)) f → LeavesOff at to (option_to_list o) ms f ms' f' →
-      RoomToAct at to rest (lost_by rest (lost_at at to ms')) f'
-  room_after None rest ms ms' f f' turn room leaves =
-      subst (λ (x : Membership P S). RoomToAct at to rest (lost_by rest (lost_at at to x)) f') (sym leaves.0)
-      (act_rest at to [] rest (lost_by rest (lost_at at to ms)) f f' leaves.1
-      (record { messages = omega (arith, room.there.messages); bytes = omega (arith, room.there.bytes) }) room.none room.elsewhere
-      (record { messages = omega (arith, room.said.messages); bytes = omega (arith, room.said.bytes) }))
-  room_after (Some (action.Send o)) rest ms ms' f f' turn room leaves =
-      subst (λ (x : Membership P S). RoomToAct at to rest (lost_by rest (lost_at at to x)) f') (sym leaves.0)
-      (act_rest at to (own_bytes o ∷ []) rest (lost_by rest (lost_at at to ms)) f f' leaves.1
-      (record { messages = omega (arith, room.there.messages); bytes = omega (arith, room.there.bytes) }) room.none room.elsewhere
-      (record { messages = omega (arith, room.said.messages); bytes = omega (arith, room.said.bytes) }))
-  room_after (Some action.Up) rest ms ms' f f' turn room leaves = subst (λ (as' : List Action). RoomToAct at to as' (lost_by as' (lost_at at to ms')) f') (sym turn) (act_none at to f')
-  room_after (Some (action.Down why)) rest ms ms' f f' turn room leaves = subst (λ (as' : List Action). RoomToAct at to as' (lost_by as' (lost_at at to ms')) f') (sym turn) (act_none at to f')
-  room_after (Some (action.Pass m)) rest ms ms' f f' turn room leaves = absurd turn
-
-  -- the room of all is enough for the first
-  room_before : (o : Option Action) (rest : List Action) (ms : Membership P S) (f : Flow) → IsOwnTurn (option_to_list o ++ rest) →
-      RoomToAct at to (option_to_list o ++ rest) (lost_by (option_to_list o ++ rest) (lost_at at to ms)) f → RoomToAct at to (option_to_list o) (lost_by (option_to_list o) (lost_at at to ms)) f
-  room_before None rest ms f turn room = act_none at to f
-  room_before (Some (action.Send o)) rest ms f turn room = record {
-    there = record { messages = omega (arith, room.there.messages); bytes = omega (arith, room.there.bytes) };
-    none = refl;
-    elsewhere = λ q miss. record { messages = omega arith; bytes = omega arith };
-    said = record { messages = omega (arith, room.said.messages); bytes = omega (arith, room.said.bytes) };
-  }
-  room_before (Some action.Up) rest ms f turn room = record {
-    there = record { messages = omega arith; bytes = omega arith };
-    none = refl;
-    elsewhere = λ q miss. record { messages = omega arith; bytes = omega arith };
-    said = record { messages = omega arith; bytes = omega arith };
-  }
-  room_before (Some (action.Down why)) rest ms f turn room = subst (λ (as' : List Action). RoomToAct at to (action.Down why ∷ as') (lost_by (action.Down why ∷ as') (lost_at at to ms)) f) turn room
-  room_before (Some (action.Pass m)) rest ms f turn room = absurd turn
-
-  -- what one action needs is of what all need, and what it leaves is what the rest need
-  pub fits_first : (o : Option Action) (rest : List Action) (ms : Membership P S) (f : Flow) → Fits at to (option_to_list o ++ rest) ms f → Fits at to (option_to_list o) ms f
-  fits_first o rest ms f fits = record { turn = turn_before o rest fits.turn; room = room_before o rest ms f fits.turn fits.room }
-
-  pub fits_rest : (o : Option Action) (rest : List Action) (ms ms' : Membership P S) (f f' : Flow) → Fits at to (option_to_list o ++ rest) ms f → LeavesOff at to (option_to_list o) ms f ms' f' → Fits at to rest ms' f'
-  fits_rest o rest ms ms' f f' fits leaves = record { turn = turn_after o rest fits.turn; room = room_after o rest ms ms' f f' fits.turn fits.room leaves }
-
-  -- the actions of a turn, one after the other
-  pub fits_all : (a : Actions) (ms : Membership P S) (f : Flow) → Fits at to (listed a) ms f → Fits at to (option_to_list a.first ++ (option_to_list a.second ++ option_to_list a.third)) ms f
-  fits_all a ms f = subst (λ (as' : List Action). Fits at to as' ms f) (append_assoc (option_to_list a.first) (option_to_list a.second) (option_to_list a.third))
-
-  pub fits_second : (a : Actions) (ms ms' : Membership P S) (f f' : Flow) → Fits at to (listed a) ms f → LeavesOff at to (option_to_list a.first) ms f ms' f' → Fits at to (option_to_list a.second ++ option_to_list a.third) ms' f'
-  fits_second a ms ms' f f' fits = fits_rest a.first (option_to_list a.second ++ option_to_list a.third) ms ms' f f' (fits_all a ms f fits)
-
--- room to fall, where that is all that is done
-pub room_to_fall : (at : As) (to : Peer) (why : Reason) (ls : List Lost) (f : Flow) → RoomToAct at to (action.Down why ∷ []) ls f → RoomToTell at ls f
+-- room to fall, where that comes last
+room_to_fall : (at : As) (to : Peer) (why : Reason) (ls : List Lost) (f : Flow) → RoomToAct at to (action.Down why ∷ []) ls f → RoomToTell at ls f
 room_to_fall at to why ls f room = record {
   there = λ q. elim (cases_Bool (same_peer to q)) [
     | inl hit ↦
@@ -179,8 +92,43 @@ room_to_fall at to why ls f room = record {
   said = record { messages = omega (arith, room.said.messages); bytes = omega (arith, room.said.bytes) };
 }
 
+module _ {P : Type 0} {S : Type 0} (at : As) (to : Peer) where
+  -- the room of all is enough for the first
+  pub room_for : (a : Action) (rest : List Action) (ms : Membership P S) (f : Flow) → Fits at to (a ∷ rest) ms f → RoomFor at to a ms f
+  room_for (action.Send o) rest ms f fits =
+      let there = fits.room.there in
+      let said = fits.room.said in
+      (record { messages = omega (arith, there.messages); bytes = omega (arith, there.bytes) }, record { messages = omega (arith, said.messages); bytes = omega (arith, said.bytes) })
+  room_for action.Up rest ms f fits = tt
+  room_for (action.Down why) rest ms f fits =
+      room_to_fall at to why (lost_at at to ms) f (subst (λ (as' : List Action). RoomToAct at to (action.Down why ∷ as') (lost_at at to ms) f) fits.turn fits.room)
+  room_for (action.Pass m) rest ms f fits = absurd fits.turn
+
+  -- where nothing is left, nothing needs room
+  last_fits : (rest : List Action) (ms : Membership P S) (f : Flow) → rest ≡ [] → Fits at to rest ms f
+  last_fits rest ms f last = subst (λ (as' : List Action). Fits at to as' ms f) (sym last) (record { turn = tt; room = act_none at to f })
+
+  -- what it leaves is what the rest need
+  pub rest_fits : (a : Action) (rest : List Action) (ms ms' : Membership P S) (f f' : Flow) → Fits at to (a ∷ rest) ms f → LeavesOff at to a ms f ms' f' → Fits at to rest ms' f'
+  rest_fits (action.Send o) rest ms ms' f f' fits leaves =
+      let room = fits.room in
+      let spent = leaves.1 in
+      let ls = lost_by rest (lost_at at to ms) in
+      subst (λ (x : Membership P S). Fits at to rest x f') (sym leaves.0) (record {
+        turn = fits.turn;
+        room = record {
+          there = record { messages = omega (arith, room.there.messages, spent.messages); bytes = omega (arith, room.there.bytes, spent.bytes) };
+          none = room.none;
+          elsewhere = λ q miss. subst (λ (x : Spare). Covers x (count_lost (is_peer q) ls) (32 * count_lost (is_peer q) ls)) (sym (spent.elsewhere q miss)) (room.elsewhere q miss);
+          said = record { messages = omega (arith, room.said.messages, spent.said); bytes = omega (arith, room.said.bytes, spent.said_bytes) };
+        };
+      })
+  rest_fits action.Up rest ms ms' f f' fits leaves = last_fits rest ms' f' fits.turn
+  rest_fits (action.Down why) rest ms ms' f f' fits leaves = last_fits rest ms' f' fits.turn
+  rest_fits (action.Pass m) rest ms ms' f f' fits leaves = absurd fits.turn
+
 module _ {P : Type 0} {S : Type 0} (show : S → List Hop) (n : NetworkParts) (ms : Membership P S) (lost : As → List Lost) where
-  out_empty : (at : As) (to : Peer) (f : Flow) → is_out_empty_at P S n show at to (state_of ms f) ≡ is_empty (queue_at at to f)
+  pub out_empty : (at : As) (to : Peer) (f : Flow) → is_out_empty_at P S n show at to (state_of ms f) ≡ is_empty (queue_at at to f)
   out_empty at (Inner b) f = refl
   out_empty at (Outside i) f = go (f.accesses i).connection
     where
@@ -218,16 +166,6 @@ module _ {P : Type 0} {S : Type 0} (show : S → List Hop) (n : NetworkParts) (m
   outside_falls i at f after =
       goes_then (λ k g. record { state = deeds.with_access P S wire k show i (with_inbox []) g.state; deeds = g.deeds }) (λ k. deeds.fall P S wire k show at (Outside i))
       (here_of n ms lost f) (here_of n ms lost (change_access i (with_inbox []) f)) after (goes_access i (with_inbox []) f (λ x. refl))
-
-module _ {P : Type 0} {S : Type 0} (show : S → List Hop) (at : As) (to : Peer) (ticks : Bool) (k : NetworkParts) where
-  -- actions one behind the other
-  acts_append : (xs ys : List Action) (g : Going P S) → acts_at P S k show at to ticks (xs ++ ys) g ≡ acts_at P S k show at to ticks ys (acts_at P S k show at to ticks xs g)
-  acts_append [] ys g = refl
-  acts_append (x ∷ xs) ys g = acts_append xs ys (act_at P S k show at to ticks x g)
-
-  pub acts_three : (xs ys zs : List Action) (g : Going P S) →
-      acts_at P S k show at to ticks zs (acts_at P S k show at to ticks ys (acts_at P S k show at to ticks xs g)) ≡ acts_at P S k show at to ticks (xs ++ ys ++ zs) g
-  acts_three xs ys zs g = ap (acts_at P S k show at to ticks zs) (sym (acts_append xs ys g)) ∙ sym (acts_append (xs ++ ys) zs g)
 
 -- the actions of the model
 module _ {P : Type 0} {S : Type 0} (show : S → List Hop) (n : NetworkParts) (ticks : Bool) where

@@ -73,7 +73,7 @@ size_push : (ss : List Sent) (s : Sent) → total size_of (ss ++ s ∷ []) ≡ t
 size_push [] s = omega arith
 size_push (x ∷ ss) s = omega (arith, size_push ss s)
 
-total_push : (out : List Bytes) (message : Bytes) → total (λ (m : Bytes). length m) (out ++ message ∷ []) ≡ total (λ (m : Bytes). length m) out + length message
+pub total_push : (out : List Bytes) (message : Bytes) → total (λ (m : Bytes). length m) (out ++ message ∷ []) ≡ total (λ (m : Bytes). length m) out + length message
 total_push [] message = omega arith
 total_push (x ∷ out) message = omega (arith, total_push out message)
 
@@ -300,7 +300,3 @@ module _ {P : Type 0} {S : Type 0} where
 
   pub goes_by : (f h : NetworkParts → Going P S → Going P S) (a b : Here P S) → ((k : NetworkParts) (g : Going P S) → f k g ≡ h k g) → Goes f a b → Goes h a b
   goes_by f h a b same = goes_as f h a b (λ g is. same a.network g)
-
-  pub goes_three : (f h j all : NetworkParts → Going P S → Going P S) (a b c d : Here P S) → ((k : NetworkParts) (g : Going P S) → j k (h k (f k g)) ≡ all k g) → Goes f a b → Goes h b c → Goes j c d → Goes all a d
-  goes_three f h j all a b c d same x y z =
-      goes_by (λ k g. j k (h k (f k g))) all a d same (goes_then (λ k g. h k (f k g)) j a c d (goes_then f h a b c x y) z)

@@ -1,5 +1,5 @@
 -- What an input to a session is in the model, where it passes nothing on.
-use Rattle.std.proofs.Common.{◌≡◌, ℕ, ◌+◌, ◌*◌, Bool, true, false, cond, Option, Some, None, List, length, refl, ap, sym, subst, ◌∙◌}
+use Rattle.std.proofs.Common.{◌≡◌, ◌+◌, ◌*◌, Bool, true, false, cond, Option, Some, None, List, length, refl, ap, sym, subst, ◌∙◌}
 use Rattle.std.specs.Option.{option_map}
 use Rattle.dom_base.specs.declared.names.As.{As}
 use Rattle.dom_base.specs.declared.names.Peer.{Peer}
@@ -16,13 +16,13 @@ use Rattle.member_trait.specs.plant_model.declared.output.Lost.{Lost}
 use Rattle.member_trait.specs.plant_model.RealWire.{wire}
 use Rattle.member_trait.specs.plant_model.State.{State, Connection}
 use Rattle.member_trait.specs.plant_model.Deeds as deeds
-use Rattle.member_trait.specs.plant_model.Deeds.{Going, element_of, is_tick, any_fall, with_session}
+use Rattle.member_trait.specs.plant_model.Deeds.{Going, is_tick, any_fall, with_session}
 use Rattle.network_links.proofs.plant_sessions.StepLemmas.{steps_keep_number}
 use Rattle.network_links.specs.plant_sessions.Ends.{said_in}
-use Rattle.network_links.specs.Flow.{Flow, MaySet, change_access, room_at, session_at, set_session, set_session_at}
+use Rattle.network_links.specs.Flow.{Flow, MaySet, room_at, session_at, set_session_at}
 use Rattle.member_trait.specs.Membership.{Membership, lost_at}
 use Rattle.member_trait.specs.Owed.{is_peer}
-use Rattle.network_events.specs.Standing.{Here, here_of, Goes}
+use Rattle.network_events.specs.Standing.{Here, IsAt, here_of, Goes}
 use Rattle.network_events.specs.Acting.{RoomToAct, Fits, lost_by, size_in}
 use Rattle.network_events.specs.Peers.{IsEnd, acts_at, break_at, breaks_by, input_at}
 use Rattle.network_events.specs.Telling.{count_lost}
@@ -62,69 +62,80 @@ pub may_set : (n : NetworkParts) (f : Flow) (at : As) (to : Peer) (x : Input) (s
 may_set n f at (Outside i) x s next end there becomes = tt
 may_set n f at (Inner b) x s next end there becomes = (end.linked, ap (λ (q : Session). q.offer.sid) becomes ∙ steps_keep_number s x ∙ ap (λ (q : Session). q.offer.sid) (sym (some_is (f.sessions at b) s there)))
 
-module _ {P : Type 0} {S : Type 0} (show : S → List Hop) (n : NetworkParts) (ms : Membership P S) (lost : As → List Lost) (x : Input) (f : Flow) where
-  -- nothing comes to a peer that is closed
-  pub input_closed : (at : As) (to : Peer) → session_at at to f ≡ None → Goes (λ k. input_at P S k show at to x) (here_of n ms lost f) (here_of n ms lost f)
-  input_closed at (Inner b) none = cc
-  input_closed at (Outside i) none =
-      goes_as (λ k g. g) (λ k. deeds.outside_input P S wire k show i x) (here_of n ms lost f) (here_of n ms lost f)
-      (λ g is. go g (g.state.accesses i).connection (ap (λ (s : State P S). option_map (λ (k : Connection). k.session) (s.accesses i).connection) (sym is.state) ∙ none)) (goes_same (here_of n ms lost f))
-    where
-      go : (g : Going P S) (c : Option Connection) → option_map (λ (k : Connection). k.session) c ≡ None → g ≡ deeds.outside_step P S wire n show i x g c
-      go g None e = refl
-      go g (Some k) e = cc
+-- the session of a member with a peer, in a state of the model
+abbrev pub session_in : {P : Type 0} {S : Type 0} → As → Peer → State P S → Option Session
+session_in at (Outside i) s = option_map (λ (k : Connection). k.session) (s.accesses i).connection
+session_in at (Inner b) s = Some (s.sessions at b)
 
-  -- an input by which a link breaks
+pub session_of : {P : Type 0} {S : Type 0} (at : As) (to : Peer) (g : Going P S) (ms : Membership P S) (f : Flow) → IsAt g ms f → session_in at to g.state ≡ session_at at to f
+session_of {P = P} {S = S} at (Outside i) g ms f is = ap (λ (s : State P S). session_in at (Outside i) s) (sym is.state)
+session_of {P = P} {S = S} at (Inner b) g ms f is = ap (λ (s : State P S). session_in at (Inner b) s) (sym is.state)
+
+module _ {P : Type 0} {S : Type 0} (show : S → List Hop) (n : NetworkParts) where
+  -- another state of it
+  abbrev pub set_at : As → Peer → Session → Going P S → Going P S
+  set_at at (Outside i) next g = record { state = deeds.with_access P S wire n show i (with_session next) g.state; deeds = g.deeds }
+  set_at at (Inner b) next g = record { state = deeds.with_inner P S wire n show at b next g.state; deeds = g.deeds }
+
+  module _ (x : Input) (g : Going P S) (at : As) where
+    -- nothing comes to a peer that is closed
+    pub closed_is : (to : Peer) → session_in at to g.state ≡ None → g ≡ input_at P S n show at to x g
+    closed_is (Inner b) none = cc
+    closed_is (Outside i) none = go (g.state.accesses i).connection none
+      where
+        go : (c : Option Connection) → option_map (λ (k : Connection). k.session) c ≡ None → g ≡ deeds.outside_step P S wire n show i x g c
+        go None e = refl
+        go (Some k) e = cc
+
+    -- an input by which a link breaks
+    pub breaks_is : (to : Peer) (s : Session) → session_in at to g.state ≡ Some s → breaks_by to (turn_of s x).actions ≡ true → break_at P S n show at to g ≡ input_at P S n show at to x g
+    breaks_is (Outside i) s there breaks = cc
+    breaks_is (Inner b) s there breaks =
+        let acts = λ (q : Session). deeds.inner_acts P S wire n show at b (is_tick x) (turn_of q x).actions (set_at at (Inner b) (turn_of q x).next g) in
+        sym (ap (λ (c : Bool). cond c (deeds.break_adjacency P S wire n show (adjacency b at) g) (acts (g.state.sessions at b)))
+        (ap (λ (q : Session). any_fall (turn_of q x).actions) (some_is (g.state.sessions at b) s there) ∙ breaks))
+
+    -- one after which it stays
+    pub acts_is : (to : Peer) (s : Session) (f : Flow) → IsEnd n f at to → session_in at to g.state ≡ Some s → breaks_by to (turn_of s x).actions ≡ false →
+        acts_at P S n show at to (is_tick x) (turn_of s x).actions (set_at at to (turn_of s x).next g) ≡ input_at P S n show at to x g
+    acts_is (Outside i) s f end there calm =
+        let g0 = set_at at (Outside i) (turn_of s x).next g in
+        subst (λ (a : As). acts_at P S n show a (Outside i) (is_tick x) (turn_of s x).actions g0 ≡ deeds.outside_input P S wire n show i x g) (sym end)
+        (acts_outside show n (is_tick x) i (turn_of s x).actions g0 ∙ go (g.state.accesses i).connection there)
+      where
+        go : (c : Option Connection) → option_map (λ (k : Connection). k.session) c ≡ Some s →
+            deeds.outside_acts P S wire n show i (is_tick x) (turn_of s x).actions (set_at at (Outside i) (turn_of s x).next g) ≡ deeds.outside_step P S wire n show i x g c
+        go None e = cc
+        go (Some k) e = ap (λ (q : Session). deeds.outside_step P S wire n show i x g (Some (with_session q k))) (sym (some_is k.session s e))
+    acts_is (Inner b) s f end there calm =
+        let broken = deeds.break_adjacency P S wire n show (adjacency b at) g in
+        let acts = λ (q : Session). deeds.inner_acts P S wire n show at b (is_tick x) (turn_of q x).actions (set_at at (Inner b) (turn_of q x).next g) in
+        acts_inner show n (is_tick x) at b (turn_of s x).actions (set_at at (Inner b) (turn_of s x).next g) ∙ sym (ap (λ (c : Bool). cond c broken (acts s)) calm)
+        ∙ ap (λ (q : Session). cond (any_fall (turn_of q x).actions) broken (acts q)) (sym (some_is (g.state.sessions at b) s there))
+
+module _ {P : Type 0} {S : Type 0} (show : S → List Hop) (n : NetworkParts) (ms : Membership P S) (lost : As → List Lost) (x : Input) (f : Flow) where
+  pub input_closed : (at : As) (to : Peer) → session_at at to f ≡ None → Goes (λ k. input_at P S k show at to x) (here_of n ms lost f) (here_of n ms lost f)
+  input_closed at to none =
+      goes_as (λ k g. g) (λ k. input_at P S k show at to x) (here_of n ms lost f) (here_of n ms lost f)
+      (λ g is. closed_is show n x g at to (session_of at to g ms f is ∙ none)) (goes_same (here_of n ms lost f))
+
   pub input_breaks : (at : As) (to : Peer) (s : Session) (as' : List Action) (after : Here P S) → session_at at to f ≡ Some s → as' ≡ (turn_of s x).actions → breaks_by to as' ≡ true →
       Goes (λ k. break_at P S k show at to) (here_of n ms lost f) after → Goes (λ k. input_at P S k show at to x) (here_of n ms lost f) after
-  input_breaks at (Outside i) s as' after there asks breaks = cc
-  input_breaks at (Inner b) s as' after there asks breaks =
-      goes_as (λ k. deeds.break_adjacency P S wire k show (adjacency b at)) (λ k. deeds.inner_input P S wire k show (adjacency b at) at b x) (here_of n ms lost f) after
-      (λ g is.
-      let acts = λ (q : Session). deeds.inner_acts P S wire n show at b (is_tick x) (turn_of q x).actions (record { state = deeds.with_inner P S wire n show at b (turn_of q x).next g.state; deeds = g.deeds }) in
-      let falls : any_fall (turn_of (g.state.sessions at b) x).actions ≡ true =
-      ap (λ (q : State P S). any_fall (turn_of (q.sessions at b) x).actions) (sym is.state) ∙ ap (λ (q : Session). any_fall (turn_of q x).actions) (some_is (f.sessions at b) s there) ∙ ap any_fall (sym asks) ∙ breaks in
-      sym (ap (λ (c : Bool). cond c (deeds.break_adjacency P S wire n show (adjacency b at) g) (acts (g.state.sessions at b))) falls))
+  input_breaks at to s as' after there asks breaks =
+      goes_as (λ k. break_at P S k show at to) (λ k. input_at P S k show at to x) (here_of n ms lost f) after
+      (λ g is. breaks_is show n x g at to s (session_of at to g ms f is ∙ there) (ap (breaks_by to) (sym asks) ∙ breaks))
 
-  -- an input after which it stays
-  outside_stays : (i : ℕ) (s : Session) (after : Here P S) → session_at (element_of n i) (Outside i) f ≡ Some s →
-      Goes (λ k. acts_at P S k show (element_of n i) (Outside i) (is_tick x) (turn_of s x).actions) (here_of n ms lost (change_access i (with_session (turn_of s x).next) f)) after →
-      Goes (λ k. deeds.outside_input P S wire k show i x) (here_of n ms lost f) after
-  outside_stays i s after there acts =
-      let t = turn_of s x in
-      let set : NetworkParts → Going P S → Going P S = λ k g. record { state = deeds.with_access P S wire k show i (with_session t.next) g.state; deeds = g.deeds } in
-      let acting : NetworkParts → Going P S → Going P S = λ k. acts_at P S k show (element_of n i) (Outside i) (is_tick x) t.actions in
-      goes_as (λ k g. acting k (set k g)) (λ k. deeds.outside_input P S wire k show i x) (here_of n ms lost f) after
-      (λ g is. acts_outside show n (is_tick x) i t.actions (set n g) ∙ go g (g.state.accesses i).connection (ap (λ (q : State P S). option_map (λ (k : Connection). k.session) (q.accesses i).connection) (sym is.state) ∙ there))
-      (goes_then set acting (here_of n ms lost f) (here_of n ms lost (change_access i (with_session t.next) f)) after (goes_access show n ms lost i (with_session t.next) f (λ k. refl)) acts)
-    where
-      go : (g : Going P S) (c : Option Connection) → option_map (λ (k : Connection). k.session) c ≡ Some s →
-          deeds.outside_acts P S wire n show i (is_tick x) (turn_of s x).actions (record { state = deeds.with_access P S wire n show i (with_session (turn_of s x).next) g.state; deeds = g.deeds }) ≡ deeds.outside_step P S wire n show i x g c
-      go g None e = cc
-      go g (Some k) e = ap (λ (q : Session). deeds.outside_step P S wire n show i x g (Some (with_session q k))) (sym (some_is k.session s e))
-
-  inner_stays : (at b : As) (after : Here P S) → any_fall (turn_of (f.sessions at b) x).actions ≡ false →
-      Goes (λ k. acts_at P S k show at (Inner b) (is_tick x) (turn_of (f.sessions at b) x).actions) (here_of n ms lost (set_session at b (turn_of (f.sessions at b) x).next f)) after →
-      Goes (λ k. deeds.inner_input P S wire k show (adjacency b at) at b x) (here_of n ms lost f) after
-  inner_stays at b after calm acts =
-      let t = turn_of (f.sessions at b) x in
-      let set : NetworkParts → Going P S → Going P S = λ k g. record { state = deeds.with_inner P S wire k show at b t.next g.state; deeds = g.deeds } in
-      let acting : NetworkParts → Going P S → Going P S = λ k. acts_at P S k show at (Inner b) (is_tick x) t.actions in
-      goes_as (λ k g. acting k (set k g)) (λ k. deeds.inner_input P S wire k show (adjacency b at) at b x) (here_of n ms lost f) after
-      (λ g is. acts_inner show n (is_tick x) at b t.actions (set n g)
-      ∙ sym (ap (λ (c : Bool). cond c (deeds.break_adjacency P S wire n show (adjacency b at) g) (deeds.inner_acts P S wire n show at b (is_tick x) t.actions (set n g))) calm)
-      ∙ ap (λ (q : Session). cond (any_fall (turn_of q x).actions) (deeds.break_adjacency P S wire n show (adjacency b at) g)
-      (deeds.inner_acts P S wire n show at b (is_tick x) (turn_of q x).actions (record { state = deeds.with_inner P S wire n show at b (turn_of q x).next g.state; deeds = g.deeds }))) (ap (λ (q : State P S). q.sessions at b) is.state))
-      (goes_then set acting (here_of n ms lost f) (here_of n ms lost (set_session at b t.next f)) after (goes_session show n ms lost at b t.next f) acts)
+  goes_set : (at : As) (to : Peer) (next : Session) → Goes (λ k. set_at show k at to next) (here_of n ms lost f) (here_of n ms lost (set_session_at at to next f))
+  goes_set at (Outside i) next = goes_access show n ms lost i (with_session next) f (λ k. refl)
+  goes_set at (Inner b) next = goes_session show n ms lost at b next f
 
   turn_stays : (at : As) (to : Peer) (s : Session) (after : Here P S) → IsEnd n f at to → session_at at to f ≡ Some s → breaks_by to (turn_of s x).actions ≡ false →
       Goes (λ k. acts_at P S k show at to (is_tick x) (turn_of s x).actions) (here_of n ms lost (set_session_at at to (turn_of s x).next f)) after → Goes (λ k. input_at P S k show at to x) (here_of n ms lost f) after
-  turn_stays at (Outside i) s after end there calm acts =
-      outside_stays i s after there (subst (λ (a : As). Goes (λ k. acts_at P S k show a (Outside i) (is_tick x) (turn_of s x).actions) (here_of n ms lost (change_access i (with_session (turn_of s x).next) f)) after) end acts)
-  turn_stays at (Inner b) s after end there calm acts =
-      let is : s ≡ f.sessions at b = sym (some_is (f.sessions at b) s there) in
-      inner_stays at b after (ap (λ (q : Session). any_fall (turn_of q x).actions) (sym is) ∙ calm)
-      (subst (λ (q : Session). Goes (λ k. acts_at P S k show at (Inner b) (is_tick x) (turn_of q x).actions) (here_of n ms lost (set_session at b (turn_of q x).next f)) after) is acts)
+  turn_stays at to s after end there calm acts =
+      let t = turn_of s x in
+      goes_as (λ k g. acts_at P S k show at to (is_tick x) t.actions (set_at show k at to t.next g)) (λ k. input_at P S k show at to x) (here_of n ms lost f) after
+      (λ g is. acts_is show n x g at to s f end (session_of at to g ms f is ∙ there) calm)
+      (goes_then (λ k. set_at show k at to t.next) (λ k. acts_at P S k show at to (is_tick x) t.actions) (here_of n ms lost f) (here_of n ms lost (set_session_at at to t.next f)) after (goes_set at to t.next) acts)
 
   pub input_stays : (at : As) (to : Peer) (s s' : Session) (ticks : Bool) (as' : List Action) (f1 : Flow) (after : Here P S) → IsEnd n f at to → session_at at to f ≡ Some s → as' ≡ (turn_of s x).actions → s' ≡ (turn_of s x).next → ticks ≡ is_tick x →
       breaks_by to as' ≡ false → f1 ≡ set_session_at at to s' f → Goes (λ k. acts_at P S k show at to ticks as') (here_of n ms lost f1) after → Goes (λ k. input_at P S k show at to x) (here_of n ms lost f) after

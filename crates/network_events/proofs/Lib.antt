@@ -3,13 +3,12 @@ pub mod TakeLaws
 pub mod ParentLaws
 pub mod RoomyNeeds
 pub mod RoomySteps
-pub mod RoomyTurns
 pub mod RoomyDeeds
 pub mod RoomyPays
 pub mod RoomyEvents
 pub mod RoomyOpens
 pub mod RoomyWords
-pub mod RoomyTakes
+pub mod RoomyInputs
 pub mod RoomyStarts
 pub mod OwedLaws
 pub mod GoLaws

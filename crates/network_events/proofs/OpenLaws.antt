@@ -1,5 +1,5 @@
 -- An outside peer that opens: its connection has room, its session says its Open, and the event is the model's.
-use Rattle.std.proofs.Common.{◌≡◌, ◌≤◌, ◌<◌, ℕ, zero, suc, ◌*◌, ◌%◌, is_some, Bool, true, false, cond, ◌==◌, Option, Some, None, List, [], ◌∷◌, length, Ok, Err, OnOk, refl, ap, sym, subst, ◌∙◌, arith}
+use Rattle.std.proofs.Common.{◌≡◌, ◌≤◌, ◌<◌, ℕ, zero, suc, ◌*◌, ◌%◌, is_some, Bool, true, false, cond, ◌==◌, Option, Some, None, List, [], ◌∷◌, length, Ok, Err, OnOk, refl, ap, sym, subst, ◌∙◌, arith, inr}
 use Rattle.std.specs.Prelude.{Result}
 use Rattle.std.specs.Option.{option_map}
 use Rattle.std.proofs.lemmas.Bool.{eqb-true}
@@ -9,7 +9,11 @@ use Rattle.dom_base.specs.declared.names.Tick.{Tick}
 use Rattle.dom_base.specs.declared.names.Peer.{Peer}
 use Rattle.dom_base.specs.declared.names.Peer.TheVariants.{Outside, Inner}
 use Rattle.pcep_subobjects.specs.declared.hop.Hop.{Hop}
+use Rattle.pcep_session.specs.declared.actions.Action.TheVariants as action
+use Rattle.pcep_session.specs.declared.actions.Own.{Own}
+use Rattle.pcep_session.specs.declared.actions.Own.TheVariants as saying
 use Rattle.pcep_session.specs.declared.session.Input.TheVariants as input
+use Rattle.pcep_session.specs.declared.state.State.{State as Session}
 use Rattle.plant_queues.specs.Messages.{Spare}
 use Rattle.plant_text.specs.declared.settings.NetworkParts.{NetworkParts}
 use Rattle.plant_text.specs.declared.settings.PeerRow.{PeerRow}
@@ -17,26 +21,28 @@ use Rattle.plant_text.specs.Settings.{peer_row}
 use Rattle.member_trait.specs.plant_model.declared.outcome.Outcome.TheVariants.{Done}
 use Rattle.member_trait.specs.plant_model.declared.outcome.Refused.TheVariants.{NoSuchPeer}
 use Rattle.member_trait.specs.plant_model.declared.output.Lost.{Lost}
-use Rattle.member_trait.specs.plant_model.Names.{set_number}
+use Rattle.member_trait.specs.plant_model.Names.{is_empty, set_number}
 use Rattle.member_trait.specs.plant_model.RealWire.{wire}
 use Rattle.member_trait.specs.plant_model.State.{Access, Connection}
 use Rattle.member_trait.specs.plant_model.Deeds as deeds
-use Rattle.member_trait.specs.plant_model.Deeds.{Going, element_of}
+use Rattle.member_trait.specs.plant_model.Deeds.{Going, element_of, our_offer}
 use Rattle.member_trait.specs.plant_model.Events as events
 use Rattle.network_links.specs.plant_sessions.Ends.{just_open}
-use Rattle.network_links.specs.Flow.{ClearsSaid, Flow, GrowsAt, KeepsRoomAt, just_opened, session_at, set_access, set_room}
+use Rattle.network_links.specs.Flow.{ClearsSaid, Flow, GrowsAt, KeepsRoomAt, just_opened, out_of, session_at, set_access, set_room}
 use Rattle.plant_text.specs.Names.{parent_as}
 use Rattle.network_events.specs.Acting.{FitsInput}
 use Rattle.network_events.specs.Happening.{IsDone}
-use Rattle.member_trait.specs.Membership.{Membership}
+use Rattle.network_events.specs.Passing.{IsOf}
+use Rattle.network_events.specs.Peers.{input_at}
+use Rattle.member_trait.specs.Membership.{Membership, is_member}
 use Rattle.member_trait.specs.Owed.{owed}
-use Rattle.network_events.specs.Rooms.{IsRoomy, emptied, is_live, is_talking, own_most}
+use Rattle.network_events.specs.Rooms.{IsRoomy, emptied, is_live, own_most}
 use Rattle.network_events.specs.Roomy.{KeepsOn}
 use Rattle.network_events.specs.Standing.{Goes, IsAt, here_of, state_of}
 use Rattle.network_events.proofs.GoLaws.{self}
-use Rattle.network_events.proofs.RoomyNeeds.{live_outside}
+use Rattle.network_events.proofs.RoomyInputs.{HasWord, fits_at, input_keeps}
 use Rattle.network_events.proofs.RoomySteps.{emptied_keeps, ends_roomy}
-use Rattle.network_events.proofs.RoomyOpens.{connect_keeps, open_keeps}
+use Rattle.network_events.proofs.RoomyOpens.{connect_keeps}
 
 -- what stands where a call did what it was asked
 pub on_ok_of : {A : Type 0} {E : Type 0} {X : Type 0} (r : Result A E) (u : A) → r ≡ Ok u → OnOk r X → X
@@ -103,27 +109,22 @@ module _ {P : Type 0} {S : Type 0} (show : S → List Hop) (n : NetworkParts) wh
       (emptied_keeps n ms f roomy))
 
   -- the Open has room
-  pub fits_open : (i holder sid : ℕ) (t : Tick) (at : As) (ms : Membership P S) (f : Flow) → at ≡ element_of n i → (f.accesses i).connection ≡ Some (just_open holder sid t) → 1 ≤ own_most n → KeepsOn (own_most n) n ms f →
+  pub fits_open : (i holder sid : ℕ) (t : Tick) (at : As) (ms : Membership P S) (f : Flow) → at ≡ element_of n i → is_member n at ≡ true → IsOf n f → (f.accesses i).connection ≡ Some (just_open holder sid t) → 2 ≤ own_most n → KeepsOn (own_most n) n ms f →
       FitsInput at (Outside i) input.Begin (session_at at (Outside i) f) ms f
-  fits_open i holder sid t at ms f at_is open' some keeps =
-      let room = (keeps.answers.live at (Outside i) (live_outside n f i at at_is (ap is_talking open'))).last_words in
-      subst (λ (c : Option Connection). FitsInput at (Outside i) input.Begin (option_map (λ (x : Connection). x.session) c) ms f) (sym open') (record {
-        stays = λ e. record {
-          turn = tt;
-          room = record {
-            there = record { messages = omega (arith, room.messages); bytes = omega (arith, room.bytes) };
-            none = refl;
-            elsewhere = λ q miss. record { messages = omega arith; bytes = omega arith };
-            said = record { messages = omega (arith, some, keeps.said.messages); bytes = omega (arith, some, keeps.said.bytes) };
-          };
-        };
-        breaks = λ e. tt;
-      })
+  fits_open i holder sid t at ms f end member of open' some keeps =
+      let there = ap (option_map (λ (k : Connection). k.session)) open' in
+      subst (λ (c : Option Session). FitsInput at (Outside i) input.Begin c ms f) (sym there) (fits_at n (own_most n) at (Outside i) input.Begin (just_open holder sid t).session ms f end member of there some keeps tt)
 
-  pub opened_roomy : (i holder sid : ℕ) (t : Tick) (g : Going P S) (n' : NetworkParts) (ms ms' : Membership P S) (lost lost' : As → List Lost) (f f' : Flow) → 1 ≤ own_most n → (f.accesses i).connection ≡ Some (just_open holder sid t) →
-      Goes (λ k. deeds.outside_input P S wire k show i input.Begin) (here_of n ms lost f) (here_of n' ms' lost' f') → IsAt g ms f → KeepsOn (own_most n) n ms f → IsRoomy n ms' f'
-  opened_roomy i holder sid t g n' ms ms' lost lost' f f' some open' goes is keeps =
-      ends_roomy n 0 ms' f' (open_keeps show n 0 (own_most n) i holder sid t g n' ms ms' lost lost' f f' (omega (arith, some)) open' goes is keeps)
+  pub opened_roomy : (i holder sid : ℕ) (t : Tick) (at : As) (g : Going P S) (n' : NetworkParts) (ms ms' : Membership P S) (lost lost' : As → List Lost) (f f' : Flow) → at ≡ element_of n i → is_member n at ≡ true → IsOf n f →
+      (f.accesses i).connection ≡ Some (just_open holder sid t) → 2 ≤ own_most n → Goes (λ k. input_at P S k show at (Outside i) input.Begin) (here_of n ms lost f) (here_of n' ms' lost' f') → IsAt g ms f → KeepsOn (own_most n) n ms f → IsRoomy n ms' f'
+  opened_roomy i holder sid t at g n' ms ms' lost lost' f f' end member of open' some goes is keeps =
+      ends_roomy n 0 ms' f'
+      (input_keeps show n 0 (own_most n) at (Outside i) input.Begin (just_open holder sid t).session g n' ms ms' lost lost' f f' some end member of (ap (option_map (λ (k : Connection). k.session)) open') tt word goes is keeps)
+    where
+      word : (o : Own) → action.Send (saying.Open (our_offer sid)) ∷ [] ≡ action.Send o ∷ [] → HasWord at (Outside i) false o ms f
+      word o one =
+          let says : saying.Open (our_offer sid) ≡ o = cc in
+          subst (λ (y : Own). HasWord at (Outside i) false y ms f) says (inr (omega arith, λ left. ap (λ (c : Option Connection). is_empty (out_of c)) open'))
 
   -- ---- the event
 

@@ -53,7 +53,7 @@ use Rattle.network_events.proofs.RoomyNeeds.{adjacency_back, linked_in}
 use Rattle.network_events.proofs.RoomySteps.{begins_keeps, ends_roomy}
 use Rattle.network_events.proofs.StepLemmas.{done_moves}
 use Rattle.network_events.proofs.RoomyStarts.{less_keeps, word_less, words_at_link, words_at_peer}
-use Rattle.network_events.proofs.RoomyTakes.{KeepsWord, fits_at, input_keeps, live_at}
+use Rattle.network_events.proofs.RoomyInputs.{KeepsWord, fits_at, input_keeps, live_at}
 use Rattle.network_events.proofs.TurnLaws.{steps_are_turns}
 
 -- what comes is no tick
@@ -327,8 +327,8 @@ module _ {P : Type 0} {S : Type 0} (show : S → List Hop) {n : NetworkParts} {a
     pub acted_roomy : {n' : NetworkParts} {ms' : Membership P S} {lost lost' : As → List Lost} {f' : Flow} → Goes (λ k. input_at P S k show at to input) (here_of n ms lost f) (here_of n' ms' lost' f') → IsRoomy n ms' f'
     acted_roomy {n' = n'} {ms' = ms'} {lost = lost} {lost' = lost'} {f' = f'} goes =
         ends_roomy n 0 ms' f'
-        (input_keeps show n 0 (own_most n) at to input x.steps.session (first_gone show n at to (state_of ms start)) n' ms ms' lost lost' f f' x.some end_there x.member of_there session_there (sym (no_tick x.steps.item)) turn_there
-        (word_less n at to ms made f less word) goes (first_leaves show n at to ms start made x.cleared f x.grows x.clears x.drops) keeps_there)
+        (input_keeps show n 0 (own_most n) at to input x.steps.session (first_gone show n at to (state_of ms start)) n' ms ms' lost lost' f f' x.some end_there x.member of_there session_there turn_there
+        (λ o one. inl (word_less n at to ms made f less word)) goes (first_leaves show n at to ms start made x.cleared f x.grows x.clears x.drops) keeps_there)
 
 -- ---- a message is passed on, and nothing else is done
 

@@ -1,5 +1,6 @@
 -- What deeds of the model leave of members, of connections and of what is said, and how much of that room pays for.
 use Rattle.std.proofs.Common.{◌≡◌, ◌≤◌, ℕ, ◌+◌, ◌*◌, ◌%◌, Bool, true, false, not, cond, ◌==◌, Option, Some, None, List, [], ◌∷◌, ◌++◌, length, refl, ap, sym, subst, ◌∙◌, arith, inl, inr, append_assoc, append-nil}
+use Rattle.std.specs.Option.{option_map}
 use Rattle.std.proofs.lemmas.Bool.{cases_Bool, eqb-true}
 use Rattle.dom_base.specs.declared.names.As.{As}
 use Rattle.dom_base.specs.declared.names.Peer.{Peer}
@@ -11,7 +12,7 @@ use Rattle.plant_text.specs.declared.settings.NetworkParts.{NetworkParts}
 use Rattle.plant_text.specs.Names.{same_as, parent_as}
 use Rattle.plant_text.specs.Settings.{Adjacency}
 use Rattle.member_trait.specs.plant_model.declared.output.Output.{Output}
-use Rattle.member_trait.specs.plant_model.Names.{set_pair, set_number}
+use Rattle.member_trait.specs.plant_model.Names.{is_empty, set_pair, set_number}
 use Rattle.member_trait.specs.plant_model.Wire.{Bytes}
 use Rattle.member_trait.specs.plant_model.RealWire.{wire}
 use Rattle.member_trait.specs.plant_model.Element as element
@@ -19,19 +20,22 @@ use Rattle.member_trait.specs.plant_model.Parent as parent
 use Rattle.member_trait.specs.plant_model.State.{State, Access, Connection, said}
 use Rattle.member_trait.specs.plant_model.Events.{is_down}
 use Rattle.member_trait.specs.plant_model.Deeds as deeds
-use Rattle.member_trait.specs.plant_model.Deeds.{Going, element_of, on_connection, with_more, with_session, with_inbox, our_offer, is_due, is_out_empty}
+use Rattle.member_trait.specs.plant_model.Deeds.{Going, any_fall, element_of, on_connection, with_more, with_session, with_inbox, our_offer, is_due, is_out_empty}
+use Rattle.pcep_session.specs.declared.actions.Action.{Action}
 use Rattle.pcep_session.specs.declared.actions.Action.TheVariants as action
 use Rattle.pcep_session.specs.declared.actions.Own.{Own}
 use Rattle.pcep_session.specs.declared.actions.Own.TheVariants as own
-use Rattle.pcep_session.specs.declared.actions.Reason.{Reason}
 use Rattle.pcep_session.specs.declared.state.State.{State as Session}
-use Rattle.network_links.specs.plant_sessions.Ends.{own_bytes}
-use Rattle.network_links.specs.Flow.{out_of}
-use Rattle.network_events.specs.Acting.{size_in}
+use Rattle.network_links.specs.plant_sessions.Ends.{own_bytes, said_in}
+use Rattle.network_links.specs.Flow.{Flow, out_of, queue_at}
+use Rattle.network_events.specs.Acting.{IsOwnTurn, size_in}
+use Rattle.network_events.specs.Peers.{acts_at, down_at, is_out_empty_at}
+use Rattle.network_events.specs.Standing.{IsAt}
 use Rattle.member_trait.specs.Membership.{Membership, expired, fallen, lost_at, raised}
 use Rattle.network_events.specs.Rooms.{is_talking}
-use Rattle.network_events.proofs.GoLaws.{self}
+use Rattle.network_events.proofs.GoLaws.{length_push, self, total_push}
 use Rattle.network_events.proofs.BreakLaws.{told}
+use Rattle.network_events.proofs.InputLaws.{session_in, set_at, some_is}
 use Rattle.network_events.proofs.RoomyNeeds.{apart_back}
 
 -- the members of a state
@@ -55,6 +59,14 @@ more_talks (Some x) k bytes = refl
 abbrev pub spoken : As → Peer → List Bytes → List Sent
 spoken at to [] = []
 spoken at to (m ∷ ms) = sent_of at to m ∷ spoken at to ms
+
+spoken_push : (at : As) (to : Peer) (ms : List Bytes) (m : Bytes) → spoken at to ms ++ sent_of at to m ∷ [] ≡ spoken at to (ms ++ m ∷ [])
+spoken_push at to [] m = refl
+spoken_push at to (x ∷ ms) m = ap (λ (ss : List Sent). sent_of at to x ∷ ss) (spoken_push at to ms m)
+
+empty_is : (out : List Bytes) → is_empty out ≡ true → out ≡ []
+empty_is [] e = refl
+empty_is (x ∷ out) e = cc
 
 -- an Open from one end to the other
 abbrev pub open_of : ℕ → As → As → Sent
@@ -276,47 +288,85 @@ module _ {P : Type 0} {S : Type 0} (show : S → List Hop) (n : NetworkParts) wh
             ∙ ap (λ (a : Access). is_talking a.connection) (number_miss i j (on_connection (with_session next) (g.state.accesses i)) g.state.accesses miss);
       }
 
-  -- its last words at a tick
-  pub outside_closes : (i : ℕ) (o : Own) (why : Reason) (next : Session) (g : Going P S) → length (own_bytes o) ≤ 12 → is_down next.phase ≡ true →
-      Closes i 1 g (deeds.outside_acts P S wire n show i true (action.Send o ∷ action.Down why ∷ []) (record { state = deeds.with_access P S wire n show i (with_session next) g.state; deeds = g.deeds }))
-  outside_closes i o why next g short over = go (cond true (cond (is_due o) (cond (is_out_empty (g0.state.accesses i).connection) false true) false) false)
+  -- what it says, and then goes down
+  pub closes_by : (i most : ℕ) (ticks : Bool) (as' : List Action) (words : List Bytes) (next : Session) (g g1 : Going P S) → IsOwnTurn as' → any_fall as' ≡ true → is_down next.phase ≡ true →
+      length words + length (said_in as') ≤ most → size_in words + size_in (said_in as') ≤ 12 * most → Leaves (members_of g.state) (spoken (element_of n i) (Outside i) words) (set_at show n (element_of n i) (Outside i) next g) g1 →
+      Closes i most g (acts_at P S n show (element_of n i) (Outside i) ticks as' g1)
+  closes_by i most ticks [] words next g g1 turn falls over few short leaves = cc
+  closes_by i most ticks (action.Send o ∷ as') words next g g1 turn falls over few short leaves =
+      go (cond ticks (cond (is_due o) (cond (is_out_empty (g1.state.accesses i).connection) false true) false) false)
+      (closes_by i most ticks as' words next g g1 turn falls over (omega (arith, few)) (omega (arith, short)) leaves)
+      (closes_by i most ticks as' (words ++ own_bytes o ∷ []) next g g2 turn falls over (omega (arith, few, length_push words (own_bytes o))) (omega (arith, short, total_push words (own_bytes o))) more)
     where
-      at : As
-      at = element_of n i
+      e : As
+      e = element_of n i
 
-      g0 : Going P S
-      g0 = record { state = deeds.with_access P S wire n show i (with_session next) g.state; deeds = g.deeds }
+      g2 : Going P S
+      g2 = deeds.say P S wire n show e (Outside i) o g1
 
-      go : (b : Bool) → Closes i 1 g (deeds.outside_act P S wire n show i true (action.Down why) (cond b g0 (deeds.say P S wire n show at (Outside i) o g0)))
-      go true = closes_after i 1 [] next g g0 (omega arith) (omega arith) over (same_leaves g0)
-      go false = closes_after i 1 (own_bytes o ∷ []) next g (deeds.say P S wire n show at (Outside i) o g0) (omega arith) (omega (arith, short)) over (say_leaves at (Outside i) o g0)
+      more : Leaves (members_of g.state) (spoken e (Outside i) (words ++ own_bytes o ∷ [])) (set_at show n e (Outside i) next g) g2
+      more = subst (λ (ss : List Sent). Leaves (members_of g.state) ss (set_at show n e (Outside i) next g) g2) (spoken_push e (Outside i) words (own_bytes o))
+          (leaves_then (members_of g.state) (members_of g.state) (spoken e (Outside i) words) (sent_of e (Outside i) (own_bytes o) ∷ []) (set_at show n e (Outside i) next g) g1 g2 leaves
+          (subst (λ (y : Membership P S). Leaves y (sent_of e (Outside i) (own_bytes o) ∷ []) g1 g2) leaves.members (say_leaves e (Outside i) o g1)))
 
-  -- what an outside session says first
-  pub first_outside : (i : ℕ) (m : Bytes) (next : Session) (x : Connection) (g : Going P S) → (g.state.accesses i).connection ≡ Some x → x.out ≡ [] →
-      out_of ((deeds.put_to P S wire n show (element_of n i) m (deeds.with_access P S wire n show i (with_session next) g.state) (Outside i)).accesses i).connection ≡ m ∷ []
-  first_outside i m next x g is none =
-      ap (λ (a : Access). out_of a.connection) (number_self i (on_connection (with_more m) (a1 i)) a1)
-      ∙ ap (λ (a : Access). out_of (on_connection (with_more m) a).connection) (number_self i (on_connection (with_session next) (g.state.accesses i)) g.state.accesses)
-      ∙ ap (λ (c : Option Connection). out_of (on_connection (with_more m) (on_connection (with_session next) (record { opened = (g.state.accesses i).opened; connection = c }))).connection) is
-      ∙ ap (λ (out : List Bytes). out ++ m ∷ []) none
+      go : (b : Bool) → Closes i most g (acts_at P S n show e (Outside i) ticks as' g1) → Closes i most g (acts_at P S n show e (Outside i) ticks as' g2) → Closes i most g (acts_at P S n show e (Outside i) ticks as' (cond b g1 g2))
+      go true left said = left
+      go false left said = said
+  closes_by i most ticks (action.Up ∷ as') words next g g1 turn falls over few short leaves = let none : false ≡ true = subst (λ (ys : List Action). any_fall ys ≡ true) turn falls in cc
+  closes_by i most ticks (action.Down why ∷ as') words next g g1 turn falls over few short leaves =
+      let e = element_of n i in
+      subst (λ (ys : List Action). Closes i most g (acts_at P S n show e (Outside i) ticks ys (down_at P S n show e (Outside i) g1))) (sym turn)
+      (closes_after i most words next g g1 (omega (arith, few)) (omega (arith, short)) over leaves)
+  closes_by i most ticks (action.Pass m ∷ as') words next g g1 turn falls over few short leaves = absurd turn
+
+  -- ---- any session
+
+  -- the state that was set
+  pub session_set : (at : As) (to : Peer) (s next : Session) (g : Going P S) → session_in at to g.state ≡ Some s → session_in at to (set_at show n at to next g).state ≡ Some next
+  session_set at (Inner b) s next g there = ap Some (pair_self at b next g.state.sessions)
+  session_set at (Outside i) s next g there =
+      ap (λ (a : Access). option_map (λ (k : Connection). k.session) a.connection) (number_self i (on_connection (with_session next) (g.state.accesses i)) g.state.accesses) ∙ go (g.state.accesses i).connection there
     where
-      a1 : ℕ → Access
-      a1 = set_number i (on_connection (with_session next) (g.state.accesses i)) g.state.accesses
+      go : (c : Option Connection) → option_map (λ (k : Connection). k.session) c ≡ Some s → option_map (λ (k : Connection). k.session) (on_connection (with_session next) (record { opened = (g.state.accesses i).opened; connection = c })).connection ≡ Some next
+      go None e = cc
+      go (Some k) e = refl
 
-  -- a step of an outside session after which it is as much over as before
-  pub session_leaves : (i : ℕ) (next : Session) (x : Connection) (g : Going P S) → (g.state.accesses i).connection ≡ Some x → is_down next.phase ≡ is_down x.session.phase →
-      Leaves (members_of g.state) [] g (record { state = deeds.with_access P S wire n show i (with_session next) g.state; deeds = g.deeds })
-  session_leaves i next x g is same = record { members = refl; said = sym (append-nil (said wire g.deeds)); talks = λ j. go j (i == j) (eqb-true i j) }
+  -- as much waits for the peer as before
+  pub out_set : (at : As) (to : Peer) (next : Session) (g : Going P S) → is_out_empty_at P S n show at to (set_at show n at to next g).state ≡ is_out_empty_at P S n show at to g.state
+  out_set at (Inner b) next g = refl
+  out_set at (Outside i) next g =
+      ap (λ (a : Access). is_out_empty a.connection) (number_self i (on_connection (with_session next) (g.state.accesses i)) g.state.accesses) ∙ go (g.state.accesses i).connection
     where
-      one : is_talking (on_connection (with_session next) (g.state.accesses i)).connection ≡ is_talking (g.state.accesses i).connection
-      one = ap (λ (c : Option Connection). is_talking (on_connection (with_session next) (record { opened = (g.state.accesses i).opened; connection = c })).connection) is ∙ ap not same ∙ ap is_talking (sym is)
+      go : (c : Option Connection) → is_out_empty (on_connection (with_session next) (record { opened = (g.state.accesses i).opened; connection = c })).connection ≡ is_out_empty c
+      go None = refl
+      go (Some k) = refl
+
+  -- a message that is said first waits alone
+  pub said_alone : (at : As) (to : Peer) (s : Session) (o : Own) (g : Going P S) (ms : Membership P S) (f : Flow) → session_in at to g.state ≡ Some s → is_out_empty_at P S n show at to g.state ≡ true →
+      IsAt (deeds.say P S wire n show at to o g) ms f → queue_at at to f ≡ own_bytes o ∷ []
+  said_alone at (Inner b) s o g ms f there none is =
+      ap (λ (z : State P S). z.queues at b) is.state ∙ pair_self at b (g.state.queues at b ++ own_bytes o ∷ []) g.state.queues ∙ ap (λ (out : List Bytes). out ++ own_bytes o ∷ []) (empty_is (g.state.queues at b) none)
+  said_alone at (Outside i) s o g ms f there none is =
+      ap (λ (z : State P S). out_of (z.accesses i).connection) is.state ∙ ap (λ (a : Access). out_of a.connection) (number_self i (on_connection (with_more (own_bytes o)) (g.state.accesses i)) g.state.accesses)
+      ∙ go (g.state.accesses i).connection there none
+    where
+      go : (c : Option Connection) → option_map (λ (k : Connection). k.session) c ≡ Some s → is_out_empty c ≡ true →
+          out_of (on_connection (with_more (own_bytes o)) (record { opened = (g.state.accesses i).opened; connection = c })).connection ≡ own_bytes o ∷ []
+      go None e e' = cc
+      go (Some k) e e' = ap (λ (out : List Bytes). out ++ own_bytes o ∷ []) (empty_is k.out e')
+
+  -- a step after which it is as much over as before
+  pub stays_leaves : (at : As) (to : Peer) (s next : Session) (g : Going P S) → session_in at to g.state ≡ Some s → is_down next.phase ≡ is_down s.phase → Leaves (members_of g.state) [] g (set_at show n at to next g)
+  stays_leaves at (Inner b) s next g there same = record { members = refl; said = sym (append-nil (said wire g.deeds)); talks = λ i. refl }
+  stays_leaves at (Outside i) s next g there same = record { members = refl; said = sym (append-nil (said wire g.deeds)); talks = λ j. go j (i == j) (eqb-true i j) }
+    where
+      one : (c : Option Connection) → option_map (λ (k : Connection). k.session) c ≡ Some s → is_talking (on_connection (with_session next) (record { opened = (g.state.accesses i).opened; connection = c })).connection ≡ is_talking c
+      one None e = cc
+      one (Some k) e = ap not (same ∙ ap (λ (q : Session). is_down q.phase) (sym (some_is k.session s e)))
 
       go : (j : ℕ) (b : Bool) → (b ≡ true → i ≡ j) → is_talking (cond b (on_connection (with_session next) (g.state.accesses i)) (g.state.accesses j)).connection ≡ is_talking (g.state.accesses j).connection
-      go j true hit = one ∙ ap (λ (k : ℕ). is_talking (g.state.accesses k).connection) (hit refl)
+      go j true hit = one (g.state.accesses i).connection there ∙ ap (λ (k : ℕ). is_talking (g.state.accesses k).connection) (hit refl)
       go j false hit = refl
-
-  pub inner_leaves : (at b : As) (next : Session) (g : Going P S) → Leaves (members_of g.state) [] g (record { state = deeds.with_inner P S wire n show at b next g.state; deeds = g.deeds })
-  inner_leaves at b next g = record { members = refl; said = sym (append-nil (said wire g.deeds)); talks = λ i. refl }
 
   pub expire_leaves : (now : ℕ) (g : Going P S) → Leaves (expired now (members_of g.state)) [] g (deeds.expire P S wire n show now g)
   expire_leaves now g = record { members = refl; said = refl; talks = λ i. refl }

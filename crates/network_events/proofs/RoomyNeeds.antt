@@ -1,42 +1,34 @@
 -- The room that is kept is enough for all that is said where no memory is taken.
-use Rattle.std.proofs.Common.{◌≡◌, ◌≤◌, ℕ, ◌+◌, ◌*◌, Bool, true, false, not, cond, is_some, Option, Some, None, List, [], ◌∷◌, length, refl, ap, sym, subst, ◌∙◌, arith, inl, inr}
-use Rattle.std.specs.Option.{option_map}
+use Rattle.std.proofs.Common.{◌≡◌, ◌≤◌, ℕ, ◌+◌, ◌*◌, Bool, true, false, not, cond, is_some, List, [], ◌∷◌, length, refl, ap, sym, ◌∙◌, arith, inl, inr}
 use Rattle.std.specs.Prelude.{nat_lt}
 use Rattle.std.proofs.lemmas.Bool.{cases_Bool, eq-eqb}
 use Rattle.dom_base.specs.declared.names.As.{As}
-use Rattle.dom_base.specs.declared.names.Tick.{Tick}
 use Rattle.dom_base.specs.declared.names.Peer.{Peer}
 use Rattle.dom_base.specs.declared.names.Peer.TheVariants.{Outside, Inner}
-use Rattle.pcep_session.specs.declared.actions.Action.{Action}
 use Rattle.pcep_session.specs.declared.session.Input.{Input}
-use Rattle.pcep_session.specs.declared.session.Input.TheVariants as input
 use Rattle.pcep_session.specs.declared.state.Phase.{Phase}
 use Rattle.pcep_session.specs.declared.state.Phase.TheVariants as phase
 use Rattle.pcep_session.specs.declared.state.State.{State as Session}
-use Rattle.pcep_session.specs.Table.{SessionStep, turn_in, turn_of, quiet}
+use Rattle.pcep_session.specs.Table.{turn_in, turn_of, quiet}
 use Rattle.plant_queues.specs.Messages.{Covers}
 use Rattle.plant_text.specs.declared.settings.NetworkParts.{NetworkParts}
 use Rattle.plant_text.specs.Names.{same_as, same_link, parent_as}
 use Rattle.plant_text.specs.Settings.{Adjacency, adjacency, adjacencies, has_adjacency, is_element, elements_of}
-use Rattle.member_trait.specs.plant_model.State.{Connection}
 use Rattle.member_trait.specs.plant_model.Deeds.{element_of}
 use Rattle.member_trait.specs.plant_model.Events.{is_down}
-use Rattle.network_links.specs.Flow.{Flow, room_at, session_at}
+use Rattle.network_links.specs.Flow.{Flow, room_at}
 use Rattle.member_trait.specs.Membership.{Membership, is_member, fallen, lost_at}
 use Rattle.member_trait.specs.Owed.{is_peer, owed, pending_in}
 use Rattle.network_events.specs.Telling.{RoomToTell, count_lost}
 use Rattle.network_events.specs.Breaking.{RoomToBreak}
-use Rattle.network_events.specs.Acting.{Fits, FitsInput, FitsTurn, RoomToBreakAt}
+use Rattle.network_events.specs.Acting.{RoomToBreakAt}
 use Rattle.network_events.specs.Passing.{IsOf}
 use Rattle.network_events.specs.Peers.{IsLinkEnd}
-use Rattle.network_events.specs.Turns.{IsTickTurn}
 use Rattle.network_events.specs.Rooms.{is_live, is_talking}
 use Rattle.network_events.specs.Roomy.{KeepsOn}
 use Rattle.network_events.proofs.GoLaws.{self, as_is}
-use Rattle.network_events.proofs.OwedLaws.{fallen_count, fallen_none}
+use Rattle.network_events.proofs.OwedLaws.{fallen_count}
 use Rattle.network_events.proofs.PendingLaws.{among, element_among, fallen_pending}
-use Rattle.network_events.proofs.ActLaws.{act_none}
-use Rattle.network_events.proofs.TurnLaws.{ticks_are_turns}
 
 pub apart_back : (a b : As) → same_as a b ≡ false → same_as b a ≡ false
 apart_back a b miss = elim (cases_Bool (same_as b a)) [
@@ -200,60 +192,8 @@ module _ {P : Type 0} {S : Type 0} (n : NetworkParts) where
       second : (q : Peer) → count_lost (is_peer q) (lost_at u (Inner l) (fallen l (Inner u) ms)) ≤ owed u q ms
       second q = omega (arith, lost_owed u (Inner l) q (fallen l (Inner u) ms), fallen_owed l u (Inner u) q ms)
 
-  -- what a session asks for at a tick has room, through a queue that is used
-  pub acts_room : (own : ℕ) (at : As) (to : Peer) (as' : List Action) (ms : Membership P S) (f : Flow) → is_member n at ≡ true → is_live n f at to ≡ true → 1 ≤ own → KeepsOn own n ms f → IsTickTurn as' → Fits at to as' ms f
-  acts_room own at to as' ms f member live some keeps (inl none) = subst (λ (x : List Action). Fits at to x ms f) (sym none) (record { turn = tt; room = act_none at to f })
-  acts_room own at to as' ms f member live some keeps (inr (inl alone)) =
-      let room = (keeps.answers.live at to live).last_words in
-      subst (λ (x : List Action). Fits at to x ms f) (sym alone) (record {
-        turn = tt;
-        room = record {
-          there = record { messages = omega (arith, room.messages); bytes = omega (arith, room.bytes) };
-          none = refl;
-          elsewhere = λ q miss. record { messages = omega arith; bytes = omega arith };
-          said = record { messages = omega (arith, some, keeps.said.messages); bytes = omega (arith, some, keeps.said.bytes) };
-        };
-      })
-  acts_room own at to as' ms f member live some keeps (inr (inr (o, why, short, last))) =
-      let room = (keeps.answers.live at to live).last_words in
-      let tells = tells_room own at to ms f member keeps in
-      let lost = lost_pending at to ms member in
-      subst (λ (x : List Action). Fits at to x ms f) (sym last) (record {
-        turn = refl;
-        room = record {
-          there = record { messages = omega (arith, room.messages); bytes = omega (arith, short, room.bytes) };
-          none = (fallen_none (is_peer to) at to ms (λ q miss. miss)).1;
-          elsewhere = λ q miss. tells.there q;
-          said = record { messages = omega (arith, some, keeps.said.messages, lost); bytes = omega (arith, short, some, keeps.said.bytes, lost) };
-        };
-      })
-
   -- an end of a link that breaks
   pub breaks_end : (own : ℕ) (at b : As) (ms : Membership P S) (f : Flow) → IsLinkEnd n f at b → is_member n at ≡ true → IsOf n f → 2 ≤ own → KeepsOn own n ms f → RoomToBreakAt at (Inner b) ms f
   breaks_end own at b ms f end member of some keeps =
       let link = link_of n f at b end member of in
       breaks_room own (adjacency b at).lower (adjacency b at).upper ms f link.apart link.lower link.upper link.linked some keeps
-
-  -- a tick at an outside peer
-  pub fits_tick : (own i : ℕ) (at : As) (now : Tick) (ms : Membership P S) (f : Flow) → at ≡ element_of n i → is_member n at ≡ true → 1 ≤ own → KeepsOn own n ms f → FitsInput at (Outside i) (input.Tick now) (session_at at (Outside i) f) ms f
-  fits_tick own i at now ms f at_is member some keeps = go (f.accesses i).connection refl
-    where
-      go : (c : Option Connection) → (f.accesses i).connection ≡ c → FitsInput at (Outside i) (input.Tick now) (option_map (λ (x : Connection). x.session) c) ms f
-      go None is = tt
-      go (Some x) is = record {
-        stays = λ e. elim (cases_Bool (is_down x.session.phase)) [
-          | inl over ↦
-              subst (λ (as' : List Action). Fits at (Outside i) as' ms f) (sym (ap (λ (t : SessionStep). t.actions) (down_quiet x.session (input.Tick now) over))) (record { turn = tt; room = act_none at (Outside i) f })
-          | inr up ↦
-              let live : is_live n f at (Outside i) ≡ true = live_outside n f i at at_is (ap is_talking is ∙ ap not up) in
-              acts_room own at (Outside i) (turn_of x.session (input.Tick now)).actions ms f member live some keeps (ticks_are_turns x.session now)
-        ];
-        breaks = λ e. tt;
-      }
-
-  -- a tick at an end of a link
-  pub fits_link : (own : ℕ) (at b : As) (s : Session) (now : Tick) (ms : Membership P S) (f : Flow) → IsLinkEnd n f at b → is_member n at ≡ true → IsOf n f → 2 ≤ own → KeepsOn own n ms f → FitsTurn at (Inner b) (turn_of s (input.Tick now)).actions ms f
-  fits_link own at b s now ms f end member of some keeps = record {
-    stays = λ e. acts_room own at (Inner b) (turn_of s (input.Tick now)).actions ms f member (linked_in n f at b of end.linked) (omega (arith, some)) keeps (ticks_are_turns s now);
-    breaks = λ e. breaks_end own at b ms f end member of some keeps;
-  }

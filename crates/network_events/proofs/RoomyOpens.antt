@@ -1,28 +1,24 @@
 -- The room that is kept stays so where an outside peer opens, shuts, feeds and drains, and where the clock goes on.
-use Rattle.std.proofs.Common.{◌≡◌, ◌≤◌, ℕ, ◌+◌, ◌*◌, Bool, true, false, cond, ◌==◌, is_some, Option, Some, None, List, [], ◌∷◌, length, refl, ap, sym, subst, ◌∙◌, arith, inl, inr, append-nil}
+use Rattle.std.proofs.Common.{◌≡◌, ◌≤◌, ℕ, ◌*◌, Bool, true, false, cond, ◌==◌, is_some, Option, Some, None, List, [], length, refl, ap, sym, subst, ◌∙◌, arith, inl, inr, append-nil}
 use Rattle.std.proofs.lemmas.Bool.{cases_Bool, eqb-true}
 use Rattle.dom_base.specs.declared.names.As.{As}
 use Rattle.dom_base.specs.declared.names.Tick.{Tick}
 use Rattle.dom_base.specs.declared.names.Peer.{Peer}
 use Rattle.dom_base.specs.declared.names.Peer.TheVariants.{Outside, Inner}
 use Rattle.pcep_subobjects.specs.declared.hop.Hop.{Hop}
-use Rattle.pcep_session.specs.declared.actions.Own.TheVariants as saying
-use Rattle.pcep_session.specs.declared.session.Input.TheVariants as input
-use Rattle.pcep_session.specs.declared.state.State.{State as Session}
-use Rattle.pcep_session.specs.Table.{new_state, turn_of}
 use Rattle.plant_queues.specs.Messages.{Spare, total}
-use Rattle.plant_queues.specs.Sents.{sent_of, size_of}
+use Rattle.plant_queues.specs.Sents.{size_of}
 use Rattle.plant_text.specs.declared.settings.NetworkParts.{NetworkParts}
 use Rattle.plant_text.specs.Names.{same_as, parent_as}
 use Rattle.member_trait.specs.plant_model.declared.output.Lost.{Lost}
 use Rattle.member_trait.specs.plant_model.Names.{set_number}
 use Rattle.member_trait.specs.plant_model.RealWire.{wire}
-use Rattle.member_trait.specs.plant_model.State.{State, Access, Connection}
+use Rattle.member_trait.specs.plant_model.State.{Access, Connection}
 use Rattle.member_trait.specs.plant_model.Deeds as deeds
-use Rattle.member_trait.specs.plant_model.Deeds.{Going, element_of, on_connection, our_offer, with_session}
+use Rattle.member_trait.specs.plant_model.Deeds.{Going, element_of, on_connection}
 use Rattle.member_trait.specs.plant_model.Events.{is_down, fed, drained}
 use Rattle.member_trait.specs.plant_model.Wire.{Bytes}
-use Rattle.network_links.specs.plant_sessions.Ends.{own_bytes, just_open, fed_while_up}
+use Rattle.network_links.specs.plant_sessions.Ends.{fed_while_up}
 use Rattle.network_links.specs.plant_sessions.Rooms.{KeepsRoom, Frees, queue, room_in_all}
 use Rattle.network_links.specs.Flow.{Flow, GrowsAt, KeepsRoomAt, change_access, just_opened, no_room, out_of, queue_at, room_at, set_access, set_room, shut}
 use Rattle.network_events.specs.Accounts.{Accounts, count_into, bytes_into, queue_in, has_queue}
@@ -37,9 +33,9 @@ use Rattle.network_events.proofs.ActLaws.{access_accounts}
 use Rattle.network_events.proofs.OwedLaws.{fallen_none}
 use Rattle.network_events.proofs.RoomyNeeds.{fallen_owed}
 use Rattle.network_events.proofs.RoomySteps.{pays_on}
-use Rattle.network_events.proofs.RoomyDeeds.{access_talks, first_outside, leaves_then, members_of, number_miss, say_leaves, session_leaves}
-use Rattle.network_events.proofs.RoomyPays.{live_like, still_pays, word_pays}
-use Rattle.network_events.proofs.RoomyEvents.{carried, fall_keeps}
+use Rattle.network_events.proofs.RoomyDeeds.{access_talks, number_miss}
+use Rattle.network_events.proofs.RoomyPays.{live_like, still_pays}
+use Rattle.network_events.proofs.RoomyEvents.{fall_keeps}
 
 none_live : (b : Bool) → cond b false false ≡ true → ⊥
 none_live true e = cc
@@ -263,21 +259,3 @@ module _ {P : Type 0} {S : Type 0} (show : S → List Hop) (n : NetworkParts) wh
         | inl hit ↦ subst (λ (k : ℕ). owed at (Outside k) ms ≡ 0) (eqb-true i j hit) (keeps.answers.dead at (Outside i) (before at))
         | inr miss ↦ keeps.answers.dead at (Outside j) (ap (λ (a : Access). cond (same_as at (element_of n j)) (is_talking a.connection) false) (sym (access j miss)) ∙ is)
       ]
-
-  -- its session says its Open
-  pub open_keeps : (own all i holder sid : ℕ) (t : Tick) (g : Going P S) (n' : NetworkParts) (ms ms' : Membership P S) (lost lost' : As → List Lost) (f f' : Flow) → 1 + own ≤ all → (f.accesses i).connection ≡ Some (just_open holder sid t) →
-      Goes (λ k. deeds.outside_input P S wire k show i input.Begin) (here_of n ms lost f) (here_of n' ms' lost' f') → IsAt g ms f → KeepsOn all n ms f → KeepsOn own n ms' f'
-  open_keeps own all i holder sid t g n' ms ms' lost lost' f f' some open' goes is keeps =
-      let m : Bytes = own_bytes (saying.Open (our_offer sid)) in
-      let x : Connection = just_open holder sid t in
-      let next : Session = (turn_of (new_state (our_offer sid) t) input.Begin).next in
-      let here' : (g.state.accesses i).connection ≡ Some x = sym (ap (λ (s : State P S). (s.accesses i).connection) is.state) ∙ open' in
-      let g0 : Going P S = record { state = deeds.with_access P S wire n show i (with_session next) g.state; deeds = g.deeds } in
-      let g1 : Going P S = deeds.say P S wire n show (element_of n i) (Outside i) (saying.Open (our_offer sid)) g0 in
-      let at' : IsAt g1 ms' f' = subst (λ (c : Option Connection). IsAt (deeds.outside_step P S wire n show i input.Begin g c) ms' f') here' (goes.goes g is) in
-      let says = leaves_then show n (members_of g.state) (members_of g.state) [] (sent_of (element_of n i) (Outside i) m ∷ []) g g0 g1
-      (session_leaves show n i next x g here' refl) (say_leaves show n (element_of n i) (Outside i) (saying.Open (our_offer sid)) g0) in
-      let c = carried show n (λ y. y) (λ y. sent_of (element_of n i) (Outside i) m ∷ []) g g1 ms ms' f f' says is at' in
-      let alone = ap (λ (s : State P S). out_of (s.accesses i).connection) at'.state ∙ first_outside show n i m next x g here' refl in
-      subst (λ (y : Membership P S). KeepsOn own n y f') (sym c.0)
-      (pays_on n 1 own all ms ms f f' (sent_of (element_of n i) (Outside i) m ∷ []) (word_pays n (element_of n i) (Outside i) m ms f f' goes.room c.1 (live_like n f f' c.2) keeps.answers.dead alone (omega arith)) some keeps)

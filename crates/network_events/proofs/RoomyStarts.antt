@@ -13,7 +13,7 @@ use Rattle.network_events.specs.Rooms.{is_talking, own_most}
 use Rattle.network_events.specs.Roomy.{KeepsOn}
 use Rattle.network_events.proofs.PassRoom.{NoLess, keeps_less}
 use Rattle.network_events.proofs.RoomyPays.{live_like}
-use Rattle.network_events.proofs.RoomyTakes.{KeepsWord}
+use Rattle.network_events.proofs.RoomyInputs.{KeepsWord}
 
 -- what sessions may say in an event, where there is an outside peer or a link
 pub words_at_peer : (n : NetworkParts) (i : ℕ) → i < length n.peers → 2 ≤ own_most n

@@ -1,8 +1,9 @@
 -- What a session says at any input: it stays and says one word at most, or it says two at most and is over, or it passes a message on.
-use Rattle.std.proofs.Common.{◌≡◌, ◌⊎◌, ◌≤◌, ℕ, ◌==◌, ◌&&◌, not, Bool, true, false, cond, [], ◌∷◌, length, Option, Some, None, refl, inl, inr, arith}
+use Rattle.std.proofs.Common.{◌≡◌, ◌⊎◌, ◌≤◌, ℕ, ◌==◌, ◌&&◌, not, Bool, true, false, cond, List, [], ◌∷◌, length, Option, Some, None, refl, inl, inr, arith}
 use Rattle.pcep_objects.specs.declared.object.OpenBody.{OpenBody}
 use Rattle.pcep_messages.specs.declared.message.Message.{Message}
 use Rattle.pcep_messages.specs.declared.message.Message.TheVariants as messages
+use Rattle.pcep_session.specs.declared.actions.Action.{Action}
 use Rattle.pcep_session.specs.declared.actions.Action.TheVariants as action
 use Rattle.pcep_session.specs.declared.actions.Own.{Own}
 use Rattle.pcep_session.specs.declared.actions.Own.TheVariants as saying
@@ -30,17 +31,25 @@ word_length saying.Keepalive = omega arith
 word_length (saying.Error kind value) = omega arith
 word_length (saying.Close why) = omega arith
 
+-- nothing, one word, or that it is up
+abbrev pub StaysBy : List Action → Type 0
+StaysBy as' = (as' ≡ []) ⊎ ((o : Own) × (as' ≡ action.Send o ∷ [])) ⊎ (as' ≡ action.Up ∷ [])
+
 pub record Lives (was : Bool) (t : SessionStep) : Type 0 where
-  pub says : (t.actions ≡ []) ⊎ ((o : Own) × (t.actions ≡ action.Send o ∷ [])) ⊎ (t.actions ≡ action.Up ∷ [])
+  pub says : StaysBy t.actions
   pub after : is_down t.next.phase ≡ was
 
 abbrev pub IsShort : Own → Type 0
 IsShort o = length (own_bytes o) ≤ 12
 
+-- two short words at most, and the end
+abbrev pub EndsBy : Reason → List Action → Type 0
+EndsBy why as' = (as' ≡ action.Down why ∷ []) ⊎ ((o : Own) × IsShort o × (as' ≡ action.Send o ∷ action.Down why ∷ []))
+    ⊎ ((o o' : Own) × IsShort o × IsShort o' × (as' ≡ action.Send o ∷ action.Send o' ∷ action.Down why ∷ []))
+
 pub record Dies (t : SessionStep) : Type 0 where
   pub why : Reason
-  pub says : (t.actions ≡ action.Down why ∷ []) ⊎ ((o : Own) × IsShort o × (t.actions ≡ action.Send o ∷ action.Down why ∷ []))
-      ⊎ ((o o' : Own) × IsShort o × IsShort o' × (t.actions ≡ action.Send o ∷ action.Send o' ∷ action.Down why ∷ []))
+  pub says : EndsBy why t.actions
   pub over : is_down t.next.phase ≡ true
 
 abbrev pub IsStep : Bool → SessionStep → Type 0

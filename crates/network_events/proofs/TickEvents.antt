@@ -78,18 +78,18 @@ module _ {P : Type 0} {S : Type 0} (show : S → List Hop) where
       keeps = λ g is own keeps. expire_keeps show a.network own now.0 g b.network a.seen b.seen a.lost b.lost a.flow b.flow goes is (keeps_fewer a.network own (0 + own) a.seen a.flow (omega arith) keeps);
     }
 
-    pub told_uses : (a b c e : Here P S) → Uses peers_told (length a.network.peers) a b → Uses adjacencies_told (4 * length (adjacencies b.network)) b c → Goes (λ n. deeds.expire P S wire n show now.0) c e →
-        Uses told_all ((length a.network.peers + 4 * length (adjacencies b.network)) + 0) a e
+    pub told_uses : (a b c e : Here P S) → Uses peers_told (2 * length a.network.peers) a b → Uses adjacencies_told (4 * length (adjacencies b.network)) b c → Goes (λ n. deeds.expire P S wire n show now.0) c e →
+        Uses told_all ((2 * length a.network.peers + 4 * length (adjacencies b.network)) + 0) a e
     told_uses a b c e x y z =
-        uses_then (λ n g. adjacencies_told n (peers_told n g)) (λ n. deeds.expire P S wire n show now.0) (length a.network.peers + 4 * length (adjacencies b.network)) 0 a c e
-        (uses_then peers_told adjacencies_told (length a.network.peers) (4 * length (adjacencies b.network)) a b c x y) (expire_uses c e z)
+        uses_then (λ n g. adjacencies_told n (peers_told n g)) (λ n. deeds.expire P S wire n show now.0) (2 * length a.network.peers + 4 * length (adjacencies b.network)) 0 a c e
+        (uses_then peers_told adjacencies_told (2 * length a.network.peers) (4 * length (adjacencies b.network)) a b c x y) (expire_uses c e z)
 
     -- between events again
-    pub told_roomy : (a b c e : Here P S) → Uses peers_told (length a.network.peers) a b → Uses adjacencies_told (4 * length (adjacencies b.network)) b c → Goes (λ n. deeds.expire P S wire n show now.0) c e →
+    pub told_roomy : (a b c e : Here P S) → Uses peers_told (2 * length a.network.peers) a b → Uses adjacencies_told (4 * length (adjacencies b.network)) b c → Goes (λ n. deeds.expire P S wire n show now.0) c e →
         IsOn a.seen a.flow → KeepsOn (own_most a.network) a.network a.seen a.flow → IsRoomy a.network e.seen e.flow
     told_roomy a b c e x y z on keeps =
         let uses = told_uses a b c e x y z in
-        let words = (length a.network.peers + 4 * length (adjacencies b.network)) + 0 in
+        let words = (2 * length a.network.peers + 4 * length (adjacencies b.network)) + 0 in
         ends_roomy a.network 0 e.seen e.flow
         (uses.keeps on.going on.at 0 (keeps_fewer a.network (words + 0) (own_most a.network) a.seen a.flow (omega (arith, ap (λ (n : NetworkParts). length (adjacencies n)) x.goes.network)) keeps))
 

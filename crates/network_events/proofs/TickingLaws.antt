@@ -5,6 +5,7 @@ use Rattle.std.proofs.lemmas.Bool.{eqb-false}
 use Rattle.std.proofs.Math.Nat.{mod-eq_of_lt}
 use Rattle.std.proofs.lemmas.Bool.Decides.{nat_tests}
 use Rattle.dom_base.specs.declared.names.As.{As}
+use Rattle.dom_base.specs.declared.names.Peer.{Peer}
 use Rattle.dom_base.specs.declared.names.Tick.{Tick}
 use Rattle.pcep_subobjects.specs.declared.hop.Hop.{Hop}
 use Rattle.pcep_session.specs.declared.session.Input.TheVariants as input
@@ -14,18 +15,18 @@ use Rattle.plant_text.specs.Settings.{Adjacency, before_adjacency, children, has
 use Rattle.network_links.specs.settings_layout.Adjacencies.{adjacency_of}
 use Rattle.member_trait.specs.plant_model.RealWire.{wire}
 use Rattle.member_trait.specs.plant_model.Deeds as deeds
-use Rattle.member_trait.specs.plant_model.Deeds.{Going, element_of}
+use Rattle.member_trait.specs.plant_model.Deeds.{Going}
 use Rattle.member_trait.specs.Membership.{is_member}
 use Rattle.network_links.specs.Flow.{Flow}
 use Rattle.network_events.specs.Passing.{IsOf}
-use Rattle.network_events.specs.Peers.{IsLinkEnd}
+use Rattle.network_events.specs.Peers.{IsEnd, IsLinkEnd, input_at}
 use Rattle.network_events.specs.Roomy.{KeepsOn}
 use Rattle.network_events.specs.Standing.{IsAt, Here, Goes}
 use Rattle.network_events.specs.Using.{IsOn, IsUnderWay, Uses}
 use Rattle.network_events.proofs.GoLaws.{goes_then, self}
 use Rattle.network_events.proofs.RoomyNeeds.{apart_back, adjacency_back}
 use Rattle.network_events.proofs.RoomySteps.{keeps_fewer}
-use Rattle.network_events.proofs.RoomyEvents.{outside_keeps, inner_keeps}
+use Rattle.network_events.proofs.RoomyInputs.{tick_keeps}
 use Rattle.network_events.proofs.TickLaws.{peers_to, peers_all}
 
 pub goes_of : {P : Type 0} {S : Type 0} {step : NetworkParts → Going P S → Going P S} {a b : Here P S} → Goes step a b → IsOf a.network a.flow → IsOf a.network b.flow
@@ -73,32 +74,26 @@ module _ {P : Type 0} {S : Type 0} where
   }
 
   module _ (show : S → List Hop) (now : Tick) where
-    -- ---- outside peers
-
-    pub peer_uses : (i : ℕ) (a b : Here P S) → is_member a.network (element_of a.network i) ≡ true → Goes (λ n. deeds.outside_input P S wire n show i (input.Tick now)) a b → Uses (λ n. deeds.outside_input P S wire n show i (input.Tick now)) 1 a b
-    peer_uses i a b member goes = record {
+    -- a tick to the session of a member with a peer
+    pub session_uses : (at : As) (to : Peer) (a b : Here P S) → IsEnd a.network a.flow at to → is_member a.network at ≡ true → IsOf a.network a.flow → Goes (λ n. input_at P S n show at to (input.Tick now)) a b → Uses (λ n. input_at P S n show at to (input.Tick now)) 2 a b
+    session_uses at to a b end member of goes = record {
       goes = goes;
-      keeps = λ g is own keeps. outside_keeps show a.network own (1 + own) i now g b.network a.seen b.seen a.lost b.lost a.flow b.flow (omega arith) member goes is keeps;
+      keeps = λ g is own keeps. tick_keeps show a.network own (2 + own) at to now g b.network a.seen b.seen a.lost b.lost a.flow b.flow (omega arith) end member of goes is keeps;
     }
 
-    pub peer_more : (k : ℕ) (a b c : Here P S) → Uses (λ n. peers_to show n now k) k a b → Uses (λ n. deeds.outside_input P S wire n show k (input.Tick now)) 1 b c → Uses (λ n. peers_to show n now (suc k)) (suc k) a c
-    peer_more k a b c x y =
-        uses_by (λ n g. deeds.outside_input P S wire n show k (input.Tick now) (peers_to show n now k g)) (λ n. peers_to show n now (suc k)) (k + 1) (suc k) a c (λ g. refl) (omega arith)
-        (uses_then (λ n. peers_to show n now k) (λ n. deeds.outside_input P S wire n show k (input.Tick now)) k 1 a b c x y)
+    -- ---- outside peers
 
-    pub peers_end : (k : ℕ) (a b : Here P S) → k ≡ length a.network.peers → Uses (λ n. peers_to show n now k) k a b → Uses (λ n. deeds.tick_outside P S wire n show 0 n.peers now) (length a.network.peers) a b
+    pub peer_more : (k : ℕ) (a b c : Here P S) → Uses (λ n. peers_to show n now k) (2 * k) a b → Uses (λ n. deeds.outside_input P S wire n show k (input.Tick now)) 2 b c → Uses (λ n. peers_to show n now (suc k)) (2 * suc k) a c
+    peer_more k a b c x y =
+        uses_by (λ n g. deeds.outside_input P S wire n show k (input.Tick now) (peers_to show n now k g)) (λ n. peers_to show n now (suc k)) (2 * k + 2) (2 * suc k) a c (λ g. refl) (omega arith)
+        (uses_then (λ n. peers_to show n now k) (λ n. deeds.outside_input P S wire n show k (input.Tick now)) (2 * k) 2 a b c x y)
+
+    pub peers_end : (k : ℕ) (a b : Here P S) → k ≡ length a.network.peers → Uses (λ n. peers_to show n now k) (2 * k) a b → Uses (λ n. deeds.tick_outside P S wire n show 0 n.peers now) (2 * length a.network.peers) a b
     peers_end k a b all x =
-        uses_by (λ n. peers_to show n now k) (λ n. deeds.tick_outside P S wire n show 0 n.peers now) k (length a.network.peers) a b
+        uses_by (λ n. peers_to show n now k) (λ n. deeds.tick_outside P S wire n show 0 n.peers now) (2 * k) (2 * length a.network.peers) a b
         (λ g. ap (λ (j : ℕ). peers_to show a.network now j g) all ∙ sym (peers_all show a.network now a.network.peers g)) (omega (arith, all)) x
 
     -- ---- links
-
-    pub end_uses : (x : Adjacency) (at to : As) (a b : Here P S) → same_as x.lower x.upper ≡ false → is_member a.network x.lower ≡ true → is_member a.network x.upper ≡ true →
-        Goes (λ n. deeds.inner_input P S wire n show x at to (input.Tick now)) a b → Uses (λ n. deeds.inner_input P S wire n show x at to (input.Tick now)) 2 a b
-    end_uses x at to a b apart lower upper goes = record {
-      goes = goes;
-      keeps = λ g is own keeps. inner_keeps show a.network own (2 + own) x.lower x.upper at to now g b.network a.seen b.seen a.lost b.lost a.flow b.flow (omega arith) apart lower upper goes is keeps;
-    }
 
     -- a tick to one link, the lower end first
     abbrev pub adjacency_tick : Adjacency → NetworkParts → Going P S → Going P S

@@ -19,7 +19,7 @@ use Rattle.network_links.specs.plant_sessions.Ends.{said_in, own_bytes}
 use Rattle.network_links.specs.Flow.{Flow, room_at}
 use Rattle.member_trait.specs.Membership.{Membership, fallen, lost_at}
 use Rattle.member_trait.specs.Owed.{is_peer}
-use Rattle.network_events.specs.Telling.{count_lost}
+use Rattle.network_events.specs.Telling.{RoomToTell, count_lost}
 use Rattle.network_events.specs.Breaking.{RoomToBreak}
 use Rattle.network_events.specs.Peers.{breaks_by}
 
@@ -53,13 +53,19 @@ pub record RoomToAct (at : As) (to : Peer) (as' : List Action) (ls : List Lost) 
   pub elsewhere : (q : Peer) → same_peer to q ≡ false → Covers (room_at at q f) (count_lost (is_peer q) ls) (ANSWER_LENGTH * count_lost (is_peer q) ls)
   pub said : Covers f.room.said (length (said_in as') + length ls) (size_in (said_in as') + ANSWER_LENGTH * length ls)
 
--- what an action leaves as it was, and what it spends, where others may follow
-abbrev pub LeavesOff : {P : Type 0} {S : Type 0} → As → Peer → List Action → Membership P S → Flow → Membership P S → Flow → Type 0
-LeavesOff at to [] ms f ms' f' = (ms' ≡ ms) × Spent at to [] f f'
-LeavesOff at to (Send o ∷ as') ms f ms' f' = (ms' ≡ ms) × Spent at to (own_bytes o ∷ []) f f'
-LeavesOff at to (Up ∷ as') ms f ms' f' = Unit {0}
-LeavesOff at to (Down why ∷ as') ms f ms' f' = Unit {0}
-LeavesOff at to (Pass m ∷ as') ms f ms' f' = Unit {0}
+-- room for an action that passes nothing on
+abbrev pub RoomFor : {P : Type 0} {S : Type 0} → As → Peer → Action → Membership P S → Flow → Type 0
+RoomFor at to (Send o) ms f = Covers (room_at at to f) 1 (length (own_bytes o)) × Covers f.room.said 1 (length (own_bytes o))
+RoomFor at to Up ms f = Unit {0}
+RoomFor at to (Down why) ms f = RoomToTell at (lost_at at to ms) f
+RoomFor at to (Pass m) ms f = ⊥
+
+-- what it leaves as it was, and what it spends, where others may follow
+abbrev pub LeavesOff : {P : Type 0} {S : Type 0} → As → Peer → Action → Membership P S → Flow → Membership P S → Flow → Type 0
+LeavesOff at to (Send o) ms f ms' f' = (ms' ≡ ms) × Spent at to (own_bytes o ∷ []) f f'
+LeavesOff at to Up ms f ms' f' = Unit {0}
+LeavesOff at to (Down why) ms f ms' f' = Unit {0}
+LeavesOff at to (Pass m) ms f ms' f' = Unit {0}
 
 -- An input passes nothing on, and there is room for what its actions ask for.
 pub record Fits {P : Type 0} {S : Type 0} (at : As) (to : Peer) (as' : List Action) (ms : Membership P S) (f : Flow) : Type 0 where

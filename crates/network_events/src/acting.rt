@@ -1,6 +1,5 @@
 //! What a session of a member with a peer, outside or inside, asks for where it passes nothing on.
-ghost use Rattle.std.specs.Prelude.{◌≡◌, true, false, [], ◌∷◌, length, Some};
-ghost use Rattle.std.specs.Option.{option_to_list};
+ghost use Rattle.std.specs.Prelude.{◌≡◌, true, false, [], ◌∷◌, length, Some, MatchOption};
 ghost use Rattle.dom_base.specs.declared.names.As.{As};
 ghost use Rattle.pcep_session.specs.declared.session.Input.{Input};
 ghost use Rattle.pcep_session.specs.declared.state.State.{State};
@@ -15,7 +14,7 @@ ghost use Rattle.member_trait.specs.Membership.{is_member, lost_at};
 ghost use Rattle.network_events.specs.Standing.{Goes, here};
 ghost use Rattle.network_events.specs.Telling.{RoomToTell};
 ghost use Rattle.network_events.specs.Peers.{IsAtEnd, act_at, acts_at, break_at, breaks_by, input_at};
-ghost use Rattle.network_events.specs.Acting.{Fits, FitsInput, FitsTurn, LeavesOff, RoomToBreakAt, Spent};
+ghost use Rattle.network_events.specs.Acting.{Fits, FitsInput, FitsTurn, LeavesOff, RoomFor, RoomToBreakAt, Spent};
 
 use crate::deeds::{fall, rise, say};
 use crate::links::break_between;
@@ -68,26 +67,48 @@ pub(crate) fn go_down<M: Members>(
     }
 }
 
-// One action of the session, if there is one. It passes nothing on.
+// One action of the session, for which there is room. It passes nothing on.
 fn act<M: Members>(
     members: &mut M,
     traffic: &mut Traffic,
     at: As,
     to: Peer,
     ticks: bool,
-    action: Option<Action>,
+    action: Action,
 )
     requires member { is_member (M.stands members.old).network at ≡ true }
     requires none { (a : As) → (M.stands members.old).lost a ≡ [] }
-    requires fits { Fits at to (option_to_list action) (M.stands members.old).seen (flow_of traffic.old) }
-    ensures leaves { LeavesOff at to (option_to_list action) (M.stands members.old).seen (flow_of traffic.old) (M.stands members.new).seen (flow_of traffic.new) }
-    ensures goes { Goes (λ n. acts_at M.Pin M.Key n M.show at to ticks (option_to_list action)) (here (M.stands members.old) (flow_of traffic.old)) (here (M.stands members.new) (flow_of traffic.new)) }
+    requires room { RoomFor at to action (M.stands members.old).seen (flow_of traffic.old) }
+    ensures leaves { LeavesOff at to action (M.stands members.old).seen (flow_of traffic.old) (M.stands members.new).seen (flow_of traffic.new) }
+    ensures goes { Goes (λ n. act_at M.Pin M.Key n M.show at to ticks action) (here (M.stands members.old) (flow_of traffic.old)) (here (M.stands members.new) (flow_of traffic.new)) }
 {
     match action {
-        Some(Action::Send(own)) => say_own(members, traffic, at, to, ticks, own),
-        Some(Action::Up) => rise(members, traffic, at, to),
-        Some(Action::Down(why)) => go_down(members, traffic, at, to, ticks, why),
-        Some(Action::Pass(_)) | None => {}
+        Action::Send(own) => say_own(members, traffic, at, to, ticks, own),
+        Action::Up => rise(members, traffic, at, to),
+        Action::Down(why) => go_down(members, traffic, at, to, ticks, why),
+        Action::Pass(_) => {}
+    }
+}
+
+// The first action, and those behind it.
+fn split(actions: Actions) -> Option<(Action, Actions)>
+    ensures { MatchOption result (listed actions ≡ []) (λ x. listed actions ≡ x.0 ∷ listed x.1) }
+{
+    let Actions {
+        first,
+        second,
+        third,
+    } = actions;
+    match first {
+        Some(action) => Some((
+            action,
+            Actions {
+                first: second,
+                second: third,
+                third: None,
+            },
+        )),
+        None => None,
     }
 }
 
@@ -105,14 +126,11 @@ pub(crate) fn acts<M: Members>(
     requires fits { Fits at to (listed actions) (M.stands members.old).seen (flow_of traffic.old) }
     ensures { Goes (λ n. acts_at M.Pin M.Key n M.show at to ticks (listed actions)) (here (M.stands members.old) (flow_of traffic.old)) (here (M.stands members.new) (flow_of traffic.new)) }
 {
-    let Actions {
-        first,
-        second,
-        third,
-    } = actions;
-    act(members, traffic, at, to, ticks, first);
-    act(members, traffic, at, to, ticks, second);
-    act(members, traffic, at, to, ticks, third);
+    let Some((action, rest)) = split(actions) else {
+        return;
+    };
+    act(members, traffic, at, to, ticks, action);
+    acts(members, traffic, at, to, ticks, rest);
 }
 
 // Whether a link breaks by these actions.

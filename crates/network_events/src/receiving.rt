@@ -1,6 +1,5 @@
 //! A session is given the first that waits for it. All memory is taken before anything changes.
 ghost use Rattle.std.specs.Prelude.{◌≡◌, ◌⊎◌, ◌+◌, ◌*◌, true, false, [], ◌∷◌, Some, IfOk, IfErr, OnOk};
-ghost use Rattle.std.specs.Option.{option_to_list};
 ghost use Rattle.dom_base.specs.declared.names.As.{As};
 ghost use Rattle.dom_base.specs.declared.names.Peer.TheVariants.{Inner, Outside};
 ghost use Rattle.pcep_session.specs.declared.actions.Action.TheVariants.{Pass};
@@ -33,17 +32,6 @@ use std::alloc::Global;
 // How long a message of a session's own is at most: an Open that speaks of stateful sessions.
 const WORD_LENGTH: usize = 20;
 
-// The message that an action passes on, or the action.
-fn message_in(action: Option<Action>) -> Result<Message, Option<Action>>
-    ensures passes { IfOk result (λ message. option_to_list action ≡ Pass message ∷ []) }
-    ensures acts { IfErr result (λ other. (other ≡ action) × IsOwnTurn (option_to_list action)) }
-{
-    match action {
-        Some(Action::Pass(message)) => Ok(message),
-        other => Err(other),
-    }
-}
-
 // The message that a session passes on, or what else it asks for.
 fn passed(actions: Actions) -> Result<Message, Actions>
     requires { IsOwnTurn (listed actions) ⊎ IsPass (listed actions) }
@@ -55,17 +43,9 @@ fn passed(actions: Actions) -> Result<Message, Actions>
         second,
         third,
     } = actions;
-    let first = match message_in(first) {
-        Ok(message) => return Ok(message),
-        Err(first) => first,
-    };
-    let second = match message_in(second) {
-        Ok(message) => return Ok(message),
-        Err(second) => second,
-    };
-    match message_in(third) {
-        Ok(message) => Ok(message),
-        Err(third) => Err(Actions {
+    match first {
+        Some(Action::Pass(message)) => Ok(message),
+        first => Err(Actions {
             first,
             second,
             third,

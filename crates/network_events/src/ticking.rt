@@ -1,5 +1,5 @@
 //! A tick: the clock goes on, each session is told so, and keys expire. It takes no memory.
-ghost use Rattle.std.specs.Prelude.{◌≡◌, ◌<◌, ◌+◌, ◌*◌, true, false, [], length, Ok};
+ghost use Rattle.std.specs.Prelude.{◌≡◌, ◌<◌, ◌*◌, true, false, length, Ok};
 ghost use Rattle.dom_base.specs.declared.names.As.{As};
 ghost use Rattle.plant_text.specs.Names.{same_as};
 ghost use Rattle.plant_text.specs.Settings.{has_adjacency, adjacencies};
@@ -41,8 +41,8 @@ fn tick_session<M: Members>(members: &mut M, traffic: &mut Traffic, at: As, to: 
 fn tick_peers<M: Members>(members: &mut M, traffic: &mut Traffic, now: Tick)
     requires joined { AreJoined (M.stands members.old).network }
     requires few { length (M.stands members.old).network.peers < 4294967296 }
-    requires under { IsUnderWay (length (M.stands members.old).network.peers) (here (M.stands members.old) (flow_of traffic.old)) }
-    ensures { Uses (λ n. deeds.tick_outside M.Pin M.Key wire n M.show 0 n.peers now) (length (M.stands members.old).network.peers) (here (M.stands members.old) (flow_of traffic.old)) (here (M.stands members.new) (flow_of traffic.new)) }
+    requires under { IsUnderWay (2 * length (M.stands members.old).network.peers) (here (M.stands members.old) (flow_of traffic.old)) }
+    ensures { Uses (λ n. deeds.tick_outside M.Pin M.Key wire n M.show 0 n.peers now) (2 * length (M.stands members.old).network.peers) (here (M.stands members.old) (flow_of traffic.old)) (here (M.stands members.new) (flow_of traffic.new)) }
 {
     let count = traffic.peers() as u32;
     for peer in 0..count {

@@ -59,7 +59,9 @@ give_input-requires-clause-fits g c =
     let connects : connected i c.args.holder f f1 = on_ok_of c.connect.result c.in-Ok.field-0 c.in-Ok.is c.connect.ensures.ok in
     let room = on_ok_of c.connect.result c.in-Ok.field-0 c.in-Ok.is c.connect.ensures.room in
     let keeps = begins_keeps s.network s.seen f1 f2 c.clear_said.ensures (connected_roomy g.M.Members.show s.network i c.args.holder s.seen f f1 shut connects room c.requires.sound.kept.roomy) in
-    fits_open g.M.Members.show s.network i c.args.holder ((f.accesses i).opened % 256) (record { 0 = f.clock }) c.element_of-at.result s.seen f2 c.element_of-at.ensures (connected_of i c.args.holder f f1 f2 connects c.clear_said.ensures) (omega (arith, below)) keeps
+    let member = subst (λ (a : As). is_member s.network a ≡ true) (sym c.element_of-at.ensures) (c.requires.sound.joined.peers i below) in
+    let of = cleared_of s.network f f1 f2 (ap (λ (x : Flow). x.adjacencies) connects) (ap (λ (x : Flow). x.peers) connects) c.clear_said.ensures c.requires.sound.kept.of in
+    fits_open g.M.Members.show s.network i c.args.holder ((f.accesses i).opened % 256) (record { 0 = f.clock }) c.element_of-at.result s.seen f2 c.element_of-at.ensures member of (connected_of i c.args.holder f f1 f2 connects c.clear_said.ensures) (omega (arith, below)) keeps
 
 pub returns : goal.returns
 returns g c =
@@ -82,7 +84,8 @@ returns g c =
     done_moves m.show (λ n st. events.open_peer m.Pin m.Key wire n m.show i c.args.holder st) (here s f) (here t end) c.give_input.ensures.network
     (record { adjacencies_are = c.give_input.ensures.adjacencies ∙ of.adjacencies_are; peers_are = c.give_input.ensures.peers ∙ of.peers_are })
     (c.give_input.ensures.lost sound.kept.none)
-    (opened_roomy m.show s.network i c.args.holder ((f.accesses i).opened % 256) (record { 0 = f.clock }) going t.network s.seen t.seen s.lost t.lost f2 end (omega (arith, below)) (connected_of i c.args.holder f f1 f2 connects c.clear_said.ensures)
+    (opened_roomy m.show s.network i c.args.holder ((f.accesses i).opened % 256) (record { 0 = f.clock }) c.element_of-at.result going t.network s.seen t.seen s.lost t.lost f2 end c.element_of-at.ensures
+    (subst (λ (a : As). is_member s.network a ≡ true) (sym c.element_of-at.ensures) (sound.joined.peers i below)) of (connected_of i c.args.holder f f1 f2 connects c.clear_said.ensures) (omega (arith, below))
     c.give_input.ensures (connected_is m.show s.network i c.args.holder s.seen f f1 f2 connects c.clear_said.ensures) keeps)
     (λ st. true) Done
     (open_done m.show s.network i c.args.holder t.network s.seen t.seen s.lost t.lost f f1 f2 end below shut connects c.clear_said.ensures c.give_input.ensures)

@@ -26,7 +26,7 @@ tick_peers-requires-clause-few g c = c.requires.sound.few
 pub tick_peers-requires-clause-under : goal.tick_peers-requires-clause-under
 tick_peers-requires-clause-under g c =
     let s = g.M.Members.stands c.args.members.now in
-    moment_under g.M.Members.show c.later-now.result.0 (length s.network.peers) (here s (flow_of c.args.traffic.now)) (flow_of c.clear_said.new.self) (flow_of c.set_clock.new.self) c.clear_said.ensures c.set_clock.ensures
+    moment_under g.M.Members.show c.later-now.result.0 (2 * length s.network.peers) (here s (flow_of c.args.traffic.now)) (flow_of c.clear_said.new.self) (flow_of c.set_clock.new.self) c.clear_said.ensures c.set_clock.ensures
     (omega arith) c.requires.sound.kept
 
 pub tick_adjacencies-requires-clause-joined : goal.tick_adjacencies-requires-clause-joined
@@ -40,7 +40,7 @@ pub tick_adjacencies-requires-clause-under : goal.tick_adjacencies-requires-clau
 tick_adjacencies-requires-clause-under g c =
     let s = g.M.Members.stands c.args.members.now in
     let n = s.network in
-    under_way (length n.peers) (4 * length (adjacencies (g.M.Members.stands c.tick_peers.new.members).network)) (own_most n) c.tick_peers.ensures
+    under_way (2 * length n.peers) (4 * length (adjacencies (g.M.Members.stands c.tick_peers.new.members).network)) (own_most n) c.tick_peers.ensures
     (omega (arith, ap (λ (m : NetworkParts). length (adjacencies m)) c.tick_peers.ensures.goes.network))
     (moment_under g.M.Members.show c.later-now.result.0 (own_most n) (here s (flow_of c.args.traffic.now)) (flow_of c.clear_said.new.self) (flow_of c.set_clock.new.self) c.clear_said.ensures c.set_clock.ensures (omega arith) c.requires.sound.kept)
 

@@ -1,4 +1,5 @@
 use Rattle.std.proofs.Common.{◌≡◌, true, sym, subst, arith}
+use Rattle.dom_base.specs.declared.names.Peer.TheVariants.{Inner}
 use Rattle.plant_text.specs.declared.settings.NetworkParts.{NetworkParts}
 use Rattle.plant_text.specs.Settings.{Adjacency}
 use Rattle.network_links.specs.settings_layout.Adjacencies.{adjacency_of}
@@ -7,10 +8,12 @@ use Rattle.member_trait.specs.plant_model.RealWire.{wire}
 use Rattle.member_trait.specs.plant_model.Deeds as deeds
 use Rattle.network_links.specs.Carried.{flow_of}
 use Rattle.member_trait.specs.Membership.{is_member}
+use Rattle.network_events.specs.Passing.{IsOf}
 use Rattle.network_events.specs.Peers.{IsLinkEnd}
-use Rattle.network_events.specs.Standing.{Goes, here}
-use Rattle.network_events.proofs.RoomyNeeds.{fits_link}
-use Rattle.network_events.proofs.TickingLaws.{both_ends, end_uses, goes_of, adjacency_ends, uses_then}
+use Rattle.network_events.specs.Standing.{here}
+use Rattle.network_events.specs.Using.{Uses}
+use Rattle.network_events.proofs.RoomyInputs.{fits_input, tick_own}
+use Rattle.network_events.proofs.TickingLaws.{adjacency_ends, both_ends, goes_of, session_uses, uses_then}
 use Rattle.network_events.proofs.ticking.tick_adjacency.Goals as goal
 
 pub tick_session-requires-clause-there : goal.tick_session-requires-clause-there
@@ -25,7 +28,7 @@ tick_session-requires-clause-fits g c =
     let n = (g.M.Members.stands c.args.members.now).network in
     let f = flow_of c.args.traffic.now in
     let ends = both_ends n f c.args.adjacency.0 c.args.adjacency.1 c.requires.lower c.requires.upper c.requires.apart c.requires.linked c.requires.under.of in
-    fits_link n 4 c.args.adjacency.0 c.args.adjacency.1 (f.sessions c.args.adjacency.0 c.args.adjacency.1) c.args.now (g.M.Members.stands c.args.members.now).seen f ends.0 c.requires.lower c.requires.under.of (omega arith) c.requires.under.keeps
+    fits_input n 4 c.args.adjacency.0 (Inner c.args.adjacency.1) (inputs.Tick c.args.now) (g.M.Members.stands c.args.members.now).seen f ends.0 c.requires.lower c.requires.under.of (omega arith) c.requires.under.keeps (λ s. tick_own s c.args.now)
 
 pub tick_session-requires-2-clause-there : goal.tick_session-requires-2-clause-there
 tick_session-requires-2-clause-there g c =
@@ -46,23 +49,27 @@ tick_session-requires-2-clause-fits g c =
     let of = goes_of c.tick_session.ensures c.requires.under.of in
     let start = here (g.M.Members.stands c.args.members.now) (flow_of c.args.traffic.now) in
     let then = here (g.M.Members.stands c.tick_session.new.members) f in
-    let goes = subst (λ (x : Adjacency). Goes (λ m. deeds.inner_input g.M.Members.Pin g.M.Members.Key wire m g.M.Members.show x l u (inputs.Tick c.args.now)) start then) (adjacency_ends l u c.requires.rises).1 c.tick_session.ensures in
-    let one = end_uses g.M.Members.show c.args.now (adjacency_of c.args.adjacency) l u start then c.requires.apart c.requires.lower c.requires.upper goes in
-    fits_link n 2 u l (f.sessions u l) c.args.now (g.M.Members.stands c.tick_session.new.members).seen f (both_ends n f l u c.requires.lower c.requires.upper c.requires.apart c.requires.linked of).1 c.requires.upper of (omega arith)
-    (one.keeps c.requires.under.on.going c.requires.under.on.at 2 c.requires.under.keeps)
+    let ends = both_ends n (flow_of c.args.traffic.now) l u c.requires.lower c.requires.upper c.requires.apart c.requires.linked c.requires.under.of in
+    let one = session_uses g.M.Members.show c.args.now l (Inner u) start then ends.0 c.requires.lower c.requires.under.of c.tick_session.ensures in
+    fits_input n 2 u (Inner l) (inputs.Tick c.args.now) (g.M.Members.stands c.tick_session.new.members).seen f (both_ends n f l u c.requires.lower c.requires.upper c.requires.apart c.requires.linked of).1 c.requires.upper of (omega arith)
+    (one.keeps c.requires.under.on.going c.requires.under.on.at 2 c.requires.under.keeps) (λ s. tick_own s c.args.now)
 
 pub returns : goal.returns
 returns g c =
+    let m = g.M.Members in
     let l = c.args.adjacency.0 in
     let u = c.args.adjacency.1 in
     let x = adjacency_of c.args.adjacency in
-    let start = here (g.M.Members.stands c.args.members.now) (flow_of c.args.traffic.now) in
-    let then = here (g.M.Members.stands c.tick_session.new.members) (flow_of c.tick_session.new.traffic) in
-    let end = here (g.M.Members.stands c.tick_session-2.new.members) (flow_of c.tick_session-2.new.traffic) in
+    let start = here (m.stands c.args.members.now) (flow_of c.args.traffic.now) in
+    let then = here (m.stands c.tick_session.new.members) (flow_of c.tick_session.new.traffic) in
+    let end = here (m.stands c.tick_session-2.new.members) (flow_of c.tick_session-2.new.traffic) in
     let is = adjacency_ends l u c.requires.rises in
-    let one = end_uses g.M.Members.show c.args.now x l u start then c.requires.apart c.requires.lower c.requires.upper (subst (λ (y : Adjacency). Goes (λ m. deeds.inner_input g.M.Members.Pin g.M.Members.Key wire m g.M.Members.show y l u (inputs.Tick c.args.now)) start then) is.1 c.tick_session.ensures) in
-    let two = end_uses g.M.Members.show c.args.now x u l then end c.requires.apart
-    (subst (λ (n : NetworkParts). is_member n l ≡ true) (sym one.goes.network) c.requires.lower) (subst (λ (n : NetworkParts). is_member n u ≡ true) (sym one.goes.network) c.requires.upper)
-    (subst (λ (y : Adjacency). Goes (λ m. deeds.inner_input g.M.Members.Pin g.M.Members.Key wire m g.M.Members.show y u l (inputs.Tick c.args.now)) then end) is.0 c.tick_session-2.ensures) in
-    uses_then (λ m. deeds.inner_input g.M.Members.Pin g.M.Members.Key wire m g.M.Members.show x l u (inputs.Tick c.args.now))
-    (λ m. deeds.inner_input g.M.Members.Pin g.M.Members.Key wire m g.M.Members.show x u l (inputs.Tick c.args.now)) 2 2 start then end one two
+    let ends = both_ends start.network start.flow l u c.requires.lower c.requires.upper c.requires.apart c.requires.linked c.requires.under.of in
+    let of = subst (λ (n : NetworkParts). IsOf n then.flow) (sym c.tick_session.ensures.network) (goes_of c.tick_session.ensures c.requires.under.of) in
+    let back = subst (λ (n : NetworkParts). IsLinkEnd n then.flow u l) (sym c.tick_session.ensures.network)
+    (both_ends start.network then.flow l u c.requires.lower c.requires.upper c.requires.apart c.requires.linked (goes_of c.tick_session.ensures c.requires.under.of)).1 in
+    let one = session_uses m.show c.args.now l (Inner u) start then ends.0 c.requires.lower c.requires.under.of c.tick_session.ensures in
+    let two = session_uses m.show c.args.now u (Inner l) then end back (subst (λ (n : NetworkParts). is_member n u ≡ true) (sym one.goes.network) c.requires.upper) of c.tick_session-2.ensures in
+    uses_then (λ k. deeds.inner_input m.Pin m.Key wire k m.show x l u (inputs.Tick c.args.now)) (λ k. deeds.inner_input m.Pin m.Key wire k m.show x u l (inputs.Tick c.args.now)) 2 2 start then end
+    (subst (λ (y : Adjacency). Uses (λ k. deeds.inner_input m.Pin m.Key wire k m.show y l u (inputs.Tick c.args.now)) 2 start then) is.1 one)
+    (subst (λ (y : Adjacency). Uses (λ k. deeds.inner_input m.Pin m.Key wire k m.show y u l (inputs.Tick c.args.now)) 2 then end) is.0 two)
