@@ -1,16 +1,14 @@
 //! What is on its way in a network.
-ghost use Rattle.std.specs.Prelude.{◌≡◌, ◌<◌, true, false, [], length, not, slice_get, Some, None, IfOk, OnOk, OnErr, is_some};
+ghost use Rattle.std.specs.Prelude.{◌≡◌, ◌<◌, [], length, not, slice_get, Some, None, IfOk, OnOk, is_some};
 ghost use Rattle.std.specs.Option.{option_map};
 ghost use Rattle.plant_text.specs.Settings.{has_adjacency};
 ghost use Rattle.settings_layout.specs.Adjacencies.{adjacency_of, are_adjacencies};
-ghost use Rattle.pcep_session.specs.Quiet.{after_quiet, is_quiet};
 ghost use Rattle.plant_queues.specs.Messages.{Covers};
 ghost use Rattle.settings_layout.specs.plant_model.Names.{is_empty};
 ghost use Rattle.settings_layout.specs.plant_model.RealWire.{wire};
 ghost use Rattle.settings_layout.specs.plant_model.Deeds as deeds;
-ghost use Rattle.plant_sessions.specs.Ends.{is_left_out, own_bytes};
+ghost use Rattle.plant_sessions.specs.Ends.{is_left_out};
 ghost use Rattle.plant_sessions.specs.Links.{next_sid};
-ghost use Rattle.plant_sessions.specs.Quiet.{is_quiet_peer, ticked_quietly};
 ghost use Rattle.network_links.specs.Carried.{flow_of};
 ghost use Rattle.network_links.specs.Flow.{ClearsSaid, Clears, Connects, DropsFirstAt, GrowsAt, GrowsSaid, IsBare, KeepsRoomAt, MaySet, Puts, Begins, change_access, first_at, queue_at, room_at, session_at, set_session, set_session_at, shut};
 ghost use Rattle.network_links.specs.Happenings.{DrainsIn, FeedsIn};
@@ -299,28 +297,11 @@ impl Traffic {
         requires said { Covers (flow_of self.old).room.said 1 (length message.now) }
         ensures { Puts at to message.now (flow_of self.old) (flow_of self.new) }
     {
+        self.said.put(at, to, message);
         match to {
-            Peer::Outside(peer) => self.put_outside(at, peer, message),
-            Peer::Inner(other) => self.put_inner(at, other, message),
+            Peer::Outside(peer) => self.peers.put(peer, message),
+            Peer::Inner(other) => self.links.put(at, other, message),
         }
-    }
-
-    fn put_outside(&mut self, at: As, peer: u32, message: &[u8])
-        requires there { Covers ((flow_of self.old).room.outside peer) 1 (length message.now) }
-        requires said { Covers (flow_of self.old).room.said 1 (length message.now) }
-        ensures { Puts at (Peer.Outside peer) message.now (flow_of self.old) (flow_of self.new) }
-    {
-        self.peers.put(peer, message);
-        self.said.put(at, Peer::Outside(peer), message);
-    }
-
-    fn put_inner(&mut self, at: As, to: As, message: &[u8])
-        requires there { Covers ((flow_of self.old).room.inner at to) 1 (length message.now) }
-        requires said { Covers (flow_of self.old).room.said 1 (length message.now) }
-        ensures { Puts at (Peer.Inner to) message.now (flow_of self.old) (flow_of self.new) }
-    {
-        self.links.put(at, to, message);
-        self.said.put(at, Peer::Inner(to), message);
     }
 
     /// The messages that were said since they were last cleared.
@@ -340,23 +321,8 @@ impl Traffic {
         ensures next { (flow_of self.new) ≡ ticked_at now at to (flow_of self.old) }
     {
         match to {
-            Peer::Outside(peer) => self.tick_outside(peer, now),
-            Peer::Inner(other) => self.tick_inner(at, other, now),
+            Peer::Outside(peer) => self.peers.tick_quietly(peer, now),
+            Peer::Inner(other) => self.links.tick_quietly(at, other, now),
         }
-    }
-
-    fn tick_outside(&mut self, peer: u32, now: Tick) -> bool
-        ensures quiet { result ≡ is_quiet_peer now ((flow_of self.old).accesses peer).connection }
-        ensures next { (flow_of self.new) ≡ change_access peer (ticked_quietly now) (flow_of self.old) }
-    {
-        self.peers.tick_quietly(peer, now)
-    }
-
-    fn tick_inner(&mut self, at: As, to: As, now: Tick) -> bool
-        requires { has_adjacency at to (flow_of self.old).adjacencies ≡ true }
-        ensures quiet { result ≡ is_quiet now ((flow_of self.old).sessions at to) }
-        ensures next { (flow_of self.new) ≡ set_session at to (after_quiet now ((flow_of self.old).sessions at to)) (flow_of self.old) }
-    {
-        self.links.tick_quietly(at, to, now)
     }
 }
