@@ -85,14 +85,12 @@ feed_taken line i bytes old mid new accepted b0 b1 b2 is makes all =
 pub of_kind : (line : ℕ) (e kind : LineEvent) (old new : Whole) (b0 b1 : List ℕ) {T E : Type 0} (r : Result T E) → e ≡ kind → OnOk r (Does line (Plays kind) old new b0 b1) → OnOk r (Does line (Plays e) old new b0 b1)
 of_kind line e kind old new b0 b1 {T} {E} r is does = subst (λ (x : LineEvent). OnOk r (Does line (Plays x) old new b0 b1)) (sym is) does
 
--- the text of a line, put behind what stands there
-pub played : (line : ℕ) (e : LineEvent) (old new : Whole) (t0 t1 text b0 b1 : List ℕ) → t0 ≡ [] → Does line (Plays e) old new t0 t1 → text ≡ t1 → b1 ≡ b0 ++ text →
-    Played (cue line e) (record { network = old.network; state = old.state }) (record { network = new.network; state = new.state }) b0 b1
-played line e old new t0 t1 text b0 b1 empty does is put = record {
+-- the text of a line
+pub played : (line : ℕ) (e : LineEvent) (old new : Whole) (t0 t1 : List ℕ) → t0 ≡ [] → Does line (Plays e) old new t0 t1 →
+    Played (cue line e) (record { network = old.network; state = old.state }) t1 (record { network = new.network; state = new.state })
+played line e old new t0 t1 empty does = record {
   turns = does.turns;
-  told = turns_text line old.network does.turns;
-  line = record { network = does.network; plays = does.plays; tells = refl };
-  tells = put ∙ ap (λ (t : List ℕ). b0 ++ t) (is ∙ does.tells ∙ ap (λ (t : List ℕ). t ++ turns_text line old.network does.turns) empty);
+  line = record { network = does.network; plays = does.plays; tells = does.tells ∙ ap (λ (t : List ℕ). t ++ turns_text line old.network does.turns) empty };
 }
 
 -- ---- what is on its way

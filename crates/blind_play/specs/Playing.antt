@@ -1,5 +1,5 @@
 -- What a line of a script does to a network without topologies, event by event, and what is told of it.
-use Rattle.std.specs.Prelude.{◌≡◌, ℕ, cond, List, [], ◌∷◌, ◌++◌, Option, Some, None, option_map}
+use Rattle.std.specs.Prelude.{◌≡◌, ℕ, cond, List, [], ◌∷◌, Option, Some, None, option_map}
 use Rattle.plant_text.specs.declared.line.LineEvent.{LineEvent}
 use Rattle.plant_text.specs.declared.line.LineEvent.TheVariants as line
 use Rattle.plant_text.specs.declared.settings.NetworkParts.{NetworkParts}
@@ -83,9 +83,7 @@ pub record PlaysLine (old : PlayedNetwork) (c : Cue) (turns : List Turn) (told :
   pub plays : Plays c.event old.network old.state turns new.state
   pub tells : told ≡ turns_text c.number old.network turns
 
--- The same, told at the end of a text.
-pub record Played (c : Cue) (old new : PlayedNetwork) (before after : List ℕ) : Type 0 where
+-- The same by events of its own.
+pub record Played (c : Cue) (old : PlayedNetwork) (told : List ℕ) (new : PlayedNetwork) : Type 0 where
   pub turns : List Turn
-  pub told : List ℕ
   pub line : PlaysLine old c turns told new
-  pub tells : after ≡ before ++ told

@@ -1,5 +1,5 @@
 //! Who plays the lines of a script on a network without topologies.
-ghost use Rattle.std.specs.Prelude.{◌≡◌, ◌++◌, IfOk, OnErr, OnOk};
+ghost use Rattle.std.specs.Prelude.{◌≡◌, IfOk};
 ghost use Rattle.texts_in_range.specs.Given.{IsBlindLine};
 ghost use Rattle.blind_play.specs.Playing.{IsNewNetwork, Played, cue, played_network};
 
@@ -23,15 +23,6 @@ impl Model for BlindPlayer {
     ghost Value = { Held };
 
     ghost view = { λ a. a.plant };
-}
-
-// Puts a text behind another; after a refusal nothing is put.
-fn append(into: &mut Vec<u8>, text: &[u8]) -> Result<(), NoMemory>
-    ensures ok { OnOk result (into.new.items ≡ into.old.items ++ text.now) }
-    ensures err { OnErr result (into.new.items ≡ into.old.items) }
-{
-    into.extend_from_slice(text)?;
-    Ok(())
 }
 
 impl BlindPlayer {
@@ -59,16 +50,14 @@ impl BlindPlayer {
         self.plant.network()
     }
 
-    /// Plays a line of this number, and puts what closed peers hear of it at the end of `into`: messages to them, and what
-    /// they drain. After an error nothing is put there, and what the line did up to there stays done.
-    pub fn play(&mut self, line: u32, event: LineEvent, into: &mut Vec<u8>) -> Result<(), NoMemory>
+    /// Plays a line of this number; gives what closed peers hear of it: messages to them, and what they drain. After an
+    /// error nothing is told, and what the line did up to there stays done.
+    pub fn play(&mut self, line: u32, event: LineEvent) -> Result<Vec<u8>, NoMemory>
         requires { IsBlindLine event }
-        ensures plays { OnOk result (Played (cue line event) (played_network self.old) (played_network self.new) into.old.items into.new.items) }
-        ensures untold { OnErr result (into.new.items ≡ into.old.items) }
+        ensures { IfOk result (λ told. Played (cue line event) (played_network self.old) told.items (played_network self.new)) }
     {
         let mut text = Vec::new(self.alloc);
         play_line(self.alloc, &mut self.plant, line, event, &mut text)?;
-        append(into, &text)?;
-        Ok(())
+        Ok(text)
     }
 }

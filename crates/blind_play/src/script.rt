@@ -56,8 +56,7 @@ fn play_line<K: Sink>(
     ensures after { K.faults out.old ≤ K.faults out.new }
 {
     let event = event_of(alloc, player.network(), number, text)?;
-    let mut told = Vec::new(alloc);
-    player.play(number, event, &mut told)?;
+    let told = player.play(number, event)?;
     match write_all(out, &told) {
         Ok(()) => Ok(()),
         Err(_) => Err(Stop::WriteFault),

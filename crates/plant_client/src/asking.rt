@@ -78,8 +78,8 @@ fn play_line<S: Store>(
     ensures files { S.files store.new ≡ S.files store.old }
     ensures later { S.faults store.old ≤ S.faults store.new }
 {
-    let mut unseen = Log::unseen(alloc);
-    play_cue(alloc, store, player, 0, event, &mut unseen)
+    let (answer, _log) = play_cue(alloc, store, player, 0, event, Log::unseen(alloc))?;
+    Ok(answer)
 }
 
 // Plays a line whose answer is not looked at.

@@ -15,11 +15,10 @@ use Rattle.plant_network.specs.Current.{IsCurrent}
 use Rattle.plant_network.specs.Whole.{Whole}
 use Rattle.network_files.specs.declared.error.FileError.{FileError}
 use Rattle.plant_play.specs.declared.showing.Modes.{Modes}
-use Rattle.plant_play.specs.Logs.{Told, behind, untold}
+use Rattle.plant_play.specs.Logs.{Told}
 use Rattle.plant_play.specs.Making.{Does, DoesLine, playing}
 use Rattle.plant_play.specs.Playing.{Changes, Played, Plays, PlaysChange, PlaysLoad, PlaysNone, PlaysOne, cue, modes_after}
 use Rattle.plant_play.specs.Turns.{Turn}
-use Rattle.plant_play.proofs.LogLemmas.{behind_again}
 
 -- the events are done, and more is said of them
 pub does_as : (old new : Whole) (Line More : List Turn → List ℕ → Plant → Type 0) (b0 b1 : Told) → ((turns : List Turn) (told : List ℕ) (end : Plant) → Line turns told end → More turns told end) → Does old Line new b0 b1 → Does old More new b0 b1
@@ -50,13 +49,13 @@ pub of_kind : (line : ℕ) (m : Modes) (e kind : LineEvent) (file : List ℕ) (o
     IfOk r (DoesLine old (Plays line (playing m old) e file) new b0 b1)
 of_kind line m e kind file old new b0 b1 r is does = subst (λ (x : LineEvent). IfOk r (DoesLine old (Plays line (playing m old) x file) new b0 b1)) (sym is) does
 
--- what is told of a line is put behind what stands there
-pub played : (line : ℕ) (e : LineEvent) (file : List ℕ) (m after : Modes) (old : Whole) (answer : Answered) (new : Whole) (t0 t1 b0 b1 : Told) → t0 ≡ untold b0.is_kept → after ≡ modes_after e m →
-    Does old (Plays line (playing m old) e file answer) new t0 t1 → b1 ≡ behind b0 t1.text → Played (cue line e file) (playing m old) answer (playing after new) b0 b1
-played line e file m after old answer new t0 t1 b0 b1 empty modes does put = record {
+-- a line is played
+pub played : (line : ℕ) (e : LineEvent) (file : List ℕ) (m after : Modes) (old : Whole) (answer : Answered) (new : Whole) (b0 b1 : Told) → after ≡ modes_after e m →
+    Does old (Plays line (playing m old) e file answer) new b0 b1 → Played (cue line e file) (playing m old) answer (playing after new) b0 b1
+played line e file m after old answer new b0 b1 modes does = record {
   turns = does.turns;
   told = does.told;
   line = record { network = does.network; modes = modes; plays = does.plays };
-  tells = put ∙ behind_again b0 t1 does.told (does.tells ∙ ap (λ (t : Told). behind t does.told) empty);
+  tells = does.tells;
   goes = does.goes;
 }

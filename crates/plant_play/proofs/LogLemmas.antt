@@ -2,7 +2,7 @@
 use Rattle.std.proofs.Common.{◌≡◌, ℕ, Bool, true, false, cond, List, [], ◌∷◌, ◌++◌, sym, ◌∙◌, ap, refl, append_assoc, append-nil}
 use Rattle.std.specs.List.{flat_map}
 use Rattle.std.proofs.lemmas.List.{flat_map_more}
-use Rattle.plant_play.specs.Logs.{Told, behind, untold}
+use Rattle.plant_play.specs.Logs.{Told, behind}
 
 abbrev pub told : Bool → List ℕ → Told
 told k text = record { is_kept = k; text = text }
@@ -20,14 +20,6 @@ behind_twice a s t = ap (λ (l : List ℕ). told a.is_kept l) (twice a.is_kept a
 
 pub behind_nothing : (a : Told) → a ≡ behind a []
 behind_nothing a = ap (λ (l : List ℕ). told a.is_kept l) (nothing a.is_kept a.text)
-
-again : (k : Bool) (x s : List ℕ) → cond k (x ++ cond k s []) x ≡ cond k (x ++ s) x
-again true x s = refl
-again false x s = refl
-
--- what was told apart is told here
-pub behind_again : (a b : Told) (s : List ℕ) → b ≡ behind (untold a.is_kept) s → behind a b.text ≡ behind a s
-behind_again a b s is = ap (λ (t : Told). behind a t.text) is ∙ ap (λ (l : List ℕ). told a.is_kept l) (again a.is_kept a.text s)
 
 pub behind_more : {X : Type 0} (f : X → List ℕ) (a : Told) (xs : List X) (x : X) → behind (behind a (flat_map f xs)) (f x) ≡ behind a (flat_map f (xs ++ x ∷ []))
 behind_more f a xs x = behind_twice a (flat_map f xs) (f x) ∙ ap (λ (l : List ℕ). behind a l) (flat_map_more f [] xs x)

@@ -1,5 +1,5 @@
 //! What is told of events: as text, or not at all where nobody reads it.
-ghost use Rattle.std.specs.Prelude.{◌≡◌, ◌++◌, true, false, OnErr, OnOk};
+ghost use Rattle.std.specs.Prelude.{◌≡◌, true, false, OnOk};
 ghost use Rattle.transcript.specs.Lines.{answer_line, carry_line, certified_text, rows_text, sents_text, solve_line, take_line};
 ghost use Rattle.plant_play.specs.Logs.{behind, untold};
 
@@ -59,43 +59,12 @@ impl Log {
         }
     }
 
-    /// Another one, with nothing told yet: what will be is kept where it is here.
-    pub(crate) fn fresh(&self, alloc: Global) -> Log
-        ensures { result ≡ untold self.now.is_kept }
-    {
-        Log {
-            is_kept: self.is_kept,
-            text: Vec::new(alloc),
-        }
-    }
-
     /// What was told and kept.
     pub fn text(&self) -> &[u8]
         ensures { result.now ≡ self.now.text }
     {
         &self.text
     }
-
-    /// Puts what another one keeps behind it; after a refusal nothing is put.
-    pub(crate) fn append(&mut self, other: &Log) -> Result<(), NoMemory>
-        ensures ok { OnOk result (self.new ≡ behind self.old other.now.text) }
-        ensures err { OnErr result (self.new ≡ self.old) }
-    {
-        if self.is_kept {
-            append(&mut self.text, other.text())
-        } else {
-            Ok(())
-        }
-    }
-}
-
-// Puts a text behind another; after a refusal nothing is put.
-fn append(into: &mut Vec<u8>, text: &[u8]) -> Result<(), NoMemory>
-    ensures ok { OnOk result (into.new.items ≡ into.old.items ++ text.now) }
-    ensures err { OnErr result (into.new.items ≡ into.old.items) }
-{
-    into.extend_from_slice(text)?;
-    Ok(())
 }
 
 // ---- each of these tells what the call of its name in `transcript` writes

@@ -1,5 +1,5 @@
 //! Who plays the lines of a script.
-ghost use Rattle.std.specs.Prelude.{◌≡◌, ◌≤◌, length, IfErr, IfOk, OnErr};
+ghost use Rattle.std.specs.Prelude.{◌≡◌, ◌≤◌, length, IfErr, IfOk};
 ghost use Rattle.te_deltas.specs.ChangeText.{change_file_most};
 ghost use Rattle.plant_play.specs.Playing.{IsNewNetwork, IsWhyNot, Played, cue, played_network};
 
@@ -71,25 +71,23 @@ impl Player {
         self.plant.network()
     }
 
-    /// Plays a line of this number, and tells it at the end of `into`; gives the answer of the line. `file` is the text
-    /// of the file that the line names. After an error nothing is told; where it is no fault of the file, what the line
-    /// did up to there stays done. A file that is refused leaves the network as it was. NoMemory is also told where there
-    /// is no room to count more than 2^64 - 1 events of one line; where 2^47 messages stand in the queues between elements
-    /// at most, and no id comes round, fewer follow one another.
+    /// Plays a line of this number, and tells it at the end of a log; gives the answer of the line, and the log. `file`
+    /// is the text of the file that the line names. After an error nothing is told, and the log is gone; where it is no
+    /// fault of the file, what the line did up to there stays done. A file that is refused leaves the network as it was.
+    /// NoMemory is also told where there is no room to count more than 2^64 - 1 events of one line; where 2^47 messages
+    /// stand in the queues between elements at most, and no id comes round, fewer follow one another.
     pub fn play(
         &mut self,
         line: u32,
         event: LineEvent,
         file: &[u8],
-        into: &mut Log,
-    ) -> Result<Answer, PlayError>
+        mut log: Log,
+    ) -> Result<(Answer, Log), PlayError>
         requires { length file.now ≤ change_file_most }
-        ensures plays { IfOk result (λ answer. Played (cue line event file.now) (played_network self.old) answer (played_network self.new) into.old into.new) }
+        ensures plays { IfOk result (λ told. Played (cue line event file.now) (played_network self.old) told.0 (played_network self.new) log told.1) }
         ensures refused { IfErr result (IsWhyNot event file.now (played_network self.old) (played_network self.new)) }
-        ensures untold { OnErr result (into.new ≡ into.old) }
     {
         let after = modes_after(&event, self.modes);
-        let mut log = into.fresh(self.alloc);
         let answer = play_line(
             self.alloc,
             &mut self.plant,
@@ -100,7 +98,6 @@ impl Player {
             &mut log,
         )?;
         self.modes = after;
-        into.append(&log)?;
-        Ok(answer)
+        Ok((answer, log))
     }
 }

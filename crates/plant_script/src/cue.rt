@@ -1,5 +1,5 @@
 //! One line of a script: the file that it names is read, and then it is played.
-ghost use Rattle.std.specs.Prelude.{◌≡◌, ◌≤◌, length, IfErr, IfOk, MatchOption, None, OnErr, Some};
+ghost use Rattle.std.specs.Prelude.{◌≡◌, ◌≤◌, length, IfErr, IfOk, MatchOption, None, Some};
 ghost use Rattle.plant_play.specs.Playing.{played_network};
 ghost use Rattle.transcript.specs.Stops.{IsTooLarge};
 ghost use Rattle.plant_script.specs.Cues.{HasText, IsBadAt, IsCueStop, IsFileStop, IsNoFile, PlaysCue, file_name};
@@ -77,18 +77,17 @@ fn play_with<S: Store>(
     number: u32,
     event: LineEvent,
     name: &str,
-    into: &mut Log,
-) -> Result<Answer, Stop>
+    log: Log,
+) -> Result<(Answer, Log), Stop>
     requires named { file_name event ≡ Some name.now }
-    ensures plays { IfOk result (λ answer. PlaysCue (S.files store.old) number event answer (played_network player.old) (played_network player.new) into.old into.new) }
+    ensures plays { IfOk result (λ told. PlaysCue (S.files store.old) number event told.0 (played_network player.old) (played_network player.new) log told.1) }
     ensures refused { IfErr result (IsFileStop (S.files store.old) name.now event (played_network player.old) (played_network player.new) (S.faults store.old, S.faults store.new) (S.failed_at store.new)) }
-    ensures untold { OnErr result (into.new ≡ into.old) }
     ensures files { S.files store.new ≡ S.files store.old }
     ensures later { S.faults store.old ≤ S.faults store.new }
 {
     let file = read_file(alloc, store, name)?;
-    match player.play(number, event, file.as_slice(), into) {
-        Ok(answer) => Ok(answer),
+    match player.play(number, event, file.as_slice(), log) {
+        Ok(told) => Ok(told),
         Err(PlayError::BadFile(line, fault)) => Err(bad_network(alloc, name, line, fault)),
         Err(PlayError::NoMemory) => Err(Stop::NoMemory),
     }
@@ -99,39 +98,37 @@ fn play_alone(
     player: &mut Player,
     number: u32,
     event: LineEvent,
-    into: &mut Log,
-) -> Result<Answer, Stop>
+    log: Log,
+) -> Result<(Answer, Log), Stop>
     requires named { file_name event ≡ None }
-    ensures plays { IfOk result (λ answer. PlaysCue None number event answer (played_network player.old) (played_network player.new) into.old into.new) }
+    ensures plays { IfOk result (λ told. PlaysCue None number event told.0 (played_network player.old) (played_network player.new) log told.1) }
     ensures refused { IfErr result (λ why. why ≡ Stop.NoMemory) }
-    ensures untold { OnErr result (into.new ≡ into.old) }
 {
-    match player.play(number, event, &[], into) {
-        Ok(answer) => Ok(answer),
+    match player.play(number, event, &[], log) {
+        Ok(told) => Ok(told),
         Err(PlayError::BadFile(_, _)) => unreachable!(),
         Err(PlayError::NoMemory) => Err(Stop::NoMemory),
     }
 }
 
-/// Plays a line of this number, over the text of the file that it names, and tells it at the end of `into`; gives the
-/// answer of the line. After an error nothing is told. A file that is refused leaves the network as it was; after want
-/// of memory what the line did up to there stays done.
+/// Plays a line of this number, over the text of the file that it names, and tells it at the end of a log; gives the
+/// answer of the line, and the log. After an error nothing is told, and the log is gone. A file that is refused leaves
+/// the network as it was; after want of memory what the line did up to there stays done.
 pub fn play_cue<S: Store>(
     alloc: Global,
     store: &mut S,
     player: &mut Player,
     number: u32,
     event: LineEvent,
-    into: &mut Log,
-) -> Result<Answer, Stop>
-    ensures plays { IfOk result (λ answer. PlaysCue (S.files store.old) number event answer (played_network player.old) (played_network player.new) into.old into.new) }
+    log: Log,
+) -> Result<(Answer, Log), Stop>
+    ensures plays { IfOk result (λ told. PlaysCue (S.files store.old) number event told.0 (played_network player.old) (played_network player.new) log told.1) }
     ensures refused { IfErr result (IsCueStop (S.files store.old) (file_name event) event (played_network player.old) (played_network player.new) (S.faults store.old, S.faults store.new) (S.failed_at store.new)) }
-    ensures untold { OnErr result (into.new ≡ into.old) }
     ensures files { S.files store.new ≡ S.files store.old }
     ensures later { S.faults store.old ≤ S.faults store.new }
 {
     match name_of(alloc, &event)? {
-        Some(name) => play_with(alloc, store, player, number, event, name.as_str(), into),
-        None => play_alone(player, number, event, into),
+        Some(name) => play_with(alloc, store, player, number, event, name.as_str(), log),
+        None => play_alone(player, number, event, log),
     }
 }

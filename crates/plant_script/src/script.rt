@@ -50,8 +50,7 @@ fn play_line<S: Store, K: Sink>(
     ensures after { K.faults out.old ≤ K.faults out.new }
 {
     let event = event_of(alloc, player.network(), number, text)?;
-    let mut told = Log::kept(alloc);
-    let _answer = play_cue(alloc, store, player, number, event, &mut told)?;
+    let (_answer, told) = play_cue(alloc, store, player, number, event, Log::kept(alloc))?;
     match write_all(out, told.text()) {
         Ok(()) => Ok(()),
         Err(_) => Err(Stop::WriteFault),

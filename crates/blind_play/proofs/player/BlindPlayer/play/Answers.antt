@@ -4,10 +4,8 @@ use Rattle.blind_play.specs.Playing.{Played, cue, played_network}
 use Rattle.blind_play.proofs.LineLemmas.{played}
 use Rattle.blind_play.proofs.player.BlindPlayer.play.Goals as goal
 
-pub returns-clause-plays : goal.returns-clause-plays
-returns-clause-plays c =
-    let b0 = c.args.into.now.items in
-    let b1 = c.append.new.into.items in
-    subst (λ (x : Held). Played (cue c.args.line c.args.event) (played_network x) (played_network c.play_line.new.plant) b0 b1) c.self.view_is
-    (played c.args.line c.args.event (whole c.self.inside.plant) (whole c.play_line.new.plant) c.new-text.result.items c.play_line.new.into.items c.deref.result.now b0 b1
-    c.new-text.ensures.items c.in_ok-play_line.ensures c.deref.ensures.value c.in_ok-append.ensures.ok)
+pub returns : goal.returns
+returns c =
+    let told = c.play_line.new.into.items in
+    subst (λ (x : Held). Played (cue c.args.line c.args.event) (played_network x) told (played_network c.play_line.new.plant)) c.self.view_is
+    (played c.args.line c.args.event (whole c.self.inside.plant) (whole c.play_line.new.plant) c.new-text.result.items told c.new-text.ensures.items c.in_ok-play_line.ensures)
