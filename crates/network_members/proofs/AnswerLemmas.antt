@@ -1,6 +1,6 @@
 -- The answer of an element, or of the parent, to a solved job is that of the model.
-use Rattle.std.proofs.Common.{◌≡◌, ℕ, Bool, true, false, cond, nat_eq, is_some, length, option_map, Option, Some, None, Result, Ok, Err, List, inl, inr, refl, sym, ◌∙◌, ap, ap₂, subst}
-use Rattle.std.specs.Prelude.{IfErr, IfOk, IfSome, ◌↔◌}
+use Rattle.std.proofs.Common.{◌≡◌, ℕ, Bool, true, false, cond, nat_eq, is_some, length, option_map, Option, Some, None, Ok, Err, List, inl, inr, refl, sym, ◌∙◌, ap, ap₂, subst}
+use Rattle.std.specs.Prelude.{IfSome}
 use Rattle.std.specs.Map.{lookup}
 use Rattle.dom_base.specs.declared.names.As.{As}
 use Rattle.request_table.specs.declared.held.Held.{Held}
@@ -10,7 +10,9 @@ use Rattle.vspt_tree.specs.declared.branch.Branch.{Branch}
 use Rattle.border_costs.specs.declared.job.Ask.{Ask}
 use Rattle.border_costs.specs.Solutions.{AreRows, Solution}
 use Rattle.plant_text.specs.Names.{same_as, parent_as}
+use Rattle.plant_text.specs.declared.settings.NetworkParts.{NetworkParts}
 use Rattle.plant_text.specs.Settings.{is_element}
+use Rattle.member_trait.specs.plant_model.declared.outcome.Refused.{Refused}
 use Rattle.member_trait.specs.plant_model.declared.upper.BorderJob.{BorderJob}
 use Rattle.member_trait.specs.plant_model.BorderGraph.{Found, SolvesBorder}
 use Rattle.member_trait.specs.plant_model.Element.{Element, Item, ElementSettings, Stage, Taken, Waits, Ready, is_ready}
@@ -26,25 +28,25 @@ use Rattle.pce_element.specs.Committing.{IsOwnJob, commit_held, commit_solved, c
 use Rattle.pce_element.specs.Jobs.{Work, job_at, work_for, work_at}
 use Rattle.pce_element.specs.Plans.{Planned}
 use Rattle.pce_element.specs.Seen.{Seen}
-use Rattle.pce_element.specs.declared.committing.CommitError.{CommitError}
-use Rattle.pce_element.specs.declared.committing.CommitError.TheVariants as commit_error
+use Rattle.pce_element.specs.pce_common.Refusals.{IsWhyNot}
+use Rattle.pce_element.specs.pce_common.declared.refusal.Refusal.{Refusal}
 use Rattle.pce_parent.specs.Plans.{Planned as BorderPlanned}
-use Rattle.pce_parent.specs.Refused.{handed_back as border_back}
 use Rattle.pce_parent.specs.Seen as border
 use Rattle.pce_parent.specs.Solution.{BorderSolution}
-use Rattle.pce_parent.specs.declared.committing.ParentCommitError.{ParentCommitError}
-use Rattle.pce_parent.specs.declared.committing.ParentCommitError.TheVariants as parent_error
-use Rattle.pce_parent.specs.declared.work.Done.{Done}
 use Rattle.pce_parent.specs.declared.work.Done.TheVariants as done
-use Rattle.network_members.specs.Answering.{Commits, IsBack, MemberAnswers, border_job, is_ready_at, told_above, told_below}
+use Rattle.network_members.specs.Answering.{Commits, IsBack, IsRefusedFor, MemberAnswers, border_job, is_ready_at}
 use Rattle.network_members.specs.Becoming.{Becomes, unchanged}
 use Rattle.network_members.specs.Elements.{own_of, at_domain, element_or}
 use Rattle.network_members.specs.Tiers.{Tiers, AreSet, Become, lost_in, members_of}
-use Rattle.network_members.specs.declared.answering.Unanswered.{Unanswered}
-use Rattle.network_members.specs.declared.plan.MemberPlan.{MemberPlan}
+use Rattle.network_members.specs.declared.plan.MemberPlan.TheVariants as plan
 use Rattle.network_members.proofs.DomainLemmas.{found_own}
 use Rattle.network_members.proofs.StepLemmas.{is_upper, keeps_below}
 use Rattle.network_members.proofs.TierLemmas.{placed_at}
+
+-- why a member does not answer, where no request without a job is ready
+pub refused_for : {P S J : Type 0} (n : NetworkParts) (d : As) (k : ℕ) (ms : Membership P S) (job : Option J) (why : Refused) → has_jobs n d ≡ true → (job ≡ None → is_ready_at d k ms ≡ false) → IsWhyNot job why → IsRefusedFor n d k ms why
+refused_for n d k ms None why jobs ready is = subst (IsRefusedFor n d k ms) (sym is) (jobs, ready refl)
+refused_for n d k ms (Some job) why jobs ready is = subst (IsRefusedFor n d k ms) (sym is) tt
 
 -- the request that is answered
 record IsAnswered (s : Seen Pin Segment) (x : Solution) (now : ℕ) (taken : Taken Pin Segment) : Type 0 where
@@ -127,9 +129,9 @@ module _ (d : As) (now : ℕ) (x : Solution) (t : Tiers Pin Segment) (es : List 
         is = ap₂ (λ (r : Taken Pin Segment) (ms : Membership Pin Segment). let z : Replied Pin Segment = record { members = with_element d r.element ms; outputs = r.outputs } in z) taken_is same.seen;
       })
 
-  pub commits_below : {W : Type 0} → (r : Result (Planned Pin Segment Solution) CommitError) → IfOk r (λ p. at_domain d es ≡ Some p.from) → IfOk r (λ p. IfSome (at_domain d t.elements) (λ e. committed e x now ≡ Some p.taken)) → IfOk r (λ p. length p.taken.outputs ≡ 1)
-      → IfOk r (λ p. p.solved ≡ Some x) → IfErr r (λ why. IfSome (at_domain d t.elements) (λ e. IsBack e x why)) → Commits {W = W} d now (done.Domain x) t (told_below d r) u
-  commits_below (Ok p) from taken one solved back = record {
+  pub answered_below : {W : Type 0} → (p : Planned Pin Segment Solution) → at_domain d es ≡ Some p.from → IfSome (at_domain d t.elements) (λ e. committed e x now ≡ Some p.taken) → length p.taken.outputs ≡ 1 → p.solved ≡ Some x
+      → Commits {W = W} d now (done.Domain x) t (Ok (plan.Element d p)) u
+  answered_below p from taken one solved = record {
     same = keeps_below first_pin open_of d t es b below;
     there = jobs;
     fits = (below, from);
@@ -139,9 +141,15 @@ module _ (d : As) (now : ℕ) (x : Solution) (t : Tiers Pin Segment) (es : List 
     why = tt;
     back = tt;
   }
-  commits_below (Err (commit_error.Stranger y)) from taken one solved back =
-      let is : IsBack b.one x (commit_error.Stranger y) = subst (λ (o : Option (Seen Pin Segment)). IfSome o (λ e. IsBack e x (commit_error.Stranger y))) b.found back in
-      let element_is : b.one.losing.element ≡ (members_of first_pin t).elements d = ap (element_or t.network t.clock d) (sym b.found) in
+
+  unready : job_at b.one x.ask.number ≡ None → is_ready_at d x.ask.number (members_of first_pin t) ≡ false
+  unready none =
+      ap (λ (c : Bool). cond c (is_ready_asking (lookup (nat_eq x.ask.number) t.parent.losing.parent.pending.rows)) (is_ready_row (lookup (nat_eq x.ask.number) ((members_of first_pin t).elements d).pending.rows))) below
+      ∙ ap (λ (e : Option (Seen Pin Segment)). is_ready_row (lookup (nat_eq x.ask.number) (element_or t.network t.clock d e).pending.rows)) b.found ∙ no_job b.one x.ask.number none
+
+  pub refused_below : {W : Type 0} → (r : Refusal Solution) → IfSome (at_domain d t.elements) (λ e. IsBack e x r) → Commits {W = W} d now (done.Domain x) t (Err (record { why = r.why; back = done.Domain r.back })) u
+  refused_below r back =
+      let is : IsBack b.one x r = subst (λ (o : Option (Seen Pin Segment)). IfSome o (λ e. IsBack e x r)) b.found back in
       record {
         same = keeps_below first_pin open_of d t es b below;
         there = tt;
@@ -149,16 +157,9 @@ module _ (d : As) (now : ℕ) (x : Solution) (t : Tiers Pin Segment) (es : List 
         answers = tt;
         one = tt;
         solved = tt;
-        why = (
-          jobs,
-          ap (λ (c : Bool). cond c (is_ready_asking (lookup (nat_eq x.ask.number) t.parent.losing.parent.pending.rows)) (is_ready_row (lookup (nat_eq x.ask.number) ((members_of first_pin t).elements d).pending.rows))) below
-              ∙ ap (λ (m : Element Pin Segment). is_ready_row (lookup (nat_eq x.ask.number) m.pending.rows)) (sym element_is) ∙ no_job b.one x.ask.number is.1,
-        );
-        back = ap done.Domain is.0;
+        why = refused_for t.network d x.ask.number (members_of first_pin t) (job_at b.one x.ask.number) r.why jobs unready is.0;
+        back = ap done.Domain is.1;
       }
-  commits_below (Err (commit_error.NoMemory y)) from taken one solved back =
-      let is : IsBack b.one x (commit_error.NoMemory y) = subst (λ (o : Option (Seen Pin Segment)). IfSome o (λ e. IsBack e x (commit_error.NoMemory y))) b.found back in
-      record { same = keeps_below first_pin open_of d t es b below; there = tt; fits = tt; answers = tt; one = tt; solved = tt; why = tt; back = ap done.Domain is }
 
 -- ---- at the parent
 
@@ -241,9 +242,8 @@ module _ (d : As) (now : ℕ) (x : BorderSolution) (t : Tiers Pin Segment) (s : 
       ap (λ (c : Bool). cond c (is_ready_asking (lookup (nat_eq k) rows)) (is_ready_row (lookup (nat_eq k) ((members_of first_pin t).elements d).pending.rows))) upper
       ∙ no_border_job t.parent.family k (lookup (nat_eq k) rows) none
 
-  pub commits_above : {W : Type 0} → (r : Result BorderPlanned ParentCommitError) → IfOk r (λ p. p.from ≡ t.parent) → IfOk r (λ p. border.committed x t.parent.losing.parent ≡ Some p.given) → IfOk r (λ p. p.solved ≡ Some x)
-      → ((r ≡ Err (parent_error.Stranger x)) ↔ (border.job_at t.parent x.job.number ≡ None)) → IfErr r (λ why. border_back why ≡ x) → Commits {W = W} d now (done.Border x) t (told_above r) v
-  commits_above (Ok p) from given solved stranger back =
+  pub answered_at_parent : {W : Type 0} → (p : BorderPlanned) → p.from ≡ t.parent → border.committed x t.parent.losing.parent ≡ Some p.given → p.solved ≡ Some x → Commits {W = W} d now (done.Border x) t (Ok (plan.Parent p)) v
+  answered_at_parent p from given solved =
       let a = answered_above x t.parent.losing.parent p.given given in
       record {
         same = still;
@@ -255,26 +255,15 @@ module _ (d : As) (now : ℕ) (x : BorderSolution) (t : Tiers Pin Segment) (s : 
         why = tt;
         back = tt;
       }
-  commits_above (Err (parent_error.Stranger y)) from given solved stranger back = record {
-    same = still;
-    there = tt;
-    fits = tt;
-    answers = tt;
-    one = tt;
-    solved = tt;
-    why = (there, not_ready (stranger.0 (ap (λ (z : BorderSolution). Err (parent_error.Stranger z)) back)));
-    back = ap done.Border back;
-  }
-  commits_above (Err (parent_error.NoMemory y)) from given solved stranger back = record {
-    same = still;
-    there = tt;
-    fits = tt;
-    answers = tt;
-    one = tt;
-    solved = tt;
-    why = tt;
-    back = ap done.Border back;
-  }
 
-pub commits_as : {W : Type 0} → (t u : Tiers Pin Segment) → t ≡ u → (d : As) (now : ℕ) (x : Done) (r r' : Result (MemberPlan W Pin Segment Solution) Unanswered) (v : Tiers Pin Segment) → r ≡ r' → Commits d now x t r v → Commits d now x u r' v
-commits_as {W = W} t u is d now x r r' v same h = subst (λ (z : Result (MemberPlan W Pin Segment Solution) Unanswered). Commits d now x u z v) same (subst (λ (y : Tiers Pin Segment). Commits d now x y r v) is h)
+  pub refused_above : {W : Type 0} → (r : Refusal BorderSolution) → IsWhyNot (border.job_at t.parent x.job.number) r.why → r.back ≡ x → Commits {W = W} d now (done.Border x) t (Err (record { why = r.why; back = done.Border r.back })) v
+  refused_above r why back = record {
+    same = still;
+    there = tt;
+    fits = tt;
+    answers = tt;
+    one = tt;
+    solved = tt;
+    why = refused_for t.network d x.job.number (members_of first_pin t) (border.job_at t.parent x.job.number) r.why there not_ready why;
+    back = ap done.Border back;
+  }

@@ -1,6 +1,6 @@
 -- The answer of a member without topologies is that of the model.
 use Rattle.std.proofs.Common.{◌≡◌, ◌≤◌, ℕ, Bool, true, false, cond, nat_eq, is_some, option_map, Option, Some, None, Result, Ok, Err, List, inl, inr, refl, sym, ◌∙◌, ap, ap₂, subst}
-use Rattle.std.specs.Prelude.{IfErr, IfOk, IfSome, MatchOption, ◌↔◌}
+use Rattle.std.specs.Prelude.{IfOk, IfSome, MatchOption}
 use Rattle.std.specs.Map.{lookup}
 use Rattle.dom_base.specs.declared.names.As.{As}
 use Rattle.dom_base.specs.declared.names.NoMemory.{NoMemory}
@@ -23,19 +23,18 @@ use Rattle.member_trait.specs.Membership.{KeysBefore, Membership, Replied, with_
 use Rattle.pce_element.specs.Blind.{HasNoJob, IsSolvedBy, stands_for_nothing}
 use Rattle.pce_element.specs.Plans.{Planned}
 use Rattle.pce_element.specs.Seen.{Seen}
+use Rattle.pce_element.specs.pce_common.Refusals.{IsWhyNot}
 use Rattle.pce_parent.specs.Plans.{Planned as BorderPlanned}
-use Rattle.pce_parent.specs.Refused.{handed_back as border_back}
 use Rattle.pce_parent.specs.Seen as border
 use Rattle.pce_parent.specs.Solution.{BorderSolution}
-use Rattle.pce_parent.specs.declared.committing.ParentCommitError.{ParentCommitError}
-use Rattle.pce_parent.specs.declared.committing.ParentCommitError.TheVariants as parent_error
 use Rattle.network_members.specs.Answering.{is_ready_at}
 use Rattle.network_members.specs.Becoming.{Becomes, unchanged}
-use Rattle.network_members.specs.Blind.{IsUnsolved, MemberAnswers, Solves, nothing_first, told_above, told_below}
+use Rattle.network_members.specs.Blind.{IsUnsolved, MemberAnswers, Solves, nothing_first, told_below}
 use Rattle.network_members.specs.Elements.{at_domain, element_or}
 use Rattle.network_members.specs.Tiers.{Tiers, AreSet, Become, lost_in, members_of}
 use Rattle.network_members.specs.declared.plan.MemberPlan.{MemberPlan}
-use Rattle.network_members.proofs.AnswerLemmas.{IsAnsweredAbove, answered_above, no_border_job}
+use Rattle.network_members.specs.declared.plan.MemberPlan.TheVariants as plan
+use Rattle.network_members.proofs.AnswerLemmas.{IsAnsweredAbove, answered_above, no_border_job, refused_for}
 use Rattle.network_members.proofs.DomainLemmas.{found_own}
 use Rattle.network_members.proofs.StepLemmas.{is_upper, keeps_below}
 use Rattle.network_members.proofs.TierLemmas.{placed_at}
@@ -173,17 +172,17 @@ module _ (d : As) (k : ℕ) (rows : List BorderRow) (now : ℕ) (t : Tiers Nothi
         one : (a b : BorderJob) → Some a ≡ Some b → a ≡ b
         one a b e = cc
 
-    pub solves_above : {W : Type 0} {D : Type 0} (r : Result BorderPlanned ParentCommitError) → IfOk r (λ p. p.from ≡ t.parent) → IfOk r (λ p. border.committed x t.parent.losing.parent ≡ Some p.given) →
-        ((r ≡ Err (parent_error.Stranger x)) ↔ (border.job_at t.parent x.job.number ≡ None)) → IfErr r (λ why. border_back why ≡ x) → Solves {W = W} {D = D} d k rows now t (told_above r) (record t { parent = s })
-    solves_above (Ok p) from given stranger back = record { same = same_above; there = there; fits = from ∙ sym still; answers = answers_above p given; why = tt }
-    solves_above (Err (parent_error.Stranger y)) from given stranger back = record {
+    pub solved_at_parent : {W : Type 0} {D : Type 0} (p : BorderPlanned) → p.from ≡ t.parent → border.committed x t.parent.losing.parent ≡ Some p.given → Solves {W = W} {D = D} d k rows now t (Ok (plan.Parent p)) (record t { parent = s })
+    solved_at_parent p from given = record { same = same_above; there = there; fits = from ∙ sym still; answers = answers_above p given; why = tt }
+
+    pub refused_above : {W : Type 0} {D : Type 0} (why : Refused) → IsWhyNot (border.job_at t.parent x.job.number) why → Solves {W = W} {D = D} d k rows now t (Err why) (record t { parent = s })
+    refused_above why is = record {
       same = same_above;
       there = tt;
       fits = tt;
       answers = tt;
-      why = (there, not_ready (subst (λ (i : ℕ). border.job_at t.parent i ≡ None) number_is (stranger.0 (ap (λ (z : BorderSolution). Err (parent_error.Stranger z)) back))));
+      why = refused_for t.network d k (members_of nothing_first t) (border.job_at t.parent k) why there not_ready (subst (λ (i : ℕ). IsWhyNot (border.job_at t.parent i) why) number_is is);
     }
-    solves_above (Err (parent_error.NoMemory y)) from given stranger back = record { same = same_above; there = tt; fits = tt; answers = tt; why = tt }
 
 pub solves_as : {W : Type 0} {D : Type 0} (t u : Tiers Nothing Nothing) → t ≡ u → (d : As) (k : ℕ) (rows : List BorderRow) (now : ℕ) (r r' : Result (MemberPlan W Nothing Nothing D) Refused) (v : Tiers Nothing Nothing) → r ≡ r' → Solves d k rows now t r v → Solves d k rows now u r' v
 solves_as t u is d k rows now r r' v same h = subst (λ (z : Result _ Refused). Solves d k rows now u z v) same (subst (λ (y : Tiers Nothing Nothing). Solves d k rows now y r v) is h)

@@ -1,5 +1,5 @@
 -- Jobs of members, and solved ones that a member answers.
-use Rattle.std.specs.Prelude.{◌≡◌, ◌⊎◌, ℕ, Bool, true, false, cond, nat_eq, length, All, List, Option, Some, None, Result, Ok, Err, IfSome, IfOk, OnOk, IfErr}
+use Rattle.std.specs.Prelude.{◌≡◌, ◌⊎◌, ℕ, Bool, true, false, cond, nat_eq, length, All, List, Option, Some, None, Result, IfSome, IfOk, OnOk, IfErr}
 use Rattle.std.specs.Map.{lookup}
 use Rattle.std.specs.Option.{option_map}
 use Rattle.dom_base.specs.declared.names.As.{As}
@@ -23,23 +23,18 @@ use Rattle.member_trait.specs.plant_model.Settings.{family, place}
 use Rattle.member_trait.specs.plant_model.Solving.{commit, job_found}
 use Rattle.member_trait.specs.Membership.{Membership, Replied, with_element, with_parent}
 use Rattle.pce_element.specs.Committing.{IsOwnJob, own_part}
-use Rattle.pce_element.specs.Plans.{Planned}
 use Rattle.pce_element.specs.Seen.{Seen}
-use Rattle.pce_element.specs.declared.committing.CommitError.{CommitError}
-use Rattle.pce_element.specs.declared.committing.CommitError.TheVariants as commit_error
+use Rattle.pce_element.specs.pce_common.Refusals.{IsWhyNot}
+use Rattle.pce_element.specs.pce_common.declared.refusal.Refusal.{Refusal}
 use Rattle.pce_element.specs.Jobs as element
-use Rattle.pce_parent.specs.Plans as border
 use Rattle.pce_parent.specs.Seen.{job_when}
 use Rattle.pce_parent.specs.Solution.{IsWeighed}
-use Rattle.pce_parent.specs.declared.committing.ParentCommitError.{ParentCommitError}
-use Rattle.pce_parent.specs.declared.committing.ParentCommitError.TheVariants as parent_error
 use Rattle.pce_parent.specs.declared.work.Done.{Done}
 use Rattle.pce_parent.specs.declared.work.Done.TheVariants as done
 use Rattle.pce_parent.specs.declared.work.Work.{Work}
 use Rattle.pce_parent.specs.declared.work.Work.TheVariants as work
 use Rattle.network_members.specs.Elements.{at_domain}
 use Rattle.network_members.specs.Tiers.{Tiers, Become, FitsIn, lost_in, members_of, next_by, sent_by}
-use Rattle.network_members.specs.declared.answering.Unanswered.{Unanswered}
 use Rattle.network_members.specs.declared.plan.MemberPlan.{MemberPlan}
 use Rattle.network_members.specs.declared.plan.MemberPlan.TheVariants as plan
 
@@ -130,29 +125,16 @@ back_of (plan.Element d p) = option_map done.Domain p.solved
 back_of (plan.Parent p) = option_map done.Border p.solved
 
 -- a solved job is planned: nothing changes, and the plan is its answer, or it is handed back
-pub record Commits {W : Type 0} (d : As) (now : ℕ) (x : Done) (old : Tiers Pin Segment) (result : Result (MemberPlan W Pin Segment Solution) Unanswered) (new : Tiers Pin Segment) : Type 0 where
+pub record Commits {W : Type 0} (d : As) (now : ℕ) (x : Done) (old : Tiers Pin Segment) (result : Result (MemberPlan W Pin Segment Solution) (Refusal Done)) (new : Tiers Pin Segment) : Type 0 where
   pub same : Become first_pin old (members_of first_pin old) (lost_in old) new
   pub there : OnOk result (has_jobs old.network d ≡ true)
   pub fits : IfOk result (FitsIn new)
   pub answers : IfOk result (λ plan. MemberAnswers old.network now d (number_of x) (members_of first_pin old) (record { members = next_by first_pin new plan; outputs = sent_by plan }))
   pub one : IfOk result (λ plan. length (sent_by plan) ≡ 1)
   pub solved : IfOk result (λ plan. back_of plan ≡ Some x)
-  pub why : IfErr result (λ u. IsRefusedFor old.network d (number_of x) (members_of first_pin old) u.why)
-  pub back : IfErr result (λ u. u.done ≡ x)
+  pub why : IfErr result (λ r. IsRefusedFor old.network d (number_of x) (members_of first_pin old) r.why)
+  pub back : IfErr result (λ r. r.back ≡ x)
 
 -- why an element does not answer, with what was solved
-abbrev pub IsBack : Seen Pin Segment → Solution → CommitError → Type 0
-IsBack e x (commit_error.Stranger y) = (y ≡ x) × (element.job_at e x.ask.number ≡ None)
-IsBack e x (commit_error.NoMemory y) = y ≡ x
-
--- what is told of an element's answer
-abbrev pub told_below : {W : Type 0} → As → Result (Planned Pin Segment Solution) CommitError → Result (MemberPlan W Pin Segment Solution) Unanswered
-told_below d (Ok x) = Ok (plan.Element d x)
-told_below d (Err (commit_error.Stranger y)) = Err (record { why = refused.NoSuchJob; done = done.Domain y })
-told_below d (Err (commit_error.NoMemory y)) = Err (record { why = refused.NoMemory; done = done.Domain y })
-
--- the same of the parent's
-abbrev pub told_above : {W : Type 0} → Result border.Planned ParentCommitError → Result (MemberPlan W Pin Segment Solution) Unanswered
-told_above (Ok x) = Ok (plan.Parent x)
-told_above (Err (parent_error.Stranger y)) = Err (record { why = refused.NoSuchJob; done = done.Border y })
-told_above (Err (parent_error.NoMemory y)) = Err (record { why = refused.NoMemory; done = done.Border y })
+abbrev pub IsBack : Seen Pin Segment → Solution → Refusal Solution → Type 0
+IsBack e x r = IsWhyNot (element.job_at e x.ask.number) r.why × (r.back ≡ x)

@@ -19,9 +19,6 @@ use Rattle.member_trait.specs.plant_model.RealWire.{wire}
 use Rattle.member_trait.specs.Membership.{Membership, Replied}
 use Rattle.pce_element.specs.Blind.{stands_for_nothing}
 use Rattle.pce_element.specs.Plans.{Planned}
-use Rattle.pce_parent.specs.Plans as border
-use Rattle.pce_parent.specs.declared.committing.ParentCommitError.{ParentCommitError}
-use Rattle.pce_parent.specs.declared.committing.ParentCommitError.TheVariants as parent_error
 use Rattle.network_members.specs.Answering.{IsRefusedFor, ParentAnswers, solved_below}
 use Rattle.network_members.specs.Tiers.{Tiers, Become, FitsIn, lost_in, members_of, next_by, sent_by}
 use Rattle.network_members.specs.declared.plan.MemberPlan.{MemberPlan}
@@ -58,12 +55,6 @@ abbrev pub told_below : {W : Type 0} {D : Type 0} → As → Result (Option (Pla
 told_below d (Ok (Some x)) = Ok (plan.Element d x)
 told_below d (Ok None) = Err refused.NoSuchJob
 told_below d (Err why) = Err refused.NoMemory
-
--- the same of the parent's
-abbrev pub told_above : {W : Type 0} {D : Type 0} → Result border.Planned ParentCommitError → Result (MemberPlan W Nothing Nothing D) Refused
-told_above (Ok x) = Ok (plan.Parent x)
-told_above (Err (parent_error.Stranger y)) = Err refused.NoSuchJob
-told_above (Err (parent_error.NoMemory y)) = Err refused.NoMemory
 
 -- why a job of the parent is not solved: there is none, or memory lacks
 abbrev pub IsUnsolved : Option BorderJob → Refused → Type 0

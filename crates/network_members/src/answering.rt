@@ -7,7 +7,7 @@ ghost use Rattle.member_trait.specs.plant_model.Events.{has_jobs};
 ghost use Rattle.member_trait.specs.plant_model.Plant.{first_pin};
 ghost use Rattle.member_trait.specs.Membership.{KeysBefore};
 ghost use Rattle.pce_element.specs.Committing.{IsOwnJob, committed};
-ghost use Rattle.network_members.specs.Answering.{Commits, IsBack, IsOwnDone, border_job, told_above, told_below};
+ghost use Rattle.network_members.specs.Answering.{Commits, IsBack, IsOwnDone, border_job};
 ghost use Rattle.network_members.specs.Becoming.{Becomes, BecomesAt, HasElement, unchanged};
 ghost use Rattle.network_members.specs.Elements.{at_domain, no_one};
 ghost use Rattle.network_members.specs.Tiers.{members_of};
@@ -18,22 +18,15 @@ use crate::plan::MemberPlan;
 use border_costs::Solved;
 use dom_base::{As, Tick};
 use member_trait::model::Refused;
-use pce_element::{CommitError, Element, Plan, Topologies};
-use pce_parent::{BorderPlan, BorderSolved, Done, ParentCommitError};
-
-/// Why a solved job is not answered, and the job.
-#[derive(Drop)]
-pub struct Unanswered {
-    pub why: Refused,
-    pub done: Done,
-}
+use pce_element::{Element, Plan, Refusal, Topologies};
+use pce_parent::{BorderSolved, Done};
 
 fn commit_at(
     items: &mut Vec<Element<Topologies>>,
     i: usize,
     solved: Solved,
     now: Tick,
-) -> Result<Plan<Topologies>, CommitError>
+) -> Result<Plan<Topologies>, Refusal<Solved>>
     requires within { i < length items.old.items }
     requires clock { (slice_index_or items.old.items i (no_one first_pin)).losing.element.keys.clock ≤ now.0 }
     requires own { IsOwnJob (slice_index_or items.old.items i (no_one first_pin)) solved }
@@ -47,45 +40,6 @@ fn commit_at(
     items[i].commit(solved, now)
 }
 
-// What is told of an element's answer.
-fn told_below(
-    at: As,
-    answer: Result<Plan<Topologies>, CommitError>,
-) -> Result<MemberPlan<Topologies>, Unanswered>
-    ensures { result ≡ told_below at answer }
-{
-    match answer {
-        Ok(plan) => Ok(MemberPlan::Element { at, plan }),
-        Err(CommitError::Stranger(solved)) => Err(Unanswered {
-            why: Refused::NoSuchJob,
-            done: Done::Domain(solved),
-        }),
-        Err(CommitError::NoMemory(solved)) => Err(Unanswered {
-            why: Refused::NoMemory,
-            done: Done::Domain(solved),
-        }),
-    }
-}
-
-// The same of the parent's.
-fn told_above(
-    answer: Result<BorderPlan, ParentCommitError>,
-) -> Result<MemberPlan<Topologies>, Unanswered>
-    ensures { result ≡ told_above answer }
-{
-    match answer {
-        Ok(plan) => Ok(MemberPlan::Parent(plan)),
-        Err(ParentCommitError::Stranger(solved)) => Err(Unanswered {
-            why: Refused::NoSuchJob,
-            done: Done::Border(solved),
-        }),
-        Err(ParentCommitError::NoMemory(solved)) => Err(Unanswered {
-            why: Refused::NoMemory,
-            done: Done::Border(solved),
-        }),
-    }
-}
-
 impl Elements<Topologies> {
     /// Plans the answer to a job of the element of a domain that was solved.
     pub fn commit(
@@ -93,7 +47,7 @@ impl Elements<Topologies> {
         at: As,
         solved: Solved,
         now: Tick,
-    ) -> Result<Plan<Topologies>, CommitError>
+    ) -> Result<Plan<Topologies>, Refusal<Solved>>
         requires there { HasElement at self.old }
         requires clock { IfSome (at_domain at self.old) (λ e. e.losing.element.keys.clock ≤ now.0) }
         requires own { IfSome (at_domain at self.old) (λ e. IsOwnJob e solved) }
@@ -115,7 +69,7 @@ impl Hierarchy<Topologies> {
         at: As,
         solved: Solved,
         now: Tick,
-    ) -> Result<MemberPlan<Topologies>, Unanswered>
+    ) -> Result<MemberPlan<Topologies>, Refusal<Done>>
         requires below { same_as at parent_as ≡ false }
         requires there { is_element self.old.network at ≡ true }
         requires clock { KeysBefore now.0 self.old.network (members_of first_pin self.old) }
@@ -123,7 +77,13 @@ impl Hierarchy<Topologies> {
         ensures { Commits at now.0 (Done.Domain solved) self.old result self.new }
     {
         let _at = solved.at();
-        told_below(at, self.elements.commit(at, solved, now))
+        match self.elements.commit(at, solved, now) {
+            Ok(plan) => Ok(MemberPlan::Element { at, plan }),
+            Err(Refusal { why, back }) => Err(Refusal {
+                why,
+                back: Done::Domain(back),
+            }),
+        }
     }
 
     fn commit_above(
@@ -131,14 +91,20 @@ impl Hierarchy<Topologies> {
         at: As,
         solved: BorderSolved,
         now: Tick,
-    ) -> Result<MemberPlan<Topologies>, Unanswered>
+    ) -> Result<MemberPlan<Topologies>, Refusal<Done>>
         requires above { same_as at parent_as ≡ true }
         requires there { has_jobs self.old.network at ≡ true }
         requires own { IfSome (border_job self.old solved.job.number) (λ j. solved.job ≡ j) }
         ensures { Commits at now.0 (Done.Border solved) self.old result self.new }
     {
         let _number = solved.number();
-        told_above(self.parent.commit(solved, now))
+        match self.parent.commit(solved, now) {
+            Ok(plan) => Ok(MemberPlan::Parent(plan)),
+            Err(Refusal { why, back }) => Err(Refusal {
+                why,
+                back: Done::Border(back),
+            }),
+        }
     }
 
     /// Plans the answer to a job of a member that was solved, which changes nothing yet.
@@ -147,15 +113,15 @@ impl Hierarchy<Topologies> {
         at: As,
         done: Done,
         now: Tick,
-    ) -> Result<MemberPlan<Topologies>, Unanswered>
+    ) -> Result<MemberPlan<Topologies>, Refusal<Done>>
         requires clock { KeysBefore now.0 self.old.network (members_of first_pin self.old) }
         requires own { IsOwnDone self.old at done }
         ensures { Commits at now.0 done self.old result self.new }
     {
         if !self.has_jobs(at) {
-            return Err(Unanswered {
+            return Err(Refusal {
                 why: Refused::NoSuchPeer,
-                done,
+                back: done,
             });
         }
         match done {

@@ -10,7 +10,7 @@ ghost use Rattle.member_trait.specs.Membership.{KeysBefore};
 ghost use Rattle.pce_element.specs.Blind.{HasNoJob, IsSolvedBy};
 ghost use Rattle.pce_parent.specs.Seen.{job_at};
 ghost use Rattle.network_members.specs.Becoming.{Becomes, BecomesAt, HasElement, unchanged};
-ghost use Rattle.network_members.specs.Blind.{IsUnsolved, Solves, nothing_first, told_above, told_below};
+ghost use Rattle.network_members.specs.Blind.{IsUnsolved, Solves, nothing_first, told_below};
 ghost use Rattle.network_members.specs.Elements.{at_domain, no_one};
 ghost use Rattle.network_members.specs.Tiers.{members_of};
 
@@ -20,7 +20,7 @@ use crate::plan::MemberPlan;
 use dom_base::{As, BorderRow, NoMemory, Tick};
 use member_trait::model::Refused;
 use pce_element::{Blind, Element, Plan};
-use pce_parent::{BorderPlan, BorderSolved, Parent, ParentCommitError, solve_border};
+use pce_parent::{BorderSolved, Parent, solve_border};
 use std::alloc::Global;
 
 fn solve_at(
@@ -69,17 +69,6 @@ fn told_below(
         Ok(Some(plan)) => Ok(MemberPlan::Element { at, plan }),
         Ok(None) => Err(Refused::NoSuchJob),
         Err(NoMemory) => Err(Refused::NoMemory),
-    }
-}
-
-// The same of the parent's.
-fn told_above(answer: Result<BorderPlan, ParentCommitError>) -> Result<MemberPlan<Blind>, Refused>
-    ensures { result ≡ told_above answer }
-{
-    match answer {
-        Ok(plan) => Ok(MemberPlan::Parent(plan)),
-        Err(ParentCommitError::Stranger(_solved)) => Err(Refused::NoSuchJob),
-        Err(ParentCommitError::NoMemory(_solved)) => Err(Refused::NoMemory),
     }
 }
 
@@ -134,7 +123,10 @@ impl Hierarchy<Blind> {
         ensures { Solves at number _rows.now now.0 self.old result self.new }
     {
         let solved = solve_job(alloc, &self.parent, number)?;
-        told_above(self.parent.commit(solved, now))
+        match self.parent.commit(solved, now) {
+            Ok(plan) => Ok(MemberPlan::Parent(plan)),
+            Err(refusal) => Err(refusal.why),
+        }
     }
 
     /// Plans the answer to a request of a member, which changes nothing yet: an element answers by the rows of

@@ -15,8 +15,7 @@ mod plan;
 mod ready;
 mod steps;
 
-pub use answering::Unanswered;
 pub use hierarchy::{Hierarchy, is_parent};
-pub use pce_element::{Blind, Topologies};
+pub use pce_element::{Blind, Refusal, Topologies};
 pub use pce_parent::{Done, Work, solve_border};
 pub use plan::MemberPlan;

@@ -1,5 +1,6 @@
 -- for readers
 pub mod Messages
+pub mod Refusals
 pub mod Ways
 -- inner
 pub mod Branches

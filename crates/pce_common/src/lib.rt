@@ -7,6 +7,7 @@ mod messages;
 mod numbers;
 mod objects;
 mod peers;
+mod refusal;
 mod reported;
 mod ways;
 
@@ -18,5 +19,6 @@ pub use numbers::{after_id, has_number};
 pub use objects::{ends, needed, sequence_object};
 pub use peers::is_same_peer;
 pub use plant_model as model;
+pub use refusal::Refusal;
 pub use reported::{error_answer, has_pair};
 pub use ways::{Way, Ways};

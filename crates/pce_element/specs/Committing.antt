@@ -11,17 +11,10 @@ use Rattle.pce_element.specs.Answering.{AreOf, commit_row}
 use Rattle.pce_element.specs.Jobs.{job_at}
 use Rattle.pce_element.specs.Seen.{Seen}
 use Rattle.pce_element.specs.declared.answering.Answered.{Answered}
-use Rattle.pce_element.specs.declared.committing.CommitError.{CommitError}
-use Rattle.pce_element.specs.declared.committing.CommitError.TheVariants.{Stranger, NoMemory}
 
 -- what was solved is the job of the request of its number, where that one is ready
 abbrev pub IsOwnJob : Seen Pin Segment → Solution → Type 0
 IsOwnJob s x = IfSome (job_at s x.ask.number) (λ w. (x.ask ≡ w.ask) × (x.topology ≡ w.topology))
-
--- what a refusal hands back
-abbrev pub handed_back : CommitError → Solution
-handed_back (Stranger x) = x
-handed_back (NoMemory x) = x
 
 -- a key stands for the own part of a way
 abbrev pub own_part : Best → Segment

@@ -1,7 +1,8 @@
 //! An element answers a job that was solved.
-ghost use Rattle.std.specs.Prelude.{◌≡◌, ◌≢◌, ◌≤◌, ◌↔◌, ◌+◌, length, Err, None, Some, IfErr, IfOk, IfSome, MatchOption, OnErr};
+ghost use Rattle.std.specs.Prelude.{◌≡◌, ◌≢◌, ◌≤◌, ◌+◌, length, None, Some, IfErr, IfOk, IfSome, MatchOption, OnErr};
 ghost use Rattle.path_keys.specs.Keys.{live_at, live_most};
-ghost use Rattle.pce_element.specs.Committing.{AnswersFor, IsOwnJob, committed, handed_back};
+ghost use Rattle.pce_common.specs.Refusals.{IsWhyNot};
+ghost use Rattle.pce_element.specs.Committing.{AnswersFor, IsOwnJob, committed};
 ghost use Rattle.pce_element.specs.Jobs.{job_at};
 ghost use Rattle.pce_element.specs.Seen.{SameButRoom};
 
@@ -11,14 +12,8 @@ use crate::plan::Plan;
 use crate::topologies::Topologies;
 use border_costs::Solved;
 use dom_base::{Addr, List, NoMemory, Tick};
-
-/// Why a solved job is not answered. It hands back what was solved.
-#[derive(Drop)]
-pub enum CommitError {
-    /// The request of that number can't be solved here.
-    Stranger(Solved),
-    NoMemory(Solved),
-}
+use pce_common::Refusal;
+use pce_common::model::Refused;
 
 impl Element<Topologies> {
     // The answer to a solved job, where its request can be solved.
@@ -54,7 +49,7 @@ impl Element<Topologies> {
         solved: Solved,
         now: Tick,
         answered: Answered<List<Addr>>,
-    ) -> Result<Plan<Topologies>, CommitError>
+    ) -> Result<Plan<Topologies>, Refusal<Solved>>
         requires clock { self.old.losing.element.keys.clock ≤ now.0 }
         requires answers { AnswersFor self.old solved now.0 answered }
         requires few { length (live_at self.old.losing.element.keys now.0) + length answered.segments ≤ live_most }
@@ -63,17 +58,21 @@ impl Element<Topologies> {
         ensures taken { IfOk result (λ plan. committed self.old solved now.0 ≡ Some plan.taken) }
         ensures clock { IfOk result (λ plan. plan.taken.element.keys.clock ≤ now.0) }
         ensures solved { IfOk result (λ plan. plan.solved ≡ Some solved) }
-        ensures err { IfErr result (λ why. why ≡ CommitError.NoMemory solved) }
+        ensures why { IfErr result (λ refusal. refusal.why ≡ Refused.NoMemory) }
+        ensures back { IfErr result (λ refusal. refusal.back ≡ solved) }
     {
         match self.plan_answer(solved.number(), solved, now, answered) {
             Ok(plan) => Ok(plan),
-            Err(solved) => Err(CommitError::NoMemory(solved)),
+            Err(back) => Err(Refusal {
+                why: Refused::NoMemory,
+                back,
+            }),
         }
     }
 
     /// Plans the answer to a job of this element that was solved, and makes the room for it. The plan has
     /// exactly one message. `now` never falls from call to call.
-    pub fn commit(&mut self, solved: Solved, now: Tick) -> Result<Plan<Topologies>, CommitError>
+    pub fn commit(&mut self, solved: Solved, now: Tick) -> Result<Plan<Topologies>, Refusal<Solved>>
         requires clock { self.old.losing.element.keys.clock ≤ now.0 }
         requires own { IsOwnJob self.old solved }
         ensures same { SameButRoom self.old self.new }
@@ -82,13 +81,19 @@ impl Element<Topologies> {
         ensures one { IfOk result (λ plan. length plan.taken.outputs ≡ 1) }
         ensures clock { IfOk result (λ plan. plan.taken.element.keys.clock ≤ now.0) }
         ensures solved { IfOk result (λ plan. plan.solved ≡ Some solved) }
-        ensures stranger { (result ≡ Err (CommitError.Stranger solved)) ↔ (job_at self.old solved.ask.number ≡ None) }
-        ensures back { IfErr result (λ why. handed_back why ≡ solved) }
+        ensures why { IfErr result (λ refusal. IsWhyNot (job_at self.old solved.ask.number) refusal.why) }
+        ensures back { IfErr result (λ refusal. refusal.back ≡ solved) }
     {
         match self.answer_for(&solved, now) {
             Ok(Some(answered)) => self.plan_commit(solved, now, answered),
-            Ok(None) => Err(CommitError::Stranger(solved)),
-            Err(NoMemory) => Err(CommitError::NoMemory(solved)),
+            Ok(None) => Err(Refusal {
+                why: Refused::NoSuchJob,
+                back: solved,
+            }),
+            Err(NoMemory) => Err(Refusal {
+                why: Refused::NoMemory,
+                back: solved,
+            }),
         }
     }
 }

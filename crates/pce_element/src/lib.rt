@@ -28,9 +28,9 @@ mod topologies;
 mod world;
 
 pub use blind::Blind;
-pub use committing::CommitError;
 pub use element::Element;
 pub use law::jobs_last;
+pub use pce_common::Refusal;
 pub use plan::Plan;
 pub use topologies::{PinnedTopology, Topologies};
 pub use world::World;

@@ -17,5 +17,4 @@ pub mod Endings
 pub mod Changes
 pub mod Plans
 pub mod PlanFields
-pub mod Refused
 pub mod Commits

@@ -1,6 +1,6 @@
 //! A solved job is answered.
-ghost use Rattle.std.specs.Prelude.{◌≡◌, ◌↔◌, Err, None, Some, IfOk, IfErr, MatchOption};
-ghost use Rattle.pce_parent.specs.Refused.{handed_back};
+ghost use Rattle.std.specs.Prelude.{◌≡◌, None, Some, IfOk, IfErr, MatchOption};
+ghost use Rattle.pce_common.specs.Refusals.{IsWhyNot};
 ghost use Rattle.pce_parent.specs.Commits.{IsReadyRow, answer_of, outputs_for};
 ghost use Rattle.pce_parent.specs.Pendings.{row_of};
 ghost use Rattle.pce_parent.specs.Seen.{committed, job_at};
@@ -11,19 +11,11 @@ use crate::pending::Row;
 use crate::plan::BorderPlan;
 use crate::solved::BorderSolved;
 use dom_base::{List, Metric, NoMemory, Tick, word_of_cost};
-use pce_common::model::{Output, Outputs};
-use pce_common::{no_path, one, reply_message};
+use pce_common::model::{Output, Outputs, Refused};
+use pce_common::{Refusal, no_path, one, reply_message};
 use pcep_messages::{Answer, Path, type_of_metric};
 use pcep_subobjects::append_hops;
 use std::alloc::Global;
-
-/// Why a solved job is not answered. It hands the job back.
-#[derive(Drop)]
-pub enum ParentCommitError {
-    /// No request of that number is ready.
-    Stranger(BorderSolved),
-    NoMemory(BorderSolved),
-}
 
 // The path that was found, or that there is none.
 fn answer_of(alloc: Global, metric: Metric, solved: &BorderSolved) -> Result<Answer, NoMemory>
@@ -72,19 +64,25 @@ impl Parent {
         &mut self,
         solved: BorderSolved,
         _now: Tick,
-    ) -> Result<BorderPlan, ParentCommitError>
+    ) -> Result<BorderPlan, Refusal<BorderSolved>>
         ensures same { self.new ≡ self.old }
         ensures from { IfOk result (λ plan. plan.from ≡ self.old) }
         ensures given { IfOk result (λ plan. committed solved self.old.losing.parent ≡ Some plan.given) }
         ensures solved { IfOk result (λ plan. plan.solved ≡ Some solved) }
-        ensures stranger { (result ≡ Err (ParentCommitError.Stranger solved)) ↔ (job_at self.old solved.job.number ≡ None) }
-        ensures back { IfErr result (λ why. handed_back why ≡ solved) }
+        ensures why { IfErr result (λ refusal. IsWhyNot (job_at self.old solved.job.number) refusal.why) }
+        ensures back { IfErr result (λ refusal. refusal.back ≡ solved) }
     {
         let Some(row) = self.ready_row(solved.number()) else {
-            return Err(ParentCommitError::Stranger(solved));
+            return Err(Refusal {
+                why: Refused::NoSuchJob,
+                back: solved,
+            });
         };
         let Ok(outputs) = outputs_of(self.alloc, row, &solved) else {
-            return Err(ParentCommitError::NoMemory(solved));
+            return Err(Refusal {
+                why: Refused::NoMemory,
+                back: solved,
+            });
         };
         let change = Change::Solves(solved);
         Ok(BorderPlan::of(self, Draft { change, outputs }))

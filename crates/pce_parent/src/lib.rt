@@ -32,7 +32,6 @@ mod told;
 mod wait;
 mod work;
 
-pub use committing::ParentCommitError;
 pub use copies::copy_links;
 pub use parent::Parent;
 pub use plan::BorderPlan;

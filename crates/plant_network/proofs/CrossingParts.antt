@@ -14,7 +14,7 @@ use Rattle.plant_text.specs.contracts.network.Network as Network
 use Rattle.network_members.specs.pce_parent.contracts.asking.Asking as Asking
 use Rattle.network_members.specs.pce_parent.contracts.parent.Parent as Parent
 use Rattle.network_events.specs.network_links.contracts.traffic.Traffic as Traffic
-use Rattle.plant_network.specs.contracts.answering.CommitRefused as CommitRefused
+use Rattle.network_members.specs.pce_element.pce_common.contracts.refusal.Refusal as Refusal
 use Rattle.plant_network.specs.contracts.acts.Acted as Acted
 
 pub topology_send : IsSend Topology.the_row
@@ -47,7 +47,7 @@ border_job_send = search (sendable, crosses) depth 60 fits 30000
 pub work_send : IsSend Work.the_row
 work_send = search (sendable, crosses, job_send, border_job_send) depth 60 fits 30000
 
-pub refused_send : IsSend CommitRefused.the_row
+pub refused_send : IsSend (Refusal.the_row Done.the_row)
 refused_send = search (sendable, crosses, done_send) depth 60 fits 30000
 
 pub acted_send : IsSend Acted.the_row

@@ -1,5 +1,5 @@
 -- A legal history of turns is a run that goes on.
-use Rattle.std.proofs.Common.{◌≡◌, ◌∙◌, List, [], ◌∷◌, ◌++◌, append_assoc, ap, ap₂, refl, subst, sym}
+use Rattle.std.proofs.Common.{◌≡◌, ◌∙◌, List, [], ◌∷◌, ◌++◌, append_assoc, ap₂, refl, subst, sym}
 use Rattle.std.specs.Prelude.{map}
 use Rattle.std.proofs.lemmas.List.{map-append}
 use Rattle.plant_text.specs.declared.settings.NetworkParts.{NetworkParts}
@@ -8,7 +8,7 @@ use Rattle.network_events.specs.plant_model.Events.{Answered}
 use Rattle.network_events.specs.plant_model.Plant.{Entry, IsGiven, Run}
 use Rattle.network_events.specs.plant_model.RealWire.{wire}
 use Rattle.plant_lock.specs.History.{replay}
-use Rattle.plant_network.specs.Histories.{HistoriesAreRuns, IsGivenIn, event_of, events_of, done_by}
+use Rattle.plant_network.specs.Histories.{HistoriesAreRuns, IsGivenIn, event_of, done_by}
 use Rattle.plant_network.specs.Turns.{IsAnswer, IsDone, left_by}
 use Rattle.plant_network.specs.Whole.{Whole}
 use Rattle.plant_network.specs.declared.acts.Act.{Act}
@@ -27,7 +27,7 @@ module _ (w next : Whole) (older : List Entry) (run : Run wire w.network older w
   same_onward : next ≡ w → Onward w older next []
   same_onward same = ([], subst (λ (v : Whole). Run wire w.network older v.state) (sym same) run, refl)
 
-  act_onward : (a : Act) (r : Acted) → IsGivenIn a → IsAnswer w a r next → Onward w older next (event_of w.network a r)
+  act_onward : (a : Act) (r : Acted) → IsGivenIn a → IsAnswer w a r next → Onward w older next (event_of a r)
   act_onward (Do e) (Did r) given answer = done_onward e r given answer
   act_onward (Look d k) (Looked r) given answer = same_onward answer.0
   act_onward (Ready k) (Found r) given answer = same_onward answer.0
@@ -45,5 +45,5 @@ histories_are_runs w older (e ∷ es) given run legal =
     let rest = histories_are_runs next (first.0 ++ older) es given.1 (subst (λ (n : NetworkParts). Run wire n (first.0 ++ older) next.state) (sym same) first.1) legal.2 in (
       rest.0 ++ first.0,
       subst (λ (l : List Entry). Run wire w.network l last.state) (sym (append_assoc rest.0 first.0 older)) (subst (λ (n : NetworkParts). Run wire n (rest.0 ++ (first.0 ++ older)) last.state) same rest.1),
-      map-append done_by rest.0 first.0 ∙ ap₂ (λ (xs ys : List (Event × Answered)). xs ++ ys) (rest.2 ∙ ap (λ (n : NetworkParts). events_of n es) same) first.2,
+      map-append done_by rest.0 first.0 ∙ ap₂ (λ (xs ys : List (Event × Answered)). xs ++ ys) rest.2 first.2,
     )

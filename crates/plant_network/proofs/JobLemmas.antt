@@ -10,19 +10,15 @@ use Rattle.vspt_tree.specs.declared.branch.Branch.{Branch}
 use Rattle.border_costs.specs.Solutions.{Solution}
 use Rattle.border_costs.specs.declared.job.Ask.{Ask}
 use Rattle.border_costs.specs.declared.job.Job.{Job}
-use Rattle.plant_text.specs.declared.settings.NetworkParts.{NetworkParts}
 use Rattle.plant_text.specs.Names.{same_as, parent_as}
-use Rattle.network_events.specs.plant_model.declared.outcome.Refused.{Refused}
-use Rattle.network_events.specs.plant_model.declared.outcome.Refused.TheVariants as refused
 use Rattle.network_events.specs.plant_model.declared.upper.BorderJob.{BorderJob}
 use Rattle.network_events.specs.plant_model.Element.{Element, Item, Stage, Waits, Ready}
-use Rattle.network_events.specs.plant_model.Events.{Answered, has_jobs, is_ready_asking, is_ready_row}
+use Rattle.network_events.specs.plant_model.Events.{is_ready_asking, is_ready_row}
 use Rattle.network_events.specs.plant_model.Jobs.{ask_of}
 use Rattle.network_events.specs.plant_model.Parent as parent
 use Rattle.network_events.specs.plant_model.Plant.{Pin, Segment, ask}
 use Rattle.network_events.specs.plant_model.RealWire.{wire}
 use Rattle.network_events.specs.plant_model.Settings.{family}
-use Rattle.network_events.specs.member_trait.Membership.{Membership}
 use Rattle.network_members.specs.pce_element.Committing.{IsOwnJob}
 use Rattle.network_members.specs.pce_element.Jobs as element
 use Rattle.network_members.specs.pce_parent.Seen.{job_when}
@@ -31,16 +27,15 @@ use Rattle.network_members.specs.pce_parent.declared.work.Done.{Done}
 use Rattle.network_members.specs.pce_parent.declared.work.Done.TheVariants as done
 use Rattle.network_members.specs.pce_parent.declared.work.Work.{Work}
 use Rattle.network_members.specs.pce_parent.declared.work.Work.TheVariants as work
-use Rattle.network_members.specs.Answering.{IsElementWork, IsOwnDone, IsParentWork, IsRefusedFor, border_job}
+use Rattle.network_members.specs.Answering.{IsElementWork, IsOwnDone, IsParentWork, border_job}
 use Rattle.network_members.specs.Elements.{at_domain, element_or, own_of}
 use Rattle.network_members.specs.Ready.{work_in}
-use Rattle.network_members.specs.declared.answering.Unanswered.{Unanswered}
 use Rattle.network_members.proofs.AnswerLemmas.{no_border_job, no_job}
 use Rattle.network_members.proofs.DomainLemmas.{as_self, found_own, same_as_is}
 use Rattle.network_members.specs.Topologies.{Seen}
 use Rattle.plant_network.specs.Topologies.{Held, whole}
 use Rattle.plant_network.specs.Whole.{Whole}
-use Rattle.plant_network.specs.Jobs.{IsAsked, IsAskedAbove, IsOwn, IsSolvedBy, IsWork, answer_of, handed_back, refusal_of, solved_at, solved_number}
+use Rattle.plant_network.specs.Jobs.{IsAsked, IsAskedAbove, IsOwn, IsSolvedBy, IsWork, solved_at, solved_number}
 
 some_one : {A : Type 0} (a b : A) → Some a ≡ Some b → a ≡ b
 some_one a b e = cc
@@ -226,27 +221,3 @@ solved_here w d k (work.Border j) (done.Border x) is solved =
         asked ∙ ap (λ (y : Asked parent.Asking). parent.job_of (family w.network) (k, y)) one ∙ ap (λ (n : ℕ). parent.job_of (family w.network) (n, held)) (sym number)
 solved_here w d k (work.Domain j) (done.Border x) is solved = absurd solved
 solved_here w d k (work.Border j) (done.Domain x) is solved = absurd solved
-
--- ---- what is told of them
-
-pub told_as : (n : NetworkParts) (d : As) (k : ℕ) (ms : Membership Pin Segment) (u : Unanswered) → IsRefusedFor n d k ms u.why → answer_of (has_jobs n d) (Err (refusal_of u)) ≡ Err u.why
-told_as n d k ms u is = go u.why is
-  where
-    go : (why : Refused) → IsRefusedFor n d k ms why → answer_of (has_jobs n d) (Err (refusal_of (record { why = why; done = u.done }))) ≡ Err why
-    go refused.NoSuchPeer none = ap (λ (b : Bool). let a : Answered = Err (cond b refused.NoSuchJob refused.NoSuchPeer) in a) none
-    go refused.NoSuchJob is = ap (λ (b : Bool). let a : Answered = Err (cond b refused.NoSuchJob refused.NoSuchPeer) in a) is.0
-    go refused.NoMemory is = refl
-    go refused.GenerationsFull is = absurd is
-    go (refused.NotHolder holder) is = absurd is
-    go refused.NothingToCarry is = absurd is
-
-pub back_as : (u : Unanswered) → handed_back (refusal_of u) ≡ u.done
-back_as u = go u.why
-  where
-    go : (why : Refused) → handed_back (refusal_of (record { why = why; done = u.done })) ≡ u.done
-    go refused.NoSuchPeer = refl
-    go refused.NoSuchJob = refl
-    go refused.NoMemory = refl
-    go refused.GenerationsFull = refl
-    go (refused.NotHolder holder) = refl
-    go refused.NothingToCarry = refl

@@ -1,16 +1,18 @@
 -- A member that answers a solved job is the model's solve.
-use Rattle.std.proofs.Common.{◌≡◌, ℕ, true, Ok, Err, List, [], ◌∷◌, inl, inr, refl, sym, ◌∙◌, ap, subst}
+use Rattle.std.proofs.Common.{◌≡◌, ℕ, true, Result, Ok, Err, List, [], ◌∷◌, inl, inr, refl, sym, ◌∙◌, ap, subst}
+use Rattle.std.specs.Prelude.{MatchResult, IsErrAnd}
 use Rattle.dom_base.specs.declared.names.As.{As}
 use Rattle.disclosure.specs.Shown.{open_of}
 use Rattle.plant_text.specs.declared.settings.NetworkParts.{NetworkParts}
 use Rattle.plant_text.specs.Names.{parent_as}
 use Rattle.network_events.specs.plant_model.declared.event.Event.TheVariants.{Solve}
+use Rattle.network_events.specs.plant_model.declared.outcome.Outcome.{Outcome}
 use Rattle.network_events.specs.plant_model.declared.outcome.Outcome.TheVariants as outcome
 use Rattle.network_events.specs.plant_model.declared.outcome.Refused.{Refused}
 use Rattle.network_events.specs.plant_model.declared.outcome.Refused.TheVariants as refused
 use Rattle.network_events.specs.plant_model.Deeds as deeds
 use Rattle.network_events.specs.plant_model.Element.{Taken}
-use Rattle.network_events.specs.plant_model.Events.{has_jobs}
+use Rattle.network_events.specs.plant_model.Events.{Answered, has_jobs}
 use Rattle.network_events.specs.plant_model.Parent as parent
 use Rattle.network_events.specs.plant_model.Plant.{Pin, Plant, PlantDeed, Happened, Segment, Steps, first_pin}
 use Rattle.network_events.specs.plant_model.RealWire.{wire}
@@ -27,13 +29,13 @@ use Rattle.network_events.specs.Standing.{here, state_of}
 use Rattle.network_members.specs.Answering.{Commits, ElementAnswers, IsRefusedFor, MemberAnswers, ParentAnswers, number_of}
 use Rattle.network_members.specs.Tiers.{lost_in}
 use Rattle.network_members.specs.Tiers as tiers
-use Rattle.network_members.specs.declared.answering.Unanswered.{Unanswered}
+use Rattle.network_members.specs.pce_element.pce_common.declared.refusal.Refusal.{Refusal}
 use Rattle.network_members.specs.pce_parent.declared.work.Done.{Done}
 use Rattle.network_members.specs.Topologies.{Become, MemberPlan, Tiers, members_of, next_by, standing_of}
 use Rattle.plant_network.proofs.AnswerLemmas.{element_answer, parent_answer}
 use Rattle.network_members.proofs.StepLemmas.{stands_as}
 use Rattle.plant_network.specs.Topologies.{IsKept, IsSound, Moves, held, whole}
-use Rattle.plant_network.specs.Jobs.{solved_at, solved_number}
+use Rattle.plant_network.specs.Jobs.{solved_at, solved_number, told}
 
 -- ---- it is an answer
 
@@ -169,10 +171,16 @@ module _ (t t' : Tiers) (c c' : Carried) (d : As) (k : ℕ) where
         kept = kept;
       }
 
+-- what is told of a job that is answered, or is not
+pub told_of : (r : Result Outcome (Refusal Done)) (a : Answered) → MatchResult r (λ o. a ≡ Ok o) (λ e. IsErrAnd a (λ why. why ≡ e.why)) → a ≡ told r
+told_of (Ok o) a is = is
+told_of (Err e) (Ok o) is = absurd is
+told_of (Err e) (Err why) is = ap (λ (w : Refused). let a : Answered = Err w in a) is
+
 -- ---- what is planned, and then done
 
 module _ (t t1 : Tiers) (c : Carried) (d : As) (now : ℕ) (x : Done) (at_is : d ≡ solved_at x) (sound : IsSound (held t c)) where
-  pub planned_err : {W : Type 0} → (u : Unanswered) → Commits {W = W} d now x t (Err u) t1 → Moves (held t c) (Solve (solved_at x) (solved_number x)) (Err u.why) (held t1 c)
+  pub planned_err : {W : Type 0} → (u : Refusal Done) → Commits {W = W} d now x t (Err u) t1 → Moves (held t c) (Solve (solved_at x) (solved_number x)) (Err u.why) (held t1 c)
   planned_err u m =
       subst (λ (a : As). Moves (held t c) (Solve a (solved_number x)) (Err u.why) (held t1 c)) at_is
       (moves_refused t t1 c c d (number_of x) m.same refl (kept_still t t1 c sound.kept m.same) u.why m.why)

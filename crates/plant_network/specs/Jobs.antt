@@ -1,5 +1,5 @@
 -- What a network has to solve, and whose job was solved.
-use Rattle.std.specs.Prelude.{◌≡◌, ℕ, nat_eq, Bool, true, false, cond, List, Option, Some, None, Result, Ok, Err}
+use Rattle.std.specs.Prelude.{◌≡◌, ℕ, nat_eq, true, false, List, Option, Some, None, Result, Ok, Err}
 use Rattle.std.specs.Arc.{arc_value}
 use Rattle.std.specs.Map.{lookup}
 use Rattle.dom_base.specs.declared.names.As.{As}
@@ -9,8 +9,6 @@ use Rattle.vspt_tree.specs.declared.branch.Branch.{Branch}
 use Rattle.border_costs.specs.declared.job.Ask.{Ask}
 use Rattle.plant_text.specs.Names.{same_as, parent_as}
 use Rattle.network_events.specs.plant_model.declared.outcome.Outcome.{Outcome}
-use Rattle.network_events.specs.plant_model.declared.outcome.Refused.{Refused}
-use Rattle.network_events.specs.plant_model.declared.outcome.Refused.TheVariants as refused
 use Rattle.network_events.specs.plant_model.declared.upper.BorderJob.{BorderJob}
 use Rattle.network_events.specs.plant_model.Element.{Item, Ready}
 use Rattle.network_events.specs.plant_model.Events.{Answered, has_jobs, is_ready}
@@ -23,10 +21,8 @@ use Rattle.network_members.specs.pce_parent.declared.work.Done.TheVariants as do
 use Rattle.network_members.specs.pce_parent.declared.work.Work.{Work}
 use Rattle.network_members.specs.pce_parent.declared.work.Work.TheVariants as work
 use Rattle.network_members.specs.Answering.{number_of}
-use Rattle.network_members.specs.declared.answering.Unanswered.{Unanswered}
+use Rattle.network_members.specs.pce_element.pce_common.declared.refusal.Refusal.{Refusal}
 use Rattle.plant_network.specs.Whole.{Whole}
-use Rattle.plant_network.specs.declared.answering.CommitRefused.{CommitRefused}
-use Rattle.plant_network.specs.declared.answering.CommitRefused.TheVariants.{NoSuchJob, NoMemory}
 
 -- ---- jobs
 
@@ -86,28 +82,6 @@ IsOwn w (done.Border x) =
 -- ---- what is told of them
 
 -- the answer of the event, where why a job is not answered is its refusal
-abbrev pub told : Result Outcome Unanswered → Answered
+abbrev pub told : Result Outcome (Refusal Done) → Answered
 told (Ok o) = Ok o
-told (Err u) = Err u.why
-
--- want of memory apart, there is no such job
-abbrev pub refused_for : Refused → Done → CommitRefused
-refused_for refused.NoMemory x = NoMemory x
-refused_for refused.NoSuchJob x = NoSuchJob x
-refused_for refused.NoSuchPeer x = NoSuchJob x
-refused_for refused.GenerationsFull x = NoSuchJob x
-refused_for (refused.NotHolder holder) x = NoSuchJob x
-refused_for refused.NothingToCarry x = NoSuchJob x
-
-abbrev pub refusal_of : Unanswered → CommitRefused
-refusal_of u = refused_for u.why u.done
-
--- the answer of the event: a domain that is not configured has no such job
-abbrev pub answer_of : Bool → Result Outcome CommitRefused → Answered
-answer_of known (Ok o) = Ok o
-answer_of known (Err (NoSuchJob x)) = Err (cond known refused.NoSuchJob refused.NoSuchPeer)
-answer_of known (Err (NoMemory x)) = Err refused.NoMemory
-
-abbrev pub handed_back : CommitRefused → Done
-handed_back (NoSuchJob x) = x
-handed_back (NoMemory x) = x
+told (Err r) = Err r.why

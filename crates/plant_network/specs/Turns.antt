@@ -6,7 +6,7 @@ use Rattle.dom_base.specs.declared.names.As.{As}
 use Rattle.dom_base.specs.declared.names.NoMemory.{NoMemory}
 use Rattle.network_events.specs.plant_model.declared.event.Event.{Event}
 use Rattle.network_events.specs.plant_model.declared.event.Event.TheVariants.{Solve}
-use Rattle.network_events.specs.plant_model.Events.{Answered, has_jobs, ready_jobs}
+use Rattle.network_events.specs.plant_model.Events.{Answered, ready_jobs}
 use Rattle.jobs_last.specs.Lasting.{HaveGiven, JobsLast}
 use Rattle.network_members.specs.pce_element.Rows.{pin_with}
 use Rattle.network_members.specs.pce_parent.declared.work.Done.{Done}
@@ -14,7 +14,7 @@ use Rattle.network_members.specs.pce_parent.declared.work.Work.{Work}
 use Rattle.network_members.specs.Answering.{IsWeighedWork}
 use Rattle.plant_network.specs.Current.{IsCurrent}
 use Rattle.plant_network.specs.Topologies.{whole}
-use Rattle.plant_network.specs.Jobs.{IsOwn, IsSolvedBy, IsWork, answer_of, handed_back, solved_at, solved_number}
+use Rattle.plant_network.specs.Jobs.{IsOwn, IsSolvedBy, IsWork, solved_at, solved_number, told}
 use Rattle.plant_network.specs.Whole.{GoesOn, IsOwnLoad, Stepped, Whole}
 use Rattle.plant_network.specs.declared.acts.Act.{Act}
 use Rattle.plant_network.specs.declared.acts.Act.TheVariants.{Do, Look, Ready, Finish, Map}
@@ -52,7 +52,7 @@ abbrev pub IsAnswer : Whole → Act → Acted → Whole → Type 0
 IsAnswer w (Do e) (Did r) next = IsDone w e r next
 IsAnswer w (Look d k) (Looked r) next = (next ≡ w) × IsShown w d k r
 IsAnswer w (Ready k) (Found r) next = (next ≡ w) × (r ≡ slice_get (ready_jobs w.network w.state) k)
-IsAnswer w (Finish x) (Committed r) next = IsDone w (solve_of x) (answer_of (has_jobs w.network (solved_at x)) r) next × IfErr r (λ why. handed_back why ≡ x)
+IsAnswer w (Finish x) (Committed r) next = IsDone w (solve_of x) (told r) next × IfErr r (λ refusal. refusal.back ≡ x)
 IsAnswer w (Map d) (Mapped r) next = (next ≡ w) × IfOk r (λ found. IsCurrent w d (option_map (λ p. pin_with p.0 (arc_value p.1)) found))
 IsAnswer w a r next = ⊥
 

@@ -1,9 +1,8 @@
 //! What may be done to a network in a turn, and what it answers.
-use crate::answering::CommitRefused;
 use crate::topologies::Plant;
 use dom_base::{As, NoMemory};
 use network_events::model::{Event, Outcome, Refused};
-use network_members::{Done, Work};
+use network_members::{Done, Refusal, Work};
 use std::snapshot::Snapshot;
 use std::sync::Arc;
 use te_links::Topology;
@@ -29,7 +28,7 @@ pub enum Acted {
     Did(Result<Outcome, Refused>),
     Looked(Result<Option<Work>, NoMemory>),
     Found(Option<(As, u64)>),
-    Committed(Result<Outcome, CommitRefused>),
+    Committed(Result<Outcome, Refusal<Done>>),
     Mapped(Result<Option<(u64, Arc<Topology>)>, NoMemory>),
 }
 

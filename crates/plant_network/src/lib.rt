@@ -14,11 +14,10 @@ mod topologies;
 mod turned;
 
 pub use acts::{Act, ActAnswer, Acted};
-pub use answering::CommitRefused;
 pub use blind::BlindPlant;
 pub use due::{least_is_carried, refused_takes_find_nothing, takes_leave_less};
 pub use histories::histories_are_runs;
 pub use network::Network;
 pub use network_events::model;
-pub use network_members::{Done, Work};
+pub use network_members::{Done, Refusal, Work};
 pub use topologies::Plant;

@@ -3,7 +3,7 @@ ghost use Rattle.std.specs.Prelude.{◌≡◌, slice_get, IfErr, IfOk, IfSome};
 ghost use Rattle.std.specs.Arc.{arc_value};
 ghost use Rattle.std.specs.Option.{option_map};
 ghost use Rattle.network_members.specs.pce_element.Rows.{pin_with};
-ghost use Rattle.network_events.specs.plant_model.Events.{has_jobs, ready_jobs};
+ghost use Rattle.network_events.specs.plant_model.Events.{ready_jobs};
 ghost use Rattle.network_events.specs.plant_model.declared.event.Event.TheVariants.{Solve};
 ghost use Rattle.jobs_last.specs.Lasting.{HaveGiven, JobsLast};
 ghost use Rattle.network_members.specs.Answering.{IsWeighedWork};
@@ -12,15 +12,15 @@ ghost use Rattle.network_events.specs.network_links.Waiting.{WaitsNext};
 ghost use Rattle.plant_text.specs.Settings.{adjacencies};
 ghost use Rattle.plant_network.specs.Topologies.{whole};
 ghost use Rattle.plant_network.specs.Current.{IsCurrent};
-ghost use Rattle.plant_network.specs.Jobs.{CanSolve, IsOwn, IsWork, answer_of, handed_back, solved_at, solved_number};
+ghost use Rattle.plant_network.specs.Jobs.{CanSolve, IsOwn, IsWork, solved_at, solved_number, told};
 ghost use Rattle.plant_network.specs.Whole.{GoesOn, IsBegun, IsOwnLoad, Stepped};
 
-use crate::answering::{CommitRefused, commit};
+use crate::answering::commit;
 use crate::events::act;
 use crate::network::Network;
 use dom_base::{As, NoMemory};
 use network_events::model::{Event, Outcome, Refused};
-use network_members::{Done, Topologies, Work};
+use network_members::{Done, Refusal, Topologies, Work};
 use std::sync::Arc;
 use te_links::Topology;
 
@@ -63,14 +63,14 @@ impl Network<Topologies> {
         self.members.job(at, number)
     }
 
-    /// Answers a job that was solved, in or out of this network. It is the event of that solve, but that a domain
-    /// that is not configured has no such job. A refusal hands it back.
-    pub fn commit(&mut self, done: Done) -> Result<Outcome, CommitRefused>
+    /// Answers a job that was solved, in or out of this network. It is the event of that solve. A refusal hands the
+    /// job back.
+    pub fn commit(&mut self, done: Done) -> Result<Outcome, Refusal<Done>>
         requires own { IsOwn (whole self.old) done }
-        ensures steps { Stepped (whole self.old) (Solve (solved_at done) (solved_number done)) (answer_of (has_jobs (whole self.old).network (solved_at done)) result) (whole self.new) }
-        ensures goes { GoesOn (whole self.old) (Solve (solved_at done) (solved_number done)) (answer_of (has_jobs (whole self.old).network (solved_at done)) result) (whole self.new) }
+        ensures steps { Stepped (whole self.old) (Solve (solved_at done) (solved_number done)) (told result) (whole self.new) }
+        ensures goes { GoesOn (whole self.old) (Solve (solved_at done) (solved_number done)) (told result) (whole self.new) }
         ensures lasts { JobsLast (whole self.old).state (whole self.new).state }
-        ensures back { IfErr result (λ why. handed_back why ≡ done) }
+        ensures back { IfErr result (λ refusal. refusal.back ≡ done) }
     {
         commit(self.alloc, &mut self.members, &mut self.traffic, done)
     }

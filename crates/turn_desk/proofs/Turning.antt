@@ -27,7 +27,7 @@ use Rattle.plant_network.specs.declared.acts.Act.TheVariants.{Do, Look, Ready, F
 use Rattle.plant_network.specs.declared.acts.Acted.{Acted}
 use Rattle.plant_network.specs.declared.acts.Acted.TheVariants.{Did, Looked, Found, Committed}
 use Rattle.plant_network.specs.declared.acts.ActAnswer.{ActAnswer}
-use Rattle.plant_network.specs.declared.answering.CommitRefused.{CommitRefused}
+use Rattle.plant_network.specs.pce_element.pce_common.declared.refusal.Refusal.{Refusal}
 use Rattle.plant_pins.specs.Histories.{PinsAreNow}
 use Rattle.plant_pins.specs.Steps.{KnowsPins}
 use Rattle.plant_pins.proofs.StepLemmas.{found_pin}
@@ -84,7 +84,7 @@ module _ (w next : Whole) where
   is_looked d k (Looked r) is = (r, refl)
   is_looked d k a is = absurd is
 
-  is_committed : (x : Done) (a : Acted) → IsAnswer w (Finish x) a next → (r : Result Outcome CommitRefused) × (a ≡ Committed r)
+  is_committed : (x : Done) (a : Acted) → IsAnswer w (Finish x) a next → (r : Result Outcome (Refusal Done)) × (a ≡ Committed r)
   is_committed x (Committed r) is = (r, refl)
   is_committed x a is = absurd is
 
@@ -105,7 +105,7 @@ module _ (old new : Stand) (acted : Acted) where
   pub looked_turn : (d : As) (k : ℕ) → IsTurn (Look d k) (Ok acted) old new → (r : Result (Option Work) NoMemory) × (acted ≡ Looked r)
   looked_turn d k t = let a = answers (Look d k) t in is_looked a.0 a.1 d k acted a.2
 
-  pub committed_turn : (x : Done) → IsTurn (Finish x) (Ok acted) old new → (r : Result Outcome CommitRefused) × (acted ≡ Committed r)
+  pub committed_turn : (x : Done) → IsTurn (Finish x) (Ok acted) old new → (r : Result Outcome (Refusal Done)) × (acted ≡ Committed r)
   committed_turn x t = let a = answers (Finish x) t in is_committed a.0 a.1 x acted a.2
 
 -- ---- exactly one turn

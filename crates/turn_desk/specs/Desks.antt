@@ -9,14 +9,16 @@ use Rattle.plant_lock.specs.Views.{LegalFrom}
 use Rattle.plant_network.specs.Topologies.{Held, whole}
 use Rattle.plant_network.specs.Turns.{Admits, Allowed, left_by}
 use Rattle.plant_network.specs.plant_model.declared.outcome.Outcome.{Outcome}
+use Rattle.plant_network.specs.plant_model.declared.outcome.Refused.{Refused}
+use Rattle.plant_network.specs.plant_model.declared.outcome.Refused.TheVariants.{NoMemory}
 use Rattle.plant_network.specs.plant_model.Events.{Answered}
 use Rattle.plant_network.specs.declared.acts.Act.{Act}
 use Rattle.plant_network.specs.declared.acts.Act.TheVariants.{Do, Look, Ready, Finish}
 use Rattle.plant_network.specs.declared.acts.Acted.{Acted}
 use Rattle.plant_network.specs.declared.acts.Acted.TheVariants.{Did, Looked, Found, Committed}
 use Rattle.plant_network.specs.declared.acts.ActAnswer.{ActAnswer}
-use Rattle.plant_network.specs.declared.answering.CommitRefused.{CommitRefused}
-use Rattle.plant_network.specs.declared.answering.CommitRefused.TheVariants.{NoSuchJob, NoMemory}
+use Rattle.plant_network.specs.pce_element.pce_common.declared.refusal.Refusal.{Refusal}
+use Rattle.plant_network.specs.pce_parent.declared.work.Done.{Done}
 use Rattle.session_serving.specs.Desks.{Answer, Call, Desked, call}
 use Rattle.session_serving.specs.declared.desks.DeskRefused.TheVariants.{Plant, Spent}
 use Rattle.solve_workers.specs.Benches as bench
@@ -71,11 +73,14 @@ desk_call a r = None
 abbrev pub desked_of : Stand → Desked
 desked_of s = record { calls = filter_map (λ (e : Act × ActAnswer). desk_call e.0 e.1.acted) s.own; spent = s.spent }
 
+abbrev pub finished_for : Refused → Finished
+finished_for NoMemory = finished.NoMemory
+finished_for why = finished.Stranger
+
 -- what a worker is told of a solution
-abbrev pub finished_as : Result Outcome CommitRefused → Finished
+abbrev pub finished_as : Result Outcome (Refusal Done) → Finished
 finished_as (Ok o) = finished.Kept
-finished_as (Err (NoSuchJob x)) = finished.Stranger
-finished_as (Err (NoMemory x)) = finished.NoMemory
+finished_as (Err r) = finished_for r.why
 
 -- a call of a worker, with its answer
 abbrev pub bench_call : Act → Acted → Option bench.Call
@@ -128,7 +133,7 @@ IsDone answer acted = (r : Answered) × (acted ≡ Did r) × (answer ≡ did_as 
 
 -- what a worker is told is what the turn answered
 abbrev pub IsFinish : Finished → Acted → Type 0
-IsFinish told acted = (r : Result Outcome CommitRefused) × (acted ≡ Committed r) × (told ≡ finished_as r)
+IsFinish told acted = (r : Result Outcome (Refusal Done)) × (acted ≡ Committed r) × (told ≡ finished_as r)
 
 -- the turn of an event, by what the desk answers
 abbrev pub did_by : Answer → Result Acted ℕ

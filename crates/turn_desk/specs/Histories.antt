@@ -2,7 +2,6 @@
 use Rattle.std.specs.Prelude.{◌≡◌, ℕ, List, [], ◌∷◌, ◌++◌, Option, Some, None, length}
 use Rattle.dom_base.specs.declared.names.As.{As}
 use Rattle.te_links.specs.Rows.{Rows}
-use Rattle.plant_text.specs.declared.settings.NetworkParts.{NetworkParts}
 use Rattle.plant_network.specs.Topologies.{Held, whole}
 use Rattle.plant_network.specs.Histories.{event_of}
 use Rattle.plant_network.specs.declared.acts.Act.{Act}
@@ -11,13 +10,13 @@ use Rattle.plant_network.specs.plant_model.Plant.{Plant}
 use Rattle.plant_pins.specs.Histories.{Told, known_in}
 
 -- the events of a history, the oldest first, with their answers
-abbrev pub told_by : NetworkParts → List (Act × ActAnswer) → List Told
-told_by n [] = []
-told_by n (e ∷ es) = event_of n e.0 e.1.acted ++ told_by n es
+abbrev pub told_by : List (Act × ActAnswer) → List Told
+told_by [] = []
+told_by (e ∷ es) = event_of e.0 e.1.acted ++ told_by es
 
 -- the topology of each element and number, as far as the history tells it from the opening on
 abbrev pub known_by : Option Held → List (Act × ActAnswer) → As → ℕ → Option Rows
-known_by (Some h) seen d n = known_in (whole h).state (told_by (whole h).network seen) d n
+known_by (Some h) seen d n = known_in (whole h).state (told_by seen) d n
 known_by None seen d n = None
 
 -- no request is pending

@@ -5,12 +5,13 @@ ghost use Rattle.dom_base.specs.declared.names.NoMemory.{NoMemory};
 ghost use Rattle.plant_network.specs.plant_model.declared.outcome.Outcome.{Outcome};
 ghost use Rattle.plant_network.specs.plant_model.Events.{Answered};
 ghost use Rattle.plant_network.specs.declared.acts.Acted.TheVariants.{Did, Looked, Found, Committed};
-ghost use Rattle.plant_network.specs.declared.answering.CommitRefused.{CommitRefused};
+ghost use Rattle.plant_network.specs.pce_element.pce_common.declared.refusal.Refusal.{Refusal};
+ghost use Rattle.plant_network.specs.pce_parent.declared.work.Done.{Done};
 ghost use Rattle.plant_network.specs.pce_parent.declared.work.Work.{Work};
 
 use dom_base::{As, NoMemory};
 use plant_network::model::{Outcome, Refused};
-use plant_network::{Acted, CommitRefused, Work};
+use plant_network::{Acted, Done, Refusal, Work};
 
 /// What became of an event.
 pub(crate) fn did_in(acted: Acted) -> Result<Outcome, Refused>
@@ -46,8 +47,8 @@ pub(crate) fn looked_in(acted: Acted) -> Result<Option<Work>, NoMemory>
 }
 
 /// What became of a solution.
-pub(crate) fn committed_in(acted: Acted) -> Result<Outcome, CommitRefused>
-    requires { (r : Result Outcome CommitRefused) × (acted ≡ Committed r) }
+pub(crate) fn committed_in(acted: Acted) -> Result<Outcome, Refusal<Done>>
+    requires { (r : Result Outcome (Refusal Done)) × (acted ≡ Committed r) }
     ensures { acted ≡ Committed result }
 {
     match acted {

@@ -11,20 +11,22 @@ use crate::desk::TurnDesk;
 use crate::naps::Asked;
 use dom_base::{As, NoMemory};
 use plant_network::model::{Event, Outcome, Refused};
-use plant_network::{Act, CommitRefused, Done, Work};
+use plant_network::{Act, Done, Refusal, Work};
 use session_serving::{Desk, DeskRefused};
 use solve_workers::{Bench, Finished};
 use std::sync::Wait;
 use std::time::Clock;
 
 // What a worker is told of a solution.
-fn told(answer: Result<Outcome, CommitRefused>) -> Finished
+fn told(answer: Result<Outcome, Refusal<Done>>) -> Finished
     ensures { result ≡ finished_as answer }
 {
-    match answer {
-        Ok(_outcome) => Finished::Kept,
-        Err(CommitRefused::NoSuchJob(_done)) => Finished::Stranger,
-        Err(CommitRefused::NoMemory(_done)) => Finished::NoMemory,
+    let Err(refusal) = answer else {
+        return Finished::Kept;
+    };
+    match refusal.why {
+        Refused::NoMemory => Finished::NoMemory,
+        _other => Finished::Stranger,
     }
 }
 

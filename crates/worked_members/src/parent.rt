@@ -12,8 +12,8 @@ use crate::words::{Verb, addr, domain, lines_of, next_verb, number, octets, peer
 use dom_base::{Addr, As, List, NoMemory, ParentLink, Tick};
 use line_text::{Words, line_count};
 use messages::MESSAGES;
-use pce_parent::{BorderPlan, BorderSolved, Parent, ParentCommitError};
-use plant_model::{BorderJob, ChildRow};
+use pce_parent::{BorderPlan, BorderSolved, Parent};
+use plant_model::{BorderJob, ChildRow, Refused};
 use sequences::SEQUENCES;
 use std::alloc::Global;
 use std::test::Fail;
@@ -129,8 +129,10 @@ fn plan_of(parent: &mut Parent, solved: BorderSolved) -> Result<BorderPlan, Fail
 }
 
 fn is_strange(parent: &mut Parent, solved: BorderSolved) -> bool {
-    let again = parent.commit(solved, Tick(0));
-    matches!(&again, Err(ParentCommitError::Stranger(_)))
+    match parent.commit(solved, Tick(0)) {
+        Ok(_plan) => false,
+        Err(refusal) => matches!(refusal.why, Refused::NoSuchJob),
+    }
 }
 
 // The solution of the job that is ready.

@@ -7,7 +7,7 @@ use Rattle.network_members.specs.pce_parent.declared.work.Work.{Work}
 use Rattle.plant_network.specs.Topologies.{Moves, held, whole}
 use Rattle.plant_network.specs.Jobs.{IsWork, solved_at, told}
 use Rattle.plant_network.proofs.JobLemmas.{IsSolvedHere, is_work, own_done, solved_here}
-use Rattle.plant_network.proofs.SolveLemmas.{moves_refused, stays}
+use Rattle.plant_network.proofs.SolveLemmas.{moves_refused, stays, told_of}
 use Rattle.plant_network.proofs.answering.solve.Goals as goal
 
 pub returns-in_default-solve_work : goal.returns-in_default-solve_work
@@ -16,8 +16,8 @@ returns-in_default-solve_work c =
     let x = c.args.traffic.now in
     moves_refused t t x x c.args.at c.args.number (stays t) refl c.requires.sound.kept NoMemory tt
 
-pub answer-requires-clause-own : goal.answer-requires-clause-own
-answer-requires-clause-own c =
+pub commit-requires-clause-own : goal.commit-requires-clause-own
+commit-requires-clause-own c =
     let h = held c.args.members.now c.args.traffic.now in
     let is : IsWork (whole h) c.args.at c.args.number (Some c.in-Some.work) =
     subst (λ (o : Option Work). IsWork (whole h) c.args.at c.args.number o) c.in-Some.is (is_work h c.args.at c.args.number c.in-Ok.found c.in-Ok.ensures.below c.in-Ok.ensures.above) in
@@ -26,10 +26,10 @@ answer-requires-clause-own c =
 pub returns : goal.returns
 returns c =
     let h = held c.args.members.now c.args.traffic.now in
-    let new = held c.answer.new.members c.answer.new.traffic in
+    let new = held c.commit.new.members c.commit.new.traffic in
     let is : IsWork (whole h) c.args.at c.args.number (Some c.in-Some.work) =
     subst (λ (o : Option Work). IsWork (whole h) c.args.at c.args.number o) c.in-Some.is (is_work h c.args.at c.args.number c.in-Ok.found c.in-Ok.ensures.below c.in-Ok.ensures.above) in
     let s : IsSolvedHere (whole h) c.args.at c.args.number c.in-Ok-solve_work.done = solved_here (whole h) c.args.at c.args.number c.in-Some.work c.in-Ok-solve_work.done is c.in-Ok-solve_work.ensures in
-    subst (λ (a : Answered). Moves h (Solve c.args.at c.args.number) a new) (sym c.told.ensures)
-    (subst (λ (d : As). Moves h (Solve d c.args.number) (told c.answer.result) new) s.at
-    (subst (λ (k : ℕ). Moves h (Solve (solved_at c.in-Ok-solve_work.done) k) (told c.answer.result) new) s.number c.answer.ensures.moves))
+    subst (λ (a : Answered). Moves h (Solve c.args.at c.args.number) a new) (sym (told_of c.commit.result c.map_err.result c.map_err.ensures.cases))
+    (subst (λ (d : As). Moves h (Solve d c.args.number) (told c.commit.result) new) s.at
+    (subst (λ (k : ℕ). Moves h (Solve (solved_at c.in-Ok-solve_work.done) k) (told c.commit.result) new) s.number c.commit.ensures.moves))
