@@ -55,7 +55,7 @@ use Rattle.script_laws.proofs.plant_laws.Runs.Moments.{opened_within, peer_is, w
 use Rattle.script_laws.proofs.plant_laws.Runs.Queues.{same_as_is}
 use Rattle.script_laws.proofs.plant_laws.Settled.UnderWayLaw.{quiet_has_none_pending}
 use Rattle.script_laws.proofs.plant_laws.WrittenForm.EveryWritten.{every_written}
-use Rattle.plant_bulk.specs.plant_client.plant_script.transcript.Replies.{message_lines}
+use Rattle.plant_bulk.specs.plant_client.plant_play.transcript.Replies.{message_lines}
 use Rattle.plant_bulk.specs.plant_client.declared.question.Question.{Question}
 use Rattle.plant_bulk.specs.plant_client.Asking.{topologies}
 use Rattle.plant_bulk.specs.plant_client.Questions.{asked_of, question_message}

@@ -11,7 +11,7 @@ use Rattle.script_laws.specs.plant_model.Plant.{Entry}
 use Rattle.script_laws.specs.plant_model.Writing.{busy, error_message, reply_message}
 use Rattle.script_laws.specs.plant_play.Turns.{entries_of}
 use Rattle.script_laws.specs.Headline.{HasIdsLeft}
-use Rattle.plant_bulk.specs.plant_client.plant_script.transcript.Replies.{message_lines}
+use Rattle.plant_bulk.specs.plant_client.plant_play.transcript.Replies.{message_lines}
 use Rattle.plant_bulk.specs.plant_client.declared.question.Question.{Question}
 use Rattle.plant_bulk.specs.plant_client.Asking.{Asks}
 use Rattle.plant_bulk.specs.plant_client.Questions.{question_message}

@@ -14,7 +14,7 @@ use Rattle.script_laws.specs.plant_model.RealWire.{wire}
 use Rattle.script_laws.specs.plant_laws.About.{IsPathAnswer}
 use Rattle.script_laws.specs.plant_play.Turns.{entries_of}
 use Rattle.script_laws.specs.Headline.{HasIdsLeft}
-use Rattle.plant_bulk.specs.plant_client.plant_script.transcript.Replies.{message_lines}
+use Rattle.plant_bulk.specs.plant_client.plant_play.transcript.Replies.{message_lines}
 use Rattle.plant_bulk.specs.plant_client.declared.question.Question.{Question}
 use Rattle.plant_bulk.specs.plant_client.Asking.{Asks}
 use Rattle.plant_bulk.specs.plant_client.Telling.{told_text}

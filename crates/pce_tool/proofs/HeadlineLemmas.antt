@@ -29,7 +29,7 @@ use Rattle.client_laws.specs.script_laws.Headline.{all_octets, fed_octets}
 use Rattle.client_laws.specs.script_laws.Laws.{FeedOctets, FeedsOctets}
 use Rattle.client_laws.proofs.script_laws.Disclosing.{shown_from_the_first}
 use Rattle.client_laws.proofs.script_laws.Rightly.{scripts_are_right}
-use Rattle.plant_bulk.specs.plant_script.Scripts.{AreCues}
+use Rattle.plant_bulk.specs.plant_play.WholeScripts.{AreCues}
 use Rattle.plant_bulk.specs.plant_client.declared.question.Question.{Question}
 use Rattle.plant_bulk.specs.plant_client.Asking.{lines_of, load_line, question_lines, topologies}
 use Rattle.plant_bulk.specs.plant_client.Asking as asking

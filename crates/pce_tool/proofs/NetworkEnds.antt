@@ -11,10 +11,10 @@ use Rattle.plant_text.specs.Networks.{with_path}
 use Rattle.plant_text.specs.Reads.{IsFaulty}
 use Rattle.plant_text.specs.Settings.{is_element}
 use Rattle.client_laws.specs.script_laws.plant_play.Playing.{PlayedNetwork}
-use Rattle.plant_bulk.specs.plant_script.transcript.declared.stop.Stop.{Stop}
-use Rattle.plant_bulk.specs.plant_script.transcript.declared.stop.Stop.TheVariants as stop
-use Rattle.plant_bulk.specs.plant_script.Scripts.{around}
-use Rattle.plant_bulk.proofs.plant_script.ScriptLemmas.{file_before, script_before}
+use Rattle.plant_bulk.specs.plant_play.transcript.declared.stop.Stop.{Stop}
+use Rattle.plant_bulk.specs.plant_play.transcript.declared.stop.Stop.TheVariants as stop
+use Rattle.plant_bulk.specs.plant_play.WholeScripts.{around}
+use Rattle.plant_bulk.proofs.plant_play.ScriptLemmas.{file_before, script_before}
 use Rattle.blind_play.specs.WholeScripts.{ScriptStops}
 use Rattle.plant_bulk.specs.plant_client.Asking.{AskStops, Asks, StopsAtFile, load_line, topologies}
 use Rattle.plant_bulk.specs.plant_client.Telling.{told_text}

@@ -10,10 +10,10 @@ use Rattle.plant_text.specs.declared.settings.NetworkParts.{NetworkParts}
 use Rattle.plant_text.specs.Networks.{with_path}
 use Rattle.plant_text.specs.Reads.{IsFaulty}
 use Rattle.plant_text.specs.Settings.{is_element}
-use Rattle.plant_bulk.specs.plant_script.transcript.declared.stop.Stop.{Stop}
-use Rattle.plant_bulk.specs.plant_script.transcript.declared.stop.Stop.TheVariants as stop
-use Rattle.plant_bulk.specs.plant_script.transcript.Stops.{script_most}
-use Rattle.plant_bulk.specs.plant_script.Scripts.{Around, IsWhole, ScriptStops, around}
+use Rattle.plant_bulk.specs.plant_play.transcript.declared.stop.Stop.{Stop}
+use Rattle.plant_bulk.specs.plant_play.transcript.declared.stop.Stop.TheVariants as stop
+use Rattle.plant_bulk.specs.plant_play.transcript.Stops.{script_most}
+use Rattle.plant_bulk.specs.plant_play.WholeScripts.{Around, IsWhole, ScriptStops, around}
 use Rattle.plant_bulk.specs.declared.requests.Demand.TheVariants.{One}
 use Rattle.plant_bulk.specs.declared.tally.Tally.{Tally}
 use Rattle.plant_bulk.specs.Playing.{IsTallied}

@@ -5,4 +5,4 @@ pub mod Tallies
 pub mod Telling
 -- handed on from below
 pub use Rattle.plant_client.specs as plant_client
-pub use Rattle.plant_client.specs.plant_script
+pub use Rattle.plant_client.specs.plant_play

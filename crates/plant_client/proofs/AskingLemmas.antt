@@ -8,14 +8,14 @@ use Rattle.pcep_subobjects.specs.Subobjects.{AreOctets}
 use Rattle.plant_text.specs.declared.line.LineEvent.{LineEvent}
 use Rattle.plant_text.specs.declared.line.LineEvent.TheVariants as line
 use Rattle.plant_text.specs.declared.settings.NetworkParts.{NetworkParts}
-use Rattle.plant_script.specs.plant_model.Events.{Answered}
-use Rattle.plant_script.specs.plant_play.Logs.{Told}
-use Rattle.plant_script.specs.plant_play.Playing.{Cue, IsNewNetwork, PlayedNetwork}
-use Rattle.plant_script.specs.plant_play.Scripts.{AllPlayed}
-use Rattle.plant_script.specs.plant_play.Turns.{Turn}
+use Rattle.plant_play.specs.plant_model.Events.{Answered}
+use Rattle.plant_play.specs.Logs.{Told}
+use Rattle.plant_play.specs.Playing.{Cue, IsNewNetwork, PlayedNetwork}
+use Rattle.plant_play.specs.Scripts.{AllPlayed}
+use Rattle.plant_play.specs.Turns.{Turn}
 use Rattle.transcript.specs.declared.stop.Stop.{Stop}
 use Rattle.transcript.specs.declared.stop.Stop.TheVariants as stop
-use Rattle.plant_script.specs.Cues.{IsFileStop, PlaysCue}
+use Rattle.plant_play.specs.Cues.{IsFileStop, PlaysCue}
 use Rattle.plant_client.specs.Asking.{AreCues, ArePlayed, Asks, Begins, Exchanges, IsPlayed, LoadsStop, Receives, asking_lines, load_line, opening_lines, session_lines, topologies}
 use Rattle.plant_client.specs.declared.question.Question.{Question}
 use Rattle.plant_client.specs.Questions.{opening_text, question_text}

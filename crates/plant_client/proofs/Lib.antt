@@ -2,4 +2,4 @@ pub mod QuestionLemmas
 pub mod TellingLemmas
 pub mod AskingLemmas
 -- handed on from below
-pub use Rattle.plant_script.proofs as plant_script
+pub use Rattle.plant_play.proofs as plant_play

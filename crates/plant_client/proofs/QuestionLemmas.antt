@@ -8,7 +8,7 @@ use Rattle.pcep_subobjects.specs.Hops.{hop_text, hops_text}
 use Rattle.pcep_objects.specs.declared.object.Object.{Object}
 use Rattle.pcep_objects.specs.Spelling.{object_text}
 use Rattle.pcep_messages.specs.Spelling.{objects_text}
-use Rattle.plant_script.specs.plant_model.Writing.{as_hop, bandwidth, ends, iro}
+use Rattle.plant_play.specs.plant_model.Writing.{as_hop, bandwidth, ends, iro}
 use Rattle.plant_client.specs.declared.question.Question.{Question}
 use Rattle.plant_client.specs.Questions.{question_text, sequence_most}
 

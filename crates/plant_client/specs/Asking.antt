@@ -9,14 +9,14 @@ use Rattle.plant_text.specs.declared.line.LineEvent.TheVariants as line
 use Rattle.plant_text.specs.declared.settings.ElementRow.{ElementRow}
 use Rattle.plant_text.specs.declared.settings.NetworkParts.{NetworkParts}
 use Rattle.plant_text.specs.Settings.{elements_of, row_of}
-use Rattle.plant_script.specs.plant_model.declared.outcome.Outcome.TheVariants as outcome
-use Rattle.plant_script.specs.plant_model.Events.{Answered}
-use Rattle.plant_script.specs.plant_play.Playing.{Cue, IsNewNetwork, PlaysLine, PlayedNetwork}
-use Rattle.plant_script.specs.plant_play.Scripts.{AllPlayed}
-use Rattle.plant_script.specs.plant_play.Turns.{Turn}
+use Rattle.plant_play.specs.plant_model.declared.outcome.Outcome.TheVariants as outcome
+use Rattle.plant_play.specs.plant_model.Events.{Answered}
+use Rattle.plant_play.specs.Playing.{Cue, IsNewNetwork, PlaysLine, PlayedNetwork}
+use Rattle.plant_play.specs.Scripts.{AllPlayed}
+use Rattle.plant_play.specs.Turns.{Turn}
 use Rattle.transcript.specs.declared.stop.Stop.{Stop}
 use Rattle.transcript.specs.declared.stop.Stop.TheVariants as stop
-use Rattle.plant_script.specs.Cues.{HasText, IsFileStop, file_name}
+use Rattle.plant_play.specs.Cues.{HasText, IsFileStop, file_name}
 use Rattle.plant_client.specs.declared.question.Question.{Question}
 use Rattle.plant_client.specs.Questions.{opening_text, question_text}
 

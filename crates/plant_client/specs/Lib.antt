@@ -4,5 +4,4 @@ pub mod Asking
 pub mod Telling
 pub mod Hearing
 -- handed on from below
-pub use Rattle.plant_script.specs.plant_play
-pub use Rattle.plant_script.specs as plant_script
+pub use Rattle.plant_play.specs as plant_play

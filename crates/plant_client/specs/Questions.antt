@@ -7,7 +7,7 @@ use Rattle.pcep_messages.specs.declared.message.Asked.{Asked}
 use Rattle.pcep_messages.specs.declared.message.Message.{Message}
 use Rattle.pcep_messages.specs.declared.message.Message.TheVariants as messages
 use Rattle.pcep_messages.specs.Spelling.{message_text}
-use Rattle.plant_script.specs.plant_model.Writing.{bandwidth, ends, iro, needed}
+use Rattle.plant_play.specs.plant_model.Writing.{bandwidth, ends, iro, needed}
 use Rattle.plant_client.specs.declared.question.Question.{Question}
 
 -- how many domains a sequence may have

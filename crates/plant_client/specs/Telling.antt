@@ -4,7 +4,7 @@ use Rattle.pcep_framing.specs.Feeding.{feed_of}
 use Rattle.pcep_messages.specs.declared.message.Bad.{Bad}
 use Rattle.pcep_messages.specs.declared.message.Message.{Message}
 use Rattle.pcep_messages.specs.Messages.{message_of}
-use Rattle.plant_script.specs.transcript.Replies.{message_lines}
+use Rattle.plant_play.specs.transcript.Replies.{message_lines}
 
 -- the whole messages of a stream
 abbrev pub frames_of : List ℕ → List (List ℕ)

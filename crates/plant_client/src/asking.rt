@@ -2,15 +2,15 @@
 ghost use Rattle.std.specs.Prelude.{◌≡◌, ◌≤◌, ◌++◌, ◌∷◌, [], length, map, IfErr, IfOk, MatchOption, None, OnOk, Some};
 ghost use Rattle.pcep_subobjects.specs.Subobjects.{AreOctets};
 ghost use Rattle.plant_text.specs.Settings.{row_of};
-ghost use Rattle.plant_script.specs.plant_play.Playing.{IsNewNetwork, played_network};
-ghost use Rattle.plant_script.specs.Cues.{IsCueStop, IsFileStop, file_name};
+ghost use Rattle.plant_play.specs.Playing.{IsNewNetwork, played_network};
+ghost use Rattle.plant_play.specs.Cues.{IsCueStop, IsFileStop, file_name};
 ghost use Rattle.plant_client.specs.Asking.{ArePlayed, AskStops, Asks, Begins, Exchanges, IsPlayed, LoadsStop, Receives, asking_lines, load_line, name_in, named, received_in, session_lines, topologies};
 ghost use Rattle.plant_client.specs.Questions.{question_text, sequence_most};
 
 use crate::question::{Question, opening_bytes, question_bytes};
 use dom_base::{As, Bytes, List, NoMemory, Text};
 use dom_edge::Store;
-use plant_script::{Answer, Log, Outcome, Player, Stop, play_cue};
+use plant_play::{Answer, Log, Outcome, Player, Stop, play_cue};
 use plant_text::{ElementRow, LineEvent, Network};
 use settings_layout::elements_of;
 use std::alloc::Global;

@@ -8,6 +8,6 @@ mod telling;
 
 pub use asking::{ask, begin, exchange};
 pub use hearing::{Heard, hear};
-pub use plant_script::{Player, SCRIPT_MAX, Stop, play_script};
+pub use plant_play::{Player, SCRIPT_MAX, Stop, play_script};
 pub use question::Question;
 pub use telling::tell;

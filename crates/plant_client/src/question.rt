@@ -2,7 +2,7 @@
 ghost use Rattle.std.specs.Prelude.{◌≡◌, ◌≤◌, length, IfOk, OnOk};
 ghost use Rattle.std.specs.Option.{option_to_list};
 ghost use Rattle.pcep_subobjects.specs.Subobjects.{AreOctets};
-ghost use Rattle.plant_script.specs.plant_model.Writing.{bandwidth};
+ghost use Rattle.plant_play.specs.plant_model.Writing.{bandwidth};
 ghost use Rattle.plant_client.specs.Questions.{asked_of, opening_text, question_message, question_text, sequence_most};
 
 use dom_base::{Addr, As, Bytes, List, NoMemory};

@@ -5,5 +5,7 @@ pub mod LineLemmas
 mod LogLemmas
 pub mod ShownLemmas
 pub mod TurnLemmas
+pub mod PlayedLines
+pub mod ScriptLemmas
 -- handed on from below
 pub use Rattle.plant_network.proofs.plant_model

@@ -4,6 +4,8 @@ pub mod Due
 pub mod Playing
 pub mod Scripts
 pub mod Logs
+pub mod Cues
+pub mod WholeScripts
 -- inner
 pub mod LogFields
 pub mod Making

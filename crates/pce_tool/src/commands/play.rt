@@ -1,8 +1,8 @@
 //! `play`: the lines of a script, played on a network.
 ghost use Rattle.std.specs.Prelude.{◌≡◌, ◌≤◌, IfErr, IfOk, length};
 ghost use Rattle.pce_tool.specs.Networks.{HasScript, IsPlayStatus, IsScriptStatus, PlayEnds, status_of};
-ghost use Rattle.plant_bulk.specs.plant_script.transcript.Stops.{script_most};
-ghost use Rattle.plant_bulk.specs.plant_script.Scripts.{around};
+ghost use Rattle.plant_bulk.specs.plant_play.transcript.Stops.{script_most};
+ghost use Rattle.plant_bulk.specs.plant_play.WholeScripts.{around};
 ghost use Rattle.pce_tool.specs.Worlds.{world};
 
 use crate::files::load_network;

@@ -1,4 +1,4 @@
-use Rattle.plant_script.specs.plant_play.Playing.{played_network}
+use Rattle.plant_play.specs.Playing.{played_network}
 use Rattle.plant_client.proofs.AskingLemmas.{ask_played}
 use Rattle.plant_client.proofs.asking.ask.Goals as goal
 

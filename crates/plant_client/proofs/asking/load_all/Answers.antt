@@ -1,5 +1,5 @@
 use Rattle.std.proofs.Common.{◌+◌, ◌∙◌, take, drop, refl, arith, rules}
-use Rattle.plant_script.specs.plant_play.Playing.{played_network}
+use Rattle.plant_play.specs.Playing.{played_network}
 use Rattle.plant_client.proofs.AskingLemmas.{all_loaded, load_next, loads_stop, none_played, parts_at}
 use Rattle.plant_client.proofs.asking.load_all.Goals as goal
 

@@ -1,5 +1,5 @@
 use Rattle.std.proofs.Common.{◌≡◌, ◌≤◌, map, take}
-use Rattle.plant_script.specs.plant_play.Playing.{played_network}
+use Rattle.plant_play.specs.Playing.{played_network}
 use Rattle.plant_client.specs.Asking.{ArePlayed, load_line}
 use Rattle.plant_client.proofs.asking.load_all.Given as goal
 

@@ -10,9 +10,9 @@ use Rattle.plant_text.specs.declared.settings.NetworkParts.{NetworkParts}
 use Rattle.plant_play.specs.Playing.{played_network}
 use Rattle.transcript.specs.Stops.{numbered}
 use Rattle.transcript.proofs.ScriptParts.{Tells, script_tells}
-use Rattle.plant_script.specs.Scripts.{LinePlays, LineStops, around}
-use Rattle.plant_script.proofs.ScriptLemmas.{IsAt, at_start, line_more, stops_here}
-use Rattle.plant_script.proofs.script.play_lines.Goals as goal
+use Rattle.plant_play.specs.WholeScripts.{LinePlays, LineStops, around}
+use Rattle.plant_play.proofs.ScriptLemmas.{IsAt, at_start, line_more, stops_here}
+use Rattle.plant_play.proofs.script.play_lines.Goals as goal
 
 pub new-lines-requires : goal.new-lines-requires
 new-lines-requires g c = omega (arith, c.requires.within, lines_at_most c.args.script.now)

@@ -2,11 +2,14 @@
 ghost use Rattle.std.specs.Prelude.{◌≡◌, ◌≤◌, length, IfErr, IfOk, MatchOption, None, Some};
 ghost use Rattle.plant_play.specs.Playing.{played_network};
 ghost use Rattle.transcript.specs.Stops.{IsTooLarge};
-ghost use Rattle.plant_script.specs.Cues.{HasText, IsBadAt, IsCueStop, IsFileStop, IsNoFile, PlaysCue, file_name};
+ghost use Rattle.plant_play.specs.Cues.{HasText, IsBadAt, IsCueStop, IsFileStop, IsNoFile, PlaysCue, file_name};
 
+use crate::events::Answer;
+use crate::log::Log;
+use crate::player::Player;
 use dom_base::{Bytes, NoMemory, Text};
 use dom_edge::{Store, StoreError};
-use plant_play::{Answer, Log, PlayError, Player};
+use network_files::FileError as PlayError;
 use plant_text::{LineEvent, NetFault};
 use std::alloc::Global;
 use transcript::Stop;

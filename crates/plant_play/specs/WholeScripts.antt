@@ -8,14 +8,14 @@ use Rattle.line_text.specs.Lines.{NumberedLine, told_lines}
 use Rattle.plant_text.specs.declared.line.LineEvent.{LineEvent}
 use Rattle.plant_text.specs.declared.settings.NetworkParts.{NetworkParts}
 use Rattle.plant_text.specs.Lines.{line_in}
-use Rattle.plant_play.specs.plant_model.Events.{Answered}
+use Rattle.plant_network.specs.plant_model.Events.{Answered}
 use Rattle.plant_play.specs.Playing.{Cue, IsNewNetwork, PlaysLine, PlayedNetwork}
 use Rattle.plant_play.specs.Scripts.{AllPlayed}
 use Rattle.plant_play.specs.Turns.{Turn}
 use Rattle.transcript.specs.declared.stop.Stop.{Stop}
 use Rattle.transcript.specs.declared.stop.Stop.TheVariants as stop
 use Rattle.transcript.specs.Stops.{input_name, line_most}
-use Rattle.plant_script.specs.Cues.{HasText, IsFileStop, file_name}
+use Rattle.plant_play.specs.Cues.{HasText, IsFileStop, file_name}
 
 -- ---- lines that are played
 

@@ -1,8 +1,8 @@
 use Rattle.std.proofs.Common.{◌≡◌, ◌≤◌, All, length}
 use Rattle.plant_play.specs.Playing.{played_network}
 use Rattle.transcript.proofs.ScriptParts.{Tells}
-use Rattle.plant_script.proofs.ScriptLemmas.{IsAt}
-use Rattle.plant_script.proofs.script.play_lines.Given as goal
+use Rattle.plant_play.proofs.ScriptLemmas.{IsAt}
+use Rattle.plant_play.proofs.script.play_lines.Given as goal
 
 abbrev pub invariant-loop-line : goal.invariant-loop-line
 invariant-loop-line g l = record {

@@ -8,15 +8,15 @@ use Rattle.dom_edge.specs.Whole.{AppendsSome}
 use Rattle.line_text.specs.Lines.{NumberedLine, told_lines}
 use Rattle.plant_text.specs.declared.settings.NetworkParts.{NetworkParts}
 use Rattle.plant_text.specs.declared.line.LineEvent.{LineEvent}
-use Rattle.plant_play.specs.plant_model.Plant.{opened}
-use Rattle.plant_play.specs.plant_model.RealWire.{wire}
+use Rattle.plant_network.specs.plant_model.Plant.{opened}
+use Rattle.plant_network.specs.plant_model.RealWire.{wire}
 use Rattle.plant_play.specs.Playing.{IsNewNetwork, PlayedNetwork}
 use Rattle.transcript.specs.declared.stop.Stop.{Stop}
 use Rattle.transcript.specs.declared.stop.Stop.TheVariants as stop
 use Rattle.transcript.proofs.ScriptParts.{rose_before, some_more, some_of_all}
-use Rattle.plant_script.specs.Cues.{IsFileStop}
-use Rattle.plant_script.specs.Scripts.{IsLineStop, LinePlays, LineStops, Reached, ScriptStops, StopsAt, StopsAtFile, around}
-use Rattle.plant_script.proofs.PlayedLines.{none_yet, one_more, one_more_cue}
+use Rattle.plant_play.specs.Cues.{IsFileStop}
+use Rattle.plant_play.specs.WholeScripts.{IsLineStop, LinePlays, LineStops, Reached, ScriptStops, StopsAt, StopsAtFile, around}
+use Rattle.plant_play.proofs.PlayedLines.{none_yet, one_more, one_more_cue}
 
 -- ---- one line further
 

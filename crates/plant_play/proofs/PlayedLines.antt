@@ -5,11 +5,11 @@ use Rattle.std.specs.declared.option.Option.{Option}
 use Rattle.dom_edge.specs.Stores.{Files}
 use Rattle.line_text.specs.Lines.{NumberedLine}
 use Rattle.plant_text.specs.declared.settings.NetworkParts.{NetworkParts}
-use Rattle.plant_play.specs.plant_model.Events.{Answered}
+use Rattle.plant_network.specs.plant_model.Events.{Answered}
 use Rattle.plant_play.specs.Playing.{Cue, PlaysLine, PlayedNetwork}
 use Rattle.plant_play.specs.Scripts.{AllPlayed}
 use Rattle.plant_play.specs.Turns.{Turn}
-use Rattle.plant_script.specs.Scripts.{AreCues, IsCue}
+use Rattle.plant_play.specs.WholeScripts.{AreCues, IsCue}
 
 pub none_yet : (old : PlayedNetwork) → AllPlayed old [] [] [] old
 none_yet old = (refl, refl, refl)

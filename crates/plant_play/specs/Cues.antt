@@ -5,8 +5,8 @@ use Rattle.dom_edge.specs.Stores.{Files, HasFile, IfFile, IsLongFile}
 use Rattle.plant_text.specs.declared.fault.NetFault.{NetFault}
 use Rattle.plant_text.specs.declared.line.LineEvent.{LineEvent}
 use Rattle.plant_text.specs.declared.line.LineEvent.TheVariants as line
-use Rattle.plant_play.specs.plant_model.Events.{Answered}
-use Rattle.plant_play.specs.network_files.declared.error.FileError.TheVariants as play
+use Rattle.plant_network.specs.plant_model.Events.{Answered}
+use Rattle.network_files.specs.declared.error.FileError.TheVariants as play
 use Rattle.plant_play.specs.Logs.{Told, behind}
 use Rattle.plant_play.specs.Playing.{IsWhyNot, PlaysLine, PlayedNetwork, cue}
 use Rattle.plant_play.specs.Turns.{Turn}

@@ -1,6 +1,6 @@
 use Rattle.std.proofs.lemmas.Result.{err_from_is_err_and}
-use Rattle.plant_script.proofs.ScriptLemmas.{stops_unbegun}
-use Rattle.plant_script.proofs.script.play_script.Goals as goal
+use Rattle.plant_play.proofs.ScriptLemmas.{stops_unbegun}
+use Rattle.plant_play.proofs.script.play_script.Goals as goal
 
 pub returns-in_err-player-clause-stops : goal.returns-in_err-player-clause-stops
 returns-in_err-player-clause-stops g c =

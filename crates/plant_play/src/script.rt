@@ -3,12 +3,13 @@ ghost use Rattle.std.specs.Prelude.{◌≡◌, ◌≤◌, false, length, IfErr, 
 ghost use Rattle.line_text.specs.Lines.{is_skipped};
 ghost use Rattle.plant_play.specs.Playing.{IsNewNetwork, played_network};
 ghost use Rattle.transcript.specs.Stops.{numbered, script_most};
-ghost use Rattle.plant_script.specs.Scripts.{HasEvent, IsNoEvent, IsWhole, LinePlays, LineStops, ScriptStops, WroteAll, around};
+ghost use Rattle.plant_play.specs.WholeScripts.{HasEvent, IsNoEvent, IsWhole, LinePlays, LineStops, ScriptStops, WroteAll, around};
 
 use crate::cue::{play_cue, too_large};
+use crate::log::Log;
+use crate::player::Player;
 use dom_edge::{Sink, Store, write_all};
 use line_text::{Line, Lines};
-use plant_play::{Log, Player};
 use plant_text::{LineError, LineEvent, Network, read_line};
 use std::alloc::Global;
 use transcript::{LINE_MAX, Stop};

@@ -1,2 +1,0 @@
-pub mod PlayedLines
-pub mod ScriptLemmas
