@@ -23,7 +23,7 @@ libraries=$(awk -F: '
         print name
     }
     /^[a-z]/ { split($1, words, " "); uses[words[1]] = $2 }
-    END { visit("plant_bulk") }' "$top/crates.txt")
+    END { visit("plant_client") }' "$top/crates.txt")
 for name in $libraries; do
     [ -d "$top/crates/$name" ] || continue
     mkdir -p "$copy/crates/$name/out"
@@ -33,7 +33,7 @@ for name in $libraries; do
     done
     grep "^$name[ :]" "$top/crates.txt" >>"$copy/crates.txt"
 done
-echo "bulk_bench: plant_bulk" >>"$copy/crates.txt"
+echo "bulk_bench: plant_client" >>"$copy/crates.txt"
 crate=$copy/crates/bulk_bench
 mkdir -p "$crate/src"
 cat >"$crate/src/main.rt" <<RT
@@ -42,7 +42,7 @@ cat >"$crate/src/main.rt" <<RT
 
 ghost use Rattle.std.specs.Prelude.{◌≤◌};
 
-use plant_bulk::{Demand, play};
+use plant_client::{Demand, play};
 use std::io;
 use std::time::Instant;
 

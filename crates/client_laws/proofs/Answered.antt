@@ -41,9 +41,9 @@ use Rattle.script_laws.proofs.plant_laws.Once.AskedRuns.{none_outside}
 use Rattle.script_laws.proofs.plant_laws.Reasons.MomentCauses.{HasOne, moment_cause}
 use Rattle.client_laws.proofs.OutsideStays.{none_dropped, opening_harmless}
 use Rattle.script_laws.proofs.plant_laws.Runs.Queues.{same_as_is}
-use Rattle.plant_bulk.specs.plant_client.declared.question.Question.{Question}
-use Rattle.plant_bulk.specs.plant_client.Asking.{Asks, topologies}
-use Rattle.plant_bulk.specs.plant_client.Questions.{asked_of, question_message}
+use Rattle.plant_client.specs.declared.question.Question.{Question}
+use Rattle.plant_client.specs.Asking.{Asks, topologies}
+use Rattle.plant_client.specs.Questions.{asked_of, question_message}
 use Rattle.peer_laws.proofs.OutletRuns.{run_fits}
 use Rattle.client_laws.proofs.Asking.{lines_feed, no_connection}
 use Rattle.client_laws.proofs.Opening.{Ends, IsNone, Walks, loading, tail_taken}

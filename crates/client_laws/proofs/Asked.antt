@@ -24,9 +24,9 @@ use Rattle.script_laws.specs.plant_model.Wire.{Admitted, Bytes}
 use Rattle.script_laws.specs.plant_laws.Transcript.{Delivered, Transcript, Within}
 use Rattle.script_laws.specs.plant_play.Turns.{entries_of}
 use Rattle.script_laws.proofs.Rightly.{scripts_are_right}
-use Rattle.plant_bulk.specs.plant_client.declared.question.Question.{Question}
-use Rattle.plant_bulk.specs.plant_client.Asking.{topologies}
-use Rattle.plant_bulk.specs.plant_client.Questions.{asked_of, open_message, opening_text, question_message, question_text}
+use Rattle.plant_client.specs.declared.question.Question.{Question}
+use Rattle.plant_client.specs.Asking.{topologies}
+use Rattle.plant_client.specs.Questions.{asked_of, open_message, opening_text, question_message, question_text}
 use Rattle.peer_laws.proofs.OutletRuns.{run_fits}
 use Rattle.peer_laws.proofs.Streams.{stream_of}
 use Rattle.peer_laws.specs.Inlets.{WasFed, streams}

@@ -30,10 +30,10 @@ use Rattle.script_laws.specs.plant_play.Scripts.{AllPlayed}
 use Rattle.script_laws.specs.plant_play.Turns.{Turn, entries_of}
 use Rattle.script_laws.specs.Laws.{FeedOctets, FeedsOctets}
 use Rattle.script_laws.proofs.Rightly.{scripts_are_right}
-use Rattle.plant_bulk.specs.plant_client.declared.question.Question.{Question}
-use Rattle.plant_bulk.specs.plant_client.Asking.{AreCues, load_line, question_lines, received_in, topologies}
-use Rattle.plant_bulk.specs.plant_client.Questions.{opening_text, question_text}
-use Rattle.plant_bulk.specs.plant_client.Telling.{told_text}
+use Rattle.plant_client.specs.declared.question.Question.{Question}
+use Rattle.plant_client.specs.Asking.{AreCues, load_line, question_lines, received_in, topologies}
+use Rattle.plant_client.specs.Questions.{opening_text, question_text}
+use Rattle.plant_client.specs.Telling.{told_text}
 use Rattle.peer_laws.specs.Outlets.{Opens, Outlet, Stays, bytes_of, handed_in, messages_for, outlet, turn_for, turned}
 use Rattle.peer_laws.proofs.OutletEvents.{Fits}
 use Rattle.peer_laws.proofs.Growing.{view_of}

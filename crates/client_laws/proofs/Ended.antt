@@ -55,11 +55,11 @@ use Rattle.script_laws.proofs.plant_laws.Runs.Moments.{opened_within, peer_is, w
 use Rattle.script_laws.proofs.plant_laws.Runs.Queues.{same_as_is}
 use Rattle.script_laws.proofs.plant_laws.Settled.UnderWayLaw.{quiet_has_none_pending}
 use Rattle.script_laws.proofs.plant_laws.WrittenForm.EveryWritten.{every_written}
-use Rattle.plant_bulk.specs.plant_client.plant_play.transcript.Replies.{message_lines}
-use Rattle.plant_bulk.specs.plant_client.declared.question.Question.{Question}
-use Rattle.plant_bulk.specs.plant_client.Asking.{topologies}
-use Rattle.plant_bulk.specs.plant_client.Questions.{asked_of, question_message}
-use Rattle.plant_bulk.specs.plant_client.Telling.{told_text}
+use Rattle.plant_client.specs.plant_play.transcript.Replies.{message_lines}
+use Rattle.plant_client.specs.declared.question.Question.{Question}
+use Rattle.plant_client.specs.Asking.{topologies}
+use Rattle.plant_client.specs.Questions.{asked_of, question_message}
+use Rattle.plant_client.specs.Telling.{told_text}
 use Rattle.peer_laws.specs.Outlets.{Outlet, Stays, ConnectionChange, handed_in, messages_for, outlet, outputs_of, put_for, turn_for, turned, with_put}
 use Rattle.peer_laws.proofs.Putting.{of_sent, put_is}
 use Rattle.peer_laws.specs.Received.{IsRight}

@@ -30,11 +30,11 @@ use Rattle.script_laws.specs.plant_play.Scripts.{AllPlayed}
 use Rattle.script_laws.specs.plant_play.Turns.{Turn, entries_of}
 use Rattle.script_laws.proofs.plant_laws.plant_model.WireLaws.{wire_is_codec}
 use Rattle.script_laws.proofs.plant_laws.WrittenForm.EveryWritten.{every_written}
-use Rattle.plant_bulk.specs.plant_client.declared.question.Question.{Question}
-use Rattle.plant_bulk.specs.plant_client.Asking.{AreCues, Exchanges, asking_lines, received_in, topologies}
-use Rattle.plant_bulk.specs.plant_client.Hearing.{heard_in}
-use Rattle.plant_bulk.specs.plant_client.Questions.{opening_text}
-use Rattle.plant_bulk.specs.Playing.{AsksAll, turns_of}
+use Rattle.plant_client.specs.declared.question.Question.{Question}
+use Rattle.plant_client.specs.Asking.{AreCues, Exchanges, asking_lines, received_in, topologies}
+use Rattle.plant_client.specs.Hearing.{heard_in}
+use Rattle.plant_client.specs.Questions.{opening_text}
+use Rattle.plant_client.specs.Bulk.{AsksAll, turns_of}
 use Rattle.peer_laws.specs.Outlets.{Drains, Outlet, Stays, bytes_of, handed_in, messages_for, outlet, turn_for, turned, with_handed}
 use Rattle.peer_laws.proofs.OutletEvents.{Fits}
 use Rattle.peer_laws.proofs.Growing.{view_of}

@@ -11,8 +11,8 @@ use Rattle.script_laws.specs.plant_model.Plant.{Entry}
 use Rattle.script_laws.specs.plant_model.RealWire.{wire}
 use Rattle.script_laws.specs.plant_model.Wire.{Bytes}
 use Rattle.script_laws.specs.plant_play.Turns.{Turn, entries_of}
-use Rattle.plant_bulk.specs.plant_client.Hearing.{heard_in, in_frame, in_reading}
-use Rattle.plant_bulk.specs.plant_client.Telling.{last_of}
+use Rattle.plant_client.specs.Hearing.{heard_in, in_frame, in_reading}
+use Rattle.plant_client.specs.Telling.{last_of}
 use Rattle.peer_laws.specs.Outlets.{Outlet, ConnectionChange, bytes_of, handed_in, messages_for, outlet, turn_for, turned, with_put}
 use Rattle.peer_laws.proofs.OutletEvents.{joined_append}
 use Rattle.peer_laws.proofs.Growing.{texts, texts_append}

@@ -44,9 +44,9 @@ use Rattle.client_laws.proofs.OutsideStays.{AreHarmless, Has, Leads, carry_stays
 use Rattle.plant_network.specs.Due.{inbox_from}
 use Rattle.peer_laws.proofs.Streams.{stream_of}
 use Rattle.peer_laws.specs.Received.{IsStreamOf}
-use Rattle.plant_bulk.specs.plant_client.declared.question.Question.{Question}
-use Rattle.plant_bulk.specs.plant_client.Asking.{AreCues, load_line, question_lines}
-use Rattle.plant_bulk.specs.plant_client.Questions.{asked_of, open_message, opening_text, question_message, question_text}
+use Rattle.plant_client.specs.declared.question.Question.{Question}
+use Rattle.plant_client.specs.Asking.{AreCues, load_line, question_lines}
+use Rattle.plant_client.specs.Questions.{asked_of, open_message, opening_text, question_message, question_text}
 use Rattle.client_laws.proofs.Asked.{keepalive_written, open_written}
 use Rattle.client_laws.proofs.Asking.{on}
 use Rattle.client_laws.proofs.Splitting.{question_alone}

@@ -39,9 +39,9 @@ use Rattle.script_laws.specs.plant_play.Playing.{Changes, Cue, IsNewNetwork, Pla
 use Rattle.script_laws.specs.plant_play.Scripts.{AllPlayed}
 use Rattle.script_laws.specs.plant_play.Turns.{Turn, entries_of}
 use Rattle.script_laws.proofs.plant_laws.Runs.Queues.{same_as_is}
-use Rattle.plant_bulk.specs.plant_client.declared.question.Question.{Question}
-use Rattle.plant_bulk.specs.plant_client.Asking.{AreCues, load_line, question_lines, topologies}
-use Rattle.plant_bulk.specs.plant_client.Questions.{opening_text, question_text}
+use Rattle.plant_client.specs.declared.question.Question.{Question}
+use Rattle.plant_client.specs.Asking.{AreCues, load_line, question_lines, topologies}
+use Rattle.plant_client.specs.Questions.{opening_text, question_text}
 use Rattle.peer_laws.proofs.OutletRuns.{run_fits}
 use Rattle.script_laws.proofs.Rightly.{scripts_are_right}
 use Rattle.script_laws.proofs.plant_laws.Settled.Resting.{rest_is_quiet}

@@ -13,9 +13,9 @@ use Rattle.pcep_messages.specs.Spelling.{IsWritten, objects_in}
 use Rattle.script_laws.specs.plant_model.Writing.{bandwidth, ends, iro, needed}
 use Rattle.script_laws.proofs.plant_laws.plant_model.ReadSound.{Maybe}
 use Rattle.script_laws.proofs.plant_laws.plant_model.Sends.{IsPart, bandwidth_part, ends_part, iro_part, joined}
-use Rattle.plant_bulk.specs.plant_client.declared.question.Question.{Question}
-use Rattle.plant_bulk.specs.plant_client.Questions.{asked_of, question_message, sequence_most}
-use Rattle.plant_bulk.proofs.plant_client.QuestionLemmas.{question_short}
+use Rattle.plant_client.specs.declared.question.Question.{Question}
+use Rattle.plant_client.specs.Questions.{asked_of, question_message, sequence_most}
+use Rattle.plant_client.proofs.QuestionLemmas.{question_short}
 
 -- its numbers are those of their types, its ends are of one kind, and its domains few
 pub record IsInRange (q : Question) : Type 0 where

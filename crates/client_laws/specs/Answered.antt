@@ -25,9 +25,9 @@ use Rattle.script_laws.specs.plant_laws.Chains.{WaitsOutside}
 use Rattle.script_laws.specs.plant_laws.Transcript.{Transcript, Within}
 use Rattle.script_laws.specs.plant_play.Turns.{entries_of}
 use Rattle.script_laws.specs.Headline.{HasIdsLeft}
-use Rattle.plant_bulk.specs.plant_client.declared.question.Question.{Question}
-use Rattle.plant_bulk.specs.plant_client.Asking.{Asks}
-use Rattle.plant_bulk.specs.plant_client.Questions.{asked_of, question_message}
+use Rattle.plant_client.specs.declared.question.Question.{Question}
+use Rattle.plant_client.specs.Asking.{Asks}
+use Rattle.plant_client.specs.Questions.{asked_of, question_message}
 use Rattle.client_laws.specs.Told.{IsClient}
 
 -- ---- it is read as what it says

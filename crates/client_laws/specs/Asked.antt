@@ -12,9 +12,9 @@ use Rattle.script_laws.specs.plant_model.RealWire.{check_of, wire}
 use Rattle.script_laws.specs.plant_model.Wire.{Admitted}
 use Rattle.script_laws.specs.plant_laws.Transcript.{Delivered, Transcript, Within}
 use Rattle.script_laws.specs.plant_play.Turns.{entries_of}
-use Rattle.plant_bulk.specs.plant_client.declared.question.Question.{Question}
-use Rattle.plant_bulk.specs.plant_client.Asking.{Asks}
-use Rattle.plant_bulk.specs.plant_client.Questions.{asked_of, question_message}
+use Rattle.plant_client.specs.declared.question.Question.{Question}
+use Rattle.plant_client.specs.Asking.{Asks}
+use Rattle.plant_client.specs.Questions.{asked_of, question_message}
 use Rattle.client_laws.specs.Told.{IsClient}
 
 -- A moment that delivered a request of the client to an element delivered the question, which that element admits as this request.

@@ -12,12 +12,12 @@ use Rattle.script_laws.specs.plant_laws.About.{IsPathAnswer}
 use Rattle.script_laws.specs.plant_play.Playing.{PlayedNetwork}
 use Rattle.script_laws.specs.plant_play.Turns.{Turn, entries_of}
 use Rattle.script_laws.specs.Headline.{HasIdsLeft}
-use Rattle.plant_bulk.specs.plant_client.declared.hearing.Heard.{Heard}
-use Rattle.plant_bulk.specs.plant_client.declared.hearing.Heard.TheVariants as heard
-use Rattle.plant_bulk.specs.plant_client.declared.question.Question.{Question}
-use Rattle.plant_bulk.specs.plant_client.Asking.{Begins}
-use Rattle.plant_bulk.specs.plant_client.Hearing.{heard_in, in_message}
-use Rattle.plant_bulk.specs.Playing.{AsksAll}
+use Rattle.plant_client.specs.declared.hearing.Heard.{Heard}
+use Rattle.plant_client.specs.declared.hearing.Heard.TheVariants as heard
+use Rattle.plant_client.specs.declared.question.Question.{Question}
+use Rattle.plant_client.specs.Asking.{Begins}
+use Rattle.plant_client.specs.Hearing.{heard_in, in_message}
+use Rattle.plant_client.specs.Bulk.{AsksAll}
 use Rattle.peer_laws.specs.Outlets.{Outlet, bytes_of, outlet}
 use Rattle.peer_laws.specs.Received.{IsRight}
 use Rattle.client_laws.specs.Told.{IsClient}

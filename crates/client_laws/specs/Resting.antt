@@ -11,8 +11,8 @@ use Rattle.script_laws.specs.plant_laws.Resting.{IsAtRest}
 use Rattle.script_laws.specs.plant_play.Playing.{Cue, IsNewNetwork, PlaysLine, PlayedNetwork}
 use Rattle.script_laws.specs.plant_play.Scripts.{AllPlayed}
 use Rattle.script_laws.specs.plant_play.Turns.{Turn}
-use Rattle.plant_bulk.specs.plant_client.declared.question.Question.{Question}
-use Rattle.plant_bulk.specs.plant_client.Asking.{Asks}
+use Rattle.plant_client.specs.declared.question.Question.{Question}
+use Rattle.plant_client.specs.Asking.{Asks}
 
 -- all that was fed was taken
 abbrev pub AreTaken : Plant → Type 0

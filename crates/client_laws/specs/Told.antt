@@ -14,10 +14,10 @@ use Rattle.script_laws.specs.plant_model.RealWire.{wire}
 use Rattle.script_laws.specs.plant_laws.About.{IsPathAnswer}
 use Rattle.script_laws.specs.plant_play.Turns.{entries_of}
 use Rattle.script_laws.specs.Headline.{HasIdsLeft}
-use Rattle.plant_bulk.specs.plant_client.plant_play.transcript.Replies.{message_lines}
-use Rattle.plant_bulk.specs.plant_client.declared.question.Question.{Question}
-use Rattle.plant_bulk.specs.plant_client.Asking.{Asks}
-use Rattle.plant_bulk.specs.plant_client.Telling.{told_text}
+use Rattle.plant_client.specs.plant_play.transcript.Replies.{message_lines}
+use Rattle.plant_client.specs.declared.question.Question.{Question}
+use Rattle.plant_client.specs.Asking.{Asks}
+use Rattle.plant_client.specs.Telling.{told_text}
 use Rattle.peer_laws.specs.Outlets.{Outlet, bytes_of, outlet}
 use Rattle.peer_laws.specs.Received.{IsRight}
 

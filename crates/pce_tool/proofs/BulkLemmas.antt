@@ -18,15 +18,15 @@ use Rattle.client_laws.specs.script_laws.ids_suffice.Counting.{HasNoParent}
 use Rattle.client_laws.proofs.script_laws.Rightly.{scripts_are_right}
 use Rattle.client_laws.proofs.Clients.{path_is_client}
 use Rattle.client_laws.proofs.Exchanging.{many_are_received}
-use Rattle.plant_bulk.specs.plant_client.declared.question.Question.{Question}
-use Rattle.plant_bulk.specs.plant_client.Asking.{ArePlayed, Exchanges, IsPlayed, asking_lines, opening_lines, session_lines, topologies}
-use Rattle.plant_bulk.specs.plant_client.Questions.{opening_text, question_text, sequence_most}
-use Rattle.plant_bulk.proofs.plant_client.AskingLemmas.{all_append}
-use Rattle.plant_bulk.proofs.plant_client.QuestionLemmas.{question_few}
-use Rattle.plant_bulk.specs.declared.requests.Demand.{Demand}
-use Rattle.plant_bulk.specs.Playing.{AsksAll, bulk_turns, client, first_domain, network, turns_of}
+use Rattle.plant_client.specs.declared.question.Question.{Question}
+use Rattle.plant_client.specs.Asking.{ArePlayed, Exchanges, IsPlayed, asking_lines, opening_lines, session_lines, topologies}
+use Rattle.plant_client.specs.Questions.{opening_text, question_text, sequence_most}
+use Rattle.plant_client.proofs.AskingLemmas.{all_append}
+use Rattle.plant_client.proofs.QuestionLemmas.{question_few}
+use Rattle.plant_client.specs.declared.requests.Demand.{Demand}
+use Rattle.plant_client.specs.Bulk.{AsksAll, bulk_turns, client, first_domain, network, turns_of}
 use Rattle.drawn_network.specs.Settings.{settings}
-use Rattle.plant_bulk.specs.Requests.{question, questions}
+use Rattle.plant_client.specs.Requests.{question, questions}
 use Rattle.pce_tool.specs.Headline.{BulksAreWorth}
 use Rattle.pce_tool.proofs.DrawnNetwork.{network_modelled}
 use Rattle.pce_tool.proofs.HeadlineLemmas.{FeedAll, loads_feed, no_lines, one_line, opening_feeds}

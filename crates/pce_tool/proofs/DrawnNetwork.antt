@@ -10,7 +10,7 @@ use Rattle.plant_text.specs.Settings.{is_element}
 use Rattle.client_laws.specs.script_laws.plant_model.Laws.{IsElement, IsNetwork, IsParentLink, LeadApart, LeadsOut}
 use Rattle.client_laws.proofs.script_laws.texts_in_range.ModelledNetworks.{with_client}
 use Rattle.drawn_network.specs.Settings.{element, link, settings}
-use Rattle.plant_bulk.specs.Playing.{first_domain, network}
+use Rattle.plant_client.specs.Bulk.{first_domain, network}
 
 abbrev Differ : ElementRow → ElementRow → Type 0
 Differ a b = (a.own ≢ b.own) × (a.id ≢ b.id)

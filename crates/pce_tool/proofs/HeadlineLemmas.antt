@@ -29,12 +29,12 @@ use Rattle.client_laws.specs.script_laws.Headline.{all_octets, fed_octets}
 use Rattle.client_laws.specs.script_laws.Laws.{FeedOctets, FeedsOctets}
 use Rattle.client_laws.proofs.script_laws.Disclosing.{shown_from_the_first}
 use Rattle.client_laws.proofs.script_laws.Rightly.{scripts_are_right}
-use Rattle.plant_bulk.specs.plant_play.WholeScripts.{AreCues}
-use Rattle.plant_bulk.specs.plant_client.declared.question.Question.{Question}
-use Rattle.plant_bulk.specs.plant_client.Asking.{lines_of, load_line, question_lines, topologies}
-use Rattle.plant_bulk.specs.plant_client.Asking as asking
-use Rattle.plant_bulk.specs.plant_client.Questions.{opening_text, question_text, sequence_most}
-use Rattle.plant_bulk.proofs.plant_client.QuestionLemmas.{question_short}
+use Rattle.plant_client.specs.plant_play.WholeScripts.{AreCues}
+use Rattle.plant_client.specs.declared.question.Question.{Question}
+use Rattle.plant_client.specs.Asking.{lines_of, load_line, question_lines, topologies}
+use Rattle.plant_client.specs.Asking as asking
+use Rattle.plant_client.specs.Questions.{opening_text, question_text, sequence_most}
+use Rattle.plant_client.proofs.QuestionLemmas.{question_short}
 use Rattle.client_laws.proofs.Asked.{one_is_asked}
 use Rattle.client_laws.proofs.Asking.{clients_are_told}
 use Rattle.client_laws.proofs.Clients.{path_is_client}

@@ -11,15 +11,15 @@ use Rattle.plant_text.specs.Networks.{with_path}
 use Rattle.plant_text.specs.Reads.{IsFaulty}
 use Rattle.plant_text.specs.Settings.{is_element}
 use Rattle.client_laws.specs.script_laws.plant_play.Playing.{PlayedNetwork}
-use Rattle.plant_bulk.specs.plant_play.transcript.declared.stop.Stop.{Stop}
-use Rattle.plant_bulk.specs.plant_play.transcript.declared.stop.Stop.TheVariants as stop
-use Rattle.plant_bulk.specs.plant_play.WholeScripts.{around}
-use Rattle.plant_bulk.proofs.plant_play.ScriptLemmas.{file_before, script_before}
+use Rattle.plant_client.specs.plant_play.transcript.declared.stop.Stop.{Stop}
+use Rattle.plant_client.specs.plant_play.transcript.declared.stop.Stop.TheVariants as stop
+use Rattle.plant_client.specs.plant_play.WholeScripts.{around}
+use Rattle.plant_client.proofs.plant_play.ScriptLemmas.{file_before, script_before}
 use Rattle.blind_play.specs.WholeScripts.{ScriptStops}
-use Rattle.plant_bulk.specs.plant_client.Asking.{AskStops, Asks, StopsAtFile, load_line, topologies}
-use Rattle.plant_bulk.specs.plant_client.Telling.{told_text}
-use Rattle.plant_bulk.specs.declared.tally.Tally.{Tally}
-use Rattle.plant_bulk.specs.Telling.{tally_text}
+use Rattle.plant_client.specs.Asking.{AskStops, Asks, StopsAtFile, load_line, topologies}
+use Rattle.plant_client.specs.Telling.{told_text}
+use Rattle.plant_client.specs.declared.tally.Tally.{Tally}
+use Rattle.plant_client.specs.TallyText.{tally_text}
 use Rattle.pce_tool.specs.declared.route.Route.{Route}
 use Rattle.pce_tool.specs.declared.status.Status.{Status}
 use Rattle.pce_tool.specs.declared.status.Status.TheVariants as status

@@ -20,13 +20,13 @@ use Rattle.client_laws.specs.Asked.{AsksOnly}
 use Rattle.client_laws.specs.Ended.{EndsAnswered}
 use Rattle.client_laws.specs.Received.{AreReceived}
 use Rattle.client_laws.specs.Told.{IsTold}
-use Rattle.plant_bulk.specs.plant_play.transcript.Stops.{script_most}
-use Rattle.plant_bulk.specs.plant_play.WholeScripts.{Playing}
-use Rattle.plant_bulk.specs.plant_client.Asking.{Asks}
-use Rattle.plant_bulk.specs.plant_client.declared.question.Question.{Question}
-use Rattle.plant_bulk.specs.declared.requests.Demand.{Demand}
-use Rattle.plant_bulk.specs.Playing.{IsBulk, bulk_turns, client, network}
-use Rattle.plant_bulk.specs.Requests.{requests_most}
+use Rattle.plant_client.specs.plant_play.transcript.Stops.{script_most}
+use Rattle.plant_client.specs.plant_play.WholeScripts.{Playing}
+use Rattle.plant_client.specs.Asking.{Asks}
+use Rattle.plant_client.specs.declared.question.Question.{Question}
+use Rattle.plant_client.specs.declared.requests.Demand.{Demand}
+use Rattle.plant_client.specs.Bulk.{IsBulk, bulk_turns, client, network}
+use Rattle.plant_client.specs.Requests.{requests_most}
 use Rattle.blind_play.specs.Laws.{SaysSo}
 use Rattle.blind_play.specs.Playing.{PlayedNetwork as BlindPlayed}
 use Rattle.blind_play.specs.Turns.{Turn as BlindTurn, all_heard, trace_of}

@@ -10,22 +10,22 @@ use Rattle.plant_text.specs.declared.settings.NetworkParts.{NetworkParts}
 use Rattle.plant_text.specs.Networks.{with_path}
 use Rattle.plant_text.specs.Reads.{IsFaulty}
 use Rattle.plant_text.specs.Settings.{is_element}
-use Rattle.plant_bulk.specs.plant_play.transcript.declared.stop.Stop.{Stop}
-use Rattle.plant_bulk.specs.plant_play.transcript.declared.stop.Stop.TheVariants as stop
-use Rattle.plant_bulk.specs.plant_play.transcript.Stops.{script_most}
-use Rattle.plant_bulk.specs.plant_play.WholeScripts.{Around, IsWhole, ScriptStops, around}
-use Rattle.plant_bulk.specs.declared.requests.Demand.TheVariants.{One}
-use Rattle.plant_bulk.specs.declared.tally.Tally.{Tally}
-use Rattle.plant_bulk.specs.Playing.{IsTallied}
-use Rattle.plant_bulk.specs.Telling.{tally_text}
+use Rattle.plant_client.specs.plant_play.transcript.declared.stop.Stop.{Stop}
+use Rattle.plant_client.specs.plant_play.transcript.declared.stop.Stop.TheVariants as stop
+use Rattle.plant_client.specs.plant_play.transcript.Stops.{script_most}
+use Rattle.plant_client.specs.plant_play.WholeScripts.{Around, IsWhole, ScriptStops, around}
+use Rattle.plant_client.specs.declared.requests.Demand.TheVariants.{One}
+use Rattle.plant_client.specs.declared.tally.Tally.{Tally}
+use Rattle.plant_client.specs.Bulk.{IsTallied}
+use Rattle.plant_client.specs.TallyText.{tally_text}
 use Rattle.blind_play.specs.WholeScripts as blind
 use Rattle.pce_tool.specs.declared.status.Status.{Status}
 use Rattle.pce_tool.specs.declared.status.Status.TheVariants as status
 use Rattle.network_files.specs.Settings.{HasNetwork, settings_max}
 use Rattle.pce_tool.specs.Worlds.{World, HasInput, HasRisen, WroteNothing, input_name}
-use Rattle.plant_bulk.specs.plant_client.declared.question.Question.{Question}
-use Rattle.plant_bulk.specs.plant_client.Asking.{AskStops, Asks}
-use Rattle.plant_bulk.specs.plant_client.Telling.{told_text}
+use Rattle.plant_client.specs.declared.question.Question.{Question}
+use Rattle.plant_client.specs.Asking.{AskStops, Asks}
+use Rattle.plant_client.specs.Telling.{told_text}
 use Rattle.pce_tool.specs.declared.route.Route.{Route}
 use Rattle.pce_tool.specs.Parts.{IsFileStatus}
 use Rattle.pce_tool.specs.Run.{Ends}

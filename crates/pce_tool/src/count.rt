@@ -1,10 +1,10 @@
 //! The word of `bulk`: how many requests.
 ghost use Rattle.std.specs.Prelude.{◌≡◌, ◌≤◌, IfSome};
-ghost use Rattle.plant_bulk.specs.Requests.{requests_most};
+ghost use Rattle.plant_client.specs.Requests.{requests_most};
 ghost use Rattle.pce_tool.specs.Tasks.{count_in};
 
 use dom_base::read_number;
-use plant_bulk::REQUESTS_MAX;
+use plant_client::REQUESTS_MAX;
 
 /// How many requests a word asks for: decimal digits without a leading zero, and not too many.
 pub(crate) fn count_of(word: &str) -> Option<u16>

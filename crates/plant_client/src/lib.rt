@@ -1,13 +1,21 @@
-//! A client that asks a network for paths, and what it is told.
+//! A client that asks a network for paths, and what it is told; and one that asks a large network many, and what they are answered in all.
 #![tactic(auto)]
 
 mod asking;
+mod bulk;
 mod hearing;
 mod question;
+mod requests;
+mod tally;
+mod tally_text;
 mod telling;
 
 pub use asking::{ask, begin, exchange};
+pub use bulk::{REQUESTS_MAX, play};
 pub use hearing::{Heard, hear};
 pub use plant_play::{Player, SCRIPT_MAX, Stop, play_script};
 pub use question::Question;
+pub use requests::Demand;
+pub use tally::Tally;
+pub use tally_text::tell_tally;
 pub use telling::tell;

@@ -1,5 +1,5 @@
 //! What a client is told of messages that no command of the program is answered with.
-use plant_bulk::tell_path as tell;
+use plant_client::tell;
 use std::test::Fail;
 
 #[test]

@@ -1,16 +1,16 @@
 //! What the answers to so many requests come to, where they ask for no bandwidth and where they ask for some.
-use plant_bulk::{Demand, play, tell};
+use plant_client::{Demand, play, tell_tally};
 use std::alloc::Global;
 use std::test::Fail;
 
 fn free(alloc: Global) -> Result<Vec<u8>, Fail> {
     let tally = play(alloc, Demand::Zero, 100)?;
-    Ok(tell(alloc, 100, tally)?)
+    Ok(tell_tally(alloc, 100, tally)?)
 }
 
 fn barred(alloc: Global) -> Result<Vec<u8>, Fail> {
     let tally = play(alloc, Demand::One, 2)?;
-    Ok(tell(alloc, 2, tally)?)
+    Ok(tell_tally(alloc, 2, tally)?)
 }
 
 #[test]

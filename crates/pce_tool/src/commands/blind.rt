@@ -1,6 +1,6 @@
 //! `blind`: the lines of a script, played on a network without topologies.
 ghost use Rattle.std.specs.Prelude.{◌≡◌, ◌≤◌, length};
-ghost use Rattle.plant_bulk.specs.plant_play.transcript.Stops.{script_most};
+ghost use Rattle.plant_client.specs.plant_play.transcript.Stops.{script_most};
 ghost use Rattle.pce_tool.specs.Networks.{BlindEnds, IsBlindStatus};
 ghost use Rattle.pce_tool.specs.Worlds.{world};
 

@@ -1,8 +1,8 @@
 //! `bulk`: many requests over a large network, both drawn from a number.
 ghost use Rattle.std.specs.Prelude.{◌≡◌, ◌≤◌, IfOk};
-ghost use Rattle.plant_bulk.specs.declared.tally.Tally.{Tally};
-ghost use Rattle.plant_bulk.specs.Requests.{requests_most};
-ghost use Rattle.plant_bulk.specs.Telling.{tally_text};
+ghost use Rattle.plant_client.specs.declared.tally.Tally.{Tally};
+ghost use Rattle.plant_client.specs.Requests.{requests_most};
+ghost use Rattle.plant_client.specs.TallyText.{tally_text};
 ghost use Rattle.pce_tool.specs.Networks.{BulkEnds, IsCounted};
 ghost use Rattle.pce_tool.specs.Worlds.{world};
 
@@ -10,7 +10,7 @@ use crate::output::finish;
 use crate::status::Status;
 use dom_base::NoMemory;
 use dom_edge::{Sink, Source, Store};
-use plant_bulk::{Demand, play, tell};
+use plant_client::{Demand, play, tell_tally};
 use std::alloc::Global;
 
 // What the answers come to, as a text.
@@ -19,7 +19,7 @@ fn counted(alloc: Global, count: u16) -> Result<Vec<u8>, NoMemory>
     ensures { IfOk result (λ text. (tally : Tally) × IsCounted count tally × (text.items ≡ tally_text count tally)) }
 {
     let tally = play(alloc, Demand::One, count)?;
-    tell(alloc, count, tally)
+    tell_tally(alloc, count, tally)
 }
 
 /// Draws a network and so many requests, puts them, and writes what the answers come to. No file and no input is read.

@@ -1,8 +1,8 @@
 //! `path`: a client asks a network for a path.
 ghost use Rattle.std.specs.Prelude.{◌≡◌, ◌≤◌, ℕ, List, length, true, IfErr, IfOk, OnOk};
-ghost use Rattle.plant_bulk.specs.plant_client.Asking.{Asks};
-ghost use Rattle.plant_bulk.specs.plant_client.Questions.{sequence_most};
-ghost use Rattle.plant_bulk.specs.plant_client.Telling.{told_text};
+ghost use Rattle.plant_client.specs.Asking.{Asks};
+ghost use Rattle.plant_client.specs.Questions.{sequence_most};
+ghost use Rattle.plant_client.specs.Telling.{told_text};
 ghost use Rattle.plant_text.specs.Networks.{with_path};
 ghost use Rattle.plant_text.specs.Settings.{is_element};
 ghost use Rattle.pce_tool.specs.Networks.{IsNoClientStatus, IsStopStatus, PathEnds};
@@ -15,7 +15,7 @@ use crate::route::Route;
 use crate::status::Status;
 use dom_base::As;
 use dom_edge::{Sink, Source, Store};
-use plant_bulk::{Question, ask, tell_path as tell};
+use plant_client::{Question, ask, tell};
 use plant_text::{NetError, Network};
 use std::alloc::Global;
 

@@ -1,15 +1,15 @@
 //! `play`: the lines of a script, played on a network.
 ghost use Rattle.std.specs.Prelude.{◌≡◌, ◌≤◌, IfErr, IfOk, length};
 ghost use Rattle.pce_tool.specs.Networks.{HasScript, IsPlayStatus, IsScriptStatus, PlayEnds, status_of};
-ghost use Rattle.plant_bulk.specs.plant_play.transcript.Stops.{script_most};
-ghost use Rattle.plant_bulk.specs.plant_play.WholeScripts.{around};
+ghost use Rattle.plant_client.specs.plant_play.transcript.Stops.{script_most};
+ghost use Rattle.plant_client.specs.plant_play.WholeScripts.{around};
 ghost use Rattle.pce_tool.specs.Worlds.{world};
 
 use crate::files::load_network;
 use crate::status::Status;
 use dom_base::Text;
 use dom_edge::{ReadError, Sink, Source, Store, read_all};
-use plant_bulk::{SCRIPT_MAX, Stop, play_script};
+use plant_client::{SCRIPT_MAX, Stop, play_script};
 use plant_text::Network;
 use std::alloc::Global;
 

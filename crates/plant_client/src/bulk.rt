@@ -4,16 +4,18 @@ ghost use Rattle.dom_edge.specs.Stores.{file_named};
 ghost use Rattle.drawn_network.specs.Files.{AreFiles, links_draws};
 ghost use Rattle.drawn_network.specs.Settings.{settings};
 ghost use Rattle.plant_client.specs.Asking.{Begins, Exchanges};
-ghost use Rattle.plant_client.specs.plant_play.Playing.{played_network};
-ghost use Rattle.plant_bulk.specs.Playing.{AreTallied, IsTallied, client, network};
-ghost use Rattle.plant_bulk.specs.Requests.{question, questions, requests_most};
+ghost use Rattle.plant_play.specs.Playing.{played_network};
+ghost use Rattle.plant_client.specs.Bulk.{AreTallied, IsTallied, client, network};
+ghost use Rattle.plant_client.specs.Requests.{question, questions, requests_most};
 
+use crate::asking::{begin, exchange};
+use crate::hearing::hear;
 use crate::requests::{Demand, draw_question};
 use crate::tally::Tally;
 use dom_base::{As, Bytes, List, NoMemory, Text};
 use dom_edge::{MemoryStore, Store};
 use drawn_network::{Draws, draw_files, settings};
-use plant_client::{Player, Stop, begin, exchange, hear};
+use plant_play::{Player, Stop};
 use plant_text::{NetError, Network};
 use std::alloc::Global;
 

@@ -4,7 +4,7 @@ use Rattle.std.specs.List.{filter_map}
 use Rattle.plant_client.specs.declared.hearing.Heard.{Heard}
 use Rattle.plant_client.specs.declared.hearing.Heard.TheVariants as heard
 use Rattle.plant_client.specs.Hearing.{heard_in}
-use Rattle.plant_bulk.specs.declared.tally.Tally.{Tally}
+use Rattle.plant_client.specs.declared.tally.Tally.{Tally}
 
 -- the cost of the path that an answer has
 abbrev pub cost_in : Heard → Option ℕ

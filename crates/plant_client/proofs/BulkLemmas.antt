@@ -6,18 +6,18 @@ use Rattle.std.specs.Result.{IfOk}
 use Rattle.dom_base.specs.declared.names.NoMemory.{NoMemory}
 use Rattle.dom_edge.specs.Stores.{Files, file_named}
 use Rattle.drawn_network.specs.Files.{AreFiles}
-use Rattle.plant_client.specs.plant_play.Playing.{PlayedNetwork}
-use Rattle.plant_client.specs.plant_play.Turns.{Turn}
+use Rattle.plant_play.specs.Playing.{PlayedNetwork}
+use Rattle.plant_play.specs.Turns.{Turn}
 use Rattle.plant_client.specs.declared.hearing.Heard.{Heard}
 use Rattle.plant_client.specs.declared.question.Question.{Question}
 use Rattle.plant_client.specs.Asking.{Begins, Exchanges}
 use Rattle.plant_client.specs.Hearing.{heard_in}
-use Rattle.plant_bulk.specs.declared.requests.Demand.{Demand}
-use Rattle.plant_bulk.specs.declared.tally.Tally.{Tally}
-use Rattle.plant_bulk.specs.Playing.{AreTallied, AsksAll, IsTallied, client, network, turns_of}
-use Rattle.plant_bulk.specs.Requests.{question, questions}
-use Rattle.plant_bulk.specs.Tallies.{tally_of, with_heard}
-use Rattle.plant_bulk.proofs.TallyLemmas.{tally_more}
+use Rattle.plant_client.specs.declared.requests.Demand.{Demand}
+use Rattle.plant_client.specs.declared.tally.Tally.{Tally}
+use Rattle.plant_client.specs.Bulk.{AreTallied, AsksAll, IsTallied, client, network, turns_of}
+use Rattle.plant_client.specs.Requests.{question, questions}
+use Rattle.plant_client.specs.Tallies.{tally_of, with_heard}
+use Rattle.plant_client.proofs.TallyLemmas.{tally_more}
 
 -- the same question from the same stage
 moved : (files : Option Files) (q : Question) (old mid new : PlayedNetwork) (came : List ℕ) → mid ≡ old → (x : Exchanges files client q mid came new) →

@@ -1,9 +1,9 @@
 use Rattle.std.proofs.Common.{◌≡◌, ◌+◌, ◌*◌}
-use Rattle.plant_client.specs.plant_play.Playing.{played_network}
+use Rattle.plant_play.specs.Playing.{played_network}
 use Rattle.drawn_network.specs.Files.{links_draws}
-use Rattle.plant_bulk.specs.Playing.{AreTallied}
-use Rattle.plant_bulk.specs.Requests.{questions}
-use Rattle.plant_bulk.proofs.playing.ask_all.Given as goal
+use Rattle.plant_client.specs.Bulk.{AreTallied}
+use Rattle.plant_client.specs.Requests.{questions}
+use Rattle.plant_client.proofs.bulk.ask_all.Given as goal
 
 abbrev pub invariant-loop-request : goal.invariant-loop-request
 invariant-loop-request g l = record {

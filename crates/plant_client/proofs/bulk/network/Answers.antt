@@ -1,8 +1,8 @@
 use Rattle.std.proofs.Common.{◌≡◌, ◌∙◌, false, true, Err, ap, subst}
 use Rattle.plant_text.specs.declared.settings.NetworkParts.{NetworkParts}
 use Rattle.plant_text.specs.Settings.{is_element}
-use Rattle.plant_bulk.specs.Playing.{first_domain}
-use Rattle.plant_bulk.proofs.playing.network.Goals as goal
+use Rattle.plant_client.specs.Bulk.{first_domain}
+use Rattle.plant_client.proofs.bulk.network.Goals as goal
 
 pub unreachable-requires : goal.unreachable-requires
 unreachable-requires c =

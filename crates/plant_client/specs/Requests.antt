@@ -3,8 +3,8 @@ use Rattle.std.specs.Prelude.{ℕ, ◌+◌, List, Some, map}
 use Rattle.std.specs.List.{range_with_len}
 use Rattle.plant_client.specs.declared.question.Question.{Question}
 use Rattle.drawn_network.specs.Requests.{ends_at, sequence}
-use Rattle.plant_bulk.specs.declared.requests.Demand.{Demand}
-use Rattle.plant_bulk.specs.declared.requests.Demand.TheVariants as demand
+use Rattle.plant_client.specs.declared.requests.Demand.{Demand}
+use Rattle.plant_client.specs.declared.requests.Demand.TheVariants as demand
 
 -- The word of a bandwidth is of single precision (RFC 5440, 7.7): 1 octet a second, or 0.
 abbrev pub word_of : Demand → ℕ

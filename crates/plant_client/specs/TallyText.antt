@@ -1,6 +1,6 @@
 -- The line that tells what the answers come to.
 use Rattle.std.specs.Prelude.{ℕ, List, [], ◌∷◌, ◌++◌, codes, decimal}
-use Rattle.plant_bulk.specs.declared.tally.Tally.{Tally}
+use Rattle.plant_client.specs.declared.tally.Tally.{Tally}
 
 -- `bulk N paths P none M sum S max X`
 abbrev pub tally_text : ℕ → Tally → List ℕ

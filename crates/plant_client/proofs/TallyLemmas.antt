@@ -7,8 +7,8 @@ use Rattle.std.proofs.lemmas.List.Sums.{sum_by-append}
 use Rattle.plant_client.specs.declared.hearing.Heard.{Heard}
 use Rattle.plant_client.specs.declared.hearing.Heard.TheVariants as heard
 use Rattle.plant_client.specs.Hearing.{heard_in}
-use Rattle.plant_bulk.specs.declared.tally.Tally.{Tally}
-use Rattle.plant_bulk.specs.Tallies.{cost_in, costs_in, greatest, is_no_path, tally_of, with_heard}
+use Rattle.plant_client.specs.declared.tally.Tally.{Tally}
+use Rattle.plant_client.specs.Tallies.{cost_in, costs_in, greatest, is_no_path, tally_of, with_heard}
 
 sum_more : (cs : List ℕ) (c : ℕ) → sum (cs ++ c ∷ []) ≡ sum cs + c
 sum_more cs c = let both : sum (cs ++ c ∷ []) ≡ sum cs + (0 + c) = sum_by-append (λ (x : ℕ). x) cs (c ∷ []) in omega (arith, both)

@@ -1,9 +1,9 @@
 //! What the answers to many requests come to.
 ghost use Rattle.std.specs.Prelude.{◌≡◌, ◌+◌, [], IfOk};
-ghost use Rattle.plant_bulk.specs.Tallies.{tally_of, with_heard};
+ghost use Rattle.plant_client.specs.Tallies.{tally_of, with_heard};
 
+use crate::hearing::Heard;
 use dom_base::NoMemory;
-use plant_client::Heard;
 
 /// How many paths were answered, how often there was none, and the sum and the greatest of the costs.
 #[derive(Clone, Copy)]

@@ -4,16 +4,16 @@ use Rattle.dom_base.specs.declared.names.As.{As}
 use Rattle.dom_edge.specs.Stores.{Files, file_named}
 use Rattle.plant_text.specs.declared.settings.NetworkParts.{NetworkParts}
 use Rattle.plant_text.specs.Networks.{with_path}
-use Rattle.plant_client.specs.plant_play.Playing.{PlayedNetwork}
-use Rattle.plant_client.specs.plant_play.Turns.{Turn}
+use Rattle.plant_play.specs.Playing.{PlayedNetwork}
+use Rattle.plant_play.specs.Turns.{Turn}
 use Rattle.plant_client.specs.declared.question.Question.{Question}
 use Rattle.plant_client.specs.Asking.{Begins, Exchanges}
 use Rattle.drawn_network.specs.Files.{AreFiles}
 use Rattle.drawn_network.specs.Settings.{settings}
-use Rattle.plant_bulk.specs.declared.requests.Demand.{Demand}
-use Rattle.plant_bulk.specs.declared.tally.Tally.{Tally}
-use Rattle.plant_bulk.specs.Requests.{questions}
-use Rattle.plant_bulk.specs.Tallies.{tally_of}
+use Rattle.plant_client.specs.declared.requests.Demand.{Demand}
+use Rattle.plant_client.specs.declared.tally.Tally.{Tally}
+use Rattle.plant_client.specs.Requests.{questions}
+use Rattle.plant_client.specs.Tallies.{tally_of}
 
 abbrev pub first_domain : As
 first_domain = record { 0 = 1 }

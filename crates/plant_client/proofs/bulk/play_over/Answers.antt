@@ -1,9 +1,9 @@
 use Rattle.std.proofs.Common.{Some, ap}
 use Rattle.dom_edge.specs.Memory.{StoreState}
 use Rattle.dom_edge.specs.Stores.{file_named}
-use Rattle.plant_client.specs.plant_play.Playing.{played_network}
-use Rattle.plant_bulk.proofs.PlayingLemmas.{tallied_of}
-use Rattle.plant_bulk.proofs.playing.play_over.Goals as goal
+use Rattle.plant_play.specs.Playing.{played_network}
+use Rattle.plant_client.proofs.BulkLemmas.{tallied_of}
+use Rattle.plant_client.proofs.bulk.play_over.Goals as goal
 
 pub returns : goal.returns
 returns c =

@@ -1,8 +1,8 @@
 use Rattle.std.proofs.Common.{◌∙◌, ap, arith, refl}
-use Rattle.plant_client.specs.plant_play.Playing.{played_network}
+use Rattle.plant_play.specs.Playing.{played_network}
 use Rattle.plant_client.specs.Hearing.{heard_in}
-use Rattle.plant_bulk.proofs.PlayingLemmas.{none_tallied, one_tallied_more}
-use Rattle.plant_bulk.proofs.playing.ask_all.Goals as goal
+use Rattle.plant_client.proofs.BulkLemmas.{none_tallied, one_tallied_more}
+use Rattle.plant_client.proofs.bulk.ask_all.Goals as goal
 
 pub loop-request-init : goal.loop-request-init
 loop-request-init g c = record {

@@ -1,6 +1,6 @@
 //! The line that tells what the answers come to.
 ghost use Rattle.std.specs.Prelude.{◌≡◌, ◌++◌, IfOk, OnOk, decimal};
-ghost use Rattle.plant_bulk.specs.Telling.{tally_text};
+ghost use Rattle.plant_client.specs.TallyText.{tally_text};
 
 use crate::tally::Tally;
 use dom_base::{NoMemory, write_number};
@@ -15,7 +15,7 @@ fn put(word: &[u8], number: u64, into: &mut Vec<u8>) -> Result<(), NoMemory>
 }
 
 /// `bulk N paths P none M sum S max X`, of N requests.
-pub fn tell(alloc: Global, requests: u16, tally: Tally) -> Result<Vec<u8>, NoMemory>
+pub fn tell_tally(alloc: Global, requests: u16, tally: Tally) -> Result<Vec<u8>, NoMemory>
     ensures { IfOk result (λ text. text.items ≡ tally_text requests tally) }
 {
     let mut text = Vec::new(alloc);
