@@ -3,3 +3,8 @@ pub mod Loading
 pub mod Reading
 pub mod Settings
 pub mod Topologies
+pub mod Draws
+pub mod DrawnRows
+pub mod DrawnFiles
+pub mod DrawnSettings
+pub mod DrawnRequests

@@ -25,7 +25,7 @@ use Rattle.plant_client.proofs.AskingLemmas.{all_append}
 use Rattle.plant_client.proofs.QuestionLemmas.{question_few}
 use Rattle.plant_client.specs.declared.requests.Demand.{Demand}
 use Rattle.plant_client.specs.Bulk.{AsksAll, bulk_turns, client, first_domain, network, turns_of}
-use Rattle.drawn_network.specs.Settings.{settings}
+use Rattle.network_files.specs.DrawnSettings.{settings}
 use Rattle.plant_client.specs.Requests.{question, questions}
 use Rattle.pce_tool.specs.Headline.{BulksAreWorth}
 use Rattle.pce_tool.proofs.DrawnNetwork.{network_modelled}

@@ -9,7 +9,7 @@ use Rattle.plant_text.specs.declared.settings.PeerRow.{PeerRow}
 use Rattle.plant_text.specs.Settings.{is_element}
 use Rattle.client_laws.specs.script_laws.plant_model.Laws.{IsElement, IsNetwork, IsParentLink, LeadApart, LeadsOut}
 use Rattle.client_laws.proofs.script_laws.texts_in_range.ModelledNetworks.{with_client}
-use Rattle.drawn_network.specs.Settings.{element, link, settings}
+use Rattle.network_files.specs.DrawnSettings.{element, link, settings}
 use Rattle.plant_client.specs.Bulk.{first_domain, network}
 
 abbrev Differ : ElementRow → ElementRow → Type 0

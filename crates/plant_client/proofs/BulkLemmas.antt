@@ -5,7 +5,7 @@ use Rattle.std.proofs.lemmas.List.FromFn.{map-range_with_len_more}
 use Rattle.std.specs.Result.{IfOk}
 use Rattle.dom_base.specs.declared.names.NoMemory.{NoMemory}
 use Rattle.dom_edge.specs.Stores.{Files, file_named}
-use Rattle.drawn_network.specs.Files.{AreFiles}
+use Rattle.network_files.specs.DrawnFiles.{AreFiles}
 use Rattle.plant_play.specs.Playing.{PlayedNetwork}
 use Rattle.plant_play.specs.Turns.{Turn}
 use Rattle.plant_client.specs.declared.hearing.Heard.{Heard}

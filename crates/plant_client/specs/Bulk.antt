@@ -8,8 +8,8 @@ use Rattle.plant_play.specs.Playing.{PlayedNetwork}
 use Rattle.plant_play.specs.Turns.{Turn}
 use Rattle.plant_client.specs.declared.question.Question.{Question}
 use Rattle.plant_client.specs.Asking.{Begins, Exchanges}
-use Rattle.drawn_network.specs.Files.{AreFiles}
-use Rattle.drawn_network.specs.Settings.{settings}
+use Rattle.network_files.specs.DrawnFiles.{AreFiles}
+use Rattle.network_files.specs.DrawnSettings.{settings}
 use Rattle.plant_client.specs.declared.requests.Demand.{Demand}
 use Rattle.plant_client.specs.declared.tally.Tally.{Tally}
 use Rattle.plant_client.specs.Requests.{questions}

@@ -2,7 +2,7 @@
 use Rattle.std.specs.Prelude.{ℕ, ◌+◌, List, Some, map}
 use Rattle.std.specs.List.{range_with_len}
 use Rattle.plant_client.specs.declared.question.Question.{Question}
-use Rattle.drawn_network.specs.Requests.{ends_at, sequence}
+use Rattle.network_files.specs.DrawnRequests.{ends_at, sequence}
 use Rattle.plant_client.specs.declared.requests.Demand.{Demand}
 use Rattle.plant_client.specs.declared.requests.Demand.TheVariants as demand
 

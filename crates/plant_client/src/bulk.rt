@@ -1,8 +1,8 @@
 //! The requests are put to the network, one behind the other.
 ghost use Rattle.std.specs.Prelude.{◌≡◌, ◌≤◌, ◌<◌, ◌+◌, ◌*◌, IfErr, IfOk, Some};
 ghost use Rattle.dom_edge.specs.Stores.{file_named};
-ghost use Rattle.drawn_network.specs.Files.{AreFiles, links_draws};
-ghost use Rattle.drawn_network.specs.Settings.{settings};
+ghost use Rattle.network_files.specs.DrawnFiles.{AreFiles, links_draws};
+ghost use Rattle.network_files.specs.DrawnSettings.{settings};
 ghost use Rattle.plant_client.specs.Asking.{Begins, Exchanges};
 ghost use Rattle.plant_play.specs.Playing.{played_network};
 ghost use Rattle.plant_client.specs.Bulk.{AreTallied, IsTallied, client, network};
@@ -14,7 +14,7 @@ use crate::requests::{Demand, draw_question};
 use crate::tally::Tally;
 use dom_base::{As, Bytes, List, NoMemory, Text};
 use dom_edge::{MemoryStore, Store};
-use drawn_network::{Draws, draw_files, settings};
+use network_files::{Draws, draw_files, settings};
 use plant_play::{Player, Stop};
 use plant_text::{NetError, Network};
 use std::alloc::Global;

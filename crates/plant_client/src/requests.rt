@@ -1,11 +1,11 @@
 //! What is asked for.
 ghost use Rattle.std.specs.Prelude.{◌≡◌, ◌≤◌, ◌<◌, ◌+◌, ◌*◌, length, IfOk, OnOk};
-ghost use Rattle.drawn_network.specs.Files.{links_draws};
+ghost use Rattle.network_files.specs.DrawnFiles.{links_draws};
 ghost use Rattle.plant_client.specs.Requests.{question, requests_most, word_of};
 
 use crate::question::Question;
 use dom_base::NoMemory;
-use drawn_network::{Draws, draw_ends, sequence};
+use network_files::{Draws, draw_ends, sequence};
 use std::alloc::Global;
 
 /// The bandwidth that each request asks for, in octets a second.

@@ -1,6 +1,6 @@
 use Rattle.std.proofs.Common.{◌≡◌, ◌+◌, ◌*◌}
 use Rattle.plant_play.specs.Playing.{played_network}
-use Rattle.drawn_network.specs.Files.{links_draws}
+use Rattle.network_files.specs.DrawnFiles.{links_draws}
 use Rattle.plant_client.specs.Bulk.{AreTallied}
 use Rattle.plant_client.specs.Requests.{questions}
 use Rattle.plant_client.proofs.bulk.ask_all.Given as goal

@@ -1,4 +1,0 @@
-pub mod DrawLemmas
-pub mod RowLemmas
-pub mod FileLemmas
-pub mod SettingsLemmas

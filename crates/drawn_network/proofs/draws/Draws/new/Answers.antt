@@ -1,5 +1,0 @@
-use Rattle.drawn_network.proofs.DrawLemmas.{none_drawn}
-use Rattle.drawn_network.proofs.draws.Draws.new.Goals as goal
-
-pub invariant_of-result : goal.invariant_of-result
-invariant_of-result c = none_drawn

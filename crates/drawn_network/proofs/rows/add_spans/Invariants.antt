@@ -1,7 +1,0 @@
-use Rattle.std.proofs.Common.{◌≡◌, ◌+◌, ◌++◌, ℕ, map}
-use Rattle.std.specs.List.{filter, range_with_len}
-use Rattle.drawn_network.specs.Rows.{are_joined, span}
-use Rattle.drawn_network.proofs.rows.add_spans.Given as goal
-
-abbrev pub invariant-loop-from : goal.invariant-loop-from
-invariant-loop-from l = (n : ℕ) × (1 + n ≡ l.from) × (l.into.items ≡ l.initial.into.items ++ filter (λ s. are_joined s.from s.to) (map (span l.to) (range_with_len 1 n)))

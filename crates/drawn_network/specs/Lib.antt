@@ -1,6 +1,0 @@
--- for readers
-pub mod Draws
-pub mod Rows
-pub mod Files
-pub mod Settings
-pub mod Requests
