@@ -1,5 +1,0 @@
-use Rattle.networks_settle.proofs.Bounds as Bounds
-use Rattle.networks_settle.proofs.weight_is_bounded.Goals as goal
-
-pub returns : goal.returns
-returns c = record { weighs = Bounds.weighs_at_most; light = Bounds.messages_are_light; few = Bounds.few_follow }

@@ -1,0 +1,22 @@
+-- Links stay calm, and carrying messages and solving jobs ends.
+pub mod Pairs
+pub mod Reaching
+pub mod ElementsReach
+pub mod ParentsReach
+pub mod Turns
+pub mod Calm
+pub mod CalmLinks
+pub mod Adjacencies
+pub mod CalmEvents
+pub mod Sums
+pub mod Weighing
+pub mod ElementsWeigh
+pub mod ParentsWeigh
+pub mod Standing
+pub mod Weights
+pub mod WorkLess
+pub mod WorkRuns
+pub mod Bounds
+pub mod WaysKept
+pub mod Turnings
+pub mod Following

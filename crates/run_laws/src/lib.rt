@@ -1,0 +1,7 @@
+//! What follows for every run of a network: links stay calm and work ends, requests are few where octets are, pins of one number are of one
+//! topology, outside peers are handed what is theirs, and texts give what events ask for. Laws, as the contracts of calls that do nothing.
+#![tactic(auto)]
+
+mod settling;
+
+pub use settling::{carries_break_nothing, links_are_calm, new_networks_weigh, ways_follow_sessions, weight_is_bounded, work_ends};
