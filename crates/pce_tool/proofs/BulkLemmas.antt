@@ -14,7 +14,7 @@ use Rattle.client_laws.specs.script_laws.plant_play.Scripts.{AllPlayed}
 use Rattle.client_laws.specs.script_laws.plant_play.Turns.{Turn, entries_of}
 use Rattle.client_laws.specs.script_laws.Headline.{HasIdsLeft, all_octets}
 use Rattle.client_laws.specs.script_laws.Laws.{FeedOctets, FeedsOctets}
-use Rattle.client_laws.specs.script_laws.ids_suffice.Counting.{HasNoParent}
+use Rattle.client_laws.specs.script_laws.run_laws.Counting.{HasNoParent}
 use Rattle.client_laws.proofs.script_laws.Rightly.{scripts_are_right}
 use Rattle.client_laws.proofs.Clients.{path_is_client}
 use Rattle.client_laws.proofs.Exchanging.{many_are_received}

@@ -11,7 +11,7 @@ use Rattle.client_laws.specs.script_laws.plant_model.Blind.{blind_opened, heard}
 use Rattle.client_laws.specs.script_laws.plant_model.Plant.{Entry, Plant, deeds_of}
 use Rattle.client_laws.specs.script_laws.plant_model.RealWire.{wire}
 use Rattle.client_laws.specs.script_laws.plant_laws.Worlds.{DisclosedRun}
-use Rattle.client_laws.specs.script_laws.ids_suffice.Counting.{HasNoParent}
+use Rattle.client_laws.specs.script_laws.run_laws.Counting.{HasNoParent}
 use Rattle.client_laws.specs.script_laws.plant_play.Playing.{Cue, PlayedNetwork}
 use Rattle.client_laws.specs.script_laws.plant_play.Turns.{Turn, entries_of}
 use Rattle.client_laws.specs.script_laws.Disclosing.{shown_trace}

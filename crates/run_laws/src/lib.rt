@@ -2,6 +2,8 @@
 //! topology, outside peers are handed what is theirs, and texts give what events ask for. Laws, as the contracts of calls that do nothing.
 #![tactic(auto)]
 
+mod few_octets;
 mod settling;
 
+pub use few_octets::{asked_are_few, few_are_short, laws_of_few_octets, taken_are_fed};
 pub use settling::{carries_break_nothing, links_are_calm, new_networks_weigh, ways_follow_sessions, weight_is_bounded, work_ends};

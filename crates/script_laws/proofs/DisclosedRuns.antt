@@ -15,9 +15,9 @@ use Rattle.plant_play.specs.plant_model.Blind.{Discloses, blind_of, is_accepted,
 use Rattle.plant_play.specs.plant_model.Element.{Item, Ready, is_client}
 use Rattle.plant_play.specs.plant_model.Plant.{Entry, Happened, Pin, Plant, Run, SolveHappens, Steps, ask}
 use Rattle.plant_play.specs.plant_model.RealWire.{wire}
-use Rattle.ids_suffice.specs.plant_laws.Worlds.{DisclosedRun}
-use Rattle.ids_suffice.proofs.plant_laws.Least.EntriesRise.{entries_rise}
-use Rattle.ids_suffice.proofs.plant_laws.Runs.Sound.{Sound, run_sound}
+use Rattle.run_laws.specs.plant_laws.Worlds.{DisclosedRun}
+use Rattle.run_laws.proofs.plant_laws.Least.EntriesRise.{entries_rise}
+use Rattle.run_laws.proofs.plant_laws.Runs.Sound.{Sound, run_sound}
 use Rattle.script_laws.proofs.TableExists.{table_exists}
 
 module _ (n : NetworkParts) (s : Plant) (sound : Sound n s) where

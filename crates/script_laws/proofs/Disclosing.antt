@@ -25,11 +25,11 @@ use Rattle.plant_play.specs.plant_model.Events.{Answered}
 use Rattle.plant_play.specs.plant_model.Plant.{Entry, Happened, Happens, Pin, Plant, PlantDeed, Run, SolveHappens, ask}
 use Rattle.plant_play.specs.plant_model.RealWire.{wire}
 use Rattle.plant_play.specs.plant_model.State.{said}
-use Rattle.ids_suffice.specs.plant_laws.Solves.{ElementTells}
-use Rattle.ids_suffice.specs.plant_laws.Worlds.{DisclosedRun}
-use Rattle.ids_suffice.proofs.plant_laws.Blind.SaysBlind.{as_run}
-use Rattle.ids_suffice.proofs.plant_laws.Least.Solved.{solves_tell}
-use Rattle.ids_suffice.proofs.plant_laws.Runs.Sound.{run_sound}
+use Rattle.run_laws.specs.plant_laws.Solves.{ElementTells}
+use Rattle.run_laws.specs.plant_laws.Worlds.{DisclosedRun}
+use Rattle.run_laws.proofs.plant_laws.Blind.SaysBlind.{as_run}
+use Rattle.run_laws.proofs.plant_laws.Least.Solved.{solves_tell}
+use Rattle.run_laws.proofs.plant_laws.Runs.Sound.{run_sound}
 use Rattle.plant_play.specs.declared.showing.Modes.{Modes}
 use Rattle.plant_play.specs.Playing.{Cue, IsNewNetwork, Plays, PlaysLine, PlayedNetwork, modes_after}
 use Rattle.plant_play.specs.Scripts.{AllPlayed}

@@ -13,7 +13,7 @@ use Rattle.plant_play.specs.plant_model.Blind.{is_accepted}
 use Rattle.plant_play.specs.plant_model.Events.{Answered}
 use Rattle.plant_play.specs.plant_model.Plant.{Entry, Plant}
 use Rattle.plant_play.specs.plant_model.Wire.{Bytes}
-use Rattle.ids_suffice.specs.Counting.{fed_by, fed_bytes}
+use Rattle.run_laws.specs.Counting.{fed_by, fed_bytes}
 use Rattle.plant_play.specs.declared.going.Until.{Until}
 use Rattle.plant_play.specs.declared.going.Until.TheVariants.{Settled, Finished}
 use Rattle.plant_play.specs.declared.showing.Modes.{Modes}

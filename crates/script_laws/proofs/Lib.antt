@@ -8,5 +8,5 @@ mod TableExists
 pub mod DisclosedRuns
 pub mod Disclosing
 -- handed on from below
-pub use Rattle.ids_suffice.proofs.plant_laws
+pub use Rattle.run_laws.proofs.plant_laws
 pub use Rattle.texts_in_range.proofs as texts_in_range

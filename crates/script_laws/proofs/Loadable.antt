@@ -3,8 +3,8 @@ use Rattle.std.proofs.Common.{List}
 use Rattle.plant_text.specs.declared.settings.NetworkParts.{NetworkParts}
 use Rattle.plant_play.specs.plant_model.Plant.{Entry, Plant, Run}
 use Rattle.plant_play.specs.plant_model.RealWire.{wire}
-use Rattle.ids_suffice.specs.plant_laws.Topologies.{IsDomain}
-use Rattle.ids_suffice.proofs.plant_laws.Runs.Topologies.{pins_are_domains}
+use Rattle.run_laws.specs.plant_laws.Topologies.{IsDomain}
+use Rattle.run_laws.proofs.plant_laws.Runs.Topologies.{pins_are_domains}
 use Rattle.script_laws.specs.Laws.{AreLoadable}
 
 pub runs_are_loadable : (n : NetworkParts) (entries : List Entry) (s : Plant) → Run wire n entries s → AreLoadable s

@@ -5,12 +5,12 @@ use Rattle.plant_play.proofs.plant_model.WireLaws.{wire_is_codec}
 use Rattle.plant_play.specs.plant_model.Laws.{IsNetwork}
 use Rattle.plant_play.specs.plant_model.Plant.{Entry, Plant, Run}
 use Rattle.plant_play.specs.plant_model.RealWire.{wire}
-use Rattle.ids_suffice.specs.plant_laws.Headline.{LeastAnswersIn, NoneAnswersIn}
-use Rattle.ids_suffice.proofs.plant_laws.WrittenForm.EveryWritten.{of_written_net_ids}
-use Rattle.ids_suffice.proofs.plant_laws.Least.OfRun as OfRun
-use Rattle.ids_suffice.proofs.plant_laws.Blind.SaysBlind.{says_as_blind}
-use Rattle.ids_suffice.specs.Counting.{HasNoParent}
-use Rattle.ids_suffice.proofs.FewOctets.{few_are_short}
+use Rattle.run_laws.specs.plant_laws.Headline.{LeastAnswersIn, NoneAnswersIn}
+use Rattle.run_laws.proofs.plant_laws.WrittenForm.EveryWritten.{of_written_net_ids}
+use Rattle.run_laws.proofs.plant_laws.Least.OfRun as OfRun
+use Rattle.run_laws.proofs.plant_laws.Blind.SaysBlind.{says_as_blind}
+use Rattle.run_laws.specs.Counting.{HasNoParent}
+use Rattle.run_laws.proofs.OctetLemmas.FewOctets.{few_are_short}
 use Rattle.plant_play.specs.Playing.{Cue, IsNewNetwork, PlayedNetwork}
 use Rattle.plant_play.specs.Scripts.{AllPlayed}
 use Rattle.plant_play.specs.Turns.{Turn, entries_of}

@@ -6,7 +6,7 @@ use Rattle.plant_play.specs.plant_model.declared.event.BlindEvent.{BlindEvent}
 use Rattle.plant_play.specs.plant_model.Blind.{blind_of, is_accepted, with_event}
 use Rattle.plant_play.specs.plant_model.Plant.{Entry, Plant, Run}
 use Rattle.plant_play.specs.plant_model.RealWire.{wire}
-use Rattle.ids_suffice.specs.plant_laws.Worlds.{DisclosedRun}
+use Rattle.run_laws.specs.plant_laws.Worlds.{DisclosedRun}
 use Rattle.plant_play.specs.Playing.{Cue, IsNewNetwork, PlayedNetwork}
 use Rattle.plant_play.specs.Scripts.{AllPlayed}
 use Rattle.plant_play.specs.Turns.{Turn, entries_of}

@@ -8,10 +8,10 @@ use Rattle.plant_play.specs.plant_model.Blind.{BlindSays, BlindState, heard}
 use Rattle.plant_play.specs.plant_model.Laws.{IsNetwork}
 use Rattle.plant_play.specs.plant_model.Plant.{Entry, Plant, Run, deeds_of}
 use Rattle.plant_play.specs.plant_model.RealWire.{wire}
-use Rattle.ids_suffice.specs.plant_laws.About.{IsShort}
-use Rattle.ids_suffice.specs.plant_laws.Headline.{LeastAnswersIn, NoneAnswersIn}
-use Rattle.ids_suffice.specs.plant_laws.Worlds.{DisclosedRun}
-use Rattle.ids_suffice.specs.Counting.{HasNoParent}
+use Rattle.run_laws.specs.plant_laws.About.{IsShort}
+use Rattle.run_laws.specs.plant_laws.Headline.{LeastAnswersIn, NoneAnswersIn}
+use Rattle.run_laws.specs.plant_laws.Worlds.{DisclosedRun}
+use Rattle.run_laws.specs.Counting.{HasNoParent}
 use Rattle.plant_play.specs.Playing.{Cue, IsNewNetwork, PlayedNetwork}
 use Rattle.plant_play.specs.Scripts.{AllPlayed}
 use Rattle.plant_play.specs.Turns.{Turn, entries_of}

@@ -3,8 +3,8 @@ pub mod Laws
 pub mod Headline
 pub mod Disclosing
 -- handed on from below
-pub use Rattle.ids_suffice.specs as ids_suffice
-pub use Rattle.ids_suffice.specs.plant_laws
+pub use Rattle.run_laws.specs as run_laws
+pub use Rattle.run_laws.specs.plant_laws
 pub use Rattle.plant_play.specs.plant_model
 pub use Rattle.plant_play.specs as plant_play
 pub use Rattle.texts_in_range.specs as texts_in_range

@@ -13,8 +13,8 @@ use Rattle.plant_laws.proofs.WrittenForm.EveryWritten.{of_written_net, of_writte
 use Rattle.plant_laws.proofs.Keys.Expands as Expands
 use Rattle.plant_laws.proofs.Least.OfRun as OfRun
 use Rattle.plant_laws.proofs.Settled.UnderWayLaw as UnderWayLaw
-use Rattle.ids_suffice.proofs.FewOctets.{of_few_octets}
-use Rattle.ids_suffice.proofs.laws_of_few_octets.Goals as goal
+use Rattle.run_laws.proofs.OctetLemmas.FewOctets.{of_few_octets}
+use Rattle.run_laws.proofs.few_octets.laws_of_few_octets.Goals as goal
 
 pub returns : goal.returns
 returns c = record {

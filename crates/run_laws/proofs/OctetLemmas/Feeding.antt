@@ -30,8 +30,8 @@ use Rattle.plant_laws.specs.plant_model.Outside.{heeded}
 use Rattle.plant_laws.specs.plant_model.Events as events
 use Rattle.plant_laws.specs.plant_model.Plant.{Pin, Segment, PlantDeed}
 use Rattle.plant_laws.proofs.Runs.Shape.{has_pass, shape}
-use Rattle.ids_suffice.specs.Counting.{heard}
-use Rattle.ids_suffice.proofs.Putting.{Core}
+use Rattle.run_laws.specs.Counting.{heard}
+use Rattle.run_laws.proofs.OctetLemmas.Putting.{Core}
 
 abbrev Move : Type 0
 Move = Going Pin Segment

@@ -26,10 +26,10 @@ use Rattle.plant_laws.specs.plant_model.Deeds.{Going, element_of, on_connection,
 use Rattle.plant_laws.specs.plant_model.Events as events
 use Rattle.plant_laws.specs.plant_model.Events.{split_all, bad_item, fed, drained, is_down}
 use Rattle.plant_laws.specs.plant_model.Plant.{Pin, Segment, first_pin, Plant, Happened, Entry, Run, deeds_of, is_full, Happens}
-use Rattle.ids_suffice.specs.Counting.{fed_by, fed_bytes, heard}
-use Rattle.ids_suffice.proofs.Below.{below, below_le, below_none, below_more, below_less, below_grows}
-use Rattle.ids_suffice.proofs.Putting.{Core}
-use Rattle.ids_suffice.proofs.Feeding.{some_count, unread, unread_at, heard_append, Under, set_kept, access_kept, puts_kept, fall_fine, outside_input_fine, break_adjacency_fine, inner_input_fine, tick_outside_fine, tick_adjacencies_fine, begin_adjacencies_fine}
+use Rattle.run_laws.specs.Counting.{fed_by, fed_bytes, heard}
+use Rattle.run_laws.proofs.OctetLemmas.Below.{below, below_le, below_none, below_more, below_less, below_grows}
+use Rattle.run_laws.proofs.OctetLemmas.Putting.{Core}
+use Rattle.run_laws.proofs.OctetLemmas.Feeding.{some_count, unread, unread_at, heard_append, Under, set_kept, access_kept, puts_kept, fall_fine, outside_input_fine, break_adjacency_fine, inner_input_fine, tick_outside_fine, tick_adjacencies_fine, begin_adjacencies_fine}
 
 -- ---- sums that go on
 

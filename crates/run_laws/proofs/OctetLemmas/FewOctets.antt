@@ -7,10 +7,10 @@ use Rattle.plant_laws.specs.plant_model.Plant.{Plant, Entry, deeds_of}
 use Rattle.plant_laws.proofs.plant_model.WireLaws.{wire_is_codec}
 use Rattle.plant_laws.specs.Runs.{OverPcep}
 use Rattle.plant_laws.specs.Transcript.{asks}
-use Rattle.ids_suffice.specs.Counting.{TakenAreFed, AskedAreFew, FewAreShort, OverFewOctets, fed_bytes, heard}
-use Rattle.ids_suffice.proofs.Asking as Asking
-use Rattle.ids_suffice.proofs.Fed as Fed
-use Rattle.ids_suffice.proofs.Pieces.{few_pieces}
+use Rattle.run_laws.specs.Counting.{TakenAreFed, AskedAreFew, FewAreShort, OverFewOctets, fed_bytes, heard}
+use Rattle.run_laws.proofs.OctetLemmas.Asking as Asking
+use Rattle.run_laws.proofs.OctetLemmas.Fed as Fed
+use Rattle.run_laws.proofs.OctetLemmas.Pieces.{few_pieces}
 
 pub taken_are_fed : TakenAreFed
 taken_are_fed n es s run = Fed.taken_few wire wire_is_codec few_pieces n es s run

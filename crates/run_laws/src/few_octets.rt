@@ -1,7 +1,5 @@
 //! How many requests a network without a parent sends, for the octets that it is fed. Laws, as the contracts of calls that do nothing.
-#![tactic(auto)]
-
-ghost use Rattle.ids_suffice.specs.Counting.{AskedAreFew, FewAreShort, OverFewOctets, TakenAreFed};
+ghost use Rattle.run_laws.specs.Counting.{AskedAreFew, FewAreShort, OverFewOctets, TakenAreFed};
 ghost use Rattle.plant_laws.specs.Answered.{RequestsAreAnsweredOnceIn};
 ghost use Rattle.plant_laws.specs.Certified.{SolvesCertifyIn};
 ghost use Rattle.plant_laws.specs.Chains.{OneChainIn, QuietIsAnsweredIn};

@@ -46,13 +46,13 @@ use Rattle.plant_laws.proofs.Once.Opened.{puts_elements}
 use Rattle.plant_laws.proofs.Numbering.Onward.{none_lost, calm_commit}
 use Rattle.plant_laws.proofs.Runs.Reading as Reading
 use Rattle.plant_laws.proofs.WrittenForm.ElementSays.{WaysOk, ways_up}
-use Rattle.ids_suffice.specs.Counting.{HasNoParent, heard_in, heard}
-use Rattle.ids_suffice.proofs.Below.{below_none}
-use Rattle.ids_suffice.proofs.Heavy.{Queues, as_of, message_heavy, read_heavy, queue_heavy, row, grid, grid_no_more, popped_less}
-use Rattle.ids_suffice.proofs.Putting.{Core, asked_by, IsFair, AreFair, QueuesFair, set_fair, IsMeant, Passes, passes_none}
-use Rattle.ids_suffice.proofs.Passing as passing
-use Rattle.ids_suffice.proofs.Passing.{ReadsAsks, message_few}
-use Rattle.ids_suffice.proofs.NoChildren.{takes_none, commit_none, no_children}
+use Rattle.run_laws.specs.Counting.{HasNoParent, heard_in, heard}
+use Rattle.run_laws.proofs.OctetLemmas.Below.{below_none}
+use Rattle.run_laws.proofs.OctetLemmas.Heavy.{Queues, as_of, message_heavy, read_heavy, queue_heavy, row, grid, grid_no_more, popped_less}
+use Rattle.run_laws.proofs.OctetLemmas.Putting.{Core, asked_by, IsFair, AreFair, QueuesFair, set_fair, IsMeant, Passes, passes_none}
+use Rattle.run_laws.proofs.OctetLemmas.Passing as passing
+use Rattle.run_laws.proofs.OctetLemmas.Passing.{ReadsAsks, message_few}
+use Rattle.run_laws.proofs.OctetLemmas.NoChildren.{takes_none, commit_none, no_children}
 
 -- what a session says of itself asks for nothing
 own_quiet : (o : Own) → IsAsk (own_message o) → ⊥

@@ -36,9 +36,9 @@ use Rattle.plant_laws.proofs.Least.FromElement.{admits_path, later_sequence, rea
 use Rattle.plant_laws.proofs.WrittenForm.ElementSays.{IsId, WaysOk, WayOk, next_fits, next_some, ways_last, way_fits}
 use Rattle.plant_laws.proofs.Numbering.NumberRuns.{toward_inner}
 use Rattle.plant_laws.proofs.Numbering.Onward.{IsCalm, SendsOne, GoesTo, Of, take_of, way_peer}
-use Rattle.ids_suffice.proofs.Heavy.{checked_heavy, asked_heavy, message_heavy, read_heavy}
-use Rattle.ids_suffice.proofs.Steps.{goes, route_heavy, few_routes, alone_routes, up_steps, on_steps}
-use Rattle.ids_suffice.proofs.Putting.{asked_by, one_asked, IsFair, IsMeant, Passes, passes_none, passes_one, passes_more}
+use Rattle.run_laws.proofs.OctetLemmas.Heavy.{checked_heavy, asked_heavy, message_heavy, read_heavy}
+use Rattle.run_laws.proofs.OctetLemmas.Steps.{goes, route_heavy, few_routes, alone_routes, up_steps, on_steps}
+use Rattle.run_laws.proofs.OctetLemmas.Putting.{asked_by, one_asked, IsFair, IsMeant, Passes, passes_none, passes_one, passes_more}
 
 -- how many requests a message has that was read
 abbrev asked_in : Option Message → ℕ

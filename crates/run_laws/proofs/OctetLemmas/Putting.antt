@@ -22,7 +22,7 @@ use Rattle.plant_laws.specs.Sending.{AreAll}
 use Rattle.plant_laws.specs.Transcript.{put_into, count_asks, one_if}
 use Rattle.plant_laws.proofs.Once.Handing.{IsAsk}
 use Rattle.plant_laws.proofs.Numbering.Sends.{NoneAsks}
-use Rattle.ids_suffice.proofs.Heavy.{Queues, read_heavy, queue_heavy, heavy_append, grid, grid_more}
+use Rattle.run_laws.proofs.OctetLemmas.Heavy.{Queues, read_heavy, queue_heavy, heavy_append, grid, grid_more}
 
 abbrev pub Core : Type 0
 Core = State Pin Segment

@@ -13,8 +13,8 @@ use Rattle.plant_laws.specs.plant_model.Names.{set_pair}
 use Rattle.plant_laws.specs.plant_model.Wire.{Bytes, Codec, Checked, Admitted, Wrong}
 use Rattle.plant_laws.specs.plant_model.Taking.{sequence_or}
 use Rattle.plant_laws.proofs.Runs.Queues.{same_as_is}
-use Rattle.ids_suffice.proofs.Steps.{route_heavy}
-use Rattle.ids_suffice.proofs.Below.{below, below_le, below_more, below_less, below_grows}
+use Rattle.run_laws.proofs.OctetLemmas.Steps.{route_heavy}
+use Rattle.run_laws.proofs.OctetLemmas.Below.{below, below_le, below_more, below_less, below_grows}
 
 -- the queues between elements
 abbrev pub Queues : Type 0

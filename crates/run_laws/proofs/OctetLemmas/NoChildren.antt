@@ -31,7 +31,7 @@ use Rattle.plant_laws.specs.plant_model.BorderGraph.{Found}
 use Rattle.plant_laws.specs.plant_model.Parent.{Parent, Family, ParentTaken, AskingRow, each, errands, ask_all, all_waits, all_up, take, take_asked, take_checked, take_new, take_wish, take_path, take_reply, take_found, take_answer, take_notice, notice_steps, take_busy, take_cancel, told_busy, cancelled, take_report, take_errors, take_failure, told_error, only, waiting, commit}
 use Rattle.plant_laws.proofs.Numbering.Sends.{NoneAsks}
 use Rattle.plant_laws.proofs.Numbering.Onward.{none_append}
-use Rattle.ids_suffice.specs.Counting.{HasNoParent}
+use Rattle.run_laws.specs.Counting.{HasNoParent}
 
 pick : (b : Bool) (t u : ParentTaken) → NoneAsks t.outputs → NoneAsks u.outputs → NoneAsks (cond b t u).outputs
 pick true t u x y = x

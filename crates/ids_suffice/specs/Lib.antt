@@ -1,4 +1,0 @@
--- for readers
-pub mod Counting
--- handed on from below
-pub use Rattle.plant_laws.specs as plant_laws
