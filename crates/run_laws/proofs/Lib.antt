@@ -1,4 +1,5 @@
 pub mod SettlingLemmas
 pub mod OctetLemmas
+pub mod PinLemmas
 -- handed on from below
 pub use Rattle.plant_laws.proofs as plant_laws

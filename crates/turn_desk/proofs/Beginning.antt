@@ -17,7 +17,7 @@ use Rattle.plant_network.specs.plant_model.Plant.{Happened, Pin, Plant, Segment,
 use Rattle.plant_network.specs.plant_model.RealWire.{wire}
 use Rattle.plant_network.specs.Topologies.{Held, whole}
 use Rattle.plant_network.specs.Whole.{IsBegun, Stepped, Whole}
-use Rattle.plant_pins.specs.Histories.{PinsAreNow}
+use Rattle.run_laws.specs.PinHistories.{PinsAreNow}
 use Rattle.turn_desk.specs.Histories.{Begins, NoneIsPending}
 
 abbrev Elements : Type 0

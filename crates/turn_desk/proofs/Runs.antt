@@ -19,9 +19,9 @@ use Rattle.plant_network.specs.declared.acts.Act.TheVariants.{Do, Look, Ready, F
 use Rattle.plant_network.specs.declared.acts.Acted.{Acted}
 use Rattle.plant_network.specs.declared.acts.Acted.TheVariants.{Did, Looked, Found, Committed, Mapped}
 use Rattle.plant_network.specs.declared.acts.ActAnswer.{ActAnswer}
-use Rattle.plant_pins.specs.Histories.{Leads, PinsAreNow, Told, known_in}
-use Rattle.plant_pins.specs.Steps.{Known, KnowsPins}
-use Rattle.plant_pins.proofs.HistoryLemmas.{histories_know_pins, known_stays}
+use Rattle.run_laws.specs.PinHistories.{Leads, PinsAreNow, Told, known_in}
+use Rattle.run_laws.specs.PinSteps.{Known, KnowsPins}
+use Rattle.run_laws.proofs.PinLemmas.HistoryLemmas.{histories_know_pins, known_stays}
 use Rattle.turn_desk.specs.Histories.{known_by, told_by}
 
 -- one history behind the other

@@ -28,9 +28,9 @@ use Rattle.plant_network.specs.declared.acts.Acted.{Acted}
 use Rattle.plant_network.specs.declared.acts.Acted.TheVariants.{Did, Looked, Found, Committed}
 use Rattle.plant_network.specs.declared.acts.ActAnswer.{ActAnswer}
 use Rattle.plant_network.specs.pce_element.pce_common.declared.refusal.Refusal.{Refusal}
-use Rattle.plant_pins.specs.Histories.{PinsAreNow}
-use Rattle.plant_pins.specs.Steps.{KnowsPins}
-use Rattle.plant_pins.proofs.StepLemmas.{found_pin}
+use Rattle.run_laws.specs.PinHistories.{PinsAreNow}
+use Rattle.run_laws.specs.PinSteps.{KnowsPins}
+use Rattle.run_laws.proofs.PinLemmas.StepLemmas.{found_pin}
 use Rattle.plant_network.specs.pce_parent.declared.work.Done.{Done}
 use Rattle.plant_network.specs.pce_parent.declared.work.Done.TheVariants as done
 use Rattle.plant_network.specs.pce_parent.declared.work.Work.{Work}

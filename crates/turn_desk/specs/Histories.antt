@@ -7,7 +7,7 @@ use Rattle.plant_network.specs.Histories.{event_of}
 use Rattle.plant_network.specs.declared.acts.Act.{Act}
 use Rattle.plant_network.specs.declared.acts.ActAnswer.{ActAnswer}
 use Rattle.plant_network.specs.plant_model.Plant.{Plant}
-use Rattle.plant_pins.specs.Histories.{Told, known_in}
+use Rattle.run_laws.specs.PinHistories.{Told, known_in}
 
 -- the events of a history, the oldest first, with their answers
 abbrev pub told_by : List (Act × ActAnswer) → List Told

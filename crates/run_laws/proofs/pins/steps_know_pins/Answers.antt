@@ -1,5 +1,5 @@
-use Rattle.plant_pins.proofs.StepLemmas as steps
-use Rattle.plant_pins.proofs.steps_know_pins.Goals as goal
+use Rattle.run_laws.proofs.PinLemmas.StepLemmas as steps
+use Rattle.run_laws.proofs.pins.steps_know_pins.Goals as goal
 
 pub returns-clause-moves : goal.returns-clause-moves
 returns-clause-moves c = steps.steps_move

@@ -12,9 +12,9 @@ use Rattle.plant_laws.specs.plant_model.Names.{set_as}
 use Rattle.plant_laws.specs.plant_model.Plant.{Pin, Plant, PlantDeed, Steps}
 use Rattle.plant_laws.specs.plant_model.Wire.{Codec}
 use Rattle.plant_laws.proofs.Runs.Queues.{same_as_is}
-use Rattle.plant_pins.specs.Steps.{Known, IsKnown, KnowsPins, KnowsLoad, Moves}
-use Rattle.plant_pins.specs.Histories.{HasPin, HistoriesKnowPins, KnownStays, Leads, PinsAreNow, PinsAreOne, Told, known_after, known_in, known_now, loaded_by, or_else, with_event}
-use Rattle.plant_pins.proofs.StepLemmas.{steps_know_pins, steps_move}
+use Rattle.run_laws.specs.PinSteps.{Known, IsKnown, KnowsPins, KnowsLoad, Moves}
+use Rattle.run_laws.specs.PinHistories.{HasPin, HistoriesKnowPins, KnownStays, Leads, PinsAreNow, PinsAreOne, Told, known_after, known_in, known_now, loaded_by, or_else, with_event}
+use Rattle.run_laws.proofs.PinLemmas.StepLemmas.{steps_know_pins, steps_move}
 
 -- ---- what is known grows
 

@@ -1,8 +1,6 @@
 //! Over a history two pins of an element with one number are of one topology. Laws, as the contracts of calls that do nothing.
-#![tactic(auto)]
-
-ghost use Rattle.plant_pins.specs.Histories.{HistoriesKnowPins, KnownStays, PinsAreOne};
-ghost use Rattle.plant_pins.specs.Steps.{StepsKnowPins, StepsMove};
+ghost use Rattle.run_laws.specs.PinHistories.{HistoriesKnowPins, KnownStays, PinsAreOne};
+ghost use Rattle.run_laws.specs.PinSteps.{StepsKnowPins, StepsMove};
 
 /// In each step the number of an element's current topology rises by one with an accepted load there, and stays in every other
 /// step. Where each pin is of the topology that is known of its element and number, and so is what the step loads, each pin is so

@@ -11,7 +11,7 @@ use Rattle.plant_laws.specs.plant_model.Element.{Row}
 use Rattle.plant_laws.specs.plant_model.Events.{Answered}
 use Rattle.plant_laws.specs.plant_model.Plant.{Pin, Plant, PlantDeed, Steps}
 use Rattle.plant_laws.specs.plant_model.Wire.{Codec}
-use Rattle.plant_pins.specs.Steps.{Known, KnowsPins}
+use Rattle.run_laws.specs.PinSteps.{Known, KnowsPins}
 
 -- an event with its answer
 abbrev pub Told : Type 0

@@ -33,7 +33,7 @@ use Rattle.plant_laws.proofs.Runs.Decompose.{open_did, shut_did, feed_did, take_
 use Rattle.plant_laws.proofs.Least.Pins.{puts_current}
 use Rattle.plant_laws.proofs.Least.PinsKept.{Rows as RowsHold, Holds, take_keeps, downed_keeps, commit_keeps}
 use Rattle.plant_laws.proofs.Runs.Queues.{same_as_is}
-use Rattle.plant_pins.specs.Steps.{Known, IsKnown, KnowsPins, KnowsLoad, Moves, StepsKnowPins, StepsMove}
+use Rattle.run_laws.specs.PinSteps.{Known, IsKnown, KnowsPins, KnowsLoad, Moves, StepsKnowPins, StepsMove}
 
 -- a step that is refused moves nothing
 refused_moves : (e : Event) (why : Refused) (s : Plant) → Moves e (Err why) s s

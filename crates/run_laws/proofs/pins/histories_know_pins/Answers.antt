@@ -1,5 +1,5 @@
-use Rattle.plant_pins.proofs.HistoryLemmas as histories
-use Rattle.plant_pins.proofs.histories_know_pins.Goals as goal
+use Rattle.run_laws.proofs.PinLemmas.HistoryLemmas as histories
+use Rattle.run_laws.proofs.pins.histories_know_pins.Goals as goal
 
 pub returns-clause-know : goal.returns-clause-know
 returns-clause-know c = histories.histories_know_pins

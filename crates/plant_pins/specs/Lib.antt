@@ -1,3 +1,0 @@
--- for readers
-pub mod Steps
-pub mod Histories
