@@ -44,7 +44,7 @@ use Rattle.script_laws.proofs.plant_laws.Runs.Queues.{same_as_is}
 use Rattle.plant_client.specs.declared.question.Question.{Question}
 use Rattle.plant_client.specs.Asking.{Asks, topologies}
 use Rattle.plant_client.specs.Questions.{asked_of, question_message}
-use Rattle.peer_laws.proofs.OutletRuns.{run_fits}
+use Rattle.run_laws.proofs.PeerLemmas.OutletRuns.{run_fits}
 use Rattle.client_laws.proofs.Asking.{lines_feed, no_connection}
 use Rattle.client_laws.proofs.Opening.{Ends, IsNone, Walks, loading, tail_taken}
 use Rattle.client_laws.proofs.Resting.{asked_is_quiet}

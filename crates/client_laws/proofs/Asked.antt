@@ -27,11 +27,11 @@ use Rattle.script_laws.proofs.Rightly.{scripts_are_right}
 use Rattle.plant_client.specs.declared.question.Question.{Question}
 use Rattle.plant_client.specs.Asking.{topologies}
 use Rattle.plant_client.specs.Questions.{asked_of, open_message, opening_text, question_message, question_text}
-use Rattle.peer_laws.proofs.OutletRuns.{run_fits}
-use Rattle.peer_laws.proofs.Streams.{stream_of}
-use Rattle.peer_laws.specs.Inlets.{WasFed, streams}
-use Rattle.peer_laws.specs.Received.{framed}
-use Rattle.peer_laws.proofs.InletRuns.{asks_were_fed}
+use Rattle.run_laws.proofs.PeerLemmas.OutletRuns.{run_fits}
+use Rattle.run_laws.proofs.PeerLemmas.Streams.{stream_of}
+use Rattle.run_laws.specs.Inlets.{WasFed, streams}
+use Rattle.run_laws.specs.Received.{framed}
+use Rattle.run_laws.proofs.PeerLemmas.InletRuns.{asks_were_fed}
 use Rattle.client_laws.proofs.Asking.{lines_feed}
 use Rattle.client_laws.specs.Asked.{OneIsAsked}
 use Rattle.client_laws.proofs.Feeding.{loading}

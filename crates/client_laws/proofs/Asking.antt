@@ -34,12 +34,12 @@ use Rattle.plant_client.specs.declared.question.Question.{Question}
 use Rattle.plant_client.specs.Asking.{AreCues, load_line, question_lines, received_in, topologies}
 use Rattle.plant_client.specs.Questions.{opening_text, question_text}
 use Rattle.plant_client.specs.Telling.{told_text}
-use Rattle.peer_laws.specs.Outlets.{Opens, Outlet, Stays, bytes_of, handed_in, messages_for, outlet, turn_for, turned}
-use Rattle.peer_laws.proofs.OutletEvents.{Fits}
-use Rattle.peer_laws.proofs.Growing.{view_of}
-use Rattle.peer_laws.proofs.OutletRuns.{run_fits}
-use Rattle.peer_laws.proofs.Reading.{handed_is_read}
-use Rattle.peer_laws.proofs.Answering.{answers_are_right}
+use Rattle.run_laws.specs.Outlets.{Opens, Outlet, Stays, bytes_of, handed_in, messages_for, outlet, turn_for, turned}
+use Rattle.run_laws.proofs.PeerLemmas.OutletEvents.{Fits}
+use Rattle.run_laws.proofs.PeerLemmas.Growing.{view_of}
+use Rattle.run_laws.proofs.PeerLemmas.OutletRuns.{run_fits}
+use Rattle.run_laws.proofs.PeerLemmas.Reading.{handed_is_read}
+use Rattle.run_laws.proofs.PeerLemmas.Answering.{answers_are_right}
 use Rattle.client_laws.specs.Told.{ClientsAreTold}
 use Rattle.client_laws.proofs.Lines.{AllStay, IsPlain, IsUndrained, entries_join, one_turn, plain_stays, plain_turns, still_open, still_shut, turns_fit, view}
 use Rattle.client_laws.proofs.Telling.{stream_told}

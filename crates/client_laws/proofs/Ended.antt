@@ -60,9 +60,9 @@ use Rattle.plant_client.specs.declared.question.Question.{Question}
 use Rattle.plant_client.specs.Asking.{topologies}
 use Rattle.plant_client.specs.Questions.{asked_of, question_message}
 use Rattle.plant_client.specs.Telling.{told_text}
-use Rattle.peer_laws.specs.Outlets.{Outlet, Stays, ConnectionChange, handed_in, messages_for, outlet, outputs_of, put_for, turn_for, turned, with_put}
-use Rattle.peer_laws.proofs.Putting.{of_sent, put_is}
-use Rattle.peer_laws.specs.Received.{IsRight}
+use Rattle.run_laws.specs.Outlets.{Outlet, Stays, ConnectionChange, handed_in, messages_for, outlet, outputs_of, put_for, turn_for, turned, with_put}
+use Rattle.run_laws.proofs.PeerLemmas.Putting.{of_sent, put_is}
+use Rattle.run_laws.specs.Received.{IsRight}
 use Rattle.client_laws.specs.Asked.{AsksOnly}
 use Rattle.client_laws.specs.Ended.{AnswerIsTold, IsAnswerTo, fails, is_busy, replies}
 use Rattle.client_laws.specs.Served.{IsServed, at_once, dropped, later}

@@ -35,12 +35,12 @@ use Rattle.plant_client.specs.Asking.{AreCues, Exchanges, asking_lines, received
 use Rattle.plant_client.specs.Hearing.{heard_in}
 use Rattle.plant_client.specs.Questions.{opening_text}
 use Rattle.plant_client.specs.Bulk.{AsksAll, turns_of}
-use Rattle.peer_laws.specs.Outlets.{Drains, Outlet, Stays, bytes_of, handed_in, messages_for, outlet, turn_for, turned, with_handed}
-use Rattle.peer_laws.proofs.OutletEvents.{Fits}
-use Rattle.peer_laws.proofs.Growing.{view_of}
-use Rattle.peer_laws.proofs.OutletRuns.{run_fits}
-use Rattle.peer_laws.proofs.Answering.{answers_are_right}
-use Rattle.peer_laws.proofs.Putting.{of_sent, put_is}
+use Rattle.run_laws.specs.Outlets.{Drains, Outlet, Stays, bytes_of, handed_in, messages_for, outlet, turn_for, turned, with_handed}
+use Rattle.run_laws.proofs.PeerLemmas.OutletEvents.{Fits}
+use Rattle.run_laws.proofs.PeerLemmas.Growing.{view_of}
+use Rattle.run_laws.proofs.PeerLemmas.OutletRuns.{run_fits}
+use Rattle.run_laws.proofs.PeerLemmas.Answering.{answers_are_right}
+use Rattle.run_laws.proofs.PeerLemmas.Putting.{of_sent, put_is}
 use Rattle.client_laws.proofs.Asking as asking
 use Rattle.client_laws.proofs.Asking.{Fit, on, one_fits, plain_fits}
 use Rattle.client_laws.proofs.Lines.{IsPlain, IsUndrained, entries_join, plain_stays}

@@ -27,8 +27,8 @@ use Rattle.script_laws.specs.plant_play.Turns.{Turn, entries_of}
 use Rattle.plant_client.specs.declared.question.Question.{Question}
 use Rattle.plant_client.specs.Asking.{AreCues, load_line, question_lines}
 use Rattle.plant_client.specs.Questions.{opening_text, question_text}
-use Rattle.peer_laws.specs.Outlets.{outlet}
-use Rattle.peer_laws.specs.Inlets.{fed_to, streams, streams_with}
+use Rattle.run_laws.specs.Outlets.{outlet}
+use Rattle.run_laws.specs.Inlets.{fed_to, streams, streams_with}
 use Rattle.client_laws.proofs.Asking.{IsOpen, IsShut, accepted, all_waits, no_connection, on, opening_line, plain_open, plain_shut}
 
 -- ---- events that feed nothing

@@ -13,11 +13,11 @@ use Rattle.script_laws.specs.plant_model.Wire.{Bytes}
 use Rattle.script_laws.specs.plant_play.Turns.{Turn, entries_of}
 use Rattle.plant_client.specs.Hearing.{heard_in, in_frame, in_reading}
 use Rattle.plant_client.specs.Telling.{last_of}
-use Rattle.peer_laws.specs.Outlets.{Outlet, ConnectionChange, bytes_of, handed_in, messages_for, outlet, turn_for, turned, with_put}
-use Rattle.peer_laws.proofs.OutletEvents.{joined_append}
-use Rattle.peer_laws.proofs.Growing.{texts, texts_append}
-use Rattle.peer_laws.specs.Received.{IsStreamOf}
-use Rattle.peer_laws.proofs.Streams.{stream_of}
+use Rattle.run_laws.specs.Outlets.{Outlet, ConnectionChange, bytes_of, handed_in, messages_for, outlet, turn_for, turned, with_put}
+use Rattle.run_laws.proofs.PeerLemmas.OutletEvents.{joined_append}
+use Rattle.run_laws.proofs.PeerLemmas.Growing.{texts, texts_append}
+use Rattle.run_laws.specs.Received.{IsStreamOf}
+use Rattle.run_laws.proofs.PeerLemmas.Streams.{stream_of}
 use Rattle.client_laws.proofs.Lines.{AllStay}
 use Rattle.client_laws.specs.Received.{all_of, last_heard}
 

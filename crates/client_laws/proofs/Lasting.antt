@@ -55,7 +55,7 @@ use Rattle.script_laws.proofs.plant_laws.Runs.Moments.{opened_within, peer_is, w
 use Rattle.script_laws.proofs.plant_laws.WrittenForm.Again.{all_read}
 use Rattle.script_laws.proofs.plant_laws.WrittenForm.RequestsWritten.{requests_are_single}
 use Rattle.plant_client.specs.declared.question.Question.{Question}
-use Rattle.peer_laws.specs.Outlets.{outputs_of}
+use Rattle.run_laws.specs.Outlets.{outputs_of}
 use Rattle.client_laws.specs.Asked.{AsksOnly}
 use Rattle.client_laws.proofs.Answered.{no_flags, read_so}
 use Rattle.client_laws.proofs.Opening.{IsOfOthers}

@@ -17,9 +17,9 @@ use Rattle.script_laws.specs.plant_play.declared.showing.Modes.{Modes}
 use Rattle.script_laws.specs.plant_play.Due.{AreAllDue, AreDue, IsDue, IsDueTake}
 use Rattle.script_laws.specs.plant_play.Playing.{Plays, PlaysDue, PlaysFeedAt, PlaysOne, PlayedNetwork}
 use Rattle.script_laws.specs.plant_play.Turns.{IsTurn, Turn, entries_of}
-use Rattle.peer_laws.specs.Outlets.{Outlet, Stays, ConnectionChange, handed_in, messages_for, outlet, turn_for, turned, with_put}
-use Rattle.peer_laws.proofs.OutletEvents.{Fits, steps_went}
-use Rattle.peer_laws.proofs.Growing.{View, view_of}
+use Rattle.run_laws.specs.Outlets.{Outlet, Stays, ConnectionChange, handed_in, messages_for, outlet, turn_for, turned, with_put}
+use Rattle.run_laws.proofs.PeerLemmas.OutletEvents.{Fits, steps_went}
+use Rattle.run_laws.proofs.PeerLemmas.Growing.{View, view_of}
 
 -- events that open, shut and drain no connection
 abbrev pub AllStay : ℕ → List Turn → Type 0

@@ -42,8 +42,8 @@ use Rattle.script_laws.specs.plant_play.Scripts.{AllPlayed}
 use Rattle.script_laws.specs.plant_play.Turns.{Turn, entries_of}
 use Rattle.client_laws.proofs.OutsideStays.{AreHarmless, Has, Leads, carry_stays, feed_stays, harmless_append, keepalive_leads, load_stays, open_leads, open_stays, request_leads, request_taken, solve_stays, take_stays}
 use Rattle.plant_network.specs.Due.{inbox_from}
-use Rattle.peer_laws.proofs.Streams.{stream_of}
-use Rattle.peer_laws.specs.Received.{IsStreamOf}
+use Rattle.run_laws.proofs.PeerLemmas.Streams.{stream_of}
+use Rattle.run_laws.specs.Received.{IsStreamOf}
 use Rattle.plant_client.specs.declared.question.Question.{Question}
 use Rattle.plant_client.specs.Asking.{AreCues, load_line, question_lines}
 use Rattle.plant_client.specs.Questions.{asked_of, open_message, opening_text, question_message, question_text}

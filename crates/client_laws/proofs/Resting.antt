@@ -42,7 +42,7 @@ use Rattle.script_laws.proofs.plant_laws.Runs.Queues.{same_as_is}
 use Rattle.plant_client.specs.declared.question.Question.{Question}
 use Rattle.plant_client.specs.Asking.{AreCues, load_line, question_lines, topologies}
 use Rattle.plant_client.specs.Questions.{opening_text, question_text}
-use Rattle.peer_laws.proofs.OutletRuns.{run_fits}
+use Rattle.run_laws.proofs.PeerLemmas.OutletRuns.{run_fits}
 use Rattle.script_laws.proofs.Rightly.{scripts_are_right}
 use Rattle.script_laws.proofs.plant_laws.Settled.Resting.{rest_is_quiet}
 use Rattle.script_laws.proofs.plant_laws.plant_model.WireLaws.{wire_is_codec}

@@ -20,7 +20,7 @@ use Rattle.pcep_messages.specs.declared.message.Bad.{Bad}
 use Rattle.pcep_messages.specs.declared.message.Bad.TheVariants.{Malformed}
 use Rattle.pcep_messages.specs.Spelling.{IsWritten, objects_in, objects_text}
 use Rattle.pcep_messages.specs.Splitting.{begins_rp, chunks_of, frame_with, groups_of, octets_at, split_objects, split_of, up_to_rp}
-use Rattle.peer_laws.proofs.Streams.{object_aligned}
+use Rattle.run_laws.proofs.PeerLemmas.Streams.{object_aligned}
 use Rattle.plant_client.specs.plant_play.plant_model.Writing.{bandwidth, ends, iro, needed}
 use Rattle.plant_client.specs.declared.question.Question.{Question}
 use Rattle.plant_client.specs.Questions.{question_message, question_text}

@@ -27,8 +27,8 @@ use Rattle.script_laws.specs.plant_model.Solving.{commit, job_found}
 use Rattle.script_laws.specs.plant_model.State.{Access, Connection, Pops, Solves}
 use Rattle.script_laws.specs.plant_model.Wire.{Bytes}
 use Rattle.script_laws.specs.plant_laws.Chains.{HasEmptyInbox}
-use Rattle.peer_laws.proofs.Fading as fading
-use Rattle.peer_laws.proofs.Fading.{AllFade, CameFrom}
+use Rattle.run_laws.proofs.PeerLemmas.Fading as fading
+use Rattle.run_laws.proofs.PeerLemmas.Fading.{AllFade, CameFrom}
 use Rattle.client_laws.specs.Resting.{AreTaken}
 
 faded : (o p : Option Connection) → AllFade o p → HasEmptyInbox o → HasEmptyInbox p

@@ -6,7 +6,7 @@ use Rattle.pcep_messages.specs.declared.message.Message.{Message}
 use Rattle.pcep_messages.specs.Messages.{Reads}
 use Rattle.pcep_messages.specs.Spelling.{message_text}
 use Rattle.plant_client.specs.Telling.{frame_lines, last_of, lines_of, told_text}
-use Rattle.peer_laws.specs.Received.{IsStreamOf}
+use Rattle.run_laws.specs.Received.{IsStreamOf}
 use Rattle.client_laws.specs.Told.{last_lines}
 
 less_one : (n : ℕ) → suc n - 1 ≡ n

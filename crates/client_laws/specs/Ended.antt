@@ -16,7 +16,7 @@ use Rattle.plant_client.specs.declared.question.Question.{Question}
 use Rattle.plant_client.specs.Asking.{Asks}
 use Rattle.plant_client.specs.Questions.{question_message}
 use Rattle.plant_client.specs.Telling.{told_text}
-use Rattle.peer_laws.specs.Outlets.{Outlet, outlet}
+use Rattle.run_laws.specs.Outlets.{Outlet, outlet}
 use Rattle.client_laws.specs.Told.{IsClient}
 
 -- The message answers the request of this id: a reply to it, that a table is full, or an error under it.

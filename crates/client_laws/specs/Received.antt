@@ -18,8 +18,8 @@ use Rattle.plant_client.specs.declared.question.Question.{Question}
 use Rattle.plant_client.specs.Asking.{Begins}
 use Rattle.plant_client.specs.Hearing.{heard_in, in_message}
 use Rattle.plant_client.specs.Bulk.{AsksAll}
-use Rattle.peer_laws.specs.Outlets.{Outlet, bytes_of, outlet}
-use Rattle.peer_laws.specs.Received.{IsRight}
+use Rattle.run_laws.specs.Outlets.{Outlet, bytes_of, outlet}
+use Rattle.run_laws.specs.Received.{IsRight}
 use Rattle.client_laws.specs.Told.{IsClient}
 
 -- what the last of these messages says of a path

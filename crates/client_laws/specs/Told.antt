@@ -18,8 +18,8 @@ use Rattle.plant_client.specs.plant_play.transcript.Replies.{message_lines}
 use Rattle.plant_client.specs.declared.question.Question.{Question}
 use Rattle.plant_client.specs.Asking.{Asks}
 use Rattle.plant_client.specs.Telling.{told_text}
-use Rattle.peer_laws.specs.Outlets.{Outlet, bytes_of, outlet}
-use Rattle.peer_laws.specs.Received.{IsRight}
+use Rattle.run_laws.specs.Outlets.{Outlet, bytes_of, outlet}
+use Rattle.run_laws.specs.Received.{IsRight}
 
 -- what the last of these messages answers, as lines for a person
 abbrev pub last_lines : List Message → List ℕ

@@ -4,5 +4,8 @@ pub mod Following
 pub mod Counting
 pub mod PinSteps
 pub mod PinHistories
+pub mod Outlets
+pub mod Received
+pub mod Inlets
 -- handed on from below
 pub use Rattle.plant_laws.specs as plant_laws

@@ -3,9 +3,11 @@
 #![tactic(auto)]
 
 mod few_octets;
+mod peers;
 mod pins;
 mod settling;
 
 pub use few_octets::{asked_are_few, few_are_short, laws_of_few_octets, taken_are_fed};
+pub use peers::{answers_are_right, drains_hand_out_all, handed_is_read, outlets_stand, taken_was_fed};
 pub use pins::{histories_know_pins, pins_are_one, steps_know_pins};
 pub use settling::{carries_break_nothing, links_are_calm, new_networks_weigh, ways_follow_sessions, weight_is_bounded, work_ends};

@@ -35,10 +35,10 @@ use Rattle.plant_laws.specs.plant_model.Settings.{place}
 use Rattle.plant_laws.specs.plant_model.Solving.{commit, job_found}
 use Rattle.plant_laws.specs.plant_model.State.{Access, Connection, Hands, Pops, Solves}
 use Rattle.plant_laws.specs.plant_model.Wire.{Bytes}
-use Rattle.peer_laws.specs.Inlets.{IsPart, fed_to, streams_with}
-use Rattle.peer_laws.proofs.Fading as fading
-use Rattle.peer_laws.proofs.Fading.{AllFade, AllTaken, CameFrom, Fades}
-use Rattle.peer_laws.proofs.Frames.{arrived_is, part_more, piece_fed}
+use Rattle.run_laws.specs.Inlets.{IsPart, fed_to, streams_with}
+use Rattle.run_laws.proofs.PeerLemmas.Fading as fading
+use Rattle.run_laws.proofs.PeerLemmas.Fading.{AllFade, AllTaken, CameFrom, Fades}
+use Rattle.run_laws.proofs.PeerLemmas.Frames.{arrived_is, part_more, piece_fed}
 
 -- of each peer, the streams that it fed
 abbrev pub Streams : Type 0

@@ -28,7 +28,7 @@ use Rattle.plant_laws.specs.plant_model.Parent as parent
 use Rattle.plant_laws.specs.plant_model.State.{Access, Connection, Deed, Downs, Clears, Expires, Says, State, Takes, Ups}
 use Rattle.plant_laws.specs.plant_model.Deeds.{Going, any_fall, begin_end, begin_adjacency, break_adjacency, clear, element_of, expire, fall, give, inner_act, inner_acts, inner_input, is_due, is_out_empty, is_tick, on_connection, our_offer, outside_act, outside_acts, outside_input, outside_step, own_message, put, put_to, puts, rise, say, tick_adjacencies, tick_outside, with_access, with_element, with_inbox, with_inner, with_more, with_parent, with_session}
 use Rattle.plant_laws.specs.plant_model.Outside.{heeded}
-use Rattle.peer_laws.specs.Outlets.{messages_for, outputs_of, put_for}
+use Rattle.run_laws.specs.Outlets.{messages_for, outputs_of, put_for}
 
 pub nil_right : {A : Type 0} (xs : List A) → xs ++ [] ≡ xs
 nil_right [] = refl

@@ -23,11 +23,11 @@ use Rattle.plant_laws.specs.plant_model.RealWire.{message_or_none, wire}
 use Rattle.plant_laws.specs.plant_model.State.{Clears, Connection, Downs, Expires, Hands, Loads, Pops, Says, Solves, Takes, Ups}
 use Rattle.plant_laws.specs.plant_model.Wire.{Bytes}
 use Rattle.plant_laws.proofs.Runs.Heeding.{asks_read}
-use Rattle.peer_laws.specs.Inlets.{IsPart, TakenWasFed, WasFed, fed_to, streams, streams_with}
-use Rattle.peer_laws.proofs.Fading as fading
-use Rattle.peer_laws.proofs.Fading.{AllFade, AllTaken, deed_taken}
-use Rattle.peer_laws.proofs.InletEvents.{AllHeld, AreHeld, IsOf, Streams, steps_went}
-use Rattle.peer_laws.proofs.Frames.{part_more}
+use Rattle.run_laws.specs.Inlets.{IsPart, TakenWasFed, WasFed, fed_to, streams, streams_with}
+use Rattle.run_laws.proofs.PeerLemmas.Fading as fading
+use Rattle.run_laws.proofs.PeerLemmas.Fading.{AllFade, AllTaken, deed_taken}
+use Rattle.run_laws.proofs.PeerLemmas.InletEvents.{AllHeld, AreHeld, IsOf, Streams, steps_went}
+use Rattle.run_laws.proofs.PeerLemmas.Frames.{part_more}
 
 -- ---- streams grow
 

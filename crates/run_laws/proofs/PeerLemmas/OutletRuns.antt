@@ -10,10 +10,10 @@ use Rattle.plant_laws.specs.plant_model.State.{Connection}
 use Rattle.plant_laws.specs.plant_model.Deeds.{Going, begin_adjacency}
 use Rattle.plant_laws.specs.plant_model.Events as events
 use Rattle.plant_laws.specs.plant_model.Plant.{Entry, Pin, Plant, Run, Segment, Steps, first_pin}
-use Rattle.peer_laws.specs.Outlets.{AreOne, DrainsHandOutAll, IsHandedOut, Outlet, OutletsStand, outlet}
-use Rattle.peer_laws.proofs.Growing as growing
-use Rattle.peer_laws.proofs.Growing.{View, nil_right, view_of}
-use Rattle.peer_laws.proofs.OutletEvents.{Fits, drained_view, steps_went}
+use Rattle.run_laws.specs.Outlets.{AreOne, DrainsHandOutAll, IsHandedOut, Outlet, OutletsStand, outlet}
+use Rattle.run_laws.proofs.PeerLemmas.Growing as growing
+use Rattle.run_laws.proofs.PeerLemmas.Growing.{View, nil_right, view_of}
+use Rattle.run_laws.proofs.PeerLemmas.OutletEvents.{Fits, drained_view, steps_went}
 
 module _ (c : Codec) (n : NetworkParts) where
   abbrev view : ℕ → Plant → View

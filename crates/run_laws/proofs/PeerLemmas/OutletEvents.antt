@@ -30,9 +30,9 @@ use Rattle.plant_laws.specs.plant_model.Deeds.{Going, break_adjacency, element_o
 use Rattle.plant_laws.specs.plant_model.Events as events
 use Rattle.plant_laws.specs.plant_model.Events.{is_down}
 use Rattle.plant_laws.specs.plant_model.Plant.{ElementSolves, Happened, Happens, ParentSolves, Pin, Plant, Segment, Steps, is_full, load_new}
-use Rattle.peer_laws.specs.Outlets.{Drains, Opens, Outlet, Shuts, Stays, ConnectionChange, bytes_of, handed_in, messages_for, turn_for, turned, with_handed, with_put}
-use Rattle.peer_laws.proofs.Growing as growing
-use Rattle.peer_laws.proofs.Growing.{View, append_assoc, more, nil_right, texts, texts_append, view_of}
+use Rattle.run_laws.specs.Outlets.{Drains, Opens, Outlet, Shuts, Stays, ConnectionChange, bytes_of, handed_in, messages_for, turn_for, turned, with_handed, with_put}
+use Rattle.run_laws.proofs.PeerLemmas.Growing as growing
+use Rattle.run_laws.proofs.PeerLemmas.Growing.{View, append_assoc, more, nil_right, texts, texts_append, view_of}
 
 pub joined_append : (xs ys : List Bytes) → joined (xs ++ ys) ≡ joined xs ++ joined ys
 joined_append [] ys = refl

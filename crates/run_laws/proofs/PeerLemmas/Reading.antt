@@ -9,9 +9,9 @@ use Rattle.plant_laws.specs.plant_model.Plant.{deeds_of}
 use Rattle.plant_laws.specs.plant_model.RealWire.{wire}
 use Rattle.plant_laws.proofs.plant_model.WireLaws.{wire_is_codec}
 use Rattle.plant_laws.proofs.WrittenForm.EveryWritten.{every_written}
-use Rattle.peer_laws.specs.Received.{HandedIsRead}
-use Rattle.peer_laws.proofs.Putting.{of_sent, put_is}
-use Rattle.peer_laws.proofs.Streams.{stream_of}
+use Rattle.run_laws.specs.Received.{HandedIsRead}
+use Rattle.run_laws.proofs.PeerLemmas.Putting.{of_sent, put_is}
+use Rattle.run_laws.proofs.PeerLemmas.Streams.{stream_of}
 
 each : (Q : Message → Type 0) (ms : List Message) → ((m : Message) → Contains ms m → Q m) → AllByRecursion Q ms
 each Q [] h = tt

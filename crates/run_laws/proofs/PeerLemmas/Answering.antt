@@ -21,9 +21,9 @@ use Rattle.plant_laws.specs.Transcript.{Transcript, Within, outputs_at}
 use Rattle.plant_laws.proofs.WrittenForm.EveryWritten.{of_written_net_ids}
 use Rattle.plant_laws.proofs.Runs.Moments.{peer_is, within_here}
 use Rattle.plant_laws.proofs.Least.OfRun as OfRun
-use Rattle.peer_laws.specs.Outlets.{outputs_of, put_for}
-use Rattle.peer_laws.specs.Received.{AnswersAreRight}
-use Rattle.peer_laws.proofs.Putting.{AllPut, put_is}
+use Rattle.run_laws.specs.Outlets.{outputs_of, put_for}
+use Rattle.run_laws.specs.Received.{AnswersAreRight}
+use Rattle.run_laws.proofs.PeerLemmas.Putting.{AllPut, put_is}
 
 -- the message was sent to the peer in a deed of the run
 pub record WasSent (now : Transcript) (i : ℕ) (m : Message) : Type 0 where

@@ -1,10 +1,8 @@
 //! What outside peers are handed, what they read of it, and what is taken from them: in every run, what was put there for a peer, and
 //! what it fed. Laws, as the contracts of calls that do nothing.
-#![tactic(auto)]
-
-ghost use Rattle.peer_laws.specs.Inlets.{TakenWasFed};
-ghost use Rattle.peer_laws.specs.Outlets.{DrainsHandOutAll, OutletsStand};
-ghost use Rattle.peer_laws.specs.Received.{AnswersAreRight, HandedIsRead};
+ghost use Rattle.run_laws.specs.Inlets.{TakenWasFed};
+ghost use Rattle.run_laws.specs.Outlets.{DrainsHandOutAll, OutletsStand};
+ghost use Rattle.run_laws.specs.Received.{AnswersAreRight, HandedIsRead};
 
 /// In every state of a run a connection is open just where the transcript shows it open, and the peer that opened it holds it. What
 /// its drains handed out, and behind that what waits, is what was put there for it since its Open, in order: nothing else, nothing

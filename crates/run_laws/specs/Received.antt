@@ -22,7 +22,7 @@ use Rattle.plant_laws.specs.plant_model.Wire.{Bytes}
 use Rattle.plant_laws.specs.Transcript.{Transcript}
 use Rattle.plant_laws.specs.About.{IsPathAnswer, IsShort, IsViaParent, Replies}
 use Rattle.plant_laws.specs.Headline.{HasNoneOfChain, IsOfChain, IsOfParent}
-use Rattle.peer_laws.specs.Outlets.{Outlet, bytes_of, outlet}
+use Rattle.run_laws.specs.Outlets.{Outlet, bytes_of, outlet}
 
 -- what a framer makes of a whole stream
 abbrev pub framed : Bytes → Progress

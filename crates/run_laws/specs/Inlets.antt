@@ -15,7 +15,7 @@ use Rattle.plant_laws.specs.plant_model.Plant.{Entry, Plant, Run, deeds_of}
 use Rattle.plant_laws.specs.plant_model.RealWire.{wire}
 use Rattle.plant_laws.specs.plant_model.State.{Takes}
 use Rattle.plant_laws.specs.plant_model.Wire.{Bytes}
-use Rattle.peer_laws.specs.Received.{framed}
+use Rattle.run_laws.specs.Received.{framed}
 
 -- ---- what a peer feeds
 

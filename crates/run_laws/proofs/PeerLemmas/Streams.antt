@@ -20,7 +20,7 @@ use Rattle.pcep_messages.specs.Spelling.{IsWritten, content_text, message_text, 
 use Rattle.pcep_messages.proofs.MessageLaws as message_laws
 use Rattle.pcep_framing.specs.Frames.{AreMessages, Framing, IsMessage, Splits, joined, length_field}
 use Rattle.pcep_framing.proofs.FeedLemmas.{feed_is}
-use Rattle.peer_laws.specs.Received.{IsStreamOf}
+use Rattle.run_laws.specs.Received.{IsStreamOf}
 
 -- an object that is read is whole words
 aligned_if : (class second len : ℕ) (bytes : List ℕ) (x : Object × ℕ) → object_in class second len bytes ≡ Ok x → len % 4 ≡ 0

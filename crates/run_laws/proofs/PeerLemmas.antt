@@ -1,13 +1,11 @@
--- what is handed out
+-- What outside peers are handed, what they read of it, and what is taken from them.
 pub mod Growing
 pub mod OutletEvents
 pub mod OutletRuns
--- what is read of it
 pub mod Putting
 pub mod Streams
 pub mod Reading
 pub mod Answering
--- what is taken
 pub mod Fading
 pub mod Frames
 pub mod InletEvents

@@ -14,7 +14,7 @@ use Rattle.plant_laws.specs.plant_model.State.{Clears, Downs, Expires, Hands, Lo
 use Rattle.plant_laws.specs.plant_model.Plant.{Entry, deeds_of}
 use Rattle.plant_laws.specs.Sending.{AllSent, AreAll}
 use Rattle.plant_laws.specs.Transcript.{Transcript}
-use Rattle.peer_laws.specs.Outlets.{Drains, Opens, Outlet, Shuts, Stays, ConnectionChange, handed_in, messages_for, outlet, outputs_of, put_for, turn_for, turned}
+use Rattle.run_laws.specs.Outlets.{Drains, Opens, Outlet, Shuts, Stays, ConnectionChange, handed_in, messages_for, outlet, outputs_of, put_for, turn_for, turned}
 
 module _ (i : ℕ) (Q : Message → Type 0) where
   -- each message that a deed of these puts for the peer

@@ -11,8 +11,8 @@ use Rattle.pcep_messages.specs.Splitting.{split_of}
 use Rattle.plant_laws.specs.plant_model.Events.{bad_item, split_all}
 use Rattle.plant_laws.specs.plant_model.RealWire.{wire}
 use Rattle.plant_laws.specs.plant_model.Wire.{Bytes}
-use Rattle.peer_laws.specs.Inlets.{IsPart}
-use Rattle.peer_laws.specs.Received.{framed}
+use Rattle.run_laws.specs.Inlets.{IsPart}
+use Rattle.run_laws.specs.Received.{framed}
 
 fresh : Framing
 fresh = record { held = []; bad = false }

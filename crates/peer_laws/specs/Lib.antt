@@ -1,4 +1,0 @@
--- for readers
-pub mod Outlets
-pub mod Received
-pub mod Inlets
