@@ -5,4 +5,4 @@ pub mod LineLemmas
 pub mod SayingLemmas
 pub mod ScriptLemmas
 -- handed on from below
-pub use Rattle.texts_in_range.proofs as texts_in_range
+pub use Rattle.run_laws.proofs as run_laws

@@ -10,8 +10,8 @@ use Rattle.line_text.specs.Lines.{NumberedLine, told_lines}
 use Rattle.plant_text.specs.declared.settings.NetworkParts.{NetworkParts}
 use Rattle.plant_network.specs.plant_model.Blind.{blind_opened}
 use Rattle.plant_network.specs.plant_model.RealWire.{wire}
-use Rattle.texts_in_range.specs.Given.{IsBlindLine}
-use Rattle.texts_in_range.proofs.GivenRows.{blind_line_given}
+use Rattle.run_laws.specs.Given.{IsBlindLine}
+use Rattle.run_laws.proofs.TextLemmas.GivenRows.{blind_line_given}
 use Rattle.transcript.specs.declared.stop.Stop.{Stop}
 use Rattle.transcript.specs.declared.stop.Stop.TheVariants as stop
 use Rattle.transcript.proofs.ScriptParts.{rose_before, some_more, some_of_all}

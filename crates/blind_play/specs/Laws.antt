@@ -1,7 +1,7 @@
 -- What is told of lines that are played is what the network without topologies says.
 use Rattle.std.specs.Prelude.{◌≡◌, ℕ, Bool, List, [], ◌∷◌, ◌++◌, All}
 use Rattle.plant_text.specs.declared.settings.NetworkParts.{NetworkParts}
-use Rattle.texts_in_range.specs.Given.{IsBlindLine}
+use Rattle.run_laws.specs.Given.{IsBlindLine}
 use Rattle.plant_network.specs.plant_model.Blind.{AreBlindGiven, BlindSays, Heard, blind_opened, heard}
 use Rattle.plant_network.specs.plant_model.RealWire.{wire}
 use Rattle.blind_play.specs.Playing.{Cue, IsNewNetwork, PlayedNetwork}

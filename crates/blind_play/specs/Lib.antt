@@ -9,4 +9,4 @@ pub mod Laws
 pub mod Making
 -- handed on from below
 pub use Rattle.plant_network.specs.plant_model
-pub use Rattle.texts_in_range.specs as texts_in_range
+pub use Rattle.run_laws.specs as run_laws

@@ -2,7 +2,7 @@
 ghost use Rattle.std.specs.Prelude.{◌≡◌, ◌++◌, OnOk};
 ghost use Rattle.std.specs.Option.{option_map};
 ghost use Rattle.plant_network.specs.plant_model.Blind.{IsBlindGiven};
-ghost use Rattle.texts_in_range.specs.Given.{IsBlindLine};
+ghost use Rattle.run_laws.specs.Given.{IsBlindLine};
 ghost use Rattle.plant_network.specs.Blind.{whole};
 ghost use Rattle.blind_play.specs.Making.{Does, IsGivenIfAny};
 ghost use Rattle.blind_play.specs.Playing.{Plays, PlaysFeedAt, PlaysNamed, PlaysOne};

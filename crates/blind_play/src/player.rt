@@ -1,6 +1,6 @@
 //! Who plays the lines of a script on a network without topologies.
 ghost use Rattle.std.specs.Prelude.{◌≡◌, IfOk};
-ghost use Rattle.texts_in_range.specs.Given.{IsBlindLine};
+ghost use Rattle.run_laws.specs.Given.{IsBlindLine};
 ghost use Rattle.blind_play.specs.Playing.{IsNewNetwork, Played, cue, played_network};
 
 use crate::lines::play_line;

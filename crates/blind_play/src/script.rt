@@ -2,7 +2,7 @@
 ghost use Rattle.std.specs.Prelude.{◌≡◌, ◌≤◌, false, length, IfErr, IfOk, OnOk};
 ghost use Rattle.line_text.specs.Lines.{is_skipped};
 ghost use Rattle.transcript.specs.Stops.{IsTooLarge, input_name, numbered, script_most};
-ghost use Rattle.texts_in_range.specs.Given.{IsBlindLine};
+ghost use Rattle.run_laws.specs.Given.{IsBlindLine};
 ghost use Rattle.blind_play.specs.Playing.{IsNewNetwork, played_network};
 ghost use Rattle.blind_play.specs.WholeScripts.{HasEvent, IsNoEvent, IsWhole, LinePlays, LineStops, ScriptStops, WroteAll};
 

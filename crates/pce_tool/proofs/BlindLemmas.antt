@@ -2,7 +2,7 @@
 use Rattle.std.proofs.Common.{◌≡◌, ℕ, List, [], ◌++◌}
 use Rattle.std.specs.declared.option.Option.{Option}
 use Rattle.dom_edge.specs.Stores.{Files}
-use Rattle.client_laws.proofs.script_laws.texts_in_range.ModelledNetworks.{settings_are_modelled}
+use Rattle.client_laws.proofs.script_laws.run_laws.TextLemmas.ModelledNetworks.{settings_are_modelled}
 use Rattle.client_laws.specs.script_laws.plant_model.Blind.{blind_opened, heard}
 use Rattle.client_laws.specs.script_laws.plant_model.Plant.{deeds_of}
 use Rattle.client_laws.specs.script_laws.plant_model.RealWire.{wire}

@@ -13,11 +13,11 @@ use Rattle.plant_text.specs.declared.line.LineEvent.TheVariants as line
 use Rattle.plant_text.specs.declared.settings.NetworkParts.{NetworkParts}
 use Rattle.plant_text.specs.Lines.{line_in}
 use Rattle.plant_text.specs.Networks.{with_path}
-use Rattle.client_laws.specs.script_laws.texts_in_range.Sizes.{all_lengths}
-use Rattle.client_laws.proofs.script_laws.texts_in_range.FedLengths.{feeds_short}
-use Rattle.client_laws.proofs.script_laws.texts_in_range.FedOctets.{line_octets}
-use Rattle.client_laws.proofs.script_laws.texts_in_range.ModelledNetworks.{client_is_modelled, settings_are_modelled}
-use Rattle.client_laws.proofs.script_laws.texts_in_range.Lengths.{all_lengths_append, all_lengths_cons, told_lines_short}
+use Rattle.client_laws.specs.script_laws.run_laws.Sizes.{all_lengths}
+use Rattle.client_laws.proofs.script_laws.run_laws.TextLemmas.FedLengths.{feeds_short}
+use Rattle.client_laws.proofs.script_laws.run_laws.TextLemmas.FedOctets.{line_octets}
+use Rattle.client_laws.proofs.script_laws.run_laws.TextLemmas.ModelledNetworks.{client_is_modelled, settings_are_modelled}
+use Rattle.client_laws.proofs.script_laws.run_laws.TextLemmas.Lengths.{all_lengths_append, all_lengths_cons, told_lines_short}
 use Rattle.client_laws.specs.script_laws.plant_model.Laws.{IsNetwork}
 use Rattle.client_laws.specs.script_laws.plant_model.RealWire.{wire}
 use Rattle.client_laws.specs.script_laws.plant_laws.Worlds.{DisclosedRun}

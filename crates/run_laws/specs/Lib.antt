@@ -7,5 +7,9 @@ pub mod PinHistories
 pub mod Outlets
 pub mod Received
 pub mod Inlets
+pub mod Ranges
+pub mod Sizes
+pub mod Given
+pub mod Settings
 -- handed on from below
 pub use Rattle.plant_laws.specs as plant_laws

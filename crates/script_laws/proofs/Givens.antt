@@ -20,9 +20,9 @@ use Rattle.plant_play.specs.declared.showing.Modes.{Modes}
 use Rattle.plant_play.specs.Due.{AreAllDue, AreDue, IsDue, IsDueTake}
 use Rattle.plant_play.specs.Playing.{Changes, Plays, PlaysDue, PlaysFeedAt, PlaysNamed, PlaysNone, PlaysOne, PlayedNetwork}
 use Rattle.plant_play.specs.Turns.{AreGiven, Turn}
-use Rattle.texts_in_range.specs.Ranges.{AreOctets}
-use Rattle.texts_in_range.proofs.ChangeRanges.{changes_keep_range}
-use Rattle.texts_in_range.proofs.RowRanges.{text_in_range}
+use Rattle.run_laws.specs.Ranges.{AreOctets}
+use Rattle.run_laws.proofs.TextLemmas.ChangeRanges.{changes_keep_range}
+use Rattle.run_laws.proofs.TextLemmas.RowRanges.{text_in_range}
 use Rattle.script_laws.specs.Laws.{AreLoadable, FeedsOctets}
 
 -- ---- events that are due

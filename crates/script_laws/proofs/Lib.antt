@@ -9,4 +9,4 @@ pub mod DisclosedRuns
 pub mod Disclosing
 -- handed on from below
 pub use Rattle.run_laws.proofs.plant_laws
-pub use Rattle.texts_in_range.proofs as texts_in_range
+pub use Rattle.run_laws.proofs as run_laws

@@ -7,4 +7,3 @@ pub use Rattle.run_laws.specs as run_laws
 pub use Rattle.run_laws.specs.plant_laws
 pub use Rattle.plant_play.specs.plant_model
 pub use Rattle.plant_play.specs as plant_play
-pub use Rattle.texts_in_range.specs as texts_in_range

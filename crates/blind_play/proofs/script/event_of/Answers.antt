@@ -1,5 +1,5 @@
 use Rattle.std.proofs.Common.{◌∙◌, Some, ap}
-use Rattle.texts_in_range.proofs.GivenRows.{blind_line_given}
+use Rattle.run_laws.proofs.TextLemmas.GivenRows.{blind_line_given}
 use Rattle.blind_play.proofs.script.event_of.Goals as goal
 
 pub returns-in-Ok-Some-clause-given : goal.returns-in-Ok-Some-clause-given

@@ -1,0 +1,30 @@
+-- What texts give is within the ranges of its types.
+use Rattle.std.specs.Prelude.{◌≡◌, ◌<◌, ℕ, List, All, Option, Some, Ok}
+use Rattle.te_links.specs.Rows.{Rows}
+use Rattle.te_text.specs.Reads.{Reads}
+use Rattle.te_deltas.specs.Answers.{IsBuiltOf}
+use Rattle.te_deltas.specs.ChangeText.{text_in}
+use Rattle.te_deltas.specs.declared.changes.Change.{Change}
+use Rattle.plant_text.specs.declared.line.LineEvent.TheVariants.{Feed}
+use Rattle.plant_text.specs.declared.settings.NetworkParts.{NetworkParts}
+use Rattle.plant_text.specs.Lines.{blind_line_in, line_in}
+use Rattle.plant_laws.specs.plant_model.Plant.{AreInRange}
+
+-- A topology that a text gives is in range.
+abbrev pub TextsAreInRange : Type 0
+TextsAreInRange = (text : List ℕ) (g : Rows) → Reads text g → AreInRange g
+
+-- Changes that a text gives make of a topology in range one in range.
+abbrev pub ChangesKeepRange : Type 0
+ChangesKeepRange = (text : List ℕ) (changes : List Change) (g t : Rows) → text_in text ≡ Ok changes → IsBuiltOf g changes t → AreInRange g → AreInRange t
+
+abbrev pub AreOctets : List ℕ → Type 0
+AreOctets bytes = All (λ b. b < 256) bytes
+
+-- What a line of `play` feeds is octets.
+abbrev pub FeedsAreOctets : Type 0
+FeedsAreOctets = (n : NetworkParts) (line : List ℕ) (peer : Option ℕ) (bytes : List ℕ) → line_in n line ≡ Some (Some (Feed peer bytes)) → AreOctets bytes
+
+-- So is what a line of `blind` feeds.
+abbrev pub BlindFeedsAreOctets : Type 0
+BlindFeedsAreOctets = (n : NetworkParts) (line : List ℕ) (peer : Option ℕ) (bytes : List ℕ) → blind_line_in n line ≡ Some (Some (Feed peer bytes)) → AreOctets bytes

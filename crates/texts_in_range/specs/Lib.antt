@@ -1,5 +1,0 @@
--- for readers
-pub mod Ranges
-pub mod Sizes
-pub mod Given
-pub mod Settings
