@@ -20,27 +20,27 @@ use Rattle.dom_edge.specs.Stores.{Files}
 use Rattle.plant_text.specs.declared.settings.NetworkParts.{NetworkParts}
 use Rattle.plant_text.specs.Names.{parent_as, same_as}
 use Rattle.request_table.specs.Pending.{key_of}
-use Rattle.script_laws.specs.plant_model.declared.output.Output.{Output}
-use Rattle.script_laws.specs.plant_model.Deeds.{element_of}
-use Rattle.script_laws.specs.plant_model.Element.{Element}
-use Rattle.script_laws.specs.plant_model.Laws.{IsNetwork}
-use Rattle.script_laws.specs.plant_model.Plant.{Entry, Pin, Plant, PlantDeed, Run, Segment, deeds_of}
-use Rattle.script_laws.specs.plant_model.RealWire.{check_of, checked, wire}
-use Rattle.script_laws.specs.plant_model.State.{Takes}
-use Rattle.script_laws.specs.plant_model.Wire.{Admitted, Checked, Wrong}
-use Rattle.script_laws.specs.plant_model.Writing.{bandwidth, ends_kind, error_message, iro}
-use Rattle.script_laws.specs.plant_laws.Answered.{answers_of}
-use Rattle.script_laws.specs.plant_laws.Causes.{OnPassed, by_element, by_parent}
-use Rattle.script_laws.specs.plant_laws.MessageCauses.{OnRequest}
-use Rattle.script_laws.specs.plant_laws.MessageCauses as causes
-use Rattle.script_laws.specs.plant_laws.Transcript.{Delivered, Transcript, Within}
-use Rattle.script_laws.specs.plant_play.Turns.{entries_of}
-use Rattle.script_laws.proofs.Rightly.{scripts_are_right}
-use Rattle.script_laws.proofs.plant_laws.plant_model.WireLaws.{wire_is_codec}
-use Rattle.script_laws.proofs.plant_laws.Once.AskedRuns.{none_outside}
-use Rattle.script_laws.proofs.plant_laws.Reasons.MomentCauses.{HasOne, moment_cause}
+use Rattle.plant_play.specs.plant_model.declared.output.Output.{Output}
+use Rattle.plant_play.specs.plant_model.Deeds.{element_of}
+use Rattle.plant_play.specs.plant_model.Element.{Element}
+use Rattle.plant_play.specs.plant_model.Laws.{IsNetwork}
+use Rattle.plant_play.specs.plant_model.Plant.{Entry, Pin, Plant, PlantDeed, Run, Segment, deeds_of}
+use Rattle.plant_play.specs.plant_model.RealWire.{check_of, checked, wire}
+use Rattle.plant_play.specs.plant_model.State.{Takes}
+use Rattle.plant_play.specs.plant_model.Wire.{Admitted, Checked, Wrong}
+use Rattle.plant_play.specs.plant_model.Writing.{bandwidth, ends_kind, error_message, iro}
+use Rattle.run_laws.specs.plant_laws.Answered.{answers_of}
+use Rattle.run_laws.specs.plant_laws.Causes.{OnPassed, by_element, by_parent}
+use Rattle.run_laws.specs.plant_laws.MessageCauses.{OnRequest}
+use Rattle.run_laws.specs.plant_laws.MessageCauses as causes
+use Rattle.run_laws.specs.plant_laws.Transcript.{Delivered, Transcript, Within}
+use Rattle.plant_play.specs.Turns.{entries_of}
+use Rattle.client_laws.proofs.Rightly.{scripts_are_right}
+use Rattle.run_laws.proofs.plant_laws.plant_model.WireLaws.{wire_is_codec}
+use Rattle.run_laws.proofs.plant_laws.Once.AskedRuns.{none_outside}
+use Rattle.run_laws.proofs.plant_laws.Reasons.MomentCauses.{HasOne, moment_cause}
 use Rattle.client_laws.proofs.OutsideStays.{none_dropped, opening_harmless}
-use Rattle.script_laws.proofs.plant_laws.Runs.Queues.{same_as_is}
+use Rattle.run_laws.proofs.plant_laws.Runs.Queues.{same_as_is}
 use Rattle.plant_client.specs.declared.question.Question.{Question}
 use Rattle.plant_client.specs.Asking.{Asks, topologies}
 use Rattle.plant_client.specs.Questions.{asked_of, question_message}

@@ -16,14 +16,14 @@ use Rattle.pcep_messages.specs.Spelling.{IsWritten, message_text}
 use Rattle.pcep_messages.specs.Splitting.{split_of}
 use Rattle.pcep_messages.proofs.MessageLaws as message_laws
 use Rattle.plant_text.specs.declared.settings.NetworkParts.{NetworkParts}
-use Rattle.script_laws.specs.plant_model.declared.output.Output.{Output}
-use Rattle.script_laws.specs.plant_model.Plant.{Entry, PlantDeed, Run, deeds_of}
-use Rattle.script_laws.specs.plant_model.RealWire.{check_of, wire}
-use Rattle.script_laws.specs.plant_model.State.{Takes}
-use Rattle.script_laws.specs.plant_model.Wire.{Admitted, Bytes}
-use Rattle.script_laws.specs.plant_laws.Transcript.{Delivered, Transcript, Within}
-use Rattle.script_laws.specs.plant_play.Turns.{entries_of}
-use Rattle.script_laws.proofs.Rightly.{scripts_are_right}
+use Rattle.plant_play.specs.plant_model.declared.output.Output.{Output}
+use Rattle.plant_play.specs.plant_model.Plant.{Entry, PlantDeed, Run, deeds_of}
+use Rattle.plant_play.specs.plant_model.RealWire.{check_of, wire}
+use Rattle.plant_play.specs.plant_model.State.{Takes}
+use Rattle.plant_play.specs.plant_model.Wire.{Admitted, Bytes}
+use Rattle.run_laws.specs.plant_laws.Transcript.{Delivered, Transcript, Within}
+use Rattle.plant_play.specs.Turns.{entries_of}
+use Rattle.client_laws.proofs.Rightly.{scripts_are_right}
 use Rattle.plant_client.specs.declared.question.Question.{Question}
 use Rattle.plant_client.specs.Asking.{topologies}
 use Rattle.plant_client.specs.Questions.{asked_of, open_message, opening_text, question_message, question_text}

@@ -14,22 +14,22 @@ use Rattle.plant_text.specs.declared.line.LineEvent.{LineEvent}
 use Rattle.plant_text.specs.declared.line.LineEvent.TheVariants as line
 use Rattle.plant_text.specs.declared.settings.NetworkParts.{NetworkParts}
 use Rattle.plant_text.specs.Settings.{peer_row}
-use Rattle.script_laws.specs.plant_model.declared.event.Event.{Event}
-use Rattle.script_laws.specs.plant_model.declared.event.Event.TheVariants as event
-use Rattle.script_laws.specs.plant_model.declared.outcome.Outcome.TheVariants.{Drained}
-use Rattle.script_laws.specs.plant_model.declared.outcome.Refused.TheVariants.{NoSuchPeer, NotHolder}
-use Rattle.script_laws.specs.plant_model.Blind.{is_accepted}
-use Rattle.script_laws.specs.plant_model.Deeds.{with_access}
-use Rattle.script_laws.specs.plant_model.Events as events
-use Rattle.script_laws.specs.plant_model.Events.{Answered, is_down}
-use Rattle.script_laws.specs.plant_model.Plant.{Entry, Happened, Happens, Pin, Plant, Run, Segment}
-use Rattle.script_laws.specs.plant_model.RealWire.{wire}
-use Rattle.script_laws.specs.plant_model.State.{Connection, Hands}
-use Rattle.script_laws.specs.plant_play.Playing.{Cue, Plays, PlaysLine, PlaysOne, PlayedNetwork}
-use Rattle.script_laws.specs.plant_play.Scripts.{AllPlayed}
-use Rattle.script_laws.specs.plant_play.Turns.{Turn, entries_of}
-use Rattle.script_laws.specs.Laws.{FeedOctets, FeedsOctets}
-use Rattle.script_laws.proofs.Rightly.{scripts_are_right}
+use Rattle.plant_play.specs.plant_model.declared.event.Event.{Event}
+use Rattle.plant_play.specs.plant_model.declared.event.Event.TheVariants as event
+use Rattle.plant_play.specs.plant_model.declared.outcome.Outcome.TheVariants.{Drained}
+use Rattle.plant_play.specs.plant_model.declared.outcome.Refused.TheVariants.{NoSuchPeer, NotHolder}
+use Rattle.plant_play.specs.plant_model.Blind.{is_accepted}
+use Rattle.plant_play.specs.plant_model.Deeds.{with_access}
+use Rattle.plant_play.specs.plant_model.Events as events
+use Rattle.plant_play.specs.plant_model.Events.{Answered, is_down}
+use Rattle.plant_play.specs.plant_model.Plant.{Entry, Happened, Happens, Pin, Plant, Run, Segment}
+use Rattle.plant_play.specs.plant_model.RealWire.{wire}
+use Rattle.plant_play.specs.plant_model.State.{Connection, Hands}
+use Rattle.plant_play.specs.Playing.{Cue, Plays, PlaysLine, PlaysOne, PlayedNetwork}
+use Rattle.plant_play.specs.Scripts.{AllPlayed}
+use Rattle.plant_play.specs.Turns.{Turn, entries_of}
+use Rattle.client_laws.specs.Laws.{FeedOctets, FeedsOctets}
+use Rattle.client_laws.proofs.Rightly.{scripts_are_right}
 use Rattle.plant_client.specs.declared.question.Question.{Question}
 use Rattle.plant_client.specs.Asking.{AreCues, load_line, question_lines, received_in, topologies}
 use Rattle.plant_client.specs.Questions.{opening_text, question_text}

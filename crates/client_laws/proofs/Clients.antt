@@ -5,7 +5,7 @@ use Rattle.plant_text.specs.declared.settings.NetworkParts.{NetworkParts}
 use Rattle.plant_text.specs.declared.settings.PeerRow.{PeerRow}
 use Rattle.plant_text.specs.Networks.{path_client, with_path}
 use Rattle.plant_text.specs.Settings.{class_from, peer_row}
-use Rattle.script_laws.specs.plant_model.Element.{is_client}
+use Rattle.plant_play.specs.plant_model.Element.{is_client}
 use Rattle.client_laws.specs.Told.{IsClient}
 
 last_peer : (rows : List PeerRow) (last : PeerRow) → peer_row (length rows) (rows ++ last ∷ []) ≡ Some last

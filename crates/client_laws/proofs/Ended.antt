@@ -23,38 +23,38 @@ use Rattle.request_table.specs.Pending.{same_peer}
 use Rattle.plant_text.specs.declared.settings.NetworkParts.{NetworkParts}
 use Rattle.plant_text.specs.declared.settings.PeerRow.{PeerRow}
 use Rattle.plant_text.specs.Names.{parent_as, same_as}
-use Rattle.script_laws.specs.plant_model.declared.event.Event.{Event}
-use Rattle.script_laws.specs.plant_model.declared.event.Event.TheVariants as event
-use Rattle.script_laws.specs.plant_model.declared.output.Output.{Output}
-use Rattle.script_laws.specs.plant_model.Blind.{is_accepted}
-use Rattle.script_laws.specs.plant_model.Branches.{path_of}
-use Rattle.script_laws.specs.plant_model.Deeds.{element_of}
-use Rattle.script_laws.specs.plant_model.Element.{Element, Row}
-use Rattle.script_laws.specs.plant_model.Events.{Answered}
-use Rattle.script_laws.specs.plant_model.Laws.{IsNetwork}
-use Rattle.script_laws.specs.plant_model.Plant.{Entry, Happened, Pin, Plant, PlantDeed, Run, Segment, deeds_of}
-use Rattle.script_laws.specs.plant_model.RealWire.{check_of, wire}
-use Rattle.script_laws.specs.plant_model.State.{Clears, Downs, Expires, Hands, Loads, Pops, Says, Solves, Takes, Ups}
-use Rattle.script_laws.specs.plant_model.Wire.{Admitted, Checked, Wrong}
-use Rattle.script_laws.specs.plant_model.Writing.{busy, error_message, reply_message}
-use Rattle.script_laws.specs.plant_laws.About.{IsPathAnswer, IsShort}
-use Rattle.script_laws.specs.plant_laws.Answered.{DropsFor, answers_of}
-use Rattle.script_laws.specs.plant_laws.Causes.{HaveCauses, OnPassed, by_element, by_parent}
-use Rattle.script_laws.specs.plant_laws.Chains.{IsQuiet}
-use Rattle.script_laws.specs.plant_laws.MessageCauses.{OnRequest}
-use Rattle.script_laws.specs.plant_laws.MessageCauses as causes
-use Rattle.script_laws.specs.plant_laws.Sending.{AllSent}
-use Rattle.script_laws.specs.plant_laws.Transcript.{Begins, Delivered, Effect, Ends, Keeps, Transcript, Within, after, answers_to, effect, opened}
-use Rattle.script_laws.specs.plant_play.Turns.{entries_of}
-use Rattle.script_laws.proofs.Rightly.{scripts_are_right}
-use Rattle.script_laws.proofs.plant_laws.plant_model.WireLaws.{wire_is_codec}
-use Rattle.script_laws.proofs.plant_laws.Once.AskedRuns.{none_outside}
-use Rattle.script_laws.proofs.plant_laws.Once.OpenTables.{open_is_pending}
-use Rattle.script_laws.proofs.plant_laws.Reasons.AllCauses.{messages_have_causes}
-use Rattle.script_laws.proofs.plant_laws.Runs.Moments.{opened_within, peer_is, within_length}
-use Rattle.script_laws.proofs.plant_laws.Runs.Queues.{same_as_is}
-use Rattle.script_laws.proofs.plant_laws.Settled.UnderWayLaw.{quiet_has_none_pending}
-use Rattle.script_laws.proofs.plant_laws.WrittenForm.EveryWritten.{every_written}
+use Rattle.plant_play.specs.plant_model.declared.event.Event.{Event}
+use Rattle.plant_play.specs.plant_model.declared.event.Event.TheVariants as event
+use Rattle.plant_play.specs.plant_model.declared.output.Output.{Output}
+use Rattle.plant_play.specs.plant_model.Blind.{is_accepted}
+use Rattle.plant_play.specs.plant_model.Branches.{path_of}
+use Rattle.plant_play.specs.plant_model.Deeds.{element_of}
+use Rattle.plant_play.specs.plant_model.Element.{Element, Row}
+use Rattle.plant_play.specs.plant_model.Events.{Answered}
+use Rattle.plant_play.specs.plant_model.Laws.{IsNetwork}
+use Rattle.plant_play.specs.plant_model.Plant.{Entry, Happened, Pin, Plant, PlantDeed, Run, Segment, deeds_of}
+use Rattle.plant_play.specs.plant_model.RealWire.{check_of, wire}
+use Rattle.plant_play.specs.plant_model.State.{Clears, Downs, Expires, Hands, Loads, Pops, Says, Solves, Takes, Ups}
+use Rattle.plant_play.specs.plant_model.Wire.{Admitted, Checked, Wrong}
+use Rattle.plant_play.specs.plant_model.Writing.{busy, error_message, reply_message}
+use Rattle.run_laws.specs.plant_laws.About.{IsPathAnswer, IsShort}
+use Rattle.run_laws.specs.plant_laws.Answered.{DropsFor, answers_of}
+use Rattle.run_laws.specs.plant_laws.Causes.{HaveCauses, OnPassed, by_element, by_parent}
+use Rattle.run_laws.specs.plant_laws.Chains.{IsQuiet}
+use Rattle.run_laws.specs.plant_laws.MessageCauses.{OnRequest}
+use Rattle.run_laws.specs.plant_laws.MessageCauses as causes
+use Rattle.run_laws.specs.plant_laws.Sending.{AllSent}
+use Rattle.run_laws.specs.plant_laws.Transcript.{Begins, Delivered, Effect, Ends, Keeps, Transcript, Within, after, answers_to, effect, opened}
+use Rattle.plant_play.specs.Turns.{entries_of}
+use Rattle.client_laws.proofs.Rightly.{scripts_are_right}
+use Rattle.run_laws.proofs.plant_laws.plant_model.WireLaws.{wire_is_codec}
+use Rattle.run_laws.proofs.plant_laws.Once.AskedRuns.{none_outside}
+use Rattle.run_laws.proofs.plant_laws.Once.OpenTables.{open_is_pending}
+use Rattle.run_laws.proofs.plant_laws.Reasons.AllCauses.{messages_have_causes}
+use Rattle.run_laws.proofs.plant_laws.Runs.Moments.{opened_within, peer_is, within_length}
+use Rattle.run_laws.proofs.plant_laws.Runs.Queues.{same_as_is}
+use Rattle.run_laws.proofs.plant_laws.Settled.UnderWayLaw.{quiet_has_none_pending}
+use Rattle.run_laws.proofs.plant_laws.WrittenForm.EveryWritten.{every_written}
 use Rattle.plant_client.specs.plant_play.transcript.Replies.{message_lines}
 use Rattle.plant_client.specs.declared.question.Question.{Question}
 use Rattle.plant_client.specs.Asking.{topologies}

@@ -8,22 +8,22 @@ use Rattle.plant_text.specs.declared.line.LineEvent.{LineEvent}
 use Rattle.plant_text.specs.declared.line.LineEvent.TheVariants as line
 use Rattle.plant_text.specs.declared.settings.NetworkParts.{NetworkParts}
 use Rattle.plant_text.specs.Settings.{peer_row}
-use Rattle.script_laws.specs.plant_model.declared.event.Event.{Event}
-use Rattle.script_laws.specs.plant_model.declared.event.Event.TheVariants as event
-use Rattle.script_laws.specs.plant_model.Blind.{is_accepted}
-use Rattle.script_laws.specs.plant_model.Events as events
-use Rattle.script_laws.specs.plant_model.Events.{Answered}
-use Rattle.script_laws.specs.plant_model.Plant.{Entry, Happened, Happens, Pin, Plant, Segment}
-use Rattle.script_laws.specs.plant_model.RealWire.{wire}
-use Rattle.script_laws.specs.plant_model.State.{Connection}
-use Rattle.script_laws.specs.plant_model.Wire.{Bytes}
-use Rattle.script_laws.specs.plant_play.declared.going.Until.{Until}
-use Rattle.script_laws.specs.plant_play.declared.going.Until.TheVariants.{Finished, Settled}
-use Rattle.script_laws.specs.plant_play.declared.showing.Modes.{Modes}
-use Rattle.script_laws.specs.plant_play.Due.{AreAllDue, AreDue, IsDue, IsDueTake}
-use Rattle.script_laws.specs.plant_play.Playing.{Cue, Plays, PlaysFeed, PlaysLine, PlaysOne, PlayedNetwork}
-use Rattle.script_laws.specs.plant_play.Scripts.{AllPlayed}
-use Rattle.script_laws.specs.plant_play.Turns.{Turn, entries_of}
+use Rattle.plant_play.specs.plant_model.declared.event.Event.{Event}
+use Rattle.plant_play.specs.plant_model.declared.event.Event.TheVariants as event
+use Rattle.plant_play.specs.plant_model.Blind.{is_accepted}
+use Rattle.plant_play.specs.plant_model.Events as events
+use Rattle.plant_play.specs.plant_model.Events.{Answered}
+use Rattle.plant_play.specs.plant_model.Plant.{Entry, Happened, Happens, Pin, Plant, Segment}
+use Rattle.plant_play.specs.plant_model.RealWire.{wire}
+use Rattle.plant_play.specs.plant_model.State.{Connection}
+use Rattle.plant_play.specs.plant_model.Wire.{Bytes}
+use Rattle.plant_play.specs.declared.going.Until.{Until}
+use Rattle.plant_play.specs.declared.going.Until.TheVariants.{Finished, Settled}
+use Rattle.plant_play.specs.declared.showing.Modes.{Modes}
+use Rattle.plant_play.specs.Due.{AreAllDue, AreDue, IsDue, IsDueTake}
+use Rattle.plant_play.specs.Playing.{Cue, Plays, PlaysFeed, PlaysLine, PlaysOne, PlayedNetwork}
+use Rattle.plant_play.specs.Scripts.{AllPlayed}
+use Rattle.plant_play.specs.Turns.{Turn, entries_of}
 use Rattle.plant_client.specs.declared.question.Question.{Question}
 use Rattle.plant_client.specs.Asking.{AreCues, load_line, question_lines}
 use Rattle.plant_client.specs.Questions.{opening_text, question_text}

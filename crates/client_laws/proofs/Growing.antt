@@ -6,11 +6,11 @@ use Rattle.pcep_framing.specs.Frames.{joined}
 use Rattle.pcep_messages.specs.declared.message.Message.{Message}
 use Rattle.pcep_messages.specs.Messages.{Reads}
 use Rattle.pcep_messages.specs.Spelling.{IsWritten, message_text}
-use Rattle.script_laws.specs.plant_model.Blind.{is_accepted}
-use Rattle.script_laws.specs.plant_model.Plant.{Entry}
-use Rattle.script_laws.specs.plant_model.RealWire.{wire}
-use Rattle.script_laws.specs.plant_model.Wire.{Bytes}
-use Rattle.script_laws.specs.plant_play.Turns.{Turn, entries_of}
+use Rattle.plant_play.specs.plant_model.Blind.{is_accepted}
+use Rattle.plant_play.specs.plant_model.Plant.{Entry}
+use Rattle.plant_play.specs.plant_model.RealWire.{wire}
+use Rattle.plant_play.specs.plant_model.Wire.{Bytes}
+use Rattle.plant_play.specs.Turns.{Turn, entries_of}
 use Rattle.plant_client.specs.Hearing.{heard_in, in_frame, in_reading}
 use Rattle.plant_client.specs.Telling.{last_of}
 use Rattle.run_laws.specs.Outlets.{Outlet, ConnectionChange, bytes_of, handed_in, messages_for, outlet, turn_for, turned, with_put}

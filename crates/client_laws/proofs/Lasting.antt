@@ -23,37 +23,37 @@ use Rattle.request_table.specs.Pending.{same_peer}
 use Rattle.plant_text.specs.declared.settings.NetworkParts.{NetworkParts}
 use Rattle.plant_text.specs.declared.settings.PeerRow.{PeerRow}
 use Rattle.plant_text.specs.Names.{parent_as, same_as}
-use Rattle.script_laws.specs.plant_model.declared.event.Event.{Event}
-use Rattle.script_laws.specs.plant_model.declared.event.Event.TheVariants as event
-use Rattle.script_laws.specs.plant_model.declared.output.Output.{Output}
-use Rattle.script_laws.specs.plant_model.Branches.{path_of}
-use Rattle.script_laws.specs.plant_model.Element.{Element, Item, Row, is_client}
-use Rattle.script_laws.specs.plant_model.Laws.{IsNetwork}
-use Rattle.script_laws.specs.plant_model.Names.{the_parent}
-use Rattle.script_laws.specs.plant_model.Parent.{Parent}
-use Rattle.script_laws.specs.plant_model.Plant.{Entry, Pin, Plant, PlantDeed, Run, Segment, deeds_of}
-use Rattle.script_laws.specs.plant_model.RealWire.{wire}
-use Rattle.script_laws.specs.plant_model.Settings.{family, place}
+use Rattle.plant_play.specs.plant_model.declared.event.Event.{Event}
+use Rattle.plant_play.specs.plant_model.declared.event.Event.TheVariants as event
+use Rattle.plant_play.specs.plant_model.declared.output.Output.{Output}
+use Rattle.plant_play.specs.plant_model.Branches.{path_of}
+use Rattle.plant_play.specs.plant_model.Element.{Element, Item, Row, is_client}
+use Rattle.plant_play.specs.plant_model.Laws.{IsNetwork}
+use Rattle.plant_play.specs.plant_model.Names.{the_parent}
+use Rattle.plant_play.specs.plant_model.Parent.{Parent}
+use Rattle.plant_play.specs.plant_model.Plant.{Entry, Pin, Plant, PlantDeed, Run, Segment, deeds_of}
+use Rattle.plant_play.specs.plant_model.RealWire.{wire}
+use Rattle.plant_play.specs.plant_model.Settings.{family, place}
 use Rattle.plant_text.specs.Settings.{class_of}
-use Rattle.script_laws.specs.plant_model.Parent as parent
-use Rattle.script_laws.specs.plant_model.Taking as taking
-use Rattle.script_laws.specs.plant_model.State.{Clears, Downs, Expires, Hands, Loads, Pops, Says, Solves, Takes, Ups}
-use Rattle.script_laws.specs.plant_model.Writing.{busy, error_message, reply_message}
-use Rattle.script_laws.specs.plant_laws.Causes.{AnswersLost, Comes, HasCause, IsLost, IsLostAbove, OfSession, OfSolve, OnPassed, Passes as Passed, anew, asker_above, asker_of, begins, by_element, by_parent, by_table, came_along, came_first, from_inside, from_outside, left_above, left_rows, of_element, of_parent, ticks}
-use Rattle.script_laws.specs.plant_laws.MessageCauses.{Asker, OnMessage, OnRequest, OnRequestAbove, WaitsAbove, WaitsAt, parts}
-use Rattle.script_laws.specs.plant_laws.Solves as solves
-use Rattle.script_laws.specs.plant_laws.Sending.{AllSent}
-use Rattle.script_laws.specs.plant_laws.Transcript.{Delivered, Transcript, Within, answers_to, count_answers, opened}
-use Rattle.script_laws.proofs.plant_laws.plant_model.WireLaws.{wire_is_codec}
-use Rattle.script_laws.proofs.plant_laws.Numbering.Sends.{IsAlone}
-use Rattle.script_laws.proofs.plant_laws.Once.Alone.{takes_alone}
-use Rattle.script_laws.proofs.plant_laws.Once.AskedRuns.{none_outside}
-use Rattle.script_laws.proofs.plant_laws.Once.Besides.{answers_in, besides_asking}
-use Rattle.script_laws.proofs.plant_laws.Once.Founded.{founded_within, run_founded}
-use Rattle.script_laws.proofs.plant_laws.Once.Handing.{In}
-use Rattle.script_laws.proofs.plant_laws.Runs.Moments.{opened_within, peer_is, within_here, within_trans}
-use Rattle.script_laws.proofs.plant_laws.WrittenForm.Again.{all_read}
-use Rattle.script_laws.proofs.plant_laws.WrittenForm.RequestsWritten.{requests_are_single}
+use Rattle.plant_play.specs.plant_model.Parent as parent
+use Rattle.plant_play.specs.plant_model.Taking as taking
+use Rattle.plant_play.specs.plant_model.State.{Clears, Downs, Expires, Hands, Loads, Pops, Says, Solves, Takes, Ups}
+use Rattle.plant_play.specs.plant_model.Writing.{busy, error_message, reply_message}
+use Rattle.run_laws.specs.plant_laws.Causes.{AnswersLost, Comes, HasCause, IsLost, IsLostAbove, OfSession, OfSolve, OnPassed, Passes as Passed, anew, asker_above, asker_of, begins, by_element, by_parent, by_table, came_along, came_first, from_inside, from_outside, left_above, left_rows, of_element, of_parent, ticks}
+use Rattle.run_laws.specs.plant_laws.MessageCauses.{Asker, OnMessage, OnRequest, OnRequestAbove, WaitsAbove, WaitsAt, parts}
+use Rattle.run_laws.specs.plant_laws.Solves as solves
+use Rattle.run_laws.specs.plant_laws.Sending.{AllSent}
+use Rattle.run_laws.specs.plant_laws.Transcript.{Delivered, Transcript, Within, answers_to, count_answers, opened}
+use Rattle.run_laws.proofs.plant_laws.plant_model.WireLaws.{wire_is_codec}
+use Rattle.run_laws.proofs.plant_laws.Numbering.Sends.{IsAlone}
+use Rattle.run_laws.proofs.plant_laws.Once.Alone.{takes_alone}
+use Rattle.run_laws.proofs.plant_laws.Once.AskedRuns.{none_outside}
+use Rattle.run_laws.proofs.plant_laws.Once.Besides.{answers_in, besides_asking}
+use Rattle.run_laws.proofs.plant_laws.Once.Founded.{founded_within, run_founded}
+use Rattle.run_laws.proofs.plant_laws.Once.Handing.{In}
+use Rattle.run_laws.proofs.plant_laws.Runs.Moments.{opened_within, peer_is, within_here, within_trans}
+use Rattle.run_laws.proofs.plant_laws.WrittenForm.Again.{all_read}
+use Rattle.run_laws.proofs.plant_laws.WrittenForm.RequestsWritten.{requests_are_single}
 use Rattle.plant_client.specs.declared.question.Question.{Question}
 use Rattle.run_laws.specs.Outlets.{outputs_of}
 use Rattle.client_laws.specs.Asked.{AsksOnly}

@@ -4,19 +4,19 @@ use Rattle.pcep_messages.specs.declared.message.Message.{Message}
 use Rattle.plant_text.specs.declared.line.LineEvent.{LineEvent}
 use Rattle.plant_text.specs.declared.line.LineEvent.TheVariants as line
 use Rattle.plant_text.specs.declared.settings.NetworkParts.{NetworkParts}
-use Rattle.script_laws.specs.plant_model.declared.event.Event.{Event}
-use Rattle.script_laws.specs.plant_model.declared.event.Event.TheVariants as event
-use Rattle.script_laws.specs.plant_model.Blind.{is_accepted}
-use Rattle.script_laws.specs.plant_model.Events.{Answered}
-use Rattle.script_laws.specs.plant_model.Plant.{Entry, Plant}
-use Rattle.script_laws.specs.plant_model.RealWire.{wire}
-use Rattle.script_laws.specs.plant_model.Wire.{Bytes}
-use Rattle.script_laws.specs.plant_play.declared.going.Until.{Until}
-use Rattle.script_laws.specs.plant_play.declared.going.Until.TheVariants.{Finished, Settled}
-use Rattle.script_laws.specs.plant_play.declared.showing.Modes.{Modes}
-use Rattle.script_laws.specs.plant_play.Due.{AreAllDue, AreDue, IsDue, IsDueTake}
-use Rattle.script_laws.specs.plant_play.Playing.{Plays, PlaysDue, PlaysFeedAt, PlaysOne, PlayedNetwork}
-use Rattle.script_laws.specs.plant_play.Turns.{IsTurn, Turn, entries_of}
+use Rattle.plant_play.specs.plant_model.declared.event.Event.{Event}
+use Rattle.plant_play.specs.plant_model.declared.event.Event.TheVariants as event
+use Rattle.plant_play.specs.plant_model.Blind.{is_accepted}
+use Rattle.plant_play.specs.plant_model.Events.{Answered}
+use Rattle.plant_play.specs.plant_model.Plant.{Entry, Plant}
+use Rattle.plant_play.specs.plant_model.RealWire.{wire}
+use Rattle.plant_play.specs.plant_model.Wire.{Bytes}
+use Rattle.plant_play.specs.declared.going.Until.{Until}
+use Rattle.plant_play.specs.declared.going.Until.TheVariants.{Finished, Settled}
+use Rattle.plant_play.specs.declared.showing.Modes.{Modes}
+use Rattle.plant_play.specs.Due.{AreAllDue, AreDue, IsDue, IsDueTake}
+use Rattle.plant_play.specs.Playing.{Plays, PlaysDue, PlaysFeedAt, PlaysOne, PlayedNetwork}
+use Rattle.plant_play.specs.Turns.{IsTurn, Turn, entries_of}
 use Rattle.run_laws.specs.Outlets.{Outlet, Stays, ConnectionChange, handed_in, messages_for, outlet, turn_for, turned, with_put}
 use Rattle.run_laws.proofs.PeerLemmas.OutletEvents.{Fits, steps_went}
 use Rattle.run_laws.proofs.PeerLemmas.Growing.{View, view_of}

@@ -21,25 +21,25 @@ use Rattle.plant_text.specs.declared.line.LineEvent.{LineEvent}
 use Rattle.plant_text.specs.declared.line.LineEvent.TheVariants as line
 use Rattle.plant_text.specs.declared.settings.NetworkParts.{NetworkParts}
 use Rattle.plant_text.specs.Settings.{peer_row}
-use Rattle.script_laws.specs.plant_model.declared.event.Event.{Event}
-use Rattle.script_laws.specs.plant_model.declared.event.Event.TheVariants as event
-use Rattle.script_laws.specs.plant_model.declared.output.Output.{Output}
-use Rattle.script_laws.specs.plant_model.Blind.{is_accepted}
-use Rattle.script_laws.specs.plant_model.Deeds.{element_of, input_of, read_as, with_more}
-use Rattle.script_laws.specs.plant_model.Events as events
-use Rattle.script_laws.specs.plant_model.Events.{Answered, bad_item, is_down, split_all}
-use Rattle.script_laws.specs.plant_model.Plant.{Entry, Happened, Happens, Pin, Plant, Segment, deeds_of}
-use Rattle.script_laws.specs.plant_model.RealWire.{message_or_none, wire}
-use Rattle.script_laws.specs.plant_model.State.{Connection, Takes}
-use Rattle.script_laws.specs.plant_model.Wire.{Bytes}
-use Rattle.script_laws.specs.plant_laws.Transcript.{Transcript, Within}
-use Rattle.script_laws.specs.plant_play.declared.going.Until.{Until}
-use Rattle.script_laws.specs.plant_play.declared.going.Until.TheVariants.{Finished, Settled}
-use Rattle.script_laws.specs.plant_play.declared.showing.Modes.{Modes}
-use Rattle.script_laws.specs.plant_play.Due.{AreAllDue, AreDue, IsDue, IsDueTake}
-use Rattle.script_laws.specs.plant_play.Playing.{Cue, Plays, PlaysFeed, PlaysLine, PlaysOne, PlayedNetwork}
-use Rattle.script_laws.specs.plant_play.Scripts.{AllPlayed}
-use Rattle.script_laws.specs.plant_play.Turns.{Turn, entries_of}
+use Rattle.plant_play.specs.plant_model.declared.event.Event.{Event}
+use Rattle.plant_play.specs.plant_model.declared.event.Event.TheVariants as event
+use Rattle.plant_play.specs.plant_model.declared.output.Output.{Output}
+use Rattle.plant_play.specs.plant_model.Blind.{is_accepted}
+use Rattle.plant_play.specs.plant_model.Deeds.{element_of, input_of, read_as, with_more}
+use Rattle.plant_play.specs.plant_model.Events as events
+use Rattle.plant_play.specs.plant_model.Events.{Answered, bad_item, is_down, split_all}
+use Rattle.plant_play.specs.plant_model.Plant.{Entry, Happened, Happens, Pin, Plant, Segment, deeds_of}
+use Rattle.plant_play.specs.plant_model.RealWire.{message_or_none, wire}
+use Rattle.plant_play.specs.plant_model.State.{Connection, Takes}
+use Rattle.plant_play.specs.plant_model.Wire.{Bytes}
+use Rattle.run_laws.specs.plant_laws.Transcript.{Transcript, Within}
+use Rattle.plant_play.specs.declared.going.Until.{Until}
+use Rattle.plant_play.specs.declared.going.Until.TheVariants.{Finished, Settled}
+use Rattle.plant_play.specs.declared.showing.Modes.{Modes}
+use Rattle.plant_play.specs.Due.{AreAllDue, AreDue, IsDue, IsDueTake}
+use Rattle.plant_play.specs.Playing.{Cue, Plays, PlaysFeed, PlaysLine, PlaysOne, PlayedNetwork}
+use Rattle.plant_play.specs.Scripts.{AllPlayed}
+use Rattle.plant_play.specs.Turns.{Turn, entries_of}
 use Rattle.client_laws.proofs.OutsideStays.{AreHarmless, Has, Leads, carry_stays, feed_stays, harmless_append, keepalive_leads, load_stays, open_leads, open_stays, request_leads, request_taken, solve_stays, take_stays}
 use Rattle.plant_network.specs.Due.{inbox_from}
 use Rattle.run_laws.proofs.PeerLemmas.Streams.{stream_of}

@@ -26,25 +26,25 @@ use Rattle.request_table.specs.Pending.{same_peer}
 use Rattle.plant_text.specs.declared.settings.NetworkParts.{NetworkParts}
 use Rattle.plant_text.specs.Names.{same_as, parent_as}
 use Rattle.plant_text.specs.Settings.{Adjacency, adjacency, adjacencies, is_linked, is_element, peer_row, class_of}
-use Rattle.script_laws.specs.plant_model.declared.event.Event.TheVariants as event
-use Rattle.script_laws.specs.plant_model.declared.output.Output.{Output}
-use Rattle.script_laws.specs.plant_model.declared.outcome.Refused.TheVariants.{NoSuchPeer}
-use Rattle.script_laws.specs.plant_model.Names.{is_empty, set_pair}
-use Rattle.script_laws.specs.plant_model.Wire.{Bytes, Codec}
-use Rattle.script_laws.specs.plant_model.Element.{Taken, upped, downed}
-use Rattle.script_laws.specs.plant_model.Taking.{take}
-use Rattle.script_laws.specs.plant_model.Solving.{commit, job_found}
-use Rattle.script_laws.specs.plant_model.Parent as parent
-use Rattle.script_laws.specs.plant_model.Settings.{place, family}
-use Rattle.script_laws.specs.plant_model.State.{Connection, Access, Loads, Pops, Takes, Says, Ups, Downs, Clears, Solves, Expires, Hands}
-use Rattle.script_laws.specs.plant_model.Deeds.{Going, element_of, is_due, is_tick, is_out_empty, any_fall, our_offer, as_sid, on_connection, with_more, with_session, with_inbox, read_as, input_of, with_parent, with_element, own_message, put, put_to, puts, give, rise, fall, say, clear, outside_act, outside_acts, outside_step, outside_input, inner_act, inner_acts, inner_input, begin_end, begin_adjacency, break_adjacency, with_access, with_inner}
-use Rattle.script_laws.specs.plant_model.Events as events
-use Rattle.script_laws.specs.plant_model.Events.{split_all, bad_item, is_down}
-use Rattle.script_laws.specs.plant_model.Plant.{Pin, Segment, Plant, PlantDeed, Happened, Happens, SolveHappens, is_full, load_new, opened}
-use Rattle.script_laws.specs.plant_laws.Answered.{DropsFor, cancelled, went_down}
-use Rattle.script_laws.specs.plant_laws.Causes.{an_open, opens_of}
-use Rattle.script_laws.specs.plant_laws.Transcript.{Transcript, Within}
-use Rattle.script_laws.proofs.plant_laws.Reasons.AllCauses.{networks_begin}
+use Rattle.plant_play.specs.plant_model.declared.event.Event.TheVariants as event
+use Rattle.plant_play.specs.plant_model.declared.output.Output.{Output}
+use Rattle.plant_play.specs.plant_model.declared.outcome.Refused.TheVariants.{NoSuchPeer}
+use Rattle.plant_play.specs.plant_model.Names.{is_empty, set_pair}
+use Rattle.plant_play.specs.plant_model.Wire.{Bytes, Codec}
+use Rattle.plant_play.specs.plant_model.Element.{Taken, upped, downed}
+use Rattle.plant_play.specs.plant_model.Taking.{take}
+use Rattle.plant_play.specs.plant_model.Solving.{commit, job_found}
+use Rattle.plant_play.specs.plant_model.Parent as parent
+use Rattle.plant_play.specs.plant_model.Settings.{place, family}
+use Rattle.plant_play.specs.plant_model.State.{Connection, Access, Loads, Pops, Takes, Says, Ups, Downs, Clears, Solves, Expires, Hands}
+use Rattle.plant_play.specs.plant_model.Deeds.{Going, element_of, is_due, is_tick, is_out_empty, any_fall, our_offer, as_sid, on_connection, with_more, with_session, with_inbox, read_as, input_of, with_parent, with_element, own_message, put, put_to, puts, give, rise, fall, say, clear, outside_act, outside_acts, outside_step, outside_input, inner_act, inner_acts, inner_input, begin_end, begin_adjacency, break_adjacency, with_access, with_inner}
+use Rattle.plant_play.specs.plant_model.Events as events
+use Rattle.plant_play.specs.plant_model.Events.{split_all, bad_item, is_down}
+use Rattle.plant_play.specs.plant_model.Plant.{Pin, Segment, Plant, PlantDeed, Happened, Happens, SolveHappens, is_full, load_new, opened}
+use Rattle.run_laws.specs.plant_laws.Answered.{DropsFor, cancelled, went_down}
+use Rattle.run_laws.specs.plant_laws.Causes.{an_open, opens_of}
+use Rattle.run_laws.specs.plant_laws.Transcript.{Transcript, Within}
+use Rattle.run_laws.proofs.plant_laws.Reasons.AllCauses.{networks_begin}
 
 -- ---- deeds that drop nothing of the peer
 

@@ -13,39 +13,39 @@ use Rattle.plant_text.specs.declared.settings.ElementRow.{ElementRow}
 use Rattle.plant_text.specs.declared.settings.NetworkParts.{NetworkParts}
 use Rattle.plant_text.specs.Names.{insert_as, parent_as, same_as}
 use Rattle.plant_text.specs.Settings.{Adjacency, elements_of, has_adjacency, is_element, adjacencies, row_of}
-use Rattle.script_laws.specs.plant_model.declared.event.Event.{Event}
-use Rattle.script_laws.specs.plant_model.declared.event.Event.TheVariants as event
-use Rattle.script_laws.specs.plant_model.declared.outcome.Outcome.TheVariants.{Done}
-use Rattle.script_laws.specs.plant_model.declared.outcome.Refused.TheVariants.{NoSuchPeer}
-use Rattle.script_laws.specs.plant_model.Blind.{is_accepted}
-use Rattle.script_laws.specs.plant_model.Element as element
-use Rattle.script_laws.specs.plant_model.Element.{Item}
-use Rattle.script_laws.specs.plant_model.Events.{Answered, has_jobs, is_ready, is_ready_asking, is_ready_row, jobs_at, jobs_of, ready_jobs}
-use Rattle.script_laws.specs.plant_model.Names.{is_empty}
-use Rattle.script_laws.specs.plant_model.Parent as parent
-use Rattle.script_laws.specs.plant_model.Plant.{Happened, Happens, Pin, Plant}
-use Rattle.script_laws.specs.plant_model.RealWire.{wire}
-use Rattle.script_laws.specs.plant_model.State.{Connection}
-use Rattle.script_laws.specs.plant_model.Wire.{Bytes}
-use Rattle.script_laws.specs.plant_laws.Chains.{HasEmptyInbox}
-use Rattle.script_laws.specs.plant_laws.Resting.{IsAtRest}
+use Rattle.plant_play.specs.plant_model.declared.event.Event.{Event}
+use Rattle.plant_play.specs.plant_model.declared.event.Event.TheVariants as event
+use Rattle.plant_play.specs.plant_model.declared.outcome.Outcome.TheVariants.{Done}
+use Rattle.plant_play.specs.plant_model.declared.outcome.Refused.TheVariants.{NoSuchPeer}
+use Rattle.plant_play.specs.plant_model.Blind.{is_accepted}
+use Rattle.plant_play.specs.plant_model.Element as element
+use Rattle.plant_play.specs.plant_model.Element.{Item}
+use Rattle.plant_play.specs.plant_model.Events.{Answered, has_jobs, is_ready, is_ready_asking, is_ready_row, jobs_at, jobs_of, ready_jobs}
+use Rattle.plant_play.specs.plant_model.Names.{is_empty}
+use Rattle.plant_play.specs.plant_model.Parent as parent
+use Rattle.plant_play.specs.plant_model.Plant.{Happened, Happens, Pin, Plant}
+use Rattle.plant_play.specs.plant_model.RealWire.{wire}
+use Rattle.plant_play.specs.plant_model.State.{Connection}
+use Rattle.plant_play.specs.plant_model.Wire.{Bytes}
+use Rattle.run_laws.specs.plant_laws.Chains.{HasEmptyInbox}
+use Rattle.run_laws.specs.plant_laws.Resting.{IsAtRest}
 use Rattle.plant_network.specs.Due.{inbox_from}
 use Rattle.plant_network.specs.network_links.Waiting.{ways}
-use Rattle.script_laws.specs.plant_play.declared.going.Until.{Until}
-use Rattle.script_laws.specs.plant_play.declared.going.Until.TheVariants.{Finished, Settled}
-use Rattle.script_laws.specs.plant_play.declared.showing.Modes.{Modes}
-use Rattle.script_laws.specs.plant_play.Due.{AreAllDue, AreDue, IsDue, IsDueTake}
-use Rattle.script_laws.specs.plant_play.Playing.{Changes, Cue, IsNewNetwork, Plays, PlaysDue, PlaysFeed, PlaysFeedAt, PlaysLine, PlaysNone, PlaysOne, PlayedNetwork}
-use Rattle.script_laws.specs.plant_play.Scripts.{AllPlayed}
-use Rattle.script_laws.specs.plant_play.Turns.{Turn, entries_of}
-use Rattle.script_laws.proofs.plant_laws.Runs.Queues.{same_as_is}
+use Rattle.plant_play.specs.declared.going.Until.{Until}
+use Rattle.plant_play.specs.declared.going.Until.TheVariants.{Finished, Settled}
+use Rattle.plant_play.specs.declared.showing.Modes.{Modes}
+use Rattle.plant_play.specs.Due.{AreAllDue, AreDue, IsDue, IsDueTake}
+use Rattle.plant_play.specs.Playing.{Changes, Cue, IsNewNetwork, Plays, PlaysDue, PlaysFeed, PlaysFeedAt, PlaysLine, PlaysNone, PlaysOne, PlayedNetwork}
+use Rattle.plant_play.specs.Scripts.{AllPlayed}
+use Rattle.plant_play.specs.Turns.{Turn, entries_of}
+use Rattle.run_laws.proofs.plant_laws.Runs.Queues.{same_as_is}
 use Rattle.plant_client.specs.declared.question.Question.{Question}
 use Rattle.plant_client.specs.Asking.{AreCues, load_line, question_lines, topologies}
 use Rattle.plant_client.specs.Questions.{opening_text, question_text}
 use Rattle.run_laws.proofs.PeerLemmas.OutletRuns.{run_fits}
-use Rattle.script_laws.proofs.Rightly.{scripts_are_right}
-use Rattle.script_laws.proofs.plant_laws.Settled.Resting.{rest_is_quiet}
-use Rattle.script_laws.proofs.plant_laws.plant_model.WireLaws.{wire_is_codec}
+use Rattle.client_laws.proofs.Rightly.{scripts_are_right}
+use Rattle.run_laws.proofs.plant_laws.Settled.Resting.{rest_is_quiet}
+use Rattle.run_laws.proofs.plant_laws.plant_model.WireLaws.{wire_is_codec}
 use Rattle.client_laws.proofs.Asking.{lines_feed, no_connection}
 use Rattle.client_laws.proofs.Taking as taking
 use Rattle.client_laws.proofs.Taking.{AreTakenBut, Keeps}

@@ -13,20 +13,20 @@ use Rattle.pcep_messages.specs.declared.message.Wish.TheVariants as wishes
 use Rattle.pcep_messages.specs.Spelling.{IsWritten}
 use Rattle.request_table.specs.Pending.{same_peer}
 use Rattle.plant_text.specs.Names.{same_as}
-use Rattle.script_laws.specs.plant_model.declared.output.Output.{Output}
-use Rattle.script_laws.specs.plant_model.Plant.{PlantDeed, Segment, deeds_of}
-use Rattle.script_laws.specs.plant_model.State.{Takes}
-use Rattle.script_laws.specs.plant_model.Wire.{Admitted, Checked, Codec}
-use Rattle.script_laws.specs.plant_laws.Answered.{Fate, answers_of}
-use Rattle.script_laws.specs.plant_laws.Answered as once
-use Rattle.script_laws.specs.plant_laws.Sending.{AllSent}
-use Rattle.script_laws.specs.plant_laws.Transcript.{Begins, Delivered, Effect, Ends, Keeps, Transcript, after, answers_to, begins, begins_if, effect, opened}
-use Rattle.script_laws.proofs.plant_laws.Once.Answering.{requests_are_answered_once}
-use Rattle.script_laws.proofs.plant_laws.Once.OpenTables.{pending_row}
-use Rattle.script_laws.proofs.plant_laws.WrittenForm.EveryWritten.{every_written}
-use Rattle.script_laws.proofs.plant_laws.Runs.Moments.{opened_within, within_trans}
-use Rattle.script_laws.proofs.plant_laws.Numbering.NumberRuns.{peer_self}
-use Rattle.script_laws.proofs.plant_laws.Settled.UnderWayLaw.{quiet_is_answered}
+use Rattle.plant_play.specs.plant_model.declared.output.Output.{Output}
+use Rattle.plant_play.specs.plant_model.Plant.{PlantDeed, Segment, deeds_of}
+use Rattle.plant_play.specs.plant_model.State.{Takes}
+use Rattle.plant_play.specs.plant_model.Wire.{Admitted, Checked, Codec}
+use Rattle.run_laws.specs.plant_laws.Answered.{Fate, answers_of}
+use Rattle.run_laws.specs.plant_laws.Answered as once
+use Rattle.run_laws.specs.plant_laws.Sending.{AllSent}
+use Rattle.run_laws.specs.plant_laws.Transcript.{Begins, Delivered, Effect, Ends, Keeps, Transcript, after, answers_to, begins, begins_if, effect, opened}
+use Rattle.run_laws.proofs.plant_laws.Once.Answering.{requests_are_answered_once}
+use Rattle.run_laws.proofs.plant_laws.Once.OpenTables.{pending_row}
+use Rattle.run_laws.proofs.plant_laws.WrittenForm.EveryWritten.{every_written}
+use Rattle.run_laws.proofs.plant_laws.Runs.Moments.{opened_within, within_trans}
+use Rattle.run_laws.proofs.plant_laws.Numbering.NumberRuns.{peer_self}
+use Rattle.run_laws.proofs.plant_laws.Settled.UnderWayLaw.{quiet_is_answered}
 use Rattle.client_laws.specs.Served.{IsServed, IsTaken, TakenIsOpen, TakenIsServed}
 use Rattle.client_laws.specs.Served as served
 

@@ -11,22 +11,22 @@ use Rattle.pcep_session.specs.Table.{new_state}
 use Rattle.plant_text.specs.declared.settings.NetworkParts.{NetworkParts}
 use Rattle.plant_text.specs.Names.{parent_as}
 use Rattle.plant_text.specs.Settings.{is_element, is_linked, adjacency, adjacencies, peer_row}
-use Rattle.script_laws.specs.plant_model.declared.event.Event.{Event}
-use Rattle.script_laws.specs.plant_model.declared.event.Event.TheVariants as event
-use Rattle.script_laws.specs.plant_model.declared.outcome.Refused.TheVariants.{NoSuchPeer}
-use Rattle.script_laws.specs.plant_model.Blind.{is_accepted}
-use Rattle.script_laws.specs.plant_model.Deeds.{Going, element_of, fall, input_of, on_connection, our_offer, outside_input, read_as, tick_adjacencies, tick_outside, with_access, with_element, with_inbox, with_parent}
-use Rattle.script_laws.specs.plant_model.Events as events
-use Rattle.script_laws.specs.plant_model.Events.{is_down}
-use Rattle.script_laws.specs.plant_model.Names.{set_pair}
-use Rattle.script_laws.specs.plant_model.Parent as parent
-use Rattle.script_laws.specs.plant_model.Plant.{ElementSolves, Happened, Happens, ParentSolves, Pin, Plant, Segment, is_full}
-use Rattle.script_laws.specs.plant_model.RealWire.{wire}
-use Rattle.script_laws.specs.plant_model.Settings.{place}
-use Rattle.script_laws.specs.plant_model.Solving.{commit, job_found}
-use Rattle.script_laws.specs.plant_model.State.{Access, Connection, Pops, Solves}
-use Rattle.script_laws.specs.plant_model.Wire.{Bytes}
-use Rattle.script_laws.specs.plant_laws.Chains.{HasEmptyInbox}
+use Rattle.plant_play.specs.plant_model.declared.event.Event.{Event}
+use Rattle.plant_play.specs.plant_model.declared.event.Event.TheVariants as event
+use Rattle.plant_play.specs.plant_model.declared.outcome.Refused.TheVariants.{NoSuchPeer}
+use Rattle.plant_play.specs.plant_model.Blind.{is_accepted}
+use Rattle.plant_play.specs.plant_model.Deeds.{Going, element_of, fall, input_of, on_connection, our_offer, outside_input, read_as, tick_adjacencies, tick_outside, with_access, with_element, with_inbox, with_parent}
+use Rattle.plant_play.specs.plant_model.Events as events
+use Rattle.plant_play.specs.plant_model.Events.{is_down}
+use Rattle.plant_play.specs.plant_model.Names.{set_pair}
+use Rattle.plant_play.specs.plant_model.Parent as parent
+use Rattle.plant_play.specs.plant_model.Plant.{ElementSolves, Happened, Happens, ParentSolves, Pin, Plant, Segment, is_full}
+use Rattle.plant_play.specs.plant_model.RealWire.{wire}
+use Rattle.plant_play.specs.plant_model.Settings.{place}
+use Rattle.plant_play.specs.plant_model.Solving.{commit, job_found}
+use Rattle.plant_play.specs.plant_model.State.{Access, Connection, Pops, Solves}
+use Rattle.plant_play.specs.plant_model.Wire.{Bytes}
+use Rattle.run_laws.specs.plant_laws.Chains.{HasEmptyInbox}
 use Rattle.run_laws.proofs.PeerLemmas.Fading as fading
 use Rattle.run_laws.proofs.PeerLemmas.Fading.{AllFade, CameFrom}
 use Rattle.client_laws.specs.Resting.{AreTaken}

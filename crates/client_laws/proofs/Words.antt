@@ -15,17 +15,17 @@ use Rattle.pcep_messages.specs.declared.message.Reply.{Reply}
 use Rattle.pcep_messages.specs.declared.message.Wanted.{Wanted}
 use Rattle.plant_text.specs.declared.settings.NetworkParts.{NetworkParts}
 use Rattle.plant_text.specs.declared.settings.PeerRow.{PeerRow}
-use Rattle.script_laws.specs.plant_model.declared.output.Output.{Output}
-use Rattle.script_laws.specs.plant_model.Element.{Element}
-use Rattle.script_laws.specs.plant_model.Names.{the_parent}
-use Rattle.script_laws.specs.plant_model.Parent.{Errand, Parent}
-use Rattle.script_laws.specs.plant_model.Plant.{Pin, Segment}
-use Rattle.script_laws.specs.plant_model.Wire.{Codec}
-use Rattle.script_laws.specs.plant_model.Writing.{busy, error_message, reply_message, unavailable}
-use Rattle.script_laws.specs.plant_laws.Causes.{AnswersLost}
-use Rattle.script_laws.specs.plant_laws.MessageCauses.{AreAsked, Asker, GoesTo, OnError, OnNotice, OnPart, OnParts, OnPath, OnReply, OnRequest, OnRequestAbove, Part, along, alone, upward}
-use Rattle.script_laws.specs.plant_laws.MessageCauses as causes
-use Rattle.script_laws.proofs.plant_laws.Runs.Unrouted.{unrouted}
+use Rattle.plant_play.specs.plant_model.declared.output.Output.{Output}
+use Rattle.plant_play.specs.plant_model.Element.{Element}
+use Rattle.plant_play.specs.plant_model.Names.{the_parent}
+use Rattle.plant_play.specs.plant_model.Parent.{Errand, Parent}
+use Rattle.plant_play.specs.plant_model.Plant.{Pin, Segment}
+use Rattle.plant_play.specs.plant_model.Wire.{Codec}
+use Rattle.plant_play.specs.plant_model.Writing.{busy, error_message, reply_message, unavailable}
+use Rattle.run_laws.specs.plant_laws.Causes.{AnswersLost}
+use Rattle.run_laws.specs.plant_laws.MessageCauses.{AreAsked, Asker, GoesTo, OnError, OnNotice, OnPart, OnParts, OnPath, OnReply, OnRequest, OnRequestAbove, Part, along, alone, upward}
+use Rattle.run_laws.specs.plant_laws.MessageCauses as causes
+use Rattle.run_laws.proofs.plant_laws.Runs.Unrouted.{unrouted}
 
 -- what is said to the peer is of this kind
 abbrev pub Each : ℕ → (Message → Type 0) → List Output → Type 0

@@ -10,9 +10,9 @@ use Rattle.pcep_objects.specs.declared.object.Object.{Object}
 use Rattle.pcep_objects.specs.Spelling as objects
 use Rattle.pcep_objects.specs.Spelling.{IsWord}
 use Rattle.pcep_messages.specs.Spelling.{IsWritten, objects_in}
-use Rattle.script_laws.specs.plant_model.Writing.{bandwidth, ends, iro, needed}
-use Rattle.script_laws.proofs.plant_laws.plant_model.ReadSound.{Maybe}
-use Rattle.script_laws.proofs.plant_laws.plant_model.Sends.{IsPart, bandwidth_part, ends_part, iro_part, joined}
+use Rattle.plant_play.specs.plant_model.Writing.{bandwidth, ends, iro, needed}
+use Rattle.run_laws.proofs.plant_laws.plant_model.ReadSound.{Maybe}
+use Rattle.run_laws.proofs.plant_laws.plant_model.Sends.{IsPart, bandwidth_part, ends_part, iro_part, joined}
 use Rattle.plant_client.specs.declared.question.Question.{Question}
 use Rattle.plant_client.specs.Questions.{asked_of, question_message, sequence_most}
 use Rattle.plant_client.proofs.QuestionLemmas.{question_short}

@@ -11,20 +11,20 @@ use Rattle.pcep_messages.specs.Spelling.{IsWritten}
 use Rattle.plant_text.specs.declared.settings.NetworkParts.{NetworkParts}
 use Rattle.plant_text.specs.Names.{parent_as}
 use Rattle.request_table.specs.Pending.{key_of}
-use Rattle.script_laws.specs.plant_model.declared.output.Output.{Output}
-use Rattle.script_laws.specs.plant_model.Deeds.{element_of}
-use Rattle.script_laws.specs.plant_model.Element.{Row}
-use Rattle.script_laws.specs.plant_model.Laws.{IsNetwork}
-use Rattle.script_laws.specs.plant_model.Plant.{Entry, Pin, Plant, PlantDeed, deeds_of}
-use Rattle.script_laws.specs.plant_model.RealWire.{check_of, wire}
-use Rattle.script_laws.specs.plant_model.State.{Takes}
-use Rattle.script_laws.specs.plant_model.Wire.{Admitted, Wrong}
-use Rattle.script_laws.specs.plant_model.Writing.{error_message}
-use Rattle.script_laws.specs.plant_laws.Answered.{DropsFor, answers_of}
-use Rattle.script_laws.specs.plant_laws.Chains.{WaitsOutside}
-use Rattle.script_laws.specs.plant_laws.Transcript.{Transcript, Within}
-use Rattle.script_laws.specs.plant_play.Turns.{entries_of}
-use Rattle.script_laws.specs.Headline.{HasIdsLeft}
+use Rattle.plant_play.specs.plant_model.declared.output.Output.{Output}
+use Rattle.plant_play.specs.plant_model.Deeds.{element_of}
+use Rattle.plant_play.specs.plant_model.Element.{Row}
+use Rattle.plant_play.specs.plant_model.Laws.{IsNetwork}
+use Rattle.plant_play.specs.plant_model.Plant.{Entry, Pin, Plant, PlantDeed, deeds_of}
+use Rattle.plant_play.specs.plant_model.RealWire.{check_of, wire}
+use Rattle.plant_play.specs.plant_model.State.{Takes}
+use Rattle.plant_play.specs.plant_model.Wire.{Admitted, Wrong}
+use Rattle.plant_play.specs.plant_model.Writing.{error_message}
+use Rattle.run_laws.specs.plant_laws.Answered.{DropsFor, answers_of}
+use Rattle.run_laws.specs.plant_laws.Chains.{WaitsOutside}
+use Rattle.run_laws.specs.plant_laws.Transcript.{Transcript, Within}
+use Rattle.plant_play.specs.Turns.{entries_of}
+use Rattle.client_laws.specs.Headline.{HasIdsLeft}
 use Rattle.plant_client.specs.declared.question.Question.{Question}
 use Rattle.plant_client.specs.Asking.{Asks}
 use Rattle.plant_client.specs.Questions.{asked_of, question_message}

@@ -6,12 +6,12 @@ use Rattle.dom_edge.specs.Stores.{Files}
 use Rattle.pcep_messages.specs.declared.message.Request.{Request}
 use Rattle.pcep_messages.specs.Spelling.{IsWritten}
 use Rattle.plant_text.specs.declared.settings.NetworkParts.{NetworkParts}
-use Rattle.script_laws.specs.plant_model.Laws.{IsNetwork}
-use Rattle.script_laws.specs.plant_model.Plant.{Entry, deeds_of}
-use Rattle.script_laws.specs.plant_model.RealWire.{check_of, wire}
-use Rattle.script_laws.specs.plant_model.Wire.{Admitted}
-use Rattle.script_laws.specs.plant_laws.Transcript.{Delivered, Transcript, Within}
-use Rattle.script_laws.specs.plant_play.Turns.{entries_of}
+use Rattle.plant_play.specs.plant_model.Laws.{IsNetwork}
+use Rattle.plant_play.specs.plant_model.Plant.{Entry, deeds_of}
+use Rattle.plant_play.specs.plant_model.RealWire.{check_of, wire}
+use Rattle.plant_play.specs.plant_model.Wire.{Admitted}
+use Rattle.run_laws.specs.plant_laws.Transcript.{Delivered, Transcript, Within}
+use Rattle.plant_play.specs.Turns.{entries_of}
 use Rattle.plant_client.specs.declared.question.Question.{Question}
 use Rattle.plant_client.specs.Asking.{Asks}
 use Rattle.plant_client.specs.Questions.{asked_of, question_message}

@@ -6,11 +6,11 @@ use Rattle.pcep_messages.specs.declared.message.Message.{Message}
 use Rattle.pcep_messages.specs.Spelling.{IsWritten}
 use Rattle.plant_text.specs.declared.settings.NetworkParts.{NetworkParts}
 use Rattle.plant_text.specs.declared.settings.PeerRow.{PeerRow}
-use Rattle.script_laws.specs.plant_model.Laws.{IsNetwork}
-use Rattle.script_laws.specs.plant_model.Plant.{Entry}
-use Rattle.script_laws.specs.plant_model.Writing.{busy, error_message, reply_message}
-use Rattle.script_laws.specs.plant_play.Turns.{entries_of}
-use Rattle.script_laws.specs.Headline.{HasIdsLeft}
+use Rattle.plant_play.specs.plant_model.Laws.{IsNetwork}
+use Rattle.plant_play.specs.plant_model.Plant.{Entry}
+use Rattle.plant_play.specs.plant_model.Writing.{busy, error_message, reply_message}
+use Rattle.plant_play.specs.Turns.{entries_of}
+use Rattle.client_laws.specs.Headline.{HasIdsLeft}
 use Rattle.plant_client.specs.plant_play.transcript.Replies.{message_lines}
 use Rattle.plant_client.specs.declared.question.Question.{Question}
 use Rattle.plant_client.specs.Asking.{Asks}

@@ -5,13 +5,13 @@ use Rattle.pcep_messages.specs.declared.message.Message.{Message}
 use Rattle.pcep_messages.specs.declared.message.Message.TheVariants as messages
 use Rattle.pcep_messages.specs.declared.message.Reply.{Reply}
 use Rattle.plant_text.specs.declared.settings.NetworkParts.{NetworkParts}
-use Rattle.script_laws.specs.plant_model.Laws.{IsNetwork}
-use Rattle.script_laws.specs.plant_model.Plant.{Entry, Run, deeds_of}
-use Rattle.script_laws.specs.plant_model.RealWire.{wire}
-use Rattle.script_laws.specs.plant_laws.About.{IsPathAnswer}
-use Rattle.script_laws.specs.plant_play.Playing.{PlayedNetwork}
-use Rattle.script_laws.specs.plant_play.Turns.{Turn, entries_of}
-use Rattle.script_laws.specs.Headline.{HasIdsLeft}
+use Rattle.plant_play.specs.plant_model.Laws.{IsNetwork}
+use Rattle.plant_play.specs.plant_model.Plant.{Entry, Run, deeds_of}
+use Rattle.plant_play.specs.plant_model.RealWire.{wire}
+use Rattle.run_laws.specs.plant_laws.About.{IsPathAnswer}
+use Rattle.plant_play.specs.Playing.{PlayedNetwork}
+use Rattle.plant_play.specs.Turns.{Turn, entries_of}
+use Rattle.client_laws.specs.Headline.{HasIdsLeft}
 use Rattle.plant_client.specs.declared.hearing.Heard.{Heard}
 use Rattle.plant_client.specs.declared.hearing.Heard.TheVariants as heard
 use Rattle.plant_client.specs.declared.question.Question.{Question}

@@ -3,14 +3,14 @@ use Rattle.std.specs.Prelude.{◌≡◌, ℕ, List, Option}
 use Rattle.dom_edge.specs.Stores.{Files}
 use Rattle.plant_text.specs.declared.line.LineEvent.TheVariants as line
 use Rattle.plant_text.specs.declared.settings.NetworkParts.{NetworkParts}
-use Rattle.script_laws.specs.plant_model.Events.{Answered}
-use Rattle.script_laws.specs.plant_model.Laws.{IsNetwork}
-use Rattle.script_laws.specs.plant_model.Plant.{Plant}
-use Rattle.script_laws.specs.plant_laws.Chains.{HasEmptyInbox, IsQuiet}
-use Rattle.script_laws.specs.plant_laws.Resting.{IsAtRest}
-use Rattle.script_laws.specs.plant_play.Playing.{Cue, IsNewNetwork, PlaysLine, PlayedNetwork}
-use Rattle.script_laws.specs.plant_play.Scripts.{AllPlayed}
-use Rattle.script_laws.specs.plant_play.Turns.{Turn}
+use Rattle.plant_play.specs.plant_model.Events.{Answered}
+use Rattle.plant_play.specs.plant_model.Laws.{IsNetwork}
+use Rattle.plant_play.specs.plant_model.Plant.{Plant}
+use Rattle.run_laws.specs.plant_laws.Chains.{HasEmptyInbox, IsQuiet}
+use Rattle.run_laws.specs.plant_laws.Resting.{IsAtRest}
+use Rattle.plant_play.specs.Playing.{Cue, IsNewNetwork, PlaysLine, PlayedNetwork}
+use Rattle.plant_play.specs.Scripts.{AllPlayed}
+use Rattle.plant_play.specs.Turns.{Turn}
 use Rattle.plant_client.specs.declared.question.Question.{Question}
 use Rattle.plant_client.specs.Asking.{Asks}
 

@@ -9,13 +9,13 @@ use Rattle.pcep_messages.specs.declared.message.Wish.TheVariants as wishes
 use Rattle.plant_text.specs.declared.settings.NetworkParts.{NetworkParts}
 use Rattle.plant_text.specs.Names.{parent_as}
 use Rattle.request_table.specs.Pending.{key_of}
-use Rattle.script_laws.specs.plant_model.Element.{Row}
-use Rattle.script_laws.specs.plant_model.Plant.{Entry, Pin, Plant, PlantDeed, deeds_of}
-use Rattle.script_laws.specs.plant_model.Wire.{Codec}
-use Rattle.script_laws.specs.plant_laws.Answered.{DropsFor, IsEnd, answers_of}
-use Rattle.script_laws.specs.plant_laws.Chains.{IsQuiet, WaitsOutside}
-use Rattle.script_laws.specs.plant_laws.Runs.{InShortRuns}
-use Rattle.script_laws.specs.plant_laws.Transcript.{Delivered, Transcript, Within, opened}
+use Rattle.plant_play.specs.plant_model.Element.{Row}
+use Rattle.plant_play.specs.plant_model.Plant.{Entry, Pin, Plant, PlantDeed, deeds_of}
+use Rattle.plant_play.specs.plant_model.Wire.{Codec}
+use Rattle.run_laws.specs.plant_laws.Answered.{DropsFor, IsEnd, answers_of}
+use Rattle.run_laws.specs.plant_laws.Chains.{IsQuiet, WaitsOutside}
+use Rattle.run_laws.specs.plant_laws.Runs.{InShortRuns}
+use Rattle.run_laws.specs.plant_laws.Transcript.{Delivered, Transcript, Within, opened}
 
 -- after a moment that took the request x of p at d
 pub data IsTaken (c : Codec) (d : As) (p : Peer) (x : ℕ) (moment : Transcript) : Type 0 where

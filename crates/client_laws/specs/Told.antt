@@ -7,13 +7,13 @@ use Rattle.pcep_messages.specs.declared.message.Message.TheVariants as messages
 use Rattle.pcep_messages.specs.declared.message.Reply.{Reply}
 use Rattle.plant_text.specs.declared.settings.NetworkParts.{NetworkParts}
 use Rattle.plant_text.specs.Settings.{class_of, peer_row}
-use Rattle.script_laws.specs.plant_model.Element.{is_client}
-use Rattle.script_laws.specs.plant_model.Laws.{IsNetwork}
-use Rattle.script_laws.specs.plant_model.Plant.{Entry, deeds_of}
-use Rattle.script_laws.specs.plant_model.RealWire.{wire}
-use Rattle.script_laws.specs.plant_laws.About.{IsPathAnswer}
-use Rattle.script_laws.specs.plant_play.Turns.{entries_of}
-use Rattle.script_laws.specs.Headline.{HasIdsLeft}
+use Rattle.plant_play.specs.plant_model.Element.{is_client}
+use Rattle.plant_play.specs.plant_model.Laws.{IsNetwork}
+use Rattle.plant_play.specs.plant_model.Plant.{Entry, deeds_of}
+use Rattle.plant_play.specs.plant_model.RealWire.{wire}
+use Rattle.run_laws.specs.plant_laws.About.{IsPathAnswer}
+use Rattle.plant_play.specs.Turns.{entries_of}
+use Rattle.client_laws.specs.Headline.{HasIdsLeft}
 use Rattle.plant_client.specs.plant_play.transcript.Replies.{message_lines}
 use Rattle.plant_client.specs.declared.question.Question.{Question}
 use Rattle.plant_client.specs.Asking.{Asks}

@@ -1,5 +1,5 @@
-//! What a client of a network asks and is told: its own questions, and the answers that were sent to it. Laws, as the contracts of
-//! calls that do nothing.
+//! What a script that is played is worth, and what a client of a network asks and is told: its own questions, and the answers that were
+//! sent to it. Laws, as the contracts of calls that do nothing.
 #![tactic(auto)]
 
 ghost use Rattle.client_laws.specs.Answered.{QuestionIsAnswered, QuestionIsTaken, QuestionsAreRead};
@@ -9,6 +9,10 @@ ghost use Rattle.client_laws.specs.Received.{ManyAreReceived};
 ghost use Rattle.client_laws.specs.Resting.{AskedIsAtRest, AskedIsQuiet, FinishedIsAtRest, LinesTakeAll};
 ghost use Rattle.client_laws.specs.Served.{TakenIsOpen, TakenIsServed};
 ghost use Rattle.client_laws.specs.Told.{ClientsAreTold};
+
+mod scripts;
+
+pub use scripts::{lines_go_on, runs_are_loadable, runs_disclose, scripts_are_right, scripts_are_runs, shown_is_disclosed};
 
 /// Where a client asks once, its connection is open at the end, it receives all that was put there for it, and what it is told is what
 /// the last of these messages answers; and each answer among them, to a request for a path, is one that the laws of a network speak of.

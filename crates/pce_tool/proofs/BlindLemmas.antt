@@ -2,12 +2,12 @@
 use Rattle.std.proofs.Common.{◌≡◌, ℕ, List, [], ◌++◌}
 use Rattle.std.specs.declared.option.Option.{Option}
 use Rattle.dom_edge.specs.Stores.{Files}
-use Rattle.client_laws.proofs.script_laws.run_laws.TextLemmas.ModelledNetworks.{settings_are_modelled}
-use Rattle.client_laws.specs.script_laws.plant_model.Blind.{blind_opened, heard}
-use Rattle.client_laws.specs.script_laws.plant_model.Plant.{deeds_of}
-use Rattle.client_laws.specs.script_laws.plant_model.RealWire.{wire}
-use Rattle.client_laws.proofs.script_laws.plant_laws.Blind.OneThing.{says_one_thing}
-use Rattle.client_laws.proofs.script_laws.plant_laws.Blind.SaysBlind.{says_as_blind}
+use Rattle.client_laws.proofs.run_laws.TextLemmas.ModelledNetworks.{settings_are_modelled}
+use Rattle.client_laws.specs.plant_model.Blind.{blind_opened, heard}
+use Rattle.client_laws.specs.plant_model.Plant.{deeds_of}
+use Rattle.client_laws.specs.plant_model.RealWire.{wire}
+use Rattle.client_laws.proofs.plant_laws.Blind.OneThing.{says_one_thing}
+use Rattle.client_laws.proofs.plant_laws.Blind.SaysBlind.{says_as_blind}
 use Rattle.blind_play.specs.Turns.{all_heard, trace_of}
 use Rattle.blind_play.proofs.SayingLemmas.{says_so}
 use Rattle.blind_play.proofs.ScriptLemmas.{cues_given}

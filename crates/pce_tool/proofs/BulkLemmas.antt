@@ -8,14 +8,14 @@ use Rattle.dom_edge.specs.Stores.{Files, file_named}
 use Rattle.plant_text.specs.declared.line.LineEvent.{LineEvent}
 use Rattle.plant_text.specs.declared.line.LineEvent.TheVariants as line
 use Rattle.plant_text.specs.declared.settings.NetworkParts.{NetworkParts}
-use Rattle.client_laws.specs.script_laws.plant_model.Events.{Answered}
-use Rattle.client_laws.specs.script_laws.plant_play.Playing.{Cue, PlayedNetwork}
-use Rattle.client_laws.specs.script_laws.plant_play.Scripts.{AllPlayed}
-use Rattle.client_laws.specs.script_laws.plant_play.Turns.{Turn, entries_of}
-use Rattle.client_laws.specs.script_laws.Headline.{HasIdsLeft, all_octets}
-use Rattle.client_laws.specs.script_laws.Laws.{FeedOctets, FeedsOctets}
-use Rattle.client_laws.specs.script_laws.run_laws.Counting.{HasNoParent}
-use Rattle.client_laws.proofs.script_laws.Rightly.{scripts_are_right}
+use Rattle.client_laws.specs.plant_model.Events.{Answered}
+use Rattle.client_laws.specs.plant_play.Playing.{Cue, PlayedNetwork}
+use Rattle.client_laws.specs.plant_play.Scripts.{AllPlayed}
+use Rattle.client_laws.specs.plant_play.Turns.{Turn, entries_of}
+use Rattle.client_laws.specs.Headline.{HasIdsLeft, all_octets}
+use Rattle.client_laws.specs.Laws.{FeedOctets, FeedsOctets}
+use Rattle.client_laws.specs.run_laws.Counting.{HasNoParent}
+use Rattle.client_laws.proofs.Rightly.{scripts_are_right}
 use Rattle.client_laws.proofs.Clients.{path_is_client}
 use Rattle.client_laws.proofs.Exchanging.{many_are_received}
 use Rattle.plant_client.specs.declared.question.Question.{Question}

@@ -7,8 +7,8 @@ use Rattle.dom_base.specs.declared.names.As.{As}
 use Rattle.plant_text.specs.declared.settings.ElementRow.{ElementRow}
 use Rattle.plant_text.specs.declared.settings.PeerRow.{PeerRow}
 use Rattle.plant_text.specs.Settings.{is_element}
-use Rattle.client_laws.specs.script_laws.plant_model.Laws.{IsElement, IsNetwork, IsParentLink, LeadApart, LeadsOut}
-use Rattle.client_laws.proofs.script_laws.run_laws.TextLemmas.ModelledNetworks.{with_client}
+use Rattle.client_laws.specs.plant_model.Laws.{IsElement, IsNetwork, IsParentLink, LeadApart, LeadsOut}
+use Rattle.client_laws.proofs.run_laws.TextLemmas.ModelledNetworks.{with_client}
 use Rattle.network_files.specs.DrawnSettings.{element, link, settings}
 use Rattle.plant_client.specs.Bulk.{first_domain, network}
 

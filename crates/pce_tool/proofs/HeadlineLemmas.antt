@@ -13,22 +13,22 @@ use Rattle.plant_text.specs.declared.line.LineEvent.TheVariants as line
 use Rattle.plant_text.specs.declared.settings.NetworkParts.{NetworkParts}
 use Rattle.plant_text.specs.Lines.{line_in}
 use Rattle.plant_text.specs.Networks.{with_path}
-use Rattle.client_laws.specs.script_laws.run_laws.Sizes.{all_lengths}
-use Rattle.client_laws.proofs.script_laws.run_laws.TextLemmas.FedLengths.{feeds_short}
-use Rattle.client_laws.proofs.script_laws.run_laws.TextLemmas.FedOctets.{line_octets}
-use Rattle.client_laws.proofs.script_laws.run_laws.TextLemmas.ModelledNetworks.{client_is_modelled, settings_are_modelled}
-use Rattle.client_laws.proofs.script_laws.run_laws.TextLemmas.Lengths.{all_lengths_append, all_lengths_cons, told_lines_short}
-use Rattle.client_laws.specs.script_laws.plant_model.Laws.{IsNetwork}
-use Rattle.client_laws.specs.script_laws.plant_model.RealWire.{wire}
-use Rattle.client_laws.specs.script_laws.plant_laws.Worlds.{DisclosedRun}
-use Rattle.client_laws.specs.script_laws.plant_play.Playing.{Cue, IsNewNetwork, PlayedNetwork}
-use Rattle.client_laws.specs.script_laws.plant_play.Scripts.{AllPlayed}
-use Rattle.client_laws.specs.script_laws.plant_play.Turns.{Turn, entries_of}
-use Rattle.client_laws.specs.script_laws.Disclosing.{shown_trace}
-use Rattle.client_laws.specs.script_laws.Headline.{all_octets, fed_octets}
-use Rattle.client_laws.specs.script_laws.Laws.{FeedOctets, FeedsOctets}
-use Rattle.client_laws.proofs.script_laws.Disclosing.{shown_from_the_first}
-use Rattle.client_laws.proofs.script_laws.Rightly.{scripts_are_right}
+use Rattle.client_laws.specs.run_laws.Sizes.{all_lengths}
+use Rattle.client_laws.proofs.run_laws.TextLemmas.FedLengths.{feeds_short}
+use Rattle.client_laws.proofs.run_laws.TextLemmas.FedOctets.{line_octets}
+use Rattle.client_laws.proofs.run_laws.TextLemmas.ModelledNetworks.{client_is_modelled, settings_are_modelled}
+use Rattle.client_laws.proofs.run_laws.TextLemmas.Lengths.{all_lengths_append, all_lengths_cons, told_lines_short}
+use Rattle.client_laws.specs.plant_model.Laws.{IsNetwork}
+use Rattle.client_laws.specs.plant_model.RealWire.{wire}
+use Rattle.client_laws.specs.plant_laws.Worlds.{DisclosedRun}
+use Rattle.client_laws.specs.plant_play.Playing.{Cue, IsNewNetwork, PlayedNetwork}
+use Rattle.client_laws.specs.plant_play.Scripts.{AllPlayed}
+use Rattle.client_laws.specs.plant_play.Turns.{Turn, entries_of}
+use Rattle.client_laws.specs.Disclosing.{shown_trace}
+use Rattle.client_laws.specs.Headline.{all_octets, fed_octets}
+use Rattle.client_laws.specs.Laws.{FeedOctets, FeedsOctets}
+use Rattle.client_laws.proofs.Disclosing.{shown_from_the_first}
+use Rattle.client_laws.proofs.Rightly.{scripts_are_right}
 use Rattle.plant_client.specs.plant_play.WholeScripts.{AreCues}
 use Rattle.plant_client.specs.declared.question.Question.{Question}
 use Rattle.plant_client.specs.Asking.{lines_of, load_line, question_lines, topologies}

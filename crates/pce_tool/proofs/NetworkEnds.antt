@@ -10,7 +10,7 @@ use Rattle.plant_text.specs.declared.settings.NetworkParts.{NetworkParts}
 use Rattle.plant_text.specs.Networks.{with_path}
 use Rattle.plant_text.specs.Reads.{IsFaulty}
 use Rattle.plant_text.specs.Settings.{is_element}
-use Rattle.client_laws.specs.script_laws.plant_play.Playing.{PlayedNetwork}
+use Rattle.client_laws.specs.plant_play.Playing.{PlayedNetwork}
 use Rattle.plant_client.specs.plant_play.transcript.declared.stop.Stop.{Stop}
 use Rattle.plant_client.specs.plant_play.transcript.declared.stop.Stop.TheVariants as stop
 use Rattle.plant_client.specs.plant_play.WholeScripts.{around}

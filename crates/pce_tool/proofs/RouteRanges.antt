@@ -10,7 +10,7 @@ use Rattle.dom_base.specs.Numerals.{number_in}
 use Rattle.dom_base.specs.Steps.{◌>>=◌}
 use Rattle.dom_base.proofs.NumeralLaws.{at_most}
 use Rattle.pcep_subobjects.specs.Addresses.{IsAddr, bits_of}
-use Rattle.client_laws.proofs.script_laws.run_laws.TextLemmas.AddrRanges.{addr_in_range, by_parts}
+use Rattle.client_laws.proofs.run_laws.TextLemmas.AddrRanges.{addr_in_range, by_parts}
 use Rattle.client_laws.proofs.Written.{IsInRange}
 use Rattle.pce_tool.specs.declared.route.Route.{Route}
 use Rattle.pce_tool.specs.Networks.{question_of}

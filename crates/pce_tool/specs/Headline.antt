@@ -7,15 +7,15 @@ use Rattle.plant_text.specs.declared.settings.NetworkParts.{NetworkParts}
 use Rattle.plant_text.specs.declared.settings.PeerRow.{PeerRow}
 use Rattle.plant_text.specs.Networks.{with_path}
 use Rattle.plant_text.specs.Settings.{is_element}
-use Rattle.client_laws.specs.script_laws.plant_model.Blind.{blind_opened, heard}
-use Rattle.client_laws.specs.script_laws.plant_model.Plant.{Entry, Plant, deeds_of}
-use Rattle.client_laws.specs.script_laws.plant_model.RealWire.{wire}
-use Rattle.client_laws.specs.script_laws.plant_laws.Worlds.{DisclosedRun}
-use Rattle.client_laws.specs.script_laws.run_laws.Counting.{HasNoParent}
-use Rattle.client_laws.specs.script_laws.plant_play.Playing.{Cue, PlayedNetwork}
-use Rattle.client_laws.specs.script_laws.plant_play.Turns.{Turn, entries_of}
-use Rattle.client_laws.specs.script_laws.Disclosing.{shown_trace}
-use Rattle.client_laws.specs.script_laws.Headline.{HasIdsLeft, IsRight}
+use Rattle.client_laws.specs.plant_model.Blind.{blind_opened, heard}
+use Rattle.client_laws.specs.plant_model.Plant.{Entry, Plant, deeds_of}
+use Rattle.client_laws.specs.plant_model.RealWire.{wire}
+use Rattle.client_laws.specs.plant_laws.Worlds.{DisclosedRun}
+use Rattle.client_laws.specs.run_laws.Counting.{HasNoParent}
+use Rattle.client_laws.specs.plant_play.Playing.{Cue, PlayedNetwork}
+use Rattle.client_laws.specs.plant_play.Turns.{Turn, entries_of}
+use Rattle.client_laws.specs.Disclosing.{shown_trace}
+use Rattle.client_laws.specs.Headline.{HasIdsLeft, IsRight}
 use Rattle.client_laws.specs.Asked.{AsksOnly}
 use Rattle.client_laws.specs.Ended.{EndsAnswered}
 use Rattle.client_laws.specs.Received.{AreReceived}

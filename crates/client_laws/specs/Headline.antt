@@ -15,7 +15,7 @@ use Rattle.run_laws.specs.Counting.{HasNoParent}
 use Rattle.plant_play.specs.Playing.{Cue, IsNewNetwork, PlayedNetwork}
 use Rattle.plant_play.specs.Scripts.{AllPlayed}
 use Rattle.plant_play.specs.Turns.{Turn, entries_of}
-use Rattle.script_laws.specs.Laws.{FeedOctets}
+use Rattle.client_laws.specs.Laws.{FeedOctets}
 
 -- the octets that a line feeds
 abbrev pub fed_octets : LineEvent → ℕ

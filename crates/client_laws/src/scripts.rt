@@ -1,10 +1,8 @@
 //! Lines of a script that are played one after the other are a run of the model. Laws, as the contracts of calls that
 //! do nothing.
-#![tactic(auto)]
-
-ghost use Rattle.script_laws.specs.Disclosing.{RunsDisclose, ShownFromTheFirst, ShownIsDisclosed};
-ghost use Rattle.script_laws.specs.Headline.{ScriptsAreRight};
-ghost use Rattle.script_laws.specs.Laws.{LinesAreGiven, LinesGoOn, RunsAreLoadable, ScriptsAreRuns, ScriptsGoOn, ScriptsKeepSettings};
+ghost use Rattle.client_laws.specs.Disclosing.{RunsDisclose, ShownFromTheFirst, ShownIsDisclosed};
+ghost use Rattle.client_laws.specs.Headline.{ScriptsAreRight};
+ghost use Rattle.client_laws.specs.Laws.{LinesAreGiven, LinesGoOn, RunsAreLoadable, ScriptsAreRuns, ScriptsGoOn, ScriptsKeepSettings};
 
 /// In every run each element's current topology is one that may be loaded.
 pub fn runs_are_loadable()

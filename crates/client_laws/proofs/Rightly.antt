@@ -14,12 +14,12 @@ use Rattle.run_laws.proofs.OctetLemmas.FewOctets.{few_are_short}
 use Rattle.plant_play.specs.Playing.{Cue, IsNewNetwork, PlayedNetwork}
 use Rattle.plant_play.specs.Scripts.{AllPlayed}
 use Rattle.plant_play.specs.Turns.{Turn, entries_of}
-use Rattle.script_laws.specs.Headline.{HasIdsLeft, IsRight, all_octets}
-use Rattle.script_laws.specs.Laws.{FeedOctets}
-use Rattle.script_laws.proofs.DisclosedRuns.{runs_disclose}
-use Rattle.script_laws.proofs.FedBytes.{script_fed}
-use Rattle.script_laws.proofs.Loadable.{runs_are_loadable}
-use Rattle.script_laws.proofs.Onward.{scripts_are_runs}
+use Rattle.client_laws.specs.Headline.{HasIdsLeft, IsRight, all_octets}
+use Rattle.client_laws.specs.Laws.{FeedOctets}
+use Rattle.client_laws.proofs.DisclosedRuns.{runs_disclose}
+use Rattle.client_laws.proofs.FedBytes.{script_fed}
+use Rattle.client_laws.proofs.Loadable.{runs_are_loadable}
+use Rattle.client_laws.proofs.Onward.{scripts_are_runs}
 
 runs_are_right : (n : NetworkParts) → IsNetwork n → (es : List Entry) (s : Plant) → Run wire n es s → IsRight n es s
 runs_are_right n ok es s run = record {

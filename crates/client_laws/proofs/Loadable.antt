@@ -5,7 +5,7 @@ use Rattle.plant_play.specs.plant_model.Plant.{Entry, Plant, Run}
 use Rattle.plant_play.specs.plant_model.RealWire.{wire}
 use Rattle.run_laws.specs.plant_laws.Topologies.{IsDomain}
 use Rattle.run_laws.proofs.plant_laws.Runs.Topologies.{pins_are_domains}
-use Rattle.script_laws.specs.Laws.{AreLoadable}
+use Rattle.client_laws.specs.Laws.{AreLoadable}
 
 pub runs_are_loadable : (n : NetworkParts) (entries : List Entry) (s : Plant) → Run wire n entries s → AreLoadable s
 runs_are_loadable n entries s run d =

@@ -21,8 +21,8 @@ use Rattle.plant_play.specs.Due.{AreAllDue, AreDue, IsDue, IsDueTake}
 use Rattle.plant_play.specs.Scripts.{AllPlayed}
 use Rattle.plant_play.specs.Playing.{Changes, Cue, Plays, PlaysDue, PlaysFeedAt, PlaysNamed, PlaysNone, PlaysOne, PlayedNetwork}
 use Rattle.plant_play.specs.Turns.{Turn, entries_of}
-use Rattle.script_laws.specs.Headline.{all_octets, fed_octets}
-use Rattle.script_laws.proofs.Onward.{entries_join}
+use Rattle.client_laws.specs.Headline.{all_octets, fed_octets}
+use Rattle.client_laws.proofs.Onward.{entries_join}
 
 -- what these events feed is this much
 abbrev Feed : List Turn → ℕ → Type 0

@@ -1,5 +1,5 @@
-use Rattle.script_laws.proofs.Disclosing as Disclosing
-use Rattle.script_laws.proofs.shown_is_disclosed.Goals as goal
+use Rattle.client_laws.proofs.Disclosing as Disclosing
+use Rattle.client_laws.proofs.scripts.shown_is_disclosed.Goals as goal
 
 pub returns : goal.returns
 returns c = record {

@@ -1,6 +1,6 @@
-use Rattle.script_laws.proofs.Loadable as Loadable
-use Rattle.script_laws.proofs.Onward as Onward
-use Rattle.script_laws.proofs.scripts_are_runs.Goals as goal
+use Rattle.client_laws.proofs.Loadable as Loadable
+use Rattle.client_laws.proofs.Onward as Onward
+use Rattle.client_laws.proofs.scripts.scripts_are_runs.Goals as goal
 
 pub returns : goal.returns
 returns c = record {

@@ -10,9 +10,9 @@ use Rattle.plant_play.specs.declared.showing.Modes.{Modes}
 use Rattle.plant_play.specs.Scripts.{AllPlayed}
 use Rattle.plant_play.specs.Playing.{Cue, IsNewNetwork, Plays, PlaysLine, PlayedNetwork}
 use Rattle.plant_play.specs.Turns.{AreGiven, Turn, entries_of}
-use Rattle.script_laws.specs.Laws.{FeedOctets, FeedsOctets, RunsAreLoadable}
-use Rattle.script_laws.proofs.Givens.{lines_are_given}
-use Rattle.script_laws.proofs.PlayedTurns.{AreTurns, line_turns}
+use Rattle.client_laws.specs.Laws.{FeedOctets, FeedsOctets, RunsAreLoadable}
+use Rattle.client_laws.proofs.Givens.{lines_are_given}
+use Rattle.client_laws.proofs.PlayedTurns.{AreTurns, line_turns}
 
 -- a run goes on by these events, to this state
 abbrev GoesOn : NetworkParts → Plant → List Turn → Plant → Type 0

@@ -18,7 +18,7 @@ use Rattle.plant_play.specs.plant_model.RealWire.{wire}
 use Rattle.run_laws.specs.plant_laws.Worlds.{DisclosedRun}
 use Rattle.run_laws.proofs.plant_laws.Least.EntriesRise.{entries_rise}
 use Rattle.run_laws.proofs.plant_laws.Runs.Sound.{Sound, run_sound}
-use Rattle.script_laws.proofs.TableExists.{table_exists}
+use Rattle.client_laws.proofs.TableExists.{table_exists}
 
 module _ (n : NetworkParts) (s : Plant) (sound : Sound n s) where
   -- the rows of the request that is pending are those of any

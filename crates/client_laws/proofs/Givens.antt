@@ -23,7 +23,7 @@ use Rattle.plant_play.specs.Turns.{AreGiven, Turn}
 use Rattle.run_laws.specs.Ranges.{AreOctets}
 use Rattle.run_laws.proofs.TextLemmas.ChangeRanges.{changes_keep_range}
 use Rattle.run_laws.proofs.TextLemmas.RowRanges.{text_in_range}
-use Rattle.script_laws.specs.Laws.{AreLoadable, FeedsOctets}
+use Rattle.client_laws.specs.Laws.{AreLoadable, FeedsOctets}
 
 -- ---- events that are due
 

@@ -34,12 +34,12 @@ use Rattle.plant_play.specs.declared.showing.Modes.{Modes}
 use Rattle.plant_play.specs.Playing.{Cue, IsNewNetwork, Plays, PlaysLine, PlayedNetwork, modes_after}
 use Rattle.plant_play.specs.Scripts.{AllPlayed}
 use Rattle.plant_play.specs.Turns.{AreGiven, HasTable, IsTurn, TableAt, Turn, entries_of, is_domain_solve, tells_closed, unsaid}
-use Rattle.script_laws.specs.Disclosing.{shown_trace}
-use Rattle.script_laws.specs.Laws.{FeedOctets, FeedsOctets}
-use Rattle.script_laws.proofs.Givens.{lines_are_given}
-use Rattle.script_laws.proofs.Loadable.{runs_are_loadable}
-use Rattle.script_laws.proofs.Onward.{entries_join}
-use Rattle.script_laws.proofs.PlayedTurns.{AreTurns, line_turns}
+use Rattle.client_laws.specs.Disclosing.{shown_trace}
+use Rattle.client_laws.specs.Laws.{FeedOctets, FeedsOctets}
+use Rattle.client_laws.proofs.Givens.{lines_are_given}
+use Rattle.client_laws.proofs.Loadable.{runs_are_loadable}
+use Rattle.client_laws.proofs.Onward.{entries_join}
+use Rattle.client_laws.proofs.PlayedTurns.{AreTurns, line_turns}
 
 -- ---- what is shown of an event, where rows are shown and it is accepted
 

@@ -10,7 +10,7 @@ use Rattle.run_laws.specs.plant_laws.Worlds.{DisclosedRun}
 use Rattle.plant_play.specs.Playing.{Cue, IsNewNetwork, PlayedNetwork}
 use Rattle.plant_play.specs.Scripts.{AllPlayed}
 use Rattle.plant_play.specs.Turns.{Turn, entries_of}
-use Rattle.script_laws.specs.Laws.{FeedOctets}
+use Rattle.client_laws.specs.Laws.{FeedOctets}
 
 -- Each run has a disclosed trace: that none is one can't be.
 abbrev pub RunsDisclose : Type 0

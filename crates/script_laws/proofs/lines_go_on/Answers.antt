@@ -1,6 +1,0 @@
-use Rattle.script_laws.proofs.Givens as Givens
-use Rattle.script_laws.proofs.Onward as Onward
-use Rattle.script_laws.proofs.lines_go_on.Goals as goal
-
-pub returns : goal.returns
-returns c = record { given = Givens.lines_are_given; go_on = Onward.lines_go_on }

@@ -1,9 +1,0 @@
--- for readers
-pub mod Laws
-pub mod Headline
-pub mod Disclosing
--- handed on from below
-pub use Rattle.run_laws.specs as run_laws
-pub use Rattle.run_laws.specs.plant_laws
-pub use Rattle.plant_play.specs.plant_model
-pub use Rattle.plant_play.specs as plant_play
