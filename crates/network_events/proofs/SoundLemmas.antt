@@ -8,7 +8,7 @@ use Rattle.plant_text.specs.Settings.{has_adjacency, is_element, adjacencies}
 use Rattle.member_trait.specs.plant_model.Events.{Answered, later}
 use Rattle.member_trait.specs.Membership.{AreJoined, KeysBefore}
 use Rattle.network_events.specs.Standing.{Here}
-use Rattle.jobs_last.specs.Lasting.{AreInOrder, KeysInTime}
+use Rattle.plant_laws.specs.Lasting.{AreInOrder, KeysInTime}
 use Rattle.network_events.specs.Whole.{Step}
 use Rattle.network_events.specs.Moving.{IsSound, Moves, whole}
 

@@ -13,7 +13,7 @@ use Rattle.member_trait.specs.Membership.{AreJoined}
 use Rattle.network_events.specs.Passing.{IsOf}
 use Rattle.network_events.specs.Rooms.{IsRoomy}
 use Rattle.network_events.specs.Standing.{Here, state_of}
-use Rattle.jobs_last.specs.Lasting.{AreInOrder, KeysInTime}
+use Rattle.plant_laws.specs.Lasting.{AreInOrder, KeysInTime}
 use Rattle.network_events.specs.Whole.{Step, Stepped, Whole}
 
 module _ {P : Type 0} {S : Type 0} where

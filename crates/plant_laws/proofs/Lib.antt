@@ -7,5 +7,6 @@ pub mod Least
 pub mod Blind
 pub mod Keys
 pub mod Reasons
+pub mod LastingLemmas
 -- handed on from below
 pub use Rattle.plant_model.proofs as plant_model

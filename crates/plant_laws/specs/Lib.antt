@@ -38,5 +38,8 @@ pub mod Served
 pub mod Good
 pub mod Confined
 pub mod Resting
+pub mod Lasting
+-- inner
+pub mod Onward
 -- handed on from below
 pub use Rattle.plant_model.specs as plant_model

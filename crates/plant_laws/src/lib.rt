@@ -1,6 +1,8 @@
 //! The laws of a network of path computation elements, over all its runs. They are the contracts of calls that do nothing; each
 //! statement stands in one file of specs/. Laws that fail where ids come round are of the runs in which no element and no parent
 //! sends a neighbour more requests than there are ids.
+//!
+//! And jobs last: a request that can be solved stays as it is until it ends, in every step.
 #![tactic(auto)]
 
 ghost use Rattle.plant_laws.specs.Answered.{RequestsAreAnsweredOnce, RequestsAreAnsweredOnceIn};
@@ -34,6 +36,10 @@ ghost use Rattle.plant_laws.specs.UnderWay.{WaitsAreUnderWay, WaitsAreUnderWayIn
 ghost use Rattle.plant_laws.specs.Waiting.{WaitsApart, WaitsAreSent};
 ghost use Rattle.plant_laws.specs.WentOn.{NoneGoOut};
 ghost use Rattle.plant_laws.specs.Worlds.{AcceptsAsBlind, BorderJoins, SaysAsBlind, SaysOneThing, TwoWorlds};
+
+mod lasting;
+
+pub use lasting::{blind_steps_last, jobs_are_kept, keys_are_before, lasts_over_steps, runs_are_in_order, steps_last};
 
 // ---- steps
 

@@ -22,8 +22,8 @@ use Rattle.network_events.specs.member_trait.Owed.{count_by_asker, is_peer, owed
 use Rattle.network_events.specs.Passing.{IsOf}
 use Rattle.network_events.specs.Rooms.{IsRoomy}
 use Rattle.network_events.specs.Standing.{Here, state_of}
-use Rattle.jobs_last.specs.Lasting.{AreInOrder, KeysInTime}
-use Rattle.jobs_last.proofs.HappeningsLast.{opened_in_order, opened_in_time}
+use Rattle.plant_laws.specs.Lasting.{AreInOrder, KeysInTime}
+use Rattle.plant_laws.proofs.LastingLemmas.HappeningsLast.{opened_in_order, opened_in_time}
 use Rattle.network_members.proofs.ApartLemmas.{ends_are_two}
 use Rattle.network_members.proofs.JoinedLemmas.{are_joined, elements_below}
 use Rattle.plant_network.specs.Beginning.{AreBare, Begins}

@@ -3,8 +3,8 @@ use Rattle.network_events.specs.plant_model.declared.event.BlindEvent.{BlindEven
 use Rattle.network_events.specs.plant_model.Blind.{BlindHappened, BlindSteps}
 use Rattle.network_events.specs.plant_model.Events.{Answered}
 use Rattle.network_events.specs.plant_model.RealWire.{wire}
-use Rattle.jobs_last.specs.Lasting.{Goes}
-use Rattle.jobs_last.proofs.BlindLast.{blind_steps_last}
+use Rattle.plant_laws.specs.Lasting.{Goes}
+use Rattle.plant_laws.proofs.LastingLemmas.BlindLast.{blind_steps_last}
 use Rattle.network_events.proofs.SoundLemmas as network
 use Rattle.plant_network.specs.Blind.{Held, standing, whole, IsSound, Moves}
 

@@ -15,5 +15,5 @@ pub mod CarryLemmas
 -- handed on from below
 pub use Rattle.network_events.proofs as network_events
 pub use Rattle.network_members.proofs as network_members
-pub use Rattle.jobs_last.proofs as jobs_last
+pub use Rattle.plant_laws.proofs as plant_laws
 pub use Rattle.network_events.proofs.plant_model

@@ -3,8 +3,8 @@ use Rattle.network_events.specs.plant_model.declared.event.Event.{Event}
 use Rattle.network_events.specs.plant_model.Events.{Answered}
 use Rattle.network_events.specs.plant_model.Plant.{Happened, Steps}
 use Rattle.network_events.specs.plant_model.RealWire.{wire}
-use Rattle.jobs_last.specs.Lasting.{AreInOrder, JobsLast}
-use Rattle.jobs_last.proofs.EventsLast.{steps_last, keys_are_before}
+use Rattle.plant_laws.specs.Lasting.{AreInOrder, JobsLast}
+use Rattle.plant_laws.proofs.LastingLemmas.EventsLast.{steps_last, keys_are_before}
 use Rattle.network_events.proofs.SoundLemmas as network
 use Rattle.plant_network.specs.Whole.{GoesOn, Stepped}
 use Rattle.plant_network.specs.Topologies.{Held, standing, whole, IsSound, Moves}

@@ -17,7 +17,7 @@ pub use Rattle.network_members.specs.pce_element
 pub use Rattle.network_members.specs.pce_parent
 pub use Rattle.network_events.specs as network_events
 pub use Rattle.network_members.specs as network_members
-pub use Rattle.jobs_last.specs as jobs_last
+pub use Rattle.plant_laws.specs as plant_laws
 pub use Rattle.network_events.specs.member_trait
 pub use Rattle.network_events.specs.plant_model
 pub use Rattle.network_events.specs.plant_sessions

@@ -17,9 +17,9 @@ use Rattle.network_events.specs.plant_model.Parent as parent
 use Rattle.network_events.specs.plant_model.Plant.{Pin, ask}
 use Rattle.network_events.specs.plant_model.RealWire.{wire}
 use Rattle.network_events.specs.plant_model.Settings.{family}
-use Rattle.jobs_last.specs.Lasting.{HaveGiven, held_at}
-use Rattle.jobs_last.specs.Onward.{jobs_on, jobs_still}
-use Rattle.jobs_last.proofs.JobsKept.{elements_keep_jobs, parents_keep_jobs}
+use Rattle.plant_laws.specs.Lasting.{HaveGiven, held_at}
+use Rattle.plant_laws.specs.Onward.{jobs_on, jobs_still}
+use Rattle.plant_laws.proofs.LastingLemmas.JobsKept.{elements_keep_jobs, parents_keep_jobs}
 use Rattle.plant_lock.specs.History.{Legal, replay}
 use Rattle.network_members.specs.pce_parent.Solution.{BorderSolution}
 use Rattle.network_members.specs.pce_parent.declared.work.Done.{Done}

@@ -7,7 +7,7 @@ use Rattle.dom_base.specs.declared.names.NoMemory.{NoMemory}
 use Rattle.network_events.specs.plant_model.declared.event.Event.{Event}
 use Rattle.network_events.specs.plant_model.declared.event.Event.TheVariants.{Solve}
 use Rattle.network_events.specs.plant_model.Events.{Answered, ready_jobs}
-use Rattle.jobs_last.specs.Lasting.{HaveGiven, JobsLast}
+use Rattle.plant_laws.specs.Lasting.{HaveGiven, JobsLast}
 use Rattle.network_members.specs.pce_element.Rows.{pin_with}
 use Rattle.network_members.specs.pce_parent.declared.work.Done.{Done}
 use Rattle.network_members.specs.pce_parent.declared.work.Work.{Work}

@@ -3,7 +3,7 @@
 ghost use Rattle.std.specs.Prelude.{◌≡◌};
 ghost use Rattle.network_events.specs.plant_model.declared.event.BlindEvent.TheVariants.{Solve};
 ghost use Rattle.network_events.specs.plant_model.Blind.{AreGivenRows, IsBlindGiven};
-ghost use Rattle.jobs_last.specs.Lasting.{JobsLast};
+ghost use Rattle.plant_laws.specs.Lasting.{JobsLast};
 ghost use Rattle.plant_network.specs.Blind.{IsSound, Moves, Stepped, held, whole};
 
 use crate::network::Network;

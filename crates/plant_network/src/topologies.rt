@@ -5,7 +5,7 @@ ghost use Rattle.std.specs.Option.{option_map};
 ghost use Rattle.network_members.specs.pce_element.Rows.{pin_with};
 ghost use Rattle.network_events.specs.plant_model.Events.{ready_jobs};
 ghost use Rattle.network_events.specs.plant_model.declared.event.Event.TheVariants.{Solve};
-ghost use Rattle.jobs_last.specs.Lasting.{HaveGiven, JobsLast};
+ghost use Rattle.plant_laws.specs.Lasting.{HaveGiven, JobsLast};
 ghost use Rattle.network_members.specs.Answering.{IsWeighedWork};
 ghost use Rattle.network_events.specs.network_links.Carried.{flow_of};
 ghost use Rattle.network_events.specs.network_links.Waiting.{WaitsNext};

@@ -1,5 +1,5 @@
 use Rattle.std.proofs.Common.{subst}
-use Rattle.jobs_last.specs.Lasting.{JobsLast}
+use Rattle.plant_laws.specs.Lasting.{JobsLast}
 use Rattle.plant_network.specs.Blind.{Held, held, whole}
 use Rattle.plant_network.proofs.BlindSound.{goes_after, sound_after}
 use Rattle.plant_network.proofs.blind.Network+Blind.step.Goals as goal

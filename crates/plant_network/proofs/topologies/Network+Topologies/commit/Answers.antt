@@ -1,6 +1,6 @@
 use Rattle.std.proofs.Common.{sym, subst}
 use Rattle.network_events.specs.plant_model.declared.event.Event.TheVariants.{Solve}
-use Rattle.jobs_last.specs.Lasting.{JobsLast}
+use Rattle.plant_laws.specs.Lasting.{JobsLast}
 use Rattle.plant_network.specs.Jobs.{IsOwn, solved_at, solved_number, told}
 use Rattle.plant_network.specs.Topologies.{Held, held, whole}
 use Rattle.plant_network.specs.Whole.{GoesOn}

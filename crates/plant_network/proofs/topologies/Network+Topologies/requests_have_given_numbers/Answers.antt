@@ -1,6 +1,6 @@
 use Rattle.std.proofs.Common.{subst}
-use Rattle.jobs_last.specs.Lasting.{HaveGiven}
-use Rattle.jobs_last.proofs.JobsKept.{order_gives}
+use Rattle.plant_laws.specs.Lasting.{HaveGiven}
+use Rattle.plant_laws.proofs.LastingLemmas.JobsKept.{order_gives}
 use Rattle.plant_network.specs.Topologies.{Held, whole, held}
 use Rattle.plant_network.proofs.topologies.Network+Topologies.requests_have_given_numbers.Goals as goal
 

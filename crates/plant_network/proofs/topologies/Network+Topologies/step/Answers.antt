@@ -1,5 +1,5 @@
 use Rattle.std.proofs.Common.{subst}
-use Rattle.jobs_last.specs.Lasting.{JobsLast}
+use Rattle.plant_laws.specs.Lasting.{JobsLast}
 use Rattle.plant_network.specs.Topologies.{Held, held, whole}
 use Rattle.plant_network.specs.Whole.{GoesOn}
 use Rattle.plant_network.proofs.SoundLemmas.{goes_on, order_after, sound_after}

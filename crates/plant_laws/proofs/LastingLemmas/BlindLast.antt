@@ -5,9 +5,9 @@ use Rattle.plant_model.specs.declared.event.BlindEvent.{BlindEvent}
 use Rattle.plant_model.specs.declared.event.BlindEvent.TheVariants as blind
 use Rattle.plant_model.specs.Wire.{Codec}
 use Rattle.plant_model.specs.Blind.{Nothing, show_nothing, BlindState, BlindHappened, BlindHappens, BlindSteps}
-use Rattle.jobs_last.specs.Lasting.{BlindBegins, BlindStepsLast}
-use Rattle.jobs_last.proofs.DeedsLast.{stands, solve_lasts, solve_upper_lasts}
-use Rattle.jobs_last.proofs.HappeningsLast.{Did, by_did, open_did, shut_did, feed_did, take_did, carry_did, break_did, tick_did, drain_did, in_order, last, opened_in_order, opened_in_time}
+use Rattle.plant_laws.specs.Lasting.{BlindBegins, BlindStepsLast}
+use Rattle.plant_laws.proofs.LastingLemmas.DeedsLast.{stands, solve_lasts, solve_upper_lasts}
+use Rattle.plant_laws.proofs.LastingLemmas.HappeningsLast.{Did, by_did, open_did, shut_did, feed_did, take_did, carry_did, break_did, tick_did, drain_did, in_order, last, opened_in_order, opened_in_time}
 
 module _ (c : Codec) (n : NetworkParts) where
   happens_did : (s : BlindState) (e : BlindEvent) (h : BlindHappened) → BlindHappens c n s e h → Did s h

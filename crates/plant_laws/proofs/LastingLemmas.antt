@@ -1,8 +1,9 @@
+-- What lasts from step to step.
 pub mod Tables
 pub mod JobsKept
-mod ElementsLast
-mod ParentsLast
-mod DeedsLast
+pub mod ElementsLast
+pub mod ParentsLast
+pub mod DeedsLast
 pub mod HappeningsLast
 pub mod EventsLast
 pub mod BlindLast

@@ -23,7 +23,7 @@ use Rattle.plant_model.specs.Branches.{branches_in}
 use Rattle.plant_model.specs.Taking.{error_answer}
 use Rattle.plant_model.specs.BorderGraph.{Found}
 use Rattle.plant_model.specs.Parent.{Wait, Asking, AskingRow, Parent, Family, ParentTaken, each, among, all_waits, all_up, errands, ask_all, waiting, gathered, gathers, answered, ended, take_path, take_wish, take_new, take_checked, take_asked, take_answer, take_found, take_reply, told_busy, cancelled, take_busy, take_cancel, notice_steps, take_notice, told_error, take_failure, take_errors, take_report, take, is_ready, stays, upped, downed, commit}
-use Rattle.jobs_last.proofs.Tables.{In, Becomes, still, and_then, closed, opened, filtered, written}
+use Rattle.plant_laws.proofs.LastingLemmas.Tables.{In, Becomes, still, and_then, closed, opened, filtered, written}
 
 abbrev pub Lasts : Parent → Parent → Type 0
 Lasts k t = Becomes is_ready k.pending t.pending

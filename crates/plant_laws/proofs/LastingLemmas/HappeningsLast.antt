@@ -15,8 +15,8 @@ use Rattle.plant_model.specs.Deeds as deeds
 use Rattle.plant_model.specs.Deeds.{Going, element_of, input_of, with_inbox}
 use Rattle.plant_model.specs.Events as events
 use Rattle.plant_model.specs.Events.{Happened, is_down}
-use Rattle.jobs_last.specs.Lasting.{AreInOrder, JobsLast, KeysInTime}
-use Rattle.jobs_last.proofs.DeedsLast.{Lasts, stands, then_lasts, rest_lasts, fall_lasts, outside_input_lasts, inner_input_lasts, begin_adjacency_lasts, break_adjacency_lasts, tick_outside_lasts, tick_adjacencies_last, expire_lasts}
+use Rattle.plant_laws.specs.Lasting.{AreInOrder, JobsLast, KeysInTime}
+use Rattle.plant_laws.proofs.LastingLemmas.DeedsLast.{Lasts, stands, then_lasts, rest_lasts, fall_lasts, outside_input_lasts, inner_input_lasts, begin_adjacency_lasts, break_adjacency_lasts, tick_outside_lasts, tick_adjacencies_last, expire_lasts}
 
 module _ {P : Type 0} {S : Type 0} where
   abbrev pub Did : State P S → Happened P S → Type 0

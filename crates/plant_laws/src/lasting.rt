@@ -1,8 +1,6 @@
 //! Jobs last: a request that can be solved stays as it is until it ends, in every step of a network. Laws, as the contracts of calls
 //! that do nothing.
-#![tactic(auto)]
-
-ghost use Rattle.jobs_last.specs.Lasting.{BlindBegins, BlindStepsLast, ElementsKeepJobs, KeysAreBefore, LastsOn, LastsStill, OrderGives, ParentsKeepJobs, RunsAreInOrder, RunsHaveKeysBefore, StepsLast};
+ghost use Rattle.plant_laws.specs.Lasting.{BlindBegins, BlindStepsLast, ElementsKeepJobs, KeysAreBefore, LastsOn, LastsStill, OrderGives, ParentsKeepJobs, RunsAreInOrder, RunsHaveKeysBefore, StepsLast};
 
 /// In each step the numbers of requests stay in order, a number that was given is never given again, and a request
 /// that can be solved stays as it is until it ends.

@@ -8,8 +8,8 @@ use Rattle.request_table.specs.declared.held.Held.{Held}
 use Rattle.request_table.specs.Pending.{Pending, NumbersRise, opened_of, closed_of, key_of}
 use Rattle.request_table.specs.Lends.{with_item, written_of}
 use Rattle.request_table.proofs.PendingLemmas.{NumbersRise-last}
-use Rattle.jobs_last.specs.Lasting.{IsInOrder, held_at, HasGiven, LastsAs, RequestsLast}
-use Rattle.jobs_last.specs.Onward.{still_as, requests_still, requests_on}
+use Rattle.plant_laws.specs.Lasting.{IsInOrder, held_at, HasGiven, LastsAs, RequestsLast}
+use Rattle.plant_laws.specs.Onward.{still_as, requests_still, requests_on}
 
 -- ---- the numbers of rows after a change
 

@@ -30,8 +30,8 @@ use Rattle.plant_model.specs.Element.{Stage, Waits, Ready, Item, Row, Way, Eleme
 use Rattle.plant_model.specs.Routes.{toward}
 use Rattle.plant_model.specs.Taking.{item_of, sequence_or, goes_up, send_on, take_along, take_path, take_wish, take_new, take_checked, take_asked, staged, answered, made_ready, take_answer, take_reply, told_busy, cancelled, take_busy, take_cancel, notice_steps, take_notice, error_answer, told_error, take_failure, take_errors, take_report, take, sight, wanting}
 use Rattle.plant_model.specs.Solving.{commit, client_reply, closed_reply, closed_paths, issued_all, free, job_found}
-use Rattle.jobs_last.specs.Lasting.{can_solve}
-use Rattle.jobs_last.proofs.Tables.{In, Becomes, still, and_then, closed, opened, filtered, written}
+use Rattle.plant_laws.specs.Lasting.{can_solve}
+use Rattle.plant_laws.proofs.LastingLemmas.Tables.{In, Becomes, still, and_then, closed, opened, filtered, written}
 
 -- a request that waits
 module _ {P : Type 0} where

@@ -4,7 +4,7 @@ use Rattle.request_table.specs.declared.held.Held.{Held}
 use Rattle.request_table.specs.Pending.{Pending}
 use Rattle.plant_model.specs.Parent as parent
 use Rattle.plant_model.specs.State.{State}
-use Rattle.jobs_last.specs.Lasting.{held_at, LastsAs, RequestsLast, JobsLast, can_solve}
+use Rattle.plant_laws.specs.Lasting.{held_at, LastsAs, RequestsLast, JobsLast, can_solve}
 
 module _ {T : Type 0} (ready : T → Bool) where
   pub still_as : (o : Option (Held T)) → LastsAs ready o o

@@ -1,5 +1,5 @@
-use Rattle.jobs_last.proofs.BlindLast as BlindLast
-use Rattle.jobs_last.proofs.blind_steps_last.Goals as goal
+use Rattle.plant_laws.proofs.LastingLemmas.BlindLast as BlindLast
+use Rattle.plant_laws.proofs.lasting.blind_steps_last.Goals as goal
 
 pub returns-clause-steps : goal.returns-clause-steps
 returns-clause-steps c = BlindLast.blind_steps_last

@@ -33,10 +33,10 @@ use Rattle.plant_model.specs.BorderGraph.{Found}
 use Rattle.plant_model.specs.State.{State, Connection}
 use Rattle.plant_model.specs.Deeds.{Going, element_of, is_due, is_tick, is_out_empty, any_fall, our_offer, with_session, with_inbox, own_message, put_to, put, puts, with_element, with_parent, with_access, with_inner, give, rise, fall, say, clear, expire, solve, solve_upper, outside_act, outside_acts, outside_step, outside_input, inner_act, inner_acts, inner_input, begin_end, begin_adjacency, break_adjacency, tick_outside, tick_adjacencies}
 use Rattle.plant_model.specs.Outside.{heeded}
-use Rattle.jobs_last.specs.Lasting.{KeysInTime, can_solve}
-use Rattle.jobs_last.proofs.Tables.{Becomes, still, and_then}
-use Rattle.jobs_last.proofs.ElementsLast as elements
-use Rattle.jobs_last.proofs.ParentsLast as parents
+use Rattle.plant_laws.specs.Lasting.{KeysInTime, can_solve}
+use Rattle.plant_laws.proofs.LastingLemmas.Tables.{Becomes, still, and_then}
+use Rattle.plant_laws.proofs.LastingLemmas.ElementsLast as elements
+use Rattle.plant_laws.proofs.LastingLemmas.ParentsLast as parents
 
 module _ {P : Type 0} {S : Type 0} where
   -- the tables of a network keep their order, and all jobs last

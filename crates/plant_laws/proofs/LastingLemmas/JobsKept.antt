@@ -1,7 +1,7 @@
 -- Where jobs last, a request that can be solved is the same as long as there is one of its number.
 use Rattle.plant_model.specs.Parent as parent
-use Rattle.jobs_last.specs.Lasting.{OrderGives, ElementsKeepJobs, ParentsKeepJobs, can_solve}
-use Rattle.jobs_last.proofs.Tables.{has_given, same_request}
+use Rattle.plant_laws.specs.Lasting.{OrderGives, ElementsKeepJobs, ParentsKeepJobs, can_solve}
+use Rattle.plant_laws.proofs.LastingLemmas.Tables.{has_given, same_request}
 
 pub order_gives : OrderGives
 order_gives s order = record { elements = λ d. has_given can_solve (s.elements d).pending (order.elements d); parent = has_given parent.is_ready s.parent.pending order.parent }

@@ -8,9 +8,9 @@ use Rattle.plant_model.specs.declared.event.Event.{Event}
 use Rattle.plant_model.specs.declared.event.Event.TheVariants as event
 use Rattle.plant_model.specs.Wire.{Codec}
 use Rattle.plant_model.specs.Plant.{Pin, Segment, first_pin, Plant, Happened, Entry, Run, is_full, Happens, Steps}
-use Rattle.jobs_last.specs.Lasting.{AreInOrder, KeysInTime, StepsLast, RunsAreInOrder, KeysAreBefore, RunsHaveKeysBefore}
-use Rattle.jobs_last.proofs.DeedsLast.{stands, solve_lasts, solve_upper_lasts}
-use Rattle.jobs_last.proofs.HappeningsLast.{Did, pick, by_did, open_did, shut_did, feed_did, take_did, carry_did, break_did, tick_did, drain_did, in_order, last, opened_in_order, opened_in_time}
+use Rattle.plant_laws.specs.Lasting.{AreInOrder, KeysInTime, StepsLast, RunsAreInOrder, KeysAreBefore, RunsHaveKeysBefore}
+use Rattle.plant_laws.proofs.LastingLemmas.DeedsLast.{stands, solve_lasts, solve_upper_lasts}
+use Rattle.plant_laws.proofs.LastingLemmas.HappeningsLast.{Did, pick, by_did, open_did, shut_did, feed_did, take_did, carry_did, break_did, tick_did, drain_did, in_order, last, opened_in_order, opened_in_time}
 
 module _ (c : Codec) (n : NetworkParts) where
   happens_did : (s : Plant) (e : Event) (h : Happened) → Happens c n s e h → Did s h

@@ -1,4 +1,0 @@
--- for readers
-pub mod Lasting
--- inner
-pub mod Onward
