@@ -12,18 +12,18 @@ use Rattle.pcep_session.specs.declared.actions.Own.{Own}
 use Rattle.request_table.specs.Pending.{same_peer}
 use Rattle.plant_queues.specs.Messages.{Spare, Covers}
 use Rattle.plant_text.specs.declared.settings.NetworkParts.{NetworkParts}
-use Rattle.member_trait.specs.plant_model.declared.output.Lost.{Lost}
-use Rattle.member_trait.specs.plant_model.Names.{is_empty}
-use Rattle.member_trait.specs.plant_model.Wire.{Bytes}
-use Rattle.member_trait.specs.plant_model.RealWire.{wire}
-use Rattle.member_trait.specs.plant_model.State.{Connection}
-use Rattle.member_trait.specs.plant_model.Deeds as deeds
-use Rattle.member_trait.specs.plant_model.Deeds.{Going, element_of, is_out_empty, is_due, with_inbox}
+use Rattle.pce_common.specs.plant_model.declared.output.Lost.{Lost}
+use Rattle.pce_common.specs.plant_model.Names.{is_empty}
+use Rattle.pce_common.specs.plant_model.Wire.{Bytes}
+use Rattle.pce_common.specs.plant_model.RealWire.{wire}
+use Rattle.pce_common.specs.plant_model.State.{Connection}
+use Rattle.pce_common.specs.plant_model.Deeds as deeds
+use Rattle.pce_common.specs.plant_model.Deeds.{Going, element_of, is_out_empty, is_due, with_inbox}
 use Rattle.network_links.specs.plant_sessions.Ends.{own_bytes, is_left_out}
 use Rattle.network_links.specs.Flow.{Flow, Puts, change_access, out_of, room_at, queue_at}
 use Rattle.network_events.specs.Accounts.{Accounts, has_queue}
-use Rattle.member_trait.specs.Membership.{Membership, lost_at}
-use Rattle.member_trait.specs.Owed.{is_peer}
+use Rattle.pce_common.specs.Membership.{Membership, lost_at}
+use Rattle.pce_common.specs.Owed.{is_peer}
 use Rattle.network_events.specs.Standing.{Here, here_of, Goes, state_of}
 use Rattle.network_events.specs.Telling.{RoomToTell, count_lost}
 use Rattle.network_events.specs.Acting.{Spent, RoomToAct, Fits, LeavesOff, RoomFor, lost_by}

@@ -13,15 +13,15 @@ use Rattle.plant_text.specs.declared.settings.NetworkParts.{NetworkParts}
 use Rattle.plant_text.specs.declared.settings.ElementRow.{ElementRow}
 use Rattle.plant_text.specs.Names.{same_as, parent_as}
 use Rattle.plant_text.specs.Settings.{elements_of}
-use Rattle.member_trait.specs.plant_model.declared.output.Output.{Output}
-use Rattle.member_trait.specs.plant_model.Element.{Element}
-use Rattle.member_trait.specs.plant_model.Parent.{Parent}
-use Rattle.member_trait.specs.plant_model.RealWire.{wire}
-use Rattle.member_trait.specs.plant_model.State.{sent_by}
-use Rattle.member_trait.specs.plant_model.Deeds as deeds
+use Rattle.pce_common.specs.plant_model.declared.output.Output.{Output}
+use Rattle.pce_common.specs.plant_model.Element.{Element}
+use Rattle.pce_common.specs.plant_model.Parent.{Parent}
+use Rattle.pce_common.specs.plant_model.RealWire.{wire}
+use Rattle.pce_common.specs.plant_model.State.{sent_by}
+use Rattle.pce_common.specs.plant_model.Deeds as deeds
 use Rattle.network_links.specs.Flow.{Flow, ClearsSaid}
-use Rattle.member_trait.specs.Membership.{Membership, with_element, with_parent}
-use Rattle.member_trait.specs.Owed.{count_by_asker, is_peer, owed, pending_in}
+use Rattle.pce_common.specs.Membership.{Membership, with_element, with_parent}
+use Rattle.pce_common.specs.Owed.{count_by_asker, is_peer, owed, pending_in}
 use Rattle.network_events.specs.Answering.{IsAnswer, Sends}
 use Rattle.network_events.specs.Giving.{OnlyGrows, PutsAll, RoomToAnswer, RoomToGive}
 use Rattle.network_events.specs.Passing.{IsOf}

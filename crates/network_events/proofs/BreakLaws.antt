@@ -12,18 +12,18 @@ use Rattle.plant_queues.specs.Sents.{sent_of, size_of}
 use Rattle.plant_text.specs.Settings.{Adjacency}
 use Rattle.plant_text.specs.declared.settings.NetworkParts.{NetworkParts}
 use Rattle.plant_text.specs.Names.{same_as}
-use Rattle.member_trait.specs.plant_model.declared.output.Lost.{Lost}
-use Rattle.member_trait.specs.plant_model.Element.{lost_output}
-use Rattle.member_trait.specs.plant_model.RealWire.{wire}
-use Rattle.member_trait.specs.plant_model.State.{State, sent_by}
-use Rattle.member_trait.specs.plant_model.Deeds as deeds
-use Rattle.member_trait.specs.plant_model.Deeds.{our_offer}
+use Rattle.pce_common.specs.plant_model.declared.output.Lost.{Lost}
+use Rattle.pce_common.specs.plant_model.Element.{lost_output}
+use Rattle.pce_common.specs.plant_model.RealWire.{wire}
+use Rattle.pce_common.specs.plant_model.State.{State, sent_by}
+use Rattle.pce_common.specs.plant_model.Deeds as deeds
+use Rattle.pce_common.specs.plant_model.Deeds.{our_offer}
 use Rattle.network_links.specs.plant_sessions.Ends.{own_bytes}
 use Rattle.network_links.specs.plant_sessions.Links.{next_sid}
 use Rattle.network_links.specs.Flow.{Flow, Room, Begins, Clears, room_at}
 use Rattle.network_events.specs.Accounts.{count_into, bytes_into, goes_into}
-use Rattle.member_trait.specs.Membership.{Membership, fallen, lost_at}
-use Rattle.member_trait.specs.Owed.{is_peer}
+use Rattle.pce_common.specs.Membership.{Membership, fallen, lost_at}
+use Rattle.pce_common.specs.Owed.{is_peer}
 use Rattle.network_events.specs.Standing.{IsAt, here_of, Goes}
 use Rattle.network_events.specs.Telling.{Tells, RoomToTell, lost_bytes, count_lost}
 use Rattle.network_events.specs.Breaking.{RoomToBreak}

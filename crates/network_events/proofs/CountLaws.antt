@@ -4,7 +4,7 @@ use Rattle.std.specs.Map.{remove_entry}
 use Rattle.dom_base.specs.declared.names.Peer.{Peer}
 use Rattle.request_table.specs.declared.held.Held.{Held}
 use Rattle.request_table.specs.Lends.{with_item}
-use Rattle.member_trait.specs.Owed.{count_by_asker}
+use Rattle.pce_common.specs.Owed.{count_by_asker}
 
 abbrev pub one_if : Bool → ℕ
 one_if b = cond b 1 0

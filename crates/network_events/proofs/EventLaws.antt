@@ -7,19 +7,19 @@ use Rattle.dom_base.specs.declared.names.Peer.TheVariants.{Outside, Inner}
 use Rattle.pcep_subobjects.specs.declared.hop.Hop.{Hop}
 use Rattle.plant_text.specs.declared.settings.NetworkParts.{NetworkParts}
 use Rattle.plant_text.specs.Settings.{adjacency, is_linked}
-use Rattle.member_trait.specs.plant_model.declared.outcome.Outcome.TheVariants.{Done}
-use Rattle.member_trait.specs.plant_model.declared.outcome.Refused.TheVariants.{NoSuchPeer}
-use Rattle.member_trait.specs.plant_model.declared.output.Lost.{Lost}
-use Rattle.member_trait.specs.plant_model.RealWire.{wire}
-use Rattle.member_trait.specs.plant_model.State.{State, Connection, said}
-use Rattle.member_trait.specs.plant_model.Deeds as deeds
-use Rattle.member_trait.specs.plant_model.Deeds.{element_of, on_connection, with_more}
-use Rattle.member_trait.specs.plant_model.Element.{ticked}
-use Rattle.member_trait.specs.plant_model.Wire.{Bytes}
-use Rattle.member_trait.specs.plant_model.Events as events
+use Rattle.pce_common.specs.plant_model.declared.outcome.Outcome.TheVariants.{Done}
+use Rattle.pce_common.specs.plant_model.declared.outcome.Refused.TheVariants.{NoSuchPeer}
+use Rattle.pce_common.specs.plant_model.declared.output.Lost.{Lost}
+use Rattle.pce_common.specs.plant_model.RealWire.{wire}
+use Rattle.pce_common.specs.plant_model.State.{State, Connection, said}
+use Rattle.pce_common.specs.plant_model.Deeds as deeds
+use Rattle.pce_common.specs.plant_model.Deeds.{element_of, on_connection, with_more}
+use Rattle.pce_common.specs.plant_model.Element.{ticked}
+use Rattle.pce_common.specs.plant_model.Wire.{Bytes}
+use Rattle.pce_common.specs.plant_model.Events as events
 use Rattle.network_links.specs.Flow.{Flow, ClearsSaid, put_flow, shut}
 use Rattle.network_events.specs.Happening.{IsDone}
-use Rattle.member_trait.specs.Membership.{Membership, expired}
+use Rattle.pce_common.specs.Membership.{Membership, expired}
 use Rattle.network_events.specs.Standing.{IsAt, here_of, Goes, state_of}
 use Rattle.network_events.specs.Telling.{Tells, tell_all, lost_bytes}
 use Rattle.network_events.proofs.GoLaws.{accounts_same, said_none}

@@ -7,20 +7,20 @@ use Rattle.pcep_subobjects.specs.declared.hop.Hop.{Hop}
 use Rattle.network_links.specs.plant_sessions.Ends.{fed_while_up}
 use Rattle.network_links.specs.plant_sessions.Rooms.{Frees, Grows, queue}
 use Rattle.plant_text.specs.declared.settings.NetworkParts.{NetworkParts}
-use Rattle.member_trait.specs.plant_model.declared.outcome.Outcome.TheVariants.{Done, Drained}
-use Rattle.member_trait.specs.plant_model.declared.outcome.Refused.{Refused}
-use Rattle.member_trait.specs.plant_model.declared.outcome.Refused.TheVariants.{NoSuchPeer, NotHolder, NoMemory}
-use Rattle.member_trait.specs.plant_model.Names.{set_number}
-use Rattle.member_trait.specs.plant_model.Wire.{Bytes}
-use Rattle.member_trait.specs.plant_model.State.{Connection}
-use Rattle.member_trait.specs.plant_model.Events as events
-use Rattle.member_trait.specs.plant_model.Events.{Answered, Happened, drained, takes_feed}
-use Rattle.member_trait.specs.plant_model.RealWire.{wire}
+use Rattle.pce_common.specs.plant_model.declared.outcome.Outcome.TheVariants.{Done, Drained}
+use Rattle.pce_common.specs.plant_model.declared.outcome.Refused.{Refused}
+use Rattle.pce_common.specs.plant_model.declared.outcome.Refused.TheVariants.{NoSuchPeer, NotHolder, NoMemory}
+use Rattle.pce_common.specs.plant_model.Names.{set_number}
+use Rattle.pce_common.specs.plant_model.Wire.{Bytes}
+use Rattle.pce_common.specs.plant_model.State.{Connection}
+use Rattle.pce_common.specs.plant_model.Events as events
+use Rattle.pce_common.specs.plant_model.Events.{Answered, Happened, drained, takes_feed}
+use Rattle.pce_common.specs.plant_model.RealWire.{wire}
 use Rattle.network_links.specs.declared.peers.Drained.{Drained as Handed}
 use Rattle.network_links.specs.Flow.{Flow, Room, ClearsSaid, change_access, room_at}
 use Rattle.network_links.specs.Happenings.{FeedsIn, FeedsConnectionIn, DrainsIn, DrainsConnectionIn, DrainsHeldIn, done_of, drained_of, hands_of}
 use Rattle.network_links.proofs.HappenLemmas.{feed_happens, drain_happens}
-use Rattle.member_trait.specs.Membership.{Membership}
+use Rattle.pce_common.specs.Membership.{Membership}
 use Rattle.network_events.specs.Giving.{OnlyGrows}
 use Rattle.network_events.specs.Happening.{IsDone, IsDoneOrLacks}
 use Rattle.network_events.specs.Rooms.{IsRoomy, emptied, own_most}

@@ -11,17 +11,17 @@ use Rattle.plant_queues.specs.Sents.{sent_of}
 use Rattle.plant_text.specs.declared.settings.NetworkParts.{NetworkParts}
 use Rattle.plant_text.specs.Names.{same_as, parent_as}
 use Rattle.plant_text.specs.Settings.{class_of}
-use Rattle.member_trait.specs.plant_model.declared.output.Output.{Output}
-use Rattle.member_trait.specs.plant_model.declared.output.Lost.{Lost}
-use Rattle.member_trait.specs.plant_model.Settings.{place, family}
-use Rattle.member_trait.specs.plant_model.RealWire.{wire}
-use Rattle.member_trait.specs.plant_model.State.{State, said, sent_by}
-use Rattle.member_trait.specs.plant_model.Deeds as deeds
-use Rattle.member_trait.specs.plant_model.Deeds.{Going}
-use Rattle.member_trait.specs.plant_model.Taking.{take}
-use Rattle.member_trait.specs.plant_model.Parent as parent
+use Rattle.pce_common.specs.plant_model.declared.output.Output.{Output}
+use Rattle.pce_common.specs.plant_model.declared.output.Lost.{Lost}
+use Rattle.pce_common.specs.plant_model.Settings.{place, family}
+use Rattle.pce_common.specs.plant_model.RealWire.{wire}
+use Rattle.pce_common.specs.plant_model.State.{State, said, sent_by}
+use Rattle.pce_common.specs.plant_model.Deeds as deeds
+use Rattle.pce_common.specs.plant_model.Deeds.{Going}
+use Rattle.pce_common.specs.plant_model.Taking.{take}
+use Rattle.pce_common.specs.plant_model.Parent as parent
 use Rattle.network_links.specs.Flow.{Flow, put_flow}
-use Rattle.member_trait.specs.Membership.{Membership, given, with_element, with_parent}
+use Rattle.pce_common.specs.Membership.{Membership, given, with_element, with_parent}
 use Rattle.network_events.specs.Standing.{IsAt, here_of, Goes, state_of}
 use Rattle.network_events.specs.Giving.{PutsAll, IsGiven, put_all}
 use Rattle.network_events.proofs.LetterLaws.{puts_keep}

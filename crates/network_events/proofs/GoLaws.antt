@@ -12,18 +12,18 @@ use Rattle.plant_queues.specs.Messages.{Spare, total}
 use Rattle.plant_queues.specs.Sents.{size_of, sent_of}
 use Rattle.plant_text.specs.declared.settings.NetworkParts.{NetworkParts}
 use Rattle.plant_text.specs.Names.{same_as, parent_as}
-use Rattle.member_trait.specs.plant_model.declared.output.Lost.{Lost}
-use Rattle.member_trait.specs.plant_model.Wire.{Bytes}
-use Rattle.member_trait.specs.plant_model.RealWire.{wire}
-use Rattle.member_trait.specs.plant_model.State.{State, Connection, said}
-use Rattle.member_trait.specs.plant_model.Deeds as deeds
-use Rattle.member_trait.specs.plant_model.Deeds.{Going, on_connection, with_more}
-use Rattle.member_trait.specs.plant_model.Element.{upped}
-use Rattle.member_trait.specs.plant_model.Parent as parent
+use Rattle.pce_common.specs.plant_model.declared.output.Lost.{Lost}
+use Rattle.pce_common.specs.plant_model.Wire.{Bytes}
+use Rattle.pce_common.specs.plant_model.RealWire.{wire}
+use Rattle.pce_common.specs.plant_model.State.{State, Connection, said}
+use Rattle.pce_common.specs.plant_model.Deeds as deeds
+use Rattle.pce_common.specs.plant_model.Deeds.{Going, on_connection, with_more}
+use Rattle.pce_common.specs.plant_model.Element.{upped}
+use Rattle.pce_common.specs.plant_model.Parent as parent
 use Rattle.network_links.specs.plant_sessions.Ends.{own_bytes}
 use Rattle.network_links.specs.Flow.{Flow, Room, Puts, change_access, SameFlow, put_flow, put_at, room_at, queue_at, set_room, out_of}
 use Rattle.network_events.specs.Accounts.{Accounts, count_into, bytes_into, goes_into, has_queue}
-use Rattle.member_trait.specs.Membership.{Membership, raised}
+use Rattle.pce_common.specs.Membership.{Membership, raised}
 use Rattle.network_events.specs.Standing.{IsAt, Here, here_of, Goes, state_of}
 
 -- what is seen of each connection, where one changes in what is not seen

@@ -12,16 +12,16 @@ use Rattle.pcep_session.specs.Table.{turn_of}
 use Rattle.plant_queues.specs.Messages.{Spare, Covers}
 use Rattle.plant_text.specs.declared.settings.NetworkParts.{NetworkParts}
 use Rattle.plant_text.specs.Settings.{adjacency}
-use Rattle.member_trait.specs.plant_model.declared.output.Lost.{Lost}
-use Rattle.member_trait.specs.plant_model.RealWire.{wire}
-use Rattle.member_trait.specs.plant_model.State.{State, Connection}
-use Rattle.member_trait.specs.plant_model.Deeds as deeds
-use Rattle.member_trait.specs.plant_model.Deeds.{Going, is_tick, any_fall, with_session}
+use Rattle.pce_common.specs.plant_model.declared.output.Lost.{Lost}
+use Rattle.pce_common.specs.plant_model.RealWire.{wire}
+use Rattle.pce_common.specs.plant_model.State.{State, Connection}
+use Rattle.pce_common.specs.plant_model.Deeds as deeds
+use Rattle.pce_common.specs.plant_model.Deeds.{Going, is_tick, any_fall, with_session}
 use Rattle.network_links.proofs.plant_sessions.StepLemmas.{steps_keep_number}
 use Rattle.network_links.specs.plant_sessions.Ends.{said_in}
 use Rattle.network_links.specs.Flow.{Flow, MaySet, room_at, session_at, set_session_at}
-use Rattle.member_trait.specs.Membership.{Membership, lost_at}
-use Rattle.member_trait.specs.Owed.{is_peer}
+use Rattle.pce_common.specs.Membership.{Membership, lost_at}
+use Rattle.pce_common.specs.Owed.{is_peer}
 use Rattle.network_events.specs.Standing.{Here, IsAt, here_of, Goes}
 use Rattle.network_events.specs.Acting.{RoomToAct, Fits, lost_by, size_in}
 use Rattle.network_events.specs.Peers.{IsEnd, acts_at, break_at, breaks_by, input_at}

@@ -12,14 +12,14 @@ use Rattle.plant_queues.specs.Messages.{Spare, Covers, total}
 use Rattle.plant_queues.specs.Sents.{size_of, sent_of}
 use Rattle.plant_text.specs.declared.settings.NetworkParts.{NetworkParts}
 use Rattle.plant_text.specs.Names.{same_as}
-use Rattle.member_trait.specs.plant_model.Wire.{Bytes}
-use Rattle.member_trait.specs.plant_model.declared.output.Output.{Output}
-use Rattle.member_trait.specs.plant_model.RealWire.{wire}
-use Rattle.member_trait.specs.plant_model.State.{sent_by}
+use Rattle.pce_common.specs.plant_model.Wire.{Bytes}
+use Rattle.pce_common.specs.plant_model.declared.output.Output.{Output}
+use Rattle.pce_common.specs.plant_model.RealWire.{wire}
+use Rattle.pce_common.specs.plant_model.State.{sent_by}
 use Rattle.network_links.specs.plant_sessions.Rooms.{Grows}
 use Rattle.network_links.specs.Flow.{Flow, Room, Puts, GrowsAt, GrowsSaid, KeepsRoomAt, put_flow, room_at, queue_at, set_room}
 use Rattle.network_events.specs.Accounts.{Accounts, goes_into}
-use Rattle.member_trait.specs.Membership.{Membership}
+use Rattle.pce_common.specs.Membership.{Membership}
 use Rattle.network_events.specs.Giving.{PutsAll, RoomToPut, OnlyGrows, KeepsForLetters, CoversWords, RoomToGive, put_all, is_own}
 use Rattle.network_events.proofs.GoLaws.{accounts_same, accounts_then, puts_accounts, put_case, self, as_is}
 

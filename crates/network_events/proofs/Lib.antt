@@ -41,4 +41,4 @@ pub mod LossEvents
 pub mod OpenLaws
 pub mod AnswerLaws
 -- handed on from below
-pub use Rattle.member_trait.proofs.plant_model
+pub use Rattle.pce_common.proofs.plant_model

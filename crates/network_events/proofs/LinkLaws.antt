@@ -12,18 +12,18 @@ use Rattle.plant_queues.specs.Messages.{Spare, total}
 use Rattle.plant_queues.specs.Sents.{size_of}
 use Rattle.plant_text.specs.declared.settings.NetworkParts.{NetworkParts}
 use Rattle.plant_text.specs.Names.{same_as}
-use Rattle.member_trait.specs.plant_model.declared.output.Lost.{Lost}
-use Rattle.member_trait.specs.plant_model.Names.{set_pair}
-use Rattle.member_trait.specs.plant_model.Wire.{Bytes}
-use Rattle.member_trait.specs.plant_model.RealWire.{wire}
-use Rattle.member_trait.specs.plant_model.State.{State, said}
-use Rattle.member_trait.specs.plant_model.Deeds as deeds
-use Rattle.member_trait.specs.plant_model.Deeds.{our_offer}
+use Rattle.pce_common.specs.plant_model.declared.output.Lost.{Lost}
+use Rattle.pce_common.specs.plant_model.Names.{set_pair}
+use Rattle.pce_common.specs.plant_model.Wire.{Bytes}
+use Rattle.pce_common.specs.plant_model.RealWire.{wire}
+use Rattle.pce_common.specs.plant_model.State.{State, said}
+use Rattle.pce_common.specs.plant_model.Deeds as deeds
+use Rattle.pce_common.specs.plant_model.Deeds.{our_offer}
 use Rattle.network_links.specs.plant_sessions.Ends.{own_bytes}
 use Rattle.network_links.specs.plant_sessions.Rooms.{room_in_all}
 use Rattle.network_links.specs.Flow.{Flow, Begins, Clears, Puts, set_session, room_at, queue_at}
 use Rattle.network_events.specs.Accounts.{Accounts, count_into, bytes_into, queue_in, has_queue}
-use Rattle.member_trait.specs.Membership.{Membership}
+use Rattle.pce_common.specs.Membership.{Membership}
 use Rattle.network_events.specs.Standing.{IsAt, here_of, Goes, state_of}
 use Rattle.network_events.proofs.GoLaws.{goes_then, goes_say, as_is, said_none}
 

@@ -8,17 +8,17 @@ use Rattle.pcep_subobjects.specs.declared.hop.Hop.{Hop}
 use Rattle.plant_text.specs.declared.settings.NetworkParts.{NetworkParts}
 use Rattle.plant_text.specs.Names.{same_as}
 use Rattle.plant_text.specs.Settings.{Adjacency, has_adjacency, adjacency, adjacencies}
-use Rattle.member_trait.specs.plant_model.declared.output.Lost.{Lost}
-use Rattle.member_trait.specs.plant_model.RealWire.{wire}
-use Rattle.member_trait.specs.plant_model.Deeds as deeds
-use Rattle.member_trait.specs.plant_model.Deeds.{element_of}
-use Rattle.member_trait.specs.plant_model.Events as events
+use Rattle.pce_common.specs.plant_model.declared.output.Lost.{Lost}
+use Rattle.pce_common.specs.plant_model.RealWire.{wire}
+use Rattle.pce_common.specs.plant_model.Deeds as deeds
+use Rattle.pce_common.specs.plant_model.Deeds.{element_of}
+use Rattle.pce_common.specs.plant_model.Events as events
 use Rattle.network_links.specs.plant_sessions.declared.access.Access.{Access}
 use Rattle.network_links.specs.Carried.{Carried, flow_of}
 use Rattle.network_links.specs.Flow.{Flow, ClearsSaid, shut}
 use Rattle.network_links.specs.Peers.{access_or}
 use Rattle.network_events.specs.Breaking.{RoomToBreak}
-use Rattle.member_trait.specs.Membership.{AreJoined, Membership, fallen, is_member, lost_at}
+use Rattle.pce_common.specs.Membership.{AreJoined, Membership, fallen, is_member, lost_at}
 use Rattle.network_events.specs.Rooms.{IsRoomy, own_most}
 use Rattle.network_events.specs.Standing.{Goes, here_of, state_of}
 use Rattle.network_events.specs.Telling.{RoomToTell}

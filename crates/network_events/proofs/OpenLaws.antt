@@ -18,15 +18,15 @@ use Rattle.plant_queues.specs.Messages.{Spare}
 use Rattle.plant_text.specs.declared.settings.NetworkParts.{NetworkParts}
 use Rattle.plant_text.specs.declared.settings.PeerRow.{PeerRow}
 use Rattle.plant_text.specs.Settings.{peer_row}
-use Rattle.member_trait.specs.plant_model.declared.outcome.Outcome.TheVariants.{Done}
-use Rattle.member_trait.specs.plant_model.declared.outcome.Refused.TheVariants.{NoSuchPeer}
-use Rattle.member_trait.specs.plant_model.declared.output.Lost.{Lost}
-use Rattle.member_trait.specs.plant_model.Names.{is_empty, set_number}
-use Rattle.member_trait.specs.plant_model.RealWire.{wire}
-use Rattle.member_trait.specs.plant_model.State.{Access, Connection}
-use Rattle.member_trait.specs.plant_model.Deeds as deeds
-use Rattle.member_trait.specs.plant_model.Deeds.{Going, element_of, our_offer}
-use Rattle.member_trait.specs.plant_model.Events as events
+use Rattle.pce_common.specs.plant_model.declared.outcome.Outcome.TheVariants.{Done}
+use Rattle.pce_common.specs.plant_model.declared.outcome.Refused.TheVariants.{NoSuchPeer}
+use Rattle.pce_common.specs.plant_model.declared.output.Lost.{Lost}
+use Rattle.pce_common.specs.plant_model.Names.{is_empty, set_number}
+use Rattle.pce_common.specs.plant_model.RealWire.{wire}
+use Rattle.pce_common.specs.plant_model.State.{Access, Connection}
+use Rattle.pce_common.specs.plant_model.Deeds as deeds
+use Rattle.pce_common.specs.plant_model.Deeds.{Going, element_of, our_offer}
+use Rattle.pce_common.specs.plant_model.Events as events
 use Rattle.network_links.specs.plant_sessions.Ends.{just_open}
 use Rattle.network_links.specs.Flow.{ClearsSaid, Flow, GrowsAt, KeepsRoomAt, just_opened, out_of, session_at, set_access, set_room}
 use Rattle.plant_text.specs.Names.{parent_as}
@@ -34,8 +34,8 @@ use Rattle.network_events.specs.Acting.{FitsInput}
 use Rattle.network_events.specs.Happening.{IsDone}
 use Rattle.network_events.specs.Passing.{IsOf}
 use Rattle.network_events.specs.Peers.{input_at}
-use Rattle.member_trait.specs.Membership.{Membership, is_member}
-use Rattle.member_trait.specs.Owed.{owed}
+use Rattle.pce_common.specs.Membership.{Membership, is_member}
+use Rattle.pce_common.specs.Owed.{owed}
 use Rattle.network_events.specs.Rooms.{IsRoomy, emptied, is_live, own_most}
 use Rattle.network_events.specs.Roomy.{KeepsOn}
 use Rattle.network_events.specs.Standing.{Goes, IsAt, here_of, state_of}

@@ -11,17 +11,17 @@ use Rattle.plant_queues.specs.Sents.{size_of}
 use Rattle.plant_text.specs.declared.settings.NetworkParts.{NetworkParts}
 use Rattle.plant_text.specs.Names.{same_as, same_link}
 use Rattle.plant_text.specs.Settings.{Adjacency, has_adjacency, adjacencies}
-use Rattle.member_trait.specs.plant_model.declared.output.Lost.{Lost}
-use Rattle.member_trait.specs.plant_model.Wire.{Bytes}
-use Rattle.member_trait.specs.plant_model.RealWire.{wire}
-use Rattle.member_trait.specs.plant_model.Deeds as deeds
-use Rattle.member_trait.specs.plant_model.Deeds.{Going}
-use Rattle.member_trait.specs.plant_model.Events as events
+use Rattle.pce_common.specs.plant_model.declared.output.Lost.{Lost}
+use Rattle.pce_common.specs.plant_model.Wire.{Bytes}
+use Rattle.pce_common.specs.plant_model.RealWire.{wire}
+use Rattle.pce_common.specs.plant_model.Deeds as deeds
+use Rattle.pce_common.specs.plant_model.Deeds.{Going}
+use Rattle.pce_common.specs.plant_model.Events as events
 use Rattle.network_links.specs.Flow.{Begins, Flow, GrowsAt, GrowsSaid, IsBare, KeepsRoomAt, queue_at}
 use Rattle.network_events.specs.Accounts.{Accounts, count_into, bytes_into, has_queue}
-use Rattle.member_trait.specs.Membership.{Membership}
+use Rattle.pce_common.specs.Membership.{Membership}
 use Rattle.network_events.specs.Giving.{CoversWords, OnlyGrows, own_words}
-use Rattle.member_trait.specs.Owed.{owed}
+use Rattle.pce_common.specs.Owed.{owed}
 use Rattle.network_events.specs.Rooms.{IsRoomy, is_live, is_talking, own_most}
 use Rattle.network_events.specs.Standing.{Goes, here_of, state_of}
 use Rattle.network_events.proofs.GoLaws.{as_is, goes_then}

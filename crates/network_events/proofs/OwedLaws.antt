@@ -10,15 +10,15 @@ use Rattle.request_table.specs.Pending.{same_peer}
 use Rattle.plant_text.specs.declared.settings.NetworkParts.{NetworkParts}
 use Rattle.plant_text.specs.Names.{same_as, parent_as}
 use Rattle.plant_text.specs.Settings.{class_of}
-use Rattle.member_trait.specs.plant_model.declared.output.Lost.{Lost}
-use Rattle.member_trait.specs.plant_model.Settings.{place, family}
-use Rattle.member_trait.specs.plant_model.Wire.{Codec}
-use Rattle.member_trait.specs.plant_model.Element.{Row, Element, stays, is_lost, lost_of, lost, upped, downed, waits_on}
-use Rattle.member_trait.specs.plant_model.Element as element
-use Rattle.member_trait.specs.plant_model.Taking as taking
-use Rattle.member_trait.specs.plant_model.Parent as parent
-use Rattle.member_trait.specs.Membership.{Membership, given, raised, fallen, lost_at, expired, with_element, with_parent}
-use Rattle.member_trait.specs.Owed.{count_by_asker, count_at, asked_in}
+use Rattle.pce_common.specs.plant_model.declared.output.Lost.{Lost}
+use Rattle.pce_common.specs.plant_model.Settings.{place, family}
+use Rattle.pce_common.specs.plant_model.Wire.{Codec}
+use Rattle.pce_common.specs.plant_model.Element.{Row, Element, stays, is_lost, lost_of, lost, upped, downed, waits_on}
+use Rattle.pce_common.specs.plant_model.Element as element
+use Rattle.pce_common.specs.plant_model.Taking as taking
+use Rattle.pce_common.specs.plant_model.Parent as parent
+use Rattle.pce_common.specs.Membership.{Membership, given, raised, fallen, lost_at, expired, with_element, with_parent}
+use Rattle.pce_common.specs.Owed.{count_by_asker, count_at, asked_in}
 use Rattle.network_events.specs.Telling.{count_lost}
 use Rattle.network_events.proofs.CountLaws.{count_apart, count_none}
 use Rattle.network_events.proofs.TakeLaws as elements

@@ -16,13 +16,13 @@ use Rattle.pcep_messages.specs.declared.message.Wish.TheVariants.{Path, Expand}
 use Rattle.vspt_tree.specs.declared.branch.Branch.{Branch}
 use Rattle.request_table.specs.Pending.{Pending, number_of, opened_of, key_of, is_full}
 use Rattle.plant_text.specs.Names.{parent_as}
-use Rattle.member_trait.specs.plant_model.Names.{has_pair}
-use Rattle.member_trait.specs.plant_model.Wire.{Codec, Checked, Admitted, Wrong}
-use Rattle.member_trait.specs.plant_model.Writing.{reply_message, unavailable, busy}
-use Rattle.member_trait.specs.plant_model.Branches.{branches_in}
-use Rattle.member_trait.specs.plant_model.Taking.{error_answer}
-use Rattle.member_trait.specs.plant_model.Parent.{Asking, AskingRow, ask_all, all_waits, errands, Parent, Family, ParentTaken, each, waiting, gathered, gathers, all_up, take_path, take_wish, take_new, take_checked, take_asked, ended, answered, take_answer, take_found, take_reply, told_busy, cancelled, take_busy, take_cancel, notice_steps, take_notice, told_error, take_failure, take_errors, take_report, take}
-use Rattle.member_trait.specs.Owed.{count_by_asker, asked_in}
+use Rattle.pce_common.specs.plant_model.Names.{has_pair}
+use Rattle.pce_common.specs.plant_model.Wire.{Codec, Checked, Admitted, Wrong}
+use Rattle.pce_common.specs.plant_model.Writing.{reply_message, unavailable, busy}
+use Rattle.pce_common.specs.plant_model.Branches.{branches_in}
+use Rattle.pce_common.specs.plant_model.Taking.{error_answer}
+use Rattle.pce_common.specs.plant_model.Parent.{Asking, AskingRow, ask_all, all_waits, errands, Parent, Family, ParentTaken, each, waiting, gathered, gathers, all_up, take_path, take_wish, take_new, take_checked, take_asked, ended, answered, take_answer, take_found, take_reply, told_busy, cancelled, take_busy, take_cancel, notice_steps, take_notice, told_error, take_failure, take_errors, take_report, take}
+use Rattle.pce_common.specs.Owed.{count_by_asker, asked_in}
 use Rattle.network_events.proofs.CountLaws.{one_if, for_each, for_each_is, count_push, count_removed, count_written}
 
 module _ (test : Peer → Bool) where

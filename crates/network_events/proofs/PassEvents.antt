@@ -9,13 +9,13 @@ use Rattle.plant_queues.specs.declared.sent.Sent.{Sent}
 use Rattle.plant_text.specs.declared.settings.NetworkParts.{NetworkParts}
 use Rattle.plant_text.specs.Names.{same_as}
 use Rattle.plant_text.specs.Settings.{elements_of}
-use Rattle.member_trait.specs.plant_model.declared.output.Output.{Output}
-use Rattle.member_trait.specs.plant_model.RealWire.{wire}
-use Rattle.member_trait.specs.plant_model.State.{sent_by}
+use Rattle.pce_common.specs.plant_model.declared.output.Output.{Output}
+use Rattle.pce_common.specs.plant_model.RealWire.{wire}
+use Rattle.pce_common.specs.plant_model.State.{sent_by}
 use Rattle.network_links.specs.Flow.{Flow, ClearsSaid}
 use Rattle.network_events.specs.Giving.{IsGiven, OnlyGrows, own_words}
-use Rattle.member_trait.specs.Membership.{Membership, given}
-use Rattle.member_trait.specs.Owed.{asked_in, owed, is_peer, pending_in}
+use Rattle.pce_common.specs.Membership.{Membership, given}
+use Rattle.pce_common.specs.Owed.{asked_in, owed, is_peer, pending_in}
 use Rattle.network_events.specs.Passing.{IsOf}
 use Rattle.network_events.specs.Rooms.{own_most}
 use Rattle.network_events.proofs.OwedLaws.{given_count}

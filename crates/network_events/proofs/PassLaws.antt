@@ -7,10 +7,10 @@ use Rattle.dom_base.specs.declared.names.Peer.TheVariants.{Outside, Inner}
 use Rattle.pcep_session.specs.declared.state.State.{State as Session}
 use Rattle.plant_queues.specs.Messages.{Spare, total}
 use Rattle.plant_text.specs.Names.{same_as}
-use Rattle.member_trait.specs.plant_model.Names.{set_pair}
-use Rattle.member_trait.specs.plant_model.Wire.{Bytes}
-use Rattle.member_trait.specs.plant_model.State.{Connection}
-use Rattle.member_trait.specs.plant_model.Deeds.{with_session}
+use Rattle.pce_common.specs.plant_model.Names.{set_pair}
+use Rattle.pce_common.specs.plant_model.Wire.{Bytes}
+use Rattle.pce_common.specs.plant_model.State.{Connection}
+use Rattle.pce_common.specs.plant_model.Deeds.{with_session}
 use Rattle.network_links.specs.plant_sessions.Rooms.{Grows, Frees, queue, room_in_all}
 use Rattle.network_links.specs.Flow.{Flow, ClearsSaid, DropsFirst, room_at, queue_at, out_of, set_session, set_session_at, change_access}
 use Rattle.network_events.specs.Accounts.{queue_in}

@@ -10,13 +10,13 @@ use Rattle.plant_text.specs.declared.settings.NetworkParts.{NetworkParts}
 use Rattle.plant_text.specs.declared.settings.ElementRow.{ElementRow}
 use Rattle.plant_text.specs.Names.{same_as, parent_as, insert_as}
 use Rattle.plant_text.specs.Settings.{class_of, elements_of}
-use Rattle.member_trait.specs.plant_model.Settings.{place, family}
-use Rattle.member_trait.specs.plant_model.Wire.{Codec}
-use Rattle.member_trait.specs.plant_model.Element.{Element}
-use Rattle.member_trait.specs.plant_model.Taking as taking
-use Rattle.member_trait.specs.plant_model.Parent as parent
-use Rattle.member_trait.specs.Membership.{Membership, given, with_element, with_parent}
-use Rattle.member_trait.specs.Owed.{asked_in, pending_at, pending_in}
+use Rattle.pce_common.specs.plant_model.Settings.{place, family}
+use Rattle.pce_common.specs.plant_model.Wire.{Codec}
+use Rattle.pce_common.specs.plant_model.Element.{Element}
+use Rattle.pce_common.specs.plant_model.Taking as taking
+use Rattle.pce_common.specs.plant_model.Parent as parent
+use Rattle.pce_common.specs.Membership.{Membership, given, with_element, with_parent}
+use Rattle.pce_common.specs.Owed.{asked_in, pending_at, pending_in}
 use Rattle.network_events.proofs.CountLaws.{count_all}
 use Rattle.network_events.proofs.OwedLaws.{same_as_is}
 use Rattle.network_events.proofs.TakeLaws as elements

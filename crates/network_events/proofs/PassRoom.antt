@@ -12,13 +12,13 @@ use Rattle.plant_queues.specs.Sents.{size_of}
 use Rattle.plant_text.specs.declared.settings.NetworkParts.{NetworkParts}
 use Rattle.plant_text.specs.Names.{same_as}
 use Rattle.plant_text.specs.Settings.{elements_of}
-use Rattle.member_trait.specs.plant_model.State.{Connection}
-use Rattle.member_trait.specs.plant_model.Deeds.{element_of, with_more}
+use Rattle.pce_common.specs.plant_model.State.{Connection}
+use Rattle.pce_common.specs.plant_model.Deeds.{element_of, with_more}
 use Rattle.network_links.specs.plant_sessions.Rooms.{Grows, room_in_all}
 use Rattle.network_links.specs.Flow.{Flow, KeepsRoomAt, put_flow, room_at}
 use Rattle.network_events.specs.Accounts.{Accounts, count_into, bytes_into, goes_into, queue_in, has_queue}
-use Rattle.member_trait.specs.Membership.{Membership}
-use Rattle.member_trait.specs.Owed.{owed, is_peer, pending_in}
+use Rattle.pce_common.specs.Membership.{Membership}
+use Rattle.pce_common.specs.Owed.{owed, is_peer, pending_in}
 use Rattle.network_events.specs.Rooms.{IsRoomy, is_live, is_talking, own_most}
 use Rattle.network_events.specs.Giving.{PutsAll, RoomToPut, OnlyGrows, KeepsForLetters, RoomToGive, put_all, is_own, own_words}
 use Rattle.network_events.proofs.GoLaws.{access_same, as_is, peer_is}

@@ -12,7 +12,7 @@ use Rattle.pcep_session.specs.declared.state.Phase.{Phase}
 use Rattle.pcep_session.specs.declared.state.Phase.TheVariants.{Idle, OpenWait, KeepWait, Up, Down}
 use Rattle.pcep_session.specs.declared.state.State.{State}
 use Rattle.pcep_session.specs.Table.{SessionStep, turn_in, turn_of, open_wait, refused_terms, refused, keep_wait, in_up, up_tick, waits, heard, at_tick, has_passed, is_recent}
-use Rattle.member_trait.specs.plant_model.Events.{is_down}
+use Rattle.pce_common.specs.plant_model.Events.{is_down}
 
 abbrev passes : List Action → Bool
 passes [] = false

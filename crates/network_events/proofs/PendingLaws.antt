@@ -6,12 +6,12 @@ use Rattle.dom_base.specs.declared.names.Peer.{Peer}
 use Rattle.plant_text.specs.declared.settings.ElementRow.{ElementRow}
 use Rattle.plant_text.specs.Names.{same_as, parent_as, insert_as}
 use Rattle.plant_text.specs.Settings.{row_of, elements_of}
-use Rattle.member_trait.specs.plant_model.Element.{Element, downed, lost}
-use Rattle.member_trait.specs.plant_model.Element as element
-use Rattle.member_trait.specs.plant_model.Parent as parent
-use Rattle.member_trait.specs.Membership.{Membership, fallen, lost_at, with_element, with_parent}
-use Rattle.member_trait.specs.plant_model.declared.output.Lost.{Lost}
-use Rattle.member_trait.specs.Owed.{pending_at, pending_in}
+use Rattle.pce_common.specs.plant_model.Element.{Element, downed, lost}
+use Rattle.pce_common.specs.plant_model.Element as element
+use Rattle.pce_common.specs.plant_model.Parent as parent
+use Rattle.pce_common.specs.Membership.{Membership, fallen, lost_at, with_element, with_parent}
+use Rattle.pce_common.specs.plant_model.declared.output.Lost.{Lost}
+use Rattle.pce_common.specs.Owed.{pending_at, pending_in}
 use Rattle.network_events.specs.Telling.{count_lost}
 use Rattle.network_events.proofs.CountLaws.{count_all}
 use Rattle.network_events.proofs.OwedLaws.{left_count, left_upper, same_as_is}

@@ -12,15 +12,15 @@ use Rattle.pcep_session.specs.declared.state.State.{State as Session}
 use Rattle.pcep_session.specs.Quiet.{is_nothing, is_quiet, after_quiet}
 use Rattle.pcep_session.specs.Table.{turn_of}
 use Rattle.plant_text.specs.declared.settings.NetworkParts.{NetworkParts}
-use Rattle.member_trait.specs.plant_model.declared.output.Lost.{Lost}
-use Rattle.member_trait.specs.plant_model.State.{Connection, Access}
-use Rattle.member_trait.specs.plant_model.Deeds.{on_connection, with_session}
+use Rattle.pce_common.specs.plant_model.declared.output.Lost.{Lost}
+use Rattle.pce_common.specs.plant_model.State.{Connection, Access}
+use Rattle.pce_common.specs.plant_model.Deeds.{on_connection, with_session}
 use Rattle.network_links.specs.plant_sessions.Quiet.{is_quiet_peer, ticked_quietly}
 use Rattle.network_links.specs.Quiet.{IsReached, is_quiet_at, ticked_at}
 use Rattle.network_links.specs.Flow.{Flow, change_access, set_access, set_session}
 use Rattle.network_links.proofs.PeerLemmas.{number_same}
 use Rattle.network_links.proofs.RowLemmas.{pair_same}
-use Rattle.member_trait.specs.Membership.{Membership}
+use Rattle.pce_common.specs.Membership.{Membership}
 use Rattle.network_events.specs.Standing.{here_of, Goes}
 use Rattle.network_events.proofs.GoLaws.{goes_same}
 use Rattle.network_events.specs.Peers.{IsEnd, input_at}

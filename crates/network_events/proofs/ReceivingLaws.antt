@@ -17,24 +17,24 @@ use Rattle.plant_queues.specs.declared.sent.Sent.{Sent}
 use Rattle.plant_text.specs.declared.settings.NetworkParts.{NetworkParts}
 use Rattle.plant_text.specs.Settings.{adjacency, adjacencies, has_adjacency}
 use Rattle.network_links.specs.plant_sessions.Rooms.{Grows}
-use Rattle.member_trait.specs.plant_model.declared.outcome.Outcome.TheVariants.{Done}
-use Rattle.member_trait.specs.plant_model.declared.outcome.Refused.TheVariants.{NoSuchPeer, NothingToCarry}
-use Rattle.member_trait.specs.plant_model.declared.output.Lost.{Lost}
-use Rattle.member_trait.specs.plant_model.Names.{set_number, set_pair}
-use Rattle.member_trait.specs.plant_model.RealWire.{wire}
-use Rattle.member_trait.specs.plant_model.State.{State, Access, Connection, Pops}
-use Rattle.member_trait.specs.plant_model.Wire.{Bytes}
-use Rattle.member_trait.specs.plant_model.Deeds as deeds
-use Rattle.member_trait.specs.plant_model.Deeds.{Going, on_connection, with_inbox, with_session, input_of, read_as, is_tick}
-use Rattle.member_trait.specs.plant_model.Events as events
-use Rattle.member_trait.specs.plant_model.Events.{Happened, is_down}
+use Rattle.pce_common.specs.plant_model.declared.outcome.Outcome.TheVariants.{Done}
+use Rattle.pce_common.specs.plant_model.declared.outcome.Refused.TheVariants.{NoSuchPeer, NothingToCarry}
+use Rattle.pce_common.specs.plant_model.declared.output.Lost.{Lost}
+use Rattle.pce_common.specs.plant_model.Names.{set_number, set_pair}
+use Rattle.pce_common.specs.plant_model.RealWire.{wire}
+use Rattle.pce_common.specs.plant_model.State.{State, Access, Connection, Pops}
+use Rattle.pce_common.specs.plant_model.Wire.{Bytes}
+use Rattle.pce_common.specs.plant_model.Deeds as deeds
+use Rattle.pce_common.specs.plant_model.Deeds.{Going, on_connection, with_inbox, with_session, input_of, read_as, is_tick}
+use Rattle.pce_common.specs.plant_model.Events as events
+use Rattle.pce_common.specs.plant_model.Events.{Happened, is_down}
 use Rattle.network_links.specs.Carried.{Carried, flow_of}
 use Rattle.network_links.specs.Flow.{Flow, ClearsSaid, DropsFirstAt, MaySet, change_access, drop_first, first_at, inbox_of, session_at, set_queue, set_session_at}
 use Rattle.network_events.specs.Acting.{IsOwnTurn, FitsTurn}
 use Rattle.network_events.specs.Giving.{IsGiven, OnlyGrows, RoomToGive}
 use Rattle.network_events.specs.Happening.{IsDone}
-use Rattle.member_trait.specs.Membership.{AreJoined, Membership, is_member}
-use Rattle.member_trait.specs.Owed.{asked_in}
+use Rattle.pce_common.specs.Membership.{AreJoined, Membership, is_member}
+use Rattle.pce_common.specs.Owed.{asked_in}
 use Rattle.network_events.specs.Passing.{IsOf}
 use Rattle.network_events.specs.Peers.{IsEnd, IsPlaced, acts_at, breaks_by, heard_from, input_at, receive_at}
 use Rattle.network_events.specs.Rooms.{IsRoomy, is_talking, own_most}

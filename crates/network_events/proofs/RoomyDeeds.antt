@@ -11,16 +11,16 @@ use Rattle.plant_queues.specs.Sents.{sent_of}
 use Rattle.plant_text.specs.declared.settings.NetworkParts.{NetworkParts}
 use Rattle.plant_text.specs.Names.{same_as, parent_as}
 use Rattle.plant_text.specs.Settings.{Adjacency}
-use Rattle.member_trait.specs.plant_model.declared.output.Output.{Output}
-use Rattle.member_trait.specs.plant_model.Names.{is_empty, set_pair, set_number}
-use Rattle.member_trait.specs.plant_model.Wire.{Bytes}
-use Rattle.member_trait.specs.plant_model.RealWire.{wire}
-use Rattle.member_trait.specs.plant_model.Element as element
-use Rattle.member_trait.specs.plant_model.Parent as parent
-use Rattle.member_trait.specs.plant_model.State.{State, Access, Connection, said}
-use Rattle.member_trait.specs.plant_model.Events.{is_down}
-use Rattle.member_trait.specs.plant_model.Deeds as deeds
-use Rattle.member_trait.specs.plant_model.Deeds.{Going, any_fall, element_of, on_connection, with_more, with_session, with_inbox, our_offer, is_due, is_out_empty}
+use Rattle.pce_common.specs.plant_model.declared.output.Output.{Output}
+use Rattle.pce_common.specs.plant_model.Names.{is_empty, set_pair, set_number}
+use Rattle.pce_common.specs.plant_model.Wire.{Bytes}
+use Rattle.pce_common.specs.plant_model.RealWire.{wire}
+use Rattle.pce_common.specs.plant_model.Element as element
+use Rattle.pce_common.specs.plant_model.Parent as parent
+use Rattle.pce_common.specs.plant_model.State.{State, Access, Connection, said}
+use Rattle.pce_common.specs.plant_model.Events.{is_down}
+use Rattle.pce_common.specs.plant_model.Deeds as deeds
+use Rattle.pce_common.specs.plant_model.Deeds.{Going, any_fall, element_of, on_connection, with_more, with_session, with_inbox, our_offer, is_due, is_out_empty}
 use Rattle.pcep_session.specs.declared.actions.Action.{Action}
 use Rattle.pcep_session.specs.declared.actions.Action.TheVariants as action
 use Rattle.pcep_session.specs.declared.actions.Own.{Own}
@@ -31,7 +31,7 @@ use Rattle.network_links.specs.Flow.{Flow, out_of, queue_at}
 use Rattle.network_events.specs.Acting.{IsOwnTurn, size_in}
 use Rattle.network_events.specs.Peers.{acts_at, down_at, is_out_empty_at}
 use Rattle.network_events.specs.Standing.{IsAt}
-use Rattle.member_trait.specs.Membership.{Membership, expired, fallen, lost_at, raised}
+use Rattle.pce_common.specs.Membership.{Membership, expired, fallen, lost_at, raised}
 use Rattle.network_events.specs.Rooms.{is_talking}
 use Rattle.network_events.proofs.GoLaws.{length_push, self, total_push}
 use Rattle.network_events.proofs.BreakLaws.{told}

@@ -8,15 +8,15 @@ use Rattle.plant_queues.specs.declared.sent.Sent.{Sent}
 use Rattle.plant_text.specs.declared.settings.NetworkParts.{NetworkParts}
 use Rattle.plant_text.specs.Names.{same_as}
 use Rattle.plant_text.specs.Settings.{elements_of}
-use Rattle.member_trait.specs.plant_model.declared.output.Lost.{Lost}
-use Rattle.member_trait.specs.plant_model.RealWire.{wire}
-use Rattle.member_trait.specs.plant_model.State.{State}
-use Rattle.member_trait.specs.plant_model.Deeds as deeds
-use Rattle.member_trait.specs.plant_model.Deeds.{Going, element_of}
+use Rattle.pce_common.specs.plant_model.declared.output.Lost.{Lost}
+use Rattle.pce_common.specs.plant_model.RealWire.{wire}
+use Rattle.pce_common.specs.plant_model.State.{State}
+use Rattle.pce_common.specs.plant_model.Deeds as deeds
+use Rattle.pce_common.specs.plant_model.Deeds.{Going, element_of}
 use Rattle.network_links.specs.Flow.{Flow}
 use Rattle.network_events.specs.Accounts.{Accounts}
-use Rattle.member_trait.specs.Membership.{Membership, is_member, expired, fallen, lost_at}
-use Rattle.member_trait.specs.Owed.{pending_at, pending_in}
+use Rattle.pce_common.specs.Membership.{Membership, is_member, expired, fallen, lost_at}
+use Rattle.pce_common.specs.Owed.{pending_at, pending_in}
 use Rattle.network_events.specs.Rooms.{is_talking}
 use Rattle.network_events.specs.Roomy.{KeepsOn}
 use Rattle.network_events.specs.Standing.{IsAt, here_of, Goes}

@@ -19,21 +19,21 @@ use Rattle.pcep_session.specs.Table.{SessionStep, turn_of}
 use Rattle.plant_queues.specs.Sents.{sent_of}
 use Rattle.plant_text.specs.declared.settings.NetworkParts.{NetworkParts}
 use Rattle.plant_text.specs.Settings.{adjacency, elements_of}
-use Rattle.member_trait.specs.plant_model.declared.output.Lost.{Lost}
-use Rattle.member_trait.specs.plant_model.Names.{is_empty}
-use Rattle.member_trait.specs.plant_model.RealWire.{wire}
-use Rattle.member_trait.specs.plant_model.State.{Connection}
-use Rattle.member_trait.specs.plant_model.Deeds as deeds
-use Rattle.member_trait.specs.plant_model.Deeds.{Going, any_fall, element_of, is_due, is_tick}
-use Rattle.member_trait.specs.plant_model.Events.{is_down}
+use Rattle.pce_common.specs.plant_model.declared.output.Lost.{Lost}
+use Rattle.pce_common.specs.plant_model.Names.{is_empty}
+use Rattle.pce_common.specs.plant_model.RealWire.{wire}
+use Rattle.pce_common.specs.plant_model.State.{Connection}
+use Rattle.pce_common.specs.plant_model.Deeds as deeds
+use Rattle.pce_common.specs.plant_model.Deeds.{Going, any_fall, element_of, is_due, is_tick}
+use Rattle.pce_common.specs.plant_model.Events.{is_down}
 use Rattle.network_links.specs.plant_sessions.Ends.{is_left_out, own_bytes, said_in}
 use Rattle.network_links.specs.Flow.{Flow, KeepsRoomAt, queue_at, session_at}
 use Rattle.network_events.specs.Accounts.{Accounts}
 use Rattle.network_events.specs.Acting.{IsOwnTurn, Fits, FitsInput, FitsTurn, RoomToAct, RoomToBreakAt, size_in}
 use Rattle.network_events.specs.Passing.{IsOf}
 use Rattle.network_events.specs.Peers.{IsEnd, acts_at, breaks_by, input_at, is_out_empty_at}
-use Rattle.member_trait.specs.Membership.{Membership, is_member, raised, fallen, lost_at}
-use Rattle.member_trait.specs.Owed.{is_peer, owed, pending_in}
+use Rattle.pce_common.specs.Membership.{Membership, is_member, raised, fallen, lost_at}
+use Rattle.pce_common.specs.Owed.{is_peer, owed, pending_in}
 use Rattle.network_events.specs.Rooms.{is_live, is_talking}
 use Rattle.network_events.specs.Roomy.{KeepsOn}
 use Rattle.network_events.specs.Standing.{IsAt, here_of, Goes}

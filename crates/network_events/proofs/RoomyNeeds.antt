@@ -14,11 +14,11 @@ use Rattle.plant_queues.specs.Messages.{Covers}
 use Rattle.plant_text.specs.declared.settings.NetworkParts.{NetworkParts}
 use Rattle.plant_text.specs.Names.{same_as, same_link, parent_as}
 use Rattle.plant_text.specs.Settings.{Adjacency, adjacency, adjacencies, has_adjacency, is_element, elements_of}
-use Rattle.member_trait.specs.plant_model.Deeds.{element_of}
-use Rattle.member_trait.specs.plant_model.Events.{is_down}
+use Rattle.pce_common.specs.plant_model.Deeds.{element_of}
+use Rattle.pce_common.specs.plant_model.Events.{is_down}
 use Rattle.network_links.specs.Flow.{Flow, room_at}
-use Rattle.member_trait.specs.Membership.{Membership, is_member, fallen, lost_at}
-use Rattle.member_trait.specs.Owed.{is_peer, owed, pending_in}
+use Rattle.pce_common.specs.Membership.{Membership, is_member, fallen, lost_at}
+use Rattle.pce_common.specs.Owed.{is_peer, owed, pending_in}
 use Rattle.network_events.specs.Telling.{RoomToTell, count_lost}
 use Rattle.network_events.specs.Breaking.{RoomToBreak}
 use Rattle.network_events.specs.Acting.{RoomToBreakAt}

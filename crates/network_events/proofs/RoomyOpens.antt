@@ -10,20 +10,20 @@ use Rattle.plant_queues.specs.Messages.{Spare, total}
 use Rattle.plant_queues.specs.Sents.{size_of}
 use Rattle.plant_text.specs.declared.settings.NetworkParts.{NetworkParts}
 use Rattle.plant_text.specs.Names.{same_as, parent_as}
-use Rattle.member_trait.specs.plant_model.declared.output.Lost.{Lost}
-use Rattle.member_trait.specs.plant_model.Names.{set_number}
-use Rattle.member_trait.specs.plant_model.RealWire.{wire}
-use Rattle.member_trait.specs.plant_model.State.{Access, Connection}
-use Rattle.member_trait.specs.plant_model.Deeds as deeds
-use Rattle.member_trait.specs.plant_model.Deeds.{Going, element_of, on_connection}
-use Rattle.member_trait.specs.plant_model.Events.{is_down, fed, drained}
-use Rattle.member_trait.specs.plant_model.Wire.{Bytes}
+use Rattle.pce_common.specs.plant_model.declared.output.Lost.{Lost}
+use Rattle.pce_common.specs.plant_model.Names.{set_number}
+use Rattle.pce_common.specs.plant_model.RealWire.{wire}
+use Rattle.pce_common.specs.plant_model.State.{Access, Connection}
+use Rattle.pce_common.specs.plant_model.Deeds as deeds
+use Rattle.pce_common.specs.plant_model.Deeds.{Going, element_of, on_connection}
+use Rattle.pce_common.specs.plant_model.Events.{is_down, fed, drained}
+use Rattle.pce_common.specs.plant_model.Wire.{Bytes}
 use Rattle.network_links.specs.plant_sessions.Ends.{fed_while_up}
 use Rattle.network_links.specs.plant_sessions.Rooms.{KeepsRoom, Frees, queue, room_in_all}
 use Rattle.network_links.specs.Flow.{Flow, GrowsAt, KeepsRoomAt, change_access, just_opened, no_room, out_of, queue_at, room_at, set_access, set_room, shut}
 use Rattle.network_events.specs.Accounts.{Accounts, count_into, bytes_into, queue_in, has_queue}
-use Rattle.member_trait.specs.Membership.{Membership, is_member, fallen}
-use Rattle.member_trait.specs.Owed.{is_peer, owed}
+use Rattle.pce_common.specs.Membership.{Membership, is_member, fallen}
+use Rattle.pce_common.specs.Owed.{is_peer, owed}
 use Rattle.network_events.specs.Rooms.{is_live, is_talking}
 use Rattle.network_events.specs.Roomy.{KeepsOn}
 use Rattle.network_events.specs.Standing.{IsAt, here_of, Goes, state_of}

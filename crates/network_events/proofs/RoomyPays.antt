@@ -12,16 +12,16 @@ use Rattle.plant_queues.specs.Sents.{size_of, sent_of}
 use Rattle.plant_text.specs.declared.settings.NetworkParts.{NetworkParts}
 use Rattle.plant_text.specs.Names.{same_as, parent_as}
 use Rattle.plant_text.specs.Settings.{elements_of}
-use Rattle.member_trait.specs.plant_model.Element.{upped}
-use Rattle.member_trait.specs.plant_model.Parent as parent
-use Rattle.member_trait.specs.plant_model.Deeds.{element_of, our_offer}
-use Rattle.member_trait.specs.plant_model.Wire.{Bytes}
+use Rattle.pce_common.specs.plant_model.Element.{upped}
+use Rattle.pce_common.specs.plant_model.Parent as parent
+use Rattle.pce_common.specs.plant_model.Deeds.{element_of, our_offer}
+use Rattle.pce_common.specs.plant_model.Wire.{Bytes}
 use Rattle.network_links.specs.plant_sessions.Ends.{own_bytes}
 use Rattle.network_links.specs.Flow.{Flow, KeepsRoomAt, queue_at}
 use Rattle.network_events.specs.Accounts.{Accounts, goes_into, count_into, bytes_into}
 use Rattle.network_events.specs.Acting.{size_in}
-use Rattle.member_trait.specs.Membership.{Membership, is_member, fallen, lost_at, raised, with_element, with_parent}
-use Rattle.member_trait.specs.Owed.{is_peer, owed, pending_at, pending_in}
+use Rattle.pce_common.specs.Membership.{Membership, is_member, fallen, lost_at, raised, with_element, with_parent}
+use Rattle.pce_common.specs.Owed.{is_peer, owed, pending_at, pending_in}
 use Rattle.network_events.specs.Rooms.{is_live, is_talking}
 use Rattle.network_events.proofs.GoLaws.{as_is, into_is}
 use Rattle.network_events.proofs.OwedLaws.{fallen_none, raised_count}

@@ -7,8 +7,8 @@ use Rattle.plant_queues.specs.Sents.{size_of}
 use Rattle.plant_text.specs.declared.settings.NetworkParts.{NetworkParts}
 use Rattle.plant_text.specs.Settings.{Adjacency, adjacencies, has_adjacency}
 use Rattle.network_links.specs.Flow.{Flow}
-use Rattle.member_trait.specs.Membership.{Membership}
-use Rattle.member_trait.specs.Owed.{owed}
+use Rattle.pce_common.specs.Membership.{Membership}
+use Rattle.pce_common.specs.Owed.{owed}
 use Rattle.network_events.specs.Rooms.{is_talking, own_most}
 use Rattle.network_events.specs.Roomy.{KeepsOn}
 use Rattle.network_events.proofs.PassRoom.{NoLess, keeps_less}

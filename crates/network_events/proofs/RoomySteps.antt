@@ -11,14 +11,14 @@ use Rattle.plant_queues.specs.Sents.{size_of, sent_of}
 use Rattle.plant_text.specs.declared.settings.NetworkParts.{NetworkParts}
 use Rattle.plant_text.specs.Names.{same_as}
 use Rattle.plant_text.specs.Settings.{elements_of}
-use Rattle.member_trait.specs.plant_model.declared.output.Lost.{Lost}
-use Rattle.member_trait.specs.plant_model.State.{Connection}
-use Rattle.member_trait.specs.plant_model.Deeds.{element_of}
-use Rattle.member_trait.specs.plant_model.Wire.{Bytes}
+use Rattle.pce_common.specs.plant_model.declared.output.Lost.{Lost}
+use Rattle.pce_common.specs.plant_model.State.{Connection}
+use Rattle.pce_common.specs.plant_model.Deeds.{element_of}
+use Rattle.pce_common.specs.plant_model.Wire.{Bytes}
 use Rattle.network_links.specs.Flow.{Flow, ClearsSaid, queue_at, KeepsRoomAt}
 use Rattle.network_events.specs.Accounts.{Accounts, goes_into, count_into, bytes_into, has_queue}
-use Rattle.member_trait.specs.Membership.{Membership, fallen, lost_at}
-use Rattle.member_trait.specs.Owed.{is_peer, owed, pending_in}
+use Rattle.pce_common.specs.Membership.{Membership, fallen, lost_at}
+use Rattle.pce_common.specs.Owed.{is_peer, owed, pending_in}
 use Rattle.network_events.specs.Telling.{count_lost, lost_bytes}
 use Rattle.network_events.specs.Rooms.{KeepsAnswers, IsRoomy, is_live, is_talking, own_most, emptied}
 use Rattle.network_events.specs.Roomy.{KeepsOn}

@@ -5,8 +5,8 @@ use Rattle.dom_base.specs.declared.names.As.{As}
 use Rattle.plant_text.specs.declared.settings.NetworkParts.{NetworkParts}
 use Rattle.plant_text.specs.Names.{parent_as, same_as}
 use Rattle.plant_text.specs.Settings.{has_adjacency, is_element, adjacencies}
-use Rattle.member_trait.specs.plant_model.Events.{Answered, later}
-use Rattle.member_trait.specs.Membership.{AreJoined, KeysBefore}
+use Rattle.pce_common.specs.plant_model.Events.{Answered, later}
+use Rattle.pce_common.specs.Membership.{AreJoined, KeysBefore}
 use Rattle.network_events.specs.Standing.{Here}
 use Rattle.plant_laws.specs.Lasting.{AreInOrder, KeysInTime}
 use Rattle.network_events.specs.Whole.{Step}

@@ -3,11 +3,11 @@ use Rattle.std.proofs.Common.{◌≡◌, ◌∙◌, Bool, true, Ok, Err, List, [
 use Rattle.dom_base.specs.declared.names.As.{As}
 use Rattle.pcep_subobjects.specs.declared.hop.Hop.{Hop}
 use Rattle.plant_text.specs.declared.settings.NetworkParts.{NetworkParts}
-use Rattle.member_trait.specs.plant_model.declared.outcome.Outcome.{Outcome}
-use Rattle.member_trait.specs.plant_model.declared.outcome.Refused.{Refused}
-use Rattle.member_trait.specs.plant_model.declared.outcome.Refused.TheVariants.{NoMemory}
-use Rattle.member_trait.specs.plant_model.Events.{Answered, Happened}
-use Rattle.member_trait.specs.plant_model.State.{Deed, State}
+use Rattle.pce_common.specs.plant_model.declared.outcome.Outcome.{Outcome}
+use Rattle.pce_common.specs.plant_model.declared.outcome.Refused.{Refused}
+use Rattle.pce_common.specs.plant_model.declared.outcome.Refused.TheVariants.{NoMemory}
+use Rattle.pce_common.specs.plant_model.Events.{Answered, Happened}
+use Rattle.pce_common.specs.plant_model.State.{Deed, State}
 use Rattle.network_links.specs.Flow.{ClearsSaid, Flow}
 use Rattle.network_events.specs.Giving.{OnlyGrows}
 use Rattle.network_events.specs.Happening.{IsDone, IsDoneOrLacks}

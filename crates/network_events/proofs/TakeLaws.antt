@@ -17,15 +17,15 @@ use Rattle.pcep_messages.specs.declared.message.Wish.{Wish}
 use Rattle.pcep_messages.specs.declared.message.Wish.TheVariants.{Path, Expand}
 use Rattle.disclosure.specs.declared.class.Class.{Class}
 use Rattle.request_table.specs.Pending.{Pending, number_of, opened_of, key_of, is_full, same_peer}
-use Rattle.member_trait.specs.plant_model.Names.{has_pair, the_parent}
-use Rattle.member_trait.specs.plant_model.Wire.{Codec, Checked, Admitted, Wrong}
-use Rattle.member_trait.specs.plant_model.Writing.{reply_message, unavailable, busy}
-use Rattle.member_trait.specs.plant_model.Branches.{branches_in}
+use Rattle.pce_common.specs.plant_model.Names.{has_pair, the_parent}
+use Rattle.pce_common.specs.plant_model.Wire.{Codec, Checked, Admitted, Wrong}
+use Rattle.pce_common.specs.plant_model.Writing.{reply_message, unavailable, busy}
+use Rattle.pce_common.specs.plant_model.Branches.{branches_in}
 use Rattle.disclosure.specs.Policy.{is_denied}
-use Rattle.member_trait.specs.plant_model.Element.{Stage, Waits, Ready, fresh_id, Item, Row, Way, Element, ElementSettings, Taken, each, ended, at_stage, waiting, way_to}
-use Rattle.member_trait.specs.plant_model.Routes.{toward}
-use Rattle.member_trait.specs.plant_model.Taking.{item_of, sequence_or, goes_up, sent_on, send_on, take_along, take_path, take_wish, take_new, take_checked, take_asked, staged, answered, made_ready, take_answer, take_reply, told_busy, cancelled, take_busy, take_cancel, notice_steps, take_notice, error_answer, told_error, take_failure, take_errors, take_report, take, sight, wanting}
-use Rattle.member_trait.specs.Owed.{count_by_asker, asked_in}
+use Rattle.pce_common.specs.plant_model.Element.{Stage, Waits, Ready, fresh_id, Item, Row, Way, Element, ElementSettings, Taken, each, ended, at_stage, waiting, way_to}
+use Rattle.pce_common.specs.plant_model.Routes.{toward}
+use Rattle.pce_common.specs.plant_model.Taking.{item_of, sequence_or, goes_up, sent_on, send_on, take_along, take_path, take_wish, take_new, take_checked, take_asked, staged, answered, made_ready, take_answer, take_reply, told_busy, cancelled, take_busy, take_cancel, notice_steps, take_notice, error_answer, told_error, take_failure, take_errors, take_report, take, sight, wanting}
+use Rattle.pce_common.specs.Owed.{count_by_asker, asked_in}
 use Rattle.network_events.proofs.CountLaws.{one_if, for_each, for_each_is, count_push, count_removed, count_written}
 
 module _ (P : Type 0) (S : Type 0) (test : Peer → Bool) where

@@ -11,20 +11,20 @@ use Rattle.plant_queues.specs.Messages.{Covers}
 use Rattle.plant_queues.specs.Sents.{sent_of}
 use Rattle.plant_text.specs.declared.settings.NetworkParts.{NetworkParts}
 use Rattle.plant_text.specs.Names.{same_as, parent_as}
-use Rattle.member_trait.specs.plant_model.declared.output.Lost.{Lost}
-use Rattle.member_trait.specs.plant_model.Names.{set_as}
-use Rattle.member_trait.specs.plant_model.Wire.{Bytes}
-use Rattle.member_trait.specs.plant_model.RealWire.{wire}
-use Rattle.member_trait.specs.plant_model.State.{State, said, sent_by}
-use Rattle.member_trait.specs.plant_model.Deeds as deeds
-use Rattle.member_trait.specs.plant_model.Deeds.{Going}
-use Rattle.member_trait.specs.plant_model.Element.{lost_output, downed}
-use Rattle.member_trait.specs.plant_model.Element as element
-use Rattle.member_trait.specs.plant_model.Parent as parent
+use Rattle.pce_common.specs.plant_model.declared.output.Lost.{Lost}
+use Rattle.pce_common.specs.plant_model.Names.{set_as}
+use Rattle.pce_common.specs.plant_model.Wire.{Bytes}
+use Rattle.pce_common.specs.plant_model.RealWire.{wire}
+use Rattle.pce_common.specs.plant_model.State.{State, said, sent_by}
+use Rattle.pce_common.specs.plant_model.Deeds as deeds
+use Rattle.pce_common.specs.plant_model.Deeds.{Going}
+use Rattle.pce_common.specs.plant_model.Element.{lost_output, downed}
+use Rattle.pce_common.specs.plant_model.Element as element
+use Rattle.pce_common.specs.plant_model.Parent as parent
 use Rattle.network_links.specs.Flow.{Flow, Room, Puts, put_flow, room_at}
 use Rattle.network_events.specs.Accounts.{Accounts, goes_into}
-use Rattle.member_trait.specs.Membership.{Membership, HandsOut, fallen, lost_at}
-use Rattle.member_trait.specs.Owed.{is_peer}
+use Rattle.pce_common.specs.Membership.{Membership, HandsOut, fallen, lost_at}
+use Rattle.pce_common.specs.Owed.{is_peer}
 use Rattle.network_events.specs.Standing.{IsAt, Here, here_of, Goes, state_of}
 use Rattle.network_events.specs.Telling.{Tells, RoomToTell, tell_all, lost_bytes, count_lost}
 use Rattle.network_events.proofs.GoLaws.{accounts_same, accounts_then, puts_accounts, put_case, self, as_is}

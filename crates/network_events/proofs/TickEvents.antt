@@ -4,14 +4,14 @@ use Rattle.dom_base.specs.declared.names.Tick.{Tick}
 use Rattle.pcep_subobjects.specs.declared.hop.Hop.{Hop}
 use Rattle.plant_text.specs.declared.settings.NetworkParts.{NetworkParts}
 use Rattle.plant_text.specs.Settings.{adjacencies}
-use Rattle.member_trait.specs.plant_model.declared.outcome.Outcome.TheVariants.{Done}
-use Rattle.member_trait.specs.plant_model.RealWire.{wire}
-use Rattle.member_trait.specs.plant_model.Deeds as deeds
-use Rattle.member_trait.specs.plant_model.Deeds.{Going}
-use Rattle.member_trait.specs.plant_model.Events as events
+use Rattle.pce_common.specs.plant_model.declared.outcome.Outcome.TheVariants.{Done}
+use Rattle.pce_common.specs.plant_model.RealWire.{wire}
+use Rattle.pce_common.specs.plant_model.Deeds as deeds
+use Rattle.pce_common.specs.plant_model.Deeds.{Going}
+use Rattle.pce_common.specs.plant_model.Events as events
 use Rattle.network_links.specs.Flow.{Flow, ClearsSaid}
 use Rattle.network_events.specs.Happening.{IsDone}
-use Rattle.member_trait.specs.Membership.{KeysBefore, Membership}
+use Rattle.pce_common.specs.Membership.{KeysBefore, Membership}
 use Rattle.network_events.specs.Moving.{IsKept}
 use Rattle.network_events.specs.Rooms.{IsRoomy, own_most}
 use Rattle.network_events.specs.Roomy.{KeepsOn}

@@ -14,15 +14,15 @@ use Rattle.plant_text.specs.declared.settings.NetworkParts.{NetworkParts}
 use Rattle.plant_text.specs.declared.settings.PeerRow.{PeerRow}
 use Rattle.plant_text.specs.Names.{same_as, parent_as}
 use Rattle.plant_text.specs.Settings.{Adjacency, is_element}
-use Rattle.member_trait.specs.plant_model.Names.{is_empty}
-use Rattle.member_trait.specs.plant_model.RealWire.{wire}
-use Rattle.member_trait.specs.plant_model.State.{State, Connection}
-use Rattle.member_trait.specs.plant_model.Element.{downed}
-use Rattle.member_trait.specs.plant_model.Parent as parent
-use Rattle.member_trait.specs.plant_model.Deeds as deeds
-use Rattle.member_trait.specs.plant_model.Deeds.{Going, element_of, any_fall, is_due, is_out_empty, with_session, with_inbox}
+use Rattle.pce_common.specs.plant_model.Names.{is_empty}
+use Rattle.pce_common.specs.plant_model.RealWire.{wire}
+use Rattle.pce_common.specs.plant_model.State.{State, Connection}
+use Rattle.pce_common.specs.plant_model.Element.{downed}
+use Rattle.pce_common.specs.plant_model.Parent as parent
+use Rattle.pce_common.specs.plant_model.Deeds as deeds
+use Rattle.pce_common.specs.plant_model.Deeds.{Going, element_of, any_fall, is_due, is_out_empty, with_session, with_inbox}
 use Rattle.network_links.specs.Flow.{Flow}
-use Rattle.member_trait.specs.Membership.{KeysBefore, Membership, fallen, with_element, with_parent}
+use Rattle.pce_common.specs.Membership.{KeysBefore, Membership, fallen, with_element, with_parent}
 use Rattle.network_events.specs.Standing.{IsAt}
 use Rattle.network_events.specs.Turns.{IsTickTurn}
 use Rattle.network_events.proofs.GoLaws.{as_is}

@@ -6,9 +6,9 @@ use Rattle.pcep_session.specs.declared.session.Input.TheVariants as input
 use Rattle.plant_text.specs.declared.settings.NetworkParts.{NetworkParts}
 use Rattle.plant_text.specs.declared.settings.PeerRow.{PeerRow}
 use Rattle.plant_text.specs.Settings.{Adjacency}
-use Rattle.member_trait.specs.plant_model.RealWire.{wire}
-use Rattle.member_trait.specs.plant_model.Deeds as deeds
-use Rattle.member_trait.specs.plant_model.Deeds.{Going}
+use Rattle.pce_common.specs.plant_model.RealWire.{wire}
+use Rattle.pce_common.specs.plant_model.Deeds as deeds
+use Rattle.pce_common.specs.plant_model.Deeds.{Going}
 
 module _ {P : Type 0} {S : Type 0} (show : S → List Hop) (n : NetworkParts) (now : Tick) where
   -- a tick to the outside peers below a number

@@ -13,10 +13,10 @@ use Rattle.plant_text.specs.declared.settings.NetworkParts.{NetworkParts}
 use Rattle.plant_text.specs.Names.{same_as, same_link}
 use Rattle.plant_text.specs.Settings.{Adjacency, before_adjacency, children, has_adjacency, insert_adjacency, adjacency, adjacencies, sorted, upward}
 use Rattle.network_links.specs.settings_layout.Adjacencies.{adjacency_of}
-use Rattle.member_trait.specs.plant_model.RealWire.{wire}
-use Rattle.member_trait.specs.plant_model.Deeds as deeds
-use Rattle.member_trait.specs.plant_model.Deeds.{Going}
-use Rattle.member_trait.specs.Membership.{is_member}
+use Rattle.pce_common.specs.plant_model.RealWire.{wire}
+use Rattle.pce_common.specs.plant_model.Deeds as deeds
+use Rattle.pce_common.specs.plant_model.Deeds.{Going}
+use Rattle.pce_common.specs.Membership.{is_member}
 use Rattle.network_links.specs.Flow.{Flow}
 use Rattle.network_events.specs.Passing.{IsOf}
 use Rattle.network_events.specs.Peers.{IsEnd, IsLinkEnd, input_at}

@@ -10,7 +10,7 @@ use Rattle.pcep_session.specs.declared.state.Phase.{Phase}
 use Rattle.pcep_session.specs.declared.state.Phase.TheVariants.{Idle, OpenWait, KeepWait, Up, Down}
 use Rattle.pcep_session.specs.declared.state.State.{State}
 use Rattle.pcep_session.specs.Table.{SessionStep, turn_in, turn_of, up_tick, waits, at_tick, has_passed}
-use Rattle.member_trait.specs.plant_model.Events.{is_down}
+use Rattle.pce_common.specs.plant_model.Events.{is_down}
 use Rattle.network_events.specs.Acting.{IsOwnTurn}
 use Rattle.network_events.specs.Turns.{IsPass, IsTickTurn, StepsAreTurns, TicksAreTurns}
 use Rattle.network_events.proofs.RoomyWords.{EndsBy, IsStep, StaysBy, steps_live_or_die}

@@ -11,14 +11,14 @@ use Rattle.pcep_session.specs.Table.{turn_of}
 use Rattle.request_table.specs.Pending.{same_peer}
 use Rattle.plant_queues.specs.Messages.{Covers, total}
 use Rattle.plant_text.specs.Settings.{adjacency}
-use Rattle.member_trait.specs.plant_model.declared.output.Lost.{Lost}
-use Rattle.member_trait.specs.plant_model.Deeds.{any_fall}
-use Rattle.member_trait.specs.plant_model.Wire.{Bytes}
+use Rattle.pce_common.specs.plant_model.declared.output.Lost.{Lost}
+use Rattle.pce_common.specs.plant_model.Deeds.{any_fall}
+use Rattle.pce_common.specs.plant_model.Wire.{Bytes}
 use Rattle.network_links.specs.plant_sessions.declared.TheConstants.{ANSWER_LENGTH}
 use Rattle.network_links.specs.plant_sessions.Ends.{said_in, own_bytes}
 use Rattle.network_links.specs.Flow.{Flow, room_at}
-use Rattle.member_trait.specs.Membership.{Membership, fallen, lost_at}
-use Rattle.member_trait.specs.Owed.{is_peer}
+use Rattle.pce_common.specs.Membership.{Membership, fallen, lost_at}
+use Rattle.pce_common.specs.Owed.{is_peer}
 use Rattle.network_events.specs.Telling.{RoomToTell, count_lost}
 use Rattle.network_events.specs.Breaking.{RoomToBreak}
 use Rattle.network_events.specs.Peers.{breaks_by}

@@ -6,13 +6,13 @@ use Rattle.pcep_subobjects.specs.declared.hop.Hop.{Hop}
 use Rattle.pcep_messages.specs.declared.message.Message.{Message}
 use Rattle.plant_text.specs.declared.settings.NetworkParts.{NetworkParts}
 use Rattle.plant_text.specs.Settings.{elements_of}
-use Rattle.member_trait.specs.plant_model.declared.output.Output.{Output}
-use Rattle.member_trait.specs.plant_model.Deeds as deeds
-use Rattle.member_trait.specs.plant_model.RealWire.{wire}
-use Rattle.member_trait.specs.plant_model.State.{sent_by}
+use Rattle.pce_common.specs.plant_model.declared.output.Output.{Output}
+use Rattle.pce_common.specs.plant_model.Deeds as deeds
+use Rattle.pce_common.specs.plant_model.RealWire.{wire}
+use Rattle.pce_common.specs.plant_model.State.{sent_by}
 use Rattle.network_links.specs.Flow.{Flow}
-use Rattle.member_trait.specs.Membership.{Membership}
-use Rattle.member_trait.specs.Owed.{owed, pending_in}
+use Rattle.pce_common.specs.Membership.{Membership}
+use Rattle.pce_common.specs.Owed.{owed, pending_in}
 use Rattle.network_events.specs.Standing.{state_of}
 
 -- one message, to a peer whose request is pending; nobody is owed more after it

@@ -3,12 +3,12 @@ use Rattle.std.specs.Prelude.{ℕ, ◌+◌, ◌*◌, List, length}
 use Rattle.dom_base.specs.declared.names.As.{As}
 use Rattle.dom_base.specs.declared.names.Peer.TheVariants.{Outside, Inner}
 use Rattle.plant_queues.specs.Messages.{Covers}
-use Rattle.member_trait.specs.plant_model.declared.output.Lost.{Lost}
+use Rattle.pce_common.specs.plant_model.declared.output.Lost.{Lost}
 use Rattle.network_links.specs.plant_sessions.declared.TheConstants.{ANSWER_LENGTH, OWN_LENGTH}
 use Rattle.network_links.specs.plant_sessions.Rooms.{room_in_all}
 use Rattle.network_links.specs.Flow.{Flow}
 use Rattle.network_events.specs.Accounts.{queue_in}
-use Rattle.member_trait.specs.Owed.{is_peer}
+use Rattle.pce_common.specs.Owed.{is_peer}
 use Rattle.network_events.specs.Telling.{RoomToTell, count_lost}
 
 -- Room for the answers of what is lost at the lower end and then at the upper, and for an Open in each queue once it is emptied.

@@ -11,15 +11,15 @@ use Rattle.plant_queues.specs.Sents.{size_of}
 use Rattle.plant_text.specs.declared.settings.NetworkParts.{NetworkParts}
 use Rattle.plant_text.specs.Names.{same_as}
 use Rattle.plant_text.specs.Settings.{elements_of}
-use Rattle.member_trait.specs.plant_model.Deeds.{element_of}
-use Rattle.member_trait.specs.plant_model.RealWire.{wire}
-use Rattle.member_trait.specs.plant_model.State.{sent_by}
+use Rattle.pce_common.specs.plant_model.Deeds.{element_of}
+use Rattle.pce_common.specs.plant_model.RealWire.{wire}
+use Rattle.pce_common.specs.plant_model.State.{sent_by}
 use Rattle.network_links.specs.plant_sessions.declared.TheConstants.{ANSWER_LENGTH, OWN_LENGTH}
 use Rattle.network_links.specs.plant_sessions.Rooms.{Grows}
 use Rattle.network_links.specs.Flow.{Flow, SameFlow, KeepsRoomAt, put_flow, room_at}
 use Rattle.network_events.specs.Accounts.{Accounts, count_into, bytes_into}
-use Rattle.member_trait.specs.Membership.{Membership, given}
-use Rattle.member_trait.specs.Owed.{owed, pending_in}
+use Rattle.pce_common.specs.Membership.{Membership, given}
+use Rattle.pce_common.specs.Owed.{owed, pending_in}
 
 -- ---- letters: messages that are written and wait to be put
 

@@ -1,11 +1,11 @@
 -- An event is what the model has of it.
 use Rattle.std.specs.Prelude.{◌≡◌, ◌⊎◌, OnOk, Err}
-use Rattle.member_trait.specs.plant_model.declared.outcome.Refused.TheVariants.{NoMemory}
-use Rattle.member_trait.specs.plant_model.Events.{Answered, Happened}
-use Rattle.member_trait.specs.plant_model.RealWire.{wire}
-use Rattle.member_trait.specs.plant_model.State.{said}
+use Rattle.pce_common.specs.plant_model.declared.outcome.Refused.TheVariants.{NoMemory}
+use Rattle.pce_common.specs.plant_model.Events.{Answered, Happened}
+use Rattle.pce_common.specs.plant_model.RealWire.{wire}
+use Rattle.pce_common.specs.plant_model.State.{said}
 use Rattle.network_links.specs.Flow.{Flow}
-use Rattle.member_trait.specs.Membership.{Membership}
+use Rattle.pce_common.specs.Membership.{Membership}
 use Rattle.network_events.specs.Standing.{state_of}
 
 -- The answer and the state are those of the model, and what was said is what its deeds put into queues.

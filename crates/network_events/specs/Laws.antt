@@ -6,10 +6,10 @@ use Rattle.pcep_subobjects.specs.declared.hop.Hop.{Hop}
 use Rattle.pcep_messages.specs.declared.message.Message.{Message}
 use Rattle.plant_text.specs.declared.settings.NetworkParts.{NetworkParts}
 use Rattle.plant_text.specs.Names.{same_as}
-use Rattle.member_trait.specs.plant_model.Wire.{Codec}
-use Rattle.member_trait.specs.plant_model.Plant.{Pin, Segment}
-use Rattle.member_trait.specs.Membership.{Membership, given}
-use Rattle.member_trait.specs.Owed.{count_at, asked_in}
+use Rattle.pce_common.specs.plant_model.Wire.{Codec}
+use Rattle.pce_common.specs.plant_model.Plant.{Pin, Segment}
+use Rattle.pce_common.specs.Membership.{Membership, given}
+use Rattle.pce_common.specs.Owed.{count_at, asked_in}
 
 abbrev pub MessageRaises : Type 0
 MessageRaises = (test : Peer → Bool) (c : Codec) (n : NetworkParts) (show : Segment → List Hop) (at d : As) (p : Peer) (now : ℕ) (m : Message) (ms : Membership Pin Segment) →

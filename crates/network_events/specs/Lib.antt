@@ -18,7 +18,7 @@ pub mod Answering
 pub mod Whole
 pub mod Moving
 -- handed on from below
-pub use Rattle.member_trait.specs as member_trait
-pub use Rattle.member_trait.specs.plant_model
+pub use Rattle.pce_common.specs as pce_common
+pub use Rattle.pce_common.specs.plant_model
 pub use Rattle.network_links.specs.plant_sessions
 pub use Rattle.network_links.specs as network_links

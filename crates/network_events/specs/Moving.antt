@@ -5,11 +5,11 @@ use Rattle.pcep_subobjects.specs.declared.hop.Hop.{Hop}
 use Rattle.plant_text.specs.declared.settings.NetworkParts.{NetworkParts}
 use Rattle.plant_text.specs.Names.{parent_as, same_as}
 use Rattle.plant_text.specs.Settings.{has_adjacency, is_element, adjacencies}
-use Rattle.member_trait.specs.plant_model.declared.outcome.Refused.TheVariants.{NoMemory}
-use Rattle.member_trait.specs.plant_model.Events.{Answered, Happened, refused}
-use Rattle.member_trait.specs.plant_model.RealWire.{wire}
-use Rattle.member_trait.specs.plant_model.State.{State}
-use Rattle.member_trait.specs.Membership.{AreJoined}
+use Rattle.pce_common.specs.plant_model.declared.outcome.Refused.TheVariants.{NoMemory}
+use Rattle.pce_common.specs.plant_model.Events.{Answered, Happened, refused}
+use Rattle.pce_common.specs.plant_model.RealWire.{wire}
+use Rattle.pce_common.specs.plant_model.State.{State}
+use Rattle.pce_common.specs.Membership.{AreJoined}
 use Rattle.network_events.specs.Passing.{IsOf}
 use Rattle.network_events.specs.Rooms.{IsRoomy}
 use Rattle.network_events.specs.Standing.{Here, state_of}

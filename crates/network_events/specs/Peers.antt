@@ -11,17 +11,17 @@ use Rattle.pcep_session.specs.declared.session.Input.{Input}
 use Rattle.plant_text.specs.declared.settings.NetworkParts.{NetworkParts}
 use Rattle.plant_text.specs.Names.{same_as}
 use Rattle.plant_text.specs.Settings.{has_adjacency, adjacency, adjacencies}
-use Rattle.member_trait.specs.plant_model.Deeds as deeds
-use Rattle.member_trait.specs.plant_model.Deeds.{Going, any_fall, element_of, is_due, is_out_empty, with_inbox}
-use Rattle.member_trait.specs.plant_model.Element.{Row}
-use Rattle.member_trait.specs.plant_model.Names.{is_empty}
-use Rattle.member_trait.specs.plant_model.Outside.{heeded}
-use Rattle.member_trait.specs.plant_model.Events as events
-use Rattle.member_trait.specs.plant_model.Events.{Happened}
-use Rattle.member_trait.specs.plant_model.RealWire.{wire}
-use Rattle.member_trait.specs.plant_model.State.{State}
+use Rattle.pce_common.specs.plant_model.Deeds as deeds
+use Rattle.pce_common.specs.plant_model.Deeds.{Going, any_fall, element_of, is_due, is_out_empty, with_inbox}
+use Rattle.pce_common.specs.plant_model.Element.{Row}
+use Rattle.pce_common.specs.plant_model.Names.{is_empty}
+use Rattle.pce_common.specs.plant_model.Outside.{heeded}
+use Rattle.pce_common.specs.plant_model.Events as events
+use Rattle.pce_common.specs.plant_model.Events.{Happened}
+use Rattle.pce_common.specs.plant_model.RealWire.{wire}
+use Rattle.pce_common.specs.plant_model.State.{State}
 use Rattle.network_links.specs.Flow.{Flow}
-use Rattle.member_trait.specs.Membership.{is_member}
+use Rattle.pce_common.specs.Membership.{is_member}
 use Rattle.network_events.specs.Standing.{Here}
 
 -- both ends of a link are members, and two

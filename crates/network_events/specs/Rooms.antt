@@ -8,13 +8,13 @@ use Rattle.plant_queues.specs.Sents.{size_of}
 use Rattle.plant_text.specs.declared.settings.NetworkParts.{NetworkParts}
 use Rattle.plant_text.specs.Names.{same_as}
 use Rattle.plant_text.specs.Settings.{has_adjacency, adjacencies, elements_of}
-use Rattle.member_trait.specs.plant_model.State.{Connection}
-use Rattle.member_trait.specs.plant_model.Deeds.{element_of}
-use Rattle.member_trait.specs.plant_model.Events.{is_down}
+use Rattle.pce_common.specs.plant_model.State.{Connection}
+use Rattle.pce_common.specs.plant_model.Deeds.{element_of}
+use Rattle.pce_common.specs.plant_model.Events.{is_down}
 use Rattle.network_links.specs.plant_sessions.declared.TheConstants.{ANSWER_LENGTH, OWN_LENGTH}
 use Rattle.network_links.specs.Flow.{Flow, KeepsRoomAt}
-use Rattle.member_trait.specs.Membership.{Membership}
-use Rattle.member_trait.specs.Owed.{owed, pending_in}
+use Rattle.pce_common.specs.Membership.{Membership}
+use Rattle.pce_common.specs.Owed.{owed, pending_in}
 
 -- a connection that is open, and whose session is not over
 abbrev pub is_talking : Option Connection → Bool

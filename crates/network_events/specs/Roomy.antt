@@ -2,7 +2,7 @@
 use Rattle.std.specs.Prelude.{ℕ}
 use Rattle.plant_text.specs.declared.settings.NetworkParts.{NetworkParts}
 use Rattle.network_links.specs.Flow.{Flow}
-use Rattle.member_trait.specs.Membership.{Membership}
+use Rattle.pce_common.specs.Membership.{Membership}
 use Rattle.network_events.specs.Rooms.{KeepsAnswers, KeepsSaid, own_most, said_in_all}
 
 -- What is said has room for so many more messages of sessions, and for every answer that is owed. When the event is over, there is

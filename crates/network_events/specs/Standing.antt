@@ -2,13 +2,13 @@
 use Rattle.std.specs.Prelude.{◌≡◌, List, []}
 use Rattle.dom_base.specs.declared.names.As.{As}
 use Rattle.plant_text.specs.declared.settings.NetworkParts.{NetworkParts}
-use Rattle.member_trait.specs.plant_model.declared.output.Lost.{Lost}
-use Rattle.member_trait.specs.plant_model.RealWire.{wire}
-use Rattle.member_trait.specs.plant_model.State.{State, said}
-use Rattle.member_trait.specs.plant_model.Deeds.{Going}
+use Rattle.pce_common.specs.plant_model.declared.output.Lost.{Lost}
+use Rattle.pce_common.specs.plant_model.RealWire.{wire}
+use Rattle.pce_common.specs.plant_model.State.{State, said}
+use Rattle.pce_common.specs.plant_model.Deeds.{Going}
 use Rattle.network_links.specs.Flow.{Flow}
 use Rattle.network_events.specs.Accounts.{Accounts}
-use Rattle.member_trait.specs.Membership.{Membership, Standing}
+use Rattle.pce_common.specs.Membership.{Membership, Standing}
 
 -- the state of the model
 abbrev pub state_of : {P : Type 0} {S : Type 0} → Membership P S → Flow → State P S

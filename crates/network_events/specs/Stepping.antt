@@ -7,12 +7,12 @@ use Rattle.pcep_subobjects.specs.declared.hop.Hop.{Hop}
 use Rattle.pcep_session.specs.declared.actions.Action.{Action}
 use Rattle.pcep_session.specs.declared.state.State.{State as Session}
 use Rattle.pcep_session.specs.Table.{turn_of}
-use Rattle.member_trait.specs.plant_model.declared.outcome.Outcome.TheVariants.{Done}
-use Rattle.member_trait.specs.plant_model.declared.outcome.Refused.TheVariants as refused
-use Rattle.member_trait.specs.plant_model.Deeds.{input_of}
-use Rattle.member_trait.specs.plant_model.Events.{Answered}
-use Rattle.member_trait.specs.plant_model.RealWire.{wire}
-use Rattle.member_trait.specs.plant_model.Wire.{Bytes}
+use Rattle.pce_common.specs.plant_model.declared.outcome.Outcome.TheVariants.{Done}
+use Rattle.pce_common.specs.plant_model.declared.outcome.Refused.TheVariants as refused
+use Rattle.pce_common.specs.plant_model.Deeds.{input_of}
+use Rattle.pce_common.specs.plant_model.Events.{Answered}
+use Rattle.pce_common.specs.plant_model.RealWire.{wire}
+use Rattle.pce_common.specs.plant_model.Wire.{Bytes}
 use Rattle.network_links.specs.Flow.{Flow, first_at, session_at}
 use Rattle.network_events.specs.Moving.{Moves, OrLacks}
 use Rattle.network_events.specs.Peers.{receive_at}

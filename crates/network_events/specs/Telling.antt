@@ -4,13 +4,13 @@ use Rattle.dom_base.specs.declared.names.As.{As}
 use Rattle.dom_base.specs.declared.names.Peer.{Peer}
 use Rattle.pcep_messages.specs.Spelling.{message_text}
 use Rattle.plant_queues.specs.Messages.{Covers}
-use Rattle.member_trait.specs.plant_model.declared.output.Lost.{Lost}
-use Rattle.member_trait.specs.plant_model.Element.{lost_output}
-use Rattle.member_trait.specs.plant_model.Wire.{Bytes}
+use Rattle.pce_common.specs.plant_model.declared.output.Lost.{Lost}
+use Rattle.pce_common.specs.plant_model.Element.{lost_output}
+use Rattle.pce_common.specs.plant_model.Wire.{Bytes}
 use Rattle.network_links.specs.plant_sessions.declared.TheConstants.{ANSWER_LENGTH}
 use Rattle.network_links.specs.Flow.{Flow, SameFlow, put_flow, room_at}
 use Rattle.network_events.specs.Accounts.{Accounts}
-use Rattle.member_trait.specs.Owed.{is_peer}
+use Rattle.pce_common.specs.Owed.{is_peer}
 
 -- how many lost requests go to askers that pass a test
 abbrev pub count_lost : (Peer → Bool) → List Lost → ℕ

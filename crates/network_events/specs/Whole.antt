@@ -2,10 +2,10 @@
 use Rattle.std.specs.Prelude.{◌≡◌, List, OnOk, OnErr}
 use Rattle.plant_text.specs.declared.settings.NetworkParts.{NetworkParts}
 use Rattle.plant_queues.specs.declared.sent.Sent.{Sent}
-use Rattle.member_trait.specs.plant_model.Events.{Answered, Happened}
-use Rattle.member_trait.specs.plant_model.RealWire.{wire}
-use Rattle.member_trait.specs.plant_model.State as model
-use Rattle.member_trait.specs.plant_model.State.{Deed, State}
+use Rattle.pce_common.specs.plant_model.Events.{Answered, Happened}
+use Rattle.pce_common.specs.plant_model.RealWire.{wire}
+use Rattle.pce_common.specs.plant_model.State as model
+use Rattle.pce_common.specs.plant_model.State.{Deed, State}
 
 -- its settings, its state, and the messages that the last accepted event put into queues
 pub record Whole (P : Type 0) (S : Type 0) : Type 0 where

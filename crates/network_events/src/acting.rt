@@ -6,11 +6,11 @@ ghost use Rattle.pcep_session.specs.declared.state.State.{State};
 ghost use Rattle.pcep_session.specs.Listed.{listed};
 ghost use Rattle.pcep_session.specs.Table.{turn_of};
 ghost use Rattle.plant_queues.specs.Messages.{Covers};
-ghost use Rattle.member_trait.specs.plant_model.Deeds as deeds;
+ghost use Rattle.pce_common.specs.plant_model.Deeds as deeds;
 ghost use Rattle.network_links.specs.plant_sessions.Ends.{own_bytes};
 ghost use Rattle.network_links.specs.Flow.{MaySet, room_at, session_at};
 ghost use Rattle.network_links.specs.Carried.{flow_of};
-ghost use Rattle.member_trait.specs.Membership.{is_member, lost_at};
+ghost use Rattle.pce_common.specs.Membership.{is_member, lost_at};
 ghost use Rattle.network_events.specs.Standing.{Goes, here};
 ghost use Rattle.network_events.specs.Telling.{RoomToTell};
 ghost use Rattle.network_events.specs.Peers.{IsAtEnd, act_at, acts_at, break_at, breaks_by, input_at};
@@ -19,8 +19,8 @@ ghost use Rattle.network_events.specs.Acting.{Fits, FitsInput, FitsTurn, LeavesO
 use crate::deeds::{fall, rise, say};
 use crate::links::break_between;
 use dom_base::{As, Peer};
-use member_trait::Members;
 use network_links::Traffic;
+use pce_common::Members;
 use pcep_session::{Action, Actions, Input, Own, Reason, Session};
 use plant_sessions::any_fall;
 

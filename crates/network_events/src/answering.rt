@@ -1,7 +1,7 @@
 //! A member answers a pending request. All memory is taken before anything changes.
 ghost use Rattle.std.specs.Prelude.{◌≡◌, true, IfErr, OnErr, OnOk};
 ghost use Rattle.network_links.specs.Carried.{flow_of};
-ghost use Rattle.member_trait.specs.Membership.{is_member};
+ghost use Rattle.pce_common.specs.Membership.{is_member};
 ghost use Rattle.network_events.specs.Answering.{IsAnswer, Sends};
 ghost use Rattle.network_events.specs.Giving.{OnlyGrows};
 ghost use Rattle.network_events.specs.Moving.{IsKept};
@@ -9,8 +9,8 @@ ghost use Rattle.network_events.specs.Standing.{here};
 
 use crate::giving::{perform, prepare_plan};
 use dom_base::As;
-use member_trait::Members;
 use network_links::Traffic;
+use pce_common::Members;
 use std::alloc::Global;
 
 /// Makes a plan that answers a pending request, and puts its message into the queue to the asker. Without

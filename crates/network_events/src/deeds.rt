@@ -2,19 +2,19 @@
 ghost use Rattle.std.specs.Prelude.{◌≡◌, ◌≤◌, true, [], length};
 ghost use Rattle.plant_queues.specs.Messages.{Covers};
 ghost use Rattle.dom_base.specs.declared.names.As.{As};
-ghost use Rattle.member_trait.specs.plant_model.Names.{set_as};
-ghost use Rattle.member_trait.specs.plant_model.RealWire.{wire};
-ghost use Rattle.member_trait.specs.plant_model.Deeds as deeds;
+ghost use Rattle.pce_common.specs.plant_model.Names.{set_as};
+ghost use Rattle.pce_common.specs.plant_model.RealWire.{wire};
+ghost use Rattle.pce_common.specs.plant_model.Deeds as deeds;
 ghost use Rattle.network_links.specs.plant_sessions.Ends.{own_bytes};
 ghost use Rattle.network_links.specs.Flow.{Puts, room_at};
 ghost use Rattle.network_links.specs.Carried.{flow_of};
-ghost use Rattle.member_trait.specs.Membership.{is_member, fallen, lost_at};
+ghost use Rattle.pce_common.specs.Membership.{is_member, fallen, lost_at};
 ghost use Rattle.network_events.specs.Standing.{Goes, here};
 ghost use Rattle.network_events.specs.Telling.{RoomToTell, Tells};
 
 use dom_base::{As, Peer};
-use member_trait::Members;
 use network_links::Traffic;
+use pce_common::Members;
 use pcep_session::Own;
 use plant_sessions::{lost_text, own_text};
 

@@ -1,20 +1,20 @@
 //! The events that take no memory.
 ghost use Rattle.std.specs.Prelude.{◌≡◌, true, false, []};
 ghost use Rattle.dom_base.specs.declared.names.As.{As};
-ghost use Rattle.member_trait.specs.plant_model.RealWire.{wire};
-ghost use Rattle.member_trait.specs.plant_model.Deeds as deeds;
-ghost use Rattle.member_trait.specs.plant_model.Events as events;
+ghost use Rattle.pce_common.specs.plant_model.RealWire.{wire};
+ghost use Rattle.pce_common.specs.plant_model.Deeds as deeds;
+ghost use Rattle.pce_common.specs.plant_model.Events as events;
 ghost use Rattle.network_links.specs.Carried.{flow_of};
 ghost use Rattle.network_events.specs.Moving.{IsSound, Moves, OrLacks};
-ghost use Rattle.member_trait.specs.Membership.{KeysBefore};
+ghost use Rattle.pce_common.specs.Membership.{KeysBefore};
 ghost use Rattle.network_events.specs.Standing.{Goes, here};
 
 use crate::deeds::fall;
 use crate::links::break_between;
 use dom_base::{As, Peer, Tick};
-use member_trait::Members;
-use member_trait::model::{Outcome, Refused};
 use network_links::Traffic;
+use pce_common::Members;
+use pce_common::model::{Outcome, Refused};
 
 /// A link breaks; takes no memory.
 pub fn break_link<M: Members>(

@@ -1,15 +1,15 @@
 //! Bytes that an outside peer feeds, and bytes that are handed out to it.
 ghost use Rattle.std.specs.Prelude.{◌≡◌, true};
-ghost use Rattle.member_trait.specs.plant_model.RealWire.{wire};
-ghost use Rattle.member_trait.specs.plant_model.Events as events;
+ghost use Rattle.pce_common.specs.plant_model.RealWire.{wire};
+ghost use Rattle.pce_common.specs.plant_model.Events as events;
 ghost use Rattle.network_links.specs.Carried.{flow_of};
 ghost use Rattle.network_events.specs.Moving.{IsSound, Moves, OrLacks};
 ghost use Rattle.network_events.specs.Standing.{here};
 
 use dom_base::Bytes;
-use member_trait::Members;
-use member_trait::model::{Outcome, Refused};
 use network_links::Traffic;
+use pce_common::Members;
+use pce_common::model::{Outcome, Refused};
 
 /// An outside peer feeds bytes. A refusal changes nothing but room; no memory lacks where nothing is taken.
 pub fn feed<M: Members>(

@@ -4,18 +4,18 @@ ghost use Rattle.dom_base.specs.declared.names.Peer.TheVariants.{Inner};
 ghost use Rattle.dom_base.specs.declared.names.As.{As};
 ghost use Rattle.plant_text.specs.Names.{same_as};
 ghost use Rattle.plant_text.specs.Settings.{adjacency};
-ghost use Rattle.member_trait.specs.plant_model.RealWire.{wire};
-ghost use Rattle.member_trait.specs.plant_model.Deeds as deeds;
+ghost use Rattle.pce_common.specs.plant_model.RealWire.{wire};
+ghost use Rattle.pce_common.specs.plant_model.Deeds as deeds;
 ghost use Rattle.network_links.specs.Carried.{flow_of};
-ghost use Rattle.member_trait.specs.Membership.{is_member, fallen, lost_at};
+ghost use Rattle.pce_common.specs.Membership.{is_member, fallen, lost_at};
 ghost use Rattle.network_events.specs.Standing.{Goes, here};
 ghost use Rattle.network_events.specs.Breaking.{RoomToBreak};
 ghost use Rattle.network_events.specs.Acting.{RoomToBreakAt};
 
 use crate::deeds::fall;
 use dom_base::{As, Peer};
-use member_trait::Members;
 use network_links::Traffic;
+use pce_common::Members;
 
 // The lower end of a link, and the upper.
 fn adjacency_between(a: As, b: As) -> (As, As)

@@ -1,16 +1,16 @@
 //! The connection of an outside peer is opened.
 ghost use Rattle.std.specs.Prelude.{◌≡◌, true, []};
-ghost use Rattle.member_trait.specs.plant_model.RealWire.{wire};
-ghost use Rattle.member_trait.specs.plant_model.Events as events;
+ghost use Rattle.pce_common.specs.plant_model.RealWire.{wire};
+ghost use Rattle.pce_common.specs.plant_model.Events as events;
 ghost use Rattle.network_links.specs.Carried.{flow_of};
 ghost use Rattle.network_events.specs.Moving.{IsSound, Moves, OrLacks};
 ghost use Rattle.network_events.specs.Standing.{here};
 
 use crate::acting::give_input;
 use dom_base::Peer;
-use member_trait::Members;
-use member_trait::model::{Outcome, Refused};
 use network_links::Traffic;
+use pce_common::Members;
+use pce_common::model::{Outcome, Refused};
 use pcep_session::Input;
 
 /// The connection of an outside peer is opened for this holder, and its session begins. An `Err` changes

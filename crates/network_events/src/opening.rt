@@ -4,12 +4,12 @@ ghost use Rattle.dom_base.specs.declared.names.As.{As};
 ghost use Rattle.dom_base.specs.declared.names.Peer.{Peer};
 ghost use Rattle.dom_base.specs.declared.names.Peer.TheVariants.{Inner};
 ghost use Rattle.plant_text.specs.Settings.{elements_of, has_adjacency, adjacencies};
-ghost use Rattle.member_trait.specs.plant_model.RealWire.{wire};
-ghost use Rattle.member_trait.specs.plant_model.Deeds as deeds;
-ghost use Rattle.member_trait.specs.plant_model.Events as events;
+ghost use Rattle.pce_common.specs.plant_model.RealWire.{wire};
+ghost use Rattle.pce_common.specs.plant_model.Deeds as deeds;
+ghost use Rattle.pce_common.specs.plant_model.Events as events;
 ghost use Rattle.network_links.specs.Carried.{flow_of};
 ghost use Rattle.network_links.specs.Flow.{IsBare, KeepsRoomAt};
-ghost use Rattle.member_trait.specs.Owed.{owed, pending_in};
+ghost use Rattle.pce_common.specs.Owed.{owed, pending_in};
 ghost use Rattle.network_events.specs.Giving.{OnlyGrows};
 ghost use Rattle.network_events.specs.Passing.{IsOf};
 ghost use Rattle.network_events.specs.Rooms.{IsRoomy};
@@ -17,8 +17,8 @@ ghost use Rattle.network_events.specs.Standing.{Goes, here, state_of};
 
 use crate::giving::{NOTHING, reserve_words};
 use dom_base::{As, NoMemory, Peer};
-use member_trait::Members;
 use network_links::Traffic;
+use pce_common::Members;
 use plant_sessions::OWN_LENGTH;
 
 // An end of a link says its Open.

@@ -4,25 +4,25 @@ ghost use Rattle.dom_base.specs.declared.names.As.{As};
 ghost use Rattle.plant_text.specs.Names.{same_as};
 ghost use Rattle.plant_text.specs.Settings.{has_adjacency, adjacencies};
 ghost use Rattle.network_links.specs.settings_layout.Adjacencies.{adjacency_of};
-ghost use Rattle.member_trait.specs.plant_model.RealWire.{wire};
-ghost use Rattle.member_trait.specs.plant_model.Deeds as deeds;
-ghost use Rattle.member_trait.specs.plant_model.Events as events;
+ghost use Rattle.pce_common.specs.plant_model.RealWire.{wire};
+ghost use Rattle.pce_common.specs.plant_model.Deeds as deeds;
+ghost use Rattle.pce_common.specs.plant_model.Events as events;
 ghost use Rattle.pcep_session.specs.declared.session.Input.TheVariants as inputs;
 ghost use Rattle.network_links.specs.Carried.{flow_of};
 ghost use Rattle.network_links.specs.Flow.{session_at};
 ghost use Rattle.network_events.specs.Acting.{FitsInput};
 ghost use Rattle.network_events.specs.Peers.{IsAtEnd, input_at};
 ghost use Rattle.network_events.specs.Moving.{IsSound, Moves, OrLacks};
-ghost use Rattle.member_trait.specs.Membership.{AreJoined, is_member};
+ghost use Rattle.pce_common.specs.Membership.{AreJoined, is_member};
 ghost use Rattle.network_events.specs.Standing.{Goes, here};
 ghost use Rattle.network_events.specs.Using.{IsUnderWay, Uses};
 
 use crate::acting::give_input;
 use crate::events::expire;
 use dom_base::{As, Peer, Tick};
-use member_trait::Members;
-use member_trait::model::{Outcome, Refused};
 use network_links::Traffic;
+use pce_common::Members;
+use pce_common::model::{Outcome, Refused};
 use pcep_session::Input;
 
 // The session of a member with a peer takes a tick: in place where it has nothing to say or to do at it.

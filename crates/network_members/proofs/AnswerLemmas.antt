@@ -12,18 +12,18 @@ use Rattle.border_costs.specs.Solutions.{AreRows, Solution}
 use Rattle.plant_text.specs.Names.{same_as, parent_as}
 use Rattle.plant_text.specs.declared.settings.NetworkParts.{NetworkParts}
 use Rattle.plant_text.specs.Settings.{is_element}
-use Rattle.member_trait.specs.plant_model.declared.outcome.Refused.{Refused}
-use Rattle.member_trait.specs.plant_model.declared.upper.BorderJob.{BorderJob}
-use Rattle.member_trait.specs.plant_model.BorderGraph.{Found, SolvesBorder}
-use Rattle.member_trait.specs.plant_model.Element.{Element, Item, ElementSettings, Stage, Taken, Waits, Ready, is_ready}
-use Rattle.member_trait.specs.plant_model.Events.{has_jobs, is_ready_asking, is_ready_row}
-use Rattle.member_trait.specs.plant_model.Jobs.{ask_of}
-use Rattle.member_trait.specs.plant_model.Parent as parent
-use Rattle.member_trait.specs.plant_model.Plant.{Pin, Segment, ask, first_pin}
-use Rattle.member_trait.specs.plant_model.RealWire.{wire}
-use Rattle.member_trait.specs.plant_model.Settings.{family, place}
-use Rattle.member_trait.specs.plant_model.Solving.{commit, job_found}
-use Rattle.member_trait.specs.Membership.{Membership, Replied, with_element, with_parent}
+use Rattle.pce_common.specs.plant_model.declared.outcome.Refused.{Refused}
+use Rattle.pce_common.specs.plant_model.declared.upper.BorderJob.{BorderJob}
+use Rattle.pce_common.specs.plant_model.BorderGraph.{Found, SolvesBorder}
+use Rattle.pce_common.specs.plant_model.Element.{Element, Item, ElementSettings, Stage, Taken, Waits, Ready, is_ready}
+use Rattle.pce_common.specs.plant_model.Events.{has_jobs, is_ready_asking, is_ready_row}
+use Rattle.pce_common.specs.plant_model.Jobs.{ask_of}
+use Rattle.pce_common.specs.plant_model.Parent as parent
+use Rattle.pce_common.specs.plant_model.Plant.{Pin, Segment, ask, first_pin}
+use Rattle.pce_common.specs.plant_model.RealWire.{wire}
+use Rattle.pce_common.specs.plant_model.Settings.{family, place}
+use Rattle.pce_common.specs.plant_model.Solving.{commit, job_found}
+use Rattle.pce_common.specs.Membership.{Membership, Replied, with_element, with_parent}
 use Rattle.pce_element.specs.Committing.{IsOwnJob, commit_held, commit_solved, commit_stage, committed}
 use Rattle.pce_element.specs.Jobs.{Work, job_at, work_for, work_at}
 use Rattle.pce_element.specs.Plans.{Planned}

@@ -5,8 +5,8 @@ use Rattle.std.proofs.lemmas.Bool.{false≢true}
 use Rattle.std.proofs.lemmas.List.{get_or_read}
 use Rattle.dom_base.specs.declared.names.As.{As}
 use Rattle.plant_text.specs.declared.settings.NetworkParts.{NetworkParts}
-use Rattle.member_trait.specs.plant_model.Names.{set_as}
-use Rattle.member_trait.specs.plant_model.Element.{Element}
+use Rattle.pce_common.specs.plant_model.Names.{set_as}
+use Rattle.pce_common.specs.plant_model.Element.{Element}
 use Rattle.pce_element.specs.Seen.{Seen, SameButRoom, with_losing}
 use Rattle.network_members.specs.Elements.{own_of, at_domain, no_one, elements_in, current_or, current_in, IsFirstAt, IsNowhere}
 use Rattle.network_members.specs.Becoming.{Course, Becomes, BecomesAt, HasElement}

@@ -6,11 +6,11 @@ use Rattle.plant_text.specs.declared.settings.NetworkParts.{NetworkParts}
 use Rattle.plant_text.specs.Names.{same_as, parent_as}
 use Rattle.plant_text.specs.Networks.{ObeysRules}
 use Rattle.plant_text.specs.Settings.{elements_of}
-use Rattle.member_trait.specs.plant_model.Element.{Element, Way}
-use Rattle.member_trait.specs.plant_model.Parent as parent
-use Rattle.member_trait.specs.plant_model.Settings.{family, place}
+use Rattle.pce_common.specs.plant_model.Element.{Element, Way}
+use Rattle.pce_common.specs.plant_model.Parent as parent
+use Rattle.pce_common.specs.plant_model.Settings.{family, place}
 use Rattle.pcep_subobjects.specs.declared.hop.Hop.{Hop}
-use Rattle.member_trait.specs.Membership.{Membership}
+use Rattle.pce_common.specs.Membership.{Membership}
 use Rattle.pce_element.specs.Seen.{Seen}
 use Rattle.pce_parent.specs.Seen as above
 use Rattle.network_members.specs.Elements.{own_of, at_domain}

@@ -8,18 +8,18 @@ use Rattle.dom_base.specs.declared.border.BorderRow.{BorderRow}
 use Rattle.request_table.specs.declared.held.Held.{Held}
 use Rattle.plant_text.specs.Names.{same_as, parent_as}
 use Rattle.plant_text.specs.Settings.{is_element}
-use Rattle.member_trait.specs.plant_model.declared.outcome.Refused.{Refused}
-use Rattle.member_trait.specs.plant_model.declared.outcome.Refused.TheVariants as refused
-use Rattle.member_trait.specs.plant_model.declared.upper.BorderJob.{BorderJob}
-use Rattle.member_trait.specs.plant_model.Blind.{Nothing, show_nothing}
-use Rattle.member_trait.specs.plant_model.BorderGraph.{SolvesBorder}
-use Rattle.member_trait.specs.plant_model.Element.{Element, Item, ElementSettings, Taken, is_ready}
-use Rattle.member_trait.specs.plant_model.Events.{has_jobs, is_ready_asking, is_ready_row}
-use Rattle.member_trait.specs.plant_model.Parent as parent
-use Rattle.member_trait.specs.plant_model.RealWire.{wire}
-use Rattle.member_trait.specs.plant_model.Settings.{family, place}
-use Rattle.member_trait.specs.plant_model.Solving.{commit, job_found}
-use Rattle.member_trait.specs.Membership.{KeysBefore, Membership, Replied, with_element, with_parent}
+use Rattle.pce_common.specs.plant_model.declared.outcome.Refused.{Refused}
+use Rattle.pce_common.specs.plant_model.declared.outcome.Refused.TheVariants as refused
+use Rattle.pce_common.specs.plant_model.declared.upper.BorderJob.{BorderJob}
+use Rattle.pce_common.specs.plant_model.Blind.{Nothing, show_nothing}
+use Rattle.pce_common.specs.plant_model.BorderGraph.{SolvesBorder}
+use Rattle.pce_common.specs.plant_model.Element.{Element, Item, ElementSettings, Taken, is_ready}
+use Rattle.pce_common.specs.plant_model.Events.{has_jobs, is_ready_asking, is_ready_row}
+use Rattle.pce_common.specs.plant_model.Parent as parent
+use Rattle.pce_common.specs.plant_model.RealWire.{wire}
+use Rattle.pce_common.specs.plant_model.Settings.{family, place}
+use Rattle.pce_common.specs.plant_model.Solving.{commit, job_found}
+use Rattle.pce_common.specs.Membership.{KeysBefore, Membership, Replied, with_element, with_parent}
 use Rattle.pce_element.specs.Blind.{HasNoJob, IsSolvedBy, stands_for_nothing}
 use Rattle.pce_element.specs.Plans.{Planned}
 use Rattle.pce_element.specs.Seen.{Seen}

@@ -3,7 +3,7 @@ use Rattle.std.proofs.Common.{◌≡◌, ◌∙◌, Option, Some, None, is_some,
 use Rattle.std.specs.Option.{option_map}
 use Rattle.dom_base.specs.declared.names.As.{As}
 use Rattle.plant_text.specs.Settings.{elements_of}
-use Rattle.member_trait.specs.plant_model.Plant.{Pin, Segment, first_pin}
+use Rattle.pce_common.specs.plant_model.Plant.{Pin, Segment, first_pin}
 use Rattle.pce_element.specs.Seen.{Seen}
 use Rattle.network_members.specs.Current.{IsCurrent}
 use Rattle.network_members.specs.Elements.{at_domain, current_or, own_of}

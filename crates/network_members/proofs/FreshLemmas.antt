@@ -9,10 +9,10 @@ use Rattle.plant_text.specs.Names.{same_as}
 use Rattle.plant_text.specs.declared.settings.NetworkParts.{NetworkParts}
 use Rattle.plant_text.specs.declared.settings.ElementRow.{ElementRow}
 use Rattle.plant_text.specs.Settings.{row_of, life, life_from, deny_at, adjacencies}
-use Rattle.member_trait.specs.plant_model.Element.{Element, Way, ElementSettings}
-use Rattle.member_trait.specs.plant_model.declared.route.Route.{Route}
-use Rattle.member_trait.specs.plant_model.Routes.{routes}
-use Rattle.member_trait.specs.plant_model.Settings.{inner_ways, outer_way, place, place_from}
+use Rattle.pce_common.specs.plant_model.Element.{Element, Way, ElementSettings}
+use Rattle.pce_common.specs.plant_model.declared.route.Route.{Route}
+use Rattle.pce_common.specs.plant_model.Routes.{routes}
+use Rattle.pce_common.specs.plant_model.Settings.{inner_ways, outer_way, place, place_from}
 use Rattle.settings_layout.specs.Adjacencies.{others}
 use Rattle.settings_layout.proofs.AdjacencyLemmas.{ways_to_others}
 use Rattle.pce_element.specs.Seen.{Seen, IsNew}

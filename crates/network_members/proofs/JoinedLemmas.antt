@@ -11,10 +11,10 @@ use Rattle.plant_text.specs.declared.settings.PeerRow.{PeerRow}
 use Rattle.plant_text.specs.Names.{same_as, same_link, parent_as, insert_as}
 use Rattle.plant_text.specs.Networks.{IsAdded, ObeysRules}
 use Rattle.plant_text.specs.Settings.{Adjacency, adjacencies, before_adjacency, insert_adjacency, sorted, upward, has_adjacency, children, children_of, is_element, row_of, peer_row}
-use Rattle.member_trait.specs.plant_model.Element.{Way}
-use Rattle.member_trait.specs.plant_model.Deeds.{at_row}
-use Rattle.member_trait.specs.plant_model.Settings.{inner_ways, way, ways_along}
-use Rattle.member_trait.specs.Membership.{AreJoined, is_member}
+use Rattle.pce_common.specs.plant_model.Element.{Way}
+use Rattle.pce_common.specs.plant_model.Deeds.{at_row}
+use Rattle.pce_common.specs.plant_model.Settings.{inner_ways, way, ways_along}
+use Rattle.pce_common.specs.Membership.{AreJoined, is_member}
 use Rattle.pce_element.specs.pce_common.Ways.{way_of}
 use Rattle.network_members.proofs.DomainLemmas.{same_as_is, as_self}
 use Rattle.network_members.proofs.NetworkLemmas.{settings_of}

@@ -4,15 +4,15 @@ use Rattle.dom_base.specs.declared.names.As.{As}
 use Rattle.te_links.specs.Rows.{Rows}
 use Rattle.plant_text.specs.declared.settings.NetworkParts.{NetworkParts}
 use Rattle.plant_text.specs.Settings.{is_element}
-use Rattle.member_trait.specs.plant_model.declared.event.Event.TheVariants as event
-use Rattle.member_trait.specs.plant_model.declared.outcome.Outcome.TheVariants.{Loaded}
-use Rattle.member_trait.specs.plant_model.declared.outcome.Refused.{Refused}
-use Rattle.member_trait.specs.plant_model.declared.outcome.Refused.TheVariants.{NoSuchPeer, GenerationsFull}
-use Rattle.member_trait.specs.plant_model.Names.{set_as}
-use Rattle.member_trait.specs.plant_model.Wire.{Codec}
-use Rattle.member_trait.specs.plant_model.Element.{Element}
-use Rattle.member_trait.specs.plant_model.State.{Loads}
-use Rattle.member_trait.specs.plant_model.Plant.{Pin, Segment, first_pin, Plant, Happened, Steps, load, refused, is_full}
+use Rattle.pce_common.specs.plant_model.declared.event.Event.TheVariants as event
+use Rattle.pce_common.specs.plant_model.declared.outcome.Outcome.TheVariants.{Loaded}
+use Rattle.pce_common.specs.plant_model.declared.outcome.Refused.{Refused}
+use Rattle.pce_common.specs.plant_model.declared.outcome.Refused.TheVariants.{NoSuchPeer, GenerationsFull}
+use Rattle.pce_common.specs.plant_model.Names.{set_as}
+use Rattle.pce_common.specs.plant_model.Wire.{Codec}
+use Rattle.pce_common.specs.plant_model.Element.{Element}
+use Rattle.pce_common.specs.plant_model.State.{Loads}
+use Rattle.pce_common.specs.plant_model.Plant.{Pin, Segment, first_pin, Plant, Happened, Steps, load, refused, is_full}
 use Rattle.pce_element.specs.Seen.{Seen}
 use Rattle.network_members.specs.Elements.{own_of, at_domain, with_seen, element_or, elements_in, current_or, current_in, loaded, LoadsElement, LoadsAt}
 use Rattle.network_members.specs.Loading.{answer_of, deeds_of, with_elements}

@@ -5,9 +5,9 @@ use Rattle.dom_base.specs.declared.names.As.{As}
 use Rattle.te_links.specs.Rows.{Rows}
 use Rattle.te_generations.specs.declared.generations.LoadError.{LoadError}
 use Rattle.te_generations.specs.declared.generations.LoadError.TheVariants as load_error
-use Rattle.member_trait.specs.plant_model.declared.outcome.Refused.{Refused}
-use Rattle.member_trait.specs.plant_model.declared.outcome.Refused.TheVariants.{GenerationsFull, NoMemory}
-use Rattle.member_trait.specs.plant_model.Plant.{Pin, Segment, first_pin}
+use Rattle.pce_common.specs.plant_model.declared.outcome.Refused.{Refused}
+use Rattle.pce_common.specs.plant_model.declared.outcome.Refused.TheVariants.{GenerationsFull, NoMemory}
+use Rattle.pce_common.specs.plant_model.Plant.{Pin, Segment, first_pin}
 use Rattle.pce_element.specs.Seen.{Seen}
 use Rattle.network_members.specs.Elements.{own_of, at_domain, no_one, told, IsFirstAt, LoadsAt, LoadsElement, LoadsPlace}
 use Rattle.network_members.proofs.DomainLemmas.{first_own, at_first, set_first, owns_set}

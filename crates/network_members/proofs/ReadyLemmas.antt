@@ -2,8 +2,8 @@
 use Rattle.std.proofs.Common.{◌≡◌, ◌<◌, ◌≤◌, ◌-◌, ℕ, zero, suc, Some, None, List, [], ◌∷◌, ◌++◌, length, map, drop, get_or, arith, refl, sym, ◌∙◌, ap}
 use Rattle.std.specs.Prelude.{slice_get}
 use Rattle.dom_base.specs.declared.names.As.{As}
-use Rattle.member_trait.specs.plant_model.Element.{ready_numbers}
-use Rattle.member_trait.specs.plant_model.Events.{jobs_at}
+use Rattle.pce_common.specs.plant_model.Element.{ready_numbers}
+use Rattle.pce_common.specs.plant_model.Events.{jobs_at}
 use Rattle.pce_element.specs.Seen.{Seen}
 use Rattle.network_members.specs.Elements.{own_of}
 use Rattle.network_members.specs.Ready.{jobs_in}

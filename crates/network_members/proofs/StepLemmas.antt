@@ -9,16 +9,16 @@ use Rattle.pcep_messages.specs.declared.message.Message.{Message}
 use Rattle.plant_text.specs.declared.settings.NetworkParts.{NetworkParts}
 use Rattle.plant_text.specs.Names.{same_as, parent_as}
 use Rattle.plant_text.specs.Settings.{class_of, is_element}
-use Rattle.member_trait.specs.plant_model.declared.output.Lost.{Lost}
-use Rattle.member_trait.specs.plant_model.Names.{set_as}
-use Rattle.member_trait.specs.plant_model.RealWire.{wire}
-use Rattle.member_trait.specs.plant_model.Element as element
-use Rattle.member_trait.specs.plant_model.Element.{Element, Losing, ElementSettings, Taken, down_of, handed_lost, next_lost_of}
-use Rattle.member_trait.specs.plant_model.Parent as parent
-use Rattle.member_trait.specs.plant_model.Settings.{place, family}
-use Rattle.member_trait.specs.plant_model.Taking.{take}
-use Rattle.member_trait.specs.Membership.{Membership, Replied, Standing, given, is_member, raised, fallen, lost_at, with_element, with_parent, HandsOut}
-use Rattle.member_trait.specs.Owed.{count_by_asker, is_peer, owed}
+use Rattle.pce_common.specs.plant_model.declared.output.Lost.{Lost}
+use Rattle.pce_common.specs.plant_model.Names.{set_as}
+use Rattle.pce_common.specs.plant_model.RealWire.{wire}
+use Rattle.pce_common.specs.plant_model.Element as element
+use Rattle.pce_common.specs.plant_model.Element.{Element, Losing, ElementSettings, Taken, down_of, handed_lost, next_lost_of}
+use Rattle.pce_common.specs.plant_model.Parent as parent
+use Rattle.pce_common.specs.plant_model.Settings.{place, family}
+use Rattle.pce_common.specs.plant_model.Taking.{take}
+use Rattle.pce_common.specs.Membership.{Membership, Replied, Standing, given, is_member, raised, fallen, lost_at, with_element, with_parent, HandsOut}
+use Rattle.pce_common.specs.Owed.{count_by_asker, is_peer, owed}
 use Rattle.pce_element.specs.Plans.{Planned}
 use Rattle.pce_element.specs.Seen.{Seen}
 use Rattle.pce_parent.specs.Plans as border

@@ -6,10 +6,10 @@ use Rattle.dom_base.specs.declared.names.As.{As}
 use Rattle.plant_text.specs.declared.settings.NetworkParts.{NetworkParts}
 use Rattle.plant_text.specs.Names.{same_as, parent_as}
 use Rattle.plant_text.specs.Settings.{elements_of, is_element}
-use Rattle.member_trait.specs.plant_model.Element.{Element, ticked}
-use Rattle.member_trait.specs.plant_model.Settings.{place}
-use Rattle.member_trait.specs.Membership.{Membership, KeysBefore, expired}
-use Rattle.member_trait.specs.Owed.{pending_at}
+use Rattle.pce_common.specs.plant_model.Element.{Element, ticked}
+use Rattle.pce_common.specs.plant_model.Settings.{place}
+use Rattle.pce_common.specs.Membership.{Membership, KeysBefore, expired}
+use Rattle.pce_common.specs.Owed.{pending_at}
 use Rattle.pce_element.specs.Seen.{Seen, SameButRoom, with_losing}
 use Rattle.network_members.specs.Elements.{own_of, at_domain, no_one, element_or, elements_in, current_or}
 use Rattle.network_members.specs.Becoming.{AreBefore, AreTicked, BecomesAt, TickedTo, all_pending, pending_of, ticked_by}

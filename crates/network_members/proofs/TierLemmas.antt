@@ -5,12 +5,12 @@ use mathlib.Core.Path.{fun_ext}
 use Rattle.dom_base.specs.declared.names.As.{As}
 use Rattle.plant_text.specs.declared.settings.NetworkParts.{NetworkParts}
 use Rattle.plant_text.specs.Names.{same_as, parent_as}
-use Rattle.member_trait.specs.plant_model.declared.output.Lost.{Lost}
-use Rattle.member_trait.specs.plant_model.Names.{set_as}
-use Rattle.member_trait.specs.plant_model.Element.{Element, Losing}
-use Rattle.member_trait.specs.plant_model.Parent as parent
-use Rattle.member_trait.specs.plant_model.Settings.{place}
-use Rattle.member_trait.specs.Membership.{Membership, with_element, with_parent}
+use Rattle.pce_common.specs.plant_model.declared.output.Lost.{Lost}
+use Rattle.pce_common.specs.plant_model.Names.{set_as}
+use Rattle.pce_common.specs.plant_model.Element.{Element, Losing}
+use Rattle.pce_common.specs.plant_model.Parent as parent
+use Rattle.pce_common.specs.plant_model.Settings.{place}
+use Rattle.pce_common.specs.Membership.{Membership, with_element, with_parent}
 use Rattle.pce_element.specs.Seen.{Seen}
 use Rattle.pce_parent.specs.Seen as above
 use Rattle.network_members.specs.Elements.{own_of, at_domain, with_seen, element_or, elements_in}

@@ -5,16 +5,16 @@ use Rattle.dom_base.specs.declared.names.As.{As}
 use Rattle.te_links.specs.Rows.{Rows}
 use Rattle.plant_text.specs.declared.settings.NetworkParts.{NetworkParts}
 use Rattle.plant_text.specs.Names.{same_as, parent_as}
-use Rattle.member_trait.specs.plant_model.declared.outcome.Refused.{Refused}
-use Rattle.member_trait.specs.plant_model.declared.output.Lost.{Lost}
-use Rattle.member_trait.specs.plant_model.Element.{Element}
-use Rattle.member_trait.specs.plant_model.Events.{jobs_at, jobs_of, ready_jobs}
-use Rattle.member_trait.specs.plant_model.Parent as parent
-use Rattle.member_trait.specs.plant_model.Plant.{Pin, Segment}
-use Rattle.member_trait.specs.plant_model.State.{State}
-use Rattle.member_trait.specs.plant_model.RealWire.{wire}
-use Rattle.member_trait.specs.plant_model.Settings.{place}
-use Rattle.member_trait.specs.plant_model.Element as element
+use Rattle.pce_common.specs.plant_model.declared.outcome.Refused.{Refused}
+use Rattle.pce_common.specs.plant_model.declared.output.Lost.{Lost}
+use Rattle.pce_common.specs.plant_model.Element.{Element}
+use Rattle.pce_common.specs.plant_model.Events.{jobs_at, jobs_of, ready_jobs}
+use Rattle.pce_common.specs.plant_model.Parent as parent
+use Rattle.pce_common.specs.plant_model.Plant.{Pin, Segment}
+use Rattle.pce_common.specs.plant_model.State.{State}
+use Rattle.pce_common.specs.plant_model.RealWire.{wire}
+use Rattle.pce_common.specs.plant_model.Settings.{place}
+use Rattle.pce_common.specs.plant_model.Element as element
 use Rattle.pce_element.specs.Seen.{Seen, SameButRoom}
 use Rattle.network_members.specs.Elements.{own_of, at_domain, with_seen, element_or, elements_in, loaded, LoadsAt, LoadsElement}
 use Rattle.network_members.specs.Loading.{Loads}

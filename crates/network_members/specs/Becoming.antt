@@ -7,9 +7,9 @@ use Rattle.disclosure.specs.declared.class.Class.{Class}
 use Rattle.pcep_subobjects.specs.declared.hop.Hop.{Hop}
 use Rattle.pcep_messages.specs.declared.message.Message.{Message}
 use Rattle.request_table.specs.Pending.{same_peer}
-use Rattle.member_trait.specs.plant_model.Element.{Losing, Taken, ticked}
-use Rattle.member_trait.specs.plant_model.RealWire.{wire}
-use Rattle.member_trait.specs.plant_model.Taking.{take}
+use Rattle.pce_common.specs.plant_model.Element.{Losing, Taken, ticked}
+use Rattle.pce_common.specs.plant_model.RealWire.{wire}
+use Rattle.pce_common.specs.plant_model.Taking.{take}
 use Rattle.pce_element.specs.Seen.{Seen, SameButRoom, with_losing}
 use Rattle.network_members.specs.Elements.{at_domain, with_seen, no_one}
 

@@ -9,14 +9,14 @@ use Rattle.vspt_tree.specs.declared.branch.Best.{Best}
 use Rattle.vspt_tree.specs.declared.branch.Branch.{Branch}
 use Rattle.plant_text.specs.declared.settings.NetworkParts.{NetworkParts}
 use Rattle.plant_text.specs.Names.{same_as, parent_as}
-use Rattle.member_trait.specs.plant_model.declared.outcome.Refused.{Refused}
-use Rattle.member_trait.specs.plant_model.declared.outcome.Refused.TheVariants as refused
-use Rattle.member_trait.specs.plant_model.declared.upper.BorderJob.{BorderJob}
-use Rattle.member_trait.specs.plant_model.Blind.{Joined, Nothing}
-use Rattle.member_trait.specs.plant_model.Element.{Item, Ready}
-use Rattle.member_trait.specs.plant_model.Events.{has_jobs}
-use Rattle.member_trait.specs.plant_model.RealWire.{wire}
-use Rattle.member_trait.specs.Membership.{Membership, Replied}
+use Rattle.pce_common.specs.plant_model.declared.outcome.Refused.{Refused}
+use Rattle.pce_common.specs.plant_model.declared.outcome.Refused.TheVariants as refused
+use Rattle.pce_common.specs.plant_model.declared.upper.BorderJob.{BorderJob}
+use Rattle.pce_common.specs.plant_model.Blind.{Joined, Nothing}
+use Rattle.pce_common.specs.plant_model.Element.{Item, Ready}
+use Rattle.pce_common.specs.plant_model.Events.{has_jobs}
+use Rattle.pce_common.specs.plant_model.RealWire.{wire}
+use Rattle.pce_common.specs.Membership.{Membership, Replied}
 use Rattle.pce_element.specs.Blind.{stands_for_nothing}
 use Rattle.pce_element.specs.Plans.{Planned}
 use Rattle.network_members.specs.Answering.{IsRefusedFor, ParentAnswers, solved_below}

@@ -3,7 +3,7 @@ use Rattle.std.specs.Prelude.{◌≡◌, true, false, Option, Some, None}
 use Rattle.dom_base.specs.declared.names.As.{As}
 use Rattle.plant_text.specs.declared.settings.NetworkParts.{NetworkParts}
 use Rattle.plant_text.specs.Settings.{is_element}
-use Rattle.member_trait.specs.plant_model.Plant.{Pin}
+use Rattle.pce_common.specs.plant_model.Plant.{Pin}
 
 -- the topology and its number; none where there is no such element
 abbrev pub IsCurrent : NetworkParts → (As → Pin) → As → Option Pin → Type 0

@@ -9,11 +9,11 @@ use Rattle.te_generations.specs.declared.generations.LoadError.TheVariants as lo
 use Rattle.plant_text.specs.declared.settings.NetworkParts.{NetworkParts}
 use Rattle.plant_text.specs.Names.{same_as, parent_as}
 use Rattle.plant_text.specs.Settings.{life}
-use Rattle.member_trait.specs.plant_model.declared.outcome.Refused.{Refused}
-use Rattle.member_trait.specs.plant_model.declared.outcome.Refused.TheVariants.{NoSuchPeer, GenerationsFull, NoMemory}
-use Rattle.member_trait.specs.plant_model.Settings.{ways}
-use Rattle.member_trait.specs.plant_model.Element.{Element}
-use Rattle.member_trait.specs.plant_model.Plant.{Pin, Segment, first_pin, is_full}
+use Rattle.pce_common.specs.plant_model.declared.outcome.Refused.{Refused}
+use Rattle.pce_common.specs.plant_model.declared.outcome.Refused.TheVariants.{NoSuchPeer, GenerationsFull, NoMemory}
+use Rattle.pce_common.specs.plant_model.Settings.{ways}
+use Rattle.pce_common.specs.plant_model.Element.{Element}
+use Rattle.pce_common.specs.plant_model.Plant.{Pin, Segment, first_pin, is_full}
 use Rattle.pce_element.specs.Seen.{Seen, SameButRoom, new_element, with_current}
 
 -- the first element of the domain stands at this place

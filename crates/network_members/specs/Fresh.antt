@@ -7,10 +7,10 @@ use Rattle.pcep_subobjects.specs.declared.hop.Hop.{Hop}
 use Rattle.plant_text.specs.declared.settings.NetworkParts.{NetworkParts}
 use Rattle.plant_text.specs.declared.settings.ElementRow.{ElementRow}
 use Rattle.plant_text.specs.Settings.{adjacencies, life}
-use Rattle.member_trait.specs.plant_model.Events.{bare}
-use Rattle.member_trait.specs.plant_model.RealWire.{wire}
-use Rattle.member_trait.specs.plant_model.Settings.{place}
-use Rattle.member_trait.specs.Membership.{Membership}
+use Rattle.pce_common.specs.plant_model.Events.{bare}
+use Rattle.pce_common.specs.plant_model.RealWire.{wire}
+use Rattle.pce_common.specs.plant_model.Settings.{place}
+use Rattle.pce_common.specs.Membership.{Membership}
 use Rattle.settings_layout.specs.Adjacencies.{others}
 use Rattle.pce_element.specs.Seen.{Seen, IsNew}
 use Rattle.network_members.specs.declared.fresh.Figures.{Figures}

@@ -2,9 +2,9 @@
 use Rattle.std.specs.Prelude.{ℕ, List, map, Option, Some, None}
 use Rattle.dom_base.specs.declared.names.Peer.TheVariants.{Outside}
 use Rattle.pcep_messages.specs.declared.message.Reply.{Reply}
-use Rattle.member_trait.specs.plant_model.Element.{sent_through}
-use Rattle.member_trait.specs.plant_model.Outside.{heeded_by}
-use Rattle.member_trait.specs.plant_model.RealWire.{wire}
+use Rattle.pce_common.specs.plant_model.Element.{sent_through}
+use Rattle.pce_common.specs.plant_model.Outside.{heeded_by}
+use Rattle.pce_common.specs.plant_model.RealWire.{wire}
 use Rattle.pce_element.specs.Seen.{Seen}
 
 -- Through how many domains beyond its own an element sent on the request that waits for the answer to an id of the peer. Where

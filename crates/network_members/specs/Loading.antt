@@ -3,14 +3,14 @@ use Rattle.std.specs.Prelude.{◌≡◌, ℕ, List, [], ◌∷◌, Result, Ok, E
 use Rattle.dom_base.specs.declared.names.As.{As}
 use Rattle.te_links.specs.Rows.{Rows}
 use Rattle.plant_text.specs.declared.settings.NetworkParts.{NetworkParts}
-use Rattle.member_trait.specs.plant_model.declared.event.Event.TheVariants as event
-use Rattle.member_trait.specs.plant_model.declared.outcome.Outcome.TheVariants.{Loaded}
-use Rattle.member_trait.specs.plant_model.declared.outcome.Refused.{Refused}
-use Rattle.member_trait.specs.plant_model.Events.{Answered}
-use Rattle.member_trait.specs.plant_model.RealWire.{wire}
-use Rattle.member_trait.specs.plant_model.State as deeds
-use Rattle.member_trait.specs.plant_model.Plant.{Pin, Segment, first_pin, Plant, PlantDeed, Steps}
-use Rattle.member_trait.specs.Membership.{Membership}
+use Rattle.pce_common.specs.plant_model.declared.event.Event.TheVariants as event
+use Rattle.pce_common.specs.plant_model.declared.outcome.Outcome.TheVariants.{Loaded}
+use Rattle.pce_common.specs.plant_model.declared.outcome.Refused.{Refused}
+use Rattle.pce_common.specs.plant_model.Events.{Answered}
+use Rattle.pce_common.specs.plant_model.RealWire.{wire}
+use Rattle.pce_common.specs.plant_model.State as deeds
+use Rattle.pce_common.specs.plant_model.Plant.{Pin, Segment, first_pin, Plant, PlantDeed, Steps}
+use Rattle.pce_common.specs.Membership.{Membership}
 use Rattle.pce_element.specs.Seen.{Seen}
 use Rattle.network_members.specs.Elements.{elements_in, current_in}
 use Rattle.network_members.specs.Tiers.{Tiers, lost_in, members_of}

@@ -1,9 +1,9 @@
 -- Jobs of elements.
 use Rattle.std.specs.Prelude.{ℕ, List, [], ◌∷◌, ◌++◌, Option, Some, None}
 use Rattle.dom_base.specs.declared.names.As.{As}
-use Rattle.member_trait.specs.plant_model.Element.{ready_numbers}
-use Rattle.member_trait.specs.plant_model.Events.{jobs_at}
-use Rattle.member_trait.specs.plant_model.Plant.{Pin, Segment}
+use Rattle.pce_common.specs.plant_model.Element.{ready_numbers}
+use Rattle.pce_common.specs.plant_model.Events.{jobs_at}
+use Rattle.pce_common.specs.plant_model.Plant.{Pin, Segment}
 use Rattle.pce_element.specs.Seen.{Seen}
 use Rattle.pce_element.specs.Jobs.{Work, job_at}
 use Rattle.network_members.specs.Elements.{own_of}

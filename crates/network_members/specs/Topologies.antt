@@ -4,9 +4,9 @@ use Rattle.dom_base.specs.declared.names.As.{As}
 use Rattle.disclosure.specs.Shown.{open_of}
 use Rattle.border_costs.specs.Solutions.{Solution}
 use Rattle.plant_text.specs.declared.settings.NetworkParts.{NetworkParts}
-use Rattle.member_trait.specs.plant_model.declared.output.Lost.{Lost}
-use Rattle.member_trait.specs.plant_model.Plant.{Pin, Segment, first_pin}
-use Rattle.member_trait.specs.Membership.{Membership, Standing}
+use Rattle.pce_common.specs.plant_model.declared.output.Lost.{Lost}
+use Rattle.pce_common.specs.plant_model.Plant.{Pin, Segment, first_pin}
+use Rattle.pce_common.specs.Membership.{Membership, Standing}
 use Rattle.pce_element.specs.declared.topologies.Topologies.{Topologies}
 use Rattle.pce_element.specs.Seen as element
 use Rattle.network_members.specs.Fresh as fresh

@@ -3,21 +3,21 @@ ghost use Rattle.std.specs.Prelude.{◌≡◌, ◌<◌, ◌≤◌, length, Some,
 ghost use Rattle.std.specs.List.{slice_index_or};
 ghost use Rattle.plant_text.specs.Names.{same_as, parent_as};
 ghost use Rattle.plant_text.specs.Settings.{is_element};
-ghost use Rattle.member_trait.specs.plant_model.Events.{has_jobs};
-ghost use Rattle.member_trait.specs.plant_model.Plant.{first_pin};
-ghost use Rattle.member_trait.specs.Membership.{KeysBefore};
+ghost use Rattle.pce_common.specs.plant_model.Events.{has_jobs};
+ghost use Rattle.pce_common.specs.plant_model.Plant.{first_pin};
+ghost use Rattle.pce_common.specs.Membership.{KeysBefore};
 ghost use Rattle.pce_element.specs.Committing.{IsOwnJob, committed};
 ghost use Rattle.network_members.specs.Answering.{Commits, IsBack, IsOwnDone, border_job};
 ghost use Rattle.network_members.specs.Becoming.{Becomes, BecomesAt, HasElement, unchanged};
 ghost use Rattle.network_members.specs.Elements.{at_domain, no_one};
 ghost use Rattle.network_members.specs.Tiers.{members_of};
 
+use border_costs::Solved;
 use crate::elements::Elements;
 use crate::hierarchy::Hierarchy;
 use crate::plan::MemberPlan;
-use border_costs::Solved;
 use dom_base::{As, Tick};
-use member_trait::model::Refused;
+use pce_common::model::Refused;
 use pce_element::{Element, Plan, Refusal, Topologies};
 use pce_parent::{BorderSolved, Done};
 

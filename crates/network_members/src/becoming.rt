@@ -1,7 +1,7 @@
 //! One element of a network goes on.
 ghost use Rattle.std.specs.Prelude.{◌≡◌, ◌≤◌, ◌<◌, length, map, Some, IfOk, IfSome};
 ghost use Rattle.std.specs.List.{slice_index_or};
-ghost use Rattle.member_trait.specs.plant_model.Element.{upped, down_of, next_lost_of};
+ghost use Rattle.pce_common.specs.plant_model.Element.{upped, down_of, next_lost_of};
 ghost use Rattle.pce_element.specs.pce_common.Messages.{HasOnePart};
 ghost use Rattle.network_members.specs.Elements.{at_domain, no_one, own_of, IsFirstAt};
 ghost use Rattle.network_members.specs.Becoming.{Becomes, BecomesAt, HasElement, taken_by, unchanged};
@@ -9,7 +9,7 @@ ghost use Rattle.network_members.specs.Becoming.{Becomes, BecomesAt, HasElement,
 use crate::elements::{Elements, place_of};
 use disclosure::Class;
 use dom_base::{As, NoMemory, Peer, Tick};
-use member_trait::model::Lost;
+use pce_common::model::Lost;
 use pce_element::{Element, Plan, World};
 use pcep_messages::Message;
 

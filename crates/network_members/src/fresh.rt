@@ -2,7 +2,7 @@
 ghost use Rattle.std.specs.Prelude.{◌≡◌, ◌<◌, ◌^◌, length, IfOk};
 ghost use Rattle.plant_text.specs.Names.{same_as};
 ghost use Rattle.plant_text.specs.Settings.{elements_of, life, adjacencies, row_of};
-ghost use Rattle.member_trait.specs.plant_model.Settings.{place};
+ghost use Rattle.pce_common.specs.plant_model.Settings.{place};
 ghost use Rattle.settings_layout.specs.Adjacencies.{are_adjacencies, others};
 ghost use Rattle.pce_element.specs.Seen.{IsNew};
 ghost use Rattle.network_members.specs.Fresh.{AreNew, LivesFit, figures_from};

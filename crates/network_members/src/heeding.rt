@@ -1,7 +1,7 @@
 //! What an element heeds of what an outside peer tells it.
 ghost use Rattle.std.specs.Prelude.{◌≡◌, IfOk};
-ghost use Rattle.member_trait.specs.plant_model.Outside.{heeded_by, heeded_in};
-ghost use Rattle.member_trait.specs.plant_model.RealWire.{wire};
+ghost use Rattle.pce_common.specs.plant_model.Outside.{heeded_by, heeded_in};
+ghost use Rattle.pce_common.specs.plant_model.RealWire.{wire};
 ghost use Rattle.network_members.specs.Elements.{at_domain};
 ghost use Rattle.network_members.specs.Heeding.{heeded_each, sent_at};
 

@@ -3,10 +3,10 @@ ghost use Rattle.std.specs.Prelude.{◌≡◌, ◌≤◌, [], All, length, slice
 ghost use Rattle.dom_base.specs.declared.names.As.{As as Domain};
 ghost use Rattle.plant_text.specs.Names.{same_as, parent_as};
 ghost use Rattle.plant_text.specs.Settings.{elements_of};
-ghost use Rattle.member_trait.specs.plant_model.Events.{has_jobs, ready_jobs};
-ghost use Rattle.member_trait.specs.plant_model.Parent.{ready_numbers};
-ghost use Rattle.member_trait.specs.plant_model.State.{State};
-ghost use Rattle.member_trait.specs.plant_model.Settings.{family};
+ghost use Rattle.pce_common.specs.plant_model.Events.{has_jobs, ready_jobs};
+ghost use Rattle.pce_common.specs.plant_model.Parent.{ready_numbers};
+ghost use Rattle.pce_common.specs.plant_model.State.{State};
+ghost use Rattle.pce_common.specs.plant_model.Settings.{family};
 ghost use Rattle.pce_parent.specs.Seen.{IsNew};
 ghost use Rattle.pce_parent.specs.Solution.{IsWeighed};
 ghost use Rattle.network_members.specs.Fresh.{AreNew, begun, parent_id};

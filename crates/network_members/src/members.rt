@@ -1,15 +1,15 @@
 //! The elements of a network and the parent above them, as the deeds of a network see them.
 ghost use Rattle.std.specs.Prelude.{◌≡◌};
 ghost use Rattle.plant_text.specs.Settings.{peer_row};
-ghost use Rattle.member_trait.specs.plant_model.Deeds.{at_row};
+ghost use Rattle.pce_common.specs.plant_model.Deeds.{at_row};
 ghost use Rattle.network_members.specs.Tiers.{FitsIn, lost_in, members_of, next_by, sent_by, standing_of};
 
 use crate::hierarchy::{Hierarchy, is_parent};
 use crate::plan::MemberPlan;
 use crate::steps::has_one_part;
 use dom_base::{As, NoMemory, Peer, Tick};
-use member_trait::Members;
-use member_trait::model::{Lost, Outputs};
+use pce_common::Members;
+use pce_common::model::{Lost, Outputs};
 use pce_element::World;
 use pcep_messages::Message;
 use plant_text::PeerRow;

@@ -1,6 +1,6 @@
 //! Which jobs of the elements can be solved.
 ghost use Rattle.std.specs.Prelude.{◌≡◌, ◌≤◌, length, slice_get};
-ghost use Rattle.member_trait.specs.plant_model.Element.{ready_numbers};
+ghost use Rattle.pce_common.specs.plant_model.Element.{ready_numbers};
 ghost use Rattle.network_members.specs.Ready.{jobs_in};
 
 use crate::elements::Elements;

@@ -2,6 +2,8 @@
 pub mod Messages
 pub mod Refusals
 pub mod Ways
+pub mod Membership
+pub mod Owed
 -- inner
 pub mod Branches
 -- handed on from below

@@ -1,8 +1,11 @@
 //! What the element of a domain and the parent above it have in common: ways to other members, the messages
 //! that both write, what errors and notices of a peer say, and the branches of replies.
+//!
+//! And what a network asks of its members: the trait of the elements and their parent, as the deeds of a network see them.
 #![tactic(auto)]
 
 mod branches;
+mod members;
 mod messages;
 mod numbers;
 mod objects;
@@ -12,9 +15,8 @@ mod reported;
 mod ways;
 
 pub use branches::branch_of;
-pub use messages::{
-    busy, error_message, no_key, no_path, one, reply_message, request_message, unavailable,
-};
+pub use members::Members;
+pub use messages::{busy, error_message, no_key, no_path, one, reply_message, request_message, unavailable};
 pub use numbers::{after_id, has_number};
 pub use objects::{ends, needed, sequence_object};
 pub use peers::is_same_peer;

@@ -19,8 +19,8 @@ use Rattle.network_events.specs.plant_model.RealWire.{wire}
 use Rattle.network_events.specs.plant_model.Solving.{client_reply, closed_paths, closed_reply, commit, free, issued_all, job_found}
 use Rattle.network_events.specs.plant_model.Taking.{answered}
 use Rattle.network_events.specs.plant_model.Writing.{busy, reply_message}
-use Rattle.network_events.specs.member_trait.Membership.{Membership, with_element, with_parent}
-use Rattle.network_events.specs.member_trait.Owed.{count_by_asker, is_peer}
+use Rattle.network_events.specs.pce_common.Membership.{Membership, with_element, with_parent}
+use Rattle.network_events.specs.pce_common.Owed.{count_by_asker, is_peer}
 use Rattle.network_events.specs.Answering.{IsAnswer}
 use Rattle.network_events.proofs.AnswerLaws.{count_found, owed_above, owed_below, pending_above, pending_below}
 

@@ -17,8 +17,8 @@ use Rattle.network_events.specs.plant_model.State.{Access, State}
 use Rattle.network_events.specs.plant_model.Wire.{Bytes}
 use Rattle.network_events.specs.network_links.Flow.{Flow, IsBare}
 use Rattle.network_events.specs.plant_sessions.Links.{new_sender}
-use Rattle.network_events.specs.member_trait.Membership.{Membership}
-use Rattle.network_events.specs.member_trait.Owed.{count_by_asker, is_peer, owed, pending_at, pending_in}
+use Rattle.network_events.specs.pce_common.Membership.{Membership}
+use Rattle.network_events.specs.pce_common.Owed.{count_by_asker, is_peer, owed, pending_at, pending_in}
 use Rattle.network_events.specs.Passing.{IsOf}
 use Rattle.network_events.specs.Rooms.{IsRoomy}
 use Rattle.network_events.specs.Standing.{Here, state_of}

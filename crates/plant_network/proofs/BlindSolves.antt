@@ -19,7 +19,7 @@ use Rattle.network_events.specs.plant_model.Solving.{commit, job_found}
 use Rattle.network_events.specs.plant_model.State.{Deed, Solves, said, sent_by}
 use Rattle.network_events.specs.network_links.Carried.{Carried, flow_of}
 use Rattle.network_events.specs.network_links.Flow.{Flow}
-use Rattle.network_events.specs.member_trait.Membership.{Membership, Replied, Standing, is_member, with_element, with_parent}
+use Rattle.network_events.specs.pce_common.Membership.{Membership, Replied, Standing, is_member, with_element, with_parent}
 use Rattle.network_events.specs.Answering.{IsAnswer, Sends}
 use Rattle.network_events.specs.Giving.{OnlyGrows}
 use Rattle.network_events.specs.Standing.{here, state_of}

@@ -11,8 +11,8 @@ use Rattle.network_events.specs.plant_model.Plant.{Pin, Segment, Plant, Steps}
 use Rattle.network_events.specs.plant_model.RealWire.{wire}
 use Rattle.network_events.specs.network_links.Carried.{Carried, flow_of}
 use Rattle.network_events.specs.network_links.Flow.{Flow, ClearsSaid}
-use Rattle.network_events.specs.member_trait.Membership.{Membership}
-use Rattle.network_events.specs.member_trait.Owed.{pending_at}
+use Rattle.network_events.specs.pce_common.Membership.{Membership}
+use Rattle.network_events.specs.pce_common.Owed.{pending_at}
 use Rattle.plant_queues.specs.Messages.{Covers}
 use Rattle.network_events.specs.plant_sessions.declared.TheConstants.{ANSWER_LENGTH, OWN_LENGTH}
 use Rattle.plant_text.specs.Settings.{elements_of}

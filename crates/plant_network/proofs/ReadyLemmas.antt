@@ -20,8 +20,8 @@ use Rattle.network_events.specs.plant_model.Events.{has_jobs, is_ready, is_ready
 use Rattle.network_events.specs.plant_model.Parent as parent
 use Rattle.network_events.specs.plant_model.Plant.{Pin, Plant}
 use Rattle.network_events.specs.plant_model.State.{Connection}
-use Rattle.network_events.specs.member_trait.Membership.{is_member}
-use Rattle.network_events.specs.member_trait.Owed.{count_by_asker, is_peer}
+use Rattle.network_events.specs.pce_common.Membership.{is_member}
+use Rattle.network_events.specs.pce_common.Owed.{count_by_asker, is_peer}
 use Rattle.network_events.specs.network_links.Carried.{flow_of}
 use Rattle.network_events.specs.Rooms.{is_live, is_talking}
 use Rattle.network_events.proofs.LossEvents.{open_below}

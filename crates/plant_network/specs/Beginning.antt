@@ -5,7 +5,7 @@ use Rattle.pcep_subobjects.specs.declared.hop.Hop.{Hop}
 use Rattle.plant_text.specs.declared.settings.NetworkParts.{NetworkParts}
 use Rattle.network_events.specs.plant_model.Events.{bare, opening}
 use Rattle.network_events.specs.plant_model.RealWire.{wire}
-use Rattle.network_events.specs.member_trait.Membership.{Membership}
+use Rattle.network_events.specs.pce_common.Membership.{Membership}
 use Rattle.network_events.specs.Standing.{Here}
 use Rattle.network_events.specs.Moving.{IsSound, whole}
 use Rattle.network_events.specs.Whole.{Whole}

@@ -18,7 +18,7 @@ pub use Rattle.network_members.specs.pce_parent
 pub use Rattle.network_events.specs as network_events
 pub use Rattle.network_members.specs as network_members
 pub use Rattle.plant_laws.specs as plant_laws
-pub use Rattle.network_events.specs.member_trait
+pub use Rattle.network_events.specs.pce_common
 pub use Rattle.network_events.specs.plant_model
 pub use Rattle.network_events.specs.plant_sessions
 pub use Rattle.network_events.specs.network_links

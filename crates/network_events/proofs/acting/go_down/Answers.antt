@@ -1,12 +1,12 @@
 use Rattle.std.proofs.Common.{[], subst, sym}
 use Rattle.dom_base.specs.declared.names.Peer.{Peer}
 use Rattle.dom_base.specs.declared.names.Peer.TheVariants.{Outside}
-use Rattle.member_trait.specs.plant_model.RealWire.{wire}
-use Rattle.member_trait.specs.plant_model.Deeds as deeds
-use Rattle.member_trait.specs.plant_model.Deeds.{with_inbox}
+use Rattle.pce_common.specs.plant_model.RealWire.{wire}
+use Rattle.pce_common.specs.plant_model.Deeds as deeds
+use Rattle.pce_common.specs.plant_model.Deeds.{with_inbox}
 use Rattle.network_links.specs.Flow.{Flow}
 use Rattle.network_links.specs.Carried.{flow_of}
-use Rattle.member_trait.specs.Membership.{lost_at}
+use Rattle.pce_common.specs.Membership.{lost_at}
 use Rattle.network_events.specs.Peers.{down_at}
 use Rattle.network_events.specs.Standing.{Goes, here, here_of}
 use Rattle.network_events.specs.Telling.{RoomToTell}

@@ -1,6 +1,6 @@
 use Rattle.std.proofs.Common.{◌≡◌, ap, sym, subst, ◌∙◌}
 use Rattle.network_links.specs.Carried.{flow_of}
-use Rattle.member_trait.specs.Membership.{Standing}
+use Rattle.pce_common.specs.Membership.{Standing}
 use Rattle.network_events.specs.Answering.{Sends}
 use Rattle.network_events.specs.Moving.{IsKept}
 use Rattle.network_events.specs.Standing.{here}

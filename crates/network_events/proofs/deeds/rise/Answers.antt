@@ -1,8 +1,8 @@
 use Rattle.std.proofs.Common.{subst, sym}
-use Rattle.member_trait.specs.plant_model.RealWire.{wire}
-use Rattle.member_trait.specs.plant_model.Deeds as deeds
+use Rattle.pce_common.specs.plant_model.RealWire.{wire}
+use Rattle.pce_common.specs.plant_model.Deeds as deeds
 use Rattle.network_links.specs.Carried.{flow_of}
-use Rattle.member_trait.specs.Membership.{Standing}
+use Rattle.pce_common.specs.Membership.{Standing}
 use Rattle.network_events.specs.Standing.{Goes, here}
 use Rattle.network_events.proofs.GoLaws.{goes_rise}
 use Rattle.network_events.proofs.deeds.rise.Goals as goal

@@ -1,9 +1,9 @@
 use Rattle.std.proofs.Common.{length, sym, ap, subst, ◌∙◌, ℕ, List}
 use Rattle.plant_queues.specs.Messages.{Covers}
-use Rattle.member_trait.specs.plant_model.declared.output.Lost.{Lost}
+use Rattle.pce_common.specs.plant_model.declared.output.Lost.{Lost}
 use Rattle.network_links.specs.Flow.{Puts, room_at}
 use Rattle.network_links.specs.Carried.{flow_of}
-use Rattle.member_trait.specs.Membership.{Standing}
+use Rattle.pce_common.specs.Membership.{Standing}
 use Rattle.network_events.specs.Standing.{here}
 use Rattle.network_events.specs.Telling.{RoomToTell}
 use Rattle.network_events.proofs.TellLaws.{room_first, tells_start, tells_more}

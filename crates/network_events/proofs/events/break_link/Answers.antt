@@ -1,9 +1,9 @@
 use Rattle.std.proofs.Common.{◌∙◌, false, ap, sym}
 use Rattle.plant_text.specs.Settings.{has_adjacency, adjacency, adjacencies}
-use Rattle.member_trait.specs.plant_model.declared.outcome.Outcome.TheVariants.{Done}
-use Rattle.member_trait.specs.plant_model.declared.outcome.Refused.TheVariants.{NoSuchPeer}
-use Rattle.member_trait.specs.plant_model.Events as events
-use Rattle.member_trait.specs.plant_model.RealWire.{wire}
+use Rattle.pce_common.specs.plant_model.declared.outcome.Outcome.TheVariants.{Done}
+use Rattle.pce_common.specs.plant_model.declared.outcome.Refused.TheVariants.{NoSuchPeer}
+use Rattle.pce_common.specs.plant_model.Events as events
+use Rattle.pce_common.specs.plant_model.RealWire.{wire}
 use Rattle.network_links.specs.Carried.{flow_of}
 use Rattle.network_links.specs.Flow.{Flow}
 use Rattle.network_events.specs.Standing.{here}

@@ -1,6 +1,6 @@
 use Rattle.std.proofs.Common.{ap}
 use Rattle.network_links.specs.Carried.{flow_of}
-use Rattle.member_trait.specs.Membership.{Standing}
+use Rattle.pce_common.specs.Membership.{Standing}
 use Rattle.network_events.proofs.EventLaws.{goes_expire}
 use Rattle.network_events.proofs.events.expire.Goals as goal
 

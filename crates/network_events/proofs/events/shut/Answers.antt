@@ -1,13 +1,13 @@
 use Rattle.std.proofs.Common.{◌≡◌, ◌<◌, ◌∙◌, true, false, sym, ap, subst, length, arith}
 use Rattle.dom_base.specs.declared.names.As.{As}
 use Rattle.dom_base.specs.declared.names.Peer.TheVariants.{Outside}
-use Rattle.member_trait.specs.plant_model.declared.outcome.Outcome.TheVariants.{Done}
-use Rattle.member_trait.specs.plant_model.declared.outcome.Refused.TheVariants.{NoSuchPeer}
-use Rattle.member_trait.specs.plant_model.Events as events
-use Rattle.member_trait.specs.plant_model.RealWire.{wire}
+use Rattle.pce_common.specs.plant_model.declared.outcome.Outcome.TheVariants.{Done}
+use Rattle.pce_common.specs.plant_model.declared.outcome.Refused.TheVariants.{NoSuchPeer}
+use Rattle.pce_common.specs.plant_model.Events as events
+use Rattle.pce_common.specs.plant_model.RealWire.{wire}
 use Rattle.network_links.specs.Carried.{flow_of}
 use Rattle.network_links.specs.Flow.{Flow}
-use Rattle.member_trait.specs.Membership.{is_member, lost_at}
+use Rattle.pce_common.specs.Membership.{is_member, lost_at}
 use Rattle.network_events.specs.Standing.{here}
 use Rattle.network_events.proofs.EventLaws.{shut_done, shut_none}
 use Rattle.network_events.proofs.LossEvents.{open_below, room_to_shut, shut_roomy}

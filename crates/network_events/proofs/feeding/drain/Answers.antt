@@ -1,10 +1,10 @@
 use Rattle.std.proofs.Common.{ap, subst, true, refl}
 use Rattle.std.specs.Prelude.{Result}
 use Rattle.std.proofs.lemmas.Result.{err_from_is_err_and}
-use Rattle.member_trait.specs.plant_model.declared.outcome.Outcome.TheVariants.{Drained}
-use Rattle.member_trait.specs.plant_model.declared.outcome.Refused.{Refused}
-use Rattle.member_trait.specs.plant_model.Events as events
-use Rattle.member_trait.specs.plant_model.RealWire.{wire}
+use Rattle.pce_common.specs.plant_model.declared.outcome.Outcome.TheVariants.{Drained}
+use Rattle.pce_common.specs.plant_model.declared.outcome.Refused.{Refused}
+use Rattle.pce_common.specs.plant_model.Events as events
+use Rattle.pce_common.specs.plant_model.RealWire.{wire}
 use Rattle.network_links.specs.declared.peers.Drained.{Drained as Handed}
 use Rattle.network_links.specs.Carried.{flow_of}
 use Rattle.network_links.specs.Flow.{Flow}

@@ -1,11 +1,11 @@
 use Rattle.std.proofs.Common.{ap, subst}
 use Rattle.std.specs.Prelude.{Result}
 use Rattle.std.proofs.lemmas.Result.{err_from_is_err_and}
-use Rattle.member_trait.specs.plant_model.declared.outcome.Outcome.TheVariants.{Done}
-use Rattle.member_trait.specs.plant_model.declared.outcome.Refused.{Refused}
-use Rattle.member_trait.specs.plant_model.Events as events
-use Rattle.member_trait.specs.plant_model.RealWire.{wire}
-use Rattle.member_trait.specs.plant_model.Wire.{Bytes}
+use Rattle.pce_common.specs.plant_model.declared.outcome.Outcome.TheVariants.{Done}
+use Rattle.pce_common.specs.plant_model.declared.outcome.Refused.{Refused}
+use Rattle.pce_common.specs.plant_model.Events as events
+use Rattle.pce_common.specs.plant_model.RealWire.{wire}
+use Rattle.pce_common.specs.plant_model.Wire.{Bytes}
 use Rattle.network_links.specs.Carried.{flow_of}
 use Rattle.network_links.specs.Flow.{Flow}
 use Rattle.network_links.specs.Happenings.{FeedsIn}

@@ -1,6 +1,6 @@
 use Rattle.std.proofs.Common.{ap}
 use Rattle.network_links.specs.Carried.{flow_of}
-use Rattle.member_trait.specs.Membership.{Standing}
+use Rattle.pce_common.specs.Membership.{Standing}
 use Rattle.network_events.proofs.GiveLaws.{goes_give}
 use Rattle.network_events.proofs.giving.perform.Goals as goal
 

@@ -1,6 +1,6 @@
 use Rattle.std.proofs.Common.{◌≡◌, ◌++◌, drop}
-use Rattle.member_trait.specs.plant_model.RealWire.{wire}
-use Rattle.member_trait.specs.plant_model.State.{sent_by}
+use Rattle.pce_common.specs.plant_model.RealWire.{wire}
+use Rattle.pce_common.specs.plant_model.State.{sent_by}
 use Rattle.network_events.proofs.giving.write_all.Given as goal
 
 abbrev pub invariant-loop-output : goal.invariant-loop-output

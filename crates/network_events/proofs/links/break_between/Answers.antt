@@ -3,10 +3,10 @@ use Rattle.dom_base.specs.declared.names.As.{As}
 use Rattle.dom_base.specs.declared.names.Peer.TheVariants.{Inner}
 use Rattle.plant_text.specs.Names.{same_as}
 use Rattle.plant_text.specs.Settings.{Adjacency}
-use Rattle.member_trait.specs.plant_model.RealWire.{wire}
-use Rattle.member_trait.specs.plant_model.Deeds as deeds
+use Rattle.pce_common.specs.plant_model.RealWire.{wire}
+use Rattle.pce_common.specs.plant_model.Deeds as deeds
 use Rattle.network_links.specs.Carried.{flow_of}
-use Rattle.member_trait.specs.Membership.{fallen, is_member, lost_at}
+use Rattle.pce_common.specs.Membership.{fallen, is_member, lost_at}
 use Rattle.network_events.specs.Breaking.{RoomToBreak}
 use Rattle.network_events.specs.Standing.{Goes, here}
 use Rattle.network_events.proofs.RoomyNeeds.{apart_back, adjacency_either, adjacency_is}

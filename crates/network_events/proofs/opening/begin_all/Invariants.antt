@@ -1,6 +1,6 @@
 use Rattle.std.proofs.Common.{take}
-use Rattle.member_trait.specs.plant_model.RealWire.{wire}
-use Rattle.member_trait.specs.plant_model.Events as events
+use Rattle.pce_common.specs.plant_model.RealWire.{wire}
+use Rattle.pce_common.specs.plant_model.Events as events
 use Rattle.network_links.specs.Carried.{flow_of}
 use Rattle.network_events.specs.Standing.{Goes, here}
 use Rattle.network_events.proofs.opening.begin_all.Given as goal

@@ -1,5 +1,5 @@
-use Rattle.member_trait.specs.plant_model.RealWire.{wire}
-use Rattle.member_trait.specs.plant_model.Deeds as deeds
+use Rattle.pce_common.specs.plant_model.RealWire.{wire}
+use Rattle.pce_common.specs.plant_model.Deeds as deeds
 use Rattle.network_links.specs.Carried.{flow_of}
 use Rattle.network_events.specs.Standing.{here}
 use Rattle.network_events.proofs.GoLaws.{goes_then}

@@ -1,8 +1,8 @@
 use Rattle.std.proofs.Common.{◌≡◌, ◌∙◌, [], ap, refl}
 use Rattle.dom_base.specs.declared.names.Peer.TheVariants.{Inner}
 use Rattle.plant_text.specs.Settings.{has_adjacency, adjacencies}
-use Rattle.member_trait.specs.plant_model.State.{State}
-use Rattle.member_trait.specs.plant_model.Deeds.{Going}
+use Rattle.pce_common.specs.plant_model.State.{State}
+use Rattle.pce_common.specs.plant_model.Deeds.{Going}
 use Rattle.network_links.specs.Carried.{flow_of}
 use Rattle.network_links.specs.Flow.{Flow}
 use Rattle.network_events.specs.Standing.{state_of}

@@ -1,7 +1,7 @@
 use Rattle.std.proofs.Common.{◌∙◌, true, sym}
 use Rattle.pcep_session.specs.Listed.{listed}
 use Rattle.network_links.specs.Carried.{flow_of}
-use Rattle.member_trait.specs.plant_model.declared.outcome.Refused.TheVariants.{NoSuchPeer, NothingToCarry}
+use Rattle.pce_common.specs.plant_model.declared.outcome.Refused.TheVariants.{NoSuchPeer, NothingToCarry}
 use Rattle.network_events.specs.Peers.{receive_at}
 use Rattle.network_events.specs.Standing.{here}
 use Rattle.network_events.proofs.ReceivingLaws.{placed_end, receive_none, receive_nothing, steps_at}

@@ -3,8 +3,8 @@ use Rattle.std.proofs.lemmas.Result.{err_from_is_err_and}
 use Rattle.pcep_session.specs.declared.actions.Action.TheVariants.{Pass}
 use Rattle.network_links.specs.Carried.{flow_of}
 use Rattle.network_links.specs.Flow.{Flow, set_session_at}
-use Rattle.member_trait.specs.Membership.{Standing}
-use Rattle.member_trait.specs.Owed.{asked_in}
+use Rattle.pce_common.specs.Membership.{Standing}
+use Rattle.pce_common.specs.Owed.{asked_in}
 use Rattle.network_events.specs.Giving.{PutsAll, RoomToPut}
 use Rattle.network_events.specs.Rooms.{IsRoomy}
 use Rattle.network_events.specs.Peers.{receive_at}

@@ -4,11 +4,11 @@ use Rattle.dom_base.specs.declared.names.Tick.{Tick}
 use Rattle.plant_text.specs.declared.settings.NetworkParts.{NetworkParts}
 use Rattle.plant_text.specs.Names.{same_as}
 use Rattle.plant_text.specs.Settings.{has_adjacency, adjacencies}
-use Rattle.member_trait.specs.plant_model.declared.outcome.Outcome.TheVariants.{Done}
-use Rattle.member_trait.specs.plant_model.Events as events
-use Rattle.member_trait.specs.plant_model.RealWire.{wire}
+use Rattle.pce_common.specs.plant_model.declared.outcome.Outcome.TheVariants.{Done}
+use Rattle.pce_common.specs.plant_model.Events as events
+use Rattle.pce_common.specs.plant_model.RealWire.{wire}
 use Rattle.network_links.specs.Carried.{flow_of}
-use Rattle.member_trait.specs.Membership.{AreJoined, KeysBefore}
+use Rattle.pce_common.specs.Membership.{AreJoined, KeysBefore}
 use Rattle.network_events.specs.Rooms.{own_most}
 use Rattle.network_events.specs.Standing.{here}
 use Rattle.network_events.proofs.SoundLemmas.{keys_before}

@@ -4,10 +4,10 @@ use Rattle.std.proofs.lemmas.List.{take_all}
 use Rattle.plant_text.specs.declared.settings.NetworkParts.{NetworkParts}
 use Rattle.plant_text.specs.Settings.{Adjacency, has_adjacency, adjacencies}
 use Rattle.network_links.specs.settings_layout.Adjacencies.{adjacency_of}
-use Rattle.member_trait.specs.plant_model.RealWire.{wire}
-use Rattle.member_trait.specs.plant_model.Deeds as deeds
+use Rattle.pce_common.specs.plant_model.RealWire.{wire}
+use Rattle.pce_common.specs.plant_model.Deeds as deeds
 use Rattle.network_links.specs.Carried.{flow_of}
-use Rattle.member_trait.specs.Membership.{is_member}
+use Rattle.pce_common.specs.Membership.{is_member}
 use Rattle.network_events.specs.Standing.{here}
 use Rattle.network_events.proofs.RoomyNeeds.{adjacency_back}
 use Rattle.network_events.proofs.TickingLaws.{Until, adjacency_here, adjacency_linked, adjacency_rises, adjacencies_more, under_way, uses_by}

@@ -4,10 +4,10 @@ use Rattle.plant_text.specs.declared.settings.NetworkParts.{NetworkParts}
 use Rattle.plant_text.specs.Settings.{Adjacency}
 use Rattle.network_links.specs.settings_layout.Adjacencies.{adjacency_of}
 use Rattle.pcep_session.specs.declared.session.Input.TheVariants as inputs
-use Rattle.member_trait.specs.plant_model.RealWire.{wire}
-use Rattle.member_trait.specs.plant_model.Deeds as deeds
+use Rattle.pce_common.specs.plant_model.RealWire.{wire}
+use Rattle.pce_common.specs.plant_model.Deeds as deeds
 use Rattle.network_links.specs.Carried.{flow_of}
-use Rattle.member_trait.specs.Membership.{is_member}
+use Rattle.pce_common.specs.Membership.{is_member}
 use Rattle.network_events.specs.Passing.{IsOf}
 use Rattle.network_events.specs.Peers.{IsLinkEnd}
 use Rattle.network_events.specs.Standing.{here}

@@ -3,9 +3,9 @@ use Rattle.dom_base.specs.declared.names.As.{As}
 use Rattle.dom_base.specs.declared.names.Peer.TheVariants.{Outside}
 use Rattle.pcep_session.specs.declared.session.Input.TheVariants as inputs
 use Rattle.plant_text.specs.declared.settings.NetworkParts.{NetworkParts}
-use Rattle.member_trait.specs.plant_model.Deeds.{element_of}
+use Rattle.pce_common.specs.plant_model.Deeds.{element_of}
 use Rattle.network_links.specs.Carried.{flow_of}
-use Rattle.member_trait.specs.Membership.{is_member}
+use Rattle.pce_common.specs.Membership.{is_member}
 use Rattle.network_events.specs.Standing.{here}
 use Rattle.network_events.proofs.RoomyInputs.{fits_input, tick_own}
 use Rattle.network_events.proofs.TickLaws.{peers_to}

@@ -1,5 +1,5 @@
 use Rattle.std.proofs.Common.{◌≤◌, length}
-use Rattle.member_trait.specs.plant_model.Parent.{ready_numbers}
+use Rattle.pce_common.specs.plant_model.Parent.{ready_numbers}
 use Rattle.network_members.proofs.hierarchy.count_above.Given as goal
 
 abbrev pub invariant-loop-count : goal.invariant-loop-count

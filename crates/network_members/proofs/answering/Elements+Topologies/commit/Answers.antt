@@ -7,7 +7,7 @@ use Rattle.network_members.specs.Answering.{IsBack}
 use Rattle.network_members.specs.Becoming.{Becomes, unchanged}
 use Rattle.network_members.proofs.DomainLemmas.{first_within}
 use Rattle.network_members.proofs.BecomingLemmas.{becomes, owns_become, at_then, there_of, of_there, ok_more, err_more}
-use Rattle.member_trait.specs.plant_model.Plant.{Pin, Segment, first_pin}
+use Rattle.pce_common.specs.plant_model.Plant.{Pin, Segment, first_pin}
 use Rattle.network_members.proofs.answering.Elements+Topologies.commit.Goals as goal
 
 pub commit_at-requires-clause-within : goal.commit_at-requires-clause-within

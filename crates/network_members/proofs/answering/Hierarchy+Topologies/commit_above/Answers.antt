@@ -1,6 +1,6 @@
 use Rattle.std.proofs.Common.{◌≡◌, true, Ok, Err, sym, subst}
 use Rattle.std.specs.Prelude.{IfSome}
-use Rattle.member_trait.specs.plant_model.Events.{has_jobs}
+use Rattle.pce_common.specs.plant_model.Events.{has_jobs}
 use Rattle.pce_parent.specs.Solution.{BorderSolution}
 use Rattle.pce_parent.specs.declared.work.Done.TheVariants as done
 use Rattle.pce_element.specs.pce_common.declared.refusal.Refusal.{Refusal}
@@ -9,7 +9,7 @@ use Rattle.network_members.specs.Tiers.{Tiers}
 use Rattle.network_members.specs.TierFields.{tiers_of}
 use Rattle.network_members.specs.declared.plan.MemberPlan.TheVariants as plan
 use Rattle.network_members.proofs.AnswerLemmas.{answered_at_parent, refused_above}
-use Rattle.member_trait.specs.plant_model.Plant.{Pin, Segment}
+use Rattle.pce_common.specs.plant_model.Plant.{Pin, Segment}
 use Rattle.network_members.proofs.answering.Hierarchy+Topologies.commit_above.Goals as goal
 
 pub returns-in-Ok : goal.returns-in-Ok

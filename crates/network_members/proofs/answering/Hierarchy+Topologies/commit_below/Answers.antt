@@ -15,7 +15,7 @@ use Rattle.network_members.proofs.AnswerLemmas.{answered_below, refused_below}
 use Rattle.network_members.proofs.TierLemmas.{set_below}
 use Rattle.network_members.proofs.StepLemmas as step
 use Rattle.disclosure.specs.Shown.{open_of}
-use Rattle.member_trait.specs.plant_model.Plant.{Pin, Segment, first_pin}
+use Rattle.pce_common.specs.plant_model.Plant.{Pin, Segment, first_pin}
 use Rattle.network_members.proofs.answering.Hierarchy+Topologies.commit_below.Goals as goal
 
 pub commit-requires-clause-there : goal.commit-requires-clause-there

@@ -1,6 +1,6 @@
 use Rattle.std.proofs.Common.{◌≡◌, ◌∙◌, ◌≤◌, Option, Some, None, List, map, get_or, sym, ap, subst}
 use Rattle.std.specs.Prelude.{IfSome, MatchOption}
-use Rattle.member_trait.specs.plant_model.Blind.{Nothing}
+use Rattle.pce_common.specs.plant_model.Blind.{Nothing}
 use Rattle.pce_element.specs.Blind.{HasNoJob, IsSolvedBy}
 use Rattle.pce_element.specs.Seen.{Seen}
 use Rattle.network_members.specs.Becoming.{Becomes, unchanged}

@@ -1,9 +1,9 @@
 use Rattle.std.proofs.Common.{◌≡◌, true, Result, Ok, Err, sym, subst}
 use Rattle.std.specs.Prelude.{IfErr}
 use Rattle.std.proofs.lemmas.Result.{err_from_is_err_and}
-use Rattle.member_trait.specs.plant_model.declared.outcome.Refused.{Refused}
-use Rattle.member_trait.specs.plant_model.Blind.{Nothing}
-use Rattle.member_trait.specs.plant_model.Events.{has_jobs}
+use Rattle.pce_common.specs.plant_model.declared.outcome.Refused.{Refused}
+use Rattle.pce_common.specs.plant_model.Blind.{Nothing}
+use Rattle.pce_common.specs.plant_model.Events.{has_jobs}
 use Rattle.pce_parent.specs.Seen.{job_at}
 use Rattle.pce_parent.specs.Solution.{BorderSolution}
 use Rattle.network_members.specs.Blind.{IsUnsolved, Solves}

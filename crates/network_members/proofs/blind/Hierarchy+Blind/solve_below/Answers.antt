@@ -1,7 +1,7 @@
 use Rattle.std.proofs.Common.{◌≡◌, true, sym, subst}
 use Rattle.plant_text.specs.Settings.{is_element}
-use Rattle.member_trait.specs.plant_model.Blind.{Nothing, show_nothing}
-use Rattle.member_trait.specs.Membership.{KeysBefore}
+use Rattle.pce_common.specs.plant_model.Blind.{Nothing, show_nothing}
+use Rattle.pce_common.specs.Membership.{KeysBefore}
 use Rattle.network_members.specs.Becoming.{unchanged}
 use Rattle.network_members.specs.Blind.{nothing_first, told_below}
 use Rattle.network_members.specs.Tiers.{Tiers, members_of}

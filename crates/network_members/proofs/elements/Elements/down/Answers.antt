@@ -1,5 +1,5 @@
 use Rattle.std.proofs.Common.{◌∙◌, List, map, sym, subst}
-use Rattle.member_trait.specs.plant_model.Element.{down_of}
+use Rattle.pce_common.specs.plant_model.Element.{down_of}
 use Rattle.pce_element.specs.Seen.{Seen}
 use Rattle.network_members.specs.Elements.{own_of, IsFirstAt}
 use Rattle.network_members.specs.Becoming.{Becomes}

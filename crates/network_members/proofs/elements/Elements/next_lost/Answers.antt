@@ -1,6 +1,6 @@
 use Rattle.std.proofs.Common.{◌≡◌, ◌∙◌, List, map, sym, subst}
 use Rattle.std.specs.Prelude.{IfSome}
-use Rattle.member_trait.specs.plant_model.Element.{next_lost_of}
+use Rattle.pce_common.specs.plant_model.Element.{next_lost_of}
 use Rattle.pce_element.specs.Seen.{Seen}
 use Rattle.network_members.specs.Elements.{at_domain, own_of, IsFirstAt}
 use Rattle.network_members.specs.Becoming.{Becomes}

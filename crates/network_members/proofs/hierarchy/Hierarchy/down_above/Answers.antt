@@ -1,7 +1,7 @@
 use Rattle.std.proofs.Common.{◌∙◌, ap, subst}
-use Rattle.member_trait.specs.plant_model.Names.{set_as}
-use Rattle.member_trait.specs.plant_model.Parent.{down_of}
-use Rattle.member_trait.specs.Membership.{fallen, lost_at}
+use Rattle.pce_common.specs.plant_model.Names.{set_as}
+use Rattle.pce_common.specs.plant_model.Parent.{down_of}
+use Rattle.pce_common.specs.Membership.{fallen, lost_at}
 use Rattle.network_members.specs.Tiers.{Tiers, Become, members_of, lost_in}
 use Rattle.network_members.specs.TierFields.{tiers_of}
 use Rattle.network_members.proofs.TierLemmas.{set_above}

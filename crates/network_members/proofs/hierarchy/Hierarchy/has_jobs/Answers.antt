@@ -1,6 +1,6 @@
 use Rattle.std.proofs.Common.{◌∙◌, Bool, cond, is_some, sym, ap}
 use Rattle.plant_text.specs.Settings.{is_element}
-use Rattle.member_trait.specs.plant_model.Events.{has_jobs}
+use Rattle.pce_common.specs.plant_model.Events.{has_jobs}
 use Rattle.network_members.specs.Tiers.{Tiers}
 use Rattle.network_members.specs.TierFields.{tiers_of}
 use Rattle.network_members.proofs.RisingDomains.{element_is}

@@ -1,5 +1,5 @@
 use Rattle.std.proofs.Common.{subst}
-use Rattle.member_trait.specs.Membership.{with_element}
+use Rattle.pce_common.specs.Membership.{with_element}
 use Rattle.network_members.specs.Tiers.{Tiers, Become, members_of, lost_in}
 use Rattle.network_members.specs.TierFields.{tiers_of}
 use Rattle.network_members.proofs.TierLemmas.{set_below}

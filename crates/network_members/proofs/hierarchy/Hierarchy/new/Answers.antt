@@ -1,7 +1,7 @@
 use Rattle.std.proofs.Common.{◌<◌, ◌^◌, All, length, sym, subst}
 use Rattle.plant_text.specs.declared.settings.NetworkParts.{NetworkParts}
 use Rattle.plant_text.specs.Settings.{elements_of}
-use Rattle.member_trait.specs.plant_model.Settings.{family}
+use Rattle.pce_common.specs.plant_model.Settings.{family}
 use Rattle.pce_parent.specs.Seen.{IsNew}
 use Rattle.pce_parent.specs.Solution.{IsWeighed}
 use Rattle.network_members.specs.Fresh.{AreNew, LivesFit, parent_id}

@@ -1,6 +1,6 @@
 use Rattle.std.proofs.Common.{subst}
-use Rattle.member_trait.specs.plant_model.Parent.{next_lost_of}
-use Rattle.member_trait.specs.Membership.{HandsOut}
+use Rattle.pce_common.specs.plant_model.Parent.{next_lost_of}
+use Rattle.pce_common.specs.Membership.{HandsOut}
 use Rattle.network_members.specs.Tiers.{Tiers, Become, members_of, lost_in}
 use Rattle.network_members.specs.TierFields.{tiers_of}
 use Rattle.network_members.proofs.TierLemmas.{set_above}

@@ -1,6 +1,6 @@
 use Rattle.std.proofs.Common.{◌≡◌, true, sym, subst}
 use Rattle.plant_text.specs.Settings.{is_element}
-use Rattle.member_trait.specs.Membership.{HandsOut}
+use Rattle.pce_common.specs.Membership.{HandsOut}
 use Rattle.network_members.specs.Tiers.{Tiers, Become, members_of, lost_in}
 use Rattle.network_members.specs.TierFields.{tiers_of}
 use Rattle.network_members.proofs.TierLemmas.{set_below}

@@ -2,9 +2,9 @@ use Rattle.std.proofs.Common.{◌≡◌, ◌∙◌, ◌-◌, ℕ, List, sym, ap,
 use Rattle.std.specs.Prelude.{slice_get}
 use Rattle.dom_base.specs.declared.names.As.{As}
 use Rattle.plant_text.specs.Names.{parent_as}
-use Rattle.member_trait.specs.plant_model.Events.{ready_jobs}
-use Rattle.member_trait.specs.plant_model.Parent.{ready_numbers}
-use Rattle.member_trait.specs.plant_model.State.{State}
+use Rattle.pce_common.specs.plant_model.Events.{ready_jobs}
+use Rattle.pce_common.specs.plant_model.Parent.{ready_numbers}
+use Rattle.pce_common.specs.plant_model.State.{State}
 use Rattle.network_members.specs.Ready.{jobs_in}
 use Rattle.network_members.specs.Tiers.{Tiers, members_of}
 use Rattle.network_members.specs.TierFields.{tiers_of}

@@ -1,6 +1,6 @@
 use Rattle.std.proofs.Common.{subst}
-use Rattle.member_trait.specs.plant_model.Parent.{upped}
-use Rattle.member_trait.specs.Membership.{raised}
+use Rattle.pce_common.specs.plant_model.Parent.{upped}
+use Rattle.pce_common.specs.Membership.{raised}
 use Rattle.network_members.specs.Tiers.{Tiers, Become, members_of, lost_in}
 use Rattle.network_members.specs.TierFields.{tiers_of}
 use Rattle.network_members.proofs.TierLemmas.{set_above}

@@ -1,12 +1,12 @@
 use Rattle.std.proofs.Common.{◌≡◌, ◌∙◌, ℕ, List, Option, None, Result, Err, map, refl, sym, ap, subst}
 use Rattle.dom_base.specs.declared.names.As.{As}
-use Rattle.member_trait.specs.plant_model.declared.outcome.Refused.{Refused}
-use Rattle.member_trait.specs.plant_model.declared.outcome.Refused.TheVariants.{NoSuchPeer}
+use Rattle.pce_common.specs.plant_model.declared.outcome.Refused.{Refused}
+use Rattle.pce_common.specs.plant_model.declared.outcome.Refused.TheVariants.{NoSuchPeer}
 use Rattle.pce_element.specs.Seen.{Seen}
 use Rattle.network_members.specs.Elements.{at_domain, own_of, no_one, told, IsFirstAt, IsNowhere, LoadsAt}
 use Rattle.network_members.proofs.DomainLemmas.{first_within, first_own, at_nowhere}
 use Rattle.network_members.proofs.PlaceLoads.{loads_at, owns_kept}
-use Rattle.member_trait.specs.plant_model.Plant.{Pin, Segment, first_pin}
+use Rattle.pce_common.specs.plant_model.Plant.{Pin, Segment, first_pin}
 use Rattle.network_members.proofs.loading.Elements+Topologies.load.Goals as goal
 
 pub returns-in_default : goal.returns-in_default

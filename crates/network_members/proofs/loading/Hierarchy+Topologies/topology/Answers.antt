@@ -7,7 +7,7 @@ use Rattle.network_members.specs.Current.{IsCurrent}
 use Rattle.network_members.specs.TierFields.{tiers_of}
 use Rattle.network_members.specs.Tiers.{Tiers, members_of}
 use Rattle.network_members.proofs.CurrentLemmas.{current_is}
-use Rattle.member_trait.specs.plant_model.Plant.{Pin, Segment, first_pin}
+use Rattle.pce_common.specs.plant_model.Plant.{Pin, Segment, first_pin}
 use Rattle.network_members.proofs.loading.Hierarchy+Topologies.topology.Goals as goal
 
 if_ok : {T E : Type 0} {P Q : T → Type 0} (r : Result T E) → ((x : T) → P x → Q x) → IfOk r P → IfOk r Q

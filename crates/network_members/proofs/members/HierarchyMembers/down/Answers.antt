@@ -1,5 +1,5 @@
-use Rattle.member_trait.specs.plant_model.Names.{set_as}
-use Rattle.member_trait.specs.Membership.{fallen, lost_at}
+use Rattle.pce_common.specs.plant_model.Names.{set_as}
+use Rattle.pce_common.specs.Membership.{fallen, lost_at}
 use Rattle.network_members.specs.Tiers.{lost_in, members_of}
 use Rattle.network_members.proofs.StepLemmas.{stands_as}
 use Rattle.network_members.proofs.members.HierarchyMembers.down.Goals as goal

@@ -1,8 +1,8 @@
 use Rattle.std.proofs.Common.{◌≡◌, ◌∙◌, ap, subst}
 use Rattle.std.specs.Prelude.{IfOk}
 use Rattle.pcep_messages.specs.declared.message.Message.{Message}
-use Rattle.member_trait.specs.plant_model.RealWire.{wire}
-use Rattle.member_trait.specs.Membership.{heard}
+use Rattle.pce_common.specs.plant_model.RealWire.{wire}
+use Rattle.pce_common.specs.Membership.{heard}
 use Rattle.network_members.specs.Tiers.{Tiers, members_of}
 use Rattle.network_members.specs.TierFields.{tiers_of}
 use Rattle.network_members.proofs.HeedLemmas.{heard_below}

@@ -1,5 +1,5 @@
 use Rattle.std.proofs.Common.{◌∙◌, ap, sym}
-use Rattle.member_trait.specs.Membership.{with_element, with_parent}
+use Rattle.pce_common.specs.Membership.{with_element, with_parent}
 use Rattle.network_members.specs.Tiers.{lost_in, members_of, next_by, standing_of}
 use Rattle.network_members.proofs.StepLemmas.{stands_as}
 use Rattle.network_members.proofs.members.HierarchyMembers.make.Goals as goal

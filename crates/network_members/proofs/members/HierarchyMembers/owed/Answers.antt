@@ -1,6 +1,6 @@
 use Rattle.std.proofs.Common.{◌≡◌, ◌∙◌, true, sym, ap, subst}
-use Rattle.member_trait.specs.Membership.{is_member}
-use Rattle.member_trait.specs.Owed.{owed}
+use Rattle.pce_common.specs.Membership.{is_member}
+use Rattle.pce_common.specs.Owed.{owed}
 use Rattle.network_members.specs.Tiers.{Tiers, members_of}
 use Rattle.network_members.specs.TierFields.{tiers_of}
 use Rattle.network_members.proofs.StepLemmas.{has_element, member_below, owed_below}

@@ -1,6 +1,6 @@
 use Rattle.std.proofs.Common.{◌≡◌, ◌∙◌, ◌+◌, ℕ, length, map, arith, sym, ap}
 use Rattle.plant_text.specs.Settings.{elements_of}
-use Rattle.member_trait.specs.Owed.{pending_in}
+use Rattle.pce_common.specs.Owed.{pending_in}
 use Rattle.network_members.specs.Elements.{own_of}
 use Rattle.network_members.specs.Tiers.{Tiers, members_of}
 use Rattle.network_members.specs.TierFields.{tiers_of}

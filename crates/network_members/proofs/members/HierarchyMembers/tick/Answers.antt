@@ -1,5 +1,5 @@
 use Rattle.std.proofs.Common.{◌∙◌, sym, ap, subst}
-use Rattle.member_trait.specs.Membership.{KeysBefore, expired}
+use Rattle.pce_common.specs.Membership.{KeysBefore, expired}
 use Rattle.network_members.specs.Tiers.{Tiers, members_of, lost_in, standing_of}
 use Rattle.network_members.specs.TierFields.{tiers_of}
 use Rattle.network_members.proofs.StepLemmas.{stands_as}

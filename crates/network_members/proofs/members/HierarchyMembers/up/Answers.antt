@@ -1,4 +1,4 @@
-use Rattle.member_trait.specs.Membership.{raised}
+use Rattle.pce_common.specs.Membership.{raised}
 use Rattle.network_members.specs.Tiers.{lost_in, members_of}
 use Rattle.network_members.proofs.StepLemmas.{stands_as}
 use Rattle.network_members.proofs.members.HierarchyMembers.up.Goals as goal

@@ -5,7 +5,7 @@ use Rattle.plant_text.specs.declared.settings.NetworkParts.{NetworkParts}
 use Rattle.plant_text.specs.Networks.{ObeysRules}
 use Rattle.network_events.specs.plant_model.Events.{opening}
 use Rattle.network_events.specs.plant_model.RealWire.{wire}
-use Rattle.network_events.specs.member_trait.Membership.{Membership}
+use Rattle.network_events.specs.pce_common.Membership.{Membership}
 use Rattle.network_members.specs.Fresh.{begun}
 use Rattle.network_members.specs.Tiers.{members_of}
 use Rattle.plant_network.specs.Beginning.{AreBare}

@@ -7,8 +7,8 @@ ghost use Rattle.plant_model.specs.declared.output.Output.{Output};
 ghost use Rattle.plant_model.specs.Names.{set_as};
 ghost use Rattle.plant_model.specs.RealWire.{wire};
 ghost use Rattle.plant_model.specs.Deeds as deeds;
-ghost use Rattle.member_trait.specs.Membership.{Membership, is_member, given, heard, raised, fallen, lost_at, expired, KeysBefore, HandsOut, Standing};
-ghost use Rattle.member_trait.specs.Owed.{owed, pending_in};
+ghost use Rattle.pce_common.specs.Membership.{Membership, is_member, given, heard, raised, fallen, lost_at, expired, KeysBefore, HandsOut, Standing};
+ghost use Rattle.pce_common.specs.Owed.{owed, pending_in};
 
 use dom_base::{As, NoMemory, Peer, Tick};
 use pcep_messages::Message;

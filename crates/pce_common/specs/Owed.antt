@@ -7,7 +7,7 @@ use Rattle.pcep_messages.specs.declared.message.Message.TheVariants as messages
 use Rattle.request_table.specs.declared.held.Held.{Held}
 use Rattle.request_table.specs.Pending.{same_peer}
 use Rattle.plant_text.specs.Names.{same_as, parent_as}
-use Rattle.member_trait.specs.Membership.{Membership}
+use Rattle.pce_common.specs.Membership.{Membership}
 
 -- the requests of those askers that pass a test
 abbrev pub count_by_asker : {T : Type 0} → (Peer → Bool) → List (ℕ × Held T) → ℕ

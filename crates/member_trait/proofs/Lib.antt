@@ -1,2 +1,0 @@
--- handed on from below
-pub use Rattle.plant_model.proofs as plant_model
