@@ -19,7 +19,7 @@ use Rattle.pce_common.specs.plant_model.RealWire.{wire}
 use Rattle.pce_common.specs.plant_model.State.{Connection}
 use Rattle.pce_common.specs.plant_model.Deeds as deeds
 use Rattle.pce_common.specs.plant_model.Deeds.{Going, element_of, is_out_empty, is_due, with_inbox}
-use Rattle.network_links.specs.plant_sessions.Ends.{own_bytes, is_left_out}
+use Rattle.network_links.specs.Ends.{own_bytes, is_left_out}
 use Rattle.network_links.specs.Flow.{Flow, Puts, change_access, out_of, room_at, queue_at}
 use Rattle.network_events.specs.Accounts.{Accounts, has_queue}
 use Rattle.pce_common.specs.Membership.{Membership, lost_at}

@@ -18,8 +18,8 @@ use Rattle.pce_common.specs.plant_model.RealWire.{wire}
 use Rattle.pce_common.specs.plant_model.State.{State, sent_by}
 use Rattle.pce_common.specs.plant_model.Deeds as deeds
 use Rattle.pce_common.specs.plant_model.Deeds.{our_offer}
-use Rattle.network_links.specs.plant_sessions.Ends.{own_bytes}
-use Rattle.network_links.specs.plant_sessions.Links.{next_sid}
+use Rattle.network_links.specs.Ends.{own_bytes}
+use Rattle.network_links.specs.Links.{next_sid}
 use Rattle.network_links.specs.Flow.{Flow, Room, Begins, Clears, room_at}
 use Rattle.network_events.specs.Accounts.{count_into, bytes_into, goes_into}
 use Rattle.pce_common.specs.Membership.{Membership, fallen, lost_at}

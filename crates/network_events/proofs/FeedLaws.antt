@@ -4,8 +4,8 @@ use Rattle.dom_base.specs.declared.names.As.{As}
 use Rattle.dom_base.specs.declared.names.Peer.{Peer}
 use Rattle.dom_base.specs.declared.names.Peer.TheVariants.{Outside, Inner}
 use Rattle.pcep_subobjects.specs.declared.hop.Hop.{Hop}
-use Rattle.network_links.specs.plant_sessions.Ends.{fed_while_up}
-use Rattle.network_links.specs.plant_sessions.Rooms.{Frees, Grows, queue}
+use Rattle.network_links.specs.Ends.{fed_while_up}
+use Rattle.network_links.specs.Rooms.{Frees, Grows, queue}
 use Rattle.plant_text.specs.declared.settings.NetworkParts.{NetworkParts}
 use Rattle.pce_common.specs.plant_model.declared.outcome.Outcome.TheVariants.{Done, Drained}
 use Rattle.pce_common.specs.plant_model.declared.outcome.Refused.{Refused}

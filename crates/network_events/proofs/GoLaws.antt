@@ -20,7 +20,7 @@ use Rattle.pce_common.specs.plant_model.Deeds as deeds
 use Rattle.pce_common.specs.plant_model.Deeds.{Going, on_connection, with_more}
 use Rattle.pce_common.specs.plant_model.Element.{upped}
 use Rattle.pce_common.specs.plant_model.Parent as parent
-use Rattle.network_links.specs.plant_sessions.Ends.{own_bytes}
+use Rattle.network_links.specs.Ends.{own_bytes}
 use Rattle.network_links.specs.Flow.{Flow, Room, Puts, change_access, SameFlow, put_flow, put_at, room_at, queue_at, set_room, out_of}
 use Rattle.network_events.specs.Accounts.{Accounts, count_into, bytes_into, goes_into, has_queue}
 use Rattle.pce_common.specs.Membership.{Membership, raised}

@@ -17,8 +17,8 @@ use Rattle.pce_common.specs.plant_model.RealWire.{wire}
 use Rattle.pce_common.specs.plant_model.State.{State, Connection}
 use Rattle.pce_common.specs.plant_model.Deeds as deeds
 use Rattle.pce_common.specs.plant_model.Deeds.{Going, is_tick, any_fall, with_session}
-use Rattle.network_links.proofs.plant_sessions.StepLemmas.{steps_keep_number}
-use Rattle.network_links.specs.plant_sessions.Ends.{said_in}
+use Rattle.network_links.proofs.StepLemmas.{steps_keep_number}
+use Rattle.network_links.specs.Ends.{said_in}
 use Rattle.network_links.specs.Flow.{Flow, MaySet, room_at, session_at, set_session_at}
 use Rattle.pce_common.specs.Membership.{Membership, lost_at}
 use Rattle.pce_common.specs.Owed.{is_peer}

@@ -16,7 +16,7 @@ use Rattle.pce_common.specs.plant_model.Wire.{Bytes}
 use Rattle.pce_common.specs.plant_model.declared.output.Output.{Output}
 use Rattle.pce_common.specs.plant_model.RealWire.{wire}
 use Rattle.pce_common.specs.plant_model.State.{sent_by}
-use Rattle.network_links.specs.plant_sessions.Rooms.{Grows}
+use Rattle.network_links.specs.Rooms.{Grows}
 use Rattle.network_links.specs.Flow.{Flow, Room, Puts, GrowsAt, GrowsSaid, KeepsRoomAt, put_flow, room_at, queue_at, set_room}
 use Rattle.network_events.specs.Accounts.{Accounts, goes_into}
 use Rattle.pce_common.specs.Membership.{Membership}

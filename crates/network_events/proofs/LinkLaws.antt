@@ -19,8 +19,8 @@ use Rattle.pce_common.specs.plant_model.RealWire.{wire}
 use Rattle.pce_common.specs.plant_model.State.{State, said}
 use Rattle.pce_common.specs.plant_model.Deeds as deeds
 use Rattle.pce_common.specs.plant_model.Deeds.{our_offer}
-use Rattle.network_links.specs.plant_sessions.Ends.{own_bytes}
-use Rattle.network_links.specs.plant_sessions.Rooms.{room_in_all}
+use Rattle.network_links.specs.Ends.{own_bytes}
+use Rattle.network_links.specs.Rooms.{room_in_all}
 use Rattle.network_links.specs.Flow.{Flow, Begins, Clears, Puts, set_session, room_at, queue_at}
 use Rattle.network_events.specs.Accounts.{Accounts, count_into, bytes_into, queue_in, has_queue}
 use Rattle.pce_common.specs.Membership.{Membership}

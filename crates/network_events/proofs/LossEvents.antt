@@ -13,7 +13,7 @@ use Rattle.pce_common.specs.plant_model.RealWire.{wire}
 use Rattle.pce_common.specs.plant_model.Deeds as deeds
 use Rattle.pce_common.specs.plant_model.Deeds.{element_of}
 use Rattle.pce_common.specs.plant_model.Events as events
-use Rattle.network_links.specs.plant_sessions.declared.access.Access.{Access}
+use Rattle.network_links.specs.declared.access.Access.{Access}
 use Rattle.network_links.specs.Carried.{Carried, flow_of}
 use Rattle.network_links.specs.Flow.{Flow, ClearsSaid, shut}
 use Rattle.network_links.specs.Peers.{access_or}

@@ -27,7 +27,7 @@ use Rattle.pce_common.specs.plant_model.State.{Access, Connection}
 use Rattle.pce_common.specs.plant_model.Deeds as deeds
 use Rattle.pce_common.specs.plant_model.Deeds.{Going, element_of, our_offer}
 use Rattle.pce_common.specs.plant_model.Events as events
-use Rattle.network_links.specs.plant_sessions.Ends.{just_open}
+use Rattle.network_links.specs.Ends.{just_open}
 use Rattle.network_links.specs.Flow.{ClearsSaid, Flow, GrowsAt, KeepsRoomAt, just_opened, out_of, session_at, set_access, set_room}
 use Rattle.plant_text.specs.Names.{parent_as}
 use Rattle.network_events.specs.Acting.{FitsInput}

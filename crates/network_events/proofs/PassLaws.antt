@@ -11,7 +11,7 @@ use Rattle.pce_common.specs.plant_model.Names.{set_pair}
 use Rattle.pce_common.specs.plant_model.Wire.{Bytes}
 use Rattle.pce_common.specs.plant_model.State.{Connection}
 use Rattle.pce_common.specs.plant_model.Deeds.{with_session}
-use Rattle.network_links.specs.plant_sessions.Rooms.{Grows, Frees, queue, room_in_all}
+use Rattle.network_links.specs.Rooms.{Grows, Frees, queue, room_in_all}
 use Rattle.network_links.specs.Flow.{Flow, ClearsSaid, DropsFirst, room_at, queue_at, out_of, set_session, set_session_at, change_access}
 use Rattle.network_events.specs.Accounts.{queue_in}
 use Rattle.network_events.proofs.GoLaws.{access_same, self, as_is}

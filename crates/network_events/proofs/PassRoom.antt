@@ -14,7 +14,7 @@ use Rattle.plant_text.specs.Names.{same_as}
 use Rattle.plant_text.specs.Settings.{elements_of}
 use Rattle.pce_common.specs.plant_model.State.{Connection}
 use Rattle.pce_common.specs.plant_model.Deeds.{element_of, with_more}
-use Rattle.network_links.specs.plant_sessions.Rooms.{Grows, room_in_all}
+use Rattle.network_links.specs.Rooms.{Grows, room_in_all}
 use Rattle.network_links.specs.Flow.{Flow, KeepsRoomAt, put_flow, room_at}
 use Rattle.network_events.specs.Accounts.{Accounts, count_into, bytes_into, goes_into, queue_in, has_queue}
 use Rattle.pce_common.specs.Membership.{Membership}

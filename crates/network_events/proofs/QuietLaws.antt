@@ -15,7 +15,7 @@ use Rattle.plant_text.specs.declared.settings.NetworkParts.{NetworkParts}
 use Rattle.pce_common.specs.plant_model.declared.output.Lost.{Lost}
 use Rattle.pce_common.specs.plant_model.State.{Connection, Access}
 use Rattle.pce_common.specs.plant_model.Deeds.{on_connection, with_session}
-use Rattle.network_links.specs.plant_sessions.Quiet.{is_quiet_peer, ticked_quietly}
+use Rattle.network_links.specs.QuietSides.{is_quiet_peer, ticked_quietly}
 use Rattle.network_links.specs.Quiet.{IsReached, is_quiet_at, ticked_at}
 use Rattle.network_links.specs.Flow.{Flow, change_access, set_access, set_session}
 use Rattle.network_links.proofs.PeerLemmas.{number_same}

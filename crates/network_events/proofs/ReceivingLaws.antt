@@ -16,7 +16,7 @@ use Rattle.pcep_session.specs.Table.{SessionStep, turn_of}
 use Rattle.plant_queues.specs.declared.sent.Sent.{Sent}
 use Rattle.plant_text.specs.declared.settings.NetworkParts.{NetworkParts}
 use Rattle.plant_text.specs.Settings.{adjacency, adjacencies, has_adjacency}
-use Rattle.network_links.specs.plant_sessions.Rooms.{Grows}
+use Rattle.network_links.specs.Rooms.{Grows}
 use Rattle.pce_common.specs.plant_model.declared.outcome.Outcome.TheVariants.{Done}
 use Rattle.pce_common.specs.plant_model.declared.outcome.Refused.TheVariants.{NoSuchPeer, NothingToCarry}
 use Rattle.pce_common.specs.plant_model.declared.output.Lost.{Lost}

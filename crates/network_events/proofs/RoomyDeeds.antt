@@ -26,7 +26,7 @@ use Rattle.pcep_session.specs.declared.actions.Action.TheVariants as action
 use Rattle.pcep_session.specs.declared.actions.Own.{Own}
 use Rattle.pcep_session.specs.declared.actions.Own.TheVariants as own
 use Rattle.pcep_session.specs.declared.state.State.{State as Session}
-use Rattle.network_links.specs.plant_sessions.Ends.{own_bytes, said_in}
+use Rattle.network_links.specs.Ends.{own_bytes, said_in}
 use Rattle.network_links.specs.Flow.{Flow, out_of, queue_at}
 use Rattle.network_events.specs.Acting.{IsOwnTurn, size_in}
 use Rattle.network_events.specs.Peers.{acts_at, down_at, is_out_empty_at}

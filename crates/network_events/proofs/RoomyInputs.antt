@@ -26,7 +26,7 @@ use Rattle.pce_common.specs.plant_model.State.{Connection}
 use Rattle.pce_common.specs.plant_model.Deeds as deeds
 use Rattle.pce_common.specs.plant_model.Deeds.{Going, any_fall, element_of, is_due, is_tick}
 use Rattle.pce_common.specs.plant_model.Events.{is_down}
-use Rattle.network_links.specs.plant_sessions.Ends.{is_left_out, own_bytes, said_in}
+use Rattle.network_links.specs.Ends.{is_left_out, own_bytes, said_in}
 use Rattle.network_links.specs.Flow.{Flow, KeepsRoomAt, queue_at, session_at}
 use Rattle.network_events.specs.Accounts.{Accounts}
 use Rattle.network_events.specs.Acting.{IsOwnTurn, Fits, FitsInput, FitsTurn, RoomToAct, RoomToBreakAt, size_in}

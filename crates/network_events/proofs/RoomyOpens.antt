@@ -18,8 +18,8 @@ use Rattle.pce_common.specs.plant_model.Deeds as deeds
 use Rattle.pce_common.specs.plant_model.Deeds.{Going, element_of, on_connection}
 use Rattle.pce_common.specs.plant_model.Events.{is_down, fed, drained}
 use Rattle.pce_common.specs.plant_model.Wire.{Bytes}
-use Rattle.network_links.specs.plant_sessions.Ends.{fed_while_up}
-use Rattle.network_links.specs.plant_sessions.Rooms.{KeepsRoom, Frees, queue, room_in_all}
+use Rattle.network_links.specs.Ends.{fed_while_up}
+use Rattle.network_links.specs.Rooms.{KeepsRoom, Frees, queue, room_in_all}
 use Rattle.network_links.specs.Flow.{Flow, GrowsAt, KeepsRoomAt, change_access, just_opened, no_room, out_of, queue_at, room_at, set_access, set_room, shut}
 use Rattle.network_events.specs.Accounts.{Accounts, count_into, bytes_into, queue_in, has_queue}
 use Rattle.pce_common.specs.Membership.{Membership, is_member, fallen}

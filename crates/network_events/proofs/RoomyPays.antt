@@ -16,7 +16,7 @@ use Rattle.pce_common.specs.plant_model.Element.{upped}
 use Rattle.pce_common.specs.plant_model.Parent as parent
 use Rattle.pce_common.specs.plant_model.Deeds.{element_of, our_offer}
 use Rattle.pce_common.specs.plant_model.Wire.{Bytes}
-use Rattle.network_links.specs.plant_sessions.Ends.{own_bytes}
+use Rattle.network_links.specs.Ends.{own_bytes}
 use Rattle.network_links.specs.Flow.{Flow, KeepsRoomAt, queue_at}
 use Rattle.network_events.specs.Accounts.{Accounts, goes_into, count_into, bytes_into}
 use Rattle.network_events.specs.Acting.{size_in}

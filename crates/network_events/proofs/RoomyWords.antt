@@ -17,7 +17,7 @@ use Rattle.pcep_session.specs.declared.state.State.{State}
 use Rattle.pcep_session.specs.Reports.{first_error_of, first_opening_of}
 use Rattle.pcep_session.specs.Table.{SessionStep, turn_in, turn_of, open_wait, refused_terms, refused, keep_wait, in_up, up_tick, waits, heard, at_tick, has_passed, is_recent}
 use Rattle.pce_common.specs.plant_model.Events.{is_down}
-use Rattle.network_links.specs.plant_sessions.Ends.{own_bytes}
+use Rattle.network_links.specs.Ends.{own_bytes}
 use Rattle.network_events.specs.Turns.{IsPass}
 
 -- a message of a session's own, and one that is an error or a Close

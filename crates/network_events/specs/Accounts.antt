@@ -8,7 +8,7 @@ use Rattle.plant_queues.specs.declared.sent.Sent.{Sent}
 use Rattle.plant_queues.specs.Messages.{total}
 use Rattle.plant_queues.specs.Sents.{size_of}
 use Rattle.plant_text.specs.Names.{same_as}
-use Rattle.network_links.specs.plant_sessions.Rooms.{Queue, queue, room_in_all}
+use Rattle.network_links.specs.Rooms.{Queue, queue, room_in_all}
 use Rattle.network_links.specs.Flow.{Flow, queue_at, room_at}
 
 -- the message went into this queue; an outside peer has one, whoever sends

@@ -14,8 +14,8 @@ use Rattle.plant_text.specs.Settings.{adjacency}
 use Rattle.pce_common.specs.plant_model.declared.output.Lost.{Lost}
 use Rattle.pce_common.specs.plant_model.Deeds.{any_fall}
 use Rattle.pce_common.specs.plant_model.Wire.{Bytes}
-use Rattle.network_links.specs.plant_sessions.declared.TheConstants.{ANSWER_LENGTH}
-use Rattle.network_links.specs.plant_sessions.Ends.{said_in, own_bytes}
+use Rattle.network_links.specs.declared.TheConstants.{ANSWER_LENGTH}
+use Rattle.network_links.specs.Ends.{said_in, own_bytes}
 use Rattle.network_links.specs.Flow.{Flow, room_at}
 use Rattle.pce_common.specs.Membership.{Membership, fallen, lost_at}
 use Rattle.pce_common.specs.Owed.{is_peer}

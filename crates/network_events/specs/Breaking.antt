@@ -4,8 +4,8 @@ use Rattle.dom_base.specs.declared.names.As.{As}
 use Rattle.dom_base.specs.declared.names.Peer.TheVariants.{Outside, Inner}
 use Rattle.plant_queues.specs.Messages.{Covers}
 use Rattle.pce_common.specs.plant_model.declared.output.Lost.{Lost}
-use Rattle.network_links.specs.plant_sessions.declared.TheConstants.{ANSWER_LENGTH, OWN_LENGTH}
-use Rattle.network_links.specs.plant_sessions.Rooms.{room_in_all}
+use Rattle.network_links.specs.declared.TheConstants.{ANSWER_LENGTH, OWN_LENGTH}
+use Rattle.network_links.specs.Rooms.{room_in_all}
 use Rattle.network_links.specs.Flow.{Flow}
 use Rattle.network_events.specs.Accounts.{queue_in}
 use Rattle.pce_common.specs.Owed.{is_peer}

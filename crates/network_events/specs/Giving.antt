@@ -14,8 +14,8 @@ use Rattle.plant_text.specs.Settings.{elements_of}
 use Rattle.pce_common.specs.plant_model.Deeds.{element_of}
 use Rattle.pce_common.specs.plant_model.RealWire.{wire}
 use Rattle.pce_common.specs.plant_model.State.{sent_by}
-use Rattle.network_links.specs.plant_sessions.declared.TheConstants.{ANSWER_LENGTH, OWN_LENGTH}
-use Rattle.network_links.specs.plant_sessions.Rooms.{Grows}
+use Rattle.network_links.specs.declared.TheConstants.{ANSWER_LENGTH, OWN_LENGTH}
+use Rattle.network_links.specs.Rooms.{Grows}
 use Rattle.network_links.specs.Flow.{Flow, SameFlow, KeepsRoomAt, put_flow, room_at}
 use Rattle.network_events.specs.Accounts.{Accounts, count_into, bytes_into}
 use Rattle.pce_common.specs.Membership.{Membership, given}

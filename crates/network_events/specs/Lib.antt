@@ -20,5 +20,4 @@ pub mod Moving
 -- handed on from below
 pub use Rattle.pce_common.specs as pce_common
 pub use Rattle.pce_common.specs.plant_model
-pub use Rattle.network_links.specs.plant_sessions
 pub use Rattle.network_links.specs as network_links

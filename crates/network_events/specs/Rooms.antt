@@ -11,7 +11,7 @@ use Rattle.plant_text.specs.Settings.{has_adjacency, adjacencies, elements_of}
 use Rattle.pce_common.specs.plant_model.State.{Connection}
 use Rattle.pce_common.specs.plant_model.Deeds.{element_of}
 use Rattle.pce_common.specs.plant_model.Events.{is_down}
-use Rattle.network_links.specs.plant_sessions.declared.TheConstants.{ANSWER_LENGTH, OWN_LENGTH}
+use Rattle.network_links.specs.declared.TheConstants.{ANSWER_LENGTH, OWN_LENGTH}
 use Rattle.network_links.specs.Flow.{Flow, KeepsRoomAt}
 use Rattle.pce_common.specs.Membership.{Membership}
 use Rattle.pce_common.specs.Owed.{owed, pending_in}

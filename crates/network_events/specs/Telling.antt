@@ -7,7 +7,7 @@ use Rattle.plant_queues.specs.Messages.{Covers}
 use Rattle.pce_common.specs.plant_model.declared.output.Lost.{Lost}
 use Rattle.pce_common.specs.plant_model.Element.{lost_output}
 use Rattle.pce_common.specs.plant_model.Wire.{Bytes}
-use Rattle.network_links.specs.plant_sessions.declared.TheConstants.{ANSWER_LENGTH}
+use Rattle.network_links.specs.declared.TheConstants.{ANSWER_LENGTH}
 use Rattle.network_links.specs.Flow.{Flow, SameFlow, put_flow, room_at}
 use Rattle.network_events.specs.Accounts.{Accounts}
 use Rattle.pce_common.specs.Owed.{is_peer}

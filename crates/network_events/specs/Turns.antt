@@ -11,8 +11,8 @@ use Rattle.pcep_session.specs.declared.session.Input.{Input}
 use Rattle.pcep_session.specs.declared.session.Input.TheVariants.{Tick as Ticked}
 use Rattle.pcep_session.specs.declared.state.State.{State as Session}
 use Rattle.pcep_session.specs.Table.{turn_of}
-use Rattle.network_links.specs.plant_sessions.declared.TheConstants.{OWN_LENGTH}
-use Rattle.network_links.specs.plant_sessions.Ends.{own_bytes}
+use Rattle.network_links.specs.declared.TheConstants.{OWN_LENGTH}
+use Rattle.network_links.specs.Ends.{own_bytes}
 use Rattle.network_events.specs.Acting.{IsOwnTurn}
 
 -- a message is passed on, and nothing else is done

@@ -7,7 +7,7 @@ ghost use Rattle.pcep_session.specs.Listed.{listed};
 ghost use Rattle.pcep_session.specs.Table.{turn_of};
 ghost use Rattle.plant_queues.specs.Messages.{Covers};
 ghost use Rattle.pce_common.specs.plant_model.Deeds as deeds;
-ghost use Rattle.network_links.specs.plant_sessions.Ends.{own_bytes};
+ghost use Rattle.network_links.specs.Ends.{own_bytes};
 ghost use Rattle.network_links.specs.Flow.{MaySet, room_at, session_at};
 ghost use Rattle.network_links.specs.Carried.{flow_of};
 ghost use Rattle.pce_common.specs.Membership.{is_member, lost_at};
@@ -19,10 +19,9 @@ ghost use Rattle.network_events.specs.Acting.{Fits, FitsInput, FitsTurn, LeavesO
 use crate::deeds::{fall, rise, say};
 use crate::links::break_between;
 use dom_base::{As, Peer};
-use network_links::Traffic;
+use network_links::{Traffic, any_fall};
 use pce_common::Members;
 use pcep_session::{Action, Actions, Input, Own, Reason, Session};
-use plant_sessions::any_fall;
 
 /// A message of the session's own is said, for which there is room, or left out at a tick.
 pub(crate) fn say_own<M: Members>(

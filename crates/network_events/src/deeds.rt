@@ -5,7 +5,7 @@ ghost use Rattle.dom_base.specs.declared.names.As.{As};
 ghost use Rattle.pce_common.specs.plant_model.Names.{set_as};
 ghost use Rattle.pce_common.specs.plant_model.RealWire.{wire};
 ghost use Rattle.pce_common.specs.plant_model.Deeds as deeds;
-ghost use Rattle.network_links.specs.plant_sessions.Ends.{own_bytes};
+ghost use Rattle.network_links.specs.Ends.{own_bytes};
 ghost use Rattle.network_links.specs.Flow.{Puts, room_at};
 ghost use Rattle.network_links.specs.Carried.{flow_of};
 ghost use Rattle.pce_common.specs.Membership.{is_member, fallen, lost_at};
@@ -13,10 +13,9 @@ ghost use Rattle.network_events.specs.Standing.{Goes, here};
 ghost use Rattle.network_events.specs.Telling.{RoomToTell, Tells};
 
 use dom_base::{As, Peer};
-use network_links::Traffic;
+use network_links::{Traffic, lost_text, own_text};
 use pce_common::Members;
 use pcep_session::Own;
-use plant_sessions::{lost_text, own_text};
 
 /// A session says a message of its own, for which there is room.
 pub(crate) fn say(traffic: &mut Traffic, at: As, to: Peer, own: Own)

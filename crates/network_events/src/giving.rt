@@ -18,12 +18,11 @@ ghost use Rattle.network_events.specs.Standing.{Goes, here};
 ghost use Rattle.network_events.specs.Giving.{CoversWords, IsGiven, KeepsForLetters, OnlyGrows, PutsAll, RoomToAnswer, RoomToGive, RoomToPut, is_own, own_words};
 
 use dom_base::{As, NoMemory, Peer};
-use network_links::Traffic;
+use network_links::{ANSWER_LENGTH, OWN_LENGTH, Traffic};
 use pce_common::Members;
 use pce_common::model::{Output, Outputs};
 use pcep_messages::{Message, write_message};
 use plant_queues::Said;
-use plant_sessions::{ANSWER_LENGTH, OWN_LENGTH};
 use std::alloc::Global;
 
 /// What a message makes of a member, and what it sends, in its bytes.

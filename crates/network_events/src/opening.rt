@@ -17,9 +17,8 @@ ghost use Rattle.network_events.specs.Standing.{Goes, here, state_of};
 
 use crate::giving::{NOTHING, reserve_words};
 use dom_base::{As, NoMemory, Peer};
-use network_links::Traffic;
+use network_links::{OWN_LENGTH, Traffic};
 use pce_common::Members;
-use plant_sessions::OWN_LENGTH;
 
 // An end of a link says its Open.
 fn begin_one<M: Members>(

@@ -21,12 +21,11 @@ ghost use Rattle.network_events.specs.Turns.{IsPass};
 use crate::acting::step;
 use crate::giving::{perform, prepare};
 use dom_base::{As, NoMemory, Peer};
-use network_links::Traffic;
+use network_links::{ANSWER_LENGTH, Traffic};
 use pce_common::Members;
 use pce_common::model::{Outcome, Refused};
 use pcep_messages::Message;
 use pcep_session::{Action, Actions, Session};
-use plant_sessions::ANSWER_LENGTH;
 use std::alloc::Global;
 
 // How long a message of a session's own is at most: an Open that speaks of stateful sessions.

@@ -13,8 +13,8 @@ use Rattle.settings_layout.specs.plant_model.Names.{set_pair, set_number}
 use Rattle.settings_layout.specs.plant_model.Wire.{Bytes}
 use Rattle.settings_layout.specs.plant_model.State as model
 use Rattle.settings_layout.specs.plant_model.Deeds.{our_offer}
-use Rattle.plant_sessions.specs.Ends.{Sender, begun, own_bytes, with_kept}
-use Rattle.plant_sessions.specs.Rooms.{Spends, Frees, queue}
+use Rattle.network_links.specs.Ends.{Sender, begun, own_bytes, with_kept}
+use Rattle.network_links.specs.Rooms.{Spends, Frees, queue}
 use Rattle.network_links.specs.Flow.{Flow, Room, SameFlow, set_queue, set_session, set_room, change_access, put_at, put_flow, SpendsAt, Puts, Begins, DropsFirst, Clears, GrowsAt, KeepsRoomAt, Connects}
 use Rattle.network_links.specs.Sides as sides
 use Rattle.network_links.specs.Sides.{Side, Row, set_side, SideChanges, BothSidesChange}

@@ -11,10 +11,10 @@ use Rattle.plant_text.specs.Settings.{Adjacency, has_adjacency}
 use Rattle.settings_layout.specs.Adjacencies.{adjacency_of, are_adjacencies}
 use Rattle.plant_queues.specs.Messages.{Spare}
 use Rattle.settings_layout.specs.plant_model.State as model
-use Rattle.plant_sessions.specs.declared.access.Access.{Access}
-use Rattle.plant_sessions.specs.declared.link.End.TheVariants.{Lower, Upper}
-use Rattle.plant_sessions.specs.Links.{Joined, at_end, new_sender}
-use Rattle.plant_sessions.specs.Rooms.{KeepsRoom, queue}
+use Rattle.network_links.specs.declared.access.Access.{Access}
+use Rattle.network_links.specs.declared.link.End.TheVariants.{Lower, Upper}
+use Rattle.network_links.specs.Links.{Joined, at_end, new_sender}
+use Rattle.network_links.specs.Rooms.{KeepsRoom, queue}
 use Rattle.network_links.specs.Flow.{no_room}
 use Rattle.network_links.specs.Peers.{Guests, guests_of, no_guests, never_open, access_or, room_or}
 use Rattle.network_links.specs.Sides.{Side, row_of, side_at, side_or, link_at, end_of, adjacencies_in, AreNewLinks}

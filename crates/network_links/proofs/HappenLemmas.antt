@@ -13,7 +13,7 @@ use Rattle.settings_layout.specs.plant_model.RealWire.{wire}
 use Rattle.settings_layout.specs.plant_model.State.{Connection, Access, State}
 use Rattle.settings_layout.specs.plant_model.Deeds.{with_access, on_connection}
 use Rattle.settings_layout.specs.plant_model.Events.{Answered, Happened, fed, is_down, takes_feed, drained, feed, feed_open, drain, drain_open, answered, idle}
-use Rattle.plant_sessions.specs.Ends.{fed_while_up}
+use Rattle.network_links.specs.Ends.{fed_while_up}
 use Rattle.network_links.specs.declared.peers.Drained.{Drained as Handed}
 use Rattle.network_links.specs.Flow.{Flow, with_flow, change_access}
 use Rattle.network_links.specs.Happenings.{FeedsIn, FeedsConnectionIn, FeedsOpenIn, DrainsIn, DrainsConnectionIn, DrainsHeldIn, DrainsOpenIn, done_of, drained_of, hands_of}

@@ -8,5 +8,7 @@ pub mod FlowLemmas
 pub mod HappenLemmas
 pub mod WaitLemmas
 pub mod QuietLemmas
--- handed on from below
-pub use Rattle.plant_sessions.proofs as plant_sessions
+pub mod RoomLemmas
+pub mod StepLemmas
+pub mod InboxLemmas
+mod QuietSideLemmas

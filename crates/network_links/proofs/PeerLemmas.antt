@@ -9,8 +9,8 @@ use Rattle.plant_queues.specs.Messages.{Spare}
 use Rattle.settings_layout.specs.plant_model.Names.{set_number}
 use Rattle.settings_layout.specs.plant_model.State as model
 use Rattle.settings_layout.specs.plant_model.Deeds.{on_connection}
-use Rattle.plant_sessions.specs.declared.access.Access.{Access}
-use Rattle.plant_sessions.specs.Ends.{Connected}
+use Rattle.network_links.specs.declared.access.Access.{Access}
+use Rattle.network_links.specs.Ends.{Connected}
 use Rattle.network_links.specs.Peers.{Guests, guests_of, access_of, access_or, room_of, room_or, set_guest, change_guest}
 use Rattle.network_links.specs.Accesses.{ChangesAt, on_connected}
 

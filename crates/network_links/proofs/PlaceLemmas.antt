@@ -3,8 +3,8 @@ use Rattle.std.proofs.Common.{◌≡◌, ◌≤◌, ◌<◌, ℕ, zero, suc, Boo
 use Rattle.std.proofs.lemmas.Option.{slice_get-get_or}
 use Rattle.dom_base.specs.declared.names.As.{As}
 use Rattle.plant_text.specs.Names.{same_link}
-use Rattle.plant_sessions.specs.declared.link.End.{End}
-use Rattle.plant_sessions.specs.Links.{Joined}
+use Rattle.network_links.specs.declared.link.End.{End}
+use Rattle.network_links.specs.Links.{Joined}
 use Rattle.network_links.specs.Sides.{link_at, end_of, IsFirst, IsPlace}
 
 -- none of those in front of this place is between these ends

@@ -6,10 +6,10 @@ use Rattle.dom_base.specs.declared.names.As.{As}
 use Rattle.dom_base.specs.declared.names.Tick.{Tick}
 use Rattle.pcep_session.specs.Quiet.{is_quiet, after_quiet}
 use Rattle.settings_layout.specs.plant_model.State as model
-use Rattle.plant_sessions.specs.declared.access.Access.{Access}
-use Rattle.plant_sessions.specs.declared.link.End.{End}
-use Rattle.plant_sessions.specs.Links.{Joined, at_end}
-use Rattle.plant_sessions.specs.Quiet.{is_quiet_peer, ticked_quietly}
+use Rattle.network_links.specs.declared.access.Access.{Access}
+use Rattle.network_links.specs.declared.link.End.{End}
+use Rattle.network_links.specs.Links.{Joined, at_end}
+use Rattle.network_links.specs.QuietSides.{is_quiet_peer, ticked_quietly}
 use Rattle.network_links.specs.Accesses as accesses
 use Rattle.network_links.specs.Carried.{CarriedView, flow_in}
 use Rattle.network_links.specs.Flow.{set_session}

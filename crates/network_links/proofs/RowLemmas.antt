@@ -8,9 +8,9 @@ use Rattle.dom_base.specs.declared.names.As.{As}
 use Rattle.plant_text.specs.Names.{same_as, same_link}
 use Rattle.plant_text.specs.Settings.{Adjacency, has_adjacency}
 use Rattle.settings_layout.specs.plant_model.Names.{set_pair}
-use Rattle.plant_sessions.specs.declared.link.End.{End}
-use Rattle.plant_sessions.specs.declared.link.End.TheVariants.{Lower, Upper}
-use Rattle.plant_sessions.specs.Links.{Joined, at_end, set_end}
+use Rattle.network_links.specs.declared.link.End.{End}
+use Rattle.network_links.specs.declared.link.End.TheVariants.{Lower, Upper}
+use Rattle.network_links.specs.Links.{Joined, at_end, set_end}
 use Rattle.network_links.specs.Sides.{Side, Row, row_of, set_side, no_side, Empties, link_at, end_of, side_or, side_at, adjacencies_in, IsFirst, IsPlace, ChangesAt, EndChanges, BothChange, SideChanges, BothSidesChange}
 use Rattle.network_links.proofs.SideLemmas.{one_as, no_way, eqb-refl, in_order, turned, as_is, twice, first_between, first_link, sides_after}
 

@@ -5,7 +5,7 @@ use Rattle.std.proofs.lemmas.Bool.{eqb-true, eqb-false, false≢true}
 use Rattle.dom_base.specs.declared.names.As.{As}
 use Rattle.plant_text.specs.Names.{same_as, same_link}
 use Rattle.plant_text.specs.Settings.{Adjacency}
-use Rattle.plant_sessions.specs.Links.{Joined, at_end}
+use Rattle.network_links.specs.Links.{Joined, at_end}
 use Rattle.network_links.specs.Sides.{link_at, end_of, side_or, side_at, IsFirst}
 
 -- ---- the ends of a link

@@ -2,8 +2,8 @@
 use Rattle.std.specs.Prelude.{ℕ, List}
 use Rattle.plant_queues.specs.declared.sent.Sent.{Sent}
 use Rattle.plant_queues.specs.Messages.{Queued}
-use Rattle.plant_sessions.specs.declared.access.Access.{Access}
-use Rattle.plant_sessions.specs.Links.{Joined}
+use Rattle.network_links.specs.declared.access.Access.{Access}
+use Rattle.network_links.specs.Links.{Joined}
 use Rattle.network_links.specs.Flow.{Flow}
 use Rattle.network_links.specs.Peers.{Guests, guests_of}
 use Rattle.network_links.specs.Sides.{Row, row_of}

@@ -19,9 +19,9 @@ use Rattle.settings_layout.specs.plant_model.Names.{set_pair, set_number}
 use Rattle.settings_layout.specs.plant_model.Wire.{Bytes}
 use Rattle.settings_layout.specs.plant_model.State.{Connection, Access, State}
 use Rattle.settings_layout.specs.plant_model.Deeds.{on_connection, our_offer, with_inbox, with_more, with_session}
-use Rattle.plant_sessions.specs.Ends.{just_open, own_bytes}
-use Rattle.plant_sessions.specs.Links.{new_sender}
-use Rattle.plant_sessions.specs.Rooms.{KeepsRoom, Grows, Spends, Frees, queue}
+use Rattle.network_links.specs.Ends.{just_open, own_bytes}
+use Rattle.network_links.specs.Links.{new_sender}
+use Rattle.network_links.specs.Rooms.{KeepsRoom, Grows, Spends, Frees, queue}
 
 -- ---- what it is
 

@@ -7,8 +7,8 @@ use Rattle.settings_layout.specs.plant_model.Names.{set_number}
 use Rattle.settings_layout.specs.plant_model.Wire.{Bytes}
 use Rattle.settings_layout.specs.plant_model.State.{Connection, Deed, Hands}
 use Rattle.settings_layout.specs.plant_model.Events.{Answered, is_down, drained}
-use Rattle.plant_sessions.specs.Ends.{fed_while_up}
-use Rattle.plant_sessions.specs.Rooms.{Frees, queue}
+use Rattle.network_links.specs.Ends.{fed_while_up}
+use Rattle.network_links.specs.Rooms.{Frees, queue}
 use Rattle.network_links.specs.declared.peers.Drained.{Drained as Handed}
 use Rattle.network_links.specs.Peers.{IsDrained}
 use Rattle.network_links.specs.Flow.{Flow, change_access}

@@ -4,12 +4,21 @@ pub mod Carried
 pub mod Happenings
 pub mod Waiting
 pub mod Quiet
+pub mod Lengths
+pub mod Ends
+pub mod Rooms
+pub mod Links
+pub mod Inboxes
+pub mod QuietSides
 -- inner
 pub mod Sides
 pub mod Peers
 pub mod Accesses
 pub mod TrafficFields
+pub mod OwnFields
+pub mod SideFields
+pub mod ConnectionFields
+pub mod LinkFields
 -- handed on from below
 pub use Rattle.settings_layout.specs as settings_layout
 pub use Rattle.settings_layout.specs.plant_model
-pub use Rattle.plant_sessions.specs as plant_sessions

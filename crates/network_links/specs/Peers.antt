@@ -12,9 +12,9 @@ use Rattle.settings_layout.specs.plant_model.Wire.{Bytes}
 use Rattle.settings_layout.specs.plant_model.State as model
 use Rattle.settings_layout.specs.plant_model.Deeds.{on_connection, with_more}
 use Rattle.settings_layout.specs.plant_model.Events.{is_down, drained}
-use Rattle.plant_sessions.specs.declared.access.Access.{Access}
-use Rattle.plant_sessions.specs.Ends.{Connected, fed_while_up}
-use Rattle.plant_sessions.specs.Rooms.{Queue, KeepsRoom, Grows, Spends, Frees, queue}
+use Rattle.network_links.specs.declared.access.Access.{Access}
+use Rattle.network_links.specs.Ends.{Connected, fed_while_up}
+use Rattle.network_links.specs.Rooms.{Queue, KeepsRoom, Grows, Spends, Frees, queue}
 use Rattle.network_links.specs.Flow.{just_opened, no_room, out_of}
 use Rattle.network_links.specs.declared.peers.Drained.{Drained}
 

@@ -6,11 +6,11 @@ use Rattle.dom_base.specs.declared.names.Peer.TheVariants.{Outside, Inner}
 use Rattle.dom_base.specs.declared.names.Tick.{Tick}
 use Rattle.pcep_session.specs.Quiet.{after_quiet, is_quiet}
 use Rattle.plant_text.specs.Settings.{has_adjacency}
-use Rattle.plant_sessions.specs.declared.access.Access.{Access}
-use Rattle.plant_sessions.specs.declared.link.End.{End}
-use Rattle.plant_sessions.specs.Ends.{with_kept}
-use Rattle.plant_sessions.specs.Links.{Joined, at_end, set_end}
-use Rattle.plant_sessions.specs.Quiet.{is_quiet_peer, sender_ticked, ticked_quietly}
+use Rattle.network_links.specs.declared.access.Access.{Access}
+use Rattle.network_links.specs.declared.link.End.{End}
+use Rattle.network_links.specs.Ends.{with_kept}
+use Rattle.network_links.specs.Links.{Joined, at_end, set_end}
+use Rattle.network_links.specs.QuietSides.{is_quiet_peer, sender_ticked, ticked_quietly}
 use Rattle.network_links.specs.Accesses.{on_connected}
 use Rattle.network_links.specs.Flow.{Flow, change_access, set_session}
 use Rattle.network_links.specs.Peers.{access_of}

@@ -10,11 +10,11 @@ use Rattle.plant_text.specs.Settings.{Adjacency, has_adjacency}
 use Rattle.settings_layout.specs.plant_model.Names.{set_pair}
 use Rattle.settings_layout.specs.plant_model.Wire.{Bytes}
 use Rattle.settings_layout.specs.plant_model.Deeds.{our_offer}
-use Rattle.plant_sessions.specs.declared.link.End.{End}
-use Rattle.plant_sessions.specs.declared.link.End.TheVariants.{Lower, Upper}
-use Rattle.plant_sessions.specs.Ends.{Roomy, Sender, with_kept, sends, begun, own_bytes}
-use Rattle.plant_sessions.specs.Links.{Joined, at_end, set_end, new_sender}
-use Rattle.plant_sessions.specs.Rooms.{Queue, KeepsRoom, Grows, Spends, Frees, queue}
+use Rattle.network_links.specs.declared.link.End.{End}
+use Rattle.network_links.specs.declared.link.End.TheVariants.{Lower, Upper}
+use Rattle.network_links.specs.Ends.{Roomy, Sender, with_kept, sends, begun, own_bytes}
+use Rattle.network_links.specs.Links.{Joined, at_end, set_end, new_sender}
+use Rattle.network_links.specs.Rooms.{Queue, KeepsRoom, Grows, Spends, Frees, queue}
 use Rattle.network_links.specs.Flow.{no_room}
 
 abbrev pub Side : Type 0

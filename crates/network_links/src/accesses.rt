@@ -7,10 +7,10 @@ ghost use Rattle.network_links.specs.Flow.{drop_first};
 ghost use Rattle.network_links.specs.Peers.{room_of};
 ghost use Rattle.network_links.specs.Quiet.{TicksAccess};
 
+use crate::access::Access;
 use crate::peers::Drained;
 use dom_base::{NoMemory, Tick};
 use pcep_session::Session;
-use plant_sessions::Access;
 use settings_layout::model::Refused;
 use std::alloc::Global;
 

@@ -9,16 +9,18 @@ ghost use Rattle.plant_queues.specs.Messages.{Covers};
 ghost use Rattle.settings_layout.specs.plant_model.Names.{is_empty};
 ghost use Rattle.settings_layout.specs.plant_model.RealWire.{wire};
 ghost use Rattle.settings_layout.specs.plant_model.Deeds as deeds;
-ghost use Rattle.plant_sessions.specs.Ends.{is_left_out};
-ghost use Rattle.plant_sessions.specs.Links.{at_end, set_end, new_sender, next_sid};
-ghost use Rattle.plant_sessions.specs.Rooms.{KeepsRoom, queue};
+ghost use Rattle.network_links.specs.Ends.{is_left_out};
+ghost use Rattle.network_links.specs.Links.{at_end, set_end, new_sender, next_sid};
+ghost use Rattle.network_links.specs.Rooms.{KeepsRoom, queue};
 ghost use Rattle.network_links.specs.Quiet.{TicksEnd, side_ticked};
 ghost use Rattle.network_links.specs.Sides as sides;
 ghost use Rattle.network_links.specs.Sides.{AreNewLinks, Begins, BothChange, BothSidesChange, ChangesAt, DropsFirst, Empties, EndChanges, HasSid, IsPlace, Reserves, Sends, SideChanges, link_at, row_of, set_side, with_session};
 
+use crate::OWN_LENGTH;
+use crate::link::{End, Link};
+use crate::own::our_offer;
 use dom_base::{As, NoMemory, Tick};
 use pcep_session::{Input, Own, Session};
-use plant_sessions::{End, Link, OWN_LENGTH, our_offer};
 use std::alloc::Global;
 use std::marker::Model;
 
@@ -30,7 +32,7 @@ pub(crate) struct Links {
 
 impl Model for Links {
     ghost use Rattle.std.specs.Prelude.{List};
-    ghost use Rattle.plant_sessions.specs.Links.{Joined};
+    ghost use Rattle.network_links.specs.Links.{Joined};
 
     ghost Value = { List Joined };
 

@@ -4,18 +4,16 @@ ghost use Rattle.std.specs.Option.{option_map};
 ghost use Rattle.plant_queues.specs.Messages.{Covers};
 ghost use Rattle.settings_layout.specs.plant_model.RealWire.{wire};
 ghost use Rattle.settings_layout.specs.plant_model.Deeds as deeds;
-ghost use Rattle.plant_sessions.specs.Ends.{is_left_out};
-ghost use Rattle.plant_sessions.specs.Quiet.{is_quiet_peer, ticked_quietly};
+ghost use Rattle.network_links.specs.Ends.{is_left_out};
+ghost use Rattle.network_links.specs.QuietSides.{is_quiet_peer, ticked_quietly};
 ghost use Rattle.network_links.specs.Flow.{drop_first, inbox_of, no_room, out_of};
 ghost use Rattle.network_links.specs.Peers.{Connects, DrainsPeer, FeedsPeer, GrowsGuest, SendsGuest, change_guest, guests_of, no_guests, set_guest};
 
-use crate::accesses::{
-    connect_at, drain_at, drop_first_at, empty_inbox_at, feed_at, put_at, reserve_at,
-    set_session_at, shut_at, tick_quietly_at,
-};
+use crate::access::Access;
+use crate::accesses::{connect_at, drain_at, drop_first_at, empty_inbox_at, feed_at, put_at, reserve_at, set_session_at, shut_at, tick_quietly_at};
+use crate::connection::Connection;
 use dom_base::{Bytes, NoMemory, Tick};
 use pcep_session::{Input, Own, Session};
-use plant_sessions::{Access, Connection};
 use settings_layout::model::Refused;
 use std::alloc::Global;
 use std::marker::Model;
@@ -28,7 +26,7 @@ pub(crate) struct Peers {
 
 impl Model for Peers {
     ghost use Rattle.std.specs.Prelude.{List};
-    ghost use Rattle.plant_sessions.specs.declared.access.Access.{Access};
+    ghost use Rattle.network_links.specs.declared.access.Access.{Access};
 
     ghost Value = { List Access };
 

@@ -16,7 +16,7 @@ use Rattle.network_events.specs.plant_model.RealWire.{wire}
 use Rattle.network_events.specs.plant_model.State.{Access, State}
 use Rattle.network_events.specs.plant_model.Wire.{Bytes}
 use Rattle.network_events.specs.network_links.Flow.{Flow, IsBare}
-use Rattle.network_events.specs.plant_sessions.Links.{new_sender}
+use Rattle.network_events.specs.network_links.Links.{new_sender}
 use Rattle.network_events.specs.pce_common.Membership.{Membership}
 use Rattle.network_events.specs.pce_common.Owed.{count_by_asker, is_peer, owed, pending_at, pending_in}
 use Rattle.network_events.specs.Passing.{IsOf}

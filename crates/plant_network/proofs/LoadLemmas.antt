@@ -14,7 +14,7 @@ use Rattle.network_events.specs.network_links.Flow.{Flow, ClearsSaid}
 use Rattle.network_events.specs.pce_common.Membership.{Membership}
 use Rattle.network_events.specs.pce_common.Owed.{pending_at}
 use Rattle.plant_queues.specs.Messages.{Covers}
-use Rattle.network_events.specs.plant_sessions.declared.TheConstants.{ANSWER_LENGTH, OWN_LENGTH}
+use Rattle.network_events.specs.network_links.declared.TheConstants.{ANSWER_LENGTH, OWN_LENGTH}
 use Rattle.plant_text.specs.Settings.{elements_of}
 use Rattle.network_events.specs.Passing.{IsOf}
 use Rattle.network_events.specs.Rooms.{IsRoomy, own_most, said_in_all}

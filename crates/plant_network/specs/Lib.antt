@@ -20,5 +20,4 @@ pub use Rattle.network_members.specs as network_members
 pub use Rattle.plant_laws.specs as plant_laws
 pub use Rattle.network_events.specs.pce_common
 pub use Rattle.network_events.specs.plant_model
-pub use Rattle.network_events.specs.plant_sessions
 pub use Rattle.network_events.specs.network_links

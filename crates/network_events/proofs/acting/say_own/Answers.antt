@@ -1,6 +1,6 @@
 use Rattle.std.proofs.Common.{sym, ◌∙◌}
 use Rattle.network_links.specs.Carried.{flow_of}
-use Rattle.network_links.specs.plant_sessions.Ends.{own_bytes}
+use Rattle.network_links.specs.Ends.{own_bytes}
 use Rattle.network_events.proofs.ActLaws.{own_left, own_put, puts_spent}
 use Rattle.network_events.proofs.acting.say_own.Goals as goal
 

@@ -1,4 +1,4 @@
-use Rattle.plant_sessions.specs.declared.TheConstants.{OWN_LENGTH}
+use Rattle.network_links.specs.declared.TheConstants.{OWN_LENGTH}
 use Rattle.plant_queues.specs.Messages.{Covers}
 use Rattle.network_links.specs.Sides.{Side, Begins}
 use Rattle.network_links.proofs.RowLemmas.{changes_there, holds_there}

@@ -1,6 +1,6 @@
 use Rattle.std.proofs.Common.{◌∙◌, sym, ap}
 use Rattle.network_links.specs.Sides.{Side}
-use Rattle.plant_sessions.specs.Ends.{is_left_out}
+use Rattle.network_links.specs.Ends.{is_left_out}
 use Rattle.network_links.proofs.RowLemmas.{read_side}
 use Rattle.network_links.proofs.links.Links.leaves_out.Goals as goal
 

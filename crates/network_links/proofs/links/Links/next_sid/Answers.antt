@@ -1,6 +1,6 @@
 use Rattle.std.proofs.Common.{◌∙◌, sym, ap}
 use Rattle.network_links.specs.Sides.{Side}
-use Rattle.plant_sessions.specs.Links.{next_sid}
+use Rattle.network_links.specs.Links.{next_sid}
 use Rattle.network_links.proofs.RowLemmas.{read_side}
 use Rattle.network_links.proofs.links.Links.next_sid.Goals as goal
 

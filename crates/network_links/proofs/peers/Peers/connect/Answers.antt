@@ -1,5 +1,5 @@
 use Rattle.std.proofs.Common.{List, subst}
-use Rattle.plant_sessions.specs.declared.access.Access.{Access}
+use Rattle.network_links.specs.declared.access.Access.{Access}
 use Rattle.network_links.specs.Peers.{Connects, guests_of}
 use Rattle.network_links.proofs.AccessLemmas.{connects}
 use Rattle.network_links.proofs.peers.Peers.connect.Goals as goal

@@ -1,5 +1,5 @@
 use Rattle.std.proofs.Common.{Err, List, arith, subst}
-use Rattle.plant_sessions.specs.declared.access.Access.{Access}
+use Rattle.network_links.specs.declared.access.Access.{Access}
 use Rattle.settings_layout.specs.plant_model.declared.outcome.Refused.TheVariants.{NoSuchPeer}
 use Rattle.network_links.specs.Peers.{FeedsPeer, guests_of}
 use Rattle.network_links.proofs.AccessLemmas.{feeds, nobody_feeds}

@@ -1,5 +1,5 @@
 use Rattle.std.proofs.Common.{◌≡◌, ◌++◌, ◌∷◌, ◌+◌, ℕ, [], List, arith, sym, subst}
-use Rattle.plant_sessions.specs.declared.access.Access.{Access}
+use Rattle.network_links.specs.declared.access.Access.{Access}
 use Rattle.network_links.proofs.FreshLemmas.{AreNew, new_guests, one_more_new}
 use Rattle.network_links.proofs.peers.Peers.new.Goals as goal
 

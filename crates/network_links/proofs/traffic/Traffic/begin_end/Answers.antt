@@ -4,8 +4,8 @@ use Rattle.pcep_objects.specs.declared.offer.Offer.{Offer}
 use Rattle.pcep_session.specs.declared.actions.Own.TheVariants.{Open}
 use Rattle.plant_queues.specs.Sents.{sent_of}
 use Rattle.settings_layout.specs.plant_model.Deeds.{our_offer}
-use Rattle.plant_sessions.specs.Ends.{own_bytes}
-use Rattle.plant_sessions.specs.Rooms.{Spends}
+use Rattle.network_links.specs.Ends.{own_bytes}
+use Rattle.network_links.specs.Rooms.{Spends}
 use Rattle.network_links.specs.Carried.{Carried, seen, flow_of}
 use Rattle.network_links.specs.Flow.{Begins}
 use Rattle.network_links.specs.Sides.{row_of}

@@ -1,4 +1,0 @@
-pub mod RoomLemmas
-pub mod StepLemmas
-pub mod InboxLemmas
-mod QuietLemmas

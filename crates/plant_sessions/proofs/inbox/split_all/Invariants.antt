@@ -1,7 +1,0 @@
-use Rattle.std.proofs.Common.{◌≡◌, take}
-use Rattle.std.specs.List.{flat_map}
-use Rattle.plant_sessions.proofs.InboxLemmas.{parts_of}
-use Rattle.plant_sessions.proofs.inbox.split_all.Given as goal
-
-abbrev pub invariant-loop-frame : goal.invariant-loop-frame
-invariant-loop-frame l = l.items.items ≡ flat_map parts_of (take l.frame-index l.frames)

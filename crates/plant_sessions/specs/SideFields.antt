@@ -1,6 +1,0 @@
--- What an end of a session is, by its fields.
-use Rattle.plant_sessions.specs.Ends.{Roomy, Sender}
-use Rattle.plant_sessions.specs.declared.side.Side.TheInside.{Inside}
-
-abbrev pub sender_of : Inside → Roomy Sender
-sender_of a = record { kept = record { session = a.session; out = a.out.kept }; spare = a.out.spare }
