@@ -12,7 +12,7 @@ use Rattle.pcep_session.specs.declared.session.Input.TheVariants as input
 use Rattle.plant_text.specs.declared.settings.NetworkParts.{NetworkParts}
 use Rattle.plant_text.specs.Names.{same_as, same_link}
 use Rattle.plant_text.specs.Settings.{Adjacency, before_adjacency, children, has_adjacency, insert_adjacency, adjacency, adjacencies, sorted, upward}
-use Rattle.network_links.specs.settings_layout.Adjacencies.{adjacency_of}
+use Rattle.network_links.specs.Adjacencies.{adjacency_of}
 use Rattle.pce_common.specs.plant_model.RealWire.{wire}
 use Rattle.pce_common.specs.plant_model.Deeds as deeds
 use Rattle.pce_common.specs.plant_model.Deeds.{Going}

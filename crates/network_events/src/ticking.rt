@@ -3,7 +3,7 @@ ghost use Rattle.std.specs.Prelude.{◌≡◌, ◌<◌, ◌*◌, true, false, le
 ghost use Rattle.dom_base.specs.declared.names.As.{As};
 ghost use Rattle.plant_text.specs.Names.{same_as};
 ghost use Rattle.plant_text.specs.Settings.{has_adjacency, adjacencies};
-ghost use Rattle.network_links.specs.settings_layout.Adjacencies.{adjacency_of};
+ghost use Rattle.network_links.specs.Adjacencies.{adjacency_of};
 ghost use Rattle.pce_common.specs.plant_model.RealWire.{wire};
 ghost use Rattle.pce_common.specs.plant_model.Deeds as deeds;
 ghost use Rattle.pce_common.specs.plant_model.Events as events;

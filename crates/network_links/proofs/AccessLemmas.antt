@@ -5,13 +5,13 @@ use Rattle.std.proofs.lemmas.Option.{slice_get_past}
 use Rattle.dom_base.specs.declared.names.NoMemory.{NoMemory as Want}
 use Rattle.dom_base.specs.declared.names.Tick.{Tick}
 use Rattle.plant_queues.specs.Messages.{Spare, Covers}
-use Rattle.settings_layout.specs.plant_model.declared.outcome.Refused.{Refused}
-use Rattle.settings_layout.specs.plant_model.declared.outcome.Refused.TheVariants.{NoSuchPeer}
-use Rattle.settings_layout.specs.plant_model.Names.{set_number}
-use Rattle.settings_layout.specs.plant_model.Wire.{Bytes}
-use Rattle.settings_layout.specs.plant_model.State as model
-use Rattle.settings_layout.specs.plant_model.Deeds.{on_connection, with_more}
-use Rattle.settings_layout.specs.plant_model.Events.{drained}
+use Rattle.plant_model.specs.declared.outcome.Refused.{Refused}
+use Rattle.plant_model.specs.declared.outcome.Refused.TheVariants.{NoSuchPeer}
+use Rattle.plant_model.specs.Names.{set_number}
+use Rattle.plant_model.specs.Wire.{Bytes}
+use Rattle.plant_model.specs.State as model
+use Rattle.plant_model.specs.Deeds.{on_connection, with_more}
+use Rattle.plant_model.specs.Events.{drained}
 use Rattle.network_links.specs.declared.access.Access.{Access}
 use Rattle.network_links.specs.Ends.{Connected, fed_while_up, just_open}
 use Rattle.network_links.specs.Rooms.{KeepsRoom, Grows, Spends, Frees, queue}

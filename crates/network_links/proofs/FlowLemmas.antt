@@ -9,10 +9,10 @@ use Rattle.plant_queues.specs.declared.sent.Sent.{Sent}
 use Rattle.plant_queues.specs.Messages.{Queued, Spare}
 use Rattle.plant_queues.specs.Sents.{sent_of}
 use Rattle.plant_text.specs.Names.{same_as}
-use Rattle.settings_layout.specs.plant_model.Names.{set_pair, set_number}
-use Rattle.settings_layout.specs.plant_model.Wire.{Bytes}
-use Rattle.settings_layout.specs.plant_model.State as model
-use Rattle.settings_layout.specs.plant_model.Deeds.{our_offer}
+use Rattle.plant_model.specs.Names.{set_pair, set_number}
+use Rattle.plant_model.specs.Wire.{Bytes}
+use Rattle.plant_model.specs.State as model
+use Rattle.plant_model.specs.Deeds.{our_offer}
 use Rattle.network_links.specs.Ends.{Sender, begun, own_bytes, with_kept}
 use Rattle.network_links.specs.Rooms.{Spends, Frees, queue}
 use Rattle.network_links.specs.Flow.{Flow, Room, SameFlow, set_queue, set_session, set_room, change_access, put_at, put_flow, SpendsAt, Puts, Begins, DropsFirst, Clears, GrowsAt, KeepsRoomAt, Connects}
@@ -22,7 +22,7 @@ use Rattle.network_links.specs.Peers as peers
 use Rattle.network_links.specs.Peers.{Guests, SendsGuest, GrowsGuest, FeedsPeer, DrainsPeer, change_guest}
 use Rattle.network_links.specs.Happenings.{FeedsIn, FeedsConnectionIn, DrainsIn, DrainsConnectionIn, DrainsHeldIn}
 use Rattle.network_links.specs.declared.peers.Drained.{Drained}
-use Rattle.settings_layout.specs.plant_model.declared.outcome.Refused.{Refused}
+use Rattle.plant_model.specs.declared.outcome.Refused.{Refused}
 use Rattle.network_links.specs.Carried.{CarriedView, flow_in}
 use Rattle.network_links.proofs.SideLemmas.{one_as}
 use Rattle.network_links.proofs.RowLemmas.{pair_field, pair_same}

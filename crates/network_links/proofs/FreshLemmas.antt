@@ -8,9 +8,9 @@ use Rattle.std.proofs.lemmas.List.Elements.{All-push}
 use Rattle.dom_base.specs.declared.names.As.{As}
 use Rattle.plant_text.specs.Names.{same_as, same_link}
 use Rattle.plant_text.specs.Settings.{Adjacency, has_adjacency}
-use Rattle.settings_layout.specs.Adjacencies.{adjacency_of, are_adjacencies}
+use Rattle.network_links.specs.Adjacencies.{adjacency_of, are_adjacencies}
 use Rattle.plant_queues.specs.Messages.{Spare}
-use Rattle.settings_layout.specs.plant_model.State as model
+use Rattle.plant_model.specs.State as model
 use Rattle.network_links.specs.declared.access.Access.{Access}
 use Rattle.network_links.specs.declared.link.End.TheVariants.{Lower, Upper}
 use Rattle.network_links.specs.Links.{Joined, at_end, new_sender}

@@ -4,15 +4,15 @@ use Rattle.std.specs.Prelude.{◌⊎◌}
 use Rattle.pcep_subobjects.specs.declared.hop.Hop.{Hop}
 use Rattle.pcep_framing.specs.Frames.{joined}
 use Rattle.plant_text.specs.declared.settings.NetworkParts.{NetworkParts}
-use Rattle.settings_layout.specs.plant_model.declared.outcome.Outcome.TheVariants.{Done}
-use Rattle.settings_layout.specs.plant_model.declared.outcome.Refused.{Refused}
-use Rattle.settings_layout.specs.plant_model.declared.outcome.Refused.TheVariants.{NoSuchPeer, NotHolder, NoMemory}
-use Rattle.settings_layout.specs.plant_model.Names.{set_number}
-use Rattle.settings_layout.specs.plant_model.Wire.{Bytes, Codec}
-use Rattle.settings_layout.specs.plant_model.RealWire.{wire}
-use Rattle.settings_layout.specs.plant_model.State.{Connection, Access, State}
-use Rattle.settings_layout.specs.plant_model.Deeds.{with_access, on_connection}
-use Rattle.settings_layout.specs.plant_model.Events.{Answered, Happened, fed, is_down, takes_feed, drained, feed, feed_open, drain, drain_open, answered, idle}
+use Rattle.plant_model.specs.declared.outcome.Outcome.TheVariants.{Done}
+use Rattle.plant_model.specs.declared.outcome.Refused.{Refused}
+use Rattle.plant_model.specs.declared.outcome.Refused.TheVariants.{NoSuchPeer, NotHolder, NoMemory}
+use Rattle.plant_model.specs.Names.{set_number}
+use Rattle.plant_model.specs.Wire.{Bytes, Codec}
+use Rattle.plant_model.specs.RealWire.{wire}
+use Rattle.plant_model.specs.State.{Connection, Access, State}
+use Rattle.plant_model.specs.Deeds.{with_access, on_connection}
+use Rattle.plant_model.specs.Events.{Answered, Happened, fed, is_down, takes_feed, drained, feed, feed_open, drain, drain_open, answered, idle}
 use Rattle.network_links.specs.Ends.{fed_while_up}
 use Rattle.network_links.specs.declared.peers.Drained.{Drained as Handed}
 use Rattle.network_links.specs.Flow.{Flow, with_flow, change_access}

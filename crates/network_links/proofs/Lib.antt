@@ -12,3 +12,7 @@ pub mod RoomLemmas
 pub mod StepLemmas
 pub mod InboxLemmas
 mod QuietSideLemmas
+pub mod DomainLemmas
+pub mod AdjacencyLemmas
+pub mod PeerRowLemmas
+pub mod RouteLemmas

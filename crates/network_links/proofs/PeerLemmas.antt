@@ -6,9 +6,9 @@ use Rattle.std.proofs.Math.ListN.{length-set}
 use Rattle.std.proofs.lemmas.Bool.{eqb-true, eqb-false}
 use Rattle.std.proofs.lemmas.Option.{slice_get_within, slice_get_past}
 use Rattle.plant_queues.specs.Messages.{Spare}
-use Rattle.settings_layout.specs.plant_model.Names.{set_number}
-use Rattle.settings_layout.specs.plant_model.State as model
-use Rattle.settings_layout.specs.plant_model.Deeds.{on_connection}
+use Rattle.plant_model.specs.Names.{set_number}
+use Rattle.plant_model.specs.State as model
+use Rattle.plant_model.specs.Deeds.{on_connection}
 use Rattle.network_links.specs.declared.access.Access.{Access}
 use Rattle.network_links.specs.Ends.{Connected}
 use Rattle.network_links.specs.Peers.{Guests, guests_of, access_of, access_or, room_of, room_or, set_guest, change_guest}

@@ -5,7 +5,7 @@ use Rattle.std.proofs.lemmas.Option.{slice_get_past}
 use Rattle.dom_base.specs.declared.names.As.{As}
 use Rattle.dom_base.specs.declared.names.Tick.{Tick}
 use Rattle.pcep_session.specs.Quiet.{is_quiet, after_quiet}
-use Rattle.settings_layout.specs.plant_model.State as model
+use Rattle.plant_model.specs.State as model
 use Rattle.network_links.specs.declared.access.Access.{Access}
 use Rattle.network_links.specs.declared.link.End.{End}
 use Rattle.network_links.specs.Links.{Joined, at_end}

@@ -7,7 +7,7 @@ use Rattle.std.proofs.lemmas.Bool.{false≢true}
 use Rattle.dom_base.specs.declared.names.As.{As}
 use Rattle.plant_text.specs.Names.{same_as, same_link}
 use Rattle.plant_text.specs.Settings.{Adjacency, has_adjacency}
-use Rattle.settings_layout.specs.plant_model.Names.{set_pair}
+use Rattle.plant_model.specs.Names.{set_pair}
 use Rattle.network_links.specs.declared.link.End.{End}
 use Rattle.network_links.specs.declared.link.End.TheVariants.{Lower, Upper}
 use Rattle.network_links.specs.Links.{Joined, at_end, set_end}

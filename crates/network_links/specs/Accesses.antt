@@ -3,12 +3,12 @@ use Rattle.std.specs.Prelude.{◌≡◌, ◌==◌, ◌+◌, ◌%◌, ℕ, Bool, 
 use Rattle.std.specs.Option.{option_map}
 use Rattle.dom_base.specs.declared.names.NoMemory.{NoMemory as Want}
 use Rattle.dom_base.specs.declared.names.Tick.{Tick}
-use Rattle.settings_layout.specs.plant_model.declared.outcome.Refused.{Refused}
-use Rattle.settings_layout.specs.plant_model.declared.outcome.Refused.TheVariants.{NoSuchPeer, NotHolder, NoMemory}
-use Rattle.settings_layout.specs.plant_model.Wire.{Bytes}
-use Rattle.settings_layout.specs.plant_model.State as model
-use Rattle.settings_layout.specs.plant_model.Deeds.{with_more}
-use Rattle.settings_layout.specs.plant_model.Events.{is_down, drained}
+use Rattle.plant_model.specs.declared.outcome.Refused.{Refused}
+use Rattle.plant_model.specs.declared.outcome.Refused.TheVariants.{NoSuchPeer, NotHolder, NoMemory}
+use Rattle.plant_model.specs.Wire.{Bytes}
+use Rattle.plant_model.specs.State as model
+use Rattle.plant_model.specs.Deeds.{with_more}
+use Rattle.plant_model.specs.Events.{is_down, drained}
 use Rattle.network_links.specs.declared.access.Access.{Access}
 use Rattle.network_links.specs.Ends.{Connected, fed_while_up, just_open, with_kept}
 use Rattle.network_links.specs.Rooms.{Queue, KeepsRoom, Grows, Spends, Frees, queue}

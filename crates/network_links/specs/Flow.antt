@@ -15,10 +15,10 @@ use Rattle.plant_queues.specs.Messages.{Spare, IsRoomAgain}
 use Rattle.plant_queues.specs.Sents.{sent_of, size_of}
 use Rattle.plant_text.specs.Names.{parent_as}
 use Rattle.plant_text.specs.Settings.{Adjacency, has_adjacency}
-use Rattle.settings_layout.specs.plant_model.Names.{set_pair, set_number}
-use Rattle.settings_layout.specs.plant_model.Wire.{Bytes}
-use Rattle.settings_layout.specs.plant_model.State.{Connection, Access, State}
-use Rattle.settings_layout.specs.plant_model.Deeds.{on_connection, our_offer, with_inbox, with_more, with_session}
+use Rattle.plant_model.specs.Names.{set_pair, set_number}
+use Rattle.plant_model.specs.Wire.{Bytes}
+use Rattle.plant_model.specs.State.{Connection, Access, State}
+use Rattle.plant_model.specs.Deeds.{on_connection, our_offer, with_inbox, with_more, with_session}
 use Rattle.network_links.specs.Ends.{just_open, own_bytes}
 use Rattle.network_links.specs.Links.{new_sender}
 use Rattle.network_links.specs.Rooms.{KeepsRoom, Grows, Spends, Frees, queue}

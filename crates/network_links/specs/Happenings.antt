@@ -1,12 +1,12 @@
 -- What an event of an outside peer leaves on its way, whatever the elements are.
 use Rattle.std.specs.Prelude.{◌≡◌, ◌==◌, ℕ, Bool, true, false, List, [], ◌∷◌, Option, Some, None, Result, Ok, Err, OnOk, OnErr}
-use Rattle.settings_layout.specs.plant_model.declared.outcome.Outcome.TheVariants.{Done, Drained}
-use Rattle.settings_layout.specs.plant_model.declared.outcome.Refused.{Refused}
-use Rattle.settings_layout.specs.plant_model.declared.outcome.Refused.TheVariants.{NoSuchPeer, NotHolder, NoMemory}
-use Rattle.settings_layout.specs.plant_model.Names.{set_number}
-use Rattle.settings_layout.specs.plant_model.Wire.{Bytes}
-use Rattle.settings_layout.specs.plant_model.State.{Connection, Deed, Hands}
-use Rattle.settings_layout.specs.plant_model.Events.{Answered, is_down, drained}
+use Rattle.plant_model.specs.declared.outcome.Outcome.TheVariants.{Done, Drained}
+use Rattle.plant_model.specs.declared.outcome.Refused.{Refused}
+use Rattle.plant_model.specs.declared.outcome.Refused.TheVariants.{NoSuchPeer, NotHolder, NoMemory}
+use Rattle.plant_model.specs.Names.{set_number}
+use Rattle.plant_model.specs.Wire.{Bytes}
+use Rattle.plant_model.specs.State.{Connection, Deed, Hands}
+use Rattle.plant_model.specs.Events.{Answered, is_down, drained}
 use Rattle.network_links.specs.Ends.{fed_while_up}
 use Rattle.network_links.specs.Rooms.{Frees, queue}
 use Rattle.network_links.specs.declared.peers.Drained.{Drained as Handed}

@@ -10,6 +10,7 @@ pub mod Rooms
 pub mod Links
 pub mod Inboxes
 pub mod QuietSides
+pub mod Adjacencies
 -- inner
 pub mod Sides
 pub mod Peers
@@ -19,6 +20,6 @@ pub mod OwnFields
 pub mod SideFields
 pub mod ConnectionFields
 pub mod LinkFields
+pub mod Places
 -- handed on from below
-pub use Rattle.settings_layout.specs as settings_layout
-pub use Rattle.settings_layout.specs.plant_model
+pub use Rattle.plant_model.specs as plant_model

@@ -5,13 +5,13 @@ use Rattle.dom_base.specs.declared.names.NoMemory.{NoMemory as Want}
 use Rattle.dom_base.specs.declared.names.Tick.{Tick}
 use Rattle.pcep_framing.specs.Frames.{joined}
 use Rattle.plant_queues.specs.Messages.{Spare}
-use Rattle.settings_layout.specs.plant_model.declared.outcome.Refused.{Refused}
-use Rattle.settings_layout.specs.plant_model.declared.outcome.Refused.TheVariants.{NoSuchPeer, NotHolder, NoMemory}
-use Rattle.settings_layout.specs.plant_model.Names.{set_number}
-use Rattle.settings_layout.specs.plant_model.Wire.{Bytes}
-use Rattle.settings_layout.specs.plant_model.State as model
-use Rattle.settings_layout.specs.plant_model.Deeds.{on_connection, with_more}
-use Rattle.settings_layout.specs.plant_model.Events.{is_down, drained}
+use Rattle.plant_model.specs.declared.outcome.Refused.{Refused}
+use Rattle.plant_model.specs.declared.outcome.Refused.TheVariants.{NoSuchPeer, NotHolder, NoMemory}
+use Rattle.plant_model.specs.Names.{set_number}
+use Rattle.plant_model.specs.Wire.{Bytes}
+use Rattle.plant_model.specs.State as model
+use Rattle.plant_model.specs.Deeds.{on_connection, with_more}
+use Rattle.plant_model.specs.Events.{is_down, drained}
 use Rattle.network_links.specs.declared.access.Access.{Access}
 use Rattle.network_links.specs.Ends.{Connected, fed_while_up}
 use Rattle.network_links.specs.Rooms.{Queue, KeepsRoom, Grows, Spends, Frees, queue}

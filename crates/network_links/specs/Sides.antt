@@ -7,9 +7,9 @@ use Rattle.pcep_session.specs.declared.actions.Own.TheVariants.{Open}
 use Rattle.pcep_session.specs.declared.state.State.{State as Session}
 use Rattle.plant_text.specs.Names.{same_as, same_link}
 use Rattle.plant_text.specs.Settings.{Adjacency, has_adjacency}
-use Rattle.settings_layout.specs.plant_model.Names.{set_pair}
-use Rattle.settings_layout.specs.plant_model.Wire.{Bytes}
-use Rattle.settings_layout.specs.plant_model.Deeds.{our_offer}
+use Rattle.plant_model.specs.Names.{set_pair}
+use Rattle.plant_model.specs.Wire.{Bytes}
+use Rattle.plant_model.specs.Deeds.{our_offer}
 use Rattle.network_links.specs.declared.link.End.{End}
 use Rattle.network_links.specs.declared.link.End.TheVariants.{Lower, Upper}
 use Rattle.network_links.specs.Ends.{Roomy, Sender, with_kept, sends, begun, own_bytes}

@@ -2,7 +2,7 @@
 use Rattle.std.specs.Prelude.{◌≡◌, ◌<◌, ◌≤◌, ◌⊎◌, Bool, true, false, not, List, [], ◌∷◌, ◌++◌, All, Contains, Option, Some, None}
 use Rattle.dom_base.specs.declared.names.As.{As}
 use Rattle.plant_text.specs.Settings.{Adjacency}
-use Rattle.settings_layout.specs.plant_model.Names.{is_empty}
+use Rattle.plant_model.specs.Names.{is_empty}
 use Rattle.network_links.specs.Flow.{Flow}
 
 -- by the sender, then by the receiver

@@ -1,7 +1,7 @@
 //! One of some outside peers, and what calls do to it.
 ghost use Rattle.std.specs.Prelude.{◌≡◌, ◌<◌, [], length, slice_get, IfSome};
 ghost use Rattle.plant_queues.specs.Messages.{Covers};
-ghost use Rattle.settings_layout.specs.plant_model.Deeds as deeds;
+ghost use Rattle.plant_model.specs.Deeds as deeds;
 ghost use Rattle.network_links.specs.Accesses.{ChangesAt, ConnectsAccess, DrainsAccess, FeedsAccess, ReservesAccess, SendsAccess, on_connected};
 ghost use Rattle.network_links.specs.Flow.{drop_first};
 ghost use Rattle.network_links.specs.Peers.{room_of};
@@ -11,7 +11,7 @@ use crate::access::Access;
 use crate::peers::Drained;
 use dom_base::{NoMemory, Tick};
 use pcep_session::Session;
-use settings_layout::model::Refused;
+use plant_model::Refused;
 use std::alloc::Global;
 
 fn set_session(access: &mut Access, session: Session)

@@ -1,29 +1,38 @@
-//! What is on its way in a network, whatever its elements are: its clock, its outside peers, its inner
-//! links, and the messages of a step.
+//! What stands where in a network, as its settings say, and what is on its way in it, whatever its elements are: the elements in rising
+//! order, the children of the parent, neighbours, routes, policies and classes of peers; its clock, its outside peers and its inner links with
+//! their sessions, and the messages of a step.
 #![tactic(auto)]
 
 mod access;
 mod accesses;
+mod adjacencies;
 mod connection;
+mod domains;
 mod inbox;
 mod law;
 mod link;
 mod links;
 mod own;
 mod peers;
+mod routes;
+mod rows;
 mod session;
 mod side;
 mod traffic;
 mod waiting;
 
 pub use access::Access;
+pub use adjacencies::{adjacencies_of, find_adjacency, others_along};
 pub use connection::Connection;
+pub use domains::{children_of, elements_of};
 pub use law::{lengths_are_numbers, room_is_left, steps_keep_number};
 pub use link::{End, Link};
 pub use own::{ShortText, lost_text, our_offer, own_text};
 pub use peers::Drained;
+pub use plant_model as model;
+pub use routes::routes_of;
+pub use rows::{class_of, deny_at};
 pub use session::any_fall;
-pub use settings_layout::adjacencies_of;
 pub use traffic::Traffic;
 
 /// The greatest length, in octets, of a message that a session says of itself. Its Open offers no

@@ -3,12 +3,12 @@ ghost use Rattle.std.specs.Prelude.{◌≡◌, ◌<◌, true, [], length, not, s
 ghost use Rattle.std.specs.Option.{option_map};
 ghost use Rattle.plant_text.specs.Names.{same_link};
 ghost use Rattle.plant_text.specs.Settings.{has_adjacency};
-ghost use Rattle.settings_layout.specs.Adjacencies.{adjacency_of, are_adjacencies};
+ghost use Rattle.network_links.specs.Adjacencies.{adjacency_of, are_adjacencies};
 ghost use Rattle.pcep_session.specs.Quiet.{is_quiet};
 ghost use Rattle.plant_queues.specs.Messages.{Covers};
-ghost use Rattle.settings_layout.specs.plant_model.Names.{is_empty};
-ghost use Rattle.settings_layout.specs.plant_model.RealWire.{wire};
-ghost use Rattle.settings_layout.specs.plant_model.Deeds as deeds;
+ghost use Rattle.plant_model.specs.Names.{is_empty};
+ghost use Rattle.plant_model.specs.RealWire.{wire};
+ghost use Rattle.plant_model.specs.Deeds as deeds;
 ghost use Rattle.network_links.specs.Ends.{is_left_out};
 ghost use Rattle.network_links.specs.Links.{at_end, set_end, new_sender, next_sid};
 ghost use Rattle.network_links.specs.Rooms.{KeepsRoom, queue};

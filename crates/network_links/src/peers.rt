@@ -2,8 +2,8 @@
 ghost use Rattle.std.specs.Prelude.{◌≡◌, ◌<◌, ◌%◌, ◌+◌, [], drop, length, slice_get, Some, None, IfOk, OnErr, is_some};
 ghost use Rattle.std.specs.Option.{option_map};
 ghost use Rattle.plant_queues.specs.Messages.{Covers};
-ghost use Rattle.settings_layout.specs.plant_model.RealWire.{wire};
-ghost use Rattle.settings_layout.specs.plant_model.Deeds as deeds;
+ghost use Rattle.plant_model.specs.RealWire.{wire};
+ghost use Rattle.plant_model.specs.Deeds as deeds;
 ghost use Rattle.network_links.specs.Ends.{is_left_out};
 ghost use Rattle.network_links.specs.QuietSides.{is_quiet_peer, ticked_quietly};
 ghost use Rattle.network_links.specs.Flow.{drop_first, inbox_of, no_room, out_of};
@@ -14,7 +14,7 @@ use crate::accesses::{connect_at, drain_at, drop_first_at, empty_inbox_at, feed_
 use crate::connection::Connection;
 use dom_base::{Bytes, NoMemory, Tick};
 use pcep_session::{Input, Own, Session};
-use settings_layout::model::Refused;
+use plant_model::Refused;
 use std::alloc::Global;
 use std::marker::Model;
 

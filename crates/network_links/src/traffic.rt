@@ -2,11 +2,11 @@
 ghost use Rattle.std.specs.Prelude.{◌≡◌, ◌<◌, [], length, not, slice_get, Some, None, IfOk, OnOk, is_some};
 ghost use Rattle.std.specs.Option.{option_map};
 ghost use Rattle.plant_text.specs.Settings.{has_adjacency};
-ghost use Rattle.settings_layout.specs.Adjacencies.{adjacency_of, are_adjacencies};
+ghost use Rattle.network_links.specs.Adjacencies.{adjacency_of, are_adjacencies};
 ghost use Rattle.plant_queues.specs.Messages.{Covers};
-ghost use Rattle.settings_layout.specs.plant_model.Names.{is_empty};
-ghost use Rattle.settings_layout.specs.plant_model.RealWire.{wire};
-ghost use Rattle.settings_layout.specs.plant_model.Deeds as deeds;
+ghost use Rattle.plant_model.specs.Names.{is_empty};
+ghost use Rattle.plant_model.specs.RealWire.{wire};
+ghost use Rattle.plant_model.specs.Deeds as deeds;
 ghost use Rattle.network_links.specs.Ends.{is_left_out};
 ghost use Rattle.network_links.specs.Links.{next_sid};
 ghost use Rattle.network_links.specs.Carried.{flow_of};
@@ -20,8 +20,8 @@ use crate::own::{our_offer, own_text};
 use crate::peers::{Drained, Peers};
 use dom_base::{As, NoMemory, Peer, Tick};
 use pcep_session::{Input, Own, Session};
+use plant_model::Refused;
 use plant_queues::Said;
-use settings_layout::model::Refused;
 use std::alloc::Global;
 use std::marker::Model;
 

@@ -13,8 +13,8 @@ use Rattle.pce_common.specs.plant_model.Element.{Element, Way, ElementSettings}
 use Rattle.pce_common.specs.plant_model.declared.route.Route.{Route}
 use Rattle.pce_common.specs.plant_model.Routes.{routes}
 use Rattle.pce_common.specs.plant_model.Settings.{inner_ways, outer_way, place, place_from}
-use Rattle.settings_layout.specs.Adjacencies.{others}
-use Rattle.settings_layout.proofs.AdjacencyLemmas.{ways_to_others}
+use Rattle.network_links.specs.Adjacencies.{others}
+use Rattle.network_links.proofs.AdjacencyLemmas.{ways_to_others}
 use Rattle.pce_element.specs.Seen.{Seen, IsNew}
 use Rattle.network_members.specs.declared.fresh.Figures.{Figures}
 use Rattle.network_members.specs.Elements.{own_of, at_domain, nobody, element_or, elements_in, current_or, current_in}

@@ -11,7 +11,7 @@ use Rattle.pce_common.specs.plant_model.Events.{bare}
 use Rattle.pce_common.specs.plant_model.RealWire.{wire}
 use Rattle.pce_common.specs.plant_model.Settings.{place}
 use Rattle.pce_common.specs.Membership.{Membership}
-use Rattle.settings_layout.specs.Adjacencies.{others}
+use Rattle.network_links.specs.Adjacencies.{others}
 use Rattle.pce_element.specs.Seen.{Seen, IsNew}
 use Rattle.network_members.specs.declared.fresh.Figures.{Figures}
 

@@ -3,15 +3,15 @@ ghost use Rattle.std.specs.Prelude.{◌≡◌, ◌<◌, ◌^◌, length, IfOk};
 ghost use Rattle.plant_text.specs.Names.{same_as};
 ghost use Rattle.plant_text.specs.Settings.{elements_of, life, adjacencies, row_of};
 ghost use Rattle.pce_common.specs.plant_model.Settings.{place};
-ghost use Rattle.settings_layout.specs.Adjacencies.{are_adjacencies, others};
+ghost use Rattle.network_links.specs.Adjacencies.{are_adjacencies, others};
 ghost use Rattle.pce_element.specs.Seen.{IsNew};
 ghost use Rattle.network_members.specs.Fresh.{AreNew, LivesFit, figures_from};
 
 use crate::elements::Elements;
 use dom_base::{Addr, As, NoMemory};
+use network_links::{deny_at, elements_of, others_along, routes_of};
 use pce_element::{Element, World};
 use plant_text::{ElementRow, NetworkParts};
-use settings_layout::{deny_at, elements_of, others_along, routes_of};
 use std::alloc::Global;
 
 /// What the settings say of one element.

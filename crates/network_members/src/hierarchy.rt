@@ -14,10 +14,10 @@ ghost use Rattle.network_members.specs.Tiers.{lost_in, members_of};
 
 use crate::elements::Elements;
 use dom_base::{Addr, As, NoMemory, Tick};
+use network_links::{adjacencies_of, children_of};
 use pce_element::World;
 use pce_parent::{Parent, copy_links};
 use plant_text::{Network, NetworkParts};
-use settings_layout::{adjacencies_of, children_of};
 use std::alloc::Global;
 use std::marker::Model;
 

@@ -12,11 +12,11 @@ ghost use Rattle.network_members.specs.Tiers.{Become, Takes, lost_in, members_of
 use crate::hierarchy::Hierarchy;
 use crate::plan::MemberPlan;
 use dom_base::{As, NoMemory, Peer, Tick};
+use network_links::class_of;
 use pce_common::model::Lost;
 use pce_element::{Plan, World};
 use pce_parent::BorderPlan;
 use pcep_messages::Message;
-use settings_layout::class_of;
 
 /// Whether a message has at most one request or reply.
 pub(crate) fn has_one_part(message: &Message) -> bool

@@ -8,13 +8,13 @@ ghost use Rattle.network_serving.specs.Duties.{both_ways, child_ways, first_duti
 ghost use Rattle.network_serving.specs.Ends.{RoseBy};
 ghost use Rattle.network_serving.specs.Starting.{Adds, IsClosed, IsPlanEnd, called, peer_ports};
 
-use crate::served::Served;
 use cost_cache::Cache;
+use crate::served::Served;
 use dom_base::{As, List, NoMemory};
 use dom_edge::{Listener, Opened, Ports};
+use network_links::children_of;
 use plant_text::{Network, NetworkParts, PeerRow};
 use serve_tasks::Task;
-use settings_layout::children_of;
 use std::alloc::Global;
 use std::sync::Wait;
 use std::time::Clock;

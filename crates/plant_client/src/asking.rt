@@ -10,9 +10,9 @@ ghost use Rattle.plant_client.specs.Questions.{question_text, sequence_most};
 use crate::question::{Question, opening_bytes, question_bytes};
 use dom_base::{As, Bytes, List, NoMemory, Text};
 use dom_edge::Store;
+use network_links::elements_of;
 use plant_play::{Answer, Log, Outcome, Player, Stop, play_cue};
 use plant_text::{ElementRow, LineEvent, Network};
-use settings_layout::elements_of;
 use std::alloc::Global;
 
 // ---- the topologies

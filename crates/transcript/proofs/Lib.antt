@@ -1,4 +1,4 @@
 pub mod LineLemmas
 pub mod ScriptParts
 -- handed on from below
-pub use Rattle.settings_layout.proofs as settings_layout
+pub use Rattle.network_links.proofs as network_links

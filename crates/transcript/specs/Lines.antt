@@ -14,11 +14,11 @@ use Rattle.plant_queues.specs.declared.sent.Sent.{Sent}
 use Rattle.plant_text.specs.declared.settings.PeerRow.{PeerRow}
 use Rattle.plant_text.specs.Settings.{peer_row}
 use Rattle.plant_text.specs.Sents.{sent_line}
-use Rattle.settings_layout.specs.plant_model.declared.outcome.Outcome.{Outcome}
-use Rattle.settings_layout.specs.plant_model.declared.outcome.Outcome.TheVariants.{Done, Loaded, Drained}
-use Rattle.settings_layout.specs.plant_model.declared.outcome.Refused.{Refused}
-use Rattle.settings_layout.specs.plant_model.declared.outcome.Refused.TheVariants.{GenerationsFull, NoSuchPeer, NotHolder, NothingToCarry, NoSuchJob, NoMemory}
-use Rattle.settings_layout.specs.plant_model.Events.{Answered}
+use Rattle.network_links.specs.plant_model.declared.outcome.Outcome.{Outcome}
+use Rattle.network_links.specs.plant_model.declared.outcome.Outcome.TheVariants.{Done, Loaded, Drained}
+use Rattle.network_links.specs.plant_model.declared.outcome.Refused.{Refused}
+use Rattle.network_links.specs.plant_model.declared.outcome.Refused.TheVariants.{GenerationsFull, NoSuchPeer, NotHolder, NothingToCarry, NoSuchJob, NoMemory}
+use Rattle.network_links.specs.plant_model.Events.{Answered}
 
 -- `LINE TEXT`
 abbrev pub numbered : ℕ → List ℕ → List ℕ

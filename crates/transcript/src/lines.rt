@@ -7,10 +7,10 @@ ghost use Rattle.transcript.specs.Lines.{answer_line, answer_text, bytes_text, c
 
 use dom_base::{Addr, As, BorderRow, Label, NoMemory, Peer, write_addr, write_number};
 use line_text::write_hex;
+use network_links::model::{Outcome, Refused};
 use path_certificate::Certificate;
 use plant_queues::Said;
 use plant_text::PeerRow;
-use settings_layout::model::{Outcome, Refused};
 use std::alloc::Global;
 
 fn write_words(words: &[u8], into: &mut Vec<u8>) -> Result<(), NoMemory>

@@ -1,7 +1,7 @@
 //! Public calls that the program does not make.
 use dom_base::As;
+use network_links::find_adjacency;
 use request_table::Requests;
-use settings_layout::find_adjacency;
 use std::test::Fail;
 
 #[test]

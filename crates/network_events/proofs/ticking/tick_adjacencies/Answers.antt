@@ -3,7 +3,7 @@ use Rattle.std.specs.Prelude.{slice_get}
 use Rattle.std.proofs.lemmas.List.{take_all}
 use Rattle.plant_text.specs.declared.settings.NetworkParts.{NetworkParts}
 use Rattle.plant_text.specs.Settings.{Adjacency, has_adjacency, adjacencies}
-use Rattle.network_links.specs.settings_layout.Adjacencies.{adjacency_of}
+use Rattle.network_links.specs.Adjacencies.{adjacency_of}
 use Rattle.pce_common.specs.plant_model.RealWire.{wire}
 use Rattle.pce_common.specs.plant_model.Deeds as deeds
 use Rattle.network_links.specs.Carried.{flow_of}

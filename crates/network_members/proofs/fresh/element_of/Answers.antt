@@ -2,7 +2,7 @@ use Rattle.std.proofs.Common.{◌∙◌, List, ap}
 use Rattle.plant_text.specs.declared.settings.ElementRow.{ElementRow}
 use Rattle.plant_text.specs.Settings.{row_of, deny_at}
 use Rattle.pce_common.specs.plant_model.Routes.{routes_from}
-use Rattle.settings_layout.specs.Adjacencies.{others}
+use Rattle.network_links.specs.Adjacencies.{others}
 use Rattle.network_members.specs.Fresh.{figures_from}
 use Rattle.network_members.proofs.FreshLemmas.{new_for, life_least, life_most}
 use Rattle.network_members.proofs.fresh.element_of.Goals as goal

@@ -2,7 +2,7 @@ use Rattle.std.proofs.Common.{◌∙◌, Option, length, refl, sym, ap}
 use Rattle.std.proofs.lemmas.Option.{slice_get_read, slice_get_past}
 use Rattle.plant_text.specs.declared.settings.PeerRow.{PeerRow}
 use Rattle.pce_common.specs.plant_model.Deeds.{at_row}
-use Rattle.settings_layout.proofs.RowLemmas.{peer_row_is}
+use Rattle.network_links.proofs.PeerRowLemmas.{peer_row_is}
 use Rattle.network_members.proofs.members.at_peer.Goals as goal
 
 pub returns-in-Some : goal.returns-in-Some

@@ -4,7 +4,7 @@ use Rattle.dom_base.specs.declared.names.Peer.{Peer}
 use Rattle.plant_text.specs.declared.settings.PeerRow.{PeerRow}
 use Rattle.plant_text.specs.Settings.{class_from}
 use Rattle.plant_network.specs.plant_model.Element.{is_client}
-use Rattle.transcript.proofs.settings_layout.RowLemmas.{peer_row_is}
+use Rattle.transcript.proofs.network_links.PeerRowLemmas.{peer_row_is}
 use Rattle.plant_play.specs.Making.{closed_among}
 use Rattle.plant_play.proofs.showing.is_closed.Goals as goal
 

@@ -1,7 +1,7 @@
 use Rattle.std.proofs.Common.{◌≡◌, IfOk, Some, slice_get, sym, subst, List, ℕ}
 use Rattle.std.specs.Option.{option_map}
-use Rattle.settings_layout.specs.plant_model.RealWire.{wire}
-use Rattle.settings_layout.specs.plant_model.Deeds.{input_of}
+use Rattle.plant_model.specs.RealWire.{wire}
+use Rattle.plant_model.specs.Deeds.{input_of}
 use Rattle.network_links.specs.Sides.{Side}
 use Rattle.network_links.proofs.RowLemmas.{read_side}
 use Rattle.network_links.proofs.links.Links.first_input.Goals as goal

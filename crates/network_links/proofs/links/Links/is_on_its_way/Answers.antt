@@ -1,5 +1,5 @@
 use Rattle.std.proofs.Common.{◌≡◌, ◌∙◌, not, sym, ap}
-use Rattle.settings_layout.specs.plant_model.Names.{is_empty}
+use Rattle.plant_model.specs.Names.{is_empty}
 use Rattle.network_links.specs.Sides.{Side}
 use Rattle.network_links.proofs.RowLemmas.{read_side}
 use Rattle.network_links.proofs.links.Links.is_on_its_way.Goals as goal

@@ -1,6 +1,6 @@
 use Rattle.std.proofs.Common.{◌≡◌, ◌++◌, ◌∷◌, [], List, ◌+◌, drop, sym, subst}
 use Rattle.std.specs.Prelude.{All}
-use Rattle.settings_layout.specs.Adjacencies.{are_adjacencies}
+use Rattle.network_links.specs.Adjacencies.{are_adjacencies}
 use Rattle.network_links.specs.Links.{Joined}
 use Rattle.network_links.specs.Sides.{adjacencies_in}
 use Rattle.network_links.proofs.FreshLemmas.{IsNewLink, all_adjacencies, all_new, new_links, one_more}

@@ -1,6 +1,6 @@
 use Rattle.std.proofs.Common.{◌≡◌, ◌++◌, drop}
 use Rattle.std.specs.Prelude.{All}
-use Rattle.settings_layout.specs.Adjacencies.{are_adjacencies}
+use Rattle.network_links.specs.Adjacencies.{are_adjacencies}
 use Rattle.network_links.specs.Sides.{adjacencies_in}
 use Rattle.network_links.proofs.FreshLemmas.{IsNewLink}
 use Rattle.network_links.proofs.links.Links.new.Given as goal

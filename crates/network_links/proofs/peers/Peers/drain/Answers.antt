@@ -1,6 +1,6 @@
 use Rattle.std.proofs.Common.{subst, arith, List, Err}
 use Rattle.network_links.specs.declared.access.Access.{Access}
-use Rattle.settings_layout.specs.plant_model.declared.outcome.Refused.TheVariants.{NoSuchPeer}
+use Rattle.plant_model.specs.declared.outcome.Refused.TheVariants.{NoSuchPeer}
 use Rattle.network_links.specs.Peers.{DrainsPeer, guests_of}
 use Rattle.network_links.proofs.AccessLemmas.{drains, nobody_drains}
 use Rattle.network_links.proofs.peers.Peers.drain.Goals as goal

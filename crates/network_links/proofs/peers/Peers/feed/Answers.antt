@@ -1,6 +1,6 @@
 use Rattle.std.proofs.Common.{Err, List, arith, subst}
 use Rattle.network_links.specs.declared.access.Access.{Access}
-use Rattle.settings_layout.specs.plant_model.declared.outcome.Refused.TheVariants.{NoSuchPeer}
+use Rattle.plant_model.specs.declared.outcome.Refused.TheVariants.{NoSuchPeer}
 use Rattle.network_links.specs.Peers.{FeedsPeer, guests_of}
 use Rattle.network_links.proofs.AccessLemmas.{feeds, nobody_feeds}
 use Rattle.network_links.proofs.peers.Peers.feed.Goals as goal

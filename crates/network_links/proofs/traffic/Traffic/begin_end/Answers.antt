@@ -3,7 +3,7 @@ use Rattle.dom_base.specs.declared.names.Peer.TheVariants.{Inner}
 use Rattle.pcep_objects.specs.declared.offer.Offer.{Offer}
 use Rattle.pcep_session.specs.declared.actions.Own.TheVariants.{Open}
 use Rattle.plant_queues.specs.Sents.{sent_of}
-use Rattle.settings_layout.specs.plant_model.Deeds.{our_offer}
+use Rattle.plant_model.specs.Deeds.{our_offer}
 use Rattle.network_links.specs.Ends.{own_bytes}
 use Rattle.network_links.specs.Rooms.{Spends}
 use Rattle.network_links.specs.Carried.{Carried, seen, flow_of}

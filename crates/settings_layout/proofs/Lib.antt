@@ -1,4 +1,0 @@
-pub mod PlaceLemmas
-pub mod AdjacencyLemmas
-pub mod RowLemmas
-pub mod RouteLemmas

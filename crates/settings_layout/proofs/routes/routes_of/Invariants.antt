@@ -1,5 +1,0 @@
-use Rattle.settings_layout.proofs.RouteLemmas.{Found}
-use Rattle.settings_layout.proofs.routes.routes_of.Given as goal
-
-abbrev pub invariant-loop-i : goal.invariant-loop-i
-invariant-loop-i l = Found l.own l.i l.peers l.found
