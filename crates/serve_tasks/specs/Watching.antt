@@ -2,8 +2,8 @@
 use Rattle.std.specs.Prelude.{◌≡◌, ◌⊎◌, ◌-◌, ◌^◌, ℕ, zero, suc, List}
 use Rattle.session_serving.specs.Serving.{IsIdle, IsLater, Waits}
 use Rattle.ted_watch.specs.declared.shown.Shown.{Shown}
-use Rattle.watch_lines.specs.Serving.{Sides, Watches}
-use Rattle.watch_lines.specs.declared.serving.Watched.{Watched}
+use Rattle.ted_watch.specs.Serving.{Sides, Watches}
+use Rattle.ted_watch.specs.declared.serving.Watched.{Watched}
 
 -- a connection is answered to its end, over any link
 pub record IsAnswered (old new : List Shown) : Type 0 where

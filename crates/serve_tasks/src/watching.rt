@@ -7,8 +7,7 @@ ghost use Rattle.serve_tasks.specs.Watching.{IsWatchTurn, WatchesPort};
 use dom_edge::{Accepted, Listener};
 use std::alloc::Global;
 use std::sync::Wait;
-use ted_watch::Watcher;
-use watch_lines::serve_watch;
+use ted_watch::{Watcher, serve_watch};
 
 // How many turns a watcher's connection may have.
 const WATCH_TURNS: u64 = u64::MAX;

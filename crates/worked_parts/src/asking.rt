@@ -5,8 +5,7 @@ use dom_edge::{MemoryLink, MemorySink, MemoryStream};
 use std::alloc::Global;
 use std::sync::Wait;
 use std::test::Fail;
-use ted_watch::{Shown, Watcher, open_watch};
-use watch_lines::{Watched, serve_watch};
+use ted_watch::{Shown, Watched, Watcher, open_watch, serve_watch};
 
 // What comes in, in pieces that `/` parts; which read and which write fails; how many turns there are; how it ends; and what
 // is told. `;` stands for a line end, and `^` for a CR. A topology of AS 1 is published, of three nodes and four links. There

@@ -1,7 +1,7 @@
 use Rattle.std.proofs.Common.{List, ℕ, ◌++◌, ◌∷◌, [], ap, ◌∙◌, decimal}
-use Rattle.watch_lines.specs.Answers.{said_text}
-use Rattle.watch_lines.proofs.Parts.{shown_parts}
-use Rattle.watch_lines.proofs.answers.write_shown.Goals as goal
+use Rattle.ted_watch.specs.Answers.{said_text}
+use Rattle.ted_watch.proofs.Parts.{shown_parts}
+use Rattle.ted_watch.proofs.answers.write_shown.Goals as goal
 
 pub returns : goal.returns
 returns c =

@@ -2,11 +2,12 @@
 ghost use Rattle.std.specs.Prelude.{◌≡◌, ◌++◌, OnOk};
 ghost use Rattle.std.specs.Str.Lines.{strip_carriage_return};
 ghost use Rattle.ted_watch.specs.Watch.{known, list_at};
-ghost use Rattle.watch_lines.specs.Answers.{Reads, asked_in, bad_text, counts_text, said_text, shown_text, text_of};
+ghost use Rattle.ted_watch.specs.Answers.{Reads, asked_in, bad_text, counts_text, said_text, shown_text, text_of};
 
+use crate::shown::Shown;
+use crate::watch::Watcher;
 use dom_base::{As, NoMemory, read_number, write_number};
 use std::sync::Wait;
-use ted_watch::{Shown, Watcher};
 
 // A line without the CR at its end.
 fn without_return(line: &[u8]) -> &[u8]

@@ -2,7 +2,7 @@
 use Rattle.std.proofs.Common.{◌≡◌, ℕ, List, [], ◌∷◌, ◌++◌, append_assoc, codes, decimal, Option}
 use Rattle.dom_base.specs.declared.names.As.{As}
 use Rattle.ted_watch.specs.declared.shown.Shown.{Shown}
-use Rattle.watch_lines.specs.Answers.{counts_text, said_text, shown_text}
+use Rattle.ted_watch.specs.Answers.{counts_text, said_text, shown_text}
 
 pub counts_parts : (v : List ℕ) (s : Shown) →
     (((((v ++ codes " generation ") ++ decimal s.generation) ++ codes " nodes ") ++ decimal s.nodes) ++ codes " links ") ++ decimal s.links ≡ v ++ counts_text s

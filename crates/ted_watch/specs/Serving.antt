@@ -1,16 +1,15 @@
 -- How operators are served over a connection.
-use Rattle.std.specs.Prelude.{◌≡◌, ◌≢◌, ℕ, ◌+◌, ◌-◌, ◌^◌, ◌<◌, ◌≤◌, ◌⊎◌, List, [], ◌∷◌, ◌++◌, length, take, min, All, Result, Ok, Err}
+use Rattle.std.specs.Prelude.{◌≡◌, ◌≢◌, ℕ, ◌+◌, ◌-◌, ◌^◌, ◌<◌, ◌≤◌, ◌⊎◌, List, [], ◌∷◌, ◌++◌, length, take, min, All, Result, Ok, Err, Some, None}
 use Rattle.std.specs.List.{flat_map}
 use Rattle.std.specs.declared.option.Option.{Option}
-use Rattle.std.specs.Prelude.{Some, None}
 use Rattle.std.specs.Io.KnownBytes.{Appends, Consumes}
 use Rattle.dom_edge.specs.Causes.{Rose}
 use Rattle.dom_edge.specs.Streams.{Reading, Writing}
 use Rattle.dom_edge.specs.Whole.{AppendsSome}
 use Rattle.ted_watch.specs.declared.shown.Shown.{Shown}
-use Rattle.watch_lines.specs.Answers.{AreAnswered}
-use Rattle.watch_lines.specs.declared.serving.Watched.{Watched}
-use Rattle.watch_lines.specs.declared.serving.Watched.TheVariants.{PeerEnd, ReadFault, WriteFault, LongLine, Turns, NoMemory}
+use Rattle.ted_watch.specs.Answers.{AreAnswered}
+use Rattle.ted_watch.specs.declared.serving.Watched.{Watched}
+use Rattle.ted_watch.specs.declared.serving.Watched.TheVariants.{PeerEnd, ReadFault, WriteFault, LongLine, Turns, NoMemory}
 
 -- both sides of a connection
 pub record Sides : Type 0 where

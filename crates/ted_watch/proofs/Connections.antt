@@ -8,10 +8,10 @@ use Rattle.dom_edge.specs.Causes.{Rose}
 use Rattle.dom_edge.specs.Streams.{Reading, Writing, IsRead}
 use Rattle.dom_edge.specs.declared.stream.Got.TheVariants as got
 use Rattle.ted_watch.specs.declared.shown.Shown.{Shown}
-use Rattle.watch_lines.specs.Serving.{AreTaken, AreTurns, Cuts, Feeds, HasCause, IsOpen, IsReadOut, IsTurned, Sides, Stops, TakesOn, Watches, Writes}
-use Rattle.watch_lines.specs.declared.serving.Watched.{Watched}
-use Rattle.watch_lines.specs.declared.serving.Watched.TheVariants.{PeerEnd, ReadFault, WriteFault, LongLine, Turns, NoMemory}
-use Rattle.watch_lines.proofs.Pieces.{taken_none, taken_on, writes_on}
+use Rattle.ted_watch.specs.Serving.{AreTaken, AreTurns, Cuts, Feeds, HasCause, IsOpen, IsReadOut, IsTurned, Sides, Stops, TakesOn, Watches, Writes}
+use Rattle.ted_watch.specs.declared.serving.Watched.{Watched}
+use Rattle.ted_watch.specs.declared.serving.Watched.TheVariants.{PeerEnd, ReadFault, WriteFault, LongLine, Turns, NoMemory}
+use Rattle.ted_watch.proofs.Pieces.{taken_none, taken_on, writes_on}
 
 -- so many turns were made, and the connection is still served
 pub record IsServed (turns : ℕ) (line : List ℕ) (a b : List Shown) (old new : Sides) : Type 0 where

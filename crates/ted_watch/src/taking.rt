@@ -1,14 +1,14 @@
 //! Bytes that come in are cut into lines, and each line is answered.
 ghost use Rattle.std.specs.Prelude.{◌≡◌, ◌≢◌, ◌∷◌, []};
 ghost use Rattle.ted_watch.specs.Watch.{known, list_at};
-ghost use Rattle.watch_lines.specs.Serving.{Feeds, GoesOn, IsOpen};
+ghost use Rattle.ted_watch.specs.Serving.{Feeds, GoesOn, IsOpen};
 
 use crate::answers::write_answer;
 use crate::serving::Watched;
+use crate::watch::Watcher;
 use dom_edge::{Wire, write_whole};
 use std::alloc::Global;
 use std::sync::Wait;
-use ted_watch::Watcher;
 
 // How many bytes without a line end are too long.
 const LINE_MAX: usize = 64;

@@ -11,10 +11,10 @@ use Rattle.std.proofs.lemmas.List.Concat.{flat_map-append}
 use Rattle.dom_edge.specs.Streams.{Writing}
 use Rattle.dom_edge.specs.Whole.{AppendsSome}
 use Rattle.ted_watch.specs.declared.shown.Shown.{Shown}
-use Rattle.watch_lines.specs.Answers.{AreAnswered, Reads, asked_in, text_of}
-use Rattle.watch_lines.specs.Serving.{AreTaken, Cuts, Feeds, GoesOn, HasNoEnd, IsOpen, Leaves, Writes, ended}
-use Rattle.watch_lines.specs.declared.serving.Watched.{Watched}
-use Rattle.watch_lines.specs.declared.serving.Watched.TheVariants.{PeerEnd, ReadFault, WriteFault, LongLine, Turns, NoMemory}
+use Rattle.ted_watch.specs.Answers.{AreAnswered, Reads, asked_in, text_of}
+use Rattle.ted_watch.specs.Serving.{AreTaken, Cuts, Feeds, GoesOn, HasNoEnd, IsOpen, Leaves, Writes, ended}
+use Rattle.ted_watch.specs.declared.serving.Watched.{Watched}
+use Rattle.ted_watch.specs.declared.serving.Watched.TheVariants.{PeerEnd, ReadFault, WriteFault, LongLine, Turns, NoMemory}
 
 -- ---- what was written
 

@@ -1,11 +1,11 @@
 use Rattle.std.proofs.Common.{◌≡◌, sym, subst, ◌∙◌, ℕ, List, [], ◌∷◌, Ok}
 use Rattle.std.proofs.lemmas.Result.{err_from_is_err_and}
 use Rattle.ted_watch.specs.Watch.{known}
-use Rattle.watch_lines.specs.Answers.{asked_in, text_of}
-use Rattle.watch_lines.specs.Serving.{Feeds}
-use Rattle.watch_lines.specs.declared.serving.Watched.TheVariants.{WriteFault, NoMemory}
-use Rattle.watch_lines.proofs.Pieces.{line_cut, line_fed, none_of}
-use Rattle.watch_lines.proofs.taking.end_line.Goals as goal
+use Rattle.ted_watch.specs.Answers.{asked_in, text_of}
+use Rattle.ted_watch.specs.Serving.{Feeds}
+use Rattle.ted_watch.specs.declared.serving.Watched.TheVariants.{WriteFault, NoMemory}
+use Rattle.ted_watch.proofs.Pieces.{line_cut, line_fed, none_of}
+use Rattle.ted_watch.proofs.taking.end_line.Goals as goal
 
 pub returns-in_err-write_answer-clause-feeds : goal.returns-in_err-write_answer-clause-feeds
 returns-in_err-write_answer-clause-feeds g c =

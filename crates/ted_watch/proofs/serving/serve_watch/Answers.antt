@@ -1,8 +1,8 @@
 use Rattle.std.proofs.Common.{◌∙◌}
 use Rattle.ted_watch.specs.Watch.{known}
-use Rattle.watch_lines.specs.Serving.{sides}
-use Rattle.watch_lines.proofs.Connections.{served_on, served_out}
-use Rattle.watch_lines.proofs.serving.serve_watch.Goals as goal
+use Rattle.ted_watch.specs.Serving.{sides}
+use Rattle.ted_watch.proofs.Connections.{served_on, served_out}
+use Rattle.ted_watch.proofs.serving.serve_watch.Goals as goal
 
 pub returns-in-Err-clause-watches : goal.returns-in-Err-clause-watches
 returns-in-Err-clause-watches g c =

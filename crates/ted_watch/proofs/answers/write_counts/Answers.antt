@@ -1,6 +1,6 @@
 use Rattle.std.proofs.Common.{List, ℕ, ◌++◌, ap, ◌∙◌, codes, decimal}
-use Rattle.watch_lines.proofs.Parts.{counts_parts}
-use Rattle.watch_lines.proofs.answers.write_counts.Goals as goal
+use Rattle.ted_watch.proofs.Parts.{counts_parts}
+use Rattle.ted_watch.proofs.answers.write_counts.Goals as goal
 
 pub returns : goal.returns
 returns c =

@@ -1,7 +1,7 @@
 use Rattle.ted_watch.specs.Watch.{known}
-use Rattle.watch_lines.specs.Serving.{sides}
-use Rattle.watch_lines.proofs.Connections.{at_end, failed, quiet}
-use Rattle.watch_lines.proofs.serving.turn.Goals as goal
+use Rattle.ted_watch.specs.Serving.{sides}
+use Rattle.ted_watch.proofs.Connections.{at_end, failed, quiet}
+use Rattle.ted_watch.proofs.serving.turn.Goals as goal
 
 pub returns-in-Quiet-clause-turned : goal.returns-in-Quiet-clause-turned
 returns-in-Quiet-clause-turned g c =

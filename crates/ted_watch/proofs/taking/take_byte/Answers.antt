@@ -1,6 +1,6 @@
 use Rattle.ted_watch.specs.Watch.{known}
-use Rattle.watch_lines.proofs.Pieces.{byte_fed}
-use Rattle.watch_lines.proofs.taking.take_byte.Goals as goal
+use Rattle.ted_watch.proofs.Pieces.{byte_fed}
+use Rattle.ted_watch.proofs.taking.take_byte.Goals as goal
 
 pub returns-else-byte-eq10-clause-feeds : goal.returns-else-byte-eq10-clause-feeds
 returns-else-byte-eq10-clause-feeds g c =

@@ -1,7 +1,7 @@
 use Rattle.std.proofs.Common.{◌≡◌, take, Ok}
 use Rattle.ted_watch.specs.Watch.{known, list_at}
-use Rattle.watch_lines.specs.Serving.{Feeds}
-use Rattle.watch_lines.proofs.taking.take_piece.Given as goal
+use Rattle.ted_watch.specs.Serving.{Feeds}
+use Rattle.ted_watch.proofs.taking.take_piece.Given as goal
 
 -- the bytes up to there were taken
 abbrev pub invariant-loop-byte : goal.invariant-loop-byte

@@ -1,14 +1,14 @@
 //! A connection is served until it ends.
 ghost use Rattle.std.specs.Prelude.{◌≡◌};
 ghost use Rattle.ted_watch.specs.Watch.{known, list_at};
-ghost use Rattle.watch_lines.specs.Serving.{IsOpen, IsTurned, Watches, sides};
+ghost use Rattle.ted_watch.specs.Serving.{IsOpen, IsTurned, Watches, sides};
 
 use crate::taking::take_piece;
+use crate::watch::Watcher;
 use dom_base::NoMemory;
 use dom_edge::{Got, Wire, WriteFailed};
 use std::alloc::Global;
 use std::sync::Wait;
-use ted_watch::Watcher;
 
 /// How it ended: the peer closed the connection, reading or writing failed, 64 bytes stood without a line end, all
 /// turns were made, or there was no memory.
@@ -23,7 +23,7 @@ pub enum Watched {
 }
 
 impl From<NoMemory> for Watched {
-    ghost use Rattle.watch_lines.specs.declared.serving.Watched.TheVariants.{NoMemory};
+    ghost use Rattle.ted_watch.specs.declared.serving.Watched.TheVariants.{NoMemory};
 
     ghost from_gives = { λ _ e. e ≡ NoMemory };
 
@@ -33,7 +33,7 @@ impl From<NoMemory> for Watched {
 }
 
 impl From<WriteFailed> for Watched {
-    ghost use Rattle.watch_lines.specs.declared.serving.Watched.TheVariants.{WriteFault};
+    ghost use Rattle.ted_watch.specs.declared.serving.Watched.TheVariants.{WriteFault};
 
     ghost from_gives = { λ _ e. e ≡ WriteFault };
 

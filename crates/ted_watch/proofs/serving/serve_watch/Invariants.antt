@@ -1,8 +1,8 @@
 use Rattle.std.proofs.Common.{◌≡◌}
 use Rattle.ted_watch.specs.Watch.{known, list_at}
-use Rattle.watch_lines.specs.Serving.{sides}
-use Rattle.watch_lines.proofs.Connections.{IsServed}
-use Rattle.watch_lines.proofs.serving.serve_watch.Given as goal
+use Rattle.ted_watch.specs.Serving.{sides}
+use Rattle.ted_watch.proofs.Connections.{IsServed}
+use Rattle.ted_watch.proofs.serving.serve_watch.Given as goal
 
 abbrev pub invariant-loop-turn : goal.invariant-loop-turn
 invariant-loop-turn g l = record {

@@ -3,9 +3,9 @@ use Rattle.std.proofs.lemmas.Result.{err_from_is_err_and}
 use Rattle.std.proofs.lemmas.List.{take_more}
 use lib.ListN.{get_or}
 use Rattle.ted_watch.specs.Watch.{known}
-use Rattle.watch_lines.specs.Serving.{Feeds}
-use Rattle.watch_lines.proofs.Pieces.{fed_more, fed_on}
-use Rattle.watch_lines.proofs.taking.take_piece.Goals as goal
+use Rattle.ted_watch.specs.Serving.{Feeds}
+use Rattle.ted_watch.proofs.Pieces.{fed_more, fed_on}
+use Rattle.ted_watch.proofs.taking.take_piece.Goals as goal
 
 pub returns-in_err-take_byte-clause-feeds : goal.returns-in_err-take_byte-clause-feeds
 returns-in_err-take_byte-clause-feeds g c =

@@ -1,3 +1,0 @@
--- for readers, in this order
-pub mod Answers
-pub mod Serving
