@@ -13,7 +13,7 @@ use dom_edge::Store;
 use network_files::{FileError, topology_of};
 use operator_lines::{Chart, publish};
 use plant_text::{ElementRow, Network};
-use session_serving::model::Event;
+use server_loops::model::Event;
 use std::alloc::Global;
 use std::sync::Wait;
 use std::time::Clock;

@@ -15,7 +15,7 @@ use crate::starting::{start, start_all};
 use crate::telling::tell_ready;
 use dom_edge::{Clock as TickClock, Listener, Ports, Sink, Source, Store};
 use serve_tasks::{Spawner, Task};
-use session_serving::tick_on;
+use server_loops::tick_on;
 use std::alloc::Global;
 use std::sync::Wait;
 use std::thread::Threads;

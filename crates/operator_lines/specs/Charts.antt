@@ -8,8 +8,8 @@ use Rattle.te_links.specs.Rows.{Rows}
 use Rattle.plant_model.specs.declared.event.Event.{Event}
 use Rattle.plant_model.specs.declared.outcome.Outcome.{Outcome}
 use Rattle.plant_model.specs.declared.outcome.Refused.{Refused}
-use Rattle.session_serving.specs.declared.desks.DeskRefused.{DeskRefused}
-use Rattle.session_serving.specs.declared.desks.DeskRefused.TheVariants.{Plant, Spent}
+use Rattle.server_loops.specs.declared.desks.DeskRefused.{DeskRefused}
+use Rattle.server_loops.specs.declared.desks.DeskRefused.TheVariants.{Plant, Spent}
 
 -- a current topology with its number, where there is one and memory does not lack
 abbrev pub Current : Type 0

@@ -7,7 +7,7 @@ use crate::charts::Chart;
 use crate::operating::Operated;
 use dom_base::As;
 use plant_model::{Event, Outcome, Refused};
-use session_serving::DeskRefused;
+use server_loops::DeskRefused;
 use std::sync::Arc;
 use te_links::Topology;
 

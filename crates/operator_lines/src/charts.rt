@@ -1,12 +1,12 @@
 //! Where an operator's events go, and where the current topologies are asked for.
 ghost use Rattle.std.specs.Prelude.{◌≡◌};
 ghost use Rattle.std.specs.Arc.{arc_value};
-ghost use Rattle.session_serving.specs.Desks.{IsOwnLoad};
+ghost use Rattle.server_loops.specs.Desks.{IsOwnLoad};
 ghost use Rattle.operator_lines.specs.Charts.{Asks, Charted, Goes, current_of};
 
 use dom_base::{As, NoMemory};
 use plant_model::{Event, Outcome};
-use session_serving::DeskRefused;
+use server_loops::DeskRefused;
 use std::sync::Arc;
 use te_links::Topology;
 

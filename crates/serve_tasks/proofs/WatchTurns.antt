@@ -1,6 +1,6 @@
 -- Turns of a port of watchers, one after the other.
 use Rattle.std.proofs.Common.{◌≡◌, ◌+◌, ℕ, zero, suc, List, refl, subst, arith}
-use Rattle.session_serving.specs.Serving.{Waits}
+use Rattle.server_loops.specs.Serving.{Waits}
 use Rattle.ted_watch.specs.declared.shown.Shown.{Shown}
 use Rattle.serve_tasks.specs.Watching.{IsWatchTurn, WatchesPort}
 

@@ -3,9 +3,9 @@ use Rattle.std.specs.Prelude.{◌≡◌, ◌↔◌, ℕ, [], List, Option, Some}
 use Rattle.dom_base.specs.declared.names.As.{As}
 use Rattle.dom_edge.specs.Stores.{Files}
 use Rattle.ted_watch.specs.Watch.{known, published}
-use Rattle.session_serving.specs.Serving.{CarriesLinks, ServesPort, Waits, waits}
-use Rattle.session_serving.specs.declared.port.Ran.{Ran}
-use Rattle.session_serving.specs.declared.port.Ran.TheVariants as ran
+use Rattle.server_loops.specs.Serving.{CarriesLinks, ServesPort, Waits, waits}
+use Rattle.server_loops.specs.declared.port.Ran.{Ran}
+use Rattle.server_loops.specs.declared.port.Ran.TheVariants as ran
 use Rattle.solve_workers.specs.Turns.{Runs}
 use Rattle.solve_workers.specs.declared.working.Worked.{Worked}
 use Rattle.solve_workers.specs.declared.working.Worked.TheVariants as worked

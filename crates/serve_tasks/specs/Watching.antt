@@ -1,6 +1,6 @@
 -- A port at which watchers are answered, one connection after the other.
 use Rattle.std.specs.Prelude.{◌≡◌, ◌⊎◌, ◌-◌, ◌^◌, ℕ, zero, suc, List}
-use Rattle.session_serving.specs.Serving.{IsIdle, IsLater, Waits}
+use Rattle.server_loops.specs.Serving.{IsIdle, IsLater, Waits}
 use Rattle.ted_watch.specs.declared.shown.Shown.{Shown}
 use Rattle.ted_watch.specs.Serving.{Sides, Watches}
 use Rattle.ted_watch.specs.declared.serving.Watched.{Watched}

@@ -6,7 +6,7 @@ use crate::tasks::Task;
 use crate::watching::watch_port;
 use dom_edge::{Listener, Sink, Source, Store};
 use operator_lines::{Operated, operate};
-use session_serving::{Ran, carry_links, serve_port};
+use server_loops::{Ran, carry_links, serve_port};
 use solve_workers::{Worked, work};
 use std::alloc::Global;
 use std::sync::Wait;

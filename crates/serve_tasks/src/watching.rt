@@ -1,6 +1,6 @@
 //! A port at which watchers are answered, one connection after the other.
 ghost use Rattle.std.specs.Prelude.{◌≡◌};
-ghost use Rattle.session_serving.specs.Serving.{waits};
+ghost use Rattle.server_loops.specs.Serving.{waits};
 ghost use Rattle.ted_watch.specs.Watch.{known, list_at};
 ghost use Rattle.serve_tasks.specs.Watching.{IsWatchTurn, WatchesPort};
 

@@ -9,8 +9,8 @@ use Rattle.plant_network.specs.Whole.{Whole}
 use Rattle.plant_network.specs.declared.acts.Act.TheVariants.{Do, Map}
 use Rattle.plant_network.specs.declared.acts.Acted.{Acted}
 use Rattle.plant_network.specs.declared.acts.Acted.TheVariants.{Did, Mapped}
-use Rattle.session_serving.specs.Desks.{Answer}
-use Rattle.session_serving.specs.declared.desks.DeskRefused.TheVariants.{Plant, Spent}
+use Rattle.server_loops.specs.Desks.{Answer}
+use Rattle.server_loops.specs.declared.desks.DeskRefused.TheVariants.{Plant, Spent}
 use Rattle.turn_desk.specs.Charts.{IsMapped, chart_call, charted_of}
 use Rattle.turn_desk.specs.Desks.{IsTurn, Rests, Stand, did_as, did_by}
 use Rattle.turn_desk.proofs.Turning.{answers, no_call, none_spent, one_call}

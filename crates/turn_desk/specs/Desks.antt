@@ -19,8 +19,8 @@ use Rattle.plant_network.specs.declared.acts.Acted.TheVariants.{Did, Looked, Fou
 use Rattle.plant_network.specs.declared.acts.ActAnswer.{ActAnswer}
 use Rattle.plant_network.specs.pce_element.pce_common.declared.refusal.Refusal.{Refusal}
 use Rattle.plant_network.specs.pce_parent.declared.work.Done.{Done}
-use Rattle.session_serving.specs.Desks.{Answer, Call, Desked, call}
-use Rattle.session_serving.specs.declared.desks.DeskRefused.TheVariants.{Plant, Spent}
+use Rattle.server_loops.specs.Desks.{Answer, Call, Desked, call}
+use Rattle.server_loops.specs.declared.desks.DeskRefused.TheVariants.{Plant, Spent}
 use Rattle.solve_workers.specs.Benches as bench
 use Rattle.solve_workers.specs.Benches.{Benched}
 use Rattle.solve_workers.specs.declared.benches.Finished.{Finished}

@@ -2,7 +2,7 @@
 ghost use Rattle.std.specs.Prelude.{◌≡◌, IfOk, IfSome};
 ghost use Rattle.plant_network.specs.declared.acts.Act.TheVariants.{Do, Look as LookAt, Ready as AskReady, Finish as FinishOf};
 ghost use Rattle.plant_network.specs.declared.acts.Acted.TheVariants.{Looked, Found};
-ghost use Rattle.session_serving.specs.Desks as desk;
+ghost use Rattle.server_loops.specs.Desks as desk;
 ghost use Rattle.solve_workers.specs.Benches as bench;
 ghost use Rattle.turn_desk.specs.Desks.{IsDone, IsFinish, IsOneTurn, IsTurn, benched_of, desked_of, did_by, finished_as, stand_of};
 
@@ -12,7 +12,7 @@ use crate::naps::Asked;
 use dom_base::{As, NoMemory};
 use plant_network::model::{Event, Outcome, Refused};
 use plant_network::{Act, Done, Refusal, Work};
-use session_serving::{Desk, DeskRefused};
+use server_loops::{Desk, DeskRefused};
 use solve_workers::{Bench, Finished};
 use std::sync::Wait;
 use std::time::Clock;

@@ -4,7 +4,7 @@ ghost use Rattle.std.specs.Arc.{arc_value};
 ghost use Rattle.operator_lines.specs.Charts as chart;
 ghost use Rattle.plant_network.specs.declared.acts.Act.TheVariants.{Do, Map as MapOf};
 ghost use Rattle.plant_network.specs.declared.acts.Acted.TheVariants.{Mapped as MappedTo};
-ghost use Rattle.session_serving.specs.Desks as desk;
+ghost use Rattle.server_loops.specs.Desks as desk;
 ghost use Rattle.turn_desk.specs.Charts.{IsMapped, charted_of};
 ghost use Rattle.turn_desk.specs.Desks.{IsDone, IsOneTurn, stand_of};
 
@@ -13,7 +13,7 @@ use dom_base::{As, NoMemory};
 use operator_lines::Chart;
 use plant_network::model::{Event, Outcome};
 use plant_network::{Act, Acted};
-use session_serving::DeskRefused;
+use server_loops::DeskRefused;
 use std::sync::{Arc, Wait};
 use std::time::Clock;
 use te_links::Topology;

@@ -3,8 +3,8 @@ ghost use Rattle.std.specs.Prelude.{◌≡◌, ◌<◌, ◌++◌, ◌∷◌, [],
 ghost use Rattle.std.specs.Vec.{vec_capacity};
 
 use dom_base::Bytes;
-use session_serving::model::{Event, Outcome, Refused};
-use session_serving::{Desk, DeskRefused};
+use server_loops::model::{Event, Outcome, Refused};
+use server_loops::{Desk, DeskRefused};
 use std::alloc::Global;
 use std::mem::replace;
 use std::snapshot::Snapshot;

@@ -4,8 +4,8 @@ ghost use Rattle.std.specs.Vec.{vec_capacity};
 
 use dom_base::{As, NoMemory};
 use operator_lines::Chart;
-use session_serving::DeskRefused;
-use session_serving::model::{Event, Outcome, Refused};
+use server_loops::DeskRefused;
+use server_loops::model::{Event, Outcome, Refused};
 use std::alloc::Global;
 use std::snapshot::Snapshot;
 use std::sync::Arc;

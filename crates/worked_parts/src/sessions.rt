@@ -3,7 +3,7 @@ use crate::clerk::{Clerk, GREETING};
 use crate::lines::numbers;
 use dom_base::{As, Bytes, List, Tick, read_number, write_number};
 use dom_edge::{MemoryClock, MemoryLink, MemoryListener, MemorySink, MemoryStream};
-use session_serving::{Ended, Ran, carry_links, serve_port, serve_session, tick_on};
+use server_loops::{Ended, Ran, carry_links, serve_port, serve_session, tick_on};
 use std::alloc::Global;
 use std::test::Fail;
 

@@ -7,7 +7,7 @@ use plant_lock::SplitError;
 use plant_network::Plant;
 use plant_network::model::{Event, Outcome};
 use plant_text::read_network;
-use session_serving::Desk;
+use server_loops::Desk;
 use solve_workers::{Bench, Gate, Worked, work};
 use std::alloc::Global;
 use std::process::Abort;

@@ -1,5 +1,5 @@
 use Rattle.std.proofs.Common.{◌≡◌}
-use Rattle.session_serving.specs.Serving.{waits}
+use Rattle.server_loops.specs.Serving.{waits}
 use Rattle.ted_watch.specs.Watch.{known, list_at}
 use Rattle.serve_tasks.specs.Watching.{WatchesPort}
 use Rattle.serve_tasks.proofs.watching.watch_port.Given as goal

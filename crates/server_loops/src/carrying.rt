@@ -1,0 +1,59 @@
+//! What carries messages between elements.
+ghost use Rattle.std.specs.Prelude.{◌≡◌, ◌↔◌, ℕ, Some};
+ghost use Rattle.server_loops.specs.Serving.{CarriesLinks};
+ghost use Rattle.server_loops.specs.declared.port.Ran.TheVariants.{Spent as SpentAt};
+ghost use Rattle.server_loops.specs.Steps.{IsCarried, IsRound};
+
+use crate::desks::{Desk, DeskRefused};
+use crate::port::Ran;
+use dom_base::As;
+use plant_model::Event;
+
+// One Carry, unless the desk is spent.
+fn carry<D: Desk>(desk: &mut D, from: As, to: As) -> Result<(), u64>
+    ensures { IsCarried from to result (D.desked desk.old) (D.desked desk.new) }
+{
+    match desk.act(Event::Carry(from, to)) {
+        Err(DeskRefused::Spent(number)) => Err(number),
+        Ok(_) | Err(DeskRefused::Plant(_)) => Ok(()),
+    }
+}
+
+// One Carry for each pair, in order, unless the desk is spent.
+#[tactic(auto, using(crate::proofs::Rounds::none_carried, crate::proofs::Rounds::all_carried))]
+fn carry_round<D: Desk>(desk: &mut D, links: &[(As, As)]) -> Result<(), u64>
+    ensures { IsRound links.now result (D.desked desk.old) (D.desked desk.new) }
+{
+    for (from, to) in links {
+        carry(desk, *from, *to)?;
+    }
+    Ok(())
+}
+
+// How it ends behind all its turns.
+fn ended<D: Desk>(desk: &D) -> Ran
+    ensures { (t : ℕ) → (result ≡ SpentAt t) ↔ ((D.desked desk.now).spent ≡ Some t) }
+{
+    match desk.spent() {
+        Some(number) => Ran::Spent(number),
+        None => Ran::Turns,
+    }
+}
+
+/// Carries the first message of each of these ways in each turn, in order. Where there is no way it ends at once: its turns are all
+/// empty.
+#[tactic(auto, using(crate::proofs::Rounds::idly_made, crate::proofs::Rounds::none_made, crate::proofs::Rounds::one_made, crate::proofs::Rounds::whole_made, crate::proofs::Rounds::cut_made))]
+pub fn carry_links<D: Desk>(desk: &mut D, links: &[(As, As)], turns: u64) -> Ran
+    ensures carries { CarriesLinks links.now turns result (D.desked desk.old) (D.desked desk.new) }
+    ensures spent { (t : ℕ) → (result ≡ SpentAt t) ↔ ((D.desked desk.new).spent ≡ Some t) }
+{
+    if links.is_empty() {
+        return ended(desk);
+    }
+    for _turn in 0..turns {
+        if let Err(number) = carry_round(desk, links) {
+            return Ran::Spent(number);
+        }
+    }
+    ended(desk)
+}

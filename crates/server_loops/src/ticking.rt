@@ -1,0 +1,33 @@
+//! What tells the time.
+ghost use Rattle.std.specs.Prelude.{◌≡◌, ◌≤◌, ◌+◌, ◌-◌, ◌^◌, min};
+ghost use Rattle.server_loops.specs.Serving.{TellsTime};
+ghost use Rattle.server_loops.specs.Steps.{IsTold};
+
+use crate::desks::Desk;
+use dom_base::Tick;
+use dom_edge::Clock;
+use plant_model::Event;
+
+// Tells a reading that is above the last one that was told, and returns the last one by then.
+fn tell<D: Desk>(desk: &mut D, told: u64, now: Tick) -> u64
+    ensures { IsTold told now.0 result (D.desked desk.old) (D.desked desk.new) }
+{
+    if now.0 <= told {
+        return told;
+    }
+    let _answer = desk.act(Event::Tick(now));
+    now.0
+}
+
+/// Reads the clock once in each turn, and tells each reading that is above the last one that it told.
+#[tactic(auto, using(crate::proofs::Telling::none_told, crate::proofs::Telling::all_told))]
+pub fn tick_on<D: Desk, C: Clock>(desk: &mut D, clock: &mut C, turns: u64)
+    ensures tells { TellsTime turns (D.desked desk.old) (D.desked desk.new) (C.last clock.old) (C.last clock.new) }
+    ensures counted { min (C.readings clock.old + turns) (2 ^ 64 - 1) ≤ C.readings clock.new }
+{
+    let mut told = 0u64;
+    for _turn in 0..turns {
+        let now = clock.now();
+        told = tell(desk, told, now);
+    }
+}

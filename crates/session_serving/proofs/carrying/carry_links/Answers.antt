@@ -1,6 +1,0 @@
-use Rattle.std.proofs.Common.{sym, eqb-true, ◌∙◌}
-use Rattle.session_serving.proofs.Rounds.{idly_made}
-use Rattle.session_serving.proofs.carrying.carry_links.Goals as goal
-
-pub returns-then-is_empty-clause-carries : goal.returns-then-is_empty-clause-carries
-returns-then-is_empty-clause-carries g c = idly_made c.args.links.now c.args.turns c.ended.result (g.D.Desk.desked c.args.desk.now) (eqb-true _ _ (sym c.is_empty.ensures ∙ c.if-is_empty.true))
