@@ -2,7 +2,7 @@
 ghost use Rattle.std.specs.Prelude.{◌≡◌, ◌≤◌, IfErr, IfOk};
 ghost use Rattle.network_files.specs.Reading.{IsTopologyFault};
 ghost use Rattle.ted_watch.specs.Watch.{list_of, published};
-ghost use Rattle.operator_lines.specs.Operating.{AreOfElements};
+ghost use Rattle.server_loops.specs.Operating.{AreOfElements};
 ghost use Rattle.network_serving.specs.Files.{IsFileEnd, IsNamedEnd, IsTopologyEnd, topology_max};
 ghost use Rattle.network_serving.specs.declared.served.Served.TheVariants.{NoMemory as WantOfMemory};
 
@@ -11,9 +11,9 @@ use crate::settings::{bad_network, read_file};
 use dom_base::As;
 use dom_edge::Store;
 use network_files::{FileError, topology_of};
-use operator_lines::{Chart, publish};
 use plant_text::{ElementRow, Network};
 use server_loops::model::Event;
+use server_loops::{Chart, publish};
 use std::alloc::Global;
 use std::sync::Wait;
 use std::time::Clock;

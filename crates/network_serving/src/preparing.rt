@@ -1,7 +1,7 @@
 //! All that comes before a port is listened at.
 ghost use Rattle.std.specs.Prelude.{◌≡◌, ◌≤◌, IfErr, IfOk, []};
 ghost use Rattle.network_files.specs.Settings.{HasNetwork};
-ghost use Rattle.operator_lines.specs.Operating.{AreOfElements};
+ghost use Rattle.server_loops.specs.Operating.{AreOfElements};
 ghost use Rattle.ted_watch.specs.Watch.{list_at, list_of, published};
 ghost use Rattle.network_serving.specs.Files.{IsLoadEnd};
 ghost use Rattle.network_serving.specs.Ports.{AreApart};

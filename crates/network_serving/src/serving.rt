@@ -1,6 +1,6 @@
 //! A network is served.
 ghost use Rattle.std.specs.Prelude.{◌≡◌, ◌++◌, IfErr, OnOk, option_to_list};
-ghost use Rattle.operator_lines.specs.Operating.{AreOfElements};
+ghost use Rattle.server_loops.specs.Operating.{AreOfElements};
 ghost use Rattle.ted_watch.specs.Watch.{published};
 ghost use Rattle.serve_tasks.specs.Spawners.{faults_of, started};
 ghost use Rattle.network_serving.specs.Duties.{duties_of, watch_duties};

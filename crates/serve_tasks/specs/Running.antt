@@ -9,9 +9,9 @@ use Rattle.server_loops.specs.declared.port.Ran.TheVariants as ran
 use Rattle.solve_workers.specs.Turns.{Runs}
 use Rattle.solve_workers.specs.declared.working.Worked.{Worked}
 use Rattle.solve_workers.specs.declared.working.Worked.TheVariants as worked
-use Rattle.operator_lines.specs.Operating.{Operates, context, side, sides, progress}
-use Rattle.operator_lines.specs.declared.operating.Operated.{Operated}
-use Rattle.operator_lines.specs.declared.operating.Operated.TheVariants as operated
+use Rattle.server_loops.specs.Operating.{Operates, context, side, sides, progress}
+use Rattle.server_loops.specs.declared.operating.Operated.{Operated}
+use Rattle.server_loops.specs.declared.operating.Operated.TheVariants as operated
 use Rattle.turn_desk.specs.Desks.{Stand, benched_of, desked_of, stand_of}
 use Rattle.turn_desk.specs.Charts.{charted_of}
 use Rattle.serve_tasks.specs.declared.running.TaskEnd.{TaskEnd}

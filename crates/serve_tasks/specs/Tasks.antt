@@ -1,7 +1,7 @@
 -- What a task is to do, and when it may begin.
 use Rattle.std.specs.Prelude.{◌≡◌, ℕ, []}
 use Rattle.ted_watch.specs.Watch.{published}
-use Rattle.operator_lines.specs.Operating.{AreOfElements}
+use Rattle.server_loops.specs.Operating.{AreOfElements}
 use Rattle.serve_tasks.specs.declared.duties.Duty.{Duty}
 use Rattle.serve_tasks.specs.declared.duties.Duty.TheVariants as duty
 use Rattle.serve_tasks.specs.declared.tasks.Task.{Task}

@@ -2,7 +2,11 @@
 pub mod Desks
 pub mod Sessions
 pub mod Serving
+pub mod Charts
+pub mod Texts
+pub mod Operating
 -- inner
 pub mod Steps
+pub mod OperatorSteps
 -- handed on from below
 pub use Rattle.plant_model.specs as plant_model

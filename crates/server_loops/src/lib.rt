@@ -3,16 +3,27 @@
 //! but by what it is handed.
 #![tactic(auto)]
 
+mod asking;
 mod carrying;
+mod charts;
 mod desks;
+mod lines;
+mod loading;
+mod operating;
 mod port;
+mod publishing;
 mod sessions;
+mod taking;
+mod texts;
 mod ticking;
 mod turn;
 
 pub use carrying::carry_links;
+pub use charts::Chart;
 pub use desks::{Desk, DeskRefused};
+pub use operating::{Operated, operate};
 pub use plant_model as model;
 pub use port::{Ran, serve_port};
+pub use publishing::publish;
 pub use sessions::{Ended, serve_session};
 pub use ticking::tick_on;

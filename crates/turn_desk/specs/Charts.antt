@@ -2,7 +2,7 @@
 use Rattle.std.specs.Prelude.{Option, Some, None}
 use Rattle.std.specs.Arc.{arc_value}
 use Rattle.std.specs.List.{filter_map}
-use Rattle.operator_lines.specs.Charts.{Call, Did as DidSo, Mapped as MappedSo, Charted, current_of}
+use Rattle.server_loops.specs.Charts.{Call, Did as DidSo, Mapped as MappedSo, Charted, current_of}
 use Rattle.plant_network.specs.declared.acts.Act.{Act}
 use Rattle.plant_network.specs.declared.acts.Act.TheVariants.{Do, Map}
 use Rattle.plant_network.specs.declared.acts.Acted.{Acted}

@@ -1,7 +1,7 @@
 //! What operators call.
 ghost use Rattle.std.specs.Prelude.{◌≡◌};
 ghost use Rattle.std.specs.Arc.{arc_value};
-ghost use Rattle.operator_lines.specs.Charts as chart;
+ghost use Rattle.server_loops.specs.Charts as chart;
 ghost use Rattle.plant_network.specs.declared.acts.Act.TheVariants.{Do, Map as MapOf};
 ghost use Rattle.plant_network.specs.declared.acts.Acted.TheVariants.{Mapped as MappedTo};
 ghost use Rattle.server_loops.specs.Desks as desk;
@@ -10,10 +10,9 @@ ghost use Rattle.turn_desk.specs.Desks.{IsDone, IsOneTurn, stand_of};
 
 use crate::desk::TurnDesk;
 use dom_base::{As, NoMemory};
-use operator_lines::Chart;
 use plant_network::model::{Event, Outcome};
 use plant_network::{Act, Acted};
-use server_loops::DeskRefused;
+use server_loops::{Chart, DeskRefused};
 use std::sync::{Arc, Wait};
 use std::time::Clock;
 use te_links::Topology;

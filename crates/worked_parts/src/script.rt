@@ -3,9 +3,8 @@ ghost use Rattle.std.specs.Prelude.{◌≡◌, ◌<◌, ◌++◌, ◌∷◌, [],
 ghost use Rattle.std.specs.Vec.{vec_capacity};
 
 use dom_base::{As, NoMemory};
-use operator_lines::Chart;
-use server_loops::DeskRefused;
 use server_loops::model::{Event, Outcome, Refused};
+use server_loops::{Chart, DeskRefused};
 use std::alloc::Global;
 use std::snapshot::Snapshot;
 use std::sync::Arc;
@@ -115,7 +114,7 @@ impl Script {
 impl Chart for Script {
     ghost use Rattle.std.specs.Prelude.{map};
     ghost use Rattle.std.specs.Arc.{arc_value};
-    ghost use Rattle.operator_lines.specs.Charts.{Did, Mapped, current_of};
+    ghost use Rattle.server_loops.specs.Charts.{Did, Mapped, current_of};
     ghost use Rattle.worked_parts.specs.declared.script.Note.TheVariants.{Asked, Made};
 
     ghost charted = { λ d. record { calls = map (λ n. elim n [ Made event answer ↦ Did event.value answer.value | Asked at answer ↦ Mapped at (current_of arc_value answer.value) ]) d.notes.items; spent = d.spent_at } };

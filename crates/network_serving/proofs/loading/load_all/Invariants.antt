@@ -1,5 +1,5 @@
 use Rattle.std.proofs.Common.{◌≡◌, ◌≤◌}
-use Rattle.operator_lines.specs.Operating.{AreOfElements}
+use Rattle.server_loops.specs.Operating.{AreOfElements}
 use Rattle.ted_watch.specs.Watch.{list_of, published}
 use Rattle.network_serving.proofs.loading.load_all.Given as goal
 

@@ -1,6 +1,6 @@
 use Rattle.std.proofs.Common.{Ok, inl, refl, subst}
 use Rattle.std.specs.Arc.{arc_value}
-use Rattle.operator_lines.specs.Charts.{current_of}
+use Rattle.server_loops.specs.Charts.{current_of}
 use Rattle.plant_network.specs.declared.acts.Act.TheVariants.{Map}
 use Rattle.plant_network.specs.declared.acts.Acted.{Acted}
 use Rattle.plant_network.specs.declared.acts.Acted.TheVariants.{Mapped}

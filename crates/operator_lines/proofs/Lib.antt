@@ -1,4 +1,0 @@
-mod Elements
-mod Doing
-mod Pieces
-mod Turning

@@ -1,0 +1,39 @@
+//! Calls of a chart, by their end for an operator.
+ghost use Rattle.std.specs.Prelude.{◌≡◌};
+ghost use Rattle.std.specs.Arc.{arc_value};
+ghost use Rattle.server_loops.specs.OperatorSteps.{Acted, Asked, answered};
+
+use crate::charts::Chart;
+use crate::desks::DeskRefused;
+use crate::operating::Operated;
+use dom_base::As;
+use plant_model::{Event, Outcome, Refused};
+use std::sync::Arc;
+use te_links::Topology;
+
+/// The current topology of an element, with its number.
+pub(crate) fn ask<D: Chart>(desk: &mut D, at: As) -> Result<Option<(u64, Arc<Topology>)>, Operated>
+    ensures { Asked at (answered arc_value result) (D.charted desk.old) (D.charted desk.new) }
+{
+    let found = desk.map(at)?;
+    match desk.spent() {
+        Some(number) => Err(Operated::Spent(number)),
+        None => Ok(found),
+    }
+}
+
+/// Loads a topology.
+pub(crate) fn act<D: Chart>(
+    desk: &mut D,
+    at: As,
+    topology: Topology,
+) -> Result<Result<Outcome, Refused>, Operated>
+    requires own { topology.own ≡ at }
+    ensures { Acted at topology result (D.charted desk.old) (D.charted desk.new) }
+{
+    match desk.act(Event::Load(at, topology)) {
+        Ok(outcome) => Ok(Ok(outcome)),
+        Err(DeskRefused::Plant(why)) => Ok(Err(why)),
+        Err(DeskRefused::Spent(number)) => Err(Operated::Spent(number)),
+    }
+}

@@ -1,0 +1,238 @@
+//! A line of an operator, as it comes in.
+ghost use Rattle.std.specs.Prelude.{◌≡◌, ◌≢◌, ◌≤◌, ◌∷◌, ◌++◌, ◌||◌, [], ℕ, List, None, Some, OnOk, IfErr, codes, false, length, nat_lt, true};
+ghost use Rattle.ted_watch.specs.Watch.{list_of, published};
+ghost use Rattle.server_loops.specs.Operating.{AreOfElements, Does, DoesEvent, context, line_most, past, progress};
+ghost use Rattle.plant_text.specs.Lines.{line_in};
+ghost use Rattle.server_loops.specs.OperatorSteps.{EndsAs, Goes, IsBegun, file_of, text_of};
+ghost use Rattle.server_loops.specs.Texts.{bad_line_text, too_large_text};
+ghost use Rattle.server_loops.specs.declared.operating.Operated.TheVariants.{NoMemory};
+
+use crate::charts::Chart;
+use crate::loading::{FileLine, do_file};
+use crate::operating::Operated;
+use crate::texts::{write_too_large, write_words};
+use dom_base::{As, Text};
+use dom_edge::Store;
+use plant_text::{LineError, LineEvent, Network, read_line};
+use std::alloc::Global;
+use std::sync::Wait;
+use ted_watch::Publisher;
+
+// How many bytes a line may have, without its line end.
+const LINE_MAX: usize = 262_144;
+
+/// A line that was begun: how many lines ended before it, and its bytes. Of one that is too long only the first bytes are kept.
+#[derive(Drop)]
+pub(crate) struct Begun {
+    pub before: u32,
+    pub bytes: Vec<u8>,
+    pub is_long: bool,
+}
+
+impl Begun {
+    pub(crate) fn new(alloc: Global) -> Self
+        ensures before { result.before ≡ 0 }
+        ensures begun { IsBegun result.bytes.items result.is_long [] }
+    {
+        Begun {
+            before: 0,
+            bytes: Vec::new(alloc),
+            is_long: false,
+        }
+    }
+
+    fn len(&self) -> usize
+        ensures { result ≡ length self.now.bytes.items }
+    {
+        self.bytes.len()
+    }
+
+    /// One byte more. There is room for a CR behind a line of the greatest length.
+    pub(crate) fn push(&mut self, byte: u8) -> Result<(), Operated>
+        requires inside { byte ≢ 10 }
+        ensures before { self.new.before ≡ self.old.before }
+        ensures begun { OnOk result ((line : List ℕ) → IsBegun self.old.bytes.items self.old.is_long line → IsBegun self.new.bytes.items self.new.is_long (line ++ byte ∷ [])) }
+        ensures lack { IfErr result (λ end. end ≡ NoMemory) }
+    {
+        if self.len() > LINE_MAX {
+            self.is_long = true;
+            return Ok(());
+        }
+        match self.bytes.push(byte) {
+            Ok(()) => Ok(()),
+            Err(_) => Err(Operated::NoMemory),
+        }
+    }
+
+    /// The next line begins.
+    pub(crate) fn clear(&mut self, before: u32)
+        ensures before { self.new.before ≡ before }
+        ensures begun { IsBegun self.new.bytes.items self.new.is_long [] }
+    {
+        self.before = before;
+        self.bytes.clear();
+        self.is_long = false;
+    }
+
+    // What is kept of the text of the line: a CR before its LF is no part of it.
+    fn text(&self, has_end: bool) -> &[u8]
+        ensures { result.now ≡ text_of has_end self.now.bytes.items }
+    {
+        match self.bytes.as_slice() {
+            [front @ .., b'\r'] if has_end => front,
+            whole => whole,
+        }
+    }
+
+    /// Whether it has no byte.
+    pub(crate) fn is_empty(&self) -> bool
+        ensures empty { result ≡ true → self.now.bytes.items ≡ [] }
+        ensures not_empty { result ≡ false → self.now.bytes.items ≢ [] }
+    {
+        self.bytes.is_empty()
+    }
+
+    // Whether it has too many bytes.
+    fn is_too_long(&self, has_end: bool) -> bool
+        ensures { result ≡ (self.now.is_long || nat_lt line_most (length (text_of has_end self.now.bytes.items))) }
+    {
+        self.is_long || self.text(has_end).len() > LINE_MAX
+    }
+}
+
+// The file that a line names, behind whether it has changes.
+fn file_of(event: LineEvent) -> Option<(bool, As, Text)>
+    ensures { result ≡ file_of event }
+{
+    match event {
+        LineEvent::Load(at, name) => Some((false, at, name)),
+        LineEvent::Change(at, name) => Some((true, at, name)),
+        LineEvent::Open(..) => None,
+        LineEvent::Shut(_) => None,
+        LineEvent::Feed(..) => None,
+        LineEvent::Carry(..) => None,
+        LineEvent::Break(..) => None,
+        LineEvent::Solve(..) => None,
+        LineEvent::Tick(_) => None,
+        LineEvent::Drain(..) => None,
+        LineEvent::Settle => None,
+        LineEvent::Finish => None,
+        LineEvent::CertifyOn => None,
+        LineEvent::DiscloseOn => None,
+    }
+}
+
+// What is said of a line that no operator may write.
+fn tell_bad_line(number: u32, into: &mut Vec<u8>) -> Result<(), Operated>
+    ensures told { OnOk result (into.new.items ≡ into.old.items ++ bad_line_text number) }
+    ensures lack { IfErr result (λ end. end ≡ NoMemory) }
+{
+    write_words(number, b"bad line", into)?;
+    Ok(())
+}
+
+// Does what a line says.
+fn do_event<T: Store, D: Chart, R: Wait + Drop>(
+    alloc: Global,
+    desk: &mut D,
+    store: &mut T,
+    network: &Network,
+    publisher: &mut Publisher<R>,
+    number: u32,
+    event: LineEvent,
+    into: &mut Vec<u8>,
+) -> Result<(), Operated>
+    requires elements { AreOfElements network.now (published publisher.old) }
+    requires fresh { (D.charted desk.old).spent ≡ None }
+    ensures goes { Goes (DoesEvent (context network.now (T.files store.old)) number (Some (Some event)) (progress (D.charted desk.old) (published publisher.old) (T.faults store.old) (T.failed_at store.old)) (progress (D.charted desk.new) (published publisher.new) (T.faults store.new) (T.failed_at store.new))) result (past (D.charted desk.old) (published publisher.old)) (past (D.charted desk.new) (published publisher.new)) (D.charted desk.new).spent into.old.items into.new.items }
+    ensures elements { AreOfElements network.now (published publisher.new) }
+    ensures list { list_of publisher.new ≡ list_of publisher.old }
+    ensures later { T.faults store.old ≤ T.faults store.new }
+    ensures files { T.files store.new ≡ T.files store.old }
+{
+    match file_of(event) {
+        Some((is_change, at, name)) => {
+            let name = name.as_str();
+            let line = FileLine {
+                number,
+                at,
+                name,
+                is_change,
+            };
+            do_file(alloc, desk, store, network, publisher, line, into)
+        }
+        None => tell_bad_line(number, into),
+    }
+}
+
+// Does what the text of a line asks for, and writes what is said of it.
+fn do_text<T: Store, D: Chart, R: Wait + Drop>(
+    alloc: Global,
+    desk: &mut D,
+    store: &mut T,
+    network: &Network,
+    publisher: &mut Publisher<R>,
+    number: u32,
+    text: &[u8],
+    into: &mut Vec<u8>,
+) -> Result<(), Operated>
+    requires elements { AreOfElements network.now (published publisher.old) }
+    requires fresh { (D.charted desk.old).spent ≡ None }
+    ensures goes { Goes (DoesEvent (context network.now (T.files store.old)) number (line_in network.now text.now) (progress (D.charted desk.old) (published publisher.old) (T.faults store.old) (T.failed_at store.old)) (progress (D.charted desk.new) (published publisher.new) (T.faults store.new) (T.failed_at store.new))) result (past (D.charted desk.old) (published publisher.old)) (past (D.charted desk.new) (published publisher.new)) (D.charted desk.new).spent into.old.items into.new.items }
+    ensures elements { AreOfElements network.now (published publisher.new) }
+    ensures list { list_of publisher.new ≡ list_of publisher.old }
+    ensures later { T.faults store.old ≤ T.faults store.new }
+    ensures files { T.files store.new ≡ T.files store.old }
+{
+    match read_line(alloc, text, network) {
+        Ok(Some(event)) => do_event(alloc, desk, store, network, publisher, number, event, into),
+        Ok(None) => Ok(()),
+        Err(LineError::Outside) => tell_bad_line(number, into),
+        Err(LineError::NoMemory) => Err(Operated::NoMemory),
+    }
+}
+
+// What is said of a line that is too long.
+fn tell_too_long(number: u32, into: &mut Vec<u8>) -> Result<(), Operated>
+    ensures told { OnOk result (into.new.items ≡ into.old.items ++ too_large_text number (codes "input")) }
+    ensures lack { IfErr result (λ end. end ≡ NoMemory) }
+{
+    write_too_large(number, b"input", into)?;
+    Ok(())
+}
+
+/// Does what the line that was begun asks for, which ends now, and writes what is said of it.
+pub(crate) fn do_line<T: Store, D: Chart, R: Wait + Drop>(
+    alloc: Global,
+    desk: &mut D,
+    store: &mut T,
+    network: &Network,
+    publisher: &mut Publisher<R>,
+    begun: &Begun,
+    number: u32,
+    has_end: bool,
+    into: &mut Vec<u8>,
+) -> Result<(), Operated>
+    requires elements { AreOfElements network.now (published publisher.old) }
+    requires fresh { (D.charted desk.old).spent ≡ None }
+    ensures goes { (line : List ℕ) → IsBegun begun.now.bytes.items begun.now.is_long line → Goes (Does (context network.now (T.files store.old)) number (text_of has_end line) (progress (D.charted desk.old) (published publisher.old) (T.faults store.old) (T.failed_at store.old)) (progress (D.charted desk.new) (published publisher.new) (T.faults store.new) (T.failed_at store.new))) result (past (D.charted desk.old) (published publisher.old)) (past (D.charted desk.new) (published publisher.new)) (D.charted desk.new).spent into.old.items into.new.items }
+    ensures ends { EndsAs result (D.charted desk.new).spent }
+    ensures elements { AreOfElements network.now (published publisher.new) }
+    ensures list { list_of publisher.new ≡ list_of publisher.old }
+    ensures later { T.faults store.old ≤ T.faults store.new }
+    ensures files { T.files store.new ≡ T.files store.old }
+{
+    if begun.is_too_long(has_end) {
+        return tell_too_long(number, into);
+    }
+    do_text(
+        alloc,
+        desk,
+        store,
+        network,
+        publisher,
+        number,
+        begun.text(has_end),
+        into,
+    )
+}
