@@ -6,9 +6,9 @@ use Rattle.ted_watch.specs.Watch.{known, published}
 use Rattle.server_loops.specs.Serving.{CarriesLinks, ServesPort, Waits, waits}
 use Rattle.server_loops.specs.declared.port.Ran.{Ran}
 use Rattle.server_loops.specs.declared.port.Ran.TheVariants as ran
-use Rattle.solve_workers.specs.Turns.{Runs}
-use Rattle.solve_workers.specs.declared.working.Worked.{Worked}
-use Rattle.solve_workers.specs.declared.working.Worked.TheVariants as worked
+use Rattle.server_loops.specs.WorkerTurns.{Runs}
+use Rattle.server_loops.specs.declared.working.Worked.{Worked}
+use Rattle.server_loops.specs.declared.working.Worked.TheVariants as worked
 use Rattle.server_loops.specs.Operating.{Operates, context, side, sides, progress}
 use Rattle.server_loops.specs.declared.operating.Operated.{Operated}
 use Rattle.server_loops.specs.declared.operating.Operated.TheVariants as operated

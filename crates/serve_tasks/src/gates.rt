@@ -3,7 +3,7 @@ ghost use Rattle.std.specs.Prelude.{◌≡◌, []};
 
 use crate::noted::Noted;
 use dom_base::As;
-use solve_workers::Gate;
+use server_loops::Gate;
 
 /// A gate that is always open: it is passed at once. It has no bytes; which jobs passed it, proofs alone know.
 #[derive(Drop)]

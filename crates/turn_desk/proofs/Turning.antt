@@ -38,7 +38,7 @@ use Rattle.plant_network.specs.pce_parent.declared.work.Work.TheVariants as work
 use Rattle.server_loops.specs.Desks as desk
 use Rattle.server_loops.specs.Desks.{Answer, Goes, call}
 use Rattle.server_loops.specs.declared.desks.DeskRefused.TheVariants.{Plant, Spent}
-use Rattle.solve_workers.specs.Benches as bench
+use Rattle.server_loops.specs.Benches as bench
 use Rattle.turn_desk.specs.Desks.{IsDone, IsOneTurn, IsTurn, IsTurnBy, Makes, Rests, Stand, bench_call, benched_of, desk_call, desked_of, did_as, did_by}
 use Rattle.turn_desk.specs.Histories.{Begins, known_by}
 use Rattle.turn_desk.proofs.Beginning.{none_is_now}

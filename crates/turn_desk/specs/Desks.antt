@@ -21,10 +21,10 @@ use Rattle.plant_network.specs.pce_element.pce_common.declared.refusal.Refusal.{
 use Rattle.plant_network.specs.pce_parent.declared.work.Done.{Done}
 use Rattle.server_loops.specs.Desks.{Answer, Call, Desked, call}
 use Rattle.server_loops.specs.declared.desks.DeskRefused.TheVariants.{Plant, Spent}
-use Rattle.solve_workers.specs.Benches as bench
-use Rattle.solve_workers.specs.Benches.{Benched}
-use Rattle.solve_workers.specs.declared.benches.Finished.{Finished}
-use Rattle.solve_workers.specs.declared.benches.Finished.TheVariants as finished
+use Rattle.server_loops.specs.Benches as bench
+use Rattle.server_loops.specs.Benches.{Benched}
+use Rattle.server_loops.specs.declared.benches.Finished.{Finished}
+use Rattle.server_loops.specs.declared.benches.Finished.TheVariants as finished
 use Rattle.turn_desk.specs.Histories.{known_by}
 use Rattle.turn_desk.specs.declared.desk.TurnDesk.{TurnDesk}
 

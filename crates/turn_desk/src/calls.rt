@@ -3,7 +3,7 @@ ghost use Rattle.std.specs.Prelude.{◌≡◌, IfOk, IfSome};
 ghost use Rattle.plant_network.specs.declared.acts.Act.TheVariants.{Do, Look as LookAt, Ready as AskReady, Finish as FinishOf};
 ghost use Rattle.plant_network.specs.declared.acts.Acted.TheVariants.{Looked, Found};
 ghost use Rattle.server_loops.specs.Desks as desk;
-ghost use Rattle.solve_workers.specs.Benches as bench;
+ghost use Rattle.server_loops.specs.Benches as bench;
 ghost use Rattle.turn_desk.specs.Desks.{IsDone, IsFinish, IsOneTurn, IsTurn, benched_of, desked_of, did_by, finished_as, stand_of};
 
 use crate::answers::{committed_in, did_in, found_in, looked_in};
@@ -12,8 +12,7 @@ use crate::naps::Asked;
 use dom_base::{As, NoMemory};
 use plant_network::model::{Event, Outcome, Refused};
 use plant_network::{Act, Done, Refusal, Work};
-use server_loops::{Desk, DeskRefused};
-use solve_workers::{Bench, Finished};
+use server_loops::{Bench, Desk, DeskRefused, Finished};
 use std::sync::Wait;
 use std::time::Clock;
 

@@ -2,7 +2,7 @@ use Rattle.std.proofs.Common.{Ok, Some, ap, refl, subst, sym}
 use Rattle.plant_network.specs.declared.acts.Act.TheVariants.{Finish}
 use Rattle.plant_network.specs.declared.acts.Acted.{Acted}
 use Rattle.plant_network.specs.declared.acts.Acted.TheVariants.{Committed}
-use Rattle.solve_workers.specs.Benches as bench
+use Rattle.server_loops.specs.Benches as bench
 use Rattle.turn_desk.specs.Desks.{IsTurn, stand_of}
 use Rattle.turn_desk.proofs.Turning.{bench_done, committed_turn, may_finish}
 use Rattle.turn_desk.proofs.calls.TurnDeskBench.finish.Goals as goal

@@ -2,7 +2,7 @@ use Rattle.std.proofs.Common.{Ok, inl, refl, subst}
 use Rattle.plant_network.specs.declared.acts.Act.TheVariants.{Look}
 use Rattle.plant_network.specs.declared.acts.Acted.{Acted}
 use Rattle.plant_network.specs.declared.acts.Acted.TheVariants.{Looked}
-use Rattle.solve_workers.specs.Benches as bench
+use Rattle.server_loops.specs.Benches as bench
 use Rattle.turn_desk.specs.Desks.{IsTurn, stand_of}
 use Rattle.turn_desk.proofs.Turning.{bench_done, looked_turn, looks_given}
 use Rattle.turn_desk.proofs.calls.TurnDeskBench.look.Goals as goal

@@ -2,7 +2,7 @@ use Rattle.std.proofs.Common.{Ok, inl, refl, subst, sym}
 use Rattle.plant_network.specs.declared.acts.Act.TheVariants.{Ready}
 use Rattle.plant_network.specs.declared.acts.Acted.{Acted}
 use Rattle.plant_network.specs.declared.acts.Acted.TheVariants.{Found}
-use Rattle.solve_workers.specs.Benches as bench
+use Rattle.server_loops.specs.Benches as bench
 use Rattle.turn_desk.specs.Desks.{IsTurn, Stand, benched_of, stand_of}
 use Rattle.turn_desk.proofs.Turning.{bench_done, found_turn}
 use Rattle.turn_desk.proofs.calls.TurnDeskBench.ready.Goals as goal

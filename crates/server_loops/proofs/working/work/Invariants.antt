@@ -1,5 +1,5 @@
-use Rattle.solve_workers.proofs.Running.{IsRunning}
-use Rattle.solve_workers.proofs.working.work.Given as goal
+use Rattle.server_loops.proofs.Running.{IsRunning}
+use Rattle.server_loops.proofs.working.work.Given as goal
 
 abbrev pub invariant-loop-turn : goal.invariant-loop-turn
 invariant-loop-turn g l =

@@ -13,12 +13,12 @@ use Rattle.pce_parent.specs.declared.work.Done.{Done}
 use Rattle.cost_cache.specs.Entries.{Entries}
 use Rattle.cost_cache.specs.Keys.{key_of}
 use Rattle.cost_cache.specs.declared.key.Key.{Key}
-use Rattle.solve_workers.specs.Benches.{Call, Ready, Look, Finish, Benched, Goes, IsOf, made_by}
-use Rattle.solve_workers.specs.Turns.{Asks, Follows, IsTurn, IsCut, given_job, given_key, jobs_given, keys_given, key_of_work}
-use Rattle.solve_workers.specs.Steps.{AreRight, Holds, IsLive, Stays, AsksBy, FollowsBy, TurnBy, IsFound, IsFinished, IsTurned}
-use Rattle.solve_workers.specs.declared.benches.Finished.{Finished}
-use Rattle.solve_workers.specs.declared.benches.Finished.TheVariants.{Kept as Taken, Stranger, NoMemory as NoRoom}
-use Rattle.solve_workers.proofs.Righting.{right_grows}
+use Rattle.server_loops.specs.Benches.{Call, Ready, Look, Finish, Benched, Goes, IsOf, made_by}
+use Rattle.server_loops.specs.WorkerTurns.{Asks, Follows, IsTurn, IsCut, given_job, given_key, jobs_given, keys_given, key_of_work}
+use Rattle.server_loops.specs.WorkerSteps.{AreRight, Holds, IsLive, Stays, AsksBy, FollowsBy, TurnBy, IsFound, IsFinished, IsTurned}
+use Rattle.server_loops.specs.declared.benches.Finished.{Finished}
+use Rattle.server_loops.specs.declared.benches.Finished.TheVariants.{Kept as Taken, Stranger, NoMemory as NoRoom}
+use Rattle.server_loops.proofs.Righting.{right_grows}
 
 pub stays_of : (old new : Benched) (call : Call) → Goes old new call → Stays old new
 stays_of old new call goes = record { topologies = goes.topologies; spent = goes.stays }

@@ -14,8 +14,8 @@ use Rattle.cost_cache.specs.declared.kept.Kept.{Kept}
 use Rattle.cost_cache.specs.Keys.{same_key}
 use Rattle.cost_cache.specs.SameKeys.{same_key-Decides}
 use Rattle.cost_cache.specs.Entries.{Entries, IsGood, IsAfter, IsKept}
-use Rattle.solve_workers.specs.Benches.{Benched, IsGiven}
-use Rattle.solve_workers.specs.Steps.{Known, AreRight, CanSolve, Stays}
+use Rattle.server_loops.specs.Benches.{Benched, IsGiven}
+use Rattle.server_loops.specs.WorkerSteps.{Known, AreRight, CanSolve, Stays}
 
 -- a call of the cache keeps it right
 pub right_after : (known : Known) (key : Key) (g : Rows) (old new : Entries) → known key.at key.generation ≡ Some g → AreRight known old → IsAfter old key new →

@@ -1,7 +1,7 @@
 use Rattle.std.proofs.Common.{◌≡◌, ◌∙◌, Ok, Err, None, sym}
-use Rattle.solve_workers.specs.Steps.{IsTurned}
-use Rattle.solve_workers.proofs.Running.{set_out, one_more, broken}
-use Rattle.solve_workers.proofs.working.work.Goals as goal
+use Rattle.server_loops.specs.WorkerSteps.{IsTurned}
+use Rattle.server_loops.proofs.Running.{set_out, one_more, broken}
+use Rattle.server_loops.proofs.working.work.Goals as goal
 
 pub returns-in-Err-clause-runs : goal.returns-in-Err-clause-runs
 returns-in-Err-clause-runs g c =

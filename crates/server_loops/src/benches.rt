@@ -1,6 +1,6 @@
 //! Where jobs come from and solutions go.
 ghost use Rattle.std.specs.Prelude.{◌≡◌, IfOk, IfSome};
-ghost use Rattle.solve_workers.specs.Benches.{Benched, Goes, IsGiven, WasGiven, Ready, Look, Finish};
+ghost use Rattle.server_loops.specs.Benches.{Benched, Goes, IsGiven, WasGiven, Ready, Look, Finish};
 
 use dom_base::{As, NoMemory};
 use pce_parent::{Done, Work};

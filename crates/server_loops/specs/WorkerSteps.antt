@@ -13,8 +13,8 @@ use Rattle.cost_cache.specs.Entries.{Entries, Has, IsGood, IsKept}
 use Rattle.cost_cache.specs.declared.key.Key.{Key}
 use Rattle.cost_cache.specs.declared.kept.Kept.{Kept}
 use Rattle.pce_parent.specs.declared.work.Done.{Done}
-use Rattle.solve_workers.specs.Benches.{Call, Ready, Benched, IsGiven, IsOf}
-use Rattle.solve_workers.specs.Turns.{Asks, Follows, Breaks, IsTurn, IsCut, IsBroken, AreTurns, Stops, jobs_given, keys_given, key_of_work}
+use Rattle.server_loops.specs.Benches.{Call, Ready, Benched, IsGiven, IsOf}
+use Rattle.server_loops.specs.WorkerTurns.{Asks, Follows, Breaks, IsTurn, IsCut, IsBroken, AreTurns, Stops, jobs_given, keys_given, key_of_work}
 
 -- the topologies that a bench knows
 abbrev pub Known : Type 0

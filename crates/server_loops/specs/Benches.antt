@@ -11,8 +11,8 @@ use Rattle.pce_parent.specs.declared.work.Work.{Work}
 use Rattle.pce_parent.specs.declared.work.Work.TheVariants.{Domain, Border}
 use Rattle.pce_parent.specs.declared.work.Done.{Done}
 use Rattle.pce_parent.specs.declared.work.Done.TheVariants.{Domain as DomainDone, Border as BorderDone}
-use Rattle.solve_workers.specs.declared.benches.Finished.{Finished}
-use Rattle.solve_workers.specs.declared.benches.Finished.TheVariants.{Stranger}
+use Rattle.server_loops.specs.declared.benches.Finished.{Finished}
+use Rattle.server_loops.specs.declared.benches.Finished.TheVariants.{Stranger}
 
 -- a call with its answer
 pub data Call : Type 0 where

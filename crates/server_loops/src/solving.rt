@@ -3,9 +3,9 @@ ghost use Rattle.std.specs.Prelude.{◌≡◌, Some, IfOk, OnOk};
 ghost use Rattle.std.specs.Arc.{arc_value};
 ghost use Rattle.cost_cache.specs.Keys.{key_of};
 ghost use Rattle.cost_cache.specs.Entries.{Has, IsGood};
-ghost use Rattle.solve_workers.specs.Benches.{IsOf};
-ghost use Rattle.solve_workers.specs.Turns.{key_of_work};
-ghost use Rattle.solve_workers.specs.Steps.{Known, AreRight, CanSolve, KeepsRight, Holds};
+ghost use Rattle.server_loops.specs.Benches.{IsOf};
+ghost use Rattle.server_loops.specs.WorkerTurns.{key_of_work};
+ghost use Rattle.server_loops.specs.WorkerSteps.{Known, AreRight, CanSolve, KeepsRight, Holds};
 
 use border_costs::{Job, Solved};
 use cost_cache::Cache;

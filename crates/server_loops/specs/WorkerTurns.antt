@@ -11,11 +11,11 @@ use Rattle.pce_parent.specs.declared.work.Done.{Done}
 use Rattle.cost_cache.specs.Keys.{key_of}
 use Rattle.cost_cache.specs.Entries.{Entries, Has}
 use Rattle.cost_cache.specs.declared.key.Key.{Key}
-use Rattle.solve_workers.specs.Benches.{Call, Ready, Look, Finish, Benched, IsOf}
-use Rattle.solve_workers.specs.declared.benches.Finished.{Finished}
-use Rattle.solve_workers.specs.declared.benches.Finished.TheVariants.{NoMemory as NoRoom}
-use Rattle.solve_workers.specs.declared.working.Worked.{Worked}
-use Rattle.solve_workers.specs.declared.working.Worked.TheVariants.{Turns, Spent, NoMemory as WantOfMemory}
+use Rattle.server_loops.specs.Benches.{Call, Ready, Look, Finish, Benched, IsOf}
+use Rattle.server_loops.specs.declared.benches.Finished.{Finished}
+use Rattle.server_loops.specs.declared.benches.Finished.TheVariants.{NoMemory as NoRoom}
+use Rattle.server_loops.specs.declared.working.Worked.{Worked}
+use Rattle.server_loops.specs.declared.working.Worked.TheVariants.{Turns, Spent, NoMemory as WantOfMemory}
 
 -- A worker asks for the ready job at its own place, and for the first where there is none.
 abbrev pub Asks : ℕ → List Call → Option (As × ℕ) → Type 0

@@ -1,8 +1,8 @@
 //! One turn of a worker.
 ghost use Rattle.std.specs.Prelude.{◌≡◌, ℕ, Contains, Some, Ok};
 ghost use Rattle.dom_base.specs.declared.names.As.{As};
-ghost use Rattle.solve_workers.specs.Benches.{Look, IsGiven};
-ghost use Rattle.solve_workers.specs.Steps.{AreRight, IsLive, IsFound, IsFinished, IsTurned};
+ghost use Rattle.server_loops.specs.Benches.{Look, IsGiven};
+ghost use Rattle.server_loops.specs.WorkerSteps.{AreRight, IsLive, IsFound, IsFinished, IsTurned};
 
 use crate::benches::{Bench, Finished};
 use crate::gates::Gate;

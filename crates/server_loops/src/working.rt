@@ -1,12 +1,12 @@
 //! The turns of a worker.
 ghost use Rattle.std.specs.Prelude.{◌≡◌, ◌↔◌, [], ℕ};
-ghost use Rattle.solve_workers.specs.Turns.{Runs};
-ghost use Rattle.solve_workers.specs.declared.working.Worked.TheVariants.{Spent as SpentAt};
+ghost use Rattle.server_loops.specs.WorkerTurns.{Runs};
+ghost use Rattle.server_loops.specs.declared.working.Worked.TheVariants.{Spent as SpentAt};
 
+use cost_cache::Cache;
 use crate::benches::Bench;
 use crate::gates::Gate;
-use crate::turn::turn;
-use cost_cache::Cache;
+use crate::worker_turn::turn;
 use dom_base::NoMemory;
 use std::alloc::Global;
 

@@ -3,11 +3,11 @@ use Rattle.std.proofs.Common.{◌≡◌, ◌∷◌, [], ℕ, Ok, Err, None, Some
 use Rattle.std.specs.Prelude.{Contains, List}
 use Rattle.std.proofs.lemmas.List.Elements.{Contains-push}
 use Rattle.dom_base.specs.declared.names.As.{As}
-use Rattle.solve_workers.specs.Benches.{Call, Look, Goes}
-use Rattle.solve_workers.specs.Steps.{IsFound}
-use Rattle.solve_workers.proofs.Righting.{right_grows}
-use Rattle.solve_workers.proofs.Turning.{idle_turn, late_turn, broken_look, full_turn, stays_of, stays_on, live, none_of, one_call}
-use Rattle.solve_workers.proofs.turn.turn.Goals as goal
+use Rattle.server_loops.specs.Benches.{Call, Look, Goes}
+use Rattle.server_loops.specs.WorkerSteps.{IsFound}
+use Rattle.server_loops.proofs.Righting.{right_grows}
+use Rattle.server_loops.proofs.WorkerTurning.{idle_turn, late_turn, broken_look, full_turn, stays_of, stays_on, live, none_of, one_call}
+use Rattle.server_loops.proofs.worker_turn.turn.Goals as goal
 
 pub returns-in_default : goal.returns-in_default
 returns-in_default g c =

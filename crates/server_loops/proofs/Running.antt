@@ -8,11 +8,11 @@ use Rattle.dom_base.specs.declared.names.As.{As}
 use Rattle.dom_base.specs.declared.names.NoMemory.{NoMemory}
 use Rattle.cost_cache.specs.Entries.{Entries, Has}
 use Rattle.cost_cache.specs.declared.key.Key.{Key}
-use Rattle.solve_workers.specs.Benches.{Call, Benched, Ready}
-use Rattle.solve_workers.specs.Turns.{IsTurn, AreTurns, Stops, HasLast, Runs, given_job, given_key, jobs_given, keys_given}
-use Rattle.solve_workers.specs.Steps.{AreRight, Holds, TurnBy, TurnsBy, IsTurned}
-use Rattle.solve_workers.specs.declared.working.Worked.TheVariants.{Turns, Spent, NoMemory as WantOfMemory}
-use Rattle.solve_workers.proofs.Righting.{right_new}
+use Rattle.server_loops.specs.Benches.{Call, Benched, Ready}
+use Rattle.server_loops.specs.WorkerTurns.{IsTurn, AreTurns, Stops, HasLast, Runs, given_job, given_key, jobs_given, keys_given}
+use Rattle.server_loops.specs.WorkerSteps.{AreRight, Holds, TurnBy, TurnsBy, IsTurned}
+use Rattle.server_loops.specs.declared.working.Worked.TheVariants.{Turns, Spent, NoMemory as WantOfMemory}
+use Rattle.server_loops.proofs.Righting.{right_new}
 
 -- A run of n turns so far.
 pub record IsRunning (index n : ℕ) (old new : Benched) (passed passed_after : List (As × ℕ)) (cache : Entries) : Type 0 where

@@ -1,9 +1,9 @@
 use Rattle.std.proofs.Common.{◌≡◌, inl, inr}
-use Rattle.solve_workers.specs.Benches.{Goes, Finish}
-use Rattle.solve_workers.specs.declared.benches.Finished.TheVariants.{Kept as Taken, Stranger, NoMemory as NoRoom}
-use Rattle.solve_workers.proofs.Righting.{can_solve}
-use Rattle.solve_workers.proofs.Turning.{handed_back}
-use Rattle.solve_workers.proofs.turn.finish.Goals as goal
+use Rattle.server_loops.specs.Benches.{Goes, Finish}
+use Rattle.server_loops.specs.declared.benches.Finished.TheVariants.{Kept as Taken, Stranger, NoMemory as NoRoom}
+use Rattle.server_loops.proofs.Righting.{can_solve}
+use Rattle.server_loops.proofs.WorkerTurning.{handed_back}
+use Rattle.server_loops.proofs.worker_turn.finish.Goals as goal
 
 pub solve-requires : goal.solve-requires
 solve-requires g c = record { can = can_solve (g.B.Bench.benched c.args.bench.now) c.args.cache.now c.args.work.now c.requires.right c.requires.given }

@@ -1,3 +1,0 @@
-pub mod Righting
-pub mod Turning
-pub mod Running

@@ -1,5 +1,0 @@
--- for readers
-pub mod Benches
-pub mod Turns
--- inner
-pub mod Steps
