@@ -3,3 +3,7 @@ mod Causes
 mod Opening
 mod Repeats
 mod Starts
+mod Walks
+pub mod WatchTurns
+pub mod CrossingParts
+pub mod Crossing

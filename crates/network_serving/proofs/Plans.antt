@@ -10,10 +10,10 @@ use Rattle.std.specs.Option.{option_map}
 use Rattle.dom_edge.specs.Causes.{next_count}
 use Rattle.plant_text.specs.declared.settings.NetworkParts.{NetworkParts}
 use Rattle.plant_text.specs.declared.settings.PeerRow.{PeerRow}
-use Rattle.serve_tasks.specs.Tasks.{IsNew, duty_of}
-use Rattle.serve_tasks.specs.declared.duties.Duty.{Duty}
-use Rattle.serve_tasks.specs.declared.duties.Duty.TheVariants.{Carry, Port, Work}
-use Rattle.serve_tasks.specs.declared.tasks.Task.{Task}
+use Rattle.network_serving.specs.Tasks.{IsNew, duty_of}
+use Rattle.network_serving.specs.declared.duties.Duty.{Duty}
+use Rattle.network_serving.specs.declared.duties.Duty.TheVariants.{Carry, Port, Work}
+use Rattle.network_serving.specs.declared.tasks.Task.{Task}
 use Rattle.network_serving.specs.Duties.{both_ways, child_ways, first_duties, port_duties, ways_of, work_duties}
 use Rattle.network_serving.specs.Ends.{RoseBy}
 use Rattle.network_serving.specs.Starting.{Adds, peer_ports}

@@ -8,8 +8,8 @@ use Rattle.dom_edge.specs.Stores.{Files}
 use Rattle.network_files.specs.Settings.{HasNetwork}
 use Rattle.plant_text.specs.declared.settings.NetworkParts.{NetworkParts}
 use Rattle.plant_text.specs.declared.settings.PeerRow.{PeerRow}
-use Rattle.serve_tasks.specs.declared.duties.Duty.{Duty}
-use Rattle.serve_tasks.specs.declared.duties.Duty.TheVariants.{Operate}
+use Rattle.network_serving.specs.declared.duties.Duty.{Duty}
+use Rattle.network_serving.specs.declared.duties.Duty.TheVariants.{Operate}
 use Rattle.network_serving.specs.Duties.{duties_of, first_duties, watch_duties}
 use Rattle.network_serving.specs.Ends.{Ends, RoseBy, World}
 use Rattle.network_serving.specs.Files.{IsLoadEnd, IsNamedEnd}

@@ -6,8 +6,8 @@ use Rattle.plant_text.specs.Names.{parent_as}
 use Rattle.plant_text.specs.Settings.{children}
 use Rattle.plant_text.specs.declared.settings.NetworkParts.{NetworkParts}
 use Rattle.plant_text.specs.declared.settings.PeerRow.{PeerRow}
-use Rattle.serve_tasks.specs.declared.duties.Duty.{Duty}
-use Rattle.serve_tasks.specs.declared.duties.Duty.TheVariants.{Port, Carry, Work, Operate, Watch}
+use Rattle.network_serving.specs.declared.duties.Duty.{Duty}
+use Rattle.network_serving.specs.declared.duties.Duty.TheVariants.{Port, Carry, Work, Operate, Watch}
 
 -- the port of each peer, in order; peers are numbered
 abbrev pub port_duties : ℕ → List PeerRow → List Duty

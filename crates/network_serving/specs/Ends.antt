@@ -4,7 +4,7 @@ use Rattle.dom_edge.specs.Causes.{Rose}
 use Rattle.dom_edge.specs.Stores.{Files}
 use Rattle.network_files.specs.Settings.{HasNetwork}
 use Rattle.plant_text.specs.declared.settings.NetworkParts.{NetworkParts}
-use Rattle.serve_tasks.specs.declared.duties.Duty.{Duty}
+use Rattle.network_serving.specs.declared.duties.Duty.{Duty}
 use Rattle.network_serving.specs.Duties.{duties_of}
 use Rattle.network_serving.specs.Files.{IsLoadEnd}
 use Rattle.network_serving.specs.Ports.{AreApart, ports_of}

@@ -2,9 +2,9 @@
 use Rattle.std.specs.Prelude.{◌≡◌, ◌+◌, ◌≤◌, ◌-◌, ◌^◌, ℕ, min, List, ◌++◌, All, map, slice_get, option_to_list, Option, Some}
 use Rattle.dom_edge.specs.Causes.{Rose}
 use Rattle.plant_text.specs.declared.settings.PeerRow.{PeerRow}
-use Rattle.serve_tasks.specs.Tasks.{IsNew, duty_of}
-use Rattle.serve_tasks.specs.declared.duties.Duty.{Duty}
-use Rattle.serve_tasks.specs.declared.tasks.Task.{Task}
+use Rattle.network_serving.specs.Tasks.{IsNew, duty_of}
+use Rattle.network_serving.specs.declared.duties.Duty.{Duty}
+use Rattle.network_serving.specs.declared.tasks.Task.{Task}
 use Rattle.network_serving.specs.Ends.{RoseBy}
 use Rattle.network_serving.specs.declared.served.Served.{Served}
 use Rattle.network_serving.specs.declared.served.Served.TheVariants as served

@@ -1,16 +1,35 @@
 //! A network that is served: its settings and topologies are loaded, its ports are listened at, its tasks are started, and the time
-//! is told.
+//! is told. Each thread runs one task, and a spawner starts them.
 #![tactic(auto)]
 
+mod begun;
+mod duties;
+mod gates;
 mod loading;
+mod memory;
+mod naming;
+mod noted;
 mod planning;
 mod ports;
 mod preparing;
+mod running;
 mod served;
 mod serving;
 mod settings;
+mod spawner;
 mod starting;
+mod tasks;
 mod telling;
+mod threads;
+mod watching;
 
+pub use begun::Begun;
+pub use duties::Duty;
+pub use gates::OpenGate;
+pub use memory::MemorySpawner;
+pub use running::TaskEnd;
 pub use served::Served;
 pub use serving::serve;
+pub use spawner::Spawner;
+pub use tasks::Task;
+pub use threads::ThreadSpawner;

@@ -2,19 +2,19 @@
 ghost use Rattle.std.specs.Prelude.{◌≡◌, ◌≤◌, ◌<◌, ◌^◌, ◌++◌, ◌∷◌, [], All, IfErr, IfOk, OnOk, length, map};
 ghost use Rattle.std.specs.List.{flat_map};
 ghost use Rattle.dom_edge.specs.Causes.{next_count};
-ghost use Rattle.serve_tasks.specs.Tasks.{IsNew, duty_of};
-ghost use Rattle.serve_tasks.specs.declared.duties.Duty.TheVariants.{Carry};
+ghost use Rattle.network_serving.specs.Tasks.{IsNew, duty_of};
+ghost use Rattle.network_serving.specs.declared.duties.Duty.TheVariants.{Carry};
 ghost use Rattle.network_serving.specs.Duties.{both_ways, child_ways, first_duties, port_duties, ways_of, work_duties};
 ghost use Rattle.network_serving.specs.Ends.{RoseBy};
 ghost use Rattle.network_serving.specs.Starting.{Adds, IsClosed, IsPlanEnd, called, peer_ports};
 
 use cost_cache::Cache;
 use crate::served::Served;
+use crate::tasks::Task;
 use dom_base::{As, List, NoMemory};
 use dom_edge::{Listener, Opened, Ports};
 use network_links::children_of;
 use plant_text::{Network, NetworkParts, PeerRow};
-use serve_tasks::Task;
 use std::alloc::Global;
 use std::sync::Wait;
 use std::time::Clock;

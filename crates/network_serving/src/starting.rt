@@ -1,14 +1,16 @@
 //! Tasks are started, and told as they start.
 ghost use Rattle.std.specs.Prelude.{◌≡◌, ◌≤◌, ◌++◌, ◌∷◌, [], All, IfErr, OnOk, map};
-ghost use Rattle.serve_tasks.specs.Spawners.{faults_of, started};
-ghost use Rattle.serve_tasks.specs.Tasks.{IsNew, duty_of};
+ghost use Rattle.network_serving.specs.Spawners.{faults_of, started};
+ghost use Rattle.network_serving.specs.Tasks.{IsNew, duty_of};
 ghost use Rattle.network_serving.specs.Starting.{IsUnstarted};
 
+use crate::begun::Begun;
 use crate::served::Served;
+use crate::spawner::Spawner;
+use crate::tasks::Task;
 use crate::telling::tell_started;
 use dom_edge::{Listener, Sink, Source, Store};
 use plant_text::PeerRow;
-use serve_tasks::{Begun, Spawner, Task};
 use std::alloc::Global;
 use std::sync::Wait;
 use std::thread::Threads;

@@ -1,8 +1,8 @@
 //! What is said of tasks as they start. No clause speaks of these lines.
+use crate::duties::Duty;
 use dom_base::{NoMemory, write_number};
 use dom_edge::{Sink, write_all};
 use plant_text::PeerRow;
-use serve_tasks::Duty;
 use std::alloc::Global;
 
 // A number between two texts.

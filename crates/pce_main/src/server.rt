@@ -1,10 +1,9 @@
 //! The command `serve`: a network over the real files, ports, threads, input and output.
 use dom_base::Text;
 use dom_edge::{FileStore, InputSource, OutputSink, SocketPorts, WallClock};
-use network_serving::{Served, serve};
+use network_serving::{Served, Spawner, ThreadSpawner, serve};
 use plant_text::NetFault;
-use serve_tasks::{Spawner, ThreadSpawner};
-use std::env::{self, VarError};
+use std::env::{VarError, self};
 use std::fmt;
 use std::net::{IpAddr, Ipv6Addr};
 use std::sync::Wait;

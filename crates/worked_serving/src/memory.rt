@@ -1,8 +1,7 @@
 //! Networks that are served in memory: which tasks are started, in which order, and why it ends before.
 use dom_base::{As, Bytes, List, Text, Tick, write_number};
 use dom_edge::{MemoryClock, MemoryListener, MemoryPorts, MemorySink, MemorySource, MemoryStore};
-use network_serving::{Served, serve};
-use serve_tasks::{Duty, MemorySpawner, Spawner};
+use network_serving::{Duty, MemorySpawner, Served, Spawner, serve};
 use std::alloc::Global;
 use std::sync::Wait;
 use std::test::Fail;

@@ -1,8 +1,7 @@
 //! A network that is served over the sockets of the machine: its client is answered.
 use dom_base::{Bytes, List, Text};
 use dom_edge::{MemorySink, MemorySource, MemoryStore, SocketPorts, WallClock};
-use network_serving::{Served, serve};
-use serve_tasks::{Spawner, ThreadSpawner};
+use network_serving::{Served, Spawner, ThreadSpawner, serve};
 use std::alloc::Global;
 use std::io::{Read, Write};
 use std::net::{IpAddr, Ipv4Addr, TcpListener, TcpStream};

@@ -1,7 +1,7 @@
 use Rattle.std.proofs.Common.{rules, ◌≡◌, ◌∙◌, ◌++◌, ℕ, List, Option, ap, arith}
 use Rattle.plant_text.specs.declared.settings.NetworkParts.{NetworkParts}
-use Rattle.serve_tasks.specs.Spawners.{faults_of, started}
-use Rattle.serve_tasks.specs.declared.duties.Duty.{Duty}
+use Rattle.network_serving.specs.Spawners.{faults_of, started}
+use Rattle.network_serving.specs.declared.duties.Duty.{Duty}
 use Rattle.network_serving.specs.Duties.{watch_duties}
 use Rattle.network_serving.specs.Ports.{ports_of}
 use Rattle.network_serving.specs.Starting.{Called, IsStartEnd, called}

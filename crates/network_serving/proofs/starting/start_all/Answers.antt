@@ -1,9 +1,9 @@
 use Rattle.std.proofs.Common.{rules, ◌≡◌, ◌∙◌, ◌++◌, ◌∷◌, [], List, length, map, ap, sym, arith, append_assoc}
 use Rattle.std.proofs.lemmas.List.{map-append}
 use Rattle.std.specs.Vec.Iter.{into_iter_items}
-use Rattle.serve_tasks.specs.Spawners.{faults_of, started}
-use Rattle.serve_tasks.specs.Tasks.{duty_of}
-use Rattle.serve_tasks.specs.declared.duties.Duty.{Duty}
+use Rattle.network_serving.specs.Spawners.{faults_of, started}
+use Rattle.network_serving.specs.Tasks.{duty_of}
+use Rattle.network_serving.specs.declared.duties.Duty.{Duty}
 use Rattle.network_serving.specs.Starting.{IsUnstarted}
 use Rattle.network_serving.proofs.Plans.{all_taken, new_taken, taken}
 use Rattle.network_serving.proofs.Starts.{unstarted_from}

@@ -1,7 +1,7 @@
 use Rattle.std.proofs.Common.{◌≡◌, ◌≤◌, ◌++◌, length, map, All}
 use Rattle.std.specs.Vec.Iter.{into_iter_items, into_iter_len}
-use Rattle.serve_tasks.specs.Spawners.{faults_of, started}
-use Rattle.serve_tasks.specs.Tasks.{IsNew, duty_of}
+use Rattle.network_serving.specs.Spawners.{faults_of, started}
+use Rattle.network_serving.specs.Tasks.{IsNew, duty_of}
 use Rattle.network_serving.proofs.starting.start_all.Given as goal
 
 abbrev pub invariant-loop-task : goal.invariant-loop-task

@@ -1,6 +1,6 @@
 //! What starts tasks.
-ghost use Rattle.serve_tasks.specs.SpawnerStates.{Starts};
-ghost use Rattle.serve_tasks.specs.Tasks.{IsNew, duty_of};
+ghost use Rattle.network_serving.specs.SpawnerStates.{Starts};
+ghost use Rattle.network_serving.specs.Tasks.{IsNew, duty_of};
 
 use crate::begun::Begun;
 use crate::memory::MemorySpawner;
@@ -19,7 +19,7 @@ pub enum Spawner<T: Threads> {
 }
 
 impl<T: Threads> Spawner<T> {
-    ghost use Rattle.serve_tasks.specs.Spawners.{faults_of, started};
+    ghost use Rattle.network_serving.specs.Spawners.{faults_of, started};
 
     /// Starts a task: on a thread of its own, which ends with the process at the latest; or in memory, where it is not run.
     pub fn start<K, F, I, O, R>(&mut self, task: Task<K, F, I, O, R>) -> Begun

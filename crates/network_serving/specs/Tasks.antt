@@ -2,10 +2,10 @@
 use Rattle.std.specs.Prelude.{◌≡◌, ℕ, []}
 use Rattle.ted_watch.specs.Watch.{published}
 use Rattle.server_loops.specs.Operating.{AreOfElements}
-use Rattle.serve_tasks.specs.declared.duties.Duty.{Duty}
-use Rattle.serve_tasks.specs.declared.duties.Duty.TheVariants as duty
-use Rattle.serve_tasks.specs.declared.tasks.Task.{Task}
-use Rattle.serve_tasks.specs.declared.tasks.Task.TheVariants as task
+use Rattle.network_serving.specs.declared.duties.Duty.{Duty}
+use Rattle.network_serving.specs.declared.duties.Duty.TheVariants as duty
+use Rattle.network_serving.specs.declared.tasks.Task.{Task}
+use Rattle.network_serving.specs.declared.tasks.Task.TheVariants as task
 
 module _ {K F I O R : Type 0} where
   -- the port of a task is that at which its listener was opened

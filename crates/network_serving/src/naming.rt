@@ -1,6 +1,6 @@
 //! The duty of a task.
 ghost use Rattle.std.specs.Prelude.{◌≡◌, IfOk};
-ghost use Rattle.serve_tasks.specs.Tasks.{duty_of};
+ghost use Rattle.network_serving.specs.Tasks.{duty_of};
 
 use crate::duties::Duty;
 use crate::tasks::Task;

@@ -1,8 +1,8 @@
 use Rattle.std.proofs.Common.{◌≡◌}
 use Rattle.server_loops.specs.Serving.{waits}
 use Rattle.ted_watch.specs.Watch.{known, list_at}
-use Rattle.serve_tasks.specs.Watching.{WatchesPort}
-use Rattle.serve_tasks.proofs.watching.watch_port.Given as goal
+use Rattle.network_serving.specs.Watching.{WatchesPort}
+use Rattle.network_serving.proofs.watching.watch_port.Given as goal
 
 abbrev pub invariant-loop-turn : goal.invariant-loop-turn
 invariant-loop-turn g l = record {

@@ -2,7 +2,7 @@
 ghost use Rattle.std.specs.Prelude.{◌≡◌};
 ghost use Rattle.server_loops.specs.Serving.{waits};
 ghost use Rattle.ted_watch.specs.Watch.{known, list_at};
-ghost use Rattle.serve_tasks.specs.Watching.{IsWatchTurn, WatchesPort};
+ghost use Rattle.network_serving.specs.Watching.{IsWatchTurn, WatchesPort};
 
 use dom_edge::{Accepted, Listener};
 use std::alloc::Global;

@@ -14,11 +14,11 @@ use Rattle.server_loops.specs.declared.operating.Operated.{Operated}
 use Rattle.server_loops.specs.declared.operating.Operated.TheVariants as operated
 use Rattle.turn_desk.specs.Desks.{Stand, benched_of, desked_of, stand_of}
 use Rattle.turn_desk.specs.Charts.{charted_of}
-use Rattle.serve_tasks.specs.declared.running.TaskEnd.{TaskEnd}
-use Rattle.serve_tasks.specs.declared.running.TaskEnd.TheVariants as end
-use Rattle.serve_tasks.specs.declared.tasks.Task.{Task}
-use Rattle.serve_tasks.specs.declared.tasks.Task.TheVariants as task
-use Rattle.serve_tasks.specs.Watching.{WatchesPort}
+use Rattle.network_serving.specs.declared.running.TaskEnd.{TaskEnd}
+use Rattle.network_serving.specs.declared.running.TaskEnd.TheVariants as end
+use Rattle.network_serving.specs.declared.tasks.Task.{Task}
+use Rattle.network_serving.specs.declared.tasks.Task.TheVariants as task
+use Rattle.network_serving.specs.Watching.{WatchesPort}
 
 -- what is told of the outside: of a listener, of a store of files, of an input and of an output
 pub record Outside (K F I O : Type 0) : Type 0 where

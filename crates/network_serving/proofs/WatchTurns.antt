@@ -2,7 +2,7 @@
 use Rattle.std.proofs.Common.{◌≡◌, ◌+◌, ℕ, zero, suc, List, refl, subst, arith}
 use Rattle.server_loops.specs.Serving.{Waits}
 use Rattle.ted_watch.specs.declared.shown.Shown.{Shown}
-use Rattle.serve_tasks.specs.Watching.{IsWatchTurn, WatchesPort}
+use Rattle.network_serving.specs.Watching.{IsWatchTurn, WatchesPort}
 
 one_turn : (n : ℕ) (old mid new : List Shown) (before between after : Waits) → WatchesPort n old mid before between → IsWatchTurn mid new between after → WatchesPort (suc n) old new before after
 one_turn zero old mid new before between after none turn =

@@ -1,9 +1,9 @@
 //! A spawner in memory.
 ghost use Rattle.std.specs.Prelude.{◌≡◌, []};
 ghost use Rattle.dom_edge.specs.Memory.{IsPlanned, no_calls};
-ghost use Rattle.serve_tasks.specs.SpawnerStates.{Starts};
-ghost use Rattle.serve_tasks.specs.Tasks.{duty_of};
-ghost use Rattle.serve_tasks.specs.declared.begun.Begun.TheVariants.{Failed};
+ghost use Rattle.network_serving.specs.SpawnerStates.{Starts};
+ghost use Rattle.network_serving.specs.Tasks.{duty_of};
+ghost use Rattle.network_serving.specs.declared.begun.Begun.TheVariants.{Failed};
 
 use crate::begun::Begun;
 use crate::duties::Duty;
@@ -24,7 +24,7 @@ pub struct MemorySpawner {
 }
 
 impl Model for MemorySpawner {
-    ghost use Rattle.serve_tasks.specs.SpawnerStates.{MemoryState};
+    ghost use Rattle.network_serving.specs.SpawnerStates.{MemoryState};
 
     ghost Value = { MemoryState };
 

@@ -1,7 +1,7 @@
 //! A spawner that starts threads.
 ghost use Rattle.std.specs.Prelude.{◌≡◌, []};
-ghost use Rattle.serve_tasks.specs.SpawnerStates.{Starts};
-ghost use Rattle.serve_tasks.specs.Tasks.{IsNew, duty_of};
+ghost use Rattle.network_serving.specs.SpawnerStates.{Starts};
+ghost use Rattle.network_serving.specs.Tasks.{IsNew, duty_of};
 
 use crate::begun::Begun;
 use crate::duties::Duty;
@@ -26,7 +26,7 @@ pub struct ThreadSpawner<T: Threads> {
 }
 
 impl<T: Threads> Model for ThreadSpawner<T> {
-    ghost use Rattle.serve_tasks.specs.SpawnerStates.{ThreadState};
+    ghost use Rattle.network_serving.specs.SpawnerStates.{ThreadState};
 
     ghost Value = { ThreadState };
 

@@ -2,9 +2,9 @@
 use Rattle.std.specs.Prelude.{◌≡◌, ◌≢◌, ◌∷◌, [], ◌++◌, ℕ, List}
 use Rattle.dom_edge.specs.Causes.{HasCause}
 use Rattle.dom_edge.specs.Memory.{Calls}
-use Rattle.serve_tasks.specs.declared.begun.Begun.{Begun}
-use Rattle.serve_tasks.specs.declared.begun.Begun.TheVariants.{Started, Failed}
-use Rattle.serve_tasks.specs.declared.duties.Duty.{Duty}
+use Rattle.network_serving.specs.declared.begun.Begun.{Begun}
+use Rattle.network_serving.specs.declared.begun.Begun.TheVariants.{Started, Failed}
+use Rattle.network_serving.specs.declared.duties.Duty.{Duty}
 
 -- the duties that were kept, and the calls
 pub record MemoryState : Type 0 where

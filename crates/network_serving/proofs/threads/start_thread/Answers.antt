@@ -1,7 +1,7 @@
 use denote.Param.Send.{sendable}
 use Rattle.std.proofs.Crossing.{crosses}
-use Rattle.serve_tasks.proofs.Crossing.{task_send}
-use Rattle.serve_tasks.proofs.threads.start_thread.Goals as goal
+use Rattle.network_serving.proofs.Crossing.{task_send}
+use Rattle.network_serving.proofs.threads.start_thread.Goals as goal
 
 pub spawn-requires-send-F : goal.spawn-requires-send-F
 spawn-requires-send-F g c κs = search (sendable, crosses, task_send) depth 40

@@ -1,8 +1,8 @@
 -- What a spawner stands for: the duties that it started, and how often it failed.
 use Rattle.std.specs.Prelude.{◌≡◌, ◌≢◌, ◌∷◌, [], ◌++◌, ℕ, List}
-use Rattle.serve_tasks.specs.declared.duties.Duty.{Duty}
-use Rattle.serve_tasks.specs.declared.spawner.Spawner.{Spawner}
-use Rattle.serve_tasks.specs.declared.spawner.Spawner.TheVariants as spawner
+use Rattle.network_serving.specs.declared.duties.Duty.{Duty}
+use Rattle.network_serving.specs.declared.spawner.Spawner.{Spawner}
+use Rattle.network_serving.specs.declared.spawner.Spawner.TheVariants as spawner
 
 -- the duties that were started, the oldest first
 abbrev pub started : {T : Type 0} → Spawner T → List Duty

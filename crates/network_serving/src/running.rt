@@ -1,5 +1,5 @@
 //! What a task does.
-ghost use Rattle.serve_tasks.specs.Tasks.{IsNew};
+ghost use Rattle.network_serving.specs.Tasks.{IsNew};
 
 use crate::gates::OpenGate;
 use crate::tasks::Task;
@@ -22,7 +22,7 @@ pub enum TaskEnd {
 }
 
 impl<K: Listener, F: Store, I: Source, O: Sink, R: Wait + Clock + Drop> Task<K, F, I, O, R> {
-    ghost use Rattle.serve_tasks.specs.Running.{RunsTask};
+    ghost use Rattle.network_serving.specs.Running.{RunsTask};
 
     /// Does it, for so many turns at most. It ends as the call of its kind does.
     pub fn run(&mut self, alloc: Global, turns: u64) -> TaskEnd

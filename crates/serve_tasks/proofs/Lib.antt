@@ -1,4 +1,0 @@
-mod Walks
-pub mod WatchTurns
-pub mod CrossingParts
-pub mod Crossing
