@@ -1,12 +1,14 @@
-//! Tables of tests: what an element and the parent are told and say, and border graphs with their answers, all
-//! worked out by hand. They stand above the crates that they test, so that none of these is proved once more
-//! for its tests.
+//! Tables of tests: octets of routes, exclusions, objects and messages, each with what it is read as and written as again; what an
+//! element and the parent are told and say; and border graphs with their answers: all worked out by hand. They stand above the crates that they
+//! test, so that none of these is proved once more for its tests.
 #![tactic(auto)]
 
 #[cfg(test)]
 mod borders;
 #[cfg(test)]
 mod element;
+#[cfg(test)]
+mod octets;
 #[cfg(test)]
 mod parent;
 #[cfg(test)]
