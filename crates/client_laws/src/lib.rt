@@ -12,7 +12,10 @@ ghost use Rattle.client_laws.specs.Told.{ClientsAreTold};
 
 mod scripts;
 
-pub use scripts::{lines_go_on, runs_are_loadable, runs_disclose, scripts_are_right, scripts_are_runs, shown_is_disclosed};
+pub use scripts::{
+    lines_go_on, runs_are_loadable, runs_disclose, scripts_are_right, scripts_are_runs,
+    shown_is_disclosed,
+};
 
 /// Where a client asks once, its connection is open at the end, it receives all that was put there for it, and what it is told is what
 /// the last of these messages answers; and each answer among them, to a request for a path, is one that the laws of a network speak of.

@@ -10,7 +10,10 @@ ghost use Rattle.network_links.specs.Flow.{drop_first, inbox_of, no_room, out_of
 ghost use Rattle.network_links.specs.Peers.{Connects, DrainsPeer, FeedsPeer, GrowsGuest, SendsGuest, change_guest, guests_of, no_guests, set_guest};
 
 use crate::access::Access;
-use crate::accesses::{connect_at, drain_at, drop_first_at, empty_inbox_at, feed_at, put_at, reserve_at, set_session_at, shut_at, tick_quietly_at};
+use crate::accesses::{
+    connect_at, drain_at, drop_first_at, empty_inbox_at, feed_at, put_at, reserve_at,
+    set_session_at, shut_at, tick_quietly_at,
+};
 use crate::connection::Connection;
 use dom_base::{Bytes, NoMemory, Tick};
 use pcep_session::{Input, Own, Session};

@@ -12,10 +12,10 @@ ghost use Rattle.network_members.specs.Becoming.{Becomes, BecomesAt, HasElement,
 ghost use Rattle.network_members.specs.Elements.{at_domain, no_one};
 ghost use Rattle.network_members.specs.Tiers.{members_of};
 
-use border_costs::Solved;
 use crate::elements::Elements;
 use crate::hierarchy::Hierarchy;
 use crate::plan::MemberPlan;
+use border_costs::Solved;
 use dom_base::{As, Tick};
 use pce_common::model::Refused;
 use pce_element::{Element, Plan, Refusal, Topologies};

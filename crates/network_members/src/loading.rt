@@ -14,9 +14,9 @@ ghost use Rattle.network_members.specs.Loading.{Loads};
 ghost use Rattle.network_members.specs.Ready.{work_in};
 ghost use Rattle.network_members.specs.Tiers.{members_of};
 
-use border_costs::Job;
 use crate::elements::{Elements, place_of};
 use crate::hierarchy::{Hierarchy, is_parent};
+use border_costs::Job;
 use dom_base::{As, NoMemory};
 use pce_common::model::Refused;
 use pce_element::{Element, Topologies};

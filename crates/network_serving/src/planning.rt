@@ -8,9 +8,9 @@ ghost use Rattle.network_serving.specs.Duties.{both_ways, child_ways, first_duti
 ghost use Rattle.network_serving.specs.Ends.{RoseBy};
 ghost use Rattle.network_serving.specs.Starting.{Adds, IsClosed, IsPlanEnd, called, peer_ports};
 
-use cost_cache::Cache;
 use crate::served::Served;
 use crate::tasks::Task;
+use cost_cache::Cache;
 use dom_base::{As, List, NoMemory};
 use dom_edge::{Listener, Opened, Ports};
 use network_links::children_of;

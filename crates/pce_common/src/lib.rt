@@ -16,7 +16,9 @@ mod ways;
 
 pub use branches::branch_of;
 pub use members::Members;
-pub use messages::{busy, error_message, no_key, no_path, one, reply_message, request_message, unavailable};
+pub use messages::{
+    busy, error_message, no_key, no_path, one, reply_message, request_message, unavailable,
+};
 pub use numbers::{after_id, has_number};
 pub use objects::{ends, needed, sequence_object};
 pub use peers::is_same_peer;

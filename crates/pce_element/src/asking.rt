@@ -15,7 +15,9 @@ use crate::world::World;
 use disclosure::{Class, may_expand};
 use dom_base::{Addr, As, List, NoMemory, Peer, Tick};
 use pce_common::model::Output;
-use pce_common::{Way, busy, error_message, no_key, one, reply_message, request_message, unavailable};
+use pce_common::{
+    Way, busy, error_message, no_key, one, reply_message, request_message, unavailable,
+};
 use pcep_messages::{Answer, Asked, Path, Refusal, Request, Wanted, Wish, request_of};
 
 /// Who asks, with the flags and the id of the request.

@@ -6,11 +6,11 @@ ghost use Rattle.pce_element.specs.Committing.{AnswersFor, IsOwnJob, committed};
 ghost use Rattle.pce_element.specs.Jobs.{job_at};
 ghost use Rattle.pce_element.specs.Seen.{SameButRoom};
 
-use border_costs::Solved;
 use crate::answering::{Answered, Found};
 use crate::element::Element;
 use crate::plan::Plan;
 use crate::topologies::Topologies;
+use border_costs::Solved;
 use dom_base::{Addr, List, NoMemory, Tick};
 use pce_common::Refusal;
 use pce_common::model::Refused;

@@ -3,7 +3,7 @@ use dom_base::Text;
 use dom_edge::{FileStore, InputSource, OutputSink, SocketPorts, WallClock};
 use network_serving::{Served, Spawner, ThreadSpawner, serve};
 use plant_text::NetFault;
-use std::env::{VarError, self};
+use std::env::{self, VarError};
 use std::fmt;
 use std::net::{IpAddr, Ipv6Addr};
 use std::sync::Wait;

@@ -1,6 +1,6 @@
 //! What is to be solved, and what was.
-use border_costs::{Job, Solved};
 use crate::solved::BorderSolved;
+use border_costs::{Job, Solved};
 use pce_common::model::BorderJob;
 
 /// A job of a domain or of the parent.

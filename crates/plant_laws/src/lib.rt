@@ -39,7 +39,10 @@ ghost use Rattle.plant_laws.specs.Worlds.{AcceptsAsBlind, BorderJoins, SaysAsBli
 
 mod lasting;
 
-pub use lasting::{blind_steps_last, jobs_are_kept, keys_are_before, lasts_over_steps, runs_are_in_order, steps_last};
+pub use lasting::{
+    blind_steps_last, jobs_are_kept, keys_are_before, lasts_over_steps, runs_are_in_order,
+    steps_last,
+};
 
 // ---- steps
 

@@ -3,10 +3,10 @@ ghost use Rattle.std.specs.Prelude.{◌≡◌, ◌↔◌, [], ℕ};
 ghost use Rattle.server_loops.specs.WorkerTurns.{Runs};
 ghost use Rattle.server_loops.specs.declared.working.Worked.TheVariants.{Spent as SpentAt};
 
-use cost_cache::Cache;
 use crate::benches::Bench;
 use crate::gates::Gate;
 use crate::worker_turn::turn;
+use cost_cache::Cache;
 use dom_base::NoMemory;
 use std::alloc::Global;
 
